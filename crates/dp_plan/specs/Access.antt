@@ -1,0 +1,108 @@
+-- The variables that the sites of a region load and store, and the sites that a plan has checked.
+use Rattle.std.specs.Prelude.{ℕ, ◌-◌, ◌==◌, Bool, true, false, not, ◌&&◌, ◌||◌, List, [], ◌∷◌, ◌++◌, Option, Some, None, slice_get, slice_index, filter, nat_lt}
+use Rattle.std.specs.List.{list_any, flat_map}
+use Rattle.dp_tree.specs.declared.Expr.{Expr, end_of-Expr, more_of-Expr}
+use Rattle.dp_tree.specs.declared.Expr.TheVariants.{Number, Input', InputLen, Scalar, Element', Unary', Binary', And', Or'}
+use Rattle.dp_tree.specs.declared.Stmt.{Stmt, Row_of-Stmt, end_of-Stmt, more_of-Stmt, out-Stmt}
+use Rattle.dp_tree.specs.declared.Stmt.TheVariants.{Assign, Store, Print, If', While', Region', Call}
+use Rattle.dp_tree.specs.declared.VarInfo.{VarInfo}
+use Rattle.dp_tree.specs.declared.RegionInfo.{RegionInfo}
+use Rattle.dp_tree.specs.declared.Program.{Program}
+use Rattle.dp_plan.specs.declared.StageKind.{StageKind}
+use Rattle.dp_plan.specs.declared.StageKind.TheVariants.{Seq, Par}
+use Rattle.dp_plan.specs.declared.Plan.{Plan}
+use Rattle.dp_tree.specs.Step.{is_local_of}
+use Rattle.dp_tree.specs.Iteration.{is_region}
+
+-- the variables that an expression loads; the input is none
+abbrev pub loaded_by : Expr → List ℕ
+loaded_by (Number n) = []
+loaded_by (Input' _ (more_of-Expr e end_of-Expr)) = loaded_by e
+loaded_by InputLen = []
+loaded_by (Scalar x) = x.0 ∷ []
+loaded_by (Element' x _ (more_of-Expr e end_of-Expr)) = x.0 ∷ loaded_by e
+loaded_by (Unary' op _ (more_of-Expr e end_of-Expr)) = loaded_by e
+loaded_by (Binary' op _ (more_of-Expr a end_of-Expr) _ (more_of-Expr b end_of-Expr)) = loaded_by a ++ loaded_by b
+loaded_by (And' _ (more_of-Expr a end_of-Expr) _ (more_of-Expr b end_of-Expr)) = loaded_by a ++ loaded_by b
+loaded_by (Or' _ (more_of-Expr a end_of-Expr) _ (more_of-Expr b end_of-Expr)) = loaded_by a ++ loaded_by b
+
+-- a site with the variables that it loads and the one that it stores, if any
+pub record Access : Type 0 where
+  pub site : ℕ
+  pub loads : List ℕ
+  pub stores : Option ℕ
+
+abbrev mutual
+  -- the sites of a statement, in text order
+  pub accesses : Stmt → List Access
+  accesses (Assign site x e) = record { site = site.0; loads = loaded_by e; stores = Some x.0 } ∷ []
+  accesses (Store site x index e) = record { site = site.0; loads = loaded_by index ++ loaded_by e; stores = Some x.0 } ∷ []
+  accesses (Print site e) = record { site = site.0; loads = loaded_by e; stores = None } ∷ []
+  accesses (If' site cond _ then_part _ else_part) =
+      record { site = site.0; loads = loaded_by cond; stores = None } ∷ (accesses_in then_part ++ accesses_in else_part)
+  accesses (While' site cond _ body) = record { site = site.0; loads = loaded_by cond; stores = None } ∷ accesses_in body
+  accesses (Region' r site cond _ body) = record { site = site.0; loads = loaded_by cond; stores = None } ∷ accesses_in body
+  accesses (Call f line args) = []
+
+  pub accesses_in : {n : _} → Row_of-Stmt n → List Access
+  accesses_in end_of-Stmt = []
+  accesses_in (more_of-Stmt s rest) = accesses s ++ accesses_in rest
+
+abbrev pub first_site_of : Option RegionInfo → ℕ
+first_site_of None = 0
+first_site_of (Some info) = info.first.0
+
+abbrev pub first_site : Program → Plan → ℕ
+first_site p plan = first_site_of (slice_get p.regions (plan.region - 1))
+
+-- the plan's stage of a site of its region, from 1
+abbrev pub stage_of : Program → Plan → ℕ → ℕ
+stage_of p plan site = slice_index plan.stage_of (site - first_site p plan)
+
+abbrev pub is_par : Option StageKind → Bool
+is_par (Some Par) = true
+is_par (Some Seq) = false
+is_par None = false
+
+abbrev pub is_replicated : Plan → ℕ → Bool
+is_replicated plan s = is_par (slice_get plan.stages (s - 1))
+
+abbrev pub is_local : ℕ → Option VarInfo → Bool
+is_local r None = false
+is_local r (Some info) = is_local_of r info.scope
+
+abbrev pub is_body_local : Program → Plan → ℕ → Bool
+is_body_local p plan x = is_local plan.region (slice_get p.vars x)
+
+abbrev pub stores_var : ℕ → Access → Bool
+stores_var x a = elim (a.stores) [ None ↦ false | Some y ↦ x == y ]
+
+abbrev pub is_region_at : ℕ → Stmt → Bool
+is_region_at r s = is_region r (out-Stmt s)
+
+-- the plan's region among the statements of `main`
+abbrev pub region_statement : Program → Plan → List Stmt
+region_statement p plan = filter (is_region_at plan.region) p.main
+
+-- the sites of the plan's region
+abbrev pub region_accesses : Program → Plan → List Access
+region_accesses p plan = flat_map accesses (region_statement p plan)
+
+abbrev pub is_stored_after : Program → Plan → ℕ → ℕ → Access → Bool
+is_stored_after p plan s x d = stores_var x d && nat_lt s (stage_of p plan d.site)
+
+abbrev pub is_stored_beside : Program → Plan → ℕ → ℕ → Access → Bool
+is_stored_beside p plan s x d =
+    stores_var x d && is_replicated plan s && (stage_of p plan d.site == s) && not (is_body_local p plan x)
+
+-- a site of a later stage stores x, or one of s itself where s is replicated and x is no body local
+abbrev pub may_differ : Program → Plan → ℕ → ℕ → Bool
+may_differ p plan s x =
+    list_any (is_stored_after p plan s x) (region_accesses p plan) || list_any (is_stored_beside p plan s x) (region_accesses p plan)
+
+abbrev pub is_checked_access : Program → Plan → ℕ → Access → Bool
+is_checked_access p plan site u = (u.site == site) && list_any (may_differ p plan (stage_of p plan site)) u.loads
+
+-- the loads at this site may differ from what its stage sees
+abbrev pub is_checked : Program → Plan → ℕ → Bool
+is_checked p plan site = list_any (is_checked_access p plan site) (region_accesses p plan)

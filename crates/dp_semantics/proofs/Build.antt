@@ -1,0 +1,75 @@
+-- Short forms for the trees of the worked rows.
+use Rattle.std.proofs.Common.{ℕ, Bool, false, true, List, [], ℤ, pos}
+use Rattle.dp_base.specs.declared.BinOp.{BinOp}
+use Rattle.dp_tree.specs.declared.Expr.{Expr}
+use Rattle.dp_tree.specs.declared.Expr.TheVariants as tree
+use Rattle.dp_tree.specs.declared.Stmt.{Stmt}
+use Rattle.dp_tree.specs.declared.Stmt.TheVariants as stmt
+use Rattle.dp_tree.specs.declared.VarInfo.{VarInfo}
+use Rattle.dp_tree.specs.declared.VarScope.{VarScope}
+use Rattle.dp_tree.specs.declared.VarScope.TheVariants.{Global}
+use Rattle.dp_tree.specs.declared.SiteInfo.{SiteInfo}
+use Rattle.dp_tree.specs.declared.SiteKind.{SiteKind}
+use Rattle.dp_tree.specs.declared.RegionInfo.{RegionInfo}
+use Rattle.dp_tree.specs.declared.Program.{Program}
+use Rattle.dp_plan.specs.declared.StageKind.{StageKind}
+use Rattle.dp_tree.specs.declared.Assume.{Assume}
+use Rattle.dp_plan.specs.declared.Plan.{Plan}
+
+abbrev pub num : ℕ → Expr
+num n = tree.Number (pos n)
+
+abbrev pub var : ℕ → Expr
+var x = tree.Scalar (record { 0 = x })
+
+abbrev pub at : ℕ → Expr → Expr
+at x e = tree.Element (record { 0 = x }) e
+
+abbrev pub bin : BinOp → Expr → Expr → Expr
+bin o a b = tree.Binary o a b
+
+abbrev pub set : ℕ → ℕ → Expr → Stmt
+set site x e = stmt.Assign (record { 0 = site }) (record { 0 = x }) e
+
+abbrev pub set_at : ℕ → ℕ → Expr → Expr → Stmt
+set_at site x i e = stmt.Store (record { 0 = site }) (record { 0 = x }) i e
+
+abbrev pub say : ℕ → Expr → Stmt
+say site e = stmt.Print (record { 0 = site }) e
+
+abbrev pub when : ℕ → Expr → List Stmt → Stmt
+when site e body = stmt.If (record { 0 = site }) e body []
+
+abbrev pub loop : ℕ → Expr → List Stmt → Stmt
+loop site e body = stmt.While (record { 0 = site }) e body
+
+abbrev pub region : ℕ → ℕ → Expr → List Stmt → Stmt
+region r site e body = stmt.Region r (record { 0 = site }) e body
+
+abbrev pub scalar : ℕ → ℤ → VarScope → VarInfo
+scalar c z scope = record { name = []; first = record { 0 = c }; length = 1; array = false; start = z; scope = scope }
+
+abbrev pub array : ℕ → ℕ → VarInfo
+array c n = record { name = []; first = record { 0 = c }; length = n; array = true; start = pos 0; scope = Global }
+
+abbrev pub site : ℕ → SiteKind → ℕ → SiteInfo
+site line k r = record { line = line; kind = k; region = r }
+
+abbrev pub program : List VarInfo → List SiteInfo → List RegionInfo → List Stmt → Program
+program vars sites regions main = record { vars = vars; sites = sites; regions = regions; functions = []; main = main }
+
+abbrev pub assume : ℕ → Bool → Assume
+assume n taken = record { site = record { 0 = n }; taken = taken }
+
+abbrev pub plan : ℕ → List StageKind → List ℕ → List Assume → Plan
+plan words stages stage_of assumed = record { region = 1; words = words; stages = stages; stage_of = stage_of; assume = assumed }
+
+-- what opens when a meaning runs on a tree: `unfolding tree_opened`
+unfoldable pub tree_opened : Unit {0}
+unfolding
+    Rattle.dp_tree.specs.Trace.run_of Rattle.dp_semantics.specs.StageRun.turn_from Rattle.dp_tree.specs.Eval.eval Rattle.dp_base.specs.Arithmetic.binary_result Rattle.dp_base.specs.Arithmetic.unary_result Rattle.dp_base.specs.Arithmetic.is_zero Rattle.dp_base.specs.Arithmetic.number_of
+    Rattle.dp_tree.specs.declared.Stmt.TheViews.out-Stmt denote.Hole.Carrier.out
+    Rattle.dp_tree.specs.declared.Expr.TheBlock.shape-the_row-Expr-0 Rattle.dp_tree.specs.declared.Expr.TheBlock.hidden-the_row-Expr-0
+    Rattle.dp_tree.specs.declared.Stmt.TheBlock.shape-the_row-Stmt-0 Rattle.dp_tree.specs.declared.Stmt.TheBlock.hidden-the_row-Stmt-0
+    denote.Hole.Carrier.hidden Rattle.dp_tree.specs.declared.Stmt.TheBlock.shown-the_row-Stmt-0 denote.Hole.Carrier.shown
+tree_opened = tt

@@ -1,0 +1,11 @@
+pub mod Clean
+pub mod Recovery
+pub mod Cause
+pub mod RegionText
+pub mod Project
+pub mod StageRun
+pub mod Packets
+pub mod Judge
+pub mod Nesting
+pub mod Verdict
+pub mod Accept

@@ -1,0 +1,6 @@
+//! What a pipeline under a plan does with a source, and when its answer is the source's.
+#![tactic(auto)]
+
+mod law;
+
+pub use law::judgement_is_the_sources;

@@ -1,0 +1,7 @@
+pub mod Eval
+pub mod Step
+pub mod Trace
+pub mod Leg
+pub mod Iteration
+pub mod Frames
+pub mod Expand
