@@ -1,0 +1,26 @@
+//! The tokens of a program's text.
+#![tactic(auto)]
+
+/// What a token is: an identifier, a reserved word, a number, the mark of a region, or a sign.
+#[derive(Clone, Copy, Debug, PartialEq, Eq)]
+pub enum TokenKind {
+    Name,
+    Reserved,
+    Number,
+    Mark,
+    Sign,
+}
+
+/// A token: the source's own slice, with the line on which it begins, from 1.
+#[derive(Clone, Copy, Debug, PartialEq, Eq)]
+pub struct Token<'t> {
+    pub kind: TokenKind,
+    pub text: &'t [u8],
+    pub line: u32,
+}
+
+/// No token begins at this place of the text, counted in bytes from 0.
+#[derive(Clone, Copy, Debug, PartialEq, Eq)]
+pub struct LexRefused {
+    pub place: u32,
+}
