@@ -37,7 +37,7 @@ past_at e events zero = []
 past_at e events (suc n) = pushed (numbered e n) (events n) (past_at e events n)
 
 pub kind_at : (plan : Plan) (s : ℕ) → is_replicated plan (suc s) ≡ is_par (slice_get plan.stages s)
-kind_at plan s = let e : suc s - 1 ≡ s = omega arith in ap (λ (n : ℕ). is_par (slice_get plan.stages n)) e
+kind_at plan s = refl
 
 pub last_sequential : (plan : Plan) → is_replicated plan (last plan) ≡ false
 last_sequential plan = kind_at plan (length plan.stages) ∙ ap is_par (slice_get_past plan.stages (length plan.stages) (omega arith))

@@ -11,7 +11,7 @@ use Rattle.dp_tree.specs.declared.Program.{Program}
 use Rattle.dp_plan.specs.declared.Plan.{Plan}
 use Rattle.dp_tree.specs.Step.{Config, Event, evaluated, standing, clear_locals}
 use Rattle.dp_tree.specs.Trace.{Run, run_of, begin, start_cells}
-use Rattle.dp_tree.specs.Iteration.{start, decided_zero, stop_from, events_from, iteration, is_closing, has_ended, cells_in, cells_after, memory_after}
+use Rattle.dp_tree.specs.Iteration.{start, decided_zero, stop_from, events_from, iteration, is_closing, has_ended, cells_in, cells_after, memory_after, memory_from}
 use Rattle.dp_semantics.proofs.Memory.{Cleared, clear-at, clear-length}
 use Rattle.dp_semantics.proofs.HeadLemmas.{all_well}
 use Rattle.dp_semantics.proofs.Lockstep.{Goes}
@@ -123,8 +123,7 @@ module _ (p : Program) (plan : Plan) (input : List ℤ) (statement : Stmt) (site
     pub ending : Next i k after then_cells steps ⊎ (Closes i after steps ⊎ Breaks i after then_cells steps)
 
   memory_at : (i k : ℕ) → start whole plan.region i ≡ Some k → memory_after whole plan.region i ≡ cells_after whole k
-  memory_at i k e =
-      ap (λ (o : Option ℕ). elim o [ Some j ↦ cells_after whole j | None ↦ elim (start whole plan.region (i - 1)) [ Some j ↦ cells_after whole (suc j) | None ↦ [] ] ]) e
+  memory_at i k e = ap (λ (o : Option ℕ). memory_from whole o (start whole plan.region (i - 1))) e
 
   cells_from : (k steps : ℕ) (cells : List ℤ) (before : List Config) → whole.configs ≡ before ++ (at steps cells).configs → k ≡ length before → cells_after whole k ≡ clear_locals plan.region p.vars cells
   cells_from k steps cells before e long =
