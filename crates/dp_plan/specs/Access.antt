@@ -1,20 +1,16 @@
 -- The variables that the sites of a region load and store, and the sites that a plan has checked.
-use Rattle.std.specs.Prelude.{ℕ, ◌-◌, ◌==◌, Bool, true, false, not, ◌&&◌, ◌||◌, List, [], ◌∷◌, ◌++◌, Option, Some, None, slice_get, slice_index, filter, nat_lt}
+use Rattle.std.specs.Prelude.{ℕ, ◌==◌, Bool, true, false, not, ◌&&◌, ◌||◌, List, [], ◌∷◌, ◌++◌, Option, Some, None, filter, nat_lt}
 use Rattle.std.specs.List.{list_any, flat_map}
 use Rattle.dp_tree.specs.declared.Expr.{Expr, end_of-Expr, more_of-Expr}
 use Rattle.dp_tree.specs.declared.Expr.TheVariants.{Number, Input', InputLen, Scalar, Element', Unary', Binary', And', Or'}
 use Rattle.dp_tree.specs.declared.Stmt.{Stmt, Row_of-Stmt, end_of-Stmt, more_of-Stmt, out-Stmt}
 use Rattle.dp_tree.specs.declared.Stmt.TheVariants.{Assign, Store, Print, If', While', Region', Call}
-use Rattle.dp_tree.specs.declared.VarInfo.{VarInfo}
-use Rattle.dp_tree.specs.declared.RegionInfo.{RegionInfo}
 use Rattle.dp_tree.specs.declared.Program.{Program}
-use Rattle.dp_plan.specs.declared.StageKind.{StageKind}
-use Rattle.dp_plan.specs.declared.StageKind.TheVariants.{Seq, Par}
 use Rattle.dp_plan.specs.declared.Plan.{Plan}
-use Rattle.dp_tree.specs.Step.{is_local_of}
 use Rattle.dp_tree.specs.Iteration.{is_region}
+pub use Rattle.dp_plan.specs.Stage.{first_site_of, first_site, stage_of, is_par, is_replicated, is_local, is_body_local}
 
--- the variables that an expression loads; the input is none
+-- the variables that an expression may load, by its text; the input's words and their number are none
 abbrev pub loaded_by : Expr → List ℕ
 loaded_by (Number n) = []
 loaded_by (Input' _ (more_of-Expr e end_of-Expr)) = loaded_by e
@@ -44,65 +40,52 @@ abbrev mutual
   accesses (Region' r site cond _ body) = record { site = site.0; loads = loaded_by cond; stores = None } ∷ accesses_in body
   accesses (Call f line args) = []
 
+  -- those of several statements
   pub accesses_in : {n : _} → Row_of-Stmt n → List Access
   accesses_in end_of-Stmt = []
   accesses_in (more_of-Stmt s rest) = accesses s ++ accesses_in rest
 
-abbrev pub first_site_of : Option RegionInfo → ℕ
-first_site_of None = 0
-first_site_of (Some info) = info.first.0
-
-abbrev pub first_site : Program → Plan → ℕ
-first_site p plan = first_site_of (slice_get p.regions (plan.region - 1))
-
--- the plan's stage of a site of its region, from 1
-abbrev pub stage_of : Program → Plan → ℕ → ℕ
-stage_of p plan site = slice_index plan.stage_of (site - first_site p plan)
-
-abbrev pub is_par : Option StageKind → Bool
-is_par (Some Par) = true
-is_par (Some Seq) = false
-is_par None = false
-
-abbrev pub is_replicated : Plan → ℕ → Bool
-is_replicated plan s = is_par (slice_get plan.stages (s - 1))
-
-abbrev pub is_local : ℕ → Option VarInfo → Bool
-is_local r None = false
-is_local r (Some info) = is_local_of r info.scope
-
-abbrev pub is_body_local : Program → Plan → ℕ → Bool
-is_body_local p plan x = is_local plan.region (slice_get p.vars x)
-
-abbrev pub stores_var : ℕ → Access → Bool
-stores_var x a = elim (a.stores) [ None ↦ false | Some y ↦ x == y ]
-
 abbrev pub is_region_at : ℕ → Stmt → Bool
 is_region_at r s = is_region r (out-Stmt s)
 
--- the plan's region among the statements of `main`
+-- region r among the statements of `main`
+abbrev pub region_in : Program → ℕ → List Stmt
+region_in p r = filter (is_region_at r) p.main
+
+-- the plan's region
 abbrev pub region_statement : Program → Plan → List Stmt
-region_statement p plan = filter (is_region_at plan.region) p.main
+region_statement p plan = region_in p plan.region
 
 -- the sites of the plan's region
 abbrev pub region_accesses : Program → Plan → List Access
 region_accesses p plan = flat_map accesses (region_statement p plan)
 
+abbrev pub is_same_variable : ℕ → Option ℕ → Bool
+is_same_variable x None = false
+is_same_variable x (Some y) = x == y
+
+-- the site stores x
+abbrev pub stores_var : ℕ → Access → Bool
+stores_var x a = is_same_variable x a.stores
+
+-- the site stores x and is of a later stage than s
 abbrev pub is_stored_after : Program → Plan → ℕ → ℕ → Access → Bool
 is_stored_after p plan s x d = stores_var x d && nat_lt s (stage_of p plan d.site)
 
+-- s is replicated, the site stores x and is of s, and x is no body local
 abbrev pub is_stored_beside : Program → Plan → ℕ → ℕ → Access → Bool
 is_stored_beside p plan s x d =
     stores_var x d && is_replicated plan s && (stage_of p plan d.site == s) && not (is_body_local p plan x)
 
--- a site of a later stage stores x, or one of s itself where s is replicated and x is no body local
+-- what stage s sees of x may differ from what the source has
 abbrev pub may_differ : Program → Plan → ℕ → ℕ → Bool
 may_differ p plan s x =
     list_any (is_stored_after p plan s x) (region_accesses p plan) || list_any (is_stored_beside p plan s x) (region_accesses p plan)
 
+-- this is the site, and it loads such a variable
 abbrev pub is_checked_access : Program → Plan → ℕ → Access → Bool
 is_checked_access p plan site u = (u.site == site) && list_any (may_differ p plan (stage_of p plan site)) u.loads
 
--- the loads at this site may differ from what its stage sees
+-- the site is checked: each of its loads is compared with the source's
 abbrev pub is_checked : Program → Plan → ℕ → Bool
 is_checked p plan site = list_any (is_checked_access p plan site) (region_accesses p plan)

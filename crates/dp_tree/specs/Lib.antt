@@ -1,4 +1,5 @@
 pub mod Eval
+pub mod Event
 pub mod Step
 pub mod Trace
 pub mod Leg

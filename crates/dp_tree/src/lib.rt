@@ -120,4 +120,3 @@ pub struct Assume {
     pub site: SiteId,
     pub taken: bool,
 }
-
