@@ -1,1 +1,5 @@
 pub mod Token
+pub mod Characters
+pub mod Spelling
+pub mod Front
+pub mod Tokens
