@@ -1,2 +1,5 @@
+pub mod FileShelf
+pub mod MemShelf
+pub mod MemSink
 pub mod Shelf
 pub mod Sink

@@ -2,10 +2,18 @@
 //! implementations in memory and on the real system, and the reader of input texts.
 #![tactic(auto)]
 
+mod file_shelf;
 mod gate;
+mod mem_shelf;
+mod mem_sink;
+mod out_sink;
 mod shelf;
 mod sink;
 
+pub use file_shelf::FileShelf;
 pub use gate::{Gate, OpenGate};
+pub use mem_shelf::{Held, MemShelf};
+pub use mem_sink::MemSink;
+pub use out_sink::OutSink;
 pub use shelf::{Shelf, ShelfFail};
 pub use sink::{PutFail, Sink};

@@ -1,0 +1,27 @@
+use Rattle.std.proofs.Common.{◌≡◌, ℕ, ◌-◌, List, [], ◌++◌, rules, length, take, drop, sym, ap, ◌∙◌, subst, append_assoc, append-nil, take-append-drop, drop_of_length-le}
+use Rattle.std.proofs.lemmas.List.{take_rest}
+use Rattle.std.specs.Io.KnownBytes.{Appends}
+use Rattle.std.proofs.KnownBytes.{Appends-trans}
+use Rattle.dp_edge.proofs.KnownBytes.{front_and_more, front_alone}
+use Rattle.dp_edge.proofs.out_sink.write_all.Goals as goal
+
+moves_front : (all done rest : List ℕ) (n : ℕ) → all ≡ done ++ rest → all ≡ (done ++ take n rest) ++ take (length rest - n) (drop n rest)
+moves_front all done rest n e =
+    e ∙ ap (λ l. done ++ l) (sym (take-append-drop n rest)) ∙ sym (append_assoc done (take n rest) (drop n rest)) ∙ ap (λ l. (done ++ take n rest) ++ l) (sym (take_rest rest n))
+
+pub turns-preserved : goal.turns-preserved
+turns-preserved g c =
+    let (done, split, appended) = c.turns.invariant in
+    let rest = c.turns.rest.now in
+    let n = c.in-Ok.n in
+    (done ++ take n rest, moves_front _ done rest n split, Appends-trans _ _ _ _ _ appended c.in-Ok.ensures.bytes)
+
+pub returns-in_default-clause-err : goal.returns-in_default-clause-err
+returns-in_default-clause-err g c =
+    let (done, split, appended) = c.turns.invariant in
+    front_and_more _ _ _ _ done c.turns.rest.now c.in-Ok.n split appended c.in-Ok.ensures.bytes
+
+pub returns-in_default-2-clause-err : goal.returns-in_default-2-clause-err
+returns-in_default-2-clause-err g c =
+    let (done, split, appended) = c.turns.invariant in
+    front_alone _ _ _ _ done c.turns.rest.now split appended c.in_default.ensures.bytes

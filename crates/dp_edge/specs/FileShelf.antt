@@ -1,0 +1,7 @@
+-- Files as a shelf.
+use Rattle.std.specs.Prelude.{ℕ}
+
+-- what the shelf has counted
+pub record Counts : Type 0 where
+  pub faults : ℕ
+  pub taken : ℕ
