@@ -2,7 +2,9 @@ pub mod Eval
 pub mod Event
 pub mod Step
 pub mod Trace
+pub mod RunLaws
 pub mod Leg
 pub mod Iteration
+pub mod IterationLaws
 pub mod Frames
 pub mod Expand

@@ -1,16 +1,24 @@
 //! Programs as trees, and what they mean.
+//!
+//! `specs/` has the meaning, in the order in which `specs/Lib.antt` lists its files: evaluation, steps, traces,
+//! iterations of a region, calls with frames of their own, and calls that are expanded.
 #![tactic(auto)]
 
 use dp_base::{BinOp, Boxed, CellId, Row, SiteId, UnOp, VarId};
 
+mod laws;
 mod raw;
 
+pub use laws::{a_run_goes_by_steps, iterations_adjoin, less_fuel_gives_a_front};
 pub use raw::{Name, RawExpr, RawItem, RawProgram, RawStmt};
 
+/// An expression. Nested boxes hold the operands, the left one first.
 #[derive(Drop)]
 pub enum Expr {
     Number(i64),
+    /// The input word at an index.
     Input(Boxed<Expr>),
+    /// The number of input words.
     InputLen,
     Scalar(VarId),
     Element(VarId, Boxed<Expr>),
@@ -20,13 +28,16 @@ pub enum Expr {
     Or(Boxed<Expr>, Boxed<Expr>),
 }
 
+/// A statement. Each but a call has a site, and `check` numbers sites from 1 in text order, those of `main` first.
 #[derive(Drop)]
 pub enum Stmt {
+    /// An assignment to a scalar, an initialiser, or a binding of an argument to a parameter.
     Assign {
         site: SiteId,
         var: VarId,
         value: Expr,
     },
+    /// An assignment to an element of an array.
     Store {
         site: SiteId,
         var: VarId,
@@ -48,12 +59,14 @@ pub enum Stmt {
         cond: Expr,
         body: Row<Stmt>,
     },
+    /// A marked `while` at the top level of `main`; regions count from 1.
     Region {
         region: u32,
         site: SiteId,
         cond: Expr,
         body: Row<Stmt>,
     },
+    /// A call of a function, counted from 0, on the line of the function's name.
     Call {
         function: u32,
         line: u32,
@@ -61,6 +74,9 @@ pub enum Stmt {
     },
 }
 
+/// Where a variable is declared: at file scope, in the body of a region, or elsewhere.
+///
+/// A parameter or local of a call that is expanded in a region's body is of that body too.
 #[derive(Clone, Copy, Debug, PartialEq, Eq)]
 pub enum VarScope {
     Global,
@@ -68,16 +84,19 @@ pub enum VarScope {
     Body(u32),
 }
 
+/// A variable. Its cells are `length` many from `first` on; a scalar has one.
 #[derive(Drop)]
 pub struct VarInfo {
     pub name: Row<u8>,
     pub first: CellId,
     pub length: u32,
     pub array: bool,
+    /// The start value of a file-scope scalar, and 0 for every other variable.
     pub start: i64,
     pub scope: VarScope,
 }
 
+/// What is evaluated at a site; initialisers and bindings are assignments.
 #[derive(Clone, Copy, Debug, PartialEq, Eq)]
 pub enum SiteKind {
     Assign,
@@ -86,6 +105,7 @@ pub enum SiteKind {
     While,
 }
 
+/// A site: the line of its statement's first token, from 1, and its region, or 0 outside all regions.
 #[derive(Clone, Copy, Debug, PartialEq, Eq)]
 pub struct SiteInfo {
     pub line: u32,
@@ -93,6 +113,7 @@ pub struct SiteInfo {
     pub region: u32,
 }
 
+/// A region: the line of its `while`, and its first and last site. The first site is its condition.
 #[derive(Clone, Copy, Debug, PartialEq, Eq)]
 pub struct RegionInfo {
     pub line: u32,
@@ -100,12 +121,16 @@ pub struct RegionInfo {
     pub last: SiteId,
 }
 
+/// A function other than `main`.
 #[derive(Drop)]
 pub struct Function {
     pub params: Row<VarId>,
     pub body: Row<Stmt>,
 }
 
+/// A program whose names are numbers: a `VarId` is a place in `vars`, from 0, a `SiteId` one in `sites`, from 1.
+///
+/// In an expanded program `functions` is empty and no call stands.
 #[derive(Drop)]
 pub struct Program {
     pub vars: Row<VarInfo>,
@@ -115,6 +140,7 @@ pub struct Program {
     pub main: Row<Stmt>,
 }
 
+/// The outcome that is assumed of an `if`: whether its condition is other than 0.
 #[derive(Clone, Copy, Debug, PartialEq, Eq)]
 pub struct Assume {
     pub site: SiteId,

@@ -1,0 +1,3 @@
+pub mod SumLoop
+pub mod Faults
+pub mod Calls

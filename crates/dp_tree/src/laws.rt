@@ -1,0 +1,19 @@
+ghost use Rattle.dp_tree.specs.IterationLaws.{IterationsAdjoin};
+ghost use Rattle.dp_tree.specs.RunLaws.{FuelExtends, RunsByStep};
+
+use crate::Program;
+
+/// A trace under a smaller fuel is a front of the one under a larger fuel, and more fuel changes no end but spent fuel.
+pub fn less_fuel_gives_a_front(p: &Program, input: &[i64])
+    ensures front { FuelExtends p.now input.now }
+{}
+
+/// A run has an event for each of its steps, at most as many as its fuel, and one configuration more.
+pub fn a_run_goes_by_steps(p: &Program, input: &[i64])
+    ensures by_step { RunsByStep p.now input.now }
+{}
+
+/// The iterations of a region follow each other without a gap and without overlap.
+pub fn iterations_adjoin(p: &Program, input: &[i64])
+    ensures adjoin { IterationsAdjoin p.now input.now }
+{}
