@@ -2,6 +2,8 @@ pub mod EvalLemmas
 pub mod LegLemmas
 pub mod RunLaws
 pub mod IterationLaws
+pub mod ExpandLaws
+pub mod NoCallLaws
 pub mod Build
 pub mod Programs
 pub mod rows

@@ -3,8 +3,13 @@ pub mod Event
 pub mod Step
 pub mod Trace
 pub mod RunLaws
-pub mod Leg
 pub mod Iteration
 pub mod IterationLaws
+pub mod Leg
+pub mod Frame
+pub mod FrameStep
 pub mod Frames
+pub mod Renaming
+pub mod Tables
 pub mod Expand
+pub mod ExpandLaws

@@ -9,7 +9,9 @@ use dp_base::{BinOp, Boxed, CellId, Row, SiteId, UnOp, VarId};
 mod laws;
 mod raw;
 
-pub use laws::{a_run_goes_by_steps, iterations_adjoin, less_fuel_gives_a_front};
+pub use laws::{
+    a_run_goes_by_steps, expansion_leaves_no_call, iterations_adjoin, less_fuel_gives_a_front,
+};
 pub use raw::{Name, RawExpr, RawItem, RawProgram, RawStmt};
 
 /// An expression. Nested boxes hold the operands, the left one first.
