@@ -1,1 +1,4 @@
+pub mod Digits
+pub mod Inputs
 pub mod KnownBytes
+pub mod Words

@@ -1,4 +1,6 @@
+pub mod Digits
 pub mod FileShelf
+pub mod Input
 pub mod MemShelf
 pub mod MemSink
 pub mod Shelf

@@ -4,6 +4,7 @@
 
 mod file_shelf;
 mod gate;
+mod input;
 mod mem_shelf;
 mod mem_sink;
 mod out_sink;
@@ -12,6 +13,7 @@ mod sink;
 
 pub use file_shelf::FileShelf;
 pub use gate::{Gate, OpenGate};
+pub use input::{InputFail, read_input};
 pub use mem_shelf::{Held, MemShelf};
 pub use mem_sink::MemSink;
 pub use out_sink::OutSink;

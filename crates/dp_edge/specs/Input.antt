@@ -1,0 +1,58 @@
+-- The text of an input: numbers between blanks.
+use Rattle.std.specs.Prelude.{◌≡◌, ℕ, ◌+◌, min, Bool, ◌&&◌, ◌||◌, if◌then◌else◌, nat_le, ◌==◌, List, [], ◌∷◌, length, Option, Some, None, Result, Ok, Err, ℤ, pos, neg_ℤ}
+use Rattle.std.specs.List.{filter}
+use Rattle.dp_base.specs.Arithmetic.{fits}
+use Rattle.dp_edge.specs.Digits.{is_full, are_digits, value_of}
+use Rattle.dp_edge.specs.declared.input.InputFail.{InputFail}
+use Rattle.dp_edge.specs.declared.input.InputFail.TheVariants.{TooMany, Refused, NoMemory}
+
+-- a space, a tab, a CR or an LF
+abbrev pub is_blank : ℕ → Bool
+is_blank byte = byte == 32 || byte == 9 || byte == 13 || byte == 10
+
+-- the byte at the front of the first piece
+abbrev pub onto_first : ℕ → List (List ℕ) → List (List ℕ)
+onto_first byte [] = (byte ∷ []) ∷ []
+onto_first byte (piece ∷ pieces) = (byte ∷ piece) ∷ pieces
+
+-- what stands before, between and after the blanks of a text, some of it empty
+abbrev pub pieces : List ℕ → List (List ℕ)
+pieces [] = [] ∷ []
+pieces (byte ∷ text) = if is_blank byte then [] ∷ pieces text else onto_first byte (pieces text)
+
+-- the words of a text: its pieces that have a byte, in order
+abbrev pub words : List ℕ → List (List ℕ)
+words text = filter is_full (pieces text)
+
+-- the number that one or more digits write, with a sign, where it lies in 64 bits
+abbrev pub signed_number : (ℕ → ℤ) → List ℕ → Option ℤ
+signed_number sign digits =
+    if are_digits digits && fits (sign (value_of digits)) then Some (sign (value_of digits)) else None
+
+-- the number that a word stands for: an optional `-` and one or more digits, with a value of 64 bits
+abbrev pub number_of : List ℕ → Option ℤ
+number_of [] = None
+number_of (byte ∷ rest) = if byte == 45 then signed_number (λ n. neg_ℤ (pos n)) rest else signed_number pos (byte ∷ rest)
+
+-- a number, or the refusal of the word at a place, before what the later words give
+abbrev pub number_before : Option ℤ → ℕ → Result (List ℤ) InputFail → Result (List ℤ) InputFail
+number_before None place later = Err (Refused place)
+number_before (Some number) place (Ok numbers) = Ok (number ∷ numbers)
+number_before (Some number) place (Err fail) = Err fail
+
+-- the numbers of all words, the first of which stands at a place; or the refusal of the first word that is no number
+abbrev pub numbers_from : ℕ → List (List ℕ) → Result (List ℤ) InputFail
+numbers_from place [] = Ok []
+numbers_from place (word ∷ words) = number_before (number_of word) place (numbers_from (place + 1) words)
+
+-- What a text is read as: too many words come before a word that is no number, and are counted up to 1,000,000. Words
+-- are counted from 1.
+abbrev pub numbers_of : List ℕ → Result (List ℤ) InputFail
+numbers_of text = if nat_le (length (words text)) 65536 then numbers_from 1 (words text) else Err (TooMany (min (length (words text)) 1000000))
+
+-- the answer is the wanted one, or want of memory
+abbrev pub AnswersInput : Result (List ℤ) InputFail → Result (List ℤ) InputFail → Type 0
+AnswersInput (Ok numbers) wanted = wanted ≡ Ok numbers
+AnswersInput (Err (TooMany count)) wanted = wanted ≡ Err (TooMany count)
+AnswersInput (Err (Refused word)) wanted = wanted ≡ Err (Refused word)
+AnswersInput (Err NoMemory) wanted = Unit {0}

@@ -1,0 +1,145 @@
+//! The reader of input texts.
+ghost use Rattle.std.specs.Prelude.{◌≡◌, ℕ, ◌+◌, ◌<◌, ◌≤◌, ◌^◌, ◌∷◌, [], not, length, IfSome, MatchOption};
+ghost use Rattle.std.specs.List.{position};
+ghost use Rattle.dp_edge.specs.Input.{is_blank, words, number_of, numbers_from, numbers_of, AnswersInput};
+ghost use Rattle.dp_edge.specs.Digits.{digit_after, magnitude_of};
+
+use dp_base::{NoMemory, Row};
+use std::alloc::Global;
+
+/// An input has at most so many words.
+const MOST_WORDS: usize = 65_536;
+
+/// More words than this are counted as so many.
+const MOST_COUNTED: usize = 1_000_000;
+
+/// Why a text is no input.
+#[derive(Clone, Copy, Debug, PartialEq, Eq)]
+pub enum InputFail {
+    /// It has more than 65,536 words. The count stands at 1,000,000 where there are more.
+    TooMany { count: u32 },
+    /// A word is no number: the first such word, counted from 1.
+    Refused { word: u32 },
+    /// Memory was wanting.
+    NoMemory,
+}
+
+impl From<NoMemory> for InputFail {
+    ghost use Rattle.std.specs.Prelude.{◌≡◌};
+    ghost use Rattle.dp_edge.specs.declared.input.InputFail.TheVariants.{NoMemory};
+
+    ghost from_gives = { λ _ fail. fail ≡ NoMemory };
+
+    fn from(_wanting: NoMemory) -> InputFail {
+        InputFail::NoMemory
+    }
+}
+
+fn is_blank_byte(byte: u8) -> bool
+    ensures { result ≡ is_blank byte }
+{
+    byte == b' ' || byte == b'\t' || byte == b'\r' || byte == b'\n'
+}
+
+// Where the first word begins.
+fn first_word(text: &[u8]) -> Option<usize>
+    ensures { result ≡ position (λ byte. not (is_blank byte)) text.now }
+{
+    text.iter().position(|byte| !is_blank_byte(*byte))
+}
+
+fn first_blank(text: &[u8]) -> Option<usize>
+    ensures { result ≡ position is_blank text.now }
+{
+    text.iter().position(|byte| is_blank_byte(*byte))
+}
+
+// The first word, and what follows it.
+fn next_word(text: &[u8]) -> Option<(&[u8], &[u8])>
+    ensures words { MatchOption result (words text.now ≡ []) (λ next. words text.now ≡ next.0.now ∷ words next.1.now) }
+    ensures shorter { IfSome result (λ next. length next.1.now < length text.now) }
+{
+    let (_, rest) = text.split_at(first_word(text)?);
+    let len = first_blank(rest).unwrap_or(rest.len());
+    Some(rest.split_at(len))
+}
+
+fn count_words(text: &[u8]) -> usize
+    ensures { result ≡ length (words text.now) }
+{
+    let mut count = 0;
+    let mut rest = text;
+    'words: while let Some((_, more)) = next_word(rest) {
+        count += 1;
+        rest = more;
+    }
+    count
+}
+
+// The number with one digit more, where it lies in 64 bits without a sign.
+fn with_digit(number: u64, digit: u8) -> Option<u64>
+    ensures { result ≡ digit_after number digit }
+{
+    if !digit.is_ascii_digit() {
+        return None;
+    }
+    number.checked_mul(10)?.checked_add((digit - b'0') as u64)
+}
+
+// The number that digits write, where it lies in 64 bits without a sign.
+#[tactic(auto, using(crate::proofs::Digits::magnitude_lost, crate::proofs::Digits::magnitude_found))]
+fn magnitude(digits: &[u8]) -> Option<u64>
+    ensures { result ≡ magnitude_of digits.now }
+{
+    if digits.is_empty() {
+        return None;
+    }
+    let mut number = 0;
+    'digits: for digit in digits {
+        number = with_digit(number, *digit)?;
+    }
+    Some(number)
+}
+
+fn number(word: &[u8]) -> Option<i64>
+    ensures { result ≡ number_of word.now }
+{
+    match word {
+        [b'-', digits @ ..] => 0i64.checked_sub_unsigned(magnitude(digits)?),
+        _ => 0i64.checked_add_unsigned(magnitude(word)?),
+    }
+}
+
+fn read_words(alloc: Global, text: &[u8], count: usize) -> Result<Row<i64>, InputFail>
+    requires { length (words text.now) ≤ 65536 }
+    ensures { AnswersInput result (numbers_from 1 (words text.now)) }
+{
+    let mut numbers = Row::with_capacity(alloc, count)?;
+    let mut rest = text;
+    let mut place = 1;
+    'words: while let Some((word, more)) = next_word(rest) {
+        let Some(value) = number(word) else {
+            return Err(InputFail::Refused { word: place });
+        };
+        numbers.push(value)?;
+        rest = more;
+        place += 1;
+    }
+    Ok(numbers)
+}
+
+/// The numbers of an input text.
+///
+/// Words are the longest runs of bytes other than space, tab, CR and LF. Each has to be an optional `-` and one or more
+/// digits, with a value of 64 bits; leading zeros are allowed.
+pub fn read_input(alloc: Global, bytes: &[u8]) -> Result<Row<i64>, InputFail>
+    ensures { AnswersInput result (numbers_of bytes.now) }
+{
+    let count = count_words(bytes);
+    if count > MOST_WORDS {
+        return Err(InputFail::TooMany {
+            count: count.min(MOST_COUNTED) as u32,
+        });
+    }
+    read_words(alloc, bytes, count)
+}
