@@ -3,3 +3,4 @@ pub mod Characters
 pub mod Spelling
 pub mod Front
 pub mod Tokens
+pub mod Scan

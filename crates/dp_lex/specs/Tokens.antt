@@ -1,5 +1,5 @@
 -- The tokens of a text, and the place at which a text is refused.
-use Rattle.std.specs.Prelude.{◌≡◌, ℕ, ◌+◌, List, [], ◌∷◌, length, take, drop, Option, Some, None, Result, Ok, Err}
+use Rattle.std.specs.Prelude.{◌≡◌, ℕ, ◌+◌, ◌≤◌, List, [], ◌∷◌, length, take, drop, Option, Some, None, Result, Ok, Err}
 use Rattle.dp_lex.specs.declared.TokenKind.{TokenKind}
 use Rattle.dp_lex.specs.declared.Token.{Token}
 use Rattle.dp_lex.specs.declared.LexRefused.{LexRefused}
@@ -31,6 +31,12 @@ pub record RefusedAt (text : Text) (place : ℕ) : Type 0 where
 pub record Reading : Type 0 where
   pub text : Text
   pub place : ℕ
+
+-- a lexer's place and line belong to its text
+pub record IsInText (text : Text) (place line : ℕ) : Type 0 where
+  pub short : length text ≤ 65536
+  pub inside : place ≤ length text
+  pub counted : line ≡ line_at text place
 
 -- a token as contracts see it
 abbrev pub lexeme : Token → Lexeme

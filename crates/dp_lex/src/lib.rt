@@ -1,6 +1,16 @@
 //! The tokens of a program's text.
 #![tactic(auto)]
 
+mod front;
+mod law;
+mod lexer;
+mod tables;
+#[cfg(test)]
+mod tests;
+
+pub use law::each_text_is_read_in_one_way;
+pub use lexer::Lexer;
+
 /// What a token is: an identifier, a reserved word, a number, the mark of a region, or a sign.
 #[derive(Clone, Copy, Debug, PartialEq, Eq)]
 pub enum TokenKind {

@@ -1,0 +1,100 @@
+-- The number at the front of a text is the longest token there.
+use Rattle.std.proofs.Common.{◌≡◌, ℕ, zero, suc, ◌+◌, ◌<◌, ◌≤◌, Bool, true, false, not, ◌&&◌, ◌||◌, ◌≢◌, ◌⊎◌, ◌==◌, nat_le, nat_lt, if◌then◌else◌, inl, inr, List, [], ◌∷◌, ◌++◌, length, take, drop, get_or, slice_index, codes, Option, Some, None, All, Contains, refl, sym, ◌∙◌, ap, subst, append_assoc, length-append, length-take-le, take_at, drop_at, take-append-drop, get_or-drop, get_or-take, get_or-append-add, add-zero, arith}
+use Rattle.std.specs.Char.{is_ascii_digit}
+use Rattle.std.specs.List.{prefix_len}
+use Rattle.std.specs.Str.Parse.{digits_value}
+use Rattle.std.proofs.lemmas.Bool.{cases_Bool, and_parts, and_from, or_cases, or_left, or_right, eqb-true, eqb-false, eq-eqb, leb-true, le-leb, not-true, not_from_false, both_ways, false_from_ne_true, cond_both}
+use Rattle.std.proofs.lemmas.List.Sums.{prefix_len-le-length}
+use Rattle.std.proofs.lemmas.List.Prefix.{front_reads}
+use Rattle.dp_lex.specs.declared.TokenKind.{TokenKind}
+use Rattle.dp_lex.specs.declared.TokenKind.TheVariants.{Name, Reserved, Number, Mark, Sign}
+use Rattle.dp_lex.specs.Characters.{Text, is_gap, is_white, is_letter, is_word}
+use Rattle.dp_lex.specs.Spelling.{reserved_words, signs, IsName, IsNumber, IsMark, IsSpelled, MayPrecede}
+use Rattle.dp_lex.specs.Front.{CanStand}
+use Rattle.dp_lex.specs.Scan.{Found, is_one_of, word, fits, is_plain, number, sign}
+use Rattle.dp_lex.proofs.Runs.{run_passes, run_reaches, run_exact, run_none, run_some}
+use Rattle.dp_lex.proofs.Membership.{contains_from_test, test_from_contains}
+use Rattle.dp_lex.proofs.Apart.{kind_of, spelled_kind, spelled_some, digit_no_letter, digit_is_word, letter_is_word, reserved_is_word, sign_short}
+use Rattle.dp_lex.proofs.Standing.{IsFound, first_same, first_kind}
+
+number_kind : (kind : TokenKind) (w z : Text) → CanStand kind w z → is_ascii_digit (slice_index z 0) ≡ true → kind ≡ Number
+number_kind kind w z s digit = rw (digit_no_letter (slice_index z 0) digit, digit) at (first_kind kind w z s)
+
+no_word_no_digit : (b : ℕ) → is_word b ≡ false → is_ascii_digit b ≡ false
+no_word_no_digit b h = false_from_ne_true _ (λ t. both_ways _ h (digit_is_word b t))
+
+plain_from_leading : (w : Text) → (slice_index w 0 ≡ 48 → length w ≡ 1) → is_plain w ≡ true
+plain_from_leading w h =
+    elim (cases_Bool (slice_index w 0 == 48)) [
+      | inl t ↦ or_left _ _ (eq-eqb (length w) 1 (h (eqb-true _ 48 t)))
+      | inr t ↦ or_right _ _ (not_from_false _ t)
+    ]
+
+leading_from_plain : (w : Text) → is_plain w ≡ true → slice_index w 0 ≡ 48 → length w ≡ 1
+leading_from_plain w h e =
+    elim (or_cases (length w == 1) (not (slice_index w 0 == 48)) h) [
+      | inl t ↦ eqb-true (length w) 1 t
+      | inr t ↦ absurd (both_ways _ (not-true _ t) (eq-eqb _ 48 e))
+    ]
+
+-- the number that can stand at the front is the run of digits, and passes the scan's test
+record IsRun (w z : Text) : Type 0 where
+  long : prefix_len is_ascii_digit z ≡ length w
+  front : take (length w) z ≡ w
+  test : (is_plain w && fits w && not (is_word (slice_index z (length w)))) ≡ true
+
+number_run : (w rest : Text) → IsNumber w → is_word (slice_index rest 0) ≡ false → IsRun w (w ++ rest)
+unfolding fits
+number_run w rest s alone =
+    let next : slice_index (w ++ rest) (length w) ≡ slice_index rest 0 = rw (add-zero (length w)) at (get_or-append-add w rest 0 0) in
+    record {
+      long = run_exact is_ascii_digit w rest s.digits (run_none is_ascii_digit rest (no_word_no_digit (slice_index rest 0) alone));
+      front = take_at w rest (length w) refl;
+      test = rw next (and_from _ _ (and_from _ _ (plain_from_leading w s.leading) (le-leb _ 9223372036854775807 s.value)) (not_from_false _ alone));
+    }
+
+number_refused : (z : Text) → is_ascii_digit (slice_index z 0) ≡ true → (is_plain (take (prefix_len is_ascii_digit z) z) && fits (take (prefix_len is_ascii_digit z) z) && not (is_word (slice_index z (prefix_len is_ascii_digit z)))) ≡ false → (kind : TokenKind) (w : Text) → ¬ CanStand kind w z
+number_refused z digit test Number w s =
+    let r : IsRun w z = rw s.splits (number_run w s.rest s.spelled s.alone) in
+    both_ways _ test (rw (r.long, r.front) r.test)
+number_refused z digit test Name w s = absurd (cc (number_kind Name w z s digit))
+number_refused z digit test Reserved w s = absurd (cc (number_kind Reserved w z s digit))
+number_refused z digit test Mark w s = absurd (cc (number_kind Mark w z s digit))
+number_refused z digit test Sign w s = absurd (cc (number_kind Sign w z s digit))
+
+number_bound : (kind : TokenKind) (w z : Text) → is_ascii_digit (slice_index z 0) ≡ true → CanStand kind w z → length w ≤ prefix_len is_ascii_digit z
+number_bound Number w z digit s =
+    let r : IsRun w z = rw s.splits (number_run w s.rest s.spelled s.alone) in
+    omega (arith, r.long)
+number_bound Name w z digit s = absurd (cc (number_kind Name w z s digit))
+number_bound Reserved w z digit s = absurd (cc (number_kind Reserved w z s digit))
+number_bound Mark w z digit s = absurd (cc (number_kind Mark w z s digit))
+number_bound Sign w z digit s = absurd (cc (number_kind Sign w z s digit))
+
+number_stands : (z : Text) → is_ascii_digit (slice_index z 0) ≡ true → (is_plain (take (prefix_len is_ascii_digit z) z) && fits (take (prefix_len is_ascii_digit z) z) && not (is_word (slice_index z (prefix_len is_ascii_digit z)))) ≡ true → CanStand Number (take (prefix_len is_ascii_digit z) z) z
+unfolding fits
+number_stands z digit test =
+    let n = prefix_len is_ascii_digit z in
+    let some : 1 ≤ n = run_some is_ascii_digit z refl digit in
+    let within = prefix_len-le-length is_ascii_digit z in
+    let parts = and_parts _ _ test in
+    let plain_fits = and_parts _ _ parts.0 in
+    record {
+      rest = drop n z;
+      splits = sym (take-append-drop n z);
+      spelled = record {
+        some = omega (arith, length-take-le n z within, some);
+        digits = run_passes is_ascii_digit z n refl;
+        leading = leading_from_plain (take n z) plain_fits.0;
+        value = leb-true _ 9223372036854775807 plain_fits.1;
+      };
+      alone = rw (get_or-drop n z 0 0, add-zero n) (not-true _ parts.1);
+    }
+
+pub number_found : (z : Text) → is_ascii_digit (slice_index z 0) ≡ true → IsFound z (number z)
+unfolding number
+number_found z digit =
+    let n = prefix_len is_ascii_digit z in
+    cond_both (is_plain (take n z) && fits (take n z) && not (is_word (slice_index z n))) (Some (Number, n)) None (IsFound z)
+    (λ test. (number_stands z digit test, λ kind w s. number_bound kind w z digit s, prefix_len-le-length is_ascii_digit z))
+    (λ test. number_refused z digit test)
