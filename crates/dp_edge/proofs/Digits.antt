@@ -1,10 +1,10 @@
 -- A number read digit by digit.
-use Rattle.std.proofs.Common.{◌≡◌, ℕ, ◌+◌, ◌-◌, ◌*◌, ◌^◌, ◌<◌, ◌≤◌, Bool, true, false, ◌&&◌, nat_lt, List, [], ◌∷◌, length, drop, Some, None, slice_index_or, refl, sym, ap, ◌∙◌, subst, rules, arith, le_refl}
+use Rattle.std.proofs.Common.{◌≡◌, ℕ, ◌+◌, ◌-◌, ◌*◌, ◌^◌, ◌<◌, ◌≤◌, Bool, true, false, ◌&&◌, nat_lt, List, [], ◌∷◌, length, drop, Some, None, slice_index_or, refl, sym, ap, ◌∙◌, rules, arith, le_refl}
 use Rattle.std.specs.Prelude.{if◌then◌else◌}
 use Rattle.std.specs.List.{list_all}
 use Rattle.std.specs.declared.option.Option.{Option}
 use Rattle.std.proofs.lemmas.List.{at_drop_more, at_drop_all}
-use Rattle.dp_edge.specs.Digits.{is_full, is_digit, value_after, value_of, digit_after, magnitude_of}
+use Rattle.dp_edge.specs.Digits.{is_full, is_digit, value_after, digit_after, magnitude_of}
 
 -- the number after these digits too, unless it was lost already
 abbrev pub after_digits : Option ℕ → List ℕ → Option ℕ

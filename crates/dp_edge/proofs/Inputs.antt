@@ -1,6 +1,5 @@
 -- The numbers of an input, word by word.
-use Rattle.std.proofs.Common.{◌≡◌, ℕ, ◌+◌, List, [], ◌∷◌, ◌++◌, ℤ, Some, None, Result, Ok, Err, refl, sym, ap, ◌∙◌, append_assoc, append-nil}
-use Rattle.std.specs.declared.option.Option.{Option}
+use Rattle.std.proofs.Common.{◌≡◌, ℕ, ◌+◌, List, [], ◌∷◌, ◌++◌, ℤ, Some, None, Result, Ok, Err, refl, sym, ap, ◌∙◌, append_assoc}
 use Rattle.dp_edge.specs.declared.input.InputFail.{InputFail}
 use Rattle.dp_edge.specs.declared.input.InputFail.TheVariants.{Refused}
 use Rattle.dp_edge.specs.Input.{number_of, number_before, numbers_from}

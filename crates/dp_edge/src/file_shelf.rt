@@ -11,10 +11,14 @@ use std::io::{self, Read};
 use std::marker::Model;
 use std::rt::Files;
 
+#[cfg(test)]
+mod tests;
+
 /// So many bytes are asked for at a time.
 const BLOCK: usize = 65_536;
 
 /// The files that the system has under their paths. It tells contracts nothing of them.
+#[derive(Drop)]
 pub struct FileShelf<'a, R: Files> {
     rt: &'a R,
     faults: u64,

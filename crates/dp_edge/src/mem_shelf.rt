@@ -8,6 +8,9 @@ use dp_base::{NoMemory, Row};
 use std::alloc::Global;
 use std::marker::Model;
 
+#[cfg(test)]
+mod tests;
+
 /// One text of a shelf in memory.
 #[derive(Debug, Drop)]
 pub struct Held {

@@ -6,7 +6,11 @@ use crate::sink::{PutFail, Sink};
 use std::io::{self, Write};
 use std::marker::Model;
 
+#[cfg(test)]
+mod tests;
+
 /// The standard output. It tells contracts nothing of what was written.
+#[derive(Drop)]
 pub struct OutSink<'a, R: Print> {
     rt: &'a R,
     faults: u64,

@@ -1,4 +1,4 @@
-use Rattle.std.proofs.Common.{◌≡◌, sym, subst, rules}
+use Rattle.std.proofs.Common.{sym, subst, rules}
 use Rattle.std.specs.Io.KnownBytes.{Consumes}
 use Rattle.std.proofs.KnownBytes.{Consumes-trans, starts_with_rest}
 use Rattle.dp_edge.proofs.file_shelf.take_all.Goals as goal

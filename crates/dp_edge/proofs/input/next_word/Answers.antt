@@ -1,4 +1,4 @@
-use Rattle.std.proofs.Common.{◌≡◌, ◌∷◌, [], drop, take, sym, ap, ◌∙◌, rules}
+use Rattle.std.proofs.Common.{◌≡◌, [], rules}
 use Rattle.dp_edge.specs.Input.{words}
 use Rattle.dp_edge.proofs.Words.{words_none, next_word_is, NextWord}
 use Rattle.dp_edge.proofs.input.next_word.Goals as goal
