@@ -36,6 +36,13 @@ impl Cells {
         Ok(Cells { alloc, values })
     }
 
+    /// Cells that hold these numbers.
+    pub fn from_values(alloc: Global, values: Vec<i64>) -> Cells
+        ensures { result ≡ values.items }
+    {
+        Cells { alloc, values }
+    }
+
     /// The number in a cell. It takes no memory.
     pub fn get(&self, cell: CellId) -> i64
         requires { cell.0 < length self.now }
