@@ -1,42 +1,30 @@
 -- The central theorem: the judgement on an epoch's packet is Clean exactly where the iteration is clean.
-use Rattle.std.proofs.Common.{◌≡◌, ◌⊎◌, inl, inr, refl, sym, ap, ◌∙◌, subst, ℕ, zero, suc, ◌+◌, ◌-◌, ◌<◌, ◌≤◌, Bool, true, false, ◌&&◌, ◌||◌, if◌then◌else◌, List, [], ◌∷◌, ◌++◌, ℤ, length, get_or, map, Option, Some, is_some, slice_get, Ok, Err, arith, le-leb}
+use Rattle.std.proofs.Common.{◌≡◌, inl, inr, refl, sym, ap, ◌∙◌, subst, ℕ, zero, suc, ◌+◌, ◌-◌, ◌<◌, ◌≤◌, Bool, true, false, ◌&&◌, ◌||◌, if◌then◌else◌, List, [], ◌++◌, ℤ, length, length-append, get_or, map, Option, Some, is_some, slice_get, arith, le-leb}
+use Rattle.std.proofs.lemmas.List.{append-nil}
 use Rattle.std.proofs.lemmas.Option.{slice_get_within, slice_get-get_or}
 use Rattle.std.proofs.lemmas.Bool.{both_ways, lt-leb}
 use Rattle.std.specs.List.{list_all}
-use Rattle.dp_base.specs.declared.FaultKind.{FaultKind}
-use Rattle.dp_base.specs.declared.SiteId.{SiteId}
-use Rattle.dp_tree.specs.declared.Expr.{Expr}
-use Rattle.dp_tree.specs.declared.Stmt.{Stmt, out-Stmt}
+use Rattle.dp_tree.specs.declared.Stmt.{Stmt}
 use Rattle.dp_tree.specs.declared.Program.{Program}
 use Rattle.dp_plan.specs.declared.Plan.{Plan}
-use Rattle.dp_tree.specs.Eval.{WithLoads}
-use Rattle.dp_tree.specs.Step.{Event, Effect, evaluated}
-use Rattle.dp_tree.specs.Trace.{Run, run_of, begin, start_cells}
+use Rattle.dp_tree.specs.Step.{Config, Event, Step, Finished, Faulted, Stepped, clear_locals, step}
+use Rattle.dp_tree.specs.Trace.{Run, run_of, run_by, begin}
 use Rattle.dp_tree.specs.Iteration.{starts, start, iteration, is_closing, has_ended, memory_after}
-use Rattle.dp_semantics.specs.Clean.{Past, all_agree, is_as_assumed, fits_words, pushed, events_since, is_clean}
-use Rattle.dp_semantics.specs.StageRun.{word_list}
-use Rattle.dp_semantics.specs.Packets.{Packet, Epoch, passed}
+use Rattle.dp_semantics.specs.Seen.{Past}
+use Rattle.dp_semantics.specs.Clean.{all_agree, event_as_assumed, fits_words, pushed, events_since, is_clean}
+use Rattle.dp_semantics.specs.Words.{word_list}
+use Rattle.dp_semantics.specs.Packets.{Epoch, Packet, passed}
 use Rattle.dp_semantics.specs.Judge.{Agreed, Clean, judge}
-use Rattle.dp_semantics.proofs.SeenLemmas.{Laid, last}
-use Rattle.dp_semantics.proofs.Memory.{Cleared}
-use Rattle.dp_semantics.proofs.Lockstep.{Goes, words_through, closing_after}
-use Rattle.dp_semantics.proofs.JudgeLockstep.{effect_in}
-use Rattle.dp_semantics.proofs.Whole.{Shape, turn_of, Agreed_by}
-use Rattle.dp_semantics.proofs.PacketSteps.{status_for}
-use Rattle.dp_semantics.proofs.Epochs.{Kinds, numbered, past_at, CleanAt, GoneBy, History}
-use Rattle.dp_semantics.proofs.Verdicts.{clean_is_judged, judged_is_clean}
-use Rattle.dp_semantics.proofs.Runs.{all_free}
-use Rattle.dp_semantics.proofs.RunIterations.{IterationIs, Next, Closes, Breaks, iteration_is}
-use Rattle.dp_semantics.proofs.Words.{fits_each, each_fits, Meets, meets}
-
--- an accepted inlined program with a valid plan of its region
-pub record Accepted (p : Program) (plan : Plan) (statement : Stmt) (site : SiteId) (cond : Expr) (body front tail : List Stmt) : Type 0 where
-  pub shape : Shape p plan statement site cond body
-  pub kinds : Kinds plan
-  pub laid : Laid p plan (length (start_cells p.vars))
-  pub main : p.main ≡ front ++ statement ∷ tail
-  pub front_free : all_free plan.region front ≡ true
-  pub tail_free : all_free plan.region tail ≡ true
+use Rattle.dp_semantics.specs.Verdict.{effect_in, epoch_at, status_when, CleanSince, Judged, JudgesRightly, Follows, StoresLead}
+use Rattle.dp_semantics.proofs.Setting.{Accepted}
+use Rattle.dp_semantics.proofs.Lockstep.{Goes, closing_after}
+use Rattle.dp_semantics.proofs.Whole.{turn_of, sound_parts, MadeWithin}
+use Rattle.dp_semantics.proofs.PacketFacts.{status_for}
+use Rattle.dp_semantics.proofs.Epochs.{History, numbered, past_at, MakesAt, GoneBy, Gone, WellJudged, clean_is_judged, judged_is_clean}
+use Rattle.dp_semantics.proofs.Iterations.{run, Ending, goes_on, closes, breaks, IterationIs, iteration_is}
+use Rattle.dp_semantics.proofs.Counts.{fits_each, each_fits, words_are}
+use Rattle.dp_semantics.proofs.Paths as paths
+use Rattle.dp_semantics.proofs.Paths.{closing_first, goes_applied, first_of, no_more}
 
 four : (a b c d : Bool) → (a && b && c && d) ≡ true → (a ≡ true) × (b ≡ true) × (c ≡ true) × (d ≡ true)
 four true true true true e = (refl, refl, refl, refl)
@@ -52,162 +40,193 @@ make_four true false c d e f g h = absurd (cc)
 make_four true true false d e f g h = absurd (cc)
 make_four true true true false e f g h = absurd (cc)
 
-pub numbered_is : (e n : ℕ) → numbered e n ≡ e + n
+numbered_is : (e n : ℕ) → numbered e n ≡ e + n
 numbered_is e zero = omega arith
 numbered_is e (suc n) = omega (arith, numbered_is e n)
 
+-- the events since the epoch's start
 since_start : (run : Run) (r e : ℕ) → events_since run r e e ≡ []
 since_start run r zero = refl
 since_start run r (suc e) = ap (λ (b : Bool). if b then pushed e (iteration run r e) (events_since run r (suc e) e) else []) (lt-leb (suc e) e (omega arith))
 
--- the events since the epoch's start
-pub since_is : (run : Run) (r e n : ℕ) → events_since run r e (numbered e n) ≡ past_at e (λ m. iteration run r (numbered e m)) n
+since_is : (run : Run) (r e n : ℕ) → events_since run r e (numbered e n) ≡ past_at e (λ m. iteration run r (numbered e m)) n
 since_is run r e zero = since_start run r e
 since_is run r e (suc n) =
     ap (λ (b : Bool). if b then pushed (numbered e n) (iteration run r (numbered e n)) (events_since run r e (numbered e n)) else []) (le-leb e (numbered e n) (omega (arith, numbered_is e n)))
     ∙ ap (λ (earlier : List Past). pushed (numbered e n) (iteration run r (numbered e n)) earlier) (since_is run r e n)
 
-pub earlier_start : (ks : List ℕ) (i j k : ℕ) → slice_get ks i ≡ Some k → j ≤ i → (m : ℕ) × (slice_get ks j ≡ Some m)
+-- what starts later has earlier starts
+earlier_start : (ks : List ℕ) (i j k : ℕ) → slice_get ks i ≡ Some k → j ≤ i → (m : ℕ) × (slice_get ks j ≡ Some m)
 earlier_start ks i j k e h = let within = slice_get_within ks i k e in (get_or ks j 0, slice_get-get_or ks j 0 (omega (arith, within, h)))
 
-module _ (p : Program) (plan : Plan) (statement : Stmt) (site : SiteId) (cond : Expr) (body front tail : List Stmt) (ok : Accepted p plan statement site cond body front tail) (input : List ℤ) (fuel e : ℕ) where
-  abbrev run : Run
-  run = run_of p input fuel (begin p)
+fuel_is : (p : Program) (input : List ℤ) (n : ℕ) (c : Config) → (run_of p input n c).fuel ≡ n
+unfolding run_of
+fuel_is p input zero c = refl
+fuel_is p input (suc n) c = by (step p input c)
+  where
+    by : (s : Step) → (run_by (run_of p input n) (suc n) c s).fuel ≡ suc n
+    by Finished = refl
+    by (Faulted fault) = refl
+    by (Stepped event next) = refl
 
-  abbrev base : List ℤ
-  base = memory_after run plan.region e
+last_status : (s : ℕ) (closing : Bool) → 0 < s → status_for s closing ≡ status_when closing
+last_status zero closing h = absurd (omega (arith, h))
+last_status (suc s) true h = refl
+last_status (suc s) false h = refl
 
-  abbrev memory : ℕ → List ℤ
-  memory n = memory_after run plan.region (numbered e n)
+module _ {p : Program} {plan : Plan} (a : Accepted p plan) (input : List ℤ) (fuel : ℕ) where
+  abbrev r : ℕ
+  r = plan.region
 
-  abbrev events : ℕ → List Event
-  events n = iteration run plan.region (numbered e n)
+  abbrev source : Run
+  source = run a input fuel
 
-  abbrev key : Epoch
-  key = record { program = p; plan = plan; input = input; base = base }
+  module _ (e first : ℕ) (reached : start source r e ≡ Some first) where
+    abbrev key : Epoch
+    key = epoch_at p plan input source e
 
-  pub iteration_at : (i k : ℕ) → start run plan.region i ≡ Some k → IterationIs p plan input statement site cond body front tail ok.shape.is ok.shape.well ok.front_free ok.tail_free ok.main fuel i k
-  iteration_at i k s = iteration_is p plan input statement site cond body front tail ok.shape.is ok.shape.well ok.front_free ok.tail_free ok.main fuel i k s
-
-  abbrev pub size : ℕ
-  size = length (start_cells p.vars)
-
-  -- the epoch's first iteration is reached
-  module _ (first : ℕ) (reached : start run plan.region e ≡ Some first) where
-    base_clear : Cleared p plan base
-    base_clear = (iteration_at e first reached).cleared
-
-    base_size : length base ≡ size
-    base_size = (iteration_at e first reached).size_is
-
-    abbrev IsCleanAt : ℕ → Type 0
-    IsCleanAt n = CleanAt p plan statement site cond body ok.shape ok.kinds input base size ok.laid base_clear base_size e memory events refl n
-
-    abbrev Gone : ℕ → Type 0
-    Gone n = GoneBy p plan statement site cond body ok.shape ok.kinds input base size ok.laid base_clear base_size e memory events refl n
-
-    -- what a clean iteration is
-    parts : (n : ℕ) → is_clean p plan run e (numbered e n) ≡ true →
-        (has_ended run plan.region (numbered e n) ≡ true) × (all_agree p plan base (numbered e n) (events_since run plan.region e (numbered e n)) (events n) ≡ true)
-        × (list_all (is_as_assumed plan) (events n) ≡ true) × (fits_words p plan (events n) ≡ true)
-    parts n c = four (has_ended run plan.region (numbered e n)) _ _ _ c
-
-    clean_at : (n k : ℕ) (q : IterationIs p plan input statement site cond body front tail ok.shape.is ok.shape.well ok.front_free ok.tail_free ok.main fuel (numbered e n) k) → q.after ≡ [] →
-        is_clean p plan run e (numbered e n) ≡ true → IsCleanAt n
-    clean_at n k q ends c = record {
-      then_cells = q.then_cells;
-      path = subst (λ (after : List Stmt). Goes p input (turn_of site cond body ∷ []) (memory n) (events n) after q.then_cells) ends q.path;
-      agree = ap (λ (earlier : List Past). all_agree p plan base (numbered e n) earlier (events n)) (sym (since_is run plan.region e n)) ∙ (parts n c).1;
-      told = (parts n c).2;
-      fits = fits_each p plan (events n) (parts n c).3;
+    abbrev history : History key
+    history = record {
+      ok = record { accepted = a };
+      clean_base = (iteration_is a input fuel e first reached).cleared;
+      base_size = (iteration_is a input fuel e first reached).size_is;
+      first = e;
+      memory = λ n. memory_after source r (numbered e n);
+      events = λ n. iteration source r (numbered e n);
+      starts = refl;
     }
 
-    gone_by : (n k next : ℕ) → start run plan.region (numbered e n) ≡ Some k → start run plan.region (numbered e (suc n)) ≡ Some next → is_clean p plan run e (numbered e n) ≡ true → Gone n
-    unfolding clean_at iteration_at
-    gone_by n k next s t c = by q.ending
+    -- what a clean iteration is
+    parts : (n : ℕ) → is_clean p plan source e (numbered e n) ≡ true →
+        (has_ended source r (numbered e n) ≡ true) × (all_agree p plan key.base (numbered e n) (events_since source r e (numbered e n)) (iteration source r (numbered e n)) ≡ true)
+        × (list_all (event_as_assumed plan) (iteration source r (numbered e n)) ≡ true) × (fits_words p plan (iteration source r (numbered e n)) ≡ true)
+    parts n c = four (has_ended source r (numbered e n)) _ _ _ c
+
+    makes_of : (n k : ℕ) (q : IterationIs a input fuel (numbered e n) k) → q.after ≡ [] → is_clean p plan source e (numbered e n) ≡ true → MakesAt history n
+    makes_of n k q end c = record {
+      then_cells = q.then_cells;
+      path = subst (λ (after : List Stmt). Goes p input (turn_of a) (memory_after source r (numbered e n)) (iteration source r (numbered e n)) after q.then_cells) end q.path;
+      agree = ap (λ (earlier : List Past). all_agree p plan key.base (numbered e n) earlier (iteration source r (numbered e n))) (sym (since_is source r e n)) ∙ (parts n c).1;
+      told = (parts n c).2;
+      fits = fits_each p plan (iteration source r (numbered e n)) (parts n c).3;
+    }
+
+    gone_by : (n k next : ℕ) → start source r (numbered e n) ≡ Some k → start source r (numbered e (suc n)) ≡ Some next → is_clean p plan source e (numbered e n) ≡ true → GoneBy history n
+    unfolding makes_of
+    gone_by n k next s t c = let q = iteration_is a input fuel (numbered e n) k s in by q q.ending
       where
-        q : IterationIs p plan input statement site cond body front tail ok.shape.is ok.shape.well ok.front_free ok.tail_free ok.main fuel (numbered e n) k
-        q = iteration_at (numbered e n) k s
+        by : (q : IterationIs a input fuel (numbered e n) k) → Ending a input fuel (numbered e n) k q.left q.after q.then_cells → GoneBy history n
+        by q (goes_on end there memory within) = record { makes = makes_of n k q end c; onward = memory }
+        by q (closes end none closing within) = let clash = sym t ∙ none in absurd (cc clash)
+        by q (breaks x rest after unended why) = absurd (both_ways (has_ended source r (numbered e n)) unended (parts n c).0)
 
-        by : Next p plan input statement site cond body front tail ok.shape.is ok.shape.well ok.front_free ok.tail_free ok.main fuel (numbered e n) k q.after q.then_cells q.steps
-            ⊎ (Closes p plan input statement site cond body front tail ok.shape.is ok.shape.well ok.front_free ok.tail_free ok.main fuel (numbered e n) q.after q.steps
-            ⊎ Breaks p plan input statement site cond body front tail ok.shape.is ok.shape.well ok.front_free ok.tail_free ok.main fuel (numbered e n) q.after q.then_cells q.steps) → Gone n
-        by (inl o) = record { clean = clean_at n k q o.after_is c; onward = o.memory_is }
-        by (inr (inl o)) = let none = sym t ∙ o.next_start in absurd (cc none)
-        by (inr (inr o)) = absurd (both_ways (has_ended run plan.region (numbered e n)) o.open_yet (parts n c).0)
-
-    module _ (n k : ℕ) (here : start run plan.region (numbered e n) ≡ Some k) (clean_before : (m : ℕ) → m < n → is_clean p plan run e (numbered e m) ≡ true) where
-      history : History p plan statement site cond body ok.shape ok.kinds input base size ok.laid base_clear base_size e memory events refl n
-      history m h =
-          let this = earlier_start (starts run plan.region) (numbered e n) (numbered e m) k here (omega (arith, numbered_is e n, numbered_is e m)) in
-          let that = earlier_start (starts run plan.region) (numbered e n) (numbered e (suc m)) k here (omega (arith, numbered_is e n, numbered_is e m)) in
+    module _ (n k : ℕ) (here : start source r (numbered e n) ≡ Some k) (clean_before : (m : ℕ) → m < n → is_clean p plan source e (numbered e m) ≡ true) where
+      gone : Gone history n
+      gone m h =
+          let this = earlier_start (starts source r) (numbered e n) (numbered e m) k here (omega (arith, numbered_is e n, numbered_is e m)) in
+          let that = earlier_start (starts source r) (numbered e n) (numbered e (suc m)) k here (omega (arith, numbered_is e n, numbered_is e m)) in
           gone_by m this.0 that.0 this.1 that.1 (clean_before m h)
 
-      abbrev pub packet : Packet
-      packet = (passed key (length plan.stages) n).packet
+      q : IterationIs a input fuel (numbered e n) k
+      q = iteration_is a input fuel (numbered e n) k here
 
-      q : IterationIs p plan input statement site cond body front tail ok.shape.is ok.shape.well ok.front_free ok.tail_free ok.main fuel (numbered e n) k
-      q = iteration_at (numbered e n) k here
-
-      -- the source's verdict on the iteration
-      abbrev pub verdict : Agreed
-      verdict = record { effects = map effect_in (events n); closing = closing_after p plan false (events n) }
-
-      abbrev pub WellJudged : Type 0
-      WellJudged = record {
-        status : packet.status ≡ status_for (length plan.stages) (closing_after p plan false (events n));
-        words : (t : ℕ) → 0 < t → t < last plan → word_list packet.lists t ≡ words_through p plan t (events n);
-        judged : judge p plan (fuel - k) (memory n) packet ≡ Clean verdict;
-      }
-
-      -- (A) The packet of a clean iteration isn't void and has the words of the source's events, and it is judged Clean with the source's effects.
-      pub judged_so : is_clean p plan run e (numbered e n) ≡ true → WellJudged
+      -- The packet of a clean iteration has the words of the source's events, and it is judged Clean with the source's effects ..
+      judged_so : is_clean p plan source e (numbered e n) ≡ true → WellJudged history n (fuel - k)
       judged_so c = by q.ending
         where
-          within : length (events n) ≤ q.steps → length (events n) ≤ fuel - k
-          within h = omega (arith, h, q.steps_are)
+          by : Ending a input fuel (numbered e n) k q.left q.after q.then_cells → WellJudged history n (fuel - k)
+          by (goes_on end there memory within) = clean_is_judged history n (fuel - k) gone (makes_of n k q end c) (omega (arith, within, q.steps_are))
+          by (closes end none closing within) = clean_is_judged history n (fuel - k) gone (makes_of n k q end c) (omega (arith, within, q.steps_are))
+          by (breaks x rest after unended why) = absurd (both_ways (has_ended source r (numbered e n)) unended (parts n c).0)
 
-          known : q.after ≡ [] → length (events n) ≤ q.steps → WellJudged
-          known ends h = clean_is_judged p plan statement site cond body ok.shape ok.kinds input base size ok.laid base_clear base_size e memory events refl n (fuel - k) history (clean_at n k q ends c) (within h)
-
-          by : Next p plan input statement site cond body front tail ok.shape.is ok.shape.well ok.front_free ok.tail_free ok.main fuel (numbered e n) k q.after q.then_cells q.steps
-              ⊎ (Closes p plan input statement site cond body front tail ok.shape.is ok.shape.well ok.front_free ok.tail_free ok.main fuel (numbered e n) q.after q.steps
-              ⊎ Breaks p plan input statement site cond body front tail ok.shape.is ok.shape.well ok.front_free ok.tail_free ok.main fuel (numbered e n) q.after q.then_cells q.steps) → WellJudged
-          by (inl o) = known o.after_is o.within
-          by (inr (inl o)) = known o.after_is o.within
-          by (inr (inr o)) = absurd (both_ways (has_ended run plan.region (numbered e n)) o.open_yet (parts n c).0)
-
-      -- (B) Where the packet is judged Clean, the iteration is clean.
-      pub clean_so : (v : Agreed) → judge p plan (fuel - k) (memory n) packet ≡ Clean v → is_clean p plan run e (numbered e n) ≡ true
+      -- .. and where the packet is judged Clean, the iteration is clean.
+      clean_so : (v : Agreed) → judge p plan (fuel - k) (memory_after source r (numbered e n)) (passed key (length plan.stages) n).packet ≡ Clean v → is_clean p plan source e (numbered e n) ≡ true
       clean_so v judged = by q.ending
         where
-          a : Agreed_by p plan statement site cond body ok.shape input base size (numbered e n) ok.laid (fuel - k) (past_at e events n) (memory n)
-          a = judged_is_clean p plan statement site cond body ok.shape ok.kinds input base size ok.laid base_clear base_size e memory events refl n (fuel - k) history v judged
+          made : MadeWithin history.ok (numbered e n) (past_at e history.events n) (memory_after source r (numbered e n)) (fuel - k)
+          made = judged_is_clean history n (fuel - k) gone v judged
 
-          m : Meets p input a.events (events n) q.after q.then_cells
-          m = meets p input (turn_of site cond body ∷ []) (memory n) a.events [] a.then_cells a.path refl (events n) q.after q.then_cells q.path
+          on : paths.GoesOn p input made.events (iteration source r (numbered e n)) q.after q.then_cells made.makes.then_cells
+          on = paths.goes_on q.path made.events made.makes.then_cells made.makes.path
 
-          known : q.after ≡ [] → has_ended run plan.region (numbered e n) ≡ true → is_clean p plan run e (numbered e n) ≡ true
-          known ends ended = make_four _ _ _ _ ended
-              (ap (λ (earlier : List Past). all_agree p plan base (numbered e n) earlier (events n)) (since_is run plan.region e n)
-              ∙ ap (λ (es : List Event). all_agree p plan base (numbered e n) (past_at e events n) es) (sym (m.same ends)) ∙ a.agree)
-              (ap (λ (es : List Event). list_all (is_as_assumed plan) es) (sym (m.same ends)) ∙ a.told)
-              (ap (λ (es : List Event). fits_words p plan es) (sym (m.same ends)) ∙ each_fits p plan a.events a.fits)
+          known : q.after ≡ [] → has_ended source r (numbered e n) ≡ true → is_clean p plan source e (numbered e n) ≡ true
+          known end ended =
+              let same : made.events ≡ iteration source r (numbered e n) = on.is ∙ ap (λ (es : List Event). iteration source r (numbered e n) ++ es) (no_more on.path end) ∙ append-nil (iteration source r (numbered e n)) in
+              make_four _ _ _ _ ended
+              (ap (λ (earlier : List Past). all_agree p plan key.base (numbered e n) earlier (iteration source r (numbered e n))) (since_is source r e n)
+              ∙ ap (λ (es : List Event). all_agree p plan key.base (numbered e n) (past_at e history.events n) es) (sym same) ∙ made.makes.agree)
+              (ap (λ (es : List Event). list_all (event_as_assumed plan) es) (sym same) ∙ made.makes.told)
+              (ap (λ (es : List Event). fits_words p plan es) (sym same) ∙ each_fits p plan made.events made.makes.fits)
 
-          or_true : (b : Bool) → (b || true) ≡ true
-          or_true true = refl
-          or_true false = refl
+          or_true : (b c : Bool) → c ≡ true → (b || c) ≡ true
+          or_true true c g = refl
+          or_true false c g = g
 
-          by : Next p plan input statement site cond body front tail ok.shape.is ok.shape.well ok.front_free ok.tail_free ok.main fuel (numbered e n) k q.after q.then_cells q.steps
-              ⊎ (Closes p plan input statement site cond body front tail ok.shape.is ok.shape.well ok.front_free ok.tail_free ok.main fuel (numbered e n) q.after q.steps
-              ⊎ Breaks p plan input statement site cond body front tail ok.shape.is ok.shape.well ok.front_free ok.tail_free ok.main fuel (numbered e n) q.after q.then_cells q.steps) → is_clean p plan run e (numbered e n) ≡ true
-          by (inl o) = known o.after_is (ap (λ (t : Option ℕ). is_some t || is_closing run plan.region (numbered e n)) o.next_start)
-          by (inr (inl o)) = known o.after_is (ap (λ (b : Bool). is_some (start run plan.region (suc (numbered e n))) || b) o.closing ∙ or_true (is_some (start run plan.region (suc (numbered e n)))))
-          by (inr (inr o)) = never o.why
-            where
-              later : (length (events n) < length a.events) × ((v : WithLoads Effect) × (evaluated p input q.then_cells (out-Stmt o.next) ≡ Ok v))
-              later = m.further o.next o.rest o.after_is
+          by : Ending a input fuel (numbered e n) k q.left q.after q.then_cells → is_clean p plan source e (numbered e n) ≡ true
+          by (goes_on end there memory within) = known end (ap (λ (t : Option ℕ). is_some t || is_closing source r (numbered e n)) there)
+          by (closes end none closing within) = known end (or_true (is_some (start source r (suc (numbered e n)))) (is_closing source r (numbered e n)) closing)
+          by (breaks x rest after unended (inl spent)) =
+              let one = first_of on.path x rest after refl in
+              absurd (omega (arith, spent, made.within, q.steps_are, ap length on.is, length-append (iteration source r (numbered e n)) on.more, ap length one.events_are))
+          by (breaks x rest after unended (inr (kind, fault))) = let one = first_of on.path x rest after refl in let clash = sym one.gave ∙ fault in absurd (cc clash)
 
-              never : (q.steps ≡ length (events n)) ⊎ ((kind : FaultKind) × (evaluated p input q.then_cells (out-Stmt o.next) ≡ Err kind)) → is_clean p plan run e (numbered e n) ≡ true
-              never (inl k) = absurd (omega (arith, k, later.0, a.within, q.steps_are))
-              never (inr (kind, k)) = let clash = sym later.1.1 ∙ k in absurd (cc clash)
+    spare : (k : ℕ) → source.fuel - k ≡ fuel - k
+    spare k = ap (λ (n : ℕ). n - k) (fuel_is p input fuel (begin p))
+
+    -- by the place in the epoch
+    by_place : (n k : ℕ) → start source r (numbered e n) ≡ Some k → CleanSince p plan source e (numbered e n) → numbered e n - e ≡ n → Judged p plan input source e (numbered e n) k
+    by_place n k here clean place = record {
+      sent = λ c. let w = judged_so n k here before c in record {
+        status = ap (λ (m : ℕ). (packet m).status) place ∙ w.sent.status ∙ ap (status_for (length plan.stages)) closing ∙ last_status (length plan.stages) (is_closing source r (numbered e n)) some_stage;
+        words = λ t low high. ap (λ (m : ℕ). word_list (packet m).lists t) place ∙ w.sent.words t low (omega (arith, high)) ∙ words_are p plan t (iteration source r (numbered e n));
+        judged = rejudged ∙ w.judged ∙ ap (λ (b : Bool). Clean (record { effects = map effect_in (iteration source r (numbered e n)); closing = b })) closing;
+      };
+      back = λ v j. clean_so n k here before v (sym rejudged ∙ j);
+    }
+      where
+        packet : ℕ → Packet
+        packet m = (passed key (length plan.stages) m).packet
+
+        before : (m : ℕ) → m < n → is_clean p plan source e (numbered e m) ≡ true
+        before m h = clean (numbered e m) (omega (arith, numbered_is e m)) (omega (arith, numbered_is e m, numbered_is e n, h))
+
+        some_stage : 0 < length plan.stages
+        some_stage = let head = (sound_parts a).0 in omega (arith, head.staged, head.early)
+
+        closing : closing_after p plan false (iteration source r (numbered e n)) ≡ is_closing source r (numbered e n)
+        closing = closing_first a input (iteration_is a input fuel (numbered e n) k here).path refl
+
+        rejudged : judge p plan (source.fuel - k) (memory_after source r (numbered e n)) (passed key (length plan.stages) (numbered e n - e)).packet ≡ judge p plan (fuel - k) (memory_after source r (numbered e n)) (passed key (length plan.stages) n).packet
+        rejudged = ap (λ (m : ℕ). judge p plan (source.fuel - k) (memory_after source r (numbered e n)) (passed key (length plan.stages) m).packet) place
+            ∙ ap (λ (m : ℕ). judge p plan m (memory_after source r (numbered e n)) (passed key (length plan.stages) n).packet) (spare k)
+
+  judged_at : (e i k : ℕ) → e ≤ i → start source r i ≡ Some k → CleanSince p plan source e i → Judged p plan input source e i k
+  judged_at e i k low here clean =
+      subst (λ (j : ℕ). start source r j ≡ Some k → CleanSince p plan source e j → Judged p plan input source e j k) is (λ s c. by_place e first.0 first.1 (i - e) k s c place) here clean
+    where
+      is : numbered e (i - e) ≡ i
+      is = omega (arith, numbered_is e (i - e), low)
+
+      place : numbered e (i - e) - e ≡ i - e
+      place = omega (arith, numbered_is e (i - e))
+
+      first : (m : ℕ) × (start source r e ≡ Some m)
+      first = earlier_start (starts source r) i e k here low
+
+  led : (i k : ℕ) → start source r i ≡ Some k → has_ended source r i ≡ true → is_closing source r i ≡ false → Follows p r source i k
+  led i k here ended going = by q.ending
+    where
+      q : IterationIs a input fuel i k
+      q = iteration_is a input fuel i k here
+
+      by : Ending a input fuel i k q.left q.after q.then_cells → Follows p r source i k
+      by (goes_on end there memory within) = record { next_start = there; memory = memory ∙ ap (clear_locals r p.vars) (goes_applied q.path) }
+      by (closes end none closing within) = absurd (both_ways (is_closing source r i) going closing)
+      by (breaks x rest after unended why) = absurd (both_ways (has_ended source r i) unended ended)
+
+pub judges_rightly : {p : Program} {plan : Plan} → Accepted p plan → JudgesRightly p plan
+judges_rightly a input fuel e i k low here clean = judged_at a input fuel e i k low here clean
+
+-- The stores of an iteration lead from the memory before it to the memory after it.
+pub stores_lead : {p : Program} {plan : Plan} → Accepted p plan → StoresLead p plan
+stores_lead a input fuel i k here ended going = led a input fuel i k here ended going

@@ -1,32 +1,40 @@
--- The packets of an epoch whose iterations so far were clean.
-use Rattle.std.proofs.Common.{◌≡◌, ◌⊎◌, inl, inr, refl, sym, ap, ◌∙◌, subst, ℕ, zero, suc, ◌+◌, ◌-◌, ◌<◌, ◌≤◌, true, false, List, [], ◌∷◌, ◌++◌, ℤ, pos, length, get_or, length-append, Option, Some, None, slice_get, Ok, arith}
+-- The packets of an epoch whose iterations so far went in agreement with the plan.
+use Rattle.std.proofs.Common.{◌≡◌, ◌⊎◌, inl, inr, refl, sym, ap, ◌∙◌, subst, ℕ, zero, suc, ◌+◌, ◌<◌, ◌≤◌, true, false, List, [], ◌∷◌, ◌++◌, ℤ, pos, length, get_or, length-append, map, Option, Some, None, slice_get, Ok, arith}
 use Rattle.std.proofs.lemmas.Option.{slice_get_past}
 use Rattle.std.proofs.lemmas.Bool.{cases_order, both_ways}
-use Rattle.std.specs.List.{list_all}
-use Rattle.dp_base.specs.declared.SiteId.{SiteId}
-use Rattle.dp_tree.specs.declared.Expr.{Expr}
-use Rattle.dp_tree.specs.declared.Stmt.{Stmt}
+use Rattle.dp_base.specs.declared.Word.{Word}
+use Rattle.dp_tree.specs.Step.{Event}
 use Rattle.dp_plan.specs.declared.StageKind.{StageKind}
 use Rattle.dp_plan.specs.declared.StageKind.TheVariants.{Seq, Par}
-use Rattle.dp_tree.specs.declared.Program.{Program}
 use Rattle.dp_plan.specs.declared.Plan.{Plan}
-use Rattle.dp_tree.specs.Step.{Event, clear_locals}
 use Rattle.dp_plan.specs.Access.{is_par, is_replicated}
-use Rattle.dp_semantics.specs.Clean.{Past, all_agree, is_as_assumed, pushed}
-use Rattle.dp_semantics.specs.StageRun.{stage_run, word_list}
-use Rattle.dp_semantics.specs.Packets.{Status, Packet, Passed, status_of, Epoch, passed_by, run_on, at_sequential, at_replicated, at_kind, cleared, passed}
-use Rattle.dp_semantics.proofs.Each.{Each}
-use Rattle.dp_semantics.proofs.SeenLemmas.{Laid, last, Known, Sees}
+use Rattle.dp_semantics.specs.Seen.{Past}
+use Rattle.dp_semantics.specs.Clean.{pushed}
+use Rattle.dp_semantics.specs.Words.{word_list}
+use Rattle.dp_semantics.specs.StageRun.{TurnEnd, stage_run}
+use Rattle.dp_semantics.specs.Packets.{Status, Going, Closing, Broken, Packet, Passed, Epoch, status_of, passed_by, run_on, cleared, at_sequential, at_replicated, at_kind, passed}
+use Rattle.dp_semantics.specs.Judge.{Judgement, Agreed, Clean, judge, judge_lists, judge_status, last}
+use Rattle.dp_semantics.specs.Verdict.{effect_in}
+use Rattle.dp_semantics.proofs.Setting.{size, Fit}
+use Rattle.dp_semantics.proofs.Seeing.{Sees}
 use Rattle.dp_semantics.proofs.Memory.{AllBefore, pushed_before, before_later, Cleared, sees_next, sees_replicated, clear-length}
+use Rattle.dp_semantics.proofs.PacketFacts.{live, status_for, status_next, status_live, word_list-early, word_list-last, passed_live, run_before, Left, left_live}
 use Rattle.dp_semantics.proofs.Source.{Stands}
-use Rattle.dp_semantics.proofs.Lockstep.{Goes, words_through, closing_after, stands_after}
-use Rattle.dp_semantics.proofs.Whole.{Shape, turn_of, stands_at_start, stage_whole, TurnIs}
-use Rattle.dp_semantics.proofs.PacketSteps.{live, status_for, status_next, status_live, passed_ok, run_before, word_list-early, word_list-last}
+use Rattle.dp_semantics.proofs.Lockstep.{words_through, closing_after, stands_after}
+use Rattle.dp_semantics.proofs.Whole.{turn_of, stands_at_start, Fresh, Makes, TurnIs, TurnEnds, MadeWithin, stage_whole, judge_whole, judge_whole_back}
 
--- the first stage is sequential, and no two neighbours are replicated
-pub record Kinds (plan : Plan) : Type 0 where
-  pub first : is_replicated plan 1 ≡ false
-  pub apart : (s : ℕ) → is_replicated plan (suc s) ≡ true → is_replicated plan s ≡ false
+last_sequential : (plan : Plan) → is_replicated plan (last plan) ≡ false
+last_sequential plan = ap is_par (slice_get_past plan.stages (length plan.stages) (omega arith))
+
+-- An epoch: its iterations in the source, the first being number `first` of the region.
+pub record History (k : Epoch) : Type 0 where
+  pub ok : Fit k
+  pub clean_base : Cleared k.program k.plan k.base
+  pub base_size : length k.base ≡ size k.program
+  pub first : ℕ
+  pub memory : ℕ → List ℤ
+  pub events : ℕ → List Event
+  pub starts : memory 0 ≡ k.base
 
 abbrev pub numbered : ℕ → ℕ → ℕ
 numbered e zero = e
@@ -36,174 +44,229 @@ abbrev pub past_at : ℕ → (ℕ → List Event) → ℕ → List Past
 past_at e events zero = []
 past_at e events (suc n) = pushed (numbered e n) (events n) (past_at e events n)
 
-pub kind_at : (plan : Plan) (s : ℕ) → is_replicated plan (suc s) ≡ is_par (slice_get plan.stages s)
-kind_at plan s = refl
+module _ {k : Epoch} (h : History k) where
+  open k use {program, plan, input, base}
+  open h use {ok, memory, events}
 
-pub last_sequential : (plan : Plan) → is_replicated plan (last plan) ≡ false
-last_sequential plan = kind_at plan (length plan.stages) ∙ ap is_par (slice_get_past plan.stages (length plan.stages) (omega arith))
+  abbrev number : ℕ → ℕ
+  number n = numbered h.first n
 
-module _ (p : Program) (plan : Plan) (statement : Stmt) (site : SiteId) (cond : Expr) (body : List Stmt) (shape : Shape p plan statement site cond body) (kinds : Kinds plan) (input base : List ℤ) (size : ℕ) (laid : Laid p plan size)
-    (cleared_base : Cleared p plan base) (base_size : length base ≡ size) (e : ℕ) (memory : ℕ → List ℤ) (events : ℕ → List Event) (starts : memory 0 ≡ base) where
-  abbrev pub key : Epoch
-  key = record { program = p; plan = plan; input = input; base = base }
+  abbrev past : ℕ → List Past
+  past n = past_at h.first events n
 
-  -- the n-th iteration of the epoch goes as the plan has it
-  pub record CleanAt (n : ℕ) : Type 0 where
-    pub then_cells : List ℤ
-    pub path : Goes p input (turn_of site cond body ∷ []) (memory n) (events n) [] then_cells
-    pub agree : all_agree p plan base (numbered e n) (past_at e events n) (events n) ≡ true
-    pub told : list_all (is_as_assumed plan) (events n) ≡ true
-    pub fits : (s : ℕ) → 0 < s → s < last plan → length (words_through p plan s (events n)) ≤ plan.words
+  -- the n-th iteration goes as the plan has it ..
+  abbrev pub MakesAt : ℕ → Type 0
+  MakesAt n = Makes ok (number n) (past n) (memory n) (events n)
 
   -- .. and the next one starts from its memory
   pub record GoneBy (n : ℕ) : Type 0 where
-    pub clean : CleanAt n
-    pub onward : memory (suc n) ≡ clear_locals plan.region p.vars clean.then_cells
+    pub makes : MakesAt n
+    pub onward : memory (suc n) ≡ cleared k makes.then_cells
 
-  abbrev pub History : ℕ → Type 0
-  History n = (m : ℕ) → m < n → GoneBy m
-
-  shorter : (n : ℕ) → History (suc n) → History n
-  shorter n h m k = h m (omega (arith, k))
+  abbrev pub Gone : ℕ → Type 0
+  Gone n = (m : ℕ) → m < n → GoneBy m
 
   -- the source where the n-th iteration starts
-  pub record Ready (n : ℕ) : Type 0 where
-    pub known : Each (Known p plan) (past_at e events n)
-    pub before : AllBefore (numbered e n) (past_at e events n)
-    pub sees : Sees p plan base (last plan) (numbered e n) (past_at e events n) (memory n)
-    pub size_is : length (memory n) ≡ size
+  record Ready (n : ℕ) : Type 0 where
+    pub before : AllBefore (number n) (past n)
+    pub at : Stands k (number n) (turn_of ok.accepted) (past n) (memory n)
 
-  pub stands_of : (n : ℕ) → Ready n → Stands p plan base size (numbered e n) (turn_of site cond body ∷ []) (past_at e events n) (memory n)
-  stands_of n r = stands_at_start p plan statement site cond body shape input base size (numbered e n) laid (past_at e events n) (memory n) r.known r.sees r.size_is
+  before_next : (n : ℕ) → Ready n → AllBefore (suc (number n)) (past (suc n))
+  before_next n r = pushed_before (number n) (events n) (past n) (before_later (number n) (past n) r.before)
 
   ready_next : (n : ℕ) → Ready n → GoneBy n → Ready (suc n)
-  ready_next n r g = record {
-    known = after.known;
-    before = pushed_before (numbered e n) (events n) (past_at e events n) (before_later (numbered e n) (past_at e events n) r.before);
-    sees = subst (λ (cells : List ℤ). Sees p plan base (last plan) (suc (numbered e n)) (past_at e events (suc n)) cells) (sym g.onward)
-        (sees_next p plan base (last plan) (numbered e n) (past_at e events (suc n)) g.clean.then_cells (last_sequential plan) cleared_base
-        (pushed_before (numbered e n) (events n) (past_at e events n) (before_later (numbered e n) (past_at e events n) r.before)) after.sees);
-    size_is = ap length g.onward ∙ clear-length plan.region p.vars g.clean.then_cells ∙ after.size_is;
+  ready_next n r gone = record {
+    before = before_next n r;
+    at = stands_at_start ok (number (suc n)) (past (suc n)) (memory (suc n)) after.known
+        (subst (λ (cells : List ℤ). Sees k (last plan) (number (suc n)) (past (suc n)) cells) (sym gone.onward) (sees_next k (last plan) (number n) (past (suc n)) gone.makes.then_cells (last_sequential plan) h.clean_base (before_next n r) after.sees))
+        (ap length gone.onward ∙ clear-length plan.region program.vars gone.makes.then_cells ∙ after.size_is);
   }
     where
-      after : Stands p plan base size (numbered e n) [] (past_at e events (suc n)) g.clean.then_cells
-      after = stands_after p plan input base size (numbered e n) laid shape.staged (turn_of site cond body ∷ []) (past_at e events n) (memory n) (events n) [] g.clean.then_cells g.clean.path (stands_of n r)
+      after : Stands k (number n) [] (past (suc n)) gone.makes.then_cells
+      after = stands_after ok r.at gone.makes.path
 
-  pub ready : (n : ℕ) → History n → Ready n
-  ready zero h = record {
-    known = tt;
-    before = tt;
-    sees = λ c. ap (λ (cells : List ℤ). get_or cells c (pos 0)) starts;
-    size_is = ap length starts ∙ base_size;
-  }
-  ready (suc n) h = ready_next n (ready n (shorter n h)) (h n (omega arith))
+  ready : (n : ℕ) → Gone n → Ready n
+  ready zero g = record { before = tt; at = stands_at_start ok (number 0) [] (memory 0) tt (λ c. ap (λ (cells : List ℤ). get_or cells c (pos 0)) h.starts) (ap length h.starts ∙ h.base_size) }
+  ready (suc n) g = ready_next n (ready n (λ m l. g m (omega (arith, l)))) (g n (omega arith))
 
-  pub record Seen (s n : ℕ) (cells : List ℤ) : Type 0 where
-    pub sees : Sees p plan base s (numbered e n) (past_at e events n) cells
-    pub size_is : length cells ≡ size
-
-  pub record After (s n : ℕ) (cells : List ℤ) : Type 0 where
-    pub sees : Sees p plan base s (numbered e n) (past_at e events (suc n)) cells
-    pub size_is : length cells ≡ size
+  abbrev FreshAt : ℕ → ℕ → List ℤ → Type 0
+  FreshAt s n cells = Fresh ok (number n) (past n) s cells
 
   -- the packet has the words of the source's events, of each stage up to this one
   pub record Sent (s n : ℕ) (packet : Packet) : Type 0 where
     pub count : length packet.lists ≡ s
-    pub words : (t : ℕ) → 0 < t → t < suc s → word_list packet.lists t ≡ words_through p plan t (events n)
-    pub status : packet.status ≡ status_for s (closing_after p plan false (events n))
+    pub words : (t : ℕ) → 0 < t → t < suc s → word_list packet.lists t ≡ words_through program plan t (events n)
+    pub status : packet.status ≡ status_for s (closing_after program plan false (events n))
 
-  pub alive_of : (s n : ℕ) (packet : Packet) → Sent s n packet → live packet.status ≡ true
-  alive_of s n packet q = ap live q.status ∙ status_live s (closing_after p plan false (events n))
+  -- a stage's memory after the iteration
+  pub record After (s n : ℕ) (cells : List ℤ) : Type 0 where
+    pub sees : Sees k s (number n) (past (suc n)) cells
+    pub size_is : length cells ≡ size program
 
-  pub record SentAt (s n : ℕ) (q : Passed) : Type 0 where
-    pub sent : Sent s n q.packet
-    pub after : After s n q.after
+  -- the turns of the stages up to s came to their ends, and these are their words
+  pub record Ends (s n : ℕ) (lists : List (List Word)) : Type 0 where
+    pub count : length lists ≡ s
+    pub turns : (u : ℕ) → 0 < u → u < suc s → TurnEnds ok (number n) (past n) u (word_list lists)
 
-  step_sent : (s n : ℕ) → suc s < last plan → (before : List ℤ) (came : Packet) → Ready n → CleanAt n → Seen (suc s) n before → Sent s n came → SentAt (suc s) n (run_on key (suc s) before came)
-  step_sent s n high before came r c seen sent = subst (λ (q : Passed). SentAt (suc s) n q) (sym made) (record {
-    sent = record {
-      count = length-append came.lists (words_through p plan (suc s) (events n) ∷ []) ∙ added;
-      words = λ t low up. by_list t low up (cases_order t (suc s));
-      status = ap (λ (status : Status). status_of status (closing_after p plan false (events n))) sent.status ∙ status_next s (closing_after p plan false (events n));
-    };
-    after = record { sees = turn.sees; size_is = turn.size_is };
-  })
-    where
-      added : length came.lists + length (words_through p plan (suc s) (events n) ∷ []) ≡ suc s
-      added = omega (arith, sent.count)
+  -- What holds of stage s at the n-th iteration: it starts from what it sees, of an iteration that agrees it sends the words,
+  -- and where its packet isn't void, the turns so far came to their ends.
+  pub record Claim (s n : ℕ) (q : Passed) : Type 0 where
+    pub fresh : 0 < s → FreshAt s n q.before
+    pub sent : MakesAt n → Sent s n q.packet
+    pub after : MakesAt n → 0 < s → After s n q.after
+    pub ends : live q.packet.status ≡ true → Ends s n q.packet.lists
 
-      turn : TurnIs p plan statement site cond body shape input base size (numbered e n) laid (suc s) (past_at e events n) (events n) (stage_run p plan input (suc s) before came.lists)
-      turn = stage_whole p plan statement site cond body shape input base size (numbered e n) laid (suc s) (omega arith) (past_at e events n) (memory n) before (events n) c.then_cells c.path (stands_of n r) c.agree c.told
-          (c.fits (suc s) (omega arith) high) seen.sees seen.size_is came.lists (λ t low up. sent.words t low (omega (arith, up))) (omega (arith, sent.count))
+  module _ (s n : ℕ) (high : suc s < last plan) (r : Ready n) (before : List ℤ) (fresh : FreshAt (suc s) n before) (came : Packet) where
+    abbrev turn : TurnEnd
+    turn = stage_run program plan input (suc s) before came.lists
 
-      made : run_on key (suc s) before came ≡ passed_by key (suc s) before came (Ok (record { own = words_through p plan (suc s) (events n); cells = turn.cells; closing = closing_after p plan false (events n) }))
-      made = passed_ok key (suc s) before came (stage_run p plan input (suc s) before came.lists) _ turn.is (alive_of s n came sent) refl
+    record SentAt (q : Passed) : Type 0 where
+      pub sent : Sent (suc s) n q.packet
+      pub after : After (suc s) n q.after
 
-      by_list : (t : ℕ) → 0 < t → t < suc (suc s) → (t ≡ suc s) ⊎ ((t < suc s) ⊎ (suc s < t)) → word_list (came.lists ++ words_through p plan (suc s) (events n) ∷ []) t ≡ words_through p plan t (events n)
-      by_list t low up (inl k) = word_list-last came.lists (words_through p plan (suc s) (events n)) t (omega (arith, k, sent.count)) ∙ ap (λ (u : ℕ). words_through p plan u (events n)) (sym k)
-      by_list t low up (inr (inl k)) = word_list-early came.lists (words_through p plan (suc s) (events n)) t low (omega (arith, k, sent.count)) ∙ sent.words t low k
-      by_list t low up (inr (inr k)) = absurd (omega (arith, up, k))
+    sent_on : MakesAt n → Sent s n came → SentAt (run_on k (suc s) before came)
+    sent_on makes sent = subst (λ (q : Passed). SentAt q) (sym made) (record {
+      sent = record {
+        count = length-append came.lists (words_through program plan (suc s) (events n) ∷ []) ∙ added;
+        words = λ t low up. by_list t low up (cases_order t (suc s));
+        status = ap (λ (status : Status). status_of status (closing_after program plan false (events n))) sent.status ∙ status_next s (closing_after program plan false (events n));
+      };
+      after = record { sees = whole.sees; size_is = whole.size_is };
+    })
+      where
+        added : length came.lists + length (words_through program plan (suc s) (events n) ∷ []) ≡ suc s
+        added = omega (arith, sent.count)
 
-  -- what holds of stage s at each iteration of the epoch
-  pub record Claims (s : ℕ) (came : ℕ → Passed) : Type 0 where
-    pub seen : 0 < s → (n : ℕ) → History n → Seen s n (came n).before
-    pub sent : (n : ℕ) → History n → CleanAt n → Sent s n (came n).packet
+        whole : TurnIs ok (number n) (past n) (suc s) (events n) turn
+        whole = stage_whole ok (number n) (past n) (memory n) r.at (suc s) (omega arith) high (events n) makes before fresh came.lists (λ t low up. sent.words t low (omega (arith, up))) (omega (arith, sent.count))
 
-  seen_after : (s n : ℕ) (high : suc s < last plan) (before : List ℤ) (came : Packet) → Seen (suc s) n before → Seen (suc s) n (run_on key (suc s) before came).before
-  seen_after s n high before came seen = subst (λ (cells : List ℤ). Seen (suc s) n cells) (sym (run_before key (suc s) before came)) seen
+        made : run_on k (suc s) before came ≡ passed_by k (suc s) before came (Ok (record { own = words_through program plan (suc s) (events n); cells = whole.then_cells; closing = closing_after program plan false (events n) }))
+        made = passed_live k (suc s) before came turn came.status (ap live sent.status ∙ status_live s (closing_after program plan false (events n))) ∙ ap (passed_by k (suc s) before came) whole.is
 
-  -- the memory that the epoch begins with
-  seen_first : (s : ℕ) → Seen s 0 base
-  seen_first s = record { sees = λ c. refl; size_is = base_size }
+        by_list : (t : ℕ) → 0 < t → t < suc (suc s) → (t ≡ suc s) ⊎ ((t < suc s) ⊎ (suc s < t)) → word_list (came.lists ++ words_through program plan (suc s) (events n) ∷ []) t ≡ words_through program plan t (events n)
+        by_list t low up (inl e) = word_list-last came.lists (words_through program plan (suc s) (events n)) t (omega (arith, e, sent.count)) ∙ ap (λ (u : ℕ). words_through program plan u (events n)) (sym e)
+        by_list t low up (inr (inl e)) = word_list-early came.lists (words_through program plan (suc s) (events n)) t low (omega (arith, e, sent.count)) ∙ sent.words t low e
+        by_list t low up (inr (inr e)) = absurd (omega (arith, up, e))
 
-  seen_next : (s n : ℕ) (cells : List ℤ) → is_replicated plan s ≡ false → Ready n → After s n cells → Seen s (suc n) (clear_locals plan.region p.vars cells)
-  seen_next s n cells seq r after = record {
-    sees = sees_next p plan base s (numbered e n) (past_at e events (suc n)) cells seq cleared_base (pushed_before (numbered e n) (events n) (past_at e events n) (before_later (numbered e n) (past_at e events n) r.before)) after.sees;
-    size_is = clear-length plan.region p.vars cells ∙ after.size_is;
-  }
+    ends_on : (live came.status ≡ true → Ends s n came.lists) → live (run_on k (suc s) before came).packet.status ≡ true → Ends (suc s) n (run_on k (suc s) before came).packet.lists
+    ends_on earlier alive = subst (λ (lists : List (List Word)). Ends (suc s) n lists) (sym left.lists) (record {
+      count = length-append came.lists (left.ended.own ∷ []) ∙ added;
+      turns = λ u low up. by_turn u low up (cases_order u (suc s));
+    })
+      where
+        left : Left k (suc s) before came turn (run_on k (suc s) before came).packet
+        left = left_live k (suc s) before came turn alive
 
-  -- a sequential stage
-  module _ (s : ℕ) (high : suc s < last plan) (came : ℕ → Passed) (claims : Claims s came) where
-    sequential : is_replicated plan (suc s) ≡ false → (n : ℕ) → (History n → Seen (suc s) n (at_sequential key (suc s) came n).before) × (History n → CleanAt n → SentAt (suc s) n (at_sequential key (suc s) came n))
-    sequential seq zero =
-        (λ h. seen_after s 0 high base (came 0).packet (seen_first (suc s)), λ h c. step_sent s 0 high base (came 0).packet (ready 0 h) c (seen_first (suc s)) (claims.sent 0 h c))
-    sequential seq (suc n) =
-        let r = sequential seq n in
-        let start : (h : History (suc n)) → Seen (suc s) (suc n) (cleared key (at_sequential key (suc s) came n).after) =
-        λ h. seen_next (suc s) n (at_sequential key (suc s) came n).after seq (ready n (shorter n h)) (r.1 (shorter n h) (h n (omega arith)).clean).after in
-        (λ h. seen_after s (suc n) high _ (came (suc n)).packet (start h), λ h c. step_sent s (suc n) high _ (came (suc n)).packet (ready (suc n) h) c (start h) (claims.sent (suc n) h c))
+        so_far : Ends s n came.lists
+        so_far = earlier left.alive
 
-    -- a replicated one, after a sequential one
-    replicated_seen : 0 < s → is_replicated plan s ≡ false → is_replicated plan (suc s) ≡ true → (n : ℕ) → History n → Seen (suc s) n (came n).before
-    replicated_seen real seq rep n h = let seen = claims.seen real n h in record {
-      sees = sees_replicated p plan base s (numbered e n) (past_at e events n) (came n).before seq rep (ready n h).before seen.sees;
-      size_is = seen.size_is;
+        added : length came.lists + length (left.ended.own ∷ []) ≡ suc s
+        added = omega (arith, so_far.count)
+
+        old : (t : ℕ) → 0 < t → t < suc s → word_list came.lists t ≡ word_list (came.lists ++ left.ended.own ∷ []) t
+        old t low up = sym (word_list-early came.lists left.ended.own t low (omega (arith, up, so_far.count)))
+
+        by_turn : (u : ℕ) → 0 < u → u < suc (suc s) → (u ≡ suc s) ⊎ ((u < suc s) ⊎ (suc s < u)) → TurnEnds ok (number n) (past n) u (word_list (came.lists ++ left.ended.own ∷ []))
+        by_turn u low up (inl e) = subst (λ (v : ℕ). TurnEnds ok (number n) (past n) v (word_list (came.lists ++ left.ended.own ∷ []))) (sym e) (record {
+          mine = before;
+          lists = came.lists;
+          ended = left.ended;
+          fresh = fresh;
+          are = old;
+          wide = omega (arith, so_far.count);
+          ends = left.ends;
+          words_are = sym (word_list-last came.lists left.ended.own (suc s) (omega (arith, so_far.count)));
+        })
+        by_turn u low up (inr (inl e)) = let q = so_far.turns u low e in record {
+          mine = q.mine;
+          lists = q.lists;
+          ended = q.ended;
+          fresh = q.fresh;
+          are = λ t one two. q.are t one two ∙ old t one (omega (arith, two, e));
+          wide = q.wide;
+          ends = q.ends;
+          words_are = q.words_are ∙ old u low e;
+        }
+        by_turn u low up (inr (inr e)) = absurd (omega (arith, up, e))
+
+    ran : (MakesAt n → Sent s n came) → (live came.status ≡ true → Ends s n came.lists) → Claim (suc s) n (run_on k (suc s) before came)
+    ran sent ends = record {
+      fresh = λ real. subst (λ (cells : List ℤ). FreshAt (suc s) n cells) (sym (run_before k (suc s) before came)) fresh;
+      sent = λ makes. (sent_on makes (sent makes)).sent;
+      after = λ makes real. (sent_on makes (sent makes)).after;
+      ends = λ alive. ends_on ends alive;
     }
 
-    after_sequential : is_replicated plan (suc s) ≡ false → Claims (suc s) (at_sequential key (suc s) came)
-    after_sequential seq = record { seen = λ real n h. (sequential seq n).0 h; sent = λ n h c. ((sequential seq n).1 h c).sent }
+  module _ (s : ℕ) (high : suc s < last plan) (came : ℕ → Passed) (claims : (n : ℕ) → Gone n → Claim s n (came n)) where
+    sequential : is_replicated plan (suc s) ≡ false → (n : ℕ) → Gone n → Claim (suc s) n (at_sequential k (suc s) came n)
+    sequential seq zero g = ran s 0 high (ready 0 g) base (record { sees = λ c. refl; size_is = h.base_size }) (came 0).packet (claims 0 g).sent (claims 0 g).ends
+    sequential seq (suc n) g =
+        let fewer : Gone n = λ m l. g m (omega (arith, l)) in
+        let was = (sequential seq n fewer).after (g n (omega arith)).makes (omega arith) in
+        ran s (suc n) high (ready (suc n) g) (cleared k (at_sequential k (suc s) came n).after)
+        (record {
+          sees = sees_next k (suc s) (number n) (past (suc n)) (at_sequential k (suc s) came n).after seq h.clean_base (before_next n (ready n fewer)) was.sees;
+          size_is = clear-length plan.region program.vars (at_sequential k (suc s) came n).after ∙ was.size_is;
+        })
+        (came (suc n)).packet (claims (suc n) g).sent (claims (suc n) g).ends
 
-    after_replicated : is_replicated plan (suc s) ≡ true → Claims (suc s) (at_replicated key (suc s) came)
-    after_replicated rep =
-        let seq = kinds.apart s rep in
-        record {
-          seen = λ real n h. seen_after s n high (came n).before (came n).packet (replicated_seen (not_first s rep) seq rep n h);
-          sent = λ n h c. (step_sent s n high (came n).before (came n).packet (ready n h) c (replicated_seen (not_first s rep) seq rep n h) (claims.sent n h c)).sent;
-        }
+    replicated : is_replicated plan (suc s) ≡ true → (n : ℕ) → Gone n → Claim (suc s) n (at_replicated k (suc s) came n)
+    replicated rep n g =
+        let was = (claims n g).fresh (not_first s rep) in
+        ran s n high (ready n g) (came n).before (record { sees = sees_replicated k s (number n) (past n) (came n).before (ok.accepted.apart s rep) rep (ready n g).before was.sees; size_is = was.size_is })
+        (came n).packet (claims n g).sent (claims n g).ends
       where
         not_first : (s : ℕ) → is_replicated plan (suc s) ≡ true → 0 < s
-        not_first zero rep = absurd (both_ways (is_replicated plan 1) kinds.first rep)
+        not_first zero rep = absurd (both_ways (is_replicated plan 1) ok.accepted.sequential rep)
         not_first (suc s) rep = omega arith
 
-    by_kind : (kind : Option StageKind) → slice_get plan.stages s ≡ kind → Claims (suc s) (at_kind kind key (suc s) came)
-    by_kind (Some Par) is = after_replicated (kind_at plan s ∙ ap is_par is)
-    by_kind (Some Seq) is = after_sequential (kind_at plan s ∙ ap is_par is)
-    by_kind None is = after_sequential (kind_at plan s ∙ ap is_par is)
+    by_kind : (kind : Option StageKind) → slice_get plan.stages s ≡ kind → (n : ℕ) → Gone n → Claim (suc s) n (at_kind kind k (suc s) came n)
+    by_kind (Some Par) is = replicated (ap is_par is)
+    by_kind (Some Seq) is = sequential (ap is_par is)
+    by_kind None is = sequential (ap is_par is)
 
-  source_claims : Claims 0 (passed key 0)
-  source_claims = record { seen = λ real n h. absurd (omega (arith, real)); sent = λ n h c. record { count = refl; words = λ t low up. absurd (omega (arith, low, up)); status = refl } }
+  claims_at : (s : ℕ) → s < last plan → (n : ℕ) → Gone n → Claim s n (passed k s n)
+  claims_at zero high n g = record {
+    fresh = λ real. absurd (omega (arith, real));
+    sent = λ makes. record { count = refl; words = λ t low up. absurd (omega (arith, low, up)); status = refl };
+    after = λ makes real. absurd (omega (arith, real));
+    ends = λ alive. record { count = refl; turns = λ u low up. absurd (omega (arith, low, up)) };
+  }
+  claims_at (suc s) high n g = by_kind s high (passed k s) (claims_at s (omega (arith, high))) (slice_get plan.stages s) refl n g
 
-  -- The packets of clean iterations have the words of the source's events, and each stage's memory is what it sees.
-  pub stage_claims : (s : ℕ) → s < last plan → Claims s (passed key s)
-  stage_claims zero high = source_claims
-  stage_claims (suc s) high = by_kind s high (passed key s) (stage_claims s (omega (arith, high))) (slice_get plan.stages s) refl
+  abbrev pub last_packet : ℕ → Packet
+  last_packet n = (passed k (length plan.stages) n).packet
+
+  judge_live : (m : ℕ) (cells : List ℤ) (packet : Packet) → live packet.status ≡ true → judge program plan m cells packet ≡ judge_lists program plan m cells packet.lists
+  judge_live m cells packet alive = by packet.status alive
+    where
+      by : (status : Status) → live status ≡ true → judge_status (judge_lists program plan m cells packet.lists) status ≡ judge_lists program plan m cells packet.lists
+      by Going e = refl
+      by Closing e = refl
+      by (Broken s why) e = absurd (cc)
+
+  clean_live : (judgement : Judgement) (verdict : Agreed) (status : Status) → judge_status judgement status ≡ Clean verdict → live status ≡ true
+  clean_live judgement verdict Going e = refl
+  clean_live judgement verdict Closing e = refl
+  clean_live judgement verdict (Broken s why) e = absurd (cc)
+
+  -- The packet of an iteration that agrees with the plan has the source's words, and is judged Clean with the source's effects.
+  pub record WellJudged (n m : ℕ) : Type 0 where
+    pub sent : Sent (length plan.stages) n (last_packet n)
+    pub judged : judge program plan m (memory n) (last_packet n) ≡ Clean (record { effects = map effect_in (events n); closing = closing_after program plan false (events n) })
+
+  pub clean_is_judged : (n m : ℕ) → Gone n → MakesAt n → length (events n) ≤ m → WellJudged n m
+  clean_is_judged n m g makes within =
+      let sent = (claims_at (length plan.stages) (omega arith) n g).sent makes in
+      record {
+        sent = sent;
+        judged = judge_live m (memory n) (last_packet n) (ap live sent.status ∙ status_live (length plan.stages) (closing_after program plan false (events n)))
+            ∙ judge_whole ok (number n) (past n) (memory n) (ready n g).at m (events n) makes within (last_packet n).lists sent.words (omega (arith, sent.count));
+      }
+
+  -- Where the packet is judged Clean within m steps, the source makes the iteration within m steps in agreement with the plan.
+  pub judged_is_clean : (n m : ℕ) → Gone n → (verdict : Agreed) → judge program plan m (memory n) (last_packet n) ≡ Clean verdict → MadeWithin ok (number n) (past n) (memory n) m
+  judged_is_clean n m g verdict judged =
+      let alive = clean_live (judge_lists program plan m (memory n) (last_packet n).lists) verdict (last_packet n).status judged in
+      let ends = (claims_at (length plan.stages) (omega arith) n g).ends alive in
+      judge_whole_back ok (number n) (past n) (memory n) (ready n g).at m (last_packet n).lists (omega (arith, ends.count)) ends.turns verdict (sym (judge_live m (memory n) (last_packet n) alive) ∙ judged)

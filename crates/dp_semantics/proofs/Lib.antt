@@ -1,43 +1,31 @@
-pub mod TreeLemmas
 pub mod Build
 pub mod Programs
-mod Rows
-mod TextRows
-mod FrameRows
-mod StageRows
-mod PacketRows
-mod CheckedRows
-mod JudgeRows
 pub mod Each
-pub mod EvalFollows
-pub mod EvalLoads
-pub mod SeenLemmas
-pub mod HeadLemmas
-pub mod HeadSteps
-pub mod WordLemmas
-pub mod StageSteps
-pub mod StageStep
+pub mod Evaluation
+pub mod Heads
+pub mod Followed
+pub mod Setting
+pub mod Seeing
+pub mod Projected
+pub mod Integers
+pub mod Taking
 pub mod Source
+pub mod Stepping
 pub mod Lockstep
-pub mod JudgeStep
-pub mod JudgeLockstep
+pub mod Judging
 pub mod TurnBack
 pub mod Backward
-pub mod JudgeBack
 pub mod Memory
-pub mod Steps
 pub mod Whole
-pub mod PacketSteps
+pub mod PacketFacts
 pub mod Epochs
-pub mod Verdicts
 pub mod Runs
-pub mod Reaches
-pub mod Iterates
-pub mod RunIterations
-pub mod Words
-pub mod Closing
+pub mod Placed
+pub mod Walks
+pub mod Turns
+pub mod Iterations
+pub mod Counts
+pub mod Paths
 pub mod Central
-pub mod EpochLemmas
-pub mod Theorem
-pub mod Accepting
-mod AcceptRows
+pub mod InOrder
+pub mod Fitting

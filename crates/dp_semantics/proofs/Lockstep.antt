@@ -1,5 +1,5 @@
--- A stage over a piece of an iteration: in lockstep with the source.
-use Rattle.std.proofs.Common.{◌≡◌, refl, sym, ◌∙◌, subst, append_assoc, ℕ, ◌<◌, ◌≤◌, Bool, true, ◌||◌, List, [], ◌∷◌, ◌++◌, ℤ, length, nat_le, arith, length-append, Ok}
+-- Lockstep: a stage over any piece of an iteration that agrees with the plan.
+use Rattle.std.proofs.Common.{◌≡◌, refl, sym, ap, ◌∙◌, subst, append_assoc, ℕ, suc, ◌+◌, ◌<◌, ◌≤◌, Bool, true, ◌||◌, List, [], ◌∷◌, ◌++◌, ℤ, length, length-append, sum_by, Ok, arith}
 use Rattle.std.proofs.lemmas.List.{append-nil}
 use Rattle.std.specs.List.{list_all}
 use Rattle.dp_base.specs.declared.Word.{Word}
@@ -9,17 +9,20 @@ use Rattle.dp_plan.specs.declared.Plan.{Plan}
 use Rattle.dp_tree.specs.Eval.{WithLoads}
 use Rattle.dp_tree.specs.Step.{Event, Effect, followed, value_of, stored, evaluated}
 use Rattle.dp_plan.specs.Access.{stage_of, first_site}
-use Rattle.dp_semantics.specs.Clean.{Past, all_agree, event_agrees, is_as_assumed, pushed}
+use Rattle.dp_semantics.specs.Seen.{Past}
+use Rattle.dp_semantics.specs.Clean.{all_agree, event_agrees, event_as_assumed, pushed}
+use Rattle.dp_semantics.specs.Words.{words_of, word_list}
 use Rattle.dp_semantics.specs.StageRun.{Turn, turn_from, is_zero_at}
-use Rattle.dp_semantics.proofs.Each.{and_true}
-use Rattle.dp_semantics.proofs.SeenLemmas.{Laid}
-use Rattle.dp_semantics.proofs.StageSteps.{event_of, words_for, InStep, past_of, spend}
-use Rattle.dp_semantics.proofs.StageStep.{FirstStage, stage_step}
-use Rattle.dp_semantics.proofs.Source.{Stands, stands_next, moves, stage_does}
+use Rattle.dp_semantics.specs.Packets.{Epoch}
+use Rattle.dp_semantics.proofs.Each.{Each, and_true}
+use Rattle.dp_semantics.proofs.Setting.{Fit}
+use Rattle.dp_semantics.proofs.Taking.{append_same, words_for, words_here}
+use Rattle.dp_semantics.proofs.Source.{event_of, past_of, stage_for, Stands, stands_next, own_site, form_of, stage_does}
+use Rattle.dp_semantics.proofs.Stepping.{InStep, Moved, Advanced, advance}
 
 -- the source's steps through statements, with their events
 pub data Goes (p : Program) (input : List ℤ) : List Stmt → List ℤ → List Event → List Stmt → List ℤ → Type 0 where
-  stays : {todo : List Stmt} {cells : List ℤ} → Goes p input todo cells [] todo cells
+  stays : {to_do : List Stmt} {cells : List ℤ} → Goes p input to_do cells [] to_do cells
   goes : {x : Stmt} {rest : List Stmt} {cells : List ℤ} {v : WithLoads Effect} {events : List Event} {after : List Stmt} {then_cells : List ℤ} →
       evaluated p input cells (out-Stmt x) ≡ Ok v → Goes p input (followed x rest (out-Stmt x) (value_of v.value)) (stored v.value cells) events after then_cells →
       Goes p input (x ∷ rest) cells (event_of (out-Stmt x) v ∷ events) after then_cells
@@ -29,86 +32,84 @@ abbrev pub words_through : Program → Plan → ℕ → List Event → List Word
 words_through p plan t [] = []
 words_through p plan t (event ∷ rest) = words_for p plan t event ++ words_through p plan t rest
 
--- the steps that stage s makes for these events, and k more
-abbrev pub spent_for : Program → Plan → ℕ → List Event → ℕ → ℕ
-spent_for p plan s [] k = k
-spent_for p plan s (event ∷ rest) k = spend (nat_le (stage_of p plan event.site) s) (spent_for p plan s rest k)
-
 -- whether the region's condition was 0
 abbrev pub closing_after : Program → Plan → Bool → List Event → Bool
 closing_after p plan closing [] = closing
 closing_after p plan closing (event ∷ rest) = closing_after p plan (closing || is_zero_at (first_site p plan) event.site (value_of event.effect)) rest
 
-module _ (p : Program) (plan : Plan) (input base : List ℤ) (size i : ℕ) (laid : Laid p plan size) (first : FirstStage p plan) where
+-- A stage after these events: its words are theirs, and each of its steps added a word or took one.
+pub record Through (k : Epoch) (i s : ℕ) (to_do : List Stmt) (earlier : List Past) (events : List Event) (c : Turn) : Type 0 where
+  pub turn : Turn
+  pub steps : ℕ
+  pub runs : (m n : ℕ) → m ≡ steps + n → turn_from k.program k.plan k.input s m c ≡ turn_from k.program k.plan k.input s n turn
+  pub in_step : InStep k i s to_do (pushed i events earlier) turn
+  pub own : turn.own ≡ c.own ++ words_through k.program k.plan s events
+  pub closing : turn.closing ≡ closing_after k.program k.plan c.closing events
+  pub paid : steps + length c.own + sum_by length turn.lists ≤ length turn.own + sum_by length c.lists
+
+-- the words of the events stand at the front of the lists of the stages before s
+abbrev pub Has : Epoch → ℕ → List Event → (ℕ → List Word) → Turn → Type 0
+Has k s events left c = (t : ℕ) → 0 < t → t < s → word_list c.lists t ≡ words_through k.program k.plan t events ++ left t
+
+-- the words of the first event, and those of the others after its step
+pub front_of : (k : Epoch) (s : ℕ) (event : Event) (more : List Event) (left : ℕ → List Word) (c : Turn) → Has k s (event ∷ more) left c → 0 < stage_of k.program k.plan event.site → stage_of k.program k.plan event.site < s →
+    word_list c.lists (stage_of k.program k.plan event.site) ≡ words_of k.program k.plan event ++ (words_through k.program k.plan (stage_of k.program k.plan event.site) more ++ left (stage_of k.program k.plan event.site))
+front_of k s event more left c has low high =
+    has (stage_of k.program k.plan event.site) low high ∙ append_assoc (words_for k.program k.plan (stage_of k.program k.plan event.site) event) (words_through k.program k.plan (stage_of k.program k.plan event.site) more) (left (stage_of k.program k.plan event.site))
+    ∙ ap (λ ws. ws ++ (words_through k.program k.plan (stage_of k.program k.plan event.site) more ++ left (stage_of k.program k.plan event.site))) (words_here k.program k.plan (stage_of k.program k.plan event.site) event refl)
+
+pub has_next : (k : Epoch) (s steps : ℕ) (event : Event) (more : List Event) (left : ℕ → List Word) (c d : Turn) → Has k s (event ∷ more) left c → Moved k s steps event c d → Has k s more left d
+has_next k s steps event more left c d has moved t low high =
+    append_same (words_for k.program k.plan t event) (word_list d.lists t) (words_through k.program k.plan t more ++ left t)
+    (sym (moved.lists t low high) ∙ has t low high ∙ append_assoc (words_for k.program k.plan t event) (words_through k.program k.plan t more) (left t))
+
+module _ {k : Epoch} (ok : Fit k) {i : ℕ} where
+  open k use {program, plan, input, base}
+
   -- the source stands after these events
-  pub stands_after : (todo : List Stmt) (earlier : List Past) (cells : List ℤ) (events : List Event) (after : List Stmt) (then_cells : List ℤ) → Goes p input todo cells events after then_cells →
-      Stands p plan base size i todo earlier cells → Stands p plan base size i after (pushed i events earlier) then_cells
-  stands_after todo earlier cells events after then_cells stays at = at
-  stands_after todo earlier cells events after then_cells (goes {x = x} {rest = rest} {v = v} {events = more} e g) at =
-      stands_after (followed x rest (out-Stmt x) (value_of v.value)) (past_of i x v ∷ earlier) (stored v.value cells) more after then_cells g (stands_next p plan input base size i laid x rest earlier cells at v e)
+  pub stands_after : {to_do : List Stmt} {earlier : List Past} {cells : List ℤ} {events : List Event} {after : List Stmt} {then_cells : List ℤ} → Stands k i to_do earlier cells → Goes program input to_do cells events after then_cells →
+      Stands k i after (pushed i events earlier) then_cells
+  stands_after at stays = at
+  stands_after at (goes {v = v} e path) = stands_after (stands_next ok at v e) path
 
-  module _ (s : ℕ) (real : 0 < s) where
-    abbrev pub Through : List Stmt → List Past → List Event → (ℕ → List Word) → List Word → Bool → Turn → Type 0
-    Through after earlier events left own closing c =
-        (d : Turn) × ((k : ℕ) → turn_from p plan input s (spent_for p plan s events k) c ≡ turn_from p plan input s k d)
-        × InStep p plan base size i s after (pushed i events earlier) left (own ++ words_through p plan s events) (closing_after p plan closing events) d
+  -- each event is at a site of a stage
+  pub all_staged : {to_do : List Stmt} {earlier : List Past} {cells : List ℤ} {events : List Event} {after : List Stmt} {then_cells : List ℤ} → Stands k i to_do earlier cells → Goes program input to_do cells events after then_cells →
+      Each (λ event. (0 < stage_of program plan event.site) × (stage_of program plan event.site < suc (length plan.stages))) events
+  all_staged at stays = tt
+  all_staged at (goes {v = v} e path) = (((own_site ok at).staged, (own_site ok at).early), all_staged (stands_next ok at v e) path)
 
-    pub relisted : (todo : List Stmt) (earlier : List Past) (f g : ℕ → List Word) (own : List Word) (closing : Bool) (c : Turn) → ((t : ℕ) → f t ≡ g t) →
-        InStep p plan base size i s todo earlier f own closing c → InStep p plan base size i s todo earlier g own closing c
-    relisted todo earlier f g own closing c same b = record {
-      to_do_is = b.to_do_is;
-      sees = b.sees;
-      size_is = b.size_is;
-      lists_are = λ t low high. b.lists_are t low high ∙ same t;
-      wide = b.wide;
-      own_is = b.own_is;
-      closing_is = b.closing_is;
-    }
-
-    reowned : (todo : List Stmt) (earlier : List Past) (left : ℕ → List Word) (own mine : List Word) (closing : Bool) (c : Turn) → own ≡ mine →
-        InStep p plan base size i s todo earlier left own closing c → InStep p plan base size i s todo earlier left mine closing c
-    reowned todo earlier left own mine closing c same b = subst (λ (ws : List Word). InStep p plan base size i s todo earlier left ws closing c) same b
-
-    -- Lockstep: a stage in step with the source stays so through events that agree with the plan.
-    pub lockstep : (todo : List Stmt) (earlier : List Past) (cells : List ℤ) (events : List Event) (after : List Stmt) (then_cells : List ℤ) → Goes p input todo cells events after then_cells →
-        Stands p plan base size i todo earlier cells → all_agree p plan base i earlier events ≡ true → list_all (is_as_assumed plan) events ≡ true →
-        (left : ℕ → List Word) (own : List Word) (closing : Bool) (c : Turn) → length (own ++ words_through p plan s events) ≤ plan.words →
-        InStep p plan base size i s todo earlier (λ t. words_through p plan t events ++ left t) own closing c →
-        Through after earlier events left own closing c
-    lockstep todo earlier cells events after then_cells stays at agree went left own closing c fits b =
-        (c, λ k. refl, reowned todo earlier left own (own ++ []) closing c (sym (append-nil own)) b)
-    lockstep todo earlier cells events after then_cells (goes {x = x} {rest = rest} {v = v} {events = more} e g) at agree went left own closing c fits b =
-        let r =
-        lockstep (followed x rest (out-Stmt x) (value_of v.value)) (past_of i x v ∷ earlier) (stored v.value cells) more after then_cells g
-        (stands_next p plan input base size i laid x rest earlier cells at v e) agrees.1 as_told.1 left (own ++ words_for p plan s event)
-        (closing || is_zero_at (first_site p plan) event.site (value_of v.value)) first_step.0 all_fit first_step.2 in (
-          r.0,
-          λ k. first_step.1 (spent_for p plan s more k) ∙ r.1 k,
-          reowned after (pushed i more (past_of i x v ∷ earlier)) left ((own ++ words_for p plan s event) ++ words_through p plan s more) (own ++ (words_for p plan s event ++ words_through p plan s more))
-              (closing_after p plan closing (event ∷ more)) r.0 (append_assoc own (words_for p plan s event) (words_through p plan s more)) r.2,
-        )
-      where
-        event : Event
-        event = event_of (out-Stmt x) v
-
-        agrees : (event_agrees p plan base i earlier event ≡ true) × (all_agree p plan base i (past_of i x v ∷ earlier) more ≡ true)
-        agrees = and_true (event_agrees p plan base i earlier event) (all_agree p plan base i (past_of i x v ∷ earlier) more) agree
-
-        as_told : (is_as_assumed plan event ≡ true) × (list_all (is_as_assumed plan) more ≡ true)
-        as_told = and_true (is_as_assumed plan event) (list_all (is_as_assumed plan) more) went
-
-        all_fit : length ((own ++ words_for p plan s event) ++ words_through p plan s more) ≤ plan.words
-        all_fit = subst (λ (ws : List Word). length ws ≤ plan.words) (sym (append_assoc own (words_for p plan s event) (words_through p plan s more))) fits
-
-        one_fits : length (own ++ words_for p plan s event) ≤ plan.words
-        one_fits = omega (arith, all_fit, length-append (own ++ words_for p plan s event) (words_through p plan s more))
-
-        first_step : (d : Turn) × ((k : ℕ) → turn_from p plan input s (spend (nat_le (stage_of p plan event.site) s) k) c ≡ turn_from p plan input s k d)
-            × InStep p plan base size i s (followed x rest (out-Stmt x) (value_of v.value)) (past_of i x v ∷ earlier) (λ t. words_through p plan t more ++ left t)
-            (own ++ words_for p plan s event) (closing || is_zero_at (first_site p plan) event.site (value_of v.value)) d
-        first_step = stage_step p plan input base size i s first real x rest v earlier (λ t. words_through p plan t more ++ left t) own closing c
-            (moves p plan input base size i laid x rest earlier cells at v e as_told.0)
-            (λ here. stage_does p plan input base size i laid x rest earlier cells at s here c.cells b.sees v e agrees.0)
-            one_fits
-            (relisted (x ∷ rest) earlier (λ t. words_through p plan t (event ∷ more) ++ left t) (λ t. words_for p plan t event ++ (words_through p plan t more ++ left t)) own closing c
-            (λ t. append_assoc (words_for p plan t event) (words_through p plan t more) (left t)) b)
+  -- A stage in step with the source stays so through events that agree with the plan.
+  pub lockstep : (s : ℕ) → 0 < s → {to_do : List Stmt} {earlier : List Past} {cells : List ℤ} {events : List Event} {after : List Stmt} {then_cells : List ℤ} → Stands k i to_do earlier cells → Goes program input to_do cells events after then_cells →
+      all_agree program plan base i earlier events ≡ true → list_all (event_as_assumed plan) events ≡ true → (left : ℕ → List Word) (c : Turn) → length (c.own ++ words_through program plan s events) ≤ plan.words →
+      InStep k i s to_do earlier c → Has k s events left c → Through k i s after earlier events c
+  lockstep s real at stays agree told left c fits b has = record {
+    turn = c;
+    steps = 0;
+    runs = λ m n e. let same : m ≡ n = omega (arith, e) in ap (λ (u : ℕ). turn_from program plan input s u c) same;
+    in_step = b;
+    own = sym (append-nil c.own);
+    closing = refl;
+    paid = omega arith;
+  }
+  lockstep s real {earlier = earlier} at (goes {x = x} {rest = rest} {v = v} {events = more} e path) agree told left c fits b has =
+      let event : Event = event_of (out-Stmt x) v in
+      let agrees = and_true (event_agrees program plan base i earlier event) (all_agree program plan base i (past_of i x v ∷ earlier) more) agree in
+      let goes_so = and_true (event_as_assumed plan event) (list_all (event_as_assumed plan) more) told in
+      let size_all : length (c.own ++ (words_for program plan s event ++ words_through program plan s more)) ≤ plan.words = fits in
+      let both = ap length (append_assoc c.own (words_for program plan s event) (words_through program plan s more)) in
+      let one : length (c.own ++ words_for program plan s event) ≤ plan.words = omega (arith, size_all, both, length-append (c.own ++ words_for program plan s event) (words_through program plan s more)) in
+      let a : Advanced k i s (followed x rest (out-Stmt x) (value_of v.value)) (past_of i x v ∷ earlier) event c = advance ok at s c b v real (form_of ok at _ v e) goes_so.0
+      (λ here. subst (λ (u : ℕ). (other : List ℤ) → Rattle.dp_semantics.proofs.Seeing.Sees k u i earlier other → Rattle.dp_semantics.proofs.Source.Gives k other x v) here (λ other sees. stage_does ok at other sees v e agrees.0) c.cells b.sees)
+      one _ (λ before. front_of k s event more left c has (own_site ok at).staged before) in
+      let joined : a.turn.own ++ words_through program plan s more ≡ c.own ++ (words_for program plan s event ++ words_through program plan s more) =
+      ap (λ ws. ws ++ words_through program plan s more) a.moved.own ∙ append_assoc c.own (words_for program plan s event) (words_through program plan s more) in
+      let r = lockstep s real (stands_next ok at v e) path agrees.1 goes_so.1 left a.turn (omega (arith, size_all, ap length joined)) a.in_step (has_next k s a.steps event more left c a.turn has a.moved) in
+      record {
+        turn = r.turn;
+        steps = a.steps + r.steps;
+        runs = λ m n q. a.runs m (r.steps + n) (omega (arith, q)) ∙ r.runs (r.steps + n) n refl;
+        in_step = r.in_step;
+        own = r.own ∙ joined;
+        closing = r.closing ∙ ap (λ (u : Bool). closing_after program plan u more) a.moved.closing;
+        paid = omega (arith, r.paid, a.moved.paid);
+      }

@@ -1,111 +1,54 @@
--- A run up to a region's condition, and from there through an iteration.
-use Rattle.std.proofs.Common.{◌≡◌, refl, sym, ap, ◌∙◌, append_assoc, ℕ, suc, Bool, true, false, not, ◌&&◌, ◌==◌, if◌then◌else◌, List, [], ◌∷◌, ◌++◌, ℤ, Ok, Err}
-use Rattle.std.specs.List.{list_all}
-use Rattle.dp_base.specs.Arithmetic.{is_zero}
+-- Runs step by step: from a configuration of a run the rest of it is a run of its own.
+use Rattle.std.proofs.Common.{◌≡◌, refl, sym, ap, ◌∙◌, ℕ, zero, suc, ◌+◌, Bool, true, false, if◌then◌else◌, List, [], ◌∷◌, ◌++◌, ℤ, length, Some, slice_get, Ok, Err, arith}
 use Rattle.dp_base.specs.declared.Fault.{Fault as FaultAt}
 use Rattle.dp_base.specs.declared.FaultKind.{FaultKind}
-use Rattle.dp_tree.specs.declared.Stmt.{Stmt, out-Stmt, roll-Stmt, roll-out-Stmt}
-use Rattle.dp_tree.specs.declared.Stmt.TheViews.{rolls-Assign, rolls-Store, rolls-Print, rolls-If, rolls-While, rolls-Region, rolls-Call}
-use Rattle.dp_tree.specs.declared.Stmt.TheOpen.{Stmt-F, Assign, Store, Print, If, While, Region, Call}
+use Rattle.dp_tree.specs.declared.Stmt.{Stmt, out-Stmt}
+use Rattle.dp_tree.specs.declared.Stmt.TheOpen.{Stmt-F, Call}
 use Rattle.dp_tree.specs.declared.Program.{Program}
 use Rattle.dp_tree.specs.Eval.{WithLoads, Evaluated}
-use Rattle.dp_tree.specs.Step.{Config, Effect, Step, Faulted, Stepped, choose, followed, site_of, value_of, stored, evaluated, standing, step_by, step_at, step}
-use Rattle.dp_tree.specs.Trace.{run_of, run_by}
-use Rattle.dp_tree.specs.Iteration.{is_region}
-use Rattle.dp_semantics.specs.Nesting.{is_free, is_free_in}
-use Rattle.dp_semantics.proofs.Each.{and_true, and_make}
-use Rattle.dp_semantics.proofs.StageSteps.{event_of}
+use Rattle.dp_tree.specs.Step.{Config, Event, Effect, Step, Finished, Faulted, Stepped, followed, site_of, value_of, stored, evaluated, standing, step_by, step_at, step}
+use Rattle.dp_tree.specs.Trace.{Run, run_of, run_by}
+use Rattle.dp_tree.specs.Iteration.{places}
+use Rattle.dp_semantics.proofs.Source.{event_of}
 
--- what opens where a statement is made
-unfoldable opened : Unit {0}
-unfolding Rattle.dp_tree.specs.declared.Stmt.TheBlock.shape-the_row-Stmt-0 Rattle.dp_tree.specs.declared.Stmt.TheBlock.hidden-the_row-Stmt-0 denote.Hole.Carrier.hidden
-opened = tt
+-- The i-th place of a list that passes a test, with what stands before and behind it.
+pub record PlaceAt (X : Type 0) (test : X → Bool) (xs : List X) (n i k : ℕ) : Type 0 where
+  pub front : List X
+  pub found : X
+  pub behind : List X
+  pub is : xs ≡ front ++ found ∷ behind
+  pub place_is : k ≡ n + length front
+  pub passes : test found ≡ true
+  pub next : slice_get (places test n xs) (suc i) ≡ slice_get (places test (suc k) behind) 0
 
-abbrev pub all_free : ℕ → List Stmt → Bool
-all_free r statements = list_all (is_free r) statements
+pub place_at : {X : Type 0} (test : X → Bool) (xs : List X) (n i k : ℕ) → slice_get (places test n xs) i ≡ Some k → PlaceAt X test xs n i k
+place_at test [] n i k e = absurd (cc)
+place_at {X} test (x ∷ xs) n i k e = by (test x) refl i e (place_at test xs (suc n))
+  where
+    later : (j i : ℕ) → slice_get (places test n (x ∷ xs)) (suc j) ≡ slice_get (places test (suc n) xs) (suc i) → PlaceAt X test xs (suc n) i k → PlaceAt X test (x ∷ xs) n j k
+    later j i skip q = record {
+      front = x ∷ q.front;
+      found = q.found;
+      behind = q.behind;
+      is = ap (λ (ys : List X). x ∷ ys) q.is;
+      place_is = omega (arith, q.place_is);
+      passes = q.passes;
+      next = skip ∙ q.next;
+    }
 
-abbrev hidden_free : ℕ → List Stmt → Bool
-hidden_free r xs = is_free_in r (Rattle.dp_tree.specs.declared.Stmt.TheBlock.hidden-the_row-Stmt-0 xs)
-
-module _ (r : ℕ) where
-  free_hidden : (xs : List Stmt) → hidden_free r xs ≡ all_free r xs
-  unfolding opened
-  free_hidden [] = refl
-  free_hidden (x ∷ xs) = ap (λ b. is_free r x && b) (free_hidden xs)
-
-  abbrev pub free_at : Stmt-F Stmt → Bool
-  free_at (If site cond a b) = all_free r a && all_free r b
-  free_at (While site cond a) = all_free r a
-  free_at (Region q site cond a) = not (q == r) && all_free r a
-  free_at _ = true
-
-  free_roll : (h : Stmt-F Stmt) → is_free r (roll-Stmt h) ≡ free_at h
-  unfolding opened
-  free_roll (Assign site x e) = ap (is_free r) (rolls-Assign site x e)
-  free_roll (Store site x index e) = ap (is_free r) (rolls-Store site x index e)
-  free_roll (Print site e) = ap (is_free r) (rolls-Print site e)
-  free_roll (If site cond a b) = ap (is_free r) (rolls-If site cond a b) ∙ ap (λ u. u && hidden_free r b) (free_hidden a) ∙ ap (λ u. all_free r a && u) (free_hidden b)
-  free_roll (While site cond a) = ap (is_free r) (rolls-While site cond a) ∙ free_hidden a
-  free_roll (Region q site cond a) = ap (is_free r) (rolls-Region q site cond a) ∙ ap (λ u. not (q == r) && u) (free_hidden a)
-  free_roll (Call f line args) = ap (is_free r) (rolls-Call f line args)
-
-  pub free_out : (x : Stmt) → is_free r x ≡ free_at (out-Stmt x)
-  free_out x = ap (is_free r) (sym (roll-out-Stmt x)) ∙ free_roll (out-Stmt x)
-
-  free-append : (a b : List Stmt) → all_free r a ≡ true → all_free r b ≡ true → all_free r (a ++ b) ≡ true
-  free-append [] b h k = k
-  free-append (x ∷ a) b h k = let parts = and_true (is_free r x) (all_free r a) h in and_make (is_free r x) (all_free r (a ++ b)) parts.0 (free-append a b parts.1 k)
-
-  free_choose : (z : ℤ) (a b : List Stmt) → all_free r a ≡ true → all_free r b ≡ true → all_free r (choose z a b) ≡ true
-  free_choose z a b h k = by (is_zero z)
-    where
-      by : (t : Bool) → all_free r (if t then b else a) ≡ true
-      by true = k
-      by false = h
-
-  pub free_followed : (x : Stmt) (rest : List Stmt) (h : Stmt-F Stmt) (z : ℤ) → is_free r x ≡ true → free_at h ≡ true → all_free r rest ≡ true → all_free r (followed x rest h z) ≡ true
-  free_followed x rest (Assign site v e) z w h k = k
-  free_followed x rest (Store site v index e) z w h k = k
-  free_followed x rest (Print site e) z w h k = k
-  free_followed x rest (If site cond a b) z w h k = let both = and_true (all_free r a) (all_free r b) h in free-append (choose z a b) rest (free_choose z a b both.0 both.1) k
-  free_followed x rest (While site cond a) z w h k = free_choose z (a ++ x ∷ rest) rest (free-append a (x ∷ rest) h (and_make (is_free r x) (all_free r rest) w k)) k
-  free_followed x rest (Region q site cond a) z w h k =
-      let both = and_true (not (q == r)) (all_free r a) h in free_choose z (a ++ x ∷ rest) rest (free-append a (x ∷ rest) both.1 (and_make (is_free r x) (all_free r rest) w k)) k
-  free_followed x rest (Call f line args) z w h k = k
-
-  free_head : (h : Stmt-F Stmt) → free_at h ≡ true → is_region r h ≡ false
-  free_head (Assign site v e) w = refl
-  free_head (Store site v index e) w = refl
-  free_head (Print site e) w = refl
-  free_head (If site cond a b) w = refl
-  free_head (While site cond a) w = refl
-  free_head (Region q site cond a) w = differs (q == r) (and_true (not (q == r)) (all_free r a) w).0
-    where
-      differs : (b : Bool) → not b ≡ true → b ≡ false
-      differs false e = refl
-      differs true e = absurd (cc)
-  free_head (Call f line args) w = refl
-
-  pub not_at_head : (x : Stmt) → is_free r x ≡ true → is_region r (out-Stmt x) ≡ false
-  not_at_head x w = free_head (out-Stmt x) (sym (free_out x) ∙ w)
-
-  -- what follows goes on into the statements behind
-  pub followed-append : (x : Stmt) (rest behind : List Stmt) (h : Stmt-F Stmt) (z : ℤ) → followed x (rest ++ behind) h z ≡ followed x rest h z ++ behind
-  followed-append x rest behind (Assign site v e) z = refl
-  followed-append x rest behind (Store site v index e) z = refl
-  followed-append x rest behind (Print site e) z = refl
-  followed-append x rest behind (If site cond a b) z = sym (append_assoc (choose z a b) rest behind)
-  followed-append x rest behind (While site cond a) z = by (is_zero z)
-    where
-      by : (t : Bool) → (if t then rest ++ behind else a ++ x ∷ (rest ++ behind)) ≡ (if t then rest else a ++ x ∷ rest) ++ behind
-      by true = refl
-      by false = sym (append_assoc a (x ∷ rest) behind)
-  followed-append x rest behind (Region q site cond a) z = by (is_zero z)
-    where
-      by : (t : Bool) → (if t then rest ++ behind else a ++ x ∷ (rest ++ behind)) ≡ (if t then rest else a ++ x ∷ rest) ++ behind
-      by true = refl
-      by false = sym (append_assoc a (x ∷ rest) behind)
-  followed-append x rest behind (Call f line args) z = refl
+    by : (b : Bool) → test x ≡ b → (i : ℕ) → slice_get (if b then n ∷ places test (suc n) xs else places test (suc n) xs) i ≡ Some k →
+        ((i k : ℕ) → slice_get (places test (suc n) xs) i ≡ Some k → PlaceAt X test xs (suc n) i k) → PlaceAt X test (x ∷ xs) n i k
+    by true t zero e go = let here : n ≡ k = cc in record {
+      front = [];
+      found = x;
+      behind = xs;
+      is = refl;
+      place_is = omega (arith, here);
+      passes = t;
+      next = ap (λ (b : Bool). slice_get (if b then n ∷ places test (suc n) xs else places test (suc n) xs) 1) t ∙ ap (λ (m : ℕ). slice_get (places test (suc m) xs) 0) here;
+    }
+    by true t (suc i) e go = later (suc i) i (ap (λ (b : Bool). slice_get (if b then n ∷ places test (suc n) xs else places test (suc n) xs) (suc (suc i))) t) (go i k e)
+    by false t i e go = later i i (ap (λ (b : Bool). slice_get (if b then n ∷ places test (suc n) xs else places test (suc n) xs) (suc i)) t) (go i k e)
 
 -- no call
 abbrev pub is_step : Stmt-F Stmt → Bool
@@ -113,24 +56,88 @@ is_step (Call f line args) = false
 is_step _ = true
 
 module _ (p : Program) (input : List ℤ) where
-  step_is : (x : Stmt) (rest : List Stmt) (cells : List ℤ) (h : Stmt-F Stmt) (e : Evaluated Effect) → is_step h ≡ true → evaluated p input cells h ≡ e → step_at p input cells x rest h ≡ step_by p (site_of h) cells e (followed x rest h)
-  step_is x rest cells (Assign site v w) e s k = ap (λ u. step_by p site cells u (λ z. rest)) k
-  step_is x rest cells (Store site v index w) e s k = ap (λ u. step_by p site cells u (λ z. rest)) k
-  step_is x rest cells (Print site w) e s k = ap (λ u. step_by p site cells u (λ z. rest)) k
-  step_is x rest cells (If site cond a b) e s k = ap (λ u. step_by p site cells u (followed x rest (If site cond a b))) k
-  step_is x rest cells (While site cond a) e s k = ap (λ u. step_by p site cells u (followed x rest (While site cond a))) k
-  step_is x rest cells (Region q site cond a) e s k = ap (λ u. step_by p site cells u (followed x rest (Region q site cond a))) k
-  step_is x rest cells (Call f line args) e s k = absurd (cc)
-
   -- a run whose first step is known
   pub run_step : (m : ℕ) (c : Config) (s : Step) → step p input c ≡ s → run_of p input (suc m) c ≡ run_by (run_of p input m) (suc m) c s
   unfolding run_of
   run_step m c s e = ap (run_by (run_of p input m) (suc m) c) e
 
+  step_is : (x : Stmt) (rest : List Stmt) (cells : List ℤ) (h : Stmt-F Stmt) → is_step h ≡ true → step_at p input cells x rest h ≡ step_by p (site_of h) cells (evaluated p input cells h) (followed x rest h)
+  step_is x rest cells (Call f line args) s = absurd (cc)
+  step_is x rest cells _ s = refl
+
   pub step_on : (x : Stmt) (rest : List Stmt) (cells : List ℤ) (v : WithLoads Effect) → is_step (out-Stmt x) ≡ true → evaluated p input cells (out-Stmt x) ≡ Ok v →
       step p input (record { to_do = x ∷ rest; cells = cells }) ≡ Stepped (event_of (out-Stmt x) v) (standing p (followed x rest (out-Stmt x) (value_of v.value)) (stored v.value cells))
-  step_on x rest cells v s e = step_is x rest cells (out-Stmt x) (Ok v) s e
+  step_on x rest cells v s e = step_is x rest cells (out-Stmt x) s ∙ ap (λ (r : Evaluated Effect). step_by p (site_of (out-Stmt x)) cells r (followed x rest (out-Stmt x))) e
 
   pub step_off : (x : Stmt) (rest : List Stmt) (cells : List ℤ) (kind : FaultKind) → is_step (out-Stmt x) ≡ true → evaluated p input cells (out-Stmt x) ≡ Err kind →
       (fault : FaultAt) × (step p input (record { to_do = x ∷ rest; cells = cells }) ≡ Faulted fault)
-  step_off x rest cells kind s e = (_, step_is x rest cells (out-Stmt x) (Err kind) s e)
+  step_off x rest cells kind s e = (_, step_is x rest cells (out-Stmt x) s ∙ ap (λ (r : Evaluated Effect). step_by p (site_of (out-Stmt x)) cells r (followed x rest (out-Stmt x))) e)
+
+  -- a step leads to what follows the head, in the memory after its effect
+  abbrev pub Leads : Stmt → List Stmt → List ℤ → Step → Type 0
+  Leads x rest cells Finished = Unit {0}
+  Leads x rest cells (Faulted fault) = Unit {0}
+  Leads x rest cells (Stepped event next) = (v : WithLoads Effect) × (next ≡ standing p (followed x rest (out-Stmt x) (value_of v.value)) (stored v.value cells))
+
+  pub step_leads : (x : Stmt) (rest : List Stmt) (cells : List ℤ) → Leads x rest cells (step p input (record { to_do = x ∷ rest; cells = cells }))
+  step_leads x rest cells = by (out-Stmt x) refl
+    where
+      made : (h : Stmt-F Stmt) → out-Stmt x ≡ h → (r : Evaluated Effect) → Leads x rest cells (step_by p (site_of h) cells r (followed x rest h))
+      made h e (Ok v) = (v, ap (λ (g : Stmt-F Stmt). standing p (followed x rest g (value_of v.value)) (stored v.value cells)) (sym e))
+      made h e (Err kind) = tt
+
+      by : (h : Stmt-F Stmt) → out-Stmt x ≡ h → Leads x rest cells (step_at p input cells x rest h)
+      by (Call f line args) e = tt
+      by h e = made h e (evaluated p input cells h)
+
+  -- The run from one of its configurations on.
+  pub record From (m : ℕ) (c : Config) (front : List Config) (d : Config) (behind : List Config) : Type 0 where
+    pub before : List Event
+    pub left : ℕ
+    pub steps_are : m ≡ length front + left
+    pub trace_is : (run_of p input m c).trace ≡ before ++ (run_of p input left d).trace
+    pub length_is : length before ≡ length front
+    pub configs_are : d ∷ behind ≡ (run_of p input left d).configs
+
+  configs_by : (m : ℕ) (c : Config) (s : Step) → slice_get (run_by (run_of p input m) (suc m) c s).configs 0 ≡ Some c
+  configs_by m c Finished = refl
+  configs_by m c (Faulted fault) = refl
+  configs_by m c (Stepped event next) = refl
+
+  pub run_first : (m : ℕ) (c : Config) → slice_get (run_of p input m c).configs 0 ≡ Some c
+  unfolding run_of
+  run_first zero c = refl
+  run_first (suc m) c = configs_by m c (step p input c)
+
+  one_config : (c f d : Config) (front behind : List Config) → c ∷ [] ≡ f ∷ (front ++ d ∷ behind) → ⊥
+  one_config c f d [] behind e = cc
+  one_config c f d (g ∷ front) behind e = cc
+
+  pub run_from : (front : List Config) (m : ℕ) (c d : Config) (behind : List Config) → (run_of p input m c).configs ≡ front ++ d ∷ behind → From m c front d behind
+  unfolding run_of
+  run_from [] m c d behind e =
+      let first = sym (run_first m c) ∙ ap (λ (cs : List Config). slice_get cs 0) e in
+      let same : c ≡ d = cc first in
+      record {
+        before = [];
+        left = m;
+        steps_are = omega arith;
+        trace_is = ap (λ (b : Config). (run_of p input m b).trace) same;
+        length_is = refl;
+        configs_are = sym e ∙ ap (λ (b : Config). (run_of p input m b).configs) same;
+      }
+  run_from (f ∷ front) zero c d behind e = absurd (one_config c f d front behind e)
+  run_from (f ∷ front) (suc m) c d behind e = by (step p input c) refl e (λ next. run_from front m next d behind)
+    where
+      by : (s : Step) → step p input c ≡ s → (run_by (run_of p input m) (suc m) c s).configs ≡ f ∷ (front ++ d ∷ behind) →
+          ((next : Config) → (run_of p input m next).configs ≡ front ++ d ∷ behind → From m next front d behind) → From (suc m) c (f ∷ front) d behind
+      by Finished s e go = absurd (one_config c f d front behind e)
+      by (Faulted fault) s e go = absurd (one_config c f d front behind e)
+      by (Stepped event next) s e go = let q = go next (cc) in record {
+        before = event ∷ q.before;
+        left = q.left;
+        steps_are = omega (arith, q.steps_are);
+        trace_is = ap (λ (run : Run). run.trace) (run_step m c (Stepped event next) s) ∙ ap (λ (es : List Event). event ∷ es) q.trace_is;
+        length_is = ap (λ (n : ℕ). suc n) q.length_is;
+        configs_are = q.configs_are;
+      }

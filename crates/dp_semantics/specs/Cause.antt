@@ -1,5 +1,5 @@
--- Why an iteration is executed again: its first failure in source order.
-use Rattle.std.specs.Prelude.{ℕ, true, false, List, [], ◌∷◌, ℤ, Option, Some, None, nat_le}
+-- Why an iteration is executed again: its first failure in the source's order.
+use Rattle.std.specs.Prelude.{ℕ, if◌then◌else◌, List, [], ◌∷◌, ℤ, Option, Some, None, nat_le}
 use Rattle.dp_base.specs.declared.Fault.{Fault as FaultAt}
 use Rattle.dp_base.specs.declared.End.{End}
 use Rattle.dp_base.specs.declared.End.TheVariants as run_end
@@ -10,9 +10,11 @@ use Rattle.dp_tree.specs.Step.{Event}
 use Rattle.dp_tree.specs.Trace.{Run}
 use Rattle.dp_tree.specs.Iteration.{iteration, memory_after}
 use Rattle.dp_plan.specs.Access.{stage_of, is_checked}
-use Rattle.dp_semantics.specs.Clean.{Past, seen, int_eq, is_as_assumed, word_count, events_since}
+use Rattle.dp_semantics.specs.Seen.{Past, seen}
+use Rattle.dp_semantics.specs.Clean.{int_eq, event_as_assumed, word_count, events_since}
 use Rattle.dp_semantics.specs.Recovery.{epoch}
 
+-- a checked load that its stage sees otherwise, a broken assumption, a stage with too many words, a fault, or spent fuel
 pub data Cause : Type 0 where
   ByLoad : (site cell : ℕ) (seen source : ℤ) → Cause
   ByAssumption : (site : ℕ) → Cause
@@ -25,39 +27,42 @@ abbrev pub or_else : Option Cause → Option Cause → Option Cause
 or_else (Some cause) other = Some cause
 or_else None other = other
 
+-- the load, where this is seen in place of its value
+abbrev pub by_load : ℕ → Load → ℤ → Option Cause
+by_load site l found = if int_eq found l.value then None else Some (ByLoad site l.cell found l.value)
+
+-- the first of the site's loads that its stage sees otherwise
 abbrev pub load_cause : Program → Plan → List ℤ → ℕ → List Past → ℕ → List Load → Option Cause
 load_cause p plan base i earlier site [] = None
 load_cause p plan base i earlier site (l ∷ rest) =
-    elim (int_eq (seen p plan base (stage_of p plan site) i earlier l.cell) l.value) [
-      | true ↦ load_cause p plan base i earlier site rest
-      | false ↦ Some (ByLoad site l.cell (seen p plan base (stage_of p plan site) i earlier l.cell) l.value)
-    ]
-
-abbrev pub assumption_cause : Plan → Event → Option Cause
-assumption_cause plan event = elim (is_as_assumed plan event) [ true ↦ None | false ↦ Some (ByAssumption event.site) ]
-
--- the event brings its stage above its words; `done` are the iteration's events before it
-abbrev pub words_cause : Program → Plan → List Event → Event → Option Cause
-words_cause p plan done event =
-    elim (nat_le (word_count p plan (event ∷ done) (stage_of p plan event.site)) plan.words) [
-      | true ↦ None
-      | false ↦ Some (ByWords (stage_of p plan event.site) event.site)
-    ]
+    or_else (by_load site l (seen p plan base (stage_of p plan site) i earlier l.cell)) (load_cause p plan base i earlier site rest)
 
 abbrev pub checked_load_cause : Program → Plan → List ℤ → ℕ → List Past → Event → Option Cause
 checked_load_cause p plan base i earlier event =
-    elim (is_checked p plan event.site) [ true ↦ load_cause p plan base i earlier event.site event.loads | false ↦ None ]
+    if is_checked p plan event.site then load_cause p plan base i earlier event.site event.loads else None
 
+abbrev pub assumption_cause : Plan → Event → Option Cause
+assumption_cause plan event = if event_as_assumed plan event then None else Some (ByAssumption event.site)
+
+-- the event brings its stage above the plan's words; `done` are the iteration's events before it
+abbrev pub words_cause : Program → Plan → List Event → Event → Option Cause
+words_cause p plan done event =
+    if nat_le (word_count p plan (event ∷ done) (stage_of p plan event.site)) plan.words then None
+    else Some (ByWords (stage_of p plan event.site) event.site)
+
+-- at one event the loads come first, then the assumption, then the words
 abbrev pub event_cause : Program → Plan → List ℤ → ℕ → List Past → List Event → Event → Option Cause
 event_cause p plan base i earlier done event =
     or_else (checked_load_cause p plan base i earlier event) (or_else (assumption_cause plan event) (words_cause p plan done event))
 
+-- the first event of iteration i that fails
 abbrev pub first_cause : Program → Plan → List ℤ → ℕ → List Past → List Event → List Event → Option Cause
 first_cause p plan base i earlier done [] = None
 first_cause p plan base i earlier done (event ∷ rest) =
     or_else (event_cause p plan base i earlier done event)
     (first_cause p plan base i (record { iteration = i; event = event } ∷ earlier) (event ∷ done) rest)
 
+-- where no event fails: the run's fault, or the spent fuel
 abbrev pub end_cause : End → Cause
 end_cause (run_end.Fault fault) = ByFault fault
 end_cause run_end.Fuel = ByFuel
@@ -67,10 +72,11 @@ abbrev pub cause_or_end : Option Cause → End → Cause
 cause_or_end (Some cause) end = cause
 cause_or_end None end = end_cause end
 
--- the cause of iteration i in the epoch from e
+-- the cause of iteration i in the epoch that began at e
 abbrev pub cause_since : Program → Plan → Run → ℕ → ℕ → Cause
 cause_since p plan run e i =
     cause_or_end (first_cause p plan (memory_after run plan.region e) i (events_since run plan.region e i) [] (iteration run plan.region i)) run.end
 
+-- the cause of iteration i in its own epoch
 abbrev pub cause : Program → Plan → Run → ℕ → Cause
 cause p plan run i = cause_since p plan run (epoch p plan run i) i

@@ -1,11 +1,14 @@
+pub mod Seen
 pub mod Clean
 pub mod Recovery
+pub mod OneStage
 pub mod Cause
-pub mod RegionText
 pub mod Project
+pub mod Words
 pub mod StageRun
 pub mod Packets
 pub mod Judge
-pub mod Nesting
 pub mod Verdict
-pub mod Accept
+pub mod Nesting
+pub mod Fits
+pub mod Laws

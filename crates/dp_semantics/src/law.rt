@@ -1,12 +1,12 @@
 ghost use Rattle.std.specs.Prelude.{◌≡◌, true};
-ghost use Rattle.dp_semantics.specs.Accept.{fits_plan};
+ghost use Rattle.dp_semantics.specs.Fits.{fits_plan};
 ghost use Rattle.dp_semantics.specs.Verdict.{JudgesEpochs, JudgesRightly, StoresLead};
 
 use dp_plan::Plan;
 use dp_tree::Program;
 
 /// The judgement on an epoch's packets is Clean exactly at the clean iterations.
-#[tactic(auto, using(crate::proofs::Accepting::fitting_judges, crate::proofs::Accepting::fitting_leads, crate::proofs::Accepting::fitting_epochs))]
+#[tactic(auto, using(crate::proofs::Fitting::fitting_judges, crate::proofs::Fitting::fitting_leads, crate::proofs::Fitting::fitting_epochs))]
 pub fn judgement_is_the_sources(p: &Program, plan: &Plan)
     requires { fits_plan p.now plan.now ≡ true }
     ensures judged { JudgesRightly p.now plan.now }

@@ -1,4 +1,4 @@
--- What the theorems ask of an inlined program and of a plan of one of its regions.
+-- What the central theorem asks of an inlined program and of a plan of one of its regions, as one test.
 use Rattle.std.specs.Prelude.{ℕ, ◌+◌, ◌==◌, Bool, true, false, not, ◌&&◌, ◌||◌, List, [], ◌∷◌, length, Option, Some, None, nat_lt, nat_le}
 use Rattle.std.specs.List.{list_all, flat_map}
 use Rattle.dp_tree.specs.declared.Stmt.{Stmt, out-Stmt}
@@ -25,7 +25,7 @@ abbrev pub stores_known : Program → Option ℕ → Bool
 stores_known p None = true
 stores_known p (Some x) = has_cell p x
 
--- its variables have cells, and its site has one of the plan's stages
+-- the variables that the site names are the program's, and the site has one of the plan's stages
 abbrev pub access_known : Program → Plan → Access → Bool
 access_known p plan a =
     list_all (has_cell p) a.loads && (stores_known p a.stores && (nat_lt 0 (stage_of p plan a.site) && nat_le (stage_of p plan a.site) (length plan.stages)))
@@ -33,13 +33,14 @@ access_known p plan a =
 abbrev pub is_inner : Program → Plan → Access → Bool
 is_inner p plan a = not (a.site == first_site p plan)
 
--- the plan's region: its condition is its first site and in stage 1, and its body is well nested
+-- the region's condition is its first site, alone with that number, and of stage 1, and its body is well nested
 abbrev pub region_fits : Program → Plan → Stmt-F Stmt → Bool
 region_fits p plan (Region q site cond body) =
     (q == plan.region) && ((first_site p plan == site.0) && ((stage_of p plan (first_site p plan) == 1)
     && (list_all (well_nested p plan) body && list_all (is_inner p plan) (flat_map accesses body))))
 region_fits p plan _ = false
 
+-- the region stands once among the statements of `main`
 abbrev pub one_region : Program → Plan → List Stmt → Bool
 one_region p plan [] = false
 one_region p plan (s ∷ []) = region_fits p plan (out-Stmt s)
@@ -53,9 +54,11 @@ region_alone plan s = is_region_at plan.region s || is_free plan.region s
 abbrev pub kinds_apart : Plan → ℕ → Bool
 kinds_apart plan s = not (is_replicated plan s && is_replicated plan (s + 1))
 
+-- the first stage is sequential, and no two neighbours are replicated
 abbrev pub kinds_fit : Plan → Bool
-kinds_fit plan = not (is_replicated plan 1) && list_all (kinds_apart plan) (count_from 0 (length plan.stages))
+kinds_fit plan = not (is_replicated plan 1) && list_all (kinds_apart plan) (count_from 1 (length plan.stages))
 
+-- an inlined program's variables and region, and a plan that keeps the rules
 abbrev pub fits_plan : Program → Plan → Bool
 fits_plan p plan =
     lies_in_order plan.region 0 p.vars && (list_all (access_known p plan) (region_accesses p plan)

@@ -1,0 +1,73 @@
+-- The number of words of a stage is the number that the plan counts.
+use Rattle.std.proofs.Common.{◌≡◌, ◌⊎◌, inl, inr, refl, sym, ap, ◌∙◌, ℕ, zero, suc, ◌+◌, ◌<◌, ◌≤◌, ◌==◌, Bool, true, false, if◌then◌else◌, List, [], ◌∷◌, ◌++◌, length, length-append, filter, nat_le, arith, leb-true, le-leb}
+use Rattle.std.proofs.lemmas.List.Sums.{sum_by-cons}
+use Rattle.std.proofs.lemmas.Bool.{cases_eq}
+use Rattle.std.specs.List.{list_all, flat_map}
+use Rattle.dp_tree.specs.declared.Program.{Program}
+use Rattle.dp_plan.specs.declared.Plan.{Plan}
+use Rattle.dp_tree.specs.Eval.{Load}
+use Rattle.dp_tree.specs.Step.{Event}
+use Rattle.dp_plan.specs.Access.{stage_of, is_checked}
+use Rattle.dp_semantics.specs.Clean.{event_words, words_at, word_count, count_from, fits_words}
+use Rattle.dp_semantics.specs.Words.{load_words, done_word, words_of}
+use Rattle.dp_semantics.specs.Judge.{last}
+use Rattle.dp_semantics.specs.Verdict.{words_at_stage}
+use Rattle.dp_semantics.proofs.Each.{and_true, and_make}
+use Rattle.dp_semantics.proofs.Taking.{words_for}
+use Rattle.dp_semantics.proofs.Lockstep.{words_through}
+
+-- a test of each number from k on, n of them
+pub all_count : (test : ℕ → Bool) (n k s : ℕ) → list_all test (count_from k n) ≡ true → k ≤ s → s < k + n → test s ≡ true
+all_count test zero k s e low high = absurd (omega (arith, low, high))
+all_count test (suc n) k s e low high =
+    let parts = and_true (test k) (list_all test (count_from (suc k) n)) e in by (cases_eq k s) parts.0 (λ l. all_count test n (suc k) s parts.1 l (omega (arith, high)))
+  where
+    by : (k ≡ s) ⊎ (k ≡ s → ⊥) → test k ≡ true → (suc k ≤ s → test s ≡ true) → test s ≡ true
+    by (inl q) h go = ap test (sym q) ∙ h
+    by (inr q) h go = go (omega (arith, low, q))
+
+count_all : (test : ℕ → Bool) (n k : ℕ) → ((s : ℕ) → k ≤ s → s < k + n → test s ≡ true) → list_all test (count_from k n) ≡ true
+count_all test zero k h = refl
+count_all test (suc n) k h = and_make (test k) (list_all test (count_from (suc k) n)) (h k (omega arith) (omega arith)) (count_all test n (suc k) (λ s low high. h s (omega (arith, low)) (omega (arith, high))))
+
+load_words-length : (site : ℕ) (loads : List Load) → length (load_words site loads) ≡ length loads
+load_words-length site [] = refl
+load_words-length site (l ∷ rest) = ap (λ (n : ℕ). suc n) (load_words-length site rest)
+
+module _ (p : Program) (plan : Plan) where
+  event_words-length : (event : Event) → length (words_of p plan event) ≡ event_words p plan event
+  event_words-length event = by (is_checked p plan event.site)
+    where
+      by : (b : Bool) → length ((if b then load_words event.site event.loads else []) ++ done_word event.site event.effect ∷ []) ≡ (if b then length event.loads + 1 else 1)
+      by true = omega (arith, length-append (load_words event.site event.loads) (done_word event.site event.effect ∷ []), load_words-length event.site event.loads)
+      by false = refl
+
+  words_for-length : (s : ℕ) (event : Event) → length (words_for p plan s event) ≡ words_at p plan s event
+  words_for-length s event = by (stage_of p plan event.site == s)
+    where
+      by : (b : Bool) → length (if b then words_of p plan event else []) ≡ (if b then event_words p plan event else 0)
+      by true = event_words-length event
+      by false = refl
+
+  words_through-length : (s : ℕ) (events : List Event) → length (words_through p plan s events) ≡ word_count p plan events s
+  words_through-length s [] = refl
+  words_through-length s (event ∷ rest) = omega (arith, length-append (words_for p plan s event) (words_through p plan s rest), words_for-length s event, words_through-length s rest, sum_by-cons (words_at p plan s) event rest)
+
+  pub fits_each : (events : List Event) → fits_words p plan events ≡ true → (s : ℕ) → 0 < s → s < last plan → length (words_through p plan s events) ≤ plan.words
+  fits_each events e s low high =
+      let h = leb-true (word_count p plan events s) plan.words (all_count (λ u. nat_le (word_count p plan events u) plan.words) (length plan.stages) 1 s e low (omega (arith, high))) in
+      omega (arith, h, words_through-length s events)
+
+  pub each_fits : (events : List Event) → ((s : ℕ) → 0 < s → s < last plan → length (words_through p plan s events) ≤ plan.words) → fits_words p plan events ≡ true
+  each_fits events h =
+      count_all (λ u. nat_le (word_count p plan events u) plan.words) (length plan.stages) 1
+      (λ s low high. le-leb (word_count p plan events s) plan.words (omega (arith, h s low (omega (arith, high)), words_through-length s events)))
+
+  -- the words for a stage are those of the events at its sites
+  pub words_are : (t : ℕ) (events : List Event) → words_through p plan t events ≡ words_at_stage p plan events t
+  words_are t [] = refl
+  words_are t (event ∷ rest) = ap (λ ws. words_for p plan t event ++ ws) (words_are t rest) ∙ by (stage_of p plan event.site == t)
+    where
+      by : (b : Bool) → (if b then words_of p plan event else []) ++ words_at_stage p plan rest t ≡ flat_map (words_of p plan) (if b then event ∷ filter (λ u. stage_of p plan u.site == t) rest else filter (λ u. stage_of p plan u.site == t) rest)
+      by true = refl
+      by false = refl

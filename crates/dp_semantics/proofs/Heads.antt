@@ -1,0 +1,172 @@
+-- What the text's definitions say of a statement, by its head.
+use Rattle.std.proofs.Common.{◌≡◌, refl, sym, ap, ◌∙◌, append_assoc, ℕ, Bool, true, false, not, ◌&&◌, ◌||◌, ◌==◌, List, [], ◌∷◌, ◌++◌, is_some}
+use Rattle.std.specs.List.{flat_map, list_all}
+use Rattle.dp_base.specs.declared.SiteId.{SiteId}
+use Rattle.dp_tree.specs.declared.Expr.{Expr}
+use Rattle.dp_tree.specs.declared.Stmt.{Stmt, Row_of-Stmt, out-Stmt, roll-Stmt, roll-out-Stmt}
+use Rattle.dp_tree.specs.declared.Stmt.TheBlock.{hidden-the_row-Stmt-0}
+use Rattle.dp_tree.specs.declared.Stmt.TheVariants as tree
+use Rattle.dp_tree.specs.declared.Stmt.TheViews.{rolls-Assign, rolls-Store, rolls-Print, rolls-If, rolls-While, rolls-Region, rolls-Call}
+use Rattle.dp_tree.specs.declared.Stmt.TheOpen.{Stmt-F, Assign, Store, Print, If, While, Region, Call}
+use Rattle.dp_tree.specs.declared.Program.{Program}
+use Rattle.dp_plan.specs.declared.Plan.{Plan}
+use Rattle.dp_tree.specs.Step.{site_of}
+use Rattle.dp_plan.specs.Access.{Access, accesses, accesses_in}
+use Rattle.dp_semantics.specs.Project.{assumed_in, branch_of, where_reached, project, project_in, project_all}
+use Rattle.dp_semantics.specs.Nesting.{none_earlier, well_nested, well_nested_in, is_free, is_free_in}
+use Rattle.dp_semantics.proofs.Evaluation.{head_loads, head_stores}
+
+-- what opens where a statement is made
+unfoldable opened : Unit {0}
+unfolding Rattle.dp_tree.specs.declared.Stmt.TheBlock.shape-the_row-Stmt-0 Rattle.dp_tree.specs.declared.Stmt.TheBlock.hidden-the_row-Stmt-0 denote.Hole.Carrier.hidden
+opened = tt
+
+pub flat_map-append : {X Y : Type 0} (f : X → List Y) (a b : List X) → flat_map f (a ++ b) ≡ flat_map f a ++ flat_map f b
+flat_map-append f [] b = refl
+flat_map-append f (x ∷ a) b = ap (λ ys. f x ++ ys) (flat_map-append f a b) ∙ sym (append_assoc (f x) (flat_map f a) (flat_map f b))
+
+-- The sites: the statement's own, and those inside it.
+abbrev pub accesses_all : List Stmt → List Access
+accesses_all statements = flat_map accesses statements
+
+abbrev pub head_access : Stmt-F Stmt → Access
+head_access h = record { site = (site_of h).0; loads = head_loads h; stores = head_stores h }
+
+abbrev pub inside : Stmt-F Stmt → List Access
+inside (If site cond a b) = accesses_all a ++ accesses_all b
+inside (While site cond a) = accesses_all a
+inside (Region r site cond a) = accesses_all a
+inside _ = []
+
+abbrev pub accesses_at : Stmt-F Stmt → List Access
+accesses_at (Call f line args) = []
+accesses_at h = head_access h ∷ inside h
+
+accesses_hidden : (xs : List Stmt) → accesses_in (hidden-the_row-Stmt-0 xs) ≡ accesses_all xs
+unfolding opened
+accesses_hidden [] = refl
+accesses_hidden (x ∷ xs) = ap (λ ys. accesses x ++ ys) (accesses_hidden xs)
+
+accesses_roll : (h : Stmt-F Stmt) → accesses (roll-Stmt h) ≡ accesses_at h
+unfolding opened
+accesses_roll (Assign site x e) = ap accesses (rolls-Assign site x e)
+accesses_roll (Store site x index e) = ap accesses (rolls-Store site x index e)
+accesses_roll (Print site e) = ap accesses (rolls-Print site e)
+accesses_roll (If site cond a b) = ap accesses (rolls-If site cond a b) ∙ ap (λ xs. head_access (If site cond a b) ∷ (xs ++ accesses_in (hidden-the_row-Stmt-0 b))) (accesses_hidden a)
+    ∙ ap (λ xs. head_access (If site cond a b) ∷ (accesses_all a ++ xs)) (accesses_hidden b)
+accesses_roll (While site cond a) = ap accesses (rolls-While site cond a) ∙ ap (λ xs. head_access (While site cond a) ∷ xs) (accesses_hidden a)
+accesses_roll (Region r site cond a) = ap accesses (rolls-Region r site cond a) ∙ ap (λ xs. head_access (Region r site cond a) ∷ xs) (accesses_hidden a)
+accesses_roll (Call f line args) = ap accesses (rolls-Call f line args)
+
+pub accesses_out : (x : Stmt) → accesses x ≡ accesses_at (out-Stmt x)
+accesses_out x = ap accesses (sym (roll-out-Stmt x)) ∙ accesses_roll (out-Stmt x)
+
+-- Region r doesn't stand inside.
+abbrev pub all_free : ℕ → List Stmt → Bool
+all_free r statements = list_all (is_free r) statements
+
+module _ (r : ℕ) where
+  abbrev pub free_at : Stmt-F Stmt → Bool
+  free_at (If site cond a b) = all_free r a && all_free r b
+  free_at (While site cond a) = all_free r a
+  free_at (Region q site cond a) = not (q == r) && all_free r a
+  free_at _ = true
+
+  free_hidden : (xs : List Stmt) → is_free_in r (hidden-the_row-Stmt-0 xs) ≡ all_free r xs
+  unfolding opened
+  free_hidden [] = refl
+  free_hidden (x ∷ xs) = ap (λ b. is_free r x && b) (free_hidden xs)
+
+  free_roll : (h : Stmt-F Stmt) → is_free r (roll-Stmt h) ≡ free_at h
+  unfolding opened
+  free_roll (Assign site x e) = ap (is_free r) (rolls-Assign site x e)
+  free_roll (Store site x index e) = ap (is_free r) (rolls-Store site x index e)
+  free_roll (Print site e) = ap (is_free r) (rolls-Print site e)
+  free_roll (If site cond a b) = ap (is_free r) (rolls-If site cond a b) ∙ ap (λ u. u && is_free_in r (hidden-the_row-Stmt-0 b)) (free_hidden a) ∙ ap (λ u. all_free r a && u) (free_hidden b)
+  free_roll (While site cond a) = ap (is_free r) (rolls-While site cond a) ∙ free_hidden a
+  free_roll (Region q site cond a) = ap (is_free r) (rolls-Region q site cond a) ∙ ap (λ u. not (q == r) && u) (free_hidden a)
+  free_roll (Call f line args) = ap (is_free r) (rolls-Call f line args)
+
+  pub free_out : (x : Stmt) → is_free r x ≡ free_at (out-Stmt x)
+  free_out x = ap (is_free r) (sym (roll-out-Stmt x)) ∙ free_roll (out-Stmt x)
+
+module _ (p : Program) (plan : Plan) where
+  -- The plan's rules on nesting.
+  abbrev pub all_well : List Stmt → Bool
+  all_well statements = list_all (well_nested p plan) statements
+
+  -- an `if` is assumed, or has no site of an earlier stage inside
+  abbrev pub if_rule : ℕ → List Access → Bool
+  if_rule site accesses = is_some (assumed_in plan.assume site) || none_earlier p plan site accesses
+
+  abbrev pub well_at : Stmt-F Stmt → Bool
+  well_at (If site cond a b) = if_rule site.0 (accesses_all a ++ accesses_all b) && (all_well a && all_well b)
+  well_at (While site cond a) = none_earlier p plan site.0 (accesses_all a) && all_well a
+  well_at (Region r site cond a) = false
+  well_at (Call f line args) = false
+  well_at _ = true
+
+  well_hidden : (xs : List Stmt) → well_nested_in p plan (hidden-the_row-Stmt-0 xs) ≡ all_well xs
+  unfolding opened
+  well_hidden [] = refl
+  well_hidden (x ∷ xs) = ap (λ b. well_nested p plan x && b) (well_hidden xs)
+
+  -- an `if` by its sites and its parts, and a `while`
+  abbrev if_by : ℕ → List Access → Bool → Bool → Bool
+  if_by site inner a b = if_rule site inner && (a && b)
+
+  well_roll : (h : Stmt-F Stmt) → well_nested p plan (roll-Stmt h) ≡ well_at h
+  unfolding opened
+  well_roll (Assign site x e) = ap (well_nested p plan) (rolls-Assign site x e)
+  well_roll (Store site x index e) = ap (well_nested p plan) (rolls-Store site x index e)
+  well_roll (Print site e) = ap (well_nested p plan) (rolls-Print site e)
+  well_roll (If site cond a b) = ap (well_nested p plan) (rolls-If site cond a b)
+      ∙ ap (λ xs. if_by site.0 (xs ++ accesses_in (hidden-the_row-Stmt-0 b)) (well_nested_in p plan (hidden-the_row-Stmt-0 a)) (well_nested_in p plan (hidden-the_row-Stmt-0 b))) (accesses_hidden a)
+      ∙ ap (λ xs. if_by site.0 (accesses_all a ++ xs) (well_nested_in p plan (hidden-the_row-Stmt-0 a)) (well_nested_in p plan (hidden-the_row-Stmt-0 b))) (accesses_hidden b)
+      ∙ ap (λ w. if_by site.0 (accesses_all a ++ accesses_all b) w (well_nested_in p plan (hidden-the_row-Stmt-0 b))) (well_hidden a)
+      ∙ ap (λ w. if_by site.0 (accesses_all a ++ accesses_all b) (all_well a) w) (well_hidden b)
+  well_roll (While site cond a) = ap (well_nested p plan) (rolls-While site cond a)
+      ∙ ap (λ xs. none_earlier p plan site.0 xs && well_nested_in p plan (hidden-the_row-Stmt-0 a)) (accesses_hidden a)
+      ∙ ap (λ w. none_earlier p plan site.0 (accesses_all a) && w) (well_hidden a)
+  well_roll (Region r site cond a) = ap (well_nested p plan) (rolls-Region r site cond a)
+  well_roll (Call f line args) = ap (well_nested p plan) (rolls-Call f line args)
+
+  pub well_out : (x : Stmt) → well_nested p plan x ≡ well_at (out-Stmt x)
+  well_out x = ap (well_nested p plan) (sym (roll-out-Stmt x)) ∙ well_roll (out-Stmt x)
+
+  -- A stage's part of the text.
+  module _ (s : ℕ) where
+    -- what stays, and what takes its place, at an `if` and at a `while`
+    abbrev if_for : SiteId → Expr → List Stmt → List Stmt → List Stmt
+    if_for site cond a b = where_reached p plan s site.0 (tree.If site cond a b ∷ []) (branch_of (assumed_in plan.assume site.0) a b)
+
+    abbrev while_for : SiteId → Expr → List Stmt → List Stmt
+    while_for site cond a = where_reached p plan s site.0 (tree.While site cond a ∷ []) []
+
+    abbrev pub project_at : Stmt-F Stmt → List Stmt
+    project_at (Assign site x e) = where_reached p plan s site.0 (tree.Assign site x e ∷ []) []
+    project_at (Store site x index e) = where_reached p plan s site.0 (tree.Store site x index e ∷ []) []
+    project_at (Print site e) = where_reached p plan s site.0 (tree.Print site e ∷ []) []
+    project_at (If site cond a b) = if_for site cond (project_all p plan s a) (project_all p plan s b)
+    project_at (While site cond a) = while_for site cond (project_all p plan s a)
+    project_at (Region r site cond a) = tree.If site cond (project_all p plan s a) [] ∷ []
+    project_at (Call f line args) = []
+
+    project_hidden : (xs : List Stmt) → project_in p plan s (hidden-the_row-Stmt-0 xs) ≡ project_all p plan s xs
+    unfolding opened
+    project_hidden [] = refl
+    project_hidden (x ∷ xs) = ap (λ ys. project p plan s x ++ ys) (project_hidden xs)
+
+    project_roll : (h : Stmt-F Stmt) → project p plan s (roll-Stmt h) ≡ project_at h
+    unfolding opened
+    project_roll (Assign site x e) = ap (project p plan s) (rolls-Assign site x e)
+    project_roll (Store site x index e) = ap (project p plan s) (rolls-Store site x index e)
+    project_roll (Print site e) = ap (project p plan s) (rolls-Print site e)
+    project_roll (If site cond a b) = ap (project p plan s) (rolls-If site cond a b)
+        ∙ ap (λ ys. if_for site cond ys (project_in p plan s (hidden-the_row-Stmt-0 b))) (project_hidden a) ∙ ap (λ ys. if_for site cond (project_all p plan s a) ys) (project_hidden b)
+    project_roll (While site cond a) = ap (project p plan s) (rolls-While site cond a) ∙ ap (λ ys. while_for site cond ys) (project_hidden a)
+    project_roll (Region r site cond a) = ap (project p plan s) (rolls-Region r site cond a) ∙ ap (λ ys. tree.If site cond ys [] ∷ []) (project_hidden a)
+    project_roll (Call f line args) = ap (project p plan s) (rolls-Call f line args)
+
+    pub project_out : (x : Stmt) → project p plan s x ≡ project_at (out-Stmt x)
+    project_out x = ap (project p plan s) (sym (roll-out-Stmt x)) ∙ project_roll (out-Stmt x)

@@ -1,0 +1,94 @@
+-- Variables whose cells lie one after the other.
+use Rattle.std.proofs.Common.{◌≡◌, refl, sym, ap, ◌∙◌, ℕ, zero, suc, ◌+◌, ◌<◌, ◌≤◌, ◌==◌, Bool, true, false, not, ◌&&◌, ◌||◌, List, [], ◌∷◌, length, length-append, replicate, slice_get, nat_lt, arith, ltb-true, eqb-true, ne_eqb, eq-eqb}
+use Rattle.std.proofs.lemmas.List.{length-replicate}
+use Rattle.std.specs.List.{list_any}
+use Rattle.dp_tree.specs.declared.VarInfo.{VarInfo}
+use Rattle.dp_tree.specs.declared.Program.{Program}
+use Rattle.dp_plan.specs.declared.Plan.{Plan}
+use Rattle.dp_tree.specs.Eval.{first_of, length_of}
+use Rattle.dp_tree.specs.Step.{is_local_of}
+use Rattle.dp_tree.specs.Trace.{start_cells}
+use Rattle.dp_plan.specs.Access.{is_local}
+use Rattle.dp_semantics.specs.Seen.{is_local_cell}
+use Rattle.dp_semantics.specs.Fits.{lies_in_order}
+use Rattle.dp_semantics.proofs.Each.{and_true}
+use Rattle.dp_semantics.proofs.Setting.{Laid}
+
+-- the cell is one of the x-th variable's
+abbrev VarAt : List VarInfo → ℕ → ℕ → Type 0
+VarAt vars x c = (first_of (slice_get vars x) ≤ c) × (c < first_of (slice_get vars x) + length_of (slice_get vars x))
+
+module _ (r : ℕ) where
+  record Head (k : ℕ) (x : VarInfo) (rest : List VarInfo) : Type 0 where
+    pub first : x.first.0 ≡ k
+    pub some : 0 < x.length
+    pub single : (not (is_local_of r x.scope) || (x.length == 1)) ≡ true
+    pub tail : lies_in_order r (k + x.length) rest ≡ true
+
+  head_of : (k : ℕ) (x : VarInfo) (rest : List VarInfo) → lies_in_order r k (x ∷ rest) ≡ true → Head k x rest
+  head_of k x rest e =
+      let both = and_true ((x.first.0 == k) && (nat_lt 0 x.length && (not (is_local_of r x.scope) || (x.length == 1)))) (lies_in_order r (k + x.length) rest) e in
+      let a = and_true (x.first.0 == k) (nat_lt 0 x.length && (not (is_local_of r x.scope) || (x.length == 1))) both.0 in
+      let b = and_true (nat_lt 0 x.length) (not (is_local_of r x.scope) || (x.length == 1)) a.1 in
+      record { first = eqb-true x.first.0 k a.0; some = ltb-true 0 x.length b.0; single = b.1; tail = both.1 }
+
+  lies_within : (vars : List VarInfo) (k x c : ℕ) → lies_in_order r k vars ≡ true → VarAt vars x c → (k ≤ c) × (c < k + length (start_cells vars))
+  lies_within [] k x c e h = absurd (omega (arith, h.1))
+  lies_within (v ∷ vars) k zero c e h =
+      let a = head_of k v vars e in
+      let size = length-append (replicate v.length v.start) (start_cells vars) in
+      let long = length-replicate v.length v.start in
+      (omega (arith, a.first, h.0), omega (arith, a.first, h.1, size, long))
+  lies_within (v ∷ vars) k (suc x) c e h =
+      let a = head_of k v vars e in
+      let q = lies_within vars (k + v.length) x c a.tail h in
+      let size = length-append (replicate v.length v.start) (start_cells vars) in
+      let long = length-replicate v.length v.start in
+      (omega (arith, q.0), omega (arith, q.1, size, long))
+
+  lies_apart : (vars : List VarInfo) (k x y c : ℕ) → lies_in_order r k vars ≡ true → VarAt vars x c → VarAt vars y c → x ≡ y
+  lies_apart [] k x y c e h i = absurd (omega (arith, h.1))
+  lies_apart (v ∷ vars) k zero zero c e h i = refl
+  lies_apart (v ∷ vars) k zero (suc y) c e h i = let a = head_of k v vars e in absurd (omega (arith, h.1, a.first, (lies_within vars (k + v.length) y c a.tail i).0))
+  lies_apart (v ∷ vars) k (suc x) zero c e h i = let a = head_of k v vars e in absurd (omega (arith, i.1, a.first, (lies_within vars (k + v.length) x c a.tail h).0))
+  lies_apart (v ∷ vars) k (suc x) (suc y) c e h i = let a = head_of k v vars e in ap (λ (n : ℕ). suc n) (lies_apart vars (k + v.length) x y c a.tail h i)
+
+  and_off : (b c : Bool) → c ≡ false → (b && c) ≡ false
+  and_off true c e = e
+  and_off false c e = refl
+
+  or_off : (b c : Bool) → b ≡ false → (b || c) ≡ c
+  or_off false c e = refl
+  or_off true c e = absurd (cc)
+
+  none_below : (vars : List VarInfo) (k c : ℕ) → lies_in_order r k vars ≡ true → c < k → list_any (is_local_cell r c) vars ≡ false
+  none_below [] k c e h = refl
+  none_below (v ∷ vars) k c e h =
+      let a = head_of k v vars e in
+      or_off (is_local_cell r c v) (list_any (is_local_cell r c) vars) (and_off (is_local_of r v.scope) (v.first.0 == c) (ne_eqb v.first.0 c (λ q. omega (arith, q, a.first, h))))
+      ∙ none_below vars (k + v.length) c a.tail (omega (arith, h))
+
+  head_local : (v : VarInfo) (vars : List VarInfo) (k c : ℕ) → Head k v vars → VarAt (v ∷ vars) 0 c → (b : Bool) → is_local_of r v.scope ≡ b → list_any (is_local_cell r c) vars ≡ false →
+      ((b && (v.first.0 == c)) || list_any (is_local_cell r c) vars) ≡ b
+  head_local v vars k c a h true e none =
+      let one : v.length ≡ 1 = eqb-true v.length 1 (sym (ap (λ (b : Bool). not b || (v.length == 1)) e) ∙ a.single) in
+      ap (λ (b : Bool). b || list_any (is_local_cell r c) vars) (eq-eqb v.first.0 c (omega (arith, h.0, h.1, one)))
+  head_local v vars k c a h false e none = none
+
+  lies_local : (vars : List VarInfo) (k x c : ℕ) → lies_in_order r k vars ≡ true → VarAt vars x c → list_any (is_local_cell r c) vars ≡ is_local r (slice_get vars x)
+  lies_local [] k x c e h = absurd (omega (arith, h.1))
+  lies_local (v ∷ vars) k zero c e h =
+      let a = head_of k v vars e in
+      head_local v vars k c a h (is_local_of r v.scope) refl (none_below vars (k + v.length) c a.tail (omega (arith, h.1, a.first)))
+  lies_local (v ∷ vars) k (suc x) c e h =
+      let a = head_of k v vars e in
+      or_off (is_local_cell r c v) (list_any (is_local_cell r c) vars)
+      (and_off (is_local_of r v.scope) (v.first.0 == c) (ne_eqb v.first.0 c (λ q. omega (arith, q, a.first, a.some, (lies_within vars (k + v.length) x c a.tail h).0))))
+      ∙ lies_local vars (k + v.length) x c a.tail h
+
+pub laid_of : (p : Program) (plan : Plan) → lies_in_order plan.region 0 p.vars ≡ true → Laid p plan
+laid_of p plan e = record {
+  within = λ x c h. omega (arith, (lies_within plan.region p.vars 0 x c e h).1);
+  apart = λ x y c h i. lies_apart plan.region p.vars 0 x y c e h i;
+  local = λ x c h. lies_local plan.region p.vars 0 x c e h;
+}

@@ -1,0 +1,171 @@
+-- The iterations of a whole run, each as a piece of the source's steps.
+use Rattle.std.proofs.Common.{◌≡◌, ◌⊎◌, inl, inr, refl, sym, ap, ◌∙◌, subst, ℕ, suc, ◌+◌, ◌-◌, ◌≤◌, Bool, true, false, ◌||◌, if◌then◌else◌, List, [], ◌∷◌, ◌++◌, ℤ, pos, length, get_or, take, drop, length-append, Option, Some, None, is_some, slice_get, slice_range, Err, arith}
+use Rattle.std.proofs.Math.Seq.{drop-append_seam, take-append_seam}
+use Rattle.std.proofs.lemmas.List.{append-nil}
+use Rattle.dp_base.specs.declared.FaultKind.{FaultKind}
+use Rattle.dp_tree.specs.declared.Stmt.{Stmt, out-Stmt}
+use Rattle.dp_tree.specs.declared.Program.{Program}
+use Rattle.dp_plan.specs.declared.Plan.{Plan}
+use Rattle.dp_tree.specs.Step.{Config, Event, evaluated}
+use Rattle.dp_tree.specs.Trace.{Run, run_of, begin, start_cells}
+use Rattle.dp_tree.specs.Iteration.{stands_at_head, start, decided_zero, stop_from, events_from, iteration, is_closing, has_ended, cells_in, cells_after, memory_from, memory_after, places}
+use Rattle.dp_semantics.specs.Verdict.{whole_run}
+use Rattle.dp_semantics.proofs.Each.{Each, each_split}
+use Rattle.dp_semantics.proofs.Memory.{Cleared, clear-at, clear-length}
+use Rattle.dp_semantics.proofs.Setting.{size, Accepted}
+use Rattle.dp_semantics.proofs.Lockstep.{Goes}
+use Rattle.dp_semantics.proofs.Whole.{turn_of}
+use Rattle.dp_semantics.proofs.Runs.{PlaceAt, place_at, From, run_from, run_first}
+use Rattle.dp_semantics.proofs.Placed.{before_it, Spotted, all_spotted, at_start}
+use Rattle.dp_semantics.proofs.Turns.{clear, start_at, run_at, next_start, Outcome, onward, closed, broken, Turned, standing_is, starts_first, turned}
+
+slice_get-seam : {X : Type 0} (a b : List X) (k j : ℕ) → k ≡ length a + j → slice_get (a ++ b) k ≡ slice_get b j
+slice_get-seam [] b k j e = let same : k ≡ j = omega (arith, e) in ap (slice_get b) same
+slice_get-seam (x ∷ a) b k j e = let same : k ≡ suc (length a + j) = omega (arith, e) in ap (slice_get (x ∷ a ++ b)) same ∙ slice_get-seam a b (length a + j) j refl
+
+slice_mid : {X : Type 0} (a b c : List X) (k e : ℕ) → k ≡ length a → e ≡ k + length b → slice_range (a ++ (b ++ c)) k e ≡ b
+slice_mid a b c k e from up =
+    let count : e - k ≡ length b = omega (arith, up) in
+    ap (λ (xs : List _). take (e - k) xs) (ap (λ (n : ℕ). drop n (a ++ (b ++ c))) from ∙ drop-append_seam a (b ++ c)) ∙ ap (λ (n : ℕ). take n (b ++ c)) count ∙ take-append_seam b c
+
+module _ {p : Program} {plan : Plan} (a : Accepted p plan) (input : List ℤ) (fuel : ℕ) where
+  abbrev pub run : Run
+  run = whole_run p input fuel
+
+  abbrev r : ℕ
+  r = plan.region
+
+  abbrev at : ℕ → List ℤ → Run
+  at left cells = run_at a input left cells
+
+  -- the i-th start, after k steps, and the run from it
+  record AtStart (i k : ℕ) : Type 0 where
+    pub cells : List ℤ
+    pub size_is : length cells ≡ size p
+    pub left : ℕ
+    pub steps_are : fuel ≡ k + left
+    pub before : List Event
+    pub trace_is : run.trace ≡ before ++ (at left cells).trace
+    pub before_is : length before ≡ k
+    pub front : List Config
+    pub configs_are : run.configs ≡ front ++ (at left cells).configs
+    pub front_is : length front ≡ k
+    pub next : start run r (suc i) ≡ next_start a input k left cells
+
+  spotted : Each (Spotted a input) run.configs
+  spotted = all_spotted a input fuel p.main (start_cells p.vars) (before_it a.front a.main a.front_free) refl
+
+  found_at : (i k : ℕ) → start run r i ≡ Some k → AtStart i k
+  found_at i k e = record {
+    cells = s.0;
+    size_is = s.2;
+    left = f.left;
+    steps_are = omega (arith, f.steps_are, q.place_is);
+    before = f.before;
+    trace_is = f.trace_is ∙ ap (λ (c : Config). f.before ++ (run_of p input f.left c).trace) s.1;
+    before_is = omega (arith, f.length_is, q.place_is);
+    front = q.front;
+    configs_are = q.is ∙ ap (λ (cs : List Config). q.front ++ cs) configs;
+    front_is = omega (arith, q.place_is);
+    next = q.next ∙ sym (ap (λ (cs : List Config). slice_get (places (stands_at_head r) k cs) 1) (sym configs ∙ ap (λ (c : Config). c ∷ q.behind) s.1) ∙ starts_first a input k s.0 q.behind);
+  }
+    where
+      q : PlaceAt Config (stands_at_head r) run.configs 0 i k
+      q = place_at (stands_at_head r) run.configs 0 i k e
+
+      f : From p input fuel (begin p) q.front q.found q.behind
+      f = run_from p input q.front fuel (begin p) q.found q.behind q.is
+
+      s : (cells : List ℤ) × (q.found ≡ start_at a input cells) × (length cells ≡ size p)
+      s = at_start a input q.found (each_split (Spotted a input) q.front (q.found ∷ q.behind) (subst (λ (cs : List Config). Each (Spotted a input) cs) q.is spotted)).1.0 q.passes
+
+      configs : q.found ∷ q.behind ≡ (at f.left s.0).configs
+      configs = f.configs_are ∙ ap (λ (c : Config). (run_of p input f.left c).configs) s.1
+
+  -- what comes of iteration i, which starts after k steps with so many left: the next one starts, it closes, or the run ends in it
+  pub data Ending (i k left : ℕ) (after : List Stmt) (then_cells : List ℤ) : Type 0 where
+    goes_on : after ≡ [] → start run plan.region (suc i) ≡ Some (k + length (iteration run plan.region i)) → memory_after run plan.region (suc i) ≡ clear a input then_cells → length (iteration run plan.region i) ≤ left → Ending i k left after then_cells
+    closes : after ≡ [] → start run plan.region (suc i) ≡ None → is_closing run plan.region i ≡ true → length (iteration run plan.region i) ≤ left → Ending i k left after then_cells
+    breaks : (x : Stmt) (rest : List Stmt) → after ≡ x ∷ rest → has_ended run plan.region i ≡ false →
+        (left ≡ length (iteration run plan.region i)) ⊎ ((kind : FaultKind) × (evaluated p input then_cells (out-Stmt x) ≡ Err kind)) → Ending i k left after then_cells
+
+  -- iteration i as the source's steps from its memory
+  pub record IterationIs (i k : ℕ) : Type 0 where
+    pub after : List Stmt
+    pub then_cells : List ℤ
+    pub path : Goes p input (turn_of a) (memory_after run plan.region i) (iteration run plan.region i) after then_cells
+    pub size_is : length (memory_after run plan.region i) ≡ size p
+    pub cleared : Cleared p plan (memory_after run plan.region i)
+    pub left : ℕ
+    pub steps_are : fuel ≡ k + left
+    pub ending : Ending i k left after then_cells
+
+  memory_at : (i k : ℕ) → start run r i ≡ Some k → memory_after run r i ≡ cells_after run k
+  memory_at i k e = ap (λ (o : Option ℕ). memory_from run o (start run r (i - 1))) e
+
+  iteration_from : (i k : ℕ) (o : Option ℕ) (before events more : List Event) → start run r i ≡ Some k → start run r (suc i) ≡ o → run.trace ≡ before ++ (events ++ more) → length before ≡ k → stop_from run k o ≡ k + length events → iteration run r i ≡ events
+  iteration_from i k o before events more e f t long stop =
+      ap (λ (s : Option ℕ). events_from run s (start run r (suc i))) e ∙ ap (events_from run (Some k)) f
+      ∙ ap (λ (es : List Event). slice_range es k (stop_from run k o)) t ∙ slice_mid before events more k (stop_from run k o) (sym long) stop
+
+  module _ (i k : ℕ) (e : start run r i ≡ Some k) (s : AtStart i k) (t : Turned a input s.left s.cells) where
+    trace_at : run.trace ≡ s.before ++ (t.events ++ t.more)
+    trace_at = s.trace_is ∙ ap (λ (es : List Event). s.before ++ es) t.trace_is
+
+    memory_here : memory_after run r i ≡ clear a input s.cells
+    memory_here = memory_at i k e ∙ ap cells_in (ap (λ (cs : List Config). slice_get cs k) s.configs_are ∙ slice_get-seam s.front (at s.left s.cells).configs k 0 (omega (arith, s.front_is)) ∙ run_first p input s.left (start_at a input s.cells))
+        ∙ ap (λ (c : Config). c.cells) (standing_is a input s.cells)
+
+    first_event : slice_get run.trace k ≡ slice_get (t.events ++ t.more) 0
+    first_event = ap (λ (es : List Event). slice_get es k) trace_at ∙ slice_get-seam s.before (t.events ++ t.more) k 0 (omega (arith, s.before_is))
+
+    is_as : iteration run r i ≡ t.events → Ending i k s.left t.after t.then_cells → IterationIs i k
+    is_as same ending = record {
+      after = t.after;
+      then_cells = t.then_cells;
+      path = subst (λ (es : List Event). Goes p input (turn_of a) (memory_after run r i) es t.after t.then_cells) (sym same)
+          (subst (λ (cells : List ℤ). Goes p input (turn_of a) cells t.events t.after t.then_cells) (sym memory_here) t.path);
+      size_is = ap length memory_here ∙ clear-length r p.vars s.cells ∙ s.size_is;
+      cleared = λ c local. ap (λ (cells : List ℤ). get_or cells c (pos 0)) memory_here ∙ clear-at r c p.vars s.cells (inl local);
+      left = s.left;
+      steps_are = s.steps_are;
+      ending = ending;
+    }
+
+    stop_by : (b : Bool) → decided_zero (slice_get run.trace k) ≡ b → stop_from run k None ≡ (if b then suc k else length run.trace)
+    stop_by b q = ap (λ (u : Bool). if u then suc k else length run.trace) q
+
+    by_outcome : Outcome a input s.left s.cells t.events t.after t.then_cells t.more → IterationIs i k
+    by_outcome (onward end next config within) =
+        let there = s.next ∙ next k in
+        let same = iteration_from i k (Some (k + length t.events)) s.before t.events t.more e there trace_at s.before_is refl in
+        is_as same (goes_on end (there ∙ ap (λ (es : List Event). Some (k + length es)) (sym same))
+        (memory_at (suc i) (k + length t.events) there
+        ∙ ap cells_in (ap (λ (cs : List Config). slice_get cs (k + length t.events)) s.configs_are ∙ slice_get-seam s.front (at s.left s.cells).configs (k + length t.events) (length t.events) (omega (arith, s.front_is)) ∙ config)
+        ∙ ap (λ (c : Config). c.cells) (standing_is a input t.then_cells))
+        (omega (arith, within, ap length same)))
+    by_outcome (closed end next zero single within) =
+        let here = ap decided_zero (first_event ∙ one t.events single) ∙ zero in
+        let stop = stop_by true here in
+        let same = iteration_from i k None s.before t.events t.more e (s.next ∙ next k) trace_at s.before_is (omega (arith, stop, single)) in
+        is_as same (closes end (s.next ∙ next k) (ap (λ (es : List Event). decided_zero (slice_get es 0)) same ∙ zero) (omega (arith, within, ap length same)))
+      where
+        one : (es : List Event) → length es ≡ 1 → slice_get (es ++ t.more) 0 ≡ slice_get es 0
+        one [] l = absurd (omega (arith, l))
+        one (x ∷ es) l = refl
+    by_outcome (broken x rest after next none yet why) =
+        let rest_is : t.events ++ t.more ≡ t.events = ap (λ (es : List Event). t.events ++ es) none ∙ append-nil t.events in
+        let here = ap decided_zero (first_event ∙ ap (λ (es : List Event). slice_get es 0) rest_is) ∙ yet in
+        let stop = stop_by false here in
+        let all : length run.trace ≡ length (s.before ++ t.events) = ap length (trace_at ∙ ap (λ (es : List Event). s.before ++ es) rest_is) in
+        let gone = s.next ∙ next k in
+        let same = iteration_from i k None s.before t.events t.more e gone trace_at s.before_is (omega (arith, stop, all, length-append s.before t.events, s.before_is)) in
+        is_as same (breaks x rest after (ap (λ (o : Option ℕ). is_some o || is_closing run r i) gone ∙ ap (λ (es : List Event). decided_zero (slice_get es 0)) same ∙ yet) (later same why))
+      where
+        later : {P : Type 0} → iteration run r i ≡ t.events → (s.left ≡ length t.events) ⊎ P → (s.left ≡ length (iteration run r i)) ⊎ P
+        later same (inl l) = inl (l ∙ ap length (sym same))
+        later same (inr l) = inr l
+
+  -- Each iteration that starts is a piece of the source's steps.
+  pub iteration_is : (i k : ℕ) → start run plan.region i ≡ Some k → IterationIs i k
+  iteration_is i k e = let s = found_at i k e in let t = turned a input s.left s.cells in by_outcome i k e s t t.outcome

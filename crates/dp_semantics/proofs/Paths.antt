@@ -1,0 +1,117 @@
+-- The source's steps through a text: they are determined, an iteration closes by its first event, and its stores lead to its last memory.
+use Rattle.std.proofs.Common.{◌≡◌, refl, sym, ap, ◌∙◌, subst, ℕ, Bool, true, false, ◌&&◌, ◌||◌, if◌then◌else◌, List, [], ◌∷◌, ◌++◌, ℤ, map, Some, slice_get, Ok, eq-eqb, ne_eqb}
+use Rattle.std.proofs.lemmas.List.{append-nil}
+use Rattle.dp_base.specs.Arithmetic.{is_zero}
+use Rattle.dp_tree.specs.declared.Stmt.{Stmt, out-Stmt}
+use Rattle.dp_tree.specs.declared.Stmt.TheVariants as tree
+use Rattle.dp_tree.specs.declared.Stmt.TheVariants.{outs-If}
+use Rattle.dp_tree.specs.declared.Stmt.TheOpen.{Stmt-F, If}
+use Rattle.dp_tree.specs.declared.Program.{Program}
+use Rattle.dp_plan.specs.declared.Plan.{Plan}
+use Rattle.dp_tree.specs.Eval.{WithLoads, eval}
+use Rattle.dp_tree.specs.Step.{Event, Effect, Decided, choose, followed, site_of, value_of, stored, evaluated}
+use Rattle.dp_plan.specs.Access.{Access, accesses, first_site}
+use Rattle.dp_tree.specs.Iteration.{decided_zero}
+use Rattle.dp_semantics.specs.StageRun.{is_zero_at}
+use Rattle.dp_semantics.specs.Nesting.{well_nested}
+use Rattle.dp_semantics.specs.Verdict.{effect_in, applied}
+use Rattle.dp_semantics.proofs.Each.{Each, each_split, and_true}
+use Rattle.dp_semantics.proofs.Heads.{accesses_all, all_well, accesses_out, well_at, well_out}
+use Rattle.dp_semantics.proofs.Followed.{followed_has, all_joins}
+use Rattle.dp_semantics.proofs.Setting.{Accepted}
+use Rattle.dp_semantics.proofs.Source.{event_of, well_parts, each_joins, each_parts, head_fact}
+use Rattle.dp_semantics.proofs.Lockstep.{Goes, stays, goes, closing_after}
+use Rattle.dp_semantics.proofs.Whole.{turn_of}
+use Rattle.dp_semantics.proofs.Turns.{decided_is}
+
+-- the first of the steps from a statement to the end
+pub record First (p : Program) (input : List ℤ) (x : Stmt) (rest : List Stmt) (cells : List ℤ) (events : List Event) (after : List Stmt) (then_cells : List ℤ) : Type 0 where
+  pub v : WithLoads Effect
+  pub more : List Event
+  pub gave : evaluated p input cells (out-Stmt x) ≡ Ok v
+  pub events_are : events ≡ event_of (out-Stmt x) v ∷ more
+  pub path : Goes p input (followed x rest (out-Stmt x) (value_of v.value)) (stored v.value cells) more after then_cells
+
+-- Steps to the end go on from where any other steps from the same start come to.
+pub record GoesOn (p : Program) (input : List ℤ) (events others : List Event) (after : List Stmt) (cells final_cells : List ℤ) : Type 0 where
+  pub more : List Event
+  pub path : Goes p input after cells more [] final_cells
+  pub is : events ≡ others ++ more
+
+module _ {p : Program} {input : List ℤ} where
+  pub first_of : {to_do : List Stmt} {cells : List ℤ} {events : List Event} {after : List Stmt} {then_cells : List ℤ} → Goes p input to_do cells events after then_cells → (x : Stmt) (rest : List Stmt) → to_do ≡ x ∷ rest → after ≡ [] →
+      First p input x rest cells events after then_cells
+  first_of stays x rest is end = absurd (cc)
+  first_of (goes {x = y} {rest = tail} {cells = cells} {v = v} {events = more} {after = after} {then_cells = then_cells} gave path) x rest is end =
+      let here : y ≡ x = cc in
+      let behind : tail ≡ rest = cc in
+      subst (λ (u : Stmt). First p input u rest cells (event_of (out-Stmt y) v ∷ more) after then_cells) here
+      (subst (λ (ys : List Stmt). First p input y ys cells (event_of (out-Stmt y) v ∷ more) after then_cells) behind (record { v = v; more = more; gave = gave; events_are = refl; path = path }))
+
+  pub goes_on : {to_do : List Stmt} {cells : List ℤ} {others : List Event} {after : List Stmt} {then_cells : List ℤ} → Goes p input to_do cells others after then_cells → (events : List Event) (final_cells : List ℤ) → Goes p input to_do cells events [] final_cells →
+      GoesOn p input events others after then_cells final_cells
+  goes_on stays events final_cells whole = record { more = events; path = whole; is = refl }
+  goes_on (goes {x = x} {rest = rest} {cells = cells} {v = v} gave path) events final_cells whole =
+      let q = first_of whole x rest refl refl in
+      let same : q.v ≡ v = cc (gave, q.gave) in
+      let r = goes_on path q.more final_cells (subst (λ (w : WithLoads Effect). Goes p input (followed x rest (out-Stmt x) (value_of w.value)) (stored w.value cells) q.more [] final_cells) same q.path) in
+      record { more = r.more; path = r.path; is = q.events_are ∙ ap (λ (w : WithLoads Effect). event_of (out-Stmt x) w ∷ q.more) same ∙ ap (λ (es : List Event). event_of (out-Stmt x) v ∷ es) r.is }
+
+  -- at the end nothing more comes
+  pub no_more : {to_do : List Stmt} {cells : List ℤ} {events : List Event} {after : List Stmt} {then_cells : List ℤ} → Goes p input to_do cells events after then_cells → to_do ≡ [] → events ≡ []
+  no_more stays e = refl
+  no_more (goes gave path) e = absurd (cc)
+
+  -- the effects in order lead from the first memory to the last
+  pub goes_applied : {to_do : List Stmt} {cells : List ℤ} {events : List Event} {after : List Stmt} {then_cells : List ℤ} → Goes p input to_do cells events after then_cells → then_cells ≡ applied (map effect_in events) cells
+  goes_applied stays = refl
+  goes_applied (goes gave path) = goes_applied path
+
+module _ {p : Program} {plan : Plan} (a : Accepted p plan) (input : List ℤ) where
+  abbrev Other : Access → Type 0
+  Other u = u.site ≡ first_site p plan → ⊥
+
+  nothing : (b : Bool) → (b || false) ≡ b
+  nothing true = refl
+  nothing false = refl
+
+  -- statements without the region's condition don't close
+  closing_kept : {to_do : List Stmt} {cells : List ℤ} {events : List Event} {after : List Stmt} {then_cells : List ℤ} → Goes p input to_do cells events after then_cells → all_well p plan to_do ≡ true → Each Other (accesses_all to_do) →
+      (closing : Bool) → closing_after p plan closing events ≡ closing
+  closing_kept stays w other closing = refl
+  closing_kept (goes {x = x} {rest = rest} {v = v} {events = more} e path) w other closing =
+      let parts = and_true (well_nested p plan x) (all_well p plan rest) w in
+      let both = each_split Other (accesses x) (accesses_all rest) other in
+      let head : well_at p plan (out-Stmt x) ≡ true = sym (well_out p plan x) ∙ parts.0 in
+      let here = subst (λ (xs : List Access). Each Other xs) (accesses_out x) both.0 in
+      ap (λ (b : Bool). closing_after p plan (closing || (b && is_zero (value_of v.value))) more) (ne_eqb (site_of (out-Stmt x)).0 (first_site p plan) (head_fact Other p plan (out-Stmt x) head here))
+      ∙ closing_kept path (followed_has (λ xs. all_well p plan xs ≡ true) (all_joins (well_nested p plan)) x rest (out-Stmt x) (value_of v.value) w parts.1 (well_parts p plan (out-Stmt x) head))
+      (followed_has (λ xs. Each Other (accesses_all xs)) (each_joins Other) x rest (out-Stmt x) (value_of v.value) other both.1 (each_parts Other (out-Stmt x) here)) (closing || false)
+      ∙ nothing closing
+
+  zero_first : (v : WithLoads Effect) (z : ℤ) (site : ℕ) → v.value ≡ Decided z → is_zero (value_of v.value) ≡ decided_zero (Some (record { site = site; loads = v.loads; effect = v.value }))
+  zero_first v z site d = ap (λ (f : Effect). is_zero (value_of f)) d ∙ sym (ap (λ (f : Effect). decided_zero (Some (record { site = site; loads = v.loads; effect = f }))) d)
+
+  -- An iteration closes where its first event is a condition of 0.
+  pub closing_first : {to_do : List Stmt} {cells : List ℤ} {events : List Event} {after : List Stmt} {then_cells : List ℤ} → Goes p input to_do cells events after then_cells → to_do ≡ turn_of a →
+      closing_after p plan false events ≡ decided_zero (slice_get events 0)
+  closing_first stays is = refl
+  closing_first (goes {x = x} {rest = rest} {cells = cells} {v = v} {events = more} {after = after} {then_cells = then_cells} e path) is =
+      let here : x ≡ tree.If a.site a.cond a.body [] = cc in
+      let none : rest ≡ [] = cc in
+      let head : out-Stmt x ≡ If a.site a.cond a.body [] = ap out-Stmt here ∙ outs-If a.site a.cond a.body [] in
+      let d = decided_is (eval p input cells a.cond) v (ap (evaluated p input cells) (sym head) ∙ e) in
+      let next : followed x rest (out-Stmt x) (value_of v.value) ≡ choose (value_of v.value) a.body [] =
+      ap (λ (h : Stmt-F Stmt). followed x rest h (value_of v.value)) head ∙ ap (λ (ys : List Stmt). choose (value_of v.value) a.body [] ++ ys) none ∙ append-nil (choose (value_of v.value) a.body []) in
+      closing_kept (subst (λ (ys : List Stmt). Goes p input ys (stored v.value cells) more after then_cells) next path) (chosen_well (is_zero (value_of v.value))) (chosen_other (is_zero (value_of v.value)))
+      (false || is_zero_at (first_site p plan) (site_of (out-Stmt x)).0 (value_of v.value))
+      ∙ ap (λ (b : Bool). b && is_zero (value_of v.value)) (eq-eqb (site_of (out-Stmt x)).0 (first_site p plan) (ap (λ (h : Stmt-F Stmt). (site_of h).0) head ∙ sym a.first))
+      ∙ zero_first v d.0 (site_of (out-Stmt x)).0 d.1
+    where
+      chosen_well : (b : Bool) → all_well p plan (if b then [] else a.body) ≡ true
+      chosen_well true = refl
+      chosen_well false = a.well
+
+      chosen_other : (b : Bool) → Each Other (accesses_all (if b then [] else a.body))
+      chosen_other true = tt
+      chosen_other false = a.inner

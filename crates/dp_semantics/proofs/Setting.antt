@@ -1,0 +1,86 @@
+-- What the proof assumes of a program and a plan, and what it knows of the source's stores.
+use Rattle.std.proofs.Common.{◌≡◌, ℕ, suc, ◌<◌, Bool, true, false, List, [], ◌∷◌, ◌++◌, ℤ, length, Some}
+use Rattle.std.specs.List.{list_any}
+use Rattle.dp_base.specs.declared.SiteId.{SiteId}
+use Rattle.dp_tree.specs.declared.Expr.{Expr}
+use Rattle.dp_tree.specs.declared.Stmt.{Stmt, out-Stmt}
+use Rattle.dp_tree.specs.declared.Stmt.TheOpen.{Region}
+use Rattle.dp_tree.specs.declared.Program.{Program}
+use Rattle.dp_plan.specs.declared.Plan.{Plan}
+use Rattle.dp_tree.specs.Eval.{cell_count}
+use Rattle.dp_tree.specs.Step.{Stored}
+use Rattle.dp_tree.specs.Trace.{start_cells}
+use Rattle.dp_plan.specs.Access.{Access, stage_of, first_site, is_replicated, is_body_local, region_statement, region_accesses}
+use Rattle.dp_semantics.specs.Seen.{Past, is_local_at}
+use Rattle.dp_semantics.specs.Packets.{Epoch}
+use Rattle.dp_semantics.specs.Judge.{last}
+use Rattle.dp_semantics.proofs.Each.{Each, each_map, or_false}
+use Rattle.dp_semantics.proofs.Evaluation.{InVar, Roomy}
+use Rattle.dp_semantics.proofs.Heads.{accesses_all, all_well, all_free}
+
+-- what no access of the region passes, this one doesn't
+abbrev pub Listed : List Access → Access → Type 0
+Listed all a = (test : Access → Bool) → list_any test all ≡ false → test a ≡ false
+
+pub listed_all : (all : List Access) → Each (Listed all) all
+listed_all [] = tt
+listed_all (a ∷ rest) =
+    (λ test e. (or_false (test a) (list_any test rest) e).0, each_map (Listed rest) (Listed (a ∷ rest)) (λ b h test e. h test (or_false (test a) (list_any test rest) e).1) rest (listed_all rest))
+
+-- the number of cells
+abbrev pub size : Program → ℕ
+size p = length (start_cells p.vars)
+
+-- the cells of the variables: within the memory, apart, and local where their variable is
+pub record Laid (p : Program) (plan : Plan) : Type 0 where
+  pub within : (x c : ℕ) → InVar p x c → c < size p
+  pub apart : (x y c : ℕ) → InVar p x c → InVar p y c → x ≡ y
+  pub local : (x c : ℕ) → InVar p x c → is_local_at p plan c ≡ is_body_local p plan x
+
+-- what is asked of each site of the region
+pub record Sound (p : Program) (plan : Plan) (a : Access) : Type 0 where
+  pub listed : Listed (region_accesses p plan) a
+  pub reads : Each (λ x. 0 < cell_count p (record { 0 = x })) a.loads
+  pub room : Roomy p a.stores
+  pub staged : 0 < stage_of p plan a.site
+  pub early : stage_of p plan a.site < last plan
+
+-- an inlined program with a plan of one of its regions
+pub record Accepted (p : Program) (plan : Plan) : Type 0 where
+  pub statement : Stmt
+  pub site : SiteId
+  pub cond : Expr
+  pub body : List Stmt
+  pub front : List Stmt
+  pub tail : List Stmt
+  pub laid : Laid p plan
+  pub region : region_statement p plan ≡ statement ∷ []
+  pub is : out-Stmt statement ≡ Region plan.region site cond body
+  pub first : first_site p plan ≡ site.0
+  pub staged : stage_of p plan (first_site p plan) ≡ 1
+  pub well : all_well p plan body ≡ true
+  pub sound : Each (Sound p plan) (region_accesses p plan)
+  pub inner : Each (λ a. a.site ≡ first_site p plan → ⊥) (accesses_all body)
+  pub main : p.main ≡ front ++ statement ∷ tail
+  pub front_free : all_free plan.region front ≡ true
+  pub tail_free : all_free plan.region tail ≡ true
+  pub sequential : is_replicated plan 1 ≡ false
+  pub apart : (s : ℕ) → is_replicated plan (suc s) ≡ true → is_replicated plan s ≡ false
+
+-- an epoch of such a program and plan
+pub record Fit (k : Epoch) : Type 0 where
+  pub accepted : Accepted k.program k.plan
+
+-- a store into cell c at a site of the region: it is one of the region's accesses, to the variable that has the cell
+pub record StoredBy (k : Epoch) (site c : ℕ) : Type 0 where
+  pub access : Access
+  pub variable : ℕ
+  pub at : access.site ≡ site
+  pub stores : access.stores ≡ Some variable
+  pub inside : InVar k.program variable c
+  pub listed : Listed (region_accesses k.program k.plan) access
+  pub early : stage_of k.program k.plan site < last k.plan
+
+-- what an event stored is known
+abbrev pub Known : Epoch → Past → Type 0
+Known k past = (c : ℕ) (value : ℤ) → past.event.effect ≡ Stored c value → StoredBy k past.event.site c
