@@ -1,5 +1,5 @@
 -- Plans of the test programs, as they are written and as they are kept.
-use Rattle.std.proofs.Common.{ℕ, Bool, false, true, List, [], ◌∷◌}
+use Rattle.std.proofs.Common.{ℕ, false, List, [], ◌∷◌}
 use Rattle.dp_tree.specs.declared.Assume.{Assume}
 use Rattle.dp_plan.specs.declared.StageKind.{StageKind}
 use Rattle.dp_plan.specs.declared.StageKind.TheVariants.{Seq, Par}

@@ -1,12 +1,11 @@
 -- The nine rules of a valid plan, over the written lists. Each rule names the site at which it fails, and nothing where it holds.
-use Rattle.std.specs.Prelude.{ℕ, suc, if◌then◌else◌, ◌==◌, Bool, true, false, not, ◌&&◌, ◌||◌, List, [], ◌∷◌, map, filter, Option, Some, None, is_none, nat_lt, count_by}
+use Rattle.std.specs.Prelude.{ℕ, if◌then◌else◌, ◌==◌, Bool, true, false, not, ◌&&◌, ◌||◌, List, [], ◌∷◌, map, filter, Option, Some, None, nat_lt, count_by}
 use Rattle.std.specs.List.{list_any}
 use Rattle.dp_tree.specs.declared.Assume.{Assume}
 use Rattle.dp_tree.specs.declared.Program.{Program}
 use Rattle.dp_plan.specs.declared.StageKind.{StageKind}
 use Rattle.dp_plan.specs.declared.StageKind.TheVariants.{Seq, Par}
-use Rattle.dp_plan.specs.declared.Plan.{Plan}
-use Rattle.dp_plan.specs.Written.{WrittenStage, WrittenPlan, region_sites, listed, has, written_stage, written_of}
+use Rattle.dp_plan.specs.Written.{WrittenStage, WrittenPlan, region_sites, listed, has, written_stage}
 use Rattle.dp_plan.specs.Enclosing.{Enclosing, region_ifs, region_inner_whiles}
 
 abbrev pub lesser : ℕ → Option ℕ → Option ℕ

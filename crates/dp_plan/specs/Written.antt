@@ -1,5 +1,5 @@
 -- A plan as it is written: the lists of its lines, which need not fit the program; and the plan that it stands for.
-use Rattle.std.specs.Prelude.{ℕ, suc, if◌then◌else◌, ◌==◌, ◌+◌, Bool, false, List, [], ◌∷◌, length, map, filter, filter_map, Option, Some, None}
+use Rattle.std.specs.Prelude.{ℕ, suc, if◌then◌else◌, ◌==◌, Bool, List, [], ◌∷◌, map, filter, filter_map, Option, Some, None}
 use Rattle.std.specs.List.{list_any, flat_map}
 use Rattle.dp_tree.specs.declared.Assume.{Assume}
 use Rattle.dp_tree.specs.declared.Program.{Program}

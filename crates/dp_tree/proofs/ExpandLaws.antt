@@ -1,19 +1,16 @@
 -- Expansion leaves no call, and keeps a text without calls but for its numbers.
-use Rattle.std.proofs.Common.{◌≡◌, refl, sym, ap, ap₂, ◌∙◌, ℕ, zero, suc, Bool, true, false, ◌||◌, List, [], ◌∷◌, ◌++◌, map, length, Option, Some, None, slice_get}
+use Rattle.std.proofs.Common.{◌≡◌, refl, ap, ap₂, ◌∙◌, ℕ, Bool, true, false, ◌||◌, List, [], ◌∷◌, ◌++◌, map, length}
 use Rattle.std.specs.List.{list_any}
 use Rattle.dp_base.specs.declared.SiteId.{SiteId}
-use Rattle.dp_base.specs.declared.VarId.{VarId}
 use Rattle.dp_tree.specs.declared.Expr.{Expr, end_of-Expr, more_of-Expr}
 use Rattle.dp_tree.specs.declared.Expr.TheVariants as tree
 use Rattle.dp_tree.specs.declared.Stmt.{Stmt, Row_of-Stmt, end_of-Stmt, more_of-Stmt}
 use Rattle.dp_tree.specs.declared.Stmt.TheVariants as stmt
 use Rattle.dp_tree.specs.declared.Program.{Program}
-use Rattle.dp_tree.specs.Step.{line_of}
-use Rattle.dp_tree.specs.Frame.{body_in, params_in}
-use Rattle.dp_tree.specs.Renaming.{Renamed, target_of, renamed}
+use Rattle.dp_tree.specs.Renaming.{Renamed, renamed}
 use Rattle.dp_tree.specs.Tables.{Tables, with_local, with_site, with_source_site, next_site, with_region}
-use Rattle.dp_tree.specs.Expand.{Piece, Calls, declared_in, bindings, expand_one, expand_rows, expand_list, calls_within, expand, is_known, declared_by}
-use Rattle.dp_tree.specs.ExpandLaws.{has_call, has_call_in, unnumbered, erased, erased_in, LeavesNoCall, KeepsText}
+use Rattle.dp_tree.specs.Expand.{Calls, expand_one, expand_rows, expand_list, calls_within}
+use Rattle.dp_tree.specs.ExpandLaws.{has_call, has_call_in, unnumbered, erased, erased_in, KeepsText}
 use Rattle.dp_tree.proofs.EvalLemmas.{opened}
 
 -- what opens where a statement is made

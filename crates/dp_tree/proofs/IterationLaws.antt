@@ -1,12 +1,11 @@
 -- Iterations one after the other.
-use Rattle.std.proofs.Common.{◌≡◌, refl, sym, ap, ap₂, ◌∙◌, subst, ℕ, zero, suc, ◌+◌, ◌-◌, ◌<◌, ◌≤◌, Bool, true, false, if◌then◌else◌, List, [], ◌∷◌, ◌++◌, ℤ, length, take, drop, take-add, Option, Some, None, slice_get, slice_range, arith}
+use Rattle.std.proofs.Common.{◌≡◌, refl, sym, ap, ap₂, ◌∙◌, ℕ, zero, suc, ◌+◌, ◌-◌, ◌<◌, ◌≤◌, Bool, true, false, if◌then◌else◌, List, [], ◌∷◌, ◌++◌, ℤ, length, take, drop, take-add, Option, Some, None, slice_get, slice_range, arith}
 use Rattle.std.proofs.lemmas.List.{drop-drop}
 use Rattle.dp_tree.specs.declared.Program.{Program}
-use Rattle.dp_tree.specs.Step.{Config, Event}
+use Rattle.dp_tree.specs.Step.{Event}
 use Rattle.dp_tree.specs.Trace.{Run, run_of}
 use Rattle.dp_tree.specs.Iteration.{stands_at_head, places, starts, start, decided_zero, stop_from, events_from, iteration}
-use Rattle.dp_tree.specs.IterationLaws.{events_of_first, AreAdjacent, IterationsAdjoin}
-use Rattle.dp_tree.specs.RunLaws.{GoesByStep}
+use Rattle.dp_tree.specs.IterationLaws.{events_of_first, IterationsAdjoin}
 use Rattle.dp_tree.proofs.RunLaws.{runs_by_step}
 
 -- a part of a list and the part behind it

@@ -4,6 +4,10 @@ pub mod RunLaws
 pub mod IterationLaws
 pub mod ExpandLaws
 pub mod NoCallLaws
+pub mod Heads
+pub mod Places
+pub mod InsideRegion
+pub mod RegionLaws
 pub mod Build
 pub mod Programs
 pub mod rows

@@ -1,5 +1,5 @@
 -- No call is left in an expanded program.
-use Rattle.std.proofs.Common.{◌≡◌, refl, ap, ap₂, ◌∙◌, ℕ, zero, suc, Bool, true, false, ◌||◌, List, [], ◌∷◌, ◌++◌, length, slice_get}
+use Rattle.std.proofs.Common.{◌≡◌, refl, ap, ◌∙◌, ℕ, zero, suc, Bool, false, ◌||◌, List, [], ◌∷◌, ◌++◌, length, slice_get}
 use Rattle.std.specs.List.{list_any}
 use Rattle.dp_base.specs.declared.SiteId.{SiteId}
 use Rattle.dp_base.specs.declared.VarId.{VarId}
@@ -10,7 +10,7 @@ use Rattle.dp_tree.specs.declared.Program.{Program}
 use Rattle.dp_tree.specs.Frame.{body_in, params_in}
 use Rattle.dp_tree.specs.Renaming.{Renamed, renamed}
 use Rattle.dp_tree.specs.Tables.{Tables, first_tables, with_source_site, next_site}
-use Rattle.dp_tree.specs.Expand.{Piece, Calls, bindings, expand_one, expand_rows, expand_list, calls_within}
+use Rattle.dp_tree.specs.Expand.{Calls, bindings, expand_one, expand_rows, expand_list, calls_within}
 use Rattle.dp_tree.specs.ExpandLaws.{has_call, has_call_in, LeavesNoCall}
 use Rattle.dp_tree.proofs.ExpandLaws.{opened_statement, or_false, or_make}
 

@@ -1,5 +1,5 @@
 -- The test programs, each with its text. A variable's number is its place in the text's order, and so is a site's, from 1.
-use Rattle.std.proofs.Common.{ℕ, List, [], ◌∷◌, pos}
+use Rattle.std.proofs.Common.{[], ◌∷◌, pos}
 use Rattle.dp_base.specs.declared.BinOp.TheVariants as op
 use Rattle.dp_tree.specs.declared.VarScope.TheVariants.{Global, Outer, Body}
 use Rattle.dp_tree.specs.declared.SiteKind.TheVariants.{Assign, Print, If, While}

@@ -1,5 +1,5 @@
 -- What iterations amount to: they follow each other without a gap and without overlap.
-use Rattle.std.specs.Prelude.{◌≡◌, ℕ, zero, suc, ◌<◌, ◌≤◌, List, [], ◌++◌, ℤ, length, Option, Some, None, slice_range}
+use Rattle.std.specs.Prelude.{◌≡◌, ℕ, zero, suc, ◌<◌, ◌≤◌, List, [], ◌++◌, ℤ, length, Some, None, slice_range}
 use Rattle.dp_tree.specs.declared.Program.{Program}
 use Rattle.dp_tree.specs.Step.{Config, Event}
 use Rattle.dp_tree.specs.Trace.{Run, run_of}

@@ -5,6 +5,7 @@ pub mod Trace
 pub mod RunLaws
 pub mod Iteration
 pub mod IterationLaws
+pub mod RegionLaws
 pub mod Leg
 pub mod Frame
 pub mod FrameStep

@@ -1,10 +1,10 @@
 -- What runs amount to: their events are those of their steps, and less fuel gives a front of them.
-use Rattle.std.specs.Prelude.{◌≡◌, ◌⊎◌, ℕ, suc, ◌-◌, ◌<◌, ◌≤◌, List, [], ◌∷◌, ℤ, length, take, Bool, true, false, Option, Some, slice_get}
+use Rattle.std.specs.Prelude.{◌≡◌, ◌⊎◌, ℕ, suc, ◌-◌, ◌<◌, ◌≤◌, List, [], ◌∷◌, ℤ, length, take, Bool, true, false, Some, slice_get}
 use Rattle.dp_base.specs.declared.End.{End}
 use Rattle.dp_base.specs.declared.End.TheVariants.{Done, Fault, Fuel}
 use Rattle.dp_tree.specs.declared.Stmt.{Stmt}
 use Rattle.dp_tree.specs.declared.Program.{Program}
-use Rattle.dp_tree.specs.Step.{Config, Event, Step, Finished, Faulted, Stepped, step}
+use Rattle.dp_tree.specs.Step.{Config, Event, Finished, Faulted, Stepped, step}
 use Rattle.dp_tree.specs.Trace.{Run, run_of}
 
 -- a run with fuel for m steps against one with more

@@ -1,5 +1,6 @@
 ghost use Rattle.dp_tree.specs.ExpandLaws.{KeepsText, LeavesNoCall};
 ghost use Rattle.dp_tree.specs.IterationLaws.{IterationsAdjoin};
+ghost use Rattle.dp_tree.specs.RegionLaws.{RegionsAreIterations};
 ghost use Rattle.dp_tree.specs.RunLaws.{FuelExtends, RunsByStep};
 
 use crate::Program;
@@ -24,4 +25,10 @@ pub fn iterations_adjoin(p: &Program, input: &[i64])
 pub fn expansion_leaves_no_call(p: &Program)
     ensures no_call { LeavesNoCall p.now }
     ensures same_text { KeepsText p.now }
+{}
+
+/// The events at a region's sites are those of its iterations, one iteration after the other, in a program in which
+/// the region stands once and its sites nowhere else.
+pub fn a_region_is_its_iterations(p: &Program, input: &[i64])
+    ensures made_up { RegionsAreIterations p.now input.now }
 {}

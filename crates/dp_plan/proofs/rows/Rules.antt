@@ -1,5 +1,5 @@
 -- The nine rules on plans of the test programs: valid ones with the plans that they stand for, and each rule broken.
-use Rattle.std.proofs.Common.{◌≡◌, refl, ℕ, ◌+◌, true, false, List, [], ◌∷◌, pos, Option, Some, None}
+use Rattle.std.proofs.Common.{◌≡◌, refl, ℕ, ◌+◌, true, false, [], ◌∷◌, pos, Option, Some, None}
 use Rattle.dp_base.specs.declared.BinOp.TheVariants as op
 use Rattle.dp_tree.specs.declared.VarScope.TheVariants.{Global}
 use Rattle.dp_tree.specs.declared.Expr.{Expr}
@@ -11,7 +11,7 @@ use Rattle.dp_plan.specs.Written.{WrittenPlan, plan_of, written_of}
 use Rattle.dp_plan.specs.Valid.{BrokenRule, first_broken, first_fault}
 use Rattle.dp_tree.proofs.Build.{num, var, bin, set, when, loop, region, scalar, program, assume, tree_opened}
 use Rattle.dp_tree.proofs.Programs.{sum_loop, zero_divisor, stale_read, same_value_store, skip_negative, histogram, two_stores, stale_step, stale_divisor, word_table}
-use Rattle.dp_plan.proofs.Plans.{seq, par, written, sum_loop_one_stage, zero_divisor_written, zero_divisor_plan, stale_read_written, stale_read_plan, skip_negative_written, skip_negative_plan, histogram_written, histogram_plan, two_stores_written, two_stores_plan, stale_step_written, stale_step_plan, stale_divisor_written, stale_divisor_plan, word_table_written, word_table_plan}
+use Rattle.dp_plan.proofs.Plans.{seq, par, written, zero_divisor_written, zero_divisor_plan, stale_read_written, stale_read_plan, skip_negative_written, skip_negative_plan, histogram_written, histogram_plan, two_stores_written, two_stores_plan, stale_step_written, stale_step_plan, stale_divisor_written, stale_divisor_plan, word_table_written, word_table_plan}
 
 -- the written plan is valid, stands for the plan, and is how that is written
 record Stands (p : Program) (w : WrittenPlan) (plan : Plan) : Type 0 where

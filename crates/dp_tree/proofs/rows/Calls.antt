@@ -1,15 +1,12 @@
 -- Programs with calls: with frames of their own, and expanded.
-use Rattle.std.proofs.Common.{◌≡◌, refl, ℕ, zero, suc, List, [], ◌∷◌, ◌++◌, ℤ, pos, length, map}
+use Rattle.std.proofs.Common.{◌≡◌, refl, ℕ, zero, suc, List, [], ◌∷◌, ◌++◌, ℤ, pos, length}
 use Rattle.dp_base.specs.declared.End.TheVariants.{Done, Fault, Fuel}
 use Rattle.dp_base.specs.declared.FaultKind.TheVariants.{Divide}
 use Rattle.dp_base.specs.declared.BinOp.TheVariants as op
-use Rattle.dp_tree.specs.declared.VarInfo.{VarInfo}
 use Rattle.dp_tree.specs.declared.VarScope.TheVariants.{Global, Outer, Body}
-use Rattle.dp_tree.specs.declared.SiteInfo.{SiteInfo}
-use Rattle.dp_tree.specs.declared.SiteKind.TheVariants.{Assign, Print, If, While}
+use Rattle.dp_tree.specs.declared.SiteKind.TheVariants.{Assign, Print, While}
 use Rattle.dp_tree.specs.declared.Function.{Function}
 use Rattle.dp_tree.specs.declared.Program.{Program}
-use Rattle.dp_tree.specs.Step.{Event}
 use Rattle.dp_tree.specs.Trace.{Run, run_of, begin, prints}
 use Rattle.dp_tree.specs.Expand.{expand}
 use Rattle.dp_tree.specs.Frames.{outcome}

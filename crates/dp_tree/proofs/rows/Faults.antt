@@ -12,7 +12,7 @@ use Rattle.dp_tree.specs.declared.Expr.{Expr}
 use Rattle.dp_tree.specs.declared.Expr.TheVariants as tree
 use Rattle.dp_tree.specs.declared.Stmt.{Stmt}
 use Rattle.dp_tree.specs.declared.Program.{Program}
-use Rattle.dp_tree.specs.Eval.{Load, eval}
+use Rattle.dp_tree.specs.Eval.{eval}
 use Rattle.dp_tree.specs.Trace.{Run, run_of, begin, prints}
 use Rattle.dp_tree.specs.Iteration.{cells_after}
 use Rattle.dp_tree.proofs.Build.{num, var, at, bin, set, set_at, say, scalar, array, site, program, tree_opened}

@@ -1,10 +1,10 @@
 -- The straight loop, whose run takes 14 steps, with fuels up to that.
-use Rattle.std.proofs.Common.{◌≡◌, refl, ℕ, Bool, true, false, List, [], ◌∷◌, ℤ, pos, length, Some, None, filter}
+use Rattle.std.proofs.Common.{◌≡◌, refl, ℕ, List, [], ◌∷◌, ℤ, pos, length, Some, None, filter}
 use Rattle.dp_base.specs.declared.End.{End}
 use Rattle.dp_base.specs.declared.End.TheVariants.{Done, Fuel}
 use Rattle.dp_tree.specs.declared.Program.{Program}
 use Rattle.dp_tree.specs.Trace.{Run, run_of, begin, prints}
-use Rattle.dp_tree.specs.Iteration.{start, begun_count, has_ended, is_begun, cells_after, memory_after}
+use Rattle.dp_tree.specs.Iteration.{start, begun_count, has_ended, cells_after, memory_after}
 use Rattle.dp_tree.proofs.Build.{tree_opened}
 use Rattle.dp_tree.proofs.Programs.{sum_loop, closed_at_once, empty_program}
 

@@ -1,0 +1,191 @@
+-- Statements by their heads: whose sites pass a test, what follows them, and their steps.
+use Rattle.std.proofs.Common.{◌≡◌, refl, sym, ap, ◌∙◌, append_assoc, ℕ, Bool, true, false, not, ◌&&◌, ◌==◌, if◌then◌else◌, List, [], ◌∷◌, ◌++◌, ℤ, pos, Ok, Err}
+use Rattle.std.specs.List.{list_all}
+use Rattle.dp_base.specs.Arithmetic.{is_zero}
+use Rattle.dp_base.specs.declared.SiteId.{SiteId}
+use Rattle.dp_tree.specs.declared.Stmt.{Stmt, out-Stmt, roll-Stmt, roll-out-Stmt}
+use Rattle.dp_tree.specs.declared.Stmt.TheViews.{rolls-Assign, rolls-Store, rolls-Print, rolls-If, rolls-While, rolls-Region, rolls-Call}
+use Rattle.dp_tree.specs.declared.Stmt.TheOpen.{Stmt-F, Assign, Store, Print, If, While, Region, Call}
+use Rattle.dp_tree.specs.declared.Program.{Program}
+use Rattle.dp_tree.specs.Eval.{Load, Evaluated, eval}
+use Rattle.dp_tree.specs.Event.{Effect, Printed, Decided, Event, value_of, stored}
+use Rattle.dp_tree.specs.Step.{Config, Finished, Stepped, choose, followed, site_of, decided, evaluated, standing, step_by, step_at, step_from, step}
+use Rattle.dp_tree.specs.Iteration.{is_region, decides_zero}
+use Rattle.dp_tree.specs.RegionLaws.{keeps, keeps_in}
+use Rattle.dp_tree.proofs.ExpandLaws.{opened_statement}
+
+pub and_true : (a b : Bool) → (a && b) ≡ true → (a ≡ true) × (b ≡ true)
+and_true true b e = (refl, e)
+and_true false b e = absurd (cc)
+
+pub and_make : (a b : Bool) → a ≡ true → b ≡ true → (a && b) ≡ true
+and_make true b e f = f
+and_make false b e f = absurd (cc)
+
+abbrev hidden_keeps : (ℕ → Bool) → ℕ → List Stmt → Bool
+hidden_keeps test r xs = keeps_in test r (Rattle.dp_tree.specs.declared.Stmt.TheBlock.hidden-the_row-Stmt-0 xs)
+
+module _ (test : ℕ → Bool) (r : ℕ) where
+  abbrev pub keeps_all : List Stmt → Bool
+  keeps_all statements = list_all (keeps test r) statements
+
+  keeps_hidden : (xs : List Stmt) → hidden_keeps test r xs ≡ keeps_all xs
+  unfolding opened_statement
+  keeps_hidden [] = refl
+  keeps_hidden (x ∷ xs) = ap (λ (b : Bool). keeps test r x && b) (keeps_hidden xs)
+
+  abbrev pub keeps_at : Stmt-F Stmt → Bool
+  keeps_at (Assign site x e) = test site.0
+  keeps_at (Store site x index e) = test site.0
+  keeps_at (Print site e) = test site.0
+  keeps_at (If site cond a b) = test site.0 && (keeps_all a && keeps_all b)
+  keeps_at (While site cond a) = test site.0 && keeps_all a
+  keeps_at (Region q site cond a) = test site.0 && (not (q == r) && keeps_all a)
+  keeps_at (Call f line args) = true
+
+  keeps_roll : (h : Stmt-F Stmt) → keeps test r (roll-Stmt h) ≡ keeps_at h
+  unfolding opened_statement
+  keeps_roll (Assign site x e) = ap (keeps test r) (rolls-Assign site x e)
+  keeps_roll (Store site x index e) = ap (keeps test r) (rolls-Store site x index e)
+  keeps_roll (Print site e) = ap (keeps test r) (rolls-Print site e)
+  keeps_roll (If site cond a b) = ap (keeps test r) (rolls-If site cond a b) ∙ ap (λ (u : Bool). test site.0 && (u && hidden_keeps test r b)) (keeps_hidden a) ∙ ap (λ (u : Bool). test site.0 && (keeps_all a && u)) (keeps_hidden b)
+  keeps_roll (While site cond a) = ap (keeps test r) (rolls-While site cond a) ∙ ap (λ (u : Bool). test site.0 && u) (keeps_hidden a)
+  keeps_roll (Region q site cond a) = ap (keeps test r) (rolls-Region q site cond a) ∙ ap (λ (u : Bool). test site.0 && (not (q == r) && u)) (keeps_hidden a)
+  keeps_roll (Call f line args) = ap (keeps test r) (rolls-Call f line args)
+
+  pub keeps_out : (x : Stmt) → keeps test r x ≡ keeps_at (out-Stmt x)
+  keeps_out x = ap (keeps test r) (sym (roll-out-Stmt x)) ∙ keeps_roll (out-Stmt x)
+
+  pub keeps-append : (a b : List Stmt) → keeps_all a ≡ true → keeps_all b ≡ true → keeps_all (a ++ b) ≡ true
+  keeps-append [] b h k = k
+  keeps-append (x ∷ a) b h k = let both = and_true (keeps test r x) (keeps_all a) h in and_make (keeps test r x) (keeps_all (a ++ b)) both.0 (keeps-append a b both.1 k)
+
+  keeps_choose : (z : ℤ) (a b : List Stmt) → keeps_all a ≡ true → keeps_all b ≡ true → keeps_all (choose z a b) ≡ true
+  keeps_choose z a b h k = by (is_zero z)
+    where
+      by : (t : Bool) → keeps_all (if t then b else a) ≡ true
+      by true = k
+      by false = h
+
+  -- what follows a statement has no other sites
+  pub keeps_followed : (x : Stmt) (rest : List Stmt) (h : Stmt-F Stmt) (z : ℤ) → keeps test r x ≡ true → keeps_at h ≡ true → keeps_all rest ≡ true → keeps_all (followed x rest h z) ≡ true
+  keeps_followed x rest (Assign site v e) z w h k = k
+  keeps_followed x rest (Store site v index e) z w h k = k
+  keeps_followed x rest (Print site e) z w h k = k
+  keeps_followed x rest (If site cond a b) z w h k =
+      let both = and_true (keeps_all a) (keeps_all b) (and_true (test site.0) (keeps_all a && keeps_all b) h).1 in
+      keeps-append (choose z a b) rest (keeps_choose z a b both.0 both.1) k
+  keeps_followed x rest (While site cond a) z w h k =
+      keeps_choose z (a ++ x ∷ rest) rest (keeps-append a (x ∷ rest) (and_true (test site.0) (keeps_all a) h).1 (and_make (keeps test r x) (keeps_all rest) w k)) k
+  keeps_followed x rest (Region q site cond a) z w h k =
+      let both = and_true (not (q == r)) (keeps_all a) (and_true (test site.0) (not (q == r) && keeps_all a) h).1 in
+      keeps_choose z (a ++ x ∷ rest) rest (keeps-append a (x ∷ rest) both.1 (and_make (keeps test r x) (keeps_all rest) w k)) k
+  keeps_followed x rest (Call f line args) z w h k = k
+
+  pub no_region : (h : Stmt-F Stmt) → keeps_at h ≡ true → is_region r h ≡ false
+  no_region (Assign site v e) w = refl
+  no_region (Store site v index e) w = refl
+  no_region (Print site e) w = refl
+  no_region (If site cond a b) w = refl
+  no_region (While site cond a) w = refl
+  no_region (Region q site cond a) w = differs (q == r) (and_true (not (q == r)) (keeps_all a) (and_true (test site.0) (not (q == r) && keeps_all a) w).1).0
+    where
+      differs : (b : Bool) → not b ≡ true → b ≡ false
+      differs false e = refl
+      differs true e = absurd (cc)
+  no_region (Call f line args) w = refl
+
+-- what follows goes on into the statements behind
+pub followed-append : (x : Stmt) (rest behind : List Stmt) (h : Stmt-F Stmt) (z : ℤ) → followed x (rest ++ behind) h z ≡ followed x rest h z ++ behind
+followed-append x rest behind (Assign site v e) z = refl
+followed-append x rest behind (Store site v index e) z = refl
+followed-append x rest behind (Print site e) z = refl
+followed-append x rest behind (If site cond a b) z = sym (append_assoc (choose z a b) rest behind)
+followed-append x rest behind (While site cond a) z = by (is_zero z)
+  where
+    by : (t : Bool) → (if t then rest ++ behind else a ++ x ∷ (rest ++ behind)) ≡ (if t then rest else a ++ x ∷ rest) ++ behind
+    by true = refl
+    by false = sym (append_assoc a (x ∷ rest) behind)
+followed-append x rest behind (Region q site cond a) z = by (is_zero z)
+  where
+    by : (t : Bool) → (if t then rest ++ behind else a ++ x ∷ (rest ++ behind)) ≡ (if t then rest else a ++ x ∷ rest) ++ behind
+    by true = refl
+    by false = sym (append_assoc a (x ∷ rest) behind)
+followed-append x rest behind (Call f line args) z = refl
+
+-- the step of a head gives its site's event, and what follows it
+pub record StepsTo (x : Stmt) (rest : List Stmt) (h : Stmt-F Stmt) (event : Event) (next : Config) : Type 0 where
+  pub site : event.site ≡ (site_of h).0
+  pub to_do : next.to_do ≡ followed x rest h (value_of event.effect)
+  -- a head with a site: no call
+  pub tested : (test : ℕ → Bool) (r : ℕ) → keeps_at test r h ≡ true → test event.site ≡ true
+  -- a region decides
+  pub zero : (r : ℕ) → is_region r h ≡ true → decides_zero event.effect ≡ is_zero (value_of event.effect)
+
+pub standing_to_do : (p : Program) (xs : List Stmt) (cells : List ℤ) → (standing p xs cells).to_do ≡ xs
+standing_to_do p [] cells = refl
+standing_to_do p (x ∷ xs) cells = refl
+
+module _ (p : Program) (input : List ℤ) where
+  -- a step by an evaluation
+  record StepBy (site : SiteId) (e : Evaluated Effect) (next_by : ℤ → List Stmt) (event : Event) (next : Config) : Type 0 where
+    site_is : event.site ≡ site.0
+    to_do_is : next.to_do ≡ next_by (value_of event.effect)
+    loads_of : List Load
+    was : e ≡ Ok (record { value = event.effect; loads = loads_of })
+
+  by_evaluated : (site : SiteId) (cells : List ℤ) (e : Evaluated Effect) (next_by : ℤ → List Stmt) (event : Event) (next : Config) → step_by p site cells e next_by ≡ Stepped event next → StepBy site e next_by event next
+  by_evaluated site cells (Err kind) next_by event next e = absurd (cc)
+  by_evaluated site cells (Ok v) next_by event next e =
+      let event_is : event ≡ record { site = site.0; loads = v.loads; effect = v.value } = cc in
+      let next_is : next ≡ standing p (next_by (value_of v.value)) (stored v.value cells) = cc in
+      let value_is : v.value ≡ event.effect = sym (ap (λ (x : Event). x.effect) event_is) in
+      record {
+        site_is = ap (λ (x : Event). x.site) event_is;
+        to_do_is = ap (λ (c : Config). c.to_do) next_is ∙ standing_to_do p (next_by (value_of v.value)) (stored v.value cells) ∙ ap (λ (x : Effect). next_by (value_of x)) value_is;
+        loads_of = v.loads;
+        was = ap (λ (x : Effect). Ok (record { value = x; loads = v.loads })) value_is;
+      }
+
+  abbrev effect_or : Evaluated Effect → Effect
+  effect_or (Ok v) = v.value
+  effect_or (Err kind) = Printed (pos 0)
+
+  decided_zero_is : (e : Evaluated ℤ) (effect : Effect) (loads : List Load) → decided e ≡ Ok (record { value = effect; loads = loads }) → decides_zero effect ≡ is_zero (value_of effect)
+  decided_zero_is (Err kind) effect loads e = absurd (cc)
+  decided_zero_is (Ok v) effect loads e =
+      let is : effect ≡ Decided v.value = sym (ap effect_or e) in
+      ap decides_zero is ∙ sym (ap (λ (x : Effect). is_zero (value_of x)) is)
+
+  head_step : (x : Stmt) (rest : List Stmt) (cells : List ℤ) (h : Stmt-F Stmt) (event : Event) (next : Config) → step_at p input cells x rest h ≡ Stepped event next → StepsTo x rest h event next
+  head_step x rest cells (Assign site v e) event next s =
+      let b = by_evaluated site cells (evaluated p input cells (Assign site v e)) (λ z. rest) event next s in
+      record { site = b.site_is; to_do = b.to_do_is; tested = λ test r k. ap test b.site_is ∙ k; zero = λ r k. absurd (cc) }
+  head_step x rest cells (Store site v index e) event next s =
+      let b = by_evaluated site cells (evaluated p input cells (Store site v index e)) (λ z. rest) event next s in
+      record { site = b.site_is; to_do = b.to_do_is; tested = λ test r k. ap test b.site_is ∙ k; zero = λ r k. absurd (cc) }
+  head_step x rest cells (Print site e) event next s =
+      let b = by_evaluated site cells (evaluated p input cells (Print site e)) (λ z. rest) event next s in
+      record { site = b.site_is; to_do = b.to_do_is; tested = λ test r k. ap test b.site_is ∙ k; zero = λ r k. absurd (cc) }
+  head_step x rest cells (If site cond a c) event next s =
+      let b = by_evaluated site cells (decided (eval p input cells cond)) (followed x rest (If site cond a c)) event next s in
+      record { site = b.site_is; to_do = b.to_do_is; tested = λ test r k. ap test b.site_is ∙ (and_true (test site.0) (keeps_all test r a && keeps_all test r c) k).0; zero = λ r k. absurd (cc) }
+  head_step x rest cells (While site cond a) event next s =
+      let b = by_evaluated site cells (decided (eval p input cells cond)) (followed x rest (While site cond a)) event next s in
+      record { site = b.site_is; to_do = b.to_do_is; tested = λ test r k. ap test b.site_is ∙ (and_true (test site.0) (keeps_all test r a) k).0; zero = λ r k. absurd (cc) }
+  head_step x rest cells (Region q site cond a) event next s =
+      let b = by_evaluated site cells (decided (eval p input cells cond)) (followed x rest (Region q site cond a)) event next s in
+      record {
+        site = b.site_is;
+        to_do = b.to_do_is;
+        tested = λ test r k. ap test b.site_is ∙ (and_true (test site.0) (not (q == r) && keeps_all test r a) k).0;
+        zero = λ r k. decided_zero_is (eval p input cells cond) event.effect b.loads_of b.was;
+      }
+  head_step x rest cells (Call f line args) event next s = absurd (cc)
+
+  -- a configuration that makes a step has a head
+  pub stepped : (c : Config) (x : Stmt) (rest : List Stmt) (event : Event) (next : Config) → c.to_do ≡ x ∷ rest → step p input c ≡ Stepped event next → StepsTo x rest (out-Stmt x) event next
+  stepped c x rest event next e s = head_step x rest c.cells (out-Stmt x) event next (sym (ap (λ (todo : List Stmt). step_from p input c.cells todo) e) ∙ s)
+
+  pub not_stepped : {A : Type 0} (c : Config) (event : Event) (next : Config) → c.to_do ≡ [] → step p input c ≡ Stepped event next → A
+  not_stepped c event next e s = let clash : Finished ≡ Stepped event next = sym (ap (λ (todo : List Stmt). step_from p input c.cells todo) e) ∙ s in absurd (cc clash)

@@ -1,0 +1,229 @@
+-- A run from within a region: the region's events, and where its last iteration stops.
+use Rattle.std.proofs.Common.{◌≡◌, refl, sym, ap, ◌∙◌, ℕ, zero, suc, Bool, true, false, not, cond, if◌then◌else◌, List, [], ◌∷◌, ◌++◌, ℤ, length, filter, Some, None, slice_get, append-nil, eq-eqb}
+use Rattle.dp_base.specs.Arithmetic.{is_zero}
+use Rattle.dp_tree.specs.declared.Stmt.{Stmt, out-Stmt, out-roll-Stmt}
+use Rattle.dp_tree.specs.declared.Stmt.TheViews.{rolls-Region}
+use Rattle.dp_tree.specs.declared.Stmt.TheVariants as tree
+use Rattle.dp_tree.specs.declared.Stmt.TheOpen.{Stmt-F, Region}
+use Rattle.dp_tree.specs.declared.Program.{Program}
+use Rattle.dp_tree.specs.Event.{Event, value_of}
+use Rattle.dp_tree.specs.Step.{Config, Step, Finished, Faulted, Stepped, followed, site_of, step}
+use Rattle.dp_tree.specs.Trace.{Run, run_of, run_by, extended}
+use Rattle.dp_tree.specs.Iteration.{is_region, begins_with, stands_at_head, places, decided_zero, stop_from}
+use Rattle.dp_tree.specs.RegionLaws.{is_site_of, is_other_site, keeps, StandsOnce, is_event_of}
+use Rattle.dp_tree.proofs.Heads.{and_true, keeps_all, keeps_at, keeps_out, keeps_followed, no_region, followed-append, stepped, not_stepped}
+use Rattle.dp_tree.proofs.Places.{place_down, no_place_down, empty_list}
+
+module _ (p : Program) (input : List ℤ) (r : ℕ) (once : StandsOnce p r) where
+  abbrev pub mine : ℕ → Bool
+  mine = is_site_of p r
+
+  abbrev pub others : ℕ → Bool
+  others = is_other_site p r
+
+  abbrev pub only : List Event → List Event
+  only events = filter (is_event_of p r) events
+
+  abbrev pub here : Config → Bool
+  here = stands_at_head r
+
+  abbrev pub region : Stmt
+  region = tree.Region r once.site once.cond once.body
+
+  false_of : (b : Bool) → not b ≡ true → b ≡ false
+  false_of false e = refl
+  false_of true e = absurd (cc)
+
+  kept : (event : Event) (events : List Event) → mine event.site ≡ true → only (event ∷ events) ≡ event ∷ only events
+  kept event events e = ap (λ (b : Bool). cond b (event ∷ only events) (only events)) e
+
+  pub left_out : (event : Event) (events : List Event) → others event.site ≡ true → only (event ∷ events) ≡ only events
+  left_out event events e = ap (λ (b : Bool). cond b (event ∷ only events) (only events)) (false_of (mine event.site) e)
+
+  -- the region neither stands at the head from here on nor has an event
+  record Quiet (run : Run) : Type 0 where
+    none : only run.trace ≡ []
+    no_start : (k : ℕ) → places here k run.configs ≡ []
+
+  -- where nothing at the head is the region
+  pub away : (c : Config) (xs : List Stmt) → c.to_do ≡ xs → keeps_all others r xs ≡ true → here c ≡ false
+  away c [] e h = ap (begins_with r) e
+  away c (x ∷ xs) e h = ap (begins_with r) e ∙ no_region others r (out-Stmt x) (sym (keeps_out others r x) ∙ (and_true (keeps others r x) (keeps_all others r xs) h).0)
+
+  pub skip : (c : Config) (k : ℕ) (configs : List Config) → here c ≡ false → places here k (c ∷ configs) ≡ places here (suc k) configs
+  skip c k configs e = ap (λ (b : Bool). if b then k ∷ places here (suc k) configs else places here (suc k) configs) e
+
+  pub meet : (c : Config) (k : ℕ) (configs : List Config) → here c ≡ true → places here k (c ∷ configs) ≡ k ∷ places here (suc k) configs
+  meet c k configs e = ap (λ (b : Bool). if b then k ∷ places here (suc k) configs else places here (suc k) configs) e
+
+  -- behind the region
+  quiet_by : (n : ℕ) (c : Config) (xs : List Stmt) (go : (d : Config) → keeps_all others r d.to_do ≡ true → Quiet (run_of p input n d)) (s : Step) →
+      step p input c ≡ s → c.to_do ≡ xs → keeps_all others r xs ≡ true → Quiet (run_by (run_of p input n) (suc n) c s)
+  quiet_by n c xs go Finished e todo h = record { none = refl; no_start = λ k. skip c k [] (away c xs todo h) }
+  quiet_by n c xs go (Faulted fault) e todo h = record { none = refl; no_start = λ k. skip c k [] (away c xs todo h) }
+  quiet_by n c [] go (Stepped event next) e todo h = not_stepped p input c event next todo e
+  quiet_by n c (x ∷ xs) go (Stepped event next) e todo h =
+      let both = and_true (keeps others r x) (keeps_all others r xs) h in
+      let head : keeps_at others r (out-Stmt x) ≡ true = sym (keeps_out others r x) ∙ both.0 in
+      let st = stepped p input c x xs event next todo e in
+      let rest : keeps_all others r next.to_do ≡ true = ap (keeps_all others r) st.to_do ∙ keeps_followed others r x xs (out-Stmt x) (value_of event.effect) both.0 head both.1 in
+      let q = go next rest in
+      record {
+        none = left_out event (run_of p input n next).trace (st.tested others r head) ∙ q.none;
+        no_start = λ k. skip c k (run_of p input n next).configs (away c (x ∷ xs) todo h) ∙ q.no_start (suc k);
+      }
+
+  quiet : (n : ℕ) (c : Config) → keeps_all others r c.to_do ≡ true → Quiet (run_of p input n c)
+  unfolding run_of
+  quiet zero c h = record { none = refl; no_start = λ k. skip c k [] (away c c.to_do refl h) }
+  quiet (suc n) c h = quiet_by n c c.to_do (quiet n) (step p input c) refl refl h
+
+  region_out : out-Stmt region ≡ Region r once.site once.cond once.body
+  region_out = ap out-Stmt (sym (rolls-Region r once.site once.cond once.body)) ∙ out-roll-Stmt (Region r once.site once.cond once.body)
+
+  pub at_region : (c : Config) (rest : List Stmt) → c.to_do ≡ region ∷ rest → here c ≡ true
+  at_region c rest e = ap (begins_with r) e ∙ ap (is_region r) region_out ∙ eq-eqb r r refl
+
+  -- in the region: its events come first, and its last iteration stops after them
+  pub record Inside (run : Run) : Type 0 where
+    pub own : List Event
+    pub behind : List Event
+    pub trace_is : run.trace ≡ own ++ behind
+    pub all_own : only own ≡ own
+    pub none_behind : only behind ≡ []
+    pub stops : (i k : ℕ) → slice_get (places here 0 run.configs) i ≡ Some k → slice_get (places here 0 run.configs) (suc i) ≡ None → stop_from run k None ≡ length own
+    pub open_yet : places here 0 run.configs ≡ [] → behind ≡ []
+
+  stop_up : (fuel : ℕ) (c : Config) (event : Event) (run : Run) (j : ℕ) → stop_from (extended fuel c event run) (suc j) None ≡ suc (stop_from run j None)
+  stop_up fuel c event run j = by (decided_zero (slice_get run.trace j))
+    where
+      by : (b : Bool) → (if b then suc (suc j) else suc (length run.trace)) ≡ suc (if b then suc j else length run.trace)
+      by true = refl
+      by false = refl
+
+  none_further : (configs : List Config) → slice_get (places here 1 configs) 0 ≡ None → places here 0 configs ≡ []
+  none_further configs e = empty_list (places here 0 configs) (no_place_down here 0 configs 0 e)
+
+  pub still_none : (configs : List Config) → places here 1 configs ≡ [] → places here 0 configs ≡ []
+  still_none configs e = none_further configs (ap (λ (ns : List ℕ). slice_get ns 0) e)
+
+  -- the last iteration of the rest, one step later
+  pub later_stop : (fuel : ℕ) (c : Config) (event : Event) (run : Run) (size i k : ℕ) → ((j m : ℕ) → slice_get (places here 0 run.configs) j ≡ Some m → slice_get (places here 0 run.configs) (suc j) ≡ None → stop_from run m None ≡ size) →
+      slice_get (places here 1 run.configs) i ≡ Some k → slice_get (places here 1 run.configs) (suc i) ≡ None → stop_from (extended fuel c event run) k None ≡ suc size
+  later_stop fuel c event run size i k stops e f =
+      let down = place_down here 0 run.configs i k e in
+      ap (λ (n : ℕ). stop_from (extended fuel c event run) n None) down.2 ∙ stop_up fuel c event run down.0 ∙ ap (λ (n : ℕ). suc n) (stops i down.0 down.1 (no_place_down here 0 run.configs (suc i) f))
+
+  stays_inside : (fuel : ℕ) (c : Config) (run : Run) → run.trace ≡ [] → Inside run
+  stays_inside fuel c run none = record {
+    own = [];
+    behind = [];
+    trace_is = none;
+    all_own = refl;
+    none_behind = refl;
+    stops = λ i k e f. no_stop k run.trace none;
+    open_yet = λ e. refl;
+  }
+    where
+      no_stop : (k : ℕ) (trace : List Event) → trace ≡ [] → (if decided_zero (slice_get trace k) then suc k else length trace) ≡ 0
+      no_stop k trace e = ap (λ (es : List Event). if decided_zero (slice_get es k) then suc k else length es) e
+
+  -- an event of the body
+  grows_inside : (fuel : ℕ) (c : Config) (event : Event) (run : Run) → mine event.site ≡ true → here c ≡ false → Inside run → Inside (extended fuel c event run)
+  grows_inside fuel c event run is off h = record {
+    own = event ∷ h.own;
+    behind = h.behind;
+    trace_is = ap (λ (es : List Event). event ∷ es) h.trace_is;
+    all_own = kept event h.own is ∙ ap (λ (es : List Event). event ∷ es) h.all_own;
+    none_behind = h.none_behind;
+    stops = λ i k e f. later_stop fuel c event run (length h.own) i k h.stops (sym (ap (λ (ns : List ℕ). slice_get ns i) off_places) ∙ e) (sym (ap (λ (ns : List ℕ). slice_get ns (suc i)) off_places) ∙ f);
+    open_yet = λ e. h.open_yet (still_none run.configs (sym off_places ∙ e));
+  }
+    where
+      off_places : places here 0 (c ∷ run.configs) ≡ places here 1 run.configs
+      off_places = skip c 0 run.configs off
+
+  -- the condition of an iteration that goes on
+  goes_round : (fuel : ℕ) (c : Config) (event : Event) (run : Run) → mine event.site ≡ true → here c ≡ true → decided_zero (Some event) ≡ false → Inside run → Inside (extended fuel c event run)
+  goes_round fuel c event run is on nonzero h = record {
+    own = event ∷ h.own;
+    behind = h.behind;
+    trace_is = ap (λ (es : List Event). event ∷ es) h.trace_is;
+    all_own = kept event h.own is ∙ ap (λ (es : List Event). event ∷ es) h.all_own;
+    none_behind = h.none_behind;
+    stops = λ i k e f. stops i k (sym (ap (λ (ns : List ℕ). slice_get ns i) on_places) ∙ e) (sym (ap (λ (ns : List ℕ). slice_get ns (suc i)) on_places) ∙ f);
+    open_yet = λ e. no_such e;
+  }
+    where
+      on_places : places here 0 (c ∷ run.configs) ≡ 0 ∷ places here 1 run.configs
+      on_places = meet c 0 run.configs on
+
+      no_such : {A : Type 0} → places here 0 (c ∷ run.configs) ≡ [] → A
+      no_such e = let clash : 0 ∷ places here 1 run.configs ≡ [] = sym on_places ∙ e in absurd (cc clash)
+
+      whole : h.behind ≡ [] → length run.trace ≡ length h.own
+      whole e = ap (λ (es : List Event). length es) (h.trace_is ∙ ap (λ (es : List Event). h.own ++ es) e ∙ append-nil h.own)
+
+      stops : (i k : ℕ) → slice_get (0 ∷ places here 1 run.configs) i ≡ Some k → slice_get (0 ∷ places here 1 run.configs) (suc i) ≡ None → stop_from (extended fuel c event run) k None ≡ suc (length h.own)
+      stops zero k e f =
+          let same : 0 ≡ k = cc in
+          ap (λ (n : ℕ). stop_from (extended fuel c event run) n None) (sym same)
+          ∙ ap (λ (b : Bool). if b then 1 else suc (length run.trace)) nonzero
+          ∙ ap (λ (n : ℕ). suc n) (whole (h.open_yet (none_further run.configs f)))
+      stops (suc i) k e f = later_stop fuel c event run (length h.own) i k h.stops e f
+
+  -- the condition of the closing iteration
+  closes : (fuel : ℕ) (c : Config) (event : Event) (run : Run) → mine event.site ≡ true → here c ≡ true → decided_zero (Some event) ≡ true → Quiet run → Inside (extended fuel c event run)
+  closes fuel c event run is on zero_is q = record {
+    own = event ∷ [];
+    behind = run.trace;
+    trace_is = refl;
+    all_own = kept event [] is;
+    none_behind = q.none;
+    stops = λ i k e f. stops i k (sym (ap (λ (ns : List ℕ). slice_get ns i) on_places) ∙ e);
+    open_yet = λ e. no_such e;
+  }
+    where
+      on_places : places here 0 (c ∷ run.configs) ≡ 0 ∷ []
+      on_places = meet c 0 run.configs on ∙ ap (λ (ns : List ℕ). 0 ∷ ns) (q.no_start 1)
+
+      no_such : {A : Type 0} → places here 0 (c ∷ run.configs) ≡ [] → A
+      no_such e = let clash : 0 ∷ [] ≡ [] = sym on_places ∙ e in absurd (cc clash)
+
+      stops : (i k : ℕ) → slice_get (0 ∷ []) i ≡ Some k → stop_from (extended fuel c event run) k None ≡ 1
+      stops zero k e =
+          let same : 0 ≡ k = cc in
+          ap (λ (n : ℕ). stop_from (extended fuel c event run) n None) (sym same) ∙ ap (λ (b : Bool). if b then 1 else suc (length run.trace)) zero_is
+      stops (suc i) k e = absurd (cc)
+
+  -- the step of the region's condition
+  condition_by : (n : ℕ) (c next : Config) (event : Event) (go : (d : Config) (ys : List Stmt) → d.to_do ≡ ys ++ region ∷ once.behind → keeps_all mine r ys ≡ true → Inside (run_of p input n d)) →
+      mine event.site ≡ true → here c ≡ true → (b : Bool) → decided_zero (Some event) ≡ b → next.to_do ≡ (if b then once.behind else once.body ++ region ∷ once.behind) → Inside (extended (suc n) c event (run_of p input n next))
+  condition_by n c next event go is on true zero_is todo = closes (suc n) c event (run_of p input n next) is on zero_is (quiet n next (ap (keeps_all others r) todo ∙ once.later))
+  condition_by n c next event go is on false zero_is todo = goes_round (suc n) c event (run_of p input n next) is on zero_is (go next once.body todo once.inside)
+
+  inside_by : (n : ℕ) (c : Config) (xs : List Stmt) (go : (d : Config) (ys : List Stmt) → d.to_do ≡ ys ++ region ∷ once.behind → keeps_all mine r ys ≡ true → Inside (run_of p input n d)) (s : Step) →
+      step p input c ≡ s → c.to_do ≡ xs ++ region ∷ once.behind → keeps_all mine r xs ≡ true → Inside (run_by (run_of p input n) (suc n) c s)
+  inside_by n c xs go Finished e todo h = stays_inside (suc n) c _ refl
+  inside_by n c xs go (Faulted fault) e todo h = stays_inside (suc n) c _ refl
+  inside_by n c [] go (Stepped event next) e todo h =
+      let st = stepped p input c region once.behind event next todo e in
+      let is : mine event.site ≡ true = ap mine st.site ∙ ap (λ (u : Stmt-F Stmt). mine (site_of u).0) region_out ∙ once.condition in
+      let region_here : is_region r (out-Stmt region) ≡ true = ap (is_region r) region_out ∙ eq-eqb r r refl in
+      let zero_is : is_zero (value_of event.effect) ≡ decided_zero (Some event) = sym (st.zero r region_here) in
+      condition_by n c next event go is (at_region c once.behind todo) (decided_zero (Some event)) refl
+      (st.to_do ∙ ap (λ (u : Stmt-F Stmt). followed region once.behind u (value_of event.effect)) region_out
+      ∙ ap (λ (b : Bool). if b then once.behind else once.body ++ region ∷ once.behind) zero_is)
+  inside_by n c (x ∷ xs) go (Stepped event next) e todo h =
+      let both = and_true (keeps mine r x) (keeps_all mine r xs) h in
+      let head : keeps_at mine r (out-Stmt x) ≡ true = sym (keeps_out mine r x) ∙ both.0 in
+      let st = stepped p input c x (xs ++ region ∷ once.behind) event next todo e in
+      let off : here c ≡ false = ap (begins_with r) todo ∙ no_region mine r (out-Stmt x) head in
+      let rest : next.to_do ≡ followed x xs (out-Stmt x) (value_of event.effect) ++ region ∷ once.behind = st.to_do ∙ followed-append x xs (region ∷ once.behind) (out-Stmt x) (value_of event.effect) in
+      grows_inside (suc n) c event (run_of p input n next) (st.tested mine r head) off
+      (go next (followed x xs (out-Stmt x) (value_of event.effect)) rest (keeps_followed mine r x xs (out-Stmt x) (value_of event.effect) both.0 head both.1))
+
+  pub inside : (n : ℕ) (c : Config) (xs : List Stmt) → c.to_do ≡ xs ++ region ∷ once.behind → keeps_all mine r xs ≡ true → Inside (run_of p input n c)
+  unfolding run_of
+  inside zero c xs e h = stays_inside 0 c _ refl
+  inside (suc n) c xs e h = inside_by n c xs (inside n) (step p input c) refl e h
