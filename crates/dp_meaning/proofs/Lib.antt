@@ -1,0 +1,14 @@
+pub mod PartsLemmas
+pub mod MemoryLemmas
+pub mod EvaluatedLemmas
+pub mod OuterLemmas
+pub mod FollowedLemmas
+pub mod StepLemmas
+pub mod TurnLemmas
+pub mod ContinuesLemmas
+pub mod MovedLemmas
+pub mod SoFar
+pub mod StopLemmas
+pub mod PartLemmas
+pub mod RegionLemmas
+pub mod IterationLemmas

@@ -1,0 +1,44 @@
+-- What one step, or two pieces one after the other, do to a machine.
+use Rattle.std.proofs.Common.{◌≡◌, refl, sym, ◌∙◌, ap, subst, ℕ, suc, Bool, ◌+◌, ◌-◌, ◌<◌, List, [], ◌∷◌, ◌++◌, append_assoc, append-nil, length-append, ℤ, arith}
+use Rattle.std.proofs.lemmas.List.Elements.{filter_map-append}
+use Rattle.dp_tree.specs.Step.{Config, Event, Stepped, step}
+use Rattle.dp_tree.specs.Trace.{run_of, prints, printed_by}
+use Rattle.dp_meaning.specs.MachineState.{MachineState, fuel_left, rest_of_run}
+use Rattle.dp_meaning.specs.Continues.{Continues}
+use Rattle.dp_meaning.specs.Moved.{Moved}
+use Rattle.dp_meaning.specs.Turn.{StepTaken}
+use Rattle.dp_meaning.proofs.TurnLemmas.{stepped_to}
+use Rattle.dp_meaning.proofs.ContinuesLemmas.{continues_none, continues_join, continues_step}
+
+pub prints-append : (es fs : List Event) → prints (es ++ fs) ≡ prints es ++ prints fs
+prints-append es fs = filter_map-append (λ (e : Event). printed_by e.effect) es fs
+
+pub moved_none : (m : MachineState) (out : List ℤ) → Moved m m out out [] []
+moved_none m out = record { run = continues_none (rest_of_run m); prints = sym (append-nil out); steps = omega arith; program = refl; input = refl; fuel = refl }
+
+pub moved_join : (a b c : MachineState) (x y z : List ℤ) (es fs : List Event) (cs ds : List Config) → Moved a b x y es cs → Moved b c y z fs ds →
+    Moved a c x z (es ++ fs) (cs ++ ds)
+moved_join a b c x y z es fs cs ds h k = record {
+  run = continues_join (rest_of_run a) (rest_of_run b) (rest_of_run c) es fs cs ds h.run k.run;
+  prints = k.prints ∙ ap (λ xs. xs ++ prints fs) h.prints ∙ append_assoc x (prints es) (prints fs) ∙ ap (λ xs. x ++ xs) (sym (prints-append es fs));
+  steps = let e = length-append es fs in let f = h.steps in let g = k.steps in omega arith;
+  program = k.program ∙ h.program;
+  input = k.input ∙ h.input;
+  fuel = k.fuel ∙ h.fuel;
+}
+
+-- one step, to this configuration
+run_stepped : (m : MachineState) (d : Config) (event : Event) → m.steps < m.fuel → step m.program m.input m.config ≡ Stepped event d →
+    Continues (rest_of_run m) (event ∷ []) (m.config ∷ []) (rest_of_run (stepped_to m d))
+run_stepped m d event h e =
+    let left : fuel_left m ≡ suc (m.fuel - (m.steps + 1)) = omega (arith, h) in
+    let From : ℕ → Type 0 = λ n. Continues (run_of m.program m.input n m.config) (event ∷ []) (m.config ∷ []) (rest_of_run (stepped_to m d)) in
+    subst From (sym left) (continues_step m.program m.input (m.fuel - (m.steps + 1)) m.config d event e)
+
+pub moved_stepped : (m : MachineState) (d : Config) (x z : List ℤ) (event : Event) → m.steps < m.fuel → step m.program m.input m.config ≡ Stepped event d →
+    z ≡ x ++ prints (event ∷ []) → Moved m (stepped_to m d) x z (event ∷ []) (m.config ∷ [])
+moved_stepped m d x z event h e printed = record { run = run_stepped m d event h e; prints = printed; steps = refl; program = refl; input = refl; fuel = refl }
+
+pub moved_step : (v : Bool) (m n : MachineState) (x z : List ℤ) → m.steps < m.fuel → (s : StepTaken v m n x z) → Moved m n x z (s.event ∷ []) (m.config ∷ [])
+moved_step v m n x z h s =
+    subst (λ (t : MachineState). Moved m t x z (s.event ∷ []) (m.config ∷ [])) (sym s.rest) (moved_stepped m n.config x z s.event h s.stepped s.printed)

@@ -1,0 +1,103 @@
+-- Simple statements and those of `main`, and what is left of them after a step.
+use Rattle.std.proofs.Common.{◌≡◌, refl, sym, ap, ◌∙◌, subst, Bool, true, false, ◌&&◌, if◌then◌else◌, IsTrue, List, [], ◌∷◌, ◌++◌}
+use Rattle.std.specs.List.{list_all}
+use Rattle.dp_tree.specs.declared.Stmt.{Stmt, out-Stmt, roll-Stmt, roll-out-Stmt}
+use Rattle.dp_tree.specs.declared.Stmt.TheViews.{rolls-Assign, rolls-Store, rolls-Print, rolls-If, rolls-While, rolls-Region, rolls-Call}
+use Rattle.dp_tree.specs.declared.Stmt.TheOpen.{Stmt-F, Assign, Store, Print, If, While, Region, Call}
+use Rattle.dp_meaning.specs.Runnable.{is_simple, are_simple, is_outer, is_outer_at}
+use Rattle.dp_meaning.specs.MachineState.{is_any_region, from_region}
+
+pub both : (a b : Bool) → IsTrue (a && b) → IsTrue a × IsTrue b
+both true b h = (refl, h)
+both false b h = absurd (cc)
+
+pub both_make : (a b : Bool) → IsTrue a → IsTrue b → IsTrue (a && b)
+both_make true b h k = k
+both_make false b h k = absurd (cc)
+
+pub all_append : (test : Stmt → Bool) (xs ys : List Stmt) → IsTrue (list_all test xs) → IsTrue (list_all test ys) → IsTrue (list_all test (xs ++ ys))
+all_append test [] ys h k = k
+all_append test (x ∷ xs) ys h k = let r = both (test x) (list_all test xs) h in both_make (test x) (list_all test (xs ++ ys)) r.0 (all_append test xs ys r.1 k)
+
+-- what opens where a statement is made
+unfoldable opened : Unit {0}
+unfolding Rattle.dp_tree.specs.declared.Stmt.TheBlock.shape-the_row-Stmt-0 Rattle.dp_tree.specs.declared.Stmt.TheBlock.hidden-the_row-Stmt-0 denote.Hole.Carrier.hidden
+opened = tt
+
+abbrev pub all_simple : List Stmt → Bool
+all_simple xs = list_all is_simple xs
+
+abbrev hidden_simple : List Stmt → Bool
+hidden_simple xs = are_simple (Rattle.dp_tree.specs.declared.Stmt.TheBlock.hidden-the_row-Stmt-0 xs)
+
+simple_hidden : (xs : List Stmt) → hidden_simple xs ≡ all_simple xs
+unfolding opened
+simple_hidden [] = refl
+simple_hidden (x ∷ xs) = ap (λ b. is_simple x && b) (simple_hidden xs)
+
+-- whether a statement is simple, by its head
+abbrev pub simple_at : Stmt-F Stmt → Bool
+simple_at (If site cond a b) = all_simple a && all_simple b
+simple_at (While site cond a) = all_simple a
+simple_at (Region r site cond a) = false
+simple_at (Call f line args) = false
+simple_at _ = true
+
+simple_roll : (h : Stmt-F Stmt) → is_simple (roll-Stmt h) ≡ simple_at h
+unfolding opened
+simple_roll (Assign site x e) = ap is_simple (rolls-Assign site x e)
+simple_roll (Store site x index e) = ap is_simple (rolls-Store site x index e)
+simple_roll (Print site e) = ap is_simple (rolls-Print site e)
+simple_roll (If site cond a b) = ap is_simple (rolls-If site cond a b) ∙ ap (λ w. w && hidden_simple b) (simple_hidden a) ∙ ap (λ w. all_simple a && w) (simple_hidden b)
+simple_roll (While site cond a) = ap is_simple (rolls-While site cond a) ∙ simple_hidden a
+simple_roll (Region r site cond a) = ap is_simple (rolls-Region r site cond a)
+simple_roll (Call f line args) = ap is_simple (rolls-Call f line args)
+
+simple_out : (x : Stmt) → is_simple x ≡ simple_at (out-Stmt x)
+simple_out x = ap is_simple (sym (roll-out-Stmt x)) ∙ simple_roll (out-Stmt x)
+
+-- a statement of `main`, by its head
+abbrev pub outer_at : Stmt-F Stmt → Bool
+outer_at (Region r site cond a) = all_simple a
+outer_at h = simple_at h
+
+outer_by : (x : Stmt) (h : Stmt-F Stmt) → out-Stmt x ≡ h → is_outer_at x h ≡ outer_at h
+outer_by x (Assign site y e) is = simple_out x ∙ ap simple_at is
+outer_by x (Store site y index e) is = simple_out x ∙ ap simple_at is
+outer_by x (Print site e) is = simple_out x ∙ ap simple_at is
+outer_by x (If site cond a b) is = simple_out x ∙ ap simple_at is
+outer_by x (While site cond a) is = simple_out x ∙ ap simple_at is
+outer_by x (Region r site cond a) is = refl
+outer_by x (Call f line args) is = simple_out x ∙ ap simple_at is
+
+pub outer_out : (x : Stmt) → is_outer x ≡ outer_at (out-Stmt x)
+outer_out x = outer_by x (out-Stmt x) refl
+
+simple_outer_at : (h : Stmt-F Stmt) → IsTrue (simple_at h) → IsTrue (outer_at h) × (is_any_region h ≡ false)
+simple_outer_at (Assign site x e) h = (refl, refl)
+simple_outer_at (Store site x index e) h = (refl, refl)
+simple_outer_at (Print site e) h = (refl, refl)
+simple_outer_at (If site cond a b) h = (h, refl)
+simple_outer_at (While site cond a) h = (h, refl)
+simple_outer_at (Region r site cond a) h = absurd (cc)
+simple_outer_at (Call f line args) h = absurd (cc)
+
+abbrev True : Bool → Type 0
+True b = IsTrue b
+
+-- a simple statement is one of `main`, and no region
+simple_outer : (x : Stmt) → IsTrue (is_simple x) → IsTrue (is_outer x) × (is_any_region (out-Stmt x) ≡ false)
+simple_outer x h =
+    let r = simple_outer_at (out-Stmt x) (subst True (simple_out x) h) in
+    (subst True (sym (outer_out x)) r.0, r.1)
+
+pub all_outer : (xs : List Stmt) → IsTrue (all_simple xs) → IsTrue (list_all is_outer xs)
+all_outer [] h = refl
+all_outer (x ∷ xs) h = let r = both (is_simple x) (all_simple xs) h in both_make (is_outer x) (list_all is_outer xs) (simple_outer x r.0).0 (all_outer xs r.1)
+
+-- behind simple statements stands what stood there before
+pub from_region-append : (xs ys : List Stmt) → IsTrue (all_simple xs) → from_region (xs ++ ys) ≡ from_region ys
+from_region-append [] ys h = refl
+from_region-append (x ∷ xs) ys h =
+    let r = both (is_simple x) (all_simple xs) h in
+    ap (λ b. if b then x ∷ (xs ++ ys) else from_region (xs ++ ys)) (simple_outer x r.0).1 ∙ from_region-append xs ys r.1

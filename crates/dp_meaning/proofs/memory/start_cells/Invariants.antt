@@ -1,0 +1,9 @@
+use Rattle.std.proofs.Common.{◌≡◌, ◌<◌, ◌^◌, ◌++◌, drop, vec_len}
+use Rattle.dp_tree.specs.Trace.{start_cells}
+use Rattle.dp_meaning.proofs.memory.start_cells.Given as goal
+
+abbrev pub invariant-loop-info : goal.invariant-loop-info
+invariant-loop-info l = record {
+  cells : l.values.items ++ start_cells (drop l.info-index l.vars) ≡ start_cells l.vars;
+  small : vec_len l.values < 2 ^ 32;
+}

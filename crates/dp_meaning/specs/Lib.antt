@@ -1,0 +1,9 @@
+pub mod Runnable
+pub mod MachineState
+pub mod Sound
+pub mod Continues
+pub mod Moved
+pub mod PartRun
+pub mod IterationRun
+pub mod Turn
+pub mod Parts

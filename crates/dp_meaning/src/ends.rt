@@ -1,0 +1,41 @@
+//! What comes next in a program, and how a call that runs a part of it ends.
+use dp_base::Fault;
+
+/// What comes next at the top level of `main`.
+#[derive(Clone, Copy, Debug, PartialEq, Eq)]
+pub enum Part {
+    /// Statements up to the next region or the end.
+    Plain,
+    /// An iteration of the region with this number.
+    Region(u32),
+    /// Nothing.
+    Finished,
+}
+
+/// Why [`crate::Machine::run_part`] stopped.
+#[derive(Clone, Copy, Debug, PartialEq, Eq)]
+pub enum PartEnd {
+    /// No site of the part is left.
+    Done,
+    /// The next evaluation faults.
+    Fault(Fault),
+    /// The fuel is spent.
+    Fuel,
+    /// As many steps were made as the call was to make.
+    Going,
+}
+
+/// Why [`crate::Machine::iterate`] stopped.
+#[derive(Clone, Copy, Debug, PartialEq, Eq)]
+pub enum IterEnd {
+    /// The iteration has ended, and the region's condition comes next.
+    Next,
+    /// The condition gave 0.
+    Closed,
+    /// The next evaluation faults.
+    Fault(Fault),
+    /// The fuel is spent.
+    Fuel,
+    /// As many steps were made as the call was to make.
+    Going,
+}

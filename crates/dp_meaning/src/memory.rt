@@ -1,0 +1,54 @@
+//! Changes of a program's memory.
+ghost use Rattle.std.specs.Prelude.{◌≡◌, if◌then◌else◌, pos, slice_set, replicate, length, ◌^◌, ◌<◌, IfOk};
+ghost use Rattle.dp_tree.specs.Step as definition;
+ghost use Rattle.dp_tree.specs.Trace as definition_of_runs;
+
+use dp_base::{Cells, NoMemory};
+use dp_tree::{VarInfo, VarScope};
+use std::alloc::Global;
+
+fn is_local_of(region: u32, scope: VarScope) -> bool
+    ensures { result ≡ definition.is_local_of region scope }
+{
+    match scope {
+        VarScope::Body(of) => of == region,
+        VarScope::Global | VarScope::Outer => false,
+    }
+}
+
+#[tactic(auto, using(crate::proofs::MemoryLemmas::stores))]
+fn clear_local(region: u32, info: &VarInfo, cells: &mut Cells)
+    ensures { cells.new ≡ (if definition.is_local_of region info.now.scope then slice_set cells.old info.now.first.0 (pos 0) else cells.old) }
+{
+    if is_local_of(region, info.scope) && (info.first.0 as usize) < cells.len() {
+        cells.set(info.first, 0);
+    }
+}
+
+/// The body locals of the region read 0 afterwards.
+#[tactic(auto, using(crate::proofs::MemoryLemmas::clears))]
+pub(crate) fn clear_locals(region: u32, vars: &[VarInfo], cells: &mut Cells)
+    ensures { cells.new ≡ definition.clear_locals region vars.now cells.old }
+{
+    for info in vars {
+        clear_local(region, info, cells);
+    }
+}
+
+/// The cells of all variables, one variable after the other, at their start values. More of them than cells have numbers are
+/// a want of memory.
+#[tactic(auto, using(crate::proofs::MemoryLemmas::starts))]
+pub(crate) fn start_cells(alloc: Global, vars: &[VarInfo]) -> Result<Cells, NoMemory>
+    ensures cells { IfOk result (λ cells. cells ≡ definition_of_runs.start_cells vars.now) }
+    ensures small { IfOk result (λ cells. length cells < 2 ^ 32) }
+{
+    let mut values = Vec::new(alloc);
+    for info in vars {
+        let len = values.len() + info.length as usize;
+        if len > u32::MAX as usize {
+            return Err(NoMemory);
+        }
+        values.resize(len, info.start)?;
+    }
+    Ok(Cells::from_values(alloc, values))
+}

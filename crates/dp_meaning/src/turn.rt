@@ -1,0 +1,10 @@
+//! What one step gives.
+use dp_base::Fault;
+
+#[derive(Clone, Copy, Debug, PartialEq, Eq)]
+pub(crate) enum Turn {
+    /// A step was made.
+    Made { gave_zero: bool },
+    /// The evaluation faults. Nothing has changed.
+    Fault(Fault),
+}
