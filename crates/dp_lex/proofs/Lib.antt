@@ -13,3 +13,4 @@ pub mod Signs
 pub mod Fronts
 pub mod Reading
 pub mod Definite
+pub mod LastAnswer

@@ -47,3 +47,9 @@ abbrev pub IsNext : Reading → Result (Option Token) LexRefused → Reading →
 IsNext from (Ok (Some t)) to = Reads from.text from.place (lexeme t ∷ []) to.place
 IsNext from (Ok None) to = Reads from.text from.place [] to.place × (to.place ≡ length from.text)
 IsNext from (Err refused) to = Reads from.text from.place [] to.place × IsStuck (drop to.place from.text) × (to.place ≡ refused.place)
+
+-- no token comes with the answer: it is the end or a refusal
+abbrev pub IsLastAnswer : Result (Option Token) LexRefused → Type 0
+IsLastAnswer (Ok (Some t)) = ⊥
+IsLastAnswer (Ok None) = Unit {0}
+IsLastAnswer (Err refused) = Unit {0}

@@ -8,7 +8,7 @@ mod tables;
 #[cfg(test)]
 mod tests;
 
-pub use law::each_text_is_read_in_one_way;
+pub use law::{a_last_answer_is_given_again, each_text_is_read_in_one_way};
 pub use lexer::Lexer;
 
 /// What a token is: an identifier, a reserved word, a number, the mark of a region, or a sign.

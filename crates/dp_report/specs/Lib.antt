@@ -1,0 +1,7 @@
+pub mod Lines
+pub mod PrintsText
+pub mod StateText
+pub mod RegionText
+pub mod EndText
+pub mod SiteText
+pub mod RunText

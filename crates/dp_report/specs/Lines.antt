@@ -1,0 +1,26 @@
+-- Lines of a text.
+use Rattle.std.specs.Prelude.{ℕ, ◌+◌, ℤ, List, [], ◌∷◌, ◌++◌, codes, decimal}
+use Rattle.std.specs.Fmt.{signed_decimal}
+
+-- a line ends with LF
+abbrev pub line : List ℕ → List ℕ
+line words = words ++ codes "\n"
+
+-- a label, and a number right after it
+unfoldable pub labelled : List ℕ → ℕ → List ℕ
+labelled label n = label ++ decimal n
+
+-- each number behind a space
+abbrev pub spaced : List ℕ → List ℕ
+spaced [] = []
+spaced (n ∷ more) = labelled (codes " ") n ++ spaced more
+
+-- each number behind a space, where numbers may have a sign
+abbrev pub spaced_signed : List ℤ → List ℕ
+spaced_signed [] = []
+spaced_signed (z ∷ more) = codes " " ++ signed_decimal z ++ spaced_signed more
+
+-- the lines of a list's elements, which are numbered from n on
+abbrev pub numbered : {A : Type 0} → (ℕ → A → List ℕ) → ℕ → List A → List ℕ
+numbered f n [] = []
+numbered f n (x ∷ xs) = f n x ++ numbered f (n + 1) xs

@@ -1,0 +1,58 @@
+//! Numbers at the end of a text.
+
+ghost use Rattle.std.specs.Prelude.{◌≡◌, ◌∷◌, [], ◌++◌, OnOk, decimal, codes};
+ghost use Rattle.std.specs.Fmt.{signed_decimal};
+ghost use Rattle.dp_report.specs.Lines.{labelled, spaced, spaced_signed};
+
+use dp_base::{NoMemory, Row};
+
+/// A number has at most 20 digits, so the recursion is at most 20 calls deep.
+pub fn put_decimal(out: &mut Row<u8>, n: u64) -> Result<(), NoMemory>
+    ensures { OnOk result (out.new ≡ out.old ++ decimal n) }
+{
+    let digit = b'0' + (n % 10) as u8;
+    if n < 10 {
+        return out.push(digit);
+    }
+    put_decimal(out, n / 10)?;
+    out.push(digit)
+}
+
+pub fn put_signed(out: &mut Row<u8>, n: i64) -> Result<(), NoMemory>
+    ensures { OnOk result (out.new ≡ out.old ++ signed_decimal n) }
+{
+    if n < 0 {
+        out.push(b'-')?;
+    }
+    put_decimal(out, n.unsigned_abs())
+}
+
+/// A label, and a number right after it.
+#[tactic(auto, unfolding(crate::specs::Lines::labelled))]
+pub fn put_labelled(out: &mut Row<u8>, label: &[u8], n: u64) -> Result<(), NoMemory>
+    ensures { OnOk result (out.new ≡ out.old ++ labelled label.now n) }
+{
+    out.extend_from_slice(label)?;
+    put_decimal(out, n)
+}
+
+/// Each number behind a space.
+pub fn put_spaced(out: &mut Row<u8>, numbers: &[u64]) -> Result<(), NoMemory>
+    ensures { OnOk result (out.new ≡ out.old ++ spaced numbers.now) }
+{
+    for n in numbers {
+        put_labelled(out, b" ", *n)?;
+    }
+    Ok(())
+}
+
+/// Each number behind a space.
+pub fn put_spaced_signed(out: &mut Row<u8>, numbers: &[i64]) -> Result<(), NoMemory>
+    ensures { OnOk result (out.new ≡ out.old ++ spaced_signed numbers.now) }
+{
+    for n in numbers {
+        out.push(b' ')?;
+        put_signed(out, *n)?;
+    }
+    Ok(())
+}

@@ -1,0 +1,48 @@
+//! The regions of a run.
+
+ghost use Rattle.std.specs.Prelude.{◌≡◌, ◌++◌, OnOk};
+ghost use Rattle.dp_report.specs.RegionText.{listed, counts_line, report_line, regions_bytes};
+
+use crate::decimal::{put_labelled, put_spaced};
+use dp_base::{NoMemory, RegionReport, Row};
+
+/// A line for each region with a begun iteration.
+pub fn put_regions(out: &mut Row<u8>, reports: &[RegionReport]) -> Result<(), NoMemory>
+    ensures { OnOk result (out.new ≡ out.old ++ regions_bytes reports.now) }
+{
+    for report in reports {
+        put_report(out, report)?;
+    }
+    Ok(())
+}
+
+fn put_report(out: &mut Row<u8>, report: &RegionReport) -> Result<(), NoMemory>
+    ensures { OnOk result (out.new ≡ out.old ++ report_line report.now) }
+{
+    if report.iterations == 0 {
+        return Ok(());
+    }
+    put_counts(out, report)
+}
+
+fn put_counts(out: &mut Row<u8>, report: &RegionReport) -> Result<(), NoMemory>
+    ensures { let r = report.now in OnOk result (out.new ≡ out.old ++ counts_line r.region r.iterations r.recovered_count r.recovered) }
+{
+    put_labelled(out, b"region ", u64::from(report.region))?;
+    put_labelled(out, b" iterations ", report.iterations)?;
+    put_labelled(out, b" recovered ", report.recovered_count)?;
+    put_listed(out, report.recovered_count, report.recovered.as_slice())?;
+    out.push(b'\n')
+}
+
+/// A colon and the numbers, where there are any.
+#[tactic(auto, unfolding(crate::specs::RegionText::listed))]
+fn put_listed(out: &mut Row<u8>, count: u64, numbers: &[u64]) -> Result<(), NoMemory>
+    ensures { OnOk result (out.new ≡ out.old ++ listed count numbers.now) }
+{
+    if count == 0 {
+        return Ok(());
+    }
+    out.push(b':')?;
+    put_spaced(out, numbers)
+}
