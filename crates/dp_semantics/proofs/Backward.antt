@@ -3,18 +3,7 @@ use Rattle.std.proofs.Common.{◌≡◌, ◌⊎◌, inl, inr, refl, sym, ap, ◌
 use Rattle.std.proofs.lemmas.List.{append-nil}
 use Rattle.std.proofs.lemmas.Bool.{cases_eq}
 use Rattle.std.specs.List.{list_all}
-use Rattle.dp_base.specs.declared.Word.{Word}
-use Rattle.dp_base.specs.declared.SiteId.{SiteId}
-use Rattle.dp_tree.specs.declared.Stmt.{Stmt, out-Stmt, out-roll-Stmt}
-use Rattle.dp_tree.specs.Eval.{WithLoads}
-use Rattle.dp_tree.specs.Step.{Event, Effect, followed, site_of, value_of, stored}
-use Rattle.dp_plan.specs.Access.{stage_of}
-use Rattle.dp_semantics.specs.Seen.{Past}
-use Rattle.dp_semantics.specs.Clean.{all_agree, event_agrees, event_as_assumed}
-use Rattle.dp_semantics.specs.Words.{words_of, word_list}
-use Rattle.dp_semantics.specs.StageRun.{Turn, Ended, turn_from}
-use Rattle.dp_semantics.specs.Packets.{Epoch}
-use Rattle.dp_semantics.specs.Judge.{Judging, Judgement, Agreed, Clean, Unclean, judge_by, judge_spent, judge_from, last}
+use Rattle.dp_semantics.proofs.Names.{Word, SiteId, Stmt, out-Stmt, out-roll-Stmt, WithLoads, Event, Effect, followed, site_of, value_of, stored, stage_of, Past, all_agree, event_agrees, event_as_assumed, words_of, word_list, Turn, Ended, turn_from, Epoch, Judging, Judgement, Agreed, Clean, Unclean, judge_by, judge_spent, judge_from, last}
 use Rattle.dp_semantics.proofs.Each.{and_make}
 use Rattle.dp_semantics.proofs.Setting.{Fit}
 use Rattle.dp_semantics.proofs.Taking.{append_same, words_for, words_here, words_elsewhere, event_held}

@@ -4,23 +4,13 @@ use Rattle.std.proofs.lemmas.List.{append-nil}
 use Rattle.std.proofs.lemmas.Option.{slice_get_within, slice_get-get_or}
 use Rattle.std.proofs.lemmas.Bool.{both_ways, lt-leb}
 use Rattle.std.specs.List.{list_all}
-use Rattle.dp_tree.specs.declared.Stmt.{Stmt}
-use Rattle.dp_tree.specs.declared.Program.{Program}
-use Rattle.dp_plan.specs.declared.Plan.{Plan}
-use Rattle.dp_tree.specs.Step.{Config, Event, Step, Finished, Faulted, Stepped, clear_locals, step}
-use Rattle.dp_tree.specs.Trace.{Run, run_of, run_by, begin}
-use Rattle.dp_tree.specs.Iteration.{starts, start, iteration, is_closing, has_ended, memory_after}
-use Rattle.dp_semantics.specs.Seen.{Past}
-use Rattle.dp_semantics.specs.Clean.{all_agree, event_as_assumed, fits_words, pushed, events_since, is_clean}
-use Rattle.dp_semantics.specs.Words.{word_list}
-use Rattle.dp_semantics.specs.Packets.{Epoch, Packet, passed}
-use Rattle.dp_semantics.specs.Judge.{Agreed, Clean, judge}
-use Rattle.dp_semantics.specs.Verdict.{effect_in, epoch_at, status_when, CleanSince, Judged, JudgesRightly, Follows, StoresLead}
+use Rattle.dp_semantics.proofs.Names.{Stmt, Program, Plan, Config, Event, Step, Finished, Faulted, Stepped, clear_locals, step, Run, run_of, run_by, begin, starts, start, iteration, is_closing, has_ended, memory_after, Past, all_agree, event_as_assumed, fits_words, pushed, events_since, is_clean, word_list, Epoch, Packet, passed, Agreed, Clean, judge, effect_in, epoch_at, status_when, CleanSince, Judged, JudgesRightly, Follows, StoresLead}
 use Rattle.dp_semantics.proofs.Setting.{Accepted}
 use Rattle.dp_semantics.proofs.Lockstep.{Goes, closing_after}
 use Rattle.dp_semantics.proofs.Whole.{turn_of, sound_parts, MadeWithin}
 use Rattle.dp_semantics.proofs.PacketFacts.{status_for}
-use Rattle.dp_semantics.proofs.Epochs.{History, numbered, past_at, MakesAt, GoneBy, Gone, WellJudged, clean_is_judged, judged_is_clean}
+use Rattle.dp_semantics.proofs.Epochs.{History, numbered, past_at, MakesAt, GoneBy, Gone}
+use Rattle.dp_semantics.proofs.Verdicts.{WellJudged, clean_is_judged, judged_is_clean}
 use Rattle.dp_semantics.proofs.Iterations.{run, Ending, goes_on, closes, breaks, IterationIs, iteration_is}
 use Rattle.dp_semantics.proofs.Counts.{fits_each, each_fits, words_are}
 use Rattle.dp_semantics.proofs.Paths as paths

@@ -3,15 +3,7 @@ use Rattle.std.proofs.Common.{◌≡◌, ◌⊎◌, inl, inr, refl, sym, ap, ◌
 use Rattle.std.proofs.lemmas.List.Sums.{sum_by-cons}
 use Rattle.std.proofs.lemmas.Bool.{cases_eq}
 use Rattle.std.specs.List.{list_all, flat_map}
-use Rattle.dp_tree.specs.declared.Program.{Program}
-use Rattle.dp_plan.specs.declared.Plan.{Plan}
-use Rattle.dp_tree.specs.Eval.{Load}
-use Rattle.dp_tree.specs.Step.{Event}
-use Rattle.dp_plan.specs.Access.{stage_of, is_checked}
-use Rattle.dp_semantics.specs.Clean.{event_words, words_at, word_count, count_from, fits_words}
-use Rattle.dp_semantics.specs.Words.{load_words, done_word, words_of}
-use Rattle.dp_semantics.specs.Judge.{last}
-use Rattle.dp_semantics.specs.Verdict.{words_at_stage}
+use Rattle.dp_semantics.proofs.Names.{Program, Plan, Load, Event, stage_of, is_checked, event_words, words_at, word_count, count_from, fits_words, load_words, done_word, words_of, last, words_at_stage}
 use Rattle.dp_semantics.proofs.Each.{and_true, and_make}
 use Rattle.dp_semantics.proofs.Taking.{words_for}
 use Rattle.dp_semantics.proofs.Lockstep.{words_through}

@@ -2,19 +2,7 @@
 use Rattle.std.proofs.Common.{◌≡◌, ◌⊎◌, inl, inr, refl, sym, ap, ◌∙◌, subst, ℕ, zero, suc, ◌+◌, ◌<◌, ◌≤◌, true, false, List, [], ◌∷◌, ◌++◌, ℤ, pos, length, get_or, length-append, map, Option, Some, None, slice_get, Ok, arith}
 use Rattle.std.proofs.lemmas.Option.{slice_get_past}
 use Rattle.std.proofs.lemmas.Bool.{cases_order, both_ways}
-use Rattle.dp_base.specs.declared.Word.{Word}
-use Rattle.dp_tree.specs.Step.{Event}
-use Rattle.dp_plan.specs.declared.StageKind.{StageKind}
-use Rattle.dp_plan.specs.declared.StageKind.TheVariants.{Seq, Par}
-use Rattle.dp_plan.specs.declared.Plan.{Plan}
-use Rattle.dp_plan.specs.Access.{is_par, is_replicated}
-use Rattle.dp_semantics.specs.Seen.{Past}
-use Rattle.dp_semantics.specs.Clean.{pushed}
-use Rattle.dp_semantics.specs.Words.{word_list}
-use Rattle.dp_semantics.specs.StageRun.{TurnEnd, stage_run}
-use Rattle.dp_semantics.specs.Packets.{Status, Going, Closing, Broken, Packet, Passed, Epoch, status_of, passed_by, run_on, cleared, at_sequential, at_replicated, at_kind, passed}
-use Rattle.dp_semantics.specs.Judge.{Judgement, Agreed, Clean, judge, judge_lists, judge_status, last}
-use Rattle.dp_semantics.specs.Verdict.{effect_in}
+use Rattle.dp_semantics.proofs.Names.{Word, Event, StageKind, Seq, Par, Plan, is_par, is_replicated, Past, pushed, word_list, TurnEnd, stage_run, Status, Going, Closing, Broken, Packet, Passed, Epoch, status_of, passed_by, run_on, cleared, at_sequential, at_replicated, at_kind, passed, Judgement, Agreed, Clean, judge, judge_lists, judge_status, last, effect_in}
 use Rattle.dp_semantics.proofs.Setting.{size, Fit}
 use Rattle.dp_semantics.proofs.Seeing.{Sees}
 use Rattle.dp_semantics.proofs.Memory.{AllBefore, pushed_before, before_later, Cleared, sees_next, sees_replicated, clear-length}
@@ -67,7 +55,7 @@ module _ {k : Epoch} (h : History k) where
   Gone n = (m : ℕ) → m < n → GoneBy m
 
   -- the source where the n-th iteration starts
-  record Ready (n : ℕ) : Type 0 where
+  pub record Ready (n : ℕ) : Type 0 where
     pub before : AllBefore (number n) (past n)
     pub at : Stands k (number n) (turn_of ok.accepted) (past n) (memory n)
 
@@ -85,7 +73,7 @@ module _ {k : Epoch} (h : History k) where
       after : Stands k (number n) [] (past (suc n)) gone.makes.then_cells
       after = stands_after ok r.at gone.makes.path
 
-  ready : (n : ℕ) → Gone n → Ready n
+  pub ready : (n : ℕ) → Gone n → Ready n
   ready zero g = record { before = tt; at = stands_at_start ok (number 0) [] (memory 0) tt (λ c. ap (λ (cells : List ℤ). get_or cells c (pos 0)) h.starts) (ap length h.starts ∙ h.base_size) }
   ready (suc n) g = ready_next n (ready n (λ m l. g m (omega (arith, l)))) (g n (omega arith))
 
@@ -225,7 +213,7 @@ module _ {k : Epoch} (h : History k) where
     by_kind (Some Seq) is = sequential (ap is_par is)
     by_kind None is = sequential (ap is_par is)
 
-  claims_at : (s : ℕ) → s < last plan → (n : ℕ) → Gone n → Claim s n (passed k s n)
+  pub claims_at : (s : ℕ) → s < last plan → (n : ℕ) → Gone n → Claim s n (passed k s n)
   claims_at zero high n g = record {
     fresh = λ real. absurd (omega (arith, real));
     sent = λ makes. record { count = refl; words = λ t low up. absurd (omega (arith, low, up)); status = refl };
@@ -233,40 +221,3 @@ module _ {k : Epoch} (h : History k) where
     ends = λ alive. record { count = refl; turns = λ u low up. absurd (omega (arith, low, up)) };
   }
   claims_at (suc s) high n g = by_kind s high (passed k s) (claims_at s (omega (arith, high))) (slice_get plan.stages s) refl n g
-
-  abbrev pub last_packet : ℕ → Packet
-  last_packet n = (passed k (length plan.stages) n).packet
-
-  judge_live : (m : ℕ) (cells : List ℤ) (packet : Packet) → live packet.status ≡ true → judge program plan m cells packet ≡ judge_lists program plan m cells packet.lists
-  judge_live m cells packet alive = by packet.status alive
-    where
-      by : (status : Status) → live status ≡ true → judge_status (judge_lists program plan m cells packet.lists) status ≡ judge_lists program plan m cells packet.lists
-      by Going e = refl
-      by Closing e = refl
-      by (Broken s why) e = absurd (cc)
-
-  clean_live : (judgement : Judgement) (verdict : Agreed) (status : Status) → judge_status judgement status ≡ Clean verdict → live status ≡ true
-  clean_live judgement verdict Going e = refl
-  clean_live judgement verdict Closing e = refl
-  clean_live judgement verdict (Broken s why) e = absurd (cc)
-
-  -- The packet of an iteration that agrees with the plan has the source's words, and is judged Clean with the source's effects.
-  pub record WellJudged (n m : ℕ) : Type 0 where
-    pub sent : Sent (length plan.stages) n (last_packet n)
-    pub judged : judge program plan m (memory n) (last_packet n) ≡ Clean (record { effects = map effect_in (events n); closing = closing_after program plan false (events n) })
-
-  pub clean_is_judged : (n m : ℕ) → Gone n → MakesAt n → length (events n) ≤ m → WellJudged n m
-  clean_is_judged n m g makes within =
-      let sent = (claims_at (length plan.stages) (omega arith) n g).sent makes in
-      record {
-        sent = sent;
-        judged = judge_live m (memory n) (last_packet n) (ap live sent.status ∙ status_live (length plan.stages) (closing_after program plan false (events n)))
-            ∙ judge_whole ok (number n) (past n) (memory n) (ready n g).at m (events n) makes within (last_packet n).lists sent.words (omega (arith, sent.count));
-      }
-
-  -- Where the packet is judged Clean within m steps, the source makes the iteration within m steps in agreement with the plan.
-  pub judged_is_clean : (n m : ℕ) → Gone n → (verdict : Agreed) → judge program plan m (memory n) (last_packet n) ≡ Clean verdict → MadeWithin ok (number n) (past n) (memory n) m
-  judged_is_clean n m g verdict judged =
-      let alive = clean_live (judge_lists program plan m (memory n) (last_packet n).lists) verdict (last_packet n).status judged in
-      let ends = (claims_at (length plan.stages) (omega arith) n g).ends alive in
-      judge_whole_back ok (number n) (past n) (memory n) (ready n g).at m (last_packet n).lists (omega (arith, ends.count)) ends.turns verdict (sym (judge_live m (memory n) (last_packet n) alive) ∙ judged)

@@ -1,16 +1,7 @@
 -- An evaluation and the same one in another memory: what form its value has, what it loads, and when the two agree.
 use Rattle.std.proofs.Common.{◌≡◌, refl, sym, ap, ◌∙◌, subst, ℕ, ◌+◌, ◌<◌, ◌≤◌, Bool, true, false, if◌then◌else◌, List, [], ◌∷◌, ◌++◌, ℤ, pos, negsuc, length, get_or, nat_lt, Option, Some, None, Result, Ok, Err, arith, ltb-true}
-use Rattle.dp_base.specs.declared.FaultKind.{FaultKind}
-use Rattle.dp_base.specs.declared.FaultKind.TheVariants.{Index}
-use Rattle.dp_base.specs.Arithmetic.{binary_result, unary_result, is_zero}
-use Rattle.dp_tree.specs.declared.Expr.{Expr, end_of-Expr, more_of-Expr}
+use Rattle.dp_semantics.proofs.Names.{FaultKind, Index, binary_result, unary_result, is_zero, Expr, end_of-Expr, more_of-Expr, Program, Stmt, Stmt-F, Assign, Store, Print, If, While, Region, Call, Load, WithLoads, Evaluated, just, after_loads, and_then, without_loads, place, load, first_cell, cell_count, eval, Effect, Stored, Printed, Decided, evaluated, loaded_by}
 use Rattle.dp_tree.specs.declared.Expr.TheVariants as tree
-use Rattle.dp_tree.specs.declared.Program.{Program}
-use Rattle.dp_tree.specs.declared.Stmt.{Stmt}
-use Rattle.dp_tree.specs.declared.Stmt.TheOpen.{Stmt-F, Assign, Store, Print, If, While, Region, Call}
-use Rattle.dp_tree.specs.Eval.{Load, WithLoads, Evaluated, just, after_loads, and_then, without_loads, place, load, first_cell, cell_count, eval}
-use Rattle.dp_tree.specs.Step.{Effect, Stored, Printed, Decided, evaluated}
-use Rattle.dp_plan.specs.Access.{loaded_by}
 use Rattle.dp_semantics.proofs.Each.{Each, each_split, each_join}
 
 -- the load gave what the memory holds

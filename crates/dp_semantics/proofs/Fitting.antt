@@ -3,20 +3,7 @@ use Rattle.std.proofs.Common.{◌≡◌, ◌⊎◌, inl, inr, refl, sym, ap, ◌
 use Rattle.std.proofs.lemmas.Option.{slice_get_past}
 use Rattle.std.proofs.lemmas.Bool.{cases_eq, cases_lt, both_ways, not-true}
 use Rattle.std.specs.List.{list_all, flat_map}
-use Rattle.dp_base.specs.declared.SiteId.{SiteId}
-use Rattle.dp_tree.specs.declared.Expr.{Expr}
-use Rattle.dp_tree.specs.declared.Stmt.{Stmt, out-Stmt}
-use Rattle.dp_tree.specs.declared.Stmt.TheOpen.{Stmt-F, Region}
-use Rattle.dp_tree.specs.declared.Program.{Program}
-use Rattle.dp_plan.specs.declared.Plan.{Plan}
-use Rattle.dp_tree.specs.Eval.{cell_count}
-use Rattle.dp_tree.specs.Trace.{Run}
-use Rattle.dp_plan.specs.Access.{Access, accesses, first_site, stage_of, is_par, is_replicated, is_region_at, region_statement, region_accesses}
-use Rattle.dp_semantics.specs.Clean.{count_from, is_clean}
-use Rattle.dp_semantics.specs.Recovery.{epoch}
-use Rattle.dp_semantics.specs.Nesting.{well_nested, is_free}
-use Rattle.dp_semantics.specs.Fits.{lies_in_order, has_cell, stores_known, access_known, is_inner, region_fits, one_region, region_alone, kinds_apart, kinds_fit, fits_plan}
-use Rattle.dp_semantics.specs.Verdict.{whole_run, CleanSince, JudgesRightly, JudgesEpochs, StoresLead}
+use Rattle.dp_semantics.proofs.Names.{SiteId, Expr, Stmt, out-Stmt, Stmt-F, Region, Program, Plan, cell_count, Run, Access, accesses, first_site, stage_of, is_par, is_replicated, is_region_at, region_statement, region_accesses, count_from, is_clean, epoch, well_nested, is_free, lies_in_order, has_cell, stores_known, access_known, is_inner, region_fits, one_region, region_alone, kinds_apart, kinds_fit, fits_plan, whole_run, CleanSince, JudgesRightly, JudgesEpochs, StoresLead}
 use Rattle.dp_semantics.proofs.Each.{Each, each_map, and_true, and_make, all_of}
 use Rattle.dp_semantics.proofs.Evaluation.{Roomy}
 use Rattle.dp_semantics.proofs.Heads.{all_free}

@@ -1,10 +1,7 @@
 -- What follows a statement at the head: facts that its parts and the rest have, the rest has after a step.
 use Rattle.std.proofs.Common.{◌≡◌, refl, sym, append_assoc, ◌&&◌, Bool, true, false, if◌then◌else◌, List, [], ◌∷◌, ◌++◌, ℤ}
 use Rattle.std.specs.List.{list_all}
-use Rattle.dp_base.specs.Arithmetic.{is_zero}
-use Rattle.dp_tree.specs.declared.Stmt.{Stmt}
-use Rattle.dp_tree.specs.declared.Stmt.TheOpen.{Stmt-F, If, While, Region}
-use Rattle.dp_tree.specs.Step.{choose, followed}
+use Rattle.dp_semantics.proofs.Names.{is_zero, Stmt, Stmt-F, If, While, Region, choose, followed}
 
 -- A fact of lists of statements that holds of two lists joined.
 pub record Joins (F : List Stmt → Type 0) : Type 0 where

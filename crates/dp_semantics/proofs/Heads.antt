@@ -1,19 +1,8 @@
 -- What the text's definitions say of a statement, by its head.
 use Rattle.std.proofs.Common.{◌≡◌, refl, sym, ap, ◌∙◌, append_assoc, ℕ, Bool, true, false, not, ◌&&◌, ◌||◌, ◌==◌, List, [], ◌∷◌, ◌++◌, is_some}
 use Rattle.std.specs.List.{flat_map, list_all}
-use Rattle.dp_base.specs.declared.SiteId.{SiteId}
-use Rattle.dp_tree.specs.declared.Expr.{Expr}
-use Rattle.dp_tree.specs.declared.Stmt.{Stmt, Row_of-Stmt, out-Stmt, roll-Stmt, roll-out-Stmt}
-use Rattle.dp_tree.specs.declared.Stmt.TheBlock.{hidden-the_row-Stmt-0}
+use Rattle.dp_semantics.proofs.Names.{SiteId, Expr, Stmt, out-Stmt, roll-Stmt, roll-out-Stmt, hidden-the_row-Stmt-0, rolls-Assign, rolls-Store, rolls-Print, rolls-If, rolls-While, rolls-Region, rolls-Call, Stmt-F, Assign, Store, Print, If, While, Region, Call, Program, Plan, site_of, Access, accesses, accesses_in, assumed_in, branch_of, where_reached, project, project_in, project_all, none_earlier, well_nested, well_nested_in, is_free, is_free_in}
 use Rattle.dp_tree.specs.declared.Stmt.TheVariants as tree
-use Rattle.dp_tree.specs.declared.Stmt.TheViews.{rolls-Assign, rolls-Store, rolls-Print, rolls-If, rolls-While, rolls-Region, rolls-Call}
-use Rattle.dp_tree.specs.declared.Stmt.TheOpen.{Stmt-F, Assign, Store, Print, If, While, Region, Call}
-use Rattle.dp_tree.specs.declared.Program.{Program}
-use Rattle.dp_plan.specs.declared.Plan.{Plan}
-use Rattle.dp_tree.specs.Step.{site_of}
-use Rattle.dp_plan.specs.Access.{Access, accesses, accesses_in}
-use Rattle.dp_semantics.specs.Project.{assumed_in, branch_of, where_reached, project, project_in, project_all}
-use Rattle.dp_semantics.specs.Nesting.{none_earlier, well_nested, well_nested_in, is_free, is_free_in}
 use Rattle.dp_semantics.proofs.Evaluation.{head_loads, head_stores}
 
 -- what opens where a statement is made

@@ -2,15 +2,7 @@
 use Rattle.std.proofs.Common.{◌≡◌, refl, sym, ap, ◌∙◌, ℕ, zero, suc, ◌+◌, ◌<◌, ◌≤◌, ◌==◌, Bool, true, false, not, ◌&&◌, ◌||◌, List, [], ◌∷◌, length, length-append, replicate, slice_get, nat_lt, arith, ltb-true, eqb-true, ne_eqb, eq-eqb}
 use Rattle.std.proofs.lemmas.List.{length-replicate}
 use Rattle.std.specs.List.{list_any}
-use Rattle.dp_tree.specs.declared.VarInfo.{VarInfo}
-use Rattle.dp_tree.specs.declared.Program.{Program}
-use Rattle.dp_plan.specs.declared.Plan.{Plan}
-use Rattle.dp_tree.specs.Eval.{first_of, length_of}
-use Rattle.dp_tree.specs.Step.{is_local_of}
-use Rattle.dp_tree.specs.Trace.{start_cells}
-use Rattle.dp_plan.specs.Access.{is_local}
-use Rattle.dp_semantics.specs.Seen.{is_local_cell}
-use Rattle.dp_semantics.specs.Fits.{lies_in_order}
+use Rattle.dp_semantics.proofs.Names.{VarInfo, Program, Plan, first_of, length_of, is_local_of, start_cells, is_local, is_local_cell, lies_in_order}
 use Rattle.dp_semantics.proofs.Each.{and_true}
 use Rattle.dp_semantics.proofs.Setting.{Laid}
 

@@ -1,6 +1,6 @@
 -- The test that two integers are equal.
 use Rattle.std.proofs.Common.{◌≡◌, ap, ℕ, ◌≤◌, true, ℤ, pos, negsuc, arith, leb-true, le-leb}
-use Rattle.dp_semantics.specs.Clean.{int_eq}
+use Rattle.dp_semantics.proofs.Names.{int_eq}
 use Rattle.dp_semantics.proofs.Each.{and_true, and_make}
 
 pub int_same : (x y : ℤ) → int_eq x y ≡ true → x ≡ y

@@ -2,14 +2,7 @@
 use Rattle.std.proofs.Common.{◌≡◌, ◌⊎◌, inl, inr, refl, sym, ap, ◌∙◌, subst, ℕ, suc, ◌+◌, ◌-◌, ◌≤◌, Bool, true, false, ◌||◌, if◌then◌else◌, List, [], ◌∷◌, ◌++◌, ℤ, pos, length, get_or, take, drop, length-append, Option, Some, None, is_some, slice_get, slice_range, Err, arith}
 use Rattle.std.proofs.Math.Seq.{drop-append_seam, take-append_seam}
 use Rattle.std.proofs.lemmas.List.{append-nil}
-use Rattle.dp_base.specs.declared.FaultKind.{FaultKind}
-use Rattle.dp_tree.specs.declared.Stmt.{Stmt, out-Stmt}
-use Rattle.dp_tree.specs.declared.Program.{Program}
-use Rattle.dp_plan.specs.declared.Plan.{Plan}
-use Rattle.dp_tree.specs.Step.{Config, Event, evaluated}
-use Rattle.dp_tree.specs.Trace.{Run, run_of, begin, start_cells}
-use Rattle.dp_tree.specs.Iteration.{stands_at_head, start, decided_zero, stop_from, events_from, iteration, is_closing, has_ended, cells_in, cells_after, memory_from, memory_after, places}
-use Rattle.dp_semantics.specs.Verdict.{whole_run}
+use Rattle.dp_semantics.proofs.Names.{FaultKind, Stmt, out-Stmt, Program, Plan, Config, Event, evaluated, Run, run_of, begin, start_cells, stands_at_head, start, decided_zero, stop_from, events_from, iteration, is_closing, has_ended, cells_in, cells_after, memory_from, memory_after, places, whole_run}
 use Rattle.dp_semantics.proofs.Each.{Each, each_split}
 use Rattle.dp_semantics.proofs.Memory.{Cleared, clear-at, clear-length}
 use Rattle.dp_semantics.proofs.Setting.{size, Accepted}

@@ -2,21 +2,7 @@
 use Rattle.std.proofs.Common.{◌≡◌, refl, sym, ap, ◌∙◌, append_assoc, ℕ, zero, suc, ◌+◌, ◌<◌, Bool, true, ◌&&◌, if◌then◌else◌, List, [], ◌∷◌, ◌++◌, ℤ, length, map, Option, Some, None, arith}
 use Rattle.std.proofs.lemmas.List.{append-nil}
 use Rattle.std.specs.List.{list_all}
-use Rattle.dp_base.specs.declared.Word.{Word}
-use Rattle.dp_base.specs.declared.SiteId.{SiteId}
-use Rattle.dp_tree.specs.declared.Stmt.{Stmt, out-Stmt, out-roll-Stmt}
-use Rattle.dp_tree.specs.declared.Stmt.TheOpen.{Stmt-F}
-use Rattle.dp_tree.specs.declared.Program.{Program}
-use Rattle.dp_plan.specs.declared.Plan.{Plan}
-use Rattle.dp_tree.specs.Eval.{Load, WithLoads}
-use Rattle.dp_tree.specs.Step.{Event, Effect, followed, site_of, value_of}
-use Rattle.dp_semantics.specs.Seen.{Past}
-use Rattle.dp_semantics.specs.Clean.{as_assumed, event_as_assumed, pushed}
-use Rattle.dp_semantics.specs.Words.{words_of, word_list}
-use Rattle.dp_semantics.specs.StageRun.{words_left}
-use Rattle.dp_semantics.specs.Packets.{Epoch}
-use Rattle.dp_semantics.specs.Judge.{Judging, Clean, loads_hold, judged, judged_by, judge_step, judge_by, judge_at, judge_spent, judge_from, last}
-use Rattle.dp_semantics.specs.Verdict.{effect_in}
+use Rattle.dp_semantics.proofs.Names.{Word, SiteId, Stmt, out-Stmt, out-roll-Stmt, Stmt-F, Program, Plan, Load, WithLoads, Event, Effect, followed, site_of, value_of, Past, as_assumed, event_as_assumed, pushed, words_of, word_list, words_left, Epoch, Judging, Clean, loads_hold, judged, judged_by, judge_step, judge_by, judge_at, judge_spent, judge_from, last, effect_in}
 use Rattle.dp_semantics.proofs.Each.{each_map, and_true, and_make}
 use Rattle.dp_semantics.proofs.Evaluation.{Form, Holds, IsHeld}
 use Rattle.dp_semantics.proofs.Setting.{Fit}

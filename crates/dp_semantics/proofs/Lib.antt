@@ -1,5 +1,5 @@
-pub mod Build
-pub mod Programs
+pub mod rows
+pub mod Names
 pub mod Each
 pub mod Evaluation
 pub mod Heads
@@ -19,6 +19,7 @@ pub mod Memory
 pub mod Whole
 pub mod PacketFacts
 pub mod Epochs
+pub mod Verdicts
 pub mod Runs
 pub mod Placed
 pub mod Walks
@@ -29,3 +30,5 @@ pub mod Paths
 pub mod Central
 pub mod InOrder
 pub mod Fitting
+pub mod OneStage
+pub mod Recovering

@@ -1,20 +1,9 @@
 -- Lockstep: a stage over any piece of an iteration that agrees with the plan.
-use Rattle.std.proofs.Common.{◌≡◌, refl, sym, ap, ◌∙◌, subst, append_assoc, ℕ, suc, ◌+◌, ◌<◌, ◌≤◌, Bool, true, ◌||◌, List, [], ◌∷◌, ◌++◌, ℤ, length, length-append, sum_by, Ok, arith}
+use Rattle.std.proofs.Common.{◌≡◌, refl, sym, ap, ◌∙◌, subst, append_assoc, ℕ, ◌+◌, ◌<◌, ◌≤◌, Bool, true, ◌||◌, List, [], ◌∷◌, ◌++◌, ℤ, length, length-append, sum_by, Ok, arith}
 use Rattle.std.proofs.lemmas.List.{append-nil}
 use Rattle.std.specs.List.{list_all}
-use Rattle.dp_base.specs.declared.Word.{Word}
-use Rattle.dp_tree.specs.declared.Stmt.{Stmt, out-Stmt}
-use Rattle.dp_tree.specs.declared.Program.{Program}
-use Rattle.dp_plan.specs.declared.Plan.{Plan}
-use Rattle.dp_tree.specs.Eval.{WithLoads}
-use Rattle.dp_tree.specs.Step.{Event, Effect, followed, value_of, stored, evaluated}
-use Rattle.dp_plan.specs.Access.{stage_of, first_site}
-use Rattle.dp_semantics.specs.Seen.{Past}
-use Rattle.dp_semantics.specs.Clean.{all_agree, event_agrees, event_as_assumed, pushed}
-use Rattle.dp_semantics.specs.Words.{words_of, word_list}
-use Rattle.dp_semantics.specs.StageRun.{Turn, turn_from, is_zero_at}
-use Rattle.dp_semantics.specs.Packets.{Epoch}
-use Rattle.dp_semantics.proofs.Each.{Each, and_true}
+use Rattle.dp_semantics.proofs.Names.{Word, Stmt, out-Stmt, Program, Plan, WithLoads, Event, Effect, followed, value_of, stored, evaluated, stage_of, first_site, Past, all_agree, event_agrees, event_as_assumed, pushed, words_of, word_list, Turn, turn_from, is_zero_at, Epoch}
+use Rattle.dp_semantics.proofs.Each.{and_true}
 use Rattle.dp_semantics.proofs.Setting.{Fit}
 use Rattle.dp_semantics.proofs.Taking.{append_same, words_for, words_here}
 use Rattle.dp_semantics.proofs.Source.{event_of, past_of, stage_for, Stands, stands_next, own_site, form_of, stage_does}
@@ -71,12 +60,6 @@ module _ {k : Epoch} (ok : Fit k) {i : ℕ} where
       Stands k i after (pushed i events earlier) then_cells
   stands_after at stays = at
   stands_after at (goes {v = v} e path) = stands_after (stands_next ok at v e) path
-
-  -- each event is at a site of a stage
-  pub all_staged : {to_do : List Stmt} {earlier : List Past} {cells : List ℤ} {events : List Event} {after : List Stmt} {then_cells : List ℤ} → Stands k i to_do earlier cells → Goes program input to_do cells events after then_cells →
-      Each (λ event. (0 < stage_of program plan event.site) × (stage_of program plan event.site < suc (length plan.stages))) events
-  all_staged at stays = tt
-  all_staged at (goes {v = v} e path) = (((own_site ok at).staged, (own_site ok at).early), all_staged (stands_next ok at v e) path)
 
   -- A stage in step with the source stays so through events that agree with the plan.
   pub lockstep : (s : ℕ) → 0 < s → {to_do : List Stmt} {earlier : List Past} {cells : List ℤ} {events : List Event} {after : List Stmt} {then_cells : List ℤ} → Stands k i to_do earlier cells → Goes program input to_do cells events after then_cells →

@@ -4,14 +4,7 @@ use Rattle.std.proofs.lemmas.Bool.{cases_eq, cases_lt, cases_Bool, both_ways}
 use Rattle.std.proofs.lemmas.List.{get_or-set_other, get_or_past, length-set}
 use Rattle.std.proofs.lemmas.Grind.{get_or-set_at}
 use Rattle.std.specs.List.{list_any}
-use Rattle.dp_tree.specs.declared.VarInfo.{VarInfo}
-use Rattle.dp_tree.specs.declared.Program.{Program}
-use Rattle.dp_plan.specs.declared.Plan.{Plan}
-use Rattle.dp_tree.specs.Step.{Event, is_local_of, clear_locals}
-use Rattle.dp_plan.specs.Access.{stage_of, is_replicated}
-use Rattle.dp_semantics.specs.Seen.{Past, is_local_cell, is_local_at, is_covered, stored_in, seen}
-use Rattle.dp_semantics.specs.Clean.{pushed}
-use Rattle.dp_semantics.specs.Packets.{Epoch, cleared}
+use Rattle.dp_semantics.proofs.Names.{VarInfo, Program, Plan, Event, is_local_of, clear_locals, stage_of, is_replicated, Past, is_local_cell, is_local_at, is_covered, stored_in, seen, pushed, Epoch, cleared}
 use Rattle.dp_semantics.proofs.Each.{Each, each_map, or_false}
 use Rattle.dp_semantics.proofs.Seeing.{stored_none, seen_alike, seen_base, up_to, Sees}
 

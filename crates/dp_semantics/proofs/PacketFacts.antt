@@ -2,10 +2,7 @@
 use Rattle.std.proofs.Common.{◌≡◌, refl, sym, ap, ◌∙◌, ℕ, zero, suc, ◌-◌, ◌<◌, Bool, true, false, List, [], ◌∷◌, ◌++◌, ℤ, length, get_or, Ok, Err, arith}
 use Rattle.std.proofs.lemmas.List.{get_or_append_left}
 use Rattle.std.proofs.lemmas.Bool.{both_ways}
-use Rattle.dp_base.specs.declared.Word.{Word}
-use Rattle.dp_semantics.specs.Words.{word_list}
-use Rattle.dp_semantics.specs.StageRun.{TurnEnd, Ended, stage_run}
-use Rattle.dp_semantics.specs.Packets.{Status, Going, Closing, Broken, Packet, Epoch, status_of, passed_by, passed_on, run_on}
+use Rattle.dp_semantics.proofs.Names.{Word, word_list, TurnEnd, Ended, stage_run, Status, Going, Closing, Broken, Packet, Epoch, status_of, passed_by, passed_on, run_on}
 use Rattle.dp_semantics.proofs.Taking.{word_list_is}
 
 -- not void

@@ -1,22 +1,10 @@
 -- The source's steps through a text: they are determined, an iteration closes by its first event, and its stores lead to its last memory.
 use Rattle.std.proofs.Common.{◌≡◌, refl, sym, ap, ◌∙◌, subst, ℕ, Bool, true, false, ◌&&◌, ◌||◌, if◌then◌else◌, List, [], ◌∷◌, ◌++◌, ℤ, map, Some, slice_get, Ok, eq-eqb, ne_eqb}
 use Rattle.std.proofs.lemmas.List.{append-nil}
-use Rattle.dp_base.specs.Arithmetic.{is_zero}
-use Rattle.dp_tree.specs.declared.Stmt.{Stmt, out-Stmt}
+use Rattle.dp_semantics.proofs.Names.{is_zero, Stmt, out-Stmt, outs-If, Stmt-F, If, Program, Plan, WithLoads, eval, Event, Effect, Decided, choose, followed, site_of, value_of, stored, evaluated, Access, accesses, first_site, decided_zero, is_zero_at, well_nested, effect_in, applied}
 use Rattle.dp_tree.specs.declared.Stmt.TheVariants as tree
-use Rattle.dp_tree.specs.declared.Stmt.TheVariants.{outs-If}
-use Rattle.dp_tree.specs.declared.Stmt.TheOpen.{Stmt-F, If}
-use Rattle.dp_tree.specs.declared.Program.{Program}
-use Rattle.dp_plan.specs.declared.Plan.{Plan}
-use Rattle.dp_tree.specs.Eval.{WithLoads, eval}
-use Rattle.dp_tree.specs.Step.{Event, Effect, Decided, choose, followed, site_of, value_of, stored, evaluated}
-use Rattle.dp_plan.specs.Access.{Access, accesses, first_site}
-use Rattle.dp_tree.specs.Iteration.{decided_zero}
-use Rattle.dp_semantics.specs.StageRun.{is_zero_at}
-use Rattle.dp_semantics.specs.Nesting.{well_nested}
-use Rattle.dp_semantics.specs.Verdict.{effect_in, applied}
 use Rattle.dp_semantics.proofs.Each.{Each, each_split, and_true}
-use Rattle.dp_semantics.proofs.Heads.{accesses_all, all_well, accesses_out, well_at, well_out}
+use Rattle.dp_semantics.proofs.Heads.{head_access, accesses_all, all_well, accesses_out, well_at, well_out}
 use Rattle.dp_semantics.proofs.Followed.{followed_has, all_joins}
 use Rattle.dp_semantics.proofs.Setting.{Accepted}
 use Rattle.dp_semantics.proofs.Source.{event_of, well_parts, each_joins, each_parts, head_fact}
@@ -67,6 +55,21 @@ module _ {p : Program} {input : List ℤ} where
   goes_applied stays = refl
   goes_applied (goes gave path) = goes_applied path
 
+-- what holds of the sites of well-nested statements holds of the sites of their events
+pub events_at : (p : Program) (plan : Plan) {input : List ℤ} (Q : Access → Type 0) {to_do : List Stmt} {cells : List ℤ} {events : List Event} {after : List Stmt} {then_cells : List ℤ} → Goes p input to_do cells events after then_cells →
+    all_well p plan to_do ≡ true → Each Q (accesses_all to_do) → Each (λ event. (u : Access) × (u.site ≡ event.site) × Q u) events
+events_at p plan Q stays w each = tt
+events_at p plan Q (goes {x = x} {rest = rest} {v = v} e path) w each =
+    let parts = and_true (well_nested p plan x) (all_well p plan rest) w in
+    let both = each_split Q (accesses x) (accesses_all rest) each in
+    let head : well_at p plan (out-Stmt x) ≡ true = sym (well_out p plan x) ∙ parts.0 in
+    let here = subst (λ (xs : List Access). Each Q xs) (accesses_out x) both.0 in (
+      (head_access (out-Stmt x), refl, head_fact Q p plan (out-Stmt x) head here),
+      events_at p plan Q path
+          (followed_has (λ xs. all_well p plan xs ≡ true) (all_joins (well_nested p plan)) x rest (out-Stmt x) (value_of v.value) w parts.1 (well_parts p plan (out-Stmt x) head))
+          (followed_has (λ xs. Each Q (accesses_all xs)) (each_joins Q) x rest (out-Stmt x) (value_of v.value) each both.1 (each_parts Q (out-Stmt x) here)),
+    )
+
 module _ {p : Program} {plan : Plan} (a : Accepted p plan) (input : List ℤ) where
   abbrev Other : Access → Type 0
   Other u = u.site ≡ first_site p plan → ⊥
@@ -75,19 +78,12 @@ module _ {p : Program} {plan : Plan} (a : Accepted p plan) (input : List ℤ) wh
   nothing true = refl
   nothing false = refl
 
-  -- statements without the region's condition don't close
-  closing_kept : {to_do : List Stmt} {cells : List ℤ} {events : List Event} {after : List Stmt} {then_cells : List ℤ} → Goes p input to_do cells events after then_cells → all_well p plan to_do ≡ true → Each Other (accesses_all to_do) →
-      (closing : Bool) → closing_after p plan closing events ≡ closing
-  closing_kept stays w other closing = refl
-  closing_kept (goes {x = x} {rest = rest} {v = v} {events = more} e path) w other closing =
-      let parts = and_true (well_nested p plan x) (all_well p plan rest) w in
-      let both = each_split Other (accesses x) (accesses_all rest) other in
-      let head : well_at p plan (out-Stmt x) ≡ true = sym (well_out p plan x) ∙ parts.0 in
-      let here = subst (λ (xs : List Access). Each Other xs) (accesses_out x) both.0 in
-      ap (λ (b : Bool). closing_after p plan (closing || (b && is_zero (value_of v.value))) more) (ne_eqb (site_of (out-Stmt x)).0 (first_site p plan) (head_fact Other p plan (out-Stmt x) head here))
-      ∙ closing_kept path (followed_has (λ xs. all_well p plan xs ≡ true) (all_joins (well_nested p plan)) x rest (out-Stmt x) (value_of v.value) w parts.1 (well_parts p plan (out-Stmt x) head))
-      (followed_has (λ xs. Each Other (accesses_all xs)) (each_joins Other) x rest (out-Stmt x) (value_of v.value) other both.1 (each_parts Other (out-Stmt x) here)) (closing || false)
-      ∙ nothing closing
+  -- events at other sites than the region's condition don't close
+  closing_kept : (events : List Event) → Each (λ event. (u : Access) × (u.site ≡ event.site) × Other u) events → (closing : Bool) → closing_after p plan closing events ≡ closing
+  closing_kept [] other closing = refl
+  closing_kept (event ∷ rest) other closing =
+      ap (λ (b : Bool). closing_after p plan (closing || (b && is_zero (value_of event.effect))) rest) (ne_eqb event.site (first_site p plan) (λ e. other.0.2 (other.0.1 ∙ e)))
+      ∙ closing_kept rest other.1 (closing || false) ∙ nothing closing
 
   zero_first : (v : WithLoads Effect) (z : ℤ) (site : ℕ) → v.value ≡ Decided z → is_zero (value_of v.value) ≡ decided_zero (Some (record { site = site; loads = v.loads; effect = v.value }))
   zero_first v z site d = ap (λ (f : Effect). is_zero (value_of f)) d ∙ sym (ap (λ (f : Effect). decided_zero (Some (record { site = site; loads = v.loads; effect = f }))) d)
@@ -103,7 +99,7 @@ module _ {p : Program} {plan : Plan} (a : Accepted p plan) (input : List ℤ) wh
       let d = decided_is (eval p input cells a.cond) v (ap (evaluated p input cells) (sym head) ∙ e) in
       let next : followed x rest (out-Stmt x) (value_of v.value) ≡ choose (value_of v.value) a.body [] =
       ap (λ (h : Stmt-F Stmt). followed x rest h (value_of v.value)) head ∙ ap (λ (ys : List Stmt). choose (value_of v.value) a.body [] ++ ys) none ∙ append-nil (choose (value_of v.value) a.body []) in
-      closing_kept (subst (λ (ys : List Stmt). Goes p input ys (stored v.value cells) more after then_cells) next path) (chosen_well (is_zero (value_of v.value))) (chosen_other (is_zero (value_of v.value)))
+      closing_kept more (events_at p plan Other (subst (λ (ys : List Stmt). Goes p input ys (stored v.value cells) more after then_cells) next path) (chosen_well (is_zero (value_of v.value))) (chosen_other (is_zero (value_of v.value))))
       (false || is_zero_at (first_site p plan) (site_of (out-Stmt x)).0 (value_of v.value))
       ∙ ap (λ (b : Bool). b && is_zero (value_of v.value)) (eq-eqb (site_of (out-Stmt x)).0 (first_site p plan) (ap (λ (h : Stmt-F Stmt). (site_of h).0) head ∙ sym a.first))
       ∙ zero_first v d.0 (site_of (out-Stmt x)).0 d.1

@@ -1,16 +1,8 @@
 -- Where a run stands: before the region, in an iteration with the region's statement behind, or beyond it.
 use Rattle.std.proofs.Common.{◌≡◌, refl, sym, ap, ◌∙◌, subst, ℕ, zero, suc, Bool, true, false, not, ◌==◌, if◌then◌else◌, List, [], ◌∷◌, ◌++◌, ℤ, length}
 use Rattle.std.proofs.lemmas.Bool.{both_ways, not-true}
-use Rattle.dp_base.specs.Arithmetic.{is_zero}
-use Rattle.dp_tree.specs.declared.Stmt.{Stmt, Row_of-Stmt, end_of-Stmt, more_of-Stmt, out-Stmt}
+use Rattle.dp_semantics.proofs.Names.{is_zero, Stmt, Row_of-Stmt, end_of-Stmt, more_of-Stmt, out-Stmt, Stmt-F, If, While, Region, Program, Plan, Config, Step, Finished, Faulted, Stepped, followed, value_of, stored, standing, cleared_at, step, Run, run_of, is_region, stands_at_head, places, well_nested, well_nested_in, is_free, is_free_in}
 use Rattle.dp_tree.specs.declared.Stmt.TheVariants as tree
-use Rattle.dp_tree.specs.declared.Stmt.TheOpen.{Stmt-F, If, While, Region}
-use Rattle.dp_tree.specs.declared.Program.{Program}
-use Rattle.dp_plan.specs.declared.Plan.{Plan}
-use Rattle.dp_tree.specs.Step.{Config, Step, Finished, Faulted, Stepped, followed, value_of, stored, standing, cleared_at, step}
-use Rattle.dp_tree.specs.Trace.{Run, run_of}
-use Rattle.dp_tree.specs.Iteration.{is_region, stands_at_head, places}
-use Rattle.dp_semantics.specs.Nesting.{well_nested, well_nested_in, is_free, is_free_in}
 use Rattle.dp_semantics.proofs.Each.{Each, each_map, and_true, and_make}
 use Rattle.dp_semantics.proofs.Heads.{all_free, free_at, free_out, all_well}
 use Rattle.dp_semantics.proofs.Followed.{Parts, followed_has, followed-append, all_joins}

@@ -2,19 +2,8 @@
 use Rattle.std.proofs.Common.{◌≡◌, refl, sym, ap, ◌∙◌, ℕ, ◌<◌, ◌≤◌, ◌==◌, Bool, true, false, not, ◌||◌, if◌then◌else◌, List, [], ◌∷◌, ◌++◌, ℤ, Option, Some, None, is_some, nat_le, arith, leb-true, le-leb}
 use Rattle.std.proofs.lemmas.Bool.{lt-leb}
 use Rattle.std.specs.List.{list_all}
-use Rattle.dp_base.specs.Arithmetic.{is_zero}
-use Rattle.dp_tree.specs.declared.Stmt.{Stmt, Row_of-Stmt, end_of-Stmt, more_of-Stmt, out-Stmt, roll-Stmt}
+use Rattle.dp_semantics.proofs.Names.{is_zero, Stmt, Row_of-Stmt, end_of-Stmt, more_of-Stmt, out-Stmt, roll-Stmt, rolls-Assign, rolls-Store, rolls-Print, rolls-If, rolls-While, Stmt-F, Assign, Store, Print, If, While, Region, Call, Program, Assume, Plan, Effect, Decided, choose, followed, site_of, value_of, Access, accesses, accesses_in, stage_of, went, goes_as, as_assumed, assumed_in, branch_of, where_reached, project, project_in, project_all, none_earlier, well_nested, well_nested_in}
 use Rattle.dp_tree.specs.declared.Stmt.TheVariants as tree
-use Rattle.dp_tree.specs.declared.Stmt.TheViews.{rolls-Assign, rolls-Store, rolls-Print, rolls-If, rolls-While}
-use Rattle.dp_tree.specs.declared.Stmt.TheOpen.{Stmt-F, Assign, Store, Print, If, While, Region, Call}
-use Rattle.dp_tree.specs.declared.Program.{Program}
-use Rattle.dp_tree.specs.declared.Assume.{Assume}
-use Rattle.dp_plan.specs.declared.Plan.{Plan}
-use Rattle.dp_tree.specs.Step.{Effect, Decided, choose, followed, site_of, value_of}
-use Rattle.dp_plan.specs.Access.{Access, accesses, accesses_in, stage_of}
-use Rattle.dp_semantics.specs.Clean.{went, goes_as, as_assumed}
-use Rattle.dp_semantics.specs.Project.{assumed_in, branch_of, where_reached, project, project_in, project_all}
-use Rattle.dp_semantics.specs.Nesting.{none_earlier, well_nested, well_nested_in}
 use Rattle.dp_semantics.proofs.Each.{Each, each_split, each_map, and_true, all_of}
 use Rattle.dp_semantics.proofs.Evaluation.{Form}
 use Rattle.dp_semantics.proofs.Heads.{accesses_all, all_well, well_at, project_at, project_out, flat_map-append}

@@ -1,14 +1,6 @@
 -- Runs step by step: from a configuration of a run the rest of it is a run of its own.
 use Rattle.std.proofs.Common.{◌≡◌, refl, sym, ap, ◌∙◌, ℕ, zero, suc, ◌+◌, Bool, true, false, if◌then◌else◌, List, [], ◌∷◌, ◌++◌, ℤ, length, Some, slice_get, Ok, Err, arith}
-use Rattle.dp_base.specs.declared.Fault.{Fault as FaultAt}
-use Rattle.dp_base.specs.declared.FaultKind.{FaultKind}
-use Rattle.dp_tree.specs.declared.Stmt.{Stmt, out-Stmt}
-use Rattle.dp_tree.specs.declared.Stmt.TheOpen.{Stmt-F, Call}
-use Rattle.dp_tree.specs.declared.Program.{Program}
-use Rattle.dp_tree.specs.Eval.{WithLoads, Evaluated}
-use Rattle.dp_tree.specs.Step.{Config, Event, Effect, Step, Finished, Faulted, Stepped, followed, site_of, value_of, stored, evaluated, standing, step_by, step_at, step}
-use Rattle.dp_tree.specs.Trace.{Run, run_of, run_by}
-use Rattle.dp_tree.specs.Iteration.{places}
+use Rattle.dp_semantics.proofs.Names.{FaultAt, FaultKind, Stmt, out-Stmt, Stmt-F, Call, Program, WithLoads, Evaluated, Config, Event, Effect, Step, Finished, Faulted, Stepped, followed, site_of, value_of, stored, evaluated, standing, step_by, step_at, step, Run, run_of, run_by, places}
 use Rattle.dp_semantics.proofs.Source.{event_of}
 
 -- The i-th place of a list that passes a test, with what stands before and behind it.

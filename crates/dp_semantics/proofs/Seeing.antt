@@ -4,13 +4,7 @@ use Rattle.std.proofs.lemmas.Bool.{cases_eq}
 use Rattle.std.proofs.lemmas.List.{get_or-set_other, length-set}
 use Rattle.std.proofs.lemmas.Grind.{get_or-set_at}
 use Rattle.std.specs.List.{list_any}
-use Rattle.dp_tree.specs.declared.Program.{Program}
-use Rattle.dp_plan.specs.declared.Plan.{Plan}
-use Rattle.dp_tree.specs.Step.{Event, Effect, Stored, Printed, Decided, stored}
-use Rattle.dp_plan.specs.Access.{Access, stage_of, is_replicated, is_body_local, stores_var, is_same_variable, region_accesses, is_stored_after, is_stored_beside, may_differ}
-use Rattle.dp_semantics.specs.Seen.{Past, is_local_at, is_covered, stored_in, covered_value, seen}
-use Rattle.dp_semantics.specs.Packets.{Epoch}
-use Rattle.dp_semantics.specs.Judge.{last}
+use Rattle.dp_semantics.proofs.Names.{Program, Plan, Event, Effect, Stored, Printed, Decided, stored, Access, stage_of, is_replicated, is_body_local, stores_var, is_same_variable, region_accesses, is_stored_after, is_stored_beside, may_differ, Past, is_local_at, is_covered, stored_in, covered_value, seen, Epoch, last}
 use Rattle.dp_semantics.proofs.Each.{Each, each_map, or_false}
 use Rattle.dp_semantics.proofs.Evaluation.{InVar}
 use Rattle.dp_semantics.proofs.Setting.{Fit, StoredBy, Known}
@@ -155,6 +149,7 @@ module _ {k : Epoch} (ok : Fit k) where
 
 module _ (k : Epoch) (s i : ℕ) (earlier : List Past) (cells : List ℤ) (event : Event) where
   open k use {program, plan, base}
+
   abbrev with_event : List Past
   with_event = record { iteration = i; event = event } ∷ earlier
 

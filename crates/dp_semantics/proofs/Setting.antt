@@ -1,19 +1,7 @@
 -- What the proof assumes of a program and a plan, and what it knows of the source's stores.
 use Rattle.std.proofs.Common.{◌≡◌, ℕ, suc, ◌<◌, Bool, true, false, List, [], ◌∷◌, ◌++◌, ℤ, length, Some}
 use Rattle.std.specs.List.{list_any}
-use Rattle.dp_base.specs.declared.SiteId.{SiteId}
-use Rattle.dp_tree.specs.declared.Expr.{Expr}
-use Rattle.dp_tree.specs.declared.Stmt.{Stmt, out-Stmt}
-use Rattle.dp_tree.specs.declared.Stmt.TheOpen.{Region}
-use Rattle.dp_tree.specs.declared.Program.{Program}
-use Rattle.dp_plan.specs.declared.Plan.{Plan}
-use Rattle.dp_tree.specs.Eval.{cell_count}
-use Rattle.dp_tree.specs.Step.{Stored}
-use Rattle.dp_tree.specs.Trace.{start_cells}
-use Rattle.dp_plan.specs.Access.{Access, stage_of, first_site, is_replicated, is_body_local, region_statement, region_accesses}
-use Rattle.dp_semantics.specs.Seen.{Past, is_local_at}
-use Rattle.dp_semantics.specs.Packets.{Epoch}
-use Rattle.dp_semantics.specs.Judge.{last}
+use Rattle.dp_semantics.proofs.Names.{SiteId, Expr, Stmt, out-Stmt, Region, Program, Plan, cell_count, Stored, start_cells, Access, stage_of, first_site, is_replicated, is_body_local, region_statement, region_accesses, Past, is_local_at, Epoch, last}
 use Rattle.dp_semantics.proofs.Each.{Each, each_map, or_false}
 use Rattle.dp_semantics.proofs.Evaluation.{InVar, Roomy}
 use Rattle.dp_semantics.proofs.Heads.{accesses_all, all_well, all_free}

@@ -1,17 +1,6 @@
 -- The source within an iteration: its rest, its memory and the events so far.
 use Rattle.std.proofs.Common.{◌≡◌, refl, sym, ap, ◌∙◌, subst, ℕ, ◌<◌, Bool, true, false, not, ◌&&◌, ◌||◌, List, [], ◌∷◌, ℤ, pos, length, get_or, ◌==◌, arith, eq-eqb, Ok}
-use Rattle.dp_tree.specs.declared.Stmt.{Stmt, out-Stmt}
-use Rattle.dp_tree.specs.declared.Stmt.TheOpen.{Stmt-F, Assign, Store, Print, If, While, Region, Call}
-use Rattle.dp_tree.specs.declared.Program.{Program}
-use Rattle.dp_plan.specs.declared.Plan.{Plan}
-use Rattle.dp_tree.specs.Eval.{Load, WithLoads, cell_count}
-use Rattle.dp_tree.specs.Step.{Event, Effect, Stored, followed, site_of, value_of, stored, evaluated}
-use Rattle.dp_plan.specs.Access.{Access, accesses, stage_of, may_differ, is_checked_access, is_checked}
-use Rattle.dp_semantics.specs.Seen.{Past, seen}
-use Rattle.dp_semantics.specs.Clean.{int_eq, loads_agree, event_agrees}
-use Rattle.dp_semantics.specs.Nesting.{well_nested}
-use Rattle.dp_semantics.specs.Packets.{Epoch}
-use Rattle.dp_semantics.specs.Judge.{last}
+use Rattle.dp_semantics.proofs.Names.{Stmt, out-Stmt, Stmt-F, Assign, Store, Print, If, While, Region, Call, Program, Plan, Load, WithLoads, cell_count, Event, Effect, Stored, followed, site_of, value_of, stored, evaluated, Access, accesses, stage_of, may_differ, is_checked_access, is_checked, Past, seen, int_eq, loads_agree, event_agrees, well_nested, Epoch, last}
 use Rattle.dp_semantics.proofs.Each.{Each, each_split, each_join, each_map, and_true, none_of, all_of, all_make}
 use Rattle.dp_semantics.proofs.Evaluation.{InVar, Form, Readable, Holds, IsHeld, head_loads, Tracked, evaluated_tracks}
 use Rattle.dp_semantics.proofs.Heads.{accesses_all, all_well, head_access, inside, accesses_at, accesses_out, well_at, well_out, flat_map-append}

@@ -3,22 +3,7 @@ use Rattle.std.proofs.Common.{◌≡◌, ◌⊎◌, inl, inr, refl, sym, ap, ◌
 use Rattle.std.proofs.lemmas.List.{append-nil, length-set}
 use Rattle.std.proofs.lemmas.List.Sums.{sum_by-set}
 use Rattle.std.proofs.lemmas.Bool.{cases_eq, cases_order}
-use Rattle.dp_base.specs.declared.Word.{Word}
-use Rattle.dp_base.specs.declared.SiteId.{SiteId}
-use Rattle.dp_base.specs.Arithmetic.{is_zero}
-use Rattle.dp_tree.specs.declared.Stmt.{Stmt, out-Stmt, roll-Stmt, out-roll-Stmt}
-use Rattle.dp_tree.specs.declared.Stmt.TheOpen.{Stmt-F, If, While}
-use Rattle.dp_tree.specs.declared.Program.{Program}
-use Rattle.dp_plan.specs.declared.Plan.{Plan}
-use Rattle.dp_tree.specs.Eval.{WithLoads}
-use Rattle.dp_tree.specs.Step.{Event, Effect, followed, site_of, value_of, evaluated}
-use Rattle.dp_plan.specs.Access.{stage_of, first_site, is_checked}
-use Rattle.dp_semantics.specs.Seen.{Past}
-use Rattle.dp_semantics.specs.Clean.{as_assumed}
-use Rattle.dp_semantics.specs.Project.{project, project_all}
-use Rattle.dp_semantics.specs.Words.{Void, Full, Taken, words_of, done_word, effect_by, taken_from, load_words, word_list}
-use Rattle.dp_semantics.specs.StageRun.{Turn, is_zero_at, turned, own_step, stage_at, consumed, consumed_step, words_left, turn_step, turn_by, turn_at, turn_from}
-use Rattle.dp_semantics.specs.Packets.{Epoch}
+use Rattle.dp_semantics.proofs.Names.{Word, SiteId, is_zero, Stmt, out-Stmt, roll-Stmt, out-roll-Stmt, Stmt-F, If, While, Program, Plan, WithLoads, Event, Effect, followed, site_of, value_of, evaluated, stage_of, first_site, is_checked, Past, as_assumed, project, project_all, Void, Full, Taken, words_of, done_word, effect_by, taken_from, load_words, word_list, Turn, is_zero_at, turned, own_step, stage_at, consumed, consumed_step, words_left, turn_step, turn_by, turn_at, turn_from, Epoch}
 use Rattle.dp_semantics.proofs.Evaluation.{Form}
 use Rattle.dp_semantics.proofs.Heads.{project_out}
 use Rattle.dp_semantics.proofs.Projected.{assumed_of, proj_head, stays_there, kept_followed, unseen}

@@ -3,17 +3,7 @@ use Rattle.std.proofs.Common.{◌≡◌, refl, sym, ap, ◌∙◌, append_assoc,
 use Rattle.std.proofs.lemmas.Option.{unwrap_or-slice_get}
 use Rattle.std.proofs.lemmas.List.{get_or-set_other}
 use Rattle.std.proofs.lemmas.Grind.{get_or-set_at}
-use Rattle.dp_base.specs.declared.Word.{Word}
-use Rattle.dp_tree.specs.declared.Stmt.{Stmt}
-use Rattle.dp_tree.specs.declared.Stmt.TheOpen.{Stmt-F, Assign, Store, Print, If, While, Region}
-use Rattle.dp_tree.specs.declared.Program.{Program}
-use Rattle.dp_plan.specs.declared.Plan.{Plan}
-use Rattle.dp_tree.specs.Eval.{Load, first_cell, cell_count}
-use Rattle.dp_tree.specs.Step.{Event, Effect, Stored, Printed, Decided, site_of}
-use Rattle.dp_plan.specs.Access.{stage_of, is_checked}
-use Rattle.dp_semantics.specs.Clean.{int_eq}
-use Rattle.dp_semantics.specs.Words.{Void, Astray, Taken, load_word, load_words, done_word, words_of, is_load_of, is_done_of, after_loads_of, is_cell_of, effect_by, taken_by, done_from, taken_from, words_in, word_list}
-use Rattle.dp_semantics.specs.Judge.{loads_hold}
+use Rattle.dp_semantics.proofs.Names.{Word, Stmt, Stmt-F, Assign, Store, Print, If, While, Region, Program, Plan, Load, first_cell, cell_count, Event, Effect, Stored, Printed, Decided, site_of, stage_of, is_checked, int_eq, Void, Astray, Taken, load_word, load_words, done_word, words_of, is_load_of, is_done_of, after_loads_of, is_cell_of, effect_by, taken_by, done_from, taken_from, words_in, word_list, loads_hold}
 use Rattle.dp_semantics.proofs.Each.{and_true, and_make}
 use Rattle.dp_semantics.proofs.Evaluation.{InVar, Form, Holds}
 use Rattle.dp_semantics.proofs.Integers.{int_same, int_eq-self}

@@ -1,15 +1,7 @@
 -- What a turn that came to its end says of its steps.
 use Rattle.std.proofs.Common.{◌≡◌, refl, sym, ap, ◌∙◌, append_assoc, ℕ, zero, suc, ◌<◌, ◌≤◌, ◌==◌, Bool, true, false, if◌then◌else◌, List, [], ◌∷◌, ◌++◌, ℤ, length, nat_le, Result, Ok, Err, arith, leb-true, eq-eqb}
 use Rattle.std.proofs.lemmas.List.{append-nil}
-use Rattle.dp_base.specs.declared.Word.{Word}
-use Rattle.dp_tree.specs.declared.Stmt.{Stmt, out-Stmt}
-use Rattle.dp_tree.specs.declared.Stmt.TheOpen.{Stmt-F}
-use Rattle.dp_tree.specs.declared.Program.{Program}
-use Rattle.dp_plan.specs.declared.Plan.{Plan}
-use Rattle.dp_tree.specs.Eval.{WithLoads, Evaluated}
-use Rattle.dp_tree.specs.Step.{Effect, evaluated}
-use Rattle.dp_semantics.specs.Words.{Void, Full, Taken, words_of, taken_from}
-use Rattle.dp_semantics.specs.StageRun.{Turn, TurnEnd, Ended, turned, own_step, stage_at, consumed_step, words_left, turn_step, turn_by, turn_at, turn_from}
+use Rattle.dp_semantics.proofs.Names.{Word, Stmt, out-Stmt, Stmt-F, Program, Plan, WithLoads, Evaluated, Effect, evaluated, Void, Full, Taken, words_of, taken_from, Turn, TurnEnd, Ended, turned, own_step, stage_at, consumed_step, words_left, turn_step, turn_by, turn_at, turn_from}
 use Rattle.dp_semantics.proofs.Source.{event_of}
 
 -- the words only grow

@@ -1,18 +1,8 @@
 -- One iteration from the region's condition on: to where the next one starts, to its closing, or to where the run ends in it.
 use Rattle.std.proofs.Common.{◌≡◌, ◌⊎◌, inl, inr, refl, sym, ap, ◌∙◌, subst, ℕ, zero, suc, ◌+◌, ◌≤◌, Bool, true, false, if◌then◌else◌, List, [], ◌∷◌, ◌++◌, ℤ, length, Option, Some, None, slice_get, Ok, Err, arith, eq-eqb}
 use Rattle.std.proofs.lemmas.List.{append-nil}
-use Rattle.dp_base.specs.Arithmetic.{is_zero}
-use Rattle.dp_base.specs.declared.FaultKind.{FaultKind}
-use Rattle.dp_tree.specs.declared.Stmt.{Stmt, out-Stmt}
+use Rattle.dp_semantics.proofs.Names.{is_zero, FaultKind, Stmt, out-Stmt, outs-If, Stmt-F, If, Program, Plan, WithLoads, Evaluated, eval, Config, Event, Effect, Decided, Step, Finished, Faulted, Stepped, choose, followed, value_of, stored, decided, evaluated, standing, cleared_at, clear_locals, step, Run, run_of, run_by, extended, is_region, stands_at_head, places, decided_zero}
 use Rattle.dp_tree.specs.declared.Stmt.TheVariants as tree
-use Rattle.dp_tree.specs.declared.Stmt.TheVariants.{outs-If}
-use Rattle.dp_tree.specs.declared.Stmt.TheOpen.{Stmt-F, If}
-use Rattle.dp_tree.specs.declared.Program.{Program}
-use Rattle.dp_plan.specs.declared.Plan.{Plan}
-use Rattle.dp_tree.specs.Eval.{WithLoads, Evaluated, eval}
-use Rattle.dp_tree.specs.Step.{Config, Event, Effect, Decided, Step, Finished, Faulted, Stepped, choose, followed, value_of, stored, decided, evaluated, standing, cleared_at, clear_locals, step}
-use Rattle.dp_tree.specs.Trace.{Run, run_of, run_by, extended}
-use Rattle.dp_tree.specs.Iteration.{is_region, stands_at_head, places, decided_zero}
 use Rattle.dp_semantics.proofs.Setting.{Accepted}
 use Rattle.dp_semantics.proofs.Source.{event_of}
 use Rattle.dp_semantics.proofs.Lockstep.{Goes, stays, goes}

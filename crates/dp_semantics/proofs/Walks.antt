@@ -1,15 +1,6 @@
 -- A run through the text of one iteration: to its end, or to where it stops.
 use Rattle.std.proofs.Common.{◌≡◌, ◌⊎◌, inl, inr, refl, sym, ap, ◌∙◌, ℕ, zero, suc, ◌+◌, Bool, true, false, if◌then◌else◌, List, [], ◌∷◌, ◌++◌, ℤ, length, Some, slice_get, Ok, Err, arith}
-use Rattle.dp_base.specs.declared.FaultKind.{FaultKind}
-use Rattle.dp_tree.specs.declared.Stmt.{Stmt, out-Stmt}
-use Rattle.dp_tree.specs.declared.Stmt.TheOpen.{Stmt-F, Region, Call}
-use Rattle.dp_tree.specs.declared.Program.{Program}
-use Rattle.dp_plan.specs.declared.Plan.{Plan}
-use Rattle.dp_tree.specs.Eval.{WithLoads, Evaluated}
-use Rattle.dp_tree.specs.Step.{Config, Event, Effect, Faulted, Stepped, followed, value_of, stored, evaluated, standing, cleared_at, step}
-use Rattle.dp_tree.specs.Trace.{Run, run_of, extended}
-use Rattle.dp_tree.specs.Iteration.{is_region, stands_at_head, places}
-use Rattle.dp_semantics.specs.Nesting.{well_nested}
+use Rattle.dp_semantics.proofs.Names.{FaultKind, Stmt, out-Stmt, Stmt-F, Region, Call, Program, Plan, WithLoads, Evaluated, Config, Event, Effect, Faulted, Stepped, followed, value_of, stored, evaluated, standing, cleared_at, step, Run, run_of, extended, is_region, stands_at_head, places, well_nested}
 use Rattle.dp_semantics.proofs.Each.{and_true}
 use Rattle.dp_semantics.proofs.Heads.{all_well, well_at, well_out}
 use Rattle.dp_semantics.proofs.Followed.{followed_has, followed-append, all_joins}

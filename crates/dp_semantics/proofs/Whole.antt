@@ -2,24 +2,8 @@
 use Rattle.std.proofs.Common.{◌≡◌, refl, sym, ap, ◌∙◌, subst, ℕ, suc, ◌+◌, ◌-◌, ◌<◌, ◌≤◌, Bool, true, false, ◌&&◌, ◌||◌, List, [], ◌∷◌, ◌++◌, ℤ, length, map, nat_le, arith, sum_by, le-leb, is_some, Ok}
 use Rattle.std.proofs.lemmas.List.{append-nil}
 use Rattle.std.specs.List.{list_all}
-use Rattle.dp_base.specs.declared.Word.{Word}
-use Rattle.dp_tree.specs.declared.Stmt.{Stmt}
+use Rattle.dp_semantics.proofs.Names.{Word, Stmt, outs-If, Region, Program, Plan, Event, Access, stage_of, region_statement, Past, all_agree, event_as_assumed, pushed, assumed_in, project_all, word_list, Turn, TurnEnd, Ended, turn_at, turn_from, turn_begin, stage_run, Epoch, Agreed, Clean, judge_lists, last, none_earlier, well_nested, effect_in}
 use Rattle.dp_tree.specs.declared.Stmt.TheVariants as tree
-use Rattle.dp_tree.specs.declared.Stmt.TheVariants.{outs-If}
-use Rattle.dp_tree.specs.declared.Stmt.TheOpen.{Region}
-use Rattle.dp_tree.specs.declared.Program.{Program}
-use Rattle.dp_plan.specs.declared.Plan.{Plan}
-use Rattle.dp_tree.specs.Step.{Event}
-use Rattle.dp_plan.specs.Access.{Access, stage_of, region_statement}
-use Rattle.dp_semantics.specs.Seen.{Past}
-use Rattle.dp_semantics.specs.Clean.{all_agree, event_as_assumed, pushed}
-use Rattle.dp_semantics.specs.Project.{assumed_in, project_all}
-use Rattle.dp_semantics.specs.Words.{word_list}
-use Rattle.dp_semantics.specs.StageRun.{Turn, TurnEnd, Ended, turn_at, turn_from, turn_begin, stage_run}
-use Rattle.dp_semantics.specs.Packets.{Epoch}
-use Rattle.dp_semantics.specs.Judge.{Agreed, Clean, judge_lists, last}
-use Rattle.dp_semantics.specs.Nesting.{none_earlier, well_nested}
-use Rattle.dp_semantics.specs.Verdict.{effect_in}
 use Rattle.dp_semantics.proofs.Each.{Each, each_map, each_join, and_make, all_make}
 use Rattle.dp_semantics.proofs.Heads.{accesses_all, all_well, accesses_at, accesses_out, well_at, well_out, if_rule, project_at, project_out}
 use Rattle.dp_semantics.proofs.Projected.{reached}
@@ -42,14 +26,14 @@ module _ {p : Program} {plan : Plan} (a : Accepted p plan) where
   pub sound_parts : Each (Sound p plan) (accesses_at region_head ++ [])
   sound_parts = subst (λ (xs : List Access). Each (Sound p plan) xs) (ap accesses_all a.region ∙ ap (λ xs. xs ++ []) (accesses_out a.statement ∙ ap accesses_at a.is)) a.sound
 
-  turn_sound : Each (Sound p plan) (accesses_all (turn_of a))
+  pub turn_sound : Each (Sound p plan) (accesses_all (turn_of a))
   turn_sound = subst (λ (xs : List Access). Each (Sound p plan) xs) (sym (ap (λ xs. xs ++ []) (accesses_out (tree.If a.site a.cond a.body []) ∙ ap accesses_at (outs-If a.site a.cond a.body []))))
       (each_join (Sound p plan) (accesses_at region_head ++ []) [] sound_parts tt)
 
   one_first : stage_of p plan a.site.0 ≡ 1
   one_first = ap (stage_of p plan) (sym a.first) ∙ a.staged
 
-  turn_well : all_well p plan (turn_of a) ≡ true
+  pub turn_well : all_well p plan (turn_of a) ≡ true
   turn_well = and_make (well_nested p plan (tree.If a.site a.cond a.body [])) true
       (well_out p plan (tree.If a.site a.cond a.body []) ∙ ap (well_at p plan) (outs-If a.site a.cond a.body [])
       ∙ and_make (if_rule p plan a.site.0 (accesses_all a.body ++ [])) (all_well p plan a.body && true) ruled (and_make (all_well p plan a.body) true a.well refl)) refl

@@ -1,15 +1,32 @@
+//! The laws of the definitions, as contracts of functions that do nothing: the central theorem first.
+
 ghost use Rattle.std.specs.Prelude.{◌≡◌, true};
 ghost use Rattle.dp_semantics.specs.Fits.{fits_plan};
+ghost use Rattle.dp_semantics.specs.Laws.{CleanInOneStage, RecoversInOrder};
+ghost use Rattle.dp_semantics.specs.OneStage.{one_stage_plan};
 ghost use Rattle.dp_semantics.specs.Verdict.{JudgesEpochs, JudgesRightly, StoresLead};
 
 use dp_plan::Plan;
 use dp_tree::Program;
 
-/// The judgement on an epoch's packets is Clean exactly at the clean iterations.
+/// The judgement on an epoch's packets is Clean exactly at the clean iterations, and it holds what the source did there.
+/// Which packets there are is a matter of the definitions alone: no stage has to run.
 #[tactic(auto, using(crate::proofs::Fitting::fitting_judges, crate::proofs::Fitting::fitting_leads, crate::proofs::Fitting::fitting_epochs))]
 pub fn judgement_is_the_sources(p: &Program, plan: &Plan)
     requires { fits_plan p.now plan.now ≡ true }
     ensures judged { JudgesRightly p.now plan.now }
     ensures in_epochs { JudgesEpochs p.now plan.now }
     ensures led { StoresLead p.now plan.now }
+{}
+
+/// With all of a region in one stage an iteration is clean where it has ended and has at most 4,096 events.
+#[tactic(auto, using(crate::proofs::OneStage::clean_in_one_stage))]
+pub fn one_stage_is_clean(p: &Program, region: u32)
+    requires { fits_plan p.now (one_stage_plan p.now region) ≡ true }
+    ensures { CleanInOneStage p.now region }
+{}
+
+/// The iterations that are executed again are listed in ascending order, the begun ones that aren't clean in their epochs and no others.
+pub fn recovered_ascend(p: &Program, plan: &Plan)
+    ensures { RecoversInOrder p.now plan.now }
 {}

@@ -1,0 +1,6 @@
+mod Recovered
+mod Causes
+mod Turns
+mod Sent
+mod Judged
+mod Fitting

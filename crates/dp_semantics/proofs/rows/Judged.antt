@@ -1,0 +1,96 @@
+-- Judgements, computed: Clean exactly at the clean iterations, with what the source did.
+use Rattle.std.proofs.Common.{◌≡◌, refl, ℕ, ◌==◌, Bool, true, false, not, ◌&&◌, ◌||◌, if◌then◌else◌, List, [], ◌∷◌, ℤ, pos, negsuc, map, Option, Some, None}
+use Rattle.dp_tree.specs.declared.Program.{Program}
+use Rattle.dp_tree.specs.Step.{Effect, Stored, Printed, Decided}
+use Rattle.dp_tree.specs.Trace.{Run}
+use Rattle.dp_tree.specs.Iteration.{begun_count, start}
+use Rattle.dp_tree.proofs.Build.{tree_opened}
+use Rattle.dp_tree.proofs.Programs.{stale_read, same_value_store, skip_negative, histogram, two_stores, stale_step, stale_divisor}
+use Rattle.dp_plan.specs.declared.Plan.{Plan}
+use Rattle.dp_plan.proofs.Plans.{stale_read_plan, skip_negative_plan, histogram_plan, two_stores_plan, stale_step_plan, stale_divisor_plan}
+use Rattle.dp_semantics.specs.Clean.{count_from, int_eq, is_clean}
+use Rattle.dp_semantics.specs.Recovery.{epoch}
+use Rattle.dp_semantics.specs.StageRun.{turn_from}
+use Rattle.dp_semantics.specs.Judge.{Judgement, Clean, Unclean, Agreed, judge_from}
+use Rattle.dp_semantics.specs.Verdict.{whole_run, judgement_at, done_in}
+
+abbrev same_effect : Effect → Effect → Bool
+same_effect (Stored c v) (Stored d w) = (c == d) && int_eq v w
+same_effect (Printed v) (Printed w) = int_eq v w
+same_effect (Decided v) (Decided w) = int_eq v w
+same_effect _ _ = false
+
+abbrev same_effects : List Effect → List Effect → Bool
+same_effects [] [] = true
+same_effects (v ∷ vs) (w ∷ ws) = same_effect v w && same_effects vs ws
+same_effects _ _ = false
+
+abbrev same_done : Agreed → Agreed → Bool
+same_done a b = same_effects a.effects b.effects && (a.closing && b.closing || not a.closing && not b.closing)
+
+-- clean and so judged, unclean and so judged, or judged wrongly
+data Verdict : Type 0 where
+  clean : Verdict
+  unclean : Verdict
+  wrong : Verdict
+
+abbrev compared : Bool → Agreed → Judgement → Verdict
+compared true source (Clean a) = if same_done a source then clean else wrong
+compared true source Unclean = wrong
+compared false source (Clean a) = wrong
+compared false source Unclean = unclean
+
+abbrev steps_before : Option ℕ → ℕ
+steps_before None = 0
+steps_before (Some k) = k
+
+abbrev verdict_in : Program → Plan → List ℤ → Run → ℕ → ℕ → Verdict
+verdict_in p plan input run i e = compared (is_clean p plan run e i) (done_in plan run i) (judgement_at p plan input run e i (steps_before (start run plan.region i)))
+
+abbrev verdicts_of : Program → Plan → List ℤ → Run → List Verdict
+verdicts_of p plan input run = map (λ i. verdict_in p plan input run i (epoch p plan run i)) (count_from 0 (begun_count run plan.region))
+
+abbrev verdicts : Program → Plan → List ℤ → ℕ → List Verdict
+verdicts p plan input fuel = verdicts_of p plan input (whole_run p input fuel)
+
+stale_reads : verdicts stale_read stale_read_plan [] 10000 ≡ clean ∷ clean ∷ unclean ∷ clean ∷ clean ∷ unclean ∷ clean ∷ []
+unfolding tree_opened turn_from judge_from
+stale_reads = refl
+
+same_values : verdicts same_value_store stale_read_plan [] 10000 ≡ clean ∷ clean ∷ clean ∷ clean ∷ clean ∷ clean ∷ clean ∷ []
+unfolding tree_opened turn_from judge_from
+same_values = refl
+
+assumed_broken : verdicts skip_negative skip_negative_plan (pos 5 ∷ negsuc 0 ∷ pos 7 ∷ pos 8 ∷ []) 10000 ≡ clean ∷ unclean ∷ clean ∷ clean ∷ []
+unfolding tree_opened turn_from judge_from
+assumed_broken = refl
+
+replicated : verdicts histogram histogram_plan (pos 0 ∷ pos 1 ∷ pos 2 ∷ pos 3 ∷ []) 10000 ≡ clean ∷ clean ∷ clean ∷ clean ∷ clean ∷ []
+unfolding tree_opened turn_from judge_from
+replicated = refl
+
+-- the stores come in the source's order, whatever their stages
+stores_in_source_order : verdicts two_stores two_stores_plan [] 10000 ≡ clean ∷ clean ∷ clean ∷ clean ∷ []
+unfolding tree_opened turn_from judge_from
+stores_in_source_order = refl
+
+stale_loop : verdicts stale_step (stale_step_plan 64) [] 10000 ≡ clean ∷ unclean ∷ clean ∷ clean ∷ []
+unfolding tree_opened turn_from judge_from
+stale_loop = refl
+
+words_too_few : verdicts stale_step (stale_step_plan 19) [] 10000 ≡ clean ∷ unclean ∷ unclean ∷ clean ∷ []
+unfolding tree_opened turn_from judge_from
+words_too_few = refl
+
+stale_division : verdicts stale_divisor stale_divisor_plan [] 10000 ≡ clean ∷ unclean ∷ clean ∷ clean ∷ []
+unfolding tree_opened turn_from judge_from
+stale_division = refl
+
+-- the fuel ends within the second iteration, and exactly after it
+fuel_within_an_iteration : verdicts same_value_store stale_read_plan [] 8 ≡ clean ∷ unclean ∷ []
+unfolding tree_opened turn_from judge_from
+fuel_within_an_iteration = refl
+
+fuel_after_an_iteration : verdicts same_value_store stale_read_plan [] 9 ≡ clean ∷ clean ∷ []
+unfolding tree_opened turn_from judge_from
+fuel_after_an_iteration = refl

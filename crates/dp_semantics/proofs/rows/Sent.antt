@@ -1,0 +1,57 @@
+-- Packets against the source's own events, computed: their words agree exactly at the clean iterations.
+use Rattle.std.proofs.Common.{◌≡◌, refl, ℕ, ◌==◌, Bool, true, false, ◌&&◌, ◌||◌, List, [], ◌∷◌, ℤ, pos, negsuc, length, map}
+use Rattle.dp_base.specs.declared.Word.{Word}
+use Rattle.dp_tree.specs.declared.Program.{Program}
+use Rattle.dp_tree.specs.Trace.{Run}
+use Rattle.dp_tree.specs.Iteration.{iteration, begun_count}
+use Rattle.dp_tree.proofs.Build.{tree_opened}
+use Rattle.dp_tree.proofs.Programs.{stale_read, same_value_store, skip_negative, histogram, stale_step}
+use Rattle.dp_plan.specs.declared.Plan.{Plan}
+use Rattle.dp_plan.proofs.Plans.{stale_read_plan, skip_negative_plan, histogram_plan, stale_step_plan}
+use Rattle.dp_semantics.specs.Clean.{count_from, int_eq}
+use Rattle.dp_semantics.specs.Recovery.{epoch}
+use Rattle.dp_semantics.specs.Words.{is_load, is_done}
+use Rattle.dp_semantics.specs.StageRun.{turn_from}
+use Rattle.dp_semantics.specs.Verdict.{whole_run, packet_at, words_at_stage}
+
+abbrev same_word : Word → Word → Bool
+same_word v w = (v.site.0 == w.site.0) && (v.index == w.index) && int_eq v.value w.value && (is_load v.kind && is_load w.kind || is_done v.kind && is_done w.kind)
+
+abbrev same_words : List Word → List Word → Bool
+same_words [] [] = true
+same_words (v ∷ vs) (w ∷ ws) = same_word v w && same_words vs ws
+same_words _ _ = false
+
+abbrev same_lists : List (List Word) → List (List Word) → Bool
+same_lists [] [] = true
+same_lists (v ∷ vs) (w ∷ ws) = same_words v w && same_lists vs ws
+same_lists _ _ = false
+
+abbrev agrees : Program → Plan → List ℤ → Run → ℕ → Bool
+agrees p plan input run i = same_lists (packet_at p plan input run (epoch p plan run i) i).lists (map (words_at_stage p plan (iteration run plan.region i)) (count_from 1 (length plan.stages)))
+
+abbrev agreeing : Program → Plan → List ℤ → List Bool
+agreeing p plan input = by (whole_run p input 10000)
+  where
+    by : Run → List Bool
+    by run = map (agrees p plan input run) (count_from 0 (begun_count run plan.region))
+
+stale_reads : agreeing stale_read stale_read_plan [] ≡ true ∷ true ∷ false ∷ true ∷ true ∷ false ∷ true ∷ []
+unfolding tree_opened turn_from
+stale_reads = refl
+
+same_values : agreeing same_value_store stale_read_plan [] ≡ true ∷ true ∷ true ∷ true ∷ true ∷ true ∷ true ∷ []
+unfolding tree_opened turn_from
+same_values = refl
+
+assumed_broken : agreeing skip_negative skip_negative_plan (pos 5 ∷ negsuc 0 ∷ pos 7 ∷ pos 8 ∷ []) ≡ true ∷ false ∷ true ∷ true ∷ []
+unfolding tree_opened turn_from
+assumed_broken = refl
+
+replicated : agreeing histogram histogram_plan (pos 0 ∷ pos 1 ∷ pos 2 ∷ pos 3 ∷ []) ≡ true ∷ true ∷ true ∷ true ∷ true ∷ []
+unfolding tree_opened turn_from
+replicated = refl
+
+words_too_few : agreeing stale_step (stale_step_plan 19) [] ≡ true ∷ false ∷ false ∷ true ∷ []
+unfolding tree_opened turn_from
+words_too_few = refl
