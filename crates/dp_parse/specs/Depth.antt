@@ -1,5 +1,7 @@
 -- The three counts over the tokens of a program that bound how deep its parts nest.
-use Rattle.std.specs.Prelude.{ℕ, zero, suc, ◌+◌, ◌-◌, max, Bool, true, false, ◌&&◌, if◌then◌else◌, List, [], ◌∷◌, map, fold, count_by}
+use Rattle.std.specs.Prelude.{ℕ, ◌+◌, ◌-◌, max, Bool, true, false, ◌&&◌, if◌then◌else◌, List, [], ◌∷◌, map, count_by, nat_lt, Option, Some, None}
+use Rattle.dp_base.specs.declared.Quantity.{Quantity}
+use Rattle.dp_base.specs.declared.Quantity.TheVariants.{Nesting, Operators, ElseIf}
 use Rattle.dp_lex.specs.Token.{Lexeme}
 use Rattle.dp_parse.specs.declared.symbol.Symbol.{Symbol}
 use Rattle.dp_parse.specs.declared.symbol.Symbol.TheVariants.{If, Else, Plus, Minus, Star, Slash, Percent, Not, Less, LessEqual, Greater, GreaterEqual, Equal, NotEqual, And, Or, OpenParen, OpenBracket, OpenBrace, CloseBrace, Semicolon}
@@ -78,6 +80,10 @@ begins_if (s ∷ ss) = is_if s
 unfoldable pub nesting : List Lexeme → ℕ
 nesting tokens = largest (map open_after (fronts (map symbol tokens)))
 
+-- the number of operators since the last separator, after one more symbol
+abbrev pub operators_after : ℕ → Symbol → ℕ
+operators_after here s = if separates s then 0 else (if operates s then here + 1 else here)
+
 -- the most operators and opening brackets between neighbouring separators
 unfoldable pub operators : List Lexeme → ℕ
 operators tokens = largest (map (count_by operates) (pieces (map symbol tokens)))
@@ -89,3 +95,10 @@ else_ifs (s ∷ ss) = (if is_else s && begins_if ss then 1 else 0) + else_ifs ss
 -- the number of `else` that an `if` follows
 unfoldable pub else_if : List Lexeme → ℕ
 else_if tokens = else_ifs (map symbol tokens)
+
+abbrev pub above : Quantity → ℕ → ℕ → Option (Quantity × ℕ) → Option (Quantity × ℕ)
+above quantity most count otherwise = if nat_lt most count then Some (quantity, count) else otherwise
+
+-- the first count that is above its number: at most 64 open braces, 64 operators and 256 times `else if`
+unfoldable pub depth_fault : List Lexeme → Option (Quantity × ℕ)
+depth_fault tokens = above Nesting 64 (nesting tokens) (above Operators 64 (operators tokens) (above ElseIf 256 (else_if tokens) None))

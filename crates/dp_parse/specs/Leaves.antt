@@ -1,5 +1,6 @@
 -- Names and numbers.
-use Rattle.std.specs.Prelude.{◌≡◌, ℕ, ◌≤◌, true, All}
+use Rattle.std.specs.Prelude.{◌≡◌, ℕ, ◌≤◌}
+use Rattle.std.specs.List.{AllPass}
 use Rattle.std.specs.Char.{is_ascii_digit}
 use Rattle.std.specs.Str.Parse.{digits_value}
 use Rattle.dp_lex.specs.Token.{Lexeme}
@@ -14,6 +15,6 @@ name_of t = record { text = t.text; line = t.line }
 -- the token is a number with this value, of at most 63 bits
 pub record IsNumber (t : Lexeme) (n : ℕ) : Type 0 where
   pub number : Is Number t
-  pub digits : All (λ b. is_ascii_digit b ≡ true) t.text
+  pub digits : AllPass is_ascii_digit t.text
   pub value : digits_value 10 t.text ≡ n
   pub fits : n ≤ 9223372036854775807

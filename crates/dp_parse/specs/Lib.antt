@@ -5,3 +5,6 @@ pub mod Expressions
 pub mod Statements
 pub mod Programs
 pub mod Depth
+pub mod Parses
+pub mod descent
+pub mod Cursor

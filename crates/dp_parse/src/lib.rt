@@ -1,8 +1,24 @@
 //! From a program's text to its tree, by the grammar.
+//!
+//! The tokens of the whole text are read first, their depth is counted, and then a descent over them makes the tree.
 #![tactic(auto)]
 
+mod depth;
+mod error;
+mod expression;
+mod item;
+mod law;
+mod leaf;
 mod level;
+mod source;
+mod statement;
 mod symbol;
+#[cfg(test)]
+mod tests;
+mod tokens;
 
+pub use error::ParseFail;
+pub use law::no_tokens_derive_two_programs;
 pub use level::{Join, Level};
+pub use source::parse;
 pub use symbol::Symbol;

@@ -1,0 +1,184 @@
+-- What the grammar derives as an expression, the descent reads.
+use Rattle.std.proofs.Common.{◌≡◌, refl, ap, ◌∙◌, sym, ℕ, zero, suc, ◌+◌, ◌-◌, ◌<◌, ◌≤◌, ℤ, pos, Bool, true, false, List, [], ◌∷◌, length, Option, Some, None, arith, subst}
+use Rattle.std.proofs.lemmas.Option.{same_Some}
+use Rattle.dp_base.specs.declared.UnOp.{UnOp}
+use Rattle.dp_lex.specs.Token.{Lexeme}
+use Rattle.dp_tree.specs.declared.raw.Name.{Name as TreeName}
+use Rattle.dp_tree.specs.declared.raw.RawExpr.{RawExpr}
+use Rattle.dp_tree.specs.declared.raw.RawExpr.TheVariants as tree
+use Rattle.dp_parse.specs.declared.symbol.Symbol.{Symbol}
+use Rattle.dp_parse.specs.declared.symbol.Symbol.TheVariants.{Name, Number, OpenParen, CloseParen, OpenBracket, CloseBracket}
+use Rattle.dp_parse.specs.declared.level.Level.{Level}
+use Rattle.dp_parse.specs.declared.level.Level.TheVariants as level
+use Rattle.dp_parse.specs.declared.level.Join.{Join}
+use Rattle.dp_parse.specs.Symbols.{symbol, symbol_at, Is}
+use Rattle.dp_parse.specs.Levels.{operands, joining, prefixing, joined}
+use Rattle.dp_parse.specs.Leaves.{name_of, IsNumber}
+use Rattle.dp_parse.specs.Expressions.{DerivesExpr, operand, chain, prefix, number, scalar, element, parenthesized}
+use Rattle.dp_parse.specs.descent.Steps.{Outcome, Parser, ◌>>=◌, pure, and_then, expect, rest, join_at, prefix_at}
+use Rattle.dp_parse.specs.descent.Steps as step
+use Rattle.dp_parse.specs.descent.Expressions as read
+use Rattle.dp_parse.proofs.StepLemmas.{expects, eats, stays}
+use Rattle.dp_parse.proofs.LeafLemmas.{reads_name, reads_number}
+use Rattle.dp_parse.proofs.Shorter.{shorter}
+use Rattle.dp_parse.proofs.Levels.{rank, tighter, level_opens, level_prefixed, level_chain, chain_end, chain_turn}
+use Rattle.dp_parse.proofs.LevelFacts.{Follows, joins, joins_not, prefixes, prefix_level, prefixes_not, joins_not_tight, follows_join, follows_any, follows_tighter}
+
+-- what reads the operands of a level
+abbrev pub operand_by : ℕ → Option Level → Parser RawExpr
+operand_by n None = step.refuse
+operand_by n (Some m) = read.expression (read.nested n) m
+
+-- an expression of a level is reached: what is left to do is to go on with a chain behind it
+pub record Reached (n : ℕ) (l : Level) (from to : List Lexeme) (e : RawExpr) : Type 0 where
+  pub turns : ℕ
+  pub enough : length to ≤ turns
+  pub is : read.expression (read.nested n) l from ≡ read.chain l (operand_by n (operands l)) turns e to
+
+-- where nothing of the level follows, it is read as a whole
+pub ended : {n : ℕ} {l : Level} {from to : List Lexeme} {e : RawExpr} → Reached n l from to e → join_at l (symbol_at to) ≡ None → read.expression (read.nested n) l from ≡ Some (e, to)
+ended {n} {l} {from} {to} {e} r none = r.is ∙ chain_end l (operand_by n (operands l)) r.turns e to none
+
+read_whole : (n : ℕ) (l : Level) (from to : List Lexeme) (e : RawExpr) → join_at l (symbol_at to) ≡ None → read.expression (read.nested n) l from ≡ Some (e, to) → Reached n l from to e
+read_whole n l from to e none h = record { turns = length to; enough = omega arith; is = h ∙ sym (chain_end l (operand_by n (operands l)) (length to) e to none) }
+
+-- an expression one deeper
+nested_read : (n : ℕ) (l : Level) (from to : List Lexeme) (e : RawExpr) → length from ≤ n → length to < length from → join_at l (symbol_at to) ≡ None →
+    ((k : ℕ) → length from ≤ suc k → Reached k l from to e) → read.nested n l from ≡ Some (e, to)
+unfolding read.nested
+nested_read zero l from to e fits some none again = absurd (omega arith)
+nested_read (suc k) l from to e fits some none again = ended (again k fits) none
+
+-- no prefix operator begins a primary expression
+primary_begins : {from to : List Lexeme} {e : RawExpr} → DerivesExpr level.Primary from to e → prefixing (symbol_at from) ≡ None
+unfolding symbol_at
+primary_begins (operand o d) = absurd (cc)
+primary_begins (chain j o d f) = absurd (cc)
+primary_begins (prefix {op = op} {is = is} p d) = let clash = prefix_level level.Primary (symbol op) is p in absurd (cc clash)
+primary_begins (number n) = ap prefixing n.number
+primary_begins (scalar n) = ap prefixing n
+primary_begins (element n o d c) = ap prefixing n
+primary_begins (parenthesized o d c) = ap prefixing o
+
+unprefixed : (l m : Level) (from to : List Lexeme) (e : RawExpr) → operands l ≡ Some m → DerivesExpr m from to e → prefix_at l (symbol_at from) ≡ None
+unfolding prefix_at
+unprefixed level.Unary m from to e o d =
+    let at : DerivesExpr level.Primary from to e = subst (λ k. DerivesExpr k from to e) (sym (same_Some level.Primary m o)) d in
+    ap (step.own level.Unary) (primary_begins at)
+unprefixed level.Or m from to e o d = prefixes_not level.Or (symbol_at from) (λ k. cc)
+unprefixed level.And m from to e o d = prefixes_not level.And (symbol_at from) (λ k. cc)
+unprefixed level.Equality m from to e o d = prefixes_not level.Equality (symbol_at from) (λ k. cc)
+unprefixed level.Relation m from to e o d = prefixes_not level.Relation (symbol_at from) (λ k. cc)
+unprefixed level.Sum m from to e o d = prefixes_not level.Sum (symbol_at from) (λ k. cc)
+unprefixed level.Product m from to e o d = prefixes_not level.Product (symbol_at from) (λ k. cc)
+unprefixed level.Primary m from to e o d = absurd (cc)
+
+-- the symbols that close an expression join nothing
+closes_bracket : (t : Lexeme) (to : List Lexeme) → Is CloseBracket t → join_at level.Or (symbol_at (t ∷ to)) ≡ None
+unfolding symbol_at join_at
+closes_bracket t to c = ap (λ k. step.own level.Or (joining k)) c
+
+closes_paren : (t : Lexeme) (to : List Lexeme) → Is CloseParen t → join_at level.Or (symbol_at (t ∷ to)) ≡ None
+unfolding symbol_at join_at
+closes_paren t to c = ap (λ k. step.own level.Or (joining k)) c
+
+follows_bracket : (t : Lexeme) (to : List Lexeme) → Is CloseBracket t → Follows level.Or (symbol_at (t ∷ to))
+unfolding symbol_at
+follows_bracket t to c = follows_any level.Or (symbol t) (ap joining c) (λ e. let clash : CloseBracket ≡ OpenBracket = sym c ∙ e in cc clash)
+
+follows_paren : (t : Lexeme) (to : List Lexeme) → Is CloseParen t → Follows level.Or (symbol_at (t ∷ to))
+unfolding symbol_at
+follows_paren t to c = follows_any level.Or (symbol t) (ap joining c) (λ e. let clash : CloseParen ≡ OpenBracket = sym c ∙ e in cc clash)
+
+-- the forms of a primary expression
+module _ (nested : Level → Parser RawExpr) where
+  number_read : (t : Lexeme) (n : ℕ) (to : List Lexeme) → IsNumber t n → read.expression nested level.Primary (t ∷ to) ≡ Some (tree.Number (pos n), to)
+  unfolding read.expression read.primary symbol_at
+  number_read t n to h =
+      ap (λ (k : Symbol). read.primary_by nested k (t ∷ to)) h.number
+      ∙ ap (λ (o : Outcome ℤ). and_then o (λ z. pure (tree.Number z))) (reads_number t n to h)
+
+  named_read : (t : Lexeme) (to : List Lexeme) → Is Name t → read.expression nested level.Primary (t ∷ to) ≡ read.variable nested (name_of t) to
+  unfolding read.expression read.primary symbol_at
+  named_read t to h =
+      ap (λ (k : Symbol). read.primary_by nested k (t ∷ to)) h
+      ∙ ap (λ (o : Outcome TreeName). and_then o (read.variable nested)) (reads_name t to h)
+
+  scalar_read : (t : Lexeme) (to : List Lexeme) → Is Name t → (symbol_at to ≡ OpenBracket → ⊥) → read.expression nested level.Primary (t ∷ to) ≡ Some (tree.Scalar (name_of t), to)
+  unfolding read.variable
+  scalar_read t to h other = named_read t to h ∙ stays OpenBracket (read.variable_by nested (name_of t)) to other
+
+  element_read : (t opening closing : Lexeme) (from to : List Lexeme) (e : RawExpr) → Is Name t → Is OpenBracket opening → nested level.Or from ≡ Some (e, closing ∷ to) → Is CloseBracket closing →
+      read.expression nested level.Primary (t ∷ opening ∷ from) ≡ Some (tree.Element (name_of t) e, to)
+  unfolding read.variable
+  element_read t opening closing from to e h o d c =
+      named_read t (opening ∷ from) h ∙ eats OpenBracket (read.variable_by nested (name_of t)) opening from o
+      ∙ ap (λ (r : Outcome RawExpr). and_then r (λ x. expect CloseBracket >>= (λ _. pure (tree.Element (name_of t) x)))) d
+      ∙ ap (λ (r : Outcome Lexeme). and_then r (λ _. pure (tree.Element (name_of t) e))) (expects CloseBracket closing to c)
+
+  parenthesized_read : (opening closing : Lexeme) (from to : List Lexeme) (e : RawExpr) → Is OpenParen opening → nested level.Or from ≡ Some (e, closing ∷ to) → Is CloseParen closing →
+      read.expression nested level.Primary (opening ∷ from) ≡ Some (e, to)
+  unfolding read.expression read.primary read.parenthesized symbol_at
+  parenthesized_read opening closing from to e o d c =
+      ap (λ (k : Symbol). read.primary_by nested k (opening ∷ from)) o
+      ∙ ap (λ (r : Outcome Lexeme). and_then r (λ _. nested level.Or >>= (λ x. expect CloseParen >>= (λ _. pure x)))) (expects OpenParen opening from o)
+      ∙ ap (λ (r : Outcome RawExpr). and_then r (λ x. expect CloseParen >>= (λ _. pure x))) d
+      ∙ ap (λ (r : Outcome Lexeme). and_then r (λ _. pure e)) (expects CloseParen closing to c)
+
+prefixed_read : (n : ℕ) (l : Level) (op : Lexeme) (is : UnOp) (from to : List Lexeme) (e : RawExpr) → prefixing (symbol op) ≡ Some (l, is) → read.nested n l from ≡ Some (e, to) →
+    read.expression (read.nested n) l (op ∷ from) ≡ Some (tree.Unary is e, to)
+unfolding rest symbol_at
+prefixed_read n l op is from to e p h =
+    level_prefixed (read.nested n) l level.Primary (ap operands (prefix_level l (symbol op) is p)) (op ∷ from) is (prefixes l (symbol op) is p)
+    ∙ ap (λ (o : Outcome RawExpr). and_then o (λ x. pure (tree.Unary is x))) h
+
+pub reached : {l : Level} {from to : List Lexeme} {e : RawExpr} → DerivesExpr l from to e → (n : ℕ) → length from ≤ suc n → Follows l (symbol_at to) → Reached n l from to e
+unfolding rest symbol_at
+reached (operand {l} {m} {from} {to} {e} o d) n fits f =
+    let tight = tighter l m o in
+    let none = joins_not l m (symbol_at to) f (omega arith) in
+    let first = ended (reached d n fits (follows_tighter l m (symbol_at to) (omega arith) f)) none in
+    record {
+      turns = length to;
+      enough = omega arith;
+      is = level_chain (read.nested n) l m o from e to (unprefixed l m from to e o d) first ∙ ap (λ (p : Parser RawExpr). read.chain l p (length to) e to) (sym (ap (operand_by n) o));
+    }
+reached (chain {l} {m} {op} {join} {from} {middle} {to} {a} {b} j o d f) n fits follow =
+    let tight = tighter l m o in
+    let left = shorter d in
+    let right = shorter f in
+    let r = reached d n fits (follows_join l (symbol op) join j) in
+    let enough = r.enough in
+    let none = joins_not l m (symbol_at to) follow (omega arith) in
+    let second = ended (reached f n (omega arith) (follows_tighter l m (symbol_at to) (omega arith) follow)) none in
+    record {
+      turns = r.turns - 1;
+      enough = omega arith;
+      is = r.is ∙ chain_turn l (operand_by n (operands l)) r.turns a b (op ∷ middle) to join (joins l (symbol op) join j) (ap (λ (p : Parser RawExpr). p middle) (ap (operand_by n) o) ∙ second) r.enough;
+    }
+reached (prefix {l} {op} {is} {from} {to} {e} p d) n fits f =
+    let some = shorter d in
+    let tight = ap rank (prefix_level l (symbol op) is p) in
+    let none = joins_not_tight l (symbol_at to) (omega arith) in
+    read_whole n l (op ∷ from) to (tree.Unary is e) none
+    (prefixed_read n l op is from to e p (nested_read n l from to e (omega arith) some none (λ k le. reached d k le f)))
+reached (number {t} {n = v} {to} h) n fits f =
+    read_whole n level.Primary (t ∷ to) to (tree.Number (pos v)) (joins_not_tight level.Primary (symbol_at to) (omega arith)) (number_read (read.nested n) t v to h)
+reached (scalar {name = t} {to} h) n fits f =
+    read_whole n level.Primary (t ∷ to) to (tree.Scalar (name_of t)) (joins_not_tight level.Primary (symbol_at to) (omega arith)) (scalar_read (read.nested n) t to h f.no_index)
+reached (element {name = t} {opening} {closing} {from} {to} {e} h o d c) n fits f =
+    let some = shorter d in
+    read_whole n level.Primary (t ∷ opening ∷ from) to (tree.Element (name_of t) e) (joins_not_tight level.Primary (symbol_at to) (omega arith))
+    (element_read (read.nested n) t opening closing from to e h o
+    (nested_read n level.Or from (closing ∷ to) e (omega arith) some (closes_bracket closing to c) (λ k le. reached d k le (follows_bracket closing to c))) c)
+reached (parenthesized {opening} {closing} {from} {to} {e} o d c) n fits f =
+    let some = shorter d in
+    read_whole n level.Primary (opening ∷ from) to e (joins_not_tight level.Primary (symbol_at to) (omega arith))
+    (parenthesized_read (read.nested n) opening closing from to e o
+    (nested_read n level.Or from (closing ∷ to) e (omega arith) some (closes_paren closing to c) (λ k le. reached d k le (follows_paren closing to c))) c)
+
+-- an expression is read as a whole before a symbol that joins nothing and opens no index
+pub whole_read : (from to : List Lexeme) (e : RawExpr) → DerivesExpr level.Or from to e → joining (symbol_at to) ≡ None → (symbol_at to ≡ OpenBracket → ⊥) → read.whole from ≡ Some (e, to)
+unfolding read.whole join_at
+whole_read from to e d none other =
+    nested_read (length from) level.Or from to e (omega arith) (shorter d) (ap (step.own level.Or) none) (λ k le. reached d k le (follows_any level.Or (symbol_at to) none other))

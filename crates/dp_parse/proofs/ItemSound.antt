@@ -1,0 +1,180 @@
+-- What the descent reads as a declaration, the grammar derives.
+use Rattle.std.proofs.Common.{◌≡◌, refl, ap, ◌∙◌, sym, ℕ, zero, suc, ◌≤◌, ◌<◌, ℤ, pos, neg_ℤ, negsuc, nat_lt, Bool, true, false, if◌then◌else◌, List, [], ◌∷◌, ◌++◌, length, Option, Some, None, append_assoc, arith}
+use Rattle.std.proofs.lemmas.List.{append-nil}
+use Rattle.std.proofs.lemmas.Bool.{ltb-true, ltb-false}
+use Rattle.dp_base.specs.Arithmetic.{is_zero, fits}
+use Rattle.dp_lex.specs.Token.{Lexeme}
+use Rattle.dp_tree.specs.declared.raw.Name.{Name as TreeName}
+use Rattle.dp_tree.specs.declared.raw.RawStmt.{RawStmt}
+use Rattle.dp_tree.specs.declared.raw.RawStmt.TheVariants as stmt
+use Rattle.dp_tree.specs.declared.raw.RawItem.{RawItem}
+use Rattle.dp_tree.specs.declared.raw.RawItem.TheVariants as item
+use Rattle.dp_tree.specs.declared.raw.RawProgram.{RawProgram}
+use Rattle.dp_parse.specs.declared.item.Part.{Part}
+use Rattle.dp_parse.specs.declared.item.Part.TheVariants.{Item, Main as Body}
+use Rattle.dp_parse.specs.declared.symbol.Symbol.{Symbol}
+use Rattle.dp_parse.specs.declared.symbol.Symbol.TheVariants.{Name, Mark, Int, Void, Main, Return, While, Minus, Assign, OpenParen, CloseParen, OpenBracket, CloseBracket, OpenBrace, CloseBrace, Comma, Semicolon, End}
+use Rattle.dp_parse.specs.Symbols.{symbol, symbol_at, Is}
+use Rattle.dp_parse.specs.Leaves.{name_of, IsNumber}
+use Rattle.dp_parse.specs.Statements.{DerivesStatement, DerivesBlock, DerivesCondition}
+use Rattle.dp_parse.specs.Programs.{DerivesNames, DerivesParams, DerivesItem, DerivesTops, DerivesReturn, DerivesMain, DerivesItems, Derives}
+use Rattle.dp_parse.specs.Programs as programs
+use Rattle.dp_parse.specs.descent.Steps.{Outcome, Parser, ◌>>=◌, pure, and_then, expect, eat, rest, sees, given, separated, separated_by, many, many_by}
+use Rattle.dp_parse.specs.descent.Steps as step
+use Rattle.dp_parse.specs.descent.Statements as statements
+use Rattle.dp_parse.specs.descent.Programs as read
+use Rattle.dp_parse.proofs.StepLemmas.{Sound, Then, then_of, same_pair, Took, took, Ate, passed, stayed, ate, Closed, closed, moved, taken, gave}
+use Rattle.dp_parse.proofs.LeafLemmas.{Named, read_name, Numbered, read_number}
+use Rattle.dp_parse.proofs.StatementSound.{sound_block, sound_statement, read_repeated}
+use Rattle.dp_parse.proofs.ItemSteps.{Param, read_param}
+
+abbrev pair : {A : Type 0} → A → List Lexeme → A × List Lexeme
+pair a ts = (a, ts)
+
+-- ---- numbers that are 0, or turned
+
+pub zero_is : (z : ℤ) (n : ℕ) → z ≡ pos n → is_zero z ≡ true → n ≡ 0
+unfolding is_zero
+zero_is z n same e = let h : nat_lt n 1 ≡ true = sym (ap is_zero same) ∙ e in let less = ltb-true n 1 h in omega arith
+
+nonzero_is : (z : ℤ) (n : ℕ) → z ≡ pos n → is_zero z ≡ false → 1 ≤ n
+unfolding is_zero
+nonzero_is z n same e = let h : nat_lt n 1 ≡ false = sym (ap is_zero same) ∙ e in ltb-false n 1 h
+
+turned_by : (z w : ℤ) (b : Bool) → (if b then Some (neg_ℤ z) else None) ≡ Some w → w ≡ neg_ℤ z
+turned_by z w true e = sym (cc)
+turned_by z w false e = absurd (cc)
+
+turned : (z w : ℤ) → step.negated z ≡ Some w → w ≡ neg_ℤ z
+unfolding step.negated
+turned z w e = turned_by z w (fits (neg_ℤ z)) e
+
+-- the start value that was read
+data Start (from to : List Lexeme) (z : ℤ) : Type 0 where
+  plain : (t : Lexeme) (n : ℕ) → IsNumber t n → from ≡ t ∷ to → z ≡ pos n → Start from to z
+  below : (minus t : Lexeme) (n : ℕ) → Is Minus minus → IsNumber t n → from ≡ minus ∷ t ∷ to → z ≡ neg_ℤ (pos n) → Start from to z
+
+start_ate : (from to : List Lexeme) (z : ℤ) → Ate Minus read.start_by from z to → Start from to z
+start_ate from to z (passed t middle is splits e) =
+    let o = then_of (step.number middle) (λ v. given (step.negated v)) z to e in
+    let n = read_number middle o.middle o.value o.first in
+    let g = gave (step.negated o.value) z o.middle to o.second in
+    below t n.token n.value is n.is (splits ∙ taken t (n.splits ∙ taken n.token g.1)) (turned o.value z g.0 ∙ ap neg_ℤ n.reads)
+start_ate from to z (stayed other e) = let n = read_number from to z e in plain n.token n.value n.is n.splits n.reads
+
+read_start : (from to : List Lexeme) (z : ℤ) → read.start from ≡ Some (z, to) → Start from to z
+unfolding read.start
+read_start from to z e = start_ate from to z (ate Minus read.start_by z to from (λ k. cc) e)
+
+-- ---- variables at file scope, behind their `int`
+
+started : (int name equals end : Lexeme) (from to : List Lexeme) (z : ℤ) → Is Int int → Is Name name → Is Assign equals → Start from (end ∷ to) z → Is Semicolon end →
+    DerivesItem (int ∷ name ∷ equals ∷ from) to (item.Scalar (name_of name) z)
+started int name equals end from to z i n q (plain t v h splits same) e =
+    moved DerivesItem (taken int (taken name (taken equals splits))) refl (ap (item.Scalar (name_of name)) same) (programs.started i n q h e)
+started int name equals end from to z i n q (below minus t v m h splits same) e =
+    moved DerivesItem (taken int (taken name (taken equals splits))) refl (ap (item.Scalar (name_of name)) same) (programs.below_zero i n q m h e)
+
+array_at : (name : TreeName) (z : ℤ) (n : ℕ) (found : RawItem) (ts left : List Lexeme) (b : Bool) → z ≡ pos n → is_zero z ≡ b → read.array_by name z b ts ≡ Some (found, left) → (1 ≤ n) × (found ≡ item.Array name z) × (ts ≡ left)
+array_at name z n found ts left true same e h = absurd (cc)
+array_at name z n found ts left false same e h =
+    let parts = same_pair {a = item.Array name z} {b = found} {x = ts} {y = left} h in (nonzero_is z n same e, sym parts.0, parts.1)
+
+sound_array : (int name end : Lexeme) (from to : List Lexeme) (i : RawItem) → Is Int int → Is Name name → read.array (name_of name) from ≡ Some (i, end ∷ to) → Is Semicolon end → DerivesItem (int ∷ name ∷ from) to i
+unfolding read.array
+sound_array int name end from to i is_int is_name h is_end =
+    let called = name_of name in
+    let o = then_of (expect OpenBracket from) (λ _. step.number >>= (λ length. expect CloseBracket >>= (λ _. read.array_by called length (is_zero length)))) i (end ∷ to) h in
+    let t = took OpenBracket from o.value o.middle o.first in
+    let p = then_of (step.number o.middle) (λ length. expect CloseBracket >>= (λ _. read.array_by called length (is_zero length))) i (end ∷ to) o.second in
+    let n = read_number o.middle p.middle p.value p.first in
+    let q = then_of (expect CloseBracket p.middle) (λ _. read.array_by called p.value (is_zero p.value)) i (end ∷ to) p.second in
+    let u = took CloseBracket p.middle q.value q.middle q.first in
+    let a = array_at called p.value n.value i q.middle (end ∷ to) (is_zero p.value) n.reads refl q.second in
+    moved DerivesItem (taken int (taken name (t.splits ∙ taken o.value (n.splits ∙ taken n.token (u.splits ∙ taken q.value a.2))))) refl (a.1 ∙ ap (item.Array called) n.reads)
+    (programs.array is_int is_name t.is n.is a.0 u.is is_end)
+
+variable_started : (int name end : Lexeme) (from to : List Lexeme) (i : RawItem) → symbol_at from ≡ Assign → Is Int int → Is Name name →
+    (read.start >>= (λ z. pure (item.Scalar (name_of name) z))) (rest from) ≡ Some (i, end ∷ to) → Is Semicolon end → DerivesItem (int ∷ name ∷ from) to i
+unfolding symbol_at rest
+variable_started int name end [] to i at is_int is_name h is_end = absurd (cc)
+variable_started int name end (t ∷ from) to i at is_int is_name h is_end =
+    let o = then_of (read.start from) (λ z. pure (item.Scalar (name_of name) z)) i (end ∷ to) h in
+    let parts = same_pair {a = item.Scalar (name_of name) o.value} {b = i} {x = o.middle} {y = end ∷ to} o.second in
+    let start = read_start from (end ∷ to) o.value (o.first ∙ ap (λ (ts : List Lexeme). Some (pair o.value ts)) parts.1) in
+    moved DerivesItem refl refl (sym parts.0) (started int name t end from to o.value is_int is_name at start is_end)
+
+variable_plain : (int name end : Lexeme) (from to : List Lexeme) (i : RawItem) → Is Int int → Is Name name → pure (item.Scalar (name_of name) (pos 0)) from ≡ Some (i, end ∷ to) → Is Semicolon end → DerivesItem (int ∷ name ∷ from) to i
+variable_plain int name end from to i is_int is_name h is_end =
+    let parts = same_pair {a = item.Scalar (name_of name) (pos 0)} {b = i} {x = from} {y = end ∷ to} h in
+    moved DerivesItem (taken int (taken name parts.1)) refl (sym parts.0) (programs.scalar is_int is_name is_end)
+
+variable_at : (int name end : Lexeme) (k : Symbol) (from to : List Lexeme) (i : RawItem) → symbol_at from ≡ k → Is Int int → Is Name name → read.variable_by (name_of name) k from ≡ Some (i, end ∷ to) → Is Semicolon end → DerivesItem (int ∷ name ∷ from) to i
+variable_at int name end OpenBracket from to i at is_int is_name h is_end = sound_array int name end from to i is_int is_name h is_end
+variable_at int name end Assign from to i at is_int is_name h is_end = variable_started int name end from to i at is_int is_name h is_end
+variable_at int name end _ from to i at is_int is_name h is_end = variable_plain int name end from to i is_int is_name h is_end
+
+pub sound_variable : (int : Lexeme) (from to : List Lexeme) (i : RawItem) → Is Int int → read.variable from ≡ Some (i, to) → DerivesItem (int ∷ from) to i
+unfolding read.variable
+sound_variable int from to i is_int h =
+    let o = then_of (step.name from) (λ name. step.peek >>= (λ s. read.variable_by name s >>= (λ found. expect Semicolon >>= (λ _. pure found)))) i to h in
+    let n = read_name from o.middle o.value o.first in
+    let c = closed (read.variable_by o.value (symbol_at o.middle)) Semicolon (λ x. x) i o.middle to o.second in
+    moved DerivesItem (taken int n.splits) refl c.made
+    (variable_at int n.token c.closing (symbol_at o.middle) o.middle to c.value refl is_int n.is (ap (λ (name : TreeName). read.variable_by name (symbol_at o.middle) o.middle) (sym n.called) ∙ c.first) c.is)
+
+-- ---- functions, behind their `void`
+
+abbrev Listed : (List Lexeme → List Lexeme → List TreeName → List TreeName → Type 0)
+Listed from to found out = (names : List TreeName) × (out ≡ found ++ names) × DerivesNames from to names
+
+names_by : (again : List TreeName → Parser (List TreeName)) (goes : (from to : List Lexeme) (found out : List TreeName) → again found from ≡ Some (out, to) → Listed from to found out)
+    (from middle to : List Lexeme) (found out : List TreeName) (x : TreeName) → Param from middle x → Ate Comma (separated_by again (found ++ x ∷ [])) middle out to → Listed from to found out
+names_by again goes from middle to found out x p (passed t left is splits e) =
+    let others = goes left to (found ++ x ∷ []) out e in
+    let same = ap (λ (n : TreeName). n ∷ others.0) p.called in
+    (x ∷ others.0, others.1 ∙ append_assoc found (x ∷ []) others.0, moved DerivesNames (p.splits ∙ taken p.int (taken p.token splits)) refl same (programs.more p.is_int p.is is others.2))
+names_by again goes from middle to found out x p (stayed other e) =
+    let parts = same_pair {a = found ++ x ∷ []} {b = out} {x = middle} {y = to} e in
+    let same = ap (λ (n : TreeName). n ∷ []) p.called in
+    (x ∷ [], sym parts.0, moved DerivesNames (p.splits ∙ taken p.int (taken p.token parts.1)) refl same (programs.last p.is_int p.is))
+
+separated_names : (n : ℕ) (from to : List Lexeme) (found out : List TreeName) → separated read.param n found from ≡ Some (out, to) → Listed from to found out
+unfolding separated
+separated_names zero from to found out h = absurd (cc)
+separated_names (suc n) from to found out h =
+    let o = then_of (read.param from) (λ x. eat Comma >>= separated_by (separated read.param n) (found ++ x ∷ [])) out to h in
+    names_by (separated read.param n) (separated_names n) from o.middle to found out o.value (read_param from o.middle o.value o.first)
+    (ate Comma (separated_by (separated read.param n) (found ++ o.value ∷ [])) out to o.middle (λ k. cc) o.second)
+
+named_params : (from to : List Lexeme) (names : List TreeName) → Ate Void read.named_params_by from names to → DerivesParams from to names
+named_params from to names (passed t left is splits e) =
+    let parts = same_pair {a = []} {b = names} {x = left} {y = to} e in
+    moved DerivesParams (splits ∙ taken t parts.1) refl (sym parts.0) (programs.void is)
+named_params from to names (stayed other e) = let r = separated_names (length from) from to [] names e in moved DerivesParams refl refl r.1 (programs.some r.2)
+
+params_at : (b : Bool) (from to : List Lexeme) (names : List TreeName) → read.params_by b from ≡ Some (names, to) → DerivesParams from to names
+params_at true from to names h = let parts = same_pair {a = []} {b = names} {x = from} {y = to} h in moved DerivesParams parts.1 refl (sym parts.0) programs.none
+params_at false from to names h = named_params from to names (ate Void read.named_params_by names to from (λ k. cc) h)
+
+sound_params : Sound read.params DerivesParams
+unfolding read.params
+sound_params from to names h = params_at (sees CloseParen from) from to names h
+
+pub sound_function : (void : Lexeme) (from to : List Lexeme) (i : RawItem) → Is Void void → read.function from ≡ Some (i, to) → DerivesItem (void ∷ from) to i
+unfolding read.function
+sound_function void from to i is_void h =
+    let last = λ (name : TreeName) (params : List TreeName) (body : List RawStmt). item.Function name params body in
+    let o = then_of (step.name from) (λ name. expect OpenParen >>= (λ _. read.params >>= (λ params. expect CloseParen >>= (λ _. (λ ts. statements.block (statements.statement (length ts)) ts) >>= (λ body. pure (last name params body)))))) i to h in
+    let n = read_name from o.middle o.value o.first in
+    let p = then_of (expect OpenParen o.middle) (λ _. read.params >>= (λ params. expect CloseParen >>= (λ _. (λ ts. statements.block (statements.statement (length ts)) ts) >>= (λ body. pure (last o.value params body))))) i to o.second in
+    let t = took OpenParen o.middle p.value p.middle p.first in
+    let q = then_of (read.params p.middle) (λ params. expect CloseParen >>= (λ _. (λ ts. statements.block (statements.statement (length ts)) ts) >>= (λ body. pure (last o.value params body)))) i to p.second in
+    let u = then_of (expect CloseParen q.middle) (λ _. (λ ts. statements.block (statements.statement (length ts)) ts) >>= (λ body. pure (last o.value q.value body))) i to q.second in
+    let c = took CloseParen q.middle u.value u.middle u.first in
+    let v = then_of (statements.block (statements.statement (length u.middle)) u.middle) (λ body. pure (last o.value q.value body)) i to u.second in
+    let parts = same_pair {a = last o.value q.value v.value} {b = i} {x = v.middle} {y = to} v.second in
+    let body = moved DerivesBlock refl (sym parts.1) refl (sound_block (statements.statement (length u.middle)) (sound_statement (length u.middle)) u.middle v.middle v.value v.first) in
+    let params = moved DerivesParams refl (sym c.splits) refl (sound_params p.middle q.middle q.value q.first) in
+    moved DerivesItem (taken void (n.splits ∙ taken n.token t.splits)) refl (sym parts.0 ∙ ap (λ (name : TreeName). item.Function name q.value v.value) n.called)
+    (programs.function is_void n.is t.is params c.is body)

@@ -1,0 +1,81 @@
+-- Names and numbers: what the descent reads, and that it reads them.
+use Rattle.std.proofs.Common.{◌≡◌, refl, ap, ap₂, ◌∙◌, sym, ℕ, ◌≤◌, ℤ, pos, Bool, true, false, ◌&&◌, nat_le, if◌then◌else◌, List, [], ◌∷◌, Option, Some, None, arith}
+use Rattle.std.specs.Char.{is_ascii_digit}
+use Rattle.std.specs.List.{list_all, AllPass}
+use Rattle.std.specs.Str.Parse.{digits_value}
+use Rattle.std.proofs.lemmas.Bool.{leb-true, le-leb}
+use Rattle.std.proofs.lemmas.List.Sums.{AllPass-from_list_all, list_all-from_AllPass}
+use Rattle.dp_lex.specs.Token.{Lexeme}
+use Rattle.dp_tree.specs.declared.raw.Name.{Name as TreeName}
+use Rattle.dp_parse.specs.declared.symbol.Symbol.TheVariants.{Name, Number}
+use Rattle.dp_parse.specs.Symbols.{Is}
+use Rattle.dp_parse.specs.Leaves.{name_of, IsNumber}
+use Rattle.dp_parse.specs.descent.Steps.{expect, name, given, number, number_value}
+use Rattle.dp_parse.proofs.StepLemmas.{Then, then_of, same_pair, Took, took, expects, gave}
+
+-- the name that was read
+pub record Named (from to : List Lexeme) (n : TreeName) : Type 0 where
+  pub token : Lexeme
+  pub is : Is Name token
+  pub splits : from ≡ token ∷ to
+  pub called : n ≡ name_of token
+
+pub read_name : (from to : List Lexeme) (n : TreeName) → name from ≡ Some (n, to) → Named from to n
+unfolding name
+read_name from to n e =
+    let h = then_of (expect Name from) _ n to e in
+    let t = took Name from h.value h.middle h.first in
+    let parts = same_pair h.second in
+    record { token = h.value; is = t.is; splits = t.splits ∙ ap (λ ts. h.value ∷ ts) parts.1; called = sym parts.0 }
+
+pub reads_name : (t : Lexeme) (to : List Lexeme) → Is Name t → name (t ∷ to) ≡ Some (name_of t, to)
+unfolding name
+reads_name t to h = rw (expects Name t to h) refl
+
+-- the number that was read
+pub record Numbered (from to : List Lexeme) (z : ℤ) : Type 0 where
+  pub token : Lexeme
+  pub value : ℕ
+  pub is : IsNumber token value
+  pub splits : from ≡ token ∷ to
+  pub reads : z ≡ pos value
+
+-- the digits are a token's, with this value
+record Valued (digits : List ℕ) (z : ℤ) : Type 0 where
+  digits_only : AllPass is_ascii_digit digits
+  fits : digits_value 10 digits ≤ 9223372036854775807
+  is : z ≡ pos (digits_value 10 digits)
+
+valued_by : (digits : List ℕ) (z : ℤ) (a b : Bool) → list_all is_ascii_digit digits ≡ a → nat_le (digits_value 10 digits) 9223372036854775807 ≡ b →
+    (if a && b then Some (pos (digits_value 10 digits)) else None) ≡ Some z → Valued digits z
+valued_by digits z true true all fits e = record { digits_only = AllPass-from_list_all is_ascii_digit digits all; fits = leb-true _ _ fits; is = sym (cc) }
+valued_by digits z true false all fits e = absurd (cc)
+valued_by digits z false b all fits e = absurd (cc)
+
+valued : (digits : List ℕ) (z : ℤ) → number_value digits ≡ Some z → Valued digits z
+unfolding number_value
+valued digits z e = valued_by digits z (list_all is_ascii_digit digits) (nat_le (digits_value 10 digits) 9223372036854775807) refl refl e
+
+pub read_number : (from to : List Lexeme) (z : ℤ) → number from ≡ Some (z, to) → Numbered from to z
+unfolding number
+read_number from to z e =
+    let h = then_of (expect Number from) (λ t. given (number_value t.text)) z to e in
+    let t = took Number from h.value h.middle h.first in
+    let g = gave (number_value h.value.text) z h.middle to h.second in
+    let v = valued h.value.text z g.0 in
+    record {
+      token = h.value;
+      value = digits_value 10 h.value.text;
+      is = record { number = t.is; digits = v.digits_only; value = refl; fits = v.fits };
+      splits = t.splits ∙ ap (λ ts. h.value ∷ ts) g.1;
+      reads = v.is;
+    }
+
+values : (digits : List ℕ) (n : ℕ) → AllPass is_ascii_digit digits → digits_value 10 digits ≡ n → n ≤ 9223372036854775807 → number_value digits ≡ Some (pos n)
+unfolding number_value
+values digits n all e fits =
+    rw (list_all-from_AllPass is_ascii_digit digits all, e, le-leb n 9223372036854775807 fits) refl
+
+pub reads_number : (t : Lexeme) (n : ℕ) (to : List Lexeme) → IsNumber t n → number (t ∷ to) ≡ Some (pos n, to)
+unfolding number
+reads_number t n to h = rw (expects Number t to h.number, values t.text n h.digits h.value h.fits) refl

@@ -1,0 +1,37 @@
+-- A turn of the loop over a program's parts.
+use Rattle.std.proofs.Common.{◌≡◌, refl, ap, ◌∙◌, ℕ, zero, suc, ◌-◌, ◌<◌, ◌≤◌, List, [], ◌∷◌, ◌++◌, length, Option, Some, None, arith}
+use Rattle.dp_lex.specs.Token.{Lexeme}
+use Rattle.dp_tree.specs.declared.raw.RawItem.{RawItem}
+use Rattle.dp_tree.specs.declared.raw.RawStmt.{RawStmt}
+use Rattle.dp_tree.specs.declared.raw.RawProgram.{RawProgram}
+use Rattle.dp_parse.specs.declared.item.Part.{Part}
+use Rattle.dp_parse.specs.declared.item.Part.TheVariants.{Item, Main as Body}
+use Rattle.dp_parse.specs.descent.Steps.{Outcome, and_then}
+use Rattle.dp_parse.specs.descent.Programs as read
+
+pub program_none : (k : ℕ) (items : List RawItem) (ts : List Lexeme) → read.part ts ≡ None → read.program_from k items ts ≡ None
+unfolding read.program_from
+program_none zero items ts e = refl
+program_none (suc k) items ts e = ap (λ (o : Outcome Part). and_then o (read.program_by (read.program_from k) items)) e
+
+pub program_item : (k : ℕ) (items : List RawItem) (ts middle : List Lexeme) (i : RawItem) → read.part ts ≡ Some (Item i, middle) → length middle < length ts → length ts ≤ k →
+    read.program_from k items ts ≡ read.program_from (k - 1) (items ++ i ∷ []) middle
+unfolding read.program_from
+program_item zero items ts middle i e less fits = absurd (omega arith)
+program_item (suc k) items ts middle i e less fits =
+    let same : suc k - 1 ≡ k = omega arith in
+    rw same (ap (λ (o : Outcome Part). and_then o (read.program_by (read.program_from k) items)) e)
+
+pub program_main : (k : ℕ) (items : List RawItem) (ts middle : List Lexeme) (body : List RawStmt) → read.part ts ≡ Some (Body body, middle) → length middle < length ts → length ts ≤ k →
+    read.program_from k items ts ≡ read.finished items body middle
+unfolding read.program_from
+program_main zero items ts middle body e less fits = absurd (omega arith)
+program_main (suc k) items ts middle body e less fits = ap (λ (o : Outcome Part). and_then o (read.program_by (read.program_from k) items)) e
+
+pub finished_some : (items : List RawItem) (body : List RawStmt) (ts : List Lexeme) → 0 < length ts → read.finished items body ts ≡ None
+finished_some items body [] some = absurd (omega arith)
+finished_some items body (t ∷ ts) some = refl
+
+pub finished_none : (items : List RawItem) (body : List RawStmt) (ts : List Lexeme) → length ts ≤ 0 → read.finished items body ts ≡ Some (record { items = items; main = body }, ts)
+finished_none items body [] none = refl
+finished_none items body (t ∷ ts) none = absurd (omega arith)

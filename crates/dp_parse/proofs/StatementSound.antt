@@ -1,0 +1,159 @@
+-- What the descent reads as a statement, the grammar derives.
+use Rattle.std.proofs.Common.{◌≡◌, refl, ap, ◌∙◌, sym, ℕ, zero, suc, Bool, true, false, List, [], ◌∷◌, ◌++◌, length, Option, Some, None, append_assoc}
+use Rattle.std.proofs.lemmas.List.{append-nil}
+use Rattle.dp_lex.specs.Token.{Lexeme}
+use Rattle.dp_tree.specs.declared.raw.Name.{Name as TreeName}
+use Rattle.dp_tree.specs.declared.raw.RawExpr.{RawExpr}
+use Rattle.dp_tree.specs.declared.raw.RawStmt.{RawStmt}
+use Rattle.dp_tree.specs.declared.raw.RawStmt.TheVariants as tree
+use Rattle.dp_parse.specs.declared.symbol.Symbol.{Symbol}
+use Rattle.dp_parse.specs.declared.symbol.Symbol.TheVariants.{Name, Int, Print, While, If, Else, Assign, OpenParen, CloseParen, OpenBracket, CloseBracket, OpenBrace, CloseBrace, Semicolon, Comma, End}
+use Rattle.dp_parse.specs.declared.level.Level.TheVariants.{Or}
+use Rattle.dp_parse.specs.Symbols.{symbol_at, Is}
+use Rattle.dp_parse.specs.Leaves.{name_of}
+use Rattle.dp_parse.specs.Expressions.{DerivesExpr, DerivesList}
+use Rattle.dp_parse.specs.Expressions as expression
+use Rattle.dp_parse.specs.Statements.{DerivesArguments, DerivesCondition, condition, DerivesStatement, declare, assign, store, call, print, loop, choice, DerivesChoice, alone, otherwise, else_if, DerivesBlock, block, DerivesStatements}
+use Rattle.dp_parse.specs.Statements as statements
+use Rattle.dp_parse.specs.descent.Steps.{Outcome, Parser, ◌>>=◌, pure, and_then, expect, eat, sees, after, separated, separated_by, many, many_by}
+use Rattle.dp_parse.specs.descent.Steps as step
+use Rattle.dp_parse.specs.descent.Expressions as expr
+use Rattle.dp_parse.specs.descent.Statements as read
+use Rattle.dp_parse.proofs.StepLemmas.{Sound, Then, then_of, same_pair, Took, took, Ate, passed, stayed, ate, Closed, closed, moved, taken, saw}
+use Rattle.dp_parse.proofs.LeafLemmas.{Named, read_name}
+use Rattle.dp_parse.proofs.ExpressionSound.{sound_whole}
+use Rattle.dp_parse.proofs.StatementForms.{sound_condition, sound_declare, sound_named, sound_print}
+
+module _ (statement : Parser RawStmt) (sound : Sound statement DerivesStatement) where
+  abbrev Stated : (List Lexeme → List Lexeme → List RawStmt → List RawStmt → Type 0)
+  Stated from to found out = (body : List RawStmt) × (out ≡ found ++ body) × DerivesStatements from to body
+
+  many_at : (again : List RawStmt → Parser (List RawStmt)) (goes : (from to : List Lexeme) (found out : List RawStmt) → again found from ≡ Some (out, to) → Stated from to found out)
+      (from to : List Lexeme) (found out : List RawStmt) (b : Bool) → many_by statement again found b from ≡ Some (out, to) → Stated from to found out
+  many_at again goes from to found out true e =
+      let parts = same_pair {a = found} {b = out} {x = from} {y = to} e in
+      ([], sym parts.0 ∙ sym (append-nil found), moved DerivesStatements refl (sym parts.1) refl statements.none)
+  many_at again goes from to found out false e =
+      let o = then_of (statement from) (λ x. again (found ++ x ∷ [])) out to e in
+      let others = goes o.middle to (found ++ o.value ∷ []) out o.second in
+      (o.value ∷ others.0, others.1 ∙ append_assoc found (o.value ∷ []) others.0, statements.more (sound from o.middle o.value o.first) others.2)
+
+  -- statements up to a brace, after those that were found
+  many_statements : (n : ℕ) (from to : List Lexeme) (found out : List RawStmt) → many (sees CloseBrace) statement n found from ≡ Some (out, to) → Stated from to found out
+  unfolding many
+  many_statements zero from to found out h = absurd (cc)
+  many_statements (suc n) from to found out h = many_at (many (sees CloseBrace) statement n) (many_statements n) from to found out (sees CloseBrace from) h
+
+  pub sound_block : Sound (read.block statement) DerivesBlock
+  unfolding read.block
+  sound_block from to body h =
+      let o = then_of (expect OpenBrace from) (λ _. (λ ts. many (sees CloseBrace) statement (length ts) [] ts) >>= (λ body. expect CloseBrace >>= (λ _. pure body))) body to h in
+      let t = took OpenBrace from o.value o.middle o.first in
+      let c = closed (λ ts. many (sees CloseBrace) statement (length ts) [] ts) CloseBrace (λ x. x) body o.middle to o.second in
+      let m = many_statements (length o.middle) o.middle (c.closing ∷ to) [] c.value c.first in
+      moved DerivesBlock t.splits refl (c.made ∙ m.1) (block t.is m.2 c.is)
+
+  -- a loop, marked or not
+  pub record Repeats (marked : Bool) (from to : List Lexeme) (s : RawStmt) : Type 0 where
+    pub word : Lexeme
+    pub is : Is While word
+    pub inside : List Lexeme
+    pub middle : List Lexeme
+    pub splits : from ≡ word ∷ inside
+    pub cond : RawExpr
+    pub body : List RawStmt
+    pub tests : DerivesCondition inside middle cond
+    pub repeats : DerivesBlock middle to body
+    pub made : s ≡ tree.While word.line marked cond body
+
+  pub read_repeated : (marked : Bool) (from to : List Lexeme) (s : RawStmt) → read.repeated statement marked from ≡ Some (s, to) → Repeats marked from to s
+  unfolding read.repeated
+  read_repeated marked from to s h =
+      let o = then_of (expect While from) (λ word. read.condition >>= (λ cond. read.block statement >>= (λ body. pure (tree.While word.line marked cond body)))) s to h in
+      let t = took While from o.value o.middle o.first in
+      let p = then_of (read.condition o.middle) (λ cond. read.block statement >>= (λ body. pure (tree.While o.value.line marked cond body))) s to o.second in
+      let q = then_of (read.block statement p.middle) (λ body. pure (tree.While o.value.line marked p.value body)) s to p.second in
+      let parts = same_pair {a = tree.While o.value.line marked p.value q.value} {b = s} {x = q.middle} {y = to} q.second in
+      record {
+        word = o.value;
+        is = t.is;
+        inside = o.middle;
+        middle = p.middle;
+        splits = t.splits;
+        cond = p.value;
+        body = q.value;
+        tests = sound_condition o.middle p.middle p.value p.first;
+        repeats = moved DerivesBlock refl (sym parts.1) refl (sound_block p.middle q.middle q.value q.first);
+        made = sym parts.0;
+      }
+
+  -- what follows an `if` and its block
+  data Otherwise (from to : List Lexeme) (part : List RawStmt) : Type 0 where
+    nothing : from ≡ to → part ≡ [] → Otherwise from to part
+    a_block : (other : Lexeme) (inside : List Lexeme) → Is Else other → from ≡ other ∷ inside → DerivesBlock inside to part → Otherwise from to part
+    a_choice : (other : Lexeme) (inside : List Lexeme) (s : RawStmt) → Is Else other → from ≡ other ∷ inside → symbol_at inside ≡ If → DerivesStatement inside to s → part ≡ s ∷ [] → Otherwise from to part
+
+  else_at : (other : Lexeme) (from inside to : List Lexeme) (part : List RawStmt) → Is Else other → from ≡ other ∷ inside → (b : Bool) → sees If inside ≡ b → read.else_by statement b inside ≡ Some (part, to) → Otherwise from to part
+  else_at other from inside to part is splits true seen h =
+      let o = then_of (statement inside) (λ s. pure (s ∷ [])) part to h in
+      let parts = same_pair {a = o.value ∷ []} {b = part} {x = o.middle} {y = to} o.second in
+      a_choice other inside o.value is splits (saw If inside seen) (moved DerivesStatement refl (sym parts.1) refl (sound inside o.middle o.value o.first)) (sym parts.0)
+  else_at other from inside to part is splits false seen h = a_block other inside is splits (sound_block inside to part h)
+
+  otherwise_ate : (from to : List Lexeme) (part : List RawStmt) → Ate Else (read.otherwise_by statement) from part to → Otherwise from to part
+  otherwise_ate from to part (passed t inside is splits e) = else_at t from inside to part is splits (sees If inside) refl e
+  otherwise_ate from to part (stayed other e) = let parts = same_pair {a = []} {b = part} {x = from} {y = to} e in nothing parts.1 (sym parts.0)
+
+  read_otherwise : (from to : List Lexeme) (part : List RawStmt) → read.otherwise statement from ≡ Some (part, to) → Otherwise from to part
+  unfolding read.otherwise
+  read_otherwise from to part h = otherwise_ate from to part (ate Else (read.otherwise_by statement) part to from (λ k. cc) h)
+
+-- a statement that begins with `if` is a choice
+choice_of : {from to : List Lexeme} {s : RawStmt} → DerivesStatement from to s → symbol_at from ≡ If → DerivesChoice from to s
+unfolding symbol_at
+choice_of (declare i n q d e) at = absurd (cc)
+choice_of (assign n q d e) at = absurd (cc)
+choice_of (store n o d c q f e) at = absurd (cc)
+choice_of (call n o d c e) at = absurd (cc)
+choice_of (print w d e) at = absurd (cc)
+choice_of (loop w d b) at = absurd (cc)
+choice_of (choice d) at = d
+
+module _ (statement : Parser RawStmt) (sound : Sound statement DerivesStatement) where
+  chosen : (word : Lexeme) (from middle after to : List Lexeme) (cond : RawExpr) (body part : List RawStmt) → Is If word → DerivesCondition from middle cond → DerivesBlock middle after body →
+      Otherwise statement sound after to part → DerivesChoice (word ∷ from) to (tree.If word.line cond body part)
+  chosen word from middle last to cond body part is test d (nothing same none) =
+      moved DerivesChoice refl (sym same) (ap (tree.If word.line cond body) none) (alone is test d)
+  chosen word from middle last to cond body part is test d (a_block other inside is_else splits e) = otherwise is test (moved DerivesBlock refl (sym splits) refl d) is_else e
+  chosen word from middle last to cond body part is test d (a_choice other inside s is_else splits at e only) =
+      moved DerivesChoice refl refl (ap (tree.If word.line cond body) only) (else_if is test (moved DerivesBlock refl (sym splits) refl d) is_else (choice_of e at))
+
+  sound_choice : Sound (read.choice statement) DerivesChoice
+  unfolding read.choice
+  sound_choice from to s h =
+      let o = then_of (expect If from) (λ word. read.condition >>= (λ cond. read.block statement >>= (λ then_part. read.otherwise statement >>= (λ else_part. pure (tree.If word.line cond then_part else_part))))) s to h in
+      let t = took If from o.value o.middle o.first in
+      let p = then_of (read.condition o.middle) (λ cond. read.block statement >>= (λ then_part. read.otherwise statement >>= (λ else_part. pure (tree.If o.value.line cond then_part else_part)))) s to o.second in
+      let q = then_of (read.block statement p.middle) (λ then_part. read.otherwise statement >>= (λ else_part. pure (tree.If o.value.line p.value then_part else_part))) s to p.second in
+      let u = then_of (read.otherwise statement q.middle) (λ else_part. pure (tree.If o.value.line p.value q.value else_part)) s to q.second in
+      let parts = same_pair {a = tree.If o.value.line p.value q.value u.value} {b = s} {x = u.middle} {y = to} u.second in
+      moved DerivesChoice t.splits (sym parts.1) (sym parts.0)
+      (chosen o.value o.middle p.middle q.middle u.middle p.value q.value u.value t.is (sound_condition o.middle p.middle p.value p.first)
+      (sound_block statement sound p.middle q.middle q.value q.first) (read_otherwise statement sound q.middle u.middle u.value u.first))
+
+  sound_loop : (from to : List Lexeme) (s : RawStmt) → read.repeated statement false from ≡ Some (s, to) → DerivesStatement from to s
+  sound_loop from to s h =
+      let r = read_repeated statement sound false from to s h in
+      moved DerivesStatement r.splits refl r.made (loop r.is r.tests r.repeats)
+
+  statement_at : (k : Symbol) (from to : List Lexeme) (s : RawStmt) → read.statement_by statement k from ≡ Some (s, to) → DerivesStatement from to s
+  statement_at Int from to s h = sound_declare from to s h
+  statement_at Name from to s h = sound_named from to s h
+  statement_at Print from to s h = sound_print from to s h
+  statement_at While from to s h = sound_loop from to s h
+  statement_at _ from to s h = choice (sound_choice from to s h)
+
+pub sound_statement : (n : ℕ) → Sound (read.statement n) DerivesStatement
+unfolding read.statement
+sound_statement zero from to s h = absurd (cc)
+sound_statement (suc n) from to s h = statement_at (read.statement n) (sound_statement n) (symbol_at from) from to s h

@@ -1,0 +1,10 @@
+use Rattle.std.proofs.Common.{◌≡◌, ap, sym, ◌∙◌, map, None}
+use Rattle.dp_lex.specs.Tokens.{lexeme}
+use Rattle.dp_parse.specs.Depth.{depth_fault}
+use Rattle.dp_parse.proofs.Results.{gives}
+use Rattle.dp_parse.proofs.source.derive.Goals as goal
+
+pub returns : goal.returns
+returns c =
+    let shallow : depth_fault (map lexeme c.args.tokens.now) ≡ None = sym c.depth_fault.ensures ∙ c.in_default.is in
+    rw c.outcome.ensures (gives (map lexeme c.args.tokens.now) c.program.new.tokens c.program.result shallow (rw c.new-cursor.ensures at c.program.ensures))

@@ -1,0 +1,64 @@
+-- What a text gives: its tree, or why it has none.
+use Rattle.std.specs.Prelude.{◌≡◌, ℕ, List, Some, None, Result, Ok, Err}
+use Rattle.dp_base.specs.declared.Quantity.{Quantity}
+use Rattle.dp_lex.specs.Characters.{Text}
+use Rattle.dp_lex.specs.Token.{Lexeme}
+use Rattle.dp_lex.specs.Tokens.{Tokens, RefusedAt}
+use Rattle.dp_tree.specs.declared.raw.RawProgram.{RawProgram}
+use Rattle.dp_parse.specs.declared.error.ParseFail.{ParseFail}
+use Rattle.dp_parse.specs.declared.error.ParseFail.TheVariants.{Lex, TooDeep, Refused, NoMemory}
+use Rattle.dp_parse.specs.declared.error.ParseError.{ParseError}
+use Rattle.dp_parse.specs.declared.error.ParseError.TheVariants as part
+use Rattle.dp_parse.specs.Depth.{depth_fault}
+use Rattle.dp_parse.specs.Programs.{Derives}
+
+-- the text's tokens derive the program
+pub record ParsesAs (text : Text) (program : RawProgram) : Type 0 where
+  pub tokens : List Lexeme
+  pub of_text : Tokens text tokens
+  pub shallow : depth_fault tokens ≡ None
+  pub derives : Derives tokens program
+
+-- a count over the text's tokens is above its number
+pub record NestsTooDeep (text : Text) (quantity : Quantity) (count : ℕ) : Type 0 where
+  pub tokens : List Lexeme
+  pub of_text : Tokens text tokens
+  pub deep : depth_fault tokens ≡ Some (quantity, count)
+
+-- the text's tokens derive no program
+pub record DerivesNothing (text : Text) : Type 0 where
+  pub tokens : List Lexeme
+  pub of_text : Tokens text tokens
+  pub shallow : depth_fault tokens ≡ None
+  pub none : (program : RawProgram) → ¬ Derives tokens program
+
+-- the result is the text's, unless memory was wanting
+abbrev pub Parses : Text → Result RawProgram ParseFail → Type 0
+Parses text (Ok program) = ParsesAs text program
+Parses text (Err (Lex place)) = RefusedAt text place
+Parses text (Err (TooDeep quantity count)) = NestsTooDeep text quantity count
+Parses text (Err Refused) = DerivesNothing text
+Parses text (Err NoMemory) = Unit {0}
+
+-- ---- what the two steps of the reading give
+
+-- why a text's tokens weren't read
+abbrev pub Unread : Text → ParseFail → Type 0
+Unread text (Lex place) = RefusedAt text place
+Unread text (TooDeep quantity count) = ⊥
+Unread text Refused = ⊥
+Unread text NoMemory = Unit {0}
+
+-- what tokens give
+abbrev pub Gives : List Lexeme → Result RawProgram ParseFail → Type 0
+Gives tokens (Ok program) = (depth_fault tokens ≡ None) × Derives tokens program
+Gives tokens (Err (Lex place)) = ⊥
+Gives tokens (Err (TooDeep quantity count)) = depth_fault tokens ≡ Some (quantity, count)
+Gives tokens (Err Refused) = (depth_fault tokens ≡ None) × ((program : RawProgram) → ¬ Derives tokens program)
+Gives tokens (Err NoMemory) = Unit {0}
+
+-- what the descent's answer is for a whole text
+abbrev pub outcome_of : Result RawProgram ParseError → Result RawProgram ParseFail
+outcome_of (Ok program) = Ok program
+outcome_of (Err part.Refused) = Err Refused
+outcome_of (Err part.NoMemory) = Err NoMemory

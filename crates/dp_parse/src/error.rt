@@ -1,0 +1,42 @@
+//! Why a text gives no tree.
+
+ghost use Rattle.std.specs.Prelude.{◌≡◌};
+ghost use Rattle.dp_parse.specs.declared.error.ParseError.TheVariants.{NoMemory as Wanting};
+ghost use Rattle.dp_parse.specs.declared.error.ParseFail.TheVariants.{NoMemory as FailWanting};
+
+use dp_base::{NoMemory, Quantity};
+
+/// Why a text isn't read.
+#[derive(Clone, Copy, Debug, PartialEq, Eq)]
+pub enum ParseFail {
+    /// No token begins at this place of the text, counted in bytes from 0.
+    Lex { place: u32 },
+    /// The text nests too deep: the first count that is above its number.
+    TooDeep { quantity: Quantity, count: u32 },
+    /// The grammar derives nothing from the tokens.
+    Refused,
+    NoMemory,
+}
+
+/// Why a part of a program isn't read from the front of the tokens.
+#[derive(Clone, Copy, Debug, PartialEq, Eq)]
+pub enum ParseError {
+    Refused,
+    NoMemory,
+}
+
+impl From<NoMemory> for ParseError {
+    ghost from_gives = { λ _ e. e ≡ Wanting };
+
+    fn from(_: NoMemory) -> ParseError {
+        ParseError::NoMemory
+    }
+}
+
+impl From<NoMemory> for ParseFail {
+    ghost from_gives = { λ _ e. e ≡ FailWanting };
+
+    fn from(_: NoMemory) -> ParseFail {
+        ParseFail::NoMemory
+    }
+}

@@ -1,0 +1,71 @@
+//! Names and numbers.
+
+ghost use Rattle.std.specs.Prelude.{◌≡◌, IfOk};
+ghost use Rattle.dp_base.specs.Arithmetic.{is_zero};
+ghost use Rattle.dp_parse.specs.descent.Steps as steps;
+ghost use Rattle.dp_parse.specs.descent.Steps.{Reads};
+
+use crate::error::ParseError;
+use crate::symbol::Symbol;
+use crate::tokens::Tokens;
+use dp_base::Row;
+use dp_tree::Name;
+use std::alloc::Global;
+
+/// The greatest number that a token can be.
+const MAX_NUMBER: u64 = 9_223_372_036_854_775_807;
+
+/// A name, with its line.
+#[tactic(auto, unfolding(crate::specs::descent::Steps::name))]
+pub fn name(alloc: Global, tokens: &mut Tokens<'_, '_>) -> Result<Name, ParseError>
+    ensures { Reads (steps.name tokens.old) result tokens.new }
+{
+    let token = tokens.expect(Symbol::Name)?;
+    Ok(Name {
+        text: Row::from_slice(alloc, token.text)?,
+        line: token.line,
+    })
+}
+
+/// A number.
+#[tactic(auto, unfolding(crate::specs::descent::Steps::number))]
+pub fn number(tokens: &mut Tokens<'_, '_>) -> Result<i64, ParseError>
+    ensures { Reads (steps.number tokens.old) result tokens.new }
+{
+    let token = tokens.expect(Symbol::Number)?;
+    value(token.text).ok_or(ParseError::Refused)
+}
+
+/// The value of the digits, if it is a token's.
+fn value(digits: &[u8]) -> Option<i64>
+    ensures { result ≡ steps.number_value digits.now }
+{
+    let mut value = 0u64;
+    for digit in digits {
+        if !digit.is_ascii_digit() {
+            return None;
+        }
+        value = value
+            .saturating_mul(10)
+            .saturating_add(u64::from(*digit - b'0'));
+        if value > MAX_NUMBER {
+            return None;
+        }
+    }
+    Some(value as i64)
+}
+
+#[tactic(auto, unfolding(dp_base::specs::Arithmetic::is_zero))]
+pub fn is_zero(n: i64) -> bool
+    ensures { result ≡ is_zero n }
+{
+    n == 0
+}
+
+/// The number with its sign turned.
+#[tactic(auto, unfolding(crate::specs::descent::Steps::negated))]
+pub fn negated(n: i64) -> Option<i64>
+    ensures { result ≡ steps.negated n }
+{
+    n.checked_neg()
+}

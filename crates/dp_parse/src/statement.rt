@@ -1,0 +1,204 @@
+//! Statements and blocks.
+
+ghost use Rattle.dp_parse.specs.descent.Steps.{Reads};
+ghost use Rattle.dp_parse.specs.descent.Statements as spec;
+
+use crate::error::ParseError;
+use crate::expression::{list, whole};
+use crate::leaf::name;
+use crate::symbol::Symbol;
+use crate::tokens::Tokens;
+use dp_base::Row;
+use dp_tree::{Name, RawExpr, RawStmt};
+use std::alloc::Global;
+
+/// An expression in parentheses.
+#[tactic(auto, unfolding(crate::specs::descent::Statements::condition))]
+pub fn condition(alloc: Global, tokens: &mut Tokens<'_, '_>) -> Result<RawExpr, ParseError>
+    ensures { Reads (spec.condition tokens.old) result tokens.new }
+{
+    tokens.expect(Symbol::OpenParen)?;
+    let inside = whole(alloc, tokens)?;
+    tokens.expect(Symbol::CloseParen)?;
+    Ok(inside)
+}
+
+/// The expression after a `=`, up to its semicolon.
+#[tactic(auto, unfolding(crate::specs::descent::Statements::right_side))]
+fn right_side(alloc: Global, tokens: &mut Tokens<'_, '_>) -> Result<RawExpr, ParseError>
+    ensures { Reads (spec.right_side tokens.old) result tokens.new }
+{
+    tokens.expect(Symbol::Assign)?;
+    let value = whole(alloc, tokens)?;
+    tokens.expect(Symbol::Semicolon)?;
+    Ok(value)
+}
+
+#[tactic(auto, unfolding(crate::specs::descent::Statements::declare))]
+fn declare(alloc: Global, tokens: &mut Tokens<'_, '_>) -> Result<RawStmt, ParseError>
+    ensures { Reads (spec.declare tokens.old) result tokens.new }
+{
+    let line = tokens.expect(Symbol::Int)?.line;
+    let name = name(alloc, tokens)?;
+    let value = right_side(alloc, tokens)?;
+    Ok(RawStmt::Declare { line, name, value })
+}
+
+#[tactic(auto, unfolding(crate::specs::descent::Statements::store))]
+fn store(alloc: Global, tokens: &mut Tokens<'_, '_>, name: Name) -> Result<RawStmt, ParseError>
+    ensures { Reads (spec.store name tokens.old) result tokens.new }
+{
+    tokens.expect(Symbol::OpenBracket)?;
+    let index = whole(alloc, tokens)?;
+    tokens.expect(Symbol::CloseBracket)?;
+    let value = right_side(alloc, tokens)?;
+    Ok(RawStmt::Store { name, index, value })
+}
+
+#[tactic(auto, unfolding(crate::specs::descent::Statements::arguments))]
+fn arguments(alloc: Global, tokens: &mut Tokens<'_, '_>) -> Result<Row<RawExpr>, ParseError>
+    ensures { Reads (spec.arguments tokens.old) result tokens.new }
+{
+    if tokens.sees(Symbol::CloseParen) {
+        return Ok(Row::new(alloc));
+    }
+    list(alloc, tokens)
+}
+
+#[tactic(auto, unfolding(crate::specs::descent::Statements::call))]
+fn call(alloc: Global, tokens: &mut Tokens<'_, '_>, name: Name) -> Result<RawStmt, ParseError>
+    ensures { Reads (spec.call name tokens.old) result tokens.new }
+{
+    tokens.expect(Symbol::OpenParen)?;
+    let args = arguments(alloc, tokens)?;
+    tokens.expect(Symbol::CloseParen)?;
+    tokens.expect(Symbol::Semicolon)?;
+    Ok(RawStmt::Call { name, args })
+}
+
+/// A statement that begins with a name.
+#[tactic(auto, unfolding(crate::specs::descent::Statements::named))]
+fn named(alloc: Global, tokens: &mut Tokens<'_, '_>) -> Result<RawStmt, ParseError>
+    ensures { Reads (spec.named tokens.old) result tokens.new }
+{
+    let name = name(alloc, tokens)?;
+    match tokens.peek() {
+        Symbol::OpenBracket => store(alloc, tokens, name),
+        Symbol::OpenParen => call(alloc, tokens, name),
+        _ => {
+            let value = right_side(alloc, tokens)?;
+            Ok(RawStmt::Assign { name, value })
+        }
+    }
+}
+
+#[tactic(auto, unfolding(crate::specs::descent::Statements::print))]
+fn print(alloc: Global, tokens: &mut Tokens<'_, '_>) -> Result<RawStmt, ParseError>
+    ensures { Reads (spec.print tokens.old) result tokens.new }
+{
+    let line = tokens.expect(Symbol::Print)?.line;
+    let value = condition(alloc, tokens)?;
+    tokens.expect(Symbol::Semicolon)?;
+    Ok(RawStmt::Print { line, value })
+}
+
+/// A statement in which others nest at most `depth` deep.
+#[cycle(statement)]
+#[tactic(auto, unfolding(crate::specs::descent::Statements::statement))]
+pub fn statement(
+    alloc: Global,
+    tokens: &mut Tokens<'_, '_>,
+    depth: usize,
+) -> Result<RawStmt, ParseError>
+    ensures { Reads (spec.statement depth tokens.old) result tokens.new }
+{
+    if depth == 0 {
+        return Err(ParseError::Refused);
+    }
+    match tokens.peek() {
+        Symbol::Int => declare(alloc, tokens),
+        Symbol::Name => named(alloc, tokens),
+        Symbol::Print => print(alloc, tokens),
+        Symbol::While => repeated(alloc, tokens, depth - 1, false),
+        _ => choice(alloc, tokens, depth - 1),
+    }
+}
+
+/// A loop, from its `while` on.
+#[cycle(statement)]
+#[tactic(auto, unfolding(crate::specs::descent::Statements::repeated))]
+pub fn repeated(
+    alloc: Global,
+    tokens: &mut Tokens<'_, '_>,
+    depth: usize,
+    marked: bool,
+) -> Result<RawStmt, ParseError>
+    ensures { Reads (spec.repeated (spec.statement depth) marked tokens.old) result tokens.new }
+{
+    let line = tokens.expect(Symbol::While)?.line;
+    let cond = condition(alloc, tokens)?;
+    let body = block(alloc, tokens, depth)?;
+    Ok(RawStmt::While {
+        line,
+        marked,
+        cond,
+        body,
+    })
+}
+
+#[cycle(statement)]
+#[tactic(auto, unfolding(crate::specs::descent::Statements::choice))]
+fn choice(alloc: Global, tokens: &mut Tokens<'_, '_>, depth: usize) -> Result<RawStmt, ParseError>
+    ensures { Reads (spec.choice (spec.statement depth) tokens.old) result tokens.new }
+{
+    let line = tokens.expect(Symbol::If)?.line;
+    let cond = condition(alloc, tokens)?;
+    let then_part = block(alloc, tokens, depth)?;
+    let else_part = otherwise(alloc, tokens, depth)?;
+    Ok(RawStmt::If {
+        line,
+        cond,
+        then_part,
+        else_part,
+    })
+}
+
+/// What follows an `if` and its block: the part after an `else`, or nothing.
+#[cycle(statement)]
+#[tactic(auto, unfolding(crate::specs::descent::Statements::otherwise))]
+fn otherwise(
+    alloc: Global,
+    tokens: &mut Tokens<'_, '_>,
+    depth: usize,
+) -> Result<Row<RawStmt>, ParseError>
+    ensures { Reads (spec.otherwise (spec.statement depth) tokens.old) result tokens.new }
+{
+    if !tokens.eat(Symbol::Else) {
+        return Ok(Row::new(alloc));
+    }
+    if tokens.sees(Symbol::If) {
+        let mut only = Row::new(alloc);
+        only.push(statement(alloc, tokens, depth)?)?;
+        return Ok(only);
+    }
+    block(alloc, tokens, depth)
+}
+
+/// Statements in braces, each of which nests at most `depth` deep.
+#[cycle(statement)]
+#[tactic(auto, unfolding(crate::specs::descent::Statements::block))]
+pub fn block(
+    alloc: Global,
+    tokens: &mut Tokens<'_, '_>,
+    depth: usize,
+) -> Result<Row<RawStmt>, ParseError>
+    ensures { Reads (spec.block (spec.statement depth) tokens.old) result tokens.new }
+{
+    tokens.expect(Symbol::OpenBrace)?;
+    let mut body = Row::new(alloc);
+    while !tokens.sees(Symbol::CloseBrace) {
+        body.push(statement(alloc, tokens, depth)?)?;
+    }
+    tokens.expect(Symbol::CloseBrace)?;
+    Ok(body)
+}

@@ -1,0 +1,108 @@
+//! A cursor over the tokens of a text.
+
+ghost use Rattle.std.specs.Prelude.{◌≡◌, map, length, IfOk, OnErr, None, Some};
+ghost use Rattle.dp_lex.specs.Tokens.{lexeme};
+ghost use Rattle.dp_parse.specs.Symbols as spec;
+ghost use Rattle.dp_parse.specs.descent.Steps as steps;
+
+use crate::error::ParseError;
+use crate::symbol::{Symbol, same_symbol, symbol_at};
+use dp_lex::Token;
+use std::marker::Model;
+
+/// The tokens that are left. Contracts see their list.
+#[derive(Drop)]
+pub struct Tokens<'a, 't> {
+    left: &'a [Token<'t>],
+    /// The symbol that the first of them is.
+    next: Symbol,
+}
+
+impl<'a, 't> Model for Tokens<'a, 't> {
+    ghost use Rattle.std.specs.Prelude.{List};
+    ghost use Rattle.dp_lex.specs.Token.{Lexeme};
+    ghost use Rattle.dp_parse.specs.Cursor.{lexemes_code, left_of, KnowsNext};
+
+    ghost Value = { List Lexeme };
+
+    ghost coded = { lexemes_code };
+
+    ghost view = { left_of };
+
+    ghost invariant = { KnowsNext };
+}
+
+impl<'a, 't> Tokens<'a, 't> {
+    pub fn new(tokens: &'a [Token<'t>]) -> Tokens<'a, 't>
+        ensures { result ≡ map lexeme tokens.now }
+    {
+        Tokens {
+            left: tokens,
+            next: symbol_at(tokens),
+        }
+    }
+
+    pub fn len(&self) -> usize
+        ensures { result ≡ length self.now }
+    {
+        self.left.len()
+    }
+
+    /// The symbol that comes next.
+    pub fn peek(&self) -> Symbol
+        ensures { result ≡ spec.symbol_at self.now }
+    {
+        self.next
+    }
+
+    #[tactic(auto, unfolding(crate::specs::descent::Steps::sees))]
+    pub fn sees(&self, symbol: Symbol) -> bool
+        ensures { result ≡ steps.sees symbol self.now }
+    {
+        same_symbol(self.next, symbol)
+    }
+
+    /// Passes the next token, if there is one.
+    #[tactic(auto, unfolding(crate::specs::descent::Steps::rest))]
+    pub fn advance(&mut self)
+        ensures { self.new ≡ steps.rest self.old }
+    {
+        if let [_, rest @ ..] = self.left {
+            self.left = rest;
+            self.next = symbol_at(rest);
+        }
+    }
+
+    /// Passes the next token where it is the symbol, and tells whether it is.
+    #[tactic(auto, unfolding(crate::specs::descent::Steps::after))]
+    pub fn eat(&mut self, symbol: Symbol) -> bool
+        ensures found { result ≡ steps.sees symbol self.old }
+        ensures after { self.new ≡ steps.after symbol self.old }
+    {
+        let found = self.sees(symbol);
+        if found {
+            self.advance();
+        }
+        found
+    }
+
+    /// Takes the next token, which has to be the symbol.
+    #[tactic(auto, unfolding(crate::specs::descent::Steps::expect, crate::specs::Symbols::symbol_at))]
+    pub fn expect(&mut self, symbol: Symbol) -> Result<Token<'t>, ParseError>
+        ensures taken { IfOk result (λ t. steps.expect symbol self.old ≡ Some (lexeme t, self.new)) }
+        ensures refused { OnErr result (steps.expect symbol self.old ≡ None) }
+    {
+        match self.left {
+            [first, rest @ ..] => {
+                if !same_symbol(self.next, symbol) {
+                    return Err(ParseError::Refused);
+                }
+                let token = *first;
+                self.left = rest;
+                self.next = symbol_at(rest);
+                Ok(token)
+            }
+            [] => Err(ParseError::Refused),
+        }
+    }
+}
