@@ -1,0 +1,70 @@
+-- Answers of parts, one after the other.
+use Rattle.std.proofs.Common.{◌≡◌, append_assoc, append-nil, refl, ap, ◌∙◌, List, [], ◌∷◌, ◌++◌, Option, Some, None, Result, Ok, Err}
+use Rattle.dp_check.specs.declared.fail.CheckFail.{CheckFail}
+use Rattle.dp_check.specs.Offence.{Token, offence, or_else, first_offence}
+use Rattle.dp_check.specs.Answer.{unless, answer}
+
+-- the next answer, unless this one is a refusal
+abbrev pub and_then : {X Y : Type 0} → Result X CheckFail → (X → Result Y CheckFail) → Result Y CheckFail
+and_then (Ok x) next = next x
+and_then (Err e) next = Err e
+
+pub or_else-None : (o : Option CheckFail) → or_else o None ≡ o
+or_else-None None = refl
+or_else-None (Some e) = refl
+
+pub or_else-or_else : (a b c : Option CheckFail) → or_else (or_else a b) c ≡ or_else a (or_else b c)
+or_else-or_else None b c = refl
+or_else-or_else (Some e) b c = refl
+
+pub first_offence-append : (a b : List Token) → first_offence (a ++ b) ≡ or_else (first_offence a) (first_offence b)
+first_offence-append [] b = refl
+first_offence-append (t ∷ a) b =
+    ap (or_else (offence t)) (first_offence-append a b) ∙ Rattle.std.proofs.Common.sym (or_else-or_else (offence t) (first_offence a) (first_offence b))
+
+-- an answer of one part
+pub answer-one : {X Z : Type 0} (o : Option CheckFail) (x : X) (f : X → Z) → answer o (f x) ≡ and_then (answer o x) (λ u. Ok (f u))
+answer-one None x f = refl
+answer-one (Some e) x f = refl
+
+-- an answer of two parts
+pub answer-two : {X Y Z : Type 0} (o p : Option CheckFail) (x : X) (y : Y) (f : X → Y → Z)
+    → answer (or_else o p) (f x y) ≡ and_then (answer o x) (λ u. and_then (answer p y) (λ v. Ok (f u v)))
+answer-two None p x y f = answer-one p y (f x)
+answer-two (Some e) p x y f = refl
+
+-- an answer of three parts
+pub answer-three : {X Y Z W : Type 0} (o p q : Option CheckFail) (x : X) (y : Y) (z : Z) (f : X → Y → Z → W)
+    → answer (or_else o (or_else p q)) (f x y z) ≡ and_then (answer o x) (λ u. and_then (answer p y) (λ v. and_then (answer q z) (λ w. Ok (f u v w))))
+answer-three None p q x y z f = answer-two p q y z (f x)
+answer-three (Some e) p q x y z f = refl
+
+-- the answer of the rest of a list, behind what is done
+unfoldable pub onto : {X : Type 0} → List X → Result (List X) CheckFail → Result (List X) CheckFail
+onto done r = and_then r (λ more. Ok (done ++ more))
+
+pub onto-all : {X : Type 0} (r : Result (List X) CheckFail) → onto [] r ≡ r
+unfolding onto
+onto-all (Ok xs) = refl
+onto-all (Err e) = refl
+
+pub onto-none : {X : Type 0} (done : List X) → onto done (Ok []) ≡ Ok done
+unfolding onto
+onto-none done = ap Ok (append-nil done)
+
+-- the first of the rest is done
+pub onto-more : {X : Type 0} (done : List X) (one : Result X CheckFail) (rest : Result (List X) CheckFail)
+    → onto done (and_then one (λ x. and_then rest (λ xs. Ok (x ∷ xs)))) ≡ and_then one (λ x. onto (done ++ x ∷ []) rest)
+unfolding onto
+onto-more done (Err e) rest = refl
+onto-more done (Ok x) (Err e) = refl
+onto-more done (Ok x) (Ok xs) = ap Ok (Rattle.std.proofs.Common.sym (append_assoc done (x ∷ []) xs))
+
+-- what an answer tells of the offence
+pub answer-Ok : {X : Type 0} (o : Option CheckFail) (x y : X) → answer o x ≡ Ok y → (o ≡ None) × (x ≡ y)
+answer-Ok None x y e = (refl, cc)
+answer-Ok (Some f) x y e = absurd (cc)
+
+pub answer-Err : {X Y : Type 0} (o : Option CheckFail) (x : X) (y : Y) (e : CheckFail) → answer o x ≡ Err e → answer o y ≡ Err e
+answer-Err None x y e h = absurd (cc)
+answer-Err (Some f) x y e h = ap Err (cc)

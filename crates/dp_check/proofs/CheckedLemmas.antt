@@ -1,0 +1,110 @@
+-- Checked programs: their cells and the numbers of their sites.
+use Rattle.std.proofs.Common.{◌≡◌, refl, sym, ap, ◌∙◌, ℕ, zero, suc, ◌+◌, ◌==◌, nat_eq, Bool, true, false, ◌&&◌, if◌then◌else◌, List, [], ◌∷◌, ◌++◌, map, length, append_assoc, append-nil, length-append, arith, nat_lt, pos, not, ◌||◌}
+use Rattle.std.proofs.lemmas.Bool.Decides.{nat_tests}
+use Rattle.std.specs.List.{list_all, flat_map}
+use Rattle.dp_tree.specs.declared.Function.{Function}
+use Rattle.dp_tree.specs.declared.Stmt.{Stmt, Row_of-Stmt}
+use Rattle.dp_tree.specs.declared.Stmt.TheVariants as code
+use Rattle.dp_tree.specs.declared.VarInfo.{VarInfo}
+use Rattle.dp_tree.specs.declared.VarScope.{VarScope}
+use Rattle.dp_tree.specs.declared.VarScope.TheVariants.{Global, Outer, Body}
+use Rattle.dp_tree.specs.declared.raw.RawStmt.{RawStmt}
+use Rattle.dp_tree.specs.declared.raw.RawItem.{RawItem}
+use Rattle.dp_tree.specs.declared.raw.RawItem.TheVariants as item
+use Rattle.dp_tree.specs.declared.raw.RawProgram.{RawProgram}
+use Rattle.dp_check.specs.Place.{Part, Site, Local, Called, parts, parts_all}
+use Rattle.dp_check.specs.Tables.{laid, locals_of, globals, global_of, item_parts, top_scope, after_top, main_locals, variables}
+use Rattle.std.proofs.Common.{subst, Option, Some, None, Ok}
+use Rattle.dp_tree.specs.declared.Program.{Program}
+use Rattle.dp_check.specs.declared.fail.CheckFail.{CheckFail}
+use Rattle.dp_check.specs.Offence.{first_offence}
+use Rattle.dp_check.specs.Limits.{calls}
+use Rattle.dp_check.specs.Answer.{unless}
+use Rattle.dp_check.specs.Verdict.{names_of, begin, main_begin, first_call, too_many_functions, too_many_cells, resolved, verdict}
+use Rattle.dp_check.specs.Checked.{is_local, has_cells, lies_in_order, has_length, IsChecked}
+use Rattle.dp_check.proofs.NumberLemmas.{sites_in_order}
+use Rattle.dp_check.proofs.PlainLemmas.{regions_stand_in_order, functions_are_plain}
+
+nat_eq-same : (k : ℕ) → (k == k) ≡ true
+nat_eq-same k = grind (arith, nat_tests)
+
+and_true : {a b : Bool} → a ≡ true → b ≡ true → (a && b) ≡ true
+and_true {a} {b} p q = ap (λ c. c && b) p ∙ q
+
+list_all-append : {X : Type 0} (p : X → Bool) (xs ys : List X) → list_all p xs ≡ true → list_all p ys ≡ true → list_all p (xs ++ ys) ≡ true
+list_all-append p [] ys a b = b
+list_all-append p (x ∷ xs) ys a b = by (p x) a (list_all-append p xs ys)
+  where
+    by : (c : Bool) → (c && list_all p xs) ≡ true → (list_all p xs ≡ true → list_all p ys ≡ true → list_all p (xs ++ ys) ≡ true) → (c && list_all p (xs ++ ys)) ≡ true
+    by true h next = next h b
+    by false h next = absurd (cc)
+
+laid_in_order : (k : ℕ) (xs : List VarInfo) → list_all has_cells xs ≡ true → lies_in_order k (laid k xs) ≡ true
+laid_in_order k [] h = refl
+laid_in_order k (x ∷ xs) h = by (has_cells x) h (laid_in_order (k + x.length) xs)
+  where
+    by : (c : Bool) → (c && list_all has_cells xs) ≡ true → (list_all has_cells xs ≡ true → lies_in_order (k + x.length) (laid (k + x.length) xs) ≡ true)
+        → (((k == k) && c) && lies_in_order (k + x.length) (laid (k + x.length) xs)) ≡ true
+    by true h next = and_true (and_true (nat_eq-same k) refl) (next h)
+    by false h next = absurd (cc)
+
+scope_cells : (scope : VarScope) → (not (is_local scope) || true) ≡ true
+scope_cells Global = refl
+scope_cells Outer = refl
+scope_cells (Body r) = refl
+
+locals_have_cells : (scope : VarScope) (ps : List Part) → list_all has_cells (locals_of scope ps) ≡ true
+locals_have_cells scope [] = refl
+locals_have_cells scope (Site line k ∷ ps) = locals_have_cells scope ps
+locals_have_cells scope (Local name ∷ ps) = and_true (scope_cells scope) (locals_have_cells scope ps)
+locals_have_cells scope (Called line ∷ ps) = locals_have_cells scope ps
+
+globals_have_cells : (items : List RawItem) → list_all has_length items ≡ true → list_all has_cells (globals items) ≡ true
+globals_have_cells [] h = refl
+globals_have_cells (item.Scalar name start ∷ items) h = globals_have_cells items h
+globals_have_cells (item.Array name size ∷ items) h = by (nat_lt 0 (Rattle.dp_check.specs.Tables.cells_of size)) h (globals_have_cells items)
+  where
+    by : (c : Bool) → (c && list_all has_length items) ≡ true → (list_all has_length items ≡ true → list_all has_cells (globals items) ≡ true)
+        → ((c && true) && list_all has_cells (globals items)) ≡ true
+    by true h next = next h
+    by false h next = absurd (cc)
+globals_have_cells (item.Function name params body ∷ items) h = globals_have_cells items h
+
+main_have_cells : (r : ℕ) (all : List RawStmt) → list_all has_cells (main_locals r all) ≡ true
+main_have_cells r [] = refl
+main_have_cells r (s ∷ rest) =
+    list_all-append has_cells (locals_of (top_scope r s) (parts s)) (main_locals (after_top r s) rest) (locals_have_cells (top_scope r s) (parts s)) (main_have_cells (after_top r s) rest)
+
+items_have_cells : (items : List RawItem) → list_all has_cells (flat_map (λ item. locals_of Outer (item_parts item)) items) ≡ true
+items_have_cells [] = refl
+items_have_cells (x ∷ items) =
+    list_all-append has_cells (locals_of Outer (item_parts x)) (flat_map (λ item. locals_of Outer (item_parts item)) items) (locals_have_cells Outer (item_parts x)) (items_have_cells items)
+
+-- the variables of a checked program lie one after the other
+pub variables_in_order : (raw : RawProgram) → list_all has_length raw.items ≡ true → lies_in_order 0 (variables raw) ≡ true
+variables_in_order raw h =
+    let g = globals raw.items in let m = main_locals 1 raw.main in let f = flat_map (λ item. locals_of Outer (item_parts item)) raw.items in
+    laid_in_order 0 (g ++ m ++ f)
+    (list_all-append has_cells (g ++ m) f (list_all-append has_cells g m (globals_have_cells raw.items h) (main_have_cells 1 raw.main)) (items_have_cells raw.items))
+
+-- a program that is given is the resolved one
+verdict-given : (raw : RawProgram) (p : Program) → verdict raw ≡ Ok p → resolved raw ≡ p
+unfolding verdict
+verdict-given raw p given = by (first_offence (names_of raw)) (first_call (calls raw)) (too_many_functions raw) (too_many_cells raw) given
+  where
+    by : (a b c d : Option CheckFail) → unless a (unless b (unless c (unless d (Ok (resolved raw))))) ≡ Ok p → resolved raw ≡ p
+    by None None None None h = cc
+    by None None None (Some e) h = absurd (cc)
+    by None None (Some e) d h = absurd (cc)
+    by None (Some e) c d h = absurd (cc)
+    by (Some e) b c d h = absurd (cc)
+
+pub checked : (raw : RawProgram) (p : Program) → list_all has_length raw.items ≡ true → verdict raw ≡ Ok p → IsChecked p
+checked raw p lengths given =
+    let e = verdict-given raw p given in
+    subst IsChecked e (record {
+      cells = variables_in_order raw lengths;
+      sites = sites_in_order raw;
+      regions = regions_stand_in_order (main_begin raw) 1 raw.main;
+      functions = functions_are_plain (begin raw) raw.items;
+    })

@@ -1,0 +1,14 @@
+pub mod NamesLemmas
+pub mod AnswerLemmas
+pub mod LoopLemmas
+pub mod ExprLemmas
+pub mod PlaceLemmas
+pub mod StmtLemmas
+pub mod ItemLemmas
+pub mod RegionLemmas
+pub mod TableLemmas
+pub mod LimitLemmas
+pub mod VerdictLemmas
+pub mod NumberLemmas
+pub mod PlainLemmas
+pub mod CheckedLemmas

@@ -1,0 +1,170 @@
+-- Places after the forms of statements.
+use Rattle.std.proofs.Common.{◌≡◌, refl, sym, ap, ◌∙◌, ℕ, suc, ◌+◌, ◌≤◌, List, [], ◌∷◌, ◌++◌, length, take, drop, add-zero, arith, length-append}
+use Rattle.std.proofs.lemmas.List.{take-append-le, take_all as all_taken}
+use Rattle.dp_tree.specs.declared.SiteKind.{SiteKind}
+use Rattle.dp_tree.specs.declared.SiteKind.TheVariants as kind
+use Rattle.dp_tree.specs.declared.raw.Name.{Name}
+use Rattle.dp_tree.specs.declared.raw.RawExpr.{RawExpr}
+use Rattle.dp_tree.specs.declared.raw.RawStmt.{RawStmt, Row_of-RawStmt}
+use Rattle.dp_tree.specs.declared.raw.RawStmt.TheVariants as raw
+use Rattle.dp_check.specs.declared.place.Place.{Place}
+use Rattle.dp_check.specs.Names.{Named}
+use Rattle.dp_check.specs.Place.{Part, Site, Local, Called, parts, parts_in, parts_all, site_count, local_count, passed, sited, with_scalar, with_variable, after}
+
+-- what opens where a statement is made
+unfoldable pub opened : Unit {0}
+unfolding
+    Rattle.dp_tree.specs.declared.raw.RawStmt.TheBlock.shape-the_row-RawStmt-0 Rattle.dp_tree.specs.declared.raw.RawStmt.TheBlock.hidden-the_row-RawStmt-0 denote.Hole.Carrier.hidden
+opened = tt
+
+pub parts_hidden : (xs : List RawStmt) → parts_in (Rattle.dp_tree.specs.declared.raw.RawStmt.TheBlock.hidden-the_row-RawStmt-0 xs) ≡ parts_all xs
+unfolding opened
+parts_hidden [] = refl
+parts_hidden (x ∷ xs) = ap (λ ys. parts x ++ ys) (parts_hidden xs)
+
+pub local_count-append : (a b : List Part) → local_count (a ++ b) ≡ local_count a + local_count b
+local_count-append [] b = omega arith
+local_count-append (Site line kind ∷ a) b = local_count-append a b
+local_count-append (Local name ∷ a) b = let e = local_count-append a b in omega arith
+local_count-append (Called line ∷ a) b = local_count-append a b
+
+pub site_count-append : (a b : List Part) → site_count (a ++ b) ≡ site_count a + site_count b
+site_count-append [] b = omega arith
+site_count-append (Site line kind ∷ a) b = let e = site_count-append a b in omega arith
+site_count-append (Local name ∷ a) b = site_count-append a b
+site_count-append (Called line ∷ a) b = site_count-append a b
+
+-- two places with the same names and numbers
+pub same_place : {n m : List Named} {v w s t : ℕ} → n ≡ m → v ≡ w → s ≡ t →
+    ◌≡◌ {A = Place} (record { names = n; variable = v; site = s }) (record { names = m; variable = w; site = t })
+same_place a b c = λ i. record { names = a i; variable = b i; site = c i }
+
+pub passed-append : (p : Place) (a b : List Part) → passed p (a ++ b) ≡ passed (passed p a) b
+passed-append p a b =
+    let l = local_count-append a b in let s = site_count-append a b in
+    same_place refl (omega arith) (omega arith)
+
+pub passed-none : (p : Place) → passed p [] ≡ p
+passed-none p = same_place refl (omega arith) (omega arith)
+
+pub passed-site : (p : Place) (line : ℕ) (kind : SiteKind) (rest : List Part) → passed p (Site line kind ∷ rest) ≡ passed (sited p) rest
+passed-site p line kind rest = same_place refl refl (omega arith)
+
+-- the place after a statement with one site and nothing else
+pub passed-alone : (p : Place) (line : ℕ) (kind : SiteKind) → passed p (Site line kind ∷ []) ≡ sited p
+passed-alone p line kind = passed-site p line kind [] ∙ passed-none (sited p)
+
+module _ (p : Place) where
+  pub after-Declare : (line : ℕ) (name : Name) (value : RawExpr) → after p (raw.Declare line name value) ≡ with_scalar (sited p) name
+  after-Declare line name value = refl
+
+  pub after-Assign : (name : Name) (value : RawExpr) → after p (raw.Assign name value) ≡ sited p
+  after-Assign name value = passed-alone p name.line kind.Assign
+
+  pub after-Store : (name : Name) (index value : RawExpr) → after p (raw.Store name index value) ≡ sited p
+  after-Store name index value = passed-alone p name.line kind.Assign
+
+  pub after-Call : (name : Name) (args : List RawExpr) → after p (raw.Call name args) ≡ p
+  after-Call name args = same_place refl (omega arith) (omega arith)
+
+  pub after-Print : (line : ℕ) (value : RawExpr) → after p (raw.Print line value) ≡ sited p
+  after-Print line value = passed-alone p line kind.Print
+
+  pub after-If : (line : ℕ) (cond : RawExpr) (a b : List RawStmt) → after p (raw.If line cond a b) ≡ passed (passed (sited p) (parts_all a)) (parts_all b)
+  unfolding opened
+  after-If line cond a b = ap (passed p) (λ i. Site line kind.If ∷ (parts_hidden a i ++ parts_hidden b i)) ∙ passed-site p line kind.If (parts_all a ++ parts_all b) ∙ passed-append (sited p) (parts_all a) (parts_all b)
+
+  pub after-While : (line : ℕ) (marked : Rattle.std.proofs.Common.Bool) (cond : RawExpr) (body : List RawStmt)
+      → after p (raw.While line marked cond body) ≡ passed (sited p) (parts_all body)
+  unfolding opened
+  after-While line marked cond body = ap (passed p) (λ i. Site line kind.While ∷ parts_hidden body i) ∙ passed-site p line kind.While (parts_all body)
+
+pub ruleset after_forms = (after-Declare, after-Assign, after-Store, after-Call, after-Print, after-If, after-While)
+
+pub after_variable : (p : Place) (s : RawStmt) → (after p s).variable ≡ p.variable + local_count (parts s)
+after_variable p (raw.Declare line name value) = refl
+after_variable p (raw.Assign name value) = refl
+after_variable p (raw.Store name index value) = refl
+after_variable p (raw.Call name args) = refl
+after_variable p (raw.Print line value) = refl
+after_variable p (raw.If' line cond _ a _ b) = refl
+after_variable p (raw.While' line marked cond _ body) = refl
+
+pub after_site : (p : Place) (s : RawStmt) → (after p s).site ≡ p.site + site_count (parts s)
+after_site p (raw.Declare line name value) = refl
+after_site p (raw.Assign name value) = refl
+after_site p (raw.Store name index value) = refl
+after_site p (raw.Call name args) = refl
+after_site p (raw.Print line value) = refl
+after_site p (raw.If' line cond _ a _ b) = refl
+after_site p (raw.While' line marked cond _ body) = refl
+
+-- the first names stay
+pub record Keeps (k : ℕ) (old new : List Named) : Type 0 where
+  pub long : k ≤ length new
+  pub kept : take k new ≡ take k old
+
+pub keeps_more : (k : ℕ) (names more : List Named) → k ≤ length names → Keeps k names (names ++ more)
+keeps_more k names more h = record { long = let e = length-append names more in omega arith; kept = take-append-le k names more h }
+
+pub after_keeps : (k : ℕ) (p : Place) (s : RawStmt) → k ≤ length p.names → Keeps k p.names (after p s).names
+after_keeps k p (raw.Declare line name value) h = keeps_more k p.names _ h
+after_keeps k p (raw.Assign name value) h = record { long = h; kept = refl }
+after_keeps k p (raw.Store name index value) h = record { long = h; kept = refl }
+after_keeps k p (raw.Call name args) h = record { long = h; kept = refl }
+after_keeps k p (raw.Print line value) h = record { long = h; kept = refl }
+after_keeps k p (raw.If' line cond _ a _ b) h = record { long = h; kept = refl }
+after_keeps k p (raw.While' line marked cond _ body) h = record { long = h; kept = refl }
+
+-- Inside a block that begins at a place: its names stay, and the numbers of the rest lead to the place after the block.
+pub record BlockSoFar (begin now : Place) (all rest : List RawStmt) : Type 0 where
+  pub names : Keeps (length begin.names) begin.names now.names
+  pub variable : now.variable + local_count (parts_all rest) ≡ begin.variable + local_count (parts_all all)
+  pub site : now.site + site_count (parts_all rest) ≡ begin.site + site_count (parts_all all)
+
+pub block_begins : (p : Place) (all : List RawStmt) → BlockSoFar p p all all
+block_begins p all = record { names = record { long = omega arith; kept = refl }; variable = refl; site = refl }
+
+pub block_goes_on : {b p : Place} {all : List RawStmt} (s : RawStmt) (rest : List RawStmt) → BlockSoFar b p all (s ∷ rest) → BlockSoFar b (after p s) all rest
+block_goes_on {b} {p} s rest so_far =
+    let k = after_keeps (length b.names) p s so_far.names.long in
+    record {
+      names = record { long = k.long; kept = k.kept ∙ so_far.names.kept };
+      variable = omega (arith, after_variable p s, local_count-append (parts s) (parts_all rest), so_far.variable);
+      site = omega (arith, after_site p s, site_count-append (parts s) (parts_all rest), so_far.site);
+    }
+
+pub block_ends : {b p : Place} {all : List RawStmt} (names : List Named) → BlockSoFar b p all [] → names ≡ take (length b.names) p.names → record p { names = names } ≡ passed b (parts_all all)
+block_ends {b} {p} {all} names so_far is =
+    same_place (is ∙ so_far.names.kept ∙ take_all b.names) (omega (arith, so_far.variable)) (omega (arith, so_far.site))
+  where
+    take_all : (xs : List Named) → take (length xs) xs ≡ xs
+    take_all xs = all_taken (length xs) xs (omega arith)
+
+module _ (p : Place) where
+  pub pass-Declare : (line : ℕ) (name : Name) (value : RawExpr) → passed p (parts (raw.Declare line name value)) ≡ with_variable (sited p)
+  pass-Declare line name value = refl
+
+  pub pass-Assign : (name : Name) (value : RawExpr) → passed p (parts (raw.Assign name value)) ≡ sited p
+  pass-Assign name value = passed-alone p name.line kind.Assign
+
+  pub pass-Store : (name : Name) (index value : RawExpr) → passed p (parts (raw.Store name index value)) ≡ sited p
+  pass-Store name index value = passed-alone p name.line kind.Assign
+
+  pub pass-Call : (name : Name) (args : List RawExpr) → passed p (parts (raw.Call name args)) ≡ p
+  pass-Call name args = same_place refl (omega arith) (omega arith)
+
+  pub pass-Print : (line : ℕ) (value : RawExpr) → passed p (parts (raw.Print line value)) ≡ sited p
+  pass-Print line value = passed-alone p line kind.Print
+
+  pub pass-If : (line : ℕ) (cond : RawExpr) (a b : List RawStmt) → passed p (parts (raw.If line cond a b)) ≡ passed (passed (sited p) (parts_all a)) (parts_all b)
+  pass-If line cond a b = after-If p line cond a b
+
+  pub pass-While : (line : ℕ) (marked : Rattle.std.proofs.Common.Bool) (cond : RawExpr) (body : List RawStmt)
+      → passed p (parts (raw.While line marked cond body)) ≡ passed (sited p) (parts_all body)
+  pass-While line marked cond body = after-While p line marked cond body
+
+pub ruleset pass_forms = (pass-Declare, pass-Assign, pass-Store, pass-Call, pass-Print, pass-If, pass-While)
+
+pub passed_more : (p : Place) (s : RawStmt) (rest : List RawStmt) → passed p (parts_all (s ∷ rest)) ≡ passed (passed p (parts s)) (parts_all rest)
+passed_more p s rest = passed-append p (parts s) (parts_all rest)

@@ -1,0 +1,33 @@
+use Rattle.std.proofs.Common.{◌≡◌, ℕ, ◌+◌, ◌<◌, ◌≤◌, length, drop, map, List, ◌∷◌, [], pos, false, true, sym, ap, subst, ◌∙◌, refl, rules, arith}
+use Rattle.std.specs.List.{flat_map}
+use Rattle.dp_tree.specs.declared.VarScope.TheVariants.{Outer}
+use Rattle.dp_check.specs.declared.place.Place.{Place}
+use Rattle.dp_check.specs.Place.{Local, passed, parts, parts_all}
+use Rattle.dp_check.specs.Tables.{locals_of, sites_of, globals, global_of, item_parts, main_locals, main_sites, scalar_info}
+use Rattle.dp_check.specs.Growing.{with_variables, with_sites, with_top, with_main}
+use Rattle.dp_check.proofs.LoopLemmas.{fold_more, fold_end}
+use Rattle.dp_check.proofs.PlaceLemmas.{passed_more, passed-none, pass-If, pass-While}
+use Rattle.dp_check.proofs.TableLemmas as tables
+use Rattle.dp_check.proofs.numbers.+numbers.Goals as goal
+
+pub pass_all-loop-s-preserved : goal.pass_all-loop-s-preserved
+pass_all-loop-s-preserved t c =
+    let below : c.loop-s.s-index < length c.args.all.now = omega arith in
+    fold_more (λ p all. passed p (parts_all all)) (λ p s. passed p (parts s)) passed_more c.args.all.now c.loop-s.s-index c.loop-s.place _ c.loop-s.invariant c.s-item.result below c.s-item.is c.pass.new.place c.in_ok-pass.ensures
+
+pub pass_all-returns : goal.pass_all-returns
+pass_all-returns t c =
+    sym (fold_end (λ p all. passed p (parts_all all)) (λ p s. passed p (parts s)) passed_more c.args.all.now c.loop-s.s-index c.loop-s.place _ c.loop-s.invariant (omega arith) ∙ passed-none c.loop-s.place)
+
+pub pass-returns-in_ok-pass_all-in-If-2 : goal.pass-returns-in_ok-pass_all-in-If-2
+pass-returns-in_ok-pass_all-in-If-2 t c =
+    let then_end = c.in_ok-pass_all-in-If.ensures ∙ (λ i. passed (c.in_ok-take_site-in-If.ensures.place i) (parts_all (c.as_slice.ensures i))) in
+    rw c.in-If.is
+    (c.in_ok-pass_all-in-If-2.ensures ∙ (λ i. passed (then_end i) (parts_all (c.as_slice-in-If.ensures i)))
+    ∙ sym (pass-If c.args.place.now c.in-If.line c.in-If.cond c.in-If.then_part c.in-If.else_part))
+
+pub pass-returns-in_ok-pass_all-in-While : goal.pass-returns-in_ok-pass_all-in-While
+pass-returns-in_ok-pass_all-in-While t c =
+    rw c.in-While.is
+    (c.in_ok-pass_all-in-While.ensures ∙ (λ i. passed (c.in_ok-take_site-in-While.ensures.place i) (parts_all (c.as_slice-in-While.ensures i)))
+    ∙ sym (pass-While c.args.place.now c.in-While.line c.in-While.marked c.in-While.cond c.in-While.body))

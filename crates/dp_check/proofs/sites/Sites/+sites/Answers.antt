@@ -1,0 +1,34 @@
+use Rattle.std.proofs.Common.{◌≡◌, ℕ, ◌+◌, ◌<◌, ◌≤◌, length, drop, map, List, ◌∷◌, [], pos, false, true, sym, ap, subst, ◌∙◌, refl, rules, arith}
+use Rattle.std.specs.List.{flat_map}
+use Rattle.dp_tree.specs.declared.VarScope.TheVariants.{Outer}
+use Rattle.dp_check.specs.declared.place.Place.{Place}
+use Rattle.dp_check.specs.Place.{Local, passed, parts, parts_all}
+use Rattle.dp_check.specs.Tables.{locals_of, sites_of, globals, global_of, item_parts, main_locals, main_sites, scalar_info}
+use Rattle.dp_check.specs.Growing.{with_variables, with_sites, with_top, with_main}
+use Rattle.dp_check.proofs.LoopLemmas.{fold_more, fold_end}
+use Rattle.dp_check.proofs.PlaceLemmas.{passed_more, passed-none, pass-If, pass-While}
+use Rattle.dp_check.proofs.TableLemmas as tables
+use Rattle.dp_check.proofs.sites.Sites.+sites.Goals as goal
+
+pub statements-loop-s-preserved : goal.statements-loop-s-preserved
+statements-loop-s-preserved t c =
+    let below : c.loop-s.s-index < length c.args.all.now = omega arith in
+    fold_more (λ t all. with_sites t (sites_of c.args.region (parts_all all))) (λ t s. with_sites t (sites_of c.args.region (parts s))) (tables.sites_more c.args.region) c.args.all.now c.loop-s.s-index c.loop-s.self _ c.loop-s.invariant c.s-item.result below c.s-item.is c.statement.new.self c.in_ok-statement.ensures
+
+pub statements-returns : goal.statements-returns
+statements-returns t c =
+    sym (fold_end (λ t all. with_sites t (sites_of c.args.region (parts_all all))) (λ t s. with_sites t (sites_of c.args.region (parts s))) (tables.sites_more c.args.region) c.args.all.now c.loop-s.s-index c.loop-s.self _ c.loop-s.invariant (omega arith) ∙ tables.with_sites-none c.loop-s.self)
+
+pub statement-returns-in_ok-statements-in-If-2 : goal.statement-returns-in_ok-statements-in-If-2
+statement-returns-in_ok-statements-in-If-2 t c =
+    let r = c.args.region in
+    let then_end = c.in_ok-statements-in-If.ensures ∙ (λ i. with_sites (c.in_ok-site-in-If.ensures i) (sites_of r (parts_all (c.as_slice.ensures i)))) in
+    rw c.in-If.is
+    (c.in_ok-statements-in-If-2.ensures ∙ (λ i. with_sites (then_end i) (sites_of r (parts_all (c.as_slice-in-If.ensures i))))
+    ∙ sym (tables.site-If c.args.self.now r c.in-If.line c.in-If.cond c.in-If.then_part c.in-If.else_part))
+
+pub statement-returns-in_ok-statements-in-While : goal.statement-returns-in_ok-statements-in-While
+statement-returns-in_ok-statements-in-While t c =
+    rw c.in-While.is
+    (c.in_ok-statements-in-While.ensures ∙ (λ i. with_sites (c.in_ok-site-in-While.ensures i) (sites_of c.args.region (parts_all (c.as_slice-in-While.ensures i))))
+    ∙ sym (tables.site-While c.args.self.now c.args.region c.in-While.line c.in-While.marked c.in-While.cond c.in-While.body))

@@ -1,0 +1,20 @@
+use Rattle.std.proofs.Common.{◌≡◌, ℕ, ◌+◌, ◌<◌, ◌≤◌, length, drop, map, List, ◌∷◌, [], pos, false, true, sym, ap, subst, ◌∙◌, refl, rules, arith}
+use Rattle.std.specs.List.{flat_map}
+use Rattle.dp_tree.specs.declared.VarScope.TheVariants.{Outer}
+use Rattle.dp_check.specs.declared.place.Place.{Place}
+use Rattle.dp_check.specs.Place.{Local, passed, parts, parts_all}
+use Rattle.dp_check.specs.Tables.{locals_of, sites_of, globals, global_of, item_parts, main_locals, main_sites, scalar_info}
+use Rattle.dp_check.specs.Growing.{with_variables, with_sites, with_top, with_main}
+use Rattle.dp_check.proofs.LoopLemmas.{fold_more, fold_end}
+use Rattle.dp_check.proofs.PlaceLemmas.{passed_more, passed-none, pass-If, pass-While}
+use Rattle.dp_check.proofs.TableLemmas as tables
+use Rattle.dp_check.proofs.sites.Sites.functions.Goals as goal
+
+pub loop-item-preserved : goal.loop-item-preserved
+loop-item-preserved c =
+    let below : c.loop-item.item-index < length c.args.items.now = omega arith in
+    fold_more (λ t all. with_sites t (flat_map (λ item. sites_of 0 (item_parts item)) all)) (λ t item. with_sites t (sites_of 0 (item_parts item))) (tables.flat_sites_more (λ item. sites_of 0 (item_parts item))) c.args.items.now c.loop-item.item-index c.loop-item.self _ c.loop-item.invariant c.item-item.result below c.item-item.is c.function.new.self c.in_ok-function.ensures
+
+pub returns : goal.returns
+returns c =
+    sym (fold_end (λ t all. with_sites t (flat_map (λ item. sites_of 0 (item_parts item)) all)) (λ t item. with_sites t (sites_of 0 (item_parts item))) (tables.flat_sites_more (λ item. sites_of 0 (item_parts item))) c.args.items.now c.loop-item.item-index c.loop-item.self _ c.loop-item.invariant (omega arith) ∙ tables.with_sites-none c.loop-item.self)

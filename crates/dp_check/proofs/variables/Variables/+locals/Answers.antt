@@ -1,0 +1,34 @@
+use Rattle.std.proofs.Common.{◌≡◌, ℕ, ◌+◌, ◌<◌, ◌≤◌, length, drop, map, List, ◌∷◌, [], pos, false, true, sym, ap, subst, ◌∙◌, refl, rules, arith}
+use Rattle.std.specs.List.{flat_map}
+use Rattle.dp_tree.specs.declared.VarScope.TheVariants.{Outer}
+use Rattle.dp_check.specs.declared.place.Place.{Place}
+use Rattle.dp_check.specs.Place.{Local, passed, parts, parts_all}
+use Rattle.dp_check.specs.Tables.{locals_of, sites_of, globals, global_of, item_parts, main_locals, main_sites, scalar_info}
+use Rattle.dp_check.specs.Growing.{with_variables, with_sites, with_top, with_main}
+use Rattle.dp_check.proofs.LoopLemmas.{fold_more, fold_end}
+use Rattle.dp_check.proofs.PlaceLemmas.{passed_more, passed-none, pass-If, pass-While}
+use Rattle.dp_check.proofs.TableLemmas as tables
+use Rattle.dp_check.proofs.variables.Variables.+locals.Goals as goal
+
+pub locals-loop-s-preserved : goal.locals-loop-s-preserved
+locals-loop-s-preserved t c =
+    let below : c.loop-s.s-index < length c.args.all.now = omega arith in
+    fold_more (λ v all. with_variables v (locals_of c.args.scope (parts_all all))) (λ v s. with_variables v (locals_of c.args.scope (parts s))) (tables.locals_more c.args.scope) c.args.all.now c.loop-s.s-index c.loop-s.self _ c.loop-s.invariant c.s-item.result below c.s-item.is c.local.new.self c.in_ok-local.ensures
+
+pub locals-returns : goal.locals-returns
+locals-returns t c =
+    sym (fold_end (λ v all. with_variables v (locals_of c.args.scope (parts_all all))) (λ v s. with_variables v (locals_of c.args.scope (parts s))) (tables.locals_more c.args.scope) c.args.all.now c.loop-s.s-index c.loop-s.self _ c.loop-s.invariant (omega arith) ∙ tables.with_variables-none c.loop-s.self)
+
+pub local-returns-in_ok-locals-in-If-2 : goal.local-returns-in_ok-locals-in-If-2
+local-returns-in_ok-locals-in-If-2 t c =
+    let scope = c.args.scope in
+    let then_end = c.in_ok-locals-in-If.ensures ∙ (λ i. with_variables c.args.self.now (locals_of scope (parts_all (c.as_slice.ensures i)))) in
+    rw c.in-If.is
+    (c.in_ok-locals-in-If-2.ensures ∙ (λ i. with_variables (then_end i) (locals_of scope (parts_all (c.as_slice-in-If.ensures i))))
+    ∙ sym (tables.local-If c.args.self.now scope c.in-If.line c.in-If.cond c.in-If.then_part c.in-If.else_part))
+
+pub local-returns-in_ok-locals-in-While : goal.local-returns-in_ok-locals-in-While
+local-returns-in_ok-locals-in-While t c =
+    rw c.in-While.is
+    (c.in_ok-locals-in-While.ensures ∙ (λ i. with_variables c.args.self.now (locals_of c.args.scope (parts_all (c.as_slice-in-While.ensures i))))
+    ∙ sym (tables.local-While c.args.self.now c.args.scope c.in-While.line c.in-While.marked c.in-While.cond c.in-While.body))

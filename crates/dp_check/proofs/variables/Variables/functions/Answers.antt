@@ -1,0 +1,20 @@
+use Rattle.std.proofs.Common.{◌≡◌, ℕ, ◌+◌, ◌<◌, ◌≤◌, length, drop, map, List, ◌∷◌, [], pos, false, true, sym, ap, subst, ◌∙◌, refl, rules, arith}
+use Rattle.std.specs.List.{flat_map}
+use Rattle.dp_tree.specs.declared.VarScope.TheVariants.{Outer}
+use Rattle.dp_check.specs.declared.place.Place.{Place}
+use Rattle.dp_check.specs.Place.{Local, passed, parts, parts_all}
+use Rattle.dp_check.specs.Tables.{locals_of, sites_of, globals, global_of, item_parts, main_locals, main_sites, scalar_info}
+use Rattle.dp_check.specs.Growing.{with_variables, with_sites, with_top, with_main}
+use Rattle.dp_check.proofs.LoopLemmas.{fold_more, fold_end}
+use Rattle.dp_check.proofs.PlaceLemmas.{passed_more, passed-none, pass-If, pass-While}
+use Rattle.dp_check.proofs.TableLemmas as tables
+use Rattle.dp_check.proofs.variables.Variables.functions.Goals as goal
+
+pub loop-item-preserved : goal.loop-item-preserved
+loop-item-preserved c =
+    let below : c.loop-item.item-index < length c.args.items.now = omega arith in
+    fold_more (λ v all. with_variables v (flat_map (λ item. locals_of Outer (item_parts item)) all)) (λ v item. with_variables v (locals_of Outer (item_parts item))) (tables.flat_more (λ item. locals_of Outer (item_parts item))) c.args.items.now c.loop-item.item-index c.loop-item.self _ c.loop-item.invariant c.item-item.result below c.item-item.is c.function.new.self c.in_ok-function.ensures
+
+pub returns : goal.returns
+returns c =
+    sym (fold_end (λ v all. with_variables v (flat_map (λ item. locals_of Outer (item_parts item)) all)) (λ v item. with_variables v (locals_of Outer (item_parts item))) (tables.flat_more (λ item. locals_of Outer (item_parts item))) c.args.items.now c.loop-item.item-index c.loop-item.self _ c.loop-item.invariant (omega arith) ∙ tables.with_variables-none c.loop-item.self)

@@ -1,0 +1,12 @@
+pub mod Names
+pub mod Offence
+pub mod Place
+pub mod Tokens
+pub mod Resolved
+pub mod Answer
+pub mod Tables
+pub mod Items
+pub mod Limits
+pub mod Verdict
+pub mod Growing
+pub mod Checked

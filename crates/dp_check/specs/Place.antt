@@ -1,0 +1,83 @@
+-- What a piece of the text declares, and the place after it.
+use Rattle.std.specs.Prelude.{ℕ, suc, ◌+◌, List, [], ◌∷◌, ◌++◌, length, pos}
+use Rattle.dp_base.specs.declared.VarId.{VarId}
+use Rattle.dp_tree.specs.declared.raw.Name.{Name}
+use Rattle.dp_tree.specs.declared.raw.RawStmt.{RawStmt, Row_of-RawStmt, end_of-RawStmt, more_of-RawStmt}
+use Rattle.dp_tree.specs.declared.raw.RawStmt.TheVariants.{Declare, Assign, Store, Call, Print, If', While'}
+use Rattle.dp_tree.specs.declared.SiteKind.{SiteKind}
+use Rattle.dp_tree.specs.declared.SiteKind.TheVariants as kind
+use Rattle.dp_check.specs.declared.names.Meaning.{Meaning}
+use Rattle.dp_check.specs.declared.names.Meaning.TheVariants.{Scalar}
+use Rattle.dp_check.specs.declared.place.Place.{Place}
+use Rattle.dp_check.specs.Names.{Named}
+
+-- what a program gets from a piece of its text: a site, a local variable, or a call on a line
+pub data Part : Type 0 where
+  Site : (line : ℕ) (kind : SiteKind) → Part
+  Local : Name → Part
+  Called : (line : ℕ) → Part
+
+abbrev mutual
+  -- the parts of a statement, in text order
+  pub parts : RawStmt → List Part
+  parts (Declare line name value) = Site line kind.Assign ∷ Local name ∷ []
+  parts (Assign name value) = Site name.line kind.Assign ∷ []
+  parts (Store name index value) = Site name.line kind.Assign ∷ []
+  parts (Call name args) = Called name.line ∷ []
+  parts (Print line value) = Site line kind.Print ∷ []
+  parts (If' line cond _ then_part _ else_part) = Site line kind.If ∷ (parts_in then_part ++ parts_in else_part)
+  parts (While' line marked cond _ body) = Site line kind.While ∷ parts_in body
+
+  pub parts_in : {n : _} → Row_of-RawStmt n → List Part
+  parts_in end_of-RawStmt = []
+  parts_in (more_of-RawStmt s rest) = parts s ++ parts_in rest
+
+abbrev pub parts_all : List RawStmt → List Part
+parts_all [] = []
+parts_all (s ∷ rest) = parts s ++ parts_all rest
+
+abbrev pub site_count : List Part → ℕ
+site_count [] = 0
+site_count (Site line kind ∷ rest) = suc (site_count rest)
+site_count (Local name ∷ rest) = site_count rest
+site_count (Called line ∷ rest) = site_count rest
+
+abbrev pub local_count : List Part → ℕ
+local_count [] = 0
+local_count (Site line kind ∷ rest) = local_count rest
+local_count (Local name ∷ rest) = suc (local_count rest)
+local_count (Called line ∷ rest) = local_count rest
+
+-- the place after a block: its numbers are used, and its names are given up
+abbrev pub passed : Place → List Part → Place
+passed p done = record p { variable = p.variable + local_count done; site = p.site + site_count done }
+
+-- the place after a condition's site
+abbrev pub sited : Place → Place
+sited p = record p { site = p.site + 1 }
+
+-- the place after a variable's number
+abbrev pub with_variable : Place → Place
+with_variable p = record p { variable = p.variable + 1 }
+
+-- one more name is visible
+abbrev pub with_name : Place → Name → Meaning → Place
+with_name p name meaning = record p { names = p.names ++ record { name = name.text; meaning = meaning } ∷ [] }
+
+-- the place after the declaration of a scalar with the next number
+abbrev pub with_scalar : Place → Name → Place
+with_scalar p name = record (with_name p name (Scalar (record { 0 = p.variable }))) { variable = p.variable + 1 }
+
+-- the place after a statement: a name is visible from the end of its declaration on
+abbrev pub after : Place → RawStmt → Place
+after p (Declare line name value) = with_scalar (sited p) name
+after p s = passed p (parts s)
+
+abbrev pub after_all : Place → List RawStmt → Place
+after_all p [] = p
+after_all p (s ∷ rest) = after_all (after p s) rest
+
+-- the place after a function's parameters
+abbrev pub after_params : Place → List Name → Place
+after_params p [] = p
+after_params p (x ∷ rest) = after_params (with_scalar p x) rest

@@ -1,0 +1,102 @@
+-- The variables, sites and regions of a program, in the order of their numbers.
+use Rattle.std.specs.Prelude.{ℕ, suc, ◌+◌, ◌-◌, List, [], ◌∷◌, ◌++◌, length, map, ℤ, pos, negsuc, true, false, if◌then◌else◌}
+use Rattle.std.specs.List.{flat_map}
+use Rattle.dp_tree.specs.declared.VarInfo.{VarInfo}
+use Rattle.dp_tree.specs.declared.VarScope.{VarScope}
+use Rattle.dp_tree.specs.declared.VarScope.TheVariants.{Global, Outer, Body}
+use Rattle.dp_tree.specs.declared.SiteInfo.{SiteInfo}
+use Rattle.dp_tree.specs.declared.RegionInfo.{RegionInfo}
+use Rattle.dp_tree.specs.declared.raw.Name.{Name}
+use Rattle.dp_tree.specs.declared.raw.RawStmt.{RawStmt, out-RawStmt}
+use Rattle.dp_tree.specs.declared.raw.RawStmt.TheOpen.{RawStmt-F, While}
+use Rattle.dp_tree.specs.declared.raw.RawItem.{RawItem}
+use Rattle.dp_tree.specs.declared.raw.RawItem.TheVariants.{Scalar, Array, Function}
+use Rattle.dp_tree.specs.declared.raw.RawProgram.{RawProgram}
+use Rattle.dp_check.specs.Place.{Part, Site, Local, Called, parts, parts_all, site_count}
+use Rattle.dp_check.specs.Resolved.{is_region}
+
+-- a length as a number of cells
+abbrev pub cells_of : ℤ → ℕ
+cells_of (pos n) = n
+cells_of (negsuc n) = 0
+
+-- a scalar without a place in memory yet
+abbrev pub scalar_info : Name → ℤ → VarScope → VarInfo
+scalar_info name start scope = record { name = name.text; first = record { 0 = 0 }; length = 1; array = false; start = start; scope = scope }
+
+abbrev pub array_info : Name → ℤ → VarInfo
+array_info name size = record { name = name.text; first = record { 0 = 0 }; length = cells_of size; array = true; start = pos 0; scope = Global }
+
+-- the sites among the parts of a text in region r, or outside all regions where r is 0
+abbrev pub sites_of : ℕ → List Part → List SiteInfo
+sites_of r [] = []
+sites_of r (Site line kind ∷ rest) = record { line = line; kind = kind; region = r } ∷ sites_of r rest
+sites_of r (Local name ∷ rest) = sites_of r rest
+sites_of r (Called line ∷ rest) = sites_of r rest
+
+-- the variables that are declared there
+abbrev pub locals_of : VarScope → List Part → List VarInfo
+locals_of scope [] = []
+locals_of scope (Site line kind ∷ rest) = locals_of scope rest
+locals_of scope (Local name ∷ rest) = scalar_info name (pos 0) scope ∷ locals_of scope rest
+locals_of scope (Called line ∷ rest) = locals_of scope rest
+
+-- a function's parameters, and then the parts of its body
+abbrev pub function_parts : List Name → List RawStmt → List Part
+function_parts params body = map Local params ++ parts_all body
+
+abbrev pub item_parts : RawItem → List Part
+item_parts (Scalar name start) = []
+item_parts (Array name size) = []
+item_parts (Function name params body) = function_parts params body
+
+-- the file-scope variables that an item declares
+abbrev pub global_of : RawItem → List VarInfo
+global_of (Scalar name start) = scalar_info name start Global ∷ []
+global_of (Array name size) = array_info name size ∷ []
+global_of (Function name params body) = []
+
+abbrev pub globals : List RawItem → List VarInfo
+globals = flat_map global_of
+
+-- the scope of a statement's locals at the top of `main`, where region r is the next one
+abbrev pub top_scope : ℕ → RawStmt → VarScope
+top_scope r s = if is_region s then Body r else Outer
+
+abbrev pub top_region : ℕ → RawStmt → ℕ
+top_region r s = if is_region s then r else 0
+
+-- the number of the next region after a statement at the top of `main`
+abbrev pub after_top : ℕ → RawStmt → ℕ
+after_top r s = if is_region s then r + 1 else r
+
+abbrev pub main_locals : ℕ → List RawStmt → List VarInfo
+main_locals r [] = []
+main_locals r (s ∷ rest) = locals_of (top_scope r s) (parts s) ++ main_locals (after_top r s) rest
+
+abbrev pub main_sites : ℕ → List RawStmt → List SiteInfo
+main_sites r [] = []
+main_sites r (s ∷ rest) = sites_of (top_region r s) (parts s) ++ main_sites (after_top r s) rest
+
+abbrev pub region_of : ℕ → RawStmt-F RawStmt → List Part → List RegionInfo
+region_of first (While line true cond body) done =
+    record { line = line; first = record { 0 = first }; last = record { 0 = first + site_count done - 1 } } ∷ []
+region_of first _ done = []
+
+-- the regions of `main`, whose first site has this number
+abbrev pub regions_from : ℕ → List RawStmt → List RegionInfo
+regions_from first [] = []
+regions_from first (s ∷ rest) = region_of first (out-RawStmt s) (parts s) ++ regions_from (first + site_count (parts s)) rest
+
+-- the variables with their cells one after the other, from this cell on
+abbrev pub laid : ℕ → List VarInfo → List VarInfo
+laid cell [] = []
+laid cell (x ∷ rest) = record x { first = record { 0 = cell } } ∷ laid (cell + x.length) rest
+
+-- the variables of a program: the file-scope ones, those of `main`, those of the functions
+abbrev pub variables : RawProgram → List VarInfo
+variables raw = laid 0 (globals raw.items ++ main_locals 1 raw.main ++ flat_map (λ item. locals_of Outer (item_parts item)) raw.items)
+
+-- the sites of a program: those of `main`, those of the functions
+abbrev pub sites : RawProgram → List SiteInfo
+sites raw = main_sites 1 raw.main ++ flat_map (λ item. sites_of 0 (item_parts item)) raw.items

@@ -1,0 +1,14 @@
+//! What is so of every program that was checked.
+
+ghost use Rattle.std.specs.Prelude.{◌≡◌, Ok, true};
+ghost use Rattle.std.specs.List.{list_all};
+ghost use Rattle.dp_tree.specs.declared.Program.{Program};
+ghost use Rattle.dp_tree.specs.declared.raw.RawProgram.{RawProgram};
+ghost use Rattle.dp_check.specs.Checked.{IsChecked, has_length};
+ghost use Rattle.dp_check.specs.Verdict.{verdict};
+
+/// A law, and no work: a program that was checked has its cells one after the other, its sites numbered in text
+/// order and its regions at the top of `main` alone, if each array of the text has an element at least.
+pub fn checked_programs()
+    ensures { (raw : RawProgram) → (p : Program) → list_all has_length raw.items ≡ true → verdict raw ≡ Ok p → IsChecked p }
+{}

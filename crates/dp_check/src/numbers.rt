@@ -1,0 +1,54 @@
+//! The numbers that statements use, before any name is looked at.
+
+ghost use Rattle.std.specs.Prelude.{◌≡◌, OnOk};
+ghost use Rattle.dp_check.specs.Place.{passed, parts, parts_all};
+
+use crate::place::Place;
+use dp_base::NoMemory;
+use dp_tree::RawStmt;
+
+/// Passes a statement: its numbers are used.
+#[tactic(auto, using(crate::proofs::PlaceLemmas::pass_forms))]
+#[cycle(numbers)]
+fn pass(place: &mut Place<'_>, s: &RawStmt) -> Result<(), NoMemory>
+    ensures { OnOk result (place.new ≡ passed place.old (parts s.now)) }
+{
+    match s {
+        RawStmt::Declare { .. } => {
+            place.take_site()?;
+            place.take_variable()?;
+            Ok(())
+        }
+        RawStmt::Assign { .. } | RawStmt::Store { .. } | RawStmt::Print { .. } => {
+            place.take_site()?;
+            Ok(())
+        }
+        RawStmt::Call { .. } => Ok(()),
+        RawStmt::If {
+            then_part,
+            else_part,
+            ..
+        } => {
+            place.take_site()?;
+            pass_all(place, then_part.as_slice())?;
+            pass_all(place, else_part.as_slice())?;
+            Ok(())
+        }
+        RawStmt::While { body, .. } => {
+            place.take_site()?;
+            pass_all(place, body.as_slice())?;
+            Ok(())
+        }
+    }
+}
+
+/// Passes statements one after the other.
+#[cycle(numbers)]
+pub fn pass_all(place: &mut Place<'_>, all: &[RawStmt]) -> Result<(), NoMemory>
+    ensures { OnOk result (place.new ≡ passed place.old (parts_all all.now)) }
+{
+    for s in all {
+        pass(place, s)?;
+    }
+    Ok(())
+}
