@@ -12,3 +12,4 @@ pub mod StopLemmas
 pub mod PartLemmas
 pub mod RegionLemmas
 pub mod IterationLemmas
+pub mod DepthLemmas

@@ -53,7 +53,7 @@ simple_roll (While site cond a) = ap is_simple (rolls-While site cond a) ∙ sim
 simple_roll (Region r site cond a) = ap is_simple (rolls-Region r site cond a)
 simple_roll (Call f line args) = ap is_simple (rolls-Call f line args)
 
-simple_out : (x : Stmt) → is_simple x ≡ simple_at (out-Stmt x)
+pub simple_out : (x : Stmt) → is_simple x ≡ simple_at (out-Stmt x)
 simple_out x = ap is_simple (sym (roll-out-Stmt x)) ∙ simple_roll (out-Stmt x)
 
 -- a statement of `main`, by its head

@@ -7,3 +7,4 @@ pub mod PartRun
 pub mod IterationRun
 pub mod Turn
 pub mod Parts
+pub mod Depth

@@ -3,6 +3,7 @@
 #![tactic(auto)]
 
 mod configuration;
+mod depth;
 mod ends;
 mod evaluate;
 mod machine;
@@ -12,3 +13,4 @@ mod turn;
 
 pub use ends::{IterEnd, Part, PartEnd};
 pub use machine::Machine;
+
