@@ -1,14 +1,14 @@
 -- What tells the kinds of tokens apart: the first byte, and the table of reserved words.
-use Rattle.std.proofs.Common.{◌≡◌, ℕ, suc, ◌+◌, ◌<◌, ◌≤◌, Bool, true, false, not, cond, ◌&&◌, ◌||◌, if◌then◌else◌, ◌==◌, nat_lt, List, [], ◌∷◌, ◌++◌, length, slice_index, get_or, codes, Contains, All, refl, sym, ◌∙◌, ap, subst, length-append, arith}
+use Rattle.std.proofs.Common.{◌≡◌, ℕ, suc, ◌<◌, true, false, not, cond, ◌||◌, if◌then◌else◌, ◌==◌, nat_lt, [], ◌∷◌, ◌++◌, length, slice_index, get_or, codes, Contains, All, refl, sym, ◌∙◌, ap, arith}
 use Rattle.std.specs.Char.{is_ascii_digit}
 use Rattle.std.specs.List.{list_all}
-use Rattle.std.proofs.lemmas.Bool.{not-true, false_from_ne_true, ltb-true, both_ways}
+use Rattle.std.proofs.lemmas.Bool.{not-true, false_from_ne_true, ltb-true}
 use Rattle.std.proofs.lemmas.Bool.Decides.{nat_tests}
 use Rattle.std.proofs.lemmas.List.Sums.{AllPass-from_list_all, sum_by-cons, sum_by-append}
 use Rattle.dp_lex.specs.declared.TokenKind.{TokenKind}
 use Rattle.dp_lex.specs.declared.TokenKind.TheVariants.{Name, Reserved, Number, Mark, Sign}
 use Rattle.dp_lex.specs.Characters.{Text, is_gap, is_white, is_letter, is_word, is_line_end, line_ends}
-use Rattle.dp_lex.specs.Spelling.{reserved_words, signs, IsName, IsNumber, IsMark, IsSpelled}
+use Rattle.dp_lex.specs.Spelling.{reserved_words, signs, IsMark, IsSpelled}
 use Rattle.dp_lex.specs.Scan.{is_one_of}
 use Rattle.dp_lex.proofs.Membership.{contains_from_test, test_from_contains, table_has}
 

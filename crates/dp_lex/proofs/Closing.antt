@@ -1,5 +1,5 @@
 -- Where `*/` stands first in a text.
-use Rattle.std.proofs.Common.{◌≡◌, ℕ, zero, suc, ◌+◌, ◌<◌, ◌≤◌, true, false, List, [], ◌∷◌, length, drop, get_or, Option, Some, None, refl, ap, get_or-drop, add-zero, arith}
+use Rattle.std.proofs.Common.{◌≡◌, ℕ, ◌+◌, ◌<◌, ◌≤◌, true, false, length, drop, Option, Some, None, refl, ap, get_or-drop, add-zero, arith}
 use Rattle.std.proofs.lemmas.List.{drop_more, drop_all}
 use Rattle.dp_lex.specs.Characters.{Text}
 use Rattle.dp_lex.specs.Scan.{closes, closing, closing_or}

@@ -1,5 +1,5 @@
 -- A text is read in one way only.
-use Rattle.std.proofs.Common.{◌≡◌, ℕ, zero, suc, ◌+◌, ◌-◌, ◌<◌, ◌≤◌, ◌≢◌, ◌⊎◌, inl, inr, List, [], ◌∷◌, length, take, drop, Option, Some, None, refl, sym, ◌∙◌, ap, length-append, length-drop, length-take-le, arith}
+use Rattle.std.proofs.Common.{◌≡◌, ℕ, zero, suc, ◌+◌, ◌-◌, ◌<◌, ◌≤◌, ◌⊎◌, inl, inr, List, [], ◌∷◌, length, take, drop, Some, None, refl, sym, ◌∙◌, ap, length-append, length-drop, arith}
 use Rattle.std.proofs.lemmas.Bool.{cases_eq, cases_lt}
 use Rattle.std.proofs.lemmas.List.{drop_all}
 use Rattle.dp_lex.specs.declared.TokenKind.{TokenKind}
@@ -11,7 +11,7 @@ use Rattle.dp_lex.specs.Scan.{Found, skipped, front}
 use Rattle.dp_lex.proofs.Skipping.{skips_len, skips_once}
 use Rattle.dp_lex.proofs.Pieces.{skipped_skips}
 use Rattle.dp_lex.proofs.Fronts.{front_begins, begins_once, begins_some, skips_begins}
-use Rattle.dp_lex.proofs.Reading.{reads-append, reads_skip, reads_take, stuck_from_scan}
+use Rattle.dp_lex.proofs.Reading.{stuck_from_scan}
 
 -- nothing is skipped and no token begins
 pub record IsLast (z : Text) : Type 0 where

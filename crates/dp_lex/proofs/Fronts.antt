@@ -1,10 +1,10 @@
 -- The token that the scan finds at the front of a text is the one that begins there, and no other does.
-use Rattle.std.proofs.Common.{◌≡◌, ℕ, ◌+◌, ◌<◌, ◌≤◌, true, false, ◌⊎◌, ◌==◌, if◌then◌else◌, inl, inr, List, [], ◌∷◌, ◌++◌, length, take, slice_index, Some, None, refl, sym, ◌∙◌, length-take-le, take_at, arith}
+use Rattle.std.proofs.Common.{◌≡◌, ℕ, ◌<◌, ◌≤◌, true, false, ◌⊎◌, ◌==◌, if◌then◌else◌, inl, inr, ◌++◌, length, take, slice_index, Some, None, refl, sym, ◌∙◌, length-take-le, take_at, arith}
 use Rattle.std.specs.Char.{is_ascii_digit}
-use Rattle.std.proofs.lemmas.Bool.{cases_Bool, eqb-true, both_ways, false_from_ne_true, cond_both}
+use Rattle.std.proofs.lemmas.Bool.{eqb-true, both_ways, false_from_ne_true, cond_both}
 use Rattle.dp_lex.specs.declared.TokenKind.{TokenKind}
 use Rattle.dp_lex.specs.Characters.{Text, is_white, is_letter}
-use Rattle.dp_lex.specs.Front.{OpensComment, IsSkipped, Skips, CanStand, Begins}
+use Rattle.dp_lex.specs.Front.{OpensComment, IsSkipped, Skips, Begins}
 use Rattle.dp_lex.specs.Scan.{opens_comment, word, number, mark, sign, front}
 use Rattle.dp_lex.proofs.Apart.{kinds_same, spelled_no_white, spelled_some}
 use Rattle.dp_lex.proofs.Pieces.{opens_from_test, test_from_opens}
@@ -38,7 +38,7 @@ front_begins z kind n e =
     let closed = front_closed z kind n e in
     let found : IsFound z (Some (kind, n)) = rw e at (front_found z closed) in (
       record {
-        code = λ opens. both_ways (opens_comment z) closed (test_from_opens z opens);
+        no_comment = λ opens. both_ways (opens_comment z) closed (test_from_opens z opens);
         stands = found.0;
         longest = λ other v s. omega (arith, found.1 other v s, length-take-le n z found.2);
       },
@@ -48,7 +48,7 @@ front_begins z kind n e =
 -- where the scan finds nothing, no token begins
 pub front_none : (z : Text) → front z ≡ None → (kind : TokenKind) (w : Text) → ¬ Begins z kind w
 front_none z e kind w b =
-    let closed = false_from_ne_true (opens_comment z) (λ opens. b.code (opens_from_test z opens)) in
+    let closed = false_from_ne_true (opens_comment z) (λ opens. b.no_comment (opens_from_test z opens)) in
     let found : IsFound z None = rw e at (front_found z closed) in
     found kind w b.stands
 
@@ -74,7 +74,7 @@ skips_begins z c kind w s b =
           let first = first_same kind w z b.stands in
           let here : is_white (slice_index z 0) ≡ true = rw s.splits white in
           both_ways (is_white (slice_index w 0)) (spelled_no_white kind w b.stands.spelled) (rw first at here)
-      | inr opens ↦ b.code (rw s.splits opens)
+      | inr opens ↦ b.no_comment (rw s.splits opens)
     ]
 
 -- a token has a byte

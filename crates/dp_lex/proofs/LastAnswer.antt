@@ -1,12 +1,10 @@
 -- After the end or a refusal a lexer gives the same answer.
-use Rattle.std.proofs.Common.{◌≡◌, ℕ, List, [], ◌∷◌, length, drop, Option, Some, None, Result, Ok, Err, refl, sym, ◌∙◌, ap, arith}
+use Rattle.std.proofs.Common.{◌≡◌, ℕ, [], ◌∷◌, length, drop, Option, Some, None, Result, Ok, Err, refl, sym, ◌∙◌, ap, arith}
 use Rattle.std.proofs.lemmas.List.{drop_all}
 use Rattle.dp_lex.specs.declared.Token.{Token}
 use Rattle.dp_lex.specs.declared.LexRefused.{LexRefused}
-use Rattle.dp_lex.specs.Characters.{Text}
-use Rattle.dp_lex.specs.Token.{Lexeme}
 use Rattle.dp_lex.specs.Front.{IsStuck}
-use Rattle.dp_lex.specs.Tokens.{Reading, Reads, IsNext, IsLastAnswer, lexeme}
+use Rattle.dp_lex.specs.Tokens.{Reading, IsNext, IsLastAnswer, lexeme}
 use Rattle.dp_lex.proofs.Definite.{IsLast, last_at_end, last_when_stuck, reads_nothing}
 
 -- what comes next where nothing is left

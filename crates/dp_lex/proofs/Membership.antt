@@ -1,6 +1,6 @@
 -- A word is in a table where the test says so, and what holds of each entry holds of it.
-use Rattle.std.proofs.Common.{◌≡◌, ℕ, Bool, true, false, List, get_or, bytes_eq, Contains, Decides, refl, subst}
-use Rattle.std.specs.List.{list_any, list_all}
+use Rattle.std.proofs.Common.{◌≡◌, Bool, true, List, get_or, bytes_eq, Contains, refl, subst}
+use Rattle.std.specs.List.{list_all}
 use Rattle.std.proofs.lemmas.Slice.Eq.{bytes_eq-Decides}
 use Rattle.std.proofs.lemmas.List.Folds.{Any-from_list_any, list_any-from_Any}
 use Rattle.std.proofs.lemmas.List.Sums.{AllPass-from_list_all}

@@ -1,13 +1,13 @@
 -- What the scan skips at the front of a text is white space or a comment.
-use Rattle.std.proofs.Common.{◌≡◌, ℕ, zero, suc, ◌+◌, ◌<◌, ◌≤◌, Bool, true, false, not, ◌&&◌, ◌||◌, ◌≢◌, ◌⊎◌, ◌==◌, if◌then◌else◌, inl, inr, List, [], ◌∷◌, ◌++◌, length, take, drop, get_or, slice_index, codes, Option, Some, None, All, refl, sym, ◌∙◌, ap, subst, append_assoc, length-append, take_at, take-append-drop, get_or-drop, add-zero, arith}
+use Rattle.std.proofs.Common.{◌≡◌, ℕ, suc, ◌+◌, ◌<◌, true, false, not, ◌||◌, ◌⊎◌, ◌==◌, if◌then◌else◌, inl, inr, [], ◌∷◌, ◌++◌, length, take, drop, slice_index, codes, Option, Some, None, refl, sym, ◌∙◌, ap, append_assoc, length-append, take_at, take-append-drop, get_or-drop, add-zero, arith}
 use Rattle.std.specs.List.{prefix_len}
-use Rattle.std.proofs.lemmas.Bool.{cases_Bool, cases_lt, and_parts, and_from, and_right, eqb-true, eq-eqb, not-true, not-false, not_from_false, both_ways, false_from_ne_true, cond_both, or_cases, or_left, or_right, eqb-false}
+use Rattle.std.proofs.lemmas.Bool.{cases_lt, and_parts, and_from, eqb-true, eq-eqb, not-true, not-false, cond_both, or_cases, or_left, or_right, eqb-false}
 use Rattle.std.proofs.lemmas.List.{drop_all}
 use Rattle.std.proofs.lemmas.List.Sums.{prefix_len_stops}
 use Rattle.dp_lex.specs.declared.front.Class.TheVariants as class
 use Rattle.dp_lex.specs.Characters.{Text, is_white, is_line_end}
-use Rattle.dp_lex.specs.Scan.{closes, closing, closing_or, block_len, opens_comment, skipped, is_in}
-use Rattle.dp_lex.specs.Front.{IsBlank, IsLineComment, IsBlockComment, IsSkipped, Skips, OpensComment}
+use Rattle.dp_lex.specs.Scan.{closing, block_len, opens_comment, skipped, is_in}
+use Rattle.dp_lex.specs.Front.{Skips, OpensComment}
 use Rattle.dp_lex.proofs.Runs.{run_passes}
 use Rattle.dp_lex.proofs.Skipping.{Splits, closing_splits}
 

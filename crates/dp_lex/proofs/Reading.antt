@@ -1,10 +1,10 @@
 -- Reading on from what was read.
-use Rattle.std.proofs.Common.{◌≡◌, ℕ, ◌+◌, ◌-◌, ◌<◌, ◌≤◌, List, [], ◌∷◌, ◌++◌, length, take, drop, Some, None, refl, sym, ◌∙◌, ap, length-take-le, length-drop, take-add, cond, arith}
+use Rattle.std.proofs.Common.{◌≡◌, ℕ, ◌+◌, ◌<◌, ◌≤◌, List, [], ◌∷◌, ◌++◌, length, take, drop, Some, None, sym, ap, length-take-le, length-drop, take-add, cond, arith}
 use Rattle.std.proofs.lemmas.List.Sums.{sum_by-append}
 use Rattle.dp_lex.specs.declared.TokenKind.{TokenKind}
 use Rattle.dp_lex.specs.Characters.{Text, is_line_end, line_ends}
 use Rattle.dp_lex.specs.Token.{Lexeme}
-use Rattle.dp_lex.specs.Front.{Skips, Begins, IsStuck}
+use Rattle.dp_lex.specs.Front.{IsStuck}
 use Rattle.dp_lex.specs.Tokens.{Reads, stays, skips, takes, line_at, IsInText}
 use Rattle.dp_lex.specs.Scan.{skipped, front}
 use Rattle.dp_lex.proofs.Apart.{spelled_one_line}

@@ -1,21 +1,16 @@
 -- The sign at the front of a text is the longest token there.
-use Rattle.std.proofs.Common.{◌≡◌, ℕ, zero, suc, ◌+◌, ◌<◌, ◌≤◌, Bool, true, false, not, ◌&&◌, ◌||◌, ◌≢◌, ◌⊎◌, ◌==◌, nat_le, nat_lt, if◌then◌else◌, inl, inr, List, [], ◌∷◌, ◌++◌, length, take, drop, get_or, slice_index, codes, Option, Some, None, All, Contains, refl, sym, ◌∙◌, ap, subst, append_assoc, length-append, length-take-le, take_at, drop_at, take-append-drop, get_or-drop, get_or-take, get_or-append-add, add-zero, arith}
+use Rattle.std.proofs.Common.{◌≡◌, ℕ, ◌≤◌, true, false, ◌&&◌, ◌⊎◌, ◌==◌, nat_le, if◌then◌else◌, inl, inr, [], ◌∷◌, length, take, drop, slice_index, Some, None, refl, sym, length-append, take_at, take-append-drop, arith}
 use Rattle.std.specs.Char.{is_ascii_digit}
-use Rattle.std.specs.List.{prefix_len}
-use Rattle.std.specs.Str.Parse.{digits_value}
-use Rattle.std.proofs.lemmas.Bool.{cases_Bool, and_parts, and_from, or_cases, or_left, or_right, eqb-true, eqb-false, eq-eqb, leb-true, le-leb, not-true, not_from_false, both_ways, false_from_ne_true, cond_both}
-use Rattle.std.proofs.lemmas.List.Sums.{prefix_len-le-length}
-use Rattle.std.proofs.lemmas.List.Prefix.{front_reads}
+use Rattle.std.proofs.lemmas.Bool.{and_parts, and_from, or_cases, eqb-true, leb-true, le-leb, both_ways, cond_both}
 use Rattle.dp_lex.specs.declared.TokenKind.{TokenKind}
 use Rattle.dp_lex.specs.declared.TokenKind.TheVariants.{Name, Reserved, Number, Mark, Sign}
-use Rattle.dp_lex.specs.Characters.{Text, is_gap, is_white, is_letter, is_word}
-use Rattle.dp_lex.specs.Spelling.{reserved_words, signs, IsName, IsNumber, IsMark, IsSpelled, MayPrecede}
+use Rattle.dp_lex.specs.Characters.{Text, is_letter}
+use Rattle.dp_lex.specs.Spelling.{signs}
 use Rattle.dp_lex.specs.Front.{CanStand}
-use Rattle.dp_lex.specs.Scan.{Found, is_one_of, word, fits, is_plain, number, sign}
-use Rattle.dp_lex.proofs.Runs.{run_passes, run_reaches, run_exact, run_none, run_some}
+use Rattle.dp_lex.specs.Scan.{is_one_of, sign}
 use Rattle.dp_lex.proofs.Membership.{contains_from_test, test_from_contains}
-use Rattle.dp_lex.proofs.Apart.{kind_of, spelled_kind, spelled_some, digit_no_letter, digit_is_word, letter_is_word, reserved_is_word, sign_short}
-use Rattle.dp_lex.proofs.Standing.{IsFound, first_same, first_kind}
+use Rattle.dp_lex.proofs.Apart.{sign_short}
+use Rattle.dp_lex.proofs.Standing.{IsFound, first_kind}
 
 sign_kind : (kind : TokenKind) (w z : Text) → CanStand kind w z → is_letter (slice_index z 0) ≡ false → is_ascii_digit (slice_index z 0) ≡ false → (slice_index z 0 == 35) ≡ false → kind ≡ Sign
 sign_kind kind w z s letter digit mark = rw (letter, digit, mark) at (first_kind kind w z s)

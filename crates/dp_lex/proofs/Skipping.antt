@@ -1,14 +1,12 @@
 -- What is skipped at the front of a text is one piece, and its length is what the scan says.
-use Rattle.std.proofs.Common.{◌≡◌, ℕ, zero, suc, ◌+◌, ◌<◌, ◌≤◌, Bool, true, false, not, ◌&&◌, ◌||◌, ◌≢◌, ◌⊎◌, ◌==◌, inl, inr, List, [], ◌∷◌, ◌++◌, length, take, drop, get_or, slice_index, codes, Option, Some, None, All, refl, sym, ◌∙◌, ap, subst, append_assoc, length-append, take_at, take-append-drop, get_or-drop, add-zero, arith}
+use Rattle.std.proofs.Common.{◌≡◌, ℕ, ◌+◌, ◌<◌, true, false, ◌&&◌, ◌≢◌, ◌⊎◌, ◌==◌, inl, inr, [], ◌∷◌, ◌++◌, length, take, slice_index, codes, Option, Some, None, All, refl, sym, ◌∙◌, ap, append_assoc, length-append, take_at, arith}
 use Rattle.std.specs.List.{prefix_len}
-use Rattle.std.proofs.lemmas.Bool.{cases_Bool, cases_lt, and_parts, and_from, and_right, eqb-true, eq-eqb, not-true, not-false, not_from_false, both_ways, false_from_ne_true, cond_both}
-use Rattle.std.proofs.lemmas.List.{drop_all}
-use Rattle.std.proofs.lemmas.List.Sums.{prefix_len_stops}
+use Rattle.std.proofs.lemmas.Bool.{cases_Bool, and_parts, and_from, and_right, eqb-true, eq-eqb, not_from_false, both_ways, false_from_ne_true}
 use Rattle.dp_lex.specs.declared.front.Class.TheVariants as class
 use Rattle.dp_lex.specs.Characters.{Text, is_white, is_line_end}
-use Rattle.dp_lex.specs.Scan.{closes, closing, closing_or, block_len, opens_comment, skipped, is_in}
-use Rattle.dp_lex.specs.Front.{IsBlank, IsLineComment, IsBlockComment, IsSkipped, Skips, OpensComment}
-use Rattle.dp_lex.proofs.Runs.{run_passes, run_exact, run_none}
+use Rattle.dp_lex.specs.Scan.{closes, closing, closing_or, opens_comment, skipped, is_in}
+use Rattle.dp_lex.specs.Front.{IsSkipped, Skips}
+use Rattle.dp_lex.proofs.Runs.{run_exact, run_none}
 
 -- no `*/` stands in the body
 abbrev pub IsClear : Text → Type 0

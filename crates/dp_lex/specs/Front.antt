@@ -46,7 +46,7 @@ pub record CanStand (kind : TokenKind) (w z : Text) : Type 0 where
 
 -- the token at the front of z is of the kind and spelled w: the longest that can stand there, and no comment opens
 pub record Begins (z : Text) (kind : TokenKind) (w : Text) : Type 0 where
-  pub code : ¬ OpensComment z
+  pub no_comment : ¬ OpensComment z
   pub stands : CanStand kind w z
   pub longest : (other : TokenKind) (v : Text) → CanStand other v z → length v ≤ length w
 

@@ -1,4 +1,4 @@
--- What the lexer's functions compute at the front of a text: how many bytes are skipped, and which token begins.
+-- What the lexer's own functions compute at the front of a text. What a text's tokens are is said without it, in Front and Tokens.
 use Rattle.std.specs.Prelude.{ℕ, ◌+◌, Bool, true, false, not, ◌&&◌, ◌||◌, ◌==◌, if◌then◌else◌, nat_le, nat_lt, List, [], ◌∷◌, take, drop, length, slice_index, Option, Some, None, codes}
 use Rattle.std.specs.Char.{is_ascii_digit}
 use Rattle.std.specs.List.{prefix_len, list_any}

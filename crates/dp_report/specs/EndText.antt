@@ -10,6 +10,7 @@ use Rattle.dp_report.specs.Lines.{line, labelled}
 use Rattle.dp_report.specs.StateText.{state_bytes}
 use Rattle.dp_report.specs.RegionText.{regions_bytes}
 
+-- a fault's name in the text
 abbrev pub fault_name : FaultKind → List ℕ
 fault_name Overflow = codes "overflow"
 fault_name Divide = codes "divide"

@@ -4,4 +4,3 @@ pub mod StateText
 pub mod RegionText
 pub mod EndText
 pub mod SiteText
-pub mod RunText

@@ -1,5 +1,5 @@
 -- The regions of a run: how many iterations were begun, and which of them were executed again.
-use Rattle.std.specs.Prelude.{ℕ, List, [], ◌++◌, ◌==◌, if◌then◌else◌, length, take, codes}
+use Rattle.std.specs.Prelude.{ℕ, List, [], ◌++◌, ◌==◌, if◌then◌else◌, codes}
 use Rattle.std.specs.List.{flat_map}
 use Rattle.dp_base.specs.declared.RegionReport.{RegionReport}
 use Rattle.dp_report.specs.Lines.{line, labelled, spaced}
@@ -13,13 +13,10 @@ abbrev pub counts_line : ℕ → ℕ → ℕ → List ℕ → List ℕ
 counts_line region begun count numbers =
     line (labelled (codes "region ") region ++ labelled (codes " iterations ") begun ++ labelled (codes " recovered ") count ++ listed count numbers)
 
--- the same from all of these numbers, of which the line has the first 1,000
-abbrev pub region_line : ℕ → ℕ → List ℕ → List ℕ
-region_line region begun again = counts_line region begun (length again) (take 1000 again)
-
 -- a region without a begun iteration has no line
 abbrev pub report_line : RegionReport → List ℕ
 report_line r = if r.iterations == 0 then [] else counts_line r.region r.iterations r.recovered_count r.recovered
 
+-- the reports' lines, in their order
 abbrev pub regions_bytes : List RegionReport → List ℕ
 regions_bytes reports = flat_map report_line reports

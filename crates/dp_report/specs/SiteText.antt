@@ -7,6 +7,7 @@ use Rattle.dp_tree.specs.declared.RegionInfo.{RegionInfo}
 use Rattle.dp_tree.specs.declared.Program.{Program}
 use Rattle.dp_report.specs.Lines.{line, labelled, numbered}
 
+-- a kind's name in the text; initialisers and bindings are assignments
 abbrev pub kind_name : SiteKind → List ℕ
 kind_name Assign = codes "assign"
 kind_name Print = codes "print"

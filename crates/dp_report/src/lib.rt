@@ -7,6 +7,8 @@ mod prints;
 mod regions;
 mod sites;
 mod state;
+#[cfg(test)]
+mod tests;
 
 pub use ending::end_text;
 pub use prints::prints_text;

@@ -1,5 +1,5 @@
-use Rattle.std.proofs.Common.{◌≡◌, true, false, sym, ◌∙◌, arith}
-use Rattle.dp_lex.specs.Scan.{closes, closing}
+use Rattle.std.proofs.Common.{sym, ◌∙◌, arith}
+use Rattle.dp_lex.specs.Scan.{closing}
 use Rattle.dp_lex.proofs.Closing.{shifted_none, closing_goes, closing_stops, closing_ends}
 use Rattle.dp_lex.proofs.front.closing.Goals as goal
 

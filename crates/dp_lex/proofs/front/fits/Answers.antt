@@ -1,4 +1,4 @@
-use Rattle.std.proofs.Common.{◌≡◌, ◌<◌, ◌-◌, ◌/◌, length, get_or, sym, rules, arith}
+use Rattle.std.proofs.Common.{◌<◌, ◌-◌, ◌/◌, length, get_or, sym, rules, arith}
 use Rattle.std.proofs.lemmas.Bool.{lt-leb}
 use Rattle.std.specs.Str.Parse.{digits_value}
 use Rattle.dp_lex.specs.Scan.{fits}

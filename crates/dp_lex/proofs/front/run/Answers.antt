@@ -1,5 +1,4 @@
-use Rattle.std.proofs.Common.{◌≡◌, arith}
-use Rattle.std.specs.List.{prefix_len}
+use Rattle.std.proofs.Common.{arith}
 use Rattle.std.proofs.lemmas.List.Sums.{prefix_len-drop_no, prefix_len-drop_all}
 use Rattle.dp_lex.specs.Scan.{is_in}
 use Rattle.dp_lex.proofs.Runs.{run_passes}

@@ -1,4 +1,4 @@
-use Rattle.std.proofs.Common.{◌≡◌, ◌+◌, ◌-◌, ◌<◌, ◌==◌, false, [], pos_of_ne-zero, drop, take, length, Some, None, ap, sym, ◌∙◌, rules, arith}
+use Rattle.std.proofs.Common.{◌≡◌, ◌-◌, ◌<◌, ◌==◌, false, pos_of_ne-zero, drop, take, length, Some, None, ap, sym, ◌∙◌}
 use Rattle.std.proofs.lemmas.Bool.{eqb-false}
 use Rattle.std.proofs.lemmas.List.{take_rest}
 use Rattle.dp_lex.specs.Characters.{Text}

@@ -1,4 +1,4 @@
-use Rattle.std.proofs.Common.{◌≡◌, ◌+◌, ◌<◌, ◌≤◌, [], drop, take, length, ap, sym, rules, arith}
+use Rattle.std.proofs.Common.{◌≡◌, ◌+◌, ◌<◌, ◌≤◌, [], drop, take, length, ap, arith}
 use Rattle.std.proofs.lemmas.List.{take_rest}
 use Rattle.dp_lex.specs.Characters.{line_ends}
 use Rattle.dp_lex.specs.Tokens.{Reading, Reads, stays}
