@@ -1,10 +1,7 @@
 -- Checked programs: their cells and the numbers of their sites.
-use Rattle.std.proofs.Common.{◌≡◌, refl, sym, ap, ◌∙◌, ℕ, zero, suc, ◌+◌, ◌==◌, nat_eq, Bool, true, false, ◌&&◌, if◌then◌else◌, List, [], ◌∷◌, ◌++◌, map, length, append_assoc, append-nil, length-append, arith, nat_lt, pos, not, ◌||◌}
+use Rattle.std.proofs.Common.{◌≡◌, refl, ap, ◌∙◌, ℕ, ◌+◌, ◌==◌, Bool, true, false, ◌&&◌, List, [], ◌∷◌, ◌++◌, arith, nat_lt, not, ◌||◌}
 use Rattle.std.proofs.lemmas.Bool.Decides.{nat_tests}
 use Rattle.std.specs.List.{list_all, flat_map}
-use Rattle.dp_tree.specs.declared.Function.{Function}
-use Rattle.dp_tree.specs.declared.Stmt.{Stmt, Row_of-Stmt}
-use Rattle.dp_tree.specs.declared.Stmt.TheVariants as code
 use Rattle.dp_tree.specs.declared.VarInfo.{VarInfo}
 use Rattle.dp_tree.specs.declared.VarScope.{VarScope}
 use Rattle.dp_tree.specs.declared.VarScope.TheVariants.{Global, Outer, Body}
@@ -12,7 +9,7 @@ use Rattle.dp_tree.specs.declared.raw.RawStmt.{RawStmt}
 use Rattle.dp_tree.specs.declared.raw.RawItem.{RawItem}
 use Rattle.dp_tree.specs.declared.raw.RawItem.TheVariants as item
 use Rattle.dp_tree.specs.declared.raw.RawProgram.{RawProgram}
-use Rattle.dp_check.specs.Place.{Part, Site, Local, Called, parts, parts_all}
+use Rattle.dp_check.specs.Place.{Part, Site, Local, Called, parts}
 use Rattle.dp_check.specs.Tables.{laid, locals_of, globals, global_of, item_parts, top_scope, after_top, main_locals, variables}
 use Rattle.std.proofs.Common.{subst, Option, Some, None, Ok}
 use Rattle.dp_tree.specs.declared.Program.{Program}

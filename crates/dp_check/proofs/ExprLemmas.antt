@@ -1,5 +1,5 @@
 -- What is answered for each form of expression.
-use Rattle.std.proofs.Common.{◌≡◌, refl, sym, ap, ◌∙◌, ℤ, List, [], ◌∷◌, ◌++◌, map, Option, Some, None, Result, Ok, Err}
+use Rattle.std.proofs.Common.{◌≡◌, refl, ap, ◌∙◌, ℤ, List, [], ◌∷◌, map, Ok}
 use Rattle.dp_base.specs.declared.BinOp.{BinOp}
 use Rattle.dp_base.specs.declared.UnOp.{UnOp}
 use Rattle.dp_tree.specs.declared.Expr.TheVariants as tree

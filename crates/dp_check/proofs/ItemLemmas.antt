@@ -1,5 +1,5 @@
 -- Functions, and items one after the other.
-use Rattle.std.proofs.Common.{◌≡◌, refl, sym, ap, ◌∙◌, ℕ, suc, ◌+◌, ◌≤◌, List, [], ◌∷◌, ◌++◌, map, length, take, append_assoc, append-nil, arith, Option, Some, None, Result, Ok, Err}
+use Rattle.std.proofs.Common.{◌≡◌, refl, sym, ap, ◌∙◌, ℕ, ◌+◌, ◌≤◌, List, [], ◌∷◌, ◌++◌, map, length, take, append_assoc, append-nil, arith, Option, Some, None, Ok, Err}
 use Rattle.std.proofs.lemmas.List.{take_all}
 use Rattle.dp_base.specs.declared.VarId.{VarId}
 use Rattle.dp_tree.specs.declared.Function.{Function}
@@ -12,7 +12,7 @@ use Rattle.dp_check.specs.declared.items.Head.{Head}
 use Rattle.dp_check.specs.declared.place.Place.{Place}
 use Rattle.dp_check.specs.Names.{Named}
 use Rattle.dp_check.specs.Offence.{Declares, offence, or_else, first_offence}
-use Rattle.dp_check.specs.Place.{Part, Local, parts_all, local_count, site_count, passed, with_scalar, after_params}
+use Rattle.dp_check.specs.Place.{Local, parts_all, local_count, site_count, passed, with_scalar, after_params}
 use Rattle.dp_check.specs.Tokens.{token, tokens_all, params_tokens}
 use Rattle.dp_check.specs.Resolved.{next_variable, resolved_all, param_variables}
 use Rattle.dp_check.specs.Tables.{function_parts}

@@ -1,6 +1,5 @@
 -- Calls and counts of the parts of a program.
-use Rattle.std.proofs.Common.{◌≡◌, refl, sym, ap, ◌∙◌, ℕ, ◌+◌, ◌≤◌, min, length, length-append, arith, Bool, List, [], ◌∷◌, ◌++◌, map, Option, Some, None}
-use Rattle.std.specs.List.{flat_map}
+use Rattle.std.proofs.Common.{◌≡◌, refl, sym, ap, ◌∙◌, ℕ, ◌+◌, ◌≤◌, min, length, length-append, arith, Bool, List, [], ◌∷◌, ◌++◌, Option, Some, None}
 use Rattle.dp_tree.specs.declared.raw.Name.{Name}
 use Rattle.dp_tree.specs.declared.raw.RawExpr.{RawExpr}
 use Rattle.dp_tree.specs.declared.raw.RawStmt.{RawStmt}

@@ -1,7 +1,6 @@
 -- The sites of a checked program are numbered in text order.
-use Rattle.std.proofs.Common.{◌≡◌, refl, sym, ap, ◌∙◌, ℕ, zero, suc, ◌+◌, Bool, true, false, if◌then◌else◌, List, [], ◌∷◌, ◌++◌, map, length, append_assoc, append-nil, length-append, arith}
+use Rattle.std.proofs.Common.{◌≡◌, refl, sym, ap, ◌∙◌, ℕ, zero, suc, ◌+◌, true, false, if◌then◌else◌, List, [], ◌∷◌, ◌++◌, map, length, length-append, arith}
 use Rattle.std.specs.List.{flat_map}
-use Rattle.dp_tree.specs.declared.Function.{Function}
 use Rattle.dp_tree.specs.declared.Expr.{Expr}
 use Rattle.dp_base.specs.declared.SiteId.{SiteId}
 use Rattle.dp_tree.specs.declared.Stmt.{Stmt, Row_of-Stmt}
@@ -20,7 +19,7 @@ use Rattle.dp_check.specs.declared.items.Head.{Head}
 use Rattle.dp_check.specs.Place.{Part, Local, parts, parts_in, parts_all, passed, sited, after, after_params, site_count}
 use Rattle.dp_check.specs.Resolved.{resolved, resolved_in, resolved_all, resolved_expr, resolved_top, resolved_main, region_at, is_region}
 use Rattle.dp_check.specs.Tables.{sites_of, main_sites, top_region, after_top, item_parts, function_parts, sites}
-use Rattle.dp_check.specs.Items.{items_functions, item_functions, after_item}
+use Rattle.dp_check.specs.Items.{items_functions, after_item}
 use Rattle.dp_check.specs.Verdict.{begin, main_begin, resolved as whole}
 use Rattle.dp_check.specs.Checked.{site_numbers, site_numbers_in, site_numbers_all, numbers_from, SitesInOrder}
 use Rattle.dp_check.proofs.PlaceLemmas.{after_site, site_count-append}

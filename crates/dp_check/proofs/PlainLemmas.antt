@@ -1,13 +1,11 @@
 -- The regions of a checked program stand at the top of `main` alone.
-use Rattle.std.proofs.Common.{◌≡◌, refl, sym, ap, ◌∙◌, ℕ, ◌+◌, ◌==◌, Bool, true, false, ◌&&◌, if◌then◌else◌, List, [], ◌∷◌, ◌++◌, arith}
+use Rattle.std.proofs.Common.{◌≡◌, refl, sym, ap, ◌∙◌, ℕ, ◌+◌, ◌==◌, Bool, true, false, ◌&&◌, if◌then◌else◌, List, [], ◌∷◌, arith}
 use Rattle.std.proofs.lemmas.Bool.Decides.{nat_tests}
 use Rattle.std.specs.List.{list_all}
 use Rattle.dp_base.specs.declared.SiteId.{SiteId}
-use Rattle.dp_tree.specs.declared.Function.{Function}
 use Rattle.dp_tree.specs.declared.Expr.{Expr}
 use Rattle.dp_tree.specs.declared.Stmt.{Stmt}
 use Rattle.dp_tree.specs.declared.Stmt.TheVariants as code
-use Rattle.dp_tree.specs.declared.raw.Name.{Name}
 use Rattle.dp_tree.specs.declared.raw.RawStmt.{RawStmt, Row_of-RawStmt, end_of-RawStmt, more_of-RawStmt, out-RawStmt}
 use Rattle.dp_tree.specs.declared.raw.RawStmt.TheVariants as raw
 use Rattle.dp_tree.specs.declared.raw.RawStmt.TheOpen.{RawStmt-F}
@@ -17,7 +15,7 @@ use Rattle.dp_tree.specs.declared.raw.RawItem.TheVariants as item
 use Rattle.dp_check.specs.declared.place.Place.{Place}
 use Rattle.dp_check.specs.declared.items.Head.{Head}
 use Rattle.dp_check.specs.Place.{parts_in, passed, sited, after, after_params}
-use Rattle.dp_check.specs.Resolved.{next_site, resolved, resolved_in, resolved_all, resolved_expr, resolved_top, resolved_main, region_at, is_region_at, is_region}
+use Rattle.dp_check.specs.Resolved.{next_site, resolved, resolved_in, resolved_all, resolved_expr, resolved_main, region_at, is_region_at, is_region}
 use Rattle.dp_check.specs.Items.{items_functions, after_item}
 use Rattle.dp_check.specs.Checked.{is_plain, is_plain_in, top_fits, next_region, regions_in_order}
 use Rattle.dp_check.proofs.NumberLemmas.{stmt_opened}

@@ -1,5 +1,5 @@
 -- Statements at the top of `main`.
-use Rattle.std.proofs.Common.{◌≡◌, refl, sym, ap, ◌∙◌, ℕ, ◌+◌, Bool, true, false, if◌then◌else◌, List, [], ◌∷◌, ◌++◌, Result, Ok, Err}
+use Rattle.std.proofs.Common.{◌≡◌, refl, sym, ap, ◌∙◌, ℕ, ◌+◌, Bool, true, false, if◌then◌else◌, List, [], ◌∷◌, ◌++◌, Result, Ok}
 use Rattle.dp_tree.specs.declared.Stmt.{Stmt}
 use Rattle.dp_tree.specs.declared.Stmt.TheVariants as code
 use Rattle.dp_tree.specs.declared.raw.Name.{Name}
@@ -11,9 +11,9 @@ use Rattle.dp_tree.specs.declared.raw.RawStmt.TheVariants.{rolls-While}
 use Rattle.dp_tree.specs.declared.raw.RawStmt.TheVariants as raw
 use Rattle.dp_tree.specs.declared.raw.RawStmt.TheVariants.{outs-Declare, outs-Assign, outs-Store, outs-Call, outs-Print, outs-If, outs-While}
 use Rattle.dp_check.specs.declared.place.Place.{Place}
-use Rattle.dp_check.specs.Offence.{or_else, first_offence}
-use Rattle.dp_check.specs.Place.{parts_all, passed, sited, after}
-use Rattle.dp_check.specs.Tokens.{expr_tokens, tokens, tokens_in, tokens_all}
+use Rattle.dp_check.specs.Offence.{first_offence}
+use Rattle.dp_check.specs.Place.{sited, after}
+use Rattle.dp_check.specs.Tokens.{expr_tokens, tokens, tokens_all}
 use Rattle.dp_check.specs.Resolved.{resolved_expr, next_site, resolved, resolved_all, is_region_at, is_region, region_at, resolved_top, resolved_main}
 use Rattle.dp_check.specs.Answer.{answer, expr_answer, stmt_answer, block_answer, top_answer, main_answer}
 use Rattle.dp_check.proofs.AnswerLemmas.{and_then, first_offence-append, answer-two}

@@ -16,11 +16,10 @@ use Rattle.dp_tree.specs.declared.raw.RawStmt.TheOpen.{RawStmt-F}
 use Rattle.dp_tree.specs.declared.raw.RawStmt.TheOpen as open_form
 use Rattle.dp_check.specs.Resolved.{is_region, is_region_at}
 use Rattle.dp_check.proofs.RegionLemmas.{is_region-While}
-use Rattle.dp_tree.specs.declared.raw.RawItem.{RawItem}
 use Rattle.dp_check.specs.declared.variables.Variables.{Variables}
 use Rattle.dp_check.specs.declared.sites.Sites.{Sites}
 use Rattle.dp_check.specs.Place.{Part, Site, Local, Called, parts, parts_all, site_count}
-use Rattle.dp_check.specs.Tables.{laid, locals_of, sites_of, globals, global_of, item_parts, top_scope, top_region, after_top, main_locals, main_sites, regions_from, region_of, scalar_info, function_parts}
+use Rattle.dp_check.specs.Tables.{laid, locals_of, sites_of, top_scope, top_region, after_top, main_locals, main_sites, regions_from, region_of, scalar_info, function_parts}
 use Rattle.dp_check.specs.Limits.{cell_sum}
 use Rattle.dp_check.specs.Growing.{with_variables, with_sites, with_top, with_main}
 use Rattle.dp_check.proofs.PlaceLemmas.{opened, parts_hidden}

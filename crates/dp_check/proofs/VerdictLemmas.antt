@@ -1,5 +1,5 @@
 -- The answer for a tree from the answers for its parts.
-use Rattle.std.proofs.Common.{◌≡◌, refl, sym, ap, ◌∙◌, ℕ, length, List, [], ◌∷◌, ◌++◌, Option, Some, None, Result, Ok, Err}
+use Rattle.std.proofs.Common.{◌≡◌, refl, sym, ap, ◌∙◌, ℕ, length, List, [], ◌++◌, Option, Some, None, Result, Ok, Err}
 use Rattle.std.specs.List.{flat_map}
 use Rattle.dp_tree.specs.declared.Function.{Function}
 use Rattle.dp_tree.specs.declared.Program.{Program}
@@ -26,7 +26,7 @@ use Rattle.dp_check.specs.Tables.{globals, main_locals, locals_of, item_parts, v
 use Rattle.dp_check.specs.Growing.{with_variables}
 use Rattle.dp_check.specs.Limits.{calls}
 use Rattle.dp_check.specs.Verdict.{names_of, begin, main_begin, trees_answer, resolved, first_call, too_many_functions, too_many_cells, verdict}
-use Rattle.dp_check.proofs.AnswerLemmas.{and_then, first_offence-append, answer-two, answer-Ok, answer-Err}
+use Rattle.dp_check.proofs.AnswerLemmas.{and_then, first_offence-append, answer-two, answer-Ok}
 use Rattle.dp_check.proofs.TableLemmas.{with_variables-append}
 
 pub trees_answer-is : (raw : RawProgram) → trees_answer raw

@@ -11,7 +11,7 @@ use Rattle.dp_check.specs.declared.fail.CheckFail.{CheckFail}
 use Rattle.dp_check.specs.declared.fail.CheckFail.TheVariants.{NoMemory}
 use Rattle.dp_check.specs.declared.place.Place.{Place}
 use Rattle.dp_check.specs.Names.{Named}
-use Rattle.dp_check.specs.Offence.{Token, Declares, offence, first_offence}
+use Rattle.dp_check.specs.Offence.{Declares, offence, first_offence}
 use Rattle.dp_check.specs.Place.{after_params}
 use Rattle.dp_check.specs.Tokens.{token, expr_tokens, args_tokens, tokens, tokens_all, params_tokens}
 use Rattle.dp_check.specs.Resolved.{resolved_expr, resolved, resolved_all, resolved_top, resolved_main, param_variables, next_variable}

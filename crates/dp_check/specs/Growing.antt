@@ -1,11 +1,11 @@
 -- Tables as they grow.
-use Rattle.std.specs.Prelude.{ℕ, ◌+◌, List, [], ◌∷◌, ◌++◌, length}
+use Rattle.std.specs.Prelude.{ℕ, ◌+◌, List, ◌++◌, length}
 use Rattle.dp_tree.specs.declared.VarInfo.{VarInfo}
 use Rattle.dp_tree.specs.declared.SiteInfo.{SiteInfo}
 use Rattle.dp_tree.specs.declared.raw.RawStmt.{RawStmt, out-RawStmt}
 use Rattle.dp_check.specs.declared.variables.Variables.{Variables}
 use Rattle.dp_check.specs.declared.sites.Sites.{Sites}
-use Rattle.dp_check.specs.Place.{Part, parts}
+use Rattle.dp_check.specs.Place.{parts}
 use Rattle.dp_check.specs.Tables.{laid, sites_of, region_of, top_region, main_sites, regions_from}
 use Rattle.dp_check.specs.Limits.{cell_sum}
 

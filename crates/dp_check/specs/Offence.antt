@@ -1,10 +1,10 @@
 -- What offends at a name of the text.
-use Rattle.std.specs.Prelude.{ℕ, Bool, true, false, not, ◌&&◌, ◌==◌, List, [], ◌∷◌, Option, Some, None, is_some, if◌then◌else◌}
+use Rattle.std.specs.Prelude.{ℕ, Bool, true, false, not, ◌==◌, List, [], ◌∷◌, Option, Some, None, is_some, if◌then◌else◌}
 use Rattle.dp_tree.specs.declared.raw.Name.{Name}
 use Rattle.dp_check.specs.declared.fail.CheckFail.{CheckFail}
 use Rattle.dp_check.specs.declared.fail.CheckFail.TheVariants.{Unknown, Twice, NotArray, NotScalar, Arguments, ReadOnly}
 use Rattle.dp_check.specs.declared.names.Meaning.{Meaning}
-use Rattle.dp_check.specs.declared.names.Meaning.TheVariants.{Scalar, Array, Input, InputLen, Function}
+use Rattle.dp_check.specs.declared.names.Meaning.TheVariants.{Array, Input, InputLen, Function}
 use Rattle.dp_check.specs.Names.{Named, named}
 
 -- what a name is written for; a call gives the number of its arguments

@@ -1,6 +1,5 @@
 -- What a piece of the text declares, and the place after it.
-use Rattle.std.specs.Prelude.{ℕ, suc, ◌+◌, List, [], ◌∷◌, ◌++◌, length, pos}
-use Rattle.dp_base.specs.declared.VarId.{VarId}
+use Rattle.std.specs.Prelude.{ℕ, suc, ◌+◌, List, [], ◌∷◌, ◌++◌}
 use Rattle.dp_tree.specs.declared.raw.Name.{Name}
 use Rattle.dp_tree.specs.declared.raw.RawStmt.{RawStmt, Row_of-RawStmt, end_of-RawStmt, more_of-RawStmt}
 use Rattle.dp_tree.specs.declared.raw.RawStmt.TheVariants.{Declare, Assign, Store, Call, Print, If', While'}
@@ -9,7 +8,6 @@ use Rattle.dp_tree.specs.declared.SiteKind.TheVariants as kind
 use Rattle.dp_check.specs.declared.names.Meaning.{Meaning}
 use Rattle.dp_check.specs.declared.names.Meaning.TheVariants.{Scalar}
 use Rattle.dp_check.specs.declared.place.Place.{Place}
-use Rattle.dp_check.specs.Names.{Named}
 
 -- what a program gets from a piece of its text: a site, a local variable, or a call on a line
 pub data Part : Type 0 where

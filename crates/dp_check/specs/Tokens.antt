@@ -1,6 +1,5 @@
 -- The names of a text in their order, each with the names that are visible there.
-use Rattle.std.specs.Prelude.{ℕ, List, [], ◌∷◌, ◌++◌, length}
-use Rattle.std.specs.List.{flat_map}
+use Rattle.std.specs.Prelude.{List, [], ◌∷◌, ◌++◌, length}
 use Rattle.dp_tree.specs.declared.raw.Name.{Name}
 use Rattle.dp_tree.specs.declared.raw.RawExpr.{RawExpr, end_of-RawExpr, more_of-RawExpr}
 use Rattle.dp_tree.specs.declared.raw.RawExpr.TheVariants as expr

@@ -1,6 +1,5 @@
-use Rattle.std.proofs.Common.{◌≡◌, drop, ◌+◌, ℕ, ◌<◌, ◌≤◌, length, sym, ap, ◌∙◌, refl, rules, arith}
+use Rattle.std.proofs.Common.{drop, ◌+◌, ◌<◌, length, sym, ap, ◌∙◌, refl, rules, arith}
 use Rattle.std.proofs.lemmas.Grind.{common_steps}
-use Rattle.dp_check.specs.Names.{Named}
 use Rattle.dp_check.specs.Answer.{expr_answer, args_answer}
 use Rattle.dp_check.proofs.AnswerLemmas.{onto, onto-all}
 use Rattle.dp_check.proofs.LoopLemmas.{loop_more, loop_refused, loop_end}

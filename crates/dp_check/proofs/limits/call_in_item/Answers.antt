@@ -1,11 +1,6 @@
-use Rattle.std.proofs.Common.{◌≡◌, ℕ, ◌+◌, ◌<◌, ◌≤◌, ◌++◌, min, length, drop, map, List, ◌∷◌, [], Some, None, sym, ap, subst, ◌∙◌, refl, rules, arith}
-use Rattle.std.proofs.lemmas.Grind.{common_steps}
-use Rattle.std.specs.List.{flat_map}
-use Rattle.std.proofs.lemmas.List.{at_drop_more, at_drop_all}
-use Rattle.dp_check.specs.Place.{parts, parts_all}
-use Rattle.dp_check.specs.Tables.{globals, global_of, item_parts}
-use Rattle.dp_check.specs.Limits.{calls_of, first_line, reported, functions_in, function_count, cell_sum, global_cells}
-use Rattle.dp_check.proofs.LoopLemmas.{fold_more, fold_end}
+use Rattle.std.proofs.Common.{sym, ap, ◌∙◌}
+use Rattle.dp_check.specs.Place.{parts_all}
+use Rattle.dp_check.specs.Limits.{calls_of, first_line}
 use Rattle.dp_check.proofs.LimitLemmas as limits
 use Rattle.dp_check.proofs.limits.call_in_item.Goals as goal
 

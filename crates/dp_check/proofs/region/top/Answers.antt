@@ -1,10 +1,10 @@
-use Rattle.std.proofs.Common.{◌≡◌, false, true, sym, ap, subst, ◌∙◌, OnOk, rules, arith}
+use Rattle.std.proofs.Common.{◌≡◌, false, true, sym, ap, subst, ◌∙◌, OnOk}
 use Rattle.dp_tree.specs.declared.raw.RawStmt.{RawStmt}
 use Rattle.dp_tree.specs.declared.Stmt.{Stmt}
 use Rattle.std.proofs.Common.{Result}
 use Rattle.dp_check.specs.declared.fail.CheckFail.{CheckFail}
 use Rattle.dp_check.specs.declared.place.Place.{Place}
-use Rattle.dp_check.specs.Place.{parts_all, passed, after}
+use Rattle.dp_check.specs.Place.{after}
 use Rattle.dp_check.specs.Resolved.{is_region}
 use Rattle.dp_check.specs.Answer.{Gives, top_answer}
 use Rattle.dp_check.proofs.PlaceLemmas.{after-While}

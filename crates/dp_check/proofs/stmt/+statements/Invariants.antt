@@ -1,5 +1,4 @@
-use Rattle.std.proofs.Common.{◌≡◌, ◌+◌, drop, length}
-use Rattle.dp_check.specs.Place.{parts_all, local_count, site_count}
+use Rattle.std.proofs.Common.{◌≡◌, drop}
 use Rattle.dp_check.specs.Answer.{block_answer}
 use Rattle.dp_check.proofs.AnswerLemmas.{onto}
 use Rattle.dp_check.proofs.PlaceLemmas.{BlockSoFar}

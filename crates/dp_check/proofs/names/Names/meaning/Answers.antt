@@ -1,6 +1,6 @@
-use Rattle.std.proofs.Common.{map, ap, sym, ◌∙◌}
+use Rattle.std.proofs.Common.{ap, sym, ◌∙◌}
 use Rattle.dp_check.specs.Names.{named}
-use Rattle.dp_check.proofs.NamesLemmas.{shown, named-shown}
+use Rattle.dp_check.proofs.NamesLemmas.{named-shown}
 use Rattle.dp_check.proofs.names.Names.meaning.Goals as goal
 
 pub returns : goal.returns
