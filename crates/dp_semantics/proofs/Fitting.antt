@@ -77,41 +77,41 @@ module _ (p : Program) (plan : Plan) where
   single (s ∷ t ∷ rest) e = absurd (cc)
 
   -- The statements before and behind it.
-  record Split (main : List Stmt) (s : Stmt) : Type 0 where
+  pub record Split (main : List Stmt) (s : Stmt) : Type 0 where
     pub front : List Stmt
     pub tail : List Stmt
     pub main_is : main ≡ front ++ s ∷ tail
     pub front_free : all_free plan.region front ≡ true
     pub tail_free : all_free plan.region tail ≡ true
 
-  free_alone : (x : Stmt) → is_region_at plan.region x ≡ false → region_alone plan x ≡ true → is_free plan.region x ≡ true
+  free_alone : (x : Stmt) → is_region_at plan.region x ≡ false → region_alone plan.region x ≡ true → is_free plan.region x ≡ true
   free_alone x e q = sym (ap (λ (b : Bool). b || is_free plan.region x) e) ∙ q
 
   -- the regions found from x on
   abbrev found_with : Bool → Stmt → List Stmt → List Stmt
   found_with b x rest = if b then x ∷ filter (is_region_at plan.region) rest else filter (is_region_at plan.region) rest
 
-  none_found : (main : List Stmt) → filter (is_region_at plan.region) main ≡ [] → list_all (region_alone plan) main ≡ true → all_free plan.region main ≡ true
+  none_found : (main : List Stmt) → filter (is_region_at plan.region) main ≡ [] → list_all (region_alone plan.region) main ≡ true → all_free plan.region main ≡ true
   none_found [] e q = refl
   none_found (x ∷ rest) e q = by (is_region_at plan.region x) refl e (none_found rest)
     where
-      parts : (region_alone plan x ≡ true) × (list_all (region_alone plan) rest ≡ true)
-      parts = and_true (region_alone plan x) (list_all (region_alone plan) rest) q
+      parts : (region_alone plan.region x ≡ true) × (list_all (region_alone plan.region) rest ≡ true)
+      parts = and_true (region_alone plan.region x) (list_all (region_alone plan.region) rest) q
 
       by : (b : Bool) → is_region_at plan.region x ≡ b → found_with b x rest ≡ [] →
-          (filter (is_region_at plan.region) rest ≡ [] → list_all (region_alone plan) rest ≡ true → all_free plan.region rest ≡ true) → all_free plan.region (x ∷ rest) ≡ true
+          (filter (is_region_at plan.region) rest ≡ [] → list_all (region_alone plan.region) rest ≡ true → all_free plan.region rest ≡ true) → all_free plan.region (x ∷ rest) ≡ true
       by true is found go = absurd (cc)
       by false is found go = and_make (is_free plan.region x) (all_free plan.region rest) (free_alone x is parts.0) (go found parts.1)
 
-  split_of : (main : List Stmt) (s : Stmt) → filter (is_region_at plan.region) main ≡ s ∷ [] → list_all (region_alone plan) main ≡ true → Split main s
+  pub split_of : (main : List Stmt) (s : Stmt) → filter (is_region_at plan.region) main ≡ s ∷ [] → list_all (region_alone plan.region) main ≡ true → Split main s
   split_of [] s e q = absurd (cc)
   split_of (x ∷ rest) s e q = by (is_region_at plan.region x) refl e (split_of rest s)
     where
-      parts : (region_alone plan x ≡ true) × (list_all (region_alone plan) rest ≡ true)
-      parts = and_true (region_alone plan x) (list_all (region_alone plan) rest) q
+      parts : (region_alone plan.region x ≡ true) × (list_all (region_alone plan.region) rest ≡ true)
+      parts = and_true (region_alone plan.region x) (list_all (region_alone plan.region) rest) q
 
       by : (b : Bool) → is_region_at plan.region x ≡ b → found_with b x rest ≡ s ∷ [] →
-          (filter (is_region_at plan.region) rest ≡ s ∷ [] → list_all (region_alone plan) rest ≡ true → Split rest s) → Split (x ∷ rest) s
+          (filter (is_region_at plan.region) rest ≡ s ∷ [] → list_all (region_alone plan.region) rest ≡ true → Split rest s) → Split (x ∷ rest) s
       by true is found go =
           let same : x ≡ s = cc in
           let none : filter (is_region_at plan.region) rest ≡ [] = cc in
@@ -148,7 +148,7 @@ module _ (p : Program) (plan : Plan) where
       let one = and_true (lies_in_order plan.region 0 p.vars) _ e in
       let two = and_true (list_all (access_known p plan) (region_accesses p plan)) _ one.1 in
       let three = and_true (one_region p plan (region_statement p plan)) _ two.1 in
-      let four = and_true (list_all (region_alone plan) p.main) (kinds_fit plan) three.1 in
+      let four = and_true (list_all (region_alone plan.region) p.main) (kinds_fit plan) three.1 in
       let found = single (region_statement p plan) three.0 in
       let it = found.2 in
       let split = split_of p.main found.0 found.1 four.0 in

@@ -30,5 +30,7 @@ pub mod Paths
 pub mod Central
 pub mod InOrder
 pub mod Fitting
+pub mod Alone
+pub mod RegionSites
 pub mod OneStage
 pub mod Recovering

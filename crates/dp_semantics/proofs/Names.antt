@@ -20,17 +20,17 @@ pub use Rattle.dp_tree.specs.declared.Stmt.TheOpen.{Assign, Call, If, Print, Reg
 pub use Rattle.dp_tree.specs.declared.Stmt.TheVariants.{outs-If}
 pub use Rattle.dp_tree.specs.declared.Stmt.TheViews.{rolls-Assign, rolls-Call, rolls-If, rolls-Print, rolls-Region, rolls-Store, rolls-While}
 pub use Rattle.dp_tree.specs.declared.VarInfo.{VarInfo}
-pub use Rattle.dp_plan.specs.Access.{Access, accesses, accesses_in, first_site, is_body_local, is_checked, is_checked_access, is_local, is_par, is_region_at, is_replicated, is_same_variable, is_stored_after, is_stored_beside, loaded_by, may_differ, region_accesses, region_statement, stage_of, stores_var}
+pub use Rattle.dp_plan.specs.Access.{Access, accesses, accesses_in, first_site, is_body_local, is_checked, is_checked_access, is_local, is_par, is_region_at, is_replicated, is_same_variable, is_stored_after, is_stored_beside, loaded_by, may_differ, region_accesses, region_in, region_statement, stage_of, stores_var}
 pub use Rattle.dp_plan.specs.declared.Plan.{Plan}
 pub use Rattle.dp_plan.specs.declared.StageKind.{StageKind}
 pub use Rattle.dp_plan.specs.declared.StageKind.TheVariants.{Par, Seq}
 pub use Rattle.dp_semantics.specs.Clean.{all_agree, as_assumed, count_from, event_agrees, event_as_assumed, event_words, events_since, fits_words, goes_as, int_eq, is_clean, loads_agree, pushed, went, word_count, words_at}
-pub use Rattle.dp_semantics.specs.Fits.{access_known, fits_plan, has_cell, is_inner, kinds_apart, kinds_fit, lies_in_order, one_region, region_alone, region_fits, stores_known}
+pub use Rattle.dp_semantics.specs.Fits.{access_known, fits_plan, has_cell, is_inner, is_numbered, is_single, kinds_apart, kinds_fit, lies_between, lies_in_order, one_region, region_alone, region_fits, stands_alone, stores_known}
 pub use Rattle.dp_semantics.specs.Judge.{Agreed, Clean, judge, judge_at, judge_by, judge_lists, judge_spent, judge_status, judge_step, judged, judged_by, Judgement, Judging, last, loads_hold, Unclean}
 unfoldable pub use Rattle.dp_semantics.specs.Judge.{judge_from}
 pub use Rattle.dp_semantics.specs.Laws.{CleanInOneStage, RecoversInOrder}
 pub use Rattle.dp_semantics.specs.Nesting.{is_free, is_free_in, none_earlier, well_nested, well_nested_in}
-pub use Rattle.dp_semantics.specs.OneStage.{one_stage_plan}
+pub use Rattle.dp_semantics.specs.OneStage.{one_stage_plan, sites_between}
 pub use Rattle.dp_semantics.specs.Packets.{at_kind, at_replicated, at_sequential, Broken, cleared, Closing, Epoch, Going, Packet, Passed, passed, passed_by, passed_on, run_on, Status, status_of}
 pub use Rattle.dp_semantics.specs.Project.{assumed_in, branch_of, project, project_all, project_in, where_reached}
 pub use Rattle.dp_semantics.specs.Recovery.{epoch, is_recovered}
@@ -39,3 +39,5 @@ pub use Rattle.dp_semantics.specs.StageRun.{consumed, consumed_step, Ended, is_z
 unfoldable pub use Rattle.dp_semantics.specs.StageRun.{turn_from}
 pub use Rattle.dp_semantics.specs.Verdict.{applied, CleanSince, effect_in, epoch_at, Follows, Judged, JudgesEpochs, JudgesRightly, status_when, StoresLead, whole_run, words_at_stage}
 pub use Rattle.dp_semantics.specs.Words.{after_loads_of, Astray, done_from, done_word, effect_by, Full, is_cell_of, is_done_of, is_load_of, load_word, load_words, Taken, taken_by, taken_from, Void, word_list, words_in, words_of}
+pub use Rattle.dp_tree.specs.declared.RegionInfo.{RegionInfo}
+pub use Rattle.dp_plan.specs.Stage.{first_site_of}

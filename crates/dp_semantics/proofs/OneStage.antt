@@ -1,16 +1,14 @@
 -- In one stage an iteration is clean where it has ended and its events fit.
-use Rattle.std.proofs.Common.{◌≡◌, ◌⊎◌, inl, inr, refl, sym, ap, ◌∙◌, subst, ℕ, suc, ◌+◌, ◌==◌, Bool, true, false, not, ◌&&◌, ◌||◌, if◌then◌else◌, List, [], ◌∷◌, ℤ, length, nat_le, nat_lt, Option, Some, None, arith, eq-eqb, ne_eqb}
+use Rattle.std.proofs.lemmas.List.{get_or-replicate}
+use Rattle.std.proofs.Common.{◌≤◌, ◌-◌, leb-true, replicate, slice_get, slice_index, ◌≡◌, ◌⊎◌, inl, inr, refl, sym, ap, ◌∙◌, subst, ℕ, suc, ◌+◌, ◌==◌, Bool, true, false, not, ◌&&◌, ◌||◌, if◌then◌else◌, List, [], ◌∷◌, ℤ, length, nat_le, nat_lt, Option, Some, None, arith, eq-eqb, ne_eqb}
 use Rattle.std.proofs.lemmas.Bool.{cases_eq}
 use Rattle.std.proofs.lemmas.List.Sums.{sum_by-cons}
-use Rattle.std.specs.List.{list_any, list_all}
-use Rattle.dp_semantics.proofs.Names.{Program, Plan, Event, start, iteration, has_ended, events_from, memory_after, Access, stage_of, stores_var, is_replicated, is_body_local, region_accesses, is_stored_after, is_stored_beside, may_differ, is_checked_access, is_checked, Past, loads_agree, all_agree, event_as_assumed, events_since, event_words, words_at, word_count, one_stage_plan, fits_plan, whole_run, CleanInOneStage}
-use Rattle.dp_semantics.proofs.Each.{Each, each_map, none_make}
-use Rattle.dp_semantics.proofs.Heads.{accesses_all}
-use Rattle.dp_semantics.proofs.Setting.{Sound, Accepted}
-use Rattle.dp_semantics.proofs.Whole.{turn_of, turn_well, turn_sound}
-use Rattle.dp_semantics.proofs.Iterations.{iteration_is}
-use Rattle.dp_semantics.proofs.Paths.{events_at}
-use Rattle.dp_semantics.proofs.Fitting.{accepted}
+use Rattle.std.specs.List.{list_any, list_all, flat_map}
+use Rattle.dp_semantics.proofs.Names.{Program, Plan, Stmt, RegionInfo, Event, iteration, has_ended, memory_after, Access, accesses, stage_of, first_site_of, stores_var, is_replicated, is_body_local, is_region_at, region_in, region_accesses, is_stored_after, is_stored_beside, may_differ, is_checked_access, is_checked, Past, loads_agree, all_agree, event_as_assumed, events_since, event_words, words_at, word_count, one_stage_plan, sites_between, lies_between, is_numbered, is_single, region_alone, stands_alone, whole_run, CleanInOneStage}
+use Rattle.dp_semantics.proofs.Each.{Each, each_map, each_split, and_true, all_of, none_make}
+use Rattle.dp_semantics.proofs.Fitting.{split_of}
+use Rattle.dp_semantics.proofs.Alone.{Lone, AtSite, found_is}
+use Rattle.dp_semantics.proofs.RegionSites.{iteration_sites}
 
 and_off : (b c : Bool) → c ≡ false → (b && c) ≡ false
 and_off true c e = e
@@ -21,29 +19,43 @@ never_beside true false c d e = refl
 never_beside false false c d e = refl
 never_beside a true c d e = absurd (cc)
 
-module _ (p : Program) (r : ℕ) (a : Accepted p (one_stage_plan p r)) where
+numbered_first : (p : Program) (r site : ℕ) (o : Option RegionInfo) → slice_get p.regions (r - 1) ≡ o → lies_between site o ≡ true → stage_of p (one_stage_plan p r) site ≡ 1
+numbered_first p r site None e h = absurd (cc)
+numbered_first p r site (Some info) e h =
+    let both = and_true (nat_le info.first.0 site) (nat_le site info.last.0) h in
+    let low : info.first.0 ≤ site = leb-true info.first.0 site both.0 in
+    let high : site ≤ info.last.0 = leb-true site info.last.0 both.1 in
+    ap (λ (u : Option RegionInfo). if nat_le (first_site_of u) site then slice_index (replicate (sites_between u) 1) (site - first_site_of u) else 0) e
+    ∙ ap (λ (b : Bool). if b then slice_index (replicate (suc info.last.0 - info.first.0) 1) (site - info.first.0) else 0) both.0
+    ∙ get_or-replicate (suc info.last.0 - info.first.0) (site - info.first.0) 1 0 (omega (arith, low, high))
+
+module _ (p : Program) (r : ℕ) (alone : stands_alone p r ≡ true) where
   abbrev plan : Plan
   plan = one_stage_plan p r
 
-  first_stage : (u : Access) → Sound p plan u → stage_of p plan u.site ≡ 1
-  first_stage u s = omega (arith, s.staged, s.early)
+  -- a site of the one stage
+  abbrev First : Access → Type 0
+  First u = stage_of p plan u.site ≡ 1
 
-  all_first : Each (λ u. stage_of p plan u.site ≡ 1) (region_accesses p plan)
-  all_first = each_map (Sound p plan) (λ u. stage_of p plan u.site ≡ 1) first_stage (region_accesses p plan) a.sound
+  tests : (is_single (region_in p r) ≡ true) × (list_all (region_alone r) p.main ≡ true) × (list_all (is_numbered p r) (region_accesses p plan) ≡ true)
+  tests = let one = and_true (is_single (region_in p r)) _ alone in let two = and_true (list_all (region_alone r) p.main) (list_all (is_numbered p r) (region_accesses p plan)) one.1 in (one.0, two.0, two.1)
+
+  all_first : Each First (region_accesses p plan)
+  all_first = each_map (λ u. is_numbered p r u ≡ true) First (λ u h. numbered_first p r u.site (slice_get p.regions (r - 1)) refl h) (region_accesses p plan) (all_of (is_numbered p r) (region_accesses p plan) tests.2)
 
   same_there : (x : ℕ) → may_differ p plan 1 x ≡ false
   same_there x =
       ap (λ (b : Bool). b || list_any (is_stored_beside p plan 1 x) (region_accesses p plan)) (none_make (is_stored_after p plan 1 x) (region_accesses p plan)
-      (each_map (λ u. stage_of p plan u.site ≡ 1) (λ d. is_stored_after p plan 1 x d ≡ false) (λ d e. and_off (stores_var x d) (nat_lt 1 (stage_of p plan d.site)) (ap (nat_lt 1) e)) (region_accesses p plan) all_first))
+      (each_map First (λ d. is_stored_after p plan 1 x d ≡ false) (λ d e. and_off (stores_var x d) (nat_lt 1 (stage_of p plan d.site)) (ap (nat_lt 1) e)) (region_accesses p plan) all_first))
       ∙ none_make (is_stored_beside p plan 1 x) (region_accesses p plan)
-      (each_map (λ u. stage_of p plan u.site ≡ 1) (λ d. is_stored_beside p plan 1 x d ≡ false) (λ d e. never_beside (stores_var x d) (is_replicated plan 1) (stage_of p plan d.site == 1) (not (is_body_local p plan x)) refl) (region_accesses p plan) all_first)
+      (each_map First (λ d. is_stored_beside p plan 1 x d ≡ false) (λ d e. never_beside (stores_var x d) (is_replicated plan 1) (stage_of p plan d.site == 1) (not (is_body_local p plan x)) refl) (region_accesses p plan) all_first)
 
   every : {X : Type 0} (Q : X → Type 0) → ((x : X) → Q x) → (xs : List X) → Each Q xs
   every Q f [] = tt
   every Q f (x ∷ xs) = (f x, every Q f xs)
 
   unchecked : (site : ℕ) → is_checked p plan site ≡ false
-  unchecked site = none_make (is_checked_access p plan site) (region_accesses p plan) (each_map (λ u. stage_of p plan u.site ≡ 1) (λ u. is_checked_access p plan site u ≡ false) here (region_accesses p plan) all_first)
+  unchecked site = none_make (is_checked_access p plan site) (region_accesses p plan) (each_map First (λ u. is_checked_access p plan site u ≡ false) here (region_accesses p plan) all_first)
     where
       here : (u : Access) → stage_of p plan u.site ≡ 1 → is_checked_access p plan site u ≡ false
       here u one = by (cases_eq u.site site)
@@ -76,19 +88,28 @@ module _ (p : Program) (r : ℕ) (a : Accepted p (one_stage_plan p r)) where
   four_tests true false y z w e f g = absurd (cc)
   four_tests true true false z w e f g = absurd (cc)
 
-  turn_first : Each (λ u. stage_of p plan u.site ≡ 1) (accesses_all (turn_of a))
-  turn_first = each_map (Sound p plan) (λ u. stage_of p plan u.site ≡ 1) first_stage (accesses_all (turn_of a)) (turn_sound a)
+  single : (found : List Stmt) → is_single found ≡ true → (s : Stmt) × (found ≡ s ∷ [])
+  single [] e = absurd (cc)
+  single (s ∷ []) e = (s, refl)
+  single (s ∷ t ∷ rest) e = absurd (cc)
+
+  lone : Lone p r First
+  lone =
+      let found = single (region_in p r) tests.0 in
+      let split = split_of p plan p.main found.0 found.1 tests.1 in
+      record {
+        statement = found.0;
+        front = split.front;
+        tail = split.tail;
+        at = found_is (is_region_at r) p.main found.0 found.1;
+        main = split.main_is;
+        front_free = split.front_free;
+        tail_free = split.tail_free;
+        sites = (each_split First (accesses found.0) [] (subst (λ (xs : List Stmt). Each First (flat_map accesses xs)) found.1 all_first)).0;
+      }
 
   all_events : (input : List ℤ) (fuel i : ℕ) → Each (λ event. stage_of p plan event.site ≡ 1) (iteration (whole_run p input fuel) r i)
-  all_events input fuel i = by (start (whole_run p input fuel) r i) refl
-    where
-      at_one : (event : Event) → (u : Access) × (u.site ≡ event.site) × (stage_of p plan u.site ≡ 1) → stage_of p plan event.site ≡ 1
-      at_one event found = ap (stage_of p plan) (sym found.1) ∙ found.2
-
-      by : (o : Option ℕ) → start (whole_run p input fuel) r i ≡ o → Each (λ event. stage_of p plan event.site ≡ 1) (iteration (whole_run p input fuel) r i)
-      by None e = subst (λ (es : List Event). Each (λ event. stage_of p plan event.site ≡ 1) es) (sym (ap (λ (o : Option ℕ). events_from (whole_run p input fuel) o (start (whole_run p input fuel) r (suc i))) e)) tt
-      by (Some k) e = each_map (λ event. (u : Access) × (u.site ≡ event.site) × (stage_of p plan u.site ≡ 1)) (λ event. stage_of p plan event.site ≡ 1) at_one (iteration (whole_run p input fuel) r i)
-          (events_at p plan (λ u. stage_of p plan u.site ≡ 1) (iteration_is a input fuel i k e).path (turn_well a) turn_first)
+  all_events input fuel i = each_map (AtSite First) (λ event. stage_of p plan event.site ≡ 1) (λ event found. ap (stage_of p plan) (sym found.1) ∙ found.2) (iteration (whole_run p input fuel) r i) (iteration_sites lone input fuel i)
 
   clean_is : CleanInOneStage p r
   clean_is input fuel e i =
@@ -96,5 +117,5 @@ module _ (p : Program) (r : ℕ) (a : Accepted p (one_stage_plan p r)) where
       (all_seen (memory_after (whole_run p input fuel) r e) i (events_since (whole_run p input fuel) r e i) (iteration (whole_run p input fuel) r i)) (none_assumed (iteration (whole_run p input fuel) r i))
       (ap (λ (n : ℕ). nat_le n 4096) (one_word (iteration (whole_run p input fuel) r i) (all_events input fuel i)))
 
-pub clean_in_one_stage : (p : Program) (r : ℕ) → fits_plan p (one_stage_plan p r) ≡ true → CleanInOneStage p r
-clean_in_one_stage p r e = clean_is p r (accepted p (one_stage_plan p r) e)
+pub clean_in_one_stage : (p : Program) (r : ℕ) → stands_alone p r ≡ true → CleanInOneStage p r
+clean_in_one_stage p r alone = clean_is p r alone

@@ -18,7 +18,7 @@ module _ (r : ℕ) where
   free_parts (Region q site cond a) w = (and_true (not (q == r)) (all_free r a) w).1
   free_parts _ w = tt
 
-  free_next : (x : Stmt) (rest : List Stmt) (z : ℤ) → all_free r (x ∷ rest) ≡ true → all_free r (followed x rest (out-Stmt x) z) ≡ true
+  pub free_next : (x : Stmt) (rest : List Stmt) (z : ℤ) → all_free r (x ∷ rest) ≡ true → all_free r (followed x rest (out-Stmt x) z) ≡ true
   free_next x rest z w =
       let parts = and_true (is_free r x) (all_free r rest) w in
       followed_has (λ xs. all_free r xs ≡ true) (all_joins (is_free r)) x rest (out-Stmt x) z w parts.1 (free_parts (out-Stmt x) (sym (free_out r x) ∙ parts.0))
@@ -46,7 +46,7 @@ free_well_all : (p : Program) (plan : Plan) (r : ℕ) (xs : List Stmt) → all_w
 free_well_all p plan r [] w = refl
 free_well_all p plan r (x ∷ xs) w = let both = and_true (well_nested p plan x) (all_well p plan xs) w in and_make (is_free r x) (all_free r xs) (free_well p plan r x both.0) (free_well_all p plan r xs both.1)
 
-cleared-length : (p : Program) (cells : List ℤ) (h : Stmt-F Stmt) → length (cleared_at p h cells) ≡ length cells
+pub cleared-length : (p : Program) (cells : List ℤ) (h : Stmt-F Stmt) → length (cleared_at p h cells) ≡ length cells
 cleared-length p cells (Region q site cond a) = clear-length q p.vars cells
 cleared-length p cells _ = refl
 
@@ -60,9 +60,9 @@ module _ (p : Program) (input : List ℤ) (n : ℕ) (I : List Stmt → Type 0) (
       ((to_do : List Stmt) (cells : List ℤ) → I to_do → length cells ≡ n → Each At (run_of p input m (standing p to_do cells)).configs) → Each At (run_of p input (suc m) c).configs
   next_at x rest cells i long Finished leads m c e here go = subst (λ (run : Run). Each At run.configs) (sym (run_step p input m c Finished e)) (here, tt)
   next_at x rest cells i long (Faulted fault) leads m c e here go = subst (λ (run : Run). Each At run.configs) (sym (run_step p input m c (Faulted fault) e)) (here, tt)
-  next_at x rest cells i long (Stepped event next) (v, to) m c e here go =
+  next_at x rest cells i long (Stepped event next) leads m c e here go =
       subst (λ (run : Run). Each At run.configs) (sym (run_step p input m c (Stepped event next) e))
-      (here, subst (λ (d : Config). Each At (run_of p input m d).configs) (sym to) (go (followed x rest (out-Stmt x) (value_of v.value)) (stored v.value cells) (keeps x rest (value_of v.value) i) (stored-length v.value cells ∙ long)))
+      (here, subst (λ (d : Config). Each At (run_of p input m d).configs) (sym leads.1) (go (followed x rest (out-Stmt x) (value_of leads.0.value)) (stored leads.0.value cells) (keeps x rest (value_of leads.0.value) i) (stored-length leads.0.value cells ∙ long)))
 
   pub all_at : (m : ℕ) (to_do : List Stmt) (cells : List ℤ) → I to_do → length cells ≡ n → Each At (run_of p input m (standing p to_do cells)).configs
   unfolding run_of

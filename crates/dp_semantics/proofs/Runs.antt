@@ -69,18 +69,20 @@ module _ (p : Program) (input : List ℤ) where
   abbrev pub Leads : Stmt → List Stmt → List ℤ → Step → Type 0
   Leads x rest cells Finished = Unit {0}
   Leads x rest cells (Faulted fault) = Unit {0}
-  Leads x rest cells (Stepped event next) = (v : WithLoads Effect) × (next ≡ standing p (followed x rest (out-Stmt x) (value_of v.value)) (stored v.value cells))
+  Leads x rest cells (Stepped event next) = (v : WithLoads Effect) × (next ≡ standing p (followed x rest (out-Stmt x) (value_of v.value)) (stored v.value cells)) × (event ≡ event_of (out-Stmt x) v)
+      × (is_step (out-Stmt x) ≡ true) × (evaluated p input cells (out-Stmt x) ≡ Ok v)
 
   pub step_leads : (x : Stmt) (rest : List Stmt) (cells : List ℤ) → Leads x rest cells (step p input (record { to_do = x ∷ rest; cells = cells }))
   step_leads x rest cells = by (out-Stmt x) refl
     where
-      made : (h : Stmt-F Stmt) → out-Stmt x ≡ h → (r : Evaluated Effect) → Leads x rest cells (step_by p (site_of h) cells r (followed x rest h))
-      made h e (Ok v) = (v, ap (λ (g : Stmt-F Stmt). standing p (followed x rest g (value_of v.value)) (stored v.value cells)) (sym e))
-      made h e (Err kind) = tt
+      made : (h : Stmt-F Stmt) → out-Stmt x ≡ h → is_step h ≡ true → (r : Evaluated Effect) → evaluated p input cells h ≡ r → Leads x rest cells (step_by p (site_of h) cells r (followed x rest h))
+      made h e step (Ok v) gave =
+          (v, ap (λ (g : Stmt-F Stmt). standing p (followed x rest g (value_of v.value)) (stored v.value cells)) (sym e), ap (λ (g : Stmt-F Stmt). event_of g v) (sym e), ap is_step e ∙ step, ap (evaluated p input cells) e ∙ gave)
+      made h e step (Err kind) gave = tt
 
       by : (h : Stmt-F Stmt) → out-Stmt x ≡ h → Leads x rest cells (step_at p input cells x rest h)
       by (Call f line args) e = tt
-      by h e = made h e (evaluated p input cells h)
+      by h e = made h e refl (evaluated p input cells h) refl
 
   -- The run from one of its configurations on.
   pub record From (m : ℕ) (c : Config) (front : List Config) (d : Config) (behind : List Config) : Type 0 where

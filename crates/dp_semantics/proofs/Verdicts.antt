@@ -1,10 +1,10 @@
 -- The judgement on an epoch's packets, against the source's iterations.
-use Rattle.std.proofs.Common.{◌≡◌, ◌⊎◌, inl, inr, refl, sym, ap, ◌∙◌, subst, ℕ, zero, suc, ◌+◌, ◌<◌, ◌≤◌, true, false, List, [], ◌∷◌, ◌++◌, ℤ, pos, length, get_or, length-append, map, Option, Some, None, slice_get, Ok, arith}
-use Rattle.dp_semantics.proofs.Names.{Word, Event, StageKind, Seq, Par, Plan, is_par, is_replicated, Past, pushed, word_list, TurnEnd, stage_run, Status, Going, Closing, Broken, Packet, Passed, Epoch, status_of, passed_by, run_on, cleared, at_sequential, at_replicated, at_kind, passed, Judgement, Agreed, Clean, judge, judge_lists, judge_status, last, effect_in}
-use Rattle.dp_semantics.proofs.Lockstep.{words_through, closing_after}
+use Rattle.std.proofs.Common.{◌≡◌, refl, sym, ap, ◌∙◌, ℕ, ◌≤◌, true, false, List, ℤ, length, map, arith}
+use Rattle.dp_semantics.proofs.Names.{Status, Going, Closing, Broken, Packet, Epoch, passed, Judgement, Agreed, Clean, judge, judge_lists, judge_status, effect_in}
+use Rattle.dp_semantics.proofs.Lockstep.{closing_after}
 use Rattle.dp_semantics.proofs.Whole.{MadeWithin, judge_whole, judge_whole_back}
 use Rattle.dp_semantics.proofs.PacketFacts.{live, status_live}
-use Rattle.dp_semantics.proofs.Epochs.{History, numbered, past_at, MakesAt, Gone, Ready, ready, Sent, Ends, claims_at}
+use Rattle.dp_semantics.proofs.Epochs.{History, numbered, past_at, MakesAt, Gone, ready, Sent, claims_at}
 
 module _ {k : Epoch} (h : History k) where
   open k use {program, plan}

@@ -1,14 +1,15 @@
--- What the central theorem asks of an inlined program and of a plan of one of its regions, as one test.
-use Rattle.std.specs.Prelude.{ℕ, ◌+◌, ◌==◌, Bool, true, false, not, ◌&&◌, ◌||◌, List, [], ◌∷◌, length, Option, Some, None, nat_lt, nat_le}
+-- What the theorems ask of an inlined program and of a plan of one of its regions, each as one test.
+use Rattle.std.specs.Prelude.{ℕ, ◌+◌, ◌-◌, slice_get, ◌==◌, Bool, true, false, not, ◌&&◌, ◌||◌, List, [], ◌∷◌, length, Option, Some, None, nat_lt, nat_le}
 use Rattle.std.specs.List.{list_all, flat_map}
 use Rattle.dp_tree.specs.declared.Stmt.{Stmt, out-Stmt}
 use Rattle.dp_tree.specs.declared.Stmt.TheOpen.{Stmt-F, Region}
 use Rattle.dp_tree.specs.declared.VarInfo.{VarInfo}
+use Rattle.dp_tree.specs.declared.RegionInfo.{RegionInfo}
 use Rattle.dp_tree.specs.declared.Program.{Program}
 use Rattle.dp_plan.specs.declared.Plan.{Plan}
 use Rattle.dp_tree.specs.Eval.{cell_count}
 use Rattle.dp_tree.specs.Step.{is_local_of}
-use Rattle.dp_plan.specs.Access.{Access, accesses, first_site, stage_of, is_replicated, is_region_at, region_statement, region_accesses}
+use Rattle.dp_plan.specs.Access.{Access, accesses, first_site, stage_of, is_replicated, is_region_at, region_in, region_statement, region_accesses}
 use Rattle.dp_semantics.specs.Clean.{count_from}
 use Rattle.dp_semantics.specs.Nesting.{well_nested, is_free}
 
@@ -46,9 +47,9 @@ one_region p plan [] = false
 one_region p plan (s ∷ []) = region_fits p plan (out-Stmt s)
 one_region p plan (s ∷ t ∷ rest) = false
 
--- no other statement of `main` has the region inside
-abbrev pub region_alone : Plan → Stmt → Bool
-region_alone plan s = is_region_at plan.region s || is_free plan.region s
+-- the statement is region r, or doesn't have it inside
+abbrev pub region_alone : ℕ → Stmt → Bool
+region_alone r s = is_region_at r s || is_free r s
 
 -- stage s and the next one aren't both replicated
 abbrev pub kinds_apart : Plan → ℕ → Bool
@@ -62,4 +63,21 @@ kinds_fit plan = not (is_replicated plan 1) && list_all (kinds_apart plan) (coun
 abbrev pub fits_plan : Program → Plan → Bool
 fits_plan p plan =
     lies_in_order plan.region 0 p.vars && (list_all (access_known p plan) (region_accesses p plan)
-    && (one_region p plan (region_statement p plan) && (list_all (region_alone plan) p.main && kinds_fit plan)))
+    && (one_region p plan (region_statement p plan) && (list_all (region_alone plan.region) p.main && kinds_fit plan)))
+
+-- the site has one of the numbers of a region's sites
+abbrev pub lies_between : ℕ → Option RegionInfo → Bool
+lies_between site None = false
+lies_between site (Some info) = nat_le info.first.0 site && nat_le site info.last.0
+
+abbrev pub is_numbered : Program → ℕ → Access → Bool
+is_numbered p r a = lies_between a.site (slice_get p.regions (r - 1))
+
+abbrev pub is_single : List Stmt → Bool
+is_single [] = false
+is_single (s ∷ []) = true
+is_single (s ∷ t ∷ rest) = false
+
+-- Region r stands once among the statements of `main`, no other one has it inside, and its sites have the region's numbers.
+abbrev pub stands_alone : Program → ℕ → Bool
+stands_alone p r = is_single (region_in p r) && (list_all (region_alone r) p.main && list_all (is_numbered p r) (flat_map accesses (region_in p r)))

@@ -1,9 +1,8 @@
 //! The laws of the definitions, as contracts of functions that do nothing: the central theorem first.
 
 ghost use Rattle.std.specs.Prelude.{◌≡◌, true};
-ghost use Rattle.dp_semantics.specs.Fits.{fits_plan};
+ghost use Rattle.dp_semantics.specs.Fits.{fits_plan, stands_alone};
 ghost use Rattle.dp_semantics.specs.Laws.{CleanInOneStage, RecoversInOrder};
-ghost use Rattle.dp_semantics.specs.OneStage.{one_stage_plan};
 ghost use Rattle.dp_semantics.specs.Verdict.{JudgesEpochs, JudgesRightly, StoresLead};
 
 use dp_plan::Plan;
@@ -22,7 +21,7 @@ pub fn judgement_is_the_sources(p: &Program, plan: &Plan)
 /// With all of a region in one stage an iteration is clean where it has ended and has at most 4,096 events.
 #[tactic(auto, using(crate::proofs::OneStage::clean_in_one_stage))]
 pub fn one_stage_is_clean(p: &Program, region: u32)
-    requires { fits_plan p.now (one_stage_plan p.now region) ≡ true }
+    requires { stands_alone p.now region ≡ true }
     ensures { CleanInOneStage p.now region }
 {}
 
