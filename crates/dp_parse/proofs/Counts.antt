@@ -1,5 +1,5 @@
 -- The counts over tokens, from a place on.
-use Rattle.std.proofs.Common.{◌≡◌, refl, ap, ap₂, ◌∙◌, sym, ℕ, zero, suc, ◌+◌, ◌-◌, ◌≤◌, ◌<◌, max, Bool, true, false, ◌&&◌, List, [], ◌∷◌, map, length, drop, get_or, count_by, if◌then◌else◌, drop-cons, add-one, arith}
+use Rattle.std.proofs.Common.{◌≡◌, refl, ap, ap₂, ◌∙◌, sym, ℕ, ◌+◌, ◌-◌, ◌≤◌, ◌<◌, max, Bool, true, false, ◌&&◌, List, [], ◌∷◌, map, length, drop, get_or, count_by, if◌then◌else◌, drop-cons, add-one, arith}
 use Rattle.std.proofs.lemmas.List.Sums.{sum_by-cons}
 use mir.Val.{bool_byte}
 use Rattle.std.proofs.lemmas.List.{drop_all}

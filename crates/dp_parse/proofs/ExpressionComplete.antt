@@ -1,5 +1,5 @@
 -- What the grammar derives as an expression, the descent reads.
-use Rattle.std.proofs.Common.{◌≡◌, refl, ap, ◌∙◌, sym, ℕ, zero, suc, ◌+◌, ◌-◌, ◌<◌, ◌≤◌, ℤ, pos, Bool, true, false, List, [], ◌∷◌, length, Option, Some, None, arith, subst}
+use Rattle.std.proofs.Common.{◌≡◌, ap, ◌∙◌, sym, ℕ, zero, suc, ◌-◌, ◌<◌, ◌≤◌, ℤ, pos, List, ◌∷◌, length, Option, Some, None, arith, subst}
 use Rattle.std.proofs.lemmas.Option.{same_Some}
 use Rattle.dp_base.specs.declared.UnOp.{UnOp}
 use Rattle.dp_lex.specs.Token.{Lexeme}
@@ -7,12 +7,11 @@ use Rattle.dp_tree.specs.declared.raw.Name.{Name as TreeName}
 use Rattle.dp_tree.specs.declared.raw.RawExpr.{RawExpr}
 use Rattle.dp_tree.specs.declared.raw.RawExpr.TheVariants as tree
 use Rattle.dp_parse.specs.declared.symbol.Symbol.{Symbol}
-use Rattle.dp_parse.specs.declared.symbol.Symbol.TheVariants.{Name, Number, OpenParen, CloseParen, OpenBracket, CloseBracket}
+use Rattle.dp_parse.specs.declared.symbol.Symbol.TheVariants.{Name, OpenParen, CloseParen, OpenBracket, CloseBracket}
 use Rattle.dp_parse.specs.declared.level.Level.{Level}
 use Rattle.dp_parse.specs.declared.level.Level.TheVariants as level
-use Rattle.dp_parse.specs.declared.level.Join.{Join}
 use Rattle.dp_parse.specs.Symbols.{symbol, symbol_at, Is}
-use Rattle.dp_parse.specs.Levels.{operands, joining, prefixing, joined}
+use Rattle.dp_parse.specs.Levels.{operands, joining, prefixing}
 use Rattle.dp_parse.specs.Leaves.{name_of, IsNumber}
 use Rattle.dp_parse.specs.Expressions.{DerivesExpr, operand, chain, prefix, number, scalar, element, parenthesized}
 use Rattle.dp_parse.specs.descent.Steps.{Outcome, Parser, ◌>>=◌, pure, and_then, expect, rest, join_at, prefix_at}
@@ -21,7 +20,7 @@ use Rattle.dp_parse.specs.descent.Expressions as read
 use Rattle.dp_parse.proofs.StepLemmas.{expects, eats, stays}
 use Rattle.dp_parse.proofs.LeafLemmas.{reads_name, reads_number}
 use Rattle.dp_parse.proofs.Shorter.{shorter}
-use Rattle.dp_parse.proofs.Levels.{rank, tighter, level_opens, level_prefixed, level_chain, chain_end, chain_turn}
+use Rattle.dp_parse.proofs.Levels.{rank, tighter, level_prefixed, level_chain, chain_end, chain_turn}
 use Rattle.dp_parse.proofs.LevelFacts.{Follows, joins, joins_not, prefixes, prefix_level, prefixes_not, joins_not_tight, follows_join, follows_any, follows_tighter}
 
 -- what reads the operands of a level

@@ -1,11 +1,11 @@
 -- What the descent reads as an expression, the grammar derives.
-use Rattle.std.proofs.Common.{◌≡◌, refl, ap, ◌∙◌, sym, subst, ℕ, zero, suc, ℤ, pos, Bool, true, false, if◌then◌else◌, List, [], ◌∷◌, length, Option, Some, None}
+use Rattle.std.proofs.Common.{◌≡◌, refl, ap, ◌∙◌, sym, ℕ, zero, suc, Bool, true, false, if◌then◌else◌, List, [], ◌∷◌, length, Option, Some, None}
 use Rattle.dp_base.specs.declared.UnOp.{UnOp}
 use Rattle.dp_lex.specs.Token.{Lexeme}
 use Rattle.dp_tree.specs.declared.raw.RawExpr.{RawExpr}
 use Rattle.dp_tree.specs.declared.raw.RawExpr.TheVariants as tree
 use Rattle.dp_parse.specs.declared.symbol.Symbol.{Symbol}
-use Rattle.dp_parse.specs.declared.symbol.Symbol.TheVariants.{Name, Number, OpenParen, CloseParen, OpenBracket, CloseBracket, End}
+use Rattle.dp_parse.specs.declared.symbol.Symbol.TheVariants.{Name, Number, OpenParen, CloseParen, OpenBracket, CloseBracket}
 use Rattle.dp_parse.specs.declared.level.Level.{Level}
 use Rattle.dp_parse.specs.declared.level.Level.TheVariants as level
 use Rattle.dp_parse.specs.declared.level.Join.{Join}
@@ -16,8 +16,8 @@ use Rattle.dp_parse.specs.Expressions.{DerivesExpr, operand, chain, prefix, numb
 use Rattle.dp_parse.specs.descent.Steps.{Parser, ◌>>=◌, pure, and_then, expect, rest, own, same_level, join_at, prefix_at}
 use Rattle.dp_parse.specs.descent.Steps as step
 use Rattle.dp_parse.specs.descent.Expressions as read
-use Rattle.dp_parse.proofs.StepLemmas.{Sound, Then, then_of, same_pair, Took, took, Ate, passed, stayed, ate, level_is, Closed, closed, moved, taken}
-use Rattle.dp_parse.proofs.LeafLemmas.{Named, read_name, Numbered, read_number}
+use Rattle.dp_parse.proofs.StepLemmas.{Sound, then_of, same_pair, took, Ate, passed, stayed, ate, level_is, closed, moved, taken}
+use Rattle.dp_parse.proofs.LeafLemmas.{read_name, read_number}
 
 -- an operator that was found at its level
 own_by : {A : Type 0} (l m : Level) (x a : A) (b : Bool) → same_level m l ≡ b → (if b then Some x else None) ≡ Some a → (m ≡ l) × (x ≡ a)

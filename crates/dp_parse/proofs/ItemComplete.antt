@@ -1,37 +1,28 @@
 -- What the grammar derives as a declaration, the descent reads.
-use Rattle.std.proofs.Common.{◌≡◌, refl, ap, ap₂, ◌∙◌, sym, ℕ, zero, suc, ◌+◌, ◌-◌, ◌≤◌, ◌<◌, ℤ, pos, neg_ℤ, nat_lt, Bool, true, false, ◌||◌, if◌then◌else◌, List, [], ◌∷◌, ◌++◌, length, Option, Some, None, append_assoc, arith}
-use Rattle.std.proofs.lemmas.List.{append-nil}
+use Rattle.std.proofs.Common.{◌≡◌, refl, ap, ◌∙◌, sym, ℕ, zero, suc, ◌-◌, ◌≤◌, ℤ, pos, neg_ℤ, Bool, true, false, if◌then◌else◌, List, [], ◌∷◌, ◌++◌, length, Option, Some, None, append_assoc, arith}
 use Rattle.std.proofs.lemmas.Bool.{lt-ltb, le-ltb}
 use Rattle.dp_base.specs.Arithmetic.{is_zero, fits}
 use Rattle.dp_lex.specs.Token.{Lexeme}
 use Rattle.dp_tree.specs.declared.raw.Name.{Name as TreeName}
 use Rattle.dp_tree.specs.declared.raw.RawStmt.{RawStmt}
-use Rattle.dp_tree.specs.declared.raw.RawStmt.TheVariants as stmt
 use Rattle.dp_tree.specs.declared.raw.RawItem.{RawItem}
 use Rattle.dp_tree.specs.declared.raw.RawItem.TheVariants as item
-use Rattle.dp_tree.specs.declared.raw.RawProgram.{RawProgram}
-use Rattle.dp_parse.specs.declared.item.Part.{Part}
-use Rattle.dp_parse.specs.declared.item.Part.TheVariants.{Item, Main as Body}
 use Rattle.dp_parse.specs.declared.symbol.Symbol.{Symbol}
-use Rattle.dp_parse.specs.declared.symbol.Symbol.TheVariants.{Name, Number, Mark, Int, Void, Main, Return, While, Else, Minus, Assign, OpenParen, CloseParen, OpenBracket, CloseBracket, OpenBrace, CloseBrace, Comma, Semicolon, End}
-use Rattle.dp_parse.specs.Symbols.{symbol, symbol_at, Is}
+use Rattle.dp_parse.specs.declared.symbol.Symbol.TheVariants.{Name, Number, Int, Void, Minus, OpenParen, CloseParen, OpenBracket, CloseBracket, Comma, Semicolon}
+use Rattle.dp_parse.specs.Symbols.{symbol_at, Is}
 use Rattle.dp_parse.specs.Leaves.{name_of, IsNumber}
-use Rattle.dp_parse.specs.Statements.{DerivesStatement, DerivesBlock, DerivesCondition}
+use Rattle.dp_parse.specs.Statements.{DerivesBlock}
 use Rattle.dp_parse.specs.Programs.{DerivesNames, last, more, DerivesParams, void, some, DerivesItem, scalar, started, below_zero, array, function, DerivesTops, region, DerivesReturn, DerivesMain, main, main_void, DerivesItems, Derives}
 use Rattle.dp_parse.specs.Programs as programs
 use Rattle.dp_parse.specs.descent.Steps.{Outcome, Parser, ◌>>=◌, pure, and_then, expect, eat, rest, sees, after, given, separated, many}
 use Rattle.dp_parse.specs.descent.Steps as step
 use Rattle.dp_parse.specs.descent.Statements as statements
 use Rattle.dp_parse.specs.descent.Programs as read
-use Rattle.dp_parse.proofs.StepLemmas.{is_same, expects, eats, stays, sees_is, sees_other, after_is, after_other, same_pair}
+use Rattle.dp_parse.proofs.StepLemmas.{expects, eats, stays, sees_is, sees_other, after_is, after_other}
 use Rattle.dp_parse.proofs.LeafLemmas.{reads_name, reads_number}
-use Rattle.dp_parse.proofs.Lists.{separated_on, separated_off, many_turn, many_end}
-use Rattle.dp_parse.proofs.Shorter.{shorter_statement, shorter_condition, shorter_block}
-use Rattle.dp_parse.proofs.StatementReads.{goes, begins_not, reads_repeated}
-use Rattle.dp_parse.proofs.StatementComplete.{reads_statement, reads_block}
-use Rattle.dp_parse.proofs.ItemSteps.{ends_some}
-use Rattle.dp_parse.proofs.ProgramSteps.{program_item, program_main}
-use Rattle.dp_parse.proofs.ShorterPrograms.{shorter_names, shorter_tops, shorter_item, shorter_main}
+use Rattle.dp_parse.proofs.Lists.{separated_on, separated_off}
+use Rattle.dp_parse.proofs.StatementReads.{goes}
+use Rattle.dp_parse.proofs.StatementComplete.{reads_block}
 
 abbrev pub pair : {A : Type 0} → A → List Lexeme → A × List Lexeme
 pair a ts = (a, ts)
@@ -67,9 +58,9 @@ pub reads_variable : (name end : Lexeme) (from to : List Lexeme) (k : Symbol) (i
 unfolding read.variable
 reads_variable name end from to k i n at h e =
     goes (λ name. step.peek >>= (λ s. read.variable_by name s >>= (λ found. expect Semicolon >>= (λ _. pure found)))) (reads_name name from n)
-        ∙ ap (λ (k : Symbol). and_then (read.variable_by (name_of name) k from) (λ found. expect Semicolon >>= (λ _. pure found))) at
-        ∙ goes (λ found. expect Semicolon >>= (λ _. pure found)) h
-        ∙ goes (λ _. pure i) (expects Semicolon end to e)
+    ∙ ap (λ (k : Symbol). and_then (read.variable_by (name_of name) k from) (λ found. expect Semicolon >>= (λ _. pure found))) at
+    ∙ goes (λ found. expect Semicolon >>= (λ _. pure found)) h
+    ∙ goes (λ _. pure i) (expects Semicolon end to e)
 
 pub reads_array : (name opening length closing : Lexeme) (n : ℕ) (to : List Lexeme) → Is OpenBracket opening → IsNumber length n → 1 ≤ n → Is CloseBracket closing →
     read.array (name_of name) (opening ∷ length ∷ closing ∷ to) ≡ Some (item.Array (name_of name) (pos n), to)
@@ -77,9 +68,9 @@ unfolding read.array
 reads_array name opening length closing n to o h least c =
     let called = name_of name in
     goes (λ _. step.number >>= (λ length. expect CloseBracket >>= (λ _. read.array_by called length (is_zero length)))) (expects OpenBracket opening (length ∷ closing ∷ to) o)
-        ∙ goes (λ length. expect CloseBracket >>= (λ _. read.array_by called length (is_zero length))) (reads_number length n (closing ∷ to) h)
-        ∙ goes (λ _. read.array_by called (pos n) (is_zero (pos n))) (expects CloseBracket closing to c)
-        ∙ ap (λ (b : Bool). read.array_by called (pos n) b to) (not_zero n least)
+    ∙ goes (λ length. expect CloseBracket >>= (λ _. read.array_by called length (is_zero length))) (reads_number length n (closing ∷ to) h)
+    ∙ goes (λ _. read.array_by called (pos n) (is_zero (pos n))) (expects CloseBracket closing to c)
+    ∙ ap (λ (b : Bool). read.array_by called (pos n) b to) (not_zero n least)
 
 reads_param : (int name : Lexeme) (to : List Lexeme) → Is Int int → Is Name name → read.param (int ∷ name ∷ to) ≡ Some (name_of name, to)
 unfolding read.param
@@ -90,12 +81,12 @@ reads_names : {from to : List Lexeme} {names : List TreeName} → DerivesNames f
 reads_names (last {int} {name} {to} i n) closing left splits h k found fits =
     let stop : sees Comma to ≡ false = rw splits (sees_other Comma (closing ∷ left) (unlike closing left CloseParen Comma h (λ e. cc))) in
     separated_off read.param k found (int ∷ name ∷ to) to (name_of name) (reads_param int name to i n) (omega arith) fits stop
-        ∙ ap (λ (ts : List Lexeme). Some (pair (found ++ name_of name ∷ []) ts)) (after_other Comma to stop)
+    ∙ ap (λ (ts : List Lexeme). Some (pair (found ++ name_of name ∷ []) ts)) (after_other Comma to stop)
 reads_names (more {int} {name} {comma} {from} {to} {names} i n c ds) closing left splits h k found fits =
     separated_on read.param k found (int ∷ name ∷ comma ∷ from) (comma ∷ from) (name_of name) (reads_param int name (comma ∷ from) i n) (omega arith) fits (sees_is Comma comma from c)
-        ∙ ap (separated read.param (k - 1) (found ++ name_of name ∷ [])) (after_is Comma comma from c)
-        ∙ reads_names ds closing left splits h (k - 1) (found ++ name_of name ∷ []) (omega arith)
-        ∙ ap (λ (all : List TreeName). Some (pair all to)) (append_assoc found (name_of name ∷ []) names)
+    ∙ ap (separated read.param (k - 1) (found ++ name_of name ∷ [])) (after_is Comma comma from c)
+    ∙ reads_names ds closing left splits h (k - 1) (found ++ name_of name ∷ []) (omega arith)
+    ∙ ap (λ (all : List TreeName). Some (pair all to)) (append_assoc found (name_of name ∷ []) names)
 
 names_begin : {from to : List Lexeme} {names : List TreeName} → DerivesNames from to names → symbol_at from ≡ Int
 unfolding symbol_at
@@ -111,15 +102,15 @@ reads_params (void {word} {to} w) closing left splits h =
 reads_params (some {from} {to} {names} d) closing left splits h =
     let at = names_begin d in
     ap (λ (b : Bool). read.params_by b from) (sees_other CloseParen from (λ e. let clash : Int ≡ CloseParen = sym at ∙ e in cc clash))
-        ∙ stays Void read.named_params_by from (λ e. let clash : Int ≡ Void = sym at ∙ e in cc clash)
-        ∙ reads_names d closing left splits h (length from) [] (omega arith)
+    ∙ stays Void read.named_params_by from (λ e. let clash : Int ≡ Void = sym at ∙ e in cc clash)
+    ∙ reads_names d closing left splits h (length from) [] (omega arith)
 
 pub reads_function : (name opening closing : Lexeme) (from middle to : List Lexeme) (params : List TreeName) (body : List RawStmt) → Is Name name → Is OpenParen opening → DerivesParams from (closing ∷ middle) params → Is CloseParen closing →
     DerivesBlock middle to body → read.function (name ∷ opening ∷ from) ≡ Some (item.Function (name_of name) params body, to)
 unfolding read.function
 reads_function name opening closing from middle to params body n o d c b =
     goes (λ name. expect OpenParen >>= (λ _. read.params >>= (λ params. expect CloseParen >>= (λ _. (λ ts. statements.block (statements.statement (length ts)) ts) >>= (λ body. pure (item.Function name params body)))))) (reads_name name (opening ∷ from) n)
-        ∙ goes (λ _. read.params >>= (λ params. expect CloseParen >>= (λ _. (λ ts. statements.block (statements.statement (length ts)) ts) >>= (λ body. pure (item.Function (name_of name) params body))))) (expects OpenParen opening from o)
-        ∙ goes (λ params. expect CloseParen >>= (λ _. (λ ts. statements.block (statements.statement (length ts)) ts) >>= (λ body. pure (item.Function (name_of name) params body)))) (reads_params d closing middle refl c)
-        ∙ goes (λ _. (λ ts. statements.block (statements.statement (length ts)) ts) >>= (λ body. pure (item.Function (name_of name) params body))) (expects CloseParen closing middle c)
-        ∙ goes (λ body. pure (item.Function (name_of name) params body)) (reads_block b (length middle) (omega arith))
+    ∙ goes (λ _. read.params >>= (λ params. expect CloseParen >>= (λ _. (λ ts. statements.block (statements.statement (length ts)) ts) >>= (λ body. pure (item.Function (name_of name) params body))))) (expects OpenParen opening from o)
+    ∙ goes (λ params. expect CloseParen >>= (λ _. (λ ts. statements.block (statements.statement (length ts)) ts) >>= (λ body. pure (item.Function (name_of name) params body)))) (reads_params d closing middle refl c)
+    ∙ goes (λ _. (λ ts. statements.block (statements.statement (length ts)) ts) >>= (λ body. pure (item.Function (name_of name) params body))) (expects CloseParen closing middle c)
+    ∙ goes (λ body. pure (item.Function (name_of name) params body)) (reads_block b (length middle) (omega arith))

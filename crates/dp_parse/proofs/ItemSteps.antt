@@ -1,8 +1,8 @@
 -- Parameters, and statements of `main`, take tokens.
-use Rattle.std.proofs.Common.{◌≡◌, refl, ap, ◌∙◌, ℕ, ◌<◌, ◌≤◌, Bool, true, false, ◌||◌, List, [], ◌∷◌, length, Some, arith}
+use Rattle.std.proofs.Common.{◌≡◌, refl, ap, ◌∙◌, ℕ, ◌<◌, Bool, true, false, ◌||◌, List, ◌∷◌, length, Some, arith}
 use Rattle.dp_lex.specs.Token.{Lexeme}
 use Rattle.dp_tree.specs.declared.raw.Name.{Name as TreeName}
-use Rattle.dp_parse.specs.declared.symbol.Symbol.TheVariants.{Int, Name, Mark, Return, CloseBrace, End}
+use Rattle.dp_parse.specs.declared.symbol.Symbol.TheVariants.{Int, Name, Mark, Return, CloseBrace}
 use Rattle.dp_parse.specs.Symbols.{Is}
 use Rattle.dp_parse.specs.Leaves.{name_of}
 use Rattle.dp_parse.specs.descent.Steps.{expect, name, sees}

@@ -1,5 +1,5 @@
 -- Names and numbers: what the descent reads, and that it reads them.
-use Rattle.std.proofs.Common.{◌≡◌, refl, ap, ap₂, ◌∙◌, sym, ℕ, ◌≤◌, ℤ, pos, Bool, true, false, ◌&&◌, nat_le, if◌then◌else◌, List, [], ◌∷◌, Option, Some, None, arith}
+use Rattle.std.proofs.Common.{◌≡◌, refl, ap, ◌∙◌, sym, ℕ, ◌≤◌, ℤ, pos, Bool, true, false, ◌&&◌, nat_le, if◌then◌else◌, List, ◌∷◌, Some, None}
 use Rattle.std.specs.Char.{is_ascii_digit}
 use Rattle.std.specs.List.{list_all, AllPass}
 use Rattle.std.specs.Str.Parse.{digits_value}
@@ -11,7 +11,7 @@ use Rattle.dp_parse.specs.declared.symbol.Symbol.TheVariants.{Name, Number}
 use Rattle.dp_parse.specs.Symbols.{Is}
 use Rattle.dp_parse.specs.Leaves.{name_of, IsNumber}
 use Rattle.dp_parse.specs.descent.Steps.{expect, name, given, number, number_value}
-use Rattle.dp_parse.proofs.StepLemmas.{Then, then_of, same_pair, Took, took, expects, gave}
+use Rattle.dp_parse.proofs.StepLemmas.{then_of, same_pair, took, expects, gave}
 
 -- the name that was read
 pub record Named (from to : List Lexeme) (n : TreeName) : Type 0 where

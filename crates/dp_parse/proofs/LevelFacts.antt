@@ -1,14 +1,13 @@
 -- The table of levels: each symbol joins at one level, and prefixes stand at one.
-use Rattle.std.proofs.Common.{◌≡◌, refl, ap, ◌∙◌, sym, ℕ, ◌+◌, ◌<◌, ◌≤◌, Bool, true, false, if◌then◌else◌, List, [], ◌∷◌, Option, Some, None, arith}
-use Rattle.std.proofs.lemmas.Option.{same_Some}
+use Rattle.std.proofs.Common.{◌≡◌, refl, ap, ◌∙◌, sym, ℕ, ◌<◌, ◌≤◌, Bool, if◌then◌else◌, Option, Some, None, arith}
 use Rattle.dp_base.specs.declared.UnOp.{UnOp}
 use Rattle.dp_parse.specs.declared.symbol.Symbol.{Symbol}
 use Rattle.dp_parse.specs.declared.symbol.Symbol.TheVariants as symbol
 use Rattle.dp_parse.specs.declared.level.Level.{Level}
 use Rattle.dp_parse.specs.declared.level.Level.TheVariants as level
 use Rattle.dp_parse.specs.declared.level.Join.{Join}
-use Rattle.dp_parse.specs.Levels.{operands, joining, prefixing}
-use Rattle.dp_parse.specs.descent.Steps.{own, join_at, prefix_at, same_level}
+use Rattle.dp_parse.specs.Levels.{joining, prefixing}
+use Rattle.dp_parse.specs.descent.Steps.{own, join_at, prefix_at}
 use Rattle.dp_parse.proofs.StepLemmas.{same_levels, other_levels}
 use Rattle.dp_parse.proofs.Levels.{rank}
 

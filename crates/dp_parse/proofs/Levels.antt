@@ -1,5 +1,5 @@
 -- A level of an expression as it is read: its operands, its operators, and the turns of a chain.
-use Rattle.std.proofs.Common.{◌≡◌, refl, ap, ◌∙◌, sym, ℕ, zero, suc, ◌+◌, ◌-◌, ◌<◌, ◌≤◌, List, [], ◌∷◌, length, Option, Some, None, arith}
+use Rattle.std.proofs.Common.{◌≡◌, refl, ap, ◌∙◌, ℕ, zero, suc, ◌+◌, ◌-◌, ◌<◌, ◌≤◌, List, [], ◌∷◌, length, Option, Some, None, arith}
 use Rattle.std.proofs.lemmas.Option.{same_Some}
 use Rattle.dp_base.specs.declared.UnOp.{UnOp}
 use Rattle.dp_lex.specs.Token.{Lexeme}
@@ -8,8 +8,8 @@ use Rattle.dp_tree.specs.declared.raw.RawExpr.TheVariants as tree
 use Rattle.dp_parse.specs.declared.level.Level.{Level}
 use Rattle.dp_parse.specs.declared.level.Level.TheVariants as level
 use Rattle.dp_parse.specs.declared.level.Join.{Join}
-use Rattle.dp_parse.specs.Symbols.{symbol, symbol_at}
-use Rattle.dp_parse.specs.Levels.{operands, joining, prefixing, joined}
+use Rattle.dp_parse.specs.Symbols.{symbol_at}
+use Rattle.dp_parse.specs.Levels.{operands, joined}
 use Rattle.dp_parse.specs.descent.Steps.{Outcome, Parser, ◌>>=◌, and_then, pure, rest, join_at, prefix_at}
 use Rattle.dp_parse.specs.descent.Expressions as read
 

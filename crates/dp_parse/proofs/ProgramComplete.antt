@@ -1,10 +1,8 @@
 -- What the grammar derives as a program, the descent reads; so no tokens derive two programs.
-use Rattle.std.proofs.Common.{◌≡◌, refl, ap, ap₂, ◌∙◌, sym, ℕ, zero, suc, ◌+◌, ◌-◌, ◌≤◌, ◌<◌, ℤ, pos, neg_ℤ, nat_lt, Bool, true, false, ◌||◌, if◌then◌else◌, List, [], ◌∷◌, ◌++◌, length, Option, Some, None, append_assoc, arith}
+use Rattle.std.proofs.Common.{◌≡◌, refl, ap, ap₂, ◌∙◌, sym, ℕ, ◌-◌, ◌≤◌, pos, neg_ℤ, Bool, true, false, ◌||◌, List, [], ◌∷◌, ◌++◌, length, Some, append_assoc, arith}
 use Rattle.std.proofs.lemmas.List.{append-nil}
-use Rattle.std.proofs.lemmas.Bool.{lt-ltb, le-ltb}
-use Rattle.dp_base.specs.Arithmetic.{is_zero, fits}
+use Rattle.dp_base.specs.Arithmetic.{is_zero}
 use Rattle.dp_lex.specs.Token.{Lexeme}
-use Rattle.dp_tree.specs.declared.raw.Name.{Name as TreeName}
 use Rattle.dp_tree.specs.declared.raw.RawExpr.{RawExpr}
 use Rattle.dp_tree.specs.declared.raw.RawStmt.{RawStmt}
 use Rattle.dp_tree.specs.declared.raw.RawStmt.TheVariants as stmt
@@ -14,9 +12,9 @@ use Rattle.dp_tree.specs.declared.raw.RawProgram.{RawProgram}
 use Rattle.dp_parse.specs.declared.item.Part.{Part}
 use Rattle.dp_parse.specs.declared.item.Part.TheVariants.{Item, Main as Body}
 use Rattle.dp_parse.specs.declared.symbol.Symbol.{Symbol}
-use Rattle.dp_parse.specs.declared.symbol.Symbol.TheVariants.{Name, Number, Mark, Int, Void, Main, Return, While, Else, Minus, Assign, OpenParen, CloseParen, OpenBracket, CloseBracket, OpenBrace, CloseBrace, Comma, Semicolon, End}
-use Rattle.dp_parse.specs.Symbols.{symbol, symbol_at, Is}
-use Rattle.dp_parse.specs.Leaves.{name_of, IsNumber}
+use Rattle.dp_parse.specs.declared.symbol.Symbol.TheVariants.{Name, Mark, Int, Void, Main, Return, While, Else, Assign, OpenParen, CloseParen, OpenBracket, OpenBrace, CloseBrace, Semicolon}
+use Rattle.dp_parse.specs.Symbols.{symbol_at, Is}
+use Rattle.dp_parse.specs.Leaves.{name_of}
 use Rattle.dp_parse.specs.Statements.{DerivesStatement, DerivesBlock, DerivesCondition}
 use Rattle.dp_parse.specs.Programs.{DerivesNames, last, more, DerivesParams, void, some, DerivesItem, scalar, started, below_zero, array, function, DerivesTops, region, DerivesReturn, DerivesMain, main, main_void, DerivesItems, Derives}
 use Rattle.dp_parse.specs.Programs as programs
@@ -24,15 +22,15 @@ use Rattle.dp_parse.specs.descent.Steps.{Outcome, Parser, ◌>>=◌, pure, and_t
 use Rattle.dp_parse.specs.descent.Steps as step
 use Rattle.dp_parse.specs.descent.Statements as statements
 use Rattle.dp_parse.specs.descent.Programs as read
-use Rattle.dp_parse.proofs.StepLemmas.{is_same, expects, eats, stays, sees_is, sees_other, after_is, after_other, same_pair}
-use Rattle.dp_parse.proofs.LeafLemmas.{reads_name, reads_number}
-use Rattle.dp_parse.proofs.Lists.{separated_on, separated_off, many_turn, many_end}
+use Rattle.dp_parse.proofs.StepLemmas.{is_same, expects, eats, stays, sees_other, same_pair}
+use Rattle.dp_parse.proofs.LeafLemmas.{reads_number}
+use Rattle.dp_parse.proofs.Lists.{many_turn, many_end}
 use Rattle.dp_parse.proofs.Shorter.{shorter_statement, shorter_condition, shorter_block}
 use Rattle.dp_parse.proofs.StatementReads.{goes, begins_not, reads_repeated}
 use Rattle.dp_parse.proofs.StatementComplete.{reads_statement, reads_block}
 use Rattle.dp_parse.proofs.ItemSteps.{ends_some}
 use Rattle.dp_parse.proofs.ProgramSteps.{program_item, program_main}
-use Rattle.dp_parse.proofs.ShorterPrograms.{shorter_names, shorter_tops, shorter_item, shorter_main}
+use Rattle.dp_parse.proofs.ShorterPrograms.{shorter_item, shorter_main}
 use Rattle.dp_parse.proofs.ItemComplete.{pair, unlike, reads_plain, reads_below, reads_variable, reads_array, reads_function}
 
 -- a token that is a symbol stands for it
@@ -83,7 +81,7 @@ unfolding read.top
 reads_region mark word from inside to e body m w c b =
     let less = shorter_condition c in
     eats Mark (read.top_by (length (mark ∷ word ∷ from))) mark (word ∷ from) m
-        ∙ reads_repeated (statements.statement (length (mark ∷ word ∷ from))) true word from inside to e body w c (reads_block b (length (mark ∷ word ∷ from)) (omega arith))
+    ∙ reads_repeated (statements.statement (length (mark ∷ word ∷ from))) true word from inside to e body w c (reads_block b (length (mark ∷ word ∷ from)) (omega arith))
 
 reads_tops : {from to : List Lexeme} {body : List RawStmt} → DerivesTops from to body → Closes to → (found : List RawStmt) (k : ℕ) → length from ≤ k → many read.ends read.top k found from ≡ Some (found ++ body, to)
 reads_tops (programs.none {to}) h found k enough =
@@ -91,17 +89,17 @@ reads_tops (programs.none {to}) h found k enough =
 reads_tops (programs.statement {from} {middle} {to} {s} {rest = body} d ds) h found k enough =
     let less = shorter_statement d in
     many_turn read.top read.ends k found from middle s (ends_not from (begins_not d Return refl) (begins_not d CloseBrace refl)) (reads_top_statement from middle s d (tops_no_else ds h)) less enough
-        ∙ reads_tops ds h (found ++ s ∷ []) (k - 1) (omega arith)
-        ∙ ap (λ (all : List RawStmt). Some (pair all to)) (append_assoc found (s ∷ []) body)
+    ∙ reads_tops ds h (found ++ s ∷ []) (k - 1) (omega arith)
+    ∙ ap (λ (all : List RawStmt). Some (pair all to)) (append_assoc found (s ∷ []) body)
 reads_tops (region {mark} {word} {from} {inside} {middle} {to} {e} {body} {rest = others} m w c b ds) h found k enough =
     let less = shorter_condition c in
     let shorter = shorter_block b in
     let s = stmt.While word.line true e body in
     many_turn read.top read.ends k found (mark ∷ word ∷ from) middle s
-        (ends_not (mark ∷ word ∷ from) (unlike mark (word ∷ from) Mark Return m (λ e. cc)) (unlike mark (word ∷ from) Mark CloseBrace m (λ e. cc)))
-        (reads_region mark word from inside middle e body m w c b) (omega arith) enough
-        ∙ reads_tops ds h (found ++ s ∷ []) (k - 1) (omega arith)
-        ∙ ap (λ (all : List RawStmt). Some (pair all to)) (append_assoc found (s ∷ []) others)
+    (ends_not (mark ∷ word ∷ from) (unlike mark (word ∷ from) Mark Return m (λ e. cc)) (unlike mark (word ∷ from) Mark CloseBrace m (λ e. cc)))
+    (reads_region mark word from inside middle e body m w c b) (omega arith) enough
+    ∙ reads_tops ds h (found ++ s ∷ []) (k - 1) (omega arith)
+    ∙ ap (λ (all : List RawStmt). Some (pair all to)) (append_assoc found (s ∷ []) others)
 
 return_closes : {from to : List Lexeme} → DerivesReturn from to → (closing : Lexeme) (left : List Lexeme) → to ≡ closing ∷ left → Is CloseBrace closing → Closes from
 return_closes (programs.none {to}) closing left splits c = rw splits (ends_brace (closing ∷ left) (at_head closing left CloseBrace c))
@@ -113,8 +111,8 @@ reads_returned (programs.none {to}) closing left splits c =
     stays Return read.returned_by to (λ at. unlike closing left CloseBrace Return c (λ e. cc) (ap symbol_at (sym splits) ∙ at))
 reads_returned (programs.zero {word} {value} {end} {to} w v e) closing left splits c =
     eats Return read.returned_by word (value ∷ end ∷ to) w
-        ∙ goes (λ n. read.zero_by (is_zero n)) (reads_number value 0 (end ∷ to) v)
-        ∙ goes (λ _. pure tt) (expects Semicolon end to e)
+    ∙ goes (λ n. read.zero_by (is_zero n)) (reads_number value 0 (end ∷ to) v)
+    ∙ goes (λ _. pure tt) (expects Semicolon end to e)
 
 reads_end : (from left : List Lexeme) (closing : Lexeme) → DerivesReturn from (closing ∷ left) → Is CloseBrace closing → read.end from ≡ Some (tt, left)
 unfolding read.end read.returned
@@ -128,9 +126,9 @@ reads_inside : (paren brace closing : Lexeme) (from behind to : List Lexeme) (bo
     inside (paren ∷ brace ∷ from) ≡ Some (body, to)
 reads_inside paren brace closing from behind to body p b d r c =
     goes (λ _. expect OpenBrace >>= (λ _. (λ ts. many read.ends read.top (length ts) [] ts) >>= (λ body. read.end >>= (λ _. pure body)))) (expects CloseParen paren (brace ∷ from) p)
-        ∙ goes (λ _. (λ ts. many read.ends read.top (length ts) [] ts) >>= (λ body. read.end >>= (λ _. pure body))) (expects OpenBrace brace from b)
-        ∙ goes (λ body. read.end >>= (λ _. pure body)) (reads_tops d (return_closes r closing to refl c) [] (length from) (omega arith))
-        ∙ goes (λ _. pure body) (reads_end behind to closing r c)
+    ∙ goes (λ _. (λ ts. many read.ends read.top (length ts) [] ts) >>= (λ body. read.end >>= (λ _. pure body))) (expects OpenBrace brace from b)
+    ∙ goes (λ body. read.end >>= (λ _. pure body)) (reads_tops d (return_closes r closing to refl c) [] (length from) (omega arith))
+    ∙ goes (λ _. pure body) (reads_end behind to closing r c)
 
 reads_main_plain : (opening : Lexeme) (from to : List Lexeme) (body : List RawStmt) → Is OpenParen opening → (symbol_at from ≡ Void → ⊥) → inside from ≡ Some (body, to) → read.main_part (opening ∷ from) ≡ Some (body, to)
 unfolding read.main_part
@@ -164,26 +162,26 @@ reads_item (scalar {int} {name} {end} {to} i n e) =
     part_variable int name (end ∷ to) to (item.Scalar (name_of name) (pos 0)) i n (reads_variable name end (end ∷ to) to Semicolon (item.Scalar (name_of name) (pos 0)) n (at_head end to Semicolon e) refl e)
 reads_item (started {int} {name} {equals} {start} {end} {n = v} {to} i n q h e) =
     part_variable int name (equals ∷ start ∷ end ∷ to) to (item.Scalar (name_of name) (pos v)) i n
-        (reads_variable name end (equals ∷ start ∷ end ∷ to) to Assign (item.Scalar (name_of name) (pos v)) n (at_head equals (start ∷ end ∷ to) Assign q)
-            (goes (λ z. pure (item.Scalar (name_of name) z)) (reads_plain start v (end ∷ to) h)) e)
+    (reads_variable name end (equals ∷ start ∷ end ∷ to) to Assign (item.Scalar (name_of name) (pos v)) n (at_head equals (start ∷ end ∷ to) Assign q)
+    (goes (λ z. pure (item.Scalar (name_of name) z)) (reads_plain start v (end ∷ to) h)) e)
 reads_item (below_zero {int} {name} {equals} {minus} {start} {end} {n = v} {to} i n q m h e) =
     part_variable int name (equals ∷ minus ∷ start ∷ end ∷ to) to (item.Scalar (name_of name) (neg_ℤ (pos v))) i n
-        (reads_variable name end (equals ∷ minus ∷ start ∷ end ∷ to) to Assign (item.Scalar (name_of name) (neg_ℤ (pos v))) n (at_head equals (minus ∷ start ∷ end ∷ to) Assign q)
-            (goes (λ z. pure (item.Scalar (name_of name) z)) (reads_below minus start v (end ∷ to) m h)) e)
+    (reads_variable name end (equals ∷ minus ∷ start ∷ end ∷ to) to Assign (item.Scalar (name_of name) (neg_ℤ (pos v))) n (at_head equals (minus ∷ start ∷ end ∷ to) Assign q)
+    (goes (λ z. pure (item.Scalar (name_of name) z)) (reads_below minus start v (end ∷ to) m h)) e)
 reads_item (array {int} {name} {opening} {length} {closing} {end} {n = v} {to} i n o h least c e) =
     part_variable int name (opening ∷ length ∷ closing ∷ end ∷ to) to (item.Array (name_of name) (pos v)) i n
-        (reads_variable name end (opening ∷ length ∷ closing ∷ end ∷ to) to OpenBracket (item.Array (name_of name) (pos v)) n (at_head opening (length ∷ closing ∷ end ∷ to) OpenBracket o)
-            (reads_array name opening length closing v (end ∷ to) o h least c) e)
+    (reads_variable name end (opening ∷ length ∷ closing ∷ end ∷ to) to OpenBracket (item.Array (name_of name) (pos v)) n (at_head opening (length ∷ closing ∷ end ∷ to) OpenBracket o)
+    (reads_array name opening length closing v (end ∷ to) o h least c) e)
 reads_item (function {void = word} {name} {opening} {closing} {from} {middle} {to} {params} {body} w n o d c b) =
     part_function word (name ∷ opening ∷ from) to (item.Function (name_of name) params body) w (reads_function name opening closing from middle to params body n o d c b)
 
 reads_main : {from to : List Lexeme} {body : List RawStmt} → DerivesMain from to body → read.part from ≡ Some (Body body, to)
 reads_main (main {int} {name} {opening} {paren} {brace} {closing} {from} {after = behind} {to} {body} i m o p b d r c) =
     part_main int name (opening ∷ paren ∷ brace ∷ from) to body i m
-        (reads_main_plain opening (paren ∷ brace ∷ from) to body o (unlike paren (brace ∷ from) CloseParen Void p (λ e. cc)) (reads_inside paren brace closing from behind to body p b d r c))
+    (reads_main_plain opening (paren ∷ brace ∷ from) to body o (unlike paren (brace ∷ from) CloseParen Void p (λ e. cc)) (reads_inside paren brace closing from behind to body p b d r c))
 reads_main (main_void {int} {name} {opening} {void = word} {paren} {brace} {closing} {from} {after = behind} {to} {body} i m o v p b d r c) =
     part_main int name (opening ∷ word ∷ paren ∷ brace ∷ from) to body i m
-        (reads_main_void opening word (paren ∷ brace ∷ from) to body o v (reads_inside paren brace closing from behind to body p b d r c))
+    (reads_main_void opening word (paren ∷ brace ∷ from) to body o v (reads_inside paren brace closing from behind to body p b d r c))
 
 -- ---- whole programs
 
@@ -197,8 +195,8 @@ reads_items (programs.none {to}) body m found k enough =
 reads_items (programs.more {from} {middle} {to} {i} {rest = others} d ds) body m found k enough =
     let less = shorter_item d in
     program_item k found from middle i (reads_item d) less enough
-        ∙ reads_items ds body m (found ++ i ∷ []) (k - 1) (omega arith)
-        ∙ ap (λ (all : List RawItem). Some (pair (whole all body) [])) (append_assoc found (i ∷ []) others)
+    ∙ reads_items ds body m (found ++ i ∷ []) (k - 1) (omega arith)
+    ∙ ap (λ (all : List RawItem). Some (pair (whole all body) [])) (append_assoc found (i ∷ []) others)
 
 pub reads_program : (tokens : List Lexeme) (p : RawProgram) → Derives tokens p → read.program tokens ≡ Some (p, [])
 unfolding read.program

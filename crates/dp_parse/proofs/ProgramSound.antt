@@ -1,32 +1,25 @@
 -- What the descent reads as a program, the grammar derives.
-use Rattle.std.proofs.Common.{◌≡◌, refl, ap, ◌∙◌, sym, ℕ, zero, suc, ◌≤◌, ◌<◌, ℤ, pos, neg_ℤ, negsuc, nat_lt, Bool, true, false, if◌then◌else◌, List, [], ◌∷◌, ◌++◌, length, Option, Some, None, append_assoc, arith}
+use Rattle.std.proofs.Common.{◌≡◌, refl, ap, ◌∙◌, sym, ℕ, zero, suc, ℤ, pos, Bool, true, false, List, [], ◌∷◌, ◌++◌, length, Some, append_assoc}
 use Rattle.std.proofs.lemmas.List.{append-nil}
-use Rattle.std.proofs.lemmas.Bool.{ltb-true, ltb-false}
-use Rattle.dp_base.specs.Arithmetic.{is_zero, fits}
+use Rattle.dp_base.specs.Arithmetic.{is_zero}
 use Rattle.dp_lex.specs.Token.{Lexeme}
-use Rattle.dp_tree.specs.declared.raw.Name.{Name as TreeName}
 use Rattle.dp_tree.specs.declared.raw.RawStmt.{RawStmt}
-use Rattle.dp_tree.specs.declared.raw.RawStmt.TheVariants as stmt
 use Rattle.dp_tree.specs.declared.raw.RawItem.{RawItem}
-use Rattle.dp_tree.specs.declared.raw.RawItem.TheVariants as item
 use Rattle.dp_tree.specs.declared.raw.RawProgram.{RawProgram}
 use Rattle.dp_parse.specs.declared.item.Part.{Part}
 use Rattle.dp_parse.specs.declared.item.Part.TheVariants.{Item, Main as Body}
-use Rattle.dp_parse.specs.declared.symbol.Symbol.{Symbol}
-use Rattle.dp_parse.specs.declared.symbol.Symbol.TheVariants.{Name, Mark, Int, Void, Main, Return, While, Minus, Assign, OpenParen, CloseParen, OpenBracket, CloseBracket, OpenBrace, CloseBrace, Comma, Semicolon, End}
-use Rattle.dp_parse.specs.Symbols.{symbol, symbol_at, Is}
-use Rattle.dp_parse.specs.Leaves.{name_of, IsNumber}
-use Rattle.dp_parse.specs.Statements.{DerivesStatement, DerivesBlock, DerivesCondition}
+use Rattle.dp_parse.specs.declared.symbol.Symbol.TheVariants.{Mark, Int, Void, Main, Return, OpenParen, CloseParen, OpenBrace, CloseBrace, Semicolon}
+use Rattle.dp_parse.specs.Symbols.{Is}
+use Rattle.dp_parse.specs.Leaves.{IsNumber}
 use Rattle.dp_parse.specs.Programs.{DerivesNames, DerivesParams, DerivesItem, DerivesTops, DerivesReturn, DerivesMain, DerivesItems, Derives}
 use Rattle.dp_parse.specs.Programs as programs
 use Rattle.dp_parse.specs.descent.Steps.{Outcome, Parser, ◌>>=◌, pure, and_then, expect, eat, rest, sees, given, separated, separated_by, many, many_by}
 use Rattle.dp_parse.specs.descent.Steps as step
 use Rattle.dp_parse.specs.descent.Statements as statements
 use Rattle.dp_parse.specs.descent.Programs as read
-use Rattle.dp_parse.proofs.StepLemmas.{Sound, Then, then_of, same_pair, Took, took, Ate, passed, stayed, ate, Closed, closed, moved, taken, gave}
-use Rattle.dp_parse.proofs.LeafLemmas.{Named, read_name, Numbered, read_number}
-use Rattle.dp_parse.proofs.StatementSound.{sound_block, sound_statement, read_repeated}
-use Rattle.dp_parse.proofs.ItemSteps.{Param, read_param}
+use Rattle.dp_parse.proofs.StepLemmas.{Sound, then_of, same_pair, took, Ate, passed, stayed, ate, moved, taken}
+use Rattle.dp_parse.proofs.LeafLemmas.{read_number}
+use Rattle.dp_parse.proofs.StatementSound.{sound_statement, read_repeated}
 use Rattle.dp_parse.proofs.ItemSound.{zero_is, sound_variable, sound_function}
 
 -- ---- `main`

@@ -1,5 +1,5 @@
 -- From what the descent answers to what the grammar derives.
-use Rattle.std.proofs.Common.{◌≡◌, refl, ap, ◌∙◌, sym, List, [], Some, None, Result, Ok, Err}
+use Rattle.std.proofs.Common.{◌≡◌, refl, ◌∙◌, sym, List, None, Result, Ok, Err}
 use Rattle.dp_lex.specs.Characters.{Text}
 use Rattle.dp_lex.specs.Token.{Lexeme}
 use Rattle.dp_lex.specs.Tokens.{Tokens}

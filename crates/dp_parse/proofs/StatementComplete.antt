@@ -1,32 +1,21 @@
 -- What the grammar derives as a statement, the descent reads.
-use Rattle.std.proofs.Common.{◌≡◌, refl, ap, ◌∙◌, sym, ℕ, zero, suc, ◌+◌, ◌-◌, ◌<◌, ◌≤◌, Bool, true, false, List, [], ◌∷◌, ◌++◌, length, Option, Some, None, append_assoc, arith}
+use Rattle.std.proofs.Common.{◌≡◌, refl, ap, ◌∙◌, sym, ℕ, suc, ◌-◌, ◌<◌, ◌≤◌, Bool, false, List, [], ◌∷◌, ◌++◌, length, Some, append_assoc, arith}
 use Rattle.std.proofs.lemmas.List.{append-nil}
 use Rattle.dp_lex.specs.Token.{Lexeme}
-use Rattle.dp_tree.specs.declared.raw.Name.{Name as TreeName}
-use Rattle.dp_tree.specs.declared.raw.RawExpr.{RawExpr}
 use Rattle.dp_tree.specs.declared.raw.RawStmt.{RawStmt}
 use Rattle.dp_tree.specs.declared.raw.RawStmt.TheVariants as tree
-use Rattle.dp_parse.specs.declared.symbol.Symbol.{Symbol}
-use Rattle.dp_parse.specs.declared.symbol.Symbol.TheVariants.{Name, Int, Print, While, If, Else, Assign, OpenParen, CloseParen, OpenBracket, CloseBracket, OpenBrace, CloseBrace, Semicolon, Comma, End}
-use Rattle.dp_parse.specs.declared.level.Level.TheVariants.{Or}
-use Rattle.dp_parse.specs.Symbols.{symbol, symbol_at, Is}
-use Rattle.dp_parse.specs.Levels.{joining, prefixing}
-use Rattle.dp_parse.specs.declared.level.Level.{Level}
+use Rattle.dp_parse.specs.declared.symbol.Symbol.TheVariants.{Name, Int, Print, While, If, Else, Assign, OpenParen, OpenBracket, OpenBrace, CloseBrace}
+use Rattle.dp_parse.specs.Symbols.{symbol_at, Is}
 use Rattle.dp_parse.specs.Leaves.{name_of}
-use Rattle.dp_parse.specs.Expressions.{DerivesExpr, operand, chain, prefix, number, scalar, element, parenthesized, DerivesList, last, more}
 use Rattle.dp_parse.specs.Statements.{DerivesArguments, none, some, DerivesCondition, condition, DerivesStatement, declare, assign, store, call, print, loop, choice, DerivesChoice, alone, otherwise, else_if, DerivesBlock, block, DerivesStatements}
 use Rattle.dp_parse.specs.Statements as statements
-use Rattle.dp_parse.specs.descent.Steps.{Outcome, Parser, ◌>>=◌, pure, and_then, expect, eat, sees, after, separated, separated_by, many}
-use Rattle.dp_parse.specs.descent.Steps as step
-use Rattle.dp_parse.specs.descent.Expressions as expr
+use Rattle.dp_parse.specs.descent.Steps.{Parser, ◌>>=◌, pure, expect, sees, many}
 use Rattle.dp_parse.specs.descent.Statements as read
-use Rattle.dp_parse.proofs.StepLemmas.{is_same, expects, eats, stays, sees_is, sees_other, after_is, after_other, seen_some}
-use Rattle.dp_parse.proofs.LeafLemmas.{reads_name}
-use Rattle.dp_parse.proofs.Lists.{separated_on, separated_off, many_turn, many_end}
-use Rattle.dp_parse.proofs.Shorter.{shorter, shorter_list, shorter_condition, shorter_block, shorter_statement, shorter_choice, shorter_statements}
+use Rattle.dp_parse.proofs.StepLemmas.{is_same, expects, eats, stays, sees_other, seen_some}
+use Rattle.dp_parse.proofs.Lists.{many_turn, many_end}
+use Rattle.dp_parse.proofs.Shorter.{shorter_condition, shorter_block, shorter_statement, shorter_choice}
 use Rattle.dp_parse.proofs.StatementSteps.{statement_opens}
-use Rattle.dp_parse.proofs.ExpressionComplete.{whole_read}
-use Rattle.dp_parse.proofs.StatementReads.{goes, pair, reads_condition, reads_declare, reads_right_side, reads_named, reads_store, reads_call, reads_print, reads_repeated, reads_if, choice_begins, block_begins, begins_not, no_else}
+use Rattle.dp_parse.proofs.StatementReads.{goes, pair, reads_declare, reads_right_side, reads_named, reads_store, reads_call, reads_print, reads_repeated, reads_if, choice_begins, block_begins, begins_not, no_else}
 
 module _ (statement : Parser RawStmt) where
   reads_nothing : (to : List Lexeme) → (symbol_at to ≡ Else → ⊥) → read.otherwise statement to ≡ Some ([], to)

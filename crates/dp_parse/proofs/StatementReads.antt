@@ -1,15 +1,13 @@
 -- The forms of a statement as they are read.
-use Rattle.std.proofs.Common.{◌≡◌, refl, ap, ◌∙◌, sym, ℕ, zero, suc, ◌+◌, ◌-◌, ◌<◌, ◌≤◌, Bool, true, false, List, [], ◌∷◌, ◌++◌, length, Option, Some, None, append_assoc, arith}
-use Rattle.std.proofs.lemmas.List.{append-nil}
+use Rattle.std.proofs.Common.{◌≡◌, refl, ap, ◌∙◌, sym, ℕ, ◌-◌, ◌≤◌, Bool, true, false, List, [], ◌∷◌, ◌++◌, length, Some, append_assoc, arith}
 use Rattle.dp_lex.specs.Token.{Lexeme}
-use Rattle.dp_tree.specs.declared.raw.Name.{Name as TreeName}
 use Rattle.dp_tree.specs.declared.raw.RawExpr.{RawExpr}
 use Rattle.dp_tree.specs.declared.raw.RawStmt.{RawStmt}
 use Rattle.dp_tree.specs.declared.raw.RawStmt.TheVariants as tree
 use Rattle.dp_parse.specs.declared.symbol.Symbol.{Symbol}
-use Rattle.dp_parse.specs.declared.symbol.Symbol.TheVariants.{Name, Int, Print, While, If, Else, Assign, OpenParen, CloseParen, OpenBracket, CloseBracket, OpenBrace, CloseBrace, Semicolon, Comma, End}
+use Rattle.dp_parse.specs.declared.symbol.Symbol.TheVariants.{Name, Int, Print, While, If, Else, Assign, OpenParen, CloseParen, OpenBracket, CloseBracket, OpenBrace, Semicolon, Comma}
 use Rattle.dp_parse.specs.declared.level.Level.TheVariants.{Or}
-use Rattle.dp_parse.specs.Symbols.{symbol, symbol_at, Is}
+use Rattle.dp_parse.specs.Symbols.{symbol_at, Is}
 use Rattle.dp_parse.specs.Levels.{joining, prefixing}
 use Rattle.dp_parse.specs.declared.level.Level.{Level}
 use Rattle.dp_parse.specs.Leaves.{name_of}
@@ -20,11 +18,10 @@ use Rattle.dp_parse.specs.descent.Steps.{Outcome, Parser, ◌>>=◌, pure, and_t
 use Rattle.dp_parse.specs.descent.Steps as step
 use Rattle.dp_parse.specs.descent.Expressions as expr
 use Rattle.dp_parse.specs.descent.Statements as read
-use Rattle.dp_parse.proofs.StepLemmas.{is_same, expects, eats, stays, sees_is, sees_other, after_is, after_other, seen_some}
+use Rattle.dp_parse.proofs.StepLemmas.{expects, sees_is, sees_other, after_is, after_other}
 use Rattle.dp_parse.proofs.LeafLemmas.{reads_name}
-use Rattle.dp_parse.proofs.Lists.{separated_on, separated_off, many_turn, many_end}
-use Rattle.dp_parse.proofs.Shorter.{shorter, shorter_list, shorter_condition, shorter_block, shorter_statement, shorter_choice, shorter_statements}
-use Rattle.dp_parse.proofs.StatementSteps.{statement_opens}
+use Rattle.dp_parse.proofs.Lists.{separated_on, separated_off}
+use Rattle.dp_parse.proofs.Shorter.{shorter}
 use Rattle.dp_parse.proofs.ExpressionComplete.{whole_read}
 
 -- a step that answers, and what follows it

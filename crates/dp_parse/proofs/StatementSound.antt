@@ -1,27 +1,18 @@
 -- What the descent reads as a statement, the grammar derives.
-use Rattle.std.proofs.Common.{◌≡◌, refl, ap, ◌∙◌, sym, ℕ, zero, suc, Bool, true, false, List, [], ◌∷◌, ◌++◌, length, Option, Some, None, append_assoc}
+use Rattle.std.proofs.Common.{◌≡◌, refl, ap, ◌∙◌, sym, ℕ, zero, suc, Bool, true, false, List, [], ◌∷◌, ◌++◌, length, Some, append_assoc}
 use Rattle.std.proofs.lemmas.List.{append-nil}
 use Rattle.dp_lex.specs.Token.{Lexeme}
-use Rattle.dp_tree.specs.declared.raw.Name.{Name as TreeName}
 use Rattle.dp_tree.specs.declared.raw.RawExpr.{RawExpr}
 use Rattle.dp_tree.specs.declared.raw.RawStmt.{RawStmt}
 use Rattle.dp_tree.specs.declared.raw.RawStmt.TheVariants as tree
 use Rattle.dp_parse.specs.declared.symbol.Symbol.{Symbol}
-use Rattle.dp_parse.specs.declared.symbol.Symbol.TheVariants.{Name, Int, Print, While, If, Else, Assign, OpenParen, CloseParen, OpenBracket, CloseBracket, OpenBrace, CloseBrace, Semicolon, Comma, End}
-use Rattle.dp_parse.specs.declared.level.Level.TheVariants.{Or}
+use Rattle.dp_parse.specs.declared.symbol.Symbol.TheVariants.{Name, Int, Print, While, If, Else, OpenBrace, CloseBrace}
 use Rattle.dp_parse.specs.Symbols.{symbol_at, Is}
-use Rattle.dp_parse.specs.Leaves.{name_of}
-use Rattle.dp_parse.specs.Expressions.{DerivesExpr, DerivesList}
-use Rattle.dp_parse.specs.Expressions as expression
 use Rattle.dp_parse.specs.Statements.{DerivesArguments, DerivesCondition, condition, DerivesStatement, declare, assign, store, call, print, loop, choice, DerivesChoice, alone, otherwise, else_if, DerivesBlock, block, DerivesStatements}
 use Rattle.dp_parse.specs.Statements as statements
-use Rattle.dp_parse.specs.descent.Steps.{Outcome, Parser, ◌>>=◌, pure, and_then, expect, eat, sees, after, separated, separated_by, many, many_by}
-use Rattle.dp_parse.specs.descent.Steps as step
-use Rattle.dp_parse.specs.descent.Expressions as expr
+use Rattle.dp_parse.specs.descent.Steps.{Parser, ◌>>=◌, pure, expect, sees, many, many_by}
 use Rattle.dp_parse.specs.descent.Statements as read
-use Rattle.dp_parse.proofs.StepLemmas.{Sound, Then, then_of, same_pair, Took, took, Ate, passed, stayed, ate, Closed, closed, moved, taken, saw}
-use Rattle.dp_parse.proofs.LeafLemmas.{Named, read_name}
-use Rattle.dp_parse.proofs.ExpressionSound.{sound_whole}
+use Rattle.dp_parse.proofs.StepLemmas.{Sound, then_of, same_pair, took, Ate, passed, stayed, ate, closed, moved, saw}
 use Rattle.dp_parse.proofs.StatementForms.{sound_condition, sound_declare, sound_named, sound_print}
 
 module _ (statement : Parser RawStmt) (sound : Sound statement DerivesStatement) where

@@ -1,5 +1,5 @@
 -- The steps of a descent: what each gives where it answers, and that it answers.
-use Rattle.std.proofs.Common.{◌≡◌, refl, ap, ◌∙◌, sym, ℕ, ◌≤◌, ◌<◌, length, arith, Bool, true, false, List, [], ◌∷◌, Option, Some, None, if◌then◌else◌}
+use Rattle.std.proofs.Common.{◌≡◌, refl, ap, ◌∙◌, sym, ◌≤◌, ◌<◌, length, arith, Bool, true, false, List, [], ◌∷◌, Option, Some, None, if◌then◌else◌}
 use denote.Enum.Bare.{same_true, true_same, false_same, same_false}
 use Rattle.std.proofs.lemmas.Option.{same_Some}
 use Rattle.dp_lex.specs.Token.{Lexeme}
@@ -9,7 +9,7 @@ use Rattle.dp_parse.specs.contracts.symbol.Symbol as symbols
 use Rattle.dp_parse.specs.declared.level.Level.{Level}
 use Rattle.dp_parse.specs.contracts.level.Level as levels
 use Rattle.dp_parse.specs.Symbols.{symbol, symbol_at, Is}
-use Rattle.dp_parse.specs.descent.Steps.{Outcome, Parser, and_then, ◌>>=◌, pure, given, same_symbol, same_level, sees, after, rest, eat, expect, own}
+use Rattle.dp_parse.specs.descent.Steps.{Outcome, Parser, and_then, ◌>>=◌, pure, given, same_symbol, same_level, sees, after, rest, eat, expect}
 
 -- a step that answered, and the one after it
 pub record Then {A B : Type 0} (o : Outcome A) (f : A → Parser B) (b : B) (left : List Lexeme) : Type 0 where

@@ -1,5 +1,5 @@
 -- Reading a text's tokens one after the other.
-use Rattle.std.proofs.Common.{◌≡◌, refl, ap, ◌∙◌, sym, subst, ℕ, ◌+◌, ◌-◌, ◌<◌, ◌≤◌, List, [], ◌∷◌, ◌++◌, map, drop, length, length-append, length-drop, arith}
+use Rattle.std.proofs.Common.{◌≡◌, ap, ◌∙◌, sym, subst, ℕ, ◌+◌, ◌-◌, ◌<◌, ◌≤◌, List, [], ◌∷◌, ◌++◌, map, drop, length, length-append, length-drop, arith}
 use Rattle.std.proofs.lemmas.List.{append-nil, map-append, length-map}
 use Rattle.dp_lex.specs.declared.Token.{Token}
 use Rattle.dp_lex.specs.Characters.{Text}

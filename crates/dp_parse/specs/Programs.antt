@@ -1,5 +1,5 @@
 -- Whole programs by the grammar, with one case for each rule.
-use Rattle.std.specs.Prelude.{◌≡◌, ◌≤◌, ℕ, ℤ, pos, neg_ℤ, true, List, [], ◌∷◌}
+use Rattle.std.specs.Prelude.{◌≤◌, ℕ, pos, neg_ℤ, true, List, [], ◌∷◌}
 use Rattle.dp_lex.specs.Token.{Lexeme}
 use Rattle.dp_tree.specs.declared.raw.Name.{Name as TreeName}
 use Rattle.dp_tree.specs.declared.raw.RawExpr.{RawExpr}
@@ -9,7 +9,7 @@ use Rattle.dp_tree.specs.declared.raw.RawItem.{RawItem}
 use Rattle.dp_tree.specs.declared.raw.RawItem.TheVariants as item
 use Rattle.dp_tree.specs.declared.raw.RawProgram.{RawProgram}
 use Rattle.dp_parse.specs.declared.symbol.Symbol.TheVariants.{Name, Mark, Int, Void, Main, Return, While, Minus, Assign, OpenParen, CloseParen, OpenBracket, CloseBracket, OpenBrace, CloseBrace, Comma, Semicolon}
-use Rattle.dp_parse.specs.Symbols.{symbol, Is}
+use Rattle.dp_parse.specs.Symbols.{Is}
 use Rattle.dp_parse.specs.Leaves.{name_of, IsNumber}
 use Rattle.dp_parse.specs.Statements.{DerivesCondition, DerivesStatement, DerivesBlock}
 

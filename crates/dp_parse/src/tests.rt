@@ -59,24 +59,28 @@ fn show(alloc: Global, out: &mut Vec<u8>, e: &RawExpr) -> Result<(), AllocError>
             show(alloc, out, operand.get())?;
             out.extend_from_slice(b")")
         }
-        RawExpr::Binary(op, a, b) => show_both(alloc, out, a.get(), sign(*op), b.get()),
-        RawExpr::And(a, b) => show_both(alloc, out, a.get(), b"&&", b.get()),
-        RawExpr::Or(a, b) => show_both(alloc, out, a.get(), b"||", b.get()),
+        RawExpr::Binary(op, a, b) => {
+            out.extend_from_slice(b"(")?;
+            show(alloc, out, a.get())?;
+            out.extend_from_slice(sign(*op))?;
+            show(alloc, out, b.get())?;
+            out.extend_from_slice(b")")
+        }
+        RawExpr::And(a, b) => {
+            out.extend_from_slice(b"(")?;
+            show(alloc, out, a.get())?;
+            out.extend_from_slice(b"&&")?;
+            show(alloc, out, b.get())?;
+            out.extend_from_slice(b")")
+        }
+        RawExpr::Or(a, b) => {
+            out.extend_from_slice(b"(")?;
+            show(alloc, out, a.get())?;
+            out.extend_from_slice(b"||")?;
+            show(alloc, out, b.get())?;
+            out.extend_from_slice(b")")
+        }
     }
-}
-
-fn show_both(
-    alloc: Global,
-    out: &mut Vec<u8>,
-    a: &RawExpr,
-    sign: &[u8],
-    b: &RawExpr,
-) -> Result<(), AllocError> {
-    out.extend_from_slice(b"(")?;
-    show(alloc, out, a)?;
-    out.extend_from_slice(sign)?;
-    show(alloc, out, b)?;
-    out.extend_from_slice(b")")
 }
 
 /// The pieces one after the other.

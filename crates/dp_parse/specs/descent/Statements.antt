@@ -6,7 +6,7 @@ use Rattle.dp_tree.specs.declared.raw.RawStmt.{RawStmt}
 use Rattle.dp_tree.specs.declared.raw.RawStmt.TheVariants as tree
 use Rattle.dp_parse.specs.declared.symbol.Symbol.{Symbol}
 use Rattle.dp_parse.specs.declared.symbol.Symbol.TheVariants.{Name, Int, Print, While, If, Else, Assign, OpenParen, CloseParen, OpenBracket, CloseBracket, OpenBrace, CloseBrace, Semicolon}
-use Rattle.dp_parse.specs.descent.Steps.{Parser, ◌>>=◌, ◌>>◌, ◌<$>◌, pure, refuse, peek, advance, sees, eat, expect, name, many}
+use Rattle.dp_parse.specs.descent.Steps.{Parser, ◌>>=◌, ◌>>◌, ◌<$>◌, pure, refuse, peek, sees, eat, expect, name, many}
 use Rattle.dp_parse.specs.descent.Expressions.{whole, list}
 
 unfoldable pub condition : Parser RawExpr

@@ -1,5 +1,5 @@
-use Rattle.std.proofs.Common.{◌≡◌, refl, ap, ap₂, ◌∙◌, sym, ◌+◌, ◌≤◌, ◌&&◌, drop, length, arith}
-use Rattle.dp_parse.specs.Depth.{is_if, is_else}
+use Rattle.std.proofs.Common.{◌≡◌, ap, ◌∙◌, ◌+◌, ◌&&◌, drop, arith}
+use Rattle.dp_parse.specs.Depth.{is_if}
 use Rattle.dp_parse.proofs.Counts.{else_at, else_from, else_next, else_end, symbols, symbols_step, symbols_over, one, one-le, byte_one}
 use Rattle.dp_parse.proofs.depth.else_if.Goals as goal
 

@@ -1,6 +1,6 @@
-use Rattle.std.proofs.Common.{◌≡◌, refl, ap, ap₂, ◌∙◌, sym, ◌+◌, ◌-◌, ◌≤◌, max, drop, length, arith}
+use Rattle.std.proofs.Common.{◌≡◌, refl, ap, ap₂, ◌∙◌, ◌+◌, ◌-◌, max, drop, arith}
 use Rattle.dp_parse.specs.Depth.{opens, closes}
-use Rattle.dp_parse.proofs.Counts.{nesting_at, nesting_from, nesting_next, nesting_end, symbols, symbols_step, symbols_over, one, one-le, byte_one}
+use Rattle.dp_parse.proofs.Counts.{nesting_at, nesting_from, nesting_next, symbols, symbols_step, one, one-le, byte_one}
 use Rattle.dp_parse.proofs.depth.nesting.Goals as goal
 
 pub loop-token-init : goal.loop-token-init

@@ -1,6 +1,5 @@
-use Rattle.std.proofs.Common.{◌≡◌, ◌≤◌, ◌<◌, ◌-◌, max, map, length, drop}
+use Rattle.std.proofs.Common.{◌≡◌, ◌≤◌, ◌<◌, ◌-◌, map, length, drop}
 use Rattle.dp_lex.specs.Tokens.{lexeme}
-use Rattle.dp_parse.specs.Symbols.{symbol}
 use Rattle.dp_parse.specs.Depth.{nesting}
 use Rattle.dp_parse.proofs.Counts.{nesting_from, symbols}
 use Rattle.dp_parse.proofs.depth.nesting.Given as goal

@@ -1,6 +1,6 @@
-use Rattle.std.proofs.Common.{◌≡◌, refl, ap, ap₂, ◌∙◌, sym, ◌+◌, ◌≤◌, max, drop, length, arith}
+use Rattle.std.proofs.Common.{◌≡◌, refl, ap, ◌∙◌, ◌+◌, max, drop, arith}
 use Rattle.dp_parse.specs.Depth.{operators_after}
-use Rattle.dp_parse.proofs.Counts.{operators_at, operators_from, operators_next, operators_end, operators_after-le, symbols, symbols_step}
+use Rattle.dp_parse.proofs.Counts.{operators_at, operators_from, operators_next, operators_after-le, symbols, symbols_step}
 use Rattle.dp_parse.proofs.depth.operators.Goals as goal
 
 pub loop-token-init : goal.loop-token-init

@@ -1,4 +1,4 @@
-use Rattle.std.proofs.Common.{◌≡◌, ◌≤◌, ◌<◌, max, map, length, drop}
+use Rattle.std.proofs.Common.{◌≡◌, ◌≤◌, ◌<◌, map, length, drop}
 use Rattle.dp_lex.specs.Tokens.{lexeme}
 use Rattle.dp_parse.specs.Depth.{operators}
 use Rattle.dp_parse.proofs.Counts.{operators_from, symbols}

@@ -1,4 +1,4 @@
-use Rattle.std.proofs.Common.{◌≡◌, refl, ap, ap₂, ◌∙◌, sym, rules, arith, suc, ◌-◌, ◌<◌, ◌≤◌, length, Some, None}
+use Rattle.std.proofs.Common.{◌≡◌, refl, ap, ◌∙◌, sym, rules, arith, suc, ◌-◌, ◌<◌, length, Some, None}
 use Rattle.std.proofs.lemmas.Grind.{common_steps}
 use Rattle.dp_parse.specs.Symbols.{symbol_at}
 use Rattle.dp_parse.specs.Levels.{operands}
@@ -9,7 +9,7 @@ use Rattle.dp_parse.specs.descent.Expressions as read
 use Rattle.dp_parse.proofs.StepLemmas.{rest-le}
 use Rattle.dp_parse.proofs.Shorter.{shorter}
 use Rattle.dp_parse.proofs.ExpressionSound.{sound_expression, sound_nested}
-use Rattle.dp_parse.proofs.Levels.{rank, rank-le, tighter, level_ends, level_prefixed, level_chain, level_none, chain_end, chain_turn, chain_none, joins_some}
+use Rattle.dp_parse.proofs.Levels.{level_ends, level_prefixed, level_chain, level_none, chain_end, chain_turn, chain_none}
 use Rattle.dp_parse.proofs.expression.+expression.Goals as goal
 
 pub expression-returns-in_default : goal.expression-returns-in_default

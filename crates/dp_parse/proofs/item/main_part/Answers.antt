@@ -1,4 +1,4 @@
-use Rattle.std.proofs.Common.{◌≡◌, refl, ap, ◌∙◌, sym, rules, arith, ◌-◌, ◌<◌, ◌≤◌, List, length, true, false, Some, None}
+use Rattle.std.proofs.Common.{◌≡◌, refl, ap, ◌∙◌, sym, rules, arith, ◌-◌, List, true, false, None}
 use Rattle.std.proofs.lemmas.Grind.{common_steps}
 use Rattle.dp_tree.specs.declared.raw.RawStmt.{RawStmt}
 use Rattle.dp_parse.specs.descent.Steps.{Outcome, ◌>>=◌, and_then, pure}

@@ -1,4 +1,4 @@
-use Rattle.std.proofs.Common.{◌≡◌, refl, ap, ap₂, ◌∙◌, sym, rules, arith, ◌-◌, ◌<◌, ◌≤◌, length, true, false, [], None}
+use Rattle.std.proofs.Common.{◌≡◌, refl, ap, ap₂, ◌∙◌, sym, rules, arith, ◌-◌, ◌<◌, length, true, false, None}
 use Rattle.std.proofs.lemmas.Grind.{common_steps}
 use Rattle.dp_parse.specs.declared.symbol.Symbol.TheVariants.{Comma}
 use Rattle.dp_parse.specs.descent.Steps.{sees, separated}

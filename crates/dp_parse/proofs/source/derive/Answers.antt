@@ -1,4 +1,4 @@
-use Rattle.std.proofs.Common.{◌≡◌, ap, sym, ◌∙◌, map, None}
+use Rattle.std.proofs.Common.{◌≡◌, sym, ◌∙◌, map, None}
 use Rattle.dp_lex.specs.Tokens.{lexeme}
 use Rattle.dp_parse.specs.Depth.{depth_fault}
 use Rattle.dp_parse.proofs.Results.{gives}

@@ -1,4 +1,4 @@
-use Rattle.std.proofs.Common.{◌≡◌, ap, sym, ◌≤◌, ◌<◌, length, map, arith}
+use Rattle.std.proofs.Common.{ap, length, map, arith}
 use Rattle.dp_lex.specs.Tokens.{lexeme}
 use Rattle.dp_parse.proofs.Texts.{few_tokens}
 use Rattle.dp_parse.proofs.Results.{parses, unread}

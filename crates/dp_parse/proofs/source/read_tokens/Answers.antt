@@ -1,5 +1,5 @@
-use Rattle.std.proofs.Common.{◌≡◌, ap, sym, ◌∙◌, ◌<◌, ◌≤◌, ◌-◌, length, map, arith}
-use Rattle.dp_lex.specs.Tokens.{Reads, stays, lexeme}
+use Rattle.std.proofs.Common.{◌∙◌, ◌<◌, ◌-◌, length, arith}
+use Rattle.dp_lex.specs.Tokens.{stays}
 use Rattle.dp_parse.proofs.Texts.{next_token, next_within, all_tokens, refused_token}
 use Rattle.dp_parse.proofs.source.read_tokens.Goals as goal
 

@@ -1,11 +1,9 @@
-use Rattle.std.proofs.Common.{◌≡◌, refl, ap, ◌∙◌, sym, rules, arith, suc, ◌-◌, ◌<◌, ◌≤◌, List, length, true, false, Some, None}
+use Rattle.std.proofs.Common.{◌≡◌, refl, ap, ◌∙◌, sym, rules, arith, ◌-◌, List, true, false, None}
 use Rattle.std.proofs.lemmas.Grind.{common_steps}
 use Rattle.dp_lex.specs.Token.{Lexeme}
 use Rattle.dp_tree.specs.declared.raw.RawStmt.{RawStmt}
-use Rattle.dp_parse.specs.declared.symbol.Symbol.{Symbol}
 use Rattle.dp_parse.specs.declared.symbol.Symbol.TheVariants.{CloseBrace, Int, Name, Print, While}
-use Rattle.dp_parse.specs.Symbols.{symbol_at}
-use Rattle.dp_parse.specs.descent.Steps.{Outcome, Parser, ◌>>=◌, and_then, pure, expect, sees, many}
+use Rattle.dp_parse.specs.descent.Steps.{Outcome, ◌>>=◌, and_then, pure, expect, sees}
 use Rattle.dp_parse.specs.descent.Statements as read
 use Rattle.dp_parse.proofs.StepLemmas.{seen_some}
 use Rattle.dp_parse.proofs.Shorter.{shorter_statement}
