@@ -6,13 +6,11 @@ use Rattle.dp_tree.specs.Step.{Config, Event, Faulted, step}
 use Rattle.dp_tree.specs.Iteration.{decides_zero}
 use Rattle.dp_meaning.specs.declared.ends.Part.{Part}
 use Rattle.dp_meaning.specs.declared.ends.Part.TheVariants as part
-use Rattle.dp_meaning.specs.declared.ends.PartEnd.TheVariants as part_end
 use Rattle.dp_meaning.specs.declared.ends.IterEnd.{IterEnd}
 use Rattle.dp_meaning.specs.declared.ends.IterEnd.TheVariants as end
 use Rattle.dp_meaning.specs.declared.turn.Turn.TheVariants as turn
 use Rattle.dp_meaning.specs.MachineState.{MachineState, part_of, from_region}
 use Rattle.dp_meaning.specs.Moved.{Moved, Spoiled}
-use Rattle.dp_meaning.specs.PartRun.{PartRun}
 use Rattle.dp_meaning.specs.IterationRun.{IterationRun, IterationStops, HeadsOnce, has_closed, current_after, Awaits, GoesOn}
 use Rattle.dp_meaning.specs.Turn.{StepTaken, TurnTaken, closes}
 use Rattle.dp_meaning.proofs.MovedLemmas.{moved_none, moved_join, moved_step}
@@ -136,9 +134,6 @@ module _ (region turns rest_turns : ℕ) (old mid new : MachineState) (before be
   behind_first : from_region mid.config.to_do ≡ from_region old.config.to_do
   behind_first = taken.behind closes_not
 
-  pub behind_condition : part_of (from_region mid.config.to_do) ≡ part.Region region
-  behind_condition = ap part_of (behind_first ∙ from_region-over old.config.to_do (λ e. region_not_plain (part_of old.config.to_do) region here e)) ∙ here
-
   not_closed : (events : List Event) → has_closed old.current (taken.event ∷ events) ≡ false
   not_closed events = closed_by region turns old mid before between zero idle here fuel positive taken false events inside
 
@@ -201,37 +196,3 @@ module _ (region turns : ℕ) (old : MachineState) (out : List ℤ) (idle : old.
         stops = record { not_closed = refl; current = idle; head = ap part_of (sym same) ∙ ahead; rest = sym same; some = λ e. absurd (cc) };
         spoiled = refl;
       }
-
--- the iteration is under way
-module _ (region turns : ℕ) (old m : MachineState) (before after : List ℤ) (current : old.current ≡ Some region)
-    (ahead : part_of (from_region old.config.to_do) ≡ part.Region region) where
-  abbrev idle_before : MachineState
-  idle_before = with_current old None
-
-  abbrev again : MachineState
-  again = with_current m (Some region)
-
-  under_way_heads : (configs : List Config) → All IsPlain configs → HeadsOnce region old.current configs
-  under_way_heads configs plain = subst (λ c. HeadsOnce region c configs) (sym current) plain
-
-  never_closed : (events : List Event) → has_closed old.current events ≡ false
-  never_closed events = ap (λ c. has_closed c events) current
-
-  under_way : (events : List Event) → part_of m.config.to_do ≡ part.Plain → from_region m.config.to_do ≡ from_region old.config.to_do → GoesOn region old again events
-  under_way events plain behind = record {
-    not_closed = never_closed events;
-    current = sym (ap (λ c. current_after region c events) current ∙ still_current region events);
-    awaits = plain;
-    behind = behind;
-  }
-
-  pub finish_next : PartRun turns idle_before m before after part_end.Done → m.current ≡ None → IterationRun region turns old m before after end.Next
-  finish_next run idle = record {
-    events = run.events;
-    configs = run.configs;
-    moved = moved_between idle_before m old.current m.current before after run.events run.configs run.moved;
-    heads = under_way_heads run.configs run.plain;
-    within = run.within;
-    stops = record { not_closed = never_closed run.events; current = idle; head = ap part_of run.stops.rest ∙ ahead; rest = run.stops.rest; some = λ e. absurd (cc) };
-    spoiled = run.spoiled;
-  }

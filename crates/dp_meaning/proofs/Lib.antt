@@ -13,3 +13,4 @@ pub mod PartLemmas
 pub mod RegionLemmas
 pub mod IterationLemmas
 pub mod DepthLemmas
+pub mod ShallowLemmas

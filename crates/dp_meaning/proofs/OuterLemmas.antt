@@ -86,7 +86,7 @@ abbrev True : Bool → Type 0
 True b = IsTrue b
 
 -- a simple statement is one of `main`, and no region
-simple_outer : (x : Stmt) → IsTrue (is_simple x) → IsTrue (is_outer x) × (is_any_region (out-Stmt x) ≡ false)
+pub simple_outer : (x : Stmt) → IsTrue (is_simple x) → IsTrue (is_outer x) × (is_any_region (out-Stmt x) ≡ false)
 simple_outer x h =
     let r = simple_outer_at (out-Stmt x) (subst True (simple_out x) h) in
     (subst True (sym (outer_out x)) r.0, r.1)

@@ -14,3 +14,5 @@ mod turn;
 pub use ends::{IterEnd, Part, PartEnd};
 pub use machine::Machine;
 
+#[cfg(test)]
+mod tests;
