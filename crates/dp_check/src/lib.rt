@@ -14,8 +14,6 @@ mod program;
 mod region;
 mod sites;
 mod stmt;
-#[cfg(test)]
-mod tests;
 mod trees;
 mod uses;
 mod variables;

@@ -1,0 +1,15 @@
+pub mod pieces
+pub mod accepted
+pub mod WordLemmas
+pub mod WriteLemmas
+pub mod StreamLemmas
+pub mod ListingLemmas
+pub mod PartLemmas
+pub mod IterationLemmas
+pub mod RegionLemmas
+pub mod NextLemmas
+pub mod EndingLemmas
+pub mod SiteLemmas
+pub mod LoadLemmas
+pub mod TextsLemmas
+pub mod AnswerLemmas

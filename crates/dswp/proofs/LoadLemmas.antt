@@ -1,0 +1,62 @@
+-- What texts are read as.
+use Rattle.std.proofs.Common.{◌≡◌, refl, sym, ap, rules, arith, eq-eqb, ℕ, ◌+◌, ◌<◌, ◌≤◌, nat_lt, Bool, true, false, if◌then◌else◌, List, length, ℤ, Option, Some, None, Result, Ok, Err, IfSome, replicate}
+use Rattle.std.proofs.lemmas.List.{length-replicate}
+use Rattle.std.specs.Option.{IsSomeAnd}
+use Rattle.dp_base.specs.declared.Quantity.{Quantity}
+use Rattle.dp_base.specs.declared.Quantity.TheVariants.{InputBytes, ProgramBytes}
+use Rattle.dp_tree.specs.declared.Program.{Program}
+use Rattle.dp_tree.specs.declared.raw.RawProgram.{RawProgram}
+use Rattle.dp_lex.specs.Tokens.{RefusedAt}
+use Rattle.dp_parse.specs.Parses.{ParsesAs, NestsTooDeep, DerivesNothing}
+use Rattle.dp_check.specs.Verdict.{verdict}
+use Rattle.dp_edge.specs.Input.{numbers_of}
+use Rattle.dswp.specs.declared.refusal.Refusal.{Refusal}
+use Rattle.dswp.specs.declared.refusal.Refusal.TheVariants.{Byte, Syntax, Limit}
+use Rattle.dswp.specs.Program.{Reads, TooLong, NoToken, TooDeep, NoTree, Judged, sized}
+use Rattle.dswp.specs.Answer.{Contents, Holds, ReadsInput, input_of, or_refused}
+use Rattle.dswp.specs.Loading.{ReadsProgram}
+
+pub no_token : (text : List ℕ) (place : ℕ) → length text ≤ 65536 → RefusedAt text place → Reads text (Err (Byte place))
+no_token text place short h = NoToken place short h
+
+pub too_deep : (text : List ℕ) (quantity : Quantity) (count : ℕ) → length text ≤ 65536 → NestsTooDeep text quantity count → Reads text (Err (Limit quantity count))
+too_deep text quantity count short h = TooDeep quantity count short h
+
+pub no_tree : (text : List ℕ) → length text ≤ 65536 → DerivesNothing text → Reads text (Err Syntax)
+no_tree text short h = NoTree short h
+
+pub ruleset unread_texts = (no_token, too_deep, no_tree)
+
+pub judged : (text : List ℕ) (raw : RawProgram) (read : Result Program Refusal) → length text ≤ 65536 → ParsesAs text raw → read ≡ sized (verdict raw) → Reads text read
+judged text raw read short h e = rw e (Judged raw short h)
+
+pub ruleset judged_texts = (judged)
+
+-- a text that the shelf holds, so far as it tells, and that is longer than the room
+abbrev LongText : Contents → List ℕ → ℕ → Type 0
+LongText contents name most = (text : List ℕ) × (Holds contents name text × (most < length text))
+
+long_held : (held : List ℕ → Option (List ℕ)) (name : List ℕ) (most : ℕ) (at : Option (List ℕ)) → held name ≡ at → IsSomeAnd at (λ content. most < length content) → LongText (Some held) name most
+long_held held name most None e h = absurd h
+long_held held name most (Some text) e h = (text, (e, h))
+
+long_text : (contents : Contents) (name : List ℕ) (most : ℕ) → IfSome contents (λ held. IsSomeAnd (held name) (λ content. most < length content)) → LongText contents name most
+long_text None name most h = let zero : ℕ = 0 in (replicate (most + 1) zero, (tt, omega (arith, length-replicate (most + 1) zero)))
+long_text (Some held) name most h = long_held held name most (held name) refl h
+
+long_input_of : (text : List ℕ) (b : Bool) → b ≡ true → (if b then Err (Limit InputBytes 2097153) else or_refused (numbers_of text)) ≡ Err (Limit InputBytes 2097153)
+long_input_of text true e = refl
+long_input_of text false e = absurd (cc e)
+
+-- an input that is longer than its limit
+pub long_input : (contents : Contents) (name : List ℕ) → IfSome contents (λ held. IsSomeAnd (held name) (λ content. 2097152 < length content)) → ReadsInput contents name (Err (Limit InputBytes 2097153))
+long_input contents name h =
+    let found = long_text contents name 2097152 h in
+    let long : nat_lt 2097152 (length found.0) ≡ true = search (rules, found.1.1) in
+    record { text = found.0; held = found.1.0; reads = sym (long_input_of found.0 (nat_lt 2097152 (length found.0)) long) }
+
+-- a program's text that is longer than its limit
+pub long_program : (contents : Contents) (name : List ℕ) → IfSome contents (λ held. IsSomeAnd (held name) (λ content. 65536 < length content)) → ReadsProgram contents name (Err (Limit ProgramBytes 65537))
+long_program contents name h = let found = long_text contents name 65536 h in record { text = found.0; held = found.1.0; reads = TooLong found.1.1 }
+
+pub ruleset long_texts = (long_input, long_program)

@@ -1,0 +1,5 @@
+pub mod Simple
+pub mod Sites
+pub mod Laid
+pub mod Text
+pub mod Sequential

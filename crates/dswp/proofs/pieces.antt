@@ -1,0 +1,17 @@
+pub mod Lists
+pub mod Seams
+pub mod Shifts
+pub mod Counts
+pub mod Tallies
+pub mod Statements
+pub mod Avoided
+pub mod Tops
+pub mod Heads
+pub mod Ends
+pub mod Parts
+pub mod Iterations
+pub mod Drives
+pub mod Joins
+pub mod Reports
+pub mod Recovered
+pub mod OneStage

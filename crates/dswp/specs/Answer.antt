@@ -1,0 +1,65 @@
+-- What is answered to the words and to the texts that they name: a status, and the bytes that are written.
+use Rattle.std.specs.Prelude.{◌≡◌, ℕ, if◌then◌else◌, List, [], length, nat_lt, ℤ, Option, Some, None, Result, Ok, Err, IfSome}
+use Rattle.dp_base.specs.declared.Quantity.TheVariants.{InputBytes, InputWords}
+use Rattle.dp_tree.specs.declared.Program.{Program}
+use Rattle.dp_edge.specs.declared.input.InputFail.{InputFail}
+use Rattle.dp_edge.specs.declared.input.InputFail.TheVariants.{TooMany, Refused, NoMemory}
+use Rattle.dp_edge.specs.Input.{numbers_of}
+use Rattle.dswp.specs.declared.refusal.Role.{Role}
+use Rattle.dswp.specs.declared.refusal.Role.TheVariants as role
+use Rattle.dswp.specs.declared.refusal.Refusal.{Refusal}
+use Rattle.dswp.specs.declared.refusal.Refusal.TheVariants.{Words, InputWord, Limit}
+use Rattle.dswp.specs.Refusal.{refusal_line, refusal_status}
+use Rattle.dswp.specs.Words.{Run, Asks}
+use Rattle.dswp.specs.Program.{Reads}
+use Rattle.dswp.specs.RunText.{source_run, run_text, status_of}
+
+-- what a shelf holds under each name, where it tells it
+abbrev pub Contents : Type 0
+Contents = Option (List ℕ → Option (List ℕ))
+
+-- the shelf holds the text under the name, so far as it tells
+abbrev pub Holds : Contents → List ℕ → List ℕ → Type 0
+Holds contents name text = IfSome contents (λ held. held name ≡ Some text)
+
+-- the refusal of an input's text
+abbrev pub refusal_of : InputFail → Refusal
+refusal_of (TooMany count) = Limit InputWords count
+refusal_of (Refused word) = InputWord word
+refusal_of NoMemory = Words
+
+abbrev pub or_refused : Result (List ℤ) InputFail → Result (List ℤ) Refusal
+or_refused (Ok numbers) = Ok numbers
+or_refused (Err fail) = Err (refusal_of fail)
+
+-- the numbers of an input's text, or its refusal
+abbrev pub input_of : List ℕ → Result (List ℤ) Refusal
+input_of text = if nat_lt 2097152 (length text) then Err (Limit InputBytes 2097153) else or_refused (numbers_of text)
+
+-- what an input's text under the name is read as
+pub record ReadsInput (contents : Contents) (name : List ℕ) (read : Result (List ℤ) Refusal) : Type 0 where
+  pub text : List ℕ
+  pub held : Holds contents name text
+  pub reads : read ≡ input_of text
+
+-- the input of a run: no numbers where none is named, and else what the text under the name gives
+pub data Input (contents : Contents) : Option (List ℕ) → Result (List ℤ) Refusal → Type 0 where
+  Unnamed : Input contents None (Ok [])
+  Named : (name : List ℕ) (read : Result (List ℤ) Refusal) → ReadsInput contents name read → Input contents (Some name) read
+
+-- The first refusal, in the order of words, program and input, or else the run.
+pub data Answer (words : List (List ℕ)) (contents : Contents) : ℕ → List ℕ → Type 0 where
+  NotTaken : ((run : Run) → ¬ Asks words run) → Answer words contents (refusal_status Words) (refusal_line Words)
+  ProgramRefused : (run : Run) (text : List ℕ) (refusal : Refusal) → Asks words run → Holds contents run.program text → Reads text (Err refusal) →
+      Answer words contents (refusal_status refusal) (refusal_line refusal)
+  InputRefused : (run : Run) (text : List ℕ) (p : Program) (refusal : Refusal) → Asks words run → Holds contents run.program text → Reads text (Ok p) →
+      Input contents run.input (Err refusal) → Answer words contents (refusal_status refusal) (refusal_line refusal)
+  Ran : (run : Run) (text : List ℕ) (p : Program) (numbers : List ℤ) → Asks words run → Holds contents run.program text → Reads text (Ok p) →
+      Input contents run.input (Ok numbers) →
+      Answer words contents (status_of (source_run p numbers run.fuel).end) (run_text p (source_run p numbers run.fuel))
+
+-- The text of this role is to be read under this name: no refusal comes before.
+pub data IsRead (words : List (List ℕ)) (contents : Contents) : Role → List ℕ → Type 0 where
+  OfProgram : (run : Run) → Asks words run → IsRead words contents role.Program run.program
+  OfInput : (run : Run) (text name : List ℕ) (p : Program) → Asks words run → Holds contents run.program text → Reads text (Ok p) →
+      run.input ≡ Some name → IsRead words contents role.Input name

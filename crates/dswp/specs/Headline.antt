@@ -1,0 +1,30 @@
+-- What one call of the program does: the headline.
+use Rattle.std.specs.Prelude.{◌≡◌, ◌⊎◌, ◌<◌, ℕ, List, [], ◌∷◌, ◌++◌, Option}
+use Rattle.std.specs.Option.{option_map}
+use Rattle.dp_edge.specs.Sink.{appended}
+use Rattle.dswp.specs.declared.refusal.Role.{Role}
+use Rattle.dswp.specs.Refusal.{failed_read_line}
+use Rattle.dswp.specs.Output.{WritesFront}
+use Rattle.dswp.specs.Answer.{Contents, Answer, IsRead}
+
+-- No read and no write failed: the whole answer was written and the status is its own, or memory was wanting, which is
+-- status 7, and a front of the answer was written.
+pub data Answered (words : List (List ℕ)) (contents : Contents) (told tells : Option (List ℕ)) : ℕ → Type 0 where
+  Whole : (status : ℕ) (bytes : List ℕ) → Answer words contents status bytes → tells ≡ appended bytes told → Answered words contents told tells status
+  Short : (status : ℕ) (bytes : List ℕ) → Answer words contents status bytes → WritesFront bytes told tells → Answered words contents told tells 7
+  Nothing : tells ≡ told → Answered words contents told tells 7
+
+-- A read failed: that of a text which no refusal keeps from being read. Its line was written and the status is 5, or
+-- memory was wanting, which is status 7, and a front of the line was written.
+pub record ReadFailed (words : List (List ℕ)) (contents : Contents) (failed fails : Option (List (List ℕ))) (told tells : Option (List ℕ)) (status : ℕ) : Type 0 where
+  pub role : Role
+  pub name : List ℕ
+  pub is_read : IsRead words contents role name
+  pub names : fails ≡ option_map (λ names. names ++ name ∷ []) failed
+  pub written : ((status ≡ 5) × (tells ≡ appended (failed_read_line role) told)) ⊎ ((status ≡ 7) × WritesFront (failed_read_line role) told tells)
+
+-- A write failed: a front of the answer was written, or of the line on a failed read, and nothing after it.
+pub data WriteFailed (words : List (List ℕ)) (contents : Contents) (told tells : Option (List ℕ)) : ℕ → ℕ → Type 0 where
+  OfAnswer : (faults status : ℕ) (bytes : List ℕ) → Answer words contents status bytes → WritesFront bytes told tells → WriteFailed words contents told tells faults faults
+  OfFailedRead : (old new : ℕ) (role : Role) (name : List ℕ) → old < new → IsRead words contents role name → WritesFront (failed_read_line role) told tells →
+      WriteFailed words contents told tells old new

@@ -1,0 +1,36 @@
+-- What the texts that the words name are loaded as.
+use Rattle.std.specs.Prelude.{◌≡◌, ◌⊎◌, ◌<◌, ℕ, List, [], ◌∷◌, ◌++◌, ℤ, Option, Result, Ok, Err}
+use Rattle.std.specs.Option.{option_map}
+use Rattle.dp_tree.specs.declared.Program.{Program as Tree}
+use Rattle.dswp.specs.declared.refusal.Role.{Role}
+use Rattle.dswp.specs.declared.refusal.Refusal.{Refusal}
+use Rattle.dswp.specs.declared.load.Loaded.{Loaded}
+use Rattle.dswp.specs.declared.load.Loaded.TheVariants.{Text, Refused, Failed}
+use Rattle.dswp.specs.Answer.{Contents, Holds, Input}
+use Rattle.dswp.specs.Program.{Reads}
+
+-- what a program's text under the name is read as
+pub record ReadsProgram (contents : Contents) (name : List ℕ) (read : Result Tree Refusal) : Type 0 where
+  pub text : List ℕ
+  pub held : Holds contents name text
+  pub reads : Reads text read
+
+-- What one text was loaded as: what it stands for, or its refusal; or its reading failed.
+abbrev pub Loads : {X : Type 0} → (Result X Refusal → Type 0) → Loaded X → Type 0
+Loads P (Text x) = P (Ok x)
+Loads P (Refused refusal) = P (Err refusal)
+Loads P Failed = Unit {0}
+
+-- the shelf's count of faults rises where reading failed, and else stays
+abbrev pub FaultsAfterLoad : {X E : Type 0} → Result (Loaded X) E → ℕ → ℕ → Type 0
+FaultsAfterLoad (Ok Failed) old new = old < new
+FaultsAfterLoad (Ok (Text x)) old new = new ≡ old
+FaultsAfterLoad (Ok (Refused refusal)) old new = new ≡ old
+FaultsAfterLoad (Err e) old new = new ≡ old
+
+-- the name is added to the failed names where reading failed, and else nothing is
+abbrev pub names_after : {X E : Type 0} → Result (Loaded X) E → List ℕ → List (List ℕ) → List (List ℕ)
+names_after (Ok Failed) name names = names ++ name ∷ []
+names_after (Ok (Text x)) name names = names
+names_after (Ok (Refused refusal)) name names = names
+names_after (Err e) name names = names

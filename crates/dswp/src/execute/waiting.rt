@@ -1,0 +1,43 @@
+//! Prints that wait to be written.
+ghost use Rattle.std.specs.Prelude.{◌≡◌, ◌<◌, ◌-◌, ◌^◌, [], OnOk};
+ghost use Rattle.dswp.specs.Output.{Streams};
+ghost use Rattle.dswp.specs.Stop.{FaultsAfter};
+
+use crate::execute::writing::write;
+use crate::stop::Stop;
+use dp_base::Row;
+use dp_edge::Sink;
+use dp_report::prints_text;
+use std::alloc::Global;
+
+/// So many prints don't wait any longer.
+const MANY: usize = 4096;
+
+/// Writes the prints that wait where they are many.
+pub fn flush_if_many<K: Sink>(
+    alloc: Global,
+    waiting: &mut Row<i64>,
+    sink: &mut K,
+) -> Result<(), Stop>
+    requires { K.faults sink.old < 2 ^ 64 - 1 }
+    ensures faults { FaultsAfter result (K.faults sink.old) (K.faults sink.new) }
+    ensures streams { Streams result waiting.old waiting.new (K.written sink.old) (K.written sink.new) }
+{
+    if waiting.len() < MANY {
+        return Ok(());
+    }
+    flush(alloc, waiting, sink)
+}
+
+/// Writes all prints that wait.
+pub fn flush<K: Sink>(alloc: Global, waiting: &mut Row<i64>, sink: &mut K) -> Result<(), Stop>
+    requires { K.faults sink.old < 2 ^ 64 - 1 }
+    ensures faults { FaultsAfter result (K.faults sink.old) (K.faults sink.new) }
+    ensures ok { OnOk result (waiting.new ≡ []) }
+    ensures streams { Streams result waiting.old waiting.new (K.written sink.old) (K.written sink.new) }
+{
+    let text = prints_text(alloc, waiting.as_slice())?;
+    write(text.as_slice(), sink)?;
+    waiting.clear();
+    Ok(())
+}

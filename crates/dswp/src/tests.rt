@@ -1,0 +1,69 @@
+//! The program over a shelf and a sink in memory.
+mod limits;
+mod programs;
+mod refusals;
+mod runs;
+
+ghost use Rattle.std.specs.Prelude.{◌≡◌, IfOk};
+
+use crate::answer::drive;
+use dp_base::{NoMemory, Row};
+use dp_edge::{Held, MemShelf, MemSink, OpenGate};
+use std::alloc::Global;
+use std::process::Abort;
+use std::test::Fail;
+
+/// A text under a name.
+type Named<'t> = (&'t str, &'t [u8]);
+
+fn shelf_of(alloc: Global, held: &[Named], failing: &[u64]) -> Result<MemShelf, NoMemory>
+    ensures { IfOk result (λ shelf. shelf.faults ≡ 0) }
+{
+    let mut texts = Row::new(alloc);
+    for (name, content) in held {
+        texts.push(Held {
+            name: Row::from_slice(alloc, name.as_bytes())?,
+            content: Row::from_slice(alloc, content)?,
+        })?;
+    }
+    Ok(MemShelf::new(alloc, texts, Row::from_slice(alloc, failing)?))
+}
+
+fn words_of(alloc: Global, words: &[&str]) -> Result<Vec<String>, NoMemory> {
+    let mut list = Vec::new(alloc);
+    for word in words {
+        list.push(String::from_str(alloc, word)?)?;
+    }
+    Ok(list)
+}
+
+/// The words give this status and these bytes, where the shelf's calls of these numbers fail and the sink has so much room.
+fn gives_with(
+    rt: &impl Abort,
+    alloc: Global,
+    words: &[&str],
+    held: &[Named],
+    failing: &[u64],
+    room: Option<u64>,
+    status: u8,
+    text: &[u8],
+) -> Result<(), NoMemory> {
+    let list = words_of(alloc, words)?;
+    let mut shelf = shelf_of(alloc, held, failing)?;
+    let mut sink = MemSink::new(alloc, room);
+    let answered = drive(alloc, list.as_slice(), &mut shelf, &mut sink, &OpenGate);
+    assert_eq!(rt; sink.bytes(), text, "{words:?}");
+    assert_eq!(rt; answered, status, "{words:?}");
+    Ok(())
+}
+
+fn gives(
+    rt: &impl Abort,
+    alloc: Global,
+    words: &[&str],
+    held: &[Named],
+    status: u8,
+    text: &[u8],
+) -> Result<(), NoMemory> {
+    gives_with(rt, alloc, words, held, &[], None, status, text)
+}
