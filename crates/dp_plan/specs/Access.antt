@@ -45,6 +45,7 @@ abbrev mutual
   accesses_in end_of-Stmt = []
   accesses_in (more_of-Stmt s rest) = accesses s ++ accesses_in rest
 
+-- the statement is region r
 abbrev pub is_region_at : ℕ → Stmt → Bool
 is_region_at r s = is_region r (out-Stmt s)
 
@@ -60,6 +61,7 @@ region_statement p plan = region_in p plan.region
 abbrev pub region_accesses : Program → Plan → List Access
 region_accesses p plan = flat_map accesses (region_statement p plan)
 
+-- the stored variable, if any, is x
 abbrev pub is_same_variable : ℕ → Option ℕ → Bool
 is_same_variable x None = false
 is_same_variable x (Some y) = x == y

@@ -12,6 +12,7 @@ pub record Enclosing : Type 0 where
   pub site : ℕ
   pub inside : List ℕ
 
+-- the sites of several statements
 abbrev pub sites_of : {n : _} → Row_of-Stmt n → List ℕ
 sites_of rows = map site_in (accesses_in rows)
 
@@ -27,6 +28,7 @@ abbrev mutual
   ifs (Print site e) = []
   ifs (Call f line args) = []
 
+  -- those of several statements
   pub ifs_in : {n : _} → Row_of-Stmt n → List Enclosing
   ifs_in end_of-Stmt = []
   ifs_in (more_of-Stmt s rest) = ifs s ++ ifs_in rest
@@ -42,6 +44,7 @@ abbrev mutual
   inner_whiles (Print site e) = []
   inner_whiles (Call f line args) = []
 
+  -- those of several statements
   pub inner_whiles_in : {n : _} → Row_of-Stmt n → List Enclosing
   inner_whiles_in end_of-Stmt = []
   inner_whiles_in (more_of-Stmt s rest) = inner_whiles s ++ inner_whiles_in rest
@@ -50,5 +53,6 @@ abbrev mutual
 abbrev pub region_ifs : Program → ℕ → List Enclosing
 region_ifs p r = flat_map ifs (region_in p r)
 
+-- region r's inner `while` statements
 abbrev pub region_inner_whiles : Program → ℕ → List Enclosing
 region_inner_whiles p r = flat_map inner_whiles (region_in p r)

@@ -8,6 +8,7 @@ use Rattle.dp_plan.specs.declared.StageKind.TheVariants.{Seq, Par}
 use Rattle.dp_plan.specs.Written.{WrittenStage, WrittenPlan, region_sites, listed, has, written_stage}
 use Rattle.dp_plan.specs.Enclosing.{Enclosing, region_ifs, region_inner_whiles}
 
+-- the lesser of a number and another, if there is one
 abbrev pub lesser : ℕ → Option ℕ → Option ℕ
 lesser n None = Some n
 lesser n (Some m) = Some (if nat_lt m n then m else n)
@@ -17,6 +18,7 @@ abbrev pub least : List ℕ → Option ℕ
 least [] = None
 least (n ∷ rest) = lesser n (least rest)
 
+-- the first number
 abbrev pub first_in : List ℕ → ℕ
 first_in [] = 0
 first_in (n ∷ rest) = n
@@ -30,9 +32,11 @@ abbrev pub condition_unless : Program → WrittenPlan → Bool → Option ℕ
 condition_unless p w true = None
 condition_unless p w false = Some (condition p w)
 
+-- the site stands there more than once
 abbrev pub occurs_again : List ℕ → ℕ → Bool
 occurs_again sites site = nat_lt 1 (count_by (λ n. n == site) sites)
 
+-- the kind is replicated
 abbrev pub is_replicated_kind : StageKind → Bool
 is_replicated_kind Par = true
 is_replicated_kind Seq = false
@@ -53,6 +57,7 @@ foreign p w = least (filter (λ site. not (has site (region_sites p w.region))) 
 abbrev pub condition_later : Program → WrittenPlan → Option ℕ
 condition_later p w = condition_unless p w (written_stage w (condition p w) == 1)
 
+-- the first line is of a sequential stage
 abbrev pub begins_sequential : List WrittenStage → Bool
 begins_sequential [] = true
 begins_sequential (line ∷ rest) = not (is_replicated_kind line.kind)
@@ -68,6 +73,7 @@ second_neighbour (line ∷ []) = None
 second_neighbour (line ∷ next ∷ rest) =
     if is_replicated_kind line.kind && is_replicated_kind next.kind then Some next else second_neighbour (next ∷ rest)
 
+-- the least of the line's sites
 abbrev pub least_site_in : Option WrittenStage → Option ℕ
 least_site_in None = None
 least_site_in (Some line) = least line.sites
@@ -80,6 +86,7 @@ neighbours_replicated w = least_site_in (second_neighbour w.stages)
 abbrev pub comes_late : WrittenPlan → Enclosing → Bool
 comes_late w e = list_any (λ site. nat_lt (written_stage w site) (written_stage w e.site)) e.inside
 
+-- the condition's site
 abbrev pub site_of_condition : Enclosing → ℕ
 site_of_condition e = e.site
 
@@ -87,9 +94,11 @@ site_of_condition e = e.site
 abbrev pub late_while : Program → WrittenPlan → Option ℕ
 late_while p w = least (map site_of_condition (filter (comes_late w) (region_inner_whiles p w.region)))
 
+-- the assumption's site
 abbrev pub assumed_site : Assume → ℕ
 assumed_site a = a.site.0
 
+-- the condition comes late, and nothing is assumed of it
 abbrev pub is_late_unassumed : WrittenPlan → Enclosing → Bool
 is_late_unassumed w e = comes_late w e && not (has e.site (map assumed_site w.assume))
 
@@ -97,6 +106,7 @@ is_late_unassumed w e = comes_late w e && not (has e.site (map assumed_site w.as
 abbrev pub late_if : Program → WrittenPlan → Option ℕ
 late_if p w = least (map site_of_condition (filter (is_late_unassumed w) (region_ifs p w.region)))
 
+-- the site is no `if` of the region, or is assumed more than once
 abbrev pub is_no_if_or_again : Program → WrittenPlan → ℕ → Bool
 is_no_if_or_again p w site =
     not (has site (map site_of_condition (region_ifs p w.region))) || occurs_again (map assumed_site w.assume) site

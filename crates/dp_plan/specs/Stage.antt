@@ -8,6 +8,7 @@ use Rattle.dp_plan.specs.declared.StageKind.{StageKind}
 use Rattle.dp_plan.specs.declared.StageKind.TheVariants.{Seq, Par}
 use Rattle.dp_plan.specs.declared.Plan.{Plan}
 
+-- the first site in an entry of the table
 abbrev pub first_site_of : Option RegionInfo → ℕ
 first_site_of None = 0
 first_site_of (Some info) = info.first.0
@@ -20,6 +21,7 @@ first_site p plan = first_site_of (slice_get p.regions (plan.region - 1))
 abbrev pub stage_of : Program → Plan → ℕ → ℕ
 stage_of p plan site = if nat_le (first_site p plan) site then slice_index plan.stage_of (site - first_site p plan) else 0
 
+-- the kind is replicated
 abbrev pub is_par : Option StageKind → Bool
 is_par (Some Par) = true
 is_par (Some Seq) = false
@@ -30,6 +32,7 @@ abbrev pub is_replicated : Plan → ℕ → Bool
 is_replicated plan zero = false
 is_replicated plan (suc s) = is_par (slice_get plan.stages s)
 
+-- the entry is that of a body local of region r
 abbrev pub is_local : ℕ → Option VarInfo → Bool
 is_local r None = false
 is_local r (Some info) = is_local_of r info.scope

@@ -16,6 +16,7 @@ rules p w =
     not_listed p w ∷ listed_twice w ∷ foreign p w ∷ condition_later p w ∷ first_replicated p w ∷ neighbours_replicated w
     ∷ late_while p w ∷ late_if p w ∷ wrongly_assumed p w ∷ []
 
+-- the first that names a site, where the rules count from here
 abbrev pub broken_from : ℕ → List (Option ℕ) → Option BrokenRule
 broken_from rule [] = None
 broken_from rule (Some site ∷ rest) = Some (record { rule = rule; site = site })
@@ -25,6 +26,7 @@ broken_from rule (None ∷ rest) = broken_from (suc rule) rest
 abbrev pub first_broken : Program → WrittenPlan → Option BrokenRule
 first_broken p w = broken_from 1 (rules p w)
 
+-- the earlier one, or else the later
 abbrev pub or_later : Option BrokenRule → Option BrokenRule → Option BrokenRule
 or_later (Some broken) later = Some broken
 or_later None later = later

@@ -20,6 +20,7 @@ pub record WrittenPlan : Type 0 where
   pub stages : List WrittenStage
   pub assume : List Assume
 
+-- the access's site
 abbrev pub site_in : Access → ℕ
 site_in a = a.site
 
@@ -27,6 +28,7 @@ site_in a = a.site
 abbrev pub region_sites : Program → ℕ → List ℕ
 region_sites p r = map site_in (flat_map accesses (region_in p r))
 
+-- the line's sites
 abbrev pub sites_in : WrittenStage → List ℕ
 sites_in line = line.sites
 
@@ -34,6 +36,7 @@ sites_in line = line.sites
 abbrev pub listed : WrittenPlan → List ℕ
 listed w = flat_map sites_in w.stages
 
+-- the site is among these
 abbrev pub has : ℕ → List ℕ → Bool
 has site sites = list_any (λ n. n == site) sites
 
@@ -51,6 +54,7 @@ abbrev pub assumption_at : List Assume → ℕ → Option Assume
 assumption_at [] site = None
 assumption_at (a ∷ rest) site = if a.site.0 == site then Some a else assumption_at rest site
 
+-- the line's kind
 abbrev pub kind_in : WrittenStage → StageKind
 kind_in line = line.kind
 

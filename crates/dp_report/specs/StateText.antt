@@ -2,7 +2,7 @@
 use Rattle.std.specs.Prelude.{ℕ, ℤ, List, ◌++◌, take, drop, codes}
 use Rattle.std.specs.List.{flat_map}
 use Rattle.dp_tree.specs.declared.VarInfo.{VarInfo}
-use Rattle.dp_tree.specs.Frame.{globals_in}
+use Rattle.dp_tree.specs.Globals.{globals_in}
 use Rattle.dp_report.specs.Lines.{line, spaced_signed}
 
 -- a variable's values, in the order of its cells

@@ -37,10 +37,12 @@ load_cause p plan base i earlier site [] = None
 load_cause p plan base i earlier site (l ∷ rest) =
     or_else (by_load site l (seen p plan base (stage_of p plan site) i earlier l.cell)) (load_cause p plan base i earlier site rest)
 
+-- .. where the site is checked
 abbrev pub checked_load_cause : Program → Plan → List ℤ → ℕ → List Past → Event → Option Cause
 checked_load_cause p plan base i earlier event =
     if is_checked p plan event.site then load_cause p plan base i earlier event.site event.loads else None
 
+-- the event goes otherwise than assumed
 abbrev pub assumption_cause : Plan → Event → Option Cause
 assumption_cause plan event = if event_as_assumed plan event then None else Some (ByAssumption event.site)
 
@@ -68,6 +70,7 @@ end_cause (run_end.Fault fault) = ByFault fault
 end_cause run_end.Fuel = ByFuel
 end_cause run_end.Done = ByFuel
 
+-- this cause, or else the end's
 abbrev pub cause_or_end : Option Cause → End → Cause
 cause_or_end (Some cause) end = cause
 cause_or_end None end = end_cause end

@@ -12,6 +12,7 @@ use Rattle.dp_tree.specs.Iteration.{iteration, memory_after, has_ended}
 use Rattle.dp_plan.specs.Access.{stage_of, is_checked}
 use Rattle.dp_semantics.specs.Seen.{Past, seen}
 
+-- the numbers are equal
 abbrev pub int_eq : ℤ → ℤ → Bool
 int_eq x y = int_le x y && int_le y x
 
@@ -50,9 +51,11 @@ went taken (Printed value) = true
 abbrev pub goes_as : ℕ → Effect → Assume → Bool
 goes_as site effect a = not (a.site.0 == site) || went a.taken effect
 
+-- .. as each of its assumptions says
 abbrev pub as_assumed : Plan → ℕ → Effect → Bool
 as_assumed plan site effect = list_all (goes_as site effect) plan.assume
 
+-- the same of an event
 abbrev pub event_as_assumed : Plan → Event → Bool
 event_as_assumed plan event = as_assumed plan event.site event.effect
 

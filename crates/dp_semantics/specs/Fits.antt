@@ -19,9 +19,11 @@ lies_in_order r k [] = true
 lies_in_order r k (x ∷ rest) =
     ((x.first.0 == k) && (nat_lt 0 x.length && (not (is_local_of r x.scope) || (x.length == 1)))) && lies_in_order r (k + x.length) rest
 
+-- the variable has a cell
 abbrev pub has_cell : Program → ℕ → Bool
 has_cell p x = nat_lt 0 (cell_count p (record { 0 = x }))
 
+-- the stored variable, if any, has a cell
 abbrev pub stores_known : Program → Option ℕ → Bool
 stores_known p None = true
 stores_known p (Some x) = has_cell p x
@@ -31,6 +33,7 @@ abbrev pub access_known : Program → Plan → Access → Bool
 access_known p plan a =
     list_all (has_cell p) a.loads && (stores_known p a.stores && (nat_lt 0 (stage_of p plan a.site) && nat_le (stage_of p plan a.site) (length plan.stages)))
 
+-- the site isn't the condition
 abbrev pub is_inner : Program → Plan → Access → Bool
 is_inner p plan a = not (a.site == first_site p plan)
 
@@ -70,9 +73,11 @@ abbrev pub lies_between : ℕ → Option RegionInfo → Bool
 lies_between site None = false
 lies_between site (Some info) = nat_le info.first.0 site && nat_le site info.last.0
 
+-- the access's site is one of region r's numbers
 abbrev pub is_numbered : Program → ℕ → Access → Bool
 is_numbered p r a = lies_between a.site (slice_get p.regions (r - 1))
 
+-- there is exactly one
 abbrev pub is_single : List Stmt → Bool
 is_single [] = false
 is_single (s ∷ []) = true

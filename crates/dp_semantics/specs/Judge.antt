@@ -21,6 +21,7 @@ pub record Agreed : Type 0 where
   pub effects : List Effect
   pub closing : Bool
 
+-- what is decided of a packet
 pub data Judgement : Type 0 where
   Clean : Agreed → Judgement
   Unclean : Judgement
@@ -47,6 +48,7 @@ judge_step p plan c x rest head =
     judged_by p plan c x rest head (loads_hold (site_of head).0 c.turn.cells (words_left p plan c.turn head))
     (taken_from p head (words_left p plan c.turn head))
 
+-- it goes on, or is Unclean
 abbrev pub judge_by : (Judging → Judgement) → Option Judging → Judgement
 judge_by go (Some next) = go next
 judge_by go None = Unclean
@@ -74,6 +76,7 @@ last plan = suc (length plan.stages)
 abbrev pub judge_lists : Program → Plan → ℕ → List ℤ → List (List Word) → Judgement
 judge_lists p plan left cells lists = judge_from p plan left (record { turn = turn_begin p plan (last plan) cells lists; effects = [] })
 
+-- the judgement of the words, unless the packet is void
 abbrev pub judge_status : Judgement → Status → Judgement
 judge_status judgement Going = judgement
 judge_status judgement Closing = judgement

@@ -20,5 +20,6 @@ pub record Recovers (p : Program) (plan : Plan) (run : Run) : Type 0 where
   pub only : (i : ℕ) → Contains (recovered p plan run) i → (i < begun_count run plan.region) × (is_recovered p plan run i ≡ true)
   pub each : (i : ℕ) → i < begun_count run plan.region → is_recovered p plan run i ≡ true → Contains (recovered p plan run) i
 
+-- So it is in any run.
 abbrev pub RecoversInOrder : Program → Plan → Type 0
 RecoversInOrder p plan = (run : Run) → Recovers p plan run

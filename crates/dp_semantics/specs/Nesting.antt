@@ -25,6 +25,7 @@ abbrev mutual
   well_nested p plan (Region' r site cond _ body) = false
   well_nested p plan (Call f line args) = false
 
+  -- the same of several statements
   pub well_nested_in : {n : _} → Program → Plan → Row_of-Stmt n → Bool
   well_nested_in p plan end_of-Stmt = true
   well_nested_in p plan (more_of-Stmt x rest) = well_nested p plan x && well_nested_in p plan rest
@@ -40,6 +41,7 @@ abbrev mutual
   is_free r (Region' q site cond _ body) = not (q == r) && is_free_in r body
   is_free r (Call f line args) = true
 
+  -- the same of several statements
   pub is_free_in : {n : _} → ℕ → Row_of-Stmt n → Bool
   is_free_in r end_of-Stmt = true
   is_free_in r (more_of-Stmt x rest) = is_free r x && is_free_in r rest

@@ -5,6 +5,7 @@ use Rattle.dp_tree.specs.declared.Program.{Program}
 use Rattle.dp_plan.specs.declared.Plan.{Plan}
 use Rattle.dp_plan.specs.declared.StageKind.TheVariants.{Seq}
 
+-- the number of sites in an entry of the table
 abbrev pub sites_between : Option RegionInfo → ℕ
 sites_between None = 0
 sites_between (Some info) = suc info.last.0 - info.first.0

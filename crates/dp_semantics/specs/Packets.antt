@@ -79,6 +79,7 @@ at_sequential key s came (suc n) = run_on key s (cleared key (at_sequential key 
 abbrev pub at_replicated : Epoch → ℕ → (ℕ → Passed) → ℕ → Passed
 at_replicated key s came n = run_on key s (came n).before (came n).packet
 
+-- .. by its kind
 abbrev pub at_kind : Option StageKind → Epoch → ℕ → (ℕ → Passed) → ℕ → Passed
 at_kind (Some Par) key s came n = at_replicated key s came n
 at_kind _ key s came n = at_sequential key s came n

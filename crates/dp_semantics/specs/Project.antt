@@ -36,9 +36,11 @@ abbrev mutual
   project p plan s (Region' r site cond _ body) = If site cond (project_in p plan s body) [] ∷ []
   project p plan s (Call f line args) = []
 
+  -- several statements, one after the other
   pub project_in : {n : _} → Program → Plan → ℕ → Row_of-Stmt n → List Stmt
   project_in p plan s end_of-Stmt = []
   project_in p plan s (more_of-Stmt x rest) = project p plan s x ++ project_in p plan s rest
 
+-- the same of a list
 abbrev pub project_all : Program → Plan → ℕ → List Stmt → List Stmt
 project_all p plan s statements = flat_map (project p plan s) statements

@@ -26,6 +26,7 @@ pub record Ended : Type 0 where
   pub cells : List ℤ
   pub closing : Bool
 
+-- a turn comes to its end or breaks off
 abbrev pub TurnEnd : Type 0
 TurnEnd = Result Ended Void
 
@@ -63,6 +64,7 @@ stage_at p plan head = stage_of p plan (site_of head).0
 abbrev pub consumed : Program → Plan → Turn → Stmt → List Stmt → Stmt-F Stmt → Taken → Turn
 consumed p plan c x rest head w = turned p plan c x rest head w.effect c.own (slice_set c.lists (stage_at p plan head - 1) w.rest)
 
+-- .. where those words are the site's
 abbrev pub consumed_step : Program → Plan → Turn → Stmt → List Stmt → Stmt-F Stmt → Result Taken Void → Result Turn Void
 consumed_step p plan c x rest head (Err why) = Err why
 consumed_step p plan c x rest head (Ok w) = Ok (consumed p plan c x rest head w)
@@ -77,10 +79,12 @@ turn_step p plan input s c x rest head =
     if stage_at p plan head == s then own_step p plan c x rest head (evaluated p input c.cells head)
     else consumed_step p plan c x rest head (taken_from p head (words_left p plan c head))
 
+-- it goes on, or breaks off
 abbrev pub turn_by : (Turn → TurnEnd) → Result Turn Void → TurnEnd
 turn_by go (Ok next) = go next
 turn_by go (Err why) = Err why
 
+-- it ends with the region's text
 abbrev pub turn_at : Program → Plan → List ℤ → ℕ → (Turn → TurnEnd) → Turn → List Stmt → TurnEnd
 turn_at p plan input s go c [] = Ok (record { own = c.own; cells = c.cells; closing = c.closing })
 turn_at p plan input s go c (x ∷ rest) = turn_by go (turn_step p plan input s c x rest (out-Stmt x))

@@ -30,6 +30,7 @@ packet_at p plan input run e i = (passed (epoch_at p plan input run e) (length p
 abbrev pub judgement_at : Program → Plan → List ℤ → Run → ℕ → ℕ → ℕ → Judgement
 judgement_at p plan input run e i k = judge p plan (run.fuel - k) (memory_after run plan.region i) (packet_at p plan input run e i)
 
+-- the event's effect
 abbrev pub effect_in : Event → Effect
 effect_in event = event.effect
 
@@ -50,6 +51,7 @@ abbrev pub applied : List Effect → List ℤ → List ℤ
 applied [] cells = cells
 applied (effect ∷ rest) cells = applied rest (stored effect cells)
 
+-- a packet closes, or goes on
 abbrev pub status_when : Bool → Status
 status_when true = Closing
 status_when false = Going

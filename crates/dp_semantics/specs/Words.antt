@@ -19,9 +19,11 @@ pub data Void : Type 0 where
   Full : Void
   Astray : (site : ℕ) (found : Option Word) → Void
 
+-- the word of a load
 abbrev pub load_word : ℕ → Load → Word
 load_word site l = record { site = record { 0 = site }; kind = word.Load; index = l.cell; value = l.value }
 
+-- those of several loads, in order
 abbrev pub load_words : ℕ → List Load → List Word
 load_words site [] = []
 load_words site (l ∷ rest) = load_word site l ∷ load_words site rest
@@ -41,17 +43,21 @@ abbrev pub words_of : Program → Plan → Event → List Word
 words_of p plan event =
     (if is_checked p plan event.site then load_words event.site event.loads else []) ++ done_word event.site event.effect ∷ []
 
+-- the word is of a load
 abbrev pub is_load : WordKind → Bool
 is_load word.Load = true
 is_load word.Done = false
 
+-- the word is of what a site did
 abbrev pub is_done : WordKind → Bool
 is_done word.Load = false
 is_done word.Done = true
 
+-- it is a load of this site's
 abbrev pub is_load_of : ℕ → Word → Bool
 is_load_of site w = (w.site.0 == site) && is_load w.kind
 
+-- it is what this site did
 abbrev pub is_done_of : ℕ → Word → Bool
 is_done_of site w = (w.site.0 == site) && is_done w.kind
 
@@ -64,6 +70,7 @@ after_loads_of site (w ∷ rest) = if is_load_of site w then after_loads_of site
 abbrev pub is_cell_of : Program → VarId → ℕ → Bool
 is_cell_of p x c = nat_le (first_cell p x) c && nat_lt c (first_cell p x + cell_count p x)
 
+-- the word's store, where its cell is the variable's
 abbrev pub store_by : Program → VarId → Word → Option Effect
 store_by p x w = if is_cell_of p x w.index then Some (Stored w.index w.value) else None
 
@@ -79,6 +86,7 @@ pub record Taken : Type 0 where
   pub effect : Effect
   pub rest : List Word
 
+-- what was taken, where the word fits the statement
 abbrev pub taken_by : ℕ → Word → List Word → Option Effect → Result Taken Void
 taken_by site w rest None = Err (Astray site (Some w))
 taken_by site w rest (Some effect) = Ok (record { effect = effect; rest = rest })
@@ -94,6 +102,7 @@ done_from p head (w ∷ rest) =
 abbrev pub taken_from : Program → Stmt-F Stmt → List Word → Result Taken Void
 taken_from p head words = done_from p head (after_loads_of (site_of head).0 words)
 
+-- the list, or none
 abbrev pub words_in : Option (List Word) → List Word
 words_in None = []
 words_in (Some words) = words

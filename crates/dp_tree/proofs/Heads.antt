@@ -12,7 +12,11 @@ use Rattle.dp_tree.specs.Event.{Effect, Printed, Decided, Event, value_of, store
 use Rattle.dp_tree.specs.Step.{Config, Finished, Stepped, choose, followed, site_of, decided, evaluated, standing, step_by, step_at, step_from, step}
 use Rattle.dp_tree.specs.Iteration.{is_region, decides_zero}
 use Rattle.dp_tree.specs.RegionLaws.{keeps, keeps_in}
-use Rattle.dp_tree.proofs.ExpandLaws.{opened_statement}
+
+-- what opens where a statement is made
+unfoldable pub opened_statement : Unit {0}
+unfolding Rattle.dp_tree.specs.declared.Stmt.TheBlock.shape-the_row-Stmt-0 Rattle.dp_tree.specs.declared.Stmt.TheBlock.hidden-the_row-Stmt-0 denote.Hole.Carrier.hidden
+opened_statement = tt
 
 pub and_true : (a b : Bool) → (a && b) ≡ true → (a ≡ true) × (b ≡ true)
 and_true true b e = (refl, e)

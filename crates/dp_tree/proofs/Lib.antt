@@ -2,8 +2,6 @@ pub mod EvalLemmas
 pub mod LegLemmas
 pub mod RunLaws
 pub mod IterationLaws
-pub mod ExpandLaws
-pub mod NoCallLaws
 pub mod Heads
 pub mod Places
 pub mod InsideRegion

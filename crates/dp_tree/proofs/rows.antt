@@ -1,4 +1,3 @@
 pub mod SumLoop
 pub mod StaleRead
 pub mod Faults
-pub mod Calls

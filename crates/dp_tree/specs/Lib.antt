@@ -2,15 +2,9 @@ pub mod Eval
 pub mod Event
 pub mod Step
 pub mod Trace
+pub mod Globals
 pub mod RunLaws
 pub mod Iteration
 pub mod IterationLaws
 pub mod RegionLaws
 pub mod Leg
-pub mod Frame
-pub mod FrameStep
-pub mod Frames
-pub mod Renaming
-pub mod Tables
-pub mod Expand
-pub mod ExpandLaws

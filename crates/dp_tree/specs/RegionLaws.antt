@@ -12,6 +12,7 @@ use Rattle.dp_tree.specs.Trace.{run_of, begin}
 use Rattle.dp_tree.specs.Iteration.{starts}
 use Rattle.dp_tree.specs.IterationLaws.{events_of_first}
 
+-- the site has one of the numbers of the table's entry
 abbrev pub in_range : Option RegionInfo → ℕ → Bool
 in_range None site = false
 in_range (Some info) site = nat_le info.first.0 site && nat_le site info.last.0
@@ -20,6 +21,7 @@ in_range (Some info) site = nat_le info.first.0 site && nat_le site info.last.0
 abbrev pub is_site_of : Program → ℕ → ℕ → Bool
 is_site_of p r site = in_range (slice_get p.regions (r - 1)) site
 
+-- the site is not of region r
 abbrev pub is_other_site : Program → ℕ → ℕ → Bool
 is_other_site p r site = not (is_site_of p r site)
 
@@ -34,6 +36,7 @@ abbrev mutual
   keeps test r (Region' q site cond _ body) = test site.0 && (not (q == r) && keeps_in test r body)
   keeps test r (Call f line args) = true
 
+  -- the same of several statements
   pub keeps_in : {n : _} → (ℕ → Bool) → ℕ → Row_of-Stmt n → Bool
   keeps_in test r end_of-Stmt = true
   keeps_in test r (more_of-Stmt s rest) = keeps test r s && keeps_in test r rest
@@ -51,6 +54,7 @@ pub record StandsOnce (p : Program) (r : ℕ) : Type 0 where
   pub earlier : list_all (keeps (is_other_site p r) r) before ≡ true
   pub later : list_all (keeps (is_other_site p r) r) behind ≡ true
 
+-- the event is at a site of region r
 abbrev pub is_event_of : Program → ℕ → Event → Bool
 is_event_of p r event = is_site_of p r event.site
 

@@ -18,6 +18,7 @@ pub record IsFront (m : ℕ) (short long : Run) : Type 0 where
 abbrev pub FuelExtends : Program → List ℤ → Type 0
 FuelExtends p input = (m n : ℕ) (c : Config) → m ≤ n → IsFront m (run_of p input m c) (run_of p input n c)
 
+-- nothing is left to do
 abbrev pub is_empty : List Stmt → Bool
 is_empty [] = true
 is_empty (s ∷ rest) = false

@@ -1,4 +1,3 @@
-ghost use Rattle.dp_tree.specs.ExpandLaws.{KeepsText, LeavesNoCall};
 ghost use Rattle.dp_tree.specs.IterationLaws.{IterationsAdjoin};
 ghost use Rattle.dp_tree.specs.RegionLaws.{RegionsAreIterations};
 ghost use Rattle.dp_tree.specs.RunLaws.{FuelExtends, RunsByStep};
@@ -18,13 +17,6 @@ pub fn a_run_goes_by_steps(p: &Program, input: &[i64])
 /// The iterations of a region follow each other without a gap and without overlap.
 pub fn iterations_adjoin(p: &Program, input: &[i64])
     ensures adjoin { IterationsAdjoin p.now input.now }
-{}
-
-/// An expanded program has no call, and a program without calls is its own expansion up to the numbers of its sites
-/// and variables.
-pub fn expansion_leaves_no_call(p: &Program)
-    ensures no_call { LeavesNoCall p.now }
-    ensures same_text { KeepsText p.now }
 {}
 
 /// The events at a region's sites are those of its iterations, one iteration after the other, in a program in which

@@ -1,7 +1,7 @@
 //! Programs as trees, and what they mean.
 //!
-//! `specs/` has the meaning, in the order in which `specs/Lib.antt` lists its files: evaluation, steps, traces,
-//! iterations of a region, calls with frames of their own, and calls that are expanded.
+//! `specs/` has the meaning, in the order in which `specs/Lib.antt` lists its files: evaluation, steps, traces and the
+//! iterations of a region.
 #![tactic(auto)]
 
 use dp_base::{BinOp, Boxed, CellId, Row, SiteId, UnOp, VarId};
@@ -10,7 +10,7 @@ mod laws;
 mod raw;
 
 pub use laws::{
-    a_run_goes_by_steps, expansion_leaves_no_call, iterations_adjoin, less_fuel_gives_a_front,
+    a_region_is_its_iterations, a_run_goes_by_steps, iterations_adjoin, less_fuel_gives_a_front,
 };
 pub use raw::{Name, RawExpr, RawItem, RawProgram, RawStmt};
 

@@ -1,13 +1,12 @@
 -- The checked sites of the test programs under their plans.
 use Rattle.std.proofs.Common.{◌≡◌, refl, ℕ, List, [], ◌∷◌, filter}
 use Rattle.dp_tree.specs.declared.Program.{Program}
-use Rattle.dp_tree.specs.Expand.{expand}
 use Rattle.dp_plan.specs.declared.StageKind.TheVariants.{Seq, Par}
 use Rattle.dp_plan.specs.declared.Plan.{Plan}
 use Rattle.dp_plan.specs.Access.{is_checked}
 use Rattle.dp_plan.specs.Written.{region_sites}
 use Rattle.dp_tree.proofs.Build.{tree_opened}
-use Rattle.dp_tree.proofs.Programs.{zero_divisor, stale_read, skip_negative, histogram, two_stores, stale_step, stale_divisor, word_table}
+use Rattle.dp_tree.proofs.Programs.{zero_divisor, stale_read, skip_negative, histogram, two_stores, stale_step, stale_divisor, word_table_expanded}
 use Rattle.dp_plan.proofs.Plans.{plan, zero_divisor_plan, stale_read_plan, skip_negative_plan, histogram_plan, two_stores_plan, stale_step_plan, stale_divisor_plan, word_table_plan}
 
 abbrev checked : Program → Plan → List ℕ
@@ -43,7 +42,7 @@ replicated_locals : checked histogram histogram_plan ≡ []
 unfolding tree_opened
 replicated_locals = refl
 
-replicated_rounds : checked (expand word_table) word_table_plan ≡ []
+replicated_rounds : checked word_table_expanded word_table_plan ≡ []
 unfolding tree_opened
 replicated_rounds = refl
 

@@ -5,12 +5,11 @@ use Rattle.dp_tree.specs.declared.VarScope.TheVariants.{Global}
 use Rattle.dp_tree.specs.declared.Expr.{Expr}
 use Rattle.dp_tree.specs.declared.Stmt.{Stmt}
 use Rattle.dp_tree.specs.declared.Program.{Program}
-use Rattle.dp_tree.specs.Expand.{expand}
 use Rattle.dp_plan.specs.declared.Plan.{Plan}
 use Rattle.dp_plan.specs.Written.{WrittenPlan, plan_of, written_of}
 use Rattle.dp_plan.specs.Valid.{BrokenRule, first_broken, first_fault}
 use Rattle.dp_tree.proofs.Build.{num, var, bin, set, when, loop, region, scalar, program, assume, tree_opened}
-use Rattle.dp_tree.proofs.Programs.{sum_loop, zero_divisor, stale_read, same_value_store, skip_negative, histogram, two_stores, stale_step, stale_divisor, word_table}
+use Rattle.dp_tree.proofs.Programs.{sum_loop, zero_divisor, stale_read, same_value_store, skip_negative, histogram, two_stores, stale_step, stale_divisor, word_table_expanded}
 use Rattle.dp_plan.proofs.Plans.{seq, par, written, zero_divisor_written, zero_divisor_plan, stale_read_written, stale_read_plan, skip_negative_written, skip_negative_plan, histogram_written, histogram_plan, two_stores_written, two_stores_plan, stale_step_written, stale_step_plan, stale_divisor_written, stale_divisor_plan, word_table_written, word_table_plan}
 
 -- the written plan is valid, stands for the plan, and is how that is written
@@ -51,7 +50,7 @@ stale_divisor_stands : Stands stale_divisor stale_divisor_written stale_divisor_
 unfolding tree_opened
 stale_divisor_stands = record { valid = refl; for = refl; written = refl }
 
-word_table_stands : Stands (expand word_table) word_table_written word_table_plan
+word_table_stands : Stands word_table_expanded word_table_written word_table_plan
 unfolding tree_opened
 word_table_stands = record { valid = refl; for = refl; written = refl }
 

@@ -1,6 +1,6 @@
 use Rattle.std.proofs.Common.{◌≡◌, ◌++◌, drop}
 use Rattle.std.specs.List.{flat_map}
-use Rattle.dp_tree.specs.Frame.{globals_in}
+use Rattle.dp_tree.specs.Globals.{globals_in}
 use Rattle.dp_report.specs.StateText.{variable_line}
 use Rattle.dp_report.proofs.state.put_state.Given as goal
 

@@ -8,10 +8,10 @@ use Rattle.dp_tree.specs.declared.SiteKind.TheVariants.{Assign, Print, While}
 use Rattle.dp_tree.specs.declared.Function.{Function}
 use Rattle.dp_tree.specs.declared.Program.{Program}
 use Rattle.dp_tree.specs.Trace.{Run, run_of, begin, prints}
-use Rattle.dp_tree.specs.Expand.{expand}
-use Rattle.dp_tree.specs.Frames.{outcome}
+use Rattle.dp_calls.specs.Expand.{expand}
+use Rattle.dp_calls.specs.Frames.{outcome}
 use Rattle.dp_tree.proofs.Build.{num, var, bin, set, say, region, call, scalar, site, one_region, function, program, with_functions, tree_opened}
-use Rattle.dp_tree.proofs.Programs.{add, word_table}
+use Rattle.dp_tree.proofs.Programs.{add, word_table, word_table_expanded}
 
 abbrev run_expanded : Program → List ℤ → ℕ → Run
 run_expanded p input fuel = run_of (expand p) input fuel (begin (expand p))
@@ -116,6 +116,10 @@ expanded_region = refl
 
 abbrev words : List ℤ
 words = pos 0 ∷ pos 1 ∷ pos 2 ∷ pos 3 ∷ pos 0 ∷ pos 1 ∷ []
+
+table_expanded : expand word_table ≡ word_table_expanded
+unfolding tree_opened
+table_expanded = refl
 
 table_region : (expand word_table).regions ≡ one_region 14 2 19
 unfolding tree_opened

@@ -1,14 +1,12 @@
 -- Call frames: each call under way has statements to do and variables of its own.
-use Rattle.std.specs.Prelude.{ℕ, zero, suc, if◌then◌else◌, ◌-◌, Bool, true, false, List, [], ◌∷◌, ◌++◌, length, drop, replicate, ℤ, pos, Option, Some, None, slice_get}
+use Rattle.std.specs.Prelude.{ℕ, zero, suc, ◌-◌, List, [], ◌∷◌, ◌++◌, length, drop, replicate, ℤ, pos, Option, Some, None, slice_get}
 use Rattle.dp_base.specs.declared.VarId.{VarId}
 use Rattle.dp_tree.specs.declared.Stmt.{Stmt, out-Stmt}
 use Rattle.dp_tree.specs.declared.Stmt.TheOpen.{Stmt-F, Call}
-use Rattle.dp_tree.specs.declared.VarInfo.{VarInfo}
-use Rattle.dp_tree.specs.declared.VarScope.{VarScope}
-use Rattle.dp_tree.specs.declared.VarScope.TheVariants.{Global, Outer, Body}
 use Rattle.dp_tree.specs.declared.Function.{Function}
 use Rattle.dp_tree.specs.declared.Program.{Program}
 use Rattle.dp_tree.specs.Step.{cleared_at}
+use Rattle.dp_tree.specs.Globals.{globals_in}
 use Rattle.dp_tree.specs.Trace.{start_cells}
 
 -- the statements still to do, the frame's own variables, and those of the frame that a call under way fills
@@ -22,16 +20,6 @@ pub record State : Type 0 where
   pub globals : List ℤ
   pub frames : List Frame
 
-abbrev pub is_global_scope : VarScope → Bool
-is_global_scope Global = true
-is_global_scope Outer = false
-is_global_scope (Body r) = false
-
--- the file-scope variables
-abbrev pub globals_in : List VarInfo → List VarInfo
-globals_in [] = []
-globals_in (x ∷ xs) = if is_global_scope x.scope then x ∷ globals_in xs else globals_in xs
-
 -- the number of their cells, which come first
 abbrev pub global_count : Program → ℕ
 global_count p = length (start_cells (globals_in p.vars))
@@ -40,13 +28,16 @@ global_count p = length (start_cells (globals_in p.vars))
 abbrev pub fresh : Program → List ℤ
 fresh p = replicate (length (start_cells p.vars) - global_count p) (pos 0)
 
+-- a frame that is to do this, with fresh variables
 abbrev pub new_frame : Program → List Stmt → Frame
 new_frame p body = record { to_do = body; locals = fresh p; callee = fresh p }
 
+-- the function's body
 abbrev pub body_in : Option Function → List Stmt
 body_in None = []
 body_in (Some f) = f.body
 
+-- the function's parameters
 abbrev pub params_in : Option Function → List VarId
 params_in None = []
 params_in (Some f) = f.params
@@ -69,6 +60,7 @@ abbrev pub or_after : Option (List Frame) → (List Frame → Option (List Frame
 or_after (Some frames) after below = Some frames
 or_after None after below = after below
 
+-- the same at a statement: a call that evaluates nothing is entered, and `after` gives what comes behind it
 abbrev pub resumed_at : (Frame → List Frame → Option (List Frame)) → Program → Frame → Stmt → List Stmt → (List Frame → Option (List Frame)) → Option (List Stmt) → List Frame → Option (List Frame)
 resumed_at enter p f s rest after None below = Some (standing_frame p f s rest ∷ below)
 resumed_at enter p f s rest after (Some body) below = or_after (enter (new_frame p body) (record f { to_do = rest } ∷ below)) after below
@@ -78,6 +70,7 @@ abbrev pub resumed_with : (Frame → List Frame → Option (List Frame)) → Pro
 resumed_with enter p f [] below = None
 resumed_with enter p f (s ∷ rest) below = resumed_at enter p f s rest (resumed_with enter p f rest) (entered p (out-Stmt s)) below
 
+-- no call is entered
 abbrev pub no_frames : Frame → List Frame → Option (List Frame)
 no_frames f below = None
 
@@ -86,6 +79,7 @@ abbrev pub resumed : Program → ℕ → Frame → List Frame → Option (List F
 resumed p zero f below = resumed_with no_frames p f f.to_do below
 resumed p (suc depth) f below = resumed_with (resumed p depth) p f f.to_do below
 
+-- these frames, or the ones below
 abbrev pub or_below : Option (List Frame) → List Frame → List Frame
 or_below (Some frames) below = frames
 or_below None below = below

@@ -7,7 +7,8 @@ use Rattle.dp_tree.specs.declared.VarScope.TheVariants.{Outer, Body}
 use Rattle.dp_tree.specs.declared.SiteInfo.{SiteInfo}
 use Rattle.dp_tree.specs.declared.RegionInfo.{RegionInfo}
 use Rattle.dp_tree.specs.declared.Program.{Program}
-use Rattle.dp_tree.specs.Frame.{globals_in, global_count}
+use Rattle.dp_tree.specs.Globals.{globals_in}
+use Rattle.dp_calls.specs.Frame.{global_count}
 
 -- the variables with the number of their cells, the sites and the regions, as far as the text is written
 pub record Tables : Type 0 where
@@ -25,6 +26,7 @@ abbrev pub scope_in : ℕ → VarScope
 scope_in zero = Outer
 scope_in (suc r) = Body (suc r)
 
+-- the variable's entry, with another cell and scope
 abbrev pub moved_to : Option VarInfo → ℕ → ℕ → List VarInfo
 moved_to None cell r = []
 moved_to (Some info) cell r = record info { first = record { 0 = cell }; scope = scope_in r } ∷ []
@@ -37,6 +39,7 @@ with_local p r x t = record t { vars = t.vars ++ moved_to (slice_get p.vars x) t
 abbrev pub with_site : SiteInfo → Tables → Tables
 with_site info t = record t { sites = t.sites ++ info ∷ [] }
 
+-- the site's entry, in region r
 abbrev pub site_in : Option SiteInfo → ℕ → List SiteInfo
 site_in None r = []
 site_in (Some info) r = record info { region = r } ∷ []

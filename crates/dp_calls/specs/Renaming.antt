@@ -14,6 +14,7 @@ abbrev pub named_in : List Renamed → ℕ → Option ℕ
 named_in [] x = None
 named_in (n ∷ rest) x = if n.source == x then Some n.target else named_in rest x
 
+-- the one that is found, or else x itself
 abbrev pub target_or : Option ℕ → ℕ → VarId
 target_or (Some y) x = record { 0 = y }
 target_or None x = record { 0 = x }

@@ -10,7 +10,7 @@ use Rattle.dp_tree.specs.declared.Program.{Program}
 use Rattle.dp_tree.specs.Eval.{Evaluated, eval, first_cell}
 use Rattle.dp_tree.specs.Step.{Step, Finished, Faulted, Stepped, step}
 use Rattle.dp_tree.specs.Trace.{printed_by}
-use Rattle.dp_tree.specs.Frame.{Frame, State, global_count, fresh, new_frame, body_in, params_in, settled}
+use Rattle.dp_calls.specs.Frame.{Frame, State, global_count, fresh, new_frame, body_in, params_in, settled}
 
 -- nothing is left to evaluate, the evaluation faults, or the printed value, if any, and what follows
 pub data FrameStep : Type 0 where
@@ -31,6 +31,7 @@ frame_step p f below (Stepped event c) = Goes (printed_by event.effect) (record 
   frames = settled p (record f { to_do = c.to_do; locals = drop (global_count p) c.cells } ∷ below);
 })
 
+-- the value in the parameter's cell
 abbrev pub bound_to : Program → Option VarId → List ℤ → ℤ → List ℤ
 bound_to p None callee z = callee
 bound_to p (Some x) callee z = slice_set callee (first_cell p x - global_count p) z
@@ -60,6 +61,7 @@ step_head p input c f below rest (Call g line []) = Ends
 step_head p input c f below rest (Call g line (a ∷ args)) = call_step p c f below rest g line args (eval p input (cells_of c f) a)
 step_head p input c f below rest _ = frame_step p f below (step p input (record { to_do = f.to_do; cells = cells_of c f }))
 
+-- the same from what the frame has to do
 abbrev pub step_frame : Program → List ℤ → State → Frame → List Frame → List Stmt → FrameStep
 step_frame p input c f below [] = Ends
 step_frame p input c f below (s ∷ rest) = step_head p input c f below rest (out-Stmt s)

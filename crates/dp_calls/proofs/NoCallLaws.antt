@@ -7,12 +7,13 @@ use Rattle.dp_tree.specs.declared.Expr.{Expr}
 use Rattle.dp_tree.specs.declared.Stmt.{Stmt, Row_of-Stmt, end_of-Stmt, more_of-Stmt}
 use Rattle.dp_tree.specs.declared.Stmt.TheVariants as stmt
 use Rattle.dp_tree.specs.declared.Program.{Program}
-use Rattle.dp_tree.specs.Frame.{body_in, params_in}
-use Rattle.dp_tree.specs.Renaming.{Renamed, renamed}
-use Rattle.dp_tree.specs.Tables.{Tables, first_tables, with_source_site, next_site}
-use Rattle.dp_tree.specs.Expand.{Calls, bindings, expand_one, expand_rows, expand_list, calls_within}
-use Rattle.dp_tree.specs.ExpandLaws.{has_call, has_call_in, LeavesNoCall}
-use Rattle.dp_tree.proofs.ExpandLaws.{opened_statement, or_false, or_make}
+use Rattle.dp_calls.specs.Frame.{body_in, params_in}
+use Rattle.dp_calls.specs.Renaming.{Renamed, renamed}
+use Rattle.dp_calls.specs.Tables.{Tables, first_tables, with_source_site, next_site}
+use Rattle.dp_calls.specs.Expand.{Calls, bindings, expand_one, expand_rows, expand_list, calls_within}
+use Rattle.dp_calls.specs.ExpandLaws.{has_call, has_call_in, LeavesNoCall}
+use Rattle.dp_tree.proofs.Heads.{opened_statement}
+use Rattle.dp_calls.proofs.ExpandLaws.{or_false, or_make}
 
 abbrev hidden_calls : List Stmt → Bool
 hidden_calls xs = has_call_in (Rattle.dp_tree.specs.declared.Stmt.TheBlock.hidden-the_row-Stmt-0 xs)

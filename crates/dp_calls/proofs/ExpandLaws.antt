@@ -7,16 +7,12 @@ use Rattle.dp_tree.specs.declared.Expr.TheVariants as tree
 use Rattle.dp_tree.specs.declared.Stmt.{Stmt, Row_of-Stmt, end_of-Stmt, more_of-Stmt}
 use Rattle.dp_tree.specs.declared.Stmt.TheVariants as stmt
 use Rattle.dp_tree.specs.declared.Program.{Program}
-use Rattle.dp_tree.specs.Renaming.{Renamed, renamed}
-use Rattle.dp_tree.specs.Tables.{Tables, with_local, with_site, with_source_site, next_site, with_region}
-use Rattle.dp_tree.specs.Expand.{Calls, expand_one, expand_rows, expand_list, calls_within}
-use Rattle.dp_tree.specs.ExpandLaws.{has_call, has_call_in, unnumbered, erased, erased_in, KeepsText}
+use Rattle.dp_calls.specs.Renaming.{Renamed, renamed}
+use Rattle.dp_calls.specs.Tables.{Tables, with_local, with_site, with_source_site, next_site, with_region}
+use Rattle.dp_calls.specs.Expand.{Calls, expand_one, expand_rows, expand_list, calls_within}
+use Rattle.dp_calls.specs.ExpandLaws.{has_call, has_call_in, unnumbered, erased, erased_in, KeepsText}
 use Rattle.dp_tree.proofs.EvalLemmas.{opened}
-
--- what opens where a statement is made
-unfoldable pub opened_statement : Unit {0}
-unfolding Rattle.dp_tree.specs.declared.Stmt.TheBlock.shape-the_row-Stmt-0 Rattle.dp_tree.specs.declared.Stmt.TheBlock.hidden-the_row-Stmt-0 denote.Hole.Carrier.hidden
-opened_statement = tt
+use Rattle.dp_tree.proofs.Heads.{opened_statement}
 
 pub or_false : (a b : Bool) → (a || b) ≡ false → (a ≡ false) × (b ≡ false)
 or_false false b e = (refl, e)
@@ -103,4 +99,4 @@ module _ (p : Program) (calls : Calls) where
       ∙ ap₂ (λ (xs ys : List Stmt). xs ++ ys) (same_one r s names t both.0) (same_list r rest one.names one.tables both.1)
 
 pub keeps_text : (p : Program) → KeepsText p
-keeps_text p h = same_list p (calls_within p (length p.functions)) 0 p.main [] (Rattle.dp_tree.specs.Tables.first_tables p) h
+keeps_text p h = same_list p (calls_within p (length p.functions)) 0 p.main [] (Rattle.dp_calls.specs.Tables.first_tables p) h

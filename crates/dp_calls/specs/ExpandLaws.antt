@@ -8,7 +8,7 @@ use Rattle.dp_tree.specs.declared.Expr.TheVariants.{Number, Input, Input', Input
 use Rattle.dp_tree.specs.declared.Stmt.{Stmt, Row_of-Stmt, end_of-Stmt, more_of-Stmt}
 use Rattle.dp_tree.specs.declared.Stmt.TheVariants.{Assign, Store, Print, If, If', While, While', Region, Region', Call}
 use Rattle.dp_tree.specs.declared.Program.{Program}
-use Rattle.dp_tree.specs.Expand.{expand}
+use Rattle.dp_calls.specs.Expand.{expand}
 
 abbrev mutual
   -- a call stands in the statement
@@ -21,13 +21,16 @@ abbrev mutual
   has_call (Region' r site cond _ body) = has_call_in body
   has_call (Call f line args) = true
 
+  -- a call stands in one of them
   pub has_call_in : {n : _} → Row_of-Stmt n → Bool
   has_call_in end_of-Stmt = false
   has_call_in (more_of-Stmt s rest) = has_call s || has_call_in rest
 
+-- in place of every number of a site
 abbrev any_site : SiteId
 any_site = record { 0 = 0 }
 
+-- in place of every number of a variable
 abbrev any_variable : VarId
 any_variable = record { 0 = 0 }
 
@@ -54,6 +57,7 @@ abbrev mutual
   erased (Region' r site cond _ body) = Region r any_site (unnumbered cond) (erased_in body)
   erased (Call f line args) = Call f line args
 
+  -- the same of several statements
   pub erased_in : {n : _} → Row_of-Stmt n → List Stmt
   erased_in end_of-Stmt = []
   erased_in (more_of-Stmt s rest) = erased s ∷ erased_in rest

@@ -1,0 +1,3 @@
+pub mod ExpandLaws
+pub mod NoCallLaws
+pub mod rows

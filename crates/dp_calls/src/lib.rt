@@ -1,0 +1,8 @@
+//! What calls mean: with frames of their own, and expanded.
+//!
+//! `specs/` has both meanings. That of frames knows nothing of expansion.
+#![tactic(auto)]
+
+mod laws;
+
+pub use laws::expansion_leaves_no_call;
