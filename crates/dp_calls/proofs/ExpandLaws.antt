@@ -10,7 +10,8 @@ use Rattle.dp_tree.specs.declared.Program.{Program}
 use Rattle.dp_calls.specs.Renaming.{Renamed, renamed}
 use Rattle.dp_calls.specs.Tables.{Tables, with_local, with_site, with_source_site, next_site, with_region}
 use Rattle.dp_calls.specs.Expand.{Calls, expand_one, expand_rows, expand_list, calls_within}
-use Rattle.dp_calls.specs.ExpandLaws.{has_call, has_call_in, unnumbered, erased, erased_in, KeepsText}
+use Rattle.dp_tree.specs.Inlined.{has_call, has_call_in}
+use Rattle.dp_calls.specs.ExpandLaws.{unnumbered, erased, erased_in, KeepsText}
 use Rattle.dp_tree.proofs.EvalLemmas.{opened}
 use Rattle.dp_tree.proofs.Heads.{opened_statement}
 

@@ -7,11 +7,12 @@ use Rattle.dp_tree.specs.declared.Expr.{Expr}
 use Rattle.dp_tree.specs.declared.Stmt.{Stmt, Row_of-Stmt, end_of-Stmt, more_of-Stmt}
 use Rattle.dp_tree.specs.declared.Stmt.TheVariants as stmt
 use Rattle.dp_tree.specs.declared.Program.{Program}
-use Rattle.dp_calls.specs.Frame.{body_in, params_in}
+use Rattle.dp_tree.specs.Functions.{body_in, params_in}
 use Rattle.dp_calls.specs.Renaming.{Renamed, renamed}
 use Rattle.dp_calls.specs.Tables.{Tables, first_tables, with_source_site, next_site}
 use Rattle.dp_calls.specs.Expand.{Calls, bindings, expand_one, expand_rows, expand_list, calls_within}
-use Rattle.dp_calls.specs.ExpandLaws.{has_call, has_call_in, LeavesNoCall}
+use Rattle.dp_tree.specs.Inlined.{has_call, has_call_in}
+use Rattle.dp_calls.specs.ExpandLaws.{LeavesNoCall}
 use Rattle.dp_tree.proofs.Heads.{opened_statement}
 use Rattle.dp_calls.proofs.ExpandLaws.{or_false, or_make}
 

@@ -1,5 +1,5 @@
 -- What expansion amounts to: no call is left, and a program without calls keeps its text but for its numbers.
-use Rattle.std.specs.Prelude.{◌≡◌, Bool, true, false, ◌||◌, List, [], ◌∷◌, map}
+use Rattle.std.specs.Prelude.{◌≡◌, false, List, [], ◌∷◌, map}
 use Rattle.std.specs.List.{list_any}
 use Rattle.dp_base.specs.declared.SiteId.{SiteId}
 use Rattle.dp_base.specs.declared.VarId.{VarId}
@@ -8,23 +8,8 @@ use Rattle.dp_tree.specs.declared.Expr.TheVariants.{Number, Input, Input', Input
 use Rattle.dp_tree.specs.declared.Stmt.{Stmt, Row_of-Stmt, end_of-Stmt, more_of-Stmt}
 use Rattle.dp_tree.specs.declared.Stmt.TheVariants.{Assign, Store, Print, If, If', While, While', Region, Region', Call}
 use Rattle.dp_tree.specs.declared.Program.{Program}
+use Rattle.dp_tree.specs.Inlined.{has_call}
 use Rattle.dp_calls.specs.Expand.{expand}
-
-abbrev mutual
-  -- a call stands in the statement
-  pub has_call : Stmt → Bool
-  has_call (Assign site x e) = false
-  has_call (Store site x index e) = false
-  has_call (Print site e) = false
-  has_call (If' site cond _ then_part _ else_part) = has_call_in then_part || has_call_in else_part
-  has_call (While' site cond _ body) = has_call_in body
-  has_call (Region' r site cond _ body) = has_call_in body
-  has_call (Call f line args) = true
-
-  -- a call stands in one of them
-  pub has_call_in : {n : _} → Row_of-Stmt n → Bool
-  has_call_in end_of-Stmt = false
-  has_call_in (more_of-Stmt s rest) = has_call s || has_call_in rest
 
 -- in place of every number of a site
 abbrev any_site : SiteId

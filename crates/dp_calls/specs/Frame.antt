@@ -1,11 +1,10 @@
 -- Call frames: each call under way has statements to do and variables of its own.
 use Rattle.std.specs.Prelude.{ℕ, zero, suc, ◌-◌, List, [], ◌∷◌, ◌++◌, length, drop, replicate, ℤ, pos, Option, Some, None, slice_get}
-use Rattle.dp_base.specs.declared.VarId.{VarId}
 use Rattle.dp_tree.specs.declared.Stmt.{Stmt, out-Stmt}
 use Rattle.dp_tree.specs.declared.Stmt.TheOpen.{Stmt-F, Call}
-use Rattle.dp_tree.specs.declared.Function.{Function}
 use Rattle.dp_tree.specs.declared.Program.{Program}
 use Rattle.dp_tree.specs.Step.{cleared_at}
+use Rattle.dp_tree.specs.Functions.{body_in}
 use Rattle.dp_tree.specs.Globals.{globals_in}
 use Rattle.dp_tree.specs.Trace.{start_cells}
 
@@ -31,16 +30,6 @@ fresh p = replicate (length (start_cells p.vars) - global_count p) (pos 0)
 -- a frame that is to do this, with fresh variables
 abbrev pub new_frame : Program → List Stmt → Frame
 new_frame p body = record { to_do = body; locals = fresh p; callee = fresh p }
-
--- the function's body
-abbrev pub body_in : Option Function → List Stmt
-body_in None = []
-body_in (Some f) = f.body
-
--- the function's parameters
-abbrev pub params_in : Option Function → List VarId
-params_in None = []
-params_in (Some f) = f.params
 
 -- the body that a call without arguments enters; it evaluates nothing itself
 abbrev pub entered : Program → Stmt-F Stmt → Option (List Stmt)

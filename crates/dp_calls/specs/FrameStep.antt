@@ -10,7 +10,8 @@ use Rattle.dp_tree.specs.declared.Program.{Program}
 use Rattle.dp_tree.specs.Eval.{Evaluated, eval, first_cell}
 use Rattle.dp_tree.specs.Step.{Step, Finished, Faulted, Stepped, step}
 use Rattle.dp_tree.specs.Trace.{printed_by}
-use Rattle.dp_calls.specs.Frame.{Frame, State, global_count, fresh, new_frame, body_in, params_in, settled}
+use Rattle.dp_tree.specs.Functions.{body_in, params_in}
+use Rattle.dp_calls.specs.Frame.{Frame, State, global_count, fresh, new_frame, settled}
 
 -- nothing is left to evaluate, the evaluation faults, or the printed value, if any, and what follows
 pub data FrameStep : Type 0 where

@@ -18,7 +18,9 @@ use Rattle.dp_check.specs.Offence.{first_offence}
 use Rattle.dp_check.specs.Limits.{calls}
 use Rattle.dp_check.specs.Answer.{unless}
 use Rattle.dp_check.specs.Verdict.{names_of, begin, main_begin, first_call, too_many_functions, too_many_cells, resolved, verdict}
-use Rattle.dp_check.specs.Checked.{is_local, has_cells, lies_in_order, has_length, IsChecked}
+use Rattle.dp_tree.specs.Layout.{has_cells, lies_in_order}
+use Rattle.dp_tree.specs.Checked.{IsChecked}
+use Rattle.dp_check.specs.Checked.{has_length}
 use Rattle.dp_check.proofs.NumberLemmas.{sites_in_order}
 use Rattle.dp_check.proofs.PlainLemmas.{regions_stand_in_order, functions_are_plain}
 

@@ -21,7 +21,7 @@ use Rattle.dp_check.specs.Resolved.{resolved, resolved_in, resolved_all, resolve
 use Rattle.dp_check.specs.Tables.{sites_of, main_sites, top_region, after_top, item_parts, function_parts, sites}
 use Rattle.dp_check.specs.Items.{items_functions, after_item}
 use Rattle.dp_check.specs.Verdict.{begin, main_begin, resolved as whole}
-use Rattle.dp_check.specs.Checked.{site_numbers, site_numbers_in, site_numbers_all, numbers_from, SitesInOrder}
+use Rattle.dp_tree.specs.Numbering.{site_numbers, site_numbers_in, site_numbers_all, numbers_from, SitesInOrder}
 use Rattle.dp_check.proofs.PlaceLemmas.{after_site, site_count-append}
 use Rattle.dp_check.proofs.ItemLemmas.{after_params_site}
 use Rattle.dp_check.proofs.TableLemmas.{length-sites_of, parts-While}

@@ -17,7 +17,7 @@ use Rattle.dp_check.specs.declared.items.Head.{Head}
 use Rattle.dp_check.specs.Place.{parts_in, passed, sited, after, after_params}
 use Rattle.dp_check.specs.Resolved.{next_site, resolved, resolved_in, resolved_all, resolved_expr, resolved_main, region_at, is_region_at, is_region}
 use Rattle.dp_check.specs.Items.{items_functions, after_item}
-use Rattle.dp_check.specs.Checked.{is_plain, is_plain_in, top_fits, next_region, regions_in_order}
+use Rattle.dp_tree.specs.Numbering.{is_plain, is_plain_in, top_fits, next_region, regions_in_order}
 use Rattle.dp_check.proofs.NumberLemmas.{stmt_opened}
 
 nat_eq-same : (k : ℕ) → (k == k) ≡ true

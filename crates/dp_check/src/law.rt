@@ -4,7 +4,8 @@ ghost use Rattle.std.specs.Prelude.{◌≡◌, Ok, true};
 ghost use Rattle.std.specs.List.{list_all};
 ghost use Rattle.dp_tree.specs.declared.Program.{Program};
 ghost use Rattle.dp_tree.specs.declared.raw.RawProgram.{RawProgram};
-ghost use Rattle.dp_check.specs.Checked.{IsChecked, has_length};
+ghost use Rattle.dp_tree.specs.Checked.{IsChecked};
+ghost use Rattle.dp_check.specs.Checked.{has_length};
 ghost use Rattle.dp_check.specs.Verdict.{verdict};
 
 /// A law, and no work: a program that was checked has its cells one after the other, its sites numbered in text

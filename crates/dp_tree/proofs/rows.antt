@@ -1,3 +1,4 @@
 pub mod SumLoop
 pub mod StaleRead
 pub mod Faults
+pub mod Scopes

@@ -3,8 +3,14 @@ pub mod Event
 pub mod Step
 pub mod Trace
 pub mod Globals
+pub mod Functions
 pub mod RunLaws
 pub mod Iteration
 pub mod IterationLaws
 pub mod RegionLaws
 pub mod Leg
+pub mod Layout
+pub mod Numbering
+pub mod Scoping
+pub mod Checked
+pub mod Inlined

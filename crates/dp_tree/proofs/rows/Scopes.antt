@@ -1,0 +1,56 @@
+-- What checked and inlined programs have, and texts whose names aren't in scope.
+use Rattle.std.proofs.Common.{◌≡◌, refl, true, false, [], ◌∷◌, pos, List}
+use Rattle.dp_tree.specs.declared.VarScope.TheVariants.{Global, Outer}
+use Rattle.dp_tree.specs.declared.Function.{Function}
+use Rattle.dp_tree.specs.declared.Program.{Program}
+use Rattle.dp_tree.specs.declared.Stmt.{Stmt}
+use Rattle.dp_tree.specs.Scoping.{is_scoped}
+use Rattle.dp_tree.specs.Checked.{IsChecked}
+use Rattle.dp_tree.specs.Inlined.{IsInlined}
+use Rattle.dp_tree.proofs.Build.{num, var, set, say, loop, call, scalar, function, program, with_functions, tree_opened}
+use Rattle.dp_tree.proofs.Programs.{word_table, word_table_expanded}
+
+table_is_checked : IsChecked word_table
+unfolding tree_opened
+table_is_checked = record { globals = refl; cells = refl; sites = refl; regions = refl; functions = refl; scoped = refl }
+
+expanded_table_is_inlined : IsInlined word_table_expanded
+unfolding tree_opened
+expanded_table_is_inlined =
+    record { globals = refl; cells = refl; named = refl; functions = refl; calls = refl; sites = refl; regions = refl; table = refl }
+
+-- variable 0 is a file-scope one, the others are locals
+abbrev naming : List Function → List Stmt → Program
+naming functions main = with_functions functions (program (scalar 0 (pos 0) Global ∷ scalar 1 (pos 0) Outer ∷ scalar 2 (pos 0) Outer ∷ []) [] [] main)
+
+declared_before_use : is_scoped (naming [] (set 1 1 (var 0) ∷ set 2 0 (var 1) ∷ [])) ≡ true
+unfolding tree_opened
+declared_before_use = refl
+
+used_before_its_declaration : is_scoped (naming [] (set 1 0 (var 1) ∷ set 2 1 (num 1) ∷ [])) ≡ false
+unfolding tree_opened
+used_before_its_declaration = refl
+
+used_in_its_own_initialiser : is_scoped (naming [] (set 1 1 (var 1) ∷ [])) ≡ false
+unfolding tree_opened
+used_in_its_own_initialiser = refl
+
+used_behind_its_block : is_scoped (naming [] (loop 1 (var 0) (set 2 1 (num 1) ∷ []) ∷ say 3 (var 1) ∷ [])) ≡ false
+unfolding tree_opened
+used_behind_its_block = refl
+
+calls_an_earlier_function : is_scoped (naming (function (1 ∷ []) (say 1 (var 1) ∷ []) ∷ function [] (call 0 1 (num 1 ∷ []) ∷ []) ∷ []) (call 1 1 [] ∷ [])) ≡ true
+unfolding tree_opened
+calls_an_earlier_function = refl
+
+calls_itself : is_scoped (naming (function [] (call 0 1 [] ∷ []) ∷ []) []) ≡ false
+unfolding tree_opened
+calls_itself = refl
+
+calls_with_too_few_arguments : is_scoped (naming (function (1 ∷ []) [] ∷ []) (call 0 1 [] ∷ [])) ≡ false
+unfolding tree_opened
+calls_with_too_few_arguments = refl
+
+names_a_local_of_its_caller : is_scoped (naming (function [] (say 2 (var 2) ∷ []) ∷ []) (set 1 2 (num 1) ∷ call 0 1 [] ∷ [])) ≡ false
+unfolding tree_opened
+names_a_local_of_its_caller = refl
