@@ -1,7 +1,14 @@
 -- From the parts of the program to the headline.
 use Rattle.std.proofs.Common.{◌≡◌, refl, sym, ◌∙◌, ap, arith, inl, inr, ℕ, ◌<◌, ◌≤◌, List, Option, Some, ℤ, Result, Ok, Err, IfOk}
 use Rattle.dp_tree.specs.declared.Program.{Program}
+use Rattle.dp_tree.specs.Checked.{IsChecked}
+use Rattle.dp_calls.specs.Frames.{outcome}
+use Rattle.dp_calls.specs.Expand.{expand}
+use Rattle.dp_calls.proofs.ExpandedIsInlined.{expanded_is_inlined}
+use Rattle.dp_calls.proofs.SameMeaning.{same_meaning}
 use Rattle.dp_edge.specs.Sink.{appended}
+use Rattle.dswp.proofs.accepted.Sequential.{read_checked}
+use Rattle.dswp.proofs.accepted.SameText.{same_end, same_text}
 use Rattle.dswp.specs.declared.refusal.Role.{Role}
 use Rattle.dswp.specs.declared.refusal.Refusal.{Refusal}
 use Rattle.dswp.specs.declared.refusal.Refusal.TheVariants.{Words}
@@ -11,11 +18,17 @@ use Rattle.dp_base.specs.declared.NoMemory.{NoMemory as Wanting}
 use Rattle.dswp.specs.declared.texts.Texts.{Texts}
 use Rattle.dswp.specs.declared.texts.Texts.TheVariants as texts
 use Rattle.dswp.specs.Refusal.{refusal_line, refusal_status, failed_read_line}
-use Rattle.dswp.specs.Words.{Run, Asks}
+use Rattle.dp_report.specs.SiteText.{site_bytes}
+use Rattle.dswp.specs.declared.refusal.Role.TheVariants as role
+use Rattle.dswp.specs.declared.load.Loaded.{Loaded}
+use Rattle.dswp.specs.declared.load.Loaded.TheVariants.{Text, Refused, Failed}
+use Rattle.dswp.specs.Loading.{LoadsProgram}
+use Rattle.dswp.proofs.TextsLemmas.{OneLoad, one_text, one_refused, one_failed, source_of, refusal_read}
+use Rattle.dswp.specs.Words.{Run, Asks, AsksSites, AsksNothing}
 use Rattle.dswp.specs.Stop.{FaultsAfter, status_after}
 use Rattle.dswp.specs.Output.{WritesFront}
-use Rattle.dswp.specs.RunText.{source_run, run_text, status_of}
-use Rattle.dswp.specs.Answer.{Contents, Answer, NotTaken, ProgramRefused, InputRefused, Ran, IsRead, OfProgram, OfInput}
+use Rattle.dswp.specs.RunText.{source_run, trace_text, run_text, status_of}
+use Rattle.dswp.specs.Answer.{Contents, Answer, NotTaken, ProgramRefused, InputRefused, Ran, SitesRefused, SitesListed, IsRead, OfProgram, OfSites, OfInput}
 use Rattle.dswp.specs.Headline.{Answered, Whole, Short, Nothing, ReadFailed, WriteFailed, OfAnswer, OfFailedRead}
 use Rattle.dswp.specs.Carried.{Names, with_name, Finishes, LoadsTexts, Carried, Starved}
 use Rattle.dswp.specs.Carried as carried
@@ -25,14 +38,27 @@ pub loaded : (contents : Contents) (run : Run) (faults after : ℕ) (failed fail
     LoadsTexts contents run faults after failed fails x
 loaded contents run faults after failed fails r x e h = rw e at h
 
+-- What the run of the expanded program finishes is what the source's run is to be answered with.
+finishes_source : (p : Program) → IsChecked p → (numbers : List ℤ) (fuel : ℕ) {told tells : Option (List ℕ)} (result : Result ℕ Stop) →
+    Finishes (status_of (source_run (expand p) numbers fuel).end) (trace_text (expand p) (source_run (expand p) numbers fuel)) told tells result →
+    Finishes (status_of (outcome p numbers fuel).end) (run_text p numbers fuel) told tells result
+finishes_source p checked numbers fuel result h =
+    let inlined = expanded_is_inlined p checked in
+    let same = same_meaning p checked in
+    rw (same_text p inlined same numbers fuel) (rw (same_end p inlined same numbers fuel) h)
+
 module _ (words : List (List ℕ)) (contents : Contents) (faults after : ℕ) (failed fails : Names) (told tells : Option (List ℕ)) where
-  pub carry_not_taken : (result : Result ℕ Stop) → ((run : Run) → ¬ Asks words run) → after ≡ faults → fails ≡ failed → Finishes (refusal_status Words) (refusal_line Words) told tells result →
+  pub carry_not_taken : (result : Result ℕ Stop) → AsksNothing words → after ≡ faults → fails ≡ failed → Finishes (refusal_status Words) (refusal_line Words) told tells result →
       Carried words contents faults after failed fails told tells result
   carry_not_taken result none e f finishes = carried.OfAnswer _ _ (NotTaken none) e f finishes
 
-  pub carry_run : (run : Run) (p : Program) (numbers : List ℤ) (result : Result ℕ Stop) → Asks words run → LoadsTexts contents run faults after failed fails (texts.Run p numbers) →
-      Finishes (status_of (source_run p numbers run.fuel).end) (run_text p (source_run p numbers run.fuel)) told tells result → Carried words contents faults after failed fails told tells result
-  carry_run run p numbers result asks (carried.Loaded q others h k e f) finishes = carried.OfAnswer _ _ (Ran run h.text p numbers asks h.held h.reads k) e f finishes
+  pub carry_run : (run : Run) (q : Program) (numbers : List ℤ) (result : Result ℕ Stop) → Asks words run → LoadsTexts contents run faults after failed fails (texts.Run q numbers) →
+      Finishes (status_of (source_run q numbers run.fuel).end) (trace_text q (source_run q numbers run.fuel)) told tells result → Carried words contents faults after failed fails told tells result
+  carry_run run q numbers result asks (carried.Loaded p x others is h k e f) finishes = carried.OfAnswer _ _ (Ran run h.text p numbers asks h.held h.reads k) e f (finishes_source p (read_checked h.text p h.reads) numbers run.fuel result (by is finishes))
+    where
+      by : q ≡ expand p → Finishes (status_of (source_run q numbers run.fuel).end) (trace_text q (source_run q numbers run.fuel)) told tells result →
+          Finishes (status_of (source_run (expand p) numbers run.fuel).end) (trace_text (expand p) (source_run (expand p) numbers run.fuel)) told tells result
+      by is h = rw is at h
 
   pub carry_refused : (run : Run) (refusal : Refusal) (result : Result ℕ Stop) → Asks words run → LoadsTexts contents run faults after failed fails (texts.Refused refusal) →
       Finishes (refusal_status refusal) (refusal_line refusal) told tells result → Carried words contents faults after failed fails told tells result
@@ -43,6 +69,28 @@ module _ (words : List (List ℕ)) (contents : Contents) (faults after : ℕ) (f
       Finishes 5 (failed_read_line which) told tells result → Carried words contents faults after failed fails told tells result
   carry_failed run which result asks (carried.ProgramFailed less e) finishes = carried.OfFailedRead _ _ (OfProgram run asks) less e finishes
   carry_failed run which result asks (carried.InputFailed p name h named less e) finishes = carried.OfFailedRead _ _ (OfInput run h.text name p asks h.held h.reads named) less e finishes
+
+  pub carry_sites : (name : List ℕ) (r : Result (Loaded Program) Wanting) (q : Program) (result : Result ℕ Stop) → AsksSites words name → r ≡ Ok (Text q) → OneLoad Program (LoadsProgram contents name) name faults after failed fails r →
+      Finishes 0 (site_bytes q) told tells result → Carried words contents faults after failed fails told tells result
+  carry_sites name r q result asks e h finishes =
+      let k = one_text _ _ _ _ _ _ _ r q e h in
+      let s = source_of _ _ _ k.given in
+      carried.OfAnswer _ _ (SitesListed name s.reads.text s.source asks s.reads.held s.reads.reads) k.faults_same k.names_same (listed s.is finishes)
+    where
+      listed : {p : Program} → q ≡ expand p → Finishes 0 (site_bytes q) told tells result → Finishes 0 (site_bytes (expand p)) told tells result
+      listed is f = rw is at f
+
+  pub carry_sites_refused : (name : List ℕ) (r : Result (Loaded Program) Wanting) (refusal : Refusal) (result : Result ℕ Stop) → AsksSites words name → r ≡ Ok (Refused refusal) → OneLoad Program (LoadsProgram contents name) name faults after failed fails r →
+      Finishes (refusal_status refusal) (refusal_line refusal) told tells result → Carried words contents faults after failed fails told tells result
+  carry_sites_refused name r refusal result asks e h finishes =
+      let k = one_refused _ _ _ _ _ _ _ r refusal e h in
+      let read = refusal_read _ _ _ k.given in
+      carried.OfAnswer _ _ (SitesRefused name read.text refusal asks read.held read.reads) k.faults_same k.names_same finishes
+
+  pub carry_sites_failed : (name : List ℕ) (r : Result (Loaded Program) Wanting) (result : Result ℕ Stop) → AsksSites words name → r ≡ Ok Failed → OneLoad Program (LoadsProgram contents name) name faults after failed fails r →
+      Finishes 5 (failed_read_line role.Program) told tells result → Carried words contents faults after failed fails told tells result
+  carry_sites_failed name r result asks e h finishes =
+      let k = one_failed _ _ _ _ _ _ _ r e h in carried.OfFailedRead _ _ (OfSites name asks) k.0 k.1 finishes
 
   same_and_less : {A : Type 0} → after ≡ faults → faults < after → A
   same_and_less e less = absurd (omega (arith, e, less))

@@ -21,7 +21,7 @@ use Rattle.dp_report.specs.EndText.{end_bytes}
 use Rattle.dswp.specs.Alone.{Counted, again_alone, report_of, reports_of}
 use Rattle.dswp.specs.Driven.{Driven}
 use Rattle.dswp.specs.Output.{Emits, WritesFront}
-use Rattle.dswp.specs.RunText.{IsSequential, source_run, region_report, region_reports, final_cells, closing_text, run_text}
+use Rattle.dswp.specs.RunText.{IsSequential, source_run, region_report, region_reports, final_cells, closing_text, trace_text}
 use Rattle.dswp.specs.Stretches.{to_come, Reported, Complete}
 use Rattle.dswp.proofs.StreamLemmas.{appended-append, prints-split, front_behind, front_more, front_ahead, emits_front}
 use Rattle.dswp.proofs.pieces.Drives.{driven_start}
@@ -101,12 +101,12 @@ module _ (p : Program) (input : List ℤ) (fuel : ℕ) (h : IsSequential p) wher
         ap (λ (zs : List ℤ). to_come zs m) none ∙ ap (λ (x : MachineState). prints (rest_of_run x).trace) start ∙ ap (λ (n : ℕ). prints (run_of p input n (begin p)).trace) e
 
     -- a front of the prints is one of the text
-    pub front_of_run : (told tells : Option (List ℕ)) → WritesFront (prints_bytes (to_come first m)) told tells → WritesFront (run_text p run) told tells
+    pub front_of_run : (told tells : Option (List ℕ)) → WritesFront (prints_bytes (to_come first m)) told tells → WritesFront (trace_text p run) told tells
     front_of_run told tells w =
         front_more (prints_bytes (prints run.trace)) (closing_text p run) told tells (subst (λ (zs : List ℤ). WritesFront (prints_bytes zs) told tells) prints_at w)
 
     -- also after some prints were written
-    pub front_later : (waiting : List ℤ) (now : MachineState) (told mid tells : Option (List ℕ)) → Emits (to_come first m) (to_come waiting now) told mid → WritesFront (prints_bytes waiting) mid tells → WritesFront (run_text p run) told tells
+    pub front_later : (waiting : List ℤ) (now : MachineState) (told mid tells : Option (List ℕ)) → Emits (to_come first m) (to_come waiting now) told mid → WritesFront (prints_bytes waiting) mid tells → WritesFront (trace_text p run) told tells
     front_later waiting now told mid tells e w =
         front_of_run told tells (emits_front (to_come first m) (to_come waiting now) told mid tells e (front_ahead waiting (prints (rest_of_run now).trace) mid tells w))
 
@@ -152,10 +152,10 @@ module _ (p : Program) (input : List ℤ) (fuel : ℕ) (h : IsSequential p) wher
         closing_seen : end_bytes p cells reports end ≡ closing_text p run
         closing_seen = ap (λ (zs : List ℤ). end_bytes p zs reports end) seen ∙ closing_is
 
-        pub front_at_end : (tells : Option (List ℕ)) → WritesFront (end_bytes p cells reports end) flushed tells → WritesFront (run_text p run) told tells
-        front_at_end tells w = front_behind (run_text p run) (prints_bytes (prints run.trace)) (end_bytes p cells reports end) told flushed tells
+        pub front_at_end : (tells : Option (List ℕ)) → WritesFront (end_bytes p cells reports end) flushed tells → WritesFront (trace_text p run) told tells
+        front_at_end tells w = front_behind (trace_text p run) (prints_bytes (prints run.trace)) (end_bytes p cells reports end) told flushed tells
             (ap (λ (x : List ℕ). prints_bytes (prints run.trace) ++ x) (sym closing_seen)) prints_written w
 
-        pub all_written : (tells : Option (List ℕ)) → tells ≡ appended (end_bytes p cells reports end) flushed → tells ≡ appended (run_text p run) told
+        pub all_written : (tells : Option (List ℕ)) → tells ≡ appended (end_bytes p cells reports end) flushed → tells ≡ appended (trace_text p run) told
         all_written tells w = w ∙ ap (appended (end_bytes p cells reports end)) prints_written ∙ appended-append (prints_bytes (prints run.trace)) (end_bytes p cells reports end) told
             ∙ ap (λ (x : List ℕ). appended (prints_bytes (prints run.trace) ++ x) told) closing_seen

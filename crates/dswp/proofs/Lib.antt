@@ -1,6 +1,7 @@
 pub mod pieces
 pub mod accepted
 pub mod WordLemmas
+pub mod TaskLemmas
 pub mod WriteLemmas
 pub mod StreamLemmas
 pub mod ListingLemmas
@@ -9,7 +10,6 @@ pub mod IterationLemmas
 pub mod RegionLemmas
 pub mod NextLemmas
 pub mod EndingLemmas
-pub mod SiteLemmas
 pub mod LoadLemmas
 pub mod TextsLemmas
 pub mod AnswerLemmas

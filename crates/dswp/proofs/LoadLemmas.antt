@@ -8,13 +8,17 @@ use Rattle.dp_tree.specs.declared.Program.{Program}
 use Rattle.dp_tree.specs.declared.raw.RawProgram.{RawProgram}
 use Rattle.dp_lex.specs.Tokens.{RefusedAt}
 use Rattle.dp_parse.specs.Parses.{ParsesAs, NestsTooDeep, DerivesNothing}
+use Rattle.dp_check.specs.declared.fail.CheckFail.{CheckFail}
 use Rattle.dp_check.specs.Verdict.{verdict}
+use Rattle.dp_check.proofs.CheckedLemmas.{checked}
+use Rattle.dp_inline.specs.Verdict.{verdict as size_verdict}
 use Rattle.dp_edge.specs.Input.{numbers_of}
 use Rattle.dswp.specs.declared.refusal.Refusal.{Refusal}
 use Rattle.dswp.specs.declared.refusal.Refusal.TheVariants.{Byte, Syntax, Limit}
-use Rattle.dswp.specs.Program.{Reads, TooLong, NoToken, TooDeep, NoTree, Judged, sized}
+use Rattle.dswp.specs.Program.{Reads, ReadsAs, TooLong, NoToken, TooDeep, NoTree, Judged, sized, judged, expanded, refusal_of}
 use Rattle.dswp.specs.Answer.{Contents, Holds, ReadsInput, input_of, or_refused}
-use Rattle.dswp.specs.Loading.{ReadsProgram}
+use Rattle.dswp.specs.Loading.{LoadsProgram}
+use Rattle.dswp.proofs.accepted.Lengths.{lengths}
 
 pub no_token : (text : List ℕ) (place : ℕ) → length text ≤ 65536 → RefusedAt text place → Reads text (Err (Byte place))
 no_token text place short h = NoToken place short h
@@ -27,10 +31,21 @@ no_tree text short h = NoTree short h
 
 pub ruleset unread_texts = (no_token, too_deep, no_tree)
 
-pub judged : (text : List ℕ) (raw : RawProgram) (read : Result Program Refusal) → length text ≤ 65536 → ParsesAs text raw → read ≡ sized (verdict raw) → Reads text read
-judged text raw read short h e = rw e (Judged raw short h)
+pub read : (text : List ℕ) (raw : RawProgram) (read : Result Program Refusal) → length text ≤ 65536 → ParsesAs text raw → read ≡ expanded (judged (verdict raw)) → ReadsAs text read
+read text raw o short h e = record { source = judged (verdict raw); reads = Judged raw short h; is = e }
 
-pub ruleset judged_texts = (judged)
+pub unread : (text : List ℕ) (refusal : Refusal) → Reads text (Err refusal) → ReadsAs text (Err refusal)
+unread text refusal h = record { source = Err refusal; reads = h; is = refl }
+
+pub ruleset judged_texts = (read, unread, lengths)
+
+pub fit : (raw : RawProgram) (p : Program) (o : Result Program Refusal) → verdict raw ≡ Ok p → o ≡ expanded (sized p (size_verdict p)) → o ≡ expanded (judged (verdict raw))
+fit raw p o is e = e ∙ sym (ap (λ (v : Result Program CheckFail). expanded (judged v)) is)
+
+pub offending : (raw : RawProgram) (fail : CheckFail) (refusal : Refusal) → verdict raw ≡ Err fail → refusal ≡ refusal_of fail → Err refusal ≡ expanded (judged (verdict raw))
+offending raw fail refusal is e = ap Err e ∙ sym (ap (λ (v : Result Program CheckFail). expanded (judged v)) is)
+
+pub ruleset judged_trees = (fit, offending, checked)
 
 -- a text that the shelf holds, so far as it tells, and that is longer than the room
 abbrev LongText : Contents → List ℕ → ℕ → Type 0
@@ -56,7 +71,9 @@ long_input contents name h =
     record { text = found.0; held = found.1.0; reads = sym (long_input_of found.0 (nat_lt 2097152 (length found.0)) long) }
 
 -- a program's text that is longer than its limit
-pub long_program : (contents : Contents) (name : List ℕ) → IfSome contents (λ held. IsSomeAnd (held name) (λ content. 65536 < length content)) → ReadsProgram contents name (Err (Limit ProgramBytes 65537))
-long_program contents name h = let found = long_text contents name 65536 h in record { text = found.0; held = found.1.0; reads = TooLong found.1.1 }
+pub long_program : (contents : Contents) (name : List ℕ) → IfSome contents (λ held. IsSomeAnd (held name) (λ content. 65536 < length content)) → LoadsProgram contents name (Err (Limit ProgramBytes 65537))
+long_program contents name h =
+    let found = long_text contents name 65536 h in
+    record { source = Err (Limit ProgramBytes 65537); reads = record { text = found.0; held = found.1.0; reads = TooLong found.1.1 }; is = refl }
 
 pub ruleset long_texts = (long_input, long_program)

@@ -1,5 +1,5 @@
-pub mod Simple
-pub mod Sites
-pub mod Laid
-pub mod Text
+pub mod Lengths
+pub mod Inlined
+pub mod State
+pub mod SameText
 pub mod Sequential

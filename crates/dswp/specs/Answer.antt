@@ -2,6 +2,8 @@
 use Rattle.std.specs.Prelude.{◌≡◌, ℕ, if◌then◌else◌, List, [], length, nat_lt, ℤ, Option, Some, None, Result, Ok, Err, IfSome}
 use Rattle.dp_base.specs.declared.Quantity.TheVariants.{InputBytes, InputWords}
 use Rattle.dp_tree.specs.declared.Program.{Program}
+use Rattle.dp_calls.specs.Expand.{expand}
+use Rattle.dp_calls.specs.Frames.{outcome}
 use Rattle.dp_edge.specs.declared.input.InputFail.{InputFail}
 use Rattle.dp_edge.specs.declared.input.InputFail.TheVariants.{TooMany, Refused, NoMemory}
 use Rattle.dp_edge.specs.Input.{numbers_of}
@@ -10,9 +12,10 @@ use Rattle.dswp.specs.declared.refusal.Role.TheVariants as role
 use Rattle.dswp.specs.declared.refusal.Refusal.{Refusal}
 use Rattle.dswp.specs.declared.refusal.Refusal.TheVariants.{Words, InputWord, Limit}
 use Rattle.dswp.specs.Refusal.{refusal_line, refusal_status}
-use Rattle.dswp.specs.Words.{Run, Asks}
+use Rattle.dp_report.specs.SiteText.{site_bytes}
+use Rattle.dswp.specs.Words.{Run, Asks, AsksSites, AsksNothing}
 use Rattle.dswp.specs.Program.{Reads}
-use Rattle.dswp.specs.RunText.{source_run, run_text, status_of}
+use Rattle.dswp.specs.RunText.{run_text, status_of}
 
 -- what a shelf holds under each name, where it tells it
 abbrev pub Contents : Type 0
@@ -47,19 +50,25 @@ pub data Input (contents : Contents) : Option (List ℕ) → Result (List ℤ) R
   Unnamed : Input contents None (Ok [])
   Named : (name : List ℕ) (read : Result (List ℤ) Refusal) → ReadsInput contents name read → Input contents (Some name) read
 
--- The first refusal, in the order of words, program and input, or else the run.
+-- The first refusal, in the order of words, program and input, or else the run, or the list of sites.
 pub data Answer (words : List (List ℕ)) (contents : Contents) : ℕ → List ℕ → Type 0 where
-  NotTaken : ((run : Run) → ¬ Asks words run) → Answer words contents (refusal_status Words) (refusal_line Words)
+  NotTaken : AsksNothing words → Answer words contents (refusal_status Words) (refusal_line Words)
   ProgramRefused : (run : Run) (text : List ℕ) (refusal : Refusal) → Asks words run → Holds contents run.program text → Reads text (Err refusal) →
       Answer words contents (refusal_status refusal) (refusal_line refusal)
   InputRefused : (run : Run) (text : List ℕ) (p : Program) (refusal : Refusal) → Asks words run → Holds contents run.program text → Reads text (Ok p) →
       Input contents run.input (Err refusal) → Answer words contents (refusal_status refusal) (refusal_line refusal)
   Ran : (run : Run) (text : List ℕ) (p : Program) (numbers : List ℤ) → Asks words run → Holds contents run.program text → Reads text (Ok p) →
       Input contents run.input (Ok numbers) →
-      Answer words contents (status_of (source_run p numbers run.fuel).end) (run_text p (source_run p numbers run.fuel))
+      Answer words contents (status_of (outcome p numbers run.fuel).end) (run_text p numbers run.fuel)
+
+  SitesRefused : (program text : List ℕ) (refusal : Refusal) → AsksSites words program → Holds contents program text → Reads text (Err refusal) →
+      Answer words contents (refusal_status refusal) (refusal_line refusal)
+  SitesListed : (program text : List ℕ) (p : Program) → AsksSites words program → Holds contents program text → Reads text (Ok p) →
+      Answer words contents 0 (site_bytes (expand p))
 
 -- The text of this role is to be read under this name: no refusal comes before.
 pub data IsRead (words : List (List ℕ)) (contents : Contents) : Role → List ℕ → Type 0 where
   OfProgram : (run : Run) → Asks words run → IsRead words contents role.Program run.program
+  OfSites : (program : List ℕ) → AsksSites words program → IsRead words contents role.Program program
   OfInput : (run : Run) (text name : List ℕ) (p : Program) → Asks words run → Holds contents run.program text → Reads text (Ok p) →
       run.input ≡ Some name → IsRead words contents role.Input name

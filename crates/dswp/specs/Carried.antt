@@ -2,6 +2,7 @@
 use Rattle.std.specs.Prelude.{◌≡◌, ◌<◌, ℕ, List, [], ◌∷◌, ◌++◌, ℤ, Option, Some, Result, Ok, Err}
 use Rattle.std.specs.Option.{option_map}
 use Rattle.dp_tree.specs.declared.Program.{Program}
+use Rattle.dp_calls.specs.Expand.{expand}
 use Rattle.dp_edge.specs.Sink.{appended}
 use Rattle.dswp.specs.declared.refusal.Role.{Role}
 use Rattle.dswp.specs.declared.refusal.Role.TheVariants as role
@@ -30,8 +31,8 @@ Finishes status bytes told tells (Err stop) = WritesFront bytes told tells
 
 -- What the texts of a run give, with the shelf's faults and failed names before and after.
 pub data LoadsTexts (contents : Contents) (run : Run) (faults after : ℕ) (failed fails : Names) : Texts → Type 0 where
-  Loaded : (p : Program) (numbers : List ℤ) → ReadsProgram contents run.program (Ok p) → Input contents run.input (Ok numbers) → after ≡ faults → fails ≡ failed →
-      LoadsTexts contents run faults after failed fails (texts.Run p numbers)
+  Loaded : (p q : Program) (numbers : List ℤ) → q ≡ expand p → ReadsProgram contents run.program (Ok p) → Input contents run.input (Ok numbers) → after ≡ faults → fails ≡ failed →
+      LoadsTexts contents run faults after failed fails (texts.Run q numbers)
   ProgramRefused : (refusal : Refusal) → ReadsProgram contents run.program (Err refusal) → after ≡ faults → fails ≡ failed →
       LoadsTexts contents run faults after failed fails (texts.Refused refusal)
   InputRefused : (refusal : Refusal) (p : Program) → ReadsProgram contents run.program (Ok p) → Input contents run.input (Err refusal) → after ≡ faults → fails ≡ failed →

@@ -7,13 +7,19 @@ use Rattle.dswp.specs.declared.refusal.Refusal.{Refusal}
 use Rattle.dswp.specs.declared.load.Loaded.{Loaded}
 use Rattle.dswp.specs.declared.load.Loaded.TheVariants.{Text, Refused, Failed}
 use Rattle.dswp.specs.Answer.{Contents, Holds, Input}
-use Rattle.dswp.specs.Program.{Reads}
+use Rattle.dswp.specs.Program.{Reads, expanded}
 
 -- what a program's text under the name is read as
 pub record ReadsProgram (contents : Contents) (name : List ℕ) (read : Result Tree Refusal) : Type 0 where
   pub text : List ℕ
   pub held : Holds contents name text
   pub reads : Reads text read
+
+-- what is run for it: that program with its calls expanded, or its refusal
+pub record LoadsProgram (contents : Contents) (name : List ℕ) (read : Result Tree Refusal) : Type 0 where
+  pub source : Result Tree Refusal
+  pub reads : ReadsProgram contents name source
+  pub is : read ≡ expanded source
 
 -- What one text was loaded as: what it stands for, or its refusal; or its reading failed.
 abbrev pub Loads : {X : Type 0} → (Result X Refusal → Type 0) → Loaded X → Type 0

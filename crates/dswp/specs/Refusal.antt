@@ -7,7 +7,7 @@ use Rattle.dswp.specs.declared.refusal.Role.TheVariants as role
 use Rattle.dswp.specs.declared.refusal.Offence.{Offence}
 use Rattle.dswp.specs.declared.refusal.Offence.TheVariants.{Unknown, Twice, NotArray, NotScalar, Arguments, ReadOnly}
 use Rattle.dswp.specs.declared.refusal.Refusal.{Refusal}
-use Rattle.dswp.specs.declared.refusal.Refusal.TheVariants.{Words, Byte, Syntax, Name, Later, InputWord, Limit}
+use Rattle.dswp.specs.declared.refusal.Refusal.TheVariants.{Words, Byte, Syntax, Name, InputWord, Limit}
 
 -- a limit's name in messages
 abbrev pub quantity_name : Quantity → List ℕ
@@ -46,7 +46,6 @@ refusal_line Words = codes "refused words\n"
 refusal_line (Byte place) = codes "refused program byte " ++ (decimal place ++ codes "\n")
 refusal_line Syntax = codes "refused program syntax\n"
 refusal_line (Name offence line) = codes "refused program " ++ (offence_name offence ++ (codes " line " ++ (decimal line ++ codes "\n")))
-refusal_line (Later line) = codes "refused program later line " ++ (decimal line ++ codes "\n")
 refusal_line (InputWord word) = codes "refused input word " ++ (decimal word ++ codes "\n")
 refusal_line (Limit quantity count) = codes "limit " ++ (quantity_name quantity ++ (codes " " ++ (decimal count ++ codes "\n")))
 
@@ -56,6 +55,5 @@ refusal_status Words = 2
 refusal_status (Byte place) = 3
 refusal_status Syntax = 3
 refusal_status (Name offence line) = 3
-refusal_status (Later line) = 3
 refusal_status (InputWord word) = 4
 refusal_status (Limit quantity count) = 9

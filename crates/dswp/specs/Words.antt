@@ -5,6 +5,8 @@ use Rattle.std.specs.List.{list_all}
 use Rattle.std.specs.Str.Parse.{digits_value}
 use Rattle.std.specs.Option.{option_map}
 use Rattle.dswp.specs.declared.words.RunWords.{RunWords}
+use Rattle.dswp.specs.declared.words.Task.{Task}
+use Rattle.dswp.specs.declared.words.Task.TheVariants as task
 
 -- a run that was asked for: the names of its program and of its input, if it has one, and its fuel
 pub record Run : Type 0 where
@@ -44,6 +46,15 @@ pub data Options : List (List ℕ) → ℕ → Type 0 where
 pub data Asks : List (List ℕ) → Run → Type 0 where
   ToRun : (names options : List (List ℕ)) (run : Run) → Names names run.program run.input → Options options run.fuel → Asks (codes "run" ∷ (names ++ options)) run
 
+-- the words ask for the list of this program's sites: the verb and a name
+pub data AsksSites : List (List ℕ) → List ℕ → Type 0 where
+  ToCheck : (program : List ℕ) → IsTrue (is_name program) → AsksSites (codes "check" ∷ program ∷ []) program
+
+-- the words ask for nothing that the program does
+pub record AsksNothing (words : List (List ℕ)) : Type 0 where
+  pub no_run : (run : Run) → ¬ Asks words run
+  pub no_sites : (program : List ℕ) → ¬ AsksSites words program
+
 -- the first word is the input's name, or else there is no input; the options are the other words
 pub data SplitsInput : List (List ℕ) → Option (List ℕ) → List (List ℕ) → Type 0 where
   HasInput : (input : List ℕ) (options : List (List ℕ)) → IsTrue (is_name input) → SplitsInput (input ∷ options) (Some input) options
@@ -52,3 +63,8 @@ pub data SplitsInput : List (List ℕ) → Option (List ℕ) → List (List ℕ)
 -- the run that the program's own record of the words stands for
 abbrev pub shown : RunWords → Run
 shown words = record { program = words.program.now; input = option_map (λ name. name.now) words.input; fuel = words.fuel }
+
+-- the words ask for this task
+abbrev pub AsksFor : List (List ℕ) → Task → Type 0
+AsksFor words (task.Run run) = Asks words (shown run)
+AsksFor words (task.Check program) = AsksSites words program.now

@@ -1,20 +1,22 @@
 //! The whole program: from its words to what is written and the exit status.
-ghost use Rattle.std.specs.Prelude.{◌≡◌, ◌<◌, ◌≤◌, ◌-◌, ◌^◌, map, string_bytes, OnErr, IfOk};
+ghost use Rattle.std.specs.Prelude.{◌≡◌, ◌<◌, ◌≤◌, ◌-◌, ◌^◌, ℕ, List, map, string_bytes, OnErr, IfOk};
+ghost use Rattle.dp_report.specs.SiteText.{site_bytes};
 ghost use Rattle.dswp.specs.Headline.{Answered, ReadFailed, WriteFailed};
 ghost use Rattle.dswp.specs.Carried.{Carried, Finishes, LoadsTexts};
 ghost use Rattle.dswp.specs.Refusal.{refusal_line, refusal_status, failed_read_line};
-ghost use Rattle.dswp.specs.RunText.{source_run, run_text, status_of, IsSequential};
+ghost use Rattle.dswp.specs.RunText.{source_run, trace_text, status_of, IsSequential};
 ghost use Rattle.dswp.specs.Stop.{FaultsAfter};
-ghost use Rattle.dswp.specs.Words.{shown};
+ghost use Rattle.dswp.specs.Words.{Asks, AsksSites, shown};
 
 use crate::execute::{execute, write};
 use crate::load::{Loaded, load_input, load_program};
 use crate::refusal::{Refusal, Role};
 use crate::stop::{Stop, final_status};
 use crate::texts::Texts;
-use crate::words::{RunWords, asked};
+use crate::words::{RunWords, Task, asked};
 use dp_base::{End, NoMemory, Row};
 use dp_edge::{Gate, Shelf, Sink};
+use dp_report::site_text;
 use dp_tree::Program;
 use std::alloc::Global;
 
@@ -67,14 +69,64 @@ fn answer<S: Shelf, K: Sink>(
     ensures carried { Carried (map string_bytes words.now) (S.contents shelf.old) (S.faults shelf.old) (S.faults shelf.new)
         (S.failed_names shelf.old) (S.failed_names shelf.new) (K.written sink.old) (K.written sink.new) result }
 {
-    let Some(run) = asked(words) else {
-        return refuse(alloc, Refusal::Words, sink);
-    };
+    match asked(words) {
+        Some(Task::Run(run)) => answer_run(alloc, run, shelf, sink),
+        Some(Task::Check(program)) => answer_check(alloc, program, shelf, sink),
+        None => refuse(alloc, Refusal::Words, sink),
+    }
+}
+
+/// The exit status of a run.
+fn answer_run<S: Shelf, K: Sink>(
+    alloc: Global,
+    run: RunWords,
+    shelf: &mut S,
+    sink: &mut K,
+) -> Result<u8, Stop>
+    requires shelf { S.faults shelf.old < 2 ^ 64 - 1 }
+    requires sink { K.faults sink.old < 2 ^ 64 - 1 }
+    ensures contents { S.contents shelf.new ≡ S.contents shelf.old }
+    ensures faults { FaultsAfter result (K.faults sink.old) (K.faults sink.new) }
+    ensures carried { (words : List (List ℕ)) → Asks words (shown run.entry) → Carried words (S.contents shelf.old) (S.faults shelf.old) (S.faults shelf.new)
+        (S.failed_names shelf.old) (S.failed_names shelf.new) (K.written sink.old) (K.written sink.new) result }
+{
     match load(alloc, run, shelf)? {
         Texts::Run(program, input) => run_to_end(alloc, &program, &input, run.fuel, sink),
         Texts::Refused(refusal) => refuse(alloc, refusal, sink),
         Texts::Failed(role) => fail_read(alloc, role, sink),
     }
+}
+
+/// The exit status of a list of sites.
+fn answer_check<S: Shelf, K: Sink>(
+    alloc: Global,
+    name: &str,
+    shelf: &mut S,
+    sink: &mut K,
+) -> Result<u8, Stop>
+    requires shelf { S.faults shelf.old < 2 ^ 64 - 1 }
+    requires sink { K.faults sink.old < 2 ^ 64 - 1 }
+    ensures contents { S.contents shelf.new ≡ S.contents shelf.old }
+    ensures faults { FaultsAfter result (K.faults sink.old) (K.faults sink.new) }
+    ensures carried { (words : List (List ℕ)) → AsksSites words name.now → Carried words (S.contents shelf.old) (S.faults shelf.old) (S.faults shelf.new)
+        (S.failed_names shelf.old) (S.failed_names shelf.new) (K.written sink.old) (K.written sink.new) result }
+{
+    match load_program(alloc, shelf, name)? {
+        Loaded::Text(program) => list_sites(alloc, &program, sink),
+        Loaded::Refused(refusal) => refuse(alloc, refusal, sink),
+        Loaded::Failed => fail_read(alloc, Role::Program, sink),
+    }
+}
+
+/// Writes the list of the program's sites.
+fn list_sites<K: Sink>(alloc: Global, program: &Program, sink: &mut K) -> Result<u8, Stop>
+    requires { K.faults sink.old < 2 ^ 64 - 1 }
+    ensures faults { FaultsAfter result (K.faults sink.old) (K.faults sink.new) }
+    ensures finishes { Finishes 0 (site_bytes program.now) (K.written sink.old) (K.written sink.new) result }
+{
+    let text = site_text(alloc, program)?;
+    write(text.as_slice(), sink)?;
+    Ok(0)
 }
 
 /// The texts that a run names: first the program, then the input.
@@ -111,7 +163,7 @@ fn run_to_end<K: Sink>(
     requires program { IsSequential program.now }
     ensures faults { FaultsAfter result (K.faults sink.old) (K.faults sink.new) }
     ensures finishes { let run = source_run program.now input.now fuel in
-        Finishes (status_of run.end) (run_text program.now run) (K.written sink.old) (K.written sink.new) result }
+        Finishes (status_of run.end) (trace_text program.now run) (K.written sink.old) (K.written sink.new) result }
 {
     let end = execute(alloc, program, input.as_slice(), fuel, sink)?;
     Ok(end_status(end))

@@ -3,7 +3,7 @@ ghost use Rattle.std.specs.Prelude.{◌≡◌, ◌<◌, ◌≤◌, ◌-◌, ◌^
 ghost use Rattle.dp_edge.specs.Sink.{appended};
 ghost use Rattle.dp_report.specs.EndText.{end_bytes};
 ghost use Rattle.dswp.specs.Output.{Streams, WritesFront};
-ghost use Rattle.dswp.specs.RunText.{IsSequential, run_text, source_run};
+ghost use Rattle.dswp.specs.RunText.{IsSequential, trace_text, source_run};
 ghost use Rattle.dswp.specs.Stop.{FaultsAfter};
 ghost use Rattle.dswp.specs.Stretches.{Complete, NextMade, Reported, to_come};
 
@@ -39,8 +39,8 @@ pub fn execute<K: Sink>(
     requires program { IsSequential program.now }
     ensures faults { FaultsAfter result (K.faults sink.old) (K.faults sink.new) }
     ensures ok { let run = source_run program.now input.now fuel in
-        IfOk result (λ end. (end ≡ run.end) × (K.written sink.new ≡ appended (run_text program.now run) (K.written sink.old))) }
-    ensures err { OnErr result (WritesFront (run_text program.now (source_run program.now input.now fuel)) (K.written sink.old) (K.written sink.new)) }
+        IfOk result (λ end. (end ≡ run.end) × (K.written sink.new ≡ appended (trace_text program.now run) (K.written sink.old))) }
+    ensures err { OnErr result (WritesFront (trace_text program.now (source_run program.now input.now fuel)) (K.written sink.old) (K.written sink.new)) }
 {
     let mut machine = Machine::new(alloc, program, input, fuel)?;
     let mut reports = Row::new(alloc);

@@ -2,7 +2,7 @@
 ghost use Rattle.std.specs.Prelude.{◌≡◌, ◌-◌, ◌^◌, ◌<◌, ◌≤◌, length, IfOk};
 ghost use Rattle.std.specs.Option.{option_map};
 ghost use Rattle.dswp.specs.Answer.{ReadsInput, input_of};
-ghost use Rattle.dswp.specs.Loading.{ReadsProgram, Loads, FaultsAfterLoad, names_after};
+ghost use Rattle.dswp.specs.Loading.{LoadsProgram, Loads, FaultsAfterLoad, names_after};
 
 use crate::program::read_program;
 use crate::refusal::Refusal;
@@ -26,7 +26,7 @@ const PROGRAM_ROOM: u32 = 65_536;
 
 const INPUT_ROOM: u32 = 2_097_152;
 
-/// The program under a name.
+/// The program under a name, with its calls expanded.
 #[tactic(auto, using(crate::proofs::LoadLemmas::long_texts))]
 pub fn load_program<S: Shelf>(
     alloc: Global,
@@ -37,7 +37,7 @@ pub fn load_program<S: Shelf>(
     ensures contents { S.contents shelf.new ≡ S.contents shelf.old }
     ensures faults { FaultsAfterLoad result (S.faults shelf.old) (S.faults shelf.new) }
     ensures failed_names { S.failed_names shelf.new ≡ option_map (names_after result name.now) (S.failed_names shelf.old) }
-    ensures loads { IfOk result (Loads (ReadsProgram (S.contents shelf.old) name.now)) }
+    ensures loads { IfOk result (Loads (LoadsProgram (S.contents shelf.old) name.now)) }
 {
     match shelf.read(alloc, name, PROGRAM_ROOM) {
         Ok(text) => match read_program(alloc, text.as_slice())? {

@@ -8,7 +8,6 @@ mod load;
 mod program;
 mod quantity;
 mod refusal;
-mod size;
 mod stop;
 #[cfg(test)]
 mod tests;

@@ -1,22 +1,27 @@
 //! From a program's text to the program.
-ghost use Rattle.std.specs.Prelude.{◌≡◌, ◌≤◌, ℕ, List, length, IfOk};
+ghost use Rattle.std.specs.Prelude.{◌≡◌, ◌≤◌, ℕ, List, length, true, IfOk, OnErr};
+ghost use Rattle.std.specs.List.{list_all};
+ghost use Rattle.dp_tree.specs.Checked.{IsChecked};
 ghost use Rattle.dp_parse.specs.Parses.{Parses};
-ghost use Rattle.dswp.specs.Program.{Reads, sized};
+ghost use Rattle.dp_check.specs.Checked.{has_length};
 ghost use Rattle.dp_check.specs.Verdict.{verdict};
+ghost use Rattle.dp_check.specs.declared.fail.CheckFail.TheVariants as failed;
+ghost use Rattle.dp_inline.specs.Verdict.{verdict as size_verdict};
+ghost use Rattle.dswp.specs.Program.{Reads, ReadsAs, refusal_of, sized, judged, expanded};
 
 use crate::refusal::{Offence, Refusal};
-use crate::size::size_refusal;
 use dp_base::NoMemory;
 use dp_check::{CheckFail, check};
+use dp_inline::{InlineFail, inline};
 use dp_parse::{ParseFail, parse};
 use dp_tree::{Program, RawProgram};
 use std::alloc::Global;
 
-/// The text's program, or why it is refused.
+/// The text's program with its calls expanded, or why it is refused.
 #[tactic(auto, using(crate::proofs::LoadLemmas::judged_texts))]
 pub fn read_program(alloc: Global, text: &[u8]) -> Result<Result<Program, Refusal>, NoMemory>
     requires { length text.now ≤ 65536 }
-    ensures { IfOk result (λ read. Reads text.now read) }
+    ensures { IfOk result (ReadsAs text.now) }
 {
     match parse(alloc, text) {
         Ok(raw) => judge(alloc, &raw),
@@ -37,23 +42,43 @@ fn unread(fail: ParseFail) -> Result<Refusal, NoMemory>
     }
 }
 
-/// The tree's program where no name offends and no size is above its limit.
+/// The tree's program with its calls expanded, where no name offends and no size is above its limit.
+#[tactic(auto, using(crate::proofs::LoadLemmas::judged_trees))]
 fn judge(alloc: Global, raw: &RawProgram) -> Result<Result<Program, Refusal>, NoMemory>
-    ensures { IfOk result (λ read. read ≡ sized (verdict raw.now)) }
+    requires { list_all has_length raw.now.items ≡ true }
+    ensures { IfOk result (λ read. read ≡ expanded (judged (verdict raw.now))) }
 {
     match check(alloc, raw) {
-        Ok(program) => match size_refusal(&program) {
-            Some(refusal) => Ok(Err(refusal)),
-            None => Ok(Ok(program)),
-        },
-        Err(CheckFail::NoMemory) => Err(NoMemory),
-        Err(CheckFail::Unknown { line }) => Ok(Err(Refusal::Name(Offence::Unknown, line))),
-        Err(CheckFail::Twice { line }) => Ok(Err(Refusal::Name(Offence::Twice, line))),
-        Err(CheckFail::NotArray { line }) => Ok(Err(Refusal::Name(Offence::NotArray, line))),
-        Err(CheckFail::NotScalar { line }) => Ok(Err(Refusal::Name(Offence::NotScalar, line))),
-        Err(CheckFail::Arguments { line }) => Ok(Err(Refusal::Name(Offence::Arguments, line))),
-        Err(CheckFail::ReadOnly { line }) => Ok(Err(Refusal::Name(Offence::ReadOnly, line))),
-        Err(CheckFail::Later { line }) => Ok(Err(Refusal::Later(line))),
-        Err(CheckFail::Limit { quantity, count }) => Ok(Err(Refusal::Limit(quantity, count))),
+        Ok(program) => expand_calls(alloc, &program),
+        Err(fail) => Ok(Err(offending(fail)?)),
+    }
+}
+
+/// Why a tree stands for no program.
+fn offending(fail: CheckFail) -> Result<Refusal, NoMemory>
+    ensures ok { IfOk result (λ refusal. refusal ≡ refusal_of fail) }
+    ensures err { OnErr result (fail ≡ failed.NoMemory) }
+{
+    match fail {
+        CheckFail::Unknown { line } => Ok(Refusal::Name(Offence::Unknown, line)),
+        CheckFail::Twice { line } => Ok(Refusal::Name(Offence::Twice, line)),
+        CheckFail::NotArray { line } => Ok(Refusal::Name(Offence::NotArray, line)),
+        CheckFail::NotScalar { line } => Ok(Refusal::Name(Offence::NotScalar, line)),
+        CheckFail::Arguments { line } => Ok(Refusal::Name(Offence::Arguments, line)),
+        CheckFail::ReadOnly { line } => Ok(Refusal::Name(Offence::ReadOnly, line)),
+        CheckFail::Limit { quantity, count } => Ok(Refusal::Limit(quantity, count)),
+        CheckFail::NoMemory => Err(NoMemory),
+    }
+}
+
+/// The program with its calls expanded, unless it is too large.
+fn expand_calls(alloc: Global, program: &Program) -> Result<Result<Program, Refusal>, NoMemory>
+    requires { IsChecked program.now }
+    ensures { IfOk result (λ read. read ≡ expanded (sized program.now (size_verdict program.now))) }
+{
+    match inline(alloc, program) {
+        Ok(expanded) => Ok(Ok(expanded)),
+        Err(InlineFail::Limit { quantity, count }) => Ok(Err(Refusal::Limit(quantity, count))),
+        Err(InlineFail::NoMemory) => Err(NoMemory),
     }
 }

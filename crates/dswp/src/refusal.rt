@@ -40,8 +40,6 @@ pub enum Refusal {
     Syntax,
     /// A name offends, on this line.
     Name(Offence, u32),
-    /// A call, on this line: calls aren't compiled yet.
-    Later(u32),
     /// This word of the input, from 1, is no number.
     InputWord(u32),
     /// A count is above its limit.
@@ -57,7 +55,7 @@ impl Refusal {
     {
         match self {
             Refusal::Words => 2,
-            Refusal::Byte(_) | Refusal::Syntax | Refusal::Name(_, _) | Refusal::Later(_) => 3,
+            Refusal::Byte(_) | Refusal::Syntax | Refusal::Name(_, _) => 3,
             Refusal::InputWord(_) => 4,
             Refusal::Limit(_, _) => 9,
         }
@@ -75,7 +73,6 @@ impl Refusal {
                 let kind = offence.name();
                 format!(in alloc; "refused program {kind} line {line}\n")?
             }
-            Refusal::Later(line) => format!(in alloc; "refused program later line {line}\n")?,
             Refusal::InputWord(word) => format!(in alloc; "refused input word {word}\n")?,
             Refusal::Limit(quantity, count) => {
                 let name = quantity_name(quantity);

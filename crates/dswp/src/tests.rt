@@ -1,4 +1,5 @@
 //! The program over a shelf and a sink in memory.
+mod calls;
 mod limits;
 mod programs;
 mod refusals;

@@ -1,9 +1,9 @@
 //! The words after the program's name.
-ghost use Rattle.std.specs.Prelude.{◌≡◌, ◌↔◌, ◌∷◌, ℕ, map, string_bytes, codes, IsTrue, IfSome, IfNone};
+ghost use Rattle.std.specs.Prelude.{◌≡◌, ◌↔◌, ◌∷◌, ℕ, List, map, string_bytes, codes, IsTrue, IfSome, IfNone};
 ghost use Rattle.std.specs.Char.{is_ascii_digit};
 ghost use Rattle.std.specs.List.{list_all};
 ghost use Rattle.std.specs.Option.{option_map};
-ghost use Rattle.dswp.specs.Words.{Run, Asks, IsFuel, Options, SplitsInput, is_name, shown};
+ghost use Rattle.dswp.specs.Words.{Run, Asks, AsksSites, AsksFor, AsksNothing, IsFuel, Options, SplitsInput, is_name, shown};
 
 /// A run that was asked for.
 #[derive(Clone, Copy)]
@@ -17,16 +17,45 @@ const DEFAULT_FUEL: u64 = 10_000_000;
 
 const MOST_FUEL: u64 = 1_000_000_000;
 
+/// What the program is asked to do.
+#[derive(Clone, Copy)]
+pub enum Task<'w> {
+    Run(RunWords<'w>),
+    /// To list the sites of the program with this name.
+    Check(&'w str),
+}
+
 /// What the words ask for, if they are taken.
-pub fn asked(words: &[String]) -> Option<RunWords<'_>>
-    ensures some { IfSome result (λ run. Asks (map string_bytes words.now) (shown run)) }
-    ensures none { IfNone result ((run : Run) → ¬ Asks (map string_bytes words.now) run) }
+#[tactic(auto, using(crate::proofs::TaskLemmas::tasks))]
+pub fn asked(words: &[String]) -> Option<Task<'_>>
+    ensures some { IfSome result (λ task. AsksFor (map string_bytes words.now) task) }
+    ensures none { IfNone result (AsksNothing (map string_bytes words.now)) }
 {
     let (verb, rest) = words.split_first()?;
-    if !is_run(verb.as_str()) {
+    let verb = verb.as_str();
+    if is_run(verb) {
+        let run = named(rest)?;
+        return Some(Task::Run(run));
+    }
+    if is_check(verb) {
+        let program = listed(rest)?;
+        return Some(Task::Check(program));
+    }
+    None
+}
+
+/// The one name of a program whose sites are to be listed.
+#[tactic(auto, using(crate::proofs::TaskLemmas::lists))]
+fn listed(words: &[String]) -> Option<&str>
+    ensures some { IfSome result (λ program. AsksSites (codes "check" ∷ map string_bytes words.now) program.now) }
+    ensures none { IfNone result ((program : List ℕ) → ¬ AsksSites (codes "check" ∷ map string_bytes words.now) program) }
+{
+    let (program, others) = words.split_first()?;
+    let program = program.as_str();
+    if !others.is_empty() || !is_name(program) {
         return None;
     }
-    named(rest)
+    Some(program)
 }
 
 /// The names, and then the options.
@@ -71,6 +100,12 @@ fn is_run(word: &str) -> bool
     ensures { IsTrue result ↔ (word.now ≡ codes "run") }
 {
     word == "run"
+}
+
+fn is_check(word: &str) -> bool
+    ensures { IsTrue result ↔ (word.now ≡ codes "check") }
+{
+    word == "check"
 }
 
 fn is_name(word: &str) -> bool

@@ -96,3 +96,48 @@ int main() {
   while (j < 1) { while (j < 3000) { j = j + 1; } }
 }
 ";
+
+/// A table of words with hashing, look-up, insertion and counting.
+pub const WORD_TABLE: &[u8] = b"int keys[16];
+int counts[16];
+int distinct;
+int total;
+
+void count(int p, int x) {
+  counts[p] = counts[p] + 1;
+  total = total + x;
+}
+
+int main(void) {
+  int i = 0;
+  #pragma dswp
+  while (i < input_len) {
+    int x = input[i];
+    i = i + 1;
+    /* three rounds of mixing */
+    int h = x;
+    int r = 0;
+    while (r < 3) {
+      h = (h * 5 + 3) % 16;
+      r = r + 1;
+    }
+    // look up, 0 marks an empty place
+    int p = h;
+    while (keys[p] != 0 && keys[p] != x + 1) {
+      p = (p + 1) % 16;
+    }
+    if (keys[p] == 0) {
+      keys[p] = x + 1;
+      distinct = distinct + 1;
+    }
+    count(p, x);
+  }
+  print(distinct);
+  print(total);
+  return 0;
+}
+";
+
+/// Two calls that each bind two arguments.
+pub const ADDS: &[u8] =
+    b"int g; void add(int a, int b) { g = g + a; g = g + b; } int main() { add(2, 3); add(g, 1); print(g); }";

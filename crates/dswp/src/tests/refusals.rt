@@ -5,7 +5,7 @@ use std::test::Fail;
 
 #[test]
 fn words_that_are_not_taken(rt: HostRuntime) -> Result<(), Fail> {
-    let rows: [&[&str]; 21] = [
+    let rows: [&[&str]; 24] = [
         &[],
         &["run"],
         &["walk", "p.c"],
@@ -25,7 +25,10 @@ fn words_that_are_not_taken(rt: HostRuntime) -> Result<(), Fail> {
         &["run", "--fuel", "5", "p.c"],
         &["run", "p.c", "--workers", "9"],
         &["run", "p.c", "--plan", "a", "--profile", "b"],
-        &["check", "p.c"],
+        &["check"],
+        &["check", "-p.c"],
+        &["check", "p.c", "in.txt"],
+        &["check", "p.c", "--fuel", "5"],
         &["run", "p.c", "-"],
     ];
     for words in rows {
@@ -51,7 +54,7 @@ fn words_that_are_not_taken(rt: HostRuntime) -> Result<(), Fail> {
 
 #[test]
 fn programs_that_are_refused(rt: HostRuntime) -> Result<(), Fail> {
-    let rows: [(&[u8], &[u8]); 38] = [
+    let rows: [(&[u8], &[u8]); 37] = [
         (b"", b"refused program syntax\n"),
         (b"int main() { x = ", b"refused program syntax\n"),
         (b"int main() { /* ", b"refused program byte 13\n"),
@@ -139,10 +142,6 @@ fn programs_that_are_refused(rt: HostRuntime) -> Result<(), Fail> {
         (
             b"void f() { } int main() { print(f); }",
             b"refused program unknown line 1\n",
-        ),
-        (
-            b"void f() { } int main() {\nf(); }",
-            b"refused program later line 2\n",
         ),
         (
             b"void f() { } void g() {\nf(); } int main() { y = 1; }",
