@@ -1,4 +1,4 @@
--- Checked programs: their cells and the numbers of their sites.
+-- What is so of a checked program: its cells, and the rest from the files before.
 use Rattle.std.proofs.Common.{◌≡◌, refl, ap, ◌∙◌, ℕ, ◌+◌, ◌==◌, Bool, true, false, ◌&&◌, List, [], ◌∷◌, ◌++◌, arith, nat_lt, not, ◌||◌}
 use Rattle.std.proofs.lemmas.Bool.Decides.{nat_tests}
 use Rattle.std.specs.List.{list_all, flat_map}
@@ -9,20 +9,22 @@ use Rattle.dp_tree.specs.declared.raw.RawStmt.{RawStmt}
 use Rattle.dp_tree.specs.declared.raw.RawItem.{RawItem}
 use Rattle.dp_tree.specs.declared.raw.RawItem.TheVariants as item
 use Rattle.dp_tree.specs.declared.raw.RawProgram.{RawProgram}
-use Rattle.dp_check.specs.Place.{Part, Site, Local, Called, parts}
+use Rattle.dp_check.specs.Place.{Part, Site, Local, parts}
 use Rattle.dp_check.specs.Tables.{laid, locals_of, globals, global_of, item_parts, top_scope, after_top, main_locals, variables}
 use Rattle.std.proofs.Common.{subst, Option, Some, None, Ok}
 use Rattle.dp_tree.specs.declared.Program.{Program}
 use Rattle.dp_check.specs.declared.fail.CheckFail.{CheckFail}
 use Rattle.dp_check.specs.Offence.{first_offence}
-use Rattle.dp_check.specs.Limits.{calls}
 use Rattle.dp_check.specs.Answer.{unless}
-use Rattle.dp_check.specs.Verdict.{names_of, begin, main_begin, first_call, too_many_functions, too_many_cells, resolved, verdict}
+use Rattle.dp_check.specs.Verdict.{names_of, begin, main_begin, too_many_functions, too_many_cells, resolved, verdict}
+use Rattle.dp_tree.specs.Globals.{is_global_scope}
 use Rattle.dp_tree.specs.Layout.{has_cells, lies_in_order}
 use Rattle.dp_tree.specs.Checked.{IsChecked}
 use Rattle.dp_check.specs.Checked.{has_length}
 use Rattle.dp_check.proofs.NumberLemmas.{sites_in_order}
 use Rattle.dp_check.proofs.PlainLemmas.{regions_stand_in_order, functions_are_plain}
+use Rattle.dp_check.proofs.GlobalLemmas.{globals_stand_first}
+use Rattle.dp_check.proofs.ItemScopeLemmas.{resolved_in_scope}
 
 nat_eq-same : (k : ℕ) → (k == k) ≡ true
 nat_eq-same k = grind (arith, nat_tests)
@@ -47,7 +49,7 @@ laid_in_order k (x ∷ xs) h = by (has_cells x) h (laid_in_order (k + x.length) 
     by true h next = and_true (and_true (nat_eq-same k) refl) (next h)
     by false h next = absurd (cc)
 
-scope_cells : (scope : VarScope) → (not (is_local scope) || true) ≡ true
+scope_cells : (scope : VarScope) → (is_global_scope scope || true) ≡ true
 scope_cells Global = refl
 scope_cells Outer = refl
 scope_cells (Body r) = refl
@@ -56,7 +58,6 @@ locals_have_cells : (scope : VarScope) (ps : List Part) → list_all has_cells (
 locals_have_cells scope [] = refl
 locals_have_cells scope (Site line k ∷ ps) = locals_have_cells scope ps
 locals_have_cells scope (Local name ∷ ps) = and_true (scope_cells scope) (locals_have_cells scope ps)
-locals_have_cells scope (Called line ∷ ps) = locals_have_cells scope ps
 
 globals_have_cells : (items : List RawItem) → list_all has_length items ≡ true → list_all has_cells (globals items) ≡ true
 globals_have_cells [] h = refl
@@ -86,24 +87,25 @@ variables_in_order raw h =
     laid_in_order 0 (g ++ m ++ f)
     (list_all-append has_cells (g ++ m) f (list_all-append has_cells g m (globals_have_cells raw.items h) (main_have_cells 1 raw.main)) (items_have_cells raw.items))
 
--- a program that is given is the resolved one
-verdict-given : (raw : RawProgram) (p : Program) → verdict raw ≡ Ok p → resolved raw ≡ p
+-- a program that is given is the resolved one, and no name of its text offends
+verdict-given : (raw : RawProgram) (p : Program) → verdict raw ≡ Ok p → (first_offence (names_of raw) ≡ None) × (resolved raw ≡ p)
 unfolding verdict
-verdict-given raw p given = by (first_offence (names_of raw)) (first_call (calls raw)) (too_many_functions raw) (too_many_cells raw) given
+verdict-given raw p given = by (first_offence (names_of raw)) (too_many_functions raw) (too_many_cells raw) given
   where
-    by : (a b c d : Option CheckFail) → unless a (unless b (unless c (unless d (Ok (resolved raw))))) ≡ Ok p → resolved raw ≡ p
-    by None None None None h = cc
-    by None None None (Some e) h = absurd (cc)
-    by None None (Some e) d h = absurd (cc)
-    by None (Some e) c d h = absurd (cc)
-    by (Some e) b c d h = absurd (cc)
+    by : (a b c : Option CheckFail) → unless a (unless b (unless c (Ok (resolved raw)))) ≡ Ok p → (a ≡ None) × (resolved raw ≡ p)
+    by None None None h = (refl, cc)
+    by None None (Some e) h = absurd (cc)
+    by None (Some e) c h = absurd (cc)
+    by (Some e) b c h = absurd (cc)
 
 pub checked : (raw : RawProgram) (p : Program) → list_all has_length raw.items ≡ true → verdict raw ≡ Ok p → IsChecked p
 checked raw p lengths given =
     let e = verdict-given raw p given in
-    subst IsChecked e (record {
+    subst IsChecked e.1 (record {
+      globals = globals_stand_first raw;
       cells = variables_in_order raw lengths;
       sites = sites_in_order raw;
       regions = regions_stand_in_order (main_begin raw) 1 raw.main;
       functions = functions_are_plain (begin raw) raw.items;
+      scoped = resolved_in_scope raw e.0;
     })

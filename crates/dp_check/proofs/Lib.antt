@@ -11,4 +11,10 @@ pub mod LimitLemmas
 pub mod VerdictLemmas
 pub mod NumberLemmas
 pub mod PlainLemmas
+pub mod GlobalLemmas
+pub mod DeclaredLemmas
+pub mod KnownLemmas
+pub mod ScopeLemmas
+pub mod MainScopeLemmas
+pub mod ItemScopeLemmas
 pub mod CheckedLemmas

@@ -9,7 +9,7 @@ use Rattle.dp_tree.specs.declared.raw.RawStmt.{RawStmt, Row_of-RawStmt}
 use Rattle.dp_tree.specs.declared.raw.RawStmt.TheVariants as raw
 use Rattle.dp_check.specs.declared.place.Place.{Place}
 use Rattle.dp_check.specs.Names.{Named}
-use Rattle.dp_check.specs.Place.{Part, Site, Local, Called, parts, parts_in, parts_all, site_count, local_count, passed, sited, with_scalar, with_variable, after}
+use Rattle.dp_check.specs.Place.{Part, Site, Local, parts, parts_in, parts_all, site_count, local_count, passed, sited, with_scalar, with_variable, after}
 
 -- what opens where a statement is made
 unfoldable pub opened : Unit {0}
@@ -26,13 +26,11 @@ pub local_count-append : (a b : List Part) → local_count (a ++ b) ≡ local_co
 local_count-append [] b = omega arith
 local_count-append (Site line kind ∷ a) b = local_count-append a b
 local_count-append (Local name ∷ a) b = let e = local_count-append a b in omega arith
-local_count-append (Called line ∷ a) b = local_count-append a b
 
 pub site_count-append : (a b : List Part) → site_count (a ++ b) ≡ site_count a + site_count b
 site_count-append [] b = omega arith
 site_count-append (Site line kind ∷ a) b = let e = site_count-append a b in omega arith
 site_count-append (Local name ∷ a) b = site_count-append a b
-site_count-append (Called line ∷ a) b = site_count-append a b
 
 -- two places with the same names and numbers
 pub same_place : {n m : List Named} {v w s t : ℕ} → n ≡ m → v ≡ w → s ≡ t →

@@ -18,7 +18,7 @@ use Rattle.dp_check.specs.Resolved.{is_region, is_region_at}
 use Rattle.dp_check.proofs.RegionLemmas.{is_region-While}
 use Rattle.dp_check.specs.declared.variables.Variables.{Variables}
 use Rattle.dp_check.specs.declared.sites.Sites.{Sites}
-use Rattle.dp_check.specs.Place.{Part, Site, Local, Called, parts, parts_all, site_count}
+use Rattle.dp_check.specs.Place.{Part, Site, Local, parts, parts_all, site_count}
 use Rattle.dp_check.specs.Tables.{laid, locals_of, sites_of, top_scope, top_region, after_top, main_locals, main_sites, regions_from, region_of, scalar_info, function_parts}
 use Rattle.dp_check.specs.Limits.{cell_sum}
 use Rattle.dp_check.specs.Growing.{with_variables, with_sites, with_top, with_main}
@@ -36,19 +36,16 @@ pub locals_of-append : (scope : VarScope) (a b : List Part) → locals_of scope 
 locals_of-append scope [] b = refl
 locals_of-append scope (Site line k ∷ a) b = locals_of-append scope a b
 locals_of-append scope (Local name ∷ a) b = ap (λ xs. scalar_info name (pos 0) scope ∷ xs) (locals_of-append scope a b)
-locals_of-append scope (Called line ∷ a) b = locals_of-append scope a b
 
 pub sites_of-append : (r : ℕ) (a b : List Part) → sites_of r (a ++ b) ≡ sites_of r a ++ sites_of r b
 sites_of-append r [] b = refl
 sites_of-append r (Site line k ∷ a) b = ap (λ (xs : List SiteInfo). record { line = line; kind = k; region = r } ∷ xs) (sites_of-append r a b)
 sites_of-append r (Local name ∷ a) b = sites_of-append r a b
-sites_of-append r (Called line ∷ a) b = sites_of-append r a b
 
 pub length-sites_of : (r : ℕ) (a : List Part) → length (sites_of r a) ≡ site_count a
 length-sites_of r [] = refl
 length-sites_of r (Site line k ∷ a) = ap suc (length-sites_of r a)
 length-sites_of r (Local name ∷ a) = length-sites_of r a
-length-sites_of r (Called line ∷ a) = length-sites_of r a
 
 -- ---- variables
 

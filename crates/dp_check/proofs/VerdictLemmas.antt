@@ -24,8 +24,7 @@ use Rattle.dp_check.specs.Answer.{unless, answer, main_answer}
 use Rattle.dp_check.specs.Items.{after_items, items_answer, items_tokens, items_functions}
 use Rattle.dp_check.specs.Tables.{globals, main_locals, locals_of, item_parts, variables, sites, regions_from}
 use Rattle.dp_check.specs.Growing.{with_variables}
-use Rattle.dp_check.specs.Limits.{calls}
-use Rattle.dp_check.specs.Verdict.{names_of, begin, main_begin, trees_answer, resolved, first_call, too_many_functions, too_many_cells, verdict}
+use Rattle.dp_check.specs.Verdict.{names_of, begin, main_begin, trees_answer, resolved, too_many_functions, too_many_cells, verdict}
 use Rattle.dp_check.proofs.AnswerLemmas.{and_then, first_offence-append, answer-two, answer-Ok}
 use Rattle.dp_check.proofs.TableLemmas.{with_variables-append}
 
@@ -83,19 +82,17 @@ variable_table raw empty none start =
 
 -- what is answered where no name offends
 abbrev pub after_names : RawProgram → Result (Unit {0}) CheckFail
-after_names raw = unless (first_call (calls raw)) (unless (too_many_functions raw) (unless (too_many_cells raw) (Ok tt)))
+after_names raw = unless (too_many_functions raw) (unless (too_many_cells raw) (Ok tt))
 
-unless-moved : {X Y : Type 0} (c f d : Option CheckFail) (x : X) (y : Y) → unless c (unless f (unless d (Ok x))) ≡ Ok x → unless c (unless f (unless d (Ok y))) ≡ Ok y
-unless-moved None None None x y h = refl
-unless-moved None None (Some e) x y h = absurd (cc)
-unless-moved None (Some e) d x y h = absurd (cc)
-unless-moved (Some e) f d x y h = absurd (cc)
+unless-moved : {X Y : Type 0} (f d : Option CheckFail) (x : X) (y : Y) → unless f (unless d (Ok x)) ≡ Ok x → unless f (unless d (Ok y)) ≡ Ok y
+unless-moved None None x y h = refl
+unless-moved None (Some e) x y h = absurd (cc)
+unless-moved (Some e) d x y h = absurd (cc)
 
-unless-refused : {X Y : Type 0} (c f d : Option CheckFail) (x : X) (y : Y) (e : CheckFail) → unless c (unless f (unless d (Ok x))) ≡ Err e → unless c (unless f (unless d (Ok y))) ≡ Err e
-unless-refused None None None x y e h = absurd (cc)
-unless-refused None None (Some g) x y e h = ap Err (cc)
-unless-refused None (Some g) d x y e h = ap Err (cc)
-unless-refused (Some g) f d x y e h = ap Err (cc)
+unless-refused : {X Y : Type 0} (f d : Option CheckFail) (x : X) (y : Y) (e : CheckFail) → unless f (unless d (Ok x)) ≡ Err e → unless f (unless d (Ok y)) ≡ Err e
+unless-refused None None x y e h = absurd (cc)
+unless-refused None (Some g) x y e h = ap Err (cc)
+unless-refused (Some g) d x y e h = ap Err (cc)
 
 module _ (raw : RawProgram) where
   pub verdict-offends : (e : CheckFail) → trees_answer raw ≡ Err e → verdict raw ≡ Err e
@@ -109,8 +106,8 @@ module _ (raw : RawProgram) where
   pub verdict-limited : (t : List Function × List Stmt) (e : CheckFail) → trees_answer raw ≡ Ok t → after_names raw ≡ Err e → verdict raw ≡ Err e
   unfolding trees_answer verdict
   verdict-limited t e lawful refused =
-      ap (λ o. unless o (unless (first_call (calls raw)) (unless (too_many_functions raw) (unless (too_many_cells raw) (Ok (resolved raw)))))) (answer-Ok (first_offence (names_of raw)) _ t lawful).0
-      ∙ unless-refused (first_call (calls raw)) (too_many_functions raw) (too_many_cells raw) tt (resolved raw) e refused
+      ap (λ o. unless o (unless (too_many_functions raw) (unless (too_many_cells raw) (Ok (resolved raw))))) (answer-Ok (first_offence (names_of raw)) _ t lawful).0
+      ∙ unless-refused (too_many_functions raw) (too_many_cells raw) tt (resolved raw) e refused
 
   pub verdict-given : (fs : List Function) (main : List Stmt) (vars : List VarInfo) (rows : List SiteInfo) (regions : List RegionInfo) → trees_answer raw ≡ Ok (fs, main) → after_names raw ≡ Ok tt
       → vars ≡ variables raw → rows ≡ sites raw → regions ≡ regions_from 1 raw.main
@@ -118,8 +115,8 @@ module _ (raw : RawProgram) where
   unfolding trees_answer verdict
   verdict-given fs main vars rows regions lawful within a b c =
       let k = answer-Ok (first_offence (names_of raw)) _ (fs, main) lawful in
-      ap (λ o. unless o (unless (first_call (calls raw)) (unless (too_many_functions raw) (unless (too_many_cells raw) (Ok (resolved raw)))))) k.0
-      ∙ unless-moved (first_call (calls raw)) (too_many_functions raw) (too_many_cells raw) tt (resolved raw) within
+      ap (λ o. unless o (unless (too_many_functions raw) (unless (too_many_cells raw) (Ok (resolved raw))))) k.0
+      ∙ unless-moved (too_many_functions raw) (too_many_cells raw) tt (resolved raw) within
       ∙ (λ i. Ok (record { vars = sym a i; sites = sym b i; regions = sym c i; functions = (k.1 i).0; main = (k.1 i).1 }))
 
 pub ruleset variable_tables = (variable_table)

@@ -1,12 +1,9 @@
--- The counts of a program that have limits, and its calls.
-use Rattle.std.specs.Prelude.{ℕ, ◌+◌, min, List, [], ◌∷◌, ◌++◌, Option, Some, None}
-use Rattle.std.specs.List.{flat_map}
+-- The counts of a program that have limits.
+use Rattle.std.specs.Prelude.{ℕ, ◌+◌, min, List, [], ◌∷◌}
 use Rattle.dp_tree.specs.declared.VarInfo.{VarInfo}
 use Rattle.dp_tree.specs.declared.raw.RawItem.{RawItem}
 use Rattle.dp_tree.specs.declared.raw.RawItem.TheVariants.{Scalar, Array, Function}
-use Rattle.dp_tree.specs.declared.raw.RawProgram.{RawProgram}
-use Rattle.dp_check.specs.Place.{Part, Site, Local, Called, parts_all}
-use Rattle.dp_check.specs.Tables.{globals, item_parts}
+use Rattle.dp_check.specs.Tables.{globals}
 
 -- a count as it is reported
 abbrev pub reported : ℕ → ℕ
@@ -29,19 +26,3 @@ cell_sum (x ∷ rest) = x.length + cell_sum rest
 -- the cells of the file-scope variables
 abbrev pub global_cells : List RawItem → ℕ
 global_cells items = cell_sum (globals items)
-
--- the lines of the calls
-abbrev pub calls_of : List Part → List ℕ
-calls_of [] = []
-calls_of (Site line kind ∷ rest) = calls_of rest
-calls_of (Local name ∷ rest) = calls_of rest
-calls_of (Called line ∷ rest) = line ∷ calls_of rest
-
--- the lines of a program's calls, in text order
-abbrev pub calls : RawProgram → List ℕ
-calls raw = calls_of (flat_map item_parts raw.items ++ parts_all raw.main)
-
--- the first of these lines
-abbrev pub first_line : List ℕ → Option ℕ
-first_line [] = None
-first_line (line ∷ rest) = Some line

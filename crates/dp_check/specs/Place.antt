@@ -9,11 +9,10 @@ use Rattle.dp_check.specs.declared.names.Meaning.{Meaning}
 use Rattle.dp_check.specs.declared.names.Meaning.TheVariants.{Scalar}
 use Rattle.dp_check.specs.declared.place.Place.{Place}
 
--- what a program gets from a piece of its text: a site, a local variable, or a call on a line
+-- what a program gets from a piece of its text: a site or a local variable
 pub data Part : Type 0 where
   Site : (line : ℕ) (kind : SiteKind) → Part
   Local : Name → Part
-  Called : (line : ℕ) → Part
 
 abbrev mutual
   -- the parts of a statement, in text order
@@ -21,7 +20,7 @@ abbrev mutual
   parts (Declare line name value) = Site line kind.Assign ∷ Local name ∷ []
   parts (Assign name value) = Site name.line kind.Assign ∷ []
   parts (Store name index value) = Site name.line kind.Assign ∷ []
-  parts (Call name args) = Called name.line ∷ []
+  parts (Call name args) = []
   parts (Print line value) = Site line kind.Print ∷ []
   parts (If' line cond _ then_part _ else_part) = Site line kind.If ∷ (parts_in then_part ++ parts_in else_part)
   parts (While' line marked cond _ body) = Site line kind.While ∷ parts_in body
@@ -38,13 +37,11 @@ abbrev pub site_count : List Part → ℕ
 site_count [] = 0
 site_count (Site line kind ∷ rest) = suc (site_count rest)
 site_count (Local name ∷ rest) = site_count rest
-site_count (Called line ∷ rest) = site_count rest
 
 abbrev pub local_count : List Part → ℕ
 local_count [] = 0
 local_count (Site line kind ∷ rest) = local_count rest
 local_count (Local name ∷ rest) = suc (local_count rest)
-local_count (Called line ∷ rest) = local_count rest
 
 -- the place after a block: its numbers are used, and its names are given up
 abbrev pub passed : Place → List Part → Place

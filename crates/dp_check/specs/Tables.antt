@@ -12,7 +12,7 @@ use Rattle.dp_tree.specs.declared.raw.RawStmt.TheOpen.{RawStmt-F, While}
 use Rattle.dp_tree.specs.declared.raw.RawItem.{RawItem}
 use Rattle.dp_tree.specs.declared.raw.RawItem.TheVariants.{Scalar, Array, Function}
 use Rattle.dp_tree.specs.declared.raw.RawProgram.{RawProgram}
-use Rattle.dp_check.specs.Place.{Part, Site, Local, Called, parts, parts_all, site_count}
+use Rattle.dp_check.specs.Place.{Part, Site, Local, parts, parts_all, site_count}
 use Rattle.dp_check.specs.Resolved.{is_region}
 
 -- a length as a number of cells
@@ -32,14 +32,12 @@ abbrev pub sites_of : ℕ → List Part → List SiteInfo
 sites_of r [] = []
 sites_of r (Site line kind ∷ rest) = record { line = line; kind = kind; region = r } ∷ sites_of r rest
 sites_of r (Local name ∷ rest) = sites_of r rest
-sites_of r (Called line ∷ rest) = sites_of r rest
 
 -- the variables that are declared there
 abbrev pub locals_of : VarScope → List Part → List VarInfo
 locals_of scope [] = []
 locals_of scope (Site line kind ∷ rest) = locals_of scope rest
 locals_of scope (Local name ∷ rest) = scalar_info name (pos 0) scope ∷ locals_of scope rest
-locals_of scope (Called line ∷ rest) = locals_of scope rest
 
 -- a function's parameters, and then the parts of its body
 abbrev pub function_parts : List Name → List RawStmt → List Part

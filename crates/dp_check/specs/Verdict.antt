@@ -1,12 +1,12 @@
 -- What is answered for a tree.
-use Rattle.std.specs.Prelude.{List, [], ◌∷◌, ◌++◌, length, ℕ, Option, Some, None, Result, Ok, nat_lt, if◌then◌else◌}
+use Rattle.std.specs.Prelude.{List, ◌++◌, length, Option, Some, None, Result, Ok, nat_lt, if◌then◌else◌}
 use Rattle.dp_base.specs.declared.Quantity.TheVariants.{Functions, Cells}
 use Rattle.dp_tree.specs.declared.Function.{Function}
 use Rattle.dp_tree.specs.declared.Program.{Program}
 use Rattle.dp_tree.specs.declared.Stmt.{Stmt}
 use Rattle.dp_tree.specs.declared.raw.RawProgram.{RawProgram}
 use Rattle.dp_check.specs.declared.fail.CheckFail.{CheckFail}
-use Rattle.dp_check.specs.declared.fail.CheckFail.TheVariants.{Later, Limit}
+use Rattle.dp_check.specs.declared.fail.CheckFail.TheVariants.{Limit}
 use Rattle.dp_check.specs.declared.items.Head.{Head}
 use Rattle.dp_check.specs.declared.place.Place.{Place}
 use Rattle.dp_check.specs.Names.{predeclared}
@@ -17,7 +17,7 @@ use Rattle.dp_check.specs.Resolved.{resolved_main}
 use Rattle.dp_check.specs.Answer.{unless, answer}
 use Rattle.dp_check.specs.Items.{items_tokens, items_functions, after_items}
 use Rattle.dp_check.specs.Tables.{globals, variables, sites, regions_from}
-use Rattle.dp_check.specs.Limits.{reported, function_count, global_cells, calls}
+use Rattle.dp_check.specs.Limits.{reported, function_count, global_cells}
 
 -- the begin of `main`, whose variables come after the file-scope ones; its sites come first
 abbrev pub main_numbers : RawProgram → Place
@@ -45,10 +45,6 @@ resolved raw = record {
   main = resolved_main (main_begin raw) 1 raw.main;
 }
 
-abbrev pub first_call : List ℕ → Option CheckFail
-first_call [] = None
-first_call (line ∷ rest) = Some (Later line)
-
 abbrev pub too_many_functions : RawProgram → Option CheckFail
 too_many_functions raw = if nat_lt 64 (function_count raw.items) then Some (Limit Functions (reported (function_count raw.items))) else None
 
@@ -59,8 +55,7 @@ too_many_cells raw = if nat_lt 65536 (global_cells raw.items) then Some (Limit C
 unfoldable pub trees_answer : RawProgram → Result (List Function × List Stmt) CheckFail
 trees_answer raw = answer (first_offence (names_of raw)) (items_functions (begin raw) raw.items, resolved_main (main_begin raw) 1 raw.main)
 
--- the first offence, or else the first call, or else the first count above its limit, or else the program
+-- the first offence, or else the first count above its limit, or else the program
 unfoldable pub verdict : RawProgram → Result Program CheckFail
 verdict raw =
-    unless (first_offence (names_of raw)) (unless (first_call (calls raw))
-    (unless (too_many_functions raw) (unless (too_many_cells raw) (Ok (resolved raw)))))
+    unless (first_offence (names_of raw)) (unless (too_many_functions raw) (unless (too_many_cells raw) (Ok (resolved raw))))

@@ -19,8 +19,6 @@ pub enum CheckFail {
     Arguments { line: u32 },
     /// What the program can only read is assigned.
     ReadOnly { line: u32 },
-    /// A call: calls aren't compiled yet.
-    Later { line: u32 },
     /// A count is above its limit. One above 1,000,000 is given as 1,000,000.
     Limit { quantity: Quantity, count: u32 },
     NoMemory,

@@ -1,16 +1,15 @@
-//! What a lawful program is refused for: calls for now, and counts above their limits.
+//! What a lawful program is refused for: counts above their limits.
 
 ghost use Rattle.std.specs.Prelude.{◌≡◌, ◌≤◌, ◌+◌, min, length, IfOk};
-ghost use Rattle.dp_check.specs.Place.{parts, parts_all};
 ghost use Rattle.dp_check.specs.Answer.{unless};
 ghost use Rattle.dp_check.specs.Limits as spec;
-ghost use Rattle.dp_check.specs.Tables.{cells_of, global_of, globals, item_parts};
-ghost use Rattle.dp_check.specs.Verdict.{first_call, too_many_functions, too_many_cells};
+ghost use Rattle.dp_check.specs.Tables.{cells_of, global_of, globals};
+ghost use Rattle.dp_check.specs.Verdict.{too_many_functions, too_many_cells};
 
 use crate::CheckFail;
 use crate::place::next;
 use dp_base::{NoMemory, Quantity};
-use dp_tree::{RawItem, RawProgram, RawStmt};
+use dp_tree::{RawItem, RawProgram};
 
 const MOST_FUNCTIONS: u32 = 64;
 
@@ -18,66 +17,6 @@ const MOST_CELLS: u32 = 65_536;
 
 /// A greater count is reported as this one.
 const MOST_REPORTED: u32 = 1_000_000;
-
-/// The line of the first call in a statement.
-#[tactic(auto, using(crate::proofs::LimitLemmas::call_forms))]
-#[cycle(calls)]
-fn call_in(s: &RawStmt) -> Option<u32>
-    ensures { result ≡ spec.first_line (spec.calls_of (parts s.now)) }
-{
-    match s {
-        RawStmt::Call { name, .. } => Some(name.line),
-        RawStmt::If {
-            then_part,
-            else_part,
-            ..
-        } => match call_among(then_part.as_slice()) {
-            Some(line) => Some(line),
-            None => call_among(else_part.as_slice()),
-        },
-        RawStmt::While { body, .. } => call_among(body.as_slice()),
-        RawStmt::Declare { .. }
-        | RawStmt::Assign { .. }
-        | RawStmt::Store { .. }
-        | RawStmt::Print { .. } => None,
-    }
-}
-
-/// The line of the first call among statements.
-#[cycle(calls)]
-fn call_among(all: &[RawStmt]) -> Option<u32>
-    ensures { result ≡ spec.first_line (spec.calls_of (parts_all all.now)) }
-{
-    for s in all {
-        if let Some(line) = call_in(s) {
-            return Some(line);
-        }
-    }
-    None
-}
-
-#[tactic(auto, using(crate::proofs::LimitLemmas::item_calls))]
-fn call_in_item(item: &RawItem) -> Option<u32>
-    ensures { result ≡ spec.first_line (spec.calls_of (item_parts item.now)) }
-{
-    match item {
-        RawItem::Function { body, .. } => call_among(body.as_slice()),
-        RawItem::Scalar { .. } | RawItem::Array { .. } => None,
-    }
-}
-
-/// The line of the first call of a program.
-fn first_call_of(raw: &RawProgram) -> Option<u32>
-    ensures { result ≡ spec.first_line (spec.calls raw.now) }
-{
-    let items = raw.items.as_slice();
-    for item in items {
-        if let Some(line) = call_in_item(item) {
-            return Some(line);
-        }
-    }
-    call_among(raw.main.as_slice())
-}
 
 /// How many file-scope variables there are.
 pub fn global_count(items: &[RawItem]) -> Result<u32, NoMemory>
@@ -163,13 +102,10 @@ fn function_count(items: &[RawItem]) -> u32
     count
 }
 
-/// No call stands in the program, and no count is above its limit.
+/// No count of the program is above its limit.
 pub fn within(raw: &RawProgram) -> Result<(), CheckFail>
-    ensures { result ≡ unless (first_call (spec.calls raw.now)) (unless (too_many_functions raw.now) (unless (too_many_cells raw.now) (Ok tt))) }
+    ensures { result ≡ unless (too_many_functions raw.now) (unless (too_many_cells raw.now) (Ok tt)) }
 {
-    if let Some(line) = first_call_of(raw) {
-        return Err(CheckFail::Later { line });
-    }
     let functions = function_count(raw.items.as_slice());
     if functions > MOST_FUNCTIONS {
         return Err(CheckFail::Limit {

@@ -1,0 +1,63 @@
+-- The entries of the variables that a piece of the text declares.
+use Rattle.std.proofs.Common.{◌≡◌, refl, sym, ap, ◌∙◌, ℕ, zero, suc, ◌+◌, ◌-◌, ◌≤◌, ◌<◌, ◌==◌, Bool, true, false, if◌then◌else◌, List, [], ◌∷◌, ◌++◌, length, slice_get, arith}
+use Rattle.std.proofs.lemmas.Bool.Decides.{nat_tests}
+use Rattle.dp_tree.specs.declared.VarInfo.{VarInfo}
+use Rattle.dp_tree.specs.declared.VarScope.{VarScope}
+use Rattle.dp_tree.specs.declared.VarScope.TheVariants.{Outer, Body}
+use Rattle.dp_tree.specs.declared.raw.RawStmt.{RawStmt}
+use Rattle.dp_tree.specs.Scoping.{is_scope_in, is_declared_in}
+use Rattle.dp_check.specs.Place.{Part, Site, Local, local_count}
+use Rattle.dp_check.specs.Resolved.{is_region}
+use Rattle.dp_check.specs.Tables.{laid, locals_of, top_scope, top_region}
+
+-- the n variables from k on are declared in region r, or outside all regions where r is 0
+abbrev pub Declared : List VarInfo → ℕ → ℕ → ℕ → Type 0
+Declared vars r k n = (j : ℕ) → k ≤ j → j < k + n → is_declared_in r (slice_get vars j) ≡ true
+
+pub declared_front : (vars : List VarInfo) (r k a b n : ℕ) → n ≡ a + b → Declared vars r k n → Declared vars r k a
+declared_front vars r k a b n e d j low high = d j low (omega arith)
+
+pub declared_back : (vars : List VarInfo) (r k a b n m : ℕ) → n ≡ a + b → m ≡ k + a → Declared vars r k n → Declared vars r m b
+declared_back vars r k a b n m e f d j low high = d j (omega arith) (omega arith)
+
+get_past : (before ys : List VarInfo) (k : ℕ) → slice_get (before ++ ys) (length before + k) ≡ slice_get ys k
+get_past [] ys k = let e : 0 + k ≡ k = omega arith in ap (slice_get ys) e
+get_past (x ∷ before) ys k =
+    let e : suc (length before) + k ≡ suc (length before + k) = omega arith in ap (slice_get (x ∷ (before ++ ys))) e ∙ get_past before ys k
+
+module _ (r : ℕ) where
+  -- where a variable lies in memory doesn't matter
+  declared_laid : (c : ℕ) (xs : List VarInfo) (j : ℕ) → is_declared_in r (slice_get (laid c xs) j) ≡ is_declared_in r (slice_get xs j)
+  declared_laid c [] j = refl
+  declared_laid c (x ∷ xs) zero = refl
+  declared_laid c (x ∷ xs) (suc j) = declared_laid (c + x.length) xs j
+
+  module _ (scope : VarScope) (fits : is_scope_in r scope ≡ true) (later : List VarInfo) where
+    declared_here : (ps : List Part) (j : ℕ) → j < local_count ps → is_declared_in r (slice_get (locals_of scope ps ++ later) j) ≡ true
+    declared_here [] j h = absurd (omega arith)
+    declared_here (Site line k ∷ ps) j h = declared_here ps j h
+    declared_here (Local name ∷ ps) zero h = fits
+    declared_here (Local name ∷ ps) (suc j) h = declared_here ps j (omega arith)
+
+    -- the variables of these parts have the numbers behind those before
+    pub declared_in_table : (before : List VarInfo) (ps : List Part) (k : ℕ) → k ≡ length before
+        → Declared (laid 0 (before ++ (locals_of scope ps ++ later))) r k (local_count ps)
+    declared_in_table before ps k e j low high =
+        let is : j ≡ length before + (j - length before) = omega arith in
+        declared_laid 0 (before ++ (locals_of scope ps ++ later)) j
+        ∙ ap (λ i. is_declared_in r (slice_get (before ++ (locals_of scope ps ++ later)) i)) is
+        ∙ ap (is_declared_in r) (get_past before (locals_of scope ps ++ later) (j - length before))
+        ∙ declared_here ps (j - length before) (omega arith)
+
+body_scope : (r : ℕ) → 0 < r → is_scope_in r (Body r) ≡ true
+body_scope zero h = absurd (omega arith)
+body_scope (suc r) h = grind (arith, nat_tests)
+
+-- a local of a statement at the top of `main` is one of its region
+pub top_scope_fits : (r : ℕ) (s : RawStmt) → 0 < r → is_scope_in (top_region r s) (top_scope r s) ≡ true
+top_scope_fits r s h = by (is_region s)
+  where
+    by : (b : Bool) → is_scope_in (if b then r else 0) (if b then Body r else Outer) ≡ true
+    by true = body_scope r h
+    by false = refl
+
