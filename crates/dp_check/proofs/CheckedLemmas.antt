@@ -1,6 +1,5 @@
 -- What is so of a checked program: its cells, and the rest from the files before.
-use Rattle.std.proofs.Common.{◌≡◌, refl, ap, ◌∙◌, ℕ, ◌+◌, ◌==◌, Bool, true, false, ◌&&◌, List, [], ◌∷◌, ◌++◌, arith, nat_lt, not, ◌||◌}
-use Rattle.std.proofs.lemmas.Bool.Decides.{nat_tests}
+use Rattle.std.proofs.Common.{◌≡◌, refl, ℕ, ◌+◌, ◌==◌, Bool, true, false, ◌&&◌, List, [], ◌∷◌, ◌++◌, nat_lt, ◌||◌}
 use Rattle.std.specs.List.{list_all, flat_map}
 use Rattle.dp_tree.specs.declared.VarInfo.{VarInfo}
 use Rattle.dp_tree.specs.declared.VarScope.{VarScope}
@@ -23,22 +22,9 @@ use Rattle.dp_tree.specs.Checked.{IsChecked}
 use Rattle.dp_check.specs.Checked.{has_length}
 use Rattle.dp_check.proofs.NumberLemmas.{sites_in_order}
 use Rattle.dp_check.proofs.PlainLemmas.{regions_stand_in_order, functions_are_plain}
+use Rattle.dp_check.proofs.BoolLemmas.{both_true, same_number, all_of_both}
 use Rattle.dp_check.proofs.GlobalLemmas.{globals_stand_first}
 use Rattle.dp_check.proofs.ItemScopeLemmas.{resolved_in_scope}
-
-nat_eq-same : (k : ℕ) → (k == k) ≡ true
-nat_eq-same k = grind (arith, nat_tests)
-
-and_true : {a b : Bool} → a ≡ true → b ≡ true → (a && b) ≡ true
-and_true {a} {b} p q = ap (λ c. c && b) p ∙ q
-
-list_all-append : {X : Type 0} (p : X → Bool) (xs ys : List X) → list_all p xs ≡ true → list_all p ys ≡ true → list_all p (xs ++ ys) ≡ true
-list_all-append p [] ys a b = b
-list_all-append p (x ∷ xs) ys a b = by (p x) a (list_all-append p xs ys)
-  where
-    by : (c : Bool) → (c && list_all p xs) ≡ true → (list_all p xs ≡ true → list_all p ys ≡ true → list_all p (xs ++ ys) ≡ true) → (c && list_all p (xs ++ ys)) ≡ true
-    by true h next = next h b
-    by false h next = absurd (cc)
 
 laid_in_order : (k : ℕ) (xs : List VarInfo) → list_all has_cells xs ≡ true → lies_in_order k (laid k xs) ≡ true
 laid_in_order k [] h = refl
@@ -46,7 +32,7 @@ laid_in_order k (x ∷ xs) h = by (has_cells x) h (laid_in_order (k + x.length) 
   where
     by : (c : Bool) → (c && list_all has_cells xs) ≡ true → (list_all has_cells xs ≡ true → lies_in_order (k + x.length) (laid (k + x.length) xs) ≡ true)
         → (((k == k) && c) && lies_in_order (k + x.length) (laid (k + x.length) xs)) ≡ true
-    by true h next = and_true (and_true (nat_eq-same k) refl) (next h)
+    by true h next = both_true (both_true (same_number k) refl) (next h)
     by false h next = absurd (cc)
 
 scope_cells : (scope : VarScope) → (is_global_scope scope || true) ≡ true
@@ -57,7 +43,7 @@ scope_cells (Body r) = refl
 locals_have_cells : (scope : VarScope) (ps : List Part) → list_all has_cells (locals_of scope ps) ≡ true
 locals_have_cells scope [] = refl
 locals_have_cells scope (Site line k ∷ ps) = locals_have_cells scope ps
-locals_have_cells scope (Local name ∷ ps) = and_true (scope_cells scope) (locals_have_cells scope ps)
+locals_have_cells scope (Local name ∷ ps) = both_true (scope_cells scope) (locals_have_cells scope ps)
 
 globals_have_cells : (items : List RawItem) → list_all has_length items ≡ true → list_all has_cells (globals items) ≡ true
 globals_have_cells [] h = refl
@@ -73,19 +59,19 @@ globals_have_cells (item.Function name params body ∷ items) h = globals_have_c
 main_have_cells : (r : ℕ) (all : List RawStmt) → list_all has_cells (main_locals r all) ≡ true
 main_have_cells r [] = refl
 main_have_cells r (s ∷ rest) =
-    list_all-append has_cells (locals_of (top_scope r s) (parts s)) (main_locals (after_top r s) rest) (locals_have_cells (top_scope r s) (parts s)) (main_have_cells (after_top r s) rest)
+    all_of_both has_cells (locals_of (top_scope r s) (parts s)) (main_locals (after_top r s) rest) (locals_have_cells (top_scope r s) (parts s)) (main_have_cells (after_top r s) rest)
 
 items_have_cells : (items : List RawItem) → list_all has_cells (flat_map (λ item. locals_of Outer (item_parts item)) items) ≡ true
 items_have_cells [] = refl
 items_have_cells (x ∷ items) =
-    list_all-append has_cells (locals_of Outer (item_parts x)) (flat_map (λ item. locals_of Outer (item_parts item)) items) (locals_have_cells Outer (item_parts x)) (items_have_cells items)
+    all_of_both has_cells (locals_of Outer (item_parts x)) (flat_map (λ item. locals_of Outer (item_parts item)) items) (locals_have_cells Outer (item_parts x)) (items_have_cells items)
 
 -- the variables of a checked program lie one after the other
 pub variables_in_order : (raw : RawProgram) → list_all has_length raw.items ≡ true → lies_in_order 0 (variables raw) ≡ true
 variables_in_order raw h =
     let g = globals raw.items in let m = main_locals 1 raw.main in let f = flat_map (λ item. locals_of Outer (item_parts item)) raw.items in
     laid_in_order 0 (g ++ m ++ f)
-    (list_all-append has_cells (g ++ m) f (list_all-append has_cells g m (globals_have_cells raw.items h) (main_have_cells 1 raw.main)) (items_have_cells raw.items))
+    (all_of_both has_cells (g ++ m) f (all_of_both has_cells g m (globals_have_cells raw.items h) (main_have_cells 1 raw.main)) (items_have_cells raw.items))
 
 -- a program that is given is the resolved one, and no name of its text offends
 verdict-given : (raw : RawProgram) (p : Program) → verdict raw ≡ Ok p → (first_offence (names_of raw) ≡ None) × (resolved raw ≡ p)

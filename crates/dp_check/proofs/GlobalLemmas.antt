@@ -1,7 +1,6 @@
 -- The file-scope variables stand first among a program's variables.
 use Rattle.std.proofs.Common.{◌≡◌, refl, ap, ◌∙◌, ℕ, suc, ◌+◌, Bool, true, false, ◌&&◌, if◌then◌else◌, List, [], ◌∷◌, ◌++◌, append_assoc, length}
 use Rattle.std.specs.List.{list_all, flat_map}
-use Rattle.std.proofs.lemmas.List.Folds.{list_all-append}
 use Rattle.dp_tree.specs.declared.VarInfo.{VarInfo}
 use Rattle.dp_tree.specs.declared.VarScope.{VarScope}
 use Rattle.dp_tree.specs.declared.VarScope.TheVariants.{Outer, Body}
@@ -14,6 +13,7 @@ use Rattle.dp_tree.specs.Layout.{is_local_variable, globals_first}
 use Rattle.dp_check.specs.Place.{Part, Site, Local, parts}
 use Rattle.dp_check.specs.Resolved.{is_region}
 use Rattle.dp_check.specs.Tables.{laid, locals_of, globals, global_of, item_parts, top_scope, after_top, main_locals, variables}
+use Rattle.dp_check.proofs.BoolLemmas.{both_true, all_of_both}
 
 -- the variables of all texts, behind the file-scope ones
 abbrev pub locals_in : RawProgram → List VarInfo
@@ -22,16 +22,10 @@ locals_in raw = main_locals 1 raw.main ++ flat_map (λ item. locals_of Outer (it
 pub variables_are : (raw : RawProgram) → variables raw ≡ laid 0 (globals raw.items ++ locals_in raw)
 variables_are raw = ap (laid 0) (append_assoc (globals raw.items) (main_locals 1 raw.main) (flat_map (λ item. locals_of Outer (item_parts item)) raw.items))
 
-both_hold : {a b : Bool} → a ≡ true → b ≡ true → (a && b) ≡ true
-both_hold {a} {b} p q = ap (λ c. c && b) p ∙ q
-
-all_of_both : {X : Type 0} (p : X → Bool) (xs ys : List X) → list_all p xs ≡ true → list_all p ys ≡ true → list_all p (xs ++ ys) ≡ true
-all_of_both p xs ys a b = list_all-append p xs ys ∙ both_hold a b
-
 locals_are_local : (scope : VarScope) (ps : List Part) → is_global_scope scope ≡ false → list_all is_local_variable (locals_of scope ps) ≡ true
 locals_are_local scope [] h = refl
 locals_are_local scope (Site line k ∷ ps) h = locals_are_local scope ps h
-locals_are_local scope (Local name ∷ ps) h = both_hold (ap Rattle.std.specs.Prelude.not h) (locals_are_local scope ps h)
+locals_are_local scope (Local name ∷ ps) h = both_true (ap Rattle.std.specs.Prelude.not h) (locals_are_local scope ps h)
 
 top_is_local : (r : ℕ) (s : RawStmt) → is_global_scope (top_scope r s) ≡ false
 top_is_local r s = by (is_region s)

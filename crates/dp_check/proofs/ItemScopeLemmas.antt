@@ -1,5 +1,5 @@
 -- A lawful tree resolves to a program in scope.
-use Rattle.std.proofs.Common.{◌≡◌, refl, sym, ap, ◌∙◌, subst, ℕ, zero, suc, ◌+◌, ◌≤◌, ◌<◌, ◌==◌, Bool, true, false, not, ◌&&◌, ◌||◌, List, [], ◌∷◌, ◌++◌, map, length, length-append, append_assoc, append-nil, Option, Some, None, slice_get, nat_lt, arith}
+use Rattle.std.proofs.Common.{◌≡◌, refl, sym, ap, ◌∙◌, subst, ℕ, zero, suc, ◌+◌, ◌≤◌, ◌<◌, ◌==◌, Bool, true, false, not, ◌||◌, List, [], ◌∷◌, ◌++◌, map, length, length-append, append_assoc, append-nil, Some, None, slice_get, nat_lt, arith}
 use Rattle.std.proofs.lemmas.Bool.Decides.{nat_tests}
 use Rattle.std.specs.List.{list_all, flat_map}
 use Rattle.dp_tree.specs.declared.Function.{Function as Callee}
@@ -16,21 +16,21 @@ use Rattle.dp_tree.specs.Globals.{globals_in}
 use Rattle.dp_tree.specs.Numbering.{numbers_from}
 use Rattle.dp_tree.specs.Scoping.{sees, params_in_scope, seen_behind_params, global_numbers, function_in_scope, functions_in_scope, is_scoped}
 use Rattle.dp_check.specs.declared.items.Head.{Head}
-use Rattle.dp_check.specs.declared.names.Meaning.{Meaning}
 use Rattle.dp_check.specs.declared.names.Meaning.TheVariants as means
 use Rattle.dp_check.specs.declared.place.Place.{Place}
 use Rattle.dp_check.specs.Offence.{Declares, first_offence}
 use Rattle.dp_check.specs.Place.{Local, parts, parts_all, local_count, with_scalar, after_params}
 use Rattle.dp_check.specs.Tokens.{token, tokens_all, params_tokens}
-use Rattle.dp_check.specs.Resolved.{next_variable, resolved_all, param_variables}
+use Rattle.dp_check.specs.Resolved.{resolved_all, param_variables}
 use Rattle.dp_check.specs.Tables.{laid, locals_of, globals, item_parts, function_parts, top_scope, after_top, main_locals}
 use Rattle.dp_check.specs.Items.{item_tokens, items_tokens, items_functions, after_item, after_items}
 use Rattle.dp_check.specs.Verdict.{begin, main_begin, names_of, resolved}
 use Rattle.dp_check.proofs.PlaceLemmas.{local_count-append}
 use Rattle.dp_check.proofs.ItemLemmas.{after_params_variable}
 use Rattle.dp_check.proofs.GlobalLemmas.{globals_counted}
+use Rattle.dp_check.proofs.BoolLemmas.{both_true, same_number, all_weaker}
 use Rattle.dp_check.proofs.DeclaredLemmas.{Declared, declared_front, declared_back, declared_in_table}
-use Rattle.dp_check.proofs.KnownLemmas.{is_known, all_known, both_true, list_all_weaker, known_later, known_append}
+use Rattle.dp_check.proofs.KnownLemmas.{is_known, all_known, known_later, known_append}
 use Rattle.dp_check.proofs.ScopeLemmas.{At, at_declared, lawful_parts, lawful_first, unseen, all_scoped}
 use Rattle.dp_check.proofs.MainScopeLemmas.{length-locals_of, main_scoped}
 
@@ -67,7 +67,7 @@ module _ (p : Program) (n : ℕ) where
   params_scoped q (x ∷ params) visible here declared =
       let count : suc (local_count (map Local params)) ≡ 1 + local_count (map Local params) = omega arith in
       let later = params_scoped (with_scalar q x) params (q.variable ∷ visible) (at_declared x here)
-          (declared_back p.vars 0 q.variable 1 (local_count (map Local params)) _ _ count refl declared) in
+      (declared_back p.vars 0 q.variable 1 (local_count (map Local params)) _ _ count refl declared) in
       record {
         scoped = both_true (both_true (ap not (unseen q.variable visible here.below)) (declared q.variable (omega arith) (omega arith))) later.scoped;
         behind = later.behind;
@@ -118,16 +118,13 @@ module _ (p : Program) (whole : List VarInfo) (table : p.vars ≡ laid 0 whole) 
   function_known : (n : ℕ) (h : Head) (params : List Name) (f : Callee) (done rest : List Callee) → p.functions ≡ done ++ f ∷ rest → h.functions ≡ n → length done ≡ n → length f.params ≡ length params
       → is_known p (suc n) (global_numbers p) (means.Function h.functions (length params)) ≡ true
   function_known n h params f done rest placed number counted count =
-      both_true (here number) (ap (λ m. length params == m) is ∙ same (length params))
+      both_true (here number) (ap (λ m. length params == m) is ∙ same_number (length params))
     where
       here : h.functions ≡ n → nat_lt h.functions (suc n) ≡ true
       here e = grind (arith, nat_tests)
 
       is : length (params_in (slice_get p.functions h.functions)) ≡ length params
       is = (λ i. length (params_in (slice_get (placed i) ((number ∙ sym counted) i)))) ∙ ap (λ o. length (params_in o)) (get_seam done f rest) ∙ count
-
-      same : (k : ℕ) → (k == k) ≡ true
-      same k = grind (arith, nat_tests)
 
   items_scoped : (h : Head) (items : List RawItem) (n : ℕ) (before : List VarInfo) (done : List Callee) → ItemsAt p whole h items n before done
       → first_offence (items_tokens h items) ≡ None → ItemsScoped p h items n
@@ -138,8 +135,13 @@ module _ (p : Program) (whole : List VarInfo) (table : p.vars ≡ laid 0 whole) 
       let l = lawful_parts (item_tokens h (item.Scalar name start)) (items_tokens (after_item h (item.Scalar name start)) rest) lawful in
       let left : h.globals + suc (length (globals rest)) ≡ length (globals_in p.vars) = here.globals_left in
       let later = items_scoped (after_item h (item.Scalar name start)) rest n before done (record {
-        functions = here.functions; number = here.number; counted = here.counted; split = here.split; variable = here.variable;
-        globals_left = (let e : (h.globals + 1) + length (globals rest) ≡ h.globals + suc (length (globals rest)) = omega arith in e ∙ left); above = here.above;
+        functions = here.functions;
+        number = here.number;
+        counted = here.counted;
+        split = here.split;
+        variable = here.variable;
+        globals_left = (let e : (h.globals + 1) + length (globals rest) ≡ h.globals + suc (length (globals rest)) = omega arith in e ∙ left);
+        above = here.above;
         known = known_append p n (global_numbers p) h.place.names name.text (means.Scalar (record { 0 = h.globals })) here.known (global_seen h (length (globals rest)) left);
       }) l.1 in
       record { functions = later.functions; known = later.known }
@@ -147,8 +149,13 @@ module _ (p : Program) (whole : List VarInfo) (table : p.vars ≡ laid 0 whole) 
       let l = lawful_parts (item_tokens h (item.Array name size)) (items_tokens (after_item h (item.Array name size)) rest) lawful in
       let left : h.globals + suc (length (globals rest)) ≡ length (globals_in p.vars) = here.globals_left in
       let later = items_scoped (after_item h (item.Array name size)) rest n before done (record {
-        functions = here.functions; number = here.number; counted = here.counted; split = here.split; variable = here.variable;
-        globals_left = (let e : (h.globals + 1) + length (globals rest) ≡ h.globals + suc (length (globals rest)) = omega arith in e ∙ left); above = here.above;
+        functions = here.functions;
+        number = here.number;
+        counted = here.counted;
+        split = here.split;
+        variable = here.variable;
+        globals_left = (let e : (h.globals + 1) + length (globals rest) ≡ h.globals + suc (length (globals rest)) = omega arith in e ∙ left);
+        above = here.above;
         known = known_append p n (global_numbers p) h.place.names name.text (means.Array (record { 0 = h.globals })) here.known (global_seen h (length (globals rest)) left);
       }) l.1 in
       record { functions = later.functions; known = later.known }
@@ -158,8 +165,8 @@ module _ (p : Program) (whole : List VarInfo) (table : p.vars ≡ laid 0 whole) 
       let l = lawful_parts (item_tokens h (item.Function name params body)) (items_tokens next rest) lawful in
       let inside = (lawful_first (token h.place.names Declares name) (params_tokens q params ++ tokens_all (after_params q params) body) l.0).1 in
       let declared : Declared p.vars 0 q.variable (local_count mine) =
-          subst (λ vars. Declared vars 0 q.variable (local_count mine)) (sym (table ∙ ap (laid 0) here.split))
-          (declared_in_table 0 Outer refl (locals_among rest) before mine q.variable here.variable) in
+      subst (λ vars. Declared vars 0 q.variable (local_count mine)) (sym (table ∙ ap (laid 0) here.split))
+      (declared_in_table 0 Outer refl (locals_among rest) before mine q.variable here.variable) in
       let at : At p n (global_numbers p) q = record { known = here.known; below = numbers_below 0 (length (globals_in p.vars)) q.variable (let a = here.above in omega arith) } in
       let later = items_scoped next rest (suc n) (before ++ locals_of Outer mine) (done ++ f ∷ []) (record {
         functions = here.functions ∙ sym (append_assoc done (f ∷ []) (items_functions next rest));
@@ -170,7 +177,7 @@ module _ (p : Program) (whole : List VarInfo) (table : p.vars ≡ laid 0 whole) 
         globals_left = here.globals_left;
         above = (let a = here.above in omega arith);
         known = known_append p (suc n) (global_numbers p) q.names name.text (means.Function h.functions (length params))
-            (list_all_weaker _ _ (λ e. known_later p n (global_numbers p) e.meaning) q.names here.known)
+            (all_weaker _ _ (λ e. known_later p n (global_numbers p) e.meaning) q.names here.known)
             (function_known n h params f done (items_functions next rest) here.functions here.number here.counted (length-param_variables q params));
       }) l.1 in
       record { functions = both_true (function_scoped p n q params body at declared inside) later.functions; known = later.known }
@@ -190,9 +197,14 @@ resolved_in_scope raw lawful =
     let counted : length (globals_in p.vars) ≡ length g = globals_counted raw in
     let variable : (begin raw).place.variable ≡ length (g ++ m) = (λ i. length g + sym (length-main_locals 1 raw.main) i) ∙ sym (length-append g m) in
     let items = items_scoped p (g ++ m ++ f) refl (begin raw) raw.items 0 (g ++ m) [] (record {
-      functions = refl; number = refl; counted = refl; split = refl; variable = variable;
+      functions = refl;
+      number = refl;
+      counted = refl;
+      split = refl;
+      variable = variable;
       globals_left = (let e : 0 + length g ≡ length g = omega arith in e ∙ sym counted);
-      above = omega (arith, counted); known = refl;
+      above = omega (arith, counted);
+      known = refl;
     }) l.0 in
     both_true items.functions
     (main_scoped p (length p.functions) (g ++ m ++ f) f refl (main_begin raw) 1 (global_numbers p) raw.main g (omega arith) (append_assoc g m f) refl

@@ -1,8 +1,7 @@
 -- Names that mean visible variables and known functions, and the expressions in which they stand.
-use Rattle.std.proofs.Common.{◌≡◌, refl, sym, ap, ◌∙◌, ℕ, suc, ◌+◌, ◌==◌, ◌<◌, Bool, true, false, ◌&&◌, ◌||◌, if◌then◌else◌, List, [], ◌∷◌, ◌++◌, map, length, Option, Some, None, slice_get, nat_lt, arith}
+use Rattle.std.proofs.Common.{◌≡◌, refl, ap, ◌∙◌, ℕ, suc, ◌==◌, Bool, true, false, ◌&&◌, ◌||◌, if◌then◌else◌, List, [], ◌∷◌, ◌++◌, map, length, Option, Some, None, slice_get, nat_lt, arith}
 use Rattle.std.proofs.lemmas.Bool.Decides.{nat_tests}
-use Rattle.std.proofs.lemmas.List.Folds.{list_all-append}
-use Rattle.std.specs.List.{list_all, list_any}
+use Rattle.std.specs.List.{list_all}
 use Rattle.dp_base.specs.declared.BinOp.{BinOp}
 use Rattle.dp_base.specs.declared.UnOp.{UnOp}
 use Rattle.dp_base.specs.declared.VarId.{VarId}
@@ -17,6 +16,7 @@ use Rattle.dp_check.specs.declared.names.Meaning.{Meaning}
 use Rattle.dp_check.specs.declared.names.Meaning.TheVariants.{Scalar, Array, Input, InputLen, Function}
 use Rattle.dp_check.specs.Names.{Named, named, same_name}
 use Rattle.dp_check.specs.Resolved.{scalar_expr, array_of, element_expr, resolved_expr}
+use Rattle.dp_check.proofs.BoolLemmas.{both_true, halves, same_number, all_of_both}
 
 -- a variable among these, or one of the first n functions with so many parameters
 abbrev pub is_known : Program → ℕ → List ℕ → Meaning → Bool
@@ -32,17 +32,6 @@ is_known_if p n visible (Some m) = is_known p n visible m
 
 abbrev pub all_known : Program → ℕ → List ℕ → List Named → Bool
 all_known p n visible names = list_all (λ (e : Named). is_known p n visible e.meaning) names
-
-pub both_true : {a b : Bool} → a ≡ true → b ≡ true → (a && b) ≡ true
-both_true {a} {b} p q = ap (λ c. c && b) p ∙ q
-
-pub halves : (a b : Bool) → (a && b) ≡ true → (a ≡ true) × (b ≡ true)
-halves true b h = (refl, h)
-halves false b h = absurd (cc)
-
-pub list_all_weaker : {X : Type 0} (p q : X → Bool) (weaker : (x : X) → p x ≡ true → q x ≡ true) (xs : List X) → list_all p xs ≡ true → list_all q xs ≡ true
-list_all_weaker p q weaker [] h = refl
-list_all_weaker p q weaker (x ∷ xs) h = let k = halves (p x) (list_all p xs) h in both_true (weaker x k.0) (list_all_weaker p q weaker xs k.1)
 
 -- what a name means is known
 pub found : (p : Program) (n : ℕ) (visible : List ℕ) (names : List Named) (x : List ℕ) → all_known p n visible names ≡ true → is_known_if p n visible (named names x) ≡ true
@@ -62,7 +51,7 @@ sees_more visible y x h = by (y == x.0)
     by false = h
 
 pub sees_first : (visible : List ℕ) (x : VarId) → sees (x.0 ∷ visible) x ≡ true
-sees_first visible x = let same : (x.0 == x.0) ≡ true = grind (arith, nat_tests) in ap (λ b. b || sees visible x) same
+sees_first visible x = ap (λ b. b || sees visible x) (same_number x.0)
 
 -- more variables are visible
 pub known_more : (p : Program) (n : ℕ) (visible : List ℕ) (y : ℕ) (m : Meaning) → is_known p n visible m ≡ true → is_known p n (y ∷ visible) m ≡ true
@@ -87,7 +76,7 @@ known_later p n visible (Function f k) h =
 pub known_append : (p : Program) (n : ℕ) (visible : List ℕ) (names : List Named) (text : List ℕ) (m : Meaning) → all_known p n visible names ≡ true → is_known p n visible m ≡ true
     → all_known p n visible (names ++ record { name = text; meaning = m } ∷ []) ≡ true
 known_append p n visible names text m h here =
-    list_all-append (λ (e : Named). is_known p n visible e.meaning) names (record { name = text; meaning = m } ∷ []) ∙ both_true h (both_true here refl)
+    all_of_both (λ (e : Named). is_known p n visible e.meaning) names (record { name = text; meaning = m } ∷ []) h (both_true here refl)
 
 -- what opens where an expression is made
 unfoldable pub expr_opened : Unit {0}

@@ -1,3 +1,4 @@
+pub mod BoolLemmas
 pub mod NamesLemmas
 pub mod AnswerLemmas
 pub mod LoopLemmas

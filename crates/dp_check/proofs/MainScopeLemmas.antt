@@ -16,7 +16,7 @@ use Rattle.dp_tree.specs.declared.raw.RawStmt.TheOpen as open_form
 use Rattle.dp_tree.specs.Scoping.{knows, seen_behind, in_scope, all_in_scope}
 use Rattle.dp_check.specs.declared.place.Place.{Place}
 use Rattle.dp_check.specs.Offence.{first_offence}
-use Rattle.dp_check.specs.Place.{Part, Site, Local, parts, parts_all, local_count, passed, sited, after}
+use Rattle.dp_check.specs.Place.{Part, Site, Local, parts, parts_all, local_count, sited, after}
 use Rattle.dp_check.specs.Tokens.{expr_tokens, tokens, tokens_all}
 use Rattle.dp_check.specs.Resolved.{resolved, resolved_all, resolved_expr, resolved_top, resolved_main, next_site, region_at, is_region_at, is_region}
 use Rattle.dp_check.specs.Tables.{laid, locals_of, top_scope, top_region, after_top, main_locals}
@@ -24,8 +24,9 @@ use Rattle.dp_check.proofs.NumberLemmas.{stmt_opened}
 use Rattle.dp_check.proofs.PlaceLemmas.{opened, after_variable, after-While}
 use Rattle.dp_check.proofs.StmtLemmas.{tokens_hidden}
 use Rattle.dp_check.proofs.TableLemmas.{parts-While}
+use Rattle.dp_check.proofs.BoolLemmas.{both_true}
 use Rattle.dp_check.proofs.DeclaredLemmas.{Declared, declared_in_table, top_scope_fits}
-use Rattle.dp_check.proofs.KnownLemmas.{both_true, knows_expr}
+use Rattle.dp_check.proofs.KnownLemmas.{knows_expr}
 use Rattle.dp_check.proofs.ScopeLemmas.{At, Here, at_passed, lawful_parts, rows_hidden, stmt_scoped, all_scoped}
 
 scope-Region : (p : Program) (r n : ℕ) (visible : List ℕ) (k : ℕ) (site : SiteId) (cond : Expr) (a : List Stmt)
@@ -95,12 +96,12 @@ module _ (p : Program) (n : ℕ) (whole later : List VarInfo) (table : p.vars �
       let mine = locals_of (top_scope k s) (parts s) in let others = main_locals (after_top k s) rest in
       let placed : whole ≡ before ++ (mine ++ (others ++ later)) = split ∙ ap (λ xs. before ++ xs) (append_assoc mine others later) in
       let declared : Declared p.vars (top_region k s) q.variable (local_count (parts s)) =
-          subst (λ vars. Declared vars (top_region k s) q.variable (local_count (parts s))) (sym (table ∙ ap (laid 0) placed))
-          (declared_in_table (top_region k s) (top_scope k s) (top_scope_fits k s above) (others ++ later) before (parts s) q.variable count) in
+      subst (λ vars. Declared vars (top_region k s) q.variable (local_count (parts s))) (sym (table ∙ ap (laid 0) placed))
+      (declared_in_table (top_region k s) (top_scope k s) (top_scope_fits k s above) (others ++ later) before (parts s) q.variable count) in
       let l = lawful_parts (tokens q s) (tokens_all (after q s) rest) lawful in
       let one = top_scoped p n q k visible s here declared l.0 in
       let counted : (after q s).variable ≡ length (before ++ mine) =
-          after_variable q s ∙ (λ i. count i + sym (length-locals_of (top_scope k s) (parts s)) i) ∙ sym (length-append before mine) in
+      after_variable q s ∙ (λ i. count i + sym (length-locals_of (top_scope k s) (parts s)) i) ∙ sym (length-append before mine) in
       both_true one.scoped
       (main_scoped (after q s) (after_top k s) (seen_behind visible (resolved_top q k s)) rest (before ++ mine) (after_top_above k s above)
       (placed ∙ sym (append_assoc before mine (others ++ later))) counted one.behind l.1)

@@ -1,6 +1,5 @@
 -- The regions of a checked program stand at the top of `main` alone.
-use Rattle.std.proofs.Common.{◌≡◌, refl, sym, ap, ◌∙◌, ℕ, ◌+◌, ◌==◌, Bool, true, false, ◌&&◌, if◌then◌else◌, List, [], ◌∷◌, arith}
-use Rattle.std.proofs.lemmas.Bool.Decides.{nat_tests}
+use Rattle.std.proofs.Common.{◌≡◌, refl, sym, ap, ◌∙◌, ℕ, ◌+◌, ◌==◌, true, false, ◌&&◌, if◌then◌else◌, List, [], ◌∷◌}
 use Rattle.std.specs.List.{list_all}
 use Rattle.dp_base.specs.declared.SiteId.{SiteId}
 use Rattle.dp_tree.specs.declared.Expr.{Expr}
@@ -19,12 +18,7 @@ use Rattle.dp_check.specs.Resolved.{next_site, resolved, resolved_in, resolved_a
 use Rattle.dp_check.specs.Items.{items_functions, after_item}
 use Rattle.dp_tree.specs.Numbering.{is_plain, is_plain_in, top_fits, next_region, regions_in_order}
 use Rattle.dp_check.proofs.NumberLemmas.{stmt_opened}
-
-nat_eq-same : (k : ℕ) → (k == k) ≡ true
-nat_eq-same k = grind (arith, nat_tests)
-
-both : {a b : Bool} → a ≡ true → b ≡ true → (a && b) ≡ true
-both {a} {b} p q = ap (λ c. c && b) p ∙ q
+use Rattle.dp_check.proofs.BoolLemmas.{both_true, same_number}
 
 plain_hidden : (xs : List Stmt) → is_plain_in (Rattle.dp_tree.specs.declared.Stmt.TheBlock.hidden-the_row-Stmt-0 xs) ≡ list_all is_plain xs
 unfolding stmt_opened
@@ -56,16 +50,16 @@ mutual
   plain p (raw.Print line value) = refl
   plain p (raw.If' line cond _ a _ b) =
       plain-If (next_site p) (resolved_expr p.names cond) (resolved_in (sited p) a) (resolved_in (passed (sited p) (parts_in a)) b)
-      ∙ both (plain_in (sited p) a) (plain_in (passed (sited p) (parts_in a)) b)
+      ∙ both_true (plain_in (sited p) a) (plain_in (passed (sited p) (parts_in a)) b)
   plain p (raw.While' line marked cond _ body) = plain-While (next_site p) (resolved_expr p.names cond) (resolved_in (sited p) body) ∙ plain_in (sited p) body
 
   plain_in : {n : _} (p : Place) (row : Row_of-RawStmt n) → list_all is_plain (resolved_in p row) ≡ true
   plain_in p end_of-RawStmt = refl
-  plain_in p (more_of-RawStmt s rest) = both (plain p s) (plain_in (after p s) rest)
+  plain_in p (more_of-RawStmt s rest) = both_true (plain p s) (plain_in (after p s) rest)
 
 plain_all : (p : Place) (all : List RawStmt) → list_all is_plain (resolved_all p all) ≡ true
 plain_all p [] = refl
-plain_all p (s ∷ rest) = both (plain p s) (plain_all (after p s) rest)
+plain_all p (s ∷ rest) = both_true (plain p s) (plain_all (after p s) rest)
 
 plain-fits : (r : ℕ) (s : Stmt) → is_plain s ≡ true → top_fits r s ≡ true
 plain-fits r (code.Assign site x e) h = h
@@ -102,7 +96,7 @@ top_of p r (open_form.Print line value) s h = top_plain r _ s refl h
 top_of p r (open_form.If line cond a b) s h = top_plain r _ s refl h
 top_of p r (open_form.While line false cond body) s h = top_plain r _ s refl h
 top_of p r (open_form.While line true cond body) s h = record {
-  fits = fits-Region r (next_site p) (resolved_expr p.names cond) (resolved_all (sited p) body) ∙ both (nat_eq-same r) (plain_all (sited p) body);
+  fits = fits-Region r (next_site p) (resolved_expr p.names cond) (resolved_all (sited p) body) ∙ both_true (same_number r) (plain_all (sited p) body);
   next = next-Region r (next_site p) (resolved_expr p.names cond) (resolved_all (sited p) body);
 }
 
@@ -110,7 +104,7 @@ pub regions_stand_in_order : (p : Place) (r : ℕ) (all : List RawStmt) → regi
 regions_stand_in_order p r [] = refl
 regions_stand_in_order p r (s ∷ rest) =
     let t = top_of p r (out-RawStmt s) (resolved p s) (plain p s) in
-    both t.fits (ap (λ n. regions_in_order n (resolved_main (after p s) (if is_region s then r + 1 else r) rest)) t.next
+    both_true t.fits (ap (λ n. regions_in_order n (resolved_main (after p s) (if is_region s then r + 1 else r) rest)) t.next
     ∙ regions_stand_in_order (after p s) (if is_region s then r + 1 else r) rest)
 
 pub functions_are_plain : (h : Head) (items : List RawItem) → list_all (λ f. list_all is_plain f.body) (items_functions h items) ≡ true
@@ -118,4 +112,4 @@ functions_are_plain h [] = refl
 functions_are_plain h (item.Scalar name start ∷ rest) = functions_are_plain (after_item h (item.Scalar name start)) rest
 functions_are_plain h (item.Array name size ∷ rest) = functions_are_plain (after_item h (item.Array name size)) rest
 functions_are_plain h (item.Function name params body ∷ rest) =
-    both (plain_all (after_params h.place params) body) (functions_are_plain (after_item h (item.Function name params body)) rest)
+    both_true (plain_all (after_params h.place params) body) (functions_are_plain (after_item h (item.Function name params body)) rest)

@@ -1,16 +1,14 @@
 -- Statements of a lawful text are in scope.
-use Rattle.std.proofs.Common.{◌≡◌, refl, sym, ap, ◌∙◌, subst, ℕ, zero, suc, ◌+◌, ◌≤◌, ◌<◌, ◌==◌, Bool, true, false, not, ◌&&◌, ◌||◌, if◌then◌else◌, List, [], ◌∷◌, ◌++◌, map, length, Option, Some, None, slice_get, nat_lt, arith}
+use Rattle.std.proofs.Common.{◌≡◌, refl, sym, ap, ◌∙◌, subst, ℕ, ◌+◌, ◌≤◌, ◌==◌, Bool, true, false, not, ◌&&◌, ◌||◌, if◌then◌else◌, List, [], ◌∷◌, ◌++◌, length, Option, Some, None, slice_get, nat_lt, arith}
 use Rattle.std.proofs.lemmas.Bool.Decides.{nat_tests}
 use Rattle.std.proofs.lemmas.List.{length-map}
 use Rattle.std.specs.List.{list_all}
 use Rattle.dp_base.specs.declared.SiteId.{SiteId}
-use Rattle.dp_base.specs.declared.VarId.{VarId}
 use Rattle.dp_tree.specs.declared.Expr.{Expr}
 use Rattle.dp_tree.specs.declared.Program.{Program}
 use Rattle.dp_tree.specs.declared.Stmt.{Stmt}
 use Rattle.dp_tree.specs.declared.Stmt.TheVariants as code
 use Rattle.dp_tree.specs.declared.raw.Name.{Name}
-use Rattle.dp_tree.specs.declared.raw.RawExpr.{RawExpr}
 use Rattle.dp_tree.specs.declared.raw.RawStmt.{RawStmt, Row_of-RawStmt, end_of-RawStmt, more_of-RawStmt}
 use Rattle.dp_tree.specs.declared.raw.RawStmt.TheVariants as raw
 use Rattle.dp_tree.specs.Functions.{params_in}
@@ -27,8 +25,9 @@ use Rattle.dp_check.specs.Resolved.{variable_of, function_of, resolved_expr, nex
 use Rattle.dp_check.proofs.AnswerLemmas.{first_offence-append}
 use Rattle.dp_check.proofs.PlaceLemmas.{after_variable, local_count-append}
 use Rattle.dp_check.proofs.NumberLemmas.{stmt_opened}
+use Rattle.dp_check.proofs.BoolLemmas.{both_true, halves, all_weaker}
 use Rattle.dp_check.proofs.DeclaredLemmas.{Declared, declared_front, declared_back}
-use Rattle.dp_check.proofs.KnownLemmas.{is_known_if, all_known, both_true, halves, list_all_weaker, found, sees_first, known_more, known_append, knows_expr, knows_args}
+use Rattle.dp_check.proofs.KnownLemmas.{is_known_if, all_known, found, sees_first, known_more, known_append, knows_expr, knows_args}
 
 -- a part of a lawful text is lawful
 pub lawful_parts : (a b : List Token) → first_offence (a ++ b) ≡ None → (first_offence a ≡ None) × (first_offence b ≡ None)
@@ -54,7 +53,7 @@ less_still : (v w : ℕ) → v ≤ w → (y : ℕ) → nat_lt y v ≡ true → n
 less_still v w h y e = grind (arith, nat_tests)
 
 pub below_still : (v w : ℕ) → v ≤ w → (visible : List ℕ) → list_all (λ y. nat_lt y v) visible ≡ true → list_all (λ y. nat_lt y w) visible ≡ true
-below_still v w h visible = list_all_weaker (λ y. nat_lt y v) (λ y. nat_lt y w) (less_still v w h) visible
+below_still v w h visible = all_weaker (λ y. nat_lt y v) (λ y. nat_lt y w) (less_still v w h) visible
 
 pub unseen : (v : ℕ) (visible : List ℕ) → list_all (λ y. nat_lt y v) visible ≡ true → sees visible (record { 0 = v }) ≡ false
 unseen v [] h = refl
@@ -73,7 +72,7 @@ module _ {p : Program} {n : ℕ} {visible : List ℕ} {q : Place} where
   pub at_declared : (name : Name) → At p n visible q → At p n (q.variable ∷ visible) (with_scalar q name)
   at_declared name here = record {
     known = known_append p n (q.variable ∷ visible) q.names name.text (Scalar (next_variable q))
-        (list_all_weaker _ _ (λ e. known_more p n visible q.variable e.meaning) q.names here.known) (sees_first visible (next_variable q));
+        (all_weaker _ _ (λ e. known_more p n visible q.variable e.meaning) q.names here.known) (sees_first visible (next_variable q));
     below = both_true (next_above q.variable) (below_still q.variable (q.variable + 1) (omega arith) visible here.below);
   }
     where

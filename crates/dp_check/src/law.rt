@@ -8,8 +8,9 @@ ghost use Rattle.dp_tree.specs.Checked.{IsChecked};
 ghost use Rattle.dp_check.specs.Checked.{has_length};
 ghost use Rattle.dp_check.specs.Verdict.{verdict};
 
-/// A law, and no work: a program that was checked has its cells one after the other, its sites numbered in text
-/// order and its regions at the top of `main` alone, if each array of the text has an element at least.
+/// A law, and no work: a program that was checked has its file-scope variables first and its cells one after the other,
+/// its sites numbered in text order, its regions at the top of `main` alone, and each of its names in scope, if each
+/// array of the text has an element at least.
 pub fn checked_programs()
     ensures { (raw : RawProgram) → (p : Program) → list_all has_length raw.items ≡ true → verdict raw ≡ Ok p → IsChecked p }
 {}

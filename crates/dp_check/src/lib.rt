@@ -21,3 +21,6 @@ mod variables;
 pub use fail::CheckFail;
 pub use law::checked_programs;
 pub use program::check;
+
+#[cfg(test)]
+mod tests;
