@@ -1,0 +1,24 @@
+#!/usr/bin/env bash
+# Compares the texts of crates/dswp/src/tests/examples.rt with the files of examples/, byte by byte, so that what is
+# tested is what is shown. Ends with 1 where a text differs or one of the two has no fellow.
+set -eu
+cd "$(dirname "$0")/.."
+python3 - crates/dswp/src/tests/examples.rt examples <<'PY'
+import pathlib, re, sys
+
+source, folder = pathlib.Path(sys.argv[1]), pathlib.Path(sys.argv[2])
+ends = {"": ".c", "_INPUT": ".in", "_OUTPUT": ".out"}
+escapes = {"n": "\n", "t": "\t", "r": "\r", "0": "\0", "\\": "\\", '"': '"'}
+
+tested = {}
+for name, text in re.findall(r'const (\w+): &\[u8\] = b"((?:[^"\\]|\\.)*)";', source.read_text()):
+    stem, end = re.fullmatch(r"(\w+?)(_INPUT|_OUTPUT|)", name).groups()
+    tested[stem.lower() + ends[end]] = re.sub(r"\\(.)", lambda it: escapes[it[1]], text)
+shown = {it.name: it.read_bytes().decode() for it in folder.iterdir() if it.suffix in ends.values()}
+
+differ = sorted(name for name in tested.keys() | shown.keys() if tested.get(name) != shown.get(name))
+for name in differ:
+    print(f"{name}: {'not tested' if name not in tested else 'no such file' if name not in shown else 'differs'}")
+print(f"{len(shown) - len(differ)} of {len(shown)} texts are the same")
+sys.exit(bool(differ) or not shown)
+PY

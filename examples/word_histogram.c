@@ -1,0 +1,40 @@
+/* The input is the length of each word of a text. Counts how many words have
+   which length, and prints the commonest length. */
+int lengths[12];
+int words;
+int rejected;
+
+/* Lengths of 11 and more share the last place. */
+void count(int length) {
+  int place = length;
+  if (place > 11) {
+    place = 11;
+  }
+  lengths[place] = lengths[place] + 1;
+  words = words + 1;
+}
+
+int main() {
+  int i = 0;
+  #pragma dswp
+  while (i < input_len) {
+    int length = input[i];
+    i = i + 1;
+    if (length > 0) {
+      count(length);
+    } else {
+      rejected = rejected + 1;
+    }
+  }
+
+  int best = 1;
+  int n = 2;
+  while (n < 12) {
+    if (lengths[n] > lengths[best]) {
+      best = n;
+    }
+    n = n + 1;
+  }
+  print(best);
+  return 0;
+}
