@@ -1,0 +1,4 @@
+int total;
+int main() {
+  totl = 1;
+}
