@@ -2,12 +2,14 @@
 # Runs what the documents show with ./dswp, and compares. Prints each difference; ends with 1 where there is one.
 #
 # A transcript is a line `$ ./dswp ..` of a fenced block, the output, and a line `[status N]`. Each row under a head
-# `| Text | Output |` is a program's text and what `run` writes for it, with ` / ` between its lines.
+# `| Text | Output |` is a program's text and what `run` writes for it, with ` / ` between its lines. Each program of
+# examples/ writes its NAME.out for its NAME.in.
 set -u
 cd "$(dirname "$0")/.." || exit 1
 work=$(mktemp -d) || exit 1
 trap 'rm -rf "$work"' EXIT
 cat README.md docs/*.md examples/README.md >"$work/documents"
+./dswp run crates/dswp/data/sum_loop.c >"$work/got" || exit 1
 
 # Each transcript as the files N.command and N.shown, each row as N.c and N.row.
 awk -v work="$work" '
@@ -39,6 +41,11 @@ for command in "$work"/*.command; do
   [ -e "$command" ] || continue
   { sh "$command" 2>/dev/null; echo "[status $?]"; } >"$work/got"
   compare "${command%.command}.shown" "$work/got" "\$ $(cat "$command")"
+done
+for program in examples/*.c; do
+  name=${program%.c}
+  ./dswp run "$program" "$name.in" >"$work/got" 2>/dev/null
+  compare "$name.out" "$work/got" "$program"
 done
 for row in "$work"/*.row; do
   [ -e "$row" ] || continue
