@@ -1,11 +1,11 @@
 -- From the parts of the program to the headline.
-use Rattle.std.proofs.Common.{◌≡◌, refl, sym, ◌∙◌, ap, arith, inl, inr, ℕ, ◌<◌, ◌≤◌, List, Option, Some, ℤ, Result, Ok, Err, IfOk}
+use Rattle.std.proofs.Common.{◌≡◌, refl, sym, ◌∙◌, ap, subst, arith, inl, inr, ℕ, ◌<◌, ◌≤◌, List, Option, Some, ℤ, Result, Ok, Err, IfOk}
 use Rattle.dp_tree.specs.declared.Program.{Program}
 use Rattle.dp_tree.specs.Checked.{IsChecked}
 use Rattle.dp_calls.specs.Frames.{outcome}
 use Rattle.dp_calls.specs.Expand.{expand}
-use Rattle.dp_calls.proofs.ExpandedIsInlined.{expanded_is_inlined}
-use Rattle.dp_calls.proofs.SameMeaning.{same_meaning}
+use Rattle.dswp.proofs.accepted.Assumed.{expanded_is_inlined}
+use Rattle.dswp.proofs.accepted.Assumed.{same_meaning}
 use Rattle.dp_edge.specs.Sink.{appended}
 use Rattle.dswp.proofs.accepted.Sequential.{read_checked}
 use Rattle.dswp.proofs.accepted.SameText.{same_end, same_text}
@@ -38,14 +38,19 @@ pub loaded : (contents : Contents) (run : Run) (faults after : ℕ) (failed fail
     LoadsTexts contents run faults after failed fails x
 loaded contents run faults after failed fails r x e h = rw e at h
 
+-- the same status and the same bytes
+finishes_as : (s t : ℕ) (a b : List ℕ) (told tells : Option (List ℕ)) (result : Result ℕ Stop) → s ≡ t → a ≡ b → Finishes s a told tells result → Finishes t b told tells result
+finishes_as s t a b told tells result e f h = subst (λ (x : List ℕ). Finishes t x told tells result) f (subst (λ (n : ℕ). Finishes n a told tells result) e h)
+
 -- What the run of the expanded program finishes is what the source's run is to be answered with.
-finishes_source : (p : Program) → IsChecked p → (numbers : List ℤ) (fuel : ℕ) {told tells : Option (List ℕ)} (result : Result ℕ Stop) →
-    Finishes (status_of (source_run (expand p) numbers fuel).end) (trace_text (expand p) (source_run (expand p) numbers fuel)) told tells result →
-    Finishes (status_of (outcome p numbers fuel).end) (run_text p numbers fuel) told tells result
-finishes_source p checked numbers fuel result h =
+finishes_source : (p q : Program) → q ≡ expand p → IsChecked p → (numbers : List ℤ) (fuel : ℕ) (told tells : Option (List ℕ)) (result : Result ℕ Stop) →
+    Finishes (status_of (source_run q numbers fuel).end) (trace_text q (source_run q numbers fuel)) told tells result → Finishes (status_of (outcome p numbers fuel).end) (run_text p numbers fuel) told tells result
+finishes_source p q is checked numbers fuel told tells result h =
     let inlined = expanded_is_inlined p checked in
     let same = same_meaning p checked in
-    rw (same_text p inlined same numbers fuel) (rw (same_end p inlined same numbers fuel) h)
+    finishes_as (status_of (source_run q numbers fuel).end) (status_of (outcome p numbers fuel).end) (trace_text q (source_run q numbers fuel)) (run_text p numbers fuel) told tells result
+    (ap (λ (x : Program). status_of (source_run x numbers fuel).end) is ∙ ap status_of (sym (same_end p inlined same numbers fuel)))
+    (ap (λ (x : Program). trace_text x (source_run x numbers fuel)) is ∙ sym (same_text p inlined same numbers fuel)) h
 
 module _ (words : List (List ℕ)) (contents : Contents) (faults after : ℕ) (failed fails : Names) (told tells : Option (List ℕ)) where
   pub carry_not_taken : (result : Result ℕ Stop) → AsksNothing words → after ≡ faults → fails ≡ failed → Finishes (refusal_status Words) (refusal_line Words) told tells result →
@@ -54,11 +59,8 @@ module _ (words : List (List ℕ)) (contents : Contents) (faults after : ℕ) (f
 
   pub carry_run : (run : Run) (q : Program) (numbers : List ℤ) (result : Result ℕ Stop) → Asks words run → LoadsTexts contents run faults after failed fails (texts.Run q numbers) →
       Finishes (status_of (source_run q numbers run.fuel).end) (trace_text q (source_run q numbers run.fuel)) told tells result → Carried words contents faults after failed fails told tells result
-  carry_run run q numbers result asks (carried.Loaded p x others is h k e f) finishes = carried.OfAnswer _ _ (Ran run h.text p numbers asks h.held h.reads k) e f (finishes_source p (read_checked h.text p h.reads) numbers run.fuel result (by is finishes))
-    where
-      by : q ≡ expand p → Finishes (status_of (source_run q numbers run.fuel).end) (trace_text q (source_run q numbers run.fuel)) told tells result →
-          Finishes (status_of (source_run (expand p) numbers run.fuel).end) (trace_text (expand p) (source_run (expand p) numbers run.fuel)) told tells result
-      by is h = rw is at h
+  carry_run run q numbers result asks (carried.Loaded p x others is h k e f) finishes =
+      carried.OfAnswer _ _ (Ran run h.text p numbers asks h.held h.reads k) e f (finishes_source p q is (read_checked h.text p h.reads) numbers run.fuel told tells result finishes)
 
   pub carry_refused : (run : Run) (refusal : Refusal) (result : Result ℕ Stop) → Asks words run → LoadsTexts contents run faults after failed fails (texts.Refused refusal) →
       Finishes (refusal_status refusal) (refusal_line refusal) told tells result → Carried words contents faults after failed fails told tells result
@@ -75,10 +77,8 @@ module _ (words : List (List ℕ)) (contents : Contents) (faults after : ℕ) (f
   carry_sites name r q result asks e h finishes =
       let k = one_text _ _ _ _ _ _ _ r q e h in
       let s = source_of _ _ _ k.given in
-      carried.OfAnswer _ _ (SitesListed name s.reads.text s.source asks s.reads.held s.reads.reads) k.faults_same k.names_same (listed s.is finishes)
-    where
-      listed : {p : Program} → q ≡ expand p → Finishes 0 (site_bytes q) told tells result → Finishes 0 (site_bytes (expand p)) told tells result
-      listed is f = rw is at f
+      carried.OfAnswer _ _ (SitesListed name s.reads.text s.source asks s.reads.held s.reads.reads) k.faults_same k.names_same
+      (finishes_as 0 0 (site_bytes q) (site_bytes (expand s.source)) told tells result refl (ap site_bytes s.is) finishes)
 
   pub carry_sites_refused : (name : List ℕ) (r : Result (Loaded Program) Wanting) (refusal : Refusal) (result : Result ℕ Stop) → AsksSites words name → r ≡ Ok (Refused refusal) → OneLoad Program (LoadsProgram contents name) name faults after failed fails r →
       Finishes (refusal_status refusal) (refusal_line refusal) told tells result → Carried words contents faults after failed fails told tells result

@@ -1,5 +1,5 @@
 //! From a program's text to the program.
-ghost use Rattle.std.specs.Prelude.{◌≡◌, ◌≤◌, ℕ, List, length, true, IfOk, OnErr};
+ghost use Rattle.std.specs.Prelude.{◌≡◌, ◌≢◌, ◌≤◌, ℕ, List, length, true, IfOk, OnErr};
 ghost use Rattle.std.specs.List.{list_all};
 ghost use Rattle.dp_tree.specs.Checked.{IsChecked};
 ghost use Rattle.dp_parse.specs.Parses.{Parses};
@@ -43,7 +43,6 @@ fn unread(fail: ParseFail) -> Result<Refusal, NoMemory>
 }
 
 /// The tree's program with its calls expanded, where no name offends and no size is above its limit.
-#[tactic(auto, using(crate::proofs::LoadLemmas::judged_trees))]
 fn judge(alloc: Global, raw: &RawProgram) -> Result<Result<Program, Refusal>, NoMemory>
     requires { list_all has_length raw.now.items ≡ true }
     ensures { IfOk result (λ read. read ≡ expanded (judged (verdict raw.now))) }
@@ -56,7 +55,7 @@ fn judge(alloc: Global, raw: &RawProgram) -> Result<Result<Program, Refusal>, No
 
 /// Why a tree stands for no program.
 fn offending(fail: CheckFail) -> Result<Refusal, NoMemory>
-    ensures ok { IfOk result (λ refusal. refusal ≡ refusal_of fail) }
+    ensures ok { IfOk result (λ refusal. (fail ≢ failed.NoMemory) × (refusal ≡ refusal_of fail)) }
     ensures err { OnErr result (fail ≡ failed.NoMemory) }
 {
     match fail {
@@ -72,6 +71,7 @@ fn offending(fail: CheckFail) -> Result<Refusal, NoMemory>
 }
 
 /// The program with its calls expanded, unless it is too large.
+#[tactic(auto, using(crate::proofs::LoadLemmas::expansions))]
 fn expand_calls(alloc: Global, program: &Program) -> Result<Result<Program, Refusal>, NoMemory>
     requires { IsChecked program.now }
     ensures { IfOk result (λ read. read ≡ expanded (sized program.now (size_verdict program.now))) }

@@ -26,7 +26,6 @@ pub enum Task<'w> {
 }
 
 /// What the words ask for, if they are taken.
-#[tactic(auto, using(crate::proofs::TaskLemmas::tasks))]
 pub fn asked(words: &[String]) -> Option<Task<'_>>
     ensures some { IfSome result (λ task. AsksFor (map string_bytes words.now) task) }
     ensures none { IfNone result (AsksNothing (map string_bytes words.now)) }
@@ -34,23 +33,28 @@ pub fn asked(words: &[String]) -> Option<Task<'_>>
     let (verb, rest) = words.split_first()?;
     let verb = verb.as_str();
     if is_run(verb) {
-        let run = named(rest)?;
-        return Some(Task::Run(run));
+        return match named(rest) {
+            Some(run) => Some(Task::Run(run)),
+            None => None,
+        };
     }
     if is_check(verb) {
-        let program = listed(rest)?;
-        return Some(Task::Check(program));
+        return match listed(rest) {
+            Some(program) => Some(Task::Check(program)),
+            None => None,
+        };
     }
     None
 }
 
 /// The one name of a program whose sites are to be listed.
-#[tactic(auto, using(crate::proofs::TaskLemmas::lists))]
 fn listed(words: &[String]) -> Option<&str>
     ensures some { IfSome result (λ program. AsksSites (codes "check" ∷ map string_bytes words.now) program.now) }
     ensures none { IfNone result ((program : List ℕ) → ¬ AsksSites (codes "check" ∷ map string_bytes words.now) program) }
 {
-    let (program, others) = words.split_first()?;
+    let Some((program, others)) = words.split_first() else {
+        return None;
+    };
     let program = program.as_str();
     if !others.is_empty() || !is_name(program) {
         return None;
