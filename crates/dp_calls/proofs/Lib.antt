@@ -1,3 +1,10 @@
 pub mod ExpandLaws
 pub mod NoCallLaws
+pub mod Relation
+pub mod SameValues
+pub mod Visible
+pub mod Written
+pub mod Clears
+pub mod Stacks
+pub mod Effects
 pub mod rows
