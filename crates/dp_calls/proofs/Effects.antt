@@ -1,5 +1,5 @@
 -- A statement and the one that stands for it evaluate alike: the same fault, or effects that leave the same values.
-use Rattle.std.proofs.Common.{◌≡◌, ◌⊎◌, inl, inr, refl, sym, ap, ap₂, ◌∙◌, subst, ℕ, zero, suc, ◌+◌, ◌-◌, ◌<◌, ◌≤◌, Bool, true, false, if◌then◌else◌, List, [], ◌∷◌, ◌++◌, ℤ, pos, negsuc, length, get_or, Option, Some, None, Result, Ok, Err, nat_lt, arith, ltb-true}
+use Rattle.std.proofs.Common.{◌≡◌, ◌⊎◌, inl, inr, refl, sym, ap, ap₂, ◌∙◌, subst, ℕ, zero, suc, ◌+◌, ◌-◌, ◌<◌, ◌≤◌, Bool, true, false, if◌then◌else◌, List, [], ◌∷◌, ◌++◌, ℤ, pos, negsuc, length, get_or, Option, Some, None, slice_set, Result, Ok, Err, nat_lt, arith, ltb-true}
 use Rattle.dp_base.specs.declared.FaultKind.{FaultKind}
 use Rattle.dp_base.specs.declared.FaultKind.TheVariants.{Index}
 use Rattle.dp_base.specs.declared.VarId.{VarId}
@@ -15,7 +15,7 @@ use Rattle.dp_tree.specs.Scoping.{sees, knows}
 use Rattle.dp_calls.specs.Frame.{global_count}
 use Rattle.dp_calls.specs.Renaming.{named_in, target_of, renamed}
 use Rattle.dp_calls.proofs.Relation.{Env, file_count, Laid, IsEnv, Declares, known, new, Held, file, held, Agree, Room}
-use Rattle.dp_calls.proofs.SameValues.{ReadsSame, same_value}
+use Rattle.dp_calls.proofs.SameValues.{ReadsSame, same_value, sees_more}
 use Rattle.dp_calls.proofs.Visible.{reads_visible, file_at, own_at}
 use Rattle.dp_calls.proofs.Written.{After, unchanged, file_stored, own_stored, fewer}
 
@@ -66,7 +66,7 @@ module _ {R : List ℤ → List ℤ → Type 0} {a b : List ℤ} where
   place_alike (negsuc i) n f g each = faults Index
 
   -- one value is stored into these cells
-  pub stores_alike : (c d : ℕ) → ((z : ℤ) → R (Rattle.std.specs.Prelude.slice_set a c z) (Rattle.std.specs.Prelude.slice_set b d z)) → (u v : Evaluated ℤ) → result_of u ≡ result_of v →
+  pub stores_alike : (c d : ℕ) → ((z : ℤ) → R (slice_set a c z) (slice_set b d z)) → (u v : Evaluated ℤ) → result_of u ≡ result_of v →
       EvaluatesAlike R a b (and_then u (λ z. just (Stored c z))) (and_then v (λ z. just (Stored d z)))
   stores_alike c d after u v same =
       then_alike u v (λ z. just (Stored c z)) (λ z. just (Stored d z)) same (λ z. alone (Stored c z) (Stored d z) (record { value = refl; printed = refl; after = after z }))
@@ -80,7 +80,7 @@ module _ {R : List ℤ → List ℤ → Type 0} {a b : List ℤ} where
       then_alike u v (λ z. just (Decided z)) (λ z. just (Decided z)) same (λ z. alone (Decided z) (Decided z) (record { value = refl; printed = refl; after = after }))
 
   -- an element is stored
-  pub elements_alike : (c d m n : ℕ) → m ≡ n → ((k : ℕ) → k < m → (z : ℤ) → R (Rattle.std.specs.Prelude.slice_set a (c + k) z) (Rattle.std.specs.Prelude.slice_set b (d + k) z)) →
+  pub elements_alike : (c d m n : ℕ) → m ≡ n → ((k : ℕ) → k < m → (z : ℤ) → R (slice_set a (c + k) z) (slice_set b (d + k) z)) →
       (i j u v : Evaluated ℤ) → result_of i ≡ result_of j → result_of u ≡ result_of v →
       EvaluatesAlike R a b
       (and_then i (λ i. and_then u (λ z. and_then (place i m) (λ k. just (Stored (c + k) z)))))
@@ -104,27 +104,27 @@ module _ (p q : Program) (laid : Laid p q) (input : List ℤ) (e : Env) (env : I
   nothing_stored = unchanged p q e env laid visible g l h whole room agree
 
   stored_held : (x : VarId) (k : ℕ) (z : ℤ) → Held p q e l h x.0 → k < cell_count p x →
-      Left visible (Rattle.std.specs.Prelude.slice_set (g ++ l) (first_cell p x + k) z) (Rattle.std.specs.Prelude.slice_set (g ++ h) (first_cell q (target_of e.names x) + k) z)
+      Left visible (slice_set (g ++ l) (first_cell p x + k) z) (slice_set (g ++ h) (first_cell q (target_of e.names x) + k) z)
   stored_held x k z (file less) below = file_stored p q e env laid visible g l h whole room agree x k z less below
-  stored_held x k z (held y named same) below = fewer p q visible (λ w seen. Rattle.dp_calls.proofs.SameValues.sees_more x.0 visible w seen) (own_stored p q e env laid visible g l h whole room agree x y k z named below)
+  stored_held x k z (held y named same) below = fewer p q visible (λ w seen. sees_more x.0 visible w seen) (own_stored p q e env laid visible g l h whole room agree x y k z named below)
 
   pub element_stored : (x : VarId) → sees visible x ≡ true → (k : ℕ) → k < cell_count p x → (z : ℤ) →
-      Left visible (Rattle.std.specs.Prelude.slice_set (g ++ l) (first_cell p x + k) z) (Rattle.std.specs.Prelude.slice_set (g ++ h) (first_cell q (target_of e.names x) + k) z)
+      Left visible (slice_set (g ++ l) (first_cell p x + k) z) (slice_set (g ++ h) (first_cell q (target_of e.names x) + k) z)
   element_stored x seen k below z = stored_held x k z (agree x seen) below
 
   pub same_length : (x : VarId) → sees visible x ≡ true → cell_count p x ≡ cell_count q (target_of e.names x)
   same_length x seen = (reads_visible p q laid e env g l h whole visible agree x seen).count
 
-  at_first : (behind : List ℕ) (x y : VarId) (z : ℤ) → Left behind (Rattle.std.specs.Prelude.slice_set (g ++ l) (first_cell p x + 0) z) (Rattle.std.specs.Prelude.slice_set (g ++ h) (first_cell q y + 0) z) →
-      Left behind (Rattle.std.specs.Prelude.slice_set (g ++ l) (first_cell p x) z) (Rattle.std.specs.Prelude.slice_set (g ++ h) (first_cell q y) z)
+  at_first : (behind : List ℕ) (x y : VarId) (z : ℤ) → Left behind (slice_set (g ++ l) (first_cell p x + 0) z) (slice_set (g ++ h) (first_cell q y + 0) z) →
+      Left behind (slice_set (g ++ l) (first_cell p x) z) (slice_set (g ++ h) (first_cell q y) z)
   at_first behind x y z left =
       let one : first_cell p x + 0 ≡ first_cell p x = omega arith in
       let other : first_cell q y + 0 ≡ first_cell q y = omega arith in
-      subst (λ (c : ℕ). Left behind (Rattle.std.specs.Prelude.slice_set (g ++ l) c z) (Rattle.std.specs.Prelude.slice_set (g ++ h) (first_cell q y) z)) one
-      (subst (λ (c : ℕ). Left behind (Rattle.std.specs.Prelude.slice_set (g ++ l) (first_cell p x + 0) z) (Rattle.std.specs.Prelude.slice_set (g ++ h) c z)) other left)
+      subst (λ (c : ℕ). Left behind (slice_set (g ++ l) c z) (slice_set (g ++ h) (first_cell q y) z)) one
+      (subst (λ (c : ℕ). Left behind (slice_set (g ++ l) (first_cell p x + 0) z) (slice_set (g ++ h) c z)) other left)
 
   pub declared_stored : (x : VarId) (behind : List ℕ) → Declares p q e visible x behind → (z : ℤ) →
-      Left behind (Rattle.std.specs.Prelude.slice_set (g ++ l) (first_cell p x) z) (Rattle.std.specs.Prelude.slice_set (g ++ h) (first_cell q (target_of e.names x)) z)
+      Left behind (slice_set (g ++ l) (first_cell p x) z) (slice_set (g ++ h) (first_cell q (target_of e.names x)) z)
   declared_stored x behind (known seen) z =
       let some : 0 < cell_count p x = (reads_visible p q laid e env g l h whole visible agree x seen).some in
       at_first visible x (target_of e.names x) z (stored_held x 0 z (agree x seen) some)

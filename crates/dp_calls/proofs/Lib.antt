@@ -7,4 +7,7 @@ pub mod Written
 pub mod Clears
 pub mod Stacks
 pub mod Effects
+pub mod Stands
+pub mod Settles
+pub mod Acting
 pub mod rows

@@ -11,7 +11,7 @@ use Rattle.dp_tree.specs.Functions.{body_in, params_in}
 use Rattle.dp_tree.specs.Globals.{is_global_scope, globals_in}
 use Rattle.dp_tree.specs.Step.{line_of, is_local_of}
 use Rattle.dp_tree.specs.Scoping.{sees, knows, global_numbers, seen_behind_params}
-use Rattle.dp_calls.specs.Frame.{global_count}
+use Rattle.dp_calls.specs.Frame.{global_count, fresh}
 use Rattle.dp_calls.specs.Renaming.{Renamed, named_in, target_of, renamed}
 
 -- an expanded call: its variables lie between two numbers, its names, and the functions that it may call are the first ones
@@ -36,6 +36,7 @@ pub record Laid (p q : Program) : Type 0 where
   pub after : (y : ℕ) (info : VarInfo) → slice_get q.vars y ≡ Some info → PlaceOf (file_count p) (global_count p) y info
   pub same : (x : ℕ) → x < file_count p → slice_get q.vars x ≡ slice_get p.vars x
   pub there : file_count p ≤ length p.vars
+  pub locals : length (fresh p) + file_count p ≡ length p.vars
 
 -- the entry isn't that of a body local of the region
 abbrev pub is_quiet : ℕ → Option VarInfo → Bool

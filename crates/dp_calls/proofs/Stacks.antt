@@ -94,22 +94,33 @@ module _ (p q : Program) where
       next one (block_then behind block (λ x seen. one_within one x (sub x seen)))
       (ap (λ (c : List Stmt). c ++ text) is ∙ append_assoc first own text)
 
-  -- values of other calls don't matter to the frames below
+  held_kept : {d e : Env} (env : IsEnv p q d) (nested : Nested p q d e) (l h k : List ℤ) → Keeps p q e h k → (x : ℕ) → Held p q d l h x → Held p q d l k x
+  held_kept env nested l h k keeps x (file less) = file less
+  held_kept {d = d} {e = e} env nested l h k keeps x (held y named same) =
+      let target = env.target x y named in
+      let there : (y - file_count p) + file_count p ≡ y = omega (arith, target.0, env.above) in
+      let outside : ((y - file_count p) + file_count p < e.low) ⊎ (e.high ≤ (y - file_count p) + file_count p) =
+          elim (nested.others x y named) [ inl less ↦ inl (omega (arith, there, less)) | inr above ↦ inr (omega (arith, there, above)) ] in
+      held y named (same ∙ sym (keeps (y - file_count p) outside))
+
+  -- values of other calls don't matter to a caller
+  pub agree_kept : {d e : Env} (env : IsEnv p q d) (nested : Nested p q d e) (visible : List ℕ) (l h k : List ℤ) → Keeps p q e h k → Agree p q d visible l h → Agree p q d visible l k
+  agree_kept env nested visible l h k keeps agree x seen = held_kept env nested l h k keeps x.0 (agree x seen)
+
+  pub keeps_wider : {d e : Env} (nested : Nested p q d e) (h k : List ℤ) → Keeps p q e h k → Keeps p q d h k
+  keeps_wider nested h k keeps j outside =
+      keeps j (elim outside [ inl less ↦ inl (omega (arith, less, nested.low)) | inr above ↦ inr (omega (arith, above, nested.high)) ])
+
+  -- nor to the frames below
   pub stack_kept : (h k : List ℤ) → length k ≡ length h → {e : Env} {below : List Frame} {code : List Stmt} → Keeps p q e h k → Stack e below code h → Stack e below code k
   stack_kept h k long keeps bottom = bottom
-  stack_kept h k long {e = e} keeps (over {d = d} {visible = visible} {f = f} suits nested stack is) =
+  stack_kept h k long keeps (over {visible = visible} {f = f} suits nested stack is) =
       over
-      (record { env = suits.env; todo = suits.todo; agree = λ x seen. kept x.0 (suits.agree x seen); room = (suits.room.0, ap (λ (n : ℕ). n + file_count p) long ∙ suits.room.1); callee = suits.callee })
-      nested (stack_kept h k long wider stack) is
-    where
-      kept : (x : ℕ) → Held p q d f.locals h x → Held p q d f.locals k x
-      kept x (file less) = file less
-      kept x (held y named same) =
-          let target = suits.env.target x y named in
-          let there : (y - file_count p) + file_count p ≡ y = omega (arith, target.0, suits.env.above) in
-          let outside : ((y - file_count p) + file_count p < e.low) ⊎ (e.high ≤ (y - file_count p) + file_count p) =
-              elim (nested.others x y named) [ inl less ↦ inl (omega (arith, there, less)) | inr above ↦ inr (omega (arith, there, above)) ] in
-          held y named (same ∙ sym (keeps (y - file_count p) outside))
-
-      wider : Keeps p q d h k
-      wider j outside = keeps j (elim outside [ inl less ↦ inl (omega (arith, less, nested.low)) | inr above ↦ inr (omega (arith, above, nested.high)) ])
+      (record {
+          env = suits.env;
+          todo = suits.todo;
+          agree = agree_kept suits.env nested visible f.locals h k keeps suits.agree;
+          room = (suits.room.0, ap (λ (n : ℕ). n + file_count p) long ∙ suits.room.1);
+          callee = suits.callee;
+      })
+      nested (stack_kept h k long (keeps_wider nested h k keeps) stack) is

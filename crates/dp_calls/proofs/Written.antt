@@ -13,6 +13,13 @@ use Rattle.dp_calls.proofs.Relation.{Env, file_count, Laid, IsEnv, Declares, kno
 use Rattle.dp_calls.proofs.SameValues.{sees_one}
 use Rattle.dp_calls.proofs.Visible.{file_at, target_file, own_at}
 
+-- a store behind the file-scope cells
+pub own_memory : (g m : List ℤ) (i j : ℕ) (z : ℤ) → i ≡ length g + j → slice_set (g ++ m) i z ≡ g ++ slice_set m j z
+own_memory g m i j z at =
+    let behind : length g ≤ i = omega (arith, at) in
+    let same : i - length g ≡ j = omega (arith, at) in
+    set-append_right g m (length g) i z refl behind ∙ ap (λ (n : ℕ). g ++ slice_set m n z) same
+
 module _ (p q : Program) where
   -- the cells behind the file-scope ones are as before, but for those of the call
   abbrev pub Keeps : Env → List ℤ → List ℤ → Type 0
@@ -105,12 +112,6 @@ module _ (p q : Program) where
             keeps = λ j outside. refl;
           }
 
-      own_memory : (m : List ℤ) (i j : ℕ) (z : ℤ) → i ≡ length g + j → slice_set (g ++ m) i z ≡ g ++ slice_set m j z
-      own_memory m i j z at =
-          let behind : length g ≤ i = omega (arith, at) in
-          let same : i - length g ≡ j = omega (arith, at) in
-          set-append_right g m (length g) i z refl behind ∙ ap (λ (n : ℕ). g ++ slice_set m n z) same
-
       -- an own variable, which is visible from here on
       pub own_stored : (x : VarId) (y k : ℕ) (z : ℤ) → named_in e.names x.0 ≡ Some y → k < cell_count p x →
           After e (x.0 ∷ visible) h (slice_set (g ++ l) (first_cell p x + k) z) (slice_set (g ++ h) (first_cell q (target_of e.names x) + k) z)
@@ -123,8 +124,8 @@ module _ (p q : Program) where
             globals = g;
             locals = locals_set l h room x y named z;
             cells = cells_set l h room x y named z;
-            first = own_memory l (first_cell p x + k) (x.0 - file_count p) z here;
-            second = ap (λ (c : ℕ). slice_set (g ++ h) (c + k) z) same ∙ own_memory h (first_cell q (record { 0 = y }) + k) (y - file_count p) z there;
+            first = own_memory g l (first_cell p x + k) (x.0 - file_count p) z here;
+            second = ap (λ (c : ℕ). slice_set (g ++ h) (c + k) z) same ∙ own_memory g h (first_cell q (record { 0 = y }) + k) (y - file_count p) z there;
             whole = whole;
             room = room_set l h room x y named z;
             agree = λ w seen. elim (sees_one x.0 visible w seen) [
