@@ -10,4 +10,6 @@ pub mod Effects
 pub mod Stands
 pub mod Settles
 pub mod Acting
+pub mod Binding
+pub mod Simulation
 pub mod rows
