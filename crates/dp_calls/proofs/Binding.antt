@@ -4,8 +4,7 @@ use Rattle.dp_base.specs.declared.FaultKind.{FaultKind}
 use Rattle.dp_base.specs.declared.SiteId.{SiteId}
 use Rattle.dp_base.specs.declared.VarId.{VarId}
 use Rattle.dp_tree.specs.declared.Expr.{Expr}
-use Rattle.dp_tree.specs.declared.Stmt.{Stmt, out-Stmt, out-roll-Stmt}
-use Rattle.dp_tree.specs.declared.Stmt.TheViews.{rolls-Call}
+use Rattle.dp_tree.specs.declared.Stmt.{Stmt, out-Stmt}
 use Rattle.dp_tree.specs.declared.Stmt.TheVariants as tree
 use Rattle.dp_tree.specs.declared.Stmt.TheOpen.{Stmt-F, Assign, Call}
 use Rattle.dp_tree.specs.declared.Program.{Program}
@@ -19,6 +18,7 @@ use Rattle.dp_calls.specs.FrameStep.{FrameStep, Faults, step_head, step_frame, s
 use Rattle.dp_calls.specs.FrameStep as step
 use Rattle.dp_calls.specs.Renaming.{named_in, target_or, target_of, renamed}
 use Rattle.dp_tree.proofs.Heads.{standing_to_do}
+use Rattle.dp_tree.specs.declared.Stmt.TheViews.{outs-Call}
 use Rattle.dp_calls.proofs.Relation.{Env, file_count, Laid, IsEnv, Nested, Binds, bound, binds, Block, Todo, Held, Agree, Room}
 use Rattle.dp_calls.proofs.SameValues.{sees_one}
 use Rattle.dp_calls.proofs.Visible.{own_at}
@@ -27,9 +27,6 @@ use Rattle.dp_calls.proofs.Stacks.{Suits, Stack, bottom, over, Ready, Filling, S
 use Rattle.dp_calls.proofs.Effects.{values}
 use Rattle.dp_calls.proofs.Settles.{Settles, block_todo, settles_running, settles_binding}
 use Rattle.dp_calls.proofs.Acting.{StepsAlike, both_end, both_fault, both_go}
-
-pub out-Call : (f line : ℕ) (args : List Expr) → out-Stmt (tree.Call f line args) ≡ Call f line args
-out-Call f line args = ap out-Stmt (sym (rolls-Call f line args)) ∙ out-roll-Stmt (Call f line args)
 
 -- the element behind a list
 slice_get_behind : {X : Type 0} (before : List X) (x : X) (after : List X) (n : ℕ) → n ≡ length before → slice_get (before ++ x ∷ after) n ≡ Some x
@@ -128,7 +125,7 @@ module _ (p q : Program) where
         subst (λ (c : List Stmt). Settles p q laid own_set (settled p (call_frames p f below statements k line (v ∷ args) callee_set)) c) same
         (settles_binding p q laid (tree.Call k line (v ∷ args))
         (record { env = ready.env; agree = caller_agrees; room = (ready.room.0, callee_room.1); stack = caller_stack })
-        refl (out-Call k line (v ∷ args))
+        refl (outs-Call k line (v ∷ args))
         (record {
             env = filling.env;
             nested = filling.nested;

@@ -1,5 +1,6 @@
 pub mod ExpandLaws
 pub mod NoCallLaws
+pub mod InnerTexts
 pub mod Relation
 pub mod SameValues
 pub mod Visible
@@ -12,4 +13,5 @@ pub mod Settles
 pub mod Acting
 pub mod Binding
 pub mod Simulation
+pub mod Tabled
 pub mod rows
