@@ -14,4 +14,7 @@ pub mod Acting
 pub mod Binding
 pub mod Simulation
 pub mod Tabled
+pub mod Named
+pub mod Made
+pub mod Passed
 pub mod rows
