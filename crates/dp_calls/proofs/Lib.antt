@@ -17,4 +17,6 @@ pub mod Tabled
 pub mod Named
 pub mod Made
 pub mod Passed
+pub mod Declared
+pub mod Pieces
 pub mod rows

@@ -53,7 +53,7 @@ pub record Made (p q : Program) (linked : Option VarInfo → Option VarInfo → 
   pub becomes : (e : Env) → Closes p q low calls a.names a.tables e → shape e
 
 -- a visible variable has one name from here on
-target_by : (p : Program) (names after : List Renamed) (n : ℕ) (x : VarId) → Steps names n after → ((y : ℕ) → named_in names x.0 ≡ Some y → file_count p ≤ x.0) → ((y : ℕ) → named_in after x.0 ≡ Some y → file_count p ≤ x.0) →
+pub target_by : (p : Program) (names after : List Renamed) (n : ℕ) (x : VarId) → Steps names n after → ((y : ℕ) → named_in names x.0 ≡ Some y → file_count p ≤ x.0) → ((y : ℕ) → named_in after x.0 ≡ Some y → file_count p ≤ x.0) →
     (x.0 < file_count p) ⊎ ((y : ℕ) × (named_in names x.0 ≡ Some y)) → target_of names x ≡ target_of after x
 target_by p names after n x steps old new (inl less) = missing (named_in names x.0) refl (named_in after x.0) refl
   where

@@ -28,7 +28,7 @@ use Rattle.dp_calls.proofs.Named.{NamesOk, names_grow, names_local, names_as, na
 use Rattle.dp_calls.proofs.Made.{Closes, closes_before, Made, binding_line}
 
 -- a local of a region, or of none, is no file-scope variable
-scope_local : (r : ℕ) (scope : VarScope) → is_scope_in r scope ≡ true → is_global_scope scope ≡ false
+pub scope_local : (r : ℕ) (scope : VarScope) → is_scope_in r scope ≡ true → is_global_scope scope ≡ false
 scope_local zero Global e = absurd (cc)
 scope_local zero Outer e = refl
 scope_local zero (Body q) e = absurd (cc)

@@ -1,5 +1,5 @@
 -- An expression has the same value under the names of a call, where its visible variables have.
-use Rattle.std.proofs.Common.{◌≡◌, ◌⊎◌, inl, inr, refl, sym, ap, ap₂, ◌∙◌, subst, ℕ, ◌+◌, ◌-◌, ◌<◌, ◌≤◌, ◌==◌, Bool, true, false, ◌&&◌, ◌||◌, if◌then◌else◌, List, [], ◌∷◌, ◌++◌, ℤ, pos, negsuc, length, get_or, Option, Some, None, slice_get, Result, Ok, Err, nat_lt, arith, eqb-true, eq-eqb, ltb-true, lt-ltb}
+use Rattle.std.proofs.Common.{◌≡◌, ◌⊎◌, inl, inr, refl, sym, ap, ap₂, ◌∙◌, subst, ℕ, zero, suc, ◌+◌, ◌-◌, ◌<◌, ◌≤◌, ◌==◌, Bool, true, false, ◌&&◌, ◌||◌, if◌then◌else◌, List, [], ◌∷◌, ◌++◌, ℤ, pos, negsuc, length, get_or, Option, Some, None, slice_get, Result, Ok, Err, nat_lt, arith, eqb-true, eq-eqb, ltb-true, lt-ltb}
 use Rattle.std.specs.List.{list_any}
 use Rattle.dp_base.specs.declared.FaultKind.{FaultKind}
 use Rattle.dp_base.specs.declared.VarId.{VarId}
@@ -9,6 +9,7 @@ use Rattle.dp_tree.specs.declared.Expr.TheVariants as tree
 use Rattle.dp_tree.specs.declared.VarInfo.{VarInfo}
 use Rattle.dp_tree.specs.declared.Program.{Program}
 use Rattle.dp_tree.specs.Eval.{Evaluated, eval, place, first_of, length_of, first_cell, cell_count, result_of, bind}
+use Rattle.dp_tree.specs.Numbering.{numbers_from}
 use Rattle.dp_tree.specs.Scoping.{sees, knows}
 use Rattle.dp_calls.specs.Frame.{global_count}
 use Rattle.dp_calls.specs.Renaming.{Renamed, named_in, target_or, target_of, renamed}
@@ -37,6 +38,14 @@ sees_new y visible x e = or_left (y == x.0) (sees visible x) (eq-eqb y x.0 e)
 
 pub sees_more : (y : ℕ) (visible : List ℕ) (x : VarId) → sees visible x ≡ true → sees (y ∷ visible) x ≡ true
 sees_more y visible x e = or_right (y == x.0) (sees visible x) e
+
+-- the numbers from one on are below its end
+pub numbers_below : (first n : ℕ) (x : VarId) → sees (numbers_from first n) x ≡ true → x.0 < first + n
+numbers_below first zero x seen = absurd (cc)
+numbers_below first (suc n) x seen = elim (sees_one first (numbers_from (first + 1) n) x seen) [
+    inl is ↦ omega (arith, is)
+    | inr later ↦ (let less : x.0 < first + 1 + n = numbers_below (first + 1) n x later in omega (arith, less))
+]
 
 -- a variable has as many cells in both programs, and they hold the same
 pub record ReadsSame (p q : Program) (a b : List ℤ) (x y : VarId) : Type 0 where

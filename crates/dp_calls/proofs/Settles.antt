@@ -8,22 +8,13 @@ use Rattle.dp_tree.specs.declared.Stmt.TheOpen.{Stmt-F, Assign, Store, Print, If
 use Rattle.dp_tree.specs.declared.Program.{Program}
 use Rattle.dp_tree.specs.Functions.{body_in, params_in}
 use Rattle.dp_tree.specs.Globals.{globals_in}
-use Rattle.dp_tree.specs.Numbering.{numbers_from}
 use Rattle.dp_tree.specs.Scoping.{sees, global_numbers, seen_behind_params}
 use Rattle.dp_tree.specs.Step.{cleared_at, standing}
 use Rattle.dp_calls.specs.Frame.{Frame, State, global_count, fresh, new_frame, entered, standing_frame, or_after, resumed_at, no_frames, resumed_with, resumed, or_below, settled}
 use Rattle.dp_calls.proofs.Relation.{Env, file_count, Laid, IsEnv, Nested, Within, Binds, bound, binds, Acts, assigns, stores, prints, branches, loops, marks, One, act, call, Block, done, more, Todo, none, next, leave, Held, file, Agree, Room}
-use Rattle.dp_calls.proofs.SameValues.{sees_one}
+use Rattle.dp_calls.proofs.SameValues.{numbers_below}
 use Rattle.dp_calls.proofs.Stacks.{Suits, Stack, bottom, over, Ready, Filling, Sim, ends, acting, binding}
 use Rattle.dp_calls.proofs.Stands.{acts_cleared, stack_cleared}
-
--- the numbers from one on are below its end
-numbers_below : (first n : ℕ) (x : VarId) → sees (numbers_from first n) x ≡ true → x.0 < first + n
-numbers_below first zero x seen = absurd (cc)
-numbers_below first (suc n) x seen = elim (sees_one first (numbers_from (first + 1) n) x seen) [
-    inl is ↦ omega (arith, is)
-    | inr later ↦ (let less : x.0 < first + 1 + n = numbers_below (first + 1) n x later in omega (arith, less))
-]
 
 module _ (p q : Program) (laid : Laid p q) where
   -- where only file-scope variables are visible
