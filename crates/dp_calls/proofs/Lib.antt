@@ -19,4 +19,8 @@ pub mod Made
 pub mod Passed
 pub mod Declared
 pub mod Pieces
+pub mod Layouts
+pub mod CheckedTexts
+pub mod Whole
+pub mod SameMeanings
 pub mod rows
