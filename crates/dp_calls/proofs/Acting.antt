@@ -1,9 +1,8 @@
 -- A step at a statement with a site, with frames and expanded.
-use Rattle.std.proofs.Common.{◌≡◌, ◌⊎◌, inl, inr, refl, sym, ap, ap₂, ◌∙◌, subst, ℕ, zero, suc, ◌+◌, ◌-◌, ◌<◌, ◌≤◌, Bool, true, false, if◌then◌else◌, List, [], ◌∷◌, ◌++◌, ℤ, pos, length, take, drop, append_assoc, Option, Some, None, Ok, Err, slice_get, arith}
+use Rattle.std.proofs.Common.{◌≡◌, refl, sym, ap, ap₂, ◌∙◌, subst, ℕ, ◌+◌, Bool, true, false, if◌then◌else◌, List, ◌∷◌, ◌++◌, ℤ, length, take, drop, Option, arith}
 use Rattle.std.proofs.lemmas.List.{take_at, drop_at}
 use Rattle.dp_base.specs.Arithmetic.{is_zero}
 use Rattle.dp_base.specs.declared.Fault.{Fault as FaultAt}
-use Rattle.dp_base.specs.declared.FaultKind.{FaultKind}
 use Rattle.dp_base.specs.declared.SiteId.{SiteId}
 use Rattle.dp_tree.specs.declared.Stmt.{Stmt, out-Stmt}
 use Rattle.dp_tree.specs.declared.Stmt.TheOpen.{Stmt-F, Assign, Store, Print, If, While, Region, Call}
@@ -16,10 +15,10 @@ use Rattle.dp_calls.specs.Frame.{Frame, State, global_count, fresh, settled}
 use Rattle.dp_calls.specs.FrameStep.{FrameStep, Ends, Faults, Goes, frame_step, step_head, step_frame, step_frames}
 use Rattle.dp_calls.specs.Renaming.{target_of}
 use Rattle.dp_tree.proofs.Heads.{followed-append, standing_to_do}
-use Rattle.dp_calls.proofs.Relation.{Env, file_count, Laid, IsEnv, Within, Acts, assigns, stores, prints, branches, loops, marks, One, act, Block, Todo, none, next, leave, Agree, Room}
+use Rattle.dp_calls.proofs.Relation.{Env, file_count, Laid, IsEnv, Acts, assigns, stores, prints, branches, loops, marks, act, Block, Todo, next, Agree, Room}
 use Rattle.dp_calls.proofs.Written.{After}
 use Rattle.dp_calls.proofs.Stacks.{Suits, Stack, Ready, Alike, block_then, stack_kept}
-use Rattle.dp_calls.proofs.Effects.{EffectsAlike, EvaluatesAlike, faults, goes, stores_alike, prints_alike, decides_alike, elements_alike, values, nothing_stored, element_stored, same_length, declared_stored}
+use Rattle.dp_calls.proofs.Effects.{EvaluatesAlike, faults, goes, stores_alike, prints_alike, decides_alike, elements_alike, values, nothing_stored, element_stored, same_length, declared_stored}
 use Rattle.dp_calls.proofs.Stands.{stands}
 use Rattle.dp_calls.proofs.Settles.{settles_running}
 
@@ -167,21 +166,21 @@ module _ (p q : Program) where
         let cells_are : (standing p statements a).cells ≡ after.globals ++ st.locals = ap (λ (m : List ℤ). (standing p statements m).cells) after.first ∙ st.is after.globals after.whole in
         let wide : length after.cells ≡ length h = omega (arith, after.room.1, ready.room.1) in
         let suits : Suits p q e st.outer (record f { to_do = statements; locals = st.locals }) text after.cells = record {
-            env = ready.env;
-            todo = st.todo;
-            agree = st.agree;
-            room = (ap (λ (n : ℕ). n + file_count p) st.long ∙ after.room.0, after.room.1);
-            callee = callee;
+          env = ready.env;
+          todo = st.todo;
+          agree = st.agree;
+          room = (ap (λ (n : ℕ). n + file_count p) st.long ∙ after.room.0, after.room.1);
+          callee = callee;
         } in
         let s = settles_running p q laid suits (stack_kept p q h after.cells wide after.keeps ready.stack) in
         let there : standing q code b ≡ standing q (text ++ rest) (after.globals ++ after.cells) = ap₂ (λ (xs : List Stmt) (m : List ℤ). standing q xs m) is after.second in
         subst (λ (c : State). Alike p q c (standing q code b)) (sym (state_is f below (standing p statements a) after.globals st.locals statements cells_are (standing_to_do p statements a) after.whole))
         (subst (λ (d : Config). Alike p q (state_of f below after.globals st.locals statements) d) (sym there)
         (record {
-            own = s.own;
-            whole = after.whole;
-            cells = s.stands after.globals after.whole;
-            sim = subst (λ (xs : List Stmt). Rattle.dp_calls.proofs.Stacks.Sim p q s.own (settled p (record f { to_do = statements; locals = st.locals } ∷ below)) xs) (sym (standing_to_do q (text ++ rest) (after.globals ++ after.cells))) s.sim;
+          own = s.own;
+          whole = after.whole;
+          cells = s.stands after.globals after.whole;
+          sim = subst (λ (xs : List Stmt). Rattle.dp_calls.proofs.Stacks.Sim p q s.own (settled p (record f { to_do = statements; locals = st.locals } ∷ below)) xs) (sym (standing_to_do q (text ++ rest) (after.globals ++ after.cells))) s.sim;
         }))
 
     act_by : (site here : SiteId) (nexts next_texts texts : ℤ → List Stmt) → line_of q here ≡ line_of p site → ((z : ℤ) → Todo p q e behind (nexts z) (texts z)) → ((z : ℤ) → next_texts z ≡ texts z ++ rest) →
@@ -200,7 +199,7 @@ module _ (p q : Program) where
         let sites = acts_sites acts in
         let left = frame_plain input c f below s statements is sites.source in
         let right : step_from q input (c.globals ++ h) code ≡ step_by q (site_of (out-Stmt t)) (c.globals ++ h) (evaluated q input (c.globals ++ h) (out-Stmt t)) (followed t (text ++ rest) (out-Stmt t)) =
-            ap (λ (xs : List Stmt). step_from q input (c.globals ++ h) xs) code_is ∙ step_plain q input (c.globals ++ h) t (text ++ rest) (out-Stmt t) sites.target in
+        ap (λ (xs : List Stmt). step_from q input (c.globals ++ h) xs) code_is ∙ step_plain q input (c.globals ++ h) t (text ++ rest) (out-Stmt t) sites.target in
         subst (λ (x : FrameStep). StepsAlike x (step_from q input (c.globals ++ h) code)) (sym left)
         (subst (λ (x : Step). StepsAlike (frame_step p f below (step_by p (site_of (out-Stmt s)) (c.globals ++ f.locals) (evaluated p input (c.globals ++ f.locals) (out-Stmt s)) (followed s statements (out-Stmt s)))) x) (sym right)
         (act_by (site_of (out-Stmt s)) (site_of (out-Stmt t)) (followed s statements (out-Stmt s)) (followed t (text ++ rest) (out-Stmt t)) (followed t text (out-Stmt t)) sites.line

@@ -1,32 +1,32 @@
 -- A step that binds an argument, with frames and expanded.
-use Rattle.std.proofs.Common.{◌≡◌, ◌⊎◌, inl, inr, refl, sym, ap, ap₂, ◌∙◌, subst, ℕ, zero, suc, ◌+◌, ◌-◌, ◌<◌, ◌≤◌, Bool, true, false, List, [], ◌∷◌, ◌++◌, ℤ, pos, length, length-append, append_assoc, Option, Some, None, Result, Ok, Err, slice_get, slice_set, arith}
+use Rattle.std.proofs.Common.{◌≡◌, inl, inr, refl, sym, ap, ◌∙◌, subst, ℕ, zero, suc, ◌+◌, ◌-◌, true, List, [], ◌∷◌, ◌++◌, ℤ, length, length-append, append_assoc, Option, Some, Result, Ok, Err, slice_get, slice_set, arith}
 use Rattle.dp_base.specs.declared.FaultKind.{FaultKind}
 use Rattle.dp_base.specs.declared.SiteId.{SiteId}
 use Rattle.dp_base.specs.declared.VarId.{VarId}
 use Rattle.dp_tree.specs.declared.Expr.{Expr}
 use Rattle.dp_tree.specs.declared.Stmt.{Stmt, out-Stmt}
 use Rattle.dp_tree.specs.declared.Stmt.TheVariants as tree
-use Rattle.dp_tree.specs.declared.Stmt.TheOpen.{Stmt-F, Assign, Call}
+use Rattle.dp_tree.specs.declared.Stmt.TheOpen.{Stmt-F, Call}
 use Rattle.dp_tree.specs.declared.Program.{Program}
-use Rattle.dp_tree.specs.Eval.{WithLoads, Evaluated, just, and_then, eval, first_cell, result_of}
-use Rattle.dp_tree.specs.Event.{Effect, Stored}
+use Rattle.dp_tree.specs.Eval.{Evaluated, just, and_then, eval, first_cell, result_of}
+use Rattle.dp_tree.specs.Event.{Stored}
 use Rattle.dp_tree.specs.Functions.{body_in, params_in}
 use Rattle.dp_tree.specs.Scoping.{sees, global_numbers, seen_behind_params}
-use Rattle.dp_tree.specs.Step.{Config, Step, Faulted, standing, line_of, step_by, step_at, step_from}
+use Rattle.dp_tree.specs.Step.{Step, Faulted, standing, line_of, step_by, step_at, step_from}
 use Rattle.dp_calls.specs.Frame.{Frame, State, global_count, fresh, new_frame, settled}
 use Rattle.dp_calls.specs.FrameStep.{FrameStep, Faults, step_head, step_frame, step_frames, bound_to, call_frames, call_step}
 use Rattle.dp_calls.specs.FrameStep as step
 use Rattle.dp_calls.specs.Renaming.{named_in, target_or, target_of, renamed}
 use Rattle.dp_tree.proofs.Heads.{standing_to_do}
 use Rattle.dp_tree.specs.declared.Stmt.TheViews.{outs-Call}
-use Rattle.dp_calls.proofs.Relation.{Env, file_count, Laid, IsEnv, Nested, Binds, bound, binds, Block, Todo, Held, Agree, Room}
+use Rattle.dp_calls.proofs.Relation.{Env, file_count, Laid, Binds, bound, binds, Todo, Held, Agree, Room}
 use Rattle.dp_calls.proofs.SameValues.{sees_one}
 use Rattle.dp_calls.proofs.Visible.{own_at}
-use Rattle.dp_calls.proofs.Written.{own_memory, locals_set, cells_set, room_set, held_here, held_set, keeps_set}
-use Rattle.dp_calls.proofs.Stacks.{Suits, Stack, bottom, over, Ready, Filling, Sim, Alike, agree_kept, keeps_wider, stack_kept}
+use Rattle.dp_calls.proofs.Written.{own_memory, room_set, held_here, held_set, keeps_set}
+use Rattle.dp_calls.proofs.Stacks.{Suits, Stack, over, Ready, Filling, Sim, Alike, agree_kept, keeps_wider, stack_kept}
 use Rattle.dp_calls.proofs.Effects.{values}
 use Rattle.dp_calls.proofs.Settles.{Settles, block_todo, settles_running, settles_binding}
-use Rattle.dp_calls.proofs.Acting.{StepsAlike, both_end, both_fault, both_go}
+use Rattle.dp_calls.proofs.Acting.{StepsAlike, both_fault, both_go}
 
 -- the element behind a list
 slice_get_behind : {X : Type 0} (before : List X) (x : X) (after : List X) (n : ℕ) → n ≡ length before → slice_get (before ++ x ∷ after) n ≡ Some x
@@ -80,8 +80,8 @@ module _ (p q : Program) where
     callee_agrees w seen =
         let first : sees (x.0 ∷ seen_behind_params (global_numbers p) filling.before) w ≡ true = ap (λ (v : List ℕ). sees v w) (sym (seen_behind_one (global_numbers p) filling.before x)) ∙ seen in
         elim (sees_one x.0 (seen_behind_params (global_numbers p) filling.before) w first) [
-            inl is ↦ subst (λ (n : ℕ). Held p q g (slice_set f.callee (x.0 - file_count p) z) (slice_set h (y - file_count p) z) n) is (held_here p q g filling.env laid f.callee h filling.room x y named z)
-            | inr before ↦ held_set p q g filling.env laid f.callee h filling.room x y named z w.0 (filling.agree w before)
+          | inl is ↦ subst (λ (n : ℕ). Held p q g (slice_set f.callee (x.0 - file_count p) z) (slice_set h (y - file_count p) z) n) is (held_here p q g filling.env laid f.callee h filling.room x y named z)
+          | inr before ↦ held_set p q g filling.env laid f.callee h filling.room x y named z w.0 (filling.agree w before)
         ]
 
     callee_room : Room p q callee_set own_set
@@ -105,18 +105,18 @@ module _ (p q : Program) where
         Settles p q laid own_set (settled p (call_frames p f below statements k line values_left callee_set)) (later ++ (body ++ (own ++ rest)))
     bound_settles bound parameters =
         let caller : Suits p q e visible (record f { to_do = statements; callee = fresh p }) own own_set = record {
-            env = ready.env;
-            todo = todo;
-            agree = caller_agrees;
-            room = (ready.room.0, callee_room.1);
-            callee = refl;
+          env = ready.env;
+          todo = todo;
+          agree = caller_agrees;
+          room = (ready.room.0, callee_room.1);
+          callee = refl;
         } in
         let called : Suits p q g (seen_behind_params (global_numbers p) (params_in (slice_get p.functions k))) (record (new_frame p (body_in (slice_get p.functions k))) { locals = callee_set }) body own_set = record {
-            env = filling.env;
-            todo = block_todo p q laid filling.block;
-            agree = subst (λ (ps : List VarId). Agree p q g (seen_behind_params (global_numbers p) ps) callee_set own_set) (sym parameters) callee_agrees;
-            room = callee_room;
-            callee = refl;
+          env = filling.env;
+          todo = block_todo p q laid filling.block;
+          agree = subst (λ (ps : List VarId). Agree p q g (seen_behind_params (global_numbers p) ps) callee_set own_set) (sym parameters) callee_agrees;
+          room = callee_room;
+          callee = refl;
         } in
         settles_running p q laid called (over caller filling.nested caller_stack refl)
     bound_settles (binds {x = w} {a = v} {s = t} {params = params} {args = args} {code = later} is line_is known named_later pairs) parameters =
@@ -127,15 +127,15 @@ module _ (p q : Program) where
         (record { env = ready.env; agree = caller_agrees; room = (ready.room.0, callee_room.1); stack = caller_stack })
         refl (outs-Call k line (v ∷ args))
         (record {
-            env = filling.env;
-            nested = filling.nested;
-            calls = filling.calls;
-            before = filling.before ++ x ∷ [];
-            parameters = parameters ∙ sym (append_assoc filling.before (x ∷ []) (w ∷ params));
-            agree = callee_agrees;
-            room = callee_room;
-            binds = binds is line_is known named_later pairs;
-            block = filling.block;
+          env = filling.env;
+          nested = filling.nested;
+          calls = filling.calls;
+          before = filling.before ++ x ∷ [];
+          parameters = parameters ∙ sym (append_assoc filling.before (x ∷ []) (w ∷ params));
+          agree = callee_agrees;
+          room = callee_room;
+          binds = binds is line_is known named_later pairs;
+          block = filling.block;
         })
         todo)
 
@@ -149,10 +149,10 @@ module _ (p q : Program) where
         subst (λ (m : List ℤ). Alike p q (record { globals = globals; frames = settled p (call_frames p f below statements k line args m) }) (standing q code (slice_set (globals ++ h) (first_cell q (target_of g.names x)) z))) (sym (bound_is (binds_long pairs)))
         (subst (λ (m : List ℤ). Alike p q (record { globals = globals; frames = settled p (call_frames p f below statements k line args callee_set) }) (standing q code m)) (sym (memory_is globals whole))
         (record {
-            own = s.own;
-            whole = whole;
-            cells = s.stands globals whole;
-            sim = subst (λ (xs : List Stmt). Sim p q s.own (settled p (call_frames p f below statements k line args callee_set)) xs) (sym (standing_to_do q code (globals ++ own_set))) s.sim;
+          own = s.own;
+          whole = whole;
+          cells = s.stands globals whole;
+          sim = subst (λ (xs : List Stmt). Sim p q s.own (settled p (call_frames p f below statements k line args callee_set)) xs) (sym (standing_to_do q code (globals ++ own_set))) s.sim;
         }))
 
   -- the step of an argument and that of its binding

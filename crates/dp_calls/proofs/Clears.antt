@@ -1,13 +1,11 @@
 -- Where a region stands at the head its body locals are cleared, and nothing else.
-use Rattle.std.proofs.Common.{◌≡◌, ◌⊎◌, inl, inr, refl, sym, ap, ap₂, ◌∙◌, subst, ℕ, zero, suc, ◌+◌, ◌-◌, ◌<◌, ◌≤◌, Bool, true, false, if◌then◌else◌, List, [], ◌∷◌, ◌++◌, ℤ, pos, length, get_or, Option, Some, None, slice_get, slice_set, arith, get_or-set_other}
+use Rattle.std.proofs.Common.{◌≡◌, refl, sym, ap, ◌∙◌, ℕ, suc, ◌+◌, ◌-◌, ◌≤◌, Bool, true, false, if◌then◌else◌, List, [], ◌∷◌, ◌++◌, ℤ, pos, length, get_or, Some, slice_get, slice_set, arith, get_or-set_other}
 use Rattle.std.proofs.lemmas.List.{length-set, set-append_right}
-use Rattle.dp_base.specs.declared.VarId.{VarId}
 use Rattle.dp_tree.specs.declared.VarInfo.{VarInfo}
 use Rattle.dp_tree.specs.declared.VarScope.{VarScope}
 use Rattle.dp_tree.specs.declared.VarScope.TheVariants.{Global, Outer, Body}
 use Rattle.dp_tree.specs.declared.Program.{Program}
 use Rattle.dp_tree.specs.Globals.{is_global_scope}
-use Rattle.dp_tree.specs.Scoping.{sees}
 use Rattle.dp_tree.specs.Step.{is_local_of, clear_locals}
 use Rattle.dp_calls.specs.Renaming.{named_in}
 use Rattle.dp_calls.proofs.Relation.{Env, PlaceOf, file, own, file_count, IsEnv, Quiet, is_quiet, Held, held, Agree}
@@ -80,10 +78,10 @@ module _ (count cells : ℕ) (vars : List VarInfo) (lies : (k : ℕ) (info : Var
   unfolding Others
   quiet_clears x l behind quiet =
       other_cleared cells r (x - count) vars l (λ k info at is same.
-          let w = own_first k info is (lies k info at) in
-          let one : k ≡ x = omega (arith, same, w.0, w.1, behind) in
-          let clash : true ≡ false = sym is ∙ sym (ap (is_quiet r) at) ∙ ap (λ (n : ℕ). is_quiet r (slice_get vars n)) one ∙ quiet in
-          absurd (cc clash))
+      let w = own_first k info is (lies k info at) in
+      let one : k ≡ x = omega (arith, same, w.0, w.1, behind) in
+      let clash : true ≡ false = sym is ∙ sym (ap (is_quiet r) at) ∙ ap (λ (n : ℕ). is_quiet r (slice_get vars n)) one ∙ quiet in
+      absurd (cc clash))
 
 module _ (p q : Program) (e : Env) (env : IsEnv p q e) where
   quiet_held : (r : ℕ) (l m h k : List ℤ) (x : ℕ) → Held p q e l h x →

@@ -1,24 +1,22 @@
 -- An assignment in the expanded text, and the variable that it may declare.
-use Rattle.std.proofs.Common.{◌≡◌, ◌⊎◌, inl, inr, refl, sym, ap, ap₂, ◌∙◌, subst, ℕ, zero, suc, ◌+◌, ◌-◌, ◌<◌, ◌≤◌, ◌==◌, Bool, true, false, ◌&&◌, ◌||◌, if◌then◌else◌, List, [], ◌∷◌, ◌++◌, length, Option, Some, None, slice_get, arith}
+use Rattle.std.proofs.Common.{◌≡◌, ◌⊎◌, inl, inr, refl, sym, ap, ap₂, ◌∙◌, subst, ℕ, ◌<◌, ◌≤◌, Bool, true, false, ◌&&◌, ◌||◌, if◌then◌else◌, List, ◌∷◌, length, Option, Some, None, slice_get, arith}
 use Rattle.dp_base.specs.declared.SiteId.{SiteId}
 use Rattle.dp_base.specs.declared.VarId.{VarId}
 use Rattle.dp_tree.specs.declared.Expr.{Expr}
-use Rattle.dp_tree.specs.declared.Stmt.{Stmt, out-Stmt}
 use Rattle.dp_tree.specs.declared.Stmt.TheViews.{outs-Assign}
 use Rattle.dp_tree.specs.declared.Stmt.TheVariants as stmt
 use Rattle.dp_tree.specs.declared.Stmt.TheOpen.{Assign}
 use Rattle.dp_tree.specs.declared.VarInfo.{VarInfo}
 use Rattle.dp_tree.specs.declared.Program.{Program}
-use Rattle.dp_tree.specs.Globals.{is_global_scope}
 use Rattle.dp_tree.specs.Scoping.{sees, knows, is_scope_in, is_declared_in}
 use Rattle.dp_calls.specs.Frame.{global_count}
-use Rattle.dp_calls.specs.Renaming.{Renamed, named_in, target_or, target_of, renamed}
+use Rattle.dp_calls.specs.Renaming.{Renamed, named_in, target_of, renamed}
 use Rattle.dp_calls.specs.Tables.{Tables, with_local, with_source_site, next_site}
 use Rattle.dp_calls.specs.Expand.{Piece, nothing, is_global, is_known, declared_by, declared_in, assigned}
 use Rattle.dp_calls.proofs.Relation.{Env, PlaceOf, file, own, file_count, Declares, known, new, One, act, assigns}
-use Rattle.dp_calls.proofs.SameValues.{sees_one, or_true}
+use Rattle.dp_calls.proofs.SameValues.{sees_one}
 use Rattle.dp_calls.proofs.Visible.{element_there}
-use Rattle.dp_calls.proofs.Tabled.{Grows, grows_not, grows_on, grows_source_site, grows_local, Lies, lies_local, moved}
+use Rattle.dp_calls.proofs.Tabled.{grows_not, grows_on, grows_source_site, grows_local, Lies, lies_local, moved}
 use Rattle.dp_calls.proofs.Named.{NamesOk, names_grow, names_local, names_as, named_new, Steps, steps_not, steps_one, Seen, seen_steps}
 use Rattle.dp_calls.proofs.Made.{Closes, closes_before, Made, target_by, same_target, same_renamed, source_line, is_listed}
 use Rattle.dp_calls.proofs.Passed.{Local, local_of, scope_local}
@@ -52,23 +50,25 @@ module _ (p q : Program) (places : (x : ℕ) (info : VarInfo) → slice_get p.va
 
     seen_here : (now : List Renamed) → (y : ℕ) → named_in now x.0 ≡ Some y → Seen p visible now → Seen p (x.0 ∷ visible) now
     seen_here now y named before w at = elim (sees_one x.0 visible w at) [
-        inl is ↦ inr (y, subst (λ (n : ℕ). named_in now n ≡ Some y) is named)
-        | inr old ↦ before w old
+      | inl is ↦ inr (y, subst (λ (n : ℕ). named_in now n ≡ Some y) is named)
+      | inr old ↦ before w old
     ]
 
     declared_new : Local p places scope x.0 → named_in names x.0 ≡ None → Declaring visible x (x.0 ∷ visible) names t (nothing (names_as x.0 (length t.vars) ∷ names) (with_local p r x.0 t))
     declared_new l free =
         let now : List Renamed = names_as x.0 (length t.vars) ∷ names in
         let steps : Steps names (length t.vars) now = steps_one names x.0 (length t.vars) free in
-        let named : named_in now x.0 ≡ Some (length t.vars) = named_new x.0 (length t.vars) names in
-        (record {
+        let named : named_in now x.0 ≡ Some (length t.vars) = named_new x.0 (length t.vars) names in (
+          record {
             grows = grows_local p r x.0 t;
             lies = lies_local p r x.0 t l.info l.at l.one lies;
             named = names_local p linked low r x.0 names t l.info l.at l.behind (link l.info t.cells l.scope) free ok;
             steps = steps;
             seen = seen_here now (length t.vars) named (seen_steps p visible steps seen);
             becomes = λ e closes. new (length t.vars) (closes.ends.stable x.0 (length t.vars) named);
-        }, inr (length t.vars, named))
+          },
+          inr (length t.vars, named),
+        )
 
     declared_by_scope : (b : Bool) → sees visible x ≡ b → (o : Option ℕ) → named_in names x.0 ≡ o → (b || is_declared_in scope (slice_get p.vars x.0)) ≡ true →
         Declaring visible x (if b then visible else x.0 ∷ visible) names t (declared_by (is_known p o x.0) p r x.0 names t)
@@ -112,7 +112,7 @@ module _ (p q : Program) (places : (x : ℕ) (info : VarInfo) → slice_get p.va
             (let before = closes_before p q low calls e made.grows made.steps closes in
             let here : SiteId = next_site t in
             let target : target_of d.names x ≡ target_of e.names x =
-                target_by p d.names e.names (length d.tables.vars) x closes.ends (λ y at. (made.named.source x.0 y at).0) (λ y at. closes.files x.0 y at) found in
+            target_by p d.names e.names (length d.tables.vars) x closes.ends (λ y at. (made.named.source x.0 y at).0) (λ y at. closes.files x.0 y at) found in
             let value : renamed names v ≡ renamed e.names v = final_renamed visible names (with_source_site p r site t) e (names_sited site names t ok) seen before v known_v in
             act (assigns (outs-Assign site x v)
             (outs-Assign here (target_of d.names x) (renamed names v) ∙ ap₂ (λ (y : VarId) (w : Expr). Assign here y w) target value)
@@ -122,7 +122,7 @@ module _ (p q : Program) (places : (x : ℕ) (info : VarInfo) → slice_get p.va
   pub assigned_made : (site : SiteId) (x : VarId) (v : Expr) (visible : List ℕ) (names : List Renamed) (t : Tables) → (knows visible v && (sees visible x || is_declared_in scope (slice_get p.vars x.0))) ≡ true → is_listed p site.0 ≡ true →
       NamesOk p linked low names t → Lies p t → Seen p visible names →
       Made p q linked low calls names t (if sees visible x then visible else x.0 ∷ visible) (assigned (next_site t) x (renamed names v) (declared_in p r x.0 names (with_source_site p r site t)))
-          (λ e. One p q e visible (if sees visible x then visible else x.0 ∷ visible) (stmt.Assign site x v) (assigned (next_site t) x (renamed names v) (declared_in p r x.0 names (with_source_site p r site t))).code)
+      (λ e. One p q e visible (if sees visible x then visible else x.0 ∷ visible) (stmt.Assign site x v) (assigned (next_site t) x (renamed names v) (declared_in p r x.0 names (with_source_site p r site t))).code)
   assigned_made site x v visible names t scoped listed ok lies seen =
       let both = Rattle.dp_tree.proofs.Heads.and_true (knows visible v) (sees visible x || is_declared_in scope (slice_get p.vars x.0)) scoped in
       assigned_as site x v visible (if sees visible x then visible else x.0 ∷ visible) names t (declared_in p r x.0 names (with_source_site p r site t)) both.0 listed ok seen

@@ -1,22 +1,20 @@
 -- A statement and the one that stands for it evaluate alike: the same fault, or effects that leave the same values.
-use Rattle.std.proofs.Common.{◌≡◌, ◌⊎◌, inl, inr, refl, sym, ap, ap₂, ◌∙◌, subst, ℕ, zero, suc, ◌+◌, ◌-◌, ◌<◌, ◌≤◌, Bool, true, false, if◌then◌else◌, List, [], ◌∷◌, ◌++◌, ℤ, pos, negsuc, length, get_or, Option, Some, None, slice_set, Result, Ok, Err, nat_lt, arith, ltb-true}
+use Rattle.std.proofs.Common.{◌≡◌, refl, subst, ℕ, ◌+◌, ◌<◌, Bool, true, false, if◌then◌else◌, List, [], ◌∷◌, ◌++◌, ℤ, pos, negsuc, length, slice_set, Result, Ok, Err, nat_lt, arith, ltb-true}
 use Rattle.dp_base.specs.declared.FaultKind.{FaultKind}
 use Rattle.dp_base.specs.declared.FaultKind.TheVariants.{Index}
 use Rattle.dp_base.specs.declared.VarId.{VarId}
 use Rattle.dp_tree.specs.declared.Expr.{Expr}
-use Rattle.dp_tree.specs.declared.Stmt.{Stmt, out-Stmt}
-use Rattle.dp_tree.specs.declared.Stmt.TheOpen.{Stmt-F, Assign, Store, Print, If, While, Region, Call}
 use Rattle.dp_tree.specs.declared.Program.{Program}
 use Rattle.dp_tree.specs.Eval.{Load, WithLoads, Evaluated, just, after_loads, and_then, place, eval, first_cell, cell_count, result_of}
 use Rattle.dp_tree.specs.Event.{Effect, Stored, Printed, Decided, value_of, stored}
-use Rattle.dp_tree.specs.Step.{evaluated, decided}
+use Rattle.dp_tree.specs.Step.{decided}
 use Rattle.dp_tree.specs.Trace.{printed_by}
 use Rattle.dp_tree.specs.Scoping.{sees, knows}
 use Rattle.dp_calls.specs.Frame.{global_count}
-use Rattle.dp_calls.specs.Renaming.{named_in, target_of, renamed}
-use Rattle.dp_calls.proofs.Relation.{Env, file_count, Laid, IsEnv, Declares, known, new, Held, file, held, Agree, Room}
-use Rattle.dp_calls.proofs.SameValues.{ReadsSame, same_value, sees_more}
-use Rattle.dp_calls.proofs.Visible.{reads_visible, file_at, own_at}
+use Rattle.dp_calls.specs.Renaming.{target_of, renamed}
+use Rattle.dp_calls.proofs.Relation.{Env, Laid, IsEnv, Declares, known, new, Held, file, held, Agree, Room}
+use Rattle.dp_calls.proofs.SameValues.{same_value, sees_more}
+use Rattle.dp_calls.proofs.Visible.{reads_visible, own_at}
 use Rattle.dp_calls.proofs.Written.{After, unchanged, file_stored, own_stored, fewer}
 
 -- two effects with the same value and print, after which a relation holds of the memories

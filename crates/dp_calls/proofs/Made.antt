@@ -1,5 +1,5 @@
 -- What is so of a piece of expanded text, and of each program that it ends in.
-use Rattle.std.proofs.Common.{◌≡◌, ◌⊎◌, inl, inr, refl, sym, ap, ap₂, ◌∙◌, subst, ℕ, suc, ◌+◌, ◌-◌, ◌<◌, ◌≤◌, Bool, true, false, ◌&&◌, List, [], ◌∷◌, ◌++◌, length, Option, Some, None, slice_get, nat_lt, arith, ltb-true}
+use Rattle.std.proofs.Common.{◌≡◌, ◌⊎◌, inl, inr, refl, sym, ap, ap₂, ◌∙◌, ℕ, suc, ◌-◌, ◌<◌, ◌≤◌, Bool, true, List, ◌++◌, length, Option, Some, None, slice_get, nat_lt, arith, ltb-true}
 use Rattle.dp_base.specs.declared.SiteId.{SiteId}
 use Rattle.dp_base.specs.declared.VarId.{VarId}
 use Rattle.dp_tree.specs.declared.Expr.{Expr, end_of-Expr, more_of-Expr}
@@ -100,7 +100,7 @@ module _ (p q : Program) where
   entry_line r site t info at into =
       let entry : SiteInfo = record info { region = r } in
       let there : slice_get (with_source_site p r site t).sites (length t.sites) ≡ Some entry =
-          ap (λ (o : Option SiteInfo). slice_get (t.sites ++ site_in o r) (length t.sites)) at ∙ get_last t.sites entry in
+      ap (λ (o : Option SiteInfo). slice_get (t.sites ++ site_in o r) (length t.sites)) at ∙ get_last t.sites entry in
       next_place q t entry (into.sites (length t.sites) entry there) ∙ sym (ap line_in at)
 
   -- the site of a statement keeps its line

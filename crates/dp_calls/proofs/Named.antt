@@ -1,5 +1,5 @@
 -- The names of a call while its text is expanded: each new one stands for the next variable.
-use Rattle.std.proofs.Common.{◌≡◌, ◌⊎◌, inl, inr, refl, sym, ap, ◌∙◌, subst, ℕ, suc, ◌+◌, ◌-◌, ◌<◌, ◌≤◌, ◌==◌, Bool, true, false, if◌then◌else◌, List, [], ◌∷◌, ◌++◌, length, Option, Some, None, slice_get, arith, eqb-true, eq-eqb}
+use Rattle.std.proofs.Common.{◌≡◌, ◌⊎◌, inl, inr, refl, sym, ap, ◌∙◌, subst, ℕ, ◌<◌, ◌≤◌, ◌==◌, Bool, true, false, if◌then◌else◌, List, [], ◌∷◌, length, Option, Some, None, slice_get, arith, eqb-true, eq-eqb}
 use Rattle.std.proofs.lemmas.Option.{same_Some, slice_get_within}
 use Rattle.dp_base.specs.declared.VarId.{VarId}
 use Rattle.dp_tree.specs.declared.VarInfo.{VarInfo}
@@ -92,31 +92,31 @@ module _ (p : Program) (linked : Option VarInfo → Option VarInfo → Type 0) (
       let long = local_length p r x t info at in
       let old = names_grow (grows_local p r x t) ok in
       let entry : slice_get (with_local p r x t).vars (length t.vars) ≡ Some (moved info t.cells r) =
-          ap (λ (vs : List VarInfo). slice_get vs (length t.vars)) (local_vars p r x t info at) ∙ get_last t.vars (moved info t.cells r) in
+      ap (λ (vs : List VarInfo). slice_get vs (length t.vars)) (local_vars p r x t info at) ∙ get_last t.vars (moved info t.cells r) in
       record {
         source = λ a y named. elim (named_cons x (length t.vars) names a y named) [
-            inl both ↦ (let within : x < length p.vars = slice_get_within p.vars x info at in (omega (arith, behind, both.0), omega (arith, within, both.0)))
-            | inr before ↦ ok.source a y before
+          | inl both ↦ (let within : x < length p.vars = slice_get_within p.vars x info at in (omega (arith, behind, both.0), omega (arith, within, both.0)))
+          | inr before ↦ ok.source a y before
         ];
         target = λ a y named. elim (named_cons x (length t.vars) names a y named) [
-            inl both ↦ (omega (arith, ok.begun, both.1), omega (arith, long, both.1))
-            | inr before ↦ old.target a y before
+          | inl both ↦ (omega (arith, ok.begun, both.1), omega (arith, long, both.1))
+          | inr before ↦ old.target a y before
         ];
         apart = λ a b y one other. elim (named_cons x (length t.vars) names a y one) [
-            inl both ↦ elim (named_cons x (length t.vars) names b y other) [
-                inl also ↦ sym both.0 ∙ also.0
-                | inr before ↦ (let less = (ok.target b y before).1 in absurd (omega (arith, both.1, less)))
-            ]
-            | inr before ↦ elim (named_cons x (length t.vars) names b y other) [
-                inl also ↦ (let less = (ok.target a y before).1 in absurd (omega (arith, also.1, less)))
-                | inr there ↦ ok.apart a b y before there
-            ]
+          | inl both ↦ elim (named_cons x (length t.vars) names b y other) [
+            | inl also ↦ sym both.0 ∙ also.0
+            | inr before ↦ (let less = (ok.target b y before).1 in absurd (omega (arith, both.1, less)))
+          ]
+          | inr before ↦ elim (named_cons x (length t.vars) names b y other) [
+            | inl also ↦ (let less = (ok.target a y before).1 in absurd (omega (arith, also.1, less)))
+            | inr there ↦ ok.apart a b y before there
+          ]
         ];
         link = λ a y named. elim (named_cons x (length t.vars) names a y named) [
-            inl both ↦ subst (λ (n : ℕ). linked (slice_get p.vars n) (slice_get (with_local p r x t).vars y)) both.0
-                (subst (λ (n : ℕ). linked (slice_get p.vars x) (slice_get (with_local p r x t).vars n)) both.1
-                (subst (λ (o : Option VarInfo). linked o (slice_get (with_local p r x t).vars (length t.vars))) (sym at) (subst (λ (o : Option VarInfo). linked (Some info) o) (sym entry) link)))
-            | inr before ↦ old.link a y before
+          | inl both ↦ subst (λ (n : ℕ). linked (slice_get p.vars n) (slice_get (with_local p r x t).vars y)) both.0
+              (subst (λ (n : ℕ). linked (slice_get p.vars x) (slice_get (with_local p r x t).vars n)) both.1
+              (subst (λ (o : Option VarInfo). linked o (slice_get (with_local p r x t).vars (length t.vars))) (sym at) (subst (λ (o : Option VarInfo). linked (Some info) o) (sym entry) link)))
+          | inr before ↦ old.link a y before
         ];
         begun = old.begun;
       }

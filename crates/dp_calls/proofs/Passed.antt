@@ -1,5 +1,5 @@
 -- The bindings of a call's arguments in the expanded text.
-use Rattle.std.proofs.Common.{◌≡◌, ◌⊎◌, inl, inr, refl, sym, ap, ap₂, ◌∙◌, subst, ℕ, zero, suc, ◌+◌, ◌-◌, ◌<◌, ◌≤◌, ◌==◌, Bool, true, false, not, ◌&&◌, List, [], ◌∷◌, ◌++◌, length, Option, Some, None, slice_get, arith, eqb-true, eq-eqb}
+use Rattle.std.proofs.Common.{◌≡◌, inl, inr, refl, sym, ap, ap₂, ◌∙◌, subst, ℕ, zero, suc, ◌≤◌, Bool, true, false, not, ◌&&◌, List, [], ◌∷◌, length, Option, Some, None, slice_get, arith}
 use Rattle.std.specs.List.{list_all}
 use Rattle.dp_base.specs.declared.SiteId.{SiteId}
 use Rattle.dp_base.specs.declared.VarId.{VarId}
@@ -7,7 +7,7 @@ use Rattle.dp_tree.specs.declared.Expr.{Expr}
 use Rattle.dp_tree.specs.declared.Stmt.{Stmt, out-Stmt}
 use Rattle.dp_tree.specs.declared.Stmt.TheViews.{outs-Assign}
 use Rattle.dp_tree.specs.declared.Stmt.TheVariants as stmt
-use Rattle.dp_tree.specs.declared.Stmt.TheOpen.{Stmt-F, Assign}
+use Rattle.dp_tree.specs.declared.Stmt.TheOpen.{Assign}
 use Rattle.dp_tree.specs.declared.VarInfo.{VarInfo}
 use Rattle.dp_tree.specs.declared.VarScope.{VarScope}
 use Rattle.dp_tree.specs.declared.VarScope.TheVariants.{Global, Outer, Body}
@@ -23,9 +23,9 @@ use Rattle.dp_calls.specs.Expand.{bindings}
 use Rattle.dp_tree.proofs.Heads.{and_true}
 use Rattle.dp_calls.proofs.Relation.{Env, PlaceOf, file, own, file_count, Binds, bound, binds}
 use Rattle.dp_calls.proofs.SameValues.{sees_one, sees_new, sees_more}
-use Rattle.dp_calls.proofs.Tabled.{Grows, grows_not, grows_on, grows_site, grows_local, Lies, lies_local, local_length}
+use Rattle.dp_calls.proofs.Tabled.{Grows, grows_not, grows_on, grows_site, grows_local, Lies, lies_local}
 use Rattle.dp_calls.proofs.Named.{NamesOk, names_grow, names_local, names_as, named_cons, named_new, Steps, steps_not, steps_on, steps_one, Seen, seen_steps}
-use Rattle.dp_calls.proofs.Made.{Closes, closes_before, Made, binding_line}
+use Rattle.dp_calls.proofs.Made.{closes_before, Made, binding_line}
 
 -- a local of a region, or of none, is no file-scope variable
 pub scope_local : (r : ℕ) (scope : VarScope) → is_scope_in r scope ≡ true → is_global_scope scope ≡ false
@@ -86,10 +86,10 @@ module _ (p q : Program) (places : (x : ℕ) (info : VarInfo) → slice_get p.va
       slice_get p.vars x.0 ≡ Some info → knows known a ≡ true →
       NamesOk p Any low names t → Lies p t → named_in names x.0 ≡ None → Local p places 0 x.0 →
       Made p q Any low calls (names_as x.0 (length t.vars) ∷ names) (with_local p r x.0 (with_site info_of t)) (seen_behind_params (x.0 ∷ visible) params)
-          (bindings p r line caller params args (names_as x.0 (length t.vars) ∷ names) (with_local p r x.0 (with_site info_of t)))
-          (Passes params args (bindings p r line caller params args (names_as x.0 (length t.vars) ∷ names) (with_local p r x.0 (with_site info_of t))).code) →
+      (bindings p r line caller params args (names_as x.0 (length t.vars) ∷ names) (with_local p r x.0 (with_site info_of t)))
+      (Passes params args (bindings p r line caller params args (names_as x.0 (length t.vars) ∷ names) (with_local p r x.0 (with_site info_of t))).code) →
       Made p q Any low calls names t (seen_behind_params visible (x ∷ params)) (bindings p r line caller (x ∷ params) (a ∷ args) names t)
-          (Passes (x ∷ params) (a ∷ args) (bindings p r line caller (x ∷ params) (a ∷ args) names t).code)
+      (Passes (x ∷ params) (a ∷ args) (bindings p r line caller (x ∷ params) (a ∷ args) names t).code)
   one_passed x a params args visible names t info at is_known ok lies free declared made =
       let t' : Tables = with_local p r x.0 (with_site info_of t) in
       let now : List Renamed = names_as x.0 (length t.vars) ∷ names in
@@ -108,7 +108,7 @@ module _ (p q : Program) (places : (x : ℕ) (info : VarInfo) → slice_get p.va
             let named : named_in g.names x.0 ≡ Some (length t.vars) = here.ends.stable x.0 (length t.vars) (named_new x.0 (length t.vars) names) in
             let last : target_of g.names x ≡ record { 0 = length t.vars } = ap (λ (o : Option ℕ). target_or o x.0) named in
             let head : out-Stmt (stmt.Assign site (target_of now x) (renamed caller a)) ≡ Assign site (target_of g.names x) (renamed e.names a) =
-                outs-Assign site (target_of now x) (renamed caller a) ∙ ap₂ (λ (y : VarId) (v : Expr). Assign site y v) (first ∙ sym last) (final a is_known) in
+            outs-Assign site (target_of now x) (renamed caller a) ∙ ap₂ (λ (y : VarId) (v : Expr). Assign site y v) (first ∙ sym last) (final a is_known) in
             binds head (binding_line p q info_of t (grows_on (grows_local p r x.0 (with_site info_of t)) here.into)) is_known named (made.becomes g closes e final));
       }
 
@@ -136,10 +136,10 @@ module _ (p q : Program) (places : (x : ℕ) (info : VarInfo) → slice_get p.va
       (names_local p Any low r x.0 names (with_site info_of t) declared.info declared.at declared.behind tt free sited)
       (lies_local p r x.0 (with_site info_of t) declared.info declared.at declared.one level)
       (λ w at. elim (sees_one x.0 visible w at) [
-          inl is ↦ inr (length t.vars, subst (λ (n : ℕ). named_in now n ≡ Some (length t.vars)) is (named_new x.0 (length t.vars) names))
-          | inr before ↦ seen_steps p visible stepped seen w before
+        | inl is ↦ inr (length t.vars, subst (λ (n : ℕ). named_in now n ≡ Some (length t.vars)) is (named_new x.0 (length t.vars) names))
+        | inr before ↦ seen_steps p visible stepped seen w before
       ])
       (λ w y at. elim (named_cons x.0 (length t.vars) names w.0 y at) [
-          inl is ↦ sees_new x.0 visible w is.0
-          | inr before ↦ sees_more x.0 visible w (only w y before)
+        | inl is ↦ sees_new x.0 visible w is.0
+        | inr before ↦ sees_more x.0 visible w (only w y before)
       ]))

@@ -1,10 +1,10 @@
 -- What the statements of a text become in the expanded text.
-use Rattle.std.proofs.Common.{◌≡◌, ◌⊎◌, inl, inr, refl, sym, ap, ap₂, ◌∙◌, subst, ℕ, zero, suc, ◌+◌, ◌-◌, ◌<◌, ◌≤◌, ◌==◌, Bool, true, false, ◌&&◌, ◌||◌, if◌then◌else◌, List, [], ◌∷◌, ◌++◌, length, Option, Some, None, slice_get, nat_lt, arith, ltb-true, eqb-true}
+use Rattle.std.proofs.Common.{◌≡◌, inl, inr, refl, ap, ap₂, ◌∙◌, ℕ, ◌+◌, ◌<◌, ◌≤◌, ◌==◌, Bool, true, ◌&&◌, List, [], ◌∷◌, ◌++◌, length, Option, Some, slice_get, nat_lt, arith, ltb-true, eqb-true}
 use Rattle.std.specs.List.{list_all}
 use Rattle.dp_base.specs.declared.SiteId.{SiteId}
 use Rattle.dp_base.specs.declared.VarId.{VarId}
 use Rattle.dp_tree.specs.declared.Expr.{Expr}
-use Rattle.dp_tree.specs.declared.Stmt.{Stmt, Row_of-Stmt, end_of-Stmt, more_of-Stmt, out-Stmt}
+use Rattle.dp_tree.specs.declared.Stmt.{Stmt, Row_of-Stmt, end_of-Stmt, more_of-Stmt}
 use Rattle.dp_tree.specs.declared.Stmt.TheViews.{outs-Store, outs-Print, outs-If, outs-If', outs-While, outs-While', outs-Call}
 use Rattle.dp_tree.specs.declared.Stmt.TheVariants as stmt
 use Rattle.dp_tree.specs.declared.Stmt.TheOpen.{Store, Print, If, While}
@@ -12,9 +12,9 @@ use Rattle.dp_tree.specs.declared.VarInfo.{VarInfo}
 use Rattle.dp_tree.specs.declared.Program.{Program}
 use Rattle.dp_tree.specs.Functions.{body_in, params_in}
 use Rattle.dp_tree.specs.Numbering.{site_numbers, site_numbers_in, site_numbers_all, is_plain, is_plain_in}
-use Rattle.dp_tree.specs.Scoping.{sees, knows, is_scope_in, is_declared_in, seen_behind, in_scope, rows_in_scope, all_in_scope, params_in_scope, seen_behind_params, global_numbers}
+use Rattle.dp_tree.specs.Scoping.{sees, knows, is_scope_in, seen_behind, in_scope, rows_in_scope, all_in_scope, params_in_scope, seen_behind_params, global_numbers}
 use Rattle.dp_calls.specs.Frame.{global_count}
-use Rattle.dp_calls.specs.Renaming.{Renamed, named_in, target_of, renamed}
+use Rattle.dp_calls.specs.Renaming.{Renamed, target_of, renamed}
 use Rattle.dp_calls.specs.Tables.{Tables, with_source_site, next_site}
 use Rattle.dp_calls.specs.Expand.{Piece, nothing, alone, inside, followed_by, Calls, bindings, back_to, expand_one, expand_rows, expand_list}
 use Rattle.dp_tree.proofs.Heads.{and_true}
@@ -22,7 +22,7 @@ use Rattle.dp_calls.proofs.InnerTexts.{texts, shown_texts}
 use Rattle.dp_calls.proofs.Relation.{Env, PlaceOf, file_count, IsEnv, Nested, One, act, call, Block, done, more, stores, prints, branches, loops}
 use Rattle.dp_calls.proofs.SameValues.{numbers_below}
 use Rattle.dp_calls.proofs.Tabled.{Grows, grows_not, grows_on, grows_source_site, Lies, moved}
-use Rattle.dp_calls.proofs.Named.{NamesOk, names_grow, names_none, Steps, steps_not, steps_on, Seen, seen_steps}
+use Rattle.dp_calls.proofs.Named.{NamesOk, names_grow, names_none, steps_not, steps_on, Seen, seen_steps}
 use Rattle.dp_calls.proofs.Made.{Closes, closes_before, Made, same_target, source_line, is_listed}
 use Rattle.dp_calls.proofs.Passed.{Any, passed}
 use Rattle.dp_calls.proofs.Declared.{lies_sited, names_sited, final_renamed, assigned_made}
@@ -79,17 +79,17 @@ module _ (p q : Program) (places : (x : ℕ) (info : VarInfo) → slice_get p.va
         OneMade visible names t visible (stmt.Store site x i v) (alone (stmt.Store (next_site t) (target_of names x) (renamed names i) (renamed names v)) (nothing names sited))
     store_made x i v sees_x known_i known_v =
         simple_made (stmt.Store site x i v) (stmt.Store (next_site t) (target_of names x) (renamed names i) (renamed names v)) (λ e closes.
-            (let target = same_target p q linked low n names sited e names_in_sited closes visible seen x sees_x in
-            act (stores (outs-Store site x i v)
-            (outs-Store (next_site t) (target_of names x) (renamed names i) (renamed names v)
-            ∙ ap (λ (y : VarId). Store (next_site t) y (renamed names i) (renamed names v)) target
-            ∙ ap₂ (λ (a b : Expr). Store (next_site t) (target_of e.names x) a b) (final e closes i known_i) (final e closes v known_v))
-            (source_line p q r site t listed closes.into) known_i known_v sees_x)))
+        (let target = same_target p q linked low n names sited e names_in_sited closes visible seen x sees_x in
+        act (stores (outs-Store site x i v)
+        (outs-Store (next_site t) (target_of names x) (renamed names i) (renamed names v)
+        ∙ ap (λ (y : VarId). Store (next_site t) y (renamed names i) (renamed names v)) target
+        ∙ ap₂ (λ (a b : Expr). Store (next_site t) (target_of e.names x) a b) (final e closes i known_i) (final e closes v known_v))
+        (source_line p q r site t listed closes.into) known_i known_v sees_x)))
 
     pub print_made : (v : Expr) → knows visible v ≡ true → OneMade visible names t visible (stmt.Print site v) (alone (stmt.Print (next_site t) (renamed names v)) (nothing names sited))
     print_made v known_v =
         simple_made (stmt.Print site v) (stmt.Print (next_site t) (renamed names v)) (λ e closes.
-            act (prints (outs-Print site v) (outs-Print (next_site t) (renamed names v) ∙ ap (λ (a : Expr). Print (next_site t) a) (final e closes v known_v)) (source_line p q r site t listed closes.into) known_v))
+        act (prints (outs-Print site v) (outs-Print (next_site t) (renamed names v) ∙ ap (λ (a : Expr). Print (next_site t) a) (final e closes v known_v)) (source_line p q r site t listed closes.into) known_v))
 
     pub branch_made : (v : Expr) (m : _) (one : Row_of-Stmt _) (k : _) (other : Row_of-Stmt _) (a b : Piece) → knows visible v ≡ true → BlockMade visible names sited (texts one) a → BlockMade visible a.names a.tables (texts other) b →
         OneMade visible names t visible (stmt.If' site v m one k other) (alone (stmt.If (next_site t) (renamed names v) a.code b.code) b)
@@ -138,26 +138,26 @@ module _ (p q : Program) (places : (x : ℕ) (info : VarInfo) → slice_get p.va
           seen = seen;
           becomes = λ e closes.
               (let own : Closes p q (length t.vars) f b.names b.tables g = record {
-                  begins = refl;
-                  may_call = refl;
-                  high = omega arith;
-                  ends = steps_not b.names (length b.tables.vars);
-                  into = closes.into;
-                  files = λ x y at. (second.named.source x y at).0;
+                begins = refl;
+                may_call = refl;
+                high = omega arith;
+                ends = steps_not b.names (length b.tables.vars);
+                into = closes.into;
+                files = λ x y at. (second.named.source x y at).0;
               } in
               let env : IsEnv p q g = record {
-                  source = second.named.source;
-                  target = second.named.target;
-                  apart = second.named.apart;
-                  above = lies.above;
-                  within = closes.into.long;
-                  earlier = omega (arith, less, limit);
+                source = second.named.source;
+                target = second.named.target;
+                apart = second.named.apart;
+                above = lies.above;
+                within = closes.into.long;
+                earlier = omega (arith, less, limit);
               } in
               let nested : Nested p q e g = record {
-                  low = omega (arith, closes.begins, ok.begun);
-                  high = closes.high;
-                  others = λ x y at. elim (closes.ends.later x y at) [ inl before ↦ inl (ok.target x y before).1 | inr above ↦ inr above ];
-                  calls = omega (arith, less, closes.may_call);
+                low = omega (arith, closes.begins, ok.begun);
+                high = closes.high;
+                others = λ x y at. elim (closes.ends.later x y at) [ inl before ↦ inl (ok.target x y before).1 | inr above ↦ inr above ];
+                calls = omega (arith, less, closes.may_call);
               } in
               let before = closes_before p q low n e grew (steps_not names (length t.vars)) closes in
               call (outs-Call f line args) env nested refl
@@ -169,8 +169,8 @@ module _ (p q : Program) (places : (x : ℕ) (info : VarInfo) → slice_get p.va
         OneMade visible names t visible (stmt.Call f line args) (back_to names (followed_by (bindings p r line names (params_in (slice_get p.functions f)) args [] t) (calls f r)))
     call_made f line args less known_all long =
         let first = passed p q places (length t.vars) f r line names visible (params_in (slice_get p.functions f)) args (global_numbers p) [] t (params_scoped f) long known_all
-            (names_none p Any (length t.vars) t (omega arith)) lies
-            (λ x at. inl (let below : x.0 < 0 + file_count p = numbers_below 0 (file_count p) x at in omega (arith, below))) (λ w y at. absurd (cc at)) in
+        (names_none p Any (length t.vars) t (omega arith)) lies
+        (λ x at. inl (let below : x.0 < 0 + file_count p = numbers_below 0 (file_count p) x at in omega (arith, below))) (λ w y at. absurd (cc at)) in
         let a : Piece = bindings p r line names (params_in (slice_get p.functions f)) args [] t in
         call_by f line args a (calls f r a.names a.tables) less first (called f less (length t.vars) a.names a.tables lies.above first.named first.lies first.seen)
 

@@ -1,5 +1,5 @@
 -- A checked program with call frames and its expansion do the same.
-use Rattle.std.proofs.Common.{◌≡◌, ◌⊎◌, inl, inr, refl, sym, ap, ap₂, ◌∙◌, subst, ℕ, zero, suc, true, ◌+◌, ◌-◌, ◌<◌, ◌≤◌, List, [], ◌∷◌, ◌++◌, ℤ, length, append-nil, Option, Some, None, slice_get, arith}
+use Rattle.std.proofs.Common.{◌≡◌, inl, refl, sym, ap, ◌∙◌, subst, ℕ, true, ◌+◌, ◌<◌, ◌≤◌, List, [], ◌∷◌, ◌++◌, ℤ, length, append-nil, Some, slice_get, arith}
 use Rattle.std.proofs.lemmas.Option.{slice_get_within}
 use Rattle.dp_base.specs.declared.VarId.{VarId}
 use Rattle.dp_tree.specs.declared.Stmt.{Stmt}
@@ -8,23 +8,23 @@ use Rattle.dp_tree.specs.declared.Program.{Program}
 use Rattle.dp_tree.specs.Checked.{IsChecked}
 use Rattle.dp_tree.specs.Globals.{globals_in}
 use Rattle.dp_tree.specs.Scoping.{sees, global_numbers}
-use Rattle.dp_tree.specs.Step.{Config, standing}
+use Rattle.dp_tree.specs.Step.{standing}
 use Rattle.dp_tree.specs.Trace.{start_cells, begin}
-use Rattle.dp_calls.specs.Frame.{Frame, State, global_count, fresh, new_frame, settled}
+use Rattle.dp_calls.specs.Frame.{global_count, fresh, new_frame, settled}
 use Rattle.dp_calls.specs.Frames.{start_state}
-use Rattle.dp_calls.specs.Tables.{Tables, first_tables}
+use Rattle.dp_calls.specs.Tables.{first_tables}
 use Rattle.dp_calls.specs.Expand.{Piece, expand_list, calls_within, expand}
 use Rattle.dp_calls.specs.Meaning.{SameMeaning}
 use Rattle.dp_tree.proofs.Heads.{standing_to_do}
-use Rattle.dp_calls.proofs.Relation.{Env, PlaceOf, file, own, file_count, Laid, IsEnv, Block}
+use Rattle.dp_calls.proofs.Relation.{Env, PlaceOf, file_count, Laid, IsEnv, Block}
 use Rattle.dp_calls.proofs.SameValues.{numbers_below}
 use Rattle.dp_calls.proofs.Visible.{element_there}
-use Rattle.dp_calls.proofs.Stacks.{Suits, Stack, bottom, Sim, Alike}
+use Rattle.dp_calls.proofs.Stacks.{Suits, bottom, Sim, Alike}
 use Rattle.dp_calls.proofs.Settles.{file_agree, block_todo, settles_running}
 use Rattle.dp_calls.proofs.Simulation.{outcomes_alike}
-use Rattle.dp_calls.proofs.Tabled.{Grows, Lies}
-use Rattle.dp_calls.proofs.Named.{NamesOk, names_none, steps_not}
-use Rattle.dp_calls.proofs.Made.{tables_of, Closes, Made}
+use Rattle.dp_calls.proofs.Tabled.{Lies}
+use Rattle.dp_calls.proofs.Named.{names_none, steps_not}
+use Rattle.dp_calls.proofs.Made.{Closes}
 use Rattle.dp_calls.proofs.Layouts.{places_of, file_before, files_within, locals_long, files_again}
 use Rattle.dp_calls.proofs.CheckedTexts.{main_listed, main_scoped, text_of}
 use Rattle.dp_calls.proofs.Whole.{Linked, MainMade, main_made}

@@ -1,21 +1,17 @@
 -- An expression has the same value under the names of a call, where its visible variables have.
-use Rattle.std.proofs.Common.{◌≡◌, ◌⊎◌, inl, inr, refl, sym, ap, ap₂, ◌∙◌, subst, ℕ, zero, suc, ◌+◌, ◌-◌, ◌<◌, ◌≤◌, ◌==◌, Bool, true, false, ◌&&◌, ◌||◌, if◌then◌else◌, List, [], ◌∷◌, ◌++◌, ℤ, pos, negsuc, length, get_or, Option, Some, None, slice_get, Result, Ok, Err, nat_lt, arith, eqb-true, eq-eqb, ltb-true, lt-ltb}
-use Rattle.std.specs.List.{list_any}
+use Rattle.std.proofs.Common.{◌≡◌, ◌⊎◌, inl, inr, refl, sym, ap, ap₂, ◌∙◌, ℕ, zero, suc, ◌+◌, ◌<◌, ◌==◌, Bool, true, false, ◌||◌, if◌then◌else◌, List, ◌∷◌, ℤ, pos, negsuc, get_or, Result, Ok, Err, nat_lt, arith, eqb-true, eq-eqb, ltb-true}
 use Rattle.dp_base.specs.declared.FaultKind.{FaultKind}
 use Rattle.dp_base.specs.declared.VarId.{VarId}
 use Rattle.dp_base.specs.Arithmetic.{binary_result, unary_result}
 use Rattle.dp_tree.specs.declared.Expr.{Expr, end_of-Expr, more_of-Expr}
 use Rattle.dp_tree.specs.declared.Expr.TheVariants as tree
-use Rattle.dp_tree.specs.declared.VarInfo.{VarInfo}
 use Rattle.dp_tree.specs.declared.Program.{Program}
 use Rattle.dp_tree.specs.Eval.{Evaluated, eval, place, first_of, length_of, first_cell, cell_count, result_of, bind}
 use Rattle.dp_tree.specs.Numbering.{numbers_from}
 use Rattle.dp_tree.specs.Scoping.{sees, knows}
-use Rattle.dp_calls.specs.Frame.{global_count}
-use Rattle.dp_calls.specs.Renaming.{Renamed, named_in, target_or, target_of, renamed}
+use Rattle.dp_calls.specs.Renaming.{Renamed, target_of, renamed}
 use Rattle.dp_tree.proofs.EvalLemmas.{opened, word, element, and_also, or_also, result-Number, result-InputLen, result-Scalar, result-Input, result-Element, result-Unary, result-Binary, result-And, result-Or}
 use Rattle.dp_tree.proofs.Heads.{and_true}
-use Rattle.dp_calls.proofs.Relation.{Env, PlaceOf, file, own, file_count, Laid, IsEnv, Held, held, Agree, Room}
 
 pub or_true : (a b : Bool) → (a || b) ≡ true → (a ≡ true) ⊎ (b ≡ true)
 or_true true b e = inl refl
@@ -43,8 +39,8 @@ sees_more y visible x e = or_right (y == x.0) (sees visible x) e
 pub numbers_below : (first n : ℕ) (x : VarId) → sees (numbers_from first n) x ≡ true → x.0 < first + n
 numbers_below first zero x seen = absurd (cc)
 numbers_below first (suc n) x seen = elim (sees_one first (numbers_from (first + 1) n) x seen) [
-    inl is ↦ omega (arith, is)
-    | inr later ↦ (let less : x.0 < first + 1 + n = numbers_below (first + 1) n x later in omega (arith, less))
+  | inl is ↦ omega (arith, is)
+  | inr later ↦ (let less : x.0 < first + 1 + n = numbers_below (first + 1) n x later in omega (arith, less))
 ]
 
 -- a variable has as many cells in both programs, and they hold the same
@@ -80,7 +76,7 @@ module _ (p q : Program) (input a b : List ℤ) (names : List Renamed) (visible 
       let here : first_cell p x ≡ first_cell p x + 0 = omega arith in
       let there : first_cell q y + 0 ≡ first_cell q y = omega arith in
       let first : get_or a (first_cell p x) (pos 0) ≡ get_or b (first_cell q y) (pos 0) =
-          ap (λ (k : ℕ). get_or a k (pos 0)) here ∙ r.cells 0 r.some ∙ ap (λ (k : ℕ). get_or b k (pos 0)) there in
+      ap (λ (k : ℕ). get_or a k (pos 0)) here ∙ r.cells 0 r.some ∙ ap (λ (k : ℕ). get_or b k (pos 0)) there in
       result-Scalar p input a x ∙ ap Ok first ∙ sym (result-Scalar q input b (target_of names x))
 
   same-Element : (x : VarId) (e : Expr) → ReadsSame p q a b x (target_of names x) → Same e →

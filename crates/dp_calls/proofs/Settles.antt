@@ -1,17 +1,16 @@
 -- Frames that are settled and the expanded text stand at the same evaluation.
-use Rattle.std.proofs.Common.{◌≡◌, ◌⊎◌, inl, inr, refl, sym, ap, ap₂, ◌∙◌, subst, ℕ, zero, suc, ◌+◌, ◌-◌, ◌<◌, ◌≤◌, ◌==◌, Bool, true, false, List, [], ◌∷◌, ◌++◌, ℤ, pos, length, get_or, replicate, drop, append_assoc, Option, Some, None, slice_get, arith}
+use Rattle.std.proofs.Common.{◌≡◌, refl, sym, ap, ◌∙◌, subst, ℕ, zero, suc, ◌+◌, ◌<◌, ◌≤◌, List, [], ◌∷◌, ◌++◌, ℤ, pos, length, replicate, drop, append_assoc, Option, Some, None, slice_get, arith}
 use Rattle.std.proofs.lemmas.List.{drop_at, length-replicate}
 use Rattle.dp_base.specs.declared.VarId.{VarId}
 use Rattle.dp_tree.specs.declared.Expr.{Expr}
 use Rattle.dp_tree.specs.declared.Stmt.{Stmt, out-Stmt}
-use Rattle.dp_tree.specs.declared.Stmt.TheOpen.{Stmt-F, Assign, Store, Print, If, While, Region, Call}
+use Rattle.dp_tree.specs.declared.Stmt.TheOpen.{Stmt-F, Assign, Call}
 use Rattle.dp_tree.specs.declared.Program.{Program}
 use Rattle.dp_tree.specs.Functions.{body_in, params_in}
-use Rattle.dp_tree.specs.Globals.{globals_in}
-use Rattle.dp_tree.specs.Scoping.{sees, global_numbers, seen_behind_params}
+use Rattle.dp_tree.specs.Scoping.{global_numbers, seen_behind_params}
 use Rattle.dp_tree.specs.Step.{cleared_at, standing}
-use Rattle.dp_calls.specs.Frame.{Frame, State, global_count, fresh, new_frame, entered, standing_frame, or_after, resumed_at, no_frames, resumed_with, resumed, or_below, settled}
-use Rattle.dp_calls.proofs.Relation.{Env, file_count, Laid, IsEnv, Nested, Within, Binds, bound, binds, Acts, assigns, stores, prints, branches, loops, marks, One, act, call, Block, done, more, Todo, none, next, leave, Held, file, Agree, Room}
+use Rattle.dp_calls.specs.Frame.{Frame, global_count, fresh, new_frame, entered, standing_frame, or_after, resumed_at, no_frames, resumed_with, resumed, or_below, settled}
+use Rattle.dp_calls.proofs.Relation.{Env, file_count, Laid, IsEnv, Nested, Binds, bound, binds, Acts, assigns, stores, prints, branches, loops, marks, act, call, Block, done, more, Todo, none, next, leave, file, Agree}
 use Rattle.dp_calls.proofs.SameValues.{numbers_below}
 use Rattle.dp_calls.proofs.Stacks.{Suits, Stack, bottom, over, Ready, Filling, Sim, ends, acting, binding}
 use Rattle.dp_calls.proofs.Stands.{acts_cleared, stack_cleared}
@@ -67,10 +66,10 @@ module _ (p q : Program) (laid : Laid p q) where
         let c = acts_cleared p q laid ready.env f.locals h ready.agree a in
         let locals_are : (standing_frame p f s statements).locals ≡ c.locals = standing_locals f s statements c.locals c.source in
         let here : Ready p q e visible (standing_frame p f s statements) below rest c.cells = record {
-            env = ready.env;
-            agree = subst (λ (l : List ℤ). Agree p q e visible l c.cells) (sym locals_are) c.agree;
-            room = (ap (λ (l : List ℤ). length l + file_count p) locals_are ∙ ap (λ (m : ℕ). m + file_count p) c.long ∙ ready.room.0, ap (λ (m : ℕ). m + file_count p) c.wide ∙ ready.room.1);
-            stack = stack_cleared p q laid c.where_main ready.stack;
+          env = ready.env;
+          agree = subst (λ (l : List ℤ). Agree p q e visible l c.cells) (sym locals_are) c.agree;
+          room = (ap (λ (l : List ℤ). length l + file_count p) locals_are ∙ ap (λ (m : ℕ). m + file_count p) c.long ∙ ready.room.0, ap (λ (m : ℕ). m + file_count p) c.wide ∙ ready.room.1);
+          stack = stack_cleared p q laid c.where_main ready.stack;
         } in
         live_as (ap (λ (o : Option (List Stmt)). resumed_at enter p f s statements (resumed_with enter p f statements) o below) (acts_entered a))
         (ap (λ (c : List Stmt). c ++ rest) is) c.cells c.target (acting here callee refl a todo refl)
@@ -83,12 +82,12 @@ module _ (p q : Program) (laid : Laid p q) where
         Resumed h (resumed_with enter p f (s ∷ statements) below) text rest
     at_binding s {e = e} {visible = visible} {f = f} {below = below} {b = b} {statements = statements} {own = own} {bindings = bindings} {body = body} {rest = rest} {h = h} ready is_call is_assign filling todo is =
         let locals_are : (standing_frame p f s statements).locals ≡ f.locals =
-            standing_locals f s statements f.locals (λ g w. ap (λ (x : Stmt-F Stmt). cleared_at p x (g ++ f.locals)) is_call) in
+        standing_locals f s statements f.locals (λ g w. ap (λ (x : Stmt-F Stmt). cleared_at p x (g ++ f.locals)) is_call) in
         let here : Ready p q e visible (standing_frame p f s statements) below rest h = record {
-            env = ready.env;
-            agree = subst (λ (l : List ℤ). Agree p q e visible l h) (sym locals_are) ready.agree;
-            room = (ap (λ (l : List ℤ). length l + file_count p) locals_are ∙ ready.room.0, ready.room.1);
-            stack = ready.stack;
+          env = ready.env;
+          agree = subst (λ (l : List ℤ). Agree p q e visible l h) (sym locals_are) ready.agree;
+          room = (ap (λ (l : List ℤ). length l + file_count p) locals_are ∙ ready.room.0, ready.room.1);
+          stack = ready.stack;
         } in
         let same : bindings ++ (body ++ own) ++ rest ≡ bindings ++ (body ++ (own ++ rest)) = append_assoc bindings (body ++ own) rest ∙ ap (λ (c : List Stmt). bindings ++ c) (append_assoc body own rest) in
         live_as (ap (λ (o : Option (List Stmt)). resumed_at enter p f s statements (resumed_with enter p f statements) o below) (ap (entered p) is_call))
@@ -114,35 +113,35 @@ module _ (p q : Program) (laid : Laid p q) where
         Resumed h (resumed_with enter p f (s ∷ statements) below) text rest
     at_call s {e = e} {g = g} {visible = visible} {f = f} {below = below} {statements = statements} {own = own} {body = body} {text = text} {rest = rest} {h = h} {k = k} params low ready callee is_call env nested calls params_are bound block todo is behind =
         let inside : Suits p q g (global_numbers p) (new_frame p (body_in (slice_get p.functions k))) body h = record {
-            env = env;
-            todo = block_todo block;
-            agree = file_agree g (fresh p) h;
-            room = (laid.locals, ready.room.1);
-            callee = refl;
+          env = env;
+          todo = block_todo block;
+          agree = file_agree g (fresh p) h;
+          room = (laid.locals, ready.room.1);
+          callee = refl;
         } in
         let here : Suits p q e visible (record f { to_do = statements }) own h = record {
-            env = ready.env;
-            todo = todo;
-            agree = ready.agree;
-            room = ready.room;
-            callee = callee;
+          env = ready.env;
+          todo = todo;
+          agree = ready.agree;
+          room = ready.room;
+          callee = callee;
         } in
         let entering : Resumed h (enter (new_frame p (body_in (slice_get p.functions k))) (record f { to_do = statements } ∷ below)) body (own ++ rest) =
-            enters g (global_numbers p) (new_frame p (body_in (slice_get p.functions k))) (record f { to_do = statements } ∷ below) body (own ++ rest) h (omega (arith, low, nested.calls)) inside (over here nested ready.stack refl) in
+        enters g (global_numbers p) (new_frame p (body_in (slice_get p.functions k))) (record f { to_do = statements } ∷ below) body (own ++ rest) h (omega (arith, low, nested.calls)) inside (over here nested ready.stack refl) in
         subst (λ (o : Option (List Stmt)). Resumed h (resumed_at enter p f s statements (resumed_with enter p f statements) o below) text rest) (sym (ap (entered p) is_call))
         (entered_by (enter (new_frame p (body_in (slice_get p.functions k))) (record f { to_do = statements } ∷ below)) (resumed_with enter p f statements) entering behind is)
     at_call s {e = e} {g = g} {visible = visible} {f = f} {body = body} {h = h} {k = k} params low ready callee is_call env nested calls params_are (binds b line_is known named later) block todo is behind =
         at_binding enter s ready is_call b
         (record {
-            env = env;
-            nested = nested;
-            calls = calls;
-            before = [];
-            parameters = params_are;
-            agree = file_agree g f.callee h;
-            room = (ap (λ (l : List ℤ). length l + file_count p) callee ∙ laid.locals, ready.room.1);
-            binds = binds b line_is known named later;
-            block = subst (λ (ps : List VarId). Block p q g (seen_behind_params (global_numbers p) ps) (body_in (slice_get p.functions k)) body) (sym params_are) block;
+          env = env;
+          nested = nested;
+          calls = calls;
+          before = [];
+          parameters = params_are;
+          agree = file_agree g f.callee h;
+          room = (ap (λ (l : List ℤ). length l + file_count p) callee ∙ laid.locals, ready.room.1);
+          binds = binds b line_is known named later;
+          block = subst (λ (ps : List VarId). Block p q g (seen_behind_params (global_numbers p) ps) (body_in (slice_get p.functions k)) body) (sym params_are) block;
         })
         todo is
 

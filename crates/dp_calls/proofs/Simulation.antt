@@ -1,5 +1,5 @@
 -- Frames and the expanded program do the same, step by step, and so for every fuel.
-use Rattle.std.proofs.Common.{◌≡◌, refl, sym, ap, ap₂, ◌∙◌, subst, ℕ, zero, suc, List, [], ◌∷◌, ◌++◌, ℤ, length, take, filter_map, Option, Some, None, slice_get}
+use Rattle.std.proofs.Common.{◌≡◌, refl, sym, ap, ap₂, ◌∙◌, subst, ℕ, zero, suc, List, [], ◌∷◌, ◌++◌, ℤ, length, take, Option, Some, None}
 use Rattle.std.proofs.lemmas.List.{take_at}
 use Rattle.dp_base.specs.declared.End.{End}
 use Rattle.dp_base.specs.declared.End.TheVariants.{Done, Fault, Fuel}
@@ -15,8 +15,8 @@ use Rattle.dp_calls.specs.Frame.{Frame, State, global_count}
 use Rattle.dp_calls.specs.FrameStep.{FrameStep, step_frames}
 use Rattle.dp_calls.specs.Frames.{Outcome, frames_end, with_step, outcome_by, frames_from}
 use Rattle.dp_calls.specs.Meaning.{outcome_of_run}
-use Rattle.dp_calls.proofs.Relation.{Env, Laid, Binds, bound, binds}
-use Rattle.dp_calls.proofs.Stacks.{Filling, Sim, ends, acting, binding, Alike}
+use Rattle.dp_calls.proofs.Relation.{Env, Laid, Binds, binds}
+use Rattle.dp_calls.proofs.Stacks.{Sim, ends, acting, binding, Alike}
 use Rattle.dp_calls.proofs.Acting.{StepsAlike, both_end, both_fault, both_go, acting_steps}
 use Rattle.dp_calls.proofs.Binding.{binding_steps}
 

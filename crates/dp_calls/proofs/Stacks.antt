@@ -1,16 +1,15 @@
 -- When frames and an expanded text do the same: the frames' texts become its parts, one after the other.
-use Rattle.std.proofs.Common.{◌≡◌, ◌⊎◌, inl, inr, refl, sym, ap, ap₂, ◌∙◌, ℕ, ◌+◌, ◌-◌, ◌<◌, ◌≤◌, List, [], ◌∷◌, ◌++◌, ℤ, pos, length, get_or, Option, Some, slice_get, append_assoc, arith}
+use Rattle.std.proofs.Common.{◌≡◌, ◌⊎◌, inl, inr, sym, ap, ◌∙◌, ℕ, ◌+◌, ◌-◌, ◌<◌, ◌≤◌, List, [], ◌∷◌, ◌++◌, ℤ, length, slice_get, append_assoc, arith}
 use Rattle.dp_base.specs.declared.VarId.{VarId}
 use Rattle.dp_tree.specs.declared.Expr.{Expr}
 use Rattle.dp_tree.specs.declared.Stmt.{Stmt, out-Stmt}
 use Rattle.dp_tree.specs.declared.Stmt.TheOpen.{Call}
 use Rattle.dp_tree.specs.declared.Program.{Program}
 use Rattle.dp_tree.specs.Functions.{body_in, params_in}
-use Rattle.dp_tree.specs.Scoping.{sees, global_numbers, seen_behind_params}
+use Rattle.dp_tree.specs.Scoping.{global_numbers, seen_behind_params}
 use Rattle.dp_tree.specs.Step.{Config}
 use Rattle.dp_calls.specs.Frame.{Frame, State, fresh, global_count}
-use Rattle.dp_calls.specs.Renaming.{named_in}
-use Rattle.dp_calls.proofs.Relation.{Env, file_count, IsEnv, Nested, Within, Declares, known, new, Binds, Acts, assigns, stores, prints, branches, loops, marks, One, act, call, Block, done, more, Todo, none, next, leave, Held, file, held, Agree, Room}
+use Rattle.dp_calls.proofs.Relation.{Env, file_count, IsEnv, Nested, Within, Declares, known, new, Binds, Acts, assigns, stores, prints, branches, loops, marks, One, act, call, Block, done, more, Todo, next, leave, Held, file, held, Agree, Room}
 use Rattle.dp_calls.proofs.SameValues.{sees_more}
 use Rattle.dp_calls.proofs.Written.{Keeps}
 
@@ -100,7 +99,7 @@ module _ (p q : Program) where
       let target = env.target x y named in
       let there : (y - file_count p) + file_count p ≡ y = omega (arith, target.0, env.above) in
       let outside : ((y - file_count p) + file_count p < e.low) ⊎ (e.high ≤ (y - file_count p) + file_count p) =
-          elim (nested.others x y named) [ inl less ↦ inl (omega (arith, there, less)) | inr above ↦ inr (omega (arith, there, above)) ] in
+      elim (nested.others x y named) [ inl less ↦ inl (omega (arith, there, less)) | inr above ↦ inr (omega (arith, there, above)) ] in
       held y named (same ∙ sym (keeps (y - file_count p) outside))
 
   -- values of other calls don't matter to a caller
@@ -117,10 +116,10 @@ module _ (p q : Program) where
   stack_kept h k long keeps (over {visible = visible} {f = f} suits nested stack is) =
       over
       (record {
-          env = suits.env;
-          todo = suits.todo;
-          agree = agree_kept suits.env nested visible f.locals h k keeps suits.agree;
-          room = (suits.room.0, ap (λ (n : ℕ). n + file_count p) long ∙ suits.room.1);
-          callee = suits.callee;
+        env = suits.env;
+        todo = suits.todo;
+        agree = agree_kept suits.env nested visible f.locals h k keeps suits.agree;
+        room = (suits.room.0, ap (λ (n : ℕ). n + file_count p) long ∙ suits.room.1);
+        callee = suits.callee;
       })
       nested (stack_kept h k long (keeps_wider nested h k keeps) stack) is

@@ -1,14 +1,13 @@
 -- Where a statement stands at the head: body locals are cleared in the frame and in the expanded memory.
-use Rattle.std.proofs.Common.{◌≡◌, ◌⊎◌, inl, inr, refl, sym, ap, ap₂, ◌∙◌, subst, ℕ, ◌+◌, ◌-◌, ◌<◌, ◌≤◌, Bool, true, false, List, [], ◌∷◌, ◌++◌, ℤ, pos, length, get_or, replicate, drop, Option, Some, None, slice_get, arith}
-use Rattle.dp_base.specs.declared.VarId.{VarId}
+use Rattle.std.proofs.Common.{◌≡◌, ◌⊎◌, inl, inr, refl, sym, ap, ◌∙◌, subst, ℕ, List, ◌++◌, ℤ, length, arith}
 use Rattle.dp_tree.specs.declared.Stmt.{Stmt, out-Stmt}
-use Rattle.dp_tree.specs.declared.Stmt.TheOpen.{Stmt-F, Assign, Store, Print, If, While, Region, Call}
+use Rattle.dp_tree.specs.declared.Stmt.TheOpen.{Stmt-F}
 use Rattle.dp_tree.specs.declared.Program.{Program}
 use Rattle.dp_tree.specs.Step.{cleared_at, standing}
 use Rattle.dp_calls.specs.Frame.{Frame, global_count}
-use Rattle.dp_calls.proofs.Relation.{Env, file_count, Laid, IsEnv, Nested, Within, Acts, assigns, stores, prints, branches, loops, marks, One, act, call, Todo, none, next, leave, Agree, Room}
+use Rattle.dp_calls.proofs.Relation.{Env, file_count, Laid, IsEnv, Acts, assigns, stores, prints, branches, loops, marks, act, call, Todo, none, next, leave, Agree}
 use Rattle.dp_calls.proofs.Clears.{clear_own, clear_own-length, memory_clears, quiet_clears, quiet_agree}
-use Rattle.dp_calls.proofs.Stacks.{Suits, Stack, bottom, over}
+use Rattle.dp_calls.proofs.Stacks.{Stack, bottom, over}
 
 module _ (p q : Program) (laid : Laid p q) where
   -- the memories where s and t stand at the head

@@ -1,17 +1,16 @@
 -- How the tables of an expanded program grow: at their ends, so that what stands there stays.
-use Rattle.std.proofs.Common.{◌≡◌, ◌⊎◌, inl, inr, refl, sym, ap, ap₂, ◌∙◌, subst, ℕ, zero, suc, ◌+◌, ◌-◌, ◌<◌, ◌≤◌, Bool, true, false, if◌then◌else◌, List, [], ◌∷◌, ◌++◌, ℤ, pos, length, length-append, replicate, append-nil, append_assoc, Option, Some, None, slice_get, arith}
+use Rattle.std.proofs.Common.{◌≡◌, ◌⊎◌, inl, inr, refl, sym, ap, ◌∙◌, subst, ℕ, zero, suc, ◌+◌, ◌-◌, ◌≤◌, Bool, true, false, if◌then◌else◌, List, [], ◌∷◌, ◌++◌, ℤ, length, length-append, replicate, append-nil, append_assoc, Option, Some, None, slice_get, arith}
 use Rattle.std.proofs.lemmas.List.{length-replicate}
-use Rattle.std.proofs.lemmas.Option.{same_Some, slice_get_within}
+use Rattle.std.proofs.lemmas.Option.{same_Some}
 use Rattle.dp_base.specs.declared.SiteId.{SiteId}
 use Rattle.dp_tree.specs.declared.VarInfo.{VarInfo}
-use Rattle.dp_tree.specs.declared.VarScope.{VarScope}
 use Rattle.dp_tree.specs.declared.SiteInfo.{SiteInfo}
 use Rattle.dp_tree.specs.declared.Program.{Program}
 use Rattle.dp_tree.specs.Globals.{is_global_scope, globals_in}
 use Rattle.dp_tree.specs.Trace.{start_cells}
 use Rattle.dp_calls.specs.Frame.{global_count}
-use Rattle.dp_calls.specs.Tables.{Tables, scope_in, moved_to, with_local, with_site, site_in, with_source_site, with_region, next_site}
-use Rattle.dp_calls.proofs.Relation.{PlaceOf, file, own, file_count}
+use Rattle.dp_calls.specs.Tables.{Tables, scope_in, moved_to, with_local, with_site, site_in, with_source_site, with_region}
+use Rattle.dp_calls.proofs.Relation.{PlaceOf, own, file_count}
 
 -- the element of a list that grew by one
 pub get_pushed : {X : Type 0} (xs : List X) (y : X) (k : ℕ) (x : X) → slice_get (xs ++ y ∷ []) k ≡ Some x → (slice_get xs k ≡ Some x) ⊎ ((k ≡ length xs) × (y ≡ x))
@@ -121,8 +120,8 @@ lies_local p r x t info at one lies =
     let last : length (replicate v.length v.start ++ []) ≡ v.length = ap (λ (c : List ℤ). length c) (append-nil (replicate v.length v.start)) ∙ length-replicate v.length v.start in
     record {
       place = λ k w there. elim (get_pushed t.vars v k w (sym (ap (λ (vs : List VarInfo). slice_get vs k) (local_vars p r x t info at)) ∙ there)) [
-          inl before ↦ lies.place k w before
-          | inr both ↦ subst (λ (n : ℕ). PlaceOf (file_count p) (global_count p) n w) (sym both.0) (subst (λ (u : VarInfo). PlaceOf (file_count p) (global_count p) (length t.vars) u) both.1 next)
+        | inl before ↦ lies.place k w before
+        | inr both ↦ subst (λ (n : ℕ). PlaceOf (file_count p) (global_count p) n w) (sym both.0) (subst (λ (u : VarInfo). PlaceOf (file_count p) (global_count p) (length t.vars) u) both.1 next)
       ];
       cells = omega (arith, lies.cells, long);
       above = omega (arith, lies.above, long);

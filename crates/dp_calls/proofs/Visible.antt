@@ -1,5 +1,5 @@
 -- Visible variables read the same in a frame's memory and in the expanded one.
-use Rattle.std.proofs.Common.{◌≡◌, ◌⊎◌, inl, inr, refl, sym, ap, ap₂, ◌∙◌, subst, ℕ, zero, suc, ◌+◌, ◌-◌, ◌<◌, ◌≤◌, Bool, true, false, List, [], ◌∷◌, ◌++◌, ℤ, pos, length, get_or, Option, Some, None, slice_get, arith}
+use Rattle.std.proofs.Common.{◌≡◌, refl, sym, ap, ◌∙◌, subst, ℕ, zero, suc, ◌+◌, ◌-◌, ◌<◌, ◌≤◌, true, List, [], ◌∷◌, ◌++◌, ℤ, pos, length, get_or, Option, Some, None, slice_get, arith}
 use Rattle.std.proofs.lemmas.List.{get_or_append_left, get_or-append_right}
 use Rattle.dp_base.specs.declared.VarId.{VarId}
 use Rattle.dp_tree.specs.declared.VarInfo.{VarInfo}
@@ -7,7 +7,7 @@ use Rattle.dp_tree.specs.declared.Program.{Program}
 use Rattle.dp_tree.specs.Eval.{first_of, length_of, first_cell, cell_count}
 use Rattle.dp_tree.specs.Scoping.{sees}
 use Rattle.dp_calls.specs.Frame.{global_count}
-use Rattle.dp_calls.specs.Renaming.{Renamed, named_in, target_or, target_of}
+use Rattle.dp_calls.specs.Renaming.{named_in, target_or, target_of}
 use Rattle.dp_calls.proofs.Relation.{Env, PlaceOf, file, own, file_count, Laid, IsEnv, Held, held, Agree}
 use Rattle.dp_calls.proofs.SameValues.{ReadsSame}
 

@@ -1,11 +1,11 @@
 -- The whole expanded program: the text of `main` with its regions, and the start.
-use Rattle.std.proofs.Common.{◌≡◌, ◌⊎◌, inl, inr, refl, sym, ap, ap₂, ◌∙◌, subst, ℕ, zero, suc, ◌+◌, ◌-◌, ◌<◌, ◌≤◌, ◌==◌, Bool, true, false, ◌&&◌, ◌||◌, if◌then◌else◌, List, [], ◌∷◌, ◌++◌, ℤ, length, append-nil, Option, Some, None, slice_get, arith, eqb-true}
+use Rattle.std.proofs.Common.{◌≡◌, ◌⊎◌, inl, inr, refl, sym, ap, ◌∙◌, subst, ℕ, zero, suc, ◌<◌, ◌≤◌, ◌==◌, Bool, true, false, ◌||◌, if◌then◌else◌, List, [], ◌∷◌, length, Option, Some, None, slice_get, arith, eqb-true}
 use Rattle.std.specs.List.{list_all}
 use Rattle.std.proofs.lemmas.Option.{same_Some}
 use Rattle.dp_base.specs.declared.SiteId.{SiteId}
 use Rattle.dp_base.specs.declared.VarId.{VarId}
 use Rattle.dp_tree.specs.declared.Expr.{Expr}
-use Rattle.dp_tree.specs.declared.Stmt.{Stmt, Row_of-Stmt, out-Stmt}
+use Rattle.dp_tree.specs.declared.Stmt.{Stmt, Row_of-Stmt}
 use Rattle.dp_tree.specs.declared.Stmt.TheViews.{outs-Region, outs-Region'}
 use Rattle.dp_tree.specs.declared.Stmt.TheVariants as stmt
 use Rattle.dp_tree.specs.declared.Stmt.TheOpen.{Region}
@@ -13,22 +13,22 @@ use Rattle.dp_tree.specs.declared.VarInfo.{VarInfo}
 use Rattle.dp_tree.specs.declared.VarScope.{VarScope}
 use Rattle.dp_tree.specs.declared.VarScope.TheVariants.{Global, Outer, Body}
 use Rattle.dp_tree.specs.declared.Program.{Program}
-use Rattle.dp_tree.specs.Functions.{body_in, params_in}
+use Rattle.dp_tree.specs.Functions.{body_in}
 use Rattle.dp_tree.specs.Numbering.{site_numbers, site_numbers_in, site_numbers_all, is_plain, is_plain_in, top_fits, next_region, regions_in_order}
-use Rattle.dp_tree.specs.Scoping.{sees, knows, is_scope_in, is_declared_in, seen_behind, in_scope, rows_in_scope, all_in_scope, params_in_scope, global_numbers}
+use Rattle.dp_tree.specs.Scoping.{sees, knows, is_scope_in, is_declared_in, seen_behind, in_scope, rows_in_scope, all_in_scope}
 use Rattle.dp_tree.specs.Step.{line_of, is_local_of}
 use Rattle.dp_calls.specs.Frame.{global_count}
-use Rattle.dp_calls.specs.Renaming.{Renamed, named_in, target_of, renamed}
-use Rattle.dp_calls.specs.Tables.{Tables, scope_in, with_source_site, with_region, next_site}
-use Rattle.dp_calls.specs.Expand.{Piece, nothing, behind, as_region, Calls, expand_one, expand_rows, expand_list, calls_within}
+use Rattle.dp_calls.specs.Renaming.{Renamed, renamed}
+use Rattle.dp_calls.specs.Tables.{Tables, scope_in, with_source_site, next_site}
+use Rattle.dp_calls.specs.Expand.{Piece, behind, as_region, Calls, expand_one, expand_rows, expand_list, calls_within}
 use Rattle.dp_tree.proofs.Heads.{and_true}
 use Rattle.dp_calls.proofs.InnerTexts.{texts, shown_texts}
 use Rattle.dp_calls.proofs.Relation.{Env, PlaceOf, file_count, is_quiet, Quiet, One, act, Block, marks}
 use Rattle.dp_calls.proofs.SameValues.{sees_one}
-use Rattle.dp_calls.proofs.Tabled.{Grows, grows_on, grows_source_site, grows_region, Lies, moved}
+use Rattle.dp_calls.proofs.Tabled.{grows_on, grows_source_site, grows_region, Lies, moved}
 use Rattle.dp_calls.proofs.Visible.{element_there}
 use Rattle.dp_calls.proofs.Named.{NamesOk, names_grow, Seen, steps_not}
-use Rattle.dp_calls.proofs.Made.{tables_of, Closes, closes_before, Made, source_line, is_listed}
+use Rattle.dp_calls.proofs.Made.{Closes, closes_before, Made, source_line, is_listed}
 use Rattle.dp_calls.proofs.Passed.{Any}
 use Rattle.dp_calls.proofs.Declared.{lies_sited, names_sited, final_renamed}
 use Rattle.dp_calls.proofs.Pieces.{all_parts, seen_in, Called, one_made, rows_made, list_made, both_made, none_made}
@@ -88,16 +88,16 @@ module _ (p q : Program) (places : (x : ℕ) (info : VarInfo) → slice_get p.va
   -- a region's body locals aren't visible at the top
   quiet_top : (k : ℕ) (visible : List ℕ) (names : List Renamed) (t : Tables) (e : Env) → NamesOk p Linked (file_count p) names t → Seen p visible names → TopSeen p visible → Closes p q (file_count p) most names t e → Quiet p q e visible k
   quiet_top k visible names t e ok seen top closes x y sees_x named = elim (seen x sees_x) [
-      inl less ↦ (let over = closes.files x.0 y named in absurd (omega (arith, less, over)))
-      | inr old ↦ elim (top x sees_x) [
-          inl less ↦ (let over = closes.files x.0 y named in absurd (omega (arith, less, over)))
-          | inr outer ↦
-              (let same : old.0 ≡ y = same_Some old.0 y (sym (closes.ends.stable x.0 old.0 old.1) ∙ named) in
-              let source = quiet_outer k (slice_get p.vars x.0) outer in
-              let entry = element_there t.vars old.0 (ok.target x.0 old.0 old.1).1 in
-              let final : slice_get q.vars old.0 ≡ slice_get t.vars old.0 = closes.into.vars old.0 entry.0 entry.1 ∙ sym entry.1 in
-              (source, ap (λ (n : ℕ). is_quiet k (slice_get q.vars n)) (sym same) ∙ ap (is_quiet k) final ∙ ok.link x.0 old.0 old.1 k ∙ source))
-      ]
+    | inl less ↦ (let over = closes.files x.0 y named in absurd (omega (arith, less, over)))
+    | inr old ↦ elim (top x sees_x) [
+      | inl less ↦ (let over = closes.files x.0 y named in absurd (omega (arith, less, over)))
+      | inr outer ↦
+          (let same : old.0 ≡ y = same_Some old.0 y (sym (closes.ends.stable x.0 old.0 old.1) ∙ named) in
+          let source = quiet_outer k (slice_get p.vars x.0) outer in
+          let entry = element_there t.vars old.0 (ok.target x.0 old.0 old.1).1 in
+          let final : slice_get q.vars old.0 ≡ slice_get t.vars old.0 = closes.into.vars old.0 entry.0 entry.1 ∙ sym entry.1 in
+          (source, ap (λ (n : ℕ). is_quiet k (slice_get q.vars n)) (sym same) ∙ ap (is_quiet k) final ∙ ok.link x.0 old.0 old.1 k ∙ source))
+    ]
   ]
 
   region_by : (k : ℕ) (site : SiteId) (v : Expr) (m : _) (body : Row_of-Stmt _) (visible : List ℕ) (names : List Renamed) (t : Tables) (a : Piece) → knows visible v ≡ true → is_listed p site.0 ≡ true →
@@ -139,15 +139,15 @@ module _ (p q : Program) (places : (x : ℕ) (info : VarInfo) → slice_get p.va
       let plainly = and_true (r == k) (is_plain_in body) fits in
       let sites = and_true (is_listed p site.0) (list_all (is_listed p) (site_numbers_in body)) listed in
       let inside = rows_made p q places there Linked (file_count p) most r r (linked_moved r) calls (omega arith) (λ g. (text_of g).params) (called r) body visible names (with_source_site p r site t) both.1 plainly.1 sites.1
-          (names_sited p q places there Linked (file_count p) most r r (linked_moved r) site names t ready.0) (lies_sited p q places there Linked (file_count p) most r r (linked_moved r) site t ready.1) ready.2 in
+      (names_sited p q places there Linked (file_count p) most r r (linked_moved r) site names t ready.0) (lies_sited p q places there Linked (file_count p) most r r (linked_moved r) site t ready.1) ready.2 in
       region_by r site v m body visible names t (expand_rows p calls r body names (with_source_site p r site t)) both.0 sites.0 ready.0 ready.2 ready.3 inside
   top_made k (stmt.Call f line args) visible names t scoped fits listed ready = plain_top (stmt.Call f line args) visible names t scoped fits listed ready
 
   top_assigned : (b : Bool) (visible : List ℕ) (x : VarId) → sees visible x ≡ b → (b || is_declared_in 0 (slice_get p.vars x.0)) ≡ true → TopSeen p visible → TopSeen p (if b then visible else x.0 ∷ visible)
   top_assigned true visible x is scoped top w at = top w at
   top_assigned false visible x is scoped top w at = elim (sees_one x.0 visible w at) [
-      inl same ↦ inr (subst (λ (n : ℕ). is_declared_in 0 (slice_get p.vars n) ≡ true) same scoped)
-      | inr before ↦ top w before
+    | inl same ↦ inr (subst (λ (n : ℕ). is_declared_in 0 (slice_get p.vars n) ≡ true) same scoped)
+    | inr before ↦ top w before
   ]
 
   top_behind : (visible : List ℕ) (s : Stmt) → in_scope p 0 most visible s ≡ true → TopSeen p visible → TopSeen p (seen_behind visible s)

@@ -1,15 +1,14 @@
 -- What a store leaves: the visible variables still hold the same, and nothing of another call is changed.
-use Rattle.std.proofs.Common.{◌≡◌, ◌⊎◌, inl, inr, refl, sym, ap, ap₂, ◌∙◌, subst, ℕ, zero, suc, ◌+◌, ◌-◌, ◌<◌, ◌≤◌, ◌==◌, Bool, true, false, List, [], ◌∷◌, ◌++◌, ℤ, pos, length, get_or, Option, Some, None, slice_get, slice_set, arith, eqb-true, get_or-set_other, get_or-set_same}
+use Rattle.std.proofs.Common.{◌≡◌, ◌⊎◌, inl, inr, refl, sym, ap, ◌∙◌, subst, ℕ, ◌+◌, ◌-◌, ◌<◌, ◌≤◌, ◌==◌, Bool, true, false, List, ◌∷◌, ◌++◌, ℤ, pos, length, get_or, Option, Some, slice_set, arith, eqb-true, get_or-set_other, get_or-set_same}
 use Rattle.std.proofs.lemmas.Bool.{eqb-false}
 use Rattle.std.proofs.lemmas.List.{length-set, set-append_left, set-append_right}
-use Rattle.std.proofs.lemmas.Option.{same_Some}
 use Rattle.dp_base.specs.declared.VarId.{VarId}
 use Rattle.dp_tree.specs.declared.Program.{Program}
 use Rattle.dp_tree.specs.Eval.{first_cell, cell_count}
 use Rattle.dp_tree.specs.Scoping.{sees}
 use Rattle.dp_calls.specs.Frame.{global_count}
-use Rattle.dp_calls.specs.Renaming.{Renamed, named_in, target_or, target_of}
-use Rattle.dp_calls.proofs.Relation.{Env, file_count, Laid, IsEnv, Declares, known, new, Held, file, held, Agree, Room}
+use Rattle.dp_calls.specs.Renaming.{named_in, target_or, target_of}
+use Rattle.dp_calls.proofs.Relation.{Env, file_count, Laid, IsEnv, Held, file, held, Agree, Room}
 use Rattle.dp_calls.proofs.SameValues.{sees_one}
 use Rattle.dp_calls.proofs.Visible.{file_at, target_file, own_at}
 
@@ -67,8 +66,8 @@ module _ (p q : Program) where
           let there = env.target x.0 y named in
           let left : (w - file_count p ≡ x.0 - file_count p) → ⊥ = λ k. differs (omega (arith, k, source.0, here.0)) in
           let right : (v - file_count p ≡ y - file_count p) → ⊥ = λ k.
-              let one : v ≡ y = omega (arith, k, target.0, there.0, env.above) in
-              differs (env.apart w x.0 y (at ∙ ap (λ (n : ℕ). Some n) one) named) in
+          let one : v ≡ y = omega (arith, k, target.0, there.0, env.above) in
+          differs (env.apart w x.0 y (at ∙ ap (λ (n : ℕ). Some n) one) named) in
           held v at (get_or-set_other l (x.0 - file_count p) (w - file_count p) z (pos 0) left ∙ same ∙ sym (get_or-set_other h (y - file_count p) (v - file_count p) z (pos 0) right))
 
       held_by : (w : ℕ) (t : Bool) → (w == x.0) ≡ t → Held p q e l h w → Held p q e locals_set cells_set w
@@ -84,8 +83,8 @@ module _ (p q : Program) where
       keeps_set j outside =
           let there = env.target x.0 y named in
           let other : (j ≡ y - file_count p) → ⊥ = λ k. elim outside [
-              inl less ↦ omega (arith, less, k, there.0, env.above)
-              | inr more ↦ omega (arith, more, k, there.1, there.0, env.above)
+            | inl less ↦ omega (arith, less, k, there.0, env.above)
+            | inr more ↦ omega (arith, more, k, there.1, there.0, env.above)
           ] in
           get_or-set_other h (y - file_count p) j z (pos 0) other
 
@@ -129,8 +128,8 @@ module _ (p q : Program) where
             whole = whole;
             room = room_set l h room x y named z;
             agree = λ w seen. elim (sees_one x.0 visible w seen) [
-                inl is ↦ subst (λ (n : ℕ). Held p q e (locals_set l h room x y named z) (cells_set l h room x y named z) n) is (held_here l h room x y named z)
-                | inr before ↦ held_set l h room x y named z w.0 (agree w before)
+              | inl is ↦ subst (λ (n : ℕ). Held p q e (locals_set l h room x y named z) (cells_set l h room x y named z) n) is (held_here l h room x y named z)
+              | inr before ↦ held_set l h room x y named z w.0 (agree w before)
             ];
             keeps = keeps_set l h room x y named z;
           }
