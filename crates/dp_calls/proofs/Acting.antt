@@ -7,7 +7,7 @@ use Rattle.dp_base.specs.declared.SiteId.{SiteId}
 use Rattle.dp_tree.specs.declared.Stmt.{Stmt, out-Stmt}
 use Rattle.dp_tree.specs.declared.Stmt.TheOpen.{Stmt-F, Assign, Store, Print, If, While, Region, Call}
 use Rattle.dp_tree.specs.declared.Program.{Program}
-use Rattle.dp_tree.specs.Eval.{Evaluated}
+use Rattle.dp_tree.specs.Eval.{Evaluated, first_cell}
 use Rattle.dp_tree.specs.Event.{Effect, Event, value_of, stored}
 use Rattle.dp_tree.specs.Step.{Config, Step, Finished, Faulted, Stepped, choose, followed, site_of, line_of, evaluated, standing, step_by, step_at, step_from, step}
 use Rattle.dp_tree.specs.Trace.{printed_by}
@@ -17,7 +17,7 @@ use Rattle.dp_calls.specs.Renaming.{target_of}
 use Rattle.dp_tree.proofs.Heads.{followed-append, standing_to_do}
 use Rattle.dp_calls.proofs.Relation.{Env, file_count, Laid, IsEnv, Acts, assigns, stores, prints, branches, loops, marks, act, Block, Todo, next, Agree, Room}
 use Rattle.dp_calls.proofs.Written.{After}
-use Rattle.dp_calls.proofs.Stacks.{Suits, Stack, Ready, Alike, block_then, stack_kept}
+use Rattle.dp_calls.proofs.Stacks.{Suits, Ready, Alike, block_then, stack_kept, Sim}
 use Rattle.dp_calls.proofs.Effects.{EvaluatesAlike, faults, goes, stores_alike, prints_alike, decides_alike, elements_alike, values, nothing_stored, element_stored, same_length, declared_stored}
 use Rattle.dp_calls.proofs.Stands.{stands}
 use Rattle.dp_calls.proofs.Settles.{settles_running}
@@ -128,12 +128,12 @@ module _ (p q : Program) where
     pub evaluates : {behind : List ℕ} (s t : Stmt) → Acts p q e visible behind s t → Evaluates behind (out-Stmt s) (out-Stmt t)
     evaluates {behind = behind} s t (assigns {x = x} {v = v} a b _ known declares) =
         evaluates_as behind s t a b
-        (stores_alike (Rattle.dp_tree.specs.Eval.first_cell p x) (Rattle.dp_tree.specs.Eval.first_cell q (target_of e.names x))
+        (stores_alike (first_cell p x) (first_cell q (target_of e.names x))
         (declared_stored p q laid input e env visible g l h whole room agree x behind declares)
         _ _ (values p q laid input e env visible g l h whole room agree v known))
     evaluates s t (stores {x = x} {i = i} {v = v} a b _ known_index known seen) =
         evaluates_as visible s t a b
-        (elements_alike (Rattle.dp_tree.specs.Eval.first_cell p x) (Rattle.dp_tree.specs.Eval.first_cell q (target_of e.names x)) _ _
+        (elements_alike (first_cell p x) (first_cell q (target_of e.names x)) _ _
         (same_length p q laid input e env visible g l h whole room agree x seen)
         (element_stored p q laid input e env visible g l h whole room agree x seen)
         _ _ _ _ (values p q laid input e env visible g l h whole room agree i known_index) (values p q laid input e env visible g l h whole room agree v known))
@@ -180,7 +180,7 @@ module _ (p q : Program) where
           own = s.own;
           whole = after.whole;
           cells = s.stands after.globals after.whole;
-          sim = subst (λ (xs : List Stmt). Rattle.dp_calls.proofs.Stacks.Sim p q s.own (settled p (record f { to_do = statements; locals = st.locals } ∷ below)) xs) (sym (standing_to_do q (text ++ rest) (after.globals ++ after.cells))) s.sim;
+          sim = subst (λ (xs : List Stmt). Sim p q s.own (settled p (record f { to_do = statements; locals = st.locals } ∷ below)) xs) (sym (standing_to_do q (text ++ rest) (after.globals ++ after.cells))) s.sim;
         }))
 
     act_by : (site here : SiteId) (nexts next_texts texts : ℤ → List Stmt) → line_of q here ≡ line_of p site → ((z : ℤ) → Todo p q e behind (nexts z) (texts z)) → ((z : ℤ) → next_texts z ≡ texts z ++ rest) →

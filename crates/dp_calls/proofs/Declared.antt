@@ -20,6 +20,7 @@ use Rattle.dp_calls.proofs.Tabled.{grows_not, grows_on, grows_source_site, grows
 use Rattle.dp_calls.proofs.Named.{NamesOk, names_grow, names_local, names_as, named_new, Steps, steps_not, steps_one, Seen, seen_steps}
 use Rattle.dp_calls.proofs.Made.{Closes, closes_before, Made, target_by, same_target, same_renamed, source_line, is_listed}
 use Rattle.dp_calls.proofs.Passed.{Local, local_of, scope_local}
+use Rattle.dp_tree.proofs.Heads.{and_true}
 
 module _ (p q : Program) (places : (x : ℕ) (info : VarInfo) → slice_get p.vars x ≡ Some info → PlaceOf (file_count p) (global_count p) x info) (there : file_count p ≤ length p.vars)
     (linked : Option VarInfo → Option VarInfo → Type 0) (low calls scope r : ℕ) (link : (info : VarInfo) (cell : ℕ) → is_scope_in scope info.scope ≡ true → linked (Some info) (Some (moved info cell r))) where
@@ -124,6 +125,6 @@ module _ (p q : Program) (places : (x : ℕ) (info : VarInfo) → slice_get p.va
       Made p q linked low calls names t (if sees visible x then visible else x.0 ∷ visible) (assigned (next_site t) x (renamed names v) (declared_in p r x.0 names (with_source_site p r site t)))
       (λ e. One p q e visible (if sees visible x then visible else x.0 ∷ visible) (stmt.Assign site x v) (assigned (next_site t) x (renamed names v) (declared_in p r x.0 names (with_source_site p r site t))).code)
   assigned_made site x v visible names t scoped listed ok lies seen =
-      let both = Rattle.dp_tree.proofs.Heads.and_true (knows visible v) (sees visible x || is_declared_in scope (slice_get p.vars x.0)) scoped in
+      let both = and_true (knows visible v) (sees visible x || is_declared_in scope (slice_get p.vars x.0)) scoped in
       assigned_as site x v visible (if sees visible x then visible else x.0 ∷ visible) names t (declared_in p r x.0 names (with_source_site p r site t)) both.0 listed ok seen
       (declared_made visible x names (with_source_site p r site t) (names_sited site names t ok) (lies_sited site t lies) seen both.1)

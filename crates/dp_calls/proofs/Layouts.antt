@@ -9,7 +9,7 @@ use Rattle.dp_tree.specs.Globals.{is_global_scope, globals_in}
 use Rattle.dp_tree.specs.Layout.{has_cells, lies_in_order, is_local_variable, globals_first}
 use Rattle.dp_tree.specs.Trace.{start_cells}
 use Rattle.dp_calls.specs.Frame.{global_count, fresh}
-use Rattle.dp_tree.proofs.Heads.{and_true}
+use Rattle.dp_tree.proofs.Heads.{and_true, and_make}
 use Rattle.dp_calls.proofs.Relation.{PlaceOf, file, own, file_count}
 
 not_false : (b : Bool) → not b ≡ true → b ≡ false
@@ -111,7 +111,7 @@ lies_from k (x ∷ xs) first lies n info at = by (is_global_scope x.scope) refl 
     by false e behind =
         let others = locals_rest x xs first e in
         let none : globals_in (x ∷ xs) ≡ [] = files_none x xs e ∙ no_files xs others in
-        let all : list_all is_local_variable (x ∷ xs) ≡ true = Rattle.dp_tree.proofs.Heads.and_make (is_local_variable x) (list_all is_local_variable xs) (ap not e) others in
+        let all : list_all is_local_variable (x ∷ xs) ≡ true = and_make (is_local_variable x) (list_all is_local_variable xs) (ap not e) others in
         let same : k ≡ k + 0 = omega arith in
         subst (λ (gs : List VarInfo). PlaceOf (length gs) (k + length (start_cells gs)) n info) (sym none)
         (subst (λ (c : ℕ). PlaceOf 0 c n info) same (local_lies k (x ∷ xs) all lies n info at))

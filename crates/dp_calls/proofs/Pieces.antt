@@ -16,10 +16,10 @@ use Rattle.dp_tree.specs.Scoping.{sees, knows, is_scope_in, seen_behind, in_scop
 use Rattle.dp_calls.specs.Frame.{global_count}
 use Rattle.dp_calls.specs.Renaming.{Renamed, target_of, renamed}
 use Rattle.dp_calls.specs.Tables.{Tables, with_source_site, next_site}
-use Rattle.dp_calls.specs.Expand.{Piece, nothing, alone, inside, followed_by, Calls, bindings, back_to, expand_one, expand_rows, expand_list}
-use Rattle.dp_tree.proofs.Heads.{and_true}
+use Rattle.dp_calls.specs.Expand.{Piece, nothing, alone, followed_by, Calls, bindings, back_to, expand_one, expand_rows, expand_list, behind}
+use Rattle.dp_tree.proofs.Heads.{and_true, and_make}
 use Rattle.dp_calls.proofs.InnerTexts.{texts, shown_texts}
-use Rattle.dp_calls.proofs.Relation.{Env, PlaceOf, file_count, IsEnv, Nested, One, act, call, Block, done, more, stores, prints, branches, loops}
+use Rattle.dp_calls.proofs.Relation.{Env, PlaceOf, file_count, IsEnv, Nested, One, act, call, Block, done, more, stores, prints, branches, loops, Binds}
 use Rattle.dp_calls.proofs.SameValues.{numbers_below}
 use Rattle.dp_calls.proofs.Tabled.{Grows, grows_not, grows_on, grows_source_site, Lies, moved}
 use Rattle.dp_calls.proofs.Named.{NamesOk, names_grow, names_none, steps_not, steps_on, Seen, seen_steps}
@@ -32,7 +32,7 @@ all_parts f [] ys h = (refl, h)
 all_parts f (x ∷ xs) ys h =
     let both = and_true (f x) (list_all f (xs ++ ys)) h in
     let rest = all_parts f xs ys both.1 in
-    (Rattle.dp_tree.proofs.Heads.and_make (f x) (list_all f xs) both.0 rest.0, rest.1)
+    (and_make (f x) (list_all f xs) both.0 rest.0, rest.1)
 
 -- the variables that are visible where the body of function f begins
 abbrev pub seen_in : Program → ℕ → List ℕ
@@ -124,9 +124,9 @@ module _ (p q : Program) (places : (x : ℕ) (info : VarInfo) → slice_get p.va
 
   module _ (visible : List ℕ) (names : List Renamed) (t : Tables) (ok : NamesOk p linked low names t) (lies : Lies p t) (seen : Seen p visible names) where
     call_by : (f line : ℕ) (args : List Expr) (a b : Piece) → f < n →
-        Made p q Any (length t.vars) f [] t (seen_in p f) a (λ g. (e : Env) → ((v : Expr) → knows visible v ≡ true → renamed names v ≡ renamed e.names v) → Rattle.dp_calls.proofs.Relation.Binds p q e g visible line (params_in (slice_get p.functions f)) args a.code) →
+        Made p q Any (length t.vars) f [] t (seen_in p f) a (λ g. (e : Env) → ((v : Expr) → knows visible v ≡ true → renamed names v ≡ renamed e.names v) → Binds p q e g visible line (params_in (slice_get p.functions f)) args a.code) →
         Made p q Any (length t.vars) f a.names a.tables (seen_in p f) b (λ g. Block p q g (seen_in p f) (body_in (slice_get p.functions f)) b.code) →
-        OneMade visible names t visible (stmt.Call f line args) (back_to names (Rattle.dp_calls.specs.Expand.behind a b))
+        OneMade visible names t visible (stmt.Call f line args) (back_to names (behind a b))
     call_by f line args a b less first second =
         let g : Env = record { low = length t.vars; high = length b.tables.vars; names = b.names; calls = f } in
         let grew : Grows t b.tables = grows_on first.grows second.grows in
@@ -176,7 +176,7 @@ module _ (p q : Program) (places : (x : ℕ) (info : VarInfo) → slice_get p.va
 
   -- one statement, and those behind it
   pub both_made : (visible : List ℕ) (names : List Renamed) (t : Tables) (s : Stmt) (rest : List Stmt) (a b : Piece) → Seen p visible names →
-      OneMade visible names t (seen_behind visible s) s a → BlockMade (seen_behind visible s) a.names a.tables rest b → BlockMade visible names t (s ∷ rest) (Rattle.dp_calls.specs.Expand.behind a b)
+      OneMade visible names t (seen_behind visible s) s a → BlockMade (seen_behind visible s) a.names a.tables rest b → BlockMade visible names t (s ∷ rest) (behind a b)
   both_made visible names t s rest a b seen first second = record {
     grows = grows_on first.grows second.grows;
     lies = second.lies;

@@ -39,9 +39,6 @@ module _ (p : Program) (checked : IsChecked p) where
   abbrev whole : Piece
   whole = expand_list p (calls_within p (length p.functions)) 0 p.main [] (first_tables p)
 
-  file_place : (x : ℕ) (info : VarInfo) → x < file_count p → slice_get p.vars x ≡ Some info → PlaceOf (file_count p) (global_count p) x info
-  file_place x info less at = places x info at
-
   first_lies : Lies p (first_tables p)
   first_lies = record {
     place = λ k info at.

@@ -6,12 +6,15 @@ use Rattle.dp_base.specs.Arithmetic.{binary_result, unary_result}
 use Rattle.dp_tree.specs.declared.Expr.{Expr, end_of-Expr, more_of-Expr}
 use Rattle.dp_tree.specs.declared.Expr.TheVariants as tree
 use Rattle.dp_tree.specs.declared.Program.{Program}
-use Rattle.dp_tree.specs.Eval.{Evaluated, eval, place, first_of, length_of, first_cell, cell_count, result_of, bind}
+use Rattle.dp_tree.specs.Eval.{eval, first_cell, cell_count, result_of, bind, just}
 use Rattle.dp_tree.specs.Numbering.{numbers_from}
 use Rattle.dp_tree.specs.Scoping.{sees, knows}
 use Rattle.dp_calls.specs.Renaming.{Renamed, target_of, renamed}
 use Rattle.dp_tree.proofs.EvalLemmas.{opened, word, element, and_also, or_also, result-Number, result-InputLen, result-Scalar, result-Input, result-Element, result-Unary, result-Binary, result-And, result-Or}
 use Rattle.dp_tree.proofs.Heads.{and_true}
+use Rattle.dp_base.specs.declared.FaultKind.TheVariants.{Index}
+use Rattle.dp_base.specs.declared.UnOp.{UnOp}
+use Rattle.dp_base.specs.declared.BinOp.{BinOp}
 
 pub or_true : (a b : Bool) → (a || b) ≡ true → (a ≡ true) ⊎ (b ≡ true)
 or_true true b e = inl refl
@@ -51,8 +54,8 @@ pub record ReadsSame (p q : Program) (a b : List ℤ) (x y : VarId) : Type 0 whe
 
 module _ (a b : List ℤ) (f g n : ℕ) (cells : (k : ℕ) → k < n → get_or a (f + k) (pos 0) ≡ get_or b (g + k) (pos 0)) where
   element_by : (i : ℕ) (t : Bool) → nat_lt i n ≡ t →
-      bind (result_of (if t then Rattle.dp_tree.specs.Eval.just i else Err Rattle.dp_base.specs.declared.FaultKind.TheVariants.Index)) (λ k. Ok (get_or a (f + k) (pos 0)))
-      ≡ bind (result_of (if t then Rattle.dp_tree.specs.Eval.just i else Err Rattle.dp_base.specs.declared.FaultKind.TheVariants.Index)) (λ k. Ok (get_or b (g + k) (pos 0)))
+      bind (result_of (if t then just i else Err Index)) (λ k. Ok (get_or a (f + k) (pos 0)))
+      ≡ bind (result_of (if t then just i else Err Index)) (λ k. Ok (get_or b (g + k) (pos 0)))
   element_by i true e = ap Ok (cells i (ltb-true i n e))
   element_by i false e = refl
 
@@ -93,10 +96,10 @@ module _ (p q : Program) (input a b : List ℤ) (names : List Renamed) (visible 
   same-Input : (e : Expr) → Same e → result_of (eval p input a (tree.Input e)) ≡ result_of (eval q input b (tree.Input (renamed names e)))
   same-Input e h = result-Input p input a e ∙ ap (λ (v : Result ℤ FaultKind). bind v (word input)) h ∙ sym (result-Input q input b (renamed names e))
 
-  same-Unary : (op : Rattle.dp_base.specs.declared.UnOp.UnOp) (e : Expr) → Same e → result_of (eval p input a (tree.Unary op e)) ≡ result_of (eval q input b (tree.Unary op (renamed names e)))
+  same-Unary : (op : UnOp) (e : Expr) → Same e → result_of (eval p input a (tree.Unary op e)) ≡ result_of (eval q input b (tree.Unary op (renamed names e)))
   same-Unary op e h = result-Unary p input a op e ∙ ap (λ (v : Result ℤ FaultKind). bind v (unary_result op)) h ∙ sym (result-Unary q input b op (renamed names e))
 
-  same-Binary : (op : Rattle.dp_base.specs.declared.BinOp.BinOp) (c d : Expr) → Same c → Same d →
+  same-Binary : (op : BinOp) (c d : Expr) → Same c → Same d →
       result_of (eval p input a (tree.Binary op c d)) ≡ result_of (eval q input b (tree.Binary op (renamed names c) (renamed names d)))
   same-Binary op c d h k =
       result-Binary p input a op c d

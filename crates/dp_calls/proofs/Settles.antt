@@ -14,6 +14,7 @@ use Rattle.dp_calls.proofs.Relation.{Env, file_count, Laid, IsEnv, Nested, Binds
 use Rattle.dp_calls.proofs.SameValues.{numbers_below}
 use Rattle.dp_calls.proofs.Stacks.{Suits, Stack, bottom, over, Ready, Filling, Sim, ends, acting, binding}
 use Rattle.dp_calls.proofs.Stands.{acts_cleared, stack_cleared}
+use Rattle.dp_base.specs.declared.SiteId.{SiteId}
 
 module _ (p q : Program) (laid : Laid p q) where
   -- where only file-scope variables are visible
@@ -75,7 +76,7 @@ module _ (p q : Program) (laid : Laid p q) where
         (ap (λ (c : List Stmt). c ++ rest) is) c.cells c.target (acting here callee refl a todo refl)
 
     -- a call that has evaluated nothing: its first binding comes next
-    at_binding : (s : Stmt) {e g : Env} {visible : List ℕ} {f : Frame} {below : List Frame} {b : Stmt} {site : Rattle.dp_base.specs.declared.SiteId.SiteId} {y : VarId} {v : Expr} {statements own bindings body text rest : List Stmt} {h : List ℤ}
+    at_binding : (s : Stmt) {e g : Env} {visible : List ℕ} {f : Frame} {below : List Frame} {b : Stmt} {site : SiteId} {y : VarId} {v : Expr} {statements own bindings body text rest : List Stmt} {h : List ℤ}
         {k line : ℕ} {x : VarId} {params : List VarId} {a : Expr} {args : List Expr} →
         Ready p q e visible f below rest h → out-Stmt s ≡ Call k line (a ∷ args) → out-Stmt b ≡ Assign site y v →
         Filling p q e g visible k line x params a args f.callee (b ∷ bindings) body h → Todo p q e visible statements own → text ≡ b ∷ (bindings ++ (body ++ own)) →

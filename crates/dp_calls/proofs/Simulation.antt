@@ -1,6 +1,7 @@
 -- Frames and the expanded program do the same, step by step, and so for every fuel.
 use Rattle.std.proofs.Common.{◌≡◌, refl, sym, ap, ap₂, ◌∙◌, subst, ℕ, zero, suc, List, [], ◌∷◌, ◌++◌, ℤ, length, take, Option, Some, None}
 use Rattle.std.proofs.lemmas.List.{take_at}
+use Rattle.std.specs.List.{cons_option}
 use Rattle.dp_base.specs.declared.End.{End}
 use Rattle.dp_base.specs.declared.End.TheVariants.{Done, Fault, Fuel}
 use Rattle.dp_base.specs.declared.VarId.{VarId}
@@ -53,21 +54,27 @@ module _ (p q : Program) (laid : Laid p q) (input : List ℤ) where
     abbrev outcome_as : List ℤ → List ℤ → ℕ → End → Outcome
     outcome_as printed globals steps end = record { prints = printed; globals = globals; steps = steps; end = end }
 
-    stepped_as : (z o : Option ℤ) (c d : Config) (event : Event) (n : ℕ) (run : Run) (outcome : Outcome) → printed_by event.effect ≡ z → outcome ≡ outcome_of_run q run →
+    stepped_outcome : Option ℤ → Run → Outcome
+    stepped_outcome z run = outcome_as (cons_option z (prints run.trace)) (take (global_count q) (cells_after run (length run.trace))) (suc (length run.trace)) run.end
+
+    with_step_is : (z : Option ℤ) (run : Run) → with_step z (outcome_of_run q run) ≡ stepped_outcome z run
+    unfolding stepped_outcome
+    with_step_is None run = refl
+    with_step_is (Some z) run = refl
+
+    -- one step more on both sides
+    stepped_as : (z : Option ℤ) (d : Config) (event : Event) (n : ℕ) (run : Run) (outcome : Outcome) → printed_by event.effect ≡ z → outcome ≡ outcome_of_run q run →
         with_step z outcome ≡ outcome_of_run q (extended n d event run)
-    stepped_as None o c d event n run outcome printed is =
-        ap (λ (w : Outcome). with_step None w) is
-        ∙ ap (λ (z : Option ℤ). outcome_as (Rattle.std.specs.List.cons_option z (prints run.trace)) (take (global_count q) (cells_after run (length run.trace))) (suc (length run.trace)) run.end) (sym printed)
-    stepped_as (Some z) o c d event n run outcome printed is =
-        ap (λ (w : Outcome). with_step (Some z) w) is
-        ∙ ap (λ (z : Option ℤ). outcome_as (Rattle.std.specs.List.cons_option z (prints run.trace)) (take (global_count q) (cells_after run (length run.trace))) (suc (length run.trace)) run.end) (sym printed)
+    unfolding stepped_outcome
+    stepped_as z d event n run outcome printed is =
+        ap (λ (w : Outcome). with_step z w) is ∙ with_step_is z run ∙ ap (λ (w : Option ℤ). stepped_outcome w run) (sym printed)
 
     outcomes_by : (n : ℕ) (go : (c : State) (d : Config) → Alike p q c d → frames_from p input n c ≡ outcome_of_run q (run_of q input n d)) (c : State) (d : Config) → Alike p q c d →
         (s : FrameStep) (t : Step) → StepsAlike p q s t → outcome_by (frames_from p input n) c s ≡ outcome_of_run q (run_by (run_of q input n) (suc n) d t)
     outcomes_by n go c d alike s t both_end = ap (λ (g : List ℤ). outcome_as [] g 0 Done) (globals_are c d alike)
     outcomes_by n go c d alike s t (both_fault fault) = ap (λ (g : List ℤ). outcome_as [] g 0 (Fault fault)) (globals_are c d alike)
     outcomes_by n go c d alike s t (both_go {z = z} {c = after} {event = event} {d = next} printed behind) =
-        stepped_as z z d d event (suc n) (run_of q input n next) (frames_from p input n after) printed (go after next behind)
+        stepped_as z d event (suc n) (run_of q input n next) (frames_from p input n after) printed (go after next behind)
 
     -- the outcome from alike states on
     pub outcomes_alike : (n : ℕ) (c : State) (d : Config) → Alike p q c d → frames_from p input n c ≡ outcome_of_run q (run_of q input n d)

@@ -66,9 +66,6 @@ module _ (p q : Program) where
     pub cells : d.cells ≡ c.globals ++ own
     pub sim : Sim own c.frames d.to_do
 
-  within_all : (visible : List ℕ) → Within p q visible visible
-  within_all visible x seen = seen
-
   declares_within : {e : Env} {visible behind : List ℕ} {x : VarId} → Declares p q e visible x behind → Within p q visible behind
   declares_within (known seen) w at = at
   declares_within {visible = visible} {x = x} (new y named) w at = sees_more x.0 visible w at
