@@ -1,3 +1,31 @@
+-- laws of expansion alone
 pub mod ExpandLaws
 pub mod NoCallLaws
+-- frames against the expanded program: the relation, values and stores
+pub mod InnerTexts
+pub mod Relation
+pub mod SameValues
+pub mod Visible
+pub mod Written
+pub mod Clears
+-- stacks of frames; a step of each kind; whole runs
+pub mod Stacks
+pub mod Effects
+pub mod Stands
+pub mod Settles
+pub mod Acting
+pub mod Binding
+pub mod Simulation
+-- expansion leads to the relation: tables, names, and pieces of text
+pub mod Tabled
+pub mod Named
+pub mod Made
+pub mod Passed
+pub mod Declared
+pub mod Pieces
+-- checked programs, and the law
+pub mod Layouts
+pub mod CheckedTexts
+pub mod Whole
+pub mod SameMeanings
 pub mod rows

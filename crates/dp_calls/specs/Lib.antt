@@ -6,3 +6,4 @@ pub mod Tables
 pub mod Piece
 pub mod Expand
 pub mod ExpandLaws
+pub mod Meaning

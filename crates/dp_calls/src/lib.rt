@@ -5,4 +5,4 @@
 
 mod laws;
 
-pub use laws::expansion_leaves_no_call;
+pub use laws::{expansion_keeps_the_meaning, expansion_leaves_no_call};

@@ -1,0 +1,208 @@
+-- A step at a statement with a site, with frames and expanded.
+use Rattle.std.proofs.Common.{◌≡◌, refl, sym, ap, ap₂, ◌∙◌, subst, ℕ, ◌+◌, Bool, true, false, if◌then◌else◌, List, ◌∷◌, ◌++◌, ℤ, length, take, drop, Option, arith}
+use Rattle.std.proofs.lemmas.List.{take_at, drop_at}
+use Rattle.dp_base.specs.Arithmetic.{is_zero}
+use Rattle.dp_base.specs.declared.Fault.{Fault as FaultAt}
+use Rattle.dp_base.specs.declared.SiteId.{SiteId}
+use Rattle.dp_tree.specs.declared.Stmt.{Stmt, out-Stmt}
+use Rattle.dp_tree.specs.declared.Stmt.TheOpen.{Stmt-F, Assign, Store, Print, If, While, Region, Call}
+use Rattle.dp_tree.specs.declared.Program.{Program}
+use Rattle.dp_tree.specs.Eval.{Evaluated, first_cell}
+use Rattle.dp_tree.specs.Event.{Effect, Event, value_of, stored}
+use Rattle.dp_tree.specs.Step.{Config, Step, Finished, Faulted, Stepped, choose, followed, site_of, line_of, evaluated, standing, step_by, step_at, step_from, step}
+use Rattle.dp_tree.specs.Trace.{printed_by}
+use Rattle.dp_calls.specs.Frame.{Frame, State, global_count, fresh, settled}
+use Rattle.dp_calls.specs.FrameStep.{FrameStep, Ends, Faults, Goes, frame_step, step_head, step_frame, step_frames}
+use Rattle.dp_calls.specs.Renaming.{target_of}
+use Rattle.dp_tree.proofs.Heads.{followed-append, standing_to_do}
+use Rattle.dp_calls.proofs.Relation.{Env, file_count, Laid, IsEnv, Acts, assigns, stores, prints, branches, loops, marks, act, Block, Todo, next, Agree, Room}
+use Rattle.dp_calls.proofs.Written.{After}
+use Rattle.dp_calls.proofs.Stacks.{Suits, Ready, Alike, block_then, stack_kept, Sim}
+use Rattle.dp_calls.proofs.Effects.{EvaluatesAlike, faults, goes, stores_alike, prints_alike, decides_alike, elements_alike, values, nothing_stored, element_stored, same_length, declared_stored}
+use Rattle.dp_calls.proofs.Stands.{stands}
+use Rattle.dp_calls.proofs.Settles.{settles_running}
+
+-- the statement is a call
+abbrev pub calls_at : Stmt-F Stmt → Bool
+calls_at (Call f line args) = true
+calls_at _ = false
+
+module _ (p q : Program) where
+  -- both end, both have the same fault, or both go on alike with the same print
+  pub data StepsAlike : FrameStep → Step → Type 0 where
+    both_end : StepsAlike Ends Finished
+    both_fault : (fault : FaultAt) → StepsAlike (Faults fault) (Faulted fault)
+    both_go : {z : Option ℤ} {c : State} {event : Event} {d : Config} → printed_by event.effect ≡ z → Alike p q c d → StepsAlike (Goes z c) (Stepped event d)
+
+  pub step_plain : (r : Program) (input cells : List ℤ) (s : Stmt) (rest : List Stmt) (head : Stmt-F Stmt) → calls_at head ≡ false →
+      step_at r input cells s rest head ≡ step_by r (site_of head) cells (evaluated r input cells head) (followed s rest head)
+  step_plain r input cells s rest (Assign site x e) h = refl
+  step_plain r input cells s rest (Store site x index e) h = refl
+  step_plain r input cells s rest (Print site e) h = refl
+  step_plain r input cells s rest (If site cond a b) h = refl
+  step_plain r input cells s rest (While site cond a) h = refl
+  step_plain r input cells s rest (Region k site cond a) h = refl
+  step_plain r input cells s rest (Call f line args) h = absurd (cc)
+
+  step_head_plain : (input : List ℤ) (c : State) (f : Frame) (below : List Frame) (rest : List Stmt) (head : Stmt-F Stmt) → calls_at head ≡ false →
+      step_head p input c f below rest head ≡ frame_step p f below (step p input (record { to_do = f.to_do; cells = c.globals ++ f.locals }))
+  step_head_plain input c f below rest (Assign site x e) h = refl
+  step_head_plain input c f below rest (Store site x index e) h = refl
+  step_head_plain input c f below rest (Print site e) h = refl
+  step_head_plain input c f below rest (If site cond a b) h = refl
+  step_head_plain input c f below rest (While site cond a) h = refl
+  step_head_plain input c f below rest (Region k site cond a) h = refl
+  step_head_plain input c f below rest (Call g line args) h = absurd (cc)
+
+  -- the step of the running frame
+  pub frame_plain : (input : List ℤ) (c : State) (f : Frame) (below : List Frame) (s : Stmt) (rest : List Stmt) → f.to_do ≡ s ∷ rest → calls_at (out-Stmt s) ≡ false →
+      step_frames p input c (f ∷ below)
+      ≡ frame_step p f below (step_by p (site_of (out-Stmt s)) (c.globals ++ f.locals) (evaluated p input (c.globals ++ f.locals) (out-Stmt s)) (followed s rest (out-Stmt s)))
+  frame_plain input c f below s rest is plain =
+      ap (λ (xs : List Stmt). step_frame p input c f below xs) is
+      ∙ step_head_plain input c f below rest (out-Stmt s) plain
+      ∙ ap (λ (xs : List Stmt). frame_step p f below (step_from p input (c.globals ++ f.locals) xs)) is
+      ∙ ap (frame_step p f below) (step_plain p input (c.globals ++ f.locals) s rest (out-Stmt s) plain)
+
+  -- both statements have a site, with the same line
+  pub record SitesAlike (s t : Stmt) : Type 0 where
+    pub source : calls_at (out-Stmt s) ≡ false
+    pub target : calls_at (out-Stmt t) ≡ false
+    pub line : line_of q (site_of (out-Stmt t)) ≡ line_of p (site_of (out-Stmt s))
+
+  sites_by : (s t : Stmt) (a b : Stmt-F Stmt) → out-Stmt s ≡ a → out-Stmt t ≡ b → calls_at a ≡ false → calls_at b ≡ false → line_of q (site_of b) ≡ line_of p (site_of a) → SitesAlike s t
+  sites_by s t a b is there plain plainly line = record {
+    source = ap calls_at is ∙ plain;
+    target = ap calls_at there ∙ plainly;
+    line = ap (λ (x : Stmt-F Stmt). line_of q (site_of x)) there ∙ line ∙ sym (ap (λ (x : Stmt-F Stmt). line_of p (site_of x)) is);
+  }
+
+  acts_sites : {e : Env} {visible behind : List ℕ} {s t : Stmt} → Acts p q e visible behind s t → SitesAlike s t
+  acts_sites {s = s} {t = t} (assigns a b line _ _) = sites_by s t _ _ a b refl refl line
+  acts_sites {s = s} {t = t} (stores a b line _ _ _) = sites_by s t _ _ a b refl refl line
+  acts_sites {s = s} {t = t} (prints a b line _) = sites_by s t _ _ a b refl refl line
+  acts_sites {s = s} {t = t} (branches a b line _ _ _) = sites_by s t _ _ a b refl refl line
+  acts_sites {s = s} {t = t} (loops a b line _ _) = sites_by s t _ _ a b refl refl line
+  acts_sites {s = s} {t = t} (marks a b line _ _ _ _) = sites_by s t _ _ a b refl refl line
+
+  -- what follows is alike
+  module _ {e : Env} {behind : List ℕ} {statements text : List Stmt} (todo : Todo p q e behind statements text) where
+    abbrev Follows : Stmt → Stmt → ℤ → Stmt-F Stmt → Stmt-F Stmt → Type 0
+    Follows s t z a b = Todo p q e behind (followed s statements a z) (followed t text b z)
+
+    chosen : (z : ℤ) {a b c d : List Stmt} → Block p q e behind a c → Block p q e behind b d → Todo p q e behind (choose z a b ++ statements) (choose z c d ++ text)
+    chosen z {a = a} {b = b} {c = c} {d = d} one other = by (is_zero z)
+      where
+        by : (u : Bool) → Todo p q e behind ((if u then b else a) ++ statements) ((if u then d else c) ++ text)
+        by true = block_then p q todo other (λ x seen. seen)
+        by false = block_then p q todo one (λ x seen. seen)
+
+    again : (z : ℤ) (s t : Stmt) {a c : List Stmt} → Acts p q e behind behind s t → Block p q e behind a c → Todo p q e behind (choose z (a ++ s ∷ statements) statements) (choose z (c ++ t ∷ text) text)
+    again z s t {a = a} {c = c} acts block = by (is_zero z)
+      where
+        by : (u : Bool) → Todo p q e behind (if u then statements else a ++ s ∷ statements) (if u then text else c ++ t ∷ text)
+        by true = todo
+        by false = block_then p q (next (act acts) todo refl) block (λ x seen. seen)
+
+    follows_as : (s t : Stmt) (z : ℤ) {a b : Stmt-F Stmt} → out-Stmt s ≡ a → out-Stmt t ≡ b → Follows s t z a b → Follows s t z (out-Stmt s) (out-Stmt t)
+    follows_as s t z {a = a} {b = b} is there h =
+        subst (λ (x : Stmt-F Stmt). Follows s t z x (out-Stmt t)) (sym is) (subst (λ (x : Stmt-F Stmt). Follows s t z a x) (sym there) h)
+
+    pub follows : {visible : List ℕ} (s t : Stmt) → Acts p q e visible behind s t → (z : ℤ) → Follows s t z (out-Stmt s) (out-Stmt t)
+    follows s t (assigns a b _ _ _) z = follows_as s t z a b todo
+    follows s t (stores a b _ _ _ _) z = follows_as s t z a b todo
+    follows s t (prints a b _ _) z = follows_as s t z a b todo
+    follows s t (branches a b _ _ one other) z = follows_as s t z a b (chosen z one other)
+    follows s t (loops a b line known block) z = follows_as s t z a b (again z s t (loops a b line known block) block)
+    follows s t (marks a b line known block quiet main) z = follows_as s t z a b (again z s t (marks a b line known block quiet main) block)
+
+  module _ (laid : Laid p q) (input : List ℤ) {e : Env} (env : IsEnv p q e) (visible : List ℕ) (g l h : List ℤ)
+      (whole : length g ≡ global_count p) (room : Room p q l h) (agree : Agree p q e visible l h) where
+    abbrev Evaluates : List ℕ → Stmt-F Stmt → Stmt-F Stmt → Type 0
+    Evaluates behind a b = EvaluatesAlike (After p q e behind h) (g ++ l) (g ++ h) (evaluated p input (g ++ l) a) (evaluated q input (g ++ h) b)
+
+    evaluates_as : (behind : List ℕ) (s t : Stmt) {a b : Stmt-F Stmt} → out-Stmt s ≡ a → out-Stmt t ≡ b → Evaluates behind a b → Evaluates behind (out-Stmt s) (out-Stmt t)
+    evaluates_as behind s t {a = a} {b = b} is there w =
+        subst (λ (x : Stmt-F Stmt). Evaluates behind x (out-Stmt t)) (sym is) (subst (λ (x : Stmt-F Stmt). Evaluates behind a x) (sym there) w)
+
+    pub evaluates : {behind : List ℕ} (s t : Stmt) → Acts p q e visible behind s t → Evaluates behind (out-Stmt s) (out-Stmt t)
+    evaluates {behind = behind} s t (assigns {x = x} {v = v} a b _ known declares) =
+        evaluates_as behind s t a b
+        (stores_alike (first_cell p x) (first_cell q (target_of e.names x))
+        (declared_stored p q laid input e env visible g l h whole room agree x behind declares)
+        _ _ (values p q laid input e env visible g l h whole room agree v known))
+    evaluates s t (stores {x = x} {i = i} {v = v} a b _ known_index known seen) =
+        evaluates_as visible s t a b
+        (elements_alike (first_cell p x) (first_cell q (target_of e.names x)) _ _
+        (same_length p q laid input e env visible g l h whole room agree x seen)
+        (element_stored p q laid input e env visible g l h whole room agree x seen)
+        _ _ _ _ (values p q laid input e env visible g l h whole room agree i known_index) (values p q laid input e env visible g l h whole room agree v known))
+    evaluates s t (prints {v = v} a b _ known) =
+        evaluates_as visible s t a b (prints_alike (nothing_stored p q laid input e env visible g l h whole room agree) _ _ (values p q laid input e env visible g l h whole room agree v known))
+    evaluates s t (branches {v = v} a b _ known _ _) =
+        evaluates_as visible s t a b (decides_alike (nothing_stored p q laid input e env visible g l h whole room agree) _ _ (values p q laid input e env visible g l h whole room agree v known))
+    evaluates s t (loops {v = v} a b _ known _) =
+        evaluates_as visible s t a b (decides_alike (nothing_stored p q laid input e env visible g l h whole room agree) _ _ (values p q laid input e env visible g l h whole room agree v known))
+    evaluates s t (marks {v = v} a b _ known _ _ _) =
+        evaluates_as visible s t a b (decides_alike (nothing_stored p q laid input e env visible g l h whole room agree) _ _ (values p q laid input e env visible g l h whole room agree v known))
+
+  -- where the state behind a step is
+  abbrev state_of : Frame → List Frame → List ℤ → List ℤ → List Stmt → State
+  state_of f below globals locals to_do = record { globals = globals; frames = settled p (record f { to_do = to_do; locals = locals } ∷ below) }
+
+  state_is : (f : Frame) (below : List Frame) (c : Config) (globals locals : List ℤ) (to_do : List Stmt) → c.cells ≡ globals ++ locals → c.to_do ≡ to_do → length globals ≡ global_count p →
+      state_of f below (take (global_count p) c.cells) (drop (global_count p) c.cells) c.to_do ≡ state_of f below globals locals to_do
+  state_is f below c globals locals to_do cells is whole =
+      let first : take (global_count p) c.cells ≡ globals = ap (take (global_count p)) cells ∙ take_at globals locals (global_count p) whole in
+      let second : drop (global_count p) c.cells ≡ locals = ap (drop (global_count p)) cells ∙ drop_at globals locals (global_count p) whole in
+      ap₂ (λ (a b : List ℤ). state_of f below a b c.to_do) first second ∙ ap (state_of f below globals locals) is
+
+  module _ (laid : Laid p q) {e : Env} {visible behind : List ℕ} {f : Frame} {below : List Frame} {rest : List Stmt} {h : List ℤ} (ready : Ready p q e visible f below rest h) (callee : f.callee ≡ fresh p) (g : List ℤ) where
+    -- the state and the configuration behind such a step
+    behind_alike : (statements text code : List Stmt) (a b : List ℤ) → Todo p q e behind statements text → code ≡ text ++ rest → After p q e behind h a b →
+        Alike p q (state_of f below (take (global_count p) (standing p statements a).cells) (drop (global_count p) (standing p statements a).cells) (standing p statements a).to_do) (standing q code b)
+    behind_alike statements text code a b todo is after =
+        let st = stands p q laid ready.env after.locals after.cells after.agree todo in
+        let cells_are : (standing p statements a).cells ≡ after.globals ++ st.locals = ap (λ (m : List ℤ). (standing p statements m).cells) after.first ∙ st.is after.globals after.whole in
+        let wide : length after.cells ≡ length h = omega (arith, after.room.1, ready.room.1) in
+        let suits : Suits p q e st.outer (record f { to_do = statements; locals = st.locals }) text after.cells = record {
+          env = ready.env;
+          todo = st.todo;
+          agree = st.agree;
+          room = (ap (λ (n : ℕ). n + file_count p) st.long ∙ after.room.0, after.room.1);
+          callee = callee;
+        } in
+        let s = settles_running p q laid suits (stack_kept p q h after.cells wide after.keeps ready.stack) in
+        let there : standing q code b ≡ standing q (text ++ rest) (after.globals ++ after.cells) = ap₂ (λ (xs : List Stmt) (m : List ℤ). standing q xs m) is after.second in
+        subst (λ (c : State). Alike p q c (standing q code b)) (sym (state_is f below (standing p statements a) after.globals st.locals statements cells_are (standing_to_do p statements a) after.whole))
+        (subst (λ (d : Config). Alike p q (state_of f below after.globals st.locals statements) d) (sym there)
+        (record {
+          own = s.own;
+          whole = after.whole;
+          cells = s.stands after.globals after.whole;
+          sim = subst (λ (xs : List Stmt). Sim p q s.own (settled p (record f { to_do = statements; locals = st.locals } ∷ below)) xs) (sym (standing_to_do q (text ++ rest) (after.globals ++ after.cells))) s.sim;
+        }))
+
+    act_by : (site here : SiteId) (nexts next_texts texts : ℤ → List Stmt) → line_of q here ≡ line_of p site → ((z : ℤ) → Todo p q e behind (nexts z) (texts z)) → ((z : ℤ) → next_texts z ≡ texts z ++ rest) →
+        (a b : List ℤ) (u v : Evaluated Effect) → EvaluatesAlike (After p q e behind h) a b u v → StepsAlike (frame_step p f below (step_by p site a u nexts)) (step_by q here b v next_texts)
+    act_by site here nexts next_texts texts line todo is a b u v (faults kind) =
+        subst (λ (n : ℕ). StepsAlike (Faults (record { kind = kind; line = line_of p site })) (Faulted (record { kind = kind; line = n }))) (sym line) (both_fault (record { kind = kind; line = line_of p site }))
+    act_by site here nexts next_texts texts line todo is a b u v (goes x y alike) =
+        both_go (sym alike.printed)
+        (behind_alike (nexts (value_of x.value)) (texts (value_of x.value)) (next_texts (value_of y.value)) (stored x.value a) (stored y.value b) (todo (value_of x.value))
+        (sym (ap next_texts alike.value) ∙ is (value_of x.value)) alike.after)
+
+    pub acting_steps : (input : List ℤ) (c : State) (s t : Stmt) (statements text code : List Stmt) → c.globals ≡ g → length g ≡ global_count p →
+        f.to_do ≡ s ∷ statements → Acts p q e visible behind s t → Todo p q e behind statements text → code ≡ t ∷ (text ++ rest) →
+        StepsAlike (step_frames p input c (f ∷ below)) (step_from q input (c.globals ++ h) code)
+    acting_steps input c s t statements text code same whole is acts todo code_is =
+        let sites = acts_sites acts in
+        let left = frame_plain input c f below s statements is sites.source in
+        let right : step_from q input (c.globals ++ h) code ≡ step_by q (site_of (out-Stmt t)) (c.globals ++ h) (evaluated q input (c.globals ++ h) (out-Stmt t)) (followed t (text ++ rest) (out-Stmt t)) =
+        ap (λ (xs : List Stmt). step_from q input (c.globals ++ h) xs) code_is ∙ step_plain q input (c.globals ++ h) t (text ++ rest) (out-Stmt t) sites.target in
+        subst (λ (x : FrameStep). StepsAlike x (step_from q input (c.globals ++ h) code)) (sym left)
+        (subst (λ (x : Step). StepsAlike (frame_step p f below (step_by p (site_of (out-Stmt s)) (c.globals ++ f.locals) (evaluated p input (c.globals ++ f.locals) (out-Stmt s)) (followed s statements (out-Stmt s)))) x) (sym right)
+        (act_by (site_of (out-Stmt s)) (site_of (out-Stmt t)) (followed s statements (out-Stmt s)) (followed t (text ++ rest) (out-Stmt t)) (followed t text (out-Stmt t)) sites.line
+        (follows todo s t acts) (followed-append t text rest (out-Stmt t))
+        (c.globals ++ f.locals) (c.globals ++ h) _ _
+        (evaluates laid input ready.env visible c.globals f.locals h (ap length same ∙ whole) ready.room ready.agree s t acts)))
