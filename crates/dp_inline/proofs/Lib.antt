@@ -1,0 +1,4 @@
+pub mod ExprLemmas
+pub mod NamesLemmas
+pub mod FormLemmas
+pub mod Work

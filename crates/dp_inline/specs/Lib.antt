@@ -1,0 +1,4 @@
+pub mod Size
+pub mod Verdict
+pub mod Named
+pub mod Written

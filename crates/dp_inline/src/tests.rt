@@ -1,0 +1,1 @@
+//! Expanded programs and limits, as tables of exact results.
