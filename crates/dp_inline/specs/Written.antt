@@ -1,9 +1,12 @@
 -- A piece of the expanded text as the code holds it, and the piece after more of the text.
-use Rattle.std.specs.Prelude.{ℕ, List, [], ◌∷◌, ◌++◌, length}
+use Rattle.std.specs.Prelude.{ℕ, ◌+◌, List, [], ◌∷◌, ◌++◌, length}
 use Rattle.dp_tree.specs.declared.Expr.{Expr}
 use Rattle.dp_tree.specs.declared.Stmt.{Stmt}
 use Rattle.dp_tree.specs.declared.Program.{Program}
 use Rattle.dp_tree.specs.declared.SiteInfo.{SiteInfo}
+use Rattle.dp_tree.specs.declared.VarInfo.{VarInfo}
+use Rattle.dp_tree.specs.Globals.{globals_in}
+use Rattle.dp_tree.specs.Trace.{start_cells}
 use Rattle.dp_base.specs.declared.SiteId.{SiteId}
 use Rattle.dp_base.specs.declared.VarId.{VarId}
 use Rattle.dp_calls.specs.Renaming.{Renamed, renamed}
@@ -47,6 +50,14 @@ with_declared p r x a = record (declared_in p r x a.names a.tables) { code = a.c
 -- the piece with one more region, which ends here
 abbrev pub with_next_region : ℕ → SiteId → Piece → Piece
 with_next_region line first a = record a { tables = with_region line first a.tables }
+
+-- the piece with those of these variables that are of the file
+abbrev pub with_globals : Piece → List VarInfo → Piece
+with_globals a xs = record a { tables = record a.tables { vars = a.tables.vars ++ globals_in xs; cells = a.tables.cells + length (start_cells (globals_in xs)) } }
+
+-- no text and no tables
+abbrev pub blank : Piece
+blank = record { code = []; names = []; tables = record { vars = []; cells = 0; sites = []; regions = [] } }
 
 -- the expression in these names
 unfoldable pub expr_in : List Renamed → Expr → Expr

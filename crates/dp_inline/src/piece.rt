@@ -1,6 +1,6 @@
 //! The expanded text and its tables while they are written.
 
-ghost use Rattle.std.specs.Prelude.{◌≡◌, [], IfOk, OnOk, option_copied};
+ghost use Rattle.std.specs.Prelude.{◌≡◌, ◌∷◌, [], IfOk, OnOk, option_copied};
 ghost use Rattle.dp_calls.specs.Expand.{is_global};
 ghost use Rattle.dp_calls.specs.Tables.{next_site, scope_in};
 
@@ -43,7 +43,7 @@ fn scope(region: u32) -> VarScope
 }
 
 /// The variable's entry, with another cell and scope.
-pub fn moved(alloc: Global, info: &VarInfo, cell: u32, scope: VarScope) -> Result<VarInfo, NoMemory>
+fn moved(alloc: Global, info: &VarInfo, cell: u32, scope: VarScope) -> Result<VarInfo, NoMemory>
     ensures { IfOk result (λ moved. moved ≡ record info.now { first = record { 0 = cell }; scope = scope }) }
 {
     let name = Row::from_slice(alloc, info.name.as_slice())?;
@@ -67,7 +67,35 @@ fn is_file_scope(info: Option<&VarInfo>) -> bool
 }
 
 impl Writer {
-    ghost use Rattle.dp_inline.specs.Written.{written, emptied, expr_in, with_statement, with_binding_site, with_text_site, with_new_local, with_declared, with_next_region};
+    ghost use Rattle.dp_inline.specs.Written.{written, blank, with_globals, emptied, expr_in, with_statement, with_binding_site, with_text_site, with_new_local, with_declared, with_next_region};
+
+    /// No text yet.
+    pub fn new(alloc: Global) -> Writer
+        ensures { written result ≡ blank }
+    {
+        Writer {
+            alloc,
+            code: Row::new(alloc),
+            names: Names::new(alloc),
+            vars: Row::new(alloc),
+            cells: 0,
+            sites: Row::new(alloc),
+            regions: Row::new(alloc),
+        }
+    }
+
+    /// A variable of the file keeps its entry; any other is left out.
+    pub fn global(&mut self, info: &VarInfo) -> Result<(), NoMemory>
+        ensures { OnOk result (written self.new ≡ with_globals (written self.old) (info.now ∷ [])) }
+    {
+        if is_file_scope(Some(info)) {
+            let cells = self.cells.checked_add(info.length).ok_or(NoMemory)?;
+            let kept = moved(self.alloc, info, info.first.0, info.scope)?;
+            self.vars.push(kept)?;
+            self.cells = cells;
+        }
+        Ok(())
+    }
 
     /// The expression in the names so far.
     pub fn rename(&self, e: &Expr) -> Result<Expr, NoMemory>

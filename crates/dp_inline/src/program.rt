@@ -6,35 +6,22 @@ ghost use Rattle.dp_calls.specs.Tables.{first_tables};
 ghost use Rattle.dp_inline.specs.Written.{written};
 
 use crate::InlineFail;
-use crate::names::Names;
-use crate::piece::{Writer, moved};
+use crate::piece::Writer;
 use crate::size::within;
 use crate::stmt::statements;
 use dp_base::{NoMemory, Row};
-use dp_tree::{Program, VarInfo, VarScope};
+use dp_tree::Program;
 use std::alloc::Global;
 
-/// Before the text of `main`.
+/// Before the text of `main`: the variables of the file.
 fn begin(alloc: Global, p: &Program) -> Result<Writer, NoMemory>
     ensures { IfOk result (λ out. written out ≡ record { code = []; names = []; tables = first_tables p.now }) }
 {
-    let mut vars = Row::new(alloc);
-    let mut cells: u32 = 0;
+    let mut out = Writer::new(alloc);
     for info in p.vars.as_slice() {
-        if info.scope == VarScope::Global {
-            vars.push(moved(alloc, info, info.first.0, info.scope)?)?;
-            cells = cells.checked_add(info.length).ok_or(NoMemory)?;
-        }
+        out.global(info)?;
     }
-    Ok(Writer {
-        alloc,
-        code: Row::new(alloc),
-        names: Names::new(alloc),
-        vars,
-        cells,
-        sites: Row::new(alloc),
-        regions: Row::new(alloc),
-    })
+    Ok(out)
 }
 
 fn expanded(alloc: Global, p: &Program) -> Result<Program, NoMemory>
