@@ -5,3 +5,4 @@ pub mod Work
 pub mod LoopLemmas
 pub mod EndLemmas
 pub mod GlobalLemmas
+pub mod SizeForms

@@ -1,9 +1,10 @@
 -- How large the expanded program is, as read off the program with its calls.
-use Rattle.std.specs.Prelude.{ℕ, zero, suc, ◌+◌, List, [], ◌∷◌, length, slice_get}
+use Rattle.std.specs.Prelude.{ℕ, zero, suc, ◌+◌, Bool, true, false, List, [], ◌∷◌, length, slice_get}
 use Rattle.dp_tree.specs.declared.Stmt.{Stmt, Row_of-Stmt, end_of-Stmt, more_of-Stmt}
 use Rattle.dp_tree.specs.declared.Stmt.TheVariants.{Assign, Store, Print, If', While', Region', Call}
 use Rattle.dp_tree.specs.declared.Program.{Program}
 use Rattle.dp_tree.specs.Functions.{body_in}
+use Rattle.dp_tree.specs.Numbering.{is_marked}
 
 abbrev mutual
   -- The sites of a statement once its calls are expanded, where each call counts so many on top of its bindings and its
@@ -32,9 +33,14 @@ abbrev pub size_within : Program → ℕ → ℕ → ℕ → ℕ
 size_within p each zero f = 0
 size_within p each (suc depth) f = size_list each (size_within p each depth) (body_in (slice_get p.functions f))
 
--- the sites of a statement of `main`
-abbrev pub site_count : Program → Stmt → ℕ
-site_count p s = size_one 0 (size_within p 0 (length p.functions)) s
+-- the number, where the condition holds
+abbrev pub counts_if : Bool → ℕ → ℕ
+counts_if true n = n
+counts_if false n = 0
+
+-- the sites of a region of `main`; a statement that is no region has none
+abbrev pub region_size : Program → Stmt → ℕ
+region_size p s = counts_if (is_marked s) (size_one 0 (size_within p 0 (length p.functions)) s)
 
 -- the sites of the expanded program and the calls that were expanded
 abbrev pub inlined_size : Program → ℕ

@@ -3,6 +3,8 @@
 ghost use Rattle.std.specs.Prelude.{◌≡◌, [], IfOk};
 ghost use Rattle.dp_calls.specs.Expand.{expand};
 ghost use Rattle.dp_calls.specs.Tables.{first_tables};
+ghost use Rattle.dp_tree.specs.Checked.{IsChecked};
+ghost use Rattle.dp_inline.specs.Verdict.{Gives, verdict};
 ghost use Rattle.dp_inline.specs.Written.{written};
 
 use crate::InlineFail;
@@ -40,7 +42,10 @@ fn expanded(alloc: Global, p: &Program) -> Result<Program, NoMemory>
 
 /// The program with each call replaced by the bindings of its arguments and the body of its function. A program that
 /// would be too large is refused without being made.
+#[tactic(auto, using(crate::proofs::SizeForms::verdicts))]
 pub fn inline(alloc: Global, p: &Program) -> Result<Program, InlineFail>
+    requires { IsChecked p.now }
+    ensures { Gives (verdict p.now) result }
 {
     within(alloc, p)?;
     Ok(expanded(alloc, p)?)

@@ -1,6 +1,9 @@
 //! How large the expanded program is, counted without making it.
 
-ghost use Rattle.std.specs.Prelude.{◌≡◌, ◌≤◌, ◌+◌, min, IfOk};
+ghost use Rattle.std.specs.Prelude.{◌≡◌, ◌≤◌, ◌+◌, [], min, IfOk, Ok};
+ghost use Rattle.dp_tree.specs.Checked.{IsChecked};
+ghost use Rattle.dp_inline.specs.Verdict.{Gives, reported, unless, too_large, first_large_region};
+ghost use Rattle.dp_inline.specs.Counted.{counted, counted_one, counted_list, counted_more, counted_region, first_large};
 
 use dp_base::{NoMemory, Quantity, Row};
 use dp_tree::{Program, Stmt};
@@ -32,6 +35,7 @@ fn bindings(args: usize) -> u32
 
 /// The size of a function's body, from the sizes of the functions so far.
 fn size_at(sizes: &[u32], function: u32) -> u32
+    ensures { result ≡ counted sizes.now function }
 {
     match sizes.get(function as usize) {
         Some(size) => (*size).min(MOST_REPORTED),
@@ -40,9 +44,11 @@ fn size_at(sizes: &[u32], function: u32) -> u32
 }
 
 /// The size of a statement, where each call counts `each` on top of its bindings and its function's body.
+#[tactic(auto, using(crate::proofs::SizeForms::size_forms))]
 #[cycle(size)]
 fn size_of(each: u32, sizes: &[u32], s: &Stmt) -> u32
     requires { each ≤ 1 }
+    ensures value { result ≡ reported (counted_one each sizes.now s.now) }
     ensures small { result ≤ 1000000 }
 {
     match s {
@@ -73,6 +79,7 @@ fn size_of(each: u32, sizes: &[u32], s: &Stmt) -> u32
 #[cycle(size)]
 fn size_of_all(each: u32, sizes: &[u32], all: &[Stmt]) -> u32
     requires { each ≤ 1 }
+    ensures value { result ≡ reported (counted_list each sizes.now all.now) }
     ensures small { result ≤ 1000000 }
 {
     let mut size = 0;
@@ -85,6 +92,7 @@ fn size_of_all(each: u32, sizes: &[u32], all: &[Stmt]) -> u32
 /// The sizes of the functions' bodies. A call leads to an earlier function, so each is counted once.
 fn sizes(alloc: Global, each: u32, p: &Program) -> Result<Row<u32>, NoMemory>
     requires { each ≤ 1 }
+    ensures { IfOk result (λ sizes. sizes ≡ counted_more each [] p.now.functions) }
 {
     let functions = p.functions.as_slice();
     let mut done = Row::with_capacity(alloc, functions.len())?;
@@ -95,15 +103,24 @@ fn sizes(alloc: Global, each: u32, p: &Program) -> Result<Row<u32>, NoMemory>
     Ok(done)
 }
 
-/// The first region with too many sites.
+/// The sites of a region. A statement that is no region has none.
+fn region_size(sizes: &[u32], s: &Stmt) -> u32
+    ensures { result ≡ reported (counted_region sizes.now s.now) }
+{
+    match s {
+        Stmt::Region { .. } => size_of(0, sizes, s),
+        _ => 0,
+    }
+}
+
+/// The sites of the first region with too many.
 fn large_region(sizes: &[u32], all: &[Stmt]) -> Option<u32>
+    ensures { result ≡ first_large sizes.now all.now }
 {
     for s in all {
-        if let Stmt::Region { .. } = s {
-            let count = size_of(0, sizes, s);
-            if count > MOST_IN_REGION {
-                return Some(count);
-            }
+        let count = region_size(sizes, s);
+        if count > MOST_IN_REGION {
+            return Some(count);
         }
     }
     None
@@ -111,6 +128,8 @@ fn large_region(sizes: &[u32], all: &[Stmt]) -> Option<u32>
 
 /// No count of the expanded program is above its limit.
 pub fn within(alloc: Global, p: &Program) -> Result<(), InlineFail>
+    requires { IsChecked p.now }
+    ensures { Gives (unless (too_large p.now) (unless (first_large_region p.now p.now.main) (Ok tt))) result }
 {
     let counts = sizes(alloc, 1, p)?;
     let count = size_of_all(1, counts.as_slice(), p.main.as_slice());
