@@ -6,3 +6,5 @@ pub mod LoopLemmas
 pub mod EndLemmas
 pub mod GlobalLemmas
 pub mod SizeForms
+pub mod SizeLemmas
+pub mod LimitLemmas
