@@ -40,13 +40,20 @@ fn expanded(alloc: Global, p: &Program) -> Result<Program, NoMemory>
     })
 }
 
+/// What is answered for a checked program.
+#[tactic(auto, using(crate::proofs::SizeForms::verdicts))]
+pub(crate) fn bounded(alloc: Global, p: &Program) -> Result<Program, InlineFail>
+    ensures { IsChecked p.now → Gives (verdict p.now) result }
+{
+    within(alloc, p)?;
+    Ok(expanded(alloc, p)?)
+}
+
 /// The program with each call replaced by the bindings of its arguments and the body of its function. A program that
 /// would be too large is refused without being made.
-#[tactic(auto, using(crate::proofs::SizeForms::verdicts))]
 pub fn inline(alloc: Global, p: &Program) -> Result<Program, InlineFail>
     requires { IsChecked p.now }
     ensures { Gives (verdict p.now) result }
 {
-    within(alloc, p)?;
-    Ok(expanded(alloc, p)?)
+    bounded(alloc, p)
 }

@@ -128,8 +128,7 @@ fn large_region(sizes: &[u32], all: &[Stmt]) -> Option<u32>
 
 /// No count of the expanded program is above its limit.
 pub fn within(alloc: Global, p: &Program) -> Result<(), InlineFail>
-    requires { IsChecked p.now }
-    ensures { Gives (unless (too_large p.now) (unless (first_large_region p.now p.now.main) (Ok tt))) result }
+    ensures { IsChecked p.now → Gives (unless (too_large p.now) (unless (first_large_region p.now p.now.main) (Ok tt))) result }
 {
     let counts = sizes(alloc, 1, p)?;
     let count = size_of_all(1, counts.as_slice(), p.main.as_slice());
