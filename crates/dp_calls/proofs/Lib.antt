@@ -1,3 +1,5 @@
 pub mod ExpandLaws
 pub mod NoCallLaws
+pub mod SiteLaws
+pub mod PlainLaws
 pub mod rows
