@@ -1,5 +1,5 @@
 -- The piece at the end of a function of the code, from the pieces after its steps.
-use Rattle.std.proofs.Common.{◌≡◌, refl, sym, ap, ◌∙◌, ℕ, zero, suc, ◌+◌, ◌-◌, ◌<◌, ◌≤◌, min, length, get_or, drop, List, [], ◌∷◌, Option, Some, None, slice_get, arith}
+use Rattle.std.proofs.Common.{◌≡◌, sym, ap, ◌∙◌, ℕ, zero, suc, ◌+◌, ◌-◌, ◌<◌, ◌≤◌, min, length, get_or, drop, List, [], ◌∷◌, Some, slice_get, arith}
 use Rattle.std.proofs.lemmas.List.{drop_more, drop_all}
 use Rattle.dp_base.specs.declared.SiteId.{SiteId}
 use Rattle.dp_base.specs.declared.VarId.{VarId}
@@ -13,7 +13,7 @@ use Rattle.dp_calls.specs.Renaming.{Renamed}
 use Rattle.dp_calls.specs.Tables.{next_site}
 use Rattle.dp_calls.specs.Piece.{Piece}
 use Rattle.dp_inline.specs.Written.{emptied, with_statement, with_text_site, with_next_region, expr_in, after_one, after_list, after_bindings}
-use Rattle.dp_inline.proofs.FormLemmas.{unnamed, after-If, after-While, after-Region, after-Call-none, after-Call-zero, after-Call-more, bindings-more, bindings-no_params, bindings-no_args}
+use Rattle.dp_inline.proofs.FormLemmas.{unnamed, after-If, after-While, after-Region, after-Call-zero, after-Call-more, bindings-more, bindings-no_params, bindings-no_args}
 
 module _ (p : Program) (depth r : ℕ) (a : Piece) (site : SiteId) (cond : Expr) {number : SiteId} {c : Expr} (numbered : number ≡ next_site a.tables) (renamed : c ≡ expr_in a.names cond) where
   pub if_ends : (x y then_part else_part : List Stmt) (w1 w2 w3 w4 : Piece) → w1 ≡ with_text_site p r site a

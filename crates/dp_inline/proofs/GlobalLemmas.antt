@@ -1,5 +1,5 @@
 -- The variables of the file, which the tables begin with.
-use Rattle.std.proofs.Common.{◌≡◌, refl, sym, ap, ap₂, ◌∙◌, ℕ, zero, suc, ◌+◌, Bool, true, false, if◌then◌else◌, List, [], ◌∷◌, ◌++◌, ℤ, length, replicate, append_assoc, append-nil, length-append, arith}
+use Rattle.std.proofs.Common.{◌≡◌, refl, sym, ap, ◌∙◌, ℕ, zero, suc, ◌+◌, Bool, true, false, if◌then◌else◌, List, [], ◌∷◌, ◌++◌, ℤ, length, replicate, append_assoc, append-nil, length-append, arith}
 use Rattle.dp_tree.specs.declared.VarInfo.{VarInfo}
 use Rattle.dp_tree.specs.declared.Program.{Program}
 use Rattle.dp_tree.specs.Globals.{globals_in, is_global_scope}
@@ -36,7 +36,7 @@ with_globals-more a x rest =
     let one = globals_in (x ∷ []) in let more = globals_in rest in
     let e = globals_more x rest in
     let counts : a.tables.cells + length (start_cells (one ++ more)) ≡ a.tables.cells + length (start_cells one) + length (start_cells more) =
-        let g = cells_join one more in omega (arith, g) in
+    let g = cells_join one more in omega (arith, g) in
     same_tables a (ap (λ xs. a.tables.vars ++ xs) e ∙ sym (append_assoc a.tables.vars one more)) (ap (λ xs. a.tables.cells + length (start_cells xs)) e ∙ counts)
 
 pub with_globals-none : (a : Piece) → with_globals a [] ≡ a

@@ -1,17 +1,15 @@
 -- The size of each form of statement.
-use Rattle.std.proofs.Common.{◌≡◌, refl, sym, ap, ap₂, ◌∙◌, ℕ, ◌+◌, Bool, true, false, List, [], ◌∷◌, length, Option, Some, None, Result, Ok, Err}
+use Rattle.std.proofs.Common.{◌≡◌, refl, ap, ap₂, ℕ, ◌+◌, List, [], ◌∷◌, length, Ok}
 use Rattle.dp_base.specs.declared.SiteId.{SiteId}
 use Rattle.dp_base.specs.declared.VarId.{VarId}
 use Rattle.dp_tree.specs.declared.Expr.{Expr}
 use Rattle.dp_tree.specs.declared.Stmt.{Stmt}
 use Rattle.dp_tree.specs.declared.Stmt.TheVariants as tree
 use Rattle.dp_tree.specs.declared.Program.{Program}
-use Rattle.dp_tree.specs.Numbering.{is_marked}
 use Rattle.dp_tree.proofs.Heads.{opened_statement}
 use Rattle.dp_calls.specs.Expand.{expand}
 use Rattle.dp_inline.specs.Size.{size_one, size_rows, size_list}
 use Rattle.dp_inline.specs.Counted.{counted, counted_one, counted_list, counted_region}
-use Rattle.dp_inline.specs.declared.fail.InlineFail.{InlineFail}
 use Rattle.dp_inline.specs.Verdict.{unless, verdict, too_large, first_large_region}
 
 abbrev hidden_size : ℕ → (ℕ → ℕ) → List Stmt → ℕ

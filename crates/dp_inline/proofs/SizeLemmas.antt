@@ -1,5 +1,5 @@
 -- Counting each function once, in order, gives the size of the expanded program, since a call leads to an earlier function.
-use Rattle.std.proofs.Common.{◌≡◌, refl, sym, ap, ◌∙◌, ℕ, zero, suc, ◌+◌, ◌<◌, ◌==◌, min, Bool, true, false, ◌&&◌, List, [], ◌∷◌, ◌++◌, length, length-append, Option, Some, None, slice_get, get_or, nat_lt, arith, inl, inr}
+use Rattle.std.proofs.Common.{◌≡◌, refl, sym, ap, ◌∙◌, ℕ, zero, suc, ◌+◌, ◌<◌, ◌==◌, true, ◌&&◌, List, [], ◌∷◌, ◌++◌, length, length-append, Option, Some, slice_get, nat_lt, arith, inl, inr}
 use Rattle.std.specs.List.{list_all}
 use Rattle.std.proofs.lemmas.Bool.{ltb-true}
 use Rattle.std.proofs.lemmas.Bool.Decides.{eqb_tells}
@@ -14,9 +14,9 @@ use Rattle.dp_tree.specs.Functions.{body_in, params_in}
 use Rattle.dp_tree.specs.Scoping.{knows, in_scope, rows_in_scope, all_in_scope, seen_behind, params_in_scope, seen_behind_params, global_numbers, function_in_scope, functions_in_scope}
 use Rattle.dp_tree.specs.Checked.{IsChecked}
 use Rattle.dp_tree.proofs.Heads.{and_true}
-use Rattle.dp_inline.specs.Size.{size_one, size_rows, size_list, size_within, inlined_size}
+use Rattle.dp_inline.specs.Size.{size_one, size_rows, size_list, size_within}
 use Rattle.dp_inline.specs.Verdict.{reported}
-use Rattle.dp_inline.specs.Counted.{number_in, counted, counted_one, counted_list, counted_more}
+use Rattle.dp_inline.specs.Counted.{number_in, counted, counted_list, counted_more}
 
 -- two ways to count the first n functions agree, up to what is reported
 module _ (each : ℕ) (p : Program) (n : ℕ) (c d : ℕ → ℕ) (same : (g : ℕ) → g < n → reported (c g) ≡ reported (d g)) where
@@ -91,9 +91,9 @@ module _ (each : ℕ) (p : Program) where
     counts_next g less depth deep = elim (eqb_tells g n) [
       | inl same ↦ ap (λ k. reported (counted more k)) same.1 ∙ this_one depth (omega (arith, same.1)) ∙ ap (λ k. reported (size_within p each depth k)) (sym same.1)
       | inr other ↦
-        let below : g < n = omega (arith, other.1) in
-        let within : g < length sizes = omega arith in
-        ap (λ (o : Option ℕ). reported (reported (number_in o))) (get_front sizes (reported (counted_list each sizes f.body) ∷ []) g within) ∙ so_far g below depth deep
+          let below : g < n = omega (arith, other.1) in
+          let within : g < length sizes = omega arith in
+          ap (λ (o : Option ℕ). reported (reported (number_in o))) (get_front sizes (reported (counted_list each sizes f.body) ∷ []) g within) ∙ so_far g below depth deep
     ]
 
   counts_all : (n : ℕ) (sizes : List ℕ) (fs : List Function) → length sizes ≡ n → ((k : ℕ) → slice_get p.functions (n + k) ≡ slice_get fs k) → functions_in_scope p n fs ≡ true

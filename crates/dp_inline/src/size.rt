@@ -5,9 +5,9 @@ ghost use Rattle.dp_tree.specs.Checked.{IsChecked};
 ghost use Rattle.dp_inline.specs.Verdict.{Gives, reported, unless, too_large, first_large_region};
 ghost use Rattle.dp_inline.specs.Counted.{counted, counted_one, counted_list, counted_more, counted_region, first_large};
 
+use crate::InlineFail;
 use dp_base::{NoMemory, Quantity, Row};
 use dp_tree::{Program, Stmt};
-use crate::InlineFail;
 use std::alloc::Global;
 
 const MOST_INLINED: u32 = 8_192;

@@ -9,7 +9,11 @@ pub(crate) fn scalar(var: u32) -> Expr {
 }
 
 pub(crate) fn sum(alloc: Global, a: u32, b: u32) -> Result<Expr, NoMemory> {
-    Ok(Expr::Binary(BinOp::Add, Boxed::new(alloc, scalar(a))?, Boxed::new(alloc, scalar(b))?))
+    Ok(Expr::Binary(
+        BinOp::Add,
+        Boxed::new(alloc, scalar(a))?,
+        Boxed::new(alloc, scalar(b))?,
+    ))
 }
 
 pub(crate) fn assign(site: u32, var: u32, value: Expr) -> Stmt {

@@ -13,7 +13,11 @@ fn doubling(alloc: Global, last: u32) -> Result<Program, NoMemory> {
     let mut p = empty(alloc);
     function(&mut p, Row::new(alloc), Row::new(alloc))?;
     for k in 0..last {
-        let body = two(alloc, call(k, 1, Row::new(alloc)), call(k, 1, Row::new(alloc)))?;
+        let body = two(
+            alloc,
+            call(k, 1, Row::new(alloc)),
+            call(k, 1, Row::new(alloc)),
+        )?;
         function(&mut p, Row::new(alloc), body)?;
     }
     p.main.push(call(last, 1, Row::new(alloc)))?;
@@ -33,8 +37,10 @@ fn regions(alloc: Global, first: u32, second: u32) -> Result<Program, NoMemory> 
     let mut p = empty(alloc);
     function(&mut p, Row::new(alloc), prints(alloc, first)?)?;
     function(&mut p, Row::new(alloc), prints(alloc, second)?)?;
-    p.main.push(region(1, 1, one(alloc, call(0, 1, Row::new(alloc)))?))?;
-    p.main.push(region(2, 2, one(alloc, call(1, 1, Row::new(alloc)))?))?;
+    p.main
+        .push(region(1, 1, one(alloc, call(0, 1, Row::new(alloc)))?))?;
+    p.main
+        .push(region(2, 2, one(alloc, call(1, 1, Row::new(alloc)))?))?;
     Ok(p)
 }
 
@@ -55,7 +61,8 @@ fn deep(alloc: Global) -> Result<Program, NoMemory> {
         let body = one(alloc, nested(alloc, call(k, 1, Row::new(alloc)), 62)?)?;
         function(&mut p, Row::new(alloc), body)?;
     }
-    p.main.push(nested(alloc, call(63, 1, Row::new(alloc)), 62)?)?;
+    p.main
+        .push(nested(alloc, call(63, 1, Row::new(alloc)), 62)?)?;
     Ok(p)
 }
 
@@ -80,7 +87,10 @@ fn sizes_count_sites_and_calls(rt: HostRuntime) -> Result<(), Fail> {
         (19, Some((Quantity::InlinedSize, 1_000_000))),
         (60, Some((Quantity::InlinedSize, 1_000_000))),
     ] {
-        assert_eq!(rt; passed(rt.alloc(), doubling(rt.alloc(), last)), Ok(expected));
+        assert_eq!(rt;
+            passed(rt.alloc(), doubling(rt.alloc(), last)),
+            Ok(expected)
+        );
     }
     Ok(())
 }
@@ -94,7 +104,10 @@ fn the_first_region_above_the_limit_counts(rt: HostRuntime) -> Result<(), Fail> 
         (1_500, 1_024, Some((Quantity::RegionSites, 1_501))),
         (5_000, 5_000, Some((Quantity::InlinedSize, 10_004))),
     ] {
-        assert_eq!(rt; passed(rt.alloc(), regions(rt.alloc(), first, second)), Ok(expected));
+        assert_eq!(rt;
+            passed(rt.alloc(), regions(rt.alloc(), first, second)),
+            Ok(expected)
+        );
     }
     Ok(())
 }

@@ -1,6 +1,4 @@
-use Rattle.std.proofs.Common.{◌≡◌, sym, ap, ◌∙◌, length}
-use Rattle.dp_tree.specs.declared.Program.{Program}
-use Rattle.dp_calls.specs.Piece.{Piece}
+use Rattle.std.proofs.Common.{◌≡◌, ◌∙◌, length}
 use Rattle.dp_calls.specs.Expand.{program_of}
 use Rattle.dp_inline.specs.Written.{written, after_list}
 use Rattle.dp_inline.proofs.GlobalLemmas.{start, expands}
@@ -10,5 +8,5 @@ pub returns : goal.returns
 returns c =
     let p = c.args.p.now in
     let whole : written c.statements.new.out ≡ after_list p (length p.functions) 0 (start p) p.main =
-        c.in_ok-statements.ensures ∙ (λ i. after_list p (c.len.ensures i) 0 (c.in_ok-out.ensures i) (c.as_slice.ensures i)) in
+    c.in_ok-statements.ensures ∙ (λ i. after_list p (c.len.ensures i) 0 (c.in_ok-out.ensures i) (c.as_slice.ensures i)) in
     (λ i. record (program_of (whole i)) { functions = c.new.ensures i }) ∙ expands p

@@ -1,5 +1,4 @@
-use Rattle.std.proofs.Common.{◌≡◌, sym, ap, ◌∙◌, ℕ, List, Option, Some, None, Ok}
-use Rattle.dp_tree.specs.declared.Stmt.{Stmt}
+use Rattle.std.proofs.Common.{◌≡◌, sym, ap, ◌∙◌, Ok}
 use Rattle.dp_inline.specs.Verdict.{reported, unless, first_large_region}
 use Rattle.dp_inline.specs.Counted.{counted_list, first_large}
 use Rattle.dp_inline.proofs.SizeLemmas.{all_sizes}

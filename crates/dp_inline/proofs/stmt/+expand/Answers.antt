@@ -1,6 +1,4 @@
 use Rattle.std.proofs.Common.{◌≡◌, ◌+◌, ◌-◌, ◌<◌, ℕ, length, sym, ap, ◌∙◌, arith}
-use Rattle.dp_tree.specs.declared.Stmt.{Stmt}
-use Rattle.dp_calls.specs.Piece.{Piece}
 use Rattle.dp_inline.specs.declared.piece.Writer.{Writer}
 use Rattle.dp_inline.specs.Written.{written, after_one, after_list}
 use Rattle.dp_inline.proofs.Work.{work_one, work_list, work_within, work-If, work-While, work-Region, work-Call, work_item, work_called}
@@ -38,44 +36,44 @@ call-returns-after-depth-gt0 t c =
     let p = c.args.p.now in let r = c.args.region in let a = written c.args.out.now in
     elim c.if-depth-gt0.branch [
       | call-then-depth-gt0+in_ok-statements w ↦
-        call_ends-more p r a c.args.function c.args.line c.args.args.now c.in-Some.function.now c.in-Some.ensures.value c.begin_call-caller.result c.begin_call-caller.ensures.caller
-        c.as_slice-params.result.now c.as_slice-params.ensures (written c.begin_call-caller.new.self) (written c.bindings.new.out) (written c.end_call.new.self)
-        c.begin_call-caller.ensures.after c.in_ok-bindings.ensures c.args.depth w.if-depth-gt0.true w.as_slice.result.now w.as_slice.ensures (written w.statements.new.out) w.in_ok-statements.ensures
-        (c.end_call.ensures ∙ ap (λ (x : Writer). record (written x) { names = c.begin_call-caller.result }) w.out-is)
+          call_ends-more p r a c.args.function c.args.line c.args.args.now c.in-Some.function.now c.in-Some.ensures.value c.begin_call-caller.result c.begin_call-caller.ensures.caller
+          c.as_slice-params.result.now c.as_slice-params.ensures (written c.begin_call-caller.new.self) (written c.bindings.new.out) (written c.end_call.new.self)
+          c.begin_call-caller.ensures.after c.in_ok-bindings.ensures c.args.depth w.if-depth-gt0.true w.as_slice.result.now w.as_slice.ensures (written w.statements.new.out) w.in_ok-statements.ensures
+          (c.end_call.ensures ∙ ap (λ (x : Writer). record (written x) { names = c.begin_call-caller.result }) w.out-is)
       | call-else-depth-gt0 w ↦
-        call_ends-zero p r a c.args.function c.args.line c.args.args.now c.in-Some.function.now c.in-Some.ensures.value c.begin_call-caller.result c.begin_call-caller.ensures.caller
-        c.as_slice-params.result.now c.as_slice-params.ensures (written c.begin_call-caller.new.self) (written c.bindings.new.out) (written c.end_call.new.self)
-        c.begin_call-caller.ensures.after c.in_ok-bindings.ensures c.args.depth w.if-depth-gt0.false
-        (c.end_call.ensures ∙ ap (λ (x : Writer). record (written x) { names = c.begin_call-caller.result }) w.out-is)
+          call_ends-zero p r a c.args.function c.args.line c.args.args.now c.in-Some.function.now c.in-Some.ensures.value c.begin_call-caller.result c.begin_call-caller.ensures.caller
+          c.as_slice-params.result.now c.as_slice-params.ensures (written c.begin_call-caller.new.self) (written c.bindings.new.out) (written c.end_call.new.self)
+          c.begin_call-caller.ensures.after c.in_ok-bindings.ensures c.args.depth w.if-depth-gt0.false
+          (c.end_call.ensures ∙ ap (λ (x : Writer). record (written x) { names = c.begin_call-caller.result }) w.out-is)
     ]
 
 pub call-statements-requires : goal.call-statements-requires
 call-statements-requires t c =
     let p = c.args.p.now in let depth = c.args.depth in
     let e : work_list (work_within p (depth - 1)) c.as_slice.result.now ≡ work_within p depth c.args.function =
-        ap (work_list (work_within p (depth - 1))) c.as_slice.ensures ∙ work_called p depth c.args.function c.in-Some.function.now (sym c.in-Some.ensures.value) c.if-depth-gt0.true in
+    ap (work_list (work_within p (depth - 1))) c.as_slice.ensures ∙ work_called p depth c.args.function c.in-Some.function.now (sym c.in-Some.ensures.value) c.if-depth-gt0.true in
     (omega (arith, c.decreases, e), tt)
 
 pub statement-branch-p-requires : goal.statement-branch-p-requires
 statement-branch-p-requires t c =
     let calls = work_within c.args.p.now c.args.depth in let f = c.in-If in
     let e : work_one calls c.args.s.now ≡ 3 + (work_list calls c.as_slice.result.now + work_list calls c.as_slice-in-If.result.now) =
-        ap (work_one calls) f.is ∙ work-If calls f.site f.cond f.then_part f.else_part
-        ∙ (λ i. 3 + (work_list calls (sym c.as_slice.ensures i) + work_list calls (sym c.as_slice-in-If.ensures i))) in
+    ap (work_one calls) f.is ∙ work-If calls f.site f.cond f.then_part f.else_part
+    ∙ (λ i. 3 + (work_list calls (sym c.as_slice.ensures i) + work_list calls (sym c.as_slice-in-If.ensures i))) in
     (omega (arith, c.decreases, e), tt)
 
 pub statement-repeat-requires : goal.statement-repeat-requires
 statement-repeat-requires t c =
     let calls = work_within c.args.p.now c.args.depth in let f = c.in-While in
     let e : work_one calls c.args.s.now ≡ 3 + work_list calls c.as_slice-in-While.result.now =
-        ap (work_one calls) f.is ∙ work-While calls f.site f.cond f.body ∙ (λ i. 3 + work_list calls (sym c.as_slice-in-While.ensures i)) in
+    ap (work_one calls) f.is ∙ work-While calls f.site f.cond f.body ∙ (λ i. 3 + work_list calls (sym c.as_slice-in-While.ensures i)) in
     (omega (arith, c.decreases, e), tt)
 
 pub statement-marked-requires : goal.statement-marked-requires
 statement-marked-requires t c =
     let calls = work_within c.args.p.now c.args.depth in let f = c.in-Region in
     let e : work_one calls c.args.s.now ≡ 3 + work_list calls c.as_slice-in-Region.result.now =
-        ap (work_one calls) f.is ∙ work-Region calls f.region f.site f.cond f.body ∙ (λ i. 3 + work_list calls (sym c.as_slice-in-Region.ensures i)) in
+    ap (work_one calls) f.is ∙ work-Region calls f.region f.site f.cond f.body ∙ (λ i. 3 + work_list calls (sym c.as_slice-in-Region.ensures i)) in
     (omega (arith, c.decreases, e), tt)
 
 pub statement-call-requires : goal.statement-call-requires

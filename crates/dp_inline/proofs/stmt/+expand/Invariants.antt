@@ -1,4 +1,4 @@
-use Rattle.std.proofs.Common.{◌≡◌, suc, ◌+◌, drop}
+use Rattle.std.proofs.Common.{◌≡◌, ◌+◌, drop}
 use Rattle.dp_inline.specs.Written.{written, after_list}
 use Rattle.dp_inline.proofs.Work.{work_one, work_list, work_within}
 use Rattle.dp_inline.proofs.stmt.+expand.Given as goal

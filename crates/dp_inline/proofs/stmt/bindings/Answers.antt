@@ -1,4 +1,4 @@
-use Rattle.std.proofs.Common.{◌<◌, ◌+◌, length, sym, ◌∙◌, arith}
+use Rattle.std.proofs.Common.{◌<◌, length, sym, ◌∙◌, arith}
 use Rattle.dp_inline.specs.Written.{written}
 use Rattle.dp_inline.proofs.EndLemmas.{bound_more, bound_end}
 use Rattle.dp_inline.proofs.stmt.bindings.Goals as goal

@@ -1,4 +1,4 @@
-use Rattle.std.proofs.Common.{◌≡◌, ◌<◌, ◌≤◌, ◌+◌, ◌-◌, ◌==◌, ℕ, Bool, true, false, if◌then◌else◌, List, Option, Some, sym, ap, ◌∙◌, length, take, get_or, arith}
+use Rattle.std.proofs.Common.{◌≡◌, ◌<◌, ◌+◌, ◌-◌, ℕ, List, Option, Some, sym, ap, ◌∙◌, length, take, get_or, arith}
 use Rattle.dp_calls.specs.Renaming.{named_in}
 use Rattle.dp_inline.specs.declared.names.Named.{Named}
 use Rattle.dp_inline.specs.Named.{names_of}
@@ -27,5 +27,5 @@ loop-left-preserved c =
     let below : k < length rows = omega arith in (
       omega arith,
       c.loop-left.invariant.1 ∙ ap (λ n. among (take n rows) x) on ∙ found_before rows k none x below
-      ∙ found_not (get_or rows k none).source x (Some (get_or rows k none).target) (among (take k rows) x) c.if-named-source.false,
+          ∙ found_not (get_or rows k none).source x (Some (get_or rows k none).target) (among (take k rows) x) c.if-named-source.false,
     )
