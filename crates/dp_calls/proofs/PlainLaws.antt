@@ -1,5 +1,5 @@
 -- The regions of an expanded program are those of `main`, in the same order, each with its sites in the table.
-use Rattle.std.proofs.Common.{◌≡◌, refl, sym, ap, ap₂, ◌∙◌, ℕ, zero, suc, ◌+◌, ◌==◌, Bool, true, false, ◌&&◌, List, [], ◌∷◌, ◌++◌, length, append_assoc, append-nil, Option, Some, None, slice_get, arith}
+use Rattle.std.proofs.Common.{◌≡◌, refl, ap, ◌∙◌, ℕ, zero, suc, ◌+◌, ◌==◌, Bool, true, false, ◌&&◌, List, [], ◌∷◌, ◌++◌, length, slice_get}
 use Rattle.std.specs.List.{list_all}
 use Rattle.dp_base.specs.declared.SiteId.{SiteId}
 use Rattle.dp_base.specs.declared.VarId.{VarId}
@@ -7,7 +7,6 @@ use Rattle.dp_tree.specs.declared.Expr.{Expr}
 use Rattle.dp_tree.specs.declared.Stmt.{Stmt, Row_of-Stmt, end_of-Stmt, more_of-Stmt}
 use Rattle.dp_tree.specs.declared.Stmt.TheVariants as stmt
 use Rattle.dp_tree.specs.declared.Function.{Function}
-use Rattle.dp_tree.specs.declared.RegionInfo.{RegionInfo}
 use Rattle.dp_tree.specs.declared.Program.{Program}
 use Rattle.dp_tree.specs.Functions.{body_in, params_in}
 use Rattle.dp_tree.specs.Numbering.{is_plain, is_plain_in, top_fits, next_region, regions_in_order}
@@ -15,7 +14,7 @@ use Rattle.dp_tree.specs.Checked.{IsChecked, is_plain_function}
 use Rattle.dp_tree.proofs.Heads.{opened_statement, and_true, and_make}
 use Rattle.dp_calls.specs.Renaming.{Renamed, named_in, renamed}
 use Rattle.dp_calls.specs.Tables.{Tables, first_tables, with_source_site, next_site}
-use Rattle.dp_calls.specs.Expand.{Piece, Calls, expand, bindings, declared_by, declared_in, is_known, expand_one, expand_rows, expand_list, calls_within}
+use Rattle.dp_calls.specs.Expand.{Piece, Calls, expand, bindings, declared_by, is_known, expand_one, expand_rows, expand_list, calls_within}
 
 abbrev hidden_plain : List Stmt → Bool
 hidden_plain xs = is_plain_in (Rattle.dp_tree.specs.declared.Stmt.TheBlock.hidden-the_row-Stmt-0 xs)
@@ -43,7 +42,7 @@ plain_alone : (s : Stmt) → is_plain s ≡ true → list_all is_plain (s ∷ []
 plain_alone s h = and_make (is_plain s) true h refl
 
 -- no region stands in the piece, and none is added to the tables
-abbrev Plain : Tables → Piece → Type 0
+abbrev pub Plain : Tables → Piece → Type 0
 Plain t a = (list_all is_plain a.code ≡ true) × (a.tables.regions ≡ t.regions)
 
 plain_joined : (t : Tables) (a b : Piece) → Plain t a → Plain a.tables b → Plain t (record b { code = a.code ++ b.code })
@@ -61,7 +60,7 @@ module _ (p : Program) where
 
   module _ (calls : Calls) (called : (f r : ℕ) (names : List Renamed) (t : Tables) → Plain t (calls f r names t)) where
     mutual
-      plain_one : (r : ℕ) (s : Stmt) (names : List Renamed) (t : Tables) → is_plain s ≡ true → Plain t (expand_one p calls r s names t)
+      pub plain_one : (r : ℕ) (s : Stmt) (names : List Renamed) (t : Tables) → is_plain s ≡ true → Plain t (expand_one p calls r s names t)
       plain_one r (stmt.Assign site x e) names t h = (refl, declared_regions (is_known p (named_in names x.0) x.0) r x.0 names (with_source_site p r site t))
       plain_one r (stmt.Store site x index e) names t h = (refl, refl)
       plain_one r (stmt.Print site e) names t h = (refl, refl)
@@ -81,7 +80,7 @@ module _ (p : Program) where
           let bound = bindings p r line names (params_in (slice_get p.functions f)) args [] t in
           plain_joined t bound (calls f r bound.names bound.tables) (plain_bindings r line names (params_in (slice_get p.functions f)) args [] t) (called f r bound.names bound.tables)
 
-      plain_rows : {n : _} (r : ℕ) (rows : Row_of-Stmt n) (names : List Renamed) (t : Tables) → is_plain_in rows ≡ true → Plain t (expand_rows p calls r rows names t)
+      pub plain_rows : {n : _} (r : ℕ) (rows : Row_of-Stmt n) (names : List Renamed) (t : Tables) → is_plain_in rows ≡ true → Plain t (expand_rows p calls r rows names t)
       plain_rows r end_of-Stmt names t h = (refl, refl)
       plain_rows r (more_of-Stmt s rest) names t h =
           let both = and_true (is_plain s) (is_plain_in rest) h in
@@ -101,7 +100,7 @@ module _ (p : Program) where
   plain_body (fn ∷ fs) (suc f) h = plain_body fs f (and_true (is_plain_function fn) (list_all is_plain_function fs) h).1
 
   module _ (checked : IsChecked p) where
-    plain_within : (depth f r : ℕ) (names : List Renamed) (t : Tables) → Plain t (calls_within p depth f r names t)
+    pub plain_within : (depth f r : ℕ) (names : List Renamed) (t : Tables) → Plain t (calls_within p depth f r names t)
     plain_within zero f r names t = (refl, refl)
     plain_within (suc depth) f r names t = plain_list (calls_within p depth) (plain_within depth) r (body_in (slice_get p.functions f)) names t (plain_body p.functions f checked.functions)
 

@@ -1,5 +1,5 @@
 -- The sites of an expanded program are numbered in text order.
-use Rattle.std.proofs.Common.{◌≡◌, refl, sym, ap, ap₂, ◌∙◌, ℕ, zero, suc, ◌+◌, ◌-◌, ◌<◌, ◌≤◌, Bool, true, false, ◌&&◌, List, [], ◌∷◌, ◌++◌, length, length-append, append_assoc, append-nil, Option, Some, None, slice_get, get_or, nat_lt, arith}
+use Rattle.std.proofs.Common.{◌≡◌, refl, sym, ap, ap₂, ◌∙◌, ℕ, zero, suc, ◌+◌, ◌-◌, ◌<◌, ◌≤◌, Bool, true, false, ◌&&◌, List, [], ◌∷◌, ◌++◌, length, length-append, append_assoc, append-nil, Option, slice_get, get_or, nat_lt, arith}
 use Rattle.std.specs.List.{list_all, flat_map}
 use Rattle.std.proofs.lemmas.Bool.{ltb-true, lt-ltb}
 use Rattle.std.proofs.lemmas.Option.{slice_get-get_or}
@@ -10,7 +10,7 @@ use Rattle.dp_tree.specs.declared.Stmt.{Stmt, Row_of-Stmt, end_of-Stmt, more_of-
 use Rattle.dp_tree.specs.declared.Stmt.TheVariants as stmt
 use Rattle.dp_tree.specs.declared.Function.{Function}
 use Rattle.dp_tree.specs.declared.SiteInfo.{SiteInfo}
-use Rattle.dp_tree.specs.declared.SiteKind.TheVariants.{Assign, Print, If, While}
+use Rattle.dp_tree.specs.declared.SiteKind.TheVariants.{Assign}
 use Rattle.dp_tree.specs.declared.Program.{Program}
 use Rattle.dp_tree.specs.Functions.{body_in, params_in}
 use Rattle.dp_tree.specs.Numbering.{site_numbers, site_numbers_in, site_numbers_all, numbers_from}
@@ -36,7 +36,7 @@ numbers-While : (site : SiteId) (cond : Expr) (a : List Stmt) → site_numbers (
 unfolding opened_statement
 numbers-While site cond a = ap (λ (ns : List ℕ). site.0 ∷ ns) (numbers_hidden a)
 
-numbers-Region : (q : ℕ) (site : SiteId) (cond : Expr) (a : List Stmt) → site_numbers (stmt.Region q site cond a) ≡ site.0 ∷ site_numbers_all a
+pub numbers-Region : (q : ℕ) (site : SiteId) (cond : Expr) (a : List Stmt) → site_numbers (stmt.Region q site cond a) ≡ site.0 ∷ site_numbers_all a
 unfolding opened_statement
 numbers-Region q site cond a = ap (λ (ns : List ℕ). site.0 ∷ ns) (numbers_hidden a)
 
@@ -93,14 +93,14 @@ module _ (p : Program) where
   abbrev pub Listed : List ℕ → Type 0
   Listed numbers = list_all is_site numbers ≡ true
 
-  listed_parts : (a b : List ℕ) → Listed (a ++ b) → Listed a × Listed b
+  pub listed_parts : (a b : List ℕ) → Listed (a ++ b) → Listed a × Listed b
   listed_parts [] b h = (refl, h)
   listed_parts (x ∷ a) b h =
       let both = and_true (is_site x) (list_all is_site (a ++ b)) h in
       let rest = listed_parts a b both.1 in
       (and_make (is_site x) (list_all is_site a) both.0 rest.0, rest.1)
 
-  grows : (r : ℕ) (site : SiteId) (t : Tables) → is_site site.0 ≡ true → length (with_source_site p r site t).sites ≡ suc (length t.sites)
+  pub grows : (r : ℕ) (site : SiteId) (t : Tables) → is_site site.0 ≡ true → length (with_source_site p r site t).sites ≡ suc (length t.sites)
   grows r site t h =
       let below = ltb-true (site.0 - 1) (length p.sites) (and_true (nat_lt 0 site.0) (nat_lt (site.0 - 1) (length p.sites)) h).1 in
       let none : SiteInfo = record { line = 0; kind = Assign; region = 0 } in
@@ -109,7 +109,7 @@ module _ (p : Program) where
       let more : length (t.sites ++ record (get_or p.sites (site.0 - 1) none) { region = r } ∷ []) ≡ suc (length t.sites) = omega (arith, e) in
       ap (λ (o : Option SiteInfo). length (t.sites ++ site_in o r)) found ∙ more
 
-  declared_sites : (b : Bool) (r x : ℕ) (names : List Renamed) (t : Tables) → (declared_by b p r x names t).tables.sites ≡ t.sites
+  pub declared_sites : (b : Bool) (r x : ℕ) (names : List Renamed) (t : Tables) → (declared_by b p r x names t).tables.sites ≡ t.sites
   declared_sites true r x names t = refl
   declared_sites false r x names t = refl
 
@@ -127,7 +127,7 @@ module _ (p : Program) where
 
   module _ (calls : Calls) (called : (f r : ℕ) (names : List Renamed) (t : Tables) → Numbered t (calls f r names t)) where
     mutual
-      numbered_one : (r : ℕ) (s : Stmt) (names : List Renamed) (t : Tables) → Listed (site_numbers s) → Numbered t (expand_one p calls r s names t)
+      pub numbered_one : (r : ℕ) (s : Stmt) (names : List Renamed) (t : Tables) → Listed (site_numbers s) → Numbered t (expand_one p calls r s names t)
       numbered_one r (stmt.Assign site x e) names t h =
           let u = with_source_site p r site t in
           let same = declared_sites (is_known p (named_in names x.0) x.0) r x.0 names u in
@@ -163,14 +163,14 @@ module _ (p : Program) where
           let bound = bindings p r line names params args [] t in
           joined t bound (calls f r bound.names bound.tables) (numbered_bindings r line names params args [] t) (called f r bound.names bound.tables)
 
-      numbered_rows : {n : _} (r : ℕ) (rows : Row_of-Stmt n) (names : List Renamed) (t : Tables) → Listed (site_numbers_in rows) → Numbered t (expand_rows p calls r rows names t)
+      pub numbered_rows : {n : _} (r : ℕ) (rows : Row_of-Stmt n) (names : List Renamed) (t : Tables) → Listed (site_numbers_in rows) → Numbered t (expand_rows p calls r rows names t)
       numbered_rows r end_of-Stmt names t h = none_numbered names t
       numbered_rows r (more_of-Stmt s rest) names t h =
           let parts = listed_parts (site_numbers s) (site_numbers_in rest) h in
           let one = expand_one p calls r s names t in
           joined t one (expand_rows p calls r rest one.names one.tables) (numbered_one r s names t parts.0) (numbered_rows r rest one.names one.tables parts.1)
 
-    numbered_list : (r : ℕ) (all : List Stmt) (names : List Renamed) (t : Tables) → Listed (site_numbers_all all) → Numbered t (expand_list p calls r all names t)
+    pub numbered_list : (r : ℕ) (all : List Stmt) (names : List Renamed) (t : Tables) → Listed (site_numbers_all all) → Numbered t (expand_list p calls r all names t)
     numbered_list r [] names t h = none_numbered names t
     numbered_list r (s ∷ rest) names t h =
         let parts = listed_parts (site_numbers s) (site_numbers_all rest) h in
@@ -183,16 +183,16 @@ module _ (p : Program) where
       and_make (is_site first) (list_all is_site (numbers_from (first + 1) n))
       (and_make (nat_lt 0 first) (nat_lt (first - 1) (length p.sites)) (lt-ltb 0 first pos) (lt-ltb (first - 1) (length p.sites) (omega arith))) (listed_from (first + 1) n (omega arith) (omega arith))
 
-  listed_body : (fs : List Function) (f : ℕ) → Listed (flat_map (λ fn. site_numbers_all fn.body) fs) → Listed (site_numbers_all (body_in (slice_get fs f)))
+  pub listed_body : (fs : List Function) (f : ℕ) → Listed (flat_map (λ fn. site_numbers_all fn.body) fs) → Listed (site_numbers_all (body_in (slice_get fs f)))
   listed_body [] f h = refl
   listed_body (fn ∷ fs) zero h = (listed_parts (site_numbers_all fn.body) (flat_map (λ fn. site_numbers_all fn.body) fs) h).0
   listed_body (fn ∷ fs) (suc f) h = listed_body fs f (listed_parts (site_numbers_all fn.body) (flat_map (λ fn. site_numbers_all fn.body) fs) h).1
 
   module _ (checked : IsChecked p) where
-    all_listed : Listed (site_numbers_all p.main) × Listed (flat_map (λ fn. site_numbers_all fn.body) p.functions)
+    pub all_listed : Listed (site_numbers_all p.main) × Listed (flat_map (λ fn. site_numbers_all fn.body) p.functions)
     all_listed = listed_parts (site_numbers_all p.main) (flat_map (λ fn. site_numbers_all fn.body) p.functions) (ap (list_all is_site) checked.sites ∙ listed_from 1 (length p.sites) (omega arith) (omega arith))
 
-    numbered_within : (depth f r : ℕ) (names : List Renamed) (t : Tables) → Numbered t (calls_within p depth f r names t)
+    pub numbered_within : (depth f r : ℕ) (names : List Renamed) (t : Tables) → Numbered t (calls_within p depth f r names t)
     numbered_within zero f r names t = none_numbered names t
     numbered_within (suc depth) f r names t =
         numbered_list (calls_within p depth) (numbered_within depth) r (body_in (slice_get p.functions f)) names t (listed_body p.functions f all_listed.1)

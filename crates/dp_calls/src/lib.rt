@@ -5,4 +5,4 @@
 
 mod laws;
 
-pub use laws::expansion_leaves_no_call;
+pub use laws::{expansion_is_in_text_order, expansion_leaves_no_call};

@@ -8,3 +8,4 @@ pub mod GlobalLemmas
 pub mod SizeForms
 pub mod SizeLemmas
 pub mod LimitLemmas
+pub mod SiteCount

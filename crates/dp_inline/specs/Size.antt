@@ -45,3 +45,7 @@ region_size p s = counts_if (is_marked s) (size_one 0 (size_within p 0 (length p
 -- the sites of the expanded program and the calls that were expanded
 abbrev pub inlined_size : Program → ℕ
 inlined_size p = size_list 1 (size_within p 1 (length p.functions)) p.main
+
+-- the sites of the expanded program
+abbrev pub site_total : Program → ℕ
+site_total p = size_list 0 (size_within p 0 (length p.functions)) p.main

@@ -5,6 +5,7 @@
 
 mod expr;
 mod fail;
+mod law;
 mod names;
 mod piece;
 mod program;
@@ -14,4 +15,5 @@ mod stmt;
 mod tests;
 
 pub use fail::InlineFail;
+pub use law::sizes_count_sites;
 pub use program::inline;
