@@ -1,6 +1,7 @@
 -- laws of expansion alone
 pub mod ExpandLaws
 pub mod NoCallLaws
+pub mod KeptGlobals
 -- frames against the expanded program: the relation, values and stores
 pub mod InnerTexts
 pub mod Relation
@@ -28,4 +29,8 @@ pub mod Layouts
 pub mod CheckedTexts
 pub mod Whole
 pub mod SameMeanings
+-- the numbers of an expanded program
+pub mod SiteLaws
+pub mod PlainLaws
+pub mod RegionTableLaws
 pub mod rows

@@ -1,6 +1,9 @@
+ghost use Rattle.std.specs.Prelude.{◌≡◌, true, length};
+ghost use Rattle.dp_tree.specs.Numbering.{numbers_from, regions_in_order, regions_listed, site_numbers_all};
+ghost use Rattle.dp_tree.specs.Checked.{IsChecked};
+ghost use Rattle.dp_calls.specs.Expand.{expand};
 ghost use Rattle.dp_calls.specs.ExpandLaws.{KeepsText, LeavesNoCall};
 ghost use Rattle.dp_calls.specs.Meaning.{SameMeaning};
-ghost use Rattle.dp_tree.specs.Checked.{IsChecked};
 
 use dp_tree::Program;
 
@@ -16,4 +19,13 @@ pub fn expansion_leaves_no_call(p: &Program)
 pub fn expansion_keeps_the_meaning(p: &Program)
     requires { IsChecked p.now }
     ensures same { SameMeaning p.now }
+{}
+
+/// The sites and the regions of an expanded program are numbered in its text order, and each region has its sites in the
+/// table.
+pub fn expansion_is_in_text_order(p: &Program)
+    requires { IsChecked p.now }
+    ensures sites { site_numbers_all (expand p.now).main ≡ numbers_from 1 (length (expand p.now).sites) }
+    ensures regions { regions_in_order 1 (expand p.now).main ≡ true }
+    ensures table { regions_listed (expand p.now).main (expand p.now).regions ≡ true }
 {}

@@ -1,0 +1,11 @@
+pub mod ExprLemmas
+pub mod NamesLemmas
+pub mod FormLemmas
+pub mod Work
+pub mod LoopLemmas
+pub mod EndLemmas
+pub mod GlobalLemmas
+pub mod SizeForms
+pub mod SizeLemmas
+pub mod LimitLemmas
+pub mod SiteCount

@@ -1,0 +1,5 @@
+pub mod Size
+pub mod Verdict
+pub mod Counted
+pub mod Named
+pub mod Written

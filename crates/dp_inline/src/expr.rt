@@ -1,0 +1,49 @@
+//! Expressions in the names of an expanded call.
+
+ghost use Rattle.std.specs.Prelude.{◌≡◌, IfOk};
+ghost use Rattle.dp_calls.specs.Renaming.{renamed};
+ghost use Rattle.dp_inline.specs.Written.{expr_in};
+
+use crate::names::Names;
+use dp_base::{Boxed, NoMemory};
+use dp_tree::Expr;
+use std::alloc::Global;
+
+/// The expression with each variable replaced by the one that stands for it.
+#[tactic(auto, using(crate::proofs::ExprLemmas::expr_forms))]
+pub fn rename(alloc: Global, names: &Names, e: &Expr) -> Result<Expr, NoMemory>
+    ensures { IfOk result (λ r. r ≡ expr_in names.now e.now) }
+{
+    match e {
+        Expr::Number(n) => Ok(Expr::Number(*n)),
+        Expr::Input(e) => {
+            let e = rename(alloc, names, e.get())?;
+            Ok(Expr::Input(Boxed::new(alloc, e)?))
+        }
+        Expr::InputLen => Ok(Expr::InputLen),
+        Expr::Scalar(var) => Ok(Expr::Scalar(names.target(*var))),
+        Expr::Element(var, e) => {
+            let e = rename(alloc, names, e.get())?;
+            Ok(Expr::Element(names.target(*var), Boxed::new(alloc, e)?))
+        }
+        Expr::Unary(op, a) => {
+            let a = rename(alloc, names, a.get())?;
+            Ok(Expr::Unary(*op, Boxed::new(alloc, a)?))
+        }
+        Expr::Binary(op, a, b) => {
+            let a = rename(alloc, names, a.get())?;
+            let b = rename(alloc, names, b.get())?;
+            Ok(Expr::Binary(*op, Boxed::new(alloc, a)?, Boxed::new(alloc, b)?))
+        }
+        Expr::And(a, b) => {
+            let a = rename(alloc, names, a.get())?;
+            let b = rename(alloc, names, b.get())?;
+            Ok(Expr::And(Boxed::new(alloc, a)?, Boxed::new(alloc, b)?))
+        }
+        Expr::Or(a, b) => {
+            let a = rename(alloc, names, a.get())?;
+            let b = rename(alloc, names, b.get())?;
+            Ok(Expr::Or(Boxed::new(alloc, a)?, Boxed::new(alloc, b)?))
+        }
+    }
+}

@@ -1,0 +1,19 @@
+//! Calls expanded: a program whose every call is replaced by the bindings of its arguments and the body of its function.
+//!
+//! `specs/` says how large that program is, and when it is too large to be made.
+#![tactic(auto)]
+
+mod expr;
+mod fail;
+mod law;
+mod names;
+mod piece;
+mod program;
+mod size;
+mod stmt;
+#[cfg(test)]
+mod tests;
+
+pub use fail::InlineFail;
+pub use law::sizes_count_sites;
+pub use program::inline;

@@ -1,0 +1,59 @@
+//! A program with its calls expanded.
+
+ghost use Rattle.std.specs.Prelude.{◌≡◌, [], IfOk};
+ghost use Rattle.dp_calls.specs.Expand.{expand};
+ghost use Rattle.dp_calls.specs.Tables.{first_tables};
+ghost use Rattle.dp_tree.specs.Checked.{IsChecked};
+ghost use Rattle.dp_inline.specs.Verdict.{Gives, verdict};
+ghost use Rattle.dp_inline.specs.Written.{written};
+
+use crate::InlineFail;
+use crate::piece::Writer;
+use crate::size::within;
+use crate::stmt::statements;
+use dp_base::{NoMemory, Row};
+use dp_tree::Program;
+use std::alloc::Global;
+
+/// Before the text of `main`: the variables of the file.
+fn begin(alloc: Global, p: &Program) -> Result<Writer, NoMemory>
+    ensures { IfOk result (λ out. written out ≡ record { code = []; names = []; tables = first_tables p.now }) }
+{
+    let mut out = Writer::new(alloc);
+    for info in p.vars.as_slice() {
+        out.global(info)?;
+    }
+    Ok(out)
+}
+
+fn expanded(alloc: Global, p: &Program) -> Result<Program, NoMemory>
+    ensures { IfOk result (λ q. q ≡ expand p.now) }
+{
+    let mut out = begin(alloc, p)?;
+    statements(p, p.functions.len(), 0, &mut out, p.main.as_slice())?;
+    Ok(Program {
+        vars: out.vars,
+        sites: out.sites,
+        regions: out.regions,
+        functions: Row::new(alloc),
+        main: out.code,
+    })
+}
+
+/// What is answered for a checked program.
+#[tactic(auto, using(crate::proofs::SizeForms::verdicts))]
+pub(crate) fn bounded(alloc: Global, p: &Program) -> Result<Program, InlineFail>
+    ensures { IsChecked p.now → Gives (verdict p.now) result }
+{
+    within(alloc, p)?;
+    Ok(expanded(alloc, p)?)
+}
+
+/// The program with each call replaced by the bindings of its arguments and the body of its function. A program that
+/// would be too large is refused without being made.
+pub fn inline(alloc: Global, p: &Program) -> Result<Program, InlineFail>
+    requires { IsChecked p.now }
+    ensures { Gives (verdict p.now) result }
+{
+    bounded(alloc, p)
+}

@@ -1,0 +1,6 @@
+//! Expanded programs and limits, as tables of exact results.
+
+mod build;
+mod calls;
+mod flat;
+mod limits;
