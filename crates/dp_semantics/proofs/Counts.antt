@@ -18,7 +18,7 @@ all_count test (suc n) k s e low high =
     by (inl q) h go = ap test (sym q) ∙ h
     by (inr q) h go = go (omega (arith, low, q))
 
-count_all : (test : ℕ → Bool) (n k : ℕ) → ((s : ℕ) → k ≤ s → s < k + n → test s ≡ true) → list_all test (count_from k n) ≡ true
+pub count_all : (test : ℕ → Bool) (n k : ℕ) → ((s : ℕ) → k ≤ s → s < k + n → test s ≡ true) → list_all test (count_from k n) ≡ true
 count_all test zero k h = refl
 count_all test (suc n) k h = and_make (test k) (list_all test (count_from (suc k) n)) (h k (omega arith) (omega arith)) (count_all test n (suc k) (λ s low high. h s (omega (arith, low)) (omega (arith, high))))
 

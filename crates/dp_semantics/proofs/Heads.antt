@@ -6,7 +6,7 @@ use Rattle.dp_tree.specs.declared.Stmt.TheVariants as tree
 use Rattle.dp_semantics.proofs.Evaluation.{head_loads, head_stores}
 
 -- what opens where a statement is made
-unfoldable opened : Unit {0}
+unfoldable pub opened : Unit {0}
 unfolding Rattle.dp_tree.specs.declared.Stmt.TheBlock.shape-the_row-Stmt-0 Rattle.dp_tree.specs.declared.Stmt.TheBlock.hidden-the_row-Stmt-0 denote.Hole.Carrier.hidden
 opened = tt
 
@@ -95,7 +95,7 @@ module _ (p : Program) (plan : Plan) where
   well_at (Call f line args) = false
   well_at _ = true
 
-  well_hidden : (xs : List Stmt) → well_nested_in p plan (hidden-the_row-Stmt-0 xs) ≡ all_well xs
+  pub well_hidden : (xs : List Stmt) → well_nested_in p plan (hidden-the_row-Stmt-0 xs) ≡ all_well xs
   unfolding opened
   well_hidden [] = refl
   well_hidden (x ∷ xs) = ap (λ b. well_nested p plan x && b) (well_hidden xs)
