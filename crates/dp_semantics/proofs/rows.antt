@@ -4,3 +4,5 @@ mod Turns
 mod Sent
 mod Judged
 mod Fitting
+
+mod ValidPlans

@@ -3,16 +3,19 @@ use Rattle.std.proofs.Common.{◌≡◌, refl, ℕ, ◌==◌, Bool, true, false,
 use Rattle.dp_tree.specs.declared.Program.{Program}
 use Rattle.dp_tree.specs.Step.{Effect, Stored, Printed, Decided}
 use Rattle.dp_tree.specs.Trace.{Run}
-use Rattle.dp_tree.specs.Iteration.{begun_count, start}
+use Rattle.dp_tree.specs.Iteration.{begun_count, memory_after, start}
 use Rattle.dp_tree.proofs.Build.{tree_opened}
 use Rattle.dp_tree.proofs.Programs.{stale_read, same_value_store, skip_negative, histogram, two_stores, stale_step, stale_divisor}
 use Rattle.dp_plan.specs.declared.Plan.{Plan}
-use Rattle.dp_plan.proofs.Plans.{stale_read_plan, skip_negative_plan, histogram_plan, two_stores_plan, stale_step_plan, stale_divisor_plan}
+use Rattle.dp_plan.specs.declared.StageKind.TheVariants.{Seq, Par}
+use Rattle.dp_plan.proofs.Plans.{plan, stale_read_plan, skip_negative_plan, histogram_plan, two_stores_plan, stale_step_plan, stale_divisor_plan}
 use Rattle.dp_semantics.specs.Clean.{count_from, int_eq, is_clean}
 use Rattle.dp_semantics.specs.Recovery.{epoch}
 use Rattle.dp_semantics.specs.StageRun.{turn_from}
-use Rattle.dp_semantics.specs.Judge.{Judgement, Clean, Unclean, Agreed, judge_from}
-use Rattle.dp_semantics.specs.Verdict.{whole_run, judgement_at, done_in}
+use Rattle.dp_semantics.specs.Judge.{Judgement, Clean, Unclean, Agreed, judge, judge_from}
+use Rattle.dp_semantics.specs.Packets.{Going, Broken, Packet, Status}
+use Rattle.dp_semantics.specs.Words.{Full}
+use Rattle.dp_semantics.specs.Verdict.{whole_run, judgement_at, packet_at, done_in}
 
 abbrev same_effect : Effect → Effect → Bool
 same_effect (Stored c v) (Stored d w) = (c == d) && int_eq v w
@@ -94,3 +97,29 @@ fuel_within_an_iteration = refl
 fuel_after_an_iteration : verdicts same_value_store stale_read_plan [] 9 ≡ clean ∷ clean ∷ []
 unfolding tree_opened turn_from judge_from
 fuel_after_an_iteration = refl
+
+replicated_counts : verdicts histogram (plan 4096 (Seq ∷ Par ∷ []) (1 ∷ 1 ∷ 1 ∷ 2 ∷ 2 ∷ []) []) (pos 0 ∷ pos 4 ∷ pos 8 ∷ []) 10000 ≡ clean ∷ unclean ∷ clean ∷ clean ∷ []
+unfolding tree_opened turn_from judge_from
+replicated_counts = refl
+
+-- A void packet is Unclean, though its words are those that would be Clean.
+abbrev with_status : Status → Packet → Packet
+with_status status packet = record { lists = packet.lists; status = status; version = packet.version }
+
+abbrev first_packet_as : Status → Judgement
+first_packet_as status = by (whole_run same_value_store [] 10000)
+  where
+    by : Run → Judgement
+    by run = judge same_value_store stale_read_plan run.fuel (memory_after run 1 0) (with_status status (packet_at same_value_store stale_read_plan [] run 0 0))
+
+abbrev is_clean_judgement : Judgement → Bool
+is_clean_judgement (Clean a) = true
+is_clean_judgement Unclean = false
+
+not_void : is_clean_judgement (first_packet_as Going) ≡ true
+unfolding tree_opened turn_from judge_from
+not_void = refl
+
+void : is_clean_judgement (first_packet_as (Broken 2 Full)) ≡ false
+unfolding tree_opened turn_from judge_from
+void = refl
