@@ -1,14 +1,8 @@
 -- The events of a region's iterations are at the region's sites, where it stands alone among the statements of `main`.
-use Rattle.std.proofs.Common.{◌≡◌, refl, sym, ap, ◌∙◌, subst, ℕ, zero, suc, ◌-◌, Bool, true, false, if◌then◌else◌, List, [], ◌∷◌, ◌++◌, ℤ, take, filter, Option, Some, None, slice_get, arith}
-use Rattle.std.proofs.lemmas.Bool.{both_ways}
-use Rattle.dp_semantics.proofs.Names.{Program, Stmt, out-Stmt, Stmt-F, Assign, Store, Print, If, While, Region, Call, SiteId, Expr, Event, Config, Step, Finished, Faulted, Stepped, Run, run_of, run_by, is_zero, followed, value_of, stored, standing, step, cleared_at, is_region, stands_at_head, places, Access, accesses, is_free}
-use Rattle.dp_semantics.proofs.Each.{Each, each_split, and_true}
-use Rattle.dp_semantics.proofs.Heads.{accesses_all, accesses_at, accesses_out, head_access, all_free}
-use Rattle.dp_semantics.proofs.Followed.{followed_has, followed-append}
-use Rattle.dp_semantics.proofs.Setting.{size}
-use Rattle.dp_semantics.proofs.Source.{each_joins, each_parts}
-use Rattle.dp_semantics.proofs.Runs.{is_step, run_step, Leads, step_leads, run_first}
-use Rattle.dp_semantics.proofs.Placed.{At, free_next, not_at_head}
+use Rattle.dp_semantics.proofs.Names.{◌≡◌, refl, sym, ap, ◌∙◌, subst, ℕ, zero, suc, ◌-◌, Bool, true, false, if◌then◌else◌, List, [], ◌∷◌, ◌++◌, ℤ, take, filter, Option, Some, None, slice_get, arith, both_ways, Program, Stmt, out-Stmt, Stmt-F, Assign, Store, Print, If, While, Region, Call, SiteId, Expr, Event, Config, Step, Finished, Faulted, Stepped, Run, run_of, run_by, is_zero, followed, value_of, stored, standing, step, cleared_at, is_region, stands_at_head, places, Access, accesses, is_free, and_parts, followed-append}
+use Rattle.dp_semantics.proofs.Setting.{size, Each, each_split, accesses_all, accesses_at, accesses_out, head_access, all_free, followed_has}
+use Rattle.dp_semantics.proofs.Placed.{At, free_next, not_at_head, is_step, run_step, Leads, step_leads, run_first}
+use Rattle.dp_semantics.proofs.Stepping.{each_joins, each_parts}
 
 -- an element that a filter finds passes the test
 pub found_is : {X : Type 0} (test : X → Bool) (xs : List X) (x : X) → filter test xs ≡ x ∷ [] → test x ≡ true
@@ -142,10 +136,10 @@ module _ {p : Program} {r : ℕ} {Q : Access → Type 0} (l : Lone p r Q) (input
     where
       by : (to_do : List Stmt) → Around Q r behind to_do → c ≡ standing p to_do cells → stands_at_head r (standing p to_do cells) ≡ true → (inner : List Stmt) × (cells : List ℤ) × (c ≡ standing p (inner ++ behind) cells) × Each Q (accesses_all inner)
       by [] around is head = absurd (cc)
-      by (x ∷ rest) (beyond w) is head = absurd (both_ways (is_region r (out-Stmt x)) (not_at_head r x (and_true (is_free r x) (all_free r rest) w).0) head)
+      by (x ∷ rest) (beyond w) is head = absurd (both_ways (is_region r (out-Stmt x)) (not_at_head r x (and_parts (is_free r x) (all_free r rest) w).0) head)
       by (x ∷ rest) (ahead [] e w) is head = ([], cells, is ∙ ap (λ (ys : List Stmt). standing p ys cells) e, tt)
       by (x ∷ rest) (ahead (y ∷ inner) e w) is head =
-          let here : y ≡ x = cc in absurd (both_ways (is_region r (out-Stmt x)) (not_at_head r x (ap (is_free r) (sym here) ∙ (and_true (is_free r y) (all_free r inner) w).0)) head)
+          let here : y ≡ x = cc in absurd (both_ways (is_region r (out-Stmt x)) (not_at_head r x (ap (is_free r) (sym here) ∙ (and_parts (is_free r y) (all_free r inner) w).0)) head)
       by (x ∷ rest) (inside inner e q) is head = (inner, cells, is ∙ ap (λ (ys : List Stmt). standing p ys cells) e, q)
 
   first_place : (n : ℕ) (cs : List Config) (c : Config) → slice_get cs 0 ≡ Some c → stands_at_head r c ≡ true → slice_get (places (stands_at_head r) n cs) 0 ≡ Some n

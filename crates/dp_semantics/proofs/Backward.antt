@@ -1,14 +1,7 @@
 -- A Clean judgement, step by step: the source makes each event, and it agrees with the plan.
-use Rattle.std.proofs.Common.{◌≡◌, ◌⊎◌, inl, inr, refl, sym, ap, ◌∙◌, subst, append_assoc, ℕ, zero, suc, ◌-◌, ◌<◌, ◌≤◌, Bool, true, false, ◌&&◌, if◌then◌else◌, List, [], ◌∷◌, ◌++◌, ℤ, length, Some, None, Ok, arith}
-use Rattle.std.proofs.lemmas.List.{append-nil}
-use Rattle.std.proofs.lemmas.Bool.{cases_eq}
-use Rattle.std.specs.List.{list_all}
-use Rattle.dp_semantics.proofs.Names.{Word, SiteId, Stmt, out-Stmt, out-roll-Stmt, WithLoads, Event, Effect, followed, site_of, value_of, stored, stage_of, Past, all_agree, event_agrees, event_as_assumed, words_of, word_list, Turn, Ended, turn_from, Epoch, Judging, Judgement, Agreed, Clean, Unclean, judge_by, judge_spent, judge_from, last}
-use Rattle.dp_semantics.proofs.Each.{and_make}
+use Rattle.dp_semantics.proofs.Names.{◌≡◌, ◌⊎◌, inl, inr, refl, sym, ap, ◌∙◌, subst, append_assoc, ℕ, zero, suc, ◌-◌, ◌<◌, ◌≤◌, Bool, true, false, ◌&&◌, if◌then◌else◌, List, [], ◌∷◌, ◌++◌, ℤ, length, Some, None, Ok, arith, append-nil, cases_eq, list_all, Word, SiteId, Stmt, out-Stmt, out-roll-Stmt, WithLoads, Event, Effect, followed, site_of, value_of, stored, stage_of, Past, all_agree, event_agrees, event_as_assumed, words_of, word_list, Turn, Ended, turn_from, Epoch, Judging, Judgement, Agreed, Clean, Unclean, judge_by, judge_spent, judge_from, last, and_from, append_cancel_left}
 use Rattle.dp_semantics.proofs.Setting.{Fit}
-use Rattle.dp_semantics.proofs.Taking.{append_same, words_for, words_here, words_elsewhere, event_held}
-use Rattle.dp_semantics.proofs.Source.{event_of, past_of, stage_for, Gives, Stands, own_site, form_of, stands_next, stage_does, source_does, event_sees}
-use Rattle.dp_semantics.proofs.Stepping.{InStep, Moved, Advanced, advance, here, staying, onward, site_proj, evaluated_proj, head_is}
+use Rattle.dp_semantics.proofs.Stepping.{InStep, Moved, Advanced, advance, here, staying, onward, site_proj, evaluated_proj, head_is, words_for, words_here, words_elsewhere, event_held, event_of, past_of, stage_for, Gives, Stands, own_site, form_of, stands_next, stage_does, source_does, event_sees}
 use Rattle.dp_semantics.proofs.Lockstep.{Goes, stays, goes, words_through}
 use Rattle.dp_semantics.proofs.Judging.{judged_next, held, judge_turn, next_stands, next_moved, held_here}
 use Rattle.dp_semantics.proofs.TurnBack.{some_steps, Own, own_back}
@@ -55,7 +48,7 @@ module _ {k : Epoch} (ok : Fit k) {i : ℕ} {x : Stmt} {rest : List Stmt} {earli
     gave = sym (evaluated_proj program plan (stage_for k x) input r.turn.cells (out-Stmt x)) ∙ o.gave;
     fits = subst (λ (ws : List Word). length (r.turn.own ++ ws) ≤ plan.words) (same_words ∙ sym (words_here program plan (stage_for k x) (event_of (out-Stmt x) o.v) refl)) o.room;
     more = o.grew.0;
-    front = append_same r.turn.own (word_list lists (stage_for k x)) (words_of program plan (event_of (out-Stmt x) o.v) ++ o.grew.0)
+    front = append_cancel_left r.turn.own (word_list lists (stage_for k x)) (words_of program plan (event_of (out-Stmt x) o.v) ++ o.grew.0)
         (sym r.own ∙ o.grew.1 ∙ ap (λ ws. (r.turn.own ++ ws) ++ o.grew.0) same_words ∙ append_assoc r.turn.own (words_of program plan (event_of (out-Stmt x) o.v)) o.grew.0);
   }
     where
@@ -105,7 +98,7 @@ module _ {k : Epoch} (ok : Fit k) {i : ℕ} {x : Stmt} {rest : List Stmt} {earli
         in_step = a.in_step;
         runs = sym (a.runs q.steps (q.steps - a.steps) (omega (arith, a.few, some_steps program plan input s q.steps q.turn q.ended q.runs))) ∙ q.runs;
         own = q.own ∙ ap (λ ws. q.turn.own ++ ws) (moved.lists s low high) ∙ sym (append_assoc q.turn.own (words_for program plan s (event_of (out-Stmt x) v)) (word_list d.lists s)) ∙ ap (λ ws. ws ++ word_list d.lists s) (sym a.moved.own);
-        same = λ t up down. append_same (words_for program plan t (event_of (out-Stmt x) v)) (word_list a.turn.lists t) (word_list d.lists t)
+        same = λ t up down. append_cancel_left (words_for program plan t (event_of (out-Stmt x) v)) (word_list a.turn.lists t) (word_list d.lists t)
             (sym (a.moved.lists t up down) ∙ q.same t up down ∙ moved.lists t up (omega (arith, down, high)));
         room = subst (λ (ws : List Word). length ws ≤ plan.words) (sym a.moved.own) (fits_at s low high);
       },
@@ -166,8 +159,8 @@ module _ {k : Epoch} (ok : Fit k) {i : ℕ} where
         events = event_of (out-Stmt x) next.v ∷ later.events;
         then_cells = later.then_cells;
         path = goes {events = later.events} {then_cells = later.then_cells} gave later.path;
-        agree = and_make (event_agrees program plan base i earlier (event_of (out-Stmt x) next.v)) (all_agree program plan base i (past_of i x next.v ∷ earlier) later.events) agree later.agree;
-        told = and_make (event_as_assumed plan (event_of (out-Stmt x) next.v)) (list_all (event_as_assumed plan) later.events) tests.told later.told;
+        agree = and_from (event_agrees program plan base i earlier (event_of (out-Stmt x) next.v)) (all_agree program plan base i (past_of i x next.v ∷ earlier) later.events) agree later.agree;
+        told = and_from (event_as_assumed plan (event_of (out-Stmt x) next.v)) (list_all (event_as_assumed plan) later.events) tests.told later.told;
         fits = λ s low high. fits_step plan.words (all s low high).turn.own (words_for program plan s (event_of (out-Stmt x) next.v)) (words_through program plan s later.events) (on s low high).0.turn.own (on s low high).1 (later.fits s low high);
         within = omega (arith, later.within);
       }

@@ -1,19 +1,13 @@
 -- The central theorem: the judgement on an epoch's packet is Clean exactly where the iteration is clean.
-use Rattle.std.proofs.Common.{◌≡◌, inl, inr, refl, sym, ap, ◌∙◌, subst, ℕ, zero, suc, ◌+◌, ◌-◌, ◌<◌, ◌≤◌, Bool, true, false, ◌&&◌, ◌||◌, if◌then◌else◌, List, [], ◌++◌, ℤ, length, length-append, get_or, map, Option, Some, is_some, slice_get, arith, le-leb}
-use Rattle.std.proofs.lemmas.List.{append-nil}
-use Rattle.std.proofs.lemmas.Option.{slice_get_within, slice_get-get_or}
-use Rattle.std.proofs.lemmas.Bool.{both_ways, lt-leb}
-use Rattle.std.specs.List.{list_all}
-use Rattle.dp_semantics.proofs.Names.{Stmt, Program, Plan, Config, Event, Step, Finished, Faulted, Stepped, clear_locals, step, Run, run_of, run_by, begin, starts, start, iteration, is_closing, has_ended, memory_after, Past, all_agree, event_as_assumed, fits_words, pushed, events_since, is_clean, word_list, Epoch, Packet, passed, Agreed, Clean, judge, effect_in, epoch_at, status_when, CleanSince, Judged, JudgesRightly, Follows, StoresLead}
+use Rattle.dp_semantics.proofs.Names.{◌≡◌, inl, inr, refl, sym, ap, ◌∙◌, subst, ℕ, zero, suc, ◌+◌, ◌-◌, ◌<◌, ◌≤◌, Bool, true, false, ◌&&◌, ◌||◌, if◌then◌else◌, List, [], ◌++◌, ℤ, length, length-append, get_or, map, Option, Some, is_some, slice_get, arith, le-leb, append-nil, slice_get_within, slice_get-get_or, both_ways, lt-leb, list_all, Stmt, Program, Plan, Config, Event, Step, Finished, Faulted, Stepped, clear_locals, step, Run, run_of, run_by, begin, starts, start, iteration, is_closing, has_ended, memory_after, Past, all_agree, event_as_assumed, fits_words, pushed, events_since, is_clean, word_list, Epoch, Packet, passed, Agreed, Clean, judge, effect_in, epoch_at, status_when, CleanSince, Judged, JudgesRightly, Follows, StoresLead}
+use Rattle.dp_semantics.proofs.Paths as paths
 use Rattle.dp_semantics.proofs.Setting.{Accepted}
-use Rattle.dp_semantics.proofs.Lockstep.{Goes, closing_after}
-use Rattle.dp_semantics.proofs.Whole.{turn_of, sound_parts, MadeWithin}
+use Rattle.dp_semantics.proofs.Whole.{turn_of, sound_parts, MadeWithin, Goes, closing_after}
 use Rattle.dp_semantics.proofs.PacketFacts.{status_for}
 use Rattle.dp_semantics.proofs.Epochs.{History, numbered, past_at, MakesAt, GoneBy, Gone}
 use Rattle.dp_semantics.proofs.Verdicts.{WellJudged, clean_is_judged, judged_is_clean}
 use Rattle.dp_semantics.proofs.Iterations.{run, Ending, goes_on, closes, breaks, IterationIs, iteration_is}
 use Rattle.dp_semantics.proofs.Counts.{fits_each, each_fits, words_are}
-use Rattle.dp_semantics.proofs.Paths as paths
 use Rattle.dp_semantics.proofs.Paths.{closing_first, goes_applied, first_of, no_more}
 
 four : (a b c d : Bool) → (a && b && c && d) ≡ true → (a ≡ true) × (b ≡ true) × (c ≡ true) × (d ≡ true)

@@ -1,18 +1,13 @@
 -- The number of words of a stage is the number that the plan counts.
-use Rattle.std.proofs.Common.{◌≡◌, ◌⊎◌, inl, inr, refl, sym, ap, ◌∙◌, ℕ, zero, suc, ◌+◌, ◌<◌, ◌≤◌, ◌==◌, Bool, true, false, if◌then◌else◌, List, [], ◌∷◌, ◌++◌, length, length-append, filter, nat_le, arith, leb-true, le-leb}
-use Rattle.std.proofs.lemmas.List.Sums.{sum_by-cons}
-use Rattle.std.proofs.lemmas.Bool.{cases_eq}
-use Rattle.std.specs.List.{list_all, flat_map}
-use Rattle.dp_semantics.proofs.Names.{Program, Plan, Load, Event, stage_of, is_checked, event_words, words_at, word_count, count_from, fits_words, load_words, done_word, words_of, last, words_at_stage}
-use Rattle.dp_semantics.proofs.Each.{and_true, and_make}
-use Rattle.dp_semantics.proofs.Taking.{words_for}
-use Rattle.dp_semantics.proofs.Lockstep.{words_through}
+use Rattle.dp_semantics.proofs.Names.{◌≡◌, ◌⊎◌, inl, inr, refl, sym, ap, ◌∙◌, ℕ, zero, suc, ◌+◌, ◌<◌, ◌≤◌, ◌==◌, Bool, true, false, if◌then◌else◌, List, [], ◌∷◌, ◌++◌, length, length-append, filter, nat_le, arith, leb-true, le-leb, sum_by-cons, cases_eq, list_all, flat_map, Program, Plan, Load, Event, stage_of, is_checked, event_words, words_at, word_count, count_from, fits_words, load_words, done_word, words_of, last, words_at_stage, and_parts, and_from}
+use Rattle.dp_semantics.proofs.Stepping.{words_for}
+use Rattle.dp_semantics.proofs.Whole.{words_through}
 
 -- a test of each number from k on, n of them
 pub all_count : (test : ℕ → Bool) (n k s : ℕ) → list_all test (count_from k n) ≡ true → k ≤ s → s < k + n → test s ≡ true
 all_count test zero k s e low high = absurd (omega (arith, low, high))
 all_count test (suc n) k s e low high =
-    let parts = and_true (test k) (list_all test (count_from (suc k) n)) e in by (cases_eq k s) parts.0 (λ l. all_count test n (suc k) s parts.1 l (omega (arith, high)))
+    let parts = and_parts (test k) (list_all test (count_from (suc k) n)) e in by (cases_eq k s) parts.0 (λ l. all_count test n (suc k) s parts.1 l (omega (arith, high)))
   where
     by : (k ≡ s) ⊎ (k ≡ s → ⊥) → test k ≡ true → (suc k ≤ s → test s ≡ true) → test s ≡ true
     by (inl q) h go = ap test (sym q) ∙ h
@@ -20,7 +15,7 @@ all_count test (suc n) k s e low high =
 
 pub count_all : (test : ℕ → Bool) (n k : ℕ) → ((s : ℕ) → k ≤ s → s < k + n → test s ≡ true) → list_all test (count_from k n) ≡ true
 count_all test zero k h = refl
-count_all test (suc n) k h = and_make (test k) (list_all test (count_from (suc k) n)) (h k (omega arith) (omega arith)) (count_all test n (suc k) (λ s low high. h s (omega (arith, low)) (omega (arith, high))))
+count_all test (suc n) k h = and_from (test k) (list_all test (count_from (suc k) n)) (h k (omega arith) (omega arith)) (count_all test n (suc k) (λ s low high. h s (omega (arith, low)) (omega (arith, high))))
 
 load_words-length : (site : ℕ) (loads : List Load) → length (load_words site loads) ≡ length loads
 load_words-length site [] = refl

@@ -1,15 +1,9 @@
 -- The packets of an epoch whose iterations so far went in agreement with the plan.
-use Rattle.std.proofs.Common.{◌≡◌, ◌⊎◌, inl, inr, refl, sym, ap, ◌∙◌, subst, ℕ, zero, suc, ◌+◌, ◌<◌, true, false, List, [], ◌∷◌, ◌++◌, ℤ, pos, length, get_or, length-append, Option, Some, None, slice_get, Ok, arith}
-use Rattle.std.proofs.lemmas.Option.{slice_get_past}
-use Rattle.std.proofs.lemmas.Bool.{cases_order, both_ways}
-use Rattle.dp_semantics.proofs.Names.{Word, Event, StageKind, Seq, Par, Plan, is_par, is_replicated, Past, pushed, word_list, TurnEnd, stage_run, Status, Packet, Passed, Epoch, status_of, passed_by, run_on, cleared, at_sequential, at_replicated, at_kind, passed, last}
+use Rattle.dp_semantics.proofs.Names.{◌≡◌, ◌⊎◌, inl, inr, refl, sym, ap, ◌∙◌, subst, ℕ, zero, suc, ◌+◌, ◌<◌, true, false, List, [], ◌∷◌, ◌++◌, ℤ, pos, length, get_or, length-append, Option, Some, None, slice_get, Ok, arith, slice_get_past, cases_order, both_ways, Word, Event, StageKind, Seq, Par, Plan, is_par, is_replicated, Past, pushed, word_list, TurnEnd, stage_run, Status, Packet, Passed, Epoch, status_of, passed_by, run_on, cleared, at_sequential, at_replicated, at_kind, passed, last}
 use Rattle.dp_semantics.proofs.Setting.{size, Fit}
-use Rattle.dp_semantics.proofs.Seeing.{Sees}
-use Rattle.dp_semantics.proofs.Memory.{AllBefore, pushed_before, before_later, Cleared, sees_next, sees_replicated, clear-length}
 use Rattle.dp_semantics.proofs.PacketFacts.{live, status_for, status_next, status_live, word_list-early, word_list-last, passed_live, run_before, Left, left_live}
-use Rattle.dp_semantics.proofs.Source.{Stands}
-use Rattle.dp_semantics.proofs.Lockstep.{words_through, closing_after, stands_after}
-use Rattle.dp_semantics.proofs.Whole.{turn_of, stands_at_start, Fresh, Makes, TurnIs, TurnEnds, stage_whole}
+use Rattle.dp_semantics.proofs.Whole.{turn_of, stands_at_start, Fresh, Makes, TurnIs, TurnEnds, stage_whole, AllBefore, pushed_before, before_later, Cleared, sees_next, sees_replicated, clear-length, words_through, closing_after, stands_after}
+use Rattle.dp_semantics.proofs.Stepping.{Sees, Stands}
 
 last_sequential : (plan : Plan) → is_replicated plan (last plan) ≡ false
 last_sequential plan = ap is_par (slice_get_past plan.stages (length plan.stages) (omega arith))

@@ -1,6 +1,5 @@
 -- An evaluation and the same one in another memory: what form its value has, what it loads, and when the two agree.
-use Rattle.std.proofs.Common.{◌≡◌, refl, sym, ap, ◌∙◌, subst, ℕ, ◌+◌, ◌<◌, ◌≤◌, Bool, true, false, if◌then◌else◌, List, [], ◌∷◌, ◌++◌, ℤ, pos, negsuc, length, get_or, nat_lt, Option, Some, None, Result, Ok, Err, arith, ltb-true}
-use Rattle.dp_semantics.proofs.Names.{FaultKind, Index, binary_result, unary_result, is_zero, Expr, end_of-Expr, more_of-Expr, Program, Stmt, Stmt-F, Assign, Store, Print, If, While, Region, Call, Load, WithLoads, Evaluated, just, after_loads, and_then, without_loads, place, load, first_cell, cell_count, eval, Effect, Stored, Printed, Decided, evaluated, loaded_by}
+use Rattle.dp_semantics.proofs.Names.{◌≡◌, refl, sym, ap, ◌∙◌, subst, ℕ, ◌+◌, ◌<◌, ◌≤◌, Bool, true, false, if◌then◌else◌, List, [], ◌∷◌, ◌++◌, ℤ, pos, negsuc, length, get_or, nat_lt, Option, Some, None, Result, Ok, Err, arith, ltb-true, FaultKind, Index, binary_result, unary_result, is_zero, Expr, end_of-Expr, more_of-Expr, Program, Stmt, Stmt-F, Assign, Store, Print, If, While, Region, Call, Load, WithLoads, Evaluated, just, after_loads, and_then, without_loads, place, load, first_cell, cell_count, eval, Effect, Stored, Printed, Decided, evaluated, loaded_by}
 use Rattle.dp_tree.specs.declared.Expr.TheVariants as tree
 use Rattle.dp_semantics.proofs.Each.{Each, each_split, each_join}
 

@@ -1,13 +1,6 @@
 -- From the test of a program and a plan to what the central theorem asks, and the theorem itself.
-use Rattle.std.proofs.Common.{◌≡◌, ◌⊎◌, inl, inr, refl, sym, ap, ◌∙◌, ℕ, zero, suc, ◌+◌, ◌<◌, ◌≤◌, ◌==◌, Bool, true, false, not, ◌&&◌, ◌||◌, if◌then◌else◌, List, [], ◌∷◌, ◌++◌, length, Option, Some, None, nat_lt, nat_le, filter, arith, ltb-true, leb-true, eqb-true, eq-eqb}
-use Rattle.std.proofs.lemmas.Option.{slice_get_past}
-use Rattle.std.proofs.lemmas.Bool.{cases_eq, cases_lt, both_ways, not-true}
-use Rattle.std.specs.List.{list_all, flat_map}
-use Rattle.dp_semantics.proofs.Names.{SiteId, Expr, Stmt, out-Stmt, Stmt-F, Region, Program, Plan, cell_count, Run, Access, accesses, first_site, stage_of, is_par, is_replicated, is_region_at, region_statement, region_accesses, count_from, is_clean, epoch, well_nested, is_free, lies_in_order, has_cell, stores_known, access_known, is_inner, region_fits, one_region, region_alone, kinds_apart, kinds_fit, fits_plan, whole_run, CleanSince, JudgesRightly, JudgesEpochs, StoresLead}
-use Rattle.dp_semantics.proofs.Each.{Each, each_map, and_true, and_make, all_of}
-use Rattle.dp_semantics.proofs.Evaluation.{Roomy}
-use Rattle.dp_semantics.proofs.Heads.{all_free}
-use Rattle.dp_semantics.proofs.Setting.{Listed, listed_all, Sound, Accepted}
+use Rattle.dp_semantics.proofs.Names.{◌≡◌, ◌⊎◌, inl, inr, refl, sym, ap, ◌∙◌, ℕ, zero, suc, ◌+◌, ◌<◌, ◌≤◌, ◌==◌, Bool, true, false, not, ◌&&◌, ◌||◌, if◌then◌else◌, List, [], ◌∷◌, ◌++◌, length, Option, Some, None, nat_lt, nat_le, filter, arith, ltb-true, leb-true, eqb-true, eq-eqb, slice_get_past, cases_eq, cases_lt, both_ways, not-true, list_all, flat_map, SiteId, Expr, Stmt, out-Stmt, Stmt-F, Region, Program, Plan, cell_count, Run, Access, accesses, first_site, stage_of, is_par, is_replicated, is_region_at, region_statement, region_accesses, count_from, is_clean, epoch, well_nested, is_free, lies_in_order, has_cell, stores_known, access_known, is_inner, region_fits, one_region, region_alone, kinds_apart, kinds_fit, fits_plan, whole_run, CleanSince, JudgesRightly, JudgesEpochs, StoresLead, and_parts, and_from}
+use Rattle.dp_semantics.proofs.Setting.{Listed, listed_all, Sound, Accepted, Each, each_map, all_of, Roomy, all_free}
 use Rattle.dp_semantics.proofs.InOrder.{laid_of}
 use Rattle.dp_semantics.proofs.Counts.{all_count}
 use Rattle.dp_semantics.proofs.Central.{judges_rightly, stores_lead}
@@ -20,9 +13,9 @@ module _ (p : Program) (plan : Plan) where
 
   sound_of : (u : Access) → Listed (region_accesses p plan) u → access_known p plan u ≡ true → Sound p plan u
   sound_of u listed e =
-      let one = and_true (list_all (has_cell p) u.loads) _ e in
-      let two = and_true (stores_known p u.stores) _ one.1 in
-      let three = and_true (nat_lt 0 (stage_of p plan u.site)) (nat_le (stage_of p plan u.site) (length plan.stages)) two.1 in
+      let one = and_parts (list_all (has_cell p) u.loads) _ e in
+      let two = and_parts (stores_known p u.stores) _ one.1 in
+      let three = and_parts (nat_lt 0 (stage_of p plan u.site)) (nat_le (stage_of p plan u.site) (length plan.stages)) two.1 in
       let high : stage_of p plan u.site ≤ length plan.stages = leb-true (stage_of p plan u.site) (length plan.stages) three.1 in
       record {
         listed = listed;
@@ -55,10 +48,10 @@ module _ (p : Program) (plan : Plan) where
 
   region_is : (h : Stmt-F Stmt) → region_fits p plan h ≡ true → RegionIs h
   region_is (Region q site cond body) e =
-      let one = and_true (q == plan.region) _ e in
-      let two = and_true (first_site p plan == site.0) _ one.1 in
-      let three = and_true (stage_of p plan (first_site p plan) == 1) _ two.1 in
-      let both = and_true (list_all (well_nested p plan) body) (list_all (is_inner p plan) (flat_map accesses body)) three.1 in
+      let one = and_parts (q == plan.region) _ e in
+      let two = and_parts (first_site p plan == site.0) _ one.1 in
+      let three = and_parts (stage_of p plan (first_site p plan) == 1) _ two.1 in
+      let both = and_parts (list_all (well_nested p plan) body) (list_all (is_inner p plan) (flat_map accesses body)) three.1 in
       record {
         site = site;
         cond = cond;
@@ -96,19 +89,19 @@ module _ (p : Program) (plan : Plan) where
   none_found (x ∷ rest) e q = by (is_region_at plan.region x) refl e (none_found rest)
     where
       parts : (region_alone plan.region x ≡ true) × (list_all (region_alone plan.region) rest ≡ true)
-      parts = and_true (region_alone plan.region x) (list_all (region_alone plan.region) rest) q
+      parts = and_parts (region_alone plan.region x) (list_all (region_alone plan.region) rest) q
 
       by : (b : Bool) → is_region_at plan.region x ≡ b → found_with b x rest ≡ [] →
           (filter (is_region_at plan.region) rest ≡ [] → list_all (region_alone plan.region) rest ≡ true → all_free plan.region rest ≡ true) → all_free plan.region (x ∷ rest) ≡ true
       by true is found go = absurd (cc)
-      by false is found go = and_make (is_free plan.region x) (all_free plan.region rest) (free_alone x is parts.0) (go found parts.1)
+      by false is found go = and_from (is_free plan.region x) (all_free plan.region rest) (free_alone x is parts.0) (go found parts.1)
 
   pub split_of : (main : List Stmt) (s : Stmt) → filter (is_region_at plan.region) main ≡ s ∷ [] → list_all (region_alone plan.region) main ≡ true → Split main s
   split_of [] s e q = absurd (cc)
   split_of (x ∷ rest) s e q = by (is_region_at plan.region x) refl e (split_of rest s)
     where
       parts : (region_alone plan.region x ≡ true) × (list_all (region_alone plan.region) rest ≡ true)
-      parts = and_true (region_alone plan.region x) (list_all (region_alone plan.region) rest) q
+      parts = and_parts (region_alone plan.region x) (list_all (region_alone plan.region) rest) q
 
       by : (b : Bool) → is_region_at plan.region x ≡ b → found_with b x rest ≡ s ∷ [] →
           (filter (is_region_at plan.region) rest ≡ s ∷ [] → list_all (region_alone plan.region) rest ≡ true → Split rest s) → Split (x ∷ rest) s
@@ -120,7 +113,7 @@ module _ (p : Program) (plan : Plan) where
         front = x ∷ later.front;
         tail = later.tail;
         main_is = ap (λ (ys : List Stmt). x ∷ ys) later.main_is;
-        front_free = and_make (is_free plan.region x) (all_free plan.region later.front) (free_alone x is parts.0) later.front_free;
+        front_free = and_from (is_free plan.region x) (all_free plan.region later.front) (free_alone x is parts.0) later.front_free;
         tail_free = later.tail_free;
       }
 
@@ -139,16 +132,16 @@ module _ (p : Program) (plan : Plan) where
 
       by : (suc s < length plan.stages) ⊎ (length plan.stages ≤ suc s) → is_replicated plan (suc s) ≡ false
       by (inl h) = not_both (is_replicated plan (suc s)) (is_replicated plan (suc s + 1))
-          (all_count (kinds_apart plan) (length plan.stages) 1 (suc s) (and_true (not (is_replicated plan 1)) (list_all (kinds_apart plan) (count_from 1 (length plan.stages))) e).1 (omega arith) (omega (arith, h))) (ap (is_replicated plan) next ∙ rep)
+          (all_count (kinds_apart plan) (length plan.stages) 1 (suc s) (and_parts (not (is_replicated plan 1)) (list_all (kinds_apart plan) (count_from 1 (length plan.stages))) e).1 (omega arith) (omega (arith, h))) (ap (is_replicated plan) next ∙ rep)
       by (inr h) = absurd (both_ways (is_replicated plan (suc (suc s))) (ap is_par (slice_get_past plan.stages (suc s) h)) rep)
 
   -- What passes the test is what the theorem asks.
   pub accepted : fits_plan p plan ≡ true → Accepted p plan
   accepted e =
-      let one = and_true (lies_in_order plan.region 0 p.vars) _ e in
-      let two = and_true (list_all (access_known p plan) (region_accesses p plan)) _ one.1 in
-      let three = and_true (one_region p plan (region_statement p plan)) _ two.1 in
-      let four = and_true (list_all (region_alone plan.region) p.main) (kinds_fit plan) three.1 in
+      let one = and_parts (lies_in_order plan.region 0 p.vars) _ e in
+      let two = and_parts (list_all (access_known p plan) (region_accesses p plan)) _ one.1 in
+      let three = and_parts (one_region p plan (region_statement p plan)) _ two.1 in
+      let four = and_parts (list_all (region_alone plan.region) p.main) (kinds_fit plan) three.1 in
       let found = single (region_statement p plan) three.0 in
       let it = found.2 in
       let split = split_of p.main found.0 found.1 four.0 in
@@ -170,7 +163,7 @@ module _ (p : Program) (plan : Plan) where
         main = split.main_is;
         front_free = split.front_free;
         tail_free = split.tail_free;
-        sequential = not-true (is_replicated plan 1) (and_true (not (is_replicated plan 1)) (list_all (kinds_apart plan) (count_from 1 (length plan.stages))) four.1).0;
+        sequential = not-true (is_replicated plan 1) (and_parts (not (is_replicated plan 1)) (list_all (kinds_apart plan) (count_from 1 (length plan.stages))) four.1).0;
         apart = apart_at four.1;
       }
 

@@ -1,18 +1,7 @@
 -- What the text's definitions say of a statement, by its head.
-use Rattle.std.proofs.Common.{◌≡◌, refl, sym, ap, ◌∙◌, append_assoc, ℕ, Bool, true, false, not, ◌&&◌, ◌||◌, ◌==◌, List, [], ◌∷◌, ◌++◌, is_some}
-use Rattle.std.specs.List.{flat_map, list_all}
-use Rattle.dp_semantics.proofs.Names.{SiteId, Expr, Stmt, out-Stmt, roll-Stmt, roll-out-Stmt, hidden-the_row-Stmt-0, rolls-Assign, rolls-Store, rolls-Print, rolls-If, rolls-While, rolls-Region, rolls-Call, Stmt-F, Assign, Store, Print, If, While, Region, Call, Program, Plan, site_of, Access, accesses, accesses_in, assumed_in, branch_of, where_reached, project, project_in, project_all, none_earlier, well_nested, well_nested_in, is_free, is_free_in}
+use Rattle.dp_semantics.proofs.Names.{opened_statement, ◌≡◌, refl, sym, ap, ◌∙◌, ℕ, Bool, true, false, not, ◌&&◌, ◌||◌, ◌==◌, List, [], ◌∷◌, ◌++◌, is_some, flat_map, list_all, SiteId, Expr, Stmt, out-Stmt, roll-Stmt, roll-out-Stmt, hidden-the_row-Stmt-0, rolls-Assign, rolls-Store, rolls-Print, rolls-If, rolls-While, rolls-Region, rolls-Call, Stmt-F, Assign, Store, Print, If, While, Region, Call, Program, Plan, site_of, Access, accesses, accesses_in, assumed_in, branch_of, where_reached, project, project_in, project_all, none_earlier, well_nested, well_nested_in, is_free, is_free_in}
 use Rattle.dp_tree.specs.declared.Stmt.TheVariants as tree
 use Rattle.dp_semantics.proofs.Evaluation.{head_loads, head_stores}
-
--- what opens where a statement is made
-unfoldable pub opened : Unit {0}
-unfolding Rattle.dp_tree.specs.declared.Stmt.TheBlock.shape-the_row-Stmt-0 Rattle.dp_tree.specs.declared.Stmt.TheBlock.hidden-the_row-Stmt-0 denote.Hole.Carrier.hidden
-opened = tt
-
-pub flat_map-append : {X Y : Type 0} (f : X → List Y) (a b : List X) → flat_map f (a ++ b) ≡ flat_map f a ++ flat_map f b
-flat_map-append f [] b = refl
-flat_map-append f (x ∷ a) b = ap (λ ys. f x ++ ys) (flat_map-append f a b) ∙ sym (append_assoc (f x) (flat_map f a) (flat_map f b))
 
 -- The sites: the statement's own, and those inside it.
 abbrev pub accesses_all : List Stmt → List Access
@@ -32,12 +21,12 @@ accesses_at (Call f line args) = []
 accesses_at h = head_access h ∷ inside h
 
 accesses_hidden : (xs : List Stmt) → accesses_in (hidden-the_row-Stmt-0 xs) ≡ accesses_all xs
-unfolding opened
+unfolding opened_statement
 accesses_hidden [] = refl
 accesses_hidden (x ∷ xs) = ap (λ ys. accesses x ++ ys) (accesses_hidden xs)
 
 accesses_roll : (h : Stmt-F Stmt) → accesses (roll-Stmt h) ≡ accesses_at h
-unfolding opened
+unfolding opened_statement
 accesses_roll (Assign site x e) = ap accesses (rolls-Assign site x e)
 accesses_roll (Store site x index e) = ap accesses (rolls-Store site x index e)
 accesses_roll (Print site e) = ap accesses (rolls-Print site e)
@@ -62,12 +51,12 @@ module _ (r : ℕ) where
   free_at _ = true
 
   free_hidden : (xs : List Stmt) → is_free_in r (hidden-the_row-Stmt-0 xs) ≡ all_free r xs
-  unfolding opened
+  unfolding opened_statement
   free_hidden [] = refl
   free_hidden (x ∷ xs) = ap (λ b. is_free r x && b) (free_hidden xs)
 
   free_roll : (h : Stmt-F Stmt) → is_free r (roll-Stmt h) ≡ free_at h
-  unfolding opened
+  unfolding opened_statement
   free_roll (Assign site x e) = ap (is_free r) (rolls-Assign site x e)
   free_roll (Store site x index e) = ap (is_free r) (rolls-Store site x index e)
   free_roll (Print site e) = ap (is_free r) (rolls-Print site e)
@@ -96,7 +85,7 @@ module _ (p : Program) (plan : Plan) where
   well_at _ = true
 
   pub well_hidden : (xs : List Stmt) → well_nested_in p plan (hidden-the_row-Stmt-0 xs) ≡ all_well xs
-  unfolding opened
+  unfolding opened_statement
   well_hidden [] = refl
   well_hidden (x ∷ xs) = ap (λ b. well_nested p plan x && b) (well_hidden xs)
 
@@ -105,7 +94,7 @@ module _ (p : Program) (plan : Plan) where
   if_by site inner a b = if_rule site inner && (a && b)
 
   well_roll : (h : Stmt-F Stmt) → well_nested p plan (roll-Stmt h) ≡ well_at h
-  unfolding opened
+  unfolding opened_statement
   well_roll (Assign site x e) = ap (well_nested p plan) (rolls-Assign site x e)
   well_roll (Store site x index e) = ap (well_nested p plan) (rolls-Store site x index e)
   well_roll (Print site e) = ap (well_nested p plan) (rolls-Print site e)
@@ -142,12 +131,12 @@ module _ (p : Program) (plan : Plan) where
     project_at (Call f line args) = []
 
     project_hidden : (xs : List Stmt) → project_in p plan s (hidden-the_row-Stmt-0 xs) ≡ project_all p plan s xs
-    unfolding opened
+    unfolding opened_statement
     project_hidden [] = refl
     project_hidden (x ∷ xs) = ap (λ ys. project p plan s x ++ ys) (project_hidden xs)
 
     project_roll : (h : Stmt-F Stmt) → project p plan s (roll-Stmt h) ≡ project_at h
-    unfolding opened
+    unfolding opened_statement
     project_roll (Assign site x e) = ap (project p plan s) (rolls-Assign site x e)
     project_roll (Store site x index e) = ap (project p plan s) (rolls-Store site x index e)
     project_roll (Print site e) = ap (project p plan s) (rolls-Print site e)

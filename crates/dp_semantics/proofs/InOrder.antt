@@ -1,9 +1,5 @@
 -- Variables whose cells lie one after the other.
-use Rattle.std.proofs.Common.{◌≡◌, refl, sym, ap, ◌∙◌, ℕ, zero, suc, ◌+◌, ◌<◌, ◌≤◌, ◌==◌, Bool, true, false, not, ◌&&◌, ◌||◌, List, [], ◌∷◌, length, length-append, replicate, slice_get, nat_lt, arith, ltb-true, eqb-true, ne_eqb, eq-eqb}
-use Rattle.std.proofs.lemmas.List.{length-replicate}
-use Rattle.std.specs.List.{list_any}
-use Rattle.dp_semantics.proofs.Names.{VarInfo, Program, Plan, first_of, length_of, is_local_of, start_cells, is_local, is_local_cell, lies_in_order}
-use Rattle.dp_semantics.proofs.Each.{and_true}
+use Rattle.dp_semantics.proofs.Names.{◌≡◌, refl, sym, ap, ◌∙◌, ℕ, zero, suc, ◌+◌, ◌<◌, ◌≤◌, ◌==◌, Bool, true, false, not, ◌&&◌, ◌||◌, List, [], ◌∷◌, length, length-append, replicate, slice_get, nat_lt, arith, ltb-true, eqb-true, ne_eqb, eq-eqb, length-replicate, list_any, VarInfo, Program, Plan, first_of, length_of, is_local_of, start_cells, is_local, is_local_cell, lies_in_order, and_parts}
 use Rattle.dp_semantics.proofs.Setting.{Laid}
 
 -- the cell is one of the x-th variable's
@@ -19,9 +15,9 @@ module _ (r : ℕ) where
 
   head_of : (k : ℕ) (x : VarInfo) (rest : List VarInfo) → lies_in_order r k (x ∷ rest) ≡ true → Head k x rest
   head_of k x rest e =
-      let both = and_true ((x.first.0 == k) && (nat_lt 0 x.length && (not (is_local_of r x.scope) || (x.length == 1)))) (lies_in_order r (k + x.length) rest) e in
-      let a = and_true (x.first.0 == k) (nat_lt 0 x.length && (not (is_local_of r x.scope) || (x.length == 1))) both.0 in
-      let b = and_true (nat_lt 0 x.length) (not (is_local_of r x.scope) || (x.length == 1)) a.1 in
+      let both = and_parts ((x.first.0 == k) && (nat_lt 0 x.length && (not (is_local_of r x.scope) || (x.length == 1)))) (lies_in_order r (k + x.length) rest) e in
+      let a = and_parts (x.first.0 == k) (nat_lt 0 x.length && (not (is_local_of r x.scope) || (x.length == 1))) both.0 in
+      let b = and_parts (nat_lt 0 x.length) (not (is_local_of r x.scope) || (x.length == 1)) a.1 in
       record { first = eqb-true x.first.0 k a.0; some = ltb-true 0 x.length b.0; single = b.1; tail = both.1 }
 
   lies_within : (vars : List VarInfo) (k x c : ℕ) → lies_in_order r k vars ≡ true → VarAt vars x c → (k ≤ c) × (c < k + length (start_cells vars))

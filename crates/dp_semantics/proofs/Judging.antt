@@ -1,14 +1,7 @@
 -- The judgement stands where the source does, and of an iteration that agrees with the plan it is Clean.
-use Rattle.std.proofs.Common.{◌≡◌, refl, sym, ap, ◌∙◌, append_assoc, ℕ, zero, suc, ◌+◌, ◌<◌, Bool, true, ◌&&◌, if◌then◌else◌, List, [], ◌∷◌, ◌++◌, ℤ, length, map, Option, Some, None, arith}
-use Rattle.std.proofs.lemmas.List.{append-nil}
-use Rattle.std.specs.List.{list_all}
-use Rattle.dp_semantics.proofs.Names.{Word, SiteId, Stmt, out-Stmt, out-roll-Stmt, Stmt-F, Program, Plan, Load, WithLoads, Event, Effect, followed, site_of, value_of, Past, as_assumed, event_as_assumed, pushed, words_of, word_list, words_left, Epoch, Judging, Clean, loads_hold, judged, judged_by, judge_step, judge_by, judge_at, judge_spent, judge_from, last, effect_in}
-use Rattle.dp_semantics.proofs.Each.{each_map, and_true, and_make}
-use Rattle.dp_semantics.proofs.Evaluation.{Form, Holds, IsHeld}
-use Rattle.dp_semantics.proofs.Setting.{Fit}
-use Rattle.dp_semantics.proofs.Taking.{event_passes}
-use Rattle.dp_semantics.proofs.Source.{event_of, past_of, stage_for, Stands, own_site, form_of, own_loads, stands_next}
-use Rattle.dp_semantics.proofs.Stepping.{InStep, Moved, here, staying, onward, site_proj, head_is, left_is, taken_is, consumed_stands, consumed_moved}
+use Rattle.dp_semantics.proofs.Names.{◌≡◌, refl, sym, ap, ◌∙◌, append_assoc, ℕ, zero, suc, ◌+◌, ◌<◌, Bool, true, ◌&&◌, if◌then◌else◌, List, [], ◌∷◌, ◌++◌, ℤ, length, map, Option, Some, None, arith, append-nil, list_all, Word, SiteId, Stmt, out-Stmt, out-roll-Stmt, Stmt-F, Program, Plan, Load, WithLoads, Event, Effect, followed, site_of, value_of, Past, as_assumed, event_as_assumed, pushed, words_of, word_list, words_left, Epoch, Judging, Clean, loads_hold, judged, judged_by, judge_step, judge_by, judge_at, judge_spent, judge_from, last, effect_in, and_parts, and_from}
+use Rattle.dp_semantics.proofs.Setting.{Fit, each_map, Form, Holds, IsHeld}
+use Rattle.dp_semantics.proofs.Stepping.{InStep, Moved, here, staying, onward, site_proj, head_is, left_is, taken_is, consumed_stands, consumed_moved, event_passes, event_of, past_of, stage_for, Stands, own_site, form_of, own_loads, stands_next}
 use Rattle.dp_semantics.proofs.Lockstep.{Goes, stays, goes, closing_after, Has, front_of, has_next}
 
 module _ {k : Epoch} (ok : Fit k) {i : ℕ} {x : Stmt} {rest : List Stmt} {earlier : List Past} {cells : List ℤ} (at : Stands k i (x ∷ rest) earlier cells)
@@ -84,10 +77,10 @@ module _ {k : Epoch} (ok : Fit k) {i : ℕ} where
   }
   judge_lockstep {earlier = earlier} at (goes {x = x} {rest = rest} {cells = cells} {v = v} {events = more} e path) told left j b has =
       let event : Event = event_of (out-Stmt x) v in
-      let goes_so = and_true (event_as_assumed plan event) (list_all (event_as_assumed plan) more) told in
+      let goes_so = and_parts (event_as_assumed plan event) (list_all (event_as_assumed plan) more) told in
       let form = form_of ok at cells v e in
       let front = front_of k (last plan) event more left j.turn has (own_site ok at).staged (own_site ok at).early in
-      let passes = and_make _ _ (event_passes program plan event _ j.turn.cells (λ checked. held_there ok at j b v form _ front v.loads (own_loads ok at cells v e))) goes_so.0 in
+      let passes = and_from _ _ (event_passes program plan event _ j.turn.cells (λ checked. held_there ok at j b v form _ front v.loads (own_loads ok at cells v e))) goes_so.0 in
       let next : Judging = judged_next ok at j b v form _ front in
       let step = λ (n : ℕ). judge_turn ok at j b v form _ front n ∙ ap (λ (t : Bool). judge_by (judge_from program plan n) (if t then Some next else None)) passes in
       let moved = next_moved ok at j b v form _ front in

@@ -1,13 +1,7 @@
 -- Lockstep: a stage over any piece of an iteration that agrees with the plan.
-use Rattle.std.proofs.Common.{◌≡◌, refl, sym, ap, ◌∙◌, subst, append_assoc, ℕ, ◌+◌, ◌<◌, ◌≤◌, Bool, true, ◌||◌, List, [], ◌∷◌, ◌++◌, ℤ, length, length-append, sum_by, Ok, arith}
-use Rattle.std.proofs.lemmas.List.{append-nil}
-use Rattle.std.specs.List.{list_all}
-use Rattle.dp_semantics.proofs.Names.{Word, Stmt, out-Stmt, Program, Plan, WithLoads, Event, Effect, followed, value_of, stored, evaluated, stage_of, first_site, Past, all_agree, event_agrees, event_as_assumed, pushed, words_of, word_list, Turn, turn_from, is_zero_at, Epoch}
-use Rattle.dp_semantics.proofs.Each.{and_true}
+use Rattle.dp_semantics.proofs.Names.{◌≡◌, refl, sym, ap, ◌∙◌, subst, append_assoc, ℕ, ◌+◌, ◌<◌, ◌≤◌, Bool, true, ◌||◌, List, [], ◌∷◌, ◌++◌, ℤ, length, length-append, sum_by, Ok, arith, append-nil, list_all, Word, Stmt, out-Stmt, Program, Plan, WithLoads, Event, Effect, followed, value_of, stored, evaluated, stage_of, first_site, Past, all_agree, event_agrees, event_as_assumed, pushed, words_of, word_list, Turn, turn_from, is_zero_at, Epoch, and_parts, append_cancel_left}
 use Rattle.dp_semantics.proofs.Setting.{Fit}
-use Rattle.dp_semantics.proofs.Taking.{append_same, words_for, words_here}
-use Rattle.dp_semantics.proofs.Source.{event_of, past_of, stage_for, Stands, stands_next, own_site, form_of, stage_does}
-use Rattle.dp_semantics.proofs.Stepping.{InStep, Moved, Advanced, advance}
+use Rattle.dp_semantics.proofs.Stepping.{InStep, Moved, Advanced, advance, words_for, words_here, event_of, past_of, Stands, stands_next, own_site, form_of, stage_does}
 
 -- the source's steps through statements, with their events
 pub data Goes (p : Program) (input : List ℤ) : List Stmt → List ℤ → List Event → List Stmt → List ℤ → Type 0 where
@@ -49,7 +43,7 @@ front_of k s event more left c has low high =
 
 pub has_next : (k : Epoch) (s steps : ℕ) (event : Event) (more : List Event) (left : ℕ → List Word) (c d : Turn) → Has k s (event ∷ more) left c → Moved k s steps event c d → Has k s more left d
 has_next k s steps event more left c d has moved t low high =
-    append_same (words_for k.program k.plan t event) (word_list d.lists t) (words_through k.program k.plan t more ++ left t)
+    append_cancel_left (words_for k.program k.plan t event) (word_list d.lists t) (words_through k.program k.plan t more ++ left t)
     (sym (moved.lists t low high) ∙ has t low high ∙ append_assoc (words_for k.program k.plan t event) (words_through k.program k.plan t more) (left t))
 
 module _ {k : Epoch} (ok : Fit k) {i : ℕ} where
@@ -76,8 +70,8 @@ module _ {k : Epoch} (ok : Fit k) {i : ℕ} where
   }
   lockstep s real {earlier = earlier} at (goes {x = x} {rest = rest} {v = v} {events = more} e path) agree told left c fits b has =
       let event : Event = event_of (out-Stmt x) v in
-      let agrees = and_true (event_agrees program plan base i earlier event) (all_agree program plan base i (past_of i x v ∷ earlier) more) agree in
-      let goes_so = and_true (event_as_assumed plan event) (list_all (event_as_assumed plan) more) told in
+      let agrees = and_parts (event_agrees program plan base i earlier event) (all_agree program plan base i (past_of i x v ∷ earlier) more) agree in
+      let goes_so = and_parts (event_as_assumed plan event) (list_all (event_as_assumed plan) more) told in
       let size_all : length (c.own ++ (words_for program plan s event ++ words_through program plan s more)) ≤ plan.words = fits in
       let both = ap length (append_assoc c.own (words_for program plan s event) (words_through program plan s more)) in
       let one : length (c.own ++ words_for program plan s event) ≤ plan.words = omega (arith, size_all, both, length-append (c.own ++ words_for program plan s event) (words_through program plan s more)) in

@@ -1,4 +1,15 @@
 -- The words of the definitions, as the proofs use them.
+pub use Rattle.std.proofs.Common.{◌&&◌, ◌+◌, ◌++◌, ◌-◌, ◌<◌, ◌==◌, [], AllPairs, ap, append_assoc, arith, Bool, Contains, drop, eq-eqb, eqb-true, Err, false, filter, filter_map, get_or, if◌then◌else◌, inl, inr, is_some, le-leb, le-ltb, leb-true, length, length-append, List, lt-ltb, ltb-false, ltb-true, map, nat_le, nat_lt, ne_eqb, negsuc, None, not, Ok, Option, pos, refl, replicate, Result, slice_get, slice_index, slice_index_or, slice_range, slice_set, Some, subst, suc, sum_by, sym, take, true, unwrap_or, zero, ◌||◌, ℕ, ℤ, ◌∙◌, ◌∷◌, ◌≡◌, ◌≤◌, ◌⊎◌}
+pub use Rattle.std.specs.List.{cons_option, flat_map, list_all, list_any}
+pub use Rattle.std.proofs.Math.Bool.{and-false, and-true, and_self, or-false, or-true}
+pub use Rattle.std.proofs.lemmas.Bool.{and_from, and_parts, or_from, or_parts, both_ways, cases_Bool, cases_eq, cases_lt, cases_order, lt-leb, not-true}
+pub use Rattle.std.proofs.lemmas.List.{append_cancel_left, append-nil, get_or-replicate, get_or-set_other, get_or_append_left, get_or_past, length-map, length-replicate, length-set, map-append}
+pub use Rattle.std.proofs.lemmas.Grind.{flat_map-append, get_or-set_at}
+pub use Rattle.std.proofs.lemmas.Option.{slice_get-get_or, slice_get_past, slice_get_within, unwrap_or-slice_get}
+pub use Rattle.std.proofs.lemmas.List.Sums.{sum_by-cons, sum_by-set}
+pub use Rattle.std.proofs.Math.Seq.{drop-append_seam, take-append_seam}
+pub use Rattle.std.proofs.lemmas.List.Kept.{AllPairs-cons, AllPairs-filter}
+pub use Rattle.std.proofs.lemmas.List.Folds.{list_all-append, list_all-map, list_any-append}
 pub use Rattle.dp_base.specs.Arithmetic.{binary_result, is_zero, unary_result}
 pub use Rattle.dp_base.specs.declared.Fault.{Fault as FaultAt}
 pub use Rattle.dp_base.specs.declared.FaultKind.{FaultKind}
@@ -41,3 +52,5 @@ pub use Rattle.dp_semantics.specs.Verdict.{applied, CleanSince, effect_in, epoch
 pub use Rattle.dp_semantics.specs.Words.{after_loads_of, Astray, done_from, done_word, effect_by, Full, is_cell_of, is_done_of, is_load_of, load_word, load_words, Taken, taken_by, taken_from, Void, word_list, words_in, words_of}
 pub use Rattle.dp_tree.specs.declared.RegionInfo.{RegionInfo}
 pub use Rattle.dp_plan.specs.Stage.{first_site_of}
+pub use Rattle.dp_tree.proofs.Heads.{followed-append}
+unfoldable pub use Rattle.dp_tree.proofs.Heads.{opened_statement}

@@ -1,9 +1,6 @@
 -- A packet after a stage: its status, its lists, and what it says of the turn.
-use Rattle.std.proofs.Common.{◌≡◌, refl, sym, ap, ◌∙◌, ℕ, zero, suc, ◌-◌, ◌<◌, Bool, true, false, List, [], ◌∷◌, ◌++◌, ℤ, length, get_or, Ok, Err, arith}
-use Rattle.std.proofs.lemmas.List.{get_or_append_left}
-use Rattle.std.proofs.lemmas.Bool.{both_ways}
-use Rattle.dp_semantics.proofs.Names.{Word, word_list, TurnEnd, Ended, stage_run, Status, Going, Closing, Broken, Packet, Epoch, status_of, passed_by, passed_on, run_on}
-use Rattle.dp_semantics.proofs.Taking.{word_list_is}
+use Rattle.dp_semantics.proofs.Names.{◌≡◌, refl, sym, ap, ◌∙◌, ℕ, zero, suc, ◌-◌, ◌<◌, Bool, true, false, List, [], ◌∷◌, ◌++◌, ℤ, length, get_or, Ok, Err, arith, get_or_append_left, both_ways, Word, word_list, TurnEnd, Ended, stage_run, Status, Going, Closing, Broken, Packet, Epoch, status_of, passed_by, passed_on, run_on}
+use Rattle.dp_semantics.proofs.Stepping.{word_list_is}
 
 -- not void
 abbrev pub live : Status → Bool

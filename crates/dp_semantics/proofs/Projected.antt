@@ -1,12 +1,7 @@
 -- A stage's part of the text against the source's: a statement that stays, and one that the stage doesn't have.
-use Rattle.std.proofs.Common.{◌≡◌, refl, sym, ap, ◌∙◌, ℕ, ◌<◌, ◌≤◌, ◌==◌, Bool, true, false, not, ◌||◌, if◌then◌else◌, List, [], ◌∷◌, ◌++◌, ℤ, Option, Some, None, is_some, nat_le, arith, leb-true, le-leb}
-use Rattle.std.proofs.lemmas.Bool.{lt-leb}
-use Rattle.std.specs.List.{list_all}
-use Rattle.dp_semantics.proofs.Names.{is_zero, Stmt, Row_of-Stmt, end_of-Stmt, more_of-Stmt, out-Stmt, roll-Stmt, rolls-Assign, rolls-Store, rolls-Print, rolls-If, rolls-While, Stmt-F, Assign, Store, Print, If, While, Region, Call, Program, Assume, Plan, Effect, Decided, choose, followed, site_of, value_of, Access, accesses, accesses_in, stage_of, went, goes_as, as_assumed, assumed_in, branch_of, where_reached, project, project_in, project_all, none_earlier, well_nested, well_nested_in}
+use Rattle.dp_semantics.proofs.Names.{◌≡◌, refl, sym, ap, ◌∙◌, ℕ, ◌<◌, ◌≤◌, ◌==◌, Bool, true, false, not, ◌||◌, if◌then◌else◌, List, [], ◌∷◌, ◌++◌, ℤ, Option, Some, None, is_some, nat_le, arith, leb-true, le-leb, lt-leb, list_all, is_zero, Stmt, Row_of-Stmt, end_of-Stmt, more_of-Stmt, out-Stmt, roll-Stmt, rolls-Assign, rolls-Store, rolls-Print, rolls-If, rolls-While, Stmt-F, Assign, Store, Print, If, While, Region, Call, Program, Assume, Plan, Effect, Decided, choose, followed, site_of, value_of, Access, accesses, accesses_in, stage_of, went, goes_as, as_assumed, assumed_in, branch_of, where_reached, project, project_in, project_all, none_earlier, well_nested, well_nested_in, and_parts, flat_map-append}
 use Rattle.dp_tree.specs.declared.Stmt.TheVariants as tree
-use Rattle.dp_semantics.proofs.Each.{Each, each_split, each_map, and_true, all_of}
-use Rattle.dp_semantics.proofs.Evaluation.{Form}
-use Rattle.dp_semantics.proofs.Heads.{accesses_all, all_well, well_at, project_at, project_out, flat_map-append}
+use Rattle.dp_semantics.proofs.Setting.{Each, each_split, each_map, all_of, Form, accesses_all, all_well, well_at, project_at, project_out}
 
 -- the outcome that the plan assumes is the effect's
 abbrev pub AsAssumed : Plan → ℕ → Effect → Type 0
@@ -24,7 +19,7 @@ assumed_of plan site effect = all plan.assume
     all : (assumed : List Assume) → list_all (goes_as site effect) assumed ≡ true → (taken : Bool) → assumed_in assumed site ≡ Some taken → went taken effect ≡ true
     all [] h taken e = absurd (cc)
     all (a ∷ rest) h taken e =
-        let parts = and_true (goes_as site effect a) (list_all (goes_as site effect) rest) h in
+        let parts = and_parts (goes_as site effect a) (list_all (goes_as site effect) rest) h in
         by (a.site.0 == site) a.taken taken rest parts.0 e (λ q. all rest parts.1 taken q)
 
 module _ (p : Program) (plan : Plan) (s : ℕ) where
@@ -50,7 +45,7 @@ module _ (p : Program) (plan : Plan) (s : ℕ) where
     dropped (tree.Store site x index e) well later = not_reached site.0 _ [] later.0
     dropped (tree.Print site e) well later = not_reached site.0 _ [] later.0
     dropped (tree.If' site cond _ a _ b) well later =
-        let both = and_true _ _ (and_true _ _ well).1 in
+        let both = and_parts _ _ (and_parts _ _ well).1 in
         let inner = each_split (λ (i : Access). s < stage_of p plan i.site) (accesses_in a) (accesses_in b) later.1 in
         not_reached site.0 _ _ later.0 ∙ no_branch (assumed_in plan.assume site.0) _ _ (dropped_in a both.0 inner.0) (dropped_in b both.1 inner.1)
     dropped (tree.While' site cond _ a) well later = not_reached site.0 _ [] later.0
@@ -60,14 +55,14 @@ module _ (p : Program) (plan : Plan) (s : ℕ) where
     dropped_in : {n : _} (row : Row_of-Stmt n) → well_nested_in p plan row ≡ true → Later (accesses_in row) → project_in p plan s row ≡ []
     dropped_in end_of-Stmt well later = refl
     dropped_in (more_of-Stmt x rest) well later =
-        let both = and_true _ _ well in
+        let both = and_parts _ _ well in
         let parts = each_split (λ (i : Access). s < stage_of p plan i.site) (accesses x) (accesses_in rest) later in
         ap (λ ys. ys ++ project_in p plan s rest) (dropped x both.0 parts.0) ∙ dropped_in rest both.1 parts.1
 
   dropped_all : (xs : List Stmt) → all_well p plan xs ≡ true → Later (accesses_all xs) → project_all p plan s xs ≡ []
   dropped_all [] well later = refl
   dropped_all (x ∷ xs) well later =
-      let both = and_true (well_nested p plan x) (all_well p plan xs) well in
+      let both = and_parts (well_nested p plan x) (all_well p plan xs) well in
       let parts = each_split (λ (i : Access). s < stage_of p plan i.site) (accesses x) (accesses_all xs) later in
       ap (λ ys. ys ++ project_all p plan s xs) (dropped x both.0 parts.0) ∙ dropped_all xs both.1 parts.1
 
@@ -145,15 +140,15 @@ module _ (p : Program) (plan : Plan) (s : ℕ) where
   unseen x rest (Store site v index e) effect well made late form told = ap (λ ys. ys ++ project_all p plan s rest) (made ∙ not_reached site.0 _ [] late)
   unseen x rest (Print site e) effect well made late form told = ap (λ ys. ys ++ project_all p plan s rest) (made ∙ not_reached site.0 _ [] late)
   unseen x rest (If site cond a b) (Decided z) well made late form told =
-      let parts = and_true _ _ well in
-      let both = and_true _ _ parts.1 in
+      let parts = and_parts _ _ well in
+      let both = and_parts _ _ parts.1 in
       ap (λ ys. ys ++ project_all p plan s rest)
       (made ∙ not_reached site.0 _ _ late ∙ branch_taken (assumed_in plan.assume site.0) z (project_all p plan s a) (project_all p plan s b) told
       (λ none. let inner = each_split (λ (i : Access). s < stage_of p plan i.site) (accesses_all a) (accesses_all b) (later_inside site.0 _ late (unassumed (assumed_in plan.assume site.0) _ none parts.0)) in
       (dropped_all a both.0 inner.0, dropped_all b both.1 inner.1))
       ∙ sym (project_choose z a b)) ∙ sym (project_append (choose z a b) rest)
   unseen x rest (While site cond a) (Decided z) well made late form told =
-      let parts = and_true _ _ well in
+      let parts = and_parts _ _ well in
       let gone : project p plan s x ≡ [] = made ∙ not_reached site.0 _ [] late in
       let inner : project_all p plan s a ≡ [] = dropped_all a parts.1 (later_inside site.0 _ late parts.0) in
       let again : project_all p plan s (a ++ x ∷ rest) ≡ project_all p plan s rest =

@@ -1,14 +1,8 @@
 -- Where a region stands among the statements of `main`, its entry in the table, and that it stands nowhere else.
-use Rattle.std.proofs.Common.{◌≡◌, ◌⊎◌, inl, inr, refl, sym, ap, ◌∙◌, subst, ℕ, zero, suc, ◌+◌, ◌-◌, ◌<◌, ◌≤◌, ◌==◌, Bool, true, false, not, ◌&&◌, ◌||◌, if◌then◌else◌, List, [], ◌∷◌, ◌++◌, length, map, filter, Some, slice_get, arith, eqb-true, eq-eqb, ne_eqb}
-use Rattle.std.proofs.lemmas.List.{length-map}
-use Rattle.std.proofs.lemmas.Bool.{cases_eq}
-use Rattle.std.specs.List.{list_all}
+use Rattle.dp_semantics.proofs.Names.{opened_statement, ◌≡◌, ◌⊎◌, inl, inr, refl, sym, ap, ◌∙◌, subst, ℕ, suc, ◌+◌, ◌-◌, ◌<◌, ◌≤◌, ◌==◌, Bool, true, false, not, ◌&&◌, ◌||◌, if◌then◌else◌, List, [], ◌∷◌, length, map, filter, Some, slice_get, arith, eqb-true, eq-eqb, ne_eqb, length-map, cases_eq, list_all, SiteId, Expr, Stmt, Row_of-Stmt, end_of-Stmt, more_of-Stmt, out-Stmt, out-roll-Stmt, roll-Stmt, roll-out-Stmt, hidden-the_row-Stmt-0, rolls-Assign, rolls-Call, rolls-If, rolls-Print, rolls-Region, rolls-Store, rolls-While, Stmt-F, Assign, Store, Print, If, While, Region, Call, RegionInfo, accesses, is_free, is_free_in, is_region, is_region_at, region_alone, and_parts, and_from}
 use Rattle.dp_tree.specs.declared.Stmt.TheVariants as tree
 use Rattle.dp_tree.specs.Numbering.{has_numbers, is_marked, is_plain, is_plain_in, listed_first, next_region, regions_in_order, regions_listed, site_numbers, site_numbers_all, top_fits}
 use Rattle.dp_plan.specs.Written.{site_in}
-use Rattle.dp_semantics.proofs.Names.{SiteId, Expr, Stmt, Row_of-Stmt, end_of-Stmt, more_of-Stmt, out-Stmt, out-roll-Stmt, roll-Stmt, roll-out-Stmt, hidden-the_row-Stmt-0, rolls-Assign, rolls-Call, rolls-If, rolls-Print, rolls-Region, rolls-Store, rolls-While, Stmt-F, Assign, Store, Print, If, While, Region, Call, RegionInfo, accesses, is_free, is_free_in, is_region, is_region_at, region_alone}
-use Rattle.dp_semantics.proofs.Each.{Each, and_true, and_make}
-use Rattle.dp_semantics.proofs.Heads.{opened, free_out}
 use Rattle.dp_semantics.proofs.TextOrder.{Ascends, ascends_split, numbers_are}
 
 -- a statement at the top: a region, or none
@@ -21,7 +15,7 @@ other_top : (h : Stmt-F Stmt) (y : Stmt) → roll-Stmt h ≡ y → ((r : ℕ) �
 other_top h y o none m n t = unmarked (λ r. ap (is_region r) (out-roll-Stmt h) ∙ none r) (ap is_marked o ∙ m) (λ k. ap (next_region k) o ∙ n k) (λ k. ap (top_fits k) o ∙ t k ∙ ap is_plain (sym o))
 
 top_roll : (h : Stmt-F Stmt) → Top (roll-Stmt h)
-unfolding opened
+unfolding opened_statement
 top_roll (Assign site v e) = other_top _ _ (rolls-Assign site v e) (λ r. refl) refl (λ k. refl) (λ k. refl)
 top_roll (Store site v index e) = other_top _ _ (rolls-Store site v index e) (λ r. refl) refl (λ k. refl) (λ k. refl)
 top_roll (Print site e) = other_top _ _ (rolls-Print site e) (λ r. refl) refl (λ k. refl) (λ k. refl)
@@ -70,7 +64,7 @@ with_one r x rest entry off found = record {
 entry_sites : (entry : RegionInfo) (first : ℕ) (sites : List ℕ) → has_numbers entry sites ≡ true → Ascends first sites → Ascends entry.first.0 sites × (suc entry.last.0 ≡ entry.first.0 + length sites)
 entry_sites entry first [] e order = absurd (cc)
 entry_sites entry first (n ∷ rest) e order =
-    let both = and_true (entry.first.0 == n) (entry.last.0 == n + length rest) e in
+    let both = and_parts (entry.first.0 == n) (entry.last.0 == n + length rest) e in
     let from : entry.first.0 ≡ n = eqb-true entry.first.0 n both.0 in
     let up : entry.last.0 ≡ n + length rest = eqb-true entry.last.0 (n + length rest) both.1 in
     (subst (λ (i : ℕ). Ascends i (n ∷ rest)) (sym (from ∙ order.0)) order, omega (arith, from, up))
@@ -101,7 +95,7 @@ find_marked x rest q site cond body is made plain k first same [] listed sites g
 find_marked x rest q site cond body is made plain k first same (entry ∷ entries) listed sites go r = by (cases_eq r k)
   where
     parts : (has_numbers entry (site_numbers x) ≡ true) × (regions_listed rest entries ≡ true)
-    parts = and_true (has_numbers entry (site_numbers x)) (regions_listed rest entries) listed
+    parts = and_parts (has_numbers entry (site_numbers x)) (regions_listed rest entries) listed
 
     order : Ascends first (site_numbers x) × Ascends (first + length (site_numbers x)) (site_numbers_all rest)
     order = ascends_split first (site_numbers x) (site_numbers_all rest) sites
@@ -142,14 +136,14 @@ find_region [] k first (entry ∷ entries) order listed sites r = absurd (cc)
 find_region (x ∷ rest) k first entries order listed sites r = by (top x) (find_region rest)
   where
     parts : (top_fits k x ≡ true) × (regions_in_order (next_region k x) rest ≡ true)
-    parts = and_true (top_fits k x) (regions_in_order (next_region k x) rest) order
+    parts = and_parts (top_fits k x) (regions_in_order (next_region k x) rest) order
 
     by : Top x → Finds rest → Sought r k (x ∷ rest) entries
     by (unmarked none off next fits) go = past_unmarked x rest k r entries (none r)
         (go k _ entries (ap (λ (n : ℕ). regions_in_order n rest) (sym (next k)) ∙ parts.1) (ap (λ (b : Bool). listed_first b x (regions_listed rest) entries) (sym off) ∙ listed)
         (ascends_split first (site_numbers x) (site_numbers_all rest) sites).1 r)
     by (marked q site cond body is made on next fits) go =
-        let fit = and_true (q == k) (is_plain_in (hidden-the_row-Stmt-0 body)) (sym (fits k) ∙ parts.0) in
+        let fit = and_parts (q == k) (is_plain_in (hidden-the_row-Stmt-0 body)) (sym (fits k) ∙ parts.0) in
         let up : k + 1 ≡ suc k = omega arith in
         find_marked x rest q site cond body is made fit.1 k first (eqb-true q k fit.0) entries (ap (λ (b : Bool). listed_first b x (regions_listed rest) entries) (sym on) ∙ listed) sites
         (λ more from listed sites n. go (suc k) from more (ap (λ (n : ℕ). regions_in_order n rest) (sym (next k ∙ up)) ∙ parts.1) listed sites n) r
@@ -157,24 +151,24 @@ find_region (x ∷ rest) k first entries order listed sites r = by (top x) (find
 mutual
   -- where no region stands, region r doesn't
   plain_free : (r : ℕ) (x : Stmt) → is_plain x ≡ true → is_free r x ≡ true
-  plain_free r (tree.If' site cond _ a _ b) w = let both = and_true _ _ w in and_make _ _ (plain_free_in r a both.0) (plain_free_in r b both.1)
+  plain_free r (tree.If' site cond _ a _ b) w = let both = and_parts _ _ w in and_from _ _ (plain_free_in r a both.0) (plain_free_in r b both.1)
   plain_free r (tree.While' site cond _ a) w = plain_free_in r a w
   plain_free r (tree.Region' q site cond _ a) w = absurd (cc)
   plain_free r _ w = refl
 
   plain_free_in : {n : _} (r : ℕ) (row : Row_of-Stmt n) → is_plain_in row ≡ true → is_free_in r row ≡ true
   plain_free_in r end_of-Stmt w = refl
-  plain_free_in r (more_of-Stmt x rest) w = let both = and_true _ _ w in and_make _ _ (plain_free r x both.0) (plain_free_in r rest both.1)
+  plain_free_in r (more_of-Stmt x rest) w = let both = and_parts _ _ w in and_from _ _ (plain_free r x both.0) (plain_free_in r rest both.1)
 
 free_made : (r q : ℕ) (site : SiteId) (cond : Expr) (body : List Stmt) → is_free r (tree.Region q site cond body) ≡ (not (q == r) && is_free_in r (hidden-the_row-Stmt-0 body))
-unfolding opened
+unfolding opened_statement
 free_made r q site cond body = refl
 
 top_alone : (r k : ℕ) (x : Stmt) → Top x → top_fits k x ≡ true → region_alone r x ≡ true
 top_alone r k x (unmarked none off next fits) e = ap (λ (b : Bool). b || is_free r x) (none r) ∙ plain_free r x (sym (fits k) ∙ e)
 top_alone r k x (marked q site cond body is made on next fits) e =
     ap (λ (b : Bool). b || is_free r x) (ap (is_region r) is) ∙ ap (λ (b : Bool). (q == r) || b) (ap (is_free r) made ∙ free_made r q site cond body)
-    ∙ by (q == r) (is_free_in r (hidden-the_row-Stmt-0 body)) (plain_free_in r (hidden-the_row-Stmt-0 body) (and_true (q == k) (is_plain_in (hidden-the_row-Stmt-0 body)) (sym (fits k) ∙ e)).1)
+    ∙ by (q == r) (is_free_in r (hidden-the_row-Stmt-0 body)) (plain_free_in r (hidden-the_row-Stmt-0 body) (and_parts (q == k) (is_plain_in (hidden-the_row-Stmt-0 body)) (sym (fits k) ∙ e)).1)
   where
     by : (b c : Bool) → c ≡ true → (b || (not b && c)) ≡ true
     by true c f = refl
@@ -184,5 +178,5 @@ top_alone r k x (marked q site cond body is made on next fits) e =
 pub all_alone : (r k : ℕ) (main : List Stmt) → regions_in_order k main ≡ true → list_all (region_alone r) main ≡ true
 all_alone r k [] e = refl
 all_alone r k (x ∷ rest) e =
-    let parts = and_true (top_fits k x) (regions_in_order (next_region k x) rest) e in
-    and_make (region_alone r x) (list_all (region_alone r) rest) (top_alone r k x (top x) parts.0) (all_alone r (next_region k x) rest parts.1)
+    let parts = and_parts (top_fits k x) (regions_in_order (next_region k x) rest) e in
+    and_from (region_alone r x) (list_all (region_alone r) rest) (top_alone r k x (top x) parts.0) (all_alone r (next_region k x) rest parts.1)

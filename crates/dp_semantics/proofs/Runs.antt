@@ -1,7 +1,6 @@
 -- Runs step by step: from a configuration of a run the rest of it is a run of its own.
-use Rattle.std.proofs.Common.{◌≡◌, refl, sym, ap, ◌∙◌, ℕ, zero, suc, ◌+◌, Bool, true, false, if◌then◌else◌, List, [], ◌∷◌, ◌++◌, ℤ, length, Some, slice_get, Ok, Err, arith}
-use Rattle.dp_semantics.proofs.Names.{FaultAt, FaultKind, Stmt, out-Stmt, Stmt-F, Call, Program, WithLoads, Evaluated, Config, Event, Effect, Step, Finished, Faulted, Stepped, followed, site_of, value_of, stored, evaluated, standing, step_by, step_at, step, Run, run_of, run_by, places}
-use Rattle.dp_semantics.proofs.Source.{event_of}
+use Rattle.dp_semantics.proofs.Names.{◌≡◌, refl, sym, ap, ◌∙◌, ℕ, zero, suc, ◌+◌, Bool, true, false, if◌then◌else◌, List, [], ◌∷◌, ◌++◌, ℤ, length, Some, slice_get, Ok, Err, arith, FaultAt, FaultKind, Stmt, out-Stmt, Stmt-F, Call, Program, WithLoads, Evaluated, Config, Event, Effect, Step, Finished, Faulted, Stepped, followed, site_of, value_of, stored, evaluated, standing, step_by, step_at, step, Run, run_of, run_by, places}
+use Rattle.dp_semantics.proofs.Stepping.{event_of}
 
 -- The i-th place of a list that passes a test, with what stands before and behind it.
 pub record PlaceAt (X : Type 0) (test : X → Bool) (xs : List X) (n i k : ℕ) : Type 0 where

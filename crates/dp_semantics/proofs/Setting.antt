@@ -1,10 +1,10 @@
 -- What the proof assumes of a program and a plan, and what it knows of the source's stores.
-use Rattle.std.proofs.Common.{◌≡◌, ℕ, suc, ◌<◌, Bool, true, false, List, [], ◌∷◌, ◌++◌, ℤ, length, Some}
-use Rattle.std.specs.List.{list_any}
-use Rattle.dp_semantics.proofs.Names.{SiteId, Expr, Stmt, out-Stmt, Region, Program, Plan, cell_count, Stored, start_cells, Access, stage_of, first_site, is_replicated, is_body_local, region_statement, region_accesses, Past, is_local_at, Epoch, last}
-use Rattle.dp_semantics.proofs.Each.{Each, each_map, or_false}
-use Rattle.dp_semantics.proofs.Evaluation.{InVar, Roomy}
-use Rattle.dp_semantics.proofs.Heads.{accesses_all, all_well, all_free}
+use Rattle.dp_semantics.proofs.Names.{◌≡◌, ℕ, suc, ◌<◌, Bool, true, false, List, [], ◌∷◌, ◌++◌, ℤ, length, Some, list_any, SiteId, Expr, Stmt, out-Stmt, Region, Program, Plan, cell_count, Stored, start_cells, Access, stage_of, first_site, is_replicated, is_body_local, region_statement, region_accesses, Past, is_local_at, Epoch, last, or_parts}
+pub use Rattle.dp_semantics.proofs.Each.{Each, each_map, each_split, all_of, each_join, none_of, all_make, none_make}
+pub use Rattle.dp_semantics.proofs.Evaluation.{InVar, Form, Holds, Readable, IsHeld, head_loads, Tracked, evaluated_tracks, Roomy}
+pub use Rattle.dp_semantics.proofs.Heads.{accesses_all, all_well, well_at, project_at, project_out, head_access, inside, accesses_at, accesses_out, well_out, if_rule, all_free, free_at, free_out, well_hidden}
+pub use Rattle.dp_semantics.proofs.Integers.{int_same, int_eq-self}
+pub use Rattle.dp_semantics.proofs.Followed.{Joins, Parts, followed_has, all_joins}
 
 -- what no access of the region passes, this one doesn't
 abbrev pub Listed : List Access → Access → Type 0
@@ -13,7 +13,7 @@ Listed all a = (test : Access → Bool) → list_any test all ≡ false → test
 pub listed_all : (all : List Access) → Each (Listed all) all
 listed_all [] = tt
 listed_all (a ∷ rest) =
-    (λ test e. (or_false (test a) (list_any test rest) e).0, each_map (Listed rest) (Listed (a ∷ rest)) (λ b h test e. h test (or_false (test a) (list_any test rest) e).1) rest (listed_all rest))
+    (λ test e. (or_parts (test a) (list_any test rest) e).0, each_map (Listed rest) (Listed (a ∷ rest)) (λ b h test e. h test (or_parts (test a) (list_any test rest) e).1) rest (listed_all rest))
 
 -- the number of cells
 abbrev pub size : Program → ℕ

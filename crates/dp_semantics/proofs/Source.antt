@@ -1,12 +1,6 @@
 -- The source within an iteration: its rest, its memory and the events so far.
-use Rattle.std.proofs.Common.{◌≡◌, refl, sym, ap, ◌∙◌, subst, ℕ, ◌<◌, Bool, true, false, not, ◌&&◌, ◌||◌, List, [], ◌∷◌, ℤ, pos, length, get_or, ◌==◌, arith, eq-eqb, Ok}
-use Rattle.dp_semantics.proofs.Names.{Stmt, out-Stmt, Stmt-F, Assign, Store, Print, If, While, Region, Call, Program, Plan, Load, WithLoads, cell_count, Event, Effect, Stored, followed, site_of, value_of, stored, evaluated, Access, accesses, stage_of, may_differ, is_checked_access, is_checked, Past, seen, int_eq, loads_agree, event_agrees, well_nested, Epoch, last}
-use Rattle.dp_semantics.proofs.Each.{Each, each_split, each_join, each_map, and_true, none_of, all_of, all_make}
-use Rattle.dp_semantics.proofs.Evaluation.{InVar, Form, Readable, Holds, IsHeld, head_loads, Tracked, evaluated_tracks}
-use Rattle.dp_semantics.proofs.Heads.{accesses_all, all_well, head_access, inside, accesses_at, accesses_out, well_at, well_out, flat_map-append}
-use Rattle.dp_semantics.proofs.Followed.{Joins, Parts, followed_has, all_joins}
-use Rattle.dp_semantics.proofs.Integers.{int_same, int_eq-self}
-use Rattle.dp_semantics.proofs.Setting.{size, Sound, Fit, StoredBy, Known}
+use Rattle.dp_semantics.proofs.Names.{◌≡◌, refl, sym, ap, ◌∙◌, subst, ℕ, ◌<◌, Bool, true, false, not, ◌&&◌, ◌||◌, List, [], ◌∷◌, ℤ, pos, length, get_or, ◌==◌, arith, eq-eqb, Ok, Stmt, out-Stmt, Stmt-F, Assign, Store, Print, If, While, Region, Call, Program, Plan, Load, WithLoads, cell_count, Event, Effect, Stored, followed, site_of, value_of, stored, evaluated, Access, accesses, stage_of, may_differ, is_checked_access, is_checked, Past, seen, int_eq, loads_agree, event_agrees, well_nested, Epoch, last, and_parts, flat_map-append}
+use Rattle.dp_semantics.proofs.Setting.{size, Sound, Fit, StoredBy, Known, Each, each_split, each_join, each_map, none_of, all_of, all_make, InVar, Form, Readable, Holds, IsHeld, head_loads, Tracked, evaluated_tracks, accesses_all, all_well, head_access, inside, accesses_at, accesses_out, well_at, well_out, Joins, Parts, followed_has, all_joins, int_same, int_eq-self}
 use Rattle.dp_semantics.proofs.Seeing.{seen_same, Sees, sees_stored, stored-length}
 
 -- the event of an evaluation at this head
@@ -34,8 +28,8 @@ pub record Stands (k : Epoch) (i : ℕ) (to_do : List Stmt) (earlier : List Past
 
 -- the parts of a well-nested statement, and those of its sites
 pub well_parts : (p : Program) (plan : Plan) (h : Stmt-F Stmt) → well_at p plan h ≡ true → Parts (λ xs. all_well p plan xs ≡ true) h
-well_parts p plan (If site cond a b) w = and_true _ _ (and_true _ _ w).1
-well_parts p plan (While site cond a) w = (and_true _ _ w).1
+well_parts p plan (If site cond a b) w = and_parts _ _ (and_parts _ _ w).1
+well_parts p plan (While site cond a) w = (and_parts _ _ w).1
 well_parts p plan (Region r site cond a) w = absurd (cc)
 well_parts p plan _ w = tt
 
@@ -88,7 +82,7 @@ module _ {k : Epoch} (ok : Fit k) {i : ℕ} {x : Stmt} {rest : List Stmt} {earli
   h = out-Stmt x
 
   well_both : (well_nested program plan x ≡ true) × (all_well program plan rest ≡ true)
-  well_both = and_true (well_nested program plan x) (all_well program plan rest) at.well
+  well_both = and_parts (well_nested program plan x) (all_well program plan rest) at.well
 
   pub head_well : well_at program plan h ≡ true
   head_well = sym (well_out program plan x) ∙ well_both.0

@@ -1,16 +1,10 @@
 -- One step of the source against one step, or none, of a stage: it stays in step, and its words are the event's.
-use Rattle.std.proofs.Common.{◌≡◌, ◌⊎◌, inl, inr, refl, sym, ap, ◌∙◌, subst, ℕ, suc, ◌+◌, ◌-◌, ◌<◌, ◌≤◌, Bool, true, false, ◌&&◌, ◌||◌, if◌then◌else◌, List, [], ◌∷◌, ◌++◌, ℤ, length, length-append, get_or, sum_by, slice_set, nat_le, Result, Ok, Err, arith, eq-eqb, ne_eqb, le-leb}
-use Rattle.std.proofs.lemmas.List.{append-nil, length-set}
-use Rattle.std.proofs.lemmas.List.Sums.{sum_by-set}
-use Rattle.std.proofs.lemmas.Bool.{cases_eq, cases_order}
-use Rattle.dp_semantics.proofs.Names.{Word, SiteId, is_zero, Stmt, out-Stmt, roll-Stmt, out-roll-Stmt, Stmt-F, If, While, Program, Plan, WithLoads, Event, Effect, followed, site_of, value_of, evaluated, stage_of, first_site, is_checked, Past, as_assumed, project, project_all, Void, Full, Taken, words_of, done_word, effect_by, taken_from, load_words, word_list, Turn, is_zero_at, turned, own_step, stage_at, consumed, consumed_step, words_left, turn_step, turn_by, turn_at, turn_from, Epoch}
-use Rattle.dp_semantics.proofs.Evaluation.{Form}
-use Rattle.dp_semantics.proofs.Heads.{project_out}
-use Rattle.dp_semantics.proofs.Projected.{assumed_of, proj_head, stays_there, kept_followed, unseen}
-use Rattle.dp_semantics.proofs.Setting.{size, Fit}
-use Rattle.dp_semantics.proofs.Seeing.{Sees, sees_later, sees_stored, stored-length}
-use Rattle.dp_semantics.proofs.Taking.{word_list_is, word_list_same, word_list_other, words_for, words_here, words_elsewhere, effect_of_word, taken_event}
-use Rattle.dp_semantics.proofs.Source.{event_of, past_of, stage_for, Gives, Stands, head_well, own_site, store_within}
+use Rattle.dp_semantics.proofs.Names.{◌≡◌, ◌⊎◌, inl, inr, refl, sym, ap, ◌∙◌, subst, ℕ, suc, ◌+◌, ◌-◌, ◌<◌, ◌≤◌, Bool, true, false, ◌&&◌, ◌||◌, if◌then◌else◌, List, [], ◌∷◌, ◌++◌, ℤ, length, length-append, get_or, sum_by, slice_set, nat_le, Result, Ok, Err, arith, eq-eqb, ne_eqb, le-leb, append-nil, length-set, sum_by-set, cases_eq, cases_order, Word, SiteId, is_zero, Stmt, out-Stmt, roll-Stmt, out-roll-Stmt, Stmt-F, If, While, Program, Plan, WithLoads, Event, Effect, followed, site_of, value_of, evaluated, stage_of, first_site, is_checked, Past, as_assumed, project, project_all, Void, Full, Taken, words_of, done_word, effect_by, taken_from, load_words, word_list, Turn, is_zero_at, turned, own_step, stage_at, consumed, consumed_step, words_left, turn_step, turn_by, turn_at, turn_from, Epoch}
+pub use Rattle.dp_semantics.proofs.Taking.{words_for, words_here, event_passes, words_elsewhere, event_held, word_list_is, word_list_same, word_list_other, effect_of_word, taken_event}
+pub use Rattle.dp_semantics.proofs.Source.{event_of, past_of, stage_for, Stands, stands_next, own_site, form_of, stage_does, own_loads, Gives, source_does, event_sees, well_parts, each_joins, each_parts, head_fact, head_well, store_within}
+pub use Rattle.dp_semantics.proofs.Seeing.{stored_none, seen_alike, seen_base, up_to, Sees, stored-length, sees_later, sees_stored}
+pub use Rattle.dp_semantics.proofs.Projected.{reached, assumed_of, proj_head, stays_there, kept_followed, unseen}
+use Rattle.dp_semantics.proofs.Setting.{size, Fit, Form, project_out}
 
 -- stage s stands in iteration i where the source has `to_do` to do after the earlier events
 pub record InStep (k : Epoch) (i s : ℕ) (to_do : List Stmt) (earlier : List Past) (c : Turn) : Type 0 where

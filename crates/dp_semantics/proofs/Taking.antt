@@ -1,12 +1,6 @@
 -- The words of an event at the front of a list: what is taken for them, and what is left.
-use Rattle.std.proofs.Common.{◌≡◌, refl, sym, ap, ◌∙◌, append_assoc, ℕ, zero, suc, ◌+◌, ◌-◌, ◌<◌, Bool, true, false, ◌&&◌, if◌then◌else◌, List, [], ◌∷◌, ◌++◌, ℤ, pos, length, get_or, Option, Some, None, unwrap_or, slice_get, slice_set, nat_le, nat_lt, ◌==◌, arith, eq-eqb, ne_eqb, le-leb, lt-ltb, Result, Ok, Err}
-use Rattle.std.proofs.lemmas.Option.{unwrap_or-slice_get}
-use Rattle.std.proofs.lemmas.List.{get_or-set_other}
-use Rattle.std.proofs.lemmas.Grind.{get_or-set_at}
-use Rattle.dp_semantics.proofs.Names.{Word, Stmt, Stmt-F, Assign, Store, Print, If, While, Region, Program, Plan, Load, first_cell, cell_count, Event, Effect, Stored, Printed, Decided, site_of, stage_of, is_checked, int_eq, Void, Astray, Taken, load_word, load_words, done_word, words_of, is_load_of, is_done_of, after_loads_of, is_cell_of, effect_by, taken_by, done_from, taken_from, words_in, word_list, loads_hold}
-use Rattle.dp_semantics.proofs.Each.{and_true, and_make}
-use Rattle.dp_semantics.proofs.Evaluation.{InVar, Form, Holds}
-use Rattle.dp_semantics.proofs.Integers.{int_same, int_eq-self}
+use Rattle.dp_semantics.proofs.Names.{◌≡◌, refl, sym, ap, ◌∙◌, append_assoc, ℕ, zero, suc, ◌+◌, ◌-◌, ◌<◌, Bool, true, false, ◌&&◌, if◌then◌else◌, List, [], ◌∷◌, ◌++◌, ℤ, pos, length, get_or, Option, Some, None, unwrap_or, slice_get, slice_set, nat_le, nat_lt, ◌==◌, arith, eq-eqb, ne_eqb, le-leb, lt-ltb, Result, Ok, Err, unwrap_or-slice_get, get_or-set_other, get_or-set_at, Word, Stmt, Stmt-F, Assign, Store, Print, If, While, Region, Program, Plan, Load, first_cell, cell_count, Event, Effect, Stored, Printed, Decided, site_of, stage_of, is_checked, int_eq, Void, Astray, Taken, load_word, load_words, done_word, words_of, is_load_of, is_done_of, after_loads_of, is_cell_of, effect_by, taken_by, done_from, taken_from, words_in, word_list, loads_hold, and_parts, and_from}
+use Rattle.dp_semantics.proofs.Setting.{InVar, Form, Holds, int_same, int_eq-self}
 
 -- Lists of stages, from 1.
 words_in_is : (o : Option (List Word)) → words_in o ≡ unwrap_or o []
@@ -23,10 +17,6 @@ word_list_same lists t words h k = word_list_is (slice_set lists (t - 1) words) 
 pub word_list_other : (lists : List (List Word)) (t u : ℕ) (words : List Word) → 0 < t → 0 < u → (u ≡ t → ⊥) → word_list (slice_set lists (t - 1) words) u ≡ word_list lists u
 word_list_other lists t u words h k differ =
     word_list_is (slice_set lists (t - 1) words) u k ∙ get_or-set_other lists (t - 1) (u - 1) words [] (λ e. differ (omega (arith, e, h, k))) ∙ sym (word_list_is lists u k)
-
-pub append_same : {X : Type 0} (a b c : List X) → a ++ b ≡ a ++ c → b ≡ c
-append_same [] b c e = e
-append_same (x ∷ a) b c e = append_same a b c (cc)
 
 -- The words for a stage.
 module _ (p : Program) (plan : Plan) where
@@ -63,16 +53,16 @@ loads_compared : (site : ℕ) (cells : List ℤ) (loads : List Load) (w : Word) 
 loads_compared site cells [] w rest e h = ap (λ (b : Bool). if b then int_eq (get_or cells w.index (pos 0)) w.value && loads_hold site cells rest else true) e
 loads_compared site cells (l ∷ loads) w rest e h =
     compared_is site cells l (load_words site loads ++ w ∷ rest)
-    ∙ and_make (int_eq (get_or cells l.cell (pos 0)) l.value) (loads_hold site cells (load_words site loads ++ w ∷ rest)) (ap (λ (z : ℤ). int_eq z l.value) h.0 ∙ int_eq-self l.value) (loads_compared site cells loads w rest e h.1)
+    ∙ and_from (int_eq (get_or cells l.cell (pos 0)) l.value) (loads_hold site cells (load_words site loads ++ w ∷ rest)) (ap (λ (z : ℤ). int_eq z l.value) h.0 ∙ int_eq-self l.value) (loads_compared site cells loads w rest e h.1)
 
 loads_held : (site : ℕ) (cells : List ℤ) (loads : List Load) (w : Word) (rest : List Word) → loads_hold site cells (load_words site loads ++ w ∷ rest) ≡ true → Holds cells loads
 loads_held site cells [] w rest e = tt
 loads_held site cells (l ∷ loads) w rest e =
-    let parts = and_true (int_eq (get_or cells l.cell (pos 0)) l.value) (loads_hold site cells (load_words site loads ++ w ∷ rest)) (sym (compared_is site cells l (load_words site loads ++ w ∷ rest)) ∙ e) in
+    let parts = and_parts (int_eq (get_or cells l.cell (pos 0)) l.value) (loads_hold site cells (load_words site loads ++ w ∷ rest)) (sym (compared_is site cells l (load_words site loads ++ w ∷ rest)) ∙ e) in
     (int_same (get_or cells l.cell (pos 0)) l.value parts.0, loads_held site cells loads w rest parts.1)
 
 store_is : (p : Program) (x c : ℕ) (value : ℤ) → InVar p x c → (if is_cell_of p (record { 0 = x }) c then Some (Stored c value) else None) ≡ Some (Stored c value)
-store_is p x c value h = ap (λ (b : Bool). if b then Some (Stored c value) else None) (and_make (nat_le (first_cell p (record { 0 = x })) c) (nat_lt c (first_cell p (record { 0 = x }) + cell_count p (record { 0 = x })))
+store_is p x c value h = ap (λ (b : Bool). if b then Some (Stored c value) else None) (and_from (nat_le (first_cell p (record { 0 = x })) c) (nat_lt c (first_cell p (record { 0 = x }) + cell_count p (record { 0 = x })))
     (le-leb (first_cell p (record { 0 = x })) c h.0) (lt-ltb c (first_cell p (record { 0 = x }) + cell_count p (record { 0 = x })) h.1))
 
 -- its `Done` word stands for what it did

@@ -1,12 +1,9 @@
 -- Numbers that go up one by one, as those of a region's sites do, and how a site is found in a list.
-use Rattle.std.proofs.Common.{◌≡◌, refl, sym, ap, ◌∙◌, subst, ℕ, zero, suc, ◌+◌, ◌<◌, ◌≤◌, ◌==◌, Bool, true, false, ◌||◌, List, [], ◌∷◌, ◌++◌, length, map, get_or, arith, eqb-true}
+use Rattle.dp_semantics.proofs.Names.{◌≡◌, refl, sym, ap, ◌∙◌, subst, ℕ, zero, suc, ◌+◌, ◌<◌, ◌≤◌, ◌==◌, Bool, true, false, ◌||◌, List, [], ◌∷◌, ◌++◌, length, map, get_or, arith, eqb-true, map-append, end_of-Stmt, more_of-Stmt, Row_of-Stmt, Stmt, accesses, accesses_in}
 use Rattle.dp_tree.specs.declared.Stmt.TheVariants as tree
-use Rattle.dp_tree.specs.Numbering.{numbers_from, site_numbers, site_numbers_all, site_numbers_in}
-use Rattle.std.proofs.lemmas.List.{map-append}
+use Rattle.dp_tree.specs.Numbering.{numbers_from, site_numbers, site_numbers_in}
 use Rattle.dp_plan.specs.Written.{has, site_in}
-use Rattle.dp_semantics.proofs.Names.{end_of-Stmt, more_of-Stmt, Row_of-Stmt, Stmt, accesses, accesses_in}
-use Rattle.dp_semantics.proofs.Each.{Each, each_map}
-use Rattle.dp_semantics.proofs.Heads.{accesses_all}
+use Rattle.dp_semantics.proofs.Setting.{Each, each_map}
 
 -- the numbers go up one by one from k
 abbrev pub Ascends : ℕ → List ℕ → Type 0

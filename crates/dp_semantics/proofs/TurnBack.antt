@@ -1,8 +1,6 @@
 -- What a turn that came to its end says of its steps.
-use Rattle.std.proofs.Common.{◌≡◌, refl, sym, ap, ◌∙◌, append_assoc, ℕ, zero, suc, ◌<◌, ◌≤◌, ◌==◌, Bool, true, false, if◌then◌else◌, List, [], ◌∷◌, ◌++◌, ℤ, length, nat_le, Result, Ok, Err, arith, leb-true, eq-eqb}
-use Rattle.std.proofs.lemmas.List.{append-nil}
-use Rattle.dp_semantics.proofs.Names.{Word, Stmt, out-Stmt, Stmt-F, Program, Plan, WithLoads, Evaluated, Effect, evaluated, Void, Full, Taken, words_of, taken_from, Turn, TurnEnd, Ended, turned, own_step, stage_at, consumed_step, words_left, turn_step, turn_by, turn_at, turn_from}
-use Rattle.dp_semantics.proofs.Source.{event_of}
+use Rattle.dp_semantics.proofs.Names.{◌≡◌, refl, sym, ap, ◌∙◌, append_assoc, ℕ, zero, suc, ◌<◌, ◌≤◌, ◌==◌, Bool, true, false, if◌then◌else◌, List, [], ◌∷◌, ◌++◌, ℤ, length, nat_le, Result, Ok, Err, arith, leb-true, eq-eqb, append-nil, Word, Stmt, out-Stmt, Stmt-F, Program, Plan, WithLoads, Evaluated, Effect, evaluated, Void, Full, Taken, words_of, taken_from, Turn, TurnEnd, Ended, turned, own_step, stage_at, consumed_step, words_left, turn_step, turn_by, turn_at, turn_from}
+use Rattle.dp_semantics.proofs.Stepping.{event_of}
 
 -- the words only grow
 abbrev pub Grows : List Word → List Word → Type 0

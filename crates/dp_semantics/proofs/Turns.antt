@@ -1,15 +1,11 @@
 -- One iteration from the region's condition on: to where the next one starts, to its closing, or to where the run ends in it.
-use Rattle.std.proofs.Common.{◌≡◌, ◌⊎◌, inl, inr, refl, sym, ap, ◌∙◌, subst, ℕ, zero, suc, ◌+◌, ◌≤◌, Bool, true, false, if◌then◌else◌, List, [], ◌∷◌, ◌++◌, ℤ, length, Option, Some, None, slice_get, Ok, Err, arith, eq-eqb}
-use Rattle.std.proofs.lemmas.List.{append-nil}
-use Rattle.dp_semantics.proofs.Names.{is_zero, FaultKind, Stmt, out-Stmt, outs-If, Stmt-F, If, Program, Plan, WithLoads, Evaluated, eval, Config, Event, Effect, Decided, Step, Finished, Faulted, Stepped, choose, followed, value_of, stored, decided, evaluated, standing, cleared_at, clear_locals, step, Run, run_of, run_by, extended, is_region, stands_at_head, places, decided_zero}
+use Rattle.dp_semantics.proofs.Names.{◌≡◌, ◌⊎◌, inl, inr, refl, sym, ap, ◌∙◌, subst, ℕ, zero, suc, ◌+◌, ◌≤◌, Bool, true, false, if◌then◌else◌, List, [], ◌∷◌, ◌++◌, ℤ, length, Option, Some, None, slice_get, Ok, Err, arith, eq-eqb, append-nil, is_zero, FaultKind, Stmt, out-Stmt, outs-If, Stmt-F, If, Program, Plan, WithLoads, Evaluated, eval, Config, Event, Effect, Decided, Step, Finished, Faulted, Stepped, choose, followed, value_of, stored, decided, evaluated, standing, cleared_at, clear_locals, step, Run, run_of, run_by, extended, is_region, stands_at_head, places, decided_zero}
 use Rattle.dp_tree.specs.declared.Stmt.TheVariants as tree
 use Rattle.dp_semantics.proofs.Setting.{Accepted}
-use Rattle.dp_semantics.proofs.Source.{event_of}
-use Rattle.dp_semantics.proofs.Lockstep.{Goes, stays, goes}
-use Rattle.dp_semantics.proofs.Whole.{turn_of}
-use Rattle.dp_semantics.proofs.Runs.{is_step, run_step, step_on, step_off}
-use Rattle.dp_semantics.proofs.Placed.{behind, never}
+use Rattle.dp_semantics.proofs.Whole.{turn_of, Goes, stays, goes}
+use Rattle.dp_semantics.proofs.Placed.{behind, never, is_step, run_step, step_on, step_off}
 use Rattle.dp_semantics.proofs.Walks.{Stuck, Walk, walk}
+use Rattle.dp_semantics.proofs.Stepping.{event_of}
 
 pub decided_is : (u : Evaluated ℤ) (v : WithLoads Effect) → decided u ≡ Ok v → (z : ℤ) × (v.value ≡ Decided z)
 decided_is (Ok w) v e = (w.value, cc)

@@ -1,14 +1,11 @@
 -- What it says of a written plan that none of its rules is broken.
-use Rattle.std.proofs.Common.{◌≡◌, refl, sym, ap, ◌∙◌, ℕ, zero, suc, ◌+◌, ◌<◌, ◌≤◌, ◌==◌, Bool, true, false, not, ◌&&◌, ◌||◌, if◌then◌else◌, List, [], ◌∷◌, ◌++◌, map, length, filter, Option, Some, None, slice_get, nat_lt, arith}
-use Rattle.std.proofs.lemmas.List.Folds.{list_any-append}
-use Rattle.std.specs.List.{list_any, list_all, flat_map}
-use Rattle.dp_plan.specs.Enclosing.{Enclosing, region_ifs, region_inner_whiles}
-use Rattle.dp_plan.specs.Rules.{comes_late, condition, condition_unless, foreign, is_late_unassumed, is_replicated_kind, least, least_site_in, lesser, not_listed, second_neighbour, site_of_condition, begins_sequential}
-use Rattle.dp_plan.specs.Valid.{BrokenRule, broken_from, first_broken, rules}
+use Rattle.dp_semantics.proofs.Names.{◌≡◌, refl, sym, ap, ◌∙◌, ℕ, zero, suc, ◌+◌, ◌<◌, ◌≤◌, ◌==◌, Bool, true, false, not, ◌&&◌, ◌||◌, if◌then◌else◌, List, [], ◌∷◌, map, length, filter, Option, Some, None, slice_get, nat_lt, arith, list_any-append, list_all, flat_map, Program, Seq, Par, StageKind, is_par, and_parts, or_parts}
+use Rattle.dp_plan.specs.Enclosing.{region_ifs, region_inner_whiles}
+use Rattle.dp_plan.specs.Rules.{comes_late, condition, condition_unless, is_late_unassumed, is_replicated_kind, least, least_site_in, lesser, second_neighbour, site_of_condition, begins_sequential}
+use Rattle.dp_plan.specs.Valid.{broken_from, first_broken, rules}
 use Rattle.dp_plan.specs.Written.{WrittenPlan, WrittenStage, has, kind_in, listed, region_sites, sites_in, stage_from, written_stage}
 use Rattle.dp_semantics.specs.ValidPlan.{lists_site}
-use Rattle.dp_semantics.proofs.Names.{Program, Seq, Par, StageKind, is_par}
-use Rattle.dp_semantics.proofs.Each.{Each, each_map, and_true, or_false}
+use Rattle.dp_semantics.proofs.Setting.{Each, each_map}
 
 -- no rule names a site
 unbroken : (rule : ℕ) (named : List (Option ℕ)) → broken_from rule named ≡ None → Each (λ o. o ≡ None) named
@@ -87,7 +84,7 @@ stage_listed k (line ∷ rest) site e = by (has site line.sites) (sym (list_any-
 pub stage_unlisted : (k : ℕ) (stages : List WrittenStage) (site : ℕ) → has site (flat_map sites_in stages) ≡ false → stage_from k stages site ≡ 0
 stage_unlisted k [] site e = refl
 stage_unlisted k (line ∷ rest) site e =
-    let both = or_false (has site line.sites) (has site (flat_map sites_in rest)) (sym (list_any-append (λ n. n == site) line.sites (flat_map sites_in rest)) ∙ e) in
+    let both = or_parts (has site line.sites) (has site (flat_map sites_in rest)) (sym (list_any-append (λ n. n == site) line.sites (flat_map sites_in rest)) ∙ e) in
     ap (λ (b : Bool). if b then k else stage_from (suc k) rest site) both.0 ∙ stage_unlisted (suc k) rest site both.1
 
 -- The kinds: the first is sequential, and no two neighbours are replicated.
@@ -120,11 +117,11 @@ kinds_differ (line ∷ []) filled none s = and_off (is_par (slice_get (kind_in l
 kinds_differ (line ∷ next ∷ rest) filled none s = by (is_replicated_kind line.kind && is_replicated_kind next.kind) refl none s (kinds_differ (next ∷ rest) parts.1)
   where
     parts : (lists_site line ≡ true) × (list_all lists_site (next ∷ rest) ≡ true)
-    parts = and_true (lists_site line) (list_all lists_site (next ∷ rest)) filled
+    parts = and_parts (lists_site line) (list_all lists_site (next ∷ rest)) filled
 
     by : (b : Bool) → (is_replicated_kind line.kind && is_replicated_kind next.kind) ≡ b → least_site_in (if b then Some next else second_neighbour (next ∷ rest)) ≡ None → (s : ℕ) →
         (least_site_in (second_neighbour (next ∷ rest)) ≡ None → (s : ℕ) → (is_par (slice_get (map kind_in (next ∷ rest)) s) && is_par (slice_get (map kind_in (next ∷ rest)) (suc s))) ≡ false) →
         (is_par (slice_get (map kind_in (line ∷ next ∷ rest)) s) && is_par (slice_get (map kind_in (line ∷ next ∷ rest)) (suc s))) ≡ false
-    by true e none s go = absurd (some_least next (and_true (lists_site next) (list_all lists_site rest) parts.1).0 none)
+    by true e none s go = absurd (some_least next (and_parts (lists_site next) (list_all lists_site rest) parts.1).0 none)
     by false e none zero go = ap (λ (b : Bool). b && is_par (Some next.kind)) (par_is line.kind) ∙ ap (λ (b : Bool). is_replicated_kind line.kind && b) (par_is next.kind) ∙ e
     by false e none (suc s) go = go none s

@@ -1,29 +1,24 @@
 -- A valid plan of an inlined program fits it, and its regions stand alone.
-use Rattle.std.proofs.Common.{◌≡◌, ◌⊎◌, inl, inr, refl, sym, ap, ◌∙◌, subst, ℕ, zero, suc, ◌+◌, ◌-◌, ◌<◌, ◌≤◌, ◌==◌, Bool, true, false, not, ◌&&◌, ◌||◌, if◌then◌else◌, List, [], ◌∷◌, ◌++◌, length, map, filter, Option, Some, None, slice_get, nat_lt, nat_le, arith, le-leb, lt-ltb, eq-eqb, ne_eqb}
-use Rattle.std.proofs.lemmas.List.{append-nil, length-map}
-use Rattle.std.proofs.lemmas.Bool.{cases_Bool}
-use Rattle.std.specs.List.{list_all, list_any, flat_map}
+use Rattle.dp_semantics.proofs.Names.{opened_statement, ◌≡◌, ◌⊎◌, inl, inr, refl, sym, ap, ◌∙◌, subst, ℕ, zero, suc, ◌+◌, ◌-◌, ◌<◌, ◌≤◌, ◌==◌, Bool, true, false, not, ◌&&◌, ◌||◌, if◌then◌else◌, List, [], ◌∷◌, length, map, filter, Option, Some, None, slice_get, nat_lt, arith, le-leb, lt-ltb, eq-eqb, ne_eqb, append-nil, length-map, cases_Bool, list_all, flat_map, Region, SiteId, Expr, Stmt, hidden-the_row-Stmt-0, Program, Plan, RegionInfo, VarInfo, Access, accesses, access_known, first_site, first_site_of, fits_plan, has_cell, is_inner, is_local_of, is_numbered, is_region_at, is_replicated, is_single, kinds_apart, kinds_fit, length_of, lies_between, lies_in_order, one_region, region_accesses, region_fits, region_in, stage_of, stands_alone, stores_known, well_nested, and_parts, and_from}
 use Rattle.dp_tree.specs.declared.Stmt.TheVariants as tree
+use Rattle.dp_tree.specs.Layout as layout
 use Rattle.dp_tree.specs.declared.VarScope.{VarScope}
 use Rattle.dp_tree.specs.declared.VarScope.TheVariants.{Global, Outer, Body}
 use Rattle.dp_tree.specs.Globals.{is_global_scope}
 use Rattle.dp_tree.specs.Inlined.{IsInlined, has_call, has_call_in, stmt_within}
-use Rattle.dp_tree.specs.Layout as layout
 use Rattle.dp_tree.specs.Layout.{has_cells}
 use Rattle.dp_plan.specs.Enclosing.{Enclosing, ifs, ifs_in, inner_whiles, inner_whiles_in, region_ifs, region_inner_whiles}
-use Rattle.dp_plan.specs.Rules.{comes_late, condition, first_in, is_late_unassumed}
+use Rattle.dp_plan.specs.Rules.{comes_late, first_in, is_late_unassumed}
 use Rattle.dp_plan.specs.Written.{WrittenPlan, has, listed, kind_in, plan_of, region_sites, site_in, written_stage}
 use Rattle.dp_plan.specs.Valid.{first_broken}
-use Rattle.dp_semantics.specs.ValidPlan.{WrittenAs, ValidPlanFits, RegionsStandAlone, lists_site}
-use Rattle.dp_semantics.proofs.Names.{Region, SiteId, Expr, Stmt, hidden-the_row-Stmt-0, Program, Plan, RegionInfo, VarInfo, Access, accesses, access_known, count_from, first_site, first_site_of, fits_plan, has_cell, is_inner, is_local_of, is_numbered, is_region_at, is_replicated, is_single, kinds_apart, kinds_fit, length_of, lies_between, lies_in_order, one_region, region_accesses, region_fits, region_in, stage_of, stands_alone, start_cells, stores_known, well_nested}
-use Rattle.dp_semantics.proofs.Each.{Each, each_map, and_true, and_make, none_of, all_of, all_make}
-use Rattle.dp_semantics.proofs.Heads.{opened, accesses_all, accesses_at, accesses_out, well_hidden}
+use Rattle.dp_semantics.specs.ValidPlan.{WrittenAs, ValidPlanFits, RegionsStandAlone}
 use Rattle.dp_semantics.proofs.Counts.{count_all}
 use Rattle.dp_semantics.proofs.TextOrder.{Ascends, Between, ascends_from, ascends_between, each_of_map, has_fact}
 use Rattle.dp_semantics.proofs.Regions.{RegionAt, Sought, absent, present, all_alone, find_region}
 use Rattle.dp_semantics.proofs.Unbroken.{all_listed, no_foreign, condition_first, sequential_first, none_beside, whiles_in_time, ifs_in_time, stage_listed, stage_unlisted, first_kind, kinds_differ}
 use Rattle.dp_semantics.proofs.WellNested.{Within, sites_within, ifs_at, InTime, Ruled, well_by_in}
 use Rattle.dp_semantics.proofs.PlanStages.{same_stage, in_time, ruled}
+use Rattle.dp_semantics.proofs.Setting.{Each, each_map, none_of, all_of, all_make, accesses_all, accesses_at, accesses_out, well_hidden}
 
 -- The cells lie in order for any region.
 scoped : (r : ℕ) (scope : VarScope) (one : Bool) → (is_global_scope scope || one) ≡ true → (not (is_local_of r scope) || one) ≡ true
@@ -38,17 +33,17 @@ scoped r (Body q) one e = by (q == r)
 laid : (r k : ℕ) (vars : List VarInfo) → layout.lies_in_order k vars ≡ true → lies_in_order r k vars ≡ true
 laid r k [] e = refl
 laid r k (x ∷ rest) e =
-    let both = and_true ((x.first.0 == k) && has_cells x) (layout.lies_in_order (k + x.length) rest) e in
-    let here = and_true (x.first.0 == k) (has_cells x) both.0 in
-    let some = and_true (nat_lt 0 x.length) (is_global_scope x.scope || (x.length == 1)) here.1 in
-    and_make _ _ (and_make _ _ here.0 (and_make _ _ some.0 (scoped r x.scope (x.length == 1) some.1))) (laid r (k + x.length) rest both.1)
+    let both = and_parts ((x.first.0 == k) && has_cells x) (layout.lies_in_order (k + x.length) rest) e in
+    let here = and_parts (x.first.0 == k) (has_cells x) both.0 in
+    let some = and_parts (nat_lt 0 x.length) (is_global_scope x.scope || (x.length == 1)) here.1 in
+    and_from _ _ (and_from _ _ here.0 (and_from _ _ some.0 (scoped r x.scope (x.length == 1) some.1))) (laid r (k + x.length) rest both.1)
 
 cells_at : (k x : ℕ) (vars : List VarInfo) → layout.lies_in_order k vars ≡ true → x < length vars → nat_lt 0 (length_of (slice_get vars x)) ≡ true
 cells_at k x [] e low = absurd (omega (arith, low))
 cells_at k zero (v ∷ rest) e low =
-    let both = and_true ((v.first.0 == k) && has_cells v) (layout.lies_in_order (k + v.length) rest) e in
-    (and_true (nat_lt 0 v.length) _ (and_true (v.first.0 == k) (has_cells v) both.0).1).0
-cells_at k (suc x) (v ∷ rest) e low = cells_at (k + v.length) x rest (and_true ((v.first.0 == k) && has_cells v) (layout.lies_in_order (k + v.length) rest) e).1 (omega (arith, low))
+    let both = and_parts ((v.first.0 == k) && has_cells v) (layout.lies_in_order (k + v.length) rest) e in
+    (and_parts (nat_lt 0 v.length) _ (and_parts (v.first.0 == k) (has_cells v) both.0).1).0
+cells_at k (suc x) (v ∷ rest) e low = cells_at (k + v.length) x rest (and_parts ((v.first.0 == k) && has_cells v) (layout.lies_in_order (k + v.length) rest) e).1 (omega (arith, low))
 
 kept : {X : Type 0} (P : X → Type 0) (test : X → Bool) (xs : List X) → Each P xs → Each P (filter test xs)
 kept P test [] h = tt
@@ -65,15 +60,15 @@ each_both P Q (x ∷ xs) h k = ((h.0, k.0), each_both P Q xs h.1 k.1)
 -- what is inside a region's statement
 module _ (r : ℕ) (site : SiteId) (cond : Expr) (body : List Stmt) where
   call_made : has_call (tree.Region r site cond body) ≡ has_call_in (hidden-the_row-Stmt-0 body)
-  unfolding opened
+  unfolding opened_statement
   call_made = refl
 
   ifs_made : ifs (tree.Region r site cond body) ≡ ifs_in (hidden-the_row-Stmt-0 body)
-  unfolding opened
+  unfolding opened_statement
   ifs_made = refl
 
   whiles_made : inner_whiles (tree.Region r site cond body) ≡ inner_whiles_in (hidden-the_row-Stmt-0 body)
-  unfolding opened
+  unfolding opened_statement
   whiles_made = refl
 
 module _ {p : Program} (inlined : IsInlined p) where
@@ -91,10 +86,10 @@ module _ {p : Program} (inlined : IsInlined p) where
     numbered : list_all (is_numbered p r) (flat_map accesses (region_in p r)) ≡ true
     numbered = ap (list_all (is_numbered p r)) accesses_are
         ∙ all_make (is_numbered p r) (accesses q.statement) (each_map _ (λ a. is_numbered p r a ≡ true) (λ a b. ap (lies_between a.site) at
-        ∙ and_make _ _ (le-leb _ _ b.0) (le-leb _ _ (omega (arith, b.1, q.last)))) (accesses q.statement) between)
+        ∙ and_from _ _ (le-leb _ _ b.0) (le-leb _ _ (omega (arith, b.1, q.last)))) (accesses q.statement) between)
 
     alone : stands_alone p r ≡ true
-    alone = and_make (is_single (region_in p r)) _ (ap is_single q.only) (and_make _ _ (all_alone r 1 p.main inlined.regions) numbered)
+    alone = and_from (is_single (region_in p r)) _ (ap is_single q.only) (and_from _ _ (all_alone r 1 p.main inlined.regions) numbered)
 
 pub regions_alone : (p : Program) → IsInlined p → RegionsStandAlone p
 regions_alone p inlined r low high = by (sought inlined r)
@@ -177,8 +172,8 @@ module _ {p : Program} (inlined : IsInlined p) (w : WrittenPlan) (written : Writ
     known_at a h =
         let bounds = stage_listed 1 w.stages a.site h.1 in
         let many = length-map w.stages kind_in in
-        and_make (list_all (has_cell p) a.loads) _ (all_make (has_cell p) a.loads (each_map (λ x. x < length p.vars) (λ x. has_cell p x ≡ true) (λ x low. cells_at 0 x p.vars inlined.cells low) a.loads h.0.0))
-        (and_make (stores_known p a.stores) _ (stores_at a.stores h.0.1) (and_make _ _ (lt-ltb 0 (stage_of p plan a.site) (omega (arith, bounds.0, stages_are a.site))) (le-leb (stage_of p plan a.site) (length plan.stages) (omega (arith, bounds.1, stages_are a.site, many)))))
+        and_from (list_all (has_cell p) a.loads) _ (all_make (has_cell p) a.loads (each_map (λ x. x < length p.vars) (λ x. has_cell p x ≡ true) (λ x low. cells_at 0 x p.vars inlined.cells low) a.loads h.0.0))
+        (and_from (stores_known p a.stores) _ (stores_at a.stores h.0.1) (and_from _ _ (lt-ltb 0 (stage_of p plan a.site) (omega (arith, bounds.0, stages_are a.site))) (le-leb (stage_of p plan a.site) (length plan.stages) (omega (arith, bounds.1, stages_are a.site, many)))))
 
     known : list_all (access_known p plan) (region_accesses p plan) ≡ true
     known = ap (list_all (access_known p plan)) (accesses_are inlined w.region entry at q)
@@ -205,7 +200,7 @@ module _ {p : Program} (inlined : IsInlined p) (w : WrittenPlan) (written : Writ
 
     one : one_region p plan (region_in p w.region) ≡ true
     one = ap (one_region p plan) q.only ∙ ap (region_fits p plan) q.is
-        ∙ and_make (w.region == w.region) _ (eq-eqb w.region w.region refl) (and_make _ _ (eq-eqb _ _ first_here) (and_make _ _ first_stage (and_make _ _ well inner)))
+        ∙ and_from (w.region == w.region) _ (eq-eqb w.region w.region refl) (and_from _ _ (eq-eqb _ _ first_here) (and_from _ _ first_stage (and_from _ _ well inner)))
 
     apart : (s : ℕ) → 1 ≤ s → kinds_apart plan s ≡ true
     apart zero low = absurd (omega (arith, low))
@@ -214,10 +209,10 @@ module _ {p : Program} (inlined : IsInlined p) (w : WrittenPlan) (written : Writ
         ap (λ (n : ℕ). not (is_replicated plan (suc s) && is_replicated plan n)) next ∙ ap not (kinds_differ w.stages written.filled (none_beside p w valid) s)
 
     kinds : kinds_fit plan ≡ true
-    kinds = and_make _ _ (ap not (first_kind w.stages (sequential_first p w valid))) (count_all (kinds_apart plan) (length plan.stages) 1 (λ s low high. apart s low))
+    kinds = and_from _ _ (ap not (first_kind w.stages (sequential_first p w valid))) (count_all (kinds_apart plan) (length plan.stages) 1 (λ s low high. apart s low))
 
     fits : fits_plan p plan ≡ true
-    fits = and_make _ _ (laid w.region 0 p.vars inlined.cells) (and_make _ _ known (and_make _ _ one (and_make _ _ (all_alone w.region 1 p.main inlined.regions) kinds)))
+    fits = and_from _ _ (laid w.region 0 p.vars inlined.cells) (and_from _ _ known (and_from _ _ one (and_from _ _ (all_alone w.region 1 p.main inlined.regions) kinds)))
 
   fits_here : fits_plan p plan ≡ true
   fits_here = by (sought inlined w.region)

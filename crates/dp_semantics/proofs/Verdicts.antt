@@ -1,8 +1,6 @@
 -- The judgement on an epoch's packets, against the source's iterations.
-use Rattle.std.proofs.Common.{◌≡◌, refl, sym, ap, ◌∙◌, ℕ, ◌≤◌, true, false, List, ℤ, length, map, arith}
-use Rattle.dp_semantics.proofs.Names.{Status, Going, Closing, Broken, Packet, Epoch, passed, Judgement, Agreed, Clean, judge, judge_lists, judge_status, effect_in}
-use Rattle.dp_semantics.proofs.Lockstep.{closing_after}
-use Rattle.dp_semantics.proofs.Whole.{MadeWithin, judge_whole, judge_whole_back}
+use Rattle.dp_semantics.proofs.Names.{◌≡◌, refl, sym, ap, ◌∙◌, ℕ, ◌≤◌, true, false, List, ℤ, length, map, arith, Status, Going, Closing, Broken, Packet, Epoch, passed, Judgement, Agreed, Clean, judge, judge_lists, judge_status, effect_in}
+use Rattle.dp_semantics.proofs.Whole.{MadeWithin, judge_whole, judge_whole_back, closing_after}
 use Rattle.dp_semantics.proofs.PacketFacts.{live, status_live}
 use Rattle.dp_semantics.proofs.Epochs.{History, numbered, past_at, MakesAt, Gone, ready, Sent, claims_at}
 

@@ -4,8 +4,11 @@ use Rattle.dp_tree.specs.declared.Program.{Program}
 use Rattle.dp_tree.specs.Step.{Effect, Stored, Printed, Decided}
 use Rattle.dp_tree.specs.Trace.{Run}
 use Rattle.dp_tree.specs.Iteration.{begun_count, memory_after, start}
-use Rattle.dp_tree.proofs.Build.{tree_opened}
-use Rattle.dp_tree.proofs.Programs.{stale_read, same_value_store, skip_negative, histogram, two_stores, stale_step, stale_divisor}
+use Rattle.dp_base.specs.declared.BinOp.TheVariants as op
+use Rattle.dp_tree.specs.declared.SiteKind.TheVariants.{Assign, While}
+use Rattle.dp_tree.specs.declared.VarScope.TheVariants.{Global, Outer, Body}
+use Rattle.dp_tree.proofs.Build.{assume, bin, num, one_region, program, region, scalar, set, site, tree_opened, var}
+use Rattle.dp_tree.proofs.Programs.{add, stale_read, same_value_store, skip_negative, histogram, two_stores, stale_step, stale_divisor}
 use Rattle.dp_plan.specs.declared.Plan.{Plan}
 use Rattle.dp_plan.specs.declared.StageKind.TheVariants.{Seq, Par}
 use Rattle.dp_plan.proofs.Plans.{plan, stale_read_plan, skip_negative_plan, histogram_plan, two_stores_plan, stale_step_plan, stale_divisor_plan}
@@ -101,6 +104,28 @@ fuel_after_an_iteration = refl
 replicated_counts : verdicts histogram (plan 4096 (Seq ∷ Par ∷ []) (1 ∷ 1 ∷ 1 ∷ 2 ∷ 2 ∷ []) []) (pos 0 ∷ pos 4 ∷ pos 8 ∷ []) 10000 ≡ clean ∷ unclean ∷ clean ∷ clean ∷ []
 unfolding tree_opened turn_from judge_from
 replicated_counts = refl
+
+-- an assumption counts where all is in one stage, which goes as the source does
+assumed_in_one_stage : verdicts skip_negative (plan 4096 (Seq ∷ []) (1 ∷ 1 ∷ 1 ∷ 1 ∷ 1 ∷ 1 ∷ []) (assume 4 false ∷ [])) (negsuc 0 ∷ pos 5 ∷ pos 3 ∷ []) 10000 ≡ unclean ∷ clean ∷ clean ∷ []
+unfolding tree_opened turn_from judge_from
+assumed_in_one_stage = refl
+
+-- a replicated stage starts before the stores that the stage before it makes in the iteration: `i` is still the old one
+replicated_before : verdicts histogram (plan 4096 (Seq ∷ Par ∷ Seq ∷ []) (1 ∷ 2 ∷ 1 ∷ 2 ∷ 3 ∷ []) []) (pos 0 ∷ pos 1 ∷ pos 2 ∷ pos 3 ∷ []) 10000 ≡ clean ∷ clean ∷ clean ∷ clean ∷ clean ∷ []
+unfolding tree_opened turn_from judge_from
+replicated_before = refl
+
+-- `while (i < 3) { s = s + x; x = 1; i = i + 1; }`, with x a body local, which reads 0 in each iteration
+abbrev unset_local : Program
+unset_local = program
+    (scalar 0 (pos 0) Global ∷ scalar 1 (pos 0) Outer ∷ scalar 2 (pos 0) (Body 1) ∷ [])
+    (site 4 Assign 0 ∷ site 6 While 1 ∷ site 7 Assign 1 ∷ site 8 Assign 1 ∷ site 9 Assign 1 ∷ [])
+    (one_region 6 2 5)
+    (set 1 1 (num 0) ∷ region 1 2 (bin op.Lt (var 1) (num 3)) (set 3 0 (add (var 0) (var 2)) ∷ set 4 2 (num 1) ∷ set 5 1 (add (var 1) (num 1)) ∷ []) ∷ [])
+
+cleared_locals : verdicts unset_local (plan 4096 (Seq ∷ []) (1 ∷ 1 ∷ 1 ∷ 1 ∷ []) []) [] 10000 ≡ clean ∷ clean ∷ clean ∷ clean ∷ []
+unfolding tree_opened turn_from judge_from
+cleared_locals = refl
 
 -- A void packet is Unclean, though its words are those that would be Clean.
 abbrev with_status : Status → Packet → Packet
