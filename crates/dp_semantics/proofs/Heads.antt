@@ -30,8 +30,7 @@ unfolding opened_statement
 accesses_roll (Assign site x e) = ap accesses (rolls-Assign site x e)
 accesses_roll (Store site x index e) = ap accesses (rolls-Store site x index e)
 accesses_roll (Print site e) = ap accesses (rolls-Print site e)
-accesses_roll (If site cond a b) = ap accesses (rolls-If site cond a b) ∙ ap (λ xs. head_access (If site cond a b) ∷ (xs ++ accesses_in (hidden-the_row-Stmt-0 b))) (accesses_hidden a)
-    ∙ ap (λ xs. head_access (If site cond a b) ∷ (accesses_all a ++ xs)) (accesses_hidden b)
+accesses_roll (If site cond a b) = rw (rolls-If site cond a b, accesses_hidden a, accesses_hidden b)
 accesses_roll (While site cond a) = ap accesses (rolls-While site cond a) ∙ ap (λ xs. head_access (While site cond a) ∷ xs) (accesses_hidden a)
 accesses_roll (Region r site cond a) = ap accesses (rolls-Region r site cond a) ∙ ap (λ xs. head_access (Region r site cond a) ∷ xs) (accesses_hidden a)
 accesses_roll (Call f line args) = ap accesses (rolls-Call f line args)
@@ -60,7 +59,7 @@ module _ (r : ℕ) where
   free_roll (Assign site x e) = ap (is_free r) (rolls-Assign site x e)
   free_roll (Store site x index e) = ap (is_free r) (rolls-Store site x index e)
   free_roll (Print site e) = ap (is_free r) (rolls-Print site e)
-  free_roll (If site cond a b) = ap (is_free r) (rolls-If site cond a b) ∙ ap (λ u. u && is_free_in r (hidden-the_row-Stmt-0 b)) (free_hidden a) ∙ ap (λ u. all_free r a && u) (free_hidden b)
+  free_roll (If site cond a b) = rw (rolls-If site cond a b, free_hidden a, free_hidden b)
   free_roll (While site cond a) = ap (is_free r) (rolls-While site cond a) ∙ free_hidden a
   free_roll (Region q site cond a) = ap (is_free r) (rolls-Region q site cond a) ∙ ap (λ u. not (q == r) && u) (free_hidden a)
   free_roll (Call f line args) = ap (is_free r) (rolls-Call f line args)
@@ -89,23 +88,13 @@ module _ (p : Program) (plan : Plan) where
   well_hidden [] = refl
   well_hidden (x ∷ xs) = ap (λ b. well_nested p plan x && b) (well_hidden xs)
 
-  -- an `if` by its sites and its parts, and a `while`
-  abbrev if_by : ℕ → List Access → Bool → Bool → Bool
-  if_by site inner a b = if_rule site inner && (a && b)
-
   well_roll : (h : Stmt-F Stmt) → well_nested p plan (roll-Stmt h) ≡ well_at h
   unfolding opened_statement
   well_roll (Assign site x e) = ap (well_nested p plan) (rolls-Assign site x e)
   well_roll (Store site x index e) = ap (well_nested p plan) (rolls-Store site x index e)
   well_roll (Print site e) = ap (well_nested p plan) (rolls-Print site e)
-  well_roll (If site cond a b) = ap (well_nested p plan) (rolls-If site cond a b)
-      ∙ ap (λ xs. if_by site.0 (xs ++ accesses_in (hidden-the_row-Stmt-0 b)) (well_nested_in p plan (hidden-the_row-Stmt-0 a)) (well_nested_in p plan (hidden-the_row-Stmt-0 b))) (accesses_hidden a)
-      ∙ ap (λ xs. if_by site.0 (accesses_all a ++ xs) (well_nested_in p plan (hidden-the_row-Stmt-0 a)) (well_nested_in p plan (hidden-the_row-Stmt-0 b))) (accesses_hidden b)
-      ∙ ap (λ w. if_by site.0 (accesses_all a ++ accesses_all b) w (well_nested_in p plan (hidden-the_row-Stmt-0 b))) (well_hidden a)
-      ∙ ap (λ w. if_by site.0 (accesses_all a ++ accesses_all b) (all_well a) w) (well_hidden b)
-  well_roll (While site cond a) = ap (well_nested p plan) (rolls-While site cond a)
-      ∙ ap (λ xs. none_earlier p plan site.0 xs && well_nested_in p plan (hidden-the_row-Stmt-0 a)) (accesses_hidden a)
-      ∙ ap (λ w. none_earlier p plan site.0 (accesses_all a) && w) (well_hidden a)
+  well_roll (If site cond a b) = rw (rolls-If site cond a b, accesses_hidden a, accesses_hidden b, well_hidden a, well_hidden b)
+  well_roll (While site cond a) = rw (rolls-While site cond a, accesses_hidden a, well_hidden a)
   well_roll (Region r site cond a) = ap (well_nested p plan) (rolls-Region r site cond a)
   well_roll (Call f line args) = ap (well_nested p plan) (rolls-Call f line args)
 
@@ -140,8 +129,7 @@ module _ (p : Program) (plan : Plan) where
     project_roll (Assign site x e) = ap (project p plan s) (rolls-Assign site x e)
     project_roll (Store site x index e) = ap (project p plan s) (rolls-Store site x index e)
     project_roll (Print site e) = ap (project p plan s) (rolls-Print site e)
-    project_roll (If site cond a b) = ap (project p plan s) (rolls-If site cond a b)
-        ∙ ap (λ ys. if_for site cond ys (project_in p plan s (hidden-the_row-Stmt-0 b))) (project_hidden a) ∙ ap (λ ys. if_for site cond (project_all p plan s a) ys) (project_hidden b)
+    project_roll (If site cond a b) = rw (rolls-If site cond a b, project_hidden a, project_hidden b)
     project_roll (While site cond a) = ap (project p plan s) (rolls-While site cond a) ∙ ap (λ ys. while_for site cond ys) (project_hidden a)
     project_roll (Region r site cond a) = ap (project p plan s) (rolls-Region r site cond a) ∙ ap (λ ys. tree.If site cond ys [] ∷ []) (project_hidden a)
     project_roll (Call f line args) = ap (project p plan s) (rolls-Call f line args)

@@ -1,5 +1,5 @@
 -- A stage's part of the text against the source's: a statement that stays, and one that the stage doesn't have.
-use Rattle.dp_semantics.proofs.Names.{◌≡◌, refl, sym, ap, ◌∙◌, ℕ, ◌<◌, ◌≤◌, ◌==◌, Bool, true, false, not, ◌||◌, if◌then◌else◌, List, [], ◌∷◌, ◌++◌, ℤ, Option, Some, None, is_some, nat_le, arith, leb-true, le-leb, lt-leb, list_all, is_zero, Stmt, Row_of-Stmt, end_of-Stmt, more_of-Stmt, out-Stmt, roll-Stmt, rolls-Assign, rolls-Store, rolls-Print, rolls-If, rolls-While, Stmt-F, Assign, Store, Print, If, While, Region, Call, Program, Assume, Plan, Effect, Decided, choose, followed, site_of, value_of, Access, accesses, accesses_in, stage_of, went, goes_as, as_assumed, assumed_in, branch_of, where_reached, project, project_in, project_all, none_earlier, well_nested, well_nested_in, and_parts, flat_map-append}
+use Rattle.dp_semantics.proofs.Names.{◌≡◌, refl, sym, ap, ◌∙◌, ℕ, ◌<◌, ◌≤◌, ◌==◌, Bool, true, false, not, ◌||◌, if◌then◌else◌, List, [], ◌∷◌, ◌++◌, ℤ, Option, Some, None, is_some, nat_le, arith, leb-true, le-leb, lt-leb, list_all, is_zero, Stmt, Row_of-Stmt, end_of-Stmt, more_of-Stmt, out-Stmt, roll-Stmt, rolls-Assign, rolls-Store, rolls-Print, rolls-If, rolls-While, Stmt-F, Assign, Store, Print, If, While, Region, Call, Program, Assume, Plan, Effect, Decided, choose, followed, site_of, value_of, Access, accesses, accesses_in, stage_of, went, goes_as, as_assumed, assumed_in, branch_of, where_reached, project, project_in, project_all, none_earlier, well_nested, well_nested_in, and_parts, flat_map-append, inl, inr, cases_Bool}
 use Rattle.dp_tree.specs.declared.Stmt.TheVariants as tree
 use Rattle.dp_semantics.proofs.Setting.{Each, each_split, each_map, all_of, Form, accesses_all, all_well, well_at, project_at, project_out}
 
@@ -11,16 +11,12 @@ AsAssumed plan site effect = (taken : Bool) → assumed_in plan.assume site ≡ 
 pub assumed_of : (plan : Plan) (site : ℕ) (effect : Effect) → as_assumed plan site effect ≡ true → AsAssumed plan site effect
 assumed_of plan site effect = all plan.assume
   where
-    by : (here at taken : Bool) (rest : List Assume) → (not here || went at effect) ≡ true → (if here then Some at else assumed_in rest site) ≡ Some taken →
-        (assumed_in rest site ≡ Some taken → went taken effect ≡ true) → went taken effect ≡ true
-    by true at taken rest g e next = let same : at ≡ taken = cc in ap (λ (t : Bool). went t effect) (sym same) ∙ g
-    by false at taken rest g e next = next e
-
     all : (assumed : List Assume) → list_all (goes_as site effect) assumed ≡ true → (taken : Bool) → assumed_in assumed site ≡ Some taken → went taken effect ≡ true
     all [] h taken e = absurd (cc)
     all (a ∷ rest) h taken e =
-        let parts = and_parts (goes_as site effect a) (list_all (goes_as site effect) rest) h in
-        by (a.site.0 == site) a.taken taken rest parts.0 e (λ q. all rest parts.1 taken q)
+        let parts = and_parts (goes_as site effect a) (list_all (goes_as site effect) rest) h in elim (cases_Bool (a.site.0 == site)) [
+          inl q ↦ let told : Some a.taken ≡ Some taken = rw q at e in let same : a.taken ≡ taken = cc told in rw (← same) (rw q at parts.0)
+          | inr q ↦ all rest parts.1 taken (rw q at e) ]
 
 module _ (p : Program) (plan : Plan) (s : ℕ) where
   -- all of these sites are of later stages
@@ -70,11 +66,7 @@ module _ (p : Program) (plan : Plan) (s : ℕ) where
   project_append a b = flat_map-append (project p plan s) a b
 
   project_choose : (z : ℤ) (a b : List Stmt) → project_all p plan s (choose z a b) ≡ choose z (project_all p plan s a) (project_all p plan s b)
-  project_choose z a b = by (is_zero z)
-    where
-      by : (t : Bool) → project_all p plan s (if t then b else a) ≡ (if t then project_all p plan s b else project_all p plan s a)
-      by true = refl
-      by false = refl
+  project_choose z a b = elim (cases_Bool (is_zero z)) [ inl q ↦ rw q | inr q ↦ rw q ]
 
   -- the head as the stage has it
   abbrev pub proj_head : Stmt-F Stmt → Stmt-F Stmt
@@ -112,11 +104,7 @@ module _ (p : Program) (plan : Plan) (s : ℕ) where
       (all_of (λ a. nat_le (stage_of p plan site) (stage_of p plan a.site)) inner e)
 
   same_choice : (z : ℤ) (a b : List Stmt) → a ≡ b → choose z a b ≡ b
-  same_choice z a b e = by (is_zero z)
-    where
-      by : (t : Bool) → (if t then b else a) ≡ b
-      by true = refl
-      by false = e
+  same_choice z a b e = elim (cases_Bool (is_zero z)) [ inl q ↦ rw q | inr q ↦ rw q e ]
 
   -- an assumed branch is the one that is taken
   branch_taken : (o : Option Bool) (z : ℤ) (a b : List Stmt) → ((taken : Bool) → o ≡ Some taken → went taken (Decided z) ≡ true) → (o ≡ None → (a ≡ []) × (b ≡ [])) → branch_of o a b ≡ choose z a b
