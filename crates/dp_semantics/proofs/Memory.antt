@@ -1,5 +1,5 @@
 -- What a stage sees when the next iteration starts.
-use Rattle.dp_semantics.proofs.Names.{◌≡◌, ◌⊎◌, inl, inr, refl, sym, ap, ◌∙◌, ℕ, suc, ◌<◌, ◌==◌, Bool, true, false, ◌&&◌, ◌||◌, if◌then◌else◌, List, [], ◌∷◌, ℤ, pos, length, get_or, nat_lt, slice_set, arith, lt-ltb, le-ltb, eq-eqb, ne_eqb, cases_eq, cases_lt, cases_Bool, both_ways, get_or-set_other, get_or_past, length-set, get_or-set_at, list_any, VarInfo, Program, Plan, Event, is_local_of, clear_locals, stage_of, is_replicated, Past, is_local_cell, is_local_at, is_covered, stored_in, seen, pushed, Epoch, cleared, or_parts, and-false, and-true, or-false}
+use Rattle.dp_semantics.proofs.Names.{◌≡◌, ◌⊎◌, inl, inr, refl, sym, ap, ◌∙◌, ℕ, suc, ◌<◌, ◌==◌, Bool, true, false, ◌||◌, if◌then◌else◌, List, [], ◌∷◌, ℤ, pos, length, get_or, nat_lt, slice_set, arith, lt-ltb, le-ltb, eq-eqb, ne_eqb, cases_eq, cases_lt, cases_Bool, both_ways, get_or-set_other, get_or_past, length-set, get_or-set_at, list_any, VarInfo, Program, Plan, Event, is_local_of, clear_locals, stage_of, is_replicated, Past, is_local_cell, is_local_at, is_covered, stored_in, pushed, Epoch, cleared, or_parts, and-false, and-true, or-false}
 use Rattle.dp_semantics.proofs.Setting.{Each, each_map}
 use Rattle.dp_semantics.proofs.Stepping.{stored_none, seen_alike, seen_base, up_to, Sees}
 
@@ -45,14 +45,13 @@ one_cleared r x cells = if is_local_of r x.scope then slice_set cells x.first.0 
 pub clear-at : (r c : ℕ) (vars : List VarInfo) (cells : List ℤ) → (list_any (is_local_cell r c) vars ≡ true) ⊎ (get_or cells c (pos 0) ≡ pos 0) → get_or (clear_locals r vars cells) c (pos 0) ≡ pos 0
 clear-at r c [] cells (inl e) = absurd (cc)
 clear-at r c [] cells (inr e) = e
-clear-at r c (x ∷ xs) cells h = clear-at r c xs (one_cleared r x cells) (by (is_local_of r x.scope) (cases_eq x.first.0 c) h)
+clear-at r c (x ∷ xs) cells h = clear-at r c xs (one_cleared r x cells) (elim (cases_Bool (is_local_of r x.scope)) [ inl l ↦ rw l (by (cases_eq x.first.0 c) (rw l at h)) | inr l ↦ rw l (rw l at h) ])
   where
-    by : (b : Bool) → (x.first.0 ≡ c) ⊎ (x.first.0 ≡ c → ⊥) → (((b && (x.first.0 == c)) || list_any (is_local_cell r c) xs) ≡ true) ⊎ (get_or cells c (pos 0) ≡ pos 0) →
-        (list_any (is_local_cell r c) xs ≡ true) ⊎ (get_or (if b then slice_set cells x.first.0 (pos 0) else cells) c (pos 0) ≡ pos 0)
-    by false e h = h
-    by true (inl e) h = inr (zero_at cells c x.first.0 e)
-    by true (inr e) (inl q) = inl (ap (λ (b : Bool). b || list_any (is_local_cell r c) xs) (sym (ne_eqb x.first.0 c e)) ∙ q)
-    by true (inr e) (inr q) = inr (get_or-set_other cells x.first.0 c (pos 0) (pos 0) (λ f. e (sym f)) ∙ q)
+    by : (x.first.0 ≡ c) ⊎ (x.first.0 ≡ c → ⊥) → (((x.first.0 == c) || list_any (is_local_cell r c) xs) ≡ true) ⊎ (get_or cells c (pos 0) ≡ pos 0) →
+        (list_any (is_local_cell r c) xs ≡ true) ⊎ (get_or (slice_set cells x.first.0 (pos 0)) c (pos 0) ≡ pos 0)
+    by (inl e) h = inr (zero_at cells c x.first.0 e)
+    by (inr e) (inl q) = inl (rw (ne_eqb x.first.0 c e) at q)
+    by (inr e) (inr q) = inr (get_or-set_other cells x.first.0 c (pos 0) (pos 0) (λ f. e (sym f)) ∙ q)
 
 clear-other : (r c : ℕ) (vars : List VarInfo) (cells : List ℤ) → list_any (is_local_cell r c) vars ≡ false → get_or (clear_locals r vars cells) c (pos 0) ≡ get_or cells c (pos 0)
 clear-other r c [] cells e = refl
@@ -81,12 +80,10 @@ module _ (k : Epoch) (s i : ℕ) (earlier : List Past) (cells : List ℤ) where
 
   -- a sequential stage's memory with its body locals cleared is what it sees when the next iteration starts
   pub sees_next : is_replicated plan s ≡ false → Cleared program plan base → AllBefore (suc i) earlier → Sees k s i earlier cells → Sees k s (suc i) earlier (cleared k cells)
-  sees_next seq clean before sees c = by (cases_Bool (is_local_at program plan c))
-    where
-      by : (is_local_at program plan c ≡ true) ⊎ (is_local_at program plan c ≡ false) → get_or (cleared k cells) c (pos 0) ≡ seen program plan base s (suc i) earlier c
-      by (inl e) = clear-at plan.region c program.vars cells (inl e) ∙ sym (clean c e)
-          ∙ sym (seen_base program plan base s (suc i) c earlier (each_map (λ b. b.iteration < suc i) _
-          (λ b l. ap (λ (u : Bool). stored_in u c b.event.effect) (lost_cover program plan s (suc i) (stage_of program plan b.event.site) b.iteration c l e) ∙ stored_none c b.event.effect) earlier before))
-      by (inr e) = clear-other plan.region c program.vars cells e ∙ sees c
-          ∙ sym (seen_alike program plan base s (suc i) s i c earlier (each_map (λ b. b.iteration < suc i) _
-          (λ b l. ap (λ (u : Bool). stored_in u c b.event.effect) (kept_cover program plan s i (stage_of program plan b.event.site) b.iteration c seq e)) earlier before))
+  sees_next seq clean before sees c = elim (cases_Bool (is_local_at program plan c)) [
+    inl e ↦ clear-at plan.region c program.vars cells (inl e) ∙ sym (clean c e)
+        ∙ sym (seen_base program plan base s (suc i) c earlier (each_map (λ b. b.iteration < suc i) _
+        (λ b l. ap (λ (u : Bool). stored_in u c b.event.effect) (lost_cover program plan s (suc i) (stage_of program plan b.event.site) b.iteration c l e) ∙ stored_none c b.event.effect) earlier before))
+    | inr e ↦ clear-other plan.region c program.vars cells e ∙ sees c
+        ∙ sym (seen_alike program plan base s (suc i) s i c earlier (each_map (λ b. b.iteration < suc i) _
+        (λ b l. ap (λ (u : Bool). stored_in u c b.event.effect) (kept_cover program plan s i (stage_of program plan b.event.site) b.iteration c seq e)) earlier before)) ]

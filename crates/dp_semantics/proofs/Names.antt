@@ -7,7 +7,7 @@ pub use Rattle.std.proofs.lemmas.List.{append_cancel_left, append-nil, get_or-re
 pub use Rattle.std.proofs.lemmas.Grind.{flat_map-append, get_or-set_at}
 pub use Rattle.std.proofs.lemmas.Option.{slice_get-get_or, slice_get_past, slice_get_within, unwrap_or-slice_get}
 pub use Rattle.std.proofs.lemmas.List.Sums.{sum_by-cons, sum_by-set}
-pub use Rattle.std.proofs.Math.Seq.{drop-append_seam, take-append_seam}
+pub use Rattle.std.proofs.Math.Seq.{get_or-append_seam, drop-append_seam, take-append_seam}
 pub use Rattle.std.proofs.lemmas.List.Kept.{AllPairs-cons, AllPairs-filter}
 pub use Rattle.std.proofs.lemmas.List.Folds.{list_all-append, list_all-map, list_any-append}
 pub use Rattle.dp_base.specs.Arithmetic.{binary_result, is_zero, unary_result}

@@ -1,7 +1,7 @@
 -- A stage's part of the text against the source's: a statement that stays, and one that the stage doesn't have.
-use Rattle.dp_semantics.proofs.Names.{◌≡◌, refl, sym, ap, ◌∙◌, ℕ, ◌<◌, ◌≤◌, ◌==◌, Bool, true, false, not, ◌||◌, if◌then◌else◌, List, [], ◌∷◌, ◌++◌, ℤ, Option, Some, None, is_some, nat_le, arith, leb-true, le-leb, lt-leb, list_all, is_zero, Stmt, Row_of-Stmt, end_of-Stmt, more_of-Stmt, out-Stmt, roll-Stmt, rolls-Assign, rolls-Store, rolls-Print, rolls-If, rolls-While, Stmt-F, Assign, Store, Print, If, While, Region, Call, Program, Assume, Plan, Effect, Decided, choose, followed, site_of, value_of, Access, accesses, accesses_in, stage_of, went, goes_as, as_assumed, assumed_in, branch_of, where_reached, project, project_in, project_all, none_earlier, well_nested, well_nested_in, and_parts, flat_map-append, inl, inr, cases_Bool}
+use Rattle.dp_semantics.proofs.Names.{◌&&◌, ◌≡◌, refl, sym, ap, ◌∙◌, ℕ, ◌<◌, ◌≤◌, ◌==◌, Bool, true, false, if◌then◌else◌, List, [], ◌∷◌, ◌++◌, ℤ, Option, Some, None, nat_le, arith, leb-true, le-leb, lt-leb, list_all, is_zero, Stmt, Row_of-Stmt, end_of-Stmt, more_of-Stmt, out-Stmt, roll-Stmt, rolls-Assign, rolls-Store, rolls-Print, rolls-If, rolls-While, Stmt-F, Assign, Store, Print, If, While, Region, Call, Program, Assume, Plan, Effect, Decided, choose, followed, site_of, value_of, Access, accesses, accesses_in, stage_of, went, goes_as, as_assumed, assumed_in, branch_of, where_reached, project, project_in, project_all, none_earlier, well_nested, well_nested_in, and_parts, flat_map-append, inl, inr, cases_Bool}
 use Rattle.dp_tree.specs.declared.Stmt.TheVariants as tree
-use Rattle.dp_semantics.proofs.Setting.{Each, each_split, each_map, all_of, Form, accesses_all, all_well, well_at, project_at, project_out}
+use Rattle.dp_semantics.proofs.Setting.{Each, each_split, each_map, all_of, Form, accesses_all, all_well, well_at, project_at, project_out, if_rule}
 
 -- the outcome that the plan assumes is the effect's
 abbrev pub AsAssumed : Plan → ℕ → Effect → Type 0
@@ -90,10 +90,7 @@ module _ (p : Program) (plan : Plan) (s : ℕ) where
   pub kept_followed : (x y : Stmt) (rest : List Stmt) (h : Stmt-F Stmt) (z : ℤ) → well_at p plan h ≡ true → project p plan s x ≡ y ∷ [] →
       followed y (project_all p plan s rest) (proj_head h) z ≡ project_all p plan s (followed x rest h z)
   kept_followed x y rest (If site cond a b) z well made = ap (λ ys. ys ++ project_all p plan s rest) (sym (project_choose z a b)) ∙ sym (project_append (choose z a b) rest)
-  kept_followed x y rest (While site cond a) z well made =
-      let again : project_all p plan s (a ++ x ∷ rest) ≡ project_all p plan s a ++ y ∷ project_all p plan s rest =
-      project_append a (x ∷ rest) ∙ ap (λ ys. project_all p plan s a ++ (ys ++ project_all p plan s rest)) made in
-      ap (λ ys. choose z ys (project_all p plan s rest)) (sym again) ∙ sym (project_choose z (a ++ x ∷ rest) rest)
+  kept_followed x y rest (While site cond a) z well made = elim (cases_Bool (is_zero z)) [ inl q ↦ rw q | inr q ↦ rw (q, project_append a (x ∷ rest), made) ]
   kept_followed x y rest (Region r site cond a) z well made = absurd (cc)
   kept_followed x y rest _ z well made = refl
 
@@ -103,22 +100,11 @@ module _ (p : Program) (plan : Plan) (s : ℕ) where
       (λ a k. let le : stage_of p plan site ≤ stage_of p plan a.site = leb-true _ _ k in omega (arith, le, h)) inner
       (all_of (λ a. nat_le (stage_of p plan site) (stage_of p plan a.site)) inner e)
 
-  same_choice : (z : ℤ) (a b : List Stmt) → a ≡ b → choose z a b ≡ b
-  same_choice z a b e = elim (cases_Bool (is_zero z)) [ inl q ↦ rw q | inr q ↦ rw q e ]
-
   -- an assumed branch is the one that is taken
   branch_taken : (o : Option Bool) (z : ℤ) (a b : List Stmt) → ((taken : Bool) → o ≡ Some taken → went taken (Decided z) ≡ true) → (o ≡ None → (a ≡ []) × (b ≡ [])) → branch_of o a b ≡ choose z a b
-  branch_taken None z a b as_told none = let empty = none refl in sym (same_choice z a b (empty.0 ∙ sym empty.1) ∙ empty.1)
-  branch_taken (Some taken) z a b as_told none = by taken (is_zero z) (as_told taken refl)
-    where
-      by : (taken t : Bool) → (if t then not taken else taken) ≡ true → (if taken then a else b) ≡ (if t then b else a)
-      by true true e = absurd (cc)
-      by true false e = refl
-      by false true e = refl
-      by false false e = absurd (cc)
-
-  unassumed : (o : Option Bool) (b : Bool) → o ≡ None → (is_some o || b) ≡ true → b ≡ true
-  unassumed o b none e = ap (λ (u : Option Bool). is_some u || b) (sym none) ∙ e
+  branch_taken None z a b told none = let empty = none refl in elim (cases_Bool (is_zero z)) [ inl q ↦ rw q (sym empty.1) | inr q ↦ rw q (sym empty.0) ]
+  branch_taken (Some true) z a b told none = elim (cases_Bool (is_zero z)) [ inl q ↦ let clash : false ≡ true = rw q at (told true refl) in absurd (cc clash) | inr q ↦ rw q ]
+  branch_taken (Some false) z a b told none = elim (cases_Bool (is_zero z)) [ inl q ↦ rw q | inr q ↦ let clash : false ≡ true = rw q at (told false refl) in absurd (cc clash) ]
 
   -- A statement of a later stage goes on unseen.
   pub unseen : (x : Stmt) (rest : List Stmt) (h : Stmt-F Stmt) (effect : Effect) → well_at p plan h ≡ true → project p plan s x ≡ project_at p plan s h → s < stage_of p plan (site_of h).0 →
@@ -128,20 +114,18 @@ module _ (p : Program) (plan : Plan) (s : ℕ) where
   unseen x rest (Store site v index e) effect well made late form told = ap (λ ys. ys ++ project_all p plan s rest) (made ∙ not_reached site.0 _ [] late)
   unseen x rest (Print site e) effect well made late form told = ap (λ ys. ys ++ project_all p plan s rest) (made ∙ not_reached site.0 _ [] late)
   unseen x rest (If site cond a b) (Decided z) well made late form told =
-      let parts = and_parts _ _ well in
+      let parts = and_parts (if_rule p plan site.0 (accesses_all a ++ accesses_all b)) (all_well p plan a && all_well p plan b) well in
       let both = and_parts _ _ parts.1 in
       ap (λ ys. ys ++ project_all p plan s rest)
       (made ∙ not_reached site.0 _ _ late ∙ branch_taken (assumed_in plan.assume site.0) z (project_all p plan s a) (project_all p plan s b) told
-      (λ none. let inner = each_split (λ (i : Access). s < stage_of p plan i.site) (accesses_all a) (accesses_all b) (later_inside site.0 _ late (unassumed (assumed_in plan.assume site.0) _ none parts.0)) in
+      (λ none. let inner = each_split (λ (i : Access). s < stage_of p plan i.site) (accesses_all a) (accesses_all b) (later_inside site.0 _ late (rw none at parts.0)) in
       (dropped_all a both.0 inner.0, dropped_all b both.1 inner.1))
       ∙ sym (project_choose z a b)) ∙ sym (project_append (choose z a b) rest)
   unseen x rest (While site cond a) (Decided z) well made late form told =
       let parts = and_parts _ _ well in
       let gone : project p plan s x ≡ [] = made ∙ not_reached site.0 _ [] late in
       let inner : project_all p plan s a ≡ [] = dropped_all a parts.1 (later_inside site.0 _ late parts.0) in
-      let again : project_all p plan s (a ++ x ∷ rest) ≡ project_all p plan s rest =
-      project_append a (x ∷ rest) ∙ ap (λ ys. ys ++ (project p plan s x ++ project_all p plan s rest)) inner ∙ ap (λ ys. ys ++ project_all p plan s rest) gone in
-      ap (λ ys. ys ++ project_all p plan s rest) gone ∙ sym (same_choice z (project_all p plan s (a ++ x ∷ rest)) (project_all p plan s rest) again) ∙ sym (project_choose z (a ++ x ∷ rest) rest)
+      elim (cases_Bool (is_zero z)) [ inl q ↦ rw (q, gone) | inr q ↦ rw (q, project_append a (x ∷ rest), inner, gone) ]
   unseen x rest (Region r site cond a) effect well made late form told = absurd (cc)
   unseen x rest (Call f line args) effect well made late form told = absurd (cc)
   unseen x rest _ effect well made late form told = absurd form

@@ -1,5 +1,5 @@
 -- The words of an event at the front of a list: what is taken for them, and what is left.
-use Rattle.dp_semantics.proofs.Names.{◌≡◌, refl, sym, ap, ◌∙◌, append_assoc, ℕ, zero, suc, ◌+◌, ◌-◌, ◌<◌, Bool, true, false, ◌&&◌, if◌then◌else◌, List, [], ◌∷◌, ◌++◌, ℤ, pos, length, get_or, Option, Some, None, unwrap_or, slice_get, slice_set, nat_le, nat_lt, ◌==◌, arith, eq-eqb, ne_eqb, le-leb, lt-ltb, Result, Ok, Err, unwrap_or-slice_get, get_or-set_other, get_or-set_at, Word, Stmt, Stmt-F, Assign, Store, Print, If, While, Region, Program, Plan, Load, first_cell, cell_count, Event, Effect, Stored, Printed, Decided, site_of, stage_of, is_checked, int_eq, Void, Astray, Taken, load_word, load_words, done_word, words_of, is_load_of, is_done_of, after_loads_of, is_cell_of, effect_by, taken_by, done_from, taken_from, words_in, word_list, loads_hold, and_parts, and_from}
+use Rattle.dp_semantics.proofs.Names.{◌≡◌, refl, sym, ap, ◌∙◌, append_assoc, ℕ, zero, suc, ◌+◌, ◌-◌, ◌<◌, Bool, true, false, ◌&&◌, if◌then◌else◌, List, [], ◌∷◌, ◌++◌, ℤ, pos, length, get_or, Option, Some, None, unwrap_or, slice_get, slice_set, nat_le, nat_lt, ◌==◌, arith, eq-eqb, ne_eqb, le-leb, lt-ltb, Ok, unwrap_or-slice_get, get_or-set_other, get_or-set_at, Word, Stmt, Stmt-F, Assign, Store, Print, If, While, Region, Program, Plan, Load, first_cell, cell_count, Event, Effect, Stored, Printed, Decided, site_of, stage_of, is_checked, int_eq, load_word, load_words, done_word, words_of, is_load_of, is_done_of, after_loads_of, is_cell_of, effect_by, taken_from, words_in, word_list, loads_hold, and_parts, and_from, inl, inr, cases_Bool}
 use Rattle.dp_semantics.proofs.Setting.{InVar, Form, Holds, int_same, int_eq-self}
 
 -- Lists of stages, from 1.
@@ -76,38 +76,22 @@ effect_of_word p (Region r s cond a) site (Decided value) f = refl
 effect_of_word p _ site effect f = absurd f
 
 module _ (p : Program) (plan : Plan) (event : Event) (rest : List Word) where
-  abbrev here : Bool → List Word
-  here b = ((if b then load_words event.site event.loads else []) ++ done_word event.site event.effect ∷ []) ++ rest
-
-  with_loads : here true ≡ load_words event.site event.loads ++ done_word event.site event.effect ∷ rest
-  with_loads = append_assoc (load_words event.site event.loads) (done_word event.site event.effect ∷ []) rest
-
   passed_over : after_loads_of event.site (words_of p plan event ++ rest) ≡ done_word event.site event.effect ∷ rest
-  passed_over = by (is_checked p plan event.site)
-    where
-      by : (b : Bool) → after_loads_of event.site (here b) ≡ done_word event.site event.effect ∷ rest
-      by true = ap (after_loads_of event.site) with_loads ∙ loads_pass event.site event.loads (done_word event.site event.effect) rest (done_no_load event.site event.effect)
-      by false = loads_pass event.site [] (done_word event.site event.effect) rest (done_no_load event.site event.effect)
+  passed_over = elim (cases_Bool (is_checked p plan event.site)) [
+    inl e ↦ rw (e, append_assoc (load_words event.site event.loads) (done_word event.site event.effect ∷ []) rest) (loads_pass event.site event.loads (done_word event.site event.effect) rest (done_no_load event.site event.effect))
+    | inr e ↦ rw e (loads_pass event.site [] (done_word event.site event.effect) rest (done_no_load event.site event.effect)) ]
 
   -- the event is taken
   pub taken_event : (head : Stmt-F Stmt) → event.site ≡ (site_of head).0 → effect_by p head (done_word event.site event.effect) ≡ Some event.effect → taken_from p head (words_of p plan event ++ rest) ≡ Ok (record { effect = event.effect; rest = rest })
-  taken_event head at by_word =
-      ap (λ (site : ℕ). done_from p head (after_loads_of site (words_of p plan event ++ rest))) (sym at)
-      ∙ ap (done_from p head) passed_over
-      ∙ ap chosen (ap (λ (site : ℕ). is_done_of site (done_word event.site event.effect)) (sym at) ∙ done_here event.site event.effect)
-      ∙ ap (taken_by (site_of head).0 (done_word event.site event.effect) rest) by_word
-    where
-      chosen : Bool → Result Taken Void
-      chosen b = if b then taken_by (site_of head).0 (done_word event.site event.effect) rest (effect_by p head (done_word event.site event.effect))
-          else Err (Astray (site_of head).0 (Some (done_word event.site event.effect)))
+  taken_event head at by_word = rw (← at, passed_over, ← at, eq-eqb event.site event.site refl, by_word)
 
   -- its loads are compared where its site is checked
   pub event_passes : (cells : List ℤ) → (is_checked p plan event.site ≡ true → Holds cells event.loads) → loads_hold event.site cells (words_of p plan event ++ rest) ≡ true
-  event_passes cells h = by (is_checked p plan event.site) h
-    where
-      by : (b : Bool) → (b ≡ true → Holds cells event.loads) → loads_hold event.site cells (here b) ≡ true
-      by true g = ap (loads_hold event.site cells) with_loads ∙ loads_compared event.site cells event.loads (done_word event.site event.effect) rest (done_no_load event.site event.effect) (g refl)
-      by false g = loads_compared event.site cells [] (done_word event.site event.effect) rest (done_no_load event.site event.effect) tt
+  event_passes cells h = elim (cases_Bool (is_checked p plan event.site)) [
+    inl e ↦ rw (e, append_assoc (load_words event.site event.loads) (done_word event.site event.effect ∷ []) rest)
+        (loads_compared event.site cells event.loads (done_word event.site event.effect) rest (done_no_load event.site event.effect) (h e))
+    | inr e ↦ rw e (loads_compared event.site cells [] (done_word event.site event.effect) rest (done_no_load event.site event.effect) tt) ]
 
   pub event_held : (cells : List ℤ) → loads_hold event.site cells (words_of p plan event ++ rest) ≡ true → is_checked p plan event.site ≡ true → Holds cells event.loads
-  event_held cells e checked = loads_held event.site cells event.loads (done_word event.site event.effect) rest (sym (ap (λ (b : Bool). loads_hold event.site cells (here b)) checked ∙ ap (loads_hold event.site cells) with_loads) ∙ e)
+  event_held cells e checked = loads_held event.site cells event.loads (done_word event.site event.effect) rest
+      (rw (checked, append_assoc (load_words event.site event.loads) (done_word event.site event.effect ∷ []) rest) at e)

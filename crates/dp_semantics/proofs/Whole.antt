@@ -1,5 +1,5 @@
 -- A whole iteration: the turns of the stages, and the judgement on their words.
-use Rattle.dp_semantics.proofs.Names.{◌≡◌, refl, sym, ap, ◌∙◌, subst, ℕ, suc, ◌+◌, ◌-◌, ◌<◌, ◌≤◌, Bool, true, false, ◌&&◌, ◌||◌, List, [], ◌∷◌, ◌++◌, ℤ, length, map, nat_le, arith, sum_by, le-leb, is_some, Ok, append-nil, list_all, Word, Stmt, outs-If, Region, Program, Plan, Event, Access, stage_of, region_statement, Past, all_agree, event_as_assumed, pushed, assumed_in, project_all, word_list, Turn, TurnEnd, Ended, turn_at, turn_from, turn_begin, stage_run, Epoch, Agreed, Clean, judge_lists, last, none_earlier, well_nested, effect_in, and_from}
+use Rattle.dp_semantics.proofs.Names.{◌≡◌, refl, sym, ap, ◌∙◌, subst, ℕ, suc, ◌+◌, ◌-◌, ◌<◌, ◌≤◌, Bool, true, false, ◌&&◌, List, [], ◌∷◌, ◌++◌, ℤ, length, map, nat_le, arith, sum_by, le-leb, is_some, Ok, append-nil, list_all, Word, Stmt, outs-If, Region, Program, Plan, Event, Access, stage_of, region_statement, Past, all_agree, event_as_assumed, pushed, assumed_in, project_all, word_list, Turn, TurnEnd, Ended, turn_at, turn_from, turn_begin, stage_run, Epoch, Agreed, Clean, judge_lists, last, none_earlier, well_nested, effect_in, and_from, or-true}
 pub use Rattle.dp_semantics.proofs.Memory.{AllBefore, pushed_before, before_later, Cleared, sees_next, sees_replicated, clear-length, clear-at}
 pub use Rattle.dp_semantics.proofs.Lockstep.{words_through, closing_after, stands_after, Goes, stays, goes, lockstep, Through}
 use Rattle.dp_tree.specs.declared.Stmt.TheVariants as tree
@@ -31,14 +31,12 @@ module _ {p : Program} {plan : Plan} (a : Accepted p plan) where
       (well_out p plan (tree.If a.site a.cond a.body []) ∙ ap (well_at p plan) (outs-If a.site a.cond a.body [])
       ∙ and_from (if_rule p plan a.site.0 (accesses_all a.body ++ [])) (all_well p plan a.body && true) ruled (and_from (all_well p plan a.body) true a.well refl)) refl
     where
-      or_true : (b c : Bool) → c ≡ true → (b || c) ≡ true
-      or_true true c e = refl
-      or_true false c e = e
+      early : none_earlier p plan a.site.0 (accesses_all a.body ++ []) ≡ true
+      early = all_make (λ u. nat_le (stage_of p plan a.site.0) (stage_of p plan u.site)) (accesses_all a.body ++ [])
+          (each_map (Sound p plan) (λ u. nat_le (stage_of p plan a.site.0) (stage_of p plan u.site) ≡ true) (λ u s. le-leb _ _ (omega (arith, one_first, s.staged))) (accesses_all a.body ++ []) sound_parts.1)
 
       ruled : if_rule p plan a.site.0 (accesses_all a.body ++ []) ≡ true
-      ruled = or_true (is_some (assumed_in plan.assume a.site.0)) (none_earlier p plan a.site.0 (accesses_all a.body ++ []))
-          (all_make (λ u. nat_le (stage_of p plan a.site.0) (stage_of p plan u.site)) (accesses_all a.body ++ [])
-          (each_map (Sound p plan) (λ u. nat_le (stage_of p plan a.site.0) (stage_of p plan u.site) ≡ true) (λ u s. le-leb _ _ (omega (arith, one_first, s.staged))) (accesses_all a.body ++ []) sound_parts.1))
+      ruled = rw early (or-true (is_some (assumed_in plan.assume a.site.0)))
 
   -- a stage's program of the region is its part of one iteration
   turn_program : (s : ℕ) → 0 < s → project_all p plan s (region_statement p plan) ≡ project_all p plan s (turn_of a)
