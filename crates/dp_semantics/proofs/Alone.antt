@@ -1,7 +1,7 @@
 -- The events of a region's iterations are at the region's sites, where it stands alone among the statements of `main`.
 use Rattle.dp_semantics.proofs.Names.{◌≡◌, refl, sym, ap, ◌∙◌, subst, ℕ, zero, suc, ◌-◌, Bool, true, false, if◌then◌else◌, List, [], ◌∷◌, ◌++◌, ℤ, take, filter, Option, Some, None, slice_get, arith, both_ways, Program, Stmt, out-Stmt, Stmt-F, Assign, Store, Print, If, While, Region, Call, SiteId, Expr, Event, Config, Step, Finished, Faulted, Stepped, Run, run_of, run_by, is_zero, followed, value_of, stored, standing, step, cleared_at, is_region, stands_at_head, places, Access, accesses, is_free, and_parts, followed-append}
 use Rattle.dp_semantics.proofs.Setting.{size, Each, each_split, accesses_all, accesses_at, accesses_out, head_access, all_free, followed_has}
-use Rattle.dp_semantics.proofs.Placed.{At, free_next, not_at_head, is_step, run_step, Leads, step_leads, run_first}
+use Rattle.dp_semantics.proofs.Placed.{first_place, At, free_next, not_at_head, is_step, run_step, Leads, step_leads, run_first}
 use Rattle.dp_semantics.proofs.Stepping.{each_joins, each_parts}
 
 -- an element that a filter finds passes the test
@@ -142,10 +142,6 @@ module _ {p : Program} {r : ℕ} {Q : Access → Type 0} (l : Lone p r Q) (input
           let here : y ≡ x = cc in absurd (both_ways (is_region r (out-Stmt x)) (not_at_head r x (ap (is_free r) (sym here) ∙ (and_parts (is_free r y) (all_free r inner) w).0)) head)
       by (x ∷ rest) (inside inner e q) is head = (inner, cells, is ∙ ap (λ (ys : List Stmt). standing p ys cells) e, q)
 
-  first_place : (n : ℕ) (cs : List Config) (c : Config) → slice_get cs 0 ≡ Some c → stands_at_head r c ≡ true → slice_get (places (stands_at_head r) n cs) 0 ≡ Some n
-  first_place n [] c e t = absurd (cc)
-  first_place n (d ∷ cs) c e t = let same : d ≡ c = cc in ap (λ (b : Bool). slice_get (if b then n ∷ places (stands_at_head r) (suc n) cs else places (stands_at_head r) (suc n) cs) 0) (ap (stands_at_head r) same ∙ t)
-
   pub site_of_step : (x : Stmt) (rest inner : List Stmt) (cells : List ℤ) (event : Event) (next : Config) → Leads p input x rest cells (Stepped event next) → Each Q (accesses x) → AtSite Q event
   site_of_step x rest inner cells event next leads q =
       (head_access (out-Stmt x), ap (λ (e : Event). e.site) (sym leads.2), own_fact Q (out-Stmt x) leads.3 (subst (λ (xs : List Access). Each Q xs) (accesses_out x) q))
@@ -155,7 +151,7 @@ module _ {p : Program} {r : ℕ} {Q : Access → Type 0} (l : Lone p r Q) (input
 
   at_once : (n m : ℕ) (inner : List Stmt) (cells : List ℤ) → stands_at_head r (standing p (inner ++ behind) cells) ≡ true → Till n m inner cells
   at_once n m inner cells t =
-      subst (λ (o : Option ℕ). Sites (upto n o (run_of p input m (standing p (inner ++ behind) cells)).trace)) (sym (first_place n (run_of p input m (standing p (inner ++ behind) cells)).configs _ (run_first p input m (standing p (inner ++ behind) cells)) t))
+      subst (λ (o : Option ℕ). Sites (upto n o (run_of p input m (standing p (inner ++ behind) cells)).trace)) (sym (first_place (stands_at_head r) n (run_of p input m (standing p (inner ++ behind) cells)).configs _ (run_first p input m (standing p (inner ++ behind) cells)) t))
       (let none : n - n ≡ 0 = omega arith in subst (λ (d : ℕ). Sites (take d (run_of p input m (standing p (inner ++ behind) cells)).trace)) (sym none) tt)
 
   none_run : (n : ℕ) (inner : List Stmt) (cells : List ℤ) → Till n 0 inner cells

@@ -1,5 +1,5 @@
 -- The central theorem: the judgement on an epoch's packet is Clean exactly where the iteration is clean.
-use Rattle.dp_semantics.proofs.Names.{◌≡◌, inl, inr, refl, sym, ap, ◌∙◌, subst, ℕ, zero, suc, ◌+◌, ◌-◌, ◌<◌, ◌≤◌, Bool, true, false, ◌&&◌, ◌||◌, if◌then◌else◌, List, [], ◌++◌, ℤ, length, length-append, get_or, map, Option, Some, is_some, slice_get, arith, le-leb, append-nil, slice_get_within, slice_get-get_or, both_ways, lt-leb, list_all, Stmt, Program, Plan, Config, Event, Step, Finished, Faulted, Stepped, clear_locals, step, Run, run_of, run_by, begin, starts, start, iteration, is_closing, has_ended, memory_after, Past, all_agree, event_as_assumed, fits_words, pushed, events_since, is_clean, word_list, Epoch, Packet, passed, Agreed, Clean, judge, effect_in, epoch_at, status_when, CleanSince, Judged, JudgesRightly, Follows, StoresLead}
+use Rattle.dp_semantics.proofs.Names.{◌&&◌, ◌≡◌, inl, inr, refl, sym, ap, ◌∙◌, subst, ℕ, zero, suc, ◌+◌, ◌-◌, ◌<◌, ◌≤◌, Bool, true, false, ◌||◌, List, [], ◌++◌, ℤ, length, length-append, get_or, map, Option, Some, is_some, slice_get, arith, le-leb, append-nil, slice_get_within, slice_get-get_or, both_ways, lt-leb, list_all, Stmt, Program, Plan, Config, Event, Step, Finished, Faulted, Stepped, clear_locals, step, Run, run_of, run_by, begin, starts, start, iteration, is_closing, has_ended, memory_after, Past, all_agree, event_as_assumed, fits_words, events_since, is_clean, word_list, Epoch, Packet, passed, Agreed, Clean, judge, effect_in, epoch_at, status_when, CleanSince, Judged, JudgesRightly, Follows, StoresLead, or-true, and_from, and_parts}
 use Rattle.dp_semantics.proofs.Paths as paths
 use Rattle.dp_semantics.proofs.Setting.{Accepted}
 use Rattle.dp_semantics.proofs.Whole.{turn_of, sound_parts, MadeWithin, Goes, closing_after}
@@ -10,20 +10,6 @@ use Rattle.dp_semantics.proofs.Iterations.{run, Ending, goes_on, closes, breaks,
 use Rattle.dp_semantics.proofs.Counts.{fits_each, each_fits, words_are}
 use Rattle.dp_semantics.proofs.Paths.{closing_first, goes_applied, first_of, no_more}
 
-four : (a b c d : Bool) → (a && b && c && d) ≡ true → (a ≡ true) × (b ≡ true) × (c ≡ true) × (d ≡ true)
-four true true true true e = (refl, refl, refl, refl)
-four false b c d e = absurd (cc)
-four true false c d e = absurd (cc)
-four true true false d e = absurd (cc)
-four true true true false e = absurd (cc)
-
-make_four : (a b c d : Bool) → a ≡ true → b ≡ true → c ≡ true → d ≡ true → (a && b && c && d) ≡ true
-make_four true true true true e f g h = refl
-make_four false b c d e f g h = absurd (cc)
-make_four true false c d e f g h = absurd (cc)
-make_four true true false d e f g h = absurd (cc)
-make_four true true true false e f g h = absurd (cc)
-
 numbered_is : (e n : ℕ) → numbered e n ≡ e + n
 numbered_is e zero = omega arith
 numbered_is e (suc n) = omega (arith, numbered_is e n)
@@ -31,13 +17,11 @@ numbered_is e (suc n) = omega (arith, numbered_is e n)
 -- the events since the epoch's start
 since_start : (run : Run) (r e : ℕ) → events_since run r e e ≡ []
 since_start run r zero = refl
-since_start run r (suc e) = ap (λ (b : Bool). if b then pushed e (iteration run r e) (events_since run r (suc e) e) else []) (lt-leb (suc e) e (omega arith))
+since_start run r (suc e) = rw (lt-leb (suc e) e (omega arith))
 
 since_is : (run : Run) (r e n : ℕ) → events_since run r e (numbered e n) ≡ past_at e (λ m. iteration run r (numbered e m)) n
 since_is run r e zero = since_start run r e
-since_is run r e (suc n) =
-    ap (λ (b : Bool). if b then pushed (numbered e n) (iteration run r (numbered e n)) (events_since run r e (numbered e n)) else []) (le-leb e (numbered e n) (omega (arith, numbered_is e n)))
-    ∙ ap (λ (earlier : List Past). pushed (numbered e n) (iteration run r (numbered e n)) earlier) (since_is run r e n)
+since_is run r e (suc n) = rw (le-leb e (numbered e n) (omega (arith, numbered_is e n)), since_is run r e n)
 
 -- what starts later has earlier starts
 earlier_start : (ks : List ℕ) (i j k : ℕ) → slice_get ks i ≡ Some k → j ≤ i → (m : ℕ) × (slice_get ks j ≡ Some m)
@@ -46,12 +30,7 @@ earlier_start ks i j k e h = let within = slice_get_within ks i k e in (get_or k
 fuel_is : (p : Program) (input : List ℤ) (n : ℕ) (c : Config) → (run_of p input n c).fuel ≡ n
 unfolding run_of
 fuel_is p input zero c = refl
-fuel_is p input (suc n) c = by (step p input c)
-  where
-    by : (s : Step) → (run_by (run_of p input n) (suc n) c s).fuel ≡ suc n
-    by Finished = refl
-    by (Faulted fault) = refl
-    by (Stepped event next) = refl
+fuel_is p input (suc n) c = elim (step p input c) as (λ (s : Step). (run_by (run_of p input n) (suc n) c s).fuel ≡ suc n) [ Finished ↦ refl | Faulted fault ↦ refl | Stepped event next ↦ refl ]
 
 last_status : (s : ℕ) (closing : Bool) → 0 < s → status_for s closing ≡ status_when closing
 last_status zero closing h = absurd (omega (arith, h))
@@ -81,10 +60,18 @@ module _ {p : Program} {plan : Plan} (a : Accepted p plan) (input : List ℤ) (f
     }
 
     -- what a clean iteration is
+    abbrev agrees : ℕ → Bool
+    agrees n = all_agree p plan key.base (numbered e n) (events_since source r e (numbered e n)) (iteration source r (numbered e n))
+
+    abbrev told : ℕ → Bool
+    told n = list_all (event_as_assumed plan) (iteration source r (numbered e n))
+
     parts : (n : ℕ) → is_clean p plan source e (numbered e n) ≡ true →
-        (has_ended source r (numbered e n) ≡ true) × (all_agree p plan key.base (numbered e n) (events_since source r e (numbered e n)) (iteration source r (numbered e n)) ≡ true)
-        × (list_all (event_as_assumed plan) (iteration source r (numbered e n)) ≡ true) × (fits_words p plan (iteration source r (numbered e n)) ≡ true)
-    parts n c = four (has_ended source r (numbered e n)) _ _ _ c
+        (has_ended source r (numbered e n) ≡ true) × (agrees n ≡ true) × (told n ≡ true) × (fits_words p plan (iteration source r (numbered e n)) ≡ true)
+    parts n c =
+        let one = and_parts (has_ended source r (numbered e n) && agrees n && told n) (fits_words p plan (iteration source r (numbered e n))) c in
+        let two = and_parts (has_ended source r (numbered e n) && agrees n) (told n) one.0 in
+        let three = and_parts (has_ended source r (numbered e n)) (agrees n) two.0 in (three.0, three.1, two.1, one.1)
 
     makes_of : (n k : ℕ) (q : IterationIs a input fuel (numbered e n) k) → q.after ≡ [] → is_clean p plan source e (numbered e n) ≡ true → MakesAt history n
     makes_of n k q end c = record {
@@ -136,19 +123,15 @@ module _ {p : Program} {plan : Plan} (a : Accepted p plan) (input : List ℤ) (f
           known : q.after ≡ [] → has_ended source r (numbered e n) ≡ true → is_clean p plan source e (numbered e n) ≡ true
           known end ended =
               let same : made.events ≡ iteration source r (numbered e n) = on.is ∙ ap (λ (es : List Event). iteration source r (numbered e n) ++ es) (no_more on.path end) ∙ append-nil (iteration source r (numbered e n)) in
-              make_four _ _ _ _ ended
+              and_from _ _ (and_from _ _ (and_from _ _ ended
               (ap (λ (earlier : List Past). all_agree p plan key.base (numbered e n) earlier (iteration source r (numbered e n))) (since_is source r e n)
-              ∙ ap (λ (es : List Event). all_agree p plan key.base (numbered e n) (past_at e history.events n) es) (sym same) ∙ made.makes.agree)
-              (ap (λ (es : List Event). list_all (event_as_assumed plan) es) (sym same) ∙ made.makes.told)
+              ∙ ap (λ (es : List Event). all_agree p plan key.base (numbered e n) (past_at e history.events n) es) (sym same) ∙ made.makes.agree))
+              (ap (λ (es : List Event). list_all (event_as_assumed plan) es) (sym same) ∙ made.makes.told))
               (ap (λ (es : List Event). fits_words p plan es) (sym same) ∙ each_fits p plan made.events made.makes.fits)
-
-          or_true : (b c : Bool) → c ≡ true → (b || c) ≡ true
-          or_true true c g = refl
-          or_true false c g = g
 
           by : Ending a input fuel (numbered e n) k q.left q.after q.then_cells → is_clean p plan source e (numbered e n) ≡ true
           by (goes_on end there memory within) = known end (ap (λ (t : Option ℕ). is_some t || is_closing source r (numbered e n)) there)
-          by (closes end none closing within) = known end (or_true (is_some (start source r (suc (numbered e n)))) (is_closing source r (numbered e n)) closing)
+          by (closes end none closing within) = known end (rw closing (or-true (is_some (start source r (suc (numbered e n))))))
           by (breaks x rest after unended (inl spent)) =
               let one = first_of on.path x rest after refl in
               absurd (omega (arith, spent, made.within, q.steps_are, ap length on.is, length-append (iteration source r (numbered e n)) on.more, ap length one.events_are))

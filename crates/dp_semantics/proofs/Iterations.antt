@@ -39,7 +39,7 @@ module _ {p : Program} {plan : Plan} (a : Accepted p plan) (input : List ℤ) (f
     pub next : start run r (suc i) ≡ next_start a input k left cells
 
   spotted : Each (Spotted a input) run.configs
-  spotted = all_spotted a input fuel p.main (start_cells p.vars) (before_it a.front a.main a.front_free) refl
+  spotted = all_spotted a input fuel p.main (start_cells p.vars) (before_it a.front a.main_is a.front_free) refl
 
   found_at : (i k : ℕ) → start run r i ≡ Some k → AtStart i k
   found_at i k e = record {

@@ -54,3 +54,4 @@ pub use Rattle.dp_tree.specs.declared.RegionInfo.{RegionInfo}
 pub use Rattle.dp_plan.specs.Stage.{first_site_of}
 pub use Rattle.dp_tree.proofs.Heads.{followed-append}
 unfoldable pub use Rattle.dp_tree.proofs.Heads.{opened_statement}
+pub use Rattle.dp_tree.proofs.RunLaws.{runs_by_step}

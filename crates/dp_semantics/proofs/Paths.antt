@@ -1,5 +1,5 @@
 -- The source's steps through a text: they are determined, an iteration closes by its first event, and its stores lead to its last memory.
-use Rattle.dp_semantics.proofs.Names.{◌≡◌, refl, sym, ap, ◌∙◌, subst, ℕ, Bool, true, false, ◌&&◌, ◌||◌, if◌then◌else◌, List, [], ◌∷◌, ◌++◌, ℤ, map, Some, slice_get, Ok, eq-eqb, ne_eqb, append-nil, is_zero, Stmt, out-Stmt, outs-If, Stmt-F, If, Program, Plan, WithLoads, eval, Event, Effect, Decided, choose, followed, site_of, value_of, stored, evaluated, Access, accesses, first_site, decided_zero, is_zero_at, well_nested, effect_in, applied, and_parts}
+use Rattle.dp_semantics.proofs.Names.{◌≡◌, refl, sym, ap, ◌∙◌, subst, ℕ, Bool, true, false, ◌&&◌, ◌||◌, if◌then◌else◌, List, [], ◌∷◌, ◌++◌, ℤ, map, Some, slice_get, Ok, eq-eqb, ne_eqb, append-nil, is_zero, Stmt, out-Stmt, outs-If, Stmt-F, If, Program, Plan, WithLoads, eval, Event, Effect, Decided, choose, followed, site_of, value_of, stored, evaluated, Access, accesses, first_site, decided_zero, is_zero_at, well_nested, effect_in, applied, and_parts, or-false}
 use Rattle.dp_tree.specs.declared.Stmt.TheVariants as tree
 use Rattle.dp_semantics.proofs.Setting.{Accepted, Each, each_split, head_access, accesses_all, all_well, accesses_out, well_at, well_out, followed_has, all_joins}
 use Rattle.dp_semantics.proofs.Whole.{turn_of, Goes, stays, goes, closing_after}
@@ -68,16 +68,11 @@ module _ {p : Program} {plan : Plan} (a : Accepted p plan) (input : List ℤ) wh
   abbrev Other : Access → Type 0
   Other u = u.site ≡ first_site p plan → ⊥
 
-  nothing : (b : Bool) → (b || false) ≡ b
-  nothing true = refl
-  nothing false = refl
-
   -- events at other sites than the region's condition don't close
   closing_kept : (events : List Event) → Each (λ event. (u : Access) × (u.site ≡ event.site) × Other u) events → (closing : Bool) → closing_after p plan closing events ≡ closing
   closing_kept [] other closing = refl
   closing_kept (event ∷ rest) other closing =
-      ap (λ (b : Bool). closing_after p plan (closing || (b && is_zero (value_of event.effect))) rest) (ne_eqb event.site (first_site p plan) (λ e. other.0.2 (other.0.1 ∙ e)))
-      ∙ closing_kept rest other.1 (closing || false) ∙ nothing closing
+      rw (ne_eqb event.site (first_site p plan) (λ e. other.0.2 (other.0.1 ∙ e)), or-false closing) (closing_kept rest other.1 closing)
 
   zero_first : (v : WithLoads Effect) (z : ℤ) (site : ℕ) → v.value ≡ Decided z → is_zero (value_of v.value) ≡ decided_zero (Some (record { site = site; loads = v.loads; effect = v.value }))
   zero_first v z site d = ap (λ (f : Effect). is_zero (value_of f)) d ∙ sym (ap (λ (f : Effect). decided_zero (Some (record { site = site; loads = v.loads; effect = f }))) d)

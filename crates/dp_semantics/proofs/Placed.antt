@@ -1,6 +1,6 @@
 -- Where a run stands: before the region, in an iteration with the region's statement behind, or beyond it.
-use Rattle.dp_semantics.proofs.Names.{◌≡◌, refl, sym, ap, ◌∙◌, subst, ℕ, zero, suc, Bool, true, false, not, ◌==◌, if◌then◌else◌, List, [], ◌∷◌, ◌++◌, ℤ, length, both_ways, not-true, is_zero, Stmt, Row_of-Stmt, end_of-Stmt, more_of-Stmt, out-Stmt, Stmt-F, If, While, Region, Program, Plan, Config, Step, Finished, Faulted, Stepped, followed, value_of, stored, standing, cleared_at, step, Run, run_of, is_region, stands_at_head, places, well_nested, well_nested_in, is_free, is_free_in, and_parts, and_from, followed-append}
-pub use Rattle.dp_semantics.proofs.Runs.{is_step, run_step, step_on, step_off, run_first, PlaceAt, place_at, From, run_from, Leads, step_leads}
+use Rattle.dp_semantics.proofs.Names.{◌≡◌, refl, sym, ap, ◌∙◌, subst, ℕ, zero, suc, Bool, true, false, not, ◌==◌, if◌then◌else◌, List, [], ◌∷◌, ◌++◌, ℤ, length, both_ways, not-true, is_zero, Stmt, Row_of-Stmt, end_of-Stmt, more_of-Stmt, out-Stmt, Stmt-F, If, While, Region, Program, Plan, Config, Step, Finished, Faulted, Stepped, followed, value_of, stored, standing, cleared_at, step, Run, run_of, is_region, stands_at_head, places, well_nested, well_nested_in, is_free, is_free_in, and_parts, and_from, followed-append, inl, inr, cases_Bool}
+pub use Rattle.dp_semantics.proofs.Runs.{first_place, is_step, run_step, step_on, step_off, run_first, PlaceAt, place_at, From, run_from, Leads, step_leads}
 use Rattle.dp_tree.specs.declared.Stmt.TheVariants as tree
 use Rattle.dp_semantics.proofs.Setting.{size, Accepted, Each, each_map, all_free, free_at, free_out, all_well, Parts, followed_has, all_joins}
 use Rattle.dp_semantics.proofs.Stepping.{stored-length}
@@ -80,23 +80,15 @@ module _ {p : Program} {plan : Plan} (a : Accepted p plan) where
   r = plan.region
 
   at_region : (z : ℤ) → Spot r behind (followed a.statement a.tail (out-Stmt a.statement) z)
-  at_region z = subst (λ (h : Stmt-F Stmt). Spot r behind (followed a.statement a.tail h z)) (sym a.is) (by (is_zero z))
-    where
-      by : (t : Bool) → Spot r behind (if t then a.tail else a.body ++ behind)
-      by true = beyond a.tail_free
-      by false = before_it a.body refl (free_well_all p plan r a.body a.well)
+  at_region z = elim (cases_Bool (is_zero z)) [ inl q ↦ rw (a.is, q) (beyond a.tail_free) | inr q ↦ rw (a.is, q) (before_it a.body refl (free_well_all p plan r a.body a.well)) ]
 
   pub spot_next : (x : Stmt) (rest : List Stmt) (z : ℤ) → Spot r behind (x ∷ rest) → Spot r behind (followed x rest (out-Stmt x) z)
   spot_next x rest z (beyond w) = beyond (free_next r x rest z w)
-  spot_next x rest z (before_it [] e w) =
-      let here : a.statement ≡ x = cc in
-      let more : a.tail ≡ rest = cc in
-      subst (λ (y : Stmt). Spot r behind (followed y rest (out-Stmt y) z)) here (subst (λ (ys : List Stmt). Spot r behind (followed a.statement ys (out-Stmt a.statement) z)) more (at_region z))
+  spot_next x rest z (before_it [] e w) = let here : a.statement ≡ x = cc in let more : a.tail ≡ rest = cc in rw (← here, ← more) (at_region z)
   spot_next x rest z (before_it (y ∷ inner) e w) =
       let here : y ≡ x = cc in
       let more : inner ++ behind ≡ rest = cc in
-      subst (λ (u : Stmt). Spot r behind (followed u rest (out-Stmt u) z)) here (subst (λ (ys : List Stmt). Spot r behind (followed y ys (out-Stmt y) z)) more
-      (before_it (followed y inner (out-Stmt y) z) (followed-append y inner behind (out-Stmt y) z) (free_next r y inner z w)))
+      rw (← here, ← more) (before_it (followed y inner (out-Stmt y) z) (followed-append y inner behind (out-Stmt y) z) (free_next r y inner z w))
 
   -- Each configuration of the run stands so.
   abbrev pub Spotted : List ℤ → Config → Type 0
