@@ -21,13 +21,8 @@ abbrev pub AllRunning : Epoch → ℕ → List Stmt → List Past → List (List
 AllRunning k i to_do earlier lists = (s : ℕ) → 0 < s → s < last k.plan → Running k i s to_do earlier lists
 
 -- what the judgement's tests said where it came to Clean
-record Compared (go : Judging → Judgement) (a b : Bool) (next : Judging) (verdict : Agreed) : Type 0 where
-  pub held : a ≡ true
-  pub told : b ≡ true
-  pub goes_on : go next ≡ Clean verdict
-
-compared : (go : Judging → Judgement) (a b : Bool) (next : Judging) (verdict : Agreed) → judge_by go (if a && b then Some next else None) ≡ Clean verdict → Compared go a b next verdict
-compared go true true next verdict e = record { held = refl; told = refl; goes_on = e }
+compared : (go : Judging → Judgement) (a b : Bool) (next : Judging) (verdict : Agreed) → judge_by go (if a && b then Some next else None) ≡ Clean verdict → (a ≡ true) × (b ≡ true) × (go next ≡ Clean verdict)
+compared go true true next verdict e = (refl, refl, e)
 compared go true false next verdict e = absurd (cc)
 compared go false b next verdict e = absurd (cc)
 
@@ -125,9 +120,6 @@ pub record Agreeing (k : Epoch) (i : ℕ) (to_do : List Stmt) (earlier : List Pa
   pub fits : (s : ℕ) (low : 0 < s) (high : s < last k.plan) → length ((all s low high).turn.own ++ words_through k.program k.plan s events) ≤ k.plan.words
   pub within : length events ≤ n
 
-fits_step : (room : ℕ) (own a b mine : List Word) → mine ≡ own ++ a → length (mine ++ b) ≤ room → length (own ++ (a ++ b)) ≤ room
-fits_step room own a b mine e h = subst (λ (ws : List Word). length ws ≤ room) (ap (λ ws. ws ++ b) e ∙ append_assoc own a b) h
-
 module _ {k : Epoch} (ok : Fit k) {i : ℕ} where
   open k use {program, plan, input, base}
 
@@ -149,18 +141,18 @@ module _ {k : Epoch} (ok : Fit k) {i : ℕ} where
       let form = form_of ok at q.turn.cells next.v next.gave in
       let tests = compared (judge_from program plan n) (held ok at j b next.v form next.more next.front) (event_as_assumed plan (event_of (out-Stmt x) next.v)) (judged_next ok at j b next.v form next.more next.front) verdict
       (sym (judge_turn ok at j b next.v form next.more next.front n) ∙ e) in
-      let gave = source_does ok at q.turn.cells q.in_step.sees next.v next.gave (λ checked. held_here ok at j b next.v form next.more next.front next.v.loads (event_held program plan (event_of (out-Stmt x) next.v) next.more j.turn.cells tests.held checked)) in
+      let gave = source_does ok at q.turn.cells q.in_step.sees next.v next.gave (λ checked. held_here ok at j b next.v form next.more next.front next.v.loads (event_held program plan (event_of (out-Stmt x) next.v) next.more j.turn.cells tests.0 checked)) in
       let agree = event_sees ok at q.turn.cells q.in_step.sees next.v next.gave in
       let then_j = judged_next ok at j b next.v form next.more next.front in
-      let on = run_on ok at j.turn then_j.turn all next.v gave agree tests.told next.more next.front (next_moved ok at j b next.v form next.more next.front) in
+      let on = run_on ok at j.turn then_j.turn all next.v gave agree tests.1 next.more next.front (next_moved ok at j b next.v form next.more next.front) in
       let next_all : AllRunning k i (followed x rest (out-Stmt x) (value_of next.v.value)) (past_of i x next.v ∷ earlier) then_j.turn.lists = λ s low high. (on s low high).0 in
-      let later = judge_back n (followed x rest (out-Stmt x) (value_of next.v.value)) (past_of i x next.v ∷ earlier) (stored next.v.value cells) (stands_next ok at next.v gave) then_j next_all verdict (next_stands ok at j b next.v form next.more next.front) tests.goes_on in
+      let later = judge_back n (followed x rest (out-Stmt x) (value_of next.v.value)) (past_of i x next.v ∷ earlier) (stored next.v.value cells) (stands_next ok at next.v gave) then_j next_all verdict (next_stands ok at j b next.v form next.more next.front) tests.2 in
       record {
         events = event_of (out-Stmt x) next.v ∷ later.events;
         then_cells = later.then_cells;
         path = goes {events = later.events} {then_cells = later.then_cells} gave later.path;
         agree = and_from (event_agrees program plan base i earlier (event_of (out-Stmt x) next.v)) (all_agree program plan base i (past_of i x next.v ∷ earlier) later.events) agree later.agree;
-        told = and_from (event_as_assumed plan (event_of (out-Stmt x) next.v)) (list_all (event_as_assumed plan) later.events) tests.told later.told;
-        fits = λ s low high. fits_step plan.words (all s low high).turn.own (words_for program plan s (event_of (out-Stmt x) next.v)) (words_through program plan s later.events) (on s low high).0.turn.own (on s low high).1 (later.fits s low high);
+        told = and_from (event_as_assumed plan (event_of (out-Stmt x) next.v)) (list_all (event_as_assumed plan) later.events) tests.1 later.told;
+        fits = λ s low high. rw (← (append_assoc (all s low high).turn.own (words_for program plan s (event_of (out-Stmt x) next.v)) (words_through program plan s later.events)), ← (on s low high).1) (later.fits s low high);
         within = omega (arith, later.within);
       }

@@ -21,8 +21,9 @@ load_words-length site (l ∷ rest) = ap (λ (n : ℕ). suc n) (load_words-lengt
 module _ (p : Program) (plan : Plan) where
   event_words-length : (event : Event) → length (words_of p plan event) ≡ event_words p plan event
   event_words-length event = elim (cases_Bool (is_checked p plan event.site)) [
-    inl e ↦ rw e (omega (arith, length-append (load_words event.site event.loads) (done_word event.site event.effect ∷ []), load_words-length event.site event.loads))
-    | inr e ↦ rw e ]
+    | inl e ↦ rw e (omega (arith, length-append (load_words event.site event.loads) (done_word event.site event.effect ∷ []), load_words-length event.site event.loads))
+    | inr e ↦ rw e
+  ]
 
   words_for-length : (s : ℕ) (event : Event) → length (words_for p plan s event) ≡ words_at p plan s event
   words_for-length s event = elim (cases_Bool (stage_of p plan event.site == s)) [ inl e ↦ rw e (event_words-length event) | inr e ↦ rw e ]

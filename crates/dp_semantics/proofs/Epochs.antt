@@ -81,9 +81,8 @@ module _ {k : Epoch} (h : History k) where
     pub status : packet.status ≡ status_for s (closing_after program plan false (events n))
 
   -- a stage's memory after the iteration
-  pub record After (s n : ℕ) (cells : List ℤ) : Type 0 where
-    pub sees : Sees k s (number n) (past (suc n)) cells
-    pub size_is : length cells ≡ size program
+  abbrev After : ℕ → ℕ → List ℤ → Type 0
+  After s n cells = Fresh ok (number n) (past (suc n)) s cells
 
   -- the turns of the stages up to s came to their ends, and these are their words
   pub record Ends (s n : ℕ) (lists : List (List Word)) : Type 0 where
@@ -111,9 +110,10 @@ module _ {k : Epoch} (h : History k) where
       sent = record {
         count = length-append came.lists (words_through program plan (suc s) (events n) ∷ []) ∙ added;
         words = λ t low up. elim (cases_order t (suc s)) [
-          inl e ↦ word_list-last came.lists (words_through program plan (suc s) (events n)) t (omega (arith, e, sent.count)) ∙ ap (λ (u : ℕ). words_through program plan u (events n)) (sym e)
+          | inl e ↦ word_list-last came.lists (words_through program plan (suc s) (events n)) t (omega (arith, e, sent.count)) ∙ ap (λ (u : ℕ). words_through program plan u (events n)) (sym e)
           | inr (inl e) ↦ word_list-early came.lists (words_through program plan (suc s) (events n)) t low (omega (arith, e, sent.count)) ∙ sent.words t low e
-          | inr (inr e) ↦ absurd (omega (arith, up, e)) ];
+          | inr (inr e) ↦ absurd (omega (arith, up, e))
+        ];
         status = ap (λ (status : Status). status_of status (closing_after program plan false (events n))) sent.status ∙ status_next s (closing_after program plan false (events n));
       };
       after = record { sees = whole.sees; size_is = whole.size_is };
@@ -148,7 +148,7 @@ module _ {k : Epoch} (h : History k) where
 
         by_turn : (u : ℕ) → 0 < u → u < suc (suc s) → TurnEnds ok (number n) (past n) u (word_list (came.lists ++ left.ended.own ∷ []))
         by_turn u low up = elim (cases_order u (suc s)) [
-          inl e ↦ rw e (record {
+          | inl e ↦ rw e (record {
             mine = before;
             lists = came.lists;
             ended = left.ended;
@@ -168,7 +168,8 @@ module _ {k : Epoch} (h : History k) where
             ends = q.ends;
             words_are = q.words_are ∙ old u low e;
           }
-          | inr (inr e) ↦ absurd (omega (arith, up, e)) ]
+          | inr (inr e) ↦ absurd (omega (arith, up, e))
+        ]
 
     ran : (MakesAt n → Sent s n came) → (live came.status ≡ true → Ends s n came.lists) → Claim (suc s) n (run_on k (suc s) before came)
     ran sent ends = record {

@@ -65,37 +65,40 @@ module _ (p : Program) (plan : Plan) where
   none_found (x ∷ rest) e q =
       let parts = and_parts (region_alone plan.region x) (list_all (region_alone plan.region) rest) q in
       elim (cases_Bool (is_region_at plan.region x)) [
-        inl is ↦ let clash : x ∷ filter (is_region_at plan.region) rest ≡ [] = rw is at e in absurd (cc clash)
-        | inr is ↦ and_from (is_free plan.region x) (all_free plan.region rest) (rw is at parts.0) (none_found rest (rw is at e) parts.1) ]
+        | inl is ↦ let clash : x ∷ filter (is_region_at plan.region) rest ≡ [] = rw is at e in absurd (cc clash)
+        | inr is ↦ and_from (is_free plan.region x) (all_free plan.region rest) (rw is at parts.0) (none_found rest (rw is at e) parts.1)
+      ]
 
   pub split_of : (main : List Stmt) (s : Stmt) → filter (is_region_at plan.region) main ≡ s ∷ [] → list_all (region_alone plan.region) main ≡ true → Split plan.region main s
   split_of [] s e q = absurd (cc)
   split_of (x ∷ rest) s e q =
       let parts = and_parts (region_alone plan.region x) (list_all (region_alone plan.region) rest) q in
       elim (cases_Bool (is_region_at plan.region x)) [
-        inl is ↦
-          let found : x ∷ filter (is_region_at plan.region) rest ≡ s ∷ [] = rw is at e in
-          let same : x ≡ s = cc found in
-          let none : filter (is_region_at plan.region) rest ≡ [] = cc found in
-          record { front = []; tail = rest; main_is = ap (λ (y : Stmt). y ∷ rest) same; front_free = refl; tail_free = none_found rest none parts.1 }
+        | inl is ↦
+            let found : x ∷ filter (is_region_at plan.region) rest ≡ s ∷ [] = rw is at e in
+            let same : x ≡ s = cc found in
+            let none : filter (is_region_at plan.region) rest ≡ [] = cc found in
+            record { front = []; tail = rest; main_is = ap (λ (y : Stmt). y ∷ rest) same; front_free = refl; tail_free = none_found rest none parts.1 }
         | inr is ↦ let later = split_of rest s (rw is at e) parts.1 in record {
           front = x ∷ later.front;
           tail = later.tail;
           main_is = ap (λ (ys : List Stmt). x ∷ ys) later.main_is;
           front_free = and_from (is_free plan.region x) (all_free plan.region later.front) (rw is at parts.0) later.front_free;
           tail_free = later.tail_free;
-        } ]
+        }
+      ]
 
   -- The kinds of the stages.
   apart_at : kinds_fit plan ≡ true → (s : ℕ) → is_replicated plan (suc s) ≡ true → is_replicated plan s ≡ false
   apart_at e zero rep = refl
   apart_at e (suc s) rep = elim (cases_lt (suc s) (length plan.stages)) [
-    inl h ↦
-      let next : suc s + 1 ≡ suc (suc s) = omega arith in
-      let kinds = and_parts (not (is_replicated plan 1)) (list_all (kinds_apart plan) (count_from 1 (length plan.stages))) e in
-      let apart = all_count (kinds_apart plan) (length plan.stages) 1 (suc s) kinds.1 (omega arith) (omega (arith, h)) in
-      not-true (is_replicated plan (suc s)) (rw (next, rep, and-true (is_replicated plan (suc s))) at apart)
-    | inr h ↦ absurd (both_ways (is_replicated plan (suc (suc s))) (ap is_par (slice_get_past plan.stages (suc s) h)) rep) ]
+    | inl h ↦
+        let next : suc s + 1 ≡ suc (suc s) = omega arith in
+        let kinds = and_parts (not (is_replicated plan 1)) (list_all (kinds_apart plan) (count_from 1 (length plan.stages))) e in
+        let apart = all_count (kinds_apart plan) (length plan.stages) 1 (suc s) kinds.1 (omega arith) (omega (arith, h)) in
+        not-true (is_replicated plan (suc s)) (rw (next, rep, and-true (is_replicated plan (suc s))) at apart)
+    | inr h ↦ absurd (both_ways (is_replicated plan (suc (suc s))) (ap is_par (slice_get_past plan.stages (suc s) h)) rep)
+  ]
 
   -- What passes the test is what the theorem asks.
   pub accepted : fits_plan p plan ≡ true → Accepted p plan

@@ -53,8 +53,9 @@ module _ (r : ℕ) where
       let a = head_of k v vars e in
       let none = none_below vars (k + v.length) c a.tail (omega (arith, h.1, a.first)) in
       elim (cases_Bool (is_local_of r v.scope)) [
-        inl l ↦ let one : v.length ≡ 1 = eqb-true v.length 1 (rw l at a.single) in rw (l, eq-eqb v.first.0 c (omega (arith, h.0, h.1, one)))
-        | inr l ↦ rw l none ]
+        | inl l ↦ let one : v.length ≡ 1 = eqb-true v.length 1 (rw l at a.single) in rw (l, eq-eqb v.first.0 c (omega (arith, h.0, h.1, one)))
+        | inr l ↦ rw l none
+      ]
   lies_local (v ∷ vars) k (suc x) c e h =
       let a = head_of k v vars e in
       rw (ne_eqb v.first.0 c (λ q. omega (arith, q, a.first, a.some, (lies_within vars (k + v.length) x c a.tail h).0)), and-false (is_local_of r v.scope))

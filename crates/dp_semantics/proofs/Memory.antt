@@ -25,8 +25,9 @@ module _ (p : Program) (plan : Plan) where
 
   up_one : (t s : ℕ) → nat_lt t (suc s) ≡ (nat_lt t s || (t == s))
   up_one t s = elim (cases_lt t (suc s)) [
-    inl h ↦ lt-ltb t (suc s) h ∙ sym (up_to t s h)
-    | inr h ↦ rw (le-ltb t (suc s) h, le-ltb t s (omega (arith, h)), ne_eqb t s (λ e. omega (arith, e, h))) ]
+    | inl h ↦ lt-ltb t (suc s) h ∙ sym (up_to t s h)
+    | inr h ↦ rw (le-ltb t (suc s) h, le-ltb t s (omega (arith, h)), ne_eqb t s (λ e. omega (arith, e, h)))
+  ]
 
   -- a replicated stage sees, of the iterations before, what the sequential one before it sees
   replicated_cover : (s i t j c : ℕ) → is_replicated plan s ≡ false → is_replicated plan (suc s) ≡ true → j < i → is_covered p plan s i t j c ≡ is_covered p plan (suc s) i t j c
@@ -35,8 +36,9 @@ module _ (p : Program) (plan : Plan) where
 -- Body locals read 0 after they are cleared, and other cells are as they were.
 zero_at : (cells : List ℤ) (c d : ℕ) → d ≡ c → get_or (slice_set cells d (pos 0)) c (pos 0) ≡ pos 0
 zero_at cells c d e = elim (cases_lt c (length cells)) [
-  inl h ↦ get_or-set_at cells d c (pos 0) (pos 0) (sym e) (omega (arith, e, h))
-  | inr h ↦ get_or_past (slice_set cells d (pos 0)) c (pos 0) (omega (arith, h, length-set cells d (pos 0))) ]
+  | inl h ↦ get_or-set_at cells d c (pos 0) (pos 0) (sym e) (omega (arith, e, h))
+  | inr h ↦ get_or_past (slice_set cells d (pos 0)) c (pos 0) (omega (arith, h, length-set cells d (pos 0)))
+]
 
 -- the memory after one variable
 abbrev one_cleared : ℕ → VarInfo → List ℤ → List ℤ
@@ -58,8 +60,9 @@ clear-other r c [] cells e = refl
 clear-other r c (x ∷ xs) cells e =
     let parts = or_parts (is_local_cell r c x) (list_any (is_local_cell r c) xs) e in
     clear-other r c xs (one_cleared r x cells) parts.1 ∙ elim (cases_Bool (is_local_of r x.scope)) [
-      inl l ↦ rw l (get_or-set_other cells x.first.0 c (pos 0) (pos 0) (λ f. both_ways (x.first.0 == c) (rw l at parts.0) (eq-eqb x.first.0 c (sym f))))
-      | inr l ↦ rw l ]
+      | inl l ↦ rw l (get_or-set_other cells x.first.0 c (pos 0) (pos 0) (λ f. both_ways (x.first.0 == c) (rw l at parts.0) (eq-eqb x.first.0 c (sym f))))
+      | inr l ↦ rw l
+    ]
 
 pub clear-length : (r : ℕ) (vars : List VarInfo) (cells : List ℤ) → length (clear_locals r vars cells) ≡ length cells
 clear-length r [] cells = refl
@@ -81,9 +84,10 @@ module _ (k : Epoch) (s i : ℕ) (earlier : List Past) (cells : List ℤ) where
   -- a sequential stage's memory with its body locals cleared is what it sees when the next iteration starts
   pub sees_next : is_replicated plan s ≡ false → Cleared program plan base → AllBefore (suc i) earlier → Sees k s i earlier cells → Sees k s (suc i) earlier (cleared k cells)
   sees_next seq clean before sees c = elim (cases_Bool (is_local_at program plan c)) [
-    inl e ↦ clear-at plan.region c program.vars cells (inl e) ∙ sym (clean c e)
+    | inl e ↦ clear-at plan.region c program.vars cells (inl e) ∙ sym (clean c e)
         ∙ sym (seen_base program plan base s (suc i) c earlier (each_map (λ b. b.iteration < suc i) _
         (λ b l. ap (λ (u : Bool). stored_in u c b.event.effect) (lost_cover program plan s (suc i) (stage_of program plan b.event.site) b.iteration c l e) ∙ stored_none c b.event.effect) earlier before))
     | inr e ↦ clear-other plan.region c program.vars cells e ∙ sees c
         ∙ sym (seen_alike program plan base s (suc i) s i c earlier (each_map (λ b. b.iteration < suc i) _
-        (λ b l. ap (λ (u : Bool). stored_in u c b.event.effect) (kept_cover program plan s i (stage_of program plan b.event.site) b.iteration c seq e)) earlier before)) ]
+        (λ b l. ap (λ (u : Bool). stored_in u c b.event.effect) (kept_cover program plan s i (stage_of program plan b.event.site) b.iteration c seq e)) earlier before))
+  ]

@@ -1,5 +1,5 @@
 -- A packet after a stage: its status, its lists, and what it says of the turn.
-use Rattle.dp_semantics.proofs.Names.{◌≡◌, refl, sym, ap, ◌∙◌, ℕ, zero, suc, ◌-◌, ◌<◌, Bool, true, false, List, [], ◌∷◌, ◌++◌, ℤ, length, get_or, Ok, Err, arith, get_or_append_left, both_ways, Word, word_list, TurnEnd, Ended, stage_run, Status, Going, Closing, Broken, Packet, Epoch, status_of, passed_by, passed_on, run_on, get_or-append_seam}
+use Rattle.dp_semantics.proofs.Names.{status_when, ◌≡◌, refl, sym, ap, ◌∙◌, ℕ, zero, suc, ◌-◌, ◌<◌, Bool, true, false, List, [], ◌∷◌, ◌++◌, ℤ, length, get_or, Ok, Err, arith, get_or_append_left, both_ways, Word, word_list, TurnEnd, Ended, stage_run, Status, Going, Closing, Broken, Packet, Epoch, status_of, passed_by, passed_on, run_on, get_or-append_seam}
 use Rattle.dp_semantics.proofs.Stepping.{word_list_is}
 
 -- not void
@@ -11,8 +11,7 @@ live (Broken s why) = false
 -- the status of the packet of an iteration that agrees with the plan, after so many stages
 abbrev pub status_for : ℕ → Bool → Status
 status_for zero closing = Going
-status_for (suc s) true = Closing
-status_for (suc s) false = Going
+status_for (suc s) closing = status_when closing
 
 pub status_next : (s : ℕ) (closing : Bool) → status_of (status_for s closing) closing ≡ status_for (suc s) closing
 status_next zero true = refl

@@ -15,8 +15,9 @@ assumed_of plan site effect = all plan.assume
     all [] h taken e = absurd (cc)
     all (a ∷ rest) h taken e =
         let parts = and_parts (goes_as site effect a) (list_all (goes_as site effect) rest) h in elim (cases_Bool (a.site.0 == site)) [
-          inl q ↦ let told : Some a.taken ≡ Some taken = rw q at e in let same : a.taken ≡ taken = cc told in rw (← same) (rw q at parts.0)
-          | inr q ↦ all rest parts.1 taken (rw q at e) ]
+          | inl q ↦ let told : Some a.taken ≡ Some taken = rw q at e in let same : a.taken ≡ taken = cc told in rw (← same) (rw q at parts.0)
+          | inr q ↦ all rest parts.1 taken (rw q at e)
+        ]
 
 module _ (p : Program) (plan : Plan) (s : ℕ) where
   -- all of these sites are of later stages

@@ -27,12 +27,14 @@ later_place test x xs n j i k skip q = record {
 pub place_at : {X : Type 0} (test : X → Bool) (xs : List X) (n i k : ℕ) → slice_get (places test n xs) i ≡ Some k → PlaceAt X test xs n i k
 place_at test [] n i k e = absurd (cc)
 place_at test (x ∷ xs) n zero k e = elim (cases_Bool (test x)) [
-  inl t ↦ let found : Some n ≡ Some k = rw t at e in let here : n ≡ k = cc found in
+  | inl t ↦ let found : Some n ≡ Some k = rw t at e in let here : n ≡ k = cc found in
       record { front = []; found = x; behind = xs; is = refl; place_is = omega (arith, here); passes = t; next = rw t (ap (λ (m : ℕ). slice_get (places test (suc m) xs) 0) here) }
-  | inr t ↦ later_place test x xs n zero zero k (rw t) (place_at test xs (suc n) zero k (rw t at e)) ]
+  | inr t ↦ later_place test x xs n zero zero k (rw t) (place_at test xs (suc n) zero k (rw t at e))
+]
 place_at test (x ∷ xs) n (suc i) k e = elim (cases_Bool (test x)) [
-  inl t ↦ later_place test x xs n (suc i) i k (rw t) (place_at test xs (suc n) i k (rw t at e))
-  | inr t ↦ later_place test x xs n (suc i) (suc i) k (rw t) (place_at test xs (suc n) (suc i) k (rw t at e)) ]
+  | inl t ↦ later_place test x xs n (suc i) i k (rw t) (place_at test xs (suc n) i k (rw t at e))
+  | inr t ↦ later_place test x xs n (suc i) (suc i) k (rw t) (place_at test xs (suc n) (suc i) k (rw t at e))
+]
 
 -- the first of all is the first place, where it passes
 pub first_place : {X : Type 0} (test : X → Bool) (n : ℕ) (xs : List X) (x : X) → slice_get xs 0 ≡ Some x → test x ≡ true → slice_get (places test n xs) 0 ≡ Some n

@@ -16,8 +16,9 @@ stored_alike c a b _ h = refl
 stored_read : (c : ℕ) (effect : Effect) (cells : List ℤ) → ((value : ℤ) → effect ≡ Stored c value → c < length cells) →
     get_or (stored effect cells) c (pos 0) ≡ unwrap_or (stored_in true c effect) (get_or cells c (pos 0))
 stored_read c (Stored d value) cells h = elim (cases_eq d c) [
-  inl e ↦ rw (eq-eqb d c e) (get_or-set_at cells d c value (pos 0) (sym e) (let low : c < length cells = h value (ap (λ (n : ℕ). Stored n value) e) in omega (arith, e, low)))
-  | inr e ↦ rw (ne_eqb d c e) (get_or-set_other cells d c value (pos 0) (λ q. e (sym q))) ]
+  | inl e ↦ rw (eq-eqb d c e) (get_or-set_at cells d c value (pos 0) (sym e) (let low : c < length cells = h value (ap (λ (n : ℕ). Stored n value) e) in omega (arith, e, low)))
+  | inr e ↦ rw (ne_eqb d c e) (get_or-set_other cells d c value (pos 0) (λ q. e (sym q)))
+]
 stored_read c _ cells h = refl
 
 pub stored-length : (effect : Effect) (cells : List ℤ) → length (stored effect cells) ≡ length cells

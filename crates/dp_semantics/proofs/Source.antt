@@ -129,19 +129,23 @@ module _ {k : Epoch} (ok : Fit k) {i : ℕ} {x : Stmt} {rest : List Stmt} {earli
     -- where the source's event agrees, the stage does the same
     pub stage_does : (v : WithLoads Effect) → Gives k cells x v → event_agrees program plan base i earlier (event_of h v) ≡ true → Gives k other x v
     stage_does v e agrees = elim (cases_Bool (is_checked program plan (site_of h).0)) [
-      inl u ↦ checked cells other v e (each_map (λ l. int_eq (seen program plan base (stage_for k x) i earlier l.cell) l.value ≡ true) (IsHeld other) (λ l q. sees l.cell ∙ int_same _ l.value q) v.loads
+      | inl u ↦ checked cells other v e (each_map (λ l. int_eq (seen program plan base (stage_for k x) i earlier l.cell) l.value ≡ true) (IsHeld other) (λ l q. sees l.cell ∙ int_same _ l.value q) v.loads
           (all_of (λ l. int_eq (seen program plan base (stage_for k x) i earlier l.cell) l.value) v.loads (rw u at agrees)))
-      | inr u ↦ unchecked cells other cell_same u v e ]
+      | inr u ↦ unchecked cells other cell_same u v e
+    ]
 
     -- and back: where its loads hold in the source's memory, if they are checked, the source does what the stage does
     pub source_does : (v : WithLoads Effect) → Gives k other x v → (is_checked program plan (site_of h).0 ≡ true → Holds cells v.loads) → Gives k cells x v
     source_does v e held = elim (cases_Bool (is_checked program plan (site_of h).0)) [
-      inl u ↦ checked other cells v e (held u) | inr u ↦ unchecked other cells (λ w c inside free. sym (cell_same w c inside free)) u v e ]
+      | inl u ↦ checked other cells v e (held u)
+      | inr u ↦ unchecked other cells (λ w c inside free. sym (cell_same w c inside free)) u v e
+    ]
 
     -- a stage's own event agrees with what it sees
     pub event_sees : (v : WithLoads Effect) → Gives k other x v → event_agrees program plan base i earlier (event_of h v) ≡ true
     event_sees v e = elim (cases_Bool (is_checked program plan (site_of h).0)) [
-      inl u ↦ rw u (all_make (λ l. int_eq (seen program plan base (stage_for k x) i earlier l.cell) l.value) v.loads
+      | inl u ↦ rw u (all_make (λ l. int_eq (seen program plan base (stage_for k x) i earlier l.cell) l.value) v.loads
           (each_map (IsHeld other) (λ l. int_eq (seen program plan base (stage_for k x) i earlier l.cell) l.value ≡ true)
           (λ l q. ap (λ (z : ℤ). int_eq z l.value) (sym (sees l.cell) ∙ q) ∙ int_eq-self l.value) v.loads (own_loads other v e)))
-      | inr u ↦ rw u ]
+      | inr u ↦ rw u
+    ]

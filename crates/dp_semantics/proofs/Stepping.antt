@@ -146,8 +146,9 @@ module _ {k : Epoch} (ok : Fit k) {i : ℕ} {x : Stmt} {rest : List Stmt} {earli
         own = sym (ap (λ ws. c.own ++ ws) (words_elsewhere program plan s (event_of (out-Stmt x) v) (λ e. omega (arith, e, before))) ∙ append-nil c.own);
         closing = closes (omega (arith, before)) v;
         lists = λ t low high. elim (cases_eq t (stage_at program plan here)) [
-          inl e ↦ rw (e, words_here program plan (stage_at program plan here) (event_of (out-Stmt x) v) (sym stage_same), word_list_same c.lists (stage_at program plan here) more low_here (omega (arith, b.wide, stage_same, before))) left_is
-          | inr e ↦ rw (words_elsewhere program plan t (event_of (out-Stmt x) v) (λ q. e (sym q ∙ sym stage_same)), word_list_other c.lists (stage_at program plan here) t more low_here low e) ];
+          | inl e ↦ rw (e, words_here program plan (stage_at program plan here) (event_of (out-Stmt x) v) (sym stage_same), word_list_same c.lists (stage_at program plan here) more low_here (omega (arith, b.wide, stage_same, before))) left_is
+          | inr e ↦ rw (words_elsewhere program plan t (event_of (out-Stmt x) v) (λ q. e (sym q ∙ sym stage_same)), word_list_other c.lists (stage_at program plan here) t more low_here low e)
+        ];
         paid = omega (arith, sum_by-set length c.lists (stage_at program plan here - 1) more [] (omega (arith, low_here, b.wide, stage_same, before)), was, some_word program plan (event_of (out-Stmt x) v));
       }
         where
@@ -183,8 +184,11 @@ module _ {k : Epoch} (ok : Fit k) {i : ℕ} {x : Stmt} {rest : List Stmt} {earli
       };
       moved = record {
         own = sym (ap (λ ws. c.own ++ ws) (words_elsewhere program plan s (event_of (out-Stmt x) v) (λ e. omega (arith, e, late))) ∙ append-nil c.own);
-        closing = rw (ne_eqb (site_of (out-Stmt x)).0 (first_site program plan)
-            (λ e. let one : stage_for k x ≡ 1 = ap (stage_of program plan) e ∙ ok.accepted.staged in omega (arith, one, late, real)), or-false c.closing);
+        closing = rw (
+          ne_eqb (site_of (out-Stmt x)).0 (first_site program plan)
+              (λ e. let one : stage_for k x ≡ 1 = ap (stage_of program plan) e ∙ ok.accepted.staged in omega (arith, one, late, real)),
+          or-false c.closing,
+        );
         lists = λ t low high. sym (ap (λ ws. ws ++ word_list c.lists t) (words_elsewhere program plan t (event_of (out-Stmt x) v) (λ e. omega (arith, e, late, high))));
         paid = omega arith;
       };
@@ -195,6 +199,7 @@ module _ {k : Epoch} (ok : Fit k) {i : ℕ} {x : Stmt} {rest : List Stmt} {earli
         length (c.own ++ words_for program plan s (event_of (out-Stmt x) v)) ≤ plan.words → (more : List Word) →
         (stage_for k x < s → word_list c.lists (stage_for k x) ≡ words_of program plan (event_of (out-Stmt x) v) ++ more) → Advanced k i s (after v) (past_of i x v ∷ earlier) (event_of (out-Stmt x) v) c
     advance v real form told gave fits more front = elim (cases_order (stage_for k x) s) [
-      inl e ↦ own_advance v e (gave e) form fits
+      | inl e ↦ own_advance v e (gave e) form fits
       | inr (inl e) ↦ consumed_advance v e form more (front e)
-      | inr (inr e) ↦ later_advance v e real form told ]
+      | inr (inr e) ↦ later_advance v e real form told
+    ]

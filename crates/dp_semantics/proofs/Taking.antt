@@ -78,8 +78,9 @@ effect_of_word p _ site effect f = absurd f
 module _ (p : Program) (plan : Plan) (event : Event) (rest : List Word) where
   passed_over : after_loads_of event.site (words_of p plan event ++ rest) ≡ done_word event.site event.effect ∷ rest
   passed_over = elim (cases_Bool (is_checked p plan event.site)) [
-    inl e ↦ rw (e, append_assoc (load_words event.site event.loads) (done_word event.site event.effect ∷ []) rest) (loads_pass event.site event.loads (done_word event.site event.effect) rest (done_no_load event.site event.effect))
-    | inr e ↦ rw e (loads_pass event.site [] (done_word event.site event.effect) rest (done_no_load event.site event.effect)) ]
+    | inl e ↦ rw (e, append_assoc (load_words event.site event.loads) (done_word event.site event.effect ∷ []) rest) (loads_pass event.site event.loads (done_word event.site event.effect) rest (done_no_load event.site event.effect))
+    | inr e ↦ rw e (loads_pass event.site [] (done_word event.site event.effect) rest (done_no_load event.site event.effect))
+  ]
 
   -- the event is taken
   pub taken_event : (head : Stmt-F Stmt) → event.site ≡ (site_of head).0 → effect_by p head (done_word event.site event.effect) ≡ Some event.effect → taken_from p head (words_of p plan event ++ rest) ≡ Ok (record { effect = event.effect; rest = rest })
@@ -88,9 +89,10 @@ module _ (p : Program) (plan : Plan) (event : Event) (rest : List Word) where
   -- its loads are compared where its site is checked
   pub event_passes : (cells : List ℤ) → (is_checked p plan event.site ≡ true → Holds cells event.loads) → loads_hold event.site cells (words_of p plan event ++ rest) ≡ true
   event_passes cells h = elim (cases_Bool (is_checked p plan event.site)) [
-    inl e ↦ rw (e, append_assoc (load_words event.site event.loads) (done_word event.site event.effect ∷ []) rest)
+    | inl e ↦ rw (e, append_assoc (load_words event.site event.loads) (done_word event.site event.effect ∷ []) rest)
         (loads_compared event.site cells event.loads (done_word event.site event.effect) rest (done_no_load event.site event.effect) (h e))
-    | inr e ↦ rw e (loads_compared event.site cells [] (done_word event.site event.effect) rest (done_no_load event.site event.effect) tt) ]
+    | inr e ↦ rw e (loads_compared event.site cells [] (done_word event.site event.effect) rest (done_no_load event.site event.effect) tt)
+  ]
 
   pub event_held : (cells : List ℤ) → loads_hold event.site cells (words_of p plan event ++ rest) ≡ true → is_checked p plan event.site ≡ true → Holds cells event.loads
   event_held cells e checked = loads_held event.site cells event.loads (done_word event.site event.effect) rest

@@ -14,7 +14,9 @@ module _ (p : Program) (plan : Plan) (input : List ℤ) (s : ℕ) where
   grows_own : (c : Turn) (y : Stmt) (ys : List Stmt) (h : Stmt-F Stmt) (r : Evaluated Effect) → GrowsBy c (own_step p plan c y ys h r)
   grows_own c y ys h (Err kind) = tt
   grows_own c y ys h (Ok v) = elim (cases_Bool (nat_le (length (c.own ++ words_of p plan (event_of h v))) plan.words)) [
-    inl e ↦ rw e (words_of p plan (event_of h v), refl) | inr e ↦ rw e tt ]
+    | inl e ↦ rw e (words_of p plan (event_of h v), refl)
+    | inr e ↦ rw e tt
+  ]
 
   grows_consumed : (c : Turn) (y : Stmt) (ys : List Stmt) (h : Stmt-F Stmt) (r : Result Taken Void) → GrowsBy c (consumed_step p plan c y ys h r)
   grows_consumed c y ys h (Err why) = tt
@@ -22,7 +24,9 @@ module _ (p : Program) (plan : Plan) (input : List ℤ) (s : ℕ) where
 
   grows_step : (c : Turn) (y : Stmt) (ys : List Stmt) (h : Stmt-F Stmt) → GrowsBy c (turn_step p plan input s c y ys h)
   grows_step c y ys h = elim (cases_Bool (stage_at p plan h == s)) [
-    inl e ↦ rw e (grows_own c y ys h (evaluated p input c.cells h)) | inr e ↦ rw e (grows_consumed c y ys h _) ]
+    | inl e ↦ rw e (grows_own c y ys h (evaluated p input c.cells h))
+    | inr e ↦ rw e (grows_consumed c y ys h _)
+  ]
 
   -- where what follows a step grows, all does
   abbrev Growing : (Turn → TurnEnd) → Type 0
@@ -56,8 +60,9 @@ module _ (p : Program) (plan : Plan) (input : List ℤ) (s : ℕ) where
 
   own_value : (n : ℕ) (c : Turn) (y : Stmt) (ys : List Stmt) (h : Stmt-F Stmt) (e : Ended) (r : Evaluated Effect) → evaluated p input c.cells h ≡ r → turn_by (turn_from p plan input s n) (own_step p plan c y ys h r) ≡ Ok e → Own c h e
   own_value n c y ys h e (Ok v) gave q = elim (cases_Bool (nat_le (length (c.own ++ words_of p plan (event_of h v))) plan.words)) [
-    inl fits ↦ record { v = v; gave = gave; room = leb-true _ _ fits; grew = turn_grows n _ e (rw fits at q) }
-    | inr full ↦ let clash : Err Full ≡ Ok e = rw full at q in absurd (cc clash) ]
+    | inl fits ↦ record { v = v; gave = gave; room = leb-true _ _ fits; grew = turn_grows n _ e (rw fits at q) }
+    | inr full ↦ let clash : Err Full ≡ Ok e = rw full at q in absurd (cc clash)
+  ]
   own_value n c y ys h e (Err kind) gave q = absurd (cc)
 
   pub own_back : (n : ℕ) (c : Turn) (y : Stmt) (ys : List Stmt) (h : Stmt-F Stmt) (e : Ended) → c.to_do ≡ y ∷ ys → out-Stmt y ≡ h → stage_at p plan h ≡ s → turn_from p plan input s n c ≡ Ok e → Own c h e

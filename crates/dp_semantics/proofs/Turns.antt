@@ -165,8 +165,9 @@ module _ {p : Program} {plan : Plan} (a : Accepted p plan) (input : List ℤ) wh
 
   by_value : (m : ℕ) (cells : List ℤ) (u : Evaluated Effect) → condition cells ≡ u → Turned (suc m) cells
   by_value m cells (Ok v) e = let d = decided_is (eval p input (clear cells) a.cond) v e in elim (cases_Bool (is_zero d.0)) [
-    inl q ↦ closes m cells v d.0 e d.1 q
-    | inr q ↦ goes_on m cells v d.0 e d.1 q (walk p plan input (behind a) m a.body (clear cells) a.well) ]
+    | inl q ↦ closes m cells v d.0 e d.1 q
+    | inr q ↦ goes_on m cells v d.0 e d.1 q (walk p plan input (behind a) m a.body (clear cells) a.well)
+  ]
   by_value m cells (Err kind) e =
       let fault = step_off p input a.statement a.tail (clear cells) kind is_call_free (ap (evaluated p input (clear cells)) a.is ∙ e) in
       let whole = run_step p input m (start_at cells) (Faulted fault.0) (ap (step p input) (standing_is cells) ∙ fault.1) in
