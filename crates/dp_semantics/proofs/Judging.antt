@@ -72,7 +72,7 @@ module _ {k : Epoch} (ok : Fit k) {i : ℕ} where
       let event : Event = event_of (out-Stmt x) v in
       let goes_so = and_parts (event_as_assumed plan event) (list_all (event_as_assumed plan) more) told in
       let form = form_of ok at cells v e in
-      let front = front_of k (last plan) event more left j.turn has (own_site ok at).staged (own_site ok at).early in
+      let front = front_of k (last plan) (stage_for k x) event more left j.turn has refl (own_site ok at).staged (own_site ok at).early in
       let passes = and_from _ _ (event_passes program plan event _ j.turn.cells (λ checked. held_there ok at j b v form _ front v.loads (own_loads ok at cells v e))) goes_so.0 in
       let next : Judging = judged_next ok at j b v form _ front in
       let step = λ (n : ℕ). judge_turn ok at j b v form _ front n ∙ ap (λ (t : Bool). judge_by (judge_from program plan n) (if t then Some next else None)) passes in

@@ -11,7 +11,7 @@ pub use Rattle.std.proofs.Math.Seq.{get_or-append_seam, drop-append_seam, take-a
 pub use Rattle.std.proofs.lemmas.List.Kept.{AllPairs-cons, AllPairs-filter}
 pub use Rattle.std.proofs.lemmas.List.Folds.{list_all-append, list_all-map, list_any-append}
 pub use Rattle.dp_base.specs.Arithmetic.{binary_result, is_zero, unary_result}
-pub use Rattle.dp_base.specs.declared.{Fault.Fault as FaultAt, FaultKind.FaultKind, FaultKind.TheVariants.Index, SiteId.SiteId, Word.Word}
+pub use Rattle.dp_base.specs.declared.{Fault.Fault as FaultAt, FaultKind.FaultKind, SiteId.SiteId, Word.Word}
 pub use Rattle.dp_tree.specs.declared.{Assume.Assume, Expr.end_of-Expr, Expr.Expr, Expr.more_of-Expr, Program.Program, RegionInfo.RegionInfo, VarInfo.VarInfo}
 pub use Rattle.dp_tree.specs.declared.Stmt.{end_of-Stmt, more_of-Stmt, out-roll-Stmt, out-Stmt, roll-out-Stmt, roll-Stmt, Row_of-Stmt, Stmt, TheBlock.hidden-the_row-Stmt-0, TheVariants.outs-If}
 pub use Rattle.dp_tree.proofs.{Heads.followed-append, RunLaws.runs_by_step}
@@ -27,7 +27,7 @@ pub use Rattle.dp_tree.specs.declared.Stmt.TheViews.{rolls-Assign, rolls-Call, r
 pub use Rattle.dp_plan.specs.Access.{Access, accesses, first_site_of, accesses_in, first_site, is_body_local, is_checked, is_checked_access, is_local, is_par, is_region_at, is_replicated, is_same_variable, is_stored_after, is_stored_beside, loaded_by, may_differ, region_accesses, region_in, region_statement, stage_of, stores_var}
 pub use Rattle.dp_semantics.specs.Clean.{all_agree, as_assumed, count_from, event_agrees, event_as_assumed, event_words, events_since, fits_words, goes_as, int_eq, is_clean, loads_agree, pushed, went, word_count, words_at}
 pub use Rattle.dp_semantics.specs.Fits.{access_known, fits_plan, has_cell, is_inner, is_numbered, is_single, kinds_apart, kinds_fit, lies_between, lies_in_order, one_region, region_alone, region_fits, stands_alone, stores_known}
-pub use Rattle.dp_semantics.specs.Judge.{Agreed, Clean, judge, judge_at, judge_by, judge_lists, judge_spent, judge_status, judge_step, judged, judged_by, Judgement, Judging, last, loads_hold, Unclean}
+pub use Rattle.dp_semantics.specs.Judge.{Agreed, Clean, judge, judge_at, judge_by, judge_lists, judge_spent, judge_status, judge_step, judged, Judgement, Judging, last, loads_hold, Unclean}
 unfoldable pub use Rattle.dp_semantics.specs.Judge.{judge_from}
 pub use Rattle.dp_semantics.specs.Laws.{CleanInOneStage, RecoversInOrder}
 pub use Rattle.dp_semantics.specs.Nesting.{is_free, is_free_in, none_earlier, well_nested, well_nested_in}
@@ -39,5 +39,5 @@ pub use Rattle.dp_semantics.specs.Seen.{covered_value, is_covered, is_local_at, 
 pub use Rattle.dp_semantics.specs.StageRun.{consumed, consumed_step, Ended, is_zero_at, own_step, stage_at, stage_run, Turn, turn_at, turn_begin, turn_by, turn_step, turned, TurnEnd, words_left}
 unfoldable pub use Rattle.dp_semantics.specs.StageRun.{turn_from}
 pub use Rattle.dp_semantics.specs.Verdict.{applied, CleanSince, effect_in, epoch_at, Follows, Judged, JudgesEpochs, JudgesRightly, status_when, StoresLead, whole_run, words_at_stage}
-pub use Rattle.dp_semantics.specs.Words.{after_loads_of, Astray, done_from, done_word, effect_by, Full, is_cell_of, is_done_of, is_load_of, load_word, load_words, Taken, taken_by, taken_from, Void, word_list, words_in, words_of}
+pub use Rattle.dp_semantics.specs.Words.{after_loads_of, done_word, effect_by, Full, is_cell_of, is_done_of, is_load_of, load_word, load_words, Taken, taken_from, Void, word_list, words_in, words_of}
 unfoldable pub use Rattle.dp_tree.proofs.Heads.{opened_statement}

@@ -27,8 +27,7 @@ module _ {p : Program} {input : List ℤ} where
   first_of (goes {x = y} {rest = tail} {cells = cells} {v = v} {events = more} {after = after} {then_cells = then_cells} gave path) x rest is end =
       let here : y ≡ x = cc in
       let behind : tail ≡ rest = cc in
-      subst (λ (u : Stmt). First p input u rest cells (event_of (out-Stmt y) v ∷ more) after then_cells) here
-      (subst (λ (ys : List Stmt). First p input y ys cells (event_of (out-Stmt y) v ∷ more) after then_cells) behind (record { v = v; more = more; gave = gave; events_are = refl; path = path }))
+      rw (← here, ← behind) (record { v = v; more = more; gave = gave; events_are = refl; path = path })
 
   pub goes_on : {to_do : List Stmt} {cells : List ℤ} {others : List Event} {after : List Stmt} {then_cells : List ℤ} → Goes p input to_do cells others after then_cells → (events : List Event) (final_cells : List ℤ) → Goes p input to_do cells events [] final_cells →
       GoesOn p input events others after then_cells final_cells

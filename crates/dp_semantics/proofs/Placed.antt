@@ -1,5 +1,5 @@
 -- Where a run stands: before the region, in an iteration with the region's statement behind, or beyond it.
-use Rattle.dp_semantics.proofs.Names.{◌≡◌, refl, sym, ap, ◌∙◌, subst, ℕ, zero, suc, Bool, true, false, not, ◌==◌, if◌then◌else◌, List, [], ◌∷◌, ◌++◌, ℤ, length, both_ways, not-true, is_zero, Stmt, Row_of-Stmt, end_of-Stmt, more_of-Stmt, out-Stmt, Stmt-F, If, While, Region, Program, Plan, Config, Step, Finished, Faulted, Stepped, followed, value_of, stored, standing, cleared_at, step, Run, run_of, is_region, stands_at_head, places, well_nested, well_nested_in, is_free, is_free_in, and_parts, and_from, followed-append, inl, inr, cases_Bool}
+use Rattle.dp_semantics.proofs.Names.{◌≡◌, refl, sym, ap, ◌∙◌, subst, ℕ, zero, suc, Bool, true, false, not, ◌==◌, if◌then◌else◌, List, [], ◌∷◌, ◌++◌, ℤ, length, both_ways, not-true, is_zero, Stmt, Row_of-Stmt, end_of-Stmt, more_of-Stmt, out-Stmt, Stmt-F, If, While, Region, Program, Plan, Config, Step, Stepped, followed, value_of, stored, standing, cleared_at, step, Run, run_of, is_region, stands_at_head, places, well_nested, well_nested_in, is_free, is_free_in, and_parts, and_from, followed-append, inl, inr, cases_Bool}
 pub use Rattle.dp_semantics.proofs.Runs.{first_place, is_step, run_step, step_on, step_off, run_first, PlaceAt, place_at, From, run_from, Leads, step_leads}
 use Rattle.dp_tree.specs.declared.Stmt.TheVariants as tree
 use Rattle.dp_semantics.proofs.Setting.{size, Accepted, Each, each_map, all_free, free_at, free_out, all_well, Parts, followed_has, all_joins}
@@ -53,11 +53,10 @@ module _ (p : Program) (input : List ℤ) (n : ℕ) (I : List Stmt → Type 0) (
 
   next_at : (x : Stmt) (rest : List Stmt) (cells : List ℤ) → I (x ∷ rest) → length cells ≡ n → (s : Step) → Leads p input x rest cells s → (m : ℕ) (c : Config) → step p input c ≡ s → At c →
       ((to_do : List Stmt) (cells : List ℤ) → I to_do → length cells ≡ n → Each At (run_of p input m (standing p to_do cells)).configs) → Each At (run_of p input (suc m) c).configs
-  next_at x rest cells i long Finished leads m c e here go = subst (λ (run : Run). Each At run.configs) (sym (run_step p input m c Finished e)) (here, tt)
-  next_at x rest cells i long (Faulted fault) leads m c e here go = subst (λ (run : Run). Each At run.configs) (sym (run_step p input m c (Faulted fault) e)) (here, tt)
   next_at x rest cells i long (Stepped event next) leads m c e here go =
       subst (λ (run : Run). Each At run.configs) (sym (run_step p input m c (Stepped event next) e))
       (here, subst (λ (d : Config). Each At (run_of p input m d).configs) (sym leads.1) (go (followed x rest (out-Stmt x) (value_of leads.0.value)) (stored leads.0.value cells) (keeps x rest (value_of leads.0.value) i) (stored-length leads.0.value cells ∙ long)))
+  next_at x rest cells i long s leads m c e here go = subst (λ (run : Run). Each At run.configs) (sym (run_step p input m c s e)) (here, tt)
 
   pub all_at : (m : ℕ) (to_do : List Stmt) (cells : List ℤ) → I to_do → length cells ≡ n → Each At (run_of p input m (standing p to_do cells)).configs
   unfolding run_of
@@ -93,9 +92,6 @@ module _ {p : Program} {plan : Plan} (a : Accepted p plan) where
   -- Each configuration of the run stands so.
   abbrev pub Spotted : List ℤ → Config → Type 0
   Spotted input c = At p input (size p) (Spot r behind) spot_next c
-
-  pub all_spotted : (input : List ℤ) (m : ℕ) (to_do : List Stmt) (cells : List ℤ) → Spot r behind to_do → length cells ≡ size p → Each (Spotted input) (run_of p input m (standing p to_do cells)).configs
-  all_spotted input m to_do cells spot long = all_at p input (size p) (Spot r behind) spot_next m to_do cells spot long
 
   -- where the region's condition stands at the head, its statement does
   pub at_start : (input : List ℤ) (c : Config) → Spotted input c → stands_at_head r c ≡ true → (cells : List ℤ) × (c ≡ standing p behind cells) × (length cells ≡ size p)

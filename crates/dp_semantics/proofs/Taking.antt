@@ -1,5 +1,5 @@
 -- The words of an event at the front of a list: what is taken for them, and what is left.
-use Rattle.dp_semantics.proofs.Names.{◌≡◌, refl, sym, ap, ◌∙◌, append_assoc, ℕ, zero, suc, ◌+◌, ◌-◌, ◌<◌, Bool, true, false, ◌&&◌, if◌then◌else◌, List, [], ◌∷◌, ◌++◌, ℤ, pos, length, get_or, Option, Some, None, unwrap_or, slice_get, slice_set, nat_le, nat_lt, ◌==◌, arith, eq-eqb, ne_eqb, le-leb, lt-ltb, Ok, unwrap_or-slice_get, get_or-set_other, get_or-set_at, Word, Stmt, Stmt-F, Assign, Store, Print, If, While, Region, Program, Plan, Load, first_cell, cell_count, Event, Effect, Stored, Printed, Decided, site_of, stage_of, is_checked, int_eq, load_word, load_words, done_word, words_of, is_load_of, is_done_of, after_loads_of, is_cell_of, effect_by, taken_from, words_in, word_list, loads_hold, and_parts, and_from, inl, inr, cases_Bool}
+use Rattle.dp_semantics.proofs.Names.{◌≡◌, refl, sym, ap, ◌∙◌, append_assoc, ℕ, zero, suc, ◌+◌, ◌-◌, ◌<◌, Bool, true, false, ◌&&◌, if◌then◌else◌, List, [], ◌∷◌, ◌++◌, ℤ, pos, length, get_or, Option, Some, None, unwrap_or, slice_get, slice_set, nat_le, nat_lt, ◌==◌, arith, eq-eqb, ne_eqb, le-leb, lt-ltb, Ok, unwrap_or-slice_get, get_or-set_other, get_or-set_at, Word, Stmt, Stmt-F, Assign, Store, Print, If, While, Region, Program, Plan, Load, first_cell, cell_count, Event, Effect, Stored, Printed, Decided, site_of, stage_of, is_checked, int_eq, load_word, load_words, done_word, words_of, is_load_of, after_loads_of, is_cell_of, effect_by, taken_from, words_in, word_list, loads_hold, and_parts, and_from, inl, inr, cases_Bool}
 use Rattle.dp_semantics.proofs.Setting.{InVar, Form, Holds, int_same, int_eq-self}
 
 -- Lists of stages, from 1.
@@ -35,9 +35,6 @@ load_here site l = ap (λ (b : Bool). b && true) (eq-eqb site site refl)
 
 done_no_load : (site : ℕ) (effect : Effect) → is_load_of site (done_word site effect) ≡ false
 done_no_load site effect = ap (λ (b : Bool). b && false) (eq-eqb site site refl)
-
-done_here : (site : ℕ) (effect : Effect) → is_done_of site (done_word site effect) ≡ true
-done_here site effect = ap (λ (b : Bool). b && true) (eq-eqb site site refl)
 
 -- the loads at the front are passed
 loads_pass : (site : ℕ) (loads : List Load) (w : Word) (rest : List Word) → is_load_of site w ≡ false → after_loads_of site (load_words site loads ++ w ∷ rest) ≡ w ∷ rest

@@ -1,5 +1,5 @@
 -- One iteration from the region's condition on: to where the next one starts, to its closing, or to where the run ends in it.
-use Rattle.dp_semantics.proofs.Names.{◌≡◌, ◌⊎◌, inl, inr, refl, sym, ap, ◌∙◌, subst, ℕ, zero, suc, ◌+◌, ◌≤◌, Bool, true, false, if◌then◌else◌, List, [], ◌∷◌, ◌++◌, ℤ, length, Option, Some, None, slice_get, Ok, Err, arith, eq-eqb, append-nil, is_zero, FaultKind, Stmt, out-Stmt, outs-If, Stmt-F, If, Program, Plan, WithLoads, Evaluated, eval, Config, Event, Effect, Decided, Faulted, Stepped, choose, followed, value_of, stored, decided, evaluated, standing, cleared_at, clear_locals, step, Run, run_of, extended, is_region, stands_at_head, places, decided_zero, cases_Bool}
+use Rattle.dp_semantics.proofs.Names.{◌≡◌, ◌⊎◌, inl, inr, refl, ap, ◌∙◌, subst, ℕ, zero, suc, ◌+◌, ◌≤◌, Bool, true, false, if◌then◌else◌, List, [], ◌∷◌, ◌++◌, ℤ, length, Option, Some, None, slice_get, Ok, Err, arith, eq-eqb, append-nil, is_zero, FaultKind, Stmt, out-Stmt, outs-If, Stmt-F, If, Program, Plan, WithLoads, Evaluated, eval, Config, Event, Effect, Decided, Faulted, Stepped, choose, followed, value_of, stored, decided, evaluated, standing, cleared_at, clear_locals, step, Run, run_of, extended, is_region, stands_at_head, places, decided_zero, cases_Bool}
 use Rattle.dp_tree.specs.declared.Stmt.TheVariants as tree
 use Rattle.dp_semantics.proofs.Setting.{Accepted}
 use Rattle.dp_semantics.proofs.Whole.{turn_of, Goes, stays, goes}
@@ -52,14 +52,8 @@ module _ {p : Program} {plan : Plan} (a : Accepted p plan) (input : List ℤ) wh
   turn_goes : (cells : List ℤ) (v : WithLoads Effect) (z : ℤ) (events : List Event) (after : List Stmt) (then_cells : List ℤ) → decided (eval p input cells a.cond) ≡ Ok v → v.value ≡ Decided z →
       Goes p input (choose z a.body [] ++ []) cells events after then_cells → Goes p input (turn_of a) cells (event_at v ∷ events) after then_cells
   turn_goes cells v z events after then_cells e d path =
-      let here : Stmt-F Stmt = out-Stmt (tree.If a.site a.cond a.body []) in
-      let same : here ≡ If a.site a.cond a.body [] = outs-If a.site a.cond a.body [] in
-      let gave : evaluated p input cells here ≡ Ok v = ap (evaluated p input cells) same ∙ e in
-      let next : followed (tree.If a.site a.cond a.body []) [] here (value_of v.value) ≡ choose z a.body [] ++ [] =
-      ap (λ (h : Stmt-F Stmt). followed (tree.If a.site a.cond a.body []) [] h (value_of v.value)) same ∙ ap (λ (f : Effect). choose (value_of f) a.body [] ++ []) d in
-      subst (λ (h : Stmt-F Stmt). Goes p input (turn_of a) cells (event_of h v ∷ events) after then_cells) same
-      (goes gave (subst (λ (to_do : List Stmt). Goes p input to_do (stored v.value cells) events after then_cells) (sym next)
-      (subst (λ (f : Effect). Goes p input (choose z a.body [] ++ []) (stored f cells) events after then_cells) (sym d) path)))
+      let same = outs-If a.site a.cond a.body [] in
+      subst (λ (h : Stmt-F Stmt). Goes p input (turn_of a) cells (event_of h v ∷ events) after then_cells) same (goes (rw same e) (rw (same, d) path))
 
   pub standing_is : (cells : List ℤ) → start_at cells ≡ record { to_do = behind a; cells = clear cells }
   standing_is cells = ap (λ (h : Stmt-F Stmt). record { to_do = behind a; cells = cleared_at p h cells }) a.is
@@ -123,7 +117,7 @@ module _ {p : Program} {plan : Plan} (a : Accepted p plan) (input : List ℤ) wh
       after = [];
       then_cells = clear cells;
       more = (rest_from (choose z (a.body ++ behind a) a.tail)).trace;
-      path = turn_goes (clear cells) v z [] [] (clear cells) e d (subst (λ (to_do : List Stmt). Goes p input to_do (clear cells) [] [] (clear cells)) (sym (ap (λ (b : Bool). (if b then [] else a.body) ++ []) q)) stays);
+      path = turn_goes (clear cells) v z [] [] (clear cells) e d (rw q stays);
       trace_is = trace_whole;
       outcome = closed refl (λ n. next_whole n ∙ ap (λ (b : Bool). slice_get (places (stands_at_head plan.region) (suc n) (rest_from (if b then a.tail else a.body ++ behind a)).configs) 0) q
           ∙ ap (λ (ks : List ℕ). slice_get ks 0) (never p input plan.region m (suc n) a.tail (clear cells) a.tail_free)) (zero_is true q) refl (omega arith);
@@ -135,7 +129,7 @@ module _ {p : Program} {plan : Plan} (a : Accepted p plan) (input : List ℤ) wh
       after = w.after;
       then_cells = w.then_cells;
       more = (run_of p input w.left (standing p (w.after ++ behind a) w.then_cells)).trace;
-      path = turn_goes (clear cells) v z w.events w.after w.then_cells e d (subst (λ (to_do : List Stmt). Goes p input to_do (clear cells) w.events w.after w.then_cells) (sym (ap (λ (b : Bool). (if b then [] else a.body) ++ []) q ∙ append-nil a.body)) w.path);
+      path = turn_goes (clear cells) v z w.events w.after w.then_cells e d (rw (q, append-nil a.body) w.path);
       trace_is = trace_whole ∙ ap (λ (es : List Event). event_at v ∷ es) (ap (λ (run : Run). run.trace) opened ∙ w.trace_is);
       outcome = by w.ending;
     }
