@@ -1,6 +1,6 @@
 -- From the test of a program and a plan to what the central theorem asks, and the theorem itself.
 use Rattle.dp_semantics.proofs.Names.{◌≡◌, inl, inr, refl, ap, ℕ, zero, suc, ◌+◌, ◌<◌, ◌≤◌, ◌==◌, Bool, true, false, not, if◌then◌else◌, List, [], ◌∷◌, length, Option, Some, None, nat_lt, nat_le, filter, arith, ltb-true, leb-true, eqb-true, eq-eqb, slice_get_past, cases_eq, cases_lt, both_ways, not-true, list_all, flat_map, Stmt, out-Stmt, Stmt-F, Region, Program, Plan, cell_count, Run, Access, accesses, first_site, stage_of, is_par, is_replicated, is_region_at, region_statement, region_accesses, count_from, is_clean, epoch, well_nested, is_free, lies_in_order, has_cell, stores_known, access_known, is_inner, region_fits, one_region, region_alone, kinds_apart, kinds_fit, fits_plan, whole_run, CleanSince, JudgesRightly, JudgesEpochs, StoresLead, and_parts, and_from, and-true, cases_Bool}
-use Rattle.dp_semantics.proofs.Setting.{RegionIs, Split, Listed, listed_all, Sound, Accepted, Each, each_map, all_of, Roomy, all_free}
+use Rattle.dp_semantics.proofs.Setting.{each_both, RegionIs, Split, Listed, listed_all, Sound, Accepted, Each, each_map, all_of, Roomy, all_free}
 use Rattle.dp_semantics.proofs.InOrder.{laid_of}
 use Rattle.dp_semantics.proofs.Counts.{all_count}
 use Rattle.dp_semantics.proofs.Central.{judges_rightly, stores_lead}
@@ -26,11 +26,8 @@ module _ (p : Program) (plan : Plan) where
       }
 
   sounds_of : list_all (access_known p plan) (region_accesses p plan) ≡ true → Each (Sound p plan) (region_accesses p plan)
-  sounds_of e = both (region_accesses p plan) (listed_all (region_accesses p plan)) (all_of (access_known p plan) (region_accesses p plan) e)
-    where
-      both : (all : List Access) → Each (Listed (region_accesses p plan)) all → Each (λ u. access_known p plan u ≡ true) all → Each (Sound p plan) all
-      both [] h k = tt
-      both (u ∷ rest) h k = (sound_of u h.0 k.0, both rest h.1 k.1)
+  sounds_of e = each_map _ (Sound p plan) (λ u h. sound_of u h.0 h.1) (region_accesses p plan)
+      (each_both (Listed (region_accesses p plan)) (λ u. access_known p plan u ≡ true) (region_accesses p plan) (listed_all (region_accesses p plan)) (all_of (access_known p plan) (region_accesses p plan) e))
 
   -- The region's statement.
   not_site : (u : Access) → is_inner p plan u ≡ true → u.site ≡ first_site p plan → ⊥

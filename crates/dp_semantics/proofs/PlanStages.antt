@@ -11,19 +11,13 @@ use Rattle.dp_semantics.proofs.Setting.{Each, each_map, none_of, all_make}
 -- An assumption of a site of the region is one of the plan's.
 found_assumption : (assumed : List Assume) (site : ℕ) → has site (map assumed_site assumed) ≡ true → (a : Assume) × (assumption_at assumed site ≡ Some a) × (a.site.0 ≡ site)
 found_assumption [] site e = absurd (cc)
-found_assumption (a ∷ rest) site e = by (a.site.0 == site) refl e (found_assumption rest site)
-  where
-    by : (b : Bool) → (a.site.0 == site) ≡ b → (b || has site (map assumed_site rest)) ≡ true → (has site (map assumed_site rest) ≡ true → (c : Assume) × (assumption_at rest site ≡ Some c) × (c.site.0 ≡ site)) →
-        (c : Assume) × ((if b then Some a else assumption_at rest site) ≡ Some c) × (c.site.0 ≡ site)
-    by true here e go = (a, refl, eqb-true a.site.0 site here)
-    by false off e go = go e
+found_assumption (a ∷ rest) site e = elim (cases_Bool (a.site.0 == site)) [
+  | inl here ↦ (a, rw here, eqb-true a.site.0 site here)
+  | inr off ↦ let later = found_assumption rest site (rw off at e) in (later.0, rw off later.1, later.2)
+]
 
 kept_assumption : (a : Assume) (later : List Assume) (site : ℕ) → is_some (assumed_in later site) ≡ true → is_some (assumed_in (a ∷ later) site) ≡ true
-kept_assumption a later site e = by (a.site.0 == site)
-  where
-    by : (b : Bool) → is_some (if b then Some a.taken else assumed_in later site) ≡ true
-    by true = refl
-    by false = e
+kept_assumption a later site e = elim (cases_Bool (a.site.0 == site)) [ inl here ↦ rw here | inr off ↦ rw off e ]
 
 assumed_by : (assumed : List Assume) (site : ℕ) → has site (map assumed_site assumed) ≡ true → (ns : List ℕ) → has site ns ≡ true → is_some (assumed_in (filter_map (assumption_at assumed) ns) site) ≡ true
 assumed_by assumed site e [] h = absurd (cc)

@@ -1,6 +1,6 @@
 -- What the proof assumes of a program and a plan, and what it knows of the source's stores.
 use Rattle.dp_semantics.proofs.Names.{◌≡◌, ℕ, suc, ◌<◌, Bool, true, false, List, [], ◌∷◌, ◌++◌, ℤ, length, Some, list_any, SiteId, Expr, Stmt, out-Stmt, Stmt-F, Region, Program, Plan, cell_count, Stored, start_cells, Access, stage_of, first_site, is_replicated, is_body_local, region_statement, region_accesses, Past, is_local_at, Epoch, last, or_parts}
-pub use Rattle.dp_semantics.proofs.Each.{Each, each_map, each_split, all_of, each_join, none_of, all_make, none_make}
+pub use Rattle.dp_semantics.proofs.Each.{Each, each_both, each_map, each_split, all_of, each_join, none_of, all_make, none_make}
 pub use Rattle.dp_semantics.proofs.Evaluation.{head_stores, InVar, Form, Holds, Readable, IsHeld, head_loads, Tracked, evaluated_tracks, Roomy}
 pub use Rattle.dp_semantics.proofs.Heads.{accesses_all, all_well, well_at, project_at, project_out, head_access, inside, accesses_at, accesses_out, well_out, if_rule, all_free, free_at, free_out, well_hidden}
 pub use Rattle.dp_semantics.proofs.Integers.{int_same, int_eq-self}

@@ -1,6 +1,6 @@
 -- The source within an iteration: its rest, its memory and the events so far.
-use Rattle.dp_semantics.proofs.Names.{◌≡◌, refl, sym, ap, ◌∙◌, subst, ℕ, ◌<◌, true, false, List, [], ◌∷◌, ℤ, pos, length, get_or, arith, eq-eqb, Ok, Stmt, out-Stmt, Stmt-F, Assign, Store, If, While, Region, Call, Program, Plan, Load, WithLoads, cell_count, Event, Effect, Stored, followed, site_of, value_of, stored, evaluated, Access, accesses, stage_of, may_differ, is_checked_access, is_checked, Past, seen, int_eq, event_agrees, well_nested, Epoch, last, and_parts, flat_map-append, inl, inr, Some, cases_Bool}
-use Rattle.dp_semantics.proofs.Setting.{head_stores, size, Sound, Fit, StoredBy, Known, Each, each_split, each_join, each_map, none_of, all_of, all_make, InVar, Form, Readable, Holds, IsHeld, head_loads, head_stores, Tracked, evaluated_tracks, accesses_all, all_well, head_access, inside, accesses_at, accesses_out, well_at, well_out, Joins, Parts, followed_has, all_joins, int_same, int_eq-self}
+use Rattle.dp_semantics.proofs.Names.{◌≡◌, refl, sym, ap, ◌∙◌, subst, ℕ, ◌<◌, true, false, List, ◌∷◌, ℤ, pos, length, get_or, arith, eq-eqb, Ok, Stmt, out-Stmt, Stmt-F, Assign, Store, If, While, Region, Call, Program, Plan, Load, WithLoads, cell_count, Event, Effect, Stored, followed, site_of, value_of, stored, evaluated, Access, accesses, stage_of, may_differ, is_checked_access, is_checked, Past, seen, int_eq, event_agrees, well_nested, Epoch, last, and_parts, flat_map-append, inl, inr, Some, cases_Bool}
+use Rattle.dp_semantics.proofs.Setting.{each_both, head_stores, size, Sound, Fit, StoredBy, Known, Each, each_split, each_join, each_map, none_of, all_of, all_make, InVar, Form, Readable, Holds, IsHeld, head_loads, head_stores, Tracked, evaluated_tracks, accesses_all, all_well, head_access, inside, accesses_at, accesses_out, well_at, well_out, Joins, Parts, followed_has, all_joins, int_same, int_eq-self}
 use Rattle.dp_semantics.proofs.Seeing.{seen_same, Sees, sees_stored, stored-length}
 
 -- the event of an evaluation at this head
@@ -117,11 +117,9 @@ module _ {k : Epoch} (ok : Fit k) {i : ℕ} {x : Stmt} {rest : List Stmt} {earli
     unchecked : (one two : List ℤ) → ((v c : ℕ) → InVar program v c → may_differ program plan (stage_for k x) v ≡ false → get_or two c (pos 0) ≡ get_or one c (pos 0)) →
         is_checked program plan (site_of h).0 ≡ false → (v : WithLoads Effect) → Gives k one x v → evaluated program input two h ≡ Ok v
     unchecked one two same free v e =
-        let all = evaluated_tracks program input one two (IsHeld two) h own_site.room (both (head_loads h) own_site.reads (settled free)) v e in all.same all.loads
-      where
-        both : (vs : List ℕ) → Each (λ v. 0 < cell_count program (record { 0 = v })) vs → Each (λ v. may_differ program plan (stage_for k x) v ≡ false) vs → Each (Readable program one (IsHeld two)) vs
-        both [] some free = tt
-        both (v ∷ vs) some free = ((some.0, λ c inside. same v c inside free.0), both vs some.1 free.1)
+        let all = evaluated_tracks program input one two (IsHeld two) h own_site.room (each_map _ (Readable program one (IsHeld two)) (λ v known. (known.0, λ c inside. same v c inside known.1)) (head_loads h)
+        (each_both (λ v. 0 < cell_count program (record { 0 = v })) _ (head_loads h) own_site.reads (settled free))) v e in
+        all.same all.loads
 
     checked : (one two : List ℤ) (v : WithLoads Effect) → Gives k one x v → Holds two v.loads → evaluated program input two h ≡ Ok v
     checked one two v e held = (evaluated_tracks program input one two (λ l. Unit {0}) h own_site.room (every_load one (λ l. Unit {0}) (λ x c inside. tt)) v e).same held

@@ -1,5 +1,5 @@
 -- Numbers that go up one by one, as those of a region's sites do, and how a site is found in a list.
-use Rattle.dp_semantics.proofs.Names.{◌≡◌, refl, sym, ap, ◌∙◌, subst, ℕ, zero, suc, ◌+◌, ◌<◌, ◌≤◌, ◌==◌, Bool, true, false, ◌||◌, List, [], ◌∷◌, ◌++◌, length, map, get_or, arith, eqb-true, map-append, end_of-Stmt, more_of-Stmt, Row_of-Stmt, Stmt, accesses, accesses_in}
+use Rattle.dp_semantics.proofs.Names.{◌≡◌, refl, sym, ap, ◌∙◌, subst, ℕ, zero, suc, ◌+◌, ◌<◌, ◌≤◌, ◌==◌, true, List, [], ◌∷◌, ◌++◌, length, map, get_or, arith, eqb-true, map-append, end_of-Stmt, more_of-Stmt, Row_of-Stmt, Stmt, accesses, accesses_in, inl, inr, cases_Bool}
 use Rattle.dp_tree.specs.declared.Stmt.TheVariants as tree
 use Rattle.dp_tree.specs.Numbering.{numbers_from, site_numbers, site_numbers_in}
 use Rattle.dp_plan.specs.Written.{has, site_in}
@@ -39,11 +39,10 @@ ascends_between k (n ∷ ns) h = (
 -- what holds of each element holds of a site that is one
 pub has_fact : (Q : ℕ → Type 0) (ns : List ℕ) (site : ℕ) → Each Q ns → has site ns ≡ true → Q site
 has_fact Q [] site each e = absurd (cc)
-has_fact Q (n ∷ ns) site each e = by (n == site) refl e (has_fact Q ns site each.1)
-  where
-    by : (b : Bool) → (n == site) ≡ b → (b || has site ns) ≡ true → (has site ns ≡ true → Q site) → Q site
-    by true same e go = subst Q (eqb-true n site same) each.0
-    by false other e go = go e
+has_fact Q (n ∷ ns) site each e = elim (cases_Bool (n == site)) [
+  | inl same ↦ subst Q (eqb-true n site same) each.0
+  | inr other ↦ has_fact Q ns site each.1 (rw other at e)
+]
 
 pub each_of_map : {X Y : Type 0} (Q : Y → Type 0) (f : X → Y) (xs : List X) → Each Q (map f xs) → Each (λ x. Q (f x)) xs
 each_of_map Q f [] h = tt

@@ -1,5 +1,5 @@
 -- What it says of a written plan that none of its rules is broken.
-use Rattle.dp_semantics.proofs.Names.{◌≡◌, refl, sym, ap, ◌∙◌, ℕ, zero, suc, ◌+◌, ◌<◌, ◌≤◌, ◌==◌, Bool, true, false, not, ◌&&◌, ◌||◌, if◌then◌else◌, List, [], ◌∷◌, map, length, filter, Option, Some, None, slice_get, nat_lt, arith, list_any-append, list_all, flat_map, Program, Seq, Par, StageKind, is_par, and_parts, or_parts}
+use Rattle.dp_semantics.proofs.Names.{◌≡◌, refl, sym, ap, ◌∙◌, ℕ, zero, suc, ◌+◌, ◌<◌, ◌≤◌, ◌==◌, Bool, true, false, not, ◌&&◌, ◌||◌, if◌then◌else◌, List, [], ◌∷◌, map, length, filter, Option, Some, None, slice_get, nat_lt, arith, list_any-append, list_all, flat_map, Program, Seq, Par, StageKind, is_par, and_parts, or_parts, inl, inr, and-false, cases_Bool, not-true}
 use Rattle.dp_plan.specs.Enclosing.{region_ifs, region_inner_whiles}
 use Rattle.dp_plan.specs.Rules.{comes_late, condition, condition_unless, is_late_unassumed, is_replicated_kind, least, least_site_in, lesser, second_neighbour, site_of_condition, begins_sequential}
 use Rattle.dp_plan.specs.Valid.{broken_from, first_broken, rules}
@@ -23,11 +23,10 @@ none_least (n ∷ rest) e = absurd (by n (least rest) e)
 
 none_kept : {X : Type 0} (test : X → Bool) (xs : List X) → filter test xs ≡ [] → Each (λ x. test x ≡ false) xs
 none_kept test [] e = tt
-none_kept {X} test (x ∷ xs) e = by (test x) refl e (none_kept test xs)
-  where
-    by : (b : Bool) → test x ≡ b → (if b then x ∷ filter test xs else filter test xs) ≡ [] → (filter test xs ≡ [] → Each (λ x. test x ≡ false) xs) → Each (λ x. test x ≡ false) (x ∷ xs)
-    by true t e go = absurd (cc)
-    by false t e go = (t, go e)
+none_kept test (x ∷ xs) e = elim (cases_Bool (test x)) [
+  | inl t ↦ let clash : x ∷ filter test xs ≡ [] = rw t at e in absurd (cc clash)
+  | inr t ↦ (t, none_kept test xs (rw t at e))
+]
 
 none_mapped : {X Y : Type 0} (f : X → Y) (xs : List X) → map f xs ≡ [] → xs ≡ []
 none_mapped f [] e = refl
@@ -74,12 +73,12 @@ module _ (p : Program) (w : WrittenPlan) (valid : first_broken p w ≡ None) whe
 -- The stage of a site in the written lines: where it is listed it is one of them, and elsewhere it is 0.
 pub stage_listed : (k : ℕ) (stages : List WrittenStage) (site : ℕ) → has site (flat_map sites_in stages) ≡ true → (k ≤ stage_from k stages site) × (stage_from k stages site < k + length stages)
 stage_listed k [] site e = absurd (cc)
-stage_listed k (line ∷ rest) site e = by (has site line.sites) (sym (list_any-append (λ n. n == site) line.sites (flat_map sites_in rest)) ∙ e) (stage_listed (suc k) rest site)
-  where
-    by : (b : Bool) → (b || has site (flat_map sites_in rest)) ≡ true → (has site (flat_map sites_in rest) ≡ true → (suc k ≤ stage_from (suc k) rest site) × (stage_from (suc k) rest site < suc k + length rest)) →
-        (k ≤ (if b then k else stage_from (suc k) rest site)) × ((if b then k else stage_from (suc k) rest site) < k + suc (length rest))
-    by true e go = (omega arith, omega arith)
-    by false e go = let r = go e in (omega (arith, r.0), omega (arith, r.1))
+stage_listed k (line ∷ rest) site e =
+    let here : (has site line.sites || has site (flat_map sites_in rest)) ≡ true = sym (list_any-append (λ n. n == site) line.sites (flat_map sites_in rest)) ∙ e in
+    elim (cases_Bool (has site line.sites)) [
+      | inl t ↦ rw t (omega arith, omega arith)
+      | inr t ↦ let r = stage_listed (suc k) rest site (rw t at here) in rw t (omega (arith, r.0), omega (arith, r.1))
+    ]
 
 pub stage_unlisted : (k : ℕ) (stages : List WrittenStage) (site : ℕ) → has site (flat_map sites_in stages) ≡ false → stage_from k stages site ≡ 0
 stage_unlisted k [] site e = refl
@@ -94,15 +93,7 @@ par_is Par = refl
 
 pub first_kind : (stages : List WrittenStage) → begins_sequential stages ≡ true → is_par (slice_get (map kind_in stages) 0) ≡ false
 first_kind [] e = refl
-first_kind (line ∷ rest) e = par_is line.kind ∙ by (is_replicated_kind line.kind) e
-  where
-    by : (b : Bool) → not b ≡ true → b ≡ false
-    by false e = refl
-    by true e = absurd (cc)
-
-and_off : (b : Bool) → (b && false) ≡ false
-and_off true = refl
-and_off false = refl
+first_kind (line ∷ rest) e = par_is line.kind ∙ not-true (is_replicated_kind line.kind) e
 
 some_least : (line : WrittenStage) → lists_site line ≡ true → least line.sites ≡ None → ⊥
 some_least line e none = by line.sites e (none_least line.sites none)
@@ -113,15 +104,12 @@ some_least line e none = by line.sites e (none_least line.sites none)
 
 pub kinds_differ : (stages : List WrittenStage) → list_all lists_site stages ≡ true → least_site_in (second_neighbour stages) ≡ None → (s : ℕ) → (is_par (slice_get (map kind_in stages) s) && is_par (slice_get (map kind_in stages) (suc s))) ≡ false
 kinds_differ [] filled none s = refl
-kinds_differ (line ∷ []) filled none s = and_off (is_par (slice_get (kind_in line ∷ []) s))
-kinds_differ (line ∷ next ∷ rest) filled none s = by (is_replicated_kind line.kind && is_replicated_kind next.kind) refl none s (kinds_differ (next ∷ rest) parts.1)
-  where
-    parts : (lists_site line ≡ true) × (list_all lists_site (next ∷ rest) ≡ true)
-    parts = and_parts (lists_site line) (list_all lists_site (next ∷ rest)) filled
-
-    by : (b : Bool) → (is_replicated_kind line.kind && is_replicated_kind next.kind) ≡ b → least_site_in (if b then Some next else second_neighbour (next ∷ rest)) ≡ None → (s : ℕ) →
-        (least_site_in (second_neighbour (next ∷ rest)) ≡ None → (s : ℕ) → (is_par (slice_get (map kind_in (next ∷ rest)) s) && is_par (slice_get (map kind_in (next ∷ rest)) (suc s))) ≡ false) →
-        (is_par (slice_get (map kind_in (line ∷ next ∷ rest)) s) && is_par (slice_get (map kind_in (line ∷ next ∷ rest)) (suc s))) ≡ false
-    by true e none s go = absurd (some_least next (and_parts (lists_site next) (list_all lists_site rest) parts.1).0 none)
-    by false e none zero go = ap (λ (b : Bool). b && is_par (Some next.kind)) (par_is line.kind) ∙ ap (λ (b : Bool). is_replicated_kind line.kind && b) (par_is next.kind) ∙ e
-    by false e none (suc s) go = go none s
+kinds_differ (line ∷ []) filled none s = and-false (is_par (slice_get (kind_in line ∷ []) s))
+kinds_differ (line ∷ next ∷ rest) filled none zero = elim (cases_Bool (is_replicated_kind line.kind && is_replicated_kind next.kind)) [
+  | inl t ↦ absurd (some_least next (and_parts (lists_site next) (list_all lists_site rest) (and_parts (lists_site line) (list_all lists_site (next ∷ rest)) filled).1).0 (rw t at none))
+  | inr t ↦ rw (par_is line.kind, par_is next.kind) t
+]
+kinds_differ (line ∷ next ∷ rest) filled none (suc s) = elim (cases_Bool (is_replicated_kind line.kind && is_replicated_kind next.kind)) [
+  | inl t ↦ absurd (some_least next (and_parts (lists_site next) (list_all lists_site rest) (and_parts (lists_site line) (list_all lists_site (next ∷ rest)) filled).1).0 (rw t at none))
+  | inr t ↦ kinds_differ (next ∷ rest) (and_parts (lists_site line) (list_all lists_site (next ∷ rest)) filled).1 (rw t at none) s
+]

@@ -1,5 +1,5 @@
 -- A valid plan of an inlined program fits it, and its regions stand alone.
-use Rattle.dp_semantics.proofs.Names.{opened_statement, ◌≡◌, ◌⊎◌, inl, inr, refl, sym, ap, ◌∙◌, subst, ℕ, zero, suc, ◌+◌, ◌-◌, ◌<◌, ◌≤◌, ◌==◌, Bool, true, false, not, ◌&&◌, ◌||◌, if◌then◌else◌, List, [], ◌∷◌, length, map, filter, Option, Some, None, slice_get, nat_lt, arith, le-leb, lt-ltb, eq-eqb, ne_eqb, append-nil, length-map, cases_Bool, list_all, flat_map, Region, SiteId, Expr, Stmt, hidden-the_row-Stmt-0, Program, Plan, RegionInfo, VarInfo, Access, accesses, access_known, first_site, first_site_of, fits_plan, has_cell, is_inner, is_local_of, is_numbered, is_region_at, is_replicated, is_single, kinds_apart, kinds_fit, length_of, lies_between, lies_in_order, one_region, region_accesses, region_fits, region_in, stage_of, stands_alone, stores_known, well_nested, and_parts, and_from}
+use Rattle.dp_semantics.proofs.Names.{opened_statement, ◌≡◌, ◌⊎◌, inl, inr, refl, sym, ap, ◌∙◌, subst, ℕ, zero, suc, ◌+◌, ◌-◌, ◌<◌, ◌≤◌, ◌==◌, Bool, true, false, not, ◌&&◌, ◌||◌, List, [], ◌∷◌, length, map, filter, Option, Some, None, slice_get, nat_lt, arith, le-leb, lt-ltb, eq-eqb, ne_eqb, append-nil, length-map, cases_Bool, list_all, flat_map, Region, SiteId, Expr, Stmt, hidden-the_row-Stmt-0, Program, Plan, RegionInfo, VarInfo, Access, accesses, access_known, first_site, first_site_of, fits_plan, has_cell, is_inner, is_local_of, is_numbered, is_region_at, is_replicated, is_single, kinds_apart, kinds_fit, length_of, lies_between, lies_in_order, one_region, region_accesses, region_fits, region_in, stage_of, stands_alone, stores_known, well_nested, and_parts, and_from}
 use Rattle.dp_tree.specs.declared.Stmt.TheVariants as tree
 use Rattle.dp_tree.specs.Layout as layout
 use Rattle.dp_tree.specs.declared.VarScope.{VarScope}
@@ -18,7 +18,7 @@ use Rattle.dp_semantics.proofs.Regions.{RegionAt, Sought, absent, present, all_a
 use Rattle.dp_semantics.proofs.Unbroken.{all_listed, no_foreign, condition_first, sequential_first, none_beside, whiles_in_time, ifs_in_time, stage_listed, stage_unlisted, first_kind, kinds_differ}
 use Rattle.dp_semantics.proofs.WellNested.{Within, sites_within, ifs_at, InTime, Ruled, well_by_in}
 use Rattle.dp_semantics.proofs.PlanStages.{same_stage, in_time, ruled}
-use Rattle.dp_semantics.proofs.Setting.{Each, each_map, none_of, all_of, all_make, accesses_all, accesses_at, accesses_out, well_hidden}
+use Rattle.dp_semantics.proofs.Setting.{each_both, Each, each_map, none_of, all_of, all_make, accesses_all, accesses_at, accesses_out, well_hidden}
 
 -- The cells lie in order for any region.
 scoped : (r : ℕ) (scope : VarScope) (one : Bool) → (is_global_scope scope || one) ≡ true → (not (is_local_of r scope) || one) ≡ true
@@ -47,15 +47,7 @@ cells_at k (suc x) (v ∷ rest) e low = cells_at (k + v.length) x rest (and_part
 
 kept : {X : Type 0} (P : X → Type 0) (test : X → Bool) (xs : List X) → Each P xs → Each P (filter test xs)
 kept P test [] h = tt
-kept P test (x ∷ xs) h = by (test x) (kept P test xs h.1)
-  where
-    by : (b : Bool) → Each P (filter test xs) → Each P (if b then x ∷ filter test xs else filter test xs)
-    by true go = (h.0, go)
-    by false go = go
-
-each_both : {X : Type 0} (P Q : X → Type 0) (xs : List X) → Each P xs → Each Q xs → Each (λ x. P x × Q x) xs
-each_both P Q [] h k = tt
-each_both P Q (x ∷ xs) h k = ((h.0, k.0), each_both P Q xs h.1 k.1)
+kept P test (x ∷ xs) h = elim (cases_Bool (test x)) [ inl t ↦ rw t (h.0, kept P test xs h.1) | inr t ↦ rw t (kept P test xs h.1) ]
 
 -- what is inside a region's statement
 module _ (r : ℕ) (site : SiteId) (cond : Expr) (body : List Stmt) where
