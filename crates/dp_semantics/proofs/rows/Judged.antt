@@ -115,15 +115,17 @@ replicated_before : verdicts histogram (plan 4096 (Seq ∷ Par ∷ Seq ∷ []) (
 unfolding tree_opened turn_from judge_from
 replicated_before = refl
 
--- `while (i < 3) { s = s + x; x = 1; i = i + 1; }`, with x a body local, which reads 0 in each iteration
+-- `while (i < 3) { s = s + x; x = 1; x = 2; i = i + 1; }`, with x a body local, which reads 0 in each iteration
 abbrev unset_local : Program
 unset_local = program
     (scalar 0 (pos 0) Global ∷ scalar 1 (pos 0) Outer ∷ scalar 2 (pos 0) (Body 1) ∷ [])
-    (site 4 Assign 0 ∷ site 6 While 1 ∷ site 7 Assign 1 ∷ site 8 Assign 1 ∷ site 9 Assign 1 ∷ [])
-    (one_region 6 2 5)
-    (set 1 1 (num 0) ∷ region 1 2 (bin op.Lt (var 1) (num 3)) (set 3 0 (add (var 0) (var 2)) ∷ set 4 2 (num 1) ∷ set 5 1 (add (var 1) (num 1)) ∷ []) ∷ [])
+    (site 4 Assign 0 ∷ site 6 While 1 ∷ site 7 Assign 1 ∷ site 8 Assign 1 ∷ site 9 Assign 1 ∷ site 10 Assign 1 ∷ [])
+    (one_region 6 2 6)
+    (set 1 1 (num 0) ∷ region 1 2 (bin op.Lt (var 1) (num 3))
+    (set 3 0 (add (var 0) (var 2)) ∷ set 4 2 (num 1) ∷ set 5 2 (num 2) ∷ set 6 1 (add (var 1) (num 1)) ∷ []) ∷ [])
 
-cleared_locals : verdicts unset_local (plan 4096 (Seq ∷ []) (1 ∷ 1 ∷ 1 ∷ 1 ∷ []) []) [] 10000 ≡ clean ∷ clean ∷ clean ∷ clean ∷ []
+-- site 3 is checked, since stage 2 stores x, and stage 1 sees neither its own store of the iteration before nor that of stage 2
+cleared_locals : verdicts unset_local (plan 4096 (Seq ∷ Seq ∷ []) (1 ∷ 1 ∷ 1 ∷ 2 ∷ 1 ∷ []) []) [] 10000 ≡ clean ∷ clean ∷ clean ∷ clean ∷ []
 unfolding tree_opened turn_from judge_from
 cleared_locals = refl
 
