@@ -1,23 +1,16 @@
 -- The events of a region's iterations are at the region's sites, where it stands alone among the statements of `main`.
-use Rattle.std.proofs.Common.{◌≡◌, refl, sym, ap, ◌∙◌, subst, ℕ, zero, suc, ◌-◌, Bool, true, false, if◌then◌else◌, List, [], ◌∷◌, ◌++◌, ℤ, take, filter, Option, Some, None, slice_get, arith}
-use Rattle.std.proofs.lemmas.Bool.{both_ways}
-use Rattle.dp_semantics.proofs.Names.{Program, Stmt, out-Stmt, Stmt-F, Assign, Store, Print, If, While, Region, Call, SiteId, Expr, Event, Config, Step, Finished, Faulted, Stepped, Run, run_of, run_by, is_zero, followed, value_of, stored, standing, step, cleared_at, is_region, stands_at_head, places, Access, accesses, is_free}
-use Rattle.dp_semantics.proofs.Each.{Each, each_split, and_true}
-use Rattle.dp_semantics.proofs.Heads.{accesses_all, accesses_at, accesses_out, head_access, all_free}
-use Rattle.dp_semantics.proofs.Followed.{followed_has, followed-append}
-use Rattle.dp_semantics.proofs.Setting.{size}
-use Rattle.dp_semantics.proofs.Source.{each_joins, each_parts}
-use Rattle.dp_semantics.proofs.Runs.{is_step, run_step, Leads, step_leads, run_first}
-use Rattle.dp_semantics.proofs.Placed.{At, free_next, not_at_head}
+use Rattle.dp_semantics.proofs.Names.{◌≡◌, refl, sym, ap, ◌∙◌, subst, ℕ, zero, suc, ◌-◌, Bool, true, false, if◌then◌else◌, List, [], ◌∷◌, ◌++◌, ℤ, take, filter, Option, Some, None, slice_get, arith, both_ways, Program, Stmt, out-Stmt, Stmt-F, Assign, Store, Print, If, While, Region, Call, SiteId, Expr, Event, Config, Step, Finished, Faulted, Stepped, Run, run_of, run_by, is_zero, followed, value_of, stored, standing, step, cleared_at, is_region, stands_at_head, places, Access, accesses, is_free, and_parts, followed-append, inl, inr, cases_Bool}
+use Rattle.dp_semantics.proofs.Setting.{size, Each, each_split, accesses_all, accesses_at, accesses_out, head_access, all_free, followed_has}
+use Rattle.dp_semantics.proofs.Placed.{first_place, At, free_next, not_at_head, is_step, run_step, Leads, step_leads, run_first}
+use Rattle.dp_semantics.proofs.Stepping.{each_joins, each_parts}
 
 -- an element that a filter finds passes the test
 pub found_is : {X : Type 0} (test : X → Bool) (xs : List X) (x : X) → filter test xs ≡ x ∷ [] → test x ≡ true
 found_is test [] x e = absurd (cc)
-found_is {X} test (y ∷ xs) x e = by (test y) refl e (found_is test xs x)
-  where
-    by : (b : Bool) → test y ≡ b → (if b then y ∷ filter test xs else filter test xs) ≡ x ∷ [] → (filter test xs ≡ x ∷ [] → test x ≡ true) → test x ≡ true
-    by true t e go = let same : y ≡ x = cc in ap test (sym same) ∙ t
-    by false t e go = go e
+found_is test (y ∷ xs) x e = elim (cases_Bool (test y)) [
+  | inl t ↦ let found : y ∷ filter test xs ≡ x ∷ [] = rw t at e in let same : y ≡ x = cc found in rw (← same) t
+  | inr t ↦ found_is test xs x (rw t at e)
+]
 
 -- region r as a statement of `main`, with what holds of its sites
 pub record Lone (p : Program) (r : ℕ) (Q : Access → Type 0) : Type 0 where
@@ -97,11 +90,7 @@ module _ {p : Program} {r : ℕ} {Q : Access → Type 0} (l : Lone p r Q) (input
   body_sites = (subst (λ (xs : List Access). Each Q xs) (accesses_out l.statement ∙ ap accesses_at region.is) l.sites).1
 
   after_region : (z : ℤ) → Around Q r behind (followed l.statement l.tail (out-Stmt l.statement) z)
-  after_region z = subst (λ (h : Stmt-F Stmt). Around Q r behind (followed l.statement l.tail h z)) (sym region.is) (by (is_zero z))
-    where
-      by : (t : Bool) → Around Q r behind (if t then l.tail else region.body ++ behind)
-      by true = beyond l.tail_free
-      by false = inside region.body refl body_sites
+  after_region z = elim (cases_Bool (is_zero z)) [ inl q ↦ rw (region.is, q) (beyond l.tail_free) | inr q ↦ rw (region.is, q) (inside region.body refl body_sites) ]
 
   -- the sites of what follows within
   pub followed_sites : (x : Stmt) (inner : List Stmt) (z : ℤ) → Each Q (accesses_all (x ∷ inner)) → Each Q (accesses_all (followed x inner (out-Stmt x) z))
@@ -114,24 +103,13 @@ module _ {p : Program} {r : ℕ} {Q : Access → Type 0} (l : Lone p r Q) (input
   around_next x rest z (ahead (y ∷ inner) e w) =
       let here : y ≡ x = cc in
       let more : inner ++ behind ≡ rest = cc in
-      subst (λ (u : Stmt). Around Q r behind (followed u rest (out-Stmt u) z)) here (subst (λ (ys : List Stmt). Around Q r behind (followed y ys (out-Stmt y) z)) more
-      (ahead (followed y inner (out-Stmt y) z) (followed-append y inner behind (out-Stmt y) z) (free_next r y inner z w)))
+      rw (← here, ← more) (ahead (followed y inner (out-Stmt y) z) (followed-append y inner behind (out-Stmt y) z) (free_next r y inner z w))
   around_next x rest z (inside (y ∷ inner) e q) =
       let here : y ≡ x = cc in
       let more : inner ++ behind ≡ rest = cc in
-      subst (λ (u : Stmt). Around Q r behind (followed u rest (out-Stmt u) z)) here (subst (λ (ys : List Stmt). Around Q r behind (followed y ys (out-Stmt y) z)) more
-      (inside (followed y inner (out-Stmt y) z) (followed-append y inner behind (out-Stmt y) z) (followed_sites y inner z q)))
-  around_next x rest z (ahead [] e w) = at_region x rest z e
-    where
-      at_region : (x : Stmt) (rest : List Stmt) (z : ℤ) → x ∷ rest ≡ behind → Around Q r behind (followed x rest (out-Stmt x) z)
-      at_region x rest z e =
-          let here : l.statement ≡ x = cc in
-          let more : l.tail ≡ rest = cc in
-          subst (λ (u : Stmt). Around Q r behind (followed u rest (out-Stmt u) z)) here (subst (λ (ys : List Stmt). Around Q r behind (followed l.statement ys (out-Stmt l.statement) z)) more (after_region z))
-  around_next x rest z (inside [] e q) =
-      let here : l.statement ≡ x = cc in
-      let more : l.tail ≡ rest = cc in
-      subst (λ (u : Stmt). Around Q r behind (followed u rest (out-Stmt u) z)) here (subst (λ (ys : List Stmt). Around Q r behind (followed l.statement ys (out-Stmt l.statement) z)) more (after_region z))
+      rw (← here, ← more) (inside (followed y inner (out-Stmt y) z) (followed-append y inner behind (out-Stmt y) z) (followed_sites y inner z q))
+  around_next x rest z (ahead [] e w) = let here : l.statement ≡ x = cc in let more : l.tail ≡ rest = cc in rw (← here, ← more) (after_region z)
+  around_next x rest z (inside [] e q) = let here : l.statement ≡ x = cc in let more : l.tail ≡ rest = cc in rw (← here, ← more) (after_region z)
 
   abbrev pub Spotted : Config → Type 0
   Spotted c = At p input (size p) (Around Q r behind) around_next c
@@ -142,15 +120,11 @@ module _ {p : Program} {r : ℕ} {Q : Access → Type 0} (l : Lone p r Q) (input
     where
       by : (to_do : List Stmt) → Around Q r behind to_do → c ≡ standing p to_do cells → stands_at_head r (standing p to_do cells) ≡ true → (inner : List Stmt) × (cells : List ℤ) × (c ≡ standing p (inner ++ behind) cells) × Each Q (accesses_all inner)
       by [] around is head = absurd (cc)
-      by (x ∷ rest) (beyond w) is head = absurd (both_ways (is_region r (out-Stmt x)) (not_at_head r x (and_true (is_free r x) (all_free r rest) w).0) head)
+      by (x ∷ rest) (beyond w) is head = absurd (both_ways (is_region r (out-Stmt x)) (not_at_head r x (and_parts (is_free r x) (all_free r rest) w).0) head)
       by (x ∷ rest) (ahead [] e w) is head = ([], cells, is ∙ ap (λ (ys : List Stmt). standing p ys cells) e, tt)
       by (x ∷ rest) (ahead (y ∷ inner) e w) is head =
-          let here : y ≡ x = cc in absurd (both_ways (is_region r (out-Stmt x)) (not_at_head r x (ap (is_free r) (sym here) ∙ (and_true (is_free r y) (all_free r inner) w).0)) head)
+          let here : y ≡ x = cc in absurd (both_ways (is_region r (out-Stmt x)) (not_at_head r x (ap (is_free r) (sym here) ∙ (and_parts (is_free r y) (all_free r inner) w).0)) head)
       by (x ∷ rest) (inside inner e q) is head = (inner, cells, is ∙ ap (λ (ys : List Stmt). standing p ys cells) e, q)
-
-  first_place : (n : ℕ) (cs : List Config) (c : Config) → slice_get cs 0 ≡ Some c → stands_at_head r c ≡ true → slice_get (places (stands_at_head r) n cs) 0 ≡ Some n
-  first_place n [] c e t = absurd (cc)
-  first_place n (d ∷ cs) c e t = let same : d ≡ c = cc in ap (λ (b : Bool). slice_get (if b then n ∷ places (stands_at_head r) (suc n) cs else places (stands_at_head r) (suc n) cs) 0) (ap (stands_at_head r) same ∙ t)
 
   pub site_of_step : (x : Stmt) (rest inner : List Stmt) (cells : List ℤ) (event : Event) (next : Config) → Leads p input x rest cells (Stepped event next) → Each Q (accesses x) → AtSite Q event
   site_of_step x rest inner cells event next leads q =
@@ -161,7 +135,7 @@ module _ {p : Program} {r : ℕ} {Q : Access → Type 0} (l : Lone p r Q) (input
 
   at_once : (n m : ℕ) (inner : List Stmt) (cells : List ℤ) → stands_at_head r (standing p (inner ++ behind) cells) ≡ true → Till n m inner cells
   at_once n m inner cells t =
-      subst (λ (o : Option ℕ). Sites (upto n o (run_of p input m (standing p (inner ++ behind) cells)).trace)) (sym (first_place n (run_of p input m (standing p (inner ++ behind) cells)).configs _ (run_first p input m (standing p (inner ++ behind) cells)) t))
+      subst (λ (o : Option ℕ). Sites (upto n o (run_of p input m (standing p (inner ++ behind) cells)).trace)) (sym (first_place (stands_at_head r) n (run_of p input m (standing p (inner ++ behind) cells)).configs _ (run_first p input m (standing p (inner ++ behind) cells)) t))
       (let none : n - n ≡ 0 = omega arith in subst (λ (d : ℕ). Sites (take d (run_of p input m (standing p (inner ++ behind) cells)).trace)) (sym none) tt)
 
   none_run : (n : ℕ) (inner : List Stmt) (cells : List ℤ) → Till n 0 inner cells

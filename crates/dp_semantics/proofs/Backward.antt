@@ -1,14 +1,7 @@
 -- A Clean judgement, step by step: the source makes each event, and it agrees with the plan.
-use Rattle.std.proofs.Common.{◌≡◌, ◌⊎◌, inl, inr, refl, sym, ap, ◌∙◌, subst, append_assoc, ℕ, zero, suc, ◌-◌, ◌<◌, ◌≤◌, Bool, true, false, ◌&&◌, if◌then◌else◌, List, [], ◌∷◌, ◌++◌, ℤ, length, Some, None, Ok, arith}
-use Rattle.std.proofs.lemmas.List.{append-nil}
-use Rattle.std.proofs.lemmas.Bool.{cases_eq}
-use Rattle.std.specs.List.{list_all}
-use Rattle.dp_semantics.proofs.Names.{Word, SiteId, Stmt, out-Stmt, out-roll-Stmt, WithLoads, Event, Effect, followed, site_of, value_of, stored, stage_of, Past, all_agree, event_agrees, event_as_assumed, words_of, word_list, Turn, Ended, turn_from, Epoch, Judging, Judgement, Agreed, Clean, Unclean, judge_by, judge_spent, judge_from, last}
-use Rattle.dp_semantics.proofs.Each.{and_make}
+use Rattle.dp_semantics.proofs.Names.{◌≡◌, ◌⊎◌, inl, inr, refl, sym, ap, ◌∙◌, subst, append_assoc, ℕ, zero, suc, ◌-◌, ◌<◌, ◌≤◌, Bool, true, false, ◌&&◌, if◌then◌else◌, List, [], ◌∷◌, ◌++◌, ℤ, length, Some, None, Ok, arith, append-nil, cases_eq, list_all, Word, SiteId, Stmt, out-Stmt, out-roll-Stmt, WithLoads, Event, Effect, followed, site_of, value_of, stored, stage_of, Past, all_agree, event_agrees, event_as_assumed, words_of, word_list, Turn, Ended, turn_from, Epoch, Judging, Judgement, Agreed, Clean, Unclean, judge_by, judge_spent, judge_from, last, and_from, append_cancel_left}
 use Rattle.dp_semantics.proofs.Setting.{Fit}
-use Rattle.dp_semantics.proofs.Taking.{append_same, words_for, words_here, words_elsewhere, event_held}
-use Rattle.dp_semantics.proofs.Source.{event_of, past_of, stage_for, Gives, Stands, own_site, form_of, stands_next, stage_does, source_does, event_sees}
-use Rattle.dp_semantics.proofs.Stepping.{InStep, Moved, Advanced, advance, here, staying, onward, site_proj, evaluated_proj, head_is}
+use Rattle.dp_semantics.proofs.Stepping.{InStep, Moved, Advanced, advance, here, staying, onward, site_proj, evaluated_proj, head_is, words_for, words_here, words_elsewhere, event_held, event_of, past_of, stage_for, Gives, Stands, own_site, form_of, stands_next, stage_does, source_does, event_sees}
 use Rattle.dp_semantics.proofs.Lockstep.{Goes, stays, goes, words_through}
 use Rattle.dp_semantics.proofs.Judging.{judged_next, held, judge_turn, next_stands, next_moved, held_here}
 use Rattle.dp_semantics.proofs.TurnBack.{some_steps, Own, own_back}
@@ -28,13 +21,8 @@ abbrev pub AllRunning : Epoch → ℕ → List Stmt → List Past → List (List
 AllRunning k i to_do earlier lists = (s : ℕ) → 0 < s → s < last k.plan → Running k i s to_do earlier lists
 
 -- what the judgement's tests said where it came to Clean
-record Compared (go : Judging → Judgement) (a b : Bool) (next : Judging) (verdict : Agreed) : Type 0 where
-  pub held : a ≡ true
-  pub told : b ≡ true
-  pub goes_on : go next ≡ Clean verdict
-
-compared : (go : Judging → Judgement) (a b : Bool) (next : Judging) (verdict : Agreed) → judge_by go (if a && b then Some next else None) ≡ Clean verdict → Compared go a b next verdict
-compared go true true next verdict e = record { held = refl; told = refl; goes_on = e }
+compared : (go : Judging → Judgement) (a b : Bool) (next : Judging) (verdict : Agreed) → judge_by go (if a && b then Some next else None) ≡ Clean verdict → (a ≡ true) × (b ≡ true) × (go next ≡ Clean verdict)
+compared go true true next verdict e = (refl, refl, e)
 compared go true false next verdict e = absurd (cc)
 compared go false b next verdict e = absurd (cc)
 
@@ -55,7 +43,7 @@ module _ {k : Epoch} (ok : Fit k) {i : ℕ} {x : Stmt} {rest : List Stmt} {earli
     gave = sym (evaluated_proj program plan (stage_for k x) input r.turn.cells (out-Stmt x)) ∙ o.gave;
     fits = subst (λ (ws : List Word). length (r.turn.own ++ ws) ≤ plan.words) (same_words ∙ sym (words_here program plan (stage_for k x) (event_of (out-Stmt x) o.v) refl)) o.room;
     more = o.grew.0;
-    front = append_same r.turn.own (word_list lists (stage_for k x)) (words_of program plan (event_of (out-Stmt x) o.v) ++ o.grew.0)
+    front = append_cancel_left r.turn.own (word_list lists (stage_for k x)) (words_of program plan (event_of (out-Stmt x) o.v) ++ o.grew.0)
         (sym r.own ∙ o.grew.1 ∙ ap (λ ws. (r.turn.own ++ ws) ++ o.grew.0) same_words ∙ append_assoc r.turn.own (words_of program plan (event_of (out-Stmt x) o.v)) o.grew.0);
   }
     where
@@ -105,7 +93,7 @@ module _ {k : Epoch} (ok : Fit k) {i : ℕ} {x : Stmt} {rest : List Stmt} {earli
         in_step = a.in_step;
         runs = sym (a.runs q.steps (q.steps - a.steps) (omega (arith, a.few, some_steps program plan input s q.steps q.turn q.ended q.runs))) ∙ q.runs;
         own = q.own ∙ ap (λ ws. q.turn.own ++ ws) (moved.lists s low high) ∙ sym (append_assoc q.turn.own (words_for program plan s (event_of (out-Stmt x) v)) (word_list d.lists s)) ∙ ap (λ ws. ws ++ word_list d.lists s) (sym a.moved.own);
-        same = λ t up down. append_same (words_for program plan t (event_of (out-Stmt x) v)) (word_list a.turn.lists t) (word_list d.lists t)
+        same = λ t up down. append_cancel_left (words_for program plan t (event_of (out-Stmt x) v)) (word_list a.turn.lists t) (word_list d.lists t)
             (sym (a.moved.lists t up down) ∙ q.same t up down ∙ moved.lists t up (omega (arith, down, high)));
         room = subst (λ (ws : List Word). length ws ≤ plan.words) (sym a.moved.own) (fits_at s low high);
       },
@@ -132,9 +120,6 @@ pub record Agreeing (k : Epoch) (i : ℕ) (to_do : List Stmt) (earlier : List Pa
   pub fits : (s : ℕ) (low : 0 < s) (high : s < last k.plan) → length ((all s low high).turn.own ++ words_through k.program k.plan s events) ≤ k.plan.words
   pub within : length events ≤ n
 
-fits_step : (room : ℕ) (own a b mine : List Word) → mine ≡ own ++ a → length (mine ++ b) ≤ room → length (own ++ (a ++ b)) ≤ room
-fits_step room own a b mine e h = subst (λ (ws : List Word). length ws ≤ room) (ap (λ ws. ws ++ b) e ∙ append_assoc own a b) h
-
 module _ {k : Epoch} (ok : Fit k) {i : ℕ} where
   open k use {program, plan, input, base}
 
@@ -156,18 +141,18 @@ module _ {k : Epoch} (ok : Fit k) {i : ℕ} where
       let form = form_of ok at q.turn.cells next.v next.gave in
       let tests = compared (judge_from program plan n) (held ok at j b next.v form next.more next.front) (event_as_assumed plan (event_of (out-Stmt x) next.v)) (judged_next ok at j b next.v form next.more next.front) verdict
       (sym (judge_turn ok at j b next.v form next.more next.front n) ∙ e) in
-      let gave = source_does ok at q.turn.cells q.in_step.sees next.v next.gave (λ checked. held_here ok at j b next.v form next.more next.front next.v.loads (event_held program plan (event_of (out-Stmt x) next.v) next.more j.turn.cells tests.held checked)) in
+      let gave = source_does ok at q.turn.cells q.in_step.sees next.v next.gave (λ checked. held_here ok at j b next.v form next.more next.front next.v.loads (event_held program plan (event_of (out-Stmt x) next.v) next.more j.turn.cells tests.0 checked)) in
       let agree = event_sees ok at q.turn.cells q.in_step.sees next.v next.gave in
       let then_j = judged_next ok at j b next.v form next.more next.front in
-      let on = run_on ok at j.turn then_j.turn all next.v gave agree tests.told next.more next.front (next_moved ok at j b next.v form next.more next.front) in
+      let on = run_on ok at j.turn then_j.turn all next.v gave agree tests.1 next.more next.front (next_moved ok at j b next.v form next.more next.front) in
       let next_all : AllRunning k i (followed x rest (out-Stmt x) (value_of next.v.value)) (past_of i x next.v ∷ earlier) then_j.turn.lists = λ s low high. (on s low high).0 in
-      let later = judge_back n (followed x rest (out-Stmt x) (value_of next.v.value)) (past_of i x next.v ∷ earlier) (stored next.v.value cells) (stands_next ok at next.v gave) then_j next_all verdict (next_stands ok at j b next.v form next.more next.front) tests.goes_on in
+      let later = judge_back n (followed x rest (out-Stmt x) (value_of next.v.value)) (past_of i x next.v ∷ earlier) (stored next.v.value cells) (stands_next ok at next.v gave) then_j next_all verdict (next_stands ok at j b next.v form next.more next.front) tests.2 in
       record {
         events = event_of (out-Stmt x) next.v ∷ later.events;
         then_cells = later.then_cells;
         path = goes {events = later.events} {then_cells = later.then_cells} gave later.path;
-        agree = and_make (event_agrees program plan base i earlier (event_of (out-Stmt x) next.v)) (all_agree program plan base i (past_of i x next.v ∷ earlier) later.events) agree later.agree;
-        told = and_make (event_as_assumed plan (event_of (out-Stmt x) next.v)) (list_all (event_as_assumed plan) later.events) tests.told later.told;
-        fits = λ s low high. fits_step plan.words (all s low high).turn.own (words_for program plan s (event_of (out-Stmt x) next.v)) (words_through program plan s later.events) (on s low high).0.turn.own (on s low high).1 (later.fits s low high);
+        agree = and_from (event_agrees program plan base i earlier (event_of (out-Stmt x) next.v)) (all_agree program plan base i (past_of i x next.v ∷ earlier) later.events) agree later.agree;
+        told = and_from (event_as_assumed plan (event_of (out-Stmt x) next.v)) (list_all (event_as_assumed plan) later.events) tests.1 later.told;
+        fits = λ s low high. rw (← (append_assoc (all s low high).turn.own (words_for program plan s (event_of (out-Stmt x) next.v)) (words_through program plan s later.events)), ← (on s low high).1) (later.fits s low high);
         within = omega (arith, later.within);
       }

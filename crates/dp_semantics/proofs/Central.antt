@@ -1,34 +1,14 @@
 -- The central theorem: the judgement on an epoch's packet is Clean exactly where the iteration is clean.
-use Rattle.std.proofs.Common.{◌≡◌, inl, inr, refl, sym, ap, ◌∙◌, subst, ℕ, zero, suc, ◌+◌, ◌-◌, ◌<◌, ◌≤◌, Bool, true, false, ◌&&◌, ◌||◌, if◌then◌else◌, List, [], ◌++◌, ℤ, length, length-append, get_or, map, Option, Some, is_some, slice_get, arith, le-leb}
-use Rattle.std.proofs.lemmas.List.{append-nil}
-use Rattle.std.proofs.lemmas.Option.{slice_get_within, slice_get-get_or}
-use Rattle.std.proofs.lemmas.Bool.{both_ways, lt-leb}
-use Rattle.std.specs.List.{list_all}
-use Rattle.dp_semantics.proofs.Names.{Stmt, Program, Plan, Config, Event, Step, Finished, Faulted, Stepped, clear_locals, step, Run, run_of, run_by, begin, starts, start, iteration, is_closing, has_ended, memory_after, Past, all_agree, event_as_assumed, fits_words, pushed, events_since, is_clean, word_list, Epoch, Packet, passed, Agreed, Clean, judge, effect_in, epoch_at, status_when, CleanSince, Judged, JudgesRightly, Follows, StoresLead}
+use Rattle.dp_semantics.proofs.Names.{word_list, ◌&&◌, ◌≡◌, inl, inr, refl, sym, ap, ◌∙◌, subst, ℕ, zero, suc, ◌+◌, ◌-◌, ◌<◌, ◌≤◌, Bool, true, false, ◌||◌, List, [], ◌++◌, ℤ, length, length-append, get_or, map, Option, Some, is_some, slice_get, arith, le-leb, append-nil, slice_get_within, slice_get-get_or, both_ways, lt-leb, list_all, Stmt, Program, Plan, Config, Event, Step, Finished, Faulted, Stepped, clear_locals, step, Run, run_of, run_by, begin, starts, start, iteration, is_closing, has_ended, memory_after, Past, all_agree, event_as_assumed, fits_words, events_since, is_clean, Epoch, passed, Agreed, Clean, judge, effect_in, epoch_at, status_when, CleanSince, Judged, Follows, or-true, and_from, and_parts}
+use Rattle.dp_semantics.proofs.Paths as paths
 use Rattle.dp_semantics.proofs.Setting.{Accepted}
-use Rattle.dp_semantics.proofs.Lockstep.{Goes, closing_after}
-use Rattle.dp_semantics.proofs.Whole.{turn_of, sound_parts, MadeWithin}
+use Rattle.dp_semantics.proofs.Whole.{turn_of, sound_parts, MadeWithin, Goes, closing_after}
 use Rattle.dp_semantics.proofs.PacketFacts.{status_for}
 use Rattle.dp_semantics.proofs.Epochs.{History, numbered, past_at, MakesAt, GoneBy, Gone}
 use Rattle.dp_semantics.proofs.Verdicts.{WellJudged, clean_is_judged, judged_is_clean}
 use Rattle.dp_semantics.proofs.Iterations.{run, Ending, goes_on, closes, breaks, IterationIs, iteration_is}
 use Rattle.dp_semantics.proofs.Counts.{fits_each, each_fits, words_are}
-use Rattle.dp_semantics.proofs.Paths as paths
 use Rattle.dp_semantics.proofs.Paths.{closing_first, goes_applied, first_of, no_more}
-
-four : (a b c d : Bool) → (a && b && c && d) ≡ true → (a ≡ true) × (b ≡ true) × (c ≡ true) × (d ≡ true)
-four true true true true e = (refl, refl, refl, refl)
-four false b c d e = absurd (cc)
-four true false c d e = absurd (cc)
-four true true false d e = absurd (cc)
-four true true true false e = absurd (cc)
-
-make_four : (a b c d : Bool) → a ≡ true → b ≡ true → c ≡ true → d ≡ true → (a && b && c && d) ≡ true
-make_four true true true true e f g h = refl
-make_four false b c d e f g h = absurd (cc)
-make_four true false c d e f g h = absurd (cc)
-make_four true true false d e f g h = absurd (cc)
-make_four true true true false e f g h = absurd (cc)
 
 numbered_is : (e n : ℕ) → numbered e n ≡ e + n
 numbered_is e zero = omega arith
@@ -37,13 +17,11 @@ numbered_is e (suc n) = omega (arith, numbered_is e n)
 -- the events since the epoch's start
 since_start : (run : Run) (r e : ℕ) → events_since run r e e ≡ []
 since_start run r zero = refl
-since_start run r (suc e) = ap (λ (b : Bool). if b then pushed e (iteration run r e) (events_since run r (suc e) e) else []) (lt-leb (suc e) e (omega arith))
+since_start run r (suc e) = rw (lt-leb (suc e) e (omega arith))
 
 since_is : (run : Run) (r e n : ℕ) → events_since run r e (numbered e n) ≡ past_at e (λ m. iteration run r (numbered e m)) n
 since_is run r e zero = since_start run r e
-since_is run r e (suc n) =
-    ap (λ (b : Bool). if b then pushed (numbered e n) (iteration run r (numbered e n)) (events_since run r e (numbered e n)) else []) (le-leb e (numbered e n) (omega (arith, numbered_is e n)))
-    ∙ ap (λ (earlier : List Past). pushed (numbered e n) (iteration run r (numbered e n)) earlier) (since_is run r e n)
+since_is run r e (suc n) = rw (le-leb e (numbered e n) (omega (arith, numbered_is e n)), since_is run r e n)
 
 -- what starts later has earlier starts
 earlier_start : (ks : List ℕ) (i j k : ℕ) → slice_get ks i ≡ Some k → j ≤ i → (m : ℕ) × (slice_get ks j ≡ Some m)
@@ -52,17 +30,11 @@ earlier_start ks i j k e h = let within = slice_get_within ks i k e in (get_or k
 fuel_is : (p : Program) (input : List ℤ) (n : ℕ) (c : Config) → (run_of p input n c).fuel ≡ n
 unfolding run_of
 fuel_is p input zero c = refl
-fuel_is p input (suc n) c = by (step p input c)
-  where
-    by : (s : Step) → (run_by (run_of p input n) (suc n) c s).fuel ≡ suc n
-    by Finished = refl
-    by (Faulted fault) = refl
-    by (Stepped event next) = refl
+fuel_is p input (suc n) c = elim (step p input c) as (λ (s : Step). (run_by (run_of p input n) (suc n) c s).fuel ≡ suc n) [ Finished ↦ refl | Faulted fault ↦ refl | Stepped event next ↦ refl ]
 
 last_status : (s : ℕ) (closing : Bool) → 0 < s → status_for s closing ≡ status_when closing
 last_status zero closing h = absurd (omega (arith, h))
-last_status (suc s) true h = refl
-last_status (suc s) false h = refl
+last_status (suc s) closing h = refl
 
 module _ {p : Program} {plan : Plan} (a : Accepted p plan) (input : List ℤ) (fuel : ℕ) where
   abbrev r : ℕ
@@ -87,10 +59,18 @@ module _ {p : Program} {plan : Plan} (a : Accepted p plan) (input : List ℤ) (f
     }
 
     -- what a clean iteration is
+    abbrev agrees : ℕ → Bool
+    agrees n = all_agree p plan key.base (numbered e n) (events_since source r e (numbered e n)) (iteration source r (numbered e n))
+
+    abbrev told : ℕ → Bool
+    told n = list_all (event_as_assumed plan) (iteration source r (numbered e n))
+
     parts : (n : ℕ) → is_clean p plan source e (numbered e n) ≡ true →
-        (has_ended source r (numbered e n) ≡ true) × (all_agree p plan key.base (numbered e n) (events_since source r e (numbered e n)) (iteration source r (numbered e n)) ≡ true)
-        × (list_all (event_as_assumed plan) (iteration source r (numbered e n)) ≡ true) × (fits_words p plan (iteration source r (numbered e n)) ≡ true)
-    parts n c = four (has_ended source r (numbered e n)) _ _ _ c
+        (has_ended source r (numbered e n) ≡ true) × (agrees n ≡ true) × (told n ≡ true) × (fits_words p plan (iteration source r (numbered e n)) ≡ true)
+    parts n c =
+        let one = and_parts (has_ended source r (numbered e n) && agrees n && told n) (fits_words p plan (iteration source r (numbered e n))) c in
+        let two = and_parts (has_ended source r (numbered e n) && agrees n) (told n) one.0 in
+        let three = and_parts (has_ended source r (numbered e n)) (agrees n) two.0 in (three.0, three.1, two.1, one.1)
 
     makes_of : (n k : ℕ) (q : IterationIs a input fuel (numbered e n) k) → q.after ≡ [] → is_clean p plan source e (numbered e n) ≡ true → MakesAt history n
     makes_of n k q end c = record {
@@ -122,12 +102,11 @@ module _ {p : Program} {plan : Plan} (a : Accepted p plan) (input : List ℤ) (f
 
       -- The packet of a clean iteration has the words of the source's events, and it is judged Clean with the source's effects ..
       judged_so : is_clean p plan source e (numbered e n) ≡ true → WellJudged history n (fuel - k)
-      judged_so c = by q.ending
-        where
-          by : Ending a input fuel (numbered e n) k q.left q.after q.then_cells → WellJudged history n (fuel - k)
-          by (goes_on end there memory within) = clean_is_judged history n (fuel - k) gone (makes_of n k q end c) (omega (arith, within, q.steps_are))
-          by (closes end none closing within) = clean_is_judged history n (fuel - k) gone (makes_of n k q end c) (omega (arith, within, q.steps_are))
-          by (breaks x rest after unended why) = absurd (both_ways (has_ended source r (numbered e n)) unended (parts n c).0)
+      judged_so c = elim q.ending [
+        | goes_on end there memory within ↦ clean_is_judged history n (fuel - k) gone (makes_of n k q end c) (omega (arith, within, q.steps_are))
+        | closes end none closing within ↦ clean_is_judged history n (fuel - k) gone (makes_of n k q end c) (omega (arith, within, q.steps_are))
+        | breaks x rest after unended why ↦ absurd (both_ways (has_ended source r (numbered e n)) unended (parts n c).0)
+      ]
 
       -- .. and where the packet is judged Clean, the iteration is clean.
       clean_so : (v : Agreed) → judge p plan (fuel - k) (memory_after source r (numbered e n)) (passed key (length plan.stages) n).packet ≡ Clean v → is_clean p plan source e (numbered e n) ≡ true
@@ -142,41 +121,31 @@ module _ {p : Program} {plan : Plan} (a : Accepted p plan) (input : List ℤ) (f
           known : q.after ≡ [] → has_ended source r (numbered e n) ≡ true → is_clean p plan source e (numbered e n) ≡ true
           known end ended =
               let same : made.events ≡ iteration source r (numbered e n) = on.is ∙ ap (λ (es : List Event). iteration source r (numbered e n) ++ es) (no_more on.path end) ∙ append-nil (iteration source r (numbered e n)) in
-              make_four _ _ _ _ ended
+              and_from _ _ (and_from _ _ (and_from _ _ ended
               (ap (λ (earlier : List Past). all_agree p plan key.base (numbered e n) earlier (iteration source r (numbered e n))) (since_is source r e n)
-              ∙ ap (λ (es : List Event). all_agree p plan key.base (numbered e n) (past_at e history.events n) es) (sym same) ∙ made.makes.agree)
-              (ap (λ (es : List Event). list_all (event_as_assumed plan) es) (sym same) ∙ made.makes.told)
+              ∙ ap (λ (es : List Event). all_agree p plan key.base (numbered e n) (past_at e history.events n) es) (sym same) ∙ made.makes.agree))
+              (ap (λ (es : List Event). list_all (event_as_assumed plan) es) (sym same) ∙ made.makes.told))
               (ap (λ (es : List Event). fits_words p plan es) (sym same) ∙ each_fits p plan made.events made.makes.fits)
-
-          or_true : (b c : Bool) → c ≡ true → (b || c) ≡ true
-          or_true true c g = refl
-          or_true false c g = g
 
           by : Ending a input fuel (numbered e n) k q.left q.after q.then_cells → is_clean p plan source e (numbered e n) ≡ true
           by (goes_on end there memory within) = known end (ap (λ (t : Option ℕ). is_some t || is_closing source r (numbered e n)) there)
-          by (closes end none closing within) = known end (or_true (is_some (start source r (suc (numbered e n)))) (is_closing source r (numbered e n)) closing)
+          by (closes end none closing within) = known end (rw closing (or-true (is_some (start source r (suc (numbered e n))))))
           by (breaks x rest after unended (inl spent)) =
               let one = first_of on.path x rest after refl in
               absurd (omega (arith, spent, made.within, q.steps_are, ap length on.is, length-append (iteration source r (numbered e n)) on.more, ap length one.events_are))
           by (breaks x rest after unended (inr (kind, fault))) = let one = first_of on.path x rest after refl in let clash = sym one.gave ∙ fault in absurd (cc clash)
 
-    spare : (k : ℕ) → source.fuel - k ≡ fuel - k
-    spare k = ap (λ (n : ℕ). n - k) (fuel_is p input fuel (begin p))
-
     -- by the place in the epoch
     by_place : (n k : ℕ) → start source r (numbered e n) ≡ Some k → CleanSince p plan source e (numbered e n) → numbered e n - e ≡ n → Judged p plan input source e (numbered e n) k
     by_place n k here clean place = record {
       sent = λ c. let w = judged_so n k here before c in record {
-        status = ap (λ (m : ℕ). (packet m).status) place ∙ w.sent.status ∙ ap (status_for (length plan.stages)) closing ∙ last_status (length plan.stages) (is_closing source r (numbered e n)) some_stage;
-        words = λ t low high. ap (λ (m : ℕ). word_list (packet m).lists t) place ∙ w.sent.words t low (omega (arith, high)) ∙ words_are p plan t (iteration source r (numbered e n));
+        status = ap (λ (m : ℕ). (passed key (length plan.stages) m).packet.status) place ∙ w.sent.status ∙ ap (status_for (length plan.stages)) closing ∙ last_status (length plan.stages) _ some_stage;
+        words = λ t low high. ap (λ (m : ℕ). word_list (passed key (length plan.stages) m).packet.lists t) place ∙ w.sent.words t low (omega (arith, high)) ∙ words_are p plan t _;
         judged = rejudged ∙ w.judged ∙ ap (λ (b : Bool). Clean (record { effects = map effect_in (iteration source r (numbered e n)); closing = b })) closing;
       };
       back = λ v j. clean_so n k here before v (sym rejudged ∙ j);
     }
       where
-        packet : ℕ → Packet
-        packet m = (passed key (length plan.stages) m).packet
-
         before : (m : ℕ) → m < n → is_clean p plan source e (numbered e m) ≡ true
         before m h = clean (numbered e m) (omega (arith, numbered_is e m)) (omega (arith, numbered_is e m, numbered_is e n, h))
 
@@ -187,36 +156,21 @@ module _ {p : Program} {plan : Plan} (a : Accepted p plan) (input : List ℤ) (f
         closing = closing_first a input (iteration_is a input fuel (numbered e n) k here).path refl
 
         rejudged : judge p plan (source.fuel - k) (memory_after source r (numbered e n)) (passed key (length plan.stages) (numbered e n - e)).packet ≡ judge p plan (fuel - k) (memory_after source r (numbered e n)) (passed key (length plan.stages) n).packet
-        rejudged = ap (λ (m : ℕ). judge p plan (source.fuel - k) (memory_after source r (numbered e n)) (passed key (length plan.stages) m).packet) place
-            ∙ ap (λ (m : ℕ). judge p plan m (memory_after source r (numbered e n)) (passed key (length plan.stages) n).packet) (spare k)
+        rejudged = rw (place, fuel_is p input fuel (begin p))
 
-  judged_at : (e i k : ℕ) → e ≤ i → start source r i ≡ Some k → CleanSince p plan source e i → Judged p plan input source e i k
-  judged_at e i k low here clean =
+  pub judges_rightly : (e i k : ℕ) → e ≤ i → start source r i ≡ Some k → CleanSince p plan source e i → Judged p plan input source e i k
+  judges_rightly e i k low here clean =
+      let is : numbered e (i - e) ≡ i = omega (arith, numbered_is e (i - e), low) in
+      let place : numbered e (i - e) - e ≡ i - e = omega (arith, numbered_is e (i - e)) in
+      let first = earlier_start (starts source r) i e k here low in
       subst (λ (j : ℕ). start source r j ≡ Some k → CleanSince p plan source e j → Judged p plan input source e j k) is (λ s c. by_place e first.0 first.1 (i - e) k s c place) here clean
-    where
-      is : numbered e (i - e) ≡ i
-      is = omega (arith, numbered_is e (i - e), low)
 
-      place : numbered e (i - e) - e ≡ i - e
-      place = omega (arith, numbered_is e (i - e))
-
-      first : (m : ℕ) × (start source r e ≡ Some m)
-      first = earlier_start (starts source r) i e k here low
-
-  led : (i k : ℕ) → start source r i ≡ Some k → has_ended source r i ≡ true → is_closing source r i ≡ false → Follows p r source i k
-  led i k here ended going = by q.ending
-    where
-      q : IterationIs a input fuel i k
-      q = iteration_is a input fuel i k here
-
-      by : Ending a input fuel i k q.left q.after q.then_cells → Follows p r source i k
-      by (goes_on end there memory within) = record { next_start = there; memory = memory ∙ ap (clear_locals r p.vars) (goes_applied q.path) }
-      by (closes end none closing within) = absurd (both_ways (is_closing source r i) going closing)
-      by (breaks x rest after unended why) = absurd (both_ways (has_ended source r i) unended ended)
-
-pub judges_rightly : {p : Program} {plan : Plan} → Accepted p plan → JudgesRightly p plan
-judges_rightly a input fuel e i k low here clean = judged_at a input fuel e i k low here clean
-
--- The stores of an iteration lead from the memory before it to the memory after it.
-pub stores_lead : {p : Program} {plan : Plan} → Accepted p plan → StoresLead p plan
-stores_lead a input fuel i k here ended going = led a input fuel i k here ended going
+  -- The stores of an iteration lead from the memory before it to the memory after it.
+  pub stores_lead : (i k : ℕ) → start source r i ≡ Some k → has_ended source r i ≡ true → is_closing source r i ≡ false → Follows p r source i k
+  stores_lead i k here ended going =
+      let q = iteration_is a input fuel i k here in
+      elim q.ending [
+        | goes_on end there memory within ↦ record { next_start = there; memory = memory ∙ ap (clear_locals r p.vars) (goes_applied q.path) }
+        | closes end none closing within ↦ absurd (both_ways (is_closing source r i) going closing)
+        | breaks x rest after unended why ↦ absurd (both_ways (has_ended source r i) unended ended)
+      ]

@@ -1,26 +1,18 @@
 -- The number of words of a stage is the number that the plan counts.
-use Rattle.std.proofs.Common.{◌≡◌, ◌⊎◌, inl, inr, refl, sym, ap, ◌∙◌, ℕ, zero, suc, ◌+◌, ◌<◌, ◌≤◌, ◌==◌, Bool, true, false, if◌then◌else◌, List, [], ◌∷◌, ◌++◌, length, length-append, filter, nat_le, arith, leb-true, le-leb}
-use Rattle.std.proofs.lemmas.List.Sums.{sum_by-cons}
-use Rattle.std.proofs.lemmas.Bool.{cases_eq}
-use Rattle.std.specs.List.{list_all, flat_map}
-use Rattle.dp_semantics.proofs.Names.{Program, Plan, Load, Event, stage_of, is_checked, event_words, words_at, word_count, count_from, fits_words, load_words, done_word, words_of, last, words_at_stage}
-use Rattle.dp_semantics.proofs.Each.{and_true, and_make}
-use Rattle.dp_semantics.proofs.Taking.{words_for}
-use Rattle.dp_semantics.proofs.Lockstep.{words_through}
+use Rattle.dp_semantics.proofs.Names.{◌≡◌, inl, inr, refl, ap, ℕ, zero, suc, ◌+◌, ◌<◌, ◌≤◌, ◌==◌, Bool, true, List, [], ◌∷◌, ◌++◌, length, length-append, nat_le, arith, leb-true, le-leb, sum_by-cons, cases_eq, list_all, Program, Plan, Load, Event, stage_of, is_checked, event_words, words_at, word_count, count_from, fits_words, load_words, done_word, words_of, last, words_at_stage, and_parts, and_from, cases_Bool}
+use Rattle.dp_semantics.proofs.Stepping.{words_for}
+use Rattle.dp_semantics.proofs.Whole.{words_through}
 
 -- a test of each number from k on, n of them
 pub all_count : (test : ℕ → Bool) (n k s : ℕ) → list_all test (count_from k n) ≡ true → k ≤ s → s < k + n → test s ≡ true
 all_count test zero k s e low high = absurd (omega (arith, low, high))
 all_count test (suc n) k s e low high =
-    let parts = and_true (test k) (list_all test (count_from (suc k) n)) e in by (cases_eq k s) parts.0 (λ l. all_count test n (suc k) s parts.1 l (omega (arith, high)))
-  where
-    by : (k ≡ s) ⊎ (k ≡ s → ⊥) → test k ≡ true → (suc k ≤ s → test s ≡ true) → test s ≡ true
-    by (inl q) h go = ap test (sym q) ∙ h
-    by (inr q) h go = go (omega (arith, low, q))
+    let parts = and_parts (test k) (list_all test (count_from (suc k) n)) e in
+    elim (cases_eq k s) [ inl q ↦ rw (← q) parts.0 | inr q ↦ all_count test n (suc k) s parts.1 (omega (arith, low, q)) (omega (arith, high)) ]
 
-count_all : (test : ℕ → Bool) (n k : ℕ) → ((s : ℕ) → k ≤ s → s < k + n → test s ≡ true) → list_all test (count_from k n) ≡ true
+pub count_all : (test : ℕ → Bool) (n k : ℕ) → ((s : ℕ) → k ≤ s → s < k + n → test s ≡ true) → list_all test (count_from k n) ≡ true
 count_all test zero k h = refl
-count_all test (suc n) k h = and_make (test k) (list_all test (count_from (suc k) n)) (h k (omega arith) (omega arith)) (count_all test n (suc k) (λ s low high. h s (omega (arith, low)) (omega (arith, high))))
+count_all test (suc n) k h = and_from (test k) (list_all test (count_from (suc k) n)) (h k (omega arith) (omega arith)) (count_all test n (suc k) (λ s low high. h s (omega (arith, low)) (omega (arith, high))))
 
 load_words-length : (site : ℕ) (loads : List Load) → length (load_words site loads) ≡ length loads
 load_words-length site [] = refl
@@ -28,18 +20,13 @@ load_words-length site (l ∷ rest) = ap (λ (n : ℕ). suc n) (load_words-lengt
 
 module _ (p : Program) (plan : Plan) where
   event_words-length : (event : Event) → length (words_of p plan event) ≡ event_words p plan event
-  event_words-length event = by (is_checked p plan event.site)
-    where
-      by : (b : Bool) → length ((if b then load_words event.site event.loads else []) ++ done_word event.site event.effect ∷ []) ≡ (if b then length event.loads + 1 else 1)
-      by true = omega (arith, length-append (load_words event.site event.loads) (done_word event.site event.effect ∷ []), load_words-length event.site event.loads)
-      by false = refl
+  event_words-length event = elim (cases_Bool (is_checked p plan event.site)) [
+    | inl e ↦ rw e (omega (arith, length-append (load_words event.site event.loads) (done_word event.site event.effect ∷ []), load_words-length event.site event.loads))
+    | inr e ↦ rw e
+  ]
 
   words_for-length : (s : ℕ) (event : Event) → length (words_for p plan s event) ≡ words_at p plan s event
-  words_for-length s event = by (stage_of p plan event.site == s)
-    where
-      by : (b : Bool) → length (if b then words_of p plan event else []) ≡ (if b then event_words p plan event else 0)
-      by true = event_words-length event
-      by false = refl
+  words_for-length s event = elim (cases_Bool (stage_of p plan event.site == s)) [ inl e ↦ rw e (event_words-length event) | inr e ↦ rw e ]
 
   words_through-length : (s : ℕ) (events : List Event) → length (words_through p plan s events) ≡ word_count p plan events s
   words_through-length s [] = refl
@@ -58,8 +45,4 @@ module _ (p : Program) (plan : Plan) where
   -- the words for a stage are those of the events at its sites
   pub words_are : (t : ℕ) (events : List Event) → words_through p plan t events ≡ words_at_stage p plan events t
   words_are t [] = refl
-  words_are t (event ∷ rest) = ap (λ ws. words_for p plan t event ++ ws) (words_are t rest) ∙ by (stage_of p plan event.site == t)
-    where
-      by : (b : Bool) → (if b then words_of p plan event else []) ++ words_at_stage p plan rest t ≡ flat_map (words_of p plan) (if b then event ∷ filter (λ u. stage_of p plan u.site == t) rest else filter (λ u. stage_of p plan u.site == t) rest)
-      by true = refl
-      by false = refl
+  words_are t (event ∷ rest) = elim (cases_Bool (stage_of p plan event.site == t)) [ inl e ↦ rw e (ap (λ ws. words_of p plan event ++ ws) (words_are t rest)) | inr e ↦ rw e (words_are t rest) ]

@@ -1,15 +1,9 @@
 -- The packets of an epoch whose iterations so far went in agreement with the plan.
-use Rattle.std.proofs.Common.{◌≡◌, ◌⊎◌, inl, inr, refl, sym, ap, ◌∙◌, subst, ℕ, zero, suc, ◌+◌, ◌<◌, true, false, List, [], ◌∷◌, ◌++◌, ℤ, pos, length, get_or, length-append, Option, Some, None, slice_get, Ok, arith}
-use Rattle.std.proofs.lemmas.Option.{slice_get_past}
-use Rattle.std.proofs.lemmas.Bool.{cases_order, both_ways}
-use Rattle.dp_semantics.proofs.Names.{Word, Event, StageKind, Seq, Par, Plan, is_par, is_replicated, Past, pushed, word_list, TurnEnd, stage_run, Status, Packet, Passed, Epoch, status_of, passed_by, run_on, cleared, at_sequential, at_replicated, at_kind, passed, last}
+use Rattle.dp_semantics.proofs.Names.{◌≡◌, inl, inr, refl, sym, ap, ◌∙◌, subst, ℕ, zero, suc, ◌+◌, ◌<◌, true, false, List, [], ◌∷◌, ◌++◌, ℤ, pos, length, get_or, length-append, Option, Some, None, slice_get, Ok, arith, slice_get_past, cases_order, both_ways, Word, Event, StageKind, Seq, Par, Plan, is_par, is_replicated, Past, pushed, word_list, TurnEnd, stage_run, Status, Packet, Passed, Epoch, status_of, passed_by, run_on, cleared, at_sequential, at_replicated, at_kind, passed, last}
 use Rattle.dp_semantics.proofs.Setting.{size, Fit}
-use Rattle.dp_semantics.proofs.Seeing.{Sees}
-use Rattle.dp_semantics.proofs.Memory.{AllBefore, pushed_before, before_later, Cleared, sees_next, sees_replicated, clear-length}
 use Rattle.dp_semantics.proofs.PacketFacts.{live, status_for, status_next, status_live, word_list-early, word_list-last, passed_live, run_before, Left, left_live}
-use Rattle.dp_semantics.proofs.Source.{Stands}
-use Rattle.dp_semantics.proofs.Lockstep.{words_through, closing_after, stands_after}
-use Rattle.dp_semantics.proofs.Whole.{turn_of, stands_at_start, Fresh, Makes, TurnIs, TurnEnds, stage_whole}
+use Rattle.dp_semantics.proofs.Whole.{turn_of, stands_at_start, Fresh, Makes, TurnIs, TurnEnds, stage_whole, AllBefore, pushed_before, before_later, Cleared, sees_next, sees_replicated, clear-length, words_through, closing_after, stands_after}
+use Rattle.dp_semantics.proofs.Stepping.{Sees, Stands}
 
 last_sequential : (plan : Plan) → is_replicated plan (last plan) ≡ false
 last_sequential plan = ap is_par (slice_get_past plan.stages (length plan.stages) (omega arith))
@@ -87,9 +81,8 @@ module _ {k : Epoch} (h : History k) where
     pub status : packet.status ≡ status_for s (closing_after program plan false (events n))
 
   -- a stage's memory after the iteration
-  pub record After (s n : ℕ) (cells : List ℤ) : Type 0 where
-    pub sees : Sees k s (number n) (past (suc n)) cells
-    pub size_is : length cells ≡ size program
+  abbrev After : ℕ → ℕ → List ℤ → Type 0
+  After s n cells = Fresh ok (number n) (past (suc n)) s cells
 
   -- the turns of the stages up to s came to their ends, and these are their words
   pub record Ends (s n : ℕ) (lists : List (List Word)) : Type 0 where
@@ -116,7 +109,11 @@ module _ {k : Epoch} (h : History k) where
     sent_on makes sent = subst (λ (q : Passed). SentAt q) (sym made) (record {
       sent = record {
         count = length-append came.lists (words_through program plan (suc s) (events n) ∷ []) ∙ added;
-        words = λ t low up. by_list t low up (cases_order t (suc s));
+        words = λ t low up. elim (cases_order t (suc s)) [
+          | inl e ↦ word_list-last came.lists (words_through program plan (suc s) (events n)) t (omega (arith, e, sent.count)) ∙ ap (λ (u : ℕ). words_through program plan u (events n)) (sym e)
+          | inr (inl e) ↦ word_list-early came.lists (words_through program plan (suc s) (events n)) t low (omega (arith, e, sent.count)) ∙ sent.words t low e
+          | inr (inr e) ↦ absurd (omega (arith, up, e))
+        ];
         status = ap (λ (status : Status). status_of status (closing_after program plan false (events n))) sent.status ∙ status_next s (closing_after program plan false (events n));
       };
       after = record { sees = whole.sees; size_is = whole.size_is };
@@ -131,15 +128,10 @@ module _ {k : Epoch} (h : History k) where
         made : run_on k (suc s) before came ≡ passed_by k (suc s) before came (Ok (record { own = words_through program plan (suc s) (events n); cells = whole.then_cells; closing = closing_after program plan false (events n) }))
         made = passed_live k (suc s) before came turn came.status (ap live sent.status ∙ status_live s (closing_after program plan false (events n))) ∙ ap (passed_by k (suc s) before came) whole.is
 
-        by_list : (t : ℕ) → 0 < t → t < suc (suc s) → (t ≡ suc s) ⊎ ((t < suc s) ⊎ (suc s < t)) → word_list (came.lists ++ words_through program plan (suc s) (events n) ∷ []) t ≡ words_through program plan t (events n)
-        by_list t low up (inl e) = word_list-last came.lists (words_through program plan (suc s) (events n)) t (omega (arith, e, sent.count)) ∙ ap (λ (u : ℕ). words_through program plan u (events n)) (sym e)
-        by_list t low up (inr (inl e)) = word_list-early came.lists (words_through program plan (suc s) (events n)) t low (omega (arith, e, sent.count)) ∙ sent.words t low e
-        by_list t low up (inr (inr e)) = absurd (omega (arith, up, e))
-
     ends_on : (live came.status ≡ true → Ends s n came.lists) → live (run_on k (suc s) before came).packet.status ≡ true → Ends (suc s) n (run_on k (suc s) before came).packet.lists
     ends_on earlier alive = subst (λ (lists : List (List Word)). Ends (suc s) n lists) (sym left.lists) (record {
       count = length-append came.lists (left.ended.own ∷ []) ∙ added;
-      turns = λ u low up. by_turn u low up (cases_order u (suc s));
+      turns = by_turn;
     })
       where
         left : Left k (suc s) before came turn (run_on k (suc s) before came).packet
@@ -154,28 +146,30 @@ module _ {k : Epoch} (h : History k) where
         old : (t : ℕ) → 0 < t → t < suc s → word_list came.lists t ≡ word_list (came.lists ++ left.ended.own ∷ []) t
         old t low up = sym (word_list-early came.lists left.ended.own t low (omega (arith, up, so_far.count)))
 
-        by_turn : (u : ℕ) → 0 < u → u < suc (suc s) → (u ≡ suc s) ⊎ ((u < suc s) ⊎ (suc s < u)) → TurnEnds ok (number n) (past n) u (word_list (came.lists ++ left.ended.own ∷ []))
-        by_turn u low up (inl e) = subst (λ (v : ℕ). TurnEnds ok (number n) (past n) v (word_list (came.lists ++ left.ended.own ∷ []))) (sym e) (record {
-          mine = before;
-          lists = came.lists;
-          ended = left.ended;
-          fresh = fresh;
-          are = old;
-          wide = omega (arith, so_far.count);
-          ends = left.ends;
-          words_are = sym (word_list-last came.lists left.ended.own (suc s) (omega (arith, so_far.count)));
-        })
-        by_turn u low up (inr (inl e)) = let q = so_far.turns u low e in record {
-          mine = q.mine;
-          lists = q.lists;
-          ended = q.ended;
-          fresh = q.fresh;
-          are = λ t one two. q.are t one two ∙ old t one (omega (arith, two, e));
-          wide = q.wide;
-          ends = q.ends;
-          words_are = q.words_are ∙ old u low e;
-        }
-        by_turn u low up (inr (inr e)) = absurd (omega (arith, up, e))
+        by_turn : (u : ℕ) → 0 < u → u < suc (suc s) → TurnEnds ok (number n) (past n) u (word_list (came.lists ++ left.ended.own ∷ []))
+        by_turn u low up = elim (cases_order u (suc s)) [
+          | inl e ↦ rw e (record {
+            mine = before;
+            lists = came.lists;
+            ended = left.ended;
+            fresh = fresh;
+            are = old;
+            wide = omega (arith, so_far.count);
+            ends = left.ends;
+            words_are = sym (word_list-last came.lists left.ended.own (suc s) (omega (arith, so_far.count)));
+          })
+          | inr (inl e) ↦ let q = so_far.turns u low e in record {
+            mine = q.mine;
+            lists = q.lists;
+            ended = q.ended;
+            fresh = q.fresh;
+            are = λ t one two. q.are t one two ∙ old t one (omega (arith, two, e));
+            wide = q.wide;
+            ends = q.ends;
+            words_are = q.words_are ∙ old u low e;
+          }
+          | inr (inr e) ↦ absurd (omega (arith, up, e))
+        ]
 
     ran : (MakesAt n → Sent s n came) → (live came.status ≡ true → Ends s n came.lists) → Claim (suc s) n (run_on k (suc s) before came)
     ran sent ends = record {

@@ -1,18 +1,7 @@
 -- What the text's definitions say of a statement, by its head.
-use Rattle.std.proofs.Common.{◌≡◌, refl, sym, ap, ◌∙◌, append_assoc, ℕ, Bool, true, false, not, ◌&&◌, ◌||◌, ◌==◌, List, [], ◌∷◌, ◌++◌, is_some}
-use Rattle.std.specs.List.{flat_map, list_all}
-use Rattle.dp_semantics.proofs.Names.{SiteId, Expr, Stmt, out-Stmt, roll-Stmt, roll-out-Stmt, hidden-the_row-Stmt-0, rolls-Assign, rolls-Store, rolls-Print, rolls-If, rolls-While, rolls-Region, rolls-Call, Stmt-F, Assign, Store, Print, If, While, Region, Call, Program, Plan, site_of, Access, accesses, accesses_in, assumed_in, branch_of, where_reached, project, project_in, project_all, none_earlier, well_nested, well_nested_in, is_free, is_free_in}
+use Rattle.dp_semantics.proofs.Names.{opened_statement, ◌≡◌, refl, sym, ap, ◌∙◌, ℕ, Bool, true, false, not, ◌&&◌, ◌||◌, ◌==◌, List, [], ◌∷◌, ◌++◌, is_some, flat_map, list_all, SiteId, Expr, Stmt, out-Stmt, roll-Stmt, roll-out-Stmt, hidden-the_row-Stmt-0, rolls-Assign, rolls-Store, rolls-Print, rolls-If, rolls-While, rolls-Region, rolls-Call, Stmt-F, Assign, Store, Print, If, While, Region, Call, Program, Plan, site_of, Access, accesses, accesses_in, assumed_in, branch_of, where_reached, project, project_in, project_all, none_earlier, well_nested, well_nested_in, is_free, is_free_in}
 use Rattle.dp_tree.specs.declared.Stmt.TheVariants as tree
 use Rattle.dp_semantics.proofs.Evaluation.{head_loads, head_stores}
-
--- what opens where a statement is made
-unfoldable opened : Unit {0}
-unfolding Rattle.dp_tree.specs.declared.Stmt.TheBlock.shape-the_row-Stmt-0 Rattle.dp_tree.specs.declared.Stmt.TheBlock.hidden-the_row-Stmt-0 denote.Hole.Carrier.hidden
-opened = tt
-
-pub flat_map-append : {X Y : Type 0} (f : X → List Y) (a b : List X) → flat_map f (a ++ b) ≡ flat_map f a ++ flat_map f b
-flat_map-append f [] b = refl
-flat_map-append f (x ∷ a) b = ap (λ ys. f x ++ ys) (flat_map-append f a b) ∙ sym (append_assoc (f x) (flat_map f a) (flat_map f b))
 
 -- The sites: the statement's own, and those inside it.
 abbrev pub accesses_all : List Stmt → List Access
@@ -32,17 +21,16 @@ accesses_at (Call f line args) = []
 accesses_at h = head_access h ∷ inside h
 
 accesses_hidden : (xs : List Stmt) → accesses_in (hidden-the_row-Stmt-0 xs) ≡ accesses_all xs
-unfolding opened
+unfolding opened_statement
 accesses_hidden [] = refl
 accesses_hidden (x ∷ xs) = ap (λ ys. accesses x ++ ys) (accesses_hidden xs)
 
 accesses_roll : (h : Stmt-F Stmt) → accesses (roll-Stmt h) ≡ accesses_at h
-unfolding opened
+unfolding opened_statement
 accesses_roll (Assign site x e) = ap accesses (rolls-Assign site x e)
 accesses_roll (Store site x index e) = ap accesses (rolls-Store site x index e)
 accesses_roll (Print site e) = ap accesses (rolls-Print site e)
-accesses_roll (If site cond a b) = ap accesses (rolls-If site cond a b) ∙ ap (λ xs. head_access (If site cond a b) ∷ (xs ++ accesses_in (hidden-the_row-Stmt-0 b))) (accesses_hidden a)
-    ∙ ap (λ xs. head_access (If site cond a b) ∷ (accesses_all a ++ xs)) (accesses_hidden b)
+accesses_roll (If site cond a b) = rw (rolls-If site cond a b, accesses_hidden a, accesses_hidden b)
 accesses_roll (While site cond a) = ap accesses (rolls-While site cond a) ∙ ap (λ xs. head_access (While site cond a) ∷ xs) (accesses_hidden a)
 accesses_roll (Region r site cond a) = ap accesses (rolls-Region r site cond a) ∙ ap (λ xs. head_access (Region r site cond a) ∷ xs) (accesses_hidden a)
 accesses_roll (Call f line args) = ap accesses (rolls-Call f line args)
@@ -62,16 +50,16 @@ module _ (r : ℕ) where
   free_at _ = true
 
   free_hidden : (xs : List Stmt) → is_free_in r (hidden-the_row-Stmt-0 xs) ≡ all_free r xs
-  unfolding opened
+  unfolding opened_statement
   free_hidden [] = refl
   free_hidden (x ∷ xs) = ap (λ b. is_free r x && b) (free_hidden xs)
 
   free_roll : (h : Stmt-F Stmt) → is_free r (roll-Stmt h) ≡ free_at h
-  unfolding opened
+  unfolding opened_statement
   free_roll (Assign site x e) = ap (is_free r) (rolls-Assign site x e)
   free_roll (Store site x index e) = ap (is_free r) (rolls-Store site x index e)
   free_roll (Print site e) = ap (is_free r) (rolls-Print site e)
-  free_roll (If site cond a b) = ap (is_free r) (rolls-If site cond a b) ∙ ap (λ u. u && is_free_in r (hidden-the_row-Stmt-0 b)) (free_hidden a) ∙ ap (λ u. all_free r a && u) (free_hidden b)
+  free_roll (If site cond a b) = rw (rolls-If site cond a b, free_hidden a, free_hidden b)
   free_roll (While site cond a) = ap (is_free r) (rolls-While site cond a) ∙ free_hidden a
   free_roll (Region q site cond a) = ap (is_free r) (rolls-Region q site cond a) ∙ ap (λ u. not (q == r) && u) (free_hidden a)
   free_roll (Call f line args) = ap (is_free r) (rolls-Call f line args)
@@ -95,28 +83,18 @@ module _ (p : Program) (plan : Plan) where
   well_at (Call f line args) = false
   well_at _ = true
 
-  well_hidden : (xs : List Stmt) → well_nested_in p plan (hidden-the_row-Stmt-0 xs) ≡ all_well xs
-  unfolding opened
+  pub well_hidden : (xs : List Stmt) → well_nested_in p plan (hidden-the_row-Stmt-0 xs) ≡ all_well xs
+  unfolding opened_statement
   well_hidden [] = refl
   well_hidden (x ∷ xs) = ap (λ b. well_nested p plan x && b) (well_hidden xs)
 
-  -- an `if` by its sites and its parts, and a `while`
-  abbrev if_by : ℕ → List Access → Bool → Bool → Bool
-  if_by site inner a b = if_rule site inner && (a && b)
-
   well_roll : (h : Stmt-F Stmt) → well_nested p plan (roll-Stmt h) ≡ well_at h
-  unfolding opened
+  unfolding opened_statement
   well_roll (Assign site x e) = ap (well_nested p plan) (rolls-Assign site x e)
   well_roll (Store site x index e) = ap (well_nested p plan) (rolls-Store site x index e)
   well_roll (Print site e) = ap (well_nested p plan) (rolls-Print site e)
-  well_roll (If site cond a b) = ap (well_nested p plan) (rolls-If site cond a b)
-      ∙ ap (λ xs. if_by site.0 (xs ++ accesses_in (hidden-the_row-Stmt-0 b)) (well_nested_in p plan (hidden-the_row-Stmt-0 a)) (well_nested_in p plan (hidden-the_row-Stmt-0 b))) (accesses_hidden a)
-      ∙ ap (λ xs. if_by site.0 (accesses_all a ++ xs) (well_nested_in p plan (hidden-the_row-Stmt-0 a)) (well_nested_in p plan (hidden-the_row-Stmt-0 b))) (accesses_hidden b)
-      ∙ ap (λ w. if_by site.0 (accesses_all a ++ accesses_all b) w (well_nested_in p plan (hidden-the_row-Stmt-0 b))) (well_hidden a)
-      ∙ ap (λ w. if_by site.0 (accesses_all a ++ accesses_all b) (all_well a) w) (well_hidden b)
-  well_roll (While site cond a) = ap (well_nested p plan) (rolls-While site cond a)
-      ∙ ap (λ xs. none_earlier p plan site.0 xs && well_nested_in p plan (hidden-the_row-Stmt-0 a)) (accesses_hidden a)
-      ∙ ap (λ w. none_earlier p plan site.0 (accesses_all a) && w) (well_hidden a)
+  well_roll (If site cond a b) = rw (rolls-If site cond a b, accesses_hidden a, accesses_hidden b, well_hidden a, well_hidden b)
+  well_roll (While site cond a) = rw (rolls-While site cond a, accesses_hidden a, well_hidden a)
   well_roll (Region r site cond a) = ap (well_nested p plan) (rolls-Region r site cond a)
   well_roll (Call f line args) = ap (well_nested p plan) (rolls-Call f line args)
 
@@ -142,17 +120,16 @@ module _ (p : Program) (plan : Plan) where
     project_at (Call f line args) = []
 
     project_hidden : (xs : List Stmt) → project_in p plan s (hidden-the_row-Stmt-0 xs) ≡ project_all p plan s xs
-    unfolding opened
+    unfolding opened_statement
     project_hidden [] = refl
     project_hidden (x ∷ xs) = ap (λ ys. project p plan s x ++ ys) (project_hidden xs)
 
     project_roll : (h : Stmt-F Stmt) → project p plan s (roll-Stmt h) ≡ project_at h
-    unfolding opened
+    unfolding opened_statement
     project_roll (Assign site x e) = ap (project p plan s) (rolls-Assign site x e)
     project_roll (Store site x index e) = ap (project p plan s) (rolls-Store site x index e)
     project_roll (Print site e) = ap (project p plan s) (rolls-Print site e)
-    project_roll (If site cond a b) = ap (project p plan s) (rolls-If site cond a b)
-        ∙ ap (λ ys. if_for site cond ys (project_in p plan s (hidden-the_row-Stmt-0 b))) (project_hidden a) ∙ ap (λ ys. if_for site cond (project_all p plan s a) ys) (project_hidden b)
+    project_roll (If site cond a b) = rw (rolls-If site cond a b, project_hidden a, project_hidden b)
     project_roll (While site cond a) = ap (project p plan s) (rolls-While site cond a) ∙ ap (λ ys. while_for site cond ys) (project_hidden a)
     project_roll (Region r site cond a) = ap (project p plan s) (rolls-Region r site cond a) ∙ ap (λ ys. tree.If site cond ys [] ∷ []) (project_hidden a)
     project_roll (Call f line args) = ap (project p plan s) (rolls-Call f line args)

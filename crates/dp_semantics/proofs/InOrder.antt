@@ -1,9 +1,5 @@
 -- Variables whose cells lie one after the other.
-use Rattle.std.proofs.Common.{◌≡◌, refl, sym, ap, ◌∙◌, ℕ, zero, suc, ◌+◌, ◌<◌, ◌≤◌, ◌==◌, Bool, true, false, not, ◌&&◌, ◌||◌, List, [], ◌∷◌, length, length-append, replicate, slice_get, nat_lt, arith, ltb-true, eqb-true, ne_eqb, eq-eqb}
-use Rattle.std.proofs.lemmas.List.{length-replicate}
-use Rattle.std.specs.List.{list_any}
-use Rattle.dp_semantics.proofs.Names.{VarInfo, Program, Plan, first_of, length_of, is_local_of, start_cells, is_local, is_local_cell, lies_in_order}
-use Rattle.dp_semantics.proofs.Each.{and_true}
+use Rattle.dp_semantics.proofs.Names.{◌≡◌, refl, ap, ℕ, zero, suc, ◌+◌, ◌<◌, ◌≤◌, ◌==◌, true, false, not, ◌&&◌, ◌||◌, List, [], ◌∷◌, length, length-append, replicate, slice_get, nat_lt, arith, ltb-true, eqb-true, ne_eqb, eq-eqb, length-replicate, list_any, VarInfo, Program, Plan, first_of, length_of, is_local_of, start_cells, is_local, is_local_cell, lies_in_order, and_parts, inl, inr, and-false, cases_Bool}
 use Rattle.dp_semantics.proofs.Setting.{Laid}
 
 -- the cell is one of the x-th variable's
@@ -19,9 +15,9 @@ module _ (r : ℕ) where
 
   head_of : (k : ℕ) (x : VarInfo) (rest : List VarInfo) → lies_in_order r k (x ∷ rest) ≡ true → Head k x rest
   head_of k x rest e =
-      let both = and_true ((x.first.0 == k) && (nat_lt 0 x.length && (not (is_local_of r x.scope) || (x.length == 1)))) (lies_in_order r (k + x.length) rest) e in
-      let a = and_true (x.first.0 == k) (nat_lt 0 x.length && (not (is_local_of r x.scope) || (x.length == 1))) both.0 in
-      let b = and_true (nat_lt 0 x.length) (not (is_local_of r x.scope) || (x.length == 1)) a.1 in
+      let both = and_parts ((x.first.0 == k) && (nat_lt 0 x.length && (not (is_local_of r x.scope) || (x.length == 1)))) (lies_in_order r (k + x.length) rest) e in
+      let a = and_parts (x.first.0 == k) (nat_lt 0 x.length && (not (is_local_of r x.scope) || (x.length == 1))) both.0 in
+      let b = and_parts (nat_lt 0 x.length) (not (is_local_of r x.scope) || (x.length == 1)) a.1 in
       record { first = eqb-true x.first.0 k a.0; some = ltb-true 0 x.length b.0; single = b.1; tail = both.1 }
 
   lies_within : (vars : List VarInfo) (k x c : ℕ) → lies_in_order r k vars ≡ true → VarAt vars x c → (k ≤ c) × (c < k + length (start_cells vars))
@@ -45,38 +41,25 @@ module _ (r : ℕ) where
   lies_apart (v ∷ vars) k (suc x) zero c e h i = let a = head_of k v vars e in absurd (omega (arith, i.1, a.first, (lies_within vars (k + v.length) x c a.tail h).0))
   lies_apart (v ∷ vars) k (suc x) (suc y) c e h i = let a = head_of k v vars e in ap (λ (n : ℕ). suc n) (lies_apart vars (k + v.length) x y c a.tail h i)
 
-  and_off : (b c : Bool) → c ≡ false → (b && c) ≡ false
-  and_off true c e = e
-  and_off false c e = refl
-
-  or_off : (b c : Bool) → b ≡ false → (b || c) ≡ c
-  or_off false c e = refl
-  or_off true c e = absurd (cc)
-
   none_below : (vars : List VarInfo) (k c : ℕ) → lies_in_order r k vars ≡ true → c < k → list_any (is_local_cell r c) vars ≡ false
   none_below [] k c e h = refl
   none_below (v ∷ vars) k c e h =
       let a = head_of k v vars e in
-      or_off (is_local_cell r c v) (list_any (is_local_cell r c) vars) (and_off (is_local_of r v.scope) (v.first.0 == c) (ne_eqb v.first.0 c (λ q. omega (arith, q, a.first, h))))
-      ∙ none_below vars (k + v.length) c a.tail (omega (arith, h))
-
-  head_local : (v : VarInfo) (vars : List VarInfo) (k c : ℕ) → Head k v vars → VarAt (v ∷ vars) 0 c → (b : Bool) → is_local_of r v.scope ≡ b → list_any (is_local_cell r c) vars ≡ false →
-      ((b && (v.first.0 == c)) || list_any (is_local_cell r c) vars) ≡ b
-  head_local v vars k c a h true e none =
-      let one : v.length ≡ 1 = eqb-true v.length 1 (sym (ap (λ (b : Bool). not b || (v.length == 1)) e) ∙ a.single) in
-      ap (λ (b : Bool). b || list_any (is_local_cell r c) vars) (eq-eqb v.first.0 c (omega (arith, h.0, h.1, one)))
-  head_local v vars k c a h false e none = none
+      rw (ne_eqb v.first.0 c (λ q. omega (arith, q, a.first, h)), and-false (is_local_of r v.scope)) (none_below vars (k + v.length) c a.tail (omega (arith, h)))
 
   lies_local : (vars : List VarInfo) (k x c : ℕ) → lies_in_order r k vars ≡ true → VarAt vars x c → list_any (is_local_cell r c) vars ≡ is_local r (slice_get vars x)
   lies_local [] k x c e h = absurd (omega (arith, h.1))
   lies_local (v ∷ vars) k zero c e h =
       let a = head_of k v vars e in
-      head_local v vars k c a h (is_local_of r v.scope) refl (none_below vars (k + v.length) c a.tail (omega (arith, h.1, a.first)))
+      let none = none_below vars (k + v.length) c a.tail (omega (arith, h.1, a.first)) in
+      elim (cases_Bool (is_local_of r v.scope)) [
+        | inl l ↦ let one : v.length ≡ 1 = eqb-true v.length 1 (rw l at a.single) in rw (l, eq-eqb v.first.0 c (omega (arith, h.0, h.1, one)))
+        | inr l ↦ rw l none
+      ]
   lies_local (v ∷ vars) k (suc x) c e h =
       let a = head_of k v vars e in
-      or_off (is_local_cell r c v) (list_any (is_local_cell r c) vars)
-      (and_off (is_local_of r v.scope) (v.first.0 == c) (ne_eqb v.first.0 c (λ q. omega (arith, q, a.first, a.some, (lies_within vars (k + v.length) x c a.tail h).0))))
-      ∙ lies_local vars (k + v.length) x c a.tail h
+      rw (ne_eqb v.first.0 c (λ q. omega (arith, q, a.first, a.some, (lies_within vars (k + v.length) x c a.tail h).0)), and-false (is_local_of r v.scope))
+      (lies_local vars (k + v.length) x c a.tail h)
 
 pub laid_of : (p : Program) (plan : Plan) → lies_in_order plan.region 0 p.vars ≡ true → Laid p plan
 laid_of p plan e = record {

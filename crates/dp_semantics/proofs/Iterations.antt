@@ -1,15 +1,8 @@
 -- The iterations of a whole run, each as a piece of the source's steps.
-use Rattle.std.proofs.Common.{◌≡◌, ◌⊎◌, inl, inr, refl, sym, ap, ◌∙◌, subst, ℕ, suc, ◌+◌, ◌-◌, ◌≤◌, Bool, true, false, ◌||◌, if◌then◌else◌, List, [], ◌∷◌, ◌++◌, ℤ, pos, length, get_or, take, drop, length-append, Option, Some, None, is_some, slice_get, slice_range, Err, arith}
-use Rattle.std.proofs.Math.Seq.{drop-append_seam, take-append_seam}
-use Rattle.std.proofs.lemmas.List.{append-nil}
-use Rattle.dp_semantics.proofs.Names.{FaultKind, Stmt, out-Stmt, Program, Plan, Config, Event, evaluated, Run, run_of, begin, start_cells, stands_at_head, start, decided_zero, stop_from, events_from, iteration, is_closing, has_ended, cells_in, cells_after, memory_from, memory_after, places, whole_run}
-use Rattle.dp_semantics.proofs.Each.{Each, each_split}
-use Rattle.dp_semantics.proofs.Memory.{Cleared, clear-at, clear-length}
-use Rattle.dp_semantics.proofs.Setting.{size, Accepted}
-use Rattle.dp_semantics.proofs.Lockstep.{Goes}
-use Rattle.dp_semantics.proofs.Whole.{turn_of}
-use Rattle.dp_semantics.proofs.Runs.{PlaceAt, place_at, From, run_from, run_first}
-use Rattle.dp_semantics.proofs.Placed.{before_it, Spotted, all_spotted, at_start}
+use Rattle.dp_semantics.proofs.Names.{◌≡◌, ◌⊎◌, inl, inr, refl, sym, ap, ◌∙◌, subst, ℕ, suc, ◌+◌, ◌-◌, ◌≤◌, Bool, true, false, ◌||◌, if◌then◌else◌, List, [], ◌∷◌, ◌++◌, ℤ, pos, length, get_or, take, drop, length-append, Option, Some, None, is_some, slice_get, slice_range, Err, arith, drop-append_seam, take-append_seam, append-nil, FaultKind, Stmt, out-Stmt, Program, Plan, Config, Event, evaluated, Run, run_of, begin, start_cells, stands_at_head, start, decided_zero, stop_from, events_from, iteration, is_closing, has_ended, cells_in, cells_after, memory_from, memory_after, places, whole_run}
+use Rattle.dp_semantics.proofs.Setting.{size, Accepted, Each, each_split}
+use Rattle.dp_semantics.proofs.Whole.{turn_of, Cleared, clear-at, clear-length, Goes}
+use Rattle.dp_semantics.proofs.Placed.{before_it, Spotted, Spot, spot_next, behind, all_at, at_start, PlaceAt, place_at, From, run_from, run_first}
 use Rattle.dp_semantics.proofs.Turns.{clear, start_at, run_at, next_start, Outcome, onward, closed, broken, Turned, standing_is, starts_first, turned}
 
 slice_get-seam : {X : Type 0} (a b : List X) (k j : ℕ) → k ≡ length a + j → slice_get (a ++ b) k ≡ slice_get b j
@@ -46,7 +39,7 @@ module _ {p : Program} {plan : Plan} (a : Accepted p plan) (input : List ℤ) (f
     pub next : start run r (suc i) ≡ next_start a input k left cells
 
   spotted : Each (Spotted a input) run.configs
-  spotted = all_spotted a input fuel p.main (start_cells p.vars) (before_it a.front a.main a.front_free) refl
+  spotted = all_at p input (size p) (Spot r (behind a)) (spot_next a) fuel p.main (start_cells p.vars) (before_it a.front a.main_is a.front_free) refl
 
   found_at : (i k : ℕ) → start run r i ≡ Some k → AtStart i k
   found_at i k e = record {

@@ -1,14 +1,7 @@
 -- The judgement stands where the source does, and of an iteration that agrees with the plan it is Clean.
-use Rattle.std.proofs.Common.{◌≡◌, refl, sym, ap, ◌∙◌, append_assoc, ℕ, zero, suc, ◌+◌, ◌<◌, Bool, true, ◌&&◌, if◌then◌else◌, List, [], ◌∷◌, ◌++◌, ℤ, length, map, Option, Some, None, arith}
-use Rattle.std.proofs.lemmas.List.{append-nil}
-use Rattle.std.specs.List.{list_all}
-use Rattle.dp_semantics.proofs.Names.{Word, SiteId, Stmt, out-Stmt, out-roll-Stmt, Stmt-F, Program, Plan, Load, WithLoads, Event, Effect, followed, site_of, value_of, Past, as_assumed, event_as_assumed, pushed, words_of, word_list, words_left, Epoch, Judging, Clean, loads_hold, judged, judged_by, judge_step, judge_by, judge_at, judge_spent, judge_from, last, effect_in}
-use Rattle.dp_semantics.proofs.Each.{each_map, and_true, and_make}
-use Rattle.dp_semantics.proofs.Evaluation.{Form, Holds, IsHeld}
-use Rattle.dp_semantics.proofs.Setting.{Fit}
-use Rattle.dp_semantics.proofs.Taking.{event_passes}
-use Rattle.dp_semantics.proofs.Source.{event_of, past_of, stage_for, Stands, own_site, form_of, own_loads, stands_next}
-use Rattle.dp_semantics.proofs.Stepping.{InStep, Moved, here, staying, onward, site_proj, head_is, left_is, taken_is, consumed_stands, consumed_moved}
+use Rattle.dp_semantics.proofs.Names.{◌≡◌, refl, sym, ap, ◌∙◌, append_assoc, ℕ, zero, suc, ◌+◌, ◌<◌, Bool, true, ◌&&◌, if◌then◌else◌, List, [], ◌∷◌, ◌++◌, ℤ, length, map, Option, Some, None, arith, append-nil, list_all, Word, Stmt, out-Stmt, out-roll-Stmt, Program, Plan, Load, WithLoads, Event, Effect, followed, site_of, value_of, Past, event_as_assumed, pushed, words_of, word_list, Epoch, Judging, Clean, loads_hold, judged, judge_step, judge_by, judge_at, judge_spent, judge_from, last, effect_in, and_parts, and_from}
+use Rattle.dp_semantics.proofs.Setting.{Fit, each_map, Form, Holds, IsHeld}
+use Rattle.dp_semantics.proofs.Stepping.{InStep, Moved, here, staying, onward, site_proj, head_is, left_is, taken_is, consumed_stands, consumed_moved, event_passes, event_of, past_of, stage_for, Stands, own_site, form_of, own_loads, stands_next}
 use Rattle.dp_semantics.proofs.Lockstep.{Goes, stays, goes, closing_after, Has, front_of, has_next}
 
 module _ {k : Epoch} (ok : Fit k) {i : ℕ} {x : Stmt} {rest : List Stmt} {earlier : List Past} {cells : List ℤ} (at : Stands k i (x ∷ rest) earlier cells)
@@ -30,18 +23,11 @@ module _ {k : Epoch} (ok : Fit k) {i : ℕ} {x : Stmt} {rest : List Stmt} {earli
   early = (own_site ok at).early
 
   step_is : judge_step program plan j (staying ok at (last plan)) (onward ok at (last plan)) (here ok at (last plan)) ≡ next_if (held && event_as_assumed plan (event_of (out-Stmt x) v))
-  step_is =
-      ap (judged_by program plan j (staying ok at (last plan)) (onward ok at (last plan)) (here ok at (last plan)) (loads_hold (site_of (here ok at (last plan))).0 j.turn.cells (words_left program plan j.turn (here ok at (last plan)))))
-      (taken_is ok at (last plan) j.turn b v early form more front)
-      ∙ ap (λ ws. next_if (loads_hold (site_of (here ok at (last plan))).0 j.turn.cells ws && as_assumed plan (site_of (here ok at (last plan))).0 v.value)) (left_is ok at (last plan) j.turn b v early form more front)
-      ∙ ap (λ (n : SiteId). next_if (loads_hold n.0 j.turn.cells (words_of program plan (event_of (out-Stmt x) v) ++ more) && as_assumed plan n.0 v.value)) (site_proj program plan (last plan) (out-Stmt x))
+  step_is = rw (taken_is ok at (last plan) j.turn b v early form more front, left_is ok at (last plan) j.turn b v early form more front, site_proj program plan (last plan) (out-Stmt x))
 
   pub judge_turn : (n : ℕ) → judge_from program plan (suc n) j ≡ judge_by (judge_from program plan n) (next_if (held && event_as_assumed plan (event_of (out-Stmt x) v)))
   unfolding judge_from
-  judge_turn n =
-      ap (judge_at program plan (judge_from program plan n) j) (head_is ok at (last plan) j.turn b (omega (arith, early)))
-      ∙ ap (λ (g : Stmt-F Stmt). judge_by (judge_from program plan n) (judge_step program plan j (staying ok at (last plan)) (onward ok at (last plan)) g)) (out-roll-Stmt (here ok at (last plan)))
-      ∙ ap (judge_by (judge_from program plan n)) step_is
+  judge_turn n = rw (head_is ok at (last plan) j.turn b (omega (arith, early)), out-roll-Stmt (here ok at (last plan)), step_is)
 
   pub next_stands : InStep k i (last plan) (followed x rest (out-Stmt x) (value_of v.value)) (past_of i x v ∷ earlier) judged_next.turn
   next_stands = consumed_stands ok at (last plan) j.turn b v early form more front
@@ -84,10 +70,10 @@ module _ {k : Epoch} (ok : Fit k) {i : ℕ} where
   }
   judge_lockstep {earlier = earlier} at (goes {x = x} {rest = rest} {cells = cells} {v = v} {events = more} e path) told left j b has =
       let event : Event = event_of (out-Stmt x) v in
-      let goes_so = and_true (event_as_assumed plan event) (list_all (event_as_assumed plan) more) told in
+      let goes_so = and_parts (event_as_assumed plan event) (list_all (event_as_assumed plan) more) told in
       let form = form_of ok at cells v e in
-      let front = front_of k (last plan) event more left j.turn has (own_site ok at).staged (own_site ok at).early in
-      let passes = and_make _ _ (event_passes program plan event _ j.turn.cells (λ checked. held_there ok at j b v form _ front v.loads (own_loads ok at cells v e))) goes_so.0 in
+      let front = front_of k (last plan) (stage_for k x) event more left j.turn has refl (own_site ok at).staged (own_site ok at).early in
+      let passes = and_from _ _ (event_passes program plan event _ j.turn.cells (λ checked. held_there ok at j b v form _ front v.loads (own_loads ok at cells v e))) goes_so.0 in
       let next : Judging = judged_next ok at j b v form _ front in
       let step = λ (n : ℕ). judge_turn ok at j b v form _ front n ∙ ap (λ (t : Bool). judge_by (judge_from program plan n) (if t then Some next else None)) passes in
       let moved = next_moved ok at j b v form _ front in

@@ -34,3 +34,9 @@ pub mod Alone
 pub mod RegionSites
 pub mod OneStage
 pub mod Recovering
+pub mod TextOrder
+pub mod Regions
+pub mod Unbroken
+pub mod WellNested
+pub mod PlanStages
+pub mod ValidFits

@@ -1,13 +1,7 @@
 -- Lockstep: a stage over any piece of an iteration that agrees with the plan.
-use Rattle.std.proofs.Common.{◌≡◌, refl, sym, ap, ◌∙◌, subst, append_assoc, ℕ, ◌+◌, ◌<◌, ◌≤◌, Bool, true, ◌||◌, List, [], ◌∷◌, ◌++◌, ℤ, length, length-append, sum_by, Ok, arith}
-use Rattle.std.proofs.lemmas.List.{append-nil}
-use Rattle.std.specs.List.{list_all}
-use Rattle.dp_semantics.proofs.Names.{Word, Stmt, out-Stmt, Program, Plan, WithLoads, Event, Effect, followed, value_of, stored, evaluated, stage_of, first_site, Past, all_agree, event_agrees, event_as_assumed, pushed, words_of, word_list, Turn, turn_from, is_zero_at, Epoch}
-use Rattle.dp_semantics.proofs.Each.{and_true}
+use Rattle.dp_semantics.proofs.Names.{◌≡◌, refl, sym, ap, ◌∙◌, subst, append_assoc, ℕ, ◌+◌, ◌<◌, ◌≤◌, Bool, true, ◌||◌, List, [], ◌∷◌, ◌++◌, ℤ, length, length-append, sum_by, Ok, arith, append-nil, list_all, Word, Stmt, out-Stmt, Program, Plan, WithLoads, Event, Effect, followed, value_of, stored, evaluated, stage_of, first_site, Past, all_agree, event_agrees, event_as_assumed, pushed, words_of, word_list, Turn, turn_from, is_zero_at, Epoch, and_parts, append_cancel_left}
 use Rattle.dp_semantics.proofs.Setting.{Fit}
-use Rattle.dp_semantics.proofs.Taking.{append_same, words_for, words_here}
-use Rattle.dp_semantics.proofs.Source.{event_of, past_of, stage_for, Stands, stands_next, own_site, form_of, stage_does}
-use Rattle.dp_semantics.proofs.Stepping.{InStep, Moved, Advanced, advance}
+use Rattle.dp_semantics.proofs.Stepping.{stage_for, InStep, Moved, Advanced, advance, words_for, words_here, event_of, past_of, Stands, stands_next, own_site, form_of, stage_does}
 
 -- the source's steps through statements, with their events
 pub data Goes (p : Program) (input : List ℤ) : List Stmt → List ℤ → List Event → List Stmt → List ℤ → Type 0 where
@@ -40,16 +34,16 @@ pub record Through (k : Epoch) (i s : ℕ) (to_do : List Stmt) (earlier : List P
 abbrev pub Has : Epoch → ℕ → List Event → (ℕ → List Word) → Turn → Type 0
 Has k s events left c = (t : ℕ) → 0 < t → t < s → word_list c.lists t ≡ words_through k.program k.plan t events ++ left t
 
--- the words of the first event, and those of the others after its step
-pub front_of : (k : Epoch) (s : ℕ) (event : Event) (more : List Event) (left : ℕ → List Word) (c : Turn) → Has k s (event ∷ more) left c → 0 < stage_of k.program k.plan event.site → stage_of k.program k.plan event.site < s →
-    word_list c.lists (stage_of k.program k.plan event.site) ≡ words_of k.program k.plan event ++ (words_through k.program k.plan (stage_of k.program k.plan event.site) more ++ left (stage_of k.program k.plan event.site))
-front_of k s event more left c has low high =
-    has (stage_of k.program k.plan event.site) low high ∙ append_assoc (words_for k.program k.plan (stage_of k.program k.plan event.site) event) (words_through k.program k.plan (stage_of k.program k.plan event.site) more) (left (stage_of k.program k.plan event.site))
-    ∙ ap (λ ws. ws ++ (words_through k.program k.plan (stage_of k.program k.plan event.site) more ++ left (stage_of k.program k.plan event.site))) (words_here k.program k.plan (stage_of k.program k.plan event.site) event refl)
+-- the words of the first event, which is of stage t, and those of the others after its step
+pub front_of : (k : Epoch) (s t : ℕ) (event : Event) (more : List Event) (left : ℕ → List Word) (c : Turn) → Has k s (event ∷ more) left c → stage_of k.program k.plan event.site ≡ t → 0 < t → t < s →
+    word_list c.lists t ≡ words_of k.program k.plan event ++ (words_through k.program k.plan t more ++ left t)
+front_of k s t event more left c has here low high =
+    has t low high ∙ append_assoc (words_for k.program k.plan t event) (words_through k.program k.plan t more) (left t)
+    ∙ ap (λ ws. ws ++ (words_through k.program k.plan t more ++ left t)) (words_here k.program k.plan t event here)
 
 pub has_next : (k : Epoch) (s steps : ℕ) (event : Event) (more : List Event) (left : ℕ → List Word) (c d : Turn) → Has k s (event ∷ more) left c → Moved k s steps event c d → Has k s more left d
 has_next k s steps event more left c d has moved t low high =
-    append_same (words_for k.program k.plan t event) (word_list d.lists t) (words_through k.program k.plan t more ++ left t)
+    append_cancel_left (words_for k.program k.plan t event) (word_list d.lists t) (words_through k.program k.plan t more ++ left t)
     (sym (moved.lists t low high) ∙ has t low high ∙ append_assoc (words_for k.program k.plan t event) (words_through k.program k.plan t more) (left t))
 
 module _ {k : Epoch} (ok : Fit k) {i : ℕ} where
@@ -76,14 +70,14 @@ module _ {k : Epoch} (ok : Fit k) {i : ℕ} where
   }
   lockstep s real {earlier = earlier} at (goes {x = x} {rest = rest} {v = v} {events = more} e path) agree told left c fits b has =
       let event : Event = event_of (out-Stmt x) v in
-      let agrees = and_true (event_agrees program plan base i earlier event) (all_agree program plan base i (past_of i x v ∷ earlier) more) agree in
-      let goes_so = and_true (event_as_assumed plan event) (list_all (event_as_assumed plan) more) told in
+      let agrees = and_parts (event_agrees program plan base i earlier event) (all_agree program plan base i (past_of i x v ∷ earlier) more) agree in
+      let goes_so = and_parts (event_as_assumed plan event) (list_all (event_as_assumed plan) more) told in
       let size_all : length (c.own ++ (words_for program plan s event ++ words_through program plan s more)) ≤ plan.words = fits in
       let both = ap length (append_assoc c.own (words_for program plan s event) (words_through program plan s more)) in
       let one : length (c.own ++ words_for program plan s event) ≤ plan.words = omega (arith, size_all, both, length-append (c.own ++ words_for program plan s event) (words_through program plan s more)) in
       let a : Advanced k i s (followed x rest (out-Stmt x) (value_of v.value)) (past_of i x v ∷ earlier) event c = advance ok at s c b v real (form_of ok at _ v e) goes_so.0
       (λ here. subst (λ (u : ℕ). (other : List ℤ) → Rattle.dp_semantics.proofs.Seeing.Sees k u i earlier other → Rattle.dp_semantics.proofs.Source.Gives k other x v) here (λ other sees. stage_does ok at other sees v e agrees.0) c.cells b.sees)
-      one _ (λ before. front_of k s event more left c has (own_site ok at).staged before) in
+      one _ (λ before. front_of k s (stage_for k x) event more left c has refl (own_site ok at).staged before) in
       let joined : a.turn.own ++ words_through program plan s more ≡ c.own ++ (words_for program plan s event ++ words_through program plan s more) =
       ap (λ ws. ws ++ words_through program plan s more) a.moved.own ∙ append_assoc c.own (words_for program plan s event) (words_through program plan s more) in
       let r = lockstep s real (stands_next ok at v e) path agrees.1 goes_so.1 left a.turn (omega (arith, size_all, ap length joined)) a.in_step (has_next k s a.steps event more left c a.turn has a.moved) in

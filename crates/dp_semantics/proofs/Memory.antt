@@ -1,12 +1,7 @@
 -- What a stage sees when the next iteration starts.
-use Rattle.std.proofs.Common.{◌≡◌, ◌⊎◌, inl, inr, refl, sym, ap, ◌∙◌, subst, ℕ, suc, ◌<◌, ◌≤◌, ◌==◌, Bool, true, false, not, ◌&&◌, ◌||◌, if◌then◌else◌, List, [], ◌∷◌, ℤ, pos, length, get_or, nat_lt, slice_set, arith, lt-ltb, le-ltb, eq-eqb, ne_eqb}
-use Rattle.std.proofs.lemmas.Bool.{cases_eq, cases_lt, cases_Bool, both_ways}
-use Rattle.std.proofs.lemmas.List.{get_or-set_other, get_or_past, length-set}
-use Rattle.std.proofs.lemmas.Grind.{get_or-set_at}
-use Rattle.std.specs.List.{list_any}
-use Rattle.dp_semantics.proofs.Names.{VarInfo, Program, Plan, Event, is_local_of, clear_locals, stage_of, is_replicated, Past, is_local_cell, is_local_at, is_covered, stored_in, seen, pushed, Epoch, cleared}
-use Rattle.dp_semantics.proofs.Each.{Each, each_map, or_false}
-use Rattle.dp_semantics.proofs.Seeing.{stored_none, seen_alike, seen_base, up_to, Sees}
+use Rattle.dp_semantics.proofs.Names.{◌≡◌, ◌⊎◌, inl, inr, refl, sym, ap, ◌∙◌, ℕ, suc, ◌<◌, ◌==◌, Bool, true, false, ◌||◌, if◌then◌else◌, List, [], ◌∷◌, ℤ, pos, length, get_or, nat_lt, slice_set, arith, lt-ltb, le-ltb, eq-eqb, ne_eqb, cases_eq, cases_lt, cases_Bool, both_ways, get_or-set_other, get_or_past, length-set, get_or-set_at, list_any, VarInfo, Program, Plan, Event, is_local_of, clear_locals, stage_of, is_replicated, Past, is_local_cell, is_local_at, is_covered, stored_in, pushed, Epoch, cleared, or_parts, and-false, and-true, or-false}
+use Rattle.dp_semantics.proofs.Setting.{Each, each_map}
+use Rattle.dp_semantics.proofs.Stepping.{stored_none, seen_alike, seen_base, up_to, Sees}
 
 -- the events stand before iteration n
 abbrev pub AllBefore : ℕ → List Past → Type 0
@@ -22,58 +17,28 @@ pushed_before n (event ∷ rest) earlier h = pushed_before n rest (record { iter
 module _ (p : Program) (plan : Plan) where
   -- a sequential stage still sees the stores to a cell that isn't local ..
   kept_cover : (s i t j c : ℕ) → is_replicated plan s ≡ false → is_local_at p plan c ≡ false → is_covered p plan s (suc i) t j c ≡ is_covered p plan s i t j c
-  kept_cover s i t j c seq loc = by (nat_lt t s) (t == s) (is_replicated plan s) (is_local_at p plan c) (j == suc i) (j == i) seq loc
-    where
-      by : (lt eq rep local new old : Bool) → rep ≡ false → local ≡ false → ((lt || (eq && (not rep || new))) && (not local || new)) ≡ ((lt || (eq && (not rep || old))) && (not local || old))
-      by lt eq false false new old e f = refl
-      by lt eq true local new old e f = absurd (cc)
-      by lt eq false true new old e f = absurd (cc)
+  kept_cover s i t j c seq loc = rw (seq, loc)
 
   -- .. and of a local one nothing
   lost_cover : (s i t j c : ℕ) → j < i → is_local_at p plan c ≡ true → is_covered p plan s i t j c ≡ false
-  lost_cover s i t j c h loc = by (nat_lt t s || ((t == s) && (not (is_replicated plan s) || (j == i)))) (is_local_at p plan c) (j == i) loc (ne_eqb j i (λ e. omega (arith, e, h)))
-    where
-      by : (a local new : Bool) → local ≡ true → new ≡ false → (a && (not local || new)) ≡ false
-      by true true false e f = refl
-      by false true false e f = refl
-      by a true true e f = absurd (cc)
-      by a false new e f = absurd (cc)
+  lost_cover s i t j c h loc = simp (loc, ne_eqb j i (λ e. omega (arith, e, h)), and-false)
 
   up_one : (t s : ℕ) → nat_lt t (suc s) ≡ (nat_lt t s || (t == s))
-  up_one t s = by (cases_lt t (suc s))
-    where
-      neither : (a b : Bool) → a ≡ false → b ≡ false → (a || b) ≡ false
-      neither false b e f = f
-      neither true b e f = absurd (cc)
-
-      by : (t < suc s) ⊎ (suc s ≤ t) → nat_lt t (suc s) ≡ (nat_lt t s || (t == s))
-      by (inl h) = lt-ltb t (suc s) h ∙ sym (up_to t s h)
-      by (inr h) = le-ltb t (suc s) h ∙ sym (neither (nat_lt t s) (t == s) (le-ltb t s (omega (arith, h))) (ne_eqb t s (λ e. omega (arith, e, h))))
+  up_one t s = elim (cases_lt t (suc s)) [
+    | inl h ↦ lt-ltb t (suc s) h ∙ sym (up_to t s h)
+    | inr h ↦ rw (le-ltb t (suc s) h, le-ltb t s (omega (arith, h)), ne_eqb t s (λ e. omega (arith, e, h)))
+  ]
 
   -- a replicated stage sees, of the iterations before, what the sequential one before it sees
   replicated_cover : (s i t j c : ℕ) → is_replicated plan s ≡ false → is_replicated plan (suc s) ≡ true → j < i → is_covered p plan s i t j c ≡ is_covered p plan (suc s) i t j c
-  replicated_cover s i t j c seq rep h =
-      by (nat_lt t s) (t == s) (is_replicated plan s) (is_replicated plan (suc s)) (j == i) (t == suc s) (nat_lt t (suc s)) (not (is_local_at p plan c) || (j == i)) seq rep (ne_eqb j i (λ e. omega (arith, e, h))) (up_one t s)
-    where
-      by : (lt eq r q now other more b : Bool) → r ≡ false → q ≡ true → now ≡ false → more ≡ (lt || eq) → ((lt || (eq && (not r || now))) && b) ≡ ((more || (other && (not q || now))) && b)
-      by true eq false true false other true b e f g h = refl
-      by false true false true false other true b e f g h = refl
-      by false false false true false true false b e f g h = refl
-      by false false false true false false false b e f g h = refl
-      by lt eq true q now other more b e f g h = absurd (cc)
-      by lt eq false false now other more b e f g h = absurd (cc)
-      by lt eq false true true other more b e f g h = absurd (cc)
-      by true eq false true false other false b e f g h = absurd (cc)
-      by false true false true false other false b e f g h = absurd (cc)
-      by false false false true false other true b e f g h = absurd (cc)
+  replicated_cover s i t j c seq rep h = simp (seq, rep, ne_eqb j i (λ e. omega (arith, e, h)), and-true, and-false, or-false, up_one t s)
 
 -- Body locals read 0 after they are cleared, and other cells are as they were.
 zero_at : (cells : List ℤ) (c d : ℕ) → d ≡ c → get_or (slice_set cells d (pos 0)) c (pos 0) ≡ pos 0
-zero_at cells c d e = by (cases_lt c (length cells))
-  where
-    by : (c < length cells) ⊎ (length cells ≤ c) → get_or (slice_set cells d (pos 0)) c (pos 0) ≡ pos 0
-    by (inl h) = get_or-set_at cells d c (pos 0) (pos 0) (sym e) (omega (arith, e, h))
-    by (inr h) = get_or_past (slice_set cells d (pos 0)) c (pos 0) (subst (λ (n : ℕ). n ≤ c) (sym (length-set cells d (pos 0))) h)
+zero_at cells c d e = elim (cases_lt c (length cells)) [
+  | inl h ↦ get_or-set_at cells d c (pos 0) (pos 0) (sym e) (omega (arith, e, h))
+  | inr h ↦ get_or_past (slice_set cells d (pos 0)) c (pos 0) (omega (arith, h, length-set cells d (pos 0)))
+]
 
 -- the memory after one variable
 abbrev one_cleared : ℕ → VarInfo → List ℤ → List ℤ
@@ -82,32 +47,26 @@ one_cleared r x cells = if is_local_of r x.scope then slice_set cells x.first.0 
 pub clear-at : (r c : ℕ) (vars : List VarInfo) (cells : List ℤ) → (list_any (is_local_cell r c) vars ≡ true) ⊎ (get_or cells c (pos 0) ≡ pos 0) → get_or (clear_locals r vars cells) c (pos 0) ≡ pos 0
 clear-at r c [] cells (inl e) = absurd (cc)
 clear-at r c [] cells (inr e) = e
-clear-at r c (x ∷ xs) cells h = clear-at r c xs (one_cleared r x cells) (by (is_local_of r x.scope) (cases_eq x.first.0 c) h)
+clear-at r c (x ∷ xs) cells h = clear-at r c xs (one_cleared r x cells) (elim (cases_Bool (is_local_of r x.scope)) [ inl l ↦ rw l (by (cases_eq x.first.0 c) (rw l at h)) | inr l ↦ rw l (rw l at h) ])
   where
-    by : (b : Bool) → (x.first.0 ≡ c) ⊎ (x.first.0 ≡ c → ⊥) → (((b && (x.first.0 == c)) || list_any (is_local_cell r c) xs) ≡ true) ⊎ (get_or cells c (pos 0) ≡ pos 0) →
-        (list_any (is_local_cell r c) xs ≡ true) ⊎ (get_or (if b then slice_set cells x.first.0 (pos 0) else cells) c (pos 0) ≡ pos 0)
-    by false e h = h
-    by true (inl e) h = inr (zero_at cells c x.first.0 e)
-    by true (inr e) (inl q) = inl (ap (λ (b : Bool). b || list_any (is_local_cell r c) xs) (sym (ne_eqb x.first.0 c e)) ∙ q)
-    by true (inr e) (inr q) = inr (get_or-set_other cells x.first.0 c (pos 0) (pos 0) (λ f. e (sym f)) ∙ q)
+    by : (x.first.0 ≡ c) ⊎ (x.first.0 ≡ c → ⊥) → (((x.first.0 == c) || list_any (is_local_cell r c) xs) ≡ true) ⊎ (get_or cells c (pos 0) ≡ pos 0) →
+        (list_any (is_local_cell r c) xs ≡ true) ⊎ (get_or (slice_set cells x.first.0 (pos 0)) c (pos 0) ≡ pos 0)
+    by (inl e) h = inr (zero_at cells c x.first.0 e)
+    by (inr e) (inl q) = inl (rw (ne_eqb x.first.0 c e) at q)
+    by (inr e) (inr q) = inr (get_or-set_other cells x.first.0 c (pos 0) (pos 0) (λ f. e (sym f)) ∙ q)
 
 clear-other : (r c : ℕ) (vars : List VarInfo) (cells : List ℤ) → list_any (is_local_cell r c) vars ≡ false → get_or (clear_locals r vars cells) c (pos 0) ≡ get_or cells c (pos 0)
 clear-other r c [] cells e = refl
 clear-other r c (x ∷ xs) cells e =
-    let parts = or_false (is_local_cell r c x) (list_any (is_local_cell r c) xs) e in
-    clear-other r c xs (one_cleared r x cells) parts.1 ∙ by (is_local_of r x.scope) parts.0
-  where
-    by : (b : Bool) → (b && (x.first.0 == c)) ≡ false → get_or (if b then slice_set cells x.first.0 (pos 0) else cells) c (pos 0) ≡ get_or cells c (pos 0)
-    by false q = refl
-    by true q = get_or-set_other cells x.first.0 c (pos 0) (pos 0) (λ f. both_ways (x.first.0 == c) q (eq-eqb x.first.0 c (sym f)))
+    let parts = or_parts (is_local_cell r c x) (list_any (is_local_cell r c) xs) e in
+    clear-other r c xs (one_cleared r x cells) parts.1 ∙ elim (cases_Bool (is_local_of r x.scope)) [
+      | inl l ↦ rw l (get_or-set_other cells x.first.0 c (pos 0) (pos 0) (λ f. both_ways (x.first.0 == c) (rw l at parts.0) (eq-eqb x.first.0 c (sym f))))
+      | inr l ↦ rw l
+    ]
 
 pub clear-length : (r : ℕ) (vars : List VarInfo) (cells : List ℤ) → length (clear_locals r vars cells) ≡ length cells
 clear-length r [] cells = refl
-clear-length r (x ∷ xs) cells = clear-length r xs (one_cleared r x cells) ∙ by (is_local_of r x.scope)
-  where
-    by : (b : Bool) → length (if b then slice_set cells x.first.0 (pos 0) else cells) ≡ length cells
-    by true = length-set cells x.first.0 (pos 0)
-    by false = refl
+clear-length r (x ∷ xs) cells = clear-length r xs (one_cleared r x cells) ∙ elim (cases_Bool (is_local_of r x.scope)) [ inl l ↦ rw l (length-set cells x.first.0 (pos 0)) | inr l ↦ rw l ]
 
 -- the memory has its body locals at 0
 abbrev pub Cleared : Program → Plan → List ℤ → Type 0
@@ -124,12 +83,11 @@ module _ (k : Epoch) (s i : ℕ) (earlier : List Past) (cells : List ℤ) where
 
   -- a sequential stage's memory with its body locals cleared is what it sees when the next iteration starts
   pub sees_next : is_replicated plan s ≡ false → Cleared program plan base → AllBefore (suc i) earlier → Sees k s i earlier cells → Sees k s (suc i) earlier (cleared k cells)
-  sees_next seq clean before sees c = by (cases_Bool (is_local_at program plan c))
-    where
-      by : (is_local_at program plan c ≡ true) ⊎ (is_local_at program plan c ≡ false) → get_or (cleared k cells) c (pos 0) ≡ seen program plan base s (suc i) earlier c
-      by (inl e) = clear-at plan.region c program.vars cells (inl e) ∙ sym (clean c e)
-          ∙ sym (seen_base program plan base s (suc i) c earlier (each_map (λ b. b.iteration < suc i) _
-          (λ b l. ap (λ (u : Bool). stored_in u c b.event.effect) (lost_cover program plan s (suc i) (stage_of program plan b.event.site) b.iteration c l e) ∙ stored_none c b.event.effect) earlier before))
-      by (inr e) = clear-other plan.region c program.vars cells e ∙ sees c
-          ∙ sym (seen_alike program plan base s (suc i) s i c earlier (each_map (λ b. b.iteration < suc i) _
-          (λ b l. ap (λ (u : Bool). stored_in u c b.event.effect) (kept_cover program plan s i (stage_of program plan b.event.site) b.iteration c seq e)) earlier before))
+  sees_next seq clean before sees c = elim (cases_Bool (is_local_at program plan c)) [
+    | inl e ↦ clear-at plan.region c program.vars cells (inl e) ∙ sym (clean c e)
+        ∙ sym (seen_base program plan base s (suc i) c earlier (each_map (λ b. b.iteration < suc i) _
+        (λ b l. ap (λ (u : Bool). stored_in u c b.event.effect) (lost_cover program plan s (suc i) (stage_of program plan b.event.site) b.iteration c l e) ∙ stored_none c b.event.effect) earlier before))
+    | inr e ↦ clear-other plan.region c program.vars cells e ∙ sees c
+        ∙ sym (seen_alike program plan base s (suc i) s i c earlier (each_map (λ b. b.iteration < suc i) _
+        (λ b l. ap (λ (u : Bool). stored_in u c b.event.effect) (kept_cover program plan s i (stage_of program plan b.event.site) b.iteration c seq e)) earlier before))
+  ]

@@ -1,14 +1,9 @@
 -- In one stage an iteration is clean where it has ended and its events fit.
-use Rattle.std.proofs.lemmas.List.{get_or-replicate}
-use Rattle.std.proofs.Common.{◌≤◌, ◌-◌, leb-true, replicate, slice_get, slice_index, ◌≡◌, ◌⊎◌, inl, inr, refl, sym, ap, ◌∙◌, subst, ℕ, suc, ◌+◌, ◌==◌, Bool, true, false, not, ◌&&◌, ◌||◌, if◌then◌else◌, List, [], ◌∷◌, ℤ, length, nat_le, nat_lt, Option, Some, None, arith, eq-eqb, ne_eqb}
-use Rattle.std.proofs.lemmas.Bool.{cases_eq}
-use Rattle.std.proofs.lemmas.List.Sums.{sum_by-cons}
-use Rattle.std.specs.List.{list_any, list_all, flat_map}
-use Rattle.dp_semantics.proofs.Names.{Program, Plan, Stmt, RegionInfo, Event, iteration, has_ended, memory_after, Access, accesses, stage_of, first_site_of, stores_var, is_replicated, is_body_local, is_region_at, region_in, region_accesses, is_stored_after, is_stored_beside, may_differ, is_checked_access, is_checked, Past, loads_agree, all_agree, event_as_assumed, events_since, event_words, words_at, word_count, one_stage_plan, sites_between, lies_between, is_numbered, is_single, region_alone, stands_alone, whole_run, CleanInOneStage}
-use Rattle.dp_semantics.proofs.Each.{Each, each_map, each_split, and_true, all_of, none_make}
+use Rattle.dp_semantics.proofs.Names.{get_or-replicate, ◌≤◌, ◌-◌, leb-true, replicate, slice_get, slice_index, ◌≡◌, ◌⊎◌, inl, inr, refl, sym, ap, ◌∙◌, subst, ℕ, suc, ◌+◌, ◌==◌, Bool, true, false, not, ◌&&◌, ◌||◌, if◌then◌else◌, List, [], ◌∷◌, ℤ, length, nat_le, nat_lt, Option, Some, None, arith, eq-eqb, ne_eqb, cases_eq, sum_by-cons, list_any, list_all, flat_map, Program, Plan, Stmt, RegionInfo, Event, iteration, has_ended, memory_after, Access, accesses, stage_of, first_site_of, stores_var, is_replicated, is_body_local, is_region_at, region_in, region_accesses, is_stored_after, is_stored_beside, may_differ, is_checked_access, is_checked, Past, loads_agree, all_agree, event_as_assumed, events_since, event_words, words_at, word_count, one_stage_plan, sites_between, lies_between, is_numbered, is_single, region_alone, stands_alone, whole_run, CleanInOneStage, and_parts}
 use Rattle.dp_semantics.proofs.Fitting.{split_of}
 use Rattle.dp_semantics.proofs.Alone.{Lone, AtSite, found_is}
 use Rattle.dp_semantics.proofs.RegionSites.{iteration_sites}
+use Rattle.dp_semantics.proofs.Setting.{Each, each_map, each_split, all_of, none_make}
 
 and_off : (b c : Bool) → c ≡ false → (b && c) ≡ false
 and_off true c e = e
@@ -22,7 +17,7 @@ never_beside a true c d e = absurd (cc)
 numbered_first : (p : Program) (r site : ℕ) (o : Option RegionInfo) → slice_get p.regions (r - 1) ≡ o → lies_between site o ≡ true → stage_of p (one_stage_plan p r) site ≡ 1
 numbered_first p r site None e h = absurd (cc)
 numbered_first p r site (Some info) e h =
-    let both = and_true (nat_le info.first.0 site) (nat_le site info.last.0) h in
+    let both = and_parts (nat_le info.first.0 site) (nat_le site info.last.0) h in
     let low : info.first.0 ≤ site = leb-true info.first.0 site both.0 in
     let high : site ≤ info.last.0 = leb-true site info.last.0 both.1 in
     ap (λ (u : Option RegionInfo). if nat_le (first_site_of u) site then slice_index (replicate (sites_between u) 1) (site - first_site_of u) else 0) e
@@ -38,7 +33,7 @@ module _ (p : Program) (r : ℕ) (alone : stands_alone p r ≡ true) where
   First u = stage_of p plan u.site ≡ 1
 
   tests : (is_single (region_in p r) ≡ true) × (list_all (region_alone r) p.main ≡ true) × (list_all (is_numbered p r) (region_accesses p plan) ≡ true)
-  tests = let one = and_true (is_single (region_in p r)) _ alone in let two = and_true (list_all (region_alone r) p.main) (list_all (is_numbered p r) (region_accesses p plan)) one.1 in (one.0, two.0, two.1)
+  tests = let one = and_parts (is_single (region_in p r)) _ alone in let two = and_parts (list_all (region_alone r) p.main) (list_all (is_numbered p r) (region_accesses p plan)) one.1 in (one.0, two.0, two.1)
 
   all_first : Each First (region_accesses p plan)
   all_first = each_map (λ u. is_numbered p r u ≡ true) First (λ u h. numbered_first p r u.site (slice_get p.regions (r - 1)) refl h) (region_accesses p plan) (all_of (is_numbered p r) (region_accesses p plan) tests.2)

@@ -1,9 +1,6 @@
 -- A packet after a stage: its status, its lists, and what it says of the turn.
-use Rattle.std.proofs.Common.{◌≡◌, refl, sym, ap, ◌∙◌, ℕ, zero, suc, ◌-◌, ◌<◌, Bool, true, false, List, [], ◌∷◌, ◌++◌, ℤ, length, get_or, Ok, Err, arith}
-use Rattle.std.proofs.lemmas.List.{get_or_append_left}
-use Rattle.std.proofs.lemmas.Bool.{both_ways}
-use Rattle.dp_semantics.proofs.Names.{Word, word_list, TurnEnd, Ended, stage_run, Status, Going, Closing, Broken, Packet, Epoch, status_of, passed_by, passed_on, run_on}
-use Rattle.dp_semantics.proofs.Taking.{word_list_is}
+use Rattle.dp_semantics.proofs.Names.{status_when, ◌≡◌, refl, sym, ap, ◌∙◌, ℕ, zero, suc, ◌-◌, ◌<◌, Bool, true, false, List, [], ◌∷◌, ◌++◌, ℤ, length, get_or, Ok, Err, arith, get_or_append_left, both_ways, Word, word_list, TurnEnd, Ended, stage_run, Status, Going, Closing, Broken, Packet, Epoch, status_of, passed_by, passed_on, run_on, get_or-append_seam}
+use Rattle.dp_semantics.proofs.Stepping.{word_list_is}
 
 -- not void
 abbrev pub live : Status → Bool
@@ -14,8 +11,7 @@ live (Broken s why) = false
 -- the status of the packet of an iteration that agrees with the plan, after so many stages
 abbrev pub status_for : ℕ → Bool → Status
 status_for zero closing = Going
-status_for (suc s) true = Closing
-status_for (suc s) false = Going
+status_for (suc s) closing = status_when closing
 
 pub status_next : (s : ℕ) (closing : Bool) → status_of (status_for s closing) closing ≡ status_for (suc s) closing
 status_next zero true = refl
@@ -34,28 +30,19 @@ word_list-early lists words t low high = word_list_is (lists ++ words ∷ []) t 
 pub word_list-last : (lists : List (List Word)) (words : List Word) (t : ℕ) → t ≡ suc (length lists) → word_list (lists ++ words ∷ []) t ≡ words
 word_list-last lists words t e =
     let place : t - 1 ≡ length lists = omega (arith, e) in
-    word_list_is (lists ++ words ∷ []) t (omega (arith, e)) ∙ ap (λ (n : ℕ). get_or (lists ++ words ∷ []) n []) place ∙ at_end lists
-  where
-    at_end : (lists : List (List Word)) → get_or (lists ++ words ∷ []) (length lists) [] ≡ words
-    at_end [] = refl
-    at_end (x ∷ lists) = at_end lists
+    word_list_is (lists ++ words ∷ []) t (omega (arith, e)) ∙ ap (λ (n : ℕ). get_or (lists ++ words ∷ []) n []) place ∙ get_or-append_seam lists words [] []
 
 pub passed_live : (k : Epoch) (s : ℕ) (before : List ℤ) (came : Packet) (turn : TurnEnd) (status : Status) → live status ≡ true → passed_on k s before came turn status ≡ passed_by k s before came turn
-passed_live k s before came turn Going e = refl
-passed_live k s before came turn Closing e = refl
 passed_live k s before came turn (Broken t why) e = absurd (cc)
+passed_live k s before came turn _ e = refl
 
 pub run_before : (k : Epoch) (s : ℕ) (before : List ℤ) (came : Packet) → (run_on k s before came).before ≡ before
 run_before k s before came = by came.status (stage_run k.program k.plan k.input s before came.lists)
   where
-    turned : (turn : TurnEnd) → (passed_by k s before came turn).before ≡ before
-    turned (Ok e) = refl
-    turned (Err why) = refl
-
     by : (status : Status) (turn : TurnEnd) → (passed_on k s before came turn status).before ≡ before
-    by Going turn = turned turn
-    by Closing turn = turned turn
     by (Broken t why) turn = refl
+    by _ (Ok e) = refl
+    by _ (Err why) = refl
 
 -- a packet that leaves a stage and isn't void: it came so, and the turn came to its end
 pub record Left (k : Epoch) (s : ℕ) (before : List ℤ) (came : Packet) (turn : TurnEnd) (left : Packet) : Type 0 where
@@ -67,11 +54,7 @@ pub record Left (k : Epoch) (s : ℕ) (before : List ℤ) (came : Packet) (turn 
 pub left_live : (k : Epoch) (s : ℕ) (before : List ℤ) (came : Packet) (turn : TurnEnd) → live (passed_on k s before came turn came.status).packet.status ≡ true → Left k s before came turn (passed_on k s before came turn came.status).packet
 left_live k s before came turn = by came.status refl turn
   where
-    turned : live came.status ≡ true → (turn : TurnEnd) → live (passed_by k s before came turn).packet.status ≡ true → Left k s before came turn (passed_by k s before came turn).packet
-    turned alive (Ok e) after = record { ended = e; ends = refl; alive = alive; lists = refl }
-    turned alive (Err why) after = absurd (cc)
-
     by : (status : Status) → came.status ≡ status → (turn : TurnEnd) → live (passed_on k s before came turn status).packet.status ≡ true → Left k s before came turn (passed_on k s before came turn status).packet
-    by Going is turn e = turned (ap live is) turn e
-    by Closing is turn e = turned (ap live is) turn e
     by (Broken t why) is turn e = absurd (both_ways (live came.status) (ap live is) e)
+    by _ is (Ok e) after = record { ended = e; ends = refl; alive = ap live is; lists = refl }
+    by _ is (Err why) after = absurd (cc)

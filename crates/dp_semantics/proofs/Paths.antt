@@ -1,16 +1,10 @@
 -- The source's steps through a text: they are determined, an iteration closes by its first event, and its stores lead to its last memory.
-use Rattle.std.proofs.Common.{◌≡◌, refl, sym, ap, ◌∙◌, subst, ℕ, Bool, true, false, ◌&&◌, ◌||◌, if◌then◌else◌, List, [], ◌∷◌, ◌++◌, ℤ, map, Some, slice_get, Ok, eq-eqb, ne_eqb}
-use Rattle.std.proofs.lemmas.List.{append-nil}
-use Rattle.dp_semantics.proofs.Names.{is_zero, Stmt, out-Stmt, outs-If, Stmt-F, If, Program, Plan, WithLoads, eval, Event, Effect, Decided, choose, followed, site_of, value_of, stored, evaluated, Access, accesses, first_site, decided_zero, is_zero_at, well_nested, effect_in, applied}
+use Rattle.dp_semantics.proofs.Names.{◌≡◌, refl, sym, ap, ◌∙◌, subst, ℕ, Bool, true, false, ◌&&◌, ◌||◌, if◌then◌else◌, List, [], ◌∷◌, ◌++◌, ℤ, map, Some, slice_get, Ok, eq-eqb, ne_eqb, append-nil, is_zero, Stmt, out-Stmt, outs-If, Stmt-F, If, Program, Plan, WithLoads, eval, Event, Effect, Decided, choose, followed, site_of, value_of, stored, evaluated, Access, accesses, first_site, decided_zero, is_zero_at, well_nested, effect_in, applied, and_parts, or-false}
 use Rattle.dp_tree.specs.declared.Stmt.TheVariants as tree
-use Rattle.dp_semantics.proofs.Each.{Each, each_split, and_true}
-use Rattle.dp_semantics.proofs.Heads.{head_access, accesses_all, all_well, accesses_out, well_at, well_out}
-use Rattle.dp_semantics.proofs.Followed.{followed_has, all_joins}
-use Rattle.dp_semantics.proofs.Setting.{Accepted}
-use Rattle.dp_semantics.proofs.Source.{event_of, well_parts, each_joins, each_parts, head_fact}
-use Rattle.dp_semantics.proofs.Lockstep.{Goes, stays, goes, closing_after}
-use Rattle.dp_semantics.proofs.Whole.{turn_of}
+use Rattle.dp_semantics.proofs.Setting.{Accepted, Each, each_split, head_access, accesses_all, all_well, accesses_out, well_at, well_out, followed_has, all_joins}
+use Rattle.dp_semantics.proofs.Whole.{turn_of, Goes, stays, goes, closing_after}
 use Rattle.dp_semantics.proofs.Turns.{decided_is}
+use Rattle.dp_semantics.proofs.Stepping.{event_of, well_parts, each_joins, each_parts, head_fact}
 
 -- the first of the steps from a statement to the end
 pub record First (p : Program) (input : List ℤ) (x : Stmt) (rest : List Stmt) (cells : List ℤ) (events : List Event) (after : List Stmt) (then_cells : List ℤ) : Type 0 where
@@ -33,8 +27,7 @@ module _ {p : Program} {input : List ℤ} where
   first_of (goes {x = y} {rest = tail} {cells = cells} {v = v} {events = more} {after = after} {then_cells = then_cells} gave path) x rest is end =
       let here : y ≡ x = cc in
       let behind : tail ≡ rest = cc in
-      subst (λ (u : Stmt). First p input u rest cells (event_of (out-Stmt y) v ∷ more) after then_cells) here
-      (subst (λ (ys : List Stmt). First p input y ys cells (event_of (out-Stmt y) v ∷ more) after then_cells) behind (record { v = v; more = more; gave = gave; events_are = refl; path = path }))
+      rw (← here, ← behind) (record { v = v; more = more; gave = gave; events_are = refl; path = path })
 
   pub goes_on : {to_do : List Stmt} {cells : List ℤ} {others : List Event} {after : List Stmt} {then_cells : List ℤ} → Goes p input to_do cells others after then_cells → (events : List Event) (final_cells : List ℤ) → Goes p input to_do cells events [] final_cells →
       GoesOn p input events others after then_cells final_cells
@@ -60,7 +53,7 @@ pub events_at : (p : Program) (plan : Plan) {input : List ℤ} (Q : Access → T
     all_well p plan to_do ≡ true → Each Q (accesses_all to_do) → Each (λ event. (u : Access) × (u.site ≡ event.site) × Q u) events
 events_at p plan Q stays w each = tt
 events_at p plan Q (goes {x = x} {rest = rest} {v = v} e path) w each =
-    let parts = and_true (well_nested p plan x) (all_well p plan rest) w in
+    let parts = and_parts (well_nested p plan x) (all_well p plan rest) w in
     let both = each_split Q (accesses x) (accesses_all rest) each in
     let head : well_at p plan (out-Stmt x) ≡ true = sym (well_out p plan x) ∙ parts.0 in
     let here = subst (λ (xs : List Access). Each Q xs) (accesses_out x) both.0 in (
@@ -74,16 +67,11 @@ module _ {p : Program} {plan : Plan} (a : Accepted p plan) (input : List ℤ) wh
   abbrev Other : Access → Type 0
   Other u = u.site ≡ first_site p plan → ⊥
 
-  nothing : (b : Bool) → (b || false) ≡ b
-  nothing true = refl
-  nothing false = refl
-
   -- events at other sites than the region's condition don't close
   closing_kept : (events : List Event) → Each (λ event. (u : Access) × (u.site ≡ event.site) × Other u) events → (closing : Bool) → closing_after p plan closing events ≡ closing
   closing_kept [] other closing = refl
   closing_kept (event ∷ rest) other closing =
-      ap (λ (b : Bool). closing_after p plan (closing || (b && is_zero (value_of event.effect))) rest) (ne_eqb event.site (first_site p plan) (λ e. other.0.2 (other.0.1 ∙ e)))
-      ∙ closing_kept rest other.1 (closing || false) ∙ nothing closing
+      rw (ne_eqb event.site (first_site p plan) (λ e. other.0.2 (other.0.1 ∙ e)), or-false closing) (closing_kept rest other.1 closing)
 
   zero_first : (v : WithLoads Effect) (z : ℤ) (site : ℕ) → v.value ≡ Decided z → is_zero (value_of v.value) ≡ decided_zero (Some (record { site = site; loads = v.loads; effect = v.value }))
   zero_first v z site d = ap (λ (f : Effect). is_zero (value_of f)) d ∙ sym (ap (λ (f : Effect). decided_zero (Some (record { site = site; loads = v.loads; effect = f }))) d)

@@ -1,12 +1,7 @@
 -- A stage's part of the text against the source's: a statement that stays, and one that the stage doesn't have.
-use Rattle.std.proofs.Common.{◌≡◌, refl, sym, ap, ◌∙◌, ℕ, ◌<◌, ◌≤◌, ◌==◌, Bool, true, false, not, ◌||◌, if◌then◌else◌, List, [], ◌∷◌, ◌++◌, ℤ, Option, Some, None, is_some, nat_le, arith, leb-true, le-leb}
-use Rattle.std.proofs.lemmas.Bool.{lt-leb}
-use Rattle.std.specs.List.{list_all}
-use Rattle.dp_semantics.proofs.Names.{is_zero, Stmt, Row_of-Stmt, end_of-Stmt, more_of-Stmt, out-Stmt, roll-Stmt, rolls-Assign, rolls-Store, rolls-Print, rolls-If, rolls-While, Stmt-F, Assign, Store, Print, If, While, Region, Call, Program, Assume, Plan, Effect, Decided, choose, followed, site_of, value_of, Access, accesses, accesses_in, stage_of, went, goes_as, as_assumed, assumed_in, branch_of, where_reached, project, project_in, project_all, none_earlier, well_nested, well_nested_in}
+use Rattle.dp_semantics.proofs.Names.{◌&&◌, ◌≡◌, refl, sym, ap, ◌∙◌, ℕ, ◌<◌, ◌≤◌, ◌==◌, Bool, true, false, if◌then◌else◌, List, [], ◌∷◌, ◌++◌, ℤ, Option, Some, None, nat_le, arith, leb-true, le-leb, lt-leb, list_all, is_zero, Stmt, Row_of-Stmt, end_of-Stmt, more_of-Stmt, out-Stmt, roll-Stmt, rolls-Assign, rolls-Store, rolls-Print, rolls-If, rolls-While, Stmt-F, Assign, Store, Print, If, While, Region, Call, Program, Assume, Plan, Effect, Decided, choose, followed, site_of, value_of, Access, accesses, accesses_in, stage_of, went, goes_as, as_assumed, assumed_in, branch_of, where_reached, project, project_in, project_all, none_earlier, well_nested, well_nested_in, and_parts, flat_map-append, inl, inr, cases_Bool}
 use Rattle.dp_tree.specs.declared.Stmt.TheVariants as tree
-use Rattle.dp_semantics.proofs.Each.{Each, each_split, each_map, and_true, all_of}
-use Rattle.dp_semantics.proofs.Evaluation.{Form}
-use Rattle.dp_semantics.proofs.Heads.{accesses_all, all_well, well_at, project_at, project_out, flat_map-append}
+use Rattle.dp_semantics.proofs.Setting.{Each, each_split, each_map, all_of, Form, accesses_all, all_well, well_at, project_at, project_out, if_rule}
 
 -- the outcome that the plan assumes is the effect's
 abbrev pub AsAssumed : Plan → ℕ → Effect → Type 0
@@ -16,16 +11,13 @@ AsAssumed plan site effect = (taken : Bool) → assumed_in plan.assume site ≡ 
 pub assumed_of : (plan : Plan) (site : ℕ) (effect : Effect) → as_assumed plan site effect ≡ true → AsAssumed plan site effect
 assumed_of plan site effect = all plan.assume
   where
-    by : (here at taken : Bool) (rest : List Assume) → (not here || went at effect) ≡ true → (if here then Some at else assumed_in rest site) ≡ Some taken →
-        (assumed_in rest site ≡ Some taken → went taken effect ≡ true) → went taken effect ≡ true
-    by true at taken rest g e next = let same : at ≡ taken = cc in ap (λ (t : Bool). went t effect) (sym same) ∙ g
-    by false at taken rest g e next = next e
-
     all : (assumed : List Assume) → list_all (goes_as site effect) assumed ≡ true → (taken : Bool) → assumed_in assumed site ≡ Some taken → went taken effect ≡ true
     all [] h taken e = absurd (cc)
     all (a ∷ rest) h taken e =
-        let parts = and_true (goes_as site effect a) (list_all (goes_as site effect) rest) h in
-        by (a.site.0 == site) a.taken taken rest parts.0 e (λ q. all rest parts.1 taken q)
+        let parts = and_parts (goes_as site effect a) (list_all (goes_as site effect) rest) h in elim (cases_Bool (a.site.0 == site)) [
+          | inl q ↦ let told : Some a.taken ≡ Some taken = rw q at e in let same : a.taken ≡ taken = cc told in rw (← same) (rw q at parts.0)
+          | inr q ↦ all rest parts.1 taken (rw q at e)
+        ]
 
 module _ (p : Program) (plan : Plan) (s : ℕ) where
   -- all of these sites are of later stages
@@ -50,7 +42,7 @@ module _ (p : Program) (plan : Plan) (s : ℕ) where
     dropped (tree.Store site x index e) well later = not_reached site.0 _ [] later.0
     dropped (tree.Print site e) well later = not_reached site.0 _ [] later.0
     dropped (tree.If' site cond _ a _ b) well later =
-        let both = and_true _ _ (and_true _ _ well).1 in
+        let both = and_parts _ _ (and_parts _ _ well).1 in
         let inner = each_split (λ (i : Access). s < stage_of p plan i.site) (accesses_in a) (accesses_in b) later.1 in
         not_reached site.0 _ _ later.0 ∙ no_branch (assumed_in plan.assume site.0) _ _ (dropped_in a both.0 inner.0) (dropped_in b both.1 inner.1)
     dropped (tree.While' site cond _ a) well later = not_reached site.0 _ [] later.0
@@ -60,14 +52,14 @@ module _ (p : Program) (plan : Plan) (s : ℕ) where
     dropped_in : {n : _} (row : Row_of-Stmt n) → well_nested_in p plan row ≡ true → Later (accesses_in row) → project_in p plan s row ≡ []
     dropped_in end_of-Stmt well later = refl
     dropped_in (more_of-Stmt x rest) well later =
-        let both = and_true _ _ well in
+        let both = and_parts _ _ well in
         let parts = each_split (λ (i : Access). s < stage_of p plan i.site) (accesses x) (accesses_in rest) later in
         ap (λ ys. ys ++ project_in p plan s rest) (dropped x both.0 parts.0) ∙ dropped_in rest both.1 parts.1
 
   dropped_all : (xs : List Stmt) → all_well p plan xs ≡ true → Later (accesses_all xs) → project_all p plan s xs ≡ []
   dropped_all [] well later = refl
   dropped_all (x ∷ xs) well later =
-      let both = and_true (well_nested p plan x) (all_well p plan xs) well in
+      let both = and_parts (well_nested p plan x) (all_well p plan xs) well in
       let parts = each_split (λ (i : Access). s < stage_of p plan i.site) (accesses x) (accesses_all xs) later in
       ap (λ ys. ys ++ project_all p plan s xs) (dropped x both.0 parts.0) ∙ dropped_all xs both.1 parts.1
 
@@ -75,11 +67,7 @@ module _ (p : Program) (plan : Plan) (s : ℕ) where
   project_append a b = flat_map-append (project p plan s) a b
 
   project_choose : (z : ℤ) (a b : List Stmt) → project_all p plan s (choose z a b) ≡ choose z (project_all p plan s a) (project_all p plan s b)
-  project_choose z a b = by (is_zero z)
-    where
-      by : (t : Bool) → project_all p plan s (if t then b else a) ≡ (if t then project_all p plan s b else project_all p plan s a)
-      by true = refl
-      by false = refl
+  project_choose z a b = elim (cases_Bool (is_zero z)) [ inl q ↦ rw q | inr q ↦ rw q ]
 
   -- the head as the stage has it
   abbrev pub proj_head : Stmt-F Stmt → Stmt-F Stmt
@@ -103,10 +91,7 @@ module _ (p : Program) (plan : Plan) (s : ℕ) where
   pub kept_followed : (x y : Stmt) (rest : List Stmt) (h : Stmt-F Stmt) (z : ℤ) → well_at p plan h ≡ true → project p plan s x ≡ y ∷ [] →
       followed y (project_all p plan s rest) (proj_head h) z ≡ project_all p plan s (followed x rest h z)
   kept_followed x y rest (If site cond a b) z well made = ap (λ ys. ys ++ project_all p plan s rest) (sym (project_choose z a b)) ∙ sym (project_append (choose z a b) rest)
-  kept_followed x y rest (While site cond a) z well made =
-      let again : project_all p plan s (a ++ x ∷ rest) ≡ project_all p plan s a ++ y ∷ project_all p plan s rest =
-      project_append a (x ∷ rest) ∙ ap (λ ys. project_all p plan s a ++ (ys ++ project_all p plan s rest)) made in
-      ap (λ ys. choose z ys (project_all p plan s rest)) (sym again) ∙ sym (project_choose z (a ++ x ∷ rest) rest)
+  kept_followed x y rest (While site cond a) z well made = elim (cases_Bool (is_zero z)) [ inl q ↦ rw q | inr q ↦ rw (q, project_append a (x ∷ rest), made) ]
   kept_followed x y rest (Region r site cond a) z well made = absurd (cc)
   kept_followed x y rest _ z well made = refl
 
@@ -116,26 +101,11 @@ module _ (p : Program) (plan : Plan) (s : ℕ) where
       (λ a k. let le : stage_of p plan site ≤ stage_of p plan a.site = leb-true _ _ k in omega (arith, le, h)) inner
       (all_of (λ a. nat_le (stage_of p plan site) (stage_of p plan a.site)) inner e)
 
-  same_choice : (z : ℤ) (a b : List Stmt) → a ≡ b → choose z a b ≡ b
-  same_choice z a b e = by (is_zero z)
-    where
-      by : (t : Bool) → (if t then b else a) ≡ b
-      by true = refl
-      by false = e
-
   -- an assumed branch is the one that is taken
   branch_taken : (o : Option Bool) (z : ℤ) (a b : List Stmt) → ((taken : Bool) → o ≡ Some taken → went taken (Decided z) ≡ true) → (o ≡ None → (a ≡ []) × (b ≡ [])) → branch_of o a b ≡ choose z a b
-  branch_taken None z a b as_told none = let empty = none refl in sym (same_choice z a b (empty.0 ∙ sym empty.1) ∙ empty.1)
-  branch_taken (Some taken) z a b as_told none = by taken (is_zero z) (as_told taken refl)
-    where
-      by : (taken t : Bool) → (if t then not taken else taken) ≡ true → (if taken then a else b) ≡ (if t then b else a)
-      by true true e = absurd (cc)
-      by true false e = refl
-      by false true e = refl
-      by false false e = absurd (cc)
-
-  unassumed : (o : Option Bool) (b : Bool) → o ≡ None → (is_some o || b) ≡ true → b ≡ true
-  unassumed o b none e = ap (λ (u : Option Bool). is_some u || b) (sym none) ∙ e
+  branch_taken None z a b told none = let empty = none refl in elim (cases_Bool (is_zero z)) [ inl q ↦ rw q (sym empty.1) | inr q ↦ rw q (sym empty.0) ]
+  branch_taken (Some true) z a b told none = elim (cases_Bool (is_zero z)) [ inl q ↦ let clash : false ≡ true = rw q at (told true refl) in absurd (cc clash) | inr q ↦ rw q ]
+  branch_taken (Some false) z a b told none = elim (cases_Bool (is_zero z)) [ inl q ↦ rw q | inr q ↦ let clash : false ≡ true = rw q at (told false refl) in absurd (cc clash) ]
 
   -- A statement of a later stage goes on unseen.
   pub unseen : (x : Stmt) (rest : List Stmt) (h : Stmt-F Stmt) (effect : Effect) → well_at p plan h ≡ true → project p plan s x ≡ project_at p plan s h → s < stage_of p plan (site_of h).0 →
@@ -145,20 +115,18 @@ module _ (p : Program) (plan : Plan) (s : ℕ) where
   unseen x rest (Store site v index e) effect well made late form told = ap (λ ys. ys ++ project_all p plan s rest) (made ∙ not_reached site.0 _ [] late)
   unseen x rest (Print site e) effect well made late form told = ap (λ ys. ys ++ project_all p plan s rest) (made ∙ not_reached site.0 _ [] late)
   unseen x rest (If site cond a b) (Decided z) well made late form told =
-      let parts = and_true _ _ well in
-      let both = and_true _ _ parts.1 in
+      let parts = and_parts (if_rule p plan site.0 (accesses_all a ++ accesses_all b)) (all_well p plan a && all_well p plan b) well in
+      let both = and_parts _ _ parts.1 in
       ap (λ ys. ys ++ project_all p plan s rest)
       (made ∙ not_reached site.0 _ _ late ∙ branch_taken (assumed_in plan.assume site.0) z (project_all p plan s a) (project_all p plan s b) told
-      (λ none. let inner = each_split (λ (i : Access). s < stage_of p plan i.site) (accesses_all a) (accesses_all b) (later_inside site.0 _ late (unassumed (assumed_in plan.assume site.0) _ none parts.0)) in
+      (λ none. let inner = each_split (λ (i : Access). s < stage_of p plan i.site) (accesses_all a) (accesses_all b) (later_inside site.0 _ late (rw none at parts.0)) in
       (dropped_all a both.0 inner.0, dropped_all b both.1 inner.1))
       ∙ sym (project_choose z a b)) ∙ sym (project_append (choose z a b) rest)
   unseen x rest (While site cond a) (Decided z) well made late form told =
-      let parts = and_true _ _ well in
+      let parts = and_parts _ _ well in
       let gone : project p plan s x ≡ [] = made ∙ not_reached site.0 _ [] late in
       let inner : project_all p plan s a ≡ [] = dropped_all a parts.1 (later_inside site.0 _ late parts.0) in
-      let again : project_all p plan s (a ++ x ∷ rest) ≡ project_all p plan s rest =
-      project_append a (x ∷ rest) ∙ ap (λ ys. ys ++ (project p plan s x ++ project_all p plan s rest)) inner ∙ ap (λ ys. ys ++ project_all p plan s rest) gone in
-      ap (λ ys. ys ++ project_all p plan s rest) gone ∙ sym (same_choice z (project_all p plan s (a ++ x ∷ rest)) (project_all p plan s rest) again) ∙ sym (project_choose z (a ++ x ∷ rest) rest)
+      elim (cases_Bool (is_zero z)) [ inl q ↦ rw (q, gone) | inr q ↦ rw (q, project_append a (x ∷ rest), inner, gone) ]
   unseen x rest (Region r site cond a) effect well made late form told = absurd (cc)
   unseen x rest (Call f line args) effect well made late form told = absurd (cc)
   unseen x rest _ effect well made late form told = absurd form

@@ -1,8 +1,5 @@
 -- The list of iterations that are executed again: ascending, and no other ones.
-use Rattle.std.proofs.Common.{◌≡◌, ◌⊎◌, inl, inr, refl, sym, ap, ◌∙◌, ℕ, zero, suc, ◌+◌, ◌<◌, ◌≤◌, Bool, true, false, if◌then◌else◌, List, ◌∷◌, length, slice_index_or, AllPairs, Contains, filter, arith}
-use Rattle.std.proofs.lemmas.Bool.{cases_eq}
-use Rattle.std.proofs.lemmas.List.Kept.{AllPairs-cons, AllPairs-filter}
-use Rattle.dp_semantics.proofs.Names.{Program, Plan, begun_count, count_from, is_recovered, RecoversInOrder}
+use Rattle.dp_semantics.proofs.Names.{◌≡◌, ◌⊎◌, inl, inr, refl, sym, ap, ◌∙◌, ℕ, zero, suc, ◌+◌, ◌<◌, ◌≤◌, Bool, true, false, if◌then◌else◌, List, ◌∷◌, length, slice_index_or, AllPairs, Contains, filter, arith, cases_eq, AllPairs-cons, AllPairs-filter, Program, Plan, begun_count, count_from, is_recovered, RecoversInOrder}
 
 contains_head : (x y : ℕ) (xs : List ℕ) → x ≡ y → Contains (x ∷ xs) y
 contains_head x y xs e = (0, omega arith, e)

@@ -1,13 +1,7 @@
 -- Each event of an iteration is at one of the region's sites, where the region stands alone.
-use Rattle.std.proofs.Common.{◌≡◌, refl, sym, ap, ◌∙◌, subst, ℕ, zero, suc, ◌-◌, Bool, true, false, if◌then◌else◌, List, [], ◌∷◌, ◌++◌, ℤ, length, take, drop, Option, Some, None, slice_get, arith}
-use Rattle.std.proofs.Math.Seq.{drop-append_seam}
-use Rattle.dp_semantics.proofs.Names.{Program, Stmt, out-Stmt, Stmt-F, Effect, Decided, Event, Config, Step, Finished, Faulted, Stepped, Run, run_of, run_by, extended, begin, start_cells, is_zero, eval, evaluated, followed, choose, site_of, value_of, stored, standing, step, cleared_at, stands_at_head, places, start, iteration, decided_zero, Access, accesses, whole_run, events_from, stop_from}
-use Rattle.dp_semantics.proofs.Each.{Each, each_split}
-use Rattle.dp_semantics.proofs.Heads.{accesses_all}
-use Rattle.dp_semantics.proofs.Followed.{followed-append}
-use Rattle.dp_semantics.proofs.Setting.{size}
-use Rattle.dp_semantics.proofs.Runs.{PlaceAt, place_at, run_step, Leads, step_leads, From, run_from}
-use Rattle.dp_semantics.proofs.Placed.{all_at, never}
+use Rattle.dp_semantics.proofs.Names.{◌≡◌, refl, sym, ap, ◌∙◌, subst, ℕ, zero, suc, ◌-◌, Bool, true, false, if◌then◌else◌, List, [], ◌∷◌, ◌++◌, ℤ, length, take, drop, Option, Some, None, slice_get, arith, drop-append_seam, Program, Stmt, out-Stmt, Stmt-F, Effect, Decided, Event, Config, Step, Finished, Faulted, Stepped, Run, run_of, run_by, extended, begin, start_cells, is_zero, eval, evaluated, followed, choose, site_of, value_of, stored, standing, step, cleared_at, stands_at_head, places, start, iteration, decided_zero, Access, accesses, whole_run, events_from, stop_from, followed-append}
+use Rattle.dp_semantics.proofs.Setting.{size, Each, each_split, accesses_all}
+use Rattle.dp_semantics.proofs.Placed.{all_at, never, PlaceAt, place_at, run_step, Leads, step_leads, From, run_from}
 use Rattle.dp_semantics.proofs.Turns.{decided_is}
 use Rattle.dp_semantics.proofs.Alone.{Lone, AtSite, Around, ahead, upto, behind, Sites, each_take, one_upto, region, body_sites, followed_sites, around_next, Spotted, within, site_of_step, till}
 

@@ -1,7 +1,6 @@
 -- Runs step by step: from a configuration of a run the rest of it is a run of its own.
-use Rattle.std.proofs.Common.{◌≡◌, refl, sym, ap, ◌∙◌, ℕ, zero, suc, ◌+◌, Bool, true, false, if◌then◌else◌, List, [], ◌∷◌, ◌++◌, ℤ, length, Some, slice_get, Ok, Err, arith}
-use Rattle.dp_semantics.proofs.Names.{FaultAt, FaultKind, Stmt, out-Stmt, Stmt-F, Call, Program, WithLoads, Evaluated, Config, Event, Effect, Step, Finished, Faulted, Stepped, followed, site_of, value_of, stored, evaluated, standing, step_by, step_at, step, Run, run_of, run_by, places}
-use Rattle.dp_semantics.proofs.Source.{event_of}
+use Rattle.dp_semantics.proofs.Names.{runs_by_step, ◌≡◌, refl, sym, ap, ◌∙◌, ℕ, zero, suc, ◌+◌, Bool, true, false, List, [], ◌∷◌, ◌++◌, ℤ, length, Some, slice_get, Ok, Err, arith, FaultAt, FaultKind, Stmt, out-Stmt, Stmt-F, Call, Program, WithLoads, Evaluated, Config, Event, Effect, Step, Finished, Faulted, Stepped, followed, site_of, value_of, stored, evaluated, standing, step_by, step_at, step, Run, run_of, run_by, places, inl, inr, cases_Bool}
+use Rattle.dp_semantics.proofs.Stepping.{event_of}
 
 -- The i-th place of a list that passes a test, with what stands before and behind it.
 pub record PlaceAt (X : Type 0) (test : X → Bool) (xs : List X) (n i k : ℕ) : Type 0 where
@@ -13,34 +12,34 @@ pub record PlaceAt (X : Type 0) (test : X → Bool) (xs : List X) (n i k : ℕ) 
   pub passes : test found ≡ true
   pub next : slice_get (places test n xs) (suc i) ≡ slice_get (places test (suc k) behind) 0
 
+-- the first one further on
+later_place : {X : Type 0} (test : X → Bool) (x : X) (xs : List X) (n j i k : ℕ) → slice_get (places test n (x ∷ xs)) (suc j) ≡ slice_get (places test (suc n) xs) (suc i) → PlaceAt X test xs (suc n) i k → PlaceAt X test (x ∷ xs) n j k
+later_place test x xs n j i k skip q = record {
+  front = x ∷ q.front;
+  found = q.found;
+  behind = q.behind;
+  is = ap (λ (ys : List _). x ∷ ys) q.is;
+  place_is = omega (arith, q.place_is);
+  passes = q.passes;
+  next = skip ∙ q.next;
+}
+
 pub place_at : {X : Type 0} (test : X → Bool) (xs : List X) (n i k : ℕ) → slice_get (places test n xs) i ≡ Some k → PlaceAt X test xs n i k
 place_at test [] n i k e = absurd (cc)
-place_at {X} test (x ∷ xs) n i k e = by (test x) refl i e (place_at test xs (suc n))
-  where
-    later : (j i : ℕ) → slice_get (places test n (x ∷ xs)) (suc j) ≡ slice_get (places test (suc n) xs) (suc i) → PlaceAt X test xs (suc n) i k → PlaceAt X test (x ∷ xs) n j k
-    later j i skip q = record {
-      front = x ∷ q.front;
-      found = q.found;
-      behind = q.behind;
-      is = ap (λ (ys : List X). x ∷ ys) q.is;
-      place_is = omega (arith, q.place_is);
-      passes = q.passes;
-      next = skip ∙ q.next;
-    }
+place_at test (x ∷ xs) n zero k e = elim (cases_Bool (test x)) [
+  | inl t ↦ let found : Some n ≡ Some k = rw t at e in let here : n ≡ k = cc found in
+      record { front = []; found = x; behind = xs; is = refl; place_is = omega (arith, here); passes = t; next = rw t (ap (λ (m : ℕ). slice_get (places test (suc m) xs) 0) here) }
+  | inr t ↦ later_place test x xs n zero zero k (rw t) (place_at test xs (suc n) zero k (rw t at e))
+]
+place_at test (x ∷ xs) n (suc i) k e = elim (cases_Bool (test x)) [
+  | inl t ↦ later_place test x xs n (suc i) i k (rw t) (place_at test xs (suc n) i k (rw t at e))
+  | inr t ↦ later_place test x xs n (suc i) (suc i) k (rw t) (place_at test xs (suc n) (suc i) k (rw t at e))
+]
 
-    by : (b : Bool) → test x ≡ b → (i : ℕ) → slice_get (if b then n ∷ places test (suc n) xs else places test (suc n) xs) i ≡ Some k →
-        ((i k : ℕ) → slice_get (places test (suc n) xs) i ≡ Some k → PlaceAt X test xs (suc n) i k) → PlaceAt X test (x ∷ xs) n i k
-    by true t zero e go = let here : n ≡ k = cc in record {
-      front = [];
-      found = x;
-      behind = xs;
-      is = refl;
-      place_is = omega (arith, here);
-      passes = t;
-      next = ap (λ (b : Bool). slice_get (if b then n ∷ places test (suc n) xs else places test (suc n) xs) 1) t ∙ ap (λ (m : ℕ). slice_get (places test (suc m) xs) 0) here;
-    }
-    by true t (suc i) e go = later (suc i) i (ap (λ (b : Bool). slice_get (if b then n ∷ places test (suc n) xs else places test (suc n) xs) (suc (suc i))) t) (go i k e)
-    by false t i e go = later i i (ap (λ (b : Bool). slice_get (if b then n ∷ places test (suc n) xs else places test (suc n) xs) (suc i)) t) (go i k e)
+-- the first of all is the first place, where it passes
+pub first_place : {X : Type 0} (test : X → Bool) (n : ℕ) (xs : List X) (x : X) → slice_get xs 0 ≡ Some x → test x ≡ true → slice_get (places test n xs) 0 ≡ Some n
+first_place test n [] x e t = absurd (cc)
+first_place test n (y ∷ xs) x e t = let same : y ≡ x = cc in rw (same, t)
 
 -- no call
 abbrev pub is_step : Stmt-F Stmt → Bool
@@ -93,15 +92,8 @@ module _ (p : Program) (input : List ℤ) where
     pub length_is : length before ≡ length front
     pub configs_are : d ∷ behind ≡ (run_of p input left d).configs
 
-  configs_by : (m : ℕ) (c : Config) (s : Step) → slice_get (run_by (run_of p input m) (suc m) c s).configs 0 ≡ Some c
-  configs_by m c Finished = refl
-  configs_by m c (Faulted fault) = refl
-  configs_by m c (Stepped event next) = refl
-
   pub run_first : (m : ℕ) (c : Config) → slice_get (run_of p input m c).configs 0 ≡ Some c
-  unfolding run_of
-  run_first zero c = refl
-  run_first (suc m) c = configs_by m c (step p input c)
+  run_first m c = (runs_by_step p input m c).first
 
   one_config : (c f d : Config) (front behind : List Config) → c ∷ [] ≡ f ∷ (front ++ d ∷ behind) → ⊥
   one_config c f d [] behind e = cc

@@ -1,45 +1,25 @@
 -- What a stage sees: how a step changes it, and where it is what the stage after the last one sees, which is the source's memory.
-use Rattle.std.proofs.Common.{◌≡◌, ◌⊎◌, inl, inr, refl, sym, ap, ◌∙◌, subst, ℕ, suc, ◌<◌, ◌==◌, Bool, true, false, not, ◌&&◌, ◌||◌, if◌then◌else◌, List, [], ◌∷◌, ℤ, pos, length, get_or, nat_lt, Option, Some, None, unwrap_or, slice_set, arith, ltb-false, lt-ltb, le-ltb, eq-eqb, ne_eqb}
-use Rattle.std.proofs.lemmas.Bool.{cases_eq}
-use Rattle.std.proofs.lemmas.List.{get_or-set_other, length-set}
-use Rattle.std.proofs.lemmas.Grind.{get_or-set_at}
-use Rattle.std.specs.List.{list_any}
-use Rattle.dp_semantics.proofs.Names.{Program, Plan, Event, Effect, Stored, Printed, Decided, stored, Access, stage_of, is_replicated, is_body_local, stores_var, is_same_variable, region_accesses, is_stored_after, is_stored_beside, may_differ, Past, is_local_at, is_covered, stored_in, covered_value, seen, Epoch, last}
-use Rattle.dp_semantics.proofs.Each.{Each, each_map, or_false}
-use Rattle.dp_semantics.proofs.Evaluation.{InVar}
-use Rattle.dp_semantics.proofs.Setting.{Fit, StoredBy, Known}
+use Rattle.dp_semantics.proofs.Names.{◌≡◌, inl, inr, refl, sym, ap, ◌∙◌, ℕ, suc, ◌<◌, ◌==◌, Bool, true, false, not, ◌&&◌, ◌||◌, List, [], ◌∷◌, ℤ, pos, length, get_or, nat_lt, Option, None, unwrap_or, arith, ltb-false, lt-ltb, le-ltb, eq-eqb, ne_eqb, cases_eq, get_or-set_other, length-set, get_or-set_at, list_any, Program, Plan, Event, Effect, Stored, Printed, Decided, stored, Access, stage_of, is_replicated, is_body_local, stores_var, is_same_variable, region_accesses, is_stored_after, is_stored_beside, may_differ, Past, is_local_at, is_covered, stored_in, covered_value, seen, Epoch, last, or_parts, and-false, and-true, and_self, or-true}
+use Rattle.dp_semantics.proofs.Setting.{Fit, StoredBy, Known, Each, each_map, InVar}
 
 -- What an effect stores into a cell.
 pub stored_none : (c : ℕ) (effect : Effect) → stored_in false c effect ≡ None
-stored_none c (Printed value) = refl
-stored_none c (Decided value) = refl
-stored_none c (Stored d value) = by (d == c)
-  where
-    by : (b : Bool) → (if b && false then Some value else None) ≡ None
-    by true = refl
-    by false = refl
+stored_none c (Stored d value) = rw (and-false (d == c))
+stored_none c _ = refl
 
 -- it is seen alike where a store into that cell is
 stored_alike : (c : ℕ) (a b : Bool) (effect : Effect) → ((value : ℤ) → effect ≡ Stored c value → a ≡ b) → stored_in a c effect ≡ stored_in b c effect
-stored_alike c a b (Printed value) h = refl
-stored_alike c a b (Decided value) h = refl
-stored_alike c a b (Stored d value) h = by (cases_eq d c)
-  where
-    by : (d ≡ c) ⊎ (d ≡ c → ⊥) → stored_in a c (Stored d value) ≡ stored_in b c (Stored d value)
-    by (inl e) = ap (λ (u : Bool). stored_in u c (Stored d value)) (h value (ap (λ (n : ℕ). Stored n value) e))
-    by (inr e) = let off = ne_eqb d c e in ap (λ (t : Bool). if t && a then Some value else None) off ∙ sym (ap (λ (t : Bool). if t && b then Some value else None) off)
+stored_alike c a b (Stored d value) h = elim (cases_eq d c) [ inl e ↦ ap (λ (u : Bool). stored_in u c (Stored d value)) (h value (ap (λ (n : ℕ). Stored n value) e)) | inr e ↦ rw (ne_eqb d c e) ]
+stored_alike c a b _ h = refl
 
 -- a store is what the cell then reads
 stored_read : (c : ℕ) (effect : Effect) (cells : List ℤ) → ((value : ℤ) → effect ≡ Stored c value → c < length cells) →
     get_or (stored effect cells) c (pos 0) ≡ unwrap_or (stored_in true c effect) (get_or cells c (pos 0))
-stored_read c (Printed value) cells h = refl
-stored_read c (Decided value) cells h = refl
-stored_read c (Stored d value) cells h = by (cases_eq d c)
-  where
-    by : (d ≡ c) ⊎ (d ≡ c → ⊥) → get_or (slice_set cells d value) c (pos 0) ≡ unwrap_or (stored_in true c (Stored d value)) (get_or cells c (pos 0))
-    by (inl e) = get_or-set_at cells d c value (pos 0) (sym e) (subst (λ (n : ℕ). n < length cells) (sym e) (h value (ap (λ (n : ℕ). Stored n value) e)))
-        ∙ sym (ap (λ (t : Bool). unwrap_or (if t && true then Some value else None) (get_or cells c (pos 0))) (eq-eqb d c e))
-    by (inr e) = get_or-set_other cells d c value (pos 0) (λ q. e (sym q)) ∙ sym (ap (λ (t : Bool). unwrap_or (if t && true then Some value else None) (get_or cells c (pos 0))) (ne_eqb d c e))
+stored_read c (Stored d value) cells h = elim (cases_eq d c) [
+  | inl e ↦ rw (eq-eqb d c e) (get_or-set_at cells d c value (pos 0) (sym e) (let low : c < length cells = h value (ap (λ (n : ℕ). Stored n value) e) in omega (arith, e, low)))
+  | inr e ↦ rw (ne_eqb d c e) (get_or-set_other cells d c value (pos 0) (λ q. e (sym q)))
+]
+stored_read c _ cells h = refl
 
 pub stored-length : (effect : Effect) (cells : List ℤ) → length (stored effect cells) ≡ length cells
 stored-length (Printed value) cells = refl
@@ -57,74 +37,34 @@ module _ (p : Program) (plan : Plan) (base : List ℤ) where
   seen_base s i c [] h = refl
   seen_base s i c (past ∷ earlier) h = ap (λ (o : Option ℤ). unwrap_or o (seen p plan base s i earlier c)) h.0 ∙ seen_base s i c earlier h.1
 
--- a stage covers the stores of a stage up to it as the last one does, from tests of the stages, the kind, the iterations and the cell
-covered_alike : (lt eq rep now loc : Bool) → (lt || eq) ≡ true → ((eq && rep) ≡ true → loc ≡ true) → ((lt || (eq && (not rep || now))) && (not loc || now)) ≡ (not loc || now)
-covered_alike true eq rep now loc e f = refl
-covered_alike false true false now loc e f = refl
-covered_alike false true true true true e f = refl
-covered_alike false true true false true e f = refl
-covered_alike false true true now false e f = absurd (cc (f refl))
-covered_alike false false rep now loc e f = absurd (cc)
-
-or_right : (a b : Bool) → b ≡ true → (a || b) ≡ true
-or_right true b e = refl
-or_right false b e = e
-
 pub up_to : (t s : ℕ) → t < suc s → (nat_lt t s || (t == s)) ≡ true
-up_to t s h = by (cases_eq t s)
-  where
-    by : (t ≡ s) ⊎ (t ≡ s → ⊥) → (nat_lt t s || (t == s)) ≡ true
-    by (inl e) = or_right (nat_lt t s) (t == s) (eq-eqb t s e)
-    by (inr e) = ap (λ (b : Bool). b || (t == s)) (lt-ltb t s (omega (arith, h, e)))
+up_to t s h = elim (cases_eq t s) [ inl e ↦ rw (eq-eqb t s e, or-true (nat_lt t s)) | inr e ↦ rw (lt-ltb t s (omega (arith, h, e))) ]
 
 module _ (p : Program) (plan : Plan) where
   -- an event of this iteration at a stage up to s is covered, and one of a later stage isn't
   now_covered : (s i t c : ℕ) → t < suc s → is_covered p plan s i t i c ≡ true
-  now_covered s i t c h = by (nat_lt t s) (t == s) (is_replicated plan s) (i == i) (is_local_at p plan c) (up_to t s h) (eq-eqb i i refl)
-    where
-      by : (lt eq rep now loc : Bool) → (lt || eq) ≡ true → now ≡ true → ((lt || (eq && (not rep || now))) && (not loc || now)) ≡ true
-      by true eq rep true true e f = refl
-      by true eq rep true false e f = refl
-      by false true true true true e f = refl
-      by false true true true false e f = refl
-      by false true false true true e f = refl
-      by false true false true false e f = refl
-      by false false rep now loc e f = absurd (cc)
-      by lt eq rep false loc e f = absurd (cc)
+  now_covered s i t c h = simp (eq-eqb i i refl, or-true, and-true, up_to t s h)
 
   not_covered : (s i t j c : ℕ) → s < t → is_covered p plan s i t j c ≡ false
-  not_covered s i t j c h = by (nat_lt t s) (t == s) _ _ (le-ltb t s (omega (arith, h))) (ne_eqb t s (λ e. omega (arith, e, h)))
-    where
-      by : (lt eq b d : Bool) → lt ≡ false → eq ≡ false → ((lt || (eq && b)) && d) ≡ false
-      by false false b d e f = refl
-      by true eq b d e f = absurd (cc)
-      by false true b d e f = absurd (cc)
-
-  covered_by_last : (i t j c : ℕ) → t < last plan → is_covered p plan (last plan) i t j c ≡ (not (is_local_at p plan c) || (j == i))
-  covered_by_last i t j c h = ap (λ (b : Bool). (b || ((t == last plan) && (not (is_replicated plan (last plan)) || (j == i)))) && (not (is_local_at p plan c) || (j == i))) (lt-ltb t (last plan) h)
+  not_covered s i t j c h = rw (le-ltb t s (omega (arith, h)), ne_eqb t s (λ e. omega (arith, e, h)))
 
   -- a store of a variable of which s sees what the source has
   covered_same : (s i t j c x : ℕ) (a : Access) → stores_var x a ≡ true → stage_of p plan a.site ≡ t → t < last plan →
       is_local_at p plan c ≡ is_body_local p plan x → is_stored_after p plan s x a ≡ false → is_stored_beside p plan s x a ≡ false →
       is_covered p plan s i t j c ≡ is_covered p plan (last plan) i t j c
   covered_same s i t j c x a st at h loc after beside =
-      covered_alike (nat_lt t s) (t == s) (is_replicated plan s) (j == i) (is_local_at p plan c)
-      (up_to t s (omega (arith, ltb-false s t (not_after (stores_var x a) (nat_lt s (stage_of p plan a.site)) (nat_lt s t) st (ap (nat_lt s) at) after))))
-      (λ e. loc ∙ not_beside (stores_var x a) (is_replicated plan s) (stage_of p plan a.site == s) (t == s) (is_body_local p plan x) st (ap (λ (n : ℕ). n == s) at) beside e)
-      ∙ sym (covered_by_last i t j c h)
+      rw (lt-ltb t (last plan) h) (alike (nat_lt t s) (t == s) (is_replicated plan s) (j == i) (is_local_at p plan c)
+      (up_to t s (omega (arith, ltb-false s t (rw (st, at) at after)))) (λ e f. rw loc (own (is_body_local p plan x) (rw (st, at, e, f) at beside))))
     where
-      not_after : (a b d : Bool) → a ≡ true → b ≡ d → (a && b) ≡ false → d ≡ false
-      not_after true b d e f g = sym f ∙ g
-      not_after false b d e f g = absurd (cc)
+      own : (l : Bool) → not l ≡ false → l ≡ true
+      own true e = refl
+      own false e = absurd (cc)
 
-      not_beside : (a r b d l : Bool) → a ≡ true → b ≡ d → (a && r && b && not l) ≡ false → (d && r) ≡ true → l ≡ true
-      not_beside true true true d true e f g m = refl
-      not_beside true true true d false e f g m = absurd (cc)
-      not_beside true true false true l e f g m = absurd (cc)
-      not_beside true true false false l e f g m = absurd (cc)
-      not_beside true false b true l e f g m = absurd (cc)
-      not_beside true false b false l e f g m = absurd (cc)
-      not_beside false r b d l e f g m = absurd (cc)
+      alike : (lt eq rep now loc : Bool) → (lt || eq) ≡ true → (eq ≡ true → rep ≡ true → loc ≡ true) → ((lt || (eq && (not rep || now))) && (not loc || now)) ≡ (not loc || now)
+      alike true eq rep now loc e f = refl
+      alike false true false now loc e f = refl
+      alike false true true now loc e f = rw (f refl refl) (and_self now)
+      alike false false rep now loc e f = absurd (cc)
 
 -- the memory of stage s in iteration i, after these events
 abbrev pub Sees : Epoch → ℕ → ℕ → List Past → List ℤ → Type 0
@@ -142,7 +82,7 @@ module _ {k : Epoch} (ok : Fit k) where
       here : (past : Past) → StoredBy k past.event.site c → is_covered program plan s i (stage_of program plan past.event.site) past.iteration c ≡ is_covered program plan (last plan) i (stage_of program plan past.event.site) past.iteration c
       here past by =
           let same : x ≡ by.variable = ok.accepted.laid.apart x by.variable c inside by.inside in
-          let differs = or_false (list_any (is_stored_after program plan s x) (region_accesses program plan)) (list_any (is_stored_beside program plan s x) (region_accesses program plan)) settled in
+          let differs = or_parts (list_any (is_stored_after program plan s x) (region_accesses program plan)) (list_any (is_stored_beside program plan s x) (region_accesses program plan)) settled in
           covered_same program plan s i (stage_of program plan past.event.site) past.iteration c x by.access
           (ap (is_same_variable x) by.stores ∙ eq-eqb x by.variable same) (ap (stage_of program plan) by.at) by.early
           (ok.accepted.laid.local x c inside) (by.listed (is_stored_after program plan s x) differs.0) (by.listed (is_stored_beside program plan s x) differs.1)

@@ -1,10 +1,10 @@
 -- What the proof assumes of a program and a plan, and what it knows of the source's stores.
-use Rattle.std.proofs.Common.{◌≡◌, ℕ, suc, ◌<◌, Bool, true, false, List, [], ◌∷◌, ◌++◌, ℤ, length, Some}
-use Rattle.std.specs.List.{list_any}
-use Rattle.dp_semantics.proofs.Names.{SiteId, Expr, Stmt, out-Stmt, Region, Program, Plan, cell_count, Stored, start_cells, Access, stage_of, first_site, is_replicated, is_body_local, region_statement, region_accesses, Past, is_local_at, Epoch, last}
-use Rattle.dp_semantics.proofs.Each.{Each, each_map, or_false}
-use Rattle.dp_semantics.proofs.Evaluation.{InVar, Roomy}
-use Rattle.dp_semantics.proofs.Heads.{accesses_all, all_well, all_free}
+use Rattle.dp_semantics.proofs.Names.{◌≡◌, ℕ, suc, ◌<◌, Bool, true, false, List, [], ◌∷◌, ◌++◌, ℤ, length, Some, list_any, SiteId, Expr, Stmt, out-Stmt, Stmt-F, Region, Program, Plan, cell_count, Stored, start_cells, Access, stage_of, first_site, is_replicated, is_body_local, region_statement, region_accesses, Past, is_local_at, Epoch, last, or_parts}
+pub use Rattle.dp_semantics.proofs.Each.{Each, each_both, each_map, each_split, all_of, each_join, none_of, all_make, none_make}
+pub use Rattle.dp_semantics.proofs.Evaluation.{head_stores, InVar, Form, Holds, Readable, IsHeld, head_loads, Tracked, evaluated_tracks, Roomy}
+pub use Rattle.dp_semantics.proofs.Heads.{accesses_all, all_well, well_at, project_at, project_out, head_access, inside, accesses_at, accesses_out, well_out, if_rule, all_free, free_at, free_out, well_hidden}
+pub use Rattle.dp_semantics.proofs.Integers.{int_same, int_eq-self}
+pub use Rattle.dp_semantics.proofs.Followed.{Joins, Parts, followed_has, all_joins}
 
 -- what no access of the region passes, this one doesn't
 abbrev pub Listed : List Access → Access → Type 0
@@ -13,7 +13,7 @@ Listed all a = (test : Access → Bool) → list_any test all ≡ false → test
 pub listed_all : (all : List Access) → Each (Listed all) all
 listed_all [] = tt
 listed_all (a ∷ rest) =
-    (λ test e. (or_false (test a) (list_any test rest) e).0, each_map (Listed rest) (Listed (a ∷ rest)) (λ b h test e. h test (or_false (test a) (list_any test rest) e).1) rest (listed_all rest))
+    (λ test e. (or_parts (test a) (list_any test rest) e).0, each_map (Listed rest) (Listed (a ∷ rest)) (λ b h test e. h test (or_parts (test a) (list_any test rest) e).1) rest (listed_all rest))
 
 -- the number of cells
 abbrev pub size : Program → ℕ
@@ -33,25 +33,35 @@ pub record Sound (p : Program) (plan : Plan) (a : Access) : Type 0 where
   pub staged : 0 < stage_of p plan a.site
   pub early : stage_of p plan a.site < last plan
 
--- an inlined program with a plan of one of its regions
-pub record Accepted (p : Program) (plan : Plan) : Type 0 where
-  pub statement : Stmt
+-- the head of the region's statement
+pub record RegionIs (p : Program) (plan : Plan) (h : Stmt-F Stmt) : Type 0 where
   pub site : SiteId
   pub cond : Expr
   pub body : List Stmt
-  pub front : List Stmt
-  pub tail : List Stmt
-  pub laid : Laid p plan
-  pub region : region_statement p plan ≡ statement ∷ []
-  pub is : out-Stmt statement ≡ Region plan.region site cond body
+  pub is : h ≡ Region plan.region site cond body
   pub first : first_site p plan ≡ site.0
   pub staged : stage_of p plan (first_site p plan) ≡ 1
   pub well : all_well p plan body ≡ true
-  pub sound : Each (Sound p plan) (region_accesses p plan)
   pub inner : Each (λ a. a.site ≡ first_site p plan → ⊥) (accesses_all body)
-  pub main : p.main ≡ front ++ statement ∷ tail
-  pub front_free : all_free plan.region front ≡ true
-  pub tail_free : all_free plan.region tail ≡ true
+
+-- the statements before and behind it
+pub record Split (r : ℕ) (main : List Stmt) (statement : Stmt) : Type 0 where
+  pub front : List Stmt
+  pub tail : List Stmt
+  pub main_is : main ≡ front ++ statement ∷ tail
+  pub front_free : all_free r front ≡ true
+  pub tail_free : all_free r tail ≡ true
+
+-- an inlined program with a plan of one of its regions
+pub record Accepted (p : Program) (plan : Plan) : Type 0 where
+  pub statement : Stmt
+  pub laid : Laid p plan
+  pub region : region_statement p plan ≡ statement ∷ []
+  pub part : RegionIs p plan (out-Stmt statement)
+  pub open part use *
+  pub split : Split plan.region p.main statement
+  pub open split use *
+  pub sound : Each (Sound p plan) (region_accesses p plan)
   pub sequential : is_replicated plan 1 ≡ false
   pub apart : (s : ℕ) → is_replicated plan (suc s) ≡ true → is_replicated plan s ≡ false
 

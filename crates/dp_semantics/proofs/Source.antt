@@ -1,12 +1,6 @@
 -- The source within an iteration: its rest, its memory and the events so far.
-use Rattle.std.proofs.Common.{◌≡◌, refl, sym, ap, ◌∙◌, subst, ℕ, ◌<◌, Bool, true, false, not, ◌&&◌, ◌||◌, List, [], ◌∷◌, ℤ, pos, length, get_or, ◌==◌, arith, eq-eqb, Ok}
-use Rattle.dp_semantics.proofs.Names.{Stmt, out-Stmt, Stmt-F, Assign, Store, Print, If, While, Region, Call, Program, Plan, Load, WithLoads, cell_count, Event, Effect, Stored, followed, site_of, value_of, stored, evaluated, Access, accesses, stage_of, may_differ, is_checked_access, is_checked, Past, seen, int_eq, loads_agree, event_agrees, well_nested, Epoch, last}
-use Rattle.dp_semantics.proofs.Each.{Each, each_split, each_join, each_map, and_true, none_of, all_of, all_make}
-use Rattle.dp_semantics.proofs.Evaluation.{InVar, Form, Readable, Holds, IsHeld, head_loads, Tracked, evaluated_tracks}
-use Rattle.dp_semantics.proofs.Heads.{accesses_all, all_well, head_access, inside, accesses_at, accesses_out, well_at, well_out, flat_map-append}
-use Rattle.dp_semantics.proofs.Followed.{Joins, Parts, followed_has, all_joins}
-use Rattle.dp_semantics.proofs.Integers.{int_same, int_eq-self}
-use Rattle.dp_semantics.proofs.Setting.{size, Sound, Fit, StoredBy, Known}
+use Rattle.dp_semantics.proofs.Names.{◌≡◌, refl, sym, ap, ◌∙◌, subst, ℕ, ◌<◌, true, false, List, ◌∷◌, ℤ, pos, length, get_or, arith, eq-eqb, Ok, Stmt, out-Stmt, Stmt-F, Assign, Store, If, While, Region, Call, Program, Plan, Load, WithLoads, cell_count, Event, Effect, Stored, followed, site_of, value_of, stored, evaluated, Access, accesses, stage_of, may_differ, is_checked_access, is_checked, Past, seen, int_eq, event_agrees, well_nested, Epoch, last, and_parts, flat_map-append, inl, inr, Some, cases_Bool}
+use Rattle.dp_semantics.proofs.Setting.{each_both, head_stores, size, Sound, Fit, StoredBy, Known, Each, each_split, each_join, each_map, none_of, all_of, all_make, InVar, Form, Readable, Holds, IsHeld, head_loads, head_stores, Tracked, evaluated_tracks, accesses_all, all_well, head_access, inside, accesses_at, accesses_out, well_at, well_out, Joins, Parts, followed_has, all_joins, int_same, int_eq-self}
 use Rattle.dp_semantics.proofs.Seeing.{seen_same, Sees, sees_stored, stored-length}
 
 -- the event of an evaluation at this head
@@ -34,8 +28,8 @@ pub record Stands (k : Epoch) (i : ℕ) (to_do : List Stmt) (earlier : List Past
 
 -- the parts of a well-nested statement, and those of its sites
 pub well_parts : (p : Program) (plan : Plan) (h : Stmt-F Stmt) → well_at p plan h ≡ true → Parts (λ xs. all_well p plan xs ≡ true) h
-well_parts p plan (If site cond a b) w = and_true _ _ (and_true _ _ w).1
-well_parts p plan (While site cond a) w = (and_true _ _ w).1
+well_parts p plan (If site cond a b) w = and_parts _ _ (and_parts _ _ w).1
+well_parts p plan (While site cond a) w = (and_parts _ _ w).1
 well_parts p plan (Region r site cond a) w = absurd (cc)
 well_parts p plan _ w = tt
 
@@ -52,34 +46,18 @@ each_parts Q _ e = tt
 pub head_fact : (Q : Access → Type 0) (p : Program) (plan : Plan) (h : Stmt-F Stmt) → well_at p plan h ≡ true → Each Q (accesses_at h) → Q (head_access h)
 head_fact Q p plan (Region r site cond a) w e = absurd (cc)
 head_fact Q p plan (Call f line args) w e = absurd (cc)
-head_fact Q p plan (Assign site v e) w f = f.0
-head_fact Q p plan (Store site v index e) w f = f.0
-head_fact Q p plan (Print site e) w f = f.0
-head_fact Q p plan (If site cond a b) w f = f.0
-head_fact Q p plan (While site cond a) w f = f.0
+head_fact Q p plan _ w f = f.0
 
 -- its store is known
+form_stores : (p : Program) (h : Stmt-F Stmt) (c : ℕ) (value : ℤ) → Form p h (Stored c value) → (x : ℕ) × (head_stores h ≡ Some x) × InVar p x c
+form_stores p (Assign s x e) c value f = (x.0, refl, f)
+form_stores p (Store s x index e) c value f = (x.0, refl, f)
+form_stores p _ c value f = absurd f
+
 store_known : (k : Epoch) (h : Stmt-F Stmt) (effect : Effect) → Form k.program h effect → Sound k.program k.plan (head_access h) → (c : ℕ) (value : ℤ) → effect ≡ Stored c value → StoredBy k (site_of h).0 c
-store_known k (Assign s x e) (Stored d v) f sound c value is = let same : d ≡ c = cc in record {
-  access = head_access (Assign s x e);
-  variable = x.0;
-  at = refl;
-  stores = refl;
-  inside = subst (λ (n : ℕ). InVar k.program x.0 n) same f;
-  listed = sound.listed;
-  early = sound.early;
-}
-store_known k (Store s x index e) (Stored d v) f sound c value is = let same : d ≡ c = cc in record {
-  access = head_access (Store s x index e);
-  variable = x.0;
-  at = refl;
-  stores = refl;
-  inside = subst (λ (n : ℕ). InVar k.program x.0 n) same f;
-  listed = sound.listed;
-  early = sound.early;
-}
-store_known k _ (Stored d v) f sound c value is = absurd f
-store_known k _ _ f sound c value is = absurd (cc)
+store_known k h effect f sound c value is =
+    let q = form_stores k.program h c value (subst (λ (g : Effect). Form k.program h g) is f) in
+    record { access = head_access h; variable = q.0; at = refl; stores = q.1; inside = q.2; listed = sound.listed; early = sound.early }
 
 module _ {k : Epoch} (ok : Fit k) {i : ℕ} {x : Stmt} {rest : List Stmt} {earlier : List Past} {cells : List ℤ} (at : Stands k i (x ∷ rest) earlier cells) where
   open k use {program, plan, input, base}
@@ -88,7 +66,7 @@ module _ {k : Epoch} (ok : Fit k) {i : ℕ} {x : Stmt} {rest : List Stmt} {earli
   h = out-Stmt x
 
   well_both : (well_nested program plan x ≡ true) × (all_well program plan rest ≡ true)
-  well_both = and_true (well_nested program plan x) (all_well program plan rest) at.well
+  well_both = and_parts (well_nested program plan x) (all_well program plan rest) at.well
 
   pub head_well : well_at program plan h ≡ true
   head_well = sym (well_out program plan x) ∙ well_both.0
@@ -130,13 +108,7 @@ module _ {k : Epoch} (ok : Fit k) {i : ℕ} {x : Stmt} {rest : List Stmt} {earli
   -- a stage of its own, in step
   module _ (other : List ℤ) (sees : Sees k (stage_for k x) i earlier other) where
     settled : is_checked program plan (site_of h).0 ≡ false → Each (λ v. may_differ program plan (stage_for k x) v ≡ false) (head_loads h)
-    settled e =
-        none_of (may_differ program plan (stage_for k x)) (head_loads h)
-        (second ((site_of h).0 == (site_of h).0) _ (eq-eqb (site_of h).0 (site_of h).0 refl) (own_site.listed (is_checked_access program plan (site_of h).0) e))
-      where
-        second : (a b : Bool) → a ≡ true → (a && b) ≡ false → b ≡ false
-        second true b e f = f
-        second false b e f = absurd (cc)
+    settled e = none_of (may_differ program plan (stage_for k x)) (head_loads h) (rw (eq-eqb (site_of h).0 (site_of h).0 refl) at (own_site.listed (is_checked_access program plan (site_of h).0) e))
 
     cell_same : (v c : ℕ) → InVar program v c → may_differ program plan (stage_for k x) v ≡ false → get_or other c (pos 0) ≡ get_or cells c (pos 0)
     cell_same v c inside free = sees c ∙ seen_same ok (stage_for k x) i v c inside free earlier at.known ∙ sym (at.sees c)
@@ -145,39 +117,33 @@ module _ {k : Epoch} (ok : Fit k) {i : ℕ} {x : Stmt} {rest : List Stmt} {earli
     unchecked : (one two : List ℤ) → ((v c : ℕ) → InVar program v c → may_differ program plan (stage_for k x) v ≡ false → get_or two c (pos 0) ≡ get_or one c (pos 0)) →
         is_checked program plan (site_of h).0 ≡ false → (v : WithLoads Effect) → Gives k one x v → evaluated program input two h ≡ Ok v
     unchecked one two same free v e =
-        let all = evaluated_tracks program input one two (IsHeld two) h own_site.room (both (head_loads h) own_site.reads (settled free)) v e in all.same all.loads
-      where
-        both : (vs : List ℕ) → Each (λ v. 0 < cell_count program (record { 0 = v })) vs → Each (λ v. may_differ program plan (stage_for k x) v ≡ false) vs → Each (Readable program one (IsHeld two)) vs
-        both [] some free = tt
-        both (v ∷ vs) some free = ((some.0, λ c inside. same v c inside free.0), both vs some.1 free.1)
+        let all = evaluated_tracks program input one two (IsHeld two) h own_site.room (each_map _ (Readable program one (IsHeld two)) (λ v known. (known.0, λ c inside. same v c inside known.1)) (head_loads h)
+        (each_both (λ v. 0 < cell_count program (record { 0 = v })) _ (head_loads h) own_site.reads (settled free))) v e in
+        all.same all.loads
 
     checked : (one two : List ℤ) (v : WithLoads Effect) → Gives k one x v → Holds two v.loads → evaluated program input two h ≡ Ok v
     checked one two v e held = (evaluated_tracks program input one two (λ l. Unit {0}) h own_site.room (every_load one (λ l. Unit {0}) (λ x c inside. tt)) v e).same held
 
     -- where the source's event agrees, the stage does the same
     pub stage_does : (v : WithLoads Effect) → Gives k cells x v → event_agrees program plan base i earlier (event_of h v) ≡ true → Gives k other x v
-    stage_does v e agrees = by (is_checked program plan (site_of h).0) refl agrees
-      where
-        by : (b : Bool) → is_checked program plan (site_of h).0 ≡ b → (not b || loads_agree program plan base i earlier (stage_for k x) v.loads) ≡ true → Gives k other x v
-        by false u a = unchecked cells other cell_same u v e
-        by true u a = checked cells other v e
-            (each_map (λ l. int_eq (seen program plan base (stage_for k x) i earlier l.cell) l.value ≡ true) (IsHeld other) (λ l q. sees l.cell ∙ int_same _ l.value q) v.loads
-            (all_of (λ l. int_eq (seen program plan base (stage_for k x) i earlier l.cell) l.value) v.loads a))
+    stage_does v e agrees = elim (cases_Bool (is_checked program plan (site_of h).0)) [
+      | inl u ↦ checked cells other v e (each_map (λ l. int_eq (seen program plan base (stage_for k x) i earlier l.cell) l.value ≡ true) (IsHeld other) (λ l q. sees l.cell ∙ int_same _ l.value q) v.loads
+          (all_of (λ l. int_eq (seen program plan base (stage_for k x) i earlier l.cell) l.value) v.loads (rw u at agrees)))
+      | inr u ↦ unchecked cells other cell_same u v e
+    ]
 
     -- and back: where its loads hold in the source's memory, if they are checked, the source does what the stage does
     pub source_does : (v : WithLoads Effect) → Gives k other x v → (is_checked program plan (site_of h).0 ≡ true → Holds cells v.loads) → Gives k cells x v
-    source_does v e held = by (is_checked program plan (site_of h).0) refl
-      where
-        by : (b : Bool) → is_checked program plan (site_of h).0 ≡ b → Gives k cells x v
-        by true u = checked other cells v e (held u)
-        by false u = unchecked other cells (λ w c inside free. sym (cell_same w c inside free)) u v e
+    source_does v e held = elim (cases_Bool (is_checked program plan (site_of h).0)) [
+      | inl u ↦ checked other cells v e (held u)
+      | inr u ↦ unchecked other cells (λ w c inside free. sym (cell_same w c inside free)) u v e
+    ]
 
     -- a stage's own event agrees with what it sees
     pub event_sees : (v : WithLoads Effect) → Gives k other x v → event_agrees program plan base i earlier (event_of h v) ≡ true
-    event_sees v e = by (is_checked program plan (site_of h).0)
-      where
-        by : (b : Bool) → (not b || loads_agree program plan base i earlier (stage_for k x) v.loads) ≡ true
-        by false = refl
-        by true = all_make (λ l. int_eq (seen program plan base (stage_for k x) i earlier l.cell) l.value) v.loads
-            (each_map (IsHeld other) (λ l. int_eq (seen program plan base (stage_for k x) i earlier l.cell) l.value ≡ true)
-            (λ l q. ap (λ (z : ℤ). int_eq z l.value) (sym (sees l.cell) ∙ q) ∙ int_eq-self l.value) v.loads (own_loads other v e))
+    event_sees v e = elim (cases_Bool (is_checked program plan (site_of h).0)) [
+      | inl u ↦ rw u (all_make (λ l. int_eq (seen program plan base (stage_for k x) i earlier l.cell) l.value) v.loads
+          (each_map (IsHeld other) (λ l. int_eq (seen program plan base (stage_for k x) i earlier l.cell) l.value ≡ true)
+          (λ l q. ap (λ (z : ℤ). int_eq z l.value) (sym (sees l.cell) ∙ q) ∙ int_eq-self l.value) v.loads (own_loads other v e)))
+      | inr u ↦ rw u
+    ]

@@ -1,16 +1,10 @@
 -- One step of the source against one step, or none, of a stage: it stays in step, and its words are the event's.
-use Rattle.std.proofs.Common.{◌≡◌, ◌⊎◌, inl, inr, refl, sym, ap, ◌∙◌, subst, ℕ, suc, ◌+◌, ◌-◌, ◌<◌, ◌≤◌, Bool, true, false, ◌&&◌, ◌||◌, if◌then◌else◌, List, [], ◌∷◌, ◌++◌, ℤ, length, length-append, get_or, sum_by, slice_set, nat_le, Result, Ok, Err, arith, eq-eqb, ne_eqb, le-leb}
-use Rattle.std.proofs.lemmas.List.{append-nil, length-set}
-use Rattle.std.proofs.lemmas.List.Sums.{sum_by-set}
-use Rattle.std.proofs.lemmas.Bool.{cases_eq, cases_order}
-use Rattle.dp_semantics.proofs.Names.{Word, SiteId, is_zero, Stmt, out-Stmt, roll-Stmt, out-roll-Stmt, Stmt-F, If, While, Program, Plan, WithLoads, Event, Effect, followed, site_of, value_of, evaluated, stage_of, first_site, is_checked, Past, as_assumed, project, project_all, Void, Full, Taken, words_of, done_word, effect_by, taken_from, load_words, word_list, Turn, is_zero_at, turned, own_step, stage_at, consumed, consumed_step, words_left, turn_step, turn_by, turn_at, turn_from, Epoch}
-use Rattle.dp_semantics.proofs.Evaluation.{Form}
-use Rattle.dp_semantics.proofs.Heads.{project_out}
-use Rattle.dp_semantics.proofs.Projected.{assumed_of, proj_head, stays_there, kept_followed, unseen}
-use Rattle.dp_semantics.proofs.Setting.{size, Fit}
-use Rattle.dp_semantics.proofs.Seeing.{Sees, sees_later, sees_stored, stored-length}
-use Rattle.dp_semantics.proofs.Taking.{word_list_is, word_list_same, word_list_other, words_for, words_here, words_elsewhere, effect_of_word, taken_event}
-use Rattle.dp_semantics.proofs.Source.{event_of, past_of, stage_for, Gives, Stands, head_well, own_site, store_within}
+use Rattle.dp_semantics.proofs.Names.{◌≡◌, inl, inr, refl, sym, ap, ◌∙◌, subst, ℕ, suc, ◌+◌, ◌-◌, ◌<◌, ◌≤◌, true, ◌||◌, if◌then◌else◌, List, [], ◌∷◌, ◌++◌, ℤ, length, length-append, get_or, sum_by, slice_set, Ok, arith, eq-eqb, ne_eqb, le-leb, append-nil, length-set, sum_by-set, cases_eq, cases_order, Word, SiteId, Stmt, out-Stmt, roll-Stmt, out-roll-Stmt, Stmt-F, If, While, Program, Plan, WithLoads, Event, Effect, followed, site_of, value_of, evaluated, stage_of, first_site, is_checked, Past, as_assumed, project, project_all, Taken, words_of, done_word, effect_by, taken_from, load_words, word_list, Turn, is_zero_at, turned, stage_at, consumed, words_left, turn_step, turn_from, Epoch, or-false}
+pub use Rattle.dp_semantics.proofs.Taking.{words_for, words_here, event_passes, words_elsewhere, event_held, word_list_is, word_list_same, word_list_other, effect_of_word, taken_event}
+pub use Rattle.dp_semantics.proofs.Source.{event_of, past_of, stage_for, Stands, stands_next, own_site, form_of, stage_does, own_loads, Gives, source_does, event_sees, well_parts, each_joins, each_parts, head_fact, head_well, store_within}
+pub use Rattle.dp_semantics.proofs.Seeing.{stored_none, seen_alike, seen_base, up_to, Sees, stored-length, sees_later, sees_stored}
+pub use Rattle.dp_semantics.proofs.Projected.{reached, assumed_of, proj_head, stays_there, kept_followed, unseen}
+use Rattle.dp_semantics.proofs.Setting.{size, Fit, Form, project_out}
 
 -- stage s stands in iteration i where the source has `to_do` to do after the earlier events
 pub record InStep (k : Epoch) (i s : ℕ) (to_do : List Stmt) (earlier : List Past) (c : Turn) : Type 0 where
@@ -90,12 +84,7 @@ module _ {k : Epoch} (ok : Fit k) {i : ℕ} {x : Stmt} {rest : List Stmt} {earli
 
       turn_head : (d : Turn) → turn_step program plan input s c staying onward here ≡ Ok d → (m n : ℕ) → m ≡ 1 + n → turn_from program plan input s m c ≡ turn_from program plan input s n d
       unfolding turn_from
-      turn_head d made m n e =
-          let one : m ≡ suc n = omega (arith, e) in
-          ap (λ (u : ℕ). turn_from program plan input s u c) one
-          ∙ ap (turn_at program plan input s (turn_from program plan input s n) c) head_is
-          ∙ ap (λ (g : Stmt-F Stmt). turn_by (turn_from program plan input s n) (turn_step program plan input s c staying onward g)) (out-roll-Stmt here)
-          ∙ ap (turn_by (turn_from program plan input s n)) made
+      turn_head d made m n e = let one : m ≡ suc n = omega (arith, e) in rw (one, head_is, out-roll-Stmt here, made)
 
       -- a turn whose memory has the event's store stands where the source does
       stands_on : (v : WithLoads Effect) → Form program (out-Stmt x) v.value → (own : List Word) (lists : List (List Word)) → s ≤ suc (length lists) →
@@ -114,13 +103,8 @@ module _ {k : Epoch} (ok : Fit k) {i : ℕ} {x : Stmt} {rest : List Stmt} {earli
     own_step_made : (v : WithLoads Effect) (at_s : stage_for k x ≡ s) → Gives k c.cells x v → length (c.own ++ words_for program plan s (event_of (out-Stmt x) v)) ≤ plan.words →
         turn_step program plan input s c staying onward here ≡ Ok (turned program plan c staying onward here v.value (c.own ++ words_for program plan s (event_of (out-Stmt x) v)) c.lists)
     own_step_made v at_s gave fits =
-        ap (λ (t : Bool). if t then own_step program plan c staying onward here (evaluated program input c.cells here) else consumed_step program plan c staying onward here (taken_from program here (words_left program plan c here))) (eq-eqb (stage_at program plan here) s (stage_same ∙ at_s))
-        ∙ ap (own_step program plan c staying onward here) (evaluated_proj program plan s input c.cells (out-Stmt x) ∙ gave)
-        ∙ ap adding (ap (λ (n : SiteId). words_of program plan (record { site = n.0; loads = v.loads; effect = v.value })) site_same ∙ sym (words_here program plan s (event_of (out-Stmt x) v) at_s))
-        ∙ ap (λ (t : Bool). if t then Ok (turned program plan c staying onward here v.value (c.own ++ words_for program plan s (event_of (out-Stmt x) v)) c.lists) else Err Full) (le-leb _ _ fits)
-      where
-        adding : List Word → Result Turn Void
-        adding words = if nat_le (length (c.own ++ words)) plan.words then Ok (turned program plan c staying onward here v.value (c.own ++ words) c.lists) else Err Full
+        let mine = words_here program plan s (event_of (out-Stmt x) v) at_s in
+        rw (eq-eqb (stage_at program plan here) s (stage_same ∙ at_s), evaluated_proj program plan s input c.cells (out-Stmt x), gave, site_same, mine, le-leb _ _ (rw mine at fits))
 
     own_advance : (v : WithLoads Effect) → stage_for k x ≡ s → Gives k c.cells x v → Form program (out-Stmt x) v.value → length (c.own ++ words_for program plan s (event_of (out-Stmt x) v)) ≤ plan.words →
         Advanced k i s (after v) (past_of i x v ∷ earlier) (event_of (out-Stmt x) v) c
@@ -161,7 +145,10 @@ module _ {k : Epoch} (ok : Fit k) {i : ℕ} {x : Stmt} {rest : List Stmt} {earli
       consumed_moved = record {
         own = sym (ap (λ ws. c.own ++ ws) (words_elsewhere program plan s (event_of (out-Stmt x) v) (λ e. omega (arith, e, before))) ∙ append-nil c.own);
         closing = closes (omega (arith, before)) v;
-        lists = λ t low high. by_list t low (cases_eq t (stage_at program plan here));
+        lists = λ t low high. elim (cases_eq t (stage_at program plan here)) [
+          | inl e ↦ rw (e, words_here program plan (stage_at program plan here) (event_of (out-Stmt x) v) (sym stage_same), word_list_same c.lists (stage_at program plan here) more low_here (omega (arith, b.wide, stage_same, before))) left_is
+          | inr e ↦ rw (words_elsewhere program plan t (event_of (out-Stmt x) v) (λ q. e (sym q ∙ sym stage_same)), word_list_other c.lists (stage_at program plan here) t more low_here low e)
+        ];
         paid = omega (arith, sum_by-set length c.lists (stage_at program plan here - 1) more [] (omega (arith, low_here, b.wide, stage_same, before)), was, some_word program plan (event_of (out-Stmt x) v));
       }
         where
@@ -171,21 +158,12 @@ module _ {k : Epoch} (ok : Fit k) {i : ℕ} {x : Stmt} {rest : List Stmt} {earli
           was : length (get_or c.lists (stage_at program plan here - 1) []) ≡ length (words_of program plan (event_of (out-Stmt x) v)) + length more
           was = ap length (sym (word_list_is c.lists (stage_at program plan here) low_here) ∙ left_is) ∙ length-append (words_of program plan (event_of (out-Stmt x) v)) more
 
-          by_list : (t : ℕ) → 0 < t → (t ≡ stage_at program plan here) ⊎ (t ≡ stage_at program plan here → ⊥) → word_list c.lists t ≡ words_for program plan t (event_of (out-Stmt x) v) ++ word_list lists_then t
-          by_list t low (inl e) = ap (word_list c.lists) e ∙ left_is
-              ∙ sym (ap (λ ws. ws ++ word_list lists_then t) (words_here program plan t (event_of (out-Stmt x) v) (sym stage_same ∙ sym e))
-              ∙ ap (λ ws. words_of program plan (event_of (out-Stmt x) v) ++ ws) (ap (word_list lists_then) e ∙ word_list_same c.lists (stage_at program plan here) more low_here (omega (arith, b.wide, stage_same, before))))
-          by_list t low (inr e) = sym (ap (λ ws. ws ++ word_list lists_then t) (words_elsewhere program plan t (event_of (out-Stmt x) v) (λ q. e (sym q ∙ sym stage_same)))
-              ∙ word_list_other c.lists (stage_at program plan here) t more low_here low e)
-
       consumed_advance : Advanced k i s (after v) (past_of i x v ∷ earlier) (event_of (out-Stmt x) v) c
       consumed_advance = record {
         turn = consumed program plan c staying onward here taking;
         steps = 1;
         few = omega arith;
-        runs = turn_head (omega (arith, before)) _
-            (ap (λ (t : Bool). if t then own_step program plan c staying onward here (evaluated program input c.cells here) else consumed_step program plan c staying onward here (taken_from program here (words_left program plan c here))) (ne_eqb (stage_at program plan here) s (λ e. omega (arith, e, stage_same, before)))
-            ∙ ap (consumed_step program plan c staying onward here) taken_is);
+        runs = turn_head (omega (arith, before)) _ (rw (ne_eqb (stage_at program plan here) s (λ e. omega (arith, e, stage_same, before)), taken_is));
         in_step = consumed_stands;
         moved = consumed_moved;
       }
@@ -206,27 +184,22 @@ module _ {k : Epoch} (ok : Fit k) {i : ℕ} {x : Stmt} {rest : List Stmt} {earli
       };
       moved = record {
         own = sym (ap (λ ws. c.own ++ ws) (words_elsewhere program plan s (event_of (out-Stmt x) v) (λ e. omega (arith, e, late))) ∙ append-nil c.own);
-        closing = sym (ap (λ (u : Bool). c.closing || u) (not_first (value_of v.value)) ∙ or_nothing c.closing);
+        closing = rw (
+          ne_eqb (site_of (out-Stmt x)).0 (first_site program plan)
+              (λ e. let one : stage_for k x ≡ 1 = ap (stage_of program plan) e ∙ ok.accepted.staged in omega (arith, one, late, real)),
+          or-false c.closing,
+        );
         lists = λ t low high. sym (ap (λ ws. ws ++ word_list c.lists t) (words_elsewhere program plan t (event_of (out-Stmt x) v) (λ e. omega (arith, e, late, high))));
         paid = omega arith;
       };
     }
-      where
-        or_nothing : (u : Bool) → (u || false) ≡ u
-        or_nothing true = refl
-        or_nothing false = refl
-
-        not_first : (z : ℤ) → is_zero_at (first_site program plan) (site_of (out-Stmt x)).0 z ≡ false
-        not_first z = ap (λ (u : Bool). u && is_zero z) (ne_eqb (site_of (out-Stmt x)).0 (first_site program plan)
-            (λ e. let one : stage_for k x ≡ 1 = ap (stage_of program plan) e ∙ ok.accepted.staged in omega (arith, one, late, real)))
 
     -- A stage goes on in step where its own evaluation is the source's and fits, or else the words stand at the front.
     pub advance : (v : WithLoads Effect) → 0 < s → Form program (out-Stmt x) v.value → as_assumed plan (site_of (out-Stmt x)).0 v.value ≡ true → (stage_for k x ≡ s → Gives k c.cells x v) →
         length (c.own ++ words_for program plan s (event_of (out-Stmt x) v)) ≤ plan.words → (more : List Word) →
         (stage_for k x < s → word_list c.lists (stage_for k x) ≡ words_of program plan (event_of (out-Stmt x) v) ++ more) → Advanced k i s (after v) (past_of i x v ∷ earlier) (event_of (out-Stmt x) v) c
-    advance v real form told gave fits more front = by (cases_order (stage_for k x) s)
-      where
-        by : (stage_for k x ≡ s) ⊎ ((stage_for k x < s) ⊎ (s < stage_for k x)) → Advanced k i s (after v) (past_of i x v ∷ earlier) (event_of (out-Stmt x) v) c
-        by (inl e) = own_advance v e (gave e) form fits
-        by (inr (inl e)) = consumed_advance v e form more (front e)
-        by (inr (inr e)) = later_advance v e real form told
+    advance v real form told gave fits more front = elim (cases_order (stage_for k x) s) [
+      | inl e ↦ own_advance v e (gave e) form fits
+      | inr (inl e) ↦ consumed_advance v e form more (front e)
+      | inr (inr e) ↦ later_advance v e real form told
+    ]

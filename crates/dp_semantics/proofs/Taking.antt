@@ -1,12 +1,6 @@
 -- The words of an event at the front of a list: what is taken for them, and what is left.
-use Rattle.std.proofs.Common.{◌≡◌, refl, sym, ap, ◌∙◌, append_assoc, ℕ, zero, suc, ◌+◌, ◌-◌, ◌<◌, Bool, true, false, ◌&&◌, if◌then◌else◌, List, [], ◌∷◌, ◌++◌, ℤ, pos, length, get_or, Option, Some, None, unwrap_or, slice_get, slice_set, nat_le, nat_lt, ◌==◌, arith, eq-eqb, ne_eqb, le-leb, lt-ltb, Result, Ok, Err}
-use Rattle.std.proofs.lemmas.Option.{unwrap_or-slice_get}
-use Rattle.std.proofs.lemmas.List.{get_or-set_other}
-use Rattle.std.proofs.lemmas.Grind.{get_or-set_at}
-use Rattle.dp_semantics.proofs.Names.{Word, Stmt, Stmt-F, Assign, Store, Print, If, While, Region, Program, Plan, Load, first_cell, cell_count, Event, Effect, Stored, Printed, Decided, site_of, stage_of, is_checked, int_eq, Void, Astray, Taken, load_word, load_words, done_word, words_of, is_load_of, is_done_of, after_loads_of, is_cell_of, effect_by, taken_by, done_from, taken_from, words_in, word_list, loads_hold}
-use Rattle.dp_semantics.proofs.Each.{and_true, and_make}
-use Rattle.dp_semantics.proofs.Evaluation.{InVar, Form, Holds}
-use Rattle.dp_semantics.proofs.Integers.{int_same, int_eq-self}
+use Rattle.dp_semantics.proofs.Names.{◌≡◌, refl, sym, ap, ◌∙◌, append_assoc, ℕ, zero, suc, ◌+◌, ◌-◌, ◌<◌, Bool, true, false, ◌&&◌, if◌then◌else◌, List, [], ◌∷◌, ◌++◌, ℤ, pos, length, get_or, Option, Some, None, unwrap_or, slice_get, slice_set, nat_le, nat_lt, ◌==◌, arith, eq-eqb, ne_eqb, le-leb, lt-ltb, Ok, unwrap_or-slice_get, get_or-set_other, get_or-set_at, Word, Stmt, Stmt-F, Assign, Store, Print, If, While, Region, Program, Plan, Load, first_cell, cell_count, Event, Effect, Stored, Printed, Decided, site_of, stage_of, is_checked, int_eq, load_word, load_words, done_word, words_of, is_load_of, after_loads_of, is_cell_of, effect_by, taken_from, words_in, word_list, loads_hold, and_parts, and_from, inl, inr, cases_Bool}
+use Rattle.dp_semantics.proofs.Setting.{InVar, Form, Holds, int_same, int_eq-self}
 
 -- Lists of stages, from 1.
 words_in_is : (o : Option (List Word)) → words_in o ≡ unwrap_or o []
@@ -23,10 +17,6 @@ word_list_same lists t words h k = word_list_is (slice_set lists (t - 1) words) 
 pub word_list_other : (lists : List (List Word)) (t u : ℕ) (words : List Word) → 0 < t → 0 < u → (u ≡ t → ⊥) → word_list (slice_set lists (t - 1) words) u ≡ word_list lists u
 word_list_other lists t u words h k differ =
     word_list_is (slice_set lists (t - 1) words) u k ∙ get_or-set_other lists (t - 1) (u - 1) words [] (λ e. differ (omega (arith, e, h, k))) ∙ sym (word_list_is lists u k)
-
-pub append_same : {X : Type 0} (a b c : List X) → a ++ b ≡ a ++ c → b ≡ c
-append_same [] b c e = e
-append_same (x ∷ a) b c e = append_same a b c (cc)
 
 -- The words for a stage.
 module _ (p : Program) (plan : Plan) where
@@ -46,9 +36,6 @@ load_here site l = ap (λ (b : Bool). b && true) (eq-eqb site site refl)
 done_no_load : (site : ℕ) (effect : Effect) → is_load_of site (done_word site effect) ≡ false
 done_no_load site effect = ap (λ (b : Bool). b && false) (eq-eqb site site refl)
 
-done_here : (site : ℕ) (effect : Effect) → is_done_of site (done_word site effect) ≡ true
-done_here site effect = ap (λ (b : Bool). b && true) (eq-eqb site site refl)
-
 -- the loads at the front are passed
 loads_pass : (site : ℕ) (loads : List Load) (w : Word) (rest : List Word) → is_load_of site w ≡ false → after_loads_of site (load_words site loads ++ w ∷ rest) ≡ w ∷ rest
 loads_pass site [] w rest e = ap (λ (b : Bool). if b then after_loads_of site rest else w ∷ rest) e
@@ -63,16 +50,16 @@ loads_compared : (site : ℕ) (cells : List ℤ) (loads : List Load) (w : Word) 
 loads_compared site cells [] w rest e h = ap (λ (b : Bool). if b then int_eq (get_or cells w.index (pos 0)) w.value && loads_hold site cells rest else true) e
 loads_compared site cells (l ∷ loads) w rest e h =
     compared_is site cells l (load_words site loads ++ w ∷ rest)
-    ∙ and_make (int_eq (get_or cells l.cell (pos 0)) l.value) (loads_hold site cells (load_words site loads ++ w ∷ rest)) (ap (λ (z : ℤ). int_eq z l.value) h.0 ∙ int_eq-self l.value) (loads_compared site cells loads w rest e h.1)
+    ∙ and_from (int_eq (get_or cells l.cell (pos 0)) l.value) (loads_hold site cells (load_words site loads ++ w ∷ rest)) (ap (λ (z : ℤ). int_eq z l.value) h.0 ∙ int_eq-self l.value) (loads_compared site cells loads w rest e h.1)
 
 loads_held : (site : ℕ) (cells : List ℤ) (loads : List Load) (w : Word) (rest : List Word) → loads_hold site cells (load_words site loads ++ w ∷ rest) ≡ true → Holds cells loads
 loads_held site cells [] w rest e = tt
 loads_held site cells (l ∷ loads) w rest e =
-    let parts = and_true (int_eq (get_or cells l.cell (pos 0)) l.value) (loads_hold site cells (load_words site loads ++ w ∷ rest)) (sym (compared_is site cells l (load_words site loads ++ w ∷ rest)) ∙ e) in
+    let parts = and_parts (int_eq (get_or cells l.cell (pos 0)) l.value) (loads_hold site cells (load_words site loads ++ w ∷ rest)) (sym (compared_is site cells l (load_words site loads ++ w ∷ rest)) ∙ e) in
     (int_same (get_or cells l.cell (pos 0)) l.value parts.0, loads_held site cells loads w rest parts.1)
 
 store_is : (p : Program) (x c : ℕ) (value : ℤ) → InVar p x c → (if is_cell_of p (record { 0 = x }) c then Some (Stored c value) else None) ≡ Some (Stored c value)
-store_is p x c value h = ap (λ (b : Bool). if b then Some (Stored c value) else None) (and_make (nat_le (first_cell p (record { 0 = x })) c) (nat_lt c (first_cell p (record { 0 = x }) + cell_count p (record { 0 = x })))
+store_is p x c value h = ap (λ (b : Bool). if b then Some (Stored c value) else None) (and_from (nat_le (first_cell p (record { 0 = x })) c) (nat_lt c (first_cell p (record { 0 = x }) + cell_count p (record { 0 = x })))
     (le-leb (first_cell p (record { 0 = x })) c h.0) (lt-ltb c (first_cell p (record { 0 = x }) + cell_count p (record { 0 = x })) h.1))
 
 -- its `Done` word stands for what it did
@@ -86,38 +73,24 @@ effect_of_word p (Region r s cond a) site (Decided value) f = refl
 effect_of_word p _ site effect f = absurd f
 
 module _ (p : Program) (plan : Plan) (event : Event) (rest : List Word) where
-  abbrev here : Bool → List Word
-  here b = ((if b then load_words event.site event.loads else []) ++ done_word event.site event.effect ∷ []) ++ rest
-
-  with_loads : here true ≡ load_words event.site event.loads ++ done_word event.site event.effect ∷ rest
-  with_loads = append_assoc (load_words event.site event.loads) (done_word event.site event.effect ∷ []) rest
-
   passed_over : after_loads_of event.site (words_of p plan event ++ rest) ≡ done_word event.site event.effect ∷ rest
-  passed_over = by (is_checked p plan event.site)
-    where
-      by : (b : Bool) → after_loads_of event.site (here b) ≡ done_word event.site event.effect ∷ rest
-      by true = ap (after_loads_of event.site) with_loads ∙ loads_pass event.site event.loads (done_word event.site event.effect) rest (done_no_load event.site event.effect)
-      by false = loads_pass event.site [] (done_word event.site event.effect) rest (done_no_load event.site event.effect)
+  passed_over = elim (cases_Bool (is_checked p plan event.site)) [
+    | inl e ↦ rw (e, append_assoc (load_words event.site event.loads) (done_word event.site event.effect ∷ []) rest) (loads_pass event.site event.loads (done_word event.site event.effect) rest (done_no_load event.site event.effect))
+    | inr e ↦ rw e (loads_pass event.site [] (done_word event.site event.effect) rest (done_no_load event.site event.effect))
+  ]
 
   -- the event is taken
   pub taken_event : (head : Stmt-F Stmt) → event.site ≡ (site_of head).0 → effect_by p head (done_word event.site event.effect) ≡ Some event.effect → taken_from p head (words_of p plan event ++ rest) ≡ Ok (record { effect = event.effect; rest = rest })
-  taken_event head at by_word =
-      ap (λ (site : ℕ). done_from p head (after_loads_of site (words_of p plan event ++ rest))) (sym at)
-      ∙ ap (done_from p head) passed_over
-      ∙ ap chosen (ap (λ (site : ℕ). is_done_of site (done_word event.site event.effect)) (sym at) ∙ done_here event.site event.effect)
-      ∙ ap (taken_by (site_of head).0 (done_word event.site event.effect) rest) by_word
-    where
-      chosen : Bool → Result Taken Void
-      chosen b = if b then taken_by (site_of head).0 (done_word event.site event.effect) rest (effect_by p head (done_word event.site event.effect))
-          else Err (Astray (site_of head).0 (Some (done_word event.site event.effect)))
+  taken_event head at by_word = rw (← at, passed_over, ← at, eq-eqb event.site event.site refl, by_word)
 
   -- its loads are compared where its site is checked
   pub event_passes : (cells : List ℤ) → (is_checked p plan event.site ≡ true → Holds cells event.loads) → loads_hold event.site cells (words_of p plan event ++ rest) ≡ true
-  event_passes cells h = by (is_checked p plan event.site) h
-    where
-      by : (b : Bool) → (b ≡ true → Holds cells event.loads) → loads_hold event.site cells (here b) ≡ true
-      by true g = ap (loads_hold event.site cells) with_loads ∙ loads_compared event.site cells event.loads (done_word event.site event.effect) rest (done_no_load event.site event.effect) (g refl)
-      by false g = loads_compared event.site cells [] (done_word event.site event.effect) rest (done_no_load event.site event.effect) tt
+  event_passes cells h = elim (cases_Bool (is_checked p plan event.site)) [
+    | inl e ↦ rw (e, append_assoc (load_words event.site event.loads) (done_word event.site event.effect ∷ []) rest)
+        (loads_compared event.site cells event.loads (done_word event.site event.effect) rest (done_no_load event.site event.effect) (h e))
+    | inr e ↦ rw e (loads_compared event.site cells [] (done_word event.site event.effect) rest (done_no_load event.site event.effect) tt)
+  ]
 
   pub event_held : (cells : List ℤ) → loads_hold event.site cells (words_of p plan event ++ rest) ≡ true → is_checked p plan event.site ≡ true → Holds cells event.loads
-  event_held cells e checked = loads_held event.site cells event.loads (done_word event.site event.effect) rest (sym (ap (λ (b : Bool). loads_hold event.site cells (here b)) checked ∙ ap (loads_hold event.site cells) with_loads) ∙ e)
+  event_held cells e checked = loads_held event.site cells event.loads (done_word event.site event.effect) rest
+      (rw (checked, append_assoc (load_words event.site event.loads) (done_word event.site event.effect ∷ []) rest) at e)

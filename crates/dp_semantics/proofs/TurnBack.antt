@@ -1,8 +1,6 @@
 -- What a turn that came to its end says of its steps.
-use Rattle.std.proofs.Common.{◌≡◌, refl, sym, ap, ◌∙◌, append_assoc, ℕ, zero, suc, ◌<◌, ◌≤◌, ◌==◌, Bool, true, false, if◌then◌else◌, List, [], ◌∷◌, ◌++◌, ℤ, length, nat_le, Result, Ok, Err, arith, leb-true, eq-eqb}
-use Rattle.std.proofs.lemmas.List.{append-nil}
-use Rattle.dp_semantics.proofs.Names.{Word, Stmt, out-Stmt, Stmt-F, Program, Plan, WithLoads, Evaluated, Effect, evaluated, Void, Full, Taken, words_of, taken_from, Turn, TurnEnd, Ended, turned, own_step, stage_at, consumed_step, words_left, turn_step, turn_by, turn_at, turn_from}
-use Rattle.dp_semantics.proofs.Source.{event_of}
+use Rattle.dp_semantics.proofs.Names.{◌≡◌, refl, sym, ap, ◌∙◌, append_assoc, ℕ, zero, suc, ◌<◌, ◌≤◌, ◌==◌, List, [], ◌∷◌, ◌++◌, ℤ, length, nat_le, Result, Ok, Err, arith, leb-true, eq-eqb, append-nil, Word, Stmt, out-Stmt, Stmt-F, Program, Plan, WithLoads, Evaluated, Effect, evaluated, Void, Full, Taken, words_of, Turn, TurnEnd, Ended, own_step, stage_at, consumed_step, turn_step, turn_by, turn_at, turn_from, inl, inr, cases_Bool}
+use Rattle.dp_semantics.proofs.Stepping.{event_of}
 
 -- the words only grow
 abbrev pub Grows : List Word → List Word → Type 0
@@ -15,22 +13,20 @@ module _ (p : Program) (plan : Plan) (input : List ℤ) (s : ℕ) where
 
   grows_own : (c : Turn) (y : Stmt) (ys : List Stmt) (h : Stmt-F Stmt) (r : Evaluated Effect) → GrowsBy c (own_step p plan c y ys h r)
   grows_own c y ys h (Err kind) = tt
-  grows_own c y ys h (Ok v) = by (nat_le (length (c.own ++ words_of p plan (event_of h v))) plan.words)
-    where
-      by : (b : Bool) → GrowsBy c (if b then Ok (turned p plan c y ys h v.value (c.own ++ words_of p plan (event_of h v)) c.lists) else Err Full)
-      by true = (words_of p plan (event_of h v), refl)
-      by false = tt
+  grows_own c y ys h (Ok v) = elim (cases_Bool (nat_le (length (c.own ++ words_of p plan (event_of h v))) plan.words)) [
+    | inl e ↦ rw e (words_of p plan (event_of h v), refl)
+    | inr e ↦ rw e tt
+  ]
 
   grows_consumed : (c : Turn) (y : Stmt) (ys : List Stmt) (h : Stmt-F Stmt) (r : Result Taken Void) → GrowsBy c (consumed_step p plan c y ys h r)
   grows_consumed c y ys h (Err why) = tt
   grows_consumed c y ys h (Ok w) = ([], sym (append-nil c.own))
 
   grows_step : (c : Turn) (y : Stmt) (ys : List Stmt) (h : Stmt-F Stmt) → GrowsBy c (turn_step p plan input s c y ys h)
-  grows_step c y ys h = by (stage_at p plan h == s)
-    where
-      by : (b : Bool) → GrowsBy c (if b then own_step p plan c y ys h (evaluated p input c.cells h) else consumed_step p plan c y ys h (taken_from p h (words_left p plan c h)))
-      by true = grows_own c y ys h (evaluated p input c.cells h)
-      by false = grows_consumed c y ys h _
+  grows_step c y ys h = elim (cases_Bool (stage_at p plan h == s)) [
+    | inl e ↦ rw e (grows_own c y ys h (evaluated p input c.cells h))
+    | inr e ↦ rw e (grows_consumed c y ys h _)
+  ]
 
   -- where what follows a step grows, all does
   abbrev Growing : (Turn → TurnEnd) → Type 0
@@ -62,21 +58,14 @@ module _ (p : Program) (plan : Plan) (input : List ℤ) (s : ℕ) where
     pub room : length (c.own ++ words_of p plan (event_of h v)) ≤ plan.words
     pub grew : Grows (c.own ++ words_of p plan (event_of h v)) e.own
 
-  own_room : (n : ℕ) (c : Turn) (y : Stmt) (ys : List Stmt) (h : Stmt-F Stmt) (e : Ended) (v : WithLoads Effect) (b : Bool) → nat_le (length (c.own ++ words_of p plan (event_of h v))) plan.words ≡ b → evaluated p input c.cells h ≡ Ok v →
-      turn_by (turn_from p plan input s n) (if b then Ok (turned p plan c y ys h v.value (c.own ++ words_of p plan (event_of h v)) c.lists) else Err Full) ≡ Ok e → Own c h e
-  own_room n c y ys h e v true fits gave q = record { v = v; gave = gave; room = leb-true _ _ fits; grew = turn_grows n _ e q }
-  own_room n c y ys h e v false fits gave q = absurd (cc)
-
   own_value : (n : ℕ) (c : Turn) (y : Stmt) (ys : List Stmt) (h : Stmt-F Stmt) (e : Ended) (r : Evaluated Effect) → evaluated p input c.cells h ≡ r → turn_by (turn_from p plan input s n) (own_step p plan c y ys h r) ≡ Ok e → Own c h e
-  own_value n c y ys h e (Ok v) gave q = own_room n c y ys h e v (nat_le (length (c.own ++ words_of p plan (event_of h v))) plan.words) refl gave q
+  own_value n c y ys h e (Ok v) gave q = elim (cases_Bool (nat_le (length (c.own ++ words_of p plan (event_of h v))) plan.words)) [
+    | inl fits ↦ record { v = v; gave = gave; room = leb-true _ _ fits; grew = turn_grows n _ e (rw fits at q) }
+    | inr full ↦ let clash : Err Full ≡ Ok e = rw full at q in absurd (cc clash)
+  ]
   own_value n c y ys h e (Err kind) gave q = absurd (cc)
 
   pub own_back : (n : ℕ) (c : Turn) (y : Stmt) (ys : List Stmt) (h : Stmt-F Stmt) (e : Ended) → c.to_do ≡ y ∷ ys → out-Stmt y ≡ h → stage_at p plan h ≡ s → turn_from p plan input s n c ≡ Ok e → Own c h e
   unfolding turn_from
   own_back zero c y ys h e at o here q = absurd (cc)
-  own_back (suc n) c y ys h e at o here q =
-      own_value n c y ys h e (evaluated p input c.cells h) refl
-      (sym (ap (turn_at p plan input s (turn_from p plan input s n) c) at
-      ∙ ap (λ (g : Stmt-F Stmt). turn_by (turn_from p plan input s n) (turn_step p plan input s c y ys g)) o
-      ∙ ap (λ (b : Bool). turn_by (turn_from p plan input s n) (if b then own_step p plan c y ys h (evaluated p input c.cells h) else consumed_step p plan c y ys h (taken_from p h (words_left p plan c h)))) (eq-eqb _ s here))
-      ∙ q)
+  own_back (suc n) c y ys h e at o here q = own_value n c y ys h e (evaluated p input c.cells h) refl (rw (at, o, eq-eqb _ s here) at q)

@@ -1,15 +1,11 @@
 -- One iteration from the region's condition on: to where the next one starts, to its closing, or to where the run ends in it.
-use Rattle.std.proofs.Common.{◌≡◌, ◌⊎◌, inl, inr, refl, sym, ap, ◌∙◌, subst, ℕ, zero, suc, ◌+◌, ◌≤◌, Bool, true, false, if◌then◌else◌, List, [], ◌∷◌, ◌++◌, ℤ, length, Option, Some, None, slice_get, Ok, Err, arith, eq-eqb}
-use Rattle.std.proofs.lemmas.List.{append-nil}
-use Rattle.dp_semantics.proofs.Names.{is_zero, FaultKind, Stmt, out-Stmt, outs-If, Stmt-F, If, Program, Plan, WithLoads, Evaluated, eval, Config, Event, Effect, Decided, Step, Finished, Faulted, Stepped, choose, followed, value_of, stored, decided, evaluated, standing, cleared_at, clear_locals, step, Run, run_of, run_by, extended, is_region, stands_at_head, places, decided_zero}
+use Rattle.dp_semantics.proofs.Names.{◌≡◌, ◌⊎◌, inl, inr, refl, ap, ◌∙◌, subst, ℕ, zero, suc, ◌+◌, ◌≤◌, Bool, true, false, if◌then◌else◌, List, [], ◌∷◌, ◌++◌, ℤ, length, Option, Some, None, slice_get, Ok, Err, arith, eq-eqb, append-nil, is_zero, FaultKind, Stmt, out-Stmt, outs-If, Stmt-F, If, Program, Plan, WithLoads, Evaluated, eval, Config, Event, Effect, Decided, Faulted, Stepped, choose, followed, value_of, stored, decided, evaluated, standing, cleared_at, clear_locals, step, Run, run_of, extended, is_region, stands_at_head, places, decided_zero, cases_Bool}
 use Rattle.dp_tree.specs.declared.Stmt.TheVariants as tree
 use Rattle.dp_semantics.proofs.Setting.{Accepted}
-use Rattle.dp_semantics.proofs.Source.{event_of}
-use Rattle.dp_semantics.proofs.Lockstep.{Goes, stays, goes}
-use Rattle.dp_semantics.proofs.Whole.{turn_of}
-use Rattle.dp_semantics.proofs.Runs.{is_step, run_step, step_on, step_off}
-use Rattle.dp_semantics.proofs.Placed.{behind, never}
+use Rattle.dp_semantics.proofs.Whole.{turn_of, Goes, stays, goes}
+use Rattle.dp_semantics.proofs.Placed.{behind, never, is_step, run_step, run_first, first_place, step_on, step_off}
 use Rattle.dp_semantics.proofs.Walks.{Stuck, Walk, walk}
+use Rattle.dp_semantics.proofs.Stepping.{event_of}
 
 pub decided_is : (u : Evaluated ℤ) (v : WithLoads Effect) → decided u ≡ Ok v → (z : ℤ) × (v.value ≡ Decided z)
 decided_is (Ok w) v e = (w.value, cc)
@@ -56,14 +52,8 @@ module _ {p : Program} {plan : Plan} (a : Accepted p plan) (input : List ℤ) wh
   turn_goes : (cells : List ℤ) (v : WithLoads Effect) (z : ℤ) (events : List Event) (after : List Stmt) (then_cells : List ℤ) → decided (eval p input cells a.cond) ≡ Ok v → v.value ≡ Decided z →
       Goes p input (choose z a.body [] ++ []) cells events after then_cells → Goes p input (turn_of a) cells (event_at v ∷ events) after then_cells
   turn_goes cells v z events after then_cells e d path =
-      let here : Stmt-F Stmt = out-Stmt (tree.If a.site a.cond a.body []) in
-      let same : here ≡ If a.site a.cond a.body [] = outs-If a.site a.cond a.body [] in
-      let gave : evaluated p input cells here ≡ Ok v = ap (evaluated p input cells) same ∙ e in
-      let next : followed (tree.If a.site a.cond a.body []) [] here (value_of v.value) ≡ choose z a.body [] ++ [] =
-      ap (λ (h : Stmt-F Stmt). followed (tree.If a.site a.cond a.body []) [] h (value_of v.value)) same ∙ ap (λ (f : Effect). choose (value_of f) a.body [] ++ []) d in
-      subst (λ (h : Stmt-F Stmt). Goes p input (turn_of a) cells (event_of h v ∷ events) after then_cells) same
-      (goes gave (subst (λ (to_do : List Stmt). Goes p input to_do (stored v.value cells) events after then_cells) (sym next)
-      (subst (λ (f : Effect). Goes p input (choose z a.body [] ++ []) (stored f cells) events after then_cells) (sym d) path)))
+      let same = outs-If a.site a.cond a.body [] in
+      subst (λ (h : Stmt-F Stmt). Goes p input (turn_of a) cells (event_of h v ∷ events) after then_cells) same (goes (rw same e) (rw (same, d) path))
 
   pub standing_is : (cells : List ℤ) → start_at cells ≡ record { to_do = behind a; cells = clear cells }
   standing_is cells = ap (λ (h : Stmt-F Stmt). record { to_do = behind a; cells = cleared_at p h cells }) a.is
@@ -72,21 +62,11 @@ module _ {p : Program} {plan : Plan} (a : Accepted p plan) (input : List ℤ) wh
   at_head cells = ap (is_region plan.region) a.is ∙ eq-eqb plan.region plan.region refl
 
   -- a run from here has its first start here
-  first_is : (n : ℕ) (cells : List ℤ) (rest : List Config) → slice_get (places (stands_at_head plan.region) n (start_at cells ∷ rest)) 0 ≡ Some n
-  first_is n cells rest = ap (λ (b : Bool). slice_get (if b then n ∷ places (stands_at_head plan.region) (suc n) rest else places (stands_at_head plan.region) (suc n) rest) 0) (at_head cells)
-
   pub starts_first : (n : ℕ) (cells : List ℤ) (rest : List Config) → slice_get (places (stands_at_head plan.region) n (start_at cells ∷ rest)) 1 ≡ slice_get (places (stands_at_head plan.region) (suc n) rest) 0
-  starts_first n cells rest = ap (λ (b : Bool). slice_get (if b then n ∷ places (stands_at_head plan.region) (suc n) rest else places (stands_at_head plan.region) (suc n) rest) 1) (at_head cells)
+  starts_first n cells rest = rw (at_head cells)
 
   starts_at_once : (n m : ℕ) (cells : List ℤ) → slice_get (places (stands_at_head plan.region) n (run_at m cells).configs) 0 ≡ Some n
-  unfolding run_of
-  starts_at_once n zero cells = first_is n cells []
-  starts_at_once n (suc m) cells = by (step p input (start_at cells))
-    where
-      by : (s : Step) → slice_get (places (stands_at_head plan.region) n (run_by (run_of p input m) (suc m) (start_at cells) s).configs) 0 ≡ Some n
-      by Finished = first_is n cells []
-      by (Faulted fault) = first_is n cells []
-      by (Stepped event next) = first_is n cells (run_of p input m next).configs
+  starts_at_once n m cells = first_place (stands_at_head plan.region) n (run_at m cells).configs (start_at cells) (run_first p input m (start_at cells)) (at_head cells)
 
   is_call_free : is_step (out-Stmt a.statement) ≡ true
   is_call_free = ap is_step a.is
@@ -137,7 +117,7 @@ module _ {p : Program} {plan : Plan} (a : Accepted p plan) (input : List ℤ) wh
       after = [];
       then_cells = clear cells;
       more = (rest_from (choose z (a.body ++ behind a) a.tail)).trace;
-      path = turn_goes (clear cells) v z [] [] (clear cells) e d (subst (λ (to_do : List Stmt). Goes p input to_do (clear cells) [] [] (clear cells)) (sym (ap (λ (b : Bool). (if b then [] else a.body) ++ []) q)) stays);
+      path = turn_goes (clear cells) v z [] [] (clear cells) e d (rw q stays);
       trace_is = trace_whole;
       outcome = closed refl (λ n. next_whole n ∙ ap (λ (b : Bool). slice_get (places (stands_at_head plan.region) (suc n) (rest_from (if b then a.tail else a.body ++ behind a)).configs) 0) q
           ∙ ap (λ (ks : List ℕ). slice_get ks 0) (never p input plan.region m (suc n) a.tail (clear cells) a.tail_free)) (zero_is true q) refl (omega arith);
@@ -149,7 +129,7 @@ module _ {p : Program} {plan : Plan} (a : Accepted p plan) (input : List ℤ) wh
       after = w.after;
       then_cells = w.then_cells;
       more = (run_of p input w.left (standing p (w.after ++ behind a) w.then_cells)).trace;
-      path = turn_goes (clear cells) v z w.events w.after w.then_cells e d (subst (λ (to_do : List Stmt). Goes p input to_do (clear cells) w.events w.after w.then_cells) (sym (ap (λ (b : Bool). (if b then [] else a.body) ++ []) q ∙ append-nil a.body)) w.path);
+      path = turn_goes (clear cells) v z w.events w.after w.then_cells e d (rw (q, append-nil a.body) w.path);
       trace_is = trace_whole ∙ ap (λ (es : List Event). event_at v ∷ es) (ap (λ (run : Run). run.trace) opened ∙ w.trace_is);
       outcome = by w.ending;
     }
@@ -178,11 +158,10 @@ module _ {p : Program} {plan : Plan} (a : Accepted p plan) (input : List ℤ) wh
         by (inr s) = broken s.x s.rest s.after_is (λ n. next n ∙ ap (λ (ks : List ℕ). slice_get ks 0) (s.no_start (suc n + length w.events))) s.no_trace (zero_is false q) (later s.why)
 
   by_value : (m : ℕ) (cells : List ℤ) (u : Evaluated Effect) → condition cells ≡ u → Turned (suc m) cells
-  by_value m cells (Ok v) e = let d = decided_is (eval p input (clear cells) a.cond) v e in by_zero m cells v d.0 e d.1 (is_zero d.0) refl
-    where
-      by_zero : (m : ℕ) (cells : List ℤ) (v : WithLoads Effect) (z : ℤ) → condition cells ≡ Ok v → v.value ≡ Decided z → (b : Bool) → is_zero z ≡ b → Turned (suc m) cells
-      by_zero m cells v z e d true q = closes m cells v z e d q
-      by_zero m cells v z e d false q = goes_on m cells v z e d q (walk p plan input (behind a) m a.body (clear cells) a.well)
+  by_value m cells (Ok v) e = let d = decided_is (eval p input (clear cells) a.cond) v e in elim (cases_Bool (is_zero d.0)) [
+    | inl q ↦ closes m cells v d.0 e d.1 q
+    | inr q ↦ goes_on m cells v d.0 e d.1 q (walk p plan input (behind a) m a.body (clear cells) a.well)
+  ]
   by_value m cells (Err kind) e =
       let fault = step_off p input a.statement a.tail (clear cells) kind is_call_free (ap (evaluated p input (clear cells)) a.is ∙ e) in
       let whole = run_step p input m (start_at cells) (Faulted fault.0) (ap (step p input) (standing_is cells) ∙ fault.1) in

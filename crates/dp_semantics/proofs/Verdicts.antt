@@ -1,8 +1,6 @@
 -- The judgement on an epoch's packets, against the source's iterations.
-use Rattle.std.proofs.Common.{◌≡◌, refl, sym, ap, ◌∙◌, ℕ, ◌≤◌, true, false, List, ℤ, length, map, arith}
-use Rattle.dp_semantics.proofs.Names.{Status, Going, Closing, Broken, Packet, Epoch, passed, Judgement, Agreed, Clean, judge, judge_lists, judge_status, effect_in}
-use Rattle.dp_semantics.proofs.Lockstep.{closing_after}
-use Rattle.dp_semantics.proofs.Whole.{MadeWithin, judge_whole, judge_whole_back}
+use Rattle.dp_semantics.proofs.Names.{◌≡◌, refl, sym, ap, ◌∙◌, ℕ, ◌≤◌, true, false, List, ℤ, length, map, arith, Status, Broken, Packet, Epoch, passed, Judgement, Agreed, Clean, judge, judge_lists, judge_status, effect_in}
+use Rattle.dp_semantics.proofs.Whole.{MadeWithin, judge_whole, judge_whole_back, closing_after}
 use Rattle.dp_semantics.proofs.PacketFacts.{live, status_live}
 use Rattle.dp_semantics.proofs.Epochs.{History, numbered, past_at, MakesAt, Gone, ready, Sent, claims_at}
 
@@ -17,14 +15,12 @@ module _ {k : Epoch} (h : History k) where
   judge_live m cells packet alive = by packet.status alive
     where
       by : (status : Status) → live status ≡ true → judge_status (judge_lists program plan m cells packet.lists) status ≡ judge_lists program plan m cells packet.lists
-      by Going e = refl
-      by Closing e = refl
       by (Broken s why) e = absurd (cc)
+      by _ e = refl
 
   clean_live : (judgement : Judgement) (verdict : Agreed) (status : Status) → judge_status judgement status ≡ Clean verdict → live status ≡ true
-  clean_live judgement verdict Going e = refl
-  clean_live judgement verdict Closing e = refl
   clean_live judgement verdict (Broken s why) e = absurd (cc)
+  clean_live judgement verdict _ e = refl
 
   -- The packet of an iteration that agrees with the plan has the source's words, and is judged Clean with the source's effects.
   pub record WellJudged (n m : ℕ) : Type 0 where

@@ -1,12 +1,9 @@
 -- A run through the text of one iteration: to its end, or to where it stops.
-use Rattle.std.proofs.Common.{◌≡◌, ◌⊎◌, inl, inr, refl, sym, ap, ◌∙◌, ℕ, zero, suc, ◌+◌, Bool, true, false, if◌then◌else◌, List, [], ◌∷◌, ◌++◌, ℤ, length, Some, slice_get, Ok, Err, arith}
-use Rattle.dp_semantics.proofs.Names.{FaultKind, Stmt, out-Stmt, Stmt-F, Region, Call, Program, Plan, WithLoads, Evaluated, Config, Event, Effect, Faulted, Stepped, followed, value_of, stored, evaluated, standing, cleared_at, step, Run, run_of, extended, is_region, stands_at_head, places, well_nested}
-use Rattle.dp_semantics.proofs.Each.{and_true}
-use Rattle.dp_semantics.proofs.Heads.{all_well, well_at, well_out}
-use Rattle.dp_semantics.proofs.Followed.{followed_has, followed-append, all_joins}
-use Rattle.dp_semantics.proofs.Source.{event_of, well_parts}
-use Rattle.dp_semantics.proofs.Lockstep.{Goes, stays, goes}
-use Rattle.dp_semantics.proofs.Runs.{is_step, run_step, step_on, step_off, run_first}
+use Rattle.dp_semantics.proofs.Names.{◌≡◌, ◌⊎◌, inl, inr, refl, sym, ap, ◌∙◌, ℕ, zero, suc, ◌+◌, Bool, true, false, if◌then◌else◌, List, [], ◌∷◌, ◌++◌, ℤ, length, Some, slice_get, Ok, Err, arith, FaultKind, Stmt, out-Stmt, Stmt-F, Region, Call, Program, Plan, WithLoads, Evaluated, Config, Event, Effect, Faulted, Stepped, followed, value_of, stored, evaluated, standing, cleared_at, step, Run, run_of, extended, is_region, stands_at_head, places, well_nested, and_parts, followed-append}
+use Rattle.dp_semantics.proofs.Setting.{all_well, well_at, well_out, followed_has, all_joins}
+use Rattle.dp_semantics.proofs.Stepping.{event_of, well_parts}
+use Rattle.dp_semantics.proofs.Whole.{Goes, stays, goes}
+use Rattle.dp_semantics.proofs.Placed.{is_step, run_step, step_on, step_off, run_first}
 
 -- A well-nested statement is no call and no region.
 well_step : (p : Program) (plan : Plan) (h : Stmt-F Stmt) → well_at p plan h ≡ true → is_step h ≡ true
@@ -120,11 +117,11 @@ module _ (p : Program) (plan : Plan) (input : List ℤ) (rest_of_run : List Stmt
   -- The run goes through well-nested statements to their end, or it ends within.
   pub walk : (m : ℕ) (to_do : List Stmt) (cells : List ℤ) → all_well p plan to_do ≡ true → Walk m to_do cells
   walk m [] cells w = here m [] cells (inl refl)
-  walk zero (x ∷ rest) cells w = spent x rest cells (sym (well_out p plan x) ∙ (and_true (well_nested p plan x) (all_well p plan rest) w).0)
+  walk zero (x ∷ rest) cells w = spent x rest cells (sym (well_out p plan x) ∙ (and_parts (well_nested p plan x) (all_well p plan rest) w).0)
   walk (suc m) (x ∷ rest) cells w = by (evaluated p input cells (out-Stmt x)) refl (λ v. walk m (followed x rest (out-Stmt x) (value_of v.value)) (stored v.value cells) (onward v))
     where
       parts : (well_nested p plan x ≡ true) × (all_well p plan rest ≡ true)
-      parts = and_true (well_nested p plan x) (all_well p plan rest) w
+      parts = and_parts (well_nested p plan x) (all_well p plan rest) w
 
       head : well_at p plan (out-Stmt x) ≡ true
       head = sym (well_out p plan x) ∙ parts.0

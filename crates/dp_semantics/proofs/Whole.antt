@@ -1,17 +1,10 @@
 -- A whole iteration: the turns of the stages, and the judgement on their words.
-use Rattle.std.proofs.Common.{◌≡◌, refl, sym, ap, ◌∙◌, subst, ℕ, suc, ◌+◌, ◌-◌, ◌<◌, ◌≤◌, Bool, true, false, ◌&&◌, ◌||◌, List, [], ◌∷◌, ◌++◌, ℤ, length, map, nat_le, arith, sum_by, le-leb, is_some, Ok}
-use Rattle.std.proofs.lemmas.List.{append-nil}
-use Rattle.std.specs.List.{list_all}
-use Rattle.dp_semantics.proofs.Names.{Word, Stmt, outs-If, Region, Program, Plan, Event, Access, stage_of, region_statement, Past, all_agree, event_as_assumed, pushed, assumed_in, project_all, word_list, Turn, TurnEnd, Ended, turn_at, turn_from, turn_begin, stage_run, Epoch, Agreed, Clean, judge_lists, last, none_earlier, well_nested, effect_in}
+use Rattle.dp_semantics.proofs.Names.{◌≡◌, refl, sym, ap, ◌∙◌, subst, ℕ, suc, ◌+◌, ◌-◌, ◌<◌, ◌≤◌, Bool, true, false, ◌&&◌, List, [], ◌∷◌, ◌++◌, ℤ, length, map, nat_le, arith, sum_by, le-leb, is_some, Ok, append-nil, list_all, Word, Stmt, outs-If, Region, Program, Plan, Event, Access, stage_of, region_statement, Past, all_agree, event_as_assumed, pushed, assumed_in, project_all, word_list, Turn, TurnEnd, Ended, turn_at, turn_from, turn_begin, stage_run, Epoch, Agreed, Clean, judge_lists, last, none_earlier, well_nested, effect_in, and_from, or-true}
+pub use Rattle.dp_semantics.proofs.Memory.{AllBefore, pushed_before, before_later, Cleared, sees_next, sees_replicated, clear-length, clear-at}
+pub use Rattle.dp_semantics.proofs.Lockstep.{words_through, closing_after, stands_after, Goes, stays, goes, lockstep, Through}
 use Rattle.dp_tree.specs.declared.Stmt.TheVariants as tree
-use Rattle.dp_semantics.proofs.Each.{Each, each_map, each_join, and_make, all_make}
-use Rattle.dp_semantics.proofs.Heads.{accesses_all, all_well, accesses_at, accesses_out, well_at, well_out, if_rule, project_at, project_out}
-use Rattle.dp_semantics.proofs.Projected.{reached}
-use Rattle.dp_semantics.proofs.Setting.{size, Sound, Accepted, Fit, Known}
-use Rattle.dp_semantics.proofs.Seeing.{Sees}
-use Rattle.dp_semantics.proofs.Source.{Stands}
-use Rattle.dp_semantics.proofs.Stepping.{InStep}
-use Rattle.dp_semantics.proofs.Lockstep.{Goes, words_through, closing_after, lockstep, Through}
+use Rattle.dp_semantics.proofs.Setting.{size, Sound, Accepted, Fit, Known, Each, each_map, each_join, all_make, accesses_all, all_well, accesses_at, accesses_out, well_at, well_out, if_rule, project_at, project_out}
+use Rattle.dp_semantics.proofs.Stepping.{InStep, reached, Sees, Stands}
 use Rattle.dp_semantics.proofs.Judging.{judge_lockstep, judge_ends, JudgedThrough}
 use Rattle.dp_semantics.proofs.Backward.{AllRunning, Agreeing, judge_back}
 
@@ -34,18 +27,16 @@ module _ {p : Program} {plan : Plan} (a : Accepted p plan) where
   one_first = ap (stage_of p plan) (sym a.first) ∙ a.staged
 
   pub turn_well : all_well p plan (turn_of a) ≡ true
-  turn_well = and_make (well_nested p plan (tree.If a.site a.cond a.body [])) true
+  turn_well = and_from (well_nested p plan (tree.If a.site a.cond a.body [])) true
       (well_out p plan (tree.If a.site a.cond a.body []) ∙ ap (well_at p plan) (outs-If a.site a.cond a.body [])
-      ∙ and_make (if_rule p plan a.site.0 (accesses_all a.body ++ [])) (all_well p plan a.body && true) ruled (and_make (all_well p plan a.body) true a.well refl)) refl
+      ∙ and_from (if_rule p plan a.site.0 (accesses_all a.body ++ [])) (all_well p plan a.body && true) ruled (and_from (all_well p plan a.body) true a.well refl)) refl
     where
-      or_true : (b c : Bool) → c ≡ true → (b || c) ≡ true
-      or_true true c e = refl
-      or_true false c e = e
+      early : none_earlier p plan a.site.0 (accesses_all a.body ++ []) ≡ true
+      early = all_make (λ u. nat_le (stage_of p plan a.site.0) (stage_of p plan u.site)) (accesses_all a.body ++ [])
+          (each_map (Sound p plan) (λ u. nat_le (stage_of p plan a.site.0) (stage_of p plan u.site) ≡ true) (λ u s. le-leb _ _ (omega (arith, one_first, s.staged))) (accesses_all a.body ++ []) sound_parts.1)
 
       ruled : if_rule p plan a.site.0 (accesses_all a.body ++ []) ≡ true
-      ruled = or_true (is_some (assumed_in plan.assume a.site.0)) (none_earlier p plan a.site.0 (accesses_all a.body ++ []))
-          (all_make (λ u. nat_le (stage_of p plan a.site.0) (stage_of p plan u.site)) (accesses_all a.body ++ [])
-          (each_map (Sound p plan) (λ u. nat_le (stage_of p plan a.site.0) (stage_of p plan u.site) ≡ true) (λ u s. le-leb _ _ (omega (arith, one_first, s.staged))) (accesses_all a.body ++ []) sound_parts.1))
+      ruled = rw early (or-true (is_some (assumed_in plan.assume a.site.0)))
 
   -- a stage's program of the region is its part of one iteration
   turn_program : (s : ℕ) → 0 < s → project_all p plan s (region_statement p plan) ≡ project_all p plan s (turn_of a)

@@ -4,3 +4,4 @@ mod Turns
 mod Sent
 mod Judged
 mod Fitting
+mod ValidPlans

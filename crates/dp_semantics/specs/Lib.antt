@@ -12,3 +12,4 @@ pub mod Verdict
 pub mod Nesting
 pub mod Fits
 pub mod Laws
+pub mod ValidPlan

@@ -1,8 +1,10 @@
 //! The laws of the definitions, as contracts of functions that do nothing: the central theorem first.
 
 ghost use Rattle.std.specs.Prelude.{◌≡◌, true};
+ghost use Rattle.dp_tree.specs.Inlined.{IsInlined};
 ghost use Rattle.dp_semantics.specs.Fits.{fits_plan, stands_alone};
 ghost use Rattle.dp_semantics.specs.Laws.{CleanInOneStage, RecoversInOrder};
+ghost use Rattle.dp_semantics.specs.ValidPlan.{RegionsStandAlone, ValidPlanFits};
 ghost use Rattle.dp_semantics.specs.Verdict.{JudgesEpochs, JudgesRightly, StoresLead};
 
 use dp_plan::Plan;
@@ -16,6 +18,14 @@ pub fn judgement_is_the_sources(p: &Program, plan: &Plan)
     ensures judged { JudgesRightly p.now plan.now }
     ensures in_epochs { JudgesEpochs p.now plan.now }
     ensures led { StoresLead p.now plan.now }
+{}
+
+/// What the laws ask of a program and a plan, an inlined program and a valid plan of one of its regions have.
+#[tactic(auto, using(crate::proofs::ValidFits::valid_fits, crate::proofs::ValidFits::regions_alone))]
+pub fn valid_plans_fit(p: &Program, plan: &Plan)
+    requires { IsInlined p.now }
+    ensures fits { ValidPlanFits p.now plan.now }
+    ensures alone { RegionsStandAlone p.now }
 {}
 
 /// With all of a region in one stage an iteration is clean where it has ended and has at most 4,096 events.

@@ -3,4 +3,4 @@
 
 mod law;
 
-pub use law::{judgement_is_the_sources, one_stage_is_clean, recovered_ascend};
+pub use law::{judgement_is_the_sources, one_stage_is_clean, recovered_ascend, valid_plans_fit};

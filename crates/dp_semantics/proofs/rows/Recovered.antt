@@ -4,7 +4,8 @@ use Rattle.dp_tree.specs.declared.Program.{Program}
 use Rattle.dp_tree.proofs.Build.{tree_opened}
 use Rattle.dp_tree.proofs.Programs.{sum_loop, zero_divisor, stale_read, same_value_store, skip_negative, histogram, two_stores, stale_step, stale_divisor}
 use Rattle.dp_plan.specs.declared.Plan.{Plan}
-use Rattle.dp_plan.proofs.Plans.{zero_divisor_plan, stale_read_plan, skip_negative_plan, histogram_plan, two_stores_plan, stale_step_plan, stale_divisor_plan}
+use Rattle.dp_plan.specs.declared.StageKind.TheVariants.{Seq, Par}
+use Rattle.dp_plan.proofs.Plans.{plan, zero_divisor_plan, stale_read_plan, skip_negative_plan, histogram_plan, two_stores_plan, stale_step_plan, stale_divisor_plan}
 use Rattle.dp_semantics.specs.Recovery.{recovered}
 use Rattle.dp_semantics.specs.OneStage.{one_stage_plan}
 use Rattle.dp_semantics.specs.Verdict.{whole_run}
@@ -64,6 +65,11 @@ least_number = refl
 replicated : recovered_in histogram histogram_plan (pos 0 ∷ pos 1 ∷ pos 2 ∷ pos 3 ∷ pos 4 ∷ pos 5 ∷ pos 6 ∷ []) 10000 ≡ []
 unfolding tree_opened
 replicated = refl
+
+-- a replicated stage doesn't see its other turns: iterations 1 and 3 load the element that the one before counted
+replicated_counts : recovered_in histogram (plan 4096 (Seq ∷ Par ∷ []) (1 ∷ 1 ∷ 1 ∷ 2 ∷ 2 ∷ []) []) (pos 0 ∷ pos 4 ∷ pos 8 ∷ pos 12 ∷ []) 10000 ≡ 1 ∷ 3 ∷ []
+unfolding tree_opened
+replicated_counts = refl
 
 -- both stages store one element, stage 2 first in the source's order
 stores_in_source_order : recovered_in two_stores two_stores_plan [] 10000 ≡ []

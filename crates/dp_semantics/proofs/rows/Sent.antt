@@ -9,6 +9,7 @@ use Rattle.dp_tree.proofs.Programs.{stale_read, same_value_store, skip_negative,
 use Rattle.dp_plan.specs.declared.Plan.{Plan}
 use Rattle.dp_plan.proofs.Plans.{stale_read_plan, skip_negative_plan, histogram_plan, stale_step_plan}
 use Rattle.dp_semantics.specs.Clean.{count_from, int_eq}
+use Rattle.dp_semantics.specs.Packets.{Closing, Status}
 use Rattle.dp_semantics.specs.Recovery.{epoch}
 use Rattle.dp_semantics.specs.Words.{is_load, is_done}
 use Rattle.dp_semantics.specs.StageRun.{turn_from}
@@ -55,3 +56,18 @@ replicated = refl
 words_too_few : agreeing stale_step (stale_step_plan 19) [] ≡ true ∷ false ∷ false ∷ true ∷ []
 unfolding tree_opened turn_from
 words_too_few = refl
+
+-- the packet of the closing iteration closes
+abbrev closes : Status → Bool
+closes Closing = true
+closes _ = false
+
+abbrev closing_packets : List Bool
+closing_packets = by (whole_run same_value_store [] 10000)
+  where
+    by : Run → List Bool
+    by run = map (λ i. closes (packet_at same_value_store stale_read_plan [] run 0 i).status) (count_from 0 7)
+
+one_closes : closing_packets ≡ false ∷ false ∷ false ∷ false ∷ false ∷ false ∷ true ∷ []
+unfolding tree_opened turn_from
+one_closes = refl

@@ -1,0 +1,26 @@
+-- Valid plans of an inlined program: they fit it, and its regions stand alone.
+use Rattle.std.specs.Prelude.{◌≡◌, ℕ, ◌<◌, ◌≤◌, Bool, true, length, None, nat_lt}
+use Rattle.std.specs.List.{list_all}
+use Rattle.dp_tree.specs.declared.Program.{Program}
+use Rattle.dp_plan.specs.declared.Plan.{Plan}
+use Rattle.dp_plan.specs.Written.{WrittenStage, WrittenPlan, plan_of}
+use Rattle.dp_plan.specs.Valid.{first_broken}
+use Rattle.dp_semantics.specs.Fits.{fits_plan, stands_alone}
+
+-- the line lists a site, as each stage line of a plan's text does
+abbrev pub lists_site : WrittenStage → Bool
+lists_site line = nat_lt 0 (length line.sites)
+
+-- The plan is what these lines stand for: no rule is broken by them, and each stage line lists a site.
+pub record WrittenAs (p : Program) (w : WrittenPlan) (plan : Plan) : Type 0 where
+  pub valid : first_broken p w ≡ None
+  pub filled : list_all lists_site w.stages ≡ true
+  pub plan_is : plan ≡ plan_of p w
+
+-- A plan that has such lines fits.
+abbrev pub ValidPlanFits : Program → Plan → Type 0
+ValidPlanFits p plan = (w : WrittenPlan) → WrittenAs p w plan → fits_plan p plan ≡ true
+
+-- Each region of the program stands alone.
+abbrev pub RegionsStandAlone : Program → Type 0
+RegionsStandAlone p = (r : ℕ) → 0 < r → r ≤ length p.regions → stands_alone p r ≡ true
