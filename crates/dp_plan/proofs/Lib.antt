@@ -1,2 +1,4 @@
 pub mod Plans
 pub mod rows
+pub mod LoopLemmas
+pub mod WalkLemmas

@@ -4,3 +4,4 @@ pub mod Written
 pub mod Enclosing
 pub mod Rules
 pub mod Valid
+pub mod Walks
