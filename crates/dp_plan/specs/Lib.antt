@@ -4,4 +4,9 @@ pub mod Written
 pub mod Enclosing
 pub mod Rules
 pub mod Valid
+pub mod PlanText
+pub mod Refused
+pub mod Words
+pub mod LineWords
+pub mod Reading
 pub mod Walks

@@ -7,6 +7,9 @@ use dp_base::{NoMemory, Row, SiteId};
 use dp_tree::Assume;
 
 mod checked;
+mod line;
+mod reader;
+mod words;
 
 
 /// Whether one unit runs a stage's iterations in order, or several take different ones.
