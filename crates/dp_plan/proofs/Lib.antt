@@ -6,3 +6,9 @@ pub mod Digits
 pub mod WordLemmas
 pub mod SiteLemmas
 pub mod CutLemmas
+pub mod NumberText
+pub mod JoinLemmas
+pub mod LineComplete
+pub mod LineSound
+pub mod Runs
+pub mod RunComplete

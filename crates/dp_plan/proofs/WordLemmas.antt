@@ -76,7 +76,7 @@ space_case : (P : List (List ℕ) → Type 0) (byte : ℕ) (text : List ℕ) (is
 space_case P byte text true e full = rw e (full [] (words text))
 space_case P byte text false e full = rw e (first_case P byte (words text) full)
 
-some_word : (P : List (List ℕ) → Type 0) → ((word : List ℕ) (rest : List (List ℕ)) → P (word ∷ rest)) → (text : List ℕ) → P (words text)
+pub some_word : (P : List (List ℕ) → Type 0) → ((word : List ℕ) (rest : List (List ℕ)) → P (word ∷ rest)) → (text : List ℕ) → P (words text)
 some_word P full [] = full [] []
 some_word P full (byte ∷ text) = space_case P byte text (byte == 32) refl full
 

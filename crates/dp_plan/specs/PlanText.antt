@@ -59,8 +59,9 @@ Each P (x ∷ rest) = P x × Each P rest
 abbrev pub StageFits : WrittenStage → Type 0
 StageFits stage = (1 ≤ length stage.sites) × AscendAbove 0 stage.sites
 
+-- sites are from 1, and have 32 bits
 abbrev pub AssumeFits : Assume → Type 0
-AssumeFits a = 0 < a.site.0
+AssumeFits a = (0 < a.site.0) × (a.site.0 < 2 ^ 32)
 
 -- W is from 16 to 4,096, and the stages are from 1 to 8
 pub record PlanFits (w : WrittenPlan) : Type 0 where
