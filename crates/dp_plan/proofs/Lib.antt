@@ -12,3 +12,4 @@ pub mod LineComplete
 pub mod LineSound
 pub mod Runs
 pub mod RunComplete
+pub mod RunSound
