@@ -13,3 +13,6 @@ pub mod LineSound
 pub mod Runs
 pub mod RunComplete
 pub mod RunSound
+pub mod RunEnds
+pub mod TextLemmas
+pub mod SoFar

@@ -9,4 +9,5 @@ pub mod Refused
 pub mod Words
 pub mod LineWords
 pub mod Reading
+pub mod Ending
 pub mod Walks

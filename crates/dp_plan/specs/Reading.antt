@@ -1,17 +1,12 @@
 -- Which lines may follow one another.
-use Rattle.std.specs.Prelude.{◌≡◌, ℕ, ◌+◌, ◌==◌, if◌then◌else◌, Bool, true, false, not, ◌&&◌, ◌||◌, nat_lt, List, [], ◌∷◌, ◌++◌, length, Option, Some, None, Result, Ok, Err}
-use Rattle.dp_tree.specs.declared.Program.{Program}
+use Rattle.std.specs.Prelude.{ℕ, ◌+◌, ◌==◌, if◌then◌else◌, Bool, true, false, not, ◌&&◌, ◌||◌, nat_lt, List, [], ◌∷◌, ◌++◌, length, Option, Some, None}
 use Rattle.dp_tree.specs.declared.Assume.{Assume}
-use Rattle.dp_plan.specs.declared.PlanFail.{PlanFail}
-use Rattle.dp_plan.specs.declared.PlanFail.TheVariants.{Refused, Invalid, NoMemory}
 use Rattle.dp_plan.specs.declared.line.Line.{Line}
 use Rattle.dp_plan.specs.declared.line.Line.TheVariants as line
 use Rattle.dp_plan.specs.declared.reader.Reader.{Reader}
 use Rattle.dp_plan.specs.declared.reader.Phase.{Phase}
 use Rattle.dp_plan.specs.declared.reader.Phase.TheVariants as phase
 use Rattle.dp_plan.specs.Written.{WrittenStage, WrittenPlan}
-use Rattle.dp_plan.specs.PlanText.{PlanText}
-use Rattle.dp_plan.specs.Refused.{IsRefused}
 
 -- no line yet
 abbrev pub begun : Reader
@@ -69,10 +64,3 @@ next n s line.End = if is_between s && (s.last.region == n) then Some (with_end 
 unfoldable pub next_by : ℕ → Reader → Option Line → Option Reader
 next_by n s None = None
 next_by n s (Some l) = next n s l
-
--- the plans of a text, or its refusal
-abbrev pub ReadsText : Program → List ℕ → Result (List WrittenPlan) PlanFail → Type 0
-ReadsText p bytes (Ok plans) = PlanText p bytes plans
-ReadsText p bytes (Err (Refused line)) = IsRefused p bytes line
-ReadsText p bytes (Err (Invalid rule site)) = ⊥
-ReadsText p bytes (Err NoMemory) = Unit {0}

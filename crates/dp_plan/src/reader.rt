@@ -1,15 +1,16 @@
 //! The lines of a text, one after the other.
 
-ghost use Rattle.std.specs.Prelude.{◌≡◌, ◌<◌, ◌+◌, ◌∷◌, ◌++◌, ◌==◌, [], IfOk, IfSome, MatchOption, length, take, drop};
+ghost use Rattle.std.specs.Prelude.{◌≡◌, ◌<◌, ◌^◌, ◌+◌, ◌∷◌, ◌++◌, ◌==◌, [], IfOk, IfSome, MatchOption, length, take, drop};
 ghost use Rattle.std.specs.List.{position};
 ghost use Rattle.dp_plan.specs.PlanText.{lines_of};
 ghost use Rattle.dp_plan.specs.Words.{words};
 ghost use Rattle.dp_plan.specs.LineWords.{line_of};
+ghost use Rattle.dp_plan.specs.Ending.{IfEnds, ReadsText};
 
 use crate::line::{Line, read_line};
-use crate::{WrittenPlan, WrittenStage};
+use crate::{PlanFail, WrittenPlan, WrittenStage};
 use dp_base::{NoMemory, Row};
-use dp_tree::Assume;
+use dp_tree::{Assume, Program};
 use std::alloc::Global;
 
 /// How far a text has come.
@@ -213,4 +214,56 @@ fn next_line(text: &[u8]) -> Option<(&[u8], &[u8])>
     let (line, _) = text.split_at(len);
     let (_, rest) = text.split_at(len + 1);
     Some((line, rest))
+}
+
+/// The plans of a text whose lines have been read up to what has no LF.
+fn finished(reader: Reader, rest: &[u8], line: u64) -> Result<Row<WrittenPlan>, PlanFail>
+    ensures { IfEnds reader rest.now line result }
+{
+    let Reader { phase, plans, .. } = reader;
+    match phase {
+        Phase::Over if rest.is_empty() => Ok(plans),
+        _ => Err(PlanFail::Refused { line }),
+    }
+}
+
+/// How many regions there are. More than 32 bits can count answer want of memory.
+fn region_count(p: &Program) -> Result<u32, NoMemory>
+    ensures { IfOk result (λ count. (count ≡ length p.now.regions) × (length p.now.regions < 2 ^ 32)) }
+{
+    let count = p.regions.len();
+    if count > 4_294_967_295 {
+        return Err(NoMemory);
+    }
+    Ok(count as u32)
+}
+
+/// The plans that a text writes.
+pub fn read_text(alloc: Global, bytes: &[u8], p: &Program) -> Result<Row<WrittenPlan>, PlanFail>
+    ensures { ReadsText p.now bytes.now result }
+{
+    let regions = region_count(p)?;
+    let mut reader = Reader::new(alloc);
+    let mut rest = bytes;
+    let mut count: usize = 0;
+    'lines: loop {
+        match next_line(rest) {
+            None => return finished(reader, rest, count as u64 + 1),
+            Some((text, more)) => {
+                let next = reader.after_text(alloc, regions, text)?;
+                match next {
+                    None => {
+                        return Err(PlanFail::Refused {
+                            line: count as u64 + 1,
+                        });
+                    }
+                    Some(after) => {
+                        reader = after;
+                        rest = more;
+                        count += 1;
+                    }
+                }
+            }
+        }
+    }
 }
