@@ -32,10 +32,11 @@ lines_fit (w ∷ ws) r zero numbers small fit = absurd (cc numbers)
 lines_fit (w ∷ ws) r (suc k) numbers small fit =
     let is : w.region ≡ r = cc numbers in
     let later : map region_number ws ≡ numbers_from (r + 1) k = cc numbers in
-    each-lists LineFits (region_lines w) (flat_map region_lines ws)
-    ((omega (arith, is, small), fit.0.least_words, fit.0.most_words),
-    each-lists LineFits (map line.Stage w.stages) (map line.Assume w.assume)
-    (each-map StageFits LineFits line.Stage (λ _ h. h) w.stages fit.0.stages) (each-map AssumeFits LineFits line.Assume (λ _ h. h) w.assume fit.0.assume))
+    each-lists LineFits (region_lines w) (flat_map region_lines ws) (
+      (omega (arith, is, small), fit.0.least_words, fit.0.most_words),
+      each-lists LineFits (map line.Stage w.stages) (map line.Assume w.assume)
+          (each-map StageFits LineFits line.Stage (λ _ h. h) w.stages fit.0.stages) (each-map AssumeFits LineFits line.Assume (λ _ h. h) w.assume fit.0.assume),
+    )
     (lines_fit ws (r + 1) k later (omega (arith, small)) fit.1)
 
 pub all_lines_fit : (ws : List WrittenPlan) (n : ℕ) → map region_number ws ≡ numbers_from 1 n → n < 2 ^ 32 → Each PlanFits ws → Each LineFits (plan_lines ws)

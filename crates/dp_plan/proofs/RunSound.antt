@@ -151,7 +151,8 @@ module _ (n : ℕ) (plans : List WrittenPlan) (w : WrittenPlan) (some : 0 < w.re
       let v = more_stage w stage in
       let lines : line.Head ∷ flat_map region_lines (plans ++ v ∷ []) ≡ so_far ++ line.Stage stage ∷ [] = ap (λ l. line.Head ∷ l) (last_line plans w v (line.Stage stage) (stage_lines w stage none)) in
       let fits_more : LastFits v = record {
-        least_words = last.least_words; most_words = last.most_words;
+        least_words = last.least_words;
+        most_words = last.most_words;
         few_stages = omega (arith, few, length-append w.stages (stage ∷ []));
         stages = each-append StageFits w.stages stage last.stages fits;
         assume = last.assume;
@@ -169,7 +170,10 @@ module _ (n : ℕ) (plans : List WrittenPlan) (w : WrittenPlan) (some : 0 < w.re
       let v = more_assume w a in
       let lines : line.Head ∷ flat_map region_lines (plans ++ v ∷ []) ≡ so_far ++ line.Assume a ∷ [] = ap (λ l. line.Head ∷ l) (last_line plans w v (line.Assume a) (assume_lines w a)) in
       let fits_more : LastFits v = record {
-        least_words = last.least_words; most_words = last.most_words; few_stages = last.few_stages; stages = last.stages;
+        least_words = last.least_words;
+        most_words = last.most_words;
+        few_stages = last.few_stages;
+        stages = last.stages;
         assume = each-append AssumeFits w.assume a last.assume fits;
         first_stages = λ none. absurd (omega (arith, none, full));
       } in

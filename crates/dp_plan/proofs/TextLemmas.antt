@@ -61,12 +61,15 @@ module _ (p : Program) (small : length p.regions < 2 ^ 32) where
   begins s done r =
       let n = length p.regions in
       let e : Ends (length p.regions) s = reads_end n s r.lines small r.reads in
-      let t : IsText (length p.regions) e.plans (r.lines ++ e.more) = reads_over n (over e.plans) (r.lines ++ e.more) (reads_more n e.more s (over e.plans) r.lines r.reads e.fit e.runs) refl in
-      (map line_bytes e.more, e.plans, record {
-        lines_are = ap (λ d. d ++ map line_bytes e.more) r.are ∙ sym (map-append line_bytes r.lines e.more) ∙ ap (map line_bytes) t.are;
-        regions = t.numbers;
-        fit = t.fit;
-      })
+      let t : IsText (length p.regions) e.plans (r.lines ++ e.more) = reads_over n (over e.plans) (r.lines ++ e.more) (reads_more n e.more s (over e.plans) r.lines r.reads e.fit e.runs) refl in (
+        map line_bytes e.more,
+        e.plans,
+        record {
+          lines_are = ap (λ d. d ++ map line_bytes e.more) r.are ∙ sym (map-append line_bytes r.lines e.more) ∙ ap (map line_bytes) t.are;
+          regions = t.numbers;
+          fit = t.fit;
+        },
+      )
 
   begins_front : (xs ys : List (List ℕ)) → Begins p (xs ++ ys) → Begins p xs
   begins_front xs ys b = (ys ++ b.0, b.1, subst (λ (ls : List (List ℕ)). PlanLines p ls b.1) (append_assoc xs ys b.0) b.2)

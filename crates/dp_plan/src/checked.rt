@@ -93,7 +93,14 @@ impl Plan {
     }
 
     /// A store of this site makes what the stage sees of the variable differ.
-    fn store_differs(&self, p: &Program, stage: u32, var: VarId, site: SiteId, stored: VarId) -> bool
+    fn store_differs(
+        &self,
+        p: &Program,
+        stage: u32,
+        var: VarId,
+        site: SiteId,
+        stored: VarId,
+    ) -> bool
         ensures { result ≡ store_differs p.now self.now stage var.0 site.0 stored.0 }
     {
         if stored.0 != var.0 {
@@ -178,20 +185,45 @@ impl Plan {
         ensures { result ≡ any_access (access.is_checked_access p.now self.now site.0) statement.now }
     {
         match statement {
-            Stmt::Assign { site: at, value, .. } | Stmt::Print { site: at, value } => {
+            Stmt::Assign {
+                site: at,
+                value,
+                ..
+            }
+            | Stmt::Print { site: at, value } => {
                 at.0 == site.0 && self.loads_differing(p, self.stage(p, site), value)
             }
-            Stmt::Store { site: at, index, value, .. } => {
+            Stmt::Store {
+                site: at,
+                index,
+                value,
+                ..
+            } => {
                 at.0 == site.0
                     && (self.loads_differing(p, self.stage(p, site), index)
                         || self.loads_differing(p, self.stage(p, site), value))
             }
-            Stmt::If { site: at, cond, then_part, else_part } => {
+            Stmt::If {
+                site: at,
+                cond,
+                then_part,
+                else_part,
+            } => {
                 (at.0 == site.0 && self.loads_differing(p, self.stage(p, site), cond))
                     || self.is_checked_among(p, site, then_part.as_slice())
                     || self.is_checked_among(p, site, else_part.as_slice())
             }
-            Stmt::While { site: at, cond, body } | Stmt::Region { site: at, cond, body, .. } => {
+            Stmt::While {
+                site: at,
+                cond,
+                body,
+            }
+            | Stmt::Region {
+                site: at,
+                cond,
+                body,
+                ..
+            } => {
                 (at.0 == site.0 && self.loads_differing(p, self.stage(p, site), cond))
                     || self.is_checked_among(p, site, body.as_slice())
             }

@@ -9,8 +9,9 @@ use dp_tree::Assume;
 mod checked;
 mod line;
 mod reader;
+#[cfg(test)]
+mod tests;
 mod words;
-
 
 /// Whether one unit runs a stage's iterations in order, or several take different ones.
 ///

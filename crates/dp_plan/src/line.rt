@@ -133,7 +133,11 @@ fn assume(text: Option<&[u8]>) -> Option<Line>
 fn head_of(version: &[u8]) -> Option<Line>
     ensures { result ≡ spec.head_of version.now }
 {
-    if version == b"1".as_slice() { Some(Line::Head) } else { None }
+    if version == b"1".as_slice() {
+        Some(Line::Head)
+    } else {
+        None
+    }
 }
 
 #[tactic(auto, using(crate::proofs::WordLemmas::head_more))]

@@ -84,7 +84,9 @@ impl Reader {
         ensures { IfOk result (λ plans. plans ≡ spec.closed self) }
     {
         let Reader {
-            mut plans, last, ..
+            mut plans,
+            last,
+            ..
         } = self;
         if last.region != 0 {
             plans.push(last)?;
