@@ -4,3 +4,10 @@ pub mod Written
 pub mod Enclosing
 pub mod Rules
 pub mod Valid
+pub mod PlanText
+pub mod Refused
+pub mod Words
+pub mod LineWords
+pub mod Reading
+pub mod Ending
+pub mod Walks

@@ -5,20 +5,10 @@ use Rattle.dp_tree.specs.declared.Assume.{Assume}
 use Rattle.dp_tree.specs.declared.Program.{Program}
 use Rattle.dp_plan.specs.declared.StageKind.{StageKind}
 use Rattle.dp_plan.specs.declared.Plan.{Plan}
+pub use Rattle.dp_plan.specs.declared.WrittenStage.{WrittenStage}
+pub use Rattle.dp_plan.specs.declared.WrittenPlan.{WrittenPlan}
 use Rattle.dp_plan.specs.Stage.{stage_of}
 use Rattle.dp_plan.specs.Access.{Access, accesses, region_in}
-
--- a stage's line: its kind, and the sites that it lists
-pub record WrittenStage : Type 0 where
-  pub kind : StageKind
-  pub sites : List ℕ
-
--- a region's lines: its number and W, the stages in order, and the assumptions as they stand
-pub record WrittenPlan : Type 0 where
-  pub region : ℕ
-  pub words : ℕ
-  pub stages : List WrittenStage
-  pub assume : List Assume
 
 -- the access's site
 abbrev pub site_in : Access → ℕ

@@ -1,10 +1,17 @@
 //! Plans: how the sites of a region are spread over the stages of a pipeline.
 //!
-//! `specs/` says which plans are valid, and which sites a plan has checked.
+//! `specs/` says which plans are valid, which sites a plan has checked, and how plans are written as a text.
 #![tactic(auto)]
 
-use dp_base::Row;
+use dp_base::{NoMemory, Row, SiteId};
 use dp_tree::Assume;
+
+mod checked;
+mod line;
+mod reader;
+#[cfg(test)]
+mod tests;
+mod words;
 
 /// Whether one unit runs a stage's iterations in order, or several take different ones.
 ///
@@ -28,4 +35,43 @@ pub struct Plan {
     pub stage_of: Row<u32>,
     /// The outcomes that are assumed, ascending by site.
     pub assume: Row<Assume>,
+}
+
+/// A stage as a text has it: its kind, and the sites that its line lists.
+#[derive(Drop)]
+pub struct WrittenStage {
+    pub kind: StageKind,
+    pub sites: Row<u32>,
+}
+
+/// A region's plan as a text has it, which need not fit the program.
+#[derive(Drop)]
+pub struct WrittenPlan {
+    pub region: u32,
+    pub words: u32,
+    pub stages: Row<WrittenStage>,
+    /// The assumptions as they stand.
+    pub assume: Row<Assume>,
+}
+
+/// Why a text gives no plans.
+#[derive(Clone, Copy, Debug, PartialEq, Eq)]
+pub enum PlanFail {
+    /// It isn't in the grammar: the first line, from 1, up to which no text of the grammar begins so.
+    Refused { line: u64 },
+    /// A rule fails, with the site that it names.
+    Invalid { rule: u32, site: SiteId },
+    /// Memory was wanting.
+    NoMemory,
+}
+
+impl From<NoMemory> for PlanFail {
+    ghost use Rattle.std.specs.Prelude.{◌≡◌};
+    ghost use Rattle.dp_plan.specs.declared.PlanFail.TheVariants.{NoMemory};
+
+    ghost from_gives = { λ _ fail. fail ≡ NoMemory };
+
+    fn from(_wanting: NoMemory) -> PlanFail {
+        PlanFail::NoMemory
+    }
 }

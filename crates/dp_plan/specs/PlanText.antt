@@ -1,0 +1,96 @@
+-- The text of plans: its lines in order, the words of each, and what the numbers have to be.
+use Rattle.std.specs.Prelude.{◌≡◌, ℕ, ◌+◌, ◌^◌, ◌<◌, ◌≤◌, Bool, true, false, ◌==◌, if◌then◌else◌, List, [], ◌∷◌, ◌++◌, map, length, codes, decimal}
+use Rattle.std.specs.List.{flat_map}
+use Rattle.dp_tree.specs.declared.Assume.{Assume}
+use Rattle.dp_tree.specs.declared.Program.{Program}
+use Rattle.dp_tree.specs.Numbering.{numbers_from}
+use Rattle.dp_plan.specs.declared.StageKind.{StageKind}
+use Rattle.dp_plan.specs.declared.StageKind.TheVariants.{Seq, Par}
+use Rattle.dp_plan.specs.declared.line.Line.{Line}
+use Rattle.dp_plan.specs.declared.line.Line.TheVariants as line
+use Rattle.dp_plan.specs.Written.{WrittenStage, WrittenPlan}
+
+abbrev pub kind_word : StageKind → List ℕ
+kind_word Seq = codes "seq"
+kind_word Par = codes "par"
+
+-- 1 for an outcome other than 0
+abbrev pub outcome_number : Bool → ℕ
+outcome_number true = 1
+outcome_number false = 0
+
+-- the words of a line; numbers are decimal, without a sign or leading zeros
+abbrev pub words_of : Line → List (List ℕ)
+words_of line.Head = codes "plan" ∷ decimal 1 ∷ []
+words_of (line.Region r w) = codes "region" ∷ decimal r ∷ codes "words" ∷ decimal w ∷ []
+words_of (line.Stage stage) = kind_word stage.kind ∷ map decimal stage.sites
+words_of (line.Assume a) = codes "assume" ∷ decimal a.site.0 ∷ decimal (outcome_number a.taken) ∷ []
+words_of line.End = codes "end" ∷ []
+
+-- words with single spaces between
+abbrev pub joined : List (List ℕ) → List ℕ
+joined [] = []
+joined (word ∷ []) = word
+joined (word ∷ next ∷ rest) = word ++ 32 ∷ joined (next ∷ rest)
+
+-- the line's bytes: its words, and LF
+abbrev pub line_bytes : Line → List ℕ
+line_bytes l = joined (words_of l) ++ 10 ∷ []
+
+-- the lines of a region: the first, one for each stage in order, and one for each assumption as they stand
+abbrev pub region_lines : WrittenPlan → List Line
+region_lines w = line.Region w.region w.words ∷ (map line.Stage w.stages ++ map line.Assume w.assume)
+
+-- the lines of a text: the first, those of the regions, and the last
+abbrev pub plan_lines : List WrittenPlan → List Line
+plan_lines plans = line.Head ∷ (flat_map region_lines plans ++ line.End ∷ [])
+
+-- the sites ascend strictly, from above `low`, and each has 32 bits
+abbrev pub AscendAbove : ℕ → List ℕ → Type 0
+AscendAbove low [] = Unit {0}
+AscendAbove low (site ∷ rest) = (low < site) × (site < 2 ^ 32) × AscendAbove site rest
+
+-- each of them is so
+abbrev pub Each : {A : Type 0} → (A → Type 0) → List A → Type 0
+Each P [] = Unit {0}
+Each P (x ∷ rest) = P x × Each P rest
+
+-- a stage's line has a site at least, and its sites ascend strictly from 1
+abbrev pub StageFits : WrittenStage → Type 0
+StageFits stage = (1 ≤ length stage.sites) × AscendAbove 0 stage.sites
+
+-- sites are from 1, and have 32 bits
+abbrev pub AssumeFits : Assume → Type 0
+AssumeFits a = (0 < a.site.0) × (a.site.0 < 2 ^ 32)
+
+-- W is from 16 to 4,096, and the stages are from 1 to 8
+pub record PlanFits (w : WrittenPlan) : Type 0 where
+  pub least_words : 16 ≤ w.words
+  pub most_words : w.words ≤ 4096
+  pub some_stage : 1 ≤ length w.stages
+  pub few_stages : length w.stages ≤ 8
+  pub stages : Each StageFits w.stages
+  pub assume : Each AssumeFits w.assume
+
+abbrev pub region_number : WrittenPlan → ℕ
+region_number w = w.region
+
+-- the lines are those of these plans, one for each region of the program in order
+pub record PlanLines (p : Program) (lines : List (List ℕ)) (plans : List WrittenPlan) : Type 0 where
+  pub lines_are : lines ≡ map line_bytes (plan_lines plans)
+  pub regions : map region_number plans ≡ numbers_from 1 (length p.regions)
+  pub fit : Each PlanFits plans
+
+-- the byte at the front of the first line
+abbrev pub onto_first : ℕ → List (List ℕ) → List (List ℕ)
+onto_first byte [] = (byte ∷ []) ∷ []
+onto_first byte (first ∷ rest) = (byte ∷ first) ∷ rest
+
+-- a text is cut after each LF; what follows the last one is a line too, which no text of the grammar has
+abbrev pub lines_of : List ℕ → List (List ℕ)
+lines_of [] = []
+lines_of (byte ∷ rest) = if byte == 10 then (byte ∷ []) ∷ lines_of rest else onto_first byte (lines_of rest)
+
+-- the text is that of these plans
+abbrev pub PlanText : Program → List ℕ → List WrittenPlan → Type 0
+PlanText p bytes plans = PlanLines p (lines_of bytes) plans
