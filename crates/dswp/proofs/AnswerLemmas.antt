@@ -4,8 +4,8 @@ use Rattle.dp_tree.specs.declared.Program.{Program}
 use Rattle.dp_tree.specs.Checked.{IsChecked}
 use Rattle.dp_calls.specs.Frames.{outcome}
 use Rattle.dp_calls.specs.Expand.{expand}
-use Rattle.dswp.proofs.accepted.Assumed.{expanded_is_inlined}
-use Rattle.dswp.proofs.accepted.Assumed.{same_meaning}
+use Rattle.dp_calls.proofs.InlinedLaws.{expanded_is_inlined}
+use Rattle.dp_calls.proofs.SameMeanings.{same_meaning}
 use Rattle.dp_edge.specs.Sink.{appended}
 use Rattle.dswp.proofs.accepted.Sequential.{read_checked}
 use Rattle.dswp.proofs.accepted.SameText.{same_end, same_text}

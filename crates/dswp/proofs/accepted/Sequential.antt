@@ -6,7 +6,7 @@ use Rattle.dp_tree.specs.declared.raw.RawProgram.{RawProgram}
 use Rattle.dp_tree.specs.Checked.{IsChecked}
 use Rattle.dp_tree.specs.Inlined.{IsInlined}
 use Rattle.dp_calls.specs.Expand.{expand}
-use Rattle.dswp.proofs.accepted.Assumed.{expanded_is_inlined}
+use Rattle.dp_calls.proofs.InlinedLaws.{expanded_is_inlined}
 use Rattle.dp_check.specs.declared.fail.CheckFail.{CheckFail}
 use Rattle.dp_check.specs.Checked.{has_length}
 use Rattle.dp_check.specs.Verdict.{verdict}
