@@ -3,7 +3,9 @@ use Rattle.dp_semantics.proofs.Names.{◌≡◌, refl, sym, ap, ◌∙◌, ℕ, 
 use Rattle.dp_plan.specs.Enclosing.{region_ifs, region_inner_whiles}
 use Rattle.dp_plan.specs.Rules.{comes_late, condition, condition_unless, is_late_unassumed, is_replicated_kind, least, least_site_in, lesser, second_neighbour, site_of_condition, begins_sequential}
 use Rattle.dp_plan.specs.Valid.{broken_from, first_broken, rules}
-use Rattle.dp_plan.specs.Written.{WrittenPlan, WrittenStage, has, kind_in, listed, region_sites, sites_in, stage_from, written_stage}
+use Rattle.dp_plan.specs.declared.WrittenPlan.{WrittenPlan}
+use Rattle.dp_plan.specs.declared.WrittenStage.{WrittenStage}
+use Rattle.dp_plan.specs.Written.{has, kind_in, listed, region_sites, sites_in, stage_from, written_stage}
 use Rattle.dp_semantics.specs.ValidPlan.{lists_site}
 use Rattle.dp_semantics.proofs.Setting.{Each, each_map}
 

@@ -3,7 +3,9 @@ use Rattle.std.specs.Prelude.{◌≡◌, ℕ, ◌<◌, ◌≤◌, Bool, true, le
 use Rattle.std.specs.List.{list_all}
 use Rattle.dp_tree.specs.declared.Program.{Program}
 use Rattle.dp_plan.specs.declared.Plan.{Plan}
-use Rattle.dp_plan.specs.Written.{WrittenStage, WrittenPlan, plan_of}
+use Rattle.dp_plan.specs.declared.WrittenStage.{WrittenStage}
+use Rattle.dp_plan.specs.declared.WrittenPlan.{WrittenPlan}
+use Rattle.dp_plan.specs.Written.{plan_of}
 use Rattle.dp_plan.specs.Valid.{first_broken}
 use Rattle.dp_semantics.specs.Fits.{fits_plan, stands_alone}
 

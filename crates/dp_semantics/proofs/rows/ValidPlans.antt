@@ -4,7 +4,8 @@ use Rattle.dp_tree.specs.Inlined.{IsInlined}
 use Rattle.dp_tree.proofs.Build.{tree_opened}
 use Rattle.dp_tree.proofs.Programs.{histogram, word_table_expanded}
 use Rattle.dp_plan.specs.Valid.{first_broken}
-use Rattle.dp_plan.specs.Written.{WrittenPlan, plan_of}
+use Rattle.dp_plan.specs.declared.WrittenPlan.{WrittenPlan}
+use Rattle.dp_plan.specs.Written.{plan_of}
 use Rattle.dp_plan.proofs.Plans.{seq, par, written, word_table_written, word_table_plan}
 use Rattle.dp_semantics.specs.Fits.{fits_plan}
 use Rattle.dp_semantics.specs.ValidPlan.{WrittenAs}
