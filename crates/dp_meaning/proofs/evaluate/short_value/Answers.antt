@@ -14,7 +14,7 @@ returns-in-Some-short_operand c input =
     let same_left : to_z w64 (of_z w64 c.in-Some.x) ≡ c.in-Some.x = search rules in
     let same_right : to_z w64 (of_z w64 c.in-Some-short_operand.y) ≡ c.in-Some-short_operand.y = search rules in
     let plain : IfSome c.plain_result.result (λ v. binary_result s.op c.in-Some.x c.in-Some-short_operand.y ≡ Ok v) =
-        subst (λ (i : ℤ). IfSome c.plain_result.result (λ v. binary_result s.op i c.in-Some-short_operand.y ≡ Ok v)) same_left
-        (subst (λ (j : ℤ). IfSome c.plain_result.result (λ v. binary_result s.op (to_z w64 (of_z w64 c.in-Some.x)) j ≡ Ok v)) same_right c.plain_result.ensures) in
+    subst (λ (i : ℤ). IfSome c.plain_result.result (λ v. binary_result s.op i c.in-Some-short_operand.y ≡ Ok v)) same_left
+    (subst (λ (j : ℤ). IfSome c.plain_result.result (λ v. binary_result s.op (to_z w64 (of_z w64 c.in-Some.x)) j ≡ Ok v)) same_right c.plain_result.ensures) in
     subst (λ (e : Expr). IfSome c.plain_result.result (λ v. value e ≡ Ok v)) (sym s.is)
     (some_Binary c.args.p.now input c.args.cells.now s.op s.a s.b c.in-Some.x c.in-Some-short_operand.y c.plain_result.result left right plain)

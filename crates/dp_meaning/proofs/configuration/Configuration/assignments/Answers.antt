@@ -1,4 +1,4 @@
-use Rattle.std.proofs.Common.{rules, ◌≡◌, sym, ◌∙◌, ap, subst, [], drop, ℤ, Some, slice_get}
+use Rattle.std.proofs.Common.{rules, ◌≡◌, sym, ◌∙◌, ap, subst, [], drop, ℤ, Some}
 use Rattle.std.specs.Option.{option_copied}
 use Rattle.dp_tree.specs.Step.{Config, step_by, evaluated}
 use Rattle.dp_tree.specs.declared.Stmt.TheOpen.{Assign}
