@@ -8,7 +8,9 @@ pub mod TurnLemmas
 pub mod ContinuesLemmas
 pub mod MovedLemmas
 pub mod SoFar
+pub mod AssignLemmas
 pub mod StopLemmas
+pub mod StretchLemmas
 pub mod PartLemmas
 pub mod RegionLemmas
 pub mod IterationLemmas

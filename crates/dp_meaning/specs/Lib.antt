@@ -6,5 +6,6 @@ pub mod Moved
 pub mod PartRun
 pub mod IterationRun
 pub mod Turn
+pub mod Stretch
 pub mod Parts
 pub mod Depth

@@ -47,6 +47,7 @@ impl<'p> ToDo<'p> {
     }
 
     /// The next statement.
+    #[inline(always)]
     pub(crate) fn head(&self) -> Option<&'p Stmt>
         ensures { option_copied result ≡ slice_get self.now 0 }
     {
@@ -54,6 +55,7 @@ impl<'p> ToDo<'p> {
     }
 
     /// Drops the next statement.
+    #[inline(always)]
     #[tactic(auto, using(crate::proofs::PartsLemmas::parts))]
     pub(crate) fn advance(&mut self)
         requires { 0 < length self.old }
