@@ -124,3 +124,10 @@ module _ (p : Program) (checked : IsChecked p) where
 
   pub same_meaning : SameMeaning p
   same_meaning input fuel = outcomes_alike p (expand p) laid input same_count fuel (start_state p) (begin (expand p)) starts_alike
+
+  -- the place of each variable of the expanded program, and its file-scope ones
+  pub expanded_place : (y : ℕ) (info : VarInfo) → slice_get (expand p).vars y ≡ Some info → PlaceOf (file_count p) (global_count p) y info
+  expanded_place = made.lies.place
+
+  pub expanded_files : (x : ℕ) (info : VarInfo) → slice_get (globals_in p.vars) x ≡ Some info → slice_get (expand p).vars x ≡ Some info
+  expanded_files = made.grows.vars
