@@ -16,3 +16,4 @@ pub mod RunSound
 pub mod RunEnds
 pub mod TextLemmas
 pub mod SoFar
+pub mod ListWalks

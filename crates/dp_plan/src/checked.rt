@@ -11,7 +11,7 @@ use dp_tree::{Expr, Program, Stmt, VarScope};
 
 /// The statement is the region.
 #[tactic(auto, using(crate::proofs::WalkLemmas::region_forms))]
-fn is_region(region: u32, statement: &Stmt) -> bool
+pub(crate) fn is_region(region: u32, statement: &Stmt) -> bool
     ensures { result ≡ is_region_of region statement.now }
 {
     match statement {
