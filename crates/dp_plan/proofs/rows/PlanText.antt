@@ -24,11 +24,17 @@ unfolding Rattle.std.specs.Fmt.digits
 with_assumption = record {
   lines_are = refl;
   regions = refl;
-  fit = (record {
-    least_words = omega arith; most_words = omega arith; some_stage = omega arith; few_stages = omega arith;
-    stages = ((omega arith, (omega arith, omega arith, (omega arith, omega arith, (omega arith, omega arith, tt)))), ((omega arith, (omega arith, omega arith, (omega arith, omega arith, (omega arith, omega arith, tt)))), tt));
-    assume = ((omega arith, omega arith), tt);
-  }, tt);
+  fit = (
+    record {
+      least_words = omega arith;
+      most_words = omega arith;
+      some_stage = omega arith;
+      few_stages = omega arith;
+      stages = ((omega arith, (omega arith, omega arith, (omega arith, omega arith, (omega arith, omega arith, tt)))), ((omega arith, (omega arith, omega arith, (omega arith, omega arith, (omega arith, omega arith, tt)))), tt));
+      assume = ((omega arith, omega arith), tt);
+    },
+    tt,
+  );
 }
 
 with_replicated_stage : PlanText histogram (codes "plan 1\nregion 1 words 4096\nseq 2 3 4\npar 5\nseq 6\nend\n") (histogram_written ∷ [])
@@ -36,9 +42,15 @@ unfolding Rattle.std.specs.Fmt.digits
 with_replicated_stage = record {
   lines_are = refl;
   regions = refl;
-  fit = (record {
-    least_words = omega arith; most_words = omega arith; some_stage = omega arith; few_stages = omega arith;
-    stages = ((omega arith, (omega arith, omega arith, (omega arith, omega arith, (omega arith, omega arith, tt)))), ((omega arith, (omega arith, omega arith, tt)), ((omega arith, (omega arith, omega arith, tt)), tt)));
-    assume = tt;
-  }, tt);
+  fit = (
+    record {
+      least_words = omega arith;
+      most_words = omega arith;
+      some_stage = omega arith;
+      few_stages = omega arith;
+      stages = ((omega arith, (omega arith, omega arith, (omega arith, omega arith, (omega arith, omega arith, tt)))), ((omega arith, (omega arith, omega arith, tt)), ((omega arith, (omega arith, omega arith, tt)), tt)));
+      assume = tt;
+    },
+    tt,
+  );
 }

@@ -11,12 +11,12 @@ loop-statement-preserved c =
     let below : c.loop-statement.statement-index < length c.args.all.now = omega arith in
     elim c.if-is_region.branch [
       | then-is_region+in_ok-put_sites_of w ↦
-        joins_more (c.args.out.now ++ sites_in_region r all) c.loop-statement.out c.if-is_region.out (sites_in_region r (drop i all)) (site_list c.statement-item.result) (sites_in_region r (drop (i + 1) all))
-        c.loop-statement.invariant (region-next r all i c.statement-item.result below c.statement-item.is (sym c.is_region.ensures ∙ w.if-is_region.true)) (w.out-is ∙ w.in_ok-put_sites_of.ensures)
+          joins_more (c.args.out.now ++ sites_in_region r all) c.loop-statement.out c.if-is_region.out (sites_in_region r (drop i all)) (site_list c.statement-item.result) (sites_in_region r (drop (i + 1) all))
+          c.loop-statement.invariant (region-next r all i c.statement-item.result below c.statement-item.is (sym c.is_region.ensures ∙ w.if-is_region.true)) (w.out-is ∙ w.in_ok-put_sites_of.ensures)
       | else-is_region w ↦
-        ap (λ (l : List ℕ). l ++ sites_in_region r (drop (i + 1) all)) w.out-is
-        ∙ ap (λ (l : List ℕ). c.loop-statement.out ++ l) (sym (region-skip r all i c.statement-item.result below c.statement-item.is (sym c.is_region.ensures ∙ w.if-is_region.false)))
-        ∙ c.loop-statement.invariant
+          ap (λ (l : List ℕ). l ++ sites_in_region r (drop (i + 1) all)) w.out-is
+          ∙ ap (λ (l : List ℕ). c.loop-statement.out ++ l) (sym (region-skip r all i c.statement-item.result below c.statement-item.is (sym c.is_region.ensures ∙ w.if-is_region.false)))
+          ∙ c.loop-statement.invariant
     ]
 
 pub returns : goal.returns
