@@ -1,6 +1,7 @@
 pub mod Plans
 pub mod rows
 pub mod LoopLemmas
+pub mod LoadLemmas
 pub mod WalkLemmas
 pub mod Digits
 pub mod WordLemmas

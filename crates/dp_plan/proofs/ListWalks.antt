@@ -11,7 +11,8 @@ use Rattle.dp_plan.specs.Access.{accesses, accesses_in, is_region_at}
 use Rattle.dp_plan.specs.Written.{site_in}
 use Rattle.dp_plan.specs.Walks.{is_region_of}
 use Rattle.dp_plan.specs.Lists.{site_list, site_lists, sites_in_region}
-use Rattle.dp_plan.proofs.WalkLemmas.{opened, accesses_hidden}
+use Rattle.dp_plan.proofs.LoadLemmas.{opened}
+use Rattle.dp_plan.proofs.WalkLemmas.{accesses_hidden}
 use Rattle.dp_plan.proofs.RunSound.{map-append}
 
 pub sites-Assign : (site : SiteId) (x : VarId) (e : Expr) → site_list (tree.Assign site x e) ≡ site.0 ∷ []

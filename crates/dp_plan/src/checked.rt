@@ -161,7 +161,7 @@ impl Plan {
     }
 
     /// The expression loads such a variable.
-    #[tactic(auto, using(crate::proofs::WalkLemmas::load_forms))]
+    #[tactic(auto, using(crate::proofs::LoadLemmas::load_forms))]
     fn loads_differing(&self, p: &Program, stage: u32, e: &Expr) -> bool
         ensures { result ≡ any_load (access.may_differ p.now self.now stage) e.now }
     {
