@@ -1,6 +1,7 @@
 pub mod Plans
 pub mod rows
 pub mod LoopLemmas
+pub mod LoadLemmas
 pub mod WalkLemmas
 pub mod Digits
 pub mod WordLemmas
@@ -16,3 +17,4 @@ pub mod RunSound
 pub mod RunEnds
 pub mod TextLemmas
 pub mod SoFar
+pub mod ListWalks

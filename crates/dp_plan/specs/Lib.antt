@@ -11,3 +11,4 @@ pub mod LineWords
 pub mod Reading
 pub mod Ending
 pub mod Walks
+pub mod Lists

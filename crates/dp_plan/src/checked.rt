@@ -11,7 +11,7 @@ use dp_tree::{Expr, Program, Stmt, VarScope};
 
 /// The statement is the region.
 #[tactic(auto, using(crate::proofs::WalkLemmas::region_forms))]
-fn is_region(region: u32, statement: &Stmt) -> bool
+pub(crate) fn is_region(region: u32, statement: &Stmt) -> bool
     ensures { result ≡ is_region_of region statement.now }
 {
     match statement {
@@ -161,7 +161,7 @@ impl Plan {
     }
 
     /// The expression loads such a variable.
-    #[tactic(auto, using(crate::proofs::WalkLemmas::load_forms))]
+    #[tactic(auto, using(crate::proofs::LoadLemmas::load_forms))]
     fn loads_differing(&self, p: &Program, stage: u32, e: &Expr) -> bool
         ensures { result ≡ any_load (access.may_differ p.now self.now stage) e.now }
     {

@@ -9,6 +9,7 @@ use dp_tree::Assume;
 mod checked;
 mod line;
 mod reader;
+mod sites;
 #[cfg(test)]
 mod tests;
 mod words;
