@@ -83,9 +83,16 @@ local_lies k (x ∷ xs) locals lies n info at = by n at (λ m there. local_lies 
     by zero at behind = let same : x ≡ info = same_Some x info at in subst (λ (v : VarInfo). PlaceOf 0 k 0 v) same (own (omega arith) no (omega (arith, l.first)) one)
     by (suc n) at behind = next n (behind n at)
 
+-- the place of variable n among some from cell k on, where these are the file-scope ones
+abbrev PlaceAmong : List VarInfo → ℕ → ℕ → VarInfo → Type 0
+PlaceAmong files k n info = PlaceOf (length files) (k + length (start_cells files)) n info
+
+-- the same wherever the entry stands
+abbrev PlacesAmong : List VarInfo → ℕ → List VarInfo → VarInfo → Type 0
+PlacesAmong files k xs info = (n : ℕ) → slice_get xs n ≡ Some info → PlaceAmong files k n info
+
 -- each variable's place
-lies_from : (k : ℕ) (xs : List VarInfo) → globals_first xs ≡ true → lies_in_order k xs ≡ true → (n : ℕ) (info : VarInfo) → slice_get xs n ≡ Some info →
-    PlaceOf (length (globals_in xs)) (k + length (start_cells (globals_in xs))) n info
+lies_from : (k : ℕ) (xs : List VarInfo) → globals_first xs ≡ true → lies_in_order k xs ≡ true → (n : ℕ) (info : VarInfo) → slice_get xs n ≡ Some info → PlaceAmong (globals_in xs) k n info
 lies_from k [] first lies n info at = absurd (cc at)
 lies_from k (x ∷ xs) first lies n info at = by (is_global_scope x.scope) refl (λ e m there. lies_from (k + x.length) xs (first_rest x xs first e) l.rest m info there)
   where
@@ -95,25 +102,25 @@ lies_from k (x ∷ xs) first lies n info at = by (is_global_scope x.scope) refl 
     long : length (replicate x.length x.start ++ start_cells (globals_in xs)) ≡ x.length + length (start_cells (globals_in xs))
     long = length-append (replicate x.length x.start) (start_cells (globals_in xs)) ∙ ap (λ (m : ℕ). m + length (start_cells (globals_in xs))) (length-replicate x.length x.start)
 
-    next : (n : ℕ) → PlaceOf (length (globals_in xs)) (k + x.length + length (start_cells (globals_in xs))) n info → PlaceOf (suc (length (globals_in xs))) (k + length (replicate x.length x.start ++ start_cells (globals_in xs))) (suc n) info
+    next : (n : ℕ) → PlaceAmong (globals_in xs) (k + x.length) n info → PlaceAmong (x ∷ globals_in xs) k (suc n) info
     next n (file less global within some) = file (omega (arith, less)) global (omega (arith, within, long)) some
     next n (own behind scope cell one) = own (omega (arith, behind)) scope (omega (arith, cell, long)) one
 
-    at_file : (is_global_scope x.scope ≡ true → (m : ℕ) → slice_get xs m ≡ Some info → PlaceOf (length (globals_in xs)) (k + x.length + length (start_cells (globals_in xs))) m info) → is_global_scope x.scope ≡ true → (n : ℕ) → slice_get (x ∷ xs) n ≡ Some info → PlaceOf (suc (length (globals_in xs))) (k + length (replicate x.length x.start ++ start_cells (globals_in xs))) n info
+    at_file : (is_global_scope x.scope ≡ true → PlacesAmong (globals_in xs) (k + x.length) xs info) → is_global_scope x.scope ≡ true → PlacesAmong (x ∷ globals_in xs) k (x ∷ xs) info
     at_file behind e zero at =
         let same : x ≡ info = same_Some x info at in
-        subst (λ (v : VarInfo). PlaceOf (suc (length (globals_in xs))) (k + length (replicate x.length x.start ++ start_cells (globals_in xs))) 0 v) same
+        subst (λ (v : VarInfo). PlaceAmong (x ∷ globals_in xs) k 0 v) same
         (file (omega arith) e (omega (arith, l.first, long)) l.some)
     at_file behind e (suc n) at = next n (behind e n at)
 
-    by : (t : Bool) → is_global_scope x.scope ≡ t → (is_global_scope x.scope ≡ true → (m : ℕ) → slice_get xs m ≡ Some info → PlaceOf (length (globals_in xs)) (k + x.length + length (start_cells (globals_in xs))) m info) → PlaceOf (length (globals_in (x ∷ xs))) (k + length (start_cells (globals_in (x ∷ xs)))) n info
-    by true e behind = subst (λ (gs : List VarInfo). PlaceOf (length gs) (k + length (start_cells gs)) n info) (sym (files_some x xs e)) (at_file behind e n at)
+    by : (t : Bool) → is_global_scope x.scope ≡ t → (is_global_scope x.scope ≡ true → PlacesAmong (globals_in xs) (k + x.length) xs info) → PlaceAmong (globals_in (x ∷ xs)) k n info
+    by true e behind = subst (λ (files : List VarInfo). PlaceAmong files k n info) (sym (files_some x xs e)) (at_file behind e n at)
     by false e behind =
         let others = locals_rest x xs first e in
         let none : globals_in (x ∷ xs) ≡ [] = files_none x xs e ∙ no_files xs others in
         let all : list_all is_local_variable (x ∷ xs) ≡ true = and_make (is_local_variable x) (list_all is_local_variable xs) (ap not e) others in
         let same : k ≡ k + 0 = omega arith in
-        subst (λ (gs : List VarInfo). PlaceOf (length gs) (k + length (start_cells gs)) n info) (sym none)
+        subst (λ (files : List VarInfo). PlaceAmong files k n info) (sym none)
         (subst (λ (c : ℕ). PlaceOf 0 c n info) same (local_lies k (x ∷ xs) all lies n info at))
 
 -- the file-scope variables come first
