@@ -34,4 +34,5 @@ pub mod InOrder
 pub mod SiteLaws
 pub mod PlainLaws
 pub mod RegionTableLaws
+pub mod InlinedLaws
 pub mod rows

@@ -1,6 +1,5 @@
-ghost use Rattle.std.specs.Prelude.{◌≡◌, true, length};
-ghost use Rattle.dp_tree.specs.Numbering.{numbers_from, regions_in_order, regions_listed, site_numbers_all};
 ghost use Rattle.dp_tree.specs.Checked.{IsChecked};
+ghost use Rattle.dp_tree.specs.Inlined.{IsInlined};
 ghost use Rattle.dp_calls.specs.Expand.{expand};
 ghost use Rattle.dp_calls.specs.ExpandLaws.{KeepsText, LeavesNoCall};
 ghost use Rattle.dp_calls.specs.Meaning.{SameMeaning};
@@ -21,11 +20,9 @@ pub fn expansion_keeps_the_meaning(p: &Program)
     ensures same { SameMeaning p.now }
 {}
 
-/// The sites and the regions of an expanded program are numbered in its text order, and each region has its sites in the
-/// table.
-pub fn expansion_is_in_text_order(p: &Program)
+/// The expansion of a checked program is what the machine, plans and the central theorem ask of a program: no call is
+/// left, and variables, cells, sites and regions are numbered in text order.
+pub fn expansion_is_inlined(p: &Program)
     requires { IsChecked p.now }
-    ensures sites { site_numbers_all (expand p.now).main ≡ numbers_from 1 (length (expand p.now).sites) }
-    ensures regions { regions_in_order 1 (expand p.now).main ≡ true }
-    ensures table { regions_listed (expand p.now).main (expand p.now).regions ≡ true }
+    ensures inlined { IsInlined (expand p.now) }
 {}

@@ -6,5 +6,5 @@
 mod laws;
 
 pub use laws::{
-    expansion_is_in_text_order, expansion_keeps_the_meaning, expansion_leaves_no_call,
+    expansion_is_inlined, expansion_keeps_the_meaning, expansion_leaves_no_call,
 };

@@ -9,3 +9,4 @@ pub mod SizeForms
 pub mod SizeLemmas
 pub mod LimitLemmas
 pub mod SiteCount
+pub mod MeaningLemmas

@@ -3,3 +3,4 @@ pub mod Verdict
 pub mod Counted
 pub mod Named
 pub mod Written
+pub mod Same

@@ -4,7 +4,9 @@ ghost use Rattle.std.specs.Prelude.{◌≡◌, [], IfOk};
 ghost use Rattle.dp_calls.specs.Expand.{expand};
 ghost use Rattle.dp_calls.specs.Tables.{first_tables};
 ghost use Rattle.dp_tree.specs.Checked.{IsChecked};
+ghost use Rattle.dp_tree.specs.Inlined.{IsInlined};
 ghost use Rattle.dp_inline.specs.Verdict.{Gives, verdict};
+ghost use Rattle.dp_inline.specs.Same.{DoesTheSame};
 ghost use Rattle.dp_inline.specs.Written.{written};
 
 use crate::InlineFail;
@@ -51,9 +53,14 @@ pub(crate) fn bounded(alloc: Global, p: &Program) -> Result<Program, InlineFail>
 
 /// The program with each call replaced by the bindings of its arguments and the body of its function. A program that
 /// would be too large is refused without being made.
+#[tactic(auto, using(crate::proofs::MeaningLemmas::meanings))]
 pub fn inline(alloc: Global, p: &Program) -> Result<Program, InlineFail>
     requires { IsChecked p.now }
-    ensures { Gives (verdict p.now) result }
+    ensures gives { Gives (verdict p.now) result }
+
+    // What is made does the same as the program with call frames, and is ready for the machine and for plans.
+    ensures same { IfOk result (DoesTheSame p.now) }
+    ensures inlined { IfOk result IsInlined }
 {
     bounded(alloc, p)
 }

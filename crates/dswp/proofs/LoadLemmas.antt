@@ -12,7 +12,8 @@ use Rattle.dp_check.specs.declared.fail.CheckFail.{CheckFail}
 use Rattle.dp_check.specs.Verdict.{verdict}
 use Rattle.dp_calls.specs.Expand.{expand}
 use Rattle.dp_inline.specs.declared.fail.InlineFail.{InlineFail}
-use Rattle.dp_inline.specs.Verdict.{verdict as size_verdict, unless as within, too_large, first_large_region}
+use Rattle.dp_inline.specs.Verdict.{verdict as size_verdict}
+use Rattle.dp_inline.proofs.MeaningLemmas.{expands}
 use Rattle.dp_edge.specs.Input.{numbers_of}
 use Rattle.dswp.specs.declared.refusal.Refusal.{Refusal}
 use Rattle.dswp.specs.declared.refusal.Refusal.TheVariants.{Byte, Syntax, Limit}
@@ -45,16 +46,6 @@ fit raw p o is e = e ∙ sym (ap (λ (v : Result Program CheckFail). expanded (j
 
 pub offending : (raw : RawProgram) (fail : CheckFail) (refusal : Refusal) → verdict raw ≡ Err fail → refusal ≡ refusal_of fail → Err refusal ≡ expanded (judged (verdict raw))
 offending raw fail refusal is e = ap Err e ∙ sym (ap (λ (v : Result Program CheckFail). expanded (judged v)) is)
-
--- what is given for a program that isn't too large is its expansion
-expands : (p q : Program) → size_verdict p ≡ Ok q → q ≡ expand p
-unfolding size_verdict
-expands p q h = by (too_large p) (first_large_region p p.main) h
-  where
-    by : (a b : Option InlineFail) → within a (within b (Ok (expand p))) ≡ Ok q → q ≡ expand p
-    by None None e = cc
-    by None (Some fail) e = absurd (cc)
-    by (Some fail) b e = absurd (cc)
 
 pub expansion : (p q : Program) → size_verdict p ≡ Ok q → Ok q ≡ expanded (sized p (size_verdict p))
 expansion p q h = ap Ok (expands p q h) ∙ sym (ap (λ (v : Result Program InlineFail). expanded (sized p v)) h)
