@@ -29,6 +29,7 @@ pub mod Layouts
 pub mod CheckedTexts
 pub mod Whole
 pub mod SameMeanings
+pub mod Within
 -- the numbers of an expanded program
 pub mod SiteLaws
 pub mod PlainLaws
