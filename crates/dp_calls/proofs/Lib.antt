@@ -30,6 +30,7 @@ pub mod CheckedTexts
 pub mod Whole
 pub mod SameMeanings
 pub mod InOrder
+pub mod Within
 -- the numbers of an expanded program
 pub mod SiteLaws
 pub mod PlainLaws

@@ -50,10 +50,10 @@ module _ (p : Program) (checked : IsChecked p) where
     room = omega arith;
   }
 
-  files_below : (x : VarId) → sees (global_numbers p) x ≡ true → x.0 < file_count p
+  pub files_below : (x : VarId) → sees (global_numbers p) x ≡ true → x.0 < file_count p
   files_below x at = let below : x.0 < 0 + file_count p = numbers_below 0 (file_count p) x at in omega (arith, below)
 
-  made : MainMade p (expand p) places there (text_of p checked) (global_numbers p) [] (first_tables p) p.main whole
+  pub made : MainMade p (expand p) places there (text_of p checked) (global_numbers p) [] (first_tables p) p.main whole
   made =
       main_made p (expand p) places there (text_of p checked) 1 p.main (global_numbers p) [] (first_tables p) (main_scoped p checked) checked.regions (main_listed p checked)
       (names_none p Linked (file_count p) (first_tables p) (omega arith), first_lies, (λ x at. inl (files_below x at)), (λ x at. inl (files_below x at)))
@@ -71,7 +71,7 @@ module _ (p : Program) (checked : IsChecked p) where
     files = λ x y at. (made.named.source x y at).0;
   }
 
-  block : Block p (expand p) main_env (global_numbers p) p.main whole.code
+  pub block : Block p (expand p) main_env (global_numbers p) p.main whole.code
   block = made.becomes main_env ends_there
 
   same_file : (x : ℕ) → x < file_count p → slice_get (expand p).vars x ≡ slice_get p.vars x
@@ -88,7 +88,7 @@ module _ (p : Program) (checked : IsChecked p) where
     locals = locals_long p checked.globals checked.cells;
   }
 
-  main_is_env : IsEnv p (expand p) main_env
+  pub main_is_env : IsEnv p (expand p) main_env
   main_is_env = record {
     source = made.named.source;
     target = made.named.target;
