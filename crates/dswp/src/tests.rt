@@ -1,5 +1,6 @@
 //! The program over a shelf and a sink in memory.
 mod calls;
+mod examples;
 mod limits;
 mod programs;
 mod refusals;
