@@ -33,9 +33,10 @@ locals_lie k [] h = (refl, refl)
 locals_lie k (x ∷ xs) h =
     let here = h 0 x refl in
     let first : x.first.0 ≡ k = omega (arith, here.0) in
-    let more = locals_lie (k + x.length) xs (λ j info at. let next = h (suc j) info at in let e : info.first.0 ≡ (k + x.length) + j = omega (arith, next.0, here.1.0) in (e, next.1)) in
-    (and_make ((x.first.0 == k) && has_cells x) (lies_in_order (k + x.length) xs) (and_make (x.first.0 == k) (has_cells x) (eq-eqb x.first.0 k first) (one_cell x here.1.0)) more.0,
-    and_make (is_local_variable x) (list_all is_local_variable xs) (ap not here.1.1) more.1)
+    let more = locals_lie (k + x.length) xs (λ j info at. let next = h (suc j) info at in let e : info.first.0 ≡ (k + x.length) + j = omega (arith, next.0, here.1.0) in (e, next.1)) in (
+      and_make ((x.first.0 == k) && has_cells x) (lies_in_order (k + x.length) xs) (and_make (x.first.0 == k) (has_cells x) (eq-eqb x.first.0 k first) (one_cell x here.1.0)) more.0,
+      and_make (is_local_variable x) (list_all is_local_variable xs) (ap not here.1.1) more.1,
+    )
 
 -- no file-scope variable is among locals
 no_files : (xs : List VarInfo) → list_all is_local_variable xs ≡ true → globals_in xs ≡ []
@@ -58,9 +59,10 @@ files_lie k (x ∷ rest) lies first =
         (globals_first rest ≡ true → (lies_in_order (k + x.length) (globals_in rest) ≡ true) × (globals_first (globals_in rest) ≡ true)) →
         (lies_in_order k (if b then x ∷ globals_in rest else globals_in rest) ≡ true) × (globals_first (if b then x ∷ globals_in rest else globals_in rest) ≡ true)
     by true is here more go =
-        let rests = go more in
-        (and_make ((x.first.0 == k) && has_cells x) (lies_in_order (k + x.length) (globals_in rest)) here rests.0,
-        ap (λ (b : Bool). if b then globals_first (globals_in rest) else list_all is_local_variable (globals_in rest)) is ∙ rests.1)
+        let rests = go more in (
+          and_make ((x.first.0 == k) && has_cells x) (lies_in_order (k + x.length) (globals_in rest)) here rests.0,
+          ap (λ (b : Bool). if b then globals_first (globals_in rest) else list_all is_local_variable (globals_in rest)) is ∙ rests.1,
+        )
     by false is here more go =
         let none : globals_in rest ≡ [] = no_files rest more in
         (ap (lies_in_order k) none, ap globals_first none)
@@ -140,6 +142,7 @@ module _ (p : Program) (checked : IsChecked p) where
   expanded_in_order =
       let before = files_lie 0 p.vars checked.cells checked.globals in
       let after = locals_lie (global_count p) others locals_from in
-      let start : 0 + cells_of files ≡ global_count p = omega arith in
-      (ap (lies_in_order 0) vars_are ∙ lies_behind 0 files others before.0 (ap (λ (k : ℕ). lies_in_order k others) start ∙ after.0),
-      ap globals_first vars_are ∙ locals_behind files others before.1 after.1)
+      let start : 0 + cells_of files ≡ global_count p = omega arith in (
+        ap (lies_in_order 0) vars_are ∙ lies_behind 0 files others before.0 (ap (λ (k : ℕ). lies_in_order k others) start ∙ after.0),
+        ap globals_first vars_are ∙ locals_behind files others before.1 after.1,
+      )

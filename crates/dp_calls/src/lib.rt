@@ -5,6 +5,4 @@
 
 mod laws;
 
-pub use laws::{
-    expansion_is_inlined, expansion_keeps_the_meaning, expansion_leaves_no_call,
-};
+pub use laws::{expansion_is_inlined, expansion_keeps_the_meaning, expansion_leaves_no_call};

@@ -2,3 +2,4 @@ pub mod SumLoop
 pub mod StaleRead
 pub mod Faults
 pub mod Scopes
+pub mod BodyLocals

@@ -60,7 +60,6 @@ pub data Answer (words : List (List ℕ)) (contents : Contents) : ℕ → List �
   Ran : (run : Run) (text : List ℕ) (p : Program) (numbers : List ℤ) → Asks words run → Holds contents run.program text → Reads text (Ok p) →
       Input contents run.input (Ok numbers) →
       Answer words contents (status_of (outcome p numbers run.fuel).end) (run_text p numbers run.fuel)
-
   SitesRefused : (program text : List ℕ) (refusal : Refusal) → AsksSites words program → Holds contents program text → Reads text (Err refusal) →
       Answer words contents (refusal_status refusal) (refusal_line refusal)
   SitesListed : (program text : List ℕ) (p : Program) → AsksSites words program → Holds contents program text → Reads text (Ok p) →
