@@ -14,6 +14,9 @@ mod sites;
 mod tests;
 mod words;
 
+pub use reader::read_text;
+pub use sites::sites_of;
+
 /// Whether one unit runs a stage's iterations in order, or several take different ones.
 ///
 /// Sequential and replicated stages are those of Raman et al., CGO 2008.

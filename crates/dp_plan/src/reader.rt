@@ -240,7 +240,9 @@ fn region_count(p: &Program) -> Result<u32, NoMemory>
     Ok(count as u32)
 }
 
-/// The plans that a text writes.
+/// The plans as a text has them, before any rule on plans is tested.
+///
+/// `Invalid` is never answered.
 pub fn read_text(alloc: Global, bytes: &[u8], p: &Program) -> Result<Row<WrittenPlan>, PlanFail>
     ensures { ReadsText p.now bytes.now result }
 {
