@@ -11,7 +11,7 @@ ends = {"": ".c", "_INPUT": ".in", "_OUTPUT": ".out"}
 escapes = {"n": "\n", "t": "\t", "r": "\r", "0": "\0", "\\": "\\", '"': '"'}
 
 tested = {}
-for name, text in re.findall(r'const (\w+): &\[u8\] = b"((?:[^"\\]|\\.)*)";', source.read_text()):
+for name, text in re.findall(r'const (\w+): &\[u8\] =\s*b"((?:[^"\\]|\\.)*)";', source.read_text()):
     stem, end = re.fullmatch(r"(\w+?)(_INPUT|_OUTPUT|)", name).groups()
     tested[stem.lower() + ends[end]] = re.sub(r"\\(.)", lambda it: escapes[it[1]], text)
 shown = {it.name: it.read_bytes().decode() for it in folder.iterdir() if it.suffix in ends.values()}
