@@ -5,7 +5,7 @@ set -eu
 here=$(cd "$(dirname "$0")" && pwd)
 work=$(mktemp -d)
 trap 'rm -rf "$work"' EXIT
-(cd "$here/../crates/dswp" && rt run -- run data/sum_loop.c >"$work/build.log" 2>&1) || { cat "$work/build.log"; exit 1; }
+"$here/../dswp" run "$here/../crates/dswp/data/sum_loop.c" >/dev/null   # builds the program if need be
 dswp="$here/../crates/dswp/out/dswp"
 gcc -O2 -o "$work/native" "$here/straight_loop_native.c"
 printf 'int main() { }\n' >"$work/empty.c"

@@ -5,6 +5,7 @@ mod limits;
 mod programs;
 mod refusals;
 mod runs;
+mod sites;
 
 ghost use Rattle.std.specs.Prelude.{◌≡◌, IfOk};
 
