@@ -19,3 +19,4 @@ pub mod ScopeLemmas
 pub mod MainScopeLemmas
 pub mod ItemScopeLemmas
 pub mod CheckedLemmas
+pub mod MarkLemmas

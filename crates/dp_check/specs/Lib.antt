@@ -8,5 +8,6 @@ pub mod Tables
 pub mod Items
 pub mod Limits
 pub mod Verdict
+pub mod Marks
 pub mod Growing
 pub mod Checked

@@ -9,6 +9,7 @@ use Rattle.dp_check.specs.Tables.{globals}
 abbrev pub reported : ℕ → ℕ
 reported n = min n 1000000
 
+-- how many functions an item declares
 abbrev pub functions_in : RawItem → ℕ
 functions_in (Scalar name start) = 0
 functions_in (Array name size) = 0
@@ -19,6 +20,7 @@ abbrev pub function_count : List RawItem → ℕ
 function_count [] = 0
 function_count (item ∷ rest) = functions_in item + function_count rest
 
+-- the cells of variables
 abbrev pub cell_sum : List VarInfo → ℕ
 cell_sum [] = 0
 cell_sum (x ∷ rest) = x.length + cell_sum rest

@@ -22,20 +22,24 @@ pub record Token : Type 0 where
   pub purpose : Use
   pub visible : List Named
 
+-- the name means a function
 abbrev pub is_function : Option Meaning → Bool
 is_function (Some (Function number params)) = true
 is_function _ = false
 
+-- the name means a variable, an array or the input
 abbrev pub is_variable : Option Meaning → Bool
 is_variable None = false
 is_variable (Some (Function number params)) = false
 is_variable _ = true
 
+-- the name means an array or the input
 abbrev pub is_array : Option Meaning → Bool
 is_array (Some (Array x)) = true
 is_array (Some Input) = true
 is_array _ = false
 
+-- the name means the input or its length
 abbrev pub is_predeclared : Option Meaning → Bool
 is_predeclared (Some Input) = true
 is_predeclared (Some InputLen) = true
@@ -85,9 +89,11 @@ offence_of line u m =
     else (if arguments u m then Some (Arguments line)
     else (if read_only u m then Some (ReadOnly line) else None)))))
 
+-- the first offence of a name of the text
 abbrev pub offence : Token → Option CheckFail
 offence t = offence_of t.name.line t.purpose (named t.visible t.name.text)
 
+-- the first offence, or else the later one
 abbrev pub or_else : Option CheckFail → Option CheckFail → Option CheckFail
 or_else (Some e) later = Some e
 or_else None later = later

@@ -25,19 +25,23 @@ abbrev mutual
   parts (If' line cond _ then_part _ else_part) = Site line kind.If ∷ (parts_in then_part ++ parts_in else_part)
   parts (While' line marked cond _ body) = Site line kind.While ∷ parts_in body
 
+  -- the same of the statements of a block
   pub parts_in : {n : _} → Row_of-RawStmt n → List Part
   parts_in end_of-RawStmt = []
   parts_in (more_of-RawStmt s rest) = parts s ++ parts_in rest
 
+-- the same of a list
 abbrev pub parts_all : List RawStmt → List Part
 parts_all [] = []
 parts_all (s ∷ rest) = parts s ++ parts_all rest
 
+-- how many sites there are among the parts
 abbrev pub site_count : List Part → ℕ
 site_count [] = 0
 site_count (Site line kind ∷ rest) = suc (site_count rest)
 site_count (Local name ∷ rest) = site_count rest
 
+-- how many local variables are declared there
 abbrev pub local_count : List Part → ℕ
 local_count [] = 0
 local_count (Site line kind ∷ rest) = local_count rest
@@ -68,6 +72,7 @@ abbrev pub after : Place → RawStmt → Place
 after p (Declare line name value) = with_scalar (sited p) name
 after p s = passed p (parts s)
 
+-- the place after statements
 abbrev pub after_all : Place → List RawStmt → Place
 after_all p [] = p
 after_all p (s ∷ rest) = after_all (after p s) rest

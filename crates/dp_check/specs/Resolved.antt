@@ -39,10 +39,12 @@ abbrev pub scalar_expr : Option Meaning → Expr
 scalar_expr (Some (Scalar x)) = tree.Scalar x
 scalar_expr _ = tree.InputLen
 
+-- an element of the array, or else of the input
 abbrev pub element_expr : Option VarId → Expr → Expr
 element_expr (Some x) index = tree.Element x index
 element_expr None index = tree.Input index
 
+-- the expression with what its names mean
 abbrev pub resolved_expr : List Named → RawExpr → Expr
 resolved_expr names (raw.Number n) = tree.Number n
 resolved_expr names (raw.Scalar name) = scalar_expr (named names name.text)
@@ -60,6 +62,7 @@ abbrev pub next_variable : Place → VarId
 next_variable p = record { 0 = p.variable }
 
 abbrev mutual
+  -- a statement at a place; a mark on a loop means nothing here
   pub resolved : Place → RawStmt → Stmt
   resolved p (Declare line name value) = code.Assign (next_site p) (next_variable p) (resolved_expr p.names value)
   resolved p (Assign name value) = code.Assign (next_site p) (variable_of (named p.names name.text)) (resolved_expr p.names value)
@@ -71,14 +74,17 @@ abbrev mutual
       code.If (next_site p) (resolved_expr p.names cond) (resolved_in (sited p) then_part) (resolved_in (passed (sited p) (parts_in then_part)) else_part)
   resolved p (While' line marked cond _ body) = code.While (next_site p) (resolved_expr p.names cond) (resolved_in (sited p) body)
 
+  -- the same of the statements of a block
   pub resolved_in : {n : _} → Place → Row_of-RawStmt n → List Stmt
   resolved_in p end_of-RawStmt = []
   resolved_in p (more_of-RawStmt s rest) = resolved p s ∷ resolved_in (after p s) rest
 
+-- the same of a list
 abbrev pub resolved_all : Place → List RawStmt → List Stmt
 resolved_all p [] = []
 resolved_all p (s ∷ rest) = resolved p s ∷ resolved_all (after p s) rest
 
+-- the form is that of a marked loop
 abbrev pub is_region_at : RawStmt-F RawStmt → Bool
 is_region_at (While line marked cond body) = marked
 is_region_at _ = false
@@ -87,6 +93,7 @@ is_region_at _ = false
 abbrev pub is_region : RawStmt → Bool
 is_region s = is_region_at (out-RawStmt s)
 
+-- a marked loop as region r, and another statement as it was
 abbrev pub region_at : Place → ℕ → RawStmt-F RawStmt → Stmt → Stmt
 region_at p r (While line true cond body) s = code.Region r (next_site p) (resolved_expr p.names cond) (resolved_all (sited p) body)
 region_at p r _ s = s

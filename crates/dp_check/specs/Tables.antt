@@ -24,6 +24,7 @@ cells_of (negsuc n) = 0
 abbrev pub scalar_info : Name → ℤ → VarScope → VarInfo
 scalar_info name start scope = record { name = name.text; first = record { 0 = 0 }; length = 1; array = false; start = start; scope = scope }
 
+-- an array without a place in memory yet
 abbrev pub array_info : Name → ℤ → VarInfo
 array_info name size = record { name = name.text; first = record { 0 = 0 }; length = cells_of size; array = true; start = pos 0; scope = Global }
 
@@ -43,6 +44,7 @@ locals_of scope (Local name ∷ rest) = scalar_info name (pos 0) scope ∷ local
 abbrev pub function_parts : List Name → List RawStmt → List Part
 function_parts params body = map Local params ++ parts_all body
 
+-- the parts of an item
 abbrev pub item_parts : RawItem → List Part
 item_parts (Scalar name start) = []
 item_parts (Array name size) = []
@@ -54,6 +56,7 @@ global_of (Scalar name start) = scalar_info name start Global ∷ []
 global_of (Array name size) = array_info name size ∷ []
 global_of (Function name params body) = []
 
+-- the file-scope variables of items
 abbrev pub globals : List RawItem → List VarInfo
 globals = flat_map global_of
 
@@ -61,6 +64,7 @@ globals = flat_map global_of
 abbrev pub top_scope : ℕ → RawStmt → VarScope
 top_scope r s = if is_region s then Body r else Outer
 
+-- the region of a statement at the top of `main`, or 0
 abbrev pub top_region : ℕ → RawStmt → ℕ
 top_region r s = if is_region s then r else 0
 
@@ -68,14 +72,17 @@ top_region r s = if is_region s then r else 0
 abbrev pub after_top : ℕ → RawStmt → ℕ
 after_top r s = if is_region s then r + 1 else r
 
+-- the locals of `main`, where region r is the next one
 abbrev pub main_locals : ℕ → List RawStmt → List VarInfo
 main_locals r [] = []
 main_locals r (s ∷ rest) = locals_of (top_scope r s) (parts s) ++ main_locals (after_top r s) rest
 
+-- the sites of `main`, where region r is the next one
 abbrev pub main_sites : ℕ → List RawStmt → List SiteInfo
 main_sites r [] = []
 main_sites r (s ∷ rest) = sites_of (top_region r s) (parts s) ++ main_sites (after_top r s) rest
 
+-- the region that a statement is, whose first site has this number
 abbrev pub region_of : ℕ → RawStmt-F RawStmt → List Part → List RegionInfo
 region_of first (While line true cond body) done =
     record { line = line; first = record { 0 = first }; last = record { 0 = first + site_count done - 1 } } ∷ []

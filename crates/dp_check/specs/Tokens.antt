@@ -10,9 +10,11 @@ use Rattle.dp_check.specs.Names.{Named}
 use Rattle.dp_check.specs.Offence.{Token, Use, Declares, Reads, ReadsElement, Assigns, AssignsElement, Calls}
 use Rattle.dp_check.specs.Place.{sited, passed, parts_in, after, with_scalar}
 
+-- a name with what it is written for, and the names that are visible there
 abbrev pub token : List Named → Use → Name → Token
 token visible purpose name = record { name = name; purpose = purpose; visible = visible }
 
+-- the names of an expression, from left to right
 abbrev pub expr_tokens : List Named → RawExpr → List Token
 expr_tokens names (expr.Number n) = []
 expr_tokens names (expr.Scalar name) = token names Reads name ∷ []
@@ -22,6 +24,7 @@ expr_tokens names (expr.Binary' op _ (more_of-RawExpr a end_of-RawExpr) _ (more_
 expr_tokens names (expr.And' _ (more_of-RawExpr a end_of-RawExpr) _ (more_of-RawExpr b end_of-RawExpr)) = expr_tokens names a ++ expr_tokens names b
 expr_tokens names (expr.Or' _ (more_of-RawExpr a end_of-RawExpr) _ (more_of-RawExpr b end_of-RawExpr)) = expr_tokens names a ++ expr_tokens names b
 
+-- the names of arguments, from left to right
 abbrev pub args_tokens : List Named → List RawExpr → List Token
 args_tokens names [] = []
 args_tokens names (e ∷ rest) = expr_tokens names e ++ args_tokens names rest
@@ -38,10 +41,12 @@ abbrev mutual
       expr_tokens p.names cond ++ (tokens_in (sited p) then_part ++ tokens_in (passed (sited p) (parts_in then_part)) else_part)
   tokens p (While' line marked cond _ body) = expr_tokens p.names cond ++ tokens_in (sited p) body
 
+  -- the same of the statements of a block
   pub tokens_in : {n : _} → Place → Row_of-RawStmt n → List Token
   tokens_in p end_of-RawStmt = []
   tokens_in p (more_of-RawStmt s rest) = tokens p s ++ tokens_in (after p s) rest
 
+-- the same of a list
 abbrev pub tokens_all : Place → List RawStmt → List Token
 tokens_all p [] = []
 tokens_all p (s ∷ rest) = tokens p s ++ tokens_all (after p s) rest

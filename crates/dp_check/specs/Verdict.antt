@@ -45,9 +45,11 @@ resolved raw = record {
   main = resolved_main (main_begin raw) 1 raw.main;
 }
 
+-- more than 64 functions besides `main`
 abbrev pub too_many_functions : RawProgram → Option CheckFail
 too_many_functions raw = if nat_lt 64 (function_count raw.items) then Some (Limit Functions (reported (function_count raw.items))) else None
 
+-- more than 65,536 cells of file-scope variables
 abbrev pub too_many_cells : RawProgram → Option CheckFail
 too_many_cells raw = if nat_lt 65536 (global_cells raw.items) then Some (Limit Cells (reported (global_cells raw.items))) else None
 

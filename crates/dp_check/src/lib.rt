@@ -19,7 +19,7 @@ mod uses;
 mod variables;
 
 pub use fail::CheckFail;
-pub use law::checked_programs;
+pub use law::{checked_programs, visible_names};
 pub use program::check;
 
 #[cfg(test)]

@@ -13,137 +13,64 @@ const ITEMS: &[Item] = &[
 
 const ONE: Value = Value::Number(1);
 
-/// What one name does alone.
+const A_ON_3: Value = Value::Scalar((b"a", 3));
+
+const UNKNOWN: Option<CheckFail> = Some(CheckFail::Unknown { line: 2 });
+
+const TWICE: Option<CheckFail> = Some(CheckFail::Twice { line: 2 });
+
+const NOT_ARRAY: Option<CheckFail> = Some(CheckFail::NotArray { line: 2 });
+
+const NOT_SCALAR: Option<CheckFail> = Some(CheckFail::NotScalar { line: 2 });
+
+const ARGUMENTS: Option<CheckFail> = Some(CheckFail::Arguments { line: 2 });
+
+const READ_ONLY: Option<CheckFail> = Some(CheckFail::ReadOnly { line: 2 });
+
+/// What one name does alone. Where two offences hold of it, the earlier kind is given.
 const ALONE: &[(Simple, Option<CheckFail>)] = &[
     (Simple::Assign((b"x", 2), ONE), None),
-    (
-        Simple::Assign((b"y", 2), ONE),
-        Some(CheckFail::Unknown { line: 2 }),
-    ),
-    (
-        Simple::Assign((b"f", 2), ONE),
-        Some(CheckFail::Unknown { line: 2 }),
-    ),
-    (
-        Simple::Assign((b"a", 2), ONE),
-        Some(CheckFail::NotScalar { line: 2 }),
-    ),
-    (
-        Simple::Assign((b"input", 2), ONE),
-        Some(CheckFail::NotScalar { line: 2 }),
-    ),
-    (
-        Simple::Assign((b"input_len", 2), ONE),
-        Some(CheckFail::ReadOnly { line: 2 }),
-    ),
+    (Simple::Assign((b"y", 2), ONE), UNKNOWN),
+    (Simple::Assign((b"f", 2), ONE), UNKNOWN),
+    (Simple::Assign((b"a", 2), ONE), NOT_SCALAR),
+    (Simple::Assign((b"input", 2), ONE), NOT_SCALAR),
+    (Simple::Assign((b"input_len", 2), ONE), READ_ONLY),
     (Simple::Store((b"a", 2), ONE, ONE), None),
-    (
-        Simple::Store((b"y", 2), ONE, ONE),
-        Some(CheckFail::Unknown { line: 2 }),
-    ),
-    (
-        Simple::Store((b"f", 2), ONE, ONE),
-        Some(CheckFail::Unknown { line: 2 }),
-    ),
-    (
-        Simple::Store((b"x", 2), ONE, ONE),
-        Some(CheckFail::NotArray { line: 2 }),
-    ),
-    (
-        Simple::Store((b"input_len", 2), ONE, ONE),
-        Some(CheckFail::NotArray { line: 2 }),
-    ),
-    (
-        Simple::Store((b"input", 2), ONE, ONE),
-        Some(CheckFail::ReadOnly { line: 2 }),
-    ),
+    (Simple::Store((b"y", 2), ONE, ONE), UNKNOWN),
+    (Simple::Store((b"f", 2), ONE, ONE), UNKNOWN),
+    (Simple::Store((b"x", 2), ONE, ONE), NOT_ARRAY),
+    (Simple::Store((b"input_len", 2), ONE, ONE), NOT_ARRAY),
+    (Simple::Store((b"input", 2), ONE, ONE), READ_ONLY),
     (Simple::Print(2, Value::Scalar((b"x", 2))), None),
     (Simple::Print(2, Value::Scalar((b"input_len", 2))), None),
-    (
-        Simple::Print(2, Value::Scalar((b"y", 2))),
-        Some(CheckFail::Unknown { line: 2 }),
-    ),
-    (
-        Simple::Print(2, Value::Scalar((b"g", 2))),
-        Some(CheckFail::Unknown { line: 2 }),
-    ),
-    (
-        Simple::Print(2, Value::Scalar((b"a", 2))),
-        Some(CheckFail::NotScalar { line: 2 }),
-    ),
-    (
-        Simple::Print(2, Value::Scalar((b"input", 2))),
-        Some(CheckFail::NotScalar { line: 2 }),
-    ),
+    (Simple::Print(2, Value::Scalar((b"y", 2))), UNKNOWN),
+    (Simple::Print(2, Value::Scalar((b"g", 2))), UNKNOWN),
+    (Simple::Print(2, Value::Scalar((b"a", 2))), NOT_SCALAR),
+    (Simple::Print(2, Value::Scalar((b"input", 2))), NOT_SCALAR),
     (Simple::Print(2, Value::Element((b"a", 2), 9)), None),
-    (Simple::Print(2, Value::Element((b"input", 2), 0)), None),
+    (Simple::Print(2, Value::Element((b"input", 2), 9)), None),
+    (Simple::Print(2, Value::Element((b"y", 2), 9)), UNKNOWN),
+    (Simple::Print(2, Value::Element((b"f", 2), 9)), UNKNOWN),
+    (Simple::Print(2, Value::Element((b"x", 2), 9)), NOT_ARRAY),
     (
-        Simple::Print(2, Value::Element((b"y", 2), 0)),
-        Some(CheckFail::Unknown { line: 2 }),
-    ),
-    (
-        Simple::Print(2, Value::Element((b"f", 2), 0)),
-        Some(CheckFail::Unknown { line: 2 }),
-    ),
-    (
-        Simple::Print(2, Value::Element((b"x", 2), 0)),
-        Some(CheckFail::NotArray { line: 2 }),
-    ),
-    (
-        Simple::Print(2, Value::Element((b"input_len", 2), 0)),
-        Some(CheckFail::NotArray { line: 2 }),
+        Simple::Print(2, Value::Element((b"input_len", 2), 9)),
+        NOT_ARRAY,
     ),
     (Simple::Declare((b"y", 2), ONE), None),
-    (
-        Simple::Declare((b"x", 2), ONE),
-        Some(CheckFail::Twice { line: 2 }),
-    ),
-    (
-        Simple::Declare((b"a", 2), ONE),
-        Some(CheckFail::Twice { line: 2 }),
-    ),
-    (
-        Simple::Declare((b"g", 2), ONE),
-        Some(CheckFail::Twice { line: 2 }),
-    ),
-    (
-        Simple::Declare((b"input", 2), ONE),
-        Some(CheckFail::Twice { line: 2 }),
-    ),
-    (
-        Simple::Declare((b"input_len", 2), ONE),
-        Some(CheckFail::Twice { line: 2 }),
-    ),
+    (Simple::Declare((b"x", 2), ONE), TWICE),
+    (Simple::Declare((b"a", 2), ONE), TWICE),
+    (Simple::Declare((b"g", 2), ONE), TWICE),
+    (Simple::Declare((b"input", 2), ONE), TWICE),
+    (Simple::Declare((b"input_len", 2), ONE), TWICE),
     (Simple::Call((b"f", 2), &[]), None),
+    (Simple::Call((b"y", 2), &[]), UNKNOWN),
+    (Simple::Call((b"x", 2), &[]), UNKNOWN),
+    (Simple::Call((b"input", 2), &[]), UNKNOWN),
+    (Simple::Call((b"g", 2), &[]), ARGUMENTS),
     (Simple::Call((b"g", 2), &[ONE]), None),
-    (
-        Simple::Call((b"y", 2), &[]),
-        Some(CheckFail::Unknown { line: 2 }),
-    ),
-    (
-        Simple::Call((b"x", 2), &[]),
-        Some(CheckFail::Unknown { line: 2 }),
-    ),
-    (
-        Simple::Call((b"input", 2), &[]),
-        Some(CheckFail::Unknown { line: 2 }),
-    ),
-    (
-        Simple::Call((b"main", 2), &[]),
-        Some(CheckFail::Unknown { line: 2 }),
-    ),
-    (
-        Simple::Call((b"f", 2), &[ONE]),
-        Some(CheckFail::Arguments { line: 2 }),
-    ),
-    (
-        Simple::Call((b"g", 2), &[]),
-        Some(CheckFail::Arguments { line: 2 }),
-    ),
-    (
-        Simple::Call((b"g", 2), &[ONE, ONE]),
-        Some(CheckFail::Arguments { line: 2 }),
-    ),
+    (Simple::Call((b"x", 2), &[ONE]), UNKNOWN),
+    (Simple::Call((b"f", 2), &[ONE]), ARGUMENTS),
+    (Simple::Call((b"g", 2), &[ONE, ONE]), ARGUMENTS),
 ];
 
 #[test]
@@ -153,52 +80,39 @@ fn each_name_has_its_first_offence(rt: HostRuntime) {
     }
 }
 
-/// Two names that offend, on lines 2 and 3: the one that the text writes first decides.
-const FIRST: &[(Simple, CheckFail)] = &[
-    (
-        Simple::Assign((b"y", 2), Value::Scalar((b"a", 3))),
-        CheckFail::Unknown { line: 2 },
-    ),
+/// Two names that offend, the first of them on line 2: that one decides.
+const FIRST: &[(Simple, Option<CheckFail>)] = &[
+    (Simple::Assign((b"y", 2), Value::Scalar((b"a", 3))), UNKNOWN),
     (
         Simple::Assign((b"a", 2), Value::Scalar((b"y", 3))),
-        CheckFail::NotScalar { line: 2 },
+        NOT_SCALAR,
     ),
     (
         Simple::Store((b"x", 2), Value::Scalar((b"y", 3)), ONE),
-        CheckFail::NotArray { line: 2 },
+        NOT_ARRAY,
     ),
     (
-        Simple::Store(
-            (b"a", 1),
-            Value::Scalar((b"y", 2)),
-            Value::Scalar((b"a", 3)),
-        ),
-        CheckFail::Unknown { line: 2 },
+        Simple::Store((b"a", 1), Value::Scalar((b"y", 2)), A_ON_3),
+        UNKNOWN,
     ),
-    (
-        Simple::Declare((b"x", 2), Value::Scalar((b"y", 3))),
-        CheckFail::Twice { line: 2 },
-    ),
+    (Simple::Declare((b"x", 2), Value::Scalar((b"y", 3))), TWICE),
     (
         Simple::Call((b"f", 2), &[Value::Scalar((b"y", 3))]),
-        CheckFail::Arguments { line: 2 },
+        ARGUMENTS,
     ),
     (
         Simple::Call((b"g", 1), &[Value::Sum((b"y", 2), (b"a", 3))]),
-        CheckFail::Unknown { line: 2 },
+        UNKNOWN,
     ),
     (
         Simple::Print(1, Value::Sum((b"a", 2), (b"y", 3))),
-        CheckFail::NotScalar { line: 2 },
+        NOT_SCALAR,
     ),
 ];
 
 #[test]
 fn the_first_name_that_offends_decides(rt: HostRuntime) {
     for (one, expected) in FIRST.iter().copied() {
-        assert_eq!(rt;
-            refusal(rt.alloc(), ITEMS, &[Piece::One(one)]),
-            Some(expected)
-        );
+        assert_eq!(rt; refusal(rt.alloc(), ITEMS, &[Piece::One(one)]), expected);
     }
 }
