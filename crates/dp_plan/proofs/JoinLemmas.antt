@@ -1,5 +1,5 @@
 -- Words that are joined by spaces, and the words of a text.
-use Rattle.std.proofs.Common.{◌≡◌, ℕ, ◌<◌, ◌≤◌, ◌^◌, ◌==◌, Bool, true, false, not, ◌&&◌, nat_le, List, [], ◌∷◌, ◌++◌, decimal, refl, sym, ap, ◌∙◌, rules, arith, tests}
+use Rattle.std.proofs.Common.{◌≡◌, ℕ, ◌<◌, ◌≤◌, ◌^◌, ◌==◌, Bool, true, false, not, ◌&&◌, nat_le, List, [], ◌∷◌, ◌++◌, decimal, refl, sym, ap, ◌∙◌, rules, tests}
 use Rattle.std.specs.List.{list_all}
 use Rattle.dp_plan.specs.PlanText.{Each, joined, onto_first}
 use Rattle.dp_plan.specs.Words.{words, is_digit}

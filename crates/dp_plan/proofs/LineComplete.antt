@@ -1,12 +1,10 @@
 -- Each line that fits is read from its words.
-use Rattle.std.proofs.Common.{◌≡◌, ℕ, zero, suc, ◌^◌, ◌<◌, ◌≤◌, ◌==◌, Bool, true, false, ◌&&◌, nat_lt, nat_le, List, [], ◌∷◌, map, length, Option, Some, None, codes, decimal, refl, sym, ap, ◌∙◌, rules, arith}
+use Rattle.std.proofs.Common.{◌≡◌, ℕ, ◌^◌, ◌<◌, ◌≤◌, Bool, true, false, nat_lt, nat_le, List, [], ◌∷◌, map, length, Option, Some, codes, decimal, refl, ap, ◌∙◌, rules, arith}
 use Rattle.std.proofs.lemmas.Fmt.{decimal_digit}
-use Rattle.dp_tree.specs.declared.Assume.{Assume}
 use Rattle.dp_plan.specs.declared.StageKind.{StageKind}
 use Rattle.dp_plan.specs.declared.StageKind.TheVariants.{Seq, Par}
 use Rattle.dp_plan.specs.declared.line.Line.{Line}
 use Rattle.dp_plan.specs.declared.line.Line.TheVariants as line
-use Rattle.dp_plan.specs.Written.{WrittenStage}
 use Rattle.dp_plan.specs.PlanText.{Each, kind_word, outcome_number, words_of, joined, AscendAbove, StageFits, AssumeFits}
 use Rattle.dp_plan.specs.Words.{words, number_of}
 use Rattle.dp_plan.specs.LineWords.{above, onto_sites, site_before, sites_above, stage_line, region_of, outcome, assume_of, line_of}

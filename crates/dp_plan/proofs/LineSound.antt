@@ -1,17 +1,16 @@
 -- Words that are read as a line are the words of that line.
-use Rattle.std.proofs.Common.{◌≡◌, ℕ, zero, suc, ◌^◌, ◌<◌, ◌≤◌, ◌==◌, ◌⊎◌, Bool, true, false, ◌&&◌, nat_lt, nat_le, List, [], ◌∷◌, map, length, Option, Some, None, codes, decimal, refl, sym, ap, ◌∙◌, inl, inr, rules, arith, tests}
+use Rattle.std.proofs.Common.{◌≡◌, ℕ, ◌^◌, ◌<◌, ◌≤◌, ◌==◌, Bool, true, false, ◌&&◌, nat_lt, nat_le, List, [], ◌∷◌, map, Option, Some, None, codes, decimal, refl, sym, ap, ◌∙◌, rules, arith, tests}
 use Rattle.std.specs.Prelude.{if◌then◌else◌}
 use Rattle.std.specs.Str.{bytes_eq}
 use Rattle.std.proofs.lemmas.Slice.Eq.{bytes_eq-Decides}
 use Rattle.std.proofs.lemmas.Fmt.{decimal_digit}
-use Rattle.dp_tree.specs.declared.Assume.{Assume}
 use Rattle.dp_plan.specs.declared.StageKind.{StageKind}
 use Rattle.dp_plan.specs.declared.StageKind.TheVariants.{Seq, Par}
 use Rattle.dp_plan.specs.declared.line.Line.{Line}
 use Rattle.dp_plan.specs.declared.line.Line.TheVariants as line
-use Rattle.dp_plan.specs.PlanText.{kind_word, outcome_number, words_of, AscendAbove, StageFits, AssumeFits}
+use Rattle.dp_plan.specs.PlanText.{kind_word, outcome_number, words_of, AscendAbove}
 use Rattle.dp_plan.specs.Words.{number_of}
-use Rattle.dp_plan.specs.LineWords.{above, onto_sites, site_before, sites_above, stage_line, region_of, region_labelled, region_line, outcome, assume_of, assume_line, head_of, head_line, end_line, labelled_line, line_of}
+use Rattle.dp_plan.specs.LineWords.{above, onto_sites, site_before, sites_above, stage_line, region_of, region_line, outcome, assume_of, assume_line, head_line, end_line, line_of}
 use Rattle.dp_plan.proofs.NumberText.{Writes, number_of-sound}
 use Rattle.dp_plan.proofs.LineComplete.{LineFits}
 

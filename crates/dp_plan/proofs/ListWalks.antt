@@ -65,11 +65,11 @@ pub region-none : (r : ℕ) → sites_in_region r [] ≡ []
 unfolding sites_in_region
 region-none r = refl
 
-region_case : (r : ℕ) (s : Stmt) (rest : List Stmt) → is_region_at r s ≡ true → sites_in_region r (s ∷ rest) ≡ site_list s ++ sites_in_region r rest
+pub region_case : (r : ℕ) (s : Stmt) (rest : List Stmt) → is_region_at r s ≡ true → sites_in_region r (s ∷ rest) ≡ site_list s ++ sites_in_region r rest
 unfolding sites_in_region site_list
 region_case r s rest e = rw e (map-append site_in (accesses s) (flat_map accesses (filter (is_region_at r) rest)))
 
-skip_case : (r : ℕ) (s : Stmt) (rest : List Stmt) → is_region_at r s ≡ false → sites_in_region r (s ∷ rest) ≡ sites_in_region r rest
+pub skip_case : (r : ℕ) (s : Stmt) (rest : List Stmt) → is_region_at r s ≡ false → sites_in_region r (s ∷ rest) ≡ sites_in_region r rest
 unfolding sites_in_region
 skip_case r s rest e = rw e refl
 

@@ -1,5 +1,5 @@
 -- Lines that may begin a text can be completed to one.
-use Rattle.std.proofs.Common.{◌≡◌, ℕ, zero, suc, ◌+◌, ◌-◌, ◌<◌, ◌≤◌, ◌^◌, Bool, true, false, List, [], ◌∷◌, ◌++◌, map, length, Option, Some, None, refl, sym, ap, subst, ◌∙◌, append_assoc, append-nil, rules, arith}
+use Rattle.std.proofs.Common.{◌≡◌, ℕ, zero, suc, ◌+◌, ◌-◌, ◌<◌, ◌≤◌, ◌^◌, true, List, [], ◌∷◌, ◌++◌, map, length, Option, Some, None, refl, sym, ap, subst, ◌∙◌, append_assoc, append-nil, arith}
 use Rattle.std.specs.List.{flat_map}
 use Rattle.dp_tree.specs.declared.Assume.{Assume}
 use Rattle.dp_tree.specs.Numbering.{numbers_from}
@@ -12,9 +12,9 @@ use Rattle.dp_plan.specs.Written.{WrittenStage, WrittenPlan}
 use Rattle.dp_plan.specs.PlanText.{Each, StageFits, AssumeFits, PlanFits, region_number, region_lines, plan_lines}
 use Rattle.dp_plan.specs.Reading.{begun, is_between, closed, next}
 use Rattle.dp_plan.proofs.LineComplete.{LineFits}
-use Rattle.dp_plan.proofs.Runs.{step, run}
+use Rattle.dp_plan.proofs.Runs.{run}
 use Rattle.dp_plan.proofs.RunComplete.{part, inside, over, stage_next, between_regions, plans_run, lines_run}
-use Rattle.dp_plan.proofs.RunSound.{LastFits, Reads, at_start, headed, in_region, at_end, reads_next, whole}
+use Rattle.dp_plan.proofs.RunSound.{Reads, at_start, headed, in_region, at_end, reads_next}
 
 -- ---- the lines of plans fit
 

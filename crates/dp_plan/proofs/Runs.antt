@@ -1,5 +1,5 @@
 -- The lines of a text, read one after the other.
-use Rattle.std.proofs.Common.{◌≡◌, ℕ, zero, suc, ◌+◌, ◌<◌, ◌≤◌, ◌==◌, Bool, true, false, not, cond, List, [], ◌∷◌, ◌++◌, map, length, Option, Some, None, refl, sym, ap, ◌∙◌, rules, arith, tests}
+use Rattle.std.proofs.Common.{◌≡◌, ℕ, suc, ◌+◌, ◌≤◌, ◌==◌, Bool, true, false, not, cond, List, [], ◌∷◌, ◌++◌, map, length, Option, Some, None, refl, sym, ap, ◌∙◌, rules, arith, tests}
 use Rattle.std.specs.Prelude.{if◌then◌else◌}
 use Rattle.dp_plan.specs.declared.line.Line.{Line}
 use Rattle.dp_plan.specs.declared.reader.Reader.{Reader}

@@ -1,6 +1,6 @@
 -- The sites of a line, word by word.
-use Rattle.std.proofs.Common.{◌≡◌, ℕ, suc, ◌+◌, List, [], ◌∷◌, ◌++◌, length, Option, Some, None, refl, sym, ap, ◌∙◌, append_assoc}
-use Rattle.dp_plan.specs.Words.{words_behind, number_of}
+use Rattle.std.proofs.Common.{◌≡◌, ℕ, suc, List, [], ◌∷◌, ◌++◌, length, Option, Some, None, refl, sym, ap, ◌∙◌, append_assoc}
+use Rattle.dp_plan.specs.Words.{number_of}
 use Rattle.dp_plan.specs.LineWords.{above, onto_sites, site_before, sites_above}
 
 -- earlier sites, before what the later words give

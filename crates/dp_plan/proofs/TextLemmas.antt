@@ -1,12 +1,12 @@
 -- What a text that is read line by line is read as.
-use Rattle.std.proofs.Common.{◌≡◌, ℕ, zero, suc, ◌+◌, ◌<◌, ◌≤◌, ◌^◌, ◌==◌, Bool, true, false, List, [], ◌∷◌, ◌++◌, map, length, take, drop, Option, Some, None, refl, sym, ap, subst, ◌∙◌, append_assoc, append-nil, length-append, rules, arith}
+use Rattle.std.proofs.Common.{◌≡◌, ℕ, ◌<◌, ◌≤◌, ◌^◌, List, [], ◌∷◌, ◌++◌, map, length, take, drop, Option, Some, None, refl, sym, ap, subst, ◌∙◌, append_assoc}
 use Rattle.std.proofs.lemmas.List.{take-append-le, take-append-drop}
 use Rattle.dp_tree.specs.declared.Program.{Program}
 use Rattle.dp_plan.specs.declared.line.Line.{Line}
 use Rattle.dp_plan.specs.declared.reader.Reader.{Reader}
 use Rattle.dp_plan.specs.declared.reader.Phase.TheVariants as phase
 use Rattle.dp_plan.specs.Written.{WrittenPlan}
-use Rattle.dp_plan.specs.PlanText.{Each, PlanFits, PlanLines, line_bytes, plan_lines}
+use Rattle.dp_plan.specs.PlanText.{Each, PlanLines, line_bytes, plan_lines}
 use Rattle.dp_plan.specs.Refused.{Begins}
 use Rattle.dp_plan.specs.Reading.{begun, next, next_by}
 use Rattle.dp_plan.proofs.LineComplete.{LineFits}

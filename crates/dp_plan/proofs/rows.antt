@@ -1,3 +1,4 @@
 pub mod Rules
 pub mod Checked
 pub mod PlanText
+pub mod WrittenText

@@ -4,13 +4,9 @@ use Rattle.std.specs.List.{flat_map}
 use Rattle.dp_tree.specs.declared.Stmt.{Stmt, Row_of-Stmt, end_of-Stmt, more_of-Stmt}
 use Rattle.dp_tree.specs.declared.Stmt.TheVariants.{Assign, Store, Print, If', While', Region', Call}
 use Rattle.dp_tree.specs.declared.Program.{Program}
+pub use Rattle.dp_plan.specs.declared.conditions.Enclosing.{Enclosing}
 use Rattle.dp_plan.specs.Access.{accesses_in, region_in}
 use Rattle.dp_plan.specs.Written.{site_in}
-
--- a condition, and the sites at any depth inside its statement
-pub record Enclosing : Type 0 where
-  pub site : ℕ
-  pub inside : List ℕ
 
 -- the sites of several statements
 abbrev pub sites_of : {n : _} → Row_of-Stmt n → List ℕ

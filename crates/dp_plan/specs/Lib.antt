@@ -1,5 +1,6 @@
 pub mod Stage
 pub mod Access
+pub mod CheckedTable
 pub mod Written
 pub mod Enclosing
 pub mod Rules
@@ -12,3 +13,6 @@ pub mod Reading
 pub mod Ending
 pub mod Walks
 pub mod Lists
+pub mod Tables
+pub mod WrittenText
+pub mod GivenPlans

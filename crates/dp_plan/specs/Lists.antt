@@ -31,3 +31,11 @@ while_list s = inner_whiles s
 
 unfoldable pub while_lists : List Stmt → List Enclosing
 while_lists all = flat_map inner_whiles all
+
+-- the `if` statements of region r
+unfoldable pub ifs_in_region : ℕ → List Stmt → List Enclosing
+ifs_in_region r all = flat_map ifs (filter (is_region_at r) all)
+
+-- region r's inner `while` statements
+unfoldable pub whiles_in_region : ℕ → List Stmt → List Enclosing
+whiles_in_region r all = flat_map inner_whiles (filter (is_region_at r) all)

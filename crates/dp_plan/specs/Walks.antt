@@ -1,5 +1,5 @@
 -- What a walk over a region's statements finds, statement by statement.
-use Rattle.std.specs.Prelude.{ℕ, ◌==◌, Bool, not, ◌&&◌, ◌||◌, List, map, filter, nat_lt}
+use Rattle.std.specs.Prelude.{ℕ, ◌==◌, Bool, not, ◌&&◌, ◌||◌, List, filter, nat_lt}
 use Rattle.std.specs.List.{list_any, flat_map}
 use Rattle.dp_tree.specs.declared.Expr.{Expr}
 use Rattle.dp_tree.specs.declared.Stmt.{Stmt}

@@ -9,6 +9,7 @@ pub use Rattle.dp_plan.specs.declared.WrittenStage.{WrittenStage}
 pub use Rattle.dp_plan.specs.declared.WrittenPlan.{WrittenPlan}
 use Rattle.dp_plan.specs.Stage.{stage_of}
 use Rattle.dp_plan.specs.Access.{Access, accesses, region_in}
+use Rattle.dp_plan.specs.CheckedTable.{with_table}
 
 -- the access's site
 abbrev pub site_in : Access → ℕ
@@ -48,15 +49,20 @@ assumption_at (a ∷ rest) site = if a.site.0 == site then Some a else assumptio
 abbrev pub kind_in : WrittenStage → StageKind
 kind_in line = line.kind
 
--- the plan that a valid written plan stands for; its assumptions stand in the order of their sites
-abbrev pub plan_of : Program → WrittenPlan → Plan
-plan_of p w = record {
+-- the plan without its table that a valid written plan stands for; its assumptions stand in the order of their sites
+abbrev pub plan_before_table : Program → WrittenPlan → Plan
+plan_before_table p w = record {
   region = w.region;
   words = w.words;
   stages = map kind_in w.stages;
   stage_of = map (written_stage w) (region_sites p w.region);
   assume = filter_map (assumption_at w.assume) (region_sites p w.region);
+  checked_at = [];
 }
+
+-- the plan that a valid written plan stands for
+abbrev pub plan_of : Program → WrittenPlan → Plan
+plan_of p w = with_table p (plan_before_table p w)
 
 -- the lines of stages of these kinds, from stage k on: each lists its sites in ascending order
 abbrev pub lines_from : Program → Plan → ℕ → List StageKind → List WrittenStage

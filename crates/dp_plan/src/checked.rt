@@ -1,4 +1,4 @@
-//! The sites that a plan has checked.
+//! The sites that a plan has checked, read off the text.
 
 ghost use Rattle.std.specs.Prelude.{◌≡◌, slice_index};
 ghost use Rattle.dp_plan.specs.Access as access;
@@ -26,10 +26,10 @@ pub(crate) fn is_region(region: u32, statement: &Stmt) -> bool
 }
 
 impl Plan {
-    /// Whether each load of the site is compared with the source's. It takes no memory.
+    /// The same as `checked`, read off the text.
     ///
     /// It goes through the region's statements for each variable that the site loads.
-    pub fn checked(&self, p: &Program, site: SiteId) -> bool
+    pub(crate) fn is_checked(&self, p: &Program, site: SiteId) -> bool
         ensures { result ≡ access.is_checked p.now self.now site.0 }
     {
         for statement in p.main.as_slice() {
@@ -41,7 +41,7 @@ impl Plan {
     }
 
     /// The stage of a site, and 0 for a site before the region.
-    fn stage(&self, p: &Program, site: SiteId) -> u32
+    pub fn stage(&self, p: &Program, site: SiteId) -> u32
         ensures { result ≡ stages.stage_of p.now self.now site.0 }
     {
         let first = self.first_site(p);
@@ -52,7 +52,7 @@ impl Plan {
         }
     }
 
-    fn first_site(&self, p: &Program) -> u32
+    pub(crate) fn first_site(&self, p: &Program) -> u32
         ensures { result ≡ stages.first_site p.now self.now }
     {
         let place = (self.region as usize).saturating_sub(1);
@@ -181,51 +181,43 @@ impl Plan {
 
     #[tactic(auto, using(crate::proofs::WalkLemmas::checked_forms))]
     #[cycle(checks)]
-    fn is_checked_in(&self, p: &Program, site: SiteId, statement: &Stmt) -> bool
-        ensures { result ≡ any_access (access.is_checked_access p.now self.now site.0) statement.now }
+    fn is_checked_in(&self, p: &Program, asked: SiteId, statement: &Stmt) -> bool
+        ensures { result ≡ any_access (access.is_checked_access p.now self.now asked.0) statement.now }
     {
+        let stage = self.stage(p, asked);
         match statement {
-            Stmt::Assign {
-                site: at,
-                value,
-                ..
-            }
-            | Stmt::Print { site: at, value } => {
-                at.0 == site.0 && self.loads_differing(p, self.stage(p, site), value)
+            Stmt::Assign { site, value, .. } | Stmt::Print { site, value } => {
+                site.0 == asked.0 && self.loads_differing(p, stage, value)
             }
             Stmt::Store {
-                site: at,
+                site,
                 index,
                 value,
                 ..
             } => {
-                at.0 == site.0
-                    && (self.loads_differing(p, self.stage(p, site), index)
-                        || self.loads_differing(p, self.stage(p, site), value))
+                site.0 == asked.0
+                    && (self.loads_differing(p, stage, index)
+                        || self.loads_differing(p, stage, value))
             }
             Stmt::If {
-                site: at,
+                site,
                 cond,
                 then_part,
                 else_part,
             } => {
-                (at.0 == site.0 && self.loads_differing(p, self.stage(p, site), cond))
-                    || self.is_checked_among(p, site, then_part.as_slice())
-                    || self.is_checked_among(p, site, else_part.as_slice())
+                (site.0 == asked.0 && self.loads_differing(p, stage, cond))
+                    || self.is_checked_among(p, asked, then_part.as_slice())
+                    || self.is_checked_among(p, asked, else_part.as_slice())
             }
-            Stmt::While {
-                site: at,
-                cond,
-                body,
-            }
+            Stmt::While { site, cond, body }
             | Stmt::Region {
-                site: at,
+                site,
                 cond,
                 body,
                 ..
             } => {
-                (at.0 == site.0 && self.loads_differing(p, self.stage(p, site), cond))
-                    || self.is_checked_among(p, site, body.as_slice())
+                (site.0 == asked.0 && self.loads_differing(p, stage, cond))
+                    || self.is_checked_among(p, asked, body.as_slice())
             }
             Stmt::Call { .. } => false,
         }
@@ -233,11 +225,11 @@ impl Plan {
 
     #[tactic(auto, using(crate::proofs::WalkLemmas::checked_forms))]
     #[cycle(checks)]
-    fn is_checked_among(&self, p: &Program, site: SiteId, all: &[Stmt]) -> bool
-        ensures { result ≡ any_among (access.is_checked_access p.now self.now site.0) all.now }
+    fn is_checked_among(&self, p: &Program, asked: SiteId, all: &[Stmt]) -> bool
+        ensures { result ≡ any_among (access.is_checked_access p.now self.now asked.0) all.now }
     {
         for statement in all {
-            if self.is_checked_in(p, site, statement) {
+            if self.is_checked_in(p, asked, statement) {
                 return true;
             }
         }

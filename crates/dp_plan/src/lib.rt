@@ -7,15 +7,26 @@ use dp_base::{NoMemory, Row, SiteId};
 use dp_tree::Assume;
 
 mod checked;
+mod conditions;
+mod law;
+mod least;
 mod line;
+mod read;
 mod reader;
+mod rules;
 mod sites;
+mod table;
 #[cfg(test)]
 mod tests;
 mod words;
+mod write;
 
+pub use law::{read_plans_are_plans, written_plans_are_read};
+pub use read::read_plans;
 pub use reader::read_text;
 pub use sites::sites_of;
+pub use table::tables_are_right;
+pub use write::write_plans;
 
 /// Whether one unit runs a stage's iterations in order, or several take different ones.
 ///
@@ -39,6 +50,8 @@ pub struct Plan {
     pub stage_of: Row<u32>,
     /// The outcomes that are assumed, ascending by site.
     pub assume: Row<Assume>,
+    /// Whether each site of the region is checked, beginning with its first site.
+    pub checked_at: Row<bool>,
 }
 
 /// A stage as a text has it: its kind, and the sites that its line lists.

@@ -45,7 +45,7 @@ fn put_sites_of(out: &mut Row<u32>, statement: &Stmt) -> Result<(), NoMemory>
 
 #[tactic(auto, using(crate::proofs::ListWalks::site_steps))]
 #[cycle(sites)]
-fn put_sites(out: &mut Row<u32>, all: &[Stmt]) -> Result<(), NoMemory>
+pub(crate) fn put_sites(out: &mut Row<u32>, all: &[Stmt]) -> Result<(), NoMemory>
     ensures { OnOk result (out.new ≡ out.old ++ lists.site_lists all.now) }
 {
     for statement in all {

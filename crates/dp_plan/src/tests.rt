@@ -1,5 +1,6 @@
 //! Texts of plans, and checked sites.
 mod programs;
+mod write;
 
 use crate::reader::read_text;
 use crate::{Plan, PlanFail, StageKind, WrittenPlan};
@@ -185,6 +186,7 @@ fn plan(alloc: Global, stages: &[StageKind], stage_of: &[u32]) -> Result<Plan, N
         stages: Row::from_slice(alloc, stages)?,
         stage_of: Row::from_slice(alloc, stage_of)?,
         assume: Row::new(alloc),
+        checked_at: Row::new(alloc),
     })
 }
 
@@ -207,7 +209,7 @@ const CHECKED: &[Checked] = &[
 fn sites_are_checked_by_what_other_stages_store(rt: HostRuntime) -> Result<(), Fail> {
     let p = stale_read(rt.alloc())?;
     for (stages, stage_of, checked) in CHECKED {
-        let plan = plan(rt.alloc(), stages, stage_of)?;
+        let plan = plan(rt.alloc(), stages, stage_of)?.tabled(rt.alloc(), &p)?;
         for site in 0..7 {
             assert_eq!(&rt; plan.checked(&p, SiteId(site)), checked.contains(&site));
         }

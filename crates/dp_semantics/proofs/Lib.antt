@@ -40,3 +40,4 @@ pub mod Unbroken
 pub mod WellNested
 pub mod PlanStages
 pub mod ValidFits
+pub mod ValidTables

@@ -1,10 +1,11 @@
--- Valid plans of an inlined program: they fit it, and its regions stand alone.
+-- Valid plans of an inlined program: they fit it, their tables are right, and its regions stand alone.
 use Rattle.std.specs.Prelude.{◌≡◌, ℕ, ◌<◌, ◌≤◌, Bool, true, length, None, nat_lt}
 use Rattle.std.specs.List.{list_all}
 use Rattle.dp_tree.specs.declared.Program.{Program}
 use Rattle.dp_plan.specs.declared.Plan.{Plan}
 use Rattle.dp_plan.specs.declared.WrittenStage.{WrittenStage}
 use Rattle.dp_plan.specs.declared.WrittenPlan.{WrittenPlan}
+use Rattle.dp_plan.specs.CheckedTable.{IsTabled}
 use Rattle.dp_plan.specs.Written.{plan_of}
 use Rattle.dp_plan.specs.Valid.{first_broken}
 use Rattle.dp_semantics.specs.Fits.{fits_plan, stands_alone}
@@ -22,6 +23,10 @@ pub record WrittenAs (p : Program) (w : WrittenPlan) (plan : Plan) : Type 0 wher
 -- A plan that has such lines fits.
 abbrev pub ValidPlanFits : Program → Plan → Type 0
 ValidPlanFits p plan = (w : WrittenPlan) → WrittenAs p w plan → fits_plan p plan ≡ true
+
+-- .. and its table of checked sites is right.
+abbrev pub ValidPlanTabled : Program → Plan → Type 0
+ValidPlanTabled p plan = (w : WrittenPlan) → WrittenAs p w plan → IsTabled p plan
 
 -- Each region of the program stands alone.
 abbrev pub RegionsStandAlone : Program → Type 0

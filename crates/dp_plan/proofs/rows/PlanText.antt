@@ -1,6 +1,5 @@
 -- Texts of plans of the test programs, and texts cut into lines.
-use Rattle.std.proofs.Common.{◌≡◌, refl, ℕ, ◌≤◌, [], ◌∷◌, ◌++◌, codes, arith}
-use Rattle.dp_tree.proofs.Build.{tree_opened}
+use Rattle.std.proofs.Common.{◌≡◌, refl, [], ◌∷◌, codes, arith}
 use Rattle.dp_tree.proofs.Programs.{empty_program, skip_negative, histogram}
 use Rattle.dp_plan.specs.PlanText.{PlanText, lines_of}
 use Rattle.dp_plan.proofs.Plans.{skip_negative_written, histogram_written}

@@ -3,19 +3,19 @@ use dp_base::{BinOp, Boxed, CellId, NoMemory, Row, SiteId, VarId};
 use dp_tree::{Expr, Program, RegionInfo, Stmt, VarInfo, VarScope};
 use std::alloc::Global;
 
-fn var(x: u32) -> Expr {
+pub fn var(x: u32) -> Expr {
     Expr::Scalar(VarId(x))
 }
 
-fn binary(alloc: Global, op: BinOp, a: Expr, b: Expr) -> Result<Expr, NoMemory> {
+pub fn binary(alloc: Global, op: BinOp, a: Expr, b: Expr) -> Result<Expr, NoMemory> {
     Ok(Expr::Binary(op, Boxed::new(alloc, a)?, Boxed::new(alloc, b)?))
 }
 
-fn next(alloc: Global, x: u32) -> Result<Expr, NoMemory> {
+pub fn next(alloc: Global, x: u32) -> Result<Expr, NoMemory> {
     binary(alloc, BinOp::Add, var(x), Expr::Number(1))
 }
 
-fn set(site: u32, x: u32, value: Expr) -> Stmt {
+pub fn set(site: u32, x: u32, value: Expr) -> Stmt {
     Stmt::Assign {
         site: SiteId(site),
         var: VarId(x),
@@ -34,7 +34,7 @@ fn variable(alloc: Global, cell: u32) -> VarInfo {
     }
 }
 
-fn variables(alloc: Global, count: u32) -> Result<Row<VarInfo>, NoMemory> {
+pub fn variables(alloc: Global, count: u32) -> Result<Row<VarInfo>, NoMemory> {
     let mut vars = Row::new(alloc);
     for cell in 0..count {
         vars.push(variable(alloc, cell))?;
@@ -43,7 +43,7 @@ fn variables(alloc: Global, count: u32) -> Result<Row<VarInfo>, NoMemory> {
 }
 
 /// Regions by their first and last sites.
-fn regions(alloc: Global, sites: &[(u32, u32)]) -> Result<Row<RegionInfo>, NoMemory> {
+pub fn regions(alloc: Global, sites: &[(u32, u32)]) -> Result<Row<RegionInfo>, NoMemory> {
     let mut all = Row::new(alloc);
     for (first, last) in sites {
         all.push(RegionInfo {

@@ -1,5 +1,5 @@
 use Rattle.dp_tree.specs.declared.Stmt.{Stmt}
-use Rattle.std.proofs.Common.{List, get_or, ◌≡◌, ◌<◌, ◌&&◌, Bool, true, false, length, sym, ap, ◌∙◌, arith}
+use Rattle.std.proofs.Common.{List, get_or, ◌≡◌, ◌<◌, ◌&&◌, false, length, sym, ap, ◌∙◌, arith}
 use Rattle.dp_plan.specs.Walks.{is_region_of, any_access}
 use Rattle.dp_plan.specs.Walks.{any_in_region, is_differing}
 use Rattle.dp_plan.proofs.LoopLemmas.{found_here, not_here, nowhere}

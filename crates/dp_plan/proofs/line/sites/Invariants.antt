@@ -1,4 +1,4 @@
-use Rattle.std.proofs.Common.{◌≡◌, length}
+use Rattle.std.proofs.Common.{◌≡◌}
 use Rattle.std.specs.Option.{option_copied}
 use Rattle.dp_plan.specs.Words.{words_behind}
 use Rattle.dp_plan.specs.LineWords.{sites_above}

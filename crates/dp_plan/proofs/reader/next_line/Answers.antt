@@ -1,4 +1,4 @@
-use Rattle.std.proofs.Common.{◌≡◌, ◌+◌, ◌∷◌, [], ◌++◌, take, drop, sym, ap, ◌∙◌}
+use Rattle.std.proofs.Common.{◌+◌, ◌∷◌, [], ◌++◌, drop, sym, ap, ◌∙◌}
 use Rattle.dp_plan.specs.PlanText.{lines_of}
 use Rattle.dp_plan.proofs.CutLemmas.{at_end}
 use Rattle.dp_plan.proofs.reader.next_line.Goals as goal

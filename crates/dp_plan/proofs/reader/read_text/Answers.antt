@@ -1,4 +1,4 @@
-use Rattle.std.proofs.Common.{◌≡◌, ◌+◌, ◌≤◌, ◌<◌, ◌^◌, ◌∷◌, [], ◌++◌, length, None, Some, sym, ap, subst, ◌∙◌, rules, arith}
+use Rattle.std.proofs.Common.{◌≡◌, ◌<◌, ◌∷◌, [], ◌++◌, length, None, Some, sym, ap, subst, ◌∙◌, arith}
 use Rattle.dp_plan.specs.declared.reader.Reader.{Reader}
 use Rattle.dp_plan.specs.PlanText.{lines_of}
 use Rattle.dp_plan.specs.Words.{words}

@@ -1,4 +1,4 @@
-use Rattle.std.proofs.Common.{◌≡◌, ◌+◌, ◌∷◌, take, drop, sym, ap, ◌∙◌}
+use Rattle.std.proofs.Common.{◌+◌, ◌∷◌, drop, sym, ap, ◌∙◌}
 use Rattle.dp_plan.specs.Words.{words}
 use Rattle.dp_plan.proofs.WordLemmas.{no_space, at_space}
 use Rattle.dp_plan.proofs.words.next_word.Goals as goal

@@ -1,0 +1,43 @@
+-- The sites of a plan's region in an inlined program.
+use Rattle.std.proofs.Common.{◌≡◌, refl, sym, ap, subst, ◌∙◌, ℕ, ◌+◌, ◌<◌, ◌≤◌, ◌^◌, List, length, arith}
+use Rattle.dp_tree.specs.declared.Program.{Program}
+use Rattle.dp_tree.specs.Inlined.{IsInlined}
+use Rattle.dp_tree.specs.Numbering.{site_numbers_all}
+use Rattle.dp_plan.specs.declared.Plan.{Plan}
+use Rattle.dp_plan.specs.Stage.{first_site, first_site_of}
+use Rattle.dp_plan.specs.Written.{region_sites}
+use Rattle.dp_plan.specs.Lists.{sites_in_region}
+use Rattle.dp_plan.proofs.Ascent.{Ascends, ascends-numbers_from, length-numbers_from}
+use Rattle.dp_plan.proofs.RegionOrder.{Sought, absent, present, find_region}
+use Rattle.dp_plan.proofs.TopStatements.{fewer_regions}
+
+-- they go up one by one from the first site, and have 32 bits
+pub record InOrder (p : Program) (plan : Plan) : Type 0 where
+  pub order : Ascends (first_site p plan) (region_sites p plan.region)
+  pub low : 1 ≤ first_site p plan
+  pub high : first_site p plan + length (region_sites p plan.region) ≤ 2 ^ 32
+
+sites_same : (p : Program) (r : ℕ) → sites_in_region r p.main ≡ region_sites p r
+unfolding sites_in_region
+sites_same p r = refl
+
+module _ (p : Program) (inlined : IsInlined p) (small : length p.sites < 2 ^ 32) where
+  many : length (site_numbers_all p.main) ≡ length p.sites
+  many = ap length inlined.sites ∙ length-numbers_from 1 (length p.sites)
+
+  pub few_regions : length p.regions < 2 ^ 32
+  few_regions = omega (arith, small, many, fewer_regions p.main p.regions inlined.table)
+
+  pub in_order : (plan : Plan) → 1 ≤ plan.region → plan.region < 1 + length p.regions → InOrder p plan
+  in_order plan low high = by (find_region p.main 1 1 p.regions inlined.regions inlined.table (subst (λ (ns : List ℕ). Ascends 1 ns) (sym inlined.sites) (ascends-numbers_from 1 (length p.sites))) plan.region)
+    where
+      by : Sought plan.region 1 1 p.main p.regions → InOrder p plan
+      by (absent none out) = absurd (out low high)
+      by (present entry from at order least most) =
+          let same : sites_in_region plan.region p.main ≡ region_sites p plan.region = sites_same p plan.region in
+          let first : first_site p plan ≡ entry.first.0 = ap first_site_of at in
+          record {
+            order = subst (λ (ns : List ℕ). Ascends (first_site p plan) ns) same (subst (λ (i : ℕ). Ascends i (sites_in_region plan.region p.main)) (sym first) order);
+            low = omega (arith, first, least);
+            high = omega (arith, first, most, many, small, ap length same);
+          }

@@ -1,0 +1,14 @@
+use Rattle.std.proofs.Common.{◌≡◌, [], ◌++◌, List, ℕ, drop, ap, ◌∙◌, codes, arith}
+use Rattle.std.proofs.lemmas.List.{at_drop_all}
+use Rattle.dp_plan.specs.WrittenText.{plan_texts}
+use Rattle.dp_plan.proofs.ListWalks.{joins_all}
+use Rattle.dp_plan.proofs.WriteLemmas.{grew, text_parts}
+use Rattle.dp_plan.proofs.write.write_plans.Goals as goal
+
+pub returns : goal.returns
+returns c =
+    let p = c.args.p.now in let plans = c.args.plans.now in
+    let body : c.loop-plan.out ≡ c.extend_from_slice.new.self ++ plan_texts c.args.p.now c.args.plans.now =
+    joins_all _ c.loop-plan.out (plan_texts p (drop c.loop-plan.plan-index plans)) c.loop-plan.invariant (at_drop_all (plan_texts p) plans c.loop-plan.plan-index (omega arith)) in
+    grew [] _ _ _ (codes "plan 1\n") (plan_texts p plans) (codes "end\n") (c.in_ok-extend_from_slice.ensures.ok ∙ ap (λ (l : List ℕ). l ++ codes "plan 1\n") c.new-out.ensures) body c.in_ok-extend_from_slice-2.ensures.ok
+    ∙ text_parts p plans

@@ -1,0 +1,38 @@
+-- What is so of plans that are given for a program.
+use Rattle.std.specs.Prelude.{◌≡◌, ℕ, ◌≤◌, true, List, map, length}
+use Rattle.dp_tree.specs.declared.Program.{Program}
+use Rattle.dp_tree.specs.Numbering.{numbers_from}
+use Rattle.dp_plan.specs.declared.Plan.{Plan}
+use Rattle.dp_plan.specs.Written.{region_sites, has}
+use Rattle.dp_plan.specs.Rules.{assumed_site}
+use Rattle.dp_plan.specs.Valid.{is_valid_plan}
+use Rattle.dp_plan.specs.PlanText.{AscendAbove, Each}
+use Rattle.dp_plan.specs.CheckedTable.{checked_table}
+
+-- the plan fits its region
+pub record IsPlan (p : Program) (plan : Plan) : Type 0 where
+  -- W is from 16 to 4,096
+  pub least_words : 16 ≤ plan.words
+  pub most_words : plan.words ≤ 4096
+  -- the stages are from 1 to 8
+  pub some_stage : 1 ≤ length plan.stages
+  pub few_stages : length plan.stages ≤ 8
+  -- each stage has a site
+  pub filled : Each (λ stage. has stage plan.stage_of ≡ true) (numbers_from 1 (length plan.stages))
+  -- there is a stage for each site of the region
+  pub staged : length plan.stage_of ≡ length (region_sites p plan.region)
+  -- no rule is broken
+  pub valid : is_valid_plan p plan ≡ true
+  -- the assumptions ascend strictly by site
+  pub assume : AscendAbove 0 (map assumed_site plan.assume)
+  -- the table of checked sites is right
+  pub table : plan.checked_at ≡ checked_table p plan
+
+-- the plan's region
+abbrev pub region_of : Plan → ℕ
+region_of plan = plan.region
+
+-- there is a plan for each region, in order
+pub record ArePlans (p : Program) (plans : List Plan) : Type 0 where
+  pub regions : map region_of plans ≡ numbers_from 1 (length p.regions)
+  pub each : Each (IsPlan p) plans
