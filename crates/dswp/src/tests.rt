@@ -2,6 +2,7 @@
 mod calls;
 mod examples;
 mod limits;
+mod plans;
 mod programs;
 mod refusals;
 mod runs;

@@ -27,74 +27,78 @@ fn digits(alloc: Global, times: usize) -> Result<Row<u8>, NoMemory> {
     Ok(text)
 }
 
+/// A program, the status of its run, and the run's text.
+type Called = (&'static [u8], u8, &'static [u8]);
+
+const CALLED: &[Called] = &[
+    (ADDS, 0, b"11\nstate\ng 11\nend done\n"),
+    (b"void f() { } int main() { f(); }", 0, b"state\nend done\n"),
+    // one function twice in a row
+    (
+        b"int g; void f() { int x = g + 1; g = x; } int main() { f(); f(); print(g); }",
+        0,
+        b"2\nstate\ng 2\nend done\n",
+    ),
+    // a parameter with the name of a local of its caller
+    (
+        b"int g; void f(int a) { g = g + a * 10; } int main() { int a = 3; f(a + 1); print(a); print(g); }",
+        0,
+        b"3\n40\nstate\ng 40\nend done\n",
+    ),
+    // a fault in the second of three bindings, which has the line of the call's name
+    (
+        b"int g; void f(int a, int b, int c) { g = 1; } int main() { g = 7;\nf(1,\n1 / 0, 2); }",
+        1,
+        b"state\ng 7\nend fault divide line 2\n",
+    ),
+    (
+        b"void f(int a) { }\nint main() {\nf(1 / 0); }",
+        1,
+        b"state\nend fault divide line 3\n",
+    ),
+    // a fault within a function has its own line
+    (
+        b"void f(int a) {\nprint(1 / a); }\nint main() { f(0); }",
+        1,
+        b"state\nend fault divide line 2\n",
+    ),
+    (
+        b"int g; void f(int a) { g = g * 10 + a; } int main() { if (g == 0) { f(1); } else { f(2); } if (g == 0) { f(3); } else { f(4); } print(g); }",
+        0,
+        b"14\nstate\ng 14\nend done\n",
+    ),
+    (
+        b"int g; void f(int a) { int b = a * 2; g = g + b; } int main() { int i = 0;\n#pragma dswp\nwhile (i < 3) { f(i); i = i + 1; } }",
+        0,
+        b"state\ng 6\nregion 1 iterations 4 recovered 0\nend done\n",
+    ),
+    // a local begins with its initialiser again in the next call
+    (
+        b"int g; void f() { int n = 1; while (n < 3) { n = n + 1; g = g + n; } } int main() { f(); f(); print(g); }",
+        0,
+        b"10\nstate\ng 10\nend done\n",
+    ),
+    (
+        b"int g; void a(int x) { g = g + x; } void b(int x) { a(x); a(x + 1); } int main() { b(1); b(10); print(g); }",
+        0,
+        b"24\nstate\ng 24\nend done\n",
+    ),
+    // a parameter may have its function's name, which isn't visible yet
+    (
+        b"int g; void f(int f) { g = f; } int main() { f(5); }",
+        0,
+        b"state\ng 5\nend done\n",
+    ),
+    (
+        b"void f(int a) { } int main() { f(); }",
+        3,
+        b"refused program arguments line 1\n",
+    ),
+];
+
 #[test]
 fn functions_are_called(rt: HostRuntime) -> Result<(), Fail> {
-    let rows: [(&[u8], u8, &[u8]); 13] = [
-        (ADDS, 0, b"11\nstate\ng 11\nend done\n"),
-        (b"void f() { } int main() { f(); }", 0, b"state\nend done\n"),
-        // one function twice in a row
-        (
-            b"int g; void f() { int x = g + 1; g = x; } int main() { f(); f(); print(g); }",
-            0,
-            b"2\nstate\ng 2\nend done\n",
-        ),
-        // a parameter with the name of a local of its caller
-        (
-            b"int g; void f(int a) { g = g + a * 10; } int main() { int a = 3; f(a + 1); print(a); print(g); }",
-            0,
-            b"3\n40\nstate\ng 40\nend done\n",
-        ),
-        // a fault in the second of three bindings, which has the line of the call's name
-        (
-            b"int g; void f(int a, int b, int c) { g = 1; } int main() { g = 7;\nf(1,\n1 / 0, 2); }",
-            1,
-            b"state\ng 7\nend fault divide line 2\n",
-        ),
-        (
-            b"void f(int a) { }\nint main() {\nf(1 / 0); }",
-            1,
-            b"state\nend fault divide line 3\n",
-        ),
-        // a fault within a function has its own line
-        (
-            b"void f(int a) {\nprint(1 / a); }\nint main() { f(0); }",
-            1,
-            b"state\nend fault divide line 2\n",
-        ),
-        (
-            b"int g; void f(int a) { g = g * 10 + a; } int main() { if (g == 0) { f(1); } else { f(2); } if (g == 0) { f(3); } else { f(4); } print(g); }",
-            0,
-            b"14\nstate\ng 14\nend done\n",
-        ),
-        (
-            b"int g; void f(int a) { int b = a * 2; g = g + b; } int main() { int i = 0;\n#pragma dswp\nwhile (i < 3) { f(i); i = i + 1; } }",
-            0,
-            b"state\ng 6\nregion 1 iterations 4 recovered 0\nend done\n",
-        ),
-        // a local begins with its initialiser again in the next call
-        (
-            b"int g; void f() { int n = 1; while (n < 3) { n = n + 1; g = g + n; } } int main() { f(); f(); print(g); }",
-            0,
-            b"10\nstate\ng 10\nend done\n",
-        ),
-        (
-            b"int g; void a(int x) { g = g + x; } void b(int x) { a(x); a(x + 1); } int main() { b(1); b(10); print(g); }",
-            0,
-            b"24\nstate\ng 24\nend done\n",
-        ),
-        // a parameter may have its function's name, which isn't visible yet
-        (
-            b"int g; void f(int f) { g = f; } int main() { f(5); }",
-            0,
-            b"state\ng 5\nend done\n",
-        ),
-        (
-            b"void f(int a) { } int main() { f(); }",
-            3,
-            b"refused program arguments line 1\n",
-        ),
-    ];
-    for (program, status, text) in rows {
+    for (program, status, text) in CALLED.iter().copied() {
         gives(
             &rt,
             rt.alloc(),
