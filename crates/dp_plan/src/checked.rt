@@ -9,9 +9,9 @@ use crate::{Plan, StageKind};
 use dp_base::{SiteId, VarId};
 use dp_tree::{Expr, Program, Stmt, VarScope};
 
-/// The statement is the region.
+/// The statement is the region of this number.
 #[tactic(auto, using(crate::proofs::WalkLemmas::region_forms))]
-pub(crate) fn is_region(region: u32, statement: &Stmt) -> bool
+pub fn is_region(region: u32, statement: &Stmt) -> bool
     ensures { result ≡ is_region_of region statement.now }
 {
     match statement {

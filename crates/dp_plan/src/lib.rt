@@ -21,10 +21,9 @@ mod tests;
 mod words;
 mod write;
 
+pub use checked::is_region;
 pub use law::{read_plans_are_plans, written_plans_are_read};
 pub use read::read_plans;
-pub use reader::read_text;
-pub use sites::sites_of;
 pub use table::tables_are_right;
 pub use write::write_plans;
 

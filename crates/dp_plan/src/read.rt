@@ -26,11 +26,7 @@ fn kinds(alloc: Global, lines: &[WrittenStage]) -> Result<Row<StageKind>, NoMemo
 fn stage(w: &WrittenPlan, site: u32) -> Result<u32, NoMemory>
     ensures { IfOk result (λ stage. stage ≡ written.written_stage w.now site) }
 {
-    let stage = written_stage(w, site);
-    if stage > 4_294_967_295 {
-        return Err(NoMemory);
-    }
-    Ok(stage as u32)
+    u32::try_from(written_stage(w, site)).map_err(|_| NoMemory)
 }
 
 /// The stage of each of the sites.

@@ -243,7 +243,11 @@ fn region_count(p: &Program) -> Result<u32, NoMemory>
 /// The plans as a text has them, before any rule on plans is tested.
 ///
 /// `Invalid` is never answered.
-pub fn read_text(alloc: Global, bytes: &[u8], p: &Program) -> Result<Row<WrittenPlan>, PlanFail>
+pub(crate) fn read_text(
+    alloc: Global,
+    bytes: &[u8],
+    p: &Program,
+) -> Result<Row<WrittenPlan>, PlanFail>
     ensures { ReadsText p.now bytes.now result }
 {
     let regions = region_count(p)?;

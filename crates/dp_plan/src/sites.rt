@@ -55,7 +55,7 @@ pub(crate) fn put_sites(out: &mut Row<u32>, all: &[Stmt]) -> Result<(), NoMemory
 }
 
 /// The sites of a region, in text order.
-pub fn sites_of(alloc: Global, p: &Program, region: u32) -> Result<Row<u32>, NoMemory>
+pub(crate) fn sites_of(alloc: Global, p: &Program, region: u32) -> Result<Row<u32>, NoMemory>
     ensures { IfOk result (λ sites. sites ≡ region_sites p.now region) }
 {
     let mut sites = Row::new(alloc);
