@@ -1,30 +1,24 @@
 //! Numbers at the end of a text.
 
-ghost use Rattle.std.specs.Prelude.{◌≡◌, ◌∷◌, [], ◌++◌, OnOk, decimal, codes};
+ghost use Rattle.std.specs.Prelude.{◌≡◌, ◌++◌, OnOk, decimal};
 ghost use Rattle.std.specs.Fmt.{signed_decimal};
 ghost use Rattle.dp_report.specs.Lines.{labelled, spaced, spaced_signed};
 
 use dp_base::{NoMemory, Row};
+use itoa::Buffer;
 
-/// A number has at most 20 digits, so the recursion is at most 20 calls deep.
 pub fn put_decimal(out: &mut Row<u8>, n: u64) -> Result<(), NoMemory>
     ensures { OnOk result (out.new ≡ out.old ++ decimal n) }
 {
-    let digit = b'0' + (n % 10) as u8;
-    if n < 10 {
-        return out.push(digit);
-    }
-    put_decimal(out, n / 10)?;
-    out.push(digit)
+    let mut digits = Buffer::new();
+    out.extend_from_slice(digits.format(n).as_bytes())
 }
 
 pub fn put_signed(out: &mut Row<u8>, n: i64) -> Result<(), NoMemory>
     ensures { OnOk result (out.new ≡ out.old ++ signed_decimal n) }
 {
-    if n < 0 {
-        out.push(b'-')?;
-    }
-    put_decimal(out, n.unsigned_abs())
+    let mut text = Buffer::new();
+    out.extend_from_slice(text.format(n).as_bytes())
 }
 
 /// A label, and a number right after it.
