@@ -1,4 +1,6 @@
 pub mod Rules
 pub mod Checked
+pub mod Loads
+pub mod Conditions
 pub mod PlanText
 pub mod WrittenText
