@@ -1,6 +1,6 @@
 //! The plans that a text stands for.
 
-ghost use Rattle.std.specs.Prelude.{◌≡◌, IfOk, IfSome, map, filter_map};
+ghost use Rattle.std.specs.Prelude.{◌≡◌, ◌≤◌, ◌^◌, IfOk, IfSome, MatchResult, map, filter_map};
 ghost use Rattle.dp_plan.specs.Written as written;
 ghost use Rattle.dp_plan.specs.Refused.{ReadsAs};
 
@@ -24,7 +24,7 @@ fn kinds(alloc: Global, lines: &[WrittenStage]) -> Result<Row<StageKind>, NoMemo
 
 /// The number of a site's stage. One that has more than 32 bits answers want of memory.
 fn stage(w: &WrittenPlan, site: u32) -> Result<u32, NoMemory>
-    ensures { IfOk result (λ stage. stage ≡ written.written_stage w.now site) }
+    ensures { MatchResult result (λ stage. stage ≡ written.written_stage w.now site) (λ _. 2 ^ 32 ≤ written.written_stage w.now site) }
 {
     u32::try_from(written_stage(w, site)).map_err(|_| NoMemory)
 }

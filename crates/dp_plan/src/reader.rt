@@ -1,6 +1,6 @@
 //! The lines of a text, one after the other.
 
-ghost use Rattle.std.specs.Prelude.{◌≡◌, ◌<◌, ◌^◌, ◌+◌, ◌∷◌, ◌++◌, ◌==◌, [], IfOk, IfSome, MatchOption, length, take, drop};
+ghost use Rattle.std.specs.Prelude.{◌≡◌, ◌<◌, ◌≤◌, ◌^◌, ◌+◌, ◌∷◌, ◌++◌, ◌==◌, [], IfOk, IfSome, MatchOption, MatchResult, length, take, drop};
 ghost use Rattle.std.specs.List.{position};
 ghost use Rattle.dp_plan.specs.PlanText.{lines_of};
 ghost use Rattle.dp_plan.specs.Words.{words};
@@ -231,7 +231,7 @@ fn finished(reader: Reader, rest: &[u8], line: u64) -> Result<Row<WrittenPlan>, 
 
 /// How many regions there are. More than 32 bits can count answer want of memory.
 fn region_count(p: &Program) -> Result<u32, NoMemory>
-    ensures { IfOk result (λ count. (count ≡ length p.now.regions) × (length p.now.regions < 2 ^ 32)) }
+    ensures { MatchResult result (λ count. (count ≡ length p.now.regions) × (length p.now.regions < 2 ^ 32)) (λ _. 2 ^ 32 ≤ length p.now.regions) }
 {
     let count = p.regions.len();
     if count > 4_294_967_295 {

@@ -1,6 +1,6 @@
 //! The table of the sites that a plan has checked.
 
-ghost use Rattle.std.specs.Prelude.{◌≡◌, ◌+◌, IfOk, slice_get, true};
+ghost use Rattle.std.specs.Prelude.{◌≡◌, ◌≤◌, ◌+◌, ◌^◌, IfOk, MatchResult, slice_get, true};
 ghost use Rattle.std.specs.List.{list_all};
 ghost use Rattle.dp_plan.specs.Access.{is_checked, region_accesses};
 ghost use Rattle.dp_plan.specs.CheckedTable as table;
@@ -12,7 +12,7 @@ use std::alloc::Global;
 
 /// The site so many places behind another.
 fn site_at(first: u32, place: usize) -> Result<SiteId, NoMemory>
-    ensures { IfOk result (λ site. site.0 ≡ first + place) }
+    ensures { MatchResult result (λ site. site.0 ≡ first + place) (λ _. 2 ^ 32 ≤ first + place) }
 {
     if place > (4_294_967_295 - first) as usize {
         return Err(NoMemory);
