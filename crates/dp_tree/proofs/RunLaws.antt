@@ -52,6 +52,7 @@ module _ (p : Program) (input : List ℤ) where
   -- a run of no step
   stays : (fuel : ℕ) (c : Config) (end : End) → EndsAt p input fuel c end → GoesByStep p input fuel c (ended fuel c end)
   stays fuel c end why = record {
+    kept = refl;
     steps_within = omega arith;
     one_more = refl;
     first = refl;
@@ -74,6 +75,7 @@ module _ (p : Program) (input : List ℤ) where
   -- one step more
   grows : (fuel : ℕ) (c next : Config) (event : Event) (run : Run) → step p input c ≡ Stepped event next → GoesByStep p input fuel next run → GoesByStep p input (suc fuel) c (extended (suc fuel) c event run)
   grows fuel c next event run e h = record {
+    kept = refl;
     steps_within = omega (arith, h.steps_within);
     one_more = ap (λ (k : ℕ). suc k) h.one_more;
     first = refl;

@@ -3,3 +3,7 @@ pub mod StaleRead
 pub mod Faults
 pub mod Scopes
 pub mod BodyLocals
+pub mod Choices
+pub mod TwoRegions
+pub mod Legs
+pub mod Tables

@@ -31,6 +31,8 @@ EndsAt p input left c Fuel = (left ≡ 0) × (is_empty c.to_do ≡ false)
 
 -- the run goes step by step from c
 pub record GoesByStep (p : Program) (input : List ℤ) (fuel : ℕ) (c : Config) (run : Run) : Type 0 where
+  -- the run keeps the fuel that it was given
+  pub kept : run.fuel ≡ fuel
   -- one event a step, and one configuration more
   pub steps_within : length run.trace ≤ fuel
   pub one_more : length run.configs ≡ suc (length run.trace)

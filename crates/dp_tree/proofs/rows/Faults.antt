@@ -99,6 +99,16 @@ store_past_the_end : summary 100 (set_at 1 1 (num 5) (num 1) ∷ []) ≡ faulted
 unfolding tree_opened
 store_past_the_end = refl
 
+-- a[2] = 1;
+store_at_the_length : summary 100 (set_at 1 1 (num 2) (num 1) ∷ []) ≡ faulted Index
+unfolding tree_opened
+store_at_the_length = refl
+
+-- a[-1] = 1;
+store_below_zero : summary 100 (set_at 1 1 (minus (num 1)) (num 1) ∷ []) ≡ faulted Index
+unfolding tree_opened
+store_below_zero = refl
+
 -- print(a[-1]);
 load_below_zero : summary 100 (say 1 (at 1 (minus (num 1))) ∷ []) ≡ faulted Index
 unfolding tree_opened
@@ -114,8 +124,8 @@ no_input : summary 100 (say 1 (tree.Input (num 0)) ∷ []) ≡ faulted Index
 unfolding tree_opened
 no_input = refl
 
--- print(0 && 1 / 0); print(1 || 1 / 0);
-short_circuit : summary 100 (say 1 (tree.And (num 0) (bin op.Div (num 1) (num 0))) ∷ say 2 (tree.Or (num 1) (bin op.Div (num 1) (num 0))) ∷ []) ≡ printed (pos 0 ∷ pos 1 ∷ []) 2
+-- print(0 && 1 / 0); print(7 || 1 / 0);
+short_circuit : summary 100 (say 1 (tree.And (num 0) (bin op.Div (num 1) (num 0))) ∷ say 2 (tree.Or (num 7) (bin op.Div (num 1) (num 0))) ∷ []) ≡ printed (pos 0 ∷ pos 1 ∷ []) 2
 unfolding tree_opened
 short_circuit = refl
 
@@ -129,11 +139,16 @@ fault_without_fuel : (summary 0 (set 1 0 (bin op.Div (num 1) (num 0)) ∷ [])).e
 unfolding tree_opened
 fault_without_fuel = refl
 
--- a[x] + x loads x, then the element, then x again
-loads_in_order : eval (one_line []) [] (pos 1 ∷ pos 5 ∷ pos 6 ∷ []) (bin op.Add (at 1 (var 0)) (var 0))
-    ≡ Ok (record { value = pos 7; loads = record { cell = 0; value = pos 1 } ∷ record { cell = 2; value = pos 6 } ∷ record { cell = 0; value = pos 1 } ∷ [] })
+-- a[x] + a[0] loads x, then the element, then the other one
+loads_in_order : eval (one_line []) [] (pos 1 ∷ pos 5 ∷ pos 6 ∷ []) (bin op.Add (at 1 (var 0)) (at 1 (num 0)))
+    ≡ Ok (record { value = pos 11; loads = record { cell = 0; value = pos 1 } ∷ record { cell = 2; value = pos 6 } ∷ record { cell = 1; value = pos 5 } ∷ [] })
 unfolding tree_opened
 loads_in_order = refl
+
+-- x && a[0] with x = 0 loads x alone
+left_out_without_loads : eval (one_line []) [] (pos 0 ∷ pos 5 ∷ pos 6 ∷ []) (tree.And (var 0) (at 1 (num 0))) ≡ Ok (record { value = pos 0; loads = record { cell = 0; value = pos 0 } ∷ [] })
+unfolding tree_opened
+left_out_without_loads = refl
 
 -- the input's words and their number are no loads
 input_without_loads : eval (one_line []) (pos 8 ∷ pos 9 ∷ []) (pos 1 ∷ []) (bin op.Add (tree.Input (num 1)) tree.InputLen) ≡ Ok (record { value = pos 11; loads = [] })

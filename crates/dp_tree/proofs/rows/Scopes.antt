@@ -1,13 +1,13 @@
 -- What checked and inlined programs have, and texts whose names aren't in scope.
 use Rattle.std.proofs.Common.{◌≡◌, refl, true, false, [], ◌∷◌, pos, List}
-use Rattle.dp_tree.specs.declared.VarScope.TheVariants.{Global, Outer}
+use Rattle.dp_tree.specs.declared.VarScope.TheVariants.{Global, Outer, Body}
 use Rattle.dp_tree.specs.declared.Function.{Function}
 use Rattle.dp_tree.specs.declared.Program.{Program}
 use Rattle.dp_tree.specs.declared.Stmt.{Stmt}
 use Rattle.dp_tree.specs.Scoping.{is_scoped}
 use Rattle.dp_tree.specs.Checked.{IsChecked}
 use Rattle.dp_tree.specs.Inlined.{IsInlined}
-use Rattle.dp_tree.proofs.Build.{num, var, set, say, loop, call, scalar, function, program, with_functions, tree_opened}
+use Rattle.dp_tree.proofs.Build.{num, var, set, say, loop, region, call, scalar, function, program, with_functions, tree_opened}
 use Rattle.dp_tree.proofs.Programs.{word_table, word_table_expanded}
 
 table_is_checked : IsChecked word_table
@@ -54,3 +54,19 @@ calls_with_too_few_arguments = refl
 names_a_local_of_its_caller : is_scoped (naming (function [] (say 2 (var 2) ∷ []) ∷ []) (set 1 2 (num 1) ∷ call 0 1 [] ∷ [])) ≡ false
 unfolding tree_opened
 names_a_local_of_its_caller = refl
+
+-- variable 0 is a body local of region 2
+abbrev naming_a_body_local : List Stmt → Program
+naming_a_body_local main = program (scalar 0 (pos 0) (Body 2) ∷ []) [] [] main
+
+declared_in_its_region : is_scoped (naming_a_body_local (region 2 1 (num 1) (set 2 0 (num 1) ∷ say 3 (var 0) ∷ []) ∷ [])) ≡ true
+unfolding tree_opened
+declared_in_its_region = refl
+
+declared_in_another_region : is_scoped (naming_a_body_local (region 1 1 (num 1) (set 2 0 (num 1) ∷ say 3 (var 0) ∷ []) ∷ [])) ≡ false
+unfolding tree_opened
+declared_in_another_region = refl
+
+declared_outside_its_region : is_scoped (naming_a_body_local (set 1 0 (num 1) ∷ [])) ≡ false
+unfolding tree_opened
+declared_outside_its_region = refl

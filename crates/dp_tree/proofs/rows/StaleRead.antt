@@ -1,9 +1,9 @@
 -- The loop that reads what it stored two iterations before: its starts, its memory and its end.
-use Rattle.std.proofs.Common.{◌≡◌, refl, ℕ, [], ◌∷◌, pos, length, map}
+use Rattle.std.proofs.Common.{◌≡◌, refl, ℕ, [], ◌∷◌, pos, length, map, filter}
 use Rattle.dp_base.specs.declared.BinOp.TheVariants as op
 use Rattle.dp_tree.specs.Event.{Event}
 use Rattle.dp_tree.specs.Trace.{Run, run_of, begin}
-use Rattle.dp_tree.specs.Iteration.{starts, begun_count, iteration, memory_after}
+use Rattle.dp_tree.specs.Iteration.{starts, begun_count, is_begun, iteration, memory_after}
 use Rattle.dp_tree.specs.RegionLaws.{StandsOnce}
 use Rattle.dp_tree.proofs.Build.{num, var, at, bin, set, set_at, tree_opened}
 use Rattle.dp_tree.proofs.Programs.{add, stale_read}
@@ -32,12 +32,25 @@ begun_with_six : begun_count (run 6) 1 ≡ 2
 unfolding tree_opened
 begun_with_six = refl
 
+begun_ones_with_five : filter (is_begun (run 5) 1) (0 ∷ 1 ∷ 2 ∷ []) ≡ 0 ∷ []
+unfolding tree_opened
+begun_ones_with_five = refl
+
+begun_ones_with_six : filter (is_begun (run 6) 1) (0 ∷ 1 ∷ 2 ∷ []) ≡ 0 ∷ 1 ∷ []
+unfolding tree_opened
+begun_ones_with_six = refl
+
 abbrev site_in : Event → ℕ
 site_in event = event.site
 
 sites_of_the_third : map site_in (iteration (run 100) 1 2) ≡ 2 ∷ 3 ∷ 4 ∷ 5 ∷ []
 unfolding tree_opened
 sites_of_the_third = refl
+
+-- with fuel 7 the second iteration is cut behind its first assignment
+sites_of_the_cut_one : map site_in (iteration (run 7) 1 1) ≡ 2 ∷ 3 ∷ []
+unfolding tree_opened
+sites_of_the_cut_one = refl
 
 sites_of_the_closing_one : map site_in (iteration (run 100) 1 6) ≡ 2 ∷ []
 unfolding tree_opened

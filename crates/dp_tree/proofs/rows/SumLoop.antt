@@ -62,6 +62,11 @@ closed : summary closed_at_once 100 ≡ record { prints = []; cells = []; steps 
 unfolding tree_opened
 closed = refl
 
+-- with no fuel the condition at the head isn't begun
+not_begun : summary closed_at_once 0 ≡ record { prints = []; cells = []; steps = 0; begun = 0; ended = []; end = Fuel }
+unfolding tree_opened
+not_begun = refl
+
 -- a program without a site ends with no fuel at all
 empty : summary empty_program 0 ≡ record { prints = []; cells = []; steps = 0; begun = 0; ended = []; end = Done }
 unfolding tree_opened
