@@ -1,6 +1,7 @@
 -- Packets against the source's own events, computed: their words agree exactly at the clean iterations.
-use Rattle.std.proofs.Common.{◌≡◌, refl, ℕ, ◌==◌, Bool, true, false, ◌&&◌, ◌||◌, List, [], ◌∷◌, ℤ, pos, negsuc, length, map}
+use Rattle.std.proofs.Common.{◌≡◌, refl, ℕ, ◌==◌, Bool, true, false, ◌&&◌, ◌||◌, List, [], ◌∷◌, ℤ, pos, negsuc, length, map, Option, Some, None}
 use Rattle.dp_base.specs.declared.Word.{Word}
+use Rattle.dp_base.specs.declared.WordKind.TheVariants as word
 use Rattle.dp_tree.specs.declared.Program.{Program}
 use Rattle.dp_tree.specs.Trace.{Run}
 use Rattle.dp_tree.specs.Iteration.{iteration, begun_count}
@@ -9,11 +10,11 @@ use Rattle.dp_tree.proofs.Programs.{stale_read, same_value_store, skip_negative,
 use Rattle.dp_plan.specs.declared.Plan.{Plan}
 use Rattle.dp_plan.proofs.Plans.{stale_read_plan, skip_negative_plan, histogram_plan, stale_step_plan}
 use Rattle.dp_semantics.specs.Clean.{count_from, int_eq}
-use Rattle.dp_semantics.specs.Packets.{Closing, Status}
+use Rattle.dp_semantics.specs.Packets.{Broken, Closing, Packet, Status, passed}
 use Rattle.dp_semantics.specs.Recovery.{epoch}
-use Rattle.dp_semantics.specs.Words.{is_load, is_done}
+use Rattle.dp_semantics.specs.Words.{Astray, is_load, is_done}
 use Rattle.dp_semantics.specs.StageRun.{turn_from}
-use Rattle.dp_semantics.specs.Verdict.{whole_run, packet_at, words_at_stage}
+use Rattle.dp_semantics.specs.Verdict.{whole_run, epoch_at, packet_at, words_at_stage}
 
 abbrev same_word : Word → Word → Bool
 same_word v w = (v.site.0 == w.site.0) && (v.index == w.index) && int_eq v.value w.value && (is_load v.kind && is_load w.kind || is_done v.kind && is_done w.kind)
@@ -71,3 +72,34 @@ closing_packets = by (whole_run same_value_store [] 10000)
 one_closes : closing_packets ≡ false ∷ false ∷ false ∷ false ∷ false ∷ false ∷ true ∷ []
 unfolding tree_opened turn_from
 one_closes = refl
+
+abbrev done : ℕ → ℕ → ℤ → Word
+done site index z = record { site = record { 0 = site }; kind = word.Done; index = index; value = z }
+
+-- a void packet says which stage broke off and why, and keeps the words of the stages before it
+abbrev astray : Packet
+astray = packet_at skip_negative skip_negative_plan (negsuc 0 ∷ []) (whole_run skip_negative (negsuc 0 ∷ []) 10000) 0 0
+
+broken_in_stage_two : astray ≡ record { lists = (done 2 0 (pos 1) ∷ done 6 1 (pos 1) ∷ []) ∷ []; status = Broken 2 (Astray 5 (Some (done 6 1 (pos 1)))); version = None }
+unfolding tree_opened turn_from
+broken_in_stage_two = refl
+
+-- the memory that stage s of the histogram sends along in the second iteration
+abbrev version_from : ℕ → Option (List ℤ)
+version_from s = (passed (epoch_at histogram histogram_plan input (whole_run histogram input 10000) 0) s 1).packet.version
+  where
+    input : List ℤ
+    input = pos 0 ∷ pos 1 ∷ pos 2 ∷ []
+
+-- stage 1 stands before the replicated one, and sends what it had before the iteration: `i` is 1, and `x` is 0
+first_version : version_from 1 ≡ Some (pos 0 ∷ pos 0 ∷ pos 0 ∷ pos 0 ∷ pos 1 ∷ pos 0 ∷ pos 0 ∷ [])
+unfolding tree_opened turn_from
+first_version = refl
+
+no_version_from_the_replicated : version_from 2 ≡ None
+unfolding tree_opened turn_from
+no_version_from_the_replicated = refl
+
+no_version_from_the_last : version_from 3 ≡ None
+unfolding tree_opened turn_from
+no_version_from_the_last = refl
