@@ -5,3 +5,4 @@ mod Sent
 mod Judged
 mod Fitting
 mod ValidPlans
+mod Laws

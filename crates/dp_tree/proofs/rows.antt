@@ -7,3 +7,4 @@ pub mod Choices
 pub mod TwoRegions
 pub mod Legs
 pub mod Tables
+pub mod Laws

@@ -9,8 +9,9 @@ use Rattle.dp_tree.specs.declared.Function.{Function}
 use Rattle.dp_tree.specs.declared.Program.{Program}
 use Rattle.dp_tree.specs.Trace.{Run, run_of, begin, prints}
 use Rattle.dp_calls.specs.Expand.{expand}
+use Rattle.dp_calls.specs.ExpandLaws.{erased}
 use Rattle.dp_calls.specs.Frames.{outcome}
-use Rattle.dp_tree.proofs.Build.{num, var, bin, set, say, region, call, scalar, site, one_region, function, program, with_functions, tree_opened}
+use Rattle.dp_tree.proofs.Build.{num, var, at, bin, set, say, when, loop, region, call, scalar, site, one_region, function, program, with_functions, tree_opened}
 use Rattle.dp_tree.proofs.Programs.{add, word_table, word_table_expanded}
 
 abbrev run_expanded : Program → List ℤ → ℕ → Run
@@ -141,3 +142,9 @@ table_frames = refl
 table_steps : (outcome word_table words 10000).steps ≡ length (run_expanded word_table words 10000).trace
 unfolding tree_opened
 table_steps = refl
+
+-- what is erased of a text: the numbers of its sites and variables, and nothing else
+erased_text : erased (region 1 4 (var 3) (loop 5 (bin op.Lt (var 2) (num 7)) (when 6 (var 1) (set 7 2 (at 1 (num 9)) ∷ []) ∷ say 8 (num 3) ∷ []) ∷ []))
+    ≡ region 1 0 (var 0) (loop 0 (bin op.Lt (var 0) (num 7)) (when 0 (var 0) (set 0 0 (at 0 (num 9)) ∷ []) ∷ say 0 (num 3) ∷ []) ∷ [])
+unfolding tree_opened
+erased_text = refl

@@ -55,6 +55,26 @@ names_a_local_of_its_caller : is_scoped (naming (function [] (say 2 (var 2) ∷ 
 unfolding tree_opened
 names_a_local_of_its_caller = refl
 
+calls_itself_behind_another : is_scoped (naming (function [] [] ∷ function [] (call 1 1 [] ∷ []) ∷ []) []) ≡ false
+unfolding tree_opened
+calls_itself_behind_another = refl
+
+calls_no_function : is_scoped (naming [] (call 0 1 [] ∷ [])) ≡ false
+unfolding tree_opened
+calls_no_function = refl
+
+names_no_variable : is_scoped (naming [] (set 1 3 (num 1) ∷ [])) ≡ false
+unfolding tree_opened
+names_no_variable = refl
+
+has_a_parameter_twice : is_scoped (naming (function (1 ∷ 1 ∷ []) [] ∷ []) []) ≡ false
+unfolding tree_opened
+has_a_parameter_twice = refl
+
+has_a_global_as_parameter : is_scoped (naming (function (0 ∷ []) [] ∷ []) []) ≡ false
+unfolding tree_opened
+has_a_global_as_parameter = refl
+
 -- variable 0 is a body local of region 2
 abbrev naming_a_body_local : List Stmt → Program
 naming_a_body_local main = program (scalar 0 (pos 0) (Body 2) ∷ []) [] [] main
