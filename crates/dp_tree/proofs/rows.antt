@@ -8,3 +8,4 @@ pub mod TwoRegions
 pub mod Legs
 pub mod Tables
 pub mod Laws
+pub mod UnknownNames

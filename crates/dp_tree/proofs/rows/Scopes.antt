@@ -51,6 +51,10 @@ calls_with_too_few_arguments : is_scoped (naming (function (1 ∷ []) [] ∷ [])
 unfolding tree_opened
 calls_with_too_few_arguments = refl
 
+calls_with_too_many_arguments : is_scoped (naming (function (1 ∷ []) [] ∷ []) (call 0 1 (num 1 ∷ num 2 ∷ []) ∷ [])) ≡ false
+unfolding tree_opened
+calls_with_too_many_arguments = refl
+
 names_a_local_of_its_caller : is_scoped (naming (function [] (say 2 (var 2) ∷ []) ∷ []) (set 1 2 (num 1) ∷ call 0 1 [] ∷ [])) ≡ false
 unfolding tree_opened
 names_a_local_of_its_caller = refl
