@@ -49,7 +49,7 @@ module _ (r : ℕ) where
   free_at (Region q site cond a) = not (q == r) && all_free r a
   free_at _ = true
 
-  free_hidden : (xs : List Stmt) → is_free_in r (hidden-the_row-Stmt-0 xs) ≡ all_free r xs
+  pub free_hidden : (xs : List Stmt) → is_free_in r (hidden-the_row-Stmt-0 xs) ≡ all_free r xs
   unfolding opened_statement
   free_hidden [] = refl
   free_hidden (x ∷ xs) = ap (λ b. is_free r x && b) (free_hidden xs)

@@ -41,3 +41,4 @@ pub mod WellNested
 pub mod PlanStages
 pub mod ValidFits
 pub mod ValidTables
+pub mod OnceInMain

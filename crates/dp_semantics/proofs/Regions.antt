@@ -156,7 +156,7 @@ mutual
   plain_free r (tree.Region' q site cond _ a) w = absurd (cc)
   plain_free r _ w = refl
 
-  plain_free_in : {n : _} (r : ℕ) (row : Row_of-Stmt n) → is_plain_in row ≡ true → is_free_in r row ≡ true
+  pub plain_free_in : {n : _} (r : ℕ) (row : Row_of-Stmt n) → is_plain_in row ≡ true → is_free_in r row ≡ true
   plain_free_in r end_of-Stmt w = refl
   plain_free_in r (more_of-Stmt x rest) w = let both = and_parts _ _ w in and_from _ _ (plain_free r x both.0) (plain_free_in r rest both.1)
 

@@ -66,14 +66,14 @@ module _ (r : ℕ) (site : SiteId) (cond : Expr) (body : List Stmt) where
   whiles_made = refl
 
 module _ {p : Program} (inlined : IsInlined p) where
-  sought : (r : ℕ) → Sought r 1 p.main p.regions
+  pub sought : (r : ℕ) → Sought r 1 p.main p.regions
   sought r = find_region p.main 1 1 p.regions inlined.regions inlined.table (subst (λ (ns : List ℕ). Ascends 1 ns) (sym inlined.sites) (ascends_from 1 (length p.sites))) r
 
   module _ (r : ℕ) (entry : RegionInfo) (at : slice_get p.regions (r - 1) ≡ Some entry) (q : RegionAt r p.main entry) where
     accesses_are : flat_map accesses (region_in p r) ≡ accesses q.statement
     accesses_are = ap accesses_all q.only ∙ append-nil (accesses q.statement)
 
-    between : Each (λ a. Between entry.first.0 (length (accesses q.statement)) a.site) (accesses q.statement)
+    pub between : Each (λ a. Between entry.first.0 (length (accesses q.statement)) a.site) (accesses q.statement)
     between = each_of_map (Between entry.first.0 (length (accesses q.statement))) site_in (accesses q.statement)
         (subst (λ (n : ℕ). Each (Between entry.first.0 n) (map site_in (accesses q.statement))) (length-map (accesses q.statement) site_in) (ascends_between entry.first.0 (map site_in (accesses q.statement)) q.sites))
 

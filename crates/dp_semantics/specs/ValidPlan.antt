@@ -2,6 +2,7 @@
 use Rattle.std.specs.Prelude.{◌≡◌, ℕ, ◌<◌, ◌≤◌, Bool, true, length, None, nat_lt}
 use Rattle.std.specs.List.{list_all}
 use Rattle.dp_tree.specs.declared.Program.{Program}
+use Rattle.dp_tree.specs.RegionLaws.{StandsOnce}
 use Rattle.dp_plan.specs.declared.Plan.{Plan}
 use Rattle.dp_plan.specs.declared.WrittenStage.{WrittenStage}
 use Rattle.dp_plan.specs.declared.WrittenPlan.{WrittenPlan}
@@ -31,3 +32,7 @@ ValidPlanTabled p plan = (w : WrittenPlan) → WrittenAs p w plan → IsTabled p
 -- Each region of the program stands alone.
 abbrev pub RegionsStandAlone : Program → Type 0
 RegionsStandAlone p = (r : ℕ) → 0 < r → r ≤ length p.regions → stands_alone p r ≡ true
+
+-- Each region stands once in `main`, so that the events at its sites are those of its iterations.
+abbrev pub RegionsStandOnce : Program → Type 0
+RegionsStandOnce p = (r : ℕ) → 0 < r → r ≤ length p.regions → StandsOnce p r

@@ -4,7 +4,7 @@ ghost use Rattle.std.specs.Prelude.{◌≡◌, true};
 ghost use Rattle.dp_tree.specs.Inlined.{IsInlined};
 ghost use Rattle.dp_semantics.specs.Fits.{fits_plan, stands_alone};
 ghost use Rattle.dp_semantics.specs.Laws.{CleanInOneStage, RecoversInOrder};
-ghost use Rattle.dp_semantics.specs.ValidPlan.{RegionsStandAlone, ValidPlanFits, ValidPlanTabled};
+ghost use Rattle.dp_semantics.specs.ValidPlan.{RegionsStandAlone, RegionsStandOnce, ValidPlanFits, ValidPlanTabled};
 ghost use Rattle.dp_semantics.specs.Verdict.{JudgesEpochs, JudgesRightly, StoresLead};
 
 use dp_plan::Plan;
@@ -21,12 +21,13 @@ pub fn judgement_is_the_sources(p: &Program, plan: &Plan)
 {}
 
 /// What the laws ask of a program and a plan, an inlined program and a valid plan of one of its regions have.
-#[tactic(auto, using(crate::proofs::ValidFits::valid_fits, crate::proofs::ValidTables::valid_tabled, crate::proofs::ValidFits::regions_alone))]
+#[tactic(auto, using(crate::proofs::ValidFits::valid_fits, crate::proofs::ValidTables::valid_tabled, crate::proofs::ValidFits::regions_alone, crate::proofs::OnceInMain::regions_once))]
 pub fn valid_plans_fit(p: &Program, plan: &Plan)
     requires { IsInlined p.now }
     ensures fits { ValidPlanFits p.now plan.now }
     ensures tabled { ValidPlanTabled p.now plan.now }
     ensures alone { RegionsStandAlone p.now }
+    ensures once { RegionsStandOnce p.now }
 {}
 
 /// With all of a region in one stage an iteration is clean where it has ended and has at most 4,096 events.

@@ -1,9 +1,12 @@
--- What the laws give for a plan that fits, written out.
-use Rattle.std.proofs.Common.{◌≡◌, true, false, ℕ, suc, ◌+◌, ◌<◌, ◌≤◌, List, ℤ, length, map, Some}
+-- What the laws give for an inlined program and for a plan that fits, written out.
+use Rattle.std.proofs.Common.{◌≡◌, true, false, ℕ, suc, ◌+◌, ◌<◌, ◌≤◌, List, ℤ, length, map, filter, Some}
 use Rattle.dp_tree.specs.declared.Program.{Program}
+use Rattle.dp_tree.specs.Inlined.{IsInlined}
+use Rattle.dp_tree.specs.IterationLaws.{events_of_first}
+use Rattle.dp_tree.specs.RegionLaws.{is_event_of}
 use Rattle.dp_tree.specs.Step.{clear_locals}
 use Rattle.dp_tree.specs.Trace.{Run}
-use Rattle.dp_tree.specs.Iteration.{start, iteration, is_closing, has_ended, memory_after}
+use Rattle.dp_tree.specs.Iteration.{start, starts, iteration, is_closing, has_ended, memory_after}
 use Rattle.dp_plan.specs.declared.Plan.{Plan}
 use Rattle.dp_semantics.specs.Clean.{is_clean}
 use Rattle.dp_semantics.specs.Recovery.{epoch}
@@ -11,7 +14,14 @@ use Rattle.dp_semantics.specs.Judge.{Agreed, Clean}
 use Rattle.dp_semantics.specs.Words.{word_list}
 use Rattle.dp_semantics.specs.Fits.{fits_plan}
 use Rattle.dp_semantics.specs.Verdict.{whole_run, packet_at, judgement_at, done_in, words_at_stage, effect_in, applied}
+use Rattle.dp_tree.proofs.RegionLaws.{regions_are_iterations}
+use Rattle.dp_semantics.proofs.OnceInMain.{regions_once}
 use Rattle.dp_semantics.proofs.Fitting.{fitting_judges, fitting_epochs, fitting_leads}
+
+-- the events at the sites of each region are those of its iterations
+events_of_regions : (p : Program) → IsInlined p → (input : List ℤ) (fuel r : ℕ) → 0 < r → r ≤ length p.regions →
+    filter (is_event_of p r) (whole_run p input fuel).trace ≡ events_of_first (whole_run p input fuel) r (length (starts (whole_run p input fuel) r))
+events_of_regions p inlined input fuel r low high = regions_are_iterations p input fuel r (regions_once p inlined r low high)
 
 module _ (p : Program) (plan : Plan) (fits : fits_plan p plan ≡ true) (input : List ℤ) (fuel : ℕ) where
   abbrev run : Run
