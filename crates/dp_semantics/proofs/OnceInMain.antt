@@ -1,5 +1,5 @@
 -- Each region of an inlined program stands once in `main`, with its own sites inside and all others outside.
-use Rattle.dp_semantics.proofs.Names.{◌≡◌, ◌⊎◌, inl, inr, refl, sym, ap, ◌∙◌, subst, ℕ, suc, ◌+◌, ◌-◌, ◌<◌, ◌≤◌, ◌==◌, Bool, true, false, not, ◌&&◌, List, [], ◌∷◌, ◌++◌, length, map, Some, slice_get, nat_le, list_all, arith, le-leb, lt-leb, length-map, and_parts, and_from, end_of-Stmt, more_of-Stmt, Row_of-Stmt, hidden-the_row-Stmt-0, Region, Program, RegionInfo, Stmt, Access, accesses, accesses_in, is_free, is_free_in}
+use Rattle.dp_semantics.proofs.Names.{◌≡◌, ◌⊎◌, inl, inr, refl, sym, ap, ◌∙◌, subst, ℕ, suc, ◌+◌, ◌-◌, ◌<◌, ◌≤◌, ◌==◌, Bool, true, false, not, ◌&&◌, List, [], ◌∷◌, ◌++◌, length, Some, slice_get, nat_le, list_all, arith, le-leb, lt-leb, length-map, and_parts, and_from, end_of-Stmt, more_of-Stmt, Row_of-Stmt, hidden-the_row-Stmt-0, Region, Program, RegionInfo, Stmt, Access, accesses, accesses_in, is_free, is_free_in}
 use Rattle.dp_tree.specs.declared.Stmt.TheVariants as tree
 use Rattle.dp_tree.specs.Inlined.{IsInlined}
 use Rattle.dp_tree.specs.Numbering.{site_numbers, site_numbers_all}
