@@ -3,12 +3,14 @@
 //! `specs/` says how large that program is, and when it is too large to be made.
 #![tactic(auto)]
 
+mod binding;
 mod expr;
 mod fail;
 mod law;
 mod names;
 mod piece;
 mod program;
+mod site;
 mod size;
 mod stmt;
 #[cfg(test)]

@@ -54,26 +54,28 @@ call-statements-requires t c =
     ap (work_list (work_within p (depth - 1))) c.as_slice.ensures ∙ work_called p depth c.args.function c.in-Some.function.now (sym c.in-Some.ensures.value) c.if-depth-gt0.true in
     (omega (arith, c.decreases, e), tt)
 
+pub block-statements-requires : goal.block-statements-requires
+block-statements-requires t c =
+    let e = ap (work_list (work_within c.args.p.now c.args.depth)) c.as_slice.ensures in
+    (omega (arith, c.decreases, e), tt)
+
 pub statement-branch-p-requires : goal.statement-branch-p-requires
 statement-branch-p-requires t c =
     let calls = work_within c.args.p.now c.args.depth in let f = c.in-If in
-    let e : work_one calls c.args.s.now ≡ 3 + (work_list calls c.as_slice.result.now + work_list calls c.as_slice-in-If.result.now) =
-    ap (work_one calls) f.is ∙ work-If calls f.site f.cond f.then_part f.else_part
-    ∙ (λ i. 3 + (work_list calls (sym c.as_slice.ensures i) + work_list calls (sym c.as_slice-in-If.ensures i))) in
+    let e : work_one calls c.args.s.now ≡ 3 + (work_list calls f.then_part + work_list calls f.else_part) =
+    ap (work_one calls) f.is ∙ work-If calls f.site f.cond f.then_part f.else_part in
     (omega (arith, c.decreases, e), tt)
 
 pub statement-repeat-requires : goal.statement-repeat-requires
 statement-repeat-requires t c =
     let calls = work_within c.args.p.now c.args.depth in let f = c.in-While in
-    let e : work_one calls c.args.s.now ≡ 3 + work_list calls c.as_slice-in-While.result.now =
-    ap (work_one calls) f.is ∙ work-While calls f.site f.cond f.body ∙ (λ i. 3 + work_list calls (sym c.as_slice-in-While.ensures i)) in
+    let e : work_one calls c.args.s.now ≡ 3 + work_list calls f.body = ap (work_one calls) f.is ∙ work-While calls f.site f.cond f.body in
     (omega (arith, c.decreases, e), tt)
 
 pub statement-marked-requires : goal.statement-marked-requires
 statement-marked-requires t c =
     let calls = work_within c.args.p.now c.args.depth in let f = c.in-Region in
-    let e : work_one calls c.args.s.now ≡ 3 + work_list calls c.as_slice-in-Region.result.now =
-    ap (work_one calls) f.is ∙ work-Region calls f.region f.site f.cond f.body ∙ (λ i. 3 + work_list calls (sym c.as_slice-in-Region.ensures i)) in
+    let e : work_one calls c.args.s.now ≡ 3 + work_list calls f.body = ap (work_one calls) f.is ∙ work-Region calls f.region f.site f.cond f.body in
     (omega (arith, c.decreases, e), tt)
 
 pub statement-call-requires : goal.statement-call-requires

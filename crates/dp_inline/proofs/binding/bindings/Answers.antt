@@ -1,7 +1,7 @@
 use Rattle.std.proofs.Common.{◌<◌, length, sym, ◌∙◌, arith}
 use Rattle.dp_inline.specs.Written.{written}
 use Rattle.dp_inline.proofs.EndLemmas.{bound_more, bound_end}
-use Rattle.dp_inline.proofs.stmt.bindings.Goals as goal
+use Rattle.dp_inline.proofs.binding.bindings.Goals as goal
 
 pub loop-i-preserved : goal.loop-i-preserved
 loop-i-preserved c =
