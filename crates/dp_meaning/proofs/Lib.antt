@@ -11,8 +11,12 @@ pub mod SoFar
 pub mod AssignLemmas
 pub mod StopLemmas
 pub mod StretchLemmas
+pub mod StraightLemmas
+pub mod RoundsLemmas
+pub mod AheadLemmas
 pub mod PartLemmas
 pub mod RegionLemmas
 pub mod IterationLemmas
+pub mod AheadRunLemmas
 pub mod DepthLemmas
 pub mod ShallowLemmas

@@ -27,6 +27,12 @@ length-clear_locals r [] cells = refl
 length-clear_locals r (x ∷ vars) cells =
     length-clear_locals r vars (if is_local_of r x.scope then slice_set cells x.first.0 (pos 0) else cells) ∙ length-unless (is_local_of r x.scope) cells x.first.0
 
+-- one that is no body local needn't be looked at
+pub clear_other : (r : ℕ) (vars : List VarInfo) (i : ℕ) (x : VarInfo) (cells : List ℤ) → i < length vars → x ≡ get_or vars i x → is_local_of r x.scope ≡ false →
+    clear_locals r (drop (i + 1) vars) cells ≡ clear_locals r (drop i vars) cells
+clear_other r vars i x cells h is other =
+    sym (clear_next r vars i x cells h is ∙ ap (λ (b : Bool). clear_locals r (drop (i + 1) vars) (if b then slice_set cells x.first.0 (pos 0) else cells)) other)
+
 pub ruleset clears = (clear_next)
 
 pub ruleset lengths = (length-clear_locals)

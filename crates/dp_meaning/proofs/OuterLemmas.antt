@@ -1,11 +1,14 @@
 -- Simple statements and those of `main`, and what is left of them after a step.
-use Rattle.std.proofs.Common.{◌≡◌, refl, sym, ap, ◌∙◌, subst, Bool, true, false, ◌&&◌, if◌then◌else◌, IsTrue, List, [], ◌∷◌, ◌++◌}
+use Rattle.std.proofs.Common.{◌≡◌, refl, sym, ap, ◌∙◌, subst, ℕ, zero, suc, ◌<◌, Bool, true, false, ◌&&◌, if◌then◌else◌, IsTrue, List, [], ◌∷◌, ◌++◌, drop, length, arith}
 use Rattle.std.specs.List.{list_all}
 use Rattle.dp_tree.specs.declared.Stmt.{Stmt, out-Stmt, roll-Stmt, roll-out-Stmt}
 use Rattle.dp_tree.specs.declared.Stmt.TheViews.{rolls-Assign, rolls-Store, rolls-Print, rolls-If, rolls-While, rolls-Region, rolls-Call}
 use Rattle.dp_tree.specs.declared.Stmt.TheOpen.{Stmt-F, Assign, Store, Print, If, While, Region, Call}
 use Rattle.dp_meaning.specs.Runnable.{is_simple, are_simple, is_outer, is_outer_at}
-use Rattle.dp_meaning.specs.MachineState.{is_any_region, from_region}
+use Rattle.dp_base.specs.declared.SiteId.{SiteId}
+use Rattle.dp_tree.specs.declared.Expr.{Expr}
+use Rattle.dp_meaning.specs.declared.ends.Part.TheVariants as part
+use Rattle.dp_meaning.specs.MachineState.{part_from, part_of, is_any_region, from_region}
 
 pub both : (a b : Bool) → IsTrue (a && b) → IsTrue a × IsTrue b
 both true b h = (refl, h)
@@ -101,3 +104,22 @@ from_region-append [] ys h = refl
 from_region-append (x ∷ xs) ys h =
     let r = both (is_simple x) (all_simple xs) h in
     ap (λ b. if b then x ∷ (xs ++ ys) else from_region (xs ++ ys)) (simple_outer x r.0).1 ∙ from_region-append xs ys r.1
+
+-- the body of a region is simple
+pub body_simple : (s : Stmt) (r : ℕ) (site : SiteId) (cond : Expr) (body : List Stmt) → out-Stmt s ≡ Region r site cond body → IsTrue (is_outer s) → IsTrue (all_simple body)
+body_simple s r site cond body is h = subst True (outer_out s ∙ ap outer_at is) h
+
+plain_form : (h : Stmt-F Stmt) → is_any_region h ≡ false → part_from h ≡ part.Plain
+plain_form (Assign site x e) h = refl
+plain_form (Store site x index e) h = refl
+plain_form (Print site e) h = refl
+plain_form (If site cond a b) h = refl
+plain_form (While site cond a) h = refl
+plain_form (Region r site cond a) h = absurd (cc)
+plain_form (Call f line args) h = refl
+
+-- within such a list no region is next
+pub plain_inside : (body : List Stmt) (made : ℕ) (tail : List Stmt) → made < length body → IsTrue (all_simple body) → part_of (drop made body ++ tail) ≡ part.Plain
+plain_inside [] made tail few h = absurd (omega (arith, few))
+plain_inside (x ∷ xs) zero tail few h = plain_form (out-Stmt x) (simple_outer x (both (is_simple x) (all_simple xs) h).0).1
+plain_inside (x ∷ xs) (suc k) tail few h = plain_inside xs k tail (omega (arith, few)) (both (is_simple x) (all_simple xs) h).1

@@ -1,11 +1,17 @@
 pub mod Runnable
 pub mod MachineState
+pub mod Values
+pub mod Locals
 pub mod Sound
 pub mod Continues
 pub mod Moved
 pub mod PartRun
 pub mod IterationRun
+pub mod Whole
 pub mod Turn
 pub mod Stretch
+pub mod Straight
+pub mod Rounds
+pub mod Ahead
 pub mod Parts
 pub mod Depth

@@ -39,3 +39,12 @@ pub enum IterEnd {
     /// As many steps were made as the call was to make.
     Going,
 }
+
+/// What [`crate::Machine::iterations_ahead`] did.
+#[derive(Clone, Copy, Debug, PartialEq, Eq)]
+pub struct IterationsAhead {
+    /// How many iterations it made whole.
+    pub whole: u64,
+    /// How many steps had been made when the next one began, or will have been when it begins.
+    pub start: u64,
+}

@@ -1,5 +1,6 @@
 //! Changes of a program's memory.
-ghost use Rattle.std.specs.Prelude.{◌≡◌, if◌then◌else◌, pos, slice_set, replicate, length, ◌^◌, ◌<◌, IfOk};
+ghost use Rattle.std.specs.Prelude.{◌≡◌, if◌then◌else◌, ℕ, false, pos, slice_set, replicate, length, ◌^◌, ◌<◌, List, ℤ, IfOk};
+ghost use Rattle.dp_meaning.specs.Locals.{HoldsLocals};
 ghost use Rattle.dp_tree.specs.Step as definition;
 ghost use Rattle.dp_tree.specs.Trace as definition_of_runs;
 
@@ -16,6 +17,7 @@ fn is_local_of(region: u32, scope: VarScope) -> bool
     }
 }
 
+#[inline(always)]
 #[tactic(auto, using(crate::proofs::MemoryLemmas::stores))]
 fn clear_local(region: u32, info: &VarInfo, cells: &mut Cells)
     ensures { cells.new ≡ (if definition.is_local_of region info.now.scope then slice_set cells.old info.now.first.0 (pos 0) else cells.old) }
@@ -26,6 +28,7 @@ fn clear_local(region: u32, info: &VarInfo, cells: &mut Cells)
 }
 
 /// The body locals of the region read 0 afterwards.
+#[inline(always)]
 #[tactic(auto, using(crate::proofs::MemoryLemmas::clears))]
 pub(crate) fn clear_locals(region: u32, vars: &[VarInfo], cells: &mut Cells)
     ensures { cells.new ≡ definition.clear_locals region vars.now cells.old }
@@ -33,6 +36,29 @@ pub(crate) fn clear_locals(region: u32, vars: &[VarInfo], cells: &mut Cells)
     for info in vars {
         clear_local(region, info, cells);
     }
+}
+
+fn is_body_local(scope: VarScope) -> bool
+    ensures { result ≡ false → (region : ℕ) → definition.is_local_of region scope ≡ false }
+{
+    match scope {
+        VarScope::Body(_) => true,
+        VarScope::Global | VarScope::Outer => false,
+    }
+}
+
+/// The variables from the first body local on, so that those before it needn't be looked at again and again.
+pub(crate) fn from_body_locals(vars: &[VarInfo]) -> &[VarInfo]
+    ensures { HoldsLocals vars.now result.now }
+{
+    let mut others = 0;
+    for info in vars {
+        if is_body_local(info.scope) {
+            return vars.split_at(others).1;
+        }
+        others += 1;
+    }
+    vars.split_at(others).1
 }
 
 /// The cells of all variables, one variable after the other, at their start values. More of them than cells have numbers are

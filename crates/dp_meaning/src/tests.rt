@@ -1,4 +1,5 @@
 //! Worked runs: what is printed, how a run ends and how its iterations do, however the turns are cut.
+mod ahead;
 mod build;
 mod faults;
 mod fuel;

@@ -14,7 +14,7 @@ pub returns-in_default-assign-clause-stretch : goal.returns-in_default-assign-cl
 returns-in_default-assign-clause-stretch c =
     let p = c.args.program.now in
     let s = c.in-Some-Assign in
-    let d : Config = record { to_do = c.self.inside.to_do; cells = c.self.inside.cells } in
+    let d : Config = record { to_do = c.self.inside.to_do.list; cells = c.self.inside.cells } in
     let so_far : Stretch p c.args.input.now c.args.self.now c.loop-made.made d = subst (λ (d : Config). Stretch p c.args.input.now c.args.self.now c.loop-made.made d) (sym c.self.view_is) c.loop-made.invariant in
     let taken = step_by p s.site d.cells (evaluated p c.args.input.now d.cells (Assign s.site s.var s.value)) (λ (z : ℤ). drop 1 d.to_do) in
     let made : Made taken c.assign.result d c.assign.new.self [] [] = search rules in
@@ -25,7 +25,7 @@ pub loop-made-preserved : goal.loop-made-preserved
 loop-made-preserved c =
     let p = c.args.program.now in
     let s = c.in-Some-Assign in
-    let d : Config = record { to_do = c.self.inside.to_do; cells = c.self.inside.cells } in
+    let d : Config = record { to_do = c.self.inside.to_do.list; cells = c.self.inside.cells } in
     let so_far : Stretch p c.args.input.now c.args.self.now c.loop-made.made d = subst (λ (d : Config). Stretch p c.args.input.now c.args.self.now c.loop-made.made d) (sym c.self.view_is) c.loop-made.invariant in
     let is = sym c.head.ensures ∙ ap option_copied s.is ∙ ap Some s.field-0-is in
     let made : Made (step_by p s.site d.cells (evaluated p c.args.input.now d.cells (Assign s.site s.var s.value)) (λ (z : ℤ). drop 1 d.to_do)) c.assign.result d c.assign.new.self [] [] = search rules in

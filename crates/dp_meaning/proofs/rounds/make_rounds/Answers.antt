@@ -1,0 +1,41 @@
+use Rattle.std.proofs.Common.{rules, ◌≡◌, refl, ◌∙◌, sym, subst, ℕ, ◌+◌, ◌≤◌, false, List, [], length, ℤ, Ok, arith}
+use Rattle.std.proofs.lemmas.List.{drop_all}
+use Rattle.dp_base.specs.Arithmetic.{is_zero}
+use Rattle.dp_tree.specs.declared.Stmt.{Stmt}
+use Rattle.dp_tree.specs.Eval.{eval, result_of}
+use Rattle.dp_tree.specs.Step.{clear_locals}
+use Rattle.dp_meaning.specs.Straight.{Straight}
+use Rattle.dp_meaning.specs.Rounds.{Holds, WholeRounds, none, more}
+use Rattle.dp_meaning.proofs.rounds.make_rounds.Goals as goal
+
+pub rounds-init : goal.rounds-init
+rounds-init c = record { whole = none; front = refl; within = omega arith; paced = omega arith }
+
+pub rounds-preserved : goal.rounds-preserved
+rounds-preserved c =
+    let p = c.args.program.now in
+    let input = c.args.input.now in
+    let body = c.args.body.now in
+    let inv = c.rounds.invariant in
+    let some = c.straight-made.ensures.within in
+    let none_left = c.if-made-body.false in
+    let all : c.straight-made.result ≡ length body = omega arith in
+    let enough : length body ≤ c.straight-made.result = omega arith in
+    let gives : result_of (eval p input c.rounds.cells c.args.cond.now) ≡ Ok c.in-Some.value = search rules in
+    let inside : is_zero c.in-Some.value ≡ false = search rules in
+    let holds : Holds p input c.args.cond.now c.rounds.cells = record { value = c.in-Some.value; is = gives; inside = inside } in
+    let so : Straight p input body c.rounds.cells (length body) [] c.straight-made.new.cells =
+    subst (λ (n : ℕ). Straight p input body c.rounds.cells n [] c.straight-made.new.cells) all
+    (subst (λ (rest : List Stmt). Straight p input body c.rounds.cells c.straight-made.result rest c.straight-made.new.cells) (drop_all c.straight-made.result body enough) c.straight-made.ensures.stored) in
+    let cleared : clear_locals c.args.region p.vars c.straight-made.new.cells ≡ c.clear_locals.new.cells =
+    sym (c.requires.locals c.args.region c.straight-made.new.cells) ∙ sym c.clear_locals.ensures in
+    let room = c.if-left-rounds.false in
+    let within = inv.within in
+    let paced = inv.paced in
+    record {
+      whole = subst (λ (cells : List ℤ). WholeRounds p input c.args.region c.args.cond.now body c.args.cells.now (c.rounds.rounds.whole + 1) (c.rounds.rounds.steps + (length body + 1)) cells) cleared
+          (more inv.whole holds so);
+      front = inv.front;
+      within = omega arith;
+      paced = omega arith;
+    }

@@ -1,0 +1,49 @@
+//! What statements evaluate, beside the values of their expressions.
+ghost use Rattle.std.specs.Prelude.{◌≡◌, ◌<◌, Ok, Err, MatchResult};
+ghost use Rattle.dp_tree.specs.Eval.{result_of};
+ghost use Rattle.dp_tree.specs.Step as definition;
+ghost use Rattle.dp_tree.specs.Step.{evaluated, choose, Stored};
+ghost use Rattle.dp_tree.specs.declared.Stmt.TheOpen as layer;
+
+use crate::evaluate::{count_of, first_of, is_zero, placed, value_of};
+use dp_base::{Fault, FaultKind, SiteId, VarId};
+use dp_tree::{Expr, Program, Stmt};
+
+/// The element's cell and the value to be stored there. The index comes first, then the value, then the bound.
+#[tactic(auto, using(crate::proofs::EvaluatedLemmas::elements))]
+pub(crate) fn element(
+    program: &Program,
+    input: &[i64],
+    cells: &[i64],
+    var: VarId,
+    index: &Expr,
+    value: &Expr,
+) -> Result<(usize, i64), FaultKind>
+    ensures { let evaluation = result_of (evaluated program.now input.now cells.now (layer.Store (record { 0 = 0 }) var index.now value.now)) in
+        MatchResult result (λ store. evaluation ≡ Ok (Stored store.0 store.1)) (λ kind. evaluation ≡ Err kind) }
+{
+    let i = value_of(program, input, cells, index)?;
+    let value = value_of(program, input, cells, value)?;
+    let place = placed(i, count_of(program, var))?;
+    Ok((first_of(program, var) + place, value))
+}
+
+pub(crate) fn chosen<'p>(value: i64, then_part: &'p [Stmt], else_part: &'p [Stmt]) -> &'p [Stmt]
+    ensures { result.now ≡ choose value then_part.now else_part.now }
+{
+    if is_zero(value) { else_part } else { then_part }
+}
+
+pub(crate) fn fault_at(program: &Program, site: SiteId, kind: FaultKind) -> Fault
+    ensures { result ≡ record { kind = kind; line = definition.line_of program.now site } }
+{
+    let line = match program
+        .sites
+        .as_slice()
+        .get(site.0.saturating_sub(1) as usize)
+    {
+        Some(info) => info.line,
+        None => 0,
+    };
+    Fault { kind, line }
+}
