@@ -40,12 +40,12 @@ joined region old mid new end a b = record {
   call = iteration_join region a.turns b.turns old mid new a.before a.after (a.after ++ prints b.call.events) a.some a.call end (iteration_after region b.turns mid new b.before b.after a.after end b.call);
 }
 
-steps_by : (region : ℕ) (old mid new : MachineState) (end : IterEnd) → (mid ≡ old) ⊎ IterationSteps region old mid Going → IterationSteps region mid new end → IterationSteps region old new end
+pub steps_by : (region : ℕ) (old mid new : MachineState) (end : IterEnd) → (mid ≡ old) ⊎ IterationSteps region old mid Going → IterationSteps region mid new end → IterationSteps region old new end
 steps_by region old mid new end (inl e) b = subst (λ (m : MachineState). IterationSteps region m new end) e b
 steps_by region old mid new end (inr a) b = joined region old mid new end a b
 
 -- An iteration that goes on is under way.
-goes_on_at : (region : ℕ) (mid new : MachineState) → IterationSteps region mid new Going → next_part new ≡ Region region
+pub goes_on_at : (region : ℕ) (mid new : MachineState) → IterationSteps region mid new Going → next_part new ≡ Region region
 goes_on_at region mid new s =
     ap (λ (o : Option ℕ). part_at o new.config.to_do) (s.call.stops.0.current ∙ under_way region mid.current s.call.events (omega (arith, s.some, s.call.stops.2)))
 

@@ -8,6 +8,7 @@ pub mod ListingLemmas
 pub mod PartLemmas
 pub mod IterationLemmas
 pub mod RegionLemmas
+pub mod AheadLemmas
 pub mod NextLemmas
 pub mod EndingLemmas
 pub mod LoadLemmas

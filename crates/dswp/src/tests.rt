@@ -71,3 +71,34 @@ fn gives(
 ) -> Result<(), NoMemory> {
     gives_with(rt, alloc, words, held, &[], None, status, text)
 }
+
+/// `run` on a program alone.
+fn run_gives(
+    rt: &impl Abort,
+    alloc: Global,
+    program: &[u8],
+    status: u8,
+    text: &[u8],
+) -> Result<(), NoMemory> {
+    gives(
+        rt,
+        alloc,
+        &["run", "p.c"],
+        &[("p.c", program)],
+        status,
+        text,
+    )
+}
+
+/// `run` on a program and an input.
+fn run_on_gives(
+    rt: &impl Abort,
+    alloc: Global,
+    program: &[u8],
+    input: &[u8],
+    status: u8,
+    text: &[u8],
+) -> Result<(), NoMemory> {
+    let held = [("p.c", program), ("in.txt", input)];
+    gives(rt, alloc, &["run", "p.c", "in.txt"], &held, status, text)
+}

@@ -16,7 +16,7 @@ use dp_meaning::Machine;
 use std::alloc::Global;
 
 /// An iteration with more steps doesn't fit the one stage that runs the region.
-const STAGE_WORDS: u64 = 4096;
+const STAGE_WORDS: u32 = 4096;
 
 /// So many of the iterations that are executed again have their numbers in the report.
 const LISTED: usize = 1000;
@@ -43,17 +43,18 @@ pub fn run_region<'p, K: Sink>(
         recovered: Row::new(alloc),
     };
     'iterations: loop {
-        let before = machine.steps();
+        let ahead = machine.iterations_ahead(STAGE_WORDS);
+        report.iterations += ahead.whole;
         let iterated = finish_iteration(alloc, machine, waiting, sink)?;
-        let after = machine.steps();
+        let steps = machine.steps();
         match iterated {
-            Iterated::Next => count_ended(&mut report, after - before)?,
+            Iterated::Next => count_ended(&mut report, steps - ahead.start)?,
             Iterated::Closed => {
                 report.iterations += 1;
                 return Ok((report, None));
             }
             Iterated::Ended(end) => {
-                if before < machine.fuel() {
+                if ahead.start < machine.fuel() {
                     count_again(&mut report)?;
                 }
                 return Ok((report, Some(end)));
@@ -70,7 +71,7 @@ fn count_ended(report: &mut RegionReport, size: u64) -> Result<(), NoMemory>
     ensures iterations { OnOk result (report.new.iterations ≡ report.old.iterations + 1) }
     ensures again { OnOk result ((again : List ℕ) → Lists again report.old → Lists (again ++ listed size report.old.iterations) report.new) }
 {
-    if size > STAGE_WORDS {
+    if size > STAGE_WORDS as u64 {
         return count_again(report);
     }
     report.iterations += 1;

@@ -1,6 +1,6 @@
 //! Calls of functions.
-use super::gives;
 use super::programs::{ADDS, WORD_TABLE};
+use super::{gives, run_gives, run_on_gives};
 use dp_base::{NoMemory, Row};
 use std::alloc::Global;
 use std::test::Fail;
@@ -99,14 +99,7 @@ const CALLED: &[Called] = &[
 #[test]
 fn functions_are_called(rt: HostRuntime) -> Result<(), Fail> {
     for (program, status, text) in CALLED.iter().copied() {
-        gives(
-            &rt,
-            rt.alloc(),
-            &["run", "p.c"],
-            &[("p.c", program)],
-            status,
-            text,
-        )?;
+        run_gives(&rt, rt.alloc(), program, status, text)?;
     }
     Ok(())
 }
@@ -145,14 +138,7 @@ fn expanded_programs_have_their_limits(rt: HostRuntime) -> Result<(), Fail> {
     ];
     for (last, status, text) in rows {
         let program = doubling(rt.alloc(), last)?;
-        gives(
-            &rt,
-            rt.alloc(),
-            &["run", "p.c"],
-            &[("p.c", program.as_slice())],
-            status,
-            text,
-        )?;
+        run_gives(&rt, rt.alloc(), program.as_slice(), status, text)?;
     }
     Ok(())
 }
@@ -178,11 +164,10 @@ fn calls_count_in_a_region(rt: HostRuntime) -> Result<(), Fail> {
         program.extend_from_slice(b"g=1;")?;
     }
     program.extend_from_slice(b"} int main() {\n#pragma dswp\nwhile (g < 0) { f(); f(); } }")?;
-    gives(
+    run_gives(
         &rt,
         rt.alloc(),
-        &["run", "p.c"],
-        &[("p.c", program.as_slice())],
+        program.as_slice(),
         9,
         b"limit region-sites 1025\n",
     )?;
@@ -192,11 +177,11 @@ fn calls_count_in_a_region(rt: HostRuntime) -> Result<(), Fail> {
 #[test]
 fn a_table_of_words(rt: HostRuntime) -> Result<(), Fail> {
     let input = digits(rt.alloc(), 200)?;
-    gives(
+    run_on_gives(
         &rt,
         rt.alloc(),
-        &["run", "p.c", "in.txt"],
-        &[("p.c", WORD_TABLE), ("in.txt", input.as_slice())],
+        WORD_TABLE,
+        input.as_slice(),
         0,
         b"10
 9000

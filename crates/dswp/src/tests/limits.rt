@@ -1,6 +1,6 @@
 //! Counts above their limits.
-use super::gives;
 use super::programs::SKIP_NEGATIVE;
+use super::{run_gives, run_on_gives};
 use dp_base::{NoMemory, Row};
 use std::alloc::Global;
 use std::test::Fail;
@@ -21,165 +21,169 @@ fn repeated(
     Ok(text)
 }
 
+/// A front, a piece so many times, and a back; the status and the text that `run` gives.
+type Case = (
+    &'static [u8],
+    &'static [u8],
+    usize,
+    &'static [u8],
+    u8,
+    &'static [u8],
+);
+
+const PROGRAMS: [Case; 19] = [
+    (
+        b"int main() { }",
+        b" ",
+        65_536 - 14,
+        b"",
+        0,
+        b"state\nend done\n",
+    ),
+    (
+        b"int main() { }",
+        b" ",
+        65_537 - 14,
+        b"",
+        9,
+        b"limit program-bytes 65537\n",
+    ),
+    (
+        b"int main() {",
+        b"if (1) {",
+        63,
+        b"}}}}}}}}}}}}}}}}}}}}}}}}}}}}}}}}}}}}}}}}}}}}}}}}}}}}}}}}}}}}}}}}",
+        0,
+        b"state\nend done\n",
+    ),
+    (
+        b"int main() {",
+        b"if (1) {",
+        64,
+        b"}}}}}}}}}}}}}}}}}}}}}}}}}}}}}}}}}}}}}}}}}}}}}}}}}}}}}}}}}}}}}}}}}",
+        9,
+        b"limit nesting 65\n",
+    ),
+    (b"", b"{", 65, b"", 9, b"limit nesting 65\n"),
+    (
+        b"int main() { print(0",
+        b"+1",
+        63,
+        b"); }",
+        0,
+        b"63\nstate\nend done\n",
+    ),
+    (
+        b"int main() { print(0",
+        b"+1",
+        64,
+        b"); }",
+        9,
+        b"limit operators 65\n",
+    ),
+    (
+        b"int main() { if (0) { }",
+        b" else if (0) { }",
+        256,
+        b" }",
+        0,
+        b"state\nend done\n",
+    ),
+    (
+        b"int main() { if (0) { }",
+        b" else if (0) { }",
+        257,
+        b" }",
+        9,
+        b"limit else-if 257\n",
+    ),
+    (
+        b"int a[65537]; int main() { }",
+        b"",
+        0,
+        b"",
+        9,
+        b"limit cells 65537\n",
+    ),
+    (
+        b"int a[65536]; int b; int main() { }",
+        b"",
+        0,
+        b"",
+        9,
+        b"limit cells 65537\n",
+    ),
+    (
+        b"int a[9223372036854775807]; int b[9223372036854775807]; int main() { }",
+        b"",
+        0,
+        b"",
+        9,
+        b"limit cells 1000000\n",
+    ),
+    (
+        b"int main() {",
+        b"print(1);",
+        0,
+        b"}",
+        0,
+        b"state\nend done\n",
+    ),
+    (
+        b"int x; int main() {",
+        b"x=1;",
+        8_192,
+        b"}",
+        0,
+        b"state\nx 1\nend done\n",
+    ),
+    (
+        b"int x; int main() {",
+        b"x=1;",
+        8_193,
+        b"}",
+        9,
+        b"limit inlined-size 8193\n",
+    ),
+    (
+        b"int main() { #pragma dswp while (0) {",
+        b"print(1);",
+        1_023,
+        b"} }",
+        0,
+        b"state\nregion 1 iterations 1 recovered 0\nend done\n",
+    ),
+    (
+        b"int main() { #pragma dswp while (0) {",
+        b"print(1);",
+        1_024,
+        b"} }",
+        9,
+        b"limit region-sites 1025\n",
+    ),
+    (
+        b"int x; int main() { y = 1; int a = 1; ",
+        b"",
+        0,
+        b"}",
+        3,
+        b"refused program unknown line 1\n",
+    ),
+    (
+        b"int a[65537]; int main() { y = 1; }",
+        b"",
+        0,
+        b"",
+        3,
+        b"refused program unknown line 1\n",
+    ),
+];
+
 #[test]
 fn programs_at_and_above_their_limits(rt: HostRuntime) -> Result<(), Fail> {
-    let rows: [(&[u8], &[u8], usize, &[u8], u8, &[u8]); 19] = [
-        (
-            b"int main() { }",
-            b" ",
-            65_536 - 14,
-            b"",
-            0,
-            b"state\nend done\n",
-        ),
-        (
-            b"int main() { }",
-            b" ",
-            65_537 - 14,
-            b"",
-            9,
-            b"limit program-bytes 65537\n",
-        ),
-        (
-            b"int main() {",
-            b"if (1) {",
-            63,
-            b"}}}}}}}}}}}}}}}}}}}}}}}}}}}}}}}}}}}}}}}}}}}}}}}}}}}}}}}}}}}}}}}}",
-            0,
-            b"state\nend done\n",
-        ),
-        (
-            b"int main() {",
-            b"if (1) {",
-            64,
-            b"}}}}}}}}}}}}}}}}}}}}}}}}}}}}}}}}}}}}}}}}}}}}}}}}}}}}}}}}}}}}}}}}}",
-            9,
-            b"limit nesting 65\n",
-        ),
-        (b"", b"{", 65, b"", 9, b"limit nesting 65\n"),
-        (
-            b"int main() { print(0",
-            b"+1",
-            63,
-            b"); }",
-            0,
-            b"63\nstate\nend done\n",
-        ),
-        (
-            b"int main() { print(0",
-            b"+1",
-            64,
-            b"); }",
-            9,
-            b"limit operators 65\n",
-        ),
-        (
-            b"int main() { if (0) { }",
-            b" else if (0) { }",
-            256,
-            b" }",
-            0,
-            b"state\nend done\n",
-        ),
-        (
-            b"int main() { if (0) { }",
-            b" else if (0) { }",
-            257,
-            b" }",
-            9,
-            b"limit else-if 257\n",
-        ),
-        (
-            b"int a[65537]; int main() { }",
-            b"",
-            0,
-            b"",
-            9,
-            b"limit cells 65537\n",
-        ),
-        (
-            b"int a[65536]; int b; int main() { }",
-            b"",
-            0,
-            b"",
-            9,
-            b"limit cells 65537\n",
-        ),
-        (
-            b"int a[9223372036854775807]; int b[9223372036854775807]; int main() { }",
-            b"",
-            0,
-            b"",
-            9,
-            b"limit cells 1000000\n",
-        ),
-        (
-            b"int main() {",
-            b"print(1);",
-            0,
-            b"}",
-            0,
-            b"state\nend done\n",
-        ),
-        (
-            b"int x; int main() {",
-            b"x=1;",
-            8_192,
-            b"}",
-            0,
-            b"state\nx 1\nend done\n",
-        ),
-        (
-            b"int x; int main() {",
-            b"x=1;",
-            8_193,
-            b"}",
-            9,
-            b"limit inlined-size 8193\n",
-        ),
-        (
-            b"int main() { #pragma dswp while (0) {",
-            b"print(1);",
-            1_023,
-            b"} }",
-            0,
-            b"state\nregion 1 iterations 1 recovered 0\nend done\n",
-        ),
-        (
-            b"int main() { #pragma dswp while (0) {",
-            b"print(1);",
-            1_024,
-            b"} }",
-            9,
-            b"limit region-sites 1025\n",
-        ),
-        (
-            b"int x; int main() { y = 1; int a = 1; ",
-            b"",
-            0,
-            b"}",
-            3,
-            b"refused program unknown line 1\n",
-        ),
-        (
-            b"int a[65537]; int main() { y = 1; }",
-            b"",
-            0,
-            b"",
-            3,
-            b"refused program unknown line 1\n",
-        ),
-    ];
-    for (front, piece, times, back, status, text) in rows {
+    for (front, piece, times, back, status, text) in PROGRAMS {
         let program = repeated(rt.alloc(), front, piece, times, back)?;
-        gives(
-            &rt,
-            rt.alloc(),
-            &["run", "p.c"],
-            &[("p.c", program.as_slice())],
-            status,
-            text,
-        )?;
+        run_gives(&rt, rt.alloc(), program.as_slice(), status, text)?;
     }
     Ok(())
 }
@@ -198,14 +202,7 @@ fn functions_at_and_above_their_limit(rt: HostRuntime) -> Result<(), Fail> {
             )?.as_bytes())?;
         }
         program.extend_from_slice(b"int main() { }")?;
-        gives(
-            &rt,
-            rt.alloc(),
-            &["run", "p.c"],
-            &[("p.c", program.as_slice())],
-            status,
-            text,
-        )?;
+        run_gives(&rt, rt.alloc(), program.as_slice(), status, text)?;
     }
     Ok(())
 }
@@ -231,11 +228,11 @@ fn inputs_at_and_above_their_limits(rt: HostRuntime) -> Result<(), Fail> {
     ];
     for (piece, times, status, text) in rows {
         let input = repeated(rt.alloc(), b"", piece, times, b"")?;
-        gives(
+        run_on_gives(
             &rt,
             rt.alloc(),
-            &["run", "p.c", "in.txt"],
-            &[("p.c", SKIP_NEGATIVE), ("in.txt", input.as_slice())],
+            SKIP_NEGATIVE,
+            input.as_slice(),
             status,
             text,
         )?;

@@ -1,37 +1,38 @@
 //! Words and texts that are refused, and reads that fail.
 use super::programs::{SKIP_NEGATIVE, SUM_LOOP};
-use super::{gives, gives_with};
+use super::{gives, gives_with, run_gives};
 use std::test::Fail;
+
+const NOT_TAKEN: [&[&str]; 24] = [
+    &[],
+    &["run"],
+    &["walk", "p.c"],
+    &["Run", "p.c"],
+    &["run", "-p.c"],
+    &["run", "p.c", "in.txt", "more"],
+    &["run", "p.c", "--fuel"],
+    &["run", "p.c", "--fuel", ""],
+    &["run", "p.c", "--fuel", "-1"],
+    &["run", "p.c", "--fuel", "+1"],
+    &["run", "p.c", "--fuel", "1x"],
+    &["run", "p.c", "--fuel", "1000000001"],
+    &["run", "p.c", "--fuel", "00000000001"],
+    &["run", "p.c", "--fuel=5"],
+    &["run", "p.c", "--fuel", "5", "--fuel", "5"],
+    &["run", "p.c", "--fuel", "5", "in.txt"],
+    &["run", "--fuel", "5", "p.c"],
+    &["run", "p.c", "--workers", "9"],
+    &["run", "p.c", "--plan", "a", "--profile", "b"],
+    &["check"],
+    &["check", "-p.c"],
+    &["check", "p.c", "in.txt"],
+    &["check", "p.c", "--fuel", "5"],
+    &["run", "p.c", "-"],
+];
 
 #[test]
 fn words_that_are_not_taken(rt: HostRuntime) -> Result<(), Fail> {
-    let rows: [&[&str]; 24] = [
-        &[],
-        &["run"],
-        &["walk", "p.c"],
-        &["Run", "p.c"],
-        &["run", "-p.c"],
-        &["run", "p.c", "in.txt", "more"],
-        &["run", "p.c", "--fuel"],
-        &["run", "p.c", "--fuel", ""],
-        &["run", "p.c", "--fuel", "-1"],
-        &["run", "p.c", "--fuel", "+1"],
-        &["run", "p.c", "--fuel", "1x"],
-        &["run", "p.c", "--fuel", "1000000001"],
-        &["run", "p.c", "--fuel", "00000000001"],
-        &["run", "p.c", "--fuel=5"],
-        &["run", "p.c", "--fuel", "5", "--fuel", "5"],
-        &["run", "p.c", "--fuel", "5", "in.txt"],
-        &["run", "--fuel", "5", "p.c"],
-        &["run", "p.c", "--workers", "9"],
-        &["run", "p.c", "--plan", "a", "--profile", "b"],
-        &["check"],
-        &["check", "-p.c"],
-        &["check", "p.c", "in.txt"],
-        &["check", "p.c", "--fuel", "5"],
-        &["run", "p.c", "-"],
-    ];
-    for words in rows {
+    for words in NOT_TAKEN {
         gives(
             &rt,
             rt.alloc(),
@@ -41,6 +42,11 @@ fn words_that_are_not_taken(rt: HostRuntime) -> Result<(), Fail> {
             b"refused words\n",
         )?;
     }
+    Ok(())
+}
+
+#[test]
+fn leading_zeros_of_a_fuel_are_taken(rt: HostRuntime) -> Result<(), Fail> {
     gives(
         &rt,
         rt.alloc(),
@@ -181,14 +187,7 @@ fn programs_that_are_refused(rt: HostRuntime) -> Result<(), Fail> {
         ),
     ];
     for (program, text) in rows {
-        gives(
-            &rt,
-            rt.alloc(),
-            &["run", "p.c"],
-            &[("p.c", program)],
-            3,
-            text,
-        )?;
+        run_gives(&rt, rt.alloc(), program, 3, text)?;
     }
     Ok(())
 }

@@ -3,7 +3,7 @@ use super::programs::{
     EMPTY, HISTOGRAM, LONG_ITERATION, NO_ITERATION, SKIP_NEGATIVE, STALE_READ, STALE_STEP,
     SUM_LOOP, ZERO_DIVISOR,
 };
-use super::{gives, gives_with};
+use super::{gives, gives_with, run_gives, run_on_gives};
 use dp_base::Row;
 use std::test::Fail;
 
@@ -49,14 +49,7 @@ fn programs_without_input(rt: HostRuntime) -> Result<(), Fail> {
         ),
     ];
     for (program, status, text) in rows {
-        gives(
-            &rt,
-            rt.alloc(),
-            &["run", "p.c"],
-            &[("p.c", program)],
-            status,
-            text,
-        )?;
+        run_gives(&rt, rt.alloc(), program, status, text)?;
     }
     Ok(())
 }
@@ -140,14 +133,7 @@ fn programs_with_input(rt: HostRuntime) -> Result<(), Fail> {
         ),
     ];
     for (program, input, status, text) in rows {
-        gives(
-            &rt,
-            rt.alloc(),
-            &["run", "p.c", "in.txt"],
-            &[("p.c", program), ("in.txt", input)],
-            status,
-            text,
-        )?;
+        run_on_gives(&rt, rt.alloc(), program, input, status, text)?;
     }
     Ok(())
 }
@@ -220,14 +206,7 @@ fn arithmetic_and_its_faults(rt: HostRuntime) -> Result<(), Fail> {
         let mut program = Row::from_slice(rt.alloc(), b"int x; int a[2]; int main() { ")?;
         program.extend_from_slice(statements)?;
         program.extend_from_slice(b" }")?;
-        gives(
-            &rt,
-            rt.alloc(),
-            &["run", "p.c"],
-            &[("p.c", program.as_slice())],
-            status,
-            text,
-        )?;
+        run_gives(&rt, rt.alloc(), program.as_slice(), status, text)?;
     }
     Ok(())
 }
@@ -254,14 +233,7 @@ fn the_default_fuel_is_ten_million_steps(rt: HostRuntime) -> Result<(), Fail> {
             program.extend_from_slice(b" x = 1;")?;
         }
         program.extend_from_slice(b" } }")?;
-        gives(
-            &rt,
-            rt.alloc(),
-            &["run", "p.c"],
-            &[("p.c", program.as_slice())],
-            8,
-            text,
-        )?;
+        run_gives(&rt, rt.alloc(), program.as_slice(), 8, text)?;
     }
     Ok(())
 }

@@ -1,61 +1,204 @@
-use Rattle.std.proofs.Common.{◌≡◌, refl, ◌∙◌, sym, subst, ◌+◌, ◌-◌, ◌<◌, ◌≤◌, Some, arith}
+use Rattle.std.proofs.Common.{rules, ◌≡◌, refl, ◌∙◌, sym, subst, ◌+◌, ◌-◌, ◌<◌, ◌≤◌, List, ℤ, Some, arith}
 use Rattle.dp_base.specs.declared.RegionReport.{RegionReport}
+use Rattle.dp_meaning.specs.declared.ends.Part.{Part}
+use Rattle.dp_meaning.specs.MachineState.{IsAnyRegion}
 use Rattle.dswp.specs.declared.execute.iteration.Iterated.{Iterated}
-use Rattle.dswp.specs.Stretches.{IterationMade, RegionMade}
-use Rattle.dswp.proofs.StreamLemmas.{emits_on, emits_stopped, streams_stopped}
-use Rattle.dswp.proofs.RegionLemmas.{next_steps, region_goes_on, region_closes, region_breaks, region_spends}
+use Rattle.dswp.specs.declared.execute.iteration.Iterated.TheVariants.{Next, Closed, Ended}
+use Rattle.dswp.specs.Output.{Emits}
+use Rattle.dswp.specs.Stretches.{to_come, IterationMade, RegionMade}
+use Rattle.dswp.proofs.StreamLemmas.{emits_on, emits_front, emits_stopped, streams_stopped}
+use Rattle.dswp.proofs.RegionLemmas.{region_goes_on, region_closes, region_breaks, region_spends}
+use Rattle.dswp.proofs.AheadLemmas.{with_more, went_on, went_same, went_rises, rest_made, rest_rises, rest_next, rest_closed}
 use Rattle.dswp.proofs.execute.region.run_region.Goals as goal
-use Rattle.dswp.proofs.execute.region.run_region.Goals.{then-before-fuel+in_ok-count_again-in-Ended, else-before-fuel}
+use Rattle.dswp.proofs.execute.region.run_region.Goals.{then-ahead-fuel+in_ok-count_again-in-Ended, else-ahead-fuel}
+
+pub overflow_add-report : goal.overflow_add-report
+overflow_add-report g c =
+    let so_far = c.iterations.invariant.so_far in
+    let went = c.iterations_ahead-ahead.ensures.ahead c.args.region so_far.at in
+    let r = went_on c.args.region c.args.machine.now c.iterations.machine c.iterations_ahead-ahead.new.self c.iterations.report c.iterations_ahead-ahead.result so_far went in
+    let paced = r.so_far.paced in
+    let start = r.start in
+    let fits : c.iterations_ahead-ahead.result.start < 18446744073709551616 = search rules in
+    omega arith
+
+pub finish_iteration-requires-clause-part : goal.finish_iteration-requires-clause-part
+finish_iteration-requires-clause-part g c =
+    let so_far = c.iterations.invariant.so_far in
+    let went = c.iterations_ahead-ahead.ensures.ahead c.args.region so_far.at in
+    let r = went_on c.args.region c.args.machine.now c.iterations.machine c.iterations_ahead-ahead.new.self c.iterations.report c.iterations_ahead-ahead.result so_far went in
+    subst IsAnyRegion (sym r.at) tt
+
+pub returns-in_err-iterated-clause-streams : goal.returns-in_err-iterated-clause-streams
+returns-in_err-iterated-clause-streams g c =
+    let so_far = c.iterations.invariant.so_far in
+    let went = c.iterations_ahead-ahead.ensures.ahead c.args.region so_far.at in
+    let r = went_on c.args.region c.args.machine.now c.iterations.machine c.iterations_ahead-ahead.new.self c.iterations.report c.iterations_ahead-ahead.result so_far went in
+    let same = went_same c.args.region c.args.machine.now c.iterations.machine c.iterations_ahead-ahead.new.self c.iterations.report c.iterations_ahead-ahead.result went c.iterations.waiting in
+    let emits = subst (λ (xs : List ℤ). Emits (to_come c.args.waiting.now c.args.machine.now) xs (g.K.Sink.written c.args.sink.now) (g.K.Sink.written c.iterations.sink)) same c.iterations.invariant.emits in
+    streams_stopped _ _ _ _ _ c.from_residual.ensures.0 (emits_front _ _ _ _ _ emits c.in_err-iterated.ensures.streams)
+
+pub overflow_sub-steps : goal.overflow_sub-steps
+overflow_sub-steps g c =
+    let so_far = c.iterations.invariant.so_far in
+    let went = c.iterations_ahead-ahead.ensures.ahead c.args.region so_far.at in
+    let r = went_on c.args.region c.args.machine.now c.iterations.machine c.iterations_ahead-ahead.new.self c.iterations.report c.iterations_ahead-ahead.result so_far went in
+    let made : IterationMade c.args.region c.iterations_ahead-ahead.new.self c.finish_iteration.new.machine Next =
+    subst (λ (x : Iterated). IterationMade c.args.region c.iterations_ahead-ahead.new.self c.finish_iteration.new.machine x) c.in-Next.is (c.in_ok-iterated.ensures.ok c.args.region r.at) in
+    let whole = rest_made c.args.region c.args.machine.now c.iterations.machine c.iterations_ahead-ahead.new.self c.iterations.report c.iterations_ahead-ahead.result r c.finish_iteration.new.machine Next made in
+    let rises = rest_next c.args.region c.args.machine.now c.iterations.machine c.iterations_ahead-ahead.new.self c.iterations.report c.iterations_ahead-ahead.result r c.finish_iteration.new.machine made in
+    let value = c.steps-steps.ensures.value in
+    omega arith
+
+pub count_ended-requires-clause-iterations : goal.count_ended-requires-clause-iterations
+count_ended-requires-clause-iterations g c =
+    let so_far = c.iterations.invariant.so_far in
+    let went = c.iterations_ahead-ahead.ensures.ahead c.args.region so_far.at in
+    let r = went_on c.args.region c.args.machine.now c.iterations.machine c.iterations_ahead-ahead.new.self c.iterations.report c.iterations_ahead-ahead.result so_far went in
+    let made : IterationMade c.args.region c.iterations_ahead-ahead.new.self c.finish_iteration.new.machine Next =
+    subst (λ (x : Iterated). IterationMade c.args.region c.iterations_ahead-ahead.new.self c.finish_iteration.new.machine x) c.in-Next.is (c.in_ok-iterated.ensures.ok c.args.region r.at) in
+    let whole = rest_made c.args.region c.args.machine.now c.iterations.machine c.iterations_ahead-ahead.new.self c.iterations.report c.iterations_ahead-ahead.result r c.finish_iteration.new.machine Next made in
+    let rises = rest_next c.args.region c.args.machine.now c.iterations.machine c.iterations_ahead-ahead.new.self c.iterations.report c.iterations_ahead-ahead.result r c.finish_iteration.new.machine made in
+    let paced = r.so_far.paced in
+    let start = r.start in
+    let value = c.steps-steps.ensures.value in
+    let fits : c.steps-steps.result < 18446744073709551616 = search rules in
+    omega arith
+
+pub iterations-smaller : goal.iterations-smaller
+iterations-smaller g c =
+    let so_far = c.iterations.invariant.so_far in
+    let went = c.iterations_ahead-ahead.ensures.ahead c.args.region so_far.at in
+    let r = went_on c.args.region c.args.machine.now c.iterations.machine c.iterations_ahead-ahead.new.self c.iterations.report c.iterations_ahead-ahead.result so_far went in
+    let made : IterationMade c.args.region c.iterations_ahead-ahead.new.self c.finish_iteration.new.machine Next =
+    subst (λ (x : Iterated). IterationMade c.args.region c.iterations_ahead-ahead.new.self c.finish_iteration.new.machine x) c.in-Next.is (c.in_ok-iterated.ensures.ok c.args.region r.at) in
+    let whole = rest_made c.args.region c.args.machine.now c.iterations.machine c.iterations_ahead-ahead.new.self c.iterations.report c.iterations_ahead-ahead.result r c.finish_iteration.new.machine Next made in
+    let rises = rest_next c.args.region c.args.machine.now c.iterations.machine c.iterations_ahead-ahead.new.self c.iterations.report c.iterations_ahead-ahead.result r c.finish_iteration.new.machine made in
+    let grown = went_rises c.args.region c.args.machine.now c.iterations.machine c.iterations_ahead-ahead.new.self c.iterations.report c.iterations_ahead-ahead.result went in
+    let value = c.steps-steps.ensures.value in
+    let within = c.steps-steps.ensures.within in
+    let later = made.call.moved.fuel in
+    let rose = grown.0 in
+    let kept = grown.1 in
+    omega arith
 
 pub iterations-preserved : goal.iterations-preserved
 iterations-preserved g c =
     let so_far = c.iterations.invariant.so_far in
-    let made = subst (λ (x : Iterated). IterationMade c.args.region c.iterations.machine c.finish_iteration.new.machine x) c.in-Next.is (c.in_ok-iterated.ensures.ok c.args.region so_far.at) in
-    let size = c.steps-after.result - c.steps-before.result in
-    let rises = next_steps c.args.region c.args.machine.now c.iterations.machine c.finish_iteration.new.machine c.iterations.report so_far made in
-    let steps : c.finish_iteration.new.machine.steps ≡ c.iterations.machine.steps + size = omega (arith, rises, c.steps-before.ensures.value, c.steps-after.ensures.value) in
+    let went = c.iterations_ahead-ahead.ensures.ahead c.args.region so_far.at in
+    let r = went_on c.args.region c.args.machine.now c.iterations.machine c.iterations_ahead-ahead.new.self c.iterations.report c.iterations_ahead-ahead.result so_far went in
+    let made : IterationMade c.args.region c.iterations_ahead-ahead.new.self c.finish_iteration.new.machine Next =
+    subst (λ (x : Iterated). IterationMade c.args.region c.iterations_ahead-ahead.new.self c.finish_iteration.new.machine x) c.in-Next.is (c.in_ok-iterated.ensures.ok c.args.region r.at) in
+    let whole = rest_made c.args.region c.args.machine.now c.iterations.machine c.iterations_ahead-ahead.new.self c.iterations.report c.iterations_ahead-ahead.result r c.finish_iteration.new.machine Next made in
+    let same = went_same c.args.region c.args.machine.now c.iterations.machine c.iterations_ahead-ahead.new.self c.iterations.report c.iterations_ahead-ahead.result went c.iterations.waiting in
+    let emits = subst (λ (xs : List ℤ). Emits (to_come c.args.waiting.now c.args.machine.now) xs (g.K.Sink.written c.args.sink.now) (g.K.Sink.written c.iterations.sink)) same c.iterations.invariant.emits in
+    let rises = rest_next c.args.region c.args.machine.now c.iterations.machine c.iterations_ahead-ahead.new.self c.iterations.report c.iterations_ahead-ahead.result r c.finish_iteration.new.machine made in
+    let size = c.steps-steps.result - c.iterations_ahead-ahead.result.start in
+    let value = c.steps-steps.ensures.value in
+    let start = r.start in
+    let steps : c.finish_iteration.new.machine.steps ≡ r.between.steps + size = omega arith in
     let counted = c.in_ok-count_ended-in-Next.ensures in
     record {
-      so_far = region_goes_on c.args.region c.args.machine.now c.iterations.machine c.finish_iteration.new.machine c.iterations.report so_far c.count_ended.new.report size made steps
-          (record { named = counted.region; iterations = counted.iterations; lists = counted.again so_far.again });
-      emits = emits_on _ _ _ _ _ _ c.iterations.invariant.emits c.in_ok-iterated.ensures.streams;
+      so_far = region_goes_on c.args.region c.args.machine.now r.between c.finish_iteration.new.machine (with_more c.iterations.report c.iterations_ahead-ahead.result.whole) r.so_far c.count_ended.new.report size whole steps
+          (record { named = counted.region; iterations = counted.iterations; lists = counted.again r.so_far.again });
+      emits = emits_on _ _ _ _ _ _ emits c.in_ok-iterated.ensures.streams;
       faults = c.in_ok-iterated.ensures.faults ∙ c.iterations.invariant.faults;
     }
+
+pub returns-in_err-count_ended-in-Next-clause-streams : goal.returns-in_err-count_ended-in-Next-clause-streams
+returns-in_err-count_ended-in-Next-clause-streams g c =
+    let so_far = c.iterations.invariant.so_far in
+    let went = c.iterations_ahead-ahead.ensures.ahead c.args.region so_far.at in
+    let r = went_on c.args.region c.args.machine.now c.iterations.machine c.iterations_ahead-ahead.new.self c.iterations.report c.iterations_ahead-ahead.result so_far went in
+    let same = went_same c.args.region c.args.machine.now c.iterations.machine c.iterations_ahead-ahead.new.self c.iterations.report c.iterations_ahead-ahead.result went c.iterations.waiting in
+    let emits = subst (λ (xs : List ℤ). Emits (to_come c.args.waiting.now c.args.machine.now) xs (g.K.Sink.written c.args.sink.now) (g.K.Sink.written c.iterations.sink)) same c.iterations.invariant.emits in
+    streams_stopped _ _ _ _ _ c.from_residual-in_err-count_ended-in-Next.ensures.0 (emits_stopped _ _ _ _ (emits_on _ _ _ _ _ _ emits c.in_ok-iterated.ensures.streams))
+
+pub overflow_add-report-in-Closed : goal.overflow_add-report-in-Closed
+overflow_add-report-in-Closed g c =
+    let so_far = c.iterations.invariant.so_far in
+    let went = c.iterations_ahead-ahead.ensures.ahead c.args.region so_far.at in
+    let r = went_on c.args.region c.args.machine.now c.iterations.machine c.iterations_ahead-ahead.new.self c.iterations.report c.iterations_ahead-ahead.result so_far went in
+    let made : IterationMade c.args.region c.iterations_ahead-ahead.new.self c.finish_iteration.new.machine Closed =
+    subst (λ (x : Iterated). IterationMade c.args.region c.iterations_ahead-ahead.new.self c.finish_iteration.new.machine x) c.in-Closed.is (c.in_ok-iterated.ensures.ok c.args.region r.at) in
+    let whole = rest_made c.args.region c.args.machine.now c.iterations.machine c.iterations_ahead-ahead.new.self c.iterations.report c.iterations_ahead-ahead.result r c.finish_iteration.new.machine Closed made in
+    let rises = rest_closed c.args.region c.args.machine.now c.iterations.machine c.iterations_ahead-ahead.new.self c.iterations.report c.iterations_ahead-ahead.result r c.finish_iteration.new.machine made in
+    let paced = r.so_far.paced in
+    let start = r.start in
+    let value = c.steps-steps.ensures.value in
+    let fits : c.steps-steps.result < 18446744073709551616 = search rules in
+    omega arith
 
 pub returns-in-Closed-clause-ok : goal.returns-in-Closed-clause-ok
 returns-in-Closed-clause-ok g c =
     let so_far = c.iterations.invariant.so_far in
-    let made = subst (λ (x : Iterated). IterationMade c.args.region c.iterations.machine c.finish_iteration.new.machine x) c.in-Closed.is (c.in_ok-iterated.ensures.ok c.args.region so_far.at) in
-    region_closes c.args.region c.args.machine.now c.iterations.machine c.finish_iteration.new.machine c.iterations.report so_far
-    (record c.iterations.report { iterations = c.iterations.report.iterations + 1 }) made refl refl (record { count = so_far.lists.count; first = so_far.lists.first })
+    let went = c.iterations_ahead-ahead.ensures.ahead c.args.region so_far.at in
+    let r = went_on c.args.region c.args.machine.now c.iterations.machine c.iterations_ahead-ahead.new.self c.iterations.report c.iterations_ahead-ahead.result so_far went in
+    let made : IterationMade c.args.region c.iterations_ahead-ahead.new.self c.finish_iteration.new.machine Closed =
+    subst (λ (x : Iterated). IterationMade c.args.region c.iterations_ahead-ahead.new.self c.finish_iteration.new.machine x) c.in-Closed.is (c.in_ok-iterated.ensures.ok c.args.region r.at) in
+    let whole = rest_made c.args.region c.args.machine.now c.iterations.machine c.iterations_ahead-ahead.new.self c.iterations.report c.iterations_ahead-ahead.result r c.finish_iteration.new.machine Closed made in
+    region_closes c.args.region c.args.machine.now r.between c.finish_iteration.new.machine (with_more c.iterations.report c.iterations_ahead-ahead.result.whole) r.so_far
+    (record c.iterations.report { iterations = c.iterations.report.iterations + c.iterations_ahead-ahead.result.whole + 1 }) whole refl refl (record { count = r.so_far.lists.count; first = r.so_far.lists.first })
 
 pub returns-in-Closed-clause-streams : goal.returns-in-Closed-clause-streams
-returns-in-Closed-clause-streams g c = emits_on _ _ _ _ _ _ c.iterations.invariant.emits c.in_ok-iterated.ensures.streams
+returns-in-Closed-clause-streams g c =
+    let so_far = c.iterations.invariant.so_far in
+    let went = c.iterations_ahead-ahead.ensures.ahead c.args.region so_far.at in
+    let r = went_on c.args.region c.args.machine.now c.iterations.machine c.iterations_ahead-ahead.new.self c.iterations.report c.iterations_ahead-ahead.result so_far went in
+    let same = went_same c.args.region c.args.machine.now c.iterations.machine c.iterations_ahead-ahead.new.self c.iterations.report c.iterations_ahead-ahead.result went c.iterations.waiting in
+    let emits = subst (λ (xs : List ℤ). Emits (to_come c.args.waiting.now c.args.machine.now) xs (g.K.Sink.written c.args.sink.now) (g.K.Sink.written c.iterations.sink)) same c.iterations.invariant.emits in
+    emits_on _ _ _ _ _ _ emits c.in_ok-iterated.ensures.streams
+
+pub count_again-requires-clause-iterations : goal.count_again-requires-clause-iterations
+count_again-requires-clause-iterations g c =
+    let so_far = c.iterations.invariant.so_far in
+    let went = c.iterations_ahead-ahead.ensures.ahead c.args.region so_far.at in
+    let r = went_on c.args.region c.args.machine.now c.iterations.machine c.iterations_ahead-ahead.new.self c.iterations.report c.iterations_ahead-ahead.result so_far went in
+    let paced = r.so_far.paced in
+    let start = r.start in
+    let within = c.if-ahead-fuel.true in
+    let fits : c.fuel.result < 18446744073709551616 = search rules in
+    omega arith
 
 pub returns-in_err-count_again-in-Ended-clause-streams : goal.returns-in_err-count_again-in-Ended-clause-streams
 returns-in_err-count_again-in-Ended-clause-streams g c =
-    streams_stopped _ _ _ _ _ c.from_residual-in_err-count_again-in-Ended.ensures.0 (emits_stopped _ _ _ _ (emits_on _ _ _ _ _ _ c.iterations.invariant.emits c.in_ok-iterated.ensures.streams))
+    let so_far = c.iterations.invariant.so_far in
+    let went = c.iterations_ahead-ahead.ensures.ahead c.args.region so_far.at in
+    let r = went_on c.args.region c.args.machine.now c.iterations.machine c.iterations_ahead-ahead.new.self c.iterations.report c.iterations_ahead-ahead.result so_far went in
+    let same = went_same c.args.region c.args.machine.now c.iterations.machine c.iterations_ahead-ahead.new.self c.iterations.report c.iterations_ahead-ahead.result went c.iterations.waiting in
+    let emits = subst (λ (xs : List ℤ). Emits (to_come c.args.waiting.now c.args.machine.now) xs (g.K.Sink.written c.args.sink.now) (g.K.Sink.written c.iterations.sink)) same c.iterations.invariant.emits in
+    streams_stopped _ _ _ _ _ c.from_residual-in_err-count_again-in-Ended.ensures.0 (emits_stopped _ _ _ _ (emits_on _ _ _ _ _ _ emits c.in_ok-iterated.ensures.streams))
 
 pub returns-in-Ended-clause-ok : goal.returns-in-Ended-clause-ok
 returns-in-Ended-clause-ok g c =
     let so_far = c.iterations.invariant.so_far in
-    let made = subst (λ (x : Iterated). IterationMade c.args.region c.iterations.machine c.finish_iteration.new.machine x) c.in-Ended.is (c.in_ok-iterated.ensures.ok c.args.region so_far.at) in
-    let before = c.steps-before.ensures.value in
+    let went = c.iterations_ahead-ahead.ensures.ahead c.args.region so_far.at in
+    let r = went_on c.args.region c.args.machine.now c.iterations.machine c.iterations_ahead-ahead.new.self c.iterations.report c.iterations_ahead-ahead.result so_far went in
+    let made : IterationMade c.args.region c.iterations_ahead-ahead.new.self c.finish_iteration.new.machine (Ended c.in-Ended.end) =
+    subst (λ (x : Iterated). IterationMade c.args.region c.iterations_ahead-ahead.new.self c.finish_iteration.new.machine x) c.in-Ended.is (c.in_ok-iterated.ensures.ok c.args.region r.at) in
+    let whole = rest_made c.args.region c.args.machine.now c.iterations.machine c.iterations_ahead-ahead.new.self c.iterations.report c.iterations_ahead-ahead.result r c.finish_iteration.new.machine (Ended c.in-Ended.end) made in
+    let start = r.start in
     let fuel = c.fuel.ensures in
-    elim c.if-before-fuel.branch [
-      | then-before-fuel+in_ok-count_again-in-Ended w ↦
-          let within = w.if-before-fuel.true in
-          let some : c.iterations.machine.steps < c.finish_iteration.new.machine.fuel = omega (arith, within, before, fuel) in
+    elim c.if-ahead-fuel.branch [
+      | then-ahead-fuel+in_ok-count_again-in-Ended w ↦
+          let within = w.if-ahead-fuel.true in
+          let some : r.between.steps < c.finish_iteration.new.machine.fuel = omega (arith, within, start, fuel) in
           let counted = w.in_ok-count_again-in-Ended.ensures in
           subst (λ (x : RegionReport). RegionMade c.args.region c.args.machine.now c.finish_iteration.new.machine x (Some c.in-Ended.end)) (sym w.report-is)
-          (region_breaks c.args.region c.args.machine.now c.iterations.machine c.finish_iteration.new.machine c.iterations.report so_far c.in-Ended.end w.count_again.new.report made some
-          counted.region counted.iterations (counted.again so_far.again so_far.lists))
-      | else-before-fuel w ↦
-          let without = w.if-before-fuel.false in
-          let none : c.finish_iteration.new.machine.fuel ≤ c.iterations.machine.steps = omega (arith, without, before, fuel) in
+          (region_breaks c.args.region c.args.machine.now r.between c.finish_iteration.new.machine (with_more c.iterations.report c.iterations_ahead-ahead.result.whole) r.so_far c.in-Ended.end w.count_again.new.report whole some
+          counted.region counted.iterations (counted.again r.so_far.again r.so_far.lists))
+      | else-ahead-fuel w ↦
+          let without = w.if-ahead-fuel.false in
+          let none : c.finish_iteration.new.machine.fuel ≤ r.between.steps = omega (arith, without, start, fuel) in
           subst (λ (x : RegionReport). RegionMade c.args.region c.args.machine.now c.finish_iteration.new.machine x (Some c.in-Ended.end)) (sym w.report-is)
-          (region_spends c.args.region c.args.machine.now c.iterations.machine c.finish_iteration.new.machine c.iterations.report so_far c.in-Ended.end made none)
+          (region_spends c.args.region c.args.machine.now r.between c.finish_iteration.new.machine (with_more c.iterations.report c.iterations_ahead-ahead.result.whole) r.so_far c.in-Ended.end whole none)
     ]
 
 pub returns-in-Ended-clause-streams : goal.returns-in-Ended-clause-streams
-returns-in-Ended-clause-streams g c = emits_on _ _ _ _ _ _ c.iterations.invariant.emits c.in_ok-iterated.ensures.streams
+returns-in-Ended-clause-streams g c =
+    let so_far = c.iterations.invariant.so_far in
+    let went = c.iterations_ahead-ahead.ensures.ahead c.args.region so_far.at in
+    let r = went_on c.args.region c.args.machine.now c.iterations.machine c.iterations_ahead-ahead.new.self c.iterations.report c.iterations_ahead-ahead.result so_far went in
+    let same = went_same c.args.region c.args.machine.now c.iterations.machine c.iterations_ahead-ahead.new.self c.iterations.report c.iterations_ahead-ahead.result went c.iterations.waiting in
+    let emits = subst (λ (xs : List ℤ). Emits (to_come c.args.waiting.now c.args.machine.now) xs (g.K.Sink.written c.args.sink.now) (g.K.Sink.written c.iterations.sink)) same c.iterations.invariant.emits in
+    emits_on _ _ _ _ _ _ emits c.in_ok-iterated.ensures.streams
