@@ -14,7 +14,7 @@ use Rattle.dp_plan.specs.Lists.{site_list}
 
 mutual
   -- a statement's numbers are its sites
-  sites_are : (x : Stmt) → site_numbers x ≡ map site_in (accesses x)
+  pub sites_are : (x : Stmt) → site_numbers x ≡ map site_in (accesses x)
   sites_are (tree.If' site cond _ a _ b) = ap (λ ns. site.0 ∷ ns) (ap (λ ns. ns ++ site_numbers_in b) (sites_are_in a)
       ∙ ap (λ ns. map site_in (accesses_in a) ++ ns) (sites_are_in b) ∙ sym (map-append site_in (accesses_in a) (accesses_in b)))
   sites_are (tree.While' site cond _ a) = ap (λ ns. site.0 ∷ ns) (sites_are_in a)

@@ -18,6 +18,7 @@ mod sites;
 mod table;
 #[cfg(test)]
 mod tests;
+mod text;
 mod words;
 mod write;
 

@@ -4,9 +4,9 @@ ghost use Rattle.std.specs.Prelude.{◌≡◌, ◌≤◌, ◌^◌, IfOk, IfSome,
 ghost use Rattle.dp_plan.specs.Written as written;
 ghost use Rattle.dp_plan.specs.Refused.{ReadsAs};
 
-use crate::reader::read_text;
 use crate::rules::{first_fault, written_stage};
 use crate::sites::sites_of;
+use crate::text::read_text;
 use crate::{Plan, PlanFail, StageKind, WrittenPlan, WrittenStage};
 use dp_base::{NoMemory, Row, SiteId};
 use dp_tree::{Assume, Program};

@@ -2,7 +2,7 @@
 mod programs;
 mod write;
 
-use crate::reader::read_text;
+use crate::text::read_text;
 use crate::{Plan, PlanFail, StageKind, WrittenPlan};
 use dp_base::{NoMemory, Row, SiteId};
 use dp_tree::Assume;

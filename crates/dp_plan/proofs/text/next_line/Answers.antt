@@ -1,7 +1,7 @@
 use Rattle.std.proofs.Common.{◌+◌, ◌∷◌, [], ◌++◌, drop, sym, ap, ◌∙◌}
 use Rattle.dp_plan.specs.PlanText.{lines_of}
 use Rattle.dp_plan.proofs.CutLemmas.{at_end}
-use Rattle.dp_plan.proofs.reader.next_line.Goals as goal
+use Rattle.dp_plan.proofs.text.next_line.Goals as goal
 
 pub returns-clause-lines : goal.returns-clause-lines
 returns-clause-lines c =

@@ -5,7 +5,7 @@ use Rattle.dp_plan.specs.Words.{words}
 use Rattle.dp_plan.specs.LineWords.{line_of}
 use Rattle.dp_plan.specs.Reading.{next_by}
 use Rattle.dp_plan.proofs.SoFar.{SoFar, so_far_start, so_far_next, refused_line, ended}
-use Rattle.dp_plan.proofs.reader.read_text.Goals as goal
+use Rattle.dp_plan.proofs.text.read_text.Goals as goal
 
 pub lines-init : goal.lines-init
 lines-init c =
