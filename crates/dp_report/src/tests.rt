@@ -110,7 +110,7 @@ fn prints_have_a_line_each(rt: HostRuntime) -> Result<(), Fail> {
 }
 
 #[test]
-fn a_run_ends_with_its_state_its_regions_and_its_end(rt: HostRuntime) -> Result<(), Fail> {
+fn an_empty_run_ends_with_its_end(rt: HostRuntime) -> Result<(), Fail> {
     let alloc = rt.alloc();
     let empty = program(alloc, Row::new(alloc), Row::new(alloc), Row::new(alloc));
     let none = Cells::new(alloc, 0)?;
@@ -119,6 +119,12 @@ fn a_run_ends_with_its_state_its_regions_and_its_end(rt: HostRuntime) -> Result<
         &end_text(alloc, &empty, &none, &[], End::Done)?,
         b"state\nend done\n",
     );
+    Ok(())
+}
+
+#[test]
+fn a_run_ends_with_its_state_its_regions_and_its_end(rt: HostRuntime) -> Result<(), Fail> {
+    let alloc = rt.alloc();
     let done = end_of(
         &rt,
         alloc,

@@ -75,7 +75,7 @@ fn products_at_the_edges(rt: HostRuntime) {
 }
 
 #[test]
-fn quotients_and_remainders_at_the_edges(rt: HostRuntime) {
+fn quotients_at_the_edges(rt: HostRuntime) {
     check(
         &rt,
         BinOp::Div,
@@ -98,6 +98,10 @@ fn quotients_and_remainders_at_the_edges(rt: HostRuntime) {
             (0, -5, Ok(0)),
         ],
     );
+}
+
+#[test]
+fn remainders_at_the_edges(rt: HostRuntime) {
     check(
         &rt,
         BinOp::Rem,
