@@ -9,7 +9,7 @@ use Rattle.dp_semantics.specs.ValidPlan.{RegionsStandOnce}
 use Rattle.dp_semantics.proofs.Each.{Each, each_map, each_split, each_join}
 use Rattle.dp_semantics.proofs.Heads.{accesses_all, accesses_at, accesses_out, all_free, free_hidden}
 use Rattle.dp_semantics.proofs.Setting.{Split}
-use Rattle.dp_semantics.proofs.TextOrder.{Ascends, Between, ascends_from, ascends_split, ascends_between, each_of_map, numbers_are}
+use Rattle.dp_semantics.proofs.TextOrder.{Ascends, Between, ascends-numbers_from, ascends_split, ascends_between, each_of_map, sites_are}
 use Rattle.dp_semantics.proofs.Regions.{RegionAt, Sought, absent, present, all_alone, plain_free_in}
 use Rattle.dp_semantics.proofs.Fitting.{split_of}
 use Rattle.dp_semantics.proofs.ValidFits.{sought, between}
@@ -50,7 +50,7 @@ module _ (test : ℕ → Bool) (r : ℕ) where
 
 -- the sites of statements that are numbered one by one from k
 within : (k : ℕ) (x : Stmt) → Ascends k (site_numbers x) → Each (λ (u : Access). Between k (length (site_numbers x)) u.site) (accesses x)
-within k x h = each_of_map (Between k (length (site_numbers x))) site_in (accesses x) (subst (λ (ns : List ℕ). Each (Between k (length (site_numbers x))) ns) (numbers_are x) (ascends_between k (site_numbers x) h))
+within k x h = each_of_map (Between k (length (site_numbers x))) site_in (accesses x) (subst (λ (ns : List ℕ). Each (Between k (length (site_numbers x))) ns) (sites_are x) (ascends_between k (site_numbers x) h))
 
 -- behind the first statements, whose numbers are lower, the numbers go on
 record Front (k : ℕ) (front behind : List Stmt) : Type 0 where
@@ -90,7 +90,7 @@ module _ {p : Program} (inlined : IsInlined p) (r : ℕ) (entry : RegionInfo) (a
 
   -- the numbers before the region, its own, and those behind it
   front : Front 1 split.front (q.statement ∷ split.tail)
-  front = front_of 1 split.front (q.statement ∷ split.tail) (subst (λ (xs : List Stmt). Ascends 1 (site_numbers_all xs)) split.main_is (subst (λ (ns : List ℕ). Ascends 1 ns) (sym inlined.sites) (ascends_from 1 (length p.sites))))
+  front = front_of 1 split.front (q.statement ∷ split.tail) (subst (λ (xs : List Stmt). Ascends 1 (site_numbers_all xs)) split.main_is (subst (λ (ns : List ℕ). Ascends 1 ns) (sym inlined.sites) (ascends-numbers_from 1 (length p.sites))))
 
   parts : Ascends front.next (site_numbers q.statement) × Ascends (front.next + length (site_numbers q.statement)) (site_numbers_all split.tail)
   parts = ascends_split front.next (site_numbers q.statement) (site_numbers_all split.tail) front.order
@@ -105,10 +105,10 @@ module _ {p : Program} (inlined : IsInlined p) (r : ℕ) (entry : RegionInfo) (a
   own = subst (λ (us : List Access). Each Own us) shown (between inlined r entry at q)
 
   many : length (site_numbers q.statement) ≡ length (accesses q.statement)
-  many = ap length (numbers_are q.statement) ∙ length-map (accesses q.statement) site_in
+  many = ap length (sites_are q.statement) ∙ length-map (accesses q.statement) site_in
 
   begins : front.next ≡ entry.first.0
-  begins = same_first front.next entry.first.0 (site_numbers q.statement) some parts.0 (subst (λ (ns : List ℕ). Ascends entry.first.0 ns) (sym (numbers_are q.statement)) q.sites)
+  begins = same_first front.next entry.first.0 (site_numbers q.statement) some parts.0 (subst (λ (ns : List ℕ). Ascends entry.first.0 ns) (sym (sites_are q.statement)) q.sites)
     where
       one : length (accesses q.statement) ≡ suc (length (accesses_all q.body))
       one = ap length shown

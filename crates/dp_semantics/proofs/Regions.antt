@@ -3,7 +3,7 @@ use Rattle.dp_semantics.proofs.Names.{opened_statement, ◌≡◌, ◌⊎◌, in
 use Rattle.dp_tree.specs.declared.Stmt.TheVariants as tree
 use Rattle.dp_tree.specs.Numbering.{has_numbers, is_marked, is_plain, is_plain_in, listed_first, next_region, regions_in_order, regions_listed, site_numbers, site_numbers_all, top_fits}
 use Rattle.dp_plan.specs.Written.{site_in}
-use Rattle.dp_semantics.proofs.TextOrder.{Ascends, ascends_split, numbers_are}
+use Rattle.dp_semantics.proofs.TextOrder.{Ascends, ascends_split, sites_are}
 
 -- a statement at the top: a region, or none
 data Top (x : Stmt) : Type 0 where
@@ -104,7 +104,7 @@ find_marked x rest q site cond body is made plain k first same (entry ∷ entrie
     here = entry_sites entry first (site_numbers x) parts.0 order.0
 
     many : length (site_numbers x) ≡ length (accesses x)
-    many = ap length (numbers_are x) ∙ length-map (accesses x) site_in
+    many = ap length (sites_are x) ∙ length-map (accesses x) site_in
 
     later : (r : ℕ) → Sought r (suc k) rest entries
     later = go entries _ parts.1 order.1
@@ -125,7 +125,7 @@ find_marked x rest q site cond body is made plain k first same (entry ∷ entrie
           is = is ∙ ap (λ (n : ℕ). Region n site cond body) (sym at);
           made = made ∙ ap (λ (n : ℕ). tree.Region n site cond body) (sym at);
           plain = plain;
-          sites = subst (λ (ns : List ℕ). Ascends entry.first.0 ns) (numbers_are x) here.0;
+          sites = subst (λ (ns : List ℕ). Ascends entry.first.0 ns) (sites_are x) here.0;
           last = omega (arith, here.1, many);
         })
     by (inr e) = past_marked x rest k r entry entries (number r ∙ ne_eqb q r (λ s. e (sym s ∙ same))) e (later r)

@@ -15,7 +15,7 @@ use Rattle.dp_plan.specs.Written.{has, listed, kind_in, plan_of, region_sites, s
 use Rattle.dp_plan.specs.Valid.{first_broken}
 use Rattle.dp_semantics.specs.ValidPlan.{WrittenAs, ValidPlanFits, RegionsStandAlone}
 use Rattle.dp_semantics.proofs.Counts.{count_all}
-use Rattle.dp_semantics.proofs.TextOrder.{Ascends, Between, ascends_from, ascends_between, each_of_map, has_fact}
+use Rattle.dp_semantics.proofs.TextOrder.{Ascends, Between, ascends-numbers_from, ascends_between, each_of_map, has_fact}
 use Rattle.dp_semantics.proofs.Regions.{RegionAt, Sought, absent, present, all_alone, find_region}
 use Rattle.dp_semantics.proofs.Unbroken.{all_listed, no_foreign, condition_first, sequential_first, none_beside, whiles_in_time, ifs_in_time, stage_listed, stage_unlisted, first_kind, kinds_differ}
 use Rattle.dp_semantics.proofs.WellNested.{Within, sites_within, ifs_at, InTime, Ruled, well_by_in}
@@ -67,7 +67,7 @@ module _ (r : ℕ) (site : SiteId) (cond : Expr) (body : List Stmt) where
 
 module _ {p : Program} (inlined : IsInlined p) where
   pub sought : (r : ℕ) → Sought r 1 p.main p.regions
-  sought r = find_region p.main 1 1 p.regions inlined.regions inlined.table (subst (λ (ns : List ℕ). Ascends 1 ns) (sym inlined.sites) (ascends_from 1 (length p.sites))) r
+  sought r = find_region p.main 1 1 p.regions inlined.regions inlined.table (subst (λ (ns : List ℕ). Ascends 1 ns) (sym inlined.sites) (ascends-numbers_from 1 (length p.sites))) r
 
   module _ (r : ℕ) (entry : RegionInfo) (at : slice_get p.regions (r - 1) ≡ Some entry) (q : RegionAt r p.main entry) where
     accesses_are : flat_map accesses (region_in p r) ≡ accesses q.statement
