@@ -1,12 +1,15 @@
 -- The sites of a plan's region in an inlined program.
-use Rattle.std.proofs.Common.{◌≡◌, refl, sym, ap, subst, ◌∙◌, ℕ, ◌+◌, ◌<◌, ◌≤◌, ◌^◌, List, length, arith}
+use Rattle.std.proofs.Common.{◌≡◌, sym, ap, subst, ◌∙◌, ℕ, ◌+◌, ◌<◌, ◌≤◌, ◌^◌, List, map, length, append-nil, arith}
+use Rattle.std.specs.List.{flat_map}
+use Rattle.std.proofs.lemmas.List.{length-map}
 use Rattle.dp_tree.specs.declared.Program.{Program}
+use Rattle.dp_tree.specs.declared.Stmt.{Stmt}
 use Rattle.dp_tree.specs.Inlined.{IsInlined}
 use Rattle.dp_tree.specs.Numbering.{site_numbers_all}
 use Rattle.dp_plan.specs.declared.Plan.{Plan}
 use Rattle.dp_plan.specs.Stage.{first_site, first_site_of}
-use Rattle.dp_plan.specs.Written.{region_sites}
-use Rattle.dp_plan.specs.Lists.{sites_in_region}
+use Rattle.dp_plan.specs.Access.{accesses}
+use Rattle.dp_plan.specs.Written.{region_sites, site_in}
 use Rattle.dp_plan.proofs.Ascent.{Ascends, ascends-numbers_from, length-numbers_from}
 use Rattle.dp_plan.proofs.RegionOrder.{Sought, absent, present, find_region}
 use Rattle.dp_plan.proofs.TopStatements.{fewer_regions}
@@ -16,10 +19,6 @@ pub record InOrder (p : Program) (plan : Plan) : Type 0 where
   pub order : Ascends (first_site p plan) (region_sites p plan.region)
   pub low : 1 ≤ first_site p plan
   pub high : first_site p plan + length (region_sites p plan.region) ≤ 2 ^ 32
-
-sites_same : (p : Program) (r : ℕ) → sites_in_region r p.main ≡ region_sites p r
-unfolding sites_in_region
-sites_same p r = refl
 
 module _ (p : Program) (inlined : IsInlined p) (small : length p.sites < 2 ^ 32) where
   many : length (site_numbers_all p.main) ≡ length p.sites
@@ -33,11 +32,12 @@ module _ (p : Program) (inlined : IsInlined p) (small : length p.sites < 2 ^ 32)
     where
       by : Sought plan.region 1 1 p.main p.regions → InOrder p plan
       by (absent none out) = absurd (out low high)
-      by (present entry from at order least most) =
-          let same : sites_in_region plan.region p.main ≡ region_sites p plan.region = sites_same p plan.region in
+      by (present entry from at region least most) =
+          let same : region_sites p plan.region ≡ map site_in (accesses region.statement) = ap (λ (xs : List Stmt). map site_in (flat_map accesses xs)) region.only ∙ ap (map site_in) (append-nil (accesses region.statement)) in
+          let long : length (region_sites p plan.region) ≡ length (accesses region.statement) = ap length same ∙ length-map (accesses region.statement) site_in in
           let first : first_site p plan ≡ entry.first.0 = ap first_site_of at in
           record {
-            order = subst (λ (ns : List ℕ). Ascends (first_site p plan) ns) same (subst (λ (i : ℕ). Ascends i (sites_in_region plan.region p.main)) (sym first) order);
+            order = subst (λ (ns : List ℕ). Ascends (first_site p plan) ns) (sym same) (subst (λ (i : ℕ). Ascends i (map site_in (accesses region.statement))) (sym first) region.sites);
             low = omega (arith, first, least);
-            high = omega (arith, first, most, many, small, ap length same);
+            high = omega (arith, first, most, many, small, long);
           }

@@ -1,16 +1,20 @@
 -- The statements at the top of `main`: their sites, which of them are regions, and the entries of these.
-use Rattle.std.proofs.Common.{◌≡◌, refl, sym, ap, ◌∙◌, ℕ, ◌+◌, ◌≤◌, ◌==◌, Bool, true, false, List, [], ◌∷◌, ◌++◌, map, length, length-append, arith, eqb-true}
+use Rattle.std.proofs.Common.{◌≡◌, refl, sym, ap, subst, ◌∙◌, ℕ, ◌+◌, ◌≤◌, ◌==◌, ◌&&◌, Bool, true, false, List, [], ◌∷◌, ◌++◌, map, length, length-append, arith}
 use Rattle.std.proofs.lemmas.Bool.{and_parts}
 use Rattle.std.proofs.lemmas.List.{map-append}
 use Rattle.dp_tree.specs.declared.RegionInfo.{RegionInfo}
-use Rattle.dp_tree.specs.declared.Stmt.{Stmt, Row_of-Stmt, end_of-Stmt, more_of-Stmt}
+use Rattle.dp_base.specs.declared.SiteId.{SiteId}
+use Rattle.dp_tree.specs.declared.Expr.{Expr}
+use Rattle.dp_tree.specs.declared.Stmt.{Stmt, Row_of-Stmt, end_of-Stmt, more_of-Stmt, out-Stmt, out-roll-Stmt, roll-Stmt, roll-out-Stmt}
+use Rattle.dp_tree.specs.declared.Stmt.TheBlock.{hidden-the_row-Stmt-0}
+use Rattle.dp_tree.specs.declared.Stmt.TheOpen.{Assign, Call, If, Print, Region, Stmt-F, Store, While}
 use Rattle.dp_tree.specs.declared.Stmt.TheVariants as tree
-use Rattle.dp_tree.specs.declared.Stmt.TheViews.{outs-Assign, outs-Store, outs-Print, outs-If', outs-While', outs-Region', outs-Call}
+use Rattle.dp_tree.specs.declared.Stmt.TheViews.{rolls-Assign, rolls-Call, rolls-If, rolls-Print, rolls-Region, rolls-Store, rolls-While}
 use Rattle.dp_tree.specs.Iteration.{is_region}
-use Rattle.dp_tree.specs.Numbering.{has_numbers, is_marked, is_plain_in, listed_first, next_region, regions_listed, site_numbers, site_numbers_in, site_numbers_all, top_fits}
+use Rattle.dp_tree.specs.Numbering.{has_numbers, is_marked, is_plain, is_plain_in, listed_first, next_region, regions_listed, site_numbers, site_numbers_in, site_numbers_all, top_fits}
 use Rattle.dp_plan.specs.Access.{accesses, accesses_in, is_region_at}
 use Rattle.dp_plan.specs.Written.{site_in}
-use Rattle.dp_plan.specs.Lists.{site_list}
+use Rattle.dp_plan.proofs.LoadLemmas.{opened}
 
 mutual
   -- a statement's numbers are its sites
@@ -26,23 +30,28 @@ mutual
   sites_are_in (more_of-Stmt x rest) = ap (λ ns. ns ++ site_numbers_in rest) (sites_are x) ∙ ap (λ ns. map site_in (accesses x) ++ ns) (sites_are_in rest)
       ∙ sym (map-append site_in (accesses x) (accesses_in rest))
 
-pub numbers_are : (x : Stmt) → site_numbers x ≡ site_list x
-unfolding site_list
-numbers_are x = sites_are x
-
 -- a statement at the top: a region, or none
 pub data Top (x : Stmt) : Type 0 where
-  marked : (q : ℕ) → ((r : ℕ) → is_region_at r x ≡ (q == r)) → is_marked x ≡ true → ((k : ℕ) → next_region k x ≡ k + 1) → ((k : ℕ) → top_fits k x ≡ true → q ≡ k) → Top x
-  unmarked : ((r : ℕ) → is_region_at r x ≡ false) → is_marked x ≡ false → ((k : ℕ) → next_region k x ≡ k) → Top x
+  marked : (q : ℕ) (site : SiteId) (cond : Expr) (body : List Stmt) → out-Stmt x ≡ Region q site cond body → x ≡ tree.Region q site cond body → is_marked x ≡ true → ((k : ℕ) → next_region k x ≡ k + 1) →
+      ((k : ℕ) → top_fits k x ≡ ((q == k) && is_plain_in (hidden-the_row-Stmt-0 body))) → Top x
+  unmarked : ((r : ℕ) → is_region_at r x ≡ false) → is_marked x ≡ false → ((k : ℕ) → next_region k x ≡ k) → ((k : ℕ) → top_fits k x ≡ is_plain x) → Top x
+
+other_top : (h : Stmt-F Stmt) (y : Stmt) → roll-Stmt h ≡ y → ((r : ℕ) → is_region r h ≡ false) → is_marked y ≡ false → ((k : ℕ) → next_region k y ≡ k) → ((k : ℕ) → top_fits k y ≡ is_plain y) → Top (roll-Stmt h)
+other_top h y o none m n t = unmarked (λ r. ap (is_region r) (out-roll-Stmt h) ∙ none r) (ap is_marked o ∙ m) (λ k. ap (next_region k) o ∙ n k) (λ k. ap (top_fits k) o ∙ t k ∙ ap is_plain (sym o))
+
+top_roll : (h : Stmt-F Stmt) → Top (roll-Stmt h)
+unfolding opened
+top_roll (Assign site v e) = other_top _ _ (rolls-Assign site v e) (λ r. refl) refl (λ k. refl) (λ k. refl)
+top_roll (Store site v index e) = other_top _ _ (rolls-Store site v index e) (λ r. refl) refl (λ k. refl) (λ k. refl)
+top_roll (Print site e) = other_top _ _ (rolls-Print site e) (λ r. refl) refl (λ k. refl) (λ k. refl)
+top_roll (If site cond a b) = other_top _ _ (rolls-If site cond a b) (λ r. refl) refl (λ k. refl) (λ k. refl)
+top_roll (While site cond a) = other_top _ _ (rolls-While site cond a) (λ r. refl) refl (λ k. refl) (λ k. refl)
+top_roll (Call f line args) = other_top _ _ (rolls-Call f line args) (λ r. refl) refl (λ k. refl) (λ k. refl)
+top_roll (Region q site cond body) = let o = rolls-Region q site cond body in
+    marked q site cond body (out-roll-Stmt (Region q site cond body)) o (ap is_marked o) (λ k. ap (next_region k) o) (λ k. ap (top_fits k) o)
 
 pub top : (x : Stmt) → Top x
-top (tree.Region' q site cond n body) = marked q (λ r. ap (is_region r) (outs-Region' q site cond n body)) refl (λ k. refl) (λ k e. eqb-true q k (and_parts (q == k) (is_plain_in body) e).0)
-top (tree.Assign site v e) = unmarked (λ r. ap (is_region r) (outs-Assign site v e)) refl (λ k. refl)
-top (tree.Store site v index e) = unmarked (λ r. ap (is_region r) (outs-Store site v index e)) refl (λ k. refl)
-top (tree.Print site e) = unmarked (λ r. ap (is_region r) (outs-Print site e)) refl (λ k. refl)
-top (tree.If' site cond n a m b) = unmarked (λ r. ap (is_region r) (outs-If' site cond n a m b)) refl (λ k. refl)
-top (tree.While' site cond n a) = unmarked (λ r. ap (is_region r) (outs-While' site cond n a)) refl (λ k. refl)
-top (tree.Call f line args) = unmarked (λ r. ap (is_region r) (outs-Call f line args)) refl (λ k. refl)
+top x = subst (λ (y : Stmt). Top y) (roll-out-Stmt x) (top_roll (out-Stmt x))
 
 -- each entry has a site of its own
 pub fewer_regions : (main : List Stmt) (entries : List RegionInfo) → regions_listed main entries ≡ true → length entries ≤ length (site_numbers_all main)

@@ -10,7 +10,8 @@ use Rattle.dp_semantics.proofs.Each.{Each, each_map, each_split, each_join}
 use Rattle.dp_semantics.proofs.Heads.{accesses_all, accesses_at, accesses_out, all_free, free_hidden}
 use Rattle.dp_semantics.proofs.Setting.{Split}
 use Rattle.dp_semantics.proofs.TextOrder.{Ascends, Between, ascends-numbers_from, ascends_split, ascends_between, each_of_map, sites_are}
-use Rattle.dp_semantics.proofs.Regions.{RegionAt, Sought, absent, present, all_alone, plain_free_in}
+use Rattle.dp_plan.proofs.RegionOrder.{RegionAt, Sought, absent, present}
+use Rattle.dp_semantics.proofs.Regions.{all_alone, plain_free_in}
 use Rattle.dp_semantics.proofs.Fitting.{split_of}
 use Rattle.dp_semantics.proofs.ValidFits.{sought, between}
 
@@ -152,6 +153,6 @@ module _ {p : Program} (inlined : IsInlined p) (r : ℕ) (entry : RegionInfo) (a
 pub regions_once : (p : Program) → IsInlined p → RegionsStandOnce p
 regions_once p inlined r low high = by (sought inlined r)
   where
-    by : Sought r 1 p.main p.regions → StandsOnce p r
+    by : Sought r 1 1 p.main p.regions → StandsOnce p r
     by (absent none out) = absurd (out (omega (arith, low)) (omega (arith, high)))
-    by (present entry from at q) = once inlined r entry at q
+    by (present entry from at q least most) = once inlined r entry at q

@@ -16,7 +16,8 @@ use Rattle.dp_plan.specs.Valid.{first_broken}
 use Rattle.dp_semantics.specs.ValidPlan.{WrittenAs, ValidPlanFits, RegionsStandAlone}
 use Rattle.dp_semantics.proofs.Counts.{count_all}
 use Rattle.dp_semantics.proofs.TextOrder.{Ascends, Between, ascends-numbers_from, ascends_between, each_of_map, has_fact}
-use Rattle.dp_semantics.proofs.Regions.{RegionAt, Sought, absent, present, all_alone, find_region}
+use Rattle.dp_plan.proofs.RegionOrder.{RegionAt, Sought, absent, present, find_region}
+use Rattle.dp_semantics.proofs.Regions.{all_alone}
 use Rattle.dp_semantics.proofs.Unbroken.{all_listed, no_foreign, condition_first, sequential_first, none_beside, whiles_in_time, ifs_in_time, stage_listed, stage_unlisted, first_kind, kinds_differ}
 use Rattle.dp_semantics.proofs.WellNested.{Within, sites_within, ifs_at, InTime, Ruled, well_by_in}
 use Rattle.dp_semantics.proofs.PlanStages.{same_stage, in_time, ruled}
@@ -66,7 +67,7 @@ module _ (r : ℕ) (site : SiteId) (cond : Expr) (body : List Stmt) where
   whiles_made = refl
 
 module _ {p : Program} (inlined : IsInlined p) where
-  pub sought : (r : ℕ) → Sought r 1 p.main p.regions
+  pub sought : (r : ℕ) → Sought r 1 1 p.main p.regions
   sought r = find_region p.main 1 1 p.regions inlined.regions inlined.table (subst (λ (ns : List ℕ). Ascends 1 ns) (sym inlined.sites) (ascends-numbers_from 1 (length p.sites))) r
 
   module _ (r : ℕ) (entry : RegionInfo) (at : slice_get p.regions (r - 1) ≡ Some entry) (q : RegionAt r p.main entry) where
@@ -88,9 +89,9 @@ module _ {p : Program} (inlined : IsInlined p) where
 pub regions_alone : (p : Program) → IsInlined p → RegionsStandAlone p
 regions_alone p inlined r low high = by (sought inlined r)
   where
-    by : Sought r 1 p.main p.regions → stands_alone p r ≡ true
+    by : Sought r 1 1 p.main p.regions → stands_alone p r ≡ true
     by (absent none out) = absurd (out (omega (arith, low)) (omega (arith, high)))
-    by (present entry from at q) = alone inlined r entry at q
+    by (present entry from at q least most) = alone inlined r entry at q
 
 module _ {p : Program} (inlined : IsInlined p) (w : WrittenPlan) (written : WrittenAs p w (plan_of p w)) where
   abbrev plan : Plan
@@ -211,9 +212,9 @@ module _ {p : Program} (inlined : IsInlined p) (w : WrittenPlan) (written : Writ
   fits_here : fits_plan p plan ≡ true
   fits_here = by (sought inlined w.region)
     where
-      by : Sought w.region 1 p.main p.regions → fits_plan p plan ≡ true
+      by : Sought w.region 1 1 p.main p.regions → fits_plan p plan ≡ true
       by (absent none out) = absurd (nowhere none)
-      by (present entry low at q) = fits entry at q
+      by (present entry low at q least most) = fits entry at q
 
 pub valid_fits : (p : Program) (q : Plan) → IsInlined p → ValidPlanFits p q
 valid_fits p q inlined w written =
