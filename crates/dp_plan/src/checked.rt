@@ -1,6 +1,6 @@
 //! The sites that a plan has checked, read off the text.
 
-ghost use Rattle.std.specs.Prelude.{◌≡◌, slice_index};
+ghost use Rattle.std.specs.Prelude.{◌≡◌, ◌||◌, slice_index};
 ghost use Rattle.dp_plan.specs.Access as access;
 ghost use Rattle.dp_plan.specs.Stage as stages;
 ghost use Rattle.dp_plan.specs.Walks.{is_region_of, any_load, any_access, any_among, store_differs, is_differing};
@@ -179,6 +179,12 @@ impl Plan {
         }
     }
 
+    fn either_loads_differing(&self, p: &Program, stage: u32, one: &Expr, other: &Expr) -> bool
+        ensures { result ≡ (any_load (access.may_differ p.now self.now stage) one.now || any_load (access.may_differ p.now self.now stage) other.now) }
+    {
+        self.loads_differing(p, stage, one) || self.loads_differing(p, stage, other)
+    }
+
     #[tactic(auto, using(crate::proofs::WalkLemmas::checked_forms))]
     #[cycle(checks)]
     fn is_checked_in(&self, p: &Program, asked: SiteId, statement: &Stmt) -> bool
@@ -194,11 +200,7 @@ impl Plan {
                 index,
                 value,
                 ..
-            } => {
-                site.0 == asked.0
-                    && (self.loads_differing(p, stage, index)
-                        || self.loads_differing(p, stage, value))
-            }
+            } => site.0 == asked.0 && self.either_loads_differing(p, stage, index, value),
             Stmt::If {
                 site,
                 cond,
