@@ -23,3 +23,7 @@ pub record WentAhead (region limit : ℕ) (old new : MachineState) (ahead : Iter
   pub whole : WholeIterations region limit old ahead.whole between
   pub start : ahead.start ≡ between.steps
   pub front : (new ≡ between) ⊎ Front region between new
+
+-- Nothing was made.
+abbrev pub StoodStill : MachineState → MachineState → IterationsAhead → Type 0
+StoodStill old new ahead = (new ≡ old) × (ahead ≡ record { whole = 0; start = old.steps })

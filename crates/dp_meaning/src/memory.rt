@@ -1,5 +1,5 @@
 //! Changes of a program's memory.
-ghost use Rattle.std.specs.Prelude.{◌≡◌, if◌then◌else◌, ℕ, false, pos, slice_set, replicate, length, ◌^◌, ◌<◌, List, ℤ, IfOk};
+ghost use Rattle.std.specs.Prelude.{◌≡◌, if◌then◌else◌, ℕ, false, pos, slice_set, length, ◌^◌, ◌<◌, IfOk};
 ghost use Rattle.dp_meaning.specs.Locals.{HoldsLocals};
 ghost use Rattle.dp_tree.specs.Step as definition;
 ghost use Rattle.dp_tree.specs.Trace as definition_of_runs;

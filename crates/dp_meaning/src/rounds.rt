@@ -1,5 +1,5 @@
 //! Iterations of a region whose body is straight, one round after the other.
-ghost use Rattle.std.specs.Prelude.{◌≡◌, ◌<◌, ◌≤◌, ◌+◌, length, IfSome};
+ghost use Rattle.std.specs.Prelude.{◌<◌, ◌≤◌, ◌+◌, length, IfSome};
 ghost use Rattle.dp_meaning.specs.Locals.{HoldsLocals};
 ghost use Rattle.dp_meaning.specs.Rounds.{RoundsMade};
 
