@@ -1,5 +1,5 @@
 //! Iterations of a region whose body is straight, one round after the other.
-ghost use Rattle.std.specs.Prelude.{◌<◌, ◌≤◌, ◌+◌, length, IfSome};
+ghost use Rattle.std.specs.Prelude.{◌≡◌, ◌<◌, ◌≤◌, ◌+◌, length, None, IfSome};
 ghost use Rattle.dp_meaning.specs.Locals.{HoldsLocals};
 ghost use Rattle.dp_meaning.specs.Rounds.{RoundsMade};
 
@@ -21,6 +21,18 @@ pub(crate) struct Rounds {
     pub(crate) front: Option<usize>,
 }
 
+/// Nothing was made.
+#[inline(always)]
+pub(crate) fn no_rounds() -> Rounds
+    ensures { result ≡ record { whole = 0; steps = 0; front = None } }
+{
+    Rounds {
+        whole: 0,
+        steps: 0,
+        front: None,
+    }
+}
+
 /// Makes iterations of the region within so many steps, up to a condition or a statement that isn't straight.
 #[inline(always)]
 pub(crate) fn make_rounds(
@@ -39,11 +51,7 @@ pub(crate) fn make_rounds(
     ensures front { IfSome result.front (λ made. (made < length body.now) × (result.steps + made + 1 < left)) }
 {
     let vars = program.vars.as_slice();
-    let mut rounds = Rounds {
-        whole: 0,
-        steps: 0,
-        front: None,
-    };
+    let mut rounds = no_rounds();
     'rounds: loop {
         if left - rounds.steps <= body.len() as u64 {
             return rounds;

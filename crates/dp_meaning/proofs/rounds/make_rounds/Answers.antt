@@ -1,15 +1,26 @@
-use Rattle.std.proofs.Common.{rules, ◌≡◌, refl, ◌∙◌, sym, subst, ℕ, ◌+◌, ◌≤◌, false, List, [], length, ℤ, Ok, arith}
+use Rattle.std.proofs.Common.{rules, ◌≡◌, ◌∙◌, sym, ap, subst, ℕ, ◌+◌, ◌≤◌, false, List, [], length, ℤ, Ok, arith}
 use Rattle.std.proofs.lemmas.List.{drop_all}
 use Rattle.dp_base.specs.Arithmetic.{is_zero}
 use Rattle.dp_tree.specs.declared.Stmt.{Stmt}
 use Rattle.dp_tree.specs.Eval.{eval, result_of}
 use Rattle.dp_tree.specs.Step.{clear_locals}
 use Rattle.dp_meaning.specs.Straight.{Straight}
+use Rattle.dp_meaning.specs.declared.rounds.Rounds.{Rounds}
 use Rattle.dp_meaning.specs.Rounds.{Holds, WholeRounds, none, more}
 use Rattle.dp_meaning.proofs.rounds.make_rounds.Goals as goal
 
 pub rounds-init : goal.rounds-init
-rounds-init c = record { whole = none; front = refl; within = omega arith; paced = omega arith }
+rounds-init c =
+    let is = c.no_rounds-rounds.ensures in
+    let no_step : c.no_rounds-rounds.result.steps ≡ 0 = ap (λ (r : Rounds). r.steps) is in
+    let no_round : c.no_rounds-rounds.result.whole ≡ 0 = ap (λ (r : Rounds). r.whole) is in
+    let From = λ (r : Rounds). WholeRounds c.args.program.now c.args.input.now c.args.region c.args.cond.now c.args.body.now c.args.cells.now r.whole r.steps c.args.cells.now in
+    record {
+      whole = subst From (sym is) none;
+      front = ap (λ (r : Rounds). r.front) is;
+      within = omega (arith, no_step);
+      paced = omega (arith, no_step, no_round);
+    }
 
 pub rounds-preserved : goal.rounds-preserved
 rounds-preserved c =

@@ -2,7 +2,9 @@ use Rattle.std.proofs.Common.{rules, ◌≡◌, ◌<◌, ◌^◌, refl, sym, ◌
 use Rattle.std.specs.Option.{option_copied}
 use Rattle.dp_tree.specs.declared.Stmt.{Stmt}
 use Rattle.dp_tree.specs.declared.Stmt.TheVariants as tree
+use Rattle.dp_tree.specs.declared.Program.{Program}
 use Rattle.dp_tree.specs.Step.{Config, standing}
+use Rattle.dp_meaning.specs.declared.rounds.Rounds.{Rounds}
 use Rattle.dp_meaning.specs.Rounds.{FrontMade, RoundsMade}
 use Rattle.dp_meaning.specs.Ahead.{Ahead, none, FrontAhead, RanAhead}
 use Rattle.dp_meaning.proofs.RoundsLemmas.{rounds_length}
@@ -13,11 +15,14 @@ use Rattle.dp_meaning.specs.MachineState.{part_of}
 use Rattle.dp_meaning.proofs.AheadLemmas.{ahead, wholes, inside_part}
 use Rattle.dp_meaning.proofs.configuration.Configuration.iterations_ahead.Goals as goal
 
+nothing_made : (p : Program) (input : List ℤ) (limit : ℕ) (c : Config) (rounds : Rounds) → rounds ≡ record { whole = 0; steps = 0; front = None } → RanAhead p input limit c c rounds
+nothing_made p input limit c rounds is = subst (RanAhead p input limit c c) (sym is) (record { between = c; whole = none; front = refl })
+
 pub returns-in_default-clause-ahead : goal.returns-in_default-clause-ahead
-returns-in_default-clause-ahead c = record { between = c.args.self.now; whole = none; front = refl }
+returns-in_default-clause-ahead c = nothing_made c.args.program.now c.args.input.now c.args.limit c.args.self.now c.no_rounds.result c.no_rounds.ensures
 
 pub returns-then-limit-body-clause-ahead : goal.returns-then-limit-body-clause-ahead
-returns-then-limit-body-clause-ahead c = record { between = c.args.self.now; whole = none; front = refl }
+returns-then-limit-body-clause-ahead c = nothing_made c.args.program.now c.args.input.now c.args.limit c.args.self.now c.no_rounds-then-limit-body.result c.no_rounds-then-limit-body.ensures
 
 pub invariant_of-self : goal.invariant_of-self
 invariant_of-self c =
