@@ -71,19 +71,20 @@ module _ (region turns rest made : ℕ) (mid m new : MachineState) (before betwe
     spoiled = run.spoiled ∙ so.spoiled;
   }
 
-  pub spoiled_joined : Spoiled (under_way m) new between after → Spoiled (under_way mid) new before after
+  pub spoiled_joined : Spoiled rest (under_way m) new between after → Spoiled turns (under_way mid) new before after
   spoiled_joined run = record {
     events = so.events ++ run.events;
     configs = so.configs ++ run.configs;
     moved = moved_join (under_way mid) (under_way m) new before between after so.events run.events so.configs run.configs
         (moved_between mid m (Some region) (Some region) before between so.events so.configs so.moved) run.moved;
+    within = let w = run.within in let e = count run.events in omega arith;
     part = run.part;
     behind = run.behind ∙ so.behind;
     spoiled = run.spoiled;
   }
 
-  pub stretch_joined : (result : Result IterEnd NoMemory) → MatchResult result (IterationRun region rest (under_way m) new between after) (λ _. Spoiled (under_way m) new between after) →
-      MatchResult result (IterationRun region turns (under_way mid) new before after) (λ _. Spoiled (under_way mid) new before after)
+  pub stretch_joined : (result : Result IterEnd NoMemory) → MatchResult result (IterationRun region rest (under_way m) new between after) (λ _. Spoiled rest (under_way m) new between after) →
+      MatchResult result (IterationRun region turns (under_way mid) new before after) (λ _. Spoiled turns (under_way mid) new before after)
   stretch_joined (Ok how) run = run_joined how run
   stretch_joined (Err none) run = spoiled_joined run
 
@@ -124,10 +125,10 @@ module _ (old : MachineState) (made : ℕ) (d : Config) (outer : IsTrue (list_al
     -- the rest of the iteration is one of the whole
     pub ahead_joined : (turns : ℕ) (m new : MachineState) (out after : List ℤ) → old.current ≡ None → old.steps + made < old.fuel → made < turns → m ≡ walked old (made + 1) d →
         (result : Result IterEnd NoMemory) →
-        MatchResult result (IterationRun region (turns - 1 - made) (with_current m (Some region)) new out after) (λ _. Spoiled (with_current m (Some region)) new out after) →
-        MatchResult result (IterationRun region turns old new out after) (λ _. Spoiled old new out after)
+        MatchResult result (IterationRun region (turns - 1 - made) (with_current m (Some region)) new out after) (λ _. Spoiled (turns - 1 - made) (with_current m (Some region)) new out after) →
+        MatchResult result (IterationRun region turns old new out after) (λ _. Spoiled turns old new out after)
     ahead_joined turns m new out after idle fuel few is result run =
-        let Runs = λ (n : MachineState). MatchResult result (IterationRun region (turns - 1 - made) (with_current n (Some region)) new out after) (λ _. Spoiled (with_current n (Some region)) new out after) in
+        let Runs = λ (n : MachineState). MatchResult result (IterationRun region (turns - 1 - made) (with_current n (Some region)) new out after) (λ _. Spoiled (turns - 1 - made) (with_current n (Some region)) new out after) in
         let rest : Runs (walked mid made d) = subst Runs (is ∙ sym same_walk) run in
         let all : turns - 1 - made + made ≡ turns - 1 = omega (arith, few) in
         let less : suc (turns - 1) ≡ turns = omega (arith, few) in
@@ -210,7 +211,7 @@ module _ (region limit : ℕ) (old : MachineState) (outer : IsTrue (list_all is_
       outer_whole = subst (λ (c : Config). IsTrue (list_all is_outer c.to_do)) (sym stays) so_far_all.outer_now
 
       pub went_whole : WentAhead region limit old (walked old rounds.steps d) (ahead_of rounds)
-      went_whole = record { between = walked old rounds.steps ran.between; whole = so_far_all.whole; start = refl; front = inl (ap (walked old rounds.steps) stays) }
+      went_whole = record { between = walked old rounds.steps ran.between; whole = so_far_all.whole; start = refl; within = omega arith; front = inl (ap (walked old rounds.steps) stays) }
 
     -- the front of one more was made
     module _ (made : ℕ) (is : rounds.front ≡ Some made) (room : old.steps + rounds.steps + (made + 1) < old.fuel) (plain : part_of d.to_do ≡ part.Plain) where
@@ -229,11 +230,12 @@ module _ (region limit : ℕ) (old : MachineState) (outer : IsTrue (list_all is_
       pub behind_front : part_of (from_region d.to_do) ≡ part.Region region
       behind_front = behind_ahead between made d so_far_all.outer_now begun region so_far_all.at less
 
-      pub went_front : WentAhead region limit old (with_current (walked between (made + 1) d) (Some region)) (ahead_of rounds)
-      went_front = record {
+      pub went_front : made < limit → WentAhead region limit old (with_current (walked between (made + 1) d) (Some region)) (ahead_of rounds)
+      went_front few = record {
         between = between;
         whole = so_far_all.whole;
         start = refl;
+        within = omega arith;
         front = inr (record {
           turns = made + 1;
           some = omega arith;

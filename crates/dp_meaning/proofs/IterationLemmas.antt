@@ -73,13 +73,13 @@ module _ (region turns : ℕ) (old : MachineState) (before : List ℤ) (idle : o
       let Result = λ (n : MachineState) (out : List ℤ). IterationRun region turns old n before out (end.Fault fault) in
       subst (λ (n : MachineState). Result n after) (sym t.1) (subst (Result old) (sym t.2) (start_fault fault fuel some t.0))
 
-  pub start_spoiled : (new : MachineState) (after : List ℤ) → new ≡ record old { spoiled = true } → after ≡ before → Spoiled old new before after
-  start_spoiled new after is same =
-      let Result = λ (n : MachineState) (out : List ℤ). Spoiled old n before out in
+  pub start_spoiled : (new : MachineState) (after : List ℤ) → 0 < turns → new ≡ record old { spoiled = true } → after ≡ before → Spoiled turns old new before after
+  start_spoiled new after some is same =
+      let Result = λ (n : MachineState) (out : List ℤ). Spoiled turns old n before out in
       let spoiled : MachineState = record old { spoiled = true } in
       let none = moved_none old before in
       let moved : Moved old spoiled before before [] [] = record { run = none.run; prints = none.prints; steps = none.steps; program = refl; input = refl; fuel = refl } in
-      let made : Result spoiled before = record { events = []; configs = []; moved = moved; part = refl; behind = refl; spoiled = refl } in
+      let made : Result spoiled before = record { events = []; configs = []; moved = moved; within = some; part = refl; behind = refl; spoiled = refl } in
       subst (λ (n : MachineState). Result n after) (sym is) (subst (Result spoiled) (sym same) made)
 
 -- the condition was evaluated
@@ -166,18 +166,19 @@ module _ (region turns rest_turns : ℕ) (old mid new : MachineState) (before be
     spoiled = run.spoiled ∙ ap (λ (n : MachineState). n.spoiled) taken.rest;
   }
 
-  pub spoiled_joined : Spoiled entered new between after → Spoiled old new before after
+  pub spoiled_joined : Spoiled rest_turns entered new between after → Spoiled turns old new before after
   spoiled_joined run = record {
     events = taken.event ∷ run.events;
     configs = old.config ∷ run.configs;
     moved = moved_join old entered new before between after (taken.event ∷ []) run.events (old.config ∷ []) run.configs first_moved run.moved;
+    within = let w = run.within in omega arith;
     part = run.part ∙ sym (part_idle old idle ∙ here);
     behind = run.behind ∙ behind_first;
     spoiled = run.spoiled;
   }
 
-  pub joined_result : (result : Result IterEnd NoMemory) → MatchResult result (IterationRun region rest_turns entered new between after) (λ _. Spoiled entered new between after) →
-      MatchResult result (IterationRun region turns old new before after) (λ _. Spoiled old new before after)
+  pub joined_result : (result : Result IterEnd NoMemory) → MatchResult result (IterationRun region rest_turns entered new between after) (λ _. Spoiled rest_turns entered new between after) →
+      MatchResult result (IterationRun region turns old new before after) (λ _. Spoiled turns old new before after)
   joined_result (Ok end) run = iteration_joined end run
   joined_result (Err none) run = spoiled_joined run
 

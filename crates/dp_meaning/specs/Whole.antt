@@ -17,11 +17,12 @@ pub record Front (region : ℕ) (old new : MachineState) : Type 0 where
   pub some : 0 < turns
   pub run : (out : List ℤ) → IterationRun region turns old new out out Going
 
--- Whole iterations, and then nothing or the front of one more, which begins after so many steps.
+-- Whole iterations, and then nothing or the front of one more, which begins after so many steps and has no more than the others.
 pub record WentAhead (region limit : ℕ) (old new : MachineState) (ahead : IterationsAhead) : Type 0 where
   pub between : MachineState
   pub whole : WholeIterations region limit old ahead.whole between
   pub start : ahead.start ≡ between.steps
+  pub within : new.steps ≤ ahead.start + limit
   pub front : (new ≡ between) ⊎ Front region between new
 
 -- Nothing was made.

@@ -11,7 +11,8 @@ use Rattle.dp_meaning.proofs.machine.Machine.iterations_ahead.Goals as goal
 
 pub returns-then-self-clause-ahead : goal.returns-then-self-clause-ahead
 returns-then-self-clause-ahead c region here =
-    record { between = c.args.self.now; whole = none; start = ap (λ (m : MachineState). m.steps) c.self.view_is; front = inl refl }
+    let same : c.self.inside.steps ≡ c.args.self.now.steps = ap (λ (m : MachineState). m.steps) c.self.view_is in
+    record { between = c.args.self.now; whole = none; start = same; within = omega arith; front = inl refl }
 
 pub invariant_of-self : goal.invariant_of-self
 invariant_of-self c =
@@ -77,10 +78,11 @@ returns-in-Some-clause-ahead c region is =
     let more : rounds.steps + made + 1 < m.fuel - m.steps = search rules in
     let room : m.steps + rounds.steps + (made + 1) < m.fuel = omega arith in
     let plain : part_of d.to_do ≡ part.Plain = search rules in
+    let limited : made < c.args.limit = search rules in
     let same : c.in-Region.region ≡ region = let e = sym here ∙ sym (part_idle m idle) ∙ ap next_part c.self.view_is ∙ is in cc in
     let last : MachineState = record m { config = d; steps = m.steps + rounds.steps + (made + 1); current = Some c.in-Region.region } in
     let ahead : IterationsAhead = record { whole = rounds.whole; start = m.steps + rounds.steps } in
-    let went : WentAhead c.in-Region.region c.args.limit m last ahead = went_front c.in-Region.region c.args.limit m outer idle here d rounds ran fits made c.in-Some.is room plain in
+    let went : WentAhead c.in-Region.region c.args.limit m last ahead = went_front c.in-Region.region c.args.limit m outer idle here d rounds ran fits made c.in-Some.is room plain limited in
     let end : MachineState = record m { config = d; steps = m.steps + rounds.steps + (made + 1); current = Some region } in
     let at_region : WentAhead region c.args.limit m end ahead = subst (λ (r : ℕ). WentAhead r c.args.limit m (record m { config = d; steps = m.steps + rounds.steps + (made + 1); current = Some r }) ahead) same went in
     let back = ap (λ (r : ℕ). record m { config = d; steps = m.steps + rounds.steps + (made + 1); current = Some r }) (sym same) in

@@ -11,7 +11,7 @@ returns-then-self c region here =
     (ap (λ (m : MachineState). m.steps) (sym c.self.view_is) ∙ c.if-self.true ∙ ap (λ (m : MachineState). m.fuel) c.self.view_is)
 
 pub returns-in-Err : goal.returns-in-Err
-returns-in-Err c region here = let a = c.in-Err.ensures.err in start_spoiled region c.args.turns c.args.self.now c.args.out.now c.requires.current here c.step.new.self c.step.new.out a.0 a.1
+returns-in-Err c region here = let a = c.in-Err.ensures.err in start_spoiled region c.args.turns c.args.self.now c.args.out.now c.requires.current here c.step.new.self c.step.new.out c.requires.turns a.0 a.1
 
 pub returns-in-Ok-Fault : goal.returns-in-Ok-Fault
 returns-in-Ok-Fault c region here =
