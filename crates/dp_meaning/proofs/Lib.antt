@@ -20,3 +20,4 @@ pub mod IterationLemmas
 pub mod AheadRunLemmas
 pub mod DepthLemmas
 pub mod ShallowLemmas
+pub mod rows

@@ -1,0 +1,4 @@
+pub mod Stretches
+pub mod PartAnswers
+pub mod IterationAnswers
+pub mod Laws

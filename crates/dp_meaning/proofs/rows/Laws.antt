@@ -1,0 +1,98 @@
+-- What stands where memory was wanting, and after iterations that were made ahead.
+use Rattle.std.proofs.Common.{◌≡◌, sym, ◌∙◌, ap, subst, true, ℕ, ◌+◌, ◌<◌, ◌≤◌, Option, None, List, [], ◌∷◌, ◌++◌, append_assoc, drop, length, ℤ, arith}
+use Rattle.std.proofs.lemmas.List.Elements.{filter_map-append}
+use Rattle.dp_tree.specs.Step.{Config, Event}
+use Rattle.dp_tree.specs.Trace.{prints, printed_by}
+use Rattle.dp_meaning.specs.declared.ends.IterationsAhead.{IterationsAhead}
+use Rattle.dp_meaning.specs.declared.ends.Part.TheVariants as part
+use Rattle.dp_meaning.specs.declared.ends.PartEnd.{PartEnd}
+use Rattle.dp_meaning.specs.declared.ends.PartEnd.TheVariants as part_end
+use Rattle.dp_meaning.specs.declared.ends.IterEnd.TheVariants as iter_end
+use Rattle.dp_meaning.specs.MachineState.{MachineState, rest_of_run, part_of, next_part, from_region}
+use Rattle.dp_meaning.specs.Moved.{Spoiled}
+use Rattle.dp_meaning.specs.PartRun.{PartRun}
+use Rattle.dp_meaning.specs.IterationRun.{IterationRun, HeadsOnce, Awaits}
+use Rattle.dp_meaning.specs.Whole as whole
+use Rattle.dp_meaning.specs.Whole.{WholeIterations, WentAhead}
+
+module _ (turns : ℕ) (old new : MachineState) (before after : List ℤ) (s : Spoiled turns old new before after) where
+  -- what was printed and what would be printed from here on are the prints of the run
+  no_print_is_lost : before ++ prints (rest_of_run old).trace ≡ after ++ prints (rest_of_run new).trace
+  no_print_is_lost =
+      let rest = prints (rest_of_run new).trace in
+      ap (λ (es : List Event). before ++ prints es) s.moved.run.trace ∙
+      ap (λ (xs : List ℤ). before ++ xs) (filter_map-append (λ (e : Event). printed_by e.effect) s.events (rest_of_run new).trace) ∙
+      sym (append_assoc before (prints s.events) rest) ∙
+      ap (λ (xs : List ℤ). xs ++ rest) (sym s.moved.prints)
+
+  fewer_steps_than_turns : new.steps < old.steps + turns
+  fewer_steps_than_turns = let steps = s.moved.steps in let few = s.within in omega arith
+
+  the_same_end_is_ahead : (rest_of_run new).end ≡ (rest_of_run old).end
+  the_same_end_is_ahead = sym s.moved.run.end
+
+  the_same_part_is_next : next_part new ≡ next_part old
+  the_same_part_is_next = s.part
+
+  no_region_is_passed : from_region new.config.to_do ≡ from_region old.config.to_do
+  no_region_is_passed = s.behind
+
+  no_step_follows : new.spoiled ≡ true
+  no_step_follows = s.spoiled
+
+-- no step is taken back
+rises : {region limit : ℕ} {old : MachineState} {count : ℕ} {new : MachineState} → WholeIterations region limit old count new → old.steps ≤ new.steps
+rises whole.none = omega arith
+rises (whole.more new turns before some few run) = let so = rises before in let e = (run []).moved.steps in omega (arith, so, e)
+
+-- the last of the iterations that were made whole
+record Last (limit : ℕ) (new : MachineState) : Type 0 where
+  before : MachineState
+  few : new.steps ≤ before.steps + limit
+
+last_has_few_steps : {region limit : ℕ} {old : MachineState} {count : ℕ} {new : MachineState} → WholeIterations region limit old count new → 0 < count → Last limit new
+last_has_few_steps whole.none h = absurd (omega (arith, h))
+last_has_few_steps (whole.more {mid = m} new turns before some few run) h =
+    let e = (run []).moved.steps in
+    let w = (run []).within in
+    record { before = m; few = omega (arith, few, e, w) }
+
+module _ (region limit : ℕ) (old new : MachineState) (ahead : IterationsAhead) (w : WentAhead region limit old new ahead) where
+  starts_behind : old.steps ≤ ahead.start
+  starts_behind = let h = rises w.whole in let e = w.start in omega (arith, h, e)
+
+  front_within_the_limit : new.steps ≤ ahead.start + limit
+  front_within_the_limit = w.within
+
+-- what is left to do behind a call
+module _ (turns : ℕ) (old new : MachineState) (before after : List ℤ) where
+  done_stands_at_the_next_region : PartRun turns old new before after part_end.Done → new.config.to_do ≡ from_region old.config.to_do
+  done_stands_at_the_next_region run = run.stops.rest
+
+  parts_pass_no_region : (end : PartEnd) → PartRun turns old new before after end → from_region new.config.to_do ≡ from_region old.config.to_do
+  parts_pass_no_region end run = run.behind
+
+  parts_lead_to_the_runs_end : (end : PartEnd) → PartRun turns old new before after end → (rest_of_run old).end ≡ (rest_of_run new).end
+  parts_lead_to_the_runs_end end run = run.moved.run.end
+
+  parts_spend_fuel : (end : PartEnd) → (run : PartRun turns old new before after end) → (rest_of_run old).fuel ≡ length run.events + (rest_of_run new).fuel
+  parts_spend_fuel end run = run.moved.run.fuel
+
+  module _ (region : ℕ) where
+    next_stands_at_the_region : IterationRun region turns old new before after iter_end.Next → new.config.to_do ≡ from_region old.config.to_do
+    next_stands_at_the_region run = run.stops.rest
+
+    closed_leaves_the_region : IterationRun region turns old new before after iter_end.Closed → new.config.to_do ≡ drop 1 old.config.to_do
+    closed_leaves_the_region run = run.stops.rest
+
+    going_passes_no_region : IterationRun region turns old new before after iter_end.Going → from_region new.config.to_do ≡ from_region old.config.to_do
+    going_passes_no_region run = run.stops.0.behind
+
+-- an iteration begins at its region's condition
+condition_comes_first : (region : ℕ) (first : Config) (rest : List Config) → HeadsOnce region None (first ∷ rest) → part_of first.to_do ≡ part.Region region
+condition_comes_first region first rest heads = heads.0
+
+-- one that isn't begun still stands there
+unbegun_stands_at_its_condition : (region turns : ℕ) (old new : MachineState) (out : List ℤ) → old.current ≡ None → IterationRun region turns old new out out iter_end.Going → new.current ≡ None →
+    part_of new.config.to_do ≡ part.Region region
+unbegun_stands_at_its_condition region turns old new out idle run none = subst (λ (c : Option ℕ). Awaits region c new.config) none run.stops.0.awaits

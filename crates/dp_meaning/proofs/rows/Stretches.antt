@@ -1,0 +1,142 @@
+-- Two stretches of steps from one machine on: the longer one goes on where the shorter one stops.
+use Rattle.std.proofs.Common.{◌≡◌, refl, sym, ◌∙◌, ap, subst, ◌⊎◌, inl, inr, ℕ, zero, suc, ◌+◌, ◌-◌, ◌<◌, ◌≤◌, Bool, Option, List, [], ◌∷◌, ◌++◌, append-nil, length, length-append, All, ℤ, arith}
+use Rattle.std.proofs.lemmas.List.Elements.{All-tail}
+use Rattle.dp_tree.specs.declared.Program.{Program}
+use Rattle.dp_tree.specs.Step.{Config, Event, Step, Finished, Faulted, Stepped, step}
+use Rattle.dp_tree.specs.Trace.{Run, run_of, run_by, prints}
+use Rattle.dp_meaning.specs.MachineState.{MachineState, rest_of_run}
+use Rattle.dp_meaning.specs.Moved.{Moved}
+
+-- one front of a list, and a longer one or the same
+record Fronts {X : Type 0} (front longer rest further : List X) : Type 0 where
+  more : List X
+  longer_is : longer ≡ front ++ more
+  rest_is : rest ≡ more ++ further
+
+fronts : {X : Type 0} (xs ys r s : List X) → xs ++ r ≡ ys ++ s → length xs ≤ length ys → Fronts xs ys r s
+fronts [] ys r s e h = record { more = ys; longer_is = refl; rest_is = e }
+fronts (x ∷ xs) [] r s e h = absurd (omega (arith, h))
+fronts {X = X} (x ∷ xs) (y ∷ ys) r s e h =
+    let same : y ≡ x = cc in
+    let tails : xs ++ r ≡ ys ++ s = cc in
+    let so = fronts xs ys r s tails (omega (arith, h)) in
+    record { more = so.more; longer_is = ap (λ (z : X). z ∷ ys) same ∙ ap (λ (zs : List X). x ∷ zs) so.longer_is; rest_is = so.rest_is }
+
+no_more : {X : Type 0} (xs : List X) → length xs ≡ 0 → xs ≡ []
+no_more [] e = refl
+no_more (x ∷ xs) e = absurd (omega (arith, e))
+
+pub behind_all : {X : Type 0} (P : X → Type 0) (xs ys : List X) → All P (xs ++ ys) → All P ys
+behind_all P [] ys h = h
+behind_all P (x ∷ xs) ys h = behind_all P xs ys (All-tail P x (xs ++ ys) h)
+
+-- the list begins with this configuration
+record Begins (configs : List Config) (c : Config) : Type 0 where
+  tail : List Config
+  is : configs ≡ c ∷ tail
+
+begins_by : (go : Config → Run) (n : ℕ) (c : Config) (s : Step) → Begins (run_by go n c s).configs c
+begins_by go n c Finished = record { tail = []; is = refl }
+begins_by go n c (Faulted fault) = record { tail = []; is = refl }
+begins_by go n c (Stepped event d) = record { tail = (go d).configs; is = refl }
+
+begins : (p : Program) (input : List ℤ) (n : ℕ) (c : Config) → Begins (run_of p input n c).configs c
+unfolding run_of
+begins p input zero c = record { tail = []; is = refl }
+begins p input (suc n) c = begins_by (run_of p input n) (suc n) c (step p input c)
+
+begins_here : (m : MachineState) → Begins (rest_of_run m).configs m.config
+begins_here m = begins m.program m.input (m.fuel - m.steps) m.config
+
+same_first : (configs : List Config) (c d : Config) → Begins configs c → Begins configs d → c ≡ d
+same_first configs c d b e = let k = sym b.is ∙ e.is in cc
+
+front_begins : (more rest configs : List Config) (c : Config) → 0 < length more → Begins configs c → configs ≡ more ++ rest → Begins more c
+front_begins [] rest configs c h b e = absurd (omega (arith, h))
+front_begins (d ∷ more) rest configs c h b e =
+    let k = sym b.is ∙ e in
+    let same : d ≡ c = cc in
+    record { tail = more; is = ap (λ (x : Config). x ∷ more) same }
+
+-- Where the first stretch stops, the second one makes a step.
+pub record Further (a : MachineState) (es fs : List Event) (cs ds : List Config) : Type 0 where
+  pub some : 0 < length (rest_of_run a).trace
+  pub events : List Event
+  pub events_are : fs ≡ es ++ events
+  pub configs : List Config
+  pub configs_are : ds ≡ cs ++ a.config ∷ configs
+
+-- Both stop at the same place.
+pub record Alike (a b : MachineState) (es fs : List Event) (cs ds : List Config) : Type 0 where
+  pub events : fs ≡ es
+  pub configs : ds ≡ cs
+  pub config : a.config ≡ b.config
+
+module _ (old a b : MachineState) (x y z : List ℤ) (es fs : List Event) (cs ds : List Config) (m : Moved old a x y es cs) (n : Moved old b x z fs ds) where
+  trace_fronts : length es ≤ length fs → Fronts es fs (rest_of_run a).trace (rest_of_run b).trace
+  trace_fronts h = fronts es fs (rest_of_run a).trace (rest_of_run b).trace (sym m.run.trace ∙ n.run.trace) h
+
+  config_fronts : length es ≤ length fs → Fronts cs ds (rest_of_run a).configs (rest_of_run b).configs
+  config_fronts h =
+      let p = m.run.paired in
+      let q = n.run.paired in
+      fronts cs ds (rest_of_run a).configs (rest_of_run b).configs (sym m.run.configs ∙ n.run.configs) (omega (arith, h, p, q))
+
+  pub further : length es < length fs → Further a es fs cs ds
+  further h =
+      let t = trace_fronts (omega (arith, h)) in
+      let c = config_fronts (omega (arith, h)) in
+      let p = m.run.paired in
+      let q = n.run.paired in
+      let longer : length fs ≡ length es + length t.more = ap (λ (xs : List Event). length xs) t.longer_is ∙ length-append es t.more in
+      let rest : length (rest_of_run a).trace ≡ length t.more + length (rest_of_run b).trace = ap (λ (xs : List Event). length xs) t.rest_is ∙ length-append t.more (rest_of_run b).trace in
+      let listed : length ds ≡ length cs + length c.more = ap (λ (xs : List Config). length xs) c.longer_is ∙ length-append cs c.more in
+      let first = front_begins c.more (rest_of_run b).configs (rest_of_run a).configs a.config (omega (arith, h, p, q, listed)) (begins_here a) c.rest_is in
+      record {
+        some = omega (arith, h, longer, rest);
+        events = t.more;
+        events_are = t.longer_is;
+        configs = first.tail;
+        configs_are = c.longer_is ∙ ap (λ (xs : List Config). cs ++ xs) first.is;
+      }
+
+  pub alike : length es ≡ length fs → Alike a b es fs cs ds
+  alike h =
+      let t = trace_fronts (omega (arith, h)) in
+      let c = config_fronts (omega (arith, h)) in
+      let p = m.run.paired in
+      let q = n.run.paired in
+      let longer : length fs ≡ length es + length t.more = ap (λ (xs : List Event). length xs) t.longer_is ∙ length-append es t.more in
+      let listed : length ds ≡ length cs + length c.more = ap (λ (xs : List Config). length xs) c.longer_is ∙ length-append cs c.more in
+      let no_event = no_more t.more (omega (arith, h, longer)) in
+      let no_config = no_more c.more (omega (arith, h, p, q, listed)) in
+      let same : (rest_of_run a).configs ≡ (rest_of_run b).configs = c.rest_is ∙ ap (λ (xs : List Config). xs ++ (rest_of_run b).configs) no_config in
+      record {
+        events = t.longer_is ∙ ap (λ (xs : List Event). es ++ xs) no_event ∙ append-nil es;
+        configs = c.longer_is ∙ ap (λ (xs : List Config). cs ++ xs) no_config ∙ append-nil cs;
+        config = same_first (rest_of_run b).configs a.config b.config (subst (λ (xs : List Config). Begins xs a.config) same (begins_here a)) (begins_here b);
+      }
+
+  -- then the prints are the same, and so is the machine but for what the call says of it
+  pub same_prints : Alike a b es fs cs ds → z ≡ y
+  same_prints k = n.prints ∙ ap (λ (xs : List Event). x ++ prints xs) k.events ∙ sym m.prints
+
+  pub same_but : Alike a b es fs cs ds → a ≡ record b { current = a.current; spoiled = a.spoiled }
+  same_but k =
+      let steps : a.steps ≡ b.steps = m.steps ∙ ap (λ (xs : List Event). old.steps + length xs) (sym k.events) ∙ sym n.steps in
+      ap (λ (v : Program). record a { program = v }) (m.program ∙ sym n.program) ∙
+      ap (λ (v : List ℤ). record a { program = b.program; input = v }) (m.input ∙ sym n.input) ∙
+      ap (λ (v : Config). record a { program = b.program; input = b.input; config = v }) k.config ∙
+      ap (λ (v : ℕ). record a { program = b.program; input = b.input; config = b.config; steps = v }) steps ∙
+      ap (λ (v : ℕ). record a { program = b.program; input = b.input; config = b.config; steps = b.steps; fuel = v }) (m.fuel ∙ sym n.fuel)
+
+pub same_machine : (a b : MachineState) → a ≡ record b { current = a.current; spoiled = a.spoiled } → a.current ≡ b.current → a.spoiled ≡ b.spoiled → a ≡ b
+same_machine a b e current spoiled =
+    e ∙ ap (λ (v : Option ℕ). record b { current = v; spoiled = a.spoiled }) current ∙ ap (λ (v : Bool). record b { spoiled = v }) spoiled
+
+-- one is the longer one, or both are as long
+pub order : (m n : ℕ) → (m ≡ n) ⊎ ((m < n) ⊎ (n < m))
+order zero zero = inl refl
+order zero (suc n) = inr (inl (omega arith))
+order (suc m) zero = inr (inr (omega arith))
+order (suc m) (suc n) = elim (order m n) [ inl e ↦ inl (ap suc e) | inr (inl h) ↦ inr (inl (omega (arith, h))) | inr (inr h) ↦ inr (inr (omega (arith, h))) ]
