@@ -2,3 +2,4 @@ pub mod Digits
 pub mod Inputs
 pub mod KnownBytes
 pub mod Words
+pub mod rows

@@ -1,0 +1,3 @@
+pub mod Inputs
+pub mod Shelves
+pub mod Sinks
