@@ -14,3 +14,4 @@ pub mod Fronts
 pub mod Reading
 pub mod Definite
 pub mod LastAnswer
+pub mod rows
