@@ -1,5 +1,5 @@
 -- The numbers of an input, word by word.
-use Rattle.std.proofs.Common.{◌+◌, List, ◌++◌, ℤ, Result, Ok, Err}
+use Rattle.std.proofs.Common.{List, ◌++◌, ℤ, Result, Ok, Err}
 use Rattle.dp_edge.specs.declared.input.InputFail.{InputFail}
 
 -- the numbers of earlier words, before what the later ones give
