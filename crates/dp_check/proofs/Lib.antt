@@ -20,3 +20,4 @@ pub mod MainScopeLemmas
 pub mod ItemScopeLemmas
 pub mod CheckedLemmas
 pub mod MarkLemmas
+pub mod rows

@@ -1,7 +1,6 @@
 -- Counts of the items of a program.
-use Rattle.std.proofs.Common.{◌≡◌, ap, ◌∙◌, ℕ, ◌+◌, ◌≤◌, min, length, length-append, arith, List, ◌∷◌}
+use Rattle.std.proofs.Common.{◌≡◌, ap, ◌∙◌, ℕ, ◌+◌, min, length, length-append, arith, List, ◌∷◌}
 use Rattle.dp_tree.specs.declared.raw.RawItem.{RawItem}
-use Rattle.dp_tree.specs.declared.raw.RawItem.TheVariants as item
 use Rattle.dp_check.specs.Tables.{globals, global_of}
 use Rattle.dp_check.specs.Limits.{reported, functions_in, function_count, cell_sum, global_cells}
 use Rattle.dp_check.proofs.TableLemmas.{cell_sum-append}
@@ -20,8 +19,3 @@ functions_more c x rest = by (functions_in x) (function_count rest)
 
 pub globals_more : (c : ℕ) (x : RawItem) (rest : List RawItem) → c + length (globals (x ∷ rest)) ≡ (c + length (global_of x)) + length (globals rest)
 globals_more c x rest = let e = length-append (global_of x) (globals rest) in omega arith
-
-pub functions_at_most : (x : RawItem) → functions_in x ≤ 1
-functions_at_most (item.Scalar name start) = omega arith
-functions_at_most (item.Array name size) = omega arith
-functions_at_most (item.Function name params body) = omega arith

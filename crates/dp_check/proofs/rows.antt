@@ -1,0 +1,4 @@
+pub mod Build
+pub mod Offences
+pub mod Orders
+pub mod Numbers
