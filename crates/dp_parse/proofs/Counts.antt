@@ -57,9 +57,6 @@ nesting_next opened closed most s ss le =
     let now = open_now (opened + one (opens s)) (closed + one (closes s)) ss in
     omega arith
 
-pub nesting_end : (opened closed most : ℕ) → opened - closed ≤ most → nesting_from opened closed most [] ≡ most
-nesting_end opened closed most le = omega arith
-
 -- ---- operators
 
 abbrev with_first : ℕ → List ℕ → List ℕ
@@ -90,9 +87,6 @@ first_by here most s (piece ∷ ps) false false p q le = let h = count_next oper
 pub operators_next : (here most : ℕ) (s : Symbol) (ss : List Symbol) → here ≤ most →
     operators_from here most (s ∷ ss) ≡ operators_from (operators_after here s) (max most (operators_after here s)) ss
 operators_next here most s ss le = first_by here most s (pieces ss) (separates s) (operates s) refl refl le
-
-pub operators_end : (here most : ℕ) → here ≤ most → operators_from here most [] ≡ most
-operators_end here most le = omega arith
 
 -- ---- `else` before `if`
 

@@ -24,16 +24,6 @@ rank level.Product = 2
 rank level.Unary = 1
 rank level.Primary = 0
 
-pub rank-le : (l : Level) → rank l ≤ 7
-rank-le level.Or = omega arith
-rank-le level.And = omega arith
-rank-le level.Equality = omega arith
-rank-le level.Relation = omega arith
-rank-le level.Sum = omega arith
-rank-le level.Product = omega arith
-rank-le level.Unary = omega arith
-rank-le level.Primary = omega arith
-
 -- the operands' level is the next
 pub tighter : (l m : Level) → operands l ≡ Some m → rank m + 1 ≡ rank l
 tighter level.Or m o = rw (← same_Some level.And m o) refl

@@ -23,3 +23,4 @@ pub mod ItemComplete
 pub mod ProgramComplete
 pub mod Texts
 pub mod Results
+pub mod rows

@@ -1,0 +1,5 @@
+pub mod Build
+pub mod SymbolTables
+pub mod Depths
+pub mod Trees
+pub mod Laws

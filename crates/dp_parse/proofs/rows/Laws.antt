@@ -1,0 +1,24 @@
+-- What each answer of `parse` says of the text, written out.
+use Rattle.std.proofs.Common.{◌≡◌, ℕ, List, Some, None, Ok, Err}
+use Rattle.dp_base.specs.declared.Quantity.{Quantity}
+use Rattle.dp_lex.specs.Characters.{Text}
+use Rattle.dp_lex.specs.Token.{Lexeme}
+use Rattle.dp_lex.specs.Tokens.{Tokens, RefusedAt}
+use Rattle.dp_tree.specs.declared.raw.RawProgram.{RawProgram}
+use Rattle.dp_parse.specs.declared.error.ParseFail.TheVariants.{Lex, TooDeep, Refused}
+use Rattle.dp_parse.specs.Depth.{depth_fault}
+use Rattle.dp_parse.specs.Programs.{Derives}
+use Rattle.dp_parse.specs.Parses.{Parses}
+
+module _ (text : Text) (p : RawProgram) where
+  a_program : Parses text (Ok p) → (tokens : List Lexeme) × Tokens text tokens × (depth_fault tokens ≡ None) × Derives tokens p
+  a_program is = (is.tokens, is.of_text, is.shallow, is.derives)
+
+  no_tokens : (place : ℕ) → Parses text (Err (Lex place)) → RefusedAt text place
+  no_tokens place is = is
+
+  too_deep : (quantity : Quantity) (count : ℕ) → Parses text (Err (TooDeep quantity count)) → (tokens : List Lexeme) × Tokens text tokens × (depth_fault tokens ≡ Some (quantity, count))
+  too_deep quantity count is = (is.tokens, is.of_text, is.deep)
+
+  no_program : Parses text (Err Refused) → (tokens : List Lexeme) × Tokens text tokens × (depth_fault tokens ≡ None) × ((q : RawProgram) → ¬ Derives tokens q)
+  no_program is = (is.tokens, is.of_text, is.shallow, is.none)
