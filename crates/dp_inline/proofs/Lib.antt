@@ -10,3 +10,4 @@ pub mod SizeLemmas
 pub mod LimitLemmas
 pub mod SiteCount
 pub mod MeaningLemmas
+pub mod rows

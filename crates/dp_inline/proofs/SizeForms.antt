@@ -9,7 +9,7 @@ use Rattle.dp_tree.specs.declared.Program.{Program}
 use Rattle.dp_tree.proofs.Heads.{opened_statement}
 use Rattle.dp_calls.specs.Expand.{expand}
 use Rattle.dp_inline.specs.Size.{size_one, size_rows, size_list}
-use Rattle.dp_inline.specs.Counted.{counted, counted_one, counted_list, counted_region}
+use Rattle.dp_inline.specs.Counted.{counted, counted_one, counted_list}
 use Rattle.dp_inline.specs.Verdict.{unless, verdict, too_large, first_large_region}
 
 abbrev hidden_size : ℕ → (ℕ → ℕ) → List Stmt → ℕ
@@ -58,11 +58,6 @@ module _ (each : ℕ) (sizes : List ℕ) where
   size-more s rest = refl
 
 pub ruleset size_forms = (size-Assign, size-Store, size-Print, size-If, size-While, size-Region, size-Call)
-
--- a region among the statements, and any other statement
-pub region_counts : (sizes : List ℕ) (q : ℕ) (site : SiteId) (cond : Expr) (a : List Stmt) → counted_region sizes (tree.Region q site cond a) ≡ counted_one 0 sizes (tree.Region q site cond a)
-unfolding opened_statement
-region_counts sizes q site cond a = refl
 
 -- the verdict from its parts
 pub verdict_is : (p : Program) → verdict p ≡ unless (too_large p) (unless (first_large_region p p.main) (Ok (expand p)))
