@@ -1,5 +1,5 @@
 //! A program's memory.
-ghost use Rattle.std.specs.Prelude.{◌≡◌, ℤ, pos, ◌<◌, length, replicate, slice_index_or, slice_set, ◌==◌, IfOk};
+ghost use Rattle.std.specs.Prelude.{◌≡◌, ℤ, pos, ◌<◌, length, replicate, slice_get, slice_set, ◌==◌, Some, IfOk};
 
 use crate::{CellId, NoMemory};
 use std::alloc::Global;
@@ -46,7 +46,7 @@ impl Cells {
     /// The number in a cell. It takes no memory.
     pub fn get(&self, cell: CellId) -> i64
         requires { cell.0 < length self.now }
-        ensures { result ≡ slice_index_or self.now cell.0 result }
+        ensures { slice_get self.now cell.0 ≡ Some result }
     {
         self.values[cell.0 as usize]
     }

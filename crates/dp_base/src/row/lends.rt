@@ -1,12 +1,12 @@
 //! Items lent for writing.
-ghost use Rattle.std.specs.Prelude.{◌≡◌, ◌<◌, ◌↔◌, length, slice_index_or, IsSome, IfSome};
+ghost use Rattle.std.specs.Prelude.{◌≡◌, ◌<◌, ◌↔◌, length, slice_get, Some, IsSome, IfSome};
 ghost use Rattle.std.specs.Borrow.{sem};
 ghost use Rattle.dp_base.specs.Lends.{lends_slice, lends_item};
 
 use super::Row;
 
 impl<T> Row<T> {
-    /// The items, for writing.
+    /// The items, for writing. What is written through the borrow stands here once it ends.
     pub fn as_mut_slice(&mut self) -> &mut [T]
         ensures* writes_back { sem 𝓛 (lends_slice T.row self.entry result) }
         ensures value { result.now ≡ self.old }
@@ -14,11 +14,11 @@ impl<T> Row<T> {
         self.items.as_mut_slice()
     }
 
-    /// The item at a place, from 0, for writing.
+    /// The item at a place, from 0, for writing. What is written through the borrow stands here once it ends.
     pub fn get_mut(&mut self, index: usize) -> Option<&mut T>
         ensures* writes_back { sem 𝓛 (lends_item T.row self.entry index result) }
         ensures within { IsSome result ↔ (index < length self.old) }
-        ensures value { IfSome result (λ item. item.now ≡ slice_index_or self.old index item.now) }
+        ensures value { IfSome result (λ item. slice_get self.old index ≡ Some item.now) }
     {
         self.items.get_mut(index)
     }
