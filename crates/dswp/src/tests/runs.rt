@@ -7,84 +7,86 @@ use super::{gives, gives_with, run_gives, run_on_gives};
 use dp_base::Row;
 use std::test::Fail;
 
+const WITHOUT_INPUT: [(&[u8], u8, &[u8]); 8] = [
+    // blocks side by side may declare one name
+    (
+        b"int main() { if (1) { int x = 1; print(x); } else { int x = 2; print(x); } while (0) { int x = 3; } }",
+        0,
+        b"1\nstate\nend done\n",
+    ),
+    (EMPTY, 0, b"state\nend done\n"),
+    (
+        SUM_LOOP,
+        0,
+        b"0\n1\n3\nstate\ns 3\nregion 1 iterations 4 recovered 0\nend done\n",
+    ),
+    (
+        NO_ITERATION,
+        0,
+        b"state\nregion 1 iterations 1 recovered 0\nend done\n",
+    ),
+    (
+        ZERO_DIVISOR,
+        1,
+        b"state\nq 12\nregion 1 iterations 4 recovered 1: 3\nend fault divide line 6\n",
+    ),
+    (
+        STALE_READ,
+        0,
+        b"state\na 0 0 1 2 3 4 5 6\ns 10\nregion 1 iterations 7 recovered 0\nend done\n",
+    ),
+    (
+        LONG_ITERATION,
+        0,
+        b"state\nj 3000\nregion 1 iterations 2 recovered 1: 0\nend done\n",
+    ),
+    (
+        STALE_STEP,
+        0,
+        b"state\nstep 2\nt 12\nregion 1 iterations 4 recovered 0\nend done\n",
+    ),
+];
+
 #[test]
 fn programs_without_input(rt: HostRuntime) -> Result<(), Fail> {
-    let rows: [(&[u8], u8, &[u8]); 8] = [
-        // blocks side by side may declare one name
-        (
-            b"int main() { if (1) { int x = 1; print(x); } else { int x = 2; print(x); } while (0) { int x = 3; } }",
-            0,
-            b"1\nstate\nend done\n",
-        ),
-        (EMPTY, 0, b"state\nend done\n"),
-        (
-            SUM_LOOP,
-            0,
-            b"0\n1\n3\nstate\ns 3\nregion 1 iterations 4 recovered 0\nend done\n",
-        ),
-        (
-            NO_ITERATION,
-            0,
-            b"state\nregion 1 iterations 1 recovered 0\nend done\n",
-        ),
-        (
-            ZERO_DIVISOR,
-            1,
-            b"state\nq 12\nregion 1 iterations 4 recovered 1: 3\nend fault divide line 6\n",
-        ),
-        (
-            STALE_READ,
-            0,
-            b"state\na 0 0 1 2 3 4 5 6\ns 10\nregion 1 iterations 7 recovered 0\nend done\n",
-        ),
-        (
-            LONG_ITERATION,
-            0,
-            b"state\nj 3000\nregion 1 iterations 2 recovered 1: 0\nend done\n",
-        ),
-        (
-            STALE_STEP,
-            0,
-            b"state\nstep 2\nt 12\nregion 1 iterations 4 recovered 0\nend done\n",
-        ),
-    ];
-    for (program, status, text) in rows {
+    for (program, status, text) in WITHOUT_INPUT {
         run_gives(&rt, rt.alloc(), program, status, text)?;
     }
     Ok(())
 }
 
+const BY_FUEL: [(&str, u8, &[u8]); 6] = [
+    ("0", 8, b"state\ns 0\nend fuel\n"),
+    (
+        "9",
+        8,
+        b"0\n1\nstate\ns 1\nregion 1 iterations 2 recovered 0\nend fuel\n",
+    ),
+    (
+        "10",
+        8,
+        b"0\n1\nstate\ns 1\nregion 1 iterations 3 recovered 1: 2\nend fuel\n",
+    ),
+    (
+        "13",
+        8,
+        b"0\n1\n3\nstate\ns 3\nregion 1 iterations 3 recovered 0\nend fuel\n",
+    ),
+    (
+        "14",
+        0,
+        b"0\n1\n3\nstate\ns 3\nregion 1 iterations 4 recovered 0\nend done\n",
+    ),
+    (
+        "1000000000",
+        0,
+        b"0\n1\n3\nstate\ns 3\nregion 1 iterations 4 recovered 0\nend done\n",
+    ),
+];
+
 #[test]
 fn the_fuel_ends_a_run_at_each_step(rt: HostRuntime) -> Result<(), Fail> {
-    let rows: [(&str, u8, &[u8]); 6] = [
-        ("0", 8, b"state\ns 0\nend fuel\n"),
-        (
-            "9",
-            8,
-            b"0\n1\nstate\ns 1\nregion 1 iterations 2 recovered 0\nend fuel\n",
-        ),
-        (
-            "10",
-            8,
-            b"0\n1\nstate\ns 1\nregion 1 iterations 3 recovered 1: 2\nend fuel\n",
-        ),
-        (
-            "13",
-            8,
-            b"0\n1\n3\nstate\ns 3\nregion 1 iterations 3 recovered 0\nend fuel\n",
-        ),
-        (
-            "14",
-            0,
-            b"0\n1\n3\nstate\ns 3\nregion 1 iterations 4 recovered 0\nend done\n",
-        ),
-        (
-            "1000000000",
-            0,
-            b"0\n1\n3\nstate\ns 3\nregion 1 iterations 4 recovered 0\nend done\n",
-        ),
-    ];
-    for (fuel, status, text) in rows {
+    for (fuel, status, text) in BY_FUEL {
         gives(
             &rt,
             rt.alloc(),
@@ -97,112 +99,114 @@ fn the_fuel_ends_a_run_at_each_step(rt: HostRuntime) -> Result<(), Fail> {
     Ok(())
 }
 
+const WITH_INPUT: [(&[u8], &[u8], u8, &[u8]); 6] = [
+    (
+        SKIP_NEGATIVE,
+        b"5 -1 7 8",
+        0,
+        b"state\nn 12\nregion 1 iterations 4 recovered 0\nend done\n",
+    ),
+    (
+        SKIP_NEGATIVE,
+        b"",
+        0,
+        b"state\nn 0\nregion 1 iterations 1 recovered 0\nend done\n",
+    ),
+    (
+        SKIP_NEGATIVE,
+        b"-9223372036854775808",
+        0,
+        b"state\nn -9223372036854775808\nregion 1 iterations 2 recovered 0\nend done\n",
+    ),
+    (SKIP_NEGATIVE, b"1 x 3", 4, b"refused input word 2\n"),
+    (
+        SKIP_NEGATIVE,
+        b"9223372036854775808",
+        4,
+        b"refused input word 1\n",
+    ),
+    (
+        HISTOGRAM,
+        b"0 1 2 3 4 5 6",
+        0,
+        b"state\nh 2 2 1 2\nregion 1 iterations 8 recovered 0\nend done\n",
+    ),
+];
+
 #[test]
 fn programs_with_input(rt: HostRuntime) -> Result<(), Fail> {
-    let rows: [(&[u8], &[u8], u8, &[u8]); 6] = [
-        (
-            SKIP_NEGATIVE,
-            b"5 -1 7 8",
-            0,
-            b"state\nn 12\nregion 1 iterations 4 recovered 0\nend done\n",
-        ),
-        (
-            SKIP_NEGATIVE,
-            b"",
-            0,
-            b"state\nn 0\nregion 1 iterations 1 recovered 0\nend done\n",
-        ),
-        (
-            SKIP_NEGATIVE,
-            b"-9223372036854775808",
-            0,
-            b"state\nn -9223372036854775808\nregion 1 iterations 2 recovered 0\nend done\n",
-        ),
-        (SKIP_NEGATIVE, b"1 x 3", 4, b"refused input word 2\n"),
-        (
-            SKIP_NEGATIVE,
-            b"9223372036854775808",
-            4,
-            b"refused input word 1\n",
-        ),
-        (
-            HISTOGRAM,
-            b"0 1 2 3 4 5 6",
-            0,
-            b"state\nh 2 2 1 2\nregion 1 iterations 8 recovered 0\nend done\n",
-        ),
-    ];
-    for (program, input, status, text) in rows {
+    for (program, input, status, text) in WITH_INPUT {
         run_on_gives(&rt, rt.alloc(), program, input, status, text)?;
     }
     Ok(())
 }
 
+const BY_STATEMENTS: [(&[u8], u8, &[u8]); 12] = [
+    (
+        b"x = 9223372036854775807 + 1;",
+        1,
+        b"state\nx 0\na 0 0\nend fault overflow line 1\n",
+    ),
+    (
+        b"x = (-9223372036854775807 - 1) / -1;",
+        1,
+        b"state\nx 0\na 0 0\nend fault overflow line 1\n",
+    ),
+    (
+        b"x = (-9223372036854775807 - 1) % -1;",
+        1,
+        b"state\nx 0\na 0 0\nend fault overflow line 1\n",
+    ),
+    (
+        b"print(-7 / 2); print(-7 % 2);",
+        0,
+        b"-3\n-1\nstate\nx 0\na 0 0\nend done\n",
+    ),
+    (
+        b"a[5] = 1 / 0;",
+        1,
+        b"state\nx 0\na 0 0\nend fault divide line 1\n",
+    ),
+    (
+        b"a[5] = 1;",
+        1,
+        b"state\nx 0\na 0 0\nend fault index line 1\n",
+    ),
+    (
+        b"print(0 && 1 / 0); print(1 || 1 / 0);",
+        0,
+        b"0\n1\nstate\nx 0\na 0 0\nend done\n",
+    ),
+    (
+        b"print(input[0]);",
+        1,
+        b"state\nx 0\na 0 0\nend fault index line 1\n",
+    ),
+    (
+        b"x = - -5; a[0] = !x; a[1] = !0;",
+        0,
+        b"state\nx 5\na 0 1\nend done\n",
+    ),
+    (
+        b"x = 2 + 3 * 4 - 10 / 3 % 2; a[0] = 7 - 2 - 1;",
+        0,
+        b"state\nx 13\na 4 0\nend done\n",
+    ),
+    (
+        b"x = 1 < 2 == 1; a[0] = 3 >= 3 && 2 != 2 || 5 > 4; a[1] = 4 <= 3;",
+        0,
+        b"state\nx 1\na 1 0\nend done\n",
+    ),
+    (
+        b"if (x) { a[0] = 1; } else if (a[1]) { a[0] = 2; } else { a[0] = 3; } print(a[0]);",
+        0,
+        b"3\nstate\nx 0\na 3 0\nend done\n",
+    ),
+];
+
 #[test]
 fn arithmetic_and_its_faults(rt: HostRuntime) -> Result<(), Fail> {
-    let rows: [(&[u8], u8, &[u8]); 12] = [
-        (
-            b"x = 9223372036854775807 + 1;",
-            1,
-            b"state\nx 0\na 0 0\nend fault overflow line 1\n",
-        ),
-        (
-            b"x = (-9223372036854775807 - 1) / -1;",
-            1,
-            b"state\nx 0\na 0 0\nend fault overflow line 1\n",
-        ),
-        (
-            b"x = (-9223372036854775807 - 1) % -1;",
-            1,
-            b"state\nx 0\na 0 0\nend fault overflow line 1\n",
-        ),
-        (
-            b"print(-7 / 2); print(-7 % 2);",
-            0,
-            b"-3\n-1\nstate\nx 0\na 0 0\nend done\n",
-        ),
-        (
-            b"a[5] = 1 / 0;",
-            1,
-            b"state\nx 0\na 0 0\nend fault divide line 1\n",
-        ),
-        (
-            b"a[5] = 1;",
-            1,
-            b"state\nx 0\na 0 0\nend fault index line 1\n",
-        ),
-        (
-            b"print(0 && 1 / 0); print(1 || 1 / 0);",
-            0,
-            b"0\n1\nstate\nx 0\na 0 0\nend done\n",
-        ),
-        (
-            b"print(input[0]);",
-            1,
-            b"state\nx 0\na 0 0\nend fault index line 1\n",
-        ),
-        (
-            b"x = - -5; a[0] = !x; a[1] = !0;",
-            0,
-            b"state\nx 5\na 0 1\nend done\n",
-        ),
-        (
-            b"x = 2 + 3 * 4 - 10 / 3 % 2; a[0] = 7 - 2 - 1;",
-            0,
-            b"state\nx 13\na 4 0\nend done\n",
-        ),
-        (
-            b"x = 1 < 2 == 1; a[0] = 3 >= 3 && 2 != 2 || 5 > 4; a[1] = 4 <= 3;",
-            0,
-            b"state\nx 1\na 1 0\nend done\n",
-        ),
-        (
-            b"if (x) { a[0] = 1; } else if (a[1]) { a[0] = 2; } else { a[0] = 3; } print(a[0]);",
-            0,
-            b"3\nstate\nx 0\na 3 0\nend done\n",
-        ),
-    ];
-    for (statements, status, text) in rows {
+    for (statements, status, text) in BY_STATEMENTS {
         let mut program = Row::from_slice(rt.alloc(), b"int x; int a[2]; int main() { ")?;
         program.extend_from_slice(statements)?;
         program.extend_from_slice(b" }")?;
