@@ -1,7 +1,11 @@
 //! The program over a shelf and a sink in memory.
 mod calls;
 mod examples;
+mod fuel;
+mod iterations;
 mod limits;
+mod lines;
+mod order;
 mod plans;
 mod programs;
 mod refusals;

@@ -6,7 +6,7 @@ use std::alloc::Global;
 use std::test::Fail;
 
 /// A front, a piece so many times, and a back.
-fn repeated(
+pub fn repeated(
     alloc: Global,
     front: &[u8],
     piece: &[u8],
@@ -22,7 +22,7 @@ fn repeated(
 }
 
 /// A front, a piece so many times, and a back; the status and the text that `run` gives.
-type Case = (
+pub type Case = (
     &'static [u8],
     &'static [u8],
     usize,

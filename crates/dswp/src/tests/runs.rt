@@ -1,9 +1,10 @@
 //! Programs that are run, with the exact bytes that are written.
+use super::limits::repeated;
 use super::programs::{
     EMPTY, HISTOGRAM, LONG_ITERATION, NO_ITERATION, SKIP_NEGATIVE, STALE_READ, STALE_STEP,
     SUM_LOOP, ZERO_DIVISOR,
 };
-use super::{gives, gives_with, run_gives, run_on_gives};
+use super::{gives_with, run_gives, run_on_gives};
 use dp_base::Row;
 use std::test::Fail;
 
@@ -51,50 +52,6 @@ const WITHOUT_INPUT: [(&[u8], u8, &[u8]); 8] = [
 fn programs_without_input(rt: HostRuntime) -> Result<(), Fail> {
     for (program, status, text) in WITHOUT_INPUT {
         run_gives(&rt, rt.alloc(), program, status, text)?;
-    }
-    Ok(())
-}
-
-const BY_FUEL: [(&str, u8, &[u8]); 6] = [
-    ("0", 8, b"state\ns 0\nend fuel\n"),
-    (
-        "9",
-        8,
-        b"0\n1\nstate\ns 1\nregion 1 iterations 2 recovered 0\nend fuel\n",
-    ),
-    (
-        "10",
-        8,
-        b"0\n1\nstate\ns 1\nregion 1 iterations 3 recovered 1: 2\nend fuel\n",
-    ),
-    (
-        "13",
-        8,
-        b"0\n1\n3\nstate\ns 3\nregion 1 iterations 3 recovered 0\nend fuel\n",
-    ),
-    (
-        "14",
-        0,
-        b"0\n1\n3\nstate\ns 3\nregion 1 iterations 4 recovered 0\nend done\n",
-    ),
-    (
-        "1000000000",
-        0,
-        b"0\n1\n3\nstate\ns 3\nregion 1 iterations 4 recovered 0\nend done\n",
-    ),
-];
-
-#[test]
-fn the_fuel_ends_a_run_at_each_step(rt: HostRuntime) -> Result<(), Fail> {
-    for (fuel, status, text) in BY_FUEL {
-        gives(
-            &rt,
-            rt.alloc(),
-            &["run", "p.c", "--fuel", fuel],
-            &[("p.c", SUM_LOOP)],
-            status,
-            text,
-        )?;
     }
     Ok(())
 }
@@ -215,33 +172,6 @@ fn arithmetic_and_its_faults(rt: HostRuntime) -> Result<(), Fail> {
     Ok(())
 }
 
-// Each iteration has one event more than so many assignments.
-#[test]
-fn the_default_fuel_is_ten_million_steps(rt: HostRuntime) -> Result<(), Fail> {
-    let rows: [(usize, &[u8]); 2] = [
-        (
-            99,
-            b"state\nx 1\nregion 1 iterations 100000 recovered 0\nend fuel\n",
-        ),
-        (
-            98,
-            b"state\nx 1\nregion 1 iterations 101011 recovered 1: 101010\nend fuel\n",
-        ),
-    ];
-    for (assignments, text) in rows {
-        let mut program = Row::from_slice(
-            rt.alloc(),
-            b"int x; int main() { #pragma dswp\nwhile (1) {",
-        )?;
-        for _ in 0..assignments {
-            program.extend_from_slice(b" x = 1;")?;
-        }
-        program.extend_from_slice(b" } }")?;
-        run_gives(&rt, rt.alloc(), program.as_slice(), 8, text)?;
-    }
-    Ok(())
-}
-
 // A sink with room for each number of bytes takes a front of the text.
 #[test]
 fn a_failing_sink_has_taken_a_front(rt: HostRuntime) -> Result<(), Fail> {
@@ -257,6 +187,38 @@ fn a_failing_sink_has_taken_a_front(rt: HostRuntime) -> Result<(), Fail> {
             Some(room as u64),
             status,
             &text[..room],
+        )?;
+    }
+    Ok(())
+}
+
+/// More prints than wait at any time, in a plain part and in a region, and the text behind the prints.
+const MANY_PRINTS: [(&[u8], &[u8]); 2] = [
+    (
+        b"int i; int main() { while (i < 30000) { print(7); i = i + 1; } }",
+        b"state\ni 30000\nend done\n",
+    ),
+    (
+        b"int i; int main() { #pragma dswp while (i < 1) { while (i < 30000) { print(7); i = i + 1; } } }",
+        b"state\ni 30000\nregion 1 iterations 2 recovered 1: 0\nend done\n",
+    ),
+];
+
+#[test]
+fn many_prints_are_written_in_order(rt: HostRuntime) -> Result<(), Fail> {
+    for (program, end) in MANY_PRINTS {
+        let text = repeated(rt.alloc(), b"", b"7\n", 30_000, end)?;
+        run_gives(&rt, rt.alloc(), program, 0, text.as_slice())?;
+        let front = repeated(rt.alloc(), b"", b"7\n", 20_000, b"7")?;
+        gives_with(
+            &rt,
+            rt.alloc(),
+            &["run", "p.c"],
+            &[("p.c", program)],
+            &[],
+            Some(40_001),
+            6,
+            front.as_slice(),
         )?;
     }
     Ok(())
