@@ -1,12 +1,11 @@
 -- From the parts of the program to the headline.
-use Rattle.std.proofs.Common.{◌≡◌, refl, sym, ◌∙◌, ap, subst, arith, inl, inr, ℕ, ◌<◌, ◌≤◌, List, Option, Some, ℤ, Result, Ok, Err, IfOk}
+use Rattle.std.proofs.Common.{◌≡◌, refl, sym, ◌∙◌, ap, subst, arith, inl, inr, ℕ, ◌<◌, ◌≤◌, List, Option, ℤ, Result, Ok, Err, IfOk}
 use Rattle.dp_tree.specs.declared.Program.{Program}
 use Rattle.dp_tree.specs.Checked.{IsChecked}
 use Rattle.dp_calls.specs.Frames.{outcome}
 use Rattle.dp_calls.specs.Expand.{expand}
 use Rattle.dp_calls.proofs.InlinedLaws.{expanded_is_inlined}
 use Rattle.dp_calls.proofs.SameMeanings.{same_meaning}
-use Rattle.dp_edge.specs.Sink.{appended}
 use Rattle.dswp.proofs.accepted.Sequential.{read_checked}
 use Rattle.dswp.proofs.accepted.SameText.{same_end, same_text}
 use Rattle.dswp.specs.declared.refusal.Role.{Role}
@@ -26,11 +25,10 @@ use Rattle.dswp.specs.Loading.{LoadsProgram}
 use Rattle.dswp.proofs.TextsLemmas.{OneLoad, one_text, one_refused, one_failed, source_of, refusal_read}
 use Rattle.dswp.specs.Words.{Run, Asks, AsksSites, AsksNothing}
 use Rattle.dswp.specs.Stop.{FaultsAfter, status_after}
-use Rattle.dswp.specs.Output.{WritesFront}
 use Rattle.dswp.specs.RunText.{source_run, trace_text, run_text, status_of}
-use Rattle.dswp.specs.Answer.{Contents, Answer, NotTaken, ProgramRefused, InputRefused, Ran, SitesRefused, SitesListed, IsRead, OfProgram, OfSites, OfInput}
+use Rattle.dswp.specs.Answer.{Contents, Answer, NotTaken, ProgramRefused, InputRefused, Ran, SitesRefused, SitesListed, OfProgram, OfSites, OfInput}
 use Rattle.dswp.specs.Headline.{Answered, Whole, Short, Nothing, ReadFailed, WriteFailed, OfAnswer, OfFailedRead}
-use Rattle.dswp.specs.Carried.{Names, with_name, Finishes, LoadsTexts, Carried, Starved}
+use Rattle.dswp.specs.Carried.{Names, Finishes, LoadsTexts, Carried, Starved}
 use Rattle.dswp.specs.Carried as carried
 
 -- what the texts give, where they were loaded
@@ -120,11 +118,11 @@ module _ (words : List (List ℕ)) (contents : Contents) (faults after : ℕ) (f
       by r (Starved is f g h) sink = same_and_less f less
 
   pub failed_write : (r : Result ℕ Stop) (status old new : ℕ) → status ≡ status_after r → Carried words contents faults after failed fails told tells r → FaultsAfter r old new → old < new →
-      (status ≡ 6) × WriteFailed words contents told tells faults after
+      (status ≡ 6) × WriteFailed words contents faults after failed fails told tells
   failed_write (Ok s) status old new e carry sink rose = absurd (omega (arith, sink, rose))
   failed_write (Err NoMemory) status old new e carry sink rose = absurd (omega (arith, sink, rose))
-  failed_write (Err Write) status old new e (carried.OfAnswer t bytes answer f g h) sink rose = (e, rw f (OfAnswer faults t bytes answer h))
-  failed_write (Err Write) status old new e (carried.OfFailedRead which name read less g h) sink rose = (e, OfFailedRead faults after which name less read h)
+  failed_write (Err Write) status old new e (carried.OfAnswer t bytes answer f g h) sink rose = (e, OfAnswer t bytes answer f g h)
+  failed_write (Err Write) status old new e (carried.OfFailedRead which name read less g h) sink rose = (e, OfFailedRead which name read less g h)
   failed_write (Err Write) status old new e (Starved clash f g h) sink rose = absurd (cc clash)
 
   pub names_kept : (r : Result ℕ Stop) → Carried words contents faults after failed fails told tells r → after ≡ faults → fails ≡ failed

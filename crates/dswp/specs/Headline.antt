@@ -23,8 +23,10 @@ pub record ReadFailed (words : List (List ℕ)) (contents : Contents) (failed fa
   pub names : fails ≡ option_map (λ names. names ++ name ∷ []) failed
   pub written : ((status ≡ 5) × (tells ≡ appended (failed_read_line role) told)) ⊎ ((status ≡ 7) × WritesFront (failed_read_line role) told tells)
 
--- A write failed: a front of the answer was written, or of the line on a failed read, and nothing after it.
-pub data WriteFailed (words : List (List ℕ)) (contents : Contents) (told tells : Option (List ℕ)) : ℕ → ℕ → Type 0 where
-  OfAnswer : (faults status : ℕ) (bytes : List ℕ) → Answer words contents status bytes → WritesFront bytes told tells → WriteFailed words contents told tells faults faults
-  OfFailedRead : (old new : ℕ) (role : Role) (name : List ℕ) → old < new → IsRead words contents role name → WritesFront (failed_read_line role) told tells →
-      WriteFailed words contents told tells old new
+-- A write failed: a front of the answer was written, or of the line on a failed read, and nothing after it. No other
+-- read failed.
+pub data WriteFailed (words : List (List ℕ)) (contents : Contents) (faults after : ℕ) (failed fails : Option (List (List ℕ))) (told tells : Option (List ℕ)) : Type 0 where
+  OfAnswer : (status : ℕ) (bytes : List ℕ) → Answer words contents status bytes → after ≡ faults → fails ≡ failed → WritesFront bytes told tells →
+      WriteFailed words contents faults after failed fails told tells
+  OfFailedRead : (role : Role) (name : List ℕ) → IsRead words contents role name → faults < after → fails ≡ option_map (λ names. names ++ name ∷ []) failed → WritesFront (failed_read_line role) told tells →
+      WriteFailed words contents faults after failed fails told tells

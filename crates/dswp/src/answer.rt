@@ -44,7 +44,7 @@ pub fn drive<S: Shelf, K: Sink, G: Gate>(
 
     // A failed write: nothing is written after it.
     ensures write_failed { K.faults sink.old < K.faults sink.new →
-        (result ≡ 6) × WriteFailed (map string_bytes words.now) (S.contents shelf.old) (K.written sink.old) (K.written sink.new) (S.faults shelf.old) (S.faults shelf.new) }
+        (result ≡ 6) × WriteFailed (map string_bytes words.now) (S.contents shelf.old) (S.faults shelf.old) (S.faults shelf.new) (S.failed_names shelf.old) (S.failed_names shelf.new) (K.written sink.old) (K.written sink.new) }
 
     // What the shelf holds stays, and no count of faults falls.
     ensures failed_names { S.faults shelf.new ≡ S.faults shelf.old → S.failed_names shelf.new ≡ S.failed_names shelf.old }
