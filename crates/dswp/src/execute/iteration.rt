@@ -1,5 +1,5 @@
 //! One iteration of a region.
-ghost use Rattle.std.specs.Prelude.{◌≡◌, ◌<◌, ◌-◌, ◌^◌, ℕ, IfOk};
+ghost use Rattle.std.specs.Prelude.{◌≡◌, ◌<◌, ◌-◌, ◌^◌, ℕ, length, IfOk, OnOk};
 ghost use Rattle.dp_meaning.specs.declared.ends.Part.TheVariants.{Region};
 ghost use Rattle.dp_meaning.specs.MachineState.{next_part, IsAnyRegion};
 ghost use Rattle.dswp.specs.Output.{Streams};
@@ -60,6 +60,7 @@ fn go_on<'p, K: Sink>(
     requires part { IsAnyRegion (next_part machine.old) }
     ensures faults { FaultsAfter result (K.faults sink.old) (K.faults sink.new) }
     ensures ok { (region : ℕ) → next_part machine.old ≡ Region region → IfOk result (λ end. IterationSteps region machine.old machine.new end) }
+    ensures few { OnOk result (length waiting.new < 4096) }
     ensures streams { Streams result (to_come waiting.old machine.old) (to_come waiting.new machine.new) (K.written sink.old) (K.written sink.new) }
 {
     let end = machine.iterate(TURNS, waiting)?;

@@ -1,5 +1,5 @@
 //! A plain part of `main`: its statements up to the next region or the end.
-ghost use Rattle.std.specs.Prelude.{◌≡◌, ◌<◌, ◌-◌, ◌^◌, IfOk};
+ghost use Rattle.std.specs.Prelude.{◌≡◌, ◌<◌, ◌-◌, ◌^◌, length, IfOk, OnOk};
 ghost use Rattle.dswp.specs.Output.{Streams};
 ghost use Rattle.dswp.specs.Stop.{FaultsAfter};
 ghost use Rattle.dswp.specs.Stretches.{PartMade, PartSteps, to_come};
@@ -50,6 +50,7 @@ fn go_on<'p, K: Sink>(
     requires part { next_part machine.old ≡ Plain }
     ensures faults { FaultsAfter result (K.faults sink.old) (K.faults sink.new) }
     ensures ok { IfOk result (λ end. PartSteps machine.old machine.new end) }
+    ensures few { OnOk result (length waiting.new < 4096) }
     ensures streams { Streams result (to_come waiting.old machine.old) (to_come waiting.new machine.new) (K.written sink.old) (K.written sink.new) }
 {
     let end = machine.run_part(TURNS, waiting)?;

@@ -1,5 +1,5 @@
 //! Prints that wait to be written.
-ghost use Rattle.std.specs.Prelude.{◌≡◌, ◌<◌, ◌-◌, ◌^◌, [], OnOk};
+ghost use Rattle.std.specs.Prelude.{◌≡◌, ◌<◌, ◌-◌, ◌^◌, [], length, OnOk};
 ghost use Rattle.dswp.specs.Output.{Streams};
 ghost use Rattle.dswp.specs.Stop.{FaultsAfter};
 
@@ -21,6 +21,7 @@ pub fn flush_if_many<K: Sink>(
 ) -> Result<(), Stop>
     requires { K.faults sink.old < 2 ^ 64 - 1 }
     ensures faults { FaultsAfter result (K.faults sink.old) (K.faults sink.new) }
+    ensures few { OnOk result (length waiting.new < 4096) }
     ensures streams { Streams result waiting.old waiting.new (K.written sink.old) (K.written sink.new) }
 {
     if waiting.len() < MANY {
