@@ -1,5 +1,5 @@
 -- Iterations that one call made ahead.
-use Rattle.std.proofs.Common.{◌≡◌, refl, sym, ◌∙◌, ap, subst, ◌⊎◌, inl, inr, ℕ, ◌+◌, ◌<◌, ◌≤◌, if◌then◌else◌, List, [], ◌∷◌, ◌++◌, append-nil, length, take, ℤ, le-leb, arith}
+use Rattle.std.proofs.Common.{◌≡◌, refl, sym, ◌∙◌, ap, subst, ◌⊎◌, inl, inr, ℕ, ◌+◌, ◌<◌, ◌≤◌, if◌then◌else◌, List, [], ◌∷◌, ◌++◌, append-nil, length, take, ℤ, Option, le-leb, arith}
 use Rattle.dp_base.specs.declared.RegionReport.{RegionReport}
 use Rattle.dp_base.specs.declared.End.TheVariants.{Done, Fault, Fuel}
 use Rattle.dp_meaning.specs.declared.ends.IterEnd.TheVariants as iter_end
@@ -12,7 +12,7 @@ use Rattle.dp_meaning.specs.Whole.{WholeIterations, Front, WentAhead}
 use Rattle.dswp.specs.declared.execute.iteration.Iterated.{Iterated}
 use Rattle.dswp.specs.declared.execute.iteration.Iterated.TheVariants.{Next, Closed, Ended}
 use Rattle.dswp.specs.Alone.{listed}
-use Rattle.dswp.specs.Listing.{Lists}
+use Rattle.dswp.specs.Output.{Emits}
 use Rattle.dswp.specs.Stretches.{to_come, IterationMade, IterationSteps}
 use Rattle.dswp.proofs.IterationLemmas.{iteration_to_come, steps_by, goes_on_at}
 use Rattle.dswp.proofs.RegionLemmas.{RegionSoFar, CountedNext, next_steps, region_goes_on}
@@ -84,59 +84,53 @@ module _ (region : ℕ) (between now : MachineState) where
   made_from new (Ended Fuel) f s = steps_by region between now new iter_end.Fuel (begun f) s
 
 -- What is known before the rest of an iteration: the ones before it are counted, and it began where they ended.
-pub record Rest (region : ℕ) (old now : MachineState) (report : RegionReport) (ahead : IterationsAhead) : Type 0 where
+pub record Rest (region : ℕ) (old mid now : MachineState) (report : RegionReport) (ahead : IterationsAhead) : Type 0 where
   pub between : MachineState
   pub so_far : RegionSoFar region old between (with_more report ahead.whole)
   pub start : ahead.start ≡ between.steps
+  pub rose : mid.steps ≤ ahead.start
+  pub kept : between.fuel ≡ mid.fuel
   pub front : (now ≡ between) ⊎ Front region between now
   pub at : next_part now ≡ Region region
-  pub same : (out : List ℤ) → to_come out between ≡ to_come out now
+  pub same : (out : List ℤ) → to_come out mid ≡ to_come out now
 
-module _ (region : ℕ) (old mid now : MachineState) (report : RegionReport) (ahead : IterationsAhead) where
-  pub went_on : RegionSoFar region old mid report → WentAhead region 4096 mid now ahead → Rest region old now report ahead
-  went_on h w =
+module _ {region : ℕ} {old mid now : MachineState} {report : RegionReport} {ahead : IterationsAhead} where
+  rest_of : RegionSoFar region old mid report → WentAhead region 4096 mid now ahead → Rest region old mid now report ahead
+  rest_of h w =
       let so = all_more region old mid report h w.whole in
+      let grown = whole_rises w.whole in
+      let e = w.start in
       record {
         between = w.between;
         so_far = so;
-        start = w.start;
+        start = e;
+        rose = omega (arith, grown.0, e);
+        kept = grown.1;
         front = w.front;
         at = front_at region w.between now so.at w.front;
-        same = λ out. front_to_come region w.between now out w.front;
+        same = λ out. whole_to_come out w.whole ∙ front_to_come region w.between now out w.front;
       }
 
-  pub went_same : WentAhead region 4096 mid now ahead → (out : List ℤ) → to_come out mid ≡ to_come out now
-  went_same w out = whole_to_come out w.whole ∙ front_to_come region w.between now out w.front
+  pub went_ahead : RegionSoFar region old mid report → ((r : ℕ) → next_part mid ≡ Region r → WentAhead r 4096 mid now ahead) → Rest region old mid now report ahead
+  went_ahead h went = rest_of h (went region h.at)
 
-  front_rises : (between : MachineState) → (now ≡ between) ⊎ Front region between now → (between.steps ≤ now.steps) × (now.fuel ≡ between.fuel)
-  front_rises between (inl e) = subst (λ (m : MachineState). (between.steps ≤ m.steps) × (m.fuel ≡ between.fuel)) (sym e) (omega arith, refl)
-  front_rises between (inr f) = let run = f.run [] in let e = run.moved.steps in (omega arith, run.moved.fuel)
+  module _ (r : Rest region old mid now report ahead) where
+    -- the prints that are still to come stay
+    pub emits_still : {prints : List ℤ} {told tells : Option (List ℕ)} (waiting : List ℤ) → Emits prints (to_come waiting mid) told tells → Emits prints (to_come waiting now) told tells
+    emits_still {prints} {told} {tells} waiting e = subst (λ (xs : List ℤ). Emits prints xs told tells) (r.same waiting) e
 
-  pub went_rises : WentAhead region 4096 mid now ahead → (mid.steps ≤ ahead.start) × (now.fuel ≡ mid.fuel)
-  went_rises w = let grown = whole_rises w.whole in let front = front_rises w.between w.front in let e = w.start in (omega (arith, grown.0, e), front.1 ∙ grown.1)
+    module _ (new : MachineState) where
+      -- the whole iteration, from its start on
+      pub rest_made : {iterated which : Iterated} → iterated ≡ which → IterationMade region now new iterated → IterationMade region r.between new which
+      rest_made {iterated} is s = subst (λ (x : Iterated). IterationMade region r.between new x) is (made_from region r.between now new iterated r.front s)
 
-  module _ (r : Rest region old now report ahead) (new : MachineState) where
-    pub rest_made : (iterated : Iterated) → IterationMade region now new iterated → IterationMade region r.between new iterated
-    rest_made iterated s = made_from region r.between now new iterated r.front s
+      -- the steps of the iteration are counted from its start on
+      pub rest_next : IterationMade region r.between new Next → ahead.start < new.steps
+      rest_next s = let e = r.start in let h = next_steps region old r.between new (with_more report ahead.whole) r.so_far s in omega arith
 
-    rises : (iterated : Iterated) → IterationMade region r.between new iterated → r.between.steps ≤ new.steps
-    rises Next s = let e = s.call.moved.steps in omega arith
-    rises Closed s = let e = s.call.moved.steps in omega arith
-    rises (Ended Done) s = absurd s
-    rises (Ended (Fault fault)) s = let e = s.call.moved.steps in omega arith
-    rises (Ended Fuel) s = let e = s.call.moved.steps in omega arith
-
-    -- the steps of the iteration are counted from its start on
-    pub rest_rises : (iterated : Iterated) → IterationMade region now new iterated → ahead.start ≤ new.steps
-    rest_rises iterated s = let e = r.start in let h = rises iterated (rest_made iterated s) in omega arith
-
-    pub rest_next : IterationMade region now new Next → ahead.start < new.steps
-    rest_next s = let e = r.start in let h = next_steps region old r.between new (with_more report ahead.whole) r.so_far (rest_made Next s) in omega arith
-
-    pub rest_closed : IterationMade region now new Closed → ahead.start < new.steps
-    rest_closed s =
-        let e = r.start in
-        let c = rest_made Closed s in
-        let alone = c.call.stops.alone in
-        let steps = c.call.moved.steps in
-        omega arith
+      pub rest_closed : IterationMade region r.between new Closed → ahead.start < new.steps
+      rest_closed s =
+          let e = r.start in
+          let alone = s.call.stops.alone in
+          let steps = s.call.moved.steps in
+          omega arith
