@@ -14,3 +14,4 @@ pub mod EndingLemmas
 pub mod LoadLemmas
 pub mod TextsLemmas
 pub mod AnswerLemmas
+pub mod definite

@@ -4,6 +4,7 @@
 
 mod answer;
 mod execute;
+mod law;
 mod load;
 mod program;
 mod quantity;

@@ -1,0 +1,3 @@
+pub mod ReadsOnce
+pub mod AsksOnce
+pub mod AnswersOnce
