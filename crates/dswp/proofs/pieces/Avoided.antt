@@ -3,54 +3,17 @@ use Rattle.std.proofs.Common.{◌≡◌, refl, sym, ap, ◌∙◌, ℕ, zero, su
 use Rattle.std.proofs.lemmas.Bool.{and_parts, and_from, not-true}
 use Rattle.std.proofs.lemmas.List.{append-nil}
 use Rattle.std.specs.List.{list_all}
-use Rattle.dp_tree.specs.declared.Stmt.{Stmt, out-Stmt, roll-Stmt, roll-out-Stmt}
-use Rattle.dp_tree.specs.declared.Stmt.TheViews.{rolls-Assign, rolls-Store, rolls-Print, rolls-If, rolls-While, rolls-Region, rolls-Call}
+use Rattle.dp_tree.specs.declared.Stmt.{Stmt, out-Stmt}
 use Rattle.dp_tree.specs.declared.Stmt.TheOpen.{Stmt-F, Assign, Store, Print, If, While, Region, Call}
 use Rattle.dp_tree.specs.declared.Program.{Program}
 use Rattle.dp_tree.specs.Step.{Config, Event, Step, Finished, Faulted, Stepped, step}
 use Rattle.dp_tree.specs.Trace.{Run, run_of}
 use Rattle.dp_tree.specs.Iteration.{is_region, begins_with}
-use Rattle.dp_meaning.specs.Runnable.{is_simple, are_simple, is_outer_at, is_outer}
+use Rattle.dp_meaning.specs.Runnable.{is_simple, is_outer_at, is_outer}
+use Rattle.dp_meaning.proofs.OuterLemmas.{all_simple, simple_at, simple_out}
 use Rattle.dswp.specs.Alone.{never_at_head, is_off}
 use Rattle.dswp.proofs.pieces.Seams.{run_spent, run_finished, run_faulted, run_stepped}
 use Rattle.dswp.proofs.pieces.Statements.{parts_pass, within_step, no_step}
-
--- what opens where a statement is made
-unfoldable pub opened : Unit {0}
-unfolding Rattle.dp_tree.specs.declared.Stmt.TheBlock.shape-the_row-Stmt-0 Rattle.dp_tree.specs.declared.Stmt.TheBlock.hidden-the_row-Stmt-0 denote.Hole.Carrier.hidden
-opened = tt
-
-abbrev all_simple : List Stmt → Bool
-all_simple xs = list_all is_simple xs
-
-abbrev hidden_simple : List Stmt → Bool
-hidden_simple xs = are_simple (Rattle.dp_tree.specs.declared.Stmt.TheBlock.hidden-the_row-Stmt-0 xs)
-
-simple_hidden : (xs : List Stmt) → hidden_simple xs ≡ all_simple xs
-unfolding opened
-simple_hidden [] = refl
-simple_hidden (x ∷ xs) = ap (λ (b : Bool). is_simple x && b) (simple_hidden xs)
-
--- whether a statement is simple, by its form
-abbrev simple_at : Stmt-F Stmt → Bool
-simple_at (If site cond a b) = all_simple a && all_simple b
-simple_at (While site cond a) = all_simple a
-simple_at (Region q site cond a) = false
-simple_at (Call f line args) = false
-simple_at _ = true
-
-simple_roll : (h : Stmt-F Stmt) → is_simple (roll-Stmt h) ≡ simple_at h
-unfolding opened
-simple_roll (Assign site x e) = ap is_simple (rolls-Assign site x e)
-simple_roll (Store site x index e) = ap is_simple (rolls-Store site x index e)
-simple_roll (Print site e) = ap is_simple (rolls-Print site e)
-simple_roll (If site cond a b) = ap is_simple (rolls-If site cond a b) ∙ ap (λ (u : Bool). u && hidden_simple b) (simple_hidden a) ∙ ap (λ (u : Bool). all_simple a && u) (simple_hidden b)
-simple_roll (While site cond a) = ap is_simple (rolls-While site cond a) ∙ simple_hidden a
-simple_roll (Region q site cond a) = ap is_simple (rolls-Region q site cond a)
-simple_roll (Call f line args) = ap is_simple (rolls-Call f line args)
-
-simple_out : (x : Stmt) → is_simple x ≡ simple_at (out-Stmt x)
-simple_out x = ap is_simple (sym (roll-out-Stmt x)) ∙ simple_roll (out-Stmt x)
 
 weaker : (test other : Stmt → Bool) → ((x : Stmt) → test x ≡ true → other x ≡ true) → (xs : List Stmt) → list_all test xs ≡ true → list_all other xs ≡ true
 weaker test other f [] h = refl
