@@ -1,5 +1,5 @@
 -- What stands where memory was wanting, and after iterations that were made ahead.
-use Rattle.std.proofs.Common.{◌≡◌, sym, ◌∙◌, ap, subst, true, ℕ, ◌+◌, ◌<◌, ◌≤◌, Option, None, List, [], ◌∷◌, ◌++◌, append_assoc, drop, length, ℤ, arith}
+use Rattle.std.proofs.Common.{◌≡◌, refl, sym, ◌∙◌, ap, subst, true, ℕ, ◌+◌, ◌<◌, ◌≤◌, Option, None, Some, List, [], ◌∷◌, ◌++◌, append_assoc, drop, length, ℤ, arith}
 use Rattle.std.proofs.lemmas.List.Elements.{filter_map-append}
 use Rattle.dp_tree.specs.Step.{Config, Event}
 use Rattle.dp_tree.specs.Trace.{prints, printed_by}
@@ -8,12 +8,12 @@ use Rattle.dp_meaning.specs.declared.ends.Part.TheVariants as part
 use Rattle.dp_meaning.specs.declared.ends.PartEnd.{PartEnd}
 use Rattle.dp_meaning.specs.declared.ends.PartEnd.TheVariants as part_end
 use Rattle.dp_meaning.specs.declared.ends.IterEnd.TheVariants as iter_end
-use Rattle.dp_meaning.specs.MachineState.{MachineState, rest_of_run, part_of, next_part, from_region}
+use Rattle.dp_meaning.specs.MachineState.{MachineState, rest_of_run, part_of, part_at, next_part, from_region}
 use Rattle.dp_meaning.specs.Moved.{Spoiled}
 use Rattle.dp_meaning.specs.PartRun.{PartRun}
 use Rattle.dp_meaning.specs.IterationRun.{IterationRun, HeadsOnce, Awaits}
 use Rattle.dp_meaning.specs.Whole as whole
-use Rattle.dp_meaning.specs.Whole.{WholeIterations, WentAhead}
+use Rattle.dp_meaning.specs.Whole.{WholeIterations, Front, WentAhead}
 
 module _ (turns : ℕ) (old new : MachineState) (before after : List ℤ) (s : Spoiled turns old new before after) where
   -- what was printed and what would be printed from here on are the prints of the run
@@ -57,7 +57,18 @@ last_has_few_steps (whole.more {mid = m} new turns before some few run) h =
     let w = (run []).within in
     record { before = m; few = omega (arith, few, e, w) }
 
+-- a limit of 0 leaves no iteration
+made_within_some_steps : {region limit : ℕ} {old : MachineState} {count : ℕ} {new : MachineState} → WholeIterations region limit old count new → 0 < count → 0 < limit
+made_within_some_steps whole.none h = absurd (omega (arith, h))
+made_within_some_steps (whole.more new turns before some few run) h = omega (arith, some, few)
+
+front_has_a_step : (region : ℕ) (old new : MachineState) (f : Front region old new) → 0 < f.turns
+front_has_a_step region old new f = f.some
+
 module _ (region limit : ℕ) (old new : MachineState) (ahead : IterationsAhead) (w : WentAhead region limit old new ahead) where
+  each_iteration_is_counted : WholeIterations region limit old ahead.whole w.between
+  each_iteration_is_counted = w.whole
+
   starts_behind : old.steps ≤ ahead.start
   starts_behind = let h = rises w.whole in let e = w.start in omega (arith, h, e)
 
@@ -96,3 +107,10 @@ condition_comes_first region first rest heads = heads.0
 unbegun_stands_at_its_condition : (region turns : ℕ) (old new : MachineState) (out : List ℤ) → old.current ≡ None → IterationRun region turns old new out out iter_end.Going → new.current ≡ None →
     part_of new.config.to_do ≡ part.Region region
 unbegun_stands_at_its_condition region turns old new out idle run none = subst (λ (c : Option ℕ). Awaits region c new.config) none run.stops.0.awaits
+
+-- what is next where nothing is left, and while an iteration is under way
+nothing_left : part_of [] ≡ part.Finished
+nothing_left = refl
+
+under_way : part_at (Some 3) [] ≡ part.Region 3
+under_way = refl
