@@ -12,6 +12,7 @@ pub mod AssignLemmas
 pub mod StopLemmas
 pub mod StretchLemmas
 pub mod StraightLemmas
+pub mod ResolvedLemmas
 pub mod RoundsLemmas
 pub mod AheadLemmas
 pub mod PartLemmas

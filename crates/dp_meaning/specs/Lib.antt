@@ -11,6 +11,7 @@ pub mod Whole
 pub mod Turn
 pub mod Stretch
 pub mod Straight
+pub mod Resolved
 pub mod Rounds
 pub mod Ahead
 pub mod Parts

@@ -8,6 +8,8 @@ mod ends;
 mod evaluate;
 mod machine;
 mod memory;
+mod resolve;
+mod resolved;
 mod rounds;
 mod short;
 mod statement;

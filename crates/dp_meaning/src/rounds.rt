@@ -3,12 +3,15 @@ ghost use Rattle.std.specs.Prelude.{◌≡◌, ◌<◌, ◌≤◌, ◌+◌, leng
 ghost use Rattle.dp_meaning.specs.Locals.{HoldsLocals};
 ghost use Rattle.dp_meaning.specs.Rounds.{RoundsMade};
 
-use crate::evaluate::is_zero;
-use crate::memory::clear_locals;
-use crate::short::led_value;
-use crate::straight::straight;
+mod resolved;
+mod tree;
+
+use crate::resolve::{resolve_body, resolve_value};
 use dp_base::Cells;
 use dp_tree::{Expr, Program, Stmt, VarInfo};
+use resolved::resolved_rounds;
+use std::alloc::Global;
+use tree::tree_rounds;
 
 /// What was made of a region's iterations.
 #[derive(Clone, Copy, Debug, PartialEq, Eq)]
@@ -33,42 +36,57 @@ pub(crate) fn no_rounds() -> Rounds
     }
 }
 
-/// Makes iterations of the region within so many steps, up to a condition or a statement that isn't straight.
-#[inline(always)]
-pub(crate) fn make_rounds(
-    program: &Program,
-    locals: &[VarInfo],
-    input: &[i64],
-    cells: &mut Cells,
-    region: u32,
-    cond: &Expr,
-    body: &[Stmt],
-    left: u64,
-) -> Rounds
-    requires locals { HoldsLocals program.now.vars locals.now }
-    ensures made { RoundsMade program.now input.now region cond.now body.now cells.old cells.new result }
-    ensures steps { result.steps ≤ left }
-    ensures front { IfSome result.front (λ made. (made < length body.now) × (result.steps + made + 1 < left)) }
-{
-    let vars = program.vars.as_slice();
-    let mut rounds = no_rounds();
-    'rounds: loop {
-        if left - rounds.steps <= body.len() as u64 {
-            return rounds;
+/// A region whose rounds are made: what its condition and its body are evaluated with.
+#[derive(Clone, Copy)]
+pub(crate) struct RegionLoop<'r> {
+    pub(crate) program: &'r Program,
+    /// Those of the program's variables among which all body locals are.
+    pub(crate) locals: &'r [VarInfo],
+    pub(crate) input: &'r [i64],
+    pub(crate) region: u32,
+    pub(crate) cond: &'r Expr,
+    pub(crate) body: &'r [Stmt],
+}
+
+impl<'r> RegionLoop<'r> {
+    /// Makes iterations within so many steps, up to a condition or a statement that isn't straight.
+    ///
+    /// Where the first one is straight as a whole, the others are made with their variables resolved, if they can be.
+    pub(crate) fn make_rounds(self, alloc: Global, cells: &mut Cells, left: u64) -> Rounds
+        requires locals { HoldsLocals self.program.now.vars self.locals.now }
+        ensures made { RoundsMade self.entry.program.now self.entry.input.now self.entry.region self.entry.cond.now self.entry.body.now cells.old cells.new result }
+        ensures steps { result.steps ≤ left }
+        ensures front { IfSome result.front (λ made. (made < length self.entry.body.now) × (result.steps + made + 1 < left)) }
+    {
+        let one = self.body.len() as u64 + 1;
+        let first = tree_rounds(self, cells, left.min(one));
+        if first.whole == 0 {
+            return first;
         }
-        let Some(value) = led_value(vars, cells.as_slice(), cond) else {
-            return rounds;
+        let further = self.further_rounds(alloc, cells, left - first.steps);
+        Rounds {
+            whole: first.whole + further.whole,
+            steps: first.steps + further.steps,
+            front: further.front,
+        }
+    }
+
+    /// The same for those behind the first one.
+    #[inline(never)]
+    fn further_rounds(self, alloc: Global, cells: &mut Cells, left: u64) -> Rounds
+        requires locals { HoldsLocals self.program.now.vars self.locals.now }
+        ensures made { RoundsMade self.entry.program.now self.entry.input.now self.entry.region self.entry.cond.now self.entry.body.now cells.old cells.new result }
+        ensures steps { result.steps ≤ left }
+        ensures front { IfSome result.front (λ made. (made < length self.entry.body.now) × (result.steps + made + 1 < left)) }
+    {
+        let vars = self.program.vars.as_slice();
+        let Some(test) = resolve_value(vars, self.cond) else {
+            return tree_rounds(self, cells, left);
         };
-        if is_zero(value) {
-            return rounds;
-        }
-        let made = straight(program, input, cells, body);
-        if made < body.len() {
-            rounds.front = Some(made);
-            return rounds;
-        }
-        clear_locals(region, locals, cells);
-        rounds.whole += 1;
-        rounds.steps += body.len() as u64 + 1;
+        let Some(assignments) = resolve_body(alloc, vars, self.body) else {
+            return tree_rounds(self, cells, left);
+        };
+        let assignments = assignments.as_slice();
+        resolved_rounds(self.locals, cells, self.region, &test, assignments, left)
     }
 }

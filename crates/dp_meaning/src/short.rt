@@ -48,7 +48,7 @@ pub(crate) fn plain_value(vars: &[VarInfo], cells: &[i64], e: &Expr) -> Option<i
 /// An operator's result, if it has one, without the call that `binary` is.
 #[inline(always)]
 #[tactic(auto, unfolding(dp_base::specs::Arithmetic::binary_result, dp_base::specs::Arithmetic::is_zero, dp_base::specs::Arithmetic::number_of))]
-fn plain_result(op: BinOp, a: i64, b: i64) -> Option<i64>
+pub(crate) fn plain_result(op: BinOp, a: i64, b: i64) -> Option<i64>
     ensures { IfSome result (λ v. Arithmetic.binary_result op a b ≡ Ok v) }
 {
     match op {

@@ -11,6 +11,7 @@ mod programs;
 mod refusals;
 mod runs;
 mod sites;
+mod straight;
 
 ghost use Rattle.std.specs.Prelude.{◌≡◌, IfOk};
 
