@@ -1,5 +1,5 @@
 -- Straight statements as steps, behind a region's condition.
-use Rattle.std.proofs.Common.{◌≡◌, ◌≢◌, refl, sym, ◌∙◌, ap, subst, ℕ, ◌+◌, ◌<◌, Bool, false, if◌then◌else◌, List, [], ◌∷◌, ◌++◌, drop, ℤ, IsTrue, Some, length, slice_get, slice_set, Ok, Err}
+use Rattle.std.proofs.Common.{◌≡◌, ◌≢◌, refl, sym, ◌∙◌, ap, subst, ℕ, ◌+◌, ◌<◌, Bool, false, if◌then◌else◌, List, [], ◌∷◌, ◌++◌, drop, ℤ, IsTrue, Option, None, Some, length, slice_get, slice_set, Ok, Err}
 use Rattle.dp_base.specs.Arithmetic.{is_zero}
 use Rattle.dp_base.specs.declared.SiteId.{SiteId}
 use Rattle.dp_tree.specs.declared.Expr.{Expr}
@@ -18,9 +18,10 @@ use Rattle.dp_meaning.specs.Stretch.{Stretch}
 use Rattle.dp_meaning.specs.Straight as straight
 use Rattle.dp_meaning.specs.Straight.{StoresOne, Straight}
 use Rattle.dp_meaning.specs.Rounds as rounds
-use Rattle.dp_meaning.specs.Rounds.{WholeRounds}
+use Rattle.dp_meaning.specs.declared.rounds.Rounds.{Rounds}
+use Rattle.dp_meaning.specs.Rounds.{WholeRounds, FrontMade, RoundsMade}
 use Rattle.dp_meaning.specs.Ahead as iterations
-use Rattle.dp_meaning.specs.Ahead.{Ahead, Wholes}
+use Rattle.dp_meaning.specs.Ahead.{Ahead, Wholes, FrontAhead, RanAhead}
 use Rattle.dp_meaning.specs.Runnable.{is_simple, is_outer}
 use Rattle.dp_meaning.proofs.OuterLemmas.{both, body_simple, plain_inside}
 use Rattle.dp_meaning.proofs.StepLemmas.{standing-to_do}
@@ -138,6 +139,30 @@ module _ (p : Program) (input : List ℤ) where
         let first = ahead cells r site cond body holds.value holds.is holds.inside so to_do is in
         let made = subst (λ (d : Config). Ahead p input (at_region cells) (length body) d) (standing_region r site cond body to_do next is) first in
         iterations.more (length body) (at_region (clear_locals r p.vars next)) (wholes few before) few made over
+
+    -- whole rounds alone
+    pub ran_ahead : (limit : ℕ) (old new : List ℤ) (made : Rounds) → length body < limit → RoundsMade p input r cond body old new made → made.front ≡ None →
+        RanAhead p input limit (at_region old) (at_region new) made
+    ran_ahead limit old new made few run none_begun =
+        let stays : new ≡ run.between = subst (λ (f : Option ℕ). FrontMade p input cond body f run.between new) none_begun run.front in
+        let same : at_region new ≡ at_region run.between = ap at_region stays in
+        record {
+          between = at_region run.between;
+          whole = wholes few run.whole;
+          front = subst (λ (f : Option ℕ). FrontAhead p input f (at_region run.between) (at_region new)) (sym none_begun) same;
+        }
+
+    -- whole rounds, and the front of one more
+    pub ran_into : (limit : ℕ) (old new : List ℤ) (made : Rounds) (front : ℕ) → length body < limit → RoundsMade p input r cond body old new made → made.front ≡ Some front →
+        RanAhead p input limit (at_region old) (standing p (drop front body ++ to_do) new) made
+    ran_into limit old new made front few run begun =
+        let so = subst (λ (f : Option ℕ). FrontMade p input cond body f run.between new) begun run.front in
+        let last = ahead run.between r site cond body so.0.value so.0.is so.0.inside so.1 to_do is in
+        record {
+          between = at_region run.between;
+          whole = wholes few run.whole;
+          front = subst (λ (f : Option ℕ). FrontAhead p input f (at_region run.between) (standing p (drop front body ++ to_do) new)) (sym begun) last;
+        }
 
     -- behind a front of the body no region is next
     pub inside_part : (made : ℕ) (cells : List ℤ) → made < length body → IsTrue (list_all is_outer to_do) → part_of (standing p (drop made body ++ to_do) cells).to_do ≡ part.Plain

@@ -1,5 +1,7 @@
 //! Iterations of a region whose body is straight, one round after the other.
 ghost use Rattle.std.specs.Prelude.{◌≡◌, ◌<◌, ◌≤◌, ◌+◌, length, None, IfSome};
+ghost use Rattle.dp_base.specs.declared.SiteId.{SiteId};
+ghost use Rattle.dp_tree.specs.declared.Stmt.TheVariants as tree;
 ghost use Rattle.dp_meaning.specs.Locals.{HoldsLocals};
 ghost use Rattle.dp_meaning.specs.Rounds.{RoundsMade};
 
@@ -49,6 +51,36 @@ pub(crate) struct RegionLoop<'r> {
 }
 
 impl<'r> RegionLoop<'r> {
+    /// The statement, where it is a region.
+    #[inline(always)]
+    pub(crate) fn of(
+        statement: &'r Stmt,
+        program: &'r Program,
+        locals: &'r [VarInfo],
+        input: &'r [i64],
+    ) -> Option<RegionLoop<'r>>
+        ensures region { IfSome result (λ l. (site : SiteId) × (statement.now ≡ tree.Region l.region site l.cond.now l.body.now)) }
+        ensures around { IfSome result (λ l. (l.program.now ≡ program.now) × (l.locals.now ≡ locals.now) × (l.input.now ≡ input.now)) }
+    {
+        let Stmt::Region {
+            region,
+            cond,
+            body,
+            ..
+        } = statement
+        else {
+            return None;
+        };
+        Some(RegionLoop {
+            program,
+            locals,
+            input,
+            region: *region,
+            cond,
+            body: body.as_slice(),
+        })
+    }
+
     /// Makes iterations within so many steps, up to a condition or a statement that isn't straight.
     ///
     /// Where the first one is straight as a whole, the others are made with their variables resolved, if they can be.
