@@ -15,3 +15,4 @@ pub mod LoadLemmas
 pub mod TextsLemmas
 pub mod AnswerLemmas
 pub mod definite
+pub mod rows

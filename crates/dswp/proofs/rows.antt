@@ -1,0 +1,12 @@
+pub mod AnswerCases
+pub mod AskedWords
+pub mod CarriedOut
+pub mod Inputs
+pub mod MachineCalls
+pub mod ReadTexts
+pub mod Refusals
+pub mod RegionReports
+pub mod RegionsInOrder
+pub mod RunTexts
+pub mod WholeAnswers
+pub mod Written
