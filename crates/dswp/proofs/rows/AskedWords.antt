@@ -140,14 +140,6 @@ not_options = refl
 not_fuels : map may_be_fuel ([] ∷ codes "00000000005" ∷ codes "1000000001" ∷ codes "9999999999" ∷ codes "+5" ∷ codes "-5" ∷ codes "5x" ∷ codes " 5" ∷ []) ≡ replicate 8 false
 not_fuels = refl
 
--- where words ask for nothing, no run and no sites are asked for
-module _ (words : List (List ℕ)) (none : AsksNothing words) where
-  asks_no_run : (run : Run) → ¬ Asks words run
-  asks_no_run run asks = none.no_run run asks
-
-  asks_no_sites : (program : List ℕ) → ¬ AsksSites words program
-  asks_no_sites program asks = none.no_sites program asks
-
 -- ---- the words behind a program's name
 
 abbrev input_in : List (List ℕ) → Option (List ℕ)

@@ -19,9 +19,6 @@ second_word = refl
 too_large_a_word : input_of (codes "9223372036854775808") ≡ Err (InputWord 1)
 too_large_a_word = refl
 
-too_many_words : or_refused (Err (TooMany 65537)) ≡ Err (Limit InputWords 65537)
-too_many_words = refl
-
 module _ (text : List ℕ) where
   abbrev by_length : ℕ → Result (List ℤ) Refusal
   by_length n = if nat_lt 2097152 n then Err (Limit InputBytes 2097153) else or_refused (numbers_of text)

@@ -1,6 +1,5 @@
 -- The reports of regions: which iterations count, which of them are executed again, and how many are listed.
-use Rattle.std.proofs.Common.{◌≡◌, refl, sym, ap, ◌∙◌, arith, ℕ, zero, suc, ◌+◌, ◌<◌, ◌≤◌, min, Bool, true, false, not, ◌&&◌, nat_le, List, [], ◌∷◌, ◌++◌, length, map, take, ℤ}
-use Rattle.std.proofs.lemmas.List.{length-take}
+use Rattle.std.proofs.Common.{◌≡◌, refl, ap, ◌∙◌, arith, ℕ, zero, suc, ◌+◌, ◌<◌, ◌≤◌, Bool, true, false, not, ◌&&◌, nat_le, List, [], ◌∷◌, ◌++◌, length, map, take, ℤ}
 use Rattle.dp_base.specs.declared.RegionReport.{RegionReport}
 use Rattle.dp_tree.specs.declared.Program.{Program}
 use Rattle.dp_tree.specs.Trace.{Run}
@@ -49,9 +48,6 @@ unfolding tree_opened
 no_other_region = refl
 
 -- ---- the first 1,000 are listed
-
-first_thousand : (again : List ℕ) (report : RegionReport) → Lists again report → length report.recovered ≡ min 1000 report.recovered_count
-first_thousand again report l = ap (λ (ks : List ℕ). length ks) l.first ∙ length-take 1000 again ∙ ap (min 1000) (sym l.count)
 
 thousand : (report : RegionReport) → Lists (count_from 5 1000) report → (report.recovered_count ≡ 1000) × (report.recovered ≡ count_from 5 1000)
 thousand report l = (l.count, l.first)

@@ -6,7 +6,7 @@ use Rattle.dp_tree.specs.declared.VarScope.TheVariants.{Global, Outer, Body}
 use Rattle.dp_tree.specs.declared.SiteKind.TheVariants.{Assign, Print, While}
 use Rattle.dp_tree.specs.declared.Program.{Program}
 use Rattle.dp_tree.proofs.Build.{num, var, bin, set, say, region, call, scalar, array, site, one_region, function, program, with_functions, tree_opened}
-use Rattle.dp_tree.proofs.Programs.{add, empty_program, sum_loop, closed_at_once, zero_divisor, stale_read, skip_negative}
+use Rattle.dp_tree.proofs.Programs.{add, empty_program, sum_loop, zero_divisor, stale_read, skip_negative}
 use Rattle.dp_report.specs.Lines.{labelled}
 use Rattle.dp_report.specs.RegionText.{listed}
 use Rattle.dswp.specs.RunText.{source_run, trace_text, run_text}
@@ -20,10 +20,6 @@ with_vars vars p = record p { vars = vars }
 empty : run_text empty_program [] 0 ≡ codes "state\nend done\n"
 unfolding tree_opened labelled listed Rattle.std.specs.Fmt.digits
 empty = refl
-
-closed : run_text closed_at_once [] 10 ≡ codes "state\nregion 1 iterations 1 recovered 0\nend done\n"
-unfolding tree_opened labelled listed Rattle.std.specs.Fmt.digits
-closed = refl
 
 abbrev summing : Program
 summing = with_vars (named (codes "s") (scalar 0 (pos 0) Global) ∷ named (codes "i") (scalar 1 (pos 0) Outer) ∷ []) sum_loop
@@ -41,10 +37,6 @@ nine_steps = refl
 ten_steps : run_text summing [] 10 ≡ codes "0\n1\nstate\ns 1\nregion 1 iterations 3 recovered 1: 2\nend fuel\n"
 unfolding tree_opened labelled listed Rattle.std.specs.Fmt.digits
 ten_steps = refl
-
-all_steps : run_text summing [] 14 ≡ codes "0\n1\n3\nstate\ns 3\nregion 1 iterations 4 recovered 0\nend done\n"
-unfolding tree_opened labelled listed Rattle.std.specs.Fmt.digits
-all_steps = refl
 
 -- the same of a program without calls, read from its trace
 ten_traced : trace_text summing (source_run summing [] 10) ≡ codes "0\n1\nstate\ns 1\nregion 1 iterations 3 recovered 1: 2\nend fuel\n"
