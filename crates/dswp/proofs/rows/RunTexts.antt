@@ -69,6 +69,10 @@ elements : run_text storing [] 100 ≡ codes "state\na 0 0 1 2 3 4 5 6\ns 10\nre
 unfolding tree_opened labelled listed Rattle.std.specs.Fmt.digits
 elements = refl
 
+elements_traced : trace_text storing (source_run storing [] 100) ≡ codes "state\na 0 0 1 2 3 4 5 6\ns 10\nregion 1 iterations 7 recovered 0\nend done\n"
+unfolding tree_opened labelled listed Rattle.std.specs.Fmt.digits
+elements_traced = refl
+
 -- 1  int s = 7;
 -- 2  int main() {
 -- 3    int i = 0;
