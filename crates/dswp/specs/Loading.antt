@@ -1,12 +1,10 @@
 -- What the texts that the words name are loaded as.
-use Rattle.std.specs.Prelude.{◌≡◌, ◌⊎◌, ◌<◌, ℕ, List, [], ◌∷◌, ◌++◌, ℤ, Option, Result, Ok, Err}
-use Rattle.std.specs.Option.{option_map}
+use Rattle.std.specs.Prelude.{◌≡◌, ◌<◌, ℕ, List, [], ◌∷◌, ◌++◌, Result, Ok, Err}
 use Rattle.dp_tree.specs.declared.Program.{Program as Tree}
-use Rattle.dswp.specs.declared.refusal.Role.{Role}
 use Rattle.dswp.specs.declared.refusal.Refusal.{Refusal}
 use Rattle.dswp.specs.declared.load.Loaded.{Loaded}
 use Rattle.dswp.specs.declared.load.Loaded.TheVariants.{Text, Refused, Failed}
-use Rattle.dswp.specs.Answer.{Contents, Holds, Input}
+use Rattle.dswp.specs.Answer.{Contents, Holds}
 use Rattle.dswp.specs.Program.{Reads, expanded}
 
 -- what a program's text under the name is read as
