@@ -5,8 +5,8 @@
 #   bench/examples_by_gcc.sh            compares with examples/NAME.out, and ends with 1 where one differs
 #   bench/examples_by_gcc.sh --write    writes examples/NAME.out
 #
-# What it relies on: each file-scope variable begins its line, there is one region, its mark and its `while` stand on
-# two lines, and no iteration has more than 4,096 steps, so that none is executed again.
+# What it relies on: each file-scope variable begins its line, there is one region, its mark and its `while` or
+# `for` stand on two lines, and no iteration has more than 4,096 steps, so that none is executed again.
 set -eu
 cd "$(dirname "$0")/../examples"
 work=$(mktemp -d)
@@ -26,7 +26,7 @@ static void show(const char *name, const long long *values, unsigned long count)
 #define int long long
 #define main program
 C
-  sed -e '/#pragma dswp/{N;s/#pragma dswp\n *while (/while (iterations++, /}' "$1"
+  sed -e '/#pragma dswp/{N;s/#pragma dswp\n *while (/while (iterations++, /;s/#pragma dswp\n *for (\([^;]*;\) /for (\1 iterations++, /}' "$1"
   cat <<'C'
 #undef main
 #undef int

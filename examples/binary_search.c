@@ -1,26 +1,22 @@
-/* Looks up each input word in a sorted table by bisection. Prints the place
-   where it stands, or -1. */
+/* Looks up each input word in a sorted table by bisection, and prints the place
+   where it stands. Stops at the first word that isn't there. */
 int table[20];
 int found;
-int misses;
+int last_key;
 int looks;
 
 /* The table holds the square numbers. */
 void fill() {
-  int k = 0;
-  while (k < 20) {
+  for (int k = 0; k < 20; k = k + 1) {
     table[k] = k * k;
-    k = k + 1;
   }
 }
 
 int main() {
   fill();
-  int i = 0;
   #pragma dswp
-  while (i < input_len) {
+  for (int i = 0; i < input_len; i = i + 1) {
     int key = input[i];
-    i = i + 1;
 
     int low = 0;
     int high = 20;
@@ -34,13 +30,13 @@ int main() {
       }
     }
 
-    int place = -1;
-    if (low < 20 && table[low] == key) {
-      place = low;
-      found = found + 1;
-    } else {
-      misses = misses + 1;
+    int there = 0;
+    if (low < 20) {
+      there = table[low] == key;
     }
-    print(place);
+    last_key = key;
+    if (!there) break;
+    found = found + 1;
+    print(low);
   }
 }

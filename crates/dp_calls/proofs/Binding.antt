@@ -26,7 +26,7 @@ use Rattle.dp_calls.proofs.Written.{own_memory, room_set, held_here, held_set, k
 use Rattle.dp_calls.proofs.Stacks.{Suits, Stack, over, Ready, Filling, Sim, Alike, agree_kept, keeps_wider, stack_kept}
 use Rattle.dp_calls.proofs.Effects.{values}
 use Rattle.dp_calls.proofs.Settles.{Settles, block_todo, settles_running, settles_binding}
-use Rattle.dp_calls.proofs.Acting.{StepsAlike, both_fault, both_go}
+use Rattle.dp_calls.proofs.Acting.{after_store, StepsAlike, both_fault, both_go}
 
 -- the element behind a list
 slice_get_behind : {X : Type 0} (before : List X) (x : X) (after : List X) (n : ℕ) → n ≡ length before → slice_get (before ++ x ∷ after) n ≡ Some x
@@ -158,7 +158,7 @@ module _ (p q : Program) where
   -- the step of an argument and that of its binding
   binding_by : (c : State) (f : Frame) (below : List Frame) (statements code : List Stmt) (k line : ℕ) (args : List Expr) (site : SiteId) (cells : List ℤ) (cell : ℕ) → line_of q site ≡ line →
       ((z : ℤ) → Alike p q (record { globals = c.globals; frames = settled p (call_frames p f below statements k line args (step.bound p (params_in (slice_get p.functions k)) (length args) f.callee z)) }) (standing q code (slice_set cells cell z))) →
-      (u v : Evaluated ℤ) → result_of u ≡ result_of v → StepsAlike p q (call_step p c f below statements k line args u) (step_by q site cells (and_then v (λ z. just (Stored cell z))) (λ z. code))
+      (u v : Evaluated ℤ) → result_of u ≡ result_of v → StepsAlike p q (call_step p c f below statements k line args u) (step_by q site (and_then v (λ z. just (Stored cell z))) (after_store q (λ z. code) cells))
   binding_by c f below statements code k line args site cells cell is alike (Ok x) (Ok y) same =
       let value : x.value ≡ y.value = value_is same in
       both_go refl (subst (λ (z : ℤ). Alike p q after (standing q code (slice_set cells cell z))) value (alike x.value))

@@ -66,6 +66,7 @@ module _ (p : Program) (calls : Calls) where
     same_one r (stmt.Assign site x e) names t h = ap (λ (u : Expr). stmt.Assign (record { 0 = 0 }) (record { 0 = 0 }) u ∷ []) (unnumbered-renamed names e)
     same_one r (stmt.Store site x index e) names t h = ap₂ (λ (u v : Expr). stmt.Store (record { 0 = 0 }) (record { 0 = 0 }) u v ∷ []) (unnumbered-renamed names index) (unnumbered-renamed names e)
     same_one r (stmt.Print site e) names t h = ap (λ (u : Expr). stmt.Print (record { 0 = 0 }) u ∷ []) (unnumbered-renamed names e)
+    same_one r (stmt.Break site e) names t h = ap (λ (u : Expr). stmt.Break (record { 0 = 0 }) u ∷ []) (unnumbered-renamed names e)
     same_one r (stmt.If' site cond _ a _ b) names t h =
         let both = or_false (has_call_in a) (has_call_in b) h in
         let left = expand_rows p calls r a names (with_source_site p r site t) in

@@ -1,5 +1,5 @@
 -- The variables of an expanded program lie in order: the file-scope ones, and then one cell for each local.
-use Rattle.std.proofs.Common.{◌≡◌, refl, sym, ap, ◌∙◌, subst, ℕ, zero, suc, ◌+◌, ◌<◌, ◌≤◌, ◌==◌, Bool, true, false, not, ◌&&◌, ◌||◌, if◌then◌else◌, List, [], ◌∷◌, ◌++◌, length, drop, length-append, replicate, Option, Some, None, slice_get, nat_lt, arith, eq-eqb, eqb-true, lt-ltb}
+use Rattle.std.proofs.Common.{◌≡◌, refl, ap, ◌∙◌, ℕ, suc, ◌+◌, ◌<◌, ◌==◌, Bool, true, false, not, ◌&&◌, ◌||◌, if◌then◌else◌, List, [], ◌∷◌, ◌++◌, length, drop, length-append, replicate, Some, slice_get, nat_lt, arith, eq-eqb, lt-ltb}
 use Rattle.std.proofs.lemmas.List.{length-replicate}
 use Rattle.std.specs.List.{list_all}
 use Rattle.dp_tree.specs.declared.VarInfo.{VarInfo}

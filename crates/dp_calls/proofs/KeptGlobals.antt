@@ -60,6 +60,7 @@ module _ (p : Program) where
       kept_one r (stmt.Assign site x e) names t = kept_declared (is_known p (named_in names x.0) x.0) r x.0 names (with_source_site p r site t)
       kept_one r (stmt.Store site x index e) names t = refl
       kept_one r (stmt.Print site e) names t = refl
+      kept_one r (stmt.Break site e) names t = refl
       kept_one r (stmt.If' site cond _ a _ b) names t =
           let left = expand_rows p calls r a names (with_source_site p r site t) in
           kept_rows r b left.names left.tables ∙ kept_rows r a names (with_source_site p r site t)

@@ -11,10 +11,12 @@ pub mod Written
 pub mod Clears
 -- stacks of frames; a step of each kind; whole runs
 pub mod Stacks
+pub mod Exits
 pub mod Effects
 pub mod Stands
 pub mod Settles
 pub mod Acting
+pub mod Leaving
 pub mod Binding
 pub mod Simulation
 -- expansion leads to the relation: tables, names, and pieces of text
@@ -24,6 +26,8 @@ pub mod Made
 pub mod Passed
 pub mod Declared
 pub mod Pieces
+pub mod PlainLaws
+pub mod Bodies
 -- checked programs, and the law
 pub mod Layouts
 pub mod CheckedTexts
@@ -33,7 +37,6 @@ pub mod InOrder
 pub mod Within
 -- the numbers of an expanded program
 pub mod SiteLaws
-pub mod PlainLaws
 pub mod RegionTableLaws
 pub mod InlinedLaws
 pub mod rows

@@ -61,6 +61,7 @@ module _ (p : Program) where
       none_in_one r (stmt.Assign site x e) names t = refl
       none_in_one r (stmt.Store site x index e) names t = refl
       none_in_one r (stmt.Print site e) names t = refl
+      none_in_one r (stmt.Break site e) names t = refl
       none_in_one r (stmt.If' site cond _ a _ b) names t =
           let left = expand_rows p calls r a names (with_source_site p r site t) in
           let right = expand_rows p calls r b left.names left.tables in

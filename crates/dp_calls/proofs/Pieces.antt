@@ -216,6 +216,7 @@ module _ (p q : Program) (places : (x : ℕ) (info : VarInfo) → slice_get p.va
         let first = rows_made body visible names (with_source_site p r site t) both.1 plain sites.1 (names_sited p q places there linked low n scope r link site names t ok) (lies_sited p q places there linked low n scope r link site t lies) seen in
         loop_made site visible names t sites.0 ok lies seen v m body (expand_rows p calls r body names (with_source_site p r site t)) both.0 first
     one_made (stmt.Region' k site v m body) visible names t scoped plain listed ok lies seen = absurd (cc plain)
+    one_made (stmt.Break site v) visible names t scoped plain listed ok lies seen = absurd (cc plain)
     one_made (stmt.Call f line args) visible names t scoped plain listed ok lies seen =
         let both = and_true (nat_lt f n) (list_all (knows visible) args && (length args == length (params_in (slice_get p.functions f)))) scoped in
         let inner = and_true (list_all (knows visible) args) (length args == length (params_in (slice_get p.functions f))) both.1 in

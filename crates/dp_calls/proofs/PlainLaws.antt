@@ -9,9 +9,10 @@ use Rattle.dp_tree.specs.declared.Stmt.TheVariants as stmt
 use Rattle.dp_tree.specs.declared.Function.{Function}
 use Rattle.dp_tree.specs.declared.Program.{Program}
 use Rattle.dp_tree.specs.Functions.{body_in, params_in}
-use Rattle.dp_tree.specs.Numbering.{is_plain, is_plain_in, top_fits, next_region, regions_in_order}
+use Rattle.dp_tree.specs.Numbering.{is_plain, is_plain_in, is_inner, is_inner_in, top_fits, next_region, regions_in_order}
 use Rattle.dp_tree.specs.Checked.{IsChecked, is_plain_function}
 use Rattle.dp_tree.proofs.Heads.{opened_statement, and_true, and_make}
+use Rattle.dp_tree.proofs.Inner.{hidden_inner, inner_hidden, inner_plain, inner_join}
 use Rattle.dp_calls.specs.Renaming.{Renamed, named_in, renamed}
 use Rattle.dp_calls.specs.Tables.{Tables, first_tables, with_source_site, next_site}
 use Rattle.dp_calls.specs.Expand.{Piece, Calls, expand, bindings, declared_by, is_known, expand_one, expand_rows, expand_list, calls_within}
@@ -48,6 +49,16 @@ Plain t a = (list_all is_plain a.code ≡ true) × (a.tables.regions ≡ t.regio
 plain_joined : (t : Tables) (a b : Piece) → Plain t a → Plain a.tables b → Plain t (record b { code = a.code ++ b.code })
 plain_joined t a b h k = (plain_join a.code b.code h.0 k.0, k.1 ∙ h.1)
 
+-- the same, but for breaks at the top
+abbrev pub Inner : Tables → Piece → Type 0
+Inner t a = (list_all is_inner a.code ≡ true) × (a.tables.regions ≡ t.regions)
+
+plain_inner : (t : Tables) (a : Piece) → Plain t a → Inner t a
+plain_inner t a h = (inner_plain a.code h.0, h.1)
+
+inner_joined : (t : Tables) (a b : Piece) → Inner t a → Inner a.tables b → Inner t (record b { code = a.code ++ b.code })
+inner_joined t a b h k = (inner_join a.code b.code h.0 k.0, k.1 ∙ h.1)
+
 module _ (p : Program) where
   declared_regions : (b : Bool) (r x : ℕ) (names : List Renamed) (t : Tables) → (declared_by b p r x names t).tables.regions ≡ t.regions
   declared_regions true r x names t = refl
@@ -76,6 +87,7 @@ module _ (p : Program) where
           let l = plain_rows r a names (with_source_site p r site t) h in
           (plain_alone (stmt.While (next_site t) (renamed names cond) body.code) (plain-While (next_site t) (renamed names cond) body.code l.0), l.1)
       plain_one r (stmt.Region' q site cond _ a) names t h = absurd (cc)
+      plain_one r (stmt.Break site cond) names t h = absurd (cc)
       plain_one r (stmt.Call f line args) names t h =
           let bound = bindings p r line names (params_in (slice_get p.functions f)) args [] t in
           plain_joined t bound (calls f r bound.names bound.tables) (plain_bindings r line names (params_in (slice_get p.functions f)) args [] t) (called f r bound.names bound.tables)
@@ -87,7 +99,25 @@ module _ (p : Program) where
           let one = expand_one p calls r s names t in
           plain_joined t one (expand_rows p calls r rest one.names one.tables) (plain_one r s names t both.0) (plain_rows r rest one.names one.tables both.1)
 
-    plain_list : (r : ℕ) (all : List Stmt) (names : List Renamed) (t : Tables) → list_all is_plain all ≡ true → Plain t (expand_list p calls r all names t)
+    -- the same of a region's body, where breaks stand too
+    inner_one : (r : ℕ) (s : Stmt) (names : List Renamed) (t : Tables) → is_inner s ≡ true → Inner t (expand_one p calls r s names t)
+    inner_one r (stmt.Break site cond) names t h = (refl, refl)
+    inner_one r (stmt.Assign site x e) names t h = plain_inner t (expand_one p calls r (stmt.Assign site x e) names t) (plain_one r (stmt.Assign site x e) names t h)
+    inner_one r (stmt.Store site x i e) names t h = (refl, refl)
+    inner_one r (stmt.Print site e) names t h = (refl, refl)
+    inner_one r (stmt.If' site cond c a d b) names t h = plain_inner t (expand_one p calls r (stmt.If' site cond c a d b) names t) (plain_one r (stmt.If' site cond c a d b) names t h)
+    inner_one r (stmt.While' site cond c a) names t h = plain_inner t (expand_one p calls r (stmt.While' site cond c a) names t) (plain_one r (stmt.While' site cond c a) names t h)
+    inner_one r (stmt.Region' q site cond c a) names t h = absurd (cc)
+    inner_one r (stmt.Call f line args) names t h = plain_inner t (expand_one p calls r (stmt.Call f line args) names t) (plain_one r (stmt.Call f line args) names t h)
+
+    pub inner_rows : {n : _} (r : ℕ) (rows : Row_of-Stmt n) (names : List Renamed) (t : Tables) → is_inner_in rows ≡ true → Inner t (expand_rows p calls r rows names t)
+    inner_rows r end_of-Stmt names t h = (refl, refl)
+    inner_rows r (more_of-Stmt s rest) names t h =
+        let both = and_true (is_inner s) (is_inner_in rest) h in
+        let one = expand_one p calls r s names t in
+        inner_joined t one (expand_rows p calls r rest one.names one.tables) (inner_one r s names t both.0) (inner_rows r rest one.names one.tables both.1)
+
+    pub plain_list : (r : ℕ) (all : List Stmt) (names : List Renamed) (t : Tables) → list_all is_plain all ≡ true → Plain t (expand_list p calls r all names t)
     plain_list r [] names t h = (refl, refl)
     plain_list r (s ∷ rest) names t h =
         let both = and_true (is_plain s) (list_all is_plain rest) h in
@@ -112,6 +142,7 @@ plain_top r (stmt.Print site e) h = (refl, refl)
 plain_top r (stmt.If' site cond _ a _ b) h = (h, refl)
 plain_top r (stmt.While' site cond _ a) h = (h, refl)
 plain_top r (stmt.Region' q site cond _ a) h = absurd (cc)
+plain_top r (stmt.Break site cond) h = absurd (cc)
 plain_top r (stmt.Call f line args) h = (refl, refl)
 
 plain_front : (r : ℕ) (a b : List Stmt) → list_all is_plain a ≡ true → regions_in_order r b ≡ true → regions_in_order r (a ++ b) ≡ true
@@ -121,9 +152,9 @@ plain_front r (s ∷ a) b h k =
     let top = plain_top r s both.0 in
     and_make (top_fits r s) (regions_in_order (next_region r s) (a ++ b)) top.0 (ap (λ q. regions_in_order q (a ++ b)) top.1 ∙ plain_front r a b both.1 k)
 
-region_fits : (r q : ℕ) (site : SiteId) (cond : Expr) (a : List Stmt) → (q == r) ≡ true → list_all is_plain a ≡ true → top_fits r (stmt.Region q site cond a) ≡ true
+region_fits : (r q : ℕ) (site : SiteId) (cond : Expr) (a : List Stmt) → (q == r) ≡ true → list_all is_inner a ≡ true → top_fits r (stmt.Region q site cond a) ≡ true
 unfolding opened_statement
-region_fits r q site cond a e h = and_make (q == r) (hidden_plain a) e (plain_hidden a ∙ h)
+region_fits r q site cond a e h = and_make (q == r) (hidden_inner a) e (inner_hidden a ∙ h)
 
 region_next : (r q : ℕ) (site : SiteId) (cond : Expr) (a : List Stmt) → next_region r (stmt.Region q site cond a) ≡ r + 1
 unfolding opened_statement
@@ -149,14 +180,15 @@ module _ (p : Program) (calls : Calls) (called : (f r : ℕ) (names : List Renam
   regions_top (stmt.If' site cond c a d b) rest go r names t h k = regions_plain (stmt.If' site cond c a d b) rest go r names t h k
   regions_top (stmt.While' site cond c a) rest go r names t h k = regions_plain (stmt.While' site cond c a) rest go r names t h k
   regions_top (stmt.Region' q site cond c a) rest go r names t h k =
-      let both = and_true (q == r) (is_plain_in a) h in
+      let both = and_true (q == r) (is_inner_in a) h in
       let body = expand_rows p calls q a names (with_source_site p q site t) in
-      let inner = plain_rows p calls called q a names (with_source_site p q site t) both.1 in
+      let inner = inner_rows p calls called q a names (with_source_site p q site t) both.1 in
       let one = expand_one p calls 0 (stmt.Region' q site cond c a) names t in
       let s = stmt.Region q (next_site t) (renamed names cond) body.code in
       let after = (expand_list p calls 0 rest one.names one.tables).code in
       and_make (top_fits r s) (regions_in_order (next_region r s) after) (region_fits r q (next_site t) (renamed names cond) body.code both.0 inner.0)
       (ap (λ n. regions_in_order n after) (region_next r q (next_site t) (renamed names cond) body.code) ∙ go (r + 1) one.names one.tables k)
+  regions_top (stmt.Break site cond) rest go r names t h k = absurd (cc)
   regions_top (stmt.Call f line args) rest go r names t h k = regions_plain (stmt.Call f line args) rest go r names t h k
 
   regions_list : (all : List Stmt) → Keeps all

@@ -9,14 +9,14 @@ use Rattle.dp_tree.specs.declared.Stmt.TheVariants as stmt
 use Rattle.dp_tree.specs.declared.RegionInfo.{RegionInfo}
 use Rattle.dp_tree.specs.declared.Program.{Program}
 use Rattle.dp_tree.specs.Step.{line_of}
-use Rattle.dp_tree.specs.Numbering.{site_numbers, site_numbers_in, site_numbers_all, numbers_from, is_plain, is_plain_in, top_fits, next_region, regions_in_order, is_marked, has_numbers, listed_first, regions_listed}
+use Rattle.dp_tree.specs.Numbering.{site_numbers, site_numbers_in, site_numbers_all, numbers_from, is_plain, is_inner_in, top_fits, next_region, regions_in_order, is_marked, has_numbers, listed_first, regions_listed}
 use Rattle.dp_tree.specs.Checked.{IsChecked}
 use Rattle.dp_tree.proofs.Heads.{opened_statement, and_true, and_make}
 use Rattle.dp_calls.specs.Renaming.{Renamed, renamed}
 use Rattle.dp_calls.specs.Tables.{Tables, first_tables, with_source_site, next_site}
 use Rattle.dp_calls.specs.Expand.{Piece, Calls, expand, expand_one, expand_rows, expand_list, calls_within}
 use Rattle.dp_calls.proofs.SiteLaws.{Numbered, is_site, Listed, listed_parts, grows, numbered_rows, numbered_within, numbers-Region, all_listed}
-use Rattle.dp_calls.proofs.PlainLaws.{Plain, plain_rows, plain_one, plain_within}
+use Rattle.dp_calls.proofs.PlainLaws.{Plain, inner_rows, plain_one, plain_within}
 
 length-numbers : (first n : ℕ) → length (numbers_from first n) ≡ n
 length-numbers first zero = refl
@@ -29,6 +29,7 @@ unmarked (stmt.Print site e) h = refl
 unmarked (stmt.If' site cond _ a _ b) h = refl
 unmarked (stmt.While' site cond _ a) h = refl
 unmarked (stmt.Region' q site cond _ a) h = absurd (cc)
+unmarked (stmt.Break site cond) h = absurd (cc)
 unmarked (stmt.Call f line args) h = refl
 
 marked : (q : ℕ) (site : SiteId) (cond : Expr) (a : List Stmt) → is_marked (stmt.Region q site cond a) ≡ true
@@ -73,11 +74,11 @@ module _ (p : Program) (calls : Calls) (plain : (f r : ℕ) (names : List Rename
   entries_top (stmt.If' site cond c a d b) rest go r names t h k own l = entries_plain (stmt.If' site cond c a d b) rest go r names t h k l
   entries_top (stmt.While' site cond c a) rest go r names t h k own l = entries_plain (stmt.While' site cond c a) rest go r names t h k l
   entries_top (stmt.Region' q site cond c a) rest go r names t h k own l =
-      let both = and_true (q == r) (is_plain_in a) h in
+      let both = and_true (q == r) (is_inner_in a) h in
       let listed = and_true (is_site p site.0) (list_all (is_site p) (site_numbers_in a)) own in
       let u = with_source_site p q site t in
       let body = expand_rows p calls q a names u in
-      let inner = plain_rows p calls plain q a names u both.1 in
+      let inner = inner_rows p calls plain q a names u both.1 in
       let counted = numbered_rows p calls numbered q a names u listed.1 in
       let grown : length u.sites ≡ suc (length t.sites) = grows p q site t listed.0 in
       let one = expand_one p calls 0 (stmt.Region' q site cond c a) names t in
@@ -98,6 +99,7 @@ module _ (p : Program) (calls : Calls) (plain : (f r : ℕ) (names : List Rename
               ∙ and_make (has_numbers info (site_numbers s)) (regions_listed after next.0) fits next.1.1,
         ),
       )
+  entries_top (stmt.Break site cond) rest go r names t h k own l = absurd (cc)
   entries_top (stmt.Call f line args) rest go r names t h k own l = entries_plain (stmt.Call f line args) rest go r names t h k l
 
   entries_list : (all : List Stmt) → Lists all

@@ -1,15 +1,17 @@
 -- When a text of a frame and a piece of the expanded text do the same: by the variables that stand for the frame's own.
 use Rattle.std.proofs.Common.{◌≡◌, ◌⊎◌, ℕ, ◌+◌, ◌-◌, ◌<◌, ◌≤◌, Bool, true, false, List, [], ◌∷◌, ◌++◌, ℤ, pos, length, get_or, Option, Some, None, slice_get}
+use Rattle.std.specs.List.{list_all}
 use Rattle.dp_base.specs.declared.SiteId.{SiteId}
 use Rattle.dp_base.specs.declared.VarId.{VarId}
 use Rattle.dp_tree.specs.declared.Expr.{Expr}
 use Rattle.dp_tree.specs.declared.Stmt.{Stmt, out-Stmt}
-use Rattle.dp_tree.specs.declared.Stmt.TheOpen.{Assign, Store, Print, If, While, Region, Call}
+use Rattle.dp_tree.specs.declared.Stmt.TheOpen.{Assign, Store, Print, If, While, Region, Break, Call}
 use Rattle.dp_tree.specs.declared.VarInfo.{VarInfo}
 use Rattle.dp_tree.specs.declared.Program.{Program}
 use Rattle.dp_tree.specs.Functions.{body_in, params_in}
 use Rattle.dp_tree.specs.Globals.{is_global_scope, globals_in}
-use Rattle.dp_tree.specs.Step.{line_of, is_local_of}
+use Rattle.dp_tree.specs.Numbering.{is_inner}
+use Rattle.dp_tree.specs.Step.{line_of, is_local_of, clear_locals, behind_region, cleared_leaving}
 use Rattle.dp_tree.specs.Scoping.{sees, knows, global_numbers, seen_behind_params}
 use Rattle.dp_calls.specs.Frame.{global_count, fresh}
 use Rattle.dp_calls.specs.Renaming.{Renamed, named_in, target_of, renamed}
@@ -80,8 +82,18 @@ module _ (p q : Program) where
         out-Stmt s ≡ Assign site (target_of g.names x) (renamed e.names a) → line_of q site ≡ line → knows visible a ≡ true → named_in g.names x.0 ≡ Some y →
         Binds e g visible line params args code → Binds e g visible line (x ∷ params) (a ∷ args) (s ∷ code)
 
+  -- a break becomes one
+  pub record Tries (e : Env) (visible : List ℕ) (s t : Stmt) : Type 0 where
+    pub site : SiteId
+    pub here : SiteId
+    pub cond : Expr
+    pub source : out-Stmt s ≡ Break site cond
+    pub target : out-Stmt t ≡ Break here (renamed e.names cond)
+    pub line : line_of q here ≡ line_of p site
+    pub known : knows visible cond ≡ true
+
   mutual
-    -- one statement with a site becomes one
+    -- one statement with a site, and no break, becomes one
     pub data Acts : Env → List ℕ → List ℕ → Stmt → Stmt → Type 0 where
       assigns : {e : Env} {visible behind : List ℕ} {s t : Stmt} {site here : SiteId} {x : VarId} {v : Expr} →
           out-Stmt s ≡ Assign site x v → out-Stmt t ≡ Assign here (target_of e.names x) (renamed e.names v) → line_of q here ≡ line_of p site →
@@ -100,7 +112,7 @@ module _ (p q : Program) where
           knows visible v ≡ true → Block e visible a c → Acts e visible visible s t
       marks : {e : Env} {visible : List ℕ} {s t : Stmt} {r : ℕ} {site here : SiteId} {v : Expr} {a c : List Stmt} →
           out-Stmt s ≡ Region r site v a → out-Stmt t ≡ Region r here (renamed e.names v) c → line_of q here ≡ line_of p site →
-          knows visible v ≡ true → Block e visible a c → Quiet e visible r → e.calls ≡ length p.functions → Acts e visible visible s t
+          knows visible v ≡ true → Body e visible a c → Quiet e visible r → e.calls ≡ length p.functions → Acts e visible visible s t
 
     -- a statement becomes a piece of text
     pub data One : Env → List ℕ → List ℕ → Stmt → List Stmt → Type 0 where
@@ -116,11 +128,32 @@ module _ (p q : Program) where
       more : {e : Env} {visible behind : List ℕ} {s : Stmt} {rest first text code : List Stmt} →
           One e visible behind s first → Block e behind rest text → code ≡ first ++ text → Block e visible (s ∷ rest) code
 
-  -- what a frame has to do: at the end of a block its names are given up
+    -- a statement at the top of a region's body
+    pub data Inside : Env → List ℕ → List ℕ → Stmt → List Stmt → Type 0 where
+      stays : {e : Env} {visible behind : List ℕ} {s : Stmt} {code : List Stmt} → One e visible behind s code → Inside e visible behind s code
+      exits : {e : Env} {visible : List ℕ} {s t : Stmt} → Tries e visible s t → Inside e visible visible s (t ∷ [])
+
+    -- a region's body, or the rest of one; no region stands in it
+    pub data Body : Env → List ℕ → List Stmt → List Stmt → Type 0 where
+      finished : {e : Env} {visible : List ℕ} → Body e visible [] []
+      onward : {e : Env} {visible behind : List ℕ} {s : Stmt} {rest first text code : List Stmt} →
+          Inside e visible behind s first → Body e behind rest text → list_all is_inner rest ≡ true → list_all is_inner text ≡ true → code ≡ first ++ text → Body e visible (s ∷ rest) code
+
+  -- A region is left from here: what is visible behind it is visible here, and its body locals alone are cleared. Only `main` has regions.
+  pub record Leaving (e : Env) (visible outer : List ℕ) (r : ℕ) (rest text : List Stmt) : Type 0 where
+    pub within : Within outer visible
+    pub quiet : Quiet e outer r
+    pub main : e.calls ≡ length p.functions
+    pub source : (cells : List ℤ) → cleared_leaving p rest cells ≡ clear_locals r p.vars cells
+    pub target : (cells : List ℤ) → cleared_leaving q text cells ≡ clear_locals r q.vars cells
+
+  -- what a frame has to do: at the end of a block its names are given up, and a break may leave its region
   pub data Todo : Env → List ℕ → List Stmt → List Stmt → Type 0 where
     none : {e : Env} {visible : List ℕ} → Todo e visible [] []
     next : {e : Env} {visible behind : List ℕ} {s : Stmt} {rest first text code : List Stmt} →
         One e visible behind s first → Todo e behind rest text → code ≡ first ++ text → Todo e visible (s ∷ rest) code
+    exit : {e : Env} {visible outer : List ℕ} {r : ℕ} {s t : Stmt} {rest text code : List Stmt} →
+        Tries e visible s t → Todo e visible rest text → Leaving e visible outer r rest text → Todo e outer (behind_region rest) (behind_region text) → code ≡ t ∷ text → Todo e visible (s ∷ rest) code
     leave : {e : Env} {visible outer : List ℕ} {statements code : List Stmt} → Within outer visible → Todo e outer statements code → Todo e visible statements code
 
   -- a visible variable is a file-scope one, or has the value of the variable that stands for it

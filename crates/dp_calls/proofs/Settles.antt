@@ -8,11 +8,11 @@ use Rattle.dp_tree.specs.declared.Stmt.TheOpen.{Stmt-F, Assign, Call}
 use Rattle.dp_tree.specs.declared.Program.{Program}
 use Rattle.dp_tree.specs.Functions.{body_in, params_in}
 use Rattle.dp_tree.specs.Scoping.{global_numbers, seen_behind_params}
-use Rattle.dp_tree.specs.Step.{cleared_at, standing}
+use Rattle.dp_tree.specs.Step.{cleared_at, standing, behind_region}
 use Rattle.dp_calls.specs.Frame.{Frame, global_count, fresh, new_frame, entered, standing_frame, or_after, resumed_at, no_frames, resumed_with, resumed, or_below, settled}
-use Rattle.dp_calls.proofs.Relation.{Env, file_count, Laid, IsEnv, Nested, Binds, bound, binds, Acts, assigns, stores, prints, branches, loops, marks, act, call, Block, done, more, Todo, none, next, leave, file, Agree}
+use Rattle.dp_calls.proofs.Relation.{Env, file_count, Laid, IsEnv, Nested, Binds, bound, binds, Acts, assigns, stores, prints, branches, loops, marks, act, call, Tries, Leaving, Block, done, more, Todo, none, next, exit, leave, file, Agree}
 use Rattle.dp_calls.proofs.SameValues.{numbers_below}
-use Rattle.dp_calls.proofs.Stacks.{Suits, Stack, bottom, over, Ready, Filling, Sim, ends, acting, binding}
+use Rattle.dp_calls.proofs.Stacks.{Suits, Stack, bottom, over, Ready, Filling, Sim, ends, acting, leaving, binding}
 use Rattle.dp_calls.proofs.Stands.{acts_cleared, stack_cleared}
 use Rattle.dp_base.specs.declared.SiteId.{SiteId}
 
@@ -74,6 +74,24 @@ module _ (p q : Program) (laid : Laid p q) where
         } in
         live_as (ap (λ (o : Option (List Stmt)). resumed_at enter p f s statements (resumed_with enter p f statements) o below) (acts_entered a))
         (ap (λ (c : List Stmt). c ++ rest) is) c.cells c.target (acting here callee refl a todo refl)
+
+    -- a break
+    at_exit : (s : Stmt) {e : Env} {visible outer : List ℕ} {r : ℕ} {f : Frame} {below : List Frame} {t : Stmt} {statements own text rest : List Stmt} {h : List ℤ} →
+        Ready p q e visible f below rest h → f.callee ≡ fresh p → Tries p q e visible s t → Todo p q e visible statements own → Leaving p q e visible outer r statements own →
+        Todo p q e outer (behind_region statements) (behind_region own) → text ≡ t ∷ own → Resumed h (resumed_with enter p f (s ∷ statements) below) text rest
+    at_exit s {e = e} {visible = visible} {f = f} {below = below} {statements = statements} {rest = rest} {h = h} ready callee tries todo facts left is =
+        let locals_are : (standing_frame p f s statements).locals ≡ f.locals =
+        standing_locals f s statements f.locals (λ g w. ap (λ (x : Stmt-F Stmt). cleared_at p x (g ++ f.locals)) tries.source) in
+        let here : Ready p q e visible (standing_frame p f s statements) below rest h = record {
+          env = ready.env;
+          agree = subst (λ (l : List ℤ). Agree p q e visible l h) (sym locals_are) ready.agree;
+          room = (ap (λ (l : List ℤ). length l + file_count p) locals_are ∙ ready.room.0, ready.room.1);
+          stack = ready.stack;
+        } in
+        live_as (ap (λ (o : Option (List Stmt)). resumed_at enter p f s statements (resumed_with enter p f statements) o below) (ap (entered p) tries.source))
+        (ap (λ (c : List Stmt). c ++ rest) is) h
+        (λ g w. ap (λ (x : Stmt-F Stmt). cleared_at q x (g ++ h)) tries.target)
+        (leaving here callee refl tries todo facts left refl)
 
     -- a call that has evaluated nothing: its first binding comes next
     at_binding : (s : Stmt) {e g : Env} {visible : List ℕ} {f : Frame} {below : List Frame} {b : Stmt} {site : SiteId} {y : VarId} {v : Expr} {statements own bindings body text rest : List Stmt} {h : List ℤ}
@@ -154,6 +172,7 @@ module _ (p q : Program) (laid : Laid p q) where
         at_call s _ low ready callee is_call env nested calls refl pairs block todo
         (is ∙ ap (λ (c : List Stmt). c ++ own) code ∙ append_assoc bindings body own)
         (resumes_with todo low ready callee)
+    resumes_with (exit {s = s} tries todo facts left is) low ready callee = at_exit enter s ready callee tries todo facts left is
     resumes_with {f = f} (leave sub todo) low ready callee =
         resumes_with {f = f} todo low (record { env = ready.env; agree = λ x seen. ready.agree x (sub x seen); room = ready.room; stack = ready.stack }) callee
 

@@ -17,8 +17,9 @@ use Rattle.dp_calls.specs.FrameStep.{FrameStep, step_frames}
 use Rattle.dp_calls.specs.Frames.{Outcome, frames_end, with_step, outcome_by, frames_from}
 use Rattle.dp_calls.specs.Meaning.{outcome_of_run}
 use Rattle.dp_calls.proofs.Relation.{Env, Laid, Binds, binds}
-use Rattle.dp_calls.proofs.Stacks.{Sim, ends, acting, binding, Alike}
+use Rattle.dp_calls.proofs.Stacks.{Sim, ends, acting, leaving, binding, Alike}
 use Rattle.dp_calls.proofs.Acting.{StepsAlike, both_end, both_fault, both_go, acting_steps}
+use Rattle.dp_calls.proofs.Leaving.{leaving_steps}
 use Rattle.dp_calls.proofs.Binding.{binding_steps}
 
 module _ (p q : Program) (laid : Laid p q) (input : List ℤ) where
@@ -27,6 +28,8 @@ module _ (p q : Program) (laid : Laid p q) (input : List ℤ) where
   sim_steps c h whole frames code ends = both_end
   sim_steps c h whole frames code (acting {s = s} {t = t} {statements = statements} {text = text} ready callee is acts todo code_is) =
       acting_steps p q laid ready callee c.globals input c s t statements text code refl whole is acts todo code_is
+  sim_steps c h whole frames code (leaving {s = s} {t = t} ready callee is tries todo facts left code_is) =
+      leaving_steps p q laid ready callee c.globals whole facts input c s t code refl is tries todo left code_is
   sim_steps c h whole frames code (binding {s = s} ready is is_call filling todo code_is) =
       binding_steps p q laid ready filling todo input c whole s code is is_call code_is
 
@@ -44,6 +47,7 @@ module _ (p q : Program) (laid : Laid p q) (input : List ℤ) where
   sim_end : (h : List ℤ) (frames : List Frame) (code : List Stmt) → Sim p q h frames code → frames_end frames ≡ end_at code
   sim_end h frames code ends = refl
   sim_end h frames code (acting _ _ _ _ _ is) = sym (ap end_at is)
+  sim_end h frames code (leaving _ _ _ _ _ _ _ is) = sym (ap end_at is)
   sim_end h frames code (binding _ _ _ filling _ is) = end_bound _ filling.binds ∙ sym (ap end_at is)
 
   module _ (same : global_count q ≡ global_count p) where

@@ -135,6 +135,7 @@ module _ (p : Program) where
           (1, one_number t (declared_in p r x.0 names u).tables grown)
       numbered_one r (stmt.Store site x index e) names t h = (1, one_number t (with_source_site p r site t) (grows r site t (and_true (is_site site.0) true h).0))
       numbered_one r (stmt.Print site e) names t h = (1, one_number t (with_source_site p r site t) (grows r site t (and_true (is_site site.0) true h).0))
+      numbered_one r (stmt.Break site e) names t h = (1, one_number t (with_source_site p r site t) (grows r site t (and_true (is_site site.0) true h).0))
       numbered_one r (stmt.If' site cond _ a _ b) names t h =
           let u = with_source_site p r site t in
           let own = and_true (is_site site.0) (list_all is_site (site_numbers_in a ++ site_numbers_in b)) h in

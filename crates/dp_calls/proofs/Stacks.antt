@@ -7,9 +7,9 @@ use Rattle.dp_tree.specs.declared.Stmt.TheOpen.{Call}
 use Rattle.dp_tree.specs.declared.Program.{Program}
 use Rattle.dp_tree.specs.Functions.{body_in, params_in}
 use Rattle.dp_tree.specs.Scoping.{global_numbers, seen_behind_params}
-use Rattle.dp_tree.specs.Step.{Config}
+use Rattle.dp_tree.specs.Step.{Config, behind_region}
 use Rattle.dp_calls.specs.Frame.{Frame, State, fresh, global_count}
-use Rattle.dp_calls.proofs.Relation.{Env, file_count, IsEnv, Nested, Within, Declares, known, new, Binds, Acts, assigns, stores, prints, branches, loops, marks, One, act, call, Block, done, more, Todo, next, leave, Held, file, held, Agree, Room}
+use Rattle.dp_calls.proofs.Relation.{Env, file_count, IsEnv, Nested, Within, Declares, known, new, Binds, Acts, assigns, stores, prints, branches, loops, marks, Tries, Leaving, One, act, call, Block, done, more, Todo, next, leave, Held, file, held, Agree, Room}
 use Rattle.dp_calls.proofs.SameValues.{sees_more}
 use Rattle.dp_calls.proofs.Written.{Keeps}
 
@@ -53,6 +53,9 @@ module _ (p q : Program) where
     acting : {e : Env} {visible behind : List ℕ} {f : Frame} {below : List Frame} {s t : Stmt} {statements text rest code : List Stmt} →
         Ready e visible f below rest h → f.callee ≡ fresh p → f.to_do ≡ s ∷ statements → Acts p q e visible behind s t → Todo p q e behind statements text →
         code ≡ t ∷ (text ++ rest) → Sim h (f ∷ below) code
+    leaving : {e : Env} {visible outer : List ℕ} {r : ℕ} {f : Frame} {below : List Frame} {s t : Stmt} {statements text rest code : List Stmt} →
+        Ready e visible f below rest h → f.callee ≡ fresh p → f.to_do ≡ s ∷ statements → Tries p q e visible s t → Todo p q e visible statements text →
+        Leaving p q e visible outer r statements text → Todo p q e outer (behind_region statements) (behind_region text) → code ≡ t ∷ (text ++ rest) → Sim h (f ∷ below) code
     binding : {e g : Env} {visible : List ℕ} {f : Frame} {below : List Frame} {s : Stmt} {statements text rest bindings body code : List Stmt}
         {k line : ℕ} {x : VarId} {params : List VarId} {a : Expr} {args : List Expr} →
         Ready e visible f below rest h → f.to_do ≡ s ∷ statements → out-Stmt s ≡ Call k line (a ∷ args) →
@@ -78,7 +81,7 @@ module _ (p q : Program) where
   acts_within (loops _ _ _ _ _) = λ x seen. seen
   acts_within (marks _ _ _ _ _ _ _) = λ x seen. seen
 
-  one_within : {e : Env} {visible behind : List ℕ} {s : Stmt} {code : List Stmt} → One p q e visible behind s code → Within p q visible behind
+  pub one_within : {e : Env} {visible behind : List ℕ} {s : Stmt} {code : List Stmt} → One p q e visible behind s code → Within p q visible behind
   one_within (act a) = acts_within a
   one_within (call _ _ _ _ _ _ _) = λ x seen. seen
 

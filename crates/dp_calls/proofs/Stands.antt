@@ -5,7 +5,7 @@ use Rattle.dp_tree.specs.declared.Stmt.TheOpen.{Stmt-F}
 use Rattle.dp_tree.specs.declared.Program.{Program}
 use Rattle.dp_tree.specs.Step.{cleared_at, standing}
 use Rattle.dp_calls.specs.Frame.{Frame, global_count}
-use Rattle.dp_calls.proofs.Relation.{Env, file_count, Laid, IsEnv, Acts, assigns, stores, prints, branches, loops, marks, act, call, Todo, none, next, leave, Agree}
+use Rattle.dp_calls.proofs.Relation.{Env, file_count, Laid, IsEnv, Acts, assigns, stores, prints, branches, loops, marks, act, call, Todo, none, next, exit, leave, Agree}
 use Rattle.dp_calls.proofs.Clears.{clear_own, clear_own-length, memory_clears, quiet_clears, quiet_agree}
 use Rattle.dp_calls.proofs.Stacks.{Stack, bottom, over}
 
@@ -70,4 +70,6 @@ module _ (p q : Program) (laid : Laid p q) where
       record { locals = c.locals; outer = visible; todo = next (act a) todo is; agree = c.half; long = c.long; is = c.source }
   stands env {visible = visible} l h agree (next (call a b c d f g k) todo is) =
       record { locals = l; outer = visible; todo = next (call a b c d f g k) todo is; agree = agree; long = refl; is = λ m w. ap (λ (x : Stmt-F Stmt). cleared_at p x (m ++ l)) a }
+  stands env {visible = visible} l h agree (exit tries todo facts left is) =
+      record { locals = l; outer = visible; todo = exit tries todo facts left is; agree = agree; long = refl; is = λ m w. ap (λ (x : Stmt-F Stmt). cleared_at p x (m ++ l)) tries.source }
   stands env l h agree (leave sub todo) = stands env l h (λ x seen. agree x (sub x seen)) todo

@@ -14,7 +14,7 @@ use Rattle.dp_tree.specs.declared.VarScope.{VarScope}
 use Rattle.dp_tree.specs.declared.VarScope.TheVariants.{Global, Outer, Body}
 use Rattle.dp_tree.specs.declared.Program.{Program}
 use Rattle.dp_tree.specs.Functions.{body_in}
-use Rattle.dp_tree.specs.Numbering.{site_numbers, site_numbers_in, site_numbers_all, is_plain, is_plain_in, top_fits, next_region, regions_in_order}
+use Rattle.dp_tree.specs.Numbering.{site_numbers, site_numbers_in, site_numbers_all, is_plain, is_inner_in, top_fits, next_region, regions_in_order}
 use Rattle.dp_tree.specs.Scoping.{sees, knows, is_scope_in, is_declared_in, seen_behind, in_scope, rows_in_scope, all_in_scope}
 use Rattle.dp_tree.specs.Step.{line_of, is_local_of}
 use Rattle.dp_calls.specs.Frame.{global_count}
@@ -23,7 +23,7 @@ use Rattle.dp_calls.specs.Tables.{Tables, scope_in, with_source_site, next_site}
 use Rattle.dp_calls.specs.Expand.{Piece, behind, as_region, Calls, expand_one, expand_rows, expand_list, calls_within}
 use Rattle.dp_tree.proofs.Heads.{and_true}
 use Rattle.dp_calls.proofs.InnerTexts.{texts, shown_texts}
-use Rattle.dp_calls.proofs.Relation.{Env, PlaceOf, file_count, is_quiet, Quiet, One, act, Block, marks}
+use Rattle.dp_calls.proofs.Relation.{Env, PlaceOf, file_count, is_quiet, Quiet, One, act, Block, Body as BodyOf, marks}
 use Rattle.dp_calls.proofs.SameValues.{sees_one}
 use Rattle.dp_calls.proofs.Tabled.{grows_on, grows_source_site, grows_region, Lies, moved}
 use Rattle.dp_calls.proofs.Visible.{element_there}
@@ -31,7 +31,9 @@ use Rattle.dp_calls.proofs.Named.{NamesOk, names_grow, Seen, steps_not}
 use Rattle.dp_calls.proofs.Made.{Closes, closes_before, Made, source_line, is_listed}
 use Rattle.dp_calls.proofs.Passed.{Any}
 use Rattle.dp_calls.proofs.Declared.{lies_sited, names_sited, final_renamed}
-use Rattle.dp_calls.proofs.Pieces.{all_parts, seen_in, Called, one_made, rows_made, list_made, both_made, none_made}
+use Rattle.dp_calls.proofs.Pieces.{all_parts, seen_in, Called, one_made, list_made, both_made, none_made}
+use Rattle.dp_calls.proofs.PlainLaws.{Plain, plain_list}
+use Rattle.dp_calls.proofs.Bodies.{body_made}
 use Rattle.dp_calls.proofs.CheckedTexts.{TextOf}
 
 -- a scope of region r
@@ -78,6 +80,10 @@ module _ (p q : Program) (places : (x : ℕ) (info : VarInfo) → slice_get p.va
   called : (r f : ℕ) → f < most → Called p q calls r f
   called r f less = calls_made most (omega arith) f less r
 
+  plain_calls : (depth f r : ℕ) (names : List Renamed) (t : Tables) → Plain t (calls_within p depth f r names t)
+  plain_calls zero f r names t = (refl, refl)
+  plain_calls (suc depth) f r names t = plain_list p (calls_within p depth) (plain_calls depth) r (body_in (slice_get p.functions f)) names t (text_of f).plain
+
   -- what a statement at the top, and what several become
   abbrev TopMade : List ℕ → List Renamed → Tables → List ℕ → Stmt → Piece → Type 0
   TopMade visible names t behind s a = Made p q Linked (file_count p) most names t behind a (λ e. One p q e visible behind s a.code)
@@ -102,7 +108,7 @@ module _ (p q : Program) (places : (x : ℕ) (info : VarInfo) → slice_get p.va
 
   region_by : (k : ℕ) (site : SiteId) (v : Expr) (m : _) (body : Row_of-Stmt _) (visible : List ℕ) (names : List Renamed) (t : Tables) (a : Piece) → knows visible v ≡ true → is_listed p site.0 ≡ true →
       NamesOk p Linked (file_count p) names t → Seen p visible names → TopSeen p visible →
-      Made p q Linked (file_count p) most names (with_source_site p k site t) visible a (λ e. Block p q e visible (texts body) a.code) →
+      Made p q Linked (file_count p) most names (with_source_site p k site t) visible a (λ e. BodyOf p q e visible (texts body) a.code) →
       TopMade visible names t visible (stmt.Region' k site v m body) (as_region (line_of p site) k (next_site t) (renamed names v) a)
   region_by k site v m body visible names t a known_v listed ok seen top made = record {
     grows = grows_on (grows_source_site p k site t) (grows_on made.grows (grows_region (line_of p site) (next_site t) a.tables));
@@ -136,11 +142,12 @@ module _ (p q : Program) (places : (x : ℕ) (info : VarInfo) → slice_get p.va
   top_made k (stmt.While' site v m body) visible names t scoped fits listed ready = plain_top (stmt.While' site v m body) visible names t scoped fits listed ready
   top_made k (stmt.Region' r site v m body) visible names t scoped fits listed ready =
       let both = and_true (knows visible v) (rows_in_scope p r most visible body) scoped in
-      let plainly = and_true (r == k) (is_plain_in body) fits in
+      let plainly = and_true (r == k) (is_inner_in body) fits in
       let sites = and_true (is_listed p site.0) (list_all (is_listed p) (site_numbers_in body)) listed in
-      let inside = rows_made p q places there Linked (file_count p) most r r (linked_moved r) calls (omega arith) (λ g. (text_of g).params) (called r) body visible names (with_source_site p r site t) both.1 plainly.1 sites.1
+      let inside = body_made p q places there Linked (file_count p) most r r (linked_moved r) calls (omega arith) (λ g. (text_of g).params) (called r) (plain_calls most) body visible names (with_source_site p r site t) both.1 plainly.1 sites.1
       (names_sited p q places there Linked (file_count p) most r r (linked_moved r) site names t ready.0) (lies_sited p q places there Linked (file_count p) most r r (linked_moved r) site t ready.1) ready.2 in
       region_by r site v m body visible names t (expand_rows p calls r body names (with_source_site p r site t)) both.0 sites.0 ready.0 ready.2 ready.3 inside
+  top_made k (stmt.Break site v) visible names t scoped fits listed ready = absurd (cc fits)
   top_made k (stmt.Call f line args) visible names t scoped fits listed ready = plain_top (stmt.Call f line args) visible names t scoped fits listed ready
 
   top_assigned : (b : Bool) (visible : List ℕ) (x : VarId) → sees visible x ≡ b → (b || is_declared_in 0 (slice_get p.vars x.0)) ≡ true → TopSeen p visible → TopSeen p (if b then visible else x.0 ∷ visible)
@@ -158,6 +165,7 @@ module _ (p q : Program) (places : (x : ℕ) (info : VarInfo) → slice_get p.va
   top_behind visible (stmt.If' site v m one l other) scoped top = top
   top_behind visible (stmt.While' site v m body) scoped top = top
   top_behind visible (stmt.Region' r site v m body) scoped top = top
+  top_behind visible (stmt.Break site v) scoped top = top
   top_behind visible (stmt.Call f line args) scoped top = top
 
   pub main_made : (k : ℕ) (statements : List Stmt) (visible : List ℕ) (names : List Renamed) (t : Tables) → all_in_scope p 0 most visible statements ≡ true → regions_in_order k statements ≡ true → list_all (is_listed p) (site_numbers_all statements) ≡ true →

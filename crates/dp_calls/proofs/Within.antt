@@ -6,8 +6,8 @@ use Rattle.dp_base.specs.declared.VarId.{VarId}
 use Rattle.dp_tree.specs.declared.Expr.{Expr, end_of-Expr, more_of-Expr}
 use Rattle.dp_tree.specs.declared.Expr.TheVariants as tree
 use Rattle.dp_tree.specs.declared.Stmt.{Stmt, out-Stmt, roll-Stmt, roll-out-Stmt}
-use Rattle.dp_tree.specs.declared.Stmt.TheViews.{rolls-Assign, rolls-Store, rolls-Print, rolls-If, rolls-While, rolls-Region, rolls-Call}
-use Rattle.dp_tree.specs.declared.Stmt.TheOpen.{Stmt-F, Assign, Store, Print, If, While, Region, Call}
+use Rattle.dp_tree.specs.declared.Stmt.TheViews.{rolls-Assign, rolls-Store, rolls-Print, rolls-If, rolls-While, rolls-Region, rolls-Break, rolls-Call}
+use Rattle.dp_tree.specs.declared.Stmt.TheOpen.{Stmt-F, Assign, Store, Print, If, While, Region, Break, Call}
 use Rattle.dp_tree.specs.declared.Program.{Program}
 use Rattle.dp_tree.specs.Checked.{IsChecked}
 use Rattle.dp_tree.specs.Inlined.{expr_within, stmt_within, rows_within}
@@ -16,7 +16,7 @@ use Rattle.dp_calls.specs.Renaming.{Renamed, named_in, target_or, target_of, ren
 use Rattle.dp_calls.specs.Expand.{expand}
 use Rattle.dp_tree.proofs.EvalLemmas.{opened}
 use Rattle.dp_tree.proofs.Heads.{opened_statement, and_true, and_make}
-use Rattle.dp_calls.proofs.Relation.{Env, file_count, IsEnv, Declares, known, new, Binds, bound, binds, Acts, assigns, stores, prints, branches, loops, marks, One, act, call, Block, done, more}
+use Rattle.dp_calls.proofs.Relation.{Env, file_count, IsEnv, Declares, known, new, Binds, bound, binds, Acts, assigns, stores, prints, branches, loops, marks, One, act, call, Inside, stays, exits, Body, finished, onward, Block, done, more}
 use Rattle.dp_calls.proofs.SameValues.{sees_one}
 use Rattle.dp_calls.proofs.Named.{Seen}
 use Rattle.dp_calls.proofs.SameMeanings.{main_is_env, files_below, made, block}
@@ -63,6 +63,7 @@ module _ (n : ℕ) where
   within_at (If site cond a b) = expr_within n cond && (all_within a && all_within b)
   within_at (While site cond a) = expr_within n cond && all_within a
   within_at (Region r site cond a) = expr_within n cond && all_within a
+  within_at (Break site cond) = expr_within n cond
   within_at (Call f line args) = list_all (expr_within n) args
 
   within_roll : (h : Stmt-F Stmt) → stmt_within n (roll-Stmt h) ≡ within_at h
@@ -76,6 +77,7 @@ module _ (n : ℕ) where
       ∙ ap (λ (u : Bool). expr_within n cond && (all_within a && u)) (within_hidden b)
   within_roll (While site cond a) = ap (stmt_within n) (rolls-While site cond a) ∙ ap (λ (u : Bool). expr_within n cond && u) (within_hidden a)
   within_roll (Region r site cond a) = ap (stmt_within n) (rolls-Region r site cond a) ∙ ap (λ (u : Bool). expr_within n cond && u) (within_hidden a)
+  within_roll (Break site cond) = ap (stmt_within n) (rolls-Break site cond)
   within_roll (Call f line args) = ap (stmt_within n) (rolls-Call f line args)
 
   pub within_head : (t : Stmt) (h : Stmt-F Stmt) → out-Stmt t ≡ h → within_at h ≡ true → stmt_within n t ≡ true
@@ -166,7 +168,7 @@ module _ (p q : Program) (files : file_count p ≤ length q.vars) where
       )
       acts_within {e = e} {visible = visible} {t = t} env seen (marks {r = r} {here = here} {v = v} {c = c} _ is _ k body _ _) = (
         within_head count t (Region r here (renamed e.names v) c) is
-            (and_make (expr_within count (renamed e.names v)) (all_within count c) (value_within e env visible seen v k) (block_within env seen body)),
+            (and_make (expr_within count (renamed e.names v)) (all_within count c) (value_within e env visible seen v k) (body_within env seen body)),
         seen,
       )
 
@@ -175,6 +177,17 @@ module _ (p q : Program) (files : file_count p ≤ length q.vars) where
       one_within {e = e} env seen (call {g = g} {f = f} {binding = binding} {body = body} _ inner _ _ pairs inside is) =
           let behind_params = params_seen pairs (global_numbers p) (λ x at. inl (globals x at)) in
           (ap (all_within count) is ∙ within_join count binding body (binds_within env inner seen pairs) (block_within inner behind_params inside), seen)
+
+      inside_within : {e : Env} {visible behind : List ℕ} {s : Stmt} {code : List Stmt} → IsEnv p q e → Seen p visible e.names → Inside p q e visible behind s code → (all_within count code ≡ true) × Seen p behind e.names
+      inside_within env seen (stays one) = one_within env seen one
+      inside_within {e = e} {visible = visible} env seen (exits {t = t} tries) =
+          (and_make (stmt_within count t) true (within_head count t (Break tries.here (renamed e.names tries.cond)) tries.target (value_within e env visible seen tries.cond tries.known)) refl, seen)
+
+      body_within : {e : Env} {visible : List ℕ} {statements code : List Stmt} → IsEnv p q e → Seen p visible e.names → Body p q e visible statements code → all_within count code ≡ true
+      body_within env seen finished = refl
+      body_within env seen (onward {first = first} {text = text} one rest _ _ is) =
+          let here = inside_within env seen one in
+          ap (all_within count) is ∙ within_join count first text here.0 (body_within env here.1 rest)
 
       pub block_within : {e : Env} {visible : List ℕ} {statements code : List Stmt} → IsEnv p q e → Seen p visible e.names → Block p q e visible statements code → all_within count code ≡ true
       block_within env seen done = refl

@@ -6,7 +6,7 @@ use Rattle.dp_base.specs.declared.VarId.{VarId}
 use Rattle.dp_tree.specs.declared.Expr.{Expr, end_of-Expr, more_of-Expr}
 use Rattle.dp_tree.specs.declared.Expr.TheVariants.{Number, Input, Input', InputLen, Scalar, Element, Element', Unary, Unary', Binary, Binary', And, And', Or, Or'}
 use Rattle.dp_tree.specs.declared.Stmt.{Stmt, Row_of-Stmt, end_of-Stmt, more_of-Stmt}
-use Rattle.dp_tree.specs.declared.Stmt.TheVariants.{Assign, Store, Print, If, If', While, While', Region, Region', Call}
+use Rattle.dp_tree.specs.declared.Stmt.TheVariants.{Assign, Store, Print, If, If', While, While', Region, Region', Break, Call}
 use Rattle.dp_tree.specs.declared.Program.{Program}
 use Rattle.dp_tree.specs.Inlined.{has_call}
 use Rattle.dp_calls.specs.Expand.{expand}
@@ -40,6 +40,7 @@ abbrev mutual
   erased (If' site cond _ then_part _ else_part) = If any_site (unnumbered cond) (erased_in then_part) (erased_in else_part)
   erased (While' site cond _ body) = While any_site (unnumbered cond) (erased_in body)
   erased (Region' r site cond _ body) = Region r any_site (unnumbered cond) (erased_in body)
+  erased (Break site cond) = Break any_site (unnumbered cond)
   erased (Call f line args) = Call f line args
 
   -- the same of several statements

@@ -2,7 +2,8 @@
 use Rattle.std.proofs.Common.{◌≡◌, append_assoc, append-nil, refl, ap, ◌∙◌, List, [], ◌∷◌, ◌++◌, Option, Some, None, Result, Ok, Err}
 use Rattle.dp_check.specs.declared.fail.CheckFail.{CheckFail}
 use Rattle.dp_check.specs.Offence.{Token, offence, or_else, first_offence}
-use Rattle.dp_check.specs.Answer.{answer}
+use Rattle.dp_tree.specs.declared.Stmt.{Stmt}
+use Rattle.dp_check.specs.Answer.{answer, onto, with_last, Gives}
 
 -- the next answer, unless this one is a refusal
 abbrev pub and_then : {X Y : Type 0} → Result X CheckFail → (X → Result Y CheckFail) → Result Y CheckFail
@@ -39,10 +40,6 @@ pub answer-three : {X Y Z W : Type 0} (o p q : Option CheckFail) (x : X) (y : Y)
 answer-three None p q x y z f = answer-two p q y z (f x)
 answer-three (Some e) p q x y z f = refl
 
--- the answer of the rest of a list, behind what is done
-unfoldable pub onto : {X : Type 0} → List X → Result (List X) CheckFail → Result (List X) CheckFail
-onto done r = and_then r (λ more. Ok (done ++ more))
-
 pub onto-all : {X : Type 0} (r : Result (List X) CheckFail) → onto [] r ≡ r
 unfolding onto
 onto-all (Ok xs) = refl
@@ -59,6 +56,28 @@ unfolding onto
 onto-more done (Err e) rest = refl
 onto-more done (Ok x) (Err e) = refl
 onto-more done (Ok x) (Ok xs) = ap Ok (Rattle.std.proofs.Common.sym (append_assoc done (x ∷ []) xs))
+
+-- some of the rest are done
+pub onto-further : {X : Type 0} (done : List X) (some rest : Result (List X) CheckFail)
+    → onto done (and_then some (λ xs. and_then rest (λ ys. Ok (xs ++ ys)))) ≡ and_then (onto done some) (λ all. onto all rest)
+unfolding onto
+onto-further done (Err e) rest = refl
+onto-further done (Ok xs) (Err e) = refl
+onto-further done (Ok xs) (Ok ys) = ap Ok (Rattle.std.proofs.Common.sym (append_assoc done xs ys))
+
+-- several are done, and one more
+pub onto-one : {X : Type 0} (done : List X) (some : Result (List X) CheckFail) (one : Result X CheckFail)
+    → onto done (and_then some (λ xs. and_then one (λ x. Ok (xs ++ x ∷ [])))) ≡ and_then (onto done some) (λ all. and_then one (λ x. Ok (all ++ x ∷ [])))
+unfolding onto
+onto-one done (Err e) one = refl
+onto-one done (Ok xs) (Err e) = refl
+onto-one done (Ok xs) (Ok x) = ap Ok (Rattle.std.proofs.Common.sym (append_assoc done xs (x ∷ [])))
+
+-- an answer of one statement behind those that are done
+pub gives_behind : (r : Result (List Stmt) CheckFail) (done : List Stmt) (one : Result Stmt CheckFail) → Gives r (with_last [] one) → Gives (onto done r) (with_last done one)
+unfolding onto
+gives_behind r done (Ok x) h = ap (onto done) h
+gives_behind r done (Err e) h = λ other. ap (onto done) (h other)
 
 -- what an answer tells of the offence
 pub answer-Ok : {X : Type 0} (o : Option CheckFail) (x y : X) → answer o x ≡ Ok y → (o ≡ None) × (x ≡ y)

@@ -8,8 +8,8 @@ use Rattle.dp_tree.specs.declared.raw.RawStmt.{RawStmt}
 use Rattle.dp_tree.specs.declared.raw.RawItem.{RawItem}
 use Rattle.dp_tree.specs.declared.raw.RawItem.TheVariants as item
 use Rattle.dp_tree.specs.declared.raw.RawProgram.{RawProgram}
-use Rattle.dp_check.specs.Place.{Part, Site, Local, parts}
-use Rattle.dp_check.specs.Tables.{laid, locals_of, globals, global_of, item_parts, top_scope, after_top, main_locals, variables}
+use Rattle.dp_check.specs.Place.{Part, Site, Local}
+use Rattle.dp_check.specs.Tables.{laid, locals_of, globals, global_of, item_parts, outside, within, top_locals, after_top, main_locals, variables}
 use Rattle.std.proofs.Common.{subst, Option, Some, None, Ok}
 use Rattle.dp_tree.specs.declared.Program.{Program}
 use Rattle.dp_check.specs.declared.fail.CheckFail.{CheckFail}
@@ -19,10 +19,10 @@ use Rattle.dp_check.specs.Verdict.{names_of, begin, main_begin, too_many_functio
 use Rattle.dp_tree.specs.Globals.{is_global_scope}
 use Rattle.dp_tree.specs.Layout.{has_cells, lies_in_order}
 use Rattle.dp_tree.specs.Checked.{IsChecked}
-use Rattle.dp_check.specs.Checked.{has_length}
+use Rattle.dp_check.specs.Checked.{has_length, breaks_fit, breaks_fit_at_top, is_unbroken_item}
 use Rattle.dp_check.proofs.NumberLemmas.{sites_in_order}
 use Rattle.dp_check.proofs.PlainLemmas.{regions_stand_in_order, functions_are_plain}
-use Rattle.dp_check.proofs.BoolLemmas.{both_true, same_number, all_of_both}
+use Rattle.dp_check.proofs.BoolLemmas.{both_true, halves, same_number, all_of_both}
 use Rattle.dp_check.proofs.GlobalLemmas.{globals_stand_first}
 use Rattle.dp_check.proofs.ItemScopeLemmas.{resolved_in_scope}
 
@@ -59,7 +59,9 @@ globals_have_cells (item.Function name params body ∷ items) h = globals_have_c
 main_have_cells : (r : ℕ) (all : List RawStmt) → list_all has_cells (main_locals r all) ≡ true
 main_have_cells r [] = refl
 main_have_cells r (s ∷ rest) =
-    all_of_both has_cells (locals_of (top_scope r s) (parts s)) (main_locals (after_top r s) rest) (locals_have_cells (top_scope r s) (parts s)) (main_have_cells (after_top r s) rest)
+    all_of_both has_cells (top_locals r s) (main_locals (after_top r s) rest)
+    (all_of_both has_cells (locals_of Outer (outside s)) (locals_of (Body r) (within s)) (locals_have_cells Outer (outside s)) (locals_have_cells (Body r) (within s)))
+    (main_have_cells (after_top r s) rest)
 
 items_have_cells : (items : List RawItem) → list_all has_cells (flat_map (λ item. locals_of Outer (item_parts item)) items) ≡ true
 items_have_cells [] = refl
@@ -84,14 +86,15 @@ verdict-given raw p given = by (first_offence (names_of raw)) (too_many_function
     by None (Some e) c h = absurd (cc)
     by (Some e) b c h = absurd (cc)
 
-pub checked : (raw : RawProgram) (p : Program) → list_all has_length raw.items ≡ true → verdict raw ≡ Ok p → IsChecked p
-checked raw p lengths given =
+pub checked : (raw : RawProgram) (p : Program) → list_all has_length raw.items ≡ true → breaks_fit raw ≡ true → verdict raw ≡ Ok p → IsChecked p
+checked raw p lengths breaks given =
     let e = verdict-given raw p given in
+    let fits = halves (list_all breaks_fit_at_top raw.main) (list_all is_unbroken_item raw.items) breaks in
     subst IsChecked e.1 (record {
       globals = globals_stand_first raw;
       cells = variables_in_order raw lengths;
       sites = sites_in_order raw;
-      regions = regions_stand_in_order (main_begin raw) 1 raw.main;
-      functions = functions_are_plain (begin raw) raw.items;
+      regions = regions_stand_in_order (main_begin raw) 1 raw.main fits.0;
+      functions = functions_are_plain (begin raw) raw.items fits.1;
       scoped = resolved_in_scope raw e.0;
     })

@@ -1,14 +1,12 @@
 -- The entries of the variables that a piece of the text declares.
-use Rattle.std.proofs.Common.{◌≡◌, refl, ap, ◌∙◌, ℕ, zero, suc, ◌+◌, ◌-◌, ◌≤◌, ◌<◌, Bool, true, false, if◌then◌else◌, List, [], ◌∷◌, ◌++◌, length, slice_get, arith}
+use Rattle.std.proofs.Common.{◌≡◌, refl, ap, ◌∙◌, ℕ, zero, suc, ◌+◌, ◌-◌, ◌≤◌, ◌<◌, true, List, [], ◌∷◌, ◌++◌, length, slice_get, arith}
 use Rattle.std.proofs.lemmas.Bool.Decides.{nat_tests}
 use Rattle.dp_tree.specs.declared.VarInfo.{VarInfo}
 use Rattle.dp_tree.specs.declared.VarScope.{VarScope}
-use Rattle.dp_tree.specs.declared.VarScope.TheVariants.{Outer, Body}
-use Rattle.dp_tree.specs.declared.raw.RawStmt.{RawStmt}
+use Rattle.dp_tree.specs.declared.VarScope.TheVariants.{Body}
 use Rattle.dp_tree.specs.Scoping.{is_scope_in, is_declared_in}
 use Rattle.dp_check.specs.Place.{Part, Site, Local, local_count}
-use Rattle.dp_check.specs.Resolved.{is_region}
-use Rattle.dp_check.specs.Tables.{laid, locals_of, top_scope, top_region}
+use Rattle.dp_check.specs.Tables.{laid, locals_of}
 
 -- the n variables from k on are declared in region r, or outside all regions where r is 0
 abbrev pub Declared : List VarInfo → ℕ → ℕ → ℕ → Type 0
@@ -49,14 +47,7 @@ module _ (r : ℕ) where
         ∙ ap (is_declared_in r) (get_past before (locals_of scope ps ++ later) (j - length before))
         ∙ declared_here ps (j - length before) (omega arith)
 
-body_scope : (r : ℕ) → 0 < r → is_scope_in r (Body r) ≡ true
+-- a local of a region is one of that region
+pub body_scope : (r : ℕ) → 0 < r → is_scope_in r (Body r) ≡ true
 body_scope zero h = absurd (omega arith)
 body_scope (suc r) h = grind (arith, nat_tests)
-
--- a local of a statement at the top of `main` is one of its region
-pub top_scope_fits : (r : ℕ) (s : RawStmt) → 0 < r → is_scope_in (top_region r s) (top_scope r s) ≡ true
-top_scope_fits r s h = by (is_region s)
-  where
-    by : (b : Bool) → is_scope_in (if b then r else 0) (if b then Body r else Outer) ≡ true
-    by true = body_scope r h
-    by false = refl

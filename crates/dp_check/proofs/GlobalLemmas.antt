@@ -10,9 +10,8 @@ use Rattle.dp_tree.specs.declared.raw.RawItem.TheVariants as item
 use Rattle.dp_tree.specs.declared.raw.RawProgram.{RawProgram}
 use Rattle.dp_tree.specs.Globals.{is_global_scope, globals_in}
 use Rattle.dp_tree.specs.Layout.{is_local_variable, globals_first}
-use Rattle.dp_check.specs.Place.{Part, Site, Local, parts}
-use Rattle.dp_check.specs.Resolved.{is_region}
-use Rattle.dp_check.specs.Tables.{laid, locals_of, globals, global_of, item_parts, top_scope, after_top, main_locals, variables}
+use Rattle.dp_check.specs.Place.{Part, Site, Local}
+use Rattle.dp_check.specs.Tables.{laid, locals_of, globals, global_of, item_parts, outside, within, top_locals, after_top, main_locals, variables}
 use Rattle.dp_check.proofs.BoolLemmas.{both_true, all_of_both}
 
 -- the variables of all texts, behind the file-scope ones
@@ -27,18 +26,13 @@ locals_are_local scope [] h = refl
 locals_are_local scope (Site line k ∷ ps) h = locals_are_local scope ps h
 locals_are_local scope (Local name ∷ ps) h = both_true (ap Rattle.std.specs.Prelude.not h) (locals_are_local scope ps h)
 
-top_is_local : (r : ℕ) (s : RawStmt) → is_global_scope (top_scope r s) ≡ false
-top_is_local r s = by (is_region s)
-  where
-    by : (b : Bool) → is_global_scope (if b then Body r else Outer) ≡ false
-    by true = refl
-    by false = refl
+top_is_local : (r : ℕ) (s : RawStmt) → list_all is_local_variable (top_locals r s) ≡ true
+top_is_local r s =
+    all_of_both is_local_variable (locals_of Outer (outside s)) (locals_of (Body r) (within s)) (locals_are_local Outer (outside s) refl) (locals_are_local (Body r) (within s) refl)
 
 main_is_local : (r : ℕ) (all : List RawStmt) → list_all is_local_variable (main_locals r all) ≡ true
 main_is_local r [] = refl
-main_is_local r (s ∷ rest) =
-    all_of_both is_local_variable (locals_of (top_scope r s) (parts s)) (main_locals (after_top r s) rest)
-    (locals_are_local (top_scope r s) (parts s) (top_is_local r s)) (main_is_local (after_top r s) rest)
+main_is_local r (s ∷ rest) = all_of_both is_local_variable (top_locals r s) (main_locals (after_top r s) rest) (top_is_local r s) (main_is_local (after_top r s) rest)
 
 functions_are_local : (items : List RawItem) → list_all is_local_variable (flat_map (λ item. locals_of Outer (item_parts item)) items) ≡ true
 functions_are_local [] = refl

@@ -22,7 +22,7 @@ use Rattle.dp_check.specs.Offence.{Declares, first_offence}
 use Rattle.dp_check.specs.Place.{Local, parts, parts_all, local_count, with_scalar, after_params}
 use Rattle.dp_check.specs.Tokens.{token, tokens_all, params_tokens}
 use Rattle.dp_check.specs.Resolved.{resolved_all, param_variables}
-use Rattle.dp_check.specs.Tables.{laid, locals_of, globals, item_parts, function_parts, top_scope, after_top, main_locals}
+use Rattle.dp_check.specs.Tables.{laid, locals_of, globals, item_parts, function_parts, top_locals, after_top, main_locals}
 use Rattle.dp_check.specs.Items.{item_tokens, items_tokens, items_functions, after_item, after_items}
 use Rattle.dp_check.specs.Verdict.{begin, main_begin, names_of, resolved}
 use Rattle.dp_check.proofs.PlaceLemmas.{local_count-append}
@@ -32,7 +32,7 @@ use Rattle.dp_check.proofs.BoolLemmas.{both_true, same_number, all_weaker}
 use Rattle.dp_check.proofs.DeclaredLemmas.{Declared, declared_front, declared_back, declared_in_table}
 use Rattle.dp_check.proofs.KnownLemmas.{is_known, all_known, known_later, known_append}
 use Rattle.dp_check.proofs.ScopeLemmas.{At, at_declared, lawful_parts, lawful_first, unseen, all_scoped}
-use Rattle.dp_check.proofs.MainScopeLemmas.{length-locals_of, main_scoped}
+use Rattle.dp_check.proofs.MainScopeLemmas.{length-locals_of, length-top_locals, main_scoped}
 
 -- ---- the numbers of the file-scope variables
 
@@ -82,7 +82,7 @@ module _ (p : Program) (n : ℕ) where
       both_true first.scoped
       (all_scoped p 0 n (after_params q params) (seen_behind_params (global_numbers p) (param_variables q params)) body first.behind
       (declared_back p.vars 0 q.variable (local_count (map Local params)) (local_count (parts_all body)) _ _ count (after_params_variable q params) declared)
-      (lawful_parts (params_tokens q params) (tokens_all (after_params q params) body) lawful).1)
+      (lawful_parts (params_tokens q params) (tokens_all (after_params q params) body) lawful).1).scoped
 
 -- ---- items
 
@@ -185,8 +185,8 @@ module _ (p : Program) (whole : List VarInfo) (table : p.vars ≡ laid 0 whole) 
 length-main_locals : (r : ℕ) (all : List RawStmt) → length (main_locals r all) ≡ local_count (parts_all all)
 length-main_locals r [] = refl
 length-main_locals r (s ∷ rest) =
-    length-append (locals_of (top_scope r s) (parts s)) (main_locals (after_top r s) rest)
-    ∙ (λ i. length-locals_of (top_scope r s) (parts s) i + length-main_locals (after_top r s) rest i)
+    length-append (top_locals r s) (main_locals (after_top r s) rest)
+    ∙ (λ i. length-top_locals r s i + length-main_locals (after_top r s) rest i)
     ∙ sym (local_count-append (parts s) (parts_all rest))
 
 -- the program that a lawful tree stands for is in scope

@@ -11,12 +11,14 @@ use Rattle.dp_tree.specs.declared.Program.{Program}
 use Rattle.dp_tree.specs.declared.raw.RawExpr.{RawExpr, end_of-RawExpr, more_of-RawExpr}
 use Rattle.dp_tree.specs.declared.raw.RawExpr.TheVariants as raw
 use Rattle.dp_tree.specs.Functions.{params_in}
-use Rattle.dp_tree.specs.Scoping.{sees, knows}
+use Rattle.dp_tree.specs.declared.Stmt.{Stmt}
+use Rattle.dp_tree.specs.declared.Stmt.TheVariants as code
+use Rattle.dp_tree.specs.Scoping.{sees, knows, seen_behind}
 use Rattle.dp_check.specs.declared.names.Meaning.{Meaning}
 use Rattle.dp_check.specs.declared.names.Meaning.TheVariants.{Scalar, Array, Input, InputLen, Function}
 use Rattle.dp_check.specs.Names.{Named, named, same_name}
 use Rattle.dp_check.specs.Resolved.{scalar_expr, array_of, element_expr, resolved_expr}
-use Rattle.dp_check.proofs.BoolLemmas.{both_true, halves, same_number, all_of_both}
+use Rattle.dp_check.proofs.BoolLemmas.{both_true, halves, same_number, all_of_both, all_weaker}
 
 -- a variable among these, or one of the first n functions with so many parameters
 abbrev pub is_known : Program → ℕ → List ℕ → Meaning → Bool
@@ -60,6 +62,30 @@ known_more p n visible y (Array x) h = sees_more visible y x h
 known_more p n visible y Input h = refl
 known_more p n visible y InputLen h = refl
 known_more p n visible y (Function f k) h = h
+
+-- what is visible behind statements
+abbrev pub seen_behind_all : List ℕ → List Stmt → List ℕ
+seen_behind_all visible [] = visible
+seen_behind_all visible (s ∷ rest) = seen_behind_all (seen_behind visible s) rest
+
+known_behind_one : (p : Program) (n : ℕ) (visible : List ℕ) (names : List Named) (s : Stmt) → all_known p n visible names ≡ true → all_known p n (seen_behind visible s) names ≡ true
+known_behind_one p n visible names (code.Assign site x e) h = by (sees visible x)
+  where
+    by : (b : Bool) → all_known p n (if b then visible else x.0 ∷ visible) names ≡ true
+    by true = h
+    by false = all_weaker _ _ (λ (e : Named). known_more p n visible x.0 e.meaning) names h
+known_behind_one p n visible names (code.Store site x index e) h = h
+known_behind_one p n visible names (code.Print site e) h = h
+known_behind_one p n visible names (code.If' site cond _ a _ b) h = h
+known_behind_one p n visible names (code.While' site cond _ a) h = h
+known_behind_one p n visible names (code.Region' r site cond _ a) h = h
+known_behind_one p n visible names (code.Break site cond) h = h
+known_behind_one p n visible names (code.Call f line args) h = h
+
+-- what is known stays so behind statements
+pub known_behind : (p : Program) (n : ℕ) (visible : List ℕ) (names : List Named) (all : List Stmt) → all_known p n visible names ≡ true → all_known p n (seen_behind_all visible all) names ≡ true
+known_behind p n visible names [] h = h
+known_behind p n visible names (s ∷ rest) h = known_behind p n (seen_behind visible s) names rest (known_behind_one p n visible names s h)
 
 pub less_more : (f n : ℕ) → nat_lt f n ≡ true → nat_lt f (suc n) ≡ true
 less_more f n h = grind (arith, nat_tests)

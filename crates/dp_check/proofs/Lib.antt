@@ -5,9 +5,11 @@ pub mod LoopLemmas
 pub mod ExprLemmas
 pub mod PlaceLemmas
 pub mod StmtLemmas
+pub mod StepLemmas
 pub mod ItemLemmas
 pub mod RegionLemmas
 pub mod TableLemmas
+pub mod TopLemmas
 pub mod LimitLemmas
 pub mod VerdictLemmas
 pub mod NumberLemmas

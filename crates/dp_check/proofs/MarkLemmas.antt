@@ -14,12 +14,12 @@ use Rattle.dp_check.specs.declared.names.Meaning.TheVariants as means
 use Rattle.dp_check.specs.declared.place.Place.{Place}
 use Rattle.dp_check.specs.Names.{Named}
 use Rattle.dp_check.specs.Offence.{Token, Use, Declares, Reads, ReadsElement, Assigns, AssignsElement, Calls}
-use Rattle.dp_check.specs.Place.{Local, parts_in, local_count, passed, sited, with_scalar, after, after_all, after_params}
+use Rattle.dp_check.specs.Place.{Local, parts_in, local_count, passed, sited, with_scalar, after, after_in, after_all, after_params}
 use Rattle.dp_check.specs.Tokens.{token, expr_tokens, args_tokens, tokens, tokens_in, tokens_all, params_tokens}
 use Rattle.dp_check.specs.Items.{items_tokens, after_item, after_items}
 use Rattle.dp_check.specs.Verdict.{begin, main_begin, names_of}
 use Rattle.dp_check.specs.Marks.{Mark, Writes, Declared, Opens, Closes, seen, read_off, expr_marks, args_marks, block, marks, marks_in, marks_all, params_marks, items_marks, text_marks}
-use Rattle.dp_check.proofs.PlaceLemmas.{after_variable}
+use Rattle.dp_check.proofs.PlaceLemmas.{after_variable, after_in_variable}
 use Rattle.dp_check.proofs.ItemLemmas.{after_params_variable}
 
 -- the marks before, and then these, the nearest first
@@ -100,10 +100,6 @@ module _ (names : List Named) where
 
 -- ---- statements
 
-abbrev names_in : {n : _} → Place → Row_of-RawStmt n → List Named
-names_in q end_of-RawStmt = q.names
-names_in q (more_of-RawStmt s rest) = names_in (after q s) rest
-
 mutual
   leads : (q : Place) (s : RawStmt) → Leads q.names (after q s).names (marks q.variable s) (tokens q s)
   leads q (raw.Declare line name value) =
@@ -114,11 +110,17 @@ mutual
   leads q (raw.Store name index value) = next (writes q.names AssignsElement name) (next (leads_expr q.names index) (leads_expr q.names value))
   leads q (raw.Call name args) = next (writes q.names (Calls (length args)) name) (leads_args q.names args)
   leads q (raw.Print line value) = leads_expr q.names value
+  leads q (raw.Break line cond) = leads_expr q.names cond
   leads q (raw.If' line cond _ a _ b) =
       next (leads_expr q.names cond) (next (within_block (leads_in (sited q) a)) (within_block (leads_in (passed (sited q) (parts_in a)) b)))
   leads q (raw.While' line marked cond _ body) = next (leads_expr q.names cond) (within_block (leads_in (sited q) body))
+  leads q (raw.For' line marked _ first cond _ step _ body) =
+      let start = after_in q first in let later = passed (sited start) (parts_in body) in let count = after_in_variable q first in
+      within_block (next (leads_in q first) (next (leads_expr start.names cond)
+      (next (within_block (numbered_from (λ k. marks_in k step) (ap (λ v. v + local_count (parts_in body)) count) (leads_in later step)))
+      (within_block (numbered_from (λ k. marks_in k body) count (leads_in (sited start) body))))))
 
-  leads_in : {n : _} (q : Place) (row : Row_of-RawStmt n) → Leads q.names (names_in q row) (marks_in q.variable row) (tokens_in q row)
+  leads_in : {n : _} (q : Place) (row : Row_of-RawStmt n) → Leads q.names (after_in q row).names (marks_in q.variable row) (tokens_in q row)
   leads_in q end_of-RawStmt = nothing
   leads_in q (more_of-RawStmt s rest) = next (leads q s) (numbered_from (λ k. marks_in k rest) (after_variable q s) (leads_in (after q s) rest))
 

@@ -1,14 +1,16 @@
 -- The sites of a checked program are numbered in text order.
-use Rattle.std.proofs.Common.{◌≡◌, refl, sym, ap, ◌∙◌, ℕ, zero, suc, ◌+◌, true, false, if◌then◌else◌, List, [], ◌∷◌, ◌++◌, map, length, length-append, arith}
+use Rattle.std.proofs.Common.{◌≡◌, refl, sym, ap, ◌∙◌, ℕ, zero, suc, ◌+◌, true, false, if◌then◌else◌, List, [], ◌∷◌, ◌++◌, map, length, length-append, append-nil, append_assoc, arith}
 use Rattle.std.specs.List.{flat_map}
 use Rattle.dp_tree.specs.declared.Expr.{Expr}
 use Rattle.dp_base.specs.declared.SiteId.{SiteId}
 use Rattle.dp_tree.specs.declared.Stmt.{Stmt, Row_of-Stmt}
 use Rattle.dp_tree.specs.declared.Stmt.TheVariants as code
+use Rattle.dp_tree.specs.declared.SiteKind.TheVariants as kind
 use Rattle.dp_tree.specs.declared.raw.Name.{Name}
+use Rattle.dp_tree.specs.declared.raw.RawExpr.{RawExpr}
 use Rattle.dp_tree.specs.declared.raw.RawStmt.{RawStmt, Row_of-RawStmt, end_of-RawStmt, more_of-RawStmt, out-RawStmt, roll-RawStmt, roll-out-RawStmt}
 use Rattle.dp_tree.specs.declared.raw.RawStmt.TheVariants as raw
-use Rattle.dp_tree.specs.declared.raw.RawStmt.TheVariants.{rolls-While}
+use Rattle.dp_tree.specs.declared.raw.RawStmt.TheVariants.{rolls-While, rolls-For}
 use Rattle.dp_tree.specs.declared.raw.RawStmt.TheOpen.{RawStmt-F}
 use Rattle.dp_tree.specs.declared.raw.RawStmt.TheOpen as open_form
 use Rattle.dp_tree.specs.declared.raw.RawItem.{RawItem}
@@ -16,15 +18,15 @@ use Rattle.dp_tree.specs.declared.raw.RawItem.TheVariants as item
 use Rattle.dp_tree.specs.declared.raw.RawProgram.{RawProgram}
 use Rattle.dp_check.specs.declared.place.Place.{Place}
 use Rattle.dp_check.specs.declared.items.Head.{Head}
-use Rattle.dp_check.specs.Place.{Part, Local, parts, parts_in, parts_all, passed, sited, after, after_params, site_count}
-use Rattle.dp_check.specs.Resolved.{resolved, resolved_in, resolved_all, resolved_expr, resolved_top, resolved_main, region_at, is_region}
-use Rattle.dp_check.specs.Tables.{sites_of, main_sites, top_region, after_top, item_parts, function_parts, sites}
+use Rattle.dp_check.specs.Place.{Part, Site, Local, parts, parts_in, parts_all, passed, sited, after, after_in, after_all, after_params, site_count}
+use Rattle.dp_check.specs.Resolved.{next_site, resolved, resolved_in, resolved_all, resolved_expr, stepped_region, resolved_top, resolved_main, region_at, is_region}
+use Rattle.dp_check.specs.Tables.{sites_of, loop_parts, top_sites, main_sites, after_top, item_parts, function_parts, sites}
 use Rattle.dp_check.specs.Items.{items_functions, after_item}
 use Rattle.dp_check.specs.Verdict.{begin, main_begin, resolved as whole}
 use Rattle.dp_tree.specs.Numbering.{site_numbers, site_numbers_in, site_numbers_all, numbers_from, SitesInOrder}
-use Rattle.dp_check.proofs.PlaceLemmas.{after_site, site_count-append}
+use Rattle.dp_check.proofs.PlaceLemmas.{after_site, after_in_site, after_all_site, site_count-append}
 use Rattle.dp_check.proofs.ItemLemmas.{after_params_site}
-use Rattle.dp_check.proofs.TableLemmas.{length-sites_of, parts-While}
+use Rattle.dp_check.proofs.TableLemmas.{length-sites_of, length-top_sites, parts-While, parts-For}
 
 unfoldable pub stmt_opened : Unit {0}
 unfolding Rattle.dp_tree.specs.declared.Stmt.TheBlock.shape-the_row-Stmt-0 Rattle.dp_tree.specs.declared.Stmt.TheBlock.hidden-the_row-Stmt-0 denote.Hole.Carrier.hidden
@@ -53,61 +55,102 @@ numbers_from-append k (suc a) b =
     let e : suc a + b ≡ suc (a + b) = omega arith in let f : (k + 1) + a ≡ k + suc a = omega arith in
     ap (numbers_from k) e ∙ ap (λ xs. k ∷ xs) (numbers_from-append (k + 1) a b ∙ ap (λ m. numbers_from (k + 1) a ++ numbers_from m b) f)
 
+numbers_both : (a b : List Stmt) → site_numbers_all (a ++ b) ≡ site_numbers_all a ++ site_numbers_all b
+numbers_both [] b = refl
+numbers_both (x ∷ a) b = ap (λ ns. site_numbers x ++ ns) (numbers_both a b) ∙ sym (append_assoc (site_numbers x) (site_numbers_all a) (site_numbers_all b))
+
+-- two pieces of a text, one behind the other
+numbers_joined : (k a b : ℕ) {xs ys : List ℕ} {m : ℕ} → m ≡ k + a → xs ≡ numbers_from k a → ys ≡ numbers_from m b → xs ++ ys ≡ numbers_from k (a + b)
+numbers_joined k a b e f g = (λ i. f i ++ g i) ∙ ap (λ m. numbers_from k a ++ numbers_from m b) e ∙ sym (numbers_from-append k a b)
+
+-- a loop and what stands in it
+numbers_inside : (k a b : ℕ) {xs ys : List ℕ} {m : ℕ} → m ≡ (k + 1) + a → xs ≡ numbers_from (k + 1) a → ys ≡ numbers_from m b → k ∷ (xs ++ ys) ≡ numbers_from k (suc (a + b))
+numbers_inside k a b e f g = ap (λ ns. k ∷ ns) (numbers_joined (k + 1) a b e f g)
+
 mutual
-  numbered : (p : Place) (s : RawStmt) → site_numbers (resolved p s) ≡ numbers_from p.site (site_count (parts s))
+  numbered : (p : Place) (s : RawStmt) → site_numbers_all (resolved p s) ≡ numbers_from p.site (site_count (parts s))
   numbered p (raw.Declare line name value) = refl
   numbered p (raw.Assign name value) = refl
   numbered p (raw.Store name index value) = refl
   numbered p (raw.Call name args) = refl
   numbered p (raw.Print line value) = refl
+  numbered p (raw.Break line cond) = refl
   numbered p (raw.If' line cond _ a _ b) =
       let q = passed (sited p) (parts_in a) in
-      numbers-If _ (resolved_expr p.names cond) (resolved_in (sited p) a) (resolved_in q b)
-      ∙ ap (λ xs. p.site ∷ xs) ((λ i. numbered_in (sited p) a i ++ numbered_in q b i)
-      ∙ sym (numbers_from-append (p.site + 1) (site_count (parts_in a)) (site_count (parts_in b)))
-      ∙ ap (numbers_from (p.site + 1)) (sym (site_count-append (parts_in a) (parts_in b))))
+      append-nil (site_numbers (code.If _ (resolved_expr p.names cond) (resolved_in (sited p) a) (resolved_in q b)))
+      ∙ numbers-If _ (resolved_expr p.names cond) (resolved_in (sited p) a) (resolved_in q b)
+      ∙ numbers_inside p.site (site_count (parts_in a)) (site_count (parts_in b)) refl (numbered_in (sited p) a) (numbered_in q b)
+      ∙ ap (λ n. numbers_from p.site (suc n)) (sym (site_count-append (parts_in a) (parts_in b)))
   numbered p (raw.While' line marked cond _ body) =
-      numbers-While _ (resolved_expr p.names cond) (resolved_in (sited p) body) ∙ ap (λ xs. p.site ∷ xs) (numbered_in (sited p) body)
+      append-nil (site_numbers (code.While _ (resolved_expr p.names cond) (resolved_in (sited p) body)))
+      ∙ numbers-While _ (resolved_expr p.names cond) (resolved_in (sited p) body) ∙ ap (λ xs. p.site ∷ xs) (numbered_in (sited p) body)
+  numbered p (raw.For' line marked _ first cond _ step _ body) =
+      let q = after_in p first in let later = passed (sited q) (parts_in body) in let xs = resolved_in (sited q) body in let ys = resolved_in later step in
+      let loop = code.While (next_site q) (resolved_expr q.names cond) (xs ++ ys) in
+      let inside : site_numbers_all (loop ∷ []) ≡ numbers_from q.site (suc (site_count (parts_in body) + site_count (parts_in step))) =
+      append-nil (site_numbers loop) ∙ numbers-While (next_site q) (resolved_expr q.names cond) (xs ++ ys) ∙ ap (λ ns. q.site ∷ ns) (numbers_both xs ys)
+      ∙ numbers_inside q.site (site_count (parts_in body)) (site_count (parts_in step)) refl (numbered_in (sited q) body) (numbered_in later step) in
+      numbers_both (resolved_in p first) (loop ∷ [])
+      ∙ numbers_joined p.site (site_count (parts_in first)) (suc (site_count (parts_in body) + site_count (parts_in step))) (after_in_site p first) (numbered_in p first) inside
+      ∙ ap (λ n. numbers_from p.site (site_count (parts_in first) + suc n)) (sym (site_count-append (parts_in body) (parts_in step)))
+      ∙ ap (numbers_from p.site) (sym (site_count-append (parts_in first) (Site line kind.While ∷ (parts_in body ++ parts_in step))))
 
   numbered_in : {n : _} (p : Place) (row : Row_of-RawStmt n) → site_numbers_all (resolved_in p row) ≡ numbers_from p.site (site_count (parts_in row))
   numbered_in p end_of-RawStmt = refl
   numbered_in p (more_of-RawStmt s rest) =
-      (λ i. numbered p s i ++ numbered_in (after p s) rest i)
-      ∙ ap (λ m. numbers_from p.site (site_count (parts s)) ++ numbers_from m (site_count (parts_in rest))) (after_site p s)
-      ∙ sym (numbers_from-append p.site (site_count (parts s)) (site_count (parts_in rest)))
+      numbers_both (resolved p s) (resolved_in (after p s) rest)
+      ∙ numbers_joined p.site (site_count (parts s)) (site_count (parts_in rest)) (after_site p s) (numbered p s) (numbered_in (after p s) rest)
       ∙ ap (numbers_from p.site) (sym (site_count-append (parts s) (parts_in rest)))
 
 numbered_all : (p : Place) (all : List RawStmt) → site_numbers_all (resolved_all p all) ≡ numbers_from p.site (site_count (parts_all all))
 numbered_all p [] = refl
 numbered_all p (s ∷ rest) =
-    (λ i. numbered p s i ++ numbered_all (after p s) rest i)
-    ∙ ap (λ m. numbers_from p.site (site_count (parts s)) ++ numbers_from m (site_count (parts_all rest))) (after_site p s)
-    ∙ sym (numbers_from-append p.site (site_count (parts s)) (site_count (parts_all rest)))
+    numbers_both (resolved p s) (resolved_all (after p s) rest)
+    ∙ numbers_joined p.site (site_count (parts s)) (site_count (parts_all rest)) (after_site p s) (numbered p s) (numbered_all (after p s) rest)
     ∙ ap (numbers_from p.site) (sym (site_count-append (parts s) (parts_all rest)))
 
-numbered_top : (p : Place) (r : ℕ) (s : RawStmt) → site_numbers (resolved_top p r s) ≡ numbers_from p.site (site_count (parts s))
+numbered_stepped : (p : Place) (r line : ℕ) (first : List RawStmt) (cond : RawExpr) (step body : List RawStmt)
+    → site_numbers_all (resolved_all p first ++ stepped_region (after_all p first) r cond step body ∷ []) ≡ numbers_from p.site (site_count (parts_all first ++ loop_parts line step body))
+numbered_stepped p r line first cond step body =
+    let q = after_all p first in let later = passed (sited q) (parts_all body) in let xs = resolved_all (sited q) body in let ys = resolved_all later step in
+    let inside : site_numbers_all (stepped_region q r cond step body ∷ []) ≡ numbers_from q.site (suc (site_count (parts_all body) + site_count (parts_all step))) =
+    append-nil (site_numbers (stepped_region q r cond step body)) ∙ numbers-Region r (next_site q) (resolved_expr q.names cond) (xs ++ ys) ∙ ap (λ ns. q.site ∷ ns) (numbers_both xs ys)
+    ∙ numbers_inside q.site (site_count (parts_all body)) (site_count (parts_all step)) refl (numbered_all (sited q) body) (numbered_all later step) in
+    numbers_both (resolved_all p first) (stepped_region q r cond step body ∷ [])
+    ∙ numbers_joined p.site (site_count (parts_all first)) (suc (site_count (parts_all body) + site_count (parts_all step))) (after_all_site p first) (numbered_all p first) inside
+    ∙ ap (λ n. numbers_from p.site (site_count (parts_all first) + suc n)) (sym (site_count-append (parts_all body) (parts_all step)))
+    ∙ ap (numbers_from p.site) (sym (site_count-append (parts_all first) (loop_parts line step body)))
+
+numbered_top : (p : Place) (r : ℕ) (s : RawStmt) → site_numbers_all (resolved_top p r s) ≡ numbers_from p.site (site_count (parts s))
 numbered_top p r s = by (out-RawStmt s) refl
   where
-    by : (l : RawStmt-F RawStmt) → out-RawStmt s ≡ l → site_numbers (region_at p r l (resolved p s)) ≡ numbers_from p.site (site_count (parts s))
+    by : (l : RawStmt-F RawStmt) → out-RawStmt s ≡ l → site_numbers_all (region_at p r l (resolved p s)) ≡ numbers_from p.site (site_count (parts s))
     by (open_form.Declare line name value) e = numbered p s
     by (open_form.Assign name value) e = numbered p s
     by (open_form.Store name index value) e = numbered p s
     by (open_form.Call name args) e = numbered p s
     by (open_form.Print line value) e = numbered p s
     by (open_form.If line cond a b) e = numbered p s
+    by (open_form.Break line cond) e = numbered p s
     by (open_form.While line false cond body) e = numbered p s
     by (open_form.While line true cond body) e =
         let is : s ≡ raw.While line true cond body = sym (roll-out-RawStmt s) ∙ ap roll-RawStmt e ∙ rolls-While line true cond body in
-        numbers-Region r _ (resolved_expr p.names cond) (resolved_all (sited p) body)
+        append-nil (site_numbers (code.Region r _ (resolved_expr p.names cond) (resolved_all (sited p) body)))
+        ∙ numbers-Region r _ (resolved_expr p.names cond) (resolved_all (sited p) body)
         ∙ ap (λ xs. p.site ∷ xs) (numbered_all (sited p) body)
         ∙ ap (λ ps. numbers_from p.site (site_count ps)) (sym (parts-While line true cond body) ∙ ap parts (sym is))
+    by (open_form.For line false first cond step body) e = numbered p s
+    by (open_form.For line true first cond step body) e =
+        let is : s ≡ raw.For line true first cond step body = sym (roll-out-RawStmt s) ∙ ap roll-RawStmt e ∙ rolls-For line true first cond step body in
+        numbered_stepped p r line first cond step body
+        ∙ ap (λ ps. numbers_from p.site (site_count ps)) (sym (parts-For line true first cond step body) ∙ ap parts (sym is))
 
 numbered_main : (p : Place) (r : ℕ) (all : List RawStmt) → site_numbers_all (resolved_main p r all) ≡ numbers_from p.site (site_count (parts_all all))
 numbered_main p r [] = refl
 numbered_main p r (s ∷ rest) =
-    (λ i. numbered_top p r s i ++ numbered_main (after p s) (if is_region s then r + 1 else r) rest i)
-    ∙ ap (λ m. numbers_from p.site (site_count (parts s)) ++ numbers_from m (site_count (parts_all rest))) (after_site p s)
-    ∙ sym (numbers_from-append p.site (site_count (parts s)) (site_count (parts_all rest)))
+    let next = if is_region s then r + 1 else r in
+    numbers_both (resolved_top p r s) (resolved_main (after p s) next rest)
+    ∙ numbers_joined p.site (site_count (parts s)) (site_count (parts_all rest)) (after_site p s) (numbered_top p r s) (numbered_main (after p s) next rest)
     ∙ ap (numbers_from p.site) (sym (site_count-append (parts s) (parts_all rest)))
 
 abbrev all_parts : List RawItem → List Part
@@ -141,7 +184,7 @@ numbered_items h (item.Function name params body ∷ rest) =
 length-main_sites : (r : ℕ) (all : List RawStmt) → length (main_sites r all) ≡ site_count (parts_all all)
 length-main_sites r [] = refl
 length-main_sites r (s ∷ rest) =
-    let a = length-append (sites_of (top_region r s) (parts s)) (main_sites (after_top r s) rest) in let b = length-sites_of (top_region r s) (parts s) in
+    let a = length-append (top_sites r s) (main_sites (after_top r s) rest) in let b = length-top_sites r s in
     let c = length-main_sites (after_top r s) rest in let d = site_count-append (parts s) (parts_all rest) in omega arith
 
 length-item_sites : (items : List RawItem) → length (flat_map (λ item. sites_of 0 (item_parts item)) items) ≡ site_count (all_parts items)

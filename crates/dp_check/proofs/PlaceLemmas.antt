@@ -5,11 +5,11 @@ use Rattle.dp_tree.specs.declared.SiteKind.{SiteKind}
 use Rattle.dp_tree.specs.declared.SiteKind.TheVariants as kind
 use Rattle.dp_tree.specs.declared.raw.Name.{Name}
 use Rattle.dp_tree.specs.declared.raw.RawExpr.{RawExpr}
-use Rattle.dp_tree.specs.declared.raw.RawStmt.{RawStmt, Row_of-RawStmt}
+use Rattle.dp_tree.specs.declared.raw.RawStmt.{RawStmt, Row_of-RawStmt, end_of-RawStmt, more_of-RawStmt}
 use Rattle.dp_tree.specs.declared.raw.RawStmt.TheVariants as raw
 use Rattle.dp_check.specs.declared.place.Place.{Place}
 use Rattle.dp_check.specs.Names.{Named}
-use Rattle.dp_check.specs.Place.{Part, Site, Local, parts, parts_in, parts_all, site_count, local_count, passed, sited, with_scalar, with_variable, after}
+use Rattle.dp_check.specs.Place.{Part, Site, Local, parts, parts_in, parts_all, site_count, local_count, passed, sited, with_scalar, with_variable, after, after_in, after_all}
 
 -- what opens where a statement is made
 unfoldable pub opened : Unit {0}
@@ -21,6 +21,11 @@ pub parts_hidden : (xs : List RawStmt) → parts_in (Rattle.dp_tree.specs.declar
 unfolding opened
 parts_hidden [] = refl
 parts_hidden (x ∷ xs) = ap (λ ys. parts x ++ ys) (parts_hidden xs)
+
+pub after_hidden : (p : Place) (xs : List RawStmt) → after_in p (Rattle.dp_tree.specs.declared.raw.RawStmt.TheBlock.hidden-the_row-RawStmt-0 xs) ≡ after_all p xs
+unfolding opened
+after_hidden p [] = refl
+after_hidden p (x ∷ xs) = after_hidden (after p x) xs
 
 pub local_count-append : (a b : List Part) → local_count (a ++ b) ≡ local_count a + local_count b
 local_count-append [] b = omega arith
@@ -68,6 +73,9 @@ module _ (p : Place) where
   pub after-Print : (line : ℕ) (value : RawExpr) → after p (raw.Print line value) ≡ sited p
   after-Print line value = passed-alone p line kind.Print
 
+  pub after-Break : (line : ℕ) (cond : RawExpr) → after p (raw.Break line cond) ≡ sited p
+  after-Break line cond = passed-alone p line kind.Break
+
   pub after-If : (line : ℕ) (cond : RawExpr) (a b : List RawStmt) → after p (raw.If line cond a b) ≡ passed (passed (sited p) (parts_all a)) (parts_all b)
   unfolding opened
   after-If line cond a b = ap (passed p) (λ i. Site line kind.If ∷ (parts_hidden a i ++ parts_hidden b i)) ∙ passed-site p line kind.If (parts_all a ++ parts_all b) ∙ passed-append (sited p) (parts_all a) (parts_all b)
@@ -77,7 +85,12 @@ module _ (p : Place) where
   unfolding opened
   after-While line marked cond body = ap (passed p) (λ i. Site line kind.While ∷ parts_hidden body i) ∙ passed-site p line kind.While (parts_all body)
 
-pub ruleset after_forms = (after-Declare, after-Assign, after-Store, after-Call, after-Print, after-If, after-While)
+  pub after-For : (line : ℕ) (marked : Rattle.std.proofs.Common.Bool) (first : List RawStmt) (cond : RawExpr) (step body : List RawStmt)
+      → after p (raw.For line marked first cond step body) ≡ passed p (parts_all first ++ Site line kind.While ∷ (parts_all body ++ parts_all step))
+  unfolding opened
+  after-For line marked first cond step body = λ i. passed p (parts_hidden first i ++ Site line kind.While ∷ (parts_hidden body i ++ parts_hidden step i))
+
+pub ruleset after_forms = (after-Declare, after-Assign, after-Store, after-Call, after-Print, after-Break, after-If, after-While)
 
 pub after_variable : (p : Place) (s : RawStmt) → (after p s).variable ≡ p.variable + local_count (parts s)
 after_variable p (raw.Declare line name value) = refl
@@ -85,8 +98,10 @@ after_variable p (raw.Assign name value) = refl
 after_variable p (raw.Store name index value) = refl
 after_variable p (raw.Call name args) = refl
 after_variable p (raw.Print line value) = refl
+after_variable p (raw.Break line cond) = refl
 after_variable p (raw.If' line cond _ a _ b) = refl
 after_variable p (raw.While' line marked cond _ body) = refl
+after_variable p (raw.For' line marked _ first cond _ step _ body) = refl
 
 pub after_site : (p : Place) (s : RawStmt) → (after p s).site ≡ p.site + site_count (parts s)
 after_site p (raw.Declare line name value) = refl
@@ -94,8 +109,10 @@ after_site p (raw.Assign name value) = refl
 after_site p (raw.Store name index value) = refl
 after_site p (raw.Call name args) = refl
 after_site p (raw.Print line value) = refl
+after_site p (raw.Break line cond) = refl
 after_site p (raw.If' line cond _ a _ b) = refl
 after_site p (raw.While' line marked cond _ body) = refl
+after_site p (raw.For' line marked _ first cond _ step _ body) = refl
 
 -- the first names stay
 pub record Keeps (k : ℕ) (old new : List Named) : Type 0 where
@@ -111,33 +128,49 @@ after_keeps k p (raw.Assign name value) h = record { long = h; kept = refl }
 after_keeps k p (raw.Store name index value) h = record { long = h; kept = refl }
 after_keeps k p (raw.Call name args) h = record { long = h; kept = refl }
 after_keeps k p (raw.Print line value) h = record { long = h; kept = refl }
+after_keeps k p (raw.Break line cond) h = record { long = h; kept = refl }
 after_keeps k p (raw.If' line cond _ a _ b) h = record { long = h; kept = refl }
 after_keeps k p (raw.While' line marked cond _ body) h = record { long = h; kept = refl }
+after_keeps k p (raw.For' line marked _ first cond _ step _ body) h = record { long = h; kept = refl }
 
--- Inside a block that begins at a place: its names stay, and the numbers of the rest lead to the place after the block.
-pub record BlockSoFar (begin now : Place) (all rest : List RawStmt) : Type 0 where
-  pub names : Keeps (length begin.names) begin.names now.names
-  pub variable : now.variable + local_count (parts_all rest) ≡ begin.variable + local_count (parts_all all)
-  pub site : now.site + site_count (parts_all rest) ≡ begin.site + site_count (parts_all all)
+pub after_all_variable : (p : Place) (all : List RawStmt) → (after_all p all).variable ≡ p.variable + local_count (parts_all all)
+after_all_variable p [] = omega arith
+after_all_variable p (s ∷ rest) = omega (arith, after_all_variable (after p s) rest, after_variable p s, local_count-append (parts s) (parts_all rest))
 
-pub block_begins : (p : Place) (all : List RawStmt) → BlockSoFar p p all all
-block_begins p all = record { names = record { long = omega arith; kept = refl }; variable = refl; site = refl }
+pub after_all_site : (p : Place) (all : List RawStmt) → (after_all p all).site ≡ p.site + site_count (parts_all all)
+after_all_site p [] = omega arith
+after_all_site p (s ∷ rest) = omega (arith, after_all_site (after p s) rest, after_site p s, site_count-append (parts s) (parts_all rest))
 
-pub block_goes_on : {b p : Place} {all : List RawStmt} (s : RawStmt) (rest : List RawStmt) → BlockSoFar b p all (s ∷ rest) → BlockSoFar b (after p s) all rest
-block_goes_on {b} {p} s rest so_far =
-    let k = after_keeps (length b.names) p s so_far.names.long in
-    record {
-      names = record { long = k.long; kept = k.kept ∙ so_far.names.kept };
-      variable = omega (arith, after_variable p s, local_count-append (parts s) (parts_all rest), so_far.variable);
-      site = omega (arith, after_site p s, site_count-append (parts s) (parts_all rest), so_far.site);
-    }
+pub after_in_variable : {n : _} (p : Place) (row : Row_of-RawStmt n) → (after_in p row).variable ≡ p.variable + local_count (parts_in row)
+after_in_variable p end_of-RawStmt = omega arith
+after_in_variable p (more_of-RawStmt s rest) = omega (arith, after_in_variable (after p s) rest, after_variable p s, local_count-append (parts s) (parts_in rest))
 
-pub block_ends : {b p : Place} {all : List RawStmt} (names : List Named) → BlockSoFar b p all [] → names ≡ take (length b.names) p.names → record p { names = names } ≡ passed b (parts_all all)
-block_ends {b} {p} {all} names so_far is =
-    same_place (is ∙ so_far.names.kept ∙ take_all b.names) (omega (arith, so_far.variable)) (omega (arith, so_far.site))
-  where
-    take_all : (xs : List Named) → take (length xs) xs ≡ xs
-    take_all xs = all_taken (length xs) xs (omega arith)
+pub after_in_site : {n : _} (p : Place) (row : Row_of-RawStmt n) → (after_in p row).site ≡ p.site + site_count (parts_in row)
+after_in_site p end_of-RawStmt = omega arith
+after_in_site p (more_of-RawStmt s rest) = omega (arith, after_in_site (after p s) rest, after_site p s, site_count-append (parts s) (parts_in rest))
+
+pub after_all_keeps : (k : ℕ) (p : Place) (all : List RawStmt) → k ≤ length p.names → Keeps k p.names (after_all p all).names
+after_all_keeps k p [] h = record { long = h; kept = refl }
+after_all_keeps k p (s ∷ rest) h =
+    let now = after_keeps k p s h in let later = after_all_keeps k (after p s) rest now.long in
+    record { long = later.long; kept = later.kept ∙ now.kept }
+
+-- the names at a place, after statements that follow
+pub names_kept : (p : Place) (all : List RawStmt) → take (length p.names) (after_all p all).names ≡ p.names
+names_kept p all = (after_all_keeps (length p.names) p all (omega arith)).kept ∙ all_taken (length p.names) p.names (omega arith)
+
+-- a block is left: its names are given up
+pub block_left : (p : Place) (all : List RawStmt) → ◌≡◌ {A = Place} (record (after_all p all) { names = take (length p.names) (after_all p all).names }) (passed p (parts_all all))
+block_left p all = same_place (names_kept p all) (after_all_variable p all) (after_all_site p all)
+
+-- a `for` is left: its initialiser's names are given up
+pub for_left : (p : Place) (first : List RawStmt) (line : ℕ) (rest : List Part)
+    → ◌≡◌ {A = Place} (record (passed (sited (after_all p first)) rest) { names = take (length p.names) (after_all p first).names })
+    (passed p (parts_all first ++ Site line kind.While ∷ rest))
+for_left p first line rest =
+    same_place (names_kept p first)
+    (omega (arith, after_all_variable p first, local_count-append (parts_all first) (Site line kind.While ∷ rest)))
+    (omega (arith, after_all_site p first, site_count-append (parts_all first) (Site line kind.While ∷ rest)))
 
 module _ (p : Place) where
   pub pass-Declare : (line : ℕ) (name : Name) (value : RawExpr) → passed p (parts (raw.Declare line name value)) ≡ with_variable (sited p)
@@ -155,6 +188,9 @@ module _ (p : Place) where
   pub pass-Print : (line : ℕ) (value : RawExpr) → passed p (parts (raw.Print line value)) ≡ sited p
   pass-Print line value = passed-alone p line kind.Print
 
+  pub pass-Break : (line : ℕ) (cond : RawExpr) → passed p (parts (raw.Break line cond)) ≡ sited p
+  pass-Break line cond = passed-alone p line kind.Break
+
   pub pass-If : (line : ℕ) (cond : RawExpr) (a b : List RawStmt) → passed p (parts (raw.If line cond a b)) ≡ passed (passed (sited p) (parts_all a)) (parts_all b)
   pass-If line cond a b = after-If p line cond a b
 
@@ -162,7 +198,14 @@ module _ (p : Place) where
       → passed p (parts (raw.While line marked cond body)) ≡ passed (sited p) (parts_all body)
   pass-While line marked cond body = after-While p line marked cond body
 
-pub ruleset pass_forms = (pass-Declare, pass-Assign, pass-Store, pass-Call, pass-Print, pass-If, pass-While)
+  pub pass-For : (line : ℕ) (marked : Rattle.std.proofs.Common.Bool) (first : List RawStmt) (cond : RawExpr) (step body : List RawStmt)
+      → passed p (parts (raw.For line marked first cond step body)) ≡ passed (passed (sited (passed p (parts_all first))) (parts_all body)) (parts_all step)
+  pass-For line marked first cond step body =
+      after-For p line marked first cond step body ∙ passed-append p (parts_all first) (Site line kind.While ∷ (parts_all body ++ parts_all step))
+      ∙ passed-site (passed p (parts_all first)) line kind.While (parts_all body ++ parts_all step)
+      ∙ passed-append (sited (passed p (parts_all first))) (parts_all body) (parts_all step)
+
+pub ruleset pass_forms = (pass-Declare, pass-Assign, pass-Store, pass-Call, pass-Print, pass-Break, pass-If, pass-While)
 
 pub passed_more : (p : Place) (s : RawStmt) (rest : List RawStmt) → passed p (parts_all (s ∷ rest)) ≡ passed (passed p (parts s)) (parts_all rest)
 passed_more p s rest = passed-append p (parts s) (parts_all rest)

@@ -1,10 +1,11 @@
 -- The regions of a checked program stand at the top of `main` alone.
-use Rattle.std.proofs.Common.{◌≡◌, refl, sym, ap, ◌∙◌, ℕ, ◌+◌, ◌==◌, true, false, ◌&&◌, if◌then◌else◌, List, [], ◌∷◌}
+use Rattle.std.proofs.Common.{◌≡◌, refl, ap, ◌∙◌, ℕ, ◌+◌, ◌==◌, true, false, ◌&&◌, if◌then◌else◌, List, [], ◌∷◌, ◌++◌, append_assoc}
 use Rattle.std.specs.List.{list_all}
 use Rattle.dp_base.specs.declared.SiteId.{SiteId}
 use Rattle.dp_tree.specs.declared.Expr.{Expr}
 use Rattle.dp_tree.specs.declared.Stmt.{Stmt}
 use Rattle.dp_tree.specs.declared.Stmt.TheVariants as code
+use Rattle.dp_tree.specs.declared.raw.RawExpr.{RawExpr}
 use Rattle.dp_tree.specs.declared.raw.RawStmt.{RawStmt, Row_of-RawStmt, end_of-RawStmt, more_of-RawStmt, out-RawStmt}
 use Rattle.dp_tree.specs.declared.raw.RawStmt.TheVariants as raw
 use Rattle.dp_tree.specs.declared.raw.RawStmt.TheOpen.{RawStmt-F}
@@ -13,12 +14,13 @@ use Rattle.dp_tree.specs.declared.raw.RawItem.{RawItem}
 use Rattle.dp_tree.specs.declared.raw.RawItem.TheVariants as item
 use Rattle.dp_check.specs.declared.place.Place.{Place}
 use Rattle.dp_check.specs.declared.items.Head.{Head}
-use Rattle.dp_check.specs.Place.{parts_in, passed, sited, after, after_params}
-use Rattle.dp_check.specs.Resolved.{next_site, resolved, resolved_in, resolved_all, resolved_expr, resolved_main, region_at, is_region_at, is_region}
+use Rattle.dp_check.specs.Place.{parts_in, parts_all, passed, sited, after, after_in, after_all, after_params}
+use Rattle.dp_check.specs.Resolved.{next_site, resolved, resolved_in, resolved_all, resolved_expr, with_step, stepped_region, resolved_main, region_at, is_region_at, is_region}
 use Rattle.dp_check.specs.Items.{items_functions, after_item}
-use Rattle.dp_tree.specs.Numbering.{is_plain, is_plain_in, top_fits, next_region, regions_in_order}
+use Rattle.dp_tree.specs.Numbering.{is_plain, is_plain_in, is_inner, is_inner_in, top_fits, next_region, regions_in_order}
 use Rattle.dp_check.proofs.NumberLemmas.{stmt_opened}
-use Rattle.dp_check.proofs.BoolLemmas.{both_true, same_number}
+use Rattle.dp_check.specs.Checked.{is_unbroken, is_unbroken_in, may_leave, fits_at, breaks_fit_at_top, is_unbroken_item}
+use Rattle.dp_check.proofs.BoolLemmas.{both_true, halves, same_number, all_of_both, all_weaker}
 
 plain_hidden : (xs : List Stmt) → is_plain_in (Rattle.dp_tree.specs.declared.Stmt.TheBlock.hidden-the_row-Stmt-0 xs) ≡ list_all is_plain xs
 unfolding stmt_opened
@@ -33,33 +35,79 @@ plain-While : (site : SiteId) (cond : Expr) (a : List Stmt) → is_plain (code.W
 unfolding stmt_opened
 plain-While site cond a = plain_hidden a
 
-fits-Region : (r : ℕ) (site : SiteId) (cond : Expr) (a : List Stmt) → top_fits r (code.Region r site cond a) ≡ ((r == r) && list_all is_plain a)
+inner_hidden : (xs : List Stmt) → is_inner_in (Rattle.dp_tree.specs.declared.Stmt.TheBlock.hidden-the_row-Stmt-0 xs) ≡ list_all is_inner xs
 unfolding stmt_opened
-fits-Region r site cond a = ap (λ b. (r == r) && b) (plain_hidden a)
+inner_hidden [] = refl
+inner_hidden (x ∷ xs) = ap (λ b. is_inner x && b) (inner_hidden xs)
+
+fits-Region : (r : ℕ) (site : SiteId) (cond : Expr) (a : List Stmt) → top_fits r (code.Region r site cond a) ≡ ((r == r) && list_all is_inner a)
+unfolding stmt_opened
+fits-Region r site cond a = ap (λ b. (r == r) && b) (inner_hidden a)
 
 next-Region : (r : ℕ) (site : SiteId) (cond : Expr) (a : List Stmt) → next_region r (code.Region r site cond a) ≡ r + 1
 unfolding stmt_opened
 next-Region r site cond a = refl
 
 mutual
-  plain : (p : Place) (s : RawStmt) → is_plain (resolved p s) ≡ true
-  plain p (raw.Declare line name value) = refl
-  plain p (raw.Assign name value) = refl
-  plain p (raw.Store name index value) = refl
-  plain p (raw.Call name args) = refl
-  plain p (raw.Print line value) = refl
-  plain p (raw.If' line cond _ a _ b) =
-      plain-If (next_site p) (resolved_expr p.names cond) (resolved_in (sited p) a) (resolved_in (passed (sited p) (parts_in a)) b)
-      ∙ both_true (plain_in (sited p) a) (plain_in (passed (sited p) (parts_in a)) b)
-  plain p (raw.While' line marked cond _ body) = plain-While (next_site p) (resolved_expr p.names cond) (resolved_in (sited p) body) ∙ plain_in (sited p) body
+  plain : (p : Place) (s : RawStmt) → is_unbroken s ≡ true → list_all is_plain (resolved p s) ≡ true
+  plain p (raw.Declare line name value) w = refl
+  plain p (raw.Assign name value) w = refl
+  plain p (raw.Store name index value) w = refl
+  plain p (raw.Call name args) w = refl
+  plain p (raw.Print line value) w = refl
+  plain p (raw.Break line cond) w = absurd (cc w)
+  plain p (raw.If' line cond _ a _ b) w =
+      let both = halves (is_unbroken_in a) (is_unbroken_in b) w in
+      both_true (plain-If (next_site p) (resolved_expr p.names cond) (resolved_in (sited p) a) (resolved_in (passed (sited p) (parts_in a)) b)
+      ∙ both_true (plain_in (sited p) a both.0) (plain_in (passed (sited p) (parts_in a)) b both.1)) refl
+  plain p (raw.While' line marked cond _ body) w =
+      both_true (plain-While (next_site p) (resolved_expr p.names cond) (resolved_in (sited p) body) ∙ plain_in (sited p) body w) refl
+  plain p (raw.For' line marked _ first cond _ step _ body) w =
+      let q = after_in p first in let later = passed (sited q) (parts_in body) in let xs = resolved_in (sited q) body in let ys = resolved_in later step in
+      let k = halves (is_unbroken_in first) (is_unbroken_in body && is_unbroken_in step) w in let m = halves (is_unbroken_in body) (is_unbroken_in step) k.1 in
+      all_of_both is_plain (resolved_in p first) (code.While (next_site q) (resolved_expr q.names cond) (xs ++ ys) ∷ []) (plain_in p first k.0)
+      (both_true (plain-While (next_site q) (resolved_expr q.names cond) (xs ++ ys) ∙ all_of_both is_plain xs ys (plain_in (sited q) body m.0) (plain_in later step m.1)) refl)
 
-  plain_in : {n : _} (p : Place) (row : Row_of-RawStmt n) → list_all is_plain (resolved_in p row) ≡ true
-  plain_in p end_of-RawStmt = refl
-  plain_in p (more_of-RawStmt s rest) = both_true (plain p s) (plain_in (after p s) rest)
+  plain_in : {n : _} (p : Place) (row : Row_of-RawStmt n) → is_unbroken_in row ≡ true → list_all is_plain (resolved_in p row) ≡ true
+  plain_in p end_of-RawStmt w = refl
+  plain_in p (more_of-RawStmt s rest) w =
+      let both = halves (is_unbroken s) (is_unbroken_in rest) w in
+      all_of_both is_plain (resolved p s) (resolved_in (after p s) rest) (plain p s both.0) (plain_in (after p s) rest both.1)
 
-plain_all : (p : Place) (all : List RawStmt) → list_all is_plain (resolved_all p all) ≡ true
-plain_all p [] = refl
-plain_all p (s ∷ rest) = both_true (plain p s) (plain_all (after p s) rest)
+plain_all : (p : Place) (all : List RawStmt) → list_all is_unbroken all ≡ true → list_all is_plain (resolved_all p all) ≡ true
+plain_all p [] w = refl
+plain_all p (s ∷ rest) w =
+    let both = halves (is_unbroken s) (list_all is_unbroken rest) w in
+    all_of_both is_plain (resolved p s) (resolved_all (after p s) rest) (plain p s both.0) (plain_all (after p s) rest both.1)
+
+-- a plain statement may stand in a region's body
+inner_from : (s : Stmt) → is_plain s ≡ true → is_inner s ≡ true
+inner_from (code.Assign site x e) h = refl
+inner_from (code.Store site x index e) h = refl
+inner_from (code.Print site e) h = refl
+inner_from (code.If' site cond _ a _ b) h = h
+inner_from (code.While' site cond _ a) h = h
+inner_from (code.Region' q site cond _ a) h = absurd (cc h)
+inner_from (code.Break site cond) h = refl
+inner_from (code.Call f line args) h = refl
+
+inner : (p : Place) (s : RawStmt) → may_leave s ≡ true → list_all is_inner (resolved p s) ≡ true
+inner p (raw.Break line cond) w = refl
+inner p (raw.Declare line name value) w = refl
+inner p (raw.Assign name value) w = refl
+inner p (raw.Store name index value) w = refl
+inner p (raw.Call name args) w = refl
+inner p (raw.Print line value) w = refl
+inner p (raw.If' line cond i a j b) w = all_weaker is_plain is_inner inner_from (resolved p (raw.If' line cond i a j b)) (plain p (raw.If' line cond i a j b) w)
+inner p (raw.While' line marked cond i body) w = all_weaker is_plain is_inner inner_from (resolved p (raw.While' line marked cond i body)) (plain p (raw.While' line marked cond i body) w)
+inner p (raw.For' line marked i first cond j step k body) w =
+    all_weaker is_plain is_inner inner_from (resolved p (raw.For' line marked i first cond j step k body)) (plain p (raw.For' line marked i first cond j step k body) w)
+
+inner_all : (p : Place) (all : List RawStmt) → list_all may_leave all ≡ true → list_all is_inner (resolved_all p all) ≡ true
+inner_all p [] w = refl
+inner_all p (s ∷ rest) w =
+    let both = halves (may_leave s) (list_all may_leave rest) w in
+    all_of_both is_inner (resolved p s) (resolved_all (after p s) rest) (inner p s both.0) (inner_all (after p s) rest both.1)
 
 plain-fits : (r : ℕ) (s : Stmt) → is_plain s ≡ true → top_fits r s ≡ true
 plain-fits r (code.Assign site x e) h = h
@@ -68,6 +116,7 @@ plain-fits r (code.Print site e) h = h
 plain-fits r (code.If' site cond _ a _ b) h = h
 plain-fits r (code.While' site cond _ a) h = h
 plain-fits r (code.Region' q site cond _ a) h = absurd (cc)
+plain-fits r (code.Break site cond) h = absurd (cc)
 plain-fits r (code.Call f line args) h = h
 
 plain-next : (r : ℕ) (s : Stmt) → is_plain s ≡ true → next_region r s ≡ r
@@ -77,39 +126,53 @@ plain-next r (code.Print site e) h = refl
 plain-next r (code.If' site cond _ a _ b) h = refl
 plain-next r (code.While' site cond _ a) h = refl
 plain-next r (code.Region' q site cond _ a) h = absurd (cc)
+plain-next r (code.Break site cond) h = absurd (cc)
 plain-next r (code.Call f line args) h = refl
 
--- what a statement at the top of `main` becomes
-record Top (r : ℕ) (l : RawStmt-F RawStmt) (s : Stmt) : Type 0 where
-  fits : top_fits r s ≡ true
-  next : next_region r s ≡ (if is_region_at l then r + 1 else r)
+-- plain statements leave the regions' numbers as they are
+plain_before : (r : ℕ) (xs rest : List Stmt) → list_all is_plain xs ≡ true → regions_in_order r rest ≡ true → regions_in_order r (xs ++ rest) ≡ true
+plain_before r [] rest w h = h
+plain_before r (x ∷ xs) rest w h =
+    let k = halves (is_plain x) (list_all is_plain xs) w in
+    both_true (plain-fits r x k.0) (ap (λ n. regions_in_order n (xs ++ rest)) (plain-next r x k.0) ∙ plain_before r xs rest k.1 h)
 
-top_plain : (r : ℕ) (l : RawStmt-F RawStmt) (s : Stmt) → is_region_at l ≡ false → is_plain s ≡ true → Top r l s
-top_plain r l s no_region h = record { fits = plain-fits r s h; next = plain-next r s h ∙ ap (λ b. if b then r + 1 else r) (sym no_region) }
+region_before : (p : Place) (r : ℕ) (cond : RawExpr) (body rest : List Stmt) → list_all is_inner body ≡ true → regions_in_order (r + 1) rest ≡ true
+    → regions_in_order r (code.Region r (next_site p) (resolved_expr p.names cond) body ∷ rest) ≡ true
+region_before p r cond body rest w h =
+    both_true (fits-Region r (next_site p) (resolved_expr p.names cond) body ∙ both_true (same_number r) w)
+    (ap (λ n. regions_in_order n rest) (next-Region r (next_site p) (resolved_expr p.names cond) body) ∙ h)
 
-top_of : (p : Place) (r : ℕ) (l : RawStmt-F RawStmt) (s : Stmt) → is_plain s ≡ true → Top r l (region_at p r l s)
-top_of p r (open_form.Declare line name value) s h = top_plain r _ s refl h
-top_of p r (open_form.Assign name value) s h = top_plain r _ s refl h
-top_of p r (open_form.Store name index value) s h = top_plain r _ s refl h
-top_of p r (open_form.Call name args) s h = top_plain r _ s refl h
-top_of p r (open_form.Print line value) s h = top_plain r _ s refl h
-top_of p r (open_form.If line cond a b) s h = top_plain r _ s refl h
-top_of p r (open_form.While line false cond body) s h = top_plain r _ s refl h
-top_of p r (open_form.While line true cond body) s h = record {
-  fits = fits-Region r (next_site p) (resolved_expr p.names cond) (resolved_all (sited p) body) ∙ both_true (same_number r) (plain_all (sited p) body);
-  next = next-Region r (next_site p) (resolved_expr p.names cond) (resolved_all (sited p) body);
-}
+-- what a statement at the top of `main` becomes stands in order before what is
+top_before : (p : Place) (r : ℕ) (l : RawStmt-F RawStmt) (s : RawStmt) (rest : List Stmt) → fits_at l (is_unbroken s) ≡ true
+    → regions_in_order (if is_region_at l then r + 1 else r) rest ≡ true → regions_in_order r (region_at p r l (resolved p s) ++ rest) ≡ true
+top_before p r (open_form.Declare line name value) s rest w h = plain_before r (resolved p s) rest (plain p s w) h
+top_before p r (open_form.Assign name value) s rest w h = plain_before r (resolved p s) rest (plain p s w) h
+top_before p r (open_form.Store name index value) s rest w h = plain_before r (resolved p s) rest (plain p s w) h
+top_before p r (open_form.Call name args) s rest w h = plain_before r (resolved p s) rest (plain p s w) h
+top_before p r (open_form.Print line value) s rest w h = plain_before r (resolved p s) rest (plain p s w) h
+top_before p r (open_form.Break line cond) s rest w h = plain_before r (resolved p s) rest (plain p s w) h
+top_before p r (open_form.If line cond a b) s rest w h = plain_before r (resolved p s) rest (plain p s w) h
+top_before p r (open_form.While line false cond body) s rest w h = plain_before r (resolved p s) rest (plain p s w) h
+top_before p r (open_form.While line true cond body) s rest w h = region_before p r cond (resolved_all (sited p) body) rest (inner_all (sited p) body w) h
+top_before p r (open_form.For line false first cond step body) s rest w h = plain_before r (resolved p s) rest (plain p s w) h
+top_before p r (open_form.For line true first cond step body) s rest w h =
+    let q = after_all p first in let later = passed (sited q) (parts_all body) in let region = stepped_region q r cond step body in
+    let k = halves (list_all is_unbroken first) (list_all may_leave body && list_all is_unbroken step) w in let m = halves (list_all may_leave body) (list_all is_unbroken step) k.1 in
+    let inside = all_of_both is_inner (resolved_all (sited q) body) (resolved_all later step) (inner_all (sited q) body m.0)
+    (all_weaker is_plain is_inner inner_from (resolved_all later step) (plain_all later step m.1)) in
+    ap (regions_in_order r) (append_assoc (resolved_all p first) (region ∷ []) rest)
+    ∙ plain_before r (resolved_all p first) (region ∷ rest) (plain_all p first k.0) (region_before q r cond (with_step (sited q) step body) rest inside h)
 
-pub regions_stand_in_order : (p : Place) (r : ℕ) (all : List RawStmt) → regions_in_order r (resolved_main p r all) ≡ true
-regions_stand_in_order p r [] = refl
-regions_stand_in_order p r (s ∷ rest) =
-    let t = top_of p r (out-RawStmt s) (resolved p s) (plain p s) in
-    both_true t.fits (ap (λ n. regions_in_order n (resolved_main (after p s) (if is_region s then r + 1 else r) rest)) t.next
-    ∙ regions_stand_in_order (after p s) (if is_region s then r + 1 else r) rest)
+pub regions_stand_in_order : (p : Place) (r : ℕ) (all : List RawStmt) → list_all breaks_fit_at_top all ≡ true → regions_in_order r (resolved_main p r all) ≡ true
+regions_stand_in_order p r [] w = refl
+regions_stand_in_order p r (s ∷ rest) w =
+    let both = halves (breaks_fit_at_top s) (list_all breaks_fit_at_top rest) w in let next = if is_region s then r + 1 else r in
+    top_before p r (out-RawStmt s) s (resolved_main (after p s) next rest) both.0 (regions_stand_in_order (after p s) next rest both.1)
 
-pub functions_are_plain : (h : Head) (items : List RawItem) → list_all (λ f. list_all is_plain f.body) (items_functions h items) ≡ true
-functions_are_plain h [] = refl
-functions_are_plain h (item.Scalar name start ∷ rest) = functions_are_plain (after_item h (item.Scalar name start)) rest
-functions_are_plain h (item.Array name size ∷ rest) = functions_are_plain (after_item h (item.Array name size)) rest
-functions_are_plain h (item.Function name params body ∷ rest) =
-    both_true (plain_all (after_params h.place params) body) (functions_are_plain (after_item h (item.Function name params body)) rest)
+pub functions_are_plain : (h : Head) (items : List RawItem) → list_all is_unbroken_item items ≡ true → list_all (λ f. list_all is_plain f.body) (items_functions h items) ≡ true
+functions_are_plain h [] w = refl
+functions_are_plain h (item.Scalar name start ∷ rest) w = functions_are_plain (after_item h (item.Scalar name start)) rest w
+functions_are_plain h (item.Array name size ∷ rest) w = functions_are_plain (after_item h (item.Array name size)) rest w
+functions_are_plain h (item.Function name params body ∷ rest) w =
+    let both = halves (list_all is_unbroken body) (list_all is_unbroken_item rest) w in
+    both_true (plain_all (after_params h.place params) body both.0) (functions_are_plain (after_item h (item.Function name params body)) rest both.1)

@@ -8,6 +8,7 @@ use Rattle.dp_tree.specs.declared.Expr.{Expr}
 use Rattle.dp_tree.specs.declared.Program.{Program}
 use Rattle.dp_tree.specs.declared.Stmt.{Stmt}
 use Rattle.dp_tree.specs.declared.Stmt.TheVariants as code
+use Rattle.dp_tree.specs.declared.SiteKind.TheVariants as kind
 use Rattle.dp_tree.specs.declared.raw.Name.{Name}
 use Rattle.dp_tree.specs.declared.raw.RawStmt.{RawStmt, Row_of-RawStmt, end_of-RawStmt, more_of-RawStmt}
 use Rattle.dp_tree.specs.declared.raw.RawStmt.TheVariants as raw
@@ -19,15 +20,15 @@ use Rattle.dp_check.specs.declared.names.Meaning.TheVariants.{Scalar, Array, Inp
 use Rattle.dp_check.specs.declared.place.Place.{Place}
 use Rattle.dp_check.specs.Names.{named}
 use Rattle.dp_check.specs.Offence.{Token, Assigns, AssignsElement, Calls, offence, offence_of, or_else, first_offence}
-use Rattle.dp_check.specs.Place.{Part, parts, parts_in, parts_all, local_count, passed, sited, with_scalar, after}
+use Rattle.dp_check.specs.Place.{Part, Site, parts, parts_in, parts_all, local_count, passed, sited, with_scalar, after, after_in, after_all}
 use Rattle.dp_check.specs.Tokens.{token, expr_tokens, args_tokens, tokens, tokens_in, tokens_all}
 use Rattle.dp_check.specs.Resolved.{variable_of, function_of, resolved_expr, next_site, next_variable, resolved, resolved_in, resolved_all}
 use Rattle.dp_check.proofs.AnswerLemmas.{first_offence-append}
-use Rattle.dp_check.proofs.PlaceLemmas.{after_variable, local_count-append}
+use Rattle.dp_check.proofs.PlaceLemmas.{after_variable, after_in_variable, local_count-append}
 use Rattle.dp_check.proofs.NumberLemmas.{stmt_opened}
 use Rattle.dp_check.proofs.BoolLemmas.{both_true, halves, all_weaker}
 use Rattle.dp_check.proofs.DeclaredLemmas.{Declared, declared_front, declared_back}
-use Rattle.dp_check.proofs.KnownLemmas.{is_known_if, all_known, found, sees_first, known_more, known_append, knows_expr, knows_args}
+use Rattle.dp_check.proofs.KnownLemmas.{seen_behind_all, known_behind, is_known_if, all_known, found, sees_first, known_more, known_append, knows_expr, knows_args}
 
 -- a part of a lawful text is lawful
 pub lawful_parts : (a b : List Token) → first_offence (a ++ b) ≡ None → (first_offence a ≡ None) × (first_offence b ≡ None)
@@ -141,10 +142,40 @@ behind-While : (visible : List ℕ) (site : SiteId) (cond : Expr) (a : List Stmt
 unfolding stmt_opened
 behind-While visible site cond a = refl
 
--- A statement is in scope, and so is what stands behind it.
-pub record Here (p : Program) (r n : ℕ) (visible : List ℕ) (next : Place) (s : Stmt) : Type 0 where
-  pub scoped : in_scope p r n visible s ≡ true
-  pub behind : At p n (seen_behind visible s) next
+-- Statements are in scope, and so is what stands behind them.
+pub record Here (p : Program) (r n : ℕ) (visible : List ℕ) (next : Place) (all : List Stmt) : Type 0 where
+  pub scoped : all_in_scope p r n visible all ≡ true
+  pub behind : At p n (seen_behind_all visible all) next
+
+pub seen_both : (visible : List ℕ) (a b : List Stmt) → seen_behind_all visible (a ++ b) ≡ seen_behind_all (seen_behind_all visible a) b
+seen_both visible [] b = refl
+seen_both visible (x ∷ a) b = seen_both (seen_behind visible x) a b
+
+pub scoped_both : (p : Program) (r n : ℕ) (visible : List ℕ) (a b : List Stmt) → all_in_scope p r n visible a ≡ true → all_in_scope p r n (seen_behind_all visible a) b ≡ true
+    → all_in_scope p r n visible (a ++ b) ≡ true
+scoped_both p r n visible [] b h k = k
+scoped_both p r n visible (x ∷ a) b h k =
+    let m = halves (in_scope p r n visible x) (all_in_scope p r n (seen_behind visible x) a) h in both_true m.0 (scoped_both p r n (seen_behind visible x) a b m.1 k)
+
+module _ {p : Program} {r n : ℕ} {visible : List ℕ} where
+  -- statements, one after the other
+  pub here_both : {mid next : Place} {a b : List Stmt} → Here p r n visible mid a → Here p r n (seen_behind_all visible a) next b → Here p r n visible next (a ++ b)
+  here_both {mid} {next} {a} {b} h k = record {
+    scoped = scoped_both p r n visible a b h.scoped k.scoped;
+    behind = subst (λ ys. At p n ys next) (sym (seen_both visible a b)) k.behind;
+  }
+
+  -- one statement
+  pub here_one : {next : Place} {s : Stmt} → in_scope p r n visible s ≡ true → At p n (seen_behind visible s) next → Here p r n visible next (s ∷ [])
+  here_one h k = record { scoped = both_true h refl; behind = k }
+
+-- at a place with the same names, behind statements and whatever their names are
+pub at_behind : {p : Program} {n : ℕ} {visible : List ℕ} {q : Place} (all : List Stmt) (next : Place) → At p n visible q → At p n (seen_behind_all visible all) next
+    → (v s : ℕ) → next.variable ≤ v → At p n (seen_behind_all visible all) (record { names = q.names; variable = v; site = s })
+at_behind {p} {n} {visible} {q} all next here behind v s h = record {
+  known = known_behind p n visible q.names all here.known;
+  below = below_still next.variable v h (seen_behind_all visible all) behind.below;
+}
 
 or_right : (a : Bool) {b : Bool} → b ≡ true → (a || b) ≡ true
 or_right true h = refl
@@ -154,75 +185,90 @@ or_left : {a : Bool} (b : Bool) → a ≡ true → (a || b) ≡ true
 or_left b h = ap (λ c. c || b) h
 
 module _ (p : Program) (r n : ℕ) where
+  -- a loop whose body ends with a step; the step doesn't see the body's names
+  pub loop_scoped : (q : Place) (visible : List ℕ) (x y : List Stmt) (inside : Place) (v w : ℕ) → At p n visible q → Here p r n visible inside x → inside.variable ≤ v
+      → (At p n (seen_behind_all visible x) (record { names = q.names; variable = v; site = w }) → all_in_scope p r n (seen_behind_all visible x) y ≡ true)
+      → all_in_scope p r n visible (x ++ y) ≡ true
+  loop_scoped q visible x y inside v w here body h step = scoped_both p r n visible x y body.scoped (step (at_behind x inside here body.behind v w h))
+
   mutual
     pub stmt_scoped : (q : Place) (visible : List ℕ) (s : RawStmt) → At p n visible q → Declared p.vars r q.variable (local_count (parts s)) → first_offence (tokens q s) ≡ None
         → Here p r n visible (after q s) (resolved q s)
-    stmt_scoped q visible (raw.Declare line name value) here declared lawful = record {
-      scoped = both_true (knows_expr p n visible q.names here.known value) (or_right (sees visible (next_variable q)) (declared q.variable (omega arith) (omega arith)));
-      behind = subst (λ ys. At p n ys (with_scalar (sited q) name)) (ap (λ b. if b then visible else q.variable ∷ visible) (sym (unseen q.variable visible here.below)))
-          (at_declared name (record { known = here.known; below = here.below }));
-    }
+    stmt_scoped q visible (raw.Declare line name value) here declared lawful = here_one
+        (both_true (knows_expr p n visible q.names here.known value) (or_right (sees visible (next_variable q)) (declared q.variable (omega arith) (omega arith))))
+        (subst (λ ys. At p n ys (with_scalar (sited q) name)) (ap (λ b. if b then visible else q.variable ∷ visible) (sym (unseen q.variable visible here.below)))
+        (at_declared name (record { known = here.known; below = here.below })))
     stmt_scoped q visible (raw.Assign name value) here declared lawful =
         let k = lawful_first (token q.names Assigns name) (expr_tokens q.names value) lawful in
         let x = variable_of (named q.names name.text) in
         let known = assigned p n visible name.line (named q.names name.text) (found p n visible q.names name.text here.known) k.0 in
-        record {
-          scoped = both_true (knows_expr p n visible q.names here.known value) (or_left (is_declared_in r (slice_get p.vars x.0)) known);
-          behind = subst (λ ys. At p n ys (after q (raw.Assign name value))) (ap (λ b. if b then visible else x.0 ∷ visible) (sym known)) (at_passed (parts (raw.Assign name value)) here);
-        }
+        here_one (both_true (knows_expr p n visible q.names here.known value) (or_left (is_declared_in r (slice_get p.vars x.0)) known))
+        (subst (λ ys. At p n ys (after q (raw.Assign name value))) (ap (λ b. if b then visible else x.0 ∷ visible) (sym known)) (at_passed (parts (raw.Assign name value)) here))
     stmt_scoped q visible (raw.Store name index value) here declared lawful =
         let k = lawful_first (token q.names AssignsElement name) (expr_tokens q.names index ++ expr_tokens q.names value) lawful in
-        record {
-          scoped = both_true (stored p n visible name.line (named q.names name.text) (found p n visible q.names name.text here.known) k.0)
-              (both_true (knows_expr p n visible q.names here.known index) (knows_expr p n visible q.names here.known value));
-          behind = at_passed (parts (raw.Store name index value)) here;
-        }
+        here_one (both_true (stored p n visible name.line (named q.names name.text) (found p n visible q.names name.text here.known) k.0)
+        (both_true (knows_expr p n visible q.names here.known index) (knows_expr p n visible q.names here.known value)))
+        (at_passed (parts (raw.Store name index value)) here)
     stmt_scoped q visible (raw.Call name args) here declared lawful =
         let k = lawful_first (token q.names (Calls (length args)) name) (args_tokens q.names args) lawful in
         let f = called p n visible name.line (named q.names name.text) (length args) (found p n visible q.names name.text here.known) k.0 in
         let count = params_in (slice_get p.functions (function_of (named q.names name.text))) in
-        record {
-          scoped = both_true f.0 (both_true (knows_args p n visible q.names here.known args) (ap (λ m. m == length count) (length-map args (resolved_expr q.names)) ∙ f.1));
-          behind = at_passed (parts (raw.Call name args)) here;
-        }
-    stmt_scoped q visible (raw.Print line value) here declared lawful = record { scoped = knows_expr p n visible q.names here.known value; behind = at_passed (parts (raw.Print line value)) here }
+        here_one (both_true f.0 (both_true (knows_args p n visible q.names here.known args) (ap (λ m. m == length count) (length-map args (resolved_expr q.names)) ∙ f.1)))
+        (at_passed (parts (raw.Call name args)) here)
+    stmt_scoped q visible (raw.Print line value) here declared lawful = here_one (knows_expr p n visible q.names here.known value) (at_passed (parts (raw.Print line value)) here)
+    stmt_scoped q visible (raw.Break line cond) here declared lawful = here_one (knows_expr p n visible q.names here.known cond) (at_passed (parts (raw.Break line cond)) here)
     stmt_scoped q visible (raw.If' line cond i a j b) here declared lawful =
         let c = resolved_expr q.names cond in let x = resolved_in (sited q) a in let later = passed (sited q) (parts_in a) in let y = resolved_in later b in
         let k = lawful_parts (expr_tokens q.names cond) (tokens_in (sited q) a ++ tokens_in later b) lawful in
         let m = lawful_parts (tokens_in (sited q) a) (tokens_in later b) k.1 in
         let count = local_count-append (parts_in a) (parts_in b) in
         let first : At p n visible (sited q) = record { known = here.known; below = here.below } in
-        record {
-          scoped = scope-If p r n visible (next_site q) c x y ∙ both_true (knows_expr p n visible q.names here.known cond)
-              (both_true (row_scoped (sited q) visible a first (declared_front p.vars r q.variable (local_count (parts_in a)) (local_count (parts_in b)) _ count declared) m.0)
-              (row_scoped later visible b (at_passed (parts_in a) first) (declared_back p.vars r q.variable (local_count (parts_in a)) (local_count (parts_in b)) _ _ count refl declared) m.1));
-          behind = subst (λ ys. At p n ys (passed q (parts (raw.If' line cond i a j b)))) (sym (behind-If visible (next_site q) c x y)) (at_passed (parts (raw.If' line cond i a j b)) here);
-        }
+        here_one (scope-If p r n visible (next_site q) c x y ∙ both_true (knows_expr p n visible q.names here.known cond)
+        (both_true (row_scoped (sited q) visible a first (declared_front p.vars r q.variable (local_count (parts_in a)) (local_count (parts_in b)) _ count declared) m.0).scoped
+        (row_scoped later visible b (at_passed (parts_in a) first) (declared_back p.vars r q.variable (local_count (parts_in a)) (local_count (parts_in b)) _ _ count refl declared) m.1).scoped))
+        (subst (λ ys. At p n ys (passed q (parts (raw.If' line cond i a j b)))) (sym (behind-If visible (next_site q) c x y)) (at_passed (parts (raw.If' line cond i a j b)) here))
     stmt_scoped q visible (raw.While' line marked cond i body) here declared lawful =
         let c = resolved_expr q.names cond in let x = resolved_in (sited q) body in
         let k = lawful_parts (expr_tokens q.names cond) (tokens_in (sited q) body) lawful in
-        record {
-          scoped = scope-While p r n visible (next_site q) c x ∙ both_true (knows_expr p n visible q.names here.known cond)
-              (row_scoped (sited q) visible body (record { known = here.known; below = here.below }) declared k.1);
-          behind = subst (λ ys. At p n ys (passed q (parts (raw.While' line marked cond i body)))) (sym (behind-While visible (next_site q) c x)) (at_passed (parts (raw.While' line marked cond i body)) here);
-        }
+        here_one (scope-While p r n visible (next_site q) c x ∙ both_true (knows_expr p n visible q.names here.known cond)
+        (row_scoped (sited q) visible body (record { known = here.known; below = here.below }) declared k.1).scoped)
+        (subst (λ ys. At p n ys (passed q (parts (raw.While' line marked cond i body)))) (sym (behind-While visible (next_site q) c x)) (at_passed (parts (raw.While' line marked cond i body)) here))
+    stmt_scoped q visible (raw.For' line marked i first cond j step m body) here declared lawful =
+        let start = after_in q first in let later = passed (sited start) (parts_in body) in
+        let w = resolved_in q first in let x = resolved_in (sited start) body in let y = resolved_in later step in let c = resolved_expr start.names cond in
+        let a = local_count (parts_in first) in let b = local_count (parts_in body) in let d = local_count (parts_in step) in
+        let whole = local_count-append (parts_in first) (Site line kind.While ∷ (parts_in body ++ parts_in step)) in let inner = local_count-append (parts_in body) (parts_in step) in
+        let rest : Declared p.vars r start.variable (local_count (parts_in body ++ parts_in step)) =
+        declared_back p.vars r q.variable a (local_count (parts_in body ++ parts_in step)) _ start.variable whole (after_in_variable q first) declared in
+        let k = lawful_parts (tokens_in q first) (expr_tokens start.names cond ++ (tokens_in later step ++ tokens_in (sited start) body)) lawful in
+        let l = lawful_parts (expr_tokens start.names cond) (tokens_in later step ++ tokens_in (sited start) body) k.1 in
+        let o = lawful_parts (tokens_in later step) (tokens_in (sited start) body) l.1 in
+        let before = row_scoped q visible first here (declared_front p.vars r q.variable a (local_count (parts_in body ++ parts_in step)) _ whole declared) k.0 in
+        let seen = seen_behind_all visible w in
+        let at : At p n seen (sited start) = record { known = before.behind.known; below = before.behind.below } in
+        let inside = row_scoped (sited start) seen body at (declared_front p.vars r start.variable b d _ inner rest) o.1 in
+        let stepped = loop_scoped (sited start) seen x y (after_in (sited start) body) later.variable later.site at inside (omega (arith, after_in_variable (sited start) body))
+        (λ at_step. (row_scoped later (seen_behind_all seen x) step at_step (declared_back p.vars r start.variable b d _ _ inner refl rest) o.0).scoped) in
+        here_both before (here_one (scope-While p r n seen (next_site start) c (x ++ y) ∙ both_true (knows_expr p n seen start.names before.behind.known cond) stepped)
+        (subst (λ ys. At p n ys (passed q (parts (raw.For' line marked i first cond j step m body)))) (sym (behind-While seen (next_site start) c (x ++ y)))
+        (at_behind w start here before.behind _ _ (omega (arith, after_in_variable q first, whole)))))
 
     row_scoped : {k : _} (q : Place) (visible : List ℕ) (row : Row_of-RawStmt k) → At p n visible q → Declared p.vars r q.variable (local_count (parts_in row))
-        → first_offence (tokens_in q row) ≡ None → all_in_scope p r n visible (resolved_in q row) ≡ true
-    row_scoped q visible end_of-RawStmt here declared lawful = refl
+        → first_offence (tokens_in q row) ≡ None → Here p r n visible (after_in q row) (resolved_in q row)
+    row_scoped q visible end_of-RawStmt here declared lawful = record { scoped = refl; behind = here }
     row_scoped q visible (more_of-RawStmt s rest) here declared lawful =
         let k = lawful_parts (tokens q s) (tokens_in (after q s) rest) lawful in
         let count = local_count-append (parts s) (parts_in rest) in
         let one = stmt_scoped q visible s here (declared_front p.vars r q.variable (local_count (parts s)) (local_count (parts_in rest)) _ count declared) k.0 in
-        both_true one.scoped
-        (row_scoped (after q s) (seen_behind visible (resolved q s)) rest one.behind (declared_back p.vars r q.variable (local_count (parts s)) (local_count (parts_in rest)) _ _ count (after_variable q s) declared) k.1)
+        here_both one (row_scoped (after q s) (seen_behind_all visible (resolved q s)) rest one.behind
+        (declared_back p.vars r q.variable (local_count (parts s)) (local_count (parts_in rest)) _ _ count (after_variable q s) declared) k.1)
 
   pub all_scoped : (q : Place) (visible : List ℕ) (all : List RawStmt) → At p n visible q → Declared p.vars r q.variable (local_count (parts_all all))
-      → first_offence (tokens_all q all) ≡ None → all_in_scope p r n visible (resolved_all q all) ≡ true
-  all_scoped q visible [] here declared lawful = refl
+      → first_offence (tokens_all q all) ≡ None → Here p r n visible (after_all q all) (resolved_all q all)
+  all_scoped q visible [] here declared lawful = record { scoped = refl; behind = here }
   all_scoped q visible (s ∷ rest) here declared lawful =
       let k = lawful_parts (tokens q s) (tokens_all (after q s) rest) lawful in
       let count = local_count-append (parts s) (parts_all rest) in
       let one = stmt_scoped q visible s here (declared_front p.vars r q.variable (local_count (parts s)) (local_count (parts_all rest)) _ count declared) k.0 in
-      both_true one.scoped
-      (all_scoped (after q s) (seen_behind visible (resolved q s)) rest one.behind (declared_back p.vars r q.variable (local_count (parts s)) (local_count (parts_all rest)) _ _ count (after_variable q s) declared) k.1)
+      here_both one (all_scoped (after q s) (seen_behind_all visible (resolved q s)) rest one.behind
+      (declared_back p.vars r q.variable (local_count (parts s)) (local_count (parts_all rest)) _ _ count (after_variable q s) declared) k.1)

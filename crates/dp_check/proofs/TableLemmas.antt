@@ -1,5 +1,5 @@
 -- Tables that grow by the parts of statements.
-use Rattle.std.proofs.Common.{◌≡◌, refl, sym, ap, ◌∙◌, ℕ, suc, ◌+◌, ◌-◌, Bool, true, false, if◌then◌else◌, List, [], ◌∷◌, ◌++◌, map, length, append_assoc, append-nil, arith, length-append, pos}
+use Rattle.std.proofs.Common.{◌≡◌, refl, sym, ap, ◌∙◌, ℕ, suc, ◌+◌, Bool, true, false, List, [], ◌∷◌, ◌++◌, map, length, append_assoc, append-nil, arith, length-append, pos}
 use Rattle.std.specs.List.{flat_map}
 use Rattle.dp_tree.specs.declared.VarInfo.{VarInfo}
 use Rattle.dp_tree.specs.declared.VarScope.{VarScope}
@@ -9,20 +9,18 @@ use Rattle.dp_tree.specs.declared.SiteKind.TheVariants as kind
 use Rattle.dp_tree.specs.declared.RegionInfo.{RegionInfo}
 use Rattle.dp_tree.specs.declared.raw.Name.{Name}
 use Rattle.dp_tree.specs.declared.raw.RawExpr.{RawExpr}
-use Rattle.dp_tree.specs.declared.raw.RawStmt.{RawStmt, out-RawStmt}
+use Rattle.dp_tree.specs.declared.raw.RawStmt.{RawStmt, out-RawStmt, roll-RawStmt, roll-out-RawStmt}
 use Rattle.dp_tree.specs.declared.raw.RawStmt.TheVariants as raw
-use Rattle.dp_tree.specs.declared.raw.RawStmt.TheVariants.{outs-While}
+use Rattle.dp_tree.specs.declared.raw.RawStmt.TheVariants.{outs-While, outs-For, rolls-For}
 use Rattle.dp_tree.specs.declared.raw.RawStmt.TheOpen.{RawStmt-F}
 use Rattle.dp_tree.specs.declared.raw.RawStmt.TheOpen as open_form
-use Rattle.dp_check.specs.Resolved.{is_region, is_region_at}
-use Rattle.dp_check.proofs.RegionLemmas.{is_region-While}
 use Rattle.dp_check.specs.declared.variables.Variables.{Variables}
 use Rattle.dp_check.specs.declared.sites.Sites.{Sites}
-use Rattle.dp_check.specs.Place.{Part, Site, Local, parts, parts_all, site_count}
-use Rattle.dp_check.specs.Tables.{laid, locals_of, sites_of, top_scope, top_region, after_top, main_locals, main_sites, regions_from, region_of, scalar_info, function_parts}
+use Rattle.dp_check.specs.Place.{Part, Site, Local, parts, parts_all, site_count, local_count}
+use Rattle.dp_check.specs.Tables.{laid, locals_of, sites_of, loop_parts, outside_at, within_at, outside, within, top_locals, top_sites, after_top, main_locals, main_sites, regions_from, region_of, scalar_info, function_parts}
 use Rattle.dp_check.specs.Limits.{cell_sum}
 use Rattle.dp_check.specs.Growing.{with_variables, with_sites, with_top, with_main}
-use Rattle.dp_check.proofs.PlaceLemmas.{opened, parts_hidden}
+use Rattle.dp_check.proofs.PlaceLemmas.{opened, parts_hidden, site_count-append, local_count-append}
 
 pub parts-If : (line : ℕ) (cond : RawExpr) (a b : List RawStmt) → parts (raw.If line cond a b) ≡ Site line kind.If ∷ (parts_all a ++ parts_all b)
 unfolding opened
@@ -31,6 +29,30 @@ parts-If line cond a b = λ i. Site line kind.If ∷ (parts_hidden a i ++ parts_
 pub parts-While : (line : ℕ) (marked : Bool) (cond : RawExpr) (body : List RawStmt) → parts (raw.While line marked cond body) ≡ Site line kind.While ∷ parts_all body
 unfolding opened
 parts-While line marked cond body = λ i. Site line kind.While ∷ parts_hidden body i
+
+pub parts-For : (line : ℕ) (marked : Bool) (first : List RawStmt) (cond : RawExpr) (step body : List RawStmt)
+    → parts (raw.For line marked first cond step body) ≡ parts_all first ++ loop_parts line step body
+unfolding opened
+parts-For line marked first cond step body = λ i. parts_hidden first i ++ Site line kind.While ∷ (parts_hidden body i ++ parts_hidden step i)
+
+-- the parts of a statement at the top of `main` are those outside of its region and those in it
+pub parts_split : (s : RawStmt) → outside s ++ within s ≡ parts s
+parts_split s = by (out-RawStmt s) refl
+  where
+    by : (l : RawStmt-F RawStmt) → out-RawStmt s ≡ l → outside_at l (parts s) ++ within_at l (parts s) ≡ parts s
+    by (open_form.Declare line name value) e = append-nil (parts s)
+    by (open_form.Assign name value) e = append-nil (parts s)
+    by (open_form.Store name index value) e = append-nil (parts s)
+    by (open_form.Call name args) e = append-nil (parts s)
+    by (open_form.Print line value) e = append-nil (parts s)
+    by (open_form.Break line cond) e = append-nil (parts s)
+    by (open_form.If line cond a b) e = append-nil (parts s)
+    by (open_form.While line false cond body) e = append-nil (parts s)
+    by (open_form.While line true cond body) e = refl
+    by (open_form.For line false first cond step body) e = append-nil (parts s)
+    by (open_form.For line true first cond step body) e =
+        let is : s ≡ raw.For line true first cond step body = sym (roll-out-RawStmt s) ∙ ap roll-RawStmt e ∙ rolls-For line true first cond step body in
+        sym (ap parts is ∙ parts-For line true first cond step body)
 
 pub locals_of-append : (scope : VarScope) (a b : List Part) → locals_of scope (a ++ b) ≡ locals_of scope a ++ locals_of scope b
 locals_of-append scope [] b = refl
@@ -46,6 +68,16 @@ pub length-sites_of : (r : ℕ) (a : List Part) → length (sites_of r a) ≡ si
 length-sites_of r [] = refl
 length-sites_of r (Site line k ∷ a) = ap suc (length-sites_of r a)
 length-sites_of r (Local name ∷ a) = length-sites_of r a
+
+pub site_count-split : (s : RawStmt) → site_count (outside s) + site_count (within s) ≡ site_count (parts s)
+site_count-split s = sym (site_count-append (outside s) (within s)) ∙ ap site_count (parts_split s)
+
+pub local_count-split : (s : RawStmt) → local_count (outside s) + local_count (within s) ≡ local_count (parts s)
+local_count-split s = sym (local_count-append (outside s) (within s)) ∙ ap local_count (parts_split s)
+
+pub length-top_sites : (r : ℕ) (s : RawStmt) → length (top_sites r s) ≡ site_count (parts s)
+length-top_sites r s =
+    length-append (sites_of 0 (outside s)) (sites_of r (within s)) ∙ (λ i. length-sites_of 0 (outside s) i + length-sites_of r (within s) i) ∙ site_count-split s
 
 -- ---- variables
 
@@ -88,8 +120,8 @@ with_main-none t r = same_sites t (append-nil t.rows) (append-nil t.regions) (om
 
 pub with_main-more : (t : Sites) (r : ℕ) (s : RawStmt) (rest : List RawStmt) → with_main t r (s ∷ rest) ≡ with_main (with_top t r s) (after_top r s) rest
 with_main-more t r s rest =
-    let here = sites_of (top_region r s) (parts s) in let later = main_sites (after_top r s) rest in
-    let n : t.next + site_count (parts s) ≡ t.next + length here = ap (λ k. t.next + k) (sym (length-sites_of (top_region r s) (parts s))) in
+    let here = top_sites r s in let later = main_sites (after_top r s) rest in
+    let n : t.next + site_count (parts s) ≡ t.next + length here = ap (λ k. t.next + k) (sym (length-top_sites r s)) in
     same_sites t (sym (append_assoc t.rows here later))
     (ap (λ k. t.regions ++ (region_of t.next (out-RawStmt s) (parts s) ++ regions_from k rest)) n
     ∙ sym (append_assoc t.regions (region_of t.next (out-RawStmt s) (parts s)) (regions_from (t.next + length here) rest)))
@@ -108,7 +140,25 @@ module _ (v : Variables) (scope : VarScope) where
       ≡ with_variables v (locals_of scope (parts_all body))
   local-While line marked cond body = ap (λ ps. with_variables v (locals_of scope ps)) (parts-While line marked cond body)
 
-pub ruleset local_forms = (local-If, local-While, with_variables-none)
+  pub local-For : (line : ℕ) (marked : Bool) (first : List RawStmt) (cond : RawExpr) (step body : List RawStmt)
+      → with_variables v (locals_of scope (parts (raw.For line marked first cond step body)))
+      ≡ with_variables (with_variables (with_variables v (locals_of scope (parts_all first))) (locals_of scope (parts_all body))) (locals_of scope (parts_all step))
+  local-For line marked first cond step body =
+      let a = locals_of scope (parts_all first) in let b = locals_of scope (parts_all body) in let c = locals_of scope (parts_all step) in
+      ap (λ ps. with_variables v (locals_of scope ps)) (parts-For line marked first cond step body)
+      ∙ ap (with_variables v) (locals_of-append scope (parts_all first) (loop_parts line step body) ∙ ap (λ xs. a ++ xs) (locals_of-append scope (parts_all body) (parts_all step)))
+      ∙ with_variables-append v a (b ++ c) ∙ with_variables-append (with_variables v a) b c
+
+pub ruleset local_forms = (local-If, local-While, local-For, with_variables-none)
+
+-- a loop with a step, behind its initialiser
+pub loop_sites : (t : Sites) (r line : ℕ) (step body : List RawStmt) → with_sites t (sites_of r (loop_parts line step body))
+    ≡ with_sites (with_sites (with_sites t (record { line = line; kind = kind.While; region = r } ∷ [])) (sites_of r (parts_all body))) (sites_of r (parts_all step))
+loop_sites t r line step body =
+    let one : List SiteInfo = record { line = line; kind = kind.While; region = r } ∷ [] in
+    ap (λ xs. with_sites t (one ++ xs)) (sites_of-append r (parts_all body) (parts_all step))
+    ∙ with_sites-append t one (sites_of r (parts_all body) ++ sites_of r (parts_all step))
+    ∙ with_sites-append (with_sites t one) (sites_of r (parts_all body)) (sites_of r (parts_all step))
 
 module _ (t : Sites) (r : ℕ) where
   pub site-If : (line : ℕ) (cond : RawExpr) (a b : List RawStmt) → with_sites t (sites_of r (parts (raw.If line cond a b)))
@@ -125,7 +175,16 @@ module _ (t : Sites) (r : ℕ) where
       let one : List SiteInfo = record { line = line; kind = kind.While; region = r } ∷ [] in
       ap (λ ps. with_sites t (sites_of r ps)) (parts-While line marked cond body) ∙ with_sites-append t one (sites_of r (parts_all body))
 
-pub ruleset site_forms = (site-If, site-While, with_sites-none)
+  pub site-For : (line : ℕ) (marked : Bool) (first : List RawStmt) (cond : RawExpr) (step body : List RawStmt) → with_sites t (sites_of r (parts (raw.For line marked first cond step body)))
+      ≡ with_sites (with_sites (with_sites (with_sites t (sites_of r (parts_all first))) (record { line = line; kind = kind.While; region = r } ∷ [])) (sites_of r (parts_all body)))
+      (sites_of r (parts_all step))
+  site-For line marked first cond step body =
+      let one : List SiteInfo = record { line = line; kind = kind.While; region = r } ∷ [] in let a = sites_of r (parts_all first) in
+      ap (λ ps. with_sites t (sites_of r ps)) (parts-For line marked first cond step body)
+      ∙ ap (with_sites t) (sites_of-append r (parts_all first) (loop_parts line step body))
+      ∙ with_sites-append t a (sites_of r (loop_parts line step body)) ∙ loop_sites (with_sites t a) r line step body
+
+pub ruleset site_forms = (site-If, site-While, site-For, with_sites-none)
 
 -- ---- one item of a list after the other
 
@@ -165,10 +224,10 @@ abbrev pub locals_rest : VariablesAt → List RawStmt → Variables
 locals_rest m all = with_variables m.table (main_locals m.region all)
 
 abbrev pub locals_step : VariablesAt → RawStmt → VariablesAt
-locals_step m s = record { table = with_variables m.table (locals_of (top_scope m.region s) (parts s)); region = after_top m.region s }
+locals_step m s = record { table = with_variables m.table (top_locals m.region s); region = after_top m.region s }
 
 pub main_locals_more : (m : VariablesAt) (s : RawStmt) (rest : List RawStmt) → locals_rest m (s ∷ rest) ≡ locals_rest (locals_step m s) rest
-main_locals_more m s rest = with_variables-append m.table (locals_of (top_scope m.region s) (parts s)) (main_locals (after_top m.region s) rest)
+main_locals_more m s rest = with_variables-append m.table (top_locals m.region s) (main_locals (after_top m.region s) rest)
 
 pub record SitesAt : Type 0 where
   pub table : Sites
@@ -182,32 +241,3 @@ sites_step m s = record { table = with_top m.table m.region s; region = after_to
 
 pub main_sites_more : (m : SitesAt) (s : RawStmt) (rest : List RawStmt) → sites_rest m (s ∷ rest) ≡ sites_rest (sites_step m s) rest
 main_sites_more m s rest = with_main-more m.table m.region s rest
-
--- ---- a statement at the top of `main`
-
-pub region_of-plain : (first : ℕ) (l : RawStmt-F RawStmt) (done : List Part) → is_region_at l ≡ false → region_of first l done ≡ []
-region_of-plain first (open_form.Declare line name value) done h = refl
-region_of-plain first (open_form.Assign name value) done h = refl
-region_of-plain first (open_form.Store name index value) done h = refl
-region_of-plain first (open_form.Call name args) done h = refl
-region_of-plain first (open_form.Print line value) done h = refl
-region_of-plain first (open_form.If line cond a b) done h = refl
-region_of-plain first (open_form.While line false cond body) done h = refl
-region_of-plain first (open_form.While line true cond body) done h = absurd (cc)
-
-pub top-plain : (t : Sites) (r : ℕ) (s : RawStmt) → is_region s ≡ false → with_top t r s ≡ with_sites t (sites_of 0 (parts s))
-top-plain t r s h =
-    same_sites t (ap (λ b. t.rows ++ sites_of (if b then r else 0) (parts s)) h)
-    (ap (λ xs. t.regions ++ xs) (region_of-plain t.next (out-RawStmt s) (parts s) h) ∙ append-nil t.regions)
-    (ap (λ b. t.next + length (sites_of (if b then r else 0) (parts s))) h)
-
-pub top-region : (t : Sites) (r line : ℕ) (cond : RawExpr) (body : List RawStmt) (s : RawStmt) → raw.While line true cond body ≡ s → (u : Sites) → u ≡ with_sites t (sites_of r (parts s))
-    → record u { regions = u.regions ++ record { line = line; first = record { 0 = t.next }; last = record { 0 = u.next - 1 } } ∷ [] } ≡ with_top t r s
-top-region t r line cond body s is u grown =
-    let region : is_region s ≡ true = ap is_region (sym is) ∙ is_region-While line true cond body in
-    let form : out-RawStmt s ≡ open_form.While line true cond body = ap out-RawStmt (sym is) ∙ outs-While line true cond body in
-    let count : length (sites_of r (parts s)) ≡ site_count (parts s) = length-sites_of r (parts s) in
-    (λ i. record (grown i) { regions = (grown i).regions ++ record { line = line; first = record { 0 = t.next }; last = record { 0 = (grown i).next - 1 } } ∷ [] })
-    ∙ same_sites t (ap (λ b. t.rows ++ sites_of (if b then r else 0) (parts s)) (sym region))
-    ((λ i. t.regions ++ record { line = line; first = record { 0 = t.next }; last = record { 0 = t.next + count i - 1 } } ∷ []) ∙ ap (λ l. t.regions ++ region_of t.next l (parts s)) (sym form))
-    (ap (λ b. t.next + length (sites_of (if b then r else 0) (parts s))) (sym region))

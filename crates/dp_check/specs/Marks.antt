@@ -4,7 +4,7 @@ use Rattle.dp_tree.specs.declared.raw.Name.{Name}
 use Rattle.dp_tree.specs.declared.raw.RawExpr.{RawExpr, end_of-RawExpr, more_of-RawExpr}
 use Rattle.dp_tree.specs.declared.raw.RawExpr.TheVariants as expr
 use Rattle.dp_tree.specs.declared.raw.RawStmt.{RawStmt, Row_of-RawStmt, end_of-RawStmt, more_of-RawStmt}
-use Rattle.dp_tree.specs.declared.raw.RawStmt.TheVariants.{Declare, Assign, Store, Call, Print, If', While'}
+use Rattle.dp_tree.specs.declared.raw.RawStmt.TheVariants.{Declare, Assign, Store, Call, Print, If', While', For', Break}
 use Rattle.dp_tree.specs.declared.raw.RawItem.{RawItem}
 use Rattle.dp_tree.specs.declared.raw.RawItem.TheVariants as item
 use Rattle.dp_tree.specs.declared.raw.RawProgram.{RawProgram}
@@ -66,7 +66,8 @@ abbrev pub declared : Name → ℕ → List Mark
 declared name number = Declared name (Scalar (record { 0 = number })) ∷ []
 
 abbrev mutual
-  -- a statement, where the next local has this number
+  -- A statement, where the next local has this number. The names of a `for`'s initialiser are those of a block round the
+  -- `for`, and its step is a block of its own before the body.
   pub marks : ℕ → RawStmt → List Mark
   marks next (Declare line name value) = Writes Declares name ∷ (expr_marks value ++ declared name next)
   marks next (Assign name value) = Writes Assigns name ∷ expr_marks value
@@ -76,6 +77,10 @@ abbrev mutual
   marks next (If' line cond _ then_part _ else_part) =
       expr_marks cond ++ (block (marks_in next then_part) ++ block (marks_in (next + local_count (parts_in then_part)) else_part))
   marks next (While' line marked cond _ body) = expr_marks cond ++ block (marks_in next body)
+  marks next (For' line marked _ first cond _ step _ body) =
+      block (marks_in next first ++ (expr_marks cond
+      ++ (block (marks_in ((next + local_count (parts_in first)) + local_count (parts_in body)) step) ++ block (marks_in (next + local_count (parts_in first)) body))))
+  marks next (Break line cond) = expr_marks cond
 
   -- the same of the statements of a block
   pub marks_in : {n : _} → ℕ → Row_of-RawStmt n → List Mark

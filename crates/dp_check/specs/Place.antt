@@ -2,7 +2,7 @@
 use Rattle.std.specs.Prelude.{ℕ, suc, ◌+◌, List, [], ◌∷◌, ◌++◌}
 use Rattle.dp_tree.specs.declared.raw.Name.{Name}
 use Rattle.dp_tree.specs.declared.raw.RawStmt.{RawStmt, Row_of-RawStmt, end_of-RawStmt, more_of-RawStmt}
-use Rattle.dp_tree.specs.declared.raw.RawStmt.TheVariants.{Declare, Assign, Store, Call, Print, If', While'}
+use Rattle.dp_tree.specs.declared.raw.RawStmt.TheVariants.{Declare, Assign, Store, Call, Print, If', While', For', Break}
 use Rattle.dp_tree.specs.declared.SiteKind.{SiteKind}
 use Rattle.dp_tree.specs.declared.SiteKind.TheVariants as kind
 use Rattle.dp_check.specs.declared.names.Meaning.{Meaning}
@@ -15,7 +15,7 @@ pub data Part : Type 0 where
   Local : Name → Part
 
 abbrev mutual
-  -- the parts of a statement, in text order
+  -- the parts of a statement in text order, but for a `for`: its step comes behind its body
   pub parts : RawStmt → List Part
   parts (Declare line name value) = Site line kind.Assign ∷ Local name ∷ []
   parts (Assign name value) = Site name.line kind.Assign ∷ []
@@ -24,6 +24,8 @@ abbrev mutual
   parts (Print line value) = Site line kind.Print ∷ []
   parts (If' line cond _ then_part _ else_part) = Site line kind.If ∷ (parts_in then_part ++ parts_in else_part)
   parts (While' line marked cond _ body) = Site line kind.While ∷ parts_in body
+  parts (For' line marked _ first cond _ step _ body) = parts_in first ++ (Site line kind.While ∷ (parts_in body ++ parts_in step))
+  parts (Break line cond) = Site line kind.Break ∷ []
 
   -- the same of the statements of a block
   pub parts_in : {n : _} → Row_of-RawStmt n → List Part
@@ -71,6 +73,11 @@ with_scalar p name = record (with_name p name (Scalar (record { 0 = p.variable }
 abbrev pub after : Place → RawStmt → Place
 after p (Declare line name value) = with_scalar (sited p) name
 after p s = passed p (parts s)
+
+-- the place after the statements of a block, before its end
+abbrev pub after_in : {n : _} → Place → Row_of-RawStmt n → Place
+after_in p end_of-RawStmt = p
+after_in p (more_of-RawStmt s rest) = after_in (after p s) rest
 
 -- the place after statements
 abbrev pub after_all : Place → List RawStmt → Place

@@ -1,5 +1,5 @@
 -- The tree with numbers that a tree with names stands for.
-use Rattle.std.specs.Prelude.{ℕ, ◌+◌, Bool, true, false, List, [], ◌∷◌, map, Option, Some, None, if◌then◌else◌}
+use Rattle.std.specs.Prelude.{ℕ, ◌+◌, Bool, true, false, List, [], ◌∷◌, ◌++◌, map, Option, Some, None, if◌then◌else◌}
 use Rattle.dp_base.specs.declared.SiteId.{SiteId}
 use Rattle.dp_base.specs.declared.VarId.{VarId}
 use Rattle.dp_tree.specs.declared.Expr.{Expr}
@@ -10,13 +10,13 @@ use Rattle.dp_tree.specs.declared.raw.Name.{Name}
 use Rattle.dp_tree.specs.declared.raw.RawExpr.{RawExpr, end_of-RawExpr, more_of-RawExpr}
 use Rattle.dp_tree.specs.declared.raw.RawExpr.TheVariants as raw
 use Rattle.dp_tree.specs.declared.raw.RawStmt.{RawStmt, Row_of-RawStmt, end_of-RawStmt, more_of-RawStmt, out-RawStmt}
-use Rattle.dp_tree.specs.declared.raw.RawStmt.TheVariants.{Declare, Assign, Store, Call, Print, If', While'}
-use Rattle.dp_tree.specs.declared.raw.RawStmt.TheOpen.{RawStmt-F, While}
+use Rattle.dp_tree.specs.declared.raw.RawStmt.TheVariants.{Declare, Assign, Store, Call, Print, If', While', For', Break}
+use Rattle.dp_tree.specs.declared.raw.RawStmt.TheOpen.{RawStmt-F, While, For}
 use Rattle.dp_check.specs.declared.names.Meaning.{Meaning}
 use Rattle.dp_check.specs.declared.names.Meaning.TheVariants.{Scalar, Array, Function}
 use Rattle.dp_check.specs.declared.place.Place.{Place}
 use Rattle.dp_check.specs.Names.{Named, named}
-use Rattle.dp_check.specs.Place.{sited, passed, parts_in, after, with_scalar}
+use Rattle.dp_check.specs.Place.{sited, passed, parts_in, parts_all, after, after_in, after_all, with_scalar}
 
 -- the variable's number; in a lawful text the name is one
 abbrev pub variable_of : Option Meaning → VarId
@@ -62,50 +62,66 @@ abbrev pub next_variable : Place → VarId
 next_variable p = record { 0 = p.variable }
 
 abbrev mutual
-  -- a statement at a place; a mark on a loop means nothing here
-  pub resolved : Place → RawStmt → Stmt
-  resolved p (Declare line name value) = code.Assign (next_site p) (next_variable p) (resolved_expr p.names value)
-  resolved p (Assign name value) = code.Assign (next_site p) (variable_of (named p.names name.text)) (resolved_expr p.names value)
+  -- The statements that one at a place stands for: a `for` is its initialiser and a loop whose body ends with the step, and any
+  -- other stands for one. A mark on a loop means nothing here.
+  pub resolved : Place → RawStmt → List Stmt
+  resolved p (Declare line name value) = code.Assign (next_site p) (next_variable p) (resolved_expr p.names value) ∷ []
+  resolved p (Assign name value) = code.Assign (next_site p) (variable_of (named p.names name.text)) (resolved_expr p.names value) ∷ []
   resolved p (Store name index value) =
-      code.Store (next_site p) (variable_of (named p.names name.text)) (resolved_expr p.names index) (resolved_expr p.names value)
-  resolved p (Call name args) = code.Call (function_of (named p.names name.text)) name.line (map (resolved_expr p.names) args)
-  resolved p (Print line value) = code.Print (next_site p) (resolved_expr p.names value)
+      code.Store (next_site p) (variable_of (named p.names name.text)) (resolved_expr p.names index) (resolved_expr p.names value) ∷ []
+  resolved p (Call name args) = code.Call (function_of (named p.names name.text)) name.line (map (resolved_expr p.names) args) ∷ []
+  resolved p (Print line value) = code.Print (next_site p) (resolved_expr p.names value) ∷ []
   resolved p (If' line cond _ then_part _ else_part) =
-      code.If (next_site p) (resolved_expr p.names cond) (resolved_in (sited p) then_part) (resolved_in (passed (sited p) (parts_in then_part)) else_part)
-  resolved p (While' line marked cond _ body) = code.While (next_site p) (resolved_expr p.names cond) (resolved_in (sited p) body)
+      code.If (next_site p) (resolved_expr p.names cond) (resolved_in (sited p) then_part) (resolved_in (passed (sited p) (parts_in then_part)) else_part) ∷ []
+  resolved p (While' line marked cond _ body) = code.While (next_site p) (resolved_expr p.names cond) (resolved_in (sited p) body) ∷ []
+  resolved p (For' line marked _ first cond _ step _ body) =
+      resolved_in p first ++ code.While (next_site (after_in p first)) (resolved_expr (after_in p first).names cond)
+      (resolved_in (sited (after_in p first)) body ++ resolved_in (passed (sited (after_in p first)) (parts_in body)) step) ∷ []
+  resolved p (Break line cond) = code.Break (next_site p) (resolved_expr p.names cond) ∷ []
 
   -- the same of the statements of a block
   pub resolved_in : {n : _} → Place → Row_of-RawStmt n → List Stmt
   resolved_in p end_of-RawStmt = []
-  resolved_in p (more_of-RawStmt s rest) = resolved p s ∷ resolved_in (after p s) rest
+  resolved_in p (more_of-RawStmt s rest) = resolved p s ++ resolved_in (after p s) rest
 
 -- the same of a list
 abbrev pub resolved_all : Place → List RawStmt → List Stmt
 resolved_all p [] = []
-resolved_all p (s ∷ rest) = resolved p s ∷ resolved_all (after p s) rest
+resolved_all p (s ∷ rest) = resolved p s ++ resolved_all (after p s) rest
 
 -- the form is that of a marked loop
 abbrev pub is_region_at : RawStmt-F RawStmt → Bool
 is_region_at (While line marked cond body) = marked
+is_region_at (For line marked first cond step body) = marked
 is_region_at _ = false
 
 -- a marked loop; it is a region where it stands at the top of `main`
 abbrev pub is_region : RawStmt → Bool
 is_region s = is_region_at (out-RawStmt s)
 
--- a marked loop as region r, and another statement as it was
-abbrev pub region_at : Place → ℕ → RawStmt-F RawStmt → Stmt → Stmt
-region_at p r (While line true cond body) s = code.Region r (next_site p) (resolved_expr p.names cond) (resolved_all (sited p) body)
-region_at p r _ s = s
+-- the body of a loop with a step, from the place behind its condition
+abbrev pub with_step : Place → List RawStmt → List RawStmt → List Stmt
+with_step p step body = resolved_all p body ++ resolved_all (passed p (parts_all body)) step
+
+-- region r with a step, from the place behind its initialiser
+abbrev pub stepped_region : Place → ℕ → RawExpr → List RawStmt → List RawStmt → Stmt
+stepped_region p r cond step body = code.Region r (next_site p) (resolved_expr p.names cond) (with_step (sited p) step body)
+
+-- a marked loop as region r, behind the initialiser if it has one, and another statement as it was
+abbrev pub region_at : Place → ℕ → RawStmt-F RawStmt → List Stmt → List Stmt
+region_at p r (While line true cond body) plain = code.Region r (next_site p) (resolved_expr p.names cond) (resolved_all (sited p) body) ∷ []
+region_at p r (For line true first cond step body) plain =
+    resolved_all p first ++ stepped_region (after_all p first) r cond step body ∷ []
+region_at p r _ plain = plain
 
 -- a statement at the top of `main`, where region r is the next one
-abbrev pub resolved_top : Place → ℕ → RawStmt → Stmt
+abbrev pub resolved_top : Place → ℕ → RawStmt → List Stmt
 resolved_top p r s = region_at p r (out-RawStmt s) (resolved p s)
 
 -- `main`, where region r is the next one
 abbrev pub resolved_main : Place → ℕ → List RawStmt → List Stmt
 resolved_main p r [] = []
-resolved_main p r (s ∷ rest) = resolved_top p r s ∷ resolved_main (after p s) (if is_region s then r + 1 else r) rest
+resolved_main p r (s ∷ rest) = resolved_top p r s ++ resolved_main (after p s) (if is_region s then r + 1 else r) rest
 
 -- the variables of a function's parameters
 abbrev pub param_variables : Place → List Name → List VarId

@@ -5,10 +5,11 @@ use Rattle.dp_tree.specs.declared.VarInfo.{VarInfo}
 use Rattle.dp_tree.specs.declared.VarScope.{VarScope}
 use Rattle.dp_tree.specs.declared.VarScope.TheVariants.{Global, Outer, Body}
 use Rattle.dp_tree.specs.declared.SiteInfo.{SiteInfo}
+use Rattle.dp_tree.specs.declared.SiteKind.TheVariants as kind
 use Rattle.dp_tree.specs.declared.RegionInfo.{RegionInfo}
 use Rattle.dp_tree.specs.declared.raw.Name.{Name}
 use Rattle.dp_tree.specs.declared.raw.RawStmt.{RawStmt, out-RawStmt}
-use Rattle.dp_tree.specs.declared.raw.RawStmt.TheOpen.{RawStmt-F, While}
+use Rattle.dp_tree.specs.declared.raw.RawStmt.TheOpen.{RawStmt-F, While, For}
 use Rattle.dp_tree.specs.declared.raw.RawItem.{RawItem}
 use Rattle.dp_tree.specs.declared.raw.RawItem.TheVariants.{Scalar, Array, Function}
 use Rattle.dp_tree.specs.declared.raw.RawProgram.{RawProgram}
@@ -60,13 +61,35 @@ global_of (Function name params body) = []
 abbrev pub globals : List RawItem → List VarInfo
 globals = flat_map global_of
 
--- the scope of a statement's locals at the top of `main`, where region r is the next one
-abbrev pub top_scope : ℕ → RawStmt → VarScope
-top_scope r s = if is_region s then Body r else Outer
+-- the parts of a loop with a step, behind its initialiser
+abbrev pub loop_parts : ℕ → List RawStmt → List RawStmt → List Part
+loop_parts line step body = Site line kind.While ∷ (parts_all body ++ parts_all step)
 
--- the region of a statement at the top of `main`, or 0
-abbrev pub top_region : ℕ → RawStmt → ℕ
-top_region r s = if is_region s then r else 0
+-- the parts of a statement at the top of `main` that stand outside of its region, in which an initialiser does
+abbrev pub outside_at : RawStmt-F RawStmt → List Part → List Part
+outside_at (While line true cond body) all = []
+outside_at (For line true first cond step body) all = parts_all first
+outside_at _ all = all
+
+-- the parts of a statement at the top of `main` that stand in its region, if it is one
+abbrev pub within_at : RawStmt-F RawStmt → List Part → List Part
+within_at (While line true cond body) all = all
+within_at (For line true first cond step body) all = loop_parts line step body
+within_at _ all = []
+
+abbrev pub outside : RawStmt → List Part
+outside s = outside_at (out-RawStmt s) (parts s)
+
+abbrev pub within : RawStmt → List Part
+within s = within_at (out-RawStmt s) (parts s)
+
+-- the locals of a statement at the top of `main`, where region r is the next one
+abbrev pub top_locals : ℕ → RawStmt → List VarInfo
+top_locals r s = locals_of Outer (outside s) ++ locals_of (Body r) (within s)
+
+-- the sites of a statement at the top of `main`, where region r is the next one
+abbrev pub top_sites : ℕ → RawStmt → List SiteInfo
+top_sites r s = sites_of 0 (outside s) ++ sites_of r (within s)
 
 -- the number of the next region after a statement at the top of `main`
 abbrev pub after_top : ℕ → RawStmt → ℕ
@@ -75,18 +98,22 @@ after_top r s = if is_region s then r + 1 else r
 -- the locals of `main`, where region r is the next one
 abbrev pub main_locals : ℕ → List RawStmt → List VarInfo
 main_locals r [] = []
-main_locals r (s ∷ rest) = locals_of (top_scope r s) (parts s) ++ main_locals (after_top r s) rest
+main_locals r (s ∷ rest) = top_locals r s ++ main_locals (after_top r s) rest
 
 -- the sites of `main`, where region r is the next one
 abbrev pub main_sites : ℕ → List RawStmt → List SiteInfo
 main_sites r [] = []
-main_sites r (s ∷ rest) = sites_of (top_region r s) (parts s) ++ main_sites (after_top r s) rest
+main_sites r (s ∷ rest) = top_sites r s ++ main_sites (after_top r s) rest
+
+-- the entry of a region with these parts, whose first site has this number
+abbrev pub region_info : ℕ → ℕ → List Part → RegionInfo
+region_info line first inside = record { line = line; first = record { 0 = first }; last = record { 0 = first + site_count inside - 1 } }
 
 -- the region that a statement is, whose first site has this number
 abbrev pub region_of : ℕ → RawStmt-F RawStmt → List Part → List RegionInfo
-region_of first (While line true cond body) done =
-    record { line = line; first = record { 0 = first }; last = record { 0 = first + site_count done - 1 } } ∷ []
-region_of first _ done = []
+region_of first (While line true cond body) all = region_info line first all ∷ []
+region_of first (For line true initialiser cond step body) all = region_info line (first + site_count (parts_all initialiser)) (loop_parts line step body) ∷ []
+region_of first _ all = []
 
 -- the regions of `main`, whose first site has this number
 abbrev pub regions_from : ℕ → List RawStmt → List RegionInfo

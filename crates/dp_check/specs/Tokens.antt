@@ -4,11 +4,11 @@ use Rattle.dp_tree.specs.declared.raw.Name.{Name}
 use Rattle.dp_tree.specs.declared.raw.RawExpr.{RawExpr, end_of-RawExpr, more_of-RawExpr}
 use Rattle.dp_tree.specs.declared.raw.RawExpr.TheVariants as expr
 use Rattle.dp_tree.specs.declared.raw.RawStmt.{RawStmt, Row_of-RawStmt, end_of-RawStmt, more_of-RawStmt}
-use Rattle.dp_tree.specs.declared.raw.RawStmt.TheVariants.{Declare, Assign, Store, Call, Print, If', While'}
+use Rattle.dp_tree.specs.declared.raw.RawStmt.TheVariants.{Declare, Assign, Store, Call, Print, If', While', For', Break}
 use Rattle.dp_check.specs.declared.place.Place.{Place}
 use Rattle.dp_check.specs.Names.{Named}
 use Rattle.dp_check.specs.Offence.{Token, Use, Declares, Reads, ReadsElement, Assigns, AssignsElement, Calls}
-use Rattle.dp_check.specs.Place.{sited, passed, parts_in, after, with_scalar}
+use Rattle.dp_check.specs.Place.{sited, passed, parts_in, after, after_in, with_scalar}
 
 -- a name with what it is written for, and the names that are visible there
 abbrev pub token : List Named → Use → Name → Token
@@ -30,7 +30,8 @@ args_tokens names [] = []
 args_tokens names (e ∷ rest) = expr_tokens names e ++ args_tokens names rest
 
 abbrev mutual
-  -- A name that is declared isn't visible in its own initialiser. The names of a block are visible to its end.
+  -- A name that is declared isn't visible in its own initialiser. The names of a block are visible to its end, and those of a
+  -- `for`'s initialiser to the end of the `for`. Its step stands before its body, whose numbers come first.
   pub tokens : Place → RawStmt → List Token
   tokens p (Declare line name value) = token p.names Declares name ∷ expr_tokens p.names value
   tokens p (Assign name value) = token p.names Assigns name ∷ expr_tokens p.names value
@@ -40,6 +41,10 @@ abbrev mutual
   tokens p (If' line cond _ then_part _ else_part) =
       expr_tokens p.names cond ++ (tokens_in (sited p) then_part ++ tokens_in (passed (sited p) (parts_in then_part)) else_part)
   tokens p (While' line marked cond _ body) = expr_tokens p.names cond ++ tokens_in (sited p) body
+  tokens p (For' line marked _ first cond _ step _ body) =
+      tokens_in p first ++ (expr_tokens (after_in p first).names cond
+      ++ (tokens_in (passed (sited (after_in p first)) (parts_in body)) step ++ tokens_in (sited (after_in p first)) body))
+  tokens p (Break line cond) = expr_tokens p.names cond
 
   -- the same of the statements of a block
   pub tokens_in : {n : _} → Place → Row_of-RawStmt n → List Token

@@ -21,6 +21,3 @@ mod variables;
 pub use fail::CheckFail;
 pub use law::{checked_programs, visible_names};
 pub use program::check;
-
-#[cfg(test)]
-mod tests;

@@ -19,7 +19,10 @@ fn pass(place: &mut Place<'_>, s: &RawStmt) -> Result<(), NoMemory>
             place.take_variable()?;
             Ok(())
         }
-        RawStmt::Assign { .. } | RawStmt::Store { .. } | RawStmt::Print { .. } => {
+        RawStmt::Assign { .. }
+        | RawStmt::Store { .. }
+        | RawStmt::Print { .. }
+        | RawStmt::Break { .. } => {
             place.take_site()?;
             Ok(())
         }
@@ -37,6 +40,18 @@ fn pass(place: &mut Place<'_>, s: &RawStmt) -> Result<(), NoMemory>
         RawStmt::While { body, .. } => {
             place.take_site()?;
             pass_all(place, body.as_slice())?;
+            Ok(())
+        }
+        RawStmt::For {
+            first,
+            step,
+            body,
+            ..
+        } => {
+            pass_all(place, first.as_slice())?;
+            place.take_site()?;
+            pass_all(place, body.as_slice())?;
+            pass_all(place, step.as_slice())?;
             Ok(())
         }
     }

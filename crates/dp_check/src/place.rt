@@ -18,6 +18,13 @@ pub struct Place<'a> {
     pub site: u32,
 }
 
+/// The numbers that come next.
+#[derive(Clone, Copy, Debug)]
+pub struct Numbers {
+    pub variable: u32,
+    pub site: u32,
+}
+
 /// The number after this one.
 pub fn next(number: u32) -> Result<u32, NoMemory>
     ensures { IfOk result (λ n. n ≡ number + 1) }
@@ -47,6 +54,23 @@ impl<'a> Place<'a> {
         let var = VarId(self.variable);
         self.variable = next(self.variable)?;
         Ok(var)
+    }
+
+    pub fn numbers(&self) -> Numbers
+        ensures { result ≡ record { variable = self.now.variable; site = self.now.site } }
+    {
+        Numbers {
+            variable: self.variable,
+            site: self.site,
+        }
+    }
+
+    /// Goes to these numbers, and keeps its names.
+    pub fn renumber(&mut self, numbers: Numbers)
+        ensures { self.new ≡ record self.old { variable = numbers.variable; site = numbers.site } }
+    {
+        self.variable = numbers.variable;
+        self.site = numbers.site;
     }
 
     /// One more name is visible.

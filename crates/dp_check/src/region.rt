@@ -1,13 +1,14 @@
 //! The statements of `main`, where marked loops are regions.
 
-ghost use Rattle.std.specs.Prelude.{◌≡◌, ◌+◌, ℕ, true, IfOk, OnOk, if◌then◌else◌};
+ghost use Rattle.std.specs.Prelude.{◌≡◌, ◌+◌, ◌++◌, [], ℕ, true, IfOk, OnOk, if◌then◌else◌};
 ghost use Rattle.dp_tree.specs.declared.raw.RawStmt.TheVariants as tree;
 ghost use Rattle.dp_check.specs.Place.{after, passed, parts_all, sited};
 ghost use Rattle.dp_check.specs.Resolved as spec;
-ghost use Rattle.dp_check.specs.Answer.{Gives, top_answer, main_answer};
+ghost use Rattle.dp_check.specs.Answer.{Gives, onto, with_last, stepped_answer, top_answer, main_answer};
 
+use crate::numbers::pass_all;
 use crate::place::{Place, next};
-use crate::stmt::{block, statement};
+use crate::stmt::{block, statement, statements, step_of};
 use crate::{CheckFail, expr};
 use dp_base::{NoMemory, Row};
 use dp_tree::{RawExpr, RawStmt, Stmt};
@@ -19,7 +20,7 @@ pub fn is_region(s: &RawStmt) -> bool
     ensures { result ≡ spec.is_region s.now }
 {
     match s {
-        RawStmt::While { marked, .. } => *marked,
+        RawStmt::While { marked, .. } | RawStmt::For { marked, .. } => *marked,
         _ => false,
     }
 }
@@ -32,7 +33,7 @@ fn region<'a>(
     cond: &RawExpr,
     body: &'a [RawStmt],
 ) -> Result<Stmt, CheckFail>
-    ensures value { (line : ℕ) → Gives (top_answer place.old region (tree.While line true cond.now body.now)) result }
+    ensures value { (line : ℕ) → Gives (top_answer place.old region (tree.While line true cond.now body.now)) (with_last [] result) }
     ensures place { OnOk result (place.new ≡ passed (sited place.old) (parts_all body.now)) }
 {
     let cond = expr::resolve(alloc, &place.names, cond)?;
@@ -46,14 +47,43 @@ fn region<'a>(
     })
 }
 
-/// A statement at the top of `main`, where `number` is that of the next region.
+/// A region whose body ends with a step. The initialiser's names are visible in it; the caller gives them up.
+#[tactic(auto, using(crate::proofs::RegionLemmas::stepped_answers))]
+fn stepped_region<'a>(
+    alloc: Global,
+    place: &mut Place<'a>,
+    region: u32,
+    cond: &RawExpr,
+    step: &'a [RawStmt],
+    body: &'a [RawStmt],
+) -> Result<Stmt, CheckFail>
+    ensures value { Gives (stepped_answer place.old region cond.now step.now body.now) result }
+    ensures place { OnOk result (place.new ≡ passed (sited place.old) (parts_all body.now ++ parts_all step.now)) }
+{
+    let cond = expr::resolve(alloc, &place.names, cond)?;
+    let site = place.take_site()?;
+    let last = step_of(alloc, place, step, body)?;
+    let mut body = block(alloc, place, body)?;
+    pass_all(place, step)?;
+    body.append(last)?;
+    Ok(Stmt::Region {
+        region,
+        site,
+        cond,
+        body,
+    })
+}
+
+/// The last of the statements that one at the top of `main` stands for, where `number` is that of the next region. Those
+/// before it are put behind those that are done.
 fn top<'a>(
     alloc: Global,
     place: &mut Place<'a>,
     number: u32,
     s: &'a RawStmt,
+    done: &mut Row<Stmt>,
 ) -> Result<Stmt, CheckFail>
-    ensures value { Gives (top_answer place.old number s.now) result }
+    ensures value { Gives (onto done.old (top_answer place.old number s.now)) (with_last done.new result) }
     ensures place { OnOk result (place.new ≡ after place.old s.now) }
 {
     match s {
@@ -63,7 +93,28 @@ fn top<'a>(
             body,
             ..
         } if *marked => region(alloc, place, number, cond, body.as_slice()),
-        _ => statement(alloc, place, s),
+        RawStmt::For {
+            marked,
+            first,
+            cond,
+            step,
+            body,
+            ..
+        } if *marked => {
+            let count = place.names.len();
+            statements(alloc, place, first.as_slice(), done)?;
+            let last = stepped_region(
+                alloc,
+                place,
+                number,
+                cond,
+                step.as_slice(),
+                body.as_slice(),
+            )?;
+            place.names.keep(count);
+            Ok(last)
+        }
+        _ => statement(alloc, place, s, done),
     }
 }
 
@@ -89,7 +140,8 @@ pub fn main_statements<'a>(
     let mut done = Row::new(alloc);
     let mut number = 1;
     for s in all {
-        done.push(top(alloc, place, number, s)?)?;
+        let last = top(alloc, place, number, s, &mut done)?;
+        done.push(last)?;
         number = region_after(number, s)?;
     }
     Ok(done)

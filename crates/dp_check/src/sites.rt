@@ -7,7 +7,7 @@ ghost use Rattle.dp_check.specs.Place.{parts, parts_all};
 ghost use Rattle.dp_check.specs.Tables as spec;
 
 use crate::place::next;
-use crate::region::{is_region, region_after};
+use crate::region::region_after;
 use dp_base::{NoMemory, Row, SiteId};
 use dp_tree::{RawItem, RawStmt, RegionInfo, SiteInfo, SiteKind};
 use std::alloc::Global;
@@ -56,6 +56,7 @@ impl Sites {
                 region,
             ),
             RawStmt::Print { line, .. } => self.site(*line, SiteKind::Print, region),
+            RawStmt::Break { line, .. } => self.site(*line, SiteKind::Break, region),
             RawStmt::Call { .. } => Ok(()),
             RawStmt::If {
                 line,
@@ -71,6 +72,19 @@ impl Sites {
             RawStmt::While { line, body, .. } => {
                 self.site(*line, SiteKind::While, region)?;
                 self.statements(region, body.as_slice())?;
+                Ok(())
+            }
+            RawStmt::For {
+                line,
+                first,
+                step,
+                body,
+                ..
+            } => {
+                self.statements(region, first.as_slice())?;
+                self.site(*line, SiteKind::While, region)?;
+                self.statements(region, body.as_slice())?;
+                self.statements(region, step.as_slice())?;
                 Ok(())
             }
         }
@@ -106,6 +120,21 @@ impl Sites {
             RawStmt::While { line, marked, .. } if *marked => {
                 self.statement(number, s)?;
                 self.region(*line, first)
+            }
+            RawStmt::For {
+                line,
+                marked,
+                first,
+                step,
+                body,
+                ..
+            } if *marked => {
+                self.statements(0, first.as_slice())?;
+                let start = self.next;
+                self.site(*line, SiteKind::While, number)?;
+                self.statements(number, body.as_slice())?;
+                self.statements(number, step.as_slice())?;
+                self.region(*line, start)
             }
             _ => self.statement(0, s),
         }

@@ -7,7 +7,7 @@ ghost use Rattle.dp_check.specs.Place.{Local, parts, parts_all};
 ghost use Rattle.dp_check.specs.Tables as spec;
 
 use crate::place::next;
-use crate::region::{is_region, region_after};
+use crate::region::region_after;
 use dp_base::{CellId, NoMemory, Row};
 use dp_tree::{Name, RawItem, RawStmt, VarInfo, VarScope};
 use std::alloc::Global;
@@ -29,17 +29,6 @@ fn cells_of(size: i64) -> Result<u32, NoMemory>
         return Ok(0);
     }
     u32::try_from(size).map_err(|_| NoMemory)
-}
-
-/// The scope of a statement's locals at the top of `main`.
-fn top_scope(number: u32, s: &RawStmt) -> VarScope
-    ensures { result ≡ spec.top_scope number s.now }
-{
-    if is_region(s) {
-        VarScope::Body(number)
-    } else {
-        VarScope::Outer
-    }
 }
 
 impl Variables {
@@ -130,10 +119,22 @@ impl Variables {
                 self.locals(scope, body.as_slice())?;
                 Ok(())
             }
+            RawStmt::For {
+                first,
+                step,
+                body,
+                ..
+            } => {
+                self.locals(scope, first.as_slice())?;
+                self.locals(scope, body.as_slice())?;
+                self.locals(scope, step.as_slice())?;
+                Ok(())
+            }
             RawStmt::Assign { .. }
             | RawStmt::Store { .. }
             | RawStmt::Call { .. }
-            | RawStmt::Print { .. } => Ok(()),
+            | RawStmt::Print { .. }
+            | RawStmt::Break { .. } => Ok(()),
         }
     }
 
@@ -148,11 +149,27 @@ impl Variables {
         Ok(())
     }
 
+    /// The locals of a statement at the top of `main`. An initialiser stands outside of its region.
     fn top(&mut self, number: u32, s: &RawStmt) -> Result<(), NoMemory>
-        ensures { OnOk result (self.new ≡ with_variables self.old (spec.locals_of (spec.top_scope number s.now) (parts s.now))) }
+        ensures { OnOk result (self.new ≡ with_variables self.old (spec.top_locals number s.now)) }
     {
-        let scope = top_scope(number, s);
-        self.local(scope, s)
+        match s {
+            RawStmt::While { marked, body, .. } if *marked => {
+                self.locals(VarScope::Body(number), body.as_slice())
+            }
+            RawStmt::For {
+                marked,
+                first,
+                step,
+                body,
+                ..
+            } if *marked => {
+                self.locals(VarScope::Outer, first.as_slice())?;
+                self.locals(VarScope::Body(number), body.as_slice())?;
+                self.locals(VarScope::Body(number), step.as_slice())
+            }
+            _ => self.local(VarScope::Outer, s),
+        }
     }
 
     /// The locals of `main`.

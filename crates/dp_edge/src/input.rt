@@ -7,9 +7,6 @@ ghost use Rattle.dp_edge.specs.Digits.{digit_after, magnitude_of};
 use dp_base::{NoMemory, Row};
 use std::alloc::Global;
 
-#[cfg(test)]
-mod tests;
-
 /// An input has at most so many words.
 const MOST_WORDS: usize = 65_536;
 

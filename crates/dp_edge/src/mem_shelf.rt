@@ -8,9 +8,6 @@ use dp_base::{NoMemory, Row};
 use std::alloc::Global;
 use std::marker::Model;
 
-#[cfg(test)]
-mod tests;
-
 /// One text of a shelf in memory.
 #[derive(Debug, Drop)]
 pub struct Held {

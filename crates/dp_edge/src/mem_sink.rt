@@ -4,9 +4,6 @@ use dp_base::Row;
 use std::alloc::Global;
 use std::marker::Model;
 
-#[cfg(test)]
-mod tests;
-
 /// A sink in memory, with room for a stated number of bytes or for any number. It tells its bytes.
 #[derive(Debug, Drop)]
 pub struct MemSink {

@@ -48,6 +48,11 @@ module _ (p : Program) (depth r : ℕ) (a : Piece) where
   unfolding after_one expr_in
   after-Print site e = refl
 
+  pub after-Break : (site : SiteId) (cond : Expr) → after_one p depth r a (tree.Break site cond)
+      ≡ with_statement (tree.Break (next_site a.tables) (expr_in a.names cond)) (with_text_site p r site a)
+  unfolding after_one expr_in
+  after-Break site cond = refl
+
   pub after-If : (site : SiteId) (cond : Expr) (x y : List Stmt) →
       (λ (left : Piece). (λ (right : Piece). after_one p depth r a (tree.If site cond x y)
       ≡ with_statement (tree.If (next_site a.tables) (expr_in a.names cond) left.code right.code) (record right { code = a.code }))
@@ -138,4 +143,4 @@ module _ (p : Program) (r : ℕ) (a : Piece) (f line : ℕ) (args : List Expr) w
       ap (λ (o : Option Function). followed_by a (λ names t. back_to names (followed_by (bindings p r line names (params_in o) args [] t) (expand_list p (calls_within p k) r (body_in o))))) h
       ∙ ap (λ (code : List Stmt). record c { names = a.names; code = code }) (sym (append_assoc a.code b.code c.code))
 
-pub ruleset forms = (after-Assign, after-Store, after-Print, bindings-one)
+pub ruleset forms = (after-Assign, after-Store, after-Print, after-Break, bindings-one)

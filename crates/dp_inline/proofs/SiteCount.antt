@@ -47,6 +47,7 @@ module _ (p : Program) where
           omega (arith, grown)
       count_one r (stmt.Store site x index e) names t h q n visible k = let g = grows p r site t (and_true (is_site p site.0) true h).0 in omega (arith, g)
       count_one r (stmt.Print site e) names t h q n visible k = let g = grows p r site t (and_true (is_site p site.0) true h).0 in omega (arith, g)
+      count_one r (stmt.Break site cond) names t h q n visible k = let g = grows p r site t (and_true (is_site p site.0) true h).0 in omega (arith, g)
       count_one r (stmt.If' site cond _ a _ b) names t h q n visible k =
           let u = with_source_site p r site t in
           let own = and_true (is_site p site.0) (list_all (is_site p) (site_numbers_in a ++ site_numbers_in b)) h in

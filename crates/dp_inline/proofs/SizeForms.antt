@@ -33,6 +33,10 @@ module _ (each : ℕ) (sizes : List ℕ) where
   unfolding counted_one
   size-Print site e = refl
 
+  pub size-Break : (site : SiteId) (cond : Expr) → counted_one each sizes (tree.Break site cond) ≡ 1
+  unfolding counted_one
+  size-Break site cond = refl
+
   pub size-If : (site : SiteId) (cond : Expr) (a b : List Stmt) → counted_one each sizes (tree.If site cond a b) ≡ 1 + (counted_list each sizes a + counted_list each sizes b)
   unfolding counted_one counted_list opened_statement
   size-If site cond a b = ap₂ (λ (m n : ℕ). 1 + (m + n)) (size_hidden each (counted sizes) a) (size_hidden each (counted sizes) b)
@@ -57,7 +61,7 @@ module _ (each : ℕ) (sizes : List ℕ) where
   unfolding counted_list counted_one
   size-more s rest = refl
 
-pub ruleset size_forms = (size-Assign, size-Store, size-Print, size-If, size-While, size-Region, size-Call)
+pub ruleset size_forms = (size-Assign, size-Store, size-Print, size-Break, size-If, size-While, size-Region, size-Call)
 
 -- the verdict from its parts
 pub verdict_is : (p : Program) → verdict p ≡ unless (too_large p) (unless (first_large_region p p.main) (Ok (expand p)))

@@ -25,6 +25,7 @@ module _ (each : ℕ) (p : Program) (n : ℕ) (c d : ℕ → ℕ) (same : (g : �
     agree_one r visible (tree.Assign site x e) h = refl
     agree_one r visible (tree.Store site x index e) h = refl
     agree_one r visible (tree.Print site e) h = refl
+    agree_one r visible (tree.Break site cond) h = refl
     agree_one r visible (tree.If' site cond _ a _ b) h =
         let both = and_true (rows_in_scope p r n visible a) (rows_in_scope p r n visible b) (and_true (knows visible cond) (rows_in_scope p r n visible a && rows_in_scope p r n visible b) h).1 in
         let e = agree_rows r visible a both.0 in

@@ -14,6 +14,7 @@ unfoldable mutual
   work_one calls (tree.Assign site x e) = 0
   work_one calls (tree.Store site x index e) = 0
   work_one calls (tree.Print site e) = 0
+  work_one calls (tree.Break site cond) = 0
   work_one calls (tree.If' site cond _ a _ b) = 3 + (work_rows calls a + work_rows calls b)
   work_one calls (tree.While' site cond _ a) = 3 + work_rows calls a
   work_one calls (tree.Region' q site cond _ a) = 3 + work_rows calls a

@@ -1,7 +1,7 @@
 -- How large the expanded program is, as read off the program with its calls.
 use Rattle.std.specs.Prelude.{ℕ, zero, suc, ◌+◌, Bool, true, false, List, [], ◌∷◌, length, slice_get}
 use Rattle.dp_tree.specs.declared.Stmt.{Stmt, Row_of-Stmt, end_of-Stmt, more_of-Stmt}
-use Rattle.dp_tree.specs.declared.Stmt.TheVariants.{Assign, Store, Print, If', While', Region', Call}
+use Rattle.dp_tree.specs.declared.Stmt.TheVariants.{Assign, Store, Print, If', While', Region', Break, Call}
 use Rattle.dp_tree.specs.declared.Program.{Program}
 use Rattle.dp_tree.specs.Functions.{body_in}
 use Rattle.dp_tree.specs.Numbering.{is_marked}
@@ -16,6 +16,7 @@ abbrev mutual
   size_one each calls (If' site cond _ then_part _ else_part) = 1 + (size_rows each calls then_part + size_rows each calls else_part)
   size_one each calls (While' site cond _ body) = 1 + size_rows each calls body
   size_one each calls (Region' r site cond _ body) = 1 + size_rows each calls body
+  size_one each calls (Break site cond) = 1
   size_one each calls (Call f line args) = each + (length args + calls f)
 
   -- the same of several statements

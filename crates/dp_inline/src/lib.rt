@@ -13,8 +13,6 @@ mod program;
 mod site;
 mod size;
 mod stmt;
-#[cfg(test)]
-mod tests;
 
 pub use fail::InlineFail;
 pub use law::sizes_count_sites;

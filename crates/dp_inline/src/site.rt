@@ -107,3 +107,20 @@ pub fn print(
     })?;
     Ok(())
 }
+
+#[tactic(auto, using(crate::proofs::FormLemmas::forms))]
+pub fn exit(
+    p: &Program,
+    region: u32,
+    out: &mut Writer,
+    site: SiteId,
+    cond: &Expr,
+) -> Result<(), NoMemory>
+    ensures { OnOk result ((depth : ℕ) → written out.new ≡ after_one p.now depth region (written out.old) (tree.Break site cond.now)) }
+{
+    let cond = out.rename(cond)?;
+    let number = out.next()?;
+    out.source_site(p, region, site)?;
+    out.put(Stmt::Break { site: number, cond })?;
+    Ok(())
+}

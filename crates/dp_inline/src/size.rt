@@ -52,7 +52,7 @@ fn size_of(each: u32, sizes: &[u32], s: &Stmt) -> u32
     ensures small { result ≤ 1000000 }
 {
     match s {
-        Stmt::Assign { .. } | Stmt::Store { .. } | Stmt::Print { .. } => 1,
+        Stmt::Assign { .. } | Stmt::Store { .. } | Stmt::Print { .. } | Stmt::Break { .. } => 1,
         Stmt::If {
             then_part,
             else_part,

@@ -6,7 +6,7 @@ ghost use Rattle.dp_inline.specs.Written.{written, emptied, after_one, after_lis
 
 use crate::binding::bindings;
 use crate::piece::Writer;
-use crate::site::{assign, head, line, print, store};
+use crate::site::{assign, exit, head, line, print, store};
 use dp_base::{NoMemory, Row, SiteId};
 use dp_tree::{Expr, Program, Stmt};
 
@@ -152,6 +152,7 @@ fn statement(
             cond,
             body,
         } => marked(p, depth, *region, out, *site, cond, body),
+        Stmt::Break { site, cond } => exit(p, around, out, *site, cond),
         Stmt::Call {
             function,
             line,

@@ -5,8 +5,6 @@ mod front;
 mod law;
 mod lexer;
 mod tables;
-#[cfg(test)]
-mod tests;
 
 pub use law::{a_last_answer_is_given_again, each_text_is_read_in_one_way};
 pub use lexer::Lexer;

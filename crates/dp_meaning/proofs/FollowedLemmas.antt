@@ -1,64 +1,95 @@
 -- What is left to do after a step keeps its shape, and what stands from the next region on.
-use Rattle.std.proofs.Common.{◌≡◌, sym, ap, ◌∙◌, Bool, true, false, if◌then◌else◌, IsTrue, List, ◌∷◌, ◌++◌, ℤ}
+use Rattle.std.proofs.Common.{◌≡◌, refl, sym, ap, ◌∙◌, Bool, true, false, not, if◌then◌else◌, IsTrue, List, [], ◌∷◌, ◌++◌, drop, ℤ}
 use Rattle.std.specs.List.{list_all}
 use Rattle.dp_base.specs.Arithmetic.{is_zero}
 use Rattle.dp_tree.specs.declared.Stmt.{Stmt, out-Stmt}
-use Rattle.dp_tree.specs.declared.Stmt.TheOpen.{Stmt-F, Assign, Store, Print, If, While, Region, Call}
-use Rattle.dp_tree.specs.Step.{choose, followed}
-use Rattle.dp_meaning.specs.Runnable.{is_simple, is_outer}
-use Rattle.dp_meaning.specs.MachineState.{part_from, is_any_region, from_region}
-use Rattle.dp_meaning.specs.Turn.{closes}
-use Rattle.dp_meaning.proofs.OuterLemmas.{both, both_make, all_append, outer_at, all_outer, from_region-append}
+use Rattle.dp_tree.specs.declared.Stmt.TheOpen.{Stmt-F, Assign, Store, Print, If, While, Region, Break, Call}
+use Rattle.dp_tree.specs.Step.{choose, followed, behind_region, behind_one, region_number}
+use Rattle.dp_tree.proofs.Heads.{taken}
+use Rattle.dp_meaning.specs.Runnable.{is_simple, is_inside, is_outer}
+use Rattle.dp_meaning.specs.MachineState.{is_any_region, from_region}
+use Rattle.dp_meaning.proofs.OuterLemmas.{both, both_make, all_append, simple_at, inside_at, all_outer, simple_inside, from_region-append}
 
 abbrev outer : List Stmt → Type 0
 outer xs = IsTrue (list_all is_outer xs)
 
+abbrev inside : List Stmt → Type 0
+inside xs = IsTrue (list_all is_inside xs)
+
 abbrev simple : List Stmt → Type 0
 simple xs = IsTrue (list_all is_simple xs)
 
--- what follows a statement of this form, whose value is this
-module _ (s : Stmt) (rest : List Stmt) (z : ℤ) (here : IsTrue (is_outer s)) (later : outer rest) where
-  chosen : (b : Bool) (xs ys : List Stmt) → outer xs → outer ys → outer (if b then ys else xs)
-  chosen true xs ys h k = k
-  chosen false xs ys h k = h
+abbrev True : Bool → Type 0
+True b = IsTrue b
 
-  again : (body : List Stmt) → simple body → outer (body ++ s ∷ rest)
-  again body h = all_append is_outer body (s ∷ rest) (all_outer body h) (both_make (is_outer s) (list_all is_outer rest) here later)
+-- what is behind the first region begins behind it
+pub left_behind : (xs : List Stmt) → behind_region xs ≡ drop 1 (from_region xs)
+left_behind [] = refl
+left_behind (x ∷ xs) = by (out-Stmt x) (left_behind xs)
+  where
+    by : (h : Stmt-F Stmt) → behind_region xs ≡ drop 1 (from_region xs) → behind_one (region_number h) xs (behind_region xs) ≡ drop 1 (if is_any_region h then x ∷ xs else from_region xs)
+    by (Region r site cond a) later = refl
+    by (Assign site y e) later = later
+    by (Store site y index e) later = later
+    by (Print site e) later = later
+    by (If site cond a b) later = later
+    by (While site cond a) later = later
+    by (Break site cond) later = later
+    by (Call f line args) later = later
 
-  pub outer_followed : (h : Stmt-F Stmt) → IsTrue (outer_at h) → outer (followed s rest h z)
-  outer_followed (Assign site x e) k = later
-  outer_followed (Store site x index e) k = later
-  outer_followed (Print site e) k = later
-  outer_followed (If site cond a b) k =
-      let r = both (list_all is_simple a) (list_all is_simple b) k in
-      all_append is_outer (choose z a b) rest (chosen (is_zero z) a b (all_outer a r.0) (all_outer b r.1)) later
-  outer_followed (While site cond a) k = chosen (is_zero z) (a ++ s ∷ rest) rest (again a k) later
-  outer_followed (Region r site cond a) k = chosen (is_zero z) (a ++ s ∷ rest) rest (again a k) later
-  outer_followed (Call f line args) k = later
+chosen : (P : List Stmt → Type 0) (b : Bool) (xs ys : List Stmt) → P xs → P ys → P (if b then ys else xs)
+chosen P true xs ys h k = k
+chosen P false xs ys h k = h
 
-  behind_chosen : (b : Bool) (xs ys tail : List Stmt) → simple xs → simple ys → from_region ((if b then ys else xs) ++ tail) ≡ from_region tail
-  behind_chosen true xs ys tail h k = from_region-append ys tail k
-  behind_chosen false xs ys tail h k = from_region-append xs tail h
+-- what follows a simple statement of `main`
+module _ (s : Stmt) (rest : List Stmt) (z : ℤ) where
+  abbrev Keeps : List Stmt → Type 0
+  Keeps xs = outer xs × (from_region xs ≡ from_region (s ∷ rest))
 
-  -- the statement at the head is no region
-  passed : is_any_region (out-Stmt s) ≡ false → from_region (s ∷ rest) ≡ from_region rest
-  passed e = ap (λ b. if b then s ∷ rest else from_region rest) e
+  module _ (here : IsTrue (is_outer s)) (later : outer rest) (no : is_any_region (out-Stmt s) ≡ false) where
+    passed : from_region (s ∷ rest) ≡ from_region rest
+    passed = ap (λ b. if b then s ∷ rest else from_region rest) no
 
-  behind_loop : (b : Bool) (body : List Stmt) → simple body → from_region (s ∷ rest) ≡ from_region rest → from_region (if b then rest else body ++ s ∷ rest) ≡ from_region (s ∷ rest)
-  behind_loop true body h e = sym e
-  behind_loop false body h e = from_region-append body (s ∷ rest) h
+    kept : Keeps rest
+    kept = (later, sym passed)
 
-  behind_region : (b : Bool) (body : List Stmt) → simple body → b ≡ false → from_region (if b then rest else body ++ s ∷ rest) ≡ from_region (s ∷ rest)
-  behind_region true body h e = absurd (cc)
-  behind_region false body h e = from_region-append body (s ∷ rest) h
+    before : (xs : List Stmt) → simple xs → Keeps (xs ++ rest)
+    before xs h = (all_append is_outer xs rest (all_outer xs h) later, from_region-append xs rest (simple_inside xs h) ∙ sym passed)
 
-  pub behind_followed : (h : Stmt-F Stmt) → out-Stmt s ≡ h → IsTrue (outer_at h) → closes (part_from h) (is_zero z) ≡ false → from_region (followed s rest h z) ≡ from_region (s ∷ rest)
-  behind_followed (Assign site x e) is k stays = sym (passed (ap is_any_region is))
-  behind_followed (Store site x index e) is k stays = sym (passed (ap is_any_region is))
-  behind_followed (Print site e) is k stays = sym (passed (ap is_any_region is))
-  behind_followed (If site cond a b) is k stays =
-      let r = both (list_all is_simple a) (list_all is_simple b) k in
-      behind_chosen (is_zero z) a b rest r.0 r.1 ∙ sym (passed (ap is_any_region is))
-  behind_followed (While site cond a) is k stays = behind_loop (is_zero z) a k (passed (ap is_any_region is))
-  behind_followed (Region r site cond a) is k stays = behind_region (is_zero z) a k stays
-  behind_followed (Call f line args) is k stays = absurd (cc)
+    looped : (xs : List Stmt) → simple xs → Keeps (xs ++ s ∷ rest)
+    looped xs h = (all_append is_outer xs (s ∷ rest) (all_outer xs h) (both_make (is_outer s) (list_all is_outer rest) here later), from_region-append xs (s ∷ rest) (simple_inside xs h))
+
+    branch : (b : Bool) (xs ys : List Stmt) → simple xs → simple ys → Keeps ((if b then ys else xs) ++ rest)
+    branch true xs ys h k = before ys k
+    branch false xs ys h k = before xs h
+
+    pub outer_followed : (h : Stmt-F Stmt) → IsTrue (simple_at h) → Keeps (followed s rest h z)
+    outer_followed (Assign site x e) k = kept
+    outer_followed (Store site x index e) k = kept
+    outer_followed (Print site e) k = kept
+    outer_followed (If site cond a b) k = let r = both (list_all is_simple a) (list_all is_simple b) k in branch (is_zero z) a b r.0 r.1
+    outer_followed (While site cond a) k = chosen Keeps (is_zero z) (a ++ s ∷ rest) rest (looped a k) kept
+    outer_followed (Region r site cond a) k = absurd (cc)
+    outer_followed (Break site cond) k = absurd (cc)
+    outer_followed (Call f line args) k = absurd (cc)
+
+  -- what follows a statement of a body, unless that leaves it
+  module _ (here : IsTrue (is_inside s)) (later : inside rest) where
+    again : (xs : List Stmt) → simple xs → inside (xs ++ s ∷ rest)
+    again xs h = all_append is_inside xs (s ∷ rest) (simple_inside xs h) (both_make (is_inside s) (list_all is_inside rest) here later)
+
+    tried : (b : Bool) → not b ≡ false → inside (if b then rest else behind_region rest)
+    tried true e = later
+    tried false e = absurd (cc)
+
+    pub inside_followed : (h : Stmt-F Stmt) → IsTrue (inside_at h) → taken h z ≡ false → inside (followed s rest h z)
+    inside_followed (Assign site x e) k t = later
+    inside_followed (Store site x index e) k t = later
+    inside_followed (Print site e) k t = later
+    inside_followed (If site cond a b) k t =
+        let r = both (list_all is_simple a) (list_all is_simple b) k in
+        all_append is_inside (choose z a b) rest (chosen inside (is_zero z) a b (simple_inside a r.0) (simple_inside b r.1)) later
+    inside_followed (While site cond a) k t = chosen inside (is_zero z) (a ++ s ∷ rest) rest (again a k) later
+    inside_followed (Region r site cond a) k t = absurd (cc)
+    inside_followed (Break site cond) k t = tried (is_zero z) t
+    inside_followed (Call f line args) k t = absurd (cc)

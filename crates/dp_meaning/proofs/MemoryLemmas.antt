@@ -1,9 +1,14 @@
 -- Stores and clearing.
-use Rattle.std.proofs.Common.{◌≡◌, refl, sym, ◌∙◌, ap, ℕ, ◌+◌, ◌<◌, ◌≤◌, suc, Bool, true, false, List, [], ◌∷◌, ◌++◌, replicate, drop, get_or, length, slice_set, if◌then◌else◌, ℤ, pos, add-one, drop-cons, length-set}
+use Rattle.std.proofs.Common.{◌≡◌, refl, sym, ◌∙◌, ap, ℕ, ◌+◌, ◌<◌, ◌≤◌, suc, Bool, true, false, List, [], ◌∷◌, ◌++◌, replicate, drop, get_or, length, slice_set, if◌then◌else◌, Option, Some, None, ℤ, pos, add-one, drop-cons, length-set}
 use Rattle.std.proofs.Math.Seq.{set_out}
+use Rattle.dp_base.specs.declared.StoreOf.{StoreOf}
+use Rattle.dp_tree.specs.declared.Stmt.{Stmt, out-Stmt}
+use Rattle.dp_tree.specs.declared.Program.{Program}
 use Rattle.dp_tree.specs.declared.VarInfo.{VarInfo}
 use Rattle.dp_tree.specs.Trace.{start_cells}
-use Rattle.dp_tree.specs.Step.{is_local_of, clear_locals}
+use Rattle.dp_tree.specs.Step.{is_local_of, clear_locals, region_number, clear_one, cleared_leaving}
+use Rattle.dp_meaning.specs.NextIteration.{with_stores}
+use Rattle.dp_meaning.specs.Parts.{first_of, first_region}
 
 -- a store past the end changes nothing
 pub store_out : (cells : List ℤ) (c : ℕ) (v : ℤ) → length cells ≤ c → slice_set cells c v ≡ cells
@@ -27,15 +32,40 @@ length-clear_locals r [] cells = refl
 length-clear_locals r (x ∷ vars) cells =
     length-clear_locals r vars (if is_local_of r x.scope then slice_set cells x.first.0 (pos 0) else cells) ∙ length-unless (is_local_of r x.scope) cells x.first.0
 
--- one that is no body local needn't be looked at
-pub clear_other : (r : ℕ) (vars : List VarInfo) (i : ℕ) (x : VarInfo) (cells : List ℤ) → i < length vars → x ≡ get_or vars i x → is_local_of r x.scope ≡ false →
-    clear_locals r (drop (i + 1) vars) cells ≡ clear_locals r (drop i vars) cells
-clear_other r vars i x cells h is other =
-    sym (clear_next r vars i x cells h is ∙ ap (λ (b : Bool). clear_locals r (drop (i + 1) vars) (if b then slice_set cells x.first.0 (pos 0) else cells)) other)
+-- one store more is made
+pub store_next : (list : List StoreOf) (i : ℕ) (x : StoreOf) (cells : List ℤ) → i < length list → x ≡ get_or list i x →
+    with_stores (drop i list) cells ≡ with_stores (drop (i + 1) list) (slice_set cells x.cell.0 x.value)
+store_next list i x cells h is =
+    let here : drop i list ≡ x ∷ drop (suc i) list = drop-cons list i x h ∙ ap (λ (y : StoreOf). y ∷ drop (suc i) list) (sym is) in
+    rw (add-one) (ap (λ (xs : List StoreOf). with_stores xs cells) here)
+
+pub length-with_stores : (list : List StoreOf) (cells : List ℤ) → length (with_stores list cells) ≡ length cells
+length-with_stores [] cells = refl
+length-with_stores (s ∷ rest) cells = length-with_stores rest (slice_set cells s.cell.0 s.value) ∙ length-set cells s.cell.0 s.value
+
+pub ruleset makes = (store_next)
+
+-- what is cleared where a region is left
+pub leaving : (p : Program) (xs : List Stmt) (cells : List ℤ) → cleared_leaving p xs cells ≡ clear_one p (first_region xs) cells cells
+leaving p [] cells = refl
+leaving p (x ∷ xs) cells = by (region_number (out-Stmt x)) (leaving p xs cells)
+  where
+    by : (o : Option ℕ) → cleared_leaving p xs cells ≡ clear_one p (first_region xs) cells cells → clear_one p o cells (cleared_leaving p xs cells) ≡ clear_one p (first_of o (first_region xs)) cells cells
+    by None later = later
+    by (Some r) later = refl
+
+length-clear_one : (p : Program) (o : Option ℕ) (cells : List ℤ) → length (clear_one p o cells cells) ≡ length cells
+length-clear_one p None cells = refl
+length-clear_one p (Some r) cells = length-clear_locals r p.vars cells
+
+pub length-cleared_leaving : (p : Program) (xs : List Stmt) (cells : List ℤ) → length (cleared_leaving p xs cells) ≡ length cells
+length-cleared_leaving p xs cells = ap length (leaving p xs cells) ∙ length-clear_one p (first_region xs) cells
+
+pub ruleset leaves = (leaving, length-clear_locals)
 
 pub ruleset clears = (clear_next)
 
-pub ruleset lengths = (length-clear_locals)
+pub ruleset lengths = (length-clear_locals, length-with_stores, length-cleared_leaving)
 
 -- one variable more has its cells
 pub start_next : (vars : List VarInfo) (i : ℕ) (x : VarInfo) → i < length vars → x ≡ get_or vars i x →

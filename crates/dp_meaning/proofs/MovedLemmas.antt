@@ -1,7 +1,7 @@
 -- What one step, or two pieces one after the other, do to a machine.
 use Rattle.std.proofs.Common.{◌≡◌, refl, sym, ◌∙◌, ap, subst, ℕ, suc, Bool, ◌+◌, ◌-◌, ◌<◌, List, [], ◌∷◌, ◌++◌, append_assoc, append-nil, length-append, ℤ, arith}
 use Rattle.std.proofs.lemmas.List.Elements.{filter_map-append}
-use Rattle.dp_tree.specs.Step.{Config, Event, Stepped, step}
+use Rattle.dp_tree.specs.Step.{Config, Event}
 use Rattle.dp_tree.specs.Trace.{run_of, prints, printed_by}
 use Rattle.dp_meaning.specs.MachineState.{MachineState, fuel_left, rest_of_run}
 use Rattle.dp_meaning.specs.Continues.{Continues}
@@ -27,18 +27,11 @@ moved_join a b c x y z es fs cs ds h k = record {
   fuel = k.fuel ∙ h.fuel;
 }
 
--- one step, to this configuration
-run_stepped : (m : MachineState) (d : Config) (event : Event) → m.steps < m.fuel → step m.program m.input m.config ≡ Stepped event d →
-    Continues (rest_of_run m) (event ∷ []) (m.config ∷ []) (rest_of_run (stepped_to m d))
-run_stepped m d event h e =
-    let left : fuel_left m ≡ suc (m.fuel - (m.steps + 1)) = omega (arith, h) in
-    let From : ℕ → Type 0 = λ n. Continues (run_of m.program m.input n m.config) (event ∷ []) (m.config ∷ []) (rest_of_run (stepped_to m d)) in
-    subst From (sym left) (continues_step m.program m.input (m.fuel - (m.steps + 1)) m.config d event e)
-
-pub moved_stepped : (m : MachineState) (d : Config) (x z : List ℤ) (event : Event) → m.steps < m.fuel → step m.program m.input m.config ≡ Stepped event d →
-    z ≡ x ++ prints (event ∷ []) → Moved m (stepped_to m d) x z (event ∷ []) (m.config ∷ [])
-moved_stepped m d x z event h e printed = record { run = run_stepped m d event h e; prints = printed; steps = refl; program = refl; input = refl; fuel = refl }
-
-pub moved_step : (v : Bool) (m n : MachineState) (x z : List ℤ) → m.steps < m.fuel → (s : StepTaken v m n x z) → Moved m n x z (s.event ∷ []) (m.config ∷ [])
-moved_step v m n x z h s =
-    subst (λ (t : MachineState). Moved m t x z (s.event ∷ []) (m.config ∷ [])) (sym s.rest) (moved_stepped m n.config x z s.event h s.stepped s.printed)
+-- one step, to this machine
+pub moved_step : (left : Bool) (m n : MachineState) (x z : List ℤ) → m.steps < m.fuel → (s : StepTaken left m n x z) → Moved m n x z (s.event ∷ []) (m.config ∷ [])
+moved_step left m n x z h s =
+    let room : fuel_left m ≡ suc (m.fuel - (m.steps + 1)) = omega (arith, h) in
+    let From : ℕ → Type 0 = λ k. Continues (run_of m.program m.input k m.config) (s.event ∷ []) (m.config ∷ []) (rest_of_run (stepped_to left m n.config)) in
+    let run = subst From (sym room) (continues_step m.program m.input (m.fuel - (m.steps + 1)) m.config n.config s.event s.stepped) in
+    let moved : Moved m (stepped_to left m n.config) x z (s.event ∷ []) (m.config ∷ []) = record { run = run; prints = s.printed; steps = refl; program = refl; input = refl; fuel = refl } in
+    subst (λ (t : MachineState). Moved m t x z (s.event ∷ []) (m.config ∷ [])) (sym s.rest) moved

@@ -1,14 +1,12 @@
 -- Simple statements and those of `main`, and what is left of them after a step.
-use Rattle.std.proofs.Common.{◌≡◌, refl, sym, ap, ◌∙◌, subst, ℕ, zero, suc, ◌<◌, Bool, true, false, ◌&&◌, if◌then◌else◌, IsTrue, List, [], ◌∷◌, ◌++◌, drop, length, arith}
+use Rattle.std.proofs.Common.{◌≡◌, refl, sym, ap, ◌∙◌, subst, Bool, true, false, ◌&&◌, if◌then◌else◌, IsTrue, List, [], ◌∷◌, ◌++◌}
 use Rattle.std.specs.List.{list_all}
 use Rattle.dp_tree.specs.declared.Stmt.{Stmt, out-Stmt, roll-Stmt, roll-out-Stmt}
-use Rattle.dp_tree.specs.declared.Stmt.TheViews.{rolls-Assign, rolls-Store, rolls-Print, rolls-If, rolls-While, rolls-Region, rolls-Call}
-use Rattle.dp_tree.specs.declared.Stmt.TheOpen.{Stmt-F, Assign, Store, Print, If, While, Region, Call}
-use Rattle.dp_meaning.specs.Runnable.{is_simple, are_simple, is_outer, is_outer_at}
-use Rattle.dp_base.specs.declared.SiteId.{SiteId}
-use Rattle.dp_tree.specs.declared.Expr.{Expr}
+use Rattle.dp_tree.specs.declared.Stmt.TheViews.{rolls-Assign, rolls-Store, rolls-Print, rolls-If, rolls-While, rolls-Region, rolls-Break, rolls-Call}
+use Rattle.dp_tree.specs.declared.Stmt.TheOpen.{Stmt-F, Assign, Store, Print, If, While, Region, Break, Call}
+use Rattle.dp_meaning.specs.Runnable.{is_simple, are_simple, is_inside, is_outer, is_outer_at}
 use Rattle.dp_meaning.specs.declared.ends.Part.TheVariants as part
-use Rattle.dp_meaning.specs.MachineState.{part_from, part_of, is_any_region, from_region}
+use Rattle.dp_meaning.specs.MachineState.{part_from, is_any_region, from_region}
 
 pub both : (a b : Bool) → IsTrue (a && b) → IsTrue a × IsTrue b
 both true b h = (refl, h)
@@ -43,6 +41,7 @@ abbrev pub simple_at : Stmt-F Stmt → Bool
 simple_at (If site cond a b) = all_simple a && all_simple b
 simple_at (While site cond a) = all_simple a
 simple_at (Region r site cond a) = false
+simple_at (Break site cond) = false
 simple_at (Call f line args) = false
 simple_at _ = true
 
@@ -54,14 +53,37 @@ simple_roll (Print site e) = ap is_simple (rolls-Print site e)
 simple_roll (If site cond a b) = ap is_simple (rolls-If site cond a b) ∙ ap (λ w. w && hidden_simple b) (simple_hidden a) ∙ ap (λ w. all_simple a && w) (simple_hidden b)
 simple_roll (While site cond a) = ap is_simple (rolls-While site cond a) ∙ simple_hidden a
 simple_roll (Region r site cond a) = ap is_simple (rolls-Region r site cond a)
+simple_roll (Break site cond) = ap is_simple (rolls-Break site cond)
 simple_roll (Call f line args) = ap is_simple (rolls-Call f line args)
 
 pub simple_out : (x : Stmt) → is_simple x ≡ simple_at (out-Stmt x)
 simple_out x = ap is_simple (sym (roll-out-Stmt x)) ∙ simple_roll (out-Stmt x)
 
+-- a statement at the top of a region's body, by its head
+abbrev pub inside_at : Stmt-F Stmt → Bool
+inside_at (Break site cond) = true
+inside_at h = simple_at h
+
+abbrev pub all_inside : List Stmt → Bool
+all_inside xs = list_all is_inside xs
+
+inside_roll : (h : Stmt-F Stmt) → is_inside (roll-Stmt h) ≡ inside_at h
+unfolding opened
+inside_roll (Assign site x e) = ap is_inside (rolls-Assign site x e)
+inside_roll (Store site x index e) = ap is_inside (rolls-Store site x index e)
+inside_roll (Print site e) = ap is_inside (rolls-Print site e)
+inside_roll (If site cond a b) = ap is_inside (rolls-If site cond a b) ∙ sym (ap is_simple (rolls-If site cond a b)) ∙ simple_roll (If site cond a b)
+inside_roll (While site cond a) = ap is_inside (rolls-While site cond a) ∙ sym (ap is_simple (rolls-While site cond a)) ∙ simple_roll (While site cond a)
+inside_roll (Region r site cond a) = ap is_inside (rolls-Region r site cond a)
+inside_roll (Break site cond) = ap is_inside (rolls-Break site cond)
+inside_roll (Call f line args) = ap is_inside (rolls-Call f line args)
+
+pub inside_out : (x : Stmt) → is_inside x ≡ inside_at (out-Stmt x)
+inside_out x = ap is_inside (sym (roll-out-Stmt x)) ∙ inside_roll (out-Stmt x)
+
 -- a statement of `main`, by its head
 abbrev pub outer_at : Stmt-F Stmt → Bool
-outer_at (Region r site cond a) = all_simple a
+outer_at (Region r site cond a) = all_inside a
 outer_at h = simple_at h
 
 outer_by : (x : Stmt) (h : Stmt-F Stmt) → out-Stmt x ≡ h → is_outer_at x h ≡ outer_at h
@@ -71,55 +93,50 @@ outer_by x (Print site e) is = simple_out x ∙ ap simple_at is
 outer_by x (If site cond a b) is = simple_out x ∙ ap simple_at is
 outer_by x (While site cond a) is = simple_out x ∙ ap simple_at is
 outer_by x (Region r site cond a) is = refl
+outer_by x (Break site cond) is = simple_out x ∙ ap simple_at is
 outer_by x (Call f line args) is = simple_out x ∙ ap simple_at is
 
 pub outer_out : (x : Stmt) → is_outer x ≡ outer_at (out-Stmt x)
 outer_out x = outer_by x (out-Stmt x) refl
 
-simple_outer_at : (h : Stmt-F Stmt) → IsTrue (simple_at h) → IsTrue (outer_at h) × (is_any_region h ≡ false)
-simple_outer_at (Assign site x e) h = (refl, refl)
-simple_outer_at (Store site x index e) h = (refl, refl)
-simple_outer_at (Print site e) h = (refl, refl)
-simple_outer_at (If site cond a b) h = (h, refl)
-simple_outer_at (While site cond a) h = (h, refl)
-simple_outer_at (Region r site cond a) h = absurd (cc)
-simple_outer_at (Call f line args) h = absurd (cc)
-
 abbrev True : Bool → Type 0
 True b = IsTrue b
 
--- a simple statement is one of `main`, and no region
-pub simple_outer : (x : Stmt) → IsTrue (is_simple x) → IsTrue (is_outer x) × (is_any_region (out-Stmt x) ≡ false)
+simple_outer_at : (h : Stmt-F Stmt) → IsTrue (simple_at h) → IsTrue (outer_at h) × IsTrue (inside_at h)
+simple_outer_at (Assign site x e) h = (refl, refl)
+simple_outer_at (Store site x index e) h = (refl, refl)
+simple_outer_at (Print site e) h = (refl, refl)
+simple_outer_at (If site cond a b) h = (h, h)
+simple_outer_at (While site cond a) h = (h, h)
+simple_outer_at (Region r site cond a) h = absurd (cc)
+simple_outer_at (Break site cond) h = absurd (cc)
+simple_outer_at (Call f line args) h = absurd (cc)
+
+-- a simple statement is one of `main`, and one of a body
+pub simple_outer : (x : Stmt) → IsTrue (is_simple x) → IsTrue (is_outer x) × IsTrue (is_inside x)
 simple_outer x h =
     let r = simple_outer_at (out-Stmt x) (subst True (simple_out x) h) in
-    (subst True (sym (outer_out x)) r.0, r.1)
+    (subst True (sym (outer_out x)) r.0, subst True (sym (inside_out x)) r.1)
 
 pub all_outer : (xs : List Stmt) → IsTrue (all_simple xs) → IsTrue (list_all is_outer xs)
 all_outer [] h = refl
 all_outer (x ∷ xs) h = let r = both (is_simple x) (all_simple xs) h in both_make (is_outer x) (list_all is_outer xs) (simple_outer x r.0).0 (all_outer xs r.1)
 
--- behind simple statements stands what stood there before
-pub from_region-append : (xs ys : List Stmt) → IsTrue (all_simple xs) → from_region (xs ++ ys) ≡ from_region ys
+pub simple_inside : (xs : List Stmt) → IsTrue (all_simple xs) → IsTrue (all_inside xs)
+simple_inside [] h = refl
+simple_inside (x ∷ xs) h = let r = both (is_simple x) (all_simple xs) h in both_make (is_inside x) (all_inside xs) (simple_outer x r.0).1 (simple_inside xs r.1)
+
+-- no region is at the top of a body
+no_region : (h : Stmt-F Stmt) → IsTrue (inside_at h) → (is_any_region h ≡ false) × (part_from h ≡ part.Plain)
+no_region (Region r site cond a) h = absurd (cc)
+no_region _ h = (refl, refl)
+
+pub inside_no_region : (x : Stmt) → IsTrue (is_inside x) → (is_any_region (out-Stmt x) ≡ false) × (part_from (out-Stmt x) ≡ part.Plain)
+inside_no_region x h = no_region (out-Stmt x) (subst True (inside_out x) h)
+
+-- behind statements of a body stands what stood there before
+pub from_region-append : (xs ys : List Stmt) → IsTrue (all_inside xs) → from_region (xs ++ ys) ≡ from_region ys
 from_region-append [] ys h = refl
 from_region-append (x ∷ xs) ys h =
-    let r = both (is_simple x) (all_simple xs) h in
-    ap (λ b. if b then x ∷ (xs ++ ys) else from_region (xs ++ ys)) (simple_outer x r.0).1 ∙ from_region-append xs ys r.1
-
--- the body of a region is simple
-pub body_simple : (s : Stmt) (r : ℕ) (site : SiteId) (cond : Expr) (body : List Stmt) → out-Stmt s ≡ Region r site cond body → IsTrue (is_outer s) → IsTrue (all_simple body)
-body_simple s r site cond body is h = subst True (outer_out s ∙ ap outer_at is) h
-
-plain_form : (h : Stmt-F Stmt) → is_any_region h ≡ false → part_from h ≡ part.Plain
-plain_form (Assign site x e) h = refl
-plain_form (Store site x index e) h = refl
-plain_form (Print site e) h = refl
-plain_form (If site cond a b) h = refl
-plain_form (While site cond a) h = refl
-plain_form (Region r site cond a) h = absurd (cc)
-plain_form (Call f line args) h = refl
-
--- within such a list no region is next
-pub plain_inside : (body : List Stmt) (made : ℕ) (tail : List Stmt) → made < length body → IsTrue (all_simple body) → part_of (drop made body ++ tail) ≡ part.Plain
-plain_inside [] made tail few h = absurd (omega (arith, few))
-plain_inside (x ∷ xs) zero tail few h = plain_form (out-Stmt x) (simple_outer x (both (is_simple x) (all_simple xs) h).0).1
-plain_inside (x ∷ xs) (suc k) tail few h = plain_inside xs k tail (omega (arith, few)) (both (is_simple x) (all_simple xs) h).1
+    let r = both (is_inside x) (all_inside xs) h in
+    ap (λ b. if b then x ∷ (xs ++ ys) else from_region (xs ++ ys)) (inside_no_region x r.0).0 ∙ from_region-append xs ys r.1

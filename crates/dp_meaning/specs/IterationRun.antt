@@ -1,7 +1,8 @@
 -- What one call of `iterate` does.
-use Rattle.std.specs.Prelude.{◌≡◌, ℕ, ◌<◌, ◌≤◌, Bool, true, false, List, [], ◌∷◌, drop, length, All, ℤ, Option, Some, None, slice_get}
+use Rattle.std.specs.Prelude.{◌≡◌, ℕ, ◌<◌, ◌≤◌, Bool, true, false, List, [], ◌∷◌, drop, length, All, ℤ, Option, Some, None}
+use Rattle.std.specs.List.{list_any}
 use Rattle.dp_tree.specs.Step.{Config, Event}
-use Rattle.dp_tree.specs.Iteration.{decided_zero}
+use Rattle.dp_tree.specs.Iteration.{is_leaving, upto_leaving, last_events, closes}
 use Rattle.dp_meaning.specs.declared.ends.Part.TheVariants.{Plain, Region}
 use Rattle.dp_meaning.specs.declared.ends.IterEnd.{IterEnd}
 use Rattle.dp_meaning.specs.declared.ends.IterEnd.TheVariants.{Next, Closed, Fault, Fuel, Going}
@@ -15,10 +16,15 @@ HeadsOnce region (Some r) configs = All (λ c. part_of c.to_do ≡ Plain) config
 HeadsOnce region None [] = Unit {0}
 HeadsOnce region None (c ∷ rest) = (part_of c.to_do ≡ Region region) × All (λ d. part_of d.to_do ≡ Plain) rest
 
--- the condition was evaluated in this call, and gave 0
+-- the region was left in this call: its condition gave 0, or a break was taken
 abbrev pub has_closed : Option ℕ → List Event → Bool
-has_closed (Some r) events = false
-has_closed None events = decided_zero (slice_get events 0)
+has_closed (Some r) events = list_any is_leaving events
+has_closed None events = closes events
+
+-- the events up to and with the one that leaves the region
+abbrev pub upto_closing : Option ℕ → List Event → List Event
+upto_closing (Some r) events = upto_leaving events
+upto_closing None events = last_events events
 
 -- the region whose iteration is under way after these events
 abbrev pub current_after : ℕ → Option ℕ → List Event → Option ℕ
@@ -45,12 +51,12 @@ pub record StartsAgain (region : ℕ) (old new : MachineState) (events : List Ev
   pub rest : new.config.to_do ≡ from_region old.config.to_do
   pub some : old.current ≡ None → 0 < length events
 
--- the condition gave 0, no step followed, and what is left is what stands behind the region
+-- the last step left the region, and what is left to do is what stands behind it
 pub record HasClosed (old new : MachineState) (events : List Event) : Type 0 where
   pub closed : has_closed old.current events ≡ true
+  pub last : upto_closing old.current events ≡ events
   pub current : new.current ≡ None
-  pub rest : new.config.to_do ≡ drop 1 old.config.to_do
-  pub alone : length events ≡ 1
+  pub rest : new.config.to_do ≡ drop 1 (from_region old.config.to_do)
 
 -- Why the call stops: the iteration has ended, or it goes on and there is a fault, no fuel, or no turn left.
 abbrev pub IterationStops : ℕ → ℕ → MachineState → MachineState → List Event → IterEnd → Type 0

@@ -1,21 +1,33 @@
 -- What holds of a machine at every moment.
-use Rattle.std.specs.Prelude.{◌≡◌, ℕ, ◌≤◌, ◌<◌, ◌^◌, IsTrue, List, Option, Some, None}
+use Rattle.std.specs.Prelude.{◌≡◌, ℕ, ◌≤◌, ◌<◌, ◌^◌, IsTrue, List, ◌++◌, Option, Some, None}
 use Rattle.std.specs.List.{list_all}
 use Rattle.dp_tree.specs.declared.Stmt.{Stmt}
-use Rattle.dp_tree.specs.declared.VarInfo.{VarInfo}
+use Rattle.dp_tree.specs.declared.Program.{Program}
+use Rattle.dp_tree.specs.Inlined.{IsInlined}
+use Rattle.dp_tree.specs.InMain.{StandsInMain}
+use Rattle.dp_tree.specs.Step.{Config}
 use Rattle.dp_meaning.specs.declared.ends.Part.TheVariants.{Plain, Region}
-use Rattle.dp_meaning.specs.Runnable.{is_outer}
-use Rattle.dp_meaning.specs.Locals.{HoldsLocals}
-use Rattle.dp_meaning.specs.MachineState.{part_of, from_region}
+use Rattle.dp_meaning.specs.Runnable.{is_inside, is_outer}
+use Rattle.dp_meaning.specs.MachineState.{part_of}
 
--- while an iteration is under way, its region is the next one, and isn't at the head
+-- Some statements of a region's body are left to do, and then the region and what stands behind it in `main`.
+pub record IsWithin (region : ℕ) (to_do : List Stmt) : Type 0 where
+  pub front : List Stmt
+  pub behind : List Stmt
+  pub is : to_do ≡ front ++ behind
+  pub inside : IsTrue (list_all is_inside front)
+  pub outer : IsTrue (list_all is_outer behind)
+  pub first : part_of to_do ≡ Plain
+  pub next : part_of behind ≡ Region region
+
+-- while an iteration is under way, the rest of its body is left to do; else statements of `main` alone
 abbrev pub UnderWay : Option ℕ → List Stmt → Type 0
-UnderWay None to_do = Unit {0}
-UnderWay (Some region) to_do = (part_of to_do ≡ Plain) × (part_of (from_region to_do) ≡ Region region)
+UnderWay None to_do = IsTrue (list_all is_outer to_do)
+UnderWay (Some region) to_do = IsWithin region to_do
 
-pub record IsSound (vars locals : List VarInfo) (to_do : List Stmt) (current : Option ℕ) (steps fuel : ℕ) : Type 0 where
-  pub outer : IsTrue (list_all is_outer to_do)
-  pub under_way : UnderWay current to_do
+pub record IsSound (p : Program) (c : Config) (current : Option ℕ) (steps fuel : ℕ) : Type 0 where
+  pub inlined : IsInlined p
+  pub stands : StandsInMain p c
+  pub under_way : UnderWay current c.to_do
   pub within : steps ≤ fuel
   pub fuel_fits : fuel < 2 ^ 64
-  pub held : HoldsLocals vars locals

@@ -26,6 +26,7 @@ fn depth_of(statement: &Stmt) -> Result<usize, NoMemory>
         }
         Stmt::While { body, .. } => one_more(depth(body.as_slice())?),
         Stmt::Region { body, .. } => one_more(depth(body.as_slice())?),
+        Stmt::Break { .. } => Ok(0),
         Stmt::Call { .. } => Ok(0),
     }
 }

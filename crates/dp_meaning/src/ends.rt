@@ -30,7 +30,7 @@ pub enum PartEnd {
 pub enum IterEnd {
     /// The iteration has ended, and the region's condition comes next.
     Next,
-    /// The condition gave 0.
+    /// The iteration has left the region: its condition gave 0, or a break was taken.
     Closed,
     /// The next evaluation faults.
     Fault(Fault),
@@ -38,13 +38,4 @@ pub enum IterEnd {
     Fuel,
     /// As many steps were made as the call was to make.
     Going,
-}
-
-/// What [`crate::Machine::iterations_ahead`] did.
-#[derive(Clone, Copy, Debug, PartialEq, Eq)]
-pub struct IterationsAhead {
-    /// How many iterations it made whole.
-    pub whole: u64,
-    /// How many steps had been made when the next one began, or will have been when it begins.
-    pub start: u64,
 }

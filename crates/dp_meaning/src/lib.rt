@@ -8,17 +8,9 @@ mod ends;
 mod evaluate;
 mod machine;
 mod memory;
-mod resolve;
-mod resolved;
-mod rounds;
-mod short;
 mod statement;
-mod straight;
 mod to_do;
 mod turn;
 
-pub use ends::{IterEnd, IterationsAhead, Part, PartEnd};
+pub use ends::{IterEnd, Part, PartEnd};
 pub use machine::Machine;
-
-#[cfg(test)]
-mod tests;

@@ -1,10 +1,10 @@
 //! Changes of a program's memory.
-ghost use Rattle.std.specs.Prelude.{◌≡◌, if◌then◌else◌, ℕ, false, pos, slice_set, length, ◌^◌, ◌<◌, IfOk};
-ghost use Rattle.dp_meaning.specs.Locals.{HoldsLocals};
+ghost use Rattle.std.specs.Prelude.{◌≡◌, if◌then◌else◌, pos, slice_set, length, ◌^◌, ◌<◌, IfOk};
+ghost use Rattle.dp_meaning.specs.NextIteration.{with_stores};
 ghost use Rattle.dp_tree.specs.Step as definition;
 ghost use Rattle.dp_tree.specs.Trace as definition_of_runs;
 
-use dp_base::{Cells, NoMemory};
+use dp_base::{Cells, NoMemory, StoreOf};
 use dp_tree::{VarInfo, VarScope};
 use std::alloc::Global;
 
@@ -38,27 +38,25 @@ pub(crate) fn clear_locals(region: u32, vars: &[VarInfo], cells: &mut Cells)
     }
 }
 
-fn is_body_local(scope: VarScope) -> bool
-    ensures { result ≡ false → (region : ℕ) → definition.is_local_of region scope ≡ false }
+/// One store. A cell that isn't there stays so.
+#[inline(always)]
+#[tactic(auto, using(crate::proofs::MemoryLemmas::stores))]
+fn make_store(store: StoreOf, cells: &mut Cells)
+    ensures { cells.new ≡ slice_set cells.old store.cell.0 store.value }
 {
-    match scope {
-        VarScope::Body(_) => true,
-        VarScope::Global | VarScope::Outer => false,
+    if (store.cell.0 as usize) < cells.len() {
+        cells.set(store.cell, store.value);
     }
 }
 
-/// The variables from the first body local on, so that those before it needn't be looked at again and again.
-pub(crate) fn from_body_locals(vars: &[VarInfo]) -> &[VarInfo]
-    ensures { HoldsLocals vars.now result.now }
+/// These stores, one after the other.
+#[tactic(auto, using(crate::proofs::MemoryLemmas::makes))]
+pub(crate) fn make_stores(stores: &[StoreOf], cells: &mut Cells)
+    ensures { cells.new ≡ with_stores stores.now cells.old }
 {
-    let mut others = 0;
-    for info in vars {
-        if is_body_local(info.scope) {
-            return vars.split_at(others).1;
-        }
-        others += 1;
+    for store in stores {
+        make_store(*store, cells);
     }
-    vars.split_at(others).1
 }
 
 /// The cells of all variables, one variable after the other, at their start values. More of them than cells have numbers are

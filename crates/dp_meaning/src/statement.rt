@@ -5,7 +5,7 @@ ghost use Rattle.dp_tree.specs.Step as definition;
 ghost use Rattle.dp_tree.specs.Step.{evaluated, choose, Stored};
 ghost use Rattle.dp_tree.specs.declared.Stmt.TheOpen as layer;
 
-use crate::evaluate::{count_of, first_of, is_zero, placed, value_of};
+use crate::evaluate::{count_of, evaluate, first_of, is_zero, placed};
 use dp_base::{Fault, FaultKind, SiteId, VarId};
 use dp_tree::{Expr, Program, Stmt};
 
@@ -22,8 +22,8 @@ pub(crate) fn element(
     ensures { let evaluation = result_of (evaluated program.now input.now cells.now (layer.Store (record { 0 = 0 }) var index.now value.now)) in
         MatchResult result (λ store. evaluation ≡ Ok (Stored store.0 store.1)) (λ kind. evaluation ≡ Err kind) }
 {
-    let i = value_of(program, input, cells, index)?;
-    let value = value_of(program, input, cells, value)?;
+    let i = evaluate(program, input, cells, index)?;
+    let value = evaluate(program, input, cells, value)?;
     let place = placed(i, count_of(program, var))?;
     Ok((first_of(program, var) + place, value))
 }

@@ -1,8 +1,8 @@
 //! The statements that are still to do.
-ghost use Rattle.std.specs.Prelude.{◌≡◌, ◌<◌, [], ◌++◌, drop, length, slice_get, IsTrue, IsOk, IfOk, OnOk, OnErr, vec_len, vec_capacity};
+ghost use Rattle.std.specs.Prelude.{◌≡◌, ◌<◌, [], ◌++◌, drop, length, slice_get, IfOk, OnOk, OnErr};
 ghost use Rattle.std.specs.Option.{option_copied};
-ghost use Rattle.dp_tree.specs.Step.{choose};
-ghost use Rattle.dp_meaning.specs.Parts.{joined_parts, NoneEmpty};
+ghost use Rattle.dp_tree.specs.Step.{choose, behind_region};
+ghost use Rattle.dp_meaning.specs.Parts.{joined_parts, first_region, NoneEmpty};
 
 use crate::evaluate::is_zero;
 use dp_base::NoMemory;
@@ -19,17 +19,18 @@ pub(crate) struct ToDo<'p> {
 }
 
 impl<'p> Model for ToDo<'p> {
-    ghost use Rattle.std.specs.Prelude.{◌≡◌, [], ◌++◌, nat_lt, vec_len, vec_capacity};
-    ghost use Rattle.dp_meaning.specs.Parts.{Kept, joined_parts, NoneEmpty};
+    ghost use Rattle.std.specs.Prelude.{◌≡◌, List, [], ◌++◌};
+    ghost use Rattle.dp_tree.specs.declared.Stmt.{Stmt};
+    ghost use Rattle.dp_meaning.specs.Parts.{joined_parts, NoneEmpty};
     ghost use Rattle.dp_tree.specs.contracts.Expr as expr;
     ghost use Rattle.dp_tree.specs.contracts.Stmt as stmt;
     ghost use Rattle.std.specs.Coded.{codes};
 
-    ghost Value = { Kept };
+    ghost Value = { List Stmt };
 
     ghost coded = { Prim.hlevel (codes, expr.the_row.coded, stmt.the_row.coded) };
 
-    ghost view = { λ t. record { list = t.inner.now ++ joined_parts t.outer.items; room = nat_lt (vec_len t.outer) (vec_capacity t.outer) } };
+    ghost view = { λ t. t.inner.now ++ joined_parts t.outer.items };
 
     ghost invariant = { λ t. (t.inner.now ≡ [] → t.outer.items ≡ []) × NoneEmpty t.outer.items };
 }
@@ -37,7 +38,7 @@ impl<'p> Model for ToDo<'p> {
 impl<'p> ToDo<'p> {
     /// These statements, with room for so many lists round the innermost one.
     pub(crate) fn of(alloc: Global, list: &'p [Stmt], depth: usize) -> Result<ToDo<'p>, NoMemory>
-        ensures { IfOk result (λ t. t.list ≡ list.now) }
+        ensures { IfOk result (λ t. t ≡ list.now) }
     {
         let outer = Vec::with_capacity(alloc, depth)?;
         Ok(ToDo { inner: list, outer })
@@ -46,25 +47,17 @@ impl<'p> ToDo<'p> {
     /// The next statement.
     #[inline(always)]
     pub(crate) fn head(&self) -> Option<&'p Stmt>
-        ensures { option_copied result ≡ slice_get self.now.list 0 }
+        ensures { option_copied result ≡ slice_get self.now 0 }
     {
         self.inner.first()
-    }
-
-    /// Whether a list can be put before everything without memory.
-    #[inline(always)]
-    pub(crate) fn has_room(&self) -> bool
-        ensures { result ≡ self.now.room }
-    {
-        self.outer.len() < self.outer.capacity()
     }
 
     /// Drops the next statement.
     #[inline(always)]
     #[tactic(auto, using(crate::proofs::PartsLemmas::parts))]
     pub(crate) fn advance(&mut self)
-        requires { 0 < length self.old.list }
-        ensures { self.new.list ≡ drop 1 self.old.list }
+        requires { 0 < length self.old }
+        ensures { self.new ≡ drop 1 self.old }
     {
         let rest = &self.inner[1..];
         if !rest.is_empty() {
@@ -79,9 +72,8 @@ impl<'p> ToDo<'p> {
 
     /// Puts a list before everything.
     pub(crate) fn enter(&mut self, list: &'p [Stmt]) -> Result<(), NoMemory>
-        ensures ok { OnOk result (self.new.list ≡ list.now ++ self.old.list) }
-        ensures err { OnErr result (self.new.list ≡ self.old.list) }
-        ensures room { IsTrue self.old.room → IsOk result }
+        ensures ok { OnOk result (self.new ≡ list.now ++ self.old) }
+        ensures err { OnErr result (self.new ≡ self.old) }
     {
         if list.is_empty() {
             return Ok(());
@@ -91,23 +83,12 @@ impl<'p> ToDo<'p> {
         Ok(())
     }
 
-    /// The same where there is room, as `has_room` says.
-    pub(crate) fn enter_room(&mut self, list: &'p [Stmt])
-        requires { IsTrue self.old.room }
-        ensures { self.new.list ≡ list.now ++ self.old.list }
-    {
-        match self.enter(list) {
-            Ok(()) => {}
-            Err(NoMemory) => unreachable!(),
-        }
-    }
-
     /// Puts a list in the place of the next statement.
     #[tactic(auto, using(crate::proofs::PartsLemmas::parts))]
     pub(crate) fn replace(&mut self, list: &'p [Stmt]) -> Result<(), NoMemory>
-        requires { 0 < length self.old.list }
-        ensures ok { OnOk result (self.new.list ≡ list.now ++ drop 1 self.old.list) }
-        ensures err { OnErr result (self.new.list ≡ self.old.list) }
+        requires { 0 < length self.old }
+        ensures ok { OnOk result (self.new ≡ list.now ++ drop 1 self.old) }
+        ensures err { OnErr result (self.new ≡ self.old) }
     {
         if list.is_empty() {
             self.advance();
@@ -118,11 +99,28 @@ impl<'p> ToDo<'p> {
         Ok(())
     }
 
+    /// Drops all up to and with the next region, and answers its number.
+    #[tactic(auto, using(crate::proofs::PartsLemmas::leaving))]
+    pub(crate) fn leave(&mut self) -> Option<u32>
+        ensures rest { self.new ≡ behind_region self.old }
+        ensures region { result ≡ first_region self.old }
+    {
+        loop {
+            let Some(statement) = self.head() else {
+                return None;
+            };
+            self.advance();
+            if let Stmt::Region { region, .. } = statement {
+                return Some(*region);
+            }
+        }
+    }
+
     /// Goes on behind a loop where its condition gave 0, and with its body where not.
     pub(crate) fn repeat(&mut self, condition: i64, body: &'p [Stmt]) -> Result<(), NoMemory>
-        requires { 0 < length self.old.list }
-        ensures ok { OnOk result (self.new.list ≡ choose condition (body.now ++ self.old.list) (drop 1 self.old.list)) }
-        ensures err { OnErr result (self.new.list ≡ self.old.list) }
+        requires { 0 < length self.old }
+        ensures ok { OnOk result (self.new ≡ choose condition (body.now ++ self.old) (drop 1 self.old)) }
+        ensures err { OnErr result (self.new ≡ self.old) }
     {
         if is_zero(condition) {
             self.advance();
@@ -139,7 +137,6 @@ fn keep<'p>(outer: &mut Vec<&'p [Stmt]>, part: &'p [Stmt]) -> Result<(), NoMemor
     requires { NoneEmpty outer.old.items }
     ensures ok { OnOk result (joined_parts outer.new.items ≡ part.now ++ joined_parts outer.old.items) }
     ensures err { OnErr result (outer.new.items ≡ outer.old.items) }
-    ensures room { vec_len outer.old < vec_capacity outer.old → IsOk result }
     ensures none_empty { NoneEmpty outer.new.items }
 {
     if !part.is_empty() {

@@ -1,5 +1,5 @@
 -- What the grammar derives as an expression, the descent reads.
-use Rattle.std.proofs.Common.{◌≡◌, ap, ◌∙◌, sym, ℕ, zero, suc, ◌-◌, ◌<◌, ◌≤◌, ℤ, pos, List, ◌∷◌, length, Option, Some, None, arith, subst}
+use Rattle.std.proofs.Common.{◌≡◌, ap, ◌∙◌, sym, ℕ, zero, suc, ◌-◌, ◌<◌, ◌≤◌, ℤ, pos, List, ◌∷◌, length, Option, Some, None, arith, subst, Ok}
 use Rattle.std.proofs.lemmas.Option.{same_Some}
 use Rattle.dp_base.specs.declared.UnOp.{UnOp}
 use Rattle.dp_lex.specs.Token.{Lexeme}
@@ -35,15 +35,15 @@ pub record Reached (n : ℕ) (l : Level) (from to : List Lexeme) (e : RawExpr) :
   pub is : read.expression (read.nested n) l from ≡ read.chain l (operand_by n (operands l)) turns e to
 
 -- where nothing of the level follows, it is read as a whole
-pub ended : {n : ℕ} {l : Level} {from to : List Lexeme} {e : RawExpr} → Reached n l from to e → join_at l (symbol_at to) ≡ None → read.expression (read.nested n) l from ≡ Some (e, to)
+pub ended : {n : ℕ} {l : Level} {from to : List Lexeme} {e : RawExpr} → Reached n l from to e → join_at l (symbol_at to) ≡ None → read.expression (read.nested n) l from ≡ Ok (e, to)
 ended {n} {l} {from} {to} {e} r none = r.is ∙ chain_end l (operand_by n (operands l)) r.turns e to none
 
-read_whole : (n : ℕ) (l : Level) (from to : List Lexeme) (e : RawExpr) → join_at l (symbol_at to) ≡ None → read.expression (read.nested n) l from ≡ Some (e, to) → Reached n l from to e
+read_whole : (n : ℕ) (l : Level) (from to : List Lexeme) (e : RawExpr) → join_at l (symbol_at to) ≡ None → read.expression (read.nested n) l from ≡ Ok (e, to) → Reached n l from to e
 read_whole n l from to e none h = record { turns = length to; enough = omega arith; is = h ∙ sym (chain_end l (operand_by n (operands l)) (length to) e to none) }
 
 -- an expression one deeper
-nested_read : (n : ℕ) (l : Level) (from to : List Lexeme) (e : RawExpr) → length from ≤ n → length to < length from → join_at l (symbol_at to) ≡ None →
-    ((k : ℕ) → length from ≤ suc k → Reached k l from to e) → read.nested n l from ≡ Some (e, to)
+pub nested_read : (n : ℕ) (l : Level) (from to : List Lexeme) (e : RawExpr) → length from ≤ n → length to < length from → join_at l (symbol_at to) ≡ None →
+    ((k : ℕ) → length from ≤ suc k → Reached k l from to e) → read.nested n l from ≡ Ok (e, to)
 unfolding read.nested
 nested_read zero l from to e fits some none again = absurd (omega arith)
 nested_read (suc k) l from to e fits some none again = ended (again k fits) none
@@ -73,50 +73,50 @@ unprefixed level.Product m from to e o d = prefixes_not level.Product (symbol_at
 unprefixed level.Primary m from to e o d = absurd (cc)
 
 -- the symbols that close an expression join nothing
-closes_bracket : (t : Lexeme) (to : List Lexeme) → Is CloseBracket t → join_at level.Or (symbol_at (t ∷ to)) ≡ None
+pub closes_bracket : (t : Lexeme) (to : List Lexeme) → Is CloseBracket t → join_at level.Or (symbol_at (t ∷ to)) ≡ None
 unfolding symbol_at join_at
 closes_bracket t to c = ap (λ k. step.own level.Or (joining k)) c
 
-closes_paren : (t : Lexeme) (to : List Lexeme) → Is CloseParen t → join_at level.Or (symbol_at (t ∷ to)) ≡ None
+pub closes_paren : (t : Lexeme) (to : List Lexeme) → Is CloseParen t → join_at level.Or (symbol_at (t ∷ to)) ≡ None
 unfolding symbol_at join_at
 closes_paren t to c = ap (λ k. step.own level.Or (joining k)) c
 
-follows_bracket : (t : Lexeme) (to : List Lexeme) → Is CloseBracket t → Follows level.Or (symbol_at (t ∷ to))
+pub follows_bracket : (t : Lexeme) (to : List Lexeme) → Is CloseBracket t → Follows level.Or (symbol_at (t ∷ to))
 unfolding symbol_at
 follows_bracket t to c = follows_any level.Or (symbol t) (ap joining c) (λ e. let clash : CloseBracket ≡ OpenBracket = sym c ∙ e in cc clash)
 
-follows_paren : (t : Lexeme) (to : List Lexeme) → Is CloseParen t → Follows level.Or (symbol_at (t ∷ to))
+pub follows_paren : (t : Lexeme) (to : List Lexeme) → Is CloseParen t → Follows level.Or (symbol_at (t ∷ to))
 unfolding symbol_at
 follows_paren t to c = follows_any level.Or (symbol t) (ap joining c) (λ e. let clash : CloseParen ≡ OpenBracket = sym c ∙ e in cc clash)
 
 -- the forms of a primary expression
 module _ (nested : Level → Parser RawExpr) where
-  number_read : (t : Lexeme) (n : ℕ) (to : List Lexeme) → IsNumber t n → read.expression nested level.Primary (t ∷ to) ≡ Some (tree.Number (pos n), to)
+  pub number_read : (t : Lexeme) (n : ℕ) (to : List Lexeme) → IsNumber t n → read.expression nested level.Primary (t ∷ to) ≡ Ok (tree.Number (pos n), to)
   unfolding read.expression read.primary symbol_at
   number_read t n to h =
       ap (λ (k : Symbol). read.primary_by nested k (t ∷ to)) h.number
       ∙ ap (λ (o : Outcome ℤ). and_then o (λ z. pure (tree.Number z))) (reads_number t n to h)
 
-  named_read : (t : Lexeme) (to : List Lexeme) → Is Name t → read.expression nested level.Primary (t ∷ to) ≡ read.variable nested (name_of t) to
+  pub named_read : (t : Lexeme) (to : List Lexeme) → Is Name t → read.expression nested level.Primary (t ∷ to) ≡ read.variable nested (name_of t) to
   unfolding read.expression read.primary symbol_at
   named_read t to h =
       ap (λ (k : Symbol). read.primary_by nested k (t ∷ to)) h
       ∙ ap (λ (o : Outcome TreeName). and_then o (read.variable nested)) (reads_name t to h)
 
-  scalar_read : (t : Lexeme) (to : List Lexeme) → Is Name t → (symbol_at to ≡ OpenBracket → ⊥) → read.expression nested level.Primary (t ∷ to) ≡ Some (tree.Scalar (name_of t), to)
+  scalar_read : (t : Lexeme) (to : List Lexeme) → Is Name t → (symbol_at to ≡ OpenBracket → ⊥) → read.expression nested level.Primary (t ∷ to) ≡ Ok (tree.Scalar (name_of t), to)
   unfolding read.variable
   scalar_read t to h other = named_read t to h ∙ stays OpenBracket (read.variable_by nested (name_of t)) to other
 
-  element_read : (t opening closing : Lexeme) (from to : List Lexeme) (e : RawExpr) → Is Name t → Is OpenBracket opening → nested level.Or from ≡ Some (e, closing ∷ to) → Is CloseBracket closing →
-      read.expression nested level.Primary (t ∷ opening ∷ from) ≡ Some (tree.Element (name_of t) e, to)
+  pub element_read : (t opening closing : Lexeme) (from to : List Lexeme) (e : RawExpr) → Is Name t → Is OpenBracket opening → nested level.Or from ≡ Ok (e, closing ∷ to) → Is CloseBracket closing →
+      read.expression nested level.Primary (t ∷ opening ∷ from) ≡ Ok (tree.Element (name_of t) e, to)
   unfolding read.variable
   element_read t opening closing from to e h o d c =
       named_read t (opening ∷ from) h ∙ eats OpenBracket (read.variable_by nested (name_of t)) opening from o
       ∙ ap (λ (r : Outcome RawExpr). and_then r (λ x. expect CloseBracket >>= (λ _. pure (tree.Element (name_of t) x)))) d
       ∙ ap (λ (r : Outcome Lexeme). and_then r (λ _. pure (tree.Element (name_of t) e))) (expects CloseBracket closing to c)
 
-  parenthesized_read : (opening closing : Lexeme) (from to : List Lexeme) (e : RawExpr) → Is OpenParen opening → nested level.Or from ≡ Some (e, closing ∷ to) → Is CloseParen closing →
-      read.expression nested level.Primary (opening ∷ from) ≡ Some (e, to)
+  pub parenthesized_read : (opening closing : Lexeme) (from to : List Lexeme) (e : RawExpr) → Is OpenParen opening → nested level.Or from ≡ Ok (e, closing ∷ to) → Is CloseParen closing →
+      read.expression nested level.Primary (opening ∷ from) ≡ Ok (e, to)
   unfolding read.expression read.primary read.parenthesized symbol_at
   parenthesized_read opening closing from to e o d c =
       ap (λ (k : Symbol). read.primary_by nested k (opening ∷ from)) o
@@ -124,8 +124,8 @@ module _ (nested : Level → Parser RawExpr) where
       ∙ ap (λ (r : Outcome RawExpr). and_then r (λ x. expect CloseParen >>= (λ _. pure x))) d
       ∙ ap (λ (r : Outcome Lexeme). and_then r (λ _. pure e)) (expects CloseParen closing to c)
 
-prefixed_read : (n : ℕ) (l : Level) (op : Lexeme) (is : UnOp) (from to : List Lexeme) (e : RawExpr) → prefixing (symbol op) ≡ Some (l, is) → read.nested n l from ≡ Some (e, to) →
-    read.expression (read.nested n) l (op ∷ from) ≡ Some (tree.Unary is e, to)
+prefixed_read : (n : ℕ) (l : Level) (op : Lexeme) (is : UnOp) (from to : List Lexeme) (e : RawExpr) → prefixing (symbol op) ≡ Some (l, is) → read.nested n l from ≡ Ok (e, to) →
+    read.expression (read.nested n) l (op ∷ from) ≡ Ok (tree.Unary is e, to)
 unfolding rest symbol_at
 prefixed_read n l op is from to e p h =
     level_prefixed (read.nested n) l level.Primary (ap operands (prefix_level l (symbol op) is p)) (op ∷ from) is (prefixes l (symbol op) is p)
@@ -177,7 +177,7 @@ reached (parenthesized {opening} {closing} {from} {to} {e} o d c) n fits f =
     (nested_read n level.Or from (closing ∷ to) e (omega arith) some (closes_paren closing to c) (λ k le. reached d k le (follows_paren closing to c))) c)
 
 -- an expression is read as a whole before a symbol that joins nothing and opens no index
-pub whole_read : (from to : List Lexeme) (e : RawExpr) → DerivesExpr level.Or from to e → joining (symbol_at to) ≡ None → (symbol_at to ≡ OpenBracket → ⊥) → read.whole from ≡ Some (e, to)
+pub whole_read : (from to : List Lexeme) (e : RawExpr) → DerivesExpr level.Or from to e → joining (symbol_at to) ≡ None → (symbol_at to ≡ OpenBracket → ⊥) → read.whole from ≡ Ok (e, to)
 unfolding read.whole join_at
 whole_read from to e d none other =
     nested_read (length from) level.Or from to e (omega arith) (shorter d) (ap (step.own level.Or) none) (λ k le. reached d k le (follows_any level.Or (symbol_at to) none other))

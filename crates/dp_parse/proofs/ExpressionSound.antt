@@ -1,5 +1,5 @@
 -- What the descent reads as an expression, the grammar derives.
-use Rattle.std.proofs.Common.{◌≡◌, refl, ap, ◌∙◌, sym, ℕ, zero, suc, Bool, true, false, if◌then◌else◌, List, [], ◌∷◌, length, Option, Some, None}
+use Rattle.std.proofs.Common.{◌≡◌, refl, ap, ◌∙◌, sym, ℕ, zero, suc, Bool, true, false, if◌then◌else◌, List, [], ◌∷◌, length, Option, Some, None, Ok}
 use Rattle.dp_base.specs.declared.UnOp.{UnOp}
 use Rattle.dp_lex.specs.Token.{Lexeme}
 use Rattle.dp_tree.specs.declared.raw.RawExpr.{RawExpr}
@@ -38,7 +38,7 @@ module _ (nested : Level → Parser RawExpr) (sound : (l : Level) → Sound (nes
       let parts = same_pair {a = tree.Scalar (name_of name)} {b = e} {x = from} {y = to} h in
       moved (DerivesExpr level.Primary) (taken name parts.1) refl (sym parts.0) (scalar is)
 
-  sound_variable : (name : Lexeme) (from to : List Lexeme) (e : RawExpr) → Is Name name → read.variable nested (name_of name) from ≡ Some (e, to) →
+  sound_variable : (name : Lexeme) (from to : List Lexeme) (e : RawExpr) → Is Name name → read.variable nested (name_of name) from ≡ Ok (e, to) →
       DerivesExpr level.Primary (name ∷ from) to e
   unfolding read.variable
   sound_variable name from to e is h = variable_ate name from to e is (ate OpenBracket (read.variable_by nested (name_of name)) e to from (λ k. cc) h)
@@ -51,38 +51,38 @@ module _ (nested : Level → Parser RawExpr) (sound : (l : Level) → Sound (nes
       let c = closed (nested level.Or) CloseParen (λ x. x) e o.middle to o.second in
       moved (DerivesExpr level.Primary) t.splits refl c.made (parenthesized t.is (sound level.Or o.middle (c.closing ∷ to) c.value c.first) c.is)
 
-  sound_number : (from to : List Lexeme) (e : RawExpr) → (step.number >>= (λ z. pure (tree.Number z))) from ≡ Some (e, to) → DerivesExpr level.Primary from to e
+  sound_number : (from to : List Lexeme) (e : RawExpr) → (step.number >>= (λ z. pure (tree.Number z))) from ≡ Ok (e, to) → DerivesExpr level.Primary from to e
   sound_number from to e h =
       let o = then_of (step.number from) (λ z. pure (tree.Number z)) e to h in
       let n = read_number from o.middle o.value o.first in
       let parts = same_pair {a = tree.Number o.value} {b = e} {x = o.middle} {y = to} o.second in
       moved (DerivesExpr level.Primary) n.splits (sym parts.1) (sym parts.0 ∙ ap tree.Number n.reads) (number n.is)
 
-  sound_named : (from to : List Lexeme) (e : RawExpr) → (step.name >>= read.variable nested) from ≡ Some (e, to) → DerivesExpr level.Primary from to e
+  sound_named : (from to : List Lexeme) (e : RawExpr) → (step.name >>= read.variable nested) from ≡ Ok (e, to) → DerivesExpr level.Primary from to e
   sound_named from to e h =
       let o = then_of (step.name from) (read.variable nested) e to h in
       let n = read_name from o.middle o.value o.first in
       moved (DerivesExpr level.Primary) n.splits refl refl (sound_variable n.token o.middle to e n.is (ap (λ x. read.variable nested x o.middle) (sym n.called) ∙ o.second))
 
-  primary_at : (s : Symbol) (from to : List Lexeme) (e : RawExpr) → read.primary_by nested s from ≡ Some (e, to) → DerivesExpr level.Primary from to e
+  primary_at : (s : Symbol) (from to : List Lexeme) (e : RawExpr) → read.primary_by nested s from ≡ Ok (e, to) → DerivesExpr level.Primary from to e
   primary_at Number from to e h = sound_number from to e h
   primary_at Name from to e h = sound_named from to e h
   primary_at _ from to e h = sound_parenthesized from to e h
 
-  sound_primary : Sound (read.primary nested) (DerivesExpr level.Primary)
+  pub sound_primary : Sound (read.primary nested) (DerivesExpr level.Primary)
   unfolding read.primary
   sound_primary from to e h = primary_at (symbol_at from) from to e h
 
   -- a chain of operands of the level m goes on
   module _ (l m : Level) (o : operands l ≡ Some m) (p : Parser RawExpr) (reads : Sound p (DerivesExpr m)) where
     abbrev Goes : (RawExpr → Parser RawExpr) → Type 0
-    Goes again = (from middle to : List Lexeme) (found e : RawExpr) → DerivesExpr l from middle found → again found middle ≡ Some (e, to) → DerivesExpr l from to e
+    Goes again = (from middle to : List Lexeme) (found e : RawExpr) → DerivesExpr l from middle found → again found middle ≡ Ok (e, to) → DerivesExpr l from to e
 
-    ends : (from middle to : List Lexeme) (found e : RawExpr) → DerivesExpr l from middle found → pure found middle ≡ Some (e, to) → DerivesExpr l from to e
+    ends : (from middle to : List Lexeme) (found e : RawExpr) → DerivesExpr l from middle found → pure found middle ≡ Ok (e, to) → DerivesExpr l from to e
     ends from middle to found e d h = let parts = same_pair {a = found} {b = e} {x = middle} {y = to} h in moved (DerivesExpr l) refl (sym parts.1) (sym parts.0) d
 
     sound_longer : (again : RawExpr → Parser RawExpr) → Goes again → (middle : List Lexeme) (j : Option Join) → join_at l (symbol_at middle) ≡ j →
-        (from to : List Lexeme) (found e : RawExpr) → DerivesExpr l from middle found → read.longer again p found j middle ≡ Some (e, to) → DerivesExpr l from to e
+        (from to : List Lexeme) (found e : RawExpr) → DerivesExpr l from middle found → read.longer again p found j middle ≡ Ok (e, to) → DerivesExpr l from to e
     unfolding join_at symbol_at rest
     sound_longer again goes middle None is from to found e d h = ends from middle to found e d h
     sound_longer again goes [] (Some join) is from to found e d h = absurd (cc)
@@ -96,7 +96,7 @@ module _ (nested : Level → Parser RawExpr) (sound : (l : Level) → Sound (nes
     sound_chain (suc n) from middle to found e d h =
         sound_longer (read.chain l p n) (sound_chain n) middle (join_at l (symbol_at middle)) refl from to found e d h
 
-    level_at : (from to : List Lexeme) (e : RawExpr) (s : Option UnOp) → prefix_at l (symbol_at from) ≡ s → read.level_by nested l p s from ≡ Some (e, to) → DerivesExpr l from to e
+    level_at : (from to : List Lexeme) (e : RawExpr) (s : Option UnOp) → prefix_at l (symbol_at from) ≡ s → read.level_by nested l p s from ≡ Ok (e, to) → DerivesExpr l from to e
     unfolding prefix_at symbol_at rest
     level_at from to e None is h =
         let r = then_of (p from) (λ first. λ ts. read.chain l p (length ts) first ts) e to h in

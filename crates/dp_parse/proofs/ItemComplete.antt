@@ -1,5 +1,5 @@
 -- What the grammar derives as a declaration, the descent reads.
-use Rattle.std.proofs.Common.{◌≡◌, refl, ap, ◌∙◌, sym, ℕ, zero, suc, ◌-◌, ◌≤◌, ℤ, pos, neg_ℤ, Bool, true, false, if◌then◌else◌, List, [], ◌∷◌, ◌++◌, length, Option, Some, None, append_assoc, arith}
+use Rattle.std.proofs.Common.{◌≡◌, refl, ap, ◌∙◌, sym, ℕ, zero, suc, ◌-◌, ◌≤◌, ℤ, pos, neg_ℤ, Bool, true, false, if◌then◌else◌, List, [], ◌∷◌, ◌++◌, length, Option, Some, None, append_assoc, arith, Ok}
 use Rattle.std.proofs.lemmas.Bool.{lt-ltb, le-ltb}
 use Rattle.dp_base.specs.Arithmetic.{is_zero, fits}
 use Rattle.dp_lex.specs.Token.{Lexeme}
@@ -19,7 +19,7 @@ use Rattle.dp_parse.specs.descent.Steps as step
 use Rattle.dp_parse.specs.descent.Statements as statements
 use Rattle.dp_parse.specs.descent.Programs as read
 use Rattle.dp_parse.proofs.StepLemmas.{expects, eats, stays, sees_is, sees_other, after_is, after_other}
-use Rattle.dp_parse.proofs.LeafLemmas.{reads_name, reads_number}
+use Rattle.dp_parse.proofs.LeafLemmas.{reads_name, reads_number, sees_of}
 use Rattle.dp_parse.proofs.Lists.{separated_on, separated_off}
 use Rattle.dp_parse.proofs.StatementReads.{goes}
 use Rattle.dp_parse.proofs.StatementComplete.{reads_block}
@@ -34,27 +34,27 @@ unlike t ts s k h f at = f (sym h ∙ at)
 
 -- ---- numbers that are 0, or turned
 
-not_zero : (n : ℕ) → 1 ≤ n → is_zero (pos n) ≡ false
+pub not_zero : (n : ℕ) → 1 ≤ n → is_zero (pos n) ≡ false
 unfolding is_zero
 not_zero n h = le-ltb n 1 h
 
-turns : (n : ℕ) → n ≤ 9223372036854775807 → step.negated (pos n) ≡ Some (neg_ℤ (pos n))
+pub turns : (n : ℕ) → n ≤ 9223372036854775807 → step.negated (pos n) ≡ Some (neg_ℤ (pos n))
 unfolding step.negated
 turns zero h = refl
 turns (suc n) h = ap (λ (b : Bool). if b then Some (neg_ℤ (pos (suc n))) else None) (lt-ltb n 9223372036854775808 (omega arith))
 
-pub reads_plain : (t : Lexeme) (n : ℕ) (to : List Lexeme) → IsNumber t n → read.start (t ∷ to) ≡ Some (pos n, to)
+pub reads_plain : (t : Lexeme) (n : ℕ) (to : List Lexeme) → IsNumber t n → read.start (t ∷ to) ≡ Ok (pos n, to)
 unfolding read.start
 reads_plain t n to h = stays Minus read.start_by (t ∷ to) (unlike t to Number Minus h.number (λ k. cc)) ∙ reads_number t n to h
 
-pub reads_below : (minus t : Lexeme) (n : ℕ) (to : List Lexeme) → Is Minus minus → IsNumber t n → read.start (minus ∷ t ∷ to) ≡ Some (neg_ℤ (pos n), to)
+pub reads_below : (minus t : Lexeme) (n : ℕ) (to : List Lexeme) → Is Minus minus → IsNumber t n → read.start (minus ∷ t ∷ to) ≡ Ok (neg_ℤ (pos n), to)
 unfolding read.start
 reads_below minus t n to m h =
     eats Minus read.start_by minus (t ∷ to) m ∙ goes (λ z. given (step.negated z)) (reads_number t n to h) ∙ ap (λ (o : Option ℤ). given o to) (turns n h.fits)
 
 -- ---- declarations, behind their first token
 
-pub reads_variable : (name end : Lexeme) (from to : List Lexeme) (k : Symbol) (i : RawItem) → Is Name name → symbol_at from ≡ k → read.variable_by (name_of name) k from ≡ Some (i, end ∷ to) → Is Semicolon end → read.variable (name ∷ from) ≡ Some (i, to)
+pub reads_variable : (name end : Lexeme) (from to : List Lexeme) (k : Symbol) (i : RawItem) → Is Name name → symbol_at from ≡ k → read.variable_by (name_of name) k from ≡ Ok (i, end ∷ to) → Is Semicolon end → read.variable (name ∷ from) ≡ Ok (i, to)
 unfolding read.variable
 reads_variable name end from to k i n at h e =
     goes (λ name. step.peek >>= (λ s. read.variable_by name s >>= (λ found. expect Semicolon >>= (λ _. pure found)))) (reads_name name from n)
@@ -63,37 +63,37 @@ reads_variable name end from to k i n at h e =
     ∙ goes (λ _. pure i) (expects Semicolon end to e)
 
 pub reads_array : (name opening length closing : Lexeme) (n : ℕ) (to : List Lexeme) → Is OpenBracket opening → IsNumber length n → 1 ≤ n → Is CloseBracket closing →
-    read.array (name_of name) (opening ∷ length ∷ closing ∷ to) ≡ Some (item.Array (name_of name) (pos n), to)
+    read.array (name_of name) (opening ∷ length ∷ closing ∷ to) ≡ Ok (item.Array (name_of name) (pos n), to)
 unfolding read.array
 reads_array name opening length closing n to o h least c =
     let called = name_of name in
-    goes (λ _. step.number >>= (λ length. expect CloseBracket >>= (λ _. read.array_by called length (is_zero length)))) (expects OpenBracket opening (length ∷ closing ∷ to) o)
-    ∙ goes (λ length. expect CloseBracket >>= (λ _. read.array_by called length (is_zero length))) (reads_number length n (closing ∷ to) h)
-    ∙ goes (λ _. read.array_by called (pos n) (is_zero (pos n))) (expects CloseBracket closing to c)
-    ∙ ap (λ (b : Bool). read.array_by called (pos n) b to) (not_zero n least)
+    goes (λ _. λ ts. read.array_by called (step.sees_zero ts) ts) (expects OpenBracket opening (length ∷ closing ∷ to) o)
+    ∙ ap (λ (b : Bool). read.array_by called b (length ∷ closing ∷ to)) (sees_of length n (closing ∷ to) h ∙ not_zero n least)
+    ∙ goes (λ length. expect CloseBracket >>= (λ _. pure (item.Array called length))) (reads_number length n (closing ∷ to) h)
+    ∙ goes (λ _. pure (item.Array called (pos n))) (expects CloseBracket closing to c)
 
-reads_param : (int name : Lexeme) (to : List Lexeme) → Is Int int → Is Name name → read.param (int ∷ name ∷ to) ≡ Some (name_of name, to)
+pub reads_param : (int name : Lexeme) (to : List Lexeme) → Is Int int → Is Name name → read.param (int ∷ name ∷ to) ≡ Ok (name_of name, to)
 unfolding read.param
 reads_param int name to i n = goes (λ _. step.name) (expects Int int (name ∷ to) i) ∙ reads_name name to n
 
 reads_names : {from to : List Lexeme} {names : List TreeName} → DerivesNames from to names → (closing : Lexeme) (left : List Lexeme) → to ≡ closing ∷ left → Is CloseParen closing →
-    (k : ℕ) (found : List TreeName) → length from ≤ k → separated read.param k found from ≡ Some (found ++ names, to)
+    (k : ℕ) (found : List TreeName) → length from ≤ k → separated read.param k found from ≡ Ok (found ++ names, to)
 reads_names (last {int} {name} {to} i n) closing left splits h k found fits =
     let stop : sees Comma to ≡ false = rw splits (sees_other Comma (closing ∷ left) (unlike closing left CloseParen Comma h (λ e. cc))) in
     separated_off read.param k found (int ∷ name ∷ to) to (name_of name) (reads_param int name to i n) (omega arith) fits stop
-    ∙ ap (λ (ts : List Lexeme). Some (pair (found ++ name_of name ∷ []) ts)) (after_other Comma to stop)
+    ∙ ap (λ (ts : List Lexeme). Ok (pair (found ++ name_of name ∷ []) ts)) (after_other Comma to stop)
 reads_names (more {int} {name} {comma} {from} {to} {names} i n c ds) closing left splits h k found fits =
     separated_on read.param k found (int ∷ name ∷ comma ∷ from) (comma ∷ from) (name_of name) (reads_param int name (comma ∷ from) i n) (omega arith) fits (sees_is Comma comma from c)
     ∙ ap (separated read.param (k - 1) (found ++ name_of name ∷ [])) (after_is Comma comma from c)
     ∙ reads_names ds closing left splits h (k - 1) (found ++ name_of name ∷ []) (omega arith)
-    ∙ ap (λ (all : List TreeName). Some (pair all to)) (append_assoc found (name_of name ∷ []) names)
+    ∙ ap (λ (all : List TreeName). Ok (pair all to)) (append_assoc found (name_of name ∷ []) names)
 
 names_begin : {from to : List Lexeme} {names : List TreeName} → DerivesNames from to names → symbol_at from ≡ Int
 unfolding symbol_at
 names_begin (last i n) = i
 names_begin (more i n c ds) = i
 
-reads_params : {from to : List Lexeme} {names : List TreeName} → DerivesParams from to names → (closing : Lexeme) (left : List Lexeme) → to ≡ closing ∷ left → Is CloseParen closing → read.params from ≡ Some (names, to)
+pub reads_params : {from to : List Lexeme} {names : List TreeName} → DerivesParams from to names → (closing : Lexeme) (left : List Lexeme) → to ≡ closing ∷ left → Is CloseParen closing → read.params from ≡ Ok (names, to)
 unfolding read.params
 reads_params (programs.none {to}) closing left splits h =
     let seen : sees CloseParen to ≡ true = rw splits (sees_is CloseParen closing left h) in ap (λ (b : Bool). read.params_by b to) seen
@@ -106,7 +106,7 @@ reads_params (some {from} {to} {names} d) closing left splits h =
     ∙ reads_names d closing left splits h (length from) [] (omega arith)
 
 pub reads_function : (name opening closing : Lexeme) (from middle to : List Lexeme) (params : List TreeName) (body : List RawStmt) → Is Name name → Is OpenParen opening → DerivesParams from (closing ∷ middle) params → Is CloseParen closing →
-    DerivesBlock middle to body → read.function (name ∷ opening ∷ from) ≡ Some (item.Function (name_of name) params body, to)
+    DerivesBlock middle to body → read.function (name ∷ opening ∷ from) ≡ Ok (item.Function (name_of name) params body, to)
 unfolding read.function
 reads_function name opening closing from middle to params body n o d c b =
     goes (λ name. expect OpenParen >>= (λ _. read.params >>= (λ params. expect CloseParen >>= (λ _. (λ ts. statements.block (statements.statement (length ts)) ts) >>= (λ body. pure (item.Function name params body)))))) (reads_name name (opening ∷ from) n)

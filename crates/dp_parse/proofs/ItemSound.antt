@@ -1,5 +1,5 @@
 -- What the descent reads as a declaration, the grammar derives.
-use Rattle.std.proofs.Common.{◌≡◌, refl, ap, ◌∙◌, sym, ℕ, zero, suc, ◌≤◌, ℤ, pos, neg_ℤ, nat_lt, Bool, true, false, if◌then◌else◌, List, [], ◌∷◌, ◌++◌, length, Some, None, append_assoc, arith}
+use Rattle.std.proofs.Common.{◌≡◌, refl, ap, ◌∙◌, sym, ℕ, zero, suc, ◌≤◌, ℤ, pos, neg_ℤ, nat_lt, Bool, true, false, if◌then◌else◌, List, [], ◌∷◌, ◌++◌, length, Some, None, Ok, append_assoc, arith}
 use Rattle.std.proofs.lemmas.Bool.{ltb-true, ltb-false}
 use Rattle.dp_base.specs.Arithmetic.{is_zero, fits}
 use Rattle.dp_lex.specs.Token.{Lexeme}
@@ -19,7 +19,7 @@ use Rattle.dp_parse.specs.descent.Steps as step
 use Rattle.dp_parse.specs.descent.Statements as statements
 use Rattle.dp_parse.specs.descent.Programs as read
 use Rattle.dp_parse.proofs.StepLemmas.{Sound, then_of, same_pair, took, Ate, passed, stayed, ate, closed, moved, taken, gave}
-use Rattle.dp_parse.proofs.LeafLemmas.{read_name, read_number}
+use Rattle.dp_parse.proofs.LeafLemmas.{read_name, read_number, sees_of}
 use Rattle.dp_parse.proofs.StatementSound.{sound_block, sound_statement}
 use Rattle.dp_parse.proofs.ItemSteps.{Param, read_param}
 
@@ -32,7 +32,7 @@ pub zero_is : (z : ℤ) (n : ℕ) → z ≡ pos n → is_zero z ≡ true → n �
 unfolding is_zero
 zero_is z n same e = let h : nat_lt n 1 ≡ true = sym (ap is_zero same) ∙ e in let less = ltb-true n 1 h in omega arith
 
-nonzero_is : (z : ℤ) (n : ℕ) → z ≡ pos n → is_zero z ≡ false → 1 ≤ n
+pub nonzero_is : (z : ℤ) (n : ℕ) → z ≡ pos n → is_zero z ≡ false → 1 ≤ n
 unfolding is_zero
 nonzero_is z n same e = let h : nat_lt n 1 ≡ false = sym (ap is_zero same) ∙ e in ltb-false n 1 h
 
@@ -45,7 +45,7 @@ unfolding step.negated
 turned z w e = turned_by z w (fits (neg_ℤ z)) e
 
 -- the start value that was read
-data Start (from to : List Lexeme) (z : ℤ) : Type 0 where
+pub data Start (from to : List Lexeme) (z : ℤ) : Type 0 where
   plain : (t : Lexeme) (n : ℕ) → IsNumber t n → from ≡ t ∷ to → z ≡ pos n → Start from to z
   below : (minus t : Lexeme) (n : ℕ) → Is Minus minus → IsNumber t n → from ≡ minus ∷ t ∷ to → z ≡ neg_ℤ (pos n) → Start from to z
 
@@ -57,7 +57,7 @@ start_ate from to z (passed t middle is splits e) =
     below t n.token n.value is n.is (splits ∙ taken t (n.splits ∙ taken n.token g.1)) (turned o.value z g.0 ∙ ap neg_ℤ n.reads)
 start_ate from to z (stayed other e) = let n = read_number from to z e in plain n.token n.value n.is n.splits n.reads
 
-read_start : (from to : List Lexeme) (z : ℤ) → read.start from ≡ Some (z, to) → Start from to z
+pub read_start : (from to : List Lexeme) (z : ℤ) → read.start from ≡ Ok (z, to) → Start from to z
 unfolding read.start
 read_start from to z e = start_ate from to z (ate Minus read.start_by z to from (λ k. cc) e)
 
@@ -70,46 +70,49 @@ started int name equals end from to z i n q (plain t v h splits same) e =
 started int name equals end from to z i n q (below minus t v m h splits same) e =
     moved DerivesItem (taken int (taken name (taken equals splits))) refl (ap (item.Scalar (name_of name)) same) (programs.below_zero i n q m h e)
 
-array_at : (name : TreeName) (z : ℤ) (n : ℕ) (found : RawItem) (ts left : List Lexeme) (b : Bool) → z ≡ pos n → is_zero z ≡ b → read.array_by name z b ts ≡ Some (found, left) → (1 ≤ n) × (found ≡ item.Array name z) × (ts ≡ left)
-array_at name z n found ts left true same e h = absurd (cc)
-array_at name z n found ts left false same e h =
-    let parts = same_pair {a = item.Array name z} {b = found} {x = ts} {y = left} h in (nonzero_is z n same e, sym parts.0, parts.1)
+sound_length : (int name opening end : Lexeme) (from to : List Lexeme) (i : RawItem) (b : Bool) → Is Int int → Is Name name → Is OpenBracket opening → step.sees_zero from ≡ b →
+    read.array_by (name_of name) b from ≡ Ok (i, end ∷ to) → Is Semicolon end → DerivesItem (int ∷ name ∷ opening ∷ from) to i
+sound_length int name opening end from to i true is_int is_name is_opening seen h is_end = absurd (cc)
+sound_length int name opening end from to i false is_int is_name is_opening seen h is_end =
+    let called = name_of name in
+    let p = then_of (step.number from) (λ length. expect CloseBracket >>= (λ _. pure (item.Array called length))) i (end ∷ to) h in
+    let n = read_number from p.middle p.value p.first in
+    let q = then_of (expect CloseBracket p.middle) (λ _. pure (item.Array called p.value)) i (end ∷ to) p.second in
+    let u = took CloseBracket p.middle q.value q.middle q.first in
+    let parts = same_pair {a = item.Array called p.value} {b = i} {x = q.middle} {y = end ∷ to} q.second in
+    let zero : is_zero (pos n.value) ≡ false = sym (sees_of n.token n.value p.middle n.is) ∙ ap step.sees_zero (sym n.splits) ∙ seen in
+    moved DerivesItem (taken int (taken name (taken opening (n.splits ∙ taken n.token (u.splits ∙ taken q.value parts.1))))) refl (sym parts.0 ∙ ap (item.Array called) n.reads)
+    (programs.array is_int is_name is_opening n.is (nonzero_is (pos n.value) n.value refl zero) u.is is_end)
 
-sound_array : (int name end : Lexeme) (from to : List Lexeme) (i : RawItem) → Is Int int → Is Name name → read.array (name_of name) from ≡ Some (i, end ∷ to) → Is Semicolon end → DerivesItem (int ∷ name ∷ from) to i
+sound_array : (int name end : Lexeme) (from to : List Lexeme) (i : RawItem) → Is Int int → Is Name name → read.array (name_of name) from ≡ Ok (i, end ∷ to) → Is Semicolon end → DerivesItem (int ∷ name ∷ from) to i
 unfolding read.array
 sound_array int name end from to i is_int is_name h is_end =
-    let called = name_of name in
-    let o = then_of (expect OpenBracket from) (λ _. step.number >>= (λ length. expect CloseBracket >>= (λ _. read.array_by called length (is_zero length)))) i (end ∷ to) h in
+    let o = then_of (expect OpenBracket from) (λ _. λ ts. read.array_by (name_of name) (step.sees_zero ts) ts) i (end ∷ to) h in
     let t = took OpenBracket from o.value o.middle o.first in
-    let p = then_of (step.number o.middle) (λ length. expect CloseBracket >>= (λ _. read.array_by called length (is_zero length))) i (end ∷ to) o.second in
-    let n = read_number o.middle p.middle p.value p.first in
-    let q = then_of (expect CloseBracket p.middle) (λ _. read.array_by called p.value (is_zero p.value)) i (end ∷ to) p.second in
-    let u = took CloseBracket p.middle q.value q.middle q.first in
-    let a = array_at called p.value n.value i q.middle (end ∷ to) (is_zero p.value) n.reads refl q.second in
-    moved DerivesItem (taken int (taken name (t.splits ∙ taken o.value (n.splits ∙ taken n.token (u.splits ∙ taken q.value a.2))))) refl (a.1 ∙ ap (item.Array called) n.reads)
-    (programs.array is_int is_name t.is n.is a.0 u.is is_end)
+    moved DerivesItem (taken int (taken name t.splits)) refl refl
+    (sound_length int name o.value end o.middle to i (step.sees_zero o.middle) is_int is_name t.is refl o.second is_end)
 
 variable_started : (int name end : Lexeme) (from to : List Lexeme) (i : RawItem) → symbol_at from ≡ Assign → Is Int int → Is Name name →
-    (read.start >>= (λ z. pure (item.Scalar (name_of name) z))) (rest from) ≡ Some (i, end ∷ to) → Is Semicolon end → DerivesItem (int ∷ name ∷ from) to i
+    (read.start >>= (λ z. pure (item.Scalar (name_of name) z))) (rest from) ≡ Ok (i, end ∷ to) → Is Semicolon end → DerivesItem (int ∷ name ∷ from) to i
 unfolding symbol_at rest
 variable_started int name end [] to i at is_int is_name h is_end = absurd (cc)
 variable_started int name end (t ∷ from) to i at is_int is_name h is_end =
     let o = then_of (read.start from) (λ z. pure (item.Scalar (name_of name) z)) i (end ∷ to) h in
     let parts = same_pair {a = item.Scalar (name_of name) o.value} {b = i} {x = o.middle} {y = end ∷ to} o.second in
-    let start = read_start from (end ∷ to) o.value (o.first ∙ ap (λ (ts : List Lexeme). Some (pair o.value ts)) parts.1) in
+    let start = read_start from (end ∷ to) o.value (o.first ∙ ap (λ (ts : List Lexeme). Ok (pair o.value ts)) parts.1) in
     moved DerivesItem refl refl (sym parts.0) (started int name t end from to o.value is_int is_name at start is_end)
 
-variable_plain : (int name end : Lexeme) (from to : List Lexeme) (i : RawItem) → Is Int int → Is Name name → pure (item.Scalar (name_of name) (pos 0)) from ≡ Some (i, end ∷ to) → Is Semicolon end → DerivesItem (int ∷ name ∷ from) to i
+variable_plain : (int name end : Lexeme) (from to : List Lexeme) (i : RawItem) → Is Int int → Is Name name → pure (item.Scalar (name_of name) (pos 0)) from ≡ Ok (i, end ∷ to) → Is Semicolon end → DerivesItem (int ∷ name ∷ from) to i
 variable_plain int name end from to i is_int is_name h is_end =
     let parts = same_pair {a = item.Scalar (name_of name) (pos 0)} {b = i} {x = from} {y = end ∷ to} h in
     moved DerivesItem (taken int (taken name parts.1)) refl (sym parts.0) (programs.scalar is_int is_name is_end)
 
-variable_at : (int name end : Lexeme) (k : Symbol) (from to : List Lexeme) (i : RawItem) → symbol_at from ≡ k → Is Int int → Is Name name → read.variable_by (name_of name) k from ≡ Some (i, end ∷ to) → Is Semicolon end → DerivesItem (int ∷ name ∷ from) to i
+variable_at : (int name end : Lexeme) (k : Symbol) (from to : List Lexeme) (i : RawItem) → symbol_at from ≡ k → Is Int int → Is Name name → read.variable_by (name_of name) k from ≡ Ok (i, end ∷ to) → Is Semicolon end → DerivesItem (int ∷ name ∷ from) to i
 variable_at int name end OpenBracket from to i at is_int is_name h is_end = sound_array int name end from to i is_int is_name h is_end
 variable_at int name end Assign from to i at is_int is_name h is_end = variable_started int name end from to i at is_int is_name h is_end
 variable_at int name end _ from to i at is_int is_name h is_end = variable_plain int name end from to i is_int is_name h is_end
 
-pub sound_variable : (int : Lexeme) (from to : List Lexeme) (i : RawItem) → Is Int int → read.variable from ≡ Some (i, to) → DerivesItem (int ∷ from) to i
+pub sound_variable : (int : Lexeme) (from to : List Lexeme) (i : RawItem) → Is Int int → read.variable from ≡ Ok (i, to) → DerivesItem (int ∷ from) to i
 unfolding read.variable
 sound_variable int from to i is_int h =
     let o = then_of (step.name from) (λ name. step.peek >>= (λ s. read.variable_by name s >>= (λ found. expect Semicolon >>= (λ _. pure found)))) i to h in
@@ -123,7 +126,7 @@ sound_variable int from to i is_int h =
 abbrev Listed : (List Lexeme → List Lexeme → List TreeName → List TreeName → Type 0)
 Listed from to found out = (names : List TreeName) × (out ≡ found ++ names) × DerivesNames from to names
 
-names_by : (again : List TreeName → Parser (List TreeName)) (goes : (from to : List Lexeme) (found out : List TreeName) → again found from ≡ Some (out, to) → Listed from to found out)
+names_by : (again : List TreeName → Parser (List TreeName)) (goes : (from to : List Lexeme) (found out : List TreeName) → again found from ≡ Ok (out, to) → Listed from to found out)
     (from middle to : List Lexeme) (found out : List TreeName) (x : TreeName) → Param from middle x → Ate Comma (separated_by again (found ++ x ∷ [])) middle out to → Listed from to found out
 names_by again goes from middle to found out x p (passed t left is splits e) =
     let others = goes left to (found ++ x ∷ []) out e in
@@ -134,7 +137,7 @@ names_by again goes from middle to found out x p (stayed other e) =
     let same = ap (λ (n : TreeName). n ∷ []) p.called in
     (x ∷ [], sym parts.0, moved DerivesNames (p.splits ∙ taken p.int (taken p.token parts.1)) refl same (programs.last p.is_int p.is))
 
-separated_names : (n : ℕ) (from to : List Lexeme) (found out : List TreeName) → separated read.param n found from ≡ Some (out, to) → Listed from to found out
+separated_names : (n : ℕ) (from to : List Lexeme) (found out : List TreeName) → separated read.param n found from ≡ Ok (out, to) → Listed from to found out
 unfolding separated
 separated_names zero from to found out h = absurd (cc)
 separated_names (suc n) from to found out h =
@@ -148,15 +151,15 @@ named_params from to names (passed t left is splits e) =
     moved DerivesParams (splits ∙ taken t parts.1) refl (sym parts.0) (programs.void is)
 named_params from to names (stayed other e) = let r = separated_names (length from) from to [] names e in moved DerivesParams refl refl r.1 (programs.some r.2)
 
-params_at : (b : Bool) (from to : List Lexeme) (names : List TreeName) → read.params_by b from ≡ Some (names, to) → DerivesParams from to names
+params_at : (b : Bool) (from to : List Lexeme) (names : List TreeName) → read.params_by b from ≡ Ok (names, to) → DerivesParams from to names
 params_at true from to names h = let parts = same_pair {a = []} {b = names} {x = from} {y = to} h in moved DerivesParams parts.1 refl (sym parts.0) programs.none
 params_at false from to names h = named_params from to names (ate Void read.named_params_by names to from (λ k. cc) h)
 
-sound_params : Sound read.params DerivesParams
+pub sound_params : Sound read.params DerivesParams
 unfolding read.params
 sound_params from to names h = params_at (sees CloseParen from) from to names h
 
-pub sound_function : (void : Lexeme) (from to : List Lexeme) (i : RawItem) → Is Void void → read.function from ≡ Some (i, to) → DerivesItem (void ∷ from) to i
+pub sound_function : (void : Lexeme) (from to : List Lexeme) (i : RawItem) → Is Void void → read.function from ≡ Ok (i, to) → DerivesItem (void ∷ from) to i
 unfolding read.function
 sound_function void from to i is_void h =
     let last = λ (name : TreeName) (params : List TreeName) (body : List RawStmt). item.Function name params body in

@@ -1,5 +1,5 @@
 -- Parameters, and statements of `main`, take tokens.
-use Rattle.std.proofs.Common.{◌≡◌, refl, ap, ◌∙◌, ℕ, ◌<◌, Bool, true, false, ◌||◌, List, ◌∷◌, length, Some, arith}
+use Rattle.std.proofs.Common.{◌≡◌, refl, ap, ◌∙◌, ℕ, ◌<◌, Bool, true, false, ◌||◌, List, ◌∷◌, length, arith, Ok}
 use Rattle.dp_lex.specs.Token.{Lexeme}
 use Rattle.dp_tree.specs.declared.raw.Name.{Name as TreeName}
 use Rattle.dp_parse.specs.declared.symbol.Symbol.TheVariants.{Int, Name, Mark, Return, CloseBrace}
@@ -10,8 +10,9 @@ use Rattle.dp_parse.specs.descent.Programs.{param, top, top_by, ends}
 use Rattle.dp_parse.specs.descent.Statements.{statement}
 use Rattle.dp_parse.proofs.StepLemmas.{then_of, took, Ate, passed, stayed, ate, seen_some}
 use Rattle.dp_parse.proofs.LeafLemmas.{read_name}
-use Rattle.dp_parse.proofs.Shorter.{shorter_statement, shorter_condition, shorter_block}
-use Rattle.dp_parse.proofs.StatementSound.{sound_statement, read_repeated}
+use Rattle.dp_parse.proofs.Shorter.{shorter_statement, shorter_condition, shorter_head}
+use Rattle.dp_parse.proofs.StatementSound.{sound_statement}
+use Rattle.dp_parse.proofs.RegionSound.{Marked, by_while, by_for, read_region, shorter_loop}
 use Rattle.dp_tree.specs.declared.raw.RawStmt.{RawStmt}
 
 -- a parameter: its `int` and its name
@@ -23,7 +24,7 @@ pub record Param (from to : List Lexeme) (n : TreeName) : Type 0 where
   pub splits : from ≡ int ∷ token ∷ to
   pub called : n ≡ name_of token
 
-pub read_param : (from to : List Lexeme) (n : TreeName) → param from ≡ Some (n, to) → Param from to n
+pub read_param : (from to : List Lexeme) (n : TreeName) → param from ≡ Ok (n, to) → Param from to n
 unfolding param
 read_param from to n e =
     let h = then_of (expect Int from) (λ _. name) n to e in
@@ -31,20 +32,21 @@ read_param from to n e =
     let r = read_name h.middle to n h.second in
     record { int = h.value; token = r.token; is_int = t.is; is = r.is; splits = t.splits ∙ ap (λ (ts : List Lexeme). h.value ∷ ts) r.splits; called = r.called }
 
-pub param_shorter : (from to : List Lexeme) (n : TreeName) → param from ≡ Some (n, to) → length to < length from
+pub param_shorter : (from to : List Lexeme) (n : TreeName) → param from ≡ Ok (n, to) → length to < length from
 param_shorter from to n e = let r = read_param from to n e in let same = ap length r.splits in omega arith
+
+marked_shorter : (n : ℕ) (from to : List Lexeme) (s : RawStmt) → Marked (statement n) (sound_statement n) from to s → length to < length from
+marked_shorter n from to s (by_while word inside middle cond body w splits d b made) = let a = shorter_condition d in let c = shorter_loop b in let same = ap length splits in omega arith
+marked_shorter n from to s (by_for word inside middle first step cond body w splits d b made) = let a = shorter_head d in let c = shorter_loop b in let same = ap length splits in omega arith
 
 top_at : (n : ℕ) (from to : List Lexeme) (s : RawStmt) → Ate Mark (top_by n) from s to → length to < length from
 top_at n from to s (passed t middle is splits e) =
-    let r = read_repeated (statement n) (sound_statement n) true middle to s e in
-    let a = shorter_condition r.tests in
-    let b = shorter_block r.repeats in
     let same = ap length splits in
-    let more = ap length r.splits in
+    let less = marked_shorter n middle to s (read_region (statement n) (sound_statement n) middle to s e) in
     omega arith
 top_at n from to s (stayed other e) = shorter_statement (sound_statement n from to s e)
 
-pub top_shorter : (from to : List Lexeme) (s : RawStmt) → top from ≡ Some (s, to) → length to < length from
+pub top_shorter : (from to : List Lexeme) (s : RawStmt) → top from ≡ Ok (s, to) → length to < length from
 unfolding top
 top_shorter from to s e = top_at (length from) from to s (ate Mark (top_by (length from)) s to from (λ k. cc) e)
 

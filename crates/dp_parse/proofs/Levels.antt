@@ -1,5 +1,5 @@
 -- A level of an expression as it is read: its operands, its operators, and the turns of a chain.
-use Rattle.std.proofs.Common.{◌≡◌, refl, ap, ◌∙◌, ℕ, zero, suc, ◌+◌, ◌-◌, ◌<◌, ◌≤◌, List, [], ◌∷◌, length, Option, Some, None, arith}
+use Rattle.std.proofs.Common.{◌≡◌, refl, ap, ◌∙◌, ℕ, zero, suc, ◌+◌, ◌-◌, ◌<◌, ◌≤◌, List, [], ◌∷◌, length, Option, Some, None, arith, Ok, Err}
 use Rattle.std.proofs.lemmas.Option.{same_Some}
 use Rattle.dp_base.specs.declared.UnOp.{UnOp}
 use Rattle.dp_lex.specs.Token.{Lexeme}
@@ -67,13 +67,13 @@ module _ (nested : Level → Parser RawExpr) where
     pub level_prefixed : (op : UnOp) → prefix_at l (symbol_at ts) ≡ Some op → read.expression nested l ts ≡ (nested l >>= (λ x. pure (tree.Unary op x))) (rest ts)
     level_prefixed op e = level_by (Some op) e
 
-    pub level_chain : (first : RawExpr) (middle : List Lexeme) → prefix_at l (symbol_at ts) ≡ None → read.expression nested m ts ≡ Some (first, middle) →
+    pub level_chain : (first : RawExpr) (middle : List Lexeme) → prefix_at l (symbol_at ts) ≡ None → read.expression nested m ts ≡ Ok (first, middle) →
         read.expression nested l ts ≡ read.chain l (read.expression nested m) (length middle) first middle
     level_chain first middle e h =
         level_by None e ∙ ap (λ (o : Outcome RawExpr). and_then o (λ first. λ ts. read.chain l (read.expression nested m) (length ts) first ts)) h
 
-    pub level_none : prefix_at l (symbol_at ts) ≡ None → read.expression nested m ts ≡ None → read.expression nested l ts ≡ None
-    level_none e h = level_by None e ∙ ap (λ (o : Outcome RawExpr). and_then o (λ first. λ ts. read.chain l (read.expression nested m) (length ts) first ts)) h
+    pub level_none : (left : List Lexeme) → prefix_at l (symbol_at ts) ≡ None → read.expression nested m ts ≡ Err left → read.expression nested l ts ≡ Err left
+    level_none left e h = level_by None e ∙ ap (λ (o : Outcome RawExpr). and_then o (λ first. λ ts. read.chain l (read.expression nested m) (length ts) first ts)) h
 
 module _ (l : Level) (operand : Parser RawExpr) where
   pub joins_some : (ts : List Lexeme) (join : Join) → join_at l (symbol_at ts) ≡ Some join → 0 < length ts
@@ -81,12 +81,12 @@ module _ (l : Level) (operand : Parser RawExpr) where
   joins_some [] join e = absurd (cc)
   joins_some (t ∷ ts) join e = omega arith
 
-  pub chain_end : (k : ℕ) (found : RawExpr) (ts : List Lexeme) → join_at l (symbol_at ts) ≡ None → read.chain l operand k found ts ≡ Some (found, ts)
+  pub chain_end : (k : ℕ) (found : RawExpr) (ts : List Lexeme) → join_at l (symbol_at ts) ≡ None → read.chain l operand k found ts ≡ Ok (found, ts)
   unfolding read.chain
   chain_end zero found ts e = refl
   chain_end (suc k) found ts e = ap (λ (j : Option Join). read.longer (read.chain l operand k) operand found j ts) e
 
-  chain_by : (k : ℕ) (found : RawExpr) (ts : List Lexeme) (join : Join) → join_at l (symbol_at ts) ≡ Some join → length ts ≤ k →
+  pub chain_by : (k : ℕ) (found : RawExpr) (ts : List Lexeme) (join : Join) → join_at l (symbol_at ts) ≡ Some join → length ts ≤ k →
       read.chain l operand k found ts ≡ (operand >>= (λ right. read.chain l operand (k - 1) (joined join found right))) (rest ts)
   unfolding read.chain
   chain_by zero found ts join e fits = let some : 0 < length ts = joins_some ts join e in absurd (omega arith)
@@ -94,12 +94,12 @@ module _ (l : Level) (operand : Parser RawExpr) where
       let same : suc k - 1 ≡ k = omega arith in
       rw (same) (ap (λ (j : Option Join). read.longer (read.chain l operand k) operand found j ts) e)
 
-  pub chain_turn : (k : ℕ) (found right : RawExpr) (ts middle : List Lexeme) (join : Join) → join_at l (symbol_at ts) ≡ Some join → operand (rest ts) ≡ Some (right, middle) → length ts ≤ k →
+  pub chain_turn : (k : ℕ) (found right : RawExpr) (ts middle : List Lexeme) (join : Join) → join_at l (symbol_at ts) ≡ Some join → operand (rest ts) ≡ Ok (right, middle) → length ts ≤ k →
       read.chain l operand k found ts ≡ read.chain l operand (k - 1) (joined join found right) middle
   chain_turn k found right ts middle join e h fits =
       chain_by k found ts join e fits ∙ ap (λ (o : Outcome RawExpr). and_then o (λ right. read.chain l operand (k - 1) (joined join found right))) h
 
-  pub chain_none : (k : ℕ) (found : RawExpr) (ts : List Lexeme) (join : Join) → join_at l (symbol_at ts) ≡ Some join → operand (rest ts) ≡ None → length ts ≤ k →
-      read.chain l operand k found ts ≡ None
-  chain_none k found ts join e h fits =
+  pub chain_none : (k : ℕ) (found : RawExpr) (ts left : List Lexeme) (join : Join) → join_at l (symbol_at ts) ≡ Some join → operand (rest ts) ≡ Err left → length ts ≤ k →
+      read.chain l operand k found ts ≡ Err left
+  chain_none k found ts left join e h fits =
       chain_by k found ts join e fits ∙ ap (λ (o : Outcome RawExpr). and_then o (λ right. read.chain l operand (k - 1) (joined join found right))) h

@@ -1,5 +1,5 @@
 -- What the grammar derives as a program, the descent reads; so no tokens derive two programs.
-use Rattle.std.proofs.Common.{◌≡◌, refl, ap, ap₂, ◌∙◌, sym, ℕ, ◌-◌, ◌≤◌, pos, neg_ℤ, Bool, true, false, ◌||◌, List, [], ◌∷◌, ◌++◌, length, Some, append_assoc, arith}
+use Rattle.std.proofs.Common.{◌≡◌, refl, ap, ap₂, ◌∙◌, sym, ℕ, ◌-◌, ◌<◌, ◌≤◌, pos, neg_ℤ, Bool, true, false, ◌||◌, List, [], ◌∷◌, ◌++◌, length, append_assoc, arith, Ok}
 use Rattle.std.proofs.lemmas.List.{append-nil}
 use Rattle.dp_base.specs.Arithmetic.{is_zero}
 use Rattle.dp_lex.specs.Token.{Lexeme}
@@ -12,22 +12,25 @@ use Rattle.dp_tree.specs.declared.raw.RawProgram.{RawProgram}
 use Rattle.dp_parse.specs.declared.item.Part.{Part}
 use Rattle.dp_parse.specs.declared.item.Part.TheVariants.{Item, Main as Body}
 use Rattle.dp_parse.specs.declared.symbol.Symbol.{Symbol}
-use Rattle.dp_parse.specs.declared.symbol.Symbol.TheVariants.{Name, Mark, Int, Void, Main, Return, While, Else, Assign, OpenParen, CloseParen, OpenBracket, OpenBrace, CloseBrace, Semicolon}
+use Rattle.dp_parse.specs.declared.symbol.Symbol.TheVariants.{Name, Mark, Int, Void, Main, Return, While, For, Else, Assign, OpenParen, CloseParen, OpenBracket, OpenBrace, CloseBrace, Semicolon}
 use Rattle.dp_parse.specs.Symbols.{symbol_at, Is}
 use Rattle.dp_parse.specs.Leaves.{name_of}
-use Rattle.dp_parse.specs.Statements.{DerivesStatement, DerivesBlock, DerivesCondition}
-use Rattle.dp_parse.specs.Programs.{DerivesNames, last, more, DerivesParams, void, some, DerivesItem, scalar, started, below_zero, array, function, DerivesTops, region, DerivesReturn, DerivesMain, main, main_void, DerivesItems, Derives}
+use Rattle.dp_parse.specs.Statements.{DerivesStatement, DerivesCondition}
+use Rattle.dp_parse.specs.Heads.{DerivesHead}
+use Rattle.dp_parse.specs.Programs.{DerivesNames, last, more, DerivesParams, void, some, DerivesItem, scalar, started, below_zero, array, function, DerivesTops, region, for_region, DerivesReturn, DerivesMain, main, main_void, DerivesItems, Derives}
 use Rattle.dp_parse.specs.Programs as programs
 use Rattle.dp_parse.specs.descent.Steps.{Outcome, Parser, ◌>>=◌, pure, and_then, expect, eat, rest, sees, after, given, separated, many}
 use Rattle.dp_parse.specs.descent.Steps as step
-use Rattle.dp_parse.specs.descent.Statements as statements
 use Rattle.dp_parse.specs.descent.Programs as read
 use Rattle.dp_parse.proofs.StepLemmas.{is_same, expects, eats, stays, sees_other, same_pair}
-use Rattle.dp_parse.proofs.LeafLemmas.{reads_number}
+use Rattle.dp_parse.proofs.LeafLemmas.{reads_number, sees_of}
 use Rattle.dp_parse.proofs.Lists.{many_turn, many_end}
-use Rattle.dp_parse.proofs.Shorter.{shorter_statement, shorter_condition, shorter_block}
-use Rattle.dp_parse.proofs.StatementReads.{goes, begins_not, reads_repeated}
-use Rattle.dp_parse.proofs.StatementComplete.{reads_statement, reads_block}
+use Rattle.dp_parse.proofs.Shorter.{shorter_statement, shorter_condition, shorter_head}
+use Rattle.dp_parse.proofs.StatementReads.{goes, begins_not}
+use Rattle.dp_parse.specs.Regions.{DerivesLoop}
+use Rattle.dp_parse.proofs.StatementComplete.{reads_statement}
+use Rattle.dp_parse.proofs.RegionSound.{shorter_loop}
+use Rattle.dp_parse.proofs.RegionComplete.{reads_marked, reads_marked_for}
 use Rattle.dp_parse.proofs.ItemSteps.{ends_some}
 use Rattle.dp_parse.proofs.ProgramSteps.{program_item, program_main}
 use Rattle.dp_parse.proofs.ShorterPrograms.{shorter_item, shorter_main}
@@ -41,10 +44,10 @@ at_head t ts s h = h
 -- ---- `main`
 
 -- what may stand behind the statements of `main`
-abbrev Closes : List Lexeme → Type 0
+abbrev pub Closes : List Lexeme → Type 0
 Closes ts = read.ends ts ≡ true
 
-ends_return : (ts : List Lexeme) → symbol_at ts ≡ Return → Closes ts
+pub ends_return : (ts : List Lexeme) → symbol_at ts ≡ Return → Closes ts
 unfolding read.ends sees
 ends_return ts at = ap (λ (b : Bool). b || step.same_symbol (symbol_at ts) CloseBrace) (is_same (symbol_at ts) Return at)
 
@@ -56,7 +59,7 @@ ends_brace : (ts : List Lexeme) → symbol_at ts ≡ CloseBrace → Closes ts
 unfolding read.ends sees
 ends_brace ts at = ap (λ (b : Bool). step.same_symbol (symbol_at ts) Return || b) (is_same (symbol_at ts) CloseBrace at) ∙ or_true (step.same_symbol (symbol_at ts) Return)
 
-ends_not : (ts : List Lexeme) → (symbol_at ts ≡ Return → ⊥) → (symbol_at ts ≡ CloseBrace → ⊥) → read.ends ts ≡ false
+pub ends_not : (ts : List Lexeme) → (symbol_at ts ≡ Return → ⊥) → (symbol_at ts ≡ CloseBrace → ⊥) → read.ends ts ≡ false
 unfolding read.ends
 ends_not ts f g = ap₂ (λ (a b : Bool). a || b) (sees_other Return ts f) (sees_other CloseBrace ts g)
 
@@ -69,52 +72,73 @@ tops_no_else : {from to : List Lexeme} {body : List RawStmt} → DerivesTops fro
 unfolding symbol_at
 tops_no_else (programs.none {to}) h at = closes_no_else to h at
 tops_no_else (programs.statement d ds) h at = begins_not d Else refl at
+tops_no_else (for_region m w c b ds) h at = let clash : Mark ≡ Else = sym m ∙ at in cc clash
 tops_no_else (region m w c b ds) h at = let clash : Mark ≡ Else = sym m ∙ at in cc clash
 
-reads_top_statement : (from to : List Lexeme) (s : RawStmt) → DerivesStatement from to s → (symbol_at to ≡ Else → ⊥) → read.top from ≡ Some (s, to)
+pub reads_top_statement : (from to : List Lexeme) (s : RawStmt) → DerivesStatement from to s → (symbol_at to ≡ Else → ⊥) → read.top from ≡ Ok (s, to)
 unfolding read.top
 reads_top_statement from to s d other = stays Mark (read.top_by (length from)) from (begins_not d Mark refl) ∙ reads_statement d (length from) (omega arith) other
 
-reads_region : (mark word : Lexeme) (from inside to : List Lexeme) (e : RawExpr) (body : List RawStmt) → Is Mark mark → Is While word → DerivesCondition from inside e → DerivesBlock inside to body →
-    read.top (mark ∷ word ∷ from) ≡ Some (stmt.While word.line true e body, to)
+pub reads_region : (mark word : Lexeme) (from inside to : List Lexeme) (e : RawExpr) (body : List RawStmt) → Is Mark mark → Is While word → DerivesCondition from inside e → DerivesLoop inside to body →
+    read.top (mark ∷ word ∷ from) ≡ Ok (stmt.While word.line true e body, to)
 unfolding read.top
 reads_region mark word from inside to e body m w c b =
     let less = shorter_condition c in
     eats Mark (read.top_by (length (mark ∷ word ∷ from))) mark (word ∷ from) m
-    ∙ reads_repeated (statements.statement (length (mark ∷ word ∷ from))) true word from inside to e body w c (reads_block b (length (mark ∷ word ∷ from)) (omega arith))
+    ∙ reads_marked (length (mark ∷ word ∷ from)) word from inside to e body w c b (omega arith)
 
-reads_tops : {from to : List Lexeme} {body : List RawStmt} → DerivesTops from to body → Closes to → (found : List RawStmt) (k : ℕ) → length from ≤ k → many read.ends read.top k found from ≡ Some (found ++ body, to)
+pub reads_for_region : (mark word : Lexeme) (from inside to : List Lexeme) (first step : RawStmt) (e : RawExpr) (body : List RawStmt) → Is Mark mark → Is For word → DerivesHead from inside first e step → DerivesLoop inside to body →
+    read.top (mark ∷ word ∷ from) ≡ Ok (stmt.For word.line true (first ∷ []) e (step ∷ []) body, to)
+unfolding read.top
+reads_for_region mark word from inside to first next e body m w c b =
+    let less = shorter_head c in
+    eats Mark (read.top_by (length (mark ∷ word ∷ from))) mark (word ∷ from) m
+    ∙ reads_marked_for (length (mark ∷ word ∷ from)) word from inside to first next e body w c b (omega arith)
+
+-- a region and what follows it
+pub region_turn : (mark : Lexeme) (from middle : List Lexeme) (s : RawStmt) → Is Mark mark → read.top (mark ∷ from) ≡ Ok (s, middle) → length middle < length (mark ∷ from) → (found : List RawStmt) (k : ℕ) → length (mark ∷ from) ≤ k →
+    many read.ends read.top k found (mark ∷ from) ≡ many read.ends read.top (k - 1) (found ++ s ∷ []) middle
+region_turn mark from middle s m h less found k enough =
+    many_turn read.top read.ends k found (mark ∷ from) middle s (ends_not (mark ∷ from) (unlike mark from Mark Return m (λ e. cc)) (unlike mark from Mark CloseBrace m (λ e. cc))) h less enough
+
+pub reads_tops : {from to : List Lexeme} {body : List RawStmt} → DerivesTops from to body → Closes to → (found : List RawStmt) (k : ℕ) → length from ≤ k → many read.ends read.top k found from ≡ Ok (found ++ body, to)
 reads_tops (programs.none {to}) h found k enough =
-    many_end read.top read.ends k found to h (ends_some to h) enough ∙ ap (λ (all : List RawStmt). Some (pair all to)) (sym (append-nil found))
+    many_end read.top read.ends k found to h (ends_some to h) enough ∙ ap (λ (all : List RawStmt). Ok (pair all to)) (sym (append-nil found))
 reads_tops (programs.statement {from} {middle} {to} {s} {rest = body} d ds) h found k enough =
     let less = shorter_statement d in
     many_turn read.top read.ends k found from middle s (ends_not from (begins_not d Return refl) (begins_not d CloseBrace refl)) (reads_top_statement from middle s d (tops_no_else ds h)) less enough
     ∙ reads_tops ds h (found ++ s ∷ []) (k - 1) (omega arith)
-    ∙ ap (λ (all : List RawStmt). Some (pair all to)) (append_assoc found (s ∷ []) body)
+    ∙ ap (λ (all : List RawStmt). Ok (pair all to)) (append_assoc found (s ∷ []) body)
 reads_tops (region {mark} {word} {from} {inside} {middle} {to} {e} {body} {rest = others} m w c b ds) h found k enough =
     let less = shorter_condition c in
-    let shorter = shorter_block b in
+    let shorter = shorter_loop b in
     let s = stmt.While word.line true e body in
-    many_turn read.top read.ends k found (mark ∷ word ∷ from) middle s
-    (ends_not (mark ∷ word ∷ from) (unlike mark (word ∷ from) Mark Return m (λ e. cc)) (unlike mark (word ∷ from) Mark CloseBrace m (λ e. cc)))
-    (reads_region mark word from inside middle e body m w c b) (omega arith) enough
+    region_turn mark (word ∷ from) middle s m (reads_region mark word from inside middle e body m w c b) (omega arith) found k enough
     ∙ reads_tops ds h (found ++ s ∷ []) (k - 1) (omega arith)
-    ∙ ap (λ (all : List RawStmt). Some (pair all to)) (append_assoc found (s ∷ []) others)
+    ∙ ap (λ (all : List RawStmt). Ok (pair all to)) (append_assoc found (s ∷ []) others)
+reads_tops (for_region {mark} {word} {from} {inside} {middle} {to} {first} {step} {e} {body} {rest = others} m w c b ds) h found k enough =
+    let less = shorter_head c in
+    let shorter = shorter_loop b in
+    let s = stmt.For word.line true (first ∷ []) e (step ∷ []) body in
+    region_turn mark (word ∷ from) middle s m (reads_for_region mark word from inside middle first step e body m w c b) (omega arith) found k enough
+    ∙ reads_tops ds h (found ++ s ∷ []) (k - 1) (omega arith)
+    ∙ ap (λ (all : List RawStmt). Ok (pair all to)) (append_assoc found (s ∷ []) others)
 
-return_closes : {from to : List Lexeme} → DerivesReturn from to → (closing : Lexeme) (left : List Lexeme) → to ≡ closing ∷ left → Is CloseBrace closing → Closes from
+pub return_closes : {from to : List Lexeme} → DerivesReturn from to → (closing : Lexeme) (left : List Lexeme) → to ≡ closing ∷ left → Is CloseBrace closing → Closes from
 return_closes (programs.none {to}) closing left splits c = rw splits (ends_brace (closing ∷ left) (at_head closing left CloseBrace c))
 return_closes (programs.zero {word} {value} {end} {to} w v e) closing left splits c = ends_return (word ∷ value ∷ end ∷ to) (at_head word (value ∷ end ∷ to) Return w)
 
-reads_returned : {from to : List Lexeme} → DerivesReturn from to → (closing : Lexeme) (left : List Lexeme) → to ≡ closing ∷ left → Is CloseBrace closing → (eat Return >>= read.returned_by) from ≡ Some (tt, to)
+pub reads_returned : {from to : List Lexeme} → DerivesReturn from to → (closing : Lexeme) (left : List Lexeme) → to ≡ closing ∷ left → Is CloseBrace closing → (eat Return >>= read.returned_by) from ≡ Ok (tt, to)
 unfolding is_zero
 reads_returned (programs.none {to}) closing left splits c =
     stays Return read.returned_by to (λ at. unlike closing left CloseBrace Return c (λ e. cc) (ap symbol_at (sym splits) ∙ at))
 reads_returned (programs.zero {word} {value} {end} {to} w v e) closing left splits c =
     eats Return read.returned_by word (value ∷ end ∷ to) w
-    ∙ goes (λ n. read.zero_by (is_zero n)) (reads_number value 0 (end ∷ to) v)
+    ∙ ap (λ (b : Bool). read.zero_by b (value ∷ end ∷ to)) (sees_of value 0 (end ∷ to) v)
+    ∙ goes (λ _. expect Semicolon >>= (λ _. pure tt)) (reads_number value 0 (end ∷ to) v)
     ∙ goes (λ _. pure tt) (expects Semicolon end to e)
 
-reads_end : (from left : List Lexeme) (closing : Lexeme) → DerivesReturn from (closing ∷ left) → Is CloseBrace closing → read.end from ≡ Some (tt, left)
+reads_end : (from left : List Lexeme) (closing : Lexeme) → DerivesReturn from (closing ∷ left) → Is CloseBrace closing → read.end from ≡ Ok (tt, left)
 unfolding read.end read.returned
 reads_end from left closing d c =
     goes (λ _. expect CloseBrace >>= (λ _. pure tt)) (reads_returned d closing left refl c) ∙ goes (λ _. pure tt) (expects CloseBrace closing left c)
@@ -123,40 +147,40 @@ abbrev inside : Parser (List RawStmt)
 inside = expect CloseParen >>= (λ _. expect OpenBrace >>= (λ _. (λ ts. many read.ends read.top (length ts) [] ts) >>= (λ body. read.end >>= (λ _. pure body))))
 
 reads_inside : (paren brace closing : Lexeme) (from behind to : List Lexeme) (body : List RawStmt) → Is CloseParen paren → Is OpenBrace brace → DerivesTops from behind body → DerivesReturn behind (closing ∷ to) → Is CloseBrace closing →
-    inside (paren ∷ brace ∷ from) ≡ Some (body, to)
+    inside (paren ∷ brace ∷ from) ≡ Ok (body, to)
 reads_inside paren brace closing from behind to body p b d r c =
     goes (λ _. expect OpenBrace >>= (λ _. (λ ts. many read.ends read.top (length ts) [] ts) >>= (λ body. read.end >>= (λ _. pure body)))) (expects CloseParen paren (brace ∷ from) p)
     ∙ goes (λ _. (λ ts. many read.ends read.top (length ts) [] ts) >>= (λ body. read.end >>= (λ _. pure body))) (expects OpenBrace brace from b)
     ∙ goes (λ body. read.end >>= (λ _. pure body)) (reads_tops d (return_closes r closing to refl c) [] (length from) (omega arith))
     ∙ goes (λ _. pure body) (reads_end behind to closing r c)
 
-reads_main_plain : (opening : Lexeme) (from to : List Lexeme) (body : List RawStmt) → Is OpenParen opening → (symbol_at from ≡ Void → ⊥) → inside from ≡ Some (body, to) → read.main_part (opening ∷ from) ≡ Some (body, to)
+reads_main_plain : (opening : Lexeme) (from to : List Lexeme) (body : List RawStmt) → Is OpenParen opening → (symbol_at from ≡ Void → ⊥) → inside from ≡ Ok (body, to) → read.main_part (opening ∷ from) ≡ Ok (body, to)
 unfolding read.main_part
 reads_main_plain opening from to body o other h = goes (λ _. eat Void >>= (λ _. inside)) (expects OpenParen opening from o) ∙ stays Void (λ _. inside) from other ∙ h
 
-reads_main_void : (opening word : Lexeme) (from to : List Lexeme) (body : List RawStmt) → Is OpenParen opening → Is Void word → inside from ≡ Some (body, to) → read.main_part (opening ∷ word ∷ from) ≡ Some (body, to)
+reads_main_void : (opening word : Lexeme) (from to : List Lexeme) (body : List RawStmt) → Is OpenParen opening → Is Void word → inside from ≡ Ok (body, to) → read.main_part (opening ∷ word ∷ from) ≡ Ok (body, to)
 unfolding read.main_part
 reads_main_void opening word from to body o v h = goes (λ _. eat Void >>= (λ _. inside)) (expects OpenParen opening (word ∷ from) o) ∙ eats Void (λ _. inside) word from v ∙ h
 
 -- ---- parts of a program
 
-part_int : (int : Lexeme) (from to : List Lexeme) (p : Part) → Is Int int → (eat Main >>= read.global_by) from ≡ Some (p, to) → read.part (int ∷ from) ≡ Some (p, to)
+part_int : (int : Lexeme) (from to : List Lexeme) (p : Part) → Is Int int → (eat Main >>= read.global_by) from ≡ Ok (p, to) → read.part (int ∷ from) ≡ Ok (p, to)
 unfolding read.part
 part_int int from to p i h =
     stays Void read.part_by (int ∷ from) (unlike int from Int Void i (λ e. cc)) ∙ goes (λ _. eat Main >>= read.global_by) (expects Int int from i) ∙ h
 
-part_variable : (int name : Lexeme) (from to : List Lexeme) (i : RawItem) → Is Int int → Is Name name → read.variable (name ∷ from) ≡ Some (i, to) → read.part (int ∷ name ∷ from) ≡ Some (Item i, to)
+part_variable : (int name : Lexeme) (from to : List Lexeme) (i : RawItem) → Is Int int → Is Name name → read.variable (name ∷ from) ≡ Ok (i, to) → read.part (int ∷ name ∷ from) ≡ Ok (Item i, to)
 part_variable int name from to i is_int n h =
     part_int int (name ∷ from) to (Item i) is_int (stays Main read.global_by (name ∷ from) (unlike name from Name Main n (λ e. cc)) ∙ goes (λ v. pure (Item v)) h)
 
-part_main : (int name : Lexeme) (from to : List Lexeme) (body : List RawStmt) → Is Int int → Is Main name → read.main_part from ≡ Some (body, to) → read.part (int ∷ name ∷ from) ≡ Some (Body body, to)
+part_main : (int name : Lexeme) (from to : List Lexeme) (body : List RawStmt) → Is Int int → Is Main name → read.main_part from ≡ Ok (body, to) → read.part (int ∷ name ∷ from) ≡ Ok (Body body, to)
 part_main int name from to body i m h = part_int int (name ∷ from) to (Body body) i (eats Main read.global_by name from m ∙ goes (λ body. pure (Body body)) h)
 
-part_function : (word : Lexeme) (from to : List Lexeme) (i : RawItem) → Is Void word → read.function from ≡ Some (i, to) → read.part (word ∷ from) ≡ Some (Item i, to)
+part_function : (word : Lexeme) (from to : List Lexeme) (i : RawItem) → Is Void word → read.function from ≡ Ok (i, to) → read.part (word ∷ from) ≡ Ok (Item i, to)
 unfolding read.part
 part_function word from to i v h = eats Void read.part_by word from v ∙ goes (λ f. pure (Item f)) h
 
-reads_item : {from to : List Lexeme} {i : RawItem} → DerivesItem from to i → read.part from ≡ Some (Item i, to)
+pub reads_item : {from to : List Lexeme} {i : RawItem} → DerivesItem from to i → read.part from ≡ Ok (Item i, to)
 unfolding rest
 reads_item (scalar {int} {name} {end} {to} i n e) =
     part_variable int name (end ∷ to) to (item.Scalar (name_of name) (pos 0)) i n (reads_variable name end (end ∷ to) to Semicolon (item.Scalar (name_of name) (pos 0)) n (at_head end to Semicolon e) refl e)
@@ -175,7 +199,7 @@ reads_item (array {int} {name} {opening} {length} {closing} {end} {n = v} {to} i
 reads_item (function {void = word} {name} {opening} {closing} {from} {middle} {to} {params} {body} w n o d c b) =
     part_function word (name ∷ opening ∷ from) to (item.Function (name_of name) params body) w (reads_function name opening closing from middle to params body n o d c b)
 
-reads_main : {from to : List Lexeme} {body : List RawStmt} → DerivesMain from to body → read.part from ≡ Some (Body body, to)
+reads_main : {from to : List Lexeme} {body : List RawStmt} → DerivesMain from to body → read.part from ≡ Ok (Body body, to)
 reads_main (main {int} {name} {opening} {paren} {brace} {closing} {from} {after = behind} {to} {body} i m o p b d r c) =
     part_main int name (opening ∷ paren ∷ brace ∷ from) to body i m
     (reads_main_plain opening (paren ∷ brace ∷ from) to body o (unlike paren (brace ∷ from) CloseParen Void p (λ e. cc)) (reads_inside paren brace closing from behind to body p b d r c))
@@ -189,16 +213,16 @@ abbrev whole : List RawItem → List RawStmt → RawProgram
 whole items body = record { items = items; main = body }
 
 reads_items : {from middle : List Lexeme} {items : List RawItem} → DerivesItems from middle items → (body : List RawStmt) → DerivesMain middle [] body → (found : List RawItem) (k : ℕ) → length from ≤ k →
-    read.program_from k found from ≡ Some (whole (found ++ items) body, [])
+    read.program_from k found from ≡ Ok (whole (found ++ items) body, [])
 reads_items (programs.none {to}) body m found k enough =
-    program_main k found to [] body (reads_main m) (shorter_main m) enough ∙ ap (λ (all : List RawItem). Some (pair (whole all body) [])) (sym (append-nil found))
+    program_main k found to [] body (reads_main m) (shorter_main m) enough ∙ ap (λ (all : List RawItem). Ok (pair (whole all body) [])) (sym (append-nil found))
 reads_items (programs.more {from} {middle} {to} {i} {rest = others} d ds) body m found k enough =
     let less = shorter_item d in
     program_item k found from middle i (reads_item d) less enough
     ∙ reads_items ds body m (found ++ i ∷ []) (k - 1) (omega arith)
-    ∙ ap (λ (all : List RawItem). Some (pair (whole all body) [])) (append_assoc found (i ∷ []) others)
+    ∙ ap (λ (all : List RawItem). Ok (pair (whole all body) [])) (append_assoc found (i ∷ []) others)
 
-pub reads_program : (tokens : List Lexeme) (p : RawProgram) → Derives tokens p → read.program tokens ≡ Some (p, [])
+pub reads_program : (tokens : List Lexeme) (p : RawProgram) → Derives tokens p → read.program tokens ≡ Ok (p, [])
 unfolding read.program
 reads_program tokens p d = reads_items d.items p.main d.main [] (length tokens) (omega arith)
 

@@ -1,5 +1,5 @@
 -- What the descent reads as a program, the grammar derives.
-use Rattle.std.proofs.Common.{◌≡◌, refl, ap, ◌∙◌, sym, ℕ, zero, suc, ℤ, pos, Bool, true, false, List, [], ◌∷◌, ◌++◌, length, Some, append_assoc}
+use Rattle.std.proofs.Common.{◌≡◌, refl, ap, ◌∙◌, sym, ℕ, zero, suc, pos, Bool, true, false, List, [], ◌∷◌, ◌++◌, length, Ok, append_assoc}
 use Rattle.std.proofs.lemmas.List.{append-nil}
 use Rattle.dp_base.specs.Arithmetic.{is_zero}
 use Rattle.dp_lex.specs.Token.{Lexeme}
@@ -18,27 +18,34 @@ use Rattle.dp_parse.specs.descent.Steps as step
 use Rattle.dp_parse.specs.descent.Statements as statements
 use Rattle.dp_parse.specs.descent.Programs as read
 use Rattle.dp_parse.proofs.StepLemmas.{Sound, then_of, same_pair, took, Ate, passed, stayed, ate, moved, taken}
-use Rattle.dp_parse.proofs.LeafLemmas.{read_number}
-use Rattle.dp_parse.proofs.StatementSound.{sound_statement, read_repeated}
+use Rattle.dp_parse.proofs.LeafLemmas.{read_number, sees_of}
+use Rattle.dp_parse.proofs.StatementSound.{sound_statement}
+use Rattle.dp_parse.proofs.RegionSound.{Marked, by_while, by_for, read_region}
 use Rattle.dp_parse.proofs.ItemSound.{zero_is, sound_variable, sound_function}
 
 -- ---- `main`
 
+marked : (n : ℕ) (mark : Lexeme) (from middle to : List Lexeme) (s : RawStmt) (others : List RawStmt) → Is Mark mark → Marked (statements.statement n) (sound_statement n) from middle s → DerivesTops middle to others →
+    DerivesTops (mark ∷ from) to (s ∷ others)
+marked n mark from middle to s others m (by_while word inside inner cond body w splits d b made) ds =
+    moved DerivesTops (taken mark splits) refl (ap (λ (x : RawStmt). x ∷ others) made) (programs.region m w d b ds)
+marked n mark from middle to s others m (by_for word inside inner first step cond body w splits d b made) ds =
+    moved DerivesTops (taken mark splits) refl (ap (λ (x : RawStmt). x ∷ others) made) (programs.for_region m w d b ds)
+
 top_at : (n : ℕ) (from middle to : List Lexeme) (s : RawStmt) (others : List RawStmt) → Ate Mark (read.top_by n) from s middle → DerivesTops middle to others → DerivesTops from to (s ∷ others)
 top_at n from middle to s others (passed t left is splits e) ds =
-    let r = read_repeated (statements.statement n) (sound_statement n) true left middle s e in
-    moved DerivesTops (splits ∙ taken t r.splits) refl (ap (λ (x : RawStmt). x ∷ others) r.made) (programs.region is r.is r.tests r.repeats ds)
+    moved DerivesTops splits refl refl (marked n t left middle to s others is (read_region (statements.statement n) (sound_statement n) left middle s e) ds)
 top_at n from middle to s others (stayed other e) ds = programs.statement (sound_statement n from middle s e) ds
 
-sound_top : (from middle to : List Lexeme) (s : RawStmt) (others : List RawStmt) → read.top from ≡ Some (s, middle) → DerivesTops middle to others → DerivesTops from to (s ∷ others)
+pub sound_top : (from middle to : List Lexeme) (s : RawStmt) (others : List RawStmt) → read.top from ≡ Ok (s, middle) → DerivesTops middle to others → DerivesTops from to (s ∷ others)
 unfolding read.top
 sound_top from middle to s others h ds = top_at (length from) from middle to s others (ate Mark (read.top_by (length from)) s middle from (λ k. cc) h) ds
 
-abbrev Stated : (List Lexeme → List Lexeme → List RawStmt → List RawStmt → Type 0)
+abbrev pub Stated : (List Lexeme → List Lexeme → List RawStmt → List RawStmt → Type 0)
 Stated from to found out = (body : List RawStmt) × (out ≡ found ++ body) × DerivesTops from to body
 
-tops_at : (again : List RawStmt → Parser (List RawStmt)) (goes : (from to : List Lexeme) (found out : List RawStmt) → again found from ≡ Some (out, to) → Stated from to found out)
-    (from to : List Lexeme) (found out : List RawStmt) (b : Bool) → many_by read.top again found b from ≡ Some (out, to) → Stated from to found out
+tops_at : (again : List RawStmt → Parser (List RawStmt)) (goes : (from to : List Lexeme) (found out : List RawStmt) → again found from ≡ Ok (out, to) → Stated from to found out)
+    (from to : List Lexeme) (found out : List RawStmt) (b : Bool) → many_by read.top again found b from ≡ Ok (out, to) → Stated from to found out
 tops_at again goes from to found out true e =
     let parts = same_pair {a = found} {b = out} {x = from} {y = to} e in
     ([], sym parts.0 ∙ sym (append-nil found), moved DerivesTops refl (sym parts.1) refl programs.none)
@@ -47,29 +54,44 @@ tops_at again goes from to found out false e =
     let others = goes o.middle to (found ++ o.value ∷ []) out o.second in
     (o.value ∷ others.0, others.1 ∙ append_assoc found (o.value ∷ []) others.0, sound_top from o.middle to o.value others.0 o.first others.2)
 
-many_tops : (n : ℕ) (from to : List Lexeme) (found out : List RawStmt) → many read.ends read.top n found from ≡ Some (out, to) → Stated from to found out
+pub many_tops : (n : ℕ) (from to : List Lexeme) (found out : List RawStmt) → many read.ends read.top n found from ≡ Ok (out, to) → Stated from to found out
 unfolding many
 many_tops zero from to found out h = absurd (cc)
 many_tops (suc n) from to found out h = tops_at (many read.ends read.top n) (many_tops n) from to found out (read.ends from) h
 
-zero_at : (z : ℤ) (n : ℕ) (from to : List Lexeme) (b : Bool) (u : Unit {0}) → z ≡ pos n → is_zero z ≡ b → read.zero_by b from ≡ Some (u, to) → (n ≡ 0) × ((end : Lexeme) × Is Semicolon end × (from ≡ end ∷ to))
-zero_at z n from to true u same e h =
-    let o = then_of (expect Semicolon from) (λ _. pure tt) u to h in
-    let t = took Semicolon from o.value o.middle o.first in
-    let parts = same_pair {a = tt} {b = u} {x = o.middle} {y = to} o.second in
-    (zero_is z n same e, (o.value, t.is, t.splits ∙ taken o.value parts.1))
-zero_at z n from to false u same e h = absurd (cc)
-
-number_zero : (t : Lexeme) (n : ℕ) → n ≡ 0 → IsNumber t n → IsNumber t 0
+pub number_zero : (t : Lexeme) (n : ℕ) → n ≡ 0 → IsNumber t n → IsNumber t 0
 number_zero t n e h = rw e at h
 
-returned_ate : (from to : List Lexeme) (u : Unit {0}) → Ate Return read.returned_by from u to → DerivesReturn from to
+-- the 0 and its semicolon
+record Zero (from to : List Lexeme) : Type 0 where
+  value : Lexeme
+  end : Lexeme
+  zero : IsNumber value 0
+  ends : Is Semicolon end
+  splits : from ≡ value ∷ end ∷ to
+
+zero_at : (from to : List Lexeme) (b : Bool) (u : Unit {0}) → step.sees_zero from ≡ b → read.zero_by b from ≡ Ok (u, to) → Zero from to
+zero_at from to true u seen h =
+    let o = then_of (step.number from) (λ _. expect Semicolon >>= (λ _. pure tt)) u to h in
+    let n = read_number from o.middle o.value o.first in
+    let p = then_of (expect Semicolon o.middle) (λ _. pure tt) u to o.second in
+    let t = took Semicolon o.middle p.value p.middle p.first in
+    let parts = same_pair {a = tt} {b = u} {x = p.middle} {y = to} p.second in
+    let zero : is_zero (pos n.value) ≡ true = sym (sees_of n.token n.value o.middle n.is) ∙ ap step.sees_zero (sym n.splits) ∙ seen in
+    record {
+      value = n.token;
+      end = p.value;
+      zero = number_zero n.token n.value (zero_is (pos n.value) n.value refl zero) n.is;
+      ends = t.is;
+      splits = n.splits ∙ taken n.token (t.splits ∙ taken p.value parts.1);
+    }
+zero_at from to false u seen h = absurd (cc)
+
+pub returned_ate : (from to : List Lexeme) (u : Unit {0}) → Ate Return read.returned_by from u to → DerivesReturn from to
 returned_ate from to u (passed t left is splits e) =
-    let o = then_of (step.number left) (λ n. read.zero_by (is_zero n)) u to e in
-    let n = read_number left o.middle o.value o.first in
-    let z = zero_at o.value n.value o.middle to (is_zero o.value) u n.reads refl o.second in
-    let all : from ≡ t ∷ n.token ∷ z.1.0 ∷ to = splits ∙ taken t (n.splits ∙ taken n.token z.1.2) in
-    rw all (programs.zero is (number_zero n.token n.value z.0 n.is) z.1.1)
+    let z = zero_at left to (step.sees_zero left) u refl e in
+    let all = splits ∙ taken t z.splits in
+    rw all (programs.zero is z.zero z.ends)
 returned_ate from to u (stayed other e) = let parts = same_pair {a = tt} {b = u} {x = from} {y = to} e in rw parts.1 programs.none
 
 -- the end of `main`
@@ -78,7 +100,7 @@ record Ended (from to : List Lexeme) : Type 0 where
   is : Is CloseBrace closing
   returns : DerivesReturn from (closing ∷ to)
 
-read_end : (from to : List Lexeme) (u : Unit {0}) → read.end from ≡ Some (u, to) → Ended from to
+read_end : (from to : List Lexeme) (u : Unit {0}) → read.end from ≡ Ok (u, to) → Ended from to
 unfolding read.end read.returned
 read_end from to u h =
     let o = then_of ((eat Return >>= read.returned_by) from) (λ _. expect CloseBrace >>= (λ _. pure tt)) u to h in
@@ -100,10 +122,10 @@ record Inside (from to : List Lexeme) (body : List RawStmt) : Type 0 where
   tops : DerivesTops inner last body
   ended : Ended last to
 
-abbrev inside : Parser (List RawStmt)
+abbrev pub inside : Parser (List RawStmt)
 inside = expect CloseParen >>= (λ _. expect OpenBrace >>= (λ _. (λ ts. many read.ends read.top (length ts) [] ts) >>= (λ body. read.end >>= (λ _. pure body))))
 
-read_inside : (from to : List Lexeme) (body : List RawStmt) → inside from ≡ Some (body, to) → Inside from to body
+read_inside : (from to : List Lexeme) (body : List RawStmt) → inside from ≡ Ok (body, to) → Inside from to body
 read_inside from to body h =
     let o = then_of (expect CloseParen from) (λ _. expect OpenBrace >>= (λ _. (λ ts. many read.ends read.top (length ts) [] ts) >>= (λ body. read.end >>= (λ _. pure body)))) body to h in
     let t = took CloseParen from o.value o.middle o.first in
@@ -134,7 +156,7 @@ main_ate int name opening from to body i m o (stayed other e) =
     let r = read_inside from to body e in
     moved DerivesMain (taken int (taken name (taken opening r.splits))) refl refl (programs.main i m o r.is_paren r.is_brace r.tops r.ended.returns r.ended.is)
 
-sound_main : (int name : Lexeme) (from to : List Lexeme) (body : List RawStmt) → Is Int int → Is Main name → read.main_part from ≡ Some (body, to) → DerivesMain (int ∷ name ∷ from) to body
+sound_main : (int name : Lexeme) (from to : List Lexeme) (body : List RawStmt) → Is Int int → Is Main name → read.main_part from ≡ Ok (body, to) → DerivesMain (int ∷ name ∷ from) to body
 unfolding read.main_part
 sound_main int name from to body i m h =
     let o = then_of (expect OpenParen from) (λ _. eat Void >>= (λ _. inside)) body to h in
@@ -186,7 +208,7 @@ record Rest (from to : List Lexeme) (found : List RawItem) (p : RawProgram) : Ty
 abbrev whole : List RawItem → List RawStmt → RawProgram
 whole items body = record { items = items; main = body }
 
-finished_at : (found : List RawItem) (body : List RawStmt) (from middle to : List Lexeme) (p : RawProgram) → DerivesMain from middle body → read.finished found body middle ≡ Some (p, to) → Rest from to found p
+finished_at : (found : List RawItem) (body : List RawStmt) (from middle to : List Lexeme) (p : RawProgram) → DerivesMain from middle body → read.finished found body middle ≡ Ok (p, to) → Rest from to found p
 finished_at found body from [] to p d h =
     let parts = same_pair {a = whole found body} {b = p} {x = []} {y = to} h in
     record {
@@ -199,21 +221,21 @@ finished_at found body from [] to p d h =
     }
 finished_at found body from (t ∷ middle) to p d h = absurd (cc)
 
-part_at : (again : List RawItem → Parser RawProgram) (goes : (from to : List Lexeme) (found : List RawItem) (p : RawProgram) → again found from ≡ Some (p, to) → Rest from to found p)
-    (from middle to : List Lexeme) (found : List RawItem) (part : Part) (p : RawProgram) → DerivesPart from middle part → read.program_by again found part middle ≡ Some (p, to) → Rest from to found p
+part_at : (again : List RawItem → Parser RawProgram) (goes : (from to : List Lexeme) (found : List RawItem) (p : RawProgram) → again found from ≡ Ok (p, to) → Rest from to found p)
+    (from middle to : List Lexeme) (found : List RawItem) (part : Part) (p : RawProgram) → DerivesPart from middle part → read.program_by again found part middle ≡ Ok (p, to) → Rest from to found p
 part_at again goes from middle to found (Item i) p d h =
     let r = goes middle to (found ++ i ∷ []) p h in
     record { middle = r.middle; items = i ∷ r.items; all = r.all ∙ append_assoc found (i ∷ []) r.items; derives = programs.more d r.derives; main = r.main; over = r.over }
 part_at again goes from middle to found (Body body) p d h = finished_at found body from middle to p d h
 
-sound_program_from : (n : ℕ) (from to : List Lexeme) (found : List RawItem) (p : RawProgram) → read.program_from n found from ≡ Some (p, to) → Rest from to found p
+sound_program_from : (n : ℕ) (from to : List Lexeme) (found : List RawItem) (p : RawProgram) → read.program_from n found from ≡ Ok (p, to) → Rest from to found p
 unfolding read.program_from
 sound_program_from zero from to found p h = absurd (cc)
 sound_program_from (suc n) from to found p h =
     let o = then_of (read.part from) (read.program_by (read.program_from n) found) p to h in
     part_at (read.program_from n) (sound_program_from n) from o.middle to found o.value p (sound_part from o.middle o.value o.first) o.second
 
-pub sound_program : (tokens left : List Lexeme) (p : RawProgram) → read.program tokens ≡ Some (p, left) → Derives tokens p
+pub sound_program : (tokens left : List Lexeme) (p : RawProgram) → read.program tokens ≡ Ok (p, left) → Derives tokens p
 unfolding read.program
 sound_program tokens left p h =
     let r = sound_program_from (length tokens) tokens left [] p h in

@@ -5,7 +5,8 @@ use Rattle.dp_tree.specs.declared.raw.RawExpr.{RawExpr}
 use Rattle.dp_tree.specs.declared.raw.RawStmt.{RawStmt}
 use Rattle.dp_parse.specs.declared.level.Level.{Level}
 use Rattle.dp_parse.specs.Expressions.{DerivesExpr, operand, chain, prefix, number, scalar, element, parenthesized, DerivesList, last, more}
-use Rattle.dp_parse.specs.Statements.{DerivesArguments, none, some, DerivesCondition, condition, DerivesStatement, declare, assign, store, call, print, loop, choice, DerivesChoice, alone, otherwise, else_if, DerivesBlock, block, DerivesStatements}
+use Rattle.dp_parse.specs.Heads.{DerivesSimple, scalar as to_scalar, element as to_element, DerivesFirst, declared, simple, DerivesHead, head}
+use Rattle.dp_parse.specs.Statements.{DerivesArguments, none, some, DerivesCondition, condition, DerivesStatement, declare, assign, store, call, print, loop, for_loop, choice, DerivesChoice, alone, otherwise, else_if, DerivesBlock, block, DerivesStatements}
 use Rattle.dp_parse.specs.Statements as statements
 
 pub shorter : {l : Level} {from to : List Lexeme} {e : RawExpr} → DerivesExpr l from to e → length to < length from
@@ -28,6 +29,17 @@ pub shorter_arguments : {from to : List Lexeme} {es : List RawExpr} → DerivesA
 shorter_arguments none = omega arith
 shorter_arguments (some d) = let a = shorter_list d in omega arith
 
+pub shorter_simple : {from to : List Lexeme} {s : RawStmt} → DerivesSimple from to s → length to < length from
+shorter_simple (to_scalar n q d) = let a = shorter d in omega arith
+shorter_simple (to_element n o d c q f) = let a = shorter d in let b = shorter f in omega arith
+
+pub shorter_first : {from to : List Lexeme} {s : RawStmt} → DerivesFirst from to s → length to < length from
+shorter_first (declared i n q d) = let a = shorter d in omega arith
+shorter_first (simple d) = shorter_simple d
+
+pub shorter_head : {from to : List Lexeme} {first step : RawStmt} {e : RawExpr} → DerivesHead from to first e step → length to < length from
+shorter_head (head o d e c f s k) = let a = shorter_first d in let b = shorter c in let g = shorter_simple s in omega arith
+
 mutual
   pub shorter_statement : {from to : List Lexeme} {s : RawStmt} → DerivesStatement from to s → length to < length from
   shorter_statement (declare i n q d e) = let a = shorter d in omega arith
@@ -36,6 +48,7 @@ mutual
   shorter_statement (call n o d c e) = let a = shorter_arguments d in omega arith
   shorter_statement (print w d e) = let a = shorter_condition d in omega arith
   shorter_statement (loop w d b) = let a = shorter_condition d in let k = shorter_block b in omega arith
+  shorter_statement (for_loop w d b) = let a = shorter_head d in let k = shorter_block b in omega arith
   shorter_statement (choice d) = shorter_choice d
 
   pub shorter_choice : {from to : List Lexeme} {s : RawStmt} → DerivesChoice from to s → length to < length from

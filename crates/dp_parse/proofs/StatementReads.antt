@@ -1,93 +1,76 @@
 -- The forms of a statement as they are read.
-use Rattle.std.proofs.Common.{◌≡◌, refl, ap, ◌∙◌, sym, ℕ, ◌-◌, ◌≤◌, Bool, true, false, List, [], ◌∷◌, ◌++◌, length, Some, append_assoc, arith}
+use Rattle.std.proofs.Common.{◌≡◌, refl, ap, ◌∙◌, sym, ℕ, ◌-◌, ◌≤◌, Bool, true, false, List, [], ◌∷◌, ◌++◌, length, append_assoc, arith, Ok}
 use Rattle.dp_lex.specs.Token.{Lexeme}
 use Rattle.dp_tree.specs.declared.raw.RawExpr.{RawExpr}
 use Rattle.dp_tree.specs.declared.raw.RawStmt.{RawStmt}
 use Rattle.dp_tree.specs.declared.raw.RawStmt.TheVariants as tree
 use Rattle.dp_parse.specs.declared.symbol.Symbol.{Symbol}
-use Rattle.dp_parse.specs.declared.symbol.Symbol.TheVariants.{Name, Int, Print, While, If, Else, Assign, OpenParen, CloseParen, OpenBracket, CloseBracket, OpenBrace, Semicolon, Comma}
+use Rattle.dp_parse.specs.declared.symbol.Symbol.TheVariants.{Name, Int, Print, While, For, If, Else, OpenParen, CloseParen, OpenBracket, CloseBracket, OpenBrace, Semicolon, Comma}
 use Rattle.dp_parse.specs.declared.level.Level.TheVariants.{Or}
 use Rattle.dp_parse.specs.Symbols.{symbol_at, Is}
 use Rattle.dp_parse.specs.Levels.{joining, prefixing}
 use Rattle.dp_parse.specs.declared.level.Level.{Level}
 use Rattle.dp_parse.specs.Leaves.{name_of}
 use Rattle.dp_parse.specs.Expressions.{DerivesExpr, operand, chain, prefix, number, scalar, element, parenthesized, DerivesList, last, more}
-use Rattle.dp_parse.specs.Statements.{DerivesArguments, none, some, DerivesCondition, condition, DerivesStatement, declare, assign, store, call, print, loop, choice, DerivesChoice, alone, otherwise, else_if, DerivesBlock, block, DerivesStatements}
+use Rattle.dp_parse.specs.Statements.{DerivesArguments, none, some, DerivesCondition, condition, DerivesStatement, declare, assign, store, call, print, loop, for_loop, choice, DerivesChoice, alone, otherwise, else_if, DerivesBlock, block, DerivesStatements}
 use Rattle.dp_parse.specs.Statements as statements
-use Rattle.dp_parse.specs.descent.Steps.{Outcome, Parser, ◌>>=◌, pure, and_then, expect, eat, sees, after, separated, separated_by, many}
-use Rattle.dp_parse.specs.descent.Steps as step
+use Rattle.dp_parse.specs.descent.Steps.{Outcome, Parser, ◌>>=◌, pure, and_then, expect, sees, separated}
 use Rattle.dp_parse.specs.descent.Expressions as expr
 use Rattle.dp_parse.specs.descent.Statements as read
 use Rattle.dp_parse.proofs.StepLemmas.{expects, sees_is, sees_other, after_is, after_other}
-use Rattle.dp_parse.proofs.LeafLemmas.{reads_name}
 use Rattle.dp_parse.proofs.Lists.{separated_on, separated_off}
 use Rattle.dp_parse.proofs.Shorter.{shorter}
 use Rattle.dp_parse.proofs.ExpressionComplete.{whole_read}
 
 -- a step that answers, and what follows it
-pub goes : {A B : Type 0} {o : Outcome A} {a : A} {left : List Lexeme} (f : A → Parser B) → o ≡ Some (a, left) → and_then o f ≡ f a left
+pub goes : {A B : Type 0} {o : Outcome A} {a : A} {left : List Lexeme} (f : A → Parser B) → o ≡ Ok (a, left) → and_then o f ≡ f a left
 goes f e = ap (λ o. and_then o f) e
 
 abbrev pub pair : {A : Type 0} → A → List Lexeme → A × List Lexeme
 pair a ts = (a, ts)
 
 -- an expression is read up to the symbol that closes it
-before_semicolon : {t : Lexeme} {from to : List Lexeme} {e : RawExpr} → DerivesExpr Or from (t ∷ to) e → Is Semicolon t → expr.whole from ≡ Some (e, t ∷ to)
+pub before_semicolon : {t : Lexeme} {from to : List Lexeme} {e : RawExpr} → DerivesExpr Or from (t ∷ to) e → Is Semicolon t → expr.whole from ≡ Ok (e, t ∷ to)
 unfolding symbol_at
 before_semicolon {t} {from} {to} {e} d h = whole_read from (t ∷ to) e d (ap joining h) (λ k. let clash : Semicolon ≡ OpenBracket = sym h ∙ k in cc clash)
 
-before_paren : {t : Lexeme} {from to : List Lexeme} {e : RawExpr} → DerivesExpr Or from (t ∷ to) e → Is CloseParen t → expr.whole from ≡ Some (e, t ∷ to)
+before_paren : {t : Lexeme} {from to : List Lexeme} {e : RawExpr} → DerivesExpr Or from (t ∷ to) e → Is CloseParen t → expr.whole from ≡ Ok (e, t ∷ to)
 unfolding symbol_at
 before_paren {t} {from} {to} {e} d h = whole_read from (t ∷ to) e d (ap joining h) (λ k. let clash : CloseParen ≡ OpenBracket = sym h ∙ k in cc clash)
 
-before_bracket : {t : Lexeme} {from to : List Lexeme} {e : RawExpr} → DerivesExpr Or from (t ∷ to) e → Is CloseBracket t → expr.whole from ≡ Some (e, t ∷ to)
+pub before_bracket : {t : Lexeme} {from to : List Lexeme} {e : RawExpr} → DerivesExpr Or from (t ∷ to) e → Is CloseBracket t → expr.whole from ≡ Ok (e, t ∷ to)
 unfolding symbol_at
 before_bracket {t} {from} {to} {e} d h = whole_read from (t ∷ to) e d (ap joining h) (λ k. let clash : CloseBracket ≡ OpenBracket = sym h ∙ k in cc clash)
 
-before_comma : {t : Lexeme} {from to : List Lexeme} {e : RawExpr} → DerivesExpr Or from (t ∷ to) e → Is Comma t → expr.whole from ≡ Some (e, t ∷ to)
+pub before_comma : {t : Lexeme} {from to : List Lexeme} {e : RawExpr} → DerivesExpr Or from (t ∷ to) e → Is Comma t → expr.whole from ≡ Ok (e, t ∷ to)
 unfolding symbol_at
 before_comma {t} {from} {to} {e} d h = whole_read from (t ∷ to) e d (ap joining h) (λ k. let clash : Comma ≡ OpenBracket = sym h ∙ k in cc clash)
 
-pub reads_condition : {from to : List Lexeme} {e : RawExpr} → DerivesCondition from to e → read.condition from ≡ Some (e, to)
+pub reads_condition : {from to : List Lexeme} {e : RawExpr} → DerivesCondition from to e → read.condition from ≡ Ok (e, to)
 unfolding read.condition
 reads_condition (condition {opening} {closing} {from} {to} {e} o d c) =
     goes (λ _. expr.whole >>= (λ x. expect CloseParen >>= (λ _. pure x))) (expects OpenParen opening from o)
     ∙ goes (λ x. expect CloseParen >>= (λ _. pure x)) (before_paren d c)
     ∙ goes (λ _. pure e) (expects CloseParen closing to c)
 
-pub reads_right_side : (equals end : Lexeme) (from to : List Lexeme) (e : RawExpr) → Is Assign equals → DerivesExpr Or from (end ∷ to) e → Is Semicolon end → read.right_side (equals ∷ from) ≡ Some (e, to)
-unfolding read.right_side
-reads_right_side equals end from to e q d h =
-    goes (λ _. expr.whole >>= (λ x. expect Semicolon >>= (λ _. pure x))) (expects Assign equals from q)
-    ∙ goes (λ x. expect Semicolon >>= (λ _. pure x)) (before_semicolon d h)
-    ∙ goes (λ _. pure e) (expects Semicolon end to h)
-
-pub reads_declare : (int name equals end : Lexeme) (from to : List Lexeme) (e : RawExpr) → Is Int int → Is Name name → Is Assign equals → DerivesExpr Or from (end ∷ to) e → Is Semicolon end →
-    read.declare (int ∷ name ∷ equals ∷ from) ≡ Some (tree.Declare int.line (name_of name) e, to)
-unfolding read.declare
-reads_declare int name equals end from to e i n q d h =
-    goes (λ (int : Lexeme). step.name >>= (λ name. read.right_side >>= (λ value. pure (tree.Declare int.line name value)))) (expects Int int (name ∷ equals ∷ from) i)
-    ∙ goes (λ name. read.right_side >>= (λ value. pure (tree.Declare int.line name value))) (reads_name name (equals ∷ from) n)
-    ∙ goes (λ value. pure (tree.Declare int.line (name_of name) value)) (reads_right_side equals end from to e q d h)
-
 -- a list is read on, behind those that were found
 reads_list : {from to : List Lexeme} {es : List RawExpr} → DerivesList from to es → (closing : Lexeme) (rest : List Lexeme) → to ≡ closing ∷ rest → Is CloseParen closing →
-    (k : ℕ) (found : List RawExpr) → length from ≤ k → separated expr.whole k found from ≡ Some (found ++ es, to)
+    (k : ℕ) (found : List RawExpr) → length from ≤ k → separated expr.whole k found from ≡ Ok (found ++ es, to)
 unfolding symbol_at
 reads_list (last {from} {to} {e} d) closing rest splits h k found fits =
     let at : DerivesExpr Or from (closing ∷ rest) e = rw (← splits) d in
     let less = shorter d in
     let stop : sees Comma to ≡ false = rw splits (sees_other Comma (closing ∷ rest) (λ c. let clash : CloseParen ≡ Comma = sym h ∙ c in cc clash)) in
-    separated_off expr.whole k found from to e (before_paren at h ∙ ap (λ (ts : List Lexeme). Some (pair e ts)) (sym splits)) less fits stop ∙ ap (λ (ts : List Lexeme). Some (pair (found ++ e ∷ []) ts)) (after_other Comma to stop)
+    separated_off expr.whole k found from to e (before_paren at h ∙ ap (λ (ts : List Lexeme). Ok (pair e ts)) (sym splits)) less fits stop ∙ ap (λ (ts : List Lexeme). Ok (pair (found ++ e ∷ []) ts)) (after_other Comma to stop)
 reads_list (more {comma} {from} {middle} {to} {e} {es} d c ds) closing rest splits h k found fits =
     let less = shorter d in
     separated_on expr.whole k found from (comma ∷ middle) e (before_comma d c) less fits (sees_is Comma comma middle c)
     ∙ ap (separated expr.whole (k - 1) (found ++ e ∷ [])) (after_is Comma comma middle c)
     ∙ reads_list ds closing rest splits h (k - 1) (found ++ e ∷ []) (omega arith)
-    ∙ ap (λ (all : List RawExpr). Some (pair all to)) (append_assoc found (e ∷ []) es)
+    ∙ ap (λ (all : List RawExpr). Ok (pair all to)) (append_assoc found (e ∷ []) es)
 
 -- no expression begins with `)`
-no_paren : {l : Level} {from to : List Lexeme} {e : RawExpr} → DerivesExpr l from to e → symbol_at from ≡ CloseParen → ⊥
+pub no_paren : {l : Level} {from to : List Lexeme} {e : RawExpr} → DerivesExpr l from to e → symbol_at from ≡ CloseParen → ⊥
 unfolding symbol_at
 no_paren (operand o d) at = no_paren d at
 no_paren (chain j o d f) at = no_paren d at
@@ -101,7 +84,7 @@ no_paren_list : {from to : List Lexeme} {es : List RawExpr} → DerivesList from
 no_paren_list (last d) at = no_paren d at
 no_paren_list (more d c ds) at = no_paren d at
 
-reads_arguments : {from to : List Lexeme} {es : List RawExpr} → DerivesArguments from to es → (closing : Lexeme) (rest : List Lexeme) → to ≡ closing ∷ rest → Is CloseParen closing → read.arguments from ≡ Some (es, to)
+pub reads_arguments : {from to : List Lexeme} {es : List RawExpr} → DerivesArguments from to es → (closing : Lexeme) (rest : List Lexeme) → to ≡ closing ∷ rest → Is CloseParen closing → read.arguments from ≡ Ok (es, to)
 unfolding read.arguments expr.list
 reads_arguments (none {to}) closing rest splits h =
     let seen : sees CloseParen to ≡ true = rw splits (sees_is CloseParen closing rest h) in
@@ -109,22 +92,8 @@ reads_arguments (none {to}) closing rest splits h =
 reads_arguments (some {from} {to} {es} d) closing rest splits h =
     ap (λ (b : Bool). read.arguments_by b from) (sees_other CloseParen from (no_paren_list d)) ∙ reads_list d closing rest splits h (length from) [] (omega arith)
 
-pub reads_named : (name : Lexeme) (from to : List Lexeme) (k : Symbol) (s : RawStmt) → Is Name name → symbol_at from ≡ k → read.named_by (name_of name) k from ≡ Some (s, to) → read.named (name ∷ from) ≡ Some (s, to)
-unfolding read.named
-reads_named name from to k s n at h =
-    goes (λ name. step.peek >>= read.named_by name) (reads_name name from n) ∙ ap (λ (k : Symbol). read.named_by (name_of name) k from) at ∙ h
-
-pub reads_store : (name opening closing equals end : Lexeme) (from middle to : List Lexeme) (index e : RawExpr) → Is OpenBracket opening → DerivesExpr Or from (closing ∷ equals ∷ middle) index → Is CloseBracket closing →
-    Is Assign equals → DerivesExpr Or middle (end ∷ to) e → Is Semicolon end → read.store (name_of name) (opening ∷ from) ≡ Some (tree.Store (name_of name) index e, to)
-unfolding read.store
-reads_store name opening closing equals end from middle to index e o d c q f h =
-    goes (λ _. expr.whole >>= (λ index. expect CloseBracket >>= (λ _. read.right_side >>= (λ value. pure (tree.Store (name_of name) index value))))) (expects OpenBracket opening from o)
-    ∙ goes (λ index. expect CloseBracket >>= (λ _. read.right_side >>= (λ value. pure (tree.Store (name_of name) index value)))) (before_bracket d c)
-    ∙ goes (λ _. read.right_side >>= (λ value. pure (tree.Store (name_of name) index value))) (expects CloseBracket closing (equals ∷ middle) c)
-    ∙ goes (λ value. pure (tree.Store (name_of name) index value)) (reads_right_side equals end middle to e q f h)
-
 pub reads_call : (name opening closing end : Lexeme) (from to : List Lexeme) (args : List RawExpr) → Is OpenParen opening → DerivesArguments from (closing ∷ end ∷ to) args → Is CloseParen closing → Is Semicolon end →
-    read.call (name_of name) (opening ∷ from) ≡ Some (tree.Call (name_of name) args, to)
+    read.call (name_of name) (opening ∷ from) ≡ Ok (tree.Call (name_of name) args, to)
 unfolding read.call
 reads_call name opening closing end from to args o d c h =
     goes (λ _. read.arguments >>= (λ args. expect CloseParen >>= (λ _. expect Semicolon >>= (λ _. pure (tree.Call (name_of name) args))))) (expects OpenParen opening from o)
@@ -132,23 +101,23 @@ reads_call name opening closing end from to args o d c h =
     ∙ goes (λ _. expect Semicolon >>= (λ _. pure (tree.Call (name_of name) args))) (expects CloseParen closing (end ∷ to) c)
     ∙ goes (λ _. pure (tree.Call (name_of name) args)) (expects Semicolon end to h)
 
-pub reads_print : (word end : Lexeme) (from to : List Lexeme) (e : RawExpr) → Is Print word → DerivesCondition from (end ∷ to) e → Is Semicolon end → read.print (word ∷ from) ≡ Some (tree.Print word.line e, to)
+pub reads_print : (word end : Lexeme) (from to : List Lexeme) (e : RawExpr) → Is Print word → DerivesCondition from (end ∷ to) e → Is Semicolon end → read.print (word ∷ from) ≡ Ok (tree.Print word.line e, to)
 unfolding read.print
 reads_print word end from to e w d h =
     goes (λ (word : Lexeme). read.condition >>= (λ value. expect Semicolon >>= (λ _. pure (tree.Print word.line value)))) (expects Print word from w)
     ∙ goes (λ value. expect Semicolon >>= (λ _. pure (tree.Print word.line value))) (reads_condition d)
     ∙ goes (λ _. pure (tree.Print word.line e)) (expects Semicolon end to h)
 
-pub reads_repeated : (statement : Parser RawStmt) (marked : Bool) (word : Lexeme) (from middle to : List Lexeme) (e : RawExpr) (body : List RawStmt) → Is While word → DerivesCondition from middle e →
-    read.block statement middle ≡ Some (body, to) → read.repeated statement marked (word ∷ from) ≡ Some (tree.While word.line marked e body, to)
+pub reads_repeated : (statement : Parser RawStmt) (word : Lexeme) (from middle to : List Lexeme) (e : RawExpr) (body : List RawStmt) → Is While word → DerivesCondition from middle e →
+    read.block statement middle ≡ Ok (body, to) → read.repeated statement (word ∷ from) ≡ Ok (tree.While word.line false e body, to)
 unfolding read.repeated
-reads_repeated statement marked word from middle to e body w d h =
-    goes (λ (word : Lexeme). read.condition >>= (λ cond. read.block statement >>= (λ body. pure (tree.While word.line marked cond body)))) (expects While word from w)
-    ∙ goes (λ cond. read.block statement >>= (λ body. pure (tree.While word.line marked cond body))) (reads_condition d)
-    ∙ goes (λ body. pure (tree.While word.line marked e body)) h
+reads_repeated statement word from middle to e body w d h =
+    goes (λ (word : Lexeme). read.condition >>= (λ cond. read.block statement >>= (λ body. pure (tree.While word.line false cond body)))) (expects While word from w)
+    ∙ goes (λ cond. read.block statement >>= (λ body. pure (tree.While word.line false cond body))) (reads_condition d)
+    ∙ goes (λ body. pure (tree.While word.line false e body)) h
 
 pub reads_if : (statement : Parser RawStmt) (word : Lexeme) (from middle rest to : List Lexeme) (e : RawExpr) (body part : List RawStmt) → Is If word → DerivesCondition from middle e →
-    read.block statement middle ≡ Some (body, rest) → read.otherwise statement rest ≡ Some (part, to) → read.choice statement (word ∷ from) ≡ Some (tree.If word.line e body part, to)
+    read.block statement middle ≡ Ok (body, rest) → read.otherwise statement rest ≡ Ok (part, to) → read.choice statement (word ∷ from) ≡ Ok (tree.If word.line e body part, to)
 unfolding read.choice
 reads_if statement word from middle rest to e body part w d h g =
     goes (λ (word : Lexeme). read.condition >>= (λ cond. read.block statement >>= (λ then_part. read.otherwise statement >>= (λ else_part. pure (tree.If word.line cond then_part else_part))))) (expects If word from w)
@@ -157,11 +126,12 @@ reads_if statement word from middle rest to e body part w d h g =
     ∙ goes (λ else_part. pure (tree.If word.line e body else_part)) g
 
 -- the symbols that begin a statement
-abbrev begins : Symbol → Bool
+abbrev pub begins : Symbol → Bool
 begins Int = true
 begins Name = true
 begins Print = true
 begins While = true
+begins For = true
 begins If = true
 begins _ = false
 
@@ -171,7 +141,7 @@ choice_begins (alone w d b) = w
 choice_begins (otherwise w d b o e) = w
 choice_begins (else_if w d b o e) = w
 
-statement_begins : {from to : List Lexeme} {s : RawStmt} → DerivesStatement from to s → begins (symbol_at from) ≡ true
+pub statement_begins : {from to : List Lexeme} {s : RawStmt} → DerivesStatement from to s → begins (symbol_at from) ≡ true
 unfolding symbol_at
 statement_begins (declare i n q d e) = ap begins i
 statement_begins (assign n q d e) = ap begins n
@@ -179,6 +149,7 @@ statement_begins (store n o d c q f e) = ap begins n
 statement_begins (call n o d c e) = ap begins n
 statement_begins (print w d e) = ap begins w
 statement_begins (loop w d b) = ap begins w
+statement_begins (for_loop w d b) = ap begins w
 statement_begins (choice d) = ap begins (choice_begins d)
 
 pub begins_not : {from to : List Lexeme} {s : RawStmt} → DerivesStatement from to s → (k : Symbol) → begins k ≡ false → symbol_at from ≡ k → ⊥

@@ -1,26 +1,29 @@
 -- What the descent reads as a statement, the grammar derives.
-use Rattle.std.proofs.Common.{◌≡◌, refl, ap, ◌∙◌, sym, ℕ, zero, suc, Bool, true, false, List, [], ◌∷◌, ◌++◌, length, Some, append_assoc}
+use Rattle.std.proofs.Common.{◌≡◌, refl, ap, ◌∙◌, sym, ℕ, zero, suc, Bool, true, false, List, [], ◌∷◌, ◌++◌, length, append_assoc, Ok}
 use Rattle.std.proofs.lemmas.List.{append-nil}
 use Rattle.dp_lex.specs.Token.{Lexeme}
 use Rattle.dp_tree.specs.declared.raw.RawExpr.{RawExpr}
 use Rattle.dp_tree.specs.declared.raw.RawStmt.{RawStmt}
 use Rattle.dp_tree.specs.declared.raw.RawStmt.TheVariants as tree
 use Rattle.dp_parse.specs.declared.symbol.Symbol.{Symbol}
-use Rattle.dp_parse.specs.declared.symbol.Symbol.TheVariants.{Name, Int, Print, While, If, Else, OpenBrace, CloseBrace}
+use Rattle.dp_parse.specs.declared.symbol.Symbol.TheVariants.{Name, Int, Print, While, For, If, Else, OpenBrace, CloseBrace}
 use Rattle.dp_parse.specs.Symbols.{symbol_at, Is}
-use Rattle.dp_parse.specs.Statements.{DerivesArguments, DerivesCondition, condition, DerivesStatement, declare, assign, store, call, print, loop, choice, DerivesChoice, alone, otherwise, else_if, DerivesBlock, block, DerivesStatements}
+use Rattle.dp_parse.specs.Statements.{DerivesArguments, DerivesCondition, condition, DerivesStatement, declare, assign, store, call, print, loop, for_loop, choice, DerivesChoice, alone, otherwise, else_if, DerivesBlock, block, DerivesStatements}
 use Rattle.dp_parse.specs.Statements as statements
 use Rattle.dp_parse.specs.descent.Steps.{Parser, ◌>>=◌, pure, expect, sees, many, many_by}
+use Rattle.dp_parse.specs.declared.head.Header.{Header}
+use Rattle.dp_parse.specs.descent.Heads as heads
 use Rattle.dp_parse.specs.descent.Statements as read
 use Rattle.dp_parse.proofs.StepLemmas.{Sound, then_of, same_pair, took, Ate, passed, stayed, ate, closed, moved, saw}
-use Rattle.dp_parse.proofs.StatementForms.{sound_condition, sound_declare, sound_named, sound_print}
+use Rattle.dp_parse.proofs.StatementForms.{sound_condition, sound_declaration, sound_named, sound_print}
+use Rattle.dp_parse.proofs.HeadSound.{read_head}
 
 module _ (statement : Parser RawStmt) (sound : Sound statement DerivesStatement) where
-  abbrev Stated : (List Lexeme → List Lexeme → List RawStmt → List RawStmt → Type 0)
+  abbrev pub Stated : (List Lexeme → List Lexeme → List RawStmt → List RawStmt → Type 0)
   Stated from to found out = (body : List RawStmt) × (out ≡ found ++ body) × DerivesStatements from to body
 
-  many_at : (again : List RawStmt → Parser (List RawStmt)) (goes : (from to : List Lexeme) (found out : List RawStmt) → again found from ≡ Some (out, to) → Stated from to found out)
-      (from to : List Lexeme) (found out : List RawStmt) (b : Bool) → many_by statement again found b from ≡ Some (out, to) → Stated from to found out
+  many_at : (again : List RawStmt → Parser (List RawStmt)) (goes : (from to : List Lexeme) (found out : List RawStmt) → again found from ≡ Ok (out, to) → Stated from to found out)
+      (from to : List Lexeme) (found out : List RawStmt) (b : Bool) → many_by statement again found b from ≡ Ok (out, to) → Stated from to found out
   many_at again goes from to found out true e =
       let parts = same_pair {a = found} {b = out} {x = from} {y = to} e in
       ([], sym parts.0 ∙ sym (append-nil found), moved DerivesStatements refl (sym parts.1) refl statements.none)
@@ -30,7 +33,7 @@ module _ (statement : Parser RawStmt) (sound : Sound statement DerivesStatement)
       (o.value ∷ others.0, others.1 ∙ append_assoc found (o.value ∷ []) others.0, statements.more (sound from o.middle o.value o.first) others.2)
 
   -- statements up to a brace, after those that were found
-  many_statements : (n : ℕ) (from to : List Lexeme) (found out : List RawStmt) → many (sees CloseBrace) statement n found from ≡ Some (out, to) → Stated from to found out
+  pub many_statements : (n : ℕ) (from to : List Lexeme) (found out : List RawStmt) → many (sees CloseBrace) statement n found from ≡ Ok (out, to) → Stated from to found out
   unfolding many
   many_statements zero from to found out h = absurd (cc)
   many_statements (suc n) from to found out h = many_at (many (sees CloseBrace) statement n) (many_statements n) from to found out (sees CloseBrace from) h
@@ -44,47 +47,13 @@ module _ (statement : Parser RawStmt) (sound : Sound statement DerivesStatement)
       let m = many_statements (length o.middle) o.middle (c.closing ∷ to) [] c.value c.first in
       moved DerivesBlock t.splits refl (c.made ∙ m.1) (block t.is m.2 c.is)
 
-  -- a loop, marked or not
-  pub record Repeats (marked : Bool) (from to : List Lexeme) (s : RawStmt) : Type 0 where
-    pub word : Lexeme
-    pub is : Is While word
-    pub inside : List Lexeme
-    pub middle : List Lexeme
-    pub splits : from ≡ word ∷ inside
-    pub cond : RawExpr
-    pub body : List RawStmt
-    pub tests : DerivesCondition inside middle cond
-    pub repeats : DerivesBlock middle to body
-    pub made : s ≡ tree.While word.line marked cond body
-
-  pub read_repeated : (marked : Bool) (from to : List Lexeme) (s : RawStmt) → read.repeated statement marked from ≡ Some (s, to) → Repeats marked from to s
-  unfolding read.repeated
-  read_repeated marked from to s h =
-      let o = then_of (expect While from) (λ word. read.condition >>= (λ cond. read.block statement >>= (λ body. pure (tree.While word.line marked cond body)))) s to h in
-      let t = took While from o.value o.middle o.first in
-      let p = then_of (read.condition o.middle) (λ cond. read.block statement >>= (λ body. pure (tree.While o.value.line marked cond body))) s to o.second in
-      let q = then_of (read.block statement p.middle) (λ body. pure (tree.While o.value.line marked p.value body)) s to p.second in
-      let parts = same_pair {a = tree.While o.value.line marked p.value q.value} {b = s} {x = q.middle} {y = to} q.second in
-      record {
-        word = o.value;
-        is = t.is;
-        inside = o.middle;
-        middle = p.middle;
-        splits = t.splits;
-        cond = p.value;
-        body = q.value;
-        tests = sound_condition o.middle p.middle p.value p.first;
-        repeats = moved DerivesBlock refl (sym parts.1) refl (sound_block p.middle q.middle q.value q.first);
-        made = sym parts.0;
-      }
-
   -- what follows an `if` and its block
-  data Otherwise (from to : List Lexeme) (part : List RawStmt) : Type 0 where
+  pub data Otherwise (from to : List Lexeme) (part : List RawStmt) : Type 0 where
     nothing : from ≡ to → part ≡ [] → Otherwise from to part
     a_block : (other : Lexeme) (inside : List Lexeme) → Is Else other → from ≡ other ∷ inside → DerivesBlock inside to part → Otherwise from to part
     a_choice : (other : Lexeme) (inside : List Lexeme) (s : RawStmt) → Is Else other → from ≡ other ∷ inside → symbol_at inside ≡ If → DerivesStatement inside to s → part ≡ s ∷ [] → Otherwise from to part
 
-  else_at : (other : Lexeme) (from inside to : List Lexeme) (part : List RawStmt) → Is Else other → from ≡ other ∷ inside → (b : Bool) → sees If inside ≡ b → read.else_by statement b inside ≡ Some (part, to) → Otherwise from to part
+  else_at : (other : Lexeme) (from inside to : List Lexeme) (part : List RawStmt) → Is Else other → from ≡ other ∷ inside → (b : Bool) → sees If inside ≡ b → read.else_by statement b inside ≡ Ok (part, to) → Otherwise from to part
   else_at other from inside to part is splits true seen h =
       let o = then_of (statement inside) (λ s. pure (s ∷ [])) part to h in
       let parts = same_pair {a = o.value ∷ []} {b = part} {x = o.middle} {y = to} o.second in
@@ -95,7 +64,7 @@ module _ (statement : Parser RawStmt) (sound : Sound statement DerivesStatement)
   otherwise_ate from to part (passed t inside is splits e) = else_at t from inside to part is splits (sees If inside) refl e
   otherwise_ate from to part (stayed other e) = let parts = same_pair {a = []} {b = part} {x = from} {y = to} e in nothing parts.1 (sym parts.0)
 
-  read_otherwise : (from to : List Lexeme) (part : List RawStmt) → read.otherwise statement from ≡ Some (part, to) → Otherwise from to part
+  pub read_otherwise : (from to : List Lexeme) (part : List RawStmt) → read.otherwise statement from ≡ Ok (part, to) → Otherwise from to part
   unfolding read.otherwise
   read_otherwise from to part h = otherwise_ate from to part (ate Else (read.otherwise_by statement) part to from (λ k. cc) h)
 
@@ -108,10 +77,11 @@ choice_of (store n o d c q f e) at = absurd (cc)
 choice_of (call n o d c e) at = absurd (cc)
 choice_of (print w d e) at = absurd (cc)
 choice_of (loop w d b) at = absurd (cc)
+choice_of (for_loop w d b) at = absurd (cc)
 choice_of (choice d) at = d
 
 module _ (statement : Parser RawStmt) (sound : Sound statement DerivesStatement) where
-  chosen : (word : Lexeme) (from middle after to : List Lexeme) (cond : RawExpr) (body part : List RawStmt) → Is If word → DerivesCondition from middle cond → DerivesBlock middle after body →
+  pub chosen : (word : Lexeme) (from middle after to : List Lexeme) (cond : RawExpr) (body part : List RawStmt) → Is If word → DerivesCondition from middle cond → DerivesBlock middle after body →
       Otherwise statement sound after to part → DerivesChoice (word ∷ from) to (tree.If word.line cond body part)
   chosen word from middle last to cond body part is test d (nothing same none) =
       moved DerivesChoice refl (sym same) (ap (tree.If word.line cond body) none) (alone is test d)
@@ -119,7 +89,7 @@ module _ (statement : Parser RawStmt) (sound : Sound statement DerivesStatement)
   chosen word from middle last to cond body part is test d (a_choice other inside s is_else splits at e only) =
       moved DerivesChoice refl refl (ap (tree.If word.line cond body) only) (else_if is test (moved DerivesBlock refl (sym splits) refl d) is_else (choice_of e at))
 
-  sound_choice : Sound (read.choice statement) DerivesChoice
+  pub sound_choice : Sound (read.choice statement) DerivesChoice
   unfolding read.choice
   sound_choice from to s h =
       let o = then_of (expect If from) (λ word. read.condition >>= (λ cond. read.block statement >>= (λ then_part. read.otherwise statement >>= (λ else_part. pure (tree.If word.line cond then_part else_part))))) s to h in
@@ -132,16 +102,36 @@ module _ (statement : Parser RawStmt) (sound : Sound statement DerivesStatement)
       (chosen o.value o.middle p.middle q.middle u.middle p.value q.value u.value t.is (sound_condition o.middle p.middle p.value p.first)
       (sound_block statement sound p.middle q.middle q.value q.first) (read_otherwise statement sound q.middle u.middle u.value u.first))
 
-  sound_loop : (from to : List Lexeme) (s : RawStmt) → read.repeated statement false from ≡ Some (s, to) → DerivesStatement from to s
+  sound_loop : (from to : List Lexeme) (s : RawStmt) → read.repeated statement from ≡ Ok (s, to) → DerivesStatement from to s
+  unfolding read.repeated
   sound_loop from to s h =
-      let r = read_repeated statement sound false from to s h in
-      moved DerivesStatement r.splits refl r.made (loop r.is r.tests r.repeats)
+      let o = then_of (expect While from) (λ word. read.condition >>= (λ cond. read.block statement >>= (λ body. pure (tree.While word.line false cond body)))) s to h in
+      let t = took While from o.value o.middle o.first in
+      let p = then_of (read.condition o.middle) (λ cond. read.block statement >>= (λ body. pure (tree.While o.value.line false cond body))) s to o.second in
+      let q = then_of (read.block statement p.middle) (λ body. pure (tree.While o.value.line false p.value body)) s to p.second in
+      let parts = same_pair {a = tree.While o.value.line false p.value q.value} {b = s} {x = q.middle} {y = to} q.second in
+      moved DerivesStatement t.splits (sym parts.1) (sym parts.0) (loop t.is (sound_condition o.middle p.middle p.value p.first) (sound_block statement sound p.middle q.middle q.value q.first))
 
-  statement_at : (k : Symbol) (from to : List Lexeme) (s : RawStmt) → read.statement_by statement k from ≡ Some (s, to) → DerivesStatement from to s
-  statement_at Int from to s h = sound_declare from to s h
+  abbrev for_of : ℕ → Header → List RawStmt → RawStmt
+  for_of line h body = tree.For line false h.first h.cond h.step body
+
+  sound_for : (from to : List Lexeme) (s : RawStmt) → read.counted statement from ≡ Ok (s, to) → DerivesStatement from to s
+  unfolding read.counted
+  sound_for from to s h =
+      let o = then_of (expect For from) (λ word. heads.head >>= (λ head. read.block statement >>= (λ body. pure (for_of word.line head body)))) s to h in
+      let t = took For from o.value o.middle o.first in
+      let p = then_of (heads.head o.middle) (λ head. read.block statement >>= (λ body. pure (for_of o.value.line head body))) s to o.second in
+      let k = read_head o.middle p.middle p.value p.first in
+      let q = then_of (read.block statement p.middle) (λ body. pure (for_of o.value.line p.value body)) s to p.second in
+      let parts = same_pair {a = for_of o.value.line p.value q.value} {b = s} {x = q.middle} {y = to} q.second in
+      moved DerivesStatement t.splits (sym parts.1) (sym parts.0 ∙ ap (λ (head : Header). for_of o.value.line head q.value) k.made) (for_loop t.is k.derives (sound_block statement sound p.middle q.middle q.value q.first))
+
+  statement_at : (k : Symbol) (from to : List Lexeme) (s : RawStmt) → read.statement_by statement k from ≡ Ok (s, to) → DerivesStatement from to s
+  statement_at Int from to s h = sound_declaration from to s h
   statement_at Name from to s h = sound_named from to s h
   statement_at Print from to s h = sound_print from to s h
   statement_at While from to s h = sound_loop from to s h
+  statement_at For from to s h = sound_for from to s h
   statement_at _ from to s h = choice (sound_choice from to s h)
 
 pub sound_statement : (n : ℕ) → Sound (read.statement n) DerivesStatement

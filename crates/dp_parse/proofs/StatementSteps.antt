@@ -3,7 +3,7 @@ use Rattle.std.proofs.Common.{◌≡◌, refl, ap, ℕ, zero, suc, ◌-◌, ◌<
 use Rattle.dp_lex.specs.Token.{Lexeme}
 use Rattle.dp_tree.specs.declared.raw.RawStmt.{RawStmt}
 use Rattle.dp_parse.specs.declared.symbol.Symbol.{Symbol}
-use Rattle.dp_parse.specs.declared.symbol.Symbol.TheVariants.{Int, Name, Print, While}
+use Rattle.dp_parse.specs.declared.symbol.Symbol.TheVariants.{Int, Name, Print, While, For}
 use Rattle.dp_parse.specs.Symbols.{symbol_at}
 use Rattle.dp_parse.specs.descent.Steps.{Parser}
 use Rattle.dp_parse.specs.descent.Statements as read
@@ -16,9 +16,10 @@ statement_opens (suc n) ts k some e =
     rw same (ap (λ (s : Symbol). read.statement_by (read.statement n) s ts) e)
 
 -- any other symbol has to begin an `if`
-pub choice_by : (statement : Parser RawStmt) (k : Symbol) → (k ≡ Int → ⊥) → (k ≡ Name → ⊥) → (k ≡ Print → ⊥) → (k ≡ While → ⊥) → read.statement_by statement k ≡ read.choice statement
-choice_by statement Int i n p w = absurd (i refl)
-choice_by statement Name i n p w = absurd (n refl)
-choice_by statement Print i n p w = absurd (p refl)
-choice_by statement While i n p w = absurd (w refl)
-choice_by statement _ i n p w = refl
+pub choice_by : (statement : Parser RawStmt) (k : Symbol) → (k ≡ Int → ⊥) → (k ≡ Name → ⊥) → (k ≡ Print → ⊥) → (k ≡ While → ⊥) → (k ≡ For → ⊥) → read.statement_by statement k ≡ read.choice statement
+choice_by statement Int i n p w f = absurd (i refl)
+choice_by statement Name i n p w f = absurd (n refl)
+choice_by statement Print i n p w f = absurd (p refl)
+choice_by statement While i n p w f = absurd (w refl)
+choice_by statement For i n p w f = absurd (f refl)
+choice_by statement _ i n p w f = refl

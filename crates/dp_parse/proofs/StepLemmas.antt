@@ -1,7 +1,6 @@
 -- The steps of a descent: what each gives where it answers, and that it answers.
-use Rattle.std.proofs.Common.{◌≡◌, refl, ap, ◌∙◌, sym, ◌≤◌, ◌<◌, length, arith, Bool, true, false, List, [], ◌∷◌, Option, Some, None, if◌then◌else◌}
+use Rattle.std.proofs.Common.{◌≡◌, refl, ap, ◌∙◌, sym, ◌≤◌, ◌<◌, length, arith, Bool, true, false, List, [], ◌∷◌, Option, Some, None, Ok, Err, if◌then◌else◌}
 use denote.Enum.Bare.{same_true, true_same, false_same, same_false}
-use Rattle.std.proofs.lemmas.Option.{same_Some}
 use Rattle.dp_lex.specs.Token.{Lexeme}
 use Rattle.dp_parse.specs.declared.symbol.Symbol.{Symbol}
 use Rattle.dp_parse.specs.declared.symbol.Symbol.TheVariants.{End}
@@ -15,12 +14,12 @@ use Rattle.dp_parse.specs.descent.Steps.{Outcome, Parser, and_then, ◌>>=◌, p
 pub record Then {A B : Type 0} (o : Outcome A) (f : A → Parser B) (b : B) (left : List Lexeme) : Type 0 where
   pub value : A
   pub middle : List Lexeme
-  pub first : o ≡ Some (value, middle)
-  pub second : f value middle ≡ Some (b, left)
+  pub first : o ≡ Ok (value, middle)
+  pub second : f value middle ≡ Ok (b, left)
 
-pub then_of : {A B : Type 0} (o : Outcome A) (f : A → Parser B) (b : B) (left : List Lexeme) → and_then o f ≡ Some (b, left) → Then o f b left
-then_of (Some p) f b left e = record { value = p.0; middle = p.1; first = refl; second = e }
-then_of None f b left e = absurd (cc)
+pub then_of : {A B : Type 0} (o : Outcome A) (f : A → Parser B) (b : B) (left : List Lexeme) → and_then o f ≡ Ok (b, left) → Then o f b left
+then_of (Ok p) f b left e = record { value = p.0; middle = p.1; first = refl; second = e }
+then_of (Err stuck) f b left e = absurd (cc)
 
 pub same_is : (a b : Symbol) → same_symbol a b ≡ true → a ≡ b
 unfolding same_symbol
@@ -56,29 +55,32 @@ pub record Took (s : Symbol) (ts : List Lexeme) (t : Lexeme) (left : List Lexeme
   pub splits : ts ≡ t ∷ left
 
 -- what `expect` answers by its test
-abbrev taking : Bool → Lexeme → List Lexeme → Outcome Lexeme
-taking b u us = if b then Some (u, us) else None
+abbrev pub taking : Bool → Lexeme → List Lexeme → Outcome Lexeme
+taking b u us = if b then Ok (u, us) else Err (u ∷ us)
 
-module _ {A B : Type 0} where
-  abbrev both : A → B → A × B
+module _ {A : Type 0} where
+  abbrev both : A → List Lexeme → A × List Lexeme
   both a x = (a, x)
 
-  -- what is equal in two outcomes
-  pub same_pair : {a b : A} {x y : B} → Some (both a x) ≡ Some (both b y) → (a ≡ b) × (x ≡ y)
-  same_pair {a} {b} {x} {y} e = let h : both a x ≡ both b y = same_Some (both a x) (both b y) e in (ap (λ p. p.0) h, ap (λ p. p.1) h)
+  abbrev read_as : A → List Lexeme → Outcome A
+  read_as a x = Ok (both a x)
 
-took_by : (s : Symbol) (u : Lexeme) (us : List Lexeme) (t : Lexeme) (left : List Lexeme) (b : Bool) → same_symbol (symbol u) s ≡ b → taking b u us ≡ Some (t, left) → Took s (u ∷ us) t left
+  -- what is equal in two outcomes
+  pub same_pair : {a b : A} {x y : List Lexeme} → read_as a x ≡ read_as b y → (a ≡ b) × (x ≡ y)
+  same_pair {a} {b} {x} {y} e = let h : both a x ≡ both b y = cc e in (ap (λ p. p.0) h, ap (λ p. p.1) h)
+
+took_by : (s : Symbol) (u : Lexeme) (us : List Lexeme) (t : Lexeme) (left : List Lexeme) (b : Bool) → same_symbol (symbol u) s ≡ b → taking b u us ≡ Ok (t, left) → Took s (u ∷ us) t left
 took_by s u us t left true same e =
     let parts : (u ≡ t) × (us ≡ left) = same_pair e in
     record { is = ap symbol (sym parts.0) ∙ same_is (symbol u) s same; splits = cc (parts.0, parts.1) }
 took_by s u us t left false same e = absurd (cc)
 
-pub took : (s : Symbol) (ts : List Lexeme) (t : Lexeme) (left : List Lexeme) → expect s ts ≡ Some (t, left) → Took s ts t left
+pub took : (s : Symbol) (ts : List Lexeme) (t : Lexeme) (left : List Lexeme) → expect s ts ≡ Ok (t, left) → Took s ts t left
 unfolding expect
 took s [] t left e = absurd (cc)
 took s (u ∷ us) t left e = took_by s u us t left (same_symbol (symbol u) s) refl e
 
-pub expects : (s : Symbol) (t : Lexeme) (ts : List Lexeme) → Is s t → expect s (t ∷ ts) ≡ Some (t, ts)
+pub expects : (s : Symbol) (t : Lexeme) (ts : List Lexeme) → Is s t → expect s (t ∷ ts) ≡ Ok (t, ts)
 unfolding expect
 expects s t ts h = ap (λ (b : Bool). taking b t ts) (is_same (symbol t) s h)
 
@@ -101,18 +103,18 @@ after_other s ts h = ap (λ (b : Bool). if b then rest ts else ts) h
 
 -- after an `eat`: the symbol was passed, or it didn't come next
 pub data Ate {B : Type 0} (s : Symbol) (f : Bool → Parser B) (ts : List Lexeme) (b : B) (left : List Lexeme) : Type 0 where
-  passed : (t : Lexeme) (middle : List Lexeme) → Is s t → ts ≡ t ∷ middle → f true middle ≡ Some (b, left) → Ate s f ts b left
-  stayed : (symbol_at ts ≡ s → ⊥) → f false ts ≡ Some (b, left) → Ate s f ts b left
+  passed : (t : Lexeme) (middle : List Lexeme) → Is s t → ts ≡ t ∷ middle → f true middle ≡ Ok (b, left) → Ate s f ts b left
+  stayed : (symbol_at ts ≡ s → ⊥) → f false ts ≡ Ok (b, left) → Ate s f ts b left
 
 module _ {B : Type 0} (s : Symbol) (f : Bool → Parser B) where
-  ate_by : (b : B) (left ts : List Lexeme) (real : End ≡ s → ⊥) (there : Bool) → sees s ts ≡ there → f there (after s ts) ≡ Some (b, left) → Ate s f ts b left
+  ate_by : (b : B) (left ts : List Lexeme) (real : End ≡ s → ⊥) (there : Bool) → sees s ts ≡ there → f there (after s ts) ≡ Ok (b, left) → Ate s f ts b left
   unfolding sees symbol_at
   ate_by b left [] real true h e = absurd (real (same_is End s h))
   ate_by b left (t ∷ ts) real true h e =
       let is : Is s t = same_is (symbol t) s h in passed t ts is refl (ap (f true) (sym (after_is s t ts is)) ∙ e)
   ate_by b left ts real false h e = stayed (differs (symbol_at ts) s h) (ap (f false) (sym (after_other s ts h)) ∙ e)
 
-  pub ate : (b : B) (left ts : List Lexeme) (real : End ≡ s → ⊥) → (eat s >>= f) ts ≡ Some (b, left) → Ate s f ts b left
+  pub ate : (b : B) (left ts : List Lexeme) (real : End ≡ s → ⊥) → (eat s >>= f) ts ≡ Ok (b, left) → Ate s f ts b left
   ate b left ts real e = ate_by b left ts real (sees s ts) refl e
 
   pub eats : (t : Lexeme) (ts : List Lexeme) → Is s t → (eat s >>= f) (t ∷ ts) ≡ f true ts
@@ -123,10 +125,10 @@ module _ {B : Type 0} (s : Symbol) (f : Bool → Parser B) where
 
 module _ {A : Type 0} where
   abbrev pub Sound : Parser A → (List Lexeme → List Lexeme → A → Type 0) → Type 0
-  Sound p R = (from to : List Lexeme) (a : A) → p from ≡ Some (a, to) → R from to a
+  Sound p R = (from to : List Lexeme) (a : A) → p from ≡ Ok (a, to) → R from to a
 
   -- what `given` gives
-  pub gave : (o : Option A) (a : A) (ts left : List Lexeme) → given o ts ≡ Some (a, left) → (o ≡ Some a) × (ts ≡ left)
+  pub gave : (o : Option A) (a : A) (ts left : List Lexeme) → given o ts ≡ Ok (a, left) → (o ≡ Some a) × (ts ≡ left)
   gave None a ts left e = absurd (cc)
   gave (Some b) a ts left e = let parts = same_pair {a = b} {b = a} {x = ts} {y = left} e in (ap Some parts.0, parts.1)
 
@@ -134,12 +136,12 @@ module _ {A : Type 0} where
 pub record Closed {A B : Type 0} (p : Parser A) (s : Symbol) (f : A → B) (b : B) (from to : List Lexeme) : Type 0 where
   pub value : A
   pub closing : Lexeme
-  pub first : p from ≡ Some (value, closing ∷ to)
+  pub first : p from ≡ Ok (value, closing ∷ to)
   pub is : Is s closing
   pub made : b ≡ f value
 
 module _ {A B : Type 0} where
-  pub closed : (p : Parser A) (s : Symbol) (f : A → B) (b : B) (from to : List Lexeme) → (p >>= (λ x. expect s >>= (λ _. pure (f x)))) from ≡ Some (b, to) → Closed p s f b from to
+  pub closed : (p : Parser A) (s : Symbol) (f : A → B) (b : B) (from to : List Lexeme) → (p >>= (λ x. expect s >>= (λ _. pure (f x)))) from ≡ Ok (b, to) → Closed p s f b from to
   closed p s f b from to e =
       let h = then_of (p from) (λ x. expect s >>= (λ _. pure (f x))) b to e in
       let g = then_of (expect s h.middle) (λ _. pure (f h.value)) b to h.second in
@@ -148,7 +150,7 @@ module _ {A B : Type 0} where
       record {
         value = h.value;
         closing = g.value;
-        first = h.first ∙ ap (λ (ts : List Lexeme). Some (both h.value ts)) (t.splits ∙ ap (λ (ts : List Lexeme). g.value ∷ ts) parts.1);
+        first = h.first ∙ ap (λ (ts : List Lexeme). Ok (both h.value ts)) (t.splits ∙ ap (λ (ts : List Lexeme). g.value ∷ ts) parts.1);
         is = t.is;
         made = sym parts.0;
       }

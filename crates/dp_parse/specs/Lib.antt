@@ -2,8 +2,11 @@ pub mod Symbols
 pub mod Levels
 pub mod Leaves
 pub mod Expressions
+pub mod Heads
 pub mod Statements
+pub mod Regions
 pub mod Programs
+pub mod Begins
 pub mod Depth
 pub mod Parses
 pub mod descent

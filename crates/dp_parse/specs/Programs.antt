@@ -8,10 +8,12 @@ use Rattle.dp_tree.specs.declared.raw.RawStmt.TheVariants as stmt
 use Rattle.dp_tree.specs.declared.raw.RawItem.{RawItem}
 use Rattle.dp_tree.specs.declared.raw.RawItem.TheVariants as item
 use Rattle.dp_tree.specs.declared.raw.RawProgram.{RawProgram}
-use Rattle.dp_parse.specs.declared.symbol.Symbol.TheVariants.{Name, Mark, Int, Void, Main, Return, While, Minus, Assign, OpenParen, CloseParen, OpenBracket, CloseBracket, OpenBrace, CloseBrace, Comma, Semicolon}
+use Rattle.dp_parse.specs.declared.symbol.Symbol.TheVariants.{Name, Mark, Int, Void, Main, Return, While, For, Minus, Assign, OpenParen, CloseParen, OpenBracket, CloseBracket, OpenBrace, CloseBrace, Comma, Semicolon}
 use Rattle.dp_parse.specs.Symbols.{Is}
 use Rattle.dp_parse.specs.Leaves.{name_of, IsNumber}
+use Rattle.dp_parse.specs.Heads.{DerivesHead}
 use Rattle.dp_parse.specs.Statements.{DerivesCondition, DerivesStatement, DerivesBlock}
+use Rattle.dp_parse.specs.Regions.{DerivesLoop}
 
 -- "int" name { "," "int" name }
 pub data DerivesNames : List Lexeme → List Lexeme → List TreeName → Type 0 where
@@ -47,14 +49,17 @@ pub data DerivesItem : List Lexeme → List Lexeme → RawItem → Type 0 where
       Is Void void → Is Name name → Is OpenParen opening → DerivesParams from (closing ∷ middle) params → Is CloseParen closing → DerivesBlock middle to body →
       DerivesItem (void ∷ name ∷ opening ∷ from) to (item.Function (name_of name) params body)
 
--- { top }, where top = statement | mark "while" "(" expr ")" block
+-- { top }, where top = statement | mark "while" "(" expr ")" loop | mark "for" "(" first ";" expr ";" simple ")" loop
 pub data DerivesTops : List Lexeme → List Lexeme → List RawStmt → Type 0 where
   none : {to : List Lexeme} → DerivesTops to to []
   statement : {from middle to : List Lexeme} {s : RawStmt} {rest : List RawStmt} →
       DerivesStatement from middle s → DerivesTops middle to rest → DerivesTops from to (s ∷ rest)
   region : {mark word : Lexeme} {from inside middle to : List Lexeme} {e : RawExpr} {body rest : List RawStmt} →
-      Is Mark mark → Is While word → DerivesCondition from inside e → DerivesBlock inside middle body → DerivesTops middle to rest →
+      Is Mark mark → Is While word → DerivesCondition from inside e → DerivesLoop inside middle body → DerivesTops middle to rest →
       DerivesTops (mark ∷ word ∷ from) to (stmt.While word.line true e body ∷ rest)
+  for_region : {mark word : Lexeme} {from inside middle to : List Lexeme} {first step : RawStmt} {e : RawExpr} {body rest : List RawStmt} →
+      Is Mark mark → Is For word → DerivesHead from inside first e step → DerivesLoop inside middle body → DerivesTops middle to rest →
+      DerivesTops (mark ∷ word ∷ from) to (stmt.For word.line true (first ∷ []) e (step ∷ []) body ∷ rest)
 
 -- [ "return" number ";" ], with the number 0
 pub data DerivesReturn : List Lexeme → List Lexeme → Type 0 where

@@ -4,11 +4,12 @@ use Rattle.dp_lex.specs.Token.{Lexeme}
 use Rattle.dp_tree.specs.declared.raw.RawExpr.{RawExpr}
 use Rattle.dp_tree.specs.declared.raw.RawStmt.{RawStmt}
 use Rattle.dp_tree.specs.declared.raw.RawStmt.TheVariants as tree
-use Rattle.dp_parse.specs.declared.symbol.Symbol.TheVariants.{Name, Int, Print, While, If, Else, Assign, OpenParen, CloseParen, OpenBracket, CloseBracket, OpenBrace, CloseBrace, Semicolon}
+use Rattle.dp_parse.specs.declared.symbol.Symbol.TheVariants.{Name, Int, Print, While, For, If, Else, Assign, OpenParen, CloseParen, OpenBracket, CloseBracket, OpenBrace, CloseBrace, Semicolon}
 use Rattle.dp_parse.specs.declared.level.Level.TheVariants.{Or}
 use Rattle.dp_parse.specs.Symbols.{Is}
 use Rattle.dp_parse.specs.Leaves.{name_of}
 use Rattle.dp_parse.specs.Expressions.{DerivesExpr, DerivesList}
+use Rattle.dp_parse.specs.Heads.{DerivesHead}
 
 -- the tokens derive the arguments between a call's parentheses
 pub data DerivesArguments : List Lexeme → List Lexeme → List RawExpr → Type 0 where
@@ -46,6 +47,10 @@ mutual
     loop : {word : Lexeme} {from middle to : List Lexeme} {e : RawExpr} {body : List RawStmt} →
         Is While word → DerivesCondition from middle e → DerivesBlock middle to body →
         DerivesStatement (word ∷ from) to (tree.While word.line false e body)
+    -- "for" "(" first ";" expr ";" simple ")" block
+    for_loop : {word : Lexeme} {from middle to : List Lexeme} {first step : RawStmt} {e : RawExpr} {body : List RawStmt} →
+        Is For word → DerivesHead from middle first e step → DerivesBlock middle to body →
+        DerivesStatement (word ∷ from) to (tree.For word.line false (first ∷ []) e (step ∷ []) body)
     choice : {from to : List Lexeme} {s : RawStmt} → DerivesChoice from to s → DerivesStatement from to s
 
   -- "if" "(" expr ")" block [ "else" ( block | .. ) ]

@@ -5,7 +5,7 @@ use Rattle.dp_lex.specs.declared.TokenKind.{TokenKind}
 use Rattle.dp_lex.specs.declared.TokenKind.TheVariants as kind
 use Rattle.dp_lex.specs.Token.{Lexeme}
 use Rattle.dp_parse.specs.declared.symbol.Symbol.{Symbol}
-use Rattle.dp_parse.specs.declared.symbol.Symbol.TheVariants.{Name, Number, Mark, Int, Void, Main, Return, Print, While, If, Else, Plus, Minus, Star, Slash, Percent, Not, Less, LessEqual, Greater, GreaterEqual, Equal, NotEqual, And, Or, Assign, OpenParen, CloseParen, OpenBracket, CloseBracket, OpenBrace, CloseBrace, Comma, Semicolon, Other, End}
+use Rattle.dp_parse.specs.declared.symbol.Symbol.TheVariants.{Name, Number, Mark, Int, Void, Main, Return, Print, While, For, Break, If, Else, Plus, Minus, Star, Slash, Percent, Not, Less, LessEqual, Greater, GreaterEqual, Equal, NotEqual, And, Or, Assign, OpenParen, CloseParen, OpenBracket, CloseBracket, OpenBrace, CloseBrace, Comma, Semicolon, Other, End}
 
 abbrev pub Spellings : Type 0
 Spellings = List (List ℕ × Symbol)
@@ -14,7 +14,7 @@ Spellings = List (List ℕ × Symbol)
 abbrev pub words : Spellings
 words =
     (codes "int", Int) ∷ (codes "void", Void) ∷ (codes "main", Main) ∷ (codes "return", Return) ∷ (codes "print", Print)
-    ∷ (codes "while", While) ∷ (codes "if", If) ∷ (codes "else", Else) ∷ []
+    ∷ (codes "while", While) ∷ (codes "for", For) ∷ (codes "break", Break) ∷ (codes "if", If) ∷ (codes "else", Else) ∷ []
 
 -- the signs that the grammar uses
 abbrev pub signs : Spellings

@@ -1,4 +1,6 @@
 pub mod Steps
 pub mod Expressions
+pub mod Heads
 pub mod Statements
+pub mod Regions
 pub mod Programs

@@ -13,14 +13,16 @@ pub enum ParseFail {
     Lex { place: u32 },
     /// The text nests too deep: the first count that is above its number.
     TooDeep { quantity: Quantity, count: u32 },
-    /// The grammar derives nothing from the tokens.
-    Refused,
+    /// The grammar derives nothing from the tokens. The token, counted from 0, is the first one that no program has
+    /// behind those before it, or the number of tokens where more of them have to follow.
+    Refused { token: u32 },
     NoMemory,
 }
 
 /// Why a part of a program isn't read from the front of the tokens.
 #[derive(Clone, Copy, Debug, PartialEq, Eq)]
 pub enum ParseError {
+    /// The next token fits nowhere.
     Refused,
     NoMemory,
 }

@@ -5,8 +5,9 @@ ghost use Rattle.dp_parse.specs.descent.Steps.{Reads};
 ghost use Rattle.dp_parse.specs.descent.Programs as spec;
 
 use crate::error::ParseError;
-use crate::leaf::{is_zero, name, negated, number};
-use crate::statement::{block, repeated, statement};
+use crate::leaf::{name, negated, number, sees_zero};
+use crate::region::region;
+use crate::statement::{block, statement};
 use crate::symbol::Symbol;
 use crate::tokens::Tokens;
 use dp_base::Row;
@@ -49,11 +50,11 @@ fn array(tokens: &mut Tokens<'_, '_>, name: Name) -> Result<RawItem, ParseError>
     ensures { Reads (spec.array name tokens.old) result tokens.new }
 {
     tokens.expect(Symbol::OpenBracket)?;
-    let length = number(tokens)?;
-    tokens.expect(Symbol::CloseBracket)?;
-    if is_zero(length) {
+    if sees_zero(tokens) {
         return Err(ParseError::Refused);
     }
+    let length = number(tokens)?;
+    tokens.expect(Symbol::CloseBracket)?;
     Ok(RawItem::Array { name, length })
 }
 
@@ -105,7 +106,7 @@ fn top(alloc: Global, tokens: &mut Tokens<'_, '_>) -> Result<RawStmt, ParseError
 {
     let depth = tokens.len();
     if tokens.eat(Symbol::Mark) {
-        repeated(alloc, tokens, depth, true)
+        region(alloc, tokens, depth)
     } else {
         statement(alloc, tokens, depth)
     }
@@ -119,9 +120,10 @@ fn returned(tokens: &mut Tokens<'_, '_>) -> Result<(), ParseError>
     if !tokens.eat(Symbol::Return) {
         return Ok(());
     }
-    if !is_zero(number(tokens)?) {
+    if !sees_zero(tokens) {
         return Err(ParseError::Refused);
     }
+    number(tokens)?;
     tokens.expect(Symbol::Semicolon)?;
     Ok(())
 }

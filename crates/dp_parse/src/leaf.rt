@@ -32,12 +32,28 @@ pub fn name(alloc: Global, tokens: &mut Tokens<'_, '_>) -> Result<Name, ParseErr
 pub fn number(tokens: &mut Tokens<'_, '_>) -> Result<i64, ParseError>
     ensures { Reads (steps.number tokens.old) result tokens.new }
 {
-    let token = tokens.expect(Symbol::Number)?;
-    value(token.text).ok_or(ParseError::Refused)
+    match tokens.next_number() {
+        Some(value) => {
+            tokens.advance();
+            Ok(value)
+        }
+        None => Err(ParseError::Refused),
+    }
+}
+
+/// Whether the number 0 comes next.
+#[tactic(auto, unfolding(crate::specs::descent::Steps::sees_zero))]
+pub fn sees_zero(tokens: &Tokens<'_, '_>) -> bool
+    ensures { result ≡ steps.sees_zero tokens.now }
+{
+    match tokens.next_number() {
+        Some(value) => is_zero(value),
+        None => false,
+    }
 }
 
 /// The value of the digits, if it is a token's.
-fn value(digits: &[u8]) -> Option<i64>
+pub fn value(digits: &[u8]) -> Option<i64>
     ensures { result ≡ steps.number_value digits.now }
 {
     let mut value = 0u64;
@@ -56,7 +72,7 @@ fn value(digits: &[u8]) -> Option<i64>
 }
 
 #[tactic(auto, unfolding(dp_base::specs::Arithmetic::is_zero))]
-pub fn is_zero(n: i64) -> bool
+fn is_zero(n: i64) -> bool
     ensures { result ≡ is_zero n }
 {
     n == 0

@@ -6,15 +6,15 @@
 mod depth;
 mod error;
 mod expression;
+mod head;
 mod item;
 mod law;
 mod leaf;
 mod level;
+mod region;
 mod source;
 mod statement;
 mod symbol;
-#[cfg(test)]
-mod tests;
 mod tokens;
 
 pub use error::ParseFail;

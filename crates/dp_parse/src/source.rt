@@ -56,15 +56,24 @@ fn derive(alloc: Global, tokens: &[Token<'_>]) -> Result<RawProgram, ParseFail>
         return Err(ParseFail::TooDeep { quantity, count });
     }
     let mut cursor = Tokens::new(tokens);
-    outcome(program(alloc, &mut cursor))
+    let found = program(alloc, &mut cursor);
+    outcome(found, tokens.len(), cursor.len())
 }
 
-fn outcome(found: Result<RawProgram, ParseError>) -> Result<RawProgram, ParseFail>
-    ensures { result ≡ outcome_of found }
+/// The answer for a whole text of so many tokens, of which some are left.
+fn outcome(
+    found: Result<RawProgram, ParseError>,
+    tokens: usize,
+    left: usize,
+) -> Result<RawProgram, ParseFail>
+    requires { tokens < 2 ^ 32 }
+    ensures { result ≡ outcome_of tokens left found }
 {
     match found {
         Ok(program) => Ok(program),
-        Err(ParseError::Refused) => Err(ParseFail::Refused),
+        Err(ParseError::Refused) => Err(ParseFail::Refused {
+            token: tokens.saturating_sub(left) as u32,
+        }),
         Err(ParseError::NoMemory) => Err(ParseFail::NoMemory),
     }
 }

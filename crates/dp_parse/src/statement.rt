@@ -5,6 +5,7 @@ ghost use Rattle.dp_parse.specs.descent.Statements as spec;
 
 use crate::error::ParseError;
 use crate::expression::{list, whole};
+use crate::head::{assign, declare, head};
 use crate::leaf::name;
 use crate::symbol::Symbol;
 use crate::tokens::Tokens;
@@ -21,38 +22,6 @@ pub fn condition(alloc: Global, tokens: &mut Tokens<'_, '_>) -> Result<RawExpr, 
     let inside = whole(alloc, tokens)?;
     tokens.expect(Symbol::CloseParen)?;
     Ok(inside)
-}
-
-/// The expression after a `=`, up to its semicolon.
-#[tactic(auto, unfolding(crate::specs::descent::Statements::right_side))]
-fn right_side(alloc: Global, tokens: &mut Tokens<'_, '_>) -> Result<RawExpr, ParseError>
-    ensures { Reads (spec.right_side tokens.old) result tokens.new }
-{
-    tokens.expect(Symbol::Assign)?;
-    let value = whole(alloc, tokens)?;
-    tokens.expect(Symbol::Semicolon)?;
-    Ok(value)
-}
-
-#[tactic(auto, unfolding(crate::specs::descent::Statements::declare))]
-fn declare(alloc: Global, tokens: &mut Tokens<'_, '_>) -> Result<RawStmt, ParseError>
-    ensures { Reads (spec.declare tokens.old) result tokens.new }
-{
-    let line = tokens.expect(Symbol::Int)?.line;
-    let name = name(alloc, tokens)?;
-    let value = right_side(alloc, tokens)?;
-    Ok(RawStmt::Declare { line, name, value })
-}
-
-#[tactic(auto, unfolding(crate::specs::descent::Statements::store))]
-fn store(alloc: Global, tokens: &mut Tokens<'_, '_>, name: Name) -> Result<RawStmt, ParseError>
-    ensures { Reads (spec.store name tokens.old) result tokens.new }
-{
-    tokens.expect(Symbol::OpenBracket)?;
-    let index = whole(alloc, tokens)?;
-    tokens.expect(Symbol::CloseBracket)?;
-    let value = right_side(alloc, tokens)?;
-    Ok(RawStmt::Store { name, index, value })
 }
 
 #[tactic(auto, unfolding(crate::specs::descent::Statements::arguments))]
@@ -82,14 +51,21 @@ fn named(alloc: Global, tokens: &mut Tokens<'_, '_>) -> Result<RawStmt, ParseErr
     ensures { Reads (spec.named tokens.old) result tokens.new }
 {
     let name = name(alloc, tokens)?;
-    match tokens.peek() {
-        Symbol::OpenBracket => store(alloc, tokens, name),
-        Symbol::OpenParen => call(alloc, tokens, name),
-        _ => {
-            let value = right_side(alloc, tokens)?;
-            Ok(RawStmt::Assign { name, value })
-        }
+    if tokens.sees(Symbol::OpenParen) {
+        return call(alloc, tokens, name);
     }
+    let assigned = assign(alloc, tokens, name)?;
+    tokens.expect(Symbol::Semicolon)?;
+    Ok(assigned)
+}
+
+#[tactic(auto, unfolding(crate::specs::descent::Statements::declaration))]
+fn declaration(alloc: Global, tokens: &mut Tokens<'_, '_>) -> Result<RawStmt, ParseError>
+    ensures { Reads (spec.declaration tokens.old) result tokens.new }
+{
+    let declared = declare(alloc, tokens)?;
+    tokens.expect(Symbol::Semicolon)?;
+    Ok(declared)
 }
 
 #[tactic(auto, unfolding(crate::specs::descent::Statements::print))]
@@ -116,10 +92,11 @@ pub fn statement(
         return Err(ParseError::Refused);
     }
     match tokens.peek() {
-        Symbol::Int => declare(alloc, tokens),
+        Symbol::Int => declaration(alloc, tokens),
         Symbol::Name => named(alloc, tokens),
         Symbol::Print => print(alloc, tokens),
-        Symbol::While => repeated(alloc, tokens, depth - 1, false),
+        Symbol::While => repeated(alloc, tokens, depth - 1),
+        Symbol::For => counted(alloc, tokens, depth - 1),
         _ => choice(alloc, tokens, depth - 1),
     }
 }
@@ -127,21 +104,35 @@ pub fn statement(
 /// A loop, from its `while` on.
 #[cycle(statement)]
 #[tactic(auto, unfolding(crate::specs::descent::Statements::repeated))]
-pub fn repeated(
-    alloc: Global,
-    tokens: &mut Tokens<'_, '_>,
-    depth: usize,
-    marked: bool,
-) -> Result<RawStmt, ParseError>
-    ensures { Reads (spec.repeated (spec.statement depth) marked tokens.old) result tokens.new }
+fn repeated(alloc: Global, tokens: &mut Tokens<'_, '_>, depth: usize) -> Result<RawStmt, ParseError>
+    ensures { Reads (spec.repeated (spec.statement depth) tokens.old) result tokens.new }
 {
     let line = tokens.expect(Symbol::While)?.line;
     let cond = condition(alloc, tokens)?;
     let body = block(alloc, tokens, depth)?;
     Ok(RawStmt::While {
         line,
-        marked,
+        marked: false,
         cond,
+        body,
+    })
+}
+
+/// A loop, from its `for` on.
+#[cycle(statement)]
+#[tactic(auto, unfolding(crate::specs::descent::Statements::counted))]
+fn counted(alloc: Global, tokens: &mut Tokens<'_, '_>, depth: usize) -> Result<RawStmt, ParseError>
+    ensures { Reads (spec.counted (spec.statement depth) tokens.old) result tokens.new }
+{
+    let line = tokens.expect(Symbol::For)?.line;
+    let head = head(alloc, tokens)?;
+    let body = block(alloc, tokens, depth)?;
+    Ok(RawStmt::For {
+        line,
+        marked: false,
+        first: head.first,
+        cond: head.cond,
+        step: head.step,
         body,
     })
 }
@@ -166,7 +157,7 @@ fn choice(alloc: Global, tokens: &mut Tokens<'_, '_>, depth: usize) -> Result<Ra
 /// What follows an `if` and its block: the part after an `else`, or nothing.
 #[cycle(statement)]
 #[tactic(auto, unfolding(crate::specs::descent::Statements::otherwise))]
-fn otherwise(
+pub fn otherwise(
     alloc: Global,
     tokens: &mut Tokens<'_, '_>,
     depth: usize,

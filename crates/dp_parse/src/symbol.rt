@@ -19,6 +19,8 @@ pub enum Symbol {
     Return,
     Print,
     While,
+    For,
+    Break,
     If,
     Else,
     Plus,
@@ -50,13 +52,15 @@ pub enum Symbol {
     End,
 }
 
-const WORDS: [(&[u8], Symbol); 8] = [
+const WORDS: [(&[u8], Symbol); 10] = [
     (b"int", Symbol::Int),
     (b"void", Symbol::Void),
     (b"main", Symbol::Main),
     (b"return", Symbol::Return),
     (b"print", Symbol::Print),
     (b"while", Symbol::While),
+    (b"for", Symbol::For),
+    (b"break", Symbol::Break),
     (b"if", Symbol::If),
     (b"else", Symbol::Else),
 ];

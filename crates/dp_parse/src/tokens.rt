@@ -1,11 +1,12 @@
 //! A cursor over the tokens of a text.
 
-ghost use Rattle.std.specs.Prelude.{◌≡◌, map, length, IfOk, OnErr, None, Some};
+ghost use Rattle.std.specs.Prelude.{◌≡◌, map, length, IfOk, OnErr, Ok as Taken, Err as Stuck};
 ghost use Rattle.dp_lex.specs.Tokens.{lexeme};
 ghost use Rattle.dp_parse.specs.Symbols as spec;
 ghost use Rattle.dp_parse.specs.descent.Steps as steps;
 
 use crate::error::ParseError;
+use crate::leaf::value;
 use crate::symbol::{Symbol, same_symbol, symbol_at};
 use dp_lex::Token;
 use std::marker::Model;
@@ -55,11 +56,33 @@ impl<'a, 't> Tokens<'a, 't> {
         self.next
     }
 
+    /// The number that comes next, if one does.
+    #[tactic(auto, unfolding(crate::specs::descent::Steps::next_number, crate::specs::Symbols::symbol_at))]
+    pub fn next_number(&self) -> Option<i64>
+        ensures { result ≡ steps.next_number self.now }
+    {
+        match self.left {
+            [first, ..] => number_of(same_symbol(self.next, Symbol::Number), first.text),
+            [] => None,
+        }
+    }
+
     #[tactic(auto, unfolding(crate::specs::descent::Steps::sees))]
     pub fn sees(&self, symbol: Symbol) -> bool
         ensures { result ≡ steps.sees symbol self.now }
     {
         same_symbol(self.next, symbol)
+    }
+
+    /// Whether the symbol stands behind the next token.
+    #[tactic(auto, unfolding(crate::specs::descent::Steps::sees, crate::specs::descent::Steps::rest, crate::specs::Symbols::symbol_at))]
+    pub fn sees_second(&self, symbol: Symbol) -> bool
+        ensures { result ≡ steps.sees symbol (steps.rest self.now) }
+    {
+        match self.left {
+            [_, rest @ ..] => same_symbol(symbol_at(rest), symbol),
+            [] => same_symbol(Symbol::End, symbol),
+        }
     }
 
     /// Passes the next token, if there is one.
@@ -89,8 +112,8 @@ impl<'a, 't> Tokens<'a, 't> {
     /// Takes the next token, which has to be the symbol.
     #[tactic(auto, unfolding(crate::specs::descent::Steps::expect, crate::specs::Symbols::symbol_at))]
     pub fn expect(&mut self, symbol: Symbol) -> Result<Token<'t>, ParseError>
-        ensures taken { IfOk result (λ t. steps.expect symbol self.old ≡ Some (lexeme t, self.new)) }
-        ensures refused { OnErr result (steps.expect symbol self.old ≡ None) }
+        ensures taken { IfOk result (λ t. steps.expect symbol self.old ≡ Taken (lexeme t, self.new)) }
+        ensures refused { OnErr result (steps.expect symbol self.old ≡ Stuck self.new) }
     {
         match self.left {
             [first, rest @ ..] => {
@@ -105,4 +128,11 @@ impl<'a, 't> Tokens<'a, 't> {
             [] => Err(ParseError::Refused),
         }
     }
+}
+
+/// The value of a token's text, if it is a number's.
+fn number_of(is_number: bool, text: &[u8]) -> Option<i64>
+    ensures { result ≡ steps.value_by is_number text.now }
+{
+    if is_number { value(text) } else { None }
 }

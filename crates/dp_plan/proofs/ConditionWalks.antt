@@ -65,6 +65,10 @@ pub ifs-Print : (site : SiteId) (e : Expr) → if_list (tree.Print site e) ≡ [
 unfolding if_list
 ifs-Print site e = refl
 
+pub ifs-Break : (site : SiteId) (e : Expr) → if_list (tree.Break site e) ≡ []
+unfolding if_list
+ifs-Break site e = refl
+
 pub ifs-Call : (f line : ℕ) (args : List Expr) → if_list (tree.Call f line args) ≡ []
 unfolding if_list
 ifs-Call f line args = refl
@@ -87,7 +91,7 @@ pub ifs-Region : (r : ℕ) (site : SiteId) (e : Expr) (a : List Stmt) → if_lis
 unfolding if_list if_lists opened
 ifs-Region r site e a = ifs_hidden a
 
-pub ruleset if_forms = (ifs-Assign, ifs-Store, ifs-Print, ifs-Call, append-nil)
+pub ruleset if_forms = (ifs-Assign, ifs-Store, ifs-Print, ifs-Break, ifs-Call, append-nil)
 
 pub ifs-none : if_lists [] ≡ []
 unfolding if_lists
@@ -136,6 +140,10 @@ pub whiles-Print : (site : SiteId) (e : Expr) → while_list (tree.Print site e)
 unfolding while_list
 whiles-Print site e = refl
 
+pub whiles-Break : (site : SiteId) (e : Expr) → while_list (tree.Break site e) ≡ []
+unfolding while_list
+whiles-Break site e = refl
+
 pub whiles-Call : (f line : ℕ) (args : List Expr) → while_list (tree.Call f line args) ≡ []
 unfolding while_list
 whiles-Call f line args = refl
@@ -157,7 +165,7 @@ pub whiles-Region : (r : ℕ) (site : SiteId) (e : Expr) (a : List Stmt) → whi
 unfolding while_list while_lists opened
 whiles-Region r site e a = whiles_hidden a
 
-pub ruleset while_forms = (whiles-Assign, whiles-Store, whiles-Print, whiles-Call, append-nil)
+pub ruleset while_forms = (whiles-Assign, whiles-Store, whiles-Print, whiles-Break, whiles-Call, append-nil)
 
 pub whiles-none : while_lists [] ≡ []
 unfolding while_lists

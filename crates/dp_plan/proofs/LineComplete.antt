@@ -5,7 +5,7 @@ use Rattle.dp_plan.specs.declared.StageKind.{StageKind}
 use Rattle.dp_plan.specs.declared.StageKind.TheVariants.{Seq, Par}
 use Rattle.dp_plan.specs.declared.line.Line.{Line}
 use Rattle.dp_plan.specs.declared.line.Line.TheVariants as line
-use Rattle.dp_plan.specs.PlanText.{Each, kind_word, outcome_number, words_of, joined, AscendAbove, StageFits, AssumeFits}
+use Rattle.dp_plan.specs.PlanText.{Each, kind_word, outcome_number, version_number, words_of, joined, AscendAbove, StageFits, AssumeFits}
 use Rattle.dp_plan.specs.Words.{words, number_of}
 use Rattle.dp_plan.specs.LineWords.{above, onto_sites, site_before, sites_above, stage_line, region_of, outcome, assume_of, line_of}
 use Rattle.dp_plan.proofs.NumberText.{number_of-decimal}
@@ -13,7 +13,7 @@ use Rattle.dp_plan.proofs.JoinLemmas.{IsWord, words-joined, decimal_word}
 
 -- the numbers of a line fit
 abbrev pub LineFits : Line → Type 0
-LineFits line.Head = Unit {0}
+LineFits (line.Head proved) = Unit {0}
 LineFits (line.Region r w) = (r < 2 ^ 32) × (16 ≤ w) × (w ≤ 4096)
 LineFits (line.Stage stage) = StageFits stage
 LineFits (line.Assume a) = AssumeFits a
@@ -47,7 +47,8 @@ outcome_some false = ap outcome (number_of-decimal 0 (omega arith))
 
 pub line-words : (l : Line) → LineFits l → line_of (words_of l) ≡ Some l
 unfolding line_of
-line-words line.Head fits = rw (decimal_digit 1 (omega arith)) refl
+line-words (line.Head true) fits = rw (decimal_digit 2 (omega arith)) refl
+line-words (line.Head false) fits = rw (decimal_digit 1 (omega arith)) refl
 line-words (line.Region r w) fits =
     ap (λ o. region_of o (number_of (decimal w))) (number_of-decimal r fits.0)
     ∙ ap (region_of (Some r)) (number_of-decimal w (omega (arith, fits.2)))
@@ -73,8 +74,12 @@ outcome_is_word : (taken : Bool) → IsWord (decimal (outcome_number taken))
 outcome_is_word true = decimal_word 1 (omega arith)
 outcome_is_word false = decimal_word 0 (omega arith)
 
+version_is_word : (proved : Bool) → IsWord (decimal (version_number proved))
+version_is_word true = decimal_word 2 (omega arith)
+version_is_word false = decimal_word 1 (omega arith)
+
 pub words-line : (l : Line) → LineFits l → words (joined (words_of l)) ≡ words_of l
-words-line line.Head fits = words-joined (codes "plan") (decimal 1 ∷ []) refl (decimal_word 1 (omega arith), tt)
+words-line (line.Head proved) fits = words-joined (codes "plan") (decimal (version_number proved) ∷ []) refl (version_is_word proved, tt)
 words-line (line.Region r w) fits =
     words-joined (codes "region") (decimal r ∷ codes "words" ∷ decimal w ∷ []) refl (decimal_word r fits.0, (refl, (decimal_word w (omega (arith, fits.2)), tt)))
 words-line (line.Stage stage) fits = words-joined (kind_word stage.kind) (map decimal stage.sites) (kind_is_word stage.kind) (sites_are_words 0 stage.sites fits.1)

@@ -131,11 +131,17 @@ assume_sound (a ∷ []) l h = absurd (cc h)
 assume_sound (a ∷ b ∷ []) l h = assume_case a b (above 0 (number_of a)) (outcome (number_of b)) l refl refl h
 assume_sound (a ∷ b ∷ c ∷ rest) l h = absurd (cc h)
 
-version_case : (a : List ℕ) (is : Bool) (l : Line) → bytes_eq a (codes "1") ≡ is → (if is then Some line.Head else None) ≡ Some l → IsLine (codes "plan" ∷ a ∷ []) l
+second_case : (a : List ℕ) (is : Bool) (l : Line) → bytes_eq a (codes "2") ≡ is → (if is then Some (line.Head true) else None) ≡ Some l → IsLine (codes "plan" ∷ a ∷ []) l
+second_case a true l e h =
+    let is : line.Head true ≡ l = cc h in
+    rw (← is) (record { are = ap (λ x. codes "plan" ∷ x ∷ []) (same_word a (codes "2") e ∙ sym (decimal_digit 2 (omega arith))); fits = tt })
+second_case a false l e h = absurd (cc h)
+
+version_case : (a : List ℕ) (is : Bool) (l : Line) → bytes_eq a (codes "1") ≡ is → (if is then Some (line.Head false) else (if bytes_eq a (codes "2") then Some (line.Head true) else None)) ≡ Some l → IsLine (codes "plan" ∷ a ∷ []) l
 version_case a true l e h =
-    let is : line.Head ≡ l = cc h in
+    let is : line.Head false ≡ l = cc h in
     rw (← is) (record { are = ap (λ x. codes "plan" ∷ x ∷ []) (same_word a (codes "1") e ∙ sym (decimal_digit 1 (omega arith))); fits = tt })
-version_case a false l e h = absurd (cc h)
+version_case a false l e h = second_case a (bytes_eq a (codes "2")) l refl h
 
 head_sound : (ws : List (List ℕ)) (l : Line) → head_line ws ≡ Some l → IsLine (codes "plan" ∷ ws) l
 head_sound [] l h = absurd (cc h)

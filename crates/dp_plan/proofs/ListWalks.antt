@@ -27,6 +27,10 @@ pub sites-Print : (site : SiteId) (e : Expr) → site_list (tree.Print site e) �
 unfolding site_list
 sites-Print site e = refl
 
+pub sites-Break : (site : SiteId) (e : Expr) → site_list (tree.Break site e) ≡ site.0 ∷ []
+unfolding site_list
+sites-Break site e = refl
+
 pub sites-Call : (f line : ℕ) (args : List Expr) → site_list (tree.Call f line args) ≡ []
 unfolding site_list
 sites-Call f line args = refl
@@ -46,7 +50,7 @@ pub sites-Region : (r : ℕ) (site : SiteId) (e : Expr) (a : List Stmt) → site
 unfolding site_list site_lists opened
 sites-Region r site e a = ap (λ r. site.0 ∷ map site_in r) (accesses_hidden a)
 
-pub ruleset site_forms = (sites-Assign, sites-Store, sites-Print, sites-Call, append-nil)
+pub ruleset site_forms = (sites-Assign, sites-Store, sites-Print, sites-Break, sites-Call, append-nil)
 
 pub sites-none : site_lists [] ≡ []
 unfolding site_lists

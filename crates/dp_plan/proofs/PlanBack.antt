@@ -22,7 +22,7 @@ use Rattle.dp_plan.proofs.StagesBack.{kinds_back, length-lines_from, map_same, s
 
 -- a plan's numbers with these stages and assumptions, and no table
 abbrev bare : Plan → List StageKind → List ℕ → List Assume → Plan
-bare plan kinds table assumed = record { region = plan.region; words = plan.words; stages = kinds; stage_of = table; assume = assumed; checked_at = [] }
+bare plan kinds table assumed = record { region = plan.region; words = plan.words; stages = kinds; stage_of = table; assume = assumed; proved = plan.proved; checked_at = [] }
 
 module _ (p : Program) (plan : Plan) (is : IsPlan p plan) (order : InOrder p plan) where
   abbrev sites : List ℕ
@@ -53,13 +53,13 @@ module _ (p : Program) (plan : Plan) (is : IsPlan p plan) (order : InOrder p pla
   assumed : filter_map (assumption_at plan.assume) (region_sites p plan.region) ≡ plan.assume
   assumed = assume_back 0 sites plan.assume up is.assume (assumed_sites (map assumed_site plan.assume) (rightly_assumed p w (valid_unbroken p w is.valid)))
 
-  before : plan_before_table p w ≡ record plan { checked_at = [] }
+  before : plan_before_table p plan.proved w ≡ record plan { checked_at = [] }
   before =
       ap (λ (kinds : List StageKind). bare plan kinds (map (written_stage w) sites) (filter_map (assumption_at plan.assume) sites)) (kinds_back p plan 1 plan.stages)
       ∙ ap (λ (t : List ℕ). bare plan plan.stages t (filter_map (assumption_at plan.assume) sites)) table
       ∙ ap (bare plan plan.stages plan.stage_of) assumed
 
-  pub plan_back : plan_of p (written_of p plan) ≡ plan
+  pub plan_back : plan_of p plan.proved (written_of p plan) ≡ plan
   plan_back = ap (with_table p) before ∙ ap (λ (t : List Bool). record plan { checked_at = t }) (sym is.table)
 
   pub plan_fits : PlanFits (written_of p plan)

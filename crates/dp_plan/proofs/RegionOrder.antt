@@ -10,7 +10,7 @@ use Rattle.dp_tree.specs.declared.Stmt.TheBlock.{hidden-the_row-Stmt-0}
 use Rattle.dp_tree.specs.declared.Stmt.TheOpen.{Region}
 use Rattle.dp_tree.specs.declared.Stmt.TheVariants as tree
 use Rattle.dp_tree.specs.Iteration.{is_region}
-use Rattle.dp_tree.specs.Numbering.{has_numbers, is_plain_in, listed_first, next_region, regions_in_order, regions_listed, site_numbers, site_numbers_all, top_fits}
+use Rattle.dp_tree.specs.Numbering.{has_numbers, is_inner_in, listed_first, next_region, regions_in_order, regions_listed, site_numbers, site_numbers_all, top_fits}
 use Rattle.dp_plan.specs.Access.{accesses, is_region_at}
 use Rattle.dp_plan.specs.Written.{site_in}
 use Rattle.dp_plan.proofs.Ascent.{Ascends, ascends_split}
@@ -25,7 +25,7 @@ pub record RegionAt (r : ℕ) (main : List Stmt) (entry : RegionInfo) : Type 0 w
   pub only : filter (is_region_at r) main ≡ statement ∷ []
   pub is : out-Stmt statement ≡ Region r site cond body
   pub made : statement ≡ tree.Region r site cond body
-  pub plain : is_plain_in (hidden-the_row-Stmt-0 body) ≡ true
+  pub plain : is_inner_in (hidden-the_row-Stmt-0 body) ≡ true
   pub sites : Ascends entry.first.0 (map site_in (accesses statement))
   pub last : suc entry.last.0 ≡ entry.first.0 + length (accesses statement)
 
@@ -88,7 +88,7 @@ only_here k first rest entries (present entry from at found low high) = absurd (
 abbrev Finds : List Stmt → Type 0
 Finds main = (k first : ℕ) (entries : List RegionInfo) → regions_in_order k main ≡ true → regions_listed main entries ≡ true → Ascends first (site_numbers_all main) → (r : ℕ) → Sought r k first main entries
 
-find_marked : (x : Stmt) (rest : List Stmt) (q : ℕ) (site : SiteId) (cond : Expr) (body : List Stmt) → out-Stmt x ≡ Region q site cond body → x ≡ tree.Region q site cond body → is_plain_in (hidden-the_row-Stmt-0 body) ≡ true → (k first : ℕ) → q ≡ k →
+find_marked : (x : Stmt) (rest : List Stmt) (q : ℕ) (site : SiteId) (cond : Expr) (body : List Stmt) → out-Stmt x ≡ Region q site cond body → x ≡ tree.Region q site cond body → is_inner_in (hidden-the_row-Stmt-0 body) ≡ true → (k first : ℕ) → q ≡ k →
     (entries : List RegionInfo) → listed_first true x (regions_listed rest) entries ≡ true → Ascends first (site_numbers_all (x ∷ rest)) → ((entries : List RegionInfo) → regions_listed rest entries ≡ true → (r : ℕ) → Sought r (suc k) (first + length (site_numbers x)) rest entries) →
     (r : ℕ) → Sought r k first (x ∷ rest) entries
 find_marked x rest q site cond body is made plain k first at [] listed up later r = absurd (cc)
@@ -149,7 +149,7 @@ find_region (x ∷ rest) k first entries order listed up r = by (top x) (find_re
         (go k (first + length (site_numbers x)) entries (ap (λ (n : ℕ). regions_in_order n rest) (sym (next k)) ∙ parts.1)
         (ap (λ (b : Bool). listed_first b x (regions_listed rest) entries) (sym off) ∙ listed) behind r)
     by (marked q site cond body is made on next fits) go =
-        let fit = and_parts (q == k) (is_plain_in (hidden-the_row-Stmt-0 body)) (sym (fits k) ∙ parts.0) in
+        let fit = and_parts (q == k) (is_inner_in (hidden-the_row-Stmt-0 body)) (sym (fits k) ∙ parts.0) in
         let one : k + 1 ≡ suc k = omega arith in
         find_marked x rest q site cond body is made fit.1 k first (eqb-true q k fit.0) entries (ap (λ (b : Bool). listed_first b x (regions_listed rest) entries) (sym on) ∙ listed) up
         (λ more later n. go (suc k) (first + length (site_numbers x)) more (ap (λ (i : ℕ). regions_in_order i rest) (sym (next k ∙ one)) ∙ parts.1) later behind n) r

@@ -1,5 +1,5 @@
 -- Lines that may begin a text can be completed to one.
-use Rattle.std.proofs.Common.{◌≡◌, ℕ, zero, suc, ◌+◌, ◌-◌, ◌<◌, ◌≤◌, ◌^◌, true, List, [], ◌∷◌, ◌++◌, map, length, Option, Some, None, refl, sym, ap, subst, ◌∙◌, append_assoc, append-nil, arith}
+use Rattle.std.proofs.Common.{◌≡◌, ℕ, zero, suc, ◌+◌, ◌-◌, ◌<◌, ◌≤◌, ◌^◌, true, List, [], ◌∷◌, ◌++◌, map, length, Option, Some, None, refl, sym, ap, subst, ◌∙◌, append_assoc, append-nil, arith, Bool}
 use Rattle.std.specs.List.{flat_map}
 use Rattle.dp_tree.specs.declared.Assume.{Assume}
 use Rattle.dp_tree.specs.Numbering.{numbers_from}
@@ -39,8 +39,8 @@ lines_fit (w ∷ ws) r (suc k) numbers small fit =
     )
     (lines_fit ws (r + 1) k later (omega (arith, small)) fit.1)
 
-pub all_lines_fit : (ws : List WrittenPlan) (n : ℕ) → map region_number ws ≡ numbers_from 1 n → n < 2 ^ 32 → Each PlanFits ws → Each LineFits (plan_lines ws)
-all_lines_fit ws n numbers small fit = (tt, each-lists LineFits (flat_map region_lines ws) (line.End ∷ []) (lines_fit ws 1 n numbers (omega (arith, small)) fit) (tt, tt))
+pub all_lines_fit : (v : Bool) (ws : List WrittenPlan) (n : ℕ) → map region_number ws ≡ numbers_from 1 n → n < 2 ^ 32 → Each PlanFits ws → Each LineFits (plan_lines v ws)
+all_lines_fit v ws n numbers small fit = (tt, each-lists LineFits (flat_map region_lines ws) (line.End ∷ []) (lines_fit ws 1 n numbers (omega (arith, small)) fit) (tt, tt))
 
 -- ---- plans that can always be written
 
@@ -67,13 +67,15 @@ fillers_fit (suc k) r =
 
 pub record Ends (n : ℕ) (s : Reader) : Type 0 where
   pub more : List Line
+  pub proved : Bool
   pub plans : List WrittenPlan
   pub fit : Each LineFits more
-  pub runs : run n (Some s) more ≡ Some (over plans)
+  pub runs : run n (Some s) more ≡ Some (over proved plans)
 
 rest_ends : (n k : ℕ) (s : Reader) → n < 2 ^ 32 → is_between s ≡ true → s.last.region + k ≡ n → Ends n s
 rest_ends n k s small between count = record {
   more = flat_map region_lines (fillers (s.last.region + 1) k) ++ line.End ∷ [];
+  proved = s.proved;
   plans = closed s ++ fillers (s.last.region + 1) k;
   fit = each-lists LineFits (flat_map region_lines (fillers (s.last.region + 1) k)) (line.End ∷ []) (lines_fit (fillers (s.last.region + 1) k) (s.last.region + 1) k (filler_numbers k (s.last.region + 1)) (omega (arith, count, small)) (fillers_fit k (s.last.region + 1))) (tt, tt);
   runs = plans_run (fillers (s.last.region + 1) k) n k s between (filler_numbers k (s.last.region + 1)) count (fillers_fit k (s.last.region + 1));
@@ -81,32 +83,33 @@ rest_ends n k s small between count = record {
 
 start_ends : (n : ℕ) → n < 2 ^ 32 → Ends n begun
 start_ends n small = record {
-  more = plan_lines (fillers 1 n);
+  more = plan_lines true (fillers 1 n);
+  proved = true;
   plans = fillers 1 n;
-  fit = all_lines_fit (fillers 1 n) n (filler_numbers n 1) small (fillers_fit n 1);
-  runs = lines_run n (fillers 1 n) (filler_numbers n 1) (fillers_fit n 1);
+  fit = all_lines_fit true (fillers 1 n) n (filler_numbers n 1) small (fillers_fit n 1);
+  runs = lines_run n true (fillers 1 n) (filler_numbers n 1) (fillers_fit n 1);
 }
 
 one_more : (n : ℕ) (o s : Reader) (l : Line) → LineFits l → next n o l ≡ Some s → Ends n s → Ends n o
-one_more n o s l fits is e = record { more = l ∷ e.more; plans = e.plans; fit = (fits, e.fit); runs = ap (λ p. run n p e.more) is ∙ e.runs }
+one_more n o s l fits is e = record { more = l ∷ e.more; proved = e.proved; plans = e.plans; fit = (fits, e.fit); runs = ap (λ p. run n p e.more) is ∙ e.runs }
 
-region_ends : (n r words : ℕ) (plans : List WrittenPlan) (stages : List WrittenStage) (assumed : List Assume) → n < 2 ^ 32 → 0 < r → r ≤ n → (length stages ≡ 0 → assumed ≡ [])
-    → Ends n (inside plans (part r words stages assumed))
-region_ends n r words plans [] assumed small some upto first =
+region_ends : (v : Bool) (n r words : ℕ) (plans : List WrittenPlan) (stages : List WrittenStage) (assumed : List Assume) → n < 2 ^ 32 → 0 < r → r ≤ n → (length stages ≡ 0 → assumed ≡ [])
+    → Ends n (inside v plans (part r words stages assumed))
+region_ends v n r words plans [] assumed small some upto first =
     let none : assumed ≡ [] = first refl in
     let full : 0 < length (filler_stage ∷ []) = omega arith in
-    rw none (one_more n (inside plans (part r words [] [])) (inside plans (part r words (filler_stage ∷ []) [])) (line.Stage filler_stage) filler_stage_fits
-    (stage_next n r words plans some [] filler_stage (omega arith))
-    (rest_ends n (n - r) (inside plans (part r words (filler_stage ∷ []) [])) small (between_regions plans (part r words (filler_stage ∷ []) []) full) (omega (arith, upto))))
-region_ends n r words plans (stage ∷ stages) assumed small some upto first =
+    rw none (one_more n (inside v plans (part r words [] [])) (inside v plans (part r words (filler_stage ∷ []) [])) (line.Stage filler_stage) filler_stage_fits
+    (stage_next v n r words plans some [] filler_stage (omega arith))
+    (rest_ends n (n - r) (inside v plans (part r words (filler_stage ∷ []) [])) small (between_regions v plans (part r words (filler_stage ∷ []) []) full) (omega (arith, upto))))
+region_ends v n r words plans (stage ∷ stages) assumed small some upto first =
     let full : 0 < length (stage ∷ stages) = omega arith in
-    rest_ends n (n - r) (inside plans (part r words (stage ∷ stages) assumed)) small (between_regions plans (part r words (stage ∷ stages) assumed) full) (omega (arith, upto))
+    rest_ends n (n - r) (inside v plans (part r words (stage ∷ stages) assumed)) small (between_regions v plans (part r words (stage ∷ stages) assumed) full) (omega (arith, upto))
 
 pub reads_end : (n : ℕ) (s : Reader) (ls : List Line) → n < 2 ^ 32 → Reads n s ls → Ends n s
 reads_end n _ _ small at_start = start_ends n small
-reads_end n _ _ small headed = rest_ends n n (inside [] (part 0 0 [] [])) small refl (omega arith)
-reads_end n _ _ small (in_region plans w some upto numbers fit last) = region_ends n w.region w.words plans w.stages w.assume small some upto last.first_stages
-reads_end n _ _ small (at_end plans numbers fit) = record { more = []; plans = plans; fit = tt; runs = refl }
+reads_end n _ _ small (headed v) = rest_ends n n (inside v [] (part 0 0 [] [])) small refl (omega arith)
+reads_end n _ _ small (in_region v plans w some upto numbers fit last) = region_ends v n w.region w.words plans w.stages w.assume small some upto last.first_stages
+reads_end n _ _ small (at_end v plans numbers fit) = record { more = []; proved = v; plans = plans; fit = tt; runs = refl }
 
 -- ---- a state behind more lines
 
@@ -126,13 +129,13 @@ reads_more n (l ∷ rest) o s ls reads fit h =
     subst (λ (t : List Line). Reads n s t) (append_assoc ls (l ∷ []) rest)
     (more_case n o ls l rest s (next n o l) refl reads fit.0 h (λ q r e. reads_more n rest q s (ls ++ l ∷ []) r fit.1 e))
 
-pub record IsText (n : ℕ) (plans : List WrittenPlan) (ls : List Line) : Type 0 where
-  pub are : ls ≡ plan_lines plans
+pub record IsText (n : ℕ) (v : Bool) (plans : List WrittenPlan) (ls : List Line) : Type 0 where
+  pub are : ls ≡ plan_lines v plans
   pub numbers : map region_number plans ≡ numbers_from 1 n
   pub fit : Each PlanFits plans
 
-pub reads_over : (n : ℕ) (s : Reader) (ls : List Line) → Reads n s ls → s.phase ≡ phase.Over → IsText n s.plans ls
+pub reads_over : (n : ℕ) (s : Reader) (ls : List Line) → Reads n s ls → s.phase ≡ phase.Over → IsText n s.proved s.plans ls
 reads_over n _ _ at_start h = absurd (cc h)
-reads_over n _ _ headed h = absurd (cc h)
-reads_over n _ _ (in_region plans w some upto numbers fit last) h = absurd (cc h)
-reads_over n _ _ (at_end plans numbers fit) h = record { are = refl; numbers = numbers; fit = fit }
+reads_over n _ _ (headed v) h = absurd (cc h)
+reads_over n _ _ (in_region v plans w some upto numbers fit last) h = absurd (cc h)
+reads_over n _ _ (at_end v plans numbers fit) h = record { are = refl; numbers = numbers; fit = fit }

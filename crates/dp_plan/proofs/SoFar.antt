@@ -1,11 +1,12 @@
 -- A text that is read up to a place, and how its reading ends there.
-use Rattle.std.proofs.Common.{◌≡◌, ℕ, ◌+◌, ◌<◌, ◌^◌, ◌==◌, List, [], ◌∷◌, ◌++◌, length, take, Some, None, Result, Ok, Err, refl, sym, ap, subst, ◌∙◌, append_assoc, append-nil, length-append, arith}
+use Rattle.std.proofs.Common.{◌≡◌, Bool, ℕ, ◌+◌, ◌<◌, ◌^◌, ◌==◌, List, [], ◌∷◌, ◌++◌, length, take, Some, None, Result, Ok, Err, refl, sym, ap, subst, ◌∙◌, append_assoc, append-nil, length-append, arith}
 use Rattle.std.specs.List.{position}
 use Rattle.std.proofs.Math.Seq.{take-append_seam}
 use Rattle.dp_tree.specs.declared.Program.{Program}
 use Rattle.dp_plan.specs.declared.reader.Reader.{Reader}
 use Rattle.dp_plan.specs.declared.reader.Phase.TheVariants as phase
 use Rattle.dp_plan.specs.Written.{WrittenPlan}
+use Rattle.dp_plan.specs.declared.WrittenPlans.{WrittenPlans}
 use Rattle.dp_plan.specs.PlanText.{PlanLines, PlanText, lines_of}
 use Rattle.dp_plan.specs.Refused.{Begins, IsRefused, at_line, at_end}
 use Rattle.dp_plan.specs.Words.{words}
@@ -72,9 +73,9 @@ module _ (p : Program) (bytes : List ℕ) (small : length p.regions < 2 ^ 32) wh
       let all : lines_of bytes ≡ f.done = f.split ∙ append-nil f.done in
       at_end (count + 1) (omega (arith, ap length all, f.counted))
       (λ k lt. subst (λ (ls : List (List ℕ)). Begins p (take k ls)) (sym f.split) (fronts p small f.done [] k (begins p small s f.done f.reached) (omega (arith, lt, f.counted))))
-      (λ plans t.
-      let runs : run_bytes (length p.regions) (Some begun) f.done ≡ Some (over plans) = text_runs p small f.done plans (subst (λ (ls : List (List ℕ)). PlanLines p ls plans) all t) in
-      let same : s ≡ over plans = cc (sym f.reached.runs ∙ runs) in
+      (λ v plans t.
+      let runs : run_bytes (length p.regions) (Some begun) f.done ≡ Some (over v plans) = text_runs p small f.done v plans (subst (λ (ls : List (List ℕ)). PlanLines p ls v plans) all t) in
+      let same : s ≡ over v plans = cc (sym f.reached.runs ∙ runs) in
       other (ap (λ q. q.phase) same))
 
   -- what follows has no LF: either it is a piece that is no line, or the text ends there
@@ -86,16 +87,16 @@ module _ (p : Program) (bytes : List ℕ) (small : length p.regions < 2 ^ 32) wh
       (ap (λ o. next_by (length p.regions) s (read_text o)) (chomped-none byte rest long) ∙ no_line (length p.regions) s)
 
   -- the text is over
-  pub accepted : (s : Reader) (count : ℕ) → SoFar p bytes s [] count → s.phase ≡ phase.Over → PlanText p bytes s.plans
+  pub accepted : (s : Reader) (count : ℕ) → SoFar p bytes s [] count → s.phase ≡ phase.Over → PlanText p bytes s.proved s.plans
   accepted s count f h =
       let all : lines_of bytes ≡ f.done = f.split ∙ append-nil f.done in
-      subst (λ (ls : List (List ℕ)). PlanLines p ls s.plans) (sym all) (is_text p small s f.done f.reached h)
+      subst (λ (ls : List (List ℕ)). PlanLines p ls s.proved s.plans) (sym all) (is_text p small s f.done f.reached h)
 
   -- how the reading of what has no LF ends
-  pub ended : (s : Reader) (rest : List ℕ) (count : ℕ) (r : Result (List WrittenPlan) PlanFail) → SoFar p bytes s rest count → position (λ b. b == 10) rest ≡ None → IfEnds s rest (count + 1) r → ReadsText p bytes r
-  ended s rest count (Ok plans) f none e =
+  pub ended : (s : Reader) (rest : List ℕ) (count : ℕ) (r : Result WrittenPlans PlanFail) → SoFar p bytes s rest count → position (λ b. b == 10) rest ≡ None → IfEnds s rest (count + 1) r → ReadsText p bytes r
+  ended s rest count (Ok text) f none e =
       let over_here : SoFar p bytes s [] count = subst (λ (t : List ℕ). SoFar p bytes s t count) e.0 f in
-      subst (λ (ws : List WrittenPlan). PlanText p bytes ws) (sym e.2) (accepted s count over_here e.1)
+      subst (λ (v : Bool). PlanText p bytes v text.plans) (sym e.3) (subst (λ (ws : List WrittenPlan). PlanText p bytes s.proved ws) (sym e.2) (accepted s count over_here e.1))
   ended s rest count (Err (Refused line)) f none e = subst (λ (l : ℕ). IsRefused p bytes l) (sym e.0) (refused_rest s rest count f none e.1)
   ended s rest count (Err (Invalid rule site)) f none e = absurd e
   ended s rest count (Err NoMemory) f none e = absurd e

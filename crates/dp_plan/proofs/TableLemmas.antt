@@ -6,7 +6,8 @@ use Rattle.std.proofs.lemmas.List.{append_assoc}
 use Rattle.dp_tree.specs.declared.Program.{Program}
 use Rattle.dp_tree.specs.Numbering.{numbers_from}
 use Rattle.dp_plan.specs.declared.Plan.{Plan}
-use Rattle.dp_plan.specs.Access.{Access, first_site, stage_of, is_checked, region_accesses, may_differ}
+use Rattle.dp_plan.specs.Access.{Access, first_site, stage_of, region_accesses}
+use Rattle.dp_plan.specs.Checked.{is_checked, may_differ}
 use Rattle.dp_plan.specs.CheckedTable.{says_yes, with_table, IsTabled, is_staged}
 
 -- one place more
@@ -53,7 +54,7 @@ without_stage stage test site none (x ∷ xs) staged =
 -- the site has no stage, and none is checked without one
 unstaged : (p : Program) (plan : Plan) → list_all (is_staged p plan) (region_accesses p plan) ≡ true → (site : ℕ) → stage_of p plan site ≡ 0 → is_checked p plan site ≡ false
 unstaged p plan staged site none =
-    without_stage (stage_of p plan) (λ (u : Access). list_any (may_differ p plan (stage_of p plan site)) u.loads) site none (region_accesses p plan) staged
+    without_stage (stage_of p plan) (λ (u : Access). list_any (may_differ p plan (stage_of p plan site) site) u.loads) site none (region_accesses p plan) staged
 
 -- behind the last entry no site has a stage
 behind : (stages : List ℕ) (k : ℕ) → length stages ≤ k → slice_index stages k ≡ 0

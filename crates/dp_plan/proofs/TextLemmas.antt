@@ -1,5 +1,5 @@
 -- What a text that is read line by line is read as.
-use Rattle.std.proofs.Common.{◌≡◌, ℕ, ◌<◌, ◌≤◌, ◌^◌, List, [], ◌∷◌, ◌++◌, map, length, take, drop, Option, Some, None, refl, sym, ap, subst, ◌∙◌, append_assoc}
+use Rattle.std.proofs.Common.{◌≡◌, ℕ, ◌<◌, ◌≤◌, ◌^◌, List, [], ◌∷◌, ◌++◌, map, length, take, drop, Option, Some, None, refl, sym, ap, subst, ◌∙◌, append_assoc, Bool}
 use Rattle.std.proofs.lemmas.List.{take-append-le, take-append-drop}
 use Rattle.dp_tree.specs.declared.Program.{Program}
 use Rattle.dp_plan.specs.declared.line.Line.{Line}
@@ -46,23 +46,24 @@ reached_next n o s done bytes r h =
 
 module _ (p : Program) (small : length p.regions < 2 ^ 32) where
   -- the lines of a text of the grammar are read to their end
-  pub text_runs : (lines : List (List ℕ)) (plans : List WrittenPlan) → PlanLines p lines plans → run_bytes (length p.regions) (Some begun) lines ≡ Some (over plans)
-  text_runs lines plans t =
+  pub text_runs : (lines : List (List ℕ)) (v : Bool) (plans : List WrittenPlan) → PlanLines p lines v plans → run_bytes (length p.regions) (Some begun) lines ≡ Some (over v plans)
+  text_runs lines v plans t =
       ap (run_bytes (length p.regions) (Some begun)) t.lines_are
-      ∙ run_bytes-lines (length p.regions) (Some begun) (plan_lines plans) (all_lines_fit plans (length p.regions) t.regions small t.fit)
-      ∙ lines_run (length p.regions) plans t.regions t.fit
+      ∙ run_bytes-lines (length p.regions) (Some begun) (plan_lines v plans) (all_lines_fit v plans (length p.regions) t.regions small t.fit)
+      ∙ lines_run (length p.regions) v plans t.regions t.fit
 
-  pub is_text : (s : Reader) (done : List (List ℕ)) → Reached (length p.regions) s done → s.phase ≡ phase.Over → PlanLines p done s.plans
+  pub is_text : (s : Reader) (done : List (List ℕ)) → Reached (length p.regions) s done → s.phase ≡ phase.Over → PlanLines p done s.proved s.plans
   is_text s done r h =
-      let t : IsText (length p.regions) s.plans r.lines = reads_over (length p.regions) s r.lines r.reads h in
+      let t : IsText (length p.regions) s.proved s.plans r.lines = reads_over (length p.regions) s r.lines r.reads h in
       record { lines_are = r.are ∙ ap (map line_bytes) t.are; regions = t.numbers; fit = t.fit }
 
   pub begins : (s : Reader) (done : List (List ℕ)) → Reached (length p.regions) s done → Begins p done
   begins s done r =
       let n = length p.regions in
       let e : Ends (length p.regions) s = reads_end n s r.lines small r.reads in
-      let t : IsText (length p.regions) e.plans (r.lines ++ e.more) = reads_over n (over e.plans) (r.lines ++ e.more) (reads_more n e.more s (over e.plans) r.lines r.reads e.fit e.runs) refl in (
+      let t : IsText (length p.regions) e.proved e.plans (r.lines ++ e.more) = reads_over n (over e.proved e.plans) (r.lines ++ e.more) (reads_more n e.more s (over e.proved e.plans) r.lines r.reads e.fit e.runs) refl in (
         map line_bytes e.more,
+        e.proved,
         e.plans,
         record {
           lines_are = ap (λ d. d ++ map line_bytes e.more) r.are ∙ sym (map-append line_bytes r.lines e.more) ∙ ap (map line_bytes) t.are;
@@ -72,7 +73,7 @@ module _ (p : Program) (small : length p.regions < 2 ^ 32) where
       )
 
   begins_front : (xs ys : List (List ℕ)) → Begins p (xs ++ ys) → Begins p xs
-  begins_front xs ys b = (ys ++ b.0, b.1, subst (λ (ls : List (List ℕ)). PlanLines p ls b.1) (append_assoc xs ys b.0) b.2)
+  begins_front xs ys b = (ys ++ b.0, b.1, b.2, subst (λ (ls : List (List ℕ)). PlanLines p ls b.1 b.2) (append_assoc xs ys b.0) b.3)
 
   pub fronts : (done rest : List (List ℕ)) (k : ℕ) → Begins p done → k ≤ length done → Begins p (take k (done ++ rest))
   fronts done rest k b le =
@@ -82,7 +83,7 @@ module _ (p : Program) (small : length p.regions < 2 ^ 32) where
   pub not_begun : (s : Reader) (done : List (List ℕ)) (bytes : List ℕ) → Reached (length p.regions) s done → next_by (length p.regions) s (read_bytes bytes) ≡ None → ¬ Begins p (done ++ bytes ∷ [])
   not_begun s done bytes r h b =
       let n = length p.regions in
-      let some : run_bytes (length p.regions) (Some begun) ((done ++ bytes ∷ []) ++ b.0) ≡ Some (over b.1) = text_runs ((done ++ bytes ∷ []) ++ b.0) b.1 b.2 in
+      let some : run_bytes (length p.regions) (Some begun) ((done ++ bytes ∷ []) ++ b.0) ≡ Some (over b.1 b.2) = text_runs ((done ++ bytes ∷ []) ++ b.0) b.1 b.2 b.3 in
       let none : run_bytes (length p.regions) (Some begun) ((done ++ bytes ∷ []) ++ b.0) ≡ None =
       run_bytes-append n (Some begun) (done ++ bytes ∷ []) b.0
       ∙ ap (λ o. run_bytes n o b.0) (run_bytes-append n (Some begun) done (bytes ∷ []) ∙ ap (λ o. run_bytes n o (bytes ∷ [])) r.runs ∙ h)

@@ -7,11 +7,11 @@ use Rattle.dp_base.specs.declared.SiteId.{SiteId}
 use Rattle.dp_tree.specs.declared.Expr.{Expr}
 use Rattle.dp_tree.specs.declared.Stmt.{Stmt, Row_of-Stmt, end_of-Stmt, more_of-Stmt, out-Stmt, out-roll-Stmt, roll-Stmt, roll-out-Stmt}
 use Rattle.dp_tree.specs.declared.Stmt.TheBlock.{hidden-the_row-Stmt-0}
-use Rattle.dp_tree.specs.declared.Stmt.TheOpen.{Assign, Call, If, Print, Region, Stmt-F, Store, While}
+use Rattle.dp_tree.specs.declared.Stmt.TheOpen.{Assign, Break, Call, If, Print, Region, Stmt-F, Store, While}
 use Rattle.dp_tree.specs.declared.Stmt.TheVariants as tree
-use Rattle.dp_tree.specs.declared.Stmt.TheViews.{rolls-Assign, rolls-Call, rolls-If, rolls-Print, rolls-Region, rolls-Store, rolls-While}
+use Rattle.dp_tree.specs.declared.Stmt.TheViews.{rolls-Assign, rolls-Break, rolls-Call, rolls-If, rolls-Print, rolls-Region, rolls-Store, rolls-While}
 use Rattle.dp_tree.specs.Iteration.{is_region}
-use Rattle.dp_tree.specs.Numbering.{has_numbers, is_marked, is_plain, is_plain_in, listed_first, next_region, regions_listed, site_numbers, site_numbers_in, site_numbers_all, top_fits}
+use Rattle.dp_tree.specs.Numbering.{has_numbers, is_marked, is_inner_in, is_plain, listed_first, next_region, regions_listed, site_numbers, site_numbers_in, site_numbers_all, top_fits}
 use Rattle.dp_plan.specs.Access.{accesses, accesses_in, is_region_at}
 use Rattle.dp_plan.specs.Written.{site_in}
 use Rattle.dp_plan.proofs.LoadLemmas.{opened}
@@ -33,7 +33,7 @@ mutual
 -- a statement at the top: a region, or none
 pub data Top (x : Stmt) : Type 0 where
   marked : (q : ℕ) (site : SiteId) (cond : Expr) (body : List Stmt) → out-Stmt x ≡ Region q site cond body → x ≡ tree.Region q site cond body → is_marked x ≡ true → ((k : ℕ) → next_region k x ≡ k + 1) →
-      ((k : ℕ) → top_fits k x ≡ ((q == k) && is_plain_in (hidden-the_row-Stmt-0 body))) → Top x
+      ((k : ℕ) → top_fits k x ≡ ((q == k) && is_inner_in (hidden-the_row-Stmt-0 body))) → Top x
   unmarked : ((r : ℕ) → is_region_at r x ≡ false) → is_marked x ≡ false → ((k : ℕ) → next_region k x ≡ k) → ((k : ℕ) → top_fits k x ≡ is_plain x) → Top x
 
 other_top : (h : Stmt-F Stmt) (y : Stmt) → roll-Stmt h ≡ y → ((r : ℕ) → is_region r h ≡ false) → is_marked y ≡ false → ((k : ℕ) → next_region k y ≡ k) → ((k : ℕ) → top_fits k y ≡ is_plain y) → Top (roll-Stmt h)
@@ -46,6 +46,7 @@ top_roll (Store site v index e) = other_top _ _ (rolls-Store site v index e) (λ
 top_roll (Print site e) = other_top _ _ (rolls-Print site e) (λ r. refl) refl (λ k. refl) (λ k. refl)
 top_roll (If site cond a b) = other_top _ _ (rolls-If site cond a b) (λ r. refl) refl (λ k. refl) (λ k. refl)
 top_roll (While site cond a) = other_top _ _ (rolls-While site cond a) (λ r. refl) refl (λ k. refl) (λ k. refl)
+top_roll (Break site cond) = other_top _ _ (rolls-Break site cond) (λ r. refl) refl (λ k. refl) (λ k. refl)
 top_roll (Call f line args) = other_top _ _ (rolls-Call f line args) (λ r. refl) refl (λ k. refl) (λ k. refl)
 top_roll (Region q site cond body) = let o = rolls-Region q site cond body in
     marked q site cond body (out-roll-Stmt (Region q site cond body)) o (ap is_marked o) (λ k. ap (next_region k) o) (λ k. ap (top_fits k) o)

@@ -5,7 +5,7 @@ use Rattle.dp_plan.specs.declared.StageKind.{StageKind}
 use Rattle.dp_plan.specs.declared.StageKind.TheVariants.{Seq, Par}
 use Rattle.dp_plan.specs.declared.line.Line.{Line}
 use Rattle.dp_plan.specs.declared.line.Line.TheVariants as line
-use Rattle.dp_plan.specs.PlanText.{Each, AscendAbove, kind_word, outcome_number, words_of, joined, line_bytes, onto_first, lines_of}
+use Rattle.dp_plan.specs.PlanText.{Each, AscendAbove, kind_word, outcome_number, version_number, words_of, joined, line_bytes, onto_first, lines_of}
 use Rattle.dp_plan.specs.Words.{is_digit}
 use Rattle.dp_plan.proofs.NumberText.{digits-decimal}
 use Rattle.dp_plan.proofs.LineComplete.{LineFits}
@@ -69,8 +69,12 @@ unbroken-outcome : (taken : Bool) → Unbroken (decimal (outcome_number taken))
 unbroken-outcome true = unbroken-decimal 1 (omega arith)
 unbroken-outcome false = unbroken-decimal 0 (omega arith)
 
+unbroken-version : (proved : Bool) → Unbroken (decimal (version_number proved))
+unbroken-version true = unbroken-decimal 2 (omega arith)
+unbroken-version false = unbroken-decimal 1 (omega arith)
+
 unbroken-line : (l : Line) → LineFits l → Unbroken (joined (words_of l))
-unbroken-line line.Head fits = unbroken-joined (codes "plan") (decimal 1 ∷ []) refl (unbroken-decimal 1 (omega arith), tt)
+unbroken-line (line.Head proved) fits = unbroken-joined (codes "plan") (decimal (version_number proved) ∷ []) refl (unbroken-version proved, tt)
 unbroken-line (line.Region r w) fits =
     unbroken-joined (codes "region") (decimal r ∷ codes "words" ∷ decimal w ∷ []) refl (unbroken-decimal r fits.0, (refl, (unbroken-decimal w (omega (arith, fits.2)), tt)))
 unbroken-line (line.Stage stage) fits = unbroken-joined (kind_word stage.kind) (map decimal stage.sites) (unbroken-kind stage.kind) (unbroken-sites 0 stage.sites fits.1)

@@ -1,5 +1,5 @@
 -- The lines of a text, part by part.
-use Rattle.std.proofs.Common.{◌≡◌, ℕ, suc, ◌+◌, List, [], ◌∷◌, ◌++◌, map, codes, decimal, refl, sym, ap, ◌∙◌, append_assoc, append-nil, arith}
+use Rattle.std.proofs.Common.{◌≡◌, ℕ, suc, ◌+◌, List, [], ◌∷◌, ◌++◌, map, codes, decimal, refl, sym, ap, ◌∙◌, append_assoc, append-nil, arith, Bool}
 use Rattle.std.specs.List.{flat_map}
 use Rattle.std.proofs.lemmas.Fmt.{decimal_digit}
 use Rattle.std.proofs.lemmas.Grind.{flat_map-append}
@@ -9,8 +9,8 @@ use Rattle.dp_plan.specs.declared.StageKind.{StageKind}
 use Rattle.dp_plan.specs.declared.Plan.{Plan}
 use Rattle.dp_plan.specs.declared.line.Line.TheVariants as line
 use Rattle.dp_plan.specs.Written.{WrittenStage, region_sites, lines_from, written_of}
-use Rattle.dp_plan.specs.PlanText.{kind_word, outcome_number, joined, line_bytes, region_lines}
-use Rattle.dp_plan.specs.WrittenText.{plans_text, line_text, plan_text, plan_texts, stage_at, stage_texts, assume_texts, labelled, spaced}
+use Rattle.dp_plan.specs.PlanText.{kind_word, outcome_number, version_number, joined, line_bytes, region_lines}
+use Rattle.dp_plan.specs.WrittenText.{plans_text, version_of, line_text, plan_text, plan_texts, stage_at, stage_texts, assume_texts, labelled, spaced}
 
 -- a text that grew by three parts
 pub grew : (out one two three a b c : List ℕ) → one ≡ out ++ a → two ≡ one ++ b → three ≡ two ++ c → three ≡ out ++ (a ++ (b ++ c))
@@ -25,6 +25,15 @@ two_numbers out one two three label more n m p q r = r ∙ rw (q, p) (simp appen
 pub region_line : (r w : ℕ) → codes "region " ++ (decimal r ++ (codes " words " ++ (decimal w ++ 10 ∷ []))) ≡ line_text (line.Region r w)
 unfolding line_text
 region_line r w = ap (λ (l : List ℕ). codes "region " ++ l) (sym (append_assoc (decimal r) (codes " words " ++ decimal w) (10 ∷ [])))
+
+pub head_line : (v : Bool) → codes "plan " ++ (decimal (version_number v) ++ 10 ∷ []) ≡ line_text (line.Head v)
+unfolding line_text
+head_line v = refl
+
+-- a number behind its label, and LF
+pub one_number : (out one two label : List ℕ) (n : ℕ) → one ≡ out ++ labelled label n → two ≡ one ++ 10 ∷ [] → two ≡ out ++ (label ++ (decimal n ++ 10 ∷ []))
+unfolding labelled
+one_number out one two label n p q = q ∙ rw p (simp append_assoc)
 
 pub assume_line : (a : Assume) → codes "assume " ++ (decimal a.site.0 ++ (codes " " ++ (decimal (outcome_number a.taken) ++ 10 ∷ []))) ≡ line_text (line.Assume a)
 unfolding line_text
@@ -76,10 +85,10 @@ texts_are p (plan ∷ rest) =
     ap (λ (l : List ℕ). flat_map line_bytes (region_lines (written_of p plan)) ++ l) (texts_are p rest)
     ∙ sym (flat_map-append line_bytes (region_lines (written_of p plan)) (flat_map region_lines (map (written_of p) rest)))
 
-pub text_parts : (p : Program) (plans : List Plan) → codes "plan 1\n" ++ (plan_texts p plans ++ codes "end\n") ≡ plans_text p plans
+pub text_parts : (p : Program) (plans : List Plan) → line_text (line.Head (version_of plans)) ++ (plan_texts p plans ++ codes "end\n") ≡ plans_text p plans
+unfolding line_text
 text_parts p plans =
     let lines = flat_map region_lines (map (written_of p) plans) in
-    let one : codes "plan 1\n" ≡ line_bytes line.Head = ap (λ (l : List ℕ). codes "plan " ++ (l ++ 10 ∷ [])) (sym (decimal_digit 1 (omega arith))) in
-    ap (λ (l : List ℕ). l ++ (plan_texts p plans ++ codes "end\n")) one
-    ∙ ap (λ (l : List ℕ). line_bytes line.Head ++ (l ++ codes "end\n")) (texts_are p plans)
-    ∙ ap (λ (l : List ℕ). line_bytes line.Head ++ l) (sym (flat_map-append line_bytes lines (line.End ∷ [])))
+    let head = line_bytes (line.Head (version_of plans)) in
+    ap (λ (l : List ℕ). line_bytes (line.Head (version_of plans)) ++ (l ++ codes "end\n")) (texts_are p plans)
+    ∙ ap (λ (l : List ℕ). line_bytes (line.Head (version_of plans)) ++ l) (sym (flat_map-append line_bytes lines (line.End ∷ [])))

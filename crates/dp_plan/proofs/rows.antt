@@ -4,3 +4,5 @@ pub mod Loads
 pub mod Conditions
 pub mod PlanText
 pub mod WrittenText
+pub mod Places
+pub mod FirstVersion

@@ -1,10 +1,10 @@
--- The variables that the sites of a region load and store, and the sites that a plan has checked.
+-- The variables that the sites of a region load and store.
 use Rattle.std.specs.Prelude.{ℕ, ◌==◌, Bool, false, not, ◌&&◌, ◌||◌, List, [], ◌∷◌, ◌++◌, Option, Some, None, filter, nat_lt}
-use Rattle.std.specs.List.{list_any, flat_map}
+use Rattle.std.specs.List.{flat_map}
 use Rattle.dp_tree.specs.declared.Expr.{Expr, end_of-Expr, more_of-Expr}
 use Rattle.dp_tree.specs.declared.Expr.TheVariants.{Number, Input', InputLen, Scalar, Element', Unary', Binary', And', Or'}
 use Rattle.dp_tree.specs.declared.Stmt.{Stmt, Row_of-Stmt, end_of-Stmt, more_of-Stmt, out-Stmt}
-use Rattle.dp_tree.specs.declared.Stmt.TheVariants.{Assign, Store, Print, If', While', Region', Call}
+use Rattle.dp_tree.specs.declared.Stmt.TheVariants.{Assign, Store, Print, If', While', Region', Break, Call}
 use Rattle.dp_tree.specs.declared.Program.{Program}
 use Rattle.dp_plan.specs.declared.Plan.{Plan}
 use Rattle.dp_tree.specs.Iteration.{is_region}
@@ -38,6 +38,7 @@ abbrev mutual
       record { site = site.0; loads = loaded_by cond; stores = None } ∷ (accesses_in then_part ++ accesses_in else_part)
   accesses (While' site cond _ body) = record { site = site.0; loads = loaded_by cond; stores = None } ∷ accesses_in body
   accesses (Region' r site cond _ body) = record { site = site.0; loads = loaded_by cond; stores = None } ∷ accesses_in body
+  accesses (Break site cond) = record { site = site.0; loads = loaded_by cond; stores = None } ∷ []
   accesses (Call f line args) = []
 
   -- those of several statements
@@ -78,16 +79,3 @@ is_stored_after p plan s x d = stores_var x d && nat_lt s (stage_of p plan d.sit
 abbrev pub is_stored_beside : Program → Plan → ℕ → ℕ → Access → Bool
 is_stored_beside p plan s x d =
     stores_var x d && is_replicated plan s && (stage_of p plan d.site == s) && not (is_body_local p plan x)
-
--- what stage s sees of x may differ from what the source has
-abbrev pub may_differ : Program → Plan → ℕ → ℕ → Bool
-may_differ p plan s x =
-    list_any (is_stored_after p plan s x) (region_accesses p plan) || list_any (is_stored_beside p plan s x) (region_accesses p plan)
-
--- this is the site, and it loads such a variable
-abbrev pub is_checked_access : Program → Plan → ℕ → Access → Bool
-is_checked_access p plan site u = (u.site == site) && list_any (may_differ p plan (stage_of p plan site)) u.loads
-
--- the site is checked: each of its loads is compared with the source's
-abbrev pub is_checked : Program → Plan → ℕ → Bool
-is_checked p plan site = list_any (is_checked_access p plan site) (region_accesses p plan)

@@ -3,7 +3,8 @@ use Rattle.std.specs.Prelude.{ℕ, ◌-◌, ◌≡◌, Bool, false, ◌&&◌, Li
 use Rattle.dp_tree.specs.declared.Program.{Program}
 use Rattle.dp_tree.specs.Numbering.{numbers_from}
 use Rattle.dp_plan.specs.declared.Plan.{Plan}
-use Rattle.dp_plan.specs.Access.{Access, first_site, stage_of, is_checked}
+use Rattle.dp_plan.specs.Access.{Access, first_site, stage_of}
+use Rattle.dp_plan.specs.Checked.{is_checked}
 
 -- of each site that has a stage, from the region's first one on, whether it is checked
 abbrev pub checked_table : Program → Plan → List Bool

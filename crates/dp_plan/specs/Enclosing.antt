@@ -2,7 +2,7 @@
 use Rattle.std.specs.Prelude.{ℕ, List, [], ◌∷◌, ◌++◌, map}
 use Rattle.std.specs.List.{flat_map}
 use Rattle.dp_tree.specs.declared.Stmt.{Stmt, Row_of-Stmt, end_of-Stmt, more_of-Stmt}
-use Rattle.dp_tree.specs.declared.Stmt.TheVariants.{Assign, Store, Print, If', While', Region', Call}
+use Rattle.dp_tree.specs.declared.Stmt.TheVariants.{Assign, Store, Print, If', While', Region', Break, Call}
 use Rattle.dp_tree.specs.declared.Program.{Program}
 pub use Rattle.dp_plan.specs.declared.conditions.Enclosing.{Enclosing}
 use Rattle.dp_plan.specs.Access.{accesses_in, region_in}
@@ -22,6 +22,7 @@ abbrev mutual
   ifs (Assign site x e) = []
   ifs (Store site x index e) = []
   ifs (Print site e) = []
+  ifs (Break site cond) = []
   ifs (Call f line args) = []
 
   -- those of several statements
@@ -38,6 +39,7 @@ abbrev mutual
   inner_whiles (Assign site x e) = []
   inner_whiles (Store site x index e) = []
   inner_whiles (Print site e) = []
+  inner_whiles (Break site cond) = []
   inner_whiles (Call f line args) = []
 
   -- those of several statements

@@ -1,5 +1,8 @@
 pub mod Stage
 pub mod Access
+pub mod Touch
+pub mod IsFar
+pub mod Checked
 pub mod CheckedTable
 pub mod Written
 pub mod Enclosing
@@ -16,3 +19,9 @@ pub mod Lists
 pub mod Tables
 pub mod WrittenText
 pub mod GivenPlans
+pub mod Place
+pub mod Parts
+pub mod Storings
+pub mod OneStage
+pub mod Apart
+pub mod Fitting

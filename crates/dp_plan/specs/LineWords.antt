@@ -62,7 +62,7 @@ assume_line _ = None
 
 -- the first line, by the version that it names
 abbrev pub head_of : List ℕ → Option Line
-head_of version = if bytes_eq version (codes "1") then Some line.Head else None
+head_of version = if bytes_eq version (codes "1") then Some (line.Head false) else (if bytes_eq version (codes "2") then Some (line.Head true) else None)
 
 abbrev pub head_line : List (List ℕ) → Option Line
 head_line (version ∷ []) = head_of version

@@ -19,9 +19,14 @@ abbrev pub outcome_number : Bool → ℕ
 outcome_number true = 1
 outcome_number false = 0
 
+-- the version of a text whose plans have proved independence, and of one whose plans haven't
+abbrev pub version_number : Bool → ℕ
+version_number true = 2
+version_number false = 1
+
 -- the words of a line; numbers are decimal, without a sign or leading zeros
 abbrev pub words_of : Line → List (List ℕ)
-words_of line.Head = codes "plan" ∷ decimal 1 ∷ []
+words_of (line.Head proved) = codes "plan" ∷ decimal (version_number proved) ∷ []
 words_of (line.Region r w) = codes "region" ∷ decimal r ∷ codes "words" ∷ decimal w ∷ []
 words_of (line.Stage stage) = kind_word stage.kind ∷ map decimal stage.sites
 words_of (line.Assume a) = codes "assume" ∷ decimal a.site.0 ∷ decimal (outcome_number a.taken) ∷ []
@@ -41,9 +46,9 @@ line_bytes l = joined (words_of l) ++ 10 ∷ []
 abbrev pub region_lines : WrittenPlan → List Line
 region_lines w = line.Region w.region w.words ∷ (map line.Stage w.stages ++ map line.Assume w.assume)
 
--- the lines of a text: the first, those of the regions, and the last
-abbrev pub plan_lines : List WrittenPlan → List Line
-plan_lines plans = line.Head ∷ (flat_map region_lines plans ++ line.End ∷ [])
+-- the lines of a text: the first, which names the version, those of the regions, and the last
+abbrev pub plan_lines : Bool → List WrittenPlan → List Line
+plan_lines proved plans = line.Head proved ∷ (flat_map region_lines plans ++ line.End ∷ [])
 
 -- the sites ascend strictly, from above `low`, and each has 32 bits
 abbrev pub AscendAbove : ℕ → List ℕ → Type 0
@@ -75,9 +80,9 @@ pub record PlanFits (w : WrittenPlan) : Type 0 where
 abbrev pub region_number : WrittenPlan → ℕ
 region_number w = w.region
 
--- the lines are those of these plans, one for each region of the program in order
-pub record PlanLines (p : Program) (lines : List (List ℕ)) (plans : List WrittenPlan) : Type 0 where
-  pub lines_are : lines ≡ map line_bytes (plan_lines plans)
+-- the lines are those of these plans, one for each region of the program in order, in the version with proved independence or in the one without
+pub record PlanLines (p : Program) (lines : List (List ℕ)) (proved : Bool) (plans : List WrittenPlan) : Type 0 where
+  pub lines_are : lines ≡ map line_bytes (plan_lines proved plans)
   pub regions : map region_number plans ≡ numbers_from 1 (length p.regions)
   pub fit : Each PlanFits plans
 
@@ -92,5 +97,5 @@ lines_of [] = []
 lines_of (byte ∷ rest) = if byte == 10 then (byte ∷ []) ∷ lines_of rest else onto_first byte (lines_of rest)
 
 -- the text is that of these plans
-abbrev pub PlanText : Program → List ℕ → List WrittenPlan → Type 0
-PlanText p bytes plans = PlanLines p (lines_of bytes) plans
+abbrev pub PlanText : Program → List ℕ → Bool → List WrittenPlan → Type 0
+PlanText p bytes proved plans = PlanLines p (lines_of bytes) proved plans

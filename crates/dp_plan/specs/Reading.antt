@@ -10,7 +10,7 @@ use Rattle.dp_plan.specs.Written.{WrittenStage, WrittenPlan}
 
 -- no line yet
 abbrev pub begun : Reader
-begun = record { phase = phase.Start; plans = []; last = record { region = 0; words = 0; stages = []; assume = [] } }
+begun = record { phase = phase.Start; proved = false; plans = []; last = record { region = 0; words = 0; stages = []; assume = [] } }
 
 abbrev pub is_start : Phase → Bool
 is_start phase.Start = true
@@ -40,20 +40,20 @@ abbrev pub closed : Reader → List WrittenPlan
 closed s = if s.last.region == 0 then s.plans else (s.plans ++ s.last ∷ [])
 
 abbrev pub with_stage : Reader → WrittenStage → Reader
-with_stage s stage = record { phase = s.phase; plans = s.plans; last = record { region = s.last.region; words = s.last.words; stages = s.last.stages ++ stage ∷ []; assume = s.last.assume } }
+with_stage s stage = record { phase = s.phase; proved = s.proved; plans = s.plans; last = record { region = s.last.region; words = s.last.words; stages = s.last.stages ++ stage ∷ []; assume = s.last.assume } }
 
 abbrev pub with_assume : Reader → Assume → Reader
-with_assume s a = record { phase = s.phase; plans = s.plans; last = record { region = s.last.region; words = s.last.words; stages = s.last.stages; assume = s.last.assume ++ a ∷ [] } }
+with_assume s a = record { phase = s.phase; proved = s.proved; plans = s.plans; last = record { region = s.last.region; words = s.last.words; stages = s.last.stages; assume = s.last.assume ++ a ∷ [] } }
 
 abbrev pub with_region : Reader → ℕ → ℕ → Reader
-with_region s r w = record { phase = phase.Inside; plans = closed s; last = record { region = r; words = w; stages = []; assume = [] } }
+with_region s r w = record { phase = phase.Inside; proved = s.proved; plans = closed s; last = record { region = r; words = w; stages = []; assume = [] } }
 
 abbrev pub with_end : Reader → Reader
-with_end s = record { phase = phase.Over; plans = closed s; last = record { region = 0; words = 0; stages = []; assume = [] } }
+with_end s = record { phase = phase.Over; proved = s.proved; plans = closed s; last = record { region = 0; words = 0; stages = []; assume = [] } }
 
 -- where these lines were read one more may be read, in a text for so many regions
 unfoldable pub next : ℕ → Reader → Line → Option Reader
-next n s line.Head = if is_start s.phase then Some (record s { phase = phase.Inside }) else None
+next n s (line.Head proved) = if is_start s.phase then Some (record s { phase = phase.Inside; proved = proved }) else None
 next n s (line.Region r w) = if is_between s && (nat_lt s.last.region n && (r == s.last.region + 1)) then Some (with_region s r w) else None
 next n s (line.Stage stage) =
     if has_region s && (nat_lt (length s.last.stages) 8 && (length s.last.assume == 0)) then Some (with_stage s stage) else None

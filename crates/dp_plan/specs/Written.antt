@@ -49,20 +49,21 @@ assumption_at (a ∷ rest) site = if a.site.0 == site then Some a else assumptio
 abbrev pub kind_in : WrittenStage → StageKind
 kind_in line = line.kind
 
--- the plan without its table that a valid written plan stands for; its assumptions stand in the order of their sites
-abbrev pub plan_before_table : Program → WrittenPlan → Plan
-plan_before_table p w = record {
+-- the plan without its table that a valid written plan stands for, where independence is proved or not; its assumptions stand in the order of their sites
+abbrev pub plan_before_table : Program → Bool → WrittenPlan → Plan
+plan_before_table p proved w = record {
   region = w.region;
   words = w.words;
   stages = map kind_in w.stages;
   stage_of = map (written_stage w) (region_sites p w.region);
   assume = filter_map (assumption_at w.assume) (region_sites p w.region);
+  proved = proved;
   checked_at = [];
 }
 
 -- the plan that a valid written plan stands for
-abbrev pub plan_of : Program → WrittenPlan → Plan
-plan_of p w = with_table p (plan_before_table p w)
+abbrev pub plan_of : Program → Bool → WrittenPlan → Plan
+plan_of p proved w = with_table p (plan_before_table p proved w)
 
 -- the lines of stages of these kinds, from stage k on: each lists its sites in ascending order
 abbrev pub lines_from : Program → Plan → ℕ → List StageKind → List WrittenStage

@@ -1,5 +1,5 @@
 -- The text of plans as it is written.
-use Rattle.std.specs.Prelude.{ℕ, ◌+◌, ◌==◌, List, [], ◌∷◌, ◌++◌, map, filter, decimal}
+use Rattle.std.specs.Prelude.{ℕ, ◌+◌, ◌==◌, Bool, true, List, [], ◌∷◌, ◌++◌, map, filter, decimal}
 use Rattle.std.specs.List.{flat_map}
 use Rattle.dp_tree.specs.declared.Assume.{Assume}
 use Rattle.dp_tree.specs.declared.Program.{Program}
@@ -11,9 +11,14 @@ use Rattle.dp_plan.specs.Stage.{stage_of}
 use Rattle.dp_plan.specs.Written.{WrittenStage, written_of}
 use Rattle.dp_plan.specs.PlanText.{line_bytes, region_lines, plan_lines}
 
+-- the version of plans that have one; without a plan it is the one with proved independence
+abbrev pub version_of : List Plan → Bool
+version_of [] = true
+version_of (plan ∷ rest) = plan.proved
+
 -- the lines of the plans, each stage's sites in text order, and the assumptions as the plan has them
 abbrev pub plans_text : Program → List Plan → List ℕ
-plans_text p plans = flat_map line_bytes (plan_lines (map (written_of p) plans))
+plans_text p plans = flat_map line_bytes (plan_lines (version_of plans) (map (written_of p) plans))
 
 -- a line's bytes
 unfoldable pub line_text : Line → List ℕ

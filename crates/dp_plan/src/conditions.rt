@@ -5,8 +5,8 @@ ghost use Rattle.dp_plan.specs.Lists as lists;
 ghost use Rattle.dp_plan.specs.Enclosing.{region_ifs, region_inner_whiles};
 ghost use Rattle.dp_plan.specs.Rules.{site_of_condition};
 
-use crate::checked::is_region;
 use crate::sites::put_sites;
+use crate::stage::is_region;
 use dp_base::{NoMemory, Row};
 use dp_tree::{Program, Stmt};
 use std::alloc::Global;
@@ -67,7 +67,11 @@ fn put_ifs_of(alloc: Global, out: &mut Row<Enclosing>, statement: &Stmt) -> Resu
             put_ifs(alloc, out, body.as_slice())?;
             Ok(())
         }
-        Stmt::Assign { .. } | Stmt::Store { .. } | Stmt::Print { .. } | Stmt::Call { .. } => Ok(()),
+        Stmt::Assign { .. }
+        | Stmt::Store { .. }
+        | Stmt::Print { .. }
+        | Stmt::Break { .. }
+        | Stmt::Call { .. } => Ok(()),
     }
 }
 
@@ -111,7 +115,11 @@ fn put_whiles_of(alloc: Global, out: &mut Row<Enclosing>, statement: &Stmt) -> R
             put_whiles(alloc, out, body.as_slice())?;
             Ok(())
         }
-        Stmt::Assign { .. } | Stmt::Store { .. } | Stmt::Print { .. } | Stmt::Call { .. } => Ok(()),
+        Stmt::Assign { .. }
+        | Stmt::Store { .. }
+        | Stmt::Print { .. }
+        | Stmt::Break { .. }
+        | Stmt::Call { .. } => Ok(()),
     }
 }
 

@@ -6,15 +6,21 @@
 use dp_base::{NoMemory, Row, SiteId};
 use dp_tree::Assume;
 
-mod checked;
+mod apart;
 mod conditions;
+mod fitting;
 mod law;
 mod least;
 mod line;
+mod moving;
+mod one_stage;
+mod part;
+mod place;
 mod read;
 mod reader;
 mod rules;
 mod sites;
+mod stage;
 mod table;
 #[cfg(test)]
 mod tests;
@@ -22,9 +28,11 @@ mod text;
 mod words;
 mod write;
 
-pub use checked::is_region;
+pub use apart::Apart;
 pub use law::{read_plans_are_plans, written_plans_are_read};
+pub use one_stage::one_stage_plans;
 pub use read::read_plans;
+pub use stage::is_region;
 pub use table::tables_are_right;
 pub use write::write_plans;
 
@@ -50,6 +58,8 @@ pub struct Plan {
     pub stage_of: Row<u32>,
     /// The outcomes that are assumed, ascending by site.
     pub assume: Row<Assume>,
+    /// Accesses that are known to lie apart aren't checked: version 2 of a plan.
+    pub proved: bool,
     /// Whether each site of the region is checked, beginning with its first site.
     pub checked_at: Row<bool>,
 }
@@ -69,6 +79,14 @@ pub struct WrittenPlan {
     pub stages: Row<WrittenStage>,
     /// The assumptions as they stand.
     pub assume: Row<Assume>,
+}
+
+/// The plans of a text, which need not fit the program.
+#[derive(Drop)]
+pub struct WrittenPlans {
+    /// The text is of version 2.
+    pub proved: bool,
+    pub plans: Row<WrittenPlan>,
 }
 
 /// Why a text gives no plans.

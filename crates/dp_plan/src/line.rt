@@ -14,7 +14,7 @@ use std::alloc::Global;
 /// A line of a text.
 #[derive(Drop)]
 pub enum Line {
-    Head,
+    Head { proved: bool },
     Region { region: u32, words: u32 },
     Stage(WrittenStage),
     Assume(Assume),
@@ -134,7 +134,9 @@ fn head_of(version: &[u8]) -> Option<Line>
     ensures { result ≡ spec.head_of version.now }
 {
     if version == b"1".as_slice() {
-        Some(Line::Head)
+        Some(Line::Head { proved: false })
+    } else if version == b"2".as_slice() {
+        Some(Line::Head { proved: true })
     } else {
         None
     }

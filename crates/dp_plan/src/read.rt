@@ -66,8 +66,13 @@ fn assumptions_at(alloc: Global, all: &[Assume], sites: &[u32]) -> Result<Row<As
 }
 
 /// The plan, but for its table, that a valid written plan stands for.
-fn plan_before_table(alloc: Global, p: &Program, w: &WrittenPlan) -> Result<Plan, NoMemory>
-    ensures { IfOk result (λ plan. plan ≡ written.plan_before_table p.now w.now) }
+fn plan_before_table(
+    alloc: Global,
+    p: &Program,
+    proved: bool,
+    w: &WrittenPlan,
+) -> Result<Plan, NoMemory>
+    ensures { IfOk result (λ plan. plan ≡ written.plan_before_table p.now proved w.now) }
 {
     let sites = sites_of(alloc, p, w.region)?;
     Ok(Plan {
@@ -76,23 +81,29 @@ fn plan_before_table(alloc: Global, p: &Program, w: &WrittenPlan) -> Result<Plan
         stages: kinds(alloc, w.stages.as_slice())?,
         stage_of: stages_at(alloc, w, sites.as_slice())?,
         assume: assumptions_at(alloc, w.assume.as_slice(), sites.as_slice())?,
+        proved,
         checked_at: Row::new(alloc),
     })
 }
 
-fn plan_of(alloc: Global, p: &Program, w: &WrittenPlan) -> Result<Plan, NoMemory>
-    ensures { IfOk result (λ plan. plan ≡ written.plan_of p.now w.now) }
+fn plan_of(alloc: Global, p: &Program, proved: bool, w: &WrittenPlan) -> Result<Plan, NoMemory>
+    ensures { IfOk result (λ plan. plan ≡ written.plan_of p.now proved w.now) }
 {
-    plan_before_table(alloc, p, w)?.tabled(alloc, p)
+    plan_before_table(alloc, p, proved, w)?.tabled(alloc, p)
 }
 
 /// The plans that valid written plans stand for.
-fn plans_of(alloc: Global, p: &Program, all: &[WrittenPlan]) -> Result<Row<Plan>, NoMemory>
-    ensures { IfOk result (λ plans. plans ≡ map (written.plan_of p.now) all.now) }
+fn plans_of(
+    alloc: Global,
+    p: &Program,
+    proved: bool,
+    all: &[WrittenPlan],
+) -> Result<Row<Plan>, NoMemory>
+    ensures { IfOk result (λ plans. plans ≡ map (written.plan_of p.now proved) all.now) }
 {
     let mut plans = Row::new(alloc);
     for written in all {
-        plans.push(plan_of(alloc, p, written)?)?;
+        plans.push(plan_of(alloc, p, proved, written)?)?;
     }
     Ok(plans)
 }
@@ -103,13 +114,14 @@ fn plans_of(alloc: Global, p: &Program, all: &[WrittenPlan]) -> Result<Row<Plan>
 pub fn read_plans(alloc: Global, bytes: &[u8], p: &Program) -> Result<Row<Plan>, PlanFail>
     ensures { ReadsAs p.now bytes.now result }
 {
-    let written = read_text(alloc, bytes, p)?;
-    if let Some(broken) = first_fault(alloc, p, written.as_slice())? {
+    let text = read_text(alloc, bytes, p)?;
+    let written = text.plans.as_slice();
+    if let Some(broken) = first_fault(alloc, p, written)? {
         return Err(PlanFail::Invalid {
             rule: broken.rule,
             site: SiteId(broken.site),
         });
     }
-    let plans = plans_of(alloc, p, written.as_slice())?;
+    let plans = plans_of(alloc, p, text.proved, written)?;
     Ok(plans)
 }

@@ -24,6 +24,8 @@ pub enum Phase {
 #[derive(Drop)]
 pub struct Reader {
     pub phase: Phase,
+    /// What the first line says of proved independence.
+    pub proved: bool,
     /// The plans of the regions before the last one.
     pub plans: Row<WrittenPlan>,
     /// That of the last region, whose number is 0 where there is none.
@@ -52,6 +54,7 @@ impl Reader {
     {
         Reader {
             phase: Phase::Start,
+            proved: false,
             plans: Row::new(alloc),
             last: opened(alloc, 0, 0),
         }
@@ -92,8 +95,8 @@ impl Reader {
     }
 
     #[tactic(auto, unfolding(crate::specs::Reading::next))]
-    fn head(self, regions: u32) -> Option<Reader>
-        ensures { result ≡ spec.next regions self line.Head }
+    fn head(self, regions: u32, proved: bool) -> Option<Reader>
+        ensures { result ≡ spec.next regions self (line.Head proved) }
     {
         if !matches!(self.phase, Phase::Start) {
             return None;
@@ -101,6 +104,7 @@ impl Reader {
         let Reader { plans, last, .. } = self;
         Some(Reader {
             phase: Phase::Inside,
+            proved,
             plans,
             last,
         })
@@ -121,6 +125,7 @@ impl Reader {
         }
         Ok(Some(Reader {
             phase: Phase::Inside,
+            proved: self.proved,
             plans: self.closed()?,
             last: opened(alloc, region, words),
         }))
@@ -159,6 +164,7 @@ impl Reader {
         }
         Ok(Some(Reader {
             phase: Phase::Over,
+            proved: self.proved,
             plans: self.closed()?,
             last: opened(alloc, 0, 0),
         }))
@@ -176,7 +182,7 @@ impl Reader {
     {
         match line {
             None => Ok(None),
-            Some(Line::Head) => Ok(self.head(regions)),
+            Some(Line::Head { proved }) => Ok(self.head(regions, proved)),
             Some(Line::Region { region, words }) => self.region(alloc, regions, region, words),
             Some(Line::Stage(stage)) => self.stage(regions, stage),
             Some(Line::Assume(assume)) => self.assume(regions, assume),

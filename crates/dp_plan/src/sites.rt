@@ -4,20 +4,21 @@ ghost use Rattle.std.specs.Prelude.{◌≡◌, ◌++◌, OnOk, IfOk};
 ghost use Rattle.dp_plan.specs.Lists as lists;
 ghost use Rattle.dp_plan.specs.Written.{region_sites};
 
-use crate::checked::is_region;
+use crate::stage::is_region;
 use dp_base::{NoMemory, Row};
 use dp_tree::{Program, Stmt};
 use std::alloc::Global;
 
 #[tactic(auto, using(crate::proofs::ListWalks::site_forms))]
 #[cycle(sites)]
-fn put_sites_of(out: &mut Row<u32>, statement: &Stmt) -> Result<(), NoMemory>
+pub(crate) fn put_sites_of(out: &mut Row<u32>, statement: &Stmt) -> Result<(), NoMemory>
     ensures { OnOk result (out.new ≡ out.old ++ lists.site_list statement.now) }
 {
     match statement {
         Stmt::Assign { site, .. } => out.push(site.0),
         Stmt::Store { site, .. } => out.push(site.0),
         Stmt::Print { site, .. } => out.push(site.0),
+        Stmt::Break { site, .. } => out.push(site.0),
         Stmt::If {
             site,
             then_part,

@@ -6,8 +6,8 @@ ghost use Rattle.dp_plan.specs.PlanText.{lines_of};
 ghost use Rattle.dp_plan.specs.Ending.{IfEnds, ReadsText};
 
 use crate::reader::{Phase, Reader};
-use crate::{PlanFail, WrittenPlan};
-use dp_base::{NoMemory, Row};
+use crate::{PlanFail, WrittenPlans};
+use dp_base::NoMemory;
 use dp_tree::Program;
 use std::alloc::Global;
 
@@ -29,12 +29,17 @@ fn next_line(text: &[u8]) -> Option<(&[u8], &[u8])>
 }
 
 /// The plans of a text whose lines have been read up to what has no LF.
-fn finished(reader: Reader, rest: &[u8], line: u64) -> Result<Row<WrittenPlan>, PlanFail>
+fn finished(reader: Reader, rest: &[u8], line: u64) -> Result<WrittenPlans, PlanFail>
     ensures { IfEnds reader rest.now line result }
 {
-    let Reader { phase, plans, .. } = reader;
+    let Reader {
+        phase,
+        proved,
+        plans,
+        ..
+    } = reader;
     match phase {
-        Phase::Over if rest.is_empty() => Ok(plans),
+        Phase::Over if rest.is_empty() => Ok(WrittenPlans { proved, plans }),
         _ => Err(PlanFail::Refused { line }),
     }
 }
@@ -53,11 +58,7 @@ fn region_count(p: &Program) -> Result<u32, NoMemory>
 /// The plans as a text has them, before any rule on plans is tested.
 ///
 /// `Invalid` is never answered.
-pub(crate) fn read_text(
-    alloc: Global,
-    bytes: &[u8],
-    p: &Program,
-) -> Result<Row<WrittenPlan>, PlanFail>
+pub(crate) fn read_text(alloc: Global, bytes: &[u8], p: &Program) -> Result<WrittenPlans, PlanFail>
     ensures { ReadsText p.now bytes.now result }
 {
     let regions = region_count(p)?;

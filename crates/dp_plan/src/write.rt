@@ -12,17 +12,40 @@ use dp_tree::{Assume, Program};
 use itoa::Buffer;
 use std::alloc::Global;
 
-/// The text of plans. What it writes of valid plans, one for each region in order, is read back as these plans.
+/// The text of plans of one version. What it writes of valid plans, one for each region in order, is read back as these plans.
 pub fn write_plans(alloc: Global, plans: &[Plan], p: &Program) -> Result<Row<u8>, NoMemory>
     ensures { IfOk result (λ bytes. bytes ≡ text.plans_text p.now plans.now) }
 {
     let mut out = Row::new(alloc);
-    out.extend_from_slice(b"plan 1\n")?;
+    put_head(&mut out, is_proved(plans))?;
     for plan in plans {
         put_plan(alloc, &mut out, plan, p)?;
     }
     out.extend_from_slice(b"end\n")?;
     Ok(out)
+}
+
+/// The version of plans that have one: without a plan, the second.
+fn is_proved(plans: &[Plan]) -> bool
+    ensures { result ≡ text.version_of plans.now }
+{
+    match plans {
+        [] => true,
+        [first, ..] => first.proved,
+    }
+}
+
+fn put_head(out: &mut Row<u8>, proved: bool) -> Result<(), NoMemory>
+    ensures { OnOk result (out.new ≡ out.old ++ text.line_text (line.Head proved)) }
+{
+    put_labelled(out, b"plan ", version_number(proved))?;
+    out.push(b'\n')
+}
+
+fn version_number(proved: bool) -> u32
+    ensures { result ≡ plan_text.version_number proved }
+{
+    if proved { 2 } else { 1 }
 }
 
 /// A label, and a number right after it.

@@ -1,6 +1,9 @@
 pub mod Lines
 pub mod PrintsText
 pub mod StateText
+pub mod Faults
+pub mod CauseText
 pub mod RegionText
 pub mod EndText
 pub mod SiteText
+pub mod Generator

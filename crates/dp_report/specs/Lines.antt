@@ -10,6 +10,10 @@ line words = words ++ codes "\n"
 unfoldable pub labelled : List ℕ → ℕ → List ℕ
 labelled label n = label ++ decimal n
 
+-- a label, and a number right after it that may have a sign
+unfoldable pub labelled_signed : List ℕ → ℤ → List ℕ
+labelled_signed label z = label ++ signed_decimal z
+
 -- each number behind a space
 abbrev pub spaced : List ℕ → List ℕ
 spaced [] = []

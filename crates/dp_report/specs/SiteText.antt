@@ -1,7 +1,7 @@
 -- The list of a program's sites.
 use Rattle.std.specs.Prelude.{ℕ, List, ◌++◌, codes}
 use Rattle.dp_tree.specs.declared.SiteKind.{SiteKind}
-use Rattle.dp_tree.specs.declared.SiteKind.TheVariants.{Assign, Print, If, While}
+use Rattle.dp_tree.specs.declared.SiteKind.TheVariants.{Assign, Print, If, While, Break}
 use Rattle.dp_tree.specs.declared.SiteInfo.{SiteInfo}
 use Rattle.dp_tree.specs.declared.RegionInfo.{RegionInfo}
 use Rattle.dp_tree.specs.declared.Program.{Program}
@@ -13,6 +13,7 @@ kind_name Assign = codes "assign"
 kind_name Print = codes "print"
 kind_name If = codes "if"
 kind_name While = codes "while"
+kind_name Break = codes "break"
 
 -- a region's number, the line of its `while`, and its first and last site
 abbrev pub region_sites_line : ℕ → RegionInfo → List ℕ

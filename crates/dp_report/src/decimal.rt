@@ -2,7 +2,7 @@
 
 ghost use Rattle.std.specs.Prelude.{◌≡◌, ◌++◌, OnOk, decimal};
 ghost use Rattle.std.specs.Fmt.{signed_decimal};
-ghost use Rattle.dp_report.specs.Lines.{labelled, spaced, spaced_signed};
+ghost use Rattle.dp_report.specs.Lines.{labelled, labelled_signed, spaced, spaced_signed};
 
 use dp_base::{NoMemory, Row};
 use itoa::Buffer;
@@ -28,6 +28,15 @@ pub fn put_labelled(out: &mut Row<u8>, label: &[u8], n: u64) -> Result<(), NoMem
 {
     out.extend_from_slice(label)?;
     put_decimal(out, n)
+}
+
+/// A label, and a number right after it that may have a sign.
+#[tactic(auto, unfolding(crate::specs::Lines::labelled_signed))]
+pub fn put_labelled_signed(out: &mut Row<u8>, label: &[u8], n: i64) -> Result<(), NoMemory>
+    ensures { OnOk result (out.new ≡ out.old ++ labelled_signed label.now n) }
+{
+    out.extend_from_slice(label)?;
+    put_signed(out, n)
 }
 
 /// Each number behind a space.

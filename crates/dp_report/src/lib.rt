@@ -1,15 +1,17 @@
-//! The texts that the program writes of a run and of a program's sites.
+//! The texts that the program writes of a run and of a program's sites, and the program that it makes.
 #![tactic(auto)]
 
+mod causes;
 mod decimal;
 mod ending;
+mod fault;
+mod generator;
 mod prints;
 mod regions;
 mod sites;
 mod state;
-#[cfg(test)]
-mod tests;
 
 pub use ending::end_text;
+pub use generator::{Made, make_program};
 pub use prints::prints_text;
 pub use sites::site_text;

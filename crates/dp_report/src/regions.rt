@@ -1,28 +1,39 @@
 //! The regions of a run.
 
 ghost use Rattle.std.specs.Prelude.{◌≡◌, ◌++◌, OnOk};
-ghost use Rattle.dp_report.specs.RegionText.{listed, counts_line, report_line, regions_bytes};
+ghost use Rattle.dp_report.specs.RegionText.{listed, counts_line, causes_if, report_lines, regions_bytes};
 
+use crate::causes::put_causes;
 use crate::decimal::{put_labelled, put_spaced};
 use dp_base::{NoMemory, RegionReport, Row};
 
-/// A line for each region with a begun iteration.
-pub fn put_regions(out: &mut Row<u8>, reports: &[RegionReport]) -> Result<(), NoMemory>
-    ensures { OnOk result (out.new ≡ out.old ++ regions_bytes reports.now) }
+/// A line for each region with a begun iteration, and behind it the causes, where they are wanted.
+pub fn put_regions(out: &mut Row<u8>, reports: &[RegionReport], why: bool) -> Result<(), NoMemory>
+    ensures { OnOk result (out.new ≡ out.old ++ regions_bytes why reports.now) }
 {
     for report in reports {
-        put_report(out, report)?;
+        put_report(out, report, why)?;
     }
     Ok(())
 }
 
-fn put_report(out: &mut Row<u8>, report: &RegionReport) -> Result<(), NoMemory>
-    ensures { OnOk result (out.new ≡ out.old ++ report_line report.now) }
+fn put_report(out: &mut Row<u8>, report: &RegionReport, why: bool) -> Result<(), NoMemory>
+    ensures { OnOk result (out.new ≡ out.old ++ report_lines why report.now) }
 {
     if report.iterations == 0 {
         return Ok(());
     }
-    put_counts(out, report)
+    put_counts(out, report)?;
+    put_causes_if(out, report, why)
+}
+
+fn put_causes_if(out: &mut Row<u8>, report: &RegionReport, why: bool) -> Result<(), NoMemory>
+    ensures { OnOk result (out.new ≡ out.old ++ causes_if why report.now) }
+{
+    if !why {
+        return Ok(());
+    }
+    put_causes(out, report.recovered.as_slice(), report.causes.as_slice())
 }
 
 fn put_counts(out: &mut Row<u8>, report: &RegionReport) -> Result<(), NoMemory>

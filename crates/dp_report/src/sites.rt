@@ -66,5 +66,6 @@ fn kind_name(kind: SiteKind) -> &'static [u8]
         SiteKind::Print => b"print",
         SiteKind::If => b"if",
         SiteKind::While => b"while",
+        SiteKind::Break => b"break",
     }
 }

@@ -1,7 +1,9 @@
 -- The events of a region's iterations are at the region's sites, where it stands alone among the statements of `main`.
-use Rattle.dp_semantics.proofs.Names.{◌≡◌, refl, sym, ap, ◌∙◌, subst, ℕ, zero, suc, ◌-◌, Bool, true, false, if◌then◌else◌, List, [], ◌∷◌, ◌++◌, ℤ, take, filter, Option, Some, None, slice_get, arith, both_ways, Program, Stmt, out-Stmt, Stmt-F, Assign, Store, Print, If, While, Region, Call, SiteId, Expr, Event, Config, Step, Finished, Faulted, Stepped, Run, run_of, run_by, is_zero, followed, value_of, stored, standing, step, cleared_at, is_region, stands_at_head, places, Access, accesses, is_free, and_parts, followed-append, inl, inr, cases_Bool}
+use Rattle.dp_semantics.proofs.Names.{Break, Effect, ◌⊎◌, leaves, upto_leaving, taken, taken_left, behind_region, behind_one, region_number, after_effect, stored_by, ◌≡◌, refl, sym, ap, ◌∙◌, subst, ℕ, zero, suc, ◌-◌, Bool, true, false, if◌then◌else◌, List, [], ◌∷◌, ◌++◌, ℤ, take, filter, Option, Some, None, slice_get, arith, both_ways, Program, Stmt, out-Stmt, Stmt-F, Assign, Store, Print, If, While, Region, Call, SiteId, Expr, Event, Config, Step, Finished, Faulted, Stepped, Run, run_of, run_by, is_zero, followed, value_of, standing, step, cleared_at, is_region, stands_at_head, places, Access, accesses, is_free, and_parts, followed-append, inl, inr, cases_Bool}
 use Rattle.dp_semantics.proofs.Setting.{size, Each, each_split, accesses_all, accesses_at, accesses_out, head_access, all_free, followed_has}
-use Rattle.dp_semantics.proofs.Placed.{first_place, At, free_next, not_at_head, is_step, run_step, Leads, step_leads, run_first}
+use Rattle.dp_tree.proofs.Heads.{left-append}
+use Rattle.dp_semantics.proofs.Followed.{left_has, all_joins}
+use Rattle.dp_semantics.proofs.Placed.{leaves_taken, never, first_place, At, free_next, not_at_head, is_step, run_step, Leads, step_leads, run_first}
 use Rattle.dp_semantics.proofs.Stepping.{each_joins, each_parts}
 
 -- an element that a filter finds passes the test
@@ -35,6 +37,7 @@ own_fact Q (Print site e) s f = f.0
 own_fact Q (If site cond a b) s f = f.0
 own_fact Q (While site cond a) s f = f.0
 own_fact Q (Region r site cond a) s f = f.0
+own_fact Q (Break site cond) s f = f.0
 
 -- the region's parts
 pub record Parts (r : ℕ) (h : Stmt-F Stmt) : Type 0 where
@@ -54,9 +57,9 @@ pub data Around (Q : Access → Type 0) (r : ℕ) (behind : List Stmt) (to_do : 
   inside : (inner : List Stmt) → to_do ≡ inner ++ behind → Each Q (accesses_all inner) → Around Q r behind to_do
   beyond : all_free r to_do ≡ true → Around Q r behind to_do
 
--- the events before a place, counted from n, or all of them
+-- the events before a place, counted from n, or those up to and with a break that is taken
 abbrev pub upto : ℕ → Option ℕ → List Event → List Event
-upto n None events = events
+upto n None events = upto_leaving events
 upto n (Some k) events = take (k - n) events
 
 module _ {p : Program} {r : ℕ} {Q : Access → Type 0} (l : Lone p r Q) (input : List ℤ) where
@@ -76,7 +79,11 @@ module _ {p : Program} {r : ℕ} {Q : Access → Type 0} (l : Lone p r Q) (input
   none_upto n (Some k) = each_take (k - n) [] tt
 
   pub one_upto : (n : ℕ) (o : Option ℕ) (event : Event) (events : List Event) → AtSite Q event → Sites (upto (suc n) o events) → Sites (upto n o (event ∷ events))
-  one_upto n None event events q h = (q, h)
+  one_upto n None event events q h = (q, by (leaves event.effect))
+    where
+      by : (b : Bool) → Sites (if b then [] else upto_leaving events)
+      by true = tt
+      by false = h
   one_upto n (Some k) event events q h = by (k - n) refl
     where
       by : (d : ℕ) → k - n ≡ d → Sites (take d (event ∷ events))
@@ -98,16 +105,35 @@ module _ {p : Program} {r : ℕ} {Q : Access → Type 0} (l : Lone p r Q) (input
       let both = each_split Q (accesses x) (accesses_all inner) q in
       followed_has (λ xs. Each Q (accesses_all xs)) (each_joins Q) x inner (out-Stmt x) z q both.1 (each_parts Q (out-Stmt x) (subst (λ (xs : List Access). Each Q xs) (accesses_out x) both.0))
 
+  -- those behind another region within
+  left_sites : (x : Stmt) (inner : List Stmt) → Each Q (accesses_all (x ∷ inner)) → Each Q (accesses_all (behind_region inner))
+  left_sites x inner q = left_has (λ xs. Each Q (accesses_all xs)) (each_joins Q) inner (each_split Q (accesses x) (accesses_all inner) q).1
+
+  region_left : behind_region behind ≡ l.tail
+  region_left = ap (λ (h : Stmt-F Stmt). behind_one (region_number h) l.tail (behind_region l.tail)) region.is
+
   pub around_next : (x : Stmt) (rest : List Stmt) (z : ℤ) → Around Q r behind (x ∷ rest) → Around Q r behind (followed x rest (out-Stmt x) z)
   around_next x rest z (beyond w) = beyond (free_next r x rest z w)
   around_next x rest z (ahead (y ∷ inner) e w) =
       let here : y ≡ x = cc in
       let more : inner ++ behind ≡ rest = cc in
-      rw (← here, ← more) (ahead (followed y inner (out-Stmt y) z) (followed-append y inner behind (out-Stmt y) z) (free_next r y inner z w))
+      rw (← here, ← more) (elim (cases_Bool (taken (out-Stmt y) z)) [
+        | inl t ↦ subst (Around Q r behind) (sym (taken_left y (inner ++ behind) (out-Stmt y) z t)) (elim (left-append inner behind) [
+          | inl u ↦ ahead (behind_region inner) u (left_has (λ xs. all_free r xs ≡ true) (all_joins (is_free r)) inner (and_parts (is_free r y) (all_free r inner) w).1)
+          | inr u ↦ subst (Around Q r behind) (sym (u ∙ region_left)) (beyond l.tail_free)
+        ])
+        | inr t ↦ ahead (followed y inner (out-Stmt y) z) (followed-append y inner behind (out-Stmt y) z t) (free_next r y inner z w)
+      ])
   around_next x rest z (inside (y ∷ inner) e q) =
       let here : y ≡ x = cc in
       let more : inner ++ behind ≡ rest = cc in
-      rw (← here, ← more) (inside (followed y inner (out-Stmt y) z) (followed-append y inner behind (out-Stmt y) z) (followed_sites y inner z q))
+      rw (← here, ← more) (elim (cases_Bool (taken (out-Stmt y) z)) [
+        | inl t ↦ subst (Around Q r behind) (sym (taken_left y (inner ++ behind) (out-Stmt y) z t)) (elim (left-append inner behind) [
+          | inl u ↦ inside (behind_region inner) u (left_sites y inner q)
+          | inr u ↦ subst (Around Q r behind) (sym (u ∙ region_left)) (beyond l.tail_free)
+        ])
+        | inr t ↦ inside (followed y inner (out-Stmt y) z) (followed-append y inner behind (out-Stmt y) z t) (followed_sites y inner z q)
+      ])
   around_next x rest z (ahead [] e w) = let here : l.statement ≡ x = cc in let more : l.tail ≡ rest = cc in rw (← here, ← more) (after_region z)
   around_next x rest z (inside [] e q) = let here : l.statement ≡ x = cc in let more : l.tail ≡ rest = cc in rw (← here, ← more) (after_region z)
 
@@ -153,23 +179,59 @@ module _ {p : Program} {r : ℕ} {Q : Access → Type 0} (l : Lone p r Q) (input
       (subst (λ (b : Bool). Sites (upto n (slice_get (if b then n ∷ places (stands_at_head r) (suc n) (run_of p input m next).configs else places (stands_at_head r) (suc n) (run_of p input m next).configs) 0) (event ∷ (run_of p input m next).trace))) (sym off)
       (one_upto n (slice_get (places (stands_at_head r) (suc n) (run_of p input m next).configs) 0) event (run_of p input m next).trace here later))
 
+  -- a break that leaves the region
+  left_on : (n m : ℕ) (c : Config) (event : Event) (next : Config) (cells : List ℤ) → step p input c ≡ Stepped event next → stands_at_head r c ≡ false → AtSite Q event → leaves event.effect ≡ true → next ≡ standing p l.tail cells →
+      Sites (upto n (slice_get (places (stands_at_head r) n (run_of p input (suc m) c).configs) 0) (run_of p input (suc m) c).trace)
+  left_on n m c event next cells e off here out there =
+      subst (λ (run : Run). Sites (upto n (slice_get (places (stands_at_head r) n run.configs) 0) run.trace)) (sym (run_step p input m c (Stepped event next) e))
+      (subst (λ (b : Bool). Sites (upto n (slice_get (if b then n ∷ places (stands_at_head r) (suc n) (run_of p input m next).configs else places (stands_at_head r) (suc n) (run_of p input m next).configs) 0) (event ∷ (run_of p input m next).trace))) (sym off)
+      (subst (λ (ns : List ℕ). Sites (upto n (slice_get ns 0) (event ∷ (run_of p input m next).trace))) (sym nowhere)
+      (here, subst (λ (b : Bool). Sites (if b then [] else upto_leaving (run_of p input m next).trace)) (sym out) tt)))
+    where
+      nowhere : places (stands_at_head r) (suc n) (run_of p input m next).configs ≡ []
+      nowhere = ap (λ (d : Config). places (stands_at_head r) (suc n) (run_of p input m d).configs) there ∙ never p input r m (suc n) l.tail cells l.tail_free
+
+  -- where a break is taken: the next one is another region's end within, or behind the region
+  abbrev pub Left : Stmt → List Stmt → List ℤ → Effect → Config → Type 0
+  Left x inner cells effect next = ((ys : List Stmt) × (then_cells : List ℤ) × (next ≡ standing p (ys ++ behind) then_cells) × Each Q (accesses_all ys)) ⊎ ((then_cells : List ℤ) × (next ≡ standing p l.tail then_cells))
+
+  pub left_at : (x : Stmt) (inner : List Stmt) (cells : List ℤ) (effect : Effect) (next : Config) → Each Q (accesses_all (x ∷ inner)) → taken (out-Stmt x) (value_of effect) ≡ true → next ≡ after_effect p x (inner ++ behind) cells (out-Stmt x) effect → Left x inner cells effect next
+  left_at x inner cells effect next q t e =
+      let then_cells = stored_by p (inner ++ behind) (out-Stmt x) effect cells in
+      let away = taken_left x (inner ++ behind) (out-Stmt x) (value_of effect) t in
+      elim (left-append inner behind) [
+        | inl u ↦ inl (behind_region inner, stored_by p (inner ++ behind) (out-Stmt x) effect cells, e ∙ ap (λ (ys : List Stmt). standing p ys (stored_by p (inner ++ behind) (out-Stmt x) effect cells)) (away ∙ u), left_sites x inner q)
+        | inr u ↦ inr (stored_by p (inner ++ behind) (out-Stmt x) effect cells, e ∙ ap (λ (ys : List Stmt). standing p ys (stored_by p (inner ++ behind) (out-Stmt x) effect cells)) (away ∙ u ∙ region_left))
+      ]
+
   -- From within the region all events up to its next start are at its sites.
   pub till : (m n : ℕ) (inner : List Stmt) (cells : List ℤ) → Each Q (accesses_all inner) → Till n m inner cells
   till zero n inner cells q = none_run n inner cells
   till (suc m) n [] cells q = at_once n (suc m) [] cells l.at
-  till (suc m) n (x ∷ inner) cells q = by (is_region r (out-Stmt x)) refl (step p input c) refl (step_leads p input x (inner ++ behind) (cleared_at p (out-Stmt x) cells)) (λ z then_cells. till m (suc n) (followed x inner (out-Stmt x) z) then_cells (followed_sites x inner z q))
+  till (suc m) n (x ∷ inner) cells q = by (is_region r (out-Stmt x)) refl (step p input c) refl (step_leads p input x (inner ++ behind) (cleared_at p (out-Stmt x) cells)) (λ ys then_cells sites. till m (suc n) ys then_cells sites)
     where
       c : Config
       c = standing p (x ∷ (inner ++ behind)) cells
 
       by : (b : Bool) → is_region r (out-Stmt x) ≡ b → (s : Step) → step p input (standing p (x ∷ (inner ++ behind)) cells) ≡ s → Leads p input x (inner ++ behind) (cleared_at p (out-Stmt x) cells) s →
-          ((z : ℤ) (then_cells : List ℤ) → Till (suc n) m (followed x inner (out-Stmt x) z) then_cells) → Till n (suc m) (x ∷ inner) cells
+          ((ys : List Stmt) (then_cells : List ℤ) → Each Q (accesses_all ys) → Till (suc n) m ys then_cells) → Till n (suc m) (x ∷ inner) cells
       by true t s e leads go = at_once n (suc m) (x ∷ inner) cells t
       by false t Finished e leads go = ended_at n m (standing p (x ∷ (inner ++ behind)) cells) Finished e refl
       by false t (Faulted fault) e leads go = ended_at n m (standing p (x ∷ (inner ++ behind)) cells) (Faulted fault) e refl
-      by false t (Stepped event next) e leads go =
-          let there : next ≡ standing p (followed x inner (out-Stmt x) (value_of leads.0.value) ++ behind) (stored leads.0.value (cleared_at p (out-Stmt x) cells)) =
-          leads.1 ∙ ap (λ (ys : List Stmt). standing p ys (stored leads.0.value (cleared_at p (out-Stmt x) cells))) (followed-append x inner behind (out-Stmt x) (value_of leads.0.value)) in
-          moved_on n m (standing p (x ∷ (inner ++ behind)) cells) event next e t (site_of_step x (inner ++ behind) inner (cleared_at p (out-Stmt x) cells) event next leads (each_split Q (accesses x) (accesses_all inner) q).0)
-          (subst (λ (d : Config). Sites (upto (suc n) (slice_get (places (stands_at_head r) (suc n) (run_of p input m d).configs) 0) (run_of p input m d).trace)) (sym there)
-          (go (value_of leads.0.value) (stored leads.0.value (cleared_at p (out-Stmt x) cells))))
+      by false t (Stepped event next) e leads go = elim (cases_Bool (taken (out-Stmt x) (value_of leads.0.value))) [
+        | inl u ↦ elim (left_at x inner (cleared_at p (out-Stmt x) cells) leads.0.value next q u leads.1) [
+          | inl w ↦ moved_on n m (standing p (x ∷ (inner ++ behind)) cells) event next e t here (subst (λ (d : Config). Next d) (sym w.2) (go w.0 w.1 w.3))
+          | inr w ↦ left_on n m (standing p (x ∷ (inner ++ behind)) cells) event next w.0 e t here (ap (λ (v : Event). leaves v.effect) leads.2 ∙ leaves_taken p input x (inner ++ behind) (cleared_at p (out-Stmt x) cells) leads.0 leads.3 leads.4 ∙ u) w.1
+        ]
+        | inr u ↦
+            let there : next ≡ standing p (followed x inner (out-Stmt x) (value_of leads.0.value) ++ behind) (stored_by p (inner ++ behind) (out-Stmt x) leads.0.value (cleared_at p (out-Stmt x) cells)) =
+            leads.1 ∙ ap (λ (ys : List Stmt). standing p ys (stored_by p (inner ++ behind) (out-Stmt x) leads.0.value (cleared_at p (out-Stmt x) cells))) (followed-append x inner behind (out-Stmt x) (value_of leads.0.value) u) in
+            moved_on n m (standing p (x ∷ (inner ++ behind)) cells) event next e t here (subst (λ (d : Config). Next d) (sym there)
+            (go (followed x inner (out-Stmt x) (value_of leads.0.value)) (stored_by p (inner ++ behind) (out-Stmt x) leads.0.value (cleared_at p (out-Stmt x) cells)) (followed_sites x inner (value_of leads.0.value) q)))
+      ]
+        where
+          Next : Config → Type 0
+          Next d = Sites (upto (suc n) (slice_get (places (stands_at_head r) (suc n) (run_of p input m d).configs) 0) (run_of p input m d).trace)
+
+          here : AtSite Q event
+          here = site_of_step x (inner ++ behind) inner (cleared_at p (out-Stmt x) cells) event next leads (each_split Q (accesses x) (accesses_all inner) q).0

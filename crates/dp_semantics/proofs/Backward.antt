@@ -59,7 +59,7 @@ module _ {k : Epoch} (ok : Fit k) {i : ℕ} {x : Stmt} {rest : List Stmt} {earli
 
   -- Each stage goes on in step, where the source makes the event and the judgement takes its words.
   module _ (j d : Turn) (all : AllRunning k i (x ∷ rest) earlier j.lists) (v : WithLoads Effect) (gave : Gives k cells x v) (agree : event_agrees program plan base i earlier (event_of (out-Stmt x) v) ≡ true)
-      (told : event_as_assumed plan (event_of (out-Stmt x) v) ≡ true) (more : List Word) (front : word_list j.lists (stage_for k x) ≡ words_of program plan (event_of (out-Stmt x) v) ++ more)
+      (told : event_as_assumed program plan (event_of (out-Stmt x) v) ≡ true) (more : List Word) (front : word_list j.lists (stage_for k x) ≡ words_of program plan (event_of (out-Stmt x) v) ++ more)
       (moved : Moved k (last plan) 1 (event_of (out-Stmt x) v) j d) where
     does : (s : ℕ) (low : 0 < s) (high : s < last plan) → stage_for k x ≡ s → Gives k (all s low high).turn.cells x v
     does s low high e =
@@ -116,7 +116,7 @@ pub record Agreeing (k : Epoch) (i : ℕ) (to_do : List Stmt) (earlier : List Pa
   pub then_cells : List ℤ
   pub path : Goes k.program k.input to_do cells events [] then_cells
   pub agree : all_agree k.program k.plan k.base i earlier events ≡ true
-  pub told : list_all (event_as_assumed k.plan) events ≡ true
+  pub told : list_all (event_as_assumed k.program k.plan) events ≡ true
   pub fits : (s : ℕ) (low : 0 < s) (high : s < last k.plan) → length ((all s low high).turn.own ++ words_through k.program k.plan s events) ≤ k.plan.words
   pub within : length events ≤ n
 
@@ -139,7 +139,7 @@ module _ {k : Epoch} (ok : Fit k) {i : ℕ} where
       let q = all (stage_for k x) (own_site ok at).staged (own_site ok at).early in
       let next = next_of ok at j.turn.lists q in
       let form = form_of ok at q.turn.cells next.v next.gave in
-      let tests = compared (judge_from program plan n) (held ok at j b next.v form next.more next.front) (event_as_assumed plan (event_of (out-Stmt x) next.v)) (judged_next ok at j b next.v form next.more next.front) verdict
+      let tests = compared (judge_from program plan n) (held ok at j b next.v form next.more next.front) (event_as_assumed program plan (event_of (out-Stmt x) next.v)) (judged_next ok at j b next.v form next.more next.front) verdict
       (sym (judge_turn ok at j b next.v form next.more next.front n) ∙ e) in
       let gave = source_does ok at q.turn.cells q.in_step.sees next.v next.gave (λ checked. held_here ok at j b next.v form next.more next.front next.v.loads (event_held program plan (event_of (out-Stmt x) next.v) next.more j.turn.cells tests.0 checked)) in
       let agree = event_sees ok at q.turn.cells q.in_step.sees next.v next.gave in
@@ -152,7 +152,7 @@ module _ {k : Epoch} (ok : Fit k) {i : ℕ} where
         then_cells = later.then_cells;
         path = goes {events = later.events} {then_cells = later.then_cells} gave later.path;
         agree = and_from (event_agrees program plan base i earlier (event_of (out-Stmt x) next.v)) (all_agree program plan base i (past_of i x next.v ∷ earlier) later.events) agree later.agree;
-        told = and_from (event_as_assumed plan (event_of (out-Stmt x) next.v)) (list_all (event_as_assumed plan) later.events) tests.1 later.told;
+        told = and_from (event_as_assumed program plan (event_of (out-Stmt x) next.v)) (list_all (event_as_assumed program plan) later.events) tests.1 later.told;
         fits = λ s low high. rw (← (append_assoc (all s low high).turn.own (words_for program plan s (event_of (out-Stmt x) next.v)) (words_through program plan s later.events)), ← (on s low high).1) (later.fits s low high);
         within = omega (arith, later.within);
       }

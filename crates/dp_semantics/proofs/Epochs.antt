@@ -1,6 +1,7 @@
 -- The packets of an epoch whose iterations so far went in agreement with the plan.
 use Rattle.dp_semantics.proofs.Names.{◌≡◌, inl, inr, refl, sym, ap, ◌∙◌, subst, ℕ, zero, suc, ◌+◌, ◌<◌, true, false, List, [], ◌∷◌, ◌++◌, ℤ, pos, length, get_or, length-append, Option, Some, None, slice_get, Ok, arith, slice_get_past, cases_order, both_ways, Word, Event, StageKind, Seq, Par, Plan, is_par, is_replicated, Past, pushed, word_list, TurnEnd, stage_run, Status, Packet, Passed, Epoch, status_of, passed_by, run_on, cleared, at_sequential, at_replicated, at_kind, passed, last}
-use Rattle.dp_semantics.proofs.Setting.{size, Fit}
+use Rattle.dp_tree.specs.Iteration.{closes}
+use Rattle.dp_semantics.proofs.Setting.{size, Fit, Before, fresh_start, went_on}
 use Rattle.dp_semantics.proofs.PacketFacts.{live, status_for, status_next, status_live, word_list-early, word_list-last, passed_live, run_before, Left, left_live}
 use Rattle.dp_semantics.proofs.Whole.{turn_of, stands_at_start, Fresh, Makes, TurnIs, TurnEnds, stage_whole, AllBefore, pushed_before, before_later, Cleared, sees_next, sees_replicated, clear-length, words_through, closing_after, stands_after}
 use Rattle.dp_semantics.proofs.Stepping.{Sees, Stands}
@@ -44,6 +45,7 @@ module _ {k : Epoch} (h : History k) where
   pub record GoneBy (n : ℕ) : Type 0 where
     pub makes : MakesAt n
     pub onward : memory (suc n) ≡ cleared k makes.then_cells
+    pub going : closes (events n) ≡ false
 
   abbrev pub Gone : ℕ → Type 0
   Gone n = (m : ℕ) → m < n → GoneBy m
@@ -52,6 +54,7 @@ module _ {k : Epoch} (h : History k) where
   pub record Ready (n : ℕ) : Type 0 where
     pub before : AllBefore (number n) (past n)
     pub at : Stands k (number n) (turn_of ok.accepted) (past n) (memory n)
+    pub chain : Before program input plan.region (turn_of ok.accepted) (number n) (past n) (memory n)
 
   before_next : (n : ℕ) → Ready n → AllBefore (suc (number n)) (past (suc n))
   before_next n r = pushed_before (number n) (events n) (past n) (before_later (number n) (past n) r.before)
@@ -61,14 +64,18 @@ module _ {k : Epoch} (h : History k) where
     before = before_next n r;
     at = stands_at_start ok (number (suc n)) (past (suc n)) (memory (suc n)) after.known
         (subst (λ (cells : List ℤ). Sees k (last plan) (number (suc n)) (past (suc n)) cells) (sym gone.onward) (sees_next k (last plan) (number n) (past (suc n)) gone.makes.then_cells (last_sequential plan) h.clean_base (before_next n r) after.sees))
-        (ap length gone.onward ∙ clear-length plan.region program.vars gone.makes.then_cells ∙ after.size_is);
+        (ap length gone.onward ∙ clear-length plan.region program.vars gone.makes.then_cells ∙ after.size_is) chained;
+    chain = chained;
   }
     where
       after : Stands k (number n) [] (past (suc n)) gone.makes.then_cells
       after = stands_after ok r.at gone.makes.path
 
+      chained : Before program input plan.region (turn_of ok.accepted) (number (suc n)) (past (suc n)) (memory (suc n))
+      chained = went_on r.chain gone.makes.path gone.going r.at.size_is refl gone.onward
+
   pub ready : (n : ℕ) → Gone n → Ready n
-  ready zero g = record { before = tt; at = stands_at_start ok (number 0) [] (memory 0) tt (λ c. ap (λ (cells : List ℤ). get_or cells c (pos 0)) h.starts) (ap length h.starts ∙ h.base_size) }
+  ready zero g = record { before = tt; at = stands_at_start ok (number 0) [] (memory 0) tt (λ c. ap (λ (cells : List ℤ). get_or cells c (pos 0)) h.starts) (ap length h.starts ∙ h.base_size) fresh_start; chain = fresh_start }
   ready (suc n) g = ready_next n (ready n (λ m l. g m (omega (arith, l)))) (g n (omega arith))
 
   abbrev FreshAt : ℕ → ℕ → List ℤ → Type 0

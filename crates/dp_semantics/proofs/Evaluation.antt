@@ -1,5 +1,5 @@
 -- An evaluation and the same one in another memory: what form its value has, what it loads, and when the two agree.
-use Rattle.dp_semantics.proofs.Names.{◌≡◌, refl, ap, ◌∙◌, subst, ℕ, ◌+◌, ◌<◌, ◌≤◌, Bool, true, false, if◌then◌else◌, List, [], ◌∷◌, ◌++◌, ℤ, pos, negsuc, length, get_or, nat_lt, Option, Some, None, Result, Ok, Err, arith, ltb-true, FaultKind, binary_result, unary_result, is_zero, Expr, end_of-Expr, more_of-Expr, Program, Stmt, Stmt-F, Assign, Store, Print, If, While, Region, Call, Load, WithLoads, Evaluated, just, after_loads, and_then, without_loads, place, load, first_cell, cell_count, eval, Effect, Stored, Printed, Decided, evaluated, loaded_by, inl, inr, cases_Bool}
+use Rattle.dp_semantics.proofs.Names.{◌≡◌, refl, ap, ◌∙◌, subst, ℕ, ◌+◌, ◌<◌, ◌≤◌, Bool, true, false, if◌then◌else◌, List, [], ◌∷◌, ◌++◌, ℤ, pos, negsuc, length, get_or, nat_lt, Option, Some, None, Result, Ok, Err, arith, ltb-true, FaultKind, binary_result, unary_result, is_zero, Expr, end_of-Expr, more_of-Expr, Program, Stmt, Stmt-F, Assign, Store, Print, If, While, Region, Break, Call, Load, WithLoads, Evaluated, just, after_loads, and_then, without_loads, place, load, first_cell, cell_count, eval, Effect, Stored, Printed, Decided, Tried, evaluated, loaded_by, inl, inr, cases_Bool}
 use Rattle.dp_tree.specs.declared.Expr.TheVariants as tree
 use Rattle.dp_semantics.proofs.Each.{Each, each_split, each_join}
 
@@ -79,6 +79,7 @@ Form p (Print site e) (Printed value) = Unit {0}
 Form p (If site cond a b) (Decided value) = Unit {0}
 Form p (While site cond a) (Decided value) = Unit {0}
 Form p (Region r site cond a) (Decided value) = Unit {0}
+Form p (Break site cond) (Tried value) = Unit {0}
 Form p _ _ = ⊥
 
 -- the variables that a statement's own evaluation loads, and the one that it stores
@@ -89,6 +90,7 @@ head_loads (Print site e) = loaded_by e
 head_loads (If site cond then_part else_part) = loaded_by cond
 head_loads (While site cond body) = loaded_by cond
 head_loads (Region r site cond body) = loaded_by cond
+head_loads (Break site cond) = loaded_by cond
 head_loads (Call f line args) = []
 
 abbrev pub head_stores : Stmt-F Stmt → Option ℕ
@@ -149,6 +151,7 @@ module _ (p : Program) (input old cells : List ℤ) (Q : Load → Type 0) where
   head_tracks (If site cond a b) room read = decided_tracks (If site cond a b) cond (λ z. tt) read
   head_tracks (While site cond a) room read = decided_tracks (While site cond a) cond (λ z. tt) read
   head_tracks (Region r site cond a) room read = decided_tracks (Region r site cond a) cond (λ z. tt) read
+  head_tracks (Break site cond) room read = tracks_then Q cells (Form p (Break site cond)) _ _ _ _ (eval_tracks cond read) (λ z any. tracks_just Q cells (Form p (Break site cond)) (Tried z) tt)
   head_tracks (Call f line args) room read = tracks_fault Q cells (Form p (Call f line args)) _ _
 
   -- The evaluation of a statement's site has the statement's form and loads the variables that it names. It goes the same way in a memory where its loads hold.

@@ -1,9 +1,9 @@
 -- From the test of a program and a plan to what the central theorem asks, and the theorem itself.
-use Rattle.dp_semantics.proofs.Names.{◌≡◌, inl, inr, refl, ap, ℕ, zero, suc, ◌+◌, ◌<◌, ◌≤◌, ◌==◌, Bool, true, false, not, if◌then◌else◌, List, [], ◌∷◌, length, Option, Some, None, nat_lt, nat_le, filter, arith, ltb-true, leb-true, eqb-true, eq-eqb, slice_get_past, cases_eq, cases_lt, both_ways, not-true, list_all, flat_map, Stmt, out-Stmt, Stmt-F, Region, Program, Plan, cell_count, Run, Access, accesses, first_site, stage_of, is_par, is_replicated, is_region_at, region_statement, region_accesses, count_from, is_clean, epoch, well_nested, is_free, lies_in_order, has_cell, stores_known, access_known, is_inner, region_fits, one_region, region_alone, kinds_apart, kinds_fit, fits_plan, whole_run, CleanSince, JudgesRightly, JudgesEpochs, StoresLead, and_parts, and_from, and-true, cases_Bool}
+use Rattle.dp_semantics.proofs.Names.{◌≡◌, inl, inr, refl, ap, ℕ, zero, suc, ◌+◌, ◌<◌, ◌≤◌, ◌==◌, Bool, true, false, not, if◌then◌else◌, List, [], ◌∷◌, length, Option, Some, None, nat_lt, nat_le, filter, arith, ltb-true, leb-true, eqb-true, eq-eqb, slice_get_past, cases_eq, cases_lt, both_ways, not-true, list_all, flat_map, Stmt, out-Stmt, Stmt-F, Region, Program, Plan, cell_count, Run, Access, accesses, first_site, stage_of, is_par, is_replicated, is_region_at, region_statement, region_accesses, count_from, is_clean, epoch, well_nested, is_free, lies_in_order, has_cell, stores_known, access_known, is_inner, region_fits, one_region, region_alone, kinds_apart, kinds_fit, fits_plan, run_of, ClosingLeaves, CleanSince, JudgesRightly, JudgesEpochs, StoresLead, and_parts, and_from, and-true, cases_Bool}
 use Rattle.dp_semantics.proofs.Setting.{each_both, RegionIs, Split, Listed, listed_all, Sound, Accepted, Each, each_map, all_of, Roomy, all_free}
 use Rattle.dp_semantics.proofs.InOrder.{laid_of}
 use Rattle.dp_semantics.proofs.Counts.{all_count}
-use Rattle.dp_semantics.proofs.Central.{judges_rightly, stores_lead}
+use Rattle.dp_semantics.proofs.Central.{closing_leaves, judges_rightly, stores_lead}
 
 module _ (p : Program) (plan : Plan) where
   -- The sites of the region.
@@ -123,6 +123,9 @@ module _ (p : Program) (plan : Plan) where
   pub fitting_leads : fits_plan p plan ≡ true → StoresLead p plan
   fitting_leads e = stores_lead (accepted e)
 
+  pub fitting_closes : fits_plan p plan ≡ true → ClosingLeaves p plan
+  fitting_closes e = closing_leaves (accepted e)
+
   -- the iterations of an epoch before the one under way are clean
   module _ (run : Run) where
     record Under (e i : ℕ) : Type 0 where
@@ -138,5 +141,5 @@ module _ (p : Program) (plan : Plan) where
     under (suc i) = next_under (epoch p plan run i) i (is_clean p plan run (epoch p plan run i) i) refl (under i)
 
   pub fitting_epochs : fits_plan p plan ≡ true → JudgesEpochs p plan
-  fitting_epochs e input fuel i k here =
-      let u = under (whole_run p input fuel) i in fitting_judges e input fuel (epoch p plan (whole_run p input fuel) i) i k u.begun here u.clean
+  fitting_epochs e input fuel c within i k here =
+      let u = under (run_of p input fuel c) i in fitting_judges e input fuel c within (epoch p plan (run_of p input fuel c) i) i k u.begun here u.clean

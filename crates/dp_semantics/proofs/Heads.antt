@@ -1,5 +1,5 @@
 -- What the text's definitions say of a statement, by its head.
-use Rattle.dp_semantics.proofs.Names.{opened_statement, ◌≡◌, refl, sym, ap, ◌∙◌, ℕ, Bool, true, false, not, ◌&&◌, ◌||◌, ◌==◌, List, [], ◌∷◌, ◌++◌, is_some, flat_map, list_all, SiteId, Expr, Stmt, out-Stmt, roll-Stmt, roll-out-Stmt, hidden-the_row-Stmt-0, rolls-Assign, rolls-Store, rolls-Print, rolls-If, rolls-While, rolls-Region, rolls-Call, Stmt-F, Assign, Store, Print, If, While, Region, Call, Program, Plan, site_of, Access, accesses, accesses_in, assumed_in, branch_of, where_reached, project, project_in, project_all, none_earlier, well_nested, well_nested_in, is_free, is_free_in}
+use Rattle.dp_semantics.proofs.Names.{opened_statement, ◌≡◌, refl, sym, ap, ◌∙◌, ℕ, Bool, true, false, not, ◌&&◌, ◌||◌, ◌==◌, List, [], ◌∷◌, ◌++◌, is_some, flat_map, list_all, SiteId, Expr, Stmt, out-Stmt, roll-Stmt, roll-out-Stmt, hidden-the_row-Stmt-0, rolls-Assign, rolls-Store, rolls-Print, rolls-If, rolls-While, rolls-Region, rolls-Break, rolls-Call, Stmt-F, Assign, Store, Print, If, While, Region, Break, Call, Program, Plan, site_of, Access, accesses, accesses_in, assumed_in, branch_of, where_reached, project, project_in, project_all, none_earlier, well_nested, well_nested_in, is_free, is_free_in}
 use Rattle.dp_tree.specs.declared.Stmt.TheVariants as tree
 use Rattle.dp_semantics.proofs.Evaluation.{head_loads, head_stores}
 
@@ -25,7 +25,7 @@ unfolding opened_statement
 accesses_hidden [] = refl
 accesses_hidden (x ∷ xs) = ap (λ ys. accesses x ++ ys) (accesses_hidden xs)
 
-accesses_roll : (h : Stmt-F Stmt) → accesses (roll-Stmt h) ≡ accesses_at h
+pub accesses_roll : (h : Stmt-F Stmt) → accesses (roll-Stmt h) ≡ accesses_at h
 unfolding opened_statement
 accesses_roll (Assign site x e) = ap accesses (rolls-Assign site x e)
 accesses_roll (Store site x index e) = ap accesses (rolls-Store site x index e)
@@ -33,6 +33,7 @@ accesses_roll (Print site e) = ap accesses (rolls-Print site e)
 accesses_roll (If site cond a b) = rw (rolls-If site cond a b, accesses_hidden a, accesses_hidden b)
 accesses_roll (While site cond a) = ap accesses (rolls-While site cond a) ∙ ap (λ xs. head_access (While site cond a) ∷ xs) (accesses_hidden a)
 accesses_roll (Region r site cond a) = ap accesses (rolls-Region r site cond a) ∙ ap (λ xs. head_access (Region r site cond a) ∷ xs) (accesses_hidden a)
+accesses_roll (Break site cond) = ap accesses (rolls-Break site cond)
 accesses_roll (Call f line args) = ap accesses (rolls-Call f line args)
 
 pub accesses_out : (x : Stmt) → accesses x ≡ accesses_at (out-Stmt x)
@@ -62,6 +63,7 @@ module _ (r : ℕ) where
   free_roll (If site cond a b) = rw (rolls-If site cond a b, free_hidden a, free_hidden b)
   free_roll (While site cond a) = ap (is_free r) (rolls-While site cond a) ∙ free_hidden a
   free_roll (Region q site cond a) = ap (is_free r) (rolls-Region q site cond a) ∙ ap (λ u. not (q == r) && u) (free_hidden a)
+  free_roll (Break site cond) = ap (is_free r) (rolls-Break site cond)
   free_roll (Call f line args) = ap (is_free r) (rolls-Call f line args)
 
   pub free_out : (x : Stmt) → is_free r x ≡ free_at (out-Stmt x)
@@ -96,6 +98,7 @@ module _ (p : Program) (plan : Plan) where
   well_roll (If site cond a b) = rw (rolls-If site cond a b, accesses_hidden a, accesses_hidden b, well_hidden a, well_hidden b)
   well_roll (While site cond a) = rw (rolls-While site cond a, accesses_hidden a, well_hidden a)
   well_roll (Region r site cond a) = ap (well_nested p plan) (rolls-Region r site cond a)
+  well_roll (Break site cond) = ap (well_nested p plan) (rolls-Break site cond)
   well_roll (Call f line args) = ap (well_nested p plan) (rolls-Call f line args)
 
   pub well_out : (x : Stmt) → well_nested p plan x ≡ well_at (out-Stmt x)
@@ -117,6 +120,7 @@ module _ (p : Program) (plan : Plan) where
     project_at (If site cond a b) = if_for site cond (project_all p plan s a) (project_all p plan s b)
     project_at (While site cond a) = while_for site cond (project_all p plan s a)
     project_at (Region r site cond a) = tree.If site cond (project_all p plan s a) [] ∷ []
+    project_at (Break site cond) = where_reached p plan s site.0 (tree.Break site cond ∷ []) []
     project_at (Call f line args) = []
 
     project_hidden : (xs : List Stmt) → project_in p plan s (hidden-the_row-Stmt-0 xs) ≡ project_all p plan s xs
@@ -132,6 +136,7 @@ module _ (p : Program) (plan : Plan) where
     project_roll (If site cond a b) = rw (rolls-If site cond a b, project_hidden a, project_hidden b)
     project_roll (While site cond a) = ap (project p plan s) (rolls-While site cond a) ∙ ap (λ ys. while_for site cond ys) (project_hidden a)
     project_roll (Region r site cond a) = ap (project p plan s) (rolls-Region r site cond a) ∙ ap (λ ys. tree.If site cond ys [] ∷ []) (project_hidden a)
+    project_roll (Break site cond) = ap (project p plan s) (rolls-Break site cond)
     project_roll (Call f line args) = ap (project p plan s) (rolls-Call f line args)
 
     pub project_out : (x : Stmt) → project p plan s x ≡ project_at (out-Stmt x)

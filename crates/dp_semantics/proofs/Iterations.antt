@@ -1,8 +1,10 @@
--- The iterations of a whole run, each as a piece of the source's steps.
-use Rattle.dp_semantics.proofs.Names.{◌≡◌, ◌⊎◌, inl, inr, refl, sym, ap, ◌∙◌, subst, ℕ, suc, ◌+◌, ◌-◌, ◌≤◌, Bool, true, false, ◌||◌, if◌then◌else◌, List, [], ◌∷◌, ◌++◌, ℤ, pos, length, get_or, take, drop, length-append, Option, Some, None, is_some, slice_get, slice_range, Err, arith, drop-append_seam, take-append_seam, append-nil, FaultKind, Stmt, out-Stmt, Program, Plan, Config, Event, evaluated, Run, run_of, begin, start_cells, stands_at_head, start, decided_zero, stop_from, events_from, iteration, is_closing, has_ended, cells_in, cells_after, memory_from, memory_after, places, whole_run}
+-- The iterations of a run that begins within `main`, each as a piece of the source's steps.
+use Rattle.dp_semantics.proofs.Names.{last_events, ◌≡◌, ◌⊎◌, inl, inr, refl, sym, ap, ◌∙◌, subst, ℕ, suc, ◌+◌, ◌-◌, ◌≤◌, true, false, ◌||◌, List, [], ◌∷◌, ◌++◌, ℤ, pos, length, get_or, take, drop, Option, Some, None, is_some, slice_get, slice_range, Err, arith, drop-append_seam, take-append_seam, append-nil, FaultKind, Stmt, out-Stmt, Program, Plan, Config, Event, evaluated, Run, run_of, standing, StandsInMain, stands_at_head, start, stop_from, events_from, iteration, is_closing, has_ended, cells_in, cells_after, memory_from, memory_after, places, to_do_in, to_do_after}
+use Rattle.dp_tree.specs.Iteration.{closes as closes_of}
 use Rattle.dp_semantics.proofs.Setting.{size, Accepted, Each, each_split}
 use Rattle.dp_semantics.proofs.Whole.{turn_of, Cleared, clear-at, clear-length, Goes}
-use Rattle.dp_semantics.proofs.Placed.{before_it, Spotted, Spot, spot_next, behind, all_at, at_start, PlaceAt, place_at, From, run_from, run_first}
+use Rattle.dp_semantics.proofs.Begun.{reach}
+use Rattle.dp_semantics.proofs.Placed.{before_it, beyond, Spotted, Spot, spot_next, behind, all_at, at_start, PlaceAt, place_at, From, run_from, run_first}
 use Rattle.dp_semantics.proofs.Turns.{clear, start_at, run_at, next_start, Outcome, onward, closed, broken, Turned, standing_is, starts_first, turned}
 
 slice_get-seam : {X : Type 0} (a b : List X) (k j : ℕ) → k ≡ length a + j → slice_get (a ++ b) k ≡ slice_get b j
@@ -14,9 +16,9 @@ slice_mid a b c k e from up =
     let count : e - k ≡ length b = omega (arith, up) in
     ap (λ (xs : List _). take (e - k) xs) (ap (λ (n : ℕ). drop n (a ++ (b ++ c))) from ∙ drop-append_seam a (b ++ c)) ∙ ap (λ (n : ℕ). take n (b ++ c)) count ∙ take-append_seam b c
 
-module _ {p : Program} {plan : Plan} (a : Accepted p plan) (input : List ℤ) (fuel : ℕ) where
+module _ {p : Program} {plan : Plan} (a : Accepted p plan) (input : List ℤ) (fuel : ℕ) (begins : Config) (within : StandsInMain p begins) where
   abbrev pub run : Run
-  run = whole_run p input fuel
+  run = run_of p input fuel begins
 
   abbrev r : ℕ
   r = plan.region
@@ -38,8 +40,12 @@ module _ {p : Program} {plan : Plan} (a : Accepted p plan) (input : List ℤ) (f
     pub front_is : length front ≡ k
     pub next : start run r (suc i) ≡ next_start a input k left cells
 
+  spot : Spot r (behind a) (within.inner ++ within.behind)
+  spot = elim (reach r a.statement a.tail a.front a.main_is a.front_free a.tail_free within) [ inl q ↦ before_it q.inner q.is q.free | inr w ↦ beyond w ]
+
   spotted : Each (Spotted a input) run.configs
-  spotted = all_at p input (size p) (Spot r (behind a)) (spot_next a) fuel p.main (start_cells p.vars) (before_it a.front a.main_is a.front_free) refl
+  spotted = subst (λ (c : Config). Each (Spotted a input) (run_of p input fuel c).configs) (sym within.config_is)
+      (all_at p input (size p) (Spot r (behind a)) (spot_next a) fuel (within.inner ++ within.behind) within.cells spot within.cells_are)
 
   found_at : (i k : ℕ) → start run r i ≡ Some k → AtStart i k
   found_at i k e = record {
@@ -59,8 +65,8 @@ module _ {p : Program} {plan : Plan} (a : Accepted p plan) (input : List ℤ) (f
       q : PlaceAt Config (stands_at_head r) run.configs 0 i k
       q = place_at (stands_at_head r) run.configs 0 i k e
 
-      f : From p input fuel (begin p) q.front q.found q.behind
-      f = run_from p input q.front fuel (begin p) q.found q.behind q.is
+      f : From p input fuel begins q.front q.found q.behind
+      f = run_from p input q.front fuel begins q.found q.behind q.is
 
       s : (cells : List ℤ) × (q.found ≡ start_at a input cells) × (length cells ≡ size p)
       s = at_start a input q.found (each_split (Spotted a input) q.front (q.found ∷ q.behind) (subst (λ (cs : List Config). Each (Spotted a input) cs) q.is spotted)).1.0 q.passes
@@ -70,8 +76,9 @@ module _ {p : Program} {plan : Plan} (a : Accepted p plan) (input : List ℤ) (f
 
   -- what comes of iteration i, which starts after k steps with so many left: the next one starts, it closes, or the run ends in it
   pub data Ending (i k left : ℕ) (after : List Stmt) (then_cells : List ℤ) : Type 0 where
-    goes_on : after ≡ [] → start run plan.region (suc i) ≡ Some (k + length (iteration run plan.region i)) → memory_after run plan.region (suc i) ≡ clear a input then_cells → length (iteration run plan.region i) ≤ left → Ending i k left after then_cells
-    closes : after ≡ [] → start run plan.region (suc i) ≡ None → is_closing run plan.region i ≡ true → length (iteration run plan.region i) ≤ left → Ending i k left after then_cells
+    goes_on : after ≡ [] → start run plan.region (suc i) ≡ Some (k + length (iteration run plan.region i)) → memory_after run plan.region (suc i) ≡ clear a input then_cells → slice_get run.configs (k + length (iteration run plan.region i)) ≡ Some (start_at a input then_cells) → is_closing run plan.region i ≡ false → length (iteration run plan.region i) ≤ left → Ending i k left after then_cells
+    closes : after ≡ [] → start run plan.region (suc i) ≡ None → is_closing run plan.region i ≡ true → stop_from run k None ≡ k + length (iteration run plan.region i) → slice_get run.configs (k + length (iteration run plan.region i)) ≡ Some (standing p a.tail (clear a input then_cells)) →
+        length (iteration run plan.region i) ≤ left → Ending i k left after then_cells
     breaks : (x : Stmt) (rest : List Stmt) → after ≡ x ∷ rest → has_ended run plan.region i ≡ false →
         (left ≡ length (iteration run plan.region i)) ⊎ ((kind : FaultKind) × (evaluated p input then_cells (out-Stmt x) ≡ Err kind)) → Ending i k left after then_cells
 
@@ -84,6 +91,7 @@ module _ {p : Program} {plan : Plan} (a : Accepted p plan) (input : List ℤ) (f
     pub cleared : Cleared p plan (memory_after run plan.region i)
     pub left : ℕ
     pub steps_are : fuel ≡ k + left
+    pub to_do_is : to_do_after run k ≡ behind a
     pub ending : Ending i k left after then_cells
 
   memory_at : (i k : ℕ) → start run r i ≡ Some k → memory_after run r i ≡ cells_after run k
@@ -98,8 +106,14 @@ module _ {p : Program} {plan : Plan} (a : Accepted p plan) (input : List ℤ) (f
     trace_at : run.trace ≡ s.before ++ (t.events ++ t.more)
     trace_at = s.trace_is ∙ ap (λ (es : List Event). s.before ++ es) t.trace_is
 
+    config_at : (j n : ℕ) → n ≡ k + j → slice_get run.configs n ≡ slice_get (at s.left s.cells).configs j
+    config_at j n there = ap (λ (cs : List Config). slice_get cs n) s.configs_are ∙ slice_get-seam s.front (at s.left s.cells).configs n j (omega (arith, s.front_is, there))
+
+    config_here : slice_get run.configs k ≡ Some (start_at a input s.cells)
+    config_here = config_at 0 k (omega arith) ∙ run_first p input s.left (start_at a input s.cells)
+
     memory_here : memory_after run r i ≡ clear a input s.cells
-    memory_here = memory_at i k e ∙ ap cells_in (ap (λ (cs : List Config). slice_get cs k) s.configs_are ∙ slice_get-seam s.front (at s.left s.cells).configs k 0 (omega (arith, s.front_is)) ∙ run_first p input s.left (start_at a input s.cells))
+    memory_here = memory_at i k e ∙ ap cells_in config_here
         ∙ ap (λ (c : Config). c.cells) (standing_is a input s.cells)
 
     first_event : slice_get run.trace k ≡ slice_get (t.events ++ t.more) 0
@@ -115,38 +129,35 @@ module _ {p : Program} {plan : Plan} (a : Accepted p plan) (input : List ℤ) (f
       cleared = λ c local. ap (λ (cells : List ℤ). get_or cells c (pos 0)) memory_here ∙ clear-at r c p.vars s.cells (inl local);
       left = s.left;
       steps_are = s.steps_are;
+      to_do_is = ap to_do_in config_here ∙ ap (λ (c : Config). c.to_do) (standing_is a input s.cells);
       ending = ending;
     }
 
-    stop_by : (b : Bool) → decided_zero (slice_get run.trace k) ≡ b → stop_from run k None ≡ (if b then suc k else length run.trace)
-    stop_by b q = ap (λ (u : Bool). if u then suc k else length run.trace) q
+    -- where no other iteration follows
+    stop_at : last_events (t.events ++ t.more) ≡ t.events → stop_from run k None ≡ k + length t.events
+    stop_at last =
+        let here : drop k run.trace ≡ t.events ++ t.more = ap (drop k) trace_at ∙ ap (λ (n : ℕ). drop n (s.before ++ (t.events ++ t.more))) (sym s.before_is) ∙ drop-append_seam s.before (t.events ++ t.more) in
+        ap (λ (es : List Event). k + length (last_events es)) here ∙ ap (λ (es : List Event). k + length es) last
 
     by_outcome : Outcome a input s.left s.cells t.events t.after t.then_cells t.more → IterationIs i k
-    by_outcome (onward end next config within) =
+    by_outcome (onward end next config yet within) =
         let there = s.next ∙ next k in
         let same = iteration_from i k (Some (k + length t.events)) s.before t.events t.more e there trace_at s.before_is refl in
         is_as same (goes_on end (there ∙ ap (λ (es : List Event). Some (k + length es)) (sym same))
-        (memory_at (suc i) (k + length t.events) there
-        ∙ ap cells_in (ap (λ (cs : List Config). slice_get cs (k + length t.events)) s.configs_are ∙ slice_get-seam s.front (at s.left s.cells).configs (k + length t.events) (length t.events) (omega (arith, s.front_is)) ∙ config)
-        ∙ ap (λ (c : Config). c.cells) (standing_is a input t.then_cells))
+        (memory_at (suc i) (k + length t.events) there ∙ ap cells_in (config_at (length t.events) (k + length t.events) refl ∙ config) ∙ ap (λ (c : Config). c.cells) (standing_is a input t.then_cells))
+        (config_at (length t.events) (k + length (iteration run r i)) (ap (λ (es : List Event). k + length es) same) ∙ config)
+        (ap closes_of same ∙ yet)
         (omega (arith, within, ap length same)))
-    by_outcome (closed end next zero single within) =
-        let here = ap decided_zero (first_event ∙ one t.events single) ∙ zero in
-        let stop = stop_by true here in
-        let same = iteration_from i k None s.before t.events t.more e (s.next ∙ next k) trace_at s.before_is (omega (arith, stop, single)) in
-        is_as same (closes end (s.next ∙ next k) (ap (λ (es : List Event). decided_zero (slice_get es 0)) same ∙ zero) (omega (arith, within, ap length same)))
-      where
-        one : (es : List Event) → length es ≡ 1 → slice_get (es ++ t.more) 0 ≡ slice_get es 0
-        one [] l = absurd (omega (arith, l))
-        one (x ∷ es) l = refl
-    by_outcome (broken x rest after next none yet why) =
+    by_outcome (closed end next leaving last config within) =
+        let stop = stop_at last in
+        let same = iteration_from i k None s.before t.events t.more e (s.next ∙ next k) trace_at s.before_is stop in
+        is_as same (closes end (s.next ∙ next k) (ap closes_of same ∙ leaving) (stop ∙ ap (λ (es : List Event). k + length es) (sym same))
+        (config_at (length t.events) (k + length (iteration run r i)) (ap (λ (es : List Event). k + length es) same) ∙ config) (omega (arith, within, ap length same)))
+    by_outcome (broken x rest after next none yet last why) =
         let rest_is : t.events ++ t.more ≡ t.events = ap (λ (es : List Event). t.events ++ es) none ∙ append-nil t.events in
-        let here = ap decided_zero (first_event ∙ ap (λ (es : List Event). slice_get es 0) rest_is) ∙ yet in
-        let stop = stop_by false here in
-        let all : length run.trace ≡ length (s.before ++ t.events) = ap length (trace_at ∙ ap (λ (es : List Event). s.before ++ es) rest_is) in
         let gone = s.next ∙ next k in
-        let same = iteration_from i k None s.before t.events t.more e gone trace_at s.before_is (omega (arith, stop, all, length-append s.before t.events, s.before_is)) in
-        is_as same (breaks x rest after (ap (λ (o : Option ℕ). is_some o || is_closing run r i) gone ∙ ap (λ (es : List Event). decided_zero (slice_get es 0)) same ∙ yet) (later same why))
+        let same = iteration_from i k None s.before t.events t.more e gone trace_at s.before_is (stop_at (ap last_events rest_is ∙ last)) in
+        is_as same (breaks x rest after (ap (λ (o : Option ℕ). is_some o || is_closing run r i) gone ∙ ap closes_of same ∙ yet) (later same why))
       where
         later : {P : Type 0} → iteration run r i ≡ t.events → (s.left ≡ length t.events) ⊎ P → (s.left ≡ length (iteration run r i)) ⊎ P
         later same (inl l) = inl (l ∙ ap length (sym same))

@@ -22,10 +22,10 @@ module _ {k : Epoch} (ok : Fit k) {i : ℕ} {x : Stmt} {rest : List Stmt} {earli
   early : stage_for k x < last plan
   early = (own_site ok at).early
 
-  step_is : judge_step program plan j (staying ok at (last plan)) (onward ok at (last plan)) (here ok at (last plan)) ≡ next_if (held && event_as_assumed plan (event_of (out-Stmt x) v))
+  step_is : judge_step program plan j (staying ok at (last plan)) (onward ok at (last plan)) (here ok at (last plan)) ≡ next_if (held && event_as_assumed program plan (event_of (out-Stmt x) v))
   step_is = rw (taken_is ok at (last plan) j.turn b v early form more front, left_is ok at (last plan) j.turn b v early form more front, site_proj program plan (last plan) (out-Stmt x))
 
-  pub judge_turn : (n : ℕ) → judge_from program plan (suc n) j ≡ judge_by (judge_from program plan n) (next_if (held && event_as_assumed plan (event_of (out-Stmt x) v)))
+  pub judge_turn : (n : ℕ) → judge_from program plan (suc n) j ≡ judge_by (judge_from program plan n) (next_if (held && event_as_assumed program plan (event_of (out-Stmt x) v)))
   unfolding judge_from
   judge_turn n = rw (head_is ok at (last plan) j.turn b (omega (arith, early)), out-roll-Stmt (here ok at (last plan)), step_is)
 
@@ -60,7 +60,7 @@ module _ {k : Epoch} (ok : Fit k) {i : ℕ} where
   open k use {program, plan, input}
 
   pub judge_lockstep : {to_do : List Stmt} {earlier : List Past} {cells : List ℤ} {events : List Event} {after : List Stmt} {then_cells : List ℤ} → Stands k i to_do earlier cells → Goes program input to_do cells events after then_cells →
-      list_all (event_as_assumed plan) events ≡ true → (left : ℕ → List Word) (j : Judging) → InStep k i (last plan) to_do earlier j.turn → Has k (last plan) events left j.turn → JudgedThrough k i after earlier events j
+      list_all (event_as_assumed program plan) events ≡ true → (left : ℕ → List Word) (j : Judging) → InStep k i (last plan) to_do earlier j.turn → Has k (last plan) events left j.turn → JudgedThrough k i after earlier events j
   judge_lockstep at stays told left j b has = record {
     judging = j;
     runs = λ m n e. let same : m ≡ n = omega (arith, e) in ap (λ (u : ℕ). judge_from program plan u j) same;
@@ -70,7 +70,7 @@ module _ {k : Epoch} (ok : Fit k) {i : ℕ} where
   }
   judge_lockstep {earlier = earlier} at (goes {x = x} {rest = rest} {cells = cells} {v = v} {events = more} e path) told left j b has =
       let event : Event = event_of (out-Stmt x) v in
-      let goes_so = and_parts (event_as_assumed plan event) (list_all (event_as_assumed plan) more) told in
+      let goes_so = and_parts (event_as_assumed program plan event) (list_all (event_as_assumed program plan) more) told in
       let form = form_of ok at cells v e in
       let front = front_of k (last plan) (stage_for k x) event more left j.turn has refl (own_site ok at).staged (own_site ok at).early in
       let passes = and_from _ _ (event_passes program plan event _ j.turn.cells (λ checked. held_there ok at j b v form _ front v.loads (own_loads ok at cells v e))) goes_so.0 in

@@ -1,24 +1,18 @@
 -- Lockstep: a stage over any piece of an iteration that agrees with the plan.
-use Rattle.dp_semantics.proofs.Names.{◌≡◌, refl, sym, ap, ◌∙◌, subst, append_assoc, ℕ, ◌+◌, ◌<◌, ◌≤◌, Bool, true, ◌||◌, List, [], ◌∷◌, ◌++◌, ℤ, length, length-append, sum_by, Ok, arith, append-nil, list_all, Word, Stmt, out-Stmt, Program, Plan, WithLoads, Event, Effect, followed, value_of, stored, evaluated, stage_of, first_site, Past, all_agree, event_agrees, event_as_assumed, pushed, words_of, word_list, Turn, turn_from, is_zero_at, Epoch, and_parts, append_cancel_left}
+use Rattle.dp_semantics.proofs.Names.{closes_at, ◌≡◌, refl, sym, ap, ◌∙◌, subst, append_assoc, ℕ, ◌+◌, ◌<◌, ◌≤◌, Bool, true, ◌||◌, List, [], ◌∷◌, ◌++◌, ℤ, length, length-append, sum_by, Ok, arith, append-nil, list_all, Word, Stmt, out-Stmt, Program, Plan, WithLoads, Event, Effect, followed, value_of, stored, evaluated, stage_of, first_site, Past, all_agree, event_agrees, event_as_assumed, pushed, words_of, word_list, Turn, turn_from, Epoch, and_parts, append_cancel_left}
+pub use Rattle.dp_semantics.proofs.Ways.{Goes, stays, goes}
 use Rattle.dp_semantics.proofs.Setting.{Fit}
 use Rattle.dp_semantics.proofs.Stepping.{stage_for, InStep, Moved, Advanced, advance, words_for, words_here, event_of, past_of, Stands, stands_next, own_site, form_of, stage_does}
-
--- the source's steps through statements, with their events
-pub data Goes (p : Program) (input : List ℤ) : List Stmt → List ℤ → List Event → List Stmt → List ℤ → Type 0 where
-  stays : {to_do : List Stmt} {cells : List ℤ} → Goes p input to_do cells [] to_do cells
-  goes : {x : Stmt} {rest : List Stmt} {cells : List ℤ} {v : WithLoads Effect} {events : List Event} {after : List Stmt} {then_cells : List ℤ} →
-      evaluated p input cells (out-Stmt x) ≡ Ok v → Goes p input (followed x rest (out-Stmt x) (value_of v.value)) (stored v.value cells) events after then_cells →
-      Goes p input (x ∷ rest) cells (event_of (out-Stmt x) v ∷ events) after then_cells
 
 -- the words of these events for stage t
 abbrev pub words_through : Program → Plan → ℕ → List Event → List Word
 words_through p plan t [] = []
 words_through p plan t (event ∷ rest) = words_for p plan t event ++ words_through p plan t rest
 
--- whether the region's condition was 0
+-- whether the region's condition was 0 or a break was taken
 abbrev pub closing_after : Program → Plan → Bool → List Event → Bool
 closing_after p plan closing [] = closing
-closing_after p plan closing (event ∷ rest) = closing_after p plan (closing || is_zero_at (first_site p plan) event.site (value_of event.effect)) rest
+closing_after p plan closing (event ∷ rest) = closing_after p plan (closing || closes_at (first_site p plan) event.site event.effect) rest
 
 -- A stage after these events: its words are theirs, and each of its steps added a word or took one.
 pub record Through (k : Epoch) (i s : ℕ) (to_do : List Stmt) (earlier : List Past) (events : List Event) (c : Turn) : Type 0 where
@@ -57,7 +51,7 @@ module _ {k : Epoch} (ok : Fit k) {i : ℕ} where
 
   -- A stage in step with the source stays so through events that agree with the plan.
   pub lockstep : (s : ℕ) → 0 < s → {to_do : List Stmt} {earlier : List Past} {cells : List ℤ} {events : List Event} {after : List Stmt} {then_cells : List ℤ} → Stands k i to_do earlier cells → Goes program input to_do cells events after then_cells →
-      all_agree program plan base i earlier events ≡ true → list_all (event_as_assumed plan) events ≡ true → (left : ℕ → List Word) (c : Turn) → length (c.own ++ words_through program plan s events) ≤ plan.words →
+      all_agree program plan base i earlier events ≡ true → list_all (event_as_assumed program plan) events ≡ true → (left : ℕ → List Word) (c : Turn) → length (c.own ++ words_through program plan s events) ≤ plan.words →
       InStep k i s to_do earlier c → Has k s events left c → Through k i s after earlier events c
   lockstep s real at stays agree told left c fits b has = record {
     turn = c;
@@ -71,7 +65,7 @@ module _ {k : Epoch} (ok : Fit k) {i : ℕ} where
   lockstep s real {earlier = earlier} at (goes {x = x} {rest = rest} {v = v} {events = more} e path) agree told left c fits b has =
       let event : Event = event_of (out-Stmt x) v in
       let agrees = and_parts (event_agrees program plan base i earlier event) (all_agree program plan base i (past_of i x v ∷ earlier) more) agree in
-      let goes_so = and_parts (event_as_assumed plan event) (list_all (event_as_assumed plan) more) told in
+      let goes_so = and_parts (event_as_assumed program plan event) (list_all (event_as_assumed program plan) more) told in
       let size_all : length (c.own ++ (words_for program plan s event ++ words_through program plan s more)) ≤ plan.words = fits in
       let both = ap length (append_assoc c.own (words_for program plan s event) (words_through program plan s more)) in
       let one : length (c.own ++ words_for program plan s event) ≤ plan.words = omega (arith, size_all, both, length-append (c.own ++ words_for program plan s event) (words_through program plan s more)) in

@@ -1,5 +1,6 @@
 -- What a stage sees when the next iteration starts.
-use Rattle.dp_semantics.proofs.Names.{◌≡◌, ◌⊎◌, inl, inr, refl, sym, ap, ◌∙◌, ℕ, suc, ◌<◌, ◌==◌, Bool, true, false, ◌||◌, if◌then◌else◌, List, [], ◌∷◌, ℤ, pos, length, get_or, nat_lt, slice_set, arith, lt-ltb, le-ltb, eq-eqb, ne_eqb, cases_eq, cases_lt, cases_Bool, both_ways, get_or-set_other, get_or_past, length-set, get_or-set_at, list_any, VarInfo, Program, Plan, Event, is_local_of, clear_locals, stage_of, is_replicated, Past, is_local_cell, is_local_at, is_covered, stored_in, pushed, Epoch, cleared, or_parts, and-false, and-true, or-false}
+use Rattle.dp_semantics.proofs.Names.{◌&&◌, or-true, ◌≡◌, ◌⊎◌, inl, inr, refl, sym, ap, ◌∙◌, ℕ, suc, ◌<◌, ◌==◌, Bool, true, false, ◌||◌, if◌then◌else◌, List, [], ◌∷◌, ℤ, pos, length, get_or, nat_lt, slice_set, arith, lt-ltb, le-ltb, eq-eqb, ne_eqb, cases_eq, cases_lt, cases_Bool, both_ways, get_or-set_other, get_or_past, length-set, get_or-set_at, list_any, VarInfo, Program, Plan, Event, is_local_of, clear_locals, stage_of, is_replicated, Past, is_local_cell, is_local_at, is_covered, stored_in, pushed, Epoch, cleared, or_parts, and-false, and-true, or-false}
+use Rattle.std.proofs.lemmas.List.{set-get_or}
 use Rattle.dp_semantics.proofs.Setting.{Each, each_map}
 use Rattle.dp_semantics.proofs.Stepping.{stored_none, seen_alike, seen_base, up_to, Sees}
 
@@ -55,7 +56,7 @@ clear-at r c (x ∷ xs) cells h = clear-at r c xs (one_cleared r x cells) (elim 
     by (inr e) (inl q) = inl (rw (ne_eqb x.first.0 c e) at q)
     by (inr e) (inr q) = inr (get_or-set_other cells x.first.0 c (pos 0) (pos 0) (λ f. e (sym f)) ∙ q)
 
-clear-other : (r c : ℕ) (vars : List VarInfo) (cells : List ℤ) → list_any (is_local_cell r c) vars ≡ false → get_or (clear_locals r vars cells) c (pos 0) ≡ get_or cells c (pos 0)
+pub clear-other : (r c : ℕ) (vars : List VarInfo) (cells : List ℤ) → list_any (is_local_cell r c) vars ≡ false → get_or (clear_locals r vars cells) c (pos 0) ≡ get_or cells c (pos 0)
 clear-other r c [] cells e = refl
 clear-other r c (x ∷ xs) cells e =
     let parts = or_parts (is_local_cell r c x) (list_any (is_local_cell r c) xs) e in
@@ -63,6 +64,20 @@ clear-other r c (x ∷ xs) cells e =
       | inl l ↦ rw l (get_or-set_other cells x.first.0 c (pos 0) (pos 0) (λ f. both_ways (x.first.0 == c) (rw l at parts.0) (eq-eqb x.first.0 c (sym f))))
       | inr l ↦ rw l
     ]
+
+-- where the body locals read 0, clearing them changes nothing
+pub clear-still : (r : ℕ) (vars : List VarInfo) (cells : List ℤ) → ((c : ℕ) → list_any (is_local_cell r c) vars ≡ true → get_or cells c (pos 0) ≡ pos 0) → clear_locals r vars cells ≡ cells
+clear-still r [] cells h = refl
+clear-still r (x ∷ xs) cells h = elim (cases_Bool (is_local_of r x.scope)) [
+  | inl l ↦
+      let zero_here : get_or cells x.first.0 (pos 0) ≡ pos 0 = h x.first.0 (ap (λ (b : Bool). (b && (x.first.0 == x.first.0)) || list_any (is_local_cell r x.first.0) xs) l ∙ ap (λ (b : Bool). b || list_any (is_local_cell r x.first.0) xs) (eq-eqb x.first.0 x.first.0 refl)) in
+      let same : slice_set cells x.first.0 (pos 0) ≡ cells = ap (slice_set cells x.first.0) (sym zero_here) ∙ set-get_or cells x.first.0 (pos 0) in
+      ap (λ (b : Bool). clear_locals r xs (if b then slice_set cells x.first.0 (pos 0) else cells)) l ∙ ap (clear_locals r xs) same ∙ clear-still r xs cells (λ c e. h c (later c e))
+  | inr l ↦ ap (λ (b : Bool). clear_locals r xs (if b then slice_set cells x.first.0 (pos 0) else cells)) l ∙ clear-still r xs cells (λ c e. h c (later c e))
+]
+  where
+    later : (c : ℕ) → list_any (is_local_cell r c) xs ≡ true → (is_local_cell r c x || list_any (is_local_cell r c) xs) ≡ true
+    later c e = ap (λ (b : Bool). is_local_cell r c x || b) e ∙ or-true (is_local_cell r c x)
 
 pub clear-length : (r : ℕ) (vars : List VarInfo) (cells : List ℤ) → length (clear_locals r vars cells) ≡ length cells
 clear-length r [] cells = refl

@@ -4,6 +4,7 @@ use Rattle.dp_tree.specs.declared.Stmt.TheVariants as tree
 use Rattle.dp_tree.specs.Inlined.{IsInlined}
 use Rattle.dp_tree.specs.Numbering.{site_numbers, site_numbers_all}
 use Rattle.dp_tree.specs.RegionLaws.{StandsOnce, in_range, is_site_of, is_other_site, keeps, keeps_in}
+use Rattle.dp_tree.proofs.Inner.{inner_hidden}
 use Rattle.dp_plan.specs.Written.{site_in}
 use Rattle.dp_semantics.specs.ValidPlan.{RegionsStandOnce}
 use Rattle.dp_semantics.proofs.Each.{Each, each_map, each_split, each_join}
@@ -11,7 +12,7 @@ use Rattle.dp_semantics.proofs.Heads.{accesses_all, accesses_at, accesses_out, a
 use Rattle.dp_semantics.proofs.Setting.{Split}
 use Rattle.dp_semantics.proofs.TextOrder.{Ascends, Between, ascends-numbers_from, ascends_split, ascends_between, each_of_map, sites_are}
 use Rattle.dp_plan.proofs.RegionOrder.{RegionAt, Sought, absent, present}
-use Rattle.dp_semantics.proofs.Regions.{all_alone, plain_free_in}
+use Rattle.dp_semantics.proofs.Regions.{all_alone, inner_free_in}
 use Rattle.dp_semantics.proofs.Fitting.{split_of}
 use Rattle.dp_semantics.proofs.ValidFits.{sought, between}
 
@@ -33,6 +34,7 @@ module _ (test : ℕ → Bool) (r : ℕ) where
     keeps_from (tree.Region' q site cond _ a) w h =
         let free = and_parts (not (q == r)) (is_free_in r a) w in
         and_from (test site.0) _ h.0 (and_from (not (q == r)) (keeps_in test r a) free.0 (keeps_from_in a free.1 h.1))
+    keeps_from (tree.Break site cond) w h = h.0
     keeps_from (tree.Call f line args) w h = refl
 
     keeps_from_in : {n : _} (row : Row_of-Stmt n) → is_free_in r row ≡ true → Each Passes (accesses_in row) → keeps_in test r row ≡ true
@@ -87,7 +89,7 @@ same_first k m (n ∷ ns) some a b = sym a.0 ∙ b.0
 
 module _ {p : Program} (inlined : IsInlined p) (r : ℕ) (entry : RegionInfo) (at : slice_get p.regions (r - 1) ≡ Some entry) (q : RegionAt r p.main entry) where
   split : Split r p.main q.statement
-  split = split_of p (record { region = r; words = 0; stages = []; stage_of = []; assume = []; checked_at = [] }) p.main q.statement q.only (all_alone r 1 p.main inlined.regions)
+  split = split_of p (record { region = r; words = 0; stages = []; stage_of = []; assume = []; proved = false; checked_at = [] }) p.main q.statement q.only (all_alone r 1 p.main inlined.regions)
 
   -- the numbers before the region, its own, and those behind it
   front : Front 1 split.front (q.statement ∷ split.tail)
@@ -141,8 +143,9 @@ module _ {p : Program} (inlined : IsInlined p) (r : ℕ) (entry : RegionInfo) (a
     behind = split.tail;
     main_is = split.main_is ∙ ap (λ (x : Stmt). split.front ++ x ∷ split.tail) q.made;
     condition = is_own q.site.0 own.0;
-    inside = keeps_from_all (is_site_of p r) r q.body (sym (free_hidden r q.body) ∙ plain_free_in r (hidden-the_row-Stmt-0 q.body) q.plain)
+    inside = keeps_from_all (is_site_of p r) r q.body (sym (free_hidden r q.body) ∙ inner_free_in r (hidden-the_row-Stmt-0 q.body) q.plain)
         (each_map Own (λ (u : Access). is_site_of p r u.site ≡ true) (λ u b. is_own u.site b) (accesses_all q.body) own.1);
+    inner = sym (inner_hidden q.body) ∙ q.plain;
     earlier = keeps_from_all (is_other_site p r) r split.front split.front_free
         (each_map (λ (u : Access). u.site < front.next) (λ (u : Access). is_other_site p r u.site ≡ true) (λ u b. is_other u.site (inl (omega (arith, b, begins)))) (accesses_all split.front) front.lower);
     later = keeps_from_all (is_other_site p r) r split.tail split.tail_free

@@ -1,5 +1,5 @@
 -- The source's steps through a text: they are determined, an iteration closes by its first event, and its stores lead to its last memory.
-use Rattle.dp_semantics.proofs.Names.{◌≡◌, refl, sym, ap, ◌∙◌, subst, ℕ, Bool, true, false, ◌&&◌, ◌||◌, if◌then◌else◌, List, [], ◌∷◌, ◌++◌, ℤ, map, Some, slice_get, Ok, eq-eqb, ne_eqb, append-nil, is_zero, Stmt, out-Stmt, outs-If, Stmt-F, If, Program, Plan, WithLoads, eval, Event, Effect, Decided, choose, followed, site_of, value_of, stored, evaluated, Access, accesses, first_site, decided_zero, is_zero_at, well_nested, effect_in, applied, and_parts, or-false}
+use Rattle.dp_semantics.proofs.Names.{list_any, is_leaving, leaves, closes, closes_at, ◌≡◌, refl, sym, ap, ◌∙◌, subst, ℕ, Bool, true, false, ◌&&◌, ◌||◌, if◌then◌else◌, List, [], ◌∷◌, ◌++◌, ℤ, map, Some, Ok, eq-eqb, ne_eqb, append-nil, is_zero, Stmt, out-Stmt, outs-If, Stmt-F, If, Program, Plan, WithLoads, eval, Event, Effect, Decided, choose, followed, site_of, value_of, stored, evaluated, Access, accesses, first_site, decided_zero, well_nested, effect_in, applied, and_parts, or-false}
 use Rattle.dp_tree.specs.declared.Stmt.TheVariants as tree
 use Rattle.dp_semantics.proofs.Setting.{Accepted, Each, each_split, head_access, accesses_all, all_well, accesses_out, well_at, well_out, followed_has, all_joins}
 use Rattle.dp_semantics.proofs.Whole.{turn_of, Goes, stays, goes, closing_after}
@@ -67,18 +67,23 @@ module _ {p : Program} {plan : Plan} (a : Accepted p plan) (input : List ℤ) wh
   abbrev Other : Access → Type 0
   Other u = u.site ≡ first_site p plan → ⊥
 
-  -- events at other sites than the region's condition don't close
-  closing_kept : (events : List Event) → Each (λ event. (u : Access) × (u.site ≡ event.site) × Other u) events → (closing : Bool) → closing_after p plan closing events ≡ closing
-  closing_kept [] other closing = refl
+  or_apart : (b c d : Bool) → ((b || c) || d) ≡ (b || (c || d))
+  or_apart true c d = refl
+  or_apart false c d = refl
+
+  -- events at other sites than the region's condition close where they leave
+  closing_kept : (events : List Event) → Each (λ event. (u : Access) × (u.site ≡ event.site) × Other u) events → (closing : Bool) → closing_after p plan closing events ≡ (closing || list_any is_leaving events)
+  closing_kept [] other closing = sym (or-false closing)
   closing_kept (event ∷ rest) other closing =
-      rw (ne_eqb event.site (first_site p plan) (λ e. other.0.2 (other.0.1 ∙ e)), or-false closing) (closing_kept rest other.1 closing)
+      ap (λ (b : Bool). closing_after p plan (closing || ((b && is_zero (value_of event.effect)) || leaves event.effect)) rest) (ne_eqb event.site (first_site p plan) (λ e. other.0.2 (other.0.1 ∙ e)))
+      ∙ closing_kept rest other.1 (closing || leaves event.effect) ∙ or_apart closing (leaves event.effect) (list_any is_leaving rest)
 
   zero_first : (v : WithLoads Effect) (z : ℤ) (site : ℕ) → v.value ≡ Decided z → is_zero (value_of v.value) ≡ decided_zero (Some (record { site = site; loads = v.loads; effect = v.value }))
   zero_first v z site d = ap (λ (f : Effect). is_zero (value_of f)) d ∙ sym (ap (λ (f : Effect). decided_zero (Some (record { site = site; loads = v.loads; effect = f }))) d)
 
-  -- An iteration closes where its first event is a condition of 0.
+  -- An iteration closes where its first event is a condition of 0 or a break is taken.
   pub closing_first : {to_do : List Stmt} {cells : List ℤ} {events : List Event} {after : List Stmt} {then_cells : List ℤ} → Goes p input to_do cells events after then_cells → to_do ≡ turn_of a →
-      closing_after p plan false events ≡ decided_zero (slice_get events 0)
+      closing_after p plan false events ≡ closes events
   closing_first stays is = refl
   closing_first (goes {x = x} {rest = rest} {cells = cells} {v = v} {events = more} {after = after} {then_cells = then_cells} e path) is =
       let here : x ≡ tree.If a.site a.cond a.body [] = cc in
@@ -88,9 +93,10 @@ module _ {p : Program} {plan : Plan} (a : Accepted p plan) (input : List ℤ) wh
       let next : followed x rest (out-Stmt x) (value_of v.value) ≡ choose (value_of v.value) a.body [] =
       ap (λ (h : Stmt-F Stmt). followed x rest h (value_of v.value)) head ∙ ap (λ (ys : List Stmt). choose (value_of v.value) a.body [] ++ ys) none ∙ append-nil (choose (value_of v.value) a.body []) in
       closing_kept more (events_at p plan Other (subst (λ (ys : List Stmt). Goes p input ys (stored v.value cells) more after then_cells) next path) (chosen_well (is_zero (value_of v.value))) (chosen_other (is_zero (value_of v.value))))
-      (false || is_zero_at (first_site p plan) (site_of (out-Stmt x)).0 (value_of v.value))
-      ∙ ap (λ (b : Bool). b && is_zero (value_of v.value)) (eq-eqb (site_of (out-Stmt x)).0 (first_site p plan) (ap (λ (h : Stmt-F Stmt). (site_of h).0) head ∙ sym a.first))
-      ∙ zero_first v d.0 (site_of (out-Stmt x)).0 d.1
+      (false || closes_at (first_site p plan) (site_of (out-Stmt x)).0 v.value)
+      ∙ ap (λ (b : Bool). (false || ((b && is_zero (value_of v.value)) || leaves v.value)) || list_any is_leaving more) (eq-eqb (site_of (out-Stmt x)).0 (first_site p plan) (ap (λ (h : Stmt-F Stmt). (site_of h).0) head ∙ sym a.first))
+      ∙ ap (λ (b : Bool). (false || (b || leaves v.value)) || list_any is_leaving more) (zero_first v d.0 (site_of (out-Stmt x)).0 d.1)
+      ∙ or_apart (decided_zero (Some (record { site = (site_of (out-Stmt x)).0; loads = v.loads; effect = v.value }))) (leaves v.value) (list_any is_leaving more)
     where
       chosen_well : (b : Bool) → all_well p plan (if b then [] else a.body) ≡ true
       chosen_well true = refl

@@ -1,9 +1,11 @@
 -- Where a run stands: before the region, in an iteration with the region's statement behind, or beyond it.
-use Rattle.dp_semantics.proofs.Names.{◌≡◌, refl, sym, ap, ◌∙◌, subst, ℕ, zero, suc, Bool, true, false, not, ◌==◌, if◌then◌else◌, List, [], ◌∷◌, ◌++◌, ℤ, length, both_ways, not-true, is_zero, Stmt, Row_of-Stmt, end_of-Stmt, more_of-Stmt, out-Stmt, Stmt-F, If, While, Region, Program, Plan, Config, Step, Stepped, followed, value_of, stored, standing, cleared_at, step, Run, run_of, is_region, stands_at_head, places, well_nested, well_nested_in, is_free, is_free_in, and_parts, and_from, followed-append, inl, inr, cases_Bool}
-pub use Rattle.dp_semantics.proofs.Runs.{first_place, is_step, run_step, step_on, step_off, run_first, PlaceAt, place_at, From, run_from, Leads, step_leads}
+use Rattle.dp_semantics.proofs.Names.{stored_by, taken, taken_left, behind_region, behind_one, region_number, ◌≡◌, refl, sym, ap, ◌∙◌, subst, ℕ, zero, suc, Bool, true, false, not, ◌==◌, if◌then◌else◌, List, [], ◌∷◌, ◌++◌, ℤ, length, both_ways, not-true, is_zero, Stmt, Row_of-Stmt, end_of-Stmt, more_of-Stmt, out-Stmt, Stmt-F, If, While, Region, Program, Plan, Config, Step, Stepped, followed, value_of, standing, cleared_at, step, Run, run_of, is_region, stands_at_head, places, well_nested, well_nested_in, is_free, is_free_in, and_parts, and_from, followed-append, inl, inr, cases_Bool}
+use Rattle.dp_tree.proofs.InMain.{stored_by_length}
+use Rattle.dp_tree.proofs.Heads.{left-append}
+use Rattle.dp_semantics.proofs.Followed.{left_has}
+pub use Rattle.dp_semantics.proofs.Runs.{leaves_taken, first_place, is_step, run_step, step_on, step_off, run_first, PlaceAt, place_at, From, run_from, Leads, step_leads}
 use Rattle.dp_tree.specs.declared.Stmt.TheVariants as tree
 use Rattle.dp_semantics.proofs.Setting.{size, Accepted, Each, each_map, all_free, free_at, free_out, all_well, Parts, followed_has, all_joins}
-use Rattle.dp_semantics.proofs.Stepping.{stored-length}
 use Rattle.dp_semantics.proofs.Whole.{clear-length}
 
 module _ (r : ℕ) where
@@ -55,7 +57,7 @@ module _ (p : Program) (input : List ℤ) (n : ℕ) (I : List Stmt → Type 0) (
       ((to_do : List Stmt) (cells : List ℤ) → I to_do → length cells ≡ n → Each At (run_of p input m (standing p to_do cells)).configs) → Each At (run_of p input (suc m) c).configs
   next_at x rest cells i long (Stepped event next) leads m c e here go =
       subst (λ (run : Run). Each At run.configs) (sym (run_step p input m c (Stepped event next) e))
-      (here, subst (λ (d : Config). Each At (run_of p input m d).configs) (sym leads.1) (go (followed x rest (out-Stmt x) (value_of leads.0.value)) (stored leads.0.value cells) (keeps x rest (value_of leads.0.value) i) (stored-length leads.0.value cells ∙ long)))
+      (here, subst (λ (d : Config). Each At (run_of p input m d).configs) (sym leads.1) (go (followed x rest (out-Stmt x) (value_of leads.0.value)) (stored_by p rest (out-Stmt x) leads.0.value cells) (keeps x rest (value_of leads.0.value) i) (stored_by_length p input rest (out-Stmt x) leads.0.value cells ∙ long)))
   next_at x rest cells i long s leads m c e here go = subst (λ (run : Run). Each At run.configs) (sym (run_step p input m c s e)) (here, tt)
 
   pub all_at : (m : ℕ) (to_do : List Stmt) (cells : List ℤ) → I to_do → length cells ≡ n → Each At (run_of p input m (standing p to_do cells)).configs
@@ -78,8 +80,18 @@ module _ {p : Program} {plan : Plan} (a : Accepted p plan) where
   abbrev r : ℕ
   r = plan.region
 
+  pub region_left : behind_region behind ≡ a.tail
+  region_left = ap (λ (h : Stmt-F Stmt). behind_one (region_number h) a.tail (behind_region a.tail)) a.is
+
   at_region : (z : ℤ) → Spot r behind (followed a.statement a.tail (out-Stmt a.statement) z)
   at_region z = elim (cases_Bool (is_zero z)) [ inl q ↦ rw (a.is, q) (beyond a.tail_free) | inr q ↦ rw (a.is, q) (before_it a.body refl (free_well_all p plan r a.body a.well)) ]
+
+  -- a break leaves the region, or another one before it
+  spot_left : (inner : List Stmt) → all_free r inner ≡ true → Spot r behind (behind_region (inner ++ behind))
+  spot_left inner w = elim (left-append inner behind) [
+    | inl e ↦ before_it (behind_region inner) e (left_has (λ xs. all_free r xs ≡ true) (all_joins (is_free r)) inner w)
+    | inr e ↦ subst (Spot r behind) (sym (e ∙ region_left)) (beyond a.tail_free)
+  ]
 
   pub spot_next : (x : Stmt) (rest : List Stmt) (z : ℤ) → Spot r behind (x ∷ rest) → Spot r behind (followed x rest (out-Stmt x) z)
   spot_next x rest z (beyond w) = beyond (free_next r x rest z w)
@@ -87,7 +99,10 @@ module _ {p : Program} {plan : Plan} (a : Accepted p plan) where
   spot_next x rest z (before_it (y ∷ inner) e w) =
       let here : y ≡ x = cc in
       let more : inner ++ behind ≡ rest = cc in
-      rw (← here, ← more) (before_it (followed y inner (out-Stmt y) z) (followed-append y inner behind (out-Stmt y) z) (free_next r y inner z w))
+      rw (← here, ← more) (elim (cases_Bool (taken (out-Stmt y) z)) [
+        | inl t ↦ subst (Spot r behind) (sym (taken_left y (inner ++ behind) (out-Stmt y) z t)) (spot_left inner (and_parts (is_free r y) (all_free r inner) w).1)
+        | inr t ↦ before_it (followed y inner (out-Stmt y) z) (followed-append y inner behind (out-Stmt y) z t) (free_next r y inner z w)
+      ])
 
   -- Each configuration of the run stands so.
   abbrev pub Spotted : List ℤ → Config → Type 0

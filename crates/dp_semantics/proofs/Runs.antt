@@ -1,5 +1,6 @@
 -- Runs step by step: from a configuration of a run the rest of it is a run of its own.
-use Rattle.dp_semantics.proofs.Names.{runs_by_step, ◌≡◌, refl, sym, ap, ◌∙◌, ℕ, zero, suc, ◌+◌, Bool, true, false, List, [], ◌∷◌, ◌++◌, ℤ, length, Some, slice_get, Ok, Err, arith, FaultAt, FaultKind, Stmt, out-Stmt, Stmt-F, Call, Program, WithLoads, Evaluated, Config, Event, Effect, Step, Finished, Faulted, Stepped, followed, site_of, value_of, stored, evaluated, standing, step_by, step_at, step, Run, run_of, run_by, places, inl, inr, cases_Bool}
+use Rattle.dp_semantics.proofs.Names.{after_effect, leaves, taken, runs_by_step, ◌≡◌, refl, sym, ap, ◌∙◌, ℕ, zero, suc, ◌+◌, Bool, true, false, List, [], ◌∷◌, ◌++◌, ℤ, length, Some, slice_get, Ok, Err, arith, FaultAt, FaultKind, Stmt, out-Stmt, Stmt-F, Call, Program, WithLoads, Evaluated, Config, Event, Effect, Step, Finished, Faulted, Stepped, site_of, value_of, evaluated, step_by, step_at, step, Run, run_of, run_by, places, inl, inr, cases_Bool}
+use Rattle.dp_tree.proofs.Heads.{stepped}
 use Rattle.dp_semantics.proofs.Stepping.{event_of}
 
 -- The i-th place of a list that passes a test, with what stands before and behind it.
@@ -52,36 +53,41 @@ module _ (p : Program) (input : List ℤ) where
   unfolding run_of
   run_step m c s e = ap (run_by (run_of p input m) (suc m) c) e
 
-  step_is : (x : Stmt) (rest : List Stmt) (cells : List ℤ) (h : Stmt-F Stmt) → is_step h ≡ true → step_at p input cells x rest h ≡ step_by p (site_of h) cells (evaluated p input cells h) (followed x rest h)
+  step_is : (x : Stmt) (rest : List Stmt) (cells : List ℤ) (h : Stmt-F Stmt) → is_step h ≡ true → step_at p input cells x rest h ≡ step_by p (site_of h) (evaluated p input cells h) (after_effect p x rest cells h)
   step_is x rest cells (Call f line args) s = absurd (cc)
   step_is x rest cells _ s = refl
 
   pub step_on : (x : Stmt) (rest : List Stmt) (cells : List ℤ) (v : WithLoads Effect) → is_step (out-Stmt x) ≡ true → evaluated p input cells (out-Stmt x) ≡ Ok v →
-      step p input (record { to_do = x ∷ rest; cells = cells }) ≡ Stepped (event_of (out-Stmt x) v) (standing p (followed x rest (out-Stmt x) (value_of v.value)) (stored v.value cells))
-  step_on x rest cells v s e = step_is x rest cells (out-Stmt x) s ∙ ap (λ (r : Evaluated Effect). step_by p (site_of (out-Stmt x)) cells r (followed x rest (out-Stmt x))) e
+      step p input (record { to_do = x ∷ rest; cells = cells }) ≡ Stepped (event_of (out-Stmt x) v) (after_effect p x rest cells (out-Stmt x) v.value)
+  step_on x rest cells v s e = step_is x rest cells (out-Stmt x) s ∙ ap (λ (r : Evaluated Effect). step_by p (site_of (out-Stmt x)) r (after_effect p x rest cells (out-Stmt x))) e
 
   pub step_off : (x : Stmt) (rest : List Stmt) (cells : List ℤ) (kind : FaultKind) → is_step (out-Stmt x) ≡ true → evaluated p input cells (out-Stmt x) ≡ Err kind →
       (fault : FaultAt) × (step p input (record { to_do = x ∷ rest; cells = cells }) ≡ Faulted fault)
-  step_off x rest cells kind s e = (_, step_is x rest cells (out-Stmt x) s ∙ ap (λ (r : Evaluated Effect). step_by p (site_of (out-Stmt x)) cells r (followed x rest (out-Stmt x))) e)
+  step_off x rest cells kind s e = (_, step_is x rest cells (out-Stmt x) s ∙ ap (λ (r : Evaluated Effect). step_by p (site_of (out-Stmt x)) r (after_effect p x rest cells (out-Stmt x))) e)
 
   -- a step leads to what follows the head, in the memory after its effect
   abbrev pub Leads : Stmt → List Stmt → List ℤ → Step → Type 0
   Leads x rest cells Finished = Unit {0}
   Leads x rest cells (Faulted fault) = Unit {0}
-  Leads x rest cells (Stepped event next) = (v : WithLoads Effect) × (next ≡ standing p (followed x rest (out-Stmt x) (value_of v.value)) (stored v.value cells)) × (event ≡ event_of (out-Stmt x) v)
+  Leads x rest cells (Stepped event next) = (v : WithLoads Effect) × (next ≡ after_effect p x rest cells (out-Stmt x) v.value) × (event ≡ event_of (out-Stmt x) v)
       × (is_step (out-Stmt x) ≡ true) × (evaluated p input cells (out-Stmt x) ≡ Ok v)
 
   pub step_leads : (x : Stmt) (rest : List Stmt) (cells : List ℤ) → Leads x rest cells (step p input (record { to_do = x ∷ rest; cells = cells }))
   step_leads x rest cells = by (out-Stmt x) refl
     where
-      made : (h : Stmt-F Stmt) → out-Stmt x ≡ h → is_step h ≡ true → (r : Evaluated Effect) → evaluated p input cells h ≡ r → Leads x rest cells (step_by p (site_of h) cells r (followed x rest h))
+      made : (h : Stmt-F Stmt) → out-Stmt x ≡ h → is_step h ≡ true → (r : Evaluated Effect) → evaluated p input cells h ≡ r → Leads x rest cells (step_by p (site_of h) r (after_effect p x rest cells h))
       made h e step (Ok v) gave =
-          (v, ap (λ (g : Stmt-F Stmt). standing p (followed x rest g (value_of v.value)) (stored v.value cells)) (sym e), ap (λ (g : Stmt-F Stmt). event_of g v) (sym e), ap is_step e ∙ step, ap (evaluated p input cells) e ∙ gave)
+          (v, ap (λ (g : Stmt-F Stmt). after_effect p x rest cells g v.value) (sym e), ap (λ (g : Stmt-F Stmt). event_of g v) (sym e), ap is_step e ∙ step, ap (evaluated p input cells) e ∙ gave)
       made h e step (Err kind) gave = tt
 
       by : (h : Stmt-F Stmt) → out-Stmt x ≡ h → Leads x rest cells (step_at p input cells x rest h)
       by (Call f line args) e = tt
       by h e = made h e refl (evaluated p input cells h) refl
+
+  -- a break leaves its region where it is taken
+  pub leaves_taken : (x : Stmt) (rest : List Stmt) (cells : List ℤ) (v : WithLoads Effect) → is_step (out-Stmt x) ≡ true → evaluated p input cells (out-Stmt x) ≡ Ok v → leaves v.value ≡ taken (out-Stmt x) (value_of v.value)
+  leaves_taken x rest cells v s e =
+      (stepped p input (record { to_do = x ∷ rest; cells = cells }) x rest (event_of (out-Stmt x) v) (after_effect p x rest cells (out-Stmt x) v.value) refl (step_on x rest cells v s e)).left
 
   -- The run from one of its configurations on.
   pub record From (m : ℕ) (c : Config) (front : List Config) (d : Config) (behind : List Config) : Type 0 where

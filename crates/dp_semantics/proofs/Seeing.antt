@@ -1,6 +1,7 @@
 -- What a stage sees: how a step changes it, and where it is what the stage after the last one sees, which is the source's memory.
-use Rattle.dp_semantics.proofs.Names.{◌≡◌, inl, inr, refl, sym, ap, ◌∙◌, ℕ, suc, ◌<◌, ◌==◌, Bool, true, false, not, ◌&&◌, ◌||◌, List, [], ◌∷◌, ℤ, pos, length, get_or, nat_lt, Option, None, unwrap_or, arith, ltb-false, lt-ltb, le-ltb, eq-eqb, ne_eqb, cases_eq, get_or-set_other, length-set, get_or-set_at, list_any, Program, Plan, Event, Effect, Stored, Printed, Decided, stored, Access, stage_of, is_replicated, is_body_local, stores_var, is_same_variable, region_accesses, is_stored_after, is_stored_beside, may_differ, Past, is_local_at, is_covered, stored_in, covered_value, seen, Epoch, last, or_parts, and-false, and-true, and_self, or-true}
-use Rattle.dp_semantics.proofs.Setting.{Fit, StoredBy, Known, Each, each_map, InVar}
+use Rattle.dp_semantics.proofs.Names.{is_apart, is_apart_between, and_from, comes_before, cases_Bool, subst, Tried, ◌≡◌, inl, inr, refl, sym, ap, ◌∙◌, ℕ, suc, ◌<◌, ◌==◌, Bool, true, false, not, ◌&&◌, ◌||◌, List, [], ◌∷◌, ℤ, pos, length, get_or, nat_lt, Option, None, unwrap_or, arith, ltb-false, lt-ltb, le-ltb, eq-eqb, eqb-true, and_parts, ne_eqb, cases_eq, get_or-set_other, length-set, get_or-set_at, list_any, Program, Plan, Event, Effect, Stored, Printed, Decided, stored, Access, stage_of, is_replicated, is_body_local, stores_var, is_same_variable, region_accesses, is_stored_after, is_stored_beside, may_differ, Past, is_local_at, is_covered, stored_in, covered_value, seen, Epoch, last, or_parts, and-false, and-true, and_self, or-true}
+use Rattle.dp_plan.specs.IsFar.{is_far, is_far_within}
+use Rattle.dp_semantics.proofs.Setting.{each_both, NotInto, Apart, Fit, StoredBy, Known, Each, each_map, InVar}
 
 -- What an effect stores into a cell.
 pub stored_none : (c : ℕ) (effect : Effect) → stored_in false c effect ≡ None
@@ -24,6 +25,7 @@ stored_read c _ cells h = refl
 pub stored-length : (effect : Effect) (cells : List ℤ) → length (stored effect cells) ≡ length cells
 stored-length (Printed value) cells = refl
 stored-length (Decided value) cells = refl
+stored-length (Tried value) cells = refl
 stored-length (Stored d value) cells = length-set cells d value
 
 module _ (p : Program) (plan : Plan) (base : List ℤ) where
@@ -73,19 +75,56 @@ Sees k s i earlier cells = (c : ℕ) → get_or cells c (pos 0) ≡ seen k.progr
 module _ {k : Epoch} (ok : Fit k) where
   open k use {program, plan, base}
 
-  -- Of a variable that needs no check a stage sees what the source has.
-  pub seen_same : (s i x c : ℕ) → InVar program x c → may_differ program plan s x ≡ false → (earlier : List Past) → Each (Known k) earlier →
+  forced : (b c : Bool) → (b && not c) ≡ false → b ≡ true → c ≡ true
+  forced true true e h = refl
+  forced true false e h = absurd (cc)
+  forced false c e h = absurd (cc)
+
+  -- a store beside is one of the stage itself
+  same_stage : (s x : ℕ) (a : Access) → is_stored_beside program plan s x a ≡ true → stage_of program plan a.site ≡ s
+  same_stage s x a e =
+      let one = and_parts (stores_var x a && is_replicated plan s && (stage_of program plan a.site == s)) (not (is_body_local program plan x)) e in
+      eqb-true (stage_of program plan a.site) s (and_parts (stores_var x a && is_replicated plan s) (stage_of program plan a.site == s) one.0).1
+
+  -- Of a variable that needs no check a stage sees what the source has, in a cell into which no site that lies apart stored.
+  pub seen_same : (s u i x c : ℕ) → InVar program x c → may_differ program plan s u x ≡ false → (earlier : List Past) → Each (Known k) earlier → Each (NotInto program plan.region u i c) earlier →
       seen program plan base s i earlier c ≡ seen program plan base (last plan) i earlier c
-  seen_same s i x c inside settled earlier known =
-      seen_alike program plan base s i (last plan) i c earlier (each_map (Known k) _ (λ past from. stored_alike c _ _ past.event.effect (λ value e. here past (from c value e))) earlier known)
+  seen_same s u i x c inside settled earlier known apart =
+      seen_alike program plan base s i (last plan) i c earlier (each_map (λ past. Known k past × NotInto program plan.region u i c past) _
+      (λ past from. stored_alike c _ _ past.event.effect (λ value e. here past (from.0 c value e) (λ lies. from.1 lies value e))) earlier (each_both (Known k) (NotInto program plan.region u i c) earlier known apart))
     where
-      here : (past : Past) → StoredBy k past.event.site c → is_covered program plan s i (stage_of program plan past.event.site) past.iteration c ≡ is_covered program plan (last plan) i (stage_of program plan past.event.site) past.iteration c
-      here past by =
-          let same : x ≡ by.variable = ok.accepted.laid.apart x by.variable c inside by.inside in
-          let differs = or_parts (list_any (is_stored_after program plan s x) (region_accesses program plan)) (list_any (is_stored_beside program plan s x) (region_accesses program plan)) settled in
-          covered_same program plan s i (stage_of program plan past.event.site) past.iteration c x by.access
-          (ap (is_same_variable x) by.stores ∙ eq-eqb x by.variable same) (ap (stage_of program plan) by.at) by.early
-          (ok.accepted.laid.local x c inside) (by.listed (is_stored_after program plan s x) differs.0) (by.listed (is_stored_beside program plan s x) differs.1)
+      here : (past : Past) → StoredBy k past.event.site c → (Apart program plan.region u i past → ⊥) → is_covered program plan s i (stage_of program plan past.event.site) past.iteration c ≡ is_covered program plan (last plan) i (stage_of program plan past.event.site) past.iteration c
+      here past by never = elim (cases_Bool (is_stored_after program plan s x by.access)) [
+        | inl after ↦
+            let both = and_parts (is_apart_between program plan u by.access.site) (is_far_within program plan.region by.access.site u || comes_before program plan.region u by.access.site) (forced (is_stored_after program plan s x by.access) (is_apart program plan u by.access.site) not_after after) in
+            let far = and_parts plan.proved (is_far program plan.region by.access.site u) both.0 in
+            absurd (never (record { far = ap (λ (d : ℕ). is_far program plan.region d u) (sym by.at) ∙ far.1; within = λ e. ap (λ (d : ℕ). is_far_within program plan.region d u || comes_before program plan.region u d) (sym by.at) ∙ both.1 }))
+        | inr none ↦ elim (cases_Bool (is_stored_beside program plan s x by.access)) [
+          | inl beside ↦
+              let far = and_parts plan.proved (is_far program plan.region by.access.site u) (forced (is_stored_beside program plan s x by.access) (is_apart_between program plan u by.access.site) not_beside beside) in
+              elim (cases_eq past.iteration i) [
+                | inl now ↦
+                    let stage : stage_of program plan past.event.site ≡ s = ap (stage_of program plan) (sym by.at) ∙ same_stage s x by.access beside in
+                    subst (λ (j : ℕ). is_covered program plan s i (stage_of program plan past.event.site) j c ≡ is_covered program plan (last plan) i (stage_of program plan past.event.site) j c) (sym now)
+                    (now_covered program plan s i (stage_of program plan past.event.site) c (omega (arith, stage)) ∙ sym (now_covered program plan (last plan) i (stage_of program plan past.event.site) c (omega (arith, by.early))))
+                | inr other ↦ absurd (never (record { far = ap (λ (d : ℕ). is_far program plan.region d u) (sym by.at) ∙ far.1; within = λ e. absurd (other e) }))
+              ]
+          | inr neither ↦
+              let same : x ≡ by.variable = ok.accepted.laid.apart x by.variable c inside by.inside in
+              covered_same program plan s i (stage_of program plan past.event.site) past.iteration c x by.access
+              (ap (is_same_variable x) by.stores ∙ eq-eqb x by.variable same) (ap (stage_of program plan) by.at) by.early
+              (ok.accepted.laid.local x c inside) none neither
+        ]
+      ]
+        where
+          differs : (list_any (λ (d : Access). is_stored_after program plan s x d && not (is_apart program plan u d.site)) (region_accesses program plan) ≡ false) × (list_any (λ (d : Access). is_stored_beside program plan s x d && not (is_apart_between program plan u d.site)) (region_accesses program plan) ≡ false)
+          differs = or_parts _ _ settled
+
+          not_after : (is_stored_after program plan s x by.access && not (is_apart program plan u by.access.site)) ≡ false
+          not_after = by.listed (λ (d : Access). is_stored_after program plan s x d && not (is_apart program plan u d.site)) differs.0
+
+          not_beside : (is_stored_beside program plan s x by.access && not (is_apart_between program plan u by.access.site)) ≡ false
+          not_beside = by.listed (λ (d : Access). is_stored_beside program plan s x d && not (is_apart_between program plan u d.site)) differs.1
 
 module _ (k : Epoch) (s i : ℕ) (earlier : List Past) (cells : List ℤ) (event : Event) where
   open k use {program, plan, base}

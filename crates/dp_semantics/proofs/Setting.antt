@@ -1,8 +1,11 @@
 -- What the proof assumes of a program and a plan, and what it knows of the source's stores.
-use Rattle.dp_semantics.proofs.Names.{◌≡◌, ℕ, suc, ◌<◌, Bool, true, false, List, [], ◌∷◌, ◌++◌, ℤ, length, Some, list_any, SiteId, Expr, Stmt, out-Stmt, Stmt-F, Region, Program, Plan, cell_count, Stored, start_cells, Access, stage_of, first_site, is_replicated, is_body_local, region_statement, region_accesses, Past, is_local_at, Epoch, last, or_parts}
+use Rattle.dp_semantics.proofs.Names.{◌≡◌, ℕ, suc, ◌<◌, Bool, true, false, List, [], ◌∷◌, ◌++◌, ℤ, length, Some, list_any, SiteId, Expr, Stmt, out-Stmt, Stmt-F, Region, Program, Plan, cell_count, Stored, start_cells, Access, stage_of, pos, get_or, Ok, Load, WithLoads, Effect, evaluated, site_of, stores_var, first_site, is_replicated, is_body_local, region_statement, region_accesses, Past, is_local_at, Epoch, last, or_parts}
 pub use Rattle.dp_semantics.proofs.Each.{Each, each_both, each_map, each_split, all_of, each_join, none_of, all_make, none_make}
 pub use Rattle.dp_semantics.proofs.Evaluation.{head_stores, InVar, Form, Holds, Readable, IsHeld, head_loads, Tracked, evaluated_tracks, Roomy}
 pub use Rattle.dp_semantics.proofs.Heads.{accesses_all, all_well, well_at, project_at, project_out, head_access, inside, accesses_at, accesses_out, well_out, if_rule, all_free, free_at, free_out, well_hidden}
+pub use Rattle.dp_semantics.proofs.Ways.{Goes, stays, goes, event_of, Before, fresh_start, went_on, Here, here_next, Apart}
+use Rattle.dp_tree.specs.declared.Stmt.TheVariants as tree
+use Rattle.dp_plan.specs.IsFar.{is_far}
 pub use Rattle.dp_semantics.proofs.Integers.{int_same, int_eq-self}
 pub use Rattle.dp_semantics.proofs.Followed.{Joins, Parts, followed_has, all_joins}
 
@@ -65,9 +68,31 @@ pub record Accepted (p : Program) (plan : Plan) : Type 0 where
   pub sequential : is_replicated plan 1 ≡ false
   pub apart : (s : ℕ) → is_replicated plan (suc s) ≡ true → is_replicated plan s ≡ false
 
+-- one iteration as a statement
+abbrev pub turn_of : {p : Program} {plan : Plan} → Accepted p plan → List Stmt
+turn_of a = tree.If a.site a.cond a.body [] ∷ []
+
+-- no site that stores variable y is far from site u
+abbrev pub Clear : Program → Plan → ℕ → ℕ → Type 0
+Clear p plan u y = (d : Access) → Listed (region_accesses p plan) d → stores_var y d ≡ true → is_far p plan.region d.site u ≡ false
+
+-- the past event isn't a store into cell c, where its site lies apart
+abbrev pub NotInto : Program → ℕ → ℕ → ℕ → ℕ → Past → Type 0
+NotInto p r u i c past = Apart p r u i past → (value : ℤ) → past.event.effect ≡ Stored c value → ⊥
+
+-- in this memory the clear variables that the site loads are as in the source's
+abbrev pub ClearSame : Program → Plan → List ℤ → List ℤ → Stmt-F Stmt → Type 0
+ClearSame p plan one cells h = Each (λ y. Clear p plan (site_of h).0 y → (c : ℕ) → InVar p y c → get_or one c (pos 0) ≡ get_or cells c (pos 0)) (head_loads h)
+
+-- What a site loads is no cell that a site that lies apart from it stored.
+abbrev pub NeverMet : (p : Program) (plan : Plan) → Accepted p plan → List ℤ → Type 0
+NeverMet p plan a input = (i : ℕ) (x : Stmt) (rest : List Stmt) (earlier : List Past) (cells : List ℤ) → Here p input plan.region (turn_of a) i (x ∷ rest) earlier cells → (one : List ℤ) (w : WithLoads Effect) → evaluated p input one (out-Stmt x) ≡ Ok w →
+    ClearSame p plan one cells (out-Stmt x) → Each (λ (l : Load). Each (NotInto p plan.region (site_of (out-Stmt x)).0 i l.cell) earlier) w.loads
+
 -- an epoch of such a program and plan
 pub record Fit (k : Epoch) : Type 0 where
   pub accepted : Accepted k.program k.plan
+  pub met : NeverMet k.program k.plan accepted k.input
 
 -- a store into cell c at a site of the region: it is one of the region's accesses, to the variable that has the cell
 pub record StoredBy (k : Epoch) (site c : ℕ) : Type 0 where

@@ -1,10 +1,10 @@
 -- One step of the source against one step, or none, of a stage: it stays in step, and its words are the event's.
-use Rattle.dp_semantics.proofs.Names.{◌≡◌, inl, inr, refl, sym, ap, ◌∙◌, subst, ℕ, suc, ◌+◌, ◌-◌, ◌<◌, ◌≤◌, true, ◌||◌, if◌then◌else◌, List, [], ◌∷◌, ◌++◌, ℤ, length, length-append, get_or, sum_by, slice_set, Ok, arith, eq-eqb, ne_eqb, le-leb, append-nil, length-set, sum_by-set, cases_eq, cases_order, Word, SiteId, Stmt, out-Stmt, roll-Stmt, out-roll-Stmt, Stmt-F, If, While, Program, Plan, WithLoads, Event, Effect, followed, site_of, value_of, evaluated, stage_of, first_site, is_checked, Past, as_assumed, project, project_all, Taken, words_of, done_word, effect_by, taken_from, load_words, word_list, Turn, is_zero_at, turned, stage_at, consumed, words_left, turn_step, turn_from, Epoch, or-false}
+use Rattle.dp_semantics.proofs.Names.{closes_at, and_parts, well_nested, ◌≡◌, inl, inr, refl, sym, ap, ◌∙◌, subst, ℕ, suc, ◌+◌, ◌-◌, ◌<◌, ◌≤◌, true, ◌||◌, if◌then◌else◌, List, [], ◌∷◌, ◌++◌, ℤ, length, length-append, get_or, sum_by, slice_set, Ok, arith, eq-eqb, ne_eqb, le-leb, append-nil, length-set, sum_by-set, cases_eq, cases_order, Word, SiteId, Stmt, out-Stmt, roll-Stmt, out-roll-Stmt, Stmt-F, If, While, Program, Plan, WithLoads, Event, Effect, followed, site_of, value_of, evaluated, stage_of, first_site, is_checked, Past, as_assumed, project, project_all, Taken, words_of, done_word, effect_by, taken_from, load_words, word_list, Turn, turned, stage_at, consumed, words_left, turn_step, turn_from, Epoch, or-false}
 pub use Rattle.dp_semantics.proofs.Taking.{words_for, words_here, event_passes, words_elsewhere, event_held, word_list_is, word_list_same, word_list_other, effect_of_word, taken_event}
 pub use Rattle.dp_semantics.proofs.Source.{event_of, past_of, stage_for, Stands, stands_next, own_site, form_of, stage_does, own_loads, Gives, source_does, event_sees, well_parts, each_joins, each_parts, head_fact, head_well, store_within}
 pub use Rattle.dp_semantics.proofs.Seeing.{stored_none, seen_alike, seen_base, up_to, Sees, stored-length, sees_later, sees_stored}
-pub use Rattle.dp_semantics.proofs.Projected.{reached, assumed_of, proj_head, stays_there, kept_followed, unseen}
-use Rattle.dp_semantics.proofs.Setting.{size, Fit, Form, project_out}
+pub use Rattle.dp_semantics.proofs.Projected.{reached, assumed_of, late_stays, proj_head, stays_there, kept_followed, unseen}
+use Rattle.dp_semantics.proofs.Setting.{size, Fit, Form, project_out, all_well}
 
 -- stage s stands in iteration i where the source has `to_do` to do after the earlier events
 pub record InStep (k : Epoch) (i s : ℕ) (to_do : List Stmt) (earlier : List Past) (c : Turn) : Type 0 where
@@ -16,7 +16,7 @@ pub record InStep (k : Epoch) (i s : ℕ) (to_do : List Stmt) (earlier : List Pa
 -- from one turn to another by so many steps for an event: each step adds a word or takes one
 pub record Moved (k : Epoch) (s steps : ℕ) (event : Event) (c d : Turn) : Type 0 where
   pub own : d.own ≡ c.own ++ words_for k.program k.plan s event
-  pub closing : d.closing ≡ (c.closing || is_zero_at (first_site k.program k.plan) event.site (value_of event.effect))
+  pub closing : d.closing ≡ (c.closing || closes_at (first_site k.program k.plan) event.site event.effect)
   pub lists : (t : ℕ) → 0 < t → t < s → word_list c.lists t ≡ words_for k.program k.plan t event ++ word_list d.lists t
   pub paid : steps + length c.own + sum_by length d.lists ≤ length d.own + sum_by length c.lists
 
@@ -90,14 +90,14 @@ module _ {k : Epoch} (ok : Fit k) {i : ℕ} {x : Stmt} {rest : List Stmt} {earli
       stands_on : (v : WithLoads Effect) → Form program (out-Stmt x) v.value → (own : List Word) (lists : List (List Word)) → s ≤ suc (length lists) →
           InStep k i s (after v) (past_of i x v ∷ earlier) (turned program plan c staying onward here v.value own lists)
       stands_on v form own lists wide = record {
-        to_do_is = kept_followed program plan s x staying rest (out-Stmt x) (value_of v.value) (head_well ok at) stays;
+        to_do_is = kept_followed program plan s x staying rest (out-Stmt x) (value_of v.value) (head_well ok at) (and_parts (well_nested program plan x) (all_well program plan rest) at.well).1 stays;
         sees = sees_stored k s i earlier c.cells (event_of (out-Stmt x) v) (omega (arith, early)) (λ cell value e. subst (λ (n : ℕ). cell < n) (sym b.size_is) (store_within ok at v form cell value e)) b.sees;
         size_is = stored-length v.value c.cells ∙ b.size_is;
         wide = wide;
       }
 
-      closes : (v : WithLoads Effect) → (c.closing || is_zero_at (first_site program plan) (site_of here).0 (value_of v.value)) ≡ (c.closing || is_zero_at (first_site program plan) (site_of (out-Stmt x)).0 (value_of v.value))
-      closes v = ap (λ (n : SiteId). c.closing || is_zero_at (first_site program plan) n.0 (value_of v.value)) site_same
+      closes : (v : WithLoads Effect) → (c.closing || closes_at (first_site program plan) (site_of here).0 v.value) ≡ (c.closing || closes_at (first_site program plan) (site_of (out-Stmt x)).0 v.value)
+      closes v = ap (λ (n : SiteId). c.closing || closes_at (first_site program plan) n.0 v.value) site_same
 
     -- At its own site the stage adds the event's words.
     own_step_made : (v : WithLoads Effect) (at_s : stage_for k x ≡ s) → Gives k c.cells x v → length (c.own ++ words_for program plan s (event_of (out-Stmt x) v)) ≤ plan.words →
@@ -169,7 +169,7 @@ module _ {k : Epoch} (ok : Fit k) {i : ℕ} {x : Stmt} {rest : List Stmt} {earli
       }
 
     -- A later stage's site isn't in the stage's text.
-    later_advance : (v : WithLoads Effect) → s < stage_for k x → 0 < s → Form program (out-Stmt x) v.value → as_assumed plan (site_of (out-Stmt x)).0 v.value ≡ true →
+    later_advance : (v : WithLoads Effect) → s < stage_for k x → 0 < s → Form program (out-Stmt x) v.value → as_assumed program plan (site_of (out-Stmt x)).0 v.value ≡ true →
         Advanced k i s (after v) (past_of i x v ∷ earlier) (event_of (out-Stmt x) v) c
     later_advance v late real form told = record {
       turn = c;
@@ -177,7 +177,7 @@ module _ {k : Epoch} (ok : Fit k) {i : ℕ} {x : Stmt} {rest : List Stmt} {earli
       few = omega arith;
       runs = λ m n e. let same : m ≡ n = omega (arith, e) in ap (λ (u : ℕ). turn_from program plan input s u c) same;
       in_step = record {
-        to_do_is = b.to_do_is ∙ unseen program plan s x rest (out-Stmt x) v.value (head_well ok at) (project_out program plan s x) late form (assumed_of plan (site_of (out-Stmt x)).0 v.value told);
+        to_do_is = b.to_do_is ∙ unseen program plan s x rest (out-Stmt x) v.value (head_well ok at) (project_out program plan s x) late form (assumed_of program plan (site_of (out-Stmt x)).0 v.value told) real;
         sees = sees_later k s i earlier c.cells (event_of (out-Stmt x) v) late b.sees;
         size_is = b.size_is;
         wide = b.wide;
@@ -187,6 +187,7 @@ module _ {k : Epoch} (ok : Fit k) {i : ℕ} {x : Stmt} {rest : List Stmt} {earli
         closing = rw (
           ne_eqb (site_of (out-Stmt x)).0 (first_site program plan)
               (λ e. let one : stage_for k x ≡ 1 = ap (stage_of program plan) e ∙ ok.accepted.staged in omega (arith, one, late, real)),
+          late_stays program plan (site_of (out-Stmt x)).0 v.value (omega (arith, late, real)) (assumed_of program plan (site_of (out-Stmt x)).0 v.value told).1,
           or-false c.closing,
         );
         lists = λ t low high. sym (ap (λ ws. ws ++ word_list c.lists t) (words_elsewhere program plan t (event_of (out-Stmt x) v) (λ e. omega (arith, e, late, high))));
@@ -195,7 +196,7 @@ module _ {k : Epoch} (ok : Fit k) {i : ℕ} {x : Stmt} {rest : List Stmt} {earli
     }
 
     -- A stage goes on in step where its own evaluation is the source's and fits, or else the words stand at the front.
-    pub advance : (v : WithLoads Effect) → 0 < s → Form program (out-Stmt x) v.value → as_assumed plan (site_of (out-Stmt x)).0 v.value ≡ true → (stage_for k x ≡ s → Gives k c.cells x v) →
+    pub advance : (v : WithLoads Effect) → 0 < s → Form program (out-Stmt x) v.value → as_assumed program plan (site_of (out-Stmt x)).0 v.value ≡ true → (stage_for k x ≡ s → Gives k c.cells x v) →
         length (c.own ++ words_for program plan s (event_of (out-Stmt x) v)) ≤ plan.words → (more : List Word) →
         (stage_for k x < s → word_list c.lists (stage_for k x) ≡ words_of program plan (event_of (out-Stmt x) v) ++ more) → Advanced k i s (after v) (past_of i x v ∷ earlier) (event_of (out-Stmt x) v) c
     advance v real form told gave fits more front = elim (cases_order (stage_for k x) s) [

@@ -1,5 +1,5 @@
 -- The words of an event at the front of a list: what is taken for them, and what is left.
-use Rattle.dp_semantics.proofs.Names.{◌≡◌, refl, sym, ap, ◌∙◌, append_assoc, ℕ, zero, suc, ◌+◌, ◌-◌, ◌<◌, Bool, true, false, ◌&&◌, if◌then◌else◌, List, [], ◌∷◌, ◌++◌, ℤ, pos, length, get_or, Option, Some, None, unwrap_or, slice_get, slice_set, nat_le, nat_lt, ◌==◌, arith, eq-eqb, ne_eqb, le-leb, lt-ltb, Ok, unwrap_or-slice_get, get_or-set_other, get_or-set_at, Word, Stmt, Stmt-F, Assign, Store, Print, If, While, Region, Program, Plan, Load, first_cell, cell_count, Event, Effect, Stored, Printed, Decided, site_of, stage_of, is_checked, int_eq, load_word, load_words, done_word, words_of, is_load_of, after_loads_of, is_cell_of, effect_by, taken_from, words_in, word_list, loads_hold, and_parts, and_from, inl, inr, cases_Bool}
+use Rattle.dp_semantics.proofs.Names.{Break, Tried, ◌≡◌, refl, sym, ap, ◌∙◌, append_assoc, ℕ, zero, suc, ◌+◌, ◌-◌, ◌<◌, Bool, true, false, ◌&&◌, if◌then◌else◌, List, [], ◌∷◌, ◌++◌, ℤ, pos, length, get_or, Option, Some, None, unwrap_or, slice_get, slice_set, nat_le, nat_lt, ◌==◌, arith, eq-eqb, ne_eqb, le-leb, lt-ltb, Ok, unwrap_or-slice_get, get_or-set_other, get_or-set_at, Word, Stmt, Stmt-F, Assign, Store, Print, If, While, Region, Program, Plan, Load, first_cell, cell_count, Event, Effect, Stored, Printed, Decided, site_of, stage_of, is_checked, int_eq, load_word, load_words, done_word, words_of, is_load_of, after_loads_of, is_cell_of, effect_by, taken_from, words_in, word_list, loads_hold, and_parts, and_from, inl, inr, cases_Bool}
 use Rattle.dp_semantics.proofs.Setting.{InVar, Form, Holds, int_same, int_eq-self}
 
 -- Lists of stages, from 1.
@@ -70,6 +70,7 @@ effect_of_word p (Print s e) site (Printed value) f = refl
 effect_of_word p (If s cond a b) site (Decided value) f = refl
 effect_of_word p (While s cond a) site (Decided value) f = refl
 effect_of_word p (Region r s cond a) site (Decided value) f = refl
+effect_of_word p (Break s cond) site (Tried value) f = refl
 effect_of_word p _ site effect f = absurd f
 
 module _ (p : Program) (plan : Plan) (event : Event) (rest : List Word) where

@@ -1,10 +1,11 @@
 -- One iteration from the region's condition on: to where the next one starts, to its closing, or to where the run ends in it.
-use Rattle.dp_semantics.proofs.Names.{◌≡◌, ◌⊎◌, inl, inr, refl, ap, ◌∙◌, subst, ℕ, zero, suc, ◌+◌, ◌≤◌, Bool, true, false, if◌then◌else◌, List, [], ◌∷◌, ◌++◌, ℤ, length, Option, Some, None, slice_get, Ok, Err, arith, eq-eqb, append-nil, is_zero, FaultKind, Stmt, out-Stmt, outs-If, Stmt-F, If, Program, Plan, WithLoads, Evaluated, eval, Config, Event, Effect, Decided, Faulted, Stepped, choose, followed, value_of, stored, decided, evaluated, standing, cleared_at, clear_locals, step, Run, run_of, extended, is_region, stands_at_head, places, decided_zero, cases_Bool}
+use Rattle.dp_semantics.proofs.Names.{◌||◌, take, list_any, or_parts, closes, is_leaving, leaves, last_events, upto_leaving, after_effect, cleared_leaving, region_number, sym, ◌≡◌, ◌⊎◌, inl, inr, refl, ap, ◌∙◌, subst, ℕ, zero, suc, ◌+◌, ◌≤◌, Bool, true, false, if◌then◌else◌, List, [], ◌∷◌, ◌++◌, ℤ, length, Option, Some, None, slice_get, Ok, Err, arith, eq-eqb, append-nil, is_zero, FaultKind, Stmt, out-Stmt, outs-If, Stmt-F, If, Program, Plan, WithLoads, Evaluated, eval, Config, Event, Effect, Decided, Faulted, Stepped, choose, value_of, stored, decided, evaluated, standing, cleared_at, clear_locals, step, Run, run_of, extended, is_region, stands_at_head, places, decided_zero, cases_Bool}
 use Rattle.dp_tree.specs.declared.Stmt.TheVariants as tree
+use Rattle.dp_tree.specs.Step.{clear_one}
 use Rattle.dp_semantics.proofs.Setting.{Accepted}
-use Rattle.dp_semantics.proofs.Whole.{turn_of, Goes, stays, goes}
-use Rattle.dp_semantics.proofs.Placed.{behind, never, is_step, run_step, run_first, first_place, step_on, step_off}
-use Rattle.dp_semantics.proofs.Walks.{Stuck, Walk, walk}
+use Rattle.dp_semantics.proofs.Whole.{turn_of, clear-at, clear-still, Goes, stays, goes}
+use Rattle.dp_semantics.proofs.Placed.{behind, region_left, never, is_step, run_step, run_first, first_place, step_on, step_off}
+use Rattle.dp_semantics.proofs.Walks.{Ends, through, away, halted, Walk, walk}
 use Rattle.dp_semantics.proofs.Stepping.{event_of}
 
 pub decided_is : (u : Evaluated ℤ) (v : WithLoads Effect) → decided u ≡ Ok v → (z : ℤ) × (v.value ≡ Decided z)
@@ -26,11 +27,12 @@ module _ {p : Program} {plan : Plan} (a : Accepted p plan) (input : List ℤ) wh
   abbrev pub next_start : ℕ → ℕ → List ℤ → Option ℕ
   next_start n m cells = slice_get (places (stands_at_head plan.region) n (run_at m cells).configs) 1
 
-  -- how an iteration comes out
+  -- how an iteration comes out: the next one starts, the region is left, or the run ends in it
   pub data Outcome (m : ℕ) (cells : List ℤ) (events : List Event) (after : List Stmt) (then_cells : List ℤ) (more : List Event) : Type 0 where
-    onward : after ≡ [] → ((n : ℕ) → next_start n m cells ≡ Some (n + length events)) → slice_get (run_at m cells).configs (length events) ≡ Some (start_at then_cells) → length events ≤ m → Outcome m cells events after then_cells more
-    closed : after ≡ [] → ((n : ℕ) → next_start n m cells ≡ None) → decided_zero (slice_get events 0) ≡ true → length events ≡ 1 → length events ≤ m → Outcome m cells events after then_cells more
-    broken : (x : Stmt) (rest : List Stmt) → after ≡ x ∷ rest → ((n : ℕ) → next_start n m cells ≡ None) → more ≡ [] → decided_zero (slice_get events 0) ≡ false →
+    onward : after ≡ [] → ((n : ℕ) → next_start n m cells ≡ Some (n + length events)) → slice_get (run_at m cells).configs (length events) ≡ Some (start_at then_cells) → closes events ≡ false → length events ≤ m → Outcome m cells events after then_cells more
+    closed : after ≡ [] → ((n : ℕ) → next_start n m cells ≡ None) → closes events ≡ true → last_events (events ++ more) ≡ events → slice_get (run_at m cells).configs (length events) ≡ Some (standing p a.tail (clear then_cells)) → length events ≤ m →
+        Outcome m cells events after then_cells more
+    broken : (x : Stmt) (rest : List Stmt) → after ≡ x ∷ rest → ((n : ℕ) → next_start n m cells ≡ None) → more ≡ [] → closes events ≡ false → last_events events ≡ events →
         (m ≡ length events) ⊎ ((kind : FaultKind) × (evaluated p input then_cells (out-Stmt x) ≡ Err kind)) → Outcome m cells events after then_cells more
 
   pub record Turned (m : ℕ) (cells : List ℤ) : Type 0 where
@@ -80,7 +82,7 @@ module _ {p : Program} {plan : Plan} (a : Accepted p plan) (input : List ℤ) wh
     more = [];
     path = stays;
     trace_is = t;
-    outcome = broken (tree.If a.site a.cond a.body []) [] refl (λ n. ap (λ (cs : List Config). slice_get (places (stands_at_head plan.region) n cs) 1) c ∙ starts_first n cells []) refl refl (by why);
+    outcome = broken (tree.If a.site a.cond a.body []) [] refl (λ n. ap (λ (cs : List Config). slice_get (places (stands_at_head plan.region) n cs) 1) c ∙ starts_first n cells []) refl refl refl (by why);
   }
     where
       by : (m ≡ 0) ⊎ ((kind : FaultKind) × (condition cells ≡ Err kind)) → (m ≡ 0) ⊎ ((kind : FaultKind) × (evaluated p input (clear cells) (out-Stmt (tree.If a.site a.cond a.body [])) ≡ Err kind))
@@ -99,7 +101,7 @@ module _ {p : Program} {plan : Plan} (a : Accepted p plan) (input : List ℤ) wh
     whole : run_at (suc m) cells ≡ extended (suc m) (start_at cells) (event_at v) (rest_from (choose z (a.body ++ behind a) a.tail))
     whole = run_step p input m (start_at cells) (Stepped (event_at v) (standing p (choose z (a.body ++ behind a) a.tail) (clear cells)))
         (ap (step p input) (standing_is cells) ∙ step_on p input a.statement a.tail (clear cells) v is_call_free (ap (evaluated p input (clear cells)) a.is ∙ e)
-        ∙ ap (λ (h : Stmt-F Stmt). Stepped (event_of h v) (standing p (followed a.statement a.tail h (value_of v.value)) (stored v.value (clear cells)))) a.is
+        ∙ ap (λ (h : Stmt-F Stmt). Stepped (event_of h v) (after_effect p a.statement a.tail (clear cells) h v.value)) a.is
         ∙ ap (λ (f : Effect). Stepped (event_at v) (standing p (choose (value_of f) (a.body ++ behind a) a.tail) (stored f (clear cells)))) d)
 
     trace_whole : (run_at (suc m) cells).trace ≡ event_at v ∷ (rest_from (choose z (a.body ++ behind a) a.tail)).trace
@@ -111,8 +113,16 @@ module _ {p : Program} {plan : Plan} (a : Accepted p plan) (input : List ℤ) wh
     zero_is : (b : Bool) → is_zero z ≡ b → decided_zero (Some (event_at v)) ≡ b
     zero_is b q = ap (λ (f : Effect). decided_zero (Some (record { site = a.site.0; loads = v.loads; effect = f }))) d ∙ q
 
-    closes : is_zero z ≡ true → Turned (suc m) cells
-    closes q = record {
+    -- the condition leaves nothing by itself
+    stays_first : leaves v.value ≡ false
+    stays_first = ap leaves d
+
+    -- no store is made, and the locals are cleared already
+    cleared_twice : clear (clear cells) ≡ clear cells
+    cleared_twice = clear-still plan.region p.vars (clear cells) (λ c local. clear-at plan.region c p.vars cells (inl local))
+
+    closing_here : is_zero z ≡ true → Turned (suc m) cells
+    closing_here q = record {
       events = event_at v ∷ [];
       after = [];
       then_cells = clear cells;
@@ -120,15 +130,33 @@ module _ {p : Program} {plan : Plan} (a : Accepted p plan) (input : List ℤ) wh
       path = turn_goes (clear cells) v z [] [] (clear cells) e d (rw q stays);
       trace_is = trace_whole;
       outcome = closed refl (λ n. next_whole n ∙ ap (λ (b : Bool). slice_get (places (stands_at_head plan.region) (suc n) (rest_from (if b then a.tail else a.body ++ behind a)).configs) 0) q
-          ∙ ap (λ (ks : List ℕ). slice_get ks 0) (never p input plan.region m (suc n) a.tail (clear cells) a.tail_free)) (zero_is true q) refl (omega arith);
+          ∙ ap (λ (ks : List ℕ). slice_get ks 0) (never p input plan.region m (suc n) a.tail (clear cells) a.tail_free))
+          (ap (λ (b : Bool). b || (leaves v.value || false)) (zero_is true q))
+          (ap (λ (b : Bool). if b then take 1 (event_at v ∷ (rest_from (choose z (a.body ++ behind a) a.tail)).trace) else upto_leaving (event_at v ∷ (rest_from (choose z (a.body ++ behind a) a.tail)).trace)) (zero_is true q))
+          (ap (λ (run : Run). slice_get run.configs 1) whole ∙ ap (λ (b : Bool). slice_get (rest_from (if b then a.tail else a.body ++ behind a)).configs 0) q ∙ run_first p input m (standing p a.tail (clear cells))
+          ∙ ap (λ (held : List ℤ). Some (standing p a.tail held)) (sym cleared_twice)) (omega arith);
     }
+
+    -- the events of an iteration that goes on
+    upto_more : (events more : List Event) → list_any is_leaving events ≡ false → upto_leaving (events ++ more) ≡ events ++ upto_leaving more
+    upto_more [] more h = refl
+    upto_more (event ∷ events) more h =
+        let both = or_parts (leaves event.effect) (list_any is_leaving events) h in
+        ap (λ (b : Bool). event ∷ (if b then [] else upto_leaving (events ++ more))) both.0 ∙ ap (λ (es : List Event). event ∷ es) (upto_more events more both.1)
+
+    -- after the condition that wasn't 0 those of the body follow
+    last_of : (es : List Event) → is_zero z ≡ false → last_events (event_at v ∷ es) ≡ event_at v ∷ upto_leaving es
+    last_of es q = ap (λ (b : Bool). if b then take 1 (event_at v ∷ es) else upto_leaving (event_at v ∷ es)) (zero_is false q) ∙ ap (λ (b : Bool). event_at v ∷ (if b then [] else upto_leaving es)) stays_first
+
+    closes_as : (events : List Event) (b : Bool) → is_zero z ≡ false → list_any is_leaving events ≡ b → closes (event_at v ∷ events) ≡ b
+    closes_as events b q h = ap (λ (u : Bool). u || (leaves v.value || list_any is_leaving events)) (zero_is false q) ∙ ap (λ (u : Bool). u || list_any is_leaving events) stays_first ∙ h
 
     goes_on : is_zero z ≡ false → Walk p plan input (behind a) m a.body (clear cells) → Turned (suc m) cells
     goes_on q w = record {
       events = event_at v ∷ w.events;
       after = w.after;
       then_cells = w.then_cells;
-      more = (run_of p input w.left (standing p (w.after ++ behind a) w.then_cells)).trace;
+      more = (run_of p input w.left w.stands).trace;
       path = turn_goes (clear cells) v z w.events w.after w.then_cells e d (rw (q, append-nil a.body) w.path);
       trace_is = trace_whole ∙ ap (λ (es : List Event). event_at v ∷ es) (ap (λ (run : Run). run.trace) opened ∙ w.trace_is);
       outcome = by w.ending;
@@ -137,10 +165,10 @@ module _ {p : Program} {plan : Plan} (a : Accepted p plan) (input : List ℤ) wh
         opened : rest_from (choose z (a.body ++ behind a) a.tail) ≡ rest_from (a.body ++ behind a)
         opened = ap (λ (b : Bool). rest_from (if b then a.tail else a.body ++ behind a)) q
 
-        next : (n : ℕ) → next_start n (suc m) cells ≡ slice_get (places (stands_at_head plan.region) (suc n + length w.events) (run_of p input w.left (standing p (w.after ++ behind a) w.then_cells)).configs) 0
+        next : (n : ℕ) → next_start n (suc m) cells ≡ slice_get (places (stands_at_head plan.region) (suc n + length w.events) (run_of p input w.left w.stands).configs) 0
         next n = next_whole n ∙ ap (λ (run : Run). slice_get (places (stands_at_head plan.region) (suc n) run.configs) 0) opened ∙ ap (λ (ks : List ℕ). slice_get ks 0) (w.starts_are (suc n))
 
-        config : slice_get (run_at (suc m) cells).configs (suc (length w.events)) ≡ Some (standing p (w.after ++ behind a) w.then_cells)
+        config : slice_get (run_at (suc m) cells).configs (suc (length w.events)) ≡ Some w.stands
         config = ap (λ (run : Run). slice_get run.configs (suc (length w.events))) whole ∙ ap (λ (run : Run). slice_get run.configs (length w.events)) opened ∙ w.config_is
 
         moved : (n : ℕ) → Some (suc n + length w.events) ≡ Some (n + suc (length w.events))
@@ -150,16 +178,33 @@ module _ {p : Program} {plan : Plan} (a : Accepted p plan) (input : List ℤ) wh
         later (inl l) = inl (omega (arith, l, w.steps_are))
         later (inr l) = inr l
 
-        by : (w.after ≡ []) ⊎ Stuck p plan input (behind a) w.left w.after w.then_cells → Outcome (suc m) cells (event_at v ∷ w.events) w.after w.then_cells (run_of p input w.left (standing p (w.after ++ behind a) w.then_cells)).trace
-        by (inl end) = onward end
-            (λ n. next n ∙ ap (λ (to_do : List Stmt). slice_get (places (stands_at_head plan.region) (suc n + length w.events) (run_of p input w.left (standing p (to_do ++ behind a) w.then_cells)).configs) 0) end
-            ∙ starts_at_once (suc n + length w.events) w.left w.then_cells ∙ moved n)
-            (config ∙ ap (λ (to_do : List Stmt). Some (standing p (to_do ++ behind a) w.then_cells)) end) (omega (arith, w.steps_are))
-        by (inr s) = broken s.x s.rest s.after_is (λ n. next n ∙ ap (λ (ks : List ℕ). slice_get ks 0) (s.no_start (suc n + length w.events))) s.no_trace (zero_is false q) (later s.why)
+        room : suc (length w.events) ≤ suc m
+        room = omega (arith, w.steps_are)
+
+        leaving_cells : cleared_leaving p (behind a) w.then_cells ≡ clear w.then_cells
+        leaving_cells = ap (λ (h : Stmt-F Stmt). clear_one p (region_number h) w.then_cells (cleared_leaving p a.tail w.then_cells)) a.is
+
+        by : Ends p plan input (behind a) w.left w.events w.after w.then_cells w.stands → Outcome (suc m) cells (event_at v ∷ w.events) w.after w.then_cells (run_of p input w.left w.stands).trace
+        by (through end stands none) = onward end
+            (λ n. next n ∙ ap (λ (c : Config). slice_get (places (stands_at_head plan.region) (suc n + length w.events) (run_of p input w.left c).configs) 0) stands ∙ starts_at_once (suc n + length w.events) w.left w.then_cells ∙ moved n)
+            (config ∙ ap (λ (c : Config). Some c) stands) (closes_as w.events false q none) room
+        by (away end stands some upto) =
+            let there : w.stands ≡ standing p a.tail (clear w.then_cells) = stands ∙ ap (λ (to_do : List Stmt). standing p to_do (cleared_leaving p (behind a) w.then_cells)) (region_left a) ∙ ap (standing p a.tail) leaving_cells in
+            closed end
+            (λ n. next n ∙ ap (λ (c : Config). slice_get (places (stands_at_head plan.region) (suc n + length w.events) (run_of p input w.left c).configs) 0) there
+            ∙ ap (λ (ks : List ℕ). slice_get ks 0) (never p input plan.region w.left (suc n + length w.events) a.tail (clear w.then_cells) a.tail_free))
+            (closes_as w.events true q some) (last_of (w.events ++ (run_of p input w.left w.stands).trace) q ∙ ap (λ (es : List Event). event_at v ∷ es) (upto (run_of p input w.left w.stands).trace))
+            (config ∙ ap (λ (c : Config). Some c) there) room
+        by (halted s stands none) =
+            let no_trace : (run_of p input w.left w.stands).trace ≡ [] = ap (λ (c : Config). (run_of p input w.left c).trace) stands ∙ s.no_trace in
+            broken s.x s.rest s.after_is
+            (λ n. next n ∙ ap (λ (c : Config). slice_get (places (stands_at_head plan.region) (suc n + length w.events) (run_of p input w.left c).configs) 0) stands ∙ ap (λ (ks : List ℕ). slice_get ks 0) (s.no_start (suc n + length w.events)))
+            no_trace (closes_as w.events false q none)
+            (last_of w.events q ∙ ap (λ (es : List Event). event_at v ∷ es) (ap upto_leaving (sym (append-nil w.events)) ∙ upto_more w.events [] none ∙ append-nil w.events)) (later s.why)
 
   by_value : (m : ℕ) (cells : List ℤ) (u : Evaluated Effect) → condition cells ≡ u → Turned (suc m) cells
   by_value m cells (Ok v) e = let d = decided_is (eval p input (clear cells) a.cond) v e in elim (cases_Bool (is_zero d.0)) [
-    | inl q ↦ closes m cells v d.0 e d.1 q
+    | inl q ↦ closing_here m cells v d.0 e d.1 q
     | inr q ↦ goes_on m cells v d.0 e d.1 q (walk p plan input (behind a) m a.body (clear cells) a.well)
   ]
   by_value m cells (Err kind) e =

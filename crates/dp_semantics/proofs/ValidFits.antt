@@ -19,7 +19,7 @@ use Rattle.dp_semantics.proofs.TextOrder.{Ascends, Between, ascends-numbers_from
 use Rattle.dp_plan.proofs.RegionOrder.{RegionAt, Sought, absent, present, find_region}
 use Rattle.dp_semantics.proofs.Regions.{all_alone}
 use Rattle.dp_semantics.proofs.Unbroken.{all_listed, no_foreign, condition_first, sequential_first, none_beside, whiles_in_time, ifs_in_time, stage_listed, stage_unlisted, first_kind, kinds_differ}
-use Rattle.dp_semantics.proofs.WellNested.{Within, sites_within, ifs_at, InTime, Ruled, well_by_in}
+use Rattle.dp_semantics.proofs.WellNested.{Within, sites_within, ifs_at, InTime, Ruled, well_inner_in}
 use Rattle.dp_semantics.proofs.PlanStages.{same_stage, in_time, ruled}
 use Rattle.dp_semantics.proofs.Setting.{each_both, Each, each_map, none_of, all_of, all_make, accesses_all, accesses_at, accesses_out, well_hidden}
 
@@ -33,7 +33,7 @@ scoped r (Body q) one e = by (q == r)
     by true = e
     by false = refl
 
-laid : (r k : ℕ) (vars : List VarInfo) → layout.lies_in_order k vars ≡ true → lies_in_order r k vars ≡ true
+pub laid : (r k : ℕ) (vars : List VarInfo) → layout.lies_in_order k vars ≡ true → lies_in_order r k vars ≡ true
 laid r k [] e = refl
 laid r k (x ∷ rest) e =
     let both = and_parts ((x.first.0 == k) && has_cells x) (layout.lies_in_order (k + x.length) rest) e in
@@ -41,28 +41,28 @@ laid r k (x ∷ rest) e =
     let some = and_parts (nat_lt 0 x.length) (is_global_scope x.scope || (x.length == 1)) here.1 in
     and_from _ _ (and_from _ _ here.0 (and_from _ _ some.0 (scoped r x.scope (x.length == 1) some.1))) (laid r (k + x.length) rest both.1)
 
-cells_at : (k x : ℕ) (vars : List VarInfo) → layout.lies_in_order k vars ≡ true → x < length vars → nat_lt 0 (length_of (slice_get vars x)) ≡ true
+pub cells_at : (k x : ℕ) (vars : List VarInfo) → layout.lies_in_order k vars ≡ true → x < length vars → nat_lt 0 (length_of (slice_get vars x)) ≡ true
 cells_at k x [] e low = absurd (omega (arith, low))
 cells_at k zero (v ∷ rest) e low =
     let both = and_parts ((v.first.0 == k) && has_cells v) (layout.lies_in_order (k + v.length) rest) e in
     (and_parts (nat_lt 0 v.length) _ (and_parts (v.first.0 == k) (has_cells v) both.0).1).0
 cells_at k (suc x) (v ∷ rest) e low = cells_at (k + v.length) x rest (and_parts ((v.first.0 == k) && has_cells v) (layout.lies_in_order (k + v.length) rest) e).1 (omega (arith, low))
 
-kept : {X : Type 0} (P : X → Type 0) (test : X → Bool) (xs : List X) → Each P xs → Each P (filter test xs)
+pub kept : {X : Type 0} (P : X → Type 0) (test : X → Bool) (xs : List X) → Each P xs → Each P (filter test xs)
 kept P test [] h = tt
 kept P test (x ∷ xs) h = elim (cases_Bool (test x)) [ inl t ↦ rw t (h.0, kept P test xs h.1) | inr t ↦ rw t (kept P test xs h.1) ]
 
 -- what is inside a region's statement
 module _ (r : ℕ) (site : SiteId) (cond : Expr) (body : List Stmt) where
-  call_made : has_call (tree.Region r site cond body) ≡ has_call_in (hidden-the_row-Stmt-0 body)
+  pub call_made : has_call (tree.Region r site cond body) ≡ has_call_in (hidden-the_row-Stmt-0 body)
   unfolding opened_statement
   call_made = refl
 
-  ifs_made : ifs (tree.Region r site cond body) ≡ ifs_in (hidden-the_row-Stmt-0 body)
+  pub ifs_made : ifs (tree.Region r site cond body) ≡ ifs_in (hidden-the_row-Stmt-0 body)
   unfolding opened_statement
   ifs_made = refl
 
-  whiles_made : inner_whiles (tree.Region r site cond body) ≡ inner_whiles_in (hidden-the_row-Stmt-0 body)
+  pub whiles_made : inner_whiles (tree.Region r site cond body) ≡ inner_whiles_in (hidden-the_row-Stmt-0 body)
   unfolding opened_statement
   whiles_made = refl
 
@@ -93,9 +93,9 @@ regions_alone p inlined r low high = by (sought inlined r)
     by (absent none out) = absurd (out (omega (arith, low)) (omega (arith, high)))
     by (present entry from at q least most) = alone inlined r entry at q
 
-module _ {p : Program} (inlined : IsInlined p) (w : WrittenPlan) (written : WrittenAs p w (plan_of p w)) where
+module _ {p : Program} (inlined : IsInlined p) (v : Bool) (w : WrittenPlan) (written : WrittenAs p w (plan_of p v w)) where
   abbrev plan : Plan
-  plan = plan_of p w
+  plan = plan_of p v w
 
   abbrev valid : first_broken p w ≡ None
   valid = written.valid
@@ -191,7 +191,7 @@ module _ {p : Program} (inlined : IsInlined p) (w : WrittenPlan) (written : Writ
         (subst (λ (es : List Enclosing). Each (λ e. is_late_unassumed w e ≡ false) es) ifs_are (ifs_in_time p w valid))))
 
     well : list_all (well_nested p plan) q.body ≡ true
-    well = sym (well_hidden p plan q.body) ∙ well_by_in p plan (hidden-the_row-Stmt-0 q.body) q.plain bare whiles told
+    well = sym (well_hidden p plan q.body) ∙ well_inner_in p plan (hidden-the_row-Stmt-0 q.body) q.plain bare whiles told
 
     one : one_region p plan (region_in p w.region) ≡ true
     one = ap (one_region p plan) q.only ∙ ap (region_fits p plan) q.is
@@ -218,4 +218,4 @@ module _ {p : Program} (inlined : IsInlined p) (w : WrittenPlan) (written : Writ
 
 pub valid_fits : (p : Program) (q : Plan) → IsInlined p → ValidPlanFits p q
 valid_fits p q inlined w written =
-    subst (λ (u : Plan). fits_plan p u ≡ true) (sym written.plan_is) (fits_here inlined w (subst (λ (u : Plan). WrittenAs p w u) written.plan_is written))
+    subst (λ (u : Plan). fits_plan p u ≡ true) (sym written.plan_is) (fits_here inlined q.proved w (subst (λ (u : Plan). WrittenAs p w u) written.plan_is written))

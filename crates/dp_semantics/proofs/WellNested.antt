@@ -3,7 +3,7 @@ use Rattle.dp_semantics.proofs.Names.{◌≡◌, refl, sym, ap, ◌∙◌, ℕ, 
 use Rattle.dp_tree.specs.declared.Expr.TheVariants as expr
 use Rattle.dp_tree.specs.declared.Stmt.TheVariants as tree
 use Rattle.dp_tree.specs.Inlined.{expr_within, has_call, has_call_in, rows_within, stmt_within}
-use Rattle.dp_tree.specs.Numbering.{is_plain, is_plain_in}
+use Rattle.dp_tree.specs.Numbering.{is_inner, is_inner_in, is_plain, is_plain_in}
 use Rattle.dp_plan.specs.declared.conditions.Enclosing.{Enclosing}
 use Rattle.dp_plan.specs.Enclosing.{ifs, ifs_in, inner_whiles, inner_whiles_in}
 use Rattle.dp_plan.specs.Written.{site_in}
@@ -45,6 +45,7 @@ mutual
       let parts = and_parts _ _ both.1 in ((loads_within n cond both.0, none_within n), each_join (Within n) _ _ (sites_within_in n a parts.0) (sites_within_in n b parts.1))
   sites_within n (tree.While' site cond _ a) w = let both = and_parts _ _ w in ((loads_within n cond both.0, none_within n), sites_within_in n a both.1)
   sites_within n (tree.Region' r site cond _ a) w = let both = and_parts _ _ w in ((loads_within n cond both.0, none_within n), sites_within_in n a both.1)
+  sites_within n (tree.Break site cond) w = ((loads_within n cond w, none_within n), tt)
   sites_within n (tree.Call f line args) w = tt
 
   sites_within_in : {m : _} (n : ℕ) (row : Row_of-Stmt m) → rows_within n row ≡ true → Each (Within n) (accesses_in row)
@@ -99,7 +100,7 @@ module _ (p : Program) (plan : Plan) where
     well_by (tree.Call f line args) plain none whiles told = absurd (cc)
     well_by _ plain none whiles told = refl
 
-    pub well_by_in : {n : _} (row : Row_of-Stmt n) → is_plain_in row ≡ true → has_call_in row ≡ false → Each InTime (inner_whiles_in row) → Each Ruled (ifs_in row) → well_nested_in p plan row ≡ true
+    well_by_in : {n : _} (row : Row_of-Stmt n) → is_plain_in row ≡ true → has_call_in row ≡ false → Each InTime (inner_whiles_in row) → Each Ruled (ifs_in row) → well_nested_in p plan row ≡ true
     well_by_in end_of-Stmt plain none whiles told = refl
     well_by_in (more_of-Stmt x rest) plain none whiles told =
         let bare = and_parts _ _ plain in
@@ -107,3 +108,23 @@ module _ (p : Program) (plan : Plan) where
         let both = each_split InTime (inner_whiles x) (inner_whiles_in rest) whiles in
         let ruled = each_split Ruled (ifs x) (ifs_in rest) told in
         and_from _ _ (well_by x bare.0 calls.0 both.0 ruled.0) (well_by_in rest bare.1 calls.1 both.1 ruled.1)
+
+  -- So are statements of a region's body.
+  well_inner : (x : Stmt) → is_inner x ≡ true → has_call x ≡ false → Each InTime (inner_whiles x) → Each Ruled (ifs x) → well_nested p plan x ≡ true
+  well_inner (tree.Break site cond) inner none whiles told = refl
+  well_inner (tree.Assign site v e) inner none whiles told = refl
+  well_inner (tree.Store site v index e) inner none whiles told = refl
+  well_inner (tree.Print site e) inner none whiles told = refl
+  well_inner (tree.If' site cond l a m b) inner none whiles told = well_by (tree.If' site cond l a m b) inner none whiles told
+  well_inner (tree.While' site cond l a) inner none whiles told = well_by (tree.While' site cond l a) inner none whiles told
+  well_inner (tree.Region' r site cond l a) inner none whiles told = absurd (cc)
+  well_inner (tree.Call f line args) inner none whiles told = absurd (cc)
+
+  pub well_inner_in : {n : _} (row : Row_of-Stmt n) → is_inner_in row ≡ true → has_call_in row ≡ false → Each InTime (inner_whiles_in row) → Each Ruled (ifs_in row) → well_nested_in p plan row ≡ true
+  well_inner_in end_of-Stmt inner none whiles told = refl
+  well_inner_in (more_of-Stmt x rest) inner none whiles told =
+      let bare = and_parts _ _ inner in
+      let calls = or_parts _ _ none in
+      let both = each_split InTime (inner_whiles x) (inner_whiles_in rest) whiles in
+      let ruled = each_split Ruled (ifs x) (ifs_in rest) told in
+      and_from _ _ (well_inner x bare.0 calls.0 both.0 ruled.0) (well_inner_in rest bare.1 calls.1 both.1 ruled.1)

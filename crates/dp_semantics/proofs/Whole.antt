@@ -1,16 +1,13 @@
 -- A whole iteration: the turns of the stages, and the judgement on their words.
 use Rattle.dp_semantics.proofs.Names.{◌≡◌, refl, sym, ap, ◌∙◌, subst, ℕ, suc, ◌+◌, ◌-◌, ◌<◌, ◌≤◌, Bool, true, false, ◌&&◌, List, [], ◌∷◌, ◌++◌, ℤ, length, map, nat_le, arith, sum_by, le-leb, is_some, Ok, append-nil, list_all, Word, Stmt, outs-If, Region, Program, Plan, Event, Access, stage_of, region_statement, Past, all_agree, event_as_assumed, pushed, assumed_in, project_all, word_list, Turn, TurnEnd, Ended, turn_at, turn_from, turn_begin, stage_run, Epoch, Agreed, Clean, judge_lists, last, none_earlier, well_nested, effect_in, and_from, or-true}
-pub use Rattle.dp_semantics.proofs.Memory.{AllBefore, pushed_before, before_later, Cleared, sees_next, sees_replicated, clear-length, clear-at}
+pub use Rattle.dp_semantics.proofs.Memory.{AllBefore, pushed_before, before_later, Cleared, sees_next, sees_replicated, clear-length, clear-at, clear-other, clear-still}
 pub use Rattle.dp_semantics.proofs.Lockstep.{words_through, closing_after, stands_after, Goes, stays, goes, lockstep, Through}
 use Rattle.dp_tree.specs.declared.Stmt.TheVariants as tree
-use Rattle.dp_semantics.proofs.Setting.{size, Sound, Accepted, Fit, Known, Each, each_map, each_join, all_make, accesses_all, all_well, accesses_at, accesses_out, well_at, well_out, if_rule, project_at, project_out}
+pub use Rattle.dp_semantics.proofs.Setting.{turn_of}
+use Rattle.dp_semantics.proofs.Setting.{Before, size, Sound, Accepted, Fit, Known, Each, each_map, each_join, all_make, accesses_all, all_well, accesses_at, accesses_out, well_at, well_out, if_rule, project_at, project_out}
 use Rattle.dp_semantics.proofs.Stepping.{InStep, reached, Sees, Stands}
 use Rattle.dp_semantics.proofs.Judging.{judge_lockstep, judge_ends, JudgedThrough}
 use Rattle.dp_semantics.proofs.Backward.{AllRunning, Agreeing, judge_back}
-
--- one iteration as a statement
-abbrev pub turn_of : {p : Program} {plan : Plan} → Accepted p plan → List Stmt
-turn_of a = tree.If a.site a.cond a.body [] ∷ []
 
 module _ {p : Program} {plan : Plan} (a : Accepted p plan) where
   abbrev region_head : Rattle.dp_tree.specs.declared.Stmt.TheOpen.Stmt-F Stmt
@@ -60,8 +57,16 @@ module _ {k : Epoch} (ok : Fit k) (i : ℕ) (earlier : List Past) where
   text = turn_of ok.accepted
 
   -- the source stands at the iteration's start
-  pub stands_at_start : (cells : List ℤ) → Each (Known k) earlier → Sees k (last plan) i earlier cells → length cells ≡ size program → Stands k i text earlier cells
-  stands_at_start cells known sees size_is = record { well = turn_well ok.accepted; sound = turn_sound ok.accepted; known = known; sees = sees; size_is = size_is }
+  pub stands_at_start : (cells : List ℤ) → Each (Known k) earlier → Sees k (last plan) i earlier cells → length cells ≡ size program → Before program input plan.region text i earlier cells → Stands k i text earlier cells
+  stands_at_start cells known sees size_is chain = record {
+    well = turn_well ok.accepted;
+    sound = turn_sound ok.accepted;
+    known = known;
+    sees = sees;
+    size_is = size_is;
+    fit = ok;
+    here = record { started = cells; done = []; before = earlier; chain = chain; path = stays; earlier_is = refl; size_is = size_is };
+  }
 
   -- a stage's memory where the iteration starts
   pub record Fresh (s : ℕ) (cells : List ℤ) : Type 0 where
@@ -76,7 +81,7 @@ module _ {k : Epoch} (ok : Fit k) (i : ℕ) (earlier : List Past) where
     pub then_cells : List ℤ
     pub path : Goes program input text cells events [] then_cells
     pub agree : all_agree program plan base i earlier events ≡ true
-    pub told : list_all (event_as_assumed plan) events ≡ true
+    pub told : list_all (event_as_assumed program plan) events ≡ true
     pub fits : (s : ℕ) → 0 < s → s < last plan → length (words_through program plan s events) ≤ plan.words
 
   -- The turn of a stage in such an iteration: its words, its memory, and whether it closes.

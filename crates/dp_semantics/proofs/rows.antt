@@ -1,3 +1,5 @@
+mod Breaks
+mod Far
 mod Recovered
 mod Causes
 mod Turns

@@ -9,7 +9,8 @@ use Rattle.dp_tree.specs.Eval.{Load}
 use Rattle.dp_tree.specs.Step.{Event}
 use Rattle.dp_tree.specs.Trace.{Run}
 use Rattle.dp_tree.specs.Iteration.{iteration, memory_after}
-use Rattle.dp_plan.specs.Access.{stage_of, is_checked}
+use Rattle.dp_plan.specs.Access.{stage_of}
+use Rattle.dp_plan.specs.Checked.{is_checked}
 use Rattle.dp_semantics.specs.Seen.{Past, seen}
 use Rattle.dp_semantics.specs.Clean.{int_eq, event_as_assumed, word_count, events_since}
 use Rattle.dp_semantics.specs.Recovery.{epoch}
@@ -43,8 +44,8 @@ checked_load_cause p plan base i earlier event =
     if is_checked p plan event.site then load_cause p plan base i earlier event.site event.loads else None
 
 -- the event goes otherwise than assumed
-abbrev pub assumption_cause : Plan → Event → Option Cause
-assumption_cause plan event = if event_as_assumed plan event then None else Some (ByAssumption event.site)
+abbrev pub assumption_cause : Program → Plan → Event → Option Cause
+assumption_cause p plan event = if event_as_assumed p plan event then None else Some (ByAssumption event.site)
 
 -- the event brings its stage above the plan's words; `done` are the iteration's events before it
 abbrev pub words_cause : Program → Plan → List Event → Event → Option Cause
@@ -55,7 +56,7 @@ words_cause p plan done event =
 -- at one event the loads come first, then the assumption, then the words
 abbrev pub event_cause : Program → Plan → List ℤ → ℕ → List Past → List Event → Event → Option Cause
 event_cause p plan base i earlier done event =
-    or_else (checked_load_cause p plan base i earlier event) (or_else (assumption_cause plan event) (words_cause p plan done event))
+    or_else (checked_load_cause p plan base i earlier event) (or_else (assumption_cause p plan event) (words_cause p plan done event))
 
 -- the first event of iteration i that fails
 abbrev pub first_cause : Program → Plan → List ℤ → ℕ → List Past → List Event → List Event → Option Cause

@@ -6,15 +6,13 @@ use Rattle.dp_tree.specs.declared.Program.{Program}
 use Rattle.dp_tree.specs.declared.Assume.{Assume}
 use Rattle.dp_plan.specs.declared.Plan.{Plan}
 use Rattle.dp_tree.specs.Eval.{Load}
-use Rattle.dp_tree.specs.Step.{Event, Effect, Stored, Printed, Decided}
+use Rattle.dp_tree.specs.Step.{Event, Effect, Stored, Printed, Decided, Tried}
 use Rattle.dp_tree.specs.Trace.{Run}
-use Rattle.dp_tree.specs.Iteration.{iteration, memory_after, has_ended}
-use Rattle.dp_plan.specs.Access.{stage_of, is_checked}
+use Rattle.dp_tree.specs.Iteration.{leaves, iteration, memory_after, has_ended}
+use Rattle.dp_plan.specs.Access.{stage_of}
+use Rattle.dp_plan.specs.Checked.{is_checked}
+pub use Rattle.dp_plan.specs.IsFar.{int_eq}
 use Rattle.dp_semantics.specs.Seen.{Past, seen}
-
--- the numbers are equal
-abbrev pub int_eq : ℤ → ℤ → Bool
-int_eq x y = int_le x y && int_le y x
 
 -- stage s in iteration i sees the values that the source loaded
 abbrev pub loads_agree : Program → Plan → List ℤ → ℕ → List Past → ℕ → List Load → Bool
@@ -46,18 +44,23 @@ abbrev pub went : Bool → Effect → Bool
 went taken (Decided z) = if is_zero z then not taken else taken
 went taken (Stored cell value) = true
 went taken (Printed value) = true
+went taken (Tried value) = true
 
 -- the effect at the site goes as the plan assumes of its `if`s
 abbrev pub goes_as : ℕ → Effect → Assume → Bool
 goes_as site effect a = not (a.site.0 == site) || went a.taken effect
 
--- .. as each of its assumptions says
-abbrev pub as_assumed : Plan → ℕ → Effect → Bool
-as_assumed plan site effect = list_all (goes_as site effect) plan.assume
+-- a break of a stage above 1 isn't taken
+abbrev pub stays_late : Program → Plan → ℕ → Effect → Bool
+stays_late p plan site effect = not (leaves effect) || nat_le (stage_of p plan site) 1
+
+-- .. as each of its assumptions says, and as is assumed of its breaks
+abbrev pub as_assumed : Program → Plan → ℕ → Effect → Bool
+as_assumed p plan site effect = list_all (goes_as site effect) plan.assume && stays_late p plan site effect
 
 -- the same of an event
-abbrev pub event_as_assumed : Plan → Event → Bool
-event_as_assumed plan event = as_assumed plan event.site event.effect
+abbrev pub event_as_assumed : Program → Plan → Event → Bool
+event_as_assumed p plan event = as_assumed p plan event.site event.effect
 
 -- the words of an event: one for what it did and, at a checked site, one for each load
 abbrev pub event_words : Program → Plan → Event → ℕ
@@ -81,10 +84,10 @@ abbrev pub fits_words : Program → Plan → List Event → Bool
 fits_words p plan events = list_all (λ s. nat_le (word_count p plan events s) plan.words) (count_from 1 (length plan.stages))
 
 -- Iteration i is clean in the epoch that began at e: it has ended, each checked load agrees with what its stage sees,
--- each assumed `if` went as assumed, and each stage has room for its words.
+-- each assumed `if` went as assumed, no break of a stage above 1 was taken, and each stage has room for its words.
 abbrev pub is_clean : Program → Plan → Run → ℕ → ℕ → Bool
 is_clean p plan run e i =
     has_ended run plan.region i
     && all_agree p plan (memory_after run plan.region e) i (events_since run plan.region e i) (iteration run plan.region i)
-    && list_all (event_as_assumed plan) (iteration run plan.region i)
+    && list_all (event_as_assumed p plan) (iteration run plan.region i)
     && fits_words p plan (iteration run plan.region i)

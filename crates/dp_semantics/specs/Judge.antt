@@ -16,7 +16,7 @@ pub record Judging : Type 0 where
   pub turn : Turn
   pub effects : List Effect
 
--- what may be committed: the stores, prints and conditions in order, and whether the region's condition was 0
+-- what may be committed: the stores, prints and conditions in order, and whether the region's condition was 0 or a break was taken
 pub record Agreed : Type 0 where
   pub effects : List Effect
   pub closing : Bool
@@ -40,7 +40,7 @@ judged p plan c x rest head w = record { turn = consumed p plan c.turn x rest he
 abbrev pub judged_by : Program → Plan → Judging → Stmt → List Stmt → Stmt-F Stmt → Bool → Result Taken Void → Option Judging
 judged_by p plan c x rest head held (Err why) = None
 judged_by p plan c x rest head held (Ok w) =
-    if held && as_assumed plan (site_of head).0 w.effect then Some (judged p plan c x rest head w) else None
+    if held && as_assumed p plan (site_of head).0 w.effect then Some (judged p plan c x rest head w) else None
 
 -- one step at the head
 abbrev pub judge_step : Program → Plan → Judging → Stmt → List Stmt → Stmt-F Stmt → Option Judging

@@ -1,18 +1,20 @@
 -- What the definitions should mean, in laws of their own.
-use Rattle.std.specs.Prelude.{◌≡◌, ℕ, ◌<◌, ◌&&◌, true, List, ℤ, length, nat_le, AllPairs, Contains}
+use Rattle.std.specs.Prelude.{◌≡◌, ℕ, ◌<◌, ◌&&◌, true, List, [], Some, is_none, ℤ, length, nat_le, AllPairs, Contains}
 use Rattle.dp_tree.specs.declared.Program.{Program}
 use Rattle.dp_plan.specs.declared.Plan.{Plan}
-use Rattle.dp_tree.specs.Trace.{Run}
-use Rattle.dp_tree.specs.Iteration.{iteration, has_ended, begun_count}
-use Rattle.dp_semantics.specs.Clean.{is_clean}
+use Rattle.dp_tree.specs.Step.{Config}
+use Rattle.dp_tree.specs.Trace.{Run, run_of}
+use Rattle.dp_tree.specs.InMain.{StandsInMain}
+use Rattle.dp_tree.specs.Iteration.{start, iteration, has_ended, memory_after, begun_count}
+use Rattle.dp_semantics.specs.Cause.{first_cause}
+use Rattle.dp_semantics.specs.Clean.{events_since, is_clean}
 use Rattle.dp_semantics.specs.Recovery.{is_recovered, recovered}
 use Rattle.dp_semantics.specs.OneStage.{one_stage_plan}
-use Rattle.dp_semantics.specs.Verdict.{whole_run}
 
--- With the one-stage plan an iteration is clean, in whatever epoch, exactly where it has ended and has at most 4,096 events.
+-- With the one-stage plan an iteration of a run that begins within `main` is clean, in whatever epoch, exactly where it has ended and has at most 4,096 events.
 abbrev pub CleanInOneStage : Program → ℕ → Type 0
-CleanInOneStage p r = (input : List ℤ) (fuel e i : ℕ) →
-    is_clean p (one_stage_plan p r) (whole_run p input fuel) e i ≡ (has_ended (whole_run p input fuel) r i && nat_le (length (iteration (whole_run p input fuel) r i)) 4096)
+CleanInOneStage p r = (input : List ℤ) (fuel : ℕ) (c : Config) → StandsInMain p c → (e i : ℕ) →
+    is_clean p (one_stage_plan p r) (run_of p input fuel c) e i ≡ (has_ended (run_of p input fuel c) r i && nat_le (length (iteration (run_of p input fuel c) r i)) 4096)
 
 -- The iterations that are executed again stand in ascending order, and they are the begun ones that aren't clean in their epochs.
 pub record Recovers (p : Program) (plan : Plan) (run : Run) : Type 0 where
@@ -23,3 +25,9 @@ pub record Recovers (p : Program) (plan : Plan) (run : Run) : Type 0 where
 -- So it is in any run.
 abbrev pub RecoversInOrder : Program → Plan → Type 0
 RecoversInOrder p plan = (run : Run) → Recovers p plan run
+
+-- In a run that begins within `main`, and in whatever epoch, an iteration that starts is clean exactly where it has ended and no event of it fails. So an iteration that isn't clean has a cause.
+abbrev pub CleanWithoutCause : Program → Plan → Type 0
+CleanWithoutCause p plan = (input : List ℤ) (fuel : ℕ) (c : Config) → StandsInMain p c → (e i k : ℕ) → start (run_of p input fuel c) plan.region i ≡ Some k →
+    is_clean p plan (run_of p input fuel c) e i
+    ≡ (has_ended (run_of p input fuel c) plan.region i && is_none (first_cause p plan (memory_after (run_of p input fuel c) plan.region e) i (events_since (run_of p input fuel c) plan.region e i) [] (iteration (run_of p input fuel c) plan.region i)))

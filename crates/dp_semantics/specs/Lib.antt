@@ -9,7 +9,14 @@ pub mod StageRun
 pub mod Packets
 pub mod Judge
 pub mod Verdict
+pub mod Told
+pub mod Shift
 pub mod Nesting
 pub mod Fits
 pub mod Laws
 pub mod ValidPlan
+pub mod FarPairs
+pub mod Reported
+pub mod EpochKey
+pub mod EpochVerdicts
+pub mod Items

@@ -2,7 +2,7 @@
 use Rattle.std.specs.Prelude.{ℕ, ◌==◌, Bool, true, false, not, ◌&&◌, ◌||◌, List, ◌++◌, is_some, nat_le}
 use Rattle.std.specs.List.{list_all}
 use Rattle.dp_tree.specs.declared.Stmt.{Stmt, Row_of-Stmt, end_of-Stmt, more_of-Stmt}
-use Rattle.dp_tree.specs.declared.Stmt.TheVariants.{Assign, Store, Print, If', While', Region', Call}
+use Rattle.dp_tree.specs.declared.Stmt.TheVariants.{Assign, Store, Print, If', While', Region', Break, Call}
 use Rattle.dp_tree.specs.declared.Program.{Program}
 use Rattle.dp_plan.specs.declared.Plan.{Plan}
 use Rattle.dp_plan.specs.Access.{Access, accesses_in, stage_of}
@@ -23,6 +23,7 @@ abbrev mutual
       && (well_nested_in p plan then_part && well_nested_in p plan else_part)
   well_nested p plan (While' site cond _ body) = none_earlier p plan site.0 (accesses_in body) && well_nested_in p plan body
   well_nested p plan (Region' r site cond _ body) = false
+  well_nested p plan (Break site cond) = true
   well_nested p plan (Call f line args) = false
 
   -- the same of several statements
@@ -39,6 +40,7 @@ abbrev mutual
   is_free r (If' site cond _ then_part _ else_part) = is_free_in r then_part && is_free_in r else_part
   is_free r (While' site cond _ body) = is_free_in r body
   is_free r (Region' q site cond _ body) = not (q == r) && is_free_in r body
+  is_free r (Break site cond) = true
   is_free r (Call f line args) = true
 
   -- the same of several statements

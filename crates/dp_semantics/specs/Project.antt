@@ -2,7 +2,7 @@
 use Rattle.std.specs.Prelude.{ℕ, if◌then◌else◌, ◌==◌, Bool, List, [], ◌∷◌, ◌++◌, Option, Some, None, nat_le}
 use Rattle.std.specs.List.{flat_map}
 use Rattle.dp_tree.specs.declared.Stmt.{Stmt, Row_of-Stmt, end_of-Stmt, more_of-Stmt}
-use Rattle.dp_tree.specs.declared.Stmt.TheVariants.{Assign, Store, Print, If, If', While, While', Region', Call}
+use Rattle.dp_tree.specs.declared.Stmt.TheVariants.{Assign, Store, Print, If, If', While, While', Region', Break, Call}
 use Rattle.dp_tree.specs.declared.Program.{Program}
 use Rattle.dp_tree.specs.declared.Assume.{Assume}
 use Rattle.dp_plan.specs.declared.Plan.{Plan}
@@ -34,6 +34,7 @@ abbrev mutual
       (branch_of (assumed_in plan.assume site.0) (project_in p plan s then_part) (project_in p plan s else_part))
   project p plan s (While' site cond _ body) = where_reached p plan s site.0 (While site cond (project_in p plan s body) ∷ []) []
   project p plan s (Region' r site cond _ body) = If site cond (project_in p plan s body) [] ∷ []
+  project p plan s (Break site cond) = where_reached p plan s site.0 (Break site cond ∷ []) []
   project p plan s (Call f line args) = []
 
   -- several statements, one after the other

@@ -4,7 +4,7 @@ use Rattle.std.specs.List.{list_any}
 use Rattle.dp_tree.specs.declared.VarInfo.{VarInfo}
 use Rattle.dp_tree.specs.declared.Program.{Program}
 use Rattle.dp_plan.specs.declared.Plan.{Plan}
-use Rattle.dp_tree.specs.Step.{Event, Effect, Stored, Printed, Decided, is_local_of}
+use Rattle.dp_tree.specs.Step.{Event, Effect, Stored, Printed, Decided, Tried, is_local_of}
 use Rattle.dp_plan.specs.Access.{stage_of, is_replicated}
 
 -- an event of the source's trace, and the iteration in which it happened
@@ -31,6 +31,7 @@ abbrev pub stored_in : Bool → ℕ → Effect → Option ℤ
 stored_in sees c (Stored d value) = if (d == c) && sees then Some value else None
 stored_in sees c (Printed value) = None
 stored_in sees c (Decided value) = None
+stored_in sees c (Tried value) = None
 
 -- the value that the event stores into cell c, where stage s in iteration i sees it
 abbrev pub covered_value : Program → Plan → ℕ → ℕ → ℕ → Past → Option ℤ

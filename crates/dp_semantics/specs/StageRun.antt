@@ -8,11 +8,12 @@ use Rattle.dp_tree.specs.declared.Program.{Program}
 use Rattle.dp_plan.specs.declared.Plan.{Plan}
 use Rattle.dp_tree.specs.Eval.{Evaluated}
 use Rattle.dp_tree.specs.Step.{Event, Effect, value_of, stored, line_of, site_of, evaluated, followed}
+use Rattle.dp_tree.specs.Iteration.{leaves}
 use Rattle.dp_plan.specs.Access.{stage_of, first_site, region_statement}
 use Rattle.dp_semantics.specs.Project.{project_all}
 use Rattle.dp_semantics.specs.Words.{Void, Faults, Full, Taken, words_of, taken_from, word_list}
 
--- the statements still to do, the memory, the words left of each earlier stage, the stage's own words, and whether the region's condition was 0
+-- the statements still to do, the memory, the words left of each earlier stage, the stage's own words, and whether the region's condition was 0 or a break was taken
 pub record Turn : Type 0 where
   pub to_do : List Stmt
   pub cells : List ℤ
@@ -20,7 +21,7 @@ pub record Turn : Type 0 where
   pub own : List Word
   pub closing : Bool
 
--- a turn that came to its end: the stage's words, its memory, and whether the region's condition was 0
+-- a turn that came to its end: the stage's words, its memory, and whether the region's condition was 0 or a break was taken
 pub record Ended : Type 0 where
   pub own : List Word
   pub cells : List ℤ
@@ -34,6 +35,10 @@ TurnEnd = Result Ended Void
 abbrev pub is_zero_at : ℕ → ℕ → ℤ → Bool
 is_zero_at first site z = (site == first) && is_zero z
 
+-- a 0 at the region's condition, or a break that is taken
+abbrev pub closes_at : ℕ → ℕ → Effect → Bool
+closes_at first site effect = is_zero_at first site (value_of effect) || leaves effect
+
 -- the turn after this effect of statement x at the head, with these own words and these lists
 abbrev pub turned : Program → Plan → Turn → Stmt → List Stmt → Stmt-F Stmt → Effect → List Word → List (List Word) → Turn
 turned p plan c x rest head effect own lists = record {
@@ -41,7 +46,7 @@ turned p plan c x rest head effect own lists = record {
   cells = stored effect c.cells;
   lists = lists;
   own = own;
-  closing = c.closing || is_zero_at (first_site p plan) (site_of head).0 (value_of effect);
+  closing = c.closing || closes_at (first_site p plan) (site_of head).0 effect;
 }
 
 -- an own site's words are added, unless they don't fit

@@ -10,6 +10,7 @@ use Rattle.dp_plan.specs.CheckedTable.{IsTabled}
 use Rattle.dp_plan.specs.Written.{plan_of}
 use Rattle.dp_plan.specs.Valid.{first_broken}
 use Rattle.dp_semantics.specs.Fits.{fits_plan, stands_alone}
+use Rattle.dp_semantics.specs.OneStage.{one_stage_plan}
 
 -- the line lists a site, as each stage line of a plan's text does
 abbrev pub lists_site : WrittenStage → Bool
@@ -19,7 +20,7 @@ lists_site line = nat_lt 0 (length line.sites)
 pub record WrittenAs (p : Program) (w : WrittenPlan) (plan : Plan) : Type 0 where
   pub valid : first_broken p w ≡ None
   pub filled : list_all lists_site w.stages ≡ true
-  pub plan_is : plan ≡ plan_of p w
+  pub plan_is : plan ≡ plan_of p plan.proved w
 
 -- A plan that has such lines fits.
 abbrev pub ValidPlanFits : Program → Plan → Type 0
@@ -36,3 +37,10 @@ RegionsStandAlone p = (r : ℕ) → 0 < r → r ≤ length p.regions → stands_
 -- Each region stands once in `main`, so that the events at its sites are those of its iterations.
 abbrev pub RegionsStandOnce : Program → Type 0
 RegionsStandOnce p = (r : ℕ) → 0 < r → r ≤ length p.regions → StandsOnce p r
+
+-- .. and so is the one-stage plan of each of them: it fits, and its table is right.
+abbrev pub OneStageFits : Program → Type 0
+OneStageFits p = (r : ℕ) → 0 < r → r ≤ length p.regions → fits_plan p (one_stage_plan p r) ≡ true
+
+abbrev pub OneStageTabled : Program → Type 0
+OneStageTabled p = (r : ℕ) → 0 < r → r ≤ length p.regions → IsTabled p (one_stage_plan p r)

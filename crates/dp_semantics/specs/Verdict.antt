@@ -1,11 +1,13 @@
 -- The central theorem: the judgement is the source's. It is Clean exactly at the clean iterations, with what the source did.
-use Rattle.std.specs.Prelude.{◌≡◌, ℕ, suc, ◌+◌, ◌-◌, ◌<◌, ◌≤◌, ◌==◌, Bool, true, false, List, [], ◌∷◌, ℤ, length, map, filter, Some}
+use Rattle.std.specs.Prelude.{◌≡◌, ℕ, suc, ◌+◌, ◌-◌, ◌<◌, ◌≤◌, ◌==◌, Bool, true, false, List, [], ◌∷◌, ℤ, length, drop, map, filter, Option, Some, None, slice_get}
 use Rattle.std.specs.List.{flat_map}
 use Rattle.dp_base.specs.declared.Word.{Word}
 use Rattle.dp_tree.specs.declared.Program.{Program}
 use Rattle.dp_plan.specs.declared.Plan.{Plan}
-use Rattle.dp_tree.specs.Step.{Event, Effect, stored, clear_locals}
+use Rattle.dp_tree.specs.declared.Stmt.{Stmt}
+use Rattle.dp_tree.specs.Step.{Config, Event, Effect, stored, clear_locals, standing}
 use Rattle.dp_tree.specs.Trace.{Run, run_of, begin}
+use Rattle.dp_tree.specs.InMain.{StandsInMain}
 use Rattle.dp_tree.specs.Iteration.{start, iteration, is_closing, has_ended, memory_after}
 use Rattle.dp_plan.specs.Access.{stage_of}
 use Rattle.dp_semantics.specs.Clean.{is_clean}
@@ -67,22 +69,47 @@ pub record Judged (p : Program) (plan : Plan) (input : List ℤ) (run : Run) (e 
   pub sent : is_clean p plan run e i ≡ true → SentClean p plan input run e i k
   pub back : (v : Agreed) → judgement_at p plan input run e i k ≡ Clean v → is_clean p plan run e i ≡ true
 
--- In an epoch whose iterations so far are clean, the next one that starts is judged rightly.
+-- In a run that begins within `main`, and in an epoch whose iterations so far are clean, the next one that starts is judged rightly.
 abbrev pub JudgesRightly : Program → Plan → Type 0
-JudgesRightly p plan = (input : List ℤ) (fuel e i k : ℕ) → e ≤ i → start (whole_run p input fuel) plan.region i ≡ Some k → CleanSince p plan (whole_run p input fuel) e i →
-    Judged p plan input (whole_run p input fuel) e i k
+JudgesRightly p plan = (input : List ℤ) (fuel : ℕ) (c : Config) → StandsInMain p c → (e i k : ℕ) → e ≤ i → start (run_of p input fuel c) plan.region i ≡ Some k → CleanSince p plan (run_of p input fuel c) e i →
+    Judged p plan input (run_of p input fuel c) e i k
 
 -- So each iteration that starts is judged rightly in its own epoch.
 abbrev pub JudgesEpochs : Program → Plan → Type 0
-JudgesEpochs p plan = (input : List ℤ) (fuel i k : ℕ) → start (whole_run p input fuel) plan.region i ≡ Some k →
-    Judged p plan input (whole_run p input fuel) (epoch p plan (whole_run p input fuel) i) i k
+JudgesEpochs p plan = (input : List ℤ) (fuel : ℕ) (c : Config) → StandsInMain p c → (i k : ℕ) → start (run_of p input fuel c) plan.region i ≡ Some k →
+    Judged p plan input (run_of p input fuel c) (epoch p plan (run_of p input fuel c) i) i k
 
--- The next iteration starts after this one's steps, from this one's stores with the body locals at 0.
+-- the statements of a configuration, if there is one
+abbrev pub to_do_in : Option Config → List Stmt
+to_do_in None = []
+to_do_in (Some c) = c.to_do
+
+-- what is left to do after so many steps
+abbrev pub to_do_after : Run → ℕ → List Stmt
+to_do_after run k = to_do_in (slice_get run.configs k)
+
+-- the memory after the iteration's effects
+abbrev pub memory_of : Run → ℕ → ℕ → List ℤ
+memory_of run r i = applied (map effect_in (iteration run r i)) (memory_after run r i)
+
+-- The next iteration starts after this one's steps, from this one's stores with the body locals at 0, and the same is left to do.
 pub record Follows (p : Program) (r : ℕ) (run : Run) (i k : ℕ) : Type 0 where
   pub next_start : start run r (suc i) ≡ Some (k + length (iteration run r i))
-  pub memory : memory_after run r (suc i) ≡ clear_locals r p.vars (applied (map effect_in (iteration run r i)) (memory_after run r i))
+  pub memory : memory_after run r (suc i) ≡ clear_locals r p.vars (memory_of run r i)
+  pub config : slice_get run.configs (k + length (iteration run r i)) ≡ Some (standing p (to_do_after run k) (memory_of run r i))
+
+-- The closing iteration is the last one. It leaves its stores with the body locals at 0, and what is left to do stands behind the region.
+pub record Closes (p : Program) (r : ℕ) (run : Run) (i k : ℕ) : Type 0 where
+  pub unreached : start run r (suc i) ≡ None
+  pub memory : memory_after run r (suc i) ≡ (standing p (drop 1 (to_do_after run k)) (clear_locals r p.vars (memory_of run r i))).cells
+  pub config : slice_get run.configs (k + length (iteration run r i)) ≡ Some (standing p (drop 1 (to_do_after run k)) (clear_locals r p.vars (memory_of run r i)))
 
 -- After an iteration that ended and didn't close, the next one follows.
 abbrev pub StoresLead : Program → Plan → Type 0
-StoresLead p plan = (input : List ℤ) (fuel i k : ℕ) → start (whole_run p input fuel) plan.region i ≡ Some k →
-    has_ended (whole_run p input fuel) plan.region i ≡ true → is_closing (whole_run p input fuel) plan.region i ≡ false → Follows p plan.region (whole_run p input fuel) i k
+StoresLead p plan = (input : List ℤ) (fuel : ℕ) (c : Config) → StandsInMain p c → (i k : ℕ) → start (run_of p input fuel c) plan.region i ≡ Some k →
+    has_ended (run_of p input fuel c) plan.region i ≡ true → is_closing (run_of p input fuel c) plan.region i ≡ false → Follows p plan.region (run_of p input fuel c) i k
+
+-- After a closing one the run goes on behind the region.
+abbrev pub ClosingLeaves : Program → Plan → Type 0
+ClosingLeaves p plan = (input : List ℤ) (fuel : ℕ) (c : Config) → StandsInMain p c → (i k : ℕ) → start (run_of p input fuel c) plan.region i ≡ Some k →
+    is_closing (run_of p input fuel c) plan.region i ≡ true → Closes p plan.region (run_of p input fuel c) i k

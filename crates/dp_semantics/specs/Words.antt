@@ -6,12 +6,12 @@ use Rattle.dp_base.specs.declared.Word.{Word}
 use Rattle.dp_base.specs.declared.WordKind.{WordKind}
 use Rattle.dp_base.specs.declared.WordKind.TheVariants as word
 use Rattle.dp_tree.specs.declared.Stmt.{Stmt}
-use Rattle.dp_tree.specs.declared.Stmt.TheOpen.{Stmt-F, Assign, Store, Print}
+use Rattle.dp_tree.specs.declared.Stmt.TheOpen.{Stmt-F, Assign, Store, Print, Break}
 use Rattle.dp_tree.specs.declared.Program.{Program}
 use Rattle.dp_plan.specs.declared.Plan.{Plan}
 use Rattle.dp_tree.specs.Eval.{Load, first_cell, cell_count}
-use Rattle.dp_tree.specs.Step.{Event, Effect, Stored, Printed, Decided, value_of, site_of}
-use Rattle.dp_plan.specs.Access.{is_checked}
+use Rattle.dp_tree.specs.Step.{Event, Effect, Stored, Printed, Decided, Tried, value_of, site_of}
+use Rattle.dp_plan.specs.Checked.{is_checked}
 
 -- why a turn breaks off: an own evaluation faults, the words would pass the plan's number, or another word or none stands at a site
 pub data Void : Type 0 where
@@ -33,6 +33,7 @@ abbrev pub cell_of : Effect → ℕ
 cell_of (Stored cell value) = cell
 cell_of (Printed value) = 0
 cell_of (Decided value) = 0
+cell_of (Tried value) = 0
 
 -- the word of what the site did
 abbrev pub done_word : ℕ → Effect → Word
@@ -79,6 +80,7 @@ abbrev pub effect_by : Program → Stmt-F Stmt → Word → Option Effect
 effect_by p (Assign site x e) w = store_by p x w
 effect_by p (Store site x index e) w = store_by p x w
 effect_by p (Print site e) w = Some (Printed w.value)
+effect_by p (Break site cond) w = Some (Tried w.value)
 effect_by p _ w = Some (Decided w.value)
 
 -- what was done at a site by its words, and the words after them

@@ -1,23 +1,28 @@
 //! The laws of the definitions, as contracts of functions that do nothing: the central theorem first.
 
-ghost use Rattle.std.specs.Prelude.{◌≡◌, true};
+ghost use Rattle.std.specs.Prelude.{◌≡◌, ◌<◌, ◌^◌, true, length};
 ghost use Rattle.dp_tree.specs.Inlined.{IsInlined};
+ghost use Rattle.dp_plan.specs.CheckedTable.{IsTabled};
+ghost use Rattle.dp_plan.specs.GivenPlans.{IsPlan};
+ghost use Rattle.dp_semantics.specs.FarPairs.{FarNeverCarried, FarNeverWithin};
 ghost use Rattle.dp_semantics.specs.Fits.{fits_plan, stands_alone};
-ghost use Rattle.dp_semantics.specs.Laws.{CleanInOneStage, RecoversInOrder};
-ghost use Rattle.dp_semantics.specs.ValidPlan.{RegionsStandAlone, RegionsStandOnce, ValidPlanFits, ValidPlanTabled};
-ghost use Rattle.dp_semantics.specs.Verdict.{JudgesEpochs, JudgesRightly, StoresLead};
+ghost use Rattle.dp_semantics.specs.Laws.{CleanInOneStage, CleanWithoutCause, RecoversInOrder};
+ghost use Rattle.dp_semantics.specs.Shift.{EpochsShift, RegionRunsAlone, VerdictsShift};
+ghost use Rattle.dp_semantics.specs.Told.{StoresAreAll, Tells};
+ghost use Rattle.dp_semantics.specs.ValidPlan.{OneStageFits, OneStageTabled, RegionsStandAlone, RegionsStandOnce, ValidPlanFits, ValidPlanTabled};
+ghost use Rattle.dp_semantics.specs.Verdict.{ClosingLeaves, JudgesEpochs, JudgesRightly, StoresLead};
 
 use dp_plan::Plan;
 use dp_tree::Program;
 
-/// The judgement on an epoch's packets is Clean exactly at the clean iterations, and it holds what the source did there.
+/// In each run that begins within `main`, the judgement on an epoch's packets is Clean exactly at the clean iterations, and it holds what the source did there.
 /// Which packets there are is a matter of the definitions alone: no stage has to run.
-#[tactic(auto, using(crate::proofs::Fitting::fitting_judges, crate::proofs::Fitting::fitting_leads, crate::proofs::Fitting::fitting_epochs))]
 pub fn judgement_is_the_sources(p: &Program, plan: &Plan)
     requires { fits_plan p.now plan.now ≡ true }
     ensures judged { JudgesRightly p.now plan.now }
     ensures in_epochs { JudgesEpochs p.now plan.now }
     ensures led { StoresLead p.now plan.now }
+    ensures left { ClosingLeaves p.now plan.now }
 {}
 
 /// What the laws ask of a program and a plan, an inlined program and a valid plan of one of its regions have.
@@ -30,6 +35,35 @@ pub fn valid_plans_fit(p: &Program, plan: &Plan)
     ensures once { RegionsStandOnce p.now }
 {}
 
+/// A plan that is valid as data, whatever text it came from, fits its inlined program, and its table is right.
+pub fn given_plans_fit(p: &Program, plan: &Plan)
+    requires inlined { IsInlined p.now }
+    requires sites { length p.now.sites < 2 ^ 32 }
+    requires plan { IsPlan p.now plan.now }
+    ensures fits { fits_plan p.now plan.now ≡ true }
+    ensures tabled { IsTabled p.now plan.now }
+{}
+
+/// The one-stage plan of each region fits an inlined program, and its table is right.
+pub fn one_stage_fits(p: &Program)
+    requires { IsInlined p.now }
+    ensures fits { OneStageFits p.now }
+    ensures tabled { OneStageTabled p.now }
+{}
+
+/// A pair of accesses that is far never shows as carried, and one that is far within never as intra.
+pub fn far_pairs_are_apart(p: &Program, plan: &Plan)
+    requires { fits_plan p.now plan.now ≡ true }
+    ensures carried { FarNeverCarried p.now plan.now }
+    ensures within { FarNeverWithin p.now plan.now }
+{}
+
+/// An iteration that has ended and isn't clean has an event that is the cause.
+pub fn unclean_has_a_cause(p: &Program, plan: &Plan)
+    requires { fits_plan p.now plan.now ≡ true }
+    ensures { CleanWithoutCause p.now plan.now }
+{}
+
 /// With all of a region in one stage an iteration is clean where it has ended and has at most 4,096 events.
 #[tactic(auto, using(crate::proofs::OneStage::clean_in_one_stage))]
 pub fn one_stage_is_clean(p: &Program, region: u32)
@@ -40,4 +74,17 @@ pub fn one_stage_is_clean(p: &Program, region: u32)
 /// The iterations that are executed again are listed in ascending order, the begun ones that aren't clean in their epochs and no others.
 pub fn recovered_ascend(p: &Program, plan: &Plan)
     ensures { RecoversInOrder p.now plan.now }
+{}
+
+/// What is said of the iterations of a run is said of the run from one of them on, and so of the region's own run.
+pub fn verdicts_go_on(p: &Program, plan: &Plan)
+    ensures verdicts { VerdictsShift p.now plan.now }
+    ensures epochs { EpochsShift p.now plan.now }
+    ensures alone { RegionRunsAlone p.now plan.now }
+{}
+
+/// A Clean judgement tells the stores, the prints and the number of steps of its iteration, in the source's order.
+pub fn a_judgement_tells_all(plan: &Plan)
+    ensures told { Tells plan.now }
+    ensures stores { StoresAreAll }
 {}

@@ -1,16 +1,16 @@
 -- Statements by their heads: whose sites pass a test, what follows them, and their steps.
-use Rattle.std.proofs.Common.{◌≡◌, refl, sym, ap, ◌∙◌, append_assoc, ℕ, Bool, true, false, not, ◌&&◌, ◌==◌, if◌then◌else◌, List, [], ◌∷◌, ◌++◌, ℤ, pos, Ok, Err}
+use Rattle.std.proofs.Common.{◌≡◌, refl, sym, ap, ◌∙◌, append_assoc, ℕ, Bool, true, false, not, ◌&&◌, ◌==◌, if◌then◌else◌, List, [], ◌∷◌, ◌++◌, ℤ, pos, Ok, Err, Option, Some, None, ◌⊎◌, inl, inr}
 use Rattle.std.specs.List.{list_all}
 use Rattle.dp_base.specs.Arithmetic.{is_zero}
 use Rattle.dp_base.specs.declared.SiteId.{SiteId}
 use Rattle.dp_tree.specs.declared.Stmt.{Stmt, out-Stmt, roll-Stmt, roll-out-Stmt}
-use Rattle.dp_tree.specs.declared.Stmt.TheViews.{rolls-Assign, rolls-Store, rolls-Print, rolls-If, rolls-While, rolls-Region, rolls-Call}
-use Rattle.dp_tree.specs.declared.Stmt.TheOpen.{Stmt-F, Assign, Store, Print, If, While, Region, Call}
+use Rattle.dp_tree.specs.declared.Stmt.TheViews.{rolls-Assign, rolls-Store, rolls-Print, rolls-If, rolls-While, rolls-Region, rolls-Break, rolls-Call}
+use Rattle.dp_tree.specs.declared.Stmt.TheOpen.{Stmt-F, Assign, Store, Print, If, While, Region, Break, Call}
 use Rattle.dp_tree.specs.declared.Program.{Program}
-use Rattle.dp_tree.specs.Eval.{Load, Evaluated, eval}
-use Rattle.dp_tree.specs.Event.{Effect, Printed, Decided, Event, value_of, stored}
-use Rattle.dp_tree.specs.Step.{Config, Finished, Stepped, choose, followed, site_of, decided, evaluated, standing, step_by, step_at, step_from, step}
-use Rattle.dp_tree.specs.Iteration.{is_region, decides_zero}
+use Rattle.dp_tree.specs.Eval.{Load, Evaluated, eval, and_then, after_loads, place, cell_count}
+use Rattle.dp_tree.specs.Event.{Effect, Printed, Decided, Tried, Event, value_of}
+use Rattle.dp_tree.specs.Step.{Config, Finished, Stepped, choose, followed, behind_region, behind_one, region_number, stored_by, after_effect, site_of, decided, tried, evaluated, standing, step_by, step_at, step_from, step}
+use Rattle.dp_tree.specs.Iteration.{is_region, decides_zero, leaves}
 use Rattle.dp_tree.specs.RegionLaws.{keeps, keeps_in}
 
 -- what opens where a statement is made
@@ -45,6 +45,7 @@ module _ (test : ℕ → Bool) (r : ℕ) where
   keeps_at (If site cond a b) = test site.0 && (keeps_all a && keeps_all b)
   keeps_at (While site cond a) = test site.0 && keeps_all a
   keeps_at (Region q site cond a) = test site.0 && (not (q == r) && keeps_all a)
+  keeps_at (Break site cond) = test site.0
   keeps_at (Call f line args) = true
 
   keeps_roll : (h : Stmt-F Stmt) → keeps test r (roll-Stmt h) ≡ keeps_at h
@@ -55,6 +56,7 @@ module _ (test : ℕ → Bool) (r : ℕ) where
   keeps_roll (If site cond a b) = ap (keeps test r) (rolls-If site cond a b) ∙ ap (λ (u : Bool). test site.0 && (u && hidden_keeps test r b)) (keeps_hidden a) ∙ ap (λ (u : Bool). test site.0 && (keeps_all a && u)) (keeps_hidden b)
   keeps_roll (While site cond a) = ap (keeps test r) (rolls-While site cond a) ∙ ap (λ (u : Bool). test site.0 && u) (keeps_hidden a)
   keeps_roll (Region q site cond a) = ap (keeps test r) (rolls-Region q site cond a) ∙ ap (λ (u : Bool). test site.0 && (not (q == r) && u)) (keeps_hidden a)
+  keeps_roll (Break site cond) = ap (keeps test r) (rolls-Break site cond)
   keeps_roll (Call f line args) = ap (keeps test r) (rolls-Call f line args)
 
   pub keeps_out : (x : Stmt) → keeps test r x ≡ keeps_at (out-Stmt x)
@@ -71,6 +73,15 @@ module _ (test : ℕ → Bool) (r : ℕ) where
       by true = k
       by false = h
 
+  -- what is behind a region among them has no other sites
+  pub keeps_behind : (rest : List Stmt) → keeps_all rest ≡ true → keeps_all (behind_region rest) ≡ true
+  keeps_behind [] k = refl
+  keeps_behind (x ∷ rest) k = by (region_number (out-Stmt x)) (keeps_behind rest (and_true (keeps test r x) (keeps_all rest) k).1)
+    where
+      by : (o : Option ℕ) → keeps_all (behind_region rest) ≡ true → keeps_all (behind_one o rest (behind_region rest)) ≡ true
+      by None later = later
+      by (Some q) later = (and_true (keeps test r x) (keeps_all rest) k).1
+
   -- what follows a statement has no other sites
   pub keeps_followed : (x : Stmt) (rest : List Stmt) (h : Stmt-F Stmt) (z : ℤ) → keeps test r x ≡ true → keeps_at h ≡ true → keeps_all rest ≡ true → keeps_all (followed x rest h z) ≡ true
   keeps_followed x rest (Assign site v e) z w h k = k
@@ -84,6 +95,7 @@ module _ (test : ℕ → Bool) (r : ℕ) where
   keeps_followed x rest (Region q site cond a) z w h k =
       let both = and_true (not (q == r)) (keeps_all a) (and_true (test site.0) (not (q == r) && keeps_all a) h).1 in
       keeps_choose z (a ++ x ∷ rest) rest (keeps-append a (x ∷ rest) both.1 (and_make (keeps test r x) (keeps_all rest) w k)) k
+  keeps_followed x rest (Break site cond) z w h k = keeps_choose z (behind_region rest) rest (keeps_behind rest k) k
   keeps_followed x rest (Call f line args) z w h k = k
 
   pub no_region : (h : Stmt-F Stmt) → keeps_at h ≡ true → is_region r h ≡ false
@@ -97,25 +109,55 @@ module _ (test : ℕ → Bool) (r : ℕ) where
       differs : (b : Bool) → not b ≡ true → b ≡ false
       differs false e = refl
       differs true e = absurd (cc)
+  no_region (Break site cond) w = refl
   no_region (Call f line args) w = refl
 
--- what follows goes on into the statements behind
-pub followed-append : (x : Stmt) (rest behind : List Stmt) (h : Stmt-F Stmt) (z : ℤ) → followed x (rest ++ behind) h z ≡ followed x rest h z ++ behind
-followed-append x rest behind (Assign site v e) z = refl
-followed-append x rest behind (Store site v index e) z = refl
-followed-append x rest behind (Print site e) z = refl
-followed-append x rest behind (If site cond a b) z = sym (append_assoc (choose z a b) rest behind)
-followed-append x rest behind (While site cond a) z = by (is_zero z)
+-- a break that is taken
+abbrev pub taken : Stmt-F Stmt → ℤ → Bool
+taken (Break site cond) z = not (is_zero z)
+taken _ z = false
+
+-- what follows goes on into the statements behind, unless it is left
+pub followed-append : (x : Stmt) (rest behind : List Stmt) (h : Stmt-F Stmt) (z : ℤ) → taken h z ≡ false → followed x (rest ++ behind) h z ≡ followed x rest h z ++ behind
+followed-append x rest behind (Assign site v e) z t = refl
+followed-append x rest behind (Store site v index e) z t = refl
+followed-append x rest behind (Print site e) z t = refl
+followed-append x rest behind (Break site cond) z t = by (is_zero z) t
+  where
+    by : (t : Bool) → not t ≡ false → (if t then rest ++ behind else behind_region (rest ++ behind)) ≡ (if t then rest else behind_region rest) ++ behind
+    by true t = refl
+    by false t = absurd (cc)
+followed-append x rest behind (If site cond a b) z t = sym (append_assoc (choose z a b) rest behind)
+followed-append x rest behind (While site cond a) z t = by (is_zero z)
   where
     by : (t : Bool) → (if t then rest ++ behind else a ++ x ∷ (rest ++ behind)) ≡ (if t then rest else a ++ x ∷ rest) ++ behind
     by true = refl
     by false = sym (append_assoc a (x ∷ rest) behind)
-followed-append x rest behind (Region q site cond a) z = by (is_zero z)
+followed-append x rest behind (Region q site cond a) z t = by (is_zero z)
   where
     by : (t : Bool) → (if t then rest ++ behind else a ++ x ∷ (rest ++ behind)) ≡ (if t then rest else a ++ x ∷ rest) ++ behind
     by true = refl
     by false = sym (append_assoc a (x ∷ rest) behind)
-followed-append x rest behind (Call f line args) z = refl
+followed-append x rest behind (Call f line args) z t = refl
+
+-- what is left to do where a break is taken
+pub taken_left : (x : Stmt) (rest : List Stmt) (h : Stmt-F Stmt) (z : ℤ) → taken h z ≡ true → followed x rest h z ≡ behind_region rest
+taken_left x rest (Break site cond) z t = by (is_zero z) t
+  where
+    by : (t : Bool) → not t ≡ true → (if t then rest else behind_region rest) ≡ behind_region rest
+    by true t = absurd (cc)
+    by false t = refl
+taken_left x rest _ z t = absurd (cc)
+
+-- it goes on into the statements behind, or they are left
+pub left-append : (rest behind : List Stmt) → (behind_region (rest ++ behind) ≡ behind_region rest ++ behind) ⊎ (behind_region (rest ++ behind) ≡ behind_region behind)
+left-append [] behind = inr refl
+left-append (x ∷ rest) behind = by (region_number (out-Stmt x)) (left-append rest behind)
+  where
+    by : (o : Option ℕ) → (behind_region (rest ++ behind) ≡ behind_region rest ++ behind) ⊎ (behind_region (rest ++ behind) ≡ behind_region behind) →
+        (behind_one o (rest ++ behind) (behind_region (rest ++ behind)) ≡ behind_one o rest (behind_region rest) ++ behind) ⊎ (behind_one o (rest ++ behind) (behind_region (rest ++ behind)) ≡ behind_region behind)
+    by None later = later
+    by (Some q) later = inl refl
 
 -- the step of a head gives its site's event, and what follows it
 pub record StepsTo (x : Stmt) (rest : List Stmt) (h : Stmt-F Stmt) (event : Event) (next : Config) : Type 0 where
@@ -125,6 +167,8 @@ pub record StepsTo (x : Stmt) (rest : List Stmt) (h : Stmt-F Stmt) (event : Even
   pub tested : (test : ℕ → Bool) (r : ℕ) → keeps_at test r h ≡ true → test event.site ≡ true
   -- a region decides
   pub zero : (r : ℕ) → is_region r h ≡ true → decides_zero event.effect ≡ is_zero (value_of event.effect)
+  -- a break leaves its region where it is taken
+  pub left : leaves event.effect ≡ taken h (value_of event.effect)
 
 pub standing_to_do : (p : Program) (xs : List Stmt) (cells : List ℤ) → (standing p xs cells).to_do ≡ xs
 standing_to_do p [] cells = refl
@@ -132,21 +176,21 @@ standing_to_do p (x ∷ xs) cells = refl
 
 module _ (p : Program) (input : List ℤ) where
   -- a step by an evaluation
-  record StepBy (site : SiteId) (e : Evaluated Effect) (next_by : ℤ → List Stmt) (event : Event) (next : Config) : Type 0 where
+  record StepBy (site : SiteId) (e : Evaluated Effect) (next_by : Effect → Config) (event : Event) (next : Config) : Type 0 where
     site_is : event.site ≡ site.0
-    to_do_is : next.to_do ≡ next_by (value_of event.effect)
+    next_is : next ≡ next_by event.effect
     loads_of : List Load
     was : e ≡ Ok (record { value = event.effect; loads = loads_of })
 
-  by_evaluated : (site : SiteId) (cells : List ℤ) (e : Evaluated Effect) (next_by : ℤ → List Stmt) (event : Event) (next : Config) → step_by p site cells e next_by ≡ Stepped event next → StepBy site e next_by event next
-  by_evaluated site cells (Err kind) next_by event next e = absurd (cc)
-  by_evaluated site cells (Ok v) next_by event next e =
+  by_evaluated : (site : SiteId) (e : Evaluated Effect) (next_by : Effect → Config) (event : Event) (next : Config) → step_by p site e next_by ≡ Stepped event next → StepBy site e next_by event next
+  by_evaluated site (Err kind) next_by event next e = absurd (cc)
+  by_evaluated site (Ok v) next_by event next e =
       let event_is : event ≡ record { site = site.0; loads = v.loads; effect = v.value } = cc in
-      let next_is : next ≡ standing p (next_by (value_of v.value)) (stored v.value cells) = cc in
+      let next_is : next ≡ next_by v.value = cc in
       let value_is : v.value ≡ event.effect = sym (ap (λ (x : Event). x.effect) event_is) in
       record {
         site_is = ap (λ (x : Event). x.site) event_is;
-        to_do_is = ap (λ (c : Config). c.to_do) next_is ∙ standing_to_do p (next_by (value_of v.value)) (stored v.value cells) ∙ ap (λ (x : Effect). next_by (value_of x)) value_is;
+        next_is = next_is ∙ ap next_by value_is;
         loads_of = v.loads;
         was = ap (λ (x : Effect). Ok (record { value = x; loads = v.loads })) value_is;
       }
@@ -161,29 +205,97 @@ module _ (p : Program) (input : List ℤ) where
       let is : effect ≡ Decided v.value = sym (ap effect_or e) in
       ap decides_zero is ∙ sym (ap (λ (x : Effect). is_zero (value_of x)) is)
 
+  decided_stays : (e : Evaluated ℤ) (effect : Effect) (loads : List Load) → decided e ≡ Ok (record { value = effect; loads = loads }) → leaves effect ≡ false
+  decided_stays (Err kind) effect loads e = absurd (cc)
+  decided_stays (Ok v) effect loads e = ap leaves (sym (ap effect_or e))
+
+  tried_leaves : (e : Evaluated ℤ) (effect : Effect) (loads : List Load) → tried e ≡ Ok (record { value = effect; loads = loads }) → leaves effect ≡ not (is_zero (value_of effect))
+  tried_leaves (Err kind) effect loads e = absurd (cc)
+  tried_leaves (Ok v) effect loads e = let is : effect ≡ Tried v.value = sym (ap effect_or e) in ap leaves is ∙ sym (ap (λ (x : Effect). not (is_zero (value_of x))) is)
+
+  -- an evaluation whose effect is a store or a print
+  abbrev Quietly : Evaluated Effect → Type 0
+  Quietly (Err kind) = Unit {0}
+  Quietly (Ok v) = leaves v.value ≡ false
+
+  quiet_after : (loads : List Load) (e : Evaluated Effect) → Quietly e → Quietly (after_loads loads e)
+  quiet_after loads (Err kind) q = tt
+  quiet_after loads (Ok v) q = q
+
+  quiet_then : {X : Type 0} (e : Evaluated X) (next : X → Evaluated Effect) → ((x : X) → Quietly (next x)) → Quietly (and_then e next)
+  quiet_then (Err kind) next q = tt
+  quiet_then (Ok v) next q = quiet_after v.loads (next v.value) (q v.value)
+
+  quiet_stays : (e : Evaluated Effect) (effect : Effect) (loads : List Load) → Quietly e → e ≡ Ok (record { value = effect; loads = loads }) → leaves effect ≡ false
+  quiet_stays (Err kind) effect loads q e = absurd (cc)
+  quiet_stays (Ok v) effect loads q e = ap leaves (sym (ap effect_or e)) ∙ q
+
+  to_do_of : (x : Stmt) (rest : List Stmt) (cells : List ℤ) (h : Stmt-F Stmt) (event : Event) (next : Config) → next ≡ after_effect p x rest cells h event.effect → next.to_do ≡ followed x rest h (value_of event.effect)
+  to_do_of x rest cells h event next e = ap (λ (c : Config). c.to_do) e ∙ standing_to_do p (followed x rest h (value_of event.effect)) (stored_by p rest h event.effect cells)
+
   head_step : (x : Stmt) (rest : List Stmt) (cells : List ℤ) (h : Stmt-F Stmt) (event : Event) (next : Config) → step_at p input cells x rest h ≡ Stepped event next → StepsTo x rest h event next
   head_step x rest cells (Assign site v e) event next s =
-      let b = by_evaluated site cells (evaluated p input cells (Assign site v e)) (λ z. rest) event next s in
-      record { site = b.site_is; to_do = b.to_do_is; tested = λ test r k. ap test b.site_is ∙ k; zero = λ r k. absurd (cc) }
-  head_step x rest cells (Store site v index e) event next s =
-      let b = by_evaluated site cells (evaluated p input cells (Store site v index e)) (λ z. rest) event next s in
-      record { site = b.site_is; to_do = b.to_do_is; tested = λ test r k. ap test b.site_is ∙ k; zero = λ r k. absurd (cc) }
-  head_step x rest cells (Print site e) event next s =
-      let b = by_evaluated site cells (evaluated p input cells (Print site e)) (λ z. rest) event next s in
-      record { site = b.site_is; to_do = b.to_do_is; tested = λ test r k. ap test b.site_is ∙ k; zero = λ r k. absurd (cc) }
-  head_step x rest cells (If site cond a c) event next s =
-      let b = by_evaluated site cells (decided (eval p input cells cond)) (followed x rest (If site cond a c)) event next s in
-      record { site = b.site_is; to_do = b.to_do_is; tested = λ test r k. ap test b.site_is ∙ (and_true (test site.0) (keeps_all test r a && keeps_all test r c) k).0; zero = λ r k. absurd (cc) }
-  head_step x rest cells (While site cond a) event next s =
-      let b = by_evaluated site cells (decided (eval p input cells cond)) (followed x rest (While site cond a)) event next s in
-      record { site = b.site_is; to_do = b.to_do_is; tested = λ test r k. ap test b.site_is ∙ (and_true (test site.0) (keeps_all test r a) k).0; zero = λ r k. absurd (cc) }
-  head_step x rest cells (Region q site cond a) event next s =
-      let b = by_evaluated site cells (decided (eval p input cells cond)) (followed x rest (Region q site cond a)) event next s in
+      let b = by_evaluated site (evaluated p input cells (Assign site v e)) (after_effect p x rest cells (Assign site v e)) event next s in
       record {
         site = b.site_is;
-        to_do = b.to_do_is;
+        to_do = to_do_of x rest cells (Assign site v e) event next b.next_is;
+        tested = λ test r k. ap test b.site_is ∙ k;
+        zero = λ r k. absurd (cc);
+        left = quiet_stays (evaluated p input cells (Assign site v e)) event.effect b.loads_of (quiet_then (eval p input cells e) _ (λ z. refl)) b.was;
+      }
+  head_step x rest cells (Store site v index e) event next s =
+      let b = by_evaluated site (evaluated p input cells (Store site v index e)) (after_effect p x rest cells (Store site v index e)) event next s in
+      record {
+        site = b.site_is;
+        to_do = to_do_of x rest cells (Store site v index e) event next b.next_is;
+        tested = λ test r k. ap test b.site_is ∙ k;
+        zero = λ r k. absurd (cc);
+        left = quiet_stays (evaluated p input cells (Store site v index e)) event.effect b.loads_of (quiet_then (eval p input cells index) _ (λ i. quiet_then (eval p input cells e) _ (λ z. quiet_then (place i (cell_count p v)) _ (λ k. refl)))) b.was;
+      }
+  head_step x rest cells (Print site e) event next s =
+      let b = by_evaluated site (evaluated p input cells (Print site e)) (after_effect p x rest cells (Print site e)) event next s in
+      record {
+        site = b.site_is;
+        to_do = to_do_of x rest cells (Print site e) event next b.next_is;
+        tested = λ test r k. ap test b.site_is ∙ k;
+        zero = λ r k. absurd (cc);
+        left = quiet_stays (evaluated p input cells (Print site e)) event.effect b.loads_of (quiet_then (eval p input cells e) _ (λ z. refl)) b.was;
+      }
+  head_step x rest cells (If site cond a c) event next s =
+      let b = by_evaluated site (evaluated p input cells (If site cond a c)) (after_effect p x rest cells (If site cond a c)) event next s in
+      record {
+        site = b.site_is;
+        to_do = to_do_of x rest cells (If site cond a c) event next b.next_is;
+        tested = λ test r k. ap test b.site_is ∙ (and_true (test site.0) (keeps_all test r a && keeps_all test r c) k).0;
+        zero = λ r k. absurd (cc);
+        left = decided_stays (eval p input cells cond) event.effect b.loads_of b.was;
+      }
+  head_step x rest cells (While site cond a) event next s =
+      let b = by_evaluated site (evaluated p input cells (While site cond a)) (after_effect p x rest cells (While site cond a)) event next s in
+      record {
+        site = b.site_is;
+        to_do = to_do_of x rest cells (While site cond a) event next b.next_is;
+        tested = λ test r k. ap test b.site_is ∙ (and_true (test site.0) (keeps_all test r a) k).0;
+        zero = λ r k. absurd (cc);
+        left = decided_stays (eval p input cells cond) event.effect b.loads_of b.was;
+      }
+  head_step x rest cells (Region q site cond a) event next s =
+      let b = by_evaluated site (evaluated p input cells (Region q site cond a)) (after_effect p x rest cells (Region q site cond a)) event next s in
+      record {
+        site = b.site_is;
+        to_do = to_do_of x rest cells (Region q site cond a) event next b.next_is;
         tested = λ test r k. ap test b.site_is ∙ (and_true (test site.0) (not (q == r) && keeps_all test r a) k).0;
         zero = λ r k. decided_zero_is (eval p input cells cond) event.effect b.loads_of b.was;
+        left = decided_stays (eval p input cells cond) event.effect b.loads_of b.was;
+      }
+  head_step x rest cells (Break site cond) event next s =
+      let b = by_evaluated site (evaluated p input cells (Break site cond)) (after_effect p x rest cells (Break site cond)) event next s in
+      record {
+        site = b.site_is;
+        to_do = to_do_of x rest cells (Break site cond) event next b.next_is;
+        tested = λ test r k. ap test b.site_is ∙ k;
+        zero = λ r k. absurd (cc);
+        left = tried_leaves (eval p input cells cond) event.effect b.loads_of b.was;
       }
   head_step x rest cells (Call f line args) event next s = absurd (cc)
 

@@ -4,7 +4,7 @@ use Rattle.std.proofs.lemmas.List.{drop-drop}
 use Rattle.dp_tree.specs.declared.Program.{Program}
 use Rattle.dp_tree.specs.Step.{Event}
 use Rattle.dp_tree.specs.Trace.{Run, run_of}
-use Rattle.dp_tree.specs.Iteration.{stands_at_head, places, starts, start, decided_zero, stop_from, events_from, iteration}
+use Rattle.dp_tree.specs.Iteration.{stands_at_head, places, starts, start, stop_from, events_from, iteration}
 use Rattle.dp_tree.specs.IterationLaws.{events_of_first, IterationsAdjoin}
 use Rattle.dp_tree.proofs.RunLaws.{runs_by_step}
 
@@ -56,11 +56,7 @@ module _ (run : Run) (r : ℕ) (one_more : length run.configs ≡ suc (length ru
   -- it doesn't stop before it starts
   stop_after : (i k : ℕ) → start run r i ≡ Some k → (o : Option ℕ) → start run r (suc i) ≡ o → k ≤ stop_from run k o
   stop_after i k e (Some next) f = let h = ascending i k next e f in omega (arith, h)
-  stop_after i k e None f = by (decided_zero (slice_get run.trace k))
-    where
-      by : (b : Bool) → k ≤ (if b then suc k else length run.trace)
-      by true = omega arith
-      by false = within i k e
+  stop_after i k e None f = omega arith
 
   -- the one before an iteration that is reached is reached too
   earlier : (i k : ℕ) → start run r (suc i) ≡ Some k → (j : ℕ) × (start run r i ≡ Some j)

@@ -2,8 +2,11 @@ pub mod EvalLemmas
 pub mod LegLemmas
 pub mod RunLaws
 pub mod IterationLaws
+pub mod InMain
 pub mod Heads
+pub mod Inner
 pub mod Places
+pub mod GoesOn
 pub mod InsideRegion
 pub mod RegionLaws
 pub mod Build

@@ -1,20 +1,22 @@
 -- A region's events are those of its iterations.
-use Rattle.std.proofs.Common.{◌≡◌, refl, sym, ap, ap₂, ◌∙◌, ℕ, zero, suc, ◌+◌, ◌-◌, ◌<◌, Bool, true, false, List, [], ◌∷◌, ◌++◌, ℤ, length, get_or, take, drop, filter, Option, Some, None, slice_get, slice_range, append-nil, arith}
+use Rattle.std.proofs.Common.{◌≡◌, refl, sym, ap, ap₂, ◌∙◌, ℕ, zero, suc, ◌+◌, ◌-◌, ◌<◌, Bool, true, false, List, [], ◌∷◌, ◌++◌, ℤ, length, get_or, take, drop, filter, Option, Some, None, slice_get, slice_range, append-nil, inl, inr, arith}
 use Rattle.std.proofs.Math.Seq.{drop-append_seam, take-append_seam}
 use Rattle.std.proofs.lemmas.List.Elements.{filter-append}
 use Rattle.std.proofs.lemmas.Option.{slice_get_past, slice_get-get_or}
 use Rattle.dp_tree.specs.declared.Stmt.{Stmt, out-Stmt}
 use Rattle.dp_tree.specs.declared.Stmt.TheVariants as tree
 use Rattle.dp_tree.specs.declared.Program.{Program}
+use Rattle.dp_tree.specs.declared.Stmt.TheOpen.{Stmt-F}
+use Rattle.std.proofs.lemmas.Bool.{cases_Bool}
 use Rattle.dp_tree.specs.Event.{Event, value_of}
-use Rattle.dp_tree.specs.Step.{Config, Step, Finished, Faulted, Stepped, followed, step}
+use Rattle.dp_tree.specs.Step.{Config, Step, Finished, Faulted, Stepped, followed, behind_region, behind_one, region_number, step}
 use Rattle.dp_tree.specs.Trace.{Run, run_of, run_by, ended, extended, start_cells, begin}
 use Rattle.dp_tree.specs.Iteration.{begins_with, stands_at_head, places, starts, start, stop_from}
 use Rattle.dp_tree.specs.IterationLaws.{events_of_first, AreAdjacent}
 use Rattle.dp_tree.specs.RegionLaws.{is_other_site, keeps, StandsOnce, is_event_of, RegionsAreIterations}
 use Rattle.dp_tree.proofs.IterationLaws.{iterations_adjoin}
-use Rattle.dp_tree.proofs.Heads.{and_true, keeps_all, keeps_at, keeps_out, keeps_followed, no_region, followed-append, stepped, standing_to_do}
-use Rattle.dp_tree.proofs.InsideRegion.{Inside, left_out, skip, meet, at_region, later_stop, still_none, inside}
+use Rattle.dp_tree.proofs.Heads.{and_true, keeps_all, keeps_at, keeps_out, keeps_followed, no_region, followed-append, keeps_behind, taken, taken_left, left-append, stepped, standing_to_do}
+use Rattle.dp_tree.proofs.InsideRegion.{Inside, Quiet, quiet, region_out, left_out, skip, meet, at_region, later_stop, still_none, inside}
 use Rattle.dp_tree.proofs.Places.{place_down}
 
 module _ (p : Program) (input : List ℤ) (r : ℕ) (once : StandsOnce p r) where
@@ -112,6 +114,30 @@ module _ (p : Program) (input : List ℤ) (r : ℕ) (once : StandsOnce p r) wher
       one_more : (a b : ℕ) → suc (a + b) ≡ suc a + b
       one_more a b = omega arith
 
+  -- an event that passes the region by
+  passes_by : (fuel : ℕ) (c : Config) (event : Event) (run : Run) → others event.site ≡ true → here c ≡ false → Quiet p input r once run → Reached (extended fuel c event run)
+  passes_by fuel c event run is off q = record {
+    before = event ∷ [];
+    own = [];
+    behind = run.trace;
+    trace_is = refl;
+    none_before = left_out p input r once event [] is;
+    all_own = refl;
+    none_behind = q.none;
+    first = λ k e. no_place 0 k (sym (ap (λ (ns : List ℕ). slice_get ns 0) nowhere) ∙ e);
+    stops = λ i k e f. no_place i k (sym (ap (λ (ns : List ℕ). slice_get ns i) nowhere) ∙ e);
+    unreached = λ e. refl;
+  }
+    where
+      nowhere : places here 0 (c ∷ run.configs) ≡ []
+      nowhere = skip p input r once c 0 run.configs off ∙ q.no_start 1
+
+      no_place : {A : Type 0} (i k : ℕ) → slice_get {X = ℕ} [] i ≡ Some k → A
+      no_place i k e = absurd (cc)
+
+  region_left : behind_region (region ∷ once.behind) ≡ once.behind
+  region_left = ap (λ (u : Stmt-F Stmt). behind_one (region_number u) once.behind (behind_region once.behind)) (region_out p input r once)
+
   reached_by : (n : ℕ) (c : Config) (x : Stmt) (xs : List Stmt) (go : (d : Config) (ys : List Stmt) → d.to_do ≡ ys ++ region ∷ once.behind → keeps_all others r ys ≡ true → Reached (run_of p input n d)) (s : Step) →
       step p input c ≡ s → c.to_do ≡ x ∷ xs ++ region ∷ once.behind → keeps_all others r (x ∷ xs) ≡ true → here c ≡ false → Reached (run_by (run_of p input n) (suc n) c s)
   reached_by n c x xs go Finished e todo h off = waits (suc n) c _ off
@@ -120,9 +146,23 @@ module _ (p : Program) (input : List ℤ) (r : ℕ) (once : StandsOnce p r) wher
       let both = and_true (keeps others r x) (keeps_all others r xs) h in
       let head : keeps_at others r (out-Stmt x) ≡ true = sym (keeps_out others r x) ∙ both.0 in
       let st = stepped p input c x (xs ++ region ∷ once.behind) event next todo e in
-      let rest : next.to_do ≡ followed x xs (out-Stmt x) (value_of event.effect) ++ region ∷ once.behind = st.to_do ∙ followed-append x xs (region ∷ once.behind) (out-Stmt x) (value_of event.effect) in
-      goes_on (suc n) c event (run_of p input n next) (st.tested others r head) off
-      (go next (followed x xs (out-Stmt x) (value_of event.effect)) rest (keeps_followed others r x xs (out-Stmt x) (value_of event.effect) both.0 head both.1))
+      let kept = keeps_followed others r x xs (out-Stmt x) (value_of event.effect) both.0 head both.1 in
+      let mine = st.tested others r head in
+      elim (cases_Bool (taken (out-Stmt x) (value_of event.effect))) [
+        | inl t ↦
+            let out = st.to_do ∙ taken_left x (xs ++ region ∷ once.behind) (out-Stmt x) (value_of event.effect) t in
+            elim (left-append xs (region ∷ once.behind)) [
+              | inl w ↦
+                  let rest : next.to_do ≡ behind_region xs ++ region ∷ once.behind = out ∙ w in
+                  goes_on (suc n) c event (run_of p input n next) mine off (go next (behind_region xs) rest (keeps_behind others r xs both.1))
+              | inr w ↦
+                  let todo_next : next.to_do ≡ once.behind = out ∙ w ∙ region_left in
+                  passes_by (suc n) c event (run_of p input n next) mine off (quiet p input r once n next (ap (keeps_all others r) todo_next ∙ once.later))
+            ]
+        | inr t ↦
+            let rest : next.to_do ≡ followed x xs (out-Stmt x) (value_of event.effect) ++ region ∷ once.behind = st.to_do ∙ followed-append x xs (region ∷ once.behind) (out-Stmt x) (value_of event.effect) t in
+            goes_on (suc n) c event (run_of p input n next) mine off (go next (followed x xs (out-Stmt x) (value_of event.effect)) rest kept)
+      ]
 
   first_of_run : (n : ℕ) (c : Config) → (more : List Config) × ((run_of p input n c).configs ≡ c ∷ more)
   unfolding run_of
@@ -139,7 +179,7 @@ module _ (p : Program) (input : List ℤ) (r : ℕ) (once : StandsOnce p r) wher
 
   reached : (n : ℕ) (c : Config) (xs : List Stmt) → c.to_do ≡ xs ++ region ∷ once.behind → keeps_all others r xs ≡ true → Reached (run_of p input n c)
   unfolding run_of
-  reached n c [] e h = let front = first_of_run n c in arrives c (run_of p input n c) (at_region p input r once c once.behind e) front.0 front.1 (inside p input r once n c [] e refl)
+  reached n c [] e h = let front = first_of_run n c in arrives c (run_of p input n c) (at_region p input r once c once.behind e) front.0 front.1 (inside p input r once n c [] e refl refl)
   reached zero c (x ∷ xs) e h = waits 0 c _ (not_yet c x xs e h)
   reached (suc n) c (x ∷ xs) e h = reached_by n c x xs (reached n) (step p input c) refl e h (not_yet c x xs e h)
 

@@ -4,7 +4,7 @@ use Rattle.std.specs.List.{list_all, list_any}
 use Rattle.dp_tree.specs.declared.Expr.{Expr, end_of-Expr, more_of-Expr}
 use Rattle.dp_tree.specs.declared.Expr.TheVariants.{Number, Input', InputLen, Scalar, Element', Unary', Binary', And', Or'}
 use Rattle.dp_tree.specs.declared.Stmt.{Stmt, Row_of-Stmt, end_of-Stmt, more_of-Stmt}
-use Rattle.dp_tree.specs.declared.Stmt.TheVariants.{Assign, Store, Print, If', While', Region', Call}
+use Rattle.dp_tree.specs.declared.Stmt.TheVariants.{Assign, Store, Print, If', While', Region', Break, Call}
 use Rattle.dp_tree.specs.declared.Program.{Program}
 use Rattle.dp_tree.specs.Layout.{globals_first, lies_in_order}
 use Rattle.dp_tree.specs.Numbering.{site_numbers_all, numbers_from, regions_in_order, regions_listed}
@@ -18,6 +18,7 @@ abbrev mutual
   has_call (If' site cond _ then_part _ else_part) = has_call_in then_part || has_call_in else_part
   has_call (While' site cond _ body) = has_call_in body
   has_call (Region' r site cond _ body) = has_call_in body
+  has_call (Break site cond) = false
   has_call (Call f line args) = true
 
   -- a call stands in one of them
@@ -46,6 +47,7 @@ abbrev mutual
   stmt_within n (If' site cond _ then_part _ else_part) = expr_within n cond && (rows_within n then_part && rows_within n else_part)
   stmt_within n (While' site cond _ body) = expr_within n cond && rows_within n body
   stmt_within n (Region' r site cond _ body) = expr_within n cond && rows_within n body
+  stmt_within n (Break site cond) = expr_within n cond
   stmt_within n (Call f line args) = list_all (expr_within n) args
 
   -- the same of several statements

@@ -11,6 +11,8 @@ pub mod RegionLaws
 pub mod Leg
 pub mod Layout
 pub mod Numbering
+pub mod InMain
+pub mod GoesOn
 pub mod Scoping
 pub mod Checked
 pub mod Inlined

@@ -4,7 +4,7 @@ use Rattle.std.specs.List.{flat_map}
 use Rattle.dp_tree.specs.declared.RegionInfo.{RegionInfo}
 use Rattle.dp_tree.specs.declared.Program.{Program}
 use Rattle.dp_tree.specs.declared.Stmt.{Stmt, Row_of-Stmt, end_of-Stmt, more_of-Stmt}
-use Rattle.dp_tree.specs.declared.Stmt.TheVariants.{Assign, Store, Print, If', While', Region', Call}
+use Rattle.dp_tree.specs.declared.Stmt.TheVariants.{Assign, Store, Print, If', While', Region', Break, Call}
 
 abbrev mutual
   -- the numbers of the sites of a statement, in text order
@@ -15,6 +15,7 @@ abbrev mutual
   site_numbers (If' site cond _ then_part _ else_part) = site.0 ∷ (site_numbers_in then_part ++ site_numbers_in else_part)
   site_numbers (While' site cond _ body) = site.0 ∷ site_numbers_in body
   site_numbers (Region' r site cond _ body) = site.0 ∷ site_numbers_in body
+  site_numbers (Break site cond) = site.0 ∷ []
   site_numbers (Call f line args) = []
 
   pub site_numbers_in : {n : _} → Row_of-Stmt n → List ℕ
@@ -35,7 +36,7 @@ abbrev pub SitesInOrder : Program → Type 0
 SitesInOrder p = site_numbers_all p.main ++ flat_map (λ f. site_numbers_all f.body) p.functions ≡ numbers_from 1 (length p.sites)
 
 abbrev mutual
-  -- no region stands in the statement
+  -- no region and no break stands in the statement
   pub is_plain : Stmt → Bool
   is_plain (Assign site x e) = true
   is_plain (Store site x index e) = true
@@ -43,15 +44,25 @@ abbrev mutual
   is_plain (If' site cond _ then_part _ else_part) = is_plain_in then_part && is_plain_in else_part
   is_plain (While' site cond _ body) = is_plain_in body
   is_plain (Region' r site cond _ body) = false
+  is_plain (Break site cond) = false
   is_plain (Call f line args) = true
 
   pub is_plain_in : {n : _} → Row_of-Stmt n → Bool
   is_plain_in end_of-Stmt = true
   is_plain_in (more_of-Stmt s rest) = is_plain s && is_plain_in rest
 
--- a statement at the top of `main`: region r with none inside, or no region
+-- a statement at the top of a region's body: a break, or a plain one
+abbrev pub is_inner : Stmt → Bool
+is_inner (Break site cond) = true
+is_inner s = is_plain s
+
+abbrev pub is_inner_in : {n : _} → Row_of-Stmt n → Bool
+is_inner_in end_of-Stmt = true
+is_inner_in (more_of-Stmt s rest) = is_inner s && is_inner_in rest
+
+-- a statement at the top of `main`: region r with no region inside and breaks at the top of its body alone, or a plain one
 abbrev pub top_fits : ℕ → Stmt → Bool
-top_fits r (Region' q site cond _ body) = (q == r) && is_plain_in body
+top_fits r (Region' q site cond _ body) = (q == r) && is_inner_in body
 top_fits r s = is_plain s
 
 abbrev pub next_region : ℕ → Stmt → ℕ

@@ -4,10 +4,11 @@ use Rattle.std.specs.List.{list_all}
 use Rattle.dp_base.specs.declared.SiteId.{SiteId}
 use Rattle.dp_tree.specs.declared.Expr.{Expr}
 use Rattle.dp_tree.specs.declared.Stmt.{Stmt, Row_of-Stmt, end_of-Stmt, more_of-Stmt}
-use Rattle.dp_tree.specs.declared.Stmt.TheVariants.{Assign, Store, Print, If', While', Region, Region', Call}
+use Rattle.dp_tree.specs.declared.Stmt.TheVariants.{Assign, Store, Print, If', While', Region, Region', Break, Call}
 use Rattle.dp_tree.specs.declared.RegionInfo.{RegionInfo}
 use Rattle.dp_tree.specs.declared.Program.{Program}
 use Rattle.dp_tree.specs.Step.{Event}
+use Rattle.dp_tree.specs.Numbering.{is_inner}
 use Rattle.dp_tree.specs.Trace.{run_of, begin}
 use Rattle.dp_tree.specs.Iteration.{starts}
 use Rattle.dp_tree.specs.IterationLaws.{events_of_first}
@@ -34,6 +35,7 @@ abbrev mutual
   keeps test r (If' site cond _ then_part _ else_part) = test site.0 && (keeps_in test r then_part && keeps_in test r else_part)
   keeps test r (While' site cond _ body) = test site.0 && keeps_in test r body
   keeps test r (Region' q site cond _ body) = test site.0 && (not (q == r) && keeps_in test r body)
+  keeps test r (Break site cond) = test site.0
   keeps test r (Call f line args) = true
 
   -- the same of several statements
@@ -51,6 +53,7 @@ pub record StandsOnce (p : Program) (r : ℕ) : Type 0 where
   pub main_is : p.main ≡ before ++ Region r site cond body ∷ behind
   pub condition : is_site_of p r site.0 ≡ true
   pub inside : list_all (keeps (is_site_of p r) r) body ≡ true
+  pub inner : list_all is_inner body ≡ true
   pub earlier : list_all (keeps (is_other_site p r) r) before ≡ true
   pub later : list_all (keeps (is_other_site p r) r) behind ≡ true
 

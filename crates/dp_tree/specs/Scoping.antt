@@ -5,7 +5,7 @@ use Rattle.dp_base.specs.declared.VarId.{VarId}
 use Rattle.dp_tree.specs.declared.Expr.{Expr, end_of-Expr, more_of-Expr}
 use Rattle.dp_tree.specs.declared.Expr.TheVariants.{Number, Input', InputLen, Scalar, Element', Unary', Binary', And', Or'}
 use Rattle.dp_tree.specs.declared.Stmt.{Stmt, Row_of-Stmt, end_of-Stmt, more_of-Stmt}
-use Rattle.dp_tree.specs.declared.Stmt.TheVariants.{Assign, Store, Print, If', While', Region', Call}
+use Rattle.dp_tree.specs.declared.Stmt.TheVariants.{Assign, Store, Print, If', While', Region', Break, Call}
 use Rattle.dp_tree.specs.declared.VarInfo.{VarInfo}
 use Rattle.dp_tree.specs.declared.VarScope.{VarScope}
 use Rattle.dp_tree.specs.declared.VarScope.TheVariants.{Outer, Body}
@@ -57,6 +57,7 @@ abbrev mutual
   in_scope p r n visible (If' site cond _ then_part _ else_part) = knows visible cond && (rows_in_scope p r n visible then_part && rows_in_scope p r n visible else_part)
   in_scope p r n visible (While' site cond _ body) = knows visible cond && rows_in_scope p r n visible body
   in_scope p r n visible (Region' q site cond _ body) = knows visible cond && rows_in_scope p q n visible body
+  in_scope p r n visible (Break site cond) = knows visible cond
   in_scope p r n visible (Call f line args) = nat_lt f n && (list_all (knows visible) args && (length args == length (params_in (slice_get p.functions f))))
 
   -- the same of several statements, one after the other

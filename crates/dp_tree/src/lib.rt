@@ -10,7 +10,8 @@ mod laws;
 mod raw;
 
 pub use laws::{
-    a_region_is_its_iterations, a_run_goes_by_steps, iterations_adjoin, less_fuel_gives_a_front,
+    a_region_is_its_iterations, a_run_goes_by_steps, a_run_goes_on, iterations_adjoin,
+    less_fuel_gives_a_front, runs_stay_in_main,
 };
 pub use raw::{Name, RawExpr, RawItem, RawProgram, RawStmt};
 
@@ -68,6 +69,11 @@ pub enum Stmt {
         cond: Expr,
         body: Row<Stmt>,
     },
+    /// An early exit, at the top of a region's body: where the condition isn't 0, the region is left.
+    Break {
+        site: SiteId,
+        cond: Expr,
+    },
     /// A call of a function, counted from 0, on the line of the function's name.
     Call {
         function: u32,
@@ -105,6 +111,7 @@ pub enum SiteKind {
     Print,
     If,
     While,
+    Break,
 }
 
 /// A site: the line of its statement's first token, from 1, and its region, or 0 outside all regions.

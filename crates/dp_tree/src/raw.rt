@@ -56,6 +56,20 @@ pub enum RawStmt {
         cond: RawExpr,
         body: Row<RawStmt>,
     },
+    /// A `for`, on the line of the word: `first` and `step` hold one statement each.
+    For {
+        line: u32,
+        marked: bool,
+        first: Row<RawStmt>,
+        cond: RawExpr,
+        step: Row<RawStmt>,
+        body: Row<RawStmt>,
+    },
+    /// An early exit, at the top of a marked loop's body.
+    Break {
+        line: u32,
+        cond: RawExpr,
+    },
 }
 
 /// A declaration at file scope.

@@ -21,6 +21,13 @@ use Rattle.dswp.specs.Program.{Reads, ReadsAs, TooLong, NoToken, TooDeep, NoTree
 use Rattle.dswp.specs.Answer.{Contents, Holds, ReadsInput, input_of, or_refused}
 use Rattle.dswp.specs.Loading.{LoadsProgram}
 use Rattle.dswp.proofs.accepted.Lengths.{lengths}
+use Rattle.dswp.proofs.accepted.Exits.{exits}
+use Rattle.dp_base.specs.declared.Quantity.TheVariants.{PlanBytes}
+use Rattle.dp_plan.specs.declared.Plan.{Plan}
+use Rattle.dp_plan.specs.Refused.{IsRefused, IsBroken, StandsFor}
+use Rattle.dswp.specs.declared.refusal.Refusal.TheVariants.{PlanLine, PlanRule}
+use Rattle.dswp.specs.Plans.{ReadsPlans, TooLong as PlansTooLong, NotPlans, Broken, Taken}
+use Rattle.dswp.specs.Loading.{LoadsPlans}
 
 pub no_token : (text : List ℕ) (place : ℕ) → length text ≤ 65536 → RefusedAt text place → Reads text (Err (Byte place))
 no_token text place short h = NoToken place short h
@@ -28,8 +35,8 @@ no_token text place short h = NoToken place short h
 pub too_deep : (text : List ℕ) (quantity : Quantity) (count : ℕ) → length text ≤ 65536 → NestsTooDeep text quantity count → Reads text (Err (Limit quantity count))
 too_deep text quantity count short h = TooDeep quantity count short h
 
-pub no_tree : (text : List ℕ) → length text ≤ 65536 → DerivesNothing text → Reads text (Err Syntax)
-no_tree text short h = NoTree short h
+pub no_tree : (text : List ℕ) (token : ℕ) → length text ≤ 65536 → DerivesNothing text token → Reads text (Err (Syntax token))
+no_tree text token short h = NoTree token short h
 
 pub ruleset unread_texts = (no_token, too_deep, no_tree)
 
@@ -39,7 +46,7 @@ read text raw o short h e = record { source = judged (verdict raw); reads = Judg
 pub unread : (text : List ℕ) (refusal : Refusal) → Reads text (Err refusal) → ReadsAs text (Err refusal)
 unread text refusal h = record { source = Err refusal; reads = h; is = refl }
 
-pub ruleset judged_texts = (read, unread, lengths)
+pub ruleset judged_texts = (read, unread, lengths, exits)
 
 pub fit : (raw : RawProgram) (p : Program) (o : Result Program Refusal) → verdict raw ≡ Ok p → o ≡ expanded (sized p (size_verdict p)) → o ≡ expanded (judged (verdict raw))
 fit raw p o is e = e ∙ sym (ap (λ (v : Result Program CheckFail). expanded (judged v)) is)
@@ -81,4 +88,22 @@ long_program contents name h =
     let found = long_text contents name 65536 h in
     record { source = Err (Limit ProgramBytes 65537); reads = record { text = found.0; held = found.1.0; reads = TooLong found.1.1 }; is = refl }
 
-pub ruleset long_texts = (long_input, long_program)
+-- a text of plans that is longer than its limit
+pub long_plans : (contents : Contents) (p : Program) (name : List ℕ) → IfSome contents (λ held. IsSomeAnd (held name) (λ content. 1048576 < length content)) → LoadsPlans contents p name (Err (Limit PlanBytes 1048577))
+long_plans contents p name h =
+    let found = long_text contents name 1048576 h in
+    record { text = found.0; held = found.1.0; reads = PlansTooLong found.1.1 }
+
+pub ruleset long_texts = (long_input, long_program, long_plans)
+
+-- what a text of plans is read as
+pub plans_taken : (p : Program) (text : List ℕ) (plans : List Plan) → length text ≤ 1048576 → StandsFor p text plans → ReadsPlans p text (Ok plans)
+plans_taken p text plans short h = Taken plans short h
+
+pub no_plans : (p : Program) (text : List ℕ) (line : ℕ) → length text ≤ 1048576 → IsRefused p text line → ReadsPlans p text (Err (PlanLine line))
+no_plans p text line short h = NotPlans line short h
+
+pub broken_plans : (p : Program) (text : List ℕ) (rule site : ℕ) → length text ≤ 1048576 → IsBroken p text (Some (record { rule = rule; site = site })) → ReadsPlans p text (Err (PlanRule rule site))
+broken_plans p text rule site short h = Broken rule site short h
+
+pub ruleset plan_texts = (plans_taken, no_plans, broken_plans)

@@ -1,58 +1,62 @@
 -- What the texts of a run give, from what each of them was loaded as.
 use Rattle.std.proofs.Common.{◌≡◌, refl, sym, ◌∙◌, ap, subst, ℕ, ◌<◌, List, [], Option, Some, None, ℤ, Result, Ok, Err, IfOk}
+use Rattle.std.specs.Result.{OnErr}
 use Rattle.std.specs.Option.{option_map}
 use Rattle.dp_base.specs.declared.NoMemory.{NoMemory}
 use Rattle.dp_tree.specs.declared.Program.{Program}
+use Rattle.dp_plan.specs.declared.Plan.{Plan}
+use Rattle.dp_calls.specs.Expand.{expand}
+use Rattle.dp_words.specs.Words.{Run}
 use Rattle.dswp.specs.declared.refusal.Role.TheVariants as role
 use Rattle.dswp.specs.declared.refusal.Refusal.{Refusal}
 use Rattle.dswp.specs.declared.load.Loaded.{Loaded}
 use Rattle.dswp.specs.declared.load.Loaded.TheVariants.{Text, Refused, Failed}
+use Rattle.dswp.specs.declared.texts.Texts.{Texts}
 use Rattle.dswp.specs.declared.texts.Texts.TheVariants as texts
-use Rattle.dswp.specs.Words.{Run}
-use Rattle.dswp.specs.Answer.{Contents, ReadsInput, Input, Unnamed, Named}
-use Rattle.dp_calls.specs.Expand.{expand}
+use Rattle.dswp.specs.Answer.{Contents, ReadsInput, Input, Unnamed, Named, Plans, OneStage, Planned}
 use Rattle.dswp.specs.Program.{expanded}
-use Rattle.dswp.specs.Loading.{ReadsProgram, LoadsProgram, Loads, FaultsAfterLoad, names_after}
-use Rattle.dswp.specs.Carried.{Names, with_name, LoadsTexts, Loaded as LoadedTexts, ProgramRefused, InputRefused, ProgramFailed, InputFailed}
+use Rattle.dswp.specs.Loading.{ReadsProgram, LoadsProgram, LoadsPlans, Loads, FaultsAfterLoad, names_after, Gives}
+use Rattle.dswp.specs.Carried.{Names, with_name, LoadsTexts, Loaded as LoadedTexts, ProgramRefused, InputRefused, PlansRefused, ProgramFailed, InputFailed, PlansFailed}
 
 same_names : (names : Names) → option_map (λ all. all) names ≡ names
 same_names None = refl
 same_names (Some all) = refl
 
--- one load: what it gave, and what it left of the shelf
-pub record OneLoad (X : Type 0) (P : Result X Refusal → Type 0) (name : List ℕ) (faults after : ℕ) (failed fails : Names) (r : Result (Loaded X) NoMemory) : Type 0 where
-  pub loads : IfOk r (Loads P)
-  pub faults_after : FaultsAfterLoad r faults after
-  pub names : fails ≡ option_map (names_after r name) failed
+-- one load of a named text: what it gave, and what it left of the shelf
+pub gives : {X : Type 0} (P Q : Result X Refusal → Type 0) → ((o : Result X Refusal) → P o → Q o) → (name : List ℕ) (faults after : ℕ) (failed fails : Names) (r : Result (Loaded X) NoMemory) →
+    IfOk r (Loads P) → FaultsAfterLoad r faults after → fails ≡ option_map (names_after r name) failed → IfOk r (Gives Q (Some name) faults after failed fails)
+gives P Q weaker name faults after failed fails (Ok (Text x)) h f e = (weaker (Ok x) h, f, e ∙ same_names failed)
+gives P Q weaker name faults after failed fails (Ok (Refused refusal)) h f e = (weaker (Err refusal) h, f, e ∙ same_names failed)
+gives P Q weaker name faults after failed fails (Ok Failed) h f e = (name, refl, f, e)
+gives P Q weaker name faults after failed fails (Err x) h f e = tt
 
-pub one_load : (X : Type 0) (P : Result X Refusal → Type 0) (name : List ℕ) (faults after : ℕ) (failed fails : Names) (r : Result (Loaded X) NoMemory) →
-    IfOk r (Loads P) → FaultsAfterLoad r faults after → fails ≡ option_map (names_after r name) failed → OneLoad X P name faults after failed fails r
-one_load X P name faults after failed fails r h f e = record { loads = h; faults_after = f; names = e }
+-- .. and where memory was wanting
+pub wanting : {X : Type 0} (name : List ℕ) (faults after : ℕ) (failed fails : Names) (r : Result (Loaded X) NoMemory) → FaultsAfterLoad r faults after → fails ≡ option_map (names_after r name) failed →
+    OnErr r ((after ≡ faults) × (fails ≡ failed))
+wanting name faults after failed fails (Ok (Text x)) f e = tt
+wanting name faults after failed fails (Ok (Refused refusal)) f e = tt
+wanting name faults after failed fails (Ok Failed) f e = tt
+wanting name faults after failed fails (Err x) f e = (f, e ∙ same_names failed)
 
--- a load that gave something, or a refusal, left the shelf as it was
-pub record Kept (P : Type 0) (faults after : ℕ) (failed fails : Names) : Type 0 where
-  pub given : P
-  pub faults_same : after ≡ faults
-  pub names_same : fails ≡ failed
+-- an input and plans that are named
+pub input_named : (contents : Contents) (name : List ℕ) (o : Result (List ℤ) Refusal) → ReadsInput contents name o → Input contents (Some name) o
+input_named contents name o h = Named name o h
 
-module _ (X : Type 0) (P : Result X Refusal → Type 0) (name : List ℕ) (faults after : ℕ) (failed fails : Names) where
-  pub one_text : (r : Result (Loaded X) NoMemory) (x : X) → r ≡ Ok (Text x) → OneLoad X P name faults after failed fails r → Kept (P (Ok x)) faults after failed fails
-  one_text r x e h = by_text (rw e at h)
-    where
-      by_text : OneLoad X P name faults after failed fails (Ok (Text x)) → Kept (P (Ok x)) faults after failed fails
-      by_text k = record { given = k.loads; faults_same = k.faults_after; names_same = k.names ∙ same_names failed }
+pub plans_named : (contents : Contents) (p : Program) (name : List ℕ) (o : Result (List Plan) Refusal) → LoadsPlans contents p name o → Plans contents p (Some name) o
+plans_named contents p name o h = Planned name h.text o h.held h.reads
 
-  pub one_refused : (r : Result (Loaded X) NoMemory) (refusal : Refusal) → r ≡ Ok (Refused refusal) → OneLoad X P name faults after failed fails r → Kept (P (Err refusal)) faults after failed fails
-  one_refused r refusal e h = by_refusal (rw e at h)
-    where
-      by_refusal : OneLoad X P name faults after failed fails (Ok (Refused refusal)) → Kept (P (Err refusal)) faults after failed fails
-      by_refusal k = record { given = k.loads; faults_same = k.faults_after; names_same = k.names ∙ same_names failed }
+-- a program, an input and plans that are named
+pub program_gives : (contents : Contents) (name : List ℕ) (faults after : ℕ) (failed fails : Names) (r : Result (Loaded Program) NoMemory) →
+    IfOk r (Loads (LoadsProgram contents name)) → FaultsAfterLoad r faults after → fails ≡ option_map (names_after r name) failed → IfOk r (Gives (LoadsProgram contents name) (Some name) faults after failed fails)
+program_gives contents name faults after failed fails r h f e = gives (LoadsProgram contents name) (LoadsProgram contents name) (λ o k. k) name faults after failed fails r h f e
 
-  pub one_failed : (r : Result (Loaded X) NoMemory) → r ≡ Ok Failed → OneLoad X P name faults after failed fails r → (faults < after) × (fails ≡ with_name name failed)
-  one_failed r e h = by_failure (rw e at h)
-    where
-      by_failure : OneLoad X P name faults after failed fails (Ok Failed) → (faults < after) × (fails ≡ with_name name failed)
-      by_failure k = (k.faults_after, k.names)
+pub input_gives : (contents : Contents) (name : List ℕ) (faults after : ℕ) (failed fails : Names) (r : Result (Loaded (List ℤ)) NoMemory) →
+    IfOk r (Loads (ReadsInput contents name)) → FaultsAfterLoad r faults after → fails ≡ option_map (names_after r name) failed → IfOk r (Gives (Input contents (Some name)) (Some name) faults after failed fails)
+input_gives contents name faults after failed fails r h f e = gives (ReadsInput contents name) (Input contents (Some name)) (λ o k. input_named contents name o k) name faults after failed fails r h f e
+
+pub plans_give : (contents : Contents) (p : Program) (name : List ℕ) (faults after : ℕ) (failed fails : Names) (r : Result (Loaded (List Plan)) NoMemory) →
+    IfOk r (Loads (LoadsPlans contents p name)) → FaultsAfterLoad r faults after → fails ≡ option_map (names_after r name) failed → IfOk r (Gives (Plans contents p (Some name)) (Some name) faults after failed fails)
+plans_give contents p name faults after failed fails r h f e = gives (LoadsPlans contents p name) (Plans contents p (Some name)) (λ o k. plans_named contents p name o k) name faults after failed fails r h f e
 
 -- the program that a loaded one is the expansion of
 pub record Source (contents : Contents) (name : List ℕ) (q : Program) : Type 0 where
@@ -74,41 +78,46 @@ refusal_read contents name refusal h = by h.source h.reads h.is
     by (Ok p) reads is = absurd (cc)
     by (Err other) reads is = let e : other ≡ refusal = cc in subst (λ (x : Refusal). ReadsProgram contents name (Err x)) e reads
 
-module _ (contents : Contents) (run : Run) (faults middle : ℕ) (failed between : Names) where
-  abbrev pub ProgramLoad : Result (Loaded Program) NoMemory → Type 0
-  ProgramLoad r = OneLoad Program (LoadsProgram contents run.program) run.program faults middle failed between r
+-- what a load gave, where it gave something
+pub given : {X E : Type 0} (P : X → Type 0) (r : Result X E) (x : X) → r ≡ Ok x → IfOk r P → P x
+given P r x e h = rw e at h
 
-  pub program_refused : (r : Result (Loaded Program) NoMemory) (refusal : Refusal) → r ≡ Ok (Refused refusal) → ProgramLoad r → LoadsTexts contents run faults middle failed between (texts.Refused refusal)
-  program_refused r refusal e h = let k = one_refused _ _ _ _ _ _ _ r refusal e h in ProgramRefused refusal (refusal_read _ _ _ k.given) k.faults_same k.names_same
+module _ (contents : Contents) (run : Run) (faults one : ℕ) (failed names : Names) where
+  abbrev pub ProgramGives : Loaded Program → Type 0
+  ProgramGives = Gives (LoadsProgram contents run.program) (Some run.program) faults one failed names
 
-  pub program_failed : (r : Result (Loaded Program) NoMemory) → r ≡ Ok Failed → ProgramLoad r → LoadsTexts contents run faults middle failed between (texts.Failed role.Program)
-  program_failed r e h = let k = one_failed _ _ _ _ _ _ _ r e h in ProgramFailed k.0 k.1
+  pub program_refused : (refusal : Refusal) → ProgramGives (Refused refusal) → LoadsTexts contents run faults one failed names (texts.Refused refusal)
+  program_refused refusal g = ProgramRefused refusal (refusal_read contents run.program refusal g.0) g.1 g.2
 
-  pub program_alone : (r : Result (Loaded Program) NoMemory) (p : Program) → r ≡ Ok (Text p) → run.input ≡ None → ProgramLoad r → LoadsTexts contents run faults middle failed between (texts.Run p [])
-  program_alone r p e none h =
-      let k = one_text _ _ _ _ _ _ _ r p e h in let given : Input contents run.input (Ok []) = rw none Unnamed in let q = source_of _ _ _ k.given in LoadedTexts q.source p [] q.is q.reads given k.faults_same k.names_same
+  pub program_failed : ProgramGives Failed → LoadsTexts contents run faults one failed names (texts.Failed role.Program)
+  program_failed g = let same : run.program ≡ g.0 = cc g.1 in ProgramFailed g.2 (g.3 ∙ ap (λ (n : List ℕ). with_name n failed) (sym same))
 
-module _ (contents : Contents) (run : Run) (faults middle after : ℕ) (failed between fails : Names) where
-  abbrev FirstLoad : Result (Loaded Program) NoMemory → Type 0
-  FirstLoad r = OneLoad Program (LoadsProgram contents run.program) run.program faults middle failed between r
+  module _ (two : ℕ) (more : Names) (q : Program) (g : ProgramGives (Text q)) where
+    s : Source contents run.program q
+    s = source_of contents run.program q g.0
 
-  abbrev InputLoad : List ℕ → Result (Loaded (List ℤ)) NoMemory → Type 0
-  InputLoad name r = OneLoad (List ℤ) (ReadsInput contents name) name middle after between fails r
+    abbrev pub InputGives : Loaded (List ℤ) → Type 0
+    InputGives = Gives (Input contents run.input) run.input one two names more
 
-  pub input_given : (r : Result (Loaded Program) NoMemory) (p : Program) (name : List ℕ) (s : Result (Loaded (List ℤ)) NoMemory) (numbers : List ℤ) → r ≡ Ok (Text p) → run.input ≡ Some name → s ≡ Ok (Text numbers) →
-      FirstLoad r → InputLoad name s → LoadsTexts contents run faults after failed fails (texts.Run p numbers)
-  input_given r p name s numbers e named f h m =
-      let k = one_text _ _ _ _ _ _ _ r p e h in let n = one_text _ _ _ _ _ _ _ s numbers f m in
-      let given : Input contents run.input (Ok numbers) = rw named (Named name (Ok numbers) n.given) in let q = source_of _ _ _ k.given in LoadedTexts q.source p numbers q.is q.reads given (n.faults_same ∙ k.faults_same) (n.names_same ∙ k.names_same)
+    pub input_refused : (refusal : Refusal) → InputGives (Refused refusal) → LoadsTexts contents run faults two failed more (texts.Refused refusal)
+    input_refused refusal h = InputRefused refusal s.source s.reads h.0 (h.1 ∙ g.1) (h.2 ∙ g.2)
 
-  pub input_refused : (r : Result (Loaded Program) NoMemory) (p : Program) (name : List ℕ) (s : Result (Loaded (List ℤ)) NoMemory) (refusal : Refusal) → r ≡ Ok (Text p) → run.input ≡ Some name → s ≡ Ok (Refused refusal) →
-      FirstLoad r → InputLoad name s → LoadsTexts contents run faults after failed fails (texts.Refused refusal)
-  input_refused r p name s refusal e named f h m =
-      let k = one_text _ _ _ _ _ _ _ r p e h in let n = one_refused _ _ _ _ _ _ _ s refusal f m in
-      let given : Input contents run.input (Err refusal) = rw named (Named name (Err refusal) n.given) in let q = source_of _ _ _ k.given in InputRefused refusal q.source q.reads given (n.faults_same ∙ k.faults_same) (n.names_same ∙ k.names_same)
+    pub input_failed : InputGives Failed → LoadsTexts contents run faults two failed more (texts.Failed role.Input)
+    input_failed h =
+        let less : faults < two = subst (λ (k : ℕ). k < two) g.1 h.2 in
+        InputFailed s.source h.0 s.reads h.1 less (h.3 ∙ ap (with_name h.0) g.2)
 
-  pub input_failed : (r : Result (Loaded Program) NoMemory) (p : Program) (name : List ℕ) (s : Result (Loaded (List ℤ)) NoMemory) → r ≡ Ok (Text p) → run.input ≡ Some name → s ≡ Ok Failed →
-      FirstLoad r → InputLoad name s → LoadsTexts contents run faults after failed fails (texts.Failed role.Input)
-  input_failed r p name s e named f h m =
-      let k = one_text _ _ _ _ _ _ _ r p e h in let n = one_failed _ _ _ _ _ _ _ s f m in
-      let less : faults < after = rw (sym k.faults_same) n.0 in let names : fails ≡ with_name name failed = n.1 ∙ ap (with_name name) k.names_same in let q = source_of _ _ _ k.given in InputFailed q.source name q.reads named less names
+    module _ (three : ℕ) (last : Names) (numbers : List ℤ) (h : InputGives (Text numbers)) where
+      abbrev pub PlansGive : Loaded (List Plan) → Type 0
+      PlansGive = Gives (Plans contents q run.plan) run.plan two three more last
+
+      pub plans_refused : (refusal : Refusal) → PlansGive (Refused refusal) → LoadsTexts contents run faults three failed last (texts.Refused refusal)
+      plans_refused refusal k = PlansRefused refusal s.source numbers s.reads h.0 (subst (λ (x : Program). Plans contents x run.plan (Err refusal)) s.is k.0) (k.1 ∙ h.1 ∙ g.1) (k.2 ∙ h.2 ∙ g.2)
+
+      pub plans_failed : PlansGive Failed → LoadsTexts contents run faults three failed last (texts.Failed role.Plan)
+      plans_failed k =
+          let less : faults < three = subst (λ (n : ℕ). n < three) (h.1 ∙ g.1) k.2 in
+          PlansFailed s.source numbers k.0 s.reads h.0 k.1 less (k.3 ∙ ap (with_name k.0) (h.2 ∙ g.2))
+
+      pub all_loaded : (plans : List Plan) → PlansGive (Text plans) → LoadsTexts contents run faults three failed last (texts.Run q numbers plans)
+      all_loaded plans k = LoadedTexts s.source q numbers plans s.is s.reads h.0 k.0 (k.1 ∙ h.1 ∙ g.1) (k.2 ∙ h.2 ∙ g.2)

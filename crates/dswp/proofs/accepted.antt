@@ -1,5 +1,6 @@
 pub mod Lengths
-pub mod Inlined
+pub mod Exits
 pub mod State
 pub mod SameText
-pub mod Sequential
+pub mod Accepted
+pub mod Given

@@ -1,3 +1,4 @@
 pub mod ReadsOnce
+pub mod PlansOnce
 pub mod AsksOnce
 pub mod AnswersOnce

@@ -13,7 +13,11 @@ use Rattle.dswp.specs.declared.refusal.Refusal.{Refusal}
 use Rattle.dswp.specs.declared.refusal.Refusal.TheVariants.{Words, InputWord, Limit}
 use Rattle.dswp.specs.Refusal.{refusal_line, refusal_status}
 use Rattle.dp_report.specs.SiteText.{site_bytes}
-use Rattle.dswp.specs.Words.{Run, Asks, AsksSites, AsksNothing}
+use Rattle.dp_words.specs.Words.{Run, Asks, AsksSites, AsksNothing}
+use Rattle.dp_run.specs.RunText.{source_run, committed_in_all}
+use Rattle.dp_plan.specs.declared.Plan.{Plan}
+use Rattle.dp_plan.specs.OneStage.{one_stage_plans}
+use Rattle.dswp.specs.Plans.{ReadsPlans}
 use Rattle.dswp.specs.Program.{Reads}
 use Rattle.dswp.specs.RunText.{run_text, status_of}
 
@@ -50,16 +54,23 @@ pub data Input (contents : Contents) : Option (List ℕ) → Result (List ℤ) R
   Unnamed : Input contents None (Ok [])
   Named : (name : List ℕ) (read : Result (List ℤ) Refusal) → ReadsInput contents name read → Input contents (Some name) read
 
--- The first refusal, in the order of words, program and input, or else the run, or the list of sites.
+-- the plans of a run of this expanded program: one stage for each region where none are named, and else what the text under the name gives
+pub data Plans (contents : Contents) (p : Program) : Option (List ℕ) → Result (List Plan) Refusal → Type 0 where
+  OneStage : Plans contents p None (Ok (one_stage_plans p))
+  Planned : (name text : List ℕ) (read : Result (List Plan) Refusal) → Holds contents name text → ReadsPlans p text read → Plans contents p (Some name) read
+
+-- The first refusal, in the order of words, program, input and plans, or else the run, or the list of sites.
 pub data Answer (words : List (List ℕ)) (contents : Contents) : ℕ → List ℕ → Type 0 where
   NotTaken : AsksNothing words → Answer words contents (refusal_status Words) (refusal_line Words)
   ProgramRefused : (run : Run) (text : List ℕ) (refusal : Refusal) → Asks words run → Holds contents run.program text → Reads text (Err refusal) →
       Answer words contents (refusal_status refusal) (refusal_line refusal)
   InputRefused : (run : Run) (text : List ℕ) (p : Program) (refusal : Refusal) → Asks words run → Holds contents run.program text → Reads text (Ok p) →
       Input contents run.input (Err refusal) → Answer words contents (refusal_status refusal) (refusal_line refusal)
-  Ran : (run : Run) (text : List ℕ) (p : Program) (numbers : List ℤ) → Asks words run → Holds contents run.program text → Reads text (Ok p) →
-      Input contents run.input (Ok numbers) →
-      Answer words contents (status_of (outcome p numbers run.fuel).end) (run_text p numbers run.fuel)
+  PlansRefused : (run : Run) (text : List ℕ) (p : Program) (numbers : List ℤ) (refusal : Refusal) → Asks words run → Holds contents run.program text → Reads text (Ok p) →
+      Input contents run.input (Ok numbers) → Plans contents (expand p) run.plan (Err refusal) → Answer words contents (refusal_status refusal) (refusal_line refusal)
+  Ran : (run : Run) (text : List ℕ) (p : Program) (numbers : List ℤ) (plans : List Plan) → Asks words run → Holds contents run.program text → Reads text (Ok p) →
+      Input contents run.input (Ok numbers) → Plans contents (expand p) run.plan (Ok plans) →
+      Answer words contents (status_of (outcome p numbers run.fuel).end) (run_text p plans numbers run.fuel run.why)
   SitesRefused : (program text : List ℕ) (refusal : Refusal) → AsksSites words program → Holds contents program text → Reads text (Err refusal) →
       Answer words contents (refusal_status refusal) (refusal_line refusal)
   SitesListed : (program text : List ℕ) (p : Program) → AsksSites words program → Holds contents program text → Reads text (Ok p) →
@@ -71,3 +82,11 @@ pub data IsRead (words : List (List ℕ)) (contents : Contents) : Role → List 
   OfSites : (program : List ℕ) → AsksSites words program → IsRead words contents role.Program program
   OfInput : (run : Run) (text name : List ℕ) (p : Program) → Asks words run → Holds contents run.program text → Reads text (Ok p) →
       run.input ≡ Some name → IsRead words contents role.Input name
+  OfPlans : (run : Run) (text name : List ℕ) (p : Program) (numbers : List ℤ) → Asks words run → Holds contents run.program text → Reads text (Ok p) →
+      Input contents run.input (Ok numbers) → run.plan ≡ Some name → IsRead words contents role.Plan name
+
+-- The iterations that were committed from the pipeline, of the run that the words ask for.
+pub data Commits (words : List (List ℕ)) (contents : Contents) : ℕ → Type 0 where
+  OfRun : (run : Run) (text : List ℕ) (p : Program) (numbers : List ℤ) (plans : List Plan) → Asks words run → Holds contents run.program text → Reads text (Ok p) →
+      Input contents run.input (Ok numbers) → Plans contents (expand p) run.plan (Ok plans) →
+      Commits words contents (committed_in_all (expand p) plans (source_run (expand p) numbers run.fuel))

@@ -7,14 +7,15 @@ use Rattle.dp_edge.specs.Sink.{appended}
 use Rattle.dswp.specs.declared.refusal.Role.{Role}
 use Rattle.dswp.specs.declared.refusal.Role.TheVariants as role
 use Rattle.dswp.specs.declared.refusal.Refusal.{Refusal}
-use Rattle.dswp.specs.declared.stop.Stop.{Stop}
-use Rattle.dswp.specs.declared.stop.Stop.TheVariants.{NoMemory}
+use Rattle.dp_crew.specs.declared.fail.CrewFail.{CrewFail}
+use Rattle.dp_crew.specs.declared.fail.CrewFail.TheVariants.{NoMemory}
 use Rattle.dswp.specs.declared.texts.Texts.{Texts}
 use Rattle.dswp.specs.declared.texts.Texts.TheVariants as texts
 use Rattle.dswp.specs.Refusal.{failed_read_line}
-use Rattle.dswp.specs.Words.{Run}
-use Rattle.dswp.specs.Output.{WritesFront}
-use Rattle.dswp.specs.Answer.{Contents, Answer, IsRead, Input}
+use Rattle.dp_words.specs.Words.{Run}
+use Rattle.dp_plan.specs.declared.Plan.{Plan}
+use Rattle.dp_crew.specs.Output.{WritesFront}
+use Rattle.dswp.specs.Answer.{Contents, Answer, IsRead, Input, Plans}
 use Rattle.dswp.specs.Loading.{ReadsProgram}
 
 abbrev pub Names : Type 0
@@ -25,24 +26,28 @@ abbrev pub with_name : List ℕ → Names → Names
 with_name name = option_map (λ names. names ++ name ∷ [])
 
 -- The bytes were written and the status is answered, or a front of them was written.
-abbrev pub Finishes : ℕ → List ℕ → Option (List ℕ) → Option (List ℕ) → Result ℕ Stop → Type 0
+abbrev pub Finishes : ℕ → List ℕ → Option (List ℕ) → Option (List ℕ) → Result ℕ CrewFail → Type 0
 Finishes status bytes told tells (Ok answered) = (answered ≡ status) × (tells ≡ appended bytes told)
-Finishes status bytes told tells (Err stop) = WritesFront bytes told tells
+Finishes status bytes told tells (Err fail) = WritesFront bytes told tells
 
 -- What the texts of a run give, with the shelf's faults and failed names before and after.
 pub data LoadsTexts (contents : Contents) (run : Run) (faults after : ℕ) (failed fails : Names) : Texts → Type 0 where
-  Loaded : (p q : Program) (numbers : List ℤ) → q ≡ expand p → ReadsProgram contents run.program (Ok p) → Input contents run.input (Ok numbers) → after ≡ faults → fails ≡ failed →
-      LoadsTexts contents run faults after failed fails (texts.Run q numbers)
+  Loaded : (p q : Program) (numbers : List ℤ) (plans : List Plan) → q ≡ expand p → ReadsProgram contents run.program (Ok p) → Input contents run.input (Ok numbers) → Plans contents q run.plan (Ok plans) →
+      after ≡ faults → fails ≡ failed → LoadsTexts contents run faults after failed fails (texts.Run q numbers plans)
   ProgramRefused : (refusal : Refusal) → ReadsProgram contents run.program (Err refusal) → after ≡ faults → fails ≡ failed →
       LoadsTexts contents run faults after failed fails (texts.Refused refusal)
   InputRefused : (refusal : Refusal) (p : Program) → ReadsProgram contents run.program (Ok p) → Input contents run.input (Err refusal) → after ≡ faults → fails ≡ failed →
       LoadsTexts contents run faults after failed fails (texts.Refused refusal)
+  PlansRefused : (refusal : Refusal) (p : Program) (numbers : List ℤ) → ReadsProgram contents run.program (Ok p) → Input contents run.input (Ok numbers) → Plans contents (expand p) run.plan (Err refusal) → after ≡ faults → fails ≡ failed →
+      LoadsTexts contents run faults after failed fails (texts.Refused refusal)
   ProgramFailed : faults < after → fails ≡ with_name run.program failed → LoadsTexts contents run faults after failed fails (texts.Failed role.Program)
   InputFailed : (p : Program) (name : List ℕ) → ReadsProgram contents run.program (Ok p) → run.input ≡ Some name → faults < after → fails ≡ with_name name failed →
       LoadsTexts contents run faults after failed fails (texts.Failed role.Input)
+  PlansFailed : (p : Program) (numbers : List ℤ) (name : List ℕ) → ReadsProgram contents run.program (Ok p) → Input contents run.input (Ok numbers) → run.plan ≡ Some name → faults < after → fails ≡ with_name name failed →
+      LoadsTexts contents run faults after failed fails (texts.Failed role.Plan)
 
 -- One call of the program: it finished an answer, or the line on a failed read, or found no memory before anything was written.
-pub data Carried (words : List (List ℕ)) (contents : Contents) (faults after : ℕ) (failed fails : Names) (told tells : Option (List ℕ)) (result : Result ℕ Stop) : Type 0 where
+pub data Carried (words : List (List ℕ)) (contents : Contents) (faults after : ℕ) (failed fails : Names) (told tells : Option (List ℕ)) (result : Result ℕ CrewFail) : Type 0 where
   OfAnswer : (status : ℕ) (bytes : List ℕ) → Answer words contents status bytes → after ≡ faults → fails ≡ failed → Finishes status bytes told tells result →
       Carried words contents faults after failed fails told tells result
   OfFailedRead : (which : Role) (name : List ℕ) → IsRead words contents which name → faults < after → fails ≡ with_name name failed → Finishes 5 (failed_read_line which) told tells result →

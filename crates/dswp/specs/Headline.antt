@@ -1,11 +1,12 @@
 -- What one call of the program does: the headline.
-use Rattle.std.specs.Prelude.{◌≡◌, ◌⊎◌, ◌<◌, ℕ, List, [], ◌∷◌, ◌++◌, Option}
+use Rattle.std.specs.Prelude.{◌≡◌, ◌⊎◌, ◌<◌, ◌+◌, ℕ, List, [], ◌∷◌, ◌++◌, Option}
 use Rattle.std.specs.Option.{option_map}
 use Rattle.dp_edge.specs.Sink.{appended}
 use Rattle.dswp.specs.declared.refusal.Role.{Role}
 use Rattle.dswp.specs.Refusal.{failed_read_line}
-use Rattle.dswp.specs.Output.{WritesFront}
-use Rattle.dswp.specs.Answer.{Contents, Answer, IsRead}
+use Rattle.dp_crew.specs.Output.{WritesFront}
+use Rattle.dp_words.specs.Words.{Run, Asks}
+use Rattle.dswp.specs.Answer.{Contents, Answer, Commits, IsRead}
 
 -- No read and no write failed: the whole answer was written and the status is its own, or memory was wanting, which is
 -- status 7, and a front of the answer was written.
@@ -30,3 +31,11 @@ pub data WriteFailed (words : List (List ℕ)) (contents : Contents) (faults aft
       WriteFailed words contents faults after failed fails told tells
   OfFailedRead : (role : Role) (name : List ℕ) → IsRead words contents role name → faults < after → fails ≡ option_map (λ names. names ++ name ∷ []) failed → WritesFront (failed_read_line role) told tells →
       WriteFailed words contents faults after failed fails told tells
+
+-- A run ended with this status: done, in a fault, or with its fuel spent.
+abbrev pub IsEnd : ℕ → Type 0
+IsEnd status = (status ≡ 0) ⊎ (status ≡ 1) ⊎ (status ≡ 8)
+
+-- Where a run was asked for and ended, the tally grew by its iterations that were committed from a pipeline.
+abbrev pub IsCounted : List (List ℕ) → Contents → ℕ → ℕ → ℕ → Type 0
+IsCounted words contents before after status = (run : Run) → Asks words run → IsEnd status → (count : ℕ) × Commits words contents count × (after ≡ before + count)

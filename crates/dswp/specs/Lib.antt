@@ -1,14 +1,9 @@
 pub mod Headline
 pub mod Answer
-pub mod Words
 pub mod Program
+pub mod Plans
 pub mod RunText
 pub mod Refusal
-pub mod Output
 pub mod Loading
 pub mod Carried
-pub mod Stop
-pub mod Alone
-pub mod Driven
-pub mod Listing
-pub mod Stretches
+pub mod Status

@@ -1,11 +1,14 @@
 -- What the texts that the words name are loaded as.
-use Rattle.std.specs.Prelude.{◌≡◌, ◌<◌, ℕ, List, [], ◌∷◌, ◌++◌, Result, Ok, Err}
+use Rattle.std.specs.Prelude.{◌≡◌, ◌<◌, ℕ, List, [], ◌∷◌, ◌++◌, Option, Some, Result, Ok, Err}
+use Rattle.std.specs.Option.{option_map}
 use Rattle.dp_tree.specs.declared.Program.{Program as Tree}
 use Rattle.dswp.specs.declared.refusal.Refusal.{Refusal}
 use Rattle.dswp.specs.declared.load.Loaded.{Loaded}
 use Rattle.dswp.specs.declared.load.Loaded.TheVariants.{Text, Refused, Failed}
 use Rattle.dswp.specs.Answer.{Contents, Holds}
 use Rattle.dswp.specs.Program.{Reads, expanded}
+use Rattle.dp_plan.specs.declared.Plan.{Plan}
+use Rattle.dswp.specs.Plans.{ReadsPlans}
 
 -- what a program's text under the name is read as
 pub record ReadsProgram (contents : Contents) (name : List ℕ) (read : Result Tree Refusal) : Type 0 where
@@ -18,6 +21,12 @@ pub record LoadsProgram (contents : Contents) (name : List ℕ) (read : Result T
   pub source : Result Tree Refusal
   pub reads : ReadsProgram contents name source
   pub is : read ≡ expanded source
+
+-- what a text of plans under the name is read as
+pub record LoadsPlans (contents : Contents) (p : Tree) (name : List ℕ) (read : Result (List Plan) Refusal) : Type 0 where
+  pub text : List ℕ
+  pub held : Holds contents name text
+  pub reads : ReadsPlans p text read
 
 -- What one text was loaded as: what it stands for, or its refusal; or its reading failed.
 abbrev pub Loads : {X : Type 0} → (Result X Refusal → Type 0) → Loaded X → Type 0
@@ -38,3 +47,9 @@ names_after (Ok Failed) name names = names ++ name ∷ []
 names_after (Ok (Text x)) name names = names
 names_after (Ok (Refused refusal)) name names = names
 names_after (Err e) name names = names
+
+-- What a text that may be named was loaded as, with the shelf's faults and failed names before and after.
+abbrev pub Gives : {X : Type 0} → (Result X Refusal → Type 0) → Option (List ℕ) → ℕ → ℕ → Option (List (List ℕ)) → Option (List (List ℕ)) → Loaded X → Type 0
+Gives P name faults after failed fails (Text x) = P (Ok x) × (after ≡ faults) × (fails ≡ failed)
+Gives P name faults after failed fails (Refused refusal) = P (Err refusal) × (after ≡ faults) × (fails ≡ failed)
+Gives P name faults after failed fails Failed = (n : List ℕ) × (name ≡ Some n) × (faults < after) × (fails ≡ option_map (λ names. names ++ n ∷ []) failed)

@@ -26,12 +26,12 @@ refusal_of (check.NotScalar line) = Name offence.NotScalar line
 refusal_of (check.Arguments line) = Name offence.Arguments line
 refusal_of (check.ReadOnly line) = Name offence.ReadOnly line
 refusal_of (check.Limit quantity count) = Limit quantity count
-refusal_of check.NoMemory = Syntax
+refusal_of check.NoMemory = Syntax 0
 
 -- the refusal of a program that is too large with its calls expanded
 abbrev pub size_refusal : InlineFail → Refusal
 size_refusal (inline.Limit quantity count) = Limit quantity count
-size_refusal inline.NoMemory = Syntax
+size_refusal inline.NoMemory = Syntax 0
 
 -- the program, unless it is too large with its calls expanded
 abbrev pub sized : Program → Result Program InlineFail → Result Program Refusal
@@ -49,7 +49,7 @@ pub data Reads (text : List ℕ) : Result Program Refusal → Type 0 where
   TooLong : 65536 < length text → Reads text (Err (Limit ProgramBytes 65537))
   NoToken : (place : ℕ) → length text ≤ 65536 → RefusedAt text place → Reads text (Err (Byte place))
   TooDeep : (quantity : Quantity) (count : ℕ) → length text ≤ 65536 → NestsTooDeep text quantity count → Reads text (Err (Limit quantity count))
-  NoTree : length text ≤ 65536 → DerivesNothing text → Reads text (Err Syntax)
+  NoTree : (token : ℕ) → length text ≤ 65536 → DerivesNothing text token → Reads text (Err (Syntax token))
   Judged : (raw : RawProgram) → length text ≤ 65536 → ParsesAs text raw → Reads text (judged (verdict raw))
 
 -- what is run: the program with its calls expanded

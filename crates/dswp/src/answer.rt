@@ -1,38 +1,43 @@
 //! The whole program: from its words to what is written and the exit status.
-ghost use Rattle.std.specs.Prelude.{◌≡◌, ◌<◌, ◌≤◌, ◌-◌, ◌^◌, ℕ, List, map, string_bytes, OnErr, IfOk};
+ghost use Rattle.std.specs.Prelude.{◌≡◌, ◌<◌, ◌≤◌, ◌-◌, ◌^◌, ℕ, List, map, string_bytes, IfOk};
 ghost use Rattle.dp_report.specs.SiteText.{site_bytes};
-ghost use Rattle.dswp.specs.Headline.{Answered, ReadFailed, WriteFailed};
-ghost use Rattle.dswp.specs.Carried.{Carried, Finishes, LoadsTexts};
+ghost use Rattle.dp_crew.specs.Fail.{FaultsAfter};
+ghost use Rattle.dp_words.specs.Words.{Asks, AsksSites, RunWithin, shown};
+ghost use Rattle.dswp.specs.Headline.{Answered, IsCounted, ReadFailed, WriteFailed};
+ghost use Rattle.dswp.specs.Carried.{Carried, Finishes};
 ghost use Rattle.dswp.specs.Refusal.{refusal_line, refusal_status, failed_read_line};
-ghost use Rattle.dswp.specs.RunText.{source_run, trace_text, status_of, IsSequential};
-ghost use Rattle.dswp.specs.Stop.{FaultsAfter};
-ghost use Rattle.dswp.specs.Words.{Asks, AsksSites, shown};
+ghost use Rattle.dswp.specs.Status.{status_after};
 
-use crate::execute::{execute, write};
-use crate::load::{Loaded, load_input, load_program};
+use crate::load::{Loaded, load_program};
 use crate::refusal::{Refusal, Role};
-use crate::stop::{Stop, final_status};
+use crate::running::{load, run_to_end};
 use crate::texts::Texts;
-use crate::words::{RunWords, Task, asked};
-use dp_base::{End, NoMemory, Row};
 use dp_edge::{Gate, Shelf, Sink};
 use dp_report::site_text;
+use dp_run::{CrewFail, Tally, write};
 use dp_tree::Program;
+use dp_words::{RunWords, Task, asked};
 use std::alloc::Global;
+use std::sync::Wait;
+use std::thread::Threads;
 
 /// Does all that the program does, and answers its exit status.
 ///
 /// The words are those after the program's name. Texts are read from the shelf, and everything is written to the sink;
-/// the gate is passed by the stages that run in threads.
-pub fn drive<S: Shelf, K: Sink, G: Gate>(
+/// the gate is passed by the stages that run in threads. The tally counts the iterations that are committed from a
+/// pipeline.
+pub fn drive<R: Threads + Wait + Sync, S: Shelf, K: Sink, G: Gate>(
+    rt: &R,
     alloc: Global,
     words: &[String],
     shelf: &mut S,
     sink: &mut K,
-    _gate: &G,
+    gate: &G,
+    tally: &mut Tally,
 ) -> u8
     requires shelf { S.faults shelf.old < 2 ^ 64 - 1 }
     requires sink { K.faults sink.old < 2 ^ 64 - 1 }
+    requires tally { tally.old < 2 ^ 63 }
 
     // No fault: the whole answer was written, or a front of it where memory was wanting.
     ensures answered { S.faults shelf.new ≡ S.faults shelf.old → K.faults sink.new ≡ K.faults sink.old →
@@ -46,52 +51,79 @@ pub fn drive<S: Shelf, K: Sink, G: Gate>(
     ensures write_failed { K.faults sink.old < K.faults sink.new →
         (result ≡ 6) × WriteFailed (map string_bytes words.now) (S.contents shelf.old) (S.faults shelf.old) (S.faults shelf.new) (S.failed_names shelf.old) (S.failed_names shelf.new) (K.written sink.old) (K.written sink.new) }
 
+    // A run that was answered: each iteration that isn't listed as executed again was judged and committed from the pipeline.
+    ensures counted { IsCounted (map string_bytes words.now) (S.contents shelf.old) tally.old tally.new result }
+
     // What the shelf holds stays, and no count of faults falls.
     ensures failed_names { S.faults shelf.new ≡ S.faults shelf.old → S.failed_names shelf.new ≡ S.failed_names shelf.old }
     ensures contents { S.contents shelf.new ≡ S.contents shelf.old }
     ensures shelf_faults { S.faults shelf.old ≤ S.faults shelf.new }
     ensures sink_faults { K.faults sink.old ≤ K.faults sink.new }
 {
-    final_status(answer(alloc, words, shelf, sink))
+    final_status(answer(rt, alloc, words, shelf, sink, gate, tally))
+}
+
+/// The exit status of what was finished or stopped.
+fn final_status(answered: Result<u8, CrewFail>) -> u8
+    ensures { result ≡ status_after answered }
+{
+    match answered {
+        Ok(status) => status,
+        Err(CrewFail::Write) => 6,
+        Err(CrewFail::NoMemory) => 7,
+    }
 }
 
 /// The exit status, where all that it goes with was written.
-fn answer<S: Shelf, K: Sink>(
+fn answer<R: Threads + Wait + Sync, S: Shelf, K: Sink, G: Gate>(
+    rt: &R,
     alloc: Global,
     words: &[String],
     shelf: &mut S,
     sink: &mut K,
-) -> Result<u8, Stop>
+    gate: &G,
+    tally: &mut Tally,
+) -> Result<u8, CrewFail>
     requires shelf { S.faults shelf.old < 2 ^ 64 - 1 }
     requires sink { K.faults sink.old < 2 ^ 64 - 1 }
+    requires tally { tally.old < 2 ^ 63 }
     ensures contents { S.contents shelf.new ≡ S.contents shelf.old }
     ensures faults { FaultsAfter result (K.faults sink.old) (K.faults sink.new) }
     ensures carried { Carried (map string_bytes words.now) (S.contents shelf.old) (S.faults shelf.old) (S.faults shelf.new)
         (S.failed_names shelf.old) (S.failed_names shelf.new) (K.written sink.old) (K.written sink.new) result }
+    ensures counted { IfOk result (IsCounted (map string_bytes words.now) (S.contents shelf.old) tally.old tally.new) }
 {
-    match asked(words) {
-        Some(Task::Run(run)) => answer_run(alloc, run, shelf, sink),
+    match asked(alloc, words)? {
+        Some(Task::Run(run)) => answer_run(rt, alloc, run, shelf, sink, gate, tally),
         Some(Task::Check(program)) => answer_check(alloc, program, shelf, sink),
         None => refuse(alloc, Refusal::Words, sink),
     }
 }
 
 /// The exit status of a run.
-fn answer_run<S: Shelf, K: Sink>(
+fn answer_run<R: Threads + Wait + Sync, S: Shelf, K: Sink, G: Gate>(
+    rt: &R,
     alloc: Global,
     run: RunWords,
     shelf: &mut S,
     sink: &mut K,
-) -> Result<u8, Stop>
+    gate: &G,
+    tally: &mut Tally,
+) -> Result<u8, CrewFail>
+    requires run { RunWithin (shown run) }
     requires shelf { S.faults shelf.old < 2 ^ 64 - 1 }
     requires sink { K.faults sink.old < 2 ^ 64 - 1 }
+    requires tally { tally.old < 2 ^ 63 }
     ensures contents { S.contents shelf.new ≡ S.contents shelf.old }
     ensures faults { FaultsAfter result (K.faults sink.old) (K.faults sink.new) }
     ensures carried { (words : List (List ℕ)) → Asks words (shown run.entry) → Carried words (S.contents shelf.old) (S.faults shelf.old) (S.faults shelf.new)
         (S.failed_names shelf.old) (S.failed_names shelf.new) (K.written sink.old) (K.written sink.new) result }
+    ensures counted { (words : List (List ℕ)) → Asks words (shown run.entry) → IfOk result (IsCounted words (S.contents shelf.old) tally.old tally.new) }
 {
     match load(alloc, run, shelf)? {
-        Texts::Run(program, input) => run_to_end(alloc, &program, &input, run.fuel, sink),
+        Texts::Run(program, input, plans) => {
+            run_to_end(rt, alloc, &program, &plans, &input, run, sink, gate, tally)
+        }
         Texts::Refused(refusal) => refuse(alloc, refusal, sink),
         Texts::Failed(role) => fail_read(alloc, role, sink),
     }
@@ -103,7 +135,7 @@ fn answer_check<S: Shelf, K: Sink>(
     name: &str,
     shelf: &mut S,
     sink: &mut K,
-) -> Result<u8, Stop>
+) -> Result<u8, CrewFail>
     requires shelf { S.faults shelf.old < 2 ^ 64 - 1 }
     requires sink { K.faults sink.old < 2 ^ 64 - 1 }
     ensures contents { S.contents shelf.new ≡ S.contents shelf.old }
@@ -119,7 +151,7 @@ fn answer_check<S: Shelf, K: Sink>(
 }
 
 /// Writes the list of the program's sites.
-fn list_sites<K: Sink>(alloc: Global, program: &Program, sink: &mut K) -> Result<u8, Stop>
+fn list_sites<K: Sink>(alloc: Global, program: &Program, sink: &mut K) -> Result<u8, CrewFail>
     requires { K.faults sink.old < 2 ^ 64 - 1 }
     ensures faults { FaultsAfter result (K.faults sink.old) (K.faults sink.new) }
     ensures finishes { Finishes 0 (site_bytes program.now) (K.written sink.old) (K.written sink.new) result }
@@ -129,59 +161,8 @@ fn list_sites<K: Sink>(alloc: Global, program: &Program, sink: &mut K) -> Result
     Ok(0)
 }
 
-/// The texts that a run names: first the program, then the input.
-fn load<S: Shelf>(alloc: Global, run: RunWords, shelf: &mut S) -> Result<Texts, NoMemory>
-    requires { S.faults shelf.old < 2 ^ 64 - 1 }
-    ensures contents { S.contents shelf.new ≡ S.contents shelf.old }
-    ensures loads { IfOk result (LoadsTexts (S.contents shelf.old) (shown run.entry) (S.faults shelf.old) (S.faults shelf.new) (S.failed_names shelf.old) (S.failed_names shelf.new)) }
-    ensures err { OnErr result ((S.faults shelf.new ≡ S.faults shelf.old) × (S.failed_names shelf.new ≡ S.failed_names shelf.old)) }
-{
-    let program = match load_program(alloc, shelf, run.program)? {
-        Loaded::Text(program) => program,
-        Loaded::Refused(refusal) => return Ok(Texts::Refused(refusal)),
-        Loaded::Failed => return Ok(Texts::Failed(Role::Program)),
-    };
-    let Some(name) = run.input else {
-        return Ok(Texts::Run(program, Row::new(alloc)));
-    };
-    match load_input(alloc, shelf, name)? {
-        Loaded::Text(input) => Ok(Texts::Run(program, input)),
-        Loaded::Refused(refusal) => Ok(Texts::Refused(refusal)),
-        Loaded::Failed => Ok(Texts::Failed(Role::Input)),
-    }
-}
-
-/// Runs the program to its end, and gives the status of that.
-fn run_to_end<K: Sink>(
-    alloc: Global,
-    program: &Program,
-    input: &Row<i64>,
-    fuel: u64,
-    sink: &mut K,
-) -> Result<u8, Stop>
-    requires sink { K.faults sink.old < 2 ^ 64 - 1 }
-    requires program { IsSequential program.now }
-    ensures faults { FaultsAfter result (K.faults sink.old) (K.faults sink.new) }
-    ensures finishes { let run = source_run program.now input.now fuel in
-        Finishes (status_of run.end) (trace_text program.now run) (K.written sink.old) (K.written sink.new) result }
-{
-    let end = execute(alloc, program, input.as_slice(), fuel, sink)?;
-    Ok(end_status(end))
-}
-
-/// The exit status of a run that ended so.
-fn end_status(end: End) -> u8
-    ensures { result ≡ status_of end }
-{
-    match end {
-        End::Done => 0,
-        End::Fault(_) => 1,
-        End::Fuel => 8,
-    }
-}
-
 /// Writes a refusal's line.
-fn refuse<K: Sink>(alloc: Global, refusal: Refusal, sink: &mut K) -> Result<u8, Stop>
+fn refuse<K: Sink>(alloc: Global, refusal: Refusal, sink: &mut K) -> Result<u8, CrewFail>
     requires { K.faults sink.old < 2 ^ 64 - 1 }
     ensures faults { FaultsAfter result (K.faults sink.old) (K.faults sink.new) }
     ensures finishes { Finishes (refusal_status refusal) (refusal_line refusal) (K.written sink.old) (K.written sink.new) result }
@@ -192,7 +173,7 @@ fn refuse<K: Sink>(alloc: Global, refusal: Refusal, sink: &mut K) -> Result<u8, 
 }
 
 /// Writes the line of a text that couldn't be read.
-fn fail_read<K: Sink>(alloc: Global, role: Role, sink: &mut K) -> Result<u8, Stop>
+fn fail_read<K: Sink>(alloc: Global, role: Role, sink: &mut K) -> Result<u8, CrewFail>
     requires { K.faults sink.old < 2 ^ 64 - 1 }
     ensures faults { FaultsAfter result (K.faults sink.old) (K.faults sink.new) }
     ensures finishes { Finishes 5 (failed_read_line role) (K.written sink.old) (K.written sink.new) result }

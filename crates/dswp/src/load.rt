@@ -1,13 +1,16 @@
 //! The texts that the words name.
 ghost use Rattle.std.specs.Prelude.{◌≡◌, ◌-◌, ◌^◌, ◌<◌, ◌≤◌, length, IfOk};
 ghost use Rattle.std.specs.Option.{option_map};
-ghost use Rattle.dswp.specs.Answer.{ReadsInput, input_of};
-ghost use Rattle.dswp.specs.Loading.{LoadsProgram, Loads, FaultsAfterLoad, names_after};
+ghost use Rattle.dswp.specs.Answer.{Holds, ReadsInput, input_of};
+ghost use Rattle.dswp.specs.Plans.{ReadsPlans};
+ghost use Rattle.dswp.specs.Loading.{LoadsPlans, LoadsProgram, Loads, FaultsAfterLoad, names_after};
 
 use crate::program::read_program;
 use crate::refusal::Refusal;
+use dp_base::limits::{INPUT_BYTES, PLAN_BYTES, PROGRAM_BYTES};
 use dp_base::{NoMemory, Quantity, Row};
 use dp_edge::{InputFail, Shelf, ShelfFail, read_input};
+use dp_plan::{Plan, PlanFail, read_plans};
 use dp_tree::Program;
 use std::alloc::Global;
 
@@ -22,10 +25,6 @@ pub enum Loaded<T> {
     Failed,
 }
 
-const PROGRAM_ROOM: u32 = 65_536;
-
-const INPUT_ROOM: u32 = 2_097_152;
-
 /// The program under a name, with its calls expanded.
 #[tactic(auto, using(crate::proofs::LoadLemmas::long_texts))]
 pub fn load_program<S: Shelf>(
@@ -39,7 +38,7 @@ pub fn load_program<S: Shelf>(
     ensures failed_names { S.failed_names shelf.new ≡ option_map (names_after result name.now) (S.failed_names shelf.old) }
     ensures loads { IfOk result (Loads (LoadsProgram (S.contents shelf.old) name.now)) }
 {
-    match shelf.read(alloc, name, PROGRAM_ROOM) {
+    match shelf.read(alloc, name, PROGRAM_BYTES) {
         Ok(text) => match read_program(alloc, text.as_slice())? {
             Ok(program) => Ok(Loaded::Text(program)),
             Err(refusal) => Ok(Loaded::Refused(refusal)),
@@ -47,7 +46,7 @@ pub fn load_program<S: Shelf>(
         Err(ShelfFail::Failed) => Ok(Loaded::Failed),
         Err(ShelfFail::TooLong) => Ok(Loaded::Refused(Refusal::Limit(
             Quantity::ProgramBytes,
-            PROGRAM_ROOM + 1,
+            PROGRAM_BYTES + 1,
         ))),
         Err(ShelfFail::NoMemory) => Err(NoMemory),
     }
@@ -66,7 +65,7 @@ pub fn load_input<S: Shelf>(
     ensures failed_names { S.failed_names shelf.new ≡ option_map (names_after result name.now) (S.failed_names shelf.old) }
     ensures loads { IfOk result (Loads (ReadsInput (S.contents shelf.old) name.now)) }
 {
-    match shelf.read(alloc, name, INPUT_ROOM) {
+    match shelf.read(alloc, name, INPUT_BYTES) {
         Ok(text) => match numbers(alloc, text.as_slice())? {
             Ok(numbers) => Ok(Loaded::Text(numbers)),
             Err(refusal) => Ok(Loaded::Refused(refusal)),
@@ -74,7 +73,7 @@ pub fn load_input<S: Shelf>(
         Err(ShelfFail::Failed) => Ok(Loaded::Failed),
         Err(ShelfFail::TooLong) => Ok(Loaded::Refused(Refusal::Limit(
             Quantity::InputBytes,
-            INPUT_ROOM + 1,
+            INPUT_BYTES + 1,
         ))),
         Err(ShelfFail::NoMemory) => Err(NoMemory),
     }
@@ -90,5 +89,51 @@ fn numbers(alloc: Global, text: &[u8]) -> Result<Result<Row<i64>, Refusal>, NoMe
         Err(InputFail::TooMany { count }) => Ok(Err(Refusal::Limit(Quantity::InputWords, count))),
         Err(InputFail::Refused { word }) => Ok(Err(Refusal::InputWord(word))),
         Err(InputFail::NoMemory) => Err(NoMemory),
+    }
+}
+
+/// The plans under a name, of this program without calls.
+#[tactic(auto, using(crate::proofs::LoadLemmas::long_texts, crate::proofs::LoadLemmas::plan_texts))]
+pub fn load_plans<S: Shelf>(
+    alloc: Global,
+    shelf: &mut S,
+    name: &str,
+    program: &Program,
+) -> Result<Loaded<Row<Plan>>, NoMemory>
+    requires { S.faults shelf.old < 2 ^ 64 - 1 }
+    ensures contents { S.contents shelf.new ≡ S.contents shelf.old }
+    ensures faults { FaultsAfterLoad result (S.faults shelf.old) (S.faults shelf.new) }
+    ensures failed_names { S.failed_names shelf.new ≡ option_map (names_after result name.now) (S.failed_names shelf.old) }
+    ensures loads { IfOk result (Loads (LoadsPlans (S.contents shelf.old) program.now name.now)) }
+{
+    match shelf.read(alloc, name, PLAN_BYTES) {
+        Ok(text) => match plans(alloc, text.as_slice(), program)? {
+            Ok(plans) => Ok(Loaded::Text(plans)),
+            Err(refusal) => Ok(Loaded::Refused(refusal)),
+        },
+        Err(ShelfFail::Failed) => Ok(Loaded::Failed),
+        Err(ShelfFail::TooLong) => Ok(Loaded::Refused(Refusal::Limit(
+            Quantity::PlanBytes,
+            PLAN_BYTES + 1,
+        ))),
+        Err(ShelfFail::NoMemory) => Err(NoMemory),
+    }
+}
+
+/// The plans of a text, or why it is refused.
+#[tactic(auto, using(crate::proofs::LoadLemmas::plan_texts))]
+fn plans(
+    alloc: Global,
+    text: &[u8],
+    program: &Program,
+) -> Result<Result<Row<Plan>, Refusal>, NoMemory>
+    requires { length text.now ≤ 1048576 }
+    ensures { IfOk result (ReadsPlans program.now text.now) }
+{
+    match read_plans(alloc, text, program) {
+        Ok(plans) => Ok(Ok(plans)),
+        Err(PlanFail::Refused { line }) => Ok(Err(Refusal::PlanLine(line))),
+        Err(PlanFail::Invalid { rule, site }) => Ok(Err(Refusal::PlanRule { rule, site: site.0 })),
+        Err(PlanFail::NoMemory) => Err(NoMemory),
     }
 }

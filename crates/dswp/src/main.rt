@@ -3,20 +3,19 @@
 #![tactic(auto)]
 
 mod answer;
-mod execute;
 mod law;
 mod load;
 mod program;
 mod quantity;
 mod refusal;
-mod stop;
+mod running;
 #[cfg(test)]
 mod tests;
 mod texts;
-mod words;
 
 use answer::drive;
 use dp_edge::{FileShelf, OpenGate, OutSink};
+use dp_run::Tally;
 use std::io::ErrorKind;
 use std::process::ExitCode;
 use std::{env, io};
@@ -34,12 +33,15 @@ fn main(rt: HostRuntime) -> ExitCode {
     };
     let mut files = FileShelf::new(&rt);
     let mut output = OutSink::new(&rt);
+    let mut tally = Tally::new();
     let status = drive(
+        &rt,
         rt.alloc(),
         words.as_slice(),
         &mut files,
         &mut output,
         &OpenGate,
+        &mut tally,
     );
     ExitCode::from(status)
 }

@@ -3,7 +3,7 @@ ghost use Rattle.std.specs.Prelude.{◌≡◌, ◌≢◌, ◌≤◌, ℕ, List, 
 ghost use Rattle.std.specs.List.{list_all};
 ghost use Rattle.dp_tree.specs.Checked.{IsChecked};
 ghost use Rattle.dp_parse.specs.Parses.{Parses};
-ghost use Rattle.dp_check.specs.Checked.{has_length};
+ghost use Rattle.dp_check.specs.Checked.{breaks_fit, has_length};
 ghost use Rattle.dp_check.specs.Verdict.{verdict};
 ghost use Rattle.dp_check.specs.declared.fail.CheckFail.TheVariants as failed;
 ghost use Rattle.dp_inline.specs.Verdict.{verdict as size_verdict};
@@ -37,14 +37,15 @@ fn unread(fail: ParseFail) -> Result<Refusal, NoMemory>
     match fail {
         ParseFail::Lex { place } => Ok(Refusal::Byte(place)),
         ParseFail::TooDeep { quantity, count } => Ok(Refusal::Limit(quantity, count)),
-        ParseFail::Refused => Ok(Refusal::Syntax),
+        ParseFail::Refused { token } => Ok(Refusal::Syntax(token)),
         ParseFail::NoMemory => Err(NoMemory),
     }
 }
 
 /// The tree's program with its calls expanded, where no name offends and no size is above its limit.
 fn judge(alloc: Global, raw: &RawProgram) -> Result<Result<Program, Refusal>, NoMemory>
-    requires { list_all has_length raw.now.items ≡ true }
+    requires lengths { list_all has_length raw.now.items ≡ true }
+    requires exits { breaks_fit raw.now ≡ true }
     ensures { IfOk result (λ read. read ≡ expanded (judged (verdict raw.now))) }
 {
     match check(alloc, raw) {

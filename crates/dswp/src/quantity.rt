@@ -21,5 +21,8 @@ pub fn quantity_name(quantity: Quantity) -> &'static str
         Quantity::InputWords => "input-words",
         Quantity::PlanBytes => "plan-bytes",
         Quantity::ProfileBytes => "profile-bytes",
+        Quantity::LogBytes => "log-bytes",
+        Quantity::CheckpointBytes => "checkpoint-bytes",
+        Quantity::ListBytes => "list-bytes",
     }
 }

@@ -10,6 +10,7 @@ use std::alloc::Global;
 pub enum Role {
     Program,
     Input,
+    Plan,
 }
 
 /// What is wrong with a name of the program.
@@ -36,12 +37,16 @@ pub enum Refusal {
     Words,
     /// No token begins at this place of the program's text, counted in bytes from 0.
     Byte(u32),
-    /// The grammar derives no tree of the program's tokens.
-    Syntax,
+    /// No program's tokens begin with those up to this one, counted from 0; or the text ends too soon, and it has so many tokens.
+    Syntax(u32),
     /// A name offends, on this line.
     Name(Offence, u32),
     /// This word of the input, from 1, is no number.
     InputWord(u32),
+    /// No plans' text begins with the lines up to this one, from 1.
+    PlanLine(u64),
+    /// The plans break this rule, at this site.
+    PlanRule { rule: u32, site: u32 },
     /// A count is above its limit.
     Limit(Quantity, u32),
 }
@@ -55,8 +60,8 @@ impl Refusal {
     {
         match self {
             Refusal::Words => 2,
-            Refusal::Byte(_) | Refusal::Syntax | Refusal::Name(_, _) => 3,
-            Refusal::InputWord(_) => 4,
+            Refusal::Byte(_) | Refusal::Syntax(_) | Refusal::Name(_, _) => 3,
+            Refusal::InputWord(_) | Refusal::PlanLine(_) | Refusal::PlanRule { .. } => 4,
             Refusal::Limit(_, _) => 9,
         }
     }
@@ -68,12 +73,16 @@ impl Refusal {
         let text = match self {
             Refusal::Words => format!(in alloc; "refused words\n")?,
             Refusal::Byte(place) => format!(in alloc; "refused program byte {place}\n")?,
-            Refusal::Syntax => format!(in alloc; "refused program syntax\n")?,
+            Refusal::Syntax(token) => format!(in alloc; "refused program syntax token {token}\n")?,
             Refusal::Name(offence, line) => {
                 let kind = offence.name();
                 format!(in alloc; "refused program {kind} line {line}\n")?
             }
             Refusal::InputWord(word) => format!(in alloc; "refused input word {word}\n")?,
+            Refusal::PlanLine(line) => format!(in alloc; "refused plan line {line}\n")?,
+            Refusal::PlanRule { rule, site } => {
+                format!(in alloc; "refused plan rule {rule} site {site}\n")?
+            }
             Refusal::Limit(quantity, count) => {
                 let name = quantity_name(quantity);
                 format!(in alloc; "limit {name} {count}\n")?
@@ -109,6 +118,7 @@ impl Role {
         match self {
             Role::Program => "program",
             Role::Input => "input",
+            Role::Plan => "plan",
         }
     }
 

@@ -1,35 +1,81 @@
-//! The program over a shelf and a sink in memory.
+//! The whole program over a shelf and a sink in memory, by tables of texts.
+//!
+//! The first row of a table is its pattern, `WORDS | PROGRAM | INPUT | PLAN => TEXT`: the words, what `p.c`, `in.txt` and
+//! `plan.txt` hold, and what is written. Each further row is a case: its parts, ` | ` apart, stand for `$1` to `$3` in the
+//! pattern's front, and those behind ` => ` in its text. A part `N*TEXT` between backticks is that text N times, with `@`
+//! for the numbers from 0 on and `^` for those from 1 on. The exit status is that of the text's last line.
+mod arithmetic;
+mod bytes;
 mod calls;
 mod examples;
-mod fuel;
-mod iterations;
+mod exits;
+mod hostile;
+mod inputs;
+mod library;
 mod limits;
-mod lines;
-mod order;
-mod plans;
-mod programs;
-mod refusals;
-mod runs;
+mod loops;
+mod names;
+mod pipelines;
+mod plan_rules;
+mod plan_texts;
 mod sites;
-mod straight;
+mod syntax;
+mod words;
 
 ghost use Rattle.std.specs.Prelude.{◌≡◌, IfOk};
 
 use crate::answer::drive;
 use dp_base::{NoMemory, Row};
 use dp_edge::{Held, MemShelf, MemSink, OpenGate};
+use dp_run::Tally;
+use library::LIBRARY;
 use std::alloc::Global;
 use std::process::Abort;
-use std::test::Fail;
+use std::sync::Wait;
+use std::thread::Threads;
 
 /// A text under a name.
 type Named<'t> = (&'t str, &'t [u8]);
 
+/// What an exit status goes with: how the last line begins. With every other one it is 0.
+const STATUSES: [(&str, u8); 7] = [
+    ("end fault", 1),
+    ("refused words", 2),
+    ("refused program", 3),
+    ("refused ", 4),
+    ("failed read", 5),
+    ("end fuel", 8),
+    ("limit", 9),
+];
+
+/// Workers and lanes that give the same text.
+const CREWS: [&str; 4] = [
+    " --workers 1 --lane 1",
+    " --workers 2 --lane 16",
+    " --workers 8 --lane 64",
+    " --workers 8 --lane 1",
+];
+
+/// What was answered: the status, what was written, and how many iterations were committed from a pipeline.
+#[derive(Drop)]
+struct Answered {
+    status: u8,
+    sink: MemSink,
+    committed: u64,
+}
+
+impl Answered {
+    fn text(&self) -> &str {
+        str::from_utf8(self.sink.bytes()).unwrap_or("no text")
+    }
+}
+
+/// A shelf with these texts and those of the library, whose reads with these numbers fail.
 fn shelf_of(alloc: Global, held: &[Named], failing: &[u64]) -> Result<MemShelf, NoMemory>
     ensures { IfOk result (λ shelf. shelf.faults ≡ 0) }
 {
     let mut texts = Row::new(alloc);
-    for (name, content) in held {
+    for (name, content) in held.iter().chain(LIBRARY) {
         texts.push(Held {
             name: Row::from_slice(alloc, name.as_bytes())?,
             content: Row::from_slice(alloc, content)?,
@@ -38,72 +84,153 @@ fn shelf_of(alloc: Global, held: &[Named], failing: &[u64]) -> Result<MemShelf, 
     Ok(MemShelf::new(alloc, texts, Row::from_slice(alloc, failing)?))
 }
 
-fn words_of(alloc: Global, words: &[&str]) -> Result<Vec<String>, NoMemory> {
+/// The words, which stand blanks apart; `''` is an empty one.
+fn words_of(alloc: Global, words: &str) -> Result<Vec<String>, NoMemory> {
     let mut list = Vec::new(alloc);
-    for word in words {
+    for word in words.split_whitespace() {
+        let word = if word == "''" { "" } else { word };
         list.push(String::from_str(alloc, word)?)?;
     }
     Ok(list)
 }
 
-/// The words give this status and these bytes, where the shelf's calls of these numbers fail and the sink has so much room.
-fn gives_with(
-    rt: &impl Abort,
+/// What is answered where these reads fail and the sink has so much room.
+fn answer_to<R: Abort + Threads + Wait + Sync>(
+    rt: &R,
     alloc: Global,
-    words: &[&str],
+    words: &str,
     held: &[Named],
     failing: &[u64],
     room: Option<u64>,
-    status: u8,
-    text: &[u8],
-) -> Result<(), NoMemory> {
+) -> Result<Answered, NoMemory> {
     let list = words_of(alloc, words)?;
     let mut shelf = shelf_of(alloc, held, failing)?;
     let mut sink = MemSink::new(alloc, room);
-    let answered = drive(alloc, list.as_slice(), &mut shelf, &mut sink, &OpenGate);
-    assert_eq!(rt; sink.bytes(), text, "{words:?}");
-    assert_eq!(rt; answered, status, "{words:?}");
+    let mut tally = Tally::new();
+    let words = list.as_slice();
+    let status = drive(
+        rt, alloc, words, &mut shelf, &mut sink, &OpenGate, &mut tally,
+    );
+    let committed = tally.count();
+    Ok(Answered {
+        status,
+        sink,
+        committed,
+    })
+}
+
+/// The two sides of the first mark of its kind.
+fn cut<'t>(text: &'t str, mark: &str) -> (&'t str, &'t str) {
+    text.split_once(mark).unwrap_or((text, ""))
+}
+
+/// The text with the parts of a case in their places.
+fn filled(alloc: Global, text: &str, parts: &str) -> Result<String, NoMemory> {
+    let (first, rest) = cut(parts, " | ");
+    let (second, third) = cut(rest, " | ");
+    let text = text.replace(alloc, "$1", first)?;
+    let text = text.replace(alloc, "$2", second)?;
+    let text = text.replace(alloc, "$3", third)?;
+    repeated(alloc, &text)
+}
+
+/// The text with its parts between backticks so many times.
+fn repeated(alloc: Global, text: &str) -> Result<String, NoMemory> {
+    let mut out = String::new(alloc);
+    let mut inside = false;
+    for part in text.split('`') {
+        let (count, piece) = cut(part, "*");
+        if inside {
+            for number in 0..count.parse::<u32>().unwrap_or(0) {
+                push_numbered(alloc, &mut out, piece, number)?;
+            }
+        } else {
+            out.push_str(part)?;
+        }
+        inside = !inside;
+    }
+    Ok(out)
+}
+
+/// One more of a text that is repeated.
+fn push_numbered(
+    alloc: Global,
+    out: &mut String,
+    piece: &str,
+    number: u32,
+) -> Result<(), NoMemory> {
+    let from_0 = format!(in alloc; "{number}")?;
+    let next = number as u64 + 1;
+    let from_1 = format!(in alloc; "{next}")?;
+    let piece = piece.replace(alloc, '@', &from_0)?;
+    let piece = piece.replace(alloc, '^', &from_1)?;
+    out.push_str(&piece)?;
     Ok(())
 }
 
-fn gives(
-    rt: &impl Abort,
-    alloc: Global,
-    words: &[&str],
-    held: &[Named],
-    status: u8,
-    text: &[u8],
-) -> Result<(), NoMemory> {
-    gives_with(rt, alloc, words, held, &[], None, status, text)
+/// The exit status that goes with a text.
+fn status_of(text: &str) -> u8 {
+    let last = match text.trim_end().rsplit_once('\n') {
+        Some((_, last)) => last,
+        None => text,
+    };
+    for (front, status) in STATUSES {
+        if last.starts_with(front) {
+            return status;
+        }
+    }
+    0
 }
 
-/// `run` on a program alone.
-fn run_gives(
-    rt: &impl Abort,
+/// Each case of the table is answered as it says, with these words behind its own.
+fn each_with<R: Abort + Threads + Wait + Sync>(
+    rt: &R,
     alloc: Global,
-    program: &[u8],
-    status: u8,
-    text: &[u8],
+    table: &[&str],
+    more: &str,
 ) -> Result<(), NoMemory> {
-    gives(
-        rt,
-        alloc,
-        &["run", "p.c"],
-        &[("p.c", program)],
-        status,
-        text,
-    )
+    assert!(rt; table.len() > 1);
+    let (front, text) = cut(table[0], " => ");
+    let (words, texts) = cut(front, " | ");
+    let (program, texts) = cut(texts, " | ");
+    let (input, plan) = cut(texts, " | ");
+    for row in table.iter().skip(1) {
+        let (parts, ends) = cut(row, " => ");
+        let mut words = filled(alloc, words, parts)?;
+        words.push_str(more)?;
+        let program = filled(alloc, program, parts)?;
+        let input = filled(alloc, input, parts)?;
+        let plan = filled(alloc, plan, parts)?;
+        let held = [
+            ("p.c", program.as_bytes()),
+            ("in.txt", input.as_bytes()),
+            ("plan.txt", plan.as_bytes()),
+        ];
+        let answered = answer_to(rt, alloc, &words, &held, &[], None)?;
+        let text = filled(alloc, text, ends)?;
+        assert_eq!(rt; answered.text(), text.as_str(), "{words} {row}");
+        assert_eq!(rt; answered.status, status_of(&text), "{words} {row}");
+    }
+    Ok(())
 }
 
-/// `run` on a program and an input.
-fn run_on_gives(
-    rt: &impl Abort,
+/// Each case of the table is answered as it says.
+fn each<R: Abort + Threads + Wait + Sync>(
+    rt: &R,
     alloc: Global,
-    program: &[u8],
-    input: &[u8],
-    status: u8,
-    text: &[u8],
+    table: &[&str],
 ) -> Result<(), NoMemory> {
-    let held = [("p.c", program), ("in.txt", input)];
-    gives(rt, alloc, &["run", "p.c", "in.txt"], &held, status, text)
+    each_with(rt, alloc, table, "")
+}
+
+/// .. with each number of workers and each lane.
+fn each_crew<R: Abort + Threads + Wait + Sync>(
+    rt: &R,
+    alloc: Global,
+    table: &[&str],
+) -> Result<(), NoMemory> {
+    for crew in CREWS {
+        each_with(rt, alloc, table, crew)?;
+    }
+    Ok(())
 }

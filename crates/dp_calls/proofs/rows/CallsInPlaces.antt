@@ -7,7 +7,7 @@ use Rattle.dp_base.specs.declared.BinOp.TheVariants as op
 use Rattle.dp_tree.specs.declared.Expr.{Expr}
 use Rattle.dp_tree.specs.declared.Stmt.TheVariants as stmt
 use Rattle.dp_tree.specs.declared.VarScope.TheVariants.{Global, Outer}
-use Rattle.dp_tree.specs.declared.SiteKind.TheVariants.{Assign, Print, If, While}
+use Rattle.dp_tree.specs.declared.SiteKind.TheVariants.{Assign, Print, If, While, Break}
 use Rattle.dp_tree.specs.declared.Program.{Program}
 use Rattle.dp_tree.specs.Checked.{IsChecked}
 use Rattle.dp_tree.specs.Trace.{run_of, begin}
@@ -145,3 +145,44 @@ empty_in_frames = refl
 empty_expanded : expanded with_empty 100 ≡ does (pos 8 ∷ pos 7 ∷ []) [] 3 Done
 unfolding tree_opened
 empty_expanded = refl
+
+-- 1  int g;
+-- 2  void f(int a) {
+-- 3    int b = a + 1;
+-- 4    g = g * 100 + b; }
+-- 6    int i = 0;
+-- 7    #pragma dswp
+-- 8    while (i < 9) {
+-- 9      f(i);
+-- 10     if (i == 1) break;
+-- 11     f(7);
+-- 12     i = i + 1; }
+-- 13   f(i);
+-- Calls stand before and behind an early exit, and behind the region.
+abbrev leaving : Program
+leaving = with_functions (function (2 ∷ []) (set 5 3 (add (var 2) (num 1)) ∷ set 6 0 (add (bin op.Mul (var 0) (num 100)) (var 3)) ∷ []) ∷ [])
+    (program (scalar 0 (pos 0) Global ∷ scalar 1 (pos 0) Outer ∷ scalar 2 (pos 0) Outer ∷ scalar 3 (pos 0) Outer ∷ [])
+    (site 6 Assign 0 ∷ site 8 While 1 ∷ site 10 Break 1 ∷ site 12 Assign 1 ∷ site 3 Assign 0 ∷ site 4 Assign 0 ∷ []) (one_region 8 2 4)
+    (set 1 1 (num 0) ∷ region 1 2 (bin op.Lt (var 1) (num 9))
+    (call 0 9 (var 1 ∷ []) ∷ stmt.Break (record { 0 = 3 }) (bin op.Eq (var 1) (num 1)) ∷ call 0 11 (num 7 ∷ []) ∷ set 4 1 (add (var 1) (num 1)) ∷ []) ∷ call 0 13 (var 1 ∷ []) ∷ []))
+
+leaving_in_frames : outcome leaving [] 100 ≡ does [] (pos 1080202 ∷ []) 18 Done
+unfolding tree_opened
+leaving_in_frames = refl
+
+leaving_expanded : expanded leaving 100 ≡ does [] (pos 1080202 ∷ []) 18 Done
+unfolding tree_opened
+leaving_expanded = refl
+
+-- the fuel ends with the break: what is left is the call behind the region
+leaving_at_the_break : outcome leaving [] 15 ≡ does [] (pos 10802 ∷ []) 15 Fuel
+unfolding tree_opened
+leaving_at_the_break = refl
+
+leaving_at_the_break_expanded : expanded leaving 15 ≡ does [] (pos 10802 ∷ []) 15 Fuel
+unfolding tree_opened
+leaving_at_the_break_expanded = refl
+
+leaving_is_checked : IsChecked leaving
+unfolding tree_opened
+leaving_is_checked = record { globals = refl; cells = refl; sites = refl; regions = refl; functions = refl; scoped = refl }

@@ -1,14 +1,17 @@
 -- A call of `iterate` has one answer: the machine before it settles the machine after it, the prints and the end.
-use Rattle.std.proofs.Common.{◌≡◌, refl, sym, ◌∙◌, ap, subst, ◌⊎◌, inl, inr, Option, None, Some, ℕ, ◌<◌, ◌≤◌, Bool, true, false, List, [], ◌∷◌, ◌++◌, length, ℤ, arith}
+use Rattle.std.proofs.Common.{◌≡◌, refl, sym, ◌∙◌, ap, subst, ◌⊎◌, inl, inr, Option, None, Some, ℕ, ◌<◌, ◌≤◌, Bool, true, false, ◌||◌, List, [], ◌∷◌, ◌++◌, length, ℤ, arith}
 use Rattle.std.proofs.lemmas.List.Elements.{All-head}
 use Rattle.dp_tree.specs.Step.{Config, Event}
 use Rattle.dp_tree.specs.Trace.{Run}
+use Rattle.dp_tree.specs.Iteration.{decides_zero, is_leaving}
+use Rattle.std.specs.List.{list_any}
 use Rattle.dp_meaning.specs.declared.ends.Part.{Part}
 use Rattle.dp_meaning.specs.declared.ends.Part.TheVariants as part
 use Rattle.dp_meaning.specs.declared.ends.IterEnd.{IterEnd}
 use Rattle.dp_meaning.specs.declared.ends.IterEnd.TheVariants.{Next, Closed, Fault, Fuel, Going}
 use Rattle.dp_meaning.specs.MachineState.{MachineState, part_of, rest_of_run}
-use Rattle.dp_meaning.specs.IterationRun.{IterationRun, IterationStops, HeadsOnce, Awaits, GoesOn, StartsAgain, has_closed, current_after}
+use Rattle.dp_meaning.specs.IterationRun.{IterationRun, IterationStops, HeadsOnce, Awaits, GoesOn, StartsAgain, has_closed, upto_closing, current_after}
+use Rattle.dp_meaning.proofs.NextLemmas.{upto_front, last_front}
 use Rattle.dp_meaning.proofs.rows.PartAnswers.{no_event}
 use Rattle.dp_meaning.proofs.rows.Stretches.{Further, further, alike, same_prints, same_but, same_machine, behind_all, order}
 
@@ -24,19 +27,41 @@ plain_behind region (Some r) cs more c h some = All-head IsPlain c more (behind_
 plain_behind region None [] more c h some = let none : 0 < 0 = some refl in absurd (omega (arith, none))
 plain_behind region None (d ∷ cs) more c h some = All-head IsPlain c more (behind_all IsPlain cs (c ∷ more) h.1)
 
-module _ (region turns : ℕ) (old : MachineState) (before : List ℤ) where
-  -- a condition that gave 0 is the last step
-  closed_alone : (b : MachineState) (fs : List Event) (how : IterEnd) → IterationStops region turns old b fs how → (has_closed old.current fs ≡ false) ⊎ (length fs ≡ 1)
-  closed_alone b fs Next s = inl s.not_closed
-  closed_alone b fs Closed s = inr s.alone
-  closed_alone b fs (Fault fault) s = inl s.0.not_closed
-  closed_alone b fs Fuel s = inl s.0.not_closed
-  closed_alone b fs Going s = inl s.0.not_closed
+-- events that have left the region did so with others behind them, and at the same one
+any_front : (es more : List Event) → list_any is_leaving es ≡ true → list_any is_leaving (es ++ more) ≡ true
+any_front [] more h = absurd (cc)
+any_front (e ∷ es) more h = by (is_leaving e) refl (any_front es more)
+  where
+    by : (b : Bool) → is_leaving e ≡ b → (list_any is_leaving es ≡ true → list_any is_leaving (es ++ more) ≡ true) → (is_leaving e || list_any is_leaving (es ++ more)) ≡ true
+    by true k go = ap (λ (b : Bool). b || list_any is_leaving (es ++ more)) k
+    by false k go = ap (λ (b : Bool). b || list_any is_leaving (es ++ more)) k ∙ go (sym (ap (λ (b : Bool). b || list_any is_leaving es) k) ∙ h)
 
-  closed_stays : (current : Option ℕ) (es more : List Event) → has_closed current es ≡ true → length es ≡ 1 → has_closed current (es ++ more) ≡ false → ⊥
-  closed_stays (Some r) es more h one stays = absurd (cc)
-  closed_stays None [] more h one stays = absurd (omega (arith, one))
-  closed_stays None (e ∷ es) more h one stays = absurd (cc)
+closed_front : (current : Option ℕ) (es more : List Event) → has_closed current es ≡ true → has_closed current (es ++ more) ≡ true
+closed_front (Some r) es more h = any_front es more h
+closed_front None [] more h = absurd (cc)
+closed_front None (e ∷ es) more h = by (decides_zero e.effect) refl
+  where
+    by : (b : Bool) → decides_zero e.effect ≡ b → (decides_zero e.effect || list_any is_leaving (e ∷ es ++ more)) ≡ true
+    by true k = ap (λ (b : Bool). b || list_any is_leaving (e ∷ es ++ more)) k
+    by false k = ap (λ (b : Bool). b || list_any is_leaving (e ∷ es ++ more)) k ∙ any_front (e ∷ es) more (sym (ap (λ (b : Bool). b || list_any is_leaving (e ∷ es)) k) ∙ h)
+
+closing_front : (current : Option ℕ) (es more : List Event) → has_closed current es ≡ true → upto_closing current es ≡ es → upto_closing current (es ++ more) ≡ es
+closing_front (Some r) es more c h = upto_front es more c ∙ h
+closing_front None es more c h = last_front es more c h
+
+longer : (current : Option ℕ) (es fs more : List Event) → has_closed current es ≡ true → upto_closing current es ≡ es → fs ≡ es ++ more → upto_closing current fs ≡ fs → length es < length fs → ⊥
+longer current es fs more c h is last less =
+    let same : fs ≡ es = sym last ∙ ap (upto_closing current) is ∙ closing_front current es more c h in
+    let size = ap length same in
+    absurd (omega (arith, size, less))
+
+module _ (region turns : ℕ) (old : MachineState) (before : List ℤ) where
+  last_step : (b : MachineState) (fs : List Event) (how : IterEnd) → IterationStops region turns old b fs how → (has_closed old.current fs ≡ false) ⊎ (upto_closing old.current fs ≡ fs)
+  last_step b fs Next s = inl s.not_closed
+  last_step b fs Closed s = inr s.last
+  last_step b fs (Fault fault) s = inl s.0.not_closed
+  last_step b fs Fuel s = inl s.0.not_closed
+  last_step b fs Going s = inl s.0.not_closed
 
   module _ (a b : MachineState) (es fs : List Event) (cs ds : List Config) (k : Further a es fs cs ds) (heads : HeadsOnce region old.current ds) (paired : length cs ≡ length es) where
     plain_here : (old.current ≡ None → 0 < length es) → IsPlain a.config
@@ -45,10 +70,9 @@ module _ (region turns : ℕ) (old : MachineState) (before : List ℤ) where
     no_step : (end how : IterEnd) → IterationStops region turns old a es end → IterationStops region turns old b fs how → length es < length fs → length fs ≤ turns → ⊥
     no_step Next how r s h w = clash (part_of a.config.to_do) region r.head (plain_here r.some)
     no_step Closed how r s h w =
-        let alone = r.alone in
-        elim (closed_alone b fs how s) [
-          | inl stays ↦ closed_stays old.current es k.events r.closed alone (ap (has_closed old.current) (sym k.events_are) ∙ stays)
-          | inr one ↦ absurd (omega (arith, h, one, alone))
+        elim (last_step b fs how s) [
+          | inl stays ↦ (let clash : true ≡ false = sym (closed_front old.current es k.events r.closed) ∙ ap (has_closed old.current) (sym k.events_are) ∙ stays in absurd (cc clash))
+          | inr last ↦ longer old.current es fs k.events r.closed r.last k.events_are last h
         ]
     no_step (Fault fault) how r s h w = no_event (rest_of_run a) _ a.config _ r.2.ends k.some
     no_step Fuel how r s h w = no_event (rest_of_run a) _ a.config _ r.1.ends k.some

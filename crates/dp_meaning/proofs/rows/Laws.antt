@@ -1,9 +1,8 @@
--- What stands where memory was wanting, and after iterations that were made ahead.
-use Rattle.std.proofs.Common.{◌≡◌, refl, sym, ◌∙◌, ap, subst, true, ℕ, ◌+◌, ◌<◌, ◌≤◌, Option, None, Some, List, [], ◌∷◌, ◌++◌, append_assoc, drop, length, ℤ, arith}
+-- What stands where memory was wanting, and behind a call.
+use Rattle.std.proofs.Common.{◌≡◌, refl, sym, ◌∙◌, ap, subst, true, ℕ, ◌+◌, ◌<◌, Option, None, Some, List, [], ◌∷◌, ◌++◌, append_assoc, drop, length, ℤ, arith}
 use Rattle.std.proofs.lemmas.List.Elements.{filter_map-append}
 use Rattle.dp_tree.specs.Step.{Config, Event}
 use Rattle.dp_tree.specs.Trace.{prints, printed_by}
-use Rattle.dp_meaning.specs.declared.ends.IterationsAhead.{IterationsAhead}
 use Rattle.dp_meaning.specs.declared.ends.Part.TheVariants as part
 use Rattle.dp_meaning.specs.declared.ends.PartEnd.{PartEnd}
 use Rattle.dp_meaning.specs.declared.ends.PartEnd.TheVariants as part_end
@@ -12,8 +11,6 @@ use Rattle.dp_meaning.specs.MachineState.{MachineState, rest_of_run, part_of, pa
 use Rattle.dp_meaning.specs.Moved.{Spoiled}
 use Rattle.dp_meaning.specs.PartRun.{PartRun}
 use Rattle.dp_meaning.specs.IterationRun.{IterationRun, HeadsOnce, Awaits}
-use Rattle.dp_meaning.specs.Whole as whole
-use Rattle.dp_meaning.specs.Whole.{WholeIterations, Front, WentAhead}
 
 module _ (turns : ℕ) (old new : MachineState) (before after : List ℤ) (s : Spoiled turns old new before after) where
   -- what was printed and what would be printed from here on are the prints of the run
@@ -40,41 +37,6 @@ module _ (turns : ℕ) (old new : MachineState) (before after : List ℤ) (s : S
   no_step_follows : new.spoiled ≡ true
   no_step_follows = s.spoiled
 
--- no step is taken back
-rises : {region limit : ℕ} {old : MachineState} {count : ℕ} {new : MachineState} → WholeIterations region limit old count new → old.steps ≤ new.steps
-rises whole.none = omega arith
-rises (whole.more new turns before some few run) = let so = rises before in let e = (run []).moved.steps in omega (arith, so, e)
-
--- the last of the iterations that were made whole
-record Last (limit : ℕ) (new : MachineState) : Type 0 where
-  before : MachineState
-  few : new.steps ≤ before.steps + limit
-
-last_has_few_steps : {region limit : ℕ} {old : MachineState} {count : ℕ} {new : MachineState} → WholeIterations region limit old count new → 0 < count → Last limit new
-last_has_few_steps whole.none h = absurd (omega (arith, h))
-last_has_few_steps (whole.more {mid = m} new turns before some few run) h =
-    let e = (run []).moved.steps in
-    let w = (run []).within in
-    record { before = m; few = omega (arith, few, e, w) }
-
--- a limit of 0 leaves no iteration
-made_within_some_steps : {region limit : ℕ} {old : MachineState} {count : ℕ} {new : MachineState} → WholeIterations region limit old count new → 0 < count → 0 < limit
-made_within_some_steps whole.none h = absurd (omega (arith, h))
-made_within_some_steps (whole.more new turns before some few run) h = omega (arith, some, few)
-
-front_has_a_step : (region : ℕ) (old new : MachineState) (f : Front region old new) → 0 < f.turns
-front_has_a_step region old new f = f.some
-
-module _ (region limit : ℕ) (old new : MachineState) (ahead : IterationsAhead) (w : WentAhead region limit old new ahead) where
-  each_iteration_is_counted : WholeIterations region limit old ahead.whole w.between
-  each_iteration_is_counted = w.whole
-
-  starts_behind : old.steps ≤ ahead.start
-  starts_behind = let h = rises w.whole in let e = w.start in omega (arith, h, e)
-
-  front_within_the_limit : new.steps ≤ ahead.start + limit
-  front_within_the_limit = w.within
-
 -- what is left to do behind a call
 module _ (turns : ℕ) (old new : MachineState) (before after : List ℤ) where
   done_stands_at_the_next_region : PartRun turns old new before after part_end.Done → new.config.to_do ≡ from_region old.config.to_do
@@ -93,7 +55,7 @@ module _ (turns : ℕ) (old new : MachineState) (before after : List ℤ) where
     next_stands_at_the_region : IterationRun region turns old new before after iter_end.Next → new.config.to_do ≡ from_region old.config.to_do
     next_stands_at_the_region run = run.stops.rest
 
-    closed_leaves_the_region : IterationRun region turns old new before after iter_end.Closed → new.config.to_do ≡ drop 1 old.config.to_do
+    closed_leaves_the_region : IterationRun region turns old new before after iter_end.Closed → new.config.to_do ≡ drop 1 (from_region old.config.to_do)
     closed_leaves_the_region run = run.stops.rest
 
     going_passes_no_region : IterationRun region turns old new before after iter_end.Going → from_region new.config.to_do ≡ from_region old.config.to_do

@@ -8,7 +8,7 @@ use Rattle.dp_tree.specs.declared.raw.RawProgram.{RawProgram}
 use Rattle.dp_parse.specs.declared.error.ParseFail.TheVariants.{Lex, TooDeep, Refused}
 use Rattle.dp_parse.specs.Depth.{depth_fault}
 use Rattle.dp_parse.specs.Programs.{Derives}
-use Rattle.dp_parse.specs.Parses.{Parses}
+use Rattle.dp_parse.specs.Parses.{Parses, LeavesAt}
 
 module _ (text : Text) (p : RawProgram) where
   a_program : Parses text (Ok p) → (tokens : List Lexeme) × Tokens text tokens × (depth_fault tokens ≡ None) × Derives tokens p
@@ -20,5 +20,5 @@ module _ (text : Text) (p : RawProgram) where
   too_deep : (quantity : Quantity) (count : ℕ) → Parses text (Err (TooDeep quantity count)) → (tokens : List Lexeme) × Tokens text tokens × (depth_fault tokens ≡ Some (quantity, count))
   too_deep quantity count is = (is.tokens, is.of_text, is.deep)
 
-  no_program : Parses text (Err Refused) → (tokens : List Lexeme) × Tokens text tokens × (depth_fault tokens ≡ None) × ((q : RawProgram) → ¬ Derives tokens q)
-  no_program is = (is.tokens, is.of_text, is.shallow, is.none)
+  no_program : (token : ℕ) → Parses text (Err (Refused token)) → (tokens : List Lexeme) × Tokens text tokens × (depth_fault tokens ≡ None) × ((q : RawProgram) → ¬ Derives tokens q) × LeavesAt tokens token
+  no_program token is = (is.tokens, is.of_text, is.shallow, is.none, is.place)

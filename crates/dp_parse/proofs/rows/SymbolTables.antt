@@ -16,7 +16,7 @@ signs_are = refl
 
 words_are : map symbol (split (codes "main print int void return while if else do for break x 7 #"))
     ≡ symbol.Main ∷ symbol.Print ∷ symbol.Int ∷ symbol.Void ∷ symbol.Return ∷ symbol.While ∷ symbol.If ∷ symbol.Else
-    ∷ symbol.Other ∷ symbol.Other ∷ symbol.Other ∷ symbol.Name ∷ symbol.Number ∷ symbol.Mark ∷ []
+    ∷ symbol.Other ∷ symbol.For ∷ symbol.Break ∷ symbol.Name ∷ symbol.Number ∷ symbol.Mark ∷ []
 unfolding symbol is_one_of
 words_are = refl
 

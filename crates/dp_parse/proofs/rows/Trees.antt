@@ -1,9 +1,8 @@
 -- Trees of short texts, read by the descent.
-use Rattle.std.proofs.Common.{◌≡◌, refl, ℕ, true, false, List, [], ◌∷◌, map, pos, negsuc, Option, Some, None, codes}
+use Rattle.std.proofs.Common.{◌≡◌, refl, ℕ, true, false, List, [], ◌∷◌, pos, negsuc, codes, Ok}
 use Rattle.dp_base.specs.declared.BinOp.TheVariants as op
 use Rattle.dp_base.specs.declared.UnOp.TheVariants as unary
 use Rattle.dp_lex.specs.Characters.{Text}
-use Rattle.dp_lex.specs.Token.{Lexeme}
 use Rattle.dp_tree.specs.declared.raw.Name.{Name}
 use Rattle.dp_tree.specs.declared.raw.RawExpr.{RawExpr}
 use Rattle.dp_tree.specs.declared.raw.RawExpr.TheVariants as expr
@@ -11,43 +10,49 @@ use Rattle.dp_tree.specs.declared.raw.RawStmt.{RawStmt}
 use Rattle.dp_tree.specs.declared.raw.RawStmt.TheVariants as stmt
 use Rattle.dp_tree.specs.declared.raw.RawItem.TheVariants as item
 use Rattle.dp_tree.specs.declared.raw.RawProgram.{RawProgram}
+use Rattle.dp_parse.specs.descent.Steps.{Outcome}
 use Rattle.dp_parse.specs.descent.Expressions.{whole}
 use Rattle.dp_parse.specs.descent.Programs.{program}
 use Rattle.dp_parse.proofs.rows.Build.{split}
 
 -- what opens where a text is read: `unfolding reading_opened`
-unfoldable reading_opened : Unit {0}
+unfoldable pub reading_opened : Unit {0}
 unfolding
     Rattle.dp_parse.specs.Symbols.symbol Rattle.dp_parse.specs.Symbols.symbol_at Rattle.dp_parse.specs.descent.Steps.same_symbol Rattle.dp_parse.specs.descent.Steps.same_level
     Rattle.dp_parse.specs.descent.Steps.join_at Rattle.dp_parse.specs.descent.Steps.prefix_at Rattle.dp_parse.specs.descent.Steps.rest Rattle.dp_parse.specs.descent.Steps.sees
     Rattle.dp_parse.specs.descent.Steps.after Rattle.dp_parse.specs.descent.Steps.expect Rattle.dp_parse.specs.descent.Steps.name Rattle.dp_parse.specs.descent.Steps.number_value
-    Rattle.dp_parse.specs.descent.Steps.number Rattle.dp_parse.specs.descent.Steps.negated Rattle.dp_parse.specs.descent.Steps.separated Rattle.dp_parse.specs.descent.Steps.many
+    Rattle.dp_parse.specs.descent.Steps.number Rattle.dp_parse.specs.descent.Steps.next_number Rattle.dp_parse.specs.descent.Steps.sees_zero Rattle.dp_parse.specs.descent.Steps.negated Rattle.dp_parse.specs.descent.Steps.separated Rattle.dp_parse.specs.descent.Steps.many
     Rattle.dp_parse.specs.descent.Expressions.chain Rattle.dp_parse.specs.descent.Expressions.variable Rattle.dp_parse.specs.descent.Expressions.parenthesized Rattle.dp_parse.specs.descent.Expressions.primary
     Rattle.dp_parse.specs.descent.Expressions.level_of Rattle.dp_parse.specs.descent.Expressions.expression Rattle.dp_parse.specs.descent.Expressions.nested Rattle.dp_parse.specs.descent.Expressions.whole
-    Rattle.dp_parse.specs.descent.Expressions.list Rattle.dp_parse.specs.descent.Statements.condition Rattle.dp_parse.specs.descent.Statements.right_side Rattle.dp_parse.specs.descent.Statements.declare
-    Rattle.dp_parse.specs.descent.Statements.store Rattle.dp_parse.specs.descent.Statements.arguments Rattle.dp_parse.specs.descent.Statements.call Rattle.dp_parse.specs.descent.Statements.named
+    Rattle.dp_parse.specs.descent.Expressions.list Rattle.dp_parse.specs.descent.Statements.condition Rattle.dp_parse.specs.descent.Heads.value Rattle.dp_parse.specs.descent.Heads.declare
+    Rattle.dp_parse.specs.descent.Heads.store Rattle.dp_parse.specs.descent.Heads.assign Rattle.dp_parse.specs.descent.Heads.simple Rattle.dp_parse.specs.descent.Heads.first Rattle.dp_parse.specs.descent.Heads.head
+    Rattle.dp_parse.specs.descent.Statements.declaration Rattle.dp_parse.specs.descent.Statements.counted Rattle.dp_parse.specs.descent.Regions.repeated Rattle.dp_parse.specs.descent.Regions.counted
+    Rattle.dp_parse.specs.descent.Statements.arguments Rattle.dp_parse.specs.descent.Statements.call Rattle.dp_parse.specs.descent.Statements.named
     Rattle.dp_parse.specs.descent.Statements.print Rattle.dp_parse.specs.descent.Statements.block Rattle.dp_parse.specs.descent.Statements.repeated Rattle.dp_parse.specs.descent.Statements.otherwise
     Rattle.dp_parse.specs.descent.Statements.choice Rattle.dp_parse.specs.descent.Statements.statement Rattle.dp_parse.specs.descent.Programs.start Rattle.dp_parse.specs.descent.Programs.array
     Rattle.dp_parse.specs.descent.Programs.variable Rattle.dp_parse.specs.descent.Programs.param Rattle.dp_parse.specs.descent.Programs.params Rattle.dp_parse.specs.descent.Programs.function
     Rattle.dp_parse.specs.descent.Programs.top Rattle.dp_parse.specs.descent.Programs.returned Rattle.dp_parse.specs.descent.Programs.end Rattle.dp_parse.specs.descent.Programs.ends
     Rattle.dp_parse.specs.descent.Programs.main_part Rattle.dp_parse.specs.descent.Programs.part Rattle.dp_parse.specs.descent.Programs.program_from Rattle.dp_parse.specs.descent.Programs.program
+    Rattle.dp_parse.specs.descent.Regions.bare Rattle.dp_parse.specs.descent.Regions.braced Rattle.dp_parse.specs.descent.Regions.leads_out
+    Rattle.dp_parse.specs.descent.Regions.branches Rattle.dp_parse.specs.descent.Regions.tested Rattle.dp_parse.specs.descent.Regions.branch
+    Rattle.dp_parse.specs.descent.Regions.inside Rattle.dp_parse.specs.descent.Regions.body Rattle.dp_parse.specs.descent.Regions.region
     Rattle.dp_lex.specs.Scan.is_one_of Rattle.dp_base.specs.Arithmetic.is_zero
 reading_opened = tt
 
-abbrev called : ℕ → Text → Name
+abbrev pub called : ℕ → Text → Name
 called line text = record { text = text; line = line }
 
 abbrev v : Text → RawExpr
 v text = expr.Scalar (called 1 text)
 
-abbrev num : ℕ → RawExpr
+abbrev pub num : ℕ → RawExpr
 num n = expr.Number (pos n)
 
-abbrev expression : Text → Option (RawExpr × List Lexeme)
+abbrev expression : Text → Outcome RawExpr
 expression text = whole (split text)
 
 -- each level binds tighter than the one before it
-levels : expression (codes "a || b && c == d < e + f * - g") ≡ Some (
+levels : expression (codes "a || b && c == d < e + f * - g") ≡ Ok (
   expr.Or (v (codes "a")) (expr.And (v (codes "b")) (expr.Binary op.Eq (v (codes "c"))
       (expr.Binary op.Lt (v (codes "d")) (expr.Binary op.Add (v (codes "e")) (expr.Binary op.Mul (v (codes "f")) (expr.Unary unary.Neg (v (codes "g")))))))),
   [],
@@ -56,7 +61,7 @@ unfolding reading_opened
 levels = refl
 
 -- operators of one level group from the left, and what follows is left
-from_the_left : expression (codes "a - b + c * d / e % 2 ; x") ≡ Some (
+from_the_left : expression (codes "a - b + c * d / e % 2 ; x") ≡ Ok (
   expr.Binary op.Add (expr.Binary op.Sub (v (codes "a")) (v (codes "b")))
       (expr.Binary op.Rem (expr.Binary op.Div (expr.Binary op.Mul (v (codes "c")) (v (codes "d"))) (v (codes "e"))) (num 2)),
   split (codes "; x"),
@@ -65,7 +70,7 @@ unfolding reading_opened
 from_the_left = refl
 
 -- a sign takes the next operand alone, an index and parentheses a whole expression
-inner : expression (codes "! - a [ b || c ] != ( d >= 9223372036854775807 ) > x <= 1") ≡ Some (
+inner : expression (codes "! - a [ b || c ] != ( d >= 9223372036854775807 ) > x <= 1") ≡ Ok (
   expr.Binary op.Ne (expr.Unary unary.Not (expr.Unary unary.Neg
       (expr.Element (called 1 (codes "a")) (expr.Or (v (codes "b")) (v (codes "c"))))))
       (expr.Binary op.Le (expr.Binary op.Gt (expr.Binary op.Ge (v (codes "d")) (num 9223372036854775807)) (v (codes "x"))) (num 1)),
@@ -74,23 +79,23 @@ inner : expression (codes "! - a [ b || c ] != ( d >= 9223372036854775807 ) > x 
 unfolding reading_opened
 inner = refl
 
-abbrev at : ℕ → Text → RawExpr
+abbrev pub at : ℕ → Text → RawExpr
 at line text = expr.Scalar (called line text)
 
-abbrev read : Text → Option (RawProgram × List Lexeme)
+abbrev pub read : Text → Outcome RawProgram
 read text = program (split text)
 
 -- the program whose `main` is so
-abbrev of_main : List RawStmt → Option (RawProgram × List Lexeme)
-of_main main = Some (record { items = []; main = main }, [])
+abbrev pub of_main : List RawStmt → Outcome RawProgram
+of_main main = Ok (record { items = []; main = main }, [])
 
 file_scope : read (codes "int n = - 3 ; int z ; int a [ 7 ] ; int s = 9 ; int main ( ) { }")
-    ≡ Some (record { items = item.Scalar (called 1 (codes "n")) (negsuc 2) ∷ item.Scalar (called 1 (codes "z")) (pos 0) ∷ item.Array (called 1 (codes "a")) (pos 7) ∷ item.Scalar (called 1 (codes "s")) (pos 9) ∷ []; main = [] }, [])
+    ≡ Ok (record { items = item.Scalar (called 1 (codes "n")) (negsuc 2) ∷ item.Scalar (called 1 (codes "z")) (pos 0) ∷ item.Array (called 1 (codes "a")) (pos 7) ∷ item.Scalar (called 1 (codes "s")) (pos 9) ∷ []; main = [] }, [])
 unfolding reading_opened
 file_scope = refl
 
 function : read (codes "void f ( int p , int\nq ) { a [ p ] = q ; }\nvoid g ( void ) { } void h ( ) { } int main ( void ) { return 0 ; }")
-    ≡ Some (
+    ≡ Ok (
       record {
         items = item.Function (called 1 (codes "f")) (called 1 (codes "p") ∷ called 2 (codes "q") ∷ []) (stmt.Store (called 2 (codes "a")) (at 2 (codes "p")) (at 2 (codes "q")) ∷ [])
             ∷ item.Function (called 3 (codes "g")) [] [] ∷ item.Function (called 3 (codes "h")) [] [] ∷ [];
@@ -119,10 +124,3 @@ chosen : read (codes "int main ( ) { if ( 1 ) { f ( ) ; } else if ( 2 )\n{ } els
     ≡ of_main (stmt.If 1 (num 1) (stmt.Call (called 1 (codes "f")) [] ∷ []) (stmt.If 1 (num 2) [] (stmt.Assign (called 2 (codes "n")) (num 3) ∷ []) ∷ []) ∷ [])
 unfolding reading_opened
 chosen = refl
-
--- the nearest wrong texts
-refused : map (λ text. program (split text)) (codes "int main ( ) { return 1 ; }" ∷ codes "int a [ 0 ] ; int main ( ) { }" ∷ codes "int main ( ) { } ;" ∷ codes "int main ( int x ) { }" ∷ codes "int main ( ) { # x = 1 ; }"
-    ∷ codes "int main ( ) { if ( 1 ) { # while ( 1 ) { } } }" ∷ codes "int main ( ) { x = 1 }" ∷ codes "int main ( ) { f ( 1 , ) ; }" ∷ codes "int x = - - 1 ; int main ( ) { }" ∷ codes "int x ;" ∷ codes "void f ( void , int a ) { } int main ( ) { }" ∷ [])
-    ≡ None ∷ None ∷ None ∷ None ∷ None ∷ None ∷ None ∷ None ∷ None ∷ None ∷ None ∷ []
-unfolding reading_opened
-refused = refl

@@ -1,7 +1,6 @@
 -- Whole programs, read as a function.
-use Rattle.std.specs.Prelude.{ℕ, zero, suc, ℤ, pos, Bool, true, false, ◌||◌, List, [], ◌∷◌, ◌++◌, length, Some, None}
+use Rattle.std.specs.Prelude.{ℕ, zero, suc, ℤ, pos, Bool, true, false, ◌||◌, List, [], ◌∷◌, ◌++◌, length, Ok, Err}
 use Rattle.dp_lex.specs.Token.{Lexeme}
-use Rattle.dp_base.specs.Arithmetic.{is_zero}
 use Rattle.dp_tree.specs.declared.raw.Name.{Name as TreeName}
 use Rattle.dp_tree.specs.declared.raw.RawStmt.{RawStmt}
 use Rattle.dp_tree.specs.declared.raw.RawItem.{RawItem}
@@ -11,8 +10,9 @@ use Rattle.dp_parse.specs.declared.symbol.Symbol.{Symbol}
 use Rattle.dp_parse.specs.declared.symbol.Symbol.TheVariants.{Mark, Int, Void, Main, Return, Minus, Assign, OpenParen, CloseParen, OpenBracket, CloseBracket, OpenBrace, CloseBrace, Semicolon}
 use Rattle.dp_parse.specs.declared.item.Part.{Part}
 use Rattle.dp_parse.specs.declared.item.Part.TheVariants.{Item, Main as Body}
-use Rattle.dp_parse.specs.descent.Steps.{Parser, ◌>>=◌, ◌>>◌, ◌<$>◌, pure, refuse, peek, advance, sees, eat, expect, name, number, separated, many, given, negated}
-use Rattle.dp_parse.specs.descent.Statements.{statement, block, repeated}
+use Rattle.dp_parse.specs.descent.Steps.{Parser, ◌>>=◌, ◌>>◌, ◌<$>◌, pure, refuse, peek, advance, sees, eat, expect, name, number, separated, many, sees_zero, given, negated}
+use Rattle.dp_parse.specs.descent.Statements.{statement, block}
+use Rattle.dp_parse.specs.descent.Regions.{region}
 
 abbrev pub start_by : Bool → Parser ℤ
 start_by true = number >>= (λ z. given (negated z))
@@ -22,17 +22,16 @@ start_by false = number
 unfoldable pub start : Parser ℤ
 start = eat Minus >>= start_by
 
-abbrev pub array_by : TreeName → ℤ → Bool → Parser RawItem
-array_by called length true = refuse
-array_by called length false = pure (item.Array called length)
+abbrev pub array_by : TreeName → Bool → Parser RawItem
+array_by called true = refuse
+array_by called false = do
+  length ← number
+  expect CloseBracket
+  pure (item.Array called length)
 
 -- an array's length in its brackets
 unfoldable pub array : TreeName → Parser RawItem
-array name = do
-  expect OpenBracket
-  length ← number
-  expect CloseBracket
-  array_by name length (is_zero length)
+array name = expect OpenBracket >> (λ ts. array_by name (sees_zero ts) ts)
 
 abbrev pub variable_by : TreeName → Symbol → Parser RawItem
 variable_by name OpenBracket = array name
@@ -73,7 +72,7 @@ function = do
   pure (item.Function name params body)
 
 abbrev pub top_by : ℕ → Bool → Parser RawStmt
-top_by depth true = repeated (statement depth) true
+top_by depth true = region (statement depth)
 top_by depth false = statement depth
 
 -- a statement of `main`, which may be a region
@@ -81,11 +80,14 @@ unfoldable pub top : Parser RawStmt
 top = λ ts. (eat Mark >>= top_by (length ts)) ts
 
 abbrev pub zero_by : Bool → Parser (Unit {0})
-zero_by true = expect Semicolon >> pure tt
+zero_by true = do
+  number
+  expect Semicolon
+  pure tt
 zero_by false = refuse
 
 abbrev pub returned_by : Bool → Parser (Unit {0})
-returned_by true = number >>= (λ n. zero_by (is_zero n))
+returned_by true = λ ts. zero_by (sees_zero ts) ts
 returned_by false = pure tt
 
 -- a `return 0;` or nothing
@@ -114,8 +116,8 @@ main_part = do
   pure body
 
 abbrev pub finished : List RawItem → List RawStmt → Parser RawProgram
-finished items main [] = Some (record { items = items; main = main }, [])
-finished items main (t ∷ ts) = None
+finished items main [] = Ok (record { items = items; main = main }, [])
+finished items main (t ∷ ts) = Err (t ∷ ts)
 
 abbrev pub global_by : Bool → Parser Part
 global_by true = Body <$> main_part

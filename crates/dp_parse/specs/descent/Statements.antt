@@ -5,9 +5,10 @@ use Rattle.dp_tree.specs.declared.raw.RawExpr.{RawExpr}
 use Rattle.dp_tree.specs.declared.raw.RawStmt.{RawStmt}
 use Rattle.dp_tree.specs.declared.raw.RawStmt.TheVariants as tree
 use Rattle.dp_parse.specs.declared.symbol.Symbol.{Symbol}
-use Rattle.dp_parse.specs.declared.symbol.Symbol.TheVariants.{Name, Int, Print, While, If, Else, Assign, OpenParen, CloseParen, OpenBracket, CloseBracket, OpenBrace, CloseBrace, Semicolon}
+use Rattle.dp_parse.specs.declared.symbol.Symbol.TheVariants.{Name, Int, Print, While, For, If, Else, OpenParen, CloseParen, OpenBrace, CloseBrace, Semicolon}
 use Rattle.dp_parse.specs.descent.Steps.{Parser, ◌>>=◌, ◌>>◌, ◌<$>◌, pure, refuse, peek, sees, eat, expect, name, many}
 use Rattle.dp_parse.specs.descent.Expressions.{whole, list}
+use Rattle.dp_parse.specs.descent.Heads.{assign, declare, head}
 
 unfoldable pub condition : Parser RawExpr
 condition = do
@@ -15,29 +16,6 @@ condition = do
   inside ← whole
   expect CloseParen
   pure inside
-
--- the expression after a `=`, up to its semicolon
-unfoldable pub right_side : Parser RawExpr
-right_side = do
-  expect Assign
-  value ← whole
-  expect Semicolon
-  pure value
-
-unfoldable pub declare : Parser RawStmt
-declare = do
-  int ← expect Int
-  name ← name
-  value ← right_side
-  pure (tree.Declare int.line name value)
-
-unfoldable pub store : TreeName → Parser RawStmt
-store name = do
-  expect OpenBracket
-  index ← whole
-  expect CloseBracket
-  value ← right_side
-  pure (tree.Store name index value)
 
 abbrev pub arguments_by : Bool → Parser (List RawExpr)
 arguments_by true = pure []
@@ -54,17 +32,23 @@ call name = do
   expect Semicolon
   pure (tree.Call name args)
 
-abbrev pub named_by : TreeName → Symbol → Parser RawStmt
-named_by name OpenBracket = store name
-named_by name OpenParen = call name
-named_by name _ = tree.Assign name <$> right_side
+-- a statement, up to its semicolon
+abbrev pub ended : Parser RawStmt → Parser RawStmt
+ended p = do
+  s ← p
+  expect Semicolon
+  pure s
+
+abbrev pub named_by : TreeName → Bool → Parser RawStmt
+named_by name true = call name
+named_by name false = ended (assign name)
 
 -- a statement that begins with a name
 unfoldable pub named : Parser RawStmt
-named = do
-  name ← name
-  s ← peek
-  named_by name s
+named = name >>= (λ name. λ ts. named_by name (sees OpenParen ts) ts)
+
+unfoldable pub declaration : Parser RawStmt
+declaration = ended declare
 
 unfoldable pub print : Parser RawStmt
 print = do
@@ -83,12 +67,20 @@ module _ (statement : Parser RawStmt) where
     pure body
 
   -- a loop, from its `while` on
-  unfoldable pub repeated : Bool → Parser RawStmt
-  repeated marked = do
+  unfoldable pub repeated : Parser RawStmt
+  repeated = do
     word ← expect While
     cond ← condition
     body ← block
-    pure (tree.While word.line marked cond body)
+    pure (tree.While word.line false cond body)
+
+  -- .. and from its `for` on
+  unfoldable pub counted : Parser RawStmt
+  counted = do
+    word ← expect For
+    h ← head
+    body ← block
+    pure (tree.For word.line false h.first h.cond h.step body)
 
   abbrev pub else_by : Bool → Parser (List RawStmt)
   else_by true = (λ s. s ∷ []) <$> statement
@@ -111,10 +103,11 @@ module _ (statement : Parser RawStmt) where
     pure (tree.If word.line cond then_part else_part)
 
   abbrev pub statement_by : Symbol → Parser RawStmt
-  statement_by Int = declare
+  statement_by Int = declaration
   statement_by Name = named
   statement_by Print = print
-  statement_by While = repeated false
+  statement_by While = repeated
+  statement_by For = counted
   statement_by _ = choice
 
 unfoldable pub statement : ℕ → Parser RawStmt

@@ -3,7 +3,7 @@ use Rattle.std.proofs.Common.{◌≡◌, refl, ℕ, List, [], ◌∷◌, filter}
 use Rattle.dp_tree.specs.declared.Program.{Program}
 use Rattle.dp_plan.specs.declared.StageKind.TheVariants.{Seq, Par}
 use Rattle.dp_plan.specs.declared.Plan.{Plan}
-use Rattle.dp_plan.specs.Access.{is_checked}
+use Rattle.dp_plan.specs.Checked.{is_checked}
 use Rattle.dp_plan.specs.Written.{region_sites}
 use Rattle.dp_tree.proofs.Build.{tree_opened}
 use Rattle.dp_tree.proofs.Programs.{zero_divisor, stale_read, skip_negative, histogram, two_stores, stale_step, stale_divisor, word_table_expanded}

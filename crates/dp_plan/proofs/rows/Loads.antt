@@ -11,7 +11,7 @@ use Rattle.dp_tree.specs.declared.Program.{Program}
 use Rattle.dp_tree.proofs.Build.{tree_opened, num, var, at, bin, set, set_at, say, loop, region, one_region, scalar, array, program}
 use Rattle.dp_plan.specs.declared.StageKind.TheVariants.{Seq}
 use Rattle.dp_plan.specs.declared.Plan.{Plan}
-use Rattle.dp_plan.specs.Access.{is_checked}
+use Rattle.dp_plan.specs.Checked.{is_checked}
 use Rattle.dp_plan.specs.Written.{region_sites}
 use Rattle.dp_plan.proofs.Plans.{plan}
 

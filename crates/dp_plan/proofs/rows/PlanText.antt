@@ -1,5 +1,5 @@
 -- Texts of plans of the test programs, and texts cut into lines.
-use Rattle.std.proofs.Common.{◌≡◌, refl, [], ◌∷◌, codes, arith}
+use Rattle.std.proofs.Common.{◌≡◌, refl, true, false, [], ◌∷◌, codes, arith}
 use Rattle.dp_tree.proofs.Programs.{empty_program, skip_negative, histogram}
 use Rattle.dp_plan.specs.PlanText.{PlanText, lines_of}
 use Rattle.dp_plan.proofs.Plans.{skip_negative_written, histogram_written}
@@ -14,11 +14,15 @@ cut_after_the_last = refl
 cut_empty : lines_of [] ≡ []
 cut_empty = refl
 
-without_region : PlanText empty_program (codes "plan 1\nend\n") []
+without_region : PlanText empty_program (codes "plan 1\nend\n") false []
 unfolding Rattle.std.specs.Fmt.digits
 without_region = record { lines_are = refl; regions = refl; fit = tt }
 
-with_assumption : PlanText skip_negative (codes "plan 1\nregion 1 words 4096\nseq 2 5 6\nseq 3 4 7\nassume 4 0\nend\n") (skip_negative_written ∷ [])
+without_region_proved : PlanText empty_program (codes "plan 2\nend\n") true []
+unfolding Rattle.std.specs.Fmt.digits
+without_region_proved = record { lines_are = refl; regions = refl; fit = tt }
+
+with_assumption : PlanText skip_negative (codes "plan 1\nregion 1 words 4096\nseq 2 5 6\nseq 3 4 7\nassume 4 0\nend\n") false (skip_negative_written ∷ [])
 unfolding Rattle.std.specs.Fmt.digits
 with_assumption = record {
   lines_are = refl;
@@ -36,7 +40,7 @@ with_assumption = record {
   );
 }
 
-with_replicated_stage : PlanText histogram (codes "plan 1\nregion 1 words 4096\nseq 2 3 4\npar 5\nseq 6\nend\n") (histogram_written ∷ [])
+with_replicated_stage : PlanText histogram (codes "plan 2\nregion 1 words 4096\nseq 2 3 4\npar 5\nseq 6\nend\n") true (histogram_written ∷ [])
 unfolding Rattle.std.specs.Fmt.digits
 with_replicated_stage = record {
   lines_are = refl;

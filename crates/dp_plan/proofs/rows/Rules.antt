@@ -15,7 +15,7 @@ use Rattle.dp_plan.proofs.Plans.{seq, par, written, zero_divisor_written, zero_d
 -- the written plan is valid, stands for the plan, and is how that is written
 record Stands (p : Program) (w : WrittenPlan) (plan : Plan) : Type 0 where
   valid : first_broken p w ≡ None
-  for : plan_of p w ≡ plan
+  for : plan_of p plan.proved w ≡ plan
   written : written_of p plan ≡ w
 
 zero_divisor_stands : Stands zero_divisor zero_divisor_written zero_divisor_plan

@@ -4,9 +4,9 @@ use Rattle.dp_tree.proofs.Build.{tree_opened}
 use Rattle.dp_tree.proofs.Programs.{empty_program, stale_read, skip_negative, histogram, stale_step}
 use Rattle.dp_plan.specs.WrittenText.{plans_text}
 use Rattle.dp_plan.specs.GivenPlans.{ArePlans}
-use Rattle.dp_plan.proofs.Plans.{stale_read_plan, skip_negative_plan, histogram_plan, stale_step_plan}
+use Rattle.dp_plan.proofs.Plans.{proved, stale_read_plan, skip_negative_plan, histogram_plan, stale_step_plan}
 
-without_region : plans_text empty_program [] ≡ codes "plan 1\nend\n"
+without_region : plans_text empty_program [] ≡ codes "plan 2\nend\n"
 unfolding Rattle.std.specs.Fmt.digits
 without_region = refl
 
@@ -21,6 +21,10 @@ with_assumption = refl
 with_replicated_stage : plans_text histogram (histogram_plan ∷ []) ≡ codes "plan 1\nregion 1 words 4096\nseq 2 3 4\npar 5\nseq 6\nend\n"
 unfolding tree_opened Rattle.std.specs.Fmt.digits
 with_replicated_stage = refl
+
+in_version_two : plans_text stale_read (proved stale_read_plan ∷ []) ≡ codes "plan 2\nregion 1 words 4096\nseq 2 3 4\nseq 5\nend\n"
+unfolding tree_opened Rattle.std.specs.Fmt.digits
+in_version_two = refl
 
 few_words : plans_text stale_step (stale_step_plan 64 ∷ []) ≡ codes "plan 1\nregion 1 words 64\nseq 2 3 4 5 8\nseq 6 7\nend\n"
 unfolding tree_opened Rattle.std.specs.Fmt.digits
@@ -45,4 +49,5 @@ given = record {
     },
     tt,
   );
+  version = (refl, tt);
 }

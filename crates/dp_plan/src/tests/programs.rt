@@ -55,17 +55,6 @@ pub fn regions(alloc: Global, sites: &[(u32, u32)]) -> Result<Row<RegionInfo>, N
     Ok(all)
 }
 
-/// A program with these regions in its table; a plan's text is read by their number.
-pub fn with_regions(alloc: Global, sites: &[(u32, u32)]) -> Result<Program, NoMemory> {
-    Ok(Program {
-        vars: Row::new(alloc),
-        sites: Row::new(alloc),
-        regions: regions(alloc, sites)?,
-        functions: Row::new(alloc),
-        main: Row::new(alloc),
-    })
-}
-
 /// `s = s + a[i]`
 fn add_element(alloc: Global) -> Result<Expr, NoMemory> {
     let element = Expr::Element(VarId(0), Boxed::new(alloc, var(2))?);

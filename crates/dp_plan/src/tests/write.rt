@@ -8,6 +8,7 @@ use std::test::Fail;
 
 /// A plan of one region, and the lines that it is written as.
 struct Case {
+    proved: bool,
     region: u32,
     words: u32,
     stages: &'static [StageKind],
@@ -19,6 +20,7 @@ struct Case {
 
 const CASES: &[Case] = &[
     Case {
+        proved: false,
         region: 1,
         words: 4096,
         stages: &[StageKind::Seq, StageKind::Seq],
@@ -27,20 +29,22 @@ const CASES: &[Case] = &[
         text: b"plan 1\nregion 1 words 4096\nseq 2 3 4\nseq 5\nend\n",
     },
     Case {
+        proved: true,
         region: 1,
         words: 64,
         stages: &[StageKind::Seq, StageKind::Par, StageKind::Seq],
         stage_of: &[1, 3, 2, 1],
         assume: &[],
-        text: b"plan 1\nregion 1 words 64\nseq 2 5\npar 4\nseq 3\nend\n",
+        text: b"plan 2\nregion 1 words 64\nseq 2 5\npar 4\nseq 3\nend\n",
     },
     Case {
+        proved: true,
         region: 2,
         words: 100,
         stages: &[StageKind::Seq, StageKind::Par],
         stage_of: &[1, 2],
         assume: &[(9, false), (4294967295, true)],
-        text: b"plan 1\nregion 2 words 100\nseq 10\npar 11\nassume 9 0\nassume 4294967295 1\nend\n",
+        text: b"plan 2\nregion 2 words 100\nseq 10\npar 11\nassume 9 0\nassume 4294967295 1\nend\n",
     },
 ];
 
@@ -80,6 +84,7 @@ fn plan_of(alloc: Global, case: &Case) -> Result<Plan, NoMemory> {
         stages: Row::from_slice(alloc, case.stages)?,
         stage_of: Row::from_slice(alloc, case.stage_of)?,
         assume,
+        proved: case.proved,
         checked_at: Row::new(alloc),
     })
 }
@@ -107,7 +112,7 @@ fn each_plan_is_written(rt: HostRuntime) -> Result<(), Fail> {
 fn plans_are_written_in_their_order(rt: HostRuntime) -> Result<(), Fail> {
     let text = text_of(rt.alloc(), &CASES[1..])?;
     let written =
-        b"plan 1\nregion 1 words 64\nseq 2 5\npar 4\nseq 3\nregion 2 words 100\nseq 10\npar 11\nassume 9 0\nassume 4294967295 1\nend\n";
+        b"plan 2\nregion 1 words 64\nseq 2 5\npar 4\nseq 3\nregion 2 words 100\nseq 10\npar 11\nassume 9 0\nassume 4294967295 1\nend\n";
     assert_eq!(&rt; text.as_slice(), written.as_slice());
     Ok(())
 }
@@ -115,6 +120,6 @@ fn plans_are_written_in_their_order(rt: HostRuntime) -> Result<(), Fail> {
 #[test]
 fn no_plan_is_written_as_two_lines(rt: HostRuntime) -> Result<(), Fail> {
     let text = text_of(rt.alloc(), &[])?;
-    assert_eq!(&rt; text.as_slice(), b"plan 1\nend\n".as_slice());
+    assert_eq!(&rt; text.as_slice(), b"plan 2\nend\n".as_slice());
     Ok(())
 }

@@ -3,7 +3,7 @@ use Rattle.std.proofs.Common.{◌≡◌, refl, ℕ, true, false, [], ◌∷◌}
 use Rattle.dp_tree.proofs.Build.{tree_opened}
 use Rattle.dp_tree.proofs.Programs.{sum_loop, closed_at_once, zero_divisor, stale_read, same_value_store, skip_negative, histogram, two_stores, stale_step, stale_divisor}
 use Rattle.dp_plan.specs.declared.StageKind.TheVariants.{Seq, Par}
-use Rattle.dp_plan.proofs.Plans.{plan, sum_loop_one_stage, zero_divisor_plan, stale_read_plan, skip_negative_plan, histogram_plan, two_stores_plan, stale_step_plan, stale_divisor_plan}
+use Rattle.dp_plan.proofs.Plans.{proved, plan, sum_loop_one_stage, zero_divisor_plan, stale_read_plan, skip_negative_plan, histogram_plan, two_stores_plan, stale_step_plan, stale_divisor_plan}
 use Rattle.dp_plan.specs.CheckedTable.{checked_table}
 use Rattle.dp_semantics.specs.OneStage.{one_stage_plan}
 use Rattle.dp_semantics.specs.Fits.{fits_plan}
@@ -12,7 +12,7 @@ sum_loop_fits : fits_plan sum_loop (one_stage_plan sum_loop 1) ≡ true
 unfolding tree_opened
 sum_loop_fits = refl
 
-one_stage_written_out : one_stage_plan sum_loop 1 ≡ sum_loop_one_stage
+one_stage_written_out : one_stage_plan sum_loop 1 ≡ proved sum_loop_one_stage
 unfolding tree_opened
 one_stage_written_out = refl
 

@@ -30,6 +30,6 @@ empty_line_unbroken : first_broken histogram empty_line ≡ None
 unfolding tree_opened
 empty_line_unbroken = refl
 
-empty_line_misfits : fits_plan histogram (plan_of histogram empty_line) ≡ false
+empty_line_misfits : fits_plan histogram (plan_of histogram false empty_line) ≡ false
 unfolding tree_opened
 empty_line_misfits = refl

@@ -68,6 +68,7 @@ region_stands_once = record {
   main_is = refl;
   condition = refl;
   inside = refl;
+  inner = refl;
   earlier = refl;
   later = refl;
 }

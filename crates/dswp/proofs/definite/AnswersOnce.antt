@@ -1,5 +1,5 @@
 -- Where a shelf tells what it holds, there is one answer only.
-use Rattle.std.proofs.Common.{◌≡◌, refl, sym, ap, ◌∙◌, subst, ℕ, List, [], ℤ, Option, Some, None, Result, Ok, Err}
+use Rattle.std.proofs.Common.{◌≡◌, refl, sym, ap, ◌∙◌, subst, ℕ, ◌<◌, ◌^◌, List, [], length, ℤ, Option, Some, None, Result, Ok, Err}
 use Rattle.dp_tree.specs.declared.Program.{Program}
 use Rattle.dp_calls.specs.Expand.{expand}
 use Rattle.dp_calls.specs.Frames.{outcome}
@@ -8,23 +8,32 @@ use Rattle.dswp.specs.declared.refusal.Refusal.{Refusal}
 use Rattle.dswp.specs.declared.refusal.Refusal.TheVariants.{Words}
 use Rattle.dswp.specs.Refusal.{refusal_line, refusal_status}
 use Rattle.dswp.specs.RunText.{run_text, status_of}
-use Rattle.dswp.specs.Words.{Run, Asks, AsksSites, AsksNothing}
+use Rattle.dp_words.specs.Words.{Run, Asks, AsksSites, AsksNothing}
+use Rattle.dp_plan.specs.declared.Plan.{Plan}
+use Rattle.dp_plan.specs.OneStage.{one_stage_plans}
+use Rattle.dswp.specs.Plans.{ReadsPlans}
 use Rattle.dswp.specs.Program.{Reads}
-use Rattle.dswp.specs.Answer.{input_of, ReadsInput, Input, Unnamed, Named, Answer, NotTaken, ProgramRefused, InputRefused, Ran, SitesRefused, SitesListed}
+use Rattle.dswp.specs.Answer.{input_of, ReadsInput, Input, Unnamed, Named, Plans, OneStage, Planned, Answer, NotTaken, ProgramRefused, InputRefused, PlansRefused, Ran, SitesRefused, SitesListed}
+use Rattle.dswp.proofs.accepted.Accepted.{few_regions_read}
 use Rattle.dswp.proofs.definite.ReadsOnce.{reads_once}
+use Rattle.dswp.proofs.definite.PlansOnce.{plans_once}
 use Rattle.dswp.proofs.definite.AsksOnce.{asks_once, sites_once, not_both}
 
 -- a status and the bytes
 abbrev refused : Refusal → ℕ × List ℕ
 refused refusal = (refusal_status refusal, refusal_line refusal)
 
-abbrev ran : ℕ → Program → Result (List ℤ) Refusal → ℕ × List ℕ
-ran fuel p (Err refusal) = refused refusal
-ran fuel p (Ok numbers) = (status_of (outcome p numbers fuel).end, run_text p numbers fuel)
+abbrev ran : Run → Program → List ℤ → Result (List Plan) Refusal → ℕ × List ℕ
+ran run p numbers (Err refusal) = refused refusal
+ran run p numbers (Ok plans) = (status_of (outcome p numbers run.fuel).end, run_text p plans numbers run.fuel run.why)
 
-abbrev run_given : ℕ → Result Program Refusal → Result (List ℤ) Refusal → ℕ × List ℕ
-run_given fuel (Err refusal) input = refused refusal
-run_given fuel (Ok p) input = ran fuel p input
+abbrev with_input : Run → Program → Result (List ℤ) Refusal → Result (List Plan) Refusal → ℕ × List ℕ
+with_input run p (Err refusal) plans = refused refusal
+with_input run p (Ok numbers) plans = ran run p numbers plans
+
+abbrev run_given : Run → Result Program Refusal → Result (List ℤ) Refusal → Result (List Plan) Refusal → ℕ × List ℕ
+run_given run (Err refusal) input plans = refused refusal
+run_given run (Ok p) input plans = with_input run p input plans
 
 abbrev sites_given : Result Program Refusal → ℕ × List ℕ
 sites_given (Err refusal) = refused refusal
@@ -50,44 +59,79 @@ module _ (held : List ℕ → Option (List ℕ)) where
   input_by e Unnamed k = from_unnamed (sym e) k
   input_by e (Named name read r) k = from_named name (sym e) r k
 
-  -- The input counts only where the program isn't refused.
+  -- the plans of a run
+  from_one_stage : {p : Program} {o : Option (List ℕ)} {b : Result (List Plan) Refusal} → o ≡ None → Plans (Some held) p o b → Ok (one_stage_plans p) ≡ b
+  from_one_stage e OneStage = refl
+  from_one_stage e (Planned name text read h r) = absurd (cc e)
+
+  module _ (p : Program) (few : length p.regions < 2 ^ 32) where
+    from_planned : {o : Option (List ℕ)} {a b : Result (List Plan) Refusal} (name text : List ℕ) → o ≡ Some name → held name ≡ Some text → ReadsPlans p text a → Plans (Some held) p o b → a ≡ b
+    from_planned name text e h r OneStage = absurd (cc e)
+    from_planned {b = b} name text e h r (Planned other more read k s) =
+        let same : name ≡ other = cc e in
+        plans_once p few text r (subst (λ (x : List ℕ). ReadsPlans p x b) (sym (one_text same h k)) s)
+
+    plans_by : {o q : Option (List ℕ)} {a b : Result (List Plan) Refusal} → o ≡ q → Plans (Some held) p o a → Plans (Some held) p q b → a ≡ b
+    plans_by e OneStage k = from_one_stage (sym e) k
+    plans_by e (Planned name text read h r) k = from_planned name text (sym e) h r k
+
+  -- The input counts only where the program isn't refused, and the plans where neither is.
   abbrev InputFor : Result Program Refusal → Run → Result (List ℤ) Refusal → Type 0
   InputFor (Err refusal) run input = Unit {0}
   InputFor (Ok p) run input = Input (Some held) run.input input
 
+  abbrev PlansFor : Result Program Refusal → Result (List ℤ) Refusal → Run → Result (List Plan) Refusal → Type 0
+  PlansFor (Err refusal) input run plans = Unit {0}
+  PlansFor (Ok p) (Err refusal) run plans = Unit {0}
+  PlansFor (Ok p) (Ok numbers) run plans = Plans (Some held) (expand p) run.plan plans
+
   data Way (words : List (List ℕ)) (answer : ℕ × List ℕ) : Type 0 where
     nothing : AsksNothing words → answer ≡ refused Words → Way words answer
-    a_run : (run : Run) (text : List ℕ) (x : Result Program Refusal) (input : Result (List ℤ) Refusal) → Asks words run → held run.program ≡ Some text → Reads text x → InputFor x run input →
-        answer ≡ run_given run.fuel x input → Way words answer
+    a_run : (run : Run) (text : List ℕ) (x : Result Program Refusal) (input : Result (List ℤ) Refusal) (plans : Result (List Plan) Refusal) → Asks words run → held run.program ≡ Some text → Reads text x → InputFor x run input → PlansFor x input run plans →
+        answer ≡ run_given run x input plans → Way words answer
     sites : (program text : List ℕ) (x : Result Program Refusal) → AsksSites words program → held program ≡ Some text → Reads text x → answer ≡ sites_given x → Way words answer
 
   way : {words : List (List ℕ)} {status : ℕ} {bytes : List ℕ} → Answer words (Some held) status bytes → Way words (status, bytes)
   way (NotTaken none) = nothing none refl
-  way (ProgramRefused run text refusal asks h r) = a_run run text (Err refusal) (Ok []) asks h r tt refl
-  way (InputRefused run text p refusal asks h r i) = a_run run text (Ok p) (Err refusal) asks h r i refl
-  way (Ran run text p numbers asks h r i) = a_run run text (Ok p) (Ok numbers) asks h r i refl
+  way (ProgramRefused run text refusal asks h r) = a_run run text (Err refusal) (Ok []) (Ok []) asks h r tt tt refl
+  way (InputRefused run text p refusal asks h r i) = a_run run text (Ok p) (Err refusal) (Ok []) asks h r i tt refl
+  way (PlansRefused run text p numbers refusal asks h r i l) = a_run run text (Ok p) (Ok numbers) (Err refusal) asks h r i l refl
+  way (Ran run text p numbers plans asks h r i l) = a_run run text (Ok p) (Ok numbers) (Ok plans) asks h r i l refl
   way (SitesRefused program text refusal asks h r) = sites program text (Err refusal) asks h r refl
   way (SitesListed program text p asks h r) = sites program text (Ok p) asks h r refl
 
-  same_run : (run other : Run) (x y : Result Program Refusal) (i j : Result (List ℤ) Refusal) → run ≡ other → x ≡ y → InputFor x run i → InputFor y other j → run_given run.fuel x i ≡ run_given other.fuel y j
-  same_run run other (Err a) (Err b) i j e f h k = ap (λ (z : Result Program Refusal). run_given 0 z i) f
-  same_run run other (Err a) (Ok q) i j e f h k = absurd (cc f)
-  same_run run other (Ok p) (Err b) i j e f h k = absurd (cc f)
-  same_run run other (Ok p) (Ok q) i j e f h k =
-      ap (λ (z : Run). run_given z.fuel (Ok p) i) e ∙ ap (λ (z : Result Program Refusal). run_given other.fuel z i) f
-      ∙ ap (λ (z : Result (List ℤ) Refusal). ran other.fuel q z) (input_by (ap (λ (z : Run). z.input) e) h k)
+  -- the same run of the same program
+  same_plans : (run : Run) (p : Program) (few : length (expand p).regions < 2 ^ 32) (i j : Result (List ℤ) Refusal) (l m : Result (List Plan) Refusal) → i ≡ j → PlansFor (Ok p) i run l → PlansFor (Ok p) j run m → with_input run p i l ≡ with_input run p j m
+  same_plans run p few (Err a) (Err b) l m e h k = let same : a ≡ b = cc e in ap refused same
+  same_plans run p few (Err a) (Ok b) l m e h k = absurd (cc e)
+  same_plans run p few (Ok a) (Err b) l m e h k = absurd (cc e)
+  same_plans run p few (Ok a) (Ok b) l m e h k =
+      let same : a ≡ b = cc e in
+      ap (λ (numbers : List ℤ). ran run p numbers l) same ∙ ap (ran run p b) (plans_by (expand p) few refl h k)
+
+  same_run : (run : Run) (text : List ℕ) (x y : Result Program Refusal) (i j : Result (List ℤ) Refusal) (l m : Result (List Plan) Refusal) → Reads text x → x ≡ y → InputFor x run i → InputFor y run j → PlansFor x i run l → PlansFor y j run m →
+      run_given run x i l ≡ run_given run y j m
+  same_run run text (Err a) (Err b) i j l m r e h k u v = let same : a ≡ b = cc e in ap refused same
+  same_run run text (Err a) (Ok q) i j l m r e h k u v = absurd (cc e)
+  same_run run text (Ok p) (Err b) i j l m r e h k u v = absurd (cc e)
+  same_run run text (Ok p) (Ok q) i j l m r e h k u v =
+      let same : p ≡ q = cc e in
+      same_plans run p (few_regions_read text p r) i j l m (input_by refl h k) u (subst (λ (z : Program). PlansFor (Ok z) j run m) (sym same) v)
+      ∙ ap (λ (z : Program). with_input run z j m) same
 
   ways_once : {words : List (List ℕ)} {a b : ℕ × List ℕ} → Way words a → Way words b → a ≡ b
   ways_once (nothing n e) (nothing m f) = e ∙ sym f
-  ways_once (nothing n e) (a_run run text x i asks h r g f) = absurd (n.no_run run asks)
+  ways_once (nothing n e) (a_run run text x i l asks h r g u f) = absurd (n.no_run run asks)
   ways_once (nothing n e) (sites program text x asks h r f) = absurd (n.no_sites program asks)
-  ways_once (a_run run text x i asks h r g e) (nothing m f) = absurd (m.no_run run asks)
-  ways_once (a_run run text x i asks h r g e) (a_run other more y j asked k s l f) =
+  ways_once (a_run run text x i l asks h r g u e) (nothing m f) = absurd (m.no_run run asks)
+  ways_once (a_run run text x i l asks h r g u e) (a_run other more y j n asked k s o v f) =
       let one = asks_once asks asked in
-      e ∙ same_run run other x y i j one (read_once (ap (λ (z : Run). z.program) one) h k r s) g l ∙ sym f
-  ways_once (a_run run text x i asks h r g e) (sites program more y asked k s f) = not_both asks asked
+      let back : other ≡ run = sym one in
+      e ∙ same_run run text x y i j l n r (read_once (ap (λ (z : Run). z.program) one) h k r s) g (subst (λ (z : Run). InputFor y z j) back o) u (subst (λ (z : Run). PlansFor y j z n) back v)
+      ∙ ap (λ (z : Run). run_given z y j n) one ∙ sym f
+  ways_once (a_run run text x i l asks h r g u e) (sites program more y asked k s f) = not_both asks asked
   ways_once (sites program text x asks h r e) (nothing m f) = absurd (m.no_sites program asks)
-  ways_once (sites program text x asks h r e) (a_run other more y j asked k s l f) = not_both asked asks
+  ways_once (sites program text x asks h r e) (a_run other more y j n asked k s o v f) = not_both asked asks
   ways_once (sites program text x asks h r e) (sites other more y asked k s f) =
       e ∙ ap sites_given (read_once (sites_once asks asked) h k r s) ∙ sym f
 

@@ -1,50 +1,62 @@
 -- Words ask for one thing only.
-use Rattle.std.proofs.Common.{◌≡◌, refl, sym, ap, ◌∙◌, ℕ, List, [], ◌∷◌, ◌++◌, Option, Some, None, codes}
-use Rattle.std.specs.Str.Parse.{digits_value}
-use Rattle.dswp.specs.Words.{Run, Names, WithoutInput, WithInput, Options, Default, Fuel, Asks, ToRun, AsksSites, ToCheck}
+use Rattle.std.proofs.Common.{◌≡◌, refl, sym, ap, ◌∙◌, ℕ, ◌==◌, Bool, true, false, if◌then◌else◌, List, [], ◌∷◌, length, Option, Some, None, option_map, codes}
+use Rattle.std.specs.Option.{option_map_or}
+use Rattle.clap.specs.Words.{Row, Text, first_of, matches_of}
+use Rattle.dp_words.specs.Words.{Run, Asks, ToRun, AsksSites, ToCheck, NamesRun, NamesSites, run_app, check_app, number_or}
 
--- the run that a list of so many words asks for, where it asks for one
-abbrev run_in : List (List ℕ) → Option Run
-run_in [] = None
-run_in (verb ∷ []) = None
-run_in (verb ∷ program ∷ []) = Some (record { program = program; input = None; fuel = 10000000 })
-run_in (verb ∷ program ∷ input ∷ []) = Some (record { program = program; input = Some input; fuel = 10000000 })
-run_in (verb ∷ program ∷ option ∷ fuel ∷ []) = Some (record { program = program; input = None; fuel = digits_value 10 fuel })
-run_in (verb ∷ program ∷ input ∷ option ∷ fuel ∷ more) = Some (record { program = program; input = Some input; fuel = digits_value 10 fuel })
+-- whether a flag was given, by the number of letters of its value
+abbrev why_of : Option Text → Bool
+why_of value = option_map_or (λ text. length text == 4) value false
 
-run_of_words : {names options : List (List ℕ)} {program : List ℕ} {input : Option (List ℕ)} {fuel : ℕ} → Names names program input → Options options fuel →
-    run_in (codes "run" ∷ (names ++ options)) ≡ Some (record { program = program; input = input; fuel = fuel })
-run_of_words (WithoutInput program h) Default = refl
-run_of_words (WithoutInput program h) (Fuel word fuel k) = ap (λ (n : ℕ). Some (record { program = program; input = None; fuel = n })) (sym k.value)
-run_of_words (WithInput program input h g) Default = refl
-run_of_words (WithInput program input h g) (Fuel word fuel k) = ap (λ (n : ℕ). Some (record { program = program; input = Some input; fuel = n })) (sym k.value)
+-- the run that matches stand for
+abbrev run_from : List Row → Text → Run
+run_from rows program = record {
+  program = program;
+  input = first_of (codes "input") rows;
+  plan = first_of (codes "plan") rows;
+  workers = number_or 2 (first_of (codes "workers") rows);
+  lane = number_or 16 (first_of (codes "lane") rows);
+  fuel = number_or 10000000 (first_of (codes "fuel") rows);
+  why = why_of (first_of (codes "why") rows);
+}
 
-asked_in : {words : List (List ℕ)} {run : Run} → Asks words run → run_in words ≡ Some run
-asked_in (ToRun names options run n o) = run_of_words n o
+why_is : (b : Bool) → why_of (Some (if b then codes "true" else codes "false")) ≡ b
+why_is true = refl
+why_is false = refl
 
-pub asks_once : {words : List (List ℕ)} {a b : Run} → Asks words a → Asks words b → a ≡ b
-asks_once {a = a} {b = b} h k = let same : Some a ≡ Some b = sym (asked_in h) ∙ asked_in k in cc same
+run_is : (rows : List Row) (run : Run) → first_of (codes "input") rows ≡ run.input → first_of (codes "plan") rows ≡ run.plan → run.workers ≡ number_or 2 (first_of (codes "workers") rows) → run.lane ≡ number_or 16 (first_of (codes "lane") rows) →
+    run.fuel ≡ number_or 10000000 (first_of (codes "fuel") rows) → first_of (codes "why") rows ≡ Some (if run.why then codes "true" else codes "false") → run_from rows run.program ≡ run
+run_is rows run input plan workers lane fuel why = rw (input, plan, ← workers, ← lane, ← fuel, why, why_is run.why) refl
 
-abbrev first_of : List (List ℕ) → List ℕ
-first_of [] = []
-first_of (word ∷ words) = word
+-- the words behind the verb
+abbrev behind : List Text → List Text
+behind [] = []
+behind (verb ∷ words) = words
 
-verb_of_run : {words : List (List ℕ)} {run : Run} → Asks words run → first_of words ≡ codes "run"
-verb_of_run (ToRun names options run n o) = refl
+abbrev verb_size : List Text → ℕ
+verb_size [] = 0
+verb_size (verb ∷ words) = length verb
 
-verb_of_sites : {words : List (List ℕ)} {program : List ℕ} → AsksSites words program → first_of words ≡ codes "check"
-verb_of_sites (ToCheck program h) = refl
+named_run : (words : List Text) (run : Run) → NamesRun words run → option_map (run_from (matches_of run_app words)) (first_of (codes "program") (matches_of run_app words)) ≡ Some run
+named_run words run h = ap (option_map (run_from (matches_of run_app words))) h.program ∙ ap Some (run_is (matches_of run_app words) run h.input h.plan h.workers h.lane h.fuel h.why)
 
-pub not_both : {words : List (List ℕ)} {run : Run} {program : List ℕ} {A : Type 0} → Asks words run → AsksSites words program → A
-not_both h k = let clash : codes "run" ≡ codes "check" = sym (verb_of_run h) ∙ verb_of_sites k in absurd (cc clash)
+run_of : {words : List Text} {run : Run} → Asks words run → option_map (run_from (matches_of run_app (behind words))) (first_of (codes "program") (matches_of run_app (behind words))) ≡ Some run
+run_of (ToRun words run h) = named_run words run h
 
-abbrev second_of : List (List ℕ) → Option (List ℕ)
-second_of [] = None
-second_of (verb ∷ []) = None
-second_of (verb ∷ word ∷ words) = Some word
+pub asks_once : {words : List Text} {run other : Run} → Asks words run → Asks words other → run ≡ other
+asks_once {run = run} {other = other} a b = let same : Some run ≡ Some other = sym (run_of a) ∙ run_of b in cc same
 
-name_of_sites : {words : List (List ℕ)} {program : List ℕ} → AsksSites words program → second_of words ≡ Some program
-name_of_sites (ToCheck program h) = refl
+sites_of : {words : List Text} {program : List ℕ} → AsksSites words program → first_of (codes "program") (matches_of check_app (behind words)) ≡ Some program
+sites_of (ToCheck words program h) = h.program_is
 
-pub sites_once : {words : List (List ℕ)} {a b : List ℕ} → AsksSites words a → AsksSites words b → a ≡ b
-sites_once {a = a} {b = b} h k = let same : Some a ≡ Some b = sym (name_of_sites h) ∙ name_of_sites k in cc same
+pub sites_once : {words : List Text} {program other : List ℕ} → AsksSites words program → AsksSites words other → program ≡ other
+sites_once {program = program} {other = other} a b = let same : Some program ≡ Some other = sym (sites_of a) ∙ sites_of b in cc same
+
+run_verb : {words : List Text} {run : Run} → Asks words run → verb_size words ≡ 3
+run_verb (ToRun words run h) = refl
+
+sites_verb : {words : List Text} {program : List ℕ} → AsksSites words program → verb_size words ≡ 5
+sites_verb (ToCheck words program h) = refl
+
+pub not_both : {A : Type 0} {words : List Text} {run : Run} {program : List ℕ} → Asks words run → AsksSites words program → A
+not_both a b = let clash : 3 ≡ 5 = sym (run_verb a) ∙ sites_verb b in absurd (cc clash)

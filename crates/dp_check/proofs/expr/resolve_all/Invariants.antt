@@ -1,6 +1,5 @@
 use Rattle.std.proofs.Common.{◌≡◌, drop}
-use Rattle.dp_check.specs.Answer.{args_answer}
-use Rattle.dp_check.proofs.AnswerLemmas.{onto}
+use Rattle.dp_check.specs.Answer.{args_answer, onto}
 use Rattle.dp_check.proofs.expr.resolve_all.Given as goal
 
 abbrev pub invariant-loop-e : goal.invariant-loop-e

@@ -1,7 +1,6 @@
 use Rattle.std.proofs.Common.{◌≡◌, drop}
 use Rattle.dp_check.specs.Place.{after_params}
-use Rattle.dp_check.specs.Answer.{params_answer}
-use Rattle.dp_check.proofs.AnswerLemmas.{onto}
+use Rattle.dp_check.specs.Answer.{params_answer, onto}
 use Rattle.dp_check.proofs.items.parameters.Given as goal
 
 abbrev pub invariant-loop-name : goal.invariant-loop-name

@@ -1,7 +1,7 @@
 use Rattle.std.proofs.Common.{◌<◌, length, sym, ◌∙◌, arith}
-use Rattle.dp_check.specs.Place.{passed, parts, parts_all}
+use Rattle.dp_check.specs.Place.{passed, sited, parts, parts_all}
 use Rattle.dp_check.proofs.LoopLemmas.{fold_more, fold_end}
-use Rattle.dp_check.proofs.PlaceLemmas.{passed_more, passed-none, pass-If, pass-While}
+use Rattle.dp_check.proofs.PlaceLemmas.{passed_more, passed-none, pass-If, pass-While, pass-For}
 use Rattle.dp_check.proofs.numbers.+numbers.Goals as goal
 
 pub pass_all-loop-s-preserved : goal.pass_all-loop-s-preserved
@@ -25,3 +25,13 @@ pass-returns-in_ok-pass_all-in-While t c =
     rw c.in-While.is
     (c.in_ok-pass_all-in-While.ensures ∙ (λ i. passed (c.in_ok-take_site-in-While.ensures.place i) (parts_all (c.as_slice-in-While.ensures i)))
     ∙ sym (pass-While c.args.place.now c.in-While.line c.in-While.marked c.in-While.cond c.in-While.body))
+
+pub pass-returns-in_ok-pass_all-in-For-3 : goal.pass-returns-in_ok-pass_all-in-For-3
+pass-returns-in_ok-pass_all-in-For-3 t c =
+    let f = c.in-For in
+    let first_end = c.in_ok-pass_all-in-For.ensures ∙ (λ i. passed c.args.place.now (parts_all (c.as_slice-in-For.ensures i))) in
+    let behind = c.in_ok-take_site-in-For.ensures.place ∙ (λ i. sited (first_end i)) in
+    let body_end = c.in_ok-pass_all-in-For-2.ensures ∙ (λ i. passed (behind i) (parts_all (c.as_slice-in-For-2.ensures i))) in
+    rw f.is
+    (c.in_ok-pass_all-in-For-3.ensures ∙ (λ i. passed (body_end i) (parts_all (c.as_slice-in-For-3.ensures i)))
+    ∙ sym (pass-For c.args.place.now f.line f.marked f.first f.cond f.step f.body))

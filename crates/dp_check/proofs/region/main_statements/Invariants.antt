@@ -1,6 +1,5 @@
 use Rattle.std.proofs.Common.{◌≡◌, drop}
-use Rattle.dp_check.specs.Answer.{main_answer}
-use Rattle.dp_check.proofs.AnswerLemmas.{onto}
+use Rattle.dp_check.specs.Answer.{main_answer, onto}
 use Rattle.dp_check.proofs.region.main_statements.Given as goal
 
 abbrev pub invariant-loop-s : goal.invariant-loop-s

@@ -1,4 +1,4 @@
-use Rattle.std.proofs.Common.{◌≡◌, refl, ap, ◌∙◌, sym, rules, arith, suc, ◌-◌, ◌<◌, length, Some, None}
+use Rattle.std.proofs.Common.{◌≡◌, refl, ap, ◌∙◌, sym, rules, arith, suc, ◌-◌, ◌<◌, length, Some, None, Err}
 use Rattle.std.proofs.lemmas.Grind.{common_steps}
 use Rattle.dp_parse.specs.Symbols.{symbol_at}
 use Rattle.dp_parse.specs.Levels.{operands}
@@ -23,7 +23,7 @@ expression-returns-in_err-operand t c =
     let inner : operands c.args.level ≡ Some c.in-Some.inner = sym c.operands.ensures ∙ c.in-Some.is in
     let op : prefix_at c.args.level (symbol_at c.args.tokens.now) ≡ Some c.in-Some-prefix_at.op =
     ap (prefix_at c.args.level) (sym c.peek.ensures) ∙ sym c.prefix_at.ensures ∙ c.in-Some-prefix_at.is in
-    let fails : nested c.args.level c.advance.new.self ≡ None → read.expression nested c.args.level c.args.tokens.now ≡ None = λ h.
+    let fails : nested c.args.level c.advance.new.self ≡ Err c.nested.new.tokens → read.expression nested c.args.level c.args.tokens.now ≡ Err c.nested.new.tokens = λ h.
     level_prefixed nested c.args.level c.in-Some.inner inner c.args.tokens.now c.in-Some-prefix_at.op op
     ∙ ap (λ (o : Outcome RawExpr). and_then o (λ x. pure (tree.Unary c.in-Some-prefix_at.op x))) (ap (nested c.args.level) (sym c.advance.ensures) ∙ h) in
     first_of (search rules, grind (arith, common_steps))
@@ -43,8 +43,9 @@ expression-returns-in_err-found t c =
     let nested = read.nested c.args.depth in
     let inner : operands c.args.level ≡ Some c.in-Some.inner = sym c.operands.ensures ∙ c.in-Some.is in
     let bare : prefix_at c.args.level (symbol_at c.args.tokens.now) ≡ None = ap (prefix_at c.args.level) (sym c.peek.ensures) ∙ sym c.prefix_at.ensures ∙ c.in_default-prefix_at.is in
-    let fails : read.expression nested c.in-Some.inner c.args.tokens.now ≡ None → read.expression nested c.args.level c.args.tokens.now ≡ None =
-    λ h. level_none nested c.args.level c.in-Some.inner inner c.args.tokens.now bare h in
+    let left = c.expression.new.tokens in
+    let fails : read.expression nested c.in-Some.inner c.args.tokens.now ≡ Err left → read.expression nested c.args.level c.args.tokens.now ≡ Err left =
+    λ h. level_none nested c.args.level c.in-Some.inner inner c.args.tokens.now left bare h in
     first_of (search rules, grind (arith, common_steps))
 
 pub expression-loop-join-init : goal.expression-loop-join-init
@@ -60,8 +61,9 @@ expression-returns-in_err-right t c =
     let l = c.loop-join in
     let joins : join_at c.args.level (symbol_at l.tokens) ≡ Some c.in-Some-join_at.join = ap (join_at c.args.level) (sym c.peek-in-loop-join.ensures) ∙ sym c.join_at.ensures ∙ c.in-Some-join_at.is in
     let operand = read.expression nested c.in-Some.inner in
-    let fails : operand c.advance-in-Some-join_at.new.self ≡ None → read.expression nested c.args.level c.args.tokens.now ≡ None = λ h.
-    l.invariant.2 ∙ chain_none c.args.level operand l.invariant.0 l.found l.tokens c.in-Some-join_at.join joins (ap operand (sym c.advance-in-Some-join_at.ensures) ∙ h) l.invariant.1 in
+    let left = c.expression-in-Some-join_at.new.tokens in
+    let fails : operand c.advance-in-Some-join_at.new.self ≡ Err left → read.expression nested c.args.level c.args.tokens.now ≡ Err left = λ h.
+    l.invariant.2 ∙ chain_none c.args.level operand l.invariant.0 l.found l.tokens left c.in-Some-join_at.join joins (ap operand (sym c.advance-in-Some-join_at.ensures) ∙ h) l.invariant.1 in
     first_of (search rules, grind (arith, common_steps))
 
 pub expression-loop-join-smaller : goal.expression-loop-join-smaller

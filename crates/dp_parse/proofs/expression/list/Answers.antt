@@ -1,10 +1,11 @@
-use Rattle.std.proofs.Common.{◌≡◌, refl, ap, ap₂, ◌∙◌, sym, rules, arith, ◌-◌, ◌<◌, length, true, false, None}
+use Rattle.std.proofs.Common.{◌≡◌, refl, ap, ap₂, ◌∙◌, sym, rules, arith, ◌-◌, ◌<◌, length, true, false, Err}
 use Rattle.std.proofs.lemmas.Grind.{common_steps}
 use Rattle.dp_parse.specs.declared.symbol.Symbol.TheVariants.{Comma}
 use Rattle.dp_parse.specs.descent.Steps.{sees, separated}
 use Rattle.dp_parse.specs.descent.Expressions.{whole, list}
 use Rattle.dp_parse.proofs.StepLemmas.{after-le}
 use Rattle.dp_parse.proofs.Lists.{separated_none, separated_on, separated_off}
+use Rattle.dp_parse.proofs.Empty.{whole_empty}
 use Rattle.dp_parse.proofs.Shorter.{shorter}
 use Rattle.dp_parse.proofs.ExpressionSound.{sound_whole}
 use Rattle.dp_parse.proofs.expression.list.Goals as goal
@@ -16,7 +17,8 @@ loop-found-init c = (length c.args.tokens.now, omega arith, ap (λ found. separa
 pub returns-in_err-whole : goal.returns-in_err-whole
 returns-in_err-whole c =
     let l = c.loop-found in
-    let fails : whole l.tokens ≡ None → list c.args.tokens.now ≡ None = λ h. l.invariant.2 ∙ separated_none whole l.invariant.0 l.found l.tokens h in
+    let left = c.whole.new.tokens in
+    let fails : whole l.tokens ≡ Err left → list c.args.tokens.now ≡ Err left = λ h. l.invariant.2 ∙ separated_none whole whole_empty l.invariant.0 l.found l.tokens left h l.invariant.1 in
     first_of (search rules, grind (arith, common_steps))
 
 pub returns-then-not-eat : goal.returns-then-not-eat

@@ -1,9 +1,10 @@
-use Rattle.std.proofs.Common.{◌≡◌, refl, ap, ◌∙◌, sym, rules, arith, ◌-◌, List, true, false, None}
+use Rattle.std.proofs.Common.{◌≡◌, refl, ap, ◌∙◌, sym, rules, arith, ◌-◌, List, true, false, Err}
 use Rattle.std.proofs.lemmas.Grind.{common_steps}
 use Rattle.dp_tree.specs.declared.raw.RawStmt.{RawStmt}
 use Rattle.dp_parse.specs.descent.Steps.{Outcome, ◌>>=◌, and_then, pure}
 use Rattle.dp_parse.specs.descent.Programs as read
 use Rattle.dp_parse.proofs.Lists.{many_turn, many_none, many_end}
+use Rattle.dp_parse.proofs.Empty.{top_empty}
 use Rattle.dp_parse.proofs.ItemSteps.{top_shorter, ends_some}
 use Rattle.dp_parse.proofs.item.main_part.Goals as goal
 
@@ -15,8 +16,9 @@ pub returns-in_err-top : goal.returns-in_err-top
 returns-in_err-top c =
     let l = c.loop-alloc in
     let goes : read.ends l.tokens ≡ false = sym c.ends.ensures ∙ c.loop-alloc-test.true in
-    let fails : read.top l.tokens ≡ None → read.main_part c.args.tokens.now ≡ None = λ h.
-    l.invariant.2 ∙ ap closing (many_none read.top read.ends l.invariant.0 l.body l.tokens goes h) in
+    let left = c.top.new.tokens in
+    let fails : read.top l.tokens ≡ Err left → read.main_part c.args.tokens.now ≡ Err left = λ h.
+    l.invariant.2 ∙ ap closing (many_none read.top read.ends top_empty l.invariant.0 l.body l.tokens left goes h l.invariant.1) in
     first_of (search rules, grind (arith, common_steps))
 
 pub loop-alloc-smaller : goal.loop-alloc-smaller
@@ -36,7 +38,8 @@ returns-in_err-end c =
     let l = c.loop-alloc in
     let over : read.ends l.tokens ≡ true = sym c.ends.ensures ∙ c.loop-alloc-test.false in
     let ends = many_end read.top read.ends l.invariant.0 l.body l.tokens over (ends_some l.tokens over) l.invariant.1 in
-    let fails : read.end l.tokens ≡ None → read.main_part c.args.tokens.now ≡ None = λ h.
+    let left = c.end.new.tokens in
+    let fails : read.end l.tokens ≡ Err left → read.main_part c.args.tokens.now ≡ Err left = λ h.
     l.invariant.2 ∙ ap closing ends ∙ ap (λ (o : Outcome (Unit {0})). and_then o (λ _. pure l.body)) h in
     first_of (search rules, grind (arith, common_steps))
 

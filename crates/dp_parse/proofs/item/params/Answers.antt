@@ -1,17 +1,19 @@
-use Rattle.std.proofs.Common.{◌≡◌, refl, ap, ap₂, ◌∙◌, sym, rules, arith, ◌-◌, ◌<◌, length, true, false, None}
+use Rattle.std.proofs.Common.{◌≡◌, refl, ap, ap₂, ◌∙◌, sym, rules, arith, ◌-◌, ◌<◌, length, true, false, Err}
 use Rattle.std.proofs.lemmas.Grind.{common_steps}
 use Rattle.dp_parse.specs.declared.symbol.Symbol.TheVariants.{Comma}
 use Rattle.dp_parse.specs.descent.Steps.{sees, separated}
 use Rattle.dp_parse.specs.descent.Programs.{param, params}
 use Rattle.dp_parse.proofs.StepLemmas.{after-le}
 use Rattle.dp_parse.proofs.Lists.{separated_none, separated_on, separated_off}
+use Rattle.dp_parse.proofs.Empty.{param_empty}
 use Rattle.dp_parse.proofs.ItemSteps.{param_shorter}
 use Rattle.dp_parse.proofs.item.params.Goals as goal
 
 pub returns-in_err-param : goal.returns-in_err-param
 returns-in_err-param c =
     let l = c.loop-found in
-    let fails : param l.tokens ≡ None → params c.args.tokens.now ≡ None = λ h. l.invariant.2 ∙ separated_none param l.invariant.0 l.found l.tokens h in
+    let left = c.param.new.tokens in
+    let fails : param l.tokens ≡ Err left → params c.args.tokens.now ≡ Err left = λ h. l.invariant.2 ∙ separated_none param param_empty l.invariant.0 l.found l.tokens left h l.invariant.1 in
     first_of (search rules, grind (arith, common_steps))
 
 pub returns-then-not-eat : goal.returns-then-not-eat

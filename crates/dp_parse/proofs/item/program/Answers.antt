@@ -1,4 +1,4 @@
-use Rattle.std.proofs.Common.{◌≡◌, refl, ap, ◌∙◌, sym, rules, arith, ◌-◌, List, length, Some, None}
+use Rattle.std.proofs.Common.{◌≡◌, refl, ap, ◌∙◌, sym, rules, arith, ◌-◌, List, length, Ok, Err}
 use Rattle.std.proofs.lemmas.Grind.{common_steps}
 use Rattle.dp_parse.specs.descent.Programs as read
 use Rattle.dp_lex.specs.Token.{Lexeme}
@@ -16,7 +16,8 @@ loop-items-init c = (length c.args.tokens.now, omega arith, ap (λ items. read.p
 pub returns-in_err-item : goal.returns-in_err-item
 returns-in_err-item c =
     let l = c.loop-items in
-    let fails : read.part l.tokens ≡ None → read.program c.args.tokens.now ≡ None = λ h. l.invariant.2 ∙ program_none l.invariant.0 l.items l.tokens h in
+    let left = c.next_part.new.tokens in
+    let fails : read.part l.tokens ≡ Err left → read.program c.args.tokens.now ≡ Err left = λ h. l.invariant.2 ∙ program_none l.invariant.0 l.items l.tokens left h l.invariant.1 in
     first_of (search rules, grind (arith, common_steps))
 
 -- a part and what is left
@@ -28,7 +29,7 @@ loop-items-smaller c =
     let l = c.loop-items in
     let i = c.in-Item.item in
     let new = c.next_part.new.tokens in
-    let read : read.part l.tokens ≡ Some (pair (Item i) new) = c.in_ok-item.ensures ∙ ap (λ (p : Part). Some (pair p new)) c.in-Item.is in
+    let read : read.part l.tokens ≡ Ok (pair (Item i) new) = c.in_ok-item.ensures ∙ ap (λ (p : Part). Ok (pair p new)) c.in-Item.is in
     shorter_item (sound_part l.tokens new (Item i) read)
 
 pub loop-items-preserved : goal.loop-items-preserved
@@ -36,7 +37,7 @@ loop-items-preserved c =
     let l = c.loop-items in
     let i = c.in-Item.item in
     let new = c.next_part.new.tokens in
-    let read : read.part l.tokens ≡ Some (pair (Item i) new) = c.in_ok-item.ensures ∙ ap (λ (p : Part). Some (pair p new)) c.in-Item.is in
+    let read : read.part l.tokens ≡ Ok (pair (Item i) new) = c.in_ok-item.ensures ∙ ap (λ (p : Part). Ok (pair p new)) c.in-Item.is in
     let less = shorter_item (sound_part l.tokens new (Item i) read) in
     let fits = l.invariant.1 in
     (l.invariant.0 - 1, omega arith, l.invariant.2 ∙ program_item l.invariant.0 l.items l.tokens new i read less fits ∙ rw c.in_ok-push-in-Item.ensures.ok refl)
@@ -46,7 +47,7 @@ returns-then-len-gt0 c _ =
     let l = c.loop-items in
     let body = c.in-Main.main in
     let new = c.next_part.new.tokens in
-    let read : read.part l.tokens ≡ Some (pair (Body body) new) = c.in_ok-item.ensures ∙ ap (λ (p : Part). Some (pair p new)) c.in-Main.is in
+    let read : read.part l.tokens ≡ Ok (pair (Body body) new) = c.in_ok-item.ensures ∙ ap (λ (p : Part). Ok (pair p new)) c.in-Main.is in
     let less = shorter_main (sound_part l.tokens new (Body body) read) in
     l.invariant.2 ∙ program_main l.invariant.0 l.items l.tokens new body read less l.invariant.1 ∙ finished_some l.items body new (omega arith)
 
@@ -55,6 +56,6 @@ returns-in-Main c =
     let l = c.loop-items in
     let body = c.in-Main.main in
     let new = c.next_part.new.tokens in
-    let read : read.part l.tokens ≡ Some (pair (Body body) new) = c.in_ok-item.ensures ∙ ap (λ (p : Part). Some (pair p new)) c.in-Main.is in
+    let read : read.part l.tokens ≡ Ok (pair (Body body) new) = c.in_ok-item.ensures ∙ ap (λ (p : Part). Ok (pair p new)) c.in-Main.is in
     let less = shorter_main (sound_part l.tokens new (Body body) read) in
     l.invariant.2 ∙ program_main l.invariant.0 l.items l.tokens new body read less l.invariant.1 ∙ finished_none l.items body new (omega arith)

@@ -1,11 +1,12 @@
-use Rattle.std.proofs.Common.{◌≡◌, refl, ap, ◌∙◌, sym, rules, arith, ◌-◌, List, true, false, None}
+use Rattle.std.proofs.Common.{◌≡◌, refl, ap, ◌∙◌, sym, rules, arith, ◌-◌, List, true, false, Err}
 use Rattle.std.proofs.lemmas.Grind.{common_steps}
 use Rattle.dp_lex.specs.Token.{Lexeme}
 use Rattle.dp_tree.specs.declared.raw.RawStmt.{RawStmt}
-use Rattle.dp_parse.specs.declared.symbol.Symbol.TheVariants.{CloseBrace, Int, Name, Print, While}
+use Rattle.dp_parse.specs.declared.symbol.Symbol.TheVariants.{CloseBrace, Int, Name, Print, While, For}
 use Rattle.dp_parse.specs.descent.Steps.{Outcome, ◌>>=◌, and_then, pure, expect, sees}
 use Rattle.dp_parse.specs.descent.Statements as read
 use Rattle.dp_parse.proofs.StepLemmas.{seen_some}
+use Rattle.dp_parse.proofs.Empty.{statement_empty}
 use Rattle.dp_parse.proofs.Shorter.{shorter_statement}
 use Rattle.dp_parse.proofs.Lists.{many_turn, many_none, many_end}
 use Rattle.dp_parse.proofs.StatementSound.{sound_statement}
@@ -21,8 +22,9 @@ block-returns-in_err-statement t c =
     let l = c.loop-alloc in
     let statement = read.statement c.args.depth in
     let goes : sees CloseBrace l.tokens ≡ false = sym c.sees.ensures ∙ c.loop-alloc-test.true in
-    let fails : statement l.tokens ≡ None → read.block statement c.args.tokens.now ≡ None = λ h.
-    l.invariant.2 ∙ ap closing (many_none statement (sees CloseBrace) l.invariant.0 l.body l.tokens goes h) in
+    let left = c.statement.new.tokens in
+    let fails : statement l.tokens ≡ Err left → read.block statement c.args.tokens.now ≡ Err left = λ h.
+    l.invariant.2 ∙ ap closing (many_none statement (sees CloseBrace) (statement_empty c.args.depth) l.invariant.0 l.body l.tokens left goes h l.invariant.1) in
     first_of (search rules, grind (arith, common_steps))
 
 pub block-loop-alloc-smaller : goal.block-loop-alloc-smaller
@@ -46,7 +48,7 @@ block-returns-in_err-expect-2 t c =
     let l = c.loop-alloc in
     let over : sees CloseBrace l.tokens ≡ true = sym c.sees.ensures ∙ c.loop-alloc-test.false in
     let ends = many_end (read.statement c.args.depth) (sees CloseBrace) l.invariant.0 l.body l.tokens over (seen_some CloseBrace l.tokens (λ e. cc) over) l.invariant.1 in
-    let fails : read.block (read.statement c.args.depth) c.args.tokens.now ≡ None =
+    let fails : read.block (read.statement c.args.depth) c.args.tokens.now ≡ Err c.expect-2.new.self =
     l.invariant.2 ∙ ap closing ends ∙ ap (λ (o : Outcome Lexeme). and_then o (λ _. pure l.body)) c.in_err-expect-2.ensures.refused in
     first_of (search rules, grind (arith, common_steps))
 
@@ -59,7 +61,7 @@ block-returns t c =
 
 pub statement-returns-in-Int : goal.statement-returns-in-Int
 statement-returns-in-Int t c =
-    rw (statement_opens c.args.depth c.args.tokens.now Int (omega arith) (sym c.peek.ensures ∙ c.in-Int.is)) c.declare.ensures
+    rw (statement_opens c.args.depth c.args.tokens.now Int (omega arith) (sym c.peek.ensures ∙ c.in-Int.is)) c.declaration.ensures
 
 pub statement-returns-in-Name : goal.statement-returns-in-Name
 statement-returns-in-Name t c =
@@ -73,9 +75,13 @@ pub statement-returns-in-While : goal.statement-returns-in-While
 statement-returns-in-While t c =
     rw (statement_opens c.args.depth c.args.tokens.now While (omega arith) (sym c.peek.ensures ∙ c.in-While.is)) c.repeated.ensures
 
+pub statement-returns-in-For : goal.statement-returns-in-For
+statement-returns-in-For t c =
+    rw (statement_opens c.args.depth c.args.tokens.now For (omega arith) (sym c.peek.ensures ∙ c.in-For.is)) c.counted.ensures
+
 pub statement-returns-in_default : goal.statement-returns-in_default
 statement-returns-in_default t c =
     rw (
       statement_opens c.args.depth c.args.tokens.now c.peek.result (omega arith) (sym c.peek.ensures),
-      choice_by (read.statement (c.args.depth - 1)) c.peek.result c.in_default.not-Int c.in_default.not-Name c.in_default.not-Print c.in_default.not-While,
+      choice_by (read.statement (c.args.depth - 1)) c.peek.result c.in_default.not-Int c.in_default.not-Name c.in_default.not-Print c.in_default.not-While c.in_default.not-For,
     ) c.choice.ensures

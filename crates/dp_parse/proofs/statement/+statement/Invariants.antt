@@ -19,6 +19,9 @@ decreases-choice l = 4 * l.depth + 3
 abbrev pub decreases-repeated : goal.decreases-repeated
 decreases-repeated l = 4 * l.depth + 3
 
+abbrev pub decreases-counted : goal.decreases-counted
+decreases-counted l = 4 * l.depth + 3
+
 abbrev pub invariant-block-loop-alloc : goal.invariant-block-loop-alloc
 invariant-block-loop-alloc l =
     (k : ℕ) × (length l.tokens ≤ k)

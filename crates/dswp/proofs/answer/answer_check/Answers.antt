@@ -1,16 +1,16 @@
 use Rattle.std.proofs.Common.{◌∙◌, ap, Ok}
-use Rattle.dswp.proofs.TextsLemmas.{one_load}
+use Rattle.dswp.proofs.TextsLemmas.{given, program_gives}
 use Rattle.dswp.proofs.AnswerLemmas.{carry_sites, carry_sites_refused, carry_sites_failed}
 use Rattle.dswp.proofs.answer.answer_check.Goals as goal
 
 pub returns-in-Text-clause-carried : goal.returns-in-Text-clause-carried
 returns-in-Text-clause-carried g c words asks =
-    carry_sites _ _ _ _ _ _ _ _ _ _ _ _ asks (c.in_ok-program.was ∙ ap Ok c.in-Text.is) (one_load _ _ _ _ _ _ _ _ c.load_program.ensures.loads c.load_program.ensures.faults c.load_program.ensures.failed_names) c.list_sites.ensures.finishes
+    carry_sites _ _ _ _ _ _ _ _ _ _ _ asks (given _ _ _ (c.in_ok-program.was ∙ ap Ok c.in-Text.is) (program_gives _ _ _ _ _ _ _ c.load_program.ensures.loads c.load_program.ensures.faults c.load_program.ensures.failed_names)) c.list_sites.ensures.finishes
 
 pub returns-in-Refused-clause-carried : goal.returns-in-Refused-clause-carried
 returns-in-Refused-clause-carried g c words asks =
-    carry_sites_refused _ _ _ _ _ _ _ _ _ _ _ _ asks (c.in_ok-program.was ∙ ap Ok c.in-Refused.is) (one_load _ _ _ _ _ _ _ _ c.load_program.ensures.loads c.load_program.ensures.faults c.load_program.ensures.failed_names) c.refuse.ensures.finishes
+    carry_sites_refused _ _ _ _ _ _ _ _ _ _ _ asks (given _ _ _ (c.in_ok-program.was ∙ ap Ok c.in-Refused.is) (program_gives _ _ _ _ _ _ _ c.load_program.ensures.loads c.load_program.ensures.faults c.load_program.ensures.failed_names)) c.refuse.ensures.finishes
 
 pub returns-in-Failed-clause-carried : goal.returns-in-Failed-clause-carried
 returns-in-Failed-clause-carried g c words asks =
-    carry_sites_failed _ _ _ _ _ _ _ _ _ _ _ asks (c.in_ok-program.was ∙ ap Ok c.in-Failed.is) (one_load _ _ _ _ _ _ _ _ c.load_program.ensures.loads c.load_program.ensures.faults c.load_program.ensures.failed_names) c.fail_read.ensures.finishes
+    carry_sites_failed _ _ _ _ _ _ _ _ _ _ asks (given _ _ _ (c.in_ok-program.was ∙ ap Ok c.in-Failed.is) (program_gives _ _ _ _ _ _ _ c.load_program.ensures.loads c.load_program.ensures.faults c.load_program.ensures.failed_names)) c.fail_read.ensures.finishes

@@ -1,4 +1,4 @@
-use Rattle.dswp.proofs.AnswerLemmas.{whole_answer, failed_read, failed_write, names_kept, faults_kept, sink_kept}
+use Rattle.dswp.proofs.AnswerLemmas.{whole_answer, failed_read, failed_write, names_kept, faults_kept, sink_kept, counted_after}
 use Rattle.dswp.proofs.answer.drive.Goals as goal
 
 pub returns-clause-answered : goal.returns-clause-answered
@@ -18,3 +18,6 @@ returns-clause-shelf_faults g c = faults_kept _ _ _ _ _ _ _ _ _ c.answer.ensures
 
 pub returns-clause-sink_faults : goal.returns-clause-sink_faults
 returns-clause-sink_faults g c = sink_kept _ _ _ c.answer.ensures.faults
+
+pub returns-clause-counted : goal.returns-clause-counted
+returns-clause-counted g c = counted_after _ _ _ _ _ _ c.final_status.ensures c.answer.ensures.counted

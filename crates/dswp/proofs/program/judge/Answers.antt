@@ -3,7 +3,7 @@ use Rattle.dswp.proofs.LoadLemmas.{fit, offending}
 use Rattle.dswp.proofs.program.judge.Goals as goal
 
 pub expand_calls-requires : goal.expand_calls-requires
-expand_calls-requires c = checked _ _ c.requires c.in-Ok.ensures
+expand_calls-requires c = checked _ _ c.requires.lengths c.requires.exits c.in-Ok.ensures
 
 pub returns-in_ok-offending-in-Err : goal.returns-in_ok-offending-in-Err
 returns-in_ok-offending-in-Err c =

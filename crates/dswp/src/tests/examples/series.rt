@@ -49,6 +49,56 @@ pub const RUNNING_FILTER_INPUT: &[u8] = b"100 104 98 240 101 97 110 -20 300 302 
 pub const RUNNING_FILTER_OUTPUT: &[u8] =
     b"100\n101\n101\n101\n101\n100\n102\n102\n102\n302\n302\n302\n304\n302\nstate\nreach 40\nlevel 302\ndropped 4\nrestarts 1\nin_a_row 0\nregion 1 iterations 15 recovered 0\nend done\n";
 
+pub const BINARY_SEARCH: &[u8] =
+    b"/* Looks up each input word in a sorted table by bisection, and prints the place
+   where it stands. Stops at the first word that isn't there. */
+int table[20];
+int found;
+int last_key;
+int looks;
+
+/* The table holds the square numbers. */
+void fill() {
+  for (int k = 0; k < 20; k = k + 1) {
+    table[k] = k * k;
+  }
+}
+
+int main() {
+  fill();
+  #pragma dswp
+  for (int i = 0; i < input_len; i = i + 1) {
+    int key = input[i];
+
+    int low = 0;
+    int high = 20;
+    while (low < high) {
+      int middle = low + (high - low) / 2;
+      looks = looks + 1;
+      if (table[middle] < key) {
+        low = middle + 1;
+      } else {
+        high = middle;
+      }
+    }
+
+    int there = 0;
+    if (low < 20) {
+      there = table[low] == key;
+    }
+    last_key = key;
+    if (!there) break;
+    found = found + 1;
+    print(low);
+  }
+}
+";
+
+pub const BINARY_SEARCH_INPUT: &[u8] = b"0 361 81 144 100 1 324 49\n9 225 82 16 -5 1000\n";
+
+pub const BINARY_SEARCH_OUTPUT: &[u8] =
+    b"0\n19\n9\n12\n10\n1\n18\n7\n3\n15\nstate\ntable 0 1 4 9 16 25 36 49 64 81 100 121 144 169 196 225 256 289 324 361\nfound 10\nlast_key 82\nlooks 49\nregion 1 iterations 11 recovered 0\nend done\n";
+
 pub const PARTIAL_SUMS: &[u8] =
     b"/* The input is a count n, then n values, and then pairs `from to`, each of
    which asks for the sum of the values from place `from` up to and without
@@ -85,57 +135,3 @@ pub const PARTIAL_SUMS_INPUT: &[u8] = b"10\n3 1 4 1 5 9 2 6 5 3\n0 10 0 0 2 5 5 
 
 pub const PARTIAL_SUMS_OUTPUT: &[u8] =
     b"39\n0\n10\n25\n3\nstate\nsums 0 3 4 8 9 14 23 25 31 36 39 0 0 0 0 0 0\nn 10\nquestions 5\nregion 1 iterations 11 recovered 0\nend done\n";
-
-pub const BINARY_SEARCH: &[u8] =
-    b"/* Looks up each input word in a sorted table by bisection. Prints the place
-   where it stands, or -1. */
-int table[20];
-int found;
-int misses;
-int looks;
-
-/* The table holds the square numbers. */
-void fill() {
-  int k = 0;
-  while (k < 20) {
-    table[k] = k * k;
-    k = k + 1;
-  }
-}
-
-int main() {
-  fill();
-  int i = 0;
-  #pragma dswp
-  while (i < input_len) {
-    int key = input[i];
-    i = i + 1;
-
-    int low = 0;
-    int high = 20;
-    while (low < high) {
-      int middle = low + (high - low) / 2;
-      looks = looks + 1;
-      if (table[middle] < key) {
-        low = middle + 1;
-      } else {
-        high = middle;
-      }
-    }
-
-    int place = -1;
-    if (low < 20 && table[low] == key) {
-      place = low;
-      found = found + 1;
-    } else {
-      misses = misses + 1;
-    }
-    print(place);
-  }
-}
-";
-
-pub const BINARY_SEARCH_INPUT: &[u8] = b"0 361 81 82 -5 1000 144 2 100 1 360\n";
-
-pub const BINARY_SEARCH_OUTPUT: &[u8] =
-    b"0\n19\n9\n-1\n-1\n-1\n12\n-1\n10\n1\n-1\nstate\ntable 0 1 4 9 16 25 36 49 64 81 100 121 144 169 196 225 256 289 324 361\nfound 6\nmisses 5\nlooks 48\nregion 1 iterations 12 recovered 0\nend done\n";

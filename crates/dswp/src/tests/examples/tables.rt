@@ -18,11 +18,9 @@ void count(int length) {
 }
 
 int main() {
-  int i = 0;
   #pragma dswp
-  while (i < input_len) {
+  for (int i = 0; i < input_len; i = i + 1) {
     int length = input[i];
-    i = i + 1;
     if (length > 0) {
       count(length);
     } else {
@@ -31,12 +29,10 @@ int main() {
   }
 
   int best = 1;
-  int n = 2;
-  while (n < 12) {
+  for (int n = 2; n < 12; n = n + 1) {
     if (lengths[n] > lengths[best]) {
       best = n;
     }
-    n = n + 1;
   }
   print(best);
   return 0;

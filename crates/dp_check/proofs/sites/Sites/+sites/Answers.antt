@@ -1,4 +1,5 @@
-use Rattle.std.proofs.Common.{◌<◌, length, sym, ◌∙◌, arith}
+use Rattle.std.proofs.Common.{◌<◌, ◌∷◌, [], length, sym, ◌∙◌, arith}
+use Rattle.dp_tree.specs.declared.SiteKind.TheVariants as kind
 use Rattle.dp_check.specs.Place.{parts, parts_all}
 use Rattle.dp_check.specs.Tables.{sites_of}
 use Rattle.dp_check.specs.Growing.{with_sites}
@@ -28,3 +29,13 @@ statement-returns-in_ok-statements-in-While t c =
     rw c.in-While.is
     (c.in_ok-statements-in-While.ensures ∙ (λ i. with_sites (c.in_ok-site-in-While.ensures i) (sites_of c.args.region (parts_all (c.as_slice-in-While.ensures i))))
     ∙ sym (tables.site-While c.args.self.now c.args.region c.in-While.line c.in-While.marked c.in-While.cond c.in-While.body))
+
+pub statement-returns-in_ok-statements-in-For-3 : goal.statement-returns-in_ok-statements-in-For-3
+statement-returns-in_ok-statements-in-For-3 t c =
+    let r = c.args.region in let f = c.in-For in
+    let first_end = c.in_ok-statements-in-For.ensures ∙ (λ i. with_sites c.args.self.now (sites_of r (parts_all (c.as_slice-in-For.ensures i)))) in
+    let behind = c.in_ok-site-in-For.ensures ∙ (λ i. with_sites (first_end i) (record { line = f.line; kind = kind.While; region = r } ∷ [])) in
+    let body_end = c.in_ok-statements-in-For-2.ensures ∙ (λ i. with_sites (behind i) (sites_of r (parts_all (c.as_slice-in-For-2.ensures i)))) in
+    rw f.is
+    (c.in_ok-statements-in-For-3.ensures ∙ (λ i. with_sites (body_end i) (sites_of r (parts_all (c.as_slice-in-For-3.ensures i))))
+    ∙ sym (tables.site-For c.args.self.now r f.line f.marked f.first f.cond f.step f.body))

@@ -28,3 +28,12 @@ local-returns-in_ok-locals-in-While t c =
     rw c.in-While.is
     (c.in_ok-locals-in-While.ensures ∙ (λ i. with_variables c.args.self.now (locals_of c.args.scope (parts_all (c.as_slice-in-While.ensures i))))
     ∙ sym (tables.local-While c.args.self.now c.args.scope c.in-While.line c.in-While.marked c.in-While.cond c.in-While.body))
+
+pub local-returns-in_ok-locals-in-For-3 : goal.local-returns-in_ok-locals-in-For-3
+local-returns-in_ok-locals-in-For-3 t c =
+    let scope = c.args.scope in let f = c.in-For in
+    let first_end = c.in_ok-locals-in-For.ensures ∙ (λ i. with_variables c.args.self.now (locals_of scope (parts_all (c.as_slice-in-For.ensures i)))) in
+    let body_end = c.in_ok-locals-in-For-2.ensures ∙ (λ i. with_variables (first_end i) (locals_of scope (parts_all (c.as_slice-in-For-2.ensures i)))) in
+    rw f.is
+    (c.in_ok-locals-in-For-3.ensures ∙ (λ i. with_variables (body_end i) (locals_of scope (parts_all (c.as_slice-in-For-3.ensures i))))
+    ∙ sym (tables.local-For c.args.self.now scope f.line f.marked f.first f.cond f.step f.body))

@@ -1,0 +1,23 @@
+-- What is held after one more iteration, by how it ends.
+use Rattle.std.proofs.Common.{sym, subst, ℕ, ◌+◌, Bool, true, false, List, ℤ}
+use Rattle.dp_meaning.specs.declared.ends.IterEnd.{IterEnd}
+use Rattle.dp_meaning.specs.declared.ends.IterEnd.TheVariants.{Next, Closed, Fault, Fuel, Going}
+use Rattle.dp_meaning.specs.MachineState.{MachineState}
+use Rattle.dp_meaning.specs.IterationRun.{IterationRun}
+use Rattle.dp_meaning.specs.NextIteration.{end_of}
+use Rattle.dp_commit.specs.CommittedState.{CommittedState, IsOpen, Holds, ClosesOnce, Reexecuted, WhereEnded, steps_of_first, region_run}
+use Rattle.dp_commit.proofs.Going.{started}
+use Rattle.dp_commit.proofs.Committing.{held_next, held_closed}
+
+module _ (first : MachineState) (c : CommittedState) (once : ClosesOnce first c.region) (o : IsOpen c) (h : Holds first c) where
+  pub applied_holds : (m : MachineState) (turns : ℕ) (before after : List ℤ) (closing : Bool) → IterationRun c.region turns c.machine m before after (end_of closing) → Holds first (record c { machine = m; count = c.count + 1 })
+  applied_holds m turns before after false call = (held_next first c h o m turns before after call).held
+  applied_holds m turns before after true call =
+      (held_closed first c h o m turns before after (once c.count (steps_of_first (region_run first) c.region c.count) (started first c h o)) call).held
+
+  pub reexecuted_holds : (new : CommittedState) (turns : ℕ) (before after : List ℤ) (end : IterEnd) → Reexecuted turns c new before after end → WhereEnded (Holds first new) end
+  reexecuted_holds new turns before after Next q = subst (Holds first) (sym q.rest) (applied_holds new.machine turns before after false q.call)
+  reexecuted_holds new turns before after Closed q = subst (Holds first) (sym q.rest) (applied_holds new.machine turns before after true q.call)
+  reexecuted_holds new turns before after (Fault fault) q = tt
+  reexecuted_holds new turns before after Fuel q = tt
+  reexecuted_holds new turns before after Going q = tt

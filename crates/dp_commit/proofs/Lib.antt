@@ -1,0 +1,13 @@
+pub mod Lists
+pub mod Parts
+pub mod Leaving
+pub mod Heads
+pub mod Going
+pub mod Committing
+pub mod Applied
+pub mod CountLemmas
+pub mod WalkLemmas
+pub mod CodeJudges
+pub mod EpochLemmas
+pub mod StageNumbers
+pub mod GivenStages

@@ -1,0 +1,5 @@
+pub mod CommittedState
+pub mod Told
+pub mod FlatJudge
+pub mod Judging
+pub mod Standing

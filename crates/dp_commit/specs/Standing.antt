@@ -1,0 +1,44 @@
+-- Where the judging stands in an epoch, and what it decides.
+use Rattle.std.specs.Prelude.{◌≡◌, ℕ, suc, false, ◌-◌, List, ℤ, length, Some}
+use Rattle.dp_base.specs.declared.Word.{Word}
+use Rattle.dp_semantics.specs.Judge.{Judgement, judge_lists}
+use Rattle.dp_semantics.specs.Packets.{Packet, passed}
+use Rattle.dp_semantics.specs.EpochKey.{EpochKey, epoch_of}
+use Rattle.dp_semantics.specs.EpochVerdicts.{state_at, verdict_at}
+use Rattle.dp_semantics.specs.Items.{OrWanting}
+use Rattle.dp_commit.specs.Told.{decided}
+use Rattle.dp_commit.specs.declared.trying.TryCommit.{TryCommit}
+use Rattle.dp_commit.specs.declared.verdict.Verdict.{Verdict}
+use Rattle.dp_commit.specs.declared.verdict.Verdict.TheVariants.{Clean, Unclean, NoMemory}
+
+-- The next packet that is judged is that of the epoch's n-th iteration: the memory and the steps are those after the iterations before it.
+pub record Judges (t : TryCommit) (key : EpochKey) (n : ℕ) : Type 0 where
+  pub program : t.program.now ≡ key.program
+  pub plan : t.plan.now ≡ key.plan
+  pub input : t.input.now ≡ key.input
+  pub cells : t.cells ≡ Some (state_at key n).cells
+  pub left : t.left ≡ key.fuel - (state_at key n).steps
+
+-- a packet is what the last stage sends for that iteration
+abbrev pub IsLast : EpochKey → ℕ → Packet → Type 0
+IsLast key n packet = packet ≡ (passed (epoch_of key) (length key.plan.stages) n).packet
+
+-- behind a clean iteration that doesn't close the next one is judged
+abbrev pub JudgesNext : TryCommit → EpochKey → ℕ → Verdict → Type 0
+JudgesNext t key n (Clean v) = v.closing ≡ false → Judges t key (suc n)
+JudgesNext t key n (Unclean cause) = Unit {0}
+JudgesNext t key n NoMemory = Unit {0}
+
+-- The verdict is that on the epoch's n-th iteration, or memory was wanting.
+abbrev pub Gives : TryCommit → EpochKey → ℕ → Verdict → Type 0
+Gives t key n verdict = OrWanting (verdict_at key n) (decided verdict) × JudgesNext t key n verdict
+
+-- the same program, plan and input
+pub record IsSame (t u : TryCommit) : Type 0 where
+  pub program : t.program.now ≡ u.program.now
+  pub plan : t.plan.now ≡ u.plan.now
+  pub input : t.input.now ≡ u.input.now
+
+-- the judgement is that of these words in the memory that is held
+abbrev pub TellsOf : TryCommit → List (List Word) → Judgement → Type 0
+TellsOf t lists judgement = (cells : List ℤ) → t.cells ≡ Some cells → judgement ≡ judge_lists t.program.now t.plan.now t.left cells lists

@@ -1,0 +1,54 @@
+use Rattle.std.proofs.Common.{◌∙◌, ◌++◌, subst}
+use Rattle.dp_meaning.specs.declared.ends.IterEnd.{IterEnd}
+use Rattle.dp_meaning.specs.declared.ends.IterEnd.TheVariants as iter_end
+use Rattle.dp_crew.specs.Remade.{Remade}
+use Rattle.dp_crew.proofs.Answering.{on_err}
+use Rattle.dp_crew.proofs.RemadeLemmas.{emits_both, front_both, may_print, remade, remade_going, remade_falls}
+use Rattle.dp_crew.proofs.reexecute.reexecute.Goals as goal
+
+pub returns-in_err-go_on-clause-err : goal.returns-in_err-go_on-clause-err
+returns-in_err-go_on-clause-err g c =
+    let f = c.calls.invariant.so_far in
+    let s = c.in_err-go_on.ensures.err in
+    on_err c.from_residual.result _ (f.0 ++ s.0, may_print _ _ f.0 f.1 s.0 s.1, front_both _ f.0 _ s.0 _ _ f.2 _ s.2)
+
+pub calls-preserved : goal.calls-preserved
+calls-preserved g c =
+    let f = c.calls.invariant.so_far in
+    let s = c.in_ok-go_on.ensures.ok in
+    record {
+      so_far = (
+        f.0 ++ s.0,
+        remade_going _ _ f.0 f.1 _ s.0 (subst (λ (end : IterEnd). Remade c.calls.committed c.go_on.new.committed s.0 end) c.in-Going.is s.1),
+        emits_both _ f.0 _ s.0 _ _ f.2 _ _ s.2,
+      );
+      faults = c.in_ok-go_on.ensures.faults ∙ c.calls.invariant.faults;
+    }
+
+pub calls-smaller : goal.calls-smaller
+calls-smaller g c =
+    let s = c.in_ok-go_on.ensures.ok in remade_falls _ _ s.0 (subst (λ (end : IterEnd). Remade c.calls.committed c.go_on.new.committed s.0 end) c.in-Going.is s.1)
+
+pub returns-in-Next-clause-ok : goal.returns-in-Next-clause-ok
+returns-in-Next-clause-ok g c =
+    let f = c.calls.invariant.so_far in
+    let s = c.in_ok-go_on.ensures.ok in
+    (f.0 ++ s.0, remade _ _ f.0 f.1 _ s.0 iter_end.Next (subst (λ (end : IterEnd). Remade c.calls.committed c.go_on.new.committed s.0 end) c.in-Next.is s.1), emits_both _ f.0 _ s.0 _ _ f.2 _ _ s.2)
+
+pub returns-in-Closed-clause-ok : goal.returns-in-Closed-clause-ok
+returns-in-Closed-clause-ok g c =
+    let f = c.calls.invariant.so_far in
+    let s = c.in_ok-go_on.ensures.ok in
+    (f.0 ++ s.0, remade _ _ f.0 f.1 _ s.0 iter_end.Closed (subst (λ (end : IterEnd). Remade c.calls.committed c.go_on.new.committed s.0 end) c.in-Closed.is s.1), emits_both _ f.0 _ s.0 _ _ f.2 _ _ s.2)
+
+pub returns-in-Fault-clause-ok : goal.returns-in-Fault-clause-ok
+returns-in-Fault-clause-ok g c =
+    let f = c.calls.invariant.so_far in
+    let s = c.in_ok-go_on.ensures.ok in
+    (f.0 ++ s.0, remade _ _ f.0 f.1 _ s.0 (iter_end.Fault c.in-Fault.fault) (subst (λ (end : IterEnd). Remade c.calls.committed c.go_on.new.committed s.0 end) c.in-Fault.is s.1), emits_both _ f.0 _ s.0 _ _ f.2 _ _ s.2)
+
+pub returns-in-Fuel-clause-ok : goal.returns-in-Fuel-clause-ok
+returns-in-Fuel-clause-ok g c =
+    let f = c.calls.invariant.so_far in
+    let s = c.in_ok-go_on.ensures.ok in
+    (f.0 ++ s.0, remade _ _ f.0 f.1 _ s.0 iter_end.Fuel (subst (λ (end : IterEnd). Remade c.calls.committed c.go_on.new.committed s.0 end) c.in-Fuel.is s.1), emits_both _ f.0 _ s.0 _ _ f.2 _ _ s.2)

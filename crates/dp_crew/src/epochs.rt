@@ -1,0 +1,95 @@
+//! Epoch after epoch, with the iteration that breaks each executed again.
+ghost use Rattle.std.specs.Prelude.{◌≡◌, ◌<◌, ◌≤◌, ◌+◌, ◌-◌, ◌^◌, length, None, IfOk, OnOk};
+ghost use Rattle.dp_plan.specs.declared.Plan.{Plan};
+ghost use Rattle.dp_meaning.specs.MachineState.{MachineState};
+ghost use Rattle.dp_crew.specs.Applied.{HasRoom, left_of};
+ghost use Rattle.dp_crew.specs.Fail.{FaultsAfter};
+ghost use Rattle.dp_crew.specs.InEpoch.{AfterRecovery, IsUnclean, ToBegin, left_by_recovery};
+ghost use Rattle.dp_crew.specs.Output.{Streams, to_come};
+ghost use Rattle.dp_crew.specs.Progress.{RegionDone};
+ghost use Rattle.dp_crew.specs.RegionRun.{IsPlanned};
+
+use crate::ends::{EpochEnd, RegionEnd};
+use crate::fail::CrewFail;
+use crate::reexecute::reexecute;
+use crate::report::count_again;
+use crate::scope::run_one_epoch;
+use crate::size::CrewSize;
+use dp_base::{Cause, RegionReport, Row};
+use dp_commit::{Committed, Tally};
+use dp_edge::{Gate, Sink};
+use dp_plan::Plan;
+use dp_tree::Program;
+use std::alloc::Global;
+use std::sync::Wait;
+use std::thread::Threads;
+
+/// Runs epochs until the region or the run ends.
+pub(crate) fn run_epochs<'p, R: Threads + Wait + Sync, K: Sink, G: Gate>(
+    rt: &R,
+    alloc: Global,
+    p: &Program,
+    plan: &Plan,
+    input: &[i64],
+    crew: CrewSize,
+    committed: &mut Committed<'p>,
+    report: &mut RegionReport,
+    waiting: &mut Row<i64>,
+    sink: &mut K,
+    gate: &G,
+    tally: &mut Tally,
+) -> Result<RegionEnd, CrewFail>
+    requires planned { IsPlanned p.now plan.now }
+    requires words { length input.now ≤ 65536 }
+    requires fuel { committed.old.machine.fuel ≤ 1000000000 }
+    requires crew { (1 ≤ crew.workers) × (crew.workers ≤ 8) × (1 ≤ crew.lane) × (crew.lane ≤ 64) }
+    requires sink { K.faults sink.old < 2 ^ 64 - 1 }
+    requires start { (first : MachineState) × ToBegin p.now plan.now input.now first committed.old report.old }
+    requires room { HasRoom tally.old committed.old }
+    ensures faults { FaultsAfter result (K.faults sink.old) (K.faults sink.new) }
+    ensures ok { IfOk result (λ end. (first : MachineState) → ToBegin p.now plan.now input.now first committed.old report.old → RegionDone plan.now first committed.new report.new end) }
+    ensures streams { (first : MachineState) → ToBegin p.now plan.now input.now first committed.old report.old →
+        Streams result (to_come plan.now first waiting.old committed.old.count) (λ _. waiting.new) (K.written sink.old) (K.written sink.new) }
+    ensures tally { OnOk result (tally.new + report.new.recovered_count + report.old.iterations ≡ tally.old + report.new.iterations + report.old.recovered_count) }
+{
+    'epochs: loop {
+        match run_one_epoch(
+            rt, alloc, p, plan, input, crew, committed, report, waiting, sink, gate, tally,
+        )? {
+            EpochEnd::Closed => return Ok(RegionEnd::Closed),
+            EpochEnd::Unclean(cause) => {
+                match recover_iteration(alloc, committed, report, cause, waiting, sink)? {
+                    Some(end) => return Ok(end),
+                    None => {}
+                }
+            }
+        }
+    }
+}
+
+/// Executes the iteration again that isn't clean. A begun one is counted and listed.
+pub(crate) fn recover_iteration<'p, K: Sink>(
+    alloc: Global,
+    committed: &mut Committed<'p>,
+    report: &mut RegionReport,
+    cause: Cause,
+    waiting: &mut Row<i64>,
+    sink: &mut K,
+) -> Result<Option<RegionEnd>, CrewFail>
+    requires sink { K.faults sink.old < 2 ^ 64 - 1 }
+    requires unclean { (plan : Plan) × (first : MachineState) × IsUnclean plan first committed.old report.old cause }
+    ensures faults { FaultsAfter result (K.faults sink.old) (K.faults sink.new) }
+    ensures ok { IfOk result (λ end. (plan : Plan) (first : MachineState) → IsUnclean plan first committed.old report.old cause → AfterRecovery plan first committed.new report.new end) }
+    ensures streams { (plan : Plan) (first : MachineState) → IsUnclean plan first committed.old report.old cause →
+        Streams result (to_come plan first waiting.old committed.old.count) (left_by_recovery plan first waiting.new committed.new.count) (K.written sink.old) (K.written sink.new) }
+    ensures counts { OnOk result (report.new.iterations + report.old.recovered_count ≡ report.old.iterations + report.new.recovered_count) }
+    ensures left { IfOk result (λ end. end ≡ None → left_of committed.new < left_of committed.old) }
+{
+    let number = committed.count();
+    let begun = committed.steps() < committed.fuel();
+    let end = reexecute(alloc, committed, waiting, sink)?;
+    if begun {
+        count_again(report, number, cause)?;
+    }
+    Ok(end)
+}

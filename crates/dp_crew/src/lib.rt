@@ -1,0 +1,25 @@
+//! A region from start to end: its epochs, one after the other, and its report.
+#![tactic(auto)]
+
+mod ends;
+mod epoch;
+mod epochs;
+mod fail;
+mod making;
+mod reexecute;
+mod region;
+mod report;
+mod scope;
+mod size;
+mod started;
+mod verdicts;
+mod waiting;
+mod writing;
+
+pub use dp_commit::Tally;
+pub use ends::{EpochEnd, RegionEnd};
+pub use epoch::run_epoch;
+pub use fail::CrewFail;
+pub use region::run_region;
+pub use size::CrewSize;
+pub use verdicts::Verdicts;

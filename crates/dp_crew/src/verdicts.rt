@@ -1,0 +1,36 @@
+//! Where verdicts come from.
+ghost use Rattle.std.specs.Prelude.{◌≡◌, ◌+◌, ◌<◌, ℕ, true};
+ghost use Rattle.dp_semantics.specs.EpochKey.{EpochKey};
+ghost use Rattle.dp_semantics.specs.EpochVerdicts.{goes_on, verdict_at};
+ghost use Rattle.dp_semantics.specs.Items.{OrWanting};
+ghost use Rattle.dp_commit.specs.Told.{decided};
+
+use dp_commit::Verdict;
+use dp_pipeline::LaneVerdicts;
+use std::sync::Wait;
+
+/// The verdicts on the iterations of one epoch, in order.
+pub trait Verdicts {
+    /// What the epoch depends on.
+    ghost key: { Self → EpochKey };
+
+    /// How many verdicts were given.
+    ghost given: { Self → ℕ };
+
+    /// The verdict on the next iteration. There is none after one that isn't Clean or that closes the region.
+    fn next<R: Wait>(&mut self, rt: &R) -> Verdict
+        requires { (n : ℕ) → n < given self.old → goes_on (verdict_at (key self.old) n) ≡ true }
+        ensures verdict { OrWanting (verdict_at (key self.old) (given self.old)) (decided result) }
+        ensures key { key self.new ≡ key self.old }
+        ensures given { given self.new ≡ given self.old + 1 };
+}
+
+impl<'u> Verdicts for LaneVerdicts<'u> {
+    ghost key = { λ v. v.key };
+
+    ghost given = { λ v. v.given };
+
+    fn next<R: Wait>(&mut self, rt: &R) -> Verdict {
+        LaneVerdicts::next(self, rt)
+    }
+}

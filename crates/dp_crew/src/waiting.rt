@@ -1,0 +1,58 @@
+//! Prints that wait to be written.
+ghost use Rattle.std.specs.Prelude.{◌≡◌, ◌<◌, ◌-◌, ◌^◌, ◌++◌, [], length, OnOk};
+ghost use Rattle.dp_crew.specs.Output.{Streams};
+ghost use Rattle.dp_crew.specs.Fail.{FaultsAfter};
+
+use crate::fail::CrewFail;
+use crate::writing::write;
+use dp_base::{NoMemory, Row};
+use dp_edge::Sink;
+use dp_report::prints_text;
+use std::alloc::Global;
+
+/// So many prints don't wait any longer.
+const MANY: usize = 4096;
+
+/// Lets more prints wait.
+pub(crate) fn wait(waiting: &mut Row<i64>, prints: &[i64]) -> Result<(), NoMemory>
+    ensures { OnOk result (waiting.new ≡ waiting.old ++ prints.now) }
+{
+    for print in prints {
+        waiting.push(*print)?;
+    }
+    Ok(())
+}
+
+/// Writes the prints that wait where they are many.
+pub(crate) fn flush_if_many<K: Sink>(
+    alloc: Global,
+    waiting: &mut Row<i64>,
+    sink: &mut K,
+) -> Result<(), CrewFail>
+    requires { K.faults sink.old < 2 ^ 64 - 1 }
+    ensures faults { FaultsAfter result (K.faults sink.old) (K.faults sink.new) }
+    ensures few { OnOk result (length waiting.new < 4096) }
+    ensures streams { Streams result waiting.old (λ _. waiting.new) (K.written sink.old) (K.written sink.new) }
+{
+    if waiting.len() < MANY {
+        return Ok(());
+    }
+    flush(alloc, waiting, sink)
+}
+
+/// Writes all prints that wait.
+pub(crate) fn flush<K: Sink>(
+    alloc: Global,
+    waiting: &mut Row<i64>,
+    sink: &mut K,
+) -> Result<(), CrewFail>
+    requires { K.faults sink.old < 2 ^ 64 - 1 }
+    ensures faults { FaultsAfter result (K.faults sink.old) (K.faults sink.new) }
+    ensures ok { OnOk result (waiting.new ≡ []) }
+    ensures streams { Streams result waiting.old (λ _. waiting.new) (K.written sink.old) (K.written sink.new) }
+{
+    let text = prints_text(alloc, waiting.as_slice())?;
+    write(text.as_slice(), sink)?;
+    waiting.clear();
+    Ok(())
+}

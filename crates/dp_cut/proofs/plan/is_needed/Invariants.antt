@@ -1,0 +1,6 @@
+use Rattle.std.proofs.Common.{◌≡◌, drop}
+use Rattle.dp_cut.specs.LeastPlan as spec
+use Rattle.dp_cut.proofs.plan.is_needed.Given as goal
+
+abbrev pub invariant-loop-node : goal.invariant-loop-node
+invariant-loop-node l = spec.is_needed l.stages l.first (drop l.node-index l.nodes) l.outcome ≡ spec.is_needed l.stages l.first l.nodes l.outcome

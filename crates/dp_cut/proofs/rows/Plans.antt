@@ -1,0 +1,65 @@
+-- Plans that cuts of the test programs' units stand for.
+use Rattle.std.proofs.Common.{◌≡◌, refl, ℕ, true, false, [], ◌∷◌, None}
+use Rattle.dp_tree.proofs.Build.{tree_opened, assume}
+use Rattle.dp_tree.proofs.Programs.{sum_loop, skip_negative}
+use Rattle.dp_plan.specs.declared.StageKind.TheVariants.{Seq, Par}
+use Rattle.dp_plan.specs.Valid.{is_valid_plan}
+use Rattle.dp_depend.specs.Edges.{edges_of}
+use Rattle.dp_depend.proofs.rows.Graphs.{edges_opened}
+use Rattle.dp_depend.proofs.rows.Programs.{early_exit, generated}
+use Rattle.dp_cut.specs.declared.Stretch.{Stretch}
+use Rattle.dp_cut.specs.LeastPlan.{unit_weights, carried_pairs, plan_of_cut}
+
+abbrev seq : ℕ → Stretch
+seq units = record { units = units; replicated = false }
+
+abbrev par : ℕ → Stretch
+par units = record { units = units; replicated = true }
+
+-- sites 2 and 5 are one unit, and 3 and 4 one each
+units_of_sum_loop : unit_weights 3 (0 ∷ 1 ∷ 2 ∷ 0 ∷ []) (1 ∷ 1 ∷ 1 ∷ 1 ∷ []) ≡ 2 ∷ 1 ∷ 1 ∷ []
+units_of_sum_loop = refl
+
+carried_in_sum_loop : carried_pairs (0 ∷ 1 ∷ 2 ∷ 0 ∷ []) 2 (edges_of sum_loop 1 None 10) ≡ (1, 1) ∷ (1, 2) ∷ (0, 0) ∷ (0, 1) ∷ (0, 0) ∷ []
+unfolding edges_opened
+carried_in_sum_loop = refl
+
+one_cut : (plan_of_cut sum_loop 1 (0 ∷ 1 ∷ 2 ∷ 0 ∷ []) [] (seq 1 ∷ seq 2 ∷ [])).stage_of ≡ 1 ∷ 2 ∷ 2 ∷ 1 ∷ []
+one_cut = refl
+
+no_cut : (plan_of_cut sum_loop 1 (0 ∷ 1 ∷ 2 ∷ 0 ∷ []) [] (seq 3 ∷ [])).stage_of ≡ 1 ∷ 1 ∷ 1 ∷ 1 ∷ []
+no_cut = refl
+
+-- the weights of a profile
+units_of_skip_negative : unit_weights 5 (0 ∷ 1 ∷ 2 ∷ 3 ∷ 0 ∷ 4 ∷ []) (4 ∷ 3 ∷ 3 ∷ 0 ∷ 3 ∷ 3 ∷ []) ≡ 7 ∷ 3 ∷ 3 ∷ 0 ∷ 3 ∷ []
+units_of_skip_negative = refl
+
+-- the `if` at 4 and the site inside are in one stage, so nothing is assumed
+nothing_needed : (plan_of_cut skip_negative 1 (0 ∷ 1 ∷ 2 ∷ 3 ∷ 0 ∷ 4 ∷ []) (assume 4 false ∷ []) (seq 1 ∷ seq 4 ∷ [])).assume ≡ []
+unfolding tree_opened
+nothing_needed = refl
+
+-- the site inside is in an earlier stage
+needed : (plan_of_cut skip_negative 1 (0 ∷ 1 ∷ 2 ∷ 0 ∷ 0 ∷ 3 ∷ []) (assume 4 false ∷ []) (seq 1 ∷ seq 3 ∷ [])).assume ≡ assume 4 false ∷ []
+unfolding tree_opened
+needed = refl
+
+-- one stage of four units is replicated
+four_stages : (plan_of_cut generated 1 (0 ∷ 1 ∷ 0 ∷ 2 ∷ 3 ∷ 4 ∷ 5 ∷ 6 ∷ 7 ∷ 8 ∷ []) [] (seq 1 ∷ seq 2 ∷ par 4 ∷ seq 2 ∷ [])).stage_of ≡ 1 ∷ 2 ∷ 1 ∷ 2 ∷ 3 ∷ 3 ∷ 3 ∷ 3 ∷ 4 ∷ 4 ∷ []
+four_stages = refl
+
+kinds_of_four : (plan_of_cut generated 1 (0 ∷ 1 ∷ 0 ∷ 2 ∷ 3 ∷ 4 ∷ 5 ∷ 6 ∷ 7 ∷ 8 ∷ []) [] (seq 1 ∷ seq 2 ∷ par 4 ∷ seq 2 ∷ [])).stages ≡ Seq ∷ Seq ∷ Par ∷ Seq ∷ []
+kinds_of_four = refl
+
+-- the exit comes with what it lets pass
+exit_late : (plan_of_cut early_exit 1 (0 ∷ 1 ∷ 2 ∷ 3 ∷ 0 ∷ []) [] (seq 1 ∷ seq 1 ∷ seq 2 ∷ [])).stage_of ≡ 1 ∷ 2 ∷ 3 ∷ 3 ∷ 1 ∷ []
+exit_late = refl
+
+-- these plans are valid
+valid_plan : is_valid_plan sum_loop (plan_of_cut sum_loop 1 (0 ∷ 1 ∷ 2 ∷ 0 ∷ []) [] (seq 1 ∷ seq 2 ∷ [])) ≡ true
+unfolding tree_opened
+valid_plan = refl
+
+valid_when_assumed : is_valid_plan skip_negative (plan_of_cut skip_negative 1 (0 ∷ 1 ∷ 2 ∷ 0 ∷ 0 ∷ 3 ∷ []) (assume 4 false ∷ []) (seq 1 ∷ seq 3 ∷ [])) ≡ true
+unfolding tree_opened
+valid_when_assumed = refl

@@ -1,0 +1,26 @@
+//! The least cut of a region's units into the stages of a pipeline, and the plan that it stands for.
+#![tactic(auto)]
+
+mod automatic;
+mod bound;
+mod limits;
+mod needs;
+mod places;
+mod plan;
+mod site_weights;
+mod sums;
+#[cfg(test)]
+mod tests;
+
+pub use automatic::{Wishes, least_plans};
+pub use places::cut_units;
+pub use plan::cut;
+
+/// Neighbouring units that form one stage.
+#[derive(Clone, Copy, Debug, PartialEq, Eq)]
+pub struct Stretch {
+    /// How many there are, at least one.
+    pub units: u32,
+    /// Whether several workers take its iterations in turn.
+    pub replicated: bool,
+}

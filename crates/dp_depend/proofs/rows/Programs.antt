@@ -1,0 +1,96 @@
+-- More programs, and profiles.
+use Rattle.std.proofs.Common.{ℕ, Bool, true, false, List, [], ◌∷◌, pos}
+use Rattle.dp_base.specs.declared.BinOp.TheVariants as op
+use Rattle.dp_tree.specs.declared.SiteKind.TheVariants.{Assign, While, Break}
+use Rattle.dp_tree.specs.declared.VarScope.TheVariants.{Global, Outer, Body}
+use Rattle.dp_tree.specs.declared.Program.{Program}
+use Rattle.dp_tree.specs.declared.Expr.{Expr}
+use Rattle.dp_tree.specs.declared.Expr.TheVariants as tree
+use Rattle.dp_tree.specs.declared.Stmt.TheVariants as stmt
+use Rattle.dp_tree.proofs.Build.{array, at, bin, num, one_region, program, region, scalar, set, set_at, site, var}
+use Rattle.dp_tree.proofs.Programs.{add}
+use Rattle.dp_profile.specs.declared.Profile.{Profile}
+use Rattle.dp_profile.specs.declared.SiteCount.{SiteCount}
+use Rattle.dp_profile.specs.declared.Flow.{Flow}
+
+-- 1  int n;
+-- 4    for (int i = 0; i < input_len; i = i + 1) {
+-- 5      int x = input[i];
+-- 6      if (x < 0) break;
+-- 7      n = n + x;
+abbrev pub early_exit : Program
+early_exit = program
+    (scalar 0 (pos 0) Global ∷ scalar 1 (pos 0) Outer ∷ scalar 2 (pos 0) (Body 1) ∷ [])
+    (site 4 Assign 0 ∷ site 4 While 1 ∷ site 5 Assign 1 ∷ site 6 Break 1 ∷ site 7 Assign 1 ∷ site 4 Assign 1 ∷ [])
+    (one_region 4 2 6)
+    (set 1 1 (num 0) ∷ region 1 2 (bin op.Lt (var 1) tree.InputLen)
+    (set 3 2 (tree.Input (var 1)) ∷ stmt.Break (record { 0 = 4 }) (bin op.Lt (var 2) (num 0)) ∷ set 5 0 (add (var 0) (var 2)) ∷ set 6 1 (add (var 1) (num 1)) ∷ []) ∷ [])
+
+-- 1  int a[9];
+-- 2  int s;
+-- 7    while (i < 8) {
+-- 8      s = s + a[i + 1];   four times
+-- 12     a[i] = i + 1;
+-- 13     i = i + 1;
+abbrev pub far_reads : Program
+far_reads = program
+    (array 0 9 ∷ scalar 9 (pos 0) Global ∷ scalar 10 (pos 0) Outer ∷ [])
+    (site 4 Assign 0 ∷ site 5 Assign 0 ∷ site 7 While 1 ∷ site 8 Assign 1 ∷ site 9 Assign 1 ∷ site 10 Assign 1 ∷ site 11 Assign 1 ∷ site 12 Assign 1 ∷ site 13 Assign 1 ∷ [])
+    (one_region 7 3 9)
+    (set 1 2 (num 0) ∷ set_at 2 0 (num 3) (num 7) ∷ region 1 3 (bin op.Lt (var 2) (num 8))
+    (set 4 1 (add (var 1) (at 0 (add (var 2) (num 1)))) ∷ set 5 1 (add (var 1) (at 0 (add (var 2) (num 1)))) ∷ set 6 1 (add (var 1) (at 0 (add (var 2) (num 1)))) ∷ set 7 1 (add (var 1) (at 0 (add (var 2) (num 1))))
+    ∷ set_at 8 0 (var 2) (add (var 2) (num 1)) ∷ set 9 2 (add (var 2) (num 1)) ∷ []) ∷ [])
+
+-- 1  int a[5];
+-- 2  int s;
+-- 6    while (i < 4) {
+-- 7      s = s + a[i];
+-- 8      i = i + 1;
+-- 9      a[i] = 7;
+abbrev pub near_reads : Program
+near_reads = program
+    (array 0 5 ∷ scalar 5 (pos 0) Global ∷ scalar 6 (pos 0) Outer ∷ [])
+    (site 4 Assign 0 ∷ site 6 While 1 ∷ site 7 Assign 1 ∷ site 8 Assign 1 ∷ site 9 Assign 1 ∷ [])
+    (one_region 6 2 5)
+    (set 1 2 (num 0) ∷ region 1 2 (bin op.Lt (var 2) (num 4)) (set 3 1 (add (var 1) (at 0 (var 2))) ∷ set 4 2 (add (var 2) (num 1)) ∷ set_at 5 0 (var 2) (num 7) ∷ []) ∷ [])
+
+abbrev mixed : ℕ → Expr
+mixed x = bin op.Rem (add (bin op.Mul (var x) (num 5)) (num 3)) (num 16)
+
+-- 1  int hist[16];
+-- 2  int sum;
+-- 4    int i = 0;
+-- 6    while (i < input_len) {
+-- 7      int x = input[i];
+-- 8      i = i + 1;
+-- 9      int a = x % 16;
+-- 10     int b = (a * 5 + 3) % 16;   and so c, d, y
+-- 14     hist[y] = hist[y] + 1;
+-- 15     sum = sum + y;
+abbrev pub generated : Program
+generated = program
+    (array 0 16 ∷ scalar 16 (pos 0) Global ∷ scalar 17 (pos 0) Outer ∷ scalar 18 (pos 0) (Body 1) ∷ scalar 19 (pos 0) (Body 1) ∷ scalar 20 (pos 0) (Body 1) ∷ scalar 21 (pos 0) (Body 1) ∷ scalar 22 (pos 0) (Body 1) ∷ scalar 23 (pos 0) (Body 1) ∷ [])
+    (site 4 Assign 0 ∷ site 6 While 1 ∷ site 7 Assign 1 ∷ site 8 Assign 1 ∷ site 9 Assign 1 ∷ site 10 Assign 1 ∷ site 11 Assign 1 ∷ site 12 Assign 1 ∷ site 13 Assign 1 ∷ site 14 Assign 1 ∷ site 15 Assign 1 ∷ [])
+    (one_region 6 2 11)
+    (set 1 2 (num 0) ∷ region 1 2 (bin op.Lt (var 2) tree.InputLen)
+    (set 3 3 (tree.Input (var 2)) ∷ set 4 2 (add (var 2) (num 1)) ∷ set 5 4 (bin op.Rem (var 3) (num 16)) ∷ set 6 5 (mixed 4) ∷ set 7 6 (mixed 5) ∷ set 8 7 (mixed 6) ∷ set 9 8 (mixed 7)
+    ∷ set_at 10 0 (var 8) (add (at 0 (var 8)) (num 1)) ∷ set 11 1 (add (var 1) (var 8)) ∷ []) ∷ [])
+
+abbrev count : ℕ → ℕ → SiteCount
+count runs nonzero = record { runs = runs; nonzero = nonzero }
+
+abbrev flow : ℕ → ℕ → Bool → ℕ → Flow
+flow from to carried shown = record { from = record { 0 = from }; to = record { 0 = to }; carried = carried; shown = shown }
+
+abbrev profile : List SiteCount → List Flow → Profile
+profile sites flows = record { regions = record { sites = sites; flows = flows } ∷ [] }
+
+-- what a run of `sum_loop` shows
+abbrev pub sum_loop_shown : Profile
+sum_loop_shown = profile (count 4 3 ∷ count 3 0 ∷ count 3 0 ∷ count 3 0 ∷ [])
+    (flow 3 3 true 2 ∷ flow 3 4 false 3 ∷ flow 5 2 true 3 ∷ flow 5 3 true 2 ∷ flow 5 5 true 2 ∷ [])
+
+-- what a run of `skip_negative` with the input 5 6 7 shows
+abbrev pub skip_negative_shown : Profile
+skip_negative_shown = profile (count 4 3 ∷ count 3 0 ∷ count 3 0 ∷ count 0 0 ∷ count 3 0 ∷ count 3 0 ∷ [])
+    (flow 3 4 false 3 ∷ flow 3 7 false 3 ∷ flow 6 2 true 3 ∷ flow 6 3 true 2 ∷ flow 6 6 true 2 ∷ flow 7 7 true 2 ∷ [])

@@ -1,0 +1,4 @@
+pub mod Epochs
+pub mod Goes
+pub mod OpLemmas
+pub mod SendLemmas

@@ -1,0 +1,4 @@
+pub mod Engine
+pub mod Sending
+pub mod Standing
+pub mod Machine

@@ -1,0 +1,71 @@
+//! The body locals of a region read 0 where an iteration begins.
+ghost use Rattle.std.specs.Prelude.{◌≡◌, List, ℤ, OnOk, if◌then◌else◌, slice_set, pos};
+ghost use Rattle.dp_tree.specs.Step.{clear_locals, is_local_of};
+ghost use Rattle.dp_semantics.specs.Packets as packets;
+ghost use Rattle.dp_machine.specs.Sending.{IsSent, key_of, onward};
+
+use crate::sending::with_status;
+use crate::{Frame, Memory, Sent};
+use dp_base::NoMemory;
+use dp_packet::PacketStatus;
+use dp_tree::{VarInfo, VarScope};
+
+fn is_local(region: u32, scope: VarScope) -> bool
+    ensures { result ≡ is_local_of region scope }
+{
+    match scope {
+        VarScope::Body(r) => r == region,
+        VarScope::Global | VarScope::Outer => false,
+    }
+}
+
+fn clear_one<M: Memory + Drop>(region: u32, info: &VarInfo, memory: &mut M) -> Result<(), NoMemory>
+    ensures { OnOk result (M.cells memory.new ≡ (if is_local_of region info.now.scope then slice_set (M.cells memory.old) info.now.first.0 (pos 0) else M.cells memory.old)) }
+{
+    if is_local(region, info.scope) {
+        memory.store(info.first.0, 0)?;
+    }
+    Ok(())
+}
+
+/// The body locals read 0.
+fn clear<M: Memory + Drop>(region: u32, vars: &[VarInfo], memory: &mut M) -> Result<(), NoMemory>
+    ensures { OnOk result (M.cells memory.new ≡ clear_locals region vars.now (M.cells memory.old)) }
+{
+    for info in vars {
+        clear_one(region, info, memory)?;
+    }
+    Ok(())
+}
+
+/// The same, with a memory that is ready for the next iteration.
+pub fn cleared<'p, M: Memory + Drop>(frame: Frame<'p>, sent: Sent<M>) -> Sent<M>
+    ensures sent { (base : List ℤ) (passed : packets.Passed) → IsSent M.cells passed sent.packet sent.memory →
+        IsSent M.cells (onward (key_of frame.entry base) passed) result.packet result.memory }
+    ensures number { result.packet.iteration ≡ sent.packet.iteration }
+{
+    let Sent { packet, memory } = sent;
+    match memory {
+        Some(memory) => {
+            let mut memory = memory;
+            match clear(
+                frame.plan.region,
+                frame.program.vars.as_slice(),
+                &mut memory,
+            ) {
+                Ok(()) => Sent {
+                    packet,
+                    memory: Some(memory),
+                },
+                Err(_) => Sent {
+                    packet: with_status(packet, PacketStatus::NoMemory),
+                    memory: None,
+                },
+            }
+        }
+        None => Sent {
+            packet,
+            memory: None,
+        },
+    }
+}

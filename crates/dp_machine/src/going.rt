@@ -1,0 +1,159 @@
+//! A packet that goes on, by what the stage keeps.
+ghost use Rattle.std.specs.Prelude.{◌≡◌, ◌<◌, ◌⊎◌, ℕ, suc, IfOk, true};
+ghost use Rattle.dp_plan.specs.Access.{first_site, is_replicated};
+ghost use Rattle.dp_semantics.specs.Fits.{fits_plan};
+ghost use Rattle.dp_semantics.specs.Packets as packets;
+ghost use Rattle.dp_code.specs.Code.{stage_code};
+ghost use Rattle.dp_packet.specs.declared.PacketStatus.TheVariants as state;
+ghost use Rattle.dp_machine.specs.declared.Kept.TheVariants as kept;
+ghost use Rattle.dp_plan.specs.CheckedTable.{IsTabled};
+ghost use Rattle.dp_machine.specs.Standing.{StandsAt, Comes, Sends, Keeps, cells_kept, versioned_kept};
+
+use crate::clearing::cleared;
+use crate::sending::{send, with_status};
+use crate::{Frame, Kept, Versioned};
+use dp_base::{Cells, NoMemory};
+use dp_packet::{Packet, PacketStatus};
+use dp_plan::{Plan, StageKind};
+use std::alloc::Global;
+
+/// Whether a stage is replicated; stages count from 1.
+fn is_par(plan: &Plan, stage: u32) -> bool
+    ensures { result ≡ is_replicated plan.now stage }
+{
+    if stage == 0 {
+        return false;
+    }
+    match plan.stages.get(stage as usize - 1) {
+        Some(StageKind::Par) => true,
+        Some(StageKind::Seq) | None => false,
+    }
+}
+
+/// Whether the stage behind is replicated.
+fn next_is_par(plan: &Plan, stage: u32) -> bool
+    ensures { result ≡ is_replicated plan.now (suc stage) }
+{
+    match plan.stages.get(stage as usize) {
+        Some(StageKind::Par) => true,
+        Some(StageKind::Seq) | None => false,
+    }
+}
+
+/// What a stage keeps where an epoch begins.
+pub fn kept_at_base(alloc: Global, plan: &Plan, stage: u32, base: &Cells) -> Result<Kept, NoMemory>
+    ensures { IfOk result (λ k. Keeps plan.now stage k base.now) }
+{
+    if is_par(plan, stage) {
+        return Ok(Kept::Nothing);
+    }
+    let cells = base.copy()?;
+    if next_is_par(plan, stage) {
+        let both = Versioned::of(alloc, cells)?;
+        return Ok(Kept::Versioned(both));
+    }
+    Ok(Kept::Cells(cells))
+}
+
+fn keep_cells(memory: Option<Cells>) -> Kept
+    ensures { result ≡ cells_kept memory }
+{
+    match memory {
+        Some(cells) => Kept::Cells(cells),
+        None => Kept::Nothing,
+    }
+}
+
+fn keep_versioned(memory: Option<Versioned>) -> Kept
+    ensures { result ≡ versioned_kept memory }
+{
+    match memory {
+        Some(both) => Kept::Versioned(both),
+        None => Kept::Nothing,
+    }
+}
+
+/// By a stage before a sequential one.
+pub fn from_cells<'p>(
+    alloc: Global,
+    frame: Frame<'p>,
+    stage: u32,
+    cells: Cells,
+    packet: Packet,
+) -> (Packet, Kept)
+    requires tabled { IsTabled frame.program.now frame.plan.now }
+    requires first { frame.first ≡ first_site frame.program.now frame.plan.now }
+    requires code { frame.code.now ≡ stage_code frame.program.now frame.plan.now stage }
+    requires numbered { 0 < stage }
+    requires going { packet.status ≡ state.Going ⊎ packet.status ≡ state.Closing }
+    ensures sent { (key : packets.Epoch) (n : ℕ) → StandsAt frame.entry stage (kept.Cells cells) key n → Comes stage key n packet → Sends frame.entry stage result.1 key n result.0 }
+    ensures number { result.0.iteration ≡ packet.iteration }
+{
+    let sent = send(alloc, frame, stage, cells, None, packet);
+    let next = cleared(frame, sent);
+    (next.packet, keep_cells(next.memory))
+}
+
+/// By a stage before a replicated one: it sends along the memory as it was before the iteration.
+pub fn from_versioned<'p>(
+    alloc: Global,
+    frame: Frame<'p>,
+    stage: u32,
+    both: Versioned,
+    packet: Packet,
+) -> (Packet, Kept)
+    requires tabled { IsTabled frame.program.now frame.plan.now }
+    requires first { frame.first ≡ first_site frame.program.now frame.plan.now }
+    requires code { frame.code.now ≡ stage_code frame.program.now frame.plan.now stage }
+    requires numbered { 0 < stage }
+    requires going { packet.status ≡ state.Going ⊎ packet.status ≡ state.Closing }
+    ensures sent { (key : packets.Epoch) (n : ℕ) → StandsAt frame.entry stage (kept.Versioned both) key n → Comes stage key n packet → Sends frame.entry stage result.1 key n result.0 }
+    ensures number { result.0.iteration ≡ packet.iteration }
+{
+    let mut both = both;
+    match both.snapshot() {
+        Ok(version) => {
+            let sent = send(alloc, frame, stage, both, Some(version), packet);
+            let next = cleared(frame, sent);
+            (next.packet, keep_versioned(next.memory))
+        }
+        Err(_) => (with_status(packet, PacketStatus::NoMemory), Kept::Nothing),
+    }
+}
+
+/// By a replicated stage, from the version that the packet brings.
+pub fn from_packet<'p>(
+    alloc: Global,
+    frame: Frame<'p>,
+    stage: u32,
+    packet: Packet,
+) -> (Packet, Kept)
+    requires tabled { IsTabled frame.program.now frame.plan.now }
+    requires first { frame.first ≡ first_site frame.program.now frame.plan.now }
+    requires code { frame.code.now ≡ stage_code frame.program.now frame.plan.now stage }
+    requires fits { fits_plan frame.program.now frame.plan.now ≡ true }
+    requires numbered { 0 < stage }
+    requires going { packet.status ≡ state.Going ⊎ packet.status ≡ state.Closing }
+    ensures sent { (key : packets.Epoch) (n : ℕ) → StandsAt frame.entry stage kept.Nothing key n → Comes stage key n packet → Sends frame.entry stage result.1 key n result.0 }
+    ensures number { result.0.iteration ≡ packet.iteration }
+{
+    let Packet {
+        iteration,
+        lists,
+        status,
+        version,
+    } = packet;
+    let bare = Packet {
+        iteration,
+        lists,
+        status,
+        version: None,
+    };
+    match version {
+        Some(memory) => {
+            let sent = send(alloc, frame, stage, memory, None, bare);
+            (sent.packet, Kept::Nothing)
+        }
+        None => (with_status(bare, PacketStatus::NoMemory), Kept::Nothing),
+    }
+}

@@ -1,0 +1,131 @@
+//! What a stage sends for a packet that goes on.
+ghost use Rattle.std.specs.Prelude.{◌≡◌, ℕ, ℤ, List, None, ◌⊎◌, suc, ◌++◌, ◌∷◌, []};
+ghost use Rattle.dp_plan.specs.Access.{first_site};
+ghost use Rattle.dp_semantics.specs.StageRun.{TurnEnd};
+ghost use Rattle.dp_semantics.specs.Packets as packets;
+ghost use Rattle.dp_code.specs.Correct.{IsStageCode};
+ghost use Rattle.dp_packet.specs.Packet.{packet_of, status_of, IsUnless};
+ghost use Rattle.dp_packet.specs.declared.PacketStatus.TheVariants as state;
+ghost use Rattle.dp_plan.specs.CheckedTable.{IsTabled};
+ghost use Rattle.dp_machine.specs.Sending.{AsTurned, IsSent, key_of};
+
+use crate::turning::stage_turn;
+use crate::{Frame, Memory, Sent, Turned};
+use dp_base::{Row, Word};
+use dp_memory::Version;
+use dp_packet::{Packet, PacketStatus};
+use std::alloc::Global;
+
+/// The status of a packet that goes on after a turn.
+fn status_after(status: PacketStatus, closing: bool) -> PacketStatus
+    requires { status ≡ state.Going ⊎ status ≡ state.Closing }
+    ensures { status_of result ≡ packets.status_of (status_of status) closing }
+{
+    if closing {
+        PacketStatus::Closing
+    } else {
+        status
+    }
+}
+
+/// The packet after a turn that came to its end.
+fn after_turn(packet: Packet, own: Row<Word>, closing: bool, version: Option<Version>) -> Packet
+    requires { packet.status ≡ state.Going ⊎ packet.status ≡ state.Closing }
+    ensures sent { IsUnless result.status (packet_of result) (record { lists = packet.lists ++ own ∷ []; status = packets.status_of (status_of packet.status) closing; version = version }) }
+    ensures number { result.iteration ≡ packet.iteration }
+{
+    let Packet {
+        iteration,
+        lists,
+        status,
+        version: _came,
+    } = packet;
+    let mut lists = lists;
+    match lists.push(own) {
+        Ok(()) => Packet {
+            iteration,
+            lists,
+            status: status_after(status, closing),
+            version,
+        },
+        Err(_) => Packet {
+            iteration,
+            lists,
+            status: PacketStatus::NoMemory,
+            version: None,
+        },
+    }
+}
+
+/// The packet with its lists and this status.
+pub fn with_status(packet: Packet, status: PacketStatus) -> Packet
+    ensures value { packet_of result ≡ record { lists = packet.lists; status = status_of status; version = None } }
+    ensures kept { result.status ≡ status }
+    ensures number { result.iteration ≡ packet.iteration }
+{
+    let Packet {
+        iteration,
+        lists,
+        status: _came,
+        version: _version,
+    } = packet;
+    Packet {
+        iteration,
+        lists,
+        status,
+        version: None,
+    }
+}
+
+/// What the turn makes of the packet.
+fn passed<M: Memory + Drop>(
+    packet: Packet,
+    stage: u32,
+    version: Option<Version>,
+    left: Turned<M>,
+) -> Sent<M>
+    requires { packet.status ≡ state.Going ⊎ packet.status ≡ state.Closing }
+    ensures sent { (key : packets.Epoch) (before : List ℤ) (end : TurnEnd) → version ≡ packets.version_of key stage before → AsTurned M.cells end left →
+        IsSent M.cells (packets.passed_by key stage before (packet_of packet) end) result.packet result.memory }
+    ensures number { result.packet.iteration ≡ packet.iteration }
+{
+    match left {
+        Turned::Done {
+            own,
+            memory,
+            closing,
+        } => Sent {
+            packet: after_turn(packet, own, closing, version),
+            memory: Some(memory),
+        },
+        Turned::Void(why) => Sent {
+            packet: with_status(packet, PacketStatus::Void { stage, why }),
+            memory: None,
+        },
+        Turned::NoMemory => Sent {
+            packet: with_status(packet, PacketStatus::NoMemory),
+            memory: None,
+        },
+    }
+}
+
+/// What the stage sends, from this memory and with this version, for a packet that goes on.
+pub fn send<'p, M: Memory + Drop>(
+    alloc: Global,
+    frame: Frame<'p>,
+    stage: u32,
+    memory: M,
+    version: Option<Version>,
+    packet: Packet,
+) -> Sent<M>
+    requires tabled { IsTabled frame.program.now frame.plan.now }
+    requires first { frame.first ≡ first_site frame.program.now frame.plan.now }
+    requires code { IsStageCode frame.program.now frame.plan.now stage frame.code.now }
+    requires going { packet.status ≡ state.Going ⊎ packet.status ≡ state.Closing }
+    ensures sent { (base : List ℤ) → version ≡ packets.version_of (key_of frame.entry base) stage (M.cells memory) →
+        IsSent M.cells (packets.run_on (key_of frame.entry base) stage (M.cells memory) (packet_of packet)) result.packet result.memory }
+    ensures number { result.packet.iteration ≡ packet.iteration }
+{
+    let left = stage_turn(alloc, frame, memory, packet.lists.as_slice());
+    passed(packet, stage, version, left)
+}

@@ -1,0 +1,119 @@
+//! A stage's machine, from one packet to the next.
+ghost use Rattle.std.specs.Prelude.{◌≡◌, ◌<◌, ◌⊎◌, ℕ, IfOk, true};
+ghost use Rattle.dp_plan.specs.Access.{first_site};
+ghost use Rattle.dp_semantics.specs.Fits.{fits_plan};
+ghost use Rattle.dp_code.specs.Code.{stage_code};
+ghost use Rattle.dp_plan.specs.CheckedTable.{IsTabled};
+
+use crate::going::{from_cells, from_packet, from_versioned, kept_at_base};
+use crate::{Frame, Kept};
+use dp_base::{Cells, NoMemory};
+use dp_code::StageProgram;
+use dp_packet::{Packet, PacketStatus};
+use dp_plan::Plan;
+use dp_tree::Program;
+use std::alloc::Global;
+use std::mem;
+
+/// A stage's machine. It runs the stage's code on one packet after the other.
+#[derive(Drop)]
+pub struct StageMachine<'p> {
+    alloc: Global,
+    frame: Frame<'p>,
+    /// From 1.
+    stage: u32,
+    kept: Kept,
+    ghost tabled: { IsTabled frame.program.now frame.plan.now },
+    ghost first: { frame.first ≡ first_site frame.program.now frame.plan.now },
+    ghost code: { frame.code.now ≡ stage_code frame.program.now frame.plan.now stage },
+    ghost fits: { fits_plan frame.program.now frame.plan.now ≡ true },
+    ghost numbered: { 0 < stage },
+}
+
+/// The first site of the plan's region.
+fn first_site_of(p: &Program, plan: &Plan) -> u32
+    ensures { result ≡ first_site p.now plan.now }
+{
+    let place = (plan.region as usize).saturating_sub(1);
+    match p.regions.get(place) {
+        Some(info) => info.first.0,
+        None => 0,
+    }
+}
+
+impl<'p> StageMachine<'p> {
+    ghost use Rattle.dp_semantics.specs.Packets as packets;
+    ghost use Rattle.dp_packet.specs.declared.PacketStatus.TheVariants as state;
+    ghost use Rattle.std.specs.Prelude.{◌-◌};
+    ghost use Rattle.dp_packet.specs.declared.VoidWhy.{VoidWhy};
+    ghost use Rattle.dp_packet.specs.Packet.{packet_of};
+    ghost use Rattle.dp_machine.specs.Machine.{Stands, Passes};
+
+    /// The machine of a stage where an epoch begins.
+    pub fn new(
+        alloc: Global,
+        p: &'p Program,
+        plan: &'p Plan,
+        code: &'p StageProgram,
+        stage: u32,
+        base: &Cells,
+        input: &'p [i64],
+    ) -> Result<StageMachine<'p>, NoMemory>
+        requires tabled { IsTabled p.now plan.now }
+        requires fits { fits_plan p.now plan.now ≡ true }
+        requires code { code.now.ops ≡ stage_code p.now plan.now stage }
+        requires numbered { 0 < stage }
+        ensures begins { IfOk result (λ m. Stands m (record { program = p.now; plan = plan.now; input = input.now; base = base.now }) 0) }
+        ensures stage { IfOk result (λ m. m.stage ≡ stage) }
+    {
+        let kept = kept_at_base(alloc, plan, stage, base)?;
+        let frame = Frame {
+            program: p,
+            plan,
+            input,
+            code: code.ops.as_slice(),
+            first: first_site_of(p, plan),
+        };
+        Ok(StageMachine {
+            alloc,
+            frame,
+            stage,
+            kept,
+        })
+    }
+
+    /// What the stage sends for a packet. One that is void, or for which memory was wanting, goes through as it is.
+    pub fn run(&mut self, packet: Packet) -> Packet
+        ensures sent { (key : packets.Epoch) (n : ℕ) → Stands self.old key n → packet_of packet ≡ (packets.passed key (self.old.stage - 1) n).packet → Passes self.new key n result }
+        ensures stage { self.new.stage ≡ self.old.stage }
+        ensures number { result.iteration ≡ packet.iteration }
+        ensures void { (stage : ℕ) (why : VoidWhy) → packet.status ≡ state.Void stage why → result ≡ packet }
+        ensures wanting { packet.status ≡ state.NoMemory → result ≡ packet }
+    {
+        match packet.status {
+            PacketStatus::Going => self.go(packet),
+            PacketStatus::Closing => self.go(packet),
+            PacketStatus::Void { .. } => packet,
+            PacketStatus::NoMemory => packet,
+        }
+    }
+
+    /// What the stage sends for a packet that goes on.
+    fn go(&mut self, packet: Packet) -> Packet
+        requires going { packet.status ≡ state.Going ⊎ packet.status ≡ state.Closing }
+        ensures sent { (key : packets.Epoch) (n : ℕ) → Stands self.old key n → packet_of packet ≡ (packets.passed key (self.old.stage - 1) n).packet → Passes self.new key n result }
+        ensures stage { self.new.stage ≡ self.old.stage }
+        ensures number { result.iteration ≡ packet.iteration }
+    {
+        let kept = mem::replace(&mut self.kept, Kept::Nothing);
+        let (sent, next) = match kept {
+            Kept::Cells(cells) => from_cells(self.alloc, self.frame, self.stage, cells, packet),
+            Kept::Versioned(both) => from_versioned(
+                self.alloc, self.frame, self.stage, both, packet,
+            ),
+            Kept::Nothing => from_packet(self.alloc, self.frame, self.stage, packet),
+        };
+        self.kept = next;
+        sent
+    }
+}

@@ -1,0 +1,5 @@
+pub mod Lends
+pub mod Page
+pub mod Pieces
+pub mod Refilled
+pub mod Table

@@ -1,0 +1,150 @@
+//! A version of a program's memory.
+ghost use Rattle.std.specs.Prelude.{◌≡◌, ◌+◌, ◌<◌, ◌≤◌, ◌⊎◌, [], take, drop, length, slice_get, slice_set, Some, IfOk, OnOk, OnErr};
+ghost use Rattle.std.specs.Borrow.{sem};
+ghost use Rattle.dp_memory.specs.Pieces.{page_at, filled};
+ghost use Rattle.dp_memory.specs.Lends.{lends_page};
+
+use crate::pages::Pages;
+use crate::table::Table;
+use dp_base::{CellId, Cells, NoMemory};
+use std::alloc::Global;
+use std::marker::Model;
+
+#[cfg(test)]
+mod tests;
+
+/// A program's memory, one number of 64 bits for each cell, which shares pages with the versions that it was taken
+/// from or that were taken from it. Contracts see it as the list of these numbers.
+#[derive(Debug, Drop)]
+pub struct Version {
+    alloc: Global,
+    table: Table,
+}
+
+impl Model for Version {
+    ghost use Rattle.std.specs.Prelude.{ℤ, List, map};
+    ghost use Rattle.std.specs.Coded.{coded_list, coded_ℤ};
+    ghost use Rattle.dp_memory.specs.Pieces.{joined, InPieces};
+    ghost use Rattle.dp_memory.specs.Page.{cells_of};
+
+    ghost Value = { List ℤ };
+
+    ghost coded = { coded_list coded_ℤ };
+
+    ghost view = { λ version. joined (map cells_of version.table.pages.items) };
+
+    ghost invariant = { λ version. InPieces 256 (map cells_of version.table.pages.items) };
+}
+
+/// The number at a place, if there is one.
+#[inline]
+fn at(page: &[i64], place: usize) -> Option<i64>
+    ensures { result ≡ slice_get page.now place }
+{
+    page.get(place).copied()
+}
+
+impl Version {
+    /// A version that holds these numbers.
+    pub fn of(alloc: Global, cells: &Cells) -> Result<Version, NoMemory>
+        ensures { IfOk result (λ version. version ≡ cells.now) }
+    {
+        let table = Table::of(alloc, cells.as_slice())?;
+        Ok(Version { alloc, table })
+    }
+
+    /// The number in a cell. It takes no memory.
+    #[inline]
+    pub fn get(&self, cell: CellId) -> i64
+        requires { cell.0 < length self.now }
+        ensures { slice_get self.now cell.0 ≡ Some result }
+    {
+        let page = self.table.page(cell.0 as usize / 256);
+        page[cell.0 as usize % 256]
+    }
+
+    /// The number in a cell, if there is one. It takes no memory.
+    #[inline]
+    pub fn find(&self, cell: CellId) -> Option<i64>
+        ensures { result ≡ slice_get self.now cell.0 }
+    {
+        let number = cell.0 as usize / 256;
+        if number >= self.table.pages.len() {
+            return None;
+        }
+        let page = self.table.page(number);
+        at(page, cell.0 as usize % 256)
+    }
+
+    /// Lends `len` cells from `first` on, one slice for each page. It takes no memory.
+    pub fn pages(&self, first: CellId, len: u32) -> Pages<'_>
+        requires { first.0 + len ≤ length self.now }
+        ensures { result ≡ (first.0, take len (drop first.0 self.now)) }
+    {
+        let start = first.0 as usize;
+        Pages {
+            table: &self.table,
+            start,
+            end: start + len as usize,
+        }
+    }
+
+    /// Puts a number into a cell. At `Err` the version is as it was.
+    #[inline]
+    pub fn set(&mut self, cell: CellId, value: i64) -> Result<(), NoMemory>
+        requires { cell.0 < length self.old }
+        ensures ok { OnOk result (self.new ≡ slice_set self.old cell.0 value) }
+        ensures err { OnErr result (self.new ≡ self.old) }
+    {
+        self.put(cell.0 as usize, value)
+    }
+
+    /// The same, for a place from 0.
+    #[inline]
+    fn put(&mut self, place: usize, value: i64) -> Result<(), NoMemory>
+        requires { place < length self.old }
+        ensures ok { OnOk result (self.new ≡ slice_set self.old place value) }
+        ensures err { OnErr result (self.new ≡ self.old) }
+    {
+        self.table.set(self.alloc, place / 256, place % 256, value)?;
+        Ok(())
+    }
+
+    /// The version with one number in `len` cells from `first` on. At `Err` the version is gone.
+    pub fn filled(self, first: CellId, len: u32, value: i64) -> Result<Version, NoMemory>
+        requires { first.0 + len ≤ length self }
+        ensures { IfOk result (λ version. version ≡ filled self first.0 len value) }
+    {
+        let mut version = self;
+        let start = first.0 as usize;
+        for place in start..start + len as usize {
+            version.put(place, value)?;
+        }
+        Ok(version)
+    }
+
+    /// Lends the cells of a cell's page for writing. What is written through the borrow stands in the version once it
+    /// ends. Where memory for a page of its own is wanting, no cell is lent.
+    pub fn page_mut(&mut self, cell: CellId) -> &mut [i64]
+        requires { cell.0 < length self.old }
+        ensures* writes_back { sem 𝓛 (lends_page self.entry cell.0 result) }
+        ensures value { (result.now ≡ []) ⊎ (result.now ≡ page_at self.old cell.0) }
+    {
+        let number = cell.0 as usize / 256;
+        // A page that stays shared lends no cell.
+        let _ = self.table.own_page(self.alloc, number);
+        self.table.page_mut(number)
+    }
+
+    /// Another version with the same numbers, which shares the pages. The version keeps its numbers, also at `Err`.
+    pub fn snapshot(&mut self) -> Result<Version, NoMemory>
+        ensures ok { IfOk result (λ other. other ≡ self.old) }
+        ensures same { self.new ≡ self.old }
+    {
+        let table = self.table.share(self.alloc)?;
+        Ok(Version {
+            alloc: self.alloc,
+            table,
+        })
+    }
+}

@@ -1,0 +1,40 @@
+//! Packets: what the stages of a plan have said of an iteration so far.
+#![tactic(auto)]
+
+use dp_base::{Fault, Row, SiteId, Word};
+use dp_memory::Version;
+
+mod cursor;
+
+pub use cursor::Cursor;
+
+/// Why a stage's turn broke off.
+#[derive(Clone, Copy)]
+pub enum VoidWhy {
+    Fault(Fault),
+    /// The stage's words would pass the plan's number.
+    Full,
+    /// Another word or none stands where the site's words are taken.
+    Astray { site: SiteId, found: Option<Word> },
+}
+
+/// What a packet says of its iteration.
+#[derive(Clone, Copy)]
+pub enum PacketStatus {
+    Going,
+    /// The iteration leaves the region.
+    Closing,
+    /// The turn of this stage broke off.
+    Void { stage: u32, why: VoidWhy },
+    NoMemory,
+}
+
+/// The words of the stages so far, the first stage's first.
+#[derive(Drop)]
+pub struct Packet {
+    pub iteration: u64,
+    pub lists: Row<Row<Word>>,
+    pub status: PacketStatus,
+    /// The memory that a replicated stage behind starts from.
+    pub version: Option<Version>,
+}

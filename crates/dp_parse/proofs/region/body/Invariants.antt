@@ -1,0 +1,14 @@
+use Rattle.std.proofs.Common.{◌≡◌, ℕ, ◌≤◌, length}
+use Rattle.dp_parse.specs.declared.symbol.Symbol.TheVariants.{CloseBrace}
+use Rattle.dp_parse.specs.descent.Steps.{and_then, ◌>>=◌, pure, expect, many, sees}
+use Rattle.dp_parse.specs.descent.Statements.{statement}
+use Rattle.dp_parse.specs.descent.Regions as spec
+use Rattle.dp_parse.proofs.region.body.Given as goal
+
+abbrev pub invariant-loop-alloc : goal.invariant-loop-alloc
+invariant-loop-alloc l =
+    (k : ℕ) × (length l.tokens ≤ k)
+    × (spec.body (statement l.depth) l.fn.tokens ≡ and_then (many (sees CloseBrace) (spec.inside (statement l.depth)) k l.body l.tokens) (λ body. expect CloseBrace >>= (λ _. pure body)))
+
+abbrev pub decreases-loop-alloc : goal.decreases-loop-alloc
+decreases-loop-alloc l = length l.tokens

@@ -1,0 +1,106 @@
+//! Assignments and declarations without their semicolons, and what a `for` has in its parentheses.
+
+ghost use Rattle.std.specs.Prelude.{◌≡◌, IfOk, [], ◌∷◌};
+ghost use Rattle.dp_parse.specs.descent.Steps.{Reads};
+ghost use Rattle.dp_parse.specs.descent.Heads as spec;
+
+use crate::error::ParseError;
+use crate::expression::whole;
+use crate::leaf::name;
+use crate::symbol::Symbol;
+use crate::tokens::Tokens;
+use dp_base::{NoMemory, Row};
+use dp_tree::{Name, RawExpr, RawStmt};
+use std::alloc::Global;
+
+/// The value after a `=`.
+#[tactic(auto, unfolding(crate::specs::descent::Heads::value))]
+fn value(alloc: Global, tokens: &mut Tokens<'_, '_>) -> Result<RawExpr, ParseError>
+    ensures { Reads (spec.value tokens.old) result tokens.new }
+{
+    tokens.expect(Symbol::Assign)?;
+    whole(alloc, tokens)
+}
+
+#[tactic(auto, unfolding(crate::specs::descent::Heads::declare))]
+pub fn declare(alloc: Global, tokens: &mut Tokens<'_, '_>) -> Result<RawStmt, ParseError>
+    ensures { Reads (spec.declare tokens.old) result tokens.new }
+{
+    let line = tokens.expect(Symbol::Int)?.line;
+    let name = name(alloc, tokens)?;
+    let value = value(alloc, tokens)?;
+    Ok(RawStmt::Declare { line, name, value })
+}
+
+/// An assignment to an element, from its bracket on.
+#[tactic(auto, unfolding(crate::specs::descent::Heads::store))]
+fn store(alloc: Global, tokens: &mut Tokens<'_, '_>, name: Name) -> Result<RawStmt, ParseError>
+    ensures { Reads (spec.store name tokens.old) result tokens.new }
+{
+    tokens.expect(Symbol::OpenBracket)?;
+    let index = whole(alloc, tokens)?;
+    tokens.expect(Symbol::CloseBracket)?;
+    let value = value(alloc, tokens)?;
+    Ok(RawStmt::Store { name, index, value })
+}
+
+/// An assignment, from behind its name on.
+#[tactic(auto, unfolding(crate::specs::descent::Heads::assign))]
+pub fn assign(alloc: Global, tokens: &mut Tokens<'_, '_>, name: Name) -> Result<RawStmt, ParseError>
+    ensures { Reads (spec.assign name tokens.old) result tokens.new }
+{
+    if tokens.sees(Symbol::OpenBracket) {
+        return store(alloc, tokens, name);
+    }
+    let value = value(alloc, tokens)?;
+    Ok(RawStmt::Assign { name, value })
+}
+
+#[tactic(auto, unfolding(crate::specs::descent::Heads::simple))]
+fn simple(alloc: Global, tokens: &mut Tokens<'_, '_>) -> Result<RawStmt, ParseError>
+    ensures { Reads (spec.simple tokens.old) result tokens.new }
+{
+    let name = name(alloc, tokens)?;
+    assign(alloc, tokens, name)
+}
+
+/// The initialiser of a `for`.
+#[tactic(auto, unfolding(crate::specs::descent::Heads::first))]
+fn first(alloc: Global, tokens: &mut Tokens<'_, '_>) -> Result<RawStmt, ParseError>
+    ensures { Reads (spec.first tokens.old) result tokens.new }
+{
+    if tokens.sees(Symbol::Int) {
+        return declare(alloc, tokens);
+    }
+    simple(alloc, tokens)
+}
+
+fn only(alloc: Global, statement: RawStmt) -> Result<Row<RawStmt>, NoMemory>
+    ensures { IfOk result (λ row. row ≡ statement ∷ []) }
+{
+    let mut row = Row::new(alloc);
+    row.push(statement)?;
+    Ok(row)
+}
+
+/// What a `for` has in its parentheses: the initialiser and the step have one statement each.
+#[derive(Drop)]
+pub struct Header {
+    pub first: Row<RawStmt>,
+    pub cond: RawExpr,
+    pub step: Row<RawStmt>,
+}
+
+#[tactic(auto, unfolding(crate::specs::descent::Heads::head))]
+pub fn head(alloc: Global, tokens: &mut Tokens<'_, '_>) -> Result<Header, ParseError>
+    ensures { Reads (spec.head tokens.old) result tokens.new }
+{
+    tokens.expect(Symbol::OpenParen)?;
+    let first = only(alloc, first(alloc, tokens)?)?;
+    tokens.expect(Symbol::Semicolon)?;
+    let cond = whole(alloc, tokens)?;
+    tokens.expect(Symbol::Semicolon)?;
+    let step = only(alloc, simple(alloc, tokens)?)?;
+    tokens.expect(Symbol::CloseParen)?;
+    Ok(Header { first, cond, step })
+}

@@ -1,0 +1,20 @@
+-- A list of programs, one more at its end.
+use Rattle.std.proofs.Common.{◌≡◌, subst, ℕ, zero, suc, ◌+◌, List, [], ◌∷◌, ◌++◌, length, slice_get, Option, Some}
+use Rattle.dp_tree.specs.declared.Program.{Program}
+use Rattle.dp_plan.specs.declared.Plan.{Plan}
+use Rattle.dp_code.specs.declared.StageProgram.{StageProgram}
+use Rattle.dp_code.specs.Code.{stage_code}
+use Rattle.dp_pipeline.specs.Programs.{AreStages}
+
+-- what holds of each item at its place, with one more item
+each_more : {X : Type 0} (P : ℕ → X → Type 0) (xs : List X) (x : X) → ((i : ℕ) (y : X) → slice_get xs i ≡ Some y → P i y) → P (length xs) x → (i : ℕ) (y : X) → slice_get (xs ++ x ∷ []) i ≡ Some y → P i y
+each_more P [] x h k zero y e = subst (P 0) (cc e) k
+each_more P [] x h k (suc i) y e = absurd (cc e)
+each_more P (z ∷ xs) x h k zero y e = h zero y e
+each_more P (z ∷ xs) x h k (suc i) y e = each_more (λ j. P (suc j)) xs x (λ j w f. h (suc j) w f) k i y e
+
+pub one_more : (p : Program) (plan : Plan) (xs : List StageProgram) (x : StageProgram) → AreStages p plan xs → x.ops ≡ stage_code p plan (length xs + 1) → AreStages p plan (xs ++ x ∷ [])
+one_more p plan xs x h k = each_more (λ i y. y.ops ≡ stage_code p plan (i + 1)) xs x h k
+
+pub none_yet : (p : Program) (plan : Plan) → AreStages p plan []
+none_yet p plan i x e = absurd (cc e)

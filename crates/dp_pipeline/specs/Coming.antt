@@ -1,0 +1,39 @@
+-- What a clause sees of the verdicts of an epoch.
+use Rattle.std.specs.Prelude.{◌≡◌, ℕ, ◌+◌, false, []}
+use Rattle.dp_semantics.specs.EpochKey.{EpochKey}
+use Rattle.dp_semantics.specs.EpochVerdicts.{verdict_at}
+use Rattle.dp_semantics.specs.Items.{OrWanting}
+use Rattle.dp_commit.specs.declared.verdict.Verdict.{Verdict}
+use Rattle.dp_commit.specs.Told.{decided}
+use Rattle.dp_lane.specs.declared.rule.View.{View}
+use Rattle.dp_lane.specs.declared.rule.View.TheVariants.{Taker}
+use Rattle.dp_pipeline.specs.declared.keys.LaneKey.{LaneKey}
+use Rattle.dp_pipeline.specs.Keys.{key_of}
+
+-- what the epoch depends on, and how many of its verdicts were given
+pub record Coming : Type 0 where
+  pub key : EpochKey
+  pub given : ℕ
+
+-- the key of an end that takes nothing
+abbrev pub no_key : EpochKey
+no_key = record {
+  program = record { vars = []; sites = []; regions = []; functions = []; main = [] };
+  plan = record { region = 0; words = 0; stages = []; stage_of = []; assume = []; proved = false; checked_at = [] };
+  input = [];
+  first = 0;
+  base = [];
+  steps = 0;
+  fuel = 0;
+}
+
+-- what comes on the end of a lane
+abbrev pub coming_on : View LaneKey → Coming
+coming_on (Taker lane taken) = record { key = key_of lane.epoch; given = taken }
+coming_on _ = record { key = no_key; given = 0 }
+
+-- the next verdict came
+pub record Comes (verdict : Verdict) (old new : Coming) : Type 0 where
+  pub verdict_is : OrWanting (verdict_at old.key old.given) (decided verdict)
+  pub key_is : new.key ≡ old.key
+  pub given_is : new.given ≡ old.given + 1

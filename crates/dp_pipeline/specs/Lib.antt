@@ -1,0 +1,13 @@
+pub mod Places
+pub mod Facts
+pub mod Works
+pub mod Offers
+pub mod Polls
+pub mod Keys
+pub mod Carried
+pub mod Standing
+pub mod Ending
+pub mod Staging
+pub mod Setting
+pub mod Programs
+pub mod Coming

@@ -1,0 +1,91 @@
+-- Where the ends of a unit stand in an epoch.
+use Rattle.std.specs.Prelude.{◌≡◌, ℕ, ◌+◌, ◌-◌, Bool, false, Option, Some}
+use Rattle.dp_semantics.specs.EpochKey.{EpochKey}
+use Rattle.dp_lane.specs.declared.rule.View.{View}
+use Rattle.dp_lane.specs.declared.rule.View.TheVariants.{Sender, Taker}
+use Rattle.dp_lane.specs.Ends.{End}
+use Rattle.dp_pipeline.specs.declared.keys.LaneKey.{LaneKey}
+use Rattle.dp_pipeline.specs.declared.start.Start.{Start as First}
+use Rattle.dp_pipeline.specs.declared.source.Source.{Source}
+use Rattle.dp_pipeline.specs.declared.source.Source.TheVariants.{Start, Lane}
+use Rattle.dp_pipeline.specs.declared.passage.Passage.{Passage}
+use Rattle.dp_pipeline.specs.declared.judging.Judging.{Judging}
+use Rattle.dp_pipeline.specs.Facts.{Facts}
+use Rattle.dp_pipeline.specs.Keys.{key_of}
+
+-- a lane of what stage s sends in the epoch, from which n items were taken
+pub record TakesFrom (view : View LaneKey) (key : EpochKey) (s n : ℕ) : Type 0 where
+  pub lane : LaneKey
+  pub view_is : view ≡ Taker lane n
+  pub epoch : key_of lane.epoch ≡ key
+  pub stage : lane.stage ≡ s
+
+-- .. on which n items were sent
+pub record SendsTo (view : View LaneKey) (key : EpochKey) (s n : ℕ) : Type 0 where
+  pub lane : LaneKey
+  pub ended : Bool
+  pub view_is : view ≡ Sender lane n ended
+  pub epoch : key_of lane.epoch ≡ key
+  pub stage : lane.stage ≡ s
+
+-- what starts the epoch's iterations, n of which were started
+pub record Starts (x : First) (key : EpochKey) (s n : ℕ) : Type 0 where
+  pub first : x.first ≡ key.first
+  pub next : x.next ≡ key.first + n
+  pub fuel : x.fuel ≡ key.fuel
+  pub plan : x.plan.now ≡ key.plan
+  pub stage : s ≡ 0
+
+-- what stage s sends in the epoch comes from here, and n items came
+abbrev pub Gives : Source → EpochKey → ℕ → ℕ → Type 0
+Gives (Start x) key s n = Starts x key s n
+Gives (Lane end) key s n = TakesFrom end.view key s n
+
+module _ {K : Type 0} where
+  abbrev pub taken_by : View K → ℕ
+  taken_by (Taker key taken) = taken
+  taken_by _ = 0
+
+  abbrev pub sent_by : View K → ℕ
+  sent_by (Sender key sent ended) = sent
+  sent_by _ = 0
+
+  abbrev pub ended_by : View K → Bool
+  ended_by (Sender key sent ended) = ended
+  ended_by _ = false
+
+  abbrev pub taken_facts : End K → Facts
+  taken_facts end = record { count = taken_by end.view; tries = end.refused; word = 0 }
+
+  abbrev pub sent_facts : End K → Facts
+  sent_facts end = record { count = sent_by end.view; tries = end.refused; word = 0 }
+
+abbrev pub source_facts : Source → Facts
+source_facts (Start x) = record { count = x.next - x.first; tries = x.refused; word = 0 }
+source_facts (Lane end) = taken_facts end
+
+-- the ends of stage s: the next item is the n-th
+pub record IsReady (ends : Passage) (key : EpochKey) (s : ℕ) (place : Option ℕ) : Type 0 where
+  pub at : ℕ
+  pub place_is : place ≡ Some at
+  pub from : Gives ends.source key (s - 1) at
+  pub to : SendsTo ends.target.view key s at
+
+-- .. and the n-th was taken
+pub record IsHolding (ends : Passage) (key : EpochKey) (s : ℕ) (place : Option ℕ) (at : ℕ) : Type 0 where
+  pub place_is : place ≡ Some at
+  pub from : Gives ends.source key (s - 1) (at + 1)
+  pub to : SendsTo ends.target.view key s at
+
+-- the ends of the try-commit unit: the next item is the n-th
+pub record MayJudge (ends : Judging) (key : EpochKey) (s : ℕ) (place : Option ℕ) : Type 0 where
+  pub at : ℕ
+  pub place_is : place ≡ Some at
+  pub from : Gives ends.source key (s - 1) at
+  pub to : SendsTo ends.verdicts.view key s at
+
+-- .. and the n-th was taken
+pub record HasJudged (ends : Judging) (key : EpochKey) (s : ℕ) (place : Option ℕ) (at : ℕ) : Type 0 where
+  pub place_is : place ≡ Some at
+  pub from : Gives ends.source key (s - 1) (at + 1)
+  pub to : SendsTo ends.verdicts.view key s at

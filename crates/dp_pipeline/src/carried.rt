@@ -1,0 +1,30 @@
+//! A packet that goes from stage to stage.
+ghost use Rattle.dp_pipeline.specs.Carried.{IsCarried, is_last_carried};
+ghost use Rattle.dp_pipeline.specs.Keys.{key_of};
+
+use crate::item::Item;
+use crate::keys::LaneKey;
+use dp_lane::LaneItem;
+use dp_packet::Packet;
+use dp_plan::Plan;
+
+/// A packet of an epoch.
+#[derive(Drop)]
+pub struct Carried<'p> {
+    pub packet: Packet,
+    pub plan: &'p Plan,
+}
+
+impl<'p> Item for Carried<'p> {
+    ghost is_sent = { IsCarried };
+
+    ghost is_last = { is_last_carried };
+}
+
+impl<'p> LaneItem for Carried<'p> {
+    type Key = LaneKey<'p>;
+
+    ghost is_item = { λ key k x. IsCarried (key_of key.epoch) key.stage k x };
+
+    ghost is_ending = { λ key x. is_last_carried (key_of key.epoch) x };
+}

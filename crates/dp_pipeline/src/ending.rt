@@ -1,0 +1,32 @@
+//! Which packets and verdicts are the last of their epoch.
+ghost use Rattle.std.specs.Prelude.{◌≡◌, not};
+ghost use Rattle.dp_semantics.specs.Items.{verdict_goes_on};
+ghost use Rattle.dp_commit.specs.Told.{decided};
+ghost use Rattle.dp_pipeline.specs.Ending.{ends_with};
+
+use dp_commit::Verdict;
+use dp_packet::{Packet, PacketStatus};
+
+/// No packet follows this one.
+pub(crate) fn is_last_packet(packet: &Packet, fuel: u64) -> bool
+    ensures { result ≡ ends_with fuel packet.now.status packet.now.iteration }
+{
+    match packet.status {
+        PacketStatus::Going => packet.iteration == fuel,
+        PacketStatus::Closing => true,
+        PacketStatus::Void { .. } => true,
+        PacketStatus::NoMemory => true,
+    }
+}
+
+/// No verdict follows this one.
+#[tactic(auto, using(crate::proofs::Staging::twice_not))]
+pub(crate) fn is_last_verdict(verdict: &Verdict) -> bool
+    ensures { result ≡ not (verdict_goes_on (decided verdict.now)) }
+{
+    match verdict {
+        Verdict::Clean(clean) => clean.closing(),
+        Verdict::Unclean(_) => true,
+        Verdict::NoMemory => true,
+    }
+}

@@ -1,0 +1,54 @@
+//! The judgement as a unit's stage.
+use crate::carried::Carried;
+use crate::ending::is_last_verdict;
+use crate::judged::Judged;
+use crate::stage::{Made, Stage};
+use dp_commit::{TryCommit, Verdict};
+use dp_edge::Gate;
+use dp_packet::{Packet, PacketStatus};
+
+/// What judges the packets of the last stage.
+#[derive(Drop)]
+pub struct Judge<'p> {
+    pub(crate) court: TryCommit<'p>,
+}
+
+impl<'p> Judge<'p> {
+    ghost use Rattle.std.specs.Prelude.{ℕ, length};
+    ghost use Rattle.dp_semantics.specs.EpochKey.{EpochKey, epoch_of};
+    ghost use Rattle.dp_semantics.specs.Items.{OrWanting};
+    ghost use Rattle.dp_semantics.specs.Packets.{passed};
+    ghost use Rattle.dp_commit.specs.Standing.{Judges, Gives};
+    ghost use Rattle.dp_pipeline.specs.Carried.{sent_packet};
+
+    /// The verdict by a packet, if memory wasn't wanting for it.
+    fn decide(&mut self, packet: &Packet) -> Verdict
+        ensures { (key : EpochKey) (n : ℕ) → Judges self.old.court key n → OrWanting (passed (epoch_of key) (length key.plan.stages) n).packet (sent_packet packet.now.status packet.now) → Gives self.new.court key n result }
+    {
+        match packet.status {
+            PacketStatus::Going => self.court.judge(packet),
+            PacketStatus::Closing => self.court.judge(packet),
+            PacketStatus::Void { .. } => self.court.judge(packet),
+            PacketStatus::NoMemory => Verdict::NoMemory,
+        }
+    }
+}
+
+impl<'p> Stage<Carried<'p>, Judged<'p>> for Judge<'p> {
+    ghost use Rattle.dp_pipeline.specs.Staging.{JudgesAt};
+
+    ghost stands = { JudgesAt };
+
+    fn run<G: Gate>(&mut self, _gate: &G, item: Carried<'p>) -> Made<Judged<'p>> {
+        let verdict = self.decide(&item.packet);
+        let last = is_last_verdict(&verdict);
+        Made {
+            item: Judged {
+                iteration: item.packet.iteration,
+                verdict,
+                plan: item.plan,
+            },
+            last,
+        }
+    }
+}

@@ -1,0 +1,45 @@
+//! The ends of the try-commit unit.
+ghost use Rattle.std.specs.Prelude.{◌≡◌};
+
+use crate::carried::Carried;
+use crate::ends::{Ends, Refused};
+use crate::judged::Judged;
+use crate::polled::IdleWhy;
+use crate::source::Source;
+use dp_lane::SendEnd;
+use std::sync::Wait;
+
+/// Packets come from a source, and verdicts go to the commit unit.
+#[derive(Drop)]
+pub struct Judging<'p> {
+    pub(crate) source: Source<'p>,
+    pub(crate) verdicts: SendEnd<Judged<'p>>,
+}
+
+impl<'p> Ends<Carried<'p>, Judged<'p>> for Judging<'p> {
+    ghost use Rattle.dp_pipeline.specs.Standing.{MayJudge, HasJudged, source_facts, sent_facts, ended_by};
+
+    ghost ready = { MayJudge };
+
+    ghost holds = { HasJudged };
+
+    ghost taking = { λ ends. source_facts ends.source };
+
+    ghost sending = { λ ends. sent_facts ends.verdicts };
+
+    ghost ended = { λ ends. ended_by ends.verdicts.view };
+
+    fn take<R: Wait>(&mut self, rt: &R) -> Result<Carried<'p>, IdleWhy> {
+        self.source.take(rt)
+    }
+
+    fn send<R: Wait>(&mut self, rt: &R, item: Judged<'p>) -> Result<(), Refused<Judged<'p>>> {
+        match self.verdicts.send(rt, item) {
+            Ok(()) => Ok(()),
+            Err(item) => Err(Refused {
+                item,
+                why: IdleWhy::Full,
+            }),
+        }
+    }
+}

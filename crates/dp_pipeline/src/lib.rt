@@ -1,0 +1,41 @@
+//! The units of an epoch: each takes items, runs its stage on them, and sends what the stage makes, in polls that any
+//! thread may make.
+#![tactic(auto)]
+
+mod advance;
+mod carried;
+mod ending;
+mod ends;
+mod item;
+mod judge;
+mod judged;
+mod judging;
+mod keys;
+mod making;
+mod offer;
+mod passage;
+mod pipeline;
+mod polled;
+mod programs;
+mod relay;
+mod setting;
+mod source;
+mod stage;
+mod staged;
+mod start;
+mod unit;
+mod verdicts;
+
+pub use carried::Carried;
+pub use ends::{Ends, Refused};
+pub use item::Item;
+pub use judged::Judged;
+pub use keys::{EpochKey, LaneKey};
+pub use pipeline::Pipeline;
+pub use polled::{EndedWhy, IdleWhy, Polled};
+pub use programs::stage_programs;
+pub use relay::Relay;
+pub use setting::Setting;
+pub use stage::{Made, Stage};
+pub use unit::Unit;
+pub use verdicts::LaneVerdicts;

@@ -1,0 +1,38 @@
+//! What a unit takes from.
+ghost use Rattle.std.specs.Prelude.{◌≡◌, ◌+◌, ℕ, IfOk, OnErr};
+
+use crate::carried::Carried;
+use crate::polled::IdleWhy;
+use crate::start::Start;
+use dp_lane::TakeEnd;
+use std::sync::Wait;
+
+/// What a unit takes from.
+#[derive(Drop)]
+pub enum Source<'p> {
+    /// The first stage takes from no other.
+    Start(Start<'p>),
+    Lane(TakeEnd<Carried<'p>>),
+}
+
+impl<'p> Source<'p> {
+    ghost use Rattle.dp_semantics.specs.EpochKey.{EpochKey};
+    ghost use Rattle.dp_pipeline.specs.Carried.{IsCarried};
+    ghost use Rattle.dp_pipeline.specs.Facts.{Takes};
+    ghost use Rattle.dp_pipeline.specs.Standing.{Gives, source_facts};
+
+    /// Takes the next packet.
+    pub(crate) fn take<R: Wait>(&mut self, rt: &R) -> Result<Carried<'p>, IdleWhy>
+        ensures took { IfOk result (λ item. (key : EpochKey) (s n : ℕ) → Gives self.old key s n → IsCarried key s n item × Gives self.new key s (n + 1)) }
+        ensures idle { OnErr result ((key : EpochKey) (s n : ℕ) → Gives self.old key s n → Gives self.new key s n) }
+        ensures taking { Takes result (source_facts self.old) (source_facts self.new) }
+    {
+        match self {
+            Source::Start(start) => start.take(),
+            Source::Lane(end) => match end.take(rt) {
+                Some(item) => Ok(item),
+                None => Err(IdleWhy::Empty),
+            },
+        }
+    }
+}

@@ -1,0 +1,33 @@
+//! A stage's machine as a unit's stage.
+use crate::carried::Carried;
+use crate::ending::is_last_packet;
+use crate::stage::{Made, Stage};
+use dp_edge::Gate;
+use dp_machine::StageMachine;
+
+/// A stage's machine, and the fuel's number, behind which no packet follows.
+#[derive(Drop)]
+pub struct Staged<'p> {
+    pub(crate) machine: StageMachine<'p>,
+    pub(crate) stage: u32,
+    pub(crate) fuel: u64,
+}
+
+impl<'p> Stage<Carried<'p>, Carried<'p>> for Staged<'p> {
+    ghost use Rattle.dp_pipeline.specs.Staging.{RunsAt};
+
+    ghost stands = { RunsAt };
+
+    fn run<G: Gate>(&mut self, gate: &G, item: Carried<'p>) -> Made<Carried<'p>> {
+        gate.enter(self.stage, item.packet.iteration);
+        let packet = self.machine.run(item.packet);
+        let last = is_last_packet(&packet, self.fuel);
+        Made {
+            item: Carried {
+                packet,
+                plan: item.plan,
+            },
+            last,
+        }
+    }
+}

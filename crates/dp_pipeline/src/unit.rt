@@ -1,0 +1,61 @@
+//! The units of an epoch, each polled until it has ended.
+use crate::carried::Carried;
+use crate::judge::Judge;
+use crate::judged::Judged;
+use crate::judging::Judging;
+use crate::passage::Passage;
+use crate::polled::{EndedWhy, Polled};
+use crate::relay::Relay;
+use crate::staged::Staged;
+use dp_edge::Gate;
+use std::marker::Model;
+use std::sync::Wait;
+
+/// What a unit does.
+#[derive(Drop)]
+pub(crate) enum Kind<'p> {
+    Stage(Relay<'p, Carried<'p>, Carried<'p>, Passage<'p>, Staged<'p>>),
+    TryCommit(Relay<'p, Carried<'p>, Judged<'p>, Judging<'p>, Judge<'p>>),
+}
+
+/// A stage or the try-commit unit of an epoch.
+#[derive(Drop)]
+pub struct Unit<'p> {
+    pub(crate) kind: Kind<'p>,
+}
+
+impl<'p> Model for Unit<'p> {
+    ghost use Rattle.dp_pipeline.specs.Polls.{Counts};
+    ghost use Rattle.dp_pipeline.specs.declared.unit.Kind.TheVariants.{Stage, TryCommit};
+
+    ghost Value = { Counts };
+
+    ghost view = { λ s. elim (s.kind) [ Stage unit ↦ unit | TryCommit unit ↦ unit ] };
+}
+
+impl<'p> Unit<'p> {
+    ghost use Rattle.std.specs.Prelude.{◌≡◌};
+    ghost use Rattle.dp_pipeline.specs.declared.polled.Polled.TheVariants.{Ended};
+    ghost use Rattle.dp_pipeline.specs.Polls.{Polls, HasEnded, why_ended};
+
+    /// Takes, makes and sends at most one item, and waits neither for an item nor for a place.
+    pub fn poll<R: Wait, G: Gate>(&mut self, rt: &R, gate: &G) -> Polled
+        ensures polls { Polls self.old result self.new }
+        ensures stays { HasEnded self.old → result ≡ Ended }
+    {
+        match &mut self.kind {
+            Kind::Stage(unit) => unit.poll(rt, gate),
+            Kind::TryCommit(unit) => unit.poll(rt, gate),
+        }
+    }
+
+    /// Why it has ended, if it has.
+    pub fn ended(&self) -> Option<EndedWhy>
+        ensures { result ≡ why_ended self.now }
+    {
+        match &self.kind {
+            Kind::Stage(unit) => unit.ended(),
+            Kind::TryCommit(unit) => unit.ended(),
+        }
+    }
+}

@@ -1,0 +1,106 @@
+//! The verdicts of an epoch as they come out of their lane.
+use crate::judged::Judged;
+use crate::polled::Polled;
+use crate::unit::Unit;
+use crossbeam_utils::Backoff;
+use dp_base::Row;
+use dp_commit::Verdict;
+use dp_edge::OpenGate;
+use dp_lane::TakeEnd;
+use std::alloc::Global;
+use std::marker::Model;
+use std::sync::Wait;
+
+/// The end of the verdict lane, and the units that no thread runs.
+#[derive(Drop)]
+pub struct LaneVerdicts<'u> {
+    end: TakeEnd<Judged<'u>>,
+    own: Row<Unit<'u>>,
+}
+
+impl<'u> Model for LaneVerdicts<'u> {
+    ghost use Rattle.dp_tree.specs.contracts.Expr as expr;
+    ghost use Rattle.dp_tree.specs.contracts.Stmt as stmt;
+    ghost use Rattle.std.specs.Coded.{codes};
+    ghost use Rattle.dp_pipeline.specs.Coming.{Coming, coming_on};
+
+    ghost Value = { Coming };
+
+    ghost coded = { Prim.hlevel (codes, expr.the_row.coded, stmt.the_row.coded) };
+
+    ghost view = { λ v. coming_on v.end.view };
+}
+
+impl<'u> LaneVerdicts<'u> {
+    ghost use Rattle.std.specs.Prelude.{◌≡◌, ◌+◌, ◌<◌, ℕ, true, MatchOption};
+    ghost use Rattle.dp_semantics.specs.EpochVerdicts.{goes_on, verdict_at};
+    ghost use Rattle.dp_semantics.specs.Items.{OrWanting};
+    ghost use Rattle.dp_commit.specs.Told.{decided};
+    ghost use Rattle.dp_pipeline.specs.Coming.{Comes, coming_on};
+
+    /// Verdicts that come on this end, and no units.
+    pub fn new(alloc: Global, end: TakeEnd<Judged<'u>>) -> LaneVerdicts<'u>
+        ensures { result ≡ coming_on end.entry.view }
+    {
+        LaneVerdicts {
+            end,
+            own: Row::new(alloc),
+        }
+    }
+
+    /// The same, with the units for which there is no thread: they are polled where no verdict is there.
+    pub fn polling(self, units: Row<Unit<'u>>) -> LaneVerdicts<'u>
+        ensures { result ≡ self.entry }
+    {
+        let LaneVerdicts { end, own: _ } = self;
+        LaneVerdicts { end, own: units }
+    }
+
+    /// The verdict on the next iteration. There is none after one that isn't Clean or that closes the region.
+    pub fn next<R: Wait>(&mut self, rt: &R) -> Verdict
+        requires { (n : ℕ) → n < self.old.given → goes_on (verdict_at self.old.key n) ≡ true }
+        ensures verdict { OrWanting (verdict_at self.old.key self.old.given) (decided result) }
+        ensures key { self.new.key ≡ self.old.key }
+        ensures given { self.new.given ≡ self.old.given + 1 }
+    {
+        let backoff = Backoff::new();
+        'turns: for _ in rt.forever() {
+            match self.take(rt) {
+                Some(verdict) => return verdict,
+                None => self.poll_own(rt, &backoff),
+            }
+        }
+        unreachable!()
+    }
+
+    /// The next verdict, if it has come.
+    #[tactic(auto, using(crate::proofs::VerdictsCome::comes))]
+    fn take<R: Wait>(&mut self, rt: &R) -> Option<Verdict>
+        ensures { MatchOption result (self.new ≡ self.old) (λ verdict. Comes verdict self.old self.new) }
+    {
+        match self.end.take(rt) {
+            Some(Judged { verdict, .. }) => Some(verdict),
+            None => None,
+        }
+    }
+
+    /// Polls each unit that has no thread, and waits a little where none of them moved.
+    fn poll_own<R: Wait>(&mut self, rt: &R, backoff: &Backoff)
+        ensures { self.new ≡ self.old }
+    {
+        if poll_all(rt, &mut self.own) {
+            backoff.reset();
+        } else {
+            backoff.snooze();
+        }
+    }
+}
+
+/// Polls each unit, and says whether one of them moved.
+fn poll_all<R: Wait>(rt: &R, units: &mut Row<Unit<'_>>) -> bool {
+    let mut moved = false;
+    for unit in units.as_mut_slice() {
+        moved |= unit.poll(rt, &OpenGate) == Polled::Moved;
+    }
+    moved
+}

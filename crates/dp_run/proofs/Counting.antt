@@ -1,0 +1,93 @@
+-- The plans one after the other: their regions' numbers, their reports, and how many iterations were committed.
+use Rattle.std.proofs.Common.{◌≡◌, refl, sym, ap, ◌∙◌, ℕ, zero, suc, ◌+◌, ◌*◌, ◌<◌, ◌≤◌, ◌^◌, List, [], ◌∷◌, ◌++◌, ℤ, length, map, take, Some, slice_get, arith}
+use Rattle.std.proofs.lemmas.List.{length-take}
+use Rattle.dp_base.specs.declared.RegionReport.{RegionReport}
+use Rattle.dp_tree.specs.declared.Program.{Program}
+use Rattle.dp_tree.specs.Numbering.{numbers_from}
+use Rattle.dp_tree.specs.Trace.{Run}
+use Rattle.dp_plan.specs.declared.Plan.{Plan}
+use Rattle.dp_plan.specs.PlanText.{Each}
+use Rattle.dp_plan.specs.GivenPlans.{IsPlan, region_of}
+use Rattle.dp_semantics.specs.Reported.{region_report}
+use Rattle.dp_crew.specs.RegionRun.{IsPlanned}
+use Rattle.dp_run.specs.Given.{AreGiven}
+use Rattle.dp_run.specs.RunText.{source_run, region_reports, committed_count, committed_in_all}
+use Rattle.dp_run.specs.steps.Stretches.{Counted}
+use Rattle.dp_run.proofs.Reporting.{committed_few}
+
+-- the plan at a place of a list whose numbers begin with k
+each_at : (p : Program) (plans : List Plan) (k n count : ℕ) (plan : Plan) → Each (IsPlan p) plans → map region_of plans ≡ numbers_from k count → slice_get plans n ≡ Some plan → IsPlan p plan × (plan.region ≡ k + n) × (n < count)
+each_at p [] k n count plan each numbers is = absurd (cc is)
+each_at p (x ∷ plans) k zero zero plan each numbers is = absurd (cc numbers)
+each_at p (x ∷ plans) k zero (suc count) plan each numbers is =
+    let same : x ≡ plan = cc is in
+    let first : x.region ≡ k = cc numbers in
+    let number : plan.region ≡ k + 0 = ap region_of (sym same) ∙ first ∙ omega arith in
+    (subst_plan same each.0, number, omega arith)
+  where
+    subst_plan : x ≡ plan → IsPlan p x → IsPlan p plan
+    subst_plan e h = rw (sym e) h
+each_at p (x ∷ plans) k (suc n) zero plan each numbers is = absurd (cc numbers)
+each_at p (x ∷ plans) k (suc n) (suc count) plan each numbers is =
+    let rest : map region_of plans ≡ numbers_from (k + 1) count = cc numbers in
+    let h = each_at p plans (k + 1) n count plan each.1 rest is in
+    (h.0, omega (arith, h.1), omega (arith, h.2))
+
+module _ (p : Program) (plans : List Plan) (given : AreGiven p plans) where
+  pub as_many : length plans ≡ length p.regions
+  as_many = sizes plans 1 (length p.regions) given.plans_are.regions
+    where
+      sizes : (xs : List Plan) (k count : ℕ) → map region_of xs ≡ numbers_from k count → length xs ≡ count
+      sizes [] k zero e = refl
+      sizes [] k (suc count) e = absurd (cc e)
+      sizes (x ∷ xs) k zero e = absurd (cc e)
+      sizes (x ∷ xs) k (suc count) e = let rest : map region_of xs ≡ numbers_from (k + 1) count = cc e in ap suc (sizes xs (k + 1) count rest)
+
+  module _ (n : ℕ) (plan : Plan) (is : slice_get plans n ≡ Some plan) where
+    found : IsPlan p plan × (plan.region ≡ 1 + n) × (n < length p.regions)
+    found = each_at p plans 1 n (length p.regions) plan given.plans_are.each given.plans_are.regions is
+
+    pub number_is : plan.region ≡ suc n
+    number_is = omega (arith, found.1)
+
+    pub planned : IsPlanned p plan
+    planned = record { inlined = given.inlined; sites = given.sites; is_plan = found.0; counted = omega (arith, found.1); known = omega (arith, found.1, found.2) }
+
+take_next : {X : Type 0} (xs : List X) (n : ℕ) (x : X) → slice_get xs n ≡ Some x → take (suc n) xs ≡ take n xs ++ x ∷ []
+take_next [] n x e = absurd (cc e)
+take_next (y ∷ xs) zero x e = let same : y ≡ x = cc e in ap (λ (z : _). z ∷ []) same
+take_next (y ∷ xs) (suc n) x e = ap (λ (zs : List _). y ∷ zs) (take_next xs n x e)
+
+map_last : {X Y : Type 0} (f : X → Y) (xs : List X) (x : X) → map f (xs ++ x ∷ []) ≡ map f xs ++ f x ∷ []
+map_last f [] x = refl
+map_last f (y ∷ xs) x = ap (λ (ys : List _). f y ∷ ys) (map_last f xs x)
+
+in_all_last : (p : Program) (run : Run) (xs : List Plan) (x : Plan) → committed_in_all p (xs ++ x ∷ []) run ≡ committed_in_all p xs run + committed_count p x run
+in_all_last p run [] x = omega arith
+in_all_last p run (y ∷ xs) x = let go = in_all_last p run xs x in omega (arith, go)
+
+in_all_few : (p : Program) (input : List ℤ) (fuel : ℕ) → fuel ≤ 1000000000 → (xs : List Plan) → committed_in_all p xs (source_run p input fuel) ≤ length xs * 1000000000
+in_all_few p input fuel h [] = omega arith
+in_all_few p input fuel h (x ∷ xs) = let go = in_all_few p input fuel h xs in let one = committed_few p x input fuel in omega (arith, go, one, h)
+
+take_few : {X : Type 0} (n : ℕ) (xs : List X) → length (take n xs) ≤ n
+take_few n xs = let e = length-take n xs in omega (arith, e)
+
+module _ (p : Program) (plans : List Plan) (input : List ℤ) (fuel : ℕ) where
+  pub counted_none : (reports : List RegionReport) → reports ≡ [] → (before : ℕ) → Counted p plans input fuel 0 reports before before
+  counted_none reports e before = record { reports_are = e; tally_is = omega arith }
+
+  -- one region more
+  pub counted_next : (n : ℕ) (plan : Plan) → slice_get plans n ≡ Some plan → (reports more : List RegionReport) (before mid now : ℕ) → Counted p plans input fuel n reports before mid →
+      more ≡ reports ++ region_report p plan (source_run p input fuel) ∷ [] → now ≡ mid + committed_count p plan (source_run p input fuel) → Counted p plans input fuel (suc n) more before now
+  counted_next n plan is reports more before mid now c e f = record {
+    reports_are = e ∙ ap (λ (rs : List RegionReport). rs ++ region_report p plan (source_run p input fuel) ∷ []) c.reports_are
+        ∙ sym (map_last (λ x. region_report p x (source_run p input fuel)) (take n plans) plan) ∙ ap (λ (xs : List Plan). region_reports p xs (source_run p input fuel)) (sym (take_next plans n plan is));
+    tally_is = let one = in_all_last p (source_run p input fuel) (take n plans) plan in
+        let all = ap (λ (xs : List Plan). committed_in_all p xs (source_run p input fuel)) (take_next plans n plan is) in omega (arith, f, c.tally_is, one, all);
+  }
+
+  -- there is room for a verdict for each step
+  pub room : fuel ≤ 1000000000 → (n : ℕ) → n < 2 ^ 32 → (reports : List RegionReport) (before now left : ℕ) → before < 2 ^ 63 → left ≤ fuel → Counted p plans input fuel n reports before now → now + left < 2 ^ 64
+  room h n few reports before now left start most c =
+      let all = in_all_few p input fuel h (take n plans) in let size = take_few n plans in omega (arith, all, size, few, start, most, h, c.tally_is)

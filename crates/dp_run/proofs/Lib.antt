@@ -1,0 +1,16 @@
+mod Lists
+mod WriteLemmas
+mod StreamLemmas
+mod RegionsLeft
+mod Tops
+mod Passing
+mod Leading
+mod PartLemmas
+mod Reporting
+mod Regions
+mod Counting
+mod Prints
+mod RegionCalls
+mod Ending
+mod PlanByPlan
+mod Whole

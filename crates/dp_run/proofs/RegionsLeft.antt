@@ -1,0 +1,111 @@
+-- What the part at the head says of the regions that are left.
+use Rattle.std.proofs.Common.{◌≡◌, ◌≢◌, refl, sym, ap, ◌∙◌, ℕ, ◌==◌, Bool, true, false, not, if◌then◌else◌, List, [], ◌∷◌, drop, Option, Some, None, eq-eqb}
+use Rattle.std.specs.List.{cons_option}
+use Rattle.dp_tree.specs.declared.Stmt.{Stmt, out-Stmt}
+use Rattle.dp_tree.specs.declared.Stmt.TheOpen.{Stmt-F, Assign, Store, Print, If, While, Region, Break, Call}
+use Rattle.dp_tree.specs.Step.{Config}
+use Rattle.dp_tree.specs.Iteration.{is_region, begins_with, stands_at_head}
+use Rattle.dp_meaning.specs.declared.ends.Part.{Part}
+use Rattle.dp_meaning.specs.declared.ends.Part.TheVariants as part
+use Rattle.dp_meaning.specs.MachineState.{part_from, part_of, is_any_region, from_region}
+use Rattle.dp_run.specs.steps.Regions.{region_number, number_of, regions_left}
+
+pub left_cons : (s : Stmt) (rest : List Stmt) (o : Option ℕ) → number_of s ≡ o → regions_left (s ∷ rest) ≡ cons_option o (regions_left rest)
+left_cons s rest o e = ap (λ (x : Option ℕ). cons_option x (regions_left rest)) e
+
+unmarked : (h : Stmt-F Stmt) → is_any_region h ≡ false → region_number h ≡ None
+unmarked (Region q site cond body) e = absurd (cc)
+unmarked (Assign site v w) e = refl
+unmarked (Store site v index w) e = refl
+unmarked (Print site w) e = refl
+unmarked (If site cond a b) e = refl
+unmarked (While site cond a) e = refl
+unmarked (Break site cond) e = refl
+unmarked (Call g line args) e = refl
+
+-- They stand behind the first of them.
+pub left_from_region : (xs : List Stmt) → regions_left (from_region xs) ≡ regions_left xs
+left_from_region [] = refl
+left_from_region (s ∷ rest) = by (is_any_region (out-Stmt s)) refl (left_from_region rest)
+  where
+    by : (b : Bool) → is_any_region (out-Stmt s) ≡ b → regions_left (from_region rest) ≡ regions_left rest → regions_left (if b then s ∷ rest else from_region rest) ≡ regions_left (s ∷ rest)
+    by true e go = refl
+    by false e go = go ∙ sym (left_cons s rest None (unmarked (out-Stmt s) e))
+
+number_at : (h : Stmt-F Stmt) (q : ℕ) → part_from h ≡ part.Region q → region_number h ≡ Some q
+number_at (Region n site cond body) q e = let same : n ≡ q = cc in ap Some same
+number_at (Assign site v w) q e = absurd (cc)
+number_at (Store site v index w) q e = absurd (cc)
+number_at (Print site w) q e = absurd (cc)
+number_at (If site cond a b) q e = absurd (cc)
+number_at (While site cond a) q e = absurd (cc)
+number_at (Break site cond) q e = absurd (cc)
+number_at (Call g line args) q e = absurd (cc)
+
+-- A region at the head is the first of them.
+pub left_at_region : (q : ℕ) (xs : List Stmt) → part_of xs ≡ part.Region q → regions_left xs ≡ q ∷ regions_left (drop 1 xs)
+left_at_region q [] e = absurd (cc)
+left_at_region q (s ∷ rest) e = left_cons s rest (Some q) (number_at (out-Stmt s) q e)
+
+some_part : (h : Stmt-F Stmt) → part_from h ≡ part.Finished → ⊥
+some_part (Region q site cond a) e = absurd (cc)
+some_part (Assign site v w) e = absurd (cc)
+some_part (Store site v index w) e = absurd (cc)
+some_part (Print site w) e = absurd (cc)
+some_part (If site cond a b) e = absurd (cc)
+some_part (While site cond a) e = absurd (cc)
+some_part (Break site cond) e = absurd (cc)
+some_part (Call g line args) e = absurd (cc)
+
+pub nothing_left : (xs : List Stmt) → part_of xs ≡ part.Finished → xs ≡ []
+nothing_left [] e = refl
+nothing_left (s ∷ rest) e = absurd (some_part (out-Stmt s) e)
+
+pub left_finished : (xs : List Stmt) → part_of xs ≡ part.Finished → regions_left xs ≡ []
+left_finished xs e = ap regions_left (nothing_left xs e)
+
+-- what comes where no plain statement does
+pub data Next (xs : List Stmt) : Type 0 where
+  region : (q : ℕ) → part_of xs ≡ part.Region q → Next xs
+  nothing : part_of xs ≡ part.Finished → Next xs
+
+pub next_of : (xs : List Stmt) → part_of xs ≢ part.Plain → Next xs
+next_of xs off = by (part_of xs) refl
+  where
+    by : (q : Part) → part_of xs ≡ q → Next xs
+    by (part.Region q) e = region q e
+    by part.Plain e = absurd (off e)
+    by part.Finished e = nothing e
+
+-- whether the part is region r
+abbrev part_is : ℕ → Part → Bool
+part_is r (part.Region q) = q == r
+part_is r part.Plain = false
+part_is r part.Finished = false
+
+head_from : (r : ℕ) (h : Stmt-F Stmt) → is_region r h ≡ part_is r (part_from h)
+head_from r (Region q site cond a) = refl
+head_from r (Assign site v w) = refl
+head_from r (Store site v index w) = refl
+head_from r (Print site w) = refl
+head_from r (If site cond a b) = refl
+head_from r (While site cond a) = refl
+head_from r (Break site cond) = refl
+head_from r (Call g line args) = refl
+
+head_is : (r : ℕ) (xs : List Stmt) → begins_with r xs ≡ part_is r (part_of xs)
+head_is r [] = refl
+head_is r (s ∷ rest) = head_from r (out-Stmt s)
+
+pub head_at : (r : ℕ) (c : Config) (q : Part) → part_of c.to_do ≡ q → stands_at_head r c ≡ part_is r q
+head_at r c q e = head_is r c.to_do ∙ ap (part_is r) e
+
+-- a region isn't at the head of a plain part, nor where nothing is left
+pub off_plain : (r : ℕ) (c : Config) → part_of c.to_do ≡ part.Plain → not (stands_at_head r c) ≡ true
+off_plain r c e = ap not (head_at r c part.Plain e)
+
+pub off_finished : (r : ℕ) (c : Config) → part_of c.to_do ≡ part.Finished → not (stands_at_head r c) ≡ true
+off_finished r c e = ap not (head_at r c part.Finished e)
+
+pub on_region : (q : ℕ) (c : Config) → part_of c.to_do ≡ part.Region q → stands_at_head q c ≡ true
+on_region q c e = head_at q c (part.Region q) e ∙ eq-eqb q q refl

@@ -1,0 +1,114 @@
+-- What is reported of a region's own run is what is reported of it in the whole run.
+use Rattle.std.proofs.Common.{◌≡◌, refl, sym, ap, ◌∙◌, ℕ, zero, suc, ◌+◌, ◌-◌, ◌<◌, ◌≤◌, Bool, true, false, if◌then◌else◌, cond, List, [], ◌∷◌, ℤ, length, map, take, filter, count_by, nat_lt, Some, slice_get, arith, rules}
+use Rattle.std.proofs.lemmas.List.Sums.{sum_by-cons}
+use Rattle.dp_base.specs.declared.Cause.{Cause as ReportedCause}
+use Rattle.dp_tree.specs.declared.Program.{Program}
+use Rattle.dp_tree.specs.Step.{Config, Step, Finished, Faulted, Stepped, step}
+use Rattle.dp_tree.specs.Trace.{Run, run_of, run_by, begin}
+use Rattle.dp_tree.specs.Iteration.{starts, start, places, begun_count, stands_at_head}
+use Rattle.dp_plan.specs.declared.Plan.{Plan}
+use Rattle.dp_semantics.specs.Clean.{count_from}
+use Rattle.dp_semantics.specs.Recovery.{is_recovered, recovered}
+use Rattle.dp_semantics.specs.Cause.{cause}
+use Rattle.dp_semantics.specs.Reported.{reported, report_of, region_report}
+use Rattle.dp_semantics.specs.Shift.{SameRegion}
+use Rattle.dp_semantics.proofs.Shift.{region_runs_alone}
+use Rattle.dp_meaning.specs.declared.ends.Part.TheVariants as part
+use Rattle.dp_meaning.specs.MachineState.{MachineState, fuel_left, rest_of_run, part_of}
+use Rattle.dp_crew.specs.RegionRun.{beyond, region_run}
+use Rattle.dp_run.specs.RunText.{source_run, committed_count}
+use Rattle.dp_run.specs.steps.Stretches.{Between}
+use Rattle.dp_run.proofs.Lists.{map_same}
+use Rattle.dp_run.proofs.RegionsLeft.{on_region}
+use Rattle.dp_run.proofs.Passing.{run_configs}
+use Rattle.dp_run.proofs.Leading.{config_here}
+
+-- the run's own number of steps
+pub run_fuel : (p : Program) (input : List ℤ) (n : ℕ) (c : Config) → (run_of p input n c).fuel ≡ n
+unfolding run_of
+run_fuel p input zero c = refl
+run_fuel p input (suc n) c = by (step p input c)
+  where
+    by : (s : Step) → (run_by (run_of p input n) (suc n) c s).fuel ≡ suc n
+    by Finished = refl
+    by (Faulted fault) = refl
+    by (Stepped event next) = refl
+
+module _ (p : Program) (plan : Plan) (input : List ℤ) (fuel n : ℕ) (m : MachineState) (number : plan.region ≡ suc n) (b : Between p input fuel n m) (here : part_of m.config.to_do ≡ part.Region (suc n)) where
+  abbrev run : Run
+  run = source_run p input fuel
+
+  abbrev made : ℕ
+  made = length b.behind.passed.events
+
+  -- the region's first iteration starts here
+  first_start : start run plan.region 0 ≡ Some (made + 0)
+  first_start =
+      let begins = run_configs m.program m.input (fuel_left m) m.config in
+      let more = places (stands_at_head (suc n)) 1 begins.0 in
+      let rest_starts : starts (rest_of_run m) (suc n) ≡ 0 ∷ more =
+      ap (places (stands_at_head (suc n)) 0) begins.1 ∙ ap (λ (t : Bool). if t then 0 ∷ more else more) (on_region (suc n) m.config here) in
+      ap (λ (r : ℕ). start run r 0) number ∙ ap (λ (ks : List ℕ). slice_get ks 0) (b.behind.passed.ahead (suc n) (omega arith) ∙ ap (map (beyond made)) rest_starts)
+
+  left_is : fuel - (made + 0) ≡ fuel_left m
+  left_is =
+      let all = run_fuel p input fuel (begin p) in
+      let rest = run_fuel m.program m.input (fuel_left m) m.config in
+      omega (arith, all, rest, b.behind.passed.piece.fuel)
+
+  own_is : run_of p input (fuel - (made + 0)) m.config ≡ region_run m
+  own_is =
+      ap (λ (k : ℕ). run_of p input k m.config) left_is ∙ ap (λ (q : Program). run_of q input (fuel_left m) m.config) (sym b.behind.program_is)
+      ∙ ap (λ (zs : List ℤ). run_of m.program zs (fuel_left m) m.config) (sym b.behind.input_is)
+
+  same : SameRegion p plan (made + 0) run (run_of p input (fuel - (made + 0)) m.config)
+  same = region_runs_alone p plan input fuel (made + 0) (begin p) m.config (config_here p input fuel n m b) first_start
+
+  abbrev own : Run
+  own = run_of p input (fuel - (made + 0)) m.config
+
+  report_own : region_report p plan run ≡ region_report p plan own
+  report_own =
+      ap (λ (k : ℕ). report_of plan.region k (recovered p plan run) (λ i. reported (cause p plan run i))) same.begun_in_all
+      ∙ ap (λ (ks : List ℕ). report_of plan.region (begun_count own plan.region) ks (λ i. reported (cause p plan run i))) same.recovered_list
+      ∙ ap (λ (cs : List ReportedCause). record { region = plan.region; iterations = begun_count own plan.region; recovered_count = length (recovered p plan own); recovered = take 1000 (recovered p plan own); causes = cs })
+      (map_same (λ i. reported (cause p plan run i)) (λ i. reported (cause p plan own i)) (λ i. ap reported (same.cause i)) (take 1000 (recovered p plan own)))
+
+  pub report_is : region_report p plan (region_run m) ≡ region_report p plan run
+  report_is = sym (report_own ∙ ap (region_report p plan) own_is)
+
+-- A filter keeps no more than there is.
+filter_few : (test : ℕ → Bool) (xs : List ℕ) → length (filter test xs) ≤ length xs
+filter_few test [] = omega arith
+filter_few test (x ∷ xs) = by (test x) (filter_few test xs)
+  where
+    by : (t : Bool) → length (filter test xs) ≤ length xs → length (cond t (x ∷ filter test xs) (filter test xs)) ≤ suc (length xs)
+    by true h = omega (arith, h)
+    by false h = omega (arith, h)
+
+count_size : (k n : ℕ) → length (count_from k n) ≡ n
+count_size k zero = refl
+count_size k (suc n) = ap suc (count_size (suc k) n)
+
+pub few_recovered : (p : Program) (plan : Plan) (run : Run) → length (recovered p plan run) ≤ begun_count run plan.region
+few_recovered p plan r = let few = filter_few (is_recovered p plan r) (count_from 0 (begun_count r plan.region)) in let size = count_size 0 (begun_count r plan.region) in omega (arith, few, size)
+
+-- Iterations are begun at different steps within the fuel, so there are no more of them than steps.
+places_few : {X : Type 0} (test : X → Bool) (k n : ℕ) (xs : List X) → count_by (λ j. nat_lt j n) (places test k xs) ≤ n - k
+places_few test k n [] = omega arith
+places_few test k n (x ∷ xs) = by (test x) (places_few test (suc k) n xs)
+  where
+    one : (b : Bool) → nat_lt k n ≡ b → count_by (λ j. nat_lt j n) (places test (suc k) xs) ≤ n - suc k → cond b 1 0 + count_by (λ j. nat_lt j n) (places test (suc k) xs) ≤ n - k
+    one true e h = let less : k < n = search (rules, e) in omega (arith, h, less)
+    one false e h = omega (arith, h)
+
+    by : (t : Bool) → count_by (λ j. nat_lt j n) (places test (suc k) xs) ≤ n - suc k → count_by (λ j. nat_lt j n) (if t then k ∷ places test (suc k) xs else places test (suc k) xs) ≤ n - k
+    by true h = let c = sum_by-cons (λ j. cond (nat_lt j n) 1 0) k (places test (suc k) xs) in let o = one (nat_lt k n) refl h in omega (arith, c, o)
+    by false h = omega (arith, h)
+
+pub begun_few : (run : Run) (r : ℕ) → begun_count run r ≤ run.fuel
+begun_few u r = let few = places_few (stands_at_head r) 0 u.fuel u.configs in omega (arith, few)
+
+pub committed_few : (p : Program) (plan : Plan) (input : List ℤ) (fuel : ℕ) → committed_count p plan (source_run p input fuel) ≤ fuel
+committed_few p plan input fuel =
+    let few = begun_few (source_run p input fuel) plan.region in let all = run_fuel p input fuel (begin p) in omega (arith, few, all)

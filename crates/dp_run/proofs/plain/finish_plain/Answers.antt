@@ -1,0 +1,36 @@
+use Rattle.std.proofs.Common.{◌∙◌, subst}
+use Rattle.dp_meaning.specs.declared.ends.PartEnd.{PartEnd}
+use Rattle.dp_run.specs.steps.Calls.{PartSteps}
+use Rattle.dp_run.proofs.StreamLemmas.{emits_on}
+use Rattle.dp_run.proofs.PartLemmas.{part_going, part_ends, part_faults, part_spent}
+use Rattle.dp_run.proofs.plain.finish_plain.Goals as goal
+
+pub calls-preserved : goal.calls-preserved
+calls-preserved g c =
+    let s = subst (λ (end : PartEnd). PartSteps c.calls.machine c.go_on.new.machine end) c.in-Going.is c.in_ok-go_on.ensures.ok in
+    record {
+      so_far = part_going _ _ _ c.calls.invariant.so_far s;
+      emits = emits_on _ _ _ _ _ _ c.calls.invariant.emits c.in_ok-go_on.ensures.streams;
+      faults = c.in_ok-go_on.ensures.faults ∙ c.calls.invariant.faults;
+    }
+
+pub returns-in-Done-clause-ok : goal.returns-in-Done-clause-ok
+returns-in-Done-clause-ok g c =
+    part_ends _ _ _ c.calls.invariant.so_far (subst (λ (end : PartEnd). PartSteps c.calls.machine c.go_on.new.machine end) c.in-Done.is c.in_ok-go_on.ensures.ok)
+
+pub returns-in-Done-clause-streams : goal.returns-in-Done-clause-streams
+returns-in-Done-clause-streams g c = emits_on _ _ _ _ _ _ c.calls.invariant.emits c.in_ok-go_on.ensures.streams
+
+pub returns-in-Fault-clause-ok : goal.returns-in-Fault-clause-ok
+returns-in-Fault-clause-ok g c =
+    part_faults _ _ _ c.calls.invariant.so_far c.in-Fault.fault (subst (λ (end : PartEnd). PartSteps c.calls.machine c.go_on.new.machine end) c.in-Fault.is c.in_ok-go_on.ensures.ok)
+
+pub returns-in-Fault-clause-streams : goal.returns-in-Fault-clause-streams
+returns-in-Fault-clause-streams g c = emits_on _ _ _ _ _ _ c.calls.invariant.emits c.in_ok-go_on.ensures.streams
+
+pub returns-in-Fuel-clause-ok : goal.returns-in-Fuel-clause-ok
+returns-in-Fuel-clause-ok g c =
+    part_spent _ _ _ c.calls.invariant.so_far (subst (λ (end : PartEnd). PartSteps c.calls.machine c.go_on.new.machine end) c.in-Fuel.is c.in_ok-go_on.ensures.ok)
+
+pub returns-in-Fuel-clause-streams : goal.returns-in-Fuel-clause-streams
+returns-in-Fuel-clause-streams g c = emits_on _ _ _ _ _ _ c.calls.invariant.emits c.in_ok-go_on.ensures.streams

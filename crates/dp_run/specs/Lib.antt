@@ -1,0 +1,4 @@
+pub mod RunText
+pub mod Given
+pub mod Output
+pub mod steps

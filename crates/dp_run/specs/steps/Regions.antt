@@ -1,0 +1,16 @@
+-- The regions that are left to do, by their numbers.
+use Rattle.std.specs.Prelude.{ℕ, List, filter_map, Option, Some, None}
+use Rattle.dp_tree.specs.declared.Stmt.{Stmt, out-Stmt}
+use Rattle.dp_tree.specs.declared.Stmt.TheOpen.{Stmt-F, Region}
+
+-- the region's number
+abbrev pub region_number : Stmt-F Stmt → Option ℕ
+region_number (Region r site cond body) = Some r
+region_number _ = None
+
+abbrev pub number_of : Stmt → Option ℕ
+number_of s = region_number (out-Stmt s)
+
+-- the numbers of the regions among these statements
+abbrev pub regions_left : List Stmt → List ℕ
+regions_left statements = filter_map number_of statements

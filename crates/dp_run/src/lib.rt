@@ -1,0 +1,13 @@
+//! A program from its start to its end: its plain parts on the sequential machine, its regions as pipelines, each under
+//! its plan, and the text of it all.
+#![tactic(auto)]
+
+mod parts;
+mod plain;
+mod program;
+mod stretch;
+mod writing;
+
+pub use dp_crew::{CrewFail, CrewSize, Tally};
+pub use program::{RunOptions, run_program};
+pub use writing::write;

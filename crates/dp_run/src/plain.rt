@@ -1,0 +1,80 @@
+//! A plain part of `main`: its statements up to the next region or the end.
+ghost use Rattle.std.specs.Prelude.{◌≡◌, ◌<◌, ◌-◌, ◌^◌, ◌++◌, List, ℤ, ℕ, IfOk};
+ghost use Rattle.dp_tree.specs.declared.Program.{Program as Tree};
+ghost use Rattle.dp_meaning.specs.declared.ends.Part.TheVariants.{Plain};
+ghost use Rattle.dp_meaning.specs.MachineState.{next_part};
+ghost use Rattle.dp_crew.specs.Fail.{FaultsAfter};
+ghost use Rattle.dp_run.specs.Output.{Streams};
+ghost use Rattle.dp_run.specs.steps.Stretches.{Behind, Leads, to_come};
+ghost use Rattle.dp_run.specs.steps.Calls.{PartSteps};
+
+use crate::writing::{flush, flush_if_many};
+use dp_base::{End, Row};
+use dp_crew::CrewFail;
+use dp_edge::Sink;
+use dp_meaning::{Machine, Part, PartEnd};
+use std::alloc::Global;
+
+/// The greatest number of steps between two looks at the prints that wait.
+const TURNS: u32 = 65536;
+
+/// Runs the plain part that comes next, if one does, and answers the run's end if that comes in it.
+pub(crate) fn run_plain<'p, K: Sink>(
+    alloc: Global,
+    machine: &mut Machine<'p>,
+    sink: &mut K,
+) -> Result<Option<End>, CrewFail>
+    requires sink { K.faults sink.old < 2 ^ 64 - 1 }
+    ensures faults { FaultsAfter result (K.faults sink.old) (K.faults sink.new) }
+    ensures ok { IfOk result (λ end. (p : Tree) (input : List ℤ) (fuel n : ℕ) → Behind p input fuel n machine.old → Leads p input fuel n machine.new end) }
+    ensures streams { Streams result (to_come machine.old) (to_come machine.new) (K.written sink.old) (K.written sink.new) }
+{
+    let Part::Plain = machine.part() else {
+        return Ok(None);
+    };
+    let mut waiting = Row::new(alloc);
+    let end = finish_plain(alloc, machine, &mut waiting, sink)?;
+    flush(alloc, &mut waiting, sink)?;
+    Ok(end)
+}
+
+/// Runs it to its end, or to the run's.
+fn finish_plain<'p, K: Sink>(
+    alloc: Global,
+    machine: &mut Machine<'p>,
+    waiting: &mut Row<i64>,
+    sink: &mut K,
+) -> Result<Option<End>, CrewFail>
+    requires sink { K.faults sink.old < 2 ^ 64 - 1 }
+    requires part { next_part machine.old ≡ Plain }
+    ensures faults { FaultsAfter result (K.faults sink.old) (K.faults sink.new) }
+    ensures ok { IfOk result (λ end. (p : Tree) (input : List ℤ) (fuel n : ℕ) → Behind p input fuel n machine.old → Leads p input fuel n machine.new end) }
+    ensures streams { Streams result (waiting.old ++ to_come machine.old) (waiting.new ++ to_come machine.new) (K.written sink.old) (K.written sink.new) }
+{
+    'calls: loop {
+        match go_on(alloc, machine, waiting, sink)? {
+            PartEnd::Going => {}
+            PartEnd::Done => return Ok(None),
+            PartEnd::Fault(fault) => return Ok(Some(End::Fault(fault))),
+            PartEnd::Fuel => return Ok(Some(End::Fuel)),
+        }
+    }
+}
+
+/// Makes some steps of it. Then prints are written where many wait.
+fn go_on<'p, K: Sink>(
+    alloc: Global,
+    machine: &mut Machine<'p>,
+    waiting: &mut Row<i64>,
+    sink: &mut K,
+) -> Result<PartEnd, CrewFail>
+    requires sink { K.faults sink.old < 2 ^ 64 - 1 }
+    requires part { next_part machine.old ≡ Plain }
+    ensures faults { FaultsAfter result (K.faults sink.old) (K.faults sink.new) }
+    ensures ok { IfOk result (λ end. PartSteps machine.old machine.new end) }
+    ensures streams { Streams result (waiting.old ++ to_come machine.old) (waiting.new ++ to_come machine.new) (K.written sink.old) (K.written sink.new) }
+{
+    let end = machine.run_part(TURNS, waiting)?;
+    flush_if_many(alloc, waiting, sink)?;
+    Ok(end)
+}

@@ -1,0 +1,107 @@
+//! A whole run, with its text.
+ghost use Rattle.std.specs.Prelude.{◌≡◌, ◌<◌, ◌≤◌, ◌-◌, ◌+◌, ◌^◌, true, length, min, All, IfOk, OnOk, OnErr};
+ghost use Rattle.dp_edge.specs.Sink.{appended};
+ghost use Rattle.dp_report.specs.EndText.{end_bytes};
+ghost use Rattle.dp_crew.specs.Fail.{FaultsAfter};
+ghost use Rattle.dp_crew.specs.Output.{WritesFront};
+ghost use Rattle.dp_run.specs.Given.{AreGiven};
+ghost use Rattle.dp_run.specs.RunText.{committed_in_all, source_run, trace_text};
+
+use crate::parts::run_parts;
+use crate::writing::write;
+use dp_base::{Cells, End, RegionReport, Row};
+use dp_crew::{CrewFail, CrewSize, Tally};
+use dp_edge::{Gate, Sink};
+use dp_meaning::Machine;
+use dp_plan::Plan;
+use dp_report::end_text;
+use dp_tree::Program;
+use std::alloc::Global;
+use std::sync::Wait;
+use std::thread::Threads;
+
+/// How a program is run.
+#[derive(Clone, Copy, Debug, PartialEq, Eq)]
+pub struct RunOptions {
+    /// The greatest number of steps.
+    pub fuel: u64,
+    /// The workers of a replicated stage, and the places of a lane.
+    pub crew: CrewSize,
+    /// Whether the text says why iterations were executed again.
+    pub why: bool,
+}
+
+/// Runs the program to its end or to the end of its fuel, each region under its plan, and writes the text of the run.
+///
+/// Prints are written as the run goes on, so that memory doesn't grow with them.
+pub fn run_program<R: Threads + Wait + Sync, K: Sink, G: Gate>(
+    rt: &R,
+    alloc: Global,
+    program: &Program,
+    plans: &[Plan],
+    input: &[i64],
+    options: RunOptions,
+    sink: &mut K,
+    gate: &G,
+    tally: &mut Tally,
+) -> Result<End, CrewFail>
+    requires given { AreGiven program.now plans.now }
+    requires words { length input.now ≤ 65536 }
+    requires fuel { options.fuel ≤ 1000000000 }
+    requires crew { (1 ≤ options.crew.workers) × (options.crew.workers ≤ 8) × (1 ≤ options.crew.lane) × (options.crew.lane ≤ 64) }
+    requires sink { K.faults sink.old < 2 ^ 64 - 1 }
+    requires room { tally.old < 2 ^ 63 }
+    ensures faults { FaultsAfter result (K.faults sink.old) (K.faults sink.new) }
+    ensures ok { let run = source_run program.now input.now options.fuel in
+        IfOk result (λ end. (end ≡ run.end) × (K.written sink.new ≡ appended (trace_text program.now plans.now run options.why) (K.written sink.old))) }
+    ensures err { OnErr result (WritesFront (trace_text program.now plans.now (source_run program.now input.now options.fuel) options.why) (K.written sink.old) (K.written sink.new)) }
+    ensures tally { OnOk result (tally.new ≡ tally.old + committed_in_all program.now plans.now (source_run program.now input.now options.fuel)) }
+{
+    let machine = Machine::new(alloc, program, input, options.fuel)?;
+    let mut reports = Row::new(alloc);
+    let (machine, end) = run_parts(
+        rt,
+        alloc,
+        program,
+        plans,
+        input,
+        machine,
+        options.crew,
+        &mut reports,
+        sink,
+        gate,
+        tally,
+    )?;
+    write_end(
+        alloc,
+        program,
+        machine.cells(),
+        &reports,
+        end,
+        options.why,
+        sink,
+    )?;
+    Ok(end)
+}
+
+/// Writes what follows the prints: the variables, the regions and the end.
+fn write_end<K: Sink>(
+    alloc: Global,
+    program: &Program,
+    cells: &Cells,
+    reports: &Row<RegionReport>,
+    end: End,
+    why: bool,
+    sink: &mut K,
+) -> Result<(), CrewFail>
+    requires sink { K.faults sink.old < 2 ^ 64 - 1 }
+    requires listed { All (λ report. length report.recovered ≡ min report.recovered_count 1000) reports.now }
+    requires explained { why ≡ true → All (λ report. length report.causes ≡ length report.recovered) reports.now }
+    ensures faults { FaultsAfter result (K.faults sink.old) (K.faults sink.new) }
+    ensures ok { OnOk result (K.written sink.new ≡ appended (end_bytes program.now cells.now reports.now end why) (K.written sink.old)) }
+    ensures err { OnErr result (WritesFront (end_bytes program.now cells.now reports.now end why) (K.written sink.old) (K.written sink.new)) }
+{
+    let text = end_text(alloc, program, cells, reports.as_slice(), end, why)?;
+    write(text.as_slice(), sink)?;
+    Ok(())
+}

@@ -1,0 +1,97 @@
+//! A region and the plain part behind it.
+ghost use Rattle.std.specs.Prelude.{◌≡◌, ◌<◌, ◌≤◌, ◌-◌, ◌+◌, ◌^◌, ◌++◌, ◌∷◌, [], ℕ, ℤ, List, suc, length, IfOk, OnOk, OnErr};
+ghost use Rattle.dp_tree.specs.declared.Program.{Program as Tree};
+ghost use Rattle.dp_report.specs.PrintsText.{prints_bytes};
+ghost use Rattle.dp_semantics.specs.Reported.{region_report};
+ghost use Rattle.dp_crew.specs.Fail.{FaultsAfter};
+ghost use Rattle.dp_crew.specs.RegionRun.{IsPlanned};
+ghost use Rattle.dp_run.specs.Output.{Emits};
+ghost use Rattle.dp_crew.specs.Output.{WritesFront};
+ghost use Rattle.dp_run.specs.RunText.{source_run, committed_count};
+ghost use Rattle.dp_run.specs.steps.Stretches.{AfterRegion, Between, Leads, to_come};
+
+use crate::plain::run_plain;
+use dp_base::{End, RegionReport, Row};
+use dp_crew::{CrewFail, CrewSize, RegionEnd, Tally, run_region};
+use dp_edge::{Gate, Sink};
+use dp_meaning::Machine;
+use dp_plan::Plan;
+use dp_tree::Program;
+use std::alloc::Global;
+use std::sync::Wait;
+use std::thread::Threads;
+
+/// Runs the plan's region, which comes next, and the plain part behind it. Answers the run's end if that comes in them.
+pub(crate) fn run_stretch<'p, R: Threads + Wait + Sync, K: Sink, G: Gate>(
+    rt: &R,
+    alloc: Global,
+    program: &'p Program,
+    plan: &Plan,
+    input: &'p [i64],
+    machine: Machine<'p>,
+    crew: CrewSize,
+    reports: &mut Row<RegionReport>,
+    sink: &mut K,
+    gate: &G,
+    tally: &mut Tally,
+) -> Result<(Machine<'p>, Option<End>), CrewFail>
+    requires planned { IsPlanned program.now plan.now }
+    requires between { (n : ℕ) × (plan.now.region ≡ suc n) × Between program.now input.now machine.fuel n machine }
+    requires words { length input.now ≤ 65536 }
+    requires fuel { machine.fuel ≤ 1000000000 }
+    requires crew { (1 ≤ crew.workers) × (crew.workers ≤ 8) × (1 ≤ crew.lane) × (crew.lane ≤ 64) }
+    requires sink { K.faults sink.old < 2 ^ 64 - 1 }
+    requires room { tally.old + (machine.fuel - machine.steps) < 2 ^ 64 }
+    ensures faults { FaultsAfter result (K.faults sink.old) (K.faults sink.new) }
+    ensures ok { IfOk result (λ ran. (n : ℕ) → plan.now.region ≡ suc n → Between program.now input.now machine.entry.fuel n machine.entry →
+        Leads program.now input.now machine.entry.fuel (suc n) ran.0 ran.1) }
+    ensures report { OnOk result (reports.new ≡ reports.old ++ region_report program.now plan.now (source_run program.now input.now machine.entry.fuel) ∷ []) }
+    ensures written { IfOk result (λ ran. Emits (to_come machine.entry) (to_come ran.0) (K.written sink.old) (K.written sink.new)) }
+    ensures front { OnErr result (WritesFront (prints_bytes (to_come machine.entry)) (K.written sink.old) (K.written sink.new)) }
+    ensures tally { OnOk result (tally.new ≡ tally.old + committed_count program.now plan.now (source_run program.now input.now machine.entry.fuel)) }
+{
+    let mut report = RegionReport {
+        region: plan.region,
+        iterations: 0,
+        recovered_count: 0,
+        recovered: Row::new(alloc),
+        causes: Row::new(alloc),
+    };
+    let (next, end) = run_region(
+        rt,
+        alloc,
+        program,
+        plan,
+        input,
+        machine,
+        crew,
+        &mut report,
+        sink,
+        gate,
+        tally,
+    )?;
+    reports.push(report)?;
+    finish_stretch(alloc, next, end, sink)
+}
+
+/// Runs the plain part behind a region that ended so.
+fn finish_stretch<'p, K: Sink>(
+    alloc: Global,
+    machine: Machine<'p>,
+    end: RegionEnd,
+    sink: &mut K,
+) -> Result<(Machine<'p>, Option<End>), CrewFail>
+    requires sink { K.faults sink.old < 2 ^ 64 - 1 }
+    ensures faults { FaultsAfter result (K.faults sink.old) (K.faults sink.new) }
+    ensures ok { IfOk result (λ ran. (p : Tree) (input : List ℤ) (fuel n : ℕ) → AfterRegion p input fuel n machine.entry end → Leads p input fuel n ran.0 ran.1) }
+    ensures written { IfOk result (λ ran. Emits (to_come machine.entry) (to_come ran.0) (K.written sink.old) (K.written sink.new)) }
+    ensures front { OnErr result (WritesFront (prints_bytes (to_come machine.entry)) (K.written sink.old) (K.written sink.new)) }
+{
+    let mut machine = machine;
+    let end = match end {
+        RegionEnd::Closed => run_plain(alloc, &mut machine, sink)?,
+        RegionEnd::Fault(fault) => Some(End::Fault(fault)),
+        RegionEnd::Fuel => Some(End::Fuel),
+    };
+    Ok((machine, end))
+}

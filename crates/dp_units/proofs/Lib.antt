@@ -1,0 +1,4 @@
+pub mod PlaceLaws
+pub mod GetLemmas
+pub mod JoinLemmas
+pub mod OrderLemmas

@@ -1,0 +1,16 @@
+//! The units of a directed graph: its classes of nodes that reach each other, and their order.
+#![tactic(auto)]
+
+mod build;
+mod classes;
+mod laws;
+mod order;
+mod reach;
+#[cfg(test)]
+mod tests;
+
+pub use build::units;
+pub use classes::Units;
+pub use laws::{
+    places_rise_along_walks, units_stand_at_their_places, what_leads_to_all_stands_first,
+};

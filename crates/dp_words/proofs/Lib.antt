@@ -1,0 +1,5 @@
+mod PassLemmas
+mod RunLemmas
+mod SimpleRows
+mod VerbLemmas
+mod rows

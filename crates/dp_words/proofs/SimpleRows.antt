@@ -1,0 +1,31 @@
+-- The two commands are simple, and their numbers have their ranges.
+use Rattle.std.proofs.Common.{◌≡◌, refl, true, codes}
+use Rattle.std.specs.List.{list_all}
+use Rattle.clap.specs.Words.{is_simple_and_free}
+use Rattle.clap.specs.declared.builder.value_parser.ValueParser.TheVariants as parser
+use Rattle.clap.proofs.OnLiterals.{clap_on_literals}
+use Rattle.dp_words.proofs.PassLemmas.{Each, HasParser}
+use Rattle.dp_words.specs.Words.{check_app, run_app}
+
+pub run_is_simple : is_simple_and_free run_app ≡ true
+unfolding clap_on_literals
+run_is_simple = refl
+
+pub check_is_simple : is_simple_and_free check_app ≡ true
+unfolding clap_on_literals
+check_is_simple = refl
+
+pub run_is_plain : run_app.top.is_plain ≡ true
+run_is_plain = refl
+
+pub run_has_simple_rules : list_all (λ r. r.is_simple) run_app.top.rules ≡ true
+run_has_simple_rules = refl
+
+pub workers_in_range : Each (HasParser (codes "workers") (parser.Unsigned 1 8)) run_app.top.rules
+workers_in_range = (λ e. absurd (cc e), (λ e. absurd (cc e), (λ e. absurd (cc e), (λ e. (refl, refl), (λ e. absurd (cc e), (λ e. absurd (cc e), (λ e. absurd (cc e), tt)))))))
+
+pub lane_in_range : Each (HasParser (codes "lane") (parser.Unsigned 1 64)) run_app.top.rules
+lane_in_range = (λ e. absurd (cc e), (λ e. absurd (cc e), (λ e. absurd (cc e), (λ e. absurd (cc e), (λ e. (refl, refl), (λ e. absurd (cc e), (λ e. absurd (cc e), tt)))))))
+
+pub fuel_in_range : Each (HasParser (codes "fuel") (parser.Unsigned 0 1000000000)) run_app.top.rules
+fuel_in_range = (λ e. absurd (cc e), (λ e. absurd (cc e), (λ e. absurd (cc e), (λ e. absurd (cc e), (λ e. absurd (cc e), (λ e. (refl, refl), (λ e. absurd (cc e), tt)))))))

@@ -1,0 +1,69 @@
+-- Lists of words that a command doesn't take, and the kind of fault.
+use Rattle.std.proofs.Common.{◌≡◌, refl, List, [], ◌∷◌, codes}
+use Rattle.clap.specs.Words.{Text, fault_of}
+use Rattle.clap.specs.declared.error.kind.ErrorKind.TheVariants as kind
+use Rattle.clap.proofs.OnLiterals.{clap_on_literals}
+use Rattle.dp_words.specs.Words.{check_app, run_app}
+
+abbrev option_of : Text → Text → List Text
+option_of name value = codes "p" ∷ name ∷ value ∷ []
+
+no_program : fault_of run_app [] ≡ kind.MissingRequiredArgument ∷ []
+unfolding clap_on_literals
+no_program = refl
+
+third_name : fault_of run_app (codes "p" ∷ codes "i" ∷ codes "j" ∷ []) ≡ kind.UnknownArgument ∷ []
+unfolding clap_on_literals
+third_name = refl
+
+unknown_option : fault_of run_app (option_of (codes "--works") (codes "1")) ≡ kind.UnknownArgument ∷ []
+unfolding clap_on_literals
+unknown_option = refl
+
+asks_for_help : fault_of run_app (codes "p" ∷ codes "--help" ∷ []) ≡ kind.DisplayHelp ∷ []
+unfolding clap_on_literals
+asks_for_help = refl
+
+nine_workers : fault_of run_app (option_of (codes "--workers") (codes "9")) ≡ kind.ValueValidation ∷ []
+unfolding clap_on_literals
+nine_workers = refl
+
+no_workers : fault_of run_app (option_of (codes "--workers") (codes "0")) ≡ kind.ValueValidation ∷ []
+unfolding clap_on_literals
+no_workers = refl
+
+no_places : fault_of run_app (option_of (codes "--lane") (codes "0")) ≡ kind.ValueValidation ∷ []
+unfolding clap_on_literals
+no_places = refl
+
+too_many_places : fault_of run_app (option_of (codes "--lane") (codes "65")) ≡ kind.ValueValidation ∷ []
+unfolding clap_on_literals
+too_many_places = refl
+
+too_much_fuel : fault_of run_app (option_of (codes "--fuel") (codes "1000000001")) ≡ kind.ValueValidation ∷ []
+unfolding clap_on_literals
+too_much_fuel = refl
+
+no_number : fault_of run_app (option_of (codes "--fuel") (codes "1e3")) ≡ kind.ValueValidation ∷ []
+unfolding clap_on_literals
+no_number = refl
+
+repeated : fault_of run_app (codes "p" ∷ codes "--lane" ∷ codes "1" ∷ codes "--lane" ∷ codes "1" ∷ []) ≡ kind.ArgumentConflict ∷ []
+unfolding clap_on_literals
+repeated = refl
+
+repeated_flag : fault_of run_app (codes "p" ∷ codes "--why" ∷ codes "--why" ∷ []) ≡ kind.ArgumentConflict ∷ []
+unfolding clap_on_literals
+repeated_flag = refl
+
+no_value : fault_of run_app (codes "p" ∷ codes "--plan" ∷ []) ≡ kind.InvalidValue ∷ []
+unfolding clap_on_literals
+no_value = refl
+
+second_program : fault_of check_app (codes "p" ∷ codes "q" ∷ []) ≡ kind.UnknownArgument ∷ []
+unfolding clap_on_literals
+second_program = refl
+
+checked_with_option : fault_of check_app (codes "p" ∷ codes "--why" ∷ []) ≡ kind.UnknownArgument ∷ []
+unfolding clap_on_literals
+checked_with_option = refl

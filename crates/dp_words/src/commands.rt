@@ -1,0 +1,82 @@
+//! The commands of the two verbs.
+ghost use Rattle.std.specs.Prelude.{◌≡◌, IfOk, false};
+ghost use Rattle.clap.specs.Words.{app_of, rule_of};
+ghost use Rattle.dp_words.specs.Words.{check_app, file_option, flag, further_name, name_of, number_option, run_app, verb_app};
+
+use clap::builder::ValueParser;
+use clap::{Arg, ArgAction, Command};
+use dp_base::NoMemory;
+use std::alloc::Global;
+
+/// The command that runs a program.
+pub fn run_command<'w>(alloc: Global) -> Result<Command<'w>, NoMemory>
+    ensures { IfOk result (λ command. app_of command ≡ run_app) }
+{
+    let command = verb_command(alloc, "run")
+        .arg(name_of(alloc, "program"))?
+        .arg(further_name(alloc, "input"))?
+        .arg(file_option(alloc, "plan"))?
+        .arg(number_option(alloc, "workers", 1, 8))?
+        .arg(number_option(alloc, "lane", 1, 64))?
+        .arg(number_option(alloc, "fuel", 0, 1_000_000_000))?
+        .arg(flag(alloc, "why"))?;
+    Ok(command)
+}
+
+/// The command that lists a program's sites.
+pub fn check_command<'w>(alloc: Global) -> Result<Command<'w>, NoMemory>
+    ensures { IfOk result (λ command. app_of command ≡ check_app) }
+{
+    let command = verb_command(alloc, "check").arg(name_of(alloc, "program"))?;
+    Ok(command)
+}
+
+/// A command that reads the words behind its verb.
+fn verb_command<'w>(alloc: Global, verb: &'w str) -> Command<'w>
+    ensures { app_of result ≡ verb_app verb.entry.now }
+{
+    Command::new(alloc, verb).no_binary_name(true)
+}
+
+/// A name that has to be given.
+fn name_of<'w>(alloc: Global, id: &'w str) -> Arg<'w>
+    ensures rule { rule_of result ≡ name_of id.entry.now }
+    ensures local { result.global ≡ false }
+{
+    further_name(alloc, id).required(true)
+}
+
+/// A name that may be given.
+fn further_name<'w>(alloc: Global, id: &'w str) -> Arg<'w>
+    ensures rule { rule_of result ≡ further_name id.entry.now }
+    ensures local { result.global ≡ false }
+{
+    Arg::new(alloc, id).action(ArgAction::Set)
+}
+
+/// An option with a file's name.
+fn file_option<'w>(alloc: Global, id: &'w str) -> Arg<'w>
+    ensures rule { rule_of result ≡ file_option id.entry.now }
+    ensures local { result.global ≡ false }
+{
+    Arg::new(alloc, id).long(id).action(ArgAction::Set)
+}
+
+/// An option with a number from `low` to `high`.
+fn number_option<'w>(alloc: Global, id: &'w str, low: u64, high: u64) -> Arg<'w>
+    ensures rule { rule_of result ≡ number_option id.entry.now low high }
+    ensures local { result.global ≡ false }
+{
+    Arg::new(alloc, id)
+        .long(id)
+        .action(ArgAction::Set)
+        .value_parser(ValueParser::unsigned(low, high))
+}
+
+/// An option that stands alone.
+fn flag<'w>(alloc: Global, id: &'w str) -> Arg<'w>
+    ensures rule { rule_of result ≡ flag id.entry.now }
+    ensures local { result.global ≡ false }
+{
+    Arg::new(alloc, id).long(id).action(ArgAction::SetTrue)
+}

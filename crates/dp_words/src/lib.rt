@@ -1,0 +1,11 @@
+//! What the words after the program's name ask for.
+#![tactic(auto)]
+
+mod commands;
+mod parsing;
+mod reading;
+mod task;
+mod verbs;
+
+pub use task::{RunWords, Task};
+pub use verbs::asked;

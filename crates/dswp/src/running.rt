@@ -1,0 +1,141 @@
+//! A run: the texts that it names, and then the program from start to end.
+ghost use Rattle.std.specs.Prelude.{◌≡◌, ◌<◌, ◌≤◌, ◌+◌, ◌-◌, ◌^◌, length, IfOk, OnErr, OnOk};
+ghost use Rattle.dp_tree.specs.Inlined.{IsInlined};
+ghost use Rattle.dp_crew.specs.Fail.{FaultsAfter};
+ghost use Rattle.dp_run.specs.Given.{AreGiven};
+ghost use Rattle.dp_run.specs.RunText.{committed_in_all, source_run, trace_text};
+ghost use Rattle.dp_words.specs.Words.{RunWithin, shown};
+ghost use Rattle.dswp.specs.Carried.{Finishes, LoadsTexts};
+ghost use Rattle.std.specs.Option.{option_map};
+ghost use Rattle.dswp.specs.Answer.{Input, Plans};
+ghost use Rattle.dswp.specs.Loading.{Gives};
+ghost use Rattle.dswp.specs.RunText.{status_of};
+
+use crate::load::{Loaded, load_input, load_plans, load_program};
+use crate::refusal::Role;
+use crate::texts::Texts;
+use dp_base::{End, NoMemory, Row};
+use dp_edge::{Gate, Shelf, Sink};
+use dp_plan::{Plan, one_stage_plans};
+use dp_run::{CrewFail, CrewSize, RunOptions, Tally, run_program};
+use dp_tree::Program;
+use dp_words::RunWords;
+use std::alloc::Global;
+use std::sync::Wait;
+use std::thread::Threads;
+
+/// The texts that a run names: first the program, then the input, and then the plans.
+pub fn load<S: Shelf>(alloc: Global, run: RunWords, shelf: &mut S) -> Result<Texts, NoMemory>
+    requires { S.faults shelf.old < 2 ^ 64 - 1 }
+    ensures contents { S.contents shelf.new ≡ S.contents shelf.old }
+    ensures loads { IfOk result (LoadsTexts (S.contents shelf.old) (shown run.entry) (S.faults shelf.old) (S.faults shelf.new) (S.failed_names shelf.old) (S.failed_names shelf.new)) }
+    ensures err { OnErr result ((S.faults shelf.new ≡ S.faults shelf.old) × (S.failed_names shelf.new ≡ S.failed_names shelf.old)) }
+{
+    let program = match load_program(alloc, shelf, run.program)? {
+        Loaded::Text(program) => program,
+        Loaded::Refused(refusal) => return Ok(Texts::Refused(refusal)),
+        Loaded::Failed => return Ok(Texts::Failed(Role::Program)),
+    };
+    let input = match load_words(alloc, shelf, run.input)? {
+        Loaded::Text(input) => input,
+        Loaded::Refused(refusal) => return Ok(Texts::Refused(refusal)),
+        Loaded::Failed => return Ok(Texts::Failed(Role::Input)),
+    };
+    match load_given(alloc, shelf, run.plan, &program)? {
+        Loaded::Text(plans) => Ok(Texts::Run(program, input, plans)),
+        Loaded::Refused(refusal) => Ok(Texts::Refused(refusal)),
+        Loaded::Failed => Ok(Texts::Failed(Role::Plan)),
+    }
+}
+
+/// The input under a name, if there is one: else no numbers.
+fn load_words<S: Shelf>(
+    alloc: Global,
+    shelf: &mut S,
+    name: Option<&str>,
+) -> Result<Loaded<Row<i64>>, NoMemory>
+    requires { S.faults shelf.old < 2 ^ 64 - 1 }
+    ensures contents { S.contents shelf.new ≡ S.contents shelf.old }
+    ensures gives { IfOk result (Gives (Input (S.contents shelf.old) (option_map (λ n. n.now) name.entry)) (option_map (λ n. n.now) name.entry) (S.faults shelf.old) (S.faults shelf.new) (S.failed_names shelf.old) (S.failed_names shelf.new)) }
+    ensures err { OnErr result ((S.faults shelf.new ≡ S.faults shelf.old) × (S.failed_names shelf.new ≡ S.failed_names shelf.old)) }
+{
+    match name {
+        Some(name) => load_input(alloc, shelf, name),
+        None => Ok(Loaded::Text(Row::new(alloc))),
+    }
+}
+
+/// The plans under a name, if there is one: else one stage for each region.
+fn load_given<S: Shelf>(
+    alloc: Global,
+    shelf: &mut S,
+    name: Option<&str>,
+    program: &Program,
+) -> Result<Loaded<Row<Plan>>, NoMemory>
+    requires shelf { S.faults shelf.old < 2 ^ 64 - 1 }
+    requires inlined { IsInlined program.now }
+    requires sites { length program.now.sites < 2 ^ 32 }
+    ensures contents { S.contents shelf.new ≡ S.contents shelf.old }
+    ensures gives { IfOk result (Gives (Plans (S.contents shelf.old) program.now (option_map (λ n. n.now) name.entry)) (option_map (λ n. n.now) name.entry) (S.faults shelf.old) (S.faults shelf.new) (S.failed_names shelf.old) (S.failed_names shelf.new)) }
+    ensures err { OnErr result ((S.faults shelf.new ≡ S.faults shelf.old) × (S.failed_names shelf.new ≡ S.failed_names shelf.old)) }
+{
+    match name {
+        Some(name) => load_plans(alloc, shelf, name, program),
+        None => Ok(Loaded::Text(one_stage_plans(alloc, program)?)),
+    }
+}
+
+/// Runs the program to its end, and gives the status of that.
+pub fn run_to_end<R: Threads + Wait + Sync, K: Sink, G: Gate>(
+    rt: &R,
+    alloc: Global,
+    program: &Program,
+    plans: &Row<Plan>,
+    input: &Row<i64>,
+    run: RunWords,
+    sink: &mut K,
+    gate: &G,
+    tally: &mut Tally,
+) -> Result<u8, CrewFail>
+    requires given { AreGiven program.now plans.now }
+    requires words { length input.now ≤ 65536 }
+    requires run { RunWithin (shown run) }
+    requires sink { K.faults sink.old < 2 ^ 64 - 1 }
+    requires tally { tally.old < 2 ^ 63 }
+    ensures faults { FaultsAfter result (K.faults sink.old) (K.faults sink.new) }
+    ensures finishes { let trace = source_run program.now input.now run.entry.fuel in
+        Finishes (status_of trace.end) (trace_text program.now plans.now trace run.entry.why) (K.written sink.old) (K.written sink.new) result }
+    ensures tally { OnOk result (tally.new ≡ tally.old + committed_in_all program.now plans.now (source_run program.now input.now run.entry.fuel)) }
+{
+    let options = RunOptions {
+        fuel: run.fuel,
+        crew: CrewSize {
+            workers: run.workers,
+            lane: run.lane,
+        },
+        why: run.why,
+    };
+    let end = run_program(
+        rt,
+        alloc,
+        program,
+        plans.as_slice(),
+        input.as_slice(),
+        options,
+        sink,
+        gate,
+        tally,
+    )?;
+    Ok(end_status(end))
+}
+
+/// The exit status of a run that ended so.
+fn end_status(end: End) -> u8
+    ensures { result ≡ status_of end }
+{
+    match end {
+        End::Done => 0,
+        End::Fault(_) => 1,
+        End::Fuel => 8,
+    }
+}
