@@ -4,6 +4,7 @@ use Rattle.dp_semantics.specs.EpochKey.{EpochKey}
 use Rattle.dp_ring.specs.declared.view.Standing.{Standing}
 use Rattle.dp_ring.specs.declared.view.View.{View}
 use Rattle.dp_ring.specs.declared.view.Stage.TheVariants.{Resting, Taking, Giving}
+use Rattle.dp_ring.specs.Calls.{at_start}
 use Rattle.dp_pipeline.specs.declared.keys.LaneKey.{LaneKey}
 use Rattle.dp_pipeline.specs.declared.tickets.Tickets.{Tickets}
 use Rattle.dp_pipeline.specs.Facts.{Facts}
@@ -23,6 +24,10 @@ CollectsFrom seat key s n = SitsAt seat key s × (seat.view.at ≡ n)
 -- n of them were put into the ring of the stage behind it
 abbrev pub PutsTo : Standing LaneKey → EpochKey → ℕ → ℕ → Type 0
 PutsTo seat key s n = SitsAt seat key (s + 1) × (seat.view.at ≡ n) × (key.fuel < 2 ^ 62)
+
+-- a worker's seat at a new ring of the key
+abbrev pub IsUnused : LaneKey → Standing LaneKey → Type 0
+IsUnused lane seat = seat ≡ at_start seat.ring seat.size Resting (2 ^ 32) (Some lane)
 
 -- it is about to draw a ticket, or has one whose item it hasn't taken. So many tickets were drawn at most
 abbrev pub IsFreeBy : Bool → View LaneKey → ℕ → Type 0

@@ -1,5 +1,5 @@
 //! How the units of an epoch are made.
-ghost use Rattle.std.specs.Prelude.{◌≡◌, ◌<◌, ◌≤◌, ◌+◌, ◌-◌, ◌^◌, suc, true, false, length, IfOk, OnErr};
+ghost use Rattle.std.specs.Prelude.{◌≡◌, ◌<◌, ◌≤◌, ◌+◌, ◌-◌, ◌^◌, suc, true, false, length, IfOk, OnOk};
 ghost use Rattle.dp_plan.specs.Access.{is_replicated};
 ghost use Rattle.dp_lane.specs.declared.rule.View.TheVariants.{Taker};
 ghost use Rattle.dp_pipeline.specs.Keys.{key_of};

@@ -1,10 +1,10 @@
 //! How the units that run one stage are made.
-ghost use Rattle.std.specs.Prelude.{◌≡◌, ◌≤◌, ◌<◌, ◌-◌, ◌+◌, ◌^◌, ℕ, suc, true, false, Some, length, replicate, IfOk};
+ghost use Rattle.std.specs.Prelude.{◌≡◌, ◌≤◌, ◌<◌, ◌-◌, ℕ, suc, true, false, Some, length, IfOk};
 ghost use Rattle.dp_plan.specs.Access.{is_replicated};
+ghost use Rattle.dp_plan.specs.PlanText.{Each};
 ghost use Rattle.dp_semantics.specs.EpochKey.{EpochKey};
-ghost use Rattle.dp_ring.specs.declared.view.Stage.TheVariants.{Resting};
-ghost use Rattle.dp_ring.specs.Calls.{at_start};
 ghost use Rattle.dp_pipeline.specs.Keys.{key_of};
+ghost use Rattle.dp_pipeline.specs.Seats.{IsUnused};
 ghost use Rattle.dp_pipeline.specs.Setting.{IsSetting, IsKeyIn};
 ghost use Rattle.dp_pipeline.specs.Staging.{RunsAt};
 ghost use Rattle.dp_pipeline.specs.Standing.{Gives, Gets, source_facts, target_facts, target_ended};
@@ -100,7 +100,7 @@ fn worker<'p>(
     requires stage { 0 < key.now.stage }
     requires fuel { key.now.epoch.fuel ≤ 1000000000 }
     requires replicated { is_replicated setting.plan.now key.now.stage ≡ true }
-    requires at { at ≡ at_start at.ring at.size Resting (2 ^ 32) (Some key.now) }
+    requires at { IsUnused key.now at }
     requires seat { (seat.flag ≡ stop.now) × (seat.seen ≡ false) }
 {
     let stage = staged(alloc, setting, key)?;
@@ -119,7 +119,7 @@ pub(crate) fn add_workers<'p>(
     alloc: Global,
     setting: Setting<'p>,
     key: &LaneKey<'p>,
-    seats: Row<WorkerSeat<Carried<'p>>>,
+    mut seats: Row<WorkerSeat<Carried<'p>>>,
     units: &mut Row<Unit<'p>>,
     stop: &'p Stop,
     setter: &mut StopSetter,
@@ -129,11 +129,11 @@ pub(crate) fn add_workers<'p>(
     requires stage { 0 < key.now.stage }
     requires fuel { key.now.epoch.fuel ≤ 1000000000 }
     requires replicated { is_replicated setting.plan.now key.now.stage ≡ true }
-    requires seats { (ring : ℕ) × (seats ≡ replicate setting.workers (at_start ring setting.lane Resting (2 ^ 32) (Some key.now))) }
+    requires seats { Each (IsUnused key.now) seats }
     requires setter { setter.old.flag ≡ stop.now }
     ensures setter { setter.new ≡ setter.old }
 {
-    for at in seats {
+    while let Some(at) = seats.pop() {
         let unit = worker(alloc, setting, key, at, stop, setter.seat(stop))?;
         units.push(unit)?;
     }

@@ -1,4 +1,3 @@
-use Rattle.std.proofs.Common.{rules}
 use Rattle.dp_pipeline.proofs.Ticketed.{with_ticket, has_taken, take_waits}
 use Rattle.dp_pipeline.proofs.tickets.TicketsEndsCarriedCarried.take.Goals as goal
 
