@@ -73,7 +73,7 @@ may_put seat x key s n at is =
     let stage = at.0.stage in let before : at.0.ring.stage - 1 ≡ s = omega (arith, stage) in
     let place = at.1 in let least = within_fuel key s n x is in let few = at.2 in (
       known_back (λ (k : LaneKey). IsCarried (key_of k.epoch) (k.stage - 1) seat.view.at x) seat key (s + 1) at.0
-      (to_ring seat key (s + 1) (at.0.ring.stage - 1) s n at.0 x before at.1 is),
+          (to_ring seat key (s + 1) (at.0.ring.stage - 1) s n at.0 x before at.1 is),
       omega (arith, place, least, few),
     )
 

@@ -49,8 +49,8 @@ pub has_taken : (old : Tickets) (new : Standing LaneKey) (x : Carried) → old.h
 has_taken old new x has put is key s place may =
     let free = with_ticket old.has_ticket old.seat.view key.fuel has may.free in
     let came : IsCarried key (s - 1) old.seat.view.at x =
-      to_epoch old.seat key s (may.sits.ring.stage - 1) (s - 1) old.seat.view.at may.sits x (ap (λ (k : ℕ). k - 1) may.sits.stage) refl
-      (known (λ (k : LaneKey). IsCarried (key_of k.epoch) (k.stage - 1) old.seat.view.at x) old.seat key s may.sits put) in
+    to_epoch old.seat key s (may.sits.ring.stage - 1) (s - 1) old.seat.view.at may.sits x (ap (λ (k : ℕ). k - 1) may.sits.stage) refl
+    (known (λ (k : LaneKey). IsCarried (key_of k.epoch) (k.stage - 1) old.seat.view.at x) old.seat key s may.sits put) in
     let drawn : new.view.drawn ≡ old.seat.view.drawn = ap (λ (v : View LaneKey). v.drawn) is in let most = free.1 in (
       old.seat.view.at,
       subst (λ (p : Option ℕ). At p old.seat.view.at) (sym may.place_is) tt,
@@ -77,7 +77,7 @@ take_waits old new word busy key s place may = record {
   place_is = may.place_is;
   sits = sits_on old.seat new key s (ap (λ (v : View LaneKey). v.key) busy.1) may.sits;
   free = free_on old.has_ticket old.seat.view new.view key.fuel (ap (λ (v : View LaneKey). v.stage) busy.1) (ap (λ (v : View LaneKey). v.drawn) busy.1)
-    (ap (λ (v : View LaneKey). v.at) busy.1) may.free;
+      (ap (λ (v : View LaneKey). v.at) busy.1) may.free;
   fuel = may.fuel;
 }
 
@@ -87,7 +87,7 @@ pub may_give : (ends : Tickets) (x : Carried) (key : EpochKey) (s : ℕ) (place 
 may_give ends x key s place n has is = (
   has.stage,
   known_back (λ (k : LaneKey). IsCarried (key_of k.epoch) k.stage ends.seat.view.at x) ends.seat key s has.sits
-  (to_ring ends.seat key s has.sits.ring.stage s n has.sits x has.sits.stage has.ticket is),
+      (to_ring ends.seat key s has.sits.ring.stage s n has.sits x has.sits.stage has.ticket is),
 )
 
 -- .. and has given it

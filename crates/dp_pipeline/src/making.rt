@@ -75,9 +75,18 @@ fn add_replicated<'p>(
     let stage = staged(alloc, setting, key)?;
     key.stage += 1;
     let (producer, seats, consumer) = Ring::new::<Carried>(
-        alloc, key, setting.lane, setting.workers,
+        alloc,
+        key,
+        setting.lane,
+        setting.workers,
     )?;
-    let unit = stage_unit(stage, source, Target::Ring(producer), stop, setter.seat(stop));
+    let unit = stage_unit(
+        stage,
+        source,
+        Target::Ring(producer),
+        stop,
+        setter.seat(stop),
+    );
     units.push(unit)?;
     add_workers(alloc, setting, key, seats, units, stop, setter)?;
     Ok(Source::Ring(consumer))

@@ -10,5 +10,5 @@ pub new-unit-requires-clause-start : goal.new-unit-requires-clause-start
 new-unit-requires-clause-start c =
     worker_begins c.in_ok-stage.stage c.args.at c.args.key.now
     (runs_anywhere c.in_ok-stage.stage (key_of c.args.key.now.epoch) c.args.key.now.stage
-      (ap (λ (plan : Plan). is_replicated plan c.args.key.now.stage) c.requires.key.plan ∙ c.requires.replicated) c.in_ok-stage.ensures)
+    (ap (λ (plan : Plan). is_replicated plan c.args.key.now.stage) c.requires.key.plan ∙ c.requires.replicated) c.in_ok-stage.ensures)
     c.requires.at c.requires.fuel
