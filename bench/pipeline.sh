@@ -3,7 +3,8 @@
 #   the generator's loop over 65,536 words beside oneTBB's parallel_pipeline with the same stages (pipeline_tbb.cpp);
 #   a replicated stage of some two thousand operators an iteration, by 1, 2 and 3 workers, beside the same loop unmarked;
 #   a loop beside a memory of 1,000 cells and of 65,536.
-# Each time is the least of nine runs, less the time of an empty program under the same runner.
+# Each time is the least of nine runs, less the time of an empty program under the same runner; the tables' are less the
+# time of the same program on an empty input, which writes as many values.
 # Needs g++ and oneTBB (Debian: libtbb-dev).
 set -eu
 here=$(cd "$(dirname "$0")" && pwd)
@@ -107,7 +108,8 @@ int main() {
 }
 C
   plan 'seq 2 3 4' 'par 5' 'seq 6' >cells.plan
-  ours=$(net "$(least "$dswp" run cells.c indices.in --plan cells.plan --workers 2 --lane 64)" "$nothing")
+  ours=$(net "$(least "$dswp" run cells.c indices.in --plan cells.plan --workers 2 --lane 64)" \
+    "$(least "$dswp" run cells.c empty.in --plan cells.plan --workers 2 --lane 64)")
   row "a table of $cells cells" "$ours" "${small:+$(ratio "$ours" "${small:-1}") times as long}"
   small=$ours
 done
