@@ -1,3 +1,9 @@
 pub mod Digits
 pub mod WordLemmas
 pub mod ListWalks
+pub mod WriteLemmas
+pub mod NumberText
+pub mod LineComplete
+pub mod LineSound
+pub mod Runs
+pub mod Fitting

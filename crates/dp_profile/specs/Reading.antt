@@ -1,5 +1,5 @@
 -- Which lines may follow one another.
-use Rattle.std.specs.Prelude.{ℕ, ◌+◌, ◌-◌, ◌==◌, if◌then◌else◌, Bool, true, false, not, ◌&&◌, ◌||◌, nat_lt, List, [], ◌∷◌, ◌++◌, length, Option, Some, None, slice_get}
+use Rattle.std.specs.Prelude.{ℕ, ◌-◌, ◌==◌, if◌then◌else◌, Bool, true, false, not, ◌&&◌, ◌||◌, nat_le, nat_lt, List, [], ◌∷◌, ◌++◌, length, Option, Some, None, slice_get}
 use Rattle.dp_base.specs.declared.SiteId.{SiteId}
 use Rattle.dp_profile.specs.declared.RegionProfile.{RegionProfile}
 use Rattle.dp_profile.specs.declared.SiteCount.{SiteCount}
@@ -61,6 +61,10 @@ is_between all s = is_headed s.phase || is_counted all s
 abbrev pub closed : Reader → List RegionProfile
 closed s = if in_region s.phase then (s.done ++ s.last ∷ []) else s.done
 
+-- the regions before the one with this number have a line, and it has none
+abbrev pub region_next : List (List RegionSite) → Reader → ℕ → Bool
+region_next all s r = nat_lt 0 r && (nat_le r (length all) && (length (closed s) == r - 1))
+
 -- the site has this number, and a condition where it has a value other than 0
 abbrev pub counts_at : SiteId → SiteCount → Option RegionSite → Bool
 counts_at site c None = false
@@ -87,8 +91,7 @@ with_flow s f = state s.phase s.done (record { sites = s.last.sites; flows = s.l
 -- where these lines were read one more may be read, in a text for regions with these sites
 unfoldable pub next : List (List RegionSite) → Reader → Line → Option Reader
 next all s line.Head = if is_start s.phase then Some (state phase.Headed s.done s.last) else None
-next all s (line.Region r) =
-    if is_between all s && (nat_lt (length (closed s)) (length all) && (r == length (closed s) + 1)) then Some (state phase.Region (closed s) opened) else None
+next all s (line.Region r) = if is_between all s && region_next all s r then Some (state phase.Region (closed s) opened) else None
 next all s (line.Runs site c) =
     if in_region s.phase && counts_at site c (slice_get (last_sites all s) (length s.last.sites)) then Some (with_count s c) else None
 next all s (line.Flow f) = if is_counted all s && flows_next all s f then Some (with_flow s f) else None

@@ -59,7 +59,7 @@ fn is_before(f: Flow, g: Flow) -> bool
 }
 
 impl Reader {
-    ghost use Rattle.std.specs.Prelude.{Some, length, slice_get};
+    ghost use Rattle.std.specs.Prelude.{Some, length, slice_get, ◌==◌};
     ghost use Rattle.std.specs.Option.{option_copied};
     ghost use Rattle.dp_profile.specs.declared.line.Line.TheVariants as line;
     ghost use Rattle.dp_profile.specs.Reading as spec;
@@ -110,15 +110,22 @@ impl Reader {
         self.is_headed() || self.is_counted(all)
     }
 
-    /// How many regions have a line.
-    fn region_count(&self) -> usize
-        ensures { result ≡ length (spec.closed self.now) }
+    /// So many regions have a line.
+    fn has_regions(&self, count: usize) -> bool
+        ensures { result ≡ (length (spec.closed self.now) == count) }
     {
         if self.in_region() {
-            self.done.len() + 1
+            0 < count && self.done.len() == count - 1
         } else {
-            self.done.len()
+            self.done.len() == count
         }
+    }
+
+    /// The region's number comes next.
+    fn region_next(&self, all: &[Row<RegionSite>], region: u32) -> bool
+        ensures { result ≡ spec.region_next all.now self.now region }
+    {
+        0 < region && region as usize <= all.len() && self.has_regions(region as usize - 1)
     }
 
     /// The regions with the last one.
@@ -157,8 +164,7 @@ impl Reader {
     ) -> Result<Option<Reader>, NoMemory>
         ensures { IfOk result (λ reader. reader ≡ spec.next all.now self (line.Region region)) }
     {
-        let count = self.region_count();
-        if !self.is_between(all) || count >= all.len() || region as usize != count + 1 {
+        if !self.is_between(all) || !self.region_next(all, region) {
             return Ok(None);
         }
         Ok(Some(Reader {
@@ -229,7 +235,7 @@ impl Reader {
     fn end(self, alloc: Global, all: &[Row<RegionSite>]) -> Result<Option<Reader>, NoMemory>
         ensures { IfOk result (λ reader. reader ≡ spec.next all.now self line.End) }
     {
-        if !self.is_between(all) || self.region_count() != all.len() {
+        if !self.is_between(all) || !self.has_regions(all.len()) {
             return Ok(None);
         }
         Ok(Some(Reader {
