@@ -1,5 +1,6 @@
 -- Counts, flows and regions that fit, one more at the end.
 use Rattle.std.proofs.Common.{◌≡◌, ℕ, suc, ◌+◌, ◌-◌, ◌≤◌, true, Bool, List, [], ◌∷◌, ◌++◌, length, map, Some, None, slice_get, refl, sym, ap, ◌∙◌, append_assoc, append-nil, arith}
+use Rattle.dp_plan.specs.PlanText.{Each}
 use Rattle.dp_profile.specs.declared.RegionProfile.{RegionProfile}
 use Rattle.dp_profile.specs.declared.SiteCount.{SiteCount}
 use Rattle.dp_profile.specs.declared.Flow.{Flow}
@@ -69,10 +70,16 @@ regions_one all sites shown one fit = regions_more 1 all (sites ∷ []) shown (o
 -- ---- flows
 
 last_next : (f g : Flow) (rest : List Flow) → last_flow (f ∷ g ∷ rest) ≡ last_flow (g ∷ rest)
-last_next f g rest = ap (λ (n : ℕ). slice_get (f ∷ g ∷ rest) n) (omega arith)
+last_next f g rest = let down : suc (suc (length rest)) - 1 ≡ suc (suc (length rest) - 1) = omega arith in ap (slice_get (f ∷ g ∷ rest)) down
 
 pub ascend_more : (flows : List Flow) (f : Flow) → Ascend flows → is_behind (last_flow flows) f ≡ true → Ascend (flows ++ f ∷ [])
 ascend_more [] f up behind = tt
 ascend_more (g ∷ []) f up behind = (behind, tt)
 ascend_more (g ∷ h ∷ rest) f up behind =
     (up.0, ascend_more (h ∷ rest) f up.1 (ap (λ o. is_behind o f) (sym (last_next g h rest)) ∙ behind))
+
+-- ---- each of a list
+
+pub each_of : {A B : Type 0} (P : A → Type 0) (Q : B → Type 0) (f : A → B) → ((x : A) → P x → Q (f x)) → (xs : List A) → Each P xs → Each Q (map f xs)
+each_of P Q f one [] each = tt
+each_of P Q f one (x ∷ xs) each = (one x each.0, each_of P Q f one xs each.1)

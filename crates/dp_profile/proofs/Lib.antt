@@ -7,3 +7,9 @@ pub mod LineComplete
 pub mod LineSound
 pub mod Runs
 pub mod Fitting
+pub mod RunComplete
+pub mod RunSound
+pub mod RunEnds
+pub mod TextLemmas
+pub mod SoFar
+pub mod KnownSites
