@@ -1,5 +1,5 @@
 -- Counts, flows and regions that fit, one more at the end.
-use Rattle.std.proofs.Common.{◌≡◌, ℕ, suc, ◌+◌, ◌-◌, ◌≤◌, true, Bool, List, [], ◌∷◌, ◌++◌, length, map, Some, None, slice_get, refl, sym, ap, ◌∙◌, append_assoc, append-nil, arith}
+use Rattle.std.proofs.Common.{◌≡◌, ℕ, suc, ◌+◌, ◌-◌, true, List, [], ◌∷◌, ◌++◌, length, map, Some, None, slice_get, refl, sym, ap, ◌∙◌, append_assoc, append-nil, arith}
 use Rattle.dp_plan.specs.PlanText.{Each}
 use Rattle.dp_profile.specs.declared.RegionProfile.{RegionProfile}
 use Rattle.dp_profile.specs.declared.SiteCount.{SiteCount}
@@ -7,7 +7,7 @@ use Rattle.dp_profile.specs.declared.Flow.{Flow}
 use Rattle.dp_profile.specs.declared.line.Line.{Line}
 use Rattle.dp_profile.specs.declared.line.Line.TheVariants as line
 use Rattle.dp_profile.specs.Sites.{RegionSite}
-use Rattle.dp_profile.specs.ProfileText.{CountFits, CountsFit, Ascend, RegionFits, RegionsFit, runs_lines, region_lines, regions_lines}
+use Rattle.dp_profile.specs.ProfileText.{CountsFit, Ascend, RegionsFit, runs_lines, region_lines, regions_lines}
 use Rattle.dp_profile.specs.Reading.{last_flow, is_behind}
 
 pub seam : {X : Type 0} (xs : List X) (y : X) (ys : List X) → slice_get (xs ++ y ∷ ys) (length xs) ≡ Some y

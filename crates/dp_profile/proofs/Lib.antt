@@ -13,3 +13,5 @@ pub mod RunEnds
 pub mod TextLemmas
 pub mod SoFar
 pub mod KnownSites
+pub mod WholeLines
+pub mod ReadBack

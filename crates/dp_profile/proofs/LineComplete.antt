@@ -1,6 +1,5 @@
 -- Each line that fits is read from its words.
-use Rattle.std.proofs.Common.{◌≡◌, ℕ, ◌^◌, ◌<◌, ◌≤◌, Bool, true, false, nat_lt, nat_le, List, [], ◌∷◌, Option, Some, codes, decimal, refl, ap, ◌∙◌, rules, arith}
-use Rattle.dp_base.specs.declared.SiteId.{SiteId}
+use Rattle.std.proofs.Common.{◌≡◌, ℕ, ◌<◌, ◌≤◌, Bool, true, false, nat_lt, nat_le, [], ◌∷◌, Option, Some, codes, decimal, refl, ap, ◌∙◌, rules, arith}
 use Rattle.dp_plan.specs.PlanText.{joined}
 use Rattle.dp_plan.specs.Words.{words}
 use Rattle.dp_plan.proofs.JoinLemmas.{IsWord, words-joined}

@@ -6,8 +6,7 @@ use Rattle.dp_base.specs.declared.VarId.{VarId}
 use Rattle.dp_tree.specs.declared.Expr.{Expr}
 use Rattle.dp_tree.specs.declared.Stmt.{Stmt}
 use Rattle.dp_tree.specs.declared.Stmt.TheVariants as tree
-use Rattle.dp_tree.specs.Numbering.{is_marked}
-use Rattle.dp_profile.specs.Sites.{RegionSite, region_site, sites, sites_in}
+use Rattle.dp_profile.specs.Sites.{region_site, sites, sites_in}
 use Rattle.dp_profile.specs.Lists.{is_region, site_list, site_lists, region_lists}
 
 -- what opens where a tree is made

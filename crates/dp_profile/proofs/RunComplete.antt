@@ -1,6 +1,5 @@
 -- The lines of a profile that fits are read to their end.
-use Rattle.std.proofs.Common.{◌≡◌, ℕ, zero, suc, ◌+◌, ◌-◌, ◌<◌, ◌≤◌, ◌==◌, Bool, true, false, not, ◌&&◌, ◌||◌, nat_le, nat_lt, List, [], ◌∷◌, ◌++◌, map, length, Option, Some, None, slice_get, refl, sym, ap, subst, ◌∙◌, append_assoc, append-nil, length-append, rules, arith, tests}
-use Rattle.dp_base.specs.declared.SiteId.{SiteId}
+use Rattle.std.proofs.Common.{◌≡◌, ℕ, ◌+◌, ◌-◌, ◌<◌, ◌≤◌, ◌==◌, Bool, true, false, ◌||◌, nat_le, nat_lt, List, [], ◌∷◌, ◌++◌, map, length, Some, slice_get, refl, sym, ap, ◌∙◌, append_assoc, append-nil, length-append, rules, arith, tests}
 use Rattle.dp_plan.specs.PlanText.{Each}
 use Rattle.dp_profile.specs.declared.RegionProfile.{RegionProfile}
 use Rattle.dp_profile.specs.declared.SiteCount.{SiteCount}
@@ -10,9 +9,9 @@ use Rattle.dp_profile.specs.declared.line.Line.TheVariants as line
 use Rattle.dp_profile.specs.declared.reader.Reader.{Reader}
 use Rattle.dp_profile.specs.declared.reader.Phase.TheVariants as phase
 use Rattle.dp_profile.specs.Sites.{RegionSite}
-use Rattle.dp_profile.specs.ProfileText.{CountFits, CountsFit, FlowFits, Ascend, RegionFits, RegionsFit, has_site, is_before, runs_lines, region_lines, regions_lines}
-use Rattle.dp_profile.specs.Reading.{begun, state, opened, sites_or_none, last_sites, is_counted, is_between, closed, region_next, counts_at, is_behind, last_flow, flows_next, next}
-use Rattle.dp_profile.proofs.Fitting.{seam, counts_many, regions_many}
+use Rattle.dp_profile.specs.ProfileText.{CountFits, CountsFit, FlowFits, Ascend, RegionFits, RegionsFit, has_site, runs_lines, region_lines, regions_lines}
+use Rattle.dp_profile.specs.Reading.{begun, state, opened, sites_or_none, last_sites, is_counted, is_between, closed, counts_at, is_behind, last_flow, next}
+use Rattle.dp_profile.proofs.Fitting.{seam, counts_many}
 use Rattle.dp_profile.proofs.Runs.{run}
 
 abbrev pub counted : List SiteCount → List Flow → RegionProfile

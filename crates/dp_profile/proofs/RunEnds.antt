@@ -1,5 +1,5 @@
 -- Lines that may begin a text can be completed to one, and the lines of a text fit.
-use Rattle.std.proofs.Common.{◌≡◌, ◌⊎◌, inl, inr, ℕ, suc, ◌+◌, ◌<◌, ◌≤◌, ◌==◌, Bool, true, false, ◌||◌, List, [], ◌∷◌, ◌++◌, map, length, refl, sym, ap, subst, ◌∙◌, append_assoc, append-nil, length-append, arith, eqb-true}
+use Rattle.std.proofs.Common.{◌≡◌, ◌⊎◌, inl, inr, ℕ, suc, ◌+◌, ◌≤◌, ◌==◌, Bool, true, ◌||◌, List, [], ◌∷◌, ◌++◌, map, length, refl, sym, ap, subst, ◌∙◌, append_assoc, append-nil, arith, eqb-true}
 use Rattle.std.proofs.lemmas.Bool.{cases_Bool}
 use Rattle.dp_plan.specs.PlanText.{Each}
 use Rattle.dp_plan.proofs.RunEnds.{each-lists}
@@ -12,9 +12,9 @@ use Rattle.dp_profile.specs.declared.reader.Reader.{Reader}
 use Rattle.dp_profile.specs.declared.reader.Phase.TheVariants as phase
 use Rattle.dp_profile.specs.Sites.{RegionSite}
 use Rattle.dp_profile.specs.ProfileText.{CountsFit, FlowFits, Ascend, RegionFits, RegionsFit, has_site, runs_lines, region_lines, regions_lines}
-use Rattle.dp_profile.proofs.Fitting.{each_of, regions_many, regions_fit_more, regions_more, counts_more, runs_more}
+use Rattle.dp_profile.proofs.Fitting.{each_of, regions_fit_more, regions_more, counts_more, runs_more}
 use Rattle.dp_profile.proofs.LineComplete.{LineFits, top}
-use Rattle.dp_profile.proofs.RunComplete.{counted, within, over}
+use Rattle.dp_profile.proofs.RunComplete.{counted}
 use Rattle.dp_profile.proofs.RunSound.{Reads, at_start, headed, in_region, at_end}
 
 -- the lines of all regions with these profiles

@@ -1,5 +1,5 @@
 -- Lines that are read one after the other begin the text of a profile.
-use Rattle.std.proofs.Common.{◌≡◌, ◌⊎◌, inl, inr, ℕ, zero, suc, ◌+◌, ◌-◌, ◌<◌, ◌≤◌, ◌==◌, Bool, true, false, not, ◌&&◌, ◌||◌, nat_le, nat_lt, List, [], ◌∷◌, ◌++◌, map, length, Option, Some, None, slice_get, refl, sym, ap, subst, ◌∙◌, append_assoc, append-nil, length-append, rules, arith, tests, eqb-true}
+use Rattle.std.proofs.Common.{◌≡◌, ◌⊎◌, inl, inr, ℕ, suc, ◌+◌, ◌-◌, ◌<◌, ◌≤◌, ◌==◌, Bool, true, false, ◌&&◌, ◌||◌, nat_le, nat_lt, List, [], ◌∷◌, ◌++◌, map, length, Some, None, slice_get, refl, sym, ap, subst, ◌∙◌, append_assoc, append-nil, length-append, rules, arith, eqb-true}
 use Rattle.std.specs.Prelude.{if◌then◌else◌}
 use Rattle.dp_base.specs.declared.SiteId.{SiteId}
 use Rattle.dp_plan.specs.PlanText.{Each}
@@ -12,7 +12,7 @@ use Rattle.dp_profile.specs.declared.line.Line.TheVariants as line
 use Rattle.dp_profile.specs.declared.reader.Reader.{Reader}
 use Rattle.dp_profile.specs.declared.reader.Phase.TheVariants as phase
 use Rattle.dp_profile.specs.Sites.{RegionSite}
-use Rattle.dp_profile.specs.ProfileText.{CountFits, CountsFit, FlowFits, Ascend, RegionFits, RegionsFit, has_site, runs_lines, region_lines, regions_lines}
+use Rattle.dp_profile.specs.ProfileText.{CountsFit, FlowFits, Ascend, RegionFits, RegionsFit, has_site, runs_lines, region_lines, regions_lines}
 use Rattle.dp_profile.specs.Reading.{begun, state, opened, last_sites, is_counted, is_between, closed, region_next, counts_at, is_behind, last_flow, flows_next, next}
 use Rattle.dp_profile.proofs.Fitting.{seam, past, counts_many, counts_more, runs_more, regions_many, regions_fit_more, regions_one, ascend_more}
 use Rattle.dp_profile.proofs.LineComplete.{LineFits}

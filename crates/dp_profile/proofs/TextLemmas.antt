@@ -1,5 +1,5 @@
 -- What a text that is read line by line is read as.
-use Rattle.std.proofs.Common.{◌≡◌, ℕ, ◌<◌, ◌≤◌, List, [], ◌∷◌, ◌++◌, map, length, take, drop, Option, Some, None, refl, sym, ap, subst, ◌∙◌, append_assoc}
+use Rattle.std.proofs.Common.{◌≡◌, ℕ, ◌≤◌, List, [], ◌∷◌, ◌++◌, map, length, take, drop, Option, Some, None, refl, sym, ap, subst, ◌∙◌, append_assoc}
 use Rattle.std.proofs.lemmas.List.{take-append-le, take-append-drop}
 use Rattle.dp_tree.specs.declared.Program.{Program}
 use Rattle.dp_plan.specs.PlanText.{Each}
@@ -18,7 +18,7 @@ use Rattle.dp_profile.proofs.Runs.{read_bytes, IsBytes, read_bytes-sound, run_by
 use Rattle.dp_profile.proofs.RunComplete.{over, lines_run}
 use Rattle.dp_profile.proofs.RunSound.{Reads, reads_next}
 use Rattle.dp_profile.proofs.RunSound as sound
-use Rattle.dp_profile.proofs.RunEnds.{Ends, IsText, SmallSite, whole_lines, whole_fits, reads_end, reads_over}
+use Rattle.dp_profile.proofs.RunEnds.{Ends, IsText, SmallSite, whole_fits, reads_end, reads_over}
 
 -- the state behind the lines with these bytes
 pub record Reached (all : List (List RegionSite)) (s : Reader) (done : List (List ℕ)) : Type 0 where

@@ -5,6 +5,7 @@
 
 use dp_base::{NoMemory, Row, SiteId};
 
+mod law;
 mod line;
 mod number;
 mod read;
@@ -14,6 +15,7 @@ mod text;
 mod words;
 mod write;
 
+pub use law::{read_profiles_fit, written_profiles_are_read};
 pub use read::read_profile;
 pub use write::write_profile;
 

@@ -1,4 +1,4 @@
-use Rattle.std.proofs.Common.{◌+◌, ◌<◌, ◌++◌, List, ℕ, length, drop, sym, ap, ◌∙◌, arith, true}
+use Rattle.std.proofs.Common.{◌+◌, ◌<◌, ◌++◌, List, length, drop, sym, ap, ◌∙◌, arith, true}
 use Rattle.std.proofs.lemmas.List.{at_drop_all}
 use Rattle.dp_tree.specs.declared.Stmt.{Stmt}
 use Rattle.dp_plan.proofs.ListWalks.{joins_more, joins_all, item_and_one, item_and_two}
