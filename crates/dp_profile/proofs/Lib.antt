@@ -1,3 +1,4 @@
+pub mod rows
 pub mod Digits
 pub mod WordLemmas
 pub mod ListWalks

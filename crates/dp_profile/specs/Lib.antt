@@ -7,3 +7,4 @@ pub mod LineWords
 pub mod Reading
 pub mod Ending
 pub mod Lists
+pub mod Observed

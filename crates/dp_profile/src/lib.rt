@@ -3,7 +3,7 @@
 //! `specs/` says what a profile counts, and how profiles are written as a text.
 #![tactic(auto)]
 
-use dp_base::{NoMemory, Row, SiteId};
+use dp_base::{End, NoMemory, Row, SiteId};
 
 mod law;
 mod line;
@@ -23,6 +23,13 @@ pub use write::write_profile;
 #[derive(Drop)]
 pub struct Profile {
     pub regions: Row<RegionProfile>,
+}
+
+/// What a run showed, and how it ended.
+#[derive(Drop)]
+pub struct Observed {
+    pub profile: Profile,
+    pub end: End,
 }
 
 /// What was counted in one region.
