@@ -80,7 +80,7 @@ shown_case a b k c from to carried shown l true p q s r e h =
     let lt : 0 < shown = search rules in
     rw (← is) (record {
       are = ap (λ x. codes "flow" ∷ x ∷ b ∷ k ∷ c ∷ []) wa.is ∙ ap (λ x. codes "flow" ∷ decimal from ∷ x ∷ k ∷ c ∷ []) wb.is
-      ∙ ap (λ x. codes "flow" ∷ decimal from ∷ decimal to ∷ x ∷ c ∷ []) (kind_sound k carried s) ∙ ap (λ x. codes "flow" ∷ decimal from ∷ decimal to ∷ kind_word carried ∷ x ∷ []) wc.is;
+          ∙ ap (λ x. codes "flow" ∷ decimal from ∷ decimal to ∷ x ∷ c ∷ []) (kind_sound k carried s) ∙ ap (λ x. codes "flow" ∷ decimal from ∷ decimal to ∷ kind_word carried ∷ x ∷ []) wc.is;
       fits = (wa.small, wb.small, lt, wc.small);
     })
 shown_case a b k c from to carried shown l false p q s r e h = absurd (cc h)

@@ -43,7 +43,11 @@ fn number(most: u64, word: &[u8]) -> Option<u64>
     ensures value { result ≡ spec.number_upto most word.now }
     ensures within { IfSome result (λ n. n ≤ most) }
 {
-    if is_plain(word) { value(most, word) } else { None }
+    if is_plain(word) {
+        value(most, word)
+    } else {
+        None
+    }
 }
 
 /// A number of 32 bits.

@@ -68,11 +68,7 @@ fn put_head(out: &mut Row<u8>, number: u64) -> Result<(), NoMemory>
     out.push(b'\n')
 }
 
-fn put_counts(
-    out: &mut Row<u8>,
-    sites: &[RegionSite],
-    counts: &[SiteCount],
-) -> Result<(), NoMemory>
+fn put_counts(out: &mut Row<u8>, sites: &[RegionSite], counts: &[SiteCount]) -> Result<(), NoMemory>
     ensures { OnOk result (out.new ≡ out.old ++ text.runs_text sites.now counts.now) }
 {
     for (site, count) in sites.iter().zip(counts.iter()) {
