@@ -8,7 +8,8 @@ use Rattle.dp_plan.specs.Written.{has}
 use Rattle.dp_plan.proofs.LoadLemmas.{list_any-append, or-false}
 use Rattle.dp_profile.specs.declared.SiteCount.{SiteCount}
 use Rattle.dp_profile.specs.declared.Flow.{Flow}
-use Rattle.dp_depend.specs.Shown.{is_flow, is_frequent, same_kind}
+use Rattle.dp_profile.specs.Observed.{same_kind}
+use Rattle.dp_depend.specs.Shown.{is_flow, is_frequent}
 use Rattle.dp_depend.specs.Frequent.{key, HasFrequent, AreFrequent}
 
 abbrev bit : Bool → ℕ

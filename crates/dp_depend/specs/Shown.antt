@@ -7,6 +7,7 @@ use Rattle.dp_profile.specs.declared.Profile.{Profile}
 use Rattle.dp_profile.specs.declared.RegionProfile.{RegionProfile}
 use Rattle.dp_profile.specs.declared.SiteCount.{SiteCount}
 use Rattle.dp_profile.specs.declared.Flow.{Flow}
+use Rattle.dp_profile.specs.Observed.{same_kind}
 use Rattle.dp_depend.specs.Node.{Node}
 
 -- where nothing was counted
@@ -37,10 +38,6 @@ is_above rate runs shown = not (nat_le (shown * 1000) (rate * runs))
 -- the flow's loads are more than the rate allows
 abbrev pub is_frequent : List SiteCount → ℕ → ℕ → Flow → Bool
 is_frequent counts first rate f = is_above rate (count_of counts first f.to.0).runs f.shown
-
-abbrev pub same_kind : Bool → Bool → Bool
-same_kind true b = b
-same_kind false b = not b
 
 -- the flow is between these sites, and of this kind
 abbrev pub is_flow : ℕ → ℕ → Bool → Flow → Bool

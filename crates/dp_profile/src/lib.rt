@@ -1,12 +1,35 @@
 //! What a sequential run showed of a program's regions: how often each site ran, and which stores its loads read.
+//!
+//! `specs/` says what a profile counts, and how profiles are written as a text.
 #![tactic(auto)]
 
-use dp_base::{Row, SiteId};
+use dp_base::{End, NoMemory, Row, SiteId};
+
+mod law;
+mod line;
+mod number;
+mod read;
+mod reader;
+mod sites;
+mod text;
+mod words;
+mod write;
+
+pub use law::{read_profiles_fit, written_profiles_are_read};
+pub use read::read_profile;
+pub use write::write_profile;
 
 /// What was counted in one run, region by region.
 #[derive(Drop)]
 pub struct Profile {
     pub regions: Row<RegionProfile>,
+}
+
+/// What a run showed, and how it ended.
+#[derive(Drop)]
+pub struct Observed {
+    pub profile: Profile,
+    pub end: End,
 }
 
 /// What was counted in one region.
@@ -37,4 +60,24 @@ pub struct Flow {
     pub carried: bool,
     /// How many loads there were, at least one.
     pub shown: u64,
+}
+
+/// Why a text gives no profile.
+#[derive(Clone, Copy, Debug, PartialEq, Eq)]
+pub enum ProfileFail {
+    /// It isn't in the grammar: the first line, from 1, up to which no text of the grammar begins so.
+    Refused { line: u64 },
+    /// Memory was wanting.
+    NoMemory,
+}
+
+impl From<NoMemory> for ProfileFail {
+    ghost use Rattle.std.specs.Prelude.{◌≡◌};
+    ghost use Rattle.dp_profile.specs.declared.ProfileFail.TheVariants.{NoMemory};
+
+    ghost from_gives = { λ _ fail. fail ≡ NoMemory };
+
+    fn from(_wanting: NoMemory) -> ProfileFail {
+        ProfileFail::NoMemory
+    }
 }

@@ -1,5 +1,5 @@
 -- More programs, and profiles.
-use Rattle.std.proofs.Common.{ℕ, Bool, true, false, List, [], ◌∷◌, pos}
+use Rattle.std.proofs.Common.{ℕ, [], ◌∷◌, pos}
 use Rattle.dp_base.specs.declared.BinOp.TheVariants as op
 use Rattle.dp_tree.specs.declared.SiteKind.TheVariants.{Assign, While, Break}
 use Rattle.dp_tree.specs.declared.VarScope.TheVariants.{Global, Outer, Body}
@@ -9,9 +9,7 @@ use Rattle.dp_tree.specs.declared.Expr.TheVariants as tree
 use Rattle.dp_tree.specs.declared.Stmt.TheVariants as stmt
 use Rattle.dp_tree.proofs.Build.{array, at, bin, num, one_region, program, region, scalar, set, set_at, site, var}
 use Rattle.dp_tree.proofs.Programs.{add}
-use Rattle.dp_profile.specs.declared.Profile.{Profile}
-use Rattle.dp_profile.specs.declared.SiteCount.{SiteCount}
-use Rattle.dp_profile.specs.declared.Flow.{Flow}
+pub use Rattle.dp_profile.proofs.rows.Profiles.{count, flow, profile, sum_loop_shown, skip_negative_shown}
 
 -- 1  int n;
 -- 4    for (int i = 0; i < input_len; i = i + 1) {
@@ -75,22 +73,3 @@ generated = program
     (set 1 2 (num 0) ∷ region 1 2 (bin op.Lt (var 2) tree.InputLen)
     (set 3 3 (tree.Input (var 2)) ∷ set 4 2 (add (var 2) (num 1)) ∷ set 5 4 (bin op.Rem (var 3) (num 16)) ∷ set 6 5 (mixed 4) ∷ set 7 6 (mixed 5) ∷ set 8 7 (mixed 6) ∷ set 9 8 (mixed 7)
     ∷ set_at 10 0 (var 8) (add (at 0 (var 8)) (num 1)) ∷ set 11 1 (add (var 1) (var 8)) ∷ []) ∷ [])
-
-abbrev count : ℕ → ℕ → SiteCount
-count runs nonzero = record { runs = runs; nonzero = nonzero }
-
-abbrev flow : ℕ → ℕ → Bool → ℕ → Flow
-flow from to carried shown = record { from = record { 0 = from }; to = record { 0 = to }; carried = carried; shown = shown }
-
-abbrev profile : List SiteCount → List Flow → Profile
-profile sites flows = record { regions = record { sites = sites; flows = flows } ∷ [] }
-
--- what a run of `sum_loop` shows
-abbrev pub sum_loop_shown : Profile
-sum_loop_shown = profile (count 4 3 ∷ count 3 0 ∷ count 3 0 ∷ count 3 0 ∷ [])
-    (flow 3 3 true 2 ∷ flow 3 4 false 3 ∷ flow 5 2 true 3 ∷ flow 5 3 true 2 ∷ flow 5 5 true 2 ∷ [])
-
--- what a run of `skip_negative` with the input 5 6 7 shows
-abbrev pub skip_negative_shown : Profile
-skip_negative_shown = profile (count 4 3 ∷ count 3 0 ∷ count 3 0 ∷ count 0 0 ∷ count 3 0 ∷ count 3 0 ∷ [])
-    (flow 3 4 false 3 ∷ flow 3 7 false 3 ∷ flow 6 2 true 3 ∷ flow 6 3 true 2 ∷ flow 6 6 true 2 ∷ flow 7 7 true 2 ∷ [])

@@ -1,4 +1,4 @@
-use Rattle.std.proofs.Common.{◌≡◌, ◌+◌, ◌<◌, ◌++◌, sym, ap, ◌∙◌, arith, ℕ, List, Bool, length, drop}
+use Rattle.std.proofs.Common.{◌+◌, ◌<◌, ◌++◌, sym, ap, ◌∙◌, arith, ℕ, List, Bool, length, drop}
 use Rattle.std.proofs.lemmas.List.{at_drop_all}
 use Rattle.dp_plan.proofs.ListWalks.{joins_more, joins_all}
 use Rattle.dp_depend.specs.Node.{Node}

@@ -1,0 +1,51 @@
+-- A text is that of one profile, so what is written of a profile that fits is read back as this one and nothing else.
+use Rattle.std.proofs.Common.{◌≡◌, inl, inr, refl, sym, ap, subst, ◌∙◌, ℕ, ◌<◌, ◌≤◌, ◌^◌, List, length, take, drop, Some, Ok, Err}
+use Rattle.std.proofs.lemmas.List.{take-append-drop}
+use Rattle.dp_tree.specs.declared.Program.{Program}
+use Rattle.dp_tree.specs.Inlined.{IsInlined}
+use Rattle.dp_plan.specs.PlanText.{Each, lines_of}
+use Rattle.dp_profile.specs.declared.Profile.{Profile}
+use Rattle.dp_profile.specs.declared.ProfileFail.TheVariants.{Refused, NoMemory}
+use Rattle.dp_profile.specs.declared.reader.Reader.{Reader}
+use Rattle.dp_profile.specs.Sites.{regions}
+use Rattle.dp_profile.specs.ProfileText.{ProfileFits, ProfileLines, ProfileText, profile_lines}
+use Rattle.dp_profile.specs.Refused.{Begins, IsRefused, ReadsOnly, at_line, at_end}
+use Rattle.dp_profile.specs.WrittenText.{profile_text}
+use Rattle.dp_profile.proofs.KnownSites.{few_regions, small_sites}
+use Rattle.dp_profile.proofs.LineComplete.{top}
+use Rattle.dp_profile.proofs.RunComplete.{over}
+use Rattle.dp_profile.proofs.RunEnds.{SmallSite, whole_fits}
+use Rattle.dp_profile.proofs.TextLemmas.{text_runs}
+use Rattle.dp_profile.proofs.WholeLines.{lines_whole}
+
+module _ (p : Program) (few : length (regions p) ≤ top) (small : Each (Each SmallSite) (regions p)) (bytes : List ℕ) where
+  one_profile : (profile other : Profile) → ProfileText p bytes profile → ProfileText p bytes other → other ≡ profile
+  one_profile profile other s t =
+      let same : Some (over profile.regions) ≡ Some (over other.regions) = sym (text_runs p few small (lines_of bytes) profile s) ∙ text_runs p few small (lines_of bytes) other t in
+      let ends : over profile.regions ≡ over other.regions = cc same in
+      sym (ap (λ (r : Reader). record { regions = r.done }) ends)
+
+  text_begins : (profile : Profile) (line : ℕ) → ProfileText p bytes profile → Begins p (take line (lines_of bytes))
+  text_begins profile line t = (drop line (lines_of bytes), profile, subst (λ (ls : List (List ℕ)). ProfileLines p ls profile) (sym (take-append-drop line (lines_of bytes))) t)
+
+  unrefused : (profile : Profile) (line : ℕ) → ProfileText p bytes profile → IsRefused p bytes line → ⊥
+  unrefused profile _ t (at_line line low high before here) = here (text_begins profile line t)
+  unrefused profile _ t (at_end line is before none) = none profile t
+
+  pub read_only : (profile : Profile) → ProfileText p bytes profile → ReadsOnly p bytes profile
+  read_only profile s (Ok other) t = inl (ap (λ (q : Profile). Ok q) (one_profile profile other s t))
+  read_only profile s (Err (Refused line)) t = absurd (unrefused profile line s t)
+  read_only profile s (Err NoMemory) t = inr refl
+
+module _ (p : Program) (inlined : IsInlined p) (small : length p.sites < 2 ^ 32) where
+  pub read_back : (profile : Profile) → ProfileFits p profile → ProfileText p (profile_text p profile) profile
+  read_back profile fits = record {
+    lines_are = lines_whole (profile_lines p profile) (whole_fits (regions p) profile.regions (few_regions p inlined small) (small_sites p inlined small) fits);
+    fits = fits;
+  }
+
+  pub read_back_only : (profile : Profile) → ProfileFits p profile → ReadsOnly p (profile_text p profile) profile
+  read_back_only profile fits = read_only p (few_regions p inlined small) (small_sites p inlined small) (profile_text p profile) profile (read_back profile fits)
+
+pub read_fits : (p : Program) (bytes : List ℕ) (profile : Profile) → ProfileText p bytes profile → ProfileFits p profile
+read_fits p bytes profile t = t.fits

@@ -1,0 +1,11 @@
+use Rattle.std.proofs.Common.{◌++◌, List, ℕ, ap, ◌∙◌, codes}
+use Rattle.std.proofs.lemmas.Result.{on_ok_weaker}
+use Rattle.dp_profile.proofs.WriteLemmas.{one_number, region_line}
+use Rattle.dp_profile.proofs.write.put_head.Goals as goal
+
+pub returns : goal.returns
+returns c =
+    on_ok_weaker c.push.result
+    (λ e. one_number c.args.out.now _ _ (codes "region ") c.args.number c.in_ok-put_labelled.ensures e
+    ∙ ap (λ (l : List ℕ). c.args.out.now ++ l) (region_line c.args.number))
+    c.push.ensures.ok

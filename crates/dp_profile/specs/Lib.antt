@@ -1,0 +1,10 @@
+pub mod Sites
+pub mod ProfileText
+pub mod Refused
+pub mod WrittenText
+pub mod Numbers
+pub mod LineWords
+pub mod Reading
+pub mod Ending
+pub mod Lists
+pub mod Observed
