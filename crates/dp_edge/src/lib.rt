@@ -4,6 +4,7 @@
 
 mod file_shelf;
 mod gate;
+mod hold_gate;
 mod input;
 mod mem_shelf;
 mod mem_sink;
@@ -13,6 +14,7 @@ mod sink;
 
 pub use file_shelf::FileShelf;
 pub use gate::{Gate, OpenGate};
+pub use hold_gate::HoldGate;
 pub use input::{InputFail, read_input};
 pub use mem_shelf::{Held, MemShelf};
 pub use mem_sink::MemSink;

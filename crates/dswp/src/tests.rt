@@ -15,6 +15,7 @@ mod library;
 mod limits;
 mod loops;
 mod names;
+mod overlap;
 mod pipelines;
 mod plan_rules;
 mod plan_texts;
@@ -26,7 +27,7 @@ ghost use Rattle.std.specs.Prelude.{◌≡◌, IfOk};
 
 use crate::answer::drive;
 use dp_base::{NoMemory, Row};
-use dp_edge::{Held, MemShelf, MemSink, OpenGate};
+use dp_edge::{Gate, Held, MemShelf, MemSink, OpenGate};
 use dp_run::Tally;
 use library::LIBRARY;
 use std::alloc::Global;
@@ -103,14 +104,25 @@ fn answer_to<R: Abort + Threads + Wait + Sync>(
     failing: &[u64],
     room: Option<u64>,
 ) -> Result<Answered, NoMemory> {
+    answer_at(rt, alloc, words, held, failing, room, &OpenGate)
+}
+
+/// .. where the stages pass this gate.
+fn answer_at<R: Abort + Threads + Wait + Sync, G: Gate>(
+    rt: &R,
+    alloc: Global,
+    words: &str,
+    held: &[Named],
+    failing: &[u64],
+    room: Option<u64>,
+    gate: &G,
+) -> Result<Answered, NoMemory> {
     let list = words_of(alloc, words)?;
     let mut shelf = shelf_of(alloc, held, failing)?;
     let mut sink = MemSink::new(alloc, room);
     let mut tally = Tally::new();
     let words = list.as_slice();
-    let status = drive(
-        rt, alloc, words, &mut shelf, &mut sink, &OpenGate, &mut tally,
-    );
+    let status = drive(rt, alloc, words, &mut shelf, &mut sink, gate, &mut tally);
     let committed = tally.count();
     Ok(Answered {
         status,

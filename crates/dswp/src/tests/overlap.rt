@@ -1,0 +1,35 @@
+//! Stages and workers overlap in time: one is held until another has come.
+use super::answer_at;
+use dp_edge::HoldGate;
+use std::test::Fail;
+
+/// The stage and the iteration that are awaited while stage 2 is held in iteration 0, for how many turns, with how many
+/// workers, and whether they come.
+const AWAITED: [((u32, u64), u64, &str, bool); 4] = [
+    ((1, 1), 1_000_000, "1", true),
+    ((1, 1), 1_000_000, "2", true),
+    ((2, 1), 1_000_000, "2", true),
+    ((2, 1), 1_000, "1", false),
+];
+
+#[test]
+fn one_stage_waits_for_another(rt: HostRuntime) -> Result<(), Fail> {
+    let plan = b"plan 1\nregion 1 words 4096\nseq 2 3 4\npar 5\nseq 6\nend\n";
+    let held = [
+        ("in.txt", b"0 1 2 3 4 5 6".as_slice()),
+        ("plan.txt", plan.as_slice()),
+    ];
+    for (awaited, turns, workers, comes) in AWAITED {
+        let gate = HoldGate::new((2, 0), awaited, turns);
+        let words = format!(in rt.alloc();
+            "run histogram.c in.txt --plan plan.txt --lane 1 --workers {workers}"
+        )?;
+        let answered = answer_at(&rt, rt.alloc(), &words, &held, &[], None, &gate)?;
+        assert_eq!(&rt;
+            answered.text(),
+            "state\nh 2 2 1 2\nregion 1 iterations 8 recovered 0\nend done\n"
+        );
+        assert_eq!(&rt; gate.came(), comes, "{workers} workers");
+    }
+    Ok(())
+}
