@@ -61,7 +61,11 @@ fn plan_options<'w>(matches: &ArgMatches<'w>) -> Option<PlanOptions>
     let rate = small_number(matches.get_str("rate"), DEFAULT_RATE)?;
     let stages = small_number(matches.get_str("stages"), DEFAULT_STAGES)?;
     let workers = small_number(matches.get_str("workers"), DEFAULT_WORKERS)?;
-    Some(PlanOptions { rate, stages, workers })
+    Some(PlanOptions {
+        rate,
+        stages,
+        workers,
+    })
 }
 
 /// The number that an option gives, or its default.
