@@ -5,16 +5,15 @@ use Rattle.dp_plan.specs.declared.Plan.{Plan}
 use Rattle.dp_plan.specs.GivenPlans.{region_of}
 use Rattle.dp_plan.specs.PlanText.{Each}
 use Rattle.dp_profile.specs.declared.Profile.{Profile}
-use Rattle.dp_depend.specs.Edges.{chosen_of, edges_of, first_of}
+use Rattle.dp_depend.specs.Edges.{chosen_of, edges_of}
 use Rattle.dp_depend.specs.Node.{region_nodes}
-use Rattle.dp_units.specs.Order.{ArePlaces, IsOrder}
+use Rattle.dp_units.specs.Order.{ArePlaces}
 use Rattle.dp_units.proofs.OrderOnce.{one_order, same_places}
 use Rattle.dp_cut.specs.declared.Stretch.{Stretch}
-use Rattle.dp_cut.specs.Allowed.{bottleneck}
 use Rattle.dp_cut.specs.Automatic.{AreAutomatic, IsAutomatic, node_pairs, weights_of}
 use Rattle.dp_cut.specs.LeastCut.{IsLeastCut}
 use Rattle.dp_cut.specs.LeastPlan.{IsLeastPlan, plan_of_cut}
-use Rattle.dp_cut.specs.Order.{IsBefore, IsKindBefore, IsListBefore, kinds, places_from, replicated_count}
+use Rattle.dp_cut.specs.Order.{IsBefore, IsKindBefore, IsListBefore, kinds, places_from}
 use Rattle.dp_cut.specs.Order.IsBefore.{by_bottleneck, by_places, by_count, by_kinds}
 
 -- no list comes before another and behind it

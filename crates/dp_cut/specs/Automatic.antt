@@ -6,7 +6,6 @@ use Rattle.dp_plan.specs.declared.Plan.{Plan}
 use Rattle.dp_plan.specs.GivenPlans.{region_of}
 use Rattle.dp_plan.specs.PlanText.{Each}
 use Rattle.dp_profile.specs.declared.Profile.{Profile}
-use Rattle.dp_profile.specs.declared.SiteCount.{SiteCount}
 use Rattle.dp_depend.specs.declared.Edge.{Edge}
 use Rattle.dp_depend.specs.declared.nodes.Node.{Node}
 use Rattle.dp_depend.specs.Node.{region_nodes}

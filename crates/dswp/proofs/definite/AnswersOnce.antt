@@ -103,7 +103,7 @@ module _ (held : List ℕ → Option (List ℕ)) where
     nothing : AsksNothing words → answer ≡ refused Words → Way words answer
     a_run : (run : Run) (text : List ℕ) (x : Result Program Refusal) (input : Result (List ℤ) Refusal) (plans : Result (List Plan) Refusal) → Asks words run → held run.program ≡ Some text → Reads text x → InputFor x run input → PlansFor x input run plans →
         answer ≡ run_given run x input plans → Way words answer
-    plans : (planning : Planning) (text : List ℕ) (x : Result Program Refusal) (made : List Plan) → AsksPlans words planning → held planning.program ≡ Some text → Reads text x → MadeFor x planning.options made →
+    planned : (planning : Planning) (text : List ℕ) (x : Result Program Refusal) (made : List Plan) → AsksPlans words planning → held planning.program ≡ Some text → Reads text x → MadeFor x planning.options made →
         answer ≡ plans_given x made → Way words answer
     sites : (program text : List ℕ) (x : Result Program Refusal) → AsksSites words program → held program ≡ Some text → Reads text x → answer ≡ sites_given x → Way words answer
 
@@ -113,8 +113,8 @@ module _ (held : List ℕ → Option (List ℕ)) where
   way (InputRefused run text p refusal asks h r i) = a_run run text (Ok p) (Err refusal) (Ok []) asks h r i tt refl
   way (PlansRefused run text p numbers refusal asks h r i l) = a_run run text (Ok p) (Ok numbers) (Err refusal) asks h r i l refl
   way (Ran run text p numbers plans asks h r i l) = a_run run text (Ok p) (Ok numbers) (Ok plans) asks h r i l refl
-  way (PlanningRefused planning text refusal asks h r) = plans planning text (Err refusal) [] asks h r tt refl
-  way (PlansWritten planning text p made asks h r m) = plans planning text (Ok p) made asks h r m refl
+  way (PlanningRefused planning text refusal asks h r) = planned planning text (Err refusal) [] asks h r tt refl
+  way (PlansWritten planning text p made asks h r m) = planned planning text (Ok p) made asks h r m refl
   way (SitesRefused program text refusal asks h r) = sites program text (Err refusal) asks h r refl
   way (SitesListed program text p asks h r) = sites program text (Ok p) asks h r refl
 
@@ -150,7 +150,7 @@ module _ (held : List ℕ → Option (List ℕ)) where
   ways_once : {words : List (List ℕ)} {a b : ℕ × List ℕ} → Way words a → Way words b → a ≡ b
   ways_once (nothing n e) (nothing m f) = e ∙ sym f
   ways_once (nothing n e) (a_run run text x i l asks h r g u f) = absurd (n.no_run run asks)
-  ways_once (nothing n e) (plans planning text x made asks h r g f) = absurd (n.no_plans planning asks)
+  ways_once (nothing n e) (planned planning text x made asks h r g f) = absurd (n.no_plans planning asks)
   ways_once (nothing n e) (sites program text x asks h r f) = absurd (n.no_sites program asks)
   ways_once (a_run run text x i l asks h r g u e) (nothing m f) = absurd (m.no_run run asks)
   ways_once (a_run run text x i l asks h r g u e) (a_run other more y j n asked k s o v f) =
@@ -158,17 +158,17 @@ module _ (held : List ℕ → Option (List ℕ)) where
       let back : other ≡ run = sym one in
       e ∙ same_run run text x y i j l n r (read_once (ap (λ (z : Run). z.program) one) h k r s) g (subst (λ (z : Run). InputFor y z j) back o) u (subst (λ (z : Run). PlansFor y j z n) back v)
       ∙ ap (λ (z : Run). run_given z y j n) one ∙ sym f
-  ways_once (a_run run text x i l asks h r g u e) (plans planning more y made asked k s o f) = not_run_and_plans asks asked
+  ways_once (a_run run text x i l asks h r g u e) (planned planning more y made asked k s o f) = not_run_and_plans asks asked
   ways_once (a_run run text x i l asks h r g u e) (sites program more y asked k s f) = not_run_and_sites asks asked
-  ways_once (plans planning text x made asks h r g e) (nothing m f) = absurd (m.no_plans planning asks)
-  ways_once (plans planning text x made asks h r g e) (a_run other more y j n asked k s o v f) = not_run_and_plans asked asks
-  ways_once (plans planning text x made asks h r g e) (plans other more y others asked k s o f) =
+  ways_once (planned planning text x made asks h r g e) (nothing m f) = absurd (m.no_plans planning asks)
+  ways_once (planned planning text x made asks h r g e) (a_run other more y j n asked k s o v f) = not_run_and_plans asked asks
+  ways_once (planned planning text x made asks h r g e) (planned other more y others asked k s o f) =
       let one = planning_once asks asked in
       e ∙ same_made planning.options x y made others (read_once (ap (λ (z : Planning). z.program) one) h k r s) g (subst (λ (z : Planning). MadeFor y z.options others) (sym one) o) ∙ sym f
-  ways_once (plans planning text x made asks h r g e) (sites program more y asked k s f) = not_plans_and_sites asks asked
+  ways_once (planned planning text x made asks h r g e) (sites program more y asked k s f) = not_plans_and_sites asks asked
   ways_once (sites program text x asks h r e) (nothing m f) = absurd (m.no_sites program asks)
   ways_once (sites program text x asks h r e) (a_run other more y j n asked k s o v f) = not_run_and_sites asked asks
-  ways_once (sites program text x asks h r e) (plans planning more y made asked k s o f) = not_plans_and_sites asked asks
+  ways_once (sites program text x asks h r e) (planned planning more y made asked k s o f) = not_plans_and_sites asked asks
   ways_once (sites program text x asks h r e) (sites other more y asked k s f) =
       e ∙ ap sites_given (read_once (sites_once asks asked) h k r s) ∙ sym f
 

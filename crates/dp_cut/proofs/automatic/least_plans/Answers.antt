@@ -1,4 +1,4 @@
-use Rattle.std.proofs.Common.{◌≡◌, ◌+◌, ◌<◌, ◌≤◌, ℕ, List, length, sym, subst, arith}
+use Rattle.std.proofs.Common.{◌+◌, ◌<◌, ◌≤◌, ℕ, List, length, sym, subst, arith}
 use Rattle.std.specs.Option.{option_copied}
 use Rattle.dp_plan.specs.declared.Plan.{Plan}
 use Rattle.dp_cut.specs.Automatic.{IsAutomatic}
