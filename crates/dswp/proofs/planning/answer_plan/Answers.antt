@@ -11,8 +11,8 @@ automatic_plans-requires-clause-inlined g c = loaded_inlined _ _ _ (given _ _ _ 
 pub automatic_plans-requires-clause-sites : goal.automatic_plans-requires-clause-sites
 automatic_plans-requires-clause-sites g c = loaded_few _ _ _ (given _ _ _ (c.in_ok-program.was ∙ ap Ok c.in-Text.is) (program_gives _ _ _ _ _ _ _ c.load_program.ensures.loads c.load_program.ensures.faults c.load_program.ensures.failed_names)).0
 
-pub returns-in-Text-clause-carried : goal.returns-in-Text-clause-carried
-returns-in-Text-clause-carried g c words asks =
+pub returns-in_ok-plans-in-Text-clause-carried : goal.returns-in_ok-plans-in-Text-clause-carried
+returns-in_ok-plans-in-Text-clause-carried g c words asks =
     carry_plans _ _ _ _ _ _ _ _ _ _ _ _ asks (given _ _ _ (c.in_ok-program.was ∙ ap Ok c.in-Text.is) (program_gives _ _ _ _ _ _ _ c.load_program.ensures.loads c.load_program.ensures.faults c.load_program.ensures.failed_names)) c.in_ok-plans.ensures.made c.list_plans.ensures.finishes
 
 pub returns-in-Refused-clause-carried : goal.returns-in-Refused-clause-carried
