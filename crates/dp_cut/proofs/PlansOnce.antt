@@ -76,8 +76,8 @@ module _ (p : Program) (profile : Option Profile) (rate most workers : ℕ) wher
       let placed : ArePlaces count pairs x.order y.places = subst (λ (order : List ℕ). ArePlaces count pairs order y.places) orders y.placed in
       let places : y.places ≡ x.places = same_places count pairs x.order y.places x.places x.ordered placed x.placed in
       let moved : IsLeastPlan p r (edges_of p r profile rate) (chosen_of p r profile rate) x.order x.places (weights_of p r profile) most workers b =
-          subst (λ (ps : List ℕ). IsLeastPlan p r (edges_of p r profile rate) (chosen_of p r profile rate) x.order ps (weights_of p r profile) most workers b) places
-          (subst (λ (order : List ℕ). IsLeastPlan p r (edges_of p r profile rate) (chosen_of p r profile rate) order y.places (weights_of p r profile) most workers b) orders y.least) in
+      subst (λ (ps : List ℕ). IsLeastPlan p r (edges_of p r profile rate) (chosen_of p r profile rate) x.order ps (weights_of p r profile) most workers b) places
+      (subst (λ (order : List ℕ). IsLeastPlan p r (edges_of p r profile rate) (chosen_of p r profile rate) order y.places (weights_of p r profile) most workers b) orders y.least) in
       x.least.is ∙ ap (plan_of_cut p r x.places (chosen_of p r profile rate)) (one_cut _ workers _ most x.least.cut moved.cut x.least.least moved.least) ∙ sym moved.is
 
   one_list : (a b : List Plan) → map region_of a ≡ map region_of b → Each (λ (plan : Plan). IsAutomatic p plan.region profile rate most workers plan) a → Each (λ (plan : Plan). IsAutomatic p plan.region profile rate most workers plan) b → a ≡ b

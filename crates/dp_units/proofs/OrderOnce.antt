@@ -67,5 +67,5 @@ module _ (n : ℕ) (edges : List (ℕ × ℕ)) where
   same_places order a b ordered x y =
       same_number_lists a b (x.each ∙ sym y.each)
       (λ k h.
-        let low : k < n = subst (λ (m : ℕ). k < m) x.each h in
-        one_place order ordered (slice_index a k) (slice_index b k) k (x.within k low) (y.within k low) (x.same k low) (y.same k low))
+      let low : k < n = subst (λ (m : ℕ). k < m) x.each h in
+      one_place order ordered (slice_index a k) (slice_index b k) k (x.within k low) (y.within k low) (x.same k low) (y.same k low))

@@ -1,5 +1,5 @@
 -- From the parts of the program to the headline.
-use Rattle.std.proofs.Common.{◌≡◌, refl, sym, ◌∙◌, ap, subst, arith, inl, inr, Bool, Some, ℕ, ◌<◌, ◌≤◌, List, Option, ℤ, Result, Ok, Err, IfOk, OnOk, None, codes, ◌≢◌, ◌+◌, ◌∷◌, [], ◌++◌, option_map}
+use Rattle.std.proofs.Common.{◌≡◌, refl, sym, ◌∙◌, ap, subst, arith, inl, inr, Bool, Some, ℕ, ◌<◌, ◌≤◌, List, Option, ℤ, Result, Ok, Err, IfOk, OnOk, None, ◌≢◌, ◌+◌, ◌∷◌, [], ◌++◌, option_map}
 use Rattle.dp_tree.specs.declared.Program.{Program}
 use Rattle.dp_tree.specs.Checked.{IsChecked}
 use Rattle.dp_calls.specs.Frames.{outcome}

@@ -1,5 +1,5 @@
 -- What the texts of a run give, from what each of them was loaded as.
-use Rattle.std.proofs.Common.{◌≡◌, refl, sym, ◌∙◌, ap, subst, ℕ, ◌<◌, List, [], Option, Some, None, ℤ, Result, Ok, Err, IfOk}
+use Rattle.std.proofs.Common.{◌≡◌, refl, sym, ◌∙◌, ap, subst, ℕ, ◌<◌, List, Some, None, ℤ, Result, Ok, Err, IfOk}
 use Rattle.std.specs.Result.{OnErr}
 use Rattle.std.specs.Option.{option_map}
 use Rattle.dp_base.specs.declared.NoMemory.{NoMemory}
@@ -13,9 +13,8 @@ use Rattle.dswp.specs.declared.refusal.Role.TheVariants as role
 use Rattle.dswp.specs.declared.refusal.Refusal.{Refusal}
 use Rattle.dswp.specs.declared.load.Loaded.{Loaded}
 use Rattle.dswp.specs.declared.load.Loaded.TheVariants.{Text, Refused, Failed}
-use Rattle.dswp.specs.declared.texts.Texts.{Texts}
 use Rattle.dswp.specs.declared.texts.Texts.TheVariants as texts
-use Rattle.dswp.specs.Answer.{Contents, ReadsInput, Input, Unnamed, Named, Plans, Planned}
+use Rattle.dswp.specs.Answer.{Contents, ReadsInput, Input, Named, Plans, Planned}
 use Rattle.dswp.specs.Program.{expanded}
 use Rattle.dswp.specs.Loading.{ReadsProgram, LoadsProgram, LoadsPlans, Loads, FaultsAfterLoad, names_after, Gives}
 use Rattle.dswp.specs.Carried.{Names, with_name, LoadsTexts, Loaded as LoadedTexts, ProgramRefused, InputRefused, PlansRefused, ProgramFailed, InputFailed, PlansFailed}

@@ -9,7 +9,6 @@ use Rattle.dp_edge.specs.Input.{number_before, number_of, numbers_from, numbers_
 use Rattle.dswp.specs.declared.refusal.Refusal.TheVariants.{Limit}
 use Rattle.dp_tree.specs.declared.Program.{Program}
 use Rattle.dp_tree.specs.Inlined.{IsInlined}
-use Rattle.dp_calls.specs.Expand.{expand}
 use Rattle.dp_calls.proofs.InlinedLaws.{expanded_is_inlined}
 use Rattle.dp_plan.specs.declared.Plan.{Plan}
 use Rattle.dp_plan.specs.GivenPlans.{ArePlans}

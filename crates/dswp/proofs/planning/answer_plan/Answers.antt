@@ -13,7 +13,7 @@ automatic_plans-requires-clause-sites g c = loaded_few _ _ _ (given _ _ _ (c.in_
 
 pub returns-in_ok-plans-in-Text-clause-carried : goal.returns-in_ok-plans-in-Text-clause-carried
 returns-in_ok-plans-in-Text-clause-carried g c words asks =
-    carry_plans _ _ _ _ _ _ _ _ _ _ _ _ asks (given _ _ _ (c.in_ok-program.was ∙ ap Ok c.in-Text.is) (program_gives _ _ _ _ _ _ _ c.load_program.ensures.loads c.load_program.ensures.faults c.load_program.ensures.failed_names)) c.in_ok-plans.ensures.made c.list_plans.ensures.finishes
+    carry_plans _ _ _ _ _ _ _ _ _ _ _ _ asks (given _ _ _ (c.in_ok-program.was ∙ ap Ok c.in-Text.is) (program_gives _ _ _ _ _ _ _ c.load_program.ensures.loads c.load_program.ensures.faults c.load_program.ensures.failed_names)) c.in_ok-plans-in-Text.ensures.made c.list_plans.ensures.finishes
 
 pub returns-in-Refused-clause-carried : goal.returns-in-Refused-clause-carried
 returns-in-Refused-clause-carried g c words asks =
