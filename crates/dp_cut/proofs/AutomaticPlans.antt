@@ -1,5 +1,5 @@
 -- Plans that are made region by region.
-use Rattle.std.proofs.Common.{◌≡◌, refl, sym, ap, subst, ◌∙◌, ℕ, zero, suc, ◌+◌, ◌-◌, ◌<◌, ◌≤◌, ◌^◌, Bool, true, List, [], ◌∷◌, ◌++◌, map, length, sum, drop, drop-cons, get_or, Option, arith}
+use Rattle.std.proofs.Common.{◌≡◌, refl, sym, ap, subst, ◌∙◌, ℕ, zero, suc, ◌+◌, ◌<◌, ◌≤◌, Bool, true, List, [], ◌∷◌, ◌++◌, map, length, sum, drop, drop-cons, get_or, Option, arith}
 use Rattle.std.proofs.lemmas.List.{map-append}
 use Rattle.std.proofs.lemmas.List.Sums.{sum_by-cons}
 use Rattle.dp_tree.specs.declared.Program.{Program}
@@ -35,7 +35,7 @@ module _ (p : Program) (profile : Option Profile) (rate most workers : ℕ) wher
     pub regions : map region_of plans ≡ numbers_from 1 count
     pub each : Each (IsPlan p) plans
     pub version : Each (HasVersion true) plans
-    pub least : AreAutomatic p profile rate most workers plans
+    pub least : Each (λ (plan : Plan). IsAutomatic p plan.region profile rate most workers plan) plans
 
   pub made_none : Made 0 []
   made_none = record { within = omega arith; regions = refl; each = tt; version = tt; least = tt }
@@ -61,6 +61,11 @@ pub made_plans : (p : Program) (profile : Option Profile) (rate most workers cou
 made_plans p profile rate most workers count plans all made =
     let whole : count ≡ length p.regions = omega (arith, all, made.within) in
     record { regions = made.regions ∙ ap (numbers_from 1) whole; each = made.each; version = one_version plans made.version }
+
+pub made_least : (p : Program) (profile : Option Profile) (rate most workers count : ℕ) (plans : List Plan) → length p.regions ≤ count → Made p profile rate most workers count plans → AreAutomatic p profile rate most workers plans
+made_least p profile rate most workers count plans all made =
+    let whole : count ≡ length p.regions = omega (arith, all, made.within) in
+    record { regions = made.regions ∙ ap (numbers_from 1) whole; each = made.least }
 
 pub automatic_made : (p : Program) (r : ℕ) (profile : Option Profile) (rate most workers : ℕ) (plan : Plan) (order places weights : List ℕ) (count : ℕ) (pairs : List (ℕ × ℕ)) (edges : List Edge) (chosen : List Assume)
     → count ≡ length (region_nodes p r) → pairs ≡ node_pairs p r profile rate → weights ≡ weights_of p r profile → edges ≡ edges_of p r profile rate → chosen ≡ chosen_of p r profile rate

@@ -1,3 +1,4 @@
+pub mod PlansOnce
 pub mod AutomaticPlans
 pub mod StageFacts
 pub mod SumLemmas

@@ -1,10 +1,11 @@
 -- The automatic plan of a region: the least plan of the units of its dependences.
 use Rattle.std.specs.Prelude.{ℕ, ◌-◌, ◌≡◌, List, map, length, Option, Some, None}
 use Rattle.dp_tree.specs.declared.Program.{Program}
+use Rattle.dp_tree.specs.Numbering.{numbers_from}
 use Rattle.dp_plan.specs.declared.Plan.{Plan}
+use Rattle.dp_plan.specs.GivenPlans.{region_of}
 use Rattle.dp_plan.specs.PlanText.{Each}
 use Rattle.dp_profile.specs.declared.Profile.{Profile}
-use Rattle.dp_profile.specs.declared.SiteCount.{SiteCount}
 use Rattle.dp_depend.specs.declared.Edge.{Edge}
 use Rattle.dp_depend.specs.declared.nodes.Node.{Node}
 use Rattle.dp_depend.specs.Node.{region_nodes}
@@ -38,6 +39,7 @@ pub record IsAutomatic (p : Program) (r : ℕ) (profile : Option Profile) (rate 
   pub placed : ArePlaces (length (region_nodes p r)) (node_pairs p r profile rate) order places
   pub least : IsLeastPlan p r (edges_of p r profile rate) (chosen_of p r profile rate) order places (weights_of p r profile) most workers plan
 
--- each plan is the least of its region
-abbrev pub AreAutomatic : Program → Option Profile → ℕ → ℕ → ℕ → List Plan → Type 0
-AreAutomatic p profile rate most workers plans = Each (λ (plan : Plan). IsAutomatic p plan.region profile rate most workers plan) plans
+-- the plans are the least of each region, in order
+pub record AreAutomatic (p : Program) (profile : Option Profile) (rate most workers : ℕ) (plans : List Plan) : Type 0 where
+  pub regions : map region_of plans ≡ numbers_from 1 (length p.regions)
+  pub each : Each (λ (plan : Plan). IsAutomatic p plan.region profile rate most workers plan) plans

@@ -3,6 +3,7 @@
 
 mod automatic;
 mod bound;
+mod law;
 mod limits;
 mod needs;
 mod places;
@@ -13,6 +14,7 @@ mod sums;
 mod tests;
 
 pub use automatic::{Wishes, least_plans};
+pub use law::automatic_plans_are_one;
 pub use places::cut_units;
 pub use plan::cut;
 

@@ -1,5 +1,5 @@
 //! Laws of the order of units, as contracts of functions that do nothing.
-ghost use Rattle.std.specs.Prelude.{◌≡◌, ◌≤◌, ◌<◌, ℕ, length, slice_index};
+ghost use Rattle.std.specs.Prelude.{◌≡◌, ◌≤◌, ◌<◌, ℕ, List, length, slice_index};
 ghost use Rattle.dp_units.specs.Graph.{Walk};
 ghost use Rattle.dp_units.specs.Order.{IsOrder, ArePlaces};
 
@@ -29,4 +29,16 @@ pub fn what_leads_to_all_stands_first(count: u32, edges: &[(u32, u32)], units: &
     requires some { 0 < count }
     requires all { (b : ℕ) → b < count → Walk edges.now 0 b }
     ensures { slice_index units.now.place_of 0 ≡ 0 }
+{}
+
+/// The units of a graph have one order.
+#[tactic(auto, using(crate::proofs::OrderOnce::one_order))]
+pub fn units_have_one_order(count: u32, edges: &[(u32, u32)])
+    ensures { (order other : List ℕ) → IsOrder count edges.now order → IsOrder count edges.now other → order ≡ other }
+{}
+
+/// Each node has one place in the order.
+#[tactic(auto, using(crate::proofs::OrderOnce::same_places))]
+pub fn nodes_have_one_place(count: u32, edges: &[(u32, u32)])
+    ensures { (order places other : List ℕ) → IsOrder count edges.now order → ArePlaces count edges.now order places → ArePlaces count edges.now order other → places ≡ other }
 {}

@@ -12,5 +12,6 @@ mod tests;
 pub use build::units;
 pub use classes::Units;
 pub use laws::{
-    places_rise_along_walks, units_stand_at_their_places, what_leads_to_all_stands_first,
+    nodes_have_one_place, places_rise_along_walks, units_have_one_order,
+    units_stand_at_their_places, what_leads_to_all_stands_first,
 };

@@ -1,5 +1,5 @@
 mod PassLemmas
 mod RunLemmas
 mod SimpleRows
-mod VerbLemmas
+pub mod VerbLemmas
 mod rows

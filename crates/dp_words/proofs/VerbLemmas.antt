@@ -1,121 +1,123 @@
 -- What the words ask for, by their verb and the words behind it.
-use Rattle.std.proofs.Common.{◌≡◌, ◌∙◌, ap, sym, subst, arith, ℕ, List, ◌∷◌, length, map, Option, Some, None, IfSome, IfNone, String, string_bytes, codes}
+use Rattle.std.proofs.Common.{◌≡◌, ◌∙◌, ap, sym, subst, false, true, List, [], ◌∷◌, map, Option, Some, None, IfSome, IfNone, String, string_bytes, codes, refl}
 use Rattle.std.specs.Prelude.{IsSomeAnd, MatchOption}
 use Rattle.std.specs.Option.{option_map}
-use Rattle.std.specs.Borrow.{Bor}
+use Rattle.std.specs.Str.{bytes_eq}
 use Rattle.std.specs.declared.alloc.Global.{Global}
-use Rattle.clap.specs.Words.{Row, Text, first_of, first_value, found_of, matches_of, rows_of}
-use Rattle.clap.specs.declared.parser.matches.ArgMatches.{ArgMatches}
-use Rattle.clap.proofs.WalkLemmas.{first_value-rows}
-use Rattle.dp_words.specs.Words.{Asks, AsksFor, AsksNothing, AsksSites, IsTaken, NamesRun, NamesSites, Run, shown, ToCheck, ToRun, number_or, run_app}
-use Rattle.dp_words.specs.Reading.{ReadsRun}
-use Rattle.dp_words.specs.declared.task.RunWords.{RunWords}
+use Rattle.std.proofs.lemmas.Slice.Eq.{bytes_eq-Decides}
+use Rattle.clap.specs.Words.{App, Text}
+use Rattle.dp_words.specs.Commands.{check_app, plan_app, run_app}
+use Rattle.dp_words.specs.Words.{Asks, AsksBy, AsksFor, AsksNothing, AsksPlans, AsksSites, Behind, Names, ShowsPlanning, ShowsRun, ShowsSites, Values}
 use Rattle.dp_words.specs.declared.task.Task.{Task}
-use Rattle.dp_words.specs.declared.task.Task.TheVariants as task
 
 abbrev texts : List (String Global) → List Text
 texts = map string_bytes
 
-words_at : (words rest : List (String Global)) (first : String Global) (verb expected : Text) → words ≡ first ∷ rest → verb ≡ string_bytes first → verb ≡ expected → texts words ≡ expected ∷ texts rest
-words_at words rest first verb expected e f g = ap texts e ∙ ap (λ x. x ∷ texts rest) (sym f ∙ g)
+pub apart : (a b : Text) → bytes_eq a b ≡ false → a ≡ b → ⊥
+apart a b f e =
+    let bad : false ≡ true = sym f ∙ (bytes_eq-Decides a b).1 e in
+    absurd (cc bad)
+
+abbrev first_word : List Text → Text
+first_word [] = []
+first_word (verb ∷ words) = verb
+
+-- the words behind the verb
+abbrev pub behind : List Text → List Text
+behind [] = []
+behind (verb ∷ words) = words
+
+words_at : (words rest : List (String Global)) (first : String Global) (given verb : Text) → words ≡ first ∷ rest → given ≡ string_bytes first → given ≡ verb → texts words ≡ verb ∷ texts rest
+words_at words rest first given verb e f g = ap texts e ∙ ap (λ x. x ∷ texts rest) (sym f ∙ g)
 
 -- the result is what was found, as a task
-abbrev pub IsMade : {X : Type 0} → (X → Task) → Option X → Option Task → Type 0
+abbrev pub IsMade : {N : Type 0} → (N → Task) → Option N → Option Task → Type 0
 IsMade make found result = MatchOption found (result ≡ None) (λ x. IsSomeAnd result (λ t. t ≡ make x))
 
-made_is : {X : Type 0} (make : X → Task) (found : Option X) (result : Option Task) → IsMade make found result → result ≡ option_map make found
+made_is : {N : Type 0} (make : N → Task) (found : Option N) (result : Option Task) → IsMade make found result → result ≡ option_map make found
 made_is make None result h = h
 made_is make (Some x) None h = absurd h
 made_is make (Some x) (Some t) h = ap Some h
 
-pub asks_run : (words rest : List (String Global)) (first : String Global) (verb : Text) (found : Option RunWords) (result : Option Task) → words ≡ first ∷ rest → verb ≡ string_bytes first → verb ≡ codes "run"
-    → IsMade task.Run found result → IfSome found (λ named. NamesRun (texts rest) (shown named)) → IfSome result (AsksFor (texts words))
-asks_run words rest first verb found result e f g made some = subst (λ (o : Option Task). IfSome o (AsksFor (texts words))) (sym (made_is task.Run found result made)) (go found some)
-  where
-    go : (o : Option RunWords) → IfSome o (λ named. NamesRun (texts rest) (shown named)) → IfSome (option_map task.Run o) (AsksFor (texts words))
-    go None h = tt
-    go (Some run) h = subst (λ (w : List Text). Asks w (shown run)) (sym (words_at words rest first verb (codes "run") e f g)) (ToRun (texts rest) (shown run) h)
+module _ {X : Type 0} (verb : Text) (app : App) (Shows : Values → X → Type 0) where
+  pub verb_is : {words : List Text} {x : X} → AsksBy verb app Shows words x → first_word words ≡ verb
+  verb_is (Behind words x h) = refl
 
-pub asks_sites : (words rest : List (String Global)) (first : String Global) (verb : Text) (found : Option (Bor Text)) (result : Option Task) → words ≡ first ∷ rest → verb ≡ string_bytes first → verb ≡ codes "check"
-    → IsMade task.Check found result → IfSome found (λ named. NamesSites (texts rest) named.now) → IfSome result (AsksFor (texts words))
-asks_sites words rest first verb found result e f g made some = subst (λ (o : Option Task). IfSome o (AsksFor (texts words))) (sym (made_is task.Check found result made)) (go found some)
-  where
-    go : (o : Option (Bor Text)) → IfSome o (λ named. NamesSites (texts rest) named.now) → IfSome (option_map task.Check o) (AsksFor (texts words))
-    go None h = tt
-    go (Some program) h = subst (λ (w : List Text). AsksSites w program.now) (sym (words_at words rest first verb (codes "check") e f g)) (ToCheck (texts rest) program.now h)
+  pub named_behind : {words : List Text} {x : X} → AsksBy verb app Shows words x → Names app Shows (behind words) x
+  named_behind (Behind words x h) = h
 
-no_other_run : (words rest : List Text) (run : Run) → words ≡ codes "run" ∷ rest → ¬ NamesRun rest run → Asks words run → ⊥
-no_other_run words rest run e none (ToRun own r h) =
-    let same : own ≡ rest = cc e in
-    none (subst (λ (w : List Text). NamesRun w run) same h)
+  -- words with another verb
+  pub not_by : (words : List Text) (other : Text) → first_word words ≡ other → (other ≡ verb → ⊥) → (x : X) → AsksBy verb app Shows words x → ⊥
+  not_by words other e different x h = different (sym e ∙ verb_is h)
 
-no_run_by_check : (words rest : List Text) (run : Run) → words ≡ codes "check" ∷ rest → Asks words run → ⊥
-no_run_by_check words rest run e (ToRun own r h) =
-    let same : codes "run" ≡ codes "check" = cc e in
-    let bad : 3 ≡ 5 = ap length same in
-    absurd (omega (arith, bad))
+  module _ {N : Type 0} (make : N → Task) (words rest : List (String Global)) (first : String Global) (given : Text) (is : words ≡ first ∷ rest) (text : given ≡ string_bytes first) (same : given ≡ verb)
+      (found : Option N) (result : Option Task) (made : IsMade make found result) where
+    shape : texts words ≡ verb ∷ texts rest
+    shape = words_at words rest first given verb is text same
 
-no_other_sites : (words rest : List Text) (program : List ℕ) → words ≡ codes "check" ∷ rest → ¬ NamesSites rest program → AsksSites words program → ⊥
-no_other_sites words rest program e none (ToCheck own p h) =
-    let same : own ≡ rest = cc e in
-    none (subst (λ (w : List Text). NamesSites w program) same h)
+    pub asks_some : (show : N → X) → ((w : List Text) (n : N) → AsksBy verb app Shows w (show n) → AsksFor w (make n)) → IfSome found (λ n. Names app Shows (texts rest) (show n)) → IfSome result (AsksFor (texts words))
+    asks_some show stands some = subst (λ (o : Option Task). IfSome o (AsksFor (texts words))) (sym (made_is make found result made)) (go found some)
+      where
+        go : (o : Option N) → IfSome o (λ n. Names app Shows (texts rest) (show n)) → IfSome (option_map make o) (AsksFor (texts words))
+        go None h = tt
+        go (Some n) h = stands (texts words) n (subst (λ (w : List Text). AsksBy verb app Shows w (show n)) (sym shape) (Behind (texts rest) (show n) h))
 
-no_sites_by_run : (words rest : List Text) (program : List ℕ) → words ≡ codes "run" ∷ rest → AsksSites words program → ⊥
-no_sites_by_run words rest program e (ToCheck own p h) =
-    let same : codes "check" ≡ codes "run" = cc e in
-    let bad : 5 ≡ 3 = ap length same in
-    absurd (omega (arith, bad))
+    none_asked : ((x : X) → ¬ Names app Shows (texts rest) x) → (x : X) → ¬ AsksBy verb app Shows (texts words) x
+    none_asked none x h = none x (subst (λ (w : List Text). Names app Shows (behind w) x) shape (named_behind h))
 
-pub asks_no_run : (words rest : List (String Global)) (first : String Global) (verb : Text) (found : Option RunWords) (result : Option Task) → words ≡ first ∷ rest → verb ≡ string_bytes first → verb ≡ codes "run"
-    → IsMade task.Run found result → IfNone found ((run : Run) → ¬ NamesRun (texts rest) run) → IfNone result (AsksNothing (texts words))
-asks_no_run words rest first verb found result e f g made empty =
-    subst (λ (o : Option Task). IfNone o (AsksNothing (texts words))) (sym (made_is task.Run found result made)) (go found empty)
-  where
-    go : (o : Option RunWords) → IfNone o ((run : Run) → ¬ NamesRun (texts rest) run) → IfNone (option_map task.Run o) (AsksNothing (texts words))
-    go None none =
-        let shape = words_at words rest first verb (codes "run") e f g in
-        record { no_run = λ run. no_other_run (texts words) (texts rest) run shape (none run); no_sites = λ program. no_sites_by_run (texts words) (texts rest) program shape }
-    go (Some run) none = tt
+    pub asks_none : ((first_word (texts words) ≡ verb) → ((x : X) → ¬ AsksBy verb app Shows (texts words) x) → AsksNothing (texts words)) → IfNone found ((x : X) → ¬ Names app Shows (texts rest) x) → IfNone result (AsksNothing (texts words))
+    asks_none nothing empty = subst (λ (o : Option Task). IfNone o (AsksNothing (texts words))) (sym (made_is make found result made)) (go found empty)
+      where
+        go : (o : Option N) → IfNone o ((x : X) → ¬ Names app Shows (texts rest) x) → IfNone (option_map make o) (AsksNothing (texts words))
+        go None none = nothing (ap first_word shape) (none_asked none)
+        go (Some n) none = tt
 
-pub asks_no_sites : (words rest : List (String Global)) (first : String Global) (verb : Text) (found : Option (Bor Text)) (result : Option Task) → words ≡ first ∷ rest → verb ≡ string_bytes first → verb ≡ codes "check"
-    → IsMade task.Check found result → IfNone found ((program : List ℕ) → ¬ NamesSites (texts rest) program) → IfNone result (AsksNothing (texts words))
-asks_no_sites words rest first verb found result e f g made empty =
-    subst (λ (o : Option Task). IfNone o (AsksNothing (texts words))) (sym (made_is task.Check found result made)) (go found empty)
-  where
-    go : (o : Option (Bor Text)) → IfNone o ((program : List ℕ) → ¬ NamesSites (texts rest) program) → IfNone (option_map task.Check o) (AsksNothing (texts words))
-    go None none =
-        let shape = words_at words rest first verb (codes "check") e f g in
-        record { no_run = λ run. no_run_by_check (texts words) (texts rest) run shape; no_sites = λ program. no_other_sites (texts words) (texts rest) program shape (none program) }
-    go (Some program) none = tt
+-- ---- the verbs
 
--- ---- the words behind the verb
+no_run_by : (words : List Text) (other : Text) → first_word words ≡ other → (other ≡ codes "run" → ⊥) → (x : _) → Asks words x → ⊥
+no_run_by words other e different x h = not_by (codes "run") run_app ShowsRun words other e different x h
 
-pub rows_show : (m : ArgMatches) (rows : List Row) (id : Text) → rows_of (found_of m) ≡ rows → first_of id rows ≡ first_value (found_of m) id
-rows_show m rows id e = ap (first_of id) (sym e) ∙ sym (first_value-rows (found_of m) id)
+no_plans_by : (words : List Text) (other : Text) → first_word words ≡ other → (other ≡ codes "plan" → ⊥) → (x : _) → AsksPlans words x → ⊥
+no_plans_by words other e different x h = not_by (codes "plan") plan_app ShowsPlanning words other e different x h
 
-module _ (m : ArgMatches) (words : List Text) (run : Run) (rows : rows_of (found_of m) ≡ matches_of run_app words) where
-  shown_as : (id : Text) → first_of id (matches_of run_app words) ≡ first_value (found_of m) id
-  shown_as id = rows_show m (matches_of run_app words) id rows
+no_sites_by : (words : List Text) (other : Text) → first_word words ≡ other → (other ≡ codes "check" → ⊥) → (x : _) → AsksSites words x → ⊥
+no_sites_by words other e different x h = not_by (codes "check") check_app ShowsSites words other e different x h
 
-  pub names_run : IsTaken run_app words → ReadsRun m run → NamesRun words run
-  names_run taken h = record {
-    taken = taken;
-    program = shown_as (codes "program") ∙ h.program;
-    input = shown_as (codes "input") ∙ h.input;
-    plan = shown_as (codes "plan") ∙ h.plan;
-    workers = h.workers ∙ ap (number_or 2) (sym (shown_as (codes "workers")));
-    lane = h.lane ∙ ap (number_or 16) (sym (shown_as (codes "lane")));
-    fuel = h.fuel ∙ ap (number_or 10000000) (sym (shown_as (codes "fuel")));
-    why = shown_as (codes "why") ∙ h.why;
-  }
+pub only_run : (words : List Text) → first_word words ≡ codes "run" → ((x : _) → ¬ Asks words x) → AsksNothing words
+only_run words e none = record {
+  no_run = none;
+  no_plans = no_plans_by words (codes "run") e (apart (codes "run") (codes "plan") refl);
+  no_sites = no_sites_by words (codes "run") e (apart (codes "run") (codes "check") refl);
+}
 
-  pub reads_run : NamesRun words run → ReadsRun m run
-  reads_run h = record {
-    program = sym (shown_as (codes "program")) ∙ h.program;
-    input = sym (shown_as (codes "input")) ∙ h.input;
-    plan = sym (shown_as (codes "plan")) ∙ h.plan;
-    workers = h.workers ∙ ap (number_or 2) (shown_as (codes "workers"));
-    lane = h.lane ∙ ap (number_or 16) (shown_as (codes "lane"));
-    fuel = h.fuel ∙ ap (number_or 10000000) (shown_as (codes "fuel"));
-    why = sym (shown_as (codes "why")) ∙ h.why;
-  }
+pub only_plans : (words : List Text) → first_word words ≡ codes "plan" → ((x : _) → ¬ AsksPlans words x) → AsksNothing words
+only_plans words e none = record {
+  no_run = no_run_by words (codes "plan") e (apart (codes "plan") (codes "run") refl);
+  no_plans = none;
+  no_sites = no_sites_by words (codes "plan") e (apart (codes "plan") (codes "check") refl);
+}
+
+pub only_sites : (words : List Text) → first_word words ≡ codes "check" → ((x : _) → ¬ AsksSites words x) → AsksNothing words
+only_sites words e none = record {
+  no_run = no_run_by words (codes "check") e (apart (codes "check") (codes "run") refl);
+  no_plans = no_plans_by words (codes "check") e (apart (codes "check") (codes "plan") refl);
+  no_sites = none;
+}
+
+-- words whose verb is none of these
+pub unknown_verb : (words : List (String Global)) (rest : List (String Global)) (first : String Global) (given : Text) → words ≡ first ∷ rest → given ≡ string_bytes first →
+    (given ≡ codes "run" → ⊥) → (given ≡ codes "plan" → ⊥) → (given ≡ codes "check" → ⊥) → AsksNothing (texts words)
+unknown_verb words rest first given e f not_run not_plan not_check =
+    let verb : first_word (texts words) ≡ given = ap (λ (ws : List (String Global)). first_word (texts ws)) e ∙ sym f in
+    record {
+      no_run = no_run_by (texts words) given verb not_run;
+      no_plans = no_plans_by (texts words) given verb not_plan;
+      no_sites = no_sites_by (texts words) given verb not_check;
+    }
+
+pub no_words : AsksNothing []
+no_words = record {
+  no_run = no_run_by [] [] refl (apart [] (codes "run") refl);
+  no_plans = no_plans_by [] [] refl (apart [] (codes "plan") refl);
+  no_sites = no_sites_by [] [] refl (apart [] (codes "check") refl);
+}

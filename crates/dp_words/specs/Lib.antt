@@ -1,2 +1,3 @@
-pub mod Reading
+pub mod Commands
 pub mod Words
+pub mod Reading

@@ -1,121 +1,137 @@
 -- The words after the program's name, and what they ask for: a verb, and behind it the words of the verb's command.
-use Rattle.std.specs.Prelude.{◌≡◌, ℕ, ◌≤◌, if◌then◌else◌, Bool, true, List, [], ◌∷◌, Option, Some, None, codes}
+use Rattle.std.specs.Prelude.{◌≡◌, ℕ, ◌≤◌, if◌then◌else◌, Bool, List, ◌∷◌, Option, Some, None, codes}
 use Rattle.std.specs.Option.{option_map}
 use Rattle.std.specs.Str.Parse.{digits_value, without_leading_plus}
-use Rattle.clap.specs.declared.builder.action.ArgAction.TheVariants.{Set, SetTrue}
-use Rattle.clap.specs.declared.builder.value_parser.ValueParser.TheVariants as parser
-use Rattle.clap.specs.Words.{App, Rule, Text, first_of, fault_of, matches_of, new_app, new_rule, with_rule}
+use Rattle.clap.specs.Words.{App, Text}
+use Rattle.dp_words.specs.declared.task.PlanOptions.{PlanOptions}
+use Rattle.dp_words.specs.declared.task.PlanWords.{PlanWords}
 use Rattle.dp_words.specs.declared.task.RunWords.{RunWords}
 use Rattle.dp_words.specs.declared.task.Task.{Task}
 use Rattle.dp_words.specs.declared.task.Task.TheVariants as task
+use Rattle.dp_words.specs.Commands.{IsTaken, check_app, plan_app, run_app, value_in}
 
--- ---- what the commands take
-
--- a name that has to be given, and one that may be
-abbrev pub name_of : Text → Rule
-name_of id = record (new_rule id) { action = Some Set; required = true }
-
-abbrev pub further_name : Text → Rule
-further_name id = record (new_rule id) { action = Some Set }
-
--- an option with a file's name, an option with a number in this range, and one that stands alone
-abbrev pub file_option : Text → Rule
-file_option id = record (new_rule id) { long = Some id; action = Some Set }
-
-abbrev pub number_option : Text → ℕ → ℕ → Rule
-number_option id low high = record (new_rule id) { long = Some id; action = Some Set; parser = Some (parser.Unsigned low high) }
-
-abbrev pub flag : Text → Rule
-flag id = record (new_rule id) { long = Some id; action = Some SetTrue }
-
--- a command that reads the words behind its verb
-abbrev pub verb_app : Text → App
-verb_app verb = record (new_app verb) { top = record (new_app verb).top { no_binary_name = true } }
-
-abbrev pub run_app : App
-run_app =
-    with_rule (with_rule (with_rule (with_rule (with_rule (with_rule (with_rule (verb_app (codes "run")) (name_of (codes "program"))) (further_name (codes "input")))
-    (file_option (codes "plan"))) (number_option (codes "workers") 1 8)) (number_option (codes "lane") 1 64)) (number_option (codes "fuel") 0 1000000000)) (flag (codes "why"))
-
-abbrev pub check_app : App
-check_app = with_rule (verb_app (codes "check")) (name_of (codes "program"))
-
--- the command takes the words
-abbrev pub IsTaken : App → List Text → Type 0
-IsTaken app words = fault_of app words ≡ []
-
--- ---- what they ask for
-
--- a run: the names of its program, of its input and of its plans, if it has them, the workers of a replicated stage,
--- the places of a lane, the fuel, and whether its text says why iterations were executed again
+-- a run: the names of its program, of its input and of its plans, if it has them, how its plans are made if it has none, the places of a lane,
+-- the fuel, and whether its text says why iterations were executed again
 pub record Run : Type 0 where
   pub program : List ℕ
   pub input : Option (List ℕ)
   pub plan : Option (List ℕ)
-  pub workers : ℕ
+  pub options : PlanOptions
   pub lane : ℕ
   pub fuel : ℕ
   pub why : Bool
+
+-- the automatic plans of a program: its name, and how they are made
+pub record Planning : Type 0 where
+  pub program : List ℕ
+  pub options : PlanOptions
+
+-- ---- by the values of names and options
+
+abbrev pub Values : Type 0
+Values = Text → Option Text
 
 -- the number that an option gives, or its default
 abbrev pub number_or : ℕ → Option Text → ℕ
 number_or default None = default
 number_or default (Some text) = digits_value 10 (without_leading_plus text)
 
--- the words behind the verb are those of this run
-pub record NamesRun (words : List Text) (run : Run) : Type 0 where
-  pub taken : IsTaken run_app words
-  pub program : first_of (codes "program") (matches_of run_app words) ≡ Some run.program
-  pub input : first_of (codes "input") (matches_of run_app words) ≡ run.input
-  pub plan : first_of (codes "plan") (matches_of run_app words) ≡ run.plan
-  pub workers : run.workers ≡ number_or 2 (first_of (codes "workers") (matches_of run_app words))
-  pub lane : run.lane ≡ number_or 16 (first_of (codes "lane") (matches_of run_app words))
-  pub fuel : run.fuel ≡ number_or 10000000 (first_of (codes "fuel") (matches_of run_app words))
-  pub why : first_of (codes "why") (matches_of run_app words) ≡ Some (if run.why then codes "true" else codes "false")
+-- the options of automatic plans
+abbrev pub options_in : Values → PlanOptions
+options_in value = record {
+  rate = number_or 10 (value (codes "rate"));
+  stages = number_or 4 (value (codes "stages"));
+  workers = number_or 2 (value (codes "workers"));
+}
 
--- .. those of the list of this program's sites
-pub record NamesSites (words : List Text) (program : List ℕ) : Type 0 where
-  pub taken : IsTaken check_app words
-  pub program_is : first_of (codes "program") (matches_of check_app words) ≡ Some program
+-- the values are those of this run
+pub record ShowsRun (value : Values) (run : Run) : Type 0 where
+  pub program : value (codes "program") ≡ Some run.program
+  pub input : value (codes "input") ≡ run.input
+  pub plan : value (codes "plan") ≡ run.plan
+  pub options : run.options ≡ options_in value
+  pub lane : run.lane ≡ number_or 16 (value (codes "lane"))
+  pub fuel : run.fuel ≡ number_or 10000000 (value (codes "fuel"))
+  pub why : value (codes "why") ≡ Some (if run.why then codes "true" else codes "false")
+
+-- .. of these plans
+pub record ShowsPlanning (value : Values) (planning : Planning) : Type 0 where
+  pub program : value (codes "program") ≡ Some planning.program
+  pub options : planning.options ≡ options_in value
+
+-- .. of the list of this program's sites
+abbrev pub ShowsSites : Values → List ℕ → Type 0
+ShowsSites value program = value (codes "program") ≡ Some program
+
+-- ---- by the words
+
+-- the command takes the words, and they give it the values of this
+pub record Names {X : Type 0} (app : App) (Shows : Values → X → Type 0) (words : List Text) (x : X) : Type 0 where
+  pub taken : IsTaken app words
+  pub shows : Shows (value_in app words) x
+
+-- the words are this verb, and behind it those of its command
+pub data AsksBy {X : Type 0} (verb : Text) (app : App) (Shows : Values → X → Type 0) : List Text → X → Type 0 where
+  Behind : (words : List Text) (x : X) → Names app Shows words x → AsksBy verb app Shows (verb ∷ words) x
 
 -- the words ask for this run
-pub data Asks : List Text → Run → Type 0 where
-  ToRun : (words : List Text) (run : Run) → NamesRun words run → Asks (codes "run" ∷ words) run
+abbrev pub Asks : List Text → Run → Type 0
+Asks = AsksBy (codes "run") run_app ShowsRun
+
+-- .. for these plans
+abbrev pub AsksPlans : List Text → Planning → Type 0
+AsksPlans = AsksBy (codes "plan") plan_app ShowsPlanning
 
 -- .. for the list of this program's sites
-pub data AsksSites : List Text → List ℕ → Type 0 where
-  ToCheck : (words : List Text) (program : List ℕ) → NamesSites words program → AsksSites (codes "check" ∷ words) program
+abbrev pub AsksSites : List Text → List ℕ → Type 0
+AsksSites = AsksBy (codes "check") check_app ShowsSites
 
 -- .. for nothing that the program does
 pub record AsksNothing (words : List Text) : Type 0 where
   pub no_run : (run : Run) → ¬ Asks words run
+  pub no_plans : (planning : Planning) → ¬ AsksPlans words planning
   pub no_sites : (program : List ℕ) → ¬ AsksSites words program
 
--- the run that the program's own record of the words stands for
+-- ---- by the program's own records of the words
+
+-- the run that one stands for
 abbrev pub shown : RunWords → Run
 shown words = record {
   program = words.program.now;
   input = option_map (λ name. name.now) words.input;
   plan = option_map (λ name. name.now) words.plan;
-  workers = words.workers;
+  options = words.options;
   lane = words.lane;
   fuel = words.fuel;
   why = words.why;
 }
 
+-- the plans
+abbrev pub shown_planning : PlanWords → Planning
+shown_planning words = record { program = words.program.now; options = words.options }
+
 -- the words ask for this task
 abbrev pub AsksFor : List Text → Task → Type 0
 AsksFor words (task.Run run) = Asks words (shown run)
+AsksFor words (task.Plan plan) = AsksPlans words (shown_planning plan)
 AsksFor words (task.Check program) = AsksSites words program.now
+
+-- the options of automatic plans are within their limits
+pub record OptionsWithin (options : PlanOptions) : Type 0 where
+  pub rare : options.rate ≤ 1000
+  pub some_stage : 1 ≤ options.stages
+  pub few_stages : options.stages ≤ 8
+  pub some_worker : 1 ≤ options.workers
+  pub few_workers : options.workers ≤ 8
 
 -- the numbers of a run are within their limits
 pub record RunWithin (run : Run) : Type 0 where
-  pub some_worker : 1 ≤ run.workers
-  pub few_workers : run.workers ≤ 8
+  pub options : OptionsWithin run.options
   pub some_place : 1 ≤ run.lane
   pub few_places : run.lane ≤ 64
   pub few_steps : run.fuel ≤ 1000000000
 
 abbrev pub IsWithin : Task → Type 0
 IsWithin (task.Run run) = RunWithin (shown run)
+IsWithin (task.Plan plan) = OptionsWithin plan.options
 IsWithin (task.Check program) = Unit {0}

@@ -1,7 +1,7 @@
-//! The commands of the two verbs.
+//! The commands of the verbs.
 ghost use Rattle.std.specs.Prelude.{◌≡◌, IfOk, false};
 ghost use Rattle.clap.specs.Words.{app_of, rule_of};
-ghost use Rattle.dp_words.specs.Words.{check_app, file_option, flag, further_name, name_of, number_option, run_app, verb_app};
+ghost use Rattle.dp_words.specs.Commands.{check_app, file_option, flag, further_name, name_of, number_option, plan_app, run_app, verb_app, with_plan_options};
 
 use clap::builder::ValueParser;
 use clap::{Arg, ArgAction, Command};
@@ -15,12 +15,20 @@ pub fn run_command<'w>(alloc: Global) -> Result<Command<'w>, NoMemory>
     let command = verb_command(alloc, "run")
         .arg(name_of(alloc, "program"))?
         .arg(further_name(alloc, "input"))?
-        .arg(file_option(alloc, "plan"))?
-        .arg(number_option(alloc, "workers", 1, 8))?
+        .arg(file_option(alloc, "plan"))?;
+    let command = with_plan_options(alloc, command)?
         .arg(number_option(alloc, "lane", 1, 64))?
         .arg(number_option(alloc, "fuel", 0, 1_000_000_000))?
         .arg(flag(alloc, "why"))?;
     Ok(command)
+}
+
+/// The command that writes a program's automatic plans.
+pub fn plan_command<'w>(alloc: Global) -> Result<Command<'w>, NoMemory>
+    ensures { IfOk result (λ command. app_of command ≡ plan_app) }
+{
+    let command = verb_command(alloc, "plan").arg(name_of(alloc, "program"))?;
+    with_plan_options(alloc, command)
 }
 
 /// The command that lists a program's sites.
@@ -28,6 +36,17 @@ pub fn check_command<'w>(alloc: Global) -> Result<Command<'w>, NoMemory>
     ensures { IfOk result (λ command. app_of command ≡ check_app) }
 {
     let command = verb_command(alloc, "check").arg(name_of(alloc, "program"))?;
+    Ok(command)
+}
+
+/// The command with the options of automatic plans.
+fn with_plan_options<'w>(alloc: Global, command: Command<'w>) -> Result<Command<'w>, NoMemory>
+    ensures { IfOk result (λ with. app_of with ≡ with_plan_options (app_of command.entry)) }
+{
+    let command = command
+        .arg(number_option(alloc, "rate", 0, 1000))?
+        .arg(number_option(alloc, "stages", 1, 8))?
+        .arg(number_option(alloc, "workers", 1, 8))?;
     Ok(command)
 }
 

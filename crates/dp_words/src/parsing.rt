@@ -1,7 +1,7 @@
 //! The matches of a command on its words.
 ghost use Rattle.std.specs.Prelude.{◌≡◌, true, map, string_bytes, IfOk, IfSome, IfNone};
 ghost use Rattle.clap.specs.Words.{IsParsedFrom, app_of, found_of, is_simple_and_free, matches_of, rows_of};
-ghost use Rattle.dp_words.specs.Words.{IsTaken};
+ghost use Rattle.dp_words.specs.Commands.{IsTaken};
 
 use clap::error::ErrorKind;
 use clap::{ArgMatches, Command};

@@ -1,11 +1,15 @@
-//! The run that the matches of its words show.
+//! What the matches of a verb's words show.
 ghost use Rattle.std.specs.Prelude.{◌≡◌, Bool, Some, codes, if◌then◌else◌, IfSome, IfNone};
 ghost use Rattle.std.specs.Option.{option_map};
-ghost use Rattle.dp_words.specs.Words.{Run, RunWithin, number_or, shown};
-ghost use Rattle.dp_words.specs.Reading.{FitsIn, HoldsNumbers, ReadsRun};
+ghost use Rattle.dp_words.specs.Words.{OptionsWithin, Planning, Run, RunWithin, ShowsPlanning, ShowsRun, number_or, options_in, shown, shown_planning};
+ghost use Rattle.dp_words.specs.Reading.{FitsIn, HoldsOptions, HoldsRun, values_of};
 
-use crate::task::RunWords;
+use crate::task::{PlanOptions, PlanWords, RunWords};
 use clap::ArgMatches;
+
+const DEFAULT_RATE: u32 = 10;
+
+const DEFAULT_STAGES: u32 = 4;
 
 const DEFAULT_WORKERS: u32 = 2;
 
@@ -15,13 +19,13 @@ const DEFAULT_FUEL: u64 = 10_000_000;
 
 /// The run with these matches.
 pub fn run_words<'w>(matches: &ArgMatches<'w>) -> Option<RunWords<'w>>
-    requires numbers { HoldsNumbers matches.now }
-    ensures some { IfSome result (λ words. ReadsRun matches.now (shown words)) }
+    requires numbers { HoldsRun (values_of matches.now) }
+    ensures some { IfSome result (λ words. ShowsRun (values_of matches.now) (shown words)) }
     ensures within { IfSome result (λ words. RunWithin (shown words)) }
-    ensures none { IfNone result ((run : Run) → ¬ ReadsRun matches.now run) }
+    ensures none { IfNone result ((run : Run) → ¬ ShowsRun (values_of matches.now) run) }
 {
     let program = matches.get_str("program")?;
-    let workers = small_number(matches.get_str("workers"), DEFAULT_WORKERS)?;
+    let options = plan_options(matches)?;
     let lane = small_number(matches.get_str("lane"), DEFAULT_LANE)?;
     let fuel = number(matches.get_str("fuel"), DEFAULT_FUEL)?;
     let why = truth(matches.get_str("why")?)?;
@@ -29,10 +33,38 @@ pub fn run_words<'w>(matches: &ArgMatches<'w>) -> Option<RunWords<'w>>
         program,
         input: matches.get_str("input"),
         plan: matches.get_str("plan"),
-        workers,
+        options,
         lane,
         fuel,
         why,
+    })
+}
+
+/// The automatic plans with these matches.
+pub fn plan_words<'w>(matches: &ArgMatches<'w>) -> Option<PlanWords<'w>>
+    requires numbers { HoldsOptions (values_of matches.now) }
+    ensures some { IfSome result (λ words. ShowsPlanning (values_of matches.now) (shown_planning words)) }
+    ensures within { IfSome result (λ words. OptionsWithin words.options) }
+    ensures none { IfNone result ((planning : Planning) → ¬ ShowsPlanning (values_of matches.now) planning) }
+{
+    let program = matches.get_str("program")?;
+    let options = plan_options(matches)?;
+    Some(PlanWords { program, options })
+}
+
+/// The options of automatic plans.
+fn plan_options<'w>(matches: &ArgMatches<'w>) -> Option<PlanOptions>
+    requires numbers { HoldsOptions (values_of matches.now) }
+    ensures value { result ≡ Some (options_in (values_of matches.now)) }
+    ensures within { IfSome result OptionsWithin }
+{
+    let rate = small_number(matches.get_str("rate"), DEFAULT_RATE)?;
+    let stages = small_number(matches.get_str("stages"), DEFAULT_STAGES)?;
+    let workers = small_number(matches.get_str("workers"), DEFAULT_WORKERS)?;
+    Some(PlanOptions {
+        rate,
+        stages,
+        workers,
     })
 }
 

@@ -1,5 +1,16 @@
 //! What may be asked for.
 
+/// How automatic plans are made.
+#[derive(Clone, Copy, Debug, PartialEq, Eq)]
+pub struct PlanOptions {
+    /// Up to how many loads in a thousand runs are rare, up to 1,000.
+    pub rate: u32,
+    /// The most stages of a region, from 1 to 8.
+    pub stages: u32,
+    /// The workers of a replicated stage, from 1 to 8.
+    pub workers: u32,
+}
+
 /// A run that was asked for. Each option that wasn't given has its default.
 #[derive(Clone, Copy, Debug, PartialEq, Eq)]
 pub struct RunWords<'w> {
@@ -9,8 +20,8 @@ pub struct RunWords<'w> {
     pub input: Option<&'w str>,
     /// The name of the plans' text, if there is one.
     pub plan: Option<&'w str>,
-    /// The workers of a replicated stage, from 1 to 8.
-    pub workers: u32,
+    /// How the plans are made where no text of them is named; with one, only the workers count.
+    pub options: PlanOptions,
     /// The places of a lane, from 1 to 64.
     pub lane: u32,
     /// The greatest number of steps, up to 1,000,000,000.
@@ -19,10 +30,20 @@ pub struct RunWords<'w> {
     pub why: bool,
 }
 
+/// The automatic plans that were asked for.
+#[derive(Clone, Copy, Debug, PartialEq, Eq)]
+pub struct PlanWords<'w> {
+    /// The name of the program's text.
+    pub program: &'w str,
+    pub options: PlanOptions,
+}
+
 /// What the program is asked to do.
 #[derive(Clone, Copy, Debug, PartialEq, Eq)]
 pub enum Task<'w> {
     Run(RunWords<'w>),
+    /// To write the program's automatic plans.
+    Plan(PlanWords<'w>),
     /// To list the sites of the program with this name.
     Check(&'w str),
 }

@@ -1,11 +1,12 @@
 //! The words, read by their verb.
-ghost use Rattle.std.specs.Prelude.{◌≡◌, ◌↔◌, ℕ, List, IsTrue, codes, map, string_bytes, IfOk, IfSome, IfNone};
-ghost use Rattle.dp_words.specs.Words.{AsksFor, AsksNothing, IsWithin, NamesRun, NamesSites, Run, RunWithin, shown};
+ghost use Rattle.std.specs.Prelude.{◌≡◌, ◌↔◌, ℕ, List, IsTrue, map, string_bytes, IfOk, IfSome, IfNone};
+ghost use Rattle.dp_words.specs.Commands.{check_app, plan_app, run_app};
+ghost use Rattle.dp_words.specs.Words.{AsksFor, AsksNothing, IsWithin, Names, OptionsWithin, Planning, Run, RunWithin, ShowsPlanning, ShowsRun, ShowsSites, shown, shown_planning};
 
-use crate::commands::{check_command, run_command};
+use crate::commands::{check_command, plan_command, run_command};
 use crate::parsing::found;
-use crate::reading::run_words;
-use crate::task::{RunWords, Task};
+use crate::reading::{plan_words, run_words};
+use crate::task::{PlanWords, RunWords, Task};
 use dp_base::NoMemory;
 use std::alloc::Global;
 
@@ -19,32 +20,29 @@ pub fn asked(alloc: Global, words: &[String]) -> Result<Option<Task<'_>>, NoMemo
         return Ok(None);
     };
     let verb = verb.as_str();
-    if is_run(verb) {
+    if is(verb, "run") {
         return Ok(run(alloc, rest)?.map(Task::Run));
     }
-    if is_check(verb) {
+    if is(verb, "plan") {
+        return Ok(plan(alloc, rest)?.map(Task::Plan));
+    }
+    if is(verb, "check") {
         return Ok(sites(alloc, rest)?.map(Task::Check));
     }
     Ok(None)
 }
 
-fn is_run(word: &str) -> bool
-    ensures { IsTrue result ↔ (word.now ≡ codes "run") }
+fn is(word: &str, verb: &str) -> bool
+    ensures { IsTrue result ↔ (word.now ≡ verb.now) }
 {
-    word == "run"
-}
-
-fn is_check(word: &str) -> bool
-    ensures { IsTrue result ↔ (word.now ≡ codes "check") }
-{
-    word == "check"
+    word == verb
 }
 
 /// The run that the words behind the verb name.
 fn run(alloc: Global, words: &[String]) -> Result<Option<RunWords<'_>>, NoMemory>
-    ensures some { IfOk result (λ run. IfSome run (λ named. NamesRun (map string_bytes words.now) (shown named))) }
+    ensures some { IfOk result (λ run. IfSome run (λ named. Names run_app ShowsRun (map string_bytes words.now) (shown named))) }
     ensures within { IfOk result (λ run. IfSome run (λ named. RunWithin (shown named))) }
-    ensures none { IfOk result (λ run. IfNone run ((named : Run) → ¬ NamesRun (map string_bytes words.now) named)) }
+    ensures none { IfOk result (λ run. IfNone run ((named : Run) → ¬ Names run_app ShowsRun (map string_bytes words.now) named)) }
 {
     match found(run_command(alloc)?, words)? {
         Some(matches) => Ok(run_words(&matches)),
@@ -52,10 +50,22 @@ fn run(alloc: Global, words: &[String]) -> Result<Option<RunWords<'_>>, NoMemory
     }
 }
 
+/// The automatic plans that the words behind the verb name.
+fn plan(alloc: Global, words: &[String]) -> Result<Option<PlanWords<'_>>, NoMemory>
+    ensures some { IfOk result (λ plan. IfSome plan (λ named. Names plan_app ShowsPlanning (map string_bytes words.now) (shown_planning named))) }
+    ensures within { IfOk result (λ plan. IfSome plan (λ named. OptionsWithin named.options)) }
+    ensures none { IfOk result (λ plan. IfNone plan ((named : Planning) → ¬ Names plan_app ShowsPlanning (map string_bytes words.now) named)) }
+{
+    match found(plan_command(alloc)?, words)? {
+        Some(matches) => Ok(plan_words(&matches)),
+        None => Ok(None),
+    }
+}
+
 /// The program whose sites the words behind the verb name.
 fn sites(alloc: Global, words: &[String]) -> Result<Option<&str>, NoMemory>
-    ensures some { IfOk result (λ sites. IfSome sites (λ program. NamesSites (map string_bytes words.now) program.now)) }
-    ensures none { IfOk result (λ sites. IfNone sites ((program : List ℕ) → ¬ NamesSites (map string_bytes words.now) program)) }
+    ensures some { IfOk result (λ sites. IfSome sites (λ program. Names check_app ShowsSites (map string_bytes words.now) program.now)) }
+    ensures none { IfOk result (λ sites. IfNone sites ((program : List ℕ) → ¬ Names check_app ShowsSites (map string_bytes words.now) program)) }
 {
     match found(check_command(alloc)?, words)? {
         Some(matches) => Ok(matches.get_str("program")),

@@ -1,5 +1,5 @@
 -- From the parts of the program to the headline.
-use Rattle.std.proofs.Common.{◌≡◌, refl, sym, ◌∙◌, ap, subst, arith, inl, inr, Bool, Some, ℕ, ◌<◌, ◌≤◌, List, Option, ℤ, Result, Ok, Err, IfOk, OnOk, None, codes, ◌≢◌, ◌+◌, ◌∷◌, [], ◌++◌, option_map}
+use Rattle.std.proofs.Common.{◌≡◌, refl, sym, ◌∙◌, ap, subst, arith, inl, inr, Bool, Some, ℕ, ◌<◌, ◌≤◌, List, Option, ℤ, Result, Ok, Err, IfOk, OnOk, None, ◌≢◌, ◌+◌, ◌∷◌, [], ◌++◌, option_map}
 use Rattle.dp_tree.specs.declared.Program.{Program}
 use Rattle.dp_tree.specs.Checked.{IsChecked}
 use Rattle.dp_calls.specs.Frames.{outcome}
@@ -18,19 +18,21 @@ use Rattle.dswp.specs.declared.texts.Texts.{Texts}
 use Rattle.dswp.specs.declared.texts.Texts.TheVariants as texts
 use Rattle.dswp.specs.Refusal.{refusal_line, refusal_status, failed_read_line}
 use Rattle.dp_report.specs.SiteText.{site_bytes}
+use Rattle.dp_plan.specs.WrittenText.{plans_text}
+use Rattle.dswp.specs.Plans.{MakesPlans}
+use Rattle.dswp.specs.Program.{Reads}
 use Rattle.dswp.specs.declared.refusal.Role.TheVariants as role
 use Rattle.dswp.specs.declared.load.Loaded.{Loaded}
 use Rattle.dswp.specs.declared.load.Loaded.TheVariants.{Text, Refused, Failed}
 use Rattle.dswp.specs.Loading.{LoadsProgram, Gives}
 use Rattle.dswp.proofs.TextsLemmas.{source_of, refusal_read}
-use Rattle.dp_words.specs.Words.{Run, Asks, AsksSites, AsksNothing}
+use Rattle.dp_words.specs.Words.{Run, Planning, Asks, AsksPlans, AsksSites, AsksNothing}
 use Rattle.dp_plan.specs.declared.Plan.{Plan}
 use Rattle.dp_crew.specs.Fail.{FaultsAfter}
 use Rattle.dp_run.specs.RunText.{source_run, trace_text, committed_in_all}
-use Rattle.dswp.proofs.definite.AsksOnce.{not_both}
 use Rattle.dswp.specs.Status.{status_after}
 use Rattle.dswp.specs.RunText.{run_text, status_of}
-use Rattle.dswp.specs.Answer.{Contents, Plans, Answer, NotTaken, ProgramRefused, InputRefused, PlansRefused, Ran, SitesRefused, SitesListed, OfProgram, OfSites, OfInput, OfPlans, OfRun}
+use Rattle.dswp.specs.Answer.{Contents, Holds, Plans, IsRead, Answer, NotTaken, ProgramRefused, InputRefused, PlansRefused, Ran, PlansWritten, SitesListed, OfProgram, OfInput, OfPlans, OfRun}
 use Rattle.dswp.specs.Headline.{Answered, IsCounted, IsEnd, Whole, Short, Nothing, ReadFailed, WriteFailed, OfAnswer, OfFailedRead}
 use Rattle.dswp.specs.Carried.{Names, Finishes, LoadsTexts, Carried, Starved}
 use Rattle.dswp.specs.Carried as carried
@@ -61,16 +63,16 @@ module _ (words : List (List ℕ)) (contents : Contents) (faults after : ℕ) (f
 
   pub carry_run : (run : Run) (q : Program) (numbers : List ℤ) (plans : List Plan) (result : Result ℕ CrewFail) → Asks words run → LoadsTexts contents run faults after failed fails (texts.Run q numbers plans) →
       Finishes (status_of (source_run q numbers run.fuel).end) (trace_text q plans (source_run q numbers run.fuel) run.why) told tells result → Carried words contents faults after failed fails told tells result
-  carry_run run q numbers plans result asks (carried.Loaded p x others given is h k l e f) finishes =
-      carried.OfAnswer _ _ (Ran run h.text p numbers plans asks h.held h.reads k (subst (λ (y : Program). Plans contents y run.plan (Ok plans)) is l)) e f
+  carry_run run q numbers plans result asks (carried.Loaded p x others given is h k l fit e f) finishes =
+      carried.OfAnswer _ _ (Ran run h.text p numbers plans asks h.held h.reads k (subst (λ (y : Program). Plans contents y run.options run.plan (Ok plans)) is l)) e f
       (finishes_source p q is (read_checked h.text p h.reads) plans numbers run.fuel run.why told tells result finishes)
 
   -- .. and the tally grew by what was committed of it
   pub count_run : (run : Run) (q : Program) (numbers : List ℤ) (plans : List Plan) (before now status : ℕ) → Asks words run → LoadsTexts contents run faults after failed fails (texts.Run q numbers plans) →
       now ≡ before + committed_in_all q plans (source_run q numbers run.fuel) → IsCounted words contents before now status
-  count_run run q numbers plans before now status asks (carried.Loaded p x others given is h k l e f) tally = λ other asked end. (
+  count_run run q numbers plans before now status asks (carried.Loaded p x others given is h k l fit e f) tally = λ other asked end. (
     committed_in_all (expand p) plans (source_run (expand p) numbers run.fuel),
-    OfRun run h.text p numbers plans asks h.held h.reads k (subst (λ (y : Program). Plans contents y run.plan (Ok plans)) is l),
+    OfRun run h.text p numbers plans asks h.held h.reads k (subst (λ (y : Program). Plans contents y run.options run.plan (Ok plans)) is l),
     tally ∙ ap (λ (y : Program). before + committed_in_all y plans (source_run y numbers run.fuel)) is,
   )
 
@@ -86,25 +88,34 @@ module _ (words : List (List ℕ)) (contents : Contents) (faults after : ℕ) (f
   carry_failed run which result asks (carried.InputFailed p name h named less e) finishes = carried.OfFailedRead _ _ (OfInput run h.text name p asks h.held h.reads named) less e finishes
   carry_failed run which result asks (carried.PlansFailed p numbers name h k named less e) finishes = carried.OfFailedRead _ _ (OfPlans run h.text name p numbers asks h.held h.reads k named) less e finishes
 
-  abbrev SitesGive : List ℕ → Loaded Program → Type 0
-  SitesGive name = Gives (LoadsProgram contents name) (Some name) faults after failed fails
+  abbrev ProgramGives : List ℕ → Loaded Program → Type 0
+  ProgramGives name = Gives (LoadsProgram contents name) (Some name) faults after failed fails
 
-  pub carry_sites : (name : List ℕ) (q : Program) (result : Result ℕ CrewFail) → AsksSites words name → SitesGive name (Text q) → Finishes 0 (site_bytes q) told tells result → Carried words contents faults after failed fails told tells result
+  pub carry_sites : (name : List ℕ) (q : Program) (result : Result ℕ CrewFail) → AsksSites words name → ProgramGives name (Text q) → Finishes 0 (site_bytes q) told tells result → Carried words contents faults after failed fails told tells result
   carry_sites name q result asks g finishes =
       let s = source_of _ _ _ g.0 in
       carried.OfAnswer _ _ (SitesListed name s.reads.text s.source asks s.reads.held s.reads.reads) g.1 g.2
       (finishes_as 0 0 (site_bytes q) (site_bytes (expand s.source)) told tells result refl (ap site_bytes s.is) finishes)
 
-  pub carry_sites_refused : (name : List ℕ) (refusal : Refusal) (result : Result ℕ CrewFail) → AsksSites words name → SitesGive name (Refused refusal) → Finishes (refusal_status refusal) (refusal_line refusal) told tells result →
-      Carried words contents faults after failed fails told tells result
-  carry_sites_refused name refusal result asks g finishes =
-      let read = refusal_read _ _ _ g.0 in
-      carried.OfAnswer _ _ (SitesRefused name read.text refusal asks read.held read.reads) g.1 g.2 finishes
+  pub carry_plans : (planning : Planning) (q : Program) (plans : List Plan) (result : Result ℕ CrewFail) → AsksPlans words planning → ProgramGives planning.program (Text q) → MakesPlans q planning.options plans →
+      Finishes 0 (plans_text q plans) told tells result → Carried words contents faults after failed fails told tells result
+  carry_plans planning q plans result asks g made finishes =
+      let s = source_of _ _ _ g.0 in
+      carried.OfAnswer _ _ (PlansWritten planning s.reads.text s.source plans asks s.reads.held s.reads.reads (subst (λ (x : Program). MakesPlans x planning.options plans) s.is made)) g.1 g.2
+      (finishes_as 0 0 (plans_text q plans) (plans_text (expand s.source) plans) told tells result refl (ap (λ (x : Program). plans_text x plans) s.is) finishes)
 
-  pub carry_sites_failed : (name : List ℕ) (result : Result ℕ CrewFail) → AsksSites words name → SitesGive name Failed → Finishes 5 (failed_read_line role.Program) told tells result → Carried words contents faults after failed fails told tells result
-  carry_sites_failed name result asks g finishes =
+  -- a program alone that is refused, or that can't be read
+  pub carry_program_refused : (name : List ℕ) (refusal : Refusal) (result : Result ℕ CrewFail) → ((text : List ℕ) → Holds contents name text → Reads text (Err refusal) → Answer words contents (refusal_status refusal) (refusal_line refusal)) →
+      ProgramGives name (Refused refusal) → Finishes (refusal_status refusal) (refusal_line refusal) told tells result → Carried words contents faults after failed fails told tells result
+  carry_program_refused name refusal result answers g finishes =
+      let read = refusal_read _ _ _ g.0 in
+      carried.OfAnswer _ _ (answers read.text read.held read.reads) g.1 g.2 finishes
+
+  pub carry_program_failed : (name : List ℕ) (result : Result ℕ CrewFail) → IsRead words contents role.Program name → ProgramGives name Failed → Finishes 5 (failed_read_line role.Program) told tells result →
+      Carried words contents faults after failed fails told tells result
+  carry_program_failed name result read g finishes =
       let same : name ≡ g.0 = cc g.1 in
-      carried.OfFailedRead _ _ (OfSites name asks) g.2 (g.3 ∙ ap (λ (n : List ℕ). option_map (λ (names : List (List ℕ)). names ++ n ∷ []) failed) (sym same)) finishes
+      carried.OfFailedRead _ _ read g.2 (g.3 ∙ ap (λ (n : List ℕ). option_map (λ (names : List (List ℕ)). names ++ n ∷ []) failed) (sym same)) finishes
 
   same_and_less : {A : Type 0} → after ≡ faults → faults < after → A
   same_and_less e less = absurd (omega (arith, e, less))
@@ -190,8 +201,9 @@ all_results : (result : Result ℕ CrewFail) (P : ℕ → Type 0) → ((s : ℕ)
 all_results (Ok s) P h = h s
 all_results (Err fail) P h = tt
 
-pub sites_count : (words : List (List ℕ)) (contents : Contents) (program : List ℕ) (before now : ℕ) (result : Result ℕ CrewFail) → AsksSites words program → IfOk result (IsCounted words contents before now)
-sites_count words contents program before now result asks = all_results result (IsCounted words contents before now) (λ s run asked end. not_both asked asks)
+-- nor where no run was asked for
+pub no_run_counts : (words : List (List ℕ)) (contents : Contents) (before now : ℕ) (result : Result ℕ CrewFail) → ((run : Run) → ¬ Asks words run) → IfOk result (IsCounted words contents before now)
+no_run_counts words contents before now result none = all_results result (IsCounted words contents before now) (λ s run asked end. absurd (none run asked))
 
 -- the status after a result: those of failures are no ends
 pub counted_after : (words : List (List ℕ)) (contents : Contents) (before now status : ℕ) (result : Result ℕ CrewFail) → status ≡ status_after result → IfOk result (IsCounted words contents before now) → IsCounted words contents before now status

@@ -1,5 +1,5 @@
 -- What texts are read as.
-use Rattle.std.proofs.Common.{◌≡◌, refl, sym, ap, ◌∙◌, rules, arith, eq-eqb, ℕ, ◌+◌, ◌<◌, ◌≤◌, nat_lt, Bool, true, false, if◌then◌else◌, List, length, ℤ, Option, Some, None, Result, Ok, Err, IfSome, replicate}
+use Rattle.std.proofs.Common.{◌≡◌, refl, sym, ap, ◌∙◌, rules, arith, ℕ, ◌+◌, ◌<◌, ◌≤◌, nat_lt, Bool, true, false, if◌then◌else◌, List, length, Option, Some, None, Result, Ok, Err, IfSome, replicate}
 use Rattle.std.proofs.lemmas.List.{length-replicate}
 use Rattle.std.specs.Option.{IsSomeAnd}
 use Rattle.dp_base.specs.declared.Quantity.{Quantity}
@@ -10,7 +10,6 @@ use Rattle.dp_lex.specs.Tokens.{RefusedAt}
 use Rattle.dp_parse.specs.Parses.{ParsesAs, NestsTooDeep, DerivesNothing}
 use Rattle.dp_check.specs.declared.fail.CheckFail.{CheckFail}
 use Rattle.dp_check.specs.Verdict.{verdict}
-use Rattle.dp_calls.specs.Expand.{expand}
 use Rattle.dp_inline.specs.declared.fail.InlineFail.{InlineFail}
 use Rattle.dp_inline.specs.Verdict.{verdict as size_verdict}
 use Rattle.dp_inline.proofs.MeaningLemmas.{expands}
@@ -18,7 +17,7 @@ use Rattle.dp_edge.specs.Input.{numbers_of}
 use Rattle.dswp.specs.declared.refusal.Refusal.{Refusal}
 use Rattle.dswp.specs.declared.refusal.Refusal.TheVariants.{Byte, Syntax, Limit}
 use Rattle.dswp.specs.Program.{Reads, ReadsAs, TooLong, NoToken, TooDeep, NoTree, Judged, sized, judged, expanded, refusal_of}
-use Rattle.dswp.specs.Answer.{Contents, Holds, ReadsInput, input_of, or_refused}
+use Rattle.dswp.specs.Answer.{Contents, Holds, ReadsInput, or_refused}
 use Rattle.dswp.specs.Loading.{LoadsProgram}
 use Rattle.dswp.proofs.accepted.Lengths.{lengths}
 use Rattle.dswp.proofs.accepted.Exits.{exits}

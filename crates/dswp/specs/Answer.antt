@@ -13,11 +13,12 @@ use Rattle.dswp.specs.declared.refusal.Refusal.{Refusal}
 use Rattle.dswp.specs.declared.refusal.Refusal.TheVariants.{Words, InputWord, Limit}
 use Rattle.dswp.specs.Refusal.{refusal_line, refusal_status}
 use Rattle.dp_report.specs.SiteText.{site_bytes}
-use Rattle.dp_words.specs.Words.{Run, Asks, AsksSites, AsksNothing}
+use Rattle.dp_words.specs.declared.task.PlanOptions.{PlanOptions}
+use Rattle.dp_words.specs.Words.{Run, Planning, Asks, AsksPlans, AsksSites, AsksNothing}
 use Rattle.dp_run.specs.RunText.{source_run, committed_in_all}
 use Rattle.dp_plan.specs.declared.Plan.{Plan}
-use Rattle.dp_plan.specs.OneStage.{one_stage_plans}
-use Rattle.dswp.specs.Plans.{ReadsPlans}
+use Rattle.dp_plan.specs.WrittenText.{plans_text}
+use Rattle.dswp.specs.Plans.{MakesPlans, ReadsPlans}
 use Rattle.dswp.specs.Program.{Reads}
 use Rattle.dswp.specs.RunText.{run_text, status_of}
 
@@ -54,12 +55,12 @@ pub data Input (contents : Contents) : Option (List ℕ) → Result (List ℤ) R
   Unnamed : Input contents None (Ok [])
   Named : (name : List ℕ) (read : Result (List ℤ) Refusal) → ReadsInput contents name read → Input contents (Some name) read
 
--- the plans of a run of this expanded program: one stage for each region where none are named, and else what the text under the name gives
-pub data Plans (contents : Contents) (p : Program) : Option (List ℕ) → Result (List Plan) Refusal → Type 0 where
-  OneStage : Plans contents p None (Ok (one_stage_plans p))
-  Planned : (name text : List ℕ) (read : Result (List Plan) Refusal) → Holds contents name text → ReadsPlans p text read → Plans contents p (Some name) read
+-- the plans of a run of this expanded program: the automatic ones where none are named, and else what the text under the name gives
+pub data Plans (contents : Contents) (p : Program) (options : PlanOptions) : Option (List ℕ) → Result (List Plan) Refusal → Type 0 where
+  Automatic : (plans : List Plan) → MakesPlans p options plans → Plans contents p options None (Ok plans)
+  Planned : (name text : List ℕ) (read : Result (List Plan) Refusal) → Holds contents name text → ReadsPlans p text read → Plans contents p options (Some name) read
 
--- The first refusal, in the order of words, program, input and plans, or else the run, or the list of sites.
+-- The first refusal, in the order of words, program, input and plans, or else the run, the automatic plans, or the list of sites.
 pub data Answer (words : List (List ℕ)) (contents : Contents) : ℕ → List ℕ → Type 0 where
   NotTaken : AsksNothing words → Answer words contents (refusal_status Words) (refusal_line Words)
   ProgramRefused : (run : Run) (text : List ℕ) (refusal : Refusal) → Asks words run → Holds contents run.program text → Reads text (Err refusal) →
@@ -67,10 +68,14 @@ pub data Answer (words : List (List ℕ)) (contents : Contents) : ℕ → List �
   InputRefused : (run : Run) (text : List ℕ) (p : Program) (refusal : Refusal) → Asks words run → Holds contents run.program text → Reads text (Ok p) →
       Input contents run.input (Err refusal) → Answer words contents (refusal_status refusal) (refusal_line refusal)
   PlansRefused : (run : Run) (text : List ℕ) (p : Program) (numbers : List ℤ) (refusal : Refusal) → Asks words run → Holds contents run.program text → Reads text (Ok p) →
-      Input contents run.input (Ok numbers) → Plans contents (expand p) run.plan (Err refusal) → Answer words contents (refusal_status refusal) (refusal_line refusal)
+      Input contents run.input (Ok numbers) → Plans contents (expand p) run.options run.plan (Err refusal) → Answer words contents (refusal_status refusal) (refusal_line refusal)
   Ran : (run : Run) (text : List ℕ) (p : Program) (numbers : List ℤ) (plans : List Plan) → Asks words run → Holds contents run.program text → Reads text (Ok p) →
-      Input contents run.input (Ok numbers) → Plans contents (expand p) run.plan (Ok plans) →
+      Input contents run.input (Ok numbers) → Plans contents (expand p) run.options run.plan (Ok plans) →
       Answer words contents (status_of (outcome p numbers run.fuel).end) (run_text p plans numbers run.fuel run.why)
+  PlanningRefused : (planning : Planning) (text : List ℕ) (refusal : Refusal) → AsksPlans words planning → Holds contents planning.program text → Reads text (Err refusal) →
+      Answer words contents (refusal_status refusal) (refusal_line refusal)
+  PlansWritten : (planning : Planning) (text : List ℕ) (p : Program) (plans : List Plan) → AsksPlans words planning → Holds contents planning.program text → Reads text (Ok p) →
+      MakesPlans (expand p) planning.options plans → Answer words contents 0 (plans_text (expand p) plans)
   SitesRefused : (program text : List ℕ) (refusal : Refusal) → AsksSites words program → Holds contents program text → Reads text (Err refusal) →
       Answer words contents (refusal_status refusal) (refusal_line refusal)
   SitesListed : (program text : List ℕ) (p : Program) → AsksSites words program → Holds contents program text → Reads text (Ok p) →
@@ -79,6 +84,7 @@ pub data Answer (words : List (List ℕ)) (contents : Contents) : ℕ → List �
 -- The text of this role is to be read under this name: no refusal comes before.
 pub data IsRead (words : List (List ℕ)) (contents : Contents) : Role → List ℕ → Type 0 where
   OfProgram : (run : Run) → Asks words run → IsRead words contents role.Program run.program
+  OfPlanning : (planning : Planning) → AsksPlans words planning → IsRead words contents role.Program planning.program
   OfSites : (program : List ℕ) → AsksSites words program → IsRead words contents role.Program program
   OfInput : (run : Run) (text name : List ℕ) (p : Program) → Asks words run → Holds contents run.program text → Reads text (Ok p) →
       run.input ≡ Some name → IsRead words contents role.Input name
@@ -88,5 +94,5 @@ pub data IsRead (words : List (List ℕ)) (contents : Contents) : Role → List 
 -- The iterations that were committed from the pipeline, of the run that the words ask for.
 pub data Commits (words : List (List ℕ)) (contents : Contents) : ℕ → Type 0 where
   OfRun : (run : Run) (text : List ℕ) (p : Program) (numbers : List ℤ) (plans : List Plan) → Asks words run → Holds contents run.program text → Reads text (Ok p) →
-      Input contents run.input (Ok numbers) → Plans contents (expand p) run.plan (Ok plans) →
+      Input contents run.input (Ok numbers) → Plans contents (expand p) run.options run.plan (Ok plans) →
       Commits words contents (committed_in_all (expand p) plans (source_run (expand p) numbers run.fuel))

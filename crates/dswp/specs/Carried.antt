@@ -14,6 +14,7 @@ use Rattle.dswp.specs.declared.texts.Texts.TheVariants as texts
 use Rattle.dswp.specs.Refusal.{failed_read_line}
 use Rattle.dp_words.specs.Words.{Run}
 use Rattle.dp_plan.specs.declared.Plan.{Plan}
+use Rattle.dp_plan.specs.GivenPlans.{ArePlans}
 use Rattle.dp_crew.specs.Output.{WritesFront}
 use Rattle.dswp.specs.Answer.{Contents, Answer, IsRead, Input, Plans}
 use Rattle.dswp.specs.Loading.{ReadsProgram}
@@ -32,13 +33,13 @@ Finishes status bytes told tells (Err fail) = WritesFront bytes told tells
 
 -- What the texts of a run give, with the shelf's faults and failed names before and after.
 pub data LoadsTexts (contents : Contents) (run : Run) (faults after : ℕ) (failed fails : Names) : Texts → Type 0 where
-  Loaded : (p q : Program) (numbers : List ℤ) (plans : List Plan) → q ≡ expand p → ReadsProgram contents run.program (Ok p) → Input contents run.input (Ok numbers) → Plans contents q run.plan (Ok plans) →
+  Loaded : (p q : Program) (numbers : List ℤ) (plans : List Plan) → q ≡ expand p → ReadsProgram contents run.program (Ok p) → Input contents run.input (Ok numbers) → Plans contents q run.options run.plan (Ok plans) → ArePlans q plans →
       after ≡ faults → fails ≡ failed → LoadsTexts contents run faults after failed fails (texts.Run q numbers plans)
   ProgramRefused : (refusal : Refusal) → ReadsProgram contents run.program (Err refusal) → after ≡ faults → fails ≡ failed →
       LoadsTexts contents run faults after failed fails (texts.Refused refusal)
   InputRefused : (refusal : Refusal) (p : Program) → ReadsProgram contents run.program (Ok p) → Input contents run.input (Err refusal) → after ≡ faults → fails ≡ failed →
       LoadsTexts contents run faults after failed fails (texts.Refused refusal)
-  PlansRefused : (refusal : Refusal) (p : Program) (numbers : List ℤ) → ReadsProgram contents run.program (Ok p) → Input contents run.input (Ok numbers) → Plans contents (expand p) run.plan (Err refusal) → after ≡ faults → fails ≡ failed →
+  PlansRefused : (refusal : Refusal) (p : Program) (numbers : List ℤ) → ReadsProgram contents run.program (Ok p) → Input contents run.input (Ok numbers) → Plans contents (expand p) run.options run.plan (Err refusal) → after ≡ faults → fails ≡ failed →
       LoadsTexts contents run faults after failed fails (texts.Refused refusal)
   ProgramFailed : faults < after → fails ≡ with_name run.program failed → LoadsTexts contents run faults after failed fails (texts.Failed role.Program)
   InputFailed : (p : Program) (name : List ℕ) → ReadsProgram contents run.program (Ok p) → run.input ≡ Some name → faults < after → fails ≡ with_name name failed →

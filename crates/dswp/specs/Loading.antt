@@ -34,6 +34,12 @@ Loads P (Text x) = P (Ok x)
 Loads P (Refused refusal) = P (Err refusal)
 Loads P Failed = Unit {0}
 
+-- what it stands for is so, where it gave something
+abbrev pub IfText : {X : Type 0} → (X → Type 0) → Loaded X → Type 0
+IfText P (Text x) = P x
+IfText P (Refused refusal) = Unit {0}
+IfText P Failed = Unit {0}
+
 -- the shelf's count of faults rises where reading failed, and else stays
 abbrev pub FaultsAfterLoad : {X E : Type 0} → Result (Loaded X) E → ℕ → ℕ → Type 0
 FaultsAfterLoad (Ok Failed) old new = old < new

@@ -5,13 +5,14 @@ ghost use Rattle.dp_crew.specs.Fail.{FaultsAfter};
 ghost use Rattle.dp_words.specs.Words.{Asks, AsksSites, RunWithin, shown};
 ghost use Rattle.dswp.specs.Headline.{Answered, IsCounted, ReadFailed, WriteFailed};
 ghost use Rattle.dswp.specs.Carried.{Carried, Finishes};
-ghost use Rattle.dswp.specs.Refusal.{refusal_line, refusal_status, failed_read_line};
 ghost use Rattle.dswp.specs.Status.{status_after};
 
 use crate::load::{Loaded, load_program};
+use crate::planning::answer_plan;
 use crate::refusal::{Refusal, Role};
 use crate::running::{load, run_to_end};
 use crate::texts::Texts;
+use crate::writing::{fail_read, refuse};
 use dp_edge::{Gate, Shelf, Sink};
 use dp_report::site_text;
 use dp_run::{CrewFail, Tally, write};
@@ -95,6 +96,7 @@ fn answer<R: Threads + Wait + Sync, S: Shelf, K: Sink, G: Gate>(
 {
     match asked(alloc, words)? {
         Some(Task::Run(run)) => answer_run(rt, alloc, run, shelf, sink, gate, tally),
+        Some(Task::Plan(plan)) => answer_plan(alloc, plan, shelf, sink),
         Some(Task::Check(program)) => answer_check(alloc, program, shelf, sink),
         None => refuse(alloc, Refusal::Words, sink),
     }
@@ -159,26 +161,4 @@ fn list_sites<K: Sink>(alloc: Global, program: &Program, sink: &mut K) -> Result
     let text = site_text(alloc, program)?;
     write(text.as_slice(), sink)?;
     Ok(0)
-}
-
-/// Writes a refusal's line.
-fn refuse<K: Sink>(alloc: Global, refusal: Refusal, sink: &mut K) -> Result<u8, CrewFail>
-    requires { K.faults sink.old < 2 ^ 64 - 1 }
-    ensures faults { FaultsAfter result (K.faults sink.old) (K.faults sink.new) }
-    ensures finishes { Finishes (refusal_status refusal) (refusal_line refusal) (K.written sink.old) (K.written sink.new) result }
-{
-    let line = refusal.line(alloc)?;
-    write(line.as_bytes(), sink)?;
-    Ok(refusal.status())
-}
-
-/// Writes the line of a text that couldn't be read.
-fn fail_read<K: Sink>(alloc: Global, role: Role, sink: &mut K) -> Result<u8, CrewFail>
-    requires { K.faults sink.old < 2 ^ 64 - 1 }
-    ensures faults { FaultsAfter result (K.faults sink.old) (K.faults sink.new) }
-    ensures finishes { Finishes 5 (failed_read_line role) (K.written sink.old) (K.written sink.new) result }
-{
-    let line = role.failed_read_line(alloc)?;
-    write(line.as_bytes(), sink)?;
-    Ok(5)
 }

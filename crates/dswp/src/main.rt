@@ -5,6 +5,7 @@
 mod answer;
 mod law;
 mod load;
+mod planning;
 mod program;
 mod quantity;
 mod refusal;
@@ -12,6 +13,7 @@ mod running;
 #[cfg(test)]
 mod tests;
 mod texts;
+mod writing;
 
 use answer::drive;
 use dp_edge::{FileShelf, OpenGate, OutSink};

@@ -4,29 +4,32 @@ ghost use Rattle.dp_tree.specs.Inlined.{IsInlined};
 ghost use Rattle.dp_crew.specs.Fail.{FaultsAfter};
 ghost use Rattle.dp_run.specs.Given.{AreGiven};
 ghost use Rattle.dp_run.specs.RunText.{committed_in_all, source_run, trace_text};
-ghost use Rattle.dp_words.specs.Words.{RunWithin, shown};
+ghost use Rattle.dp_plan.specs.GivenPlans.{ArePlans};
+ghost use Rattle.dp_words.specs.Words.{OptionsWithin, RunWithin, shown};
 ghost use Rattle.dswp.specs.Carried.{Finishes, LoadsTexts};
 ghost use Rattle.std.specs.Option.{option_map};
 ghost use Rattle.dswp.specs.Answer.{Input, Plans};
-ghost use Rattle.dswp.specs.Loading.{Gives};
+ghost use Rattle.dswp.specs.Loading.{Gives, IfText};
 ghost use Rattle.dswp.specs.RunText.{status_of};
 
 use crate::load::{Loaded, load_input, load_plans, load_program};
+use crate::planning::automatic_plans;
 use crate::refusal::Role;
 use crate::texts::Texts;
 use dp_base::{End, NoMemory, Row};
 use dp_edge::{Gate, Shelf, Sink};
-use dp_plan::{Plan, one_stage_plans};
+use dp_plan::Plan;
 use dp_run::{CrewFail, CrewSize, RunOptions, Tally, run_program};
 use dp_tree::Program;
-use dp_words::RunWords;
+use dp_words::{PlanOptions, RunWords};
 use std::alloc::Global;
 use std::sync::Wait;
 use std::thread::Threads;
 
 /// The texts that a run names: first the program, then the input, and then the plans.
 pub fn load<S: Shelf>(alloc: Global, run: RunWords, shelf: &mut S) -> Result<Texts, NoMemory>
-    requires { S.faults shelf.old < 2 ^ 64 - 1 }
+    requires options { OptionsWithin run.options }
+    requires shelf { S.faults shelf.old < 2 ^ 64 - 1 }
     ensures contents { S.contents shelf.new ≡ S.contents shelf.old }
     ensures loads { IfOk result (LoadsTexts (S.contents shelf.old) (shown run.entry) (S.faults shelf.old) (S.faults shelf.new) (S.failed_names shelf.old) (S.failed_names shelf.new)) }
     ensures err { OnErr result ((S.faults shelf.new ≡ S.faults shelf.old) × (S.failed_names shelf.new ≡ S.failed_names shelf.old)) }
@@ -41,7 +44,7 @@ pub fn load<S: Shelf>(alloc: Global, run: RunWords, shelf: &mut S) -> Result<Tex
         Loaded::Refused(refusal) => return Ok(Texts::Refused(refusal)),
         Loaded::Failed => return Ok(Texts::Failed(Role::Input)),
     };
-    match load_given(alloc, shelf, run.plan, &program)? {
+    match load_given(alloc, shelf, run.plan, run.options, &program)? {
         Loaded::Text(plans) => Ok(Texts::Run(program, input, plans)),
         Loaded::Refused(refusal) => Ok(Texts::Refused(refusal)),
         Loaded::Failed => Ok(Texts::Failed(Role::Plan)),
@@ -65,23 +68,26 @@ fn load_words<S: Shelf>(
     }
 }
 
-/// The plans under a name, if there is one: else one stage for each region.
+/// The plans under a name, if there is one: else the automatic ones.
 fn load_given<S: Shelf>(
     alloc: Global,
     shelf: &mut S,
     name: Option<&str>,
+    options: PlanOptions,
     program: &Program,
 ) -> Result<Loaded<Row<Plan>>, NoMemory>
     requires shelf { S.faults shelf.old < 2 ^ 64 - 1 }
     requires inlined { IsInlined program.now }
     requires sites { length program.now.sites < 2 ^ 32 }
+    requires options { OptionsWithin options }
     ensures contents { S.contents shelf.new ≡ S.contents shelf.old }
-    ensures gives { IfOk result (Gives (Plans (S.contents shelf.old) program.now (option_map (λ n. n.now) name.entry)) (option_map (λ n. n.now) name.entry) (S.faults shelf.old) (S.faults shelf.new) (S.failed_names shelf.old) (S.failed_names shelf.new)) }
+    ensures gives { IfOk result (Gives (Plans (S.contents shelf.old) program.now options (option_map (λ n. n.now) name.entry)) (option_map (λ n. n.now) name.entry) (S.faults shelf.old) (S.faults shelf.new) (S.failed_names shelf.old) (S.failed_names shelf.new)) }
+    ensures fit { IfOk result (IfText (ArePlans program.now)) }
     ensures err { OnErr result ((S.faults shelf.new ≡ S.faults shelf.old) × (S.failed_names shelf.new ≡ S.failed_names shelf.old)) }
 {
     match name {
         Some(name) => load_plans(alloc, shelf, name, program),
-        None => Ok(Loaded::Text(one_stage_plans(alloc, program)?)),
+        None => Ok(Loaded::Text(automatic_plans(alloc, program, options)?)),
     }
 }
 
@@ -110,7 +116,7 @@ pub fn run_to_end<R: Threads + Wait + Sync, K: Sink, G: Gate>(
     let options = RunOptions {
         fuel: run.fuel,
         crew: CrewSize {
-            workers: run.workers,
+            workers: run.options.workers,
             lane: run.lane,
         },
         why: run.why,

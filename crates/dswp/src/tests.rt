@@ -5,6 +5,7 @@
 //! pattern's front, and those behind ` => ` in its text. A part `N*TEXT` between backticks is that text N times, with `@`
 //! for the numbers from 0 on and `^` for those from 1 on. The exit status is that of the text's last line.
 mod arithmetic;
+mod automatic;
 mod bytes;
 mod calls;
 mod examples;

@@ -2,38 +2,50 @@
 use Rattle.std.proofs.Common.{refl, List, [], ◌∷◌, Some, None, true, false, codes}
 use Rattle.clap.specs.Words.{Text}
 use Rattle.clap.proofs.OnLiterals.{clap_on_literals}
-use Rattle.dp_words.specs.Words.{NamesRun, NamesSites}
+use Rattle.dp_words.specs.Commands.{check_app, plan_app, run_app}
+use Rattle.dp_words.specs.Words.{Names, ShowsPlanning, ShowsRun, ShowsSites}
 
 -- ---- the names alone
 
 abbrev short_words : List Text
 short_words = codes "p" ∷ []
 
-short_run : NamesRun short_words (record { program = codes "p"; input = None; plan = None; workers = 2; lane = 16; fuel = 10000000; why = false })
+short_run : Names run_app ShowsRun short_words (record { program = codes "p"; input = None; plan = None; options = record { rate = 10; stages = 4; workers = 2 }; lane = 16; fuel = 10000000; why = false })
 unfolding clap_on_literals
-short_run = record { taken = refl; program = refl; input = refl; plan = refl; workers = refl; lane = refl; fuel = refl; why = refl }
+short_run = record { taken = refl; shows = record { program = refl; input = refl; plan = refl; options = refl; lane = refl; fuel = refl; why = refl } }
 
 -- ---- every option, behind both names
 
 abbrev full_words : List Text
 full_words =
-    codes "p" ∷ codes "i" ∷ codes "--plan" ∷ codes "f" ∷ codes "--workers" ∷ codes "8" ∷ codes "--lane" ∷ codes "1" ∷ codes "--fuel" ∷ codes "0" ∷ codes "--why" ∷ []
+    codes "p" ∷ codes "i" ∷ codes "--plan" ∷ codes "f" ∷ codes "--workers" ∷ codes "8" ∷ codes "--lane" ∷ codes "1" ∷ codes "--fuel" ∷ codes "0" ∷ codes "--rate" ∷ codes "0" ∷ codes "--stages" ∷ codes "1" ∷ codes "--why" ∷ []
 
-full_run : NamesRun full_words (record { program = codes "p"; input = Some (codes "i"); plan = Some (codes "f"); workers = 8; lane = 1; fuel = 0; why = true })
+full_run : Names run_app ShowsRun full_words (record { program = codes "p"; input = Some (codes "i"); plan = Some (codes "f"); options = record { rate = 0; stages = 1; workers = 8 }; lane = 1; fuel = 0; why = true })
 unfolding clap_on_literals
-full_run = record { taken = refl; program = refl; input = refl; plan = refl; workers = refl; lane = refl; fuel = refl; why = refl }
+full_run = record { taken = refl; shows = record { program = refl; input = refl; plan = refl; options = refl; lane = refl; fuel = refl; why = refl } }
 
 -- ---- options in front of the names and between them, with `=`, with a plus and with zeros in front
 
 abbrev mixed_words : List Text
 mixed_words = codes "--lane=64" ∷ codes "p" ∷ codes "--fuel=+1000000000" ∷ codes "--workers" ∷ codes "01" ∷ codes "--" ∷ codes "--plan" ∷ []
 
-mixed_run : NamesRun mixed_words (record { program = codes "p"; input = Some (codes "--plan"); plan = None; workers = 1; lane = 64; fuel = 1000000000; why = false })
+mixed_run : Names run_app ShowsRun mixed_words (record { program = codes "p"; input = Some (codes "--plan"); plan = None; options = record { rate = 10; stages = 4; workers = 1 }; lane = 64; fuel = 1000000000; why = false })
 unfolding clap_on_literals
-mixed_run = record { taken = refl; program = refl; input = refl; plan = refl; workers = refl; lane = refl; fuel = refl; why = refl }
+mixed_run = record { taken = refl; shows = record { program = refl; input = refl; plan = refl; options = refl; lane = refl; fuel = refl; why = refl } }
 
--- ---- the list of sites
+-- ---- the automatic plans, and the list of sites
 
-one_program : NamesSites short_words (codes "p")
+short_plan : Names plan_app ShowsPlanning short_words (record { program = codes "p"; options = record { rate = 10; stages = 4; workers = 2 } })
 unfolding clap_on_literals
-one_program = record { taken = refl; program_is = refl }
+short_plan = record { taken = refl; shows = record { program = refl; options = refl } }
+
+abbrev plan_words : List Text
+plan_words = codes "--rate" ∷ codes "1000" ∷ codes "--stages=8" ∷ codes "p" ∷ codes "--workers" ∷ codes "3" ∷ []
+
+full_plan : Names plan_app ShowsPlanning plan_words (record { program = codes "p"; options = record { rate = 1000; stages = 8; workers = 3 } })
+unfolding clap_on_literals
+full_plan = record { taken = refl; shows = record { program = refl; options = refl } }
+
+one_program : Names check_app ShowsSites short_words (codes "p")
+unfolding clap_on_literals
+one_program = record { taken = refl; shows = refl }

@@ -3,7 +3,7 @@ use Rattle.std.proofs.Common.{◌≡◌, refl, List, [], ◌∷◌, codes}
 use Rattle.clap.specs.Words.{Text, fault_of}
 use Rattle.clap.specs.declared.error.kind.ErrorKind.TheVariants as kind
 use Rattle.clap.proofs.OnLiterals.{clap_on_literals}
-use Rattle.dp_words.specs.Words.{check_app, run_app}
+use Rattle.dp_words.specs.Commands.{check_app, plan_app, run_app}
 
 abbrev option_of : Text → Text → List Text
 option_of name value = codes "p" ∷ name ∷ value ∷ []
@@ -43,6 +43,22 @@ too_many_places = refl
 too_much_fuel : fault_of run_app (option_of (codes "--fuel") (codes "1000000001")) ≡ kind.ValueValidation ∷ []
 unfolding clap_on_literals
 too_much_fuel = refl
+
+no_stage : fault_of run_app (option_of (codes "--stages") (codes "0")) ≡ kind.ValueValidation ∷ []
+unfolding clap_on_literals
+no_stage = refl
+
+nine_stages : fault_of plan_app (option_of (codes "--stages") (codes "9")) ≡ kind.ValueValidation ∷ []
+unfolding clap_on_literals
+nine_stages = refl
+
+large_rate : fault_of run_app (option_of (codes "--rate") (codes "1001")) ≡ kind.ValueValidation ∷ []
+unfolding clap_on_literals
+large_rate = refl
+
+planned_with_input : fault_of plan_app (codes "p" ∷ codes "i" ∷ []) ≡ kind.UnknownArgument ∷ []
+unfolding clap_on_literals
+planned_with_input = refl
 
 no_number : fault_of run_app (option_of (codes "--fuel") (codes "1e3")) ≡ kind.ValueValidation ∷ []
 unfolding clap_on_literals

@@ -6,7 +6,6 @@ use Rattle.dp_lex.specs.Token.{Lexeme}
 use Rattle.dp_tree.specs.declared.raw.RawExpr.{RawExpr}
 use Rattle.dp_tree.specs.declared.raw.RawStmt.{RawStmt, out-RawStmt, roll-RawStmt, out-roll-RawStmt}
 use Rattle.dp_tree.specs.declared.raw.RawStmt.TheOpen.{RawStmt-F}
-use Rattle.dp_tree.specs.declared.raw.RawStmt.TheOpen as open_form
 use Rattle.dp_tree.specs.declared.raw.RawStmt.TheBlock.{hidden-the_row-RawStmt-0}
 use Rattle.dp_tree.specs.declared.raw.RawStmt.TheVariants as tree
 use Rattle.dp_tree.specs.declared.raw.RawStmt.TheViews.{rolls-Declare, rolls-Assign, rolls-Store, rolls-Call, rolls-Print, rolls-If, rolls-While, rolls-For}

@@ -1,6 +1,7 @@
 -- What is loaded for a run is what a run asks for.
-use Rattle.std.proofs.Common.{◌≡◌, refl, sym, ap, ◌∙◌, subst, ℕ, ◌<◌, ◌≤◌, ◌^◌, Bool, true, false, if◌then◌else◌, nat_lt, nat_le, min, suc, ◌+◌, List, [], ◌∷◌, length, ℤ, Option, Some, None, Result, Ok, Err, arith}
+use Rattle.std.proofs.Common.{◌≡◌, refl, sym, ap, ◌∙◌, subst, ℕ, ◌<◌, ◌≤◌, ◌^◌, Bool, true, false, if◌then◌else◌, nat_lt, nat_le, min, suc, ◌+◌, List, [], ◌∷◌, length, ℤ, Option, Some, None, Result, Ok, Err, IfOk, arith}
 use Rattle.std.proofs.lemmas.Bool.{leb-true}
+use Rattle.dp_base.specs.declared.NoMemory.{NoMemory}
 use Rattle.dp_base.specs.declared.Quantity.TheVariants.{InputBytes}
 use Rattle.dp_edge.specs.declared.input.InputFail.{InputFail}
 use Rattle.dp_edge.specs.declared.input.InputFail.TheVariants.{TooMany}
@@ -8,7 +9,6 @@ use Rattle.dp_edge.specs.Input.{number_before, number_of, numbers_from, numbers_
 use Rattle.dswp.specs.declared.refusal.Refusal.TheVariants.{Limit}
 use Rattle.dp_tree.specs.declared.Program.{Program}
 use Rattle.dp_tree.specs.Inlined.{IsInlined}
-use Rattle.dp_calls.specs.Expand.{expand}
 use Rattle.dp_calls.proofs.InlinedLaws.{expanded_is_inlined}
 use Rattle.dp_plan.specs.declared.Plan.{Plan}
 use Rattle.dp_plan.specs.GivenPlans.{ArePlans}
@@ -17,14 +17,14 @@ use Rattle.dp_run.specs.Given.{AreGiven}
 use Rattle.dp_words.specs.Words.{Run}
 use Rattle.dswp.specs.declared.refusal.Refusal.{Refusal}
 use Rattle.dswp.specs.declared.texts.Texts.TheVariants as texts
-use Rattle.dswp.specs.Answer.{Contents, Input, Unnamed, Named, or_refused, Plans, OneStage, Planned}
-use Rattle.dp_plan.specs.OneStage.{one_stage_plans}
+use Rattle.dswp.specs.Answer.{Contents, Input, Unnamed, Named, or_refused}
 use Rattle.dswp.specs.Plans.{ReadsPlans, TooLong, NotPlans, Broken, Taken}
-use Rattle.dswp.specs.Carried.{Names, LoadsTexts, Loaded}
-use Rattle.dswp.specs.Loading.{LoadsProgram}
+use Rattle.dswp.specs.Carried.{Names, LoadsTexts, Loaded as LoadedTexts}
+use Rattle.dswp.specs.declared.load.Loaded.{Loaded}
+use Rattle.dswp.specs.declared.load.Loaded.TheVariants.{Text, Refused, Failed}
+use Rattle.dswp.specs.Loading.{IfText, Loads, LoadsPlans, LoadsProgram}
 use Rattle.dswp.proofs.TextsLemmas.{Source, source_of}
 use Rattle.dswp.proofs.accepted.Accepted.{read_checked, few_sites_read}
-use Rattle.dp_plan.proofs.OneStageGiven.{one_stage_given}
 
 read_plans : {p : Program} {text : List ℕ} {o : Result (List Plan) Refusal} (inlined : IsInlined p) → length p.sites < 2 ^ 32 → (plans : List Plan) → ReadsPlans p text o → o ≡ Ok plans → ArePlans p plans
 read_plans inlined few plans (TooLong h) e = absurd (cc e)
@@ -32,19 +32,22 @@ read_plans inlined few plans (NotPlans line h r) e = absurd (cc e)
 read_plans inlined few plans (Broken rule site h r) e = absurd (cc e)
 read_plans {p = p} {text = text} inlined few plans (Taken others h r) e = let same : others ≡ plans = cc e in subst (ArePlans p) same (read_fits p inlined few text others r)
 
-given_plans : {contents : Contents} {p : Program} {name : Option (List ℕ)} {o : Result (List Plan) Refusal} → IsInlined p → length p.sites < 2 ^ 32 → (plans : List Plan) → Plans contents p name o → o ≡ Ok plans → ArePlans p plans
-given_plans {p = p} inlined few plans OneStage e = let same : one_stage_plans p ≡ plans = cc e in subst (ArePlans p) same (one_stage_given p inlined few)
-given_plans inlined few plans (Planned name text read h r) e = read_plans inlined few plans r e
+-- plans that were read fit their regions
+loaded_plans_fit : (contents : Contents) (p : Program) (name : List ℕ) → IsInlined p → length p.sites < 2 ^ 32 → (x : Loaded (List Plan)) → Loads (LoadsPlans contents p name) x → IfText (ArePlans p) x
+loaded_plans_fit contents p name inlined few (Text plans) h = read_plans inlined few plans h.reads refl
+loaded_plans_fit contents p name inlined few (Refused refusal) h = tt
+loaded_plans_fit contents p name inlined few Failed h = tt
+
+pub read_plans_fit : (contents : Contents) (p : Program) (name : List ℕ) → IsInlined p → length p.sites < 2 ^ 32 → (r : Result (Loaded (List Plan)) NoMemory) → IfOk r (Loads (LoadsPlans contents p name)) → IfOk r (IfText (ArePlans p))
+read_plans_fit contents p name inlined few (Ok x) h = loaded_plans_fit contents p name inlined few x h
+read_plans_fit contents p name inlined few (Err fail) h = tt
 
 pub given : (contents : Contents) (run : Run) (faults after : ℕ) (failed fails : Names) (q : Program) (numbers : List ℤ) (plans : List Plan) → LoadsTexts contents run faults after failed fails (texts.Run q numbers plans) → AreGiven q plans
-given contents run faults after failed fails q numbers plans (Loaded p x others more is h k l e f) =
-    let inlined = expanded_is_inlined p (read_checked h.text p h.reads) in
-    let few = few_sites_read h.text p h.reads in
-    subst (λ (z : Program). AreGiven z plans) (sym is) (record {
-      inlined = inlined;
-      sites = few;
-      plans_are = given_plans inlined few plans (subst (λ (z : Program). Plans contents z run.plan (Ok plans)) is l) refl;
-    })
+given contents run faults after failed fails q numbers plans (LoadedTexts p x others more is h k l fit e f) = record {
+  inlined = subst IsInlined (sym is) (expanded_is_inlined p (read_checked h.text p h.reads));
+  sites = subst (λ (z : Program). length z.sites < 2 ^ 32) (sym is) (few_sites_read h.text p h.reads);
+  plans_are = fit;
+}
 
 -- a number for each word
 each_number : (words : List (List ℕ)) (place : ℕ) (numbers : List ℤ) (read : Result (List ℤ) InputFail) → numbers_from place words ≡ read → read ≡ Ok numbers → length numbers ≡ length words
@@ -77,7 +80,7 @@ few_words numbers (Named name read r) e = by (nat_lt 2097152 (length r.text)) re
     by false short same = few (numbers_of r.text) refl same
 
 pub words_given : (contents : Contents) (run : Run) (faults after : ℕ) (failed fails : Names) (q : Program) (numbers : List ℤ) (plans : List Plan) → LoadsTexts contents run faults after failed fails (texts.Run q numbers plans) → length numbers ≤ 65536
-words_given contents run faults after failed fails q numbers plans (Loaded p x others more is h k l e f) = few_words numbers k refl
+words_given contents run faults after failed fails q numbers plans (LoadedTexts p x others more is h k l fit e f) = few_words numbers k refl
 
 -- what is run for a program's text has no call, and few sites
 module _ (contents : Contents) (name : List ℕ) (q : Program) (h : LoadsProgram contents name (Ok q)) where

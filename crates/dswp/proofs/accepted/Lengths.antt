@@ -1,5 +1,5 @@
 -- An array of a text has an element at least.
-use Rattle.std.proofs.Common.{◌≡◌, refl, ◌≤◌, Bool, true, nat_lt, List, [], ◌∷◌, ℕ, rules}
+use Rattle.std.proofs.Common.{◌≡◌, refl, ◌≤◌, true, nat_lt, List, ℕ, rules}
 use Rattle.std.proofs.lemmas.Bool.{and_from}
 use Rattle.std.specs.List.{list_all}
 use Rattle.dp_lex.specs.Token.{Lexeme}

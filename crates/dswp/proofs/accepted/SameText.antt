@@ -1,14 +1,12 @@
 -- The text of a run is the same from the source with call frames and from the program with its calls expanded.
-use Rattle.std.proofs.Common.{◌≡◌, refl, sym, ap, ◌∙◌, ℕ, Bool, List, ◌++◌, length, take, ℤ}
+use Rattle.std.proofs.Common.{◌≡◌, sym, ap, ◌∙◌, ℕ, Bool, List, ◌++◌, take, ℤ}
 use Rattle.dp_base.specs.declared.RegionReport.{RegionReport}
-use Rattle.dp_base.specs.declared.End.{End}
 use Rattle.dp_tree.specs.declared.Program.{Program}
-use Rattle.dp_tree.specs.Globals.{globals_in}
 use Rattle.dp_tree.specs.Inlined.{IsInlined}
 use Rattle.dp_tree.specs.Trace.{Run, prints}
 use Rattle.dp_calls.specs.Frame.{global_count}
 use Rattle.dp_calls.specs.Frames.{Outcome, outcome}
-use Rattle.dp_calls.specs.Meaning.{SameMeaning, outcome_of_run}
+use Rattle.dp_calls.specs.Meaning.{SameMeaning}
 use Rattle.dp_calls.specs.Expand.{expand}
 use Rattle.dp_calls.proofs.KeptGlobals.{expansion_keeps_globals}
 use Rattle.dp_report.specs.PrintsText.{prints_bytes}

@@ -8,16 +8,18 @@ use Rattle.dswp.specs.declared.refusal.Refusal.{Refusal}
 use Rattle.dswp.specs.declared.refusal.Refusal.TheVariants.{Words}
 use Rattle.dswp.specs.Refusal.{refusal_line, refusal_status}
 use Rattle.dswp.specs.RunText.{run_text, status_of}
-use Rattle.dp_words.specs.Words.{Run, Asks, AsksSites, AsksNothing}
+use Rattle.dp_words.specs.declared.task.PlanOptions.{PlanOptions}
+use Rattle.dp_words.specs.Words.{Run, Planning, Asks, AsksPlans, AsksSites, AsksNothing}
 use Rattle.dp_plan.specs.declared.Plan.{Plan}
-use Rattle.dp_plan.specs.OneStage.{one_stage_plans}
-use Rattle.dswp.specs.Plans.{ReadsPlans}
+use Rattle.dp_plan.specs.WrittenText.{plans_text}
+use Rattle.dp_cut.proofs.PlansOnce.{automatic_once}
+use Rattle.dswp.specs.Plans.{MakesPlans, ReadsPlans}
 use Rattle.dswp.specs.Program.{Reads}
-use Rattle.dswp.specs.Answer.{input_of, ReadsInput, Input, Unnamed, Named, Plans, OneStage, Planned, Answer, NotTaken, ProgramRefused, InputRefused, PlansRefused, Ran, SitesRefused, SitesListed}
+use Rattle.dswp.specs.Answer.{input_of, ReadsInput, Input, Unnamed, Named, Plans, Automatic, Planned, Answer, NotTaken, ProgramRefused, InputRefused, PlansRefused, Ran, PlanningRefused, PlansWritten, SitesRefused, SitesListed}
 use Rattle.dswp.proofs.accepted.Accepted.{few_regions_read}
 use Rattle.dswp.proofs.definite.ReadsOnce.{reads_once}
 use Rattle.dswp.proofs.definite.PlansOnce.{plans_once}
-use Rattle.dswp.proofs.definite.AsksOnce.{asks_once, sites_once, not_both}
+use Rattle.dswp.proofs.definite.AsksOnce.{asks_once, planning_once, sites_once, not_run_and_plans, not_run_and_sites, not_plans_and_sites}
 
 -- a status and the bytes
 abbrev refused : Refusal → ℕ × List ℕ
@@ -34,6 +36,10 @@ with_input run p (Ok numbers) plans = ran run p numbers plans
 abbrev run_given : Run → Result Program Refusal → Result (List ℤ) Refusal → Result (List Plan) Refusal → ℕ × List ℕ
 run_given run (Err refusal) input plans = refused refusal
 run_given run (Ok p) input plans = with_input run p input plans
+
+abbrev plans_given : Result Program Refusal → List Plan → ℕ × List ℕ
+plans_given (Err refusal) plans = refused refusal
+plans_given (Ok p) plans = (0, plans_text (expand p) plans)
 
 abbrev sites_given : Result Program Refusal → ℕ × List ℕ
 sites_given (Err refusal) = refused refusal
@@ -60,19 +66,22 @@ module _ (held : List ℕ → Option (List ℕ)) where
   input_by e (Named name read r) k = from_named name (sym e) r k
 
   -- the plans of a run
-  from_one_stage : {p : Program} {o : Option (List ℕ)} {b : Result (List Plan) Refusal} → o ≡ None → Plans (Some held) p o b → Ok (one_stage_plans p) ≡ b
-  from_one_stage e OneStage = refl
-  from_one_stage e (Planned name text read h r) = absurd (cc e)
+  made_once : (p : Program) (options : PlanOptions) (plans others : List Plan) → MakesPlans p options plans → MakesPlans p options others → plans ≡ others
+  made_once p options plans others a b = automatic_once p None options.rate options.stages options.workers plans others a b
 
-  module _ (p : Program) (few : length p.regions < 2 ^ 32) where
-    from_planned : {o : Option (List ℕ)} {a b : Result (List Plan) Refusal} (name text : List ℕ) → o ≡ Some name → held name ≡ Some text → ReadsPlans p text a → Plans (Some held) p o b → a ≡ b
-    from_planned name text e h r OneStage = absurd (cc e)
+  from_automatic : {p : Program} {options : PlanOptions} {o : Option (List ℕ)} {b : Result (List Plan) Refusal} (plans : List Plan) → o ≡ None → MakesPlans p options plans → Plans (Some held) p options o b → Ok plans ≡ b
+  from_automatic {p = p} {options = options} plans e made (Automatic others same) = ap Ok (made_once p options plans others made same)
+  from_automatic plans e made (Planned name text read h r) = absurd (cc e)
+
+  module _ (p : Program) (few : length p.regions < 2 ^ 32) (options : PlanOptions) where
+    from_planned : {o : Option (List ℕ)} {a b : Result (List Plan) Refusal} (name text : List ℕ) → o ≡ Some name → held name ≡ Some text → ReadsPlans p text a → Plans (Some held) p options o b → a ≡ b
+    from_planned name text e h r (Automatic plans made) = absurd (cc e)
     from_planned {b = b} name text e h r (Planned other more read k s) =
         let same : name ≡ other = cc e in
         plans_once p few text r (subst (λ (x : List ℕ). ReadsPlans p x b) (sym (one_text same h k)) s)
 
-    plans_by : {o q : Option (List ℕ)} {a b : Result (List Plan) Refusal} → o ≡ q → Plans (Some held) p o a → Plans (Some held) p q b → a ≡ b
-    plans_by e OneStage k = from_one_stage (sym e) k
+    plans_by : {o q : Option (List ℕ)} {a b : Result (List Plan) Refusal} → o ≡ q → Plans (Some held) p options o a → Plans (Some held) p options q b → a ≡ b
+    plans_by e (Automatic plans made) k = from_automatic plans (sym e) made k
     plans_by e (Planned name text read h r) k = from_planned name text (sym e) h r k
 
   -- The input counts only where the program isn't refused, and the plans where neither is.
@@ -83,12 +92,19 @@ module _ (held : List ℕ → Option (List ℕ)) where
   abbrev PlansFor : Result Program Refusal → Result (List ℤ) Refusal → Run → Result (List Plan) Refusal → Type 0
   PlansFor (Err refusal) input run plans = Unit {0}
   PlansFor (Ok p) (Err refusal) run plans = Unit {0}
-  PlansFor (Ok p) (Ok numbers) run plans = Plans (Some held) (expand p) run.plan plans
+  PlansFor (Ok p) (Ok numbers) run plans = Plans (Some held) (expand p) run.options run.plan plans
+
+  -- .. and the automatic plans where it isn't refused
+  abbrev MadeFor : Result Program Refusal → PlanOptions → List Plan → Type 0
+  MadeFor (Err refusal) options plans = Unit {0}
+  MadeFor (Ok p) options plans = MakesPlans (expand p) options plans
 
   data Way (words : List (List ℕ)) (answer : ℕ × List ℕ) : Type 0 where
     nothing : AsksNothing words → answer ≡ refused Words → Way words answer
     a_run : (run : Run) (text : List ℕ) (x : Result Program Refusal) (input : Result (List ℤ) Refusal) (plans : Result (List Plan) Refusal) → Asks words run → held run.program ≡ Some text → Reads text x → InputFor x run input → PlansFor x input run plans →
         answer ≡ run_given run x input plans → Way words answer
+    planned : (planning : Planning) (text : List ℕ) (x : Result Program Refusal) (made : List Plan) → AsksPlans words planning → held planning.program ≡ Some text → Reads text x → MadeFor x planning.options made →
+        answer ≡ plans_given x made → Way words answer
     sites : (program text : List ℕ) (x : Result Program Refusal) → AsksSites words program → held program ≡ Some text → Reads text x → answer ≡ sites_given x → Way words answer
 
   way : {words : List (List ℕ)} {status : ℕ} {bytes : List ℕ} → Answer words (Some held) status bytes → Way words (status, bytes)
@@ -97,6 +113,8 @@ module _ (held : List ℕ → Option (List ℕ)) where
   way (InputRefused run text p refusal asks h r i) = a_run run text (Ok p) (Err refusal) (Ok []) asks h r i tt refl
   way (PlansRefused run text p numbers refusal asks h r i l) = a_run run text (Ok p) (Ok numbers) (Err refusal) asks h r i l refl
   way (Ran run text p numbers plans asks h r i l) = a_run run text (Ok p) (Ok numbers) (Ok plans) asks h r i l refl
+  way (PlanningRefused planning text refusal asks h r) = planned planning text (Err refusal) [] asks h r tt refl
+  way (PlansWritten planning text p made asks h r m) = planned planning text (Ok p) made asks h r m refl
   way (SitesRefused program text refusal asks h r) = sites program text (Err refusal) asks h r refl
   way (SitesListed program text p asks h r) = sites program text (Ok p) asks h r refl
 
@@ -107,7 +125,7 @@ module _ (held : List ℕ → Option (List ℕ)) where
   same_plans run p few (Ok a) (Err b) l m e h k = absurd (cc e)
   same_plans run p few (Ok a) (Ok b) l m e h k =
       let same : a ≡ b = cc e in
-      ap (λ (numbers : List ℤ). ran run p numbers l) same ∙ ap (ran run p b) (plans_by (expand p) few refl h k)
+      ap (λ (numbers : List ℤ). ran run p numbers l) same ∙ ap (ran run p b) (plans_by (expand p) few run.options refl h k)
 
   same_run : (run : Run) (text : List ℕ) (x y : Result Program Refusal) (i j : Result (List ℤ) Refusal) (l m : Result (List Plan) Refusal) → Reads text x → x ≡ y → InputFor x run i → InputFor y run j → PlansFor x i run l → PlansFor y j run m →
       run_given run x i l ≡ run_given run y j m
@@ -119,9 +137,20 @@ module _ (held : List ℕ → Option (List ℕ)) where
       same_plans run p (few_regions_read text p r) i j l m (input_by refl h k) u (subst (λ (z : Program). PlansFor (Ok z) j run m) (sym same) v)
       ∙ ap (λ (z : Program). with_input run z j m) same
 
+  -- the same plans of the same program
+  same_made : (options : PlanOptions) (x y : Result Program Refusal) (a b : List Plan) → x ≡ y → MadeFor x options a → MadeFor y options b → plans_given x a ≡ plans_given y b
+  same_made options (Err r) (Err t) a b e h k = let same : r ≡ t = cc e in ap refused same
+  same_made options (Err r) (Ok q) a b e h k = absurd (cc e)
+  same_made options (Ok p) (Err t) a b e h k = absurd (cc e)
+  same_made options (Ok p) (Ok q) a b e h k =
+      let same : p ≡ q = cc e in
+      let plans : a ≡ b = made_once (expand p) options a b h (subst (λ (z : Program). MakesPlans (expand z) options b) (sym same) k) in
+      ap (λ (made : List Plan). plans_given (Ok p) made) plans ∙ ap (λ (z : Program). plans_given (Ok z) b) same
+
   ways_once : {words : List (List ℕ)} {a b : ℕ × List ℕ} → Way words a → Way words b → a ≡ b
   ways_once (nothing n e) (nothing m f) = e ∙ sym f
   ways_once (nothing n e) (a_run run text x i l asks h r g u f) = absurd (n.no_run run asks)
+  ways_once (nothing n e) (planned planning text x made asks h r g f) = absurd (n.no_plans planning asks)
   ways_once (nothing n e) (sites program text x asks h r f) = absurd (n.no_sites program asks)
   ways_once (a_run run text x i l asks h r g u e) (nothing m f) = absurd (m.no_run run asks)
   ways_once (a_run run text x i l asks h r g u e) (a_run other more y j n asked k s o v f) =
@@ -129,9 +158,17 @@ module _ (held : List ℕ → Option (List ℕ)) where
       let back : other ≡ run = sym one in
       e ∙ same_run run text x y i j l n r (read_once (ap (λ (z : Run). z.program) one) h k r s) g (subst (λ (z : Run). InputFor y z j) back o) u (subst (λ (z : Run). PlansFor y j z n) back v)
       ∙ ap (λ (z : Run). run_given z y j n) one ∙ sym f
-  ways_once (a_run run text x i l asks h r g u e) (sites program more y asked k s f) = not_both asks asked
+  ways_once (a_run run text x i l asks h r g u e) (planned planning more y made asked k s o f) = not_run_and_plans asks asked
+  ways_once (a_run run text x i l asks h r g u e) (sites program more y asked k s f) = not_run_and_sites asks asked
+  ways_once (planned planning text x made asks h r g e) (nothing m f) = absurd (m.no_plans planning asks)
+  ways_once (planned planning text x made asks h r g e) (a_run other more y j n asked k s o v f) = not_run_and_plans asked asks
+  ways_once (planned planning text x made asks h r g e) (planned other more y others asked k s o f) =
+      let one = planning_once asks asked in
+      e ∙ same_made planning.options x y made others (read_once (ap (λ (z : Planning). z.program) one) h k r s) g (subst (λ (z : Planning). MadeFor y z.options others) (sym one) o) ∙ sym f
+  ways_once (planned planning text x made asks h r g e) (sites program more y asked k s f) = not_plans_and_sites asks asked
   ways_once (sites program text x asks h r e) (nothing m f) = absurd (m.no_sites program asks)
-  ways_once (sites program text x asks h r e) (a_run other more y j n asked k s o v f) = not_both asked asks
+  ways_once (sites program text x asks h r e) (a_run other more y j n asked k s o v f) = not_run_and_sites asked asks
+  ways_once (sites program text x asks h r e) (planned planning more y made asked k s o f) = not_plans_and_sites asked asks
   ways_once (sites program text x asks h r e) (sites other more y asked k s f) =
       e ∙ ap sites_given (read_once (sites_once asks asked) h k r s) ∙ sym f
 

@@ -1,62 +1,77 @@
 -- Words ask for one thing only.
-use Rattle.std.proofs.Common.{◌≡◌, refl, sym, ap, ◌∙◌, ℕ, ◌==◌, Bool, true, false, if◌then◌else◌, List, [], ◌∷◌, length, Option, Some, None, option_map, codes}
+use Rattle.std.proofs.Common.{◌≡◌, refl, sym, ap, ◌∙◌, ℕ, ◌==◌, Bool, true, false, if◌then◌else◌, List, length, Option, Some, option_map, codes}
 use Rattle.std.specs.Option.{option_map_or}
-use Rattle.clap.specs.Words.{Row, Text, first_of, matches_of}
-use Rattle.dp_words.specs.Words.{Run, Asks, ToRun, AsksSites, ToCheck, NamesRun, NamesSites, run_app, check_app, number_or}
+use Rattle.std.specs.Str.{bytes_eq}
+use Rattle.clap.specs.Words.{App, Text}
+use Rattle.dp_words.proofs.VerbLemmas.{apart, behind, named_behind, verb_is}
+use Rattle.dp_words.specs.Commands.{check_app, plan_app, run_app, value_in}
+use Rattle.dp_words.specs.Words.{Run, Planning, Asks, AsksBy, AsksPlans, AsksSites, ShowsPlanning, ShowsRun, ShowsSites, Values, number_or, options_in}
 
 -- whether a flag was given, by the number of letters of its value
 abbrev why_of : Option Text → Bool
 why_of value = option_map_or (λ text. length text == 4) value false
 
--- the run that matches stand for
-abbrev run_from : List Row → Text → Run
-run_from rows program = record {
+-- the run that values stand for
+abbrev run_from : Values → Text → Run
+run_from value program = record {
   program = program;
-  input = first_of (codes "input") rows;
-  plan = first_of (codes "plan") rows;
-  workers = number_or 2 (first_of (codes "workers") rows);
-  lane = number_or 16 (first_of (codes "lane") rows);
-  fuel = number_or 10000000 (first_of (codes "fuel") rows);
-  why = why_of (first_of (codes "why") rows);
+  input = value (codes "input");
+  plan = value (codes "plan");
+  options = options_in value;
+  lane = number_or 16 (value (codes "lane"));
+  fuel = number_or 10000000 (value (codes "fuel"));
+  why = why_of (value (codes "why"));
 }
 
 why_is : (b : Bool) → why_of (Some (if b then codes "true" else codes "false")) ≡ b
 why_is true = refl
 why_is false = refl
 
-run_is : (rows : List Row) (run : Run) → first_of (codes "input") rows ≡ run.input → first_of (codes "plan") rows ≡ run.plan → run.workers ≡ number_or 2 (first_of (codes "workers") rows) → run.lane ≡ number_or 16 (first_of (codes "lane") rows) →
-    run.fuel ≡ number_or 10000000 (first_of (codes "fuel") rows) → first_of (codes "why") rows ≡ Some (if run.why then codes "true" else codes "false") → run_from rows run.program ≡ run
-run_is rows run input plan workers lane fuel why = rw (input, plan, ← workers, ← lane, ← fuel, why, why_is run.why) refl
+run_is : (value : Values) (run : Run) → ShowsRun value run → run_from value run.program ≡ run
+run_is value run h = rw (h.input, h.plan, ← h.options, ← h.lane, ← h.fuel, h.why, why_is run.why) refl
 
--- the words behind the verb
-abbrev behind : List Text → List Text
-behind [] = []
-behind (verb ∷ words) = words
+run_shown : (value : Values) (run : Run) → ShowsRun value run → option_map (run_from value) (value (codes "program")) ≡ Some run
+run_shown value run h = ap (option_map (run_from value)) h.program ∙ ap Some (run_is value run h)
 
-abbrev verb_size : List Text → ℕ
-verb_size [] = 0
-verb_size (verb ∷ words) = length verb
+runs_once : (value : Values) (run other : Run) → ShowsRun value run → ShowsRun value other → run ≡ other
+runs_once value run other a b = let same : Some run ≡ Some other = sym (run_shown value run a) ∙ run_shown value other b in cc same
 
-named_run : (words : List Text) (run : Run) → NamesRun words run → option_map (run_from (matches_of run_app words)) (first_of (codes "program") (matches_of run_app words)) ≡ Some run
-named_run words run h = ap (option_map (run_from (matches_of run_app words))) h.program ∙ ap Some (run_is (matches_of run_app words) run h.input h.plan h.workers h.lane h.fuel h.why)
+abbrev planning_from : Values → Text → Planning
+planning_from value program = record { program = program; options = options_in value }
 
-run_of : {words : List Text} {run : Run} → Asks words run → option_map (run_from (matches_of run_app (behind words))) (first_of (codes "program") (matches_of run_app (behind words))) ≡ Some run
-run_of (ToRun words run h) = named_run words run h
+planning_shown : (value : Values) (planning : Planning) → ShowsPlanning value planning → option_map (planning_from value) (value (codes "program")) ≡ Some planning
+planning_shown value planning h = ap (option_map (planning_from value)) h.program ∙ ap (λ options. Some (record { program = planning.program; options = options })) (sym h.options)
+
+plannings_once : (value : Values) (planning other : Planning) → ShowsPlanning value planning → ShowsPlanning value other → planning ≡ other
+plannings_once value planning other a b = let same : Some planning ≡ Some other = sym (planning_shown value planning a) ∙ planning_shown value other b in cc same
+
+programs_once : (value : Values) (program other : List ℕ) → ShowsSites value program → ShowsSites value other → program ≡ other
+programs_once value program other a b = let same : Some program ≡ Some other = sym a ∙ b in cc same
+
+-- the words of one verb
+once_by : {X : Type 0} (verb : Text) (app : App) (Shows : Values → X → Type 0) → ((value : Values) (x y : X) → Shows value x → Shows value y → x ≡ y) → {words : List Text} {x y : X} →
+    AsksBy verb app Shows words x → AsksBy verb app Shows words y → x ≡ y
+once_by verb app Shows once {words = words} {x = x} {y = y} a b = once (value_in app (behind words)) x y (named_behind verb app Shows a).shows (named_behind verb app Shows b).shows
 
 pub asks_once : {words : List Text} {run other : Run} → Asks words run → Asks words other → run ≡ other
-asks_once {run = run} {other = other} a b = let same : Some run ≡ Some other = sym (run_of a) ∙ run_of b in cc same
+asks_once a b = once_by (codes "run") run_app ShowsRun runs_once a b
 
-sites_of : {words : List Text} {program : List ℕ} → AsksSites words program → first_of (codes "program") (matches_of check_app (behind words)) ≡ Some program
-sites_of (ToCheck words program h) = h.program_is
+pub planning_once : {words : List Text} {planning other : Planning} → AsksPlans words planning → AsksPlans words other → planning ≡ other
+planning_once a b = once_by (codes "plan") plan_app ShowsPlanning plannings_once a b
 
 pub sites_once : {words : List Text} {program other : List ℕ} → AsksSites words program → AsksSites words other → program ≡ other
-sites_once {program = program} {other = other} a b = let same : Some program ≡ Some other = sym (sites_of a) ∙ sites_of b in cc same
+sites_once a b = once_by (codes "check") check_app ShowsSites programs_once a b
 
-run_verb : {words : List Text} {run : Run} → Asks words run → verb_size words ≡ 3
-run_verb (ToRun words run h) = refl
+-- two verbs
+two_verbs : {A X Y : Type 0} (verb other : Text) (app another : App) (Shows : Values → X → Type 0) (Tells : Values → Y → Type 0) → bytes_eq verb other ≡ false → {words : List Text} {x : X} {y : Y} →
+    AsksBy verb app Shows words x → AsksBy other another Tells words y → A
+two_verbs verb other app another Shows Tells differ a b = absurd (apart verb other differ (sym (verb_is verb app Shows a) ∙ verb_is other another Tells b))
 
-sites_verb : {words : List Text} {program : List ℕ} → AsksSites words program → verb_size words ≡ 5
-sites_verb (ToCheck words program h) = refl
+pub not_run_and_plans : {A : Type 0} {words : List Text} {run : Run} {planning : Planning} → Asks words run → AsksPlans words planning → A
+not_run_and_plans a b = two_verbs (codes "run") (codes "plan") run_app plan_app ShowsRun ShowsPlanning refl a b
 
-pub not_both : {A : Type 0} {words : List Text} {run : Run} {program : List ℕ} → Asks words run → AsksSites words program → A
-not_both a b = let clash : 3 ≡ 5 = sym (run_verb a) ∙ sites_verb b in absurd (cc clash)
+pub not_run_and_sites : {A : Type 0} {words : List Text} {run : Run} {program : List ℕ} → Asks words run → AsksSites words program → A
+not_run_and_sites a b = two_verbs (codes "run") (codes "check") run_app check_app ShowsRun ShowsSites refl a b
+
+pub not_plans_and_sites : {A : Type 0} {words : List Text} {planning : Planning} {program : List ℕ} → AsksPlans words planning → AsksSites words program → A
+not_plans_and_sites a b = two_verbs (codes "plan") (codes "check") plan_app check_app ShowsPlanning ShowsSites refl a b

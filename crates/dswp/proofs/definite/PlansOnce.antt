@@ -1,5 +1,5 @@
 -- A text of plans is read in one way only: as one list of plans, or with one refusal.
-use Rattle.std.proofs.Common.{◌≡◌, refl, sym, ap, ◌∙◌, subst, inl, inr, ℕ, ◌+◌, ◌≤◌, ◌<◌, ◌^◌, Bool, List, ◌++◌, map, length, take, drop, Option, Some, None, Result, Ok, Err, arith}
+use Rattle.std.proofs.Common.{◌≡◌, refl, sym, ap, ◌∙◌, subst, inl, inr, ℕ, ◌≤◌, ◌<◌, ◌^◌, Bool, List, map, length, take, drop, Option, Some, None, Result, Ok, Err, arith}
 use Rattle.std.proofs.lemmas.List.{take-append-drop}
 use Rattle.std.proofs.lemmas.Bool.{cases_lt}
 use Rattle.dp_base.specs.declared.Quantity.TheVariants.{PlanBytes}

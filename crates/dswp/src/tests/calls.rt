@@ -36,7 +36,7 @@ const FUEL: &[&str] = &[
     "9 => 11\nstate\ng 11\nend done",
 ];
 
-/// 2,000 words, word k being the last digit of k, under one stage and with the middle stage replicated.
+/// 2,000 words, word k being the last digit of k, under the least plan and with the middle stage replicated.
 const WORD_TABLE: &[&str] = &[
     "run word_table.c in.txt $1 |  | `200*0 1 2 3 4 5 6 7 8 9 ` | plan 1\nregion 1 words 4096\nseq 2 3 4\npar 5 6 7 8 9\nseq 10 11 12 13 14 15 16 17 18 19\nend\n => 10\n9000\nstate\nkeys 0 5 10 0 4 9 0 3 8 0 2 7 0 1 6 0\ncounts 0 200 200 0 200 200 0 200 200 0 200 200 0 200 200 0\ndistinct 10\ntotal 9000\nregion 1 iterations 2001 recovered 0\nend done\n",
     "--fuel 44024",

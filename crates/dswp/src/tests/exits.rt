@@ -4,7 +4,7 @@ use std::test::Fail;
 
 /// Under one stage; what stands behind the region is gone on with.
 const ONE_STAGE: &[&str] = &[
-    "run p.c | $1 => $1\n",
+    "run p.c --stages 1 | $1 => $1\n",
     "int n; int main() { #pragma dswp for (int i = 0; i < 3; i = i + 1) { n = n + i; } } => state\nn 3\nregion 1 iterations 4 recovered 0\nend done",
     "int n; int i; int main() { #pragma dswp for (i = 5; i > 2; i = i - 2) { int t = n; n = t + i; } print(i); } => 1\nstate\nn 8\ni 1\nregion 1 iterations 3 recovered 0\nend done",
     "int n; int main() { #pragma dswp while (n < 5) { n = n + 1; if (n == 2) break; } } => state\nn 2\nregion 1 iterations 2 recovered 0\nend done",
@@ -16,9 +16,9 @@ const ONE_STAGE: &[&str] = &[
     "int n = 3; int main() {\n#pragma dswp\nwhile (1) {\nif (1 / (3 - n)) break; } } => state\nn 3\nregion 1 iterations 1 recovered 1: 0\nend fault divide line 4",
 ];
 
-/// Three iterations of 4, 4 and 3 steps, a region behind them, and a print.
+/// Under one stage: three iterations of 4, 4 and 3 steps, a region behind them, and a print.
 const FUEL: &[&str] = &[
-    "run p.c --fuel $1 | int n; int m; int main() {\n#pragma dswp\nwhile (1) { n = n + 1; if (n > 2) break; m = m + n; }\n#pragma dswp\nwhile (m < 5) { m = m + 1; }\nprint(m); } => $1\n",
+    "run p.c --stages 1 --fuel $1 | int n; int m; int main() {\n#pragma dswp\nwhile (1) { n = n + 1; if (n > 2) break; m = m + n; }\n#pragma dswp\nwhile (m < 5) { m = m + 1; }\nprint(m); } => $1\n",
     "10 => state\nn 3\nm 3\nregion 1 iterations 3 recovered 1: 2\nend fuel",
     "11 => state\nn 3\nm 3\nregion 1 iterations 3 recovered 0\nend fuel",
     "16 => state\nn 3\nm 5\nregion 1 iterations 3 recovered 0\nregion 2 iterations 3 recovered 0\nend fuel",

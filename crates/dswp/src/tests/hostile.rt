@@ -73,7 +73,7 @@ fn a_spoiled_byte_is_refused_at_its_line(rt: HostRuntime) -> Result<(), Fail> {
 }
 
 /// Words, and what is written where the sink has room for it.
-const WRITTEN: [(&str, &str); 3] = [
+const WRITTEN: [(&str, &str); 4] = [
     (
         "run sum_loop.c",
         "0\n1\n3\nstate\ns 3\nregion 1 iterations 4 recovered 0\nend done\n",
@@ -81,6 +81,10 @@ const WRITTEN: [(&str, &str); 3] = [
     (
         "run stale_read.c --plan stale.plan",
         "state\na 0 0 1 2 3 4 5 6\ns 10\nregion 1 iterations 7 recovered 2: 2 5\nend done\n",
+    ),
+    (
+        "plan sum_loop.c",
+        "plan 2\nregion 1 words 4096\nseq 2 5\nseq 3 4\nend\n",
     ),
     ("run none.c", "failed read program\n"),
 ];

@@ -1,4 +1,4 @@
-//! Loops and regions under one stage: their iterations, and the end of the fuel at each step.
+//! Loops and regions, some of them under one stage: their iterations, and the end of the fuel at each step.
 use super::each;
 use std::test::Fail;
 
@@ -15,8 +15,9 @@ const PLAIN: &[&str] = &[
     "int i; int main() { while (i < 30000) { print(7); i = i + 1; } } => `30000*7\n`state\ni 30000\nend done",
 ];
 
+/// Regions of one stage each.
 const REGIONS: &[&str] = &[
-    "run p.c | $1 => $1\n",
+    "run p.c --stages 1 | $1 => $1\n",
     "int main() {\n#pragma dswp\nwhile (0) { }\n} => state\nregion 1 iterations 1 recovered 0\nend done",
     "int s; int main() {\n#pragma dswp\nwhile (1 / s) { } } => state\ns 0\nregion 1 iterations 1 recovered 1: 0\nend fault divide line 3",
     "int x; int y; int main() { while (x < 2) { x = x + 1; while (0) { } y = y + 2; } if (0) { } if (1) { } else { } if (0) { } else if (0) { } if (0) { } else if (0) { } else { x = x + 10; } if (1) { if (0) { } else { y = y + 100; } } #pragma dswp while (x < 13) { x = x + 1; } #pragma dswp while (0) { } print(y); } => 104\nstate\nx 13\ny 104\nregion 1 iterations 2 recovered 0\nregion 2 iterations 1 recovered 0\nend done",

@@ -1,6 +1,6 @@
 //! Regions under plans of several stages: which iterations are executed again, and that nothing else of the text depends on the
 //! plan, the workers or the lanes.
-use super::{answer_to, each, each_crew};
+use super::{answer_to, each_crew};
 use std::test::Fail;
 
 /// The program, the rest of its region's line with the stages, and the input.
@@ -69,24 +69,6 @@ fn each_crew_gives_the_same_text(rt: HostRuntime) -> Result<(), Fail> {
     for table in [SEQUENTIAL, SKIPPING, REPLICATED, FAR, FUEL] {
         each_crew(&rt, rt.alloc(), table)?;
     }
-    Ok(())
-}
-
-/// Without a plan a region has one stage, and so no load of it is stale.
-const ONE_STAGE: &[&str] = &[
-    "run $1 in.txt |  | $2 => $1\n",
-    "stale_read.c => state\na 0 0 1 2 3 4 5 6\ns 10\nregion 1 iterations 7 recovered 0\nend done",
-    "stale_step.c => state\nstep 2\nt 12\nregion 1 iterations 4 recovered 0\nend done",
-    "skip_negative.c | 5 -1 7 8 => state\nn 12\nregion 1 iterations 4 recovered 0\nend done",
-    "skip_negative.c | -9223372036854775808 => state\nn -9223372036854775808\nregion 1 iterations 2 recovered 0\nend done",
-    "histogram.c | 0 1 2 3 4 5 6 => state\nh 2 2 1 2\nregion 1 iterations 8 recovered 0\nend done",
-    "zero_divisor.c => state\nq 12\nregion 1 iterations 4 recovered 1: 3\nend fault divide line 6",
-    "skip_negative.c | `65536*0 ` => state\nn 0\nregion 1 iterations 65537 recovered 0\nend done",
-];
-
-#[test]
-fn one_stage_alone(rt: HostRuntime) -> Result<(), Fail> {
-    each(&rt, rt.alloc(), ONE_STAGE)?;
     Ok(())
 }
 

@@ -43,7 +43,11 @@ const REFUSED: &[&str] = &[
     "run p.c --plan stale.plan --plan stale.plan",
     "run p.c --plan a --profile b",
     "run p.c --stages 0",
+    "run p.c --stages 9",
+    "run p.c --stages 1 --stages 1",
     "run p.c --rate 1001",
+    "run p.c --rate -1",
+    "run p.c --rate 1 --rate 1",
     "run p.c --why --why",
     "run p.c --why=x",
     "run p.c --help",
@@ -55,6 +59,21 @@ const REFUSED: &[&str] = &[
     "check p.c --fuel 5",
     "check p.c --why",
     "check p.c --help",
+    "plan",
+    "plan p.c in.txt",
+    "plan p.c --plan a",
+    "plan p.c --fuel 5",
+    "plan p.c --lane 1",
+    "plan p.c --why",
+    "plan p.c --help",
+    "plan p.c --rate 1001",
+    "plan p.c --rate",
+    "plan p.c --stages 0",
+    "plan p.c --stages 9",
+    "plan p.c --workers 9",
+    "plan p.c --stages 4 --stages 4",
+    "Plan p.c",
+    "plans p.c",
 ];
 
 /// Numbers may have leading zeros and one `+`; options may stand before names.
@@ -72,6 +91,8 @@ const TAKEN: &[&str] = &[
     "run --why p.c --lane=1 in.txt --workers=8",
     "run -- p.c in.txt",
     "run --workers 1 --lane 64 --why -- p.c",
+    "run p.c --rate 0 --stages 1",
+    "run p.c --rate=1000 in.txt --stages +08",
 ];
 
 /// Names that are taken, of texts that aren't held: the first that is read is named.
@@ -84,6 +105,8 @@ const NOT_HELD: &[&str] = &[
     "run -- -x => program",
     "check none.c => program",
     "check -- --why => program",
+    "plan none.c => program",
+    "plan --rate 5 -- -x => program",
     "run p.c none.txt => input",
     "run p.c - => input",
     "run p.c -- -5 => input",

@@ -1,4 +1,4 @@
-use Rattle.std.proofs.Common.{◌≡◌, ℕ, List, length, map, ap, ◌∙◌}
+use Rattle.std.proofs.Common.{ℕ, length, map, ap, ◌∙◌}
 use Rattle.std.specs.Option.{option_copied}
 use Rattle.dp_depend.specs.Edges.{first_of}
 use Rattle.dp_cut.specs.Automatic.{node_pair, site_weight}

@@ -1,8 +1,8 @@
-use Rattle.std.proofs.Common.{◌≡◌, ◌+◌, ◌<◌, ◌≤◌, ℕ, List, length, sym, subst, arith}
+use Rattle.std.proofs.Common.{◌+◌, ◌<◌, ◌≤◌, ℕ, List, length, sym, subst, arith}
 use Rattle.std.specs.Option.{option_copied}
 use Rattle.dp_plan.specs.declared.Plan.{Plan}
 use Rattle.dp_cut.specs.Automatic.{IsAutomatic}
-use Rattle.dp_cut.proofs.AutomaticPlans.{Made, made_more, made_none, made_plans}
+use Rattle.dp_cut.proofs.AutomaticPlans.{Made, made_least, made_more, made_none, made_plans}
 use Rattle.dp_cut.proofs.automatic.least_plans.Goals as goal
 
 pub loop-place-init : goal.loop-place-init
@@ -16,7 +16,9 @@ loop-place-preserved c =
     (subst (λ (r : ℕ). IsAutomatic c.args.p.now r (option_copied c.args.wishes.profile) c.args.wishes.rate c.args.wishes.stages c.args.wishes.workers c.in_ok-plan.plan) c.in_ok-region.ensures c.in_ok-plan.ensures.least))
 
 pub returns-clause-least : goal.returns-clause-least
-returns-clause-least c = c.loop-place.invariant.least
+returns-clause-least c =
+    let all : length c.args.p.now.regions ≤ c.loop-place.place = omega (arith, c.loop-place-test.false, c.len-place-end.ensures) in
+    made_least c.args.p.now _ _ _ _ c.loop-place.place c.loop-place.plans all c.loop-place.invariant
 
 pub returns-clause-fit : goal.returns-clause-fit
 returns-clause-fit c =

@@ -1,20 +1,36 @@
-use Rattle.dp_words.proofs.VerbLemmas.{asks_no_run, asks_no_sites, asks_run, asks_sites}
+use Rattle.std.proofs.Common.{codes}
+use Rattle.dp_words.proofs.VerbLemmas.{asks_none, asks_some, only_plans, only_run, only_sites}
+use Rattle.dp_words.specs.Commands.{check_app, plan_app, run_app}
+use Rattle.dp_words.specs.Words.{ShowsPlanning, ShowsRun, ShowsSites, shown, shown_planning}
+use Rattle.dp_words.specs.declared.task.Task.TheVariants as task
 use Rattle.dp_words.proofs.verbs.asked.Goals as goal
 
-pub returns-then-is_run-clause-some : goal.returns-then-is_run-clause-some
-returns-then-is_run-clause-some c =
-    asks_run _ _ _ _ c.in_ok-run.field-0 c.map.result c.in-Some.ensures.cases.0 c.as_str-verb.ensures.value (c.is_run.ensures.0 c.if-is_run.true) c.map.ensures.cases c.in_ok-run.ensures.some
+pub returns-then-is-clause-some : goal.returns-then-is-clause-some
+returns-then-is-clause-some c =
+    asks_some (codes "run") run_app ShowsRun task.Run _ _ _ _ c.in-Some.ensures.cases.0 c.as_str-verb.ensures.value (c.is.ensures.0 c.if-is.true) c.in_ok-run.field-0 c.map.result c.map.ensures.cases
+    shown (λ w n h. h) c.in_ok-run.ensures.some
 
-pub returns-then-is_run-clause-none : goal.returns-then-is_run-clause-none
-returns-then-is_run-clause-none c =
-    asks_no_run _ _ _ _ c.in_ok-run.field-0 c.map.result c.in-Some.ensures.cases.0 c.as_str-verb.ensures.value (c.is_run.ensures.0 c.if-is_run.true) c.map.ensures.cases c.in_ok-run.ensures.none
+pub returns-then-is-clause-none : goal.returns-then-is-clause-none
+returns-then-is-clause-none c =
+    asks_none (codes "run") run_app ShowsRun task.Run _ _ _ _ c.in-Some.ensures.cases.0 c.as_str-verb.ensures.value (c.is.ensures.0 c.if-is.true) c.in_ok-run.field-0 c.map.result c.map.ensures.cases
+    (λ e none. only_run _ e none) c.in_ok-run.ensures.none
 
-pub returns-then-is_check-clause-some : goal.returns-then-is_check-clause-some
-returns-then-is_check-clause-some c =
-    asks_sites _ _ _ _ c.in_ok-sites.field-0 c.map-then-is_check.result c.in-Some.ensures.cases.0 c.as_str-verb.ensures.value (c.is_check.ensures.0 c.if-is_check.true) c.map-then-is_check.ensures.cases
-    c.in_ok-sites.ensures.some
+pub returns-then-is-2-clause-some : goal.returns-then-is-2-clause-some
+returns-then-is-2-clause-some c =
+    asks_some (codes "plan") plan_app ShowsPlanning task.Plan _ _ _ _ c.in-Some.ensures.cases.0 c.as_str-verb.ensures.value (c.is-2.ensures.0 c.if-is-2.true) c.in_ok-plan.field-0 c.map-then-is-2.result c.map-then-is-2.ensures.cases
+    shown_planning (λ w n h. h) c.in_ok-plan.ensures.some
 
-pub returns-then-is_check-clause-none : goal.returns-then-is_check-clause-none
-returns-then-is_check-clause-none c =
-    asks_no_sites _ _ _ _ c.in_ok-sites.field-0 c.map-then-is_check.result c.in-Some.ensures.cases.0 c.as_str-verb.ensures.value (c.is_check.ensures.0 c.if-is_check.true) c.map-then-is_check.ensures.cases
-    c.in_ok-sites.ensures.none
+pub returns-then-is-2-clause-none : goal.returns-then-is-2-clause-none
+returns-then-is-2-clause-none c =
+    asks_none (codes "plan") plan_app ShowsPlanning task.Plan _ _ _ _ c.in-Some.ensures.cases.0 c.as_str-verb.ensures.value (c.is-2.ensures.0 c.if-is-2.true) c.in_ok-plan.field-0 c.map-then-is-2.result c.map-then-is-2.ensures.cases
+    (λ e none. only_plans _ e none) c.in_ok-plan.ensures.none
+
+pub returns-then-is-3-clause-some : goal.returns-then-is-3-clause-some
+returns-then-is-3-clause-some c =
+    asks_some (codes "check") check_app ShowsSites task.Check _ _ _ _ c.in-Some.ensures.cases.0 c.as_str-verb.ensures.value (c.is-3.ensures.0 c.if-is-3.true) c.in_ok-sites.field-0 c.map-then-is-3.result c.map-then-is-3.ensures.cases
+    (λ s. s.now) (λ w n h. h) c.in_ok-sites.ensures.some
+
+pub returns-then-is-3-clause-none : goal.returns-then-is-3-clause-none
+returns-then-is-3-clause-none c =
+    asks_none (codes "check") check_app ShowsSites task.Check _ _ _ _ c.in-Some.ensures.cases.0 c.as_str-verb.ensures.value (c.is-3.ensures.0 c.if-is-3.true) c.in_ok-sites.field-0 c.map-then-is-3.result c.map-then-is-3.ensures.cases
+    (λ e none. only_sites _ e none) c.in_ok-sites.ensures.none

@@ -1,7 +1,10 @@
 use Rattle.std.proofs.Common.{◌∙◌, ap}
 use Rattle.clap.specs.Words.{App, is_simple_and_free}
-use Rattle.dp_words.proofs.RunLemmas.{sites_none, sites_not_taken, sites_some}
+use Rattle.dp_words.proofs.RunLemmas.{moved_sites, no_program, none_named, not_taken, some_named, some_program}
 use Rattle.dp_words.proofs.SimpleRows.{check_is_simple}
+use Rattle.dp_words.specs.Commands.{check_app}
+use Rattle.dp_words.specs.Reading.{values_of}
+use Rattle.dp_words.specs.Words.{ShowsSites}
 use Rattle.dp_words.proofs.verbs.sites.Goals as goal
 
 pub found-requires : goal.found-requires
@@ -9,11 +12,13 @@ found-requires c = record { simple = ap (λ (a : App). is_simple_and_free a) c.i
 
 pub returns-in-Some-clause-some : goal.returns-in-Some-clause-some
 returns-in-Some-clause-some c =
-    sites_some _ _ c.in_ok-check_command.ensures c.in_ok-matches.field-0 c.in-Some.matches c.in-Some.is c.in_ok-matches.ensures.rows c.in_ok-matches.ensures.taken c.get_str.result c.get_str.ensures
+    some_named _ check_app ShowsSites moved_sites _ c.in_ok-check_command.ensures c.in_ok-matches.field-0 c.in-Some.matches c.in-Some.is c.in_ok-matches.ensures.rows c.in_ok-matches.ensures.taken
+    (λ s. s.now) c.get_str.result (some_program (values_of c.in-Some.matches) c.get_str.result c.get_str.ensures)
 
 pub returns-in-Some-clause-none : goal.returns-in-Some-clause-none
 returns-in-Some-clause-none c =
-    sites_none _ _ c.in_ok-check_command.ensures c.in_ok-matches.field-0 c.in-Some.matches c.in-Some.is c.in_ok-matches.ensures.rows c.get_str.result c.get_str.ensures
+    none_named _ check_app ShowsSites moved_sites _ c.in_ok-check_command.ensures c.in_ok-matches.field-0 c.in-Some.matches c.in-Some.is c.in_ok-matches.ensures.rows c.get_str.result
+    (no_program (values_of c.in-Some.matches) c.get_str.result c.get_str.ensures)
 
 pub returns-in-None-clause-none : goal.returns-in-None-clause-none
-returns-in-None-clause-none c = sites_not_taken _ _ c.in_ok-check_command.ensures c.in_ok-matches.field-0 c.in-None.is c.in_ok-matches.ensures.none
+returns-in-None-clause-none c = not_taken _ check_app ShowsSites moved_sites _ c.in_ok-check_command.ensures c.in_ok-matches.field-0 c.in-None.is c.in_ok-matches.ensures.none

@@ -1,6 +1,7 @@
 use Rattle.std.proofs.Common.{◌∙◌, ap, refl, Some}
 use Rattle.dswp.specs.declared.refusal.Refusal.TheVariants.{Words}
-use Rattle.dswp.proofs.AnswerLemmas.{carry_not_taken, refused_counts, sites_count}
+use Rattle.dswp.proofs.AnswerLemmas.{carry_not_taken, no_run_counts, refused_counts}
+use Rattle.dswp.proofs.definite.AsksOnce.{not_run_and_plans, not_run_and_sites}
 use Rattle.dswp.proofs.answer.answer.Goals as goal
 
 pub returns-in-None-clause-carried : goal.returns-in-None-clause-carried
@@ -8,6 +9,9 @@ returns-in-None-clause-carried g c = carry_not_taken _ _ _ _ _ _ _ _ _ (rw c.in-
 
 pub returns-in-Some-Run-clause-carried : goal.returns-in-Some-Run-clause-carried
 returns-in-Some-Run-clause-carried g c = c.answer_run.ensures.carried _ (rw (c.in-Some-Run.is ∙ ap Some c.in-Some-Run.field-0-is) at c.in_ok-run.ensures.some)
+
+pub returns-in-Some-Plan-clause-carried : goal.returns-in-Some-Plan-clause-carried
+returns-in-Some-Plan-clause-carried g c = c.answer_plan.ensures.carried _ (rw (c.in-Some-Plan.is ∙ ap Some c.in-Some-Plan.field-0-is) at c.in_ok-run.ensures.some)
 
 pub returns-in-Some-Check-clause-carried : goal.returns-in-Some-Check-clause-carried
 returns-in-Some-Check-clause-carried g c = c.answer_check.ensures.carried _ (rw (c.in-Some-Check.is ∙ ap Some c.in-Some-Check.field-0-is) at c.in_ok-run.ensures.some)
@@ -18,5 +22,8 @@ returns-in-None-clause-counted g c = refused_counts _ _ _ _ _ _ _ Words c.refuse
 pub returns-in-Some-Run-clause-counted : goal.returns-in-Some-Run-clause-counted
 returns-in-Some-Run-clause-counted g c = c.answer_run.ensures.counted _ (rw (c.in-Some-Run.is ∙ ap Some c.in-Some-Run.field-0-is) at c.in_ok-run.ensures.some)
 
+pub returns-in-Some-Plan-clause-counted : goal.returns-in-Some-Plan-clause-counted
+returns-in-Some-Plan-clause-counted g c = no_run_counts _ _ _ _ _ (λ run asked. not_run_and_plans asked (rw (c.in-Some-Plan.is ∙ ap Some c.in-Some-Plan.field-0-is) at c.in_ok-run.ensures.some))
+
 pub returns-in-Some-Check-clause-counted : goal.returns-in-Some-Check-clause-counted
-returns-in-Some-Check-clause-counted g c = sites_count _ _ _ _ _ _ (rw (c.in-Some-Check.is ∙ ap Some c.in-Some-Check.field-0-is) at c.in_ok-run.ensures.some)
+returns-in-Some-Check-clause-counted g c = no_run_counts _ _ _ _ _ (λ run asked. not_run_and_sites asked (rw (c.in-Some-Check.is ∙ ap Some c.in-Some-Check.field-0-is) at c.in_ok-run.ensures.some))

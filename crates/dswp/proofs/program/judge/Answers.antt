@@ -1,5 +1,5 @@
 use Rattle.dp_check.proofs.CheckedLemmas.{checked}
-use Rattle.dswp.proofs.LoadLemmas.{fit, offending}
+use Rattle.dswp.proofs.LoadLemmas.{offending}
 use Rattle.dswp.proofs.program.judge.Goals as goal
 
 pub expand_calls-requires : goal.expand_calls-requires

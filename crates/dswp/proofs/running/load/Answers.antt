@@ -29,7 +29,7 @@ returns-in-Failed-3-clause-loads g c =
 
 pub returns-in-Text-3-clause-loads : goal.returns-in-Text-3-clause-loads
 returns-in-Text-3-clause-loads g c =
-    all_loaded _ _ _ _ _ _ _ _ _ (given _ _ _ (c.in_ok-program.was ∙ ap Ok c.in-Text.is) (program_gives _ _ _ _ _ _ _ c.load_program.ensures.loads c.load_program.ensures.faults c.load_program.ensures.failed_names)) _ _ _ (given _ _ _ (c.in_ok-input.was ∙ ap Ok c.in-Text-2.is) (rw c.load_program.ensures.contents at c.load_words.ensures.gives)) _ (given _ _ _ (c.in_ok-plans.was ∙ ap Ok c.in-Text-3.is) (rw (c.load_words.ensures.contents, c.load_program.ensures.contents) at c.load_given.ensures.gives))
+    all_loaded _ _ _ _ _ _ _ _ _ (given _ _ _ (c.in_ok-program.was ∙ ap Ok c.in-Text.is) (program_gives _ _ _ _ _ _ _ c.load_program.ensures.loads c.load_program.ensures.faults c.load_program.ensures.failed_names)) _ _ _ (given _ _ _ (c.in_ok-input.was ∙ ap Ok c.in-Text-2.is) (rw c.load_program.ensures.contents at c.load_words.ensures.gives)) _ (given _ _ _ (c.in_ok-plans.was ∙ ap Ok c.in-Text-3.is) (rw (c.load_words.ensures.contents, c.load_program.ensures.contents) at c.load_given.ensures.gives)) (given _ _ _ (c.in_ok-plans.was ∙ ap Ok c.in-Text-3.is) c.load_given.ensures.fit)
 
 pub load_given-requires-clause-inlined : goal.load_given-requires-clause-inlined
 load_given-requires-clause-inlined g c =

@@ -97,7 +97,7 @@ int main() {
 pub const BINARY_SEARCH_INPUT: &[u8] = b"0 361 81 144 100 1 324 49\n9 225 82 16 -5 1000\n";
 
 pub const BINARY_SEARCH_OUTPUT: &[u8] =
-    b"0\n19\n9\n12\n10\n1\n18\n7\n3\n15\nstate\ntable 0 1 4 9 16 25 36 49 64 81 100 121 144 169 196 225 256 289 324 361\nfound 10\nlast_key 82\nlooks 49\nregion 1 iterations 11 recovered 0\nend done\n";
+    b"0\n19\n9\n12\n10\n1\n18\n7\n3\n15\nstate\ntable 0 1 4 9 16 25 36 49 64 81 100 121 144 169 196 225 256 289 324 361\nfound 10\nlast_key 82\nlooks 49\nregion 1 iterations 11 recovered 1: 10\nend done\n";
 
 pub const PARTIAL_SUMS: &[u8] =
     b"/* The input is a count n, then n values, and then pairs `from to`, each of

@@ -1,0 +1,49 @@
+-- What the command of each verb takes.
+use Rattle.std.specs.Prelude.{◌≡◌, ℕ, true, List, [], Option, Some, codes}
+use Rattle.clap.specs.declared.builder.action.ArgAction.TheVariants.{Set, SetTrue}
+use Rattle.clap.specs.declared.builder.value_parser.ValueParser.TheVariants as parser
+use Rattle.clap.specs.Words.{App, Rule, Text, first_of, fault_of, matches_of, new_app, new_rule, with_rule}
+
+-- a name that has to be given, and one that may be
+abbrev pub name_of : Text → Rule
+name_of id = record (new_rule id) { action = Some Set; required = true }
+
+abbrev pub further_name : Text → Rule
+further_name id = record (new_rule id) { action = Some Set }
+
+-- an option with a file's name, an option with a number in this range, and one that stands alone
+abbrev pub file_option : Text → Rule
+file_option id = record (new_rule id) { long = Some id; action = Some Set }
+
+abbrev pub number_option : Text → ℕ → ℕ → Rule
+number_option id low high = record (new_rule id) { long = Some id; action = Some Set; parser = Some (parser.Unsigned low high) }
+
+abbrev pub flag : Text → Rule
+flag id = record (new_rule id) { long = Some id; action = Some SetTrue }
+
+-- a command that reads the words behind its verb
+abbrev pub verb_app : Text → App
+verb_app verb = record (new_app verb) { top = record (new_app verb).top { no_binary_name = true } }
+
+-- .. with the options of automatic plans
+abbrev pub with_plan_options : App → App
+with_plan_options app = with_rule (with_rule (with_rule app (number_option (codes "rate") 0 1000)) (number_option (codes "stages") 1 8)) (number_option (codes "workers") 1 8)
+
+abbrev pub run_app : App
+run_app =
+    with_rule (with_rule (with_rule (with_plan_options (with_rule (with_rule (with_rule (verb_app (codes "run")) (name_of (codes "program"))) (further_name (codes "input"))) (file_option (codes "plan"))))
+    (number_option (codes "lane") 1 64)) (number_option (codes "fuel") 0 1000000000)) (flag (codes "why"))
+
+abbrev pub plan_app : App
+plan_app = with_plan_options (with_rule (verb_app (codes "plan")) (name_of (codes "program")))
+
+abbrev pub check_app : App
+check_app = with_rule (verb_app (codes "check")) (name_of (codes "program"))
+
+-- the command takes the words
+abbrev pub IsTaken : App → List Text → Type 0
+IsTaken app words = fault_of app words ≡ []
+
+-- the value that the words give to a name or an option of the command, if they do
+abbrev pub value_in : App → List Text → Text → Option Text
+value_in app words id = first_of id (matches_of app words)
