@@ -24,7 +24,7 @@ module _ (p : Program) (plan : Plan) where
   Keeps s (own ∷ kept) [] = ⊥
   Keeps s (own ∷ kept) (view ∷ views) = (is_replicated plan s ≡ false → own ≡ view) × Keeps (suc s) kept views
 
-  keeps_views : (s : ℕ) (before : List ℤ) (kept : List (List ℤ)) → Keeps s kept (views_from p plan s before kept)
+  keeps_views : (s : ℕ) (before : List ℤ) (kept : List (List ℤ)) → Keeps s kept (views_from plan s before kept)
   keeps_views s before [] = tt
   keeps_views s before (own ∷ rest) = (λ seq. sym (ap (λ (b : Bool). if b then before else own) seq), keeps_views (suc s) (if is_replicated plan s then before else own) rest)
 
@@ -42,7 +42,7 @@ module _ (p : Program) (plan : Plan) where
       keeps_all rest (shown_from p plan (record { site = event.site; loads = []; effect = event.effect }) 1 kept) (watched p plan event w) (keeps_shown 1 event kept w.views k)
 
   -- .. and where the next iteration starts
-  views_onward : (s : ℕ) (before : List ℤ) (kept views : List (List ℤ)) → Keeps s kept views → views_from p plan s before (map (clear_locals plan.region p.vars) kept) ≡ next_from p plan s before views
+  views_onward : (s : ℕ) (before : List ℤ) (kept views : List (List ℤ)) → Keeps s kept views → views_from plan s before (map (clear_locals plan.region p.vars) kept) ≡ next_from p plan s before views
   views_onward s before [] [] k = refl
   views_onward s before [] (view ∷ views) k = absurd k
   views_onward s before (own ∷ kept) [] k = absurd k
@@ -52,7 +52,7 @@ module _ (p : Program) (plan : Plan) where
         | inl q ↦ rw q refl
         | inr q ↦ rw q (ap clear (k.0 q))
       ] in
-      ap (λ (cells : List ℤ). cells ∷ views_from p plan (suc s) cells (map (clear_locals plan.region p.vars) kept)) here
+      ap (λ (cells : List ℤ). cells ∷ views_from plan (suc s) cells (map (clear_locals plan.region p.vars) kept)) here
       ∙ ap (λ (xs : List (List ℤ)). (if is_replicated plan s then before else clear view) ∷ xs) (views_onward (suc s) (if is_replicated plan s then before else clear view) kept views k.1)
 
   -- no words are counted yet
@@ -66,16 +66,16 @@ module _ (p : Program) (plan : Plan) where
 
   -- where an epoch begins, each stage sees its base
   first_views : (base : List ℤ) (s : ℕ) (before : List ℤ) (stages : List StageKind) → ((j t : ℕ) → t ≡ s + j → is_replicated plan t ≡ is_par (slice_get stages j)) → (is_replicated plan s ≡ true → before ≡ base) →
-      views_from p plan s before (first_kept base stages) ≡ replicate (length stages) base
+      views_from plan s before (first_kept base stages) ≡ replicate (length stages) base
   first_views base s before [] kinds first = refl
   first_views base s before (Seq ∷ rest) kinds first =
       let here : (if is_replicated plan s then before else base) ≡ base = ap (λ (b : Bool). if b then before else base) (kinds 0 s (omega arith)) in
-      ap (λ (cells : List ℤ). cells ∷ views_from p plan (suc s) cells (first_kept base rest)) here
+      ap (λ (cells : List ℤ). cells ∷ views_from plan (suc s) cells (first_kept base rest)) here
       ∙ ap (λ (xs : List (List ℤ)). base ∷ xs) (first_views base (suc s) base rest (λ j t e. kinds (suc j) t (omega (arith, e))) (λ r. refl))
   first_views base s before (Par ∷ rest) kinds first =
       let par = kinds 0 s (omega arith) in
       let here : (if is_replicated plan s then before else []) ≡ base = ap (λ (b : Bool). if b then before else []) par ∙ first par in
-      ap (λ (cells : List ℤ). cells ∷ views_from p plan (suc s) cells (first_kept base rest)) here
+      ap (λ (cells : List ℤ). cells ∷ views_from plan (suc s) cells (first_kept base rest)) here
       ∙ ap (λ (xs : List (List ℤ)). base ∷ xs) (first_views base (suc s) base rest (λ j t e. kinds (suc j) t (omega (arith, e))) (λ r. refl))
 
 -- ---- the epoch's own run
@@ -119,7 +119,7 @@ module _ (key : EpochKey) (a : Accepted key.program key.plan) (sound : IsSound k
     starts : start own r n ≡ Some k
     state : state_at key n ≡ record { cells = memory_after own r n; steps = key.steps + k }
     clean : CleanSince program plan own 0 n
-    watch : watch_of program plan (kept_at key n) ≡ watch_before program plan own 0 n
+    watch : watch_of plan (kept_at key n) ≡ watch_before program plan own 0 n
 
   here_zero : Here 0
   here_zero = record {
@@ -165,8 +165,8 @@ module _ (key : EpochKey) (a : Accepted key.program key.plan) (sound : IsSound k
     -- The walk finds the cause, where the judgement is Unclean.
     found : judgement_of key n ≡ Unclean → found_in key n ≡ Some (cause_since program plan own 0 n)
     found e =
-        ap (λ (s : JudgeState). cause_walk program plan input (key.fuel - s.steps) (watch_of program plan (kept_at key n)) (turn_text program plan) s.cells) h.state
-        ∙ ap (λ (left : ℕ). cause_walk program plan input left (watch_of program plan (kept_at key n)) (turn_text program plan) (memory_after own r n)) left_is
+        ap (λ (s : JudgeState). cause_walk program plan input (key.fuel - s.steps) (watch_of plan (kept_at key n)) (turn_text program plan) s.cells) h.state
+        ∙ ap (λ (left : ℕ). cause_walk program plan input left (watch_of plan (kept_at key n)) (turn_text program plan) (memory_after own r n)) left_is
         ∙ ap (λ (w : Watch). cause_walk program plan input (own.fuel - h.k) w (turn_text program plan) (memory_after own r n)) (h.watch ∙ ap (watch_before program plan own 0) place)
         ∙ (finds_causes a input fuel (epoch_begin key) stands 0 n h.k (omega arith) h.starts h.clean).some (unclean_by e)
 
@@ -203,7 +203,7 @@ module _ (key : EpochKey) (a : Accepted key.program key.plan) (sound : IsSound k
           let all = counts_all program plan events (watch_before program plan own 0 n) ∙ ap (λ (w : Watch). length w.counts) (sym h.watch) ∙ length-replicate (length plan.stages) 0 in
           ap (λ (m : ℕ). replicate m 0) (sym all) ∙ sym (counts_none program plan (watched_all program plan events (watch_before program plan own 0 n)).counts)
 
-      viewed : views_from program plan 1 [] (map (clear_locals r program.vars) (kept_after program plan (map site_in events) (map effect_in events) (kept_at key n))) ≡ next_from program plan 1 [] (watched_all program plan events (watch_before program plan own 0 n)).views
+      viewed : views_from plan 1 [] (map (clear_locals r program.vars) (kept_after program plan (map site_in events) (map effect_in events) (kept_at key n))) ≡ next_from program plan 1 [] (watched_all program plan events (watch_before program plan own 0 n)).views
       viewed = views_onward program plan 1 [] _ _ (keeps_all program plan events (kept_at key n) (watch_before program plan own 0 n) keeps)
 
       here_next : Here (suc n)
@@ -214,7 +214,7 @@ module _ (key : EpochKey) (a : Accepted key.program key.plan) (sound : IsSound k
             ∙ ap (λ (s : JudgeState). record { cells = clear_locals r program.vars (applied (map effect_in events) s.cells); steps = s.steps + length (map effect_in events) }) h.state
             ∙ (λ i. record { cells = sym follows.memory i; steps = steps_are i });
         clean = λ j low high. elim (cases_lt j n) [ inl l ↦ h.clean j low l | inr l ↦ let same : j ≡ n = omega (arith, l, high) in ap (is_clean program plan own 0) same ∙ clean_here ];
-        watch = ap (λ (j : Judgement). watch_of program plan (next_kept program plan j (kept_at key n))) told
+        watch = ap (λ (j : Judgement). watch_of plan (next_kept program plan j (kept_at key n))) told
             ∙ (λ i. record { views = viewed i; counts = counted i })
             ∙ (let zero_more : n ≡ 0 + n = omega arith in ap (λ (m : ℕ). next_watch program plan (watched_all program plan (iteration own r m) (watch_before program plan own 0 n))) zero_more);
       }

@@ -15,10 +15,13 @@ use Rattle.dp_semantics.specs.EpochKey.{EpochKey, epoch_run}
 use Rattle.dp_semantics.specs.EpochVerdicts.{state_at, judgement_of, goes_on, verdict_at}
 
 -- where an epoch begins: a replicated stage has no memory of its own
+abbrev pub own_kept : List ℤ → StageKind → List ℤ
+own_kept base Seq = base
+own_kept base Par = []
+
 abbrev pub first_kept : List ℤ → List StageKind → List (List ℤ)
 first_kept base [] = []
-first_kept base (Seq ∷ rest) = base ∷ first_kept base rest
-first_kept base (Par ∷ rest) = [] ∷ first_kept base rest
+first_kept base (kind ∷ rest) = own_kept base kind ∷ first_kept base rest
 
 module _ (p : Program) (plan : Plan) where
   -- after these effects at these sites, each of which its own stage and the later ones see
@@ -31,6 +34,7 @@ module _ (p : Program) (plan : Plan) where
   next_kept (Clean agreed) kept = map (clear_locals plan.region p.vars) (kept_after agreed.sites agreed.effects kept)
   next_kept Unclean kept = kept
 
+module _ (plan : Plan) where
   -- the memories that the stages from s on see: a replicated stage sees what the one before it does
   abbrev pub views_from : ℕ → List ℤ → List (List ℤ) → List (List ℤ)
   views_from s before [] = []
@@ -48,7 +52,7 @@ kept_at key (suc n) = next_kept key.program key.plan (judgement_of key n) (kept_
 -- the cause that the walk finds in that iteration, within the steps that are left
 abbrev pub found_in : EpochKey → ℕ → Option Cause
 found_in key n =
-    cause_walk key.program key.plan key.input (key.fuel - (state_at key n).steps) (watch_of key.program key.plan (kept_at key n)) (turn_text key.program key.plan) (state_at key n).cells
+    cause_walk key.program key.plan key.input (key.fuel - (state_at key n).steps) (watch_of key.plan (kept_at key n)) (turn_text key.program key.plan) (state_at key n).cells
 
 -- an epoch begins with as many cells as the program has, and with the body locals at 0
 pub record IsSound (key : EpochKey) : Type 0 where

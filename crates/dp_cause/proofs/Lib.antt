@@ -1,0 +1,3 @@
+pub mod ViewLemmas
+pub mod LookLemmas
+pub mod KeptLemmas

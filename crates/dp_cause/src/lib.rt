@@ -1,0 +1,10 @@
+//! Why an iteration isn't clean: the source's steps, with the memory that each stage sees.
+#![tactic(auto)]
+
+mod assuming;
+mod kept;
+mod looking;
+mod views;
+mod watched;
+
+pub use kept::Kept;
