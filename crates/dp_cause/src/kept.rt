@@ -2,7 +2,7 @@
 ghost use Rattle.std.specs.Prelude.{◌≡◌, IfOk, IfSome, [], if◌then◌else◌, map, filter, length, replicate};
 ghost use Rattle.dp_tree.specs.Step.{clear_locals};
 ghost use Rattle.dp_tree.specs.declared.Stmt.{out-Stmt};
-ghost use Rattle.dp_plan.specs.Access.{is_region_at, is_replicated};
+ghost use Rattle.dp_plan.specs.Access.{first_site, is_region_at, is_replicated};
 ghost use Rattle.dp_plan.specs.CheckedTable.{IsTabled};
 ghost use Rattle.dp_semantics.specs.CauseWalk.{cause_walk};
 ghost use Rattle.dp_semantics.specs.EpochCauses.{first_kept, own_kept, views_from, watch_of};
@@ -11,8 +11,8 @@ ghost use Rattle.dp_cause.specs.Views.{kept_by, last_or, stored_all};
 ghost use Rattle.dp_cause.specs.Watching.{FindsIf, widened};
 
 use crate::views::{clear, clear_all, put_all, show_all};
-use crate::watched::Watched;
-use dp_base::{Cells, NoMemory, Row, StoreOf};
+use crate::watched::{Ground, Watched};
+use dp_base::{Cause, Cells, NoMemory, Row, StoreOf};
 use dp_plan::{Plan, StageKind, is_region};
 use dp_tree::{Program, Stmt};
 use std::alloc::Global;
@@ -155,5 +155,54 @@ impl Kept {
             cells: self.cells.copy()?,
             left,
         })
+    }
+
+    fn search(
+        &self,
+        alloc: Global,
+        p: &Program,
+        plan: &Plan,
+        input: &[i64],
+        first: u32,
+        left: u64,
+    ) -> Result<Option<Cause>, NoMemory>
+        requires tabled { IsTabled p.now plan.now }
+        requires first { first ≡ first_site p.now plan.now }
+        ensures { IfOk result (λ found. FindsIf (cause_walk p.now plan.now input.now left (watch_of plan.now self.now.views) (turn_text p.now plan.now) self.now.cells) found) }
+    {
+        let wide = wide(alloc, plan)?;
+        let mut watched = self.watched(alloc, plan, left)?;
+        let ground = Ground {
+            alloc,
+            program: p,
+            plan,
+            wide: &wide,
+            input,
+            first,
+        };
+        match region_of(p.main.as_slice(), plan.region) {
+            Some(region) => Ok(watched.find(ground, region)),
+            None => Ok(None),
+        }
+    }
+
+    /// Why the next iteration isn't clean, where so many steps are left; none where it is, or memory was wanting.
+    pub fn cause(
+        &self,
+        alloc: Global,
+        p: &Program,
+        plan: &Plan,
+        input: &[i64],
+        first: u32,
+        left: u64,
+    ) -> Option<Cause>
+        requires tabled { IsTabled p.now plan.now }
+        requires first { first ≡ first_site p.now plan.now }
+        ensures { FindsIf (cause_walk p.now plan.now input.now left (watch_of plan.now self.now.views) (turn_text p.now plan.now) self.now.cells) result }
+    {
+        match self.search(alloc, p, plan, input, first, left) {
+            Ok(found) => found,
+            Err(_) => None,
+        }
     }
 }

@@ -2,8 +2,10 @@
 #![tactic(auto)]
 
 mod assuming;
+mod finding;
 mod kept;
 mod looking;
+mod stepping;
 mod views;
 mod watched;
 

@@ -229,3 +229,9 @@ module _ (key : EpochKey) (a : Accepted key.program key.plan) (sound : IsSound k
 
 pub finds_in_epochs : {p : Program} {plan : Plan} → ((key : EpochKey) → key.program ≡ p → key.plan ≡ plan → Accepted key.program key.plan) → FindsInEpochs p plan
 finds_in_epochs accepts key program_is plan_is sound n gone unclean = let a = accepts key program_is plan_is in found key a sound n (here_at key a sound n gone) unclean
+
+-- where the region's condition comes next, its body locals read 0
+pub cleared_there : {p : Program} {plan : Plan} (a : Accepted p plan) (cells : List ℤ) → (standing p (from_region plan.region p.main) cells).cells ≡ cells → clear_locals plan.region p.vars cells ≡ cells
+cleared_there {p = p} {plan = plan} a cells still =
+    sym (ap (λ (c : Config). c.cells) (ap (λ (xs : List Stmt). standing p xs cells) (ap (from_region plan.region) a.main_is ∙ from_front plan.region a.front a.statement a.tail a.front_free (ap (is_region plan.region) a.is ∙ eq-eqb plan.region plan.region refl)) ∙ standing_is a [] cells))
+    ∙ still
