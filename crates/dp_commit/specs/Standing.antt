@@ -1,23 +1,32 @@
 -- Where the judging stands in an epoch, and what it decides.
-use Rattle.std.specs.Prelude.{◌≡◌, ℕ, suc, false, ◌-◌, List, ℤ, length, Some}
+use Rattle.std.specs.Prelude.{◌≡◌, ℕ, suc, false, true, ◌<◌, ◌-◌, List, ℤ, length, Some}
 use Rattle.dp_base.specs.declared.Word.{Word}
 use Rattle.dp_semantics.specs.Judge.{Judgement, judge_lists}
 use Rattle.dp_semantics.specs.Packets.{Packet, passed}
 use Rattle.dp_semantics.specs.EpochKey.{EpochKey, epoch_of}
-use Rattle.dp_semantics.specs.EpochVerdicts.{state_at, verdict_at}
+use Rattle.dp_semantics.specs.EpochVerdicts.{goes_on, state_at, verdict_at}
+use Rattle.dp_semantics.specs.EpochCauses.{IsSound, kept_at}
 use Rattle.dp_semantics.specs.Items.{OrWanting}
 use Rattle.dp_commit.specs.Told.{decided}
 use Rattle.dp_commit.specs.declared.trying.TryCommit.{TryCommit}
 use Rattle.dp_commit.specs.declared.verdict.Verdict.{Verdict}
 use Rattle.dp_commit.specs.declared.verdict.Verdict.TheVariants.{Clean, Unclean, NoMemory}
 
--- The next packet that is judged is that of the epoch's n-th iteration: the memory and the steps are those after the iterations before it.
-pub record Judges (t : TryCommit) (key : EpochKey) (n : ℕ) : Type 0 where
+-- The epoch's n-th iteration comes next, and all before it go on: the steps, and what is kept, are those after the iterations before it.
+pub record Knows (t : TryCommit) (key : EpochKey) (n : ℕ) : Type 0 where
   pub program : t.program.now ≡ key.program
   pub plan : t.plan.now ≡ key.plan
   pub input : t.input.now ≡ key.input
-  pub cells : t.cells ≡ Some (state_at key n).cells
   pub left : t.left ≡ key.fuel - (state_at key n).steps
+  pub kept : t.kept ≡ record { views = kept_at key n; cells = (state_at key n).cells }
+  pub sound : IsSound key
+  pub gone : (m : ℕ) → m < n → goes_on (verdict_at key m) ≡ true
+
+-- The next packet that is judged is that of the epoch's n-th iteration, in the memory after the iterations before it.
+pub record Judges (t : TryCommit) (key : EpochKey) (n : ℕ) : Type 0 where
+  pub knows : Knows t key n
+  pub open knows use *
+  pub cells : t.cells ≡ Some (state_at key n).cells
 
 -- a packet is what the last stage sends for that iteration
 abbrev pub IsLast : EpochKey → ℕ → Packet → Type 0

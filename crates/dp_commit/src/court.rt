@@ -41,6 +41,8 @@ pub struct Walk<'p> {
     /// What is left of each stage's words.
     pub lists: Row<Cursor<'p>>,
     pub stores: Row<StoreOf>,
+    /// The stage of each store's site.
+    pub stages: Row<u32>,
     pub prints: Row<i64>,
     pub closing: bool,
 }

@@ -18,11 +18,15 @@ use Rattle.dp_plan.specs.Access.{is_region_at, region_accesses, region_statement
 use Rattle.dp_semantics.specs.Fits.{fits_plan, one_region, lies_in_order, access_known}
 use Rattle.dp_semantics.specs.Recovery.{epoch}
 use Rattle.dp_semantics.specs.EpochKey.{EpochKey, epoch_run, epoch_begin, from_region}
+use Rattle.dp_semantics.specs.EpochCauses.{IsSound}
 use Rattle.dp_semantics.proofs.Memory.{clear-at, clear-still}
+use Rattle.dp_semantics.proofs.Placed.{cleared-length}
+use Rattle.dp_semantics.proofs.EpochFound.{cleared_there}
+use Rattle.dp_semantics.proofs.Fitting.{accepted}
 use Rattle.dp_meaning.specs.MachineState.{MachineState, fuel_left, rest_of_run}
 use Rattle.dp_commit.specs.CommittedState.{CommittedState, region_run, steps_of_first}
 use Rattle.dp_commit.proofs.Parts.{on_region}
-use Rattle.dp_crew.specs.InEpoch.{BeginsAt, InEpoch, IsKeyOf, ToBegin}
+use Rattle.dp_crew.specs.InEpoch.{BeginsAt, InEpoch, IsKeyOf, ToBegin, key_here}
 use Rattle.dp_crew.specs.Progress.{Progress}
 use Rattle.dp_crew.proofs.Here.{at_head, goes_here, at_once, memory_is, stands_there}
 
@@ -133,3 +137,19 @@ pub epoch_here : (key : EpochKey) (given : ℕ) (first : MachineState) (c : Comm
 epoch_here key given first c report k b =
     subst (λ (n : ℕ). InEpoch key n first c report) (sym k.none)
     (begins_epoch key first c report b.at_epoch.progress (record { program = sym b.program_is; input = sym b.input_is; fuel = k.fuel ∙ b.at_epoch.progress.holds.fuel }) b.at_epoch.fresh k.first k.base k.steps)
+
+standing-length : (p : Program) (xs : List Stmt) (cells : List ℤ) → length (standing p xs cells).cells ≡ length cells
+standing-length p [] cells = refl
+standing-length p (x ∷ xs) cells = cleared-length p cells (out-Stmt x)
+
+-- .. in a memory as the program has it
+pub sound_here : (p : Program) (plan : Plan) (input : List ℤ) (first : MachineState) (c : CommittedState) (report : RegionReport) → ToBegin p plan input first c report → IsSound (key_here p plan input c)
+sound_here p plan input first c report b =
+    let g = b.at_epoch.progress in
+    let s = stands_there plan first g.start c g.holds in
+    let there = begins_there first.program plan c.machine.config g.start.fits s (on_region plan.region c.machine.config (at_head plan first c report g)) in
+    let sound : IsSound (key_here first.program plan input c) = record {
+      size = ap (λ (d : Config). length d.cells) s.config_is ∙ standing-length first.program (s.inner ++ s.behind) s.cells ∙ s.cells_are;
+      cleared = cleared_there (accepted first.program plan g.start.fits) c.machine.config.cells (ap (λ (d : Config). d.cells) there);
+    } in
+    subst (λ (q : Program). IsSound (key_here q plan input c)) b.program_is sound

@@ -1,6 +1,7 @@
 //! The pipeline of the epoch that begins behind what is committed.
 ghost use Rattle.std.specs.Prelude.{◌≡◌, ◌≤◌, length, IfOk};
 ghost use Rattle.dp_pipeline.specs.Programs.{ArePrograms};
+ghost use Rattle.dp_semantics.specs.EpochCauses.{IsSound};
 ghost use Rattle.dp_crew.specs.InEpoch.{key_here};
 ghost use Rattle.dp_crew.specs.RegionRun.{IsPlanned};
 
@@ -28,6 +29,7 @@ pub(crate) fn pipeline_here<'u>(
 ) -> Result<Pipeline<'u>, NoMemory>
     requires planned { IsPlanned p.now plan.now }
     requires programs { ArePrograms p.now plan.now programs.now }
+    requires sound { IsSound (key_here p.now plan.now input.now committed.now) }
     requires words { length input.now ≤ 65536 }
     requires fuel { committed.now.machine.fuel ≤ 1000000000 }
     requires crew { (1 ≤ crew.workers) × (crew.workers ≤ 8) × (1 ≤ crew.lane) × (crew.lane ≤ 64) }

@@ -24,6 +24,7 @@ mod words;
 
 pub use memory::{Memory, Versioned};
 pub use stage::StageMachine;
+pub use turning::turn_over;
 
 /// What an op comes to.
 #[derive(Clone, Copy)]

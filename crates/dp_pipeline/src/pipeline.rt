@@ -2,6 +2,7 @@
 ghost use Rattle.std.specs.Prelude.{◌≡◌, ◌≤◌, ◌<◌, ◌^◌, length, IfOk};
 ghost use Rattle.dp_tree.specs.Inlined.{IsInlined};
 ghost use Rattle.dp_plan.specs.GivenPlans.{IsPlan};
+ghost use Rattle.dp_semantics.specs.EpochCauses.{IsSound};
 ghost use Rattle.dp_pipeline.specs.Programs.{ArePrograms};
 
 use crate::keys::EpochKey;
@@ -46,6 +47,7 @@ impl<'u> Pipeline<'u> {
         requires plan { IsPlan p.now plan.now }
         requires programs { ArePrograms p.now plan.now programs.now }
         requires words { length input.now ≤ 65536 }
+        requires sound { IsSound (record { program = p.now; plan = plan.now; input = input.now; first = first; base = base.now; steps = steps; fuel = fuel }) }
         requires steps { steps ≤ fuel }
         requires fuel { fuel ≤ 1000000000 }
         requires workers { (1 ≤ workers) × (workers ≤ 8) }

@@ -4,15 +4,13 @@ use Rattle.std.specs.Prelude.{◌+ℤ◌}
 use Rattle.std.proofs.lemmas.Int.{ints}
 use Rattle.dp_semantics.proofs.Setting.{Accepted, Each, each_map, InVar}
 use Rattle.dp_semantics.proofs.Whole.{clear-other}
-use Rattle.dp_semantics.proofs.Stepping.{event_of}
-use Rattle.dp_semantics.proofs.Iterations.{run, Ending, goes_on, closes, breaks, IterationIs, iteration_is}
+use Rattle.dp_semantics.proofs.Iterations.{run, goes_on, closes, breaks, IterationIs, iteration_is}
 use Rattle.dp_semantics.proofs.Central.{earlier_start}
-use Rattle.dp_plan.specs.Touch.{Touch, offset}
-use Rattle.dp_semantics.proofs.Far.{times, Lies, StoresAt, LoadsThere, LoadsAt, Both, Far, FarWithin}
+use Rattle.dp_plan.specs.Touch.{Touch}
+use Rattle.dp_semantics.proofs.Far.{times, Lies, Both, Far, FarWithin}
 use Rattle.dp_semantics.specs.FarPairs.{AreApart}
 use Rattle.dp_semantics.proofs.Reading.{Loaded, Passes, head_loaded}
 use Rattle.dp_semantics.proofs.Offsets.{held, load_lands, store_lands}
-use Rattle.dp_semantics.proofs.Even.{AtEvent}
 use Rattle.dp_semantics.proofs.Strides.{Moving, holds, Placed, turn_steps}
 
 module _ {p : Program} {plan : Plan} (a : Accepted p plan) (input : List ℤ) (fuel : ℕ) (begins : Config) (stands : StandsInMain p begins) (v : ℕ) (k : ℤ) (outer : is_body_local p plan v ≡ false)
@@ -43,7 +41,7 @@ module _ {p : Program} {plan : Plan} (a : Accepted p plan) (input : List ℤ) (f
   next_start i n later e f = let q = iteration_is a input fuel begins stands i n e in elim q.ending [
     | goes_on end there memory config going within ↦ ap (λ (cells : List ℤ). held p input cells v) memory ∙ cleared_held q.then_cells ∙ (steps_of i n q).1 end going
     | closes end none closing stop config within ↦ let clash : None ≡ Some later = sym none ∙ f in absurd (cc clash)
-    | breaks x rest after unended why ↦ absurd (both_ways (has_ended source r i) unended (ap (λ (o : Option ℕ). Rattle.dp_semantics.proofs.Names.is_some o || is_closing source r i) f))
+    | breaks x rest after unended why ends ↦ absurd (both_ways (has_ended source r i) unended (ap (λ (o : Option ℕ). Rattle.dp_semantics.proofs.Names.is_some o || is_closing source r i) f))
   ]
 
   -- n iterations further v is moved by n strides

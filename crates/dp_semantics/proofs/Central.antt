@@ -1,5 +1,5 @@
 -- The central theorem: the judgement on an epoch's packet is Clean exactly where the iteration is clean.
-use Rattle.dp_semantics.proofs.Names.{stop_from, word_list, ◌&&◌, ◌≡◌, inl, inr, refl, sym, ap, ◌∙◌, subst, ℕ, zero, suc, ◌+◌, ◌-◌, ◌<◌, ◌≤◌, Bool, true, false, ◌||◌, List, [], ◌++◌, ℤ, length, length-append, get_or, map, Option, Some, is_some, arith, le-leb, append-nil, slice_get_within, slice_get-get_or, both_ways, lt-leb, list_all, Stmt, Program, Plan, Config, Event, Step, Finished, Faulted, Stepped, clear_locals, step, Run, run_of, run_by, standing, StandsInMain, cells_in, cells_after, memory_from, drop, slice_get, None, memory_of, to_do_after, starts, start, iteration, is_closing, has_ended, memory_after, Past, all_agree, event_as_assumed, fits_words, events_since, is_clean, Epoch, passed, Agreed, Clean, judge, effect_in, epoch_at, status_when, CleanSince, Judged, Closes, Follows, or-true, and_from, and_parts}
+use Rattle.dp_semantics.proofs.Names.{stop_from, word_list, ◌&&◌, ◌≡◌, inl, inr, refl, sym, ap, ◌∙◌, subst, ℕ, zero, suc, ◌+◌, ◌-◌, ◌<◌, ◌≤◌, Bool, true, false, ◌||◌, List, [], ◌++◌, ℤ, length, length-append, get_or, map, Option, Some, is_some, arith, le-leb, append-nil, slice_get_within, slice_get-get_or, both_ways, lt-leb, list_all, Stmt, Program, Plan, Config, Event, Step, Finished, Faulted, Stepped, clear_locals, step, Run, run_of, run_by, standing, StandsInMain, cells_in, cells_after, memory_from, drop, slice_get, None, memory_of, to_do_after, starts, start, iteration, is_closing, has_ended, memory_after, Past, all_agree, event_as_assumed, fits_words, events_since, is_clean, Epoch, passed, Agreed, Clean, judge, effect_in, site_in, epoch_at, status_when, CleanSince, Judged, Closes, Follows, or-true, and_from, and_parts}
 use Rattle.dp_semantics.proofs.Paths as paths
 use Rattle.dp_semantics.proofs.Setting.{Accepted}
 use Rattle.dp_semantics.proofs.KeptApart.{never_met}
@@ -12,7 +12,7 @@ use Rattle.dp_semantics.proofs.Iterations.{run, Ending, goes_on, closes, breaks,
 use Rattle.dp_semantics.proofs.Counts.{fits_each, each_fits, words_are}
 use Rattle.dp_semantics.proofs.Paths.{closing_first, goes_applied, first_of, no_more}
 
-numbered_is : (e n : ℕ) → numbered e n ≡ e + n
+pub numbered_is : (e n : ℕ) → numbered e n ≡ e + n
 numbered_is e zero = omega arith
 numbered_is e (suc n) = omega (arith, numbered_is e n)
 
@@ -21,7 +21,7 @@ since_start : (run : Run) (r e : ℕ) → events_since run r e e ≡ []
 since_start run r zero = refl
 since_start run r (suc e) = rw (lt-leb (suc e) e (omega arith))
 
-since_is : (run : Run) (r e n : ℕ) → events_since run r e (numbered e n) ≡ past_at e (λ m. iteration run r (numbered e m)) n
+pub since_is : (run : Run) (r e n : ℕ) → events_since run r e (numbered e n) ≡ past_at e (λ m. iteration run r (numbered e m)) n
 since_is run r e zero = since_start run r e
 since_is run r e (suc n) = rw (le-leb e (numbered e n) (omega (arith, numbered_is e n)), since_is run r e n)
 
@@ -29,7 +29,7 @@ since_is run r e (suc n) = rw (le-leb e (numbered e n) (omega (arith, numbered_i
 pub earlier_start : (ks : List ℕ) (i j k : ℕ) → slice_get ks i ≡ Some k → j ≤ i → (m : ℕ) × (slice_get ks j ≡ Some m)
 earlier_start ks i j k e h = let within = slice_get_within ks i k e in (get_or ks j 0, slice_get-get_or ks j 0 (omega (arith, within, h)))
 
-fuel_is : (p : Program) (input : List ℤ) (n : ℕ) (c : Config) → (run_of p input n c).fuel ≡ n
+pub fuel_is : (p : Program) (input : List ℤ) (n : ℕ) (c : Config) → (run_of p input n c).fuel ≡ n
 unfolding run_of
 fuel_is p input zero c = refl
 fuel_is p input (suc n) c = elim (step p input c) as (λ (s : Step). (run_by (run_of p input n) (suc n) c s).fuel ≡ suc n) [ Finished ↦ refl | Faulted fault ↦ refl | Stepped event next ↦ refl ]
@@ -46,10 +46,10 @@ module _ {p : Program} {plan : Plan} (a : Accepted p plan) (input : List ℤ) (f
   source = run a input fuel begins within_main
 
   module _ (e first : ℕ) (reached : start source r e ≡ Some first) where
-    abbrev key : Epoch
+    abbrev pub key : Epoch
     key = epoch_at p plan input source e
 
-    abbrev history : History key
+    abbrev pub history : History key
     history = record {
       ok = record { accepted = a; met = never_met a input };
       clean_base = (iteration_is a input fuel begins within_main e first reached).cleared;
@@ -67,7 +67,7 @@ module _ {p : Program} {plan : Plan} (a : Accepted p plan) (input : List ℤ) (f
     abbrev told : ℕ → Bool
     told n = list_all (event_as_assumed p plan) (iteration source r (numbered e n))
 
-    parts : (n : ℕ) → is_clean p plan source e (numbered e n) ≡ true →
+    pub parts : (n : ℕ) → is_clean p plan source e (numbered e n) ≡ true →
         (has_ended source r (numbered e n) ≡ true) × (agrees n ≡ true) × (told n ≡ true) × (fits_words p plan (iteration source r (numbered e n)) ≡ true)
     parts n c =
         let one = and_parts (has_ended source r (numbered e n) && agrees n && told n) (fits_words p plan (iteration source r (numbered e n))) c in
@@ -90,16 +90,16 @@ module _ {p : Program} {plan : Plan} (a : Accepted p plan) (input : List ℤ) (f
         by : (q : IterationIs a input fuel begins within_main (numbered e n) k) → Ending a input fuel begins within_main (numbered e n) k q.left q.after q.then_cells → GoneBy history n
         by q (goes_on end there memory config going within) = record { makes = makes_of n k q end c; onward = memory; going = going }
         by q (closes end none closing stop config within) = let clash = sym t ∙ none in absurd (cc clash)
-        by q (breaks x rest after unended why) = absurd (both_ways (has_ended source r (numbered e n)) unended (parts n c).0)
+        by q (breaks x rest after unended why ends) = absurd (both_ways (has_ended source r (numbered e n)) unended (parts n c).0)
 
     module _ (n k : ℕ) (here : start source r (numbered e n) ≡ Some k) (clean_before : (m : ℕ) → m < n → is_clean p plan source e (numbered e m) ≡ true) where
-      gone : Gone history n
+      pub gone : Gone history n
       gone m h =
           let this = earlier_start (starts source r) (numbered e n) (numbered e m) k here (omega (arith, numbered_is e n, numbered_is e m)) in
           let that = earlier_start (starts source r) (numbered e n) (numbered e (suc m)) k here (omega (arith, numbered_is e n, numbered_is e m)) in
           gone_by m this.0 that.0 this.1 that.1 (clean_before m h)
 
-      q : IterationIs a input fuel begins within_main (numbered e n) k
+      abbrev pub q : IterationIs a input fuel begins within_main (numbered e n) k
       q = iteration_is a input fuel begins within_main (numbered e n) k here
 
       -- The packet of a clean iteration has the words of the source's events, and it is judged Clean with the source's effects ..
@@ -107,7 +107,7 @@ module _ {p : Program} {plan : Plan} (a : Accepted p plan) (input : List ℤ) (f
       judged_so c = elim q.ending [
         | goes_on end there memory config onward within ↦ clean_is_judged history n (fuel - k) gone (makes_of n k q end c) (omega (arith, within, q.steps_are))
         | closes end none closing stop config within ↦ clean_is_judged history n (fuel - k) gone (makes_of n k q end c) (omega (arith, within, q.steps_are))
-        | breaks x rest after unended why ↦ absurd (both_ways (has_ended source r (numbered e n)) unended (parts n c).0)
+        | breaks x rest after unended why ends ↦ absurd (both_ways (has_ended source r (numbered e n)) unended (parts n c).0)
       ]
 
       -- .. and where the packet is judged Clean, the iteration is clean.
@@ -132,10 +132,10 @@ module _ {p : Program} {plan : Plan} (a : Accepted p plan) (input : List ℤ) (f
           by : Ending a input fuel begins within_main (numbered e n) k q.left q.after q.then_cells → is_clean p plan source e (numbered e n) ≡ true
           by (goes_on end there memory config going within) = known end (ap (λ (t : Option ℕ). is_some t || is_closing source r (numbered e n)) there)
           by (closes end none closing stop config within) = known end (rw closing (or-true (is_some (start source r (suc (numbered e n))))))
-          by (breaks x rest after unended (inl spent)) =
+          by (breaks x rest after unended (inl spent) ends) =
               let one = first_of on.path x rest after refl in
               absurd (omega (arith, spent, made.within, q.steps_are, ap length on.is, length-append (iteration source r (numbered e n)) on.more, ap length one.events_are))
-          by (breaks x rest after unended (inr (kind, fault))) = let one = first_of on.path x rest after refl in let clash = sym one.gave ∙ fault in absurd (cc clash)
+          by (breaks x rest after unended (inr (kind, fault)) ends) = let one = first_of on.path x rest after refl in let clash = sym one.gave ∙ fault in absurd (cc clash)
 
     -- by the place in the epoch
     by_place : (n k : ℕ) → start source r (numbered e n) ≡ Some k → CleanSince p plan source e (numbered e n) → numbered e n - e ≡ n → Judged p plan input source e (numbered e n) k
@@ -143,7 +143,7 @@ module _ {p : Program} {plan : Plan} (a : Accepted p plan) (input : List ℤ) (f
       sent = λ c. let w = judged_so n k here before c in record {
         status = ap (λ (m : ℕ). (passed key (length plan.stages) m).packet.status) place ∙ w.sent.status ∙ ap (status_for (length plan.stages)) closing ∙ last_status (length plan.stages) _ some_stage;
         words = λ t low high. ap (λ (m : ℕ). word_list (passed key (length plan.stages) m).packet.lists t) place ∙ w.sent.words t low (omega (arith, high)) ∙ words_are p plan t _;
-        judged = rejudged ∙ w.judged ∙ ap (λ (b : Bool). Clean (record { effects = map effect_in (iteration source r (numbered e n)); closing = b })) closing;
+        judged = rejudged ∙ w.judged ∙ ap (λ (b : Bool). Clean (record { effects = map effect_in (iteration source r (numbered e n)); sites = map site_in (iteration source r (numbered e n)); closing = b })) closing;
       };
       back = λ v j. clean_so n k here before v (sym rejudged ∙ j);
     }
@@ -178,7 +178,7 @@ module _ {p : Program} {plan : Plan} (a : Accepted p plan) (input : List ℤ) (f
           config = config ∙ ap (λ (cells : List ℤ). Some (standing p (behind a) cells)) (goes_applied q.path) ∙ ap (λ (to_do : List Stmt). Some (standing p to_do (memory_of source r i))) (sym q.to_do_is);
         }
         | closes end none closing stop config within ↦ absurd (both_ways (is_closing source r i) going closing)
-        | breaks x rest after unended why ↦ absurd (both_ways (has_ended source r i) unended ended)
+        | breaks x rest after unended why ends ↦ absurd (both_ways (has_ended source r i) unended ended)
       ]
 
   -- The closing iteration leaves its stores, and the run goes on behind the region.
@@ -192,7 +192,7 @@ module _ {p : Program} {plan : Plan} (a : Accepted p plan) (input : List ℤ) (f
             let there : slice_get source.configs (k + length (iteration source r i)) ≡ Some (standing p (drop 1 (to_do_after source k)) (clear_locals r p.vars (memory_of source r i))) =
             config ∙ ap (λ (cells : List ℤ). Some (standing p a.tail (clear_locals r p.vars cells))) (goes_applied q.path) ∙ ap (λ (to_do : List Stmt). Some (standing p to_do (clear_locals r p.vars (memory_of source r i)))) behind_it in
             record { unreached = none; memory = last_memory i k here none ∙ ap (cells_after source) stop ∙ ap cells_in there; config = there }
-        | breaks x rest after unended why ↦ absurd (both_ways (has_ended source r i) unended (rw closing (or-true (is_some (start source r (suc i))))))
+        | breaks x rest after unended why ends ↦ absurd (both_ways (has_ended source r i) unended (rw closing (or-true (is_some (start source r (suc i))))))
       ]
     where
       last_memory : (i k : ℕ) → start source r i ≡ Some k → start source r (suc i) ≡ None → memory_after source r (suc i) ≡ cells_after source (stop_from source k None)

@@ -1,10 +1,10 @@
 -- The iterations of a run that begins within `main`, each as a piece of the source's steps.
-use Rattle.dp_semantics.proofs.Names.{last_events, ◌≡◌, ◌⊎◌, inl, inr, refl, sym, ap, ◌∙◌, subst, ℕ, suc, ◌+◌, ◌-◌, ◌≤◌, true, false, ◌||◌, List, [], ◌∷◌, ◌++◌, ℤ, pos, length, get_or, take, drop, Option, Some, None, is_some, slice_get, slice_range, Err, arith, drop-append_seam, take-append_seam, append-nil, FaultKind, Stmt, out-Stmt, Program, Plan, Config, Event, evaluated, Run, run_of, standing, StandsInMain, stands_at_head, start, stop_from, events_from, iteration, is_closing, has_ended, cells_in, cells_after, memory_from, memory_after, places, to_do_in, to_do_after}
+use Rattle.dp_semantics.proofs.Names.{last_events, ◌≡◌, ◌⊎◌, inl, inr, refl, sym, ap, ◌∙◌, subst, ℕ, suc, ◌+◌, ◌-◌, ◌<◌, ◌≤◌, true, false, ◌||◌, List, [], ◌∷◌, ◌++◌, ℤ, pos, length, get_or, take, drop, Option, Some, None, is_some, slice_get, slice_range, Err, arith, drop-append_seam, take-append_seam, append-nil, FaultKind, Stmt, out-Stmt, Program, Plan, Config, Event, evaluated, Run, run_of, standing, StandsInMain, stands_at_head, start, stop_from, events_from, iteration, is_closing, has_ended, cells_in, cells_after, memory_from, memory_after, places, to_do_in, to_do_after}
 use Rattle.dp_tree.specs.Iteration.{closes as closes_of}
 use Rattle.dp_semantics.proofs.Setting.{size, Accepted, Each, each_split}
 use Rattle.dp_semantics.proofs.Whole.{turn_of, Cleared, clear-at, clear-length, Goes}
 use Rattle.dp_semantics.proofs.Begun.{reach}
-use Rattle.dp_semantics.proofs.Placed.{before_it, beyond, Spotted, Spot, spot_next, behind, all_at, at_start, PlaceAt, place_at, From, run_from, run_first}
+use Rattle.dp_semantics.proofs.Placed.{StopsSo, before_it, beyond, Spotted, Spot, spot_next, behind, all_at, at_start, PlaceAt, place_at, From, run_from, run_first}
 use Rattle.dp_semantics.proofs.Turns.{clear, start_at, run_at, next_start, Outcome, onward, closed, broken, Turned, standing_is, starts_first, turned}
 
 slice_get-seam : {X : Type 0} (a b : List X) (k j : ℕ) → k ≡ length a + j → slice_get (a ++ b) k ≡ slice_get b j
@@ -37,6 +37,7 @@ module _ {p : Program} {plan : Plan} (a : Accepted p plan) (input : List ℤ) (f
     pub before_is : length before ≡ k
     pub front : List Config
     pub configs_are : run.configs ≡ front ++ (at left cells).configs
+    pub end_is : run.end ≡ (at left cells).end
     pub front_is : length front ≡ k
     pub next : start run r (suc i) ≡ next_start a input k left cells
 
@@ -58,6 +59,7 @@ module _ {p : Program} {plan : Plan} (a : Accepted p plan) (input : List ℤ) (f
     before_is = omega (arith, f.length_is, q.place_is);
     front = q.front;
     configs_are = q.is ∙ ap (λ (cs : List Config). q.front ++ cs) configs;
+    end_is = f.end_is ∙ ap (λ (c : Config). (run_of p input f.left c).end) s.1;
     front_is = omega (arith, q.place_is);
     next = q.next ∙ sym (ap (λ (cs : List Config). slice_get (places (stands_at_head r) k cs) 1) (sym configs ∙ ap (λ (c : Config). c ∷ q.behind) s.1) ∙ starts_first a input k s.0 q.behind);
   }
@@ -80,7 +82,7 @@ module _ {p : Program} {plan : Plan} (a : Accepted p plan) (input : List ℤ) (f
     closes : after ≡ [] → start run plan.region (suc i) ≡ None → is_closing run plan.region i ≡ true → stop_from run k None ≡ k + length (iteration run plan.region i) → slice_get run.configs (k + length (iteration run plan.region i)) ≡ Some (standing p a.tail (clear a input then_cells)) →
         length (iteration run plan.region i) ≤ left → Ending i k left after then_cells
     breaks : (x : Stmt) (rest : List Stmt) → after ≡ x ∷ rest → has_ended run plan.region i ≡ false →
-        (left ≡ length (iteration run plan.region i)) ⊎ ((kind : FaultKind) × (evaluated p input then_cells (out-Stmt x) ≡ Err kind)) → Ending i k left after then_cells
+        (why : (left ≡ length (iteration run plan.region i)) ⊎ ((kind : FaultKind) × (evaluated p input then_cells (out-Stmt x) ≡ Err kind))) → StopsSo p input x then_cells (length (iteration run plan.region i) < left) run.end why → Ending i k left after then_cells
 
   -- iteration i as the source's steps from its memory
   pub record IterationIs (i k : ℕ) : Type 0 where
@@ -153,15 +155,20 @@ module _ {p : Program} {plan : Plan} (a : Accepted p plan) (input : List ℤ) (f
         let same = iteration_from i k None s.before t.events t.more e (s.next ∙ next k) trace_at s.before_is stop in
         is_as same (closes end (s.next ∙ next k) (ap closes_of same ∙ leaving) (stop ∙ ap (λ (es : List Event). k + length es) (sym same))
         (config_at (length t.events) (k + length (iteration run r i)) (ap (λ (es : List Event). k + length es) same) ∙ config) (omega (arith, within, ap length same)))
-    by_outcome (broken x rest after next none yet last why) =
+    by_outcome (broken x rest after next none yet last why ends) =
         let rest_is : t.events ++ t.more ≡ t.events = ap (λ (es : List Event). t.events ++ es) none ∙ append-nil t.events in
         let gone = s.next ∙ next k in
         let same = iteration_from i k None s.before t.events t.more e gone trace_at s.before_is (stop_at (ap last_events rest_is ∙ last)) in
-        is_as same (breaks x rest after (ap (λ (o : Option ℕ). is_some o || is_closing run r i) gone ∙ ap closes_of same ∙ yet) (later same why))
+        is_as same (breaks x rest after (ap (λ (o : Option ℕ). is_some o || is_closing run r i) gone ∙ ap closes_of same ∙ yet) (later same why) (stops_later same x why ends))
       where
         later : {P : Type 0} → iteration run r i ≡ t.events → (s.left ≡ length t.events) ⊎ P → (s.left ≡ length (iteration run r i)) ⊎ P
         later same (inl l) = inl (l ∙ ap length (sym same))
         later same (inr l) = inr l
+
+        stops_later : (same : iteration run r i ≡ t.events) (x : Stmt) (why : (s.left ≡ length t.events) ⊎ ((kind : FaultKind) × (evaluated p input t.then_cells (out-Stmt x) ≡ Err kind))) →
+            StopsSo p input x t.then_cells (length t.events < s.left) (at s.left s.cells).end why → StopsSo p input x t.then_cells (length (iteration run r i) < s.left) run.end (later same why)
+        stops_later same x (inl l) ends = s.end_is ∙ ends
+        stops_later same x (inr l) ends = (let within = ends.0 in omega (arith, within, ap length same), s.end_is ∙ ends.1)
 
   -- Each iteration that starts is a piece of the source's steps.
   pub iteration_is : (i k : ℕ) → start run plan.region i ≡ Some k → IterationIs i k

@@ -1,5 +1,5 @@
 -- The judgement stands where the source does, and of an iteration that agrees with the plan it is Clean.
-use Rattle.dp_semantics.proofs.Names.{◌≡◌, refl, sym, ap, ◌∙◌, append_assoc, ℕ, zero, suc, ◌+◌, ◌<◌, Bool, true, ◌&&◌, if◌then◌else◌, List, [], ◌∷◌, ◌++◌, ℤ, length, map, Option, Some, None, arith, append-nil, list_all, Word, Stmt, out-Stmt, out-roll-Stmt, Program, Plan, Load, WithLoads, Event, Effect, followed, site_of, value_of, Past, event_as_assumed, pushed, words_of, word_list, Epoch, Judging, Clean, loads_hold, judged, judge_step, judge_by, judge_at, judge_spent, judge_from, last, effect_in, and_parts, and_from}
+use Rattle.dp_semantics.proofs.Names.{◌≡◌, refl, sym, ap, ◌∙◌, append_assoc, ℕ, zero, suc, ◌+◌, ◌<◌, Bool, true, ◌&&◌, if◌then◌else◌, List, [], ◌∷◌, ◌++◌, ℤ, length, map, Option, Some, None, arith, append-nil, list_all, SiteId, Word, Stmt, out-Stmt, out-roll-Stmt, Program, Plan, Load, WithLoads, Event, Effect, followed, site_of, value_of, Past, event_as_assumed, pushed, words_of, word_list, Epoch, Judging, Clean, loads_hold, judged, judge_step, judge_by, judge_at, judge_spent, judge_from, last, effect_in, site_in, and_parts, and_from}
 use Rattle.dp_semantics.proofs.Setting.{Fit, each_map, Form, Holds, IsHeld}
 use Rattle.dp_semantics.proofs.Stepping.{InStep, Moved, here, staying, onward, site_proj, head_is, left_is, taken_is, consumed_stands, consumed_moved, event_passes, event_of, past_of, stage_for, Stands, own_site, form_of, own_loads, stands_next}
 use Rattle.dp_semantics.proofs.Lockstep.{Goes, stays, goes, closing_after, Has, front_of, has_next}
@@ -43,7 +43,7 @@ module _ {k : Epoch} (ok : Fit k) {i : ℕ} {x : Stmt} {rest : List Stmt} {earli
   held_here loads h = each_map (IsHeld j.turn.cells) (IsHeld cells) (λ l q. at.sees l.cell ∙ sym (b.sees l.cell) ∙ q) loads h
 
 -- at the end of the iteration's text the judgement is Clean, whatever steps are left
-pub judge_ends : (p : Program) (plan : Plan) (n : ℕ) (j : Judging) → j.turn.to_do ≡ [] → judge_from p plan n j ≡ Clean (record { effects = j.effects; closing = j.turn.closing })
+pub judge_ends : (p : Program) (plan : Plan) (n : ℕ) (j : Judging) → j.turn.to_do ≡ [] → judge_from p plan n j ≡ Clean (record { effects = j.effects; sites = j.sites; closing = j.turn.closing })
 unfolding judge_from
 judge_ends p plan zero j e = ap (judge_spent j) e
 judge_ends p plan (suc n) j e = ap (judge_at p plan (judge_from p plan n) j) e
@@ -54,6 +54,7 @@ pub record JudgedThrough (k : Epoch) (i : ℕ) (to_do : List Stmt) (earlier : Li
   pub runs : (m n : ℕ) → m ≡ length events + n → judge_from k.program k.plan m j ≡ judge_from k.program k.plan n judging
   pub in_step : InStep k i (last k.plan) to_do (pushed i events earlier) judging.turn
   pub effects : judging.effects ≡ j.effects ++ map effect_in events
+  pub sites : judging.sites ≡ j.sites ++ map site_in events
   pub closing : judging.turn.closing ≡ closing_after k.program k.plan j.turn.closing events
 
 module _ {k : Epoch} (ok : Fit k) {i : ℕ} where
@@ -66,6 +67,7 @@ module _ {k : Epoch} (ok : Fit k) {i : ℕ} where
     runs = λ m n e. let same : m ≡ n = omega (arith, e) in ap (λ (u : ℕ). judge_from program plan u j) same;
     in_step = b;
     effects = sym (append-nil j.effects);
+    sites = sym (append-nil j.sites);
     closing = refl;
   }
   judge_lockstep {earlier = earlier} at (goes {x = x} {rest = rest} {cells = cells} {v = v} {events = more} e path) told left j b has =
@@ -83,5 +85,6 @@ module _ {k : Epoch} (ok : Fit k) {i : ℕ} where
         runs = λ m n q. let one : m ≡ suc (length more + n) = omega (arith, q) in ap (λ (u : ℕ). judge_from program plan u j) one ∙ step (length more + n) ∙ r.runs (length more + n) n refl;
         in_step = r.in_step;
         effects = r.effects ∙ append_assoc j.effects (v.value ∷ []) (map effect_in more);
+        sites = r.sites ∙ ap (λ (site : SiteId). (j.sites ++ site.0 ∷ []) ++ map site_in more) (site_proj program plan (last plan) (out-Stmt x)) ∙ append_assoc j.sites ((site_of (out-Stmt x)).0 ∷ []) (map site_in more);
         closing = r.closing ∙ ap (λ (u : Bool). closing_after program plan u more) moved.closing;
       }

@@ -64,3 +64,8 @@ pub mod OnceInMain
 pub mod Apart
 pub mod Pairs
 pub mod Causes
+pub mod Watching
+pub mod Onward
+pub mod WatchInEpoch
+pub mod CauseFound
+pub mod EpochFound

@@ -41,6 +41,6 @@ pub use Rattle.dp_semantics.specs.Recovery.{epoch, is_recovered}
 pub use Rattle.dp_semantics.specs.Seen.{covered_value, is_covered, is_local_at, is_local_cell, Past, seen, stored_in}
 pub use Rattle.dp_semantics.specs.StageRun.{closes_at, consumed, consumed_step, Ended, is_zero_at, own_step, stage_at, stage_run, Turn, turn_at, turn_begin, turn_by, turn_step, turned, TurnEnd, words_left}
 unfoldable pub use Rattle.dp_semantics.specs.StageRun.{turn_from}
-pub use Rattle.dp_semantics.specs.Verdict.{applied, CleanSince, Closes, ClosingLeaves, effect_in, epoch_at, Follows, Judged, JudgesEpochs, JudgesRightly, memory_of, status_when, StoresLead, to_do_after, to_do_in, whole_run, words_at_stage}
+pub use Rattle.dp_semantics.specs.Verdict.{applied, CleanSince, Closes, ClosingLeaves, effect_in, site_in, epoch_at, Follows, Judged, JudgesEpochs, JudgesRightly, memory_of, status_when, StoresLead, to_do_after, to_do_in, whole_run, words_at_stage}
 pub use Rattle.dp_semantics.specs.Words.{after_loads_of, done_word, effect_by, Full, is_cell_of, is_done_of, is_load_of, load_word, load_words, Taken, taken_from, Void, word_list, words_in, words_of}
 unfoldable pub use Rattle.dp_tree.proofs.Heads.{opened_statement}

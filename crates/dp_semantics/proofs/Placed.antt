@@ -3,7 +3,7 @@ use Rattle.dp_semantics.proofs.Names.{stored_by, taken, taken_left, behind_regio
 use Rattle.dp_tree.proofs.InMain.{stored_by_length}
 use Rattle.dp_tree.proofs.Heads.{left-append}
 use Rattle.dp_semantics.proofs.Followed.{left_has}
-pub use Rattle.dp_semantics.proofs.Runs.{leaves_taken, first_place, is_step, run_step, step_on, step_off, run_first, PlaceAt, place_at, From, run_from, Leads, step_leads}
+pub use Rattle.dp_semantics.proofs.Runs.{StopsSo, leaves_taken, first_place, is_step, run_step, step_on, step_off, run_first, PlaceAt, place_at, From, run_from, Leads, step_leads}
 use Rattle.dp_tree.specs.declared.Stmt.TheVariants as tree
 use Rattle.dp_semantics.proofs.Setting.{size, Accepted, Each, each_map, all_free, free_at, free_out, all_well, Parts, followed_has, all_joins}
 use Rattle.dp_semantics.proofs.Whole.{clear-length}

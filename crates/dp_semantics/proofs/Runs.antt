@@ -1,5 +1,8 @@
 -- Runs step by step: from a configuration of a run the rest of it is a run of its own.
-use Rattle.dp_semantics.proofs.Names.{after_effect, leaves, taken, runs_by_step, ◌≡◌, refl, sym, ap, ◌∙◌, ℕ, zero, suc, ◌+◌, Bool, true, false, List, [], ◌∷◌, ◌++◌, ℤ, length, Some, slice_get, Ok, Err, arith, FaultAt, FaultKind, Stmt, out-Stmt, Stmt-F, Call, Program, WithLoads, Evaluated, Config, Event, Effect, Step, Finished, Faulted, Stepped, site_of, value_of, evaluated, step_by, step_at, step, Run, run_of, run_by, places, inl, inr, cases_Bool}
+use Rattle.dp_semantics.proofs.Names.{after_effect, leaves, taken, runs_by_step, ◌≡◌, ◌⊎◌, refl, sym, ap, ◌∙◌, ℕ, zero, suc, ◌+◌, Bool, true, false, List, [], ◌∷◌, ◌++◌, ℤ, length, Some, slice_get, Ok, Err, arith, FaultKind, Stmt, out-Stmt, Stmt-F, Call, Program, WithLoads, Evaluated, Config, Event, Effect, Step, Finished, Faulted, Stepped, site_of, value_of, evaluated, step_by, step_at, step, Run, run_of, run_by, places, inl, inr, cases_Bool}
+use Rattle.dp_base.specs.declared.End.{End}
+use Rattle.dp_base.specs.declared.End.TheVariants as run_end
+use Rattle.dp_tree.specs.Step.{line_of}
 use Rattle.dp_tree.proofs.Heads.{stepped}
 use Rattle.dp_semantics.proofs.Stepping.{event_of}
 
@@ -62,8 +65,13 @@ module _ (p : Program) (input : List ℤ) where
   step_on x rest cells v s e = step_is x rest cells (out-Stmt x) s ∙ ap (λ (r : Evaluated Effect). step_by p (site_of (out-Stmt x)) r (after_effect p x rest cells (out-Stmt x))) e
 
   pub step_off : (x : Stmt) (rest : List Stmt) (cells : List ℤ) (kind : FaultKind) → is_step (out-Stmt x) ≡ true → evaluated p input cells (out-Stmt x) ≡ Err kind →
-      (fault : FaultAt) × (step p input (record { to_do = x ∷ rest; cells = cells }) ≡ Faulted fault)
-  step_off x rest cells kind s e = (_, step_is x rest cells (out-Stmt x) s ∙ ap (λ (r : Evaluated Effect). step_by p (site_of (out-Stmt x)) r (after_effect p x rest cells (out-Stmt x))) e)
+      step p input (record { to_do = x ∷ rest; cells = cells }) ≡ Faulted (record { kind = kind; line = line_of p (site_of (out-Stmt x)) })
+  step_off x rest cells kind s e = step_is x rest cells (out-Stmt x) s ∙ ap (λ (r : Evaluated Effect). step_by p (site_of (out-Stmt x)) r (after_effect p x rest cells (out-Stmt x))) e
+
+  -- how a run ends before a statement: the fuel is spent, or its evaluation faults where a step is left
+  abbrev pub StopsSo : {Spent : Type 0} (x : Stmt) (cells : List ℤ) → Type 0 → End → Spent ⊎ ((kind : FaultKind) × (evaluated p input cells (out-Stmt x) ≡ Err kind)) → Type 0
+  StopsSo x cells Left end (inl spent) = end ≡ run_end.Fuel
+  StopsSo x cells Left end (inr (kind, e)) = Left × (end ≡ run_end.Fault (record { kind = kind; line = line_of p (site_of (out-Stmt x)) }))
 
   -- a step leads to what follows the head, in the memory after its effect
   abbrev pub Leads : Stmt → List Stmt → List ℤ → Step → Type 0
@@ -97,6 +105,7 @@ module _ (p : Program) (input : List ℤ) where
     pub trace_is : (run_of p input m c).trace ≡ before ++ (run_of p input left d).trace
     pub length_is : length before ≡ length front
     pub configs_are : d ∷ behind ≡ (run_of p input left d).configs
+    pub end_is : (run_of p input m c).end ≡ (run_of p input left d).end
 
   pub run_first : (m : ℕ) (c : Config) → slice_get (run_of p input m c).configs 0 ≡ Some c
   run_first m c = (runs_by_step p input m c).first
@@ -117,6 +126,7 @@ module _ (p : Program) (input : List ℤ) where
         trace_is = ap (λ (b : Config). (run_of p input m b).trace) same;
         length_is = refl;
         configs_are = sym e ∙ ap (λ (b : Config). (run_of p input m b).configs) same;
+        end_is = ap (λ (b : Config). (run_of p input m b).end) same;
       }
   run_from (f ∷ front) zero c d behind e = absurd (one_config c f d front behind e)
   run_from (f ∷ front) (suc m) c d behind e = by (step p input c) refl e (λ next. run_from front m next d behind)
@@ -132,4 +142,5 @@ module _ (p : Program) (input : List ℤ) where
         trace_is = ap (λ (run : Run). run.trace) (run_step m c (Stepped event next) s) ∙ ap (λ (es : List Event). event ∷ es) q.trace_is;
         length_is = ap (λ (n : ℕ). suc n) q.length_is;
         configs_are = q.configs_are;
+        end_is = ap (λ (run : Run). run.end) (run_step m c (Stepped event next) s) ∙ q.end_is;
       }

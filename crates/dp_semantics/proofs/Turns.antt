@@ -1,10 +1,12 @@
 -- One iteration from the region's condition on: to where the next one starts, to its closing, or to where the run ends in it.
-use Rattle.dp_semantics.proofs.Names.{◌||◌, take, list_any, or_parts, closes, is_leaving, leaves, last_events, upto_leaving, after_effect, cleared_leaving, region_number, sym, ◌≡◌, ◌⊎◌, inl, inr, refl, ap, ◌∙◌, subst, ℕ, zero, suc, ◌+◌, ◌≤◌, Bool, true, false, if◌then◌else◌, List, [], ◌∷◌, ◌++◌, ℤ, length, Option, Some, None, slice_get, Ok, Err, arith, eq-eqb, append-nil, is_zero, FaultKind, Stmt, out-Stmt, outs-If, Stmt-F, If, Program, Plan, WithLoads, Evaluated, eval, Config, Event, Effect, Decided, Faulted, Stepped, choose, value_of, stored, decided, evaluated, standing, cleared_at, clear_locals, step, Run, run_of, extended, is_region, stands_at_head, places, decided_zero, cases_Bool}
+use Rattle.dp_semantics.proofs.Names.{◌||◌, take, list_any, or_parts, closes, is_leaving, leaves, last_events, upto_leaving, after_effect, cleared_leaving, region_number, sym, ◌≡◌, ◌⊎◌, inl, inr, refl, ap, ◌∙◌, subst, ℕ, zero, suc, ◌+◌, ◌<◌, ◌≤◌, Bool, true, false, if◌then◌else◌, List, [], ◌∷◌, ◌++◌, ℤ, length, Option, Some, None, slice_get, Ok, Err, arith, eq-eqb, append-nil, is_zero, FaultKind, SiteId, site_of, Stmt, out-Stmt, outs-If, Stmt-F, If, Program, Plan, WithLoads, Evaluated, eval, Config, Event, Effect, Decided, Faulted, Stepped, choose, value_of, stored, decided, evaluated, standing, cleared_at, clear_locals, step, Run, run_of, extended, is_region, stands_at_head, places, decided_zero, cases_Bool}
 use Rattle.dp_tree.specs.declared.Stmt.TheVariants as tree
-use Rattle.dp_tree.specs.Step.{clear_one}
+use Rattle.dp_base.specs.declared.End.{End}
+use Rattle.dp_base.specs.declared.End.TheVariants as run_end
+use Rattle.dp_tree.specs.Step.{clear_one, line_of}
 use Rattle.dp_semantics.proofs.Setting.{Accepted}
 use Rattle.dp_semantics.proofs.Whole.{turn_of, clear-at, clear-still, Goes, stays, goes}
-use Rattle.dp_semantics.proofs.Placed.{behind, region_left, never, is_step, run_step, run_first, first_place, step_on, step_off}
+use Rattle.dp_semantics.proofs.Placed.{StopsSo, behind, region_left, never, is_step, run_step, run_first, first_place, step_on, step_off}
 use Rattle.dp_semantics.proofs.Walks.{Ends, through, away, halted, Walk, walk}
 use Rattle.dp_semantics.proofs.Stepping.{event_of}
 
@@ -33,7 +35,7 @@ module _ {p : Program} {plan : Plan} (a : Accepted p plan) (input : List ℤ) wh
     closed : after ≡ [] → ((n : ℕ) → next_start n m cells ≡ None) → closes events ≡ true → last_events (events ++ more) ≡ events → slice_get (run_at m cells).configs (length events) ≡ Some (standing p a.tail (clear then_cells)) → length events ≤ m →
         Outcome m cells events after then_cells more
     broken : (x : Stmt) (rest : List Stmt) → after ≡ x ∷ rest → ((n : ℕ) → next_start n m cells ≡ None) → more ≡ [] → closes events ≡ false → last_events events ≡ events →
-        (m ≡ length events) ⊎ ((kind : FaultKind) × (evaluated p input then_cells (out-Stmt x) ≡ Err kind)) → Outcome m cells events after then_cells more
+        (why : (m ≡ length events) ⊎ ((kind : FaultKind) × (evaluated p input then_cells (out-Stmt x) ≡ Err kind))) → StopsSo p input x then_cells (length events < m) (run_at m cells).end why → Outcome m cells events after then_cells more
 
   pub record Turned (m : ℕ) (cells : List ℤ) : Type 0 where
     pub events : List Event
@@ -67,31 +69,28 @@ module _ {p : Program} {plan : Plan} (a : Accepted p plan) (input : List ℤ) wh
   pub starts_first : (n : ℕ) (cells : List ℤ) (rest : List Config) → slice_get (places (stands_at_head plan.region) n (start_at cells ∷ rest)) 1 ≡ slice_get (places (stands_at_head plan.region) (suc n) rest) 0
   starts_first n cells rest = rw (at_head cells)
 
-  starts_at_once : (n m : ℕ) (cells : List ℤ) → slice_get (places (stands_at_head plan.region) n (run_at m cells).configs) 0 ≡ Some n
+  pub starts_at_once : (n m : ℕ) (cells : List ℤ) → slice_get (places (stands_at_head plan.region) n (run_at m cells).configs) 0 ≡ Some n
   starts_at_once n m cells = first_place (stands_at_head plan.region) n (run_at m cells).configs (start_at cells) (run_first p input m (start_at cells)) (at_head cells)
 
   is_call_free : is_step (out-Stmt a.statement) ≡ true
   is_call_free = ap is_step a.is
 
   -- the run ends at the condition
-  broken_first : (m : ℕ) (cells : List ℤ) → (run_at m cells).trace ≡ [] → (run_at m cells).configs ≡ start_at cells ∷ [] → (m ≡ 0) ⊎ ((kind : FaultKind) × (condition cells ≡ Err kind)) → Turned m cells
-  broken_first m cells t c why = record {
+  broken_first : (m : ℕ) (cells : List ℤ) → (run_at m cells).trace ≡ [] → (run_at m cells).configs ≡ start_at cells ∷ [] →
+      (why : (m ≡ 0) ⊎ ((kind : FaultKind) × (evaluated p input (clear cells) (out-Stmt (tree.If a.site a.cond a.body [])) ≡ Err kind))) → StopsSo p input (tree.If a.site a.cond a.body []) (clear cells) (0 < m) (run_at m cells).end why → Turned m cells
+  broken_first m cells t c why ends = record {
     events = [];
     after = turn_of a;
     then_cells = clear cells;
     more = [];
     path = stays;
     trace_is = t;
-    outcome = broken (tree.If a.site a.cond a.body []) [] refl (λ n. ap (λ (cs : List Config). slice_get (places (stands_at_head plan.region) n cs) 1) c ∙ starts_first n cells []) refl refl refl (by why);
+    outcome = broken (tree.If a.site a.cond a.body []) [] refl (λ n. ap (λ (cs : List Config). slice_get (places (stands_at_head plan.region) n cs) 1) c ∙ starts_first n cells []) refl refl refl why ends;
   }
-    where
-      by : (m ≡ 0) ⊎ ((kind : FaultKind) × (condition cells ≡ Err kind)) → (m ≡ 0) ⊎ ((kind : FaultKind) × (evaluated p input (clear cells) (out-Stmt (tree.If a.site a.cond a.body [])) ≡ Err kind))
-      by (inl e) = inl e
-      by (inr (kind, e)) = inr (kind, ap (evaluated p input (clear cells)) (outs-If a.site a.cond a.body []) ∙ e)
 
   none_run : (cells : List ℤ) → Turned 0 cells
   unfolding run_of
-  none_run cells = broken_first 0 cells refl refl (inl refl)
+  none_run cells = broken_first 0 cells refl refl (inl refl) refl
 
   module _ (m : ℕ) (cells : List ℤ) (v : WithLoads Effect) (z : ℤ) (e : condition cells ≡ Ok v) (d : v.value ≡ Decided z) where
     -- the run after the condition
@@ -178,6 +177,11 @@ module _ {p : Program} {plan : Plan} (a : Accepted p plan) (input : List ℤ) wh
         later (inl l) = inl (omega (arith, l, w.steps_are))
         later (inr l) = inr l
 
+        stops_later : (x : Stmt) (held : List ℤ) {end there : End} (why : (w.left ≡ 0) ⊎ ((kind : FaultKind) × (evaluated p input held (out-Stmt x) ≡ Err kind))) → end ≡ there →
+            StopsSo p input x held (0 < w.left) there why → StopsSo p input x held (suc (length w.events) < suc m) end (later why)
+        stops_later x held (inl l) e s = e ∙ s
+        stops_later x held (inr l) e s = (let some = s.0 in omega (arith, some, w.steps_are), e ∙ s.1)
+
         room : suc (length w.events) ≤ suc m
         room = omega (arith, w.steps_are)
 
@@ -201,6 +205,7 @@ module _ {p : Program} {plan : Plan} (a : Accepted p plan) (input : List ℤ) wh
             (λ n. next n ∙ ap (λ (c : Config). slice_get (places (stands_at_head plan.region) (suc n + length w.events) (run_of p input w.left c).configs) 0) stands ∙ ap (λ (ks : List ℕ). slice_get ks 0) (s.no_start (suc n + length w.events)))
             no_trace (closes_as w.events false q none)
             (last_of w.events q ∙ ap (λ (es : List Event). event_at v ∷ es) (ap upto_leaving (sym (append-nil w.events)) ∙ upto_more w.events [] none ∙ append-nil w.events)) (later s.why)
+            (stops_later s.x w.then_cells s.why (ap (λ (run : Run). run.end) (whole ∙ ap (extended (suc m) (start_at cells) (event_at v)) opened) ∙ w.end_is ∙ ap (λ (c : Config). (run_of p input w.left c).end) stands) s.stops)
 
   by_value : (m : ℕ) (cells : List ℤ) (u : Evaluated Effect) → condition cells ≡ u → Turned (suc m) cells
   by_value m cells (Ok v) e = let d = decided_is (eval p input (clear cells) a.cond) v e in elim (cases_Bool (is_zero d.0)) [
@@ -209,8 +214,10 @@ module _ {p : Program} {plan : Plan} (a : Accepted p plan) (input : List ℤ) wh
   ]
   by_value m cells (Err kind) e =
       let fault = step_off p input a.statement a.tail (clear cells) kind is_call_free (ap (evaluated p input (clear cells)) a.is ∙ e) in
-      let whole = run_step p input m (start_at cells) (Faulted fault.0) (ap (step p input) (standing_is cells) ∙ fault.1) in
-      broken_first (suc m) cells (ap (λ (run : Run). run.trace) whole) (ap (λ (run : Run). run.configs) whole) (inr (kind, e))
+      let whole = run_step p input m (start_at cells) (Faulted _) (ap (step p input) (standing_is cells) ∙ fault) in
+      let head = outs-If a.site a.cond a.body [] in
+      broken_first (suc m) cells (ap (λ (run : Run). run.trace) whole) (ap (λ (run : Run). run.configs) whole) (inr (kind, ap (evaluated p input (clear cells)) head ∙ e))
+      (omega arith, ap (λ (run : Run). run.end) whole ∙ ap (λ (site : SiteId). run_end.Fault (record { kind = kind; line = line_of p site })) (ap site_of a.is ∙ sym (ap site_of head)))
 
   -- A run from the region's condition goes through one iteration, or ends in it.
   pub turned : (m : ℕ) (cells : List ℤ) → Turned m cells

@@ -1,5 +1,5 @@
 -- The judgement on an epoch's packets, against the source's iterations.
-use Rattle.dp_semantics.proofs.Names.{◌≡◌, refl, sym, ap, ◌∙◌, ℕ, ◌≤◌, true, false, List, ℤ, length, map, arith, Status, Broken, Packet, Epoch, passed, Judgement, Agreed, Clean, judge, judge_lists, judge_status, effect_in}
+use Rattle.dp_semantics.proofs.Names.{◌≡◌, refl, sym, ap, ◌∙◌, ℕ, ◌≤◌, true, false, List, ℤ, length, map, arith, Status, Broken, Packet, Epoch, passed, Judgement, Agreed, Clean, judge, judge_lists, judge_status, effect_in, site_in}
 use Rattle.dp_semantics.proofs.Whole.{MadeWithin, judge_whole, judge_whole_back, closing_after}
 use Rattle.dp_semantics.proofs.PacketFacts.{live, status_live}
 use Rattle.dp_semantics.proofs.Epochs.{History, numbered, past_at, MakesAt, Gone, ready, Sent, claims_at}
@@ -25,7 +25,7 @@ module _ {k : Epoch} (h : History k) where
   -- The packet of an iteration that agrees with the plan has the source's words, and is judged Clean with the source's effects.
   pub record WellJudged (n m : ℕ) : Type 0 where
     pub sent : Sent h (length plan.stages) n (last_packet n)
-    pub judged : judge program plan m (memory n) (last_packet n) ≡ Clean (record { effects = map effect_in (events n); closing = closing_after program plan false (events n) })
+    pub judged : judge program plan m (memory n) (last_packet n) ≡ Clean (record { effects = map effect_in (events n); sites = map site_in (events n); closing = closing_after program plan false (events n) })
 
   pub clean_is_judged : (n m : ℕ) → Gone h n → MakesAt h n → length (events n) ≤ m → WellJudged n m
   clean_is_judged n m g makes within =

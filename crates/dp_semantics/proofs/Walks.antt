@@ -1,11 +1,11 @@
 -- A run through the text of one iteration: to its end, or to where it stops.
-use Rattle.dp_semantics.proofs.Names.{Break, not, ◌||◌, Option, list_any, is_zero, is_leaving, leaves, upto_leaving, behind_region, cleared_leaving, stored_by, after_effect, taken, taken_left, subst, cases_Bool, ◌≡◌, ◌⊎◌, inl, inr, refl, sym, ap, ◌∙◌, ℕ, zero, suc, ◌+◌, Bool, true, false, if◌then◌else◌, List, [], ◌∷◌, ◌++◌, ℤ, length, Some, slice_get, Ok, Err, arith, FaultKind, Stmt, out-Stmt, Stmt-F, Region, Call, Program, Plan, WithLoads, Evaluated, Config, Event, Effect, Faulted, Stepped, followed, value_of, stored, evaluated, standing, cleared_at, step, Run, run_of, extended, is_region, stands_at_head, places, well_nested, and_parts, followed-append}
+use Rattle.dp_semantics.proofs.Names.{Break, not, ◌||◌, Option, list_any, is_zero, is_leaving, leaves, upto_leaving, behind_region, cleared_leaving, stored_by, after_effect, taken, taken_left, subst, cases_Bool, ◌≡◌, ◌⊎◌, inl, inr, refl, sym, ap, ◌∙◌, ℕ, zero, suc, ◌+◌, ◌<◌, Bool, true, false, if◌then◌else◌, List, [], ◌∷◌, ◌++◌, ℤ, length, Some, slice_get, Ok, Err, arith, FaultKind, Stmt, out-Stmt, Stmt-F, Region, Call, Program, Plan, WithLoads, Evaluated, Config, Event, Effect, Faulted, Stepped, followed, value_of, stored, evaluated, standing, cleared_at, step, Run, run_of, extended, is_region, stands_at_head, places, well_nested, and_parts, followed-append}
 use Rattle.dp_semantics.proofs.Setting.{all_well, well_at, well_out, followed_has, all_joins}
 use Rattle.dp_semantics.proofs.Stepping.{event_of, well_parts}
 use Rattle.dp_semantics.proofs.Whole.{Goes, stays, goes}
 use Rattle.dp_tree.specs.Step.{clear_one}
 use Rattle.dp_semantics.proofs.Projected.{well_number, well_left, well_left_to}
-use Rattle.dp_semantics.proofs.Placed.{leaves_taken, is_step, run_step, step_on, step_off, run_first}
+use Rattle.dp_semantics.proofs.Placed.{StopsSo, leaves_taken, is_step, run_step, step_on, step_off, run_first}
 
 -- A well-nested statement is no call and no region.
 well_step : (p : Program) (plan : Plan) (h : Stmt-F Stmt) → well_at p plan h ≡ true → is_step h ≡ true
@@ -36,6 +36,7 @@ module _ (p : Program) (plan : Plan) (input : List ℤ) (rest_of_run : List Stmt
     pub why : (left ≡ 0) ⊎ ((kind : FaultKind) × (evaluated p input cells (out-Stmt x) ≡ Err kind))
     pub no_trace : (run_at left after cells).trace ≡ []
     pub no_start : (n : ℕ) → places (stands_at_head r) n (run_at left after cells).configs ≡ []
+    pub stops : StopsSo p input x cells (0 < left) (run_at left after cells).end why
 
   -- where the run stands then: behind the statements, behind the region that it left, or before it ends
   pub data Ends (left : ℕ) (events : List Event) (after : List Stmt) (cells : List ℤ) (stands : Config) : Type 0 where
@@ -55,6 +56,7 @@ module _ (p : Program) (plan : Plan) (input : List ℤ) (rest_of_run : List Stmt
     pub trace_is : (run_at m to_do cells).trace ≡ events ++ (run_of p input left stands).trace
     pub config_is : slice_get (run_at m to_do cells).configs (length events) ≡ Some stands
     pub starts_are : (n : ℕ) → places (stands_at_head r) n (run_at m to_do cells).configs ≡ places (stands_at_head r) (n + length events) (run_of p input left stands).configs
+    pub end_is : (run_at m to_do cells).end ≡ (run_of p input left stands).end
     pub ending : Ends left events after then_cells stands
 
   here : (m : ℕ) (to_do : List Stmt) (cells : List ℤ) → Ends m [] to_do cells (standing p (to_do ++ rest_of_run) cells) → Walk m to_do cells
@@ -69,6 +71,7 @@ module _ (p : Program) (plan : Plan) (input : List ℤ) (rest_of_run : List Stmt
     trace_is = refl;
     config_is = run_first p input m (standing p (to_do ++ rest_of_run) cells);
     starts_are = λ n. let same : n ≡ n + 0 = omega arith in ap (λ (i : ℕ). places (stands_at_head r) i (run_at m to_do cells).configs) same;
+    end_is = refl;
     ending = ending;
   }
 
@@ -117,12 +120,12 @@ module _ (p : Program) (plan : Plan) (input : List ℤ) (rest_of_run : List Stmt
 
     spent : Walk 0 (x ∷ rest) cells
     unfolding run_of
-    spent = here 0 (x ∷ rest) cells (halted (record { x = x; rest = rest; after_is = refl; why = inl refl; no_trace = refl; no_start = λ n. skipped n [] }) refl refl)
+    spent = here 0 (x ∷ rest) cells (halted (record { x = x; rest = rest; after_is = refl; why = inl refl; no_trace = refl; no_start = λ n. skipped n []; stops = refl }) refl refl)
 
     faulted : (m : ℕ) (kind : FaultKind) → evaluated p input cells (out-Stmt x) ≡ Err kind → Walk (suc m) (x ∷ rest) cells
     faulted m kind e =
         let fault = step_off p input x (rest ++ rest_of_run) cells kind (well_step p plan (out-Stmt x) head) e in
-        let whole = run_step p input m c (Faulted fault.0) (ap (step p input) kept ∙ fault.1) in
+        let whole = run_step p input m c (Faulted _) (ap (step p input) kept ∙ fault) in
         here (suc m) (x ∷ rest) cells (halted (record {
           x = x;
           rest = rest;
@@ -130,6 +133,7 @@ module _ (p : Program) (plan : Plan) (input : List ℤ) (rest_of_run : List Stmt
           why = inr (kind, e);
           no_trace = ap (λ (run : Run). run.trace) whole;
           no_start = λ n. ap (λ (run : Run). places (stands_at_head r) n run.configs) whole ∙ skipped n [];
+          stops = (omega arith, ap (λ (run : Run). run.end) whole);
         }) refl refl)
 
     -- the run's first step
@@ -153,6 +157,7 @@ module _ (p : Program) (plan : Plan) (input : List ℤ) (rest_of_run : List Stmt
       trace_is = ap (λ (run : Run). run.trace) whole ∙ ap (λ (es : List Event). event_of (out-Stmt x) v ∷ es) w.trace_is;
       config_is = ap (λ (run : Run). slice_get run.configs (suc (length w.events))) whole ∙ w.config_is;
       starts_are = λ n. ap (λ (run : Run). places (stands_at_head r) n run.configs) whole ∙ skipped n (run_at m (followed x rest (out-Stmt x) (value_of v.value)) (stored v.value cells)).configs ∙ w.starts_are (suc n) ∙ further n;
+      end_is = ap (λ (run : Run). run.end) whole ∙ w.end_is;
       ending = ends_later (event_of (out-Stmt x) v) (left_is v e ∙ t) w.ending;
     }
       where
@@ -177,6 +182,7 @@ module _ (p : Program) (plan : Plan) (input : List ℤ) (rest_of_run : List Stmt
       trace_is = ap (λ (run : Run). run.trace) whole;
       config_is = ap (λ (run : Run). slice_get run.configs 1) whole ∙ run_first p input m there;
       starts_are = λ n. ap (λ (run : Run). places (stands_at_head r) n run.configs) whole ∙ skipped n (run_of p input m there).configs ∙ further n;
+      end_is = ap (λ (run : Run). run.end) whole;
       ending = away refl refl (ap (λ (b : Bool). b || false) leaving) (λ more. ap (λ (b : Bool). event_of (out-Stmt x) v ∷ (if b then [] else upto_leaving more)) leaving);
     }
       where

@@ -1,5 +1,5 @@
 -- A whole iteration: the turns of the stages, and the judgement on their words.
-use Rattle.dp_semantics.proofs.Names.{◌≡◌, refl, sym, ap, ◌∙◌, subst, ℕ, suc, ◌+◌, ◌-◌, ◌<◌, ◌≤◌, Bool, true, false, ◌&&◌, List, [], ◌∷◌, ◌++◌, ℤ, length, map, nat_le, arith, sum_by, le-leb, is_some, Ok, append-nil, list_all, Word, Stmt, outs-If, Region, Program, Plan, Event, Access, stage_of, region_statement, Past, all_agree, event_as_assumed, pushed, assumed_in, project_all, word_list, Turn, TurnEnd, Ended, turn_at, turn_from, turn_begin, stage_run, Epoch, Agreed, Clean, judge_lists, last, none_earlier, well_nested, effect_in, and_from, or-true}
+use Rattle.dp_semantics.proofs.Names.{◌≡◌, refl, sym, ap, ◌∙◌, subst, ℕ, suc, ◌+◌, ◌-◌, ◌<◌, ◌≤◌, Bool, true, false, ◌&&◌, List, [], ◌∷◌, ◌++◌, ℤ, length, map, nat_le, arith, sum_by, le-leb, is_some, Ok, append-nil, list_all, Word, Stmt, outs-If, Region, Program, Plan, Event, Access, stage_of, region_statement, Past, all_agree, event_as_assumed, pushed, assumed_in, project_all, word_list, Turn, TurnEnd, Ended, turn_at, turn_from, turn_begin, stage_run, Epoch, Agreed, Clean, judge_lists, last, none_earlier, well_nested, effect_in, site_in, and_from, or-true}
 pub use Rattle.dp_semantics.proofs.Memory.{AllBefore, pushed_before, before_later, Cleared, sees_next, sees_replicated, clear-length, clear-at, clear-other, clear-still}
 pub use Rattle.dp_semantics.proofs.Lockstep.{words_through, closing_after, stands_after, Goes, stays, goes, lockstep, Through}
 use Rattle.dp_tree.specs.declared.Stmt.TheVariants as tree
@@ -135,13 +135,15 @@ module _ {k : Epoch} (ok : Fit k) (i : ℕ) (earlier : List Past) where
 
     -- The judgement of such an iteration is Clean, with the source's effects.
     pub judge_whole : (n : ℕ) (events : List Event) → Makes cells events → length events ≤ n → (lists : List (List Word)) → ((t : ℕ) → 0 < t → t < last plan → word_list lists t ≡ words_through program plan t events) → last plan ≤ suc (length lists) →
-        judge_lists program plan n cells lists ≡ Clean (record { effects = map effect_in events; closing = closing_after program plan false events })
+        judge_lists program plan n cells lists ≡ Clean (record { effects = map effect_in events; sites = map site_in events; closing = closing_after program plan false events })
     judge_whole n events m within lists are wide =
         r.runs n (n - length events) (omega (arith, within)) ∙ judge_ends program plan (n - length events) r.judging r.in_step.to_do_is
-        ∙ ap (λ (effects : _). Clean (record { effects = effects; closing = r.judging.turn.closing })) r.effects ∙ ap (λ (closing : Bool). Clean (record { effects = map effect_in events; closing = closing })) r.closing
+        ∙ ap (λ (effects : _). Clean (record { effects = effects; sites = r.judging.sites; closing = r.judging.turn.closing })) r.effects
+        ∙ ap (λ (sites : List ℕ). Clean (record { effects = map effect_in events; sites = sites; closing = r.judging.turn.closing })) r.sites
+        ∙ ap (λ (closing : Bool). Clean (record { effects = map effect_in events; sites = map site_in events; closing = closing })) r.closing
       where
-        r : JudgedThrough k i [] earlier events (record { turn = turn_begin program plan (last plan) cells lists; effects = [] })
-        r = judge_lockstep ok at m.path m.told none_left (record { turn = turn_begin program plan (last plan) cells lists; effects = [] }) (starts_judging lists wide)
+        r : JudgedThrough k i [] earlier events (record { turn = turn_begin program plan (last plan) cells lists; effects = []; sites = [] })
+        r = judge_lockstep ok at m.path m.told none_left (record { turn = turn_begin program plan (last plan) cells lists; effects = []; sites = [] }) (starts_judging lists wide)
             (λ t low up. are t low up ∙ sym (append-nil (words_through program plan t events)))
 
     pub judge_whole_back : (n : ℕ) (lists : List (List Word)) → last plan ≤ suc (length lists) → ((s : ℕ) → 0 < s → s < last plan → TurnEnds s (word_list lists)) → (verdict : Agreed) → judge_lists program plan n cells lists ≡ Clean verdict → MadeWithin cells n
@@ -164,4 +166,4 @@ module _ {k : Epoch} (ok : Fit k) (i : ℕ) (earlier : List Past) where
         }
 
         back : Agreeing k i text earlier cells lists running n
-        back = judge_back ok n text earlier cells at (record { turn = turn_begin program plan (last plan) cells lists; effects = [] }) running verdict (starts_judging lists wide) e
+        back = judge_back ok n text earlier cells at (record { turn = turn_begin program plan (last plan) cells lists; effects = []; sites = [] }) running verdict (starts_judging lists wide) e

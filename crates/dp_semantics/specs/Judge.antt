@@ -11,14 +11,16 @@ use Rattle.dp_semantics.specs.Words.{Taken, Void, is_load_of, taken_from}
 use Rattle.dp_semantics.specs.StageRun.{Turn, consumed, words_left, turn_begin}
 use Rattle.dp_semantics.specs.Packets.{Status, Going, Closing, Broken, Packet}
 
--- a turn over the words, and what was done in it so far
+-- a turn over the words, and what was done in it so far, and at which sites
 pub record Judging : Type 0 where
   pub turn : Turn
   pub effects : List Effect
+  pub sites : List ℕ
 
--- what may be committed: the stores, prints and conditions in order, and whether the region's condition was 0 or a break was taken
+-- what may be committed: the stores, prints and conditions in order, the site of each, and whether the region's condition was 0 or a break was taken
 pub record Agreed : Type 0 where
   pub effects : List Effect
+  pub sites : List ℕ
   pub closing : Bool
 
 -- what is decided of a packet
@@ -34,7 +36,7 @@ loads_hold site cells (w ∷ rest) =
 
 -- the judging after the words of the statement at the head
 abbrev pub judged : Program → Plan → Judging → Stmt → List Stmt → Stmt-F Stmt → Taken → Judging
-judged p plan c x rest head w = record { turn = consumed p plan c.turn x rest head w; effects = c.effects ++ w.effect ∷ [] }
+judged p plan c x rest head w = record { turn = consumed p plan c.turn x rest head w; effects = c.effects ++ w.effect ∷ []; sites = c.sites ++ (site_of head).0 ∷ [] }
 
 -- it goes on where the loads hold, the words are the site's, and what they say goes as assumed
 abbrev pub judged_by : Program → Plan → Judging → Stmt → List Stmt → Stmt-F Stmt → Bool → Result Taken Void → Option Judging
@@ -55,12 +57,12 @@ judge_by go None = Unclean
 
 -- Clean at the end of the region's text
 abbrev pub judge_at : Program → Plan → (Judging → Judgement) → Judging → List Stmt → Judgement
-judge_at p plan go c [] = Clean (record { effects = c.effects; closing = c.turn.closing })
+judge_at p plan go c [] = Clean (record { effects = c.effects; sites = c.sites; closing = c.turn.closing })
 judge_at p plan go c (x ∷ rest) = judge_by go (judge_step p plan c x rest (out-Stmt x))
 
 -- .. and Unclean before it where no step is left
 abbrev pub judge_spent : Judging → List Stmt → Judgement
-judge_spent c [] = Clean (record { effects = c.effects; closing = c.turn.closing })
+judge_spent c [] = Clean (record { effects = c.effects; sites = c.sites; closing = c.turn.closing })
 judge_spent c (x ∷ rest) = Unclean
 
 -- the judgement from here, of at most n steps
@@ -74,7 +76,7 @@ last plan = suc (length plan.stages)
 
 -- all stages' words, judged in the source's memory where `left` steps of the fuel are left
 abbrev pub judge_lists : Program → Plan → ℕ → List ℤ → List (List Word) → Judgement
-judge_lists p plan left cells lists = judge_from p plan left (record { turn = turn_begin p plan (last plan) cells lists; effects = [] })
+judge_lists p plan left cells lists = judge_from p plan left (record { turn = turn_begin p plan (last plan) cells lists; effects = []; sites = [] })
 
 -- the judgement of the words, unless the packet is void
 abbrev pub judge_status : Judgement → Status → Judgement

@@ -3,6 +3,7 @@ pub mod Clean
 pub mod Recovery
 pub mod OneStage
 pub mod Cause
+pub mod CauseWalk
 pub mod Project
 pub mod Words
 pub mod StageRun
@@ -20,3 +21,5 @@ pub mod Reported
 pub mod EpochKey
 pub mod EpochVerdicts
 pub mod Items
+pub mod FindsCauses
+pub mod EpochCauses

@@ -1,5 +1,5 @@
 -- What a region's report says: how many iterations were begun, and which were executed again, and why.
-use Rattle.std.specs.Prelude.{ℕ, List, ℤ, length, map, take}
+use Rattle.std.specs.Prelude.{ℕ, List, length, map, take}
 use Rattle.dp_base.specs.declared.Cause.{Cause as ReportedCause}
 use Rattle.dp_base.specs.declared.Cause.TheVariants as why
 use Rattle.dp_base.specs.declared.RegionReport.{RegionReport}
@@ -8,11 +8,15 @@ use Rattle.dp_tree.specs.Trace.{Run}
 use Rattle.dp_tree.specs.Iteration.{begun_count}
 use Rattle.dp_plan.specs.declared.Plan.{Plan}
 use Rattle.dp_semantics.specs.Recovery.{recovered}
-use Rattle.dp_semantics.specs.Cause.{Cause, cause}
+use Rattle.dp_semantics.specs.Cause.{Cause, ByLoad, ByAssumption, ByWords, ByFault, ByFuel, cause}
 
--- the cause as a report has it: it isn't told yet
+-- the cause as a report has it
 abbrev pub reported : Cause → ReportedCause
-reported cause = why.Untold
+reported (ByLoad site cell seen source) = why.Load (record { 0 = site }) (record { 0 = cell }) seen source
+reported (ByAssumption site) = why.Assumed (record { 0 = site })
+reported (ByWords stage site) = why.Words stage (record { 0 = site })
+reported (ByFault fault) = why.Fault fault
+reported ByFuel = why.Fuel
 
 -- the report of these begun iterations, of which those were executed again: the first 1,000 of them are listed, each with its cause
 abbrev pub report_of : ℕ → ℕ → List ℕ → (ℕ → ReportedCause) → RegionReport

@@ -36,9 +36,13 @@ judgement_at p plan input run e i k = judge p plan (run.fuel - k) (memory_after 
 abbrev pub effect_in : Event → Effect
 effect_in event = event.effect
 
+-- .. and its site
+abbrev pub site_in : Event → ℕ
+site_in event = event.site
+
 -- what the source does in iteration i
 abbrev pub done_in : Plan → Run → ℕ → Agreed
-done_in plan run i = record { effects = map effect_in (iteration run plan.region i); closing = is_closing run plan.region i }
+done_in plan run i = record { effects = map effect_in (iteration run plan.region i); sites = map site_in (iteration run plan.region i); closing = is_closing run plan.region i }
 
 -- the words of the events at the sites of stage t
 abbrev pub words_at_stage : Program → Plan → List Event → ℕ → List Word

@@ -4,7 +4,9 @@ ghost use Rattle.std.specs.Prelude.{◌≡◌, ◌<◌, ◌^◌, true, length};
 ghost use Rattle.dp_tree.specs.Inlined.{IsInlined};
 ghost use Rattle.dp_plan.specs.CheckedTable.{IsTabled};
 ghost use Rattle.dp_plan.specs.GivenPlans.{IsPlan};
+ghost use Rattle.dp_semantics.specs.EpochCauses.{FindsInEpochs};
 ghost use Rattle.dp_semantics.specs.FarPairs.{FarNeverCarried, FarNeverWithin};
+ghost use Rattle.dp_semantics.specs.FindsCauses.{FindsCauses};
 ghost use Rattle.dp_semantics.specs.Fits.{fits_plan, stands_alone};
 ghost use Rattle.dp_semantics.specs.Laws.{CleanInOneStage, CleanWithoutCause, RecoversInOrder};
 ghost use Rattle.dp_semantics.specs.Shift.{EpochsShift, RegionRunsAlone, VerdictsShift};
@@ -62,6 +64,14 @@ pub fn far_pairs_are_apart(p: &Program, plan: &Plan)
 pub fn unclean_has_a_cause(p: &Program, plan: &Plan)
     requires { fits_plan p.now plan.now ≡ true }
     ensures { CleanWithoutCause p.now plan.now }
+{}
+
+/// The source's steps through an iteration, with one memory for each stage, find the iteration's cause, and none where it is clean.
+/// In an epoch these memories follow from its base and its judgements alone.
+pub fn walks_find_causes(p: &Program, plan: &Plan)
+    requires { fits_plan p.now plan.now ≡ true }
+    ensures runs { FindsCauses p.now plan.now }
+    ensures epochs { FindsInEpochs p.now plan.now }
 {}
 
 /// With all of a region in one stage an iteration is clean where it has ended and has at most 4,096 events.

@@ -106,7 +106,7 @@ unfolding tree_opened
 cut_end = refl
 
 -- the packets of the closing iteration, judged
-early_judged : judgement_at until_negative early_break negative (whole_run until_negative negative 10000) 0 1 6 ≡ Clean (record { effects = Decided (pos 1) ∷ Stored 2 (negsuc 0) ∷ Tried (pos 1) ∷ []; closing = true })
+early_judged : judgement_at until_negative early_break negative (whole_run until_negative negative 10000) 0 1 6 ≡ Clean (record { effects = Decided (pos 1) ∷ Stored 2 (negsuc 0) ∷ Tried (pos 1) ∷ []; sites = 2 ∷ 3 ∷ 4 ∷ []; closing = true })
 unfolding tree_opened Rattle.dp_semantics.specs.StageRun.turn_from Rattle.dp_semantics.specs.Judge.judge_from
 early_judged = refl
 

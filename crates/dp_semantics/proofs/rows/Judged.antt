@@ -31,8 +31,13 @@ same_effects [] [] = true
 same_effects (v ∷ vs) (w ∷ ws) = same_effect v w && same_effects vs ws
 same_effects _ _ = false
 
+abbrev same_sites : List ℕ → List ℕ → Bool
+same_sites [] [] = true
+same_sites (s ∷ ss) (t ∷ ts) = (s == t) && same_sites ss ts
+same_sites _ _ = false
+
 abbrev same_done : Agreed → Agreed → Bool
-same_done a b = same_effects a.effects b.effects && (a.closing && b.closing || not a.closing && not b.closing)
+same_done a b = same_effects a.effects b.effects && same_sites a.sites b.sites && (a.closing && b.closing || not a.closing && not b.closing)
 
 -- clean and so judged, unclean and so judged, or judged wrongly
 data Verdict : Type 0 where

@@ -1,0 +1,5 @@
+pub mod ViewLemmas
+pub mod LookLemmas
+pub mod KeptLemmas
+pub mod TurnLemmas
+pub mod StepLemmas

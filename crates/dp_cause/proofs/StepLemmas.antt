@@ -1,0 +1,153 @@
+-- What steps say of the walk that finds a cause.
+use Rattle.std.proofs.Common.{◌≡◌, refl, sym, ap, ◌∙◌, subst, arith, ℕ, zero, suc, ◌+◌, ◌-◌, ◌<◌, length, get_or, drop, add-one, drop-cons, Bool, true, false, if◌then◌else◌, List, [], ◌∷◌, ◌++◌, ℤ, Option, Some, None, Ok, Err}
+use Rattle.std.proofs.lemmas.Bool.{cases_Bool}
+use Rattle.std.proofs.Common.{inl, inr}
+use Rattle.dp_base.specs.Arithmetic.{is_zero}
+use Rattle.dp_base.specs.declared.Cause.{Cause as ReportedCause}
+use Rattle.dp_base.specs.declared.SiteId.{SiteId}
+use Rattle.dp_tree.specs.declared.Expr.{Expr}
+use Rattle.dp_tree.specs.declared.Stmt.{Stmt, out-Stmt}
+use Rattle.dp_tree.specs.declared.Stmt.TheOpen.{Stmt-F, Assign, Store, Print, If, While, Break}
+use Rattle.dp_tree.specs.declared.Stmt.TheVariants as tree
+use Rattle.dp_tree.specs.declared.Stmt.TheVariants.{outs-Assign, outs-Store, outs-Print, outs-If, outs-While, outs-Region, outs-Break}
+use Rattle.dp_semantics.specs.FindsCauses.{turn_by}
+use Rattle.dp_base.specs.declared.VarId.{VarId}
+use Rattle.dp_tree.specs.declared.Program.{Program}
+use Rattle.dp_tree.specs.Eval.{WithLoads, Evaluated}
+use Rattle.dp_tree.specs.Step.{Effect, value_of, stored, site_of, evaluated, followed, choose, behind_region}
+use Rattle.dp_plan.specs.declared.Plan.{Plan}
+use Rattle.dp_semantics.specs.Cause.{Cause, or_else}
+use Rattle.dp_semantics.specs.CauseWalk.{Watch, watched, look_by}
+unfoldable use Rattle.dp_semantics.specs.CauseWalk.{cause_walk}
+use Rattle.dp_code.specs.Alone.{event_at}
+use Rattle.dp_cause.specs.declared.watched.Ground.{Ground}
+use Rattle.dp_cause.specs.declared.watched.Watched.{Watched}
+use Rattle.dp_cause.specs.declared.watched.Step.{Step}
+use Rattle.dp_cause.specs.declared.watched.Step.TheVariants as step
+use Rattle.dp_cause.specs.declared.watched.Looked.{Looked}
+use Rattle.dp_cause.specs.declared.watched.Looked.TheVariants as looked
+use Rattle.dp_cause.specs.Watching.{Told, watch_in, cause_now, stepped_by, Steps, walk_from, Leads, simply_of, left_of}
+
+module _ (p : Program) (plan : Plan) (input : List ℤ) where
+  found_walk : (n : ℕ) (w : Watch) (x : Stmt) (rest : List Stmt) (cells : List ℤ) (head : Stmt-F Stmt) (r : Evaluated Effect) (c : Cause) → out-Stmt x ≡ head → evaluated p input cells head ≡ r →
+      cause_now p plan n w (site_of head) r ≡ Some c → cause_walk p plan input n w (x ∷ rest) cells ≡ Some c
+  unfolding cause_walk
+  found_walk zero w x rest cells head r c is gives e = e
+  found_walk (suc n) w x rest cells head (Err kind) c is gives e =
+      ap (λ (h : Stmt-F Stmt). look_by p plan (cause_walk p plan input n) w x rest cells h (evaluated p input cells h)) is ∙ ap (look_by p plan (cause_walk p plan input n) w x rest cells head) gives ∙ e
+  found_walk (suc n) w x rest cells head (Ok v) c is gives e =
+      ap (λ (h : Stmt-F Stmt). look_by p plan (cause_walk p plan input n) w x rest cells h (evaluated p input cells h)) is ∙ ap (look_by p plan (cause_walk p plan input n) w x rest cells head) gives
+      ∙ ap (λ (o : Option Cause). or_else o (cause_walk p plan input n (watched p plan (event_at (site_of head) v) w) (followed x rest head (value_of v.value)) (stored v.value cells))) e
+
+  on_walk : (n : ℕ) (w : Watch) (x : Stmt) (rest : List Stmt) (cells : List ℤ) (head : Stmt-F Stmt) (v : WithLoads Effect) → out-Stmt x ≡ head → evaluated p input cells head ≡ Ok v →
+      cause_now p plan n w (site_of head) (Ok v) ≡ None →
+      cause_walk p plan input n w (x ∷ rest) cells ≡ cause_walk p plan input (n - 1) (watched p plan (event_at (site_of head) v) w) (followed x rest head (value_of v.value)) (stored v.value cells)
+  unfolding cause_walk
+  on_walk zero w x rest cells head v is gives e = absurd (cc)
+  on_walk (suc n) w x rest cells head v is gives e =
+      let less : n ≡ suc n - 1 = omega arith in
+      let go = λ (m : ℕ). cause_walk p plan input m (watched p plan (event_at (site_of head) v) w) (followed x rest head (value_of v.value)) (stored v.value cells) in
+      ap (λ (h : Stmt-F Stmt). look_by p plan (cause_walk p plan input n) w x rest cells h (evaluated p input cells h)) is ∙ ap (look_by p plan (cause_walk p plan input n) w x rest cells head) gives
+      ∙ ap (λ (o : Option Cause). or_else o (go n)) e ∙ ap go less
+
+module _ (g : Ground) where
+  -- a step of the statement x, which has this head
+  module _ (old new : Watched) (x : Stmt) (head : Stmt-F Stmt) (is : out-Stmt x ≡ head) where
+    abbrev Stepped : Step → Type 0
+    Stepped s = Steps g old (site_of head) (evaluated g.program.now g.input.now old.cells head) new s
+
+    pub on_leads : (value : ℤ) (rest : List Stmt) → Stepped (step.On value) → walk_from g old (x ∷ rest) ≡ walk_from g new (followed x rest head value)
+    on_leads value rest (v, gives, value_is, none, new_is) =
+        on_walk g.program.now g.plan.now g.input.now old.left (watch_in old) x rest old.cells head v is gives (ap (cause_now g.program.now g.plan.now old.left (watch_in old) (site_of head)) (sym gives) ∙ none)
+        ∙ ap (λ (z : ℤ). walk_from g (stepped_by g (site_of head) v old) (followed x rest head z)) (sym value_is)
+        ∙ ap (λ (s : Watched). walk_from g s (followed x rest head value)) (sym new_is)
+
+    pub found_leads : (told : ReportedCause) (rest : List Stmt) → Stepped (step.Found told) → Told (walk_from g old (x ∷ rest)) told
+    found_leads told rest (cause, found, is_told) = (cause, found_walk g.program.now g.plan.now g.input.now old.left (watch_in old) x rest old.cells head (evaluated g.program.now g.input.now old.cells head) cause is refl found, is_told)
+
+    pub simply_leads : ((rest : List Stmt) (z : ℤ) → followed x rest head z ≡ rest) → (s : Step) (answer : Looked) → answer ≡ simply_of s → Stepped s → Leads g old (x ∷ []) new answer
+    simply_leads next s answer e does = subst (λ (a : Looked). Leads g old (x ∷ []) new a) (sym e) (by s does)
+      where
+        by : (s : Step) → Stepped s → Leads g old (x ∷ []) new (simply_of s)
+        by (step.On value) does = λ rest. on_leads value rest does ∙ ap (walk_from g new) (next rest value)
+        by (step.Found told) does = λ rest. found_leads told rest does
+        by step.NoMemory does = tt
+
+    pub left_leads : (site : SiteId) (cond : Expr) → head ≡ Break site cond → (s : Step) (answer : Looked) → answer ≡ left_of s → Stepped s → Leads g old (x ∷ []) new answer
+    left_leads site cond break s answer e does = subst (λ (a : Looked). Leads g old (x ∷ []) new a) (sym e) (by s does)
+      where
+        by : (s : Step) → Stepped s → Leads g old (x ∷ []) new (left_of s)
+        by (step.On value) does = elim (cases_Bool (is_zero value)) [
+          | inl q ↦ rw q (λ rest. on_leads value rest does ∙ ap (λ (h : Stmt-F Stmt). walk_from g new (followed x rest h value)) break ∙ ap (λ (b : Bool). walk_from g new (if b then rest else behind_region rest)) q)
+          | inr q ↦ rw q tt
+        ]
+        by (step.Found told) does = λ rest. found_leads told rest does
+        by step.NoMemory does = tt
+
+  -- from another state the same is found
+  pub onward : (old mid new : Watched) (front branch : List Stmt) → ((rest : List Stmt) → walk_from g old (front ++ rest) ≡ walk_from g mid (branch ++ rest)) → (answer : Looked) → Leads g mid branch new answer → Leads g old front new answer
+  onward old mid new front branch same looked.Goes leads = λ rest. same rest ∙ leads rest
+  onward old mid new front branch same (looked.Found told) leads = λ rest. let t = leads rest in (t.0, same rest ∙ t.1, t.2)
+  onward old mid new front branch same looked.Leaves leads = tt
+  onward old mid new front branch same looked.NoMemory leads = tt
+
+  -- .. where the first statements lead no further
+  pub other_leads : (old mid new : Watched) (front branch : List Stmt) (more : List Stmt → List Stmt) → ((rest : List Stmt) → walk_from g old (front ++ rest) ≡ walk_from g mid (branch ++ more rest)) → (answer : Looked) → (answer ≡ looked.Goes → ⊥) →
+      Leads g mid branch new answer → Leads g old front new answer
+  other_leads old mid new front branch more same looked.Goes other leads = absurd (other refl)
+  other_leads old mid new front branch more same (looked.Found told) other leads = λ rest. let t = leads (more rest) in (t.0, same rest ∙ t.1, t.2)
+  other_leads old mid new front branch more same looked.Leaves other leads = tt
+  other_leads old mid new front branch more same looked.NoMemory other leads = tt
+
+  -- ---- by the statement's form
+
+  abbrev Gives : Watched → SiteId → Stmt-F Stmt → Watched → Step → Type 0
+  Gives old site head new s = Steps g old site (evaluated g.program.now g.input.now old.cells head) new s
+
+  pub assign_leads : (old new : Watched) (site : SiteId) (var : VarId) (e : Expr) (s : Step) (answer : Looked) → answer ≡ simply_of s → Gives old site (Assign site var e) new s → Leads g old (tree.Assign site var e ∷ []) new answer
+  assign_leads old new site var e s answer is does = simply_leads old new (tree.Assign site var e) (Assign site var e) (outs-Assign site var e) (λ rest z. refl) s answer is does
+
+  pub store_leads : (old new : Watched) (site : SiteId) (var : VarId) (index e : Expr) (s : Step) (answer : Looked) → answer ≡ simply_of s → Gives old site (Store site var index e) new s → Leads g old (tree.Store site var index e ∷ []) new answer
+  store_leads old new site var index e s answer is does = simply_leads old new (tree.Store site var index e) (Store site var index e) (outs-Store site var index e) (λ rest z. refl) s answer is does
+
+  pub print_leads : (old new : Watched) (site : SiteId) (e : Expr) (s : Step) (answer : Looked) → answer ≡ simply_of s → Gives old site (Print site e) new s → Leads g old (tree.Print site e ∷ []) new answer
+  print_leads old new site e s answer is does = simply_leads old new (tree.Print site e) (Print site e) (outs-Print site e) (λ rest z. refl) s answer is does
+
+  pub break_leads : (old new : Watched) (site : SiteId) (cond : Expr) (s : Step) (answer : Looked) → answer ≡ left_of s → Gives old site (Break site cond) new s → Leads g old (tree.Break site cond ∷ []) new answer
+  break_leads old new site cond s answer is does = left_leads old new (tree.Break site cond) (Break site cond) (outs-Break site cond) site cond refl s answer is does
+
+  -- the branch that a value chooses
+  pub chosen : (value : ℤ) (a b branch : List Stmt) (t : Bool) → is_zero value ≡ t → branch ≡ (if t then b else a) → branch ≡ choose value a b
+  chosen value a b branch t e is = is ∙ ap (λ (u : Bool). if u then b else a) (sym e)
+
+  pub if_leads : (old mid new : Watched) (site : SiteId) (cond : Expr) (a b : List Stmt) (value : ℤ) (branch : List Stmt) → Gives old site (If site cond a b) mid (step.On value) → branch ≡ choose value a b → (answer : Looked) → Leads g mid branch new answer →
+      Leads g old (tree.If site cond a b ∷ []) new answer
+  if_leads old mid new site cond a b value branch does is answer leads =
+      onward old mid new (tree.If site cond a b ∷ []) branch
+      (λ rest. on_leads old mid (tree.If site cond a b) (If site cond a b) (outs-If site cond a b) value rest does ∙ ap (λ (xs : List Stmt). walk_from g mid (xs ++ rest)) (sym is)) answer leads
+
+  pub if_found : (old new : Watched) (site : SiteId) (cond : Expr) (a b : List Stmt) (told : ReportedCause) (rest : List Stmt) → Gives old site (If site cond a b) new (step.Found told) → Told (walk_from g old (tree.If site cond a b ∷ rest)) told
+  if_found old new site cond a b told rest does = found_leads old new (tree.If site cond a b) (If site cond a b) (outs-If site cond a b) told rest does
+
+  pub while_found : (old new : Watched) (x : Stmt) (site : SiteId) (cond : Expr) (body : List Stmt) (told : ReportedCause) (rest : List Stmt) → x ≡ tree.While site cond body → Gives old site (While site cond body) new (step.Found told) → Told (walk_from g old (x ∷ rest)) told
+  while_found old new x site cond body told rest is does = found_leads old new x (While site cond body) (ap out-Stmt is ∙ outs-While site cond body) told rest does
+
+  pub while_zero : (old mid : Watched) (x : Stmt) (site : SiteId) (cond : Expr) (body : List Stmt) (value : ℤ) (rest : List Stmt) → x ≡ tree.While site cond body → Gives old site (While site cond body) mid (step.On value) → is_zero value ≡ true →
+      walk_from g old (x ∷ rest) ≡ walk_from g mid rest
+  while_zero old mid x site cond body value rest is does q =
+      on_leads old mid x (While site cond body) (ap out-Stmt is ∙ outs-While site cond body) value rest does ∙ ap (λ (t : Bool). walk_from g mid (if t then rest else body ++ x ∷ rest)) q
+
+  pub while_on : (old mid : Watched) (x : Stmt) (site : SiteId) (cond : Expr) (body branch : List Stmt) (value : ℤ) (rest : List Stmt) → x ≡ tree.While site cond body → Gives old site (While site cond body) mid (step.On value) → is_zero value ≡ false → branch ≡ body →
+      walk_from g old (x ∷ rest) ≡ walk_from g mid (branch ++ x ∷ rest)
+  while_on old mid x site cond body branch value rest is does q branch_is =
+      on_leads old mid x (While site cond body) (ap out-Stmt is ∙ outs-While site cond body) value rest does ∙ ap (λ (t : Bool). walk_from g mid (if t then rest else body ++ x ∷ rest)) q
+      ∙ ap (λ (xs : List Stmt). walk_from g mid (xs ++ x ∷ rest)) (sym branch_is)
+
+-- a region's turn
+pub turn_is : (x : Stmt) (r : ℕ) (site : SiteId) (cond : Expr) (body given : List Stmt) → x ≡ tree.Region r site cond body → given ≡ body → tree.If site cond given [] ∷ [] ≡ turn_by (out-Stmt x)
+turn_is x r site cond body given is given_is =
+    ap (λ (xs : List Stmt). tree.If site cond xs [] ∷ []) given_is ∙ sym (ap turn_by (outs-Region r site cond body)) ∙ ap (λ (y : Stmt). turn_by (out-Stmt y)) (sym is)
+
+-- the statement at a place, and those behind it
+pub dropped : (all : List Stmt) (i : ℕ) (x : Stmt) → i < length all → x ≡ get_or all i x → drop i all ≡ x ∷ drop (i + 1) all
+dropped all i x h is = rw add-one (drop-cons all i x h ∙ ap (λ (y : Stmt). y ∷ drop (suc i) all) (sym is))

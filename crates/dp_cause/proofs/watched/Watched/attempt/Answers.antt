@@ -1,0 +1,14 @@
+use Rattle.std.proofs.Common.{refl}
+use Rattle.dp_tree.specs.Eval.{eval, first_cell, cell_count}
+use Rattle.dp_tree.specs.Step.{Stored, Printed, Decided, Tried, evaluated, decided, tried}
+use Rattle.dp_tree.specs.declared.Stmt.TheOpen as head
+use Rattle.dp_cause.specs.declared.watched.Form.TheVariants as form
+use Rattle.dp_cause.specs.Watching.{HasForm}
+use Rattle.dp_cause.proofs.TurnLemmas.{by_value, by_element}
+use Rattle.dp_cause.proofs.watched.Watched.attempt.Goals as goal
+
+pub returns-in-Ok : goal.returns-in-Ok
+returns-in-Ok c =
+    let p = c.args.ground.program.now in
+    let cells = c.args.self.now.cells in
+    c.step.ensures (λ input held. tried (eval p input held c.args.cond.now)) c.in-Ok.ensures.tries (λ v e. by_value (HasForm form.Tries c.args.site) (eval p c.args.ground.input.now cells c.args.cond.now) Tried v e (λ z. refl))

@@ -1,0 +1,86 @@
+//! Small tests.
+ghost use Rattle.std.specs.Prelude.{◌≡◌, get_or, pos, slice_set};
+ghost use Rattle.std.specs.List.{list_all};
+ghost use Rattle.dp_base.specs.Arithmetic.{is_zero};
+ghost use Rattle.dp_tree.specs.Event as effect;
+ghost use Rattle.dp_semantics.specs.Clean as clean;
+ghost use Rattle.dp_semantics.specs.Words.{is_load_of};
+
+use dp_base::{CellId, Cells, SiteId, Word, WordKind};
+use dp_plan::Plan;
+use dp_tree::{Assume, Program};
+
+/// The numbers are equal.
+#[inline(always)]
+pub fn same(x: i64, y: i64) -> bool
+    ensures { result ≡ clean.int_eq x y }
+{
+    x <= y && y <= x
+}
+
+/// The number is 0.
+#[inline(always)]
+#[tactic(auto, unfolding(dp_base::specs::Arithmetic::is_zero))]
+pub fn zero(x: i64) -> bool
+    ensures { result ≡ is_zero x }
+{
+    x == 0
+}
+
+/// The condition went so.
+#[tactic(auto, unfolding(dp_base::specs::Arithmetic::is_zero))]
+fn went(taken: bool, value: i64) -> bool
+    ensures { result ≡ clean.went taken (effect.Decided value) }
+{
+    if value == 0 { !taken } else { taken }
+}
+
+fn goes_as(site: SiteId, value: i64, assumed: &Assume) -> bool
+    ensures { result ≡ clean.goes_as site.0 (effect.Decided value) assumed.now }
+{
+    assumed.site.0 != site.0 || went(assumed.taken, value)
+}
+
+pub fn goes_as_assumed(plan: &Plan, site: SiteId, value: i64) -> bool
+    ensures { result ≡ list_all (clean.goes_as site.0 (effect.Decided value)) plan.now.assume }
+{
+    for assumed in plan.assume.as_slice() {
+        if !goes_as(site, value, assumed) {
+            return false;
+        }
+    }
+    true
+}
+
+#[tactic(auto, unfolding(dp_base::specs::Arithmetic::is_zero))]
+pub fn stays_late(program: &Program, plan: &Plan, site: SiteId, value: i64) -> bool
+    ensures { result ≡ clean.stays_late program.now plan.now site.0 (effect.Tried value) }
+{
+    value == 0 || plan.stage(program, site) <= 1
+}
+
+pub fn value_at(cells: &[i64], cell: u32) -> i64
+    ensures { result ≡ get_or cells.now cell (pos 0) }
+{
+    match cells.get(cell as usize) {
+        Some(value) => *value,
+        None => 0,
+    }
+}
+
+#[inline(always)]
+pub fn is_load(word: Word, site: SiteId) -> bool
+    ensures { result ≡ is_load_of site.0 word }
+{
+    word.site.0 == site.0 && word.kind == WordKind::Load
+}
+
+/// Puts a number into a cell, if there is one.
+#[inline(always)]
+pub fn put(cells: &mut Cells, cell: u32, value: i64)
+    ensures { cells.new ≡ slice_set cells.old cell value }
+{
+    if (cell as usize) < cells.len() {
+        cells.set(CellId(cell), value);
+    }
+}

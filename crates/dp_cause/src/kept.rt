@@ -1,0 +1,208 @@
+//! What is kept between two iterations, and the search for a cause from there.
+ghost use Rattle.std.specs.Prelude.{◌≡◌, IfOk, IfSome, [], if◌then◌else◌, map, filter, length, replicate};
+ghost use Rattle.dp_tree.specs.Step.{clear_locals};
+ghost use Rattle.dp_tree.specs.declared.Stmt.{out-Stmt};
+ghost use Rattle.dp_plan.specs.Access.{first_site, is_region_at, is_replicated};
+ghost use Rattle.dp_plan.specs.CheckedTable.{IsTabled};
+ghost use Rattle.dp_semantics.specs.CauseWalk.{cause_walk};
+ghost use Rattle.dp_semantics.specs.EpochCauses.{first_kept, own_kept, views_from, watch_of};
+ghost use Rattle.dp_semantics.specs.FindsCauses.{turn_by, turn_in, turn_text};
+ghost use Rattle.dp_cause.specs.Views.{kept_by, last_or, stored_all};
+ghost use Rattle.dp_cause.specs.Watching.{FindsIf, widened};
+
+use crate::views::{clear, clear_all, put_all, show_all};
+use crate::watched::{Ground, Watched};
+use dp_base::{Cause, Cells, NoMemory, Row, StoreOf};
+use dp_plan::{Plan, StageKind, is_region};
+use dp_tree::{Program, Stmt};
+use std::alloc::Global;
+
+/// Where an epoch begins, a sequential stage has the base, and a replicated one no memory of its own.
+fn own(alloc: Global, kind: StageKind, base: &Cells) -> Result<Cells, NoMemory>
+    ensures { IfOk result (λ cells. cells ≡ own_kept base.now kind) }
+{
+    match kind {
+        StageKind::Seq => base.copy(),
+        StageKind::Par => Cells::new(alloc, 0),
+    }
+}
+
+fn owns(alloc: Global, stages: &[StageKind], base: &Cells) -> Result<Row<Cells>, NoMemory>
+    ensures { IfOk result (λ kept. kept ≡ first_kept base.now stages.now) }
+{
+    let mut kept = Row::with_capacity(alloc, stages.len())?;
+    for kind in stages {
+        kept.push(own(alloc, *kind, base)?)?;
+    }
+    Ok(kept)
+}
+
+/// Whether a stage is replicated; stages count from 1.
+fn is_par(plan: &Plan, stage: usize) -> bool
+    ensures { result ≡ is_replicated plan.now stage }
+{
+    if stage == 0 {
+        return false;
+    }
+    match plan.stages.get(stage - 1) {
+        Some(StageKind::Par) => true,
+        Some(StageKind::Seq) | None => false,
+    }
+}
+
+/// The memory that a stage sees: its own, or that of the stage before it.
+fn seen(alloc: Global, shared: bool, made: &[Cells], own: &Cells) -> Result<Cells, NoMemory>
+    ensures { IfOk result (λ cells. cells ≡ (if shared then last_or made.now [] else own.now)) }
+{
+    if !shared {
+        return own.copy();
+    }
+    let count = made.len();
+    if count == 0 {
+        return Cells::new(alloc, 0);
+    }
+    made[count - 1].copy()
+}
+
+/// The memories that the stages see.
+fn views(alloc: Global, plan: &Plan, kept: &[Cells]) -> Result<Row<Cells>, NoMemory>
+    ensures { IfOk result (λ views. views ≡ views_from plan.now 1 [] kept.now) }
+{
+    let mut made = Row::with_capacity(alloc, kept.len())?;
+    for (place, own) in kept.iter().enumerate() {
+        let view = seen(alloc, is_par(plan, place + 1), made.as_slice(), own)?;
+        made.push(view)?;
+    }
+    Ok(made)
+}
+
+/// No words yet, of so many stages.
+fn none_counted(alloc: Global, stages: usize) -> Result<Row<u64>, NoMemory>
+    ensures { IfOk result (λ counts. counts ≡ replicate stages 0) }
+{
+    let mut counts = Row::with_capacity(alloc, stages)?;
+    let mut made = 0;
+    while made < stages {
+        counts.push(0)?;
+        made += 1;
+    }
+    Ok(counts)
+}
+
+/// The plan, with room for more words than an evaluation has.
+fn wide(alloc: Global, plan: &Plan) -> Result<Plan, NoMemory>
+    ensures { IfOk result (λ wide. wide ≡ widened plan.now) }
+{
+    Ok(Plan {
+        region: plan.region,
+        words: u32::MAX,
+        stages: Row::from_slice(alloc, plan.stages.as_slice())?,
+        stage_of: Row::from_slice(alloc, plan.stage_of.as_slice())?,
+        assume: Row::from_slice(alloc, plan.assume.as_slice())?,
+        proved: plan.proved,
+        checked_at: Row::from_slice(alloc, plan.checked_at.as_slice())?,
+    })
+}
+
+/// The statement of a region.
+fn region_of(all: &[Stmt], region: u32) -> Option<&Stmt>
+    ensures { IfSome result (λ found. turn_in (filter (is_region_at region) all.now) ≡ turn_by (out-Stmt found.now)) }
+{
+    for statement in all {
+        if is_region(region, statement) {
+            return Some(statement);
+        }
+    }
+    None
+}
+
+/// What is kept of an epoch whose iterations so far were clean: for each sequential stage its memory where the next one starts, and
+/// the source's.
+#[derive(Drop)]
+pub struct Kept {
+    views: Row<Cells>,
+    cells: Cells,
+}
+
+impl Kept {
+    /// Where an epoch begins.
+    pub fn new(alloc: Global, plan: &Plan, base: &Cells) -> Result<Kept, NoMemory>
+        ensures { IfOk result (λ kept. kept ≡ record { views = first_kept base.now plan.now.stages; cells = base.now }) }
+    {
+        Ok(Kept {
+            views: owns(alloc, plan.stages.as_slice(), base)?,
+            cells: base.copy()?,
+        })
+    }
+
+    /// Behind a clean iteration with these stores, each at a site of this stage.
+    pub fn carry(&mut self, p: &Program, plan: &Plan, stores: &[StoreOf], stages: &[u32])
+        ensures { self.new ≡ record { views = map (clear_locals plan.now.region p.now.vars) (kept_by stages.now stores.now self.old.views); cells = clear_locals plan.now.region p.now.vars (stored_all stores.now self.old.cells) } }
+    {
+        show_all(self.views.as_mut_slice(), stores, stages);
+        clear_all(plan.region, p.vars.as_slice(), self.views.as_mut_slice());
+        put_all(&mut self.cells, stores);
+        clear(plan.region, p.vars.as_slice(), &mut self.cells);
+    }
+
+    /// What is watched from here on.
+    fn watched(&self, alloc: Global, plan: &Plan, left: u64) -> Result<Watched, NoMemory>
+        ensures { IfOk result (λ watched. watched ≡ record { views = views_from plan.now 1 [] self.now.views; counts = replicate (length plan.now.stages) 0; cells = self.now.cells; left = left }) }
+    {
+        Ok(Watched {
+            views: views(alloc, plan, self.views.as_slice())?,
+            counts: none_counted(alloc, plan.stages.len())?,
+            cells: self.cells.copy()?,
+            left,
+        })
+    }
+
+    fn search(
+        &self,
+        alloc: Global,
+        p: &Program,
+        plan: &Plan,
+        input: &[i64],
+        first: u32,
+        left: u64,
+    ) -> Result<Option<Cause>, NoMemory>
+        requires tabled { IsTabled p.now plan.now }
+        requires first { first ≡ first_site p.now plan.now }
+        ensures { IfOk result (λ found. FindsIf (cause_walk p.now plan.now input.now left (watch_of plan.now self.now.views) (turn_text p.now plan.now) self.now.cells) found) }
+    {
+        let wide = wide(alloc, plan)?;
+        let mut watched = self.watched(alloc, plan, left)?;
+        let ground = Ground {
+            alloc,
+            program: p,
+            plan,
+            wide: &wide,
+            input,
+            first,
+        };
+        match region_of(p.main.as_slice(), plan.region) {
+            Some(region) => Ok(watched.find(ground, region)),
+            None => Ok(None),
+        }
+    }
+
+    /// Why the next iteration isn't clean, where so many steps are left; none where it is, or memory was wanting.
+    pub fn cause(
+        &self,
+        alloc: Global,
+        p: &Program,
+        plan: &Plan,
+        input: &[i64],
+        first: u32,
+        left: u64,
+    ) -> Option<Cause>
+        requires tabled { IsTabled p.now plan.now }
+        requires first { first ≡ first_site p.now plan.now }
+        ensures { FindsIf (cause_walk p.now plan.now input.now left (watch_of plan.now self.now.views) (turn_text p.now plan.now) self.now.cells) result }
+    {
+        match self.search(alloc, p, plan, input, first, left) {
+            Ok(found) => found,
+            Err(_) => None,
+        }
+    }
+}

@@ -1,0 +1,12 @@
+//! Why an iteration isn't clean: the source's steps, with the memory that each stage sees.
+#![tactic(auto)]
+
+mod assuming;
+mod finding;
+mod kept;
+mod looking;
+mod stepping;
+mod views;
+mod watched;
+
+pub use kept::Kept;

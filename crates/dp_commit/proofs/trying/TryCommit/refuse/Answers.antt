@@ -1,0 +1,9 @@
+use Rattle.std.proofs.Common.{refl}
+use Rattle.dp_commit.specs.declared.verdict.Verdict.TheVariants.{Unclean}
+use Rattle.dp_commit.proofs.EpochLemmas.{refused_gives}
+use Rattle.dp_commit.proofs.trying.TryCommit.refuse.Goals as goal
+
+pub returns-in-Some : goal.returns-in-Some
+returns-in-Some c = λ key n knows unclean.
+    let t = c.args.self.now in
+    refused_gives key n t t c.cause.result (Unclean c.in-Some.cause) t.fits knows unclean c.cause.ensures c.in-Some.cause c.in-Some.is refl
