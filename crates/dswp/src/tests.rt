@@ -7,6 +7,7 @@
 mod arithmetic;
 mod bytes;
 mod calls;
+mod causes;
 mod examples;
 mod exits;
 mod hostile;
