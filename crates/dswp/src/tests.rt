@@ -8,6 +8,7 @@ mod arithmetic;
 mod automatic;
 mod bytes;
 mod calls;
+mod causes;
 mod examples;
 mod exits;
 mod hostile;
