@@ -11,6 +11,7 @@ ghost use Rattle.dp_crew.specs.RegionRun.{IsPlanned};
 
 use crate::ends::{EpochEnd, RegionEnd};
 use crate::fail::CrewFail;
+use crate::ledger::Ledger;
 use crate::reexecute::reexecute;
 use crate::report::count_again;
 use crate::scope::run_one_epoch;
@@ -32,34 +33,39 @@ pub(crate) fn run_epochs<'p, R: Threads + Wait + Sync, K: Sink, G: Gate>(
     plan: &Plan,
     input: &[i64],
     crew: CrewSize,
-    committed: &mut Committed<'p>,
-    report: &mut RegionReport,
-    waiting: &mut Row<i64>,
+    mut ledger: Ledger<'p>,
     sink: &mut K,
     gate: &G,
     tally: &mut Tally,
-) -> Result<RegionEnd, CrewFail>
+) -> Result<(Ledger<'p>, RegionEnd), CrewFail>
     requires planned { IsPlanned p.now plan.now }
     requires words { length input.now ≤ 65536 }
-    requires fuel { committed.old.machine.fuel ≤ 1000000000 }
+    requires fuel { ledger.committed.machine.fuel ≤ 1000000000 }
     requires crew { (1 ≤ crew.workers) × (crew.workers ≤ 8) × (1 ≤ crew.lane) × (crew.lane ≤ 64) }
     requires sink { K.faults sink.old < 2 ^ 64 - 1 }
-    requires start { (first : MachineState) × ToBegin p.now plan.now input.now first committed.old report.old }
-    requires room { HasRoom tally.old committed.old }
+    requires start { (first : MachineState) × ToBegin p.now plan.now input.now first ledger.committed ledger.report }
+    requires room { HasRoom tally.old ledger.committed }
     ensures faults { FaultsAfter result (K.faults sink.old) (K.faults sink.new) }
-    ensures ok { IfOk result (λ end. (first : MachineState) → ToBegin p.now plan.now input.now first committed.old report.old → RegionDone plan.now first committed.new report.new end) }
-    ensures streams { (first : MachineState) → ToBegin p.now plan.now input.now first committed.old report.old →
-        Streams result (to_come plan.now first waiting.old committed.old.count) (λ _. waiting.new) (K.written sink.old) (K.written sink.new) }
-    ensures tally { OnOk result (tally.new + report.new.recovered_count + report.old.iterations ≡ tally.old + report.new.iterations + report.old.recovered_count) }
+    ensures ok { IfOk result (λ r. (first : MachineState) → ToBegin p.now plan.now input.now first ledger.entry.committed ledger.entry.report → RegionDone plan.now first r.0.committed r.0.report r.1) }
+    ensures streams { (first : MachineState) → ToBegin p.now plan.now input.now first ledger.entry.committed ledger.entry.report →
+        Streams result (to_come plan.now first ledger.entry.waiting ledger.entry.committed.count) (λ r. r.0.waiting) (K.written sink.old) (K.written sink.new) }
+    ensures tally { IfOk result (λ r. tally.new + r.0.report.recovered_count + ledger.entry.report.iterations ≡ tally.old + r.0.report.iterations + ledger.entry.report.recovered_count) }
 {
     'epochs: loop {
-        match run_one_epoch(
-            rt, alloc, p, plan, input, crew, committed, report, waiting, sink, gate, tally,
-        )? {
-            EpochEnd::Closed => return Ok(RegionEnd::Closed),
+        let (after, end) = run_one_epoch(rt, alloc, p, plan, input, crew, ledger, sink, gate, tally)?;
+        ledger = after;
+        match end {
+            EpochEnd::Closed => return Ok((ledger, RegionEnd::Closed)),
             EpochEnd::Unclean(cause) => {
-                match recover_iteration(alloc, committed, report, cause, waiting, sink)? {
-                    Some(end) => return Ok(end),
+                match recover_iteration(
+                    alloc,
+                    &mut ledger.committed,
+                    &mut ledger.report,
+                    cause,
+                    &mut ledger.waiting,
+                    sink,
+                )? {
+                    Some(end) => return Ok((ledger, end)),
                     None => {}
                 }
             }
