@@ -99,7 +99,7 @@ fn commit_all<'p, R: Wait, K: Sink>(
     rt: &R,
     alloc: Global,
     mut verdicts: LaneVerdicts<'_>,
-    mut ledger: Ledger<'p>,
+    ledger: Ledger<'p>,
     sink: &mut K,
     tally: &mut Tally,
 ) -> Result<(Ledger<'p>, EpochEnd), CrewFail>
@@ -117,18 +117,30 @@ fn commit_all<'p, R: Wait, K: Sink>(
     ensures room { IfOk result (λ r. HasRoom tally.new r.0.committed) }
     ensures left { IfOk result (λ r. left_of r.0.committed ≤ left_of ledger.entry.committed) }
 {
+    let Ledger {
+        mut committed,
+        mut report,
+        mut waiting,
+    } = ledger;
     match commit_started(
         begun,
         rt,
         alloc,
         &mut verdicts,
-        &mut ledger.committed,
-        &mut ledger.report,
-        &mut ledger.waiting,
+        &mut committed,
+        &mut report,
+        &mut waiting,
         sink,
         tally,
     ) {
-        Ok(end) => Ok((ledger, end)),
+        Ok(end) => Ok((
+            Ledger {
+                committed,
+                report,
+                waiting,
+            },
+            end,
+        )),
         Err(fail) => Err(fail),
     }
 }

@@ -52,24 +52,52 @@ pub(crate) fn run_epochs<'p, R: Threads + Wait + Sync, K: Sink, G: Gate>(
     ensures tally { IfOk result (λ r. tally.new + r.0.report.recovered_count + ledger.entry.report.iterations ≡ tally.old + r.0.report.iterations + ledger.entry.report.recovered_count) }
 {
     'epochs: loop {
-        let (after, end) = run_one_epoch(rt, alloc, p, plan, input, crew, ledger, sink, gate, tally)?;
-        ledger = after;
+        let (after, end) =
+            run_one_epoch(rt, alloc, p, plan, input, crew, ledger, sink, gate, tally)?;
         match end {
-            EpochEnd::Closed => return Ok((ledger, RegionEnd::Closed)),
+            EpochEnd::Closed => return Ok((after, RegionEnd::Closed)),
             EpochEnd::Unclean(cause) => {
-                match recover_iteration(
-                    alloc,
-                    &mut ledger.committed,
-                    &mut ledger.report,
-                    cause,
-                    &mut ledger.waiting,
-                    sink,
-                )? {
-                    Some(end) => return Ok((ledger, end)),
-                    None => {}
+                let (next, end) = recover(alloc, after, cause, sink)?;
+                match end {
+                    Some(end) => return Ok((next, end)),
+                    None => ledger = next,
                 }
             }
         }
+    }
+}
+
+/// Executes the iteration again that isn't clean.
+fn recover<'p, K: Sink>(
+    alloc: Global,
+    ledger: Ledger<'p>,
+    cause: Cause,
+    sink: &mut K,
+) -> Result<(Ledger<'p>, Option<RegionEnd>), CrewFail>
+    requires sink { K.faults sink.old < 2 ^ 64 - 1 }
+    requires unclean { (plan : Plan) × (first : MachineState) × IsUnclean plan first ledger.committed ledger.report cause }
+    ensures faults { FaultsAfter result (K.faults sink.old) (K.faults sink.new) }
+    ensures ok { IfOk result (λ r. (plan : Plan) (first : MachineState) → IsUnclean plan first ledger.entry.committed ledger.entry.report cause → AfterRecovery plan first r.0.committed r.0.report r.1) }
+    ensures streams { (plan : Plan) (first : MachineState) → IsUnclean plan first ledger.entry.committed ledger.entry.report cause →
+        Streams result (to_come plan first ledger.entry.waiting ledger.entry.committed.count) (λ r. left_by_recovery plan first r.0.waiting r.0.committed.count r.1) (K.written sink.old) (K.written sink.new) }
+    ensures counts { IfOk result (λ r. r.0.report.iterations + ledger.entry.report.recovered_count ≡ ledger.entry.report.iterations + r.0.report.recovered_count) }
+    ensures left { IfOk result (λ r. r.1 ≡ None → left_of r.0.committed < left_of ledger.entry.committed) }
+{
+    let Ledger {
+        mut committed,
+        mut report,
+        mut waiting,
+    } = ledger;
+    match recover_iteration(alloc, &mut committed, &mut report, cause, &mut waiting, sink) {
+        Ok(end) => Ok((
+            Ledger {
+                committed,
+                report,
+                waiting,
+            },
+            end,
+        )),
+        Err(fail) => Err(fail),
     }
 }
 

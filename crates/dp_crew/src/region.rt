@@ -63,8 +63,9 @@ pub fn run_region<'p, R: Threads + Wait + Sync, K: Sink, G: Gate>(
         },
         waiting: Row::new(alloc),
     };
-    let (mut ledger, end) = run_epochs(rt, alloc, p, plan, input, crew, ledger, sink, gate, tally)?;
-    flush(alloc, &mut ledger.waiting, sink)?;
+    let (ledger, end) = run_epochs(rt, alloc, p, plan, input, crew, ledger, sink, gate, tally)?;
+    let mut waiting = ledger.waiting;
+    flush(alloc, &mut waiting, sink)?;
     *report = ledger.report;
     Ok((ledger.committed.finish(), end))
 }

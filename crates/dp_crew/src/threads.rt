@@ -46,15 +46,28 @@ pub(crate) fn start<'s, 'u, E, R: Wait + Sync, G: Gate>(
     started: &mut Started<'u>,
 ) -> Result<(), NoMemory> {
     for slot in slots {
-        match scope.spawn(move || run_unit(rt, slot, gate)) {
-            Ok(thread) => started.threads.push(thread)?,
-            Err(refused) => {
-                drop(refused);
-                keep(rt, slot, started)?;
-            }
+        match start_one(scope, rt, slot, gate) {
+            Some(thread) => started.threads.push(thread)?,
+            None => keep(rt, slot, started)?,
         }
     }
     Ok(())
+}
+
+/// Starts a thread for the slot, if one can be started.
+fn start_one<'s, 'u, E, R: Wait + Sync, G: Gate>(
+    scope: &Scope<'s, E>,
+    rt: &'s R,
+    slot: &'s Slot<'u>,
+    gate: &'s G,
+) -> Option<JoinHandle<()>> {
+    match scope.spawn(move || run_unit(rt, slot, gate)) {
+        Ok(thread) => Some(thread),
+        Err(refused) => {
+            drop(refused);
+            None
+        }
+    }
 }
 
 /// Waits until each thread has ended.
