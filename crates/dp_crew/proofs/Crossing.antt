@@ -65,7 +65,7 @@ pub frame_send : (a : NamedLft) → IsSend (Frame.the_row a)
 frame_send a = recorded_send (Frame.the_field a).row _ _ (Frame.the_type a).to_one (frame_field_send a)
 
 pub stage_machine_field_send : (a : NamedLft) → IsSend (StageMachine.the_field a).row
-stage_machine_field_send a = let f = frame_send a in let g = frame_field_send a in search (kept.the_send, kept.the_field_send, heap.the_send, heap.the_field_send, sendable) depth 60 fits 20000
+stage_machine_field_send a = let f = frame_send a in let g = frame_field_send a in search (kept.the_field_send, heap.the_field_send, sendable) depth 60 fits 20000
 
 pub stage_machine_send : (a : NamedLft) → IsSend (StageMachine.the_row a)
 stage_machine_send a = recorded_send (StageMachine.the_field a).row _ _ (StageMachine.the_type a).to_one (stage_machine_field_send a)
@@ -77,7 +77,7 @@ pub staged_send : (a : NamedLft) → IsSend (Staged.the_row a)
 staged_send a = recorded_send (Staged.the_field a).row _ _ (Staged.the_type a).to_one (staged_field_send a)
 
 pub try_commit_field_send : (a : NamedLft) → IsSend (TryCommit.the_field a).row
-try_commit_field_send a = let p = program_sync in let q = program_field_sync in search (plan.the_sync, op.the_sync, heap.the_send, heap.the_field_send, cells.the_send, option.the_send, sendable) depth 60 fits 20000
+try_commit_field_send a = let p = program_sync in let q = program_field_sync in search (plan.the_sync, op.the_sync, heap.the_field_send, cells.the_send, sendable) depth 60 fits 20000
 
 pub try_commit_send : (a : NamedLft) → IsSend (TryCommit.the_row a)
 try_commit_send a = recorded_send (TryCommit.the_field a).row _ _ (TryCommit.the_type a).to_one (try_commit_field_send a)

@@ -27,15 +27,15 @@ returns-in_err-run_one_epoch-clause-streams g c first b =
 pub returns-in-Closed-clause-streams : goal.returns-in-Closed-clause-streams
 returns-in-Closed-clause-streams g c first b =
     emits_on _ _ _ _ _ _ (c.epochs.invariant.emits first b)
-    (subst (λ (x : EpochEnd). Emits (to_come c.args.plan.now first c.epochs.waiting c.epochs.committed.count) (left_by_epoch c.args.plan.now first c.run_one_epoch.new.waiting c.run_one_epoch.new.committed.count x) (g.K.Sink.written c.epochs.sink) (g.K.Sink.written c.run_one_epoch.new.sink))
+    (subst (λ (x : EpochEnd). Emits (to_come c.args.plan.now first c.epochs.ledger.waiting c.epochs.ledger.committed.count) (left_by_epoch c.args.plan.now first c.run_one_epoch.new.waiting c.run_one_epoch.new.committed.count x) (g.K.Sink.written c.epochs.sink) (g.K.Sink.written c.run_one_epoch.new.sink))
     c.in-Closed.is (c.in_ok-run_one_epoch.ensures.streams first (c.epochs.invariant.begins first b)))
 
 pub returns-in_err-end-in-Unclean-clause-streams : goal.returns-in_err-end-in-Unclean-clause-streams
 returns-in_err-end-in-Unclean-clause-streams g c first b =
     let unclean : IsUnclean c.args.plan.now first c.run_one_epoch.new.committed c.run_one_epoch.new.report c.in-Unclean.cause =
     subst (λ (x : EpochEnd). EpochEnds c.args.plan.now first c.run_one_epoch.new.committed c.run_one_epoch.new.report x) c.in-Unclean.is (c.in_ok-run_one_epoch.ensures.ok first (c.epochs.invariant.begins first b)) in
-    let gone : Emits (to_come c.args.plan.now first c.epochs.waiting c.epochs.committed.count) (to_come c.args.plan.now first c.run_one_epoch.new.waiting c.run_one_epoch.new.committed.count) (g.K.Sink.written c.epochs.sink) (g.K.Sink.written c.run_one_epoch.new.sink) =
-    subst (λ (x : EpochEnd). Emits (to_come c.args.plan.now first c.epochs.waiting c.epochs.committed.count) (left_by_epoch c.args.plan.now first c.run_one_epoch.new.waiting c.run_one_epoch.new.committed.count x) (g.K.Sink.written c.epochs.sink) (g.K.Sink.written c.run_one_epoch.new.sink))
+    let gone : Emits (to_come c.args.plan.now first c.epochs.ledger.waiting c.epochs.ledger.committed.count) (to_come c.args.plan.now first c.run_one_epoch.new.waiting c.run_one_epoch.new.committed.count) (g.K.Sink.written c.epochs.sink) (g.K.Sink.written c.run_one_epoch.new.sink) =
+    subst (λ (x : EpochEnd). Emits (to_come c.args.plan.now first c.epochs.ledger.waiting c.epochs.ledger.committed.count) (left_by_epoch c.args.plan.now first c.run_one_epoch.new.waiting c.run_one_epoch.new.committed.count x) (g.K.Sink.written c.epochs.sink) (g.K.Sink.written c.run_one_epoch.new.sink))
     c.in-Unclean.is (c.in_ok-run_one_epoch.ensures.streams first (c.epochs.invariant.begins first b)) in
     streams_stopped _ _ _ _ _ c.from_residual-in_err-end-in-Unclean.ensures.0 (emits_front _ _ _ _ _ (emits_on _ _ _ _ _ _ (c.epochs.invariant.emits first b) gone) (c.in_err-end-in-Unclean.ensures.streams c.args.plan.now first unclean))
 
@@ -43,8 +43,8 @@ pub returns-in-Some-clause-streams : goal.returns-in-Some-clause-streams
 returns-in-Some-clause-streams g c first b =
     let unclean : IsUnclean c.args.plan.now first c.run_one_epoch.new.committed c.run_one_epoch.new.report c.in-Unclean.cause =
     subst (λ (x : EpochEnd). EpochEnds c.args.plan.now first c.run_one_epoch.new.committed c.run_one_epoch.new.report x) c.in-Unclean.is (c.in_ok-run_one_epoch.ensures.ok first (c.epochs.invariant.begins first b)) in
-    let gone : Emits (to_come c.args.plan.now first c.epochs.waiting c.epochs.committed.count) (to_come c.args.plan.now first c.run_one_epoch.new.waiting c.run_one_epoch.new.committed.count) (g.K.Sink.written c.epochs.sink) (g.K.Sink.written c.run_one_epoch.new.sink) =
-    subst (λ (x : EpochEnd). Emits (to_come c.args.plan.now first c.epochs.waiting c.epochs.committed.count) (left_by_epoch c.args.plan.now first c.run_one_epoch.new.waiting c.run_one_epoch.new.committed.count x) (g.K.Sink.written c.epochs.sink) (g.K.Sink.written c.run_one_epoch.new.sink))
+    let gone : Emits (to_come c.args.plan.now first c.epochs.ledger.waiting c.epochs.ledger.committed.count) (to_come c.args.plan.now first c.run_one_epoch.new.waiting c.run_one_epoch.new.committed.count) (g.K.Sink.written c.epochs.sink) (g.K.Sink.written c.run_one_epoch.new.sink) =
+    subst (λ (x : EpochEnd). Emits (to_come c.args.plan.now first c.epochs.ledger.waiting c.epochs.ledger.committed.count) (left_by_epoch c.args.plan.now first c.run_one_epoch.new.waiting c.run_one_epoch.new.committed.count x) (g.K.Sink.written c.epochs.sink) (g.K.Sink.written c.run_one_epoch.new.sink))
     c.in-Unclean.is (c.in_ok-run_one_epoch.ensures.streams first (c.epochs.invariant.begins first b)) in
     emits_on _ _ _ _ _ _ (emits_on _ _ _ _ _ _ (c.epochs.invariant.emits first b) gone)
     (subst (λ (x : Option RegionEnd). Emits (to_come c.args.plan.now first c.run_one_epoch.new.waiting c.run_one_epoch.new.committed.count) (left_by_recovery c.args.plan.now first c.recover_iteration.new.waiting c.recover_iteration.new.committed.count x) (g.K.Sink.written c.run_one_epoch.new.sink) (g.K.Sink.written c.recover_iteration.new.sink))
@@ -75,8 +75,8 @@ epochs-preserved g c =
       emits = λ first b.
           let unclean : IsUnclean c.args.plan.now first c.run_one_epoch.new.committed c.run_one_epoch.new.report c.in-Unclean.cause =
           subst (λ (x : EpochEnd). EpochEnds c.args.plan.now first c.run_one_epoch.new.committed c.run_one_epoch.new.report x) c.in-Unclean.is (c.in_ok-run_one_epoch.ensures.ok first (c.epochs.invariant.begins first b)) in
-          let gone : Emits (to_come c.args.plan.now first c.epochs.waiting c.epochs.committed.count) (to_come c.args.plan.now first c.run_one_epoch.new.waiting c.run_one_epoch.new.committed.count) (g.K.Sink.written c.epochs.sink) (g.K.Sink.written c.run_one_epoch.new.sink) =
-          subst (λ (x : EpochEnd). Emits (to_come c.args.plan.now first c.epochs.waiting c.epochs.committed.count) (left_by_epoch c.args.plan.now first c.run_one_epoch.new.waiting c.run_one_epoch.new.committed.count x) (g.K.Sink.written c.epochs.sink) (g.K.Sink.written c.run_one_epoch.new.sink))
+          let gone : Emits (to_come c.args.plan.now first c.epochs.ledger.waiting c.epochs.ledger.committed.count) (to_come c.args.plan.now first c.run_one_epoch.new.waiting c.run_one_epoch.new.committed.count) (g.K.Sink.written c.epochs.sink) (g.K.Sink.written c.run_one_epoch.new.sink) =
+          subst (λ (x : EpochEnd). Emits (to_come c.args.plan.now first c.epochs.ledger.waiting c.epochs.ledger.committed.count) (left_by_epoch c.args.plan.now first c.run_one_epoch.new.waiting c.run_one_epoch.new.committed.count x) (g.K.Sink.written c.epochs.sink) (g.K.Sink.written c.run_one_epoch.new.sink))
           c.in-Unclean.is (c.in_ok-run_one_epoch.ensures.streams first (c.epochs.invariant.begins first b)) in
           emits_on _ _ _ _ _ _ (emits_on _ _ _ _ _ _ (c.epochs.invariant.emits first b) gone)
           (subst (λ (x : Option RegionEnd). Emits (to_come c.args.plan.now first c.run_one_epoch.new.waiting c.run_one_epoch.new.committed.count) (left_by_recovery c.args.plan.now first c.recover_iteration.new.waiting c.recover_iteration.new.committed.count x) (g.K.Sink.written c.run_one_epoch.new.sink) (g.K.Sink.written c.recover_iteration.new.sink))
