@@ -45,6 +45,7 @@ pub(crate) fn pipeline_here<'u>(
         committed.cells(),
         committed.steps(),
         committed.fuel(),
+        crew.workers,
         crew.lane,
         stop,
         setter,

@@ -1,7 +1,9 @@
 pub mod Beginning
 pub mod Coming
 pub mod Passing
+pub mod Seated
 pub mod Staging
+pub mod Ticketed
 pub mod Turned
 pub mod VerdictsCome
 pub mod ProgramLists

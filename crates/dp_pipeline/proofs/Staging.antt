@@ -81,6 +81,13 @@ stands_for old new key None n stage w next =
     let here : is_replicated new.frame.plan.now new.stage ≡ true = ap (λ (plan : Plan). is_replicated plan new.stage) (sym next.0.1) ∙ r in
     (r, λ j. anywhere_by new.frame new.stage new.kept key (n + 1) j here next)
 
+-- what runs a replicated stage begins anywhere
+pub runs_anywhere : (x : Staged) (key : EpochKey) (s : ℕ) → is_replicated key.plan s ≡ true → RunsAt x key s (Some 0) → RunsAt x key s None
+runs_anywhere x key s replicated runs =
+    let r : is_replicated key.plan x.machine.stage ≡ true = ap (λ (k : ℕ). is_replicated key.plan k) runs.stage ∙ replicated in
+    let here : is_replicated x.machine.frame.plan.now x.machine.stage ≡ true = ap (λ (plan : Plan). is_replicated plan x.machine.stage) (sym runs.stands.0.1) ∙ r in
+    record { stage = runs.stage; fuel = runs.fuel; stands = (r, λ j. anywhere_by x.machine.frame x.machine.stage x.machine.kept (epoch_of key) 0 j here runs.stands) }
+
 stands_here : (m : StageMachine) (key : packets.Epoch) (place : Option ℕ) (n : ℕ) → StandsFor m key place → At place n → Stands m key n
 stands_here m key (Some next) n w at = subst (λ (k : ℕ). Stands m key k) (sym at) w
 stands_here m key None n w at = w.1 n

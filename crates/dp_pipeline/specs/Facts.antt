@@ -1,5 +1,5 @@
 -- What a clause sees of the end that a unit takes from, or sends on.
-use Rattle.std.specs.Prelude.{◌≡◌, ◌⊎◌, ℕ, ◌+◌, ◌-◌, ◌^◌, ◌<◌, Result, Ok, Err}
+use Rattle.std.specs.Prelude.{◌≡◌, ◌⊎◌, ℕ, ◌+◌, ◌-◌, ◌^◌, ◌<◌, ◌≤◌, Result, Ok, Err}
 use Rattle.dp_pipeline.specs.declared.polled.IdleWhy.{IdleWhy}
 use Rattle.dp_pipeline.specs.declared.polled.IdleWhy.TheVariants.{Empty, Full, Busy}
 use Rattle.dp_pipeline.specs.declared.ends.Refused.{Refused}
@@ -20,6 +20,10 @@ SawWord word old new = Rose old.tries new.tries × (new.word ≡ word) × (new.c
 
 abbrev pub WasRefused : Facts → Facts → Type 0
 WasRefused old new = Rose old.tries new.tries × (new.count ≡ old.count)
+
+-- nothing was taken or sent. A seat that does both may have loaded words
+abbrev pub Stays : Facts → Facts → Type 0
+Stays old new = (new.count ≡ old.count) × (old.tries ≤ new.tries)
 
 -- what a refused try to take says, and one to send
 abbrev pub RefusesTake : IdleWhy → Facts → Facts → Type 0

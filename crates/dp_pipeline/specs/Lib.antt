@@ -5,6 +5,7 @@ pub mod Offers
 pub mod Polls
 pub mod Keys
 pub mod Carried
+pub mod Seats
 pub mod Standing
 pub mod Ending
 pub mod Staging

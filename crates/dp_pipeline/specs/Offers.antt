@@ -4,7 +4,7 @@ use Rattle.dp_semantics.specs.EpochKey.{EpochKey}
 use Rattle.dp_pipeline.specs.declared.stage.Made.{Made}
 use Rattle.dp_pipeline.specs.declared.polled.Polled.{Polled}
 use Rattle.dp_pipeline.specs.declared.polled.Polled.TheVariants.{Moved, Idle, Ended}
-use Rattle.dp_pipeline.specs.Facts.{Facts, RefusesTake, RefusesSend}
+use Rattle.dp_pipeline.specs.Facts.{Facts, Stays, RefusesTake, RefusesSend}
 use Rattle.dp_pipeline.specs.Places.{behind}
 
 module _ {E O : Type 0} (ready : E → EpochKey → ℕ → Option ℕ → Type 0) (holds : E → EpochKey → ℕ → Option ℕ → ℕ → Type 0) (taking sending : E → Facts) (ended : E → Bool)
@@ -13,10 +13,10 @@ module _ {E O : Type 0} (ready : E → EpochKey → ℕ → Option ℕ → Type 
   abbrev pub Offers : Polled → Type 0
   Offers Moved =
       ((key : EpochKey) (s : ℕ) (place : Option ℕ) (n : ℕ) → holds old key s place n → is_sent key s n made.item → ready new key s (behind place n) × (ended new ≡ is_last key made.item))
-      × (taking new ≡ taking old) × ((sending new).count ≡ (sending old).count + 1) × (after ≡ made.last) × (held ≡ None)
+      × Stays (taking old) (taking new) × ((sending new).count ≡ (sending old).count + 1) × (after ≡ made.last) × (held ≡ None)
   Offers (Idle why) =
       ((key : EpochKey) (s : ℕ) (place : Option ℕ) (n : ℕ) → holds old key s place n → holds new key s place n)
-      × (taking new ≡ taking old) × RefusesSend why (sending old) (sending new) × (after ≡ last) × (held ≡ Some made) × (ended new ≡ ended old)
+      × Stays (taking old) (taking new) × RefusesSend why (sending old) (sending new) × (after ≡ last) × (held ≡ Some made) × (ended new ≡ ended old)
   Offers Ended = ⊥
 
 -- what one turn of a unit that goes on does to its ends: one item more was sent; or a try to take was refused, and all that was taken was sent;

@@ -20,6 +20,8 @@ pub record IsSetting (x : Setting) : Type 0 where
   pub programs : (i : ℕ) (code : StageProgram) → slice_get x.programs.now i ≡ Some code → code.ops ≡ stage_code x.p.now x.plan.now (i + 1)
   pub some_room : 0 < x.lane
   pub little_room : x.lane ≤ 64
+  pub some_worker : 1 ≤ x.workers
+  pub few_workers : x.workers ≤ 8
 
 -- the key is one of it
 pub record IsKeyIn (x : Setting) (key : Held) : Type 0 where

@@ -7,11 +7,14 @@ use Rattle.dp_lane.specs.Ends.{End}
 use Rattle.dp_pipeline.specs.declared.keys.LaneKey.{LaneKey}
 use Rattle.dp_pipeline.specs.declared.start.Start.{Start as First}
 use Rattle.dp_pipeline.specs.declared.source.Source.{Source}
-use Rattle.dp_pipeline.specs.declared.source.Source.TheVariants.{Start, Lane}
+use Rattle.dp_pipeline.specs.declared.source.Source.TheVariants as source
+use Rattle.dp_pipeline.specs.declared.target.Target.{Target}
+use Rattle.dp_pipeline.specs.declared.target.Target.TheVariants as target
 use Rattle.dp_pipeline.specs.declared.passage.Passage.{Passage}
 use Rattle.dp_pipeline.specs.declared.judging.Judging.{Judging}
 use Rattle.dp_pipeline.specs.Facts.{Facts}
 use Rattle.dp_pipeline.specs.Keys.{key_of}
+use Rattle.dp_pipeline.specs.Seats.{CollectsFrom, PutsTo, seat_facts}
 
 -- a lane of what stage s sends in the epoch, from which n items were taken
 pub record TakesFrom (view : View LaneKey) (key : EpochKey) (s n : ℕ) : Type 0 where
@@ -38,8 +41,14 @@ pub record Starts (x : First) (key : EpochKey) (s n : ℕ) : Type 0 where
 
 -- what stage s sends in the epoch comes from here, and n items came
 abbrev pub Gives : Source → EpochKey → ℕ → ℕ → Type 0
-Gives (Start x) key s n = Starts x key s n
-Gives (Lane end) key s n = TakesFrom end.view key s n
+Gives (source.Start x) key s n = Starts x key s n
+Gives (source.Lane end) key s n = TakesFrom end.view key s n
+Gives (source.Ring seat) key s n = CollectsFrom seat key s n
+
+-- what stage s sends in the epoch goes here, and n items went
+abbrev pub Gets : Target → EpochKey → ℕ → ℕ → Type 0
+Gets (target.Lane end) key s n = SendsTo end.view key s n
+Gets (target.Ring seat) key s n = PutsTo seat key s n
 
 module _ {K : Type 0} where
   abbrev pub taken_by : View K → ℕ
@@ -61,21 +70,31 @@ module _ {K : Type 0} where
   sent_facts end = record { count = sent_by end.view; tries = end.refused; word = 0 }
 
 abbrev pub source_facts : Source → Facts
-source_facts (Start x) = record { count = x.next - x.first; tries = x.refused; word = 0 }
-source_facts (Lane end) = taken_facts end
+source_facts (source.Start x) = record { count = x.next - x.first; tries = x.refused; word = 0 }
+source_facts (source.Lane end) = taken_facts end
+source_facts (source.Ring seat) = seat_facts seat
+
+abbrev pub target_facts : Target → Facts
+target_facts (target.Lane end) = sent_facts end
+target_facts (target.Ring seat) = seat_facts seat
+
+-- the item that was sent last is an ending one
+abbrev pub target_ended : Target → Bool
+target_ended (target.Lane end) = ended_by end.view
+target_ended (target.Ring seat) = seat.view.ended
 
 -- the ends of stage s: the next item is the n-th
 pub record IsReady (ends : Passage) (key : EpochKey) (s : ℕ) (place : Option ℕ) : Type 0 where
   pub at : ℕ
   pub place_is : place ≡ Some at
   pub from : Gives ends.source key (s - 1) at
-  pub to : SendsTo ends.target.view key s at
+  pub to : Gets ends.target key s at
 
 -- .. and the n-th was taken
 pub record IsHolding (ends : Passage) (key : EpochKey) (s : ℕ) (place : Option ℕ) (at : ℕ) : Type 0 where
   pub place_is : place ≡ Some at
   pub from : Gives ends.source key (s - 1) (at + 1)
-  pub to : SendsTo ends.target.view key s at
+  pub to : Gets ends.target key s at
 
 -- the ends of the try-commit unit: the next item is the n-th
 pub record MayJudge (ends : Judging) (key : EpochKey) (s : ℕ) (place : Option ℕ) : Type 0 where

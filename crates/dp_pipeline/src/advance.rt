@@ -1,6 +1,6 @@
 //! One turn of a unit that goes on.
 ghost use Rattle.std.specs.Prelude.{◌≡◌, false, None, IfOk, IfErr};
-ghost use Rattle.dp_pipeline.specs.Facts.{RefusesTake};
+ghost use Rattle.dp_pipeline.specs.Facts.{RefusesTake, Stays};
 ghost use Rattle.dp_pipeline.specs.Offers.{Advances};
 ghost use Rattle.dp_pipeline.specs.Works.{HasMade, HasSentAll, IsAtWork};
 
@@ -23,7 +23,7 @@ fn next<I: Item, O: Item, E: Ends<I, O>, S: Stage<I, O>, R: Wait, G: Gate>(
     requires { IsAtWork E.ready E.holds E.taking E.sending E.ended S.stands O.is_sent O.is_last stage.old ends.old false held.old }
     ensures made { IfOk result (λ made. HasMade E.ready E.holds E.taking E.sending E.ended S.stands O.is_sent O.is_last stage.new ends.new made) }
     ensures idle { IfErr result (λ why. HasSentAll E.ready E.holds E.taking E.sending E.ended S.stands O.is_sent O.is_last stage.new ends.new false × RefusesTake why (E.taking ends.old) (E.taking ends.new)) }
-    ensures sending { E.sending ends.new ≡ E.sending ends.old }
+    ensures sending { Stays (E.sending ends.old) (E.sending ends.new) }
     ensures held { held.new ≡ None }
 {
     match held.take() {

@@ -1,4 +1,5 @@
 //! A packet that goes from stage to stage.
+ghost use Rattle.std.specs.Prelude.{◌-◌};
 ghost use Rattle.dp_pipeline.specs.Carried.{IsCarried, is_last_carried};
 ghost use Rattle.dp_pipeline.specs.Keys.{key_of};
 
@@ -7,6 +8,7 @@ use crate::keys::LaneKey;
 use dp_lane::LaneItem;
 use dp_packet::Packet;
 use dp_plan::Plan;
+use dp_ring::RingItem;
 
 /// A packet of an epoch.
 #[derive(Drop)]
@@ -25,6 +27,16 @@ impl<'p> LaneItem for Carried<'p> {
     type Key = LaneKey<'p>;
 
     ghost is_item = { λ key k x. IsCarried (key_of key.epoch) key.stage k x };
+
+    ghost is_ending = { λ key x. is_last_carried (key_of key.epoch) x };
+}
+
+impl<'p> RingItem for Carried<'p> {
+    type Key = LaneKey<'p>;
+
+    ghost is_put = { λ key t x. IsCarried (key_of key.epoch) (key.stage - 1) t x };
+
+    ghost is_given = { λ key t x. IsCarried (key_of key.epoch) key.stage t x };
 
     ghost is_ending = { λ key x. is_last_carried (key_of key.epoch) x };
 }

@@ -2,7 +2,7 @@
 ghost use Rattle.std.specs.Prelude.{◌≡◌, ◌-◌, ℕ, Bool, Option, IfOk, IfErr, OnOk, OnErr};
 ghost use Rattle.dp_semantics.specs.EpochKey.{EpochKey};
 ghost use Rattle.dp_pipeline.specs.Places.{At, behind};
-ghost use Rattle.dp_pipeline.specs.Facts.{Facts, Takes, Sends};
+ghost use Rattle.dp_pipeline.specs.Facts.{Facts, Stays, Takes, Sends};
 
 use crate::item::Item;
 use crate::polled::IdleWhy;
@@ -36,7 +36,7 @@ pub trait Ends<I: Item, O: Item>: Drop {
             (n : ℕ) × At place n × I.is_sent key (s - 1) n item × holds self.new key s place n) }
         ensures idle { OnErr result ((key : EpochKey) (s : ℕ) (place : Option ℕ) → ready self.old key s place → ready self.new key s place) }
         ensures taking { Takes result (taking self.old) (taking self.new) }
-        ensures sending { sending self.new ≡ sending self.old }
+        ensures sending { Stays (sending self.old) (sending self.new) }
         ensures ended { ended self.new ≡ ended self.old };
 
     fn send<R: Wait>(&mut self, rt: &R, item: O) -> Result<(), Refused<O>>
@@ -46,6 +46,6 @@ pub trait Ends<I: Item, O: Item>: Drop {
         ensures held { OnErr result ((key : EpochKey) (s : ℕ) (place : Option ℕ) (n : ℕ) → holds self.old key s place n → holds self.new key s place n) }
         ensures back { IfErr result (λ refused. refused.item ≡ item) }
         ensures ended { OnErr result (ended self.new ≡ ended self.old) }
-        ensures taking { taking self.new ≡ taking self.old }
+        ensures taking { Stays (taking self.old) (taking self.new) }
         ensures sending { Sends result (sending self.old) (sending self.new) };
 }

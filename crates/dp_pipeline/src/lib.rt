@@ -20,9 +20,12 @@ mod programs;
 mod relay;
 mod setting;
 mod source;
+mod staffing;
 mod stage;
 mod staged;
 mod start;
+mod target;
+mod tickets;
 mod unit;
 mod verdicts;
 

@@ -1,5 +1,6 @@
 //! How the units of an epoch are made.
-ghost use Rattle.std.specs.Prelude.{◌≡◌, ◌<◌, ◌≤◌, ◌+◌, ◌-◌, ◌^◌, false, length, IfOk};
+ghost use Rattle.std.specs.Prelude.{◌≡◌, ◌<◌, ◌≤◌, ◌+◌, ◌-◌, ◌^◌, suc, true, false, length, IfOk, OnOk};
+ghost use Rattle.dp_plan.specs.Access.{is_replicated};
 ghost use Rattle.dp_lane.specs.declared.rule.View.TheVariants.{Taker};
 ghost use Rattle.dp_pipeline.specs.Keys.{key_of};
 ghost use Rattle.dp_pipeline.specs.Setting.{IsSetting, IsKeyIn};
@@ -10,61 +11,85 @@ use crate::judge::Judge;
 use crate::judged::Judged;
 use crate::judging::Judging;
 use crate::keys::{EpochKey, LaneKey};
-use crate::passage::Passage;
 use crate::relay::Relay;
 use crate::setting::Setting;
 use crate::source::Source;
-use crate::staged::Staged;
+use crate::staffing::{add_workers, next_is_replicated, stage_unit, staged};
 use crate::start::Start;
+use crate::target::Target;
 use crate::unit::{Kind, Unit};
 use dp_base::{NoMemory, Row};
 use dp_commit::TryCommit;
 use dp_lane::{TakeEnd, lane};
-use dp_machine::StageMachine;
+use dp_ring::Ring;
 use dp_stop::{Stop, StopSeat, StopSetter};
 use std::alloc::Global;
 
-/// The unit of the stage that the key names, and what the next one takes from.
-fn stage_unit<'p>(
+/// Adds the unit of the stage that the key names, with a lane behind it, and answers what comes out of the lane.
+fn add_stage<'p>(
     alloc: Global,
     setting: Setting<'p>,
     key: &LaneKey<'p>,
     source: Source<'p>,
+    units: &mut Row<Unit<'p>>,
     stop: &'p Stop,
-    seat: StopSeat,
-) -> Result<(Unit<'p>, Source<'p>), NoMemory>
+    setter: &mut StopSetter,
+) -> Result<Source<'p>, NoMemory>
     requires setting { IsSetting setting }
     requires key { IsKeyIn setting key.now.epoch }
     requires stage { 0 < key.now.stage }
-    requires source { Gives source (key_of key.now.epoch) (key.now.stage - 1) 0 }
-    requires count { (source_facts source).count ≡ 0 }
-    requires seat { (seat.flag ≡ stop.now) × (seat.seen ≡ false) }
-    ensures next { IfOk result (λ made. Gives made.1 (key_of key.now.epoch) key.now.stage 0 × ((source_facts made.1).count ≡ 0)) }
+    requires source { Gives source (key_of key.now.epoch) (key.now.stage - 1) 0 × ((source_facts source).count ≡ 0) }
+    requires setter { setter.old.flag ≡ stop.now }
+    ensures next { IfOk result (λ next. Gives next (key_of key.now.epoch) key.now.stage 0 × ((source_facts next).count ≡ 0)) }
+    ensures setter { setter.new ≡ setter.old }
 {
-    let place = key.stage as usize - 1;
-    let Some(code) = setting.programs.get(place) else {
-        return Err(NoMemory);
-    };
-    let machine = StageMachine::new(
-        alloc,
-        setting.p,
-        setting.plan,
-        code,
-        key.stage,
-        &key.epoch.base,
-        setting.input,
-    )?;
+    let stage = staged(alloc, setting, key)?;
     let (target, next) = lane::<Carried>(alloc, key, setting.lane)?;
-    let stage = Staged {
-        machine,
-        stage: key.stage,
-        fuel: key.epoch.fuel,
-    };
-    let unit = Relay::new(stage, Passage { source, target }, stop, seat);
-    let unit = Unit {
-        kind: Kind::Stage(unit),
-    };
-    Ok((unit, Source::Lane(next)))
+    let unit = stage_unit(stage, source, Target::Lane(target), stop, setter.seat(stop));
+    units.push(unit)?;
+    Ok(Source::Lane(next))
+}
+
+/// Adds the unit of the stage that the key names and the workers of the replicated stage behind it, to which the key goes
+/// on, with a ring around them, and answers what comes out of the ring.
+fn add_replicated<'p>(
+    alloc: Global,
+    setting: Setting<'p>,
+    key: &mut LaneKey<'p>,
+    source: Source<'p>,
+    units: &mut Row<Unit<'p>>,
+    stop: &'p Stop,
+    setter: &mut StopSetter,
+) -> Result<Source<'p>, NoMemory>
+    requires setting { IsSetting setting }
+    requires key { IsKeyIn setting key.old.epoch }
+    requires stage { (0 < key.old.stage) × (key.old.stage < 2 ^ 32 - 1) }
+    requires fuel { key.old.epoch.fuel ≤ 1000000000 }
+    requires replicated { is_replicated setting.plan.now (suc key.old.stage) ≡ true }
+    requires source { Gives source (key_of key.old.epoch) (key.old.stage - 1) 0 × ((source_facts source).count ≡ 0) }
+    requires setter { setter.old.flag ≡ stop.now }
+    ensures next { IfOk result (λ next. Gives next (key_of key.old.epoch) (key.old.stage + 1) 0 × ((source_facts next).count ≡ 0)) }
+    ensures key { OnOk result (key.new ≡ record { epoch = key.old.epoch; stage = key.old.stage + 1 }) }
+    ensures setter { setter.new ≡ setter.old }
+{
+    let stage = staged(alloc, setting, key)?;
+    key.stage += 1;
+    let (producer, seats, consumer) = Ring::new::<Carried>(
+        alloc,
+        key,
+        setting.lane,
+        setting.workers,
+    )?;
+    let unit = stage_unit(
+        stage,
+        source,
+        Target::Ring(producer),
+        stop,
+        setter.seat(stop),
+    );
+    units.push(unit)?;
+    add_workers(alloc, setting, key, seats, units, stop, setter)?;
+    Ok(Source::Ring(consumer))
 }
 
 /// The try-commit unit, and where its verdicts come.
@@ -107,7 +132,8 @@ fn judging_unit<'p>(
     Ok((unit, told))
 }
 
-/// The units of the epoch, in the order of the stages with the try-commit unit last, and where its verdicts come.
+/// The units of the epoch, and where its verdicts come. They stand in the order of the stages with the try-commit unit
+/// last; a replicated stage stands as its workers.
 pub fn units_of<'p>(
     alloc: Global,
     setting: Setting<'p>,
@@ -118,19 +144,21 @@ pub fn units_of<'p>(
     requires setting { IsSetting setting }
     requires key { IsKeyIn setting epoch }
     requires steps { epoch.steps ≤ epoch.fuel }
-    requires fuel { epoch.fuel < 2 ^ 64 - 1 }
+    requires fuel { epoch.fuel ≤ 1000000000 }
     requires setter { setter.old.flag ≡ stop.now }
     ensures verdicts { IfOk result (λ made. made.1.view ≡ Taker (record { epoch = epoch.entry; stage = length setting.entry.plan.now.stages + 1 }) 0) }
     ensures setter { setter.new ≡ setter.old }
 {
     let stages = setting.plan.stages.len() as u32;
-    let mut units = Row::with_capacity(alloc, stages as usize + 1)?;
+    let mut units = Row::new(alloc);
     let mut source = Source::Start(Start::new(alloc, setting.plan, epoch.first, epoch.fuel));
     let mut key = LaneKey { epoch, stage: 1 };
     while key.stage <= stages {
-        let (unit, next) = stage_unit(alloc, setting, &key, source, stop, setter.seat(stop))?;
-        units.push(unit)?;
-        source = next;
+        source = if next_is_replicated(setting.plan, key.stage) {
+            add_replicated(alloc, setting, &mut key, source, &mut units, stop, setter)?
+        } else {
+            add_stage(alloc, setting, &key, source, &mut units, stop, setter)?
+        };
         key.stage += 1;
     }
     let (unit, verdicts) = judging_unit(alloc, setting, &key, source, stop, setter.seat(stop))?;

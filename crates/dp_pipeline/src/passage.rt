@@ -1,22 +1,22 @@
-//! The ends of a stage that isn't replicated.
+//! The ends of a stage that takes its packets in order.
 ghost use Rattle.std.specs.Prelude.{◌≡◌};
 
 use crate::carried::Carried;
 use crate::ends::{Ends, Refused};
 use crate::polled::IdleWhy;
 use crate::source::Source;
-use dp_lane::SendEnd;
+use crate::target::Target;
 use std::sync::Wait;
 
 /// Packets come from a source, and go on in order.
 #[derive(Drop)]
 pub struct Passage<'p> {
     pub(crate) source: Source<'p>,
-    pub(crate) target: SendEnd<Carried<'p>>,
+    pub(crate) target: Target<'p>,
 }
 
 impl<'p> Ends<Carried<'p>, Carried<'p>> for Passage<'p> {
-    ghost use Rattle.dp_pipeline.specs.Standing.{IsReady, IsHolding, source_facts, sent_facts, ended_by};
+    ghost use Rattle.dp_pipeline.specs.Standing.{IsReady, IsHolding, source_facts, target_facts, target_ended};
 
     ghost ready = { IsReady };
 
@@ -24,21 +24,15 @@ impl<'p> Ends<Carried<'p>, Carried<'p>> for Passage<'p> {
 
     ghost taking = { λ ends. source_facts ends.source };
 
-    ghost sending = { λ ends. sent_facts ends.target };
+    ghost sending = { λ ends. target_facts ends.target };
 
-    ghost ended = { λ ends. ended_by ends.target.view };
+    ghost ended = { λ ends. target_ended ends.target };
 
     fn take<R: Wait>(&mut self, rt: &R) -> Result<Carried<'p>, IdleWhy> {
         self.source.take(rt)
     }
 
     fn send<R: Wait>(&mut self, rt: &R, item: Carried<'p>) -> Result<(), Refused<Carried<'p>>> {
-        match self.target.send(rt, item) {
-            Ok(()) => Ok(()),
-            Err(item) => Err(Refused {
-                item,
-                why: IdleWhy::Full,
-            }),
-        }
+        self.target.send(rt, item)
     }
 }

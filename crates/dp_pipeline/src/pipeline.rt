@@ -25,7 +25,7 @@ pub struct Pipeline<'u> {
 
 impl<'u> Pipeline<'u> {
     /// Makes the pipeline of an epoch: where it begins, in which memory, after how many steps of the fuel,
-    /// and how many items a lane holds.
+    /// how many units run a replicated stage, and how many items a lane or a side of a ring holds.
     pub fn new(
         alloc: Global,
         p: &'u Program,
@@ -36,6 +36,7 @@ impl<'u> Pipeline<'u> {
         base: &Cells,
         steps: u64,
         fuel: u64,
+        workers: u32,
         lane: u32,
         stop: &'u Stop,
         setter: &mut StopSetter,
@@ -47,6 +48,7 @@ impl<'u> Pipeline<'u> {
         requires words { length input.now ≤ 65536 }
         requires steps { steps ≤ fuel }
         requires fuel { fuel ≤ 1000000000 }
+        requires workers { (1 ≤ workers) × (workers ≤ 8) }
         requires lane { (1 ≤ lane) × (lane ≤ 64) }
         requires setter { setter.old.flag ≡ stop.now }
         ensures setter { setter.new ≡ setter.old }
@@ -57,6 +59,7 @@ impl<'u> Pipeline<'u> {
             plan,
             programs,
             input,
+            workers,
             lane,
         };
         let epoch = EpochKey {

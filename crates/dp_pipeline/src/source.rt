@@ -5,6 +5,7 @@ use crate::carried::Carried;
 use crate::polled::IdleWhy;
 use crate::start::Start;
 use dp_lane::TakeEnd;
+use dp_ring::{Busy, ConsumerSeat};
 use std::sync::Wait;
 
 /// What a unit takes from.
@@ -13,6 +14,8 @@ pub enum Source<'p> {
     /// The first stage takes from no other.
     Start(Start<'p>),
     Lane(TakeEnd<Carried<'p>>),
+    /// The stage before is replicated.
+    Ring(ConsumerSeat<Carried<'p>>),
 }
 
 impl<'p> Source<'p> {
@@ -32,6 +35,10 @@ impl<'p> Source<'p> {
             Source::Lane(end) => match end.take(rt) {
                 Some(item) => Ok(item),
                 None => Err(IdleWhy::Empty),
+            },
+            Source::Ring(seat) => match seat.take() {
+                Ok(item) => Ok(item),
+                Err(Busy { word }) => Err(IdleWhy::Busy { word }),
             },
         }
     }

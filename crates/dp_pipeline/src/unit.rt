@@ -7,6 +7,7 @@ use crate::passage::Passage;
 use crate::polled::{EndedWhy, Polled};
 use crate::relay::Relay;
 use crate::staged::Staged;
+use crate::tickets::Tickets;
 use dp_edge::Gate;
 use std::marker::Model;
 use std::sync::Wait;
@@ -15,10 +16,11 @@ use std::sync::Wait;
 #[derive(Drop)]
 pub(crate) enum Kind<'p> {
     Stage(Relay<'p, Carried<'p>, Carried<'p>, Passage<'p>, Staged<'p>>),
+    Worker(Relay<'p, Carried<'p>, Carried<'p>, Tickets<'p>, Staged<'p>>),
     TryCommit(Relay<'p, Carried<'p>, Judged<'p>, Judging<'p>, Judge<'p>>),
 }
 
-/// A stage or the try-commit unit of an epoch.
+/// A stage, a worker of a replicated one, or the try-commit unit of an epoch.
 #[derive(Drop)]
 pub struct Unit<'p> {
     pub(crate) kind: Kind<'p>,
@@ -26,11 +28,11 @@ pub struct Unit<'p> {
 
 impl<'p> Model for Unit<'p> {
     ghost use Rattle.dp_pipeline.specs.Polls.{Counts};
-    ghost use Rattle.dp_pipeline.specs.declared.unit.Kind.TheVariants.{Stage, TryCommit};
+    ghost use Rattle.dp_pipeline.specs.declared.unit.Kind.TheVariants.{Stage, Worker, TryCommit};
 
     ghost Value = { Counts };
 
-    ghost view = { λ s. elim (s.kind) [ Stage unit ↦ unit | TryCommit unit ↦ unit ] };
+    ghost view = { λ s. elim (s.kind) [ Stage unit ↦ unit | Worker unit ↦ unit | TryCommit unit ↦ unit ] };
 }
 
 impl<'p> Unit<'p> {
@@ -45,6 +47,7 @@ impl<'p> Unit<'p> {
     {
         match &mut self.kind {
             Kind::Stage(unit) => unit.poll(rt, gate),
+            Kind::Worker(unit) => unit.poll(rt, gate),
             Kind::TryCommit(unit) => unit.poll(rt, gate),
         }
     }
@@ -55,6 +58,7 @@ impl<'p> Unit<'p> {
     {
         match &self.kind {
             Kind::Stage(unit) => unit.ended(),
+            Kind::Worker(unit) => unit.ended(),
             Kind::TryCommit(unit) => unit.ended(),
         }
     }

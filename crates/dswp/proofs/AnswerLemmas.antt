@@ -1,5 +1,5 @@
 -- From the parts of the program to the headline.
-use Rattle.std.proofs.Common.{◌≡◌, refl, sym, ◌∙◌, ap, subst, arith, inl, inr, ℕ, ◌<◌, ◌≤◌, List, Option, ℤ, Result, Ok, Err, IfOk, OnOk, None, codes, ◌≢◌, ◌+◌, ◌∷◌, [], ◌++◌, option_map}
+use Rattle.std.proofs.Common.{◌≡◌, refl, sym, ◌∙◌, ap, subst, arith, inl, inr, Bool, Some, ℕ, ◌<◌, ◌≤◌, List, Option, ℤ, Result, Ok, Err, IfOk, OnOk, None, codes, ◌≢◌, ◌+◌, ◌∷◌, [], ◌++◌, option_map}
 use Rattle.dp_tree.specs.declared.Program.{Program}
 use Rattle.dp_tree.specs.Checked.{IsChecked}
 use Rattle.dp_calls.specs.Frames.{outcome}
@@ -30,7 +30,7 @@ use Rattle.dp_run.specs.RunText.{source_run, trace_text, committed_in_all}
 use Rattle.dswp.proofs.definite.AsksOnce.{not_both}
 use Rattle.dswp.specs.Status.{status_after}
 use Rattle.dswp.specs.RunText.{run_text, status_of}
-use Rattle.dswp.specs.Answer.{Contents, Answer, NotTaken, ProgramRefused, InputRefused, PlansRefused, Ran, SitesRefused, SitesListed, OfProgram, OfSites, OfInput, OfPlans, OfRun}
+use Rattle.dswp.specs.Answer.{Contents, Plans, Answer, NotTaken, ProgramRefused, InputRefused, PlansRefused, Ran, SitesRefused, SitesListed, OfProgram, OfSites, OfInput, OfPlans, OfRun}
 use Rattle.dswp.specs.Headline.{Answered, IsCounted, IsEnd, Whole, Short, Nothing, ReadFailed, WriteFailed, OfAnswer, OfFailedRead}
 use Rattle.dswp.specs.Carried.{Names, Finishes, LoadsTexts, Carried, Starved}
 use Rattle.dswp.specs.Carried as carried

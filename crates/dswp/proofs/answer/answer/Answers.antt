@@ -1,22 +1,22 @@
-use Rattle.std.proofs.Common.{refl}
+use Rattle.std.proofs.Common.{◌∙◌, ap, refl, Some}
 use Rattle.dswp.specs.declared.refusal.Refusal.TheVariants.{Words}
 use Rattle.dswp.proofs.AnswerLemmas.{carry_not_taken, refused_counts, sites_count}
 use Rattle.dswp.proofs.answer.answer.Goals as goal
 
 pub returns-in-None-clause-carried : goal.returns-in-None-clause-carried
-returns-in-None-clause-carried g c = carry_not_taken _ _ _ _ _ _ _ _ _ c.in-None.ensures.none refl refl c.refuse.ensures.finishes
+returns-in-None-clause-carried g c = carry_not_taken _ _ _ _ _ _ _ _ _ (rw c.in-None.is at c.in_ok-run.ensures.none) refl refl c.refuse.ensures.finishes
 
 pub returns-in-Some-Run-clause-carried : goal.returns-in-Some-Run-clause-carried
-returns-in-Some-Run-clause-carried g c = c.answer_run.ensures.carried _ (rw c.in-Some-Run.field-0-is at c.in-Some-Run.ensures.some)
+returns-in-Some-Run-clause-carried g c = c.answer_run.ensures.carried _ (rw (c.in-Some-Run.is ∙ ap Some c.in-Some-Run.field-0-is) at c.in_ok-run.ensures.some)
 
 pub returns-in-Some-Check-clause-carried : goal.returns-in-Some-Check-clause-carried
-returns-in-Some-Check-clause-carried g c = c.answer_check.ensures.carried _ (rw c.in-Some-Check.field-0-is at c.in-Some-Check.ensures.some)
+returns-in-Some-Check-clause-carried g c = c.answer_check.ensures.carried _ (rw (c.in-Some-Check.is ∙ ap Some c.in-Some-Check.field-0-is) at c.in_ok-run.ensures.some)
 
 pub returns-in-None-clause-counted : goal.returns-in-None-clause-counted
 returns-in-None-clause-counted g c = refused_counts _ _ _ _ _ _ _ Words c.refuse.ensures.finishes
 
 pub returns-in-Some-Run-clause-counted : goal.returns-in-Some-Run-clause-counted
-returns-in-Some-Run-clause-counted g c = c.answer_run.ensures.counted _ (rw c.in-Some-Run.field-0-is at c.in-Some-Run.ensures.some)
+returns-in-Some-Run-clause-counted g c = c.answer_run.ensures.counted _ (rw (c.in-Some-Run.is ∙ ap Some c.in-Some-Run.field-0-is) at c.in_ok-run.ensures.some)
 
 pub returns-in-Some-Check-clause-counted : goal.returns-in-Some-Check-clause-counted
-returns-in-Some-Check-clause-counted g c = sites_count _ _ _ _ _ _ (rw c.in-Some-Check.field-0-is at c.in-Some-Check.ensures.some)
+returns-in-Some-Check-clause-counted g c = sites_count _ _ _ _ _ _ (rw (c.in-Some-Check.is ∙ ap Some c.in-Some-Check.field-0-is) at c.in_ok-run.ensures.some)

@@ -28,7 +28,7 @@ pub returns-in-Failed-clause-counted : goal.returns-in-Failed-clause-counted
 returns-in-Failed-clause-counted g c words asks = failed_counts _ _ _ _ _ _ _ _ c.fail_read.ensures.finishes
 
 pub run_to_end-requires-clause-given : goal.run_to_end-requires-clause-given
-run_to_end-requires-clause-given g c = given _ _ _ _ _ _ _ _ _ (loaded _ _ _ _ _ _ _ _ (c.in_ok-program.was ∙ ap Ok c.in-Run.is) c.load.ensures.loads)
+run_to_end-requires-clause-given g c κs within = given _ _ _ _ _ _ _ _ _ (loaded _ _ _ _ _ _ _ _ (c.in_ok-program.was ∙ ap Ok c.in-Run.is) c.load.ensures.loads)
 
 pub run_to_end-requires-clause-words : goal.run_to_end-requires-clause-words
-run_to_end-requires-clause-words g c = words_given _ _ _ _ _ _ _ _ _ (loaded _ _ _ _ _ _ _ _ (c.in_ok-program.was ∙ ap Ok c.in-Run.is) c.load.ensures.loads)
+run_to_end-requires-clause-words g c κs within = words_given _ _ _ _ _ _ _ _ _ (loaded _ _ _ _ _ _ _ _ (c.in_ok-program.was ∙ ap Ok c.in-Run.is) c.load.ensures.loads)

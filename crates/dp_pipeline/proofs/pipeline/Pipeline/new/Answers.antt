@@ -12,4 +12,6 @@ units_of-requires-clause-setting c = record {
   programs = c.requires.programs.each;
   some_room = c.requires.lane.0;
   little_room = c.requires.lane.1;
+  some_worker = c.requires.workers.0;
+  few_workers = c.requires.workers.1;
 }

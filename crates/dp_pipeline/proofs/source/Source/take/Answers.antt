@@ -1,4 +1,4 @@
-use Rattle.std.proofs.Common.{◌≡◌, ◌+◌, ℕ, IfOk, OnErr, sym, subst}
+use Rattle.std.proofs.Common.{◌+◌, ℕ, IfOk, OnErr, sym, subst}
 use Rattle.dp_semantics.specs.EpochKey.{EpochKey}
 use Rattle.dp_pipeline.specs.declared.carried.Carried.{Carried}
 use Rattle.dp_pipeline.specs.declared.source.Source.{Source}

@@ -1,0 +1,113 @@
+#!/usr/bin/env bash
+# Times regions that run as pipelines, in one run on this machine:
+#   the generator's loop over 65,536 words beside oneTBB's parallel_pipeline with the same stages (pipeline_tbb.cpp);
+#   a replicated stage of some two thousand operators an iteration, by 1, 2 and 3 workers, beside the same loop unmarked;
+#   a loop beside a memory of 1,000 cells and of 65,536.
+# Each time is the least of nine runs, less the time of an empty program under the same runner.
+# Needs g++ and oneTBB (Debian: libtbb-dev).
+set -eu
+here=$(cd "$(dirname "$0")" && pwd)
+work=$(mktemp -d)
+trap 'rm -rf "$work"' EXIT
+"$here/../dswp" run "$here/../crates/dswp/data/sum_loop.c" >/dev/null   # builds the program if need be
+dswp="$here/../crates/dswp/out/dswp"
+g++ -O2 -std=c++17 -o "$work/tbb" "$here/pipeline_tbb.cpp" -ltbb
+cd "$work"
+printf 'int main() { }\n' >empty.c
+: >empty.in
+
+least() {
+  local best=
+  for _ in 1 2 3 4 5 6 7 8 9; do
+    local start end
+    start=$(date +%s%N)
+    "$@" >/dev/null
+    end=$(date +%s%N)
+    if [ -z "$best" ] || [ $((end - start)) -lt "$best" ]; then best=$((end - start)); fi
+  done
+  echo "$best"
+}
+net() { local with=$1 without=$2; echo $((with > without ? with - without : 1)); }
+ratio() { printf '%.2f' "$(echo "$1 / $2" | bc -l)"; }
+row() { printf '%-46s %9.2f ms  %s\n' "$1" "$(echo "$2 / 1000000" | bc -l)" "${3-}"; }
+
+words() { awk -v n="$1" -v m="$2" 'BEGIN { x = 7; for (k = 0; k < n; k++) { x = (x * 1103515245 + 12345) % 2147483648; print x % m } }'; }
+plan() { printf 'plan 2\nregion 1 words 4096\n'; printf '%s\n' "$@"; printf 'end\n'; }
+nothing=$(least "$dswp" run empty.c)
+
+words 65536 65536 >words.in
+cat >digits.c <<'C'
+int hist[16];
+int sum;
+int main() {
+  int i = 0;
+  #pragma dswp
+  while (i < input_len) {
+    int x = input[i];
+    i = i + 1;
+    int a = x % 16;
+    int b = (a * 5 + 3) % 16;
+    int c = (b * 5 + 3) % 16;
+    int d = (c * 5 + 3) % 16;
+    int y = (d * 5 + 3) % 16;
+    hist[y] = hist[y] + 1;
+    sum = sum + y;
+  }
+}
+C
+plan 'seq 2 4' 'seq 3 5' 'par 6 7 8 9' 'seq 10 11' >digits.plan
+ours=$(net "$(least "$dswp" run digits.c words.in --plan digits.plan --workers 2 --lane 64)" "$nothing")
+tbb=$(net "$(least "$work/tbb" words.in 2 64)" "$(least "$work/tbb" empty.in 2 64)")
+row 'the generator'"'"'s loop, four stages' "$ours" "$(ratio "$ours" 65537000) us an iteration"
+row '  oneTBB' "$tbb" "dswp takes $(ratio "$ours" "$tbb") times as long"
+
+words 1000 65536 >some.in
+heavy() {
+  cat <<C
+int sum;
+int main() {
+  int i = 0;
+  $1
+  while (i < input_len) {
+    int x = input[i];
+    i = i + 1;
+    int turns = 0;
+    while (turns < 333) {
+      x = (x * 5 + 3 + turns) % 65536;
+      turns = turns + 1;
+    }
+    sum = sum + x;
+  }
+}
+C
+}
+heavy '' >unmarked.c
+heavy '#pragma dswp' >heavy.c
+plan 'seq 2 3 4' 'par 5 6 7 8' 'seq 9' >heavy.plan
+alone=$(net "$(least "$dswp" run unmarked.c some.in)" "$nothing")
+row 'two thousand operators, unmarked' "$alone" "$(ratio "$alone" 2331000) ns an operator"
+for workers in 1 2 3; do
+  ours=$(net "$(least "$dswp" run heavy.c some.in --plan heavy.plan --workers $workers --lane 64)" "$nothing")
+  row "  in three stages, workers: $workers" "$ours" "$(ratio "$alone" "$ours") times as fast"
+done
+
+words 20000 1000 >indices.in
+for cells in 1000 65536; do
+  cat >cells.c <<C
+int table[$cells];
+int main() {
+  int i = 0;
+  #pragma dswp
+  while (i < input_len) {
+    int x = input[i];
+    i = i + 1;
+    int y = (x * 7 + 3) % 1000;
+    table[y] = table[y] + 1;
+  }
+}
+C
+  plan 'seq 2 3 4' 'par 5' 'seq 6' >cells.plan
+  ours=$(net "$(least "$dswp" run cells.c indices.in --plan cells.plan --workers 2 --lane 64)" "$nothing")
+  row "a table of $cells cells" "$ours" "${small:+$(ratio "$ours" "${small:-1}") times as long}"
+  small=$ours
+done

@@ -1,0 +1,14 @@
+use Rattle.std.proofs.Common.{ap, ◌∙◌}
+use Rattle.dp_plan.specs.declared.Plan.{Plan}
+use Rattle.dp_plan.specs.Access.{is_replicated}
+use Rattle.dp_pipeline.specs.Keys.{key_of}
+use Rattle.dp_pipeline.proofs.Beginning.{worker_begins}
+use Rattle.dp_pipeline.proofs.Staging.{runs_anywhere}
+use Rattle.dp_pipeline.proofs.staffing.worker.Goals as goal
+
+pub new-unit-requires-clause-start : goal.new-unit-requires-clause-start
+new-unit-requires-clause-start c =
+    worker_begins c.in_ok-stage.stage c.args.at c.args.key.now
+    (runs_anywhere c.in_ok-stage.stage (key_of c.args.key.now.epoch) c.args.key.now.stage
+    (ap (λ (plan : Plan). is_replicated plan c.args.key.now.stage) c.requires.key.plan ∙ c.requires.replicated) c.in_ok-stage.ensures)
+    c.requires.at c.requires.fuel
