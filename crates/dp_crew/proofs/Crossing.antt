@@ -41,6 +41,7 @@ use Rattle.dp_pipeline.proofs.judged.Judged.TheSendSync as judged
 use Rattle.dp_pipeline.proofs.passage.Passage.TheSendSync as passage
 use Rattle.dp_pipeline.proofs.judging.Judging.TheSendSync as judging
 use Rattle.dp_pipeline.proofs.relay.Relay.TheSendSync as relay
+use Rattle.dp_pipeline.proofs.tickets.Tickets.TheSendSync as tickets
 use Rattle.dp_stop.proofs.stop.Stop.TheSendSync as stop
 use Rattle.dp_stop.proofs.stop.StopSeat.TheSendSync as seat
 
@@ -90,11 +91,11 @@ judge_send a = recorded_send (Judge.the_field a).row _ _ (Judge.the_type a).to_o
 
 pub kind_send : (a : NamedLft) → IsSend (Kind.the_row a)
 kind_send a = let s = staged_send a in let j = judge_send a in
-    search (relay.the_send, carried.the_send, judged.the_send, passage.the_send, judging.the_send, sendable) depth 60 fits 20000
+    search (relay.the_send, carried.the_send, judged.the_send, passage.the_send, tickets.the_send, judging.the_send, sendable) depth 60 fits 20000
 
 pub kind_field_send : (a : NamedLft) → IsSend (Kind.the_field a).row
 kind_field_send a = let s = staged_send a in let j = judge_send a in
-    search (relay.the_send, carried.the_send, judged.the_send, passage.the_send, judging.the_send, sendable) depth 60 fits 20000
+    search (relay.the_send, carried.the_send, judged.the_send, passage.the_send, tickets.the_send, judging.the_send, sendable) depth 60 fits 20000
 
 inside_field_send : (a : NamedLft) → IsSend (Inside.the_field a).row
 inside_field_send a = let k = kind_send a in let f = kind_field_send a in search (sendable) depth 60 fits 20000

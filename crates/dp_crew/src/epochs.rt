@@ -2,6 +2,7 @@
 ghost use Rattle.std.specs.Prelude.{◌≡◌, ◌<◌, ◌≤◌, ◌+◌, ◌-◌, ◌^◌, length, None, IfOk, OnOk};
 ghost use Rattle.dp_plan.specs.declared.Plan.{Plan};
 ghost use Rattle.dp_meaning.specs.MachineState.{MachineState};
+ghost use Rattle.dp_pipeline.specs.Programs.{ArePrograms};
 ghost use Rattle.dp_crew.specs.Applied.{HasRoom, left_of};
 ghost use Rattle.dp_crew.specs.Fail.{FaultsAfter};
 ghost use Rattle.dp_crew.specs.InEpoch.{AfterRecovery, IsUnclean, ToBegin, left_by_recovery};
@@ -17,6 +18,7 @@ use crate::report::count_again;
 use crate::scope::run_one_epoch;
 use crate::size::CrewSize;
 use dp_base::{Cause, RegionReport, Row};
+use dp_code::StageProgram;
 use dp_commit::{Committed, Tally};
 use dp_edge::{Gate, Sink};
 use dp_plan::Plan;
@@ -32,6 +34,7 @@ pub(crate) fn run_epochs<'p, R: Threads + Wait + Sync, K: Sink, G: Gate>(
     p: &Program,
     plan: &Plan,
     input: &[i64],
+    programs: &[StageProgram],
     crew: CrewSize,
     mut ledger: Ledger<'p>,
     sink: &mut K,
@@ -39,6 +42,7 @@ pub(crate) fn run_epochs<'p, R: Threads + Wait + Sync, K: Sink, G: Gate>(
     tally: &mut Tally,
 ) -> Result<(Ledger<'p>, RegionEnd), CrewFail>
     requires planned { IsPlanned p.now plan.now }
+    requires programs { ArePrograms p.now plan.now programs.now }
     requires words { length input.now ≤ 65536 }
     requires fuel { ledger.committed.machine.fuel ≤ 1000000000 }
     requires crew { (1 ≤ crew.workers) × (crew.workers ≤ 8) × (1 ≤ crew.lane) × (crew.lane ≤ 64) }
@@ -52,8 +56,9 @@ pub(crate) fn run_epochs<'p, R: Threads + Wait + Sync, K: Sink, G: Gate>(
     ensures tally { IfOk result (λ r. tally.new + r.0.report.recovered_count + ledger.entry.report.iterations ≡ tally.old + r.0.report.iterations + ledger.entry.report.recovered_count) }
 {
     'epochs: loop {
-        let (after, end) =
-            run_one_epoch(rt, alloc, p, plan, input, crew, ledger, sink, gate, tally)?;
+        let (after, end) = run_one_epoch(
+            rt, alloc, p, plan, input, programs, crew, ledger, sink, gate, tally,
+        )?;
         match end {
             EpochEnd::Closed => return Ok((after, RegionEnd::Closed)),
             EpochEnd::Unclean(cause) => {

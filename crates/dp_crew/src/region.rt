@@ -17,6 +17,7 @@ use dp_base::{RegionReport, Row};
 use dp_commit::{Committed, Tally};
 use dp_edge::{Gate, Sink};
 use dp_meaning::Machine;
+use dp_pipeline::stage_programs;
 use dp_plan::Plan;
 use dp_tree::Program;
 use std::alloc::Global;
@@ -52,6 +53,7 @@ pub fn run_region<'p, R: Threads + Wait + Sync, K: Sink, G: Gate>(
     ensures front { OnErr result (WritesFront (prints_bytes (region_prints (region_run machine.entry) plan.now.region)) (K.written sink.old) (K.written sink.new)) }
     ensures tally { OnOk result (tally.new + report.new.recovered_count ≡ tally.old + report.new.iterations) }
 {
+    let programs = stage_programs(alloc, p, plan)?;
     let ledger = Ledger {
         committed: Committed::begin(machine),
         report: RegionReport {
@@ -63,7 +65,19 @@ pub fn run_region<'p, R: Threads + Wait + Sync, K: Sink, G: Gate>(
         },
         waiting: Row::new(alloc),
     };
-    let (ledger, end) = run_epochs(rt, alloc, p, plan, input, crew, ledger, sink, gate, tally)?;
+    let (ledger, end) = run_epochs(
+        rt,
+        alloc,
+        p,
+        plan,
+        input,
+        programs.as_slice(),
+        crew,
+        ledger,
+        sink,
+        gate,
+        tally,
+    )?;
     let mut waiting = ledger.waiting;
     flush(alloc, &mut waiting, sink)?;
     *report = ledger.report;

@@ -1,6 +1,7 @@
 //! One epoch from its beginning to its end: its units in the threads of one scope.
 ghost use Rattle.std.specs.Prelude.{◌≡◌, ◌<◌, ◌≤◌, ◌+◌, ◌-◌, ◌^◌, length, IfOk};
 ghost use Rattle.dp_meaning.specs.MachineState.{MachineState};
+ghost use Rattle.dp_pipeline.specs.Programs.{ArePrograms};
 ghost use Rattle.dp_crew.specs.Applied.{HasRoom, left_of};
 ghost use Rattle.dp_crew.specs.Fail.{FaultsAfter};
 ghost use Rattle.dp_crew.specs.InEpoch.{EpochEnds, ToBegin, left_by_epoch};
@@ -13,9 +14,10 @@ use crate::fail::CrewFail;
 use crate::ledger::Ledger;
 use crate::making::pipeline_here;
 use crate::size::CrewSize;
+use dp_code::StageProgram;
 use dp_commit::Tally;
 use dp_edge::{Gate, Sink};
-use dp_pipeline::{Pipeline, stage_programs};
+use dp_pipeline::Pipeline;
 use dp_plan::Plan;
 use dp_stop::Stop;
 use dp_tree::Program;
@@ -31,6 +33,7 @@ pub(crate) fn run_one_epoch<'p, R: Threads + Wait + Sync, K: Sink, G: Gate>(
     p: &Program,
     plan: &Plan,
     input: &[i64],
+    programs: &[StageProgram],
     crew: CrewSize,
     ledger: Ledger<'p>,
     sink: &mut K,
@@ -38,6 +41,7 @@ pub(crate) fn run_one_epoch<'p, R: Threads + Wait + Sync, K: Sink, G: Gate>(
     tally: &mut Tally,
 ) -> Result<(Ledger<'p>, EpochEnd), CrewFail>
     requires planned { IsPlanned p.now plan.now }
+    requires programs { ArePrograms p.now plan.now programs.now }
     requires words { length input.now ≤ 65536 }
     requires fuel { ledger.committed.machine.fuel ≤ 1000000000 }
     requires crew { (1 ≤ crew.workers) × (crew.workers ≤ 8) × (1 ≤ crew.lane) × (crew.lane ≤ 64) }
@@ -53,14 +57,13 @@ pub(crate) fn run_one_epoch<'p, R: Threads + Wait + Sync, K: Sink, G: Gate>(
     ensures room { IfOk result (λ r. HasRoom tally.new r.0.committed) }
     ensures left { IfOk result (λ r. left_of r.0.committed ≤ left_of ledger.entry.committed) }
 {
-    let programs = stage_programs(alloc, p, plan)?;
     let (flag, mut setter) = Stop::new(alloc)?;
     let Pipeline { units, verdicts } = pipeline_here(
         alloc,
         p,
         plan,
         input,
-        programs.as_slice(),
+        programs,
         crew,
         &ledger.committed,
         &flag,
