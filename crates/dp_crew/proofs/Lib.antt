@@ -19,3 +19,4 @@ pub mod Recovered
 pub mod EpochLemmas
 pub mod Starting
 pub mod WholeRegion
+pub mod Crossing

@@ -2,6 +2,7 @@
 ghost use Rattle.std.specs.Prelude.{◌≡◌, ◌<◌, ◌≤◌, ◌+◌, ◌-◌, ◌^◌, length, None, IfOk, OnOk};
 ghost use Rattle.dp_plan.specs.declared.Plan.{Plan};
 ghost use Rattle.dp_meaning.specs.MachineState.{MachineState};
+ghost use Rattle.dp_pipeline.specs.Programs.{ArePrograms};
 ghost use Rattle.dp_crew.specs.Applied.{HasRoom, left_of};
 ghost use Rattle.dp_crew.specs.Fail.{FaultsAfter};
 ghost use Rattle.dp_crew.specs.InEpoch.{AfterRecovery, IsUnclean, ToBegin, left_by_recovery};
@@ -11,11 +12,13 @@ ghost use Rattle.dp_crew.specs.RegionRun.{IsPlanned};
 
 use crate::ends::{EpochEnd, RegionEnd};
 use crate::fail::CrewFail;
+use crate::ledger::Ledger;
 use crate::reexecute::reexecute;
 use crate::report::count_again;
 use crate::scope::run_one_epoch;
 use crate::size::CrewSize;
 use dp_base::{Cause, RegionReport, Row};
+use dp_code::StageProgram;
 use dp_commit::{Committed, Tally};
 use dp_edge::{Gate, Sink};
 use dp_plan::Plan;
@@ -31,39 +34,75 @@ pub(crate) fn run_epochs<'p, R: Threads + Wait + Sync, K: Sink, G: Gate>(
     p: &Program,
     plan: &Plan,
     input: &[i64],
+    programs: &[StageProgram],
     crew: CrewSize,
-    committed: &mut Committed<'p>,
-    report: &mut RegionReport,
-    waiting: &mut Row<i64>,
+    mut ledger: Ledger<'p>,
     sink: &mut K,
     gate: &G,
     tally: &mut Tally,
-) -> Result<RegionEnd, CrewFail>
+) -> Result<(Ledger<'p>, RegionEnd), CrewFail>
     requires planned { IsPlanned p.now plan.now }
+    requires programs { ArePrograms p.now plan.now programs.now }
     requires words { length input.now ≤ 65536 }
-    requires fuel { committed.old.machine.fuel ≤ 1000000000 }
+    requires fuel { ledger.committed.machine.fuel ≤ 1000000000 }
     requires crew { (1 ≤ crew.workers) × (crew.workers ≤ 8) × (1 ≤ crew.lane) × (crew.lane ≤ 64) }
     requires sink { K.faults sink.old < 2 ^ 64 - 1 }
-    requires start { (first : MachineState) × ToBegin p.now plan.now input.now first committed.old report.old }
-    requires room { HasRoom tally.old committed.old }
+    requires start { (first : MachineState) × ToBegin p.now plan.now input.now first ledger.committed ledger.report }
+    requires room { HasRoom tally.old ledger.committed }
     ensures faults { FaultsAfter result (K.faults sink.old) (K.faults sink.new) }
-    ensures ok { IfOk result (λ end. (first : MachineState) → ToBegin p.now plan.now input.now first committed.old report.old → RegionDone plan.now first committed.new report.new end) }
-    ensures streams { (first : MachineState) → ToBegin p.now plan.now input.now first committed.old report.old →
-        Streams result (to_come plan.now first waiting.old committed.old.count) (λ _. waiting.new) (K.written sink.old) (K.written sink.new) }
-    ensures tally { OnOk result (tally.new + report.new.recovered_count + report.old.iterations ≡ tally.old + report.new.iterations + report.old.recovered_count) }
+    ensures ok { IfOk result (λ r. (first : MachineState) → ToBegin p.now plan.now input.now first ledger.entry.committed ledger.entry.report → RegionDone plan.now first r.0.committed r.0.report r.1) }
+    ensures streams { (first : MachineState) → ToBegin p.now plan.now input.now first ledger.entry.committed ledger.entry.report →
+        Streams result (to_come plan.now first ledger.entry.waiting ledger.entry.committed.count) (λ r. r.0.waiting) (K.written sink.old) (K.written sink.new) }
+    ensures tally { IfOk result (λ r. tally.new + r.0.report.recovered_count + ledger.entry.report.iterations ≡ tally.old + r.0.report.iterations + ledger.entry.report.recovered_count) }
 {
     'epochs: loop {
-        match run_one_epoch(
-            rt, alloc, p, plan, input, crew, committed, report, waiting, sink, gate, tally,
-        )? {
-            EpochEnd::Closed => return Ok(RegionEnd::Closed),
+        let (after, end) = run_one_epoch(
+            rt, alloc, p, plan, input, programs, crew, ledger, sink, gate, tally,
+        )?;
+        match end {
+            EpochEnd::Closed => return Ok((after, RegionEnd::Closed)),
             EpochEnd::Unclean(cause) => {
-                match recover_iteration(alloc, committed, report, cause, waiting, sink)? {
-                    Some(end) => return Ok(end),
-                    None => {}
+                let (next, end) = recover(alloc, after, cause, sink)?;
+                match end {
+                    Some(end) => return Ok((next, end)),
+                    None => ledger = next,
                 }
             }
         }
+    }
+}
+
+/// Executes the iteration again that isn't clean.
+fn recover<'p, K: Sink>(
+    alloc: Global,
+    ledger: Ledger<'p>,
+    cause: Cause,
+    sink: &mut K,
+) -> Result<(Ledger<'p>, Option<RegionEnd>), CrewFail>
+    requires sink { K.faults sink.old < 2 ^ 64 - 1 }
+    requires unclean { (plan : Plan) × (first : MachineState) × IsUnclean plan first ledger.committed ledger.report cause }
+    ensures faults { FaultsAfter result (K.faults sink.old) (K.faults sink.new) }
+    ensures ok { IfOk result (λ r. (plan : Plan) (first : MachineState) → IsUnclean plan first ledger.entry.committed ledger.entry.report cause → AfterRecovery plan first r.0.committed r.0.report r.1) }
+    ensures streams { (plan : Plan) (first : MachineState) → IsUnclean plan first ledger.entry.committed ledger.entry.report cause →
+        Streams result (to_come plan first ledger.entry.waiting ledger.entry.committed.count) (λ r. left_by_recovery plan first r.0.waiting r.0.committed.count r.1) (K.written sink.old) (K.written sink.new) }
+    ensures counts { IfOk result (λ r. r.0.report.iterations + ledger.entry.report.recovered_count ≡ ledger.entry.report.iterations + r.0.report.recovered_count) }
+    ensures left { IfOk result (λ r. r.1 ≡ None → left_of r.0.committed < left_of ledger.entry.committed) }
+{
+    let Ledger {
+        mut committed,
+        mut report,
+        mut waiting,
+    } = ledger;
+    match recover_iteration(alloc, &mut committed, &mut report, cause, &mut waiting, sink) {
+        Ok(end) => Ok((
+            Ledger {
+                committed,
+                report,
+                waiting,
+            },
+            end,
+        )),
+        Err(fail) => Err(fail),
     }
 }
 

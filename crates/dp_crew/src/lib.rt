@@ -1,10 +1,12 @@
 //! A region from start to end: its epochs, one after the other, and its report.
 #![tactic(auto)]
 
+mod committing;
 mod ends;
 mod epoch;
 mod epochs;
 mod fail;
+mod ledger;
 mod making;
 mod reexecute;
 mod region;
@@ -12,6 +14,7 @@ mod report;
 mod scope;
 mod size;
 mod started;
+mod threads;
 mod verdicts;
 mod waiting;
 mod writing;

@@ -10,12 +10,14 @@ ghost use Rattle.dp_crew.specs.RegionRun.{IsPlanned, RegionRan, RegionStart, reg
 use crate::ends::RegionEnd;
 use crate::epochs::run_epochs;
 use crate::fail::CrewFail;
+use crate::ledger::Ledger;
 use crate::size::CrewSize;
 use crate::waiting::flush;
 use dp_base::{RegionReport, Row};
 use dp_commit::{Committed, Tally};
 use dp_edge::{Gate, Sink};
 use dp_meaning::Machine;
+use dp_pipeline::stage_programs;
 use dp_plan::Plan;
 use dp_tree::Program;
 use std::alloc::Global;
@@ -51,22 +53,33 @@ pub fn run_region<'p, R: Threads + Wait + Sync, K: Sink, G: Gate>(
     ensures front { OnErr result (WritesFront (prints_bytes (region_prints (region_run machine.entry) plan.now.region)) (K.written sink.old) (K.written sink.new)) }
     ensures tally { OnOk result (tally.new + report.new.recovered_count ≡ tally.old + report.new.iterations) }
 {
-    let mut committed = Committed::begin(machine);
-    let mut waiting = Row::new(alloc);
-    let end = run_epochs(
+    let programs = stage_programs(alloc, p, plan)?;
+    let ledger = Ledger {
+        committed: Committed::begin(machine),
+        report: RegionReport {
+            region: plan.region,
+            iterations: 0,
+            recovered_count: 0,
+            recovered: Row::new(alloc),
+            causes: Row::new(alloc),
+        },
+        waiting: Row::new(alloc),
+    };
+    let (ledger, end) = run_epochs(
         rt,
         alloc,
         p,
         plan,
         input,
+        programs.as_slice(),
         crew,
-        &mut committed,
-        report,
-        &mut waiting,
+        ledger,
         sink,
         gate,
         tally,
     )?;
+    let mut waiting = ledger.waiting;
     flush(alloc, &mut waiting, sink)?;
-    Ok((committed.finish(), end))
+    *report = ledger.report;
+    Ok((ledger.committed.finish(), end))
 }

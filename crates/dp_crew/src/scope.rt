@@ -1,21 +1,23 @@
 //! One epoch from its beginning to its end: its units in the threads of one scope.
-ghost use Rattle.std.specs.Prelude.{◌≡◌, ◌<◌, ◌≤◌, ◌+◌, ◌-◌, ◌^◌, length, IfOk, OnOk};
+ghost use Rattle.std.specs.Prelude.{◌≡◌, ◌<◌, ◌≤◌, ◌+◌, ◌-◌, ◌^◌, length, IfOk};
 ghost use Rattle.dp_meaning.specs.MachineState.{MachineState};
+ghost use Rattle.dp_pipeline.specs.Programs.{ArePrograms};
 ghost use Rattle.dp_crew.specs.Applied.{HasRoom, left_of};
 ghost use Rattle.dp_crew.specs.Fail.{FaultsAfter};
 ghost use Rattle.dp_crew.specs.InEpoch.{EpochEnds, ToBegin, left_by_epoch};
 ghost use Rattle.dp_crew.specs.Output.{Streams, to_come};
 ghost use Rattle.dp_crew.specs.RegionRun.{IsPlanned};
 
+use crate::committing::commit_in_threads;
 use crate::ends::EpochEnd;
 use crate::fail::CrewFail;
+use crate::ledger::Ledger;
 use crate::making::pipeline_here;
 use crate::size::CrewSize;
-use crate::started::commit_started;
-use dp_base::{RegionReport, Row};
-use dp_commit::{Committed, Tally};
+use dp_code::StageProgram;
+use dp_commit::Tally;
 use dp_edge::{Gate, Sink};
-use dp_pipeline::{Pipeline, stage_programs};
+use dp_pipeline::Pipeline;
 use dp_plan::Plan;
 use dp_stop::Stop;
 use dp_tree::Program;
@@ -31,53 +33,43 @@ pub(crate) fn run_one_epoch<'p, R: Threads + Wait + Sync, K: Sink, G: Gate>(
     p: &Program,
     plan: &Plan,
     input: &[i64],
+    programs: &[StageProgram],
     crew: CrewSize,
-    committed: &mut Committed<'p>,
-    report: &mut RegionReport,
-    waiting: &mut Row<i64>,
+    ledger: Ledger<'p>,
     sink: &mut K,
     gate: &G,
     tally: &mut Tally,
-) -> Result<EpochEnd, CrewFail>
+) -> Result<(Ledger<'p>, EpochEnd), CrewFail>
     requires planned { IsPlanned p.now plan.now }
+    requires programs { ArePrograms p.now plan.now programs.now }
     requires words { length input.now ≤ 65536 }
-    requires fuel { committed.old.machine.fuel ≤ 1000000000 }
+    requires fuel { ledger.committed.machine.fuel ≤ 1000000000 }
     requires crew { (1 ≤ crew.workers) × (crew.workers ≤ 8) × (1 ≤ crew.lane) × (crew.lane ≤ 64) }
     requires sink { K.faults sink.old < 2 ^ 64 - 1 }
-    requires epoch { (first : MachineState) × ToBegin p.now plan.now input.now first committed.old report.old }
-    requires room { HasRoom tally.old committed.old }
+    requires epoch { (first : MachineState) × ToBegin p.now plan.now input.now first ledger.committed ledger.report }
+    requires room { HasRoom tally.old ledger.committed }
     ensures faults { FaultsAfter result (K.faults sink.old) (K.faults sink.new) }
-    ensures ok { IfOk result (λ end. (first : MachineState) → ToBegin p.now plan.now input.now first committed.old report.old → EpochEnds plan.now first committed.new report.new end) }
-    ensures streams { (first : MachineState) → ToBegin p.now plan.now input.now first committed.old report.old →
-        Streams result (to_come plan.now first waiting.old committed.old.count) (left_by_epoch plan.now first waiting.new committed.new.count) (K.written sink.old) (K.written sink.new) }
-    ensures report { OnOk result (report.new ≡ record report.old { iterations = committed.new.count }) }
-    ensures tally { OnOk result (tally.new + committed.old.count ≡ tally.old + committed.new.count) }
-    ensures room { OnOk result (HasRoom tally.new committed.new) }
-    ensures left { OnOk result (left_of committed.new ≤ left_of committed.old) }
+    ensures ok { IfOk result (λ r. (first : MachineState) → ToBegin p.now plan.now input.now first ledger.entry.committed ledger.entry.report → EpochEnds plan.now first r.0.committed r.0.report r.1) }
+    ensures streams { (first : MachineState) → ToBegin p.now plan.now input.now first ledger.entry.committed ledger.entry.report →
+        Streams result (to_come plan.now first ledger.entry.waiting ledger.entry.committed.count) (λ r. left_by_epoch plan.now first r.0.waiting r.0.committed.count r.1) (K.written sink.old) (K.written sink.new) }
+    ensures report { IfOk result (λ r. r.0.report ≡ record ledger.entry.report { iterations = r.0.committed.count }) }
+    ensures tally { IfOk result (λ r. tally.new + ledger.entry.committed.count ≡ tally.old + r.0.committed.count) }
+    ensures room { IfOk result (λ r. HasRoom tally.new r.0.committed) }
+    ensures left { IfOk result (λ r. left_of r.0.committed ≤ left_of ledger.entry.committed) }
 {
-    let programs = stage_programs(alloc, p, plan)?;
     let (flag, mut setter) = Stop::new(alloc)?;
     let Pipeline { units, verdicts } = pipeline_here(
         alloc,
         p,
         plan,
         input,
-        programs.as_slice(),
+        programs,
         crew,
-        committed,
+        &ledger.committed,
         &flag,
         &mut setter,
     )?;
-    let mut verdicts = verdicts.polling(units);
-    commit_started(
-        Ok(()),
-        rt,
-        alloc,
-        &mut verdicts,
-        committed,
-        report,
-        waiting,
-        sink,
-        tally,
+    commit_in_threads(
+        rt, alloc, units, verdicts, &flag, setter, ledger, sink, gate, tally,
     )
 }

@@ -7,13 +7,13 @@ use Rattle.dp_crew.proofs.epochs.run_epochs.Given as goal
 
 abbrev pub invariant-epochs : goal.invariant-epochs
 invariant-epochs g l = record {
-  begins : (first : MachineState) → ToBegin l.fn.p l.fn.plan l.fn.input first l.fn.committed l.fn.report → ToBegin l.fn.p l.fn.plan l.fn.input first l.committed l.report;
-  tally : l.tally + l.report.recovered_count + l.fn.report.iterations ≡ l.fn.tally + l.report.iterations + l.fn.report.recovered_count;
-  room : HasRoom l.tally l.committed;
-  emits : (first : MachineState) → ToBegin l.fn.p l.fn.plan l.fn.input first l.fn.committed l.fn.report →
-      Emits (to_come l.fn.plan first l.fn.waiting l.fn.committed.count) (to_come l.fn.plan first l.waiting l.committed.count) (g.K.Sink.written l.fn.sink) (g.K.Sink.written l.sink);
+  begins : (first : MachineState) → ToBegin l.fn.p l.fn.plan l.fn.input first l.fn.ledger.committed l.fn.ledger.report → ToBegin l.fn.p l.fn.plan l.fn.input first l.ledger.committed l.ledger.report;
+  tally : l.tally + l.ledger.report.recovered_count + l.fn.ledger.report.iterations ≡ l.fn.tally + l.ledger.report.iterations + l.fn.ledger.report.recovered_count;
+  room : HasRoom l.tally l.ledger.committed;
+  emits : (first : MachineState) → ToBegin l.fn.p l.fn.plan l.fn.input first l.fn.ledger.committed l.fn.ledger.report →
+      Emits (to_come l.fn.plan first l.fn.ledger.waiting l.fn.ledger.committed.count) (to_come l.fn.plan first l.ledger.waiting l.ledger.committed.count) (g.K.Sink.written l.fn.sink) (g.K.Sink.written l.sink);
   faults : g.K.Sink.faults l.sink ≡ g.K.Sink.faults l.fn.sink;
 }
 
 abbrev pub decreases-epochs : goal.decreases-epochs
-decreases-epochs g l = left_of l.committed
+decreases-epochs g l = left_of l.ledger.committed

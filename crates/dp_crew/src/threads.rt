@@ -1,0 +1,109 @@
+//! The threads of an epoch's units.
+use crossbeam_utils::Backoff;
+use dp_base::{NoMemory, Row};
+use dp_edge::Gate;
+use dp_pipeline::{Polled, Unit};
+use std::alloc::Global;
+use std::sync::{Mutex, Wait};
+use std::thread::{JoinHandle, Scope, Threads};
+
+/// A unit lies here until its thread, or the caller, takes it out.
+pub(crate) type Slot<'u> = Mutex<Option<Unit<'u>>>;
+
+/// The threads that were started, and the units for which there was none.
+#[derive(Drop)]
+pub(crate) struct Started<'u> {
+    pub(crate) threads: Vec<JoinHandle<()>>,
+    pub(crate) own: Row<Unit<'u>>,
+}
+
+/// Room for so many threads or units.
+pub(crate) fn none_started<'u>(alloc: Global, count: usize) -> Result<Started<'u>, NoMemory> {
+    Ok(Started {
+        threads: Vec::with_capacity(alloc, count)?,
+        own: Row::with_capacity(alloc, count)?,
+    })
+}
+
+/// Lays each unit into a slot of its own.
+pub(crate) fn slots_of<'u>(
+    alloc: Global,
+    units: Row<Unit<'u>>,
+) -> Result<Vec<Slot<'u>>, NoMemory> {
+    let mut slots = Vec::with_capacity(alloc, units.len())?;
+    for unit in units.into_vec() {
+        slots.push(Mutex::new(Some(unit)))?;
+    }
+    Ok(slots)
+}
+
+/// Starts a thread for each slot. A unit whose thread couldn't be started is the caller's own.
+pub(crate) fn start<'s, 'u, E, R: Wait + Sync, G: Gate>(
+    scope: &Scope<'s, E>,
+    rt: &'s R,
+    slots: &'s [Slot<'u>],
+    gate: &'s G,
+    started: &mut Started<'u>,
+) -> Result<(), NoMemory> {
+    for slot in slots {
+        match start_one(scope, rt, slot, gate) {
+            Some(thread) => started.threads.push(thread)?,
+            None => keep(rt, slot, started)?,
+        }
+    }
+    Ok(())
+}
+
+/// Starts a thread for the slot, if one can be started.
+fn start_one<'s, 'u, E, R: Wait + Sync, G: Gate>(
+    scope: &Scope<'s, E>,
+    rt: &'s R,
+    slot: &'s Slot<'u>,
+    gate: &'s G,
+) -> Option<JoinHandle<()>> {
+    match scope.spawn(move || run_unit(rt, slot, gate)) {
+        Ok(thread) => Some(thread),
+        Err(refused) => {
+            drop(refused);
+            None
+        }
+    }
+}
+
+/// Waits until each thread has ended.
+pub(crate) fn join_all<R: Threads>(rt: &R, threads: Vec<JoinHandle<()>>) {
+    for thread in threads {
+        thread.join(rt);
+    }
+}
+
+/// Takes a unit that has no thread out of its slot, for the caller to poll.
+fn keep<'u, R: Wait>(
+    rt: &R,
+    slot: &Slot<'u>,
+    started: &mut Started<'u>,
+) -> Result<(), NoMemory> {
+    match take_unit(rt, slot) {
+        Some(unit) => started.own.push(unit),
+        None => Ok(()),
+    }
+}
+
+/// What a unit's thread does: it polls the unit until it has ended.
+fn run_unit<R: Wait, G: Gate>(rt: &R, slot: &Slot<'_>, gate: &G) {
+    let Some(mut unit) = take_unit(rt, slot) else {
+        return;
+    };
+    let backoff = Backoff::new();
+    for _ in rt.forever() {
+        match unit.poll(rt, gate) {
+            Polled::Moved => backoff.reset(),
+            Polled::Idle(_) => backoff.snooze(),
+            Polled::Ended => return,
+        }
+    }
+}
+
+fn take_unit<'u, R: Wait>(rt: &R, slot: &Slot<'u>) -> Option<Unit<'u>> {
+    slot.lock(rt).take()
+}
