@@ -57,11 +57,7 @@ pub(crate) fn commit_in_threads<'p, 'u, R: Threads + Wait + Sync, K: Sink, G: Ga
     let (sink_back, tally_back, end) = thread::scope(
         thread::scope_env(),
         rt,
-        move |scope| -> (
-            &mut K,
-            &mut Tally,
-            Result<(Ledger<'_>, EpochEnd), CrewFail>,
-        )
+        move |scope| -> (&mut K, &mut Tally, Result<(Ledger<'_>, EpochEnd), CrewFail>)
             requires setter { setter.flag ≡ stop.now }
             requires faults { K.faults lent_sink.now < 2 ^ 64 - 1 }
             requires verdicts { BeginsAt verdicts.key verdicts.given ledger.committed }

@@ -93,7 +93,14 @@ fn recover<'p, K: Sink>(
         mut report,
         mut waiting,
     } = ledger;
-    match recover_iteration(alloc, &mut committed, &mut report, cause, &mut waiting, sink) {
+    match recover_iteration(
+        alloc,
+        &mut committed,
+        &mut report,
+        cause,
+        &mut waiting,
+        sink,
+    ) {
         Ok(end) => Ok((
             Ledger {
                 committed,

@@ -11,6 +11,7 @@ use crate::ends::RegionEnd;
 use crate::epochs::run_epochs;
 use crate::fail::CrewFail;
 use crate::ledger::Ledger;
+use crate::report::nothing_counted;
 use crate::size::CrewSize;
 use crate::waiting::flush;
 use dp_base::{RegionReport, Row};
@@ -54,16 +55,12 @@ pub fn run_region<'p, R: Threads + Wait + Sync, K: Sink, G: Gate>(
     ensures tally { OnOk result (tally.new + report.new.recovered_count ≡ tally.old + report.new.iterations) }
 {
     let programs = stage_programs(alloc, p, plan)?;
-    let ledger = Ledger {
-        committed: Committed::begin(machine),
-        report: RegionReport {
-            region: plan.region,
-            iterations: 0,
-            recovered_count: 0,
-            recovered: Row::new(alloc),
-            causes: Row::new(alloc),
-        },
-        waiting: Row::new(alloc),
+    let committed = Committed::begin(machine);
+    let waiting = Row::new(alloc);
+    let begun = Ledger {
+        committed,
+        report: nothing_counted(alloc, plan.region),
+        waiting,
     };
     let (ledger, end) = run_epochs(
         rt,
@@ -73,13 +70,17 @@ pub fn run_region<'p, R: Threads + Wait + Sync, K: Sink, G: Gate>(
         input,
         programs.as_slice(),
         crew,
-        ledger,
+        begun,
         sink,
         gate,
         tally,
     )?;
-    let mut waiting = ledger.waiting;
+    let Ledger {
+        committed,
+        report: counted,
+        mut waiting,
+    } = ledger;
     flush(alloc, &mut waiting, sink)?;
-    *report = ledger.report;
-    Ok((ledger.committed.finish(), end))
+    *report = counted;
+    Ok((committed.finish(), end))
 }

@@ -3,10 +3,24 @@ ghost use Rattle.std.specs.Prelude.{◌≡◌, ◌<◌, ◌+◌, ◌-◌, ◌^�
 ghost use Rattle.dp_base.specs.declared.Cause.{Cause as cause_value};
 ghost use Rattle.dp_semantics.specs.Reported.{report_of};
 
-use dp_base::{Cause, NoMemory, RegionReport};
+use dp_base::{Cause, NoMemory, RegionReport, Row};
+use std::alloc::Global;
 
 /// So many of the iterations that are executed again have their numbers and causes in the report.
 const LISTED: usize = 1000;
+
+/// The report of this region before its first iteration.
+pub(crate) fn nothing_counted(alloc: Global, region: u32) -> RegionReport
+    ensures { result ≡ record { region = region; iterations = 0; recovered_count = 0; recovered = []; causes = [] } }
+{
+    RegionReport {
+        region,
+        iterations: 0,
+        recovered_count: 0,
+        recovered: Row::new(alloc),
+        causes: Row::new(alloc),
+    }
+}
 
 /// Counts an iteration that is executed again for this cause.
 #[tactic(auto, using(crate::proofs::Counting::report_counts))]

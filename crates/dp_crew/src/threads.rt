@@ -26,10 +26,7 @@ pub(crate) fn none_started<'u>(alloc: Global, count: usize) -> Result<Started<'u
 }
 
 /// Lays each unit into a slot of its own.
-pub(crate) fn slots_of<'u>(
-    alloc: Global,
-    units: Row<Unit<'u>>,
-) -> Result<Vec<Slot<'u>>, NoMemory> {
+pub(crate) fn slots_of<'u>(alloc: Global, units: Row<Unit<'u>>) -> Result<Vec<Slot<'u>>, NoMemory> {
     let mut slots = Vec::with_capacity(alloc, units.len())?;
     for unit in units.into_vec() {
         slots.push(Mutex::new(Some(unit)))?;
@@ -78,11 +75,7 @@ pub(crate) fn join_all<R: Threads>(rt: &R, threads: Vec<JoinHandle<()>>) {
 }
 
 /// Takes a unit that has no thread out of its slot, for the caller to poll.
-fn keep<'u, R: Wait>(
-    rt: &R,
-    slot: &Slot<'u>,
-    started: &mut Started<'u>,
-) -> Result<(), NoMemory> {
+fn keep<'u, R: Wait>(rt: &R, slot: &Slot<'u>, started: &mut Started<'u>) -> Result<(), NoMemory> {
     match take_unit(rt, slot) {
         Some(unit) => started.own.push(unit),
         None => Ok(()),
