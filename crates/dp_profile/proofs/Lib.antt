@@ -9,7 +9,9 @@ pub mod LineSound
 pub mod Runs
 pub mod Fitting
 pub mod RunComplete
+pub mod TestLemmas
 pub mod RunSound
+pub mod NextLine
 pub mod RunEnds
 pub mod TextLemmas
 pub mod SoFar

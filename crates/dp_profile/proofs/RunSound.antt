@@ -1,6 +1,5 @@
 -- Lines that are read one after the other begin the text of a profile.
-use Rattle.std.proofs.Common.{◌≡◌, ◌⊎◌, inl, inr, ℕ, suc, ◌+◌, ◌-◌, ◌<◌, ◌≤◌, ◌==◌, Bool, true, false, ◌&&◌, ◌||◌, nat_le, nat_lt, List, [], ◌∷◌, ◌++◌, map, length, Some, None, slice_get, refl, sym, ap, subst, ◌∙◌, append_assoc, append-nil, length-append, rules, arith, eqb-true}
-use Rattle.std.specs.Prelude.{if◌then◌else◌}
+use Rattle.std.proofs.Common.{◌≡◌, ◌⊎◌, inl, inr, ℕ, ◌+◌, ◌-◌, ◌<◌, ◌≤◌, ◌==◌, true, false, ◌&&◌, nat_le, nat_lt, List, [], ◌∷◌, ◌++◌, map, length, Some, slice_get, refl, sym, ap, subst, ◌∙◌, append_assoc, append-nil, length-append, rules, arith, eqb-true}
 use Rattle.dp_base.specs.declared.SiteId.{SiteId}
 use Rattle.dp_plan.specs.PlanText.{Each}
 use Rattle.dp_plan.proofs.RunSound.{map-append, each-append}
@@ -17,6 +16,7 @@ use Rattle.dp_profile.specs.Reading.{begun, state, opened, last_sites, is_counte
 use Rattle.dp_profile.proofs.Fitting.{seam, past, counts_many, counts_more, runs_more, regions_many, regions_fit_more, regions_one, ascend_more}
 use Rattle.dp_profile.proofs.LineComplete.{LineFits}
 use Rattle.dp_profile.proofs.RunComplete.{counted, within, over, sites_here}
+use Rattle.dp_profile.proofs.TestLemmas.{Both, both, taken, empty, FitsAt, fits_at}
 
 -- the state behind lines that may begin a text for these regions
 pub data Reads (all : List (List RegionSite)) : Reader → List Line → Type 0 where
@@ -26,37 +26,6 @@ pub data Reads (all : List (List RegionSite)) : Reader → List Line → Type 0 
       → all ≡ before ++ (had ++ left) ∷ later → RegionsFit before done → CountsFit had counts → Each (FlowFits (had ++ left)) flows → Ascend flows → (left ≡ []) ⊎ (flows ≡ [])
       → Reads all (within done (counted counts flows)) (line.Head ∷ (regions_lines 1 before done ++ region_lines (1 + length before) had (counted counts flows)))
   at_end : (done : List RegionProfile) → RegionsFit all done → Reads all (over done) (line.Head ∷ (regions_lines 1 all done ++ line.End ∷ []))
-
--- ---- what a test tells
-
-taken : {X : Type 0} (t : Bool) (x y : X) → (if t then Some x else None) ≡ Some y → (t ≡ true) × (x ≡ y)
-taken true x y h = (refl, cc h)
-taken false x y h = absurd (cc h)
-
-record Both (a b : Bool) : Type 0 where
-  first : a ≡ true
-  second : b ≡ true
-
-both : (a b : Bool) → (a && b) ≡ true → Both a b
-both true b h = record { first = refl; second = h }
-both false b h = absurd (cc h)
-
-empty : {A : Type 0} (xs : List A) → length xs ≡ 0 → xs ≡ []
-empty [] h = refl
-empty (x ∷ xs) h = absurd (cc h)
-
-record FitsAt (site : SiteId) (c : SiteCount) (s : RegionSite) : Type 0 where
-  same : s.site ≡ site
-  condition : s.condition ≡ false → c.nonzero ≡ 0
-
-fits_at : (site : SiteId) (c : SiteCount) (s : RegionSite) → counts_at site c (Some s) ≡ true → FitsAt site c s
-fits_at site c s h =
-    let b = both (s.site.0 == site.0) (s.condition || (c.nonzero == 0)) h in
-    record { same = ap (λ (n : ℕ). record { 0 = n }) (eqb-true s.site.0 site.0 b.first); condition = by s.condition b.second }
-  where
-    by : (condition : Bool) → (condition || (c.nonzero == 0)) ≡ true → condition ≡ false → c.nonzero ≡ 0
-    by true h e = absurd (cc e)
-    by false h e = eqb-true c.nonzero 0 h
 
 module _ (all before later : List (List RegionSite)) (had left : List RegionSite) (done : List RegionProfile) (counts : List SiteCount) (flows : List Flow)
     (all_is : all ≡ before ++ (had ++ left) ∷ later) (done_fit : RegionsFit before done) (counts_fit : CountsFit had counts)
@@ -97,11 +66,11 @@ module _ (all before later : List (List RegionSite)) (had left : List RegionSite
   lines_closed : regions_lines 1 (before ++ had ∷ []) (done ++ last ∷ []) ≡ regions_lines 1 before done ++ region_lines (1 + length before) had (counted counts flows)
   lines_closed = regions_one before had done last done_fit
 
-  head_after : (s : Reader) → next all (within done (counted counts flows)) line.Head ≡ Some s → Reads all s (so_far ++ line.Head ∷ [])
+  pub head_after : (s : Reader) → next all (within done (counted counts flows)) line.Head ≡ Some s → Reads all s (so_far ++ line.Head ∷ [])
   unfolding next
   head_after s h = absurd (cc h)
 
-  region_after : (r : ℕ) (s : Reader) → next all (within done (counted counts flows)) (line.Region r) ≡ Some s → Reads all s (so_far ++ line.Region r ∷ [])
+  pub region_after : (r : ℕ) (s : Reader) → next all (within done (counted counts flows)) (line.Region r) ≡ Some s → Reads all s (so_far ++ line.Region r ∷ [])
   unfolding next
   region_after r s h = next_one later (all_here none) low
     where
@@ -141,7 +110,7 @@ module _ (all before later : List (List RegionSite)) (had left : List RegionSite
               ap (λ (ls : List Line). line.Head ∷ (ls ++ region_lines (1 + length (before ++ had ∷ [])) [] opened)) lines_closed
               ∙ ap (λ (n : ℕ). so_far ++ line.Region n ∷ []) (sym number)
 
-  runs_after : (site : SiteId) (c : SiteCount) (s : Reader) → LineFits (line.Runs site c) → next all (within done (counted counts flows)) (line.Runs site c) ≡ Some s → Reads all s (so_far ++ line.Runs site c ∷ [])
+  pub runs_after : (site : SiteId) (c : SiteCount) (s : Reader) → LineFits (line.Runs site c) → next all (within done (counted counts flows)) (line.Runs site c) ≡ Some s → Reads all s (so_far ++ line.Runs site c ∷ [])
   unfolding next
   runs_after site c s fits h = by left refl at
     where
@@ -190,7 +159,7 @@ module _ (all before later : List (List RegionSite)) (had left : List RegionSite
           lines : line.Head ∷ (regions_lines 1 before done ++ region_lines (1 + length before) (had ++ one ∷ []) (counted (counts ++ c ∷ []) flows)) ≡ so_far ++ line.Runs site c ∷ []
           lines = ap (λ (ls : List Line). line.Head ∷ (regions_lines 1 before done ++ ls)) region_more ∙ sym (behind (line.Runs site c))
 
-  flow_after : (f : Flow) (s : Reader) → LineFits (line.Flow f) → next all (within done (counted counts flows)) (line.Flow f) ≡ Some s → Reads all s (so_far ++ line.Flow f ∷ [])
+  pub flow_after : (f : Flow) (s : Reader) → LineFits (line.Flow f) → next all (within done (counted counts flows)) (line.Flow f) ≡ Some s → Reads all s (so_far ++ line.Flow f ∷ [])
   unfolding next
   flow_after f s fits h =
       subst (λ (q : Reader). Reads all q (so_far ++ line.Flow f ∷ [])) t.1
@@ -225,7 +194,7 @@ module _ (all before later : List (List RegionSite)) (had left : List RegionSite
       lines : line.Head ∷ (regions_lines 1 before done ++ region_lines (1 + length before) had (counted counts (flows ++ f ∷ []))) ≡ so_far ++ line.Flow f ∷ []
       lines = ap (λ (ls : List Line). line.Head ∷ (regions_lines 1 before done ++ ls)) region_more ∙ sym (behind (line.Flow f))
 
-  end_after : (s : Reader) → next all (within done (counted counts flows)) line.End ≡ Some s → Reads all s (so_far ++ line.End ∷ [])
+  pub end_after : (s : Reader) → next all (within done (counted counts flows)) line.End ≡ Some s → Reads all s (so_far ++ line.End ∷ [])
   unfolding next
   end_after s h =
       subst (λ (q : Reader). Reads all q (so_far ++ line.End ∷ [])) t.1
@@ -253,62 +222,3 @@ module _ (all before later : List (List RegionSite)) (had left : List RegionSite
 
       lines : line.Head ∷ (regions_lines 1 all (done ++ last ∷ []) ++ line.End ∷ []) ≡ so_far ++ line.End ∷ []
       lines = ap (λ (l : List (List RegionSite)). line.Head ∷ (regions_lines 1 l (done ++ last ∷ []) ++ line.End ∷ [])) all_ends ∙ ap (λ (ls : List Line). line.Head ∷ (ls ++ line.End ∷ [])) lines_closed
-
--- ---- one line more
-
-start_after : (all : List (List RegionSite)) (l : Line) (s : Reader) → next all begun l ≡ Some s → Reads all s (l ∷ [])
-unfolding next
-start_after all line.Head s h = let is : state phase.Headed [] opened ≡ s = cc h in rw (← is) headed
-start_after all (line.Region r) s h = absurd (cc h)
-start_after all (line.Runs site c) s h = absurd (cc h)
-start_after all (line.Flow f) s h = absurd (cc h)
-start_after all line.End s h = absurd (cc h)
-
-first_region : (all : List (List RegionSite)) (r : ℕ) (s : Reader) → next all (state phase.Headed [] opened) (line.Region r) ≡ Some s → Reads all s (line.Head ∷ line.Region r ∷ [])
-unfolding next
-first_region [] r s h =
-    let t = taken (region_next [] (state phase.Headed [] opened) r) (within [] opened) s h in
-    let c : Both (nat_lt 0 r) (nat_le r 0 && (0 == r - 1)) = both _ _ t.0 in let d : Both (nat_le r 0) (0 == r - 1) = both _ _ c.second in
-    let some : 0 < r = let lt : nat_lt 0 r ≡ true = c.first in search rules in
-    let low : r ≤ 0 = let le : nat_le r 0 ≡ true = d.first in search rules in
-    absurd (omega (arith, some, low))
-first_region (sites ∷ later) r s h =
-    let t = taken (region_next (sites ∷ later) (state phase.Headed [] opened) r) (within [] opened) s h in
-    let c : Both (nat_lt 0 r) (nat_le r (suc (length later)) && (0 == r - 1)) = both _ _ t.0 in let d : Both (nat_le r (suc (length later))) (0 == r - 1) = both _ _ c.second in
-    let some : 0 < r = let lt : nat_lt 0 r ≡ true = c.first in search rules in
-    let same : 0 ≡ r - 1 = eqb-true _ _ d.second in
-    let one : 1 ≡ r = omega (arith, some, same) in
-    subst (λ (q : Reader). Reads (sites ∷ later) q (line.Head ∷ line.Region r ∷ [])) t.1
-    (subst (λ (n : ℕ). Reads (sites ∷ later) (within [] opened) (line.Head ∷ line.Region n ∷ [])) one
-    (in_region [] later [] sites [] [] [] refl tt tt tt tt (inr refl)))
-
-no_region : (all : List (List RegionSite)) (s : Reader) → next all (state phase.Headed [] opened) line.End ≡ Some s → Reads all s (line.Head ∷ line.End ∷ [])
-unfolding next
-no_region [] s h = let is : over [] ≡ s = cc h in rw (← is) (at_end [] tt)
-no_region (sites ∷ later) s h = let same : 0 ≡ suc (length later) = eqb-true _ _ (taken _ _ s h).0 in absurd (cc same)
-
-headed_after : (all : List (List RegionSite)) (l : Line) (s : Reader) → next all (state phase.Headed [] opened) l ≡ Some s → Reads all s (line.Head ∷ l ∷ [])
-unfolding next
-headed_after all line.Head s h = absurd (cc h)
-headed_after all (line.Region r) s h = first_region all r s h
-headed_after all (line.Runs site c) s h = absurd (cc h)
-headed_after all (line.Flow f) s h = absurd (cc h)
-headed_after all line.End s h = no_region all s h
-
-over_after : (all : List (List RegionSite)) (done : List RegionProfile) (l : Line) (s : Reader) → next all (over done) l ≡ Some s → ⊥
-unfolding next
-over_after all done line.Head s h = cc h
-over_after all done (line.Region r) s h = cc h
-over_after all done (line.Runs site c) s h = cc h
-over_after all done (line.Flow f) s h = cc h
-over_after all done line.End s h = cc h
-
-pub reads_next : (all : List (List RegionSite)) (o : Reader) (ls : List Line) (l : Line) (s : Reader) → Reads all o ls → LineFits l → next all o l ≡ Some s → Reads all s (ls ++ l ∷ [])
-reads_next all _ _ l s at_start fits h = start_after all l s h
-reads_next all _ _ l s headed fits h = headed_after all l s h
-reads_next all _ _ line.Head s (in_region before later had left done counts flows is d c f u e) fits h = head_after all before later had left done counts flows is d c f u e s h
-reads_next all _ _ (line.Region r) s (in_region before later had left done counts flows is d c f u e) fits h = region_after all before later had left done counts flows is d c f u e r s h
-reads_next all _ _ (line.Runs site n) s (in_region before later had left done counts flows is d c f u e) fits h = runs_after all before later had left done counts flows is d c f u e site n s fits h
-reads_next all _ _ (line.Flow g) s (in_region before later had left done counts flows is d c f u e) fits h = flow_after all before later had left done counts flows is d c f u e g s fits h
-reads_next all _ _ line.End s (in_region before later had left done counts flows is d c f u e) fits h = end_after all before later had left done counts flows is d c f u e s h
-reads_next all _ _ l s (at_end done fit) fits h = absurd (over_after all done l s h)

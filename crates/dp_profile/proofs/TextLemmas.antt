@@ -16,7 +16,8 @@ use Rattle.dp_profile.specs.Reading.{begun, next, next_by}
 use Rattle.dp_profile.proofs.LineComplete.{LineFits, top}
 use Rattle.dp_profile.proofs.Runs.{read_bytes, IsBytes, read_bytes-sound, run_bytes, run_bytes-none, run_bytes-append, run_bytes-lines}
 use Rattle.dp_profile.proofs.RunComplete.{over, lines_run}
-use Rattle.dp_profile.proofs.RunSound.{Reads, reads_next}
+use Rattle.dp_profile.proofs.NextLine.{reads_next}
+use Rattle.dp_profile.proofs.RunSound.{Reads}
 use Rattle.dp_profile.proofs.RunSound as sound
 use Rattle.dp_profile.proofs.RunEnds.{Ends, IsText, SmallSite, whole_fits, reads_end, reads_over}
 

@@ -6,7 +6,6 @@ use Rattle.dp_tree.specs.declared.VarInfo.{VarInfo}
 use Rattle.dp_tree.specs.declared.Program.{Program}
 use Rattle.dp_tree.specs.Step.{Effect, Stored, Printed, Decided, Tried, Event, is_local_of}
 use Rattle.dp_tree.specs.Trace.{Run, run_of, begin}
-use Rattle.dp_profile.specs.declared.Profile.{Profile}
 use Rattle.dp_profile.specs.declared.RegionProfile.{RegionProfile}
 use Rattle.dp_profile.specs.declared.SiteCount.{SiteCount}
 use Rattle.dp_profile.specs.declared.Flow.{Flow}

@@ -1,5 +1,5 @@
 -- What runs of the test programs show.
-use Rattle.std.proofs.Common.{◌≡◌, refl, ℕ, true, false, List, [], ◌∷◌, ℤ, pos}
+use Rattle.std.proofs.Common.{◌≡◌, refl, true, false, [], ◌∷◌, pos}
 use Rattle.dp_base.specs.declared.End.TheVariants.{Done, Fault, Fuel}
 use Rattle.dp_base.specs.declared.FaultKind.TheVariants.{Divide}
 use Rattle.dp_base.specs.declared.BinOp.TheVariants as op
@@ -8,7 +8,7 @@ use Rattle.dp_tree.specs.declared.SiteKind.TheVariants.{Assign, While}
 use Rattle.dp_tree.specs.declared.Program.{Program}
 use Rattle.dp_tree.proofs.Build.{num, var, bin, set, region, scalar, site, one_region, program, tree_opened}
 use Rattle.dp_tree.proofs.Programs.{add, empty_program, sum_loop, skip_negative}
-use Rattle.dp_profile.specs.Observed.{Observed, observed}
+use Rattle.dp_profile.specs.Observed.{observed}
 use Rattle.dp_profile.proofs.rows.Profiles.{count, flow, profile, sum_loop_shown, skip_negative_shown}
 
 without_region : observed empty_program [] 0 ≡ record { profile = record { regions = [] }; end = Done }

@@ -1,5 +1,5 @@
 -- Profiles of the test programs as they are written, and texts.
-use Rattle.std.proofs.Common.{◌≡◌, refl, true, false, [], ◌∷◌, codes, arith}
+use Rattle.std.proofs.Common.{◌≡◌, refl, [], codes}
 use Rattle.dp_tree.proofs.Build.{tree_opened}
 use Rattle.dp_tree.proofs.Programs.{empty_program, sum_loop, skip_negative}
 use Rattle.dp_profile.specs.WrittenText.{profile_text}
