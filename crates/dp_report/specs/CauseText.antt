@@ -1,7 +1,7 @@
 -- Why iterations were executed again.
 use Rattle.std.specs.Prelude.{ℕ, List, [], ◌∷◌, ◌++◌, codes}
 use Rattle.dp_base.specs.declared.Cause.{Cause}
-use Rattle.dp_base.specs.declared.Cause.TheVariants.{Load, Assumed, Words, Fault, Fuel, Untold}
+use Rattle.dp_base.specs.declared.Cause.TheVariants.{Load, Assumed, Words, Fault, Fuel}
 use Rattle.dp_report.specs.Lines.{line, labelled, labelled_signed}
 use Rattle.dp_report.specs.Faults.{fault_words}
 
@@ -13,7 +13,6 @@ cause_words (Assumed site) = labelled (codes " assume site ") site.0
 cause_words (Words stage site) = labelled (codes " words stage ") stage ++ labelled (codes " site ") site.0
 cause_words (Fault fault) = fault_words fault
 cause_words Fuel = codes " fuel"
-cause_words Untold = codes " untold"
 
 -- an iteration's number, and why it was executed again
 abbrev pub cause_line : ℕ → Cause → List ℕ

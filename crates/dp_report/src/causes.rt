@@ -50,6 +50,5 @@ fn put_words(out: &mut Row<u8>, cause: Cause) -> Result<(), NoMemory>
         }
         Cause::Fault(fault) => put_fault(out, fault),
         Cause::Fuel => out.extend_from_slice(b" fuel"),
-        Cause::Untold => out.extend_from_slice(b" untold"),
     }
 }
