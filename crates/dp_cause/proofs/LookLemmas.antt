@@ -177,8 +177,7 @@ module _ (g : Ground) (old : Watched) (event : Event) (site : SiteId) (form : Fo
       assumed ≡ as_assumed p plan site.0 event.effect → assumed ≡ true → Noted stage more word new → count ≡ count_of new.counts stage → plan.words < count → Told (cause_in p plan w event) (why.Words stage site)
   words_fail {stage = stage} assumed count c none is holds n count_is above =
       let counted : count ≡ count_of (watched p plan event w).counts at = count_is ∙ ap (λ (ks : List ℕ). count_of ks stage) (counts_are n) ∙ ap (count_of (watched p plan event w).counts) (stage_same stage n.stage_is) in
-      let fails : nat_le (count_of (watched p plan event w).counts at) plan.words ≡ false = ap (λ (k : ℕ). nat_le k plan.words) (sym counted) ∙ lt-leb count plan.words above in
-      (
+      let fails : nat_le (count_of (watched p plan event w).counts at) plan.words ≡ false = ap (λ (k : ℕ). nat_le k plan.words) (sym counted) ∙ lt-leb count plan.words above in (
         ByWords at event.site,
         no_assumption assumed c none is holds ∙ ap (λ (b : Bool). if b then None else Some (ByWords at event.site)) fails,
         (λ i. why.Words (stage_same stage n.stage_is i) (record { 0 = sym same_site i })),
@@ -191,8 +190,7 @@ module _ (g : Ground) (old : Watched) (event : Event) (site : SiteId) (form : Fo
       let counted : count ≡ count_of (watched p plan event w).counts at = count_is ∙ ap (λ (ks : List ℕ). count_of ks stage) (counts_are n) ∙ ap (count_of (watched p plan event w).counts) (stage_same stage n.stage_is) in
       let fits : nat_le (count_of (watched p plan event w).counts at) plan.words ≡ true = ap (λ (k : ℕ). nat_le k plan.words) (sym counted) ∙ le-leb count plan.words within in
       let noted_cells : new.cells ≡ old.cells = ap (λ (s : Watched). s.cells) n.is in
-      let noted_left : new.left ≡ old.left = ap (λ (s : Watched). s.left) n.is in
-      (
+      let noted_left : new.left ≡ old.left = ap (λ (s : Watched). s.left) n.is in (
         ap (λ (x : Word). x.value) n.word_is,
         no_assumption assumed c none is holds ∙ ap (λ (b : Bool). if b then None else Some (ByWords at event.site)) fits,
         (λ i. record { views = views_are n i; counts = counts_are n i; cells = noted_cells i; left = noted_left i }),

@@ -108,8 +108,12 @@ module _ (g : Ground) (old : Watched) (site : SiteId) (r : Evaluated Effect) whe
   before_look memory = record { views = old.views; counts = old.counts; cells = memory; left = old.left - 1 }
 
   pub look_steps : (v : WithLoads Effect) (memory : List ℤ) → r ≡ Ok v → memory ≡ stored v.value old.cells → 0 < old.left → (new : Watched) (result : Step) → Looks g (before_look memory) (event_at site v) new result → Steps g old site r new result
-  look_steps v memory gave memory_is some new (step.On value) (value_is, none, new_is) =
-      (v, gave, value_is, here_is some ∙ ap (cause_now g.program.now g.plan.now (suc (old.left - 1)) (watch_in old) site) gave ∙ none,
-       new_is ∙ ap (λ (cells : List ℤ). Rattle.dp_cause.specs.Watching.watched_by g (event_at site v) (before_look cells)) memory_is)
+  look_steps v memory gave memory_is some new (step.On value) (value_is, none, new_is) = (
+    v,
+    gave,
+    value_is,
+    here_is some ∙ ap (cause_now g.program.now g.plan.now (suc (old.left - 1)) (watch_in old) site) gave ∙ none,
+    new_is ∙ ap (λ (cells : List ℤ). Rattle.dp_cause.specs.Watching.watched_by g (event_at site v) (before_look cells)) memory_is,
+  )
   look_steps v memory gave memory_is some new (step.Found told) (cause, found, is_told) = (cause, here_is some ∙ ap (cause_now g.program.now g.plan.now (suc (old.left - 1)) (watch_in old) site) gave ∙ found, is_told)
   look_steps v memory gave memory_is some new step.NoMemory looks = tt

@@ -45,9 +45,7 @@ impl Watched {
         ensures { Leads ground.entry self.old (statement.now ∷ []) self.new result }
     {
         match statement {
-            Stmt::Assign { site, var, value } => {
-                simply(self.assign(ground, *site, *var, value))
-            }
+            Stmt::Assign { site, var, value } => { simply(self.assign(ground, *site, *var, value)) }
             Stmt::Store {
                 site,
                 var,
@@ -109,13 +107,7 @@ impl Watched {
     }
 
     /// A region's turn: its condition, and its body where that isn't 0.
-    fn turn<'p>(
-        &mut self,
-        ground: Ground<'p>,
-        site: SiteId,
-        cond: &Expr,
-        body: &[Stmt],
-    ) -> Looked
+    fn turn<'p>(&mut self, ground: Ground<'p>, site: SiteId, cond: &Expr, body: &[Stmt]) -> Looked
         requires ground { IsGround ground }
         ensures { Leads ground.entry self.old (tree.If site cond.now body.now [] ∷ []) self.new result }
     {
@@ -139,7 +131,10 @@ impl Watched {
     {
         match region {
             Stmt::Region {
-                site, cond, body, ..
+                site,
+                cond,
+                body,
+                ..
             } => match self.turn(ground, *site, cond, body.as_slice()) {
                 Looked::Found(cause) => Some(cause),
                 Looked::Goes | Looked::Leaves | Looked::NoMemory => None,

@@ -82,10 +82,10 @@ agreed_gives key n t u cells judgement walk verdict at held same (agreed, is, ca
     let stores : walk.stores ≡ stores_by agreed.effects = ap (λ (c : Carried). c.stores) carries in
     let left : u.left ≡ key.fuel - (state.steps + length agreed.effects) = omega (arith, left_is, steps, at.left) in
     let views = (λ i. map (clear_locals (at.plan i).region (at.program i).vars) (kept_by (stages i) (stores i) (at.kept i).views))
-        ∙ ap (map (clear_locals key.plan.region key.program.vars)) ((λ i. kept_by (store_stages (at.program i) (at.plan i) agreed.sites agreed.effects) (stores_by agreed.effects) (kept_at key n)) ∙ kept_same key.program key.plan agreed.sites agreed.effects (kept_at key n))
-        ∙ ap (λ (j : Judgement). next_kept key.program key.plan j (kept_at key n)) (sym told) in
+    ∙ ap (map (clear_locals key.plan.region key.program.vars)) ((λ i. kept_by (store_stages (at.program i) (at.plan i) agreed.sites agreed.effects) (stores_by agreed.effects) (kept_at key n)) ∙ kept_same key.program key.plan agreed.sites agreed.effects (kept_at key n))
+    ∙ ap (λ (j : Judgement). next_kept key.program key.plan j (kept_at key n)) (sym told) in
     let start = (λ i. clear_locals (at.plan i).region (at.program i).vars (stored_all (stores i) (at.kept i).cells))
-        ∙ ap (clear_locals key.plan.region key.program.vars) (stored_same agreed.effects state.cells) ∙ ap (λ (s : JudgeState). s.cells) (sym next) in
+    ∙ ap (clear_locals key.plan.region key.program.vars) (stored_same agreed.effects state.cells) ∙ ap (λ (s : JudgeState). s.cells) (sym next) in
     let knows : walk.closing ≡ false → Knows u key (suc n) = λ going. record {
       program = kept.program ∙ at.program;
       plan = kept.plan ∙ at.plan;
