@@ -18,7 +18,7 @@ const CAUSES: &[&str] = &[
 const ASSUMED: &[&str] = &[
     "run skip_negative.c in.txt --plan skip.plan --why |  | $1 |  => state\nn $1\nend done\n",
     "5 -1 7 8 => 12\nregion 1 iterations 4 recovered 1: 1\ncause 1 assume site 4",
-    "-1 -1 => -2\nregion 1 iterations 3 recovered 2: 0 1\ncause 0 assume site 4\ncause 1 assume site 4",
+    "-1 -1 -1 -1 => -2\nregion 1 iterations 3 recovered 2: 0 1\ncause 0 assume site 4\ncause 1 assume site 4",
     "5 6 7 => 18\nregion 1 iterations 4 recovered 0",
 ];
 
