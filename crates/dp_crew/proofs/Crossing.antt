@@ -1,11 +1,8 @@
 -- A unit may go to another thread: each type that holds a program, from the innermost on.
-use denote.Param.Send.{IsSend, IsSync, sendable, struct_send, struct_sync, recorded_send, recorded_sync, view_send}
-use denote.Struct.Declared.{shape}
+use denote.Param.Send.{IsSend, IsSync, sendable, recorded_send, recorded_sync}
 use denote.Ref.{NamedLft}
 use Rattle.std.proofs.Crossing as crossing
-use Rattle.std.proofs.vec.Vec.TheSendSync as vec
 use Rattle.std.proofs.alloc.Global.TheSendSync as heap
-use Rattle.std.proofs.boxed.Box.TheSendSync as box
 use Rattle.dp_base.proofs.BinOp.TheSendSync as bin
 use Rattle.dp_base.proofs.UnOp.TheSendSync as un
 use Rattle.dp_base.proofs.SiteId.TheSendSync as site
@@ -20,12 +17,9 @@ use Rattle.dp_tree.proofs.SiteKind.TheSendSync as site_kind
 use Rattle.dp_tree.proofs.VarInfo.TheSendSync as var_info
 use Rattle.dp_tree.proofs.VarScope.TheSendSync as var_scope
 use Rattle.dp_tree.specs.contracts.Program as Program
-use Rattle.std.proofs.option.Option.TheSendSync as option
-use Rattle.std.proofs.marker.PhantomData.TheSendSync as phantom
 use Rattle.dp_base.proofs.cells.Cells.TheSendSync as cells
 use Rattle.dp_plan.proofs.Plan.TheSendSync as plan
 use Rattle.dp_code.proofs.Op.TheSendSync as op
-use Rattle.dp_code.proofs.StageProgram.TheSendSync as code
 use Rattle.dp_machine.proofs.Kept.TheSendSync as kept
 use Rattle.dp_cause.proofs.kept.Kept.TheSendSync as views
 use Rattle.dp_machine.specs.contracts.Frame as Frame
@@ -43,8 +37,6 @@ use Rattle.dp_pipeline.proofs.passage.Passage.TheSendSync as passage
 use Rattle.dp_pipeline.proofs.judging.Judging.TheSendSync as judging
 use Rattle.dp_pipeline.proofs.relay.Relay.TheSendSync as relay
 use Rattle.dp_pipeline.proofs.tickets.Tickets.TheSendSync as tickets
-use Rattle.dp_stop.proofs.stop.Stop.TheSendSync as stop
-use Rattle.dp_stop.proofs.stop.StopSeat.TheSendSync as seat
 
 ruleset plain = (bin.the_field_sync, bin.the_sync, bin.the_field_send, bin.the_send, un.the_field_sync, un.the_sync, un.the_field_send, un.the_send, site.the_field_sync, site.the_sync, site.the_field_send, site.the_send, var.the_field_sync, var.the_sync, var.the_field_send, var.the_send, region_info.the_field_sync, region_info.the_sync, region_info.the_field_send, region_info.the_send, site_info.the_field_sync, site_info.the_sync, site_info.the_field_send, site_info.the_send, site_kind.the_field_sync, site_kind.the_sync, site_kind.the_field_send, site_kind.the_send, var_info.the_field_sync, var_info.the_sync, var_info.the_field_send, var_info.the_send, var_scope.the_field_sync, var_scope.the_sync, var_scope.the_field_send, var_scope.the_send, heap.the_field_sync, heap.the_sync, heap.the_field_send, heap.the_send, crossing.crosses, expr.crosses, stmt.crosses, sendable)
 
