@@ -14,6 +14,7 @@ const WRITTEN: &[&str] = &[
     "histogram.c | --stages 3 --rate 0 => seq 2 4\nseq 3\nseq 5 6\n",
     "histogram.c | --stages 2 => seq 2 4\nseq 3 5 6\n",
     "early_exit.c => seq 2 6\nseq 3\nseq 4 5\n",
+    "far_reads.c => seq 3 9\nseq 4 5 6 7\nseq 8\n",
 ];
 
 /// Two steps of stage 1, seven units of one site, of which the last two carry sums.
