@@ -10,8 +10,6 @@ mod places;
 mod plan;
 mod site_weights;
 mod sums;
-#[cfg(test)]
-mod tests;
 
 pub use automatic::{Wishes, least_plans};
 pub use law::automatic_plans_are_one;

@@ -22,8 +22,6 @@ mod rules;
 mod sites;
 mod stage;
 mod table;
-#[cfg(test)]
-mod tests;
 mod text;
 mod words;
 mod write;

@@ -1,3 +1,0 @@
-//! Texts that are written.
-mod programs;
-mod write;
