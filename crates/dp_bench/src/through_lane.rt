@@ -2,8 +2,8 @@
 ghost use Rattle.std.specs.Prelude.{◌≡◌, false};
 ghost use Rattle.dp_lane.specs.declared.rule.View.TheVariants.{Sender, Taker};
 
+use crate::PLACES;
 use crate::item::Item;
-use crate::{COUNT, PLACES};
 use crossbeam_utils::Backoff;
 use dp_base::NoMemory;
 use dp_lane::{SendEnd, TakeEnd, lane};
@@ -13,27 +13,31 @@ use std::thread;
 use std::thread::Threads;
 
 /// Whether all items came in order.
-pub fn all_items<R: Threads + Wait + Sync>(rt: &R, alloc: Global) -> Result<bool, NoMemory> {
+pub fn all_items<R: Threads + Wait + Sync>(
+    rt: &R,
+    alloc: Global,
+    count: u64,
+) -> Result<bool, NoMemory> {
     let (to, from) = lane::<Item>(alloc, &0, PLACES)?;
     let ((), is_ordered) = thread::join(
         rt,
         move || -> ()
             requires { to.view ≡ Sender 0 0 false }
-        { send_all(rt, to) },
+        { send_all(rt, to, count) },
         move || -> bool
             requires { from.view ≡ Taker 0 0 }
-        { take_all(rt, from) },
+        { take_all(rt, from, count) },
     );
     Ok(is_ordered)
 }
 
-fn send_all<R: Wait>(rt: &R, mut to: SendEnd<Item>)
+fn send_all<R: Wait>(rt: &R, mut to: SendEnd<Item>, count: u64)
     requires { to.view ≡ Sender 0 0 false }
 {
     let backoff = Backoff::new();
     let mut sent = 0;
     for _ in rt.forever() {
-        if sent >= COUNT {
+        if sent >= count {
             break;
         }
         match to.send(rt, Item(sent)) {
@@ -46,13 +50,13 @@ fn send_all<R: Wait>(rt: &R, mut to: SendEnd<Item>)
     }
 }
 
-fn take_all<R: Wait>(rt: &R, mut from: TakeEnd<Item>) -> bool
+fn take_all<R: Wait>(rt: &R, mut from: TakeEnd<Item>, count: u64) -> bool
     requires { from.view ≡ Taker 0 0 }
 {
     let backoff = Backoff::new();
     let mut taken = 0;
     for _ in rt.forever() {
-        if taken >= COUNT {
+        if taken >= count {
             break;
         }
         match from.take(rt) {

@@ -1,10 +1,10 @@
 //! A ring between a producer, workers and a consumer in threads of their own.
-ghost use Rattle.std.specs.Prelude.{◌≡◌, IfSome};
+ghost use Rattle.std.specs.Prelude.{◌≡◌, ◌<◌, ◌^◌, IfSome};
 ghost use Rattle.dp_ring.specs.declared.view.Stage.TheVariants.{Resting, Taking, Giving};
 ghost use Rattle.dp_ring.specs.Tested.{IsSame, IsKeyed, IsFirst, IsIdle};
 
+use crate::PLACES;
 use crate::item::Item;
-use crate::{COUNT, PLACES};
 use crossbeam_utils::Backoff;
 use dp_base::NoMemory;
 use dp_ring::{ConsumerSeat, ProducerSeat, PutBusy, Ring, WorkerSeat};
@@ -17,89 +17,95 @@ use std::thread::Threads;
 pub fn all_items<R: Threads + Wait + Sync>(
     rt: &R,
     alloc: Global,
+    count: u64,
     by_two: bool,
-) -> Result<bool, NoMemory> {
+) -> Result<bool, NoMemory>
+    requires { count < 2 ^ 32 }
+{
     let (producer, mut seats, consumer) = Ring::new::<Item>(alloc, &0, PLACES, 2)?;
     let (Some(first), Some(spare)) = (seats.pop(), seats.pop()) else {
         return Ok(false);
     };
     Ok(if by_two {
-        relay(rt, producer, first, Some(spare), consumer)
+        relay(rt, count, producer, first, Some(spare), consumer)
     } else {
-        relay(rt, producer, first, None, consumer)
+        relay(rt, count, producer, first, None, consumer)
     })
 }
 
 fn relay<R: Threads + Wait + Sync>(
     rt: &R,
+    count: u64,
     producer: ProducerSeat<Item>,
     first: WorkerSeat<Item>,
     second: Option<WorkerSeat<Item>>,
     consumer: ConsumerSeat<Item>,
 ) -> bool
-    requires { IsFirst producer × IsIdle first × IfSome second IsIdle × IsFirst consumer }
+    requires { (count < 2 ^ 32) × IsFirst producer × IsIdle first × IfSome second IsIdle × IsFirst consumer }
 {
     let ((), is_ordered) = thread::join(
         rt,
         move ||
-            requires { IsFirst producer }
-        { produce(rt, producer) },
+            requires { (count < 2 ^ 32) × IsFirst producer }
+        { produce(rt, count, producer) },
         move ||
-            requires { IsIdle first × IfSome second IsIdle × IsFirst consumer }
-        { work_and_consume(rt, first, second, consumer) },
+            requires { (count < 2 ^ 32) × IsIdle first × IfSome second IsIdle × IsFirst consumer }
+        { work_and_consume(rt, count, first, second, consumer) },
     );
     is_ordered
 }
 
 fn work_and_consume<R: Threads + Wait + Sync>(
     rt: &R,
+    count: u64,
     first: WorkerSeat<Item>,
     second: Option<WorkerSeat<Item>>,
     consumer: ConsumerSeat<Item>,
 ) -> bool
-    requires { IsIdle first × IfSome second IsIdle × IsFirst consumer }
+    requires { (count < 2 ^ 32) × IsIdle first × IfSome second IsIdle × IsFirst consumer }
 {
     let ((), is_ordered) = thread::join(
         rt,
         move ||
-            requires { IsIdle first × IfSome second IsIdle }
-        { work_all(rt, first, second) },
+            requires { (count < 2 ^ 32) × IsIdle first × IfSome second IsIdle }
+        { work_all(rt, count, first, second) },
         move ||
-            requires { IsFirst consumer }
-        { consume(rt, consumer) },
+            requires { (count < 2 ^ 32) × IsFirst consumer }
+        { consume(rt, count, consumer) },
     );
     is_ordered
 }
 
 fn work_all<R: Threads + Wait + Sync>(
     rt: &R,
+    count: u64,
     first: WorkerSeat<Item>,
     second: Option<WorkerSeat<Item>>,
 )
-    requires { IsIdle first × IfSome second IsIdle }
+    requires { (count < 2 ^ 32) × IsIdle first × IfSome second IsIdle }
 {
     let Some(second) = second else {
-        work(rt, first);
+        work(rt, count, first);
         return;
     };
     thread::join(
         rt,
         move ||
-            requires { IsIdle first }
-        { work(rt, first) },
+            requires { (count < 2 ^ 32) × IsIdle first }
+        { work(rt, count, first) },
         move ||
-            requires { IsIdle second }
-        { work(rt, second) },
+            requires { (count < 2 ^ 32) × IsIdle second }
+        { work(rt, count, second) },
     );
 }
 
-fn produce<R: Wait>(rt: &R, mut seat: ProducerSeat<Item>)
-    requires { IsFirst seat }
+fn produce<R: Wait>(rt: &R, count: u64, mut seat: ProducerSeat<Item>)
+    requires { (count < 2 ^ 32) × IsFirst seat }
 {
     let backoff = Backoff::new();
     let mut next = 0;
     for _ in rt.forever() {
-        if next >= COUNT {
+        if next >= count {
             break;
         }
         match seat.put(Item(next)) {
@@ -112,12 +118,12 @@ fn produce<R: Wait>(rt: &R, mut seat: ProducerSeat<Item>)
     }
 }
 
-fn work<R: Wait>(rt: &R, mut seat: WorkerSeat<Item>)
-    requires { IsIdle seat }
+fn work<R: Wait>(rt: &R, count: u64, mut seat: WorkerSeat<Item>)
+    requires { (count < 2 ^ 32) × IsIdle seat }
 {
     let mut rounds = 0;
-    while rounds < COUNT {
-        if seat.draw() >= COUNT {
+    while rounds < count {
+        if seat.draw() >= count {
             return;
         }
         let item = take(rt, &mut seat);
@@ -158,13 +164,13 @@ fn give<R: Wait>(rt: &R, seat: &mut WorkerSeat<Item>, item: Item)
     unreachable!()
 }
 
-fn consume<R: Wait>(rt: &R, mut seat: ConsumerSeat<Item>) -> bool
-    requires { IsFirst seat }
+fn consume<R: Wait>(rt: &R, count: u64, mut seat: ConsumerSeat<Item>) -> bool
+    requires { (count < 2 ^ 32) × IsFirst seat }
 {
     let backoff = Backoff::new();
     let mut next = 0;
     for _ in rt.forever() {
-        if next >= COUNT {
+        if next >= count {
             break;
         }
         match seat.take() {

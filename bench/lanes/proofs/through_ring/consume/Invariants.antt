@@ -1,6 +1,0 @@
-use Rattle.std.proofs.Common.{◌≡◌, ◌≤◌}
-use Rattle.dp_ring.specs.Tested.{IsKeyed}
-use Rattle.lanes.proofs.through_ring.consume.Given as goal
-
-abbrev pub invariant-loop : goal.invariant-loop
-invariant-loop g l = (l.next ≡ l.seat.view.at) × (l.next ≤ 10000000) × IsKeyed l.seat
