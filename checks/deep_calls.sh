@@ -2,7 +2,7 @@
 # Runs the deepest programs that a text allows, 64 functions with each call 63 blocks deep, on a stack of 2 MiB.
 set -eu
 cd "$(dirname "$0")/.."
-./dswp run crates/dswp/data/sum_loop.c >/dev/null
+./dswp --prove
 work=$(mktemp -d)
 trap 'rm -rf "$work"' EXIT
 repeated() { local text; printf -v text '%63s' ''; printf '%s' "${text// /$1}"; }
