@@ -1,12 +1,12 @@
 #!/usr/bin/env bash
-# Times each program of examples/ on 65,536 words, reading them and writing the answer included: under dswp, under dswp
-# without the mark, under CPython, and as plain C by tcc and by gcc -O2. Each time is the least of nine runs, less that of
-# an empty program under the same runner. Ends with 1 where two answers differ. Needs gcc, tcc and python3.
+# Times each program of examples/ on 65,536 words, reading them and writing the answer included: under dswp and CPython,
+# and as plain C by tcc and by gcc -O2. Each time is the least of nine runs, less that of an empty program under the same
+# runner. Ends with 1 where two answers differ. Needs gcc, tcc and python3.
 set -euo pipefail
 . "$(dirname "$0")/common.sh"
 need_dswp
 python=$(python3 -c 'import sys; print(sys.executable)')   # not a wrapper, whose own start takes longer than a run
-runners='dswp unmarked python tcc gcc'
+runners='dswp python tcc gcc'
 
 # Words of the kind that the example is for, or else those of its own input, again and again.
 many_words() {
@@ -23,7 +23,6 @@ many_words() {
 # Makes what each runner takes of a program.
 prepare() {
   cp "$1" "$work/dswp.c"
-  sed '/#pragma dswp/d' "$1" >"$work/unmarked.c"
   "$top/examples/as_python.py" "$1" >"$work/python.py"
   "$top/examples/as_c.sh" "$1" >"$work/plain.c"
   gcc -O2 -w -o "$work/gcc" "$work/plain.c"
@@ -31,7 +30,7 @@ prepare() {
 }
 run() {
   case $1 in
-    dswp | unmarked) "$dswp" run "$work/$1.c" "$work/words" ;;
+    dswp) "$dswp" run "$work/dswp.c" "$work/words" ;;
     python) "$python" "$work/python.py" <"$work/words" ;;
     *) "$work/$1" <"$work/words" ;;
   esac
@@ -56,7 +55,7 @@ for program in "$top"/examples/*.c; do
   done
   echo "$line"
 done | awk '
-  NR == 1 { printf "%-18s %10s %18s %18s %18s %18s\n", "milliseconds", "dswp", "without the mark", "CPython", "tcc", "gcc -O2" }
+  NR == 1 { printf "%-18s %10s %18s %18s %18s\n", "milliseconds", "dswp", "CPython", "tcc", "gcc -O2" }
   {
     printf "%-18s %10.2f", $1, $2 / 1e6
     for (k = 3; k <= NF; k++) { printf " %8.2f (%7.2f)", $k / 1e6, $2 / $k; product[k] += log($2 / $k) }
