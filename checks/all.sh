@@ -15,7 +15,7 @@ for check in checks/*; do
     failed=1
     cat "$work/log"
   fi
-  echo "$check: $(tail -n 1 "$work/log") (status $status)" | tee -a "$work/lines" >/dev/null
+  echo "$check: $(tail -n 1 "$work/log") (status $status)" >>"$work/lines"
 done
 cat "$work/lines"
 exit $failed

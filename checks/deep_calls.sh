@@ -14,5 +14,5 @@ for block in 'if(1){' 'while(g<1){'; do
     echo "int main(){$(repeated "$block")f63();$(repeated '}')print(g);}"
   } >"$work/deep.c"
   (ulimit -s 2048 && ./dswp run "$work/deep.c") | head -n 1 | grep -qx 1
-  echo "$block: as it should be"
 done
+echo "both programs run"
