@@ -1,5 +1,5 @@
 //! A lane between two threads.
-ghost use Rattle.std.specs.Prelude.{◌≡◌, false};
+ghost use Rattle.std.specs.Prelude.{◌≡◌, false, true};
 ghost use Rattle.dp_lane.specs.declared.rule.View.TheVariants.{Sender, Taker};
 
 use crate::PLACES;
@@ -52,6 +52,7 @@ fn send_all<R: Wait>(rt: &R, mut to: SendEnd<Item>, count: u64)
 
 fn take_all<R: Wait>(rt: &R, mut from: TakeEnd<Item>, count: u64) -> bool
     requires { from.view ≡ Taker 0 0 }
+    ensures { result ≡ true }
 {
     let backoff = Backoff::new();
     let mut taken = 0;

@@ -1,5 +1,5 @@
 //! A ring between a producer, workers and a consumer in threads of their own.
-ghost use Rattle.std.specs.Prelude.{◌≡◌, ◌<◌, ◌^◌, IfSome};
+ghost use Rattle.std.specs.Prelude.{◌≡◌, ◌<◌, ◌^◌, true, IfSome};
 ghost use Rattle.dp_ring.specs.declared.view.Stage.TheVariants.{Resting, Taking, Giving};
 ghost use Rattle.dp_ring.specs.Tested.{IsSame, IsKeyed, IsFirst, IsIdle};
 
@@ -166,6 +166,7 @@ fn give<R: Wait>(rt: &R, seat: &mut WorkerSeat<Item>, item: Item)
 
 fn consume<R: Wait>(rt: &R, count: u64, mut seat: ConsumerSeat<Item>) -> bool
     requires { (count < 2 ^ 32) × IsFirst seat }
+    ensures { result ≡ true }
 {
     let backoff = Backoff::new();
     let mut next = 0;
