@@ -6,34 +6,15 @@
 # Each time is the least of nine runs, less the time of an empty program under the same runner; the tables' are less the
 # time of the same program on an empty input, which writes as many values.
 # Needs g++ and oneTBB (Debian: libtbb-dev).
-set -eu
-here=$(cd "$(dirname "$0")" && pwd)
-work=$(mktemp -d)
-trap 'rm -rf "$work"' EXIT
-"$here/../dswp" run "$here/../crates/dswp/data/sum_loop.c" >/dev/null   # builds the program if need be
-dswp="$here/../crates/dswp/out/dswp"
+set -euo pipefail
+. "$(dirname "$0")/common.sh"
+need_dswp
 g++ -O2 -std=c++17 -o "$work/tbb" "$here/pipeline_tbb.cpp" -ltbb
 cd "$work"
 printf 'int main() { }\n' >empty.c
 : >empty.in
-
-least() {
-  local best=
-  for _ in 1 2 3 4 5 6 7 8 9; do
-    local start end
-    start=$(date +%s%N)
-    "$@" >/dev/null
-    end=$(date +%s%N)
-    if [ -z "$best" ] || [ $((end - start)) -lt "$best" ]; then best=$((end - start)); fi
-  done
-  echo "$best"
-}
-net() { local with=$1 without=$2; echo $((with > without ? with - without : 1)); }
-ratio() { printf '%.2f' "$(echo "$1 / $2" | bc -l)"; }
-row() { printf '%-46s %9.2f ms  %s\n' "$1" "$(echo "$2 / 1000000" | bc -l)" "${3-}"; }
-
-words() { awk -v n="$1" -v m="$2" 'BEGIN { x = 7; for (k = 0; k < n; k++) { x = (x * 1103515245 + 12345) % 2147483648; print x % m } }'; }
 plan() { printf 'plan 2\nregion 1 words 4096\n'; printf '%s\n' "$@"; printf 'end\n'; }
+machine
 nothing=$(least "$dswp" run empty.c)
 
 words 65536 65536 >words.in

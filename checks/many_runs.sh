@@ -2,11 +2,11 @@
 # Runs each example and each planned program of the documents many times, with 1, 2 and 8 workers and lanes of 1, 2 and 64
 # places, and compares every text and status with the first. Ends with 1 where one differs, and stops a run after a minute.
 #
-#   bench/many_runs.sh [COUNT]    COUNT runs of each, 1000 where it isn't given
+#   checks/many_runs.sh [COUNT]    COUNT runs of each, 1000 where it isn't given
 set -eu
 here=$(cd "$(dirname "$0")/.." && pwd)
 count=${1:-1000}
-"$here/dswp" run "$here/crates/dswp/data/sum_loop.c" >/dev/null   # builds the program if need be
+"$here/dswp" --prove
 dswp="$here/crates/dswp/out/dswp"
 work=$(mktemp -d)
 trap 'rm -rf "$work"' EXIT

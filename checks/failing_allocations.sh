@@ -3,10 +3,10 @@
 # its status, or a front of it with status 7. Prints what doesn't, and how many runs there were; ends with 1 where one fails.
 set -eu
 cd "$(dirname "$0")/.."
-./dswp run crates/dswp/data/sum_loop.c >/dev/null
+./dswp --prove
 work=$(mktemp -d)
 trap 'rm -rf "$work"' EXIT
-gcc -O2 -shared -fPIC -o "$work/failing.so" bench/failing_allocations.c -ldl
+gcc -O2 -shared -fPIC -o "$work/failing.so" checks/failing_allocations.c -ldl
 python3 - "$work/failing.so" crates/dswp/out/dswp examples <<'PY'
 import os, pathlib, subprocess, sys
 

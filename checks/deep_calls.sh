@@ -2,7 +2,7 @@
 # Runs the deepest programs that a text allows, 64 functions with each call 63 blocks deep, on a stack of 2 MiB.
 set -eu
 cd "$(dirname "$0")/.."
-./dswp run crates/dswp/data/sum_loop.c >/dev/null
+./dswp --prove
 work=$(mktemp -d)
 trap 'rm -rf "$work"' EXIT
 repeated() { local text; printf -v text '%63s' ''; printf '%s' "${text// /$1}"; }
@@ -14,5 +14,5 @@ for block in 'if(1){' 'while(g<1){'; do
     echo "int main(){$(repeated "$block")f63();$(repeated '}')print(g);}"
   } >"$work/deep.c"
   (ulimit -s 2048 && ./dswp run "$work/deep.c") | head -n 1 | grep -qx 1
-  echo "$block: as it should be"
 done
+echo "both programs run"

@@ -9,7 +9,7 @@ cd "$(dirname "$0")/.." || exit 1
 work=$(mktemp -d) || exit 1
 trap 'rm -rf "$work"' EXIT
 cat README.md docs/*.md examples/README.md >"$work/documents"
-./dswp run crates/dswp/data/sum_loop.c >"$work/got" || exit 1
+./dswp --prove || exit
 
 # Each transcript as the files N.command and N.shown, each row as N.c and N.row.
 awk -v work="$work" '

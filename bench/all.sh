@@ -1,0 +1,11 @@
+#!/usr/bin/env bash
+# Runs all measurements of this folder, one after the other, and prints their tables. It takes some minutes, and needs what
+# each of them names at its head. Ends with 1 where one fails.
+set -u
+cd "$(dirname "$0")"
+failed=0
+for script in examples straight_loop pipeline lanes; do
+  echo "== bench/$script.sh"
+  "./$script.sh" || { failed=1; echo "bench/$script.sh failed"; }
+done
+exit $failed

@@ -1,0 +1,35 @@
+# What the scripts of this folder share. Each reads it first; it makes the folder $work, which is removed at the end.
+here=$(cd "$(dirname "${BASH_SOURCE[0]}")" && pwd)
+top=$(cd "$here/.." && pwd)
+work=$(mktemp -d)
+trap 'rm -rf "$work"' EXIT
+
+# Proves and builds the program where it isn't built, and calls it $dswp.
+need_dswp() { "$top/dswp" --prove && dswp="$top/crates/dswp/out/dswp"; }
+
+# The least time of nine runs of a command, in nanoseconds.
+least() {
+  local best= start end
+  for _ in 1 2 3 4 5 6 7 8 9; do
+    start=$(date +%s%N)
+    "$@" >/dev/null
+    end=$(date +%s%N)
+    if [ -z "$best" ] || [ $((end - start)) -lt "$best" ]; then best=$((end - start)); fi
+  done
+  echo "$best"
+}
+
+# A time less another one, and above 0.
+net() { echo $(($1 > $2 ? $1 - $2 : 1)); }
+
+# The quotient of two numbers, with two digits behind the point.
+ratio() { awk -v a="$1" -v b="$2" 'BEGIN { printf "%.2f", a / b }'; }
+
+# A line of a table: what was timed, the time, and what is to be said of it.
+row() { printf '%-46s %9s ms  %s\n' "$1" "$(ratio "$2" 1000000)" "${3-}"; }
+
+# So many numbers in a row, from 0 up to and without a limit.
+words() { awk -v n="$1" -v m="$2" 'BEGIN { x = 7; for (k = 0; k < n; k++) { x = (x * 1103515245 + 12345) % 2147483648; print int(x / 32768) % m } }'; }
+
+# What the times were seen on.
+machine() { echo "$(nproc) processors, $(sed -n 's/^model name[^:]*: *//p' /proc/cpuinfo | head -n 1), load $(cut -d ' ' -f 1 /proc/loadavg)"; }

@@ -1,0 +1,21 @@
+#!/usr/bin/env bash
+# Runs all checks of this folder, one after the other, and ends with a line for each: its last line and its status. They
+# are what the gate, .ci/run, doesn't run. Needs gcc and python3. Ends with 1 where one fails; its output stands above then.
+set -u
+cd "$(dirname "$0")/.."
+./dswp --prove || exit
+work=$(mktemp -d)
+trap 'rm -rf "$work"' EXIT
+failed=0
+for check in checks/*; do
+  case $check in checks/all.sh | *.c) continue ;; esac
+  "$check" >"$work/log" 2>&1
+  status=$?
+  if [ $status != 0 ]; then
+    failed=1
+    cat "$work/log"
+  fi
+  echo "$check: $(tail -n 1 "$work/log") (status $status)" >>"$work/lines"
+done
+cat "$work/lines"
+exit $failed
