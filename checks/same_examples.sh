@@ -1,6 +1,6 @@
 #!/usr/bin/env bash
 # Compares the texts of crates/dswp/src/tests/examples/ with the files of examples/, byte by byte, so that what is tested
-# is what is shown. Ends with 1 where a text differs or one of the two has no fellow.
+# is what is shown. Ends with 1 where a text differs or has no file.
 set -eu
 cd "$(dirname "$0")/.."
 python3 - crates/dswp/src/tests/examples examples <<'PY'
@@ -17,9 +17,9 @@ for name, text in re.findall(r'const (\w+): &\[u8\] =\s*b"((?:[^"\\]|\\.)*)";', 
     tested[stem.lower() + ends[end]] = re.sub(r"\\(.)", lambda it: escapes[it[1]], text)
 shown = {it.name: it.read_bytes().decode() for it in folder.iterdir() if it.suffix in ends.values()}
 
-differ = sorted(name for name in tested.keys() | shown.keys() if tested.get(name) != shown.get(name))
+differ = sorted(name for name in tested if tested[name] != shown.get(name))
 for name in differ:
-    print(f"{name}: {'not tested' if name not in tested else 'no such file' if name not in shown else 'differs'}")
-print(f"{len(shown) - len(differ)} of {len(shown)} texts are the same")
-sys.exit(bool(differ) or not shown)
+    print(f"{name}: {'differs' if name in shown else 'no such file'}")
+print(f"{len(tested) - len(differ)} of {len(tested)} texts are the same")
+sys.exit(bool(differ) or not tested)
 PY

@@ -23,6 +23,7 @@ mod plan_rules;
 mod plan_texts;
 mod sites;
 mod syntax;
+mod units;
 mod words;
 
 ghost use Rattle.std.specs.Prelude.{◌≡◌, IfOk};

@@ -1,0 +1,195 @@
+//! The units of one epoch, polled by hand: what a poll answers, and that no order of polls changes a verdict.
+ghost use Rattle.std.specs.Prelude.{◌≡◌, ◌≤◌, ◌<◌, ◌^◌, length, IfOk};
+ghost use Rattle.dp_tree.specs.Inlined.{IsInlined};
+ghost use Rattle.dp_plan.specs.GivenPlans.{IsPlan};
+ghost use Rattle.dp_pipeline.specs.Programs.{ArePrograms};
+
+use super::shelf_of;
+use crate::load::{Loaded, load_plans, load_program};
+use dp_base::{Cells, NoMemory, Row};
+use dp_code::StageProgram;
+use dp_commit::Verdict;
+use dp_edge::OpenGate;
+use dp_meaning::Machine;
+use dp_pipeline::{IdleWhy, LaneVerdicts, Pipeline, Polled, stage_programs};
+use dp_plan::Plan;
+use dp_stop::{Stop, StopSetter};
+use dp_tree::Program;
+use std::alloc::Global;
+use std::process::Abort;
+use std::sync::Wait;
+use std::test::Fail;
+
+const PLAN: &[u8] = b"plan 1\nregion 1 words 4096\nseq 2 3 4\npar 5\nseq 6\nend\n";
+
+const WORDS: [i64; 7] = [0, 1, 2, 3, 4, 5, 6];
+
+/// More polls than the units need in any of the orders.
+const POLLS: u32 = 2_000;
+
+/// In which order the units are polled.
+#[derive(Clone, Copy)]
+enum Order {
+    Forwards,
+    Backwards,
+    Mixed,
+}
+
+impl Order {
+    /// The place of the unit that is polled at this turn, which has this number.
+    fn place(self, turn: u32, number: u64, units: usize) -> usize {
+        let count = units.max(1);
+        let place = turn as usize % count;
+        match self {
+            Order::Forwards => place,
+            Order::Backwards => count - 1 - place,
+            Order::Mixed => number as usize % count,
+        }
+    }
+}
+
+/// The pipeline of an epoch that begins with the first iteration, in a memory of zeros.
+#[tactic(auto, using(crate::proofs::ZeroMemory::zeros_are_sound))]
+fn pipeline_of<'u>(
+    alloc: Global,
+    p: &'u Program,
+    plan: &'u Plan,
+    programs: &'u [StageProgram],
+    workers: u32,
+    lane: u32,
+    stop: &'u Stop,
+    setter: &mut StopSetter,
+) -> Result<Pipeline<'u>, NoMemory>
+    requires inlined { IsInlined p.now }
+    requires sites { length p.now.sites < 2 ^ 32 }
+    requires plan { IsPlan p.now plan.now }
+    requires programs { ArePrograms p.now plan.now programs.now }
+    requires workers { (1 ≤ workers) × (workers ≤ 8) }
+    requires lane { (1 ≤ lane) × (lane ≤ 64) }
+    requires setter { setter.old.flag ≡ stop.now }
+    ensures { IfOk result (λ made. made.verdicts.given ≡ 0) }
+{
+    let machine = Machine::new(alloc, p, &WORDS, 1_000)?;
+    match u32::try_from(machine.cells().len()) {
+        Ok(count) => {
+            let base = Cells::new(alloc, count)?;
+            Pipeline::new(
+                alloc, p, plan, &WORDS, programs, 0, &base, 0, 1_000, workers, lane, stop, setter,
+            )
+        }
+        Err(_) => Err(NoMemory),
+    }
+}
+
+/// Whether the verdicts on so many iterations are clean, and the last of them closes the region.
+fn all_clean<R: Wait>(rt: &R, verdicts: &mut LaneVerdicts<'_>, count: u32) -> bool
+    requires { verdicts.old.given ≡ 0 }
+{
+    for place in 0..count {
+        match verdicts.next(rt) {
+            Verdict::Clean(clean) => {
+                if clean.closing() {
+                    return place + 1 == count;
+                }
+            }
+            Verdict::Unclean(_) | Verdict::NoMemory => return false,
+        }
+    }
+    false
+}
+
+/// Whether the epoch's eight iterations are clean where its units are polled in this order.
+fn is_clean_in<R: Wait>(
+    rt: &R,
+    alloc: Global,
+    p: &Program,
+    plan: &Plan,
+    order: Order,
+) -> Result<bool, NoMemory>
+    requires inlined { IsInlined p.now }
+    requires sites { length p.now.sites < 2 ^ 32 }
+    requires plan { IsPlan p.now plan.now }
+{
+    let programs = stage_programs(alloc, p, plan)?;
+    let (stop, mut setter) = Stop::new(alloc)?;
+    let Pipeline {
+        mut units,
+        mut verdicts,
+    } = pipeline_of(alloc, p, plan, programs.as_slice(), 2, 16, &stop, &mut setter)?;
+    let mut number: u64 = 1;
+    for turn in 0..POLLS {
+        number = number.wrapping_mul(1_103_515_245).wrapping_add(12_345) % 2_147_483_648;
+        let place = order.place(turn, number, units.len());
+        if let Some(unit) = units.as_mut_slice().get_mut(place) {
+            unit.poll(rt, &OpenGate);
+        }
+    }
+    Ok(all_clean(rt, &mut verdicts, 8))
+}
+
+/// What the try-commit unit answers first, and then stage 1 twice, where there is one worker and a lane has one place.
+fn first_answers<R: Wait>(
+    rt: &R,
+    alloc: Global,
+    p: &Program,
+    plan: &Plan,
+) -> Result<Row<Polled>, NoMemory>
+    requires inlined { IsInlined p.now }
+    requires sites { length p.now.sites < 2 ^ 32 }
+    requires plan { IsPlan p.now plan.now }
+{
+    let programs = stage_programs(alloc, p, plan)?;
+    let (stop, mut setter) = Stop::new(alloc)?;
+    let Pipeline { mut units, .. } =
+        pipeline_of(alloc, p, plan, programs.as_slice(), 1, 1, &stop, &mut setter)?;
+    let mut answers = Row::new(alloc);
+    for place in [3, 0, 0] {
+        if let Some(unit) = units.as_mut_slice().get_mut(place) {
+            answers.push(unit.poll(rt, &OpenGate))?;
+        }
+    }
+    Ok(answers)
+}
+
+/// The rows for one plan.
+fn each_row<R: Abort + Wait>(
+    rt: &R,
+    alloc: Global,
+    p: &Program,
+    plan: &Plan,
+) -> Result<(), NoMemory>
+    requires inlined { IsInlined p.now }
+    requires sites { length p.now.sites < 2 ^ 32 }
+    requires plan { IsPlan p.now plan.now }
+{
+    let expected = [
+        Polled::Idle(IdleWhy::Empty),
+        Polled::Moved,
+        Polled::Idle(IdleWhy::Busy { word: 1 }),
+    ];
+    let answers = first_answers(rt, alloc, p, plan)?;
+    assert_eq!(rt; answers.as_slice(), expected.as_slice());
+    for order in [Order::Forwards, Order::Backwards, Order::Mixed] {
+        assert!(rt; is_clean_in(rt, alloc, p, plan, order)?);
+    }
+    Ok(())
+}
+
+#[test]
+fn units_are_polled_in_any_order(rt: HostRuntime) -> Result<(), Fail> {
+    let alloc = rt.alloc();
+    let mut shelf = shelf_of(alloc, &[("plan.txt", PLAN)], &[])?;
+    match load_program(alloc, &mut shelf, "histogram.c")? {
+        Loaded::Text(program) => match load_plans(alloc, &mut shelf, "plan.txt", &program)? {
+            Loaded::Text(plans) => {
+                assert_eq!(&rt; plans.len(), 1);
+                for plan in plans.as_slice() {
+                    each_row(&rt, alloc, &program, plan)?;
+                }
+            }
+            Loaded::Refused(_) | Loaded::Failed => assert!(&rt; false, "no plan"),
+        },
+        Loaded::Refused(_) | Loaded::Failed => assert!(&rt; false, "no program"),
+    }
+    Ok(())
+}
