@@ -10,11 +10,13 @@ use Rattle.clap.specs.declared.builder.value_parser.ValueParser.TheVariants as p
 use Rattle.clap.specs.declared.parser.matches.ArgMatches.{ArgMatches}
 use Rattle.clap.proofs.WalkLemmas.{first_value-rows}
 use Rattle.dp_words.proofs.PassLemmas.{Each, HasParser, value_passes}
-use Rattle.dp_words.proofs.SimpleRows.{plan_has_simple_rules, plan_is_plain, plan_rate, plan_stages, plan_workers, run_fuel, run_has_simple_rules, run_is_plain, run_lane, run_rate, run_stages, run_workers}
+use Rattle.dp_words.proofs.SimpleRows.{gen_has_simple_rules, gen_is_plain, gen_lane, gen_seed, gen_size, gen_workers, plan_has_simple_rules, plan_is_plain, plan_rate, plan_stages, plan_workers, run_fuel, run_has_simple_rules, run_is_plain, run_lane, run_rate, run_stages, run_workers}
 use Rattle.dp_words.proofs.VerbLemmas.{apart}
-use Rattle.dp_words.specs.Commands.{IsTaken, plan_app, run_app, value_in}
-use Rattle.dp_words.specs.Reading.{HoldsOptions, HoldsRun, values_of}
-use Rattle.dp_words.specs.Words.{Names, Planning, Run, ShowsPlanning, ShowsRun, ShowsSites, Values, number_or, options_in}
+use Rattle.dp_words.specs.Commands.{IsTaken, gen_app, plan_app, run_app, value_in}
+use Rattle.dp_words.specs.Reading.{HoldsMade, HoldsOptions, HoldsRun, values_of}
+use Rattle.dp_words.specs.Words.{Names, Planning, Run, ShowsMade, ShowsPlanning, ShowsRun, ShowsSites, Values, default_fuel, default_rate, default_stages, number_in, number_or, options_in}
+use Rattle.dp_words.specs.declared.task.GenWords.{GenWords}
+use Rattle.dp_words.specs.declared.task.PlanOptions.{PlanOptions}
 
 -- ---- numbers in their ranges
 
@@ -47,6 +49,14 @@ module _ (command : Command) (m : ArgMatches) (p : IsParsedFrom command m) where
     workers = in_range plan_app is plan_is_plain plan_has_simple_rules (codes "workers") 1 8 plan_workers refl refl refl;
   }
 
+  pub made_holds : app_of command ≡ gen_app → HoldsMade (values_of m)
+  made_holds is = record {
+    seed = in_range gen_app is gen_is_plain gen_has_simple_rules (codes "seed") 0 2147483647 gen_seed refl refl refl;
+    size = in_range gen_app is gen_is_plain gen_has_simple_rules (codes "size") 1 65536 gen_size refl refl refl;
+    workers = in_range gen_app is gen_is_plain gen_has_simple_rules (codes "workers") 1 8 gen_workers refl refl refl;
+    lane = in_range gen_app is gen_is_plain gen_has_simple_rules (codes "lane") 1 64 gen_lane refl refl refl;
+  }
+
 -- ---- the same values show the same
 
 abbrev pub SameValues : Values → Values → Type 0
@@ -62,12 +72,21 @@ moved_run value other same run h = record {
   plan = sym (same (codes "plan")) ∙ h.plan;
   options = h.options ∙ same_options value other same;
   lane = h.lane ∙ ap (number_or 16) (same (codes "lane"));
-  fuel = h.fuel ∙ ap (number_or 10000000) (same (codes "fuel"));
+  fuel = h.fuel ∙ ap (number_or default_fuel) (same (codes "fuel"));
   why = sym (same (codes "why")) ∙ h.why;
 }
 
 pub moved_planning : (value other : Values) → SameValues value other → (planning : Planning) → ShowsPlanning value planning → ShowsPlanning other planning
 moved_planning value other same planning h = record { program = sym (same (codes "program")) ∙ h.program; options = h.options ∙ same_options value other same }
+
+pub moved_made : (value other : Values) → SameValues value other → (made : GenWords) → ShowsMade value made → ShowsMade other made
+moved_made value other same made h = record {
+  seed = ap (option_map number_in) (sym (same (codes "seed"))) ∙ h.seed;
+  size = ap (option_map number_in) (sym (same (codes "size"))) ∙ h.size;
+  options = h.options ∙ ap (λ (w : Option Text). record { rate = default_rate; stages = default_stages; workers = number_or 2 w }) (same (codes "workers"));
+  lane = h.lane ∙ ap (number_or 16) (same (codes "lane"));
+  fuel = h.fuel;
+}
 
 pub moved_sites : (value other : Values) → SameValues value other → (program : List ℕ) → ShowsSites value program → ShowsSites other program
 moved_sites value other same program h = sym (same (codes "program")) ∙ h

@@ -11,6 +11,10 @@ name_of id = record (new_rule id) { action = Some Set; required = true }
 abbrev pub further_name : Text → Rule
 further_name id = record (new_rule id) { action = Some Set }
 
+-- .. of a number in this range, that has to be given
+abbrev pub number_name : Text → ℕ → ℕ → Rule
+number_name id low high = record (name_of id) { parser = Some (parser.Unsigned low high) }
+
 -- an option with a file's name, an option with a number in this range, and one that stands alone
 abbrev pub file_option : Text → Rule
 file_option id = record (new_rule id) { long = Some id; action = Some Set }
@@ -25,20 +29,30 @@ flag id = record (new_rule id) { long = Some id; action = Some SetTrue }
 abbrev pub verb_app : Text → App
 verb_app verb = record (new_app verb) { top = record (new_app verb).top { no_binary_name = true } }
 
--- .. with the options of automatic plans
+-- the options of a crew's size
+abbrev pub workers_option : Rule
+workers_option = number_option (codes "workers") 1 8
+
+abbrev pub lane_option : Rule
+lane_option = number_option (codes "lane") 1 64
+
+-- a command with the options of automatic plans
 abbrev pub with_plan_options : App → App
-with_plan_options app = with_rule (with_rule (with_rule app (number_option (codes "rate") 0 1000)) (number_option (codes "stages") 1 8)) (number_option (codes "workers") 1 8)
+with_plan_options app = with_rule (with_rule (with_rule app (number_option (codes "rate") 0 1000)) (number_option (codes "stages") 1 8)) workers_option
 
 abbrev pub run_app : App
 run_app =
     with_rule (with_rule (with_rule (with_plan_options (with_rule (with_rule (with_rule (verb_app (codes "run")) (name_of (codes "program"))) (further_name (codes "input"))) (file_option (codes "plan"))))
-    (number_option (codes "lane") 1 64)) (number_option (codes "fuel") 0 1000000000)) (flag (codes "why"))
+    lane_option) (number_option (codes "fuel") 0 1000000000)) (flag (codes "why"))
 
 abbrev pub plan_app : App
 plan_app = with_plan_options (with_rule (verb_app (codes "plan")) (name_of (codes "program")))
 
 abbrev pub check_app : App
 check_app = with_rule (verb_app (codes "check")) (name_of (codes "program"))
+
+abbrev pub gen_app : App
+gen_app = with_rule (with_rule (with_rule (with_rule (verb_app (codes "gen")) (number_name (codes "seed") 0 2147483647)) (number_name (codes "size") 1 65536)) workers_option) lane_option
 
 -- the command takes the words
 abbrev pub IsTaken : App → List Text → Type 0

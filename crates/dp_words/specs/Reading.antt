@@ -21,6 +21,13 @@ pub record HoldsRun (value : Values) : Type 0 where
   pub lane : IfSome (value (codes "lane")) (IsUnsignedIn 1 64)
   pub fuel : IfSome (value (codes "fuel")) (IsUnsignedIn 0 1000000000)
 
+-- .. to one of the made program
+pub record HoldsMade (value : Values) : Type 0 where
+  pub seed : IfSome (value (codes "seed")) (IsUnsignedIn 0 2147483647)
+  pub size : IfSome (value (codes "size")) (IsUnsignedIn 1 65536)
+  pub workers : IfSome (value (codes "workers")) (IsUnsignedIn 1 8)
+  pub lane : IfSome (value (codes "lane")) (IsUnsignedIn 1 64)
+
 -- a number that was given has decimal digits and less than this many bits
 abbrev pub FitsIn : ℕ → Option Text → Type 0
 FitsIn bits text = IfSome text (λ t. IsNumeral 10 (without_leading_plus t) × (digits_value 10 (without_leading_plus t) < 2 ^ bits))

@@ -1,14 +1,15 @@
 -- The words after the program's name, and what they ask for: a verb, and behind it the words of the verb's command.
-use Rattle.std.specs.Prelude.{◌≡◌, ℕ, ◌≤◌, if◌then◌else◌, Bool, List, ◌∷◌, Option, Some, None, codes}
+use Rattle.std.specs.Prelude.{◌≡◌, ℕ, ◌<◌, ◌≤◌, if◌then◌else◌, Bool, List, ◌∷◌, Option, Some, None, codes}
 use Rattle.std.specs.Option.{option_map}
 use Rattle.std.specs.Str.Parse.{digits_value, without_leading_plus}
 use Rattle.clap.specs.Words.{App, Text}
+use Rattle.dp_words.specs.declared.task.GenWords.{GenWords}
 use Rattle.dp_words.specs.declared.task.PlanOptions.{PlanOptions}
 use Rattle.dp_words.specs.declared.task.PlanWords.{PlanWords}
 use Rattle.dp_words.specs.declared.task.RunWords.{RunWords}
 use Rattle.dp_words.specs.declared.task.Task.{Task}
 use Rattle.dp_words.specs.declared.task.Task.TheVariants as task
-use Rattle.dp_words.specs.Commands.{IsTaken, check_app, plan_app, run_app, value_in}
+use Rattle.dp_words.specs.Commands.{IsTaken, check_app, gen_app, plan_app, run_app, value_in}
 
 -- a run: the names of its program, of its input and of its plans, if it has them, how its plans are made if it has none, the places of a lane,
 -- the fuel, and whether its text says why iterations were executed again
@@ -31,17 +32,38 @@ pub record Planning : Type 0 where
 abbrev pub Values : Type 0
 Values = Text → Option Text
 
+-- the number that a text stands for
+abbrev pub number_in : Text → ℕ
+number_in text = digits_value 10 (without_leading_plus text)
+
 -- the number that an option gives, or its default
 abbrev pub number_or : ℕ → Option Text → ℕ
 number_or default None = default
-number_or default (Some text) = digits_value 10 (without_leading_plus text)
+number_or default (Some text) = number_in text
+
+-- the rate, the stages and the fuel that no option gives
+abbrev pub default_rate : ℕ
+default_rate = 10
+
+abbrev pub default_stages : ℕ
+default_stages = 4
+
+abbrev pub default_fuel : ℕ
+default_fuel = 10000000
+
+-- the workers and the places of a lane
+abbrev pub workers_in : Values → ℕ
+workers_in value = number_or 2 (value (codes "workers"))
+
+abbrev pub lane_in : Values → ℕ
+lane_in value = number_or 16 (value (codes "lane"))
 
 -- the options of automatic plans
 abbrev pub options_in : Values → PlanOptions
 options_in value = record {
-  rate = number_or 10 (value (codes "rate"));
-  stages = number_or 4 (value (codes "stages"));
-  workers = number_or 2 (value (codes "workers"));
+  rate = number_or default_rate (value (codes "rate"));
+  stages = number_or default_stages (value (codes "stages"));
+  workers = workers_in value;
 }
 
 -- the values are those of this run
@@ -50,8 +72,8 @@ pub record ShowsRun (value : Values) (run : Run) : Type 0 where
   pub input : value (codes "input") ≡ run.input
   pub plan : value (codes "plan") ≡ run.plan
   pub options : run.options ≡ options_in value
-  pub lane : run.lane ≡ number_or 16 (value (codes "lane"))
-  pub fuel : run.fuel ≡ number_or 10000000 (value (codes "fuel"))
+  pub lane : run.lane ≡ lane_in value
+  pub fuel : run.fuel ≡ number_or default_fuel (value (codes "fuel"))
   pub why : value (codes "why") ≡ Some (if run.why then codes "true" else codes "false")
 
 -- .. of these plans
@@ -62,6 +84,14 @@ pub record ShowsPlanning (value : Values) (planning : Planning) : Type 0 where
 -- .. of the list of this program's sites
 abbrev pub ShowsSites : Values → List ℕ → Type 0
 ShowsSites value program = value (codes "program") ≡ Some program
+
+-- .. of this run of the made program
+pub record ShowsMade (value : Values) (made : GenWords) : Type 0 where
+  pub seed : option_map number_in (value (codes "seed")) ≡ Some made.seed
+  pub size : option_map number_in (value (codes "size")) ≡ Some made.size
+  pub options : made.options ≡ record { rate = default_rate; stages = default_stages; workers = workers_in value }
+  pub lane : made.lane ≡ lane_in value
+  pub fuel : made.fuel ≡ default_fuel
 
 -- ---- by the words
 
@@ -86,11 +116,16 @@ AsksPlans = AsksBy (codes "plan") plan_app ShowsPlanning
 abbrev pub AsksSites : List Text → List ℕ → Type 0
 AsksSites = AsksBy (codes "check") check_app ShowsSites
 
+-- .. for this run of the made program
+abbrev pub AsksMade : List Text → GenWords → Type 0
+AsksMade = AsksBy (codes "gen") gen_app ShowsMade
+
 -- .. for nothing that the program does
 pub record AsksNothing (words : List Text) : Type 0 where
   pub no_run : (run : Run) → ¬ Asks words run
   pub no_plans : (planning : Planning) → ¬ AsksPlans words planning
   pub no_sites : (program : List ℕ) → ¬ AsksSites words program
+  pub none_made : (made : GenWords) → ¬ AsksMade words made
 
 -- ---- by the program's own records of the words
 
@@ -115,6 +150,7 @@ abbrev pub AsksFor : List Text → Task → Type 0
 AsksFor words (task.Run run) = Asks words (shown run)
 AsksFor words (task.Plan plan) = AsksPlans words (shown_planning plan)
 AsksFor words (task.Check program) = AsksSites words program.now
+AsksFor words (task.Gen made) = AsksMade words made
 
 -- the options of automatic plans are within their limits
 pub record OptionsWithin (options : PlanOptions) : Type 0 where
@@ -131,7 +167,17 @@ pub record RunWithin (run : Run) : Type 0 where
   pub few_places : run.lane ≤ 64
   pub few_steps : run.fuel ≤ 1000000000
 
+pub record MadeWithin (made : GenWords) : Type 0 where
+  pub small_seed : made.seed < 2147483648
+  pub some_word : 1 ≤ made.size
+  pub few_words : made.size ≤ 65536
+  pub options : OptionsWithin made.options
+  pub some_place : 1 ≤ made.lane
+  pub few_places : made.lane ≤ 64
+  pub few_steps : made.fuel ≤ 1000000000
+
 abbrev pub IsWithin : Task → Type 0
 IsWithin (task.Run run) = RunWithin (shown run)
 IsWithin (task.Plan plan) = OptionsWithin plan.options
 IsWithin (task.Check program) = Unit {0}
+IsWithin (task.Gen made) = MadeWithin made

@@ -1,7 +1,7 @@
 //! The commands of the verbs.
 ghost use Rattle.std.specs.Prelude.{◌≡◌, IfOk, false};
 ghost use Rattle.clap.specs.Words.{app_of, rule_of};
-ghost use Rattle.dp_words.specs.Commands.{check_app, file_option, flag, further_name, name_of, number_option, plan_app, run_app, verb_app, with_plan_options};
+ghost use Rattle.dp_words.specs.Commands.{check_app, file_option, flag, further_name, gen_app, lane_option, name_of, number_name, number_option, plan_app, run_app, verb_app, with_plan_options, workers_option};
 
 use clap::builder::ValueParser;
 use clap::{Arg, ArgAction, Command};
@@ -17,7 +17,7 @@ pub fn run_command<'w>(alloc: Global) -> Result<Command<'w>, NoMemory>
         .arg(further_name(alloc, "input"))?
         .arg(file_option(alloc, "plan"))?;
     let command = with_plan_options(alloc, command)?
-        .arg(number_option(alloc, "lane", 1, 64))?
+        .arg(lane_option(alloc))?
         .arg(number_option(alloc, "fuel", 0, 1_000_000_000))?
         .arg(flag(alloc, "why"))?;
     Ok(command)
@@ -39,6 +39,18 @@ pub fn check_command<'w>(alloc: Global) -> Result<Command<'w>, NoMemory>
     Ok(command)
 }
 
+/// The command that runs the made program.
+pub fn gen_command<'w>(alloc: Global) -> Result<Command<'w>, NoMemory>
+    ensures { IfOk result (λ command. app_of command ≡ gen_app) }
+{
+    let command = verb_command(alloc, "gen")
+        .arg(number_name(alloc, "seed", 0, 2_147_483_647))?
+        .arg(number_name(alloc, "size", 1, 65_536))?
+        .arg(workers_option(alloc))?
+        .arg(lane_option(alloc))?;
+    Ok(command)
+}
+
 /// The command with the options of automatic plans.
 fn with_plan_options<'w>(alloc: Global, command: Command<'w>) -> Result<Command<'w>, NoMemory>
     ensures { IfOk result (λ with. app_of with ≡ with_plan_options (app_of command.entry)) }
@@ -46,7 +58,7 @@ fn with_plan_options<'w>(alloc: Global, command: Command<'w>) -> Result<Command<
     let command = command
         .arg(number_option(alloc, "rate", 0, 1000))?
         .arg(number_option(alloc, "stages", 1, 8))?
-        .arg(number_option(alloc, "workers", 1, 8))?;
+        .arg(workers_option(alloc))?;
     Ok(command)
 }
 
@@ -63,6 +75,14 @@ fn name_of<'w>(alloc: Global, id: &'w str) -> Arg<'w>
     ensures local { result.global ≡ false }
 {
     further_name(alloc, id).required(true)
+}
+
+/// A number from `low` to `high` that has to be given.
+fn number_name<'w>(alloc: Global, id: &'w str, low: u64, high: u64) -> Arg<'w>
+    ensures rule { rule_of result ≡ number_name id.entry.now low high }
+    ensures local { result.global ≡ false }
+{
+    name_of(alloc, id).value_parser(ValueParser::unsigned(low, high))
 }
 
 /// A name that may be given.
@@ -90,6 +110,22 @@ fn number_option<'w>(alloc: Global, id: &'w str, low: u64, high: u64) -> Arg<'w>
         .long(id)
         .action(ArgAction::Set)
         .value_parser(ValueParser::unsigned(low, high))
+}
+
+/// The workers of a replicated stage.
+fn workers_option<'w>(alloc: Global) -> Arg<'w>
+    ensures rule { rule_of result ≡ workers_option }
+    ensures local { result.global ≡ false }
+{
+    number_option(alloc, "workers", 1, 8)
+}
+
+/// The places of a lane.
+fn lane_option<'w>(alloc: Global) -> Arg<'w>
+    ensures rule { rule_of result ≡ lane_option }
+    ensures local { result.global ≡ false }
+{
+    number_option(alloc, "lane", 1, 64)
 }
 
 /// An option that stands alone.

@@ -1,10 +1,11 @@
 //! What the matches of a verb's words show.
 ghost use Rattle.std.specs.Prelude.{◌≡◌, Bool, Some, codes, if◌then◌else◌, IfSome, IfNone};
 ghost use Rattle.std.specs.Option.{option_map};
-ghost use Rattle.dp_words.specs.Words.{OptionsWithin, Planning, Run, RunWithin, ShowsPlanning, ShowsRun, number_or, options_in, shown, shown_planning};
-ghost use Rattle.dp_words.specs.Reading.{FitsIn, HoldsOptions, HoldsRun, values_of};
+ghost use Rattle.dp_words.specs.Words.{MadeWithin, OptionsWithin, Planning, Run, RunWithin, ShowsMade, ShowsPlanning, ShowsRun, number_in, number_or, options_in, shown, shown_planning};
+ghost use Rattle.dp_words.specs.Reading.{FitsIn, HoldsMade, HoldsOptions, HoldsRun, values_of};
+ghost use Rattle.dp_words.specs.declared.task.GenWords.{GenWords};
 
-use crate::task::{PlanOptions, PlanWords, RunWords};
+use crate::task::{GenWords, PlanOptions, PlanWords, RunWords};
 use clap::ArgMatches;
 
 const DEFAULT_RATE: u32 = 10;
@@ -52,6 +53,31 @@ pub fn plan_words<'w>(matches: &ArgMatches<'w>) -> Option<PlanWords<'w>>
     Some(PlanWords { program, options })
 }
 
+/// The run of the made program with these matches.
+pub fn gen_words<'w>(matches: &ArgMatches<'w>) -> Option<GenWords>
+    requires numbers { HoldsMade (values_of matches.now) }
+    ensures some { IfSome result (ShowsMade (values_of matches.now)) }
+    ensures within { IfSome result MadeWithin }
+    ensures none { IfNone result ((made : GenWords) → ¬ ShowsMade (values_of matches.now) made) }
+{
+    let seed = given_number(matches.get_str("seed"))?;
+    let size = given_number(matches.get_str("size"))?;
+    let workers = small_number(matches.get_str("workers"), DEFAULT_WORKERS)?;
+    let lane = small_number(matches.get_str("lane"), DEFAULT_LANE)?;
+    let options = PlanOptions {
+        rate: DEFAULT_RATE,
+        stages: DEFAULT_STAGES,
+        workers,
+    };
+    Some(GenWords {
+        seed,
+        size,
+        options,
+        lane,
+        fuel: DEFAULT_FUEL,
+    })
+}
+
 /// The options of automatic plans.
 fn plan_options<'w>(matches: &ArgMatches<'w>) -> Option<PlanOptions>
     requires numbers { HoldsOptions (values_of matches.now) }
@@ -86,6 +112,13 @@ fn small_number(text: Option<&str>, default: u32) -> Option<u32>
         Some(text) => text.parse::<u32>().ok(),
         None => Some(default),
     }
+}
+
+/// The number that has to be given.
+fn given_number(text: Option<&str>) -> Option<u32>
+    ensures { FitsIn 32 (option_map (λ t. t.now) text.entry) → result ≡ option_map number_in (option_map (λ t. t.now) text.entry) }
+{
+    small_number(Some(text?), 0)
 }
 
 /// What `true` and `false` say.

@@ -38,6 +38,21 @@ pub struct PlanWords<'w> {
     pub options: PlanOptions,
 }
 
+/// A run of the made program that was asked for.
+#[derive(Clone, Copy, Debug, PartialEq, Eq)]
+pub struct GenWords {
+    /// The number that the words of its input come from, below 2,147,483,648.
+    pub seed: u32,
+    /// How many words there are, from 1 to 65,536.
+    pub size: u32,
+    /// How its plan is made: the words give the workers alone.
+    pub options: PlanOptions,
+    /// The places of a lane, from 1 to 64.
+    pub lane: u32,
+    /// The greatest number of steps.
+    pub fuel: u64,
+}
+
 /// What the program is asked to do.
 #[derive(Clone, Copy, Debug, PartialEq, Eq)]
 pub enum Task<'w> {
@@ -46,4 +61,6 @@ pub enum Task<'w> {
     Plan(PlanWords<'w>),
     /// To list the sites of the program with this name.
     Check(&'w str),
+    /// To make a program with its input, and to run it.
+    Gen(GenWords),
 }

@@ -1,12 +1,13 @@
 //! The words, read by their verb.
 ghost use Rattle.std.specs.Prelude.{◌≡◌, ◌↔◌, ℕ, List, IsTrue, map, string_bytes, IfOk, IfSome, IfNone};
-ghost use Rattle.dp_words.specs.Commands.{check_app, plan_app, run_app};
-ghost use Rattle.dp_words.specs.Words.{AsksFor, AsksNothing, IsWithin, Names, OptionsWithin, Planning, Run, RunWithin, ShowsPlanning, ShowsRun, ShowsSites, shown, shown_planning};
+ghost use Rattle.dp_words.specs.Commands.{check_app, gen_app, plan_app, run_app};
+ghost use Rattle.dp_words.specs.Words.{AsksFor, AsksNothing, IsWithin, MadeWithin, Names, OptionsWithin, Planning, Run, RunWithin, ShowsMade, ShowsPlanning, ShowsRun, ShowsSites, shown, shown_planning};
+ghost use Rattle.dp_words.specs.declared.task.GenWords.{GenWords};
 
-use crate::commands::{check_command, plan_command, run_command};
+use crate::commands::{check_command, gen_command, plan_command, run_command};
 use crate::parsing::found;
-use crate::reading::{plan_words, run_words};
-use crate::task::{PlanWords, RunWords, Task};
+use crate::reading::{gen_words, plan_words, run_words};
+use crate::task::{GenWords, PlanWords, RunWords, Task};
 use dp_base::NoMemory;
 use std::alloc::Global;
 
@@ -28,6 +29,12 @@ pub fn asked(alloc: Global, words: &[String]) -> Result<Option<Task<'_>>, NoMemo
     }
     if is(verb, "check") {
         return Ok(sites(alloc, rest)?.map(Task::Check));
+    }
+    if is(verb, "gen") {
+        return match made(alloc, rest)? {
+            Some(made) => Ok(Some(Task::Gen(made))),
+            None => Ok(None),
+        };
     }
     Ok(None)
 }
@@ -69,6 +76,18 @@ fn sites(alloc: Global, words: &[String]) -> Result<Option<&str>, NoMemory>
 {
     match found(check_command(alloc)?, words)? {
         Some(matches) => Ok(matches.get_str("program")),
+        None => Ok(None),
+    }
+}
+
+/// The run of the made program that the words behind the verb name.
+fn made(alloc: Global, words: &[String]) -> Result<Option<GenWords>, NoMemory>
+    ensures some { IfOk result (λ made. IfSome made (Names gen_app ShowsMade (map string_bytes words.now))) }
+    ensures within { IfOk result (λ made. IfSome made MadeWithin) }
+    ensures none { IfOk result (λ made. IfNone made ((named : GenWords) → ¬ Names gen_app ShowsMade (map string_bytes words.now) named)) }
+{
+    match found(gen_command(alloc)?, words)? {
+        Some(matches) => Ok(gen_words(&matches)),
         None => Ok(None),
     }
 }

@@ -33,7 +33,7 @@ use Rattle.dp_run.specs.RunText.{source_run, trace_text, committed_in_all}
 use Rattle.dswp.specs.Status.{status_after}
 use Rattle.dswp.specs.RunText.{run_text, status_of}
 use Rattle.dswp.specs.Answer.{Contents, Holds, Plans, IsRead, Answer, NotTaken, ProgramRefused, InputRefused, PlansRefused, Ran, PlansWritten, SitesListed, OfProgram, OfInput, OfPlans, OfRun}
-use Rattle.dswp.specs.Headline.{Answered, IsCounted, IsEnd, Whole, Short, Nothing, ReadFailed, WriteFailed, OfAnswer, OfFailedRead}
+use Rattle.dswp.specs.Headline.{AskForRun, Answered, IsCounted, IsEnd, Whole, Short, Nothing, ReadFailed, WriteFailed, OfAnswer, OfFailedRead}
 use Rattle.dswp.specs.Carried.{Names, Finishes, LoadsTexts, Carried, Starved}
 use Rattle.dswp.specs.Carried as carried
 
@@ -46,15 +46,15 @@ loaded contents run faults after failed fails r x e h = rw e at h
 finishes_as : (s t : ℕ) (a b : List ℕ) (told tells : Option (List ℕ)) (result : Result ℕ CrewFail) → s ≡ t → a ≡ b → Finishes s a told tells result → Finishes t b told tells result
 finishes_as s t a b told tells result e f h = subst (λ (x : List ℕ). Finishes t x told tells result) f (subst (λ (n : ℕ). Finishes n a told tells result) e h)
 
--- What the run of the expanded program finishes is what the source's run is to be answered with.
-finishes_source : (p q : Program) → q ≡ expand p → IsChecked p → (plans : List Plan) (numbers : List ℤ) (fuel : ℕ) (why : Bool) (told tells : Option (List ℕ)) (result : Result ℕ CrewFail) →
-    Finishes (status_of (source_run q numbers fuel).end) (trace_text q plans (source_run q numbers fuel) why) told tells result → Finishes (status_of (outcome p numbers fuel).end) (run_text p plans numbers fuel why) told tells result
-finishes_source p q is checked plans numbers fuel why told tells result h =
+-- What the run of the expanded program finishes, behind a line, is what the source's run is to be answered with.
+pub finishes_source : (p q : Program) → q ≡ expand p → IsChecked p → (plans : List Plan) (numbers : List ℤ) (fuel : ℕ) (why : Bool) (line : List ℕ) (told tells : Option (List ℕ)) (result : Result ℕ CrewFail) →
+    Finishes (status_of (source_run q numbers fuel).end) (line ++ trace_text q plans (source_run q numbers fuel) why) told tells result → Finishes (status_of (outcome p numbers fuel).end) (line ++ run_text p plans numbers fuel why) told tells result
+finishes_source p q is checked plans numbers fuel why line told tells result h =
     let inlined = expanded_is_inlined p checked in
     let same = same_meaning p checked in
-    finishes_as (status_of (source_run q numbers fuel).end) (status_of (outcome p numbers fuel).end) (trace_text q plans (source_run q numbers fuel) why) (run_text p plans numbers fuel why) told tells result
+    finishes_as (status_of (source_run q numbers fuel).end) (status_of (outcome p numbers fuel).end) (line ++ trace_text q plans (source_run q numbers fuel) why) (line ++ run_text p plans numbers fuel why) told tells result
     (ap (λ (x : Program). status_of (source_run x numbers fuel).end) is ∙ ap status_of (sym (same_end p inlined same plans numbers fuel why)))
-    (ap (λ (x : Program). trace_text x plans (source_run x numbers fuel) why) is ∙ sym (same_text p inlined same plans numbers fuel why)) h
+    (ap (λ (x : Program). line ++ trace_text x plans (source_run x numbers fuel) why) is ∙ ap (λ (text : List ℕ). line ++ text) (sym (same_text p inlined same plans numbers fuel why))) h
 
 module _ (words : List (List ℕ)) (contents : Contents) (faults after : ℕ) (failed fails : Names) (told tells : Option (List ℕ)) where
   pub carry_not_taken : (result : Result ℕ CrewFail) → AsksNothing words → after ≡ faults → fails ≡ failed → Finishes (refusal_status Words) (refusal_line Words) told tells result →
@@ -65,12 +65,12 @@ module _ (words : List (List ℕ)) (contents : Contents) (faults after : ℕ) (f
       Finishes (status_of (source_run q numbers run.fuel).end) (trace_text q plans (source_run q numbers run.fuel) run.why) told tells result → Carried words contents faults after failed fails told tells result
   carry_run run q numbers plans result asks (carried.Loaded p x others given is h k l fit e f) finishes =
       carried.OfAnswer _ _ (Ran run h.text p numbers plans asks h.held h.reads k (subst (λ (y : Program). Plans contents y run.options run.plan (Ok plans)) is l)) e f
-      (finishes_source p q is (read_checked h.text p h.reads) plans numbers run.fuel run.why told tells result finishes)
+      (finishes_source p q is (read_checked h.text p h.reads) plans numbers run.fuel run.why [] told tells result finishes)
 
   -- .. and the tally grew by what was committed of it
   pub count_run : (run : Run) (q : Program) (numbers : List ℤ) (plans : List Plan) (before now status : ℕ) → Asks words run → LoadsTexts contents run faults after failed fails (texts.Run q numbers plans) →
       now ≡ before + committed_in_all q plans (source_run q numbers run.fuel) → IsCounted words contents before now status
-  count_run run q numbers plans before now status asks (carried.Loaded p x others given is h k l fit e f) tally = λ other asked end. (
+  count_run run q numbers plans before now status asks (carried.Loaded p x others given is h k l fit e f) tally = λ asked end. (
     committed_in_all (expand p) plans (source_run (expand p) numbers run.fuel),
     OfRun run h.text p numbers plans asks h.held h.reads k (subst (λ (y : Program). Plans contents y run.options run.plan (Ok plans)) is l),
     tally ∙ ap (λ (y : Program). before + committed_in_all y plans (source_run y numbers run.fuel)) is,
@@ -192,24 +192,24 @@ status_is s bytes told tells (Err fail) P h finishes = tt
 -- where no run ended, nothing is said of the tally
 module _ (words : List (List ℕ)) (contents : Contents) (before now : ℕ) (told tells : Option (List ℕ)) (result : Result ℕ CrewFail) where
   pub refused_counts : (refusal : Refusal) → Finishes (refusal_status refusal) (refusal_line refusal) told tells result → IfOk result (IsCounted words contents before now)
-  refused_counts refusal h = status_is (refusal_status refusal) (refusal_line refusal) told tells result (IsCounted words contents before now) (λ run asks end. absurd (refusal_is_no_end refusal end)) h
+  refused_counts refusal h = status_is (refusal_status refusal) (refusal_line refusal) told tells result (IsCounted words contents before now) (λ asks end. absurd (refusal_is_no_end refusal end)) h
 
   pub failed_counts : (which : Role) → Finishes 5 (failed_read_line which) told tells result → IfOk result (IsCounted words contents before now)
-  failed_counts which h = status_is 5 (failed_read_line which) told tells result (IsCounted words contents before now) (λ run asks end. absurd (no_end_by 5 (omega arith) (λ e. omega (arith, e)) end)) h
+  failed_counts which h = status_is 5 (failed_read_line which) told tells result (IsCounted words contents before now) (λ asks end. absurd (no_end_by 5 (omega arith) (λ e. omega (arith, e)) end)) h
 
 all_results : (result : Result ℕ CrewFail) (P : ℕ → Type 0) → ((s : ℕ) → P s) → IfOk result P
 all_results (Ok s) P h = h s
 all_results (Err fail) P h = tt
 
 -- nor where no run was asked for
-pub no_run_counts : (words : List (List ℕ)) (contents : Contents) (before now : ℕ) (result : Result ℕ CrewFail) → ((run : Run) → ¬ Asks words run) → IfOk result (IsCounted words contents before now)
-no_run_counts words contents before now result none = all_results result (IsCounted words contents before now) (λ s run asked end. absurd (none run asked))
+pub no_run_counts : (words : List (List ℕ)) (contents : Contents) (before now : ℕ) (result : Result ℕ CrewFail) → ¬ AskForRun words → IfOk result (IsCounted words contents before now)
+no_run_counts words contents before now result none = all_results result (IsCounted words contents before now) (λ s asked end. absurd (none asked))
 
 -- the status after a result: those of failures are no ends
 pub counted_after : (words : List (List ℕ)) (contents : Contents) (before now status : ℕ) (result : Result ℕ CrewFail) → status ≡ status_after result → IfOk result (IsCounted words contents before now) → IsCounted words contents before now status
 counted_after words contents before now status (Ok s) e h = rw e h
-counted_after words contents before now status (Err Write) e h = λ run asks end. absurd (no_end_by 6 (omega arith) (λ e. omega (arith, e)) (rw e at end))
-counted_after words contents before now status (Err NoMemory) e h = λ run asks end. absurd (no_end_by 7 (omega arith) (λ e. omega (arith, e)) (rw e at end))
+counted_after words contents before now status (Err Write) e h = λ asks end. absurd (no_end_by 6 (omega arith) (λ e. omega (arith, e)) (rw e at end))
+counted_after words contents before now status (Err NoMemory) e h = λ asks end. absurd (no_end_by 7 (omega arith) (λ e. omega (arith, e)) (rw e at end))
 
 -- a run that was loaded: where it ended, the tally grew by what was committed of it
 pub run_counts : (words : List (List ℕ)) (contents : Contents) (faults after : ℕ) (failed fails : Names) (run : Run) (q : Program) (numbers : List ℤ) (plans : List Plan) (before now : ℕ) (result : Result ℕ CrewFail) →

@@ -2,4 +2,5 @@ pub mod accepted
 pub mod LoadLemmas
 pub mod TextsLemmas
 pub mod AnswerLemmas
+pub mod MadeLemmas
 pub mod definite

@@ -1,5 +1,5 @@
 -- What is answered to the words and to the texts that they name: a status, and the bytes that are written.
-use Rattle.std.specs.Prelude.{◌≡◌, ℕ, if◌then◌else◌, List, [], length, nat_lt, ℤ, Option, Some, None, Result, Ok, Err, IfSome}
+use Rattle.std.specs.Prelude.{◌≡◌, ℕ, if◌then◌else◌, false, List, [], ◌++◌, length, nat_lt, ℤ, Option, Some, None, Result, Ok, Err, IfSome}
 use Rattle.dp_base.specs.declared.Quantity.TheVariants.{InputBytes, InputWords}
 use Rattle.dp_tree.specs.declared.Program.{Program}
 use Rattle.dp_calls.specs.Expand.{expand}
@@ -12,12 +12,15 @@ use Rattle.dswp.specs.declared.refusal.Role.TheVariants as role
 use Rattle.dswp.specs.declared.refusal.Refusal.{Refusal}
 use Rattle.dswp.specs.declared.refusal.Refusal.TheVariants.{Words, InputWord, Limit}
 use Rattle.dswp.specs.Refusal.{refusal_line, refusal_status}
+use Rattle.dp_report.specs.Generator.{made_text}
 use Rattle.dp_report.specs.SiteText.{site_bytes}
+use Rattle.dp_words.specs.declared.task.GenWords.{GenWords}
 use Rattle.dp_words.specs.declared.task.PlanOptions.{PlanOptions}
-use Rattle.dp_words.specs.Words.{Run, Planning, Asks, AsksPlans, AsksSites, AsksNothing}
+use Rattle.dp_words.specs.Words.{Run, Planning, Asks, AsksMade, AsksPlans, AsksSites, AsksNothing}
 use Rattle.dp_run.specs.RunText.{source_run, committed_in_all}
 use Rattle.dp_plan.specs.declared.Plan.{Plan}
 use Rattle.dp_plan.specs.WrittenText.{plans_text}
+use Rattle.dswp.specs.Made.{made_line, made_words}
 use Rattle.dswp.specs.Plans.{MakesPlans, ReadsPlans}
 use Rattle.dswp.specs.Program.{Reads}
 use Rattle.dswp.specs.RunText.{run_text, status_of}
@@ -60,7 +63,8 @@ pub data Plans (contents : Contents) (p : Program) (options : PlanOptions) : Opt
   Automatic : (plans : List Plan) → MakesPlans p options plans → Plans contents p options None (Ok plans)
   Planned : (name text : List ℕ) (read : Result (List Plan) Refusal) → Holds contents name text → ReadsPlans p text read → Plans contents p options (Some name) read
 
--- The first refusal, in the order of words, program, input and plans, or else the run, the automatic plans, or the list of sites.
+-- The first refusal, in the order of words, program, input and plans, or else the run, the automatic plans, or the list of sites. The text of the
+-- made program is read as each other one.
 pub data Answer (words : List (List ℕ)) (contents : Contents) : ℕ → List ℕ → Type 0 where
   NotTaken : AsksNothing words → Answer words contents (refusal_status Words) (refusal_line Words)
   ProgramRefused : (run : Run) (text : List ℕ) (refusal : Refusal) → Asks words run → Holds contents run.program text → Reads text (Err refusal) →
@@ -80,6 +84,9 @@ pub data Answer (words : List (List ℕ)) (contents : Contents) : ℕ → List �
       Answer words contents (refusal_status refusal) (refusal_line refusal)
   SitesListed : (program text : List ℕ) (p : Program) → AsksSites words program → Holds contents program text → Reads text (Ok p) →
       Answer words contents 0 (site_bytes (expand p))
+  MadeRefused : (made : GenWords) (refusal : Refusal) → AsksMade words made → Reads made_text (Err refusal) → Answer words contents (refusal_status refusal) (refusal_line refusal)
+  MadeRan : (made : GenWords) (p : Program) (plans : List Plan) → AsksMade words made → Reads made_text (Ok p) → MakesPlans (expand p) made.options plans →
+      Answer words contents (status_of (outcome p (made_words made) made.fuel).end) (made_line made ++ run_text p plans (made_words made) made.fuel false)
 
 -- The text of this role is to be read under this name: no refusal comes before.
 pub data IsRead (words : List (List ℕ)) (contents : Contents) : Role → List ℕ → Type 0 where
@@ -96,3 +103,5 @@ pub data Commits (words : List (List ℕ)) (contents : Contents) : ℕ → Type 
   OfRun : (run : Run) (text : List ℕ) (p : Program) (numbers : List ℤ) (plans : List Plan) → Asks words run → Holds contents run.program text → Reads text (Ok p) →
       Input contents run.input (Ok numbers) → Plans contents (expand p) run.options run.plan (Ok plans) →
       Commits words contents (committed_in_all (expand p) plans (source_run (expand p) numbers run.fuel))
+  OfMade : (made : GenWords) (p : Program) (plans : List Plan) → AsksMade words made → Reads made_text (Ok p) → MakesPlans (expand p) made.options plans →
+      Commits words contents (committed_in_all (expand p) plans (source_run (expand p) (made_words made) made.fuel))

@@ -5,7 +5,8 @@ use Rattle.dp_edge.specs.Sink.{appended}
 use Rattle.dswp.specs.declared.refusal.Role.{Role}
 use Rattle.dswp.specs.Refusal.{failed_read_line}
 use Rattle.dp_crew.specs.Output.{WritesFront}
-use Rattle.dp_words.specs.Words.{Run, Asks}
+use Rattle.dp_words.specs.declared.task.GenWords.{GenWords}
+use Rattle.dp_words.specs.Words.{Run, Asks, AsksMade}
 use Rattle.dswp.specs.Answer.{Contents, Answer, Commits, IsRead}
 
 -- No read and no write failed: the whole answer was written and the status is its own, or memory was wanting, which is
@@ -36,6 +37,11 @@ pub data WriteFailed (words : List (List ℕ)) (contents : Contents) (faults aft
 abbrev pub IsEnd : ℕ → Type 0
 IsEnd status = (status ≡ 0) ⊎ (status ≡ 1) ⊎ (status ≡ 8)
 
+-- The words ask for a run: that of a program that they name, or that of the made one.
+pub data AskForRun (words : List (List ℕ)) : Type 0 where
+  OfNamed : (run : Run) → Asks words run → AskForRun words
+  OfMade : (made : GenWords) → AsksMade words made → AskForRun words
+
 -- Where a run was asked for and ended, the tally grew by its iterations that were committed from a pipeline.
 abbrev pub IsCounted : List (List ℕ) → Contents → ℕ → ℕ → ℕ → Type 0
-IsCounted words contents before after status = (run : Run) → Asks words run → IsEnd status → (count : ℕ) × Commits words contents count × (after ≡ before + count)
+IsCounted words contents before after status = AskForRun words → IsEnd status → (count : ℕ) × Commits words contents count × (after ≡ before + count)

@@ -3,6 +3,7 @@ pub mod Answer
 pub mod Program
 pub mod Plans
 pub mod RunText
+pub mod Made
 pub mod Refusal
 pub mod Loading
 pub mod Carried

@@ -8,6 +8,7 @@ ghost use Rattle.dswp.specs.Carried.{Carried, Finishes};
 ghost use Rattle.dswp.specs.Status.{status_after};
 
 use crate::load::{Loaded, load_program};
+use crate::made::answer_gen;
 use crate::planning::answer_plan;
 use crate::refusal::{Refusal, Role};
 use crate::running::{load, run_to_end};
@@ -15,7 +16,7 @@ use crate::texts::Texts;
 use crate::writing::{fail_read, refuse};
 use dp_edge::{Gate, Shelf, Sink};
 use dp_report::site_text;
-use dp_run::{CrewFail, Tally, write};
+use dp_run::{CrewFail, CrewSize, RunOptions, Tally, write};
 use dp_tree::Program;
 use dp_words::{RunWords, Task, asked};
 use std::alloc::Global;
@@ -98,6 +99,7 @@ fn answer<R: Threads + Wait + Sync, S: Shelf, K: Sink, G: Gate>(
         Some(Task::Run(run)) => answer_run(rt, alloc, run, shelf, sink, gate, tally),
         Some(Task::Plan(plan)) => answer_plan(alloc, plan, shelf, sink),
         Some(Task::Check(program)) => answer_check(alloc, program, shelf, sink),
+        Some(Task::Gen(words)) => answer_gen(rt, alloc, words, sink, gate, tally),
         None => refuse(alloc, Refusal::Words, sink),
     }
 }
@@ -124,7 +126,17 @@ fn answer_run<R: Threads + Wait + Sync, S: Shelf, K: Sink, G: Gate>(
 {
     match load(alloc, run, shelf)? {
         Texts::Run(program, input, plans) => {
-            run_to_end(rt, alloc, &program, &plans, &input, run, sink, gate, tally)
+            let options = RunOptions {
+                fuel: run.fuel,
+                crew: CrewSize {
+                    workers: run.options.workers,
+                    lane: run.lane,
+                },
+                why: run.why,
+            };
+            run_to_end(
+                rt, alloc, &program, &plans, &input, options, sink, gate, tally,
+            )
         }
         Texts::Refused(refusal) => refuse(alloc, refusal, sink),
         Texts::Failed(role) => fail_read(alloc, role, sink),

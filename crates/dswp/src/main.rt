@@ -5,6 +5,7 @@
 mod answer;
 mod law;
 mod load;
+mod made;
 mod planning;
 mod program;
 mod quantity;

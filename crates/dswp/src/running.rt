@@ -5,7 +5,7 @@ ghost use Rattle.dp_crew.specs.Fail.{FaultsAfter};
 ghost use Rattle.dp_run.specs.Given.{AreGiven};
 ghost use Rattle.dp_run.specs.RunText.{committed_in_all, source_run, trace_text};
 ghost use Rattle.dp_plan.specs.GivenPlans.{ArePlans};
-ghost use Rattle.dp_words.specs.Words.{OptionsWithin, RunWithin, shown};
+ghost use Rattle.dp_words.specs.Words.{OptionsWithin, shown};
 ghost use Rattle.dswp.specs.Carried.{Finishes, LoadsTexts};
 ghost use Rattle.std.specs.Option.{option_map};
 ghost use Rattle.dswp.specs.Answer.{Input, Plans};
@@ -19,7 +19,7 @@ use crate::texts::Texts;
 use dp_base::{End, NoMemory, Row};
 use dp_edge::{Gate, Shelf, Sink};
 use dp_plan::Plan;
-use dp_run::{CrewFail, CrewSize, RunOptions, Tally, run_program};
+use dp_run::{CrewFail, RunOptions, Tally, run_program};
 use dp_tree::Program;
 use dp_words::{PlanOptions, RunWords};
 use std::alloc::Global;
@@ -98,29 +98,22 @@ pub fn run_to_end<R: Threads + Wait + Sync, K: Sink, G: Gate>(
     program: &Program,
     plans: &Row<Plan>,
     input: &Row<i64>,
-    run: RunWords,
+    options: RunOptions,
     sink: &mut K,
     gate: &G,
     tally: &mut Tally,
 ) -> Result<u8, CrewFail>
     requires given { AreGiven program.now plans.now }
     requires words { length input.now ≤ 65536 }
-    requires run { RunWithin (shown run) }
+    requires fuel { options.fuel ≤ 1000000000 }
+    requires crew { (1 ≤ options.crew.workers) × (options.crew.workers ≤ 8) × (1 ≤ options.crew.lane) × (options.crew.lane ≤ 64) }
     requires sink { K.faults sink.old < 2 ^ 64 - 1 }
     requires tally { tally.old < 2 ^ 63 }
     ensures faults { FaultsAfter result (K.faults sink.old) (K.faults sink.new) }
-    ensures finishes { let trace = source_run program.now input.now run.entry.fuel in
-        Finishes (status_of trace.end) (trace_text program.now plans.now trace run.entry.why) (K.written sink.old) (K.written sink.new) result }
-    ensures tally { OnOk result (tally.new ≡ tally.old + committed_in_all program.now plans.now (source_run program.now input.now run.entry.fuel)) }
+    ensures finishes { let trace = source_run program.now input.now options.fuel in
+        Finishes (status_of trace.end) (trace_text program.now plans.now trace options.why) (K.written sink.old) (K.written sink.new) result }
+    ensures tally { OnOk result (tally.new ≡ tally.old + committed_in_all program.now plans.now (source_run program.now input.now options.fuel)) }
 {
-    let options = RunOptions {
-        fuel: run.fuel,
-        crew: CrewSize {
-            workers: run.options.workers,
-            lane: run.lane,
-        },
-        why: run.why,
-    };
     let end = run_program(
         rt,
         alloc,

@@ -2,8 +2,8 @@
 use Rattle.std.proofs.Common.{refl, List, [], ◌∷◌, Some, None, true, false, codes}
 use Rattle.clap.specs.Words.{Text}
 use Rattle.clap.proofs.OnLiterals.{clap_on_literals}
-use Rattle.dp_words.specs.Commands.{check_app, plan_app, run_app}
-use Rattle.dp_words.specs.Words.{Names, ShowsPlanning, ShowsRun, ShowsSites}
+use Rattle.dp_words.specs.Commands.{check_app, gen_app, plan_app, run_app}
+use Rattle.dp_words.specs.Words.{Names, ShowsMade, ShowsPlanning, ShowsRun, ShowsSites}
 
 -- ---- the names alone
 
@@ -49,3 +49,19 @@ full_plan = record { taken = refl; shows = record { program = refl; options = re
 one_program : Names check_app ShowsSites short_words (codes "p")
 unfolding clap_on_literals
 one_program = record { taken = refl; shows = refl }
+
+-- ---- the made program
+
+abbrev least_words : List Text
+least_words = codes "0" ∷ codes "1" ∷ []
+
+least_made : Names gen_app ShowsMade least_words (record { seed = 0; size = 1; options = record { rate = 10; stages = 4; workers = 2 }; lane = 16; fuel = 10000000 })
+unfolding clap_on_literals
+least_made = record { taken = refl; shows = record { seed = refl; size = refl; options = refl; lane = refl; fuel = refl } }
+
+abbrev most_words : List Text
+most_words = codes "--lane=64" ∷ codes "2147483647" ∷ codes "--workers" ∷ codes "8" ∷ codes "+065536" ∷ []
+
+most_made : Names gen_app ShowsMade most_words (record { seed = 2147483647; size = 65536; options = record { rate = 10; stages = 4; workers = 8 }; lane = 64; fuel = 10000000 })
+unfolding clap_on_literals
+most_made = record { taken = refl; shows = record { seed = refl; size = refl; options = refl; lane = refl; fuel = refl } }

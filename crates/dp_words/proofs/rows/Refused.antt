@@ -3,7 +3,7 @@ use Rattle.std.proofs.Common.{◌≡◌, refl, List, [], ◌∷◌, codes}
 use Rattle.clap.specs.Words.{Text, fault_of}
 use Rattle.clap.specs.declared.error.kind.ErrorKind.TheVariants as kind
 use Rattle.clap.proofs.OnLiterals.{clap_on_literals}
-use Rattle.dp_words.specs.Commands.{check_app, plan_app, run_app}
+use Rattle.dp_words.specs.Commands.{check_app, gen_app, plan_app, run_app}
 
 abbrev option_of : Text → Text → List Text
 option_of name value = codes "p" ∷ name ∷ value ∷ []
@@ -83,3 +83,23 @@ second_program = refl
 checked_with_option : fault_of check_app (codes "p" ∷ codes "--why" ∷ []) ≡ kind.UnknownArgument ∷ []
 unfolding clap_on_literals
 checked_with_option = refl
+
+no_size : fault_of gen_app (codes "1" ∷ []) ≡ kind.MissingRequiredArgument ∷ []
+unfolding clap_on_literals
+no_size = refl
+
+no_words : fault_of gen_app (codes "1" ∷ codes "0" ∷ []) ≡ kind.ValueValidation ∷ []
+unfolding clap_on_literals
+no_words = refl
+
+too_many_words : fault_of gen_app (codes "1" ∷ codes "65537" ∷ []) ≡ kind.ValueValidation ∷ []
+unfolding clap_on_literals
+too_many_words = refl
+
+large_seed : fault_of gen_app (codes "2147483648" ∷ codes "1" ∷ []) ≡ kind.ValueValidation ∷ []
+unfolding clap_on_literals
+large_seed = refl
+
+made_with_stages : fault_of gen_app (codes "1" ∷ codes "1" ∷ codes "--stages" ∷ codes "1" ∷ []) ≡ kind.UnknownArgument ∷ []
+unfolding clap_on_literals
+made_with_stages = refl

@@ -1,25 +1,28 @@
 -- Where a shelf tells what it holds, there is one answer only.
-use Rattle.std.proofs.Common.{◌≡◌, refl, sym, ap, ◌∙◌, subst, ℕ, ◌<◌, ◌^◌, List, [], length, ℤ, Option, Some, None, Result, Ok, Err}
+use Rattle.std.proofs.Common.{◌≡◌, refl, sym, ap, ◌∙◌, subst, ℕ, ◌<◌, ◌^◌, false, List, [], ◌++◌, length, ℤ, Option, Some, None, Result, Ok, Err}
 use Rattle.dp_tree.specs.declared.Program.{Program}
 use Rattle.dp_calls.specs.Expand.{expand}
 use Rattle.dp_calls.specs.Frames.{outcome}
+use Rattle.dp_report.specs.Generator.{made_text}
 use Rattle.dp_report.specs.SiteText.{site_bytes}
 use Rattle.dswp.specs.declared.refusal.Refusal.{Refusal}
 use Rattle.dswp.specs.declared.refusal.Refusal.TheVariants.{Words}
 use Rattle.dswp.specs.Refusal.{refusal_line, refusal_status}
 use Rattle.dswp.specs.RunText.{run_text, status_of}
 use Rattle.dp_words.specs.declared.task.PlanOptions.{PlanOptions}
-use Rattle.dp_words.specs.Words.{Run, Planning, Asks, AsksPlans, AsksSites, AsksNothing}
+use Rattle.dp_words.specs.declared.task.GenWords.{GenWords}
+use Rattle.dp_words.specs.Words.{Run, Planning, Asks, AsksMade, AsksPlans, AsksSites, AsksNothing}
 use Rattle.dp_plan.specs.declared.Plan.{Plan}
 use Rattle.dp_plan.specs.WrittenText.{plans_text}
 use Rattle.dp_cut.proofs.PlansOnce.{automatic_once}
+use Rattle.dswp.specs.Made.{made_line, made_words}
 use Rattle.dswp.specs.Plans.{MakesPlans, ReadsPlans}
 use Rattle.dswp.specs.Program.{Reads}
-use Rattle.dswp.specs.Answer.{input_of, ReadsInput, Input, Unnamed, Named, Plans, Automatic, Planned, Answer, NotTaken, ProgramRefused, InputRefused, PlansRefused, Ran, PlanningRefused, PlansWritten, SitesRefused, SitesListed}
+use Rattle.dswp.specs.Answer.{input_of, ReadsInput, Input, Unnamed, Named, Plans, Automatic, Planned, Answer, NotTaken, ProgramRefused, InputRefused, PlansRefused, Ran, PlanningRefused, PlansWritten, SitesRefused, SitesListed, MadeRefused, MadeRan}
 use Rattle.dswp.proofs.accepted.Accepted.{few_regions_read}
 use Rattle.dswp.proofs.definite.ReadsOnce.{reads_once}
 use Rattle.dswp.proofs.definite.PlansOnce.{plans_once}
-use Rattle.dswp.proofs.definite.AsksOnce.{asks_once, planning_once, sites_once, not_run_and_plans, not_run_and_sites, not_plans_and_sites}
+use Rattle.dswp.proofs.definite.AsksOnce.{asks_once, planning_once, sites_once, made_once as asks_made_once, not_run_and_plans, not_run_and_sites, not_run_and_made, not_plans_and_sites, not_plans_and_made, not_sites_and_made}
 
 -- a status and the bytes
 abbrev refused : Refusal → ℕ × List ℕ
@@ -44,6 +47,10 @@ plans_given (Ok p) plans = (0, plans_text (expand p) plans)
 abbrev sites_given : Result Program Refusal → ℕ × List ℕ
 sites_given (Err refusal) = refused refusal
 sites_given (Ok p) = (0, site_bytes (expand p))
+
+abbrev made_given : GenWords → Result Program Refusal → List Plan → ℕ × List ℕ
+made_given made (Err refusal) plans = refused refusal
+made_given made (Ok p) plans = (status_of (outcome p (made_words made) made.fuel).end, made_line made ++ run_text p plans (made_words made) made.fuel false)
 
 module _ (held : List ℕ → Option (List ℕ)) where
   one_text : {name other text more : List ℕ} → name ≡ other → held name ≡ Some text → held other ≡ Some more → text ≡ more
@@ -94,9 +101,9 @@ module _ (held : List ℕ → Option (List ℕ)) where
   PlansFor (Ok p) (Err refusal) run plans = Unit {0}
   PlansFor (Ok p) (Ok numbers) run plans = Plans (Some held) (expand p) run.options run.plan plans
 
-  -- .. and the automatic plans where it isn't refused
+  -- .. and there are automatic plans where it isn't refused
   abbrev MadeFor : Result Program Refusal → PlanOptions → List Plan → Type 0
-  MadeFor (Err refusal) options plans = Unit {0}
+  MadeFor (Err refusal) options plans = plans ≡ []
   MadeFor (Ok p) options plans = MakesPlans (expand p) options plans
 
   data Way (words : List (List ℕ)) (answer : ℕ × List ℕ) : Type 0 where
@@ -105,6 +112,7 @@ module _ (held : List ℕ → Option (List ℕ)) where
         answer ≡ run_given run x input plans → Way words answer
     planned : (planning : Planning) (text : List ℕ) (x : Result Program Refusal) (made : List Plan) → AsksPlans words planning → held planning.program ≡ Some text → Reads text x → MadeFor x planning.options made →
         answer ≡ plans_given x made → Way words answer
+    made_run : (words_of : GenWords) (x : Result Program Refusal) (plans : List Plan) → AsksMade words words_of → Reads made_text x → MadeFor x words_of.options plans → answer ≡ made_given words_of x plans → Way words answer
     sites : (program text : List ℕ) (x : Result Program Refusal) → AsksSites words program → held program ≡ Some text → Reads text x → answer ≡ sites_given x → Way words answer
 
   way : {words : List (List ℕ)} {status : ℕ} {bytes : List ℕ} → Answer words (Some held) status bytes → Way words (status, bytes)
@@ -113,10 +121,12 @@ module _ (held : List ℕ → Option (List ℕ)) where
   way (InputRefused run text p refusal asks h r i) = a_run run text (Ok p) (Err refusal) (Ok []) asks h r i tt refl
   way (PlansRefused run text p numbers refusal asks h r i l) = a_run run text (Ok p) (Ok numbers) (Err refusal) asks h r i l refl
   way (Ran run text p numbers plans asks h r i l) = a_run run text (Ok p) (Ok numbers) (Ok plans) asks h r i l refl
-  way (PlanningRefused planning text refusal asks h r) = planned planning text (Err refusal) [] asks h r tt refl
+  way (PlanningRefused planning text refusal asks h r) = planned planning text (Err refusal) [] asks h r refl refl
   way (PlansWritten planning text p made asks h r m) = planned planning text (Ok p) made asks h r m refl
   way (SitesRefused program text refusal asks h r) = sites program text (Err refusal) asks h r refl
   way (SitesListed program text p asks h r) = sites program text (Ok p) asks h r refl
+  way (MadeRefused m refusal asks r) = made_run m (Err refusal) [] asks r refl refl
+  way (MadeRan m p plans asks r l) = made_run m (Ok p) plans asks r l refl
 
   -- the same run of the same program
   same_plans : (run : Run) (p : Program) (few : length (expand p).regions < 2 ^ 32) (i j : Result (List ℤ) Refusal) (l m : Result (List Plan) Refusal) → i ≡ j → PlansFor (Ok p) i run l → PlansFor (Ok p) j run m → with_input run p i l ≡ with_input run p j m
@@ -138,20 +148,21 @@ module _ (held : List ℕ → Option (List ℕ)) where
       ∙ ap (λ (z : Program). with_input run z j m) same
 
   -- the same plans of the same program
-  same_made : (options : PlanOptions) (x y : Result Program Refusal) (a b : List Plan) → x ≡ y → MadeFor x options a → MadeFor y options b → plans_given x a ≡ plans_given y b
-  same_made options (Err r) (Err t) a b e h k = let same : r ≡ t = cc e in ap refused same
-  same_made options (Err r) (Ok q) a b e h k = absurd (cc e)
-  same_made options (Ok p) (Err t) a b e h k = absurd (cc e)
-  same_made options (Ok p) (Ok q) a b e h k =
-      let same : p ≡ q = cc e in
-      let plans : a ≡ b = made_once (expand p) options a b h (subst (λ (z : Program). MakesPlans (expand z) options b) (sym same) k) in
-      ap (λ (made : List Plan). plans_given (Ok p) made) plans ∙ ap (λ (z : Program). plans_given (Ok z) b) same
+  same_made : (options : PlanOptions) (x : Result Program Refusal) (a b : List Plan) → MadeFor x options a → MadeFor x options b → a ≡ b
+  same_made options (Err refusal) a b h k = h ∙ sym k
+  same_made options (Ok p) a b h k = made_once (expand p) options a b h k
+
+  -- .. give the same
+  same_given : {A : Type 0} (f : Result Program Refusal → List Plan → A) (options : PlanOptions) (x y : Result Program Refusal) (a b : List Plan) → x ≡ y → MadeFor x options a → MadeFor y options b → f x a ≡ f y b
+  same_given f options x y a b e h k =
+      ap (f x) (same_made options x a b h (subst (λ (z : Result Program Refusal). MadeFor z options b) (sym e) k)) ∙ ap (λ (z : Result Program Refusal). f z b) e
 
   ways_once : {words : List (List ℕ)} {a b : ℕ × List ℕ} → Way words a → Way words b → a ≡ b
   ways_once (nothing n e) (nothing m f) = e ∙ sym f
   ways_once (nothing n e) (a_run run text x i l asks h r g u f) = absurd (n.no_run run asks)
-  ways_once (nothing n e) (planned planning text x made asks h r g f) = absurd (n.no_plans planning asks)
+  ways_once (nothing n e) (planned planning text x plans asks h r g f) = absurd (n.no_plans planning asks)
   ways_once (nothing n e) (sites program text x asks h r f) = absurd (n.no_sites program asks)
+  ways_once (nothing n e) (made_run m x l asks r g f) = absurd (n.none_made m asks)
   ways_once (a_run run text x i l asks h r g u e) (nothing m f) = absurd (m.no_run run asks)
   ways_once (a_run run text x i l asks h r g u e) (a_run other more y j n asked k s o v f) =
       let one = asks_once asks asked in
@@ -160,17 +171,27 @@ module _ (held : List ℕ → Option (List ℕ)) where
       ∙ ap (λ (z : Run). run_given z y j n) one ∙ sym f
   ways_once (a_run run text x i l asks h r g u e) (planned planning more y made asked k s o f) = not_run_and_plans asks asked
   ways_once (a_run run text x i l asks h r g u e) (sites program more y asked k s f) = not_run_and_sites asks asked
-  ways_once (planned planning text x made asks h r g e) (nothing m f) = absurd (m.no_plans planning asks)
-  ways_once (planned planning text x made asks h r g e) (a_run other more y j n asked k s o v f) = not_run_and_plans asked asks
-  ways_once (planned planning text x made asks h r g e) (planned other more y others asked k s o f) =
+  ways_once (a_run run text x i l asks h r g u e) (made_run m y n asked s o f) = not_run_and_made asks asked
+  ways_once (planned planning text x plans asks h r g e) (nothing m f) = absurd (m.no_plans planning asks)
+  ways_once (planned planning text x plans asks h r g e) (a_run other more y j n asked k s o v f) = not_run_and_plans asked asks
+  ways_once (planned planning text x plans asks h r g e) (planned other more y others asked k s o f) =
       let one = planning_once asks asked in
-      e ∙ same_made planning.options x y made others (read_once (ap (λ (z : Planning). z.program) one) h k r s) g (subst (λ (z : Planning). MadeFor y z.options others) (sym one) o) ∙ sym f
-  ways_once (planned planning text x made asks h r g e) (sites program more y asked k s f) = not_plans_and_sites asks asked
+      e ∙ same_given plans_given planning.options x y plans others (read_once (ap (λ (z : Planning). z.program) one) h k r s) g (subst (λ (z : Planning). MadeFor y z.options others) (sym one) o) ∙ sym f
+  ways_once (planned planning text x plans asks h r g e) (sites program more y asked k s f) = not_plans_and_sites asks asked
+  ways_once (planned planning text x plans asks h r g e) (made_run m y n asked s o f) = not_plans_and_made asks asked
   ways_once (sites program text x asks h r e) (nothing m f) = absurd (m.no_sites program asks)
   ways_once (sites program text x asks h r e) (a_run other more y j n asked k s o v f) = not_run_and_sites asked asks
   ways_once (sites program text x asks h r e) (planned planning more y made asked k s o f) = not_plans_and_sites asked asks
   ways_once (sites program text x asks h r e) (sites other more y asked k s f) =
       e ∙ ap sites_given (read_once (sites_once asks asked) h k r s) ∙ sym f
+  ways_once (sites program text x asks h r e) (made_run m y n asked s o f) = not_sites_and_made asks asked
+  ways_once (made_run m x l asks r g e) (nothing n f) = absurd (n.none_made m asks)
+  ways_once (made_run m x l asks r g e) (a_run other more y j n asked k s o v f) = not_run_and_made asked asks
+  ways_once (made_run m x l asks r g e) (planned planning more y others asked k s o f) = not_plans_and_made asked asks
+  ways_once (made_run m x l asks r g e) (sites program more y asked k s f) = not_sites_and_made asked asks
+  ways_once (made_run m x l asks r g e) (made_run other y n asked s o f) =
+      let one = asks_made_once asks asked in
+      e ∙ same_given (made_given m) m.options x y l n (reads_once made_text r s) g (subst (λ (z : GenWords). MadeFor y z.options n) (sym one) o) ∙ ap (λ (z : GenWords). made_given z y n) one ∙ sym f
 
   pub answers_once : {words : List (List ℕ)} {status other : ℕ} {bytes more : List ℕ} → Answer words (Some held) status bytes → Answer words (Some held) other more → (status ≡ other) × (bytes ≡ more)
   answers_once a b = let same = ways_once (way a) (way b) in (ap (λ (z : ℕ × List ℕ). z.0) same, ap (λ (z : ℕ × List ℕ). z.1) same)

@@ -1,11 +1,13 @@
 -- Words ask for one thing only.
-use Rattle.std.proofs.Common.{◌≡◌, refl, sym, ap, ◌∙◌, ℕ, ◌==◌, Bool, true, false, if◌then◌else◌, List, length, Option, Some, option_map, codes}
+use Rattle.std.proofs.Common.{◌≡◌, refl, sym, ap, ap₂, ◌∙◌, ℕ, ◌==◌, Bool, true, false, if◌then◌else◌, List, length, Option, Some, option_map, codes}
 use Rattle.std.specs.Option.{option_map_or}
 use Rattle.std.specs.Str.{bytes_eq}
 use Rattle.clap.specs.Words.{App, Text}
 use Rattle.dp_words.proofs.VerbLemmas.{apart, behind, named_behind, verb_is}
-use Rattle.dp_words.specs.Commands.{check_app, plan_app, run_app, value_in}
-use Rattle.dp_words.specs.Words.{Run, Planning, Asks, AsksBy, AsksPlans, AsksSites, ShowsPlanning, ShowsRun, ShowsSites, Values, number_or, options_in}
+use Rattle.dp_words.specs.Commands.{check_app, gen_app, plan_app, run_app, value_in}
+use Rattle.dp_words.specs.declared.task.GenWords.{GenWords}
+use Rattle.dp_words.specs.Words.{Run, Planning, Asks, AsksBy, AsksMade, AsksPlans, AsksSites, ShowsMade, ShowsPlanning, ShowsRun, ShowsSites, Values, default_fuel, default_rate, default_stages, lane_in, number_or, options_in, workers_in}
+use Rattle.dswp.specs.Headline.{AskForRun, OfNamed, OfMade}
 
 -- whether a flag was given, by the number of letters of its value
 abbrev why_of : Option Text → Bool
@@ -18,8 +20,8 @@ run_from value program = record {
   input = value (codes "input");
   plan = value (codes "plan");
   options = options_in value;
-  lane = number_or 16 (value (codes "lane"));
-  fuel = number_or 10000000 (value (codes "fuel"));
+  lane = lane_in value;
+  fuel = number_or default_fuel (value (codes "fuel"));
   why = why_of (value (codes "why"));
 }
 
@@ -48,6 +50,18 @@ plannings_once value planning other a b = let same : Some planning ≡ Some othe
 programs_once : (value : Values) (program other : List ℕ) → ShowsSites value program → ShowsSites value other → program ≡ other
 programs_once value program other a b = let same : Some program ≡ Some other = sym a ∙ b in cc same
 
+abbrev made_from : Values → ℕ → ℕ → GenWords
+made_from value seed size = record { seed = seed; size = size; options = record { rate = default_rate; stages = default_stages; workers = workers_in value }; lane = lane_in value; fuel = default_fuel }
+
+made_is : (value : Values) (made : GenWords) → ShowsMade value made → made_from value made.seed made.size ≡ made
+made_is value made h = rw (← h.options, ← h.lane, ← h.fuel) refl
+
+mades_once : (value : Values) (made other : GenWords) → ShowsMade value made → ShowsMade value other → made ≡ other
+mades_once value made other a b =
+    let seed : Some made.seed ≡ Some other.seed = sym a.seed ∙ b.seed in
+    let size : Some made.size ≡ Some other.size = sym a.size ∙ b.size in
+    sym (made_is value made a) ∙ ap₂ (made_from value) (cc seed) (cc size) ∙ made_is value other b
+
 -- the words of one verb
 once_by : {X : Type 0} (verb : Text) (app : App) (Shows : Values → X → Type 0) → ((value : Values) (x y : X) → Shows value x → Shows value y → x ≡ y) → {words : List Text} {x y : X} →
     AsksBy verb app Shows words x → AsksBy verb app Shows words y → x ≡ y
@@ -62,6 +76,9 @@ planning_once a b = once_by (codes "plan") plan_app ShowsPlanning plannings_once
 pub sites_once : {words : List Text} {program other : List ℕ} → AsksSites words program → AsksSites words other → program ≡ other
 sites_once a b = once_by (codes "check") check_app ShowsSites programs_once a b
 
+pub made_once : {words : List Text} {made other : GenWords} → AsksMade words made → AsksMade words other → made ≡ other
+made_once a b = once_by (codes "gen") gen_app ShowsMade mades_once a b
+
 -- two verbs
 two_verbs : {A X Y : Type 0} (verb other : Text) (app another : App) (Shows : Values → X → Type 0) (Tells : Values → Y → Type 0) → bytes_eq verb other ≡ false → {words : List Text} {x : X} {y : Y} →
     AsksBy verb app Shows words x → AsksBy other another Tells words y → A
@@ -75,3 +92,21 @@ not_run_and_sites a b = two_verbs (codes "run") (codes "check") run_app check_ap
 
 pub not_plans_and_sites : {A : Type 0} {words : List Text} {planning : Planning} {program : List ℕ} → AsksPlans words planning → AsksSites words program → A
 not_plans_and_sites a b = two_verbs (codes "plan") (codes "check") plan_app check_app ShowsPlanning ShowsSites refl a b
+
+pub not_run_and_made : {A : Type 0} {words : List Text} {run : Run} {made : GenWords} → Asks words run → AsksMade words made → A
+not_run_and_made a b = two_verbs (codes "run") (codes "gen") run_app gen_app ShowsRun ShowsMade refl a b
+
+pub not_plans_and_made : {A : Type 0} {words : List Text} {planning : Planning} {made : GenWords} → AsksPlans words planning → AsksMade words made → A
+not_plans_and_made a b = two_verbs (codes "plan") (codes "gen") plan_app gen_app ShowsPlanning ShowsMade refl a b
+
+pub not_sites_and_made : {A : Type 0} {words : List Text} {program : List ℕ} {made : GenWords} → AsksSites words program → AsksMade words made → A
+not_sites_and_made a b = two_verbs (codes "check") (codes "gen") check_app gen_app ShowsSites ShowsMade refl a b
+
+-- words that ask for no run
+pub no_run_and_plans : {words : List Text} {planning : Planning} → AsksPlans words planning → AskForRun words → ⊥
+no_run_and_plans a (OfNamed run asked) = not_run_and_plans asked a
+no_run_and_plans a (OfMade made asked) = not_plans_and_made a asked
+
+pub no_run_and_sites : {words : List Text} {program : List ℕ} → AsksSites words program → AskForRun words → ⊥
+no_run_and_sites a (OfNamed run asked) = not_run_and_sites asked a
+no_run_and_sites a (OfMade made asked) = not_sites_and_made a asked

@@ -1,7 +1,7 @@
 use Rattle.std.proofs.Common.{◌∙◌, ap, refl, Some}
 use Rattle.dswp.specs.declared.refusal.Refusal.TheVariants.{Words}
 use Rattle.dswp.proofs.AnswerLemmas.{carry_not_taken, no_run_counts, refused_counts}
-use Rattle.dswp.proofs.definite.AsksOnce.{not_run_and_plans, not_run_and_sites}
+use Rattle.dswp.proofs.definite.AsksOnce.{no_run_and_plans, no_run_and_sites}
 use Rattle.dswp.proofs.answer.answer.Goals as goal
 
 pub returns-in-None-clause-carried : goal.returns-in-None-clause-carried
@@ -23,7 +23,13 @@ pub returns-in-Some-Run-clause-counted : goal.returns-in-Some-Run-clause-counted
 returns-in-Some-Run-clause-counted g c = c.answer_run.ensures.counted _ (rw (c.in-Some-Run.is ∙ ap Some c.in-Some-Run.field-0-is) at c.in_ok-run.ensures.some)
 
 pub returns-in-Some-Plan-clause-counted : goal.returns-in-Some-Plan-clause-counted
-returns-in-Some-Plan-clause-counted g c = no_run_counts _ _ _ _ _ (λ run asked. not_run_and_plans asked (rw (c.in-Some-Plan.is ∙ ap Some c.in-Some-Plan.field-0-is) at c.in_ok-run.ensures.some))
+returns-in-Some-Plan-clause-counted g c = no_run_counts _ _ _ _ _ (no_run_and_plans (rw (c.in-Some-Plan.is ∙ ap Some c.in-Some-Plan.field-0-is) at c.in_ok-run.ensures.some))
 
 pub returns-in-Some-Check-clause-counted : goal.returns-in-Some-Check-clause-counted
-returns-in-Some-Check-clause-counted g c = no_run_counts _ _ _ _ _ (λ run asked. not_run_and_sites asked (rw (c.in-Some-Check.is ∙ ap Some c.in-Some-Check.field-0-is) at c.in_ok-run.ensures.some))
+returns-in-Some-Check-clause-counted g c = no_run_counts _ _ _ _ _ (no_run_and_sites (rw (c.in-Some-Check.is ∙ ap Some c.in-Some-Check.field-0-is) at c.in_ok-run.ensures.some))
+
+pub returns-in-Some-Gen-clause-carried : goal.returns-in-Some-Gen-clause-carried
+returns-in-Some-Gen-clause-carried g c = c.answer_gen.ensures.carried _ _ _ _ (rw (c.in-Some-Gen.is ∙ ap Some c.in-Some-Gen.field-0-is) at c.in_ok-run.ensures.some)
+
+pub returns-in-Some-Gen-clause-counted : goal.returns-in-Some-Gen-clause-counted
+returns-in-Some-Gen-clause-counted g c = c.answer_gen.ensures.counted _ _ (rw (c.in-Some-Gen.is ∙ ap Some c.in-Some-Gen.field-0-is) at c.in_ok-run.ensures.some)

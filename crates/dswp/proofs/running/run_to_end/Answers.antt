@@ -10,7 +10,7 @@ returns-clause-finishes g c =
     let plans : c.as_slice.result.now ≡ c.args.plans.now = c.as_slice.ensures in
     let input : c.as_slice-2.result.now ≡ c.args.input.now = c.as_slice-2.ensures in
     let ok = c.in_ok-end.ensures.ok in (
-      c.end_status.ensures ∙ ap status_of (ok.0 ∙ ap (λ (zs : List ℤ). (source_run c.args.program.now zs c.args.run.fuel).end) input),
-      ok.1 ∙ ap (λ (ps : List Plan). appended (trace_text c.args.program.now ps (source_run c.args.program.now c.as_slice-2.result.now c.args.run.fuel) c.args.run.why) (g.K.Sink.written c.args.sink.now)) plans
-          ∙ ap (λ (zs : List ℤ). appended (trace_text c.args.program.now c.args.plans.now (source_run c.args.program.now zs c.args.run.fuel) c.args.run.why) (g.K.Sink.written c.args.sink.now)) input,
+      c.end_status.ensures ∙ ap status_of (ok.0 ∙ ap (λ (zs : List ℤ). (source_run c.args.program.now zs c.args.options.fuel).end) input),
+      ok.1 ∙ ap (λ (ps : List Plan). appended (trace_text c.args.program.now ps (source_run c.args.program.now c.as_slice-2.result.now c.args.options.fuel) c.args.options.why) (g.K.Sink.written c.args.sink.now)) plans
+          ∙ ap (λ (zs : List ℤ). appended (trace_text c.args.program.now c.args.plans.now (source_run c.args.program.now zs c.args.options.fuel) c.args.options.why) (g.K.Sink.written c.args.sink.now)) input,
     )
