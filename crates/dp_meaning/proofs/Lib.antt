@@ -1,6 +1,8 @@
 pub mod PartsLemmas
 pub mod MemoryLemmas
 pub mod EvaluatedLemmas
+pub mod WatchLemmas
+pub mod SeenLemmas
 pub mod OuterLemmas
 pub mod FollowedLemmas
 pub mod ContinuesLemmas
@@ -9,6 +11,7 @@ pub mod ShapeLemmas
 pub mod InlinedLemmas
 pub mod TurnLemmas
 pub mod MovedLemmas
+pub mod WatchedLemmas
 pub mod SoFar
 pub mod PartLemmas
 pub mod EventLemmas

@@ -10,3 +10,4 @@ pub mod NextIteration
 pub mod Turn
 pub mod Parts
 pub mod Depth
+pub mod Watched

@@ -6,11 +6,17 @@ mod configuration;
 mod depth;
 mod ends;
 mod evaluate;
+mod loads;
 mod machine;
 mod memory;
+mod seen;
+mod sight;
 mod statement;
 mod to_do;
 mod turn;
+mod watch;
 
 pub use ends::{IterEnd, Part, PartEnd};
+pub use loads::Loads;
 pub use machine::Machine;
+pub use sight::{Effect, Sight};

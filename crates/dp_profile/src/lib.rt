@@ -17,6 +17,7 @@ mod write;
 
 pub use law::{read_profiles_fit, written_profiles_are_read};
 pub use read::read_profile;
+pub use sites::{RegionSite, regions_of};
 pub use write::write_profile;
 
 /// What was counted in one run, region by region.

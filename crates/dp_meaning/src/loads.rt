@@ -1,0 +1,46 @@
+//! The loads of an evaluation.
+use crate::watch::Watch;
+use dp_base::Row;
+use std::alloc::Global;
+
+/// The cells that an evaluation loads, in order.
+#[derive(Debug, Drop)]
+pub struct Loads {
+    pub cells: Row<usize>,
+    /// Memory was wanting for one of them.
+    pub wanting: bool,
+}
+
+impl Loads {
+    ghost use Rattle.std.specs.Prelude.{◌≡◌, [], false};
+
+    /// No cell.
+    pub fn new(alloc: Global) -> Loads
+        ensures { result ≡ record { cells = []; wanting = false } }
+    {
+        Loads {
+            cells: Row::new(alloc),
+            wanting: false,
+        }
+    }
+
+    /// Forgets the cells. Their room stays.
+    pub(crate) fn clear(&mut self)
+        ensures { self.new ≡ record { cells = []; wanting = false } }
+    {
+        self.cells.clear();
+        self.wanting = false;
+    }
+}
+
+impl Watch for Loads {
+    ghost use Rattle.dp_meaning.specs.Watched.{notes};
+
+    ghost told = { notes };
+
+    fn load(&mut self, cell: usize) {
+        if self.cells.push(cell).is_err() {
+            self.wanting = true;
+        }
+    }
+}

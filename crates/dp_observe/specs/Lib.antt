@@ -1,0 +1,8 @@
+pub mod Sparse
+pub mod Frames
+pub mod Counting
+pub mod Owners
+pub mod Starting
+pub mod Taken
+pub mod Tracking
+pub mod Running
