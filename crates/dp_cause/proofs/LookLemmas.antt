@@ -1,5 +1,5 @@
 -- What a look at an event's words says of the event.
-use Rattle.std.proofs.Common.{◌≡◌, refl, sym, ap, ◌∙◌, subst, append_assoc, length-append, arith, ℕ, zero, suc, ◌+◌, ◌-◌, ◌<◌, ◌≤◌, ◌==◌, Bool, true, false, not, ◌&&◌, ◌||◌, if◌then◌else◌, List, [], ◌∷◌, ◌++◌, length, ℤ, pos, nat_le, get_or, drop, eq-eqb, le-leb, inl, inr, Option, Some, None, add-one, drop-cons}
+use Rattle.std.proofs.Common.{◌≡◌, refl, sym, ap, ◌∙◌, length-append, arith, ℕ, suc, ◌+◌, ◌<◌, ◌≤◌, ◌==◌, Bool, true, false, not, ◌&&◌, if◌then◌else◌, List, [], ◌∷◌, ◌++◌, length, ℤ, pos, nat_le, get_or, drop, eq-eqb, le-leb, inl, inr, Option, Some, None, add-one, drop-cons}
 use Rattle.std.proofs.lemmas.Bool.{cases_Bool, lt-leb}
 use Rattle.std.proofs.Math.Bool.{or-true}
 use Rattle.std.specs.List.{list_all}
@@ -10,21 +10,21 @@ use Rattle.dp_base.specs.declared.Word.{Word}
 use Rattle.dp_tree.specs.declared.Assume.{Assume}
 use Rattle.dp_tree.specs.declared.Program.{Program}
 use Rattle.dp_tree.specs.Eval.{Load}
-use Rattle.dp_tree.specs.Step.{Effect, Stored, Printed, Decided, Tried, Event, value_of, stored}
+use Rattle.dp_tree.specs.Step.{Effect, Stored, Printed, Tried, Event, value_of, stored}
 use Rattle.dp_plan.specs.declared.Plan.{Plan}
 use Rattle.dp_plan.specs.Access.{stage_of}
 use Rattle.dp_plan.specs.Checked.{is_checked}
 use Rattle.dp_semantics.specs.Clean.{as_assumed, goes_as, went, stays_late, event_as_assumed, event_words}
 use Rattle.dp_semantics.specs.Words.{load_word, load_words, done_word, words_of, is_load_of}
 use Rattle.dp_semantics.specs.Cause.{Cause, ByAssumption, ByWords, or_else, by_load, assumption_cause}
-use Rattle.dp_semantics.specs.CauseWalk.{Watch, view_of, count_of, watched, shown_from, counted_from, load_cause_in, checked_cause_in, words_cause_in, cause_in}
+use Rattle.dp_semantics.specs.CauseWalk.{Watch, view_of, count_of, watched, shown_from, load_cause_in, checked_cause_in, words_cause_in, cause_in}
 use Rattle.dp_semantics.specs.Reported.{reported}
 use Rattle.dp_cause.specs.declared.watched.Ground.{Ground}
 use Rattle.dp_cause.specs.declared.watched.Watched.{Watched}
 use Rattle.dp_cause.specs.declared.watched.Form.{Form}
 use Rattle.dp_cause.specs.declared.watched.Form.TheVariants.{Stores, Prints, Decides, Tries}
 use Rattle.dp_cause.specs.Views.{count_more}
-use Rattle.dp_cause.specs.Watching.{seen_otherwise, reported_if, Told, HasForm, formed, watch_in, watched_by, views_by, noted}
+use Rattle.dp_cause.specs.Watching.{seen_otherwise, reported_if, Told, HasForm, watch_in, watched_by, views_by, noted}
 use Rattle.dp_cause.proofs.ViewLemmas.{shown_store, shown_none, counted_is}
 
 load_is : (site : ℕ) (l : Load) → is_load_of site (load_word site l) ≡ true

@@ -1,27 +1,21 @@
 -- What the turn of one site's code says of its evaluation, and a look at its words of the step.
-use Rattle.std.proofs.Common.{◌≡◌, refl, sym, ap, ◌∙◌, subst, arith, ℕ, zero, suc, ◌+◌, ◌-◌, ◌<◌, Bool, true, false, if◌then◌else◌, List, [], ◌∷◌, ◌++◌, length, ℤ, nat_le, Option, Some, None, Ok, Err, inl, inr}
+use Rattle.std.proofs.Common.{◌≡◌, refl, sym, ap, ◌∙◌, subst, arith, ℕ, suc, ◌+◌, ◌-◌, ◌<◌, Bool, List, [], ◌++◌, length, ℤ, nat_le, Ok, Err, inl, inr}
 use Rattle.std.proofs.lemmas.Bool.{cases_Bool}
-use Rattle.dp_base.specs.declared.Cause.{Cause as ReportedCause}
 use Rattle.dp_base.specs.declared.Cause.TheVariants as why
 use Rattle.dp_base.specs.declared.Fault.{Fault as FaultAt}
 use Rattle.dp_base.specs.declared.FaultKind.{FaultKind}
 use Rattle.dp_base.specs.declared.SiteId.{SiteId}
-use Rattle.dp_base.specs.declared.VarId.{VarId}
 use Rattle.dp_base.specs.declared.Word.{Word}
 use Rattle.dp_tree.specs.declared.Program.{Program}
 use Rattle.dp_tree.specs.Eval.{Load, WithLoads, Evaluated, after_loads, and_then, just, place}
-use Rattle.dp_tree.specs.Step.{Effect, Stored, Printed, Decided, Tried, value_of, stored, line_of}
+use Rattle.dp_tree.specs.Step.{Effect, Stored, stored, line_of}
 use Rattle.dp_plan.specs.declared.Plan.{Plan}
-use Rattle.dp_semantics.specs.Words.{Faults, Full, words_of, done_word}
+use Rattle.dp_semantics.specs.Words.{Faults, words_of}
 use Rattle.dp_semantics.specs.StageRun.{Ended, TurnEnd}
-use Rattle.dp_semantics.specs.Cause.{Cause, ByFault, ByFuel}
-use Rattle.dp_semantics.specs.CauseWalk.{Watch}
-use Rattle.dp_semantics.specs.Reported.{reported}
+use Rattle.dp_semantics.specs.Cause.{ByFault, ByFuel}
 use Rattle.dp_code.specs.Alone.{event_at, end_alone}
 use Rattle.dp_cause.specs.declared.watched.Ground.{Ground}
 use Rattle.dp_cause.specs.declared.watched.Watched.{Watched}
-use Rattle.dp_cause.specs.declared.watched.Form.{Form}
-use Rattle.dp_cause.specs.declared.watched.Form.TheVariants as form
 use Rattle.dp_cause.specs.declared.watched.Step.{Step}
 use Rattle.dp_cause.specs.declared.watched.Step.TheVariants as step
 use Rattle.dp_cause.specs.Watching.{widened, Told, HasForm, watch_in, cause_now, cause_here, Looks, Steps}

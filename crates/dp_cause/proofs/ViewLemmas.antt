@@ -1,8 +1,8 @@
 -- The memories that stages see and the numbers of their words, changed place by place.
-use Rattle.std.proofs.Common.{◌≡◌, refl, sym, ap, ◌∙◌, subst, arith, ℕ, zero, suc, ◌+◌, ◌-◌, ◌<◌, ◌≤◌, ◌==◌, Bool, true, false, if◌then◌else◌, List, [], ◌∷◌, length, ℤ, nat_le, slice_set, get_or, le-leb, leb-true, eq-eqb, ne_eqb, inl, inr, map, drop, pos, add-one, drop-cons}
-use Rattle.std.proofs.lemmas.Bool.{cases_Bool, cases_eq, cases_lt, both_ways, lt-leb}
+use Rattle.std.proofs.Common.{◌≡◌, refl, sym, ap, ◌∙◌, arith, ℕ, zero, suc, ◌+◌, ◌-◌, ◌<◌, ◌≤◌, Bool, if◌then◌else◌, List, [], ◌∷◌, length, ℤ, nat_le, slice_set, get_or, le-leb, eq-eqb, ne_eqb, inl, inr, map, drop, pos, add-one, drop-cons}
+use Rattle.std.proofs.lemmas.Bool.{cases_Bool, lt-leb}
 use Rattle.dp_tree.specs.declared.Program.{Program}
-use Rattle.dp_tree.specs.Step.{Effect, Stored, Printed, Decided, Tried, Event, stored, clear_locals, is_local_of}
+use Rattle.dp_tree.specs.Step.{Stored, Event, stored, clear_locals, is_local_of}
 use Rattle.dp_tree.specs.declared.VarInfo.{VarInfo}
 use Rattle.dp_plan.specs.declared.Plan.{Plan}
 use Rattle.dp_plan.specs.Access.{stage_of}
@@ -29,12 +29,13 @@ shown_more zero stage cell value s (view ∷ rest) h low d = rw (le-leb stage s 
 shown_more (suc n) stage cell value s (view ∷ rest) h low d =
     ap (λ (xs : List (List ℤ)). (if nat_le stage s then slice_set view cell value else view) ∷ xs) (shown_more n stage cell value (suc s) rest (omega (arith, h)) (omega (arith, low)) d)
 
-pub shown_same : (n stage cell : ℕ) (value : ℤ) (s : ℕ) (views : List (List ℤ)) → s + n < stage → shown_some n stage cell value s views ≡ shown_some (suc n) stage cell value s views
-shown_same zero stage cell value s [] high = refl
-shown_same (suc n) stage cell value s [] high = refl
-shown_same zero stage cell value s (view ∷ rest) high = rw (lt-leb stage s (omega (arith, high))) refl
-shown_same (suc n) stage cell value s (view ∷ rest) high =
-    ap (λ (xs : List (List ℤ)). (if nat_le stage s then slice_set view cell value else view) ∷ xs) (shown_same n stage cell value (suc s) rest (omega (arith, high)))
+-- before the stage, no memory changes
+pub shown_before : (n stage cell : ℕ) (value : ℤ) (s : ℕ) (views : List (List ℤ)) → (0 < n → s + n ≤ stage) → shown_some n stage cell value s views ≡ views
+shown_before zero stage cell value s views high = refl
+shown_before (suc n) stage cell value s [] high = refl
+shown_before (suc n) stage cell value s (view ∷ rest) high =
+    let within : s + suc n ≤ stage = high (omega arith) in
+    rw (lt-leb stage s (omega (arith, within))) (ap (λ (xs : List (List ℤ)). view ∷ xs) (shown_before n stage cell value (suc s) rest (λ more. omega (arith, within))))
 
 pub shown_all : (n stage cell : ℕ) (value : ℤ) (s : ℕ) (views : List (List ℤ)) → length views ≤ n → shown_some n stage cell value s views ≡ shown_by stage cell value s views
 shown_all zero stage cell value s [] h = refl
@@ -134,11 +135,6 @@ show_step n stage cell value now views x new d is within x_is new_is low =
     let h : n < length views = omega (arith, within, ap length is, some-length n stage cell value 1 views) in
     ap (slice_set now n) (new_is ∙ ap (λ (y : List ℤ). slice_set y cell value) x_is) ∙ ap (λ (xs : List (List ℤ)). slice_set xs n (slice_set (get_or xs n d) cell value)) is
     ∙ shown_more n stage cell value 1 views h (omega (arith, low)) d ∙ ap (λ (k : ℕ). shown_some k stage cell value 1 views) more
-
-pub show_skip : (n stage cell : ℕ) (value : ℤ) (now views : List (List ℤ)) → now ≡ shown_some n stage cell value 1 views → n + 1 < stage → now ≡ shown_some (n + 1) stage cell value 1 views
-show_skip n stage cell value now views is high =
-    let more : suc n ≡ n + 1 = omega arith in
-    is ∙ shown_same n stage cell value 1 views (omega (arith, high)) ∙ ap (λ (k : ℕ). shown_some k stage cell value 1 views) more
 
 pub kept_none : (stages : List ℕ) (views : List (List ℤ)) → kept_by stages [] views ≡ views
 kept_none [] views = refl

@@ -54,11 +54,9 @@ pub fn add(counts: &mut Row<u64>, stage: u32, more: u64) -> Result<(), NoMemory>
 pub fn show(views: &mut [Cells], stage: u32, cell: u32, value: i64)
     ensures { views.new ≡ shown_by stage cell value 1 views.old }
 {
-    let mut place = 0;
+    let mut place = (stage as usize).saturating_sub(1);
     while place < views.len() {
-        if stage as usize <= place + 1 {
-            put(&mut views[place], cell, value);
-        }
+        put(&mut views[place], cell, value);
         place += 1;
     }
 }

@@ -1,5 +1,6 @@
 //! Outcomes that a plan assumes, and the memory's side of the words.
-ghost use Rattle.std.specs.Prelude.{◌≡◌, get_or, pos, slice_get, slice_set, Some, if◌then◌else◌};
+ghost use Rattle.std.specs.Prelude.{◌≡◌, false, true, get_or, pos, slice_get, slice_index, slice_set, MatchOption, Some, if◌then◌else◌};
+ghost use Rattle.dp_plan.specs.Access.{first_site, stage_of};
 ghost use Rattle.std.specs.List.{list_all};
 ghost use Rattle.dp_tree.specs.Event as effect;
 ghost use Rattle.dp_semantics.specs.Clean as clean;
@@ -24,6 +25,7 @@ pub fn same(x: i64, y: i64) -> bool
 }
 
 /// The condition went so.
+#[inline]
 #[tactic(auto, unfolding(dp_base::specs::Arithmetic::is_zero))]
 fn went(taken: bool, value: i64) -> bool
     ensures { result ≡ clean.went taken (effect.Decided value) }
@@ -38,12 +40,14 @@ fn goes_as(site: SiteId, value: i64, assumed: &Assume) -> bool
 }
 
 /// An `if`'s or a loop's value goes as the plan assumes.
+#[inline]
 pub fn as_assumed<'p>(court: Court<'p>, site: SiteId, value: i64) -> bool
     ensures { result ≡ clean.as_assumed court.entry.program.now court.entry.plan.now site.0 (effect.Decided value) }
 {
     goes_as_assumed(court.plan, site, value)
 }
 
+#[inline]
 fn goes_as_assumed(plan: &Plan, site: SiteId, value: i64) -> bool
     ensures { result ≡ list_all (clean.goes_as site.0 (effect.Decided value)) plan.now.assume }
 {
@@ -129,36 +133,47 @@ fn is_load(word: Word, site: SiteId) -> bool
     word.site.0 == site.0 && word.kind == WordKind::Load
 }
 
-/// Each load of the site at the front gave what the memory holds.
-pub fn loads_hold(cells: &[i64], words: &[Word], site: SiteId) -> bool
-    ensures { result ≡ judge.loads_hold site.0 cells.now words.now }
+/// The words after the site's loads at the front, where each of them gave what the memory holds.
+#[inline(always)]
+pub fn behind_loads<'w>(cells: &[i64], words: &'w [Word], site: SiteId) -> Option<&'w [Word]>
+    ensures { MatchOption result (judge.loads_hold site.0 cells.now words.now ≡ false) (λ rest. (judge.loads_hold site.0 cells.now words.now ≡ true) × (rest.now ≡ after_loads_of site.0 words.now)) }
 {
     let mut i = 0;
     'words: while i < words.len() {
         let word = words[i];
         if !is_load(word, site) {
-            return true;
-        }
-        if !same(value_at(cells, word.index), word.value) {
-            return false;
-        }
-        i += 1;
-    }
-    true
-}
-
-/// The words after the site's loads at the front.
-pub fn after_loads<'w>(words: &'w [Word], site: SiteId) -> &'w [Word]
-    ensures { result.now ≡ after_loads_of site.0 words.now }
-{
-    let mut i = 0;
-    'words: while i < words.len() {
-        if !is_load(words[i], site) {
             break 'words;
         }
+        if !same(value_at(cells, word.index), word.value) {
+            return None;
+        }
         i += 1;
     }
-    &words[i..]
+    Some(&words[i..])
+}
+
+#[inline(always)]
+fn entry(stages: &[u32], place: usize) -> u32
+    ensures { result ≡ slice_index stages.now place }
+{
+    match stages.get(place) {
+        Some(stage) => *stage,
+        None => 0,
+    }
+}
+
+/// The stage of a site, and 0 for one before the region.
+#[inline(always)]
+pub fn stage_at<'p>(court: Court<'p>, site: SiteId) -> u32
+    requires { court.first ≡ first_site court.program.now court.plan.now }
+    ensures { result ≡ stage_of court.entry.program.now court.entry.plan.now site.0 }
+{
+    if court.first <= site.0 {
+        let place = (site.0 - court.first) as usize;
+        entry(court.plan.stage_of.as_slice(), place)
+    } else {
+        0
+    }
 }
 
 /// What is left of a stage's words; stages count from 1.

@@ -47,9 +47,18 @@ pub struct Walk<'p> {
     pub closing: bool,
 }
 
+/// For how many stores and prints there is room where a judging begins.
+#[derive(Clone, Copy)]
+pub struct Room {
+    pub stores: usize,
+    pub prints: usize,
+}
+
 /// The word of what a site did, and the words behind it.
 #[derive(Drop)]
 pub struct Found<'p> {
+    /// The stage of the site.
+    pub stage: u32,
     pub word: Word,
     pub rest: Cursor<'p>,
 }

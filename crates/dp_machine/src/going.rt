@@ -11,6 +11,7 @@ ghost use Rattle.dp_machine.specs.Standing.{StandsAt, Comes, Sends, Keeps, cells
 
 use crate::clearing::cleared;
 use crate::sending::{send, with_status};
+use crate::turning::Rows;
 use crate::{Frame, Kept, Versioned};
 use dp_base::{Cells, NoMemory};
 use dp_packet::{Packet, PacketStatus};
@@ -77,6 +78,7 @@ fn keep_versioned(memory: Option<Versioned>) -> Kept
 pub fn from_cells<'p>(
     alloc: Global,
     frame: Frame<'p>,
+    rows: &mut Rows,
     stage: u32,
     cells: Cells,
     packet: Packet,
@@ -89,7 +91,7 @@ pub fn from_cells<'p>(
     ensures sent { (key : packets.Epoch) (n : ℕ) → StandsAt frame.entry stage (kept.Cells cells) key n → Comes stage key n packet → Sends frame.entry stage result.1 key n result.0 }
     ensures number { result.0.iteration ≡ packet.iteration }
 {
-    let sent = send(alloc, frame, stage, cells, None, packet);
+    let sent = send(alloc, frame, rows, stage, cells, None, packet);
     let next = cleared(frame, sent);
     (next.packet, keep_cells(next.memory))
 }
@@ -98,6 +100,7 @@ pub fn from_cells<'p>(
 pub fn from_versioned<'p>(
     alloc: Global,
     frame: Frame<'p>,
+    rows: &mut Rows,
     stage: u32,
     both: Versioned,
     packet: Packet,
@@ -113,7 +116,7 @@ pub fn from_versioned<'p>(
     let mut both = both;
     match both.snapshot() {
         Ok(version) => {
-            let sent = send(alloc, frame, stage, both, Some(version), packet);
+            let sent = send(alloc, frame, rows, stage, both, Some(version), packet);
             let next = cleared(frame, sent);
             (next.packet, keep_versioned(next.memory))
         }
@@ -125,6 +128,7 @@ pub fn from_versioned<'p>(
 pub fn from_packet<'p>(
     alloc: Global,
     frame: Frame<'p>,
+    rows: &mut Rows,
     stage: u32,
     packet: Packet,
 ) -> (Packet, Kept)
@@ -151,7 +155,7 @@ pub fn from_packet<'p>(
     };
     match version {
         Some(memory) => {
-            let sent = send(alloc, frame, stage, memory, None, bare);
+            let sent = send(alloc, frame, rows, stage, memory, None, bare);
             (sent.packet, Kept::Nothing)
         }
         None => (with_status(bare, PacketStatus::NoMemory), Kept::Nothing),

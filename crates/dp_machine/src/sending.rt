@@ -9,7 +9,7 @@ ghost use Rattle.dp_packet.specs.declared.PacketStatus.TheVariants as state;
 ghost use Rattle.dp_plan.specs.CheckedTable.{IsTabled};
 ghost use Rattle.dp_machine.specs.Sending.{AsTurned, IsSent, key_of};
 
-use crate::turning::stage_turn;
+use crate::turning::{Rows, stage_turn};
 use crate::{Frame, Memory, Sent, Turned};
 use dp_base::{Row, Word};
 use dp_memory::Version;
@@ -113,6 +113,7 @@ fn passed<M: Memory + Drop>(
 pub fn send<'p, M: Memory + Drop>(
     alloc: Global,
     frame: Frame<'p>,
+    rows: &mut Rows,
     stage: u32,
     memory: M,
     version: Option<Version>,
@@ -126,6 +127,6 @@ pub fn send<'p, M: Memory + Drop>(
         IsSent M.cells (packets.run_on (key_of frame.entry base) stage (M.cells memory) (packet_of packet)) result.packet result.memory }
     ensures number { result.packet.iteration ≡ packet.iteration }
 {
-    let left = stage_turn(alloc, frame, memory, packet.lists.as_slice());
+    let left = stage_turn(alloc, frame, rows, memory, packet.lists.as_slice());
     passed(packet, stage, version, left)
 }

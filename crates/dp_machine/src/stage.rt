@@ -6,6 +6,7 @@ ghost use Rattle.dp_code.specs.Code.{stage_code};
 ghost use Rattle.dp_plan.specs.CheckedTable.{IsTabled};
 
 use crate::going::{from_cells, from_packet, from_versioned, kept_at_base};
+use crate::turning::Rows;
 use crate::{Frame, Kept};
 use dp_base::{Cells, NoMemory};
 use dp_code::StageProgram;
@@ -23,6 +24,7 @@ pub struct StageMachine<'p> {
     /// From 1.
     stage: u32,
     kept: Kept,
+    rows: Rows,
     ghost tabled: { IsTabled frame.program.now frame.plan.now },
     ghost first: { frame.first ≡ first_site frame.program.now frame.plan.now },
     ghost code: { frame.code.now ≡ stage_code frame.program.now frame.plan.now stage },
@@ -79,6 +81,7 @@ impl<'p> StageMachine<'p> {
             frame,
             stage,
             kept,
+            rows: Rows::new(alloc)?,
         })
     }
 
@@ -107,11 +110,29 @@ impl<'p> StageMachine<'p> {
     {
         let kept = mem::replace(&mut self.kept, Kept::Nothing);
         let (sent, next) = match kept {
-            Kept::Cells(cells) => from_cells(self.alloc, self.frame, self.stage, cells, packet),
-            Kept::Versioned(both) => from_versioned(
-                self.alloc, self.frame, self.stage, both, packet,
+            Kept::Cells(cells) => from_cells(
+                self.alloc,
+                self.frame,
+                &mut self.rows,
+                self.stage,
+                cells,
+                packet,
             ),
-            Kept::Nothing => from_packet(self.alloc, self.frame, self.stage, packet),
+            Kept::Versioned(both) => from_versioned(
+                self.alloc,
+                self.frame,
+                &mut self.rows,
+                self.stage,
+                both,
+                packet,
+            ),
+            Kept::Nothing => from_packet(
+                self.alloc,
+                self.frame,
+                &mut self.rows,
+                self.stage,
+                packet,
+            ),
         };
         self.kept = next;
         sent

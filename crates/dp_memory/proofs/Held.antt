@@ -1,17 +1,28 @@
--- What a page holds, and lists of pages that are shared one by one.
+-- What a group holds where its own pages hold the same cells.
 use Rattle.std.proofs.Common.{◌≡◌, ℕ, zero, suc, ℤ, ◌+◌, ◌<◌, List, [], ◌∷◌, ◌++◌, append_assoc, drop, length, arith, map, refl, Option, Some, None, sym, ap, ◌∙◌, slice_get, get_or}
 use Rattle.std.proofs.Math.ListN.{set}
-use Rattle.std.proofs.lemmas.List.{map-set, map-append, length-map}
-use Rattle.std.proofs.lemmas.Option.{slice_get-map, slice_get_within, slice_get-get_or, get_or_from_slice_get}
+use Rattle.std.proofs.lemmas.List.{map-set, map-append, set-get_or}
+use Rattle.std.proofs.lemmas.Option.{slice_get-map, slice_get-get_or, get_or_from_slice_get}
 use Rattle.std.specs.Option.{option_map}
-use Rattle.std.specs.Result.{OnErr}
+use Rattle.std.specs.Result.{OnOk, OnErr}
 use Rattle.std.specs.Prelude.{Result, Ok, Err}
+use Rattle.dp_memory.specs.Pieces.{with_cell}
 use Rattle.std.specs.declared.sync.Arc.{Arc}
 use Rattle.std.specs.declared.vec.Vec.{Vec}
 use Rattle.std.specs.declared.alloc.Global.{Global}
-use Rattle.dp_memory.specs.declared.page.Page.{Page}
-use Rattle.dp_memory.specs.Page.{held, cells_of}
-use Rattle.dp_memory.specs.Pieces.{with_cell}
+use Rattle.dp_memory.specs.declared.piece.Piece.{Piece}
+use Rattle.dp_memory.specs.Piece.{held, items_of}
+
+pub pages_same : (own other : List (Piece ℤ)) (shared : Option (Arc (Vec (Piece ℤ) Global) Global))
+    → map items_of other ≡ map items_of own → map items_of (held other shared) ≡ map items_of (held own shared)
+unfolding held
+pages_same own other None e = e
+pages_same own other (Some items) e = refl
+
+pub own_items : (own : List (Piece ℤ)) (shared : Option (Arc (Vec (Piece ℤ) Global) Global)) → shared ≡ None → held own shared ≡ own
+unfolding held
+own_items own None e = refl
+own_items own (Some items) e = absurd (cc e)
 
 pub own_cells : (own : List ℤ) (shared : Option (Arc (Vec ℤ Global) Global)) → shared ≡ None → held own shared ≡ own
 unfolding held
@@ -21,23 +32,27 @@ own_cells own (Some items) e = absurd (cc e)
 pub stands : {X : Type 0} (xs : List X) (i : ℕ) (x : X) → i < length xs → x ≡ get_or xs i x → slice_get xs i ≡ Some x
 stands xs i x lt e = slice_get-get_or xs i x lt ∙ ap Some (sym e)
 
-module _ (pages : List Page) (at : ℕ) (page : Page) (cells : List ℤ) (value : page ≡ get_or pages at page)
-    (there : slice_get (map cells_of pages) at ≡ Some cells) where
-  -- the page at this place has the cells that stand there
-  pub page_is : cells_of page ≡ cells
-  page_is =
-      let within = slice_get_within (map cells_of pages) at cells there in
-      let long = length-map pages cells_of in
-      let here = stands pages at page (omega arith) value in
-      let both : Some (cells_of page) ≡ Some cells = sym (slice_get-map cells_of pages at ∙ ap (option_map cells_of) here) ∙ there in
-      cc both
+pub item_at : {X Y : Type 0} (f : X → Y) (xs : List X) (i : ℕ) (x : X) (y : Y) → slice_get xs i ≡ Some x
+    → slice_get (map f xs) i ≡ Some y → f x ≡ y
+item_at f xs i x y at there =
+    let both : Some (f x) ≡ Some y = sym (slice_get-map f xs i ∙ ap (option_map f) at) ∙ there in
+    cc both
 
-  pub page_set : (other : Page) (place : ℕ) (number : ℤ) → cells_of other ≡ set (cells_of page) place number
-      → map cells_of (set pages at other) ≡ with_cell (map cells_of pages) at place number
-  page_set other place number is =
-      map-set cells_of pages at other
-      ∙ ap (set (map cells_of pages) at)
-      (is ∙ ap (λ r. set r place number) (page_is ∙ sym (get_or_from_slice_get (map cells_of pages) at cells [] there)))
+module _ (own : List (Piece ℤ)) (shared : Option (Arc (Vec (Piece ℤ) Global) Global)) (none : shared ≡ None)
+    (pages : List (List ℤ)) (shown : map items_of own ≡ pages) (at : ℕ) (cells : List ℤ)
+    (there : slice_get pages at ≡ Some cells) (page other : Piece ℤ) (is : items_of page ≡ cells) where
+  pub pages_set : (place : ℕ) (value : ℤ) → items_of other ≡ set (items_of page) place value
+      → map items_of (held (set own at other) shared) ≡ with_cell pages at place value
+  pages_set place value e =
+      ap (map items_of) (own_items (set own at other) shared none) ∙ map-set items_of own at other
+      ∙ ap (λ r. set r at (items_of other)) shown
+      ∙ ap (set pages at) (e ∙ ap (λ r. set r place value) (is ∙ sym (get_or_from_slice_get pages at cells [] there)))
+
+  pub pages_kept : items_of other ≡ items_of page → map items_of (held (set own at other) shared) ≡ pages
+  pages_kept e =
+      ap (map items_of) (own_items (set own at other) shared none) ∙ map-set items_of own at other
+      ∙ ap (λ r. set r at (items_of other)) shown
+      ∙ ap (set pages at) (e ∙ is ∙ sym (get_or_from_slice_get pages at cells [] there)) ∙ set-get_or pages at []
 
 pub drop_one : {X : Type 0} (xs : List X) (i : ℕ) (x : X) → slice_get xs i ≡ Some x → drop i xs ≡ x ∷ drop (i + 1) xs
 drop_one [] i x e = absurd (cc e)
@@ -57,3 +72,12 @@ copied_more f done x whole i before there =
 pub on_err : {T E P : Type 0} (r : Result T E) → P → OnErr r P
 on_err (Ok x) p = tt
 on_err (Err e) p = p
+
+pub on_ok : {T E P Q : Type 0} (r : Result T E) → (P → Q) → OnOk r P → OnOk r Q
+on_ok (Ok x) f p = f p
+on_ok (Err e) f p = tt
+
+pub set_there : {X : Type 0} (xs : List X) (i : ℕ) (x : X) → i < length xs → slice_get (set xs i x) i ≡ Some x
+set_there [] i x lt = let clash : ⊥ = omega arith in absurd clash
+set_there (y ∷ xs) zero x lt = refl
+set_there (y ∷ xs) (suc i) x lt = set_there xs i x (omega arith)

@@ -1,8 +1,8 @@
 -- What pages hold where the cells of one are lent for writing.
-use Rattle.std.proofs.Common.{◌≡◌, ◌≢◌, ◌⊎◌, ℕ, zero, suc, ℤ, ◌+◌, ◌*◌, ◌<◌, List, [], ◌∷◌, ◌++◌, length, take, drop, map, Option, Some, None, slice_get, refl, sym, ap, ◌∙◌, subst, inl, inr, take_all, append-nil, drop_of_length-le, arith}
+use Rattle.std.proofs.Common.{◌≡◌, ℕ, zero, suc, ℤ, ◌+◌, ◌*◌, ◌/◌, ◌%◌, ◌<◌, List, [], ◌∷◌, ◌++◌, length, take, drop, map, Option, Some, None, slice_get, refl, sym, ap, ◌∙◌, subst, inl, inr, take_all, append-nil, append_assoc, drop_of_length-le, arith}
 use Rattle.std.proofs.Math.ListN.{set}
-use Rattle.std.proofs.lemmas.List.{map-set, take-append-le, length-take-le, length-map}
-use Rattle.std.proofs.lemmas.Option.{slice_get-map}
+use Rattle.std.proofs.lemmas.List.{map-set, take-append-le, take-append-drop, drop-drop, length-take-le, length-set}
+use Rattle.std.proofs.lemmas.Option.{slice_get-map, slice_get_within}
 use Rattle.std.specs.List.{length_refill}
 use Rattle.std.specs.Option.{option_map}
 use Rattle.std.specs.Vec as vec
@@ -10,11 +10,14 @@ use Rattle.std.specs.declared.sync.Arc.{Arc}
 use Rattle.std.specs.declared.vec.Vec.{Vec}
 use Rattle.std.specs.declared.alloc.Global.{Global}
 use Rattle.dp_base.specs.Lends.{with_items}
-use Rattle.dp_memory.specs.declared.page.Page.{Page}
-use Rattle.dp_memory.specs.Page.{held, cells_of, page_over}
+use Rattle.dp_memory.specs.declared.piece.Piece.{Piece}
+use Rattle.dp_memory.specs.declared.table.Table.{Table}
+use Rattle.dp_memory.specs.Piece.{held, items_of, pages_of, changed, changed_to, page_over, group_over}
 use Rattle.dp_memory.specs.Pieces.{joined, InPieces}
-use Rattle.dp_memory.specs.Table.{written_to}
-use Rattle.dp_memory.proofs.Pieces.{joined_set, in_pieces_set, piece_is}
+use Rattle.dp_memory.specs.Table.{table_pages, InGroups, IsOwnIn, table_over}
+use Rattle.dp_memory.proofs.Grouped.{page_value}
+use Rattle.dp_memory.proofs.Held.{own_items, own_cells}
+use Rattle.dp_memory.proofs.Pieces.{joined_item, joined_set, in_pieces_set, piece_is}
 use Rattle.dp_memory.proofs.Sliced.{at_most_or_more}
 
 pub item_there : {X : Type 0} (xs : List X) (i : ℕ) → i < length xs → (x : X) × (slice_get xs i ≡ Some x)
@@ -35,73 +38,115 @@ only_as_many xs ws =
           ∙ take_all (length xs) (take (length xs) ws) (omega arith))
     ]
 
-module _ (own : Vec ℤ Global) where
-  -- own cells that are lent are all of the page's, or none
-  own_or_none : (shared : Option (Arc (Vec ℤ Global) Global)) → (shared ≢ None → own.items ≡ [])
-      → (own.items ≡ []) ⊎ (own.items ≡ held own.items shared)
-  unfolding held
-  own_or_none None one = inr refl
-  own_or_none (Some cells) one = inl (one (λ e. cc e))
+-- cells with others written over them, as many as there are
+abbrev pub over : List ℤ → List ℤ → List ℤ
+over cells written = with_items cells (take (length cells) written)
 
-  held_over : (shared : Option (Arc (Vec ℤ Global) Global)) → (shared ≢ None → own.items ≡ []) → (written : List ℤ)
-      → held (vec.with_items own written).items shared ≡ with_items (held own.items shared) (take (length own.items) written)
-  unfolding held
-  held_over None one written =
-      ap (λ n. take n (written ++ drop (length written) own.items)) own.ok.0 ∙ only_as_many own.items written
-  held_over (Some cells) one written =
-      let none : own.items ≡ [] = one (λ e. cc e) in
-      let all = held own.items (Some cells) in
-      sym (take_all (length all) all (omega arith)) ∙ ap (λ (r : List ℤ). with_items all (take (length r) written)) (sym none)
+changed_is : {X : Type 0} (f : X → X) (items : Vec X Global) (at : ℕ) (x : X) → slice_get items.items at ≡ Some x
+    → (changed f items at).items ≡ set items.items at (f x)
+unfolding changed_to
+changed_is f items at x e = ap (λ o. (changed_to f items at o).items) e
 
-module _ (pages : Vec Page Global) (number : ℕ) (ok : InPieces 256 (map cells_of pages.items))
-    (within : number < length (map cells_of pages.items)) (lent : List ℤ) where
-  abbrev IsLent : Type 0
-  IsLent = (page : Page) → slice_get pages.items number ≡ Some page → lent ≡ page.own.items
+own_over : (own : Vec ℤ Global) (shared : Option (Arc (Vec ℤ Global) Global)) → shared ≡ None → (written : List ℤ)
+    → held (vec.with_items own written).items shared ≡ over (held own.items shared) written
+own_over own shared none written =
+    own_cells (vec.with_items own written).items shared none
+    ∙ ap (λ n. take n (written ++ drop (length written) own.items)) own.ok.0 ∙ only_as_many own.items written
+    ∙ ap (λ (r : List ℤ). over r written) (sym (own_cells own.items shared none))
 
-  module _ (is : IsLent) where
-    the_page : (page : Page) × (slice_get pages.items number ≡ Some page)
-    the_page = let long = length-map pages.items cells_of in item_there pages.items number (omega arith)
+module _ (group : Piece (Piece ℤ)) (at : ℕ) (none : group.shared ≡ None) (page : Piece ℤ)
+    (there : slice_get group.own.items at ≡ Some page) (own : page.shared ≡ None) (written : List ℤ) where
+  pub pages_over : pages_of (group_over at written group) ≡ set (pages_of group) at (over (items_of page) written)
+  pages_over =
+      let other = changed (page_over written) group.own at in
+      let whole : held group.own.items group.shared ≡ group.own.items = own_items group.own.items group.shared none in
+      ap (map items_of) (own_items other.items group.shared none ∙ changed_is (page_over written) group.own at page there)
+      ∙ map-set items_of group.own.items at (page_over written page)
+      ∙ ap (set (map items_of group.own.items) at) (own_over page.own page.shared own written)
+      ∙ ap (λ (r : List (Piece ℤ)). set (map items_of r) at (over (items_of page) written)) (sym whole)
 
-    there : slice_get (map cells_of pages.items) number ≡ Some (cells_of the_page.0)
-    there = slice_get-map cells_of pages.items number ∙ ap (option_map cells_of) the_page.1
+module _ (table : Table) (number : ℕ) (grouped : InGroups table) (own : IsOwnIn table number) where
+  abbrev group : Piece (Piece ℤ)
+  group = own.0
 
-    written_is : (written : List ℤ) → map cells_of (written_to pages number written (slice_get pages.items number)).items
-        ≡ set (map cells_of pages.items) number (with_items (cells_of the_page.0) (take (length lent) written))
-    unfolding written_to
-    written_is written =
-        let page = the_page.0 in
-        ap (λ (o : Option Page). map cells_of (written_to pages number written o).items) the_page.1
-        ∙ map-set cells_of pages.items number (page_over page written)
-        ∙ ap (set (map cells_of pages.items) number)
-        (held_over page.own page.shared page.either written ∙ ap (λ (r : List ℤ). with_items (cells_of page) (take (length r) written)) (sym (is page the_page.1)))
+  abbrev groups : List (List (List ℤ))
+  groups = map pages_of table.groups.items
 
-    as_long : (written : List ℤ) → length (with_items (cells_of the_page.0) written) ≡ length (cells_of the_page.0)
-    as_long written = sym (length_refill (length (cells_of the_page.0)) (cells_of the_page.0) written refl)
+  abbrev pub lent_cells : List ℤ
+  lent_cells = items_of own.2.1
 
-    pub lent_in_pieces : (written : List ℤ)
-        → InPieces 256 (map cells_of (written_to pages number written (slice_get pages.items number)).items)
-    lent_in_pieces written =
-        subst (λ r. InPieces 256 r) (sym (written_is written))
-        (in_pieces_set 256 (map cells_of pages.items) ok number (cells_of the_page.0)
-        (with_items (cells_of the_page.0) (take (length lent) written)) there (as_long (take (length lent) written)))
+  stands_in_groups : slice_get groups (number / 16) ≡ Some (pages_of group)
+  stands_in_groups = slice_get-map pages_of table.groups.items (number / 16) ∙ ap (option_map pages_of) own.1
 
-    pub lent_joined : (written : List ℤ) → joined (map cells_of (written_to pages number written (slice_get pages.items number)).items)
-        ≡ take (256 * number) (joined (map cells_of pages.items))
-        ++ with_items (take 256 (drop (256 * number) (joined (map cells_of pages.items)))) (take (length lent) written)
-        ++ drop (256 * number + 256) (joined (map cells_of pages.items))
-    lent_joined written =
-        let ps = map cells_of pages.items in
-        let w = take (length lent) written in
-        ap joined (written_is written)
-        ∙ joined_set 256 ps ok number (cells_of the_page.0) (with_items (cells_of the_page.0) w) there (as_long w)
-        ∙ ap (λ (r : List ℤ). take (256 * number) (joined ps) ++ with_items r w ++ drop (256 * number + 256) (joined ps))
-        (sym (piece_is 256 ps ok number (cells_of the_page.0) there))
+  page_there : slice_get (items_of group) (number % 16) ≡ Some own.2.1
+  page_there = ap (λ (r : List (Piece ℤ)). slice_get r (number % 16)) (own_items group.own.items group.shared own.2.0) ∙ own.2.2
 
-    pub lent_or_none : (lent ≡ []) ⊎ (lent ≡ take 256 (drop (256 * number) (joined (map cells_of pages.items))))
-    lent_or_none =
-        let page = the_page.0 in
-        let is_own = is page the_page.1 in
-        elim (own_or_none page.own page.shared page.either) [
-          | inl none ↦ inl (is_own ∙ none)
-          | inr all ↦ inr (is_own ∙ all ∙ sym (piece_is 256 (map cells_of pages.items) ok number (cells_of page) there))
-        ]
+  pub lent_there : slice_get (table_pages table) number ≡ Some lent_cells
+  lent_there = page_value table.groups.items grouped number group own.2.1 own.1 page_there
+
+  pub lent_is : InPieces 256 (table_pages table) → lent_cells ≡ take 256 (drop (256 * number) (joined (table_pages table)))
+  lent_is paged = sym (piece_is 256 (table_pages table) paged number lent_cells lent_there)
+
+  module _ (written : List ℤ) where
+    abbrev after : Table
+    after = table_over number written table
+
+    groups_are : map pages_of after.groups.items
+        ≡ set groups (number / 16) (set (pages_of group) (number % 16) (over lent_cells written))
+    groups_are =
+        ap (map pages_of) (changed_is (group_over (number % 16) written) table.groups (number / 16) group own.1)
+        ∙ map-set pages_of table.groups.items (number / 16) (group_over (number % 16) written group)
+        ∙ ap (set groups (number / 16)) (pages_over group (number % 16) own.2.0 own.2.1 own.2.2 own.2.3 written)
+
+    pub over_in_groups : InGroups after
+    over_in_groups =
+        subst (λ r. InPieces 16 r) (sym groups_are)
+        (in_pieces_set 16 groups grouped (number / 16) (pages_of group) (set (pages_of group) (number % 16) (over lent_cells written))
+        stands_in_groups (length-set (pages_of group) (number % 16) (over lent_cells written)))
+
+    pages_are : table_pages after ≡ set (table_pages table) number (over lent_cells written)
+    pages_are =
+        let page = slice_get-map items_of (items_of group) (number % 16) ∙ ap (option_map items_of) page_there in
+        let within = slice_get_within (pages_of group) (number % 16) lent_cells page in
+        let spot : 16 * (number / 16) + number % 16 ≡ number = omega arith in
+        ap joined groups_are
+        ∙ joined_item 16 groups grouped (number / 16) (number % 16) (pages_of group) (over lent_cells written) stands_in_groups within
+        ∙ ap (λ k. set (joined groups) k (over lent_cells written)) spot
+
+    as_long : length (over lent_cells written) ≡ length lent_cells
+    as_long = sym (length_refill (length lent_cells) lent_cells (take (length lent_cells) written) refl)
+
+    module _ (paged : InPieces 256 (table_pages table)) where
+      pub over_in_pages : InPieces 256 (table_pages after)
+      over_in_pages =
+          subst (λ r. InPieces 256 r) (sym pages_are)
+          (in_pieces_set 256 (table_pages table) paged number lent_cells (over lent_cells written) lent_there as_long)
+
+      pub over_joined : joined (table_pages after)
+          ≡ take (256 * number) (joined (table_pages table))
+          ++ with_items (take 256 (drop (256 * number) (joined (table_pages table)))) (take (length lent_cells) written)
+          ++ drop (256 * number + 256) (joined (table_pages table))
+      over_joined =
+          let ps = table_pages table in
+          ap joined pages_are
+          ∙ joined_set 256 ps paged number lent_cells (over lent_cells written) lent_there as_long
+          ∙ ap (λ (r : List ℤ). take (256 * number) (joined ps) ++ with_items r (take (length lent_cells) written) ++ drop (256 * number + 256) (joined ps))
+          (sym (piece_is 256 ps paged number lent_cells lent_there))
+
+-- nothing is written
+none_over : (cells written : List ℤ) → with_items cells (take 0 written) ≡ cells
+none_over [] [] = refl
+none_over [] (w ∷ ws) = refl
+none_over (x ∷ xs) [] = take_all (length (x ∷ xs)) (x ∷ xs) (omega arith)
+none_over (x ∷ xs) (w ∷ ws) = take_all (length (x ∷ xs)) (x ∷ xs) (omega arith)
+
+pub nothing_over : (cells : List ℤ) (a : ℕ) (none : List ℤ) (written : List ℤ) → none ≡ []
+    → take a cells ++ with_items (take 256 (drop a cells)) (take (length none) written) ++ drop (a + 256) cells ≡ cells
+nothing_over cells a none written is =
+    let page = take 256 (drop a cells) in
+    ap (λ (r : List ℤ). take a cells ++ with_items page (take (length r) written) ++ drop (a + 256) cells) is
+    ∙ ap (λ r. take a cells ++ r ++ drop (a + 256) cells) (none_over page written)
+    ∙ append_assoc (take a cells) page (drop (a + 256) cells)
+    ∙ ap (λ r. take a cells ++ (page ++ r)) (sym (drop-drop 256 a cells))
+    ∙ ap (λ r. take a cells ++ r) (take-append-drop 256 (drop a cells))
+    ∙ take-append-drop a cells

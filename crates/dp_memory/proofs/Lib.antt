@@ -1,6 +1,7 @@
-pub mod Found
 pub mod Built
 pub mod Filled
+pub mod Found
+pub mod Grouped
 pub mod Held
 pub mod Lent
 pub mod Pieces

@@ -1,5 +1,4 @@
 pub mod Lends
-pub mod Page
+pub mod Piece
 pub mod Pieces
-pub mod Refilled
 pub mod Table

@@ -33,6 +33,10 @@ HasCell pieces at place = (piece : List ℤ) × (slice_get pieces at ≡ Some pi
 abbrev pub with_cell : List (List ℤ) → ℕ → ℕ → ℤ → List (List ℤ)
 with_cell pieces at place value = slice_set pieces at (slice_set (slice_index_or pieces at []) place value)
 
+-- the pages hold these cells, and none of them is empty
+abbrev pub ArePagesOf : List (List ℤ) → List ℤ → Type 0
+ArePagesOf pages cells = (joined pages ≡ cells) × InPieces 256 pages × (256 * length pages < length cells + 256)
+
 -- from the first cell that is left and the numbers from there on: the next slice ends with its page or with the numbers
 abbrev pub IsNextSlice : ℕ × List ℤ → List ℤ → ℕ × List ℤ → Type 0
 IsNextSlice before slice after =

@@ -19,21 +19,24 @@ mod tests;
 pub struct Version {
     alloc: Global,
     table: Table,
+    /// It is empty, and lent where memory for a page is wanting.
+    none: Vec<i64>,
 }
 
 impl Model for Version {
-    ghost use Rattle.std.specs.Prelude.{ℤ, List, map};
+    ghost use Rattle.std.specs.Prelude.{◌≡◌, ℤ, List, [], map};
     ghost use Rattle.std.specs.Coded.{coded_list, coded_ℤ};
     ghost use Rattle.dp_memory.specs.Pieces.{joined, InPieces};
-    ghost use Rattle.dp_memory.specs.Page.{cells_of};
+    ghost use Rattle.dp_memory.specs.Piece.{pages_of};
 
     ghost Value = { List ℤ };
 
     ghost coded = { coded_list coded_ℤ };
 
-    ghost view = { λ version. joined (map cells_of version.table.pages.items) };
+    ghost view = { λ version. joined (joined (map pages_of version.table.groups.items)) };
 
-    ghost invariant = { λ version. InPieces 256 (map cells_of version.table.pages.items) };
+    ghost invariant = { λ version. InPieces 16 (map pages_of version.table.groups.items)
+        × InPieces 256 (joined (map pages_of version.table.groups.items)) × (version.none.items ≡ []) };
 }
 
 /// The number at a place, if there is one.
@@ -50,7 +53,11 @@ impl Version {
         ensures { IfOk result (λ version. version ≡ cells.now) }
     {
         let table = Table::of(alloc, cells.as_slice())?;
-        Ok(Version { alloc, table })
+        Ok(Version {
+            alloc,
+            table,
+            none: Vec::new(alloc),
+        })
     }
 
     /// The number in a cell. It takes no memory.
@@ -68,12 +75,10 @@ impl Version {
     pub fn find(&self, cell: CellId) -> Option<i64>
         ensures { result ≡ slice_get self.now cell.0 }
     {
-        let number = cell.0 as usize / 256;
-        if number >= self.table.pages.len() {
-            return None;
+        match self.table.find(cell.0 as usize / 256) {
+            Some(page) => at(page, cell.0 as usize % 256),
+            None => None,
         }
-        let page = self.table.page(number);
-        at(page, cell.0 as usize % 256)
     }
 
     /// Lends `len` cells from `first` on, one slice for each page. It takes no memory.
@@ -131,9 +136,10 @@ impl Version {
         ensures value { (result.now ≡ []) ⊎ (result.now ≡ page_at self.old cell.0) }
     {
         let number = cell.0 as usize / 256;
-        // A page that stays shared lends no cell.
-        let _ = self.table.own_page(self.alloc, number);
-        self.table.page_mut(number)
+        match self.table.own_page(self.alloc, number) {
+            Ok(()) => self.table.page_mut(number),
+            Err(_) => self.none.as_mut_slice(),
+        }
     }
 
     /// Another version with the same numbers, which shares the pages. The version keeps its numbers, also at `Err`.
@@ -145,6 +151,7 @@ impl Version {
         Ok(Version {
             alloc: self.alloc,
             table,
+            none: Vec::new(self.alloc),
         })
     }
 }

@@ -1,4 +1,4 @@
-use Rattle.std.proofs.Common.{◌∙◌, ap, if◌then◌else◌, List, ℤ, [], get_or, arith}
+use Rattle.std.proofs.Common.{◌∙◌, ap, if◌then◌else◌, List, ℤ, [], arith}
 use Rattle.dp_cause.specs.Views.{last_or}
 use Rattle.dp_cause.proofs.KeptLemmas.{views_more}
 use Rattle.dp_cause.proofs.kept.views.Goals as goal

@@ -1,5 +1,5 @@
 use Rattle.std.proofs.Common.{rules, to_z, of_z, w64, ◌≡◌, sym, ap, ◌∙◌, subst, ℤ}
-use Rattle.dp_tree.specs.Step.{Effect, Stored, Printed, Tried, value_of}
+use Rattle.dp_tree.specs.Step.{Stored, Printed, Tried, value_of}
 use Rattle.dp_semantics.specs.Clean.{as_assumed, stays_late}
 use Rattle.dp_semantics.specs.Words.{cell_of}
 use Rattle.dp_cause.specs.declared.watched.Form.{Form}

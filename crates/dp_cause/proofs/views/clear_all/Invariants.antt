@@ -1,4 +1,4 @@
-use Rattle.std.proofs.Common.{◌≡◌, ℕ, ◌-◌, length}
+use Rattle.std.proofs.Common.{◌≡◌, ◌-◌, length}
 use Rattle.dp_cause.proofs.ViewLemmas.{cleared_some}
 use Rattle.dp_cause.proofs.views.clear_all.Given as goal
 

@@ -1,9 +1,35 @@
-use Rattle.std.proofs.Common.{ap, ◌∙◌}
+use Rattle.std.proofs.Common.{◌/◌, ap, ◌∙◌, arith}
 use Rattle.std.proofs.Math.Seq.{map-set_same}
-use Rattle.dp_memory.specs.Page.{cells_of}
+use Rattle.std.proofs.lemmas.List.{length-map}
+use Rattle.dp_memory.specs.Piece.{items_of, pages_of}
+use Rattle.dp_memory.proofs.Held.{stands, on_ok, set_there}
+use Rattle.dp_memory.proofs.Grouped.{group_there, page_there}
 use Rattle.dp_memory.proofs.table.Table.own_page.Goals as goal
 
-pub returns : goal.returns
-returns c =
-    map-set_same cells_of c.args.self.now.pages.items c.args.number c.unshare.new.self c.index_mut-page.result.now
-    (c.unshare.ensures.same ∙ ap cells_of c.index_mut-page.ensures.value)
+pub index_mut-group-requires : goal.index_mut-group-requires
+index_mut-group-requires c =
+    let within = group_there c.args.self.now.groups.items c.requires.groups c.args.number c.requires.within in
+    let known = c.args.self.now.groups.ok.0 in
+    omega arith
+
+pub own_page-requires : goal.own_page-requires
+own_page-requires c =
+    let groups = c.args.self.now.groups.items in
+    let within = group_there groups c.requires.groups c.args.number c.requires.within in
+    let group = c.index_mut-group.result.now in
+    let there = stands groups (c.args.number / 16) group within c.index_mut-group.ensures.value in
+    let inside = page_there groups c.requires.groups c.args.number c.requires.within group there in
+    let long = length-map (items_of group) items_of in
+    omega arith
+
+pub returns-clause-ok : goal.returns-clause-ok
+returns-clause-ok c =
+    let groups = c.args.self.now.groups.items in
+    let within = group_there groups c.requires.groups c.args.number c.requires.within in
+    let group = c.own_page.new.group in
+    on_ok c.own_page.result (λ own. (group, set_there groups (c.args.number / 16) group within, own)) c.own_page.ensures.ok
+
+pub returns-clause-same : goal.returns-clause-same
+returns-clause-same c =
+    map-set_same pages_of c.args.self.now.groups.items (c.args.number / 16) c.own_page.new.group c.index_mut-group.result.now
+    (c.own_page.ensures.same ∙ ap pages_of c.index_mut-group.ensures.value)

@@ -1,24 +1,40 @@
-use Rattle.std.proofs.Common.{◌≡◌, ℤ, List, Option, sym, ap, refl, subst, IfSome, arith}
-use Rattle.std.proofs.lemmas.List.{length-map}
-use Rattle.dp_memory.specs.declared.page.Page.{Page}
+use Rattle.std.proofs.Common.{◌≡◌, ℤ, ◌/◌, ◌%◌, List, Option, Some, refl, sym, ap, ◌∙◌, subst}
+use Rattle.std.proofs.lemmas.Option.{slice_get_within, slice_get-map}
+use Rattle.std.specs.Option.{option_map}
+use Rattle.dp_memory.proofs.Grouped.{page_in}
+use Rattle.dp_memory.specs.declared.piece.Piece.{Piece}
+use Rattle.dp_memory.specs.Piece.{changed_to, group_over, IsOwnPage, pages_of}
 use Rattle.dp_memory.specs.declared.table.Table.{Table}
-use Rattle.dp_memory.specs.Page.{cells_of}
-use Rattle.dp_memory.specs.Table.{written_to}
 use Rattle.dp_memory.proofs.Held.{stands}
 use Rattle.dp_memory.proofs.table.Table.page_mut.Goals as goal
 
+pub page_mut-requires : goal.page_mut-requires
+page_mut-requires c =
+    let own = c.requires.own in
+    let groups = c.args.self.now.groups.items in
+    let within = slice_get_within groups (c.args.number / 16) own.0 own.1 in
+    let group = c.index_mut-group.result.now in
+    let there = stands groups (c.args.number / 16) group within c.index_mut-group.ensures.value in
+    let both : Some own.0 ≡ Some group = sym own.1 ∙ there in
+    let same : own.0 ≡ group = cc both in
+    subst (λ (g : Piece (Piece ℤ)). IsOwnPage g (c.args.number % 16)) same own.2
+
 pub returns : goal.returns
-unfolding written_to
+unfolding changed_to
 returns c =
-    let pages = c.args.self.now.pages in
-    let page = c.index_mut-page.result.now in
-    let asked = c.requires in
-    let long = length-map pages.items cells_of in
-    let there = stands pages.items c.args.number page (omega arith) c.index_mut-page.ensures.value in
-    let over : List ℤ → Option Page → Table = λ (w : List ℤ). λ (o : Option Page). record { pages = written_to pages c.args.number w o } in (
+    let own = c.requires.own in
+    let table = c.args.self.now in
+    let number = c.args.number in
+    let groups = table.groups.items in
+    let within = slice_get_within groups (number / 16) own.0 own.1 in
+    let group = c.index_mut-group.result.now in
+    let there = stands groups (number / 16) group within c.index_mut-group.ensures.value in
+    let page = slice_get-map pages_of groups (number / 16) ∙ ap (option_map pages_of) there in
+    let over : List ℤ → Option (Piece (Piece ℤ)) → Table =
+    λ (w : List ℤ). λ (o : Option (Piece (Piece ℤ))). record { groups = changed_to (group_over (number % 16) w) table.groups (number / 16) o } in (
       (refl, (λ w. ap (over w) (sym there))),
       record {
         writes_back = tt;
-        value = subst (λ (o : Option Page). IfSome o (λ p. c.as_mut_slice.result.now ≡ p.own.items)) (sym there) c.as_mut_slice.ensures.value;
+        value = page_in groups c.requires.groups number group there c.page_mut.result.now c.page_mut.ensures.value;
       },
     )

@@ -7,12 +7,12 @@ use Rattle.dp_memory.specs.Table.{table_pages}
 use Rattle.dp_memory.proofs.Pieces.{joined_there, joined_item, in_pieces_set}
 use Rattle.dp_memory.proofs.version.Version.put.Goals as goal
 
-pub set-requires : goal.set-requires
-set-requires c =
+pub set-requires-clause-cell : goal.set-requires-clause-cell
+set-requires-clause-cell c =
     let pages = table_pages c.self.inside.table in
     let count = ap length c.self.view_is in
     let asked = c.requires in
-    let there = joined_there 256 pages c.self.invariant (c.args.place / 256) (c.args.place % 256) (omega arith) (omega arith) in
+    let there = joined_there 256 pages c.self.invariant.1 (c.args.place / 256) (c.args.place % 256) (omega arith) (omega arith) in
     there
 
 pub invariant_of-self-2 : goal.invariant_of-self-2
@@ -20,14 +20,17 @@ invariant_of-self-2 c =
     let pages = table_pages c.self.inside.table in
     let count = ap length c.self.view_is in
     let asked = c.requires in
-    let there = joined_there 256 pages c.self.invariant (c.args.place / 256) (c.args.place % 256) (omega arith) (omega arith) in
+    let there = joined_there 256 pages c.self.invariant.1 (c.args.place / 256) (c.args.place % 256) (omega arith) (omega arith) in
     let number = c.args.place / 256 in
     let place = c.args.place % 256 in
     let value = to_z w64 (of_z w64 c.args.value) in
     let page : get_or pages number [] ≡ there.0 = get_or_from_slice_get pages number there.0 [] there.1 in
-    let long = length-set (get_or pages number []) place value ∙ ap length page in
-    subst (λ r. InPieces 256 r) (sym c.in_ok-set.ensures.ok)
-    (in_pieces_set 256 pages c.self.invariant number there.0 (set (get_or pages number []) place value) there.1 long)
+    let long = length-set (get_or pages number []) place value ∙ ap length page in (
+      c.set.ensures.groups,
+      subst (λ r. InPieces 256 r) (sym c.in_ok-set.ensures.ok)
+          (in_pieces_set 256 pages c.self.invariant.1 number there.0 (set (get_or pages number []) place value) there.1 long),
+      c.self.invariant.2,
+    )
 
 pub returns-clause-ok : goal.returns-clause-ok
 returns-clause-ok c =
@@ -35,13 +38,13 @@ returns-clause-ok c =
     let pages = table_pages c.self.inside.table in
     let count = ap length c.self.view_is in
     let asked = c.requires in
-    let there = joined_there 256 pages c.self.invariant (c.args.place / 256) (c.args.place % 256) (omega arith) (omega arith) in
+    let there = joined_there 256 pages c.self.invariant.1 (c.args.place / 256) (c.args.place % 256) (omega arith) (omega arith) in
     let number = c.args.place / 256 in
     let place = c.args.place % 256 in
     let value = to_z w64 (of_z w64 c.args.value) in
     let page : get_or pages number [] ≡ there.0 = get_or_from_slice_get pages number there.0 [] there.1 in
     let spot : 256 * number + place ≡ c.args.place = omega arith in
     ap joined c.in_ok-set.ensures.ok ∙ ap (λ r. joined (set pages number (set r place value))) page
-    ∙ joined_item 256 pages c.self.invariant number place there.0 value there.1 there.2
+    ∙ joined_item 256 pages c.self.invariant.1 number place there.0 value there.1 there.2
     ∙ ap (λ k. set (joined pages) k value) spot ∙ ap (λ r. set r c.args.place value) c.self.view_is
     ∙ ap (λ v. set c.args.self.now c.args.place v) fits

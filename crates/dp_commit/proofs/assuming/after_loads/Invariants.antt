@@ -1,9 +1,0 @@
-use Rattle.std.proofs.Common.{length, ◌-◌, ◌≡◌, ◌≤◌, drop}
-use Rattle.dp_semantics.specs.Words.{after_loads_of}
-use Rattle.dp_commit.proofs.assuming.after_loads.Given as goal
-
-abbrev pub invariant-words : goal.invariant-words
-invariant-words l = (l.i ≤ length l.words) × (after_loads_of l.site.0 (drop l.i l.words) ≡ after_loads_of l.site.0 l.words)
-
-abbrev pub decreases-words : goal.decreases-words
-decreases-words l = length l.words - l.i

@@ -1,9 +1,0 @@
-use Rattle.std.proofs.Common.{length, ◌-◌, ◌≡◌, ◌≤◌, drop}
-use Rattle.dp_semantics.specs.Judge.{loads_hold}
-use Rattle.dp_commit.proofs.assuming.loads_hold.Given as goal
-
-abbrev pub invariant-words : goal.invariant-words
-invariant-words l = (l.i ≤ length l.words) × (loads_hold l.site.0 l.cells (drop l.i l.words) ≡ loads_hold l.site.0 l.cells l.words)
-
-abbrev pub decreases-words : goal.decreases-words
-decreases-words l = length l.words - l.i

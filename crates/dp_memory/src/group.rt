@@ -1,0 +1,125 @@
+//! Sixteen pages, which are shared together.
+ghost use Rattle.std.specs.Prelude.{◌≡◌, ◌<◌, None, Some, length, map, slice_get, IfOk, OnOk, OnErr};
+ghost use Rattle.std.specs.Borrow.{sem};
+ghost use Rattle.dp_memory.specs.Pieces.{HasCell, with_cell, ArePagesOf};
+ghost use Rattle.dp_memory.specs.Piece.{items_of, pages_of, IsOwnPage, lends_own_page};
+
+use crate::piece::Piece;
+use dp_base::NoMemory;
+use std::alloc::Global;
+
+/// At most 256 cells.
+pub(crate) type Page = Piece<i64>;
+
+/// At most sixteen pages.
+pub(crate) type Group = Piece<Page>;
+
+/// Makes the pages ones that can be shared.
+fn freeze_pages(pages: &mut Vec<Page>, alloc: Global) -> Result<(), NoMemory>
+    ensures { map items_of pages.new.items ≡ map items_of pages.old.items }
+{
+    for at in 0..pages.len() {
+        pages[at].freeze(alloc)?;
+    }
+    Ok(())
+}
+
+/// Another group that shares the pages.
+#[tactic(auto, using(crate::proofs::Held::pages_same))]
+pub(crate) fn share(group: &mut Group, alloc: Global) -> Result<Group, NoMemory>
+    ensures ok { IfOk result (λ other. pages_of other ≡ pages_of group.old) }
+    ensures same { pages_of group.new ≡ pages_of group.old }
+{
+    freeze_pages(&mut group.own, alloc)?;
+    group.share(alloc)
+}
+
+/// Other groups that share all the pages.
+pub(crate) fn share_all(groups: &mut Vec<Group>, alloc: Global) -> Result<Vec<Group>, NoMemory>
+    ensures ok { IfOk result (λ others. map pages_of others.items ≡ map pages_of groups.old.items) }
+    ensures same { map pages_of groups.new.items ≡ map pages_of groups.old.items }
+{
+    let mut others = Vec::with_capacity(alloc, groups.len())?;
+    for at in 0..groups.len() {
+        let other = share(&mut groups[at], alloc)?;
+        others.push(other)?;
+    }
+    Ok(others)
+}
+
+/// Copies of pages, which share their cells.
+fn copies(pages: &[Page], alloc: Global) -> Result<Vec<Page>, NoMemory>
+    ensures { IfOk result (λ copies. map items_of copies.items ≡ map items_of pages.now) }
+{
+    let mut copies = Vec::with_capacity(alloc, pages.len())?;
+    for page in pages {
+        copies.push(page.copy(alloc)?)?;
+    }
+    Ok(copies)
+}
+
+/// Makes the list of pages the group's own.
+pub(crate) fn unshare(group: &mut Group, alloc: Global) -> Result<(), NoMemory>
+    ensures ok { OnOk result (group.new.shared ≡ None) }
+    ensures same { pages_of group.new ≡ pages_of group.old }
+{
+    if !group.is_own() {
+        let pages = copies(group.as_slice(), alloc)?;
+        group.put(pages);
+    }
+    Ok(())
+}
+
+/// Puts a number into a cell of a page, after a copy of what other groups share.
+pub(crate) fn set(
+    group: &mut Group,
+    alloc: Global,
+    at: usize,
+    place: usize,
+    value: i64,
+) -> Result<(), NoMemory>
+    requires { HasCell (pages_of group.old) at place }
+    ensures ok { OnOk result (pages_of group.new ≡ with_cell (pages_of group.old) at place value) }
+    ensures err { OnErr result (pages_of group.new ≡ pages_of group.old) }
+{
+    unshare(group, alloc)?;
+    let page = &mut group.own[at];
+    page.set(alloc, place, value)?;
+    Ok(())
+}
+
+/// Makes a page of the group, and the list that it stands in, the group's own.
+pub(crate) fn own_page(group: &mut Group, alloc: Global, at: usize) -> Result<(), NoMemory>
+    requires { at < length (pages_of group.old) }
+    ensures ok { OnOk result (IsOwnPage group.new at) }
+    ensures same { pages_of group.new ≡ pages_of group.old }
+{
+    unshare(group, alloc)?;
+    let page = &mut group.own[at];
+    page.unshare(alloc)
+}
+
+/// The group's own page, for writing. What is written through the borrow stands there once it ends.
+pub(crate) fn page_mut(group: &mut Group, at: usize) -> &mut [i64]
+    requires { IsOwnPage group.old at }
+    ensures* writes_back { sem 𝓛 (lends_own_page group.entry at result) }
+    ensures value { slice_get (pages_of group.old) at ≡ Some result.now }
+{
+    let page = &mut group.own[at];
+    page.as_mut_slice()
+}
+
+/// Pages of these cells, 256 in each but the last.
+pub(crate) fn pages(alloc: Global, cells: &[i64]) -> Result<Vec<Page>, NoMemory>
+    ensures { IfOk result (λ pages. ArePagesOf (map items_of pages.items) cells.now) }
+{
+    let mut pages = Vec::new(alloc);
+    let mut rest = cells;
+    while !rest.is_empty() {
+        let (page, more) = rest.split_at(rest.len().min(256));
+        let page = Piece::of(Vec::from_slice(alloc, page)?);
+        pages.push(page)?;
+        rest = more;
+    }
+    Ok(pages)
+}
