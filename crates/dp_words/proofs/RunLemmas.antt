@@ -10,11 +10,11 @@ use Rattle.clap.specs.declared.builder.value_parser.ValueParser.TheVariants as p
 use Rattle.clap.specs.declared.parser.matches.ArgMatches.{ArgMatches}
 use Rattle.clap.proofs.WalkLemmas.{first_value-rows}
 use Rattle.dp_words.proofs.PassLemmas.{Each, HasParser, value_passes}
-use Rattle.dp_words.proofs.SimpleRows.{gen_has_simple_rules, gen_is_plain, gen_lane, gen_seed, gen_size, gen_workers, plan_has_simple_rules, plan_is_plain, plan_rate, plan_stages, plan_workers, run_fuel, run_has_simple_rules, run_is_plain, run_lane, run_rate, run_stages, run_workers}
+use Rattle.dp_words.proofs.SimpleRows.{gen_has_simple_rules, gen_is_plain, gen_lane, gen_seed, gen_size, gen_workers, plan_has_simple_rules, plan_is_plain, plan_rate, plan_stages, plan_workers, profile_fuel, profile_has_simple_rules, profile_is_plain, run_fuel, run_has_simple_rules, run_is_plain, run_lane, run_rate, run_stages, run_workers}
 use Rattle.dp_words.proofs.VerbLemmas.{apart}
-use Rattle.dp_words.specs.Commands.{IsTaken, gen_app, plan_app, run_app, value_in}
-use Rattle.dp_words.specs.Reading.{HoldsMade, HoldsOptions, HoldsRun, values_of}
-use Rattle.dp_words.specs.Words.{Names, Planning, Run, ShowsMade, ShowsPlanning, ShowsRun, ShowsSites, Values, default_fuel, default_rate, default_stages, number_in, number_or, options_in}
+use Rattle.dp_words.specs.Commands.{IsTaken, gen_app, plan_app, profile_app, run_app, value_in}
+use Rattle.dp_words.specs.Reading.{HoldsMade, HoldsOptions, HoldsProfiling, HoldsRun, values_of}
+use Rattle.dp_words.specs.Words.{Names, Planning, Profiling, Run, ShowsMade, ShowsPlanning, ShowsProfiling, ShowsRun, ShowsSites, Values, default_fuel, default_rate, default_stages, number_in, number_or, options_in}
 use Rattle.dp_words.specs.declared.task.GenWords.{GenWords}
 use Rattle.dp_words.specs.declared.task.PlanOptions.{PlanOptions}
 
@@ -49,6 +49,9 @@ module _ (command : Command) (m : ArgMatches) (p : IsParsedFrom command m) where
     workers = in_range plan_app is plan_is_plain plan_has_simple_rules (codes "workers") 1 8 plan_workers refl refl refl;
   }
 
+  pub profiling_holds : app_of command ≡ profile_app → HoldsProfiling (values_of m)
+  profiling_holds is = in_range profile_app is profile_is_plain profile_has_simple_rules (codes "fuel") 0 1000000000 profile_fuel refl refl refl
+
   pub made_holds : app_of command ≡ gen_app → HoldsMade (values_of m)
   made_holds is = record {
     seed = in_range gen_app is gen_is_plain gen_has_simple_rules (codes "seed") 0 2147483647 gen_seed refl refl refl;
@@ -78,6 +81,13 @@ moved_run value other same run h = record {
 
 pub moved_planning : (value other : Values) → SameValues value other → (planning : Planning) → ShowsPlanning value planning → ShowsPlanning other planning
 moved_planning value other same planning h = record { program = sym (same (codes "program")) ∙ h.program; options = h.options ∙ same_options value other same }
+
+pub moved_profiling : (value other : Values) → SameValues value other → (profiling : Profiling) → ShowsProfiling value profiling → ShowsProfiling other profiling
+moved_profiling value other same profiling h = record {
+  program = sym (same (codes "program")) ∙ h.program;
+  input = sym (same (codes "input")) ∙ h.input;
+  fuel = h.fuel ∙ ap (number_or default_fuel) (same (codes "fuel"));
+}
 
 pub moved_made : (value other : Values) → SameValues value other → (made : GenWords) → ShowsMade value made → ShowsMade other made
 moved_made value other same made h = record {

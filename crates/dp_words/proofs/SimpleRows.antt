@@ -5,7 +5,7 @@ use Rattle.clap.specs.Words.{is_simple_and_free}
 use Rattle.clap.specs.declared.builder.value_parser.ValueParser.TheVariants as parser
 use Rattle.clap.proofs.OnLiterals.{clap_on_literals}
 use Rattle.dp_words.proofs.PassLemmas.{Each, HasParser}
-use Rattle.dp_words.specs.Commands.{check_app, gen_app, plan_app, run_app}
+use Rattle.dp_words.specs.Commands.{check_app, gen_app, plan_app, profile_app, run_app}
 
 pub run_is_simple : is_simple_and_free run_app ≡ true
 unfolding clap_on_literals
@@ -18,6 +18,10 @@ plan_is_simple = refl
 pub check_is_simple : is_simple_and_free check_app ≡ true
 unfolding clap_on_literals
 check_is_simple = refl
+
+pub profile_is_simple : is_simple_and_free profile_app ≡ true
+unfolding clap_on_literals
+profile_is_simple = refl
 
 pub gen_is_simple : is_simple_and_free gen_app ≡ true
 unfolding clap_on_literals
@@ -34,6 +38,12 @@ plan_is_plain = refl
 
 pub plan_has_simple_rules : list_all (λ r. r.is_simple) plan_app.top.rules ≡ true
 plan_has_simple_rules = refl
+
+pub profile_is_plain : profile_app.top.is_plain ≡ true
+profile_is_plain = refl
+
+pub profile_has_simple_rules : list_all (λ r. r.is_simple) profile_app.top.rules ≡ true
+profile_has_simple_rules = refl
 
 pub gen_is_plain : gen_app.top.is_plain ≡ true
 gen_is_plain = refl
@@ -64,6 +74,9 @@ plan_stages = (λ e. absurd (cc e), (λ e. absurd (cc e), (λ e. (refl, refl), (
 
 pub plan_workers : Each (HasParser (codes "workers") (parser.Unsigned 1 8)) plan_app.top.rules
 plan_workers = (λ e. absurd (cc e), (λ e. absurd (cc e), (λ e. absurd (cc e), (λ e. (refl, refl), tt))))
+
+pub profile_fuel : Each (HasParser (codes "fuel") (parser.Unsigned 0 1000000000)) profile_app.top.rules
+profile_fuel = (λ e. absurd (cc e), (λ e. absurd (cc e), (λ e. (refl, refl), tt)))
 
 pub gen_seed : Each (HasParser (codes "seed") (parser.Unsigned 0 2147483647)) gen_app.top.rules
 gen_seed = (λ e. (refl, refl), (λ e. absurd (cc e), (λ e. absurd (cc e), (λ e. absurd (cc e), tt))))

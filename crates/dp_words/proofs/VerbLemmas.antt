@@ -6,8 +6,8 @@ use Rattle.std.specs.Str.{bytes_eq}
 use Rattle.std.specs.declared.alloc.Global.{Global}
 use Rattle.std.proofs.lemmas.Slice.Eq.{bytes_eq-Decides}
 use Rattle.clap.specs.Words.{App, Text}
-use Rattle.dp_words.specs.Commands.{check_app, gen_app, plan_app, run_app}
-use Rattle.dp_words.specs.Words.{Asks, AsksBy, AsksFor, AsksMade, AsksNothing, AsksPlans, AsksSites, Behind, Names, ShowsMade, ShowsPlanning, ShowsRun, ShowsSites, Values}
+use Rattle.dp_words.specs.Commands.{check_app, gen_app, plan_app, profile_app, run_app}
+use Rattle.dp_words.specs.Words.{Asks, AsksBy, AsksFor, AsksMade, AsksNothing, AsksPlans, AsksProfile, AsksSites, Behind, Names, ShowsMade, ShowsPlanning, ShowsProfiling, ShowsRun, ShowsSites, Values}
 use Rattle.dp_words.specs.declared.task.Task.{Task}
 
 abbrev texts : List (String Global) → List Text
@@ -83,6 +83,9 @@ no_plans_by words other e different x h = not_by (codes "plan") plan_app ShowsPl
 no_sites_by : (words : List Text) (other : Text) → first_word words ≡ other → (other ≡ codes "check" → ⊥) → (x : _) → AsksSites words x → ⊥
 no_sites_by words other e different x h = not_by (codes "check") check_app ShowsSites words other e different x h
 
+no_profile_by : (words : List Text) (other : Text) → first_word words ≡ other → (other ≡ codes "profile" → ⊥) → (x : _) → AsksProfile words x → ⊥
+no_profile_by words other e different x h = not_by (codes "profile") profile_app ShowsProfiling words other e different x h
+
 none_made_by : (words : List Text) (other : Text) → first_word words ≡ other → (other ≡ codes "gen" → ⊥) → (x : _) → AsksMade words x → ⊥
 none_made_by words other e different x h = not_by (codes "gen") gen_app ShowsMade words other e different x h
 
@@ -91,6 +94,7 @@ only_run words e none = record {
   no_run = none;
   no_plans = no_plans_by words (codes "run") e (apart (codes "run") (codes "plan") refl);
   no_sites = no_sites_by words (codes "run") e (apart (codes "run") (codes "check") refl);
+  no_profile = no_profile_by words (codes "run") e (apart (codes "run") (codes "profile") refl);
   none_made = none_made_by words (codes "run") e (apart (codes "run") (codes "gen") refl);
 }
 
@@ -99,6 +103,7 @@ only_plans words e none = record {
   no_run = no_run_by words (codes "plan") e (apart (codes "plan") (codes "run") refl);
   no_plans = none;
   no_sites = no_sites_by words (codes "plan") e (apart (codes "plan") (codes "check") refl);
+  no_profile = no_profile_by words (codes "plan") e (apart (codes "plan") (codes "profile") refl);
   none_made = none_made_by words (codes "plan") e (apart (codes "plan") (codes "gen") refl);
 }
 
@@ -107,7 +112,17 @@ only_sites words e none = record {
   no_run = no_run_by words (codes "check") e (apart (codes "check") (codes "run") refl);
   no_plans = no_plans_by words (codes "check") e (apart (codes "check") (codes "plan") refl);
   no_sites = none;
+  no_profile = no_profile_by words (codes "check") e (apart (codes "check") (codes "profile") refl);
   none_made = none_made_by words (codes "check") e (apart (codes "check") (codes "gen") refl);
+}
+
+pub only_profile : (words : List Text) → first_word words ≡ codes "profile" → ((x : _) → ¬ AsksProfile words x) → AsksNothing words
+only_profile words e none = record {
+  no_run = no_run_by words (codes "profile") e (apart (codes "profile") (codes "run") refl);
+  no_plans = no_plans_by words (codes "profile") e (apart (codes "profile") (codes "plan") refl);
+  no_sites = no_sites_by words (codes "profile") e (apart (codes "profile") (codes "check") refl);
+  no_profile = none;
+  none_made = none_made_by words (codes "profile") e (apart (codes "profile") (codes "gen") refl);
 }
 
 pub only_made : (words : List Text) → first_word words ≡ codes "gen" → ((x : _) → ¬ AsksMade words x) → AsksNothing words
@@ -115,18 +130,20 @@ only_made words e none = record {
   no_run = no_run_by words (codes "gen") e (apart (codes "gen") (codes "run") refl);
   no_plans = no_plans_by words (codes "gen") e (apart (codes "gen") (codes "plan") refl);
   no_sites = no_sites_by words (codes "gen") e (apart (codes "gen") (codes "check") refl);
+  no_profile = no_profile_by words (codes "gen") e (apart (codes "gen") (codes "profile") refl);
   none_made = none;
 }
 
 -- words whose verb is none of these
 pub unknown_verb : (words : List (String Global)) (rest : List (String Global)) (first : String Global) (given : Text) → words ≡ first ∷ rest → given ≡ string_bytes first →
-    (given ≡ codes "run" → ⊥) → (given ≡ codes "plan" → ⊥) → (given ≡ codes "check" → ⊥) → (given ≡ codes "gen" → ⊥) → AsksNothing (texts words)
-unknown_verb words rest first given e f not_run not_plan not_check not_gen =
+    (given ≡ codes "run" → ⊥) → (given ≡ codes "plan" → ⊥) → (given ≡ codes "check" → ⊥) → (given ≡ codes "profile" → ⊥) → (given ≡ codes "gen" → ⊥) → AsksNothing (texts words)
+unknown_verb words rest first given e f not_run not_plan not_check not_profile not_gen =
     let verb : first_word (texts words) ≡ given = ap (λ (ws : List (String Global)). first_word (texts ws)) e ∙ sym f in
     record {
       no_run = no_run_by (texts words) given verb not_run;
       no_plans = no_plans_by (texts words) given verb not_plan;
       no_sites = no_sites_by (texts words) given verb not_check;
+      no_profile = no_profile_by (texts words) given verb not_profile;
       none_made = none_made_by (texts words) given verb not_gen;
     }
 
@@ -135,5 +152,6 @@ no_words = record {
   no_run = no_run_by [] [] refl (apart [] (codes "run") refl);
   no_plans = no_plans_by [] [] refl (apart [] (codes "plan") refl);
   no_sites = no_sites_by [] [] refl (apart [] (codes "check") refl);
+  no_profile = no_profile_by [] [] refl (apart [] (codes "profile") refl);
   none_made = none_made_by [] [] refl (apart [] (codes "gen") refl);
 }

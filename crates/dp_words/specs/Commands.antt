@@ -36,6 +36,10 @@ workers_option = number_option (codes "workers") 1 8
 abbrev pub lane_option : Rule
 lane_option = number_option (codes "lane") 1 64
 
+-- the greatest number of steps
+abbrev pub fuel_option : Rule
+fuel_option = number_option (codes "fuel") 0 1000000000
+
 -- a command with the options of automatic plans
 abbrev pub with_plan_options : App → App
 with_plan_options app = with_rule (with_rule (with_rule app (number_option (codes "rate") 0 1000)) (number_option (codes "stages") 1 8)) workers_option
@@ -43,13 +47,16 @@ with_plan_options app = with_rule (with_rule (with_rule app (number_option (code
 abbrev pub run_app : App
 run_app =
     with_rule (with_rule (with_rule (with_plan_options (with_rule (with_rule (with_rule (verb_app (codes "run")) (name_of (codes "program"))) (further_name (codes "input"))) (file_option (codes "plan"))))
-    lane_option) (number_option (codes "fuel") 0 1000000000)) (flag (codes "why"))
+    lane_option) fuel_option) (flag (codes "why"))
 
 abbrev pub plan_app : App
 plan_app = with_plan_options (with_rule (verb_app (codes "plan")) (name_of (codes "program")))
 
 abbrev pub check_app : App
 check_app = with_rule (verb_app (codes "check")) (name_of (codes "program"))
+
+abbrev pub profile_app : App
+profile_app = with_rule (with_rule (with_rule (verb_app (codes "profile")) (name_of (codes "program"))) (further_name (codes "input"))) fuel_option
 
 abbrev pub gen_app : App
 gen_app = with_rule (with_rule (with_rule (with_rule (verb_app (codes "gen")) (number_name (codes "seed") 0 2147483647)) (number_name (codes "size") 1 65536)) workers_option) lane_option

@@ -21,6 +21,10 @@ pub record HoldsRun (value : Values) : Type 0 where
   pub lane : IfSome (value (codes "lane")) (IsUnsignedIn 1 64)
   pub fuel : IfSome (value (codes "fuel")) (IsUnsignedIn 0 1000000000)
 
+-- .. to one of a profile
+abbrev pub HoldsProfiling : Values → Type 0
+HoldsProfiling value = IfSome (value (codes "fuel")) (IsUnsignedIn 0 1000000000)
+
 -- .. to one of the made program
 pub record HoldsMade (value : Values) : Type 0 where
   pub seed : IfSome (value (codes "seed")) (IsUnsignedIn 0 2147483647)

@@ -6,10 +6,11 @@ use Rattle.clap.specs.Words.{App, Text}
 use Rattle.dp_words.specs.declared.task.GenWords.{GenWords}
 use Rattle.dp_words.specs.declared.task.PlanOptions.{PlanOptions}
 use Rattle.dp_words.specs.declared.task.PlanWords.{PlanWords}
+use Rattle.dp_words.specs.declared.task.ProfileWords.{ProfileWords}
 use Rattle.dp_words.specs.declared.task.RunWords.{RunWords}
 use Rattle.dp_words.specs.declared.task.Task.{Task}
 use Rattle.dp_words.specs.declared.task.Task.TheVariants as task
-use Rattle.dp_words.specs.Commands.{IsTaken, check_app, gen_app, plan_app, run_app, value_in}
+use Rattle.dp_words.specs.Commands.{IsTaken, check_app, gen_app, plan_app, profile_app, run_app, value_in}
 
 -- a run: the names of its program, of its input and of its plans, if it has them, how its plans are made if it has none, the places of a lane,
 -- the fuel, and whether its text says why iterations were executed again
@@ -26,6 +27,12 @@ pub record Run : Type 0 where
 pub record Planning : Type 0 where
   pub program : List ℕ
   pub options : PlanOptions
+
+-- a profile: the names of its program and of its input, if it has one, and the fuel
+pub record Profiling : Type 0 where
+  pub program : List ℕ
+  pub input : Option (List ℕ)
+  pub fuel : ℕ
 
 -- ---- by the values of names and options
 
@@ -51,12 +58,15 @@ default_stages = 4
 abbrev pub default_fuel : ℕ
 default_fuel = 10000000
 
--- the workers and the places of a lane
+-- the workers, the places of a lane and the fuel
 abbrev pub workers_in : Values → ℕ
 workers_in value = number_or 2 (value (codes "workers"))
 
 abbrev pub lane_in : Values → ℕ
 lane_in value = number_or 16 (value (codes "lane"))
+
+abbrev pub fuel_in : Values → ℕ
+fuel_in value = number_or default_fuel (value (codes "fuel"))
 
 -- the options of automatic plans
 abbrev pub options_in : Values → PlanOptions
@@ -73,7 +83,7 @@ pub record ShowsRun (value : Values) (run : Run) : Type 0 where
   pub plan : value (codes "plan") ≡ run.plan
   pub options : run.options ≡ options_in value
   pub lane : run.lane ≡ lane_in value
-  pub fuel : run.fuel ≡ number_or default_fuel (value (codes "fuel"))
+  pub fuel : run.fuel ≡ fuel_in value
   pub why : value (codes "why") ≡ Some (if run.why then codes "true" else codes "false")
 
 -- .. of these plans
@@ -84,6 +94,12 @@ pub record ShowsPlanning (value : Values) (planning : Planning) : Type 0 where
 -- .. of the list of this program's sites
 abbrev pub ShowsSites : Values → List ℕ → Type 0
 ShowsSites value program = value (codes "program") ≡ Some program
+
+-- .. of this profile
+pub record ShowsProfiling (value : Values) (profiling : Profiling) : Type 0 where
+  pub program : value (codes "program") ≡ Some profiling.program
+  pub input : value (codes "input") ≡ profiling.input
+  pub fuel : profiling.fuel ≡ fuel_in value
 
 -- .. of this run of the made program
 pub record ShowsMade (value : Values) (made : GenWords) : Type 0 where
@@ -116,6 +132,10 @@ AsksPlans = AsksBy (codes "plan") plan_app ShowsPlanning
 abbrev pub AsksSites : List Text → List ℕ → Type 0
 AsksSites = AsksBy (codes "check") check_app ShowsSites
 
+-- .. for this profile
+abbrev pub AsksProfile : List Text → Profiling → Type 0
+AsksProfile = AsksBy (codes "profile") profile_app ShowsProfiling
+
 -- .. for this run of the made program
 abbrev pub AsksMade : List Text → GenWords → Type 0
 AsksMade = AsksBy (codes "gen") gen_app ShowsMade
@@ -125,6 +145,7 @@ pub record AsksNothing (words : List Text) : Type 0 where
   pub no_run : (run : Run) → ¬ Asks words run
   pub no_plans : (planning : Planning) → ¬ AsksPlans words planning
   pub no_sites : (program : List ℕ) → ¬ AsksSites words program
+  pub no_profile : (profiling : Profiling) → ¬ AsksProfile words profiling
   pub none_made : (made : GenWords) → ¬ AsksMade words made
 
 -- ---- by the program's own records of the words
@@ -145,11 +166,16 @@ shown words = record {
 abbrev pub shown_planning : PlanWords → Planning
 shown_planning words = record { program = words.program.now; options = words.options }
 
+-- the profile
+abbrev pub shown_profiling : ProfileWords → Profiling
+shown_profiling words = record { program = words.program.now; input = option_map (λ name. name.now) words.input; fuel = words.fuel }
+
 -- the words ask for this task
 abbrev pub AsksFor : List Text → Task → Type 0
 AsksFor words (task.Run run) = Asks words (shown run)
 AsksFor words (task.Plan plan) = AsksPlans words (shown_planning plan)
 AsksFor words (task.Check program) = AsksSites words program.now
+AsksFor words (task.Profile profile) = AsksProfile words (shown_profiling profile)
 AsksFor words (task.Gen made) = AsksMade words made
 
 -- the options of automatic plans are within their limits
@@ -167,6 +193,9 @@ pub record RunWithin (run : Run) : Type 0 where
   pub few_places : run.lane ≤ 64
   pub few_steps : run.fuel ≤ 1000000000
 
+abbrev pub ProfilingWithin : Profiling → Type 0
+ProfilingWithin profiling = profiling.fuel ≤ 1000000000
+
 pub record MadeWithin (made : GenWords) : Type 0 where
   pub small_seed : made.seed < 2147483648
   pub some_word : 1 ≤ made.size
@@ -180,4 +209,5 @@ abbrev pub IsWithin : Task → Type 0
 IsWithin (task.Run run) = RunWithin (shown run)
 IsWithin (task.Plan plan) = OptionsWithin plan.options
 IsWithin (task.Check program) = Unit {0}
+IsWithin (task.Profile profile) = ProfilingWithin (shown_profiling profile)
 IsWithin (task.Gen made) = MadeWithin made

@@ -1,7 +1,7 @@
 //! The commands of the verbs.
 ghost use Rattle.std.specs.Prelude.{◌≡◌, IfOk, false};
 ghost use Rattle.clap.specs.Words.{app_of, rule_of};
-ghost use Rattle.dp_words.specs.Commands.{check_app, file_option, flag, further_name, gen_app, lane_option, name_of, number_name, number_option, plan_app, run_app, verb_app, with_plan_options, workers_option};
+ghost use Rattle.dp_words.specs.Commands.{check_app, file_option, flag, fuel_option, further_name, gen_app, lane_option, name_of, number_name, number_option, plan_app, profile_app, run_app, verb_app, with_plan_options, workers_option};
 
 use clap::builder::ValueParser;
 use clap::{Arg, ArgAction, Command};
@@ -18,7 +18,7 @@ pub fn run_command<'w>(alloc: Global) -> Result<Command<'w>, NoMemory>
         .arg(file_option(alloc, "plan"))?;
     let command = with_plan_options(alloc, command)?
         .arg(lane_option(alloc))?
-        .arg(number_option(alloc, "fuel", 0, 1_000_000_000))?
+        .arg(fuel_option(alloc))?
         .arg(flag(alloc, "why"))?;
     Ok(command)
 }
@@ -36,6 +36,17 @@ pub fn check_command<'w>(alloc: Global) -> Result<Command<'w>, NoMemory>
     ensures { IfOk result (λ command. app_of command ≡ check_app) }
 {
     let command = verb_command(alloc, "check").arg(name_of(alloc, "program"))?;
+    Ok(command)
+}
+
+/// The command that writes what a run shows.
+pub fn profile_command<'w>(alloc: Global) -> Result<Command<'w>, NoMemory>
+    ensures { IfOk result (λ command. app_of command ≡ profile_app) }
+{
+    let command = verb_command(alloc, "profile")
+        .arg(name_of(alloc, "program"))?
+        .arg(further_name(alloc, "input"))?
+        .arg(fuel_option(alloc))?;
     Ok(command)
 }
 
@@ -126,6 +137,14 @@ fn lane_option<'w>(alloc: Global) -> Arg<'w>
     ensures local { result.global ≡ false }
 {
     number_option(alloc, "lane", 1, 64)
+}
+
+/// The greatest number of steps.
+fn fuel_option<'w>(alloc: Global) -> Arg<'w>
+    ensures rule { rule_of result ≡ fuel_option }
+    ensures local { result.global ≡ false }
+{
+    number_option(alloc, "fuel", 0, 1_000_000_000)
 }
 
 /// An option that stands alone.

@@ -1,11 +1,11 @@
 //! What the matches of a verb's words show.
 ghost use Rattle.std.specs.Prelude.{◌≡◌, Bool, Some, codes, if◌then◌else◌, IfSome, IfNone};
 ghost use Rattle.std.specs.Option.{option_map};
-ghost use Rattle.dp_words.specs.Words.{MadeWithin, OptionsWithin, Planning, Run, RunWithin, ShowsMade, ShowsPlanning, ShowsRun, number_in, number_or, options_in, shown, shown_planning};
-ghost use Rattle.dp_words.specs.Reading.{FitsIn, HoldsMade, HoldsOptions, HoldsRun, values_of};
+ghost use Rattle.dp_words.specs.Words.{MadeWithin, OptionsWithin, Planning, Profiling, ProfilingWithin, Run, RunWithin, ShowsMade, ShowsPlanning, ShowsProfiling, ShowsRun, number_in, number_or, options_in, shown, shown_planning, shown_profiling};
+ghost use Rattle.dp_words.specs.Reading.{FitsIn, HoldsMade, HoldsOptions, HoldsProfiling, HoldsRun, values_of};
 ghost use Rattle.dp_words.specs.declared.task.GenWords.{GenWords};
 
-use crate::task::{GenWords, PlanOptions, PlanWords, RunWords};
+use crate::task::{GenWords, PlanOptions, PlanWords, ProfileWords, RunWords};
 use clap::ArgMatches;
 
 const DEFAULT_RATE: u32 = 10;
@@ -51,6 +51,22 @@ pub fn plan_words<'w>(matches: &ArgMatches<'w>) -> Option<PlanWords<'w>>
     let program = matches.get_str("program")?;
     let options = plan_options(matches)?;
     Some(PlanWords { program, options })
+}
+
+/// The profile with these matches.
+pub fn profile_words<'w>(matches: &ArgMatches<'w>) -> Option<ProfileWords<'w>>
+    requires numbers { HoldsProfiling (values_of matches.now) }
+    ensures some { IfSome result (λ words. ShowsProfiling (values_of matches.now) (shown_profiling words)) }
+    ensures within { IfSome result (λ words. ProfilingWithin (shown_profiling words)) }
+    ensures none { IfNone result ((profiling : Profiling) → ¬ ShowsProfiling (values_of matches.now) profiling) }
+{
+    let program = matches.get_str("program")?;
+    let fuel = number(matches.get_str("fuel"), DEFAULT_FUEL)?;
+    Some(ProfileWords {
+        program,
+        input: matches.get_str("input"),
+        fuel,
+    })
 }
 
 /// The run of the made program with these matches.

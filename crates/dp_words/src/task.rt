@@ -38,6 +38,17 @@ pub struct PlanWords<'w> {
     pub options: PlanOptions,
 }
 
+/// A profile that was asked for.
+#[derive(Clone, Copy, Debug, PartialEq, Eq)]
+pub struct ProfileWords<'w> {
+    /// The name of the program's text.
+    pub program: &'w str,
+    /// The name of the input's text.
+    pub input: Option<&'w str>,
+    /// The greatest number of steps.
+    pub fuel: u64,
+}
+
 /// A run of the made program that was asked for.
 #[derive(Clone, Copy, Debug, PartialEq, Eq)]
 pub struct GenWords {
@@ -61,6 +72,8 @@ pub enum Task<'w> {
     Plan(PlanWords<'w>),
     /// To list the sites of the program with this name.
     Check(&'w str),
+    /// To write what a run shows.
+    Profile(ProfileWords<'w>),
     /// To make a program with its input, and to run it.
     Gen(GenWords),
 }

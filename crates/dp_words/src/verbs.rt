@@ -1,13 +1,13 @@
 //! The words, read by their verb.
 ghost use Rattle.std.specs.Prelude.{◌≡◌, ◌↔◌, ℕ, List, IsTrue, map, string_bytes, IfOk, IfSome, IfNone};
-ghost use Rattle.dp_words.specs.Commands.{check_app, gen_app, plan_app, run_app};
-ghost use Rattle.dp_words.specs.Words.{AsksFor, AsksNothing, IsWithin, MadeWithin, Names, OptionsWithin, Planning, Run, RunWithin, ShowsMade, ShowsPlanning, ShowsRun, ShowsSites, shown, shown_planning};
+ghost use Rattle.dp_words.specs.Commands.{check_app, gen_app, plan_app, profile_app, run_app};
+ghost use Rattle.dp_words.specs.Words.{AsksFor, AsksNothing, IsWithin, MadeWithin, Names, OptionsWithin, Planning, Profiling, ProfilingWithin, Run, RunWithin, ShowsMade, ShowsPlanning, ShowsProfiling, ShowsRun, ShowsSites, shown, shown_planning, shown_profiling};
 ghost use Rattle.dp_words.specs.declared.task.GenWords.{GenWords};
 
-use crate::commands::{check_command, gen_command, plan_command, run_command};
+use crate::commands::{check_command, gen_command, plan_command, profile_command, run_command};
 use crate::parsing::found;
-use crate::reading::{gen_words, plan_words, run_words};
-use crate::task::{GenWords, PlanWords, RunWords, Task};
+use crate::reading::{gen_words, plan_words, profile_words, run_words};
+use crate::task::{GenWords, PlanWords, ProfileWords, RunWords, Task};
 use dp_base::NoMemory;
 use std::alloc::Global;
 
@@ -29,6 +29,9 @@ pub fn asked(alloc: Global, words: &[String]) -> Result<Option<Task<'_>>, NoMemo
     }
     if is(verb, "check") {
         return Ok(sites(alloc, rest)?.map(Task::Check));
+    }
+    if is(verb, "profile") {
+        return Ok(profile(alloc, rest)?.map(Task::Profile));
     }
     if is(verb, "gen") {
         return match made(alloc, rest)? {
@@ -76,6 +79,18 @@ fn sites(alloc: Global, words: &[String]) -> Result<Option<&str>, NoMemory>
 {
     match found(check_command(alloc)?, words)? {
         Some(matches) => Ok(matches.get_str("program")),
+        None => Ok(None),
+    }
+}
+
+/// The profile that the words behind the verb name.
+fn profile(alloc: Global, words: &[String]) -> Result<Option<ProfileWords<'_>>, NoMemory>
+    ensures some { IfOk result (λ profile. IfSome profile (λ named. Names profile_app ShowsProfiling (map string_bytes words.now) (shown_profiling named))) }
+    ensures within { IfOk result (λ profile. IfSome profile (λ named. ProfilingWithin (shown_profiling named))) }
+    ensures none { IfOk result (λ profile. IfNone profile ((named : Profiling) → ¬ Names profile_app ShowsProfiling (map string_bytes words.now) named)) }
+{
+    match found(profile_command(alloc)?, words)? {
+        Some(matches) => Ok(profile_words(&matches)),
         None => Ok(None),
     }
 }

@@ -2,8 +2,8 @@
 use Rattle.std.proofs.Common.{refl, List, [], ◌∷◌, Some, None, true, false, codes}
 use Rattle.clap.specs.Words.{Text}
 use Rattle.clap.proofs.OnLiterals.{clap_on_literals}
-use Rattle.dp_words.specs.Commands.{check_app, gen_app, plan_app, run_app}
-use Rattle.dp_words.specs.Words.{Names, ShowsMade, ShowsPlanning, ShowsRun, ShowsSites}
+use Rattle.dp_words.specs.Commands.{check_app, gen_app, plan_app, profile_app, run_app}
+use Rattle.dp_words.specs.Words.{Names, ShowsMade, ShowsPlanning, ShowsProfiling, ShowsRun, ShowsSites}
 
 -- ---- the names alone
 
@@ -49,6 +49,19 @@ full_plan = record { taken = refl; shows = record { program = refl; options = re
 one_program : Names check_app ShowsSites short_words (codes "p")
 unfolding clap_on_literals
 one_program = record { taken = refl; shows = refl }
+
+-- ---- a profile
+
+short_profile : Names profile_app ShowsProfiling short_words (record { program = codes "p"; input = None; fuel = 10000000 })
+unfolding clap_on_literals
+short_profile = record { taken = refl; shows = record { program = refl; input = refl; fuel = refl } }
+
+abbrev profile_words : List Text
+profile_words = codes "--fuel=1000000000" ∷ codes "p" ∷ codes "i" ∷ []
+
+full_profile : Names profile_app ShowsProfiling profile_words (record { program = codes "p"; input = Some (codes "i"); fuel = 1000000000 })
+unfolding clap_on_literals
+full_profile = record { taken = refl; shows = record { program = refl; input = refl; fuel = refl } }
 
 -- ---- the made program
 

@@ -3,7 +3,7 @@ use Rattle.std.proofs.Common.{◌≡◌, refl, List, [], ◌∷◌, codes}
 use Rattle.clap.specs.Words.{Text, fault_of}
 use Rattle.clap.specs.declared.error.kind.ErrorKind.TheVariants as kind
 use Rattle.clap.proofs.OnLiterals.{clap_on_literals}
-use Rattle.dp_words.specs.Commands.{check_app, gen_app, plan_app, run_app}
+use Rattle.dp_words.specs.Commands.{check_app, gen_app, plan_app, profile_app, run_app}
 
 abbrev option_of : Text → Text → List Text
 option_of name value = codes "p" ∷ name ∷ value ∷ []
@@ -83,6 +83,18 @@ second_program = refl
 checked_with_option : fault_of check_app (codes "p" ∷ codes "--why" ∷ []) ≡ kind.UnknownArgument ∷ []
 unfolding clap_on_literals
 checked_with_option = refl
+
+profile_of_none : fault_of profile_app [] ≡ kind.MissingRequiredArgument ∷ []
+unfolding clap_on_literals
+profile_of_none = refl
+
+profile_with_too_much_fuel : fault_of profile_app (option_of (codes "--fuel") (codes "1000000001")) ≡ kind.ValueValidation ∷ []
+unfolding clap_on_literals
+profile_with_too_much_fuel = refl
+
+profile_with_rate : fault_of profile_app (option_of (codes "--rate") (codes "1")) ≡ kind.UnknownArgument ∷ []
+unfolding clap_on_literals
+profile_with_rate = refl
 
 no_size : fault_of gen_app (codes "1" ∷ []) ≡ kind.MissingRequiredArgument ∷ []
 unfolding clap_on_literals

@@ -1,7 +1,7 @@
 use Rattle.std.proofs.Common.{refl, Some, None, codes}
-use Rattle.dp_words.proofs.VerbLemmas.{asks_none, asks_some, only_made, only_plans, only_run, only_sites}
-use Rattle.dp_words.specs.Commands.{check_app, gen_app, plan_app, run_app}
-use Rattle.dp_words.specs.Words.{ShowsMade, ShowsPlanning, ShowsRun, ShowsSites, shown, shown_planning}
+use Rattle.dp_words.proofs.VerbLemmas.{asks_none, asks_some, only_made, only_plans, only_profile, only_run, only_sites}
+use Rattle.dp_words.specs.Commands.{check_app, gen_app, plan_app, profile_app, run_app}
+use Rattle.dp_words.specs.Words.{ShowsMade, ShowsPlanning, ShowsProfiling, ShowsRun, ShowsSites, shown, shown_planning, shown_profiling}
 use Rattle.dp_words.specs.declared.task.Task.TheVariants as task
 use Rattle.dp_words.proofs.verbs.asked.Goals as goal
 
@@ -35,12 +35,22 @@ returns-then-is-3-clause-none c =
     asks_none (codes "check") check_app ShowsSites task.Check _ _ _ _ c.in-Some.ensures.cases.0 c.as_str-verb.ensures.value (c.is-3.ensures.0 c.if-is-3.true) c.in_ok-sites.field-0 c.map-then-is-3.result c.map-then-is-3.ensures.cases
     (λ e none. only_sites _ e none) c.in_ok-sites.ensures.none
 
+pub returns-then-is-4-clause-some : goal.returns-then-is-4-clause-some
+returns-then-is-4-clause-some c =
+    asks_some (codes "profile") profile_app ShowsProfiling task.Profile _ _ _ _ c.in-Some.ensures.cases.0 c.as_str-verb.ensures.value (c.is-4.ensures.0 c.if-is-4.true) c.in_ok-profile.field-0 c.map-then-is-4.result c.map-then-is-4.ensures.cases
+    shown_profiling (λ w n h. h) c.in_ok-profile.ensures.some
+
+pub returns-then-is-4-clause-none : goal.returns-then-is-4-clause-none
+returns-then-is-4-clause-none c =
+    asks_none (codes "profile") profile_app ShowsProfiling task.Profile _ _ _ _ c.in-Some.ensures.cases.0 c.as_str-verb.ensures.value (c.is-4.ensures.0 c.if-is-4.true) c.in_ok-profile.field-0 c.map-then-is-4.result c.map-then-is-4.ensures.cases
+    (λ e none. only_profile _ e none) c.in_ok-profile.ensures.none
+
 pub returns-in-Some-2-clause-some : goal.returns-in-Some-2-clause-some
 returns-in-Some-2-clause-some c =
-    asks_some (codes "gen") gen_app ShowsMade task.Gen _ _ _ _ c.in-Some.ensures.cases.0 c.as_str-verb.ensures.value (c.is-4.ensures.0 c.if-is-4.true) (Some c.in-Some-2.made) (Some (task.Gen c.in-Some-2.made)) refl
+    asks_some (codes "gen") gen_app ShowsMade task.Gen _ _ _ _ c.in-Some.ensures.cases.0 c.as_str-verb.ensures.value (c.is-5.ensures.0 c.if-is-5.true) (Some c.in-Some-2.made) (Some (task.Gen c.in-Some-2.made)) refl
     (λ made. made) (λ w n h. h) (rw c.in-Some-2.is at c.in_ok-made.ensures.some)
 
 pub returns-in-None-clause-none : goal.returns-in-None-clause-none
 returns-in-None-clause-none c =
-    asks_none (codes "gen") gen_app ShowsMade task.Gen _ _ _ _ c.in-Some.ensures.cases.0 c.as_str-verb.ensures.value (c.is-4.ensures.0 c.if-is-4.true) None None refl
+    asks_none (codes "gen") gen_app ShowsMade task.Gen _ _ _ _ c.in-Some.ensures.cases.0 c.as_str-verb.ensures.value (c.is-5.ensures.0 c.if-is-5.true) None None refl
     (λ e none. only_made _ e none) (rw c.in-None.is at c.in_ok-made.ensures.none)
