@@ -16,7 +16,6 @@ use Rattle.dp_words.specs.Commands.{IsTaken, gen_app, plan_app, profile_app, run
 use Rattle.dp_words.specs.Reading.{HoldsMade, HoldsOptions, HoldsProfiling, HoldsRun, values_of}
 use Rattle.dp_words.specs.Words.{Names, Planning, Profiling, Run, ShowsMade, ShowsPlanning, ShowsProfiling, ShowsRun, ShowsSites, Values, default_fuel, default_rate, default_stages, number_in, number_or, options_in, source_of}
 use Rattle.dp_words.specs.declared.task.GenWords.{GenWords}
-use Rattle.dp_words.specs.declared.task.PlanOptions.{PlanOptions}
 
 -- ---- numbers in their ranges
 

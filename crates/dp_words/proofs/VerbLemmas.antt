@@ -1,6 +1,6 @@
 -- What the words ask for, by their verb and the words behind it.
-use Rattle.std.proofs.Common.{◌≡◌, ◌∙◌, ap, sym, subst, false, true, List, [], ◌∷◌, map, Option, Some, None, IfSome, IfNone, String, string_bytes, codes, refl}
-use Rattle.std.specs.Prelude.{IsSomeAnd, MatchOption}
+use Rattle.std.proofs.Common.{◌≡◌, ◌∙◌, ap, sym, subst, false, true, Bool, List, [], ◌∷◌, map, Option, Some, None, IfSome, IfNone, String, string_bytes, codes, refl}
+use Rattle.std.specs.Prelude.{◌↔◌, IsSomeAnd, IsTrue, MatchOption}
 use Rattle.std.specs.Option.{option_map}
 use Rattle.std.specs.Str.{bytes_eq}
 use Rattle.std.specs.declared.alloc.Global.{Global}
@@ -133,6 +133,10 @@ only_made words e none = record {
   no_profile = no_profile_by words (codes "gen") e (apart (codes "gen") (codes "profile") refl);
   none_made = none;
 }
+
+-- a test of the verb that fails
+pub is_other : (test : Bool) (A : Type 0) → (IsTrue test ↔ A) → test ≡ false → A → ⊥
+is_other test A same e a = let clash : false ≡ true = sym e ∙ same.1 a in absurd (cc clash)
 
 -- words whose verb is none of these
 pub unknown_verb : (words : List (String Global)) (rest : List (String Global)) (first : String Global) (given : Text) → words ≡ first ∷ rest → given ≡ string_bytes first →

@@ -42,7 +42,7 @@ pub loaded : (contents : Contents) (run : Run) (faults after : ℕ) (failed fail
 loaded contents run faults after failed fails r x e h = rw e at h
 
 -- the same status and the same bytes
-finishes_as : (s t : ℕ) (a b : List ℕ) (told tells : Option (List ℕ)) (result : Result ℕ CrewFail) → s ≡ t → a ≡ b → Finishes s a told tells result → Finishes t b told tells result
+pub finishes_as : (s t : ℕ) (a b : List ℕ) (told tells : Option (List ℕ)) (result : Result ℕ CrewFail) → s ≡ t → a ≡ b → Finishes s a told tells result → Finishes t b told tells result
 finishes_as s t a b told tells result e f h = subst (λ (x : List ℕ). Finishes t x told tells result) f (subst (λ (n : ℕ). Finishes n a told tells result) e h)
 
 -- What the run of the expanded program finishes, behind a line, is what the source's run is to be answered with.

@@ -3,4 +3,5 @@ pub mod LoadLemmas
 pub mod TextsLemmas
 pub mod AnswerLemmas
 pub mod MadeLemmas
+pub mod ProfilingLemmas
 pub mod definite

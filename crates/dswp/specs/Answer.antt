@@ -17,11 +17,13 @@ use Rattle.dp_report.specs.SiteText.{site_bytes}
 use Rattle.dp_words.specs.declared.task.GenWords.{GenWords}
 use Rattle.dp_words.specs.declared.task.PlanOptions.{PlanOptions}
 use Rattle.dp_words.specs.Words as source
-use Rattle.dp_words.specs.Words.{Run, Planning, Source, Least, Asks, AsksMade, AsksPlans, AsksSites, AsksNothing}
+use Rattle.dp_words.specs.Words.{Run, Planning, Profiling, Source, Least, Asks, AsksMade, AsksPlans, AsksProfile, AsksSites, AsksNothing}
 use Rattle.dp_run.specs.RunText.{source_run, committed_in_all}
 use Rattle.dp_plan.specs.declared.Plan.{Plan}
 use Rattle.dp_profile.specs.declared.Profile.{Profile}
 use Rattle.dp_plan.specs.WrittenText.{plans_text}
+use Rattle.dp_profile.specs.Observed.{observed}
+use Rattle.dp_profile.specs.WrittenText.{profile_text}
 use Rattle.dswp.specs.Made.{made_line, made_words}
 use Rattle.dswp.specs.Plans.{MakesPlans, ReadsPlans}
 use Rattle.dswp.specs.Profiles.{ReadsProfile}
@@ -86,8 +88,8 @@ abbrev pub role_of : Source → Role
 role_of (source.Named name) = role.Plan
 role_of (Least profile) = role.Profile
 
--- The first refusal, in the order of words, program, input, and plans or their profile, or else the run, the automatic plans, or the list of sites. The text of the
--- made program is read as each other one.
+-- The first refusal, in the order of words, program, input, and plans or their profile, or else the run, the least plans, the list of sites, or the
+-- profile. The text of the made program is read as each other one.
 pub data Answer (words : List (List ℕ)) (contents : Contents) : ℕ → List ℕ → Type 0 where
   NotTaken : AsksNothing words → Answer words contents (refusal_status Words) (refusal_line Words)
   ProgramRefused : (run : Run) (text : List ℕ) (refusal : Refusal) → Asks words run → Holds contents run.program text → Reads text (Err refusal) →
@@ -109,6 +111,13 @@ pub data Answer (words : List (List ℕ)) (contents : Contents) : ℕ → List �
       Answer words contents (refusal_status refusal) (refusal_line refusal)
   SitesListed : (program text : List ℕ) (p : Program) → AsksSites words program → Holds contents program text → Reads text (Ok p) →
       Answer words contents 0 (site_bytes (expand p))
+  ProfilingRefused : (profiling : Profiling) (text : List ℕ) (refusal : Refusal) → AsksProfile words profiling → Holds contents profiling.program text → Reads text (Err refusal) →
+      Answer words contents (refusal_status refusal) (refusal_line refusal)
+  ProfilingInputRefused : (profiling : Profiling) (text : List ℕ) (p : Program) (refusal : Refusal) → AsksProfile words profiling → Holds contents profiling.program text → Reads text (Ok p) →
+      Input contents profiling.input (Err refusal) → Answer words contents (refusal_status refusal) (refusal_line refusal)
+  ProfileWritten : (profiling : Profiling) (text : List ℕ) (p : Program) (numbers : List ℤ) → AsksProfile words profiling → Holds contents profiling.program text → Reads text (Ok p) →
+      Input contents profiling.input (Ok numbers) →
+      Answer words contents (status_of (outcome p numbers profiling.fuel).end) (profile_text (expand p) (observed (expand p) numbers profiling.fuel).profile)
   MadeRefused : (made : GenWords) (refusal : Refusal) → AsksMade words made → Reads made_text (Err refusal) → Answer words contents (refusal_status refusal) (refusal_line refusal)
   MadeRan : (made : GenWords) (p : Program) (plans : List Plan) → AsksMade words made → Reads made_text (Ok p) → MakesPlans (expand p) made.options None plans →
       Answer words contents (status_of (outcome p (made_words made) made.fuel).end) (made_line made ++ run_text p plans (made_words made) made.fuel false)
@@ -118,6 +127,9 @@ pub data IsRead (words : List (List ℕ)) (contents : Contents) : Role → List 
   OfProgram : (run : Run) → Asks words run → IsRead words contents role.Program run.program
   OfPlanning : (planning : Planning) → AsksPlans words planning → IsRead words contents role.Program planning.program
   OfSites : (program : List ℕ) → AsksSites words program → IsRead words contents role.Program program
+  OfProfiling : (profiling : Profiling) → AsksProfile words profiling → IsRead words contents role.Program profiling.program
+  OfProfilingInput : (profiling : Profiling) (text name : List ℕ) (p : Program) → AsksProfile words profiling → Holds contents profiling.program text → Reads text (Ok p) →
+      profiling.input ≡ Some name → IsRead words contents role.Input name
   OfInput : (run : Run) (text name : List ℕ) (p : Program) → Asks words run → Holds contents run.program text → Reads text (Ok p) →
       run.input ≡ Some name → IsRead words contents role.Input name
   OfPlans : (run : Run) (text name : List ℕ) (p : Program) (numbers : List ℤ) → Asks words run → Holds contents run.program text → Reads text (Ok p) →

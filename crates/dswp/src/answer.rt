@@ -10,6 +10,7 @@ ghost use Rattle.dswp.specs.Status.{status_after};
 use crate::load::{Loaded, load_program};
 use crate::made::answer_gen;
 use crate::planning::answer_plan;
+use crate::profiling::answer_profile;
 use crate::refusal::{Refusal, Role};
 use crate::running::{load, run_to_end};
 use crate::texts::Texts;
@@ -99,6 +100,7 @@ fn answer<R: Threads + Wait + Sync, S: Shelf, K: Sink, G: Gate>(
         Some(Task::Run(run)) => answer_run(rt, alloc, run, shelf, sink, gate, tally),
         Some(Task::Plan(plan)) => answer_plan(alloc, plan, shelf, sink),
         Some(Task::Check(program)) => answer_check(alloc, program, shelf, sink),
+        Some(Task::Profile(profile)) => answer_profile(alloc, profile, shelf, sink),
         Some(Task::Gen(words)) => answer_gen(rt, alloc, words, sink, gate, tally),
         None => refuse(alloc, Refusal::Words, sink),
     }

@@ -7,6 +7,7 @@ mod law;
 mod load;
 mod made;
 mod planning;
+mod profiling;
 mod program;
 mod quantity;
 mod refusal;

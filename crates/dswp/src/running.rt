@@ -52,7 +52,7 @@ pub fn load<S: Shelf>(alloc: Global, run: RunWords, shelf: &mut S) -> Result<Tex
 }
 
 /// The input under a name, if there is one: else no numbers.
-fn load_words<S: Shelf>(
+pub fn load_words<S: Shelf>(
     alloc: Global,
     shelf: &mut S,
     name: Option<&str>,
@@ -139,7 +139,7 @@ pub fn run_to_end<R: Threads + Wait + Sync, K: Sink, G: Gate>(
 }
 
 /// The exit status of a run that ended so.
-fn end_status(end: End) -> u8
+pub fn end_status(end: End) -> u8
     ensures { result ≡ status_of end }
 {
     match end {

@@ -19,6 +19,7 @@ mod limits;
 mod loops;
 mod made;
 mod names;
+mod observed;
 mod overlap;
 mod pipelines;
 mod plan_rules;

@@ -12,22 +12,25 @@ use Rattle.dswp.specs.RunText.{run_text, status_of}
 use Rattle.dp_words.specs.declared.task.PlanOptions.{PlanOptions}
 use Rattle.dp_words.specs.declared.task.GenWords.{GenWords}
 use Rattle.dp_words.specs.Words as source
-use Rattle.dp_words.specs.Words.{Run, Planning, Source, Least, Asks, AsksMade, AsksPlans, AsksSites, AsksNothing}
+use Rattle.dp_words.specs.Words.{Run, Planning, Profiling, Source, Least, Asks, AsksMade, AsksPlans, AsksProfile, AsksSites, AsksNothing}
 use Rattle.dp_plan.specs.declared.Plan.{Plan}
 use Rattle.dp_profile.specs.declared.Profile.{Profile}
 use Rattle.dp_calls.proofs.InlinedLaws.{expanded_is_inlined}
 use Rattle.dp_plan.specs.WrittenText.{plans_text}
+use Rattle.dp_profile.specs.Observed.{observed}
+use Rattle.dp_profile.specs.WrittenText.{profile_text}
 use Rattle.dp_cut.proofs.PlansOnce.{automatic_once}
 use Rattle.dswp.specs.Made.{made_line, made_words}
 use Rattle.dswp.specs.Plans.{MakesPlans, ReadsPlans}
 use Rattle.dswp.specs.Profiles.{ReadsProfile}
 use Rattle.dswp.specs.Program.{Reads}
-use Rattle.dswp.specs.Answer.{input_of, some_read, ReadsInput, Input, Unnamed, Named, Profiled, NotNamed, NamedProfile, Plans, Automatic, ProfileRefused, Planned, Answer, NotTaken, ProgramRefused, InputRefused, PlansRefused, Ran, PlanningRefused, LeastRefused, PlansWritten, SitesRefused, SitesListed, MadeRefused, MadeRan}
+use Rattle.dswp.specs.Answer.{input_of, some_read, ReadsInput, Input, Unnamed, Named, Profiled, NotNamed, NamedProfile, Plans, Automatic, ProfileRefused, Planned, Answer, NotTaken, ProgramRefused, InputRefused, PlansRefused, Ran, PlanningRefused, LeastRefused, PlansWritten, SitesRefused, SitesListed, ProfilingRefused, ProfilingInputRefused, ProfileWritten, MadeRefused, MadeRan}
 use Rattle.dswp.proofs.accepted.Accepted.{read_checked, few_regions_read, few_sites_read}
 use Rattle.dswp.proofs.definite.ReadsOnce.{reads_once}
+use Rattle.dswp.proofs.definite.TextsOnce.{read_once, input_by, plans_by}
 use Rattle.dswp.proofs.definite.PlansOnce.{plans_once}
 use Rattle.dswp.proofs.definite.ProfilesOnce.{profiles_once}
-use Rattle.dswp.proofs.definite.AsksOnce.{asks_once, planning_once, sites_once, made_once as asks_made_once, not_run_and_plans, not_run_and_sites, not_run_and_made, not_plans_and_sites, not_plans_and_made, not_sites_and_made}
+use Rattle.dswp.proofs.definite.AsksOnce.{asks_once, planning_once, sites_once, profile_once, made_once as asks_made_once, not_run_and_plans, not_run_and_sites, not_run_and_profile, not_run_and_made, not_plans_and_sites, not_plans_and_profile, not_plans_and_made, not_sites_and_profile, not_sites_and_made, not_profile_and_made}
 
 -- a status and the bytes
 abbrev refused : Refusal → ℕ × List ℕ
@@ -54,87 +57,20 @@ abbrev sites_given : Result Program Refusal → ℕ × List ℕ
 sites_given (Err refusal) = refused refusal
 sites_given (Ok p) = (0, site_bytes (expand p))
 
+abbrev profile_given : Profiling → Result Program Refusal → Result (List ℤ) Refusal → ℕ × List ℕ
+profile_given profiling (Err refusal) input = refused refusal
+profile_given profiling (Ok p) (Err refusal) = refused refusal
+profile_given profiling (Ok p) (Ok numbers) = (status_of (outcome p numbers profiling.fuel).end, profile_text (expand p) (observed (expand p) numbers profiling.fuel).profile)
+
 abbrev made_given : GenWords → Result Program Refusal → List Plan → ℕ × List ℕ
 made_given made (Err refusal) plans = refused refusal
 made_given made (Ok p) plans = (status_of (outcome p (made_words made) made.fuel).end, made_line made ++ run_text p plans (made_words made) made.fuel false)
 
 module _ (held : List ℕ → Option (List ℕ)) where
-  one_text : {name other text more : List ℕ} → name ≡ other → held name ≡ Some text → held other ≡ Some more → text ≡ more
-  one_text {text = text} {more = more} e h k = let same : Some text ≡ Some more = sym h ∙ ap held e ∙ k in cc same
-
-  read_once : {name other text more : List ℕ} {a b : Result Program Refusal} → name ≡ other → held name ≡ Some text → held other ≡ Some more → Reads text a → Reads more b → a ≡ b
-  read_once {text = text} {b = b} e h k r s = reads_once text r (subst (λ (x : List ℕ). Reads x b) (sym (one_text e h k)) s)
-
-  -- the input of a run
-  from_unnamed : {o : Option (List ℕ)} {b : Result (List ℤ) Refusal} → o ≡ None → Input (Some held) o b → Ok [] ≡ b
-  from_unnamed e Unnamed = refl
-  from_unnamed e (Named name read r) = absurd (cc e)
-
-  from_named : {o : Option (List ℕ)} {a b : Result (List ℤ) Refusal} (name : List ℕ) → o ≡ Some name → ReadsInput (Some held) name a → Input (Some held) o b → a ≡ b
-  from_named name e r Unnamed = absurd (cc e)
-  from_named name e r (Named other read s) = let same : name ≡ other = cc e in r.reads ∙ ap input_of (one_text same r.held s.held) ∙ sym s.reads
-
-  input_by : {o p : Option (List ℕ)} {a b : Result (List ℤ) Refusal} → o ≡ p → Input (Some held) o a → Input (Some held) p b → a ≡ b
-  input_by e Unnamed k = from_unnamed (sym e) k
-  input_by e (Named name read r) k = from_named name (sym e) r k
-
-  -- the plans of a run
-  module _ (program : Program) (own : List ℕ) (reads : Reads own (Ok program)) (options : PlanOptions) where
-    abbrev p : Program
-    p = expand program
-
-    from_no_profile : {o : Option (List ℕ)} {b : Result (Option Profile) Refusal} → None ≡ o → Profiled (Some held) p o b → Ok None ≡ b
-    from_no_profile e NotNamed = refl
-    from_no_profile e (NamedProfile name text read h r) = absurd (cc e)
-
-    from_profile : {o : Option (List ℕ)} {b : Result (Option Profile) Refusal} (name text : List ℕ) (a : Result Profile Refusal) → Some name ≡ o → held name ≡ Some text → ReadsProfile p text a → Profiled (Some held) p o b → some_read a ≡ b
-    from_profile name text a e h r NotNamed = absurd (cc e)
-    from_profile name text a e h r (NamedProfile other more c k s) =
-        let same : name ≡ other = cc e in
-        let here : ReadsProfile p text c = subst (λ (x : List ℕ). ReadsProfile p x c) (sym (one_text same h k)) s in
-        ap some_read (profiles_once p (expanded_is_inlined program (read_checked own program reads)) (few_sites_read own program reads) text r here)
-
-    profiled_by : {o q : Option (List ℕ)} {a b : Result (Option Profile) Refusal} → o ≡ q → Profiled (Some held) p o a → Profiled (Some held) p q b → a ≡ b
-    profiled_by e NotNamed k = from_no_profile e k
-    profiled_by e (NamedProfile name text a h r) k = from_profile name text a e h r k
-
-    from_automatic : {plans_of : Source} {b : Result (List Plan) Refusal} (name : Option (List ℕ)) (profile : Option Profile) (plans : List Plan) → Least name ≡ plans_of → Profiled (Some held) p name (Ok profile) → MakesPlans p options profile plans →
-        Plans (Some held) p options plans_of b → Ok plans ≡ b
-    from_automatic name profile plans e found made (Automatic other shown others k same) =
-        let one : Ok profile ≡ Ok shown = profiled_by (cc e) found k in
-        let counts : profile ≡ shown = cc one in
-        ap Ok (automatic_once p shown options.rate options.stages options.workers plans others (subst (λ (x : Option Profile). MakesPlans p options x plans) counts made) same)
-    from_automatic name profile plans e found made (ProfileRefused other refusal k) =
-        let clash : Ok profile ≡ Err refusal = profiled_by (cc e) found k in
-        absurd (cc clash)
-    from_automatic name profile plans e found made (Planned other text read h r) = absurd (cc e)
-
-    from_refused : {plans_of : Source} {b : Result (List Plan) Refusal} (name : Option (List ℕ)) (refusal : Refusal) → Least name ≡ plans_of → Profiled (Some held) p name (Err refusal) → Plans (Some held) p options plans_of b → Err refusal ≡ b
-    from_refused name refusal e found (Automatic other shown others k same) =
-        let clash : Err refusal ≡ Ok shown = profiled_by (cc e) found k in
-        absurd (cc clash)
-    from_refused name refusal e found (ProfileRefused other another k) =
-        let one : Err refusal ≡ Err another = profiled_by (cc e) found k in
-        let same : refusal ≡ another = cc one in
-        ap (λ (r : Refusal). Err r) same
-    from_refused name refusal e found (Planned other text read h r) = absurd (cc e)
-
-    from_planned : {plans_of : Source} {a b : Result (List Plan) Refusal} (name text : List ℕ) → source.Named name ≡ plans_of → held name ≡ Some text → ReadsPlans p text a → Plans (Some held) p options plans_of b → a ≡ b
-    from_planned name text e h r (Automatic other shown plans k made) = absurd (cc e)
-    from_planned name text e h r (ProfileRefused other refusal k) = absurd (cc e)
-    from_planned {b = b} name text e h r (Planned other more read k s) =
-        let same : name ≡ other = cc e in
-        plans_once p (few_regions_read own program reads) text r (subst (λ (x : List ℕ). ReadsPlans p x b) (sym (one_text same h k)) s)
-
-    plans_by : {one other : Source} {a b : Result (List Plan) Refusal} → one ≡ other → Plans (Some held) p options one a → Plans (Some held) p options other b → a ≡ b
-    plans_by e (Automatic name profile plans found made) k = from_automatic name profile plans e found made k
-    plans_by e (ProfileRefused name refusal found) k = from_refused name refusal e found k
-    plans_by e (Planned name text read h r) k = from_planned name text e h r k
-
   -- The input counts only where the program isn't refused, and the plans where neither is.
-  abbrev InputFor : Result Program Refusal → Run → Result (List ℤ) Refusal → Type 0
-  InputFor (Err refusal) run input = Unit {0}
-  InputFor (Ok p) run input = Input (Some held) run.input input
+  abbrev InputFor : Result Program Refusal → Option (List ℕ) → Result (List ℤ) Refusal → Type 0
+  InputFor (Err refusal) name input = Unit {0}
+  InputFor (Ok p) name input = Input (Some held) name input
 
   abbrev PlansFor : Result Program Refusal → Result (List ℤ) Refusal → Run → Result (List Plan) Refusal → Type 0
   PlansFor (Err refusal) input run plans = Unit {0}
@@ -153,11 +89,13 @@ module _ (held : List ℕ → Option (List ℕ)) where
 
   data Way (words : List (List ℕ)) (answer : ℕ × List ℕ) : Type 0 where
     nothing : AsksNothing words → answer ≡ refused Words → Way words answer
-    a_run : (run : Run) (text : List ℕ) (x : Result Program Refusal) (input : Result (List ℤ) Refusal) (plans : Result (List Plan) Refusal) → Asks words run → held run.program ≡ Some text → Reads text x → InputFor x run input → PlansFor x input run plans →
+    a_run : (run : Run) (text : List ℕ) (x : Result Program Refusal) (input : Result (List ℤ) Refusal) (plans : Result (List Plan) Refusal) → Asks words run → held run.program ≡ Some text → Reads text x → InputFor x run.input input → PlansFor x input run plans →
         answer ≡ run_given run x input plans → Way words answer
     planned : (planning : Planning) (text : List ℕ) (x : Result Program Refusal) (plans : Result (List Plan) Refusal) → AsksPlans words planning → held planning.program ≡ Some text → Reads text x → LeastFor x planning plans →
         answer ≡ plans_given x plans → Way words answer
     made_run : (words_of : GenWords) (x : Result Program Refusal) (plans : List Plan) → AsksMade words words_of → Reads made_text x → MadeFor x words_of.options plans → answer ≡ made_given words_of x plans → Way words answer
+    profiled : (profiling : Profiling) (text : List ℕ) (x : Result Program Refusal) (input : Result (List ℤ) Refusal) → AsksProfile words profiling → held profiling.program ≡ Some text → Reads text x → InputFor x profiling.input input →
+        answer ≡ profile_given profiling x input → Way words answer
     sites : (program text : List ℕ) (x : Result Program Refusal) → AsksSites words program → held program ≡ Some text → Reads text x → answer ≡ sites_given x → Way words answer
 
   way : {words : List (List ℕ)} {status : ℕ} {bytes : List ℕ} → Answer words (Some held) status bytes → Way words (status, bytes)
@@ -171,6 +109,9 @@ module _ (held : List ℕ → Option (List ℕ)) where
   way (PlansWritten planning text p plans asks h r l) = planned planning text (Ok p) (Ok plans) asks h r l refl
   way (SitesRefused program text refusal asks h r) = sites program text (Err refusal) asks h r refl
   way (SitesListed program text p asks h r) = sites program text (Ok p) asks h r refl
+  way (ProfilingRefused profiling text refusal asks h r) = profiled profiling text (Err refusal) (Ok []) asks h r tt refl
+  way (ProfilingInputRefused profiling text p refusal asks h r i) = profiled profiling text (Ok p) (Err refusal) asks h r i refl
+  way (ProfileWritten profiling text p numbers asks h r i) = profiled profiling text (Ok p) (Ok numbers) asks h r i refl
   way (MadeRefused m refusal asks r) = made_run m (Err refusal) [] asks r refl refl
   way (MadeRan m p plans asks r l) = made_run m (Ok p) plans asks r l refl
 
@@ -181,22 +122,31 @@ module _ (held : List ℕ → Option (List ℕ)) where
   same_plans run p text reads (Ok a) (Err b) l m e h k = absurd (cc e)
   same_plans run p text reads (Ok a) (Ok b) l m e h k =
       let same : a ≡ b = cc e in
-      ap (λ (numbers : List ℤ). ran run p numbers l) same ∙ ap (ran run p b) (plans_by p text reads run.options refl h k)
+      ap (λ (numbers : List ℤ). ran run p numbers l) same ∙ ap (ran run p b) (plans_by held p text reads run.options refl h k)
 
-  same_run : (run : Run) (text : List ℕ) (x y : Result Program Refusal) (i j : Result (List ℤ) Refusal) (l m : Result (List Plan) Refusal) → Reads text x → x ≡ y → InputFor x run i → InputFor y run j → PlansFor x i run l → PlansFor y j run m →
+  same_run : (run : Run) (text : List ℕ) (x y : Result Program Refusal) (i j : Result (List ℤ) Refusal) (l m : Result (List Plan) Refusal) → Reads text x → x ≡ y → InputFor x run.input i → InputFor y run.input j → PlansFor x i run l → PlansFor y j run m →
       run_given run x i l ≡ run_given run y j m
   same_run run text (Err a) (Err b) i j l m r e h k u v = let same : a ≡ b = cc e in ap refused same
   same_run run text (Err a) (Ok q) i j l m r e h k u v = absurd (cc e)
   same_run run text (Ok p) (Err b) i j l m r e h k u v = absurd (cc e)
   same_run run text (Ok p) (Ok q) i j l m r e h k u v =
       let same : p ≡ q = cc e in
-      same_plans run p text r i j l m (input_by refl h k) u (subst (λ (z : Program). PlansFor (Ok z) j run m) (sym same) v)
+      same_plans run p text r i j l m (input_by held refl h k) u (subst (λ (z : Program). PlansFor (Ok z) j run m) (sym same) v)
       ∙ ap (λ (z : Program). with_input run z j m) same
+
+  -- the same profile of the same program
+  same_profile : (profiling : Profiling) (x y : Result Program Refusal) (i j : Result (List ℤ) Refusal) → x ≡ y → InputFor x profiling.input i → InputFor y profiling.input j → profile_given profiling x i ≡ profile_given profiling y j
+  same_profile profiling (Err a) (Err b) i j e h k = let same : a ≡ b = cc e in ap refused same
+  same_profile profiling (Err a) (Ok q) i j e h k = absurd (cc e)
+  same_profile profiling (Ok p) (Err b) i j e h k = absurd (cc e)
+  same_profile profiling (Ok p) (Ok q) i j e h k =
+      let same : p ≡ q = cc e in
+      ap (profile_given profiling (Ok p)) (input_by held refl h k) ∙ ap (λ (z : Program). profile_given profiling (Ok z) j) same
 
   -- the same plans of the same program
   same_least : (planning : Planning) (text : List ℕ) (x : Result Program Refusal) (l m : Result (List Plan) Refusal) → Reads text x → LeastFor x planning l → LeastFor x planning m → l ≡ m
   same_least planning text (Err refusal) l m r h k = h ∙ sym k
-  same_least planning text (Ok p) l m r h k = plans_by p text r planning.options refl h k
+  same_least planning text (Ok p) l m r h k = plans_by held p text r planning.options refl h k
 
   same_made : (options : PlanOptions) (x : Result Program Refusal) (a b : List Plan) → MadeFor x options a → MadeFor x options b → a ≡ b
   same_made options (Err refusal) a b h k = h ∙ sym k
@@ -207,35 +157,48 @@ module _ (held : List ℕ → Option (List ℕ)) where
   ways_once (nothing n e) (a_run run text x i l asks h r g u f) = absurd (n.no_run run asks)
   ways_once (nothing n e) (planned planning text x plans asks h r g f) = absurd (n.no_plans planning asks)
   ways_once (nothing n e) (sites program text x asks h r f) = absurd (n.no_sites program asks)
+  ways_once (nothing n e) (profiled profiling text x i asks h r g f) = absurd (n.no_profile profiling asks)
   ways_once (nothing n e) (made_run m x l asks r g f) = absurd (n.none_made m asks)
   ways_once (a_run run text x i l asks h r g u e) (nothing m f) = absurd (m.no_run run asks)
   ways_once (a_run run text x i l asks h r g u e) (a_run other more y j n asked k s o v f) =
       let one = asks_once asks asked in
       let back : other ≡ run = sym one in
-      e ∙ same_run run text x y i j l n r (read_once (ap (λ (z : Run). z.program) one) h k r s) g (subst (λ (z : Run). InputFor y z j) back o) u (subst (λ (z : Run). PlansFor y j z n) back v)
+      e ∙ same_run run text x y i j l n r (read_once held (ap (λ (z : Run). z.program) one) h k r s) g (subst (λ (z : Run). InputFor y z.input j) back o) u (subst (λ (z : Run). PlansFor y j z n) back v)
       ∙ ap (λ (z : Run). run_given z y j n) one ∙ sym f
   ways_once (a_run run text x i l asks h r g u e) (planned planning more y made asked k s o f) = not_run_and_plans asks asked
   ways_once (a_run run text x i l asks h r g u e) (sites program more y asked k s f) = not_run_and_sites asks asked
+  ways_once (a_run run text x i l asks h r g u e) (profiled profiling more y j asked k s o f) = not_run_and_profile asks asked
   ways_once (a_run run text x i l asks h r g u e) (made_run m y n asked s o f) = not_run_and_made asks asked
   ways_once (planned planning text x plans asks h r g e) (nothing m f) = absurd (m.no_plans planning asks)
   ways_once (planned planning text x plans asks h r g e) (a_run other more y j n asked k s o v f) = not_run_and_plans asked asks
   ways_once (planned planning text x plans asks h r g e) (planned other more y others asked k s o f) =
       let one = planning_once asks asked in
-      let same = read_once (ap (λ (z : Planning). z.program) one) h k r s in
+      let same = read_once held (ap (λ (z : Planning). z.program) one) h k r s in
       let here = subst (λ (z : Planning). LeastFor y z others) (sym one) o in
       e ∙ ap (plans_given x) (same_least planning text x plans others r g (subst (λ (z : Result Program Refusal). LeastFor z planning others) (sym same) here)) ∙ ap (λ (z : Result Program Refusal). plans_given z others) same ∙ sym f
   ways_once (planned planning text x plans asks h r g e) (sites program more y asked k s f) = not_plans_and_sites asks asked
+  ways_once (planned planning text x plans asks h r g e) (profiled profiling more y j asked k s o f) = not_plans_and_profile asks asked
   ways_once (planned planning text x plans asks h r g e) (made_run m y n asked s o f) = not_plans_and_made asks asked
   ways_once (sites program text x asks h r e) (nothing m f) = absurd (m.no_sites program asks)
   ways_once (sites program text x asks h r e) (a_run other more y j n asked k s o v f) = not_run_and_sites asked asks
   ways_once (sites program text x asks h r e) (planned planning more y made asked k s o f) = not_plans_and_sites asked asks
   ways_once (sites program text x asks h r e) (sites other more y asked k s f) =
-      e ∙ ap sites_given (read_once (sites_once asks asked) h k r s) ∙ sym f
+      e ∙ ap sites_given (read_once held (sites_once asks asked) h k r s) ∙ sym f
+  ways_once (sites program text x asks h r e) (profiled profiling more y j asked k s o f) = not_sites_and_profile asks asked
   ways_once (sites program text x asks h r e) (made_run m y n asked s o f) = not_sites_and_made asks asked
+  ways_once (profiled profiling text x i asks h r g e) (nothing m f) = absurd (m.no_profile profiling asks)
+  ways_once (profiled profiling text x i asks h r g e) (a_run other more y j n asked k s o v f) = not_run_and_profile asked asks
+  ways_once (profiled profiling text x i asks h r g e) (planned planning more y others asked k s o f) = not_plans_and_profile asked asks
+  ways_once (profiled profiling text x i asks h r g e) (sites program more y asked k s f) = not_sites_and_profile asked asks
+  ways_once (profiled profiling text x i asks h r g e) (profiled other more y j asked k s o f) =
+      let one = profile_once asks asked in
+      e ∙ same_profile profiling x y i j (read_once held (ap (λ (z : Profiling). z.program) one) h k r s) g (subst (λ (z : Profiling). InputFor y z.input j) (sym one) o) ∙ ap (λ (z : Profiling). profile_given z y j) one ∙ sym f
+  ways_once (profiled profiling text x i asks h r g e) (made_run m y n asked s o f) = not_profile_and_made asks asked
   ways_once (made_run m x l asks r g e) (nothing n f) = absurd (n.none_made m asks)
   ways_once (made_run m x l asks r g e) (a_run other more y j n asked k s o v f) = not_run_and_made asked asks
   ways_once (made_run m x l asks r g e) (planned planning more y others asked k s o f) = not_plans_and_made asked asks
   ways_once (made_run m x l asks r g e) (sites program more y asked k s f) = not_sites_and_made asked asks
+  ways_once (made_run m x l asks r g e) (profiled profiling more y j asked k s o f) = not_profile_and_made asked asks
   ways_once (made_run m x l asks r g e) (made_run other y n asked s o f) =
       let one = asks_made_once asks asked in
       let same = reads_once made_text r s in

@@ -4,9 +4,9 @@ use Rattle.std.specs.Option.{option_map_or}
 use Rattle.std.specs.Str.{bytes_eq}
 use Rattle.clap.specs.Words.{App, Text}
 use Rattle.dp_words.proofs.VerbLemmas.{apart, behind, named_behind, verb_is}
-use Rattle.dp_words.specs.Commands.{check_app, gen_app, plan_app, run_app, value_in}
+use Rattle.dp_words.specs.Commands.{check_app, gen_app, plan_app, profile_app, run_app, value_in}
 use Rattle.dp_words.specs.declared.task.GenWords.{GenWords}
-use Rattle.dp_words.specs.Words.{Run, Planning, Source, Asks, AsksBy, AsksMade, AsksPlans, AsksSites, ShowsMade, ShowsPlanning, ShowsRun, ShowsSites, Values, default_fuel, default_rate, default_stages, lane_in, number_or, options_in, workers_in}
+use Rattle.dp_words.specs.Words.{Run, Planning, Profiling, Source, Asks, AsksBy, AsksMade, AsksPlans, AsksProfile, AsksSites, ShowsMade, ShowsPlanning, ShowsProfiling, ShowsRun, ShowsSites, Values, default_fuel, default_rate, default_stages, fuel_in, lane_in, options_in, workers_in}
 use Rattle.dswp.specs.Headline.{AskForRun, OfNamed, OfMade}
 
 -- whether a flag was given, by the number of letters of its value
@@ -21,7 +21,7 @@ run_from value program plans = record {
   source = plans;
   options = options_in value;
   lane = lane_in value;
-  fuel = number_or default_fuel (value (codes "fuel"));
+  fuel = fuel_in value;
   why = why_of (value (codes "why"));
 }
 
@@ -52,6 +52,17 @@ plannings_once value planning other a b =
 programs_once : (value : Values) (program other : List ℕ) → ShowsSites value program → ShowsSites value other → program ≡ other
 programs_once value program other a b = let same : Some program ≡ Some other = sym a ∙ b in cc same
 
+abbrev profiling_from : Values → Text → Profiling
+profiling_from value program = record { program = program; input = value (codes "input"); fuel = fuel_in value }
+
+profiling_is : (value : Values) (profiling : Profiling) → ShowsProfiling value profiling → profiling_from value profiling.program ≡ profiling
+profiling_is value profiling h = rw (h.input, ← h.fuel) refl
+
+profilings_once : (value : Values) (profiling other : Profiling) → ShowsProfiling value profiling → ShowsProfiling value other → profiling ≡ other
+profilings_once value profiling other a b =
+    let program : Some profiling.program ≡ Some other.program = sym a.program ∙ b.program in
+    sym (profiling_is value profiling a) ∙ ap (profiling_from value) (cc program) ∙ profiling_is value other b
+
 abbrev made_from : Values → ℕ → ℕ → GenWords
 made_from value seed size = record { seed = seed; size = size; options = record { rate = default_rate; stages = default_stages; workers = workers_in value }; lane = lane_in value; fuel = default_fuel }
 
@@ -77,6 +88,9 @@ planning_once a b = once_by (codes "plan") plan_app ShowsPlanning plannings_once
 
 pub sites_once : {words : List Text} {program other : List ℕ} → AsksSites words program → AsksSites words other → program ≡ other
 sites_once a b = once_by (codes "check") check_app ShowsSites programs_once a b
+
+pub profile_once : {words : List Text} {profiling other : Profiling} → AsksProfile words profiling → AsksProfile words other → profiling ≡ other
+profile_once a b = once_by (codes "profile") profile_app ShowsProfiling profilings_once a b
 
 pub made_once : {words : List Text} {made other : GenWords} → AsksMade words made → AsksMade words other → made ≡ other
 made_once a b = once_by (codes "gen") gen_app ShowsMade mades_once a b
@@ -104,6 +118,18 @@ not_plans_and_made a b = two_verbs (codes "plan") (codes "gen") plan_app gen_app
 pub not_sites_and_made : {A : Type 0} {words : List Text} {program : List ℕ} {made : GenWords} → AsksSites words program → AsksMade words made → A
 not_sites_and_made a b = two_verbs (codes "check") (codes "gen") check_app gen_app ShowsSites ShowsMade refl a b
 
+pub not_run_and_profile : {A : Type 0} {words : List Text} {run : Run} {profiling : Profiling} → Asks words run → AsksProfile words profiling → A
+not_run_and_profile a b = two_verbs (codes "run") (codes "profile") run_app profile_app ShowsRun ShowsProfiling refl a b
+
+pub not_plans_and_profile : {A : Type 0} {words : List Text} {planning : Planning} {profiling : Profiling} → AsksPlans words planning → AsksProfile words profiling → A
+not_plans_and_profile a b = two_verbs (codes "plan") (codes "profile") plan_app profile_app ShowsPlanning ShowsProfiling refl a b
+
+pub not_sites_and_profile : {A : Type 0} {words : List Text} {program : List ℕ} {profiling : Profiling} → AsksSites words program → AsksProfile words profiling → A
+not_sites_and_profile a b = two_verbs (codes "check") (codes "profile") check_app profile_app ShowsSites ShowsProfiling refl a b
+
+pub not_profile_and_made : {A : Type 0} {words : List Text} {profiling : Profiling} {made : GenWords} → AsksProfile words profiling → AsksMade words made → A
+not_profile_and_made a b = two_verbs (codes "profile") (codes "gen") profile_app gen_app ShowsProfiling ShowsMade refl a b
+
 -- words that ask for no run
 pub no_run_and_plans : {words : List Text} {planning : Planning} → AsksPlans words planning → AskForRun words → ⊥
 no_run_and_plans a (OfNamed run asked) = not_run_and_plans asked a
@@ -112,3 +138,7 @@ no_run_and_plans a (OfMade made asked) = not_plans_and_made a asked
 pub no_run_and_sites : {words : List Text} {program : List ℕ} → AsksSites words program → AskForRun words → ⊥
 no_run_and_sites a (OfNamed run asked) = not_run_and_sites asked a
 no_run_and_sites a (OfMade made asked) = not_sites_and_made a asked
+
+pub no_run_and_profile : {words : List Text} {profiling : Profiling} → AsksProfile words profiling → AskForRun words → ⊥
+no_run_and_profile a (OfNamed run asked) = not_run_and_profile asked a
+no_run_and_profile a (OfMade made asked) = not_profile_and_made a asked

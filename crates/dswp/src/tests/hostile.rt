@@ -74,7 +74,7 @@ fn a_spoiled_byte_is_refused_at_its_line(rt: HostRuntime) -> Result<(), Fail> {
 }
 
 /// Words, and what is written where the sink has room for it.
-const WRITTEN: [(&str, &str); 4] = [
+const WRITTEN: [(&str, &str); 5] = [
     (
         "run sum_loop.c",
         "0\n1\n3\nstate\ns 3\nregion 1 iterations 4 recovered 0\nend done\n",
@@ -86,6 +86,10 @@ const WRITTEN: [(&str, &str); 4] = [
     (
         "plan sum_loop.c",
         "plan 2\nregion 1 words 4096\nseq 2 5\nseq 3 4\nend\n",
+    ),
+    (
+        "profile zero_divisor.c --fuel 0",
+        "profile 1\nregion 1\nruns 2 0 0\nruns 3 0 0\nruns 4 0 0\nend\n",
     ),
     ("run none.c", "failed read program\n"),
 ];

@@ -115,7 +115,16 @@ fn is_clean_in<R: Wait>(
     let Pipeline {
         mut units,
         mut verdicts,
-    } = pipeline_of(alloc, p, plan, programs.as_slice(), 2, 16, &stop, &mut setter)?;
+    } = pipeline_of(
+        alloc,
+        p,
+        plan,
+        programs.as_slice(),
+        2,
+        16,
+        &stop,
+        &mut setter,
+    )?;
     let mut number: u64 = 1;
     for turn in 0..POLLS {
         number = number.wrapping_mul(1_103_515_245).wrapping_add(12_345) % 2_147_483_648;
@@ -140,8 +149,16 @@ fn first_answers<R: Wait>(
 {
     let programs = stage_programs(alloc, p, plan)?;
     let (stop, mut setter) = Stop::new(alloc)?;
-    let Pipeline { mut units, .. } =
-        pipeline_of(alloc, p, plan, programs.as_slice(), 1, 1, &stop, &mut setter)?;
+    let Pipeline { mut units, .. } = pipeline_of(
+        alloc,
+        p,
+        plan,
+        programs.as_slice(),
+        1,
+        1,
+        &stop,
+        &mut setter,
+    )?;
     let mut answers = Row::new(alloc);
     for place in [3, 0, 0] {
         if let Some(unit) = units.as_mut_slice().get_mut(place) {

@@ -1,5 +1,5 @@
 use Rattle.std.proofs.Common.{refl, Some, None, codes}
-use Rattle.dp_words.proofs.VerbLemmas.{asks_none, asks_some, only_made, only_plans, only_profile, only_run, only_sites}
+use Rattle.dp_words.proofs.VerbLemmas.{asks_none, asks_some, is_other, only_made, only_plans, only_profile, only_run, only_sites, unknown_verb}
 use Rattle.dp_words.specs.Commands.{check_app, gen_app, plan_app, profile_app, run_app}
 use Rattle.dp_words.specs.Words.{ShowsMade, ShowsPlanning, ShowsProfiling, ShowsRun, ShowsSites, shown, shown_planning, shown_profiling}
 use Rattle.dp_words.specs.declared.task.Task.TheVariants as task
@@ -54,3 +54,8 @@ pub returns-in-None-clause-none : goal.returns-in-None-clause-none
 returns-in-None-clause-none c =
     asks_none (codes "gen") gen_app ShowsMade task.Gen _ _ _ _ c.in-Some.ensures.cases.0 c.as_str-verb.ensures.value (c.is-5.ensures.0 c.if-is-5.true) None None refl
     (λ e none. only_made _ e none) (rw c.in-None.is at c.in_ok-made.ensures.none)
+
+pub returns-clause-none : goal.returns-clause-none
+returns-clause-none c =
+    unknown_verb _ _ _ _ c.in-Some.ensures.cases.0 c.as_str-verb.ensures.value (is_other _ _ c.is.ensures c.if-is.false) (is_other _ _ c.is-2.ensures c.if-is-2.false) (is_other _ _ c.is-3.ensures c.if-is-3.false) (is_other _ _ c.is-4.ensures c.if-is-4.false)
+    (is_other _ _ c.is-5.ensures c.if-is-5.false)

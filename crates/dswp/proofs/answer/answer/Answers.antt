@@ -1,7 +1,7 @@
 use Rattle.std.proofs.Common.{◌∙◌, ap, refl, Some}
 use Rattle.dswp.specs.declared.refusal.Refusal.TheVariants.{Words}
 use Rattle.dswp.proofs.AnswerLemmas.{carry_not_taken, no_run_counts, refused_counts}
-use Rattle.dswp.proofs.definite.AsksOnce.{no_run_and_plans, no_run_and_sites}
+use Rattle.dswp.proofs.definite.AsksOnce.{no_run_and_plans, no_run_and_profile, no_run_and_sites}
 use Rattle.dswp.proofs.answer.answer.Goals as goal
 
 pub returns-in-None-clause-carried : goal.returns-in-None-clause-carried
@@ -33,3 +33,9 @@ returns-in-Some-Gen-clause-carried g c = c.answer_gen.ensures.carried _ _ _ _ (r
 
 pub returns-in-Some-Gen-clause-counted : goal.returns-in-Some-Gen-clause-counted
 returns-in-Some-Gen-clause-counted g c = c.answer_gen.ensures.counted _ _ (rw (c.in-Some-Gen.is ∙ ap Some c.in-Some-Gen.field-0-is) at c.in_ok-run.ensures.some)
+
+pub returns-in-Some-Profile-clause-carried : goal.returns-in-Some-Profile-clause-carried
+returns-in-Some-Profile-clause-carried g c = c.answer_profile.ensures.carried _ (rw (c.in-Some-Profile.is ∙ ap Some c.in-Some-Profile.field-0-is) at c.in_ok-run.ensures.some)
+
+pub returns-in-Some-Profile-clause-counted : goal.returns-in-Some-Profile-clause-counted
+returns-in-Some-Profile-clause-counted g c = no_run_counts _ _ _ _ _ (no_run_and_profile (rw (c.in-Some-Profile.is ∙ ap Some c.in-Some-Profile.field-0-is) at c.in_ok-run.ensures.some))

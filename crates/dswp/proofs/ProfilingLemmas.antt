@@ -1,0 +1,53 @@
+-- What a profile's texts give is what its words are answered with.
+use Rattle.std.proofs.Common.{◌≡◌, sym, ◌∙◌, ap, false, ℕ, List, [], ℤ, Option, Result, Ok}
+use Rattle.dp_tree.specs.declared.Program.{Program}
+use Rattle.dp_calls.specs.Expand.{expand}
+use Rattle.dp_calls.specs.Frames.{outcome}
+use Rattle.dp_calls.proofs.InlinedLaws.{expanded_is_inlined}
+use Rattle.dp_calls.proofs.SameMeanings.{same_meaning}
+use Rattle.dp_profile.specs.Observed.{observed}
+use Rattle.dp_profile.specs.WrittenText.{profile_text}
+use Rattle.dp_crew.specs.declared.fail.CrewFail.{CrewFail}
+use Rattle.dp_run.specs.RunText.{source_run}
+use Rattle.dp_words.specs.Words.{Profiling, AsksProfile}
+use Rattle.dswp.specs.declared.load.Loaded.{Loaded}
+use Rattle.dswp.specs.declared.load.Loaded.TheVariants.{Text, Refused, Failed}
+use Rattle.dswp.specs.declared.refusal.Refusal.{Refusal}
+use Rattle.dswp.specs.declared.refusal.Role.TheVariants as role
+use Rattle.dswp.specs.Refusal.{refusal_line, refusal_status, failed_read_line}
+use Rattle.dswp.specs.Loading.{Gives, LoadsProgram}
+use Rattle.dswp.specs.RunText.{status_of}
+use Rattle.dswp.specs.Answer.{Contents, Input, ProfileWritten, ProfilingInputRefused, OfProfilingInput}
+use Rattle.dswp.specs.Carried.{Names, Finishes, Carried}
+use Rattle.dswp.specs.Carried as carried
+use Rattle.dswp.proofs.TextsLemmas.{Source, source_of}
+use Rattle.dswp.proofs.AnswerLemmas.{finishes_as}
+use Rattle.dswp.proofs.accepted.Accepted.{read_checked}
+use Rattle.dswp.proofs.accepted.SameText.{same_end}
+
+module _ (words : List (List ℕ)) (contents : Contents) (faults after : ℕ) (failed fails : Names) (told tells : Option (List ℕ)) (result : Result ℕ CrewFail) where
+  module _ (profiling : Profiling) (asks : AsksProfile words profiling) (q : Program) (read : LoadsProgram contents profiling.program (Ok q)) where
+    s : Source contents profiling.program q
+    s = source_of contents profiling.program q read
+
+    abbrev InputGives : Loaded (List ℤ) → Type 0
+    InputGives = Gives (Input contents profiling.input) profiling.input faults after failed fails
+
+    -- the run of the expanded program ends as the source's
+    end_is : (numbers : List ℤ) → (observed q numbers profiling.fuel).end ≡ (outcome s.source numbers profiling.fuel).end
+    end_is numbers =
+        let checked = read_checked s.reads.text s.source s.reads.reads in
+        ap (λ (x : Program). (source_run x numbers profiling.fuel).end) s.is ∙ sym (same_end s.source (expanded_is_inlined s.source checked) (same_meaning s.source checked) [] numbers profiling.fuel false)
+
+    pub carry_profile : (numbers : List ℤ) → InputGives (Text numbers) → Finishes (status_of (observed q numbers profiling.fuel).end) (profile_text q (observed q numbers profiling.fuel).profile) told tells result →
+        Carried words contents faults after failed fails told tells result
+    carry_profile numbers g finishes =
+        carried.OfAnswer _ _ (ProfileWritten profiling s.reads.text s.source numbers asks s.reads.held s.reads.reads g.0) g.1 g.2
+        (finishes_as _ _ (profile_text q (observed q numbers profiling.fuel).profile) (profile_text (expand s.source) (observed (expand s.source) numbers profiling.fuel).profile) told tells result
+        (ap status_of (end_is numbers)) (ap (λ (x : Program). profile_text x (observed x numbers profiling.fuel).profile) s.is) finishes)
+
+    pub carry_input_refused : (refusal : Refusal) → InputGives (Refused refusal) → Finishes (refusal_status refusal) (refusal_line refusal) told tells result → Carried words contents faults after failed fails told tells result
+    carry_input_refused refusal g finishes = carried.OfAnswer _ _ (ProfilingInputRefused profiling s.reads.text s.source refusal asks s.reads.held s.reads.reads g.0) g.1 g.2 finishes
+
+    pub carry_input_failed : InputGives Failed → Finishes 5 (failed_read_line role.Input) told tells result → Carried words contents faults after failed fails told tells result
+    carry_input_failed g finishes = carried.OfFailedRead _ _ (OfProfilingInput profiling s.reads.text g.0 s.source asks s.reads.held s.reads.reads g.1) g.2 g.3 finishes
