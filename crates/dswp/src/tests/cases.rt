@@ -18,7 +18,7 @@ pub fn filled(alloc: Global, text: &str, parts: &str) -> Result<String, NoMemory
 }
 
 /// The text with its parts between backticks so many times.
-fn repeated(alloc: Global, text: &str) -> Result<String, NoMemory> {
+pub fn repeated(alloc: Global, text: &str) -> Result<String, NoMemory> {
     let mut out = String::new(alloc);
     let mut inside = false;
     for part in text.split('`') {
