@@ -3,3 +3,4 @@ pub mod LoadLemmas
 pub mod TextsLemmas
 pub mod AnswerLemmas
 pub mod definite
+pub mod ZeroMemory
