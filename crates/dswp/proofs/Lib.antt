@@ -4,3 +4,4 @@ pub mod TextsLemmas
 pub mod AnswerLemmas
 pub mod MadeLemmas
 pub mod definite
+pub mod ZeroMemory
