@@ -1,7 +1,7 @@
 //! Texts that are cut or spoiled, reads that fail, and sinks without room.
+use super::answer_to;
 use super::cases::repeated;
 use super::library::{SKIP_PLAN, STALE_PLAN, SUM_LOOP};
-use super::answer_to;
 use dp_base::{NoMemory, Row};
 use std::alloc::Global;
 use std::process::Abort;
