@@ -1,5 +1,5 @@
 -- What the words behind a verb name, by the matches of the verb's command.
-use Rattle.std.proofs.Common.{◌≡◌, ◌∙◌, ap, refl, sym, subst, ℕ, true, false, List, [], Option, Some, None, IfSome, IfNone, codes}
+use Rattle.std.proofs.Common.{◌≡◌, ◌∙◌, ap, ap₂, refl, sym, subst, ℕ, true, false, List, [], Option, Some, None, IfSome, IfNone, codes}
 use Rattle.std.specs.List.{list_all}
 use Rattle.std.specs.Option.{option_map}
 use Rattle.std.specs.Borrow.{Bor}
@@ -14,7 +14,7 @@ use Rattle.dp_words.proofs.SimpleRows.{gen_has_simple_rules, gen_is_plain, gen_l
 use Rattle.dp_words.proofs.VerbLemmas.{apart}
 use Rattle.dp_words.specs.Commands.{IsTaken, gen_app, plan_app, run_app, value_in}
 use Rattle.dp_words.specs.Reading.{HoldsMade, HoldsOptions, HoldsRun, values_of}
-use Rattle.dp_words.specs.Words.{Names, Planning, Run, ShowsMade, ShowsPlanning, ShowsRun, ShowsSites, Values, default_fuel, default_rate, default_stages, number_in, number_or, options_in}
+use Rattle.dp_words.specs.Words.{Names, Planning, Run, ShowsMade, ShowsPlanning, ShowsRun, ShowsSites, Values, default_fuel, default_rate, default_stages, number_in, number_or, options_in, source_of}
 use Rattle.dp_words.specs.declared.task.GenWords.{GenWords}
 use Rattle.dp_words.specs.declared.task.PlanOptions.{PlanOptions}
 
@@ -69,7 +69,7 @@ pub moved_run : (value other : Values) → SameValues value other → (run : Run
 moved_run value other same run h = record {
   program = sym (same (codes "program")) ∙ h.program;
   input = sym (same (codes "input")) ∙ h.input;
-  plan = sym (same (codes "plan")) ∙ h.plan;
+  source = ap₂ source_of (sym (same (codes "plan"))) (sym (same (codes "profile"))) ∙ h.source;
   options = h.options ∙ same_options value other same;
   lane = h.lane ∙ ap (number_or 16) (same (codes "lane"));
   fuel = h.fuel ∙ ap (number_or default_fuel) (same (codes "fuel"));
@@ -77,7 +77,11 @@ moved_run value other same run h = record {
 }
 
 pub moved_planning : (value other : Values) → SameValues value other → (planning : Planning) → ShowsPlanning value planning → ShowsPlanning other planning
-moved_planning value other same planning h = record { program = sym (same (codes "program")) ∙ h.program; options = h.options ∙ same_options value other same }
+moved_planning value other same planning h = record {
+  program = sym (same (codes "program")) ∙ h.program;
+  profile = sym (same (codes "profile")) ∙ h.profile;
+  options = h.options ∙ same_options value other same;
+}
 
 pub moved_made : (value other : Values) → SameValues value other → (made : GenWords) → ShowsMade value made → ShowsMade other made
 moved_made value other same made h = record {

@@ -42,28 +42,28 @@ pub gen_has_simple_rules : list_all (λ r. r.is_simple) gen_app.top.rules ≡ tr
 gen_has_simple_rules = refl
 
 pub run_rate : Each (HasParser (codes "rate") (parser.Unsigned 0 1000)) run_app.top.rules
-run_rate = (λ e. absurd (cc e), (λ e. absurd (cc e), (λ e. absurd (cc e), (λ e. (refl, refl), (λ e. absurd (cc e), (λ e. absurd (cc e), (λ e. absurd (cc e), (λ e. absurd (cc e), (λ e. absurd (cc e), tt)))))))))
+run_rate = (λ e. absurd (cc e), (λ e. absurd (cc e), (λ e. absurd (cc e), (λ e. absurd (cc e), (λ e. (refl, refl), (λ e. absurd (cc e), (λ e. absurd (cc e), (λ e. absurd (cc e), (λ e. absurd (cc e), (λ e. absurd (cc e), tt))))))))))
 
 pub run_stages : Each (HasParser (codes "stages") (parser.Unsigned 1 8)) run_app.top.rules
-run_stages = (λ e. absurd (cc e), (λ e. absurd (cc e), (λ e. absurd (cc e), (λ e. absurd (cc e), (λ e. (refl, refl), (λ e. absurd (cc e), (λ e. absurd (cc e), (λ e. absurd (cc e), (λ e. absurd (cc e), tt)))))))))
+run_stages = (λ e. absurd (cc e), (λ e. absurd (cc e), (λ e. absurd (cc e), (λ e. absurd (cc e), (λ e. absurd (cc e), (λ e. (refl, refl), (λ e. absurd (cc e), (λ e. absurd (cc e), (λ e. absurd (cc e), (λ e. absurd (cc e), tt))))))))))
 
 pub run_workers : Each (HasParser (codes "workers") (parser.Unsigned 1 8)) run_app.top.rules
-run_workers = (λ e. absurd (cc e), (λ e. absurd (cc e), (λ e. absurd (cc e), (λ e. absurd (cc e), (λ e. absurd (cc e), (λ e. (refl, refl), (λ e. absurd (cc e), (λ e. absurd (cc e), (λ e. absurd (cc e), tt)))))))))
+run_workers = (λ e. absurd (cc e), (λ e. absurd (cc e), (λ e. absurd (cc e), (λ e. absurd (cc e), (λ e. absurd (cc e), (λ e. absurd (cc e), (λ e. (refl, refl), (λ e. absurd (cc e), (λ e. absurd (cc e), (λ e. absurd (cc e), tt))))))))))
 
 pub run_lane : Each (HasParser (codes "lane") (parser.Unsigned 1 64)) run_app.top.rules
-run_lane = (λ e. absurd (cc e), (λ e. absurd (cc e), (λ e. absurd (cc e), (λ e. absurd (cc e), (λ e. absurd (cc e), (λ e. absurd (cc e), (λ e. (refl, refl), (λ e. absurd (cc e), (λ e. absurd (cc e), tt)))))))))
+run_lane = (λ e. absurd (cc e), (λ e. absurd (cc e), (λ e. absurd (cc e), (λ e. absurd (cc e), (λ e. absurd (cc e), (λ e. absurd (cc e), (λ e. absurd (cc e), (λ e. (refl, refl), (λ e. absurd (cc e), (λ e. absurd (cc e), tt))))))))))
 
 pub run_fuel : Each (HasParser (codes "fuel") (parser.Unsigned 0 1000000000)) run_app.top.rules
-run_fuel = (λ e. absurd (cc e), (λ e. absurd (cc e), (λ e. absurd (cc e), (λ e. absurd (cc e), (λ e. absurd (cc e), (λ e. absurd (cc e), (λ e. absurd (cc e), (λ e. (refl, refl), (λ e. absurd (cc e), tt)))))))))
+run_fuel = (λ e. absurd (cc e), (λ e. absurd (cc e), (λ e. absurd (cc e), (λ e. absurd (cc e), (λ e. absurd (cc e), (λ e. absurd (cc e), (λ e. absurd (cc e), (λ e. absurd (cc e), (λ e. (refl, refl), (λ e. absurd (cc e), tt))))))))))
 
 pub plan_rate : Each (HasParser (codes "rate") (parser.Unsigned 0 1000)) plan_app.top.rules
-plan_rate = (λ e. absurd (cc e), (λ e. (refl, refl), (λ e. absurd (cc e), (λ e. absurd (cc e), tt))))
+plan_rate = (λ e. absurd (cc e), (λ e. absurd (cc e), (λ e. (refl, refl), (λ e. absurd (cc e), (λ e. absurd (cc e), tt)))))
 
 pub plan_stages : Each (HasParser (codes "stages") (parser.Unsigned 1 8)) plan_app.top.rules
-plan_stages = (λ e. absurd (cc e), (λ e. absurd (cc e), (λ e. (refl, refl), (λ e. absurd (cc e), tt))))
+plan_stages = (λ e. absurd (cc e), (λ e. absurd (cc e), (λ e. absurd (cc e), (λ e. (refl, refl), (λ e. absurd (cc e), tt)))))
 
 pub plan_workers : Each (HasParser (codes "workers") (parser.Unsigned 1 8)) plan_app.top.rules
-plan_workers = (λ e. absurd (cc e), (λ e. absurd (cc e), (λ e. absurd (cc e), (λ e. (refl, refl), tt))))
+plan_workers = (λ e. absurd (cc e), (λ e. absurd (cc e), (λ e. absurd (cc e), (λ e. absurd (cc e), (λ e. (refl, refl), tt)))))
 
 pub gen_seed : Each (HasParser (codes "seed") (parser.Unsigned 0 2147483647)) gen_app.top.rules
 gen_seed = (λ e. (refl, refl), (λ e. absurd (cc e), (λ e. absurd (cc e), (λ e. absurd (cc e), tt))))

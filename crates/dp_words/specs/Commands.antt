@@ -38,7 +38,7 @@ lane_option = number_option (codes "lane") 1 64
 
 -- a command with the options of automatic plans
 abbrev pub with_plan_options : App → App
-with_plan_options app = with_rule (with_rule (with_rule app (number_option (codes "rate") 0 1000)) (number_option (codes "stages") 1 8)) workers_option
+with_plan_options app = with_rule (with_rule (with_rule (with_rule app (file_option (codes "profile"))) (number_option (codes "rate") 0 1000)) (number_option (codes "stages") 1 8)) workers_option
 
 abbrev pub run_app : App
 run_app =

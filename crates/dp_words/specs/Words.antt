@@ -5,26 +5,34 @@ use Rattle.std.specs.Str.Parse.{digits_value, without_leading_plus}
 use Rattle.clap.specs.Words.{App, Text}
 use Rattle.dp_words.specs.declared.task.GenWords.{GenWords}
 use Rattle.dp_words.specs.declared.task.PlanOptions.{PlanOptions}
+use Rattle.dp_words.specs.declared.task.PlanSource.{PlanSource}
+use Rattle.dp_words.specs.declared.task.PlanSource.TheVariants as source
 use Rattle.dp_words.specs.declared.task.PlanWords.{PlanWords}
 use Rattle.dp_words.specs.declared.task.RunWords.{RunWords}
 use Rattle.dp_words.specs.declared.task.Task.{Task}
 use Rattle.dp_words.specs.declared.task.Task.TheVariants as task
 use Rattle.dp_words.specs.Commands.{IsTaken, check_app, gen_app, plan_app, run_app, value_in}
 
--- a run: the names of its program, of its input and of its plans, if it has them, how its plans are made if it has none, the places of a lane,
+-- where plans come from: the text of this name, or they are the least ones, by the profile of this name if there is one
+pub data Source : Type 0 where
+  Named : List ℕ → Source
+  Least : Option (List ℕ) → Source
+
+-- a run: the names of its program and of its input, if it has one, where its plans come from, how least ones are made, the places of a lane,
 -- the fuel, and whether its text says why iterations were executed again
 pub record Run : Type 0 where
   pub program : List ℕ
   pub input : Option (List ℕ)
-  pub plan : Option (List ℕ)
+  pub source : Source
   pub options : PlanOptions
   pub lane : ℕ
   pub fuel : ℕ
   pub why : Bool
 
--- the automatic plans of a program: its name, and how they are made
+-- the least plans of a program: its name, that of the profile, if there is one, and how they are made
 pub record Planning : Type 0 where
   pub program : List ℕ
+  pub profile : Option (List ℕ)
   pub options : PlanOptions
 
 -- ---- by the values of names and options
@@ -66,11 +74,17 @@ options_in value = record {
   workers = workers_in value;
 }
 
+-- where plans come from by the names of a text of plans and of a profile; not both of them
+abbrev pub source_of : Option Text → Option Text → Option Source
+source_of None profile = Some (Least profile)
+source_of (Some plan) None = Some (Named plan)
+source_of (Some plan) (Some profile) = None
+
 -- the values are those of this run
 pub record ShowsRun (value : Values) (run : Run) : Type 0 where
   pub program : value (codes "program") ≡ Some run.program
   pub input : value (codes "input") ≡ run.input
-  pub plan : value (codes "plan") ≡ run.plan
+  pub source : source_of (value (codes "plan")) (value (codes "profile")) ≡ Some run.source
   pub options : run.options ≡ options_in value
   pub lane : run.lane ≡ lane_in value
   pub fuel : run.fuel ≡ number_or default_fuel (value (codes "fuel"))
@@ -79,6 +93,7 @@ pub record ShowsRun (value : Values) (run : Run) : Type 0 where
 -- .. of these plans
 pub record ShowsPlanning (value : Values) (planning : Planning) : Type 0 where
   pub program : value (codes "program") ≡ Some planning.program
+  pub profile : value (codes "profile") ≡ planning.profile
   pub options : planning.options ≡ options_in value
 
 -- .. of the list of this program's sites
@@ -129,12 +144,17 @@ pub record AsksNothing (words : List Text) : Type 0 where
 
 -- ---- by the program's own records of the words
 
+-- where plans come from
+abbrev pub shown_source : PlanSource → Source
+shown_source (source.Named name) = Named name.now
+shown_source (source.Least profile) = Least (option_map (λ name. name.now) profile)
+
 -- the run that one stands for
 abbrev pub shown : RunWords → Run
 shown words = record {
   program = words.program.now;
   input = option_map (λ name. name.now) words.input;
-  plan = option_map (λ name. name.now) words.plan;
+  source = shown_source words.source;
   options = words.options;
   lane = words.lane;
   fuel = words.fuel;
@@ -143,7 +163,7 @@ shown words = record {
 
 -- the plans
 abbrev pub shown_planning : PlanWords → Planning
-shown_planning words = record { program = words.program.now; options = words.options }
+shown_planning words = record { program = words.program.now; profile = option_map (λ name. name.now) words.profile; options = words.options }
 
 -- the words ask for this task
 abbrev pub AsksFor : List Text → Task → Type 0

@@ -56,6 +56,7 @@ fn with_plan_options<'w>(alloc: Global, command: Command<'w>) -> Result<Command<
     ensures { IfOk result (λ with. app_of with ≡ with_plan_options (app_of command.entry)) }
 {
     let command = command
+        .arg(file_option(alloc, "profile"))?
         .arg(number_option(alloc, "rate", 0, 1000))?
         .arg(number_option(alloc, "stages", 1, 8))?
         .arg(workers_option(alloc))?;

@@ -7,5 +7,5 @@ mod reading;
 mod task;
 mod verbs;
 
-pub use task::{GenWords, PlanOptions, PlanWords, RunWords, Task};
+pub use task::{GenWords, PlanOptions, PlanSource, PlanWords, RunWords, Task};
 pub use verbs::asked;

@@ -1,11 +1,11 @@
 //! What the matches of a verb's words show.
 ghost use Rattle.std.specs.Prelude.{◌≡◌, Bool, Some, codes, if◌then◌else◌, IfSome, IfNone};
 ghost use Rattle.std.specs.Option.{option_map};
-ghost use Rattle.dp_words.specs.Words.{MadeWithin, OptionsWithin, Planning, Run, RunWithin, ShowsMade, ShowsPlanning, ShowsRun, number_in, number_or, options_in, shown, shown_planning};
+ghost use Rattle.dp_words.specs.Words.{MadeWithin, OptionsWithin, Planning, Run, RunWithin, ShowsMade, ShowsPlanning, ShowsRun, number_in, number_or, options_in, shown, shown_planning, shown_source, source_of};
 ghost use Rattle.dp_words.specs.Reading.{FitsIn, HoldsMade, HoldsOptions, HoldsRun, values_of};
 ghost use Rattle.dp_words.specs.declared.task.GenWords.{GenWords};
 
-use crate::task::{GenWords, PlanOptions, PlanWords, RunWords};
+use crate::task::{GenWords, PlanOptions, PlanSource, PlanWords, RunWords};
 use clap::ArgMatches;
 
 const DEFAULT_RATE: u32 = 10;
@@ -26,6 +26,7 @@ pub fn run_words<'w>(matches: &ArgMatches<'w>) -> Option<RunWords<'w>>
     ensures none { IfNone result ((run : Run) → ¬ ShowsRun (values_of matches.now) run) }
 {
     let program = matches.get_str("program")?;
+    let source = plan_source(matches.get_str("plan"), matches.get_str("profile"))?;
     let options = plan_options(matches)?;
     let lane = small_number(matches.get_str("lane"), DEFAULT_LANE)?;
     let fuel = number(matches.get_str("fuel"), DEFAULT_FUEL)?;
@@ -33,7 +34,7 @@ pub fn run_words<'w>(matches: &ArgMatches<'w>) -> Option<RunWords<'w>>
     Some(RunWords {
         program,
         input: matches.get_str("input"),
-        plan: matches.get_str("plan"),
+        source,
         options,
         lane,
         fuel,
@@ -50,7 +51,22 @@ pub fn plan_words<'w>(matches: &ArgMatches<'w>) -> Option<PlanWords<'w>>
 {
     let program = matches.get_str("program")?;
     let options = plan_options(matches)?;
-    Some(PlanWords { program, options })
+    Some(PlanWords {
+        program,
+        profile: matches.get_str("profile"),
+        options,
+    })
+}
+
+/// Where plans come from by the names of a text of plans and of a profile.
+fn plan_source<'w>(plan: Option<&'w str>, profile: Option<&'w str>) -> Option<PlanSource<'w>>
+    ensures { option_map shown_source result ≡ source_of (option_map (λ t. t.now) plan.entry) (option_map (λ t. t.now) profile.entry) }
+{
+    match (plan, profile) {
+        (None, profile) => Some(PlanSource::Least(profile)),
+        (Some(name), None) => Some(PlanSource::Named(name)),
+        (Some(_), Some(_)) => None,
+    }
 }
 
 /// The run of the made program with these matches.

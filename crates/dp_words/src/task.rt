@@ -11,6 +11,15 @@ pub struct PlanOptions {
     pub workers: u32,
 }
 
+/// Where a run's plans come from.
+#[derive(Clone, Copy, Debug, PartialEq, Eq)]
+pub enum PlanSource<'w> {
+    /// The text of this name.
+    Named(&'w str),
+    /// They are the least ones, by the profile of this name, if there is one.
+    Least(Option<&'w str>),
+}
+
 /// A run that was asked for. Each option that wasn't given has its default.
 #[derive(Clone, Copy, Debug, PartialEq, Eq)]
 pub struct RunWords<'w> {
@@ -18,9 +27,8 @@ pub struct RunWords<'w> {
     pub program: &'w str,
     /// The name of the input's text, if there is one.
     pub input: Option<&'w str>,
-    /// The name of the plans' text, if there is one.
-    pub plan: Option<&'w str>,
-    /// How the plans are made where no text of them is named; with one, only the workers count.
+    pub source: PlanSource<'w>,
+    /// How least plans are made; where a text of plans is named, only the workers count.
     pub options: PlanOptions,
     /// The places of a lane, from 1 to 64.
     pub lane: u32,
@@ -35,6 +43,8 @@ pub struct RunWords<'w> {
 pub struct PlanWords<'w> {
     /// The name of the program's text.
     pub program: &'w str,
+    /// The name of the profile's text, if there is one.
+    pub profile: Option<&'w str>,
     pub options: PlanOptions,
 }
 

@@ -10,7 +10,7 @@ use Rattle.dswp.proofs.accepted.Accepted.{read_checked}
 use Rattle.dswp.proofs.accepted.SameText.{same_end, same_text}
 use Rattle.dswp.specs.declared.refusal.Role.{Role}
 use Rattle.dswp.specs.declared.refusal.Refusal.{Refusal}
-use Rattle.dswp.specs.declared.refusal.Refusal.TheVariants.{Words, Byte, Syntax, Name, InputWord, PlanLine, PlanRule, Limit}
+use Rattle.dswp.specs.declared.refusal.Refusal.TheVariants.{Words, Byte, Syntax, Name, InputWord, PlanLine, PlanRule, ProfileLine, Limit}
 use Rattle.dp_crew.specs.declared.fail.CrewFail.{CrewFail}
 use Rattle.dp_crew.specs.declared.fail.CrewFail.TheVariants.{Write, NoMemory}
 use Rattle.dp_base.specs.declared.NoMemory.{NoMemory as Wanting}
@@ -19,20 +19,19 @@ use Rattle.dswp.specs.declared.texts.Texts.TheVariants as texts
 use Rattle.dswp.specs.Refusal.{refusal_line, refusal_status, failed_read_line}
 use Rattle.dp_report.specs.SiteText.{site_bytes}
 use Rattle.dp_plan.specs.WrittenText.{plans_text}
-use Rattle.dswp.specs.Plans.{MakesPlans}
 use Rattle.dswp.specs.Program.{Reads}
 use Rattle.dswp.specs.declared.refusal.Role.TheVariants as role
 use Rattle.dswp.specs.declared.load.Loaded.{Loaded}
 use Rattle.dswp.specs.declared.load.Loaded.TheVariants.{Text, Refused, Failed}
 use Rattle.dswp.specs.Loading.{LoadsProgram, Gives}
 use Rattle.dswp.proofs.TextsLemmas.{source_of, refusal_read}
-use Rattle.dp_words.specs.Words.{Run, Planning, Asks, AsksPlans, AsksSites, AsksNothing}
+use Rattle.dp_words.specs.Words.{Run, Planning, Least, Asks, AsksPlans, AsksSites, AsksNothing}
 use Rattle.dp_plan.specs.declared.Plan.{Plan}
 use Rattle.dp_crew.specs.Fail.{FaultsAfter}
 use Rattle.dp_run.specs.RunText.{source_run, trace_text, committed_in_all}
 use Rattle.dswp.specs.Status.{status_after}
 use Rattle.dswp.specs.RunText.{run_text, status_of}
-use Rattle.dswp.specs.Answer.{Contents, Holds, Plans, IsRead, Answer, NotTaken, ProgramRefused, InputRefused, PlansRefused, Ran, PlansWritten, SitesListed, OfProgram, OfInput, OfPlans, OfRun}
+use Rattle.dswp.specs.Answer.{Contents, Holds, Plans, IsRead, Answer, NotTaken, ProgramRefused, InputRefused, PlansRefused, Ran, LeastRefused, PlansWritten, SitesListed, OfProgram, OfInput, OfPlans, OfProfile, OfRun}
 use Rattle.dswp.specs.Headline.{AskForRun, Answered, IsCounted, IsEnd, Whole, Short, Nothing, ReadFailed, WriteFailed, OfAnswer, OfFailedRead}
 use Rattle.dswp.specs.Carried.{Names, Finishes, LoadsTexts, Carried, Starved}
 use Rattle.dswp.specs.Carried as carried
@@ -64,7 +63,7 @@ module _ (words : List (List ℕ)) (contents : Contents) (faults after : ℕ) (f
   pub carry_run : (run : Run) (q : Program) (numbers : List ℤ) (plans : List Plan) (result : Result ℕ CrewFail) → Asks words run → LoadsTexts contents run faults after failed fails (texts.Run q numbers plans) →
       Finishes (status_of (source_run q numbers run.fuel).end) (trace_text q plans (source_run q numbers run.fuel) run.why) told tells result → Carried words contents faults after failed fails told tells result
   carry_run run q numbers plans result asks (carried.Loaded p x others given is h k l fit e f) finishes =
-      carried.OfAnswer _ _ (Ran run h.text p numbers plans asks h.held h.reads k (subst (λ (y : Program). Plans contents y run.options run.plan (Ok plans)) is l)) e f
+      carried.OfAnswer _ _ (Ran run h.text p numbers plans asks h.held h.reads k (subst (λ (y : Program). Plans contents y run.options run.source (Ok plans)) is l)) e f
       (finishes_source p q is (read_checked h.text p h.reads) plans numbers run.fuel run.why [] told tells result finishes)
 
   -- .. and the tally grew by what was committed of it
@@ -72,7 +71,7 @@ module _ (words : List (List ℕ)) (contents : Contents) (faults after : ℕ) (f
       now ≡ before + committed_in_all q plans (source_run q numbers run.fuel) → IsCounted words contents before now status
   count_run run q numbers plans before now status asks (carried.Loaded p x others given is h k l fit e f) tally = λ asked end. (
     committed_in_all (expand p) plans (source_run (expand p) numbers run.fuel),
-    OfRun run h.text p numbers plans asks h.held h.reads k (subst (λ (y : Program). Plans contents y run.options run.plan (Ok plans)) is l),
+    OfRun run h.text p numbers plans asks h.held h.reads k (subst (λ (y : Program). Plans contents y run.options run.source (Ok plans)) is l),
     tally ∙ ap (λ (y : Program). before + committed_in_all y plans (source_run y numbers run.fuel)) is,
   )
 
@@ -97,12 +96,29 @@ module _ (words : List (List ℕ)) (contents : Contents) (faults after : ℕ) (f
       carried.OfAnswer _ _ (SitesListed name s.reads.text s.source asks s.reads.held s.reads.reads) g.1 g.2
       (finishes_as 0 0 (site_bytes q) (site_bytes (expand s.source)) told tells result refl (ap site_bytes s.is) finishes)
 
-  pub carry_plans : (planning : Planning) (q : Program) (plans : List Plan) (result : Result ℕ CrewFail) → AsksPlans words planning → ProgramGives planning.program (Text q) → MakesPlans q planning.options plans →
-      Finishes 0 (plans_text q plans) told tells result → Carried words contents faults after failed fails told tells result
-  carry_plans planning q plans result asks g made finishes =
-      let s = source_of _ _ _ g.0 in
-      carried.OfAnswer _ _ (PlansWritten planning s.reads.text s.source plans asks s.reads.held s.reads.reads (subst (λ (x : Program). MakesPlans x planning.options plans) s.is made)) g.1 g.2
-      (finishes_as 0 0 (plans_text q plans) (plans_text (expand s.source) plans) told tells result refl (ap (λ (x : Program). plans_text x plans) s.is) finishes)
+  module _ (planning : Planning) (asks : AsksPlans words planning) (q : Program) (read : LoadsProgram contents planning.program (Ok q)) where
+    abbrev LeastGives : Loaded (List Plan) → Type 0
+    LeastGives = Gives (Plans contents q planning.options (Least planning.profile)) planning.profile faults after failed fails
+
+    abbrev LeastOf : Program → Result (List Plan) Refusal → Type 0
+    LeastOf x made = Plans contents x planning.options (Least planning.profile) made
+
+    pub carry_plans : (plans : List Plan) (result : Result ℕ CrewFail) → LeastGives (Text plans) → Finishes 0 (plans_text q plans) told tells result → Carried words contents faults after failed fails told tells result
+    carry_plans plans result g finishes =
+        let s = source_of _ _ _ read in
+        carried.OfAnswer _ _ (PlansWritten planning s.reads.text s.source plans asks s.reads.held s.reads.reads (subst (λ (x : Program). LeastOf x (Ok plans)) s.is g.0)) g.1 g.2
+        (finishes_as 0 0 (plans_text q plans) (plans_text (expand s.source) plans) told tells result refl (ap (λ (x : Program). plans_text x plans) s.is) finishes)
+
+    pub carry_least_refused : (refusal : Refusal) (result : Result ℕ CrewFail) → LeastGives (Refused refusal) → Finishes (refusal_status refusal) (refusal_line refusal) told tells result →
+        Carried words contents faults after failed fails told tells result
+    carry_least_refused refusal result g finishes =
+        let s = source_of _ _ _ read in
+        carried.OfAnswer _ _ (LeastRefused planning s.reads.text s.source refusal asks s.reads.held s.reads.reads (subst (λ (x : Program). LeastOf x (Err refusal)) s.is g.0)) g.1 g.2 finishes
+
+    pub carry_least_failed : (result : Result ℕ CrewFail) → LeastGives Failed → Finishes 5 (failed_read_line role.Profile) told tells result → Carried words contents faults after failed fails told tells result
+    carry_least_failed result g finishes =
+        let s = source_of _ _ _ read in
+        carried.OfFailedRead _ _ (OfProfile planning s.reads.text g.0 s.source asks s.reads.held s.reads.reads g.1) g.2 g.3 finishes
 
   -- a program alone that is refused, or that can't be read
   pub carry_program_refused : (name : List ℕ) (refusal : Refusal) (result : Result ℕ CrewFail) → ((text : List ℕ) → Holds contents name text → Reads text (Err refusal) → Answer words contents (refusal_status refusal) (refusal_line refusal)) →
@@ -116,6 +132,10 @@ module _ (words : List (List ℕ)) (contents : Contents) (faults after : ℕ) (f
   carry_program_failed name result read g finishes =
       let same : name ≡ g.0 = cc g.1 in
       carried.OfFailedRead _ _ read g.2 (g.3 ∙ ap (λ (n : List ℕ). option_map (λ (names : List (List ℕ)). names ++ n ∷ []) failed) (sym same)) finishes
+
+  -- .. on the way behind a text that was read
+  pub carry_on : (begin : ℕ) (began : Names) (result : Result ℕ CrewFail) → faults ≡ begin → failed ≡ began → Carried words contents faults after failed fails told tells result → Carried words contents begin after began fails told tells result
+  carry_on begin began result e f h = subst (λ (n : ℕ). Carried words contents n after began fails told tells result) e (subst (λ (names : Names). Carried words contents faults after names fails told tells result) f h)
 
   same_and_less : {A : Type 0} → after ≡ faults → faults < after → A
   same_and_less e less = absurd (omega (arith, e, less))
@@ -182,6 +202,7 @@ refusal_is_no_end (Name offence line) h = no_end_by 3 (omega arith) (λ e. omega
 refusal_is_no_end (InputWord word) h = no_end_by 4 (omega arith) (λ e. omega (arith, e)) h
 refusal_is_no_end (PlanLine line) h = no_end_by 4 (omega arith) (λ e. omega (arith, e)) h
 refusal_is_no_end (PlanRule rule site) h = no_end_by 4 (omega arith) (λ e. omega (arith, e)) h
+refusal_is_no_end (ProfileLine line) h = no_end_by 4 (omega arith) (λ e. omega (arith, e)) h
 refusal_is_no_end (Limit quantity count) h = no_end_by 9 (omega arith) (λ e. omega (arith, e)) h
 
 -- a result whose status is this one

@@ -21,12 +21,16 @@ use Rattle.dswp.specs.Answer.{Contents, Holds, ReadsInput, or_refused}
 use Rattle.dswp.specs.Loading.{LoadsProgram}
 use Rattle.dswp.proofs.accepted.Lengths.{lengths}
 use Rattle.dswp.proofs.accepted.Exits.{exits}
-use Rattle.dp_base.specs.declared.Quantity.TheVariants.{PlanBytes}
+use Rattle.dp_base.specs.declared.Quantity.TheVariants.{PlanBytes, ProfileBytes}
+use Rattle.dp_profile.specs.declared.Profile.{Profile}
+use Rattle.dp_profile.specs.ProfileText.{ProfileText}
+use Rattle.dp_profile.specs.Refused.{IsRefused as IsRefusedProfile}
 use Rattle.dp_plan.specs.declared.Plan.{Plan}
 use Rattle.dp_plan.specs.Refused.{IsRefused, IsBroken, StandsFor}
-use Rattle.dswp.specs.declared.refusal.Refusal.TheVariants.{PlanLine, PlanRule}
+use Rattle.dswp.specs.declared.refusal.Refusal.TheVariants.{PlanLine, PlanRule, ProfileLine}
 use Rattle.dswp.specs.Plans.{ReadsPlans, TooLong as PlansTooLong, NotPlans, Broken, Taken}
-use Rattle.dswp.specs.Loading.{LoadsPlans}
+use Rattle.dswp.specs.Profiles.{ReadsProfile, TooLong as ProfileTooLong, NoProfile, Taken as TakenProfile}
+use Rattle.dswp.specs.Loading.{LoadsPlans, LoadsProfile}
 
 pub no_token : (text : List ℕ) (place : ℕ) → length text ≤ 65536 → RefusedAt text place → Reads text (Err (Byte place))
 no_token text place short h = NoToken place short h
@@ -93,7 +97,13 @@ long_plans contents p name h =
     let found = long_text contents name 1048576 h in
     record { text = found.0; held = found.1.0; reads = PlansTooLong found.1.1 }
 
-pub ruleset long_texts = (long_input, long_program, long_plans)
+-- a profile's text that is longer than its limit
+pub long_profile : (contents : Contents) (p : Program) (name : List ℕ) → IfSome contents (λ held. IsSomeAnd (held name) (λ content. 67108864 < length content)) → LoadsProfile contents p name (Err (Limit ProfileBytes 67108865))
+long_profile contents p name h =
+    let found = long_text contents name 67108864 h in
+    record { text = found.0; held = found.1.0; reads = ProfileTooLong found.1.1 }
+
+pub ruleset long_texts = (long_input, long_program, long_plans, long_profile)
 
 -- what a text of plans is read as
 pub plans_taken : (p : Program) (text : List ℕ) (plans : List Plan) → length text ≤ 1048576 → StandsFor p text plans → ReadsPlans p text (Ok plans)
@@ -106,3 +116,12 @@ pub broken_plans : (p : Program) (text : List ℕ) (rule site : ℕ) → length 
 broken_plans p text rule site short h = Broken rule site short h
 
 pub ruleset plan_texts = (plans_taken, no_plans, broken_plans)
+
+-- what a profile's text is read as
+pub profile_taken : (p : Program) (text : List ℕ) (profile : Profile) → length text ≤ 67108864 → ProfileText p text profile → ReadsProfile p text (Ok profile)
+profile_taken p text profile short h = TakenProfile profile short h
+
+pub no_profile : (p : Program) (text : List ℕ) (line : ℕ) → length text ≤ 67108864 → IsRefusedProfile p text line → ReadsProfile p text (Err (ProfileLine line))
+no_profile p text line short h = NoProfile line short h
+
+pub ruleset profile_texts = (profile_taken, no_profile)

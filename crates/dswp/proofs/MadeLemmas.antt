@@ -1,5 +1,5 @@
 -- The run of the made program.
-use Rattle.std.proofs.Common.{◌≡◌, refl, sym, ◌∙◌, ap, subst, arith, ℕ, zero, suc, ◌+◌, ◌<◌, ◌≤◌, ◌^◌, false, List, ◌++◌, length, ℤ, Option, Result, Ok, Err, IfOk, OnOk}
+use Rattle.std.proofs.Common.{◌≡◌, refl, sym, ◌∙◌, ap, subst, arith, ℕ, zero, suc, ◌+◌, ◌<◌, ◌≤◌, ◌^◌, false, List, ◌++◌, length, ℤ, Option, None, Result, Ok, Err, IfOk, OnOk}
 use Rattle.std.specs.Result.{IsErr}
 use Rattle.dp_tree.specs.declared.Program.{Program}
 use Rattle.dp_tree.specs.Inlined.{IsInlined}
@@ -96,23 +96,23 @@ module _ (words : List (List ℕ)) (contents : Contents) (made : GenWords) (asks
     pub carry_refused : (refusal : Refusal) → ReadsAs made_text (Err refusal) → Finishes (refusal_status refusal) (refusal_line refusal) told tells result → Carried words contents faults faults failed failed told tells result
     carry_refused refusal read finishes = carried.OfAnswer _ _ (MadeRefused made refusal asks (refused_as made_text refusal read)) refl refl finishes
 
-    pub carry_run : (q : Program) (plans : List Plan) (numbers : List ℤ) → numbers ≡ made_words made → ReadsAs made_text (Ok q) → MakesPlans q made.options plans →
+    pub carry_run : (q : Program) (plans : List Plan) (numbers : List ℤ) → numbers ≡ made_words made → ReadsAs made_text (Ok q) → MakesPlans q made.options None plans →
         Finishes (status_of (source_run q numbers made.fuel).end) (made_line made ++ trace_text q plans (source_run q numbers made.fuel) false) told tells result →
         Carried words contents faults faults failed failed told tells result
     carry_run q plans numbers e read plans_made finishes =
         let s = source_of made_text q read in
         let here = subst (λ (zs : List ℤ). Finishes (status_of (source_run q zs made.fuel).end) (made_line made ++ trace_text q plans (source_run q zs made.fuel) false) told tells result) e finishes in
-        carried.OfAnswer _ _ (MadeRan made s.source plans asks s.reads (subst (λ (x : Program). MakesPlans x made.options plans) s.is plans_made)) refl refl
+        carried.OfAnswer _ _ (MadeRan made s.source plans asks s.reads (subst (λ (x : Program). MakesPlans x made.options None plans) s.is plans_made)) refl refl
         (finishes_source s.source q s.is (read_checked made_text s.source s.reads) plans (made_words made) made.fuel false (made_line made) told tells result here)
 
   -- where the run ended, the tally grew by what was committed of it
-  pub run_counts : (q : Program) (plans : List Plan) (numbers : List ℤ) (before now : ℕ) (result : Result ℕ CrewFail) → numbers ≡ made_words made → ReadsAs made_text (Ok q) → MakesPlans q made.options plans →
+  pub run_counts : (q : Program) (plans : List Plan) (numbers : List ℤ) (before now : ℕ) (result : Result ℕ CrewFail) → numbers ≡ made_words made → ReadsAs made_text (Ok q) → MakesPlans q made.options None plans →
       OnOk result (now ≡ before + committed_in_all q plans (source_run q numbers made.fuel)) → IfOk result (IsCounted words contents before now)
   run_counts q plans numbers before now (Ok status) e read plans_made h =
       let s = source_of made_text q read in
       λ asked end. (
         committed_in_all (expand s.source) plans (source_run (expand s.source) (made_words made) made.fuel),
-        OfMade made s.source plans asks s.reads (subst (λ (x : Program). MakesPlans x made.options plans) s.is plans_made),
+        OfMade made s.source plans asks s.reads (subst (λ (x : Program). MakesPlans x made.options None plans) s.is plans_made),
         h ∙ ap (λ (zs : List ℤ). before + committed_in_all q plans (source_run q zs made.fuel)) e ∙ ap (λ (y : Program). before + committed_in_all y plans (source_run y (made_words made) made.fuel)) s.is,
       )
   run_counts q plans numbers before now (Err fail) e read plans_made h = tt

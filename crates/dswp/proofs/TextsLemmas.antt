@@ -1,5 +1,5 @@
 -- What the texts of a run give, from what each of them was loaded as.
-use Rattle.std.proofs.Common.{◌≡◌, refl, sym, ◌∙◌, ap, subst, ℕ, ◌<◌, List, Some, None, ℤ, Result, Ok, Err, IfOk}
+use Rattle.std.proofs.Common.{◌≡◌, refl, sym, ◌∙◌, ap, subst, ℕ, ◌<◌, List, Option, Some, None, ℤ, Result, Ok, Err, IfOk}
 use Rattle.std.specs.Result.{OnErr}
 use Rattle.std.specs.Option.{option_map}
 use Rattle.dp_base.specs.declared.NoMemory.{NoMemory}
@@ -8,15 +8,19 @@ use Rattle.dp_plan.specs.declared.Plan.{Plan}
 use Rattle.dp_plan.specs.GivenPlans.{ArePlans}
 use Rattle.dp_words.specs.declared.task.PlanOptions.{PlanOptions}
 use Rattle.dp_calls.specs.Expand.{expand}
-use Rattle.dp_words.specs.Words.{Run}
+use Rattle.dp_words.specs.Words as source
+use Rattle.dp_words.specs.Words.{Run, Least}
+use Rattle.dp_profile.specs.declared.Profile.{Profile}
+use Rattle.dswp.specs.Plans.{MakesPlans}
+use Rattle.dswp.specs.declared.refusal.Role.{Role}
 use Rattle.dswp.specs.declared.refusal.Role.TheVariants as role
 use Rattle.dswp.specs.declared.refusal.Refusal.{Refusal}
 use Rattle.dswp.specs.declared.load.Loaded.{Loaded}
 use Rattle.dswp.specs.declared.load.Loaded.TheVariants.{Text, Refused, Failed}
 use Rattle.dswp.specs.declared.texts.Texts.TheVariants as texts
-use Rattle.dswp.specs.Answer.{Contents, ReadsInput, Input, Named, Plans, Planned}
+use Rattle.dswp.specs.Answer.{Contents, ReadsInput, Input, Named, Profiled, NamedProfile, Plans, Automatic, ProfileRefused, Planned, some_read, named_in, role_of}
 use Rattle.dswp.specs.Program.{expanded}
-use Rattle.dswp.specs.Loading.{ReadsProgram, LoadsProgram, LoadsPlans, Loads, FaultsAfterLoad, names_after, Gives}
+use Rattle.dswp.specs.Loading.{ReadsProgram, LoadsProgram, LoadsPlans, LoadsProfile, Loads, FaultsAfterLoad, names_after, Gives}
 use Rattle.dswp.specs.Carried.{Names, with_name, LoadsTexts, Loaded as LoadedTexts, ProgramRefused, InputRefused, PlansRefused, ProgramFailed, InputFailed, PlansFailed}
 
 same_names : (names : Names) → option_map (λ all. all) names ≡ names
@@ -43,7 +47,7 @@ wanting name faults after failed fails (Err x) f e = (f, e ∙ same_names failed
 pub input_named : (contents : Contents) (name : List ℕ) (o : Result (List ℤ) Refusal) → ReadsInput contents name o → Input contents (Some name) o
 input_named contents name o h = Named name o h
 
-pub plans_named : (contents : Contents) (p : Program) (options : PlanOptions) (name : List ℕ) (o : Result (List Plan) Refusal) → LoadsPlans contents p name o → Plans contents p options (Some name) o
+pub plans_named : (contents : Contents) (p : Program) (options : PlanOptions) (name : List ℕ) (o : Result (List Plan) Refusal) → LoadsPlans contents p name o → Plans contents p options (source.Named name) o
 plans_named contents p options name o h = Planned name h.text o h.held h.reads
 
 -- a program, an input and plans that are named
@@ -56,8 +60,27 @@ pub input_gives : (contents : Contents) (name : List ℕ) (faults after : ℕ) (
 input_gives contents name faults after failed fails r h f e = gives (ReadsInput contents name) (Input contents (Some name)) (λ o k. input_named contents name o k) name faults after failed fails r h f e
 
 pub plans_give : (contents : Contents) (p : Program) (options : PlanOptions) (name : List ℕ) (faults after : ℕ) (failed fails : Names) (r : Result (Loaded (List Plan)) NoMemory) →
-    IfOk r (Loads (LoadsPlans contents p name)) → FaultsAfterLoad r faults after → fails ≡ option_map (names_after r name) failed → IfOk r (Gives (Plans contents p options (Some name)) (Some name) faults after failed fails)
-plans_give contents p options name faults after failed fails r h f e = gives (LoadsPlans contents p name) (Plans contents p options (Some name)) (λ o k. plans_named contents p options name o k) name faults after failed fails r h f e
+    IfOk r (Loads (LoadsPlans contents p name)) → FaultsAfterLoad r faults after → fails ≡ option_map (names_after r name) failed → IfOk r (Gives (Plans contents p options (source.Named name)) (Some name) faults after failed fails)
+plans_give contents p options name faults after failed fails r h f e = gives (LoadsPlans contents p name) (Plans contents p options (source.Named name)) (λ o k. plans_named contents p options name o k) name faults after failed fails r h f e
+
+pub profile_gives : (contents : Contents) (p : Program) (name : List ℕ) (faults after : ℕ) (failed fails : Names) (r : Result (Loaded Profile) NoMemory) →
+    IfOk r (Loads (LoadsProfile contents p name)) → FaultsAfterLoad r faults after → fails ≡ option_map (names_after r name) failed → IfOk r (Gives (λ o. Profiled contents p (Some name) (some_read o)) (Some name) faults after failed fails)
+profile_gives contents p name faults after failed fails r h f e =
+    gives (LoadsProfile contents p name) (λ o. Profiled contents p (Some name) (some_read o)) (λ o k. NamedProfile name k.text o k.held k.reads) name faults after failed fails r h f e
+
+-- the least plans, by the profile that was loaded
+module _ (contents : Contents) (p : Program) (options : PlanOptions) (name : Option (List ℕ)) (faults after : ℕ) (failed fails : Names) where
+  abbrev CountsGive : Loaded (Option Profile) → Type 0
+  CountsGive = Gives (Profiled contents p name) name faults after failed fails
+
+  abbrev LeastGive : Loaded (List Plan) → Type 0
+  LeastGive = Gives (Plans contents p options (Least name)) name faults after failed fails
+
+  pub least_made : (profile : Option Profile) (plans : List Plan) → CountsGive (Text profile) → MakesPlans p options profile plans → LeastGive (Text plans)
+  least_made profile plans g made = (Automatic name profile plans g.0 made, g.1, g.2)
+
+  pub least_refused : (refusal : Refusal) → CountsGive (Refused refusal) → LeastGive (Refused refusal)
+  least_refused refusal g = (ProfileRefused name refusal g.0, g.1, g.2)
 
 -- the program that a loaded one is the expansion of
 pub record Source (contents : Contents) (name : List ℕ) (q : Program) : Type 0 where
@@ -110,15 +133,15 @@ module _ (contents : Contents) (run : Run) (faults one : ℕ) (failed names : Na
 
     module _ (three : ℕ) (last : Names) (numbers : List ℤ) (h : InputGives (Text numbers)) where
       abbrev pub PlansGive : Loaded (List Plan) → Type 0
-      PlansGive = Gives (Plans contents q run.options run.plan) run.plan two three more last
+      PlansGive = Gives (Plans contents q run.options run.source) (named_in run.source) two three more last
 
       pub plans_refused : (refusal : Refusal) → PlansGive (Refused refusal) → LoadsTexts contents run faults three failed last (texts.Refused refusal)
-      plans_refused refusal k = PlansRefused refusal s.source numbers s.reads h.0 (subst (λ (x : Program). Plans contents x run.options run.plan (Err refusal)) s.is k.0) (k.1 ∙ h.1 ∙ g.1) (k.2 ∙ h.2 ∙ g.2)
+      plans_refused refusal k = PlansRefused refusal s.source numbers s.reads h.0 (subst (λ (x : Program). Plans contents x run.options run.source (Err refusal)) s.is k.0) (k.1 ∙ h.1 ∙ g.1) (k.2 ∙ h.2 ∙ g.2)
 
-      pub plans_failed : PlansGive Failed → LoadsTexts contents run faults three failed last (texts.Failed role.Plan)
-      plans_failed k =
+      pub plans_failed : (which : Role) → which ≡ role_of run.source → PlansGive Failed → LoadsTexts contents run faults three failed last (texts.Failed which)
+      plans_failed which is k =
           let less : faults < three = subst (λ (n : ℕ). n < three) (h.1 ∙ g.1) k.2 in
-          PlansFailed s.source numbers k.0 s.reads h.0 k.1 less (k.3 ∙ ap (with_name k.0) (h.2 ∙ g.2))
+          subst (λ (r : Role). LoadsTexts contents run faults three failed last (texts.Failed r)) (sym is) (PlansFailed s.source numbers k.0 s.reads h.0 k.1 less (k.3 ∙ ap (with_name k.0) (h.2 ∙ g.2)))
 
       pub all_loaded : (plans : List Plan) → PlansGive (Text plans) → ArePlans q plans → LoadsTexts contents run faults three failed last (texts.Run q numbers plans)
       all_loaded plans k fit = LoadedTexts s.source q numbers plans s.is s.reads h.0 k.0 fit (k.1 ∙ h.1 ∙ g.1) (k.2 ∙ h.2 ∙ g.2)

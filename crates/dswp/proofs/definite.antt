@@ -1,4 +1,5 @@
 pub mod ReadsOnce
 pub mod PlansOnce
+pub mod ProfilesOnce
 pub mod AsksOnce
 pub mod AnswersOnce

@@ -16,12 +16,15 @@ use Rattle.dp_report.specs.Generator.{made_text}
 use Rattle.dp_report.specs.SiteText.{site_bytes}
 use Rattle.dp_words.specs.declared.task.GenWords.{GenWords}
 use Rattle.dp_words.specs.declared.task.PlanOptions.{PlanOptions}
-use Rattle.dp_words.specs.Words.{Run, Planning, Asks, AsksMade, AsksPlans, AsksSites, AsksNothing}
+use Rattle.dp_words.specs.Words as source
+use Rattle.dp_words.specs.Words.{Run, Planning, Source, Least, Asks, AsksMade, AsksPlans, AsksSites, AsksNothing}
 use Rattle.dp_run.specs.RunText.{source_run, committed_in_all}
 use Rattle.dp_plan.specs.declared.Plan.{Plan}
+use Rattle.dp_profile.specs.declared.Profile.{Profile}
 use Rattle.dp_plan.specs.WrittenText.{plans_text}
 use Rattle.dswp.specs.Made.{made_line, made_words}
 use Rattle.dswp.specs.Plans.{MakesPlans, ReadsPlans}
+use Rattle.dswp.specs.Profiles.{ReadsProfile}
 use Rattle.dswp.specs.Program.{Reads}
 use Rattle.dswp.specs.RunText.{run_text, status_of}
 
@@ -58,12 +61,32 @@ pub data Input (contents : Contents) : Option (List ℕ) → Result (List ℤ) R
   Unnamed : Input contents None (Ok [])
   Named : (name : List ℕ) (read : Result (List ℤ) Refusal) → ReadsInput contents name read → Input contents (Some name) read
 
--- the plans of a run of this expanded program: the automatic ones where none are named, and else what the text under the name gives
-pub data Plans (contents : Contents) (p : Program) (options : PlanOptions) : Option (List ℕ) → Result (List Plan) Refusal → Type 0 where
-  Automatic : (plans : List Plan) → MakesPlans p options plans → Plans contents p options None (Ok plans)
-  Planned : (name text : List ℕ) (read : Result (List Plan) Refusal) → Holds contents name text → ReadsPlans p text read → Plans contents p options (Some name) read
+-- a profile, if there is one
+abbrev pub some_read : Result Profile Refusal → Result (Option Profile) Refusal
+some_read (Ok profile) = Ok (Some profile)
+some_read (Err refusal) = Err refusal
 
--- The first refusal, in the order of words, program, input and plans, or else the run, the automatic plans, or the list of sites. The text of the
+-- the profile of least plans: none where none is named, and else what the text under the name gives
+pub data Profiled (contents : Contents) (p : Program) : Option (List ℕ) → Result (Option Profile) Refusal → Type 0 where
+  NotNamed : Profiled contents p None (Ok None)
+  NamedProfile : (name text : List ℕ) (read : Result Profile Refusal) → Holds contents name text → ReadsProfile p text read → Profiled contents p (Some name) (some_read read)
+
+-- the plans of this expanded program: the least ones, by their profile, or what the text under the name gives
+pub data Plans (contents : Contents) (p : Program) (options : PlanOptions) : Source → Result (List Plan) Refusal → Type 0 where
+  Automatic : (name : Option (List ℕ)) (profile : Option Profile) (plans : List Plan) → Profiled contents p name (Ok profile) → MakesPlans p options profile plans → Plans contents p options (Least name) (Ok plans)
+  ProfileRefused : (name : Option (List ℕ)) (refusal : Refusal) → Profiled contents p name (Err refusal) → Plans contents p options (Least name) (Err refusal)
+  Planned : (name text : List ℕ) (read : Result (List Plan) Refusal) → Holds contents name text → ReadsPlans p text read → Plans contents p options (source.Named name) read
+
+-- the name of the text that plans rest on, if there is one, and its role
+abbrev pub named_in : Source → Option (List ℕ)
+named_in (source.Named name) = Some name
+named_in (Least profile) = profile
+
+abbrev pub role_of : Source → Role
+role_of (source.Named name) = role.Plan
+role_of (Least profile) = role.Profile
+
+-- The first refusal, in the order of words, program, input, and plans or their profile, or else the run, the automatic plans, or the list of sites. The text of the
 -- made program is read as each other one.
 pub data Answer (words : List (List ℕ)) (contents : Contents) : ℕ → List ℕ → Type 0 where
   NotTaken : AsksNothing words → Answer words contents (refusal_status Words) (refusal_line Words)
@@ -72,20 +95,22 @@ pub data Answer (words : List (List ℕ)) (contents : Contents) : ℕ → List �
   InputRefused : (run : Run) (text : List ℕ) (p : Program) (refusal : Refusal) → Asks words run → Holds contents run.program text → Reads text (Ok p) →
       Input contents run.input (Err refusal) → Answer words contents (refusal_status refusal) (refusal_line refusal)
   PlansRefused : (run : Run) (text : List ℕ) (p : Program) (numbers : List ℤ) (refusal : Refusal) → Asks words run → Holds contents run.program text → Reads text (Ok p) →
-      Input contents run.input (Ok numbers) → Plans contents (expand p) run.options run.plan (Err refusal) → Answer words contents (refusal_status refusal) (refusal_line refusal)
+      Input contents run.input (Ok numbers) → Plans contents (expand p) run.options run.source (Err refusal) → Answer words contents (refusal_status refusal) (refusal_line refusal)
   Ran : (run : Run) (text : List ℕ) (p : Program) (numbers : List ℤ) (plans : List Plan) → Asks words run → Holds contents run.program text → Reads text (Ok p) →
-      Input contents run.input (Ok numbers) → Plans contents (expand p) run.options run.plan (Ok plans) →
+      Input contents run.input (Ok numbers) → Plans contents (expand p) run.options run.source (Ok plans) →
       Answer words contents (status_of (outcome p numbers run.fuel).end) (run_text p plans numbers run.fuel run.why)
   PlanningRefused : (planning : Planning) (text : List ℕ) (refusal : Refusal) → AsksPlans words planning → Holds contents planning.program text → Reads text (Err refusal) →
       Answer words contents (refusal_status refusal) (refusal_line refusal)
+  LeastRefused : (planning : Planning) (text : List ℕ) (p : Program) (refusal : Refusal) → AsksPlans words planning → Holds contents planning.program text → Reads text (Ok p) →
+      Plans contents (expand p) planning.options (Least planning.profile) (Err refusal) → Answer words contents (refusal_status refusal) (refusal_line refusal)
   PlansWritten : (planning : Planning) (text : List ℕ) (p : Program) (plans : List Plan) → AsksPlans words planning → Holds contents planning.program text → Reads text (Ok p) →
-      MakesPlans (expand p) planning.options plans → Answer words contents 0 (plans_text (expand p) plans)
+      Plans contents (expand p) planning.options (Least planning.profile) (Ok plans) → Answer words contents 0 (plans_text (expand p) plans)
   SitesRefused : (program text : List ℕ) (refusal : Refusal) → AsksSites words program → Holds contents program text → Reads text (Err refusal) →
       Answer words contents (refusal_status refusal) (refusal_line refusal)
   SitesListed : (program text : List ℕ) (p : Program) → AsksSites words program → Holds contents program text → Reads text (Ok p) →
       Answer words contents 0 (site_bytes (expand p))
   MadeRefused : (made : GenWords) (refusal : Refusal) → AsksMade words made → Reads made_text (Err refusal) → Answer words contents (refusal_status refusal) (refusal_line refusal)
-  MadeRan : (made : GenWords) (p : Program) (plans : List Plan) → AsksMade words made → Reads made_text (Ok p) → MakesPlans (expand p) made.options plans →
+  MadeRan : (made : GenWords) (p : Program) (plans : List Plan) → AsksMade words made → Reads made_text (Ok p) → MakesPlans (expand p) made.options None plans →
       Answer words contents (status_of (outcome p (made_words made) made.fuel).end) (made_line made ++ run_text p plans (made_words made) made.fuel false)
 
 -- The text of this role is to be read under this name: no refusal comes before.
@@ -96,12 +121,14 @@ pub data IsRead (words : List (List ℕ)) (contents : Contents) : Role → List 
   OfInput : (run : Run) (text name : List ℕ) (p : Program) → Asks words run → Holds contents run.program text → Reads text (Ok p) →
       run.input ≡ Some name → IsRead words contents role.Input name
   OfPlans : (run : Run) (text name : List ℕ) (p : Program) (numbers : List ℤ) → Asks words run → Holds contents run.program text → Reads text (Ok p) →
-      Input contents run.input (Ok numbers) → run.plan ≡ Some name → IsRead words contents role.Plan name
+      Input contents run.input (Ok numbers) → named_in run.source ≡ Some name → IsRead words contents (role_of run.source) name
+  OfProfile : (planning : Planning) (text name : List ℕ) (p : Program) → AsksPlans words planning → Holds contents planning.program text → Reads text (Ok p) →
+      planning.profile ≡ Some name → IsRead words contents role.Profile name
 
 -- The iterations that were committed from the pipeline, of the run that the words ask for.
 pub data Commits (words : List (List ℕ)) (contents : Contents) : ℕ → Type 0 where
   OfRun : (run : Run) (text : List ℕ) (p : Program) (numbers : List ℤ) (plans : List Plan) → Asks words run → Holds contents run.program text → Reads text (Ok p) →
-      Input contents run.input (Ok numbers) → Plans contents (expand p) run.options run.plan (Ok plans) →
+      Input contents run.input (Ok numbers) → Plans contents (expand p) run.options run.source (Ok plans) →
       Commits words contents (committed_in_all (expand p) plans (source_run (expand p) numbers run.fuel))
-  OfMade : (made : GenWords) (p : Program) (plans : List Plan) → AsksMade words made → Reads made_text (Ok p) → MakesPlans (expand p) made.options plans →
+  OfMade : (made : GenWords) (p : Program) (plans : List Plan) → AsksMade words made → Reads made_text (Ok p) → MakesPlans (expand p) made.options None plans →
       Commits words contents (committed_in_all (expand p) plans (source_run (expand p) (made_words made) made.fuel))

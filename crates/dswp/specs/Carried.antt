@@ -16,7 +16,7 @@ use Rattle.dp_words.specs.Words.{Run}
 use Rattle.dp_plan.specs.declared.Plan.{Plan}
 use Rattle.dp_plan.specs.GivenPlans.{ArePlans}
 use Rattle.dp_crew.specs.Output.{WritesFront}
-use Rattle.dswp.specs.Answer.{Contents, Answer, IsRead, Input, Plans}
+use Rattle.dswp.specs.Answer.{Contents, Answer, IsRead, Input, Plans, named_in, role_of}
 use Rattle.dswp.specs.Loading.{ReadsProgram}
 
 abbrev pub Names : Type 0
@@ -33,19 +33,19 @@ Finishes status bytes told tells (Err fail) = WritesFront bytes told tells
 
 -- What the texts of a run give, with the shelf's faults and failed names before and after.
 pub data LoadsTexts (contents : Contents) (run : Run) (faults after : ℕ) (failed fails : Names) : Texts → Type 0 where
-  Loaded : (p q : Program) (numbers : List ℤ) (plans : List Plan) → q ≡ expand p → ReadsProgram contents run.program (Ok p) → Input contents run.input (Ok numbers) → Plans contents q run.options run.plan (Ok plans) → ArePlans q plans →
+  Loaded : (p q : Program) (numbers : List ℤ) (plans : List Plan) → q ≡ expand p → ReadsProgram contents run.program (Ok p) → Input contents run.input (Ok numbers) → Plans contents q run.options run.source (Ok plans) → ArePlans q plans →
       after ≡ faults → fails ≡ failed → LoadsTexts contents run faults after failed fails (texts.Run q numbers plans)
   ProgramRefused : (refusal : Refusal) → ReadsProgram contents run.program (Err refusal) → after ≡ faults → fails ≡ failed →
       LoadsTexts contents run faults after failed fails (texts.Refused refusal)
   InputRefused : (refusal : Refusal) (p : Program) → ReadsProgram contents run.program (Ok p) → Input contents run.input (Err refusal) → after ≡ faults → fails ≡ failed →
       LoadsTexts contents run faults after failed fails (texts.Refused refusal)
-  PlansRefused : (refusal : Refusal) (p : Program) (numbers : List ℤ) → ReadsProgram contents run.program (Ok p) → Input contents run.input (Ok numbers) → Plans contents (expand p) run.options run.plan (Err refusal) → after ≡ faults → fails ≡ failed →
+  PlansRefused : (refusal : Refusal) (p : Program) (numbers : List ℤ) → ReadsProgram contents run.program (Ok p) → Input contents run.input (Ok numbers) → Plans contents (expand p) run.options run.source (Err refusal) → after ≡ faults → fails ≡ failed →
       LoadsTexts contents run faults after failed fails (texts.Refused refusal)
   ProgramFailed : faults < after → fails ≡ with_name run.program failed → LoadsTexts contents run faults after failed fails (texts.Failed role.Program)
   InputFailed : (p : Program) (name : List ℕ) → ReadsProgram contents run.program (Ok p) → run.input ≡ Some name → faults < after → fails ≡ with_name name failed →
       LoadsTexts contents run faults after failed fails (texts.Failed role.Input)
-  PlansFailed : (p : Program) (numbers : List ℤ) (name : List ℕ) → ReadsProgram contents run.program (Ok p) → Input contents run.input (Ok numbers) → run.plan ≡ Some name → faults < after → fails ≡ with_name name failed →
-      LoadsTexts contents run faults after failed fails (texts.Failed role.Plan)
+  PlansFailed : (p : Program) (numbers : List ℤ) (name : List ℕ) → ReadsProgram contents run.program (Ok p) → Input contents run.input (Ok numbers) → named_in run.source ≡ Some name → faults < after → fails ≡ with_name name failed →
+      LoadsTexts contents run faults after failed fails (texts.Failed (role_of run.source))
 
 -- One call of the program: it finished an answer, or the line on a failed read, or found no memory before anything was written.
 pub data Carried (words : List (List ℕ)) (contents : Contents) (faults after : ℕ) (failed fails : Names) (told tells : Option (List ℕ)) (result : Result ℕ CrewFail) : Type 0 where

@@ -2,6 +2,7 @@ pub mod Headline
 pub mod Answer
 pub mod Program
 pub mod Plans
+pub mod Profiles
 pub mod RunText
 pub mod Made
 pub mod Refusal

@@ -9,6 +9,8 @@ use Rattle.dswp.specs.Answer.{Contents, Holds}
 use Rattle.dswp.specs.Program.{Reads, expanded}
 use Rattle.dp_plan.specs.declared.Plan.{Plan}
 use Rattle.dswp.specs.Plans.{ReadsPlans}
+use Rattle.dp_profile.specs.declared.Profile.{Profile}
+use Rattle.dswp.specs.Profiles.{ReadsProfile}
 
 -- what a program's text under the name is read as
 pub record ReadsProgram (contents : Contents) (name : List ℕ) (read : Result Tree Refusal) : Type 0 where
@@ -27,6 +29,12 @@ pub record LoadsPlans (contents : Contents) (p : Tree) (name : List ℕ) (read :
   pub text : List ℕ
   pub held : Holds contents name text
   pub reads : ReadsPlans p text read
+
+-- what a profile's text under the name is read as
+pub record LoadsProfile (contents : Contents) (p : Tree) (name : List ℕ) (read : Result Profile Refusal) : Type 0 where
+  pub text : List ℕ
+  pub held : Holds contents name text
+  pub reads : ReadsProfile p text read
 
 -- What one text was loaded as: what it stands for, or its refusal; or its reading failed.
 abbrev pub Loads : {X : Type 0} → (Result X Refusal → Type 0) → Loaded X → Type 0

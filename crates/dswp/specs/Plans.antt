@@ -1,9 +1,10 @@
 -- What the plans of a run are: those of the text that the words name, or the least of each region.
-use Rattle.std.specs.Prelude.{ℕ, ◌<◌, ◌≤◌, List, length, Some, None, Result, Ok, Err}
+use Rattle.std.specs.Prelude.{ℕ, ◌<◌, ◌≤◌, List, length, Option, Some, None, Result, Ok, Err}
 use Rattle.dp_base.specs.declared.Quantity.TheVariants.{PlanBytes}
 use Rattle.dp_tree.specs.declared.Program.{Program}
 use Rattle.dp_plan.specs.declared.Plan.{Plan}
 use Rattle.dp_plan.specs.Refused.{IsRefused, IsBroken, StandsFor}
+use Rattle.dp_profile.specs.declared.Profile.{Profile}
 use Rattle.dp_cut.specs.Automatic.{AreAutomatic}
 use Rattle.dp_words.specs.declared.task.PlanOptions.{PlanOptions}
 use Rattle.dswp.specs.declared.refusal.Refusal.{Refusal}
@@ -16,6 +17,6 @@ pub data ReadsPlans (p : Program) (text : List ℕ) : Result (List Plan) Refusal
   Broken : (rule site : ℕ) → length text ≤ 1048576 → IsBroken p text (Some (record { rule = rule; site = site })) → ReadsPlans p text (Err (PlanRule rule site))
   Taken : (plans : List Plan) → length text ≤ 1048576 → StandsFor p text plans → ReadsPlans p text (Ok plans)
 
--- the automatic plans of the expanded program, made as these options say: the least of each region, without a profile
-abbrev pub MakesPlans : Program → PlanOptions → List Plan → Type 0
-MakesPlans p options plans = AreAutomatic p None options.rate options.stages options.workers plans
+-- the automatic plans of the expanded program, made as these options say, by a profile if there is one: the least of each region
+abbrev pub MakesPlans : Program → PlanOptions → Option Profile → List Plan → Type 0
+MakesPlans p options profile plans = AreAutomatic p profile options.rate options.stages options.workers plans

@@ -7,7 +7,7 @@ use Rattle.dswp.specs.declared.refusal.Role.TheVariants as role
 use Rattle.dswp.specs.declared.refusal.Offence.{Offence}
 use Rattle.dswp.specs.declared.refusal.Offence.TheVariants.{Unknown, Twice, NotArray, NotScalar, Arguments, ReadOnly}
 use Rattle.dswp.specs.declared.refusal.Refusal.{Refusal}
-use Rattle.dswp.specs.declared.refusal.Refusal.TheVariants.{Words, Byte, Syntax, Name, InputWord, PlanLine, PlanRule, Limit}
+use Rattle.dswp.specs.declared.refusal.Refusal.TheVariants.{Words, Byte, Syntax, Name, InputWord, PlanLine, PlanRule, ProfileLine, Limit}
 
 -- a limit's name in messages
 abbrev pub quantity_name : Quantity → List ℕ
@@ -39,6 +39,7 @@ abbrev pub role_name : Role → List ℕ
 role_name role.Program = codes "program"
 role_name role.Input = codes "input"
 role_name role.Plan = codes "plan"
+role_name role.Profile = codes "profile"
 
 -- the line of a text that couldn't be read
 abbrev pub failed_read_line : Role → List ℕ
@@ -53,9 +54,10 @@ refusal_line (Name offence line) = codes "refused program " ++ (offence_name off
 refusal_line (InputWord word) = codes "refused input word " ++ (decimal word ++ codes "\n")
 refusal_line (PlanLine line) = codes "refused plan line " ++ (decimal line ++ codes "\n")
 refusal_line (PlanRule rule site) = codes "refused plan rule " ++ (decimal rule ++ (codes " site " ++ (decimal site ++ codes "\n")))
+refusal_line (ProfileLine line) = codes "refused profile line " ++ (decimal line ++ codes "\n")
 refusal_line (Limit quantity count) = codes "limit " ++ (quantity_name quantity ++ (codes " " ++ (decimal count ++ codes "\n")))
 
--- words 2, the program's text 3, the input's text and the plans' 4, a limit 9
+-- words 2, the program's text 3, the input's text, the plans' and the profile's 4, a limit 9
 abbrev pub refusal_status : Refusal → ℕ
 refusal_status Words = 2
 refusal_status (Byte place) = 3
@@ -64,4 +66,5 @@ refusal_status (Name offence line) = 3
 refusal_status (InputWord word) = 4
 refusal_status (PlanLine line) = 4
 refusal_status (PlanRule rule site) = 4
+refusal_status (ProfileLine line) = 4
 refusal_status (Limit quantity count) = 9

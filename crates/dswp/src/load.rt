@@ -2,15 +2,18 @@
 ghost use Rattle.std.specs.Prelude.{◌≡◌, ◌-◌, ◌^◌, ◌<◌, ◌≤◌, length, IfOk};
 ghost use Rattle.std.specs.Option.{option_map};
 ghost use Rattle.dswp.specs.Answer.{Holds, ReadsInput, input_of};
+ghost use Rattle.dp_tree.specs.Inlined.{IsInlined};
 ghost use Rattle.dswp.specs.Plans.{ReadsPlans};
-ghost use Rattle.dswp.specs.Loading.{LoadsPlans, LoadsProgram, Loads, FaultsAfterLoad, names_after};
+ghost use Rattle.dswp.specs.Profiles.{ReadsProfile};
+ghost use Rattle.dswp.specs.Loading.{LoadsPlans, LoadsProfile, LoadsProgram, Loads, FaultsAfterLoad, names_after};
 
 use crate::program::read_program;
 use crate::refusal::Refusal;
-use dp_base::limits::{INPUT_BYTES, PLAN_BYTES, PROGRAM_BYTES};
+use dp_base::limits::{INPUT_BYTES, PLAN_BYTES, PROFILE_BYTES, PROGRAM_BYTES};
 use dp_base::{NoMemory, Quantity, Row};
 use dp_edge::{InputFail, Shelf, ShelfFail, read_input};
 use dp_plan::{Plan, PlanFail, read_plans};
+use dp_profile::{Profile, ProfileFail, read_profile};
 use dp_tree::Program;
 use std::alloc::Global;
 
@@ -135,5 +138,54 @@ fn plans(
         Err(PlanFail::Refused { line }) => Ok(Err(Refusal::PlanLine(line))),
         Err(PlanFail::Invalid { rule, site }) => Ok(Err(Refusal::PlanRule { rule, site: site.0 })),
         Err(PlanFail::NoMemory) => Err(NoMemory),
+    }
+}
+
+/// The profile under a name, of this program without calls.
+#[tactic(auto, using(crate::proofs::LoadLemmas::long_texts, crate::proofs::LoadLemmas::profile_texts))]
+pub fn load_profile<S: Shelf>(
+    alloc: Global,
+    shelf: &mut S,
+    name: &str,
+    program: &Program,
+) -> Result<Loaded<Profile>, NoMemory>
+    requires shelf { S.faults shelf.old < 2 ^ 64 - 1 }
+    requires inlined { IsInlined program.now }
+    requires sites { length program.now.sites < 2 ^ 32 }
+    ensures contents { S.contents shelf.new ≡ S.contents shelf.old }
+    ensures faults { FaultsAfterLoad result (S.faults shelf.old) (S.faults shelf.new) }
+    ensures failed_names { S.failed_names shelf.new ≡ option_map (names_after result name.now) (S.failed_names shelf.old) }
+    ensures loads { IfOk result (Loads (LoadsProfile (S.contents shelf.old) program.now name.now)) }
+{
+    match shelf.read(alloc, name, PROFILE_BYTES) {
+        Ok(text) => match profile(alloc, text.as_slice(), program)? {
+            Ok(profile) => Ok(Loaded::Text(profile)),
+            Err(refusal) => Ok(Loaded::Refused(refusal)),
+        },
+        Err(ShelfFail::Failed) => Ok(Loaded::Failed),
+        Err(ShelfFail::TooLong) => Ok(Loaded::Refused(Refusal::Limit(
+            Quantity::ProfileBytes,
+            PROFILE_BYTES + 1,
+        ))),
+        Err(ShelfFail::NoMemory) => Err(NoMemory),
+    }
+}
+
+/// The profile of a text, or why it is refused.
+#[tactic(auto, using(crate::proofs::LoadLemmas::profile_texts))]
+fn profile(
+    alloc: Global,
+    text: &[u8],
+    program: &Program,
+) -> Result<Result<Profile, Refusal>, NoMemory>
+    requires text { length text.now ≤ 67108864 }
+    requires inlined { IsInlined program.now }
+    requires sites { length program.now.sites < 2 ^ 32 }
+    ensures { IfOk result (ReadsProfile program.now text.now) }
+{
+    match read_profile(alloc, text, program) {
+        Ok(profile) => Ok(Ok(profile)),
+        Err(ProfileFail::Refused { line }) => Ok(Err(Refusal::ProfileLine(line))),
+        Err(ProfileFail::NoMemory) => Err(NoMemory),
     }
 }

@@ -47,7 +47,7 @@ pub fn answer_gen<R: Threads + Wait + Sync, K: Sink, G: Gate>(
     let made = make_program(alloc, words.seed, words.size)?;
     match read_program(alloc, made.text.as_slice())? {
         Ok(program) => {
-            let plans = automatic_plans(alloc, &program, words.options)?;
+            let plans = automatic_plans(alloc, &program, None, words.options)?;
             run_made(
                 rt,
                 alloc,

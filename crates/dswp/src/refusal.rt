@@ -11,6 +11,7 @@ pub enum Role {
     Program,
     Input,
     Plan,
+    Profile,
 }
 
 /// What is wrong with a name of the program.
@@ -47,6 +48,8 @@ pub enum Refusal {
     PlanLine(u64),
     /// The plans break this rule, at this site.
     PlanRule { rule: u32, site: u32 },
+    /// No profile's text begins with the lines up to this one, from 1.
+    ProfileLine(u64),
     /// A count is above its limit.
     Limit(Quantity, u32),
 }
@@ -61,7 +64,10 @@ impl Refusal {
         match self {
             Refusal::Words => 2,
             Refusal::Byte(_) | Refusal::Syntax(_) | Refusal::Name(_, _) => 3,
-            Refusal::InputWord(_) | Refusal::PlanLine(_) | Refusal::PlanRule { .. } => 4,
+            Refusal::InputWord(_)
+            | Refusal::PlanLine(_)
+            | Refusal::PlanRule { .. }
+            | Refusal::ProfileLine(_) => 4,
             Refusal::Limit(_, _) => 9,
         }
     }
@@ -83,6 +89,7 @@ impl Refusal {
             Refusal::PlanRule { rule, site } => {
                 format!(in alloc; "refused plan rule {rule} site {site}\n")?
             }
+            Refusal::ProfileLine(line) => format!(in alloc; "refused profile line {line}\n")?,
             Refusal::Limit(quantity, count) => {
                 let name = quantity_name(quantity);
                 format!(in alloc; "limit {name} {count}\n")?
@@ -119,6 +126,7 @@ impl Role {
             Role::Program => "program",
             Role::Input => "input",
             Role::Plan => "plan",
+            Role::Profile => "profile",
         }
     }
 

@@ -5,15 +5,15 @@ ghost use Rattle.dp_crew.specs.Fail.{FaultsAfter};
 ghost use Rattle.dp_run.specs.Given.{AreGiven};
 ghost use Rattle.dp_run.specs.RunText.{committed_in_all, source_run, trace_text};
 ghost use Rattle.dp_plan.specs.GivenPlans.{ArePlans};
-ghost use Rattle.dp_words.specs.Words.{OptionsWithin, shown};
+ghost use Rattle.dp_words.specs.Words.{OptionsWithin, shown, shown_source};
 ghost use Rattle.dswp.specs.Carried.{Finishes, LoadsTexts};
 ghost use Rattle.std.specs.Option.{option_map};
-ghost use Rattle.dswp.specs.Answer.{Input, Plans};
+ghost use Rattle.dswp.specs.Answer.{Input, Plans, named_in, role_of as spec_role_of};
 ghost use Rattle.dswp.specs.Loading.{Gives, IfText};
 ghost use Rattle.dswp.specs.RunText.{status_of};
 
 use crate::load::{Loaded, load_input, load_plans, load_program};
-use crate::planning::automatic_plans;
+use crate::planning::load_least;
 use crate::refusal::Role;
 use crate::texts::Texts;
 use dp_base::{End, NoMemory, Row};
@@ -21,7 +21,7 @@ use dp_edge::{Gate, Shelf, Sink};
 use dp_plan::Plan;
 use dp_run::{CrewFail, RunOptions, Tally, run_program};
 use dp_tree::Program;
-use dp_words::{PlanOptions, RunWords};
+use dp_words::{PlanOptions, PlanSource, RunWords};
 use std::alloc::Global;
 use std::sync::Wait;
 use std::thread::Threads;
@@ -44,10 +44,10 @@ pub fn load<S: Shelf>(alloc: Global, run: RunWords, shelf: &mut S) -> Result<Tex
         Loaded::Refused(refusal) => return Ok(Texts::Refused(refusal)),
         Loaded::Failed => return Ok(Texts::Failed(Role::Input)),
     };
-    match load_given(alloc, shelf, run.plan, run.options, &program)? {
+    match load_given(alloc, shelf, run.source, run.options, &program)? {
         Loaded::Text(plans) => Ok(Texts::Run(program, input, plans)),
         Loaded::Refused(refusal) => Ok(Texts::Refused(refusal)),
-        Loaded::Failed => Ok(Texts::Failed(Role::Plan)),
+        Loaded::Failed => Ok(Texts::Failed(role_of(run.source))),
     }
 }
 
@@ -68,11 +68,21 @@ fn load_words<S: Shelf>(
     }
 }
 
-/// The plans under a name, if there is one: else the automatic ones.
+/// What the text is that plans rest on.
+fn role_of(source: PlanSource<'_>) -> Role
+    ensures { result ≡ spec_role_of (shown_source source.entry) }
+{
+    match source {
+        PlanSource::Named(_) => Role::Plan,
+        PlanSource::Least(_) => Role::Profile,
+    }
+}
+
+/// The plans under a name, or the least ones.
 fn load_given<S: Shelf>(
     alloc: Global,
     shelf: &mut S,
-    name: Option<&str>,
+    source: PlanSource<'_>,
     options: PlanOptions,
     program: &Program,
 ) -> Result<Loaded<Row<Plan>>, NoMemory>
@@ -81,13 +91,13 @@ fn load_given<S: Shelf>(
     requires sites { length program.now.sites < 2 ^ 32 }
     requires options { OptionsWithin options }
     ensures contents { S.contents shelf.new ≡ S.contents shelf.old }
-    ensures gives { IfOk result (Gives (Plans (S.contents shelf.old) program.now options (option_map (λ n. n.now) name.entry)) (option_map (λ n. n.now) name.entry) (S.faults shelf.old) (S.faults shelf.new) (S.failed_names shelf.old) (S.failed_names shelf.new)) }
+    ensures gives { IfOk result (Gives (Plans (S.contents shelf.old) program.now options (shown_source source.entry)) (named_in (shown_source source.entry)) (S.faults shelf.old) (S.faults shelf.new) (S.failed_names shelf.old) (S.failed_names shelf.new)) }
     ensures fit { IfOk result (IfText (ArePlans program.now)) }
     ensures err { OnErr result ((S.faults shelf.new ≡ S.faults shelf.old) × (S.failed_names shelf.new ≡ S.failed_names shelf.old)) }
 {
-    match name {
-        Some(name) => load_plans(alloc, shelf, name, program),
-        None => Ok(Loaded::Text(automatic_plans(alloc, program, options)?)),
+    match source {
+        PlanSource::Named(name) => load_plans(alloc, shelf, name, program),
+        PlanSource::Least(profile) => load_least(alloc, shelf, profile, options, program),
     }
 }
 

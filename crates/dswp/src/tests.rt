@@ -23,6 +23,7 @@ mod overlap;
 mod pipelines;
 mod plan_rules;
 mod plan_texts;
+mod profiles;
 mod sites;
 mod syntax;
 mod units;

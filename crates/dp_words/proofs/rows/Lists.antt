@@ -1,18 +1,18 @@
 -- Lists of words that a command takes, and what they name.
-use Rattle.std.proofs.Common.{refl, List, [], ◌∷◌, Some, None, true, false, codes}
+use Rattle.std.proofs.Common.{◌≡◌, refl, List, [], ◌∷◌, Some, None, true, false, codes}
 use Rattle.clap.specs.Words.{Text}
 use Rattle.clap.proofs.OnLiterals.{clap_on_literals}
-use Rattle.dp_words.specs.Commands.{check_app, gen_app, plan_app, run_app}
-use Rattle.dp_words.specs.Words.{Names, ShowsMade, ShowsPlanning, ShowsRun, ShowsSites}
+use Rattle.dp_words.specs.Commands.{IsTaken, check_app, gen_app, plan_app, run_app, value_in}
+use Rattle.dp_words.specs.Words.{Least, Named, Names, ShowsMade, ShowsPlanning, ShowsRun, ShowsSites, source_of}
 
 -- ---- the names alone
 
 abbrev short_words : List Text
 short_words = codes "p" ∷ []
 
-short_run : Names run_app ShowsRun short_words (record { program = codes "p"; input = None; plan = None; options = record { rate = 10; stages = 4; workers = 2 }; lane = 16; fuel = 10000000; why = false })
+short_run : Names run_app ShowsRun short_words (record { program = codes "p"; input = None; source = Least None; options = record { rate = 10; stages = 4; workers = 2 }; lane = 16; fuel = 10000000; why = false })
 unfolding clap_on_literals
-short_run = record { taken = refl; shows = record { program = refl; input = refl; plan = refl; options = refl; lane = refl; fuel = refl; why = refl } }
+short_run = record { taken = refl; shows = record { program = refl; input = refl; source = refl; options = refl; lane = refl; fuel = refl; why = refl } }
 
 -- ---- every option, behind both names
 
@@ -20,31 +20,44 @@ abbrev full_words : List Text
 full_words =
     codes "p" ∷ codes "i" ∷ codes "--plan" ∷ codes "f" ∷ codes "--workers" ∷ codes "8" ∷ codes "--lane" ∷ codes "1" ∷ codes "--fuel" ∷ codes "0" ∷ codes "--rate" ∷ codes "0" ∷ codes "--stages" ∷ codes "1" ∷ codes "--why" ∷ []
 
-full_run : Names run_app ShowsRun full_words (record { program = codes "p"; input = Some (codes "i"); plan = Some (codes "f"); options = record { rate = 0; stages = 1; workers = 8 }; lane = 1; fuel = 0; why = true })
+full_run : Names run_app ShowsRun full_words (record { program = codes "p"; input = Some (codes "i"); source = Named (codes "f"); options = record { rate = 0; stages = 1; workers = 8 }; lane = 1; fuel = 0; why = true })
 unfolding clap_on_literals
-full_run = record { taken = refl; shows = record { program = refl; input = refl; plan = refl; options = refl; lane = refl; fuel = refl; why = refl } }
+full_run = record { taken = refl; shows = record { program = refl; input = refl; source = refl; options = refl; lane = refl; fuel = refl; why = refl } }
 
 -- ---- options in front of the names and between them, with `=`, with a plus and with zeros in front
 
 abbrev mixed_words : List Text
-mixed_words = codes "--lane=64" ∷ codes "p" ∷ codes "--fuel=+1000000000" ∷ codes "--workers" ∷ codes "01" ∷ codes "--" ∷ codes "--plan" ∷ []
+mixed_words = codes "--lane=64" ∷ codes "p" ∷ codes "--fuel=+1000000000" ∷ codes "--workers" ∷ codes "01" ∷ codes "--profile=--why" ∷ codes "--" ∷ codes "--plan" ∷ []
 
-mixed_run : Names run_app ShowsRun mixed_words (record { program = codes "p"; input = Some (codes "--plan"); plan = None; options = record { rate = 10; stages = 4; workers = 1 }; lane = 64; fuel = 1000000000; why = false })
+mixed_run : Names run_app ShowsRun mixed_words (record { program = codes "p"; input = Some (codes "--plan"); source = Least (Some (codes "--why")); options = record { rate = 10; stages = 4; workers = 1 }; lane = 64; fuel = 1000000000; why = false })
 unfolding clap_on_literals
-mixed_run = record { taken = refl; shows = record { program = refl; input = refl; plan = refl; options = refl; lane = refl; fuel = refl; why = refl } }
+mixed_run = record { taken = refl; shows = record { program = refl; input = refl; source = refl; options = refl; lane = refl; fuel = refl; why = refl } }
+
+-- ---- both a text of plans and a profile: the command takes the words, and they name no run
+
+abbrev both_words : List Text
+both_words = codes "p" ∷ codes "--plan" ∷ codes "f" ∷ codes "--profile" ∷ codes "g" ∷ []
+
+both_taken : IsTaken run_app both_words
+unfolding clap_on_literals
+both_taken = refl
+
+no_source : source_of (value_in run_app both_words (codes "plan")) (value_in run_app both_words (codes "profile")) ≡ None
+unfolding clap_on_literals
+no_source = refl
 
 -- ---- the automatic plans, and the list of sites
 
-short_plan : Names plan_app ShowsPlanning short_words (record { program = codes "p"; options = record { rate = 10; stages = 4; workers = 2 } })
+short_plan : Names plan_app ShowsPlanning short_words (record { program = codes "p"; profile = None; options = record { rate = 10; stages = 4; workers = 2 } })
 unfolding clap_on_literals
-short_plan = record { taken = refl; shows = record { program = refl; options = refl } }
+short_plan = record { taken = refl; shows = record { program = refl; profile = refl; options = refl } }
 
 abbrev plan_words : List Text
-plan_words = codes "--rate" ∷ codes "1000" ∷ codes "--stages=8" ∷ codes "p" ∷ codes "--workers" ∷ codes "3" ∷ []
+plan_words = codes "--rate" ∷ codes "1000" ∷ codes "--profile" ∷ codes "f" ∷ codes "--stages=8" ∷ codes "p" ∷ codes "--workers" ∷ codes "3" ∷ []
 
-full_plan : Names plan_app ShowsPlanning plan_words (record { program = codes "p"; options = record { rate = 1000; stages = 8; workers = 3 } })
+full_plan : Names plan_app ShowsPlanning plan_words (record { program = codes "p"; profile = Some (codes "f"); options = record { rate = 1000; stages = 8; workers = 3 } })
 unfolding clap_on_literals
-full_plan = record { taken = refl; shows = record { program = refl; options = refl } }
+full_plan = record { taken = refl; shows = record { program = refl; profile = refl; options = refl } }
 
 one_program : Names check_app ShowsSites short_words (codes "p")
 unfolding clap_on_literals

@@ -11,17 +11,22 @@ use Rattle.dswp.specs.Refusal.{refusal_line, refusal_status}
 use Rattle.dswp.specs.RunText.{run_text, status_of}
 use Rattle.dp_words.specs.declared.task.PlanOptions.{PlanOptions}
 use Rattle.dp_words.specs.declared.task.GenWords.{GenWords}
-use Rattle.dp_words.specs.Words.{Run, Planning, Asks, AsksMade, AsksPlans, AsksSites, AsksNothing}
+use Rattle.dp_words.specs.Words as source
+use Rattle.dp_words.specs.Words.{Run, Planning, Source, Least, Asks, AsksMade, AsksPlans, AsksSites, AsksNothing}
 use Rattle.dp_plan.specs.declared.Plan.{Plan}
+use Rattle.dp_profile.specs.declared.Profile.{Profile}
+use Rattle.dp_calls.proofs.InlinedLaws.{expanded_is_inlined}
 use Rattle.dp_plan.specs.WrittenText.{plans_text}
 use Rattle.dp_cut.proofs.PlansOnce.{automatic_once}
 use Rattle.dswp.specs.Made.{made_line, made_words}
 use Rattle.dswp.specs.Plans.{MakesPlans, ReadsPlans}
+use Rattle.dswp.specs.Profiles.{ReadsProfile}
 use Rattle.dswp.specs.Program.{Reads}
-use Rattle.dswp.specs.Answer.{input_of, ReadsInput, Input, Unnamed, Named, Plans, Automatic, Planned, Answer, NotTaken, ProgramRefused, InputRefused, PlansRefused, Ran, PlanningRefused, PlansWritten, SitesRefused, SitesListed, MadeRefused, MadeRan}
-use Rattle.dswp.proofs.accepted.Accepted.{few_regions_read}
+use Rattle.dswp.specs.Answer.{input_of, some_read, ReadsInput, Input, Unnamed, Named, Profiled, NotNamed, NamedProfile, Plans, Automatic, ProfileRefused, Planned, Answer, NotTaken, ProgramRefused, InputRefused, PlansRefused, Ran, PlanningRefused, LeastRefused, PlansWritten, SitesRefused, SitesListed, MadeRefused, MadeRan}
+use Rattle.dswp.proofs.accepted.Accepted.{read_checked, few_regions_read, few_sites_read}
 use Rattle.dswp.proofs.definite.ReadsOnce.{reads_once}
 use Rattle.dswp.proofs.definite.PlansOnce.{plans_once}
+use Rattle.dswp.proofs.definite.ProfilesOnce.{profiles_once}
 use Rattle.dswp.proofs.definite.AsksOnce.{asks_once, planning_once, sites_once, made_once as asks_made_once, not_run_and_plans, not_run_and_sites, not_run_and_made, not_plans_and_sites, not_plans_and_made, not_sites_and_made}
 
 -- a status and the bytes
@@ -40,9 +45,10 @@ abbrev run_given : Run → Result Program Refusal → Result (List ℤ) Refusal 
 run_given run (Err refusal) input plans = refused refusal
 run_given run (Ok p) input plans = with_input run p input plans
 
-abbrev plans_given : Result Program Refusal → List Plan → ℕ × List ℕ
+abbrev plans_given : Result Program Refusal → Result (List Plan) Refusal → ℕ × List ℕ
 plans_given (Err refusal) plans = refused refusal
-plans_given (Ok p) plans = (0, plans_text (expand p) plans)
+plans_given (Ok p) (Err refusal) = refused refusal
+plans_given (Ok p) (Ok plans) = (0, plans_text (expand p) plans)
 
 abbrev sites_given : Result Program Refusal → ℕ × List ℕ
 sites_given (Err refusal) = refused refusal
@@ -73,23 +79,57 @@ module _ (held : List ℕ → Option (List ℕ)) where
   input_by e (Named name read r) k = from_named name (sym e) r k
 
   -- the plans of a run
-  made_once : (p : Program) (options : PlanOptions) (plans others : List Plan) → MakesPlans p options plans → MakesPlans p options others → plans ≡ others
-  made_once p options plans others a b = automatic_once p None options.rate options.stages options.workers plans others a b
+  module _ (program : Program) (own : List ℕ) (reads : Reads own (Ok program)) (options : PlanOptions) where
+    abbrev p : Program
+    p = expand program
 
-  from_automatic : {p : Program} {options : PlanOptions} {o : Option (List ℕ)} {b : Result (List Plan) Refusal} (plans : List Plan) → o ≡ None → MakesPlans p options plans → Plans (Some held) p options o b → Ok plans ≡ b
-  from_automatic {p = p} {options = options} plans e made (Automatic others same) = ap Ok (made_once p options plans others made same)
-  from_automatic plans e made (Planned name text read h r) = absurd (cc e)
+    from_no_profile : {o : Option (List ℕ)} {b : Result (Option Profile) Refusal} → None ≡ o → Profiled (Some held) p o b → Ok None ≡ b
+    from_no_profile e NotNamed = refl
+    from_no_profile e (NamedProfile name text read h r) = absurd (cc e)
 
-  module _ (p : Program) (few : length p.regions < 2 ^ 32) (options : PlanOptions) where
-    from_planned : {o : Option (List ℕ)} {a b : Result (List Plan) Refusal} (name text : List ℕ) → o ≡ Some name → held name ≡ Some text → ReadsPlans p text a → Plans (Some held) p options o b → a ≡ b
-    from_planned name text e h r (Automatic plans made) = absurd (cc e)
+    from_profile : {o : Option (List ℕ)} {b : Result (Option Profile) Refusal} (name text : List ℕ) (a : Result Profile Refusal) → Some name ≡ o → held name ≡ Some text → ReadsProfile p text a → Profiled (Some held) p o b → some_read a ≡ b
+    from_profile name text a e h r NotNamed = absurd (cc e)
+    from_profile name text a e h r (NamedProfile other more c k s) =
+        let same : name ≡ other = cc e in
+        let here : ReadsProfile p text c = subst (λ (x : List ℕ). ReadsProfile p x c) (sym (one_text same h k)) s in
+        ap some_read (profiles_once p (expanded_is_inlined program (read_checked own program reads)) (few_sites_read own program reads) text r here)
+
+    profiled_by : {o q : Option (List ℕ)} {a b : Result (Option Profile) Refusal} → o ≡ q → Profiled (Some held) p o a → Profiled (Some held) p q b → a ≡ b
+    profiled_by e NotNamed k = from_no_profile e k
+    profiled_by e (NamedProfile name text a h r) k = from_profile name text a e h r k
+
+    from_automatic : {plans_of : Source} {b : Result (List Plan) Refusal} (name : Option (List ℕ)) (profile : Option Profile) (plans : List Plan) → Least name ≡ plans_of → Profiled (Some held) p name (Ok profile) → MakesPlans p options profile plans →
+        Plans (Some held) p options plans_of b → Ok plans ≡ b
+    from_automatic name profile plans e found made (Automatic other shown others k same) =
+        let one : Ok profile ≡ Ok shown = profiled_by (cc e) found k in
+        let counts : profile ≡ shown = cc one in
+        ap Ok (automatic_once p shown options.rate options.stages options.workers plans others (subst (λ (x : Option Profile). MakesPlans p options x plans) counts made) same)
+    from_automatic name profile plans e found made (ProfileRefused other refusal k) =
+        let clash : Ok profile ≡ Err refusal = profiled_by (cc e) found k in
+        absurd (cc clash)
+    from_automatic name profile plans e found made (Planned other text read h r) = absurd (cc e)
+
+    from_refused : {plans_of : Source} {b : Result (List Plan) Refusal} (name : Option (List ℕ)) (refusal : Refusal) → Least name ≡ plans_of → Profiled (Some held) p name (Err refusal) → Plans (Some held) p options plans_of b → Err refusal ≡ b
+    from_refused name refusal e found (Automatic other shown others k same) =
+        let clash : Err refusal ≡ Ok shown = profiled_by (cc e) found k in
+        absurd (cc clash)
+    from_refused name refusal e found (ProfileRefused other another k) =
+        let one : Err refusal ≡ Err another = profiled_by (cc e) found k in
+        let same : refusal ≡ another = cc one in
+        ap (λ (r : Refusal). Err r) same
+    from_refused name refusal e found (Planned other text read h r) = absurd (cc e)
+
+    from_planned : {plans_of : Source} {a b : Result (List Plan) Refusal} (name text : List ℕ) → source.Named name ≡ plans_of → held name ≡ Some text → ReadsPlans p text a → Plans (Some held) p options plans_of b → a ≡ b
+    from_planned name text e h r (Automatic other shown plans k made) = absurd (cc e)
+    from_planned name text e h r (ProfileRefused other refusal k) = absurd (cc e)
     from_planned {b = b} name text e h r (Planned other more read k s) =
         let same : name ≡ other = cc e in
-        plans_once p few text r (subst (λ (x : List ℕ). ReadsPlans p x b) (sym (one_text same h k)) s)
+        plans_once p (few_regions_read own program reads) text r (subst (λ (x : List ℕ). ReadsPlans p x b) (sym (one_text same h k)) s)
 
-    plans_by : {o q : Option (List ℕ)} {a b : Result (List Plan) Refusal} → o ≡ q → Plans (Some held) p options o a → Plans (Some held) p options q b → a ≡ b
-    plans_by e (Automatic plans made) k = from_automatic plans (sym e) made k
-    plans_by e (Planned name text read h r) k = from_planned name text (sym e) h r k
+    plans_by : {one other : Source} {a b : Result (List Plan) Refusal} → one ≡ other → Plans (Some held) p options one a → Plans (Some held) p options other b → a ≡ b
+    plans_by e (Automatic name profile plans found made) k = from_automatic name profile plans e found made k
+    plans_by e (ProfileRefused name refusal found) k = from_refused name refusal e found k
+    plans_by e (Planned name text read h r) k = from_planned name text e h r k
 
   -- The input counts only where the program isn't refused, and the plans where neither is.
   abbrev InputFor : Result Program Refusal → Run → Result (List ℤ) Refusal → Type 0
@@ -99,19 +139,24 @@ module _ (held : List ℕ → Option (List ℕ)) where
   abbrev PlansFor : Result Program Refusal → Result (List ℤ) Refusal → Run → Result (List Plan) Refusal → Type 0
   PlansFor (Err refusal) input run plans = Unit {0}
   PlansFor (Ok p) (Err refusal) run plans = Unit {0}
-  PlansFor (Ok p) (Ok numbers) run plans = Plans (Some held) (expand p) run.options run.plan plans
+  PlansFor (Ok p) (Ok numbers) run plans = Plans (Some held) (expand p) run.options run.source plans
 
-  -- .. and there are automatic plans where it isn't refused
+  -- .. and there are least plans where it isn't refused
+  abbrev LeastFor : Result Program Refusal → Planning → Result (List Plan) Refusal → Type 0
+  LeastFor (Err refusal) planning plans = plans ≡ Ok []
+  LeastFor (Ok p) planning plans = Plans (Some held) (expand p) planning.options (Least planning.profile) plans
+
+  -- .. those of the made program
   abbrev MadeFor : Result Program Refusal → PlanOptions → List Plan → Type 0
   MadeFor (Err refusal) options plans = plans ≡ []
-  MadeFor (Ok p) options plans = MakesPlans (expand p) options plans
+  MadeFor (Ok p) options plans = MakesPlans (expand p) options None plans
 
   data Way (words : List (List ℕ)) (answer : ℕ × List ℕ) : Type 0 where
     nothing : AsksNothing words → answer ≡ refused Words → Way words answer
     a_run : (run : Run) (text : List ℕ) (x : Result Program Refusal) (input : Result (List ℤ) Refusal) (plans : Result (List Plan) Refusal) → Asks words run → held run.program ≡ Some text → Reads text x → InputFor x run input → PlansFor x input run plans →
         answer ≡ run_given run x input plans → Way words answer
-    planned : (planning : Planning) (text : List ℕ) (x : Result Program Refusal) (made : List Plan) → AsksPlans words planning → held planning.program ≡ Some text → Reads text x → MadeFor x planning.options made →
-        answer ≡ plans_given x made → Way words answer
+    planned : (planning : Planning) (text : List ℕ) (x : Result Program Refusal) (plans : Result (List Plan) Refusal) → AsksPlans words planning → held planning.program ≡ Some text → Reads text x → LeastFor x planning plans →
+        answer ≡ plans_given x plans → Way words answer
     made_run : (words_of : GenWords) (x : Result Program Refusal) (plans : List Plan) → AsksMade words words_of → Reads made_text x → MadeFor x words_of.options plans → answer ≡ made_given words_of x plans → Way words answer
     sites : (program text : List ℕ) (x : Result Program Refusal) → AsksSites words program → held program ≡ Some text → Reads text x → answer ≡ sites_given x → Way words answer
 
@@ -121,21 +166,22 @@ module _ (held : List ℕ → Option (List ℕ)) where
   way (InputRefused run text p refusal asks h r i) = a_run run text (Ok p) (Err refusal) (Ok []) asks h r i tt refl
   way (PlansRefused run text p numbers refusal asks h r i l) = a_run run text (Ok p) (Ok numbers) (Err refusal) asks h r i l refl
   way (Ran run text p numbers plans asks h r i l) = a_run run text (Ok p) (Ok numbers) (Ok plans) asks h r i l refl
-  way (PlanningRefused planning text refusal asks h r) = planned planning text (Err refusal) [] asks h r refl refl
-  way (PlansWritten planning text p made asks h r m) = planned planning text (Ok p) made asks h r m refl
+  way (PlanningRefused planning text refusal asks h r) = planned planning text (Err refusal) (Ok []) asks h r refl refl
+  way (LeastRefused planning text p refusal asks h r l) = planned planning text (Ok p) (Err refusal) asks h r l refl
+  way (PlansWritten planning text p plans asks h r l) = planned planning text (Ok p) (Ok plans) asks h r l refl
   way (SitesRefused program text refusal asks h r) = sites program text (Err refusal) asks h r refl
   way (SitesListed program text p asks h r) = sites program text (Ok p) asks h r refl
   way (MadeRefused m refusal asks r) = made_run m (Err refusal) [] asks r refl refl
   way (MadeRan m p plans asks r l) = made_run m (Ok p) plans asks r l refl
 
   -- the same run of the same program
-  same_plans : (run : Run) (p : Program) (few : length (expand p).regions < 2 ^ 32) (i j : Result (List ℤ) Refusal) (l m : Result (List Plan) Refusal) → i ≡ j → PlansFor (Ok p) i run l → PlansFor (Ok p) j run m → with_input run p i l ≡ with_input run p j m
-  same_plans run p few (Err a) (Err b) l m e h k = let same : a ≡ b = cc e in ap refused same
-  same_plans run p few (Err a) (Ok b) l m e h k = absurd (cc e)
-  same_plans run p few (Ok a) (Err b) l m e h k = absurd (cc e)
-  same_plans run p few (Ok a) (Ok b) l m e h k =
+  same_plans : (run : Run) (p : Program) (text : List ℕ) (reads : Reads text (Ok p)) (i j : Result (List ℤ) Refusal) (l m : Result (List Plan) Refusal) → i ≡ j → PlansFor (Ok p) i run l → PlansFor (Ok p) j run m → with_input run p i l ≡ with_input run p j m
+  same_plans run p text reads (Err a) (Err b) l m e h k = let same : a ≡ b = cc e in ap refused same
+  same_plans run p text reads (Err a) (Ok b) l m e h k = absurd (cc e)
+  same_plans run p text reads (Ok a) (Err b) l m e h k = absurd (cc e)
+  same_plans run p text reads (Ok a) (Ok b) l m e h k =
       let same : a ≡ b = cc e in
-      ap (λ (numbers : List ℤ). ran run p numbers l) same ∙ ap (ran run p b) (plans_by (expand p) few run.options refl h k)
+      ap (λ (numbers : List ℤ). ran run p numbers l) same ∙ ap (ran run p b) (plans_by p text reads run.options refl h k)
 
   same_run : (run : Run) (text : List ℕ) (x y : Result Program Refusal) (i j : Result (List ℤ) Refusal) (l m : Result (List Plan) Refusal) → Reads text x → x ≡ y → InputFor x run i → InputFor y run j → PlansFor x i run l → PlansFor y j run m →
       run_given run x i l ≡ run_given run y j m
@@ -144,18 +190,17 @@ module _ (held : List ℕ → Option (List ℕ)) where
   same_run run text (Ok p) (Err b) i j l m r e h k u v = absurd (cc e)
   same_run run text (Ok p) (Ok q) i j l m r e h k u v =
       let same : p ≡ q = cc e in
-      same_plans run p (few_regions_read text p r) i j l m (input_by refl h k) u (subst (λ (z : Program). PlansFor (Ok z) j run m) (sym same) v)
+      same_plans run p text r i j l m (input_by refl h k) u (subst (λ (z : Program). PlansFor (Ok z) j run m) (sym same) v)
       ∙ ap (λ (z : Program). with_input run z j m) same
 
   -- the same plans of the same program
+  same_least : (planning : Planning) (text : List ℕ) (x : Result Program Refusal) (l m : Result (List Plan) Refusal) → Reads text x → LeastFor x planning l → LeastFor x planning m → l ≡ m
+  same_least planning text (Err refusal) l m r h k = h ∙ sym k
+  same_least planning text (Ok p) l m r h k = plans_by p text r planning.options refl h k
+
   same_made : (options : PlanOptions) (x : Result Program Refusal) (a b : List Plan) → MadeFor x options a → MadeFor x options b → a ≡ b
   same_made options (Err refusal) a b h k = h ∙ sym k
-  same_made options (Ok p) a b h k = made_once (expand p) options a b h k
-
-  -- .. give the same
-  same_given : {A : Type 0} (f : Result Program Refusal → List Plan → A) (options : PlanOptions) (x y : Result Program Refusal) (a b : List Plan) → x ≡ y → MadeFor x options a → MadeFor y options b → f x a ≡ f y b
-  same_given f options x y a b e h k =
-      ap (f x) (same_made options x a b h (subst (λ (z : Result Program Refusal). MadeFor z options b) (sym e) k)) ∙ ap (λ (z : Result Program Refusal). f z b) e
+  same_made options (Ok p) a b h k = automatic_once (expand p) None options.rate options.stages options.workers a b h k
 
   ways_once : {words : List (List ℕ)} {a b : ℕ × List ℕ} → Way words a → Way words b → a ≡ b
   ways_once (nothing n e) (nothing m f) = e ∙ sym f
@@ -176,7 +221,9 @@ module _ (held : List ℕ → Option (List ℕ)) where
   ways_once (planned planning text x plans asks h r g e) (a_run other more y j n asked k s o v f) = not_run_and_plans asked asks
   ways_once (planned planning text x plans asks h r g e) (planned other more y others asked k s o f) =
       let one = planning_once asks asked in
-      e ∙ same_given plans_given planning.options x y plans others (read_once (ap (λ (z : Planning). z.program) one) h k r s) g (subst (λ (z : Planning). MadeFor y z.options others) (sym one) o) ∙ sym f
+      let same = read_once (ap (λ (z : Planning). z.program) one) h k r s in
+      let here = subst (λ (z : Planning). LeastFor y z others) (sym one) o in
+      e ∙ ap (plans_given x) (same_least planning text x plans others r g (subst (λ (z : Result Program Refusal). LeastFor z planning others) (sym same) here)) ∙ ap (λ (z : Result Program Refusal). plans_given z others) same ∙ sym f
   ways_once (planned planning text x plans asks h r g e) (sites program more y asked k s f) = not_plans_and_sites asks asked
   ways_once (planned planning text x plans asks h r g e) (made_run m y n asked s o f) = not_plans_and_made asks asked
   ways_once (sites program text x asks h r e) (nothing m f) = absurd (m.no_sites program asks)
@@ -191,7 +238,9 @@ module _ (held : List ℕ → Option (List ℕ)) where
   ways_once (made_run m x l asks r g e) (sites program more y asked k s f) = not_sites_and_made asked asks
   ways_once (made_run m x l asks r g e) (made_run other y n asked s o f) =
       let one = asks_made_once asks asked in
-      e ∙ same_given (made_given m) m.options x y l n (reads_once made_text r s) g (subst (λ (z : GenWords). MadeFor y z.options n) (sym one) o) ∙ ap (λ (z : GenWords). made_given z y n) one ∙ sym f
+      let same = reads_once made_text r s in
+      let here = subst (λ (z : GenWords). MadeFor y z.options n) (sym one) o in
+      e ∙ ap (made_given m x) (same_made m.options x l n g (subst (λ (z : Result Program Refusal). MadeFor z m.options n) (sym same) here)) ∙ ap (λ (z : Result Program Refusal). made_given m z n) same ∙ ap (λ (z : GenWords). made_given z y n) one ∙ sym f
 
   pub answers_once : {words : List (List ℕ)} {status other : ℕ} {bytes more : List ℕ} → Answer words (Some held) status bytes → Answer words (Some held) other more → (status ≡ other) × (bytes ≡ more)
   answers_once a b = let same = ways_once (way a) (way b) in (ap (λ (z : ℕ × List ℕ). z.0) same, ap (λ (z : ℕ × List ℕ). z.1) same)

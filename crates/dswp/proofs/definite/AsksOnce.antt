@@ -1,12 +1,12 @@
 -- Words ask for one thing only.
-use Rattle.std.proofs.Common.{◌≡◌, refl, sym, ap, ap₂, ◌∙◌, ℕ, ◌==◌, Bool, true, false, if◌then◌else◌, List, length, Option, Some, option_map, codes}
+use Rattle.std.proofs.Common.{◌≡◌, refl, sym, ap, ap₂, ◌∙◌, ℕ, ◌==◌, Bool, true, false, if◌then◌else◌, List, length, Option, Some, codes}
 use Rattle.std.specs.Option.{option_map_or}
 use Rattle.std.specs.Str.{bytes_eq}
 use Rattle.clap.specs.Words.{App, Text}
 use Rattle.dp_words.proofs.VerbLemmas.{apart, behind, named_behind, verb_is}
 use Rattle.dp_words.specs.Commands.{check_app, gen_app, plan_app, run_app, value_in}
 use Rattle.dp_words.specs.declared.task.GenWords.{GenWords}
-use Rattle.dp_words.specs.Words.{Run, Planning, Asks, AsksBy, AsksMade, AsksPlans, AsksSites, ShowsMade, ShowsPlanning, ShowsRun, ShowsSites, Values, default_fuel, default_rate, default_stages, lane_in, number_or, options_in, workers_in}
+use Rattle.dp_words.specs.Words.{Run, Planning, Source, Asks, AsksBy, AsksMade, AsksPlans, AsksSites, ShowsMade, ShowsPlanning, ShowsRun, ShowsSites, Values, default_fuel, default_rate, default_stages, lane_in, number_or, options_in, workers_in}
 use Rattle.dswp.specs.Headline.{AskForRun, OfNamed, OfMade}
 
 -- whether a flag was given, by the number of letters of its value
@@ -14,11 +14,11 @@ abbrev why_of : Option Text → Bool
 why_of value = option_map_or (λ text. length text == 4) value false
 
 -- the run that values stand for
-abbrev run_from : Values → Text → Run
-run_from value program = record {
+abbrev run_from : Values → Text → Source → Run
+run_from value program plans = record {
   program = program;
   input = value (codes "input");
-  plan = value (codes "plan");
+  source = plans;
   options = options_in value;
   lane = lane_in value;
   fuel = number_or default_fuel (value (codes "fuel"));
@@ -29,23 +29,25 @@ why_is : (b : Bool) → why_of (Some (if b then codes "true" else codes "false")
 why_is true = refl
 why_is false = refl
 
-run_is : (value : Values) (run : Run) → ShowsRun value run → run_from value run.program ≡ run
-run_is value run h = rw (h.input, h.plan, ← h.options, ← h.lane, ← h.fuel, h.why, why_is run.why) refl
-
-run_shown : (value : Values) (run : Run) → ShowsRun value run → option_map (run_from value) (value (codes "program")) ≡ Some run
-run_shown value run h = ap (option_map (run_from value)) h.program ∙ ap Some (run_is value run h)
+run_is : (value : Values) (run : Run) → ShowsRun value run → run_from value run.program run.source ≡ run
+run_is value run h = rw (h.input, ← h.options, ← h.lane, ← h.fuel, h.why, why_is run.why) refl
 
 runs_once : (value : Values) (run other : Run) → ShowsRun value run → ShowsRun value other → run ≡ other
-runs_once value run other a b = let same : Some run ≡ Some other = sym (run_shown value run a) ∙ run_shown value other b in cc same
+runs_once value run other a b =
+    let program : Some run.program ≡ Some other.program = sym a.program ∙ b.program in
+    let plans : Some run.source ≡ Some other.source = sym a.source ∙ b.source in
+    sym (run_is value run a) ∙ ap₂ (run_from value) (cc program) (cc plans) ∙ run_is value other b
 
 abbrev planning_from : Values → Text → Planning
-planning_from value program = record { program = program; options = options_in value }
+planning_from value program = record { program = program; profile = value (codes "profile"); options = options_in value }
 
-planning_shown : (value : Values) (planning : Planning) → ShowsPlanning value planning → option_map (planning_from value) (value (codes "program")) ≡ Some planning
-planning_shown value planning h = ap (option_map (planning_from value)) h.program ∙ ap (λ options. Some (record { program = planning.program; options = options })) (sym h.options)
+planning_is : (value : Values) (planning : Planning) → ShowsPlanning value planning → planning_from value planning.program ≡ planning
+planning_is value planning h = rw (h.profile, ← h.options) refl
 
 plannings_once : (value : Values) (planning other : Planning) → ShowsPlanning value planning → ShowsPlanning value other → planning ≡ other
-plannings_once value planning other a b = let same : Some planning ≡ Some other = sym (planning_shown value planning a) ∙ planning_shown value other b in cc same
+plannings_once value planning other a b =
+    let program : Some planning.program ≡ Some other.program = sym a.program ∙ b.program in
+    sym (planning_is value planning a) ∙ ap (planning_from value) (cc program) ∙ planning_is value other b
 
 programs_once : (value : Values) (program other : List ℕ) → ShowsSites value program → ShowsSites value other → program ≡ other
 programs_once value program other a b = let same : Some program ≡ Some other = sym a ∙ b in cc same

@@ -162,6 +162,14 @@ pub const SKIP_PLAN: &[u8] =
 
 pub const STALE_PLAN: &[u8] = b"plan 1\nregion 1 words 4096\nseq 2 3 4\nseq 5\nend\n";
 
+/// What a whole run shows.
+const SUM_PROFILE: &[u8] =
+    b"profile 1\nregion 1\nruns 2 4 3\nruns 3 3 0\nruns 4 3 0\nruns 5 3 0\nflow 3 3 carried 2\nflow 3 4 intra 3\nflow 5 2 carried 3\nflow 5 3 carried 2\nflow 5 5 carried 2\nend\n";
+
+/// What a run on 5, 6, 7 shows: the `if` is never taken.
+const SKIP_PROFILE: &[u8] =
+    b"profile 1\nregion 1\nruns 2 4 3\nruns 3 3 0\nruns 4 3 0\nruns 5 0 0\nruns 6 3 0\nruns 7 3 0\nflow 3 4 intra 3\nflow 3 7 intra 3\nflow 6 2 carried 3\nflow 6 3 carried 2\nflow 6 6 carried 2\nflow 7 7 carried 2\nend\n";
+
 pub const LIBRARY: &[Named] = &[
     ("sum_loop.c", SUM_LOOP),
     ("zero_divisor.c", ZERO_DIVISOR),
@@ -181,4 +189,6 @@ pub const LIBRARY: &[Named] = &[
     ("word_table.c", WORD_TABLE),
     ("skip.plan", SKIP_PLAN),
     ("stale.plan", STALE_PLAN),
+    ("sum_loop.prof", SUM_PROFILE),
+    ("skip_negative.prof", SKIP_PROFILE),
 ];

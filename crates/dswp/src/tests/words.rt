@@ -72,6 +72,11 @@ const REFUSED: &[&str] = &[
     "plan p.c --stages 9",
     "plan p.c --workers 9",
     "plan p.c --stages 4 --stages 4",
+    "plan p.c --profile",
+    "plan p.c --profile a --profile a",
+    "run p.c --profile a --profile a",
+    "run p.c --plan=stale.plan in.txt --profile=a",
+    "check p.c --profile a",
     "Plan p.c",
     "plans p.c",
     "gen",
@@ -137,6 +142,9 @@ const NOT_HELD: &[&str] = &[
     "run p.c none.txt --plan none => input",
     "run p.c in.txt --plan none => plan",
     "run p.c --plan - => plan",
+    "run p.c --profile - => profile",
+    "run p.c --rate 5 --profile=none in.txt => profile",
+    "plan p.c --profile none => profile",
     "run p.c --plan=none --why => plan",
 ];
 

@@ -25,7 +25,7 @@ returns-in-Refused-3-clause-loads g c =
 
 pub returns-in-Failed-3-clause-loads : goal.returns-in-Failed-3-clause-loads
 returns-in-Failed-3-clause-loads g c =
-    plans_failed _ _ _ _ _ _ _ _ _ (given _ _ _ (c.in_ok-program.was ∙ ap Ok c.in-Text.is) (program_gives _ _ _ _ _ _ _ c.load_program.ensures.loads c.load_program.ensures.faults c.load_program.ensures.failed_names)) _ _ _ (given _ _ _ (c.in_ok-input.was ∙ ap Ok c.in-Text-2.is) (rw c.load_program.ensures.contents at c.load_words.ensures.gives)) (given _ _ _ (c.in_ok-plans.was ∙ ap Ok c.in-Failed-3.is) (rw (c.load_words.ensures.contents, c.load_program.ensures.contents) at c.load_given.ensures.gives))
+    plans_failed _ _ _ _ _ _ _ _ _ (given _ _ _ (c.in_ok-program.was ∙ ap Ok c.in-Text.is) (program_gives _ _ _ _ _ _ _ c.load_program.ensures.loads c.load_program.ensures.faults c.load_program.ensures.failed_names)) _ _ _ (given _ _ _ (c.in_ok-input.was ∙ ap Ok c.in-Text-2.is) (rw c.load_program.ensures.contents at c.load_words.ensures.gives)) _ c.role_of.ensures (given _ _ _ (c.in_ok-plans.was ∙ ap Ok c.in-Failed-3.is) (rw (c.load_words.ensures.contents, c.load_program.ensures.contents) at c.load_given.ensures.gives))
 
 pub returns-in-Text-3-clause-loads : goal.returns-in-Text-3-clause-loads
 returns-in-Text-3-clause-loads g c =
