@@ -5,7 +5,6 @@ use crate::{CellId, NoMemory};
 use std::alloc::Global;
 use std::marker::Model;
 
-
 /// A program's memory: one number of 64 bits for each cell. Contracts see it as the list of these numbers.
 #[derive(Debug, Drop)]
 pub struct Cells {

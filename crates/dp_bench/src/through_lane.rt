@@ -1,5 +1,5 @@
 //! A lane between two threads.
-ghost use Rattle.std.specs.Prelude.{◌≡◌, false, true};
+ghost use Rattle.std.specs.Prelude.{◌≡◌, false, true, IfOk};
 ghost use Rattle.dp_lane.specs.declared.rule.View.TheVariants.{Sender, Taker};
 
 use crate::PLACES;
@@ -17,7 +17,9 @@ pub fn all_items<R: Threads + Wait + Sync>(
     rt: &R,
     alloc: Global,
     count: u64,
-) -> Result<bool, NoMemory> {
+) -> Result<bool, NoMemory>
+    ensures { IfOk result (λ is_ordered. is_ordered ≡ true) }
+{
     let (to, from) = lane::<Item>(alloc, &0, PLACES)?;
     let ((), is_ordered) = thread::join(
         rt,
@@ -26,6 +28,7 @@ pub fn all_items<R: Threads + Wait + Sync>(
         { send_all(rt, to, count) },
         move || -> bool
             requires { from.view ≡ Taker 0 0 }
+            ensures { result ≡ true }
         { take_all(rt, from, count) },
     );
     Ok(is_ordered)

@@ -42,14 +42,16 @@ fn relay<R: Threads + Wait + Sync>(
     consumer: ConsumerSeat<Item>,
 ) -> bool
     requires { (count < 2 ^ 32) × IsFirst producer × IsIdle first × IfSome second IsIdle × IsFirst consumer }
+    ensures { result ≡ true }
 {
     let ((), is_ordered) = thread::join(
         rt,
         move ||
             requires { (count < 2 ^ 32) × IsFirst producer }
         { produce(rt, count, producer) },
-        move ||
+        move || -> bool
             requires { (count < 2 ^ 32) × IsIdle first × IfSome second IsIdle × IsFirst consumer }
+            ensures { result ≡ true }
         { work_and_consume(rt, count, first, second, consumer) },
     );
     is_ordered
@@ -63,14 +65,16 @@ fn work_and_consume<R: Threads + Wait + Sync>(
     consumer: ConsumerSeat<Item>,
 ) -> bool
     requires { (count < 2 ^ 32) × IsIdle first × IfSome second IsIdle × IsFirst consumer }
+    ensures { result ≡ true }
 {
     let ((), is_ordered) = thread::join(
         rt,
         move ||
             requires { (count < 2 ^ 32) × IsIdle first × IfSome second IsIdle }
         { work_all(rt, count, first, second) },
-        move ||
+        move || -> bool
             requires { (count < 2 ^ 32) × IsFirst consumer }
+            ensures { result ≡ true }
         { consume(rt, count, consumer) },
     );
     is_ordered

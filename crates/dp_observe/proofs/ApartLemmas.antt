@@ -21,7 +21,7 @@ abbrev pub Apart : ℕ → List (List RegionSite) → Type 0
 Apart k [] = Unit {0}
 Apart k (ss ∷ rest) = (first : ℕ) × (k ≤ first) × InOrder first ss × Apart (first + length ss) rest
 
-in_order : (k : ℕ) (ss : List RegionSite) → Ascends k (map number ss) → InOrder k ss
+pub in_order : (k : ℕ) (ss : List RegionSite) → Ascends k (map number ss) → InOrder k ss
 in_order k [] up = tt
 in_order k (s ∷ ss) up = (up.0, in_order (suc k) ss up.1)
 

@@ -45,7 +45,7 @@ length_set [] k x = refl
 length_set (z ∷ xs) zero x = refl
 length_set (z ∷ xs) (suc k) x = ap suc (length_set xs k x)
 
-has_site_at : (sites : List RegionSite) (place : ℕ) (s : RegionSite) → slice_get sites place ≡ Some s → has_site s.site.0 sites ≡ true
+pub has_site_at : (sites : List RegionSite) (place : ℕ) (s : RegionSite) → slice_get sites place ≡ Some s → has_site s.site.0 sites ≡ true
 has_site_at [] place s e = absurd (cc e)
 has_site_at (x ∷ rest) zero s e = let same : x ≡ s = cc in rw (eq-eqb x.site.0 s.site.0 (ap (λ (y : RegionSite). y.site.0) same)) refl
 has_site_at (x ∷ rest) (suc place) s e = elim (cases_Bool (x.site.0 == s.site.0)) [ inl b ↦ rw b refl | inr b ↦ rw b (has_site_at rest place s e) ]

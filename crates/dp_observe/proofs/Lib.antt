@@ -11,4 +11,6 @@ pub mod BoardLemmas
 pub mod ApartLemmas
 pub mod StartLemmas
 pub mod FinishLemmas
+pub mod QuietLemmas
+pub mod FitLemmas
 pub mod RunLemmas

@@ -6,3 +6,4 @@ pub mod Starting
 pub mod Taken
 pub mod Tracking
 pub mod Running
+pub mod Loads

@@ -4,6 +4,7 @@
 mod board;
 mod counter;
 mod frame;
+mod law;
 mod locals;
 mod owners;
 mod profile;
@@ -11,4 +12,5 @@ mod sparse;
 mod tally;
 mod watching;
 
+pub use law::observed_profiles_fit;
 pub use watching::observe;

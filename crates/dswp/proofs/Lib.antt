@@ -5,3 +5,4 @@ pub mod AnswerLemmas
 pub mod MadeLemmas
 pub mod ProfilingLemmas
 pub mod definite
+pub mod ZeroMemory

@@ -1,5 +1,5 @@
 //! The units of one epoch, polled by hand: what a poll answers, and that no order of polls changes a verdict.
-ghost use Rattle.std.specs.Prelude.{◌≡◌, ◌≤◌, ◌<◌, ◌^◌, length, IfOk};
+ghost use Rattle.std.specs.Prelude.{◌≡◌, ◌≤◌, ◌<◌, ◌^◌, ◌-◌, length, IfOk};
 ghost use Rattle.dp_tree.specs.Inlined.{IsInlined};
 ghost use Rattle.dp_plan.specs.GivenPlans.{IsPlan};
 ghost use Rattle.dp_pipeline.specs.Programs.{ArePrograms};
@@ -9,7 +9,7 @@ use crate::load::{Loaded, load_plans, load_program};
 use dp_base::{Cells, NoMemory, Row};
 use dp_code::StageProgram;
 use dp_commit::Verdict;
-use dp_edge::OpenGate;
+use dp_edge::{OpenGate, Shelf};
 use dp_meaning::Machine;
 use dp_pipeline::{IdleWhy, LaneVerdicts, Pipeline, Polled, stage_programs};
 use dp_plan::Plan;
@@ -49,7 +49,6 @@ impl Order {
 }
 
 /// The pipeline of an epoch that begins with the first iteration, in a memory of zeros.
-#[tactic(auto, using(crate::proofs::ZeroMemory::zeros_are_sound))]
 fn pipeline_of<'u>(
     alloc: Global,
     p: &'u Program,
@@ -192,21 +191,45 @@ fn each_row<R: Abort + Wait>(
     Ok(())
 }
 
+/// The rows for the plan in the shelf.
+fn with_program<R: Abort + Wait, S: Shelf>(
+    rt: &R,
+    alloc: Global,
+    program: &Program,
+    shelf: &mut S,
+) -> Result<(), NoMemory>
+    requires inlined { IsInlined program.now }
+    requires sites { length program.now.sites < 2 ^ 32 }
+    requires shelf { S.faults shelf.old < 2 ^ 64 - 1 }
+{
+    match load_plans(alloc, shelf, "plan.txt", program)? {
+        Loaded::Text(plans) => match plans.as_slice().first() {
+            Some(plan) => each_row(rt, alloc, program, plan)?,
+            None => assert!(rt; false, "no plan"),
+        },
+        Loaded::Refused(_) | Loaded::Failed => assert!(rt; false, "a refused plan"),
+    }
+    Ok(())
+}
+
+/// The rows for the program in the shelf and its plan.
+fn with_texts<R: Abort + Wait, S: Shelf>(
+    rt: &R,
+    alloc: Global,
+    shelf: &mut S,
+) -> Result<(), NoMemory>
+    requires { S.faults shelf.old < 2 ^ 64 - 1 }
+{
+    match load_program(alloc, shelf, "histogram.c")? {
+        Loaded::Text(program) => with_program(rt, alloc, &program, shelf)?,
+        Loaded::Refused(_) | Loaded::Failed => assert!(rt; false, "a refused program"),
+    }
+    Ok(())
+}
+
 #[test]
 fn units_are_polled_in_any_order(rt: HostRuntime) -> Result<(), Fail> {
-    let alloc = rt.alloc();
-    let mut shelf = shelf_of(alloc, &[("plan.txt", PLAN)], &[])?;
-    match load_program(alloc, &mut shelf, "histogram.c")? {
-        Loaded::Text(program) => match load_plans(alloc, &mut shelf, "plan.txt", &program)? {
-            Loaded::Text(plans) => {
-                assert_eq!(&rt; plans.len(), 1);
-                for plan in plans.as_slice() {
-                    each_row(&rt, alloc, &program, plan)?;
-                }
-            }
-            Loaded::Refused(_) | Loaded::Failed => assert!(&rt; false, "no plan"),
-        },
-        Loaded::Refused(_) | Loaded::Failed => assert!(&rt; false, "no program"),
-    }
+    let mut shelf = shelf_of(rt.alloc(), &[("plan.txt", PLAN)], &[])?;
+    with_texts(&rt, rt.alloc(), &mut shelf)?;
     Ok(())
 }

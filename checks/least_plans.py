@@ -1,7 +1,7 @@
 #!/usr/bin/env python3
 """Compares the plans of small random programs, with profiles and without, with those that a search over all cuts finds.
 
-  bench/least_plans.py [COUNT [SEED]]    COUNT programs, 2000 where it isn't given
+  checks/least_plans.py [COUNT [SEED]]    COUNT programs, 2000 where it isn't given
 
 The search here is a second one: it goes through every cut and every choice of replicated stages, and sorts them as
 docs/USAGE.md says. Ends with 1 at the first difference, and shows it.
