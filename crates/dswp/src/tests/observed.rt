@@ -132,7 +132,7 @@ const SPENT: [Shown; 5] = [
 const REFUSED: &[&str] = &[
     "profile p.c $1 | $2 | $3 => $1\n",
     "in.txt | int main() { } | 1 x => refused input word 2",
-    "in.txt | int main() { | x => refused program syntax token 6",
+    "in.txt | int main() { | x => refused program syntax token 5",
     "in.txt | int main() { x = 1; } | x => refused program unknown line 1",
     "in.txt | int a[65537]; int main() { } | x => limit cells 65537",
     "in.txt | int main() { } | `65537*0 ` => limit input-words 65537",
@@ -180,5 +180,17 @@ fn a_read_of_a_profile_fails(rt: HostRuntime) -> Result<(), Fail> {
         assert_eq!(&rt; answered.text(), text);
         assert_eq!(&rt; answered.status, 5);
     }
+    Ok(())
+}
+
+#[test]
+fn a_profile_that_is_written_is_taken(rt: HostRuntime) -> Result<(), Fail> {
+    let input: [(&str, &[u8]); 1] = [("in.txt", b"5 6 7")];
+    let words = "profile skip_negative.c in.txt";
+    let written = answer_to(&rt, rt.alloc(), words, &input, &[], None)?;
+    let profile = [("shown.txt", written.sink.bytes())];
+    let words = "plan skip_negative.c --profile shown.txt --stages 2";
+    let plans = answer_to(&rt, rt.alloc(), words, &profile, &[], None)?;
+    assert_eq!(&rt; plans.text(), "plan 2\nregion 1 words 4096\nseq 2 6\nseq 3 4 5 7\nend\n");
     Ok(())
 }
