@@ -1,5 +1,5 @@
 -- Where a shelf tells what it holds, there is one answer only.
-use Rattle.std.proofs.Common.{◌≡◌, refl, sym, ap, ◌∙◌, subst, ℕ, ◌<◌, ◌^◌, false, List, [], ◌++◌, length, ℤ, Option, Some, None, Result, Ok, Err}
+use Rattle.std.proofs.Common.{◌≡◌, refl, sym, ap, ◌∙◌, subst, ℕ, false, List, [], ◌++◌, ℤ, Option, Some, None, Result, Ok, Err}
 use Rattle.dp_tree.specs.declared.Program.{Program}
 use Rattle.dp_calls.specs.Expand.{expand}
 use Rattle.dp_calls.specs.Frames.{outcome}
@@ -11,25 +11,18 @@ use Rattle.dswp.specs.Refusal.{refusal_line, refusal_status}
 use Rattle.dswp.specs.RunText.{run_text, status_of}
 use Rattle.dp_words.specs.declared.task.PlanOptions.{PlanOptions}
 use Rattle.dp_words.specs.declared.task.GenWords.{GenWords}
-use Rattle.dp_words.specs.Words as source
-use Rattle.dp_words.specs.Words.{Run, Planning, Profiling, Source, Least, Asks, AsksMade, AsksPlans, AsksProfile, AsksSites, AsksNothing}
+use Rattle.dp_words.specs.Words.{Run, Planning, Profiling, Least, Asks, AsksMade, AsksPlans, AsksProfile, AsksSites, AsksNothing}
 use Rattle.dp_plan.specs.declared.Plan.{Plan}
-use Rattle.dp_profile.specs.declared.Profile.{Profile}
-use Rattle.dp_calls.proofs.InlinedLaws.{expanded_is_inlined}
 use Rattle.dp_plan.specs.WrittenText.{plans_text}
 use Rattle.dp_profile.specs.Observed.{observed}
 use Rattle.dp_profile.specs.WrittenText.{profile_text}
 use Rattle.dp_cut.proofs.PlansOnce.{automatic_once}
 use Rattle.dswp.specs.Made.{made_line, made_words}
-use Rattle.dswp.specs.Plans.{MakesPlans, ReadsPlans}
-use Rattle.dswp.specs.Profiles.{ReadsProfile}
+use Rattle.dswp.specs.Plans.{MakesPlans}
 use Rattle.dswp.specs.Program.{Reads}
-use Rattle.dswp.specs.Answer.{input_of, some_read, ReadsInput, Input, Unnamed, Named, Profiled, NotNamed, NamedProfile, Plans, Automatic, ProfileRefused, Planned, Answer, NotTaken, ProgramRefused, InputRefused, PlansRefused, Ran, PlanningRefused, LeastRefused, PlansWritten, SitesRefused, SitesListed, ProfilingRefused, ProfilingInputRefused, ProfileWritten, MadeRefused, MadeRan}
-use Rattle.dswp.proofs.accepted.Accepted.{read_checked, few_regions_read, few_sites_read}
+use Rattle.dswp.specs.Answer.{Input, Plans, Answer, NotTaken, ProgramRefused, InputRefused, PlansRefused, Ran, PlanningRefused, LeastRefused, PlansWritten, SitesRefused, SitesListed, ProfilingRefused, ProfilingInputRefused, ProfileWritten, MadeRefused, MadeRan}
 use Rattle.dswp.proofs.definite.ReadsOnce.{reads_once}
 use Rattle.dswp.proofs.definite.TextsOnce.{read_once, input_by, plans_by}
-use Rattle.dswp.proofs.definite.PlansOnce.{plans_once}
-use Rattle.dswp.proofs.definite.ProfilesOnce.{profiles_once}
 use Rattle.dswp.proofs.definite.AsksOnce.{asks_once, planning_once, sites_once, profile_once, made_once as asks_made_once, not_run_and_plans, not_run_and_sites, not_run_and_profile, not_run_and_made, not_plans_and_sites, not_plans_and_profile, not_plans_and_made, not_sites_and_profile, not_sites_and_made, not_profile_and_made}
 
 -- a status and the bytes

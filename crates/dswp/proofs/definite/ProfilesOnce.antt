@@ -5,7 +5,6 @@ use Rattle.dp_base.specs.declared.Quantity.TheVariants.{ProfileBytes}
 use Rattle.dp_tree.specs.declared.Program.{Program}
 use Rattle.dp_tree.specs.Inlined.{IsInlined}
 use Rattle.dp_profile.specs.declared.Profile.{Profile}
-use Rattle.dp_profile.specs.declared.ProfileFail.{ProfileFail}
 use Rattle.dp_profile.specs.declared.ProfileFail.TheVariants as fail
 use Rattle.dp_profile.specs.ProfileText.{ProfileText}
 use Rattle.dp_profile.specs.Refused.{IsRefused, at_line, at_end}

@@ -191,6 +191,9 @@ fn a_profile_that_is_written_is_taken(rt: HostRuntime) -> Result<(), Fail> {
     let profile = [("shown.txt", written.sink.bytes())];
     let words = "plan skip_negative.c --profile shown.txt --stages 2";
     let plans = answer_to(&rt, rt.alloc(), words, &profile, &[], None)?;
-    assert_eq!(&rt; plans.text(), "plan 2\nregion 1 words 4096\nseq 2 6\nseq 3 4 5 7\nend\n");
+    assert_eq!(&rt;
+        plans.text(),
+        "plan 2\nregion 1 words 4096\nseq 2 6\nseq 3 4 5 7\nend\n"
+    );
     Ok(())
 }
