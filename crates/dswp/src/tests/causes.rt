@@ -33,12 +33,12 @@ const SPENT: &[&str] = &[
 /// In the last row a packet is void before the second stage has said anything.
 const FIRST: &[&str] = &[
     "run p.c --plan plan.txt --why | int last; int m; int n; int main() { int i = 0;\n#pragma dswp\nwhile (i < 4) { if (i > 0) { $1} if (last > 0) { n = n + 5; } i = i + 1; last = i; $2} } |  | plan 1\nregion 1 words $3end\n => state\nlast 4\nm $1\nn 15\nregion 1 iterations 5 recovered $2\n$3end done\n",
-    "m = m + 1; m = m + 1;  |  | 3\nseq 2 3 7 8\nseq 4 5 6\nseq 9\nassume 6 0\n => 6 | 3: 1 2 3 | cause 1 load site 6 cell 0 seen 0 source 1\ncause 2 assume site 6\ncause 3 assume site 6\n",
-    "m = m + 1; m = m + 1;  |  | 3\nseq 2 3 7 8\nseq 4 5 6\nseq 9\nassume 6 1\n => 6 | 4: 0 1 2 3 | cause 0 assume site 6\ncause 1 words stage 2 site 6\ncause 2 words stage 2 site 6\ncause 3 words stage 2 site 6\n",
-    "m = m + 1; m = m + 1;  |  | 4\nseq 2 3 7 8\nseq 4 5 6\nseq 9\nassume 6 1\n => 6 | 2: 0 2 | cause 0 assume site 6\ncause 2 load site 6 cell 0 seen 1 source 2\n",
-    "`4*m = m + 1; ` |  | 3\nseq 2 3 9 10\nseq 4 5 6 7 8\nseq 11\nassume 8 0\n => 12 | 3: 1 2 3 | cause 1 words stage 2 site 7\ncause 2 words stage 2 site 7\ncause 3 words stage 2 site 7\n",
-    "m = m + 1;  |  | 3\nseq 2 3 6 7\nseq 4 5\nseq 8\nassume 5 0\n => 3 | 3: 1 2 3 | cause 1 load site 5 cell 0 seen 0 source 1\ncause 2 assume site 5\ncause 3 assume site 5\n",
-    " | if (i > 2) { n = n + 0; n = n + 0; }  | 5\nseq 2 3 5 6 8 9 10\nseq 4\nseq 7\nassume 4 1\n => 0 | 3: 0 2 3 | cause 0 assume site 4\ncause 2 load site 4 cell 0 seen 1 source 2\ncause 3 words stage 1 site 9\n",
+    "`15*m = m + 1; ` |  | 16\nseq 2 3 20 21\nseq 4 5 6 7 8 9 10 11 12 13 14 15 16 17 18 19\nseq 22\nassume 19 0\n => 45 | 3: 1 2 3 | cause 1 load site 19 cell 0 seen 0 source 1\ncause 2 assume site 19\ncause 3 assume site 19\n",
+    "`15*m = m + 1; ` |  | 16\nseq 2 3 20 21\nseq 4 5 6 7 8 9 10 11 12 13 14 15 16 17 18 19\nseq 22\nassume 19 1\n => 45 | 4: 0 1 2 3 | cause 0 assume site 19\ncause 1 words stage 2 site 19\ncause 2 words stage 2 site 19\ncause 3 words stage 2 site 19\n",
+    "`14*m = m + 1; ` |  | 16\nseq 2 3 19 20\nseq 4 5 6 7 8 9 10 11 12 13 14 15 16 17 18\nseq 21\nassume 18 1\n => 42 | 2: 0 2 | cause 0 assume site 18\ncause 2 load site 18 cell 0 seen 1 source 2\n",
+    "`17*m = m + 1; ` |  | 16\nseq 2 3 22 23\nseq 4 5 6 7 8 9 10 11 12 13 14 15 16 17 18 19 20 21\nseq 24\nassume 21 0\n => 51 | 3: 1 2 3 | cause 1 words stage 2 site 20\ncause 2 words stage 2 site 20\ncause 3 words stage 2 site 20\n",
+    " | if (i > 1) { `12*n = n + 0; `}  | 16\nseq 2 3 5 6 8 9 10 11 12 13 14 15 16 17 18 19 20\nseq 4\nseq 7\nassume 4 0\n => 0 | 3: 1 2 3 | cause 1 load site 4 cell 0 seen 0 source 1\ncause 2 assume site 4\ncause 3 assume site 4\n",
+    " | if (i > 2) { `12*n = n + 0; `}  | 16\nseq 2 3 5 6 8 9 10 11 12 13 14 15 16 17 18 19 20\nseq 4\nseq 7\nassume 4 1\n => 0 | 3: 0 2 3 | cause 0 assume site 4\ncause 2 load site 4 cell 0 seen 1 source 2\ncause 3 words stage 1 site 20\n",
 ];
 
 /// 1,000 iterations are listed at most, each with its cause.
