@@ -41,6 +41,7 @@ plan 'seq 2 4' 'seq 3 5' 'par 6 7 8 9' 'seq 10 11' >digits.plan
 ours=$(net "$(least "$dswp" run digits.c words.in --plan digits.plan --workers 2 --lane 64)" "$nothing")
 tbb=$(net "$(least "$work/tbb" words.in 2 64)" "$(least "$work/tbb" empty.in 2 64)")
 row 'the generator'"'"'s loop, four stages' "$ours" "$(ratio "$ours" 65537000) us an iteration"
+row '  as gen 7 65536, by its least plan' "$(net "$(least "$dswp" gen 7 65536)" "$nothing")"
 row '  oneTBB' "$tbb" "dswp takes $(ratio "$ours" "$tbb") times as long"
 
 words 1000 65536 >some.in
