@@ -1,7 +1,8 @@
 #!/usr/bin/env bash
 # Times each program of examples/ on 65,536 words, reading them and writing the answer included: under dswp and CPython,
-# and as plain C by tcc and by gcc -O2. Each time is the least of nine runs, less that of an empty program under the same
-# runner. Ends with 1 where two answers differ. Needs gcc, tcc and python3.
+# and as plain C by tcc and by gcc -O2; string_wave isn't, since Python rounds its negative quotients in another way. Each
+# time is the least of nine runs, less that of an empty program under the same runner. Ends with 1 where two answers differ.
+# Needs gcc, tcc and python3.
 set -euo pipefail
 . "$(dirname "$0")/common.sh"
 need_dswp
@@ -16,6 +17,7 @@ many_words() {
     partial_sums) echo 16; words 16 100; words 32759 8 | awk '{ print $1, $1 + 8 }' ;;
     running_filter) awk 'BEGIN { for (k = 0; k < 65536; k++) print 100 + int(k / 4) + (k % 16 == 0) * 60 }' ;;
     word_histogram) words 65536 13 ;;
+    record_checksums) awk '{ line[n] = $0; size[n++] = NF } END { for (k = 0; total + size[k % n] <= 65536; k++) { print line[k % n]; total += size[k % n] } }' "$top/examples/$1.in" ;;
     *) tr -s ' \n' '\n\n' <"$top/examples/$1.in" | awk '/./ { word[n++] = $1 } END { for (k = 0; k < 65536; k++) print word[k % n] }' ;;
   esac
 }
@@ -45,6 +47,7 @@ for runner in $runners; do start[$runner]=$(least run $runner); done
 machine
 for program in "$top"/examples/*.c; do
   name=$(basename "$program" .c)
+  [ "$name" = string_wave ] && continue
   many_words "$name" >"$work/words"
   prepare "$program"
   line=$name
