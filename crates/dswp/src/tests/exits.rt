@@ -11,6 +11,7 @@ const ONE_STAGE: &[&str] = &[
     "int n; int main() { #pragma dswp while (n < 5) { n = n + 1; if (n == 2) { break; } } print(n); } => 2\nstate\nn 2\nregion 1 iterations 2 recovered 0\nend done",
     "int n; int main() { #pragma dswp while (n < 5) { if (n == 9) break; n = n + 1; } } => state\nn 5\nregion 1 iterations 6 recovered 0\nend done",
     "int n; int main() { #pragma dswp while (n < 5) { if (1) break; n = n + 1; } #pragma dswp while (n < 2) { n = n + 1; } } => state\nn 2\nregion 1 iterations 1 recovered 0\nregion 2 iterations 3 recovered 0\nend done",
+    "int n; int m; int main() { #pragma dswp while (1) { n = n + 1; if (n == 2) break; } #pragma dswp while (1) { m = m + 1; if (m == 3) break; n = n + 5; } } => state\nn 12\nm 3\nregion 1 iterations 2 recovered 0\nregion 2 iterations 3 recovered 0\nend done",
     "int n; int main() { #pragma dswp while (1) { n = n + 1; if (n == 3) break; while (n == 2) { n = 2 - 1 + n; if (n > 2) { n = 2; } n = n + 0; if (n == 2) { n = 7; } } if (n == 7) { break; } } } => state\nn 7\nregion 1 iterations 2 recovered 0\nend done",
     "int n; int main() {\n#pragma dswp\nwhile (1) {\nn = n + 1;\nif (1 / (3 - n)) break; } } => state\nn 2\nregion 1 iterations 2 recovered 0\nend done",
     "int n = 3; int main() {\n#pragma dswp\nwhile (1) {\nif (1 / (3 - n)) break; } } => state\nn 3\nregion 1 iterations 1 recovered 1: 0\nend fault divide line 4",

@@ -92,6 +92,7 @@ const PROGRAMS: &[&str] = &[
     "int x = ; int main() { } => 3",
     "int a[1]; int main() { a[0]=2 } => 17",
     "int main() { while (1) { #pragma dswp while (0) { } } } => 10",
+    "int main() { while (1) { #pragma dswp for (i = 1; 2; i = 3) { } } } => 10",
     "int x; int main() { x = --x; } => 10",
     "void f() { for (i = 1; 2; i = 3) { if (4) { break; } } } => 23",
     "int => 1",
