@@ -1,3 +1,8 @@
+pub mod CallLemmas
+pub mod ExprLemmas
 pub mod FormLemmas
 pub mod MemoryLemmas
+pub mod OrderLemmas
 pub mod OutcomeLemmas
+pub mod RunLemmas
+pub mod StepLemmas
