@@ -2,3 +2,4 @@ pub mod Epochs
 pub mod Goes
 pub mod OpLemmas
 pub mod SendLemmas
+pub mod TurnLemmas

@@ -1,5 +1,5 @@
 //! Ops that take the words of an earlier stage's site.
-ghost use Rattle.std.specs.Prelude.{◌≡◌, ◌+◌};
+ghost use Rattle.std.specs.Prelude.{◌≡◌, ◌+◌, []};
 ghost use Rattle.dp_tree.specs.Eval.{place};
 ghost use Rattle.dp_code.specs.FlatRun as run;
 ghost use Rattle.dp_code.specs.declared.Op.TheVariants as op;
@@ -16,13 +16,13 @@ use dp_packet::VoidWhy;
 impl<'p, M: Memory + Drop> Turn<'p, M> {
     /// An earlier stage's store.
     #[inline(always)]
-    fn told(&mut self, frame: Frame<'p>, next: usize, site: SiteId, word: Word) -> Answer
+    fn told<'f>(&mut self, frame: Frame<'f>, next: usize, site: SiteId, word: Word) -> Answer
         requires first { frame.first ≡ first_site frame.program.now frame.plan.now }
         ensures { Does M.cells (run.Goes (record {
           place = next;
-          stack = (flat_of M.cells self.old).stack;
-          loads = (flat_of M.cells self.old).loads;
-          held = run.held_after frame.entry.program.now frame.entry.plan.now (flat_of M.cells self.old).held site.0 (effect.Stored word.index word.value) self.old.own self.old.lists;
+          stack = [];
+          loads = [];
+          held = run.held_after frame.entry.program.now frame.entry.plan.now (flat_of M.cells self.old).held site.0 (effect.Stored word.index word.value) self.old.teller.own self.old.lists;
         })) self.new result }
     {
         match self.memory.store(word.index, word.value) {
@@ -36,9 +36,9 @@ impl<'p, M: Memory + Drop> Turn<'p, M> {
     }
 
     #[inline(always)]
-    pub(crate) fn consume(
+    pub(crate) fn consume<'f>(
         &mut self,
-        frame: Frame<'p>,
+        frame: Frame<'f>,
         next: usize,
         site: SiteId,
         first: CellId,
@@ -64,7 +64,7 @@ impl<'p, M: Memory + Drop> Turn<'p, M> {
     }
 
     #[inline(always)]
-    pub(crate) fn consume_print(&mut self, frame: Frame<'p>, next: usize, site: SiteId) -> Answer
+    pub(crate) fn consume_print<'f>(&mut self, frame: Frame<'f>, next: usize, site: SiteId) -> Answer
         requires first { frame.first ≡ first_site frame.program.now frame.plan.now }
         requires behind { next ≡ self.old.place + 1 }
         ensures { Does M.cells (op_in_frame frame.entry (flat_of M.cells self.old) (op.ConsumePrint site)) self.new result }
@@ -80,9 +80,9 @@ impl<'p, M: Memory + Drop> Turn<'p, M> {
     }
 
     #[inline(always)]
-    pub(crate) fn consume_branch(
+    pub(crate) fn consume_branch<'f>(
         &mut self,
-        frame: Frame<'p>,
+        frame: Frame<'f>,
         next: usize,
         site: SiteId,
         zero: u32,

@@ -6,13 +6,13 @@ ghost use Rattle.dp_semantics.specs.Packets as packets;
 ghost use Rattle.dp_code.specs.Code.{stage_code};
 ghost use Rattle.dp_packet.specs.declared.PacketStatus.TheVariants as state;
 ghost use Rattle.dp_machine.specs.declared.Kept.TheVariants as kept;
-ghost use Rattle.dp_plan.specs.CheckedTable.{IsTabled};
+ghost use Rattle.dp_machine.specs.Engine.{IsReady};
 ghost use Rattle.dp_machine.specs.Standing.{StandsAt, Comes, Sends, Keeps, cells_kept, versioned_kept};
 
 use crate::clearing::cleared;
 use crate::sending::{send, with_status};
 use crate::turning::Rows;
-use crate::{Frame, Kept, Versioned};
+use crate::{Frame, Kept, Ready, Versioned};
 use dp_base::{Cells, NoMemory};
 use dp_packet::{Packet, PacketStatus};
 use dp_plan::{Plan, StageKind};
@@ -78,20 +78,21 @@ fn keep_versioned(memory: Option<Versioned>) -> Kept
 pub fn from_cells<'p>(
     alloc: Global,
     frame: Frame<'p>,
+    ready: &Ready<'p>,
     rows: &mut Rows,
     stage: u32,
     cells: Cells,
     packet: Packet,
 ) -> (Packet, Kept)
-    requires tabled { IsTabled frame.program.now frame.plan.now }
     requires first { frame.first ≡ first_site frame.program.now frame.plan.now }
+    requires ready { IsReady frame ready.now }
     requires code { frame.code.now ≡ stage_code frame.program.now frame.plan.now stage }
     requires numbered { 0 < stage }
     requires going { packet.status ≡ state.Going ⊎ packet.status ≡ state.Closing }
     ensures sent { (key : packets.Epoch) (n : ℕ) → StandsAt frame.entry stage (kept.Cells cells) key n → Comes stage key n packet → Sends frame.entry stage result.1 key n result.0 }
     ensures number { result.0.iteration ≡ packet.iteration }
 {
-    let sent = send(alloc, frame, rows, stage, cells, None, packet);
+    let sent = send(alloc, frame, ready, rows, stage, cells, None, packet);
     let next = cleared(frame, sent);
     (next.packet, keep_cells(next.memory))
 }
@@ -100,13 +101,14 @@ pub fn from_cells<'p>(
 pub fn from_versioned<'p>(
     alloc: Global,
     frame: Frame<'p>,
+    ready: &Ready<'p>,
     rows: &mut Rows,
     stage: u32,
     both: Versioned,
     packet: Packet,
 ) -> (Packet, Kept)
-    requires tabled { IsTabled frame.program.now frame.plan.now }
     requires first { frame.first ≡ first_site frame.program.now frame.plan.now }
+    requires ready { IsReady frame ready.now }
     requires code { frame.code.now ≡ stage_code frame.program.now frame.plan.now stage }
     requires numbered { 0 < stage }
     requires going { packet.status ≡ state.Going ⊎ packet.status ≡ state.Closing }
@@ -116,7 +118,7 @@ pub fn from_versioned<'p>(
     let mut both = both;
     match both.snapshot() {
         Ok(version) => {
-            let sent = send(alloc, frame, rows, stage, both, Some(version), packet);
+            let sent = send(alloc, frame, ready, rows, stage, both, Some(version), packet);
             let next = cleared(frame, sent);
             (next.packet, keep_versioned(next.memory))
         }
@@ -128,12 +130,13 @@ pub fn from_versioned<'p>(
 pub fn from_packet<'p>(
     alloc: Global,
     frame: Frame<'p>,
+    ready: &Ready<'p>,
     rows: &mut Rows,
     stage: u32,
     packet: Packet,
 ) -> (Packet, Kept)
-    requires tabled { IsTabled frame.program.now frame.plan.now }
     requires first { frame.first ≡ first_site frame.program.now frame.plan.now }
+    requires ready { IsReady frame ready.now }
     requires code { frame.code.now ≡ stage_code frame.program.now frame.plan.now stage }
     requires fits { fits_plan frame.program.now frame.plan.now ≡ true }
     requires numbered { 0 < stage }
@@ -155,7 +158,7 @@ pub fn from_packet<'p>(
     };
     match version {
         Some(memory) => {
-            let sent = send(alloc, frame, rows, stage, memory, None, bare);
+            let sent = send(alloc, frame, ready, rows, stage, memory, None, bare);
             (sent.packet, Kept::Nothing)
         }
         None => (with_status(bare, PacketStatus::NoMemory), Kept::Nothing),

@@ -3,8 +3,9 @@
 //! One loop over ops serves each kind of memory that a stage runs on.
 #![tactic(auto)]
 
-use dp_base::{Cells, Row, Word};
+use dp_base::{Cells, Row, SiteId, Word};
 use dp_code::Op;
+use dp_engine::Code;
 use dp_packet::{Cursor, Packet, VoidWhy};
 use dp_plan::Plan;
 use dp_tree::Program;
@@ -13,16 +14,15 @@ mod clearing;
 mod consuming;
 mod faults;
 mod going;
-mod memory;
+mod making;
 mod ops;
 mod producing;
 mod sending;
 mod stage;
 mod turning;
-mod values;
 mod words;
 
-pub use memory::{Memory, Versioned};
+pub use dp_engine::{Memory, Versioned};
 pub use stage::StageMachine;
 pub use turning::turn_over;
 
@@ -34,16 +34,37 @@ pub enum Answer {
     /// The turn is at its end.
     Done,
     Void(VoidWhy),
+    /// Memory was wanting, or the op finds no operand, or none stands there.
     NoMemory,
-    /// The op finds no operand, or no op stands there.
-    Stuck,
 }
 
-/// A load since the last site.
+/// What is known of a place before it is run.
 #[derive(Clone, Copy)]
-pub struct Noted {
-    pub cell: u32,
-    pub value: i64,
+pub struct Note {
+    /// The site that is evaluated there.
+    pub site: SiteId,
+    /// Its loads are told.
+    pub checked: bool,
+    /// The op there gives a value.
+    pub gives: bool,
+}
+
+/// A code that is ready to be run.
+#[derive(Drop)]
+pub struct Ready<'p> {
+    pub code: Code<'p>,
+    /// One for each place.
+    pub notes: Row<Note>,
+}
+
+/// The words of a stage, while it makes them.
+#[derive(Drop)]
+pub struct Teller {
+    pub own: Row<Word>,
+    /// The place that is run.
+    pub at: Note,
+    /// A load's word found no room.
+    pub wanting: bool,
 }
 
 /// What a turn is run on.
@@ -57,17 +78,16 @@ pub struct Frame<'p> {
     pub first: u32,
 }
 
-/// A turn between two ops.
+/// A turn between two sites.
 #[derive(Drop)]
 pub struct Turn<'p, M> {
     pub place: usize,
-    /// The top comes last.
+    /// What an evaluation works on.
     pub stack: Row<i64>,
-    pub loads: Row<Noted>,
     pub memory: M,
     /// What is left of each earlier stage's words.
     pub lists: Row<Cursor<'p>>,
-    pub own: Row<Word>,
+    pub teller: Teller,
     pub closing: bool,
 }
 

@@ -6,11 +6,11 @@ ghost use Rattle.dp_semantics.specs.Packets as packets;
 ghost use Rattle.dp_code.specs.Correct.{IsStageCode};
 ghost use Rattle.dp_packet.specs.Packet.{packet_of, status_of, IsUnless};
 ghost use Rattle.dp_packet.specs.declared.PacketStatus.TheVariants as state;
-ghost use Rattle.dp_plan.specs.CheckedTable.{IsTabled};
+ghost use Rattle.dp_machine.specs.Engine.{IsReady};
 ghost use Rattle.dp_machine.specs.Sending.{AsTurned, IsSent, key_of};
 
 use crate::turning::{Rows, stage_turn};
-use crate::{Frame, Memory, Sent, Turned};
+use crate::{Frame, Memory, Ready, Sent, Turned};
 use dp_base::{Row, Word};
 use dp_memory::Version;
 use dp_packet::{Packet, PacketStatus};
@@ -113,20 +113,21 @@ fn passed<M: Memory + Drop>(
 pub fn send<'p, M: Memory + Drop>(
     alloc: Global,
     frame: Frame<'p>,
+    ready: &Ready<'p>,
     rows: &mut Rows,
     stage: u32,
     memory: M,
     version: Option<Version>,
     packet: Packet,
 ) -> Sent<M>
-    requires tabled { IsTabled frame.program.now frame.plan.now }
     requires first { frame.first ≡ first_site frame.program.now frame.plan.now }
+    requires ready { IsReady frame ready.now }
     requires code { IsStageCode frame.program.now frame.plan.now stage frame.code.now }
     requires going { packet.status ≡ state.Going ⊎ packet.status ≡ state.Closing }
     ensures sent { (base : List ℤ) → version ≡ packets.version_of (key_of frame.entry base) stage (M.cells memory) →
         IsSent M.cells (packets.run_on (key_of frame.entry base) stage (M.cells memory) (packet_of packet)) result.packet result.memory }
     ensures number { result.packet.iteration ≡ packet.iteration }
 {
-    let left = stage_turn(alloc, frame, rows, memory, packet.lists.as_slice());
+    let left = stage_turn(alloc, frame, ready, rows, memory, packet.lists.as_slice());
     passed(packet, stage, version, left)
 }

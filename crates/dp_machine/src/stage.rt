@@ -4,10 +4,12 @@ ghost use Rattle.dp_plan.specs.Access.{first_site};
 ghost use Rattle.dp_semantics.specs.Fits.{fits_plan};
 ghost use Rattle.dp_code.specs.Code.{stage_code};
 ghost use Rattle.dp_plan.specs.CheckedTable.{IsTabled};
+ghost use Rattle.dp_machine.specs.Engine.{notes_of};
 
 use crate::going::{from_cells, from_packet, from_versioned, kept_at_base};
+use crate::making::make_ready;
 use crate::turning::Rows;
-use crate::{Frame, Kept};
+use crate::{Frame, Kept, Ready};
 use dp_base::{Cells, NoMemory};
 use dp_code::StageProgram;
 use dp_packet::{Packet, PacketStatus};
@@ -21,11 +23,14 @@ use std::mem;
 pub struct StageMachine<'p> {
     alloc: Global,
     frame: Frame<'p>,
+    ready: Ready<'p>,
     /// From 1.
     stage: u32,
     kept: Kept,
     rows: Rows,
-    ghost tabled: { IsTabled frame.program.now frame.plan.now },
+    ghost ops: { ready.code.ops.now ≡ frame.code.now },
+    ghost input: { ready.code.input.now ≡ frame.input.now },
+    ghost notes: { ready.notes ≡ notes_of frame.program.now frame.plan.now frame.code.now },
     ghost first: { frame.first ≡ first_site frame.program.now frame.plan.now },
     ghost code: { frame.code.now ≡ stage_code frame.program.now frame.plan.now stage },
     ghost fits: { fits_plan frame.program.now frame.plan.now ≡ true },
@@ -76,9 +81,11 @@ impl<'p> StageMachine<'p> {
             code: code.ops.as_slice(),
             first: first_site_of(p, plan),
         };
+        let ready = make_ready(alloc, frame)?;
         Ok(StageMachine {
             alloc,
             frame,
+            ready,
             stage,
             kept,
             rows: Rows::new(alloc)?,
@@ -113,6 +120,7 @@ impl<'p> StageMachine<'p> {
             Kept::Cells(cells) => from_cells(
                 self.alloc,
                 self.frame,
+                &self.ready,
                 &mut self.rows,
                 self.stage,
                 cells,
@@ -121,6 +129,7 @@ impl<'p> StageMachine<'p> {
             Kept::Versioned(both) => from_versioned(
                 self.alloc,
                 self.frame,
+                &self.ready,
                 &mut self.rows,
                 self.stage,
                 both,
@@ -129,6 +138,7 @@ impl<'p> StageMachine<'p> {
             Kept::Nothing => from_packet(
                 self.alloc,
                 self.frame,
+                &self.ready,
                 &mut self.rows,
                 self.stage,
                 packet,

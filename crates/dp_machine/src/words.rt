@@ -1,88 +1,64 @@
 //! The words of a site, made and found.
-ghost use Rattle.std.specs.Prelude.{◌≡◌, ◌+◌, ◌++◌, OnOk, length, [], map, if◌then◌else◌};
-ghost use Rattle.dp_plan.specs.CheckedTable.{IsTabled};
-ghost use Rattle.dp_machine.specs.Engine.{load_of, words_for, Added, Took};
-ghost use Rattle.dp_semantics.specs.Words.{load_words, word_list, after_loads_of};
+ghost use Rattle.std.specs.Prelude.{◌≡◌, ◌+◌, ◌++◌, ◌∷◌, [], length, true};
+ghost use Rattle.dp_machine.specs.Engine.{tells, Added, Took};
+ghost use Rattle.dp_semantics.specs.Words.{word_list, after_loads_of};
 
-use crate::{Answer, Frame, Noted};
+use crate::{Answer, Frame, Teller};
 use dp_base::{NoMemory, Row, SiteId, Word, WordKind};
+use dp_engine::Watch;
 use dp_packet::{Cursor, VoidWhy};
 
-/// Appends the words of loads.
-fn add_loads(own: &mut Row<Word>, loads: &[Noted], site: SiteId) -> Result<(), NoMemory>
-    ensures { OnOk result (own.new ≡ own.old ++ load_words site.0 (map load_of loads.now)) }
-{
-    for noted in loads {
-        own.push(Word {
-            site,
+impl Teller {
+    /// The word of a load.
+    #[inline(always)]
+    fn note(&mut self, cell: u32, value: i64)
+        requires checked { self.old.at.checked ≡ true }
+        ensures { tells self.old cell value self.new }
+    {
+        let word = Word {
+            site: self.at.site,
             kind: WordKind::Load,
-            index: noted.cell,
-            value: noted.value,
-        })?;
+            index: cell,
+            value,
+        };
+        match self.own.push(word) {
+            Ok(()) => {}
+            Err(_) => self.wanting = true,
+        }
     }
-    Ok(())
-}
 
-/// How many loads count: all of them, or none.
-#[inline(always)]
-fn noted(checked: bool, loads: &[Noted]) -> usize
-    ensures { result ≡ (if checked then length loads.now else 0) }
-{
-    if checked { loads.len() } else { 0 }
-}
-
-/// Appends the words of loads, or none.
-#[inline(always)]
-fn add_noted(
-    checked: bool,
-    own: &mut Row<Word>,
-    loads: &[Noted],
-    site: SiteId,
-) -> Result<(), NoMemory>
-    ensures { OnOk result (own.new ≡ own.old ++ (if checked then load_words site.0 (map load_of loads.now) else [])) }
-{
-    if checked {
-        add_loads(own, loads, site)?;
-    }
-    Ok(())
-}
-
-/// Adds the words of an evaluation, unless they don't fit. Afterwards no load is noted.
-#[inline(always)]
-pub fn add_words<'p>(
-    frame: Frame<'p>,
-    own: &mut Row<Word>,
-    loads: &mut Row<Noted>,
-    site: SiteId,
-    index: u32,
-    value: i64,
-) -> Answer
-    requires tabled { IsTabled frame.program.now frame.plan.now }
-    ensures { Added frame.entry own.old loads.old (words_for frame.entry loads.old site index value) own.new loads.new result }
-{
-    let checked = frame.plan.checked(frame.program, site);
-    let room = (frame.plan.words as usize).saturating_sub(own.len());
-    if room <= noted(checked, loads.as_slice()) {
-        return Answer::Void(VoidWhy::Full);
-    }
-    match add_noted(checked, own, loads.as_slice(), site) {
-        Ok(()) => {}
-        Err(_) => {
+    /// The word of what a site did, unless the words don't fit.
+    #[inline(always)]
+    pub fn done(&mut self, limit: u32, index: u32, value: i64) -> Answer
+        ensures { Added limit self.old index value self.new result }
+    {
+        if self.wanting {
             return Answer::NoMemory;
         }
-    }
-    let done = Word {
-        site,
-        kind: WordKind::Done,
-        index,
-        value,
-    };
-    match own.push(done) {
-        Ok(()) => {
-            loads.clear();
-            Answer::Goes
+        if self.own.len() >= limit as usize {
+            return Answer::Void(VoidWhy::Full);
         }
-        Err(_) => Answer::NoMemory,
+        let word = Word {
+            site: self.at.site,
+            kind: WordKind::Done,
+            index,
+            value,
+        };
+        match self.own.push(word) {
+            Ok(()) => Answer::Goes,
+            Err(_) => Answer::NoMemory,
+        }
+    }
+}
+
+impl Watch for Teller {
+    ghost told = { λ old cell value new. tells old cell value new };
+
+    #[inline(always)]
+    fn load(&mut self, cell: u32, value: i64) {
+        if self.at.checked {
+            self.note(cell, value)
+        }
     }
 }
 
@@ -118,8 +94,8 @@ fn list_of<'p>(lists: &[Cursor<'p>], stage: u32) -> &'p [Word]
 
 /// The word of what a site did is taken from its stage's list.
 #[inline(always)]
-pub fn take<'p>(
-    frame: Frame<'p>,
+pub fn take<'f, 'p>(
+    frame: Frame<'f>,
     lists: &mut Row<Cursor<'p>>,
     site: SiteId,
 ) -> Result<Word, VoidWhy>
