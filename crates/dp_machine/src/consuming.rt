@@ -64,7 +64,12 @@ impl<'p, M: Memory + Drop> Turn<'p, M> {
     }
 
     #[inline(always)]
-    pub(crate) fn consume_print<'f>(&mut self, frame: Frame<'f>, next: usize, site: SiteId) -> Answer
+    pub(crate) fn consume_print<'f>(
+        &mut self,
+        frame: Frame<'f>,
+        next: usize,
+        site: SiteId,
+    ) -> Answer
         requires first { frame.first ≡ first_site frame.program.now frame.plan.now }
         requires behind { next ≡ self.old.place + 1 }
         ensures { Does M.cells (op_in_frame frame.entry (flat_of M.cells self.old) (op.ConsumePrint site)) self.new result }

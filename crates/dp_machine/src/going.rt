@@ -118,7 +118,16 @@ pub fn from_versioned<'p>(
     let mut both = both;
     match both.snapshot() {
         Ok(version) => {
-            let sent = send(alloc, frame, ready, rows, stage, both, Some(version), packet);
+            let sent = send(
+                alloc,
+                frame,
+                ready,
+                rows,
+                stage,
+                both,
+                Some(version),
+                packet,
+            );
             let next = cleared(frame, sent);
             (next.packet, keep_versioned(next.memory))
         }
