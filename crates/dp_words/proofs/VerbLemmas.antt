@@ -7,7 +7,13 @@ use Rattle.std.specs.declared.alloc.Global.{Global}
 use Rattle.std.proofs.lemmas.Slice.Eq.{bytes_eq-Decides}
 use Rattle.clap.specs.Words.{App, Text}
 use Rattle.dp_words.specs.Commands.{check_app, gen_app, plan_app, profile_app, run_app}
-use Rattle.dp_words.specs.Words.{Asks, AsksBy, AsksFor, AsksMade, AsksNothing, AsksPlans, AsksProfile, AsksSites, Behind, Names, ShowsMade, ShowsPlanning, ShowsProfiling, ShowsRun, ShowsSites, Values}
+use Rattle.dp_words.specs.Words.{Asks, AsksBy, AsksFor, AsksMade, AsksNothing, AsksPlans, AsksProfile, AsksSites, Behind, Names}
+use Rattle.dp_words.specs.Values.{Values}
+use Rattle.dp_words.specs.Run.{ShowsRun}
+use Rattle.dp_words.specs.Planning.{ShowsPlanning}
+use Rattle.dp_words.specs.Sites.{ShowsSites}
+use Rattle.dp_words.specs.Profiling.{ShowsProfiling}
+use Rattle.dp_words.specs.Made.{ShowsMade}
 use Rattle.dp_words.specs.declared.task.Task.{Task}
 
 abbrev texts : List (String Global) → List Text

@@ -25,7 +25,9 @@ use Rattle.dswp.specs.declared.load.Loaded.{Loaded}
 use Rattle.dswp.specs.declared.load.Loaded.TheVariants.{Text, Refused, Failed}
 use Rattle.dswp.specs.Loading.{LoadsProgram, Gives}
 use Rattle.dswp.proofs.TextsLemmas.{source_of, refusal_read}
-use Rattle.dp_words.specs.Words.{Run, Planning, Least, Asks, AsksPlans, AsksSites, AsksNothing}
+use Rattle.dp_words.specs.Words.{Asks, AsksPlans, AsksSites, AsksNothing}
+use Rattle.dp_words.specs.Run.{Run, Least}
+use Rattle.dp_words.specs.Planning.{Planning}
 use Rattle.dp_plan.specs.declared.Plan.{Plan}
 use Rattle.dp_crew.specs.Fail.{FaultsAfter}
 use Rattle.dp_run.specs.RunText.{source_run, trace_text, committed_in_all}

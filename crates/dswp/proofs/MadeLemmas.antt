@@ -13,7 +13,8 @@ use Rattle.dp_report.specs.Generator.{made_text, next_number, words_after}
 use Rattle.dp_plan.specs.declared.Plan.{Plan}
 use Rattle.dp_run.specs.RunText.{source_run, trace_text, committed_in_all}
 use Rattle.dp_words.specs.declared.task.GenWords.{GenWords}
-use Rattle.dp_words.specs.Words.{AsksMade, MadeWithin}
+use Rattle.dp_words.specs.Words.{AsksMade}
+use Rattle.dp_words.specs.Made.{MadeWithin}
 use Rattle.dp_plan.specs.GivenPlans.{ArePlans}
 use Rattle.dp_run.specs.Given.{AreGiven}
 use Rattle.dswp.specs.declared.refusal.Refusal.{Refusal}

@@ -9,7 +9,8 @@ use Rattle.dp_profile.specs.Observed.{observed}
 use Rattle.dp_profile.specs.WrittenText.{profile_text}
 use Rattle.dp_crew.specs.declared.fail.CrewFail.{CrewFail}
 use Rattle.dp_run.specs.RunText.{source_run}
-use Rattle.dp_words.specs.Words.{Profiling, AsksProfile}
+use Rattle.dp_words.specs.Words.{AsksProfile}
+use Rattle.dp_words.specs.Profiling.{Profiling}
 use Rattle.dswp.specs.declared.load.Loaded.{Loaded}
 use Rattle.dswp.specs.declared.load.Loaded.TheVariants.{Text, Refused, Failed}
 use Rattle.dswp.specs.declared.refusal.Refusal.{Refusal}

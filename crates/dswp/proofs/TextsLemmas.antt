@@ -8,8 +8,8 @@ use Rattle.dp_plan.specs.declared.Plan.{Plan}
 use Rattle.dp_plan.specs.GivenPlans.{ArePlans}
 use Rattle.dp_words.specs.declared.task.PlanOptions.{PlanOptions}
 use Rattle.dp_calls.specs.Expand.{expand}
-use Rattle.dp_words.specs.Words as source
-use Rattle.dp_words.specs.Words.{Run, Least}
+use Rattle.dp_words.specs.Run as source
+use Rattle.dp_words.specs.Run.{Run, Least}
 use Rattle.dp_profile.specs.declared.Profile.{Profile}
 use Rattle.dswp.specs.Plans.{MakesPlans}
 use Rattle.dswp.specs.declared.refusal.Role.{Role}

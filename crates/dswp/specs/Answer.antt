@@ -16,8 +16,11 @@ use Rattle.dp_report.specs.Generator.{made_text}
 use Rattle.dp_report.specs.SiteText.{site_bytes}
 use Rattle.dp_words.specs.declared.task.GenWords.{GenWords}
 use Rattle.dp_words.specs.declared.task.PlanOptions.{PlanOptions}
-use Rattle.dp_words.specs.Words as source
-use Rattle.dp_words.specs.Words.{Run, Planning, Profiling, Source, Least, Asks, AsksMade, AsksPlans, AsksProfile, AsksSites, AsksNothing}
+use Rattle.dp_words.specs.Run as source
+use Rattle.dp_words.specs.Words.{Asks, AsksMade, AsksPlans, AsksProfile, AsksSites, AsksNothing}
+use Rattle.dp_words.specs.Run.{Run, Source, Least}
+use Rattle.dp_words.specs.Planning.{Planning}
+use Rattle.dp_words.specs.Profiling.{Profiling}
 use Rattle.dp_run.specs.RunText.{source_run, committed_in_all}
 use Rattle.dp_plan.specs.declared.Plan.{Plan}
 use Rattle.dp_profile.specs.declared.Profile.{Profile}

@@ -12,7 +12,7 @@ use Rattle.dp_crew.specs.declared.fail.CrewFail.TheVariants.{NoMemory}
 use Rattle.dswp.specs.declared.texts.Texts.{Texts}
 use Rattle.dswp.specs.declared.texts.Texts.TheVariants as texts
 use Rattle.dswp.specs.Refusal.{failed_read_line}
-use Rattle.dp_words.specs.Words.{Run}
+use Rattle.dp_words.specs.Run.{Run}
 use Rattle.dp_plan.specs.declared.Plan.{Plan}
 use Rattle.dp_plan.specs.GivenPlans.{ArePlans}
 use Rattle.dp_crew.specs.Output.{WritesFront}

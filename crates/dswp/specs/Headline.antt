@@ -6,7 +6,8 @@ use Rattle.dswp.specs.declared.refusal.Role.{Role}
 use Rattle.dswp.specs.Refusal.{failed_read_line}
 use Rattle.dp_crew.specs.Output.{WritesFront}
 use Rattle.dp_words.specs.declared.task.GenWords.{GenWords}
-use Rattle.dp_words.specs.Words.{Run, Asks, AsksMade}
+use Rattle.dp_words.specs.Words.{Asks, AsksMade}
+use Rattle.dp_words.specs.Run.{Run}
 use Rattle.dswp.specs.Answer.{Contents, Answer, Commits, IsRead}
 
 -- No read and no write failed: the whole answer was written and the status is its own, or memory was wanting, which is

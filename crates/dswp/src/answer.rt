@@ -2,7 +2,8 @@
 ghost use Rattle.std.specs.Prelude.{◌≡◌, ◌<◌, ◌≤◌, ◌-◌, ◌^◌, ℕ, List, map, string_bytes, IfOk};
 ghost use Rattle.dp_report.specs.SiteText.{site_bytes};
 ghost use Rattle.dp_crew.specs.Fail.{FaultsAfter};
-ghost use Rattle.dp_words.specs.Words.{Asks, AsksSites, RunWithin, shown};
+ghost use Rattle.dp_words.specs.Words.{Asks, AsksSites};
+ghost use Rattle.dp_words.specs.Run.{RunWithin, shown};
 ghost use Rattle.dswp.specs.Headline.{Answered, IsCounted, ReadFailed, WriteFailed};
 ghost use Rattle.dswp.specs.Carried.{Carried, Finishes};
 ghost use Rattle.dswp.specs.Status.{status_after};

@@ -11,7 +11,10 @@ use Rattle.dswp.specs.Refusal.{refusal_line, refusal_status}
 use Rattle.dswp.specs.RunText.{run_text, status_of}
 use Rattle.dp_words.specs.declared.task.PlanOptions.{PlanOptions}
 use Rattle.dp_words.specs.declared.task.GenWords.{GenWords}
-use Rattle.dp_words.specs.Words.{Run, Planning, Profiling, Least, Asks, AsksMade, AsksPlans, AsksProfile, AsksSites, AsksNothing}
+use Rattle.dp_words.specs.Words.{Asks, AsksMade, AsksPlans, AsksProfile, AsksSites, AsksNothing}
+use Rattle.dp_words.specs.Run.{Run, Least}
+use Rattle.dp_words.specs.Planning.{Planning}
+use Rattle.dp_words.specs.Profiling.{Profiling}
 use Rattle.dp_plan.specs.declared.Plan.{Plan}
 use Rattle.dp_plan.specs.WrittenText.{plans_text}
 use Rattle.dp_profile.specs.Observed.{observed}

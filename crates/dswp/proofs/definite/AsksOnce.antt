@@ -6,7 +6,13 @@ use Rattle.clap.specs.Words.{App, Text}
 use Rattle.dp_words.proofs.VerbLemmas.{apart, behind, named_behind, verb_is}
 use Rattle.dp_words.specs.Commands.{check_app, gen_app, plan_app, profile_app, run_app, value_in}
 use Rattle.dp_words.specs.declared.task.GenWords.{GenWords}
-use Rattle.dp_words.specs.Words.{Run, Planning, Profiling, Source, Asks, AsksBy, AsksMade, AsksPlans, AsksProfile, AsksSites, ShowsMade, ShowsPlanning, ShowsProfiling, ShowsRun, ShowsSites, Values, default_fuel, default_rate, default_stages, fuel_in, lane_in, options_in, workers_in}
+use Rattle.dp_words.specs.Words.{Asks, AsksBy, AsksMade, AsksPlans, AsksProfile, AsksSites}
+use Rattle.dp_words.specs.Values.{Values, default_fuel, default_rate, default_stages, fuel_in, lane_in, options_in, workers_in}
+use Rattle.dp_words.specs.Run.{Run, Source, ShowsRun}
+use Rattle.dp_words.specs.Planning.{Planning, ShowsPlanning}
+use Rattle.dp_words.specs.Sites.{ShowsSites}
+use Rattle.dp_words.specs.Profiling.{Profiling, ShowsProfiling}
+use Rattle.dp_words.specs.Made.{ShowsMade}
 use Rattle.dswp.specs.Headline.{AskForRun, OfNamed, OfMade}
 
 -- whether a flag was given, by the number of letters of its value

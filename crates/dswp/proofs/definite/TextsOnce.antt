@@ -4,8 +4,11 @@ use Rattle.dp_tree.specs.declared.Program.{Program}
 use Rattle.dp_calls.specs.Expand.{expand}
 use Rattle.dswp.specs.declared.refusal.Refusal.{Refusal}
 use Rattle.dp_words.specs.declared.task.PlanOptions.{PlanOptions}
-use Rattle.dp_words.specs.Words as source
-use Rattle.dp_words.specs.Words.{Run, Planning, Profiling, Source, Least, Asks, AsksMade, AsksPlans, AsksProfile, AsksSites, AsksNothing}
+use Rattle.dp_words.specs.Run as source
+use Rattle.dp_words.specs.Words.{Asks, AsksMade, AsksPlans, AsksProfile, AsksSites, AsksNothing}
+use Rattle.dp_words.specs.Run.{Run, Source, Least}
+use Rattle.dp_words.specs.Planning.{Planning}
+use Rattle.dp_words.specs.Profiling.{Profiling}
 use Rattle.dp_plan.specs.declared.Plan.{Plan}
 use Rattle.dp_profile.specs.declared.Profile.{Profile}
 use Rattle.dp_calls.proofs.InlinedLaws.{expanded_is_inlined}
