@@ -1,7 +1,6 @@
-use Rattle.std.proofs.Common.{◌≡◌, refl, sym, ap, ◌∙◌, subst, List, [], ◌∷◌, ◌++◌, ◌+◌, length, drop, arith}
+use Rattle.std.proofs.Common.{subst, List, []}
 use Rattle.dp_tree.specs.declared.Stmt.{Stmt}
-use Rattle.dp_cause.specs.Watching.{Told, Leads, walk_from}
-use Rattle.dp_cause.specs.declared.watched.Looked.TheVariants as looked
+use Rattle.dp_cause.specs.Watching.{Told, walk_from}
 use Rattle.dp_cause.proofs.StepLemmas as steps
 use Rattle.dp_cause.proofs.watched.Watched.find.Goals as goal
 

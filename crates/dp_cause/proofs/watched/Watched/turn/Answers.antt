@@ -1,7 +1,5 @@
-use Rattle.std.proofs.Common.{rules, to_z, of_z, w64, ◌≡◌, refl, sym, ap, ◌∙◌, subst, List, [], ◌∷◌, ◌++◌, ◌+◌, length, drop, arith}
+use Rattle.std.proofs.Common.{rules, to_z, of_z, w64, ◌≡◌, refl, sym, ap, ◌∙◌, []}
 use Rattle.dp_base.specs.Arithmetic.{is_zero}
-use Rattle.dp_tree.specs.declared.Stmt.{Stmt}
-use Rattle.dp_cause.specs.Watching.{Told, Leads, walk_from}
 use Rattle.dp_cause.specs.declared.watched.Looked.TheVariants as looked
 use Rattle.dp_cause.proofs.StepLemmas as steps
 use Rattle.dp_cause.proofs.watched.Watched.turn.Goals as goal
