@@ -2,14 +2,14 @@
 ghost use Rattle.std.specs.Prelude.{◌≡◌, ◌<◌, Ok, Err, OnOk, MatchResult};
 ghost use Rattle.dp_tree.specs.Eval.{result_of};
 ghost use Rattle.dp_tree.specs.Step as definition;
-ghost use Rattle.dp_tree.specs.Step.{evaluated, choose, Stored};
+ghost use Rattle.dp_tree.specs.Step.{evaluated, Stored};
 ghost use Rattle.dp_tree.specs.declared.Stmt.TheOpen as layer;
 ghost use Rattle.dp_meaning.specs.Watched.{Told, loads_of};
 
-use crate::evaluate::{count_of, evaluate_watched, first_of, is_zero, placed};
+use crate::evaluate::{count_of, evaluate_watched, first_of, placed};
 use crate::watch::{Unwatched, Watch};
 use dp_base::{Fault, FaultKind, SiteId, VarId};
-use dp_tree::{Expr, Program, Stmt};
+use dp_tree::{Expr, Program};
 
 /// The element's cell and the value to be stored there. The index comes first, then the value, then the bound.
 #[tactic(auto, using(crate::proofs::EvaluatedLemmas::elements))]
@@ -47,12 +47,6 @@ pub(crate) fn element(
 {
     let mut unwatched = Unwatched;
     element_watched(program, input, cells, var, index, value, &mut unwatched)
-}
-
-pub(crate) fn chosen<'p>(value: i64, then_part: &'p [Stmt], else_part: &'p [Stmt]) -> &'p [Stmt]
-    ensures { result.now ≡ choose value then_part.now else_part.now }
-{
-    if is_zero(value) { else_part } else { then_part }
 }
 
 pub(crate) fn fault_at(program: &Program, site: SiteId, kind: FaultKind) -> Fault
