@@ -1,6 +1,8 @@
 pub mod MemoryLemmas
 pub mod EvaluatedLemmas
 pub mod WatchLemmas
+pub mod ChainLemmas
+pub mod GivesLemmas
 pub mod SeenLemmas
 pub mod OuterLemmas
 pub mod FollowedLemmas

@@ -10,3 +10,4 @@ pub mod IterationRun
 pub mod NextIteration
 pub mod Turn
 pub mod Watched
+pub mod Chain

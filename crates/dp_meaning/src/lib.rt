@@ -2,10 +2,12 @@
 //! after any number of steps.
 #![tactic(auto)]
 
+mod chain;
 mod code;
 mod ends;
 mod evaluate;
 mod flat;
+mod follow;
 mod loads;
 mod machine;
 mod memory;

@@ -7,7 +7,7 @@ ghost use Rattle.dp_tree.specs.declared.Stmt.TheOpen as layer;
 ghost use Rattle.dp_meaning.specs.Watched.{Told, loads_of};
 
 use crate::evaluate::{count_of, evaluate_watched, first_of, placed};
-use crate::watch::{Unwatched, Watch};
+use crate::watch::Watch;
 use dp_base::{Fault, FaultKind, SiteId, VarId};
 use dp_tree::{Expr, Program};
 
@@ -30,23 +30,6 @@ pub(crate) fn element_watched<W: Watch>(
     let value = evaluate_watched(program, input, cells, value, watch)?;
     let place = placed(i, count_of(program, var))?;
     Ok((first_of(program, var) + place, value))
-}
-
-/// The same, which nothing watches.
-#[inline(always)]
-pub(crate) fn element(
-    program: &Program,
-    input: &[i64],
-    cells: &[i64],
-    var: VarId,
-    index: &Expr,
-    value: &Expr,
-) -> Result<(usize, i64), FaultKind>
-    ensures { let evaluation = result_of (evaluated program.now input.now cells.now (layer.Store (record { 0 = 0 }) var index.now value.now)) in
-        MatchResult result (λ store. evaluation ≡ Ok (Stored store.0 store.1)) (λ kind. evaluation ≡ Err kind) }
-{
-    let mut unwatched = Unwatched;
-    element_watched(program, input, cells, var, index, value, &mut unwatched)
 }
 
 pub(crate) fn fault_at(program: &Program, site: SiteId, kind: FaultKind) -> Fault

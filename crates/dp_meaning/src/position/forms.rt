@@ -4,15 +4,16 @@ ghost use Rattle.dp_tree.specs.Eval.{eval};
 ghost use Rattle.dp_tree.specs.Step.{step_by, standing, stored, value_of, evaluated, decided, tried, choose_cells, clear_locals};
 ghost use Rattle.dp_tree.specs.declared.Stmt.TheOpen as layer;
 ghost use Rattle.dp_base.specs.Arithmetic.{is_zero};
+ghost use Rattle.dp_meaning.specs.Chain.{value_expr, index_expr};
 ghost use Rattle.dp_meaning.specs.Places.{rest_at, config_at};
 ghost use Rattle.dp_meaning.specs.Turn.{Made};
 
 use super::Position;
 use crate::code::Code;
 use crate::ends::Part;
-use crate::evaluate::{evaluate, first_of, is_zero};
+use crate::evaluate::{first_of, is_zero};
 use crate::node::Node;
-use crate::statement::{element, fault_at};
+use crate::statement::fault_at;
 use crate::turn::Turn;
 use dp_base::{NoMemory, Row, SiteId, VarId};
 use dp_tree::Expr;
@@ -27,9 +28,11 @@ impl Position {
         var: VarId,
         value: &Expr,
     ) -> Turn
+        requires program { node.now.program ≡ code.now }
+        requires value { value_expr node.now.statement ≡ value.now }
         ensures { (out : List ℤ) → Made Part.Plain (step_by code.now site (evaluated code.now input.now self.old.cells (layer.Assign site var value.now)) (λ effect. standing code.now (rest_at code.now node.now.next) (stored effect self.old.cells))) result (config_at code.now self.old) (config_at code.now self.new) out out }
     {
-        match evaluate(code.program(), input, self.cells.as_slice(), value) {
+        match node.evaluate(input, self.cells.as_slice()) {
             Ok(value) => {
                 self.store(first_of(code.program(), var), value);
                 self.go(code, node.next());
@@ -49,16 +52,12 @@ impl Position {
         index: &Expr,
         value: &Expr,
     ) -> Turn
+        requires program { node.now.program ≡ code.now }
+        requires value { value_expr node.now.statement ≡ value.now }
+        requires index { index_expr node.now.statement ≡ index.now }
         ensures { (out : List ℤ) → Made Part.Plain (step_by code.now site (evaluated code.now input.now self.old.cells (layer.Store site var index.now value.now)) (λ effect. standing code.now (rest_at code.now node.now.next) (stored effect self.old.cells))) result (config_at code.now self.old) (config_at code.now self.new) out out }
     {
-        match element(
-            code.program(),
-            input,
-            self.cells.as_slice(),
-            var,
-            index,
-            value,
-        ) {
+        match node.element(input, self.cells.as_slice(), var) {
             Ok((cell, value)) => {
                 self.store(cell, value);
                 self.go(code, node.next());
@@ -77,10 +76,12 @@ impl Position {
         value: &Expr,
         out: &mut Row<i64>,
     ) -> Result<Turn, NoMemory>
+        requires program { node.now.program ≡ code.now }
+        requires value { value_expr node.now.statement ≡ value.now }
         ensures ok { IfOk result (λ turn. Made Part.Plain (step_by code.now site (evaluated code.now input.now self.old.cells (layer.Print site value.now)) (λ effect. standing code.now (rest_at code.now node.now.next) (stored effect self.old.cells))) turn (config_at code.now self.old) (config_at code.now self.new) out.old out.new) }
         ensures err { OnErr result ((self.new ≡ self.old) × (out.new ≡ out.old)) }
     {
-        match evaluate(code.program(), input, self.cells.as_slice(), value) {
+        match node.evaluate(input, self.cells.as_slice()) {
             Ok(value) => {
                 out.push(value)?;
                 self.go(code, node.next());
@@ -100,11 +101,13 @@ impl Position {
         site: SiteId,
         cond: &Expr,
     ) -> Turn
-        requires { part ≢ Part.Finished }
+        requires part { part ≢ Part.Finished }
+        requires program { node.now.program ≡ code.now }
+        requires value { value_expr node.now.statement ≡ cond.now }
         ensures { (out : List ℤ) → Made part (step_by code.now site (decided (eval code.now input.now self.old.cells cond.now)) (λ effect. standing code.now (rest_at code.now (if is_zero (value_of effect) then node.now.zero else node.now.next)) (stored effect self.old.cells)))
             result (config_at code.now self.old) (config_at code.now self.new) out out }
     {
-        match evaluate(code.program(), input, self.cells.as_slice(), cond) {
+        match node.evaluate(input, self.cells.as_slice()) {
             Ok(value) => {
                 self.go(code, node.behind(value));
                 Turn::Made {
@@ -124,10 +127,12 @@ impl Position {
         site: SiteId,
         cond: &Expr,
     ) -> Turn
+        requires program { node.now.program ≡ code.now }
+        requires value { value_expr node.now.statement ≡ cond.now }
         ensures { (out : List ℤ) → Made Part.Plain (step_by code.now site (tried (eval code.now input.now self.old.cells cond.now)) (λ effect. standing code.now (rest_at code.now (if is_zero (value_of effect) then node.now.zero else node.now.next))
             (choose_cells (value_of effect) (clear_locals node.now.region code.now.vars (stored effect self.old.cells)) (stored effect self.old.cells)))) result (config_at code.now self.old) (config_at code.now self.new) out out }
     {
-        match evaluate(code.program(), input, self.cells.as_slice(), cond) {
+        match node.evaluate(input, self.cells.as_slice()) {
             Ok(value) => {
                 let taken = !is_zero(value);
                 if taken {
