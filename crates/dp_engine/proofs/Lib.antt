@@ -1,0 +1,9 @@
+pub mod CallLemmas
+pub mod ExprLemmas
+pub mod FormLemmas
+pub mod MemoryLemmas
+pub mod MoveLemmas
+pub mod OrderLemmas
+pub mod OutcomeLemmas
+pub mod RunLemmas
+pub mod StepLemmas
