@@ -1,5 +1,5 @@
 //! The automatic plans of a program.
-ghost use Rattle.std.specs.Prelude.{◌≡◌, ◌≤◌, ◌<◌, ◌^◌, IfOk, length, map, true};
+ghost use Rattle.std.specs.Prelude.{◌≡◌, ◌≤◌, ◌<◌, ◌^◌, IfOk, length, map, true, false};
 ghost use Rattle.std.specs.Option.{option_copied};
 ghost use Rattle.dp_tree.specs.Inlined.{IsInlined};
 ghost use Rattle.dp_plan.specs.GivenPlans.{ArePlans};
@@ -68,7 +68,8 @@ fn few(count: usize) -> Result<u32, NoMemory>
 
 /// There are fewer than the numbers of 32 bits.
 fn are_few(order: &[u32]) -> bool
-    ensures { result ≡ true → length order.now < 2 ^ 32 }
+    ensures few { result ≡ true → length order.now < 2 ^ 32 }
+    ensures many { result ≡ false → 2 ^ 32 ≤ length order.now }
 {
     order.len() < 1 << 32
 }
