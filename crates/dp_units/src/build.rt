@@ -25,22 +25,17 @@ pub fn units(alloc: Global, count: u32, edges: &[(u32, u32)]) -> Result<Units, N
         rows: rows.as_slice(),
     };
     let leader_of = leaders(alloc, count, graph)?;
-    in_order(alloc, count, edges, leader_of.as_slice())
+    in_order(alloc, count, graph, leader_of.as_slice())
 }
 
 /// The units, where each node's leader is known.
-fn in_order(
-    alloc: Global,
-    count: u32,
-    edges: &[(u32, u32)],
-    leader_of: &[u32],
-) -> Result<Units, NoMemory>
-    requires within { AreWithin count edges.now }
-    requires leaders { AreLeaders count edges.now leader_of.now }
-    ensures order { IfOk result (λ u. IsOrder count edges.now u.order) }
-    ensures places { IfOk result (λ u. ArePlaces count edges.now u.order u.place_of) }
+fn in_order(alloc: Global, count: u32, graph: Graph, leader_of: &[u32]) -> Result<Units, NoMemory>
+    requires within { AreWithin count graph.edges.now }
+    requires leaders { AreLeaders count graph.edges.now leader_of.now }
+    ensures order { IfOk result (λ u. IsOrder count graph.entry.edges.now u.order) }
+    ensures places { IfOk result (λ u. ArePlaces count graph.entry.edges.now u.order u.place_of) }
 {
-    let between = edges_between(alloc, edges, leader_of)?;
+    let between = edges_between(alloc, graph.edges, leader_of)?;
     let rows = rows(alloc, count, between.as_slice())?;
     let mut waits = entering(alloc, count, between.as_slice())?;
     let mut free = first_free(alloc, count, leader_of, waits.as_slice())?;

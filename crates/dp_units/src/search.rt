@@ -3,7 +3,8 @@
 //! It follows a path through the nodes. The path falls into groups, in each of which all nodes reach each other. An edge
 //! from the last group to a node of the path makes one group of all that stand above that node. Where no edge of the
 //! last group waits any more, it is a whole unit.
-ghost use Rattle.std.specs.Prelude.{◌≡◌, ◌≢◌, ◌<◌, ◌≤◌, ◌-◌, ◌++◌, [], ◌∷◌, ℕ, List, length, take, drop, replicate, IfOk, OnOk, IfSome, IfNone};
+ghost use Rattle.std.specs.Prelude.{◌≡◌, ◌≢◌, ◌<◌, ◌≤◌, ◌-◌, ◌++◌, [], ◌∷◌, ℕ, List, Vec, length, take, drop, replicate, IfOk, OnOk, IfSome, IfNone};
+ghost use Rattle.std.specs.declared.alloc.Global.{Global};
 ghost use Rattle.std.specs.declared.option.Option.TheVariants.{Some};
 ghost use Rattle.dp_units.specs.Entries.{At, Has, Rises};
 ghost use Rattle.dp_units.specs.declared.mark.Mark.TheVariants.{Unseen, Closed};
@@ -77,12 +78,11 @@ impl Search {
     }
 
     /// The last group, which begins at this place, is a whole unit.
-    fn close(&mut self, bottom: usize, graph: Graph) -> Result<(), NoMemory>
-        requires graph { IsGraph graph.edges.now graph.rows.now }
-        requires going { IsGoing graph.edges.now graph.rows.now self.old }
+    fn close(&mut self, bottom: usize) -> Result<(), NoMemory>
+        requires going { (edges : List (ℕ × ℕ)) × (rows : List (Vec ℕ Global)) × IsGraph edges rows × IsGoing edges rows self.old }
         requires last { IsLastGroup self.old bottom }
         requires done { IsDone self.old bottom }
-        ensures { OnOk result (HasGone graph.entry.edges.now graph.entry.rows.now self.old self.new) }
+        ensures { OnOk result ((edges : List (ℕ × ℕ)) (rows : List (Vec ℕ Global)) → IsGraph edges rows → IsGoing edges rows self.old → HasGone edges rows self.old self.new) }
     {
         let unit = self.leaders.len();
         let members = behind(self.path.as_slice(), bottom);
@@ -104,7 +104,7 @@ impl Search {
         while let Some(bottom) = last(self.bottoms.as_slice()) {
             match next_target(self.waiting.as_slice(), bottom) {
                 Some(target) => self.look(target, graph)?,
-                None => self.close(bottom, graph)?,
+                None => self.close(bottom)?,
             }
         }
         Ok(())

@@ -15,12 +15,12 @@ pub rows-requires : goal.rows-requires
 rows-requires c =
     let between : List (ℕ × ℕ) = c.in_ok-between.between.items in
     subst (λ (es : List (ℕ × ℕ)). AreWithin c.args.count es) (sym c.as_slice.ensures.value)
-    (between_within c.args.count c.args.edges.now c.args.leader_of.now between c.requires.within c.requires.leaders c.in_ok-between.ensures)
+    (between_within c.args.count c.args.graph.edges.now c.args.leader_of.now between c.requires.within c.requires.leaders c.in_ok-between.ensures)
 
 pub loop-node-init : goal.loop-node-init
 loop-node-init c =
     let n : ℕ = c.args.count in
-    let edges : List (ℕ × ℕ) = c.args.edges.now in
+    let edges : List (ℕ × ℕ) = c.args.graph.edges.now in
     let leader_of : List ℕ = c.args.leader_of.now in
     let between : List (ℕ × ℕ) = c.in_ok-between.between.items in
     let waits : List ℕ = c.in_ok-waits.waits.items in
@@ -40,7 +40,7 @@ loop-node-init c =
 pub index_mut-requires : goal.index_mut-requires
 index_mut-requires c =
     let n : ℕ = c.args.count in
-    let edges : List (ℕ × ℕ) = c.args.edges.now in
+    let edges : List (ℕ × ℕ) = c.args.graph.edges.now in
     let leader_of : List ℕ = c.args.leader_of.now in
     let between : List (ℕ × ℕ) = c.in_ok-between.between.items in
     let rows : List (Vec ℕ Global) = c.in_ok-rows.rows.items in
@@ -56,7 +56,7 @@ index_mut-requires c =
 pub index-requires : goal.index-requires
 index-requires c =
     let n : ℕ = c.args.count in
-    let edges : List (ℕ × ℕ) = c.args.edges.now in
+    let edges : List (ℕ × ℕ) = c.args.graph.edges.now in
     let leader_of : List ℕ = c.args.leader_of.now in
     let between : List (ℕ × ℕ) = c.in_ok-between.between.items in
     let rows : List (Vec ℕ Global) = c.in_ok-rows.rows.items in
@@ -72,7 +72,7 @@ index-requires c =
 pub release-requires-clause-within : goal.release-requires-clause-within
 release-requires-clause-within c = λ i x at.
     let n : ℕ = c.args.count in
-    let edges : List (ℕ × ℕ) = c.args.edges.now in
+    let edges : List (ℕ × ℕ) = c.args.graph.edges.now in
     let leader_of : List ℕ = c.args.leader_of.now in
     let between : List (ℕ × ℕ) = c.in_ok-between.between.items in
     let rows : List (Vec ℕ Global) = c.in_ok-rows.rows.items in
@@ -90,7 +90,7 @@ release-requires-clause-within c = λ i x at.
 pub release-requires-clause-enough : goal.release-requires-clause-enough
 release-requires-clause-enough c = λ x h.
     let n : ℕ = c.args.count in
-    let edges : List (ℕ × ℕ) = c.args.edges.now in
+    let edges : List (ℕ × ℕ) = c.args.graph.edges.now in
     let leader_of : List ℕ = c.args.leader_of.now in
     let between : List (ℕ × ℕ) = c.in_ok-between.between.items in
     let rows : List (Vec ℕ Global) = c.in_ok-rows.rows.items in
@@ -109,7 +109,7 @@ release-requires-clause-enough c = λ x h.
 pub loop-node-smaller : goal.loop-node-smaller
 loop-node-smaller c =
     let n : ℕ = c.args.count in
-    let edges : List (ℕ × ℕ) = c.args.edges.now in
+    let edges : List (ℕ × ℕ) = c.args.graph.edges.now in
     let leader_of : List ℕ = c.args.leader_of.now in
     let between : List (ℕ × ℕ) = c.in_ok-between.between.items in
     let rows : List (Vec ℕ Global) = c.in_ok-rows.rows.items in
@@ -126,7 +126,7 @@ loop-node-smaller c =
 pub loop-node-preserved : goal.loop-node-preserved
 loop-node-preserved c =
     let n : ℕ = c.args.count in
-    let edges : List (ℕ × ℕ) = c.args.edges.now in
+    let edges : List (ℕ × ℕ) = c.args.graph.edges.now in
     let leader_of : List ℕ = c.args.leader_of.now in
     let between : List (ℕ × ℕ) = c.in_ok-between.between.items in
     let rows : List (Vec ℕ Global) = c.in_ok-rows.rows.items in
@@ -155,7 +155,7 @@ loop-node-preserved c =
 pub returns-clause-order : goal.returns-clause-order
 returns-clause-order c =
     let n : ℕ = c.args.count in
-    let edges : List (ℕ × ℕ) = c.args.edges.now in
+    let edges : List (ℕ × ℕ) = c.args.graph.edges.now in
     let leader_of : List ℕ = c.args.leader_of.now in
     let between : List (ℕ × ℕ) = c.in_ok-between.between.items in
     let places : List ℕ = c.loop-node.place_of.items in
@@ -168,7 +168,7 @@ returns-clause-order c =
 pub returns-clause-places : goal.returns-clause-places
 returns-clause-places c =
     let n : ℕ = c.args.count in
-    let edges : List (ℕ × ℕ) = c.args.edges.now in
+    let edges : List (ℕ × ℕ) = c.args.graph.edges.now in
     let leader_of : List ℕ = c.args.leader_of.now in
     let between : List (ℕ × ℕ) = c.in_ok-between.between.items in
     let places : List ℕ = c.loop-node.place_of.items in
