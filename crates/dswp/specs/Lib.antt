@@ -1,6 +1,8 @@
 pub mod Headline
 pub mod Answer
+pub mod Roles
 pub mod Program
+pub mod Inputs
 pub mod Plans
 pub mod Profiles
 pub mod RunText

@@ -9,7 +9,8 @@ ghost use Rattle.dp_words.specs.Values.{OptionsWithin};
 ghost use Rattle.dp_words.specs.Run.{shown, shown_source};
 ghost use Rattle.dswp.specs.Carried.{Finishes, LoadsTexts};
 ghost use Rattle.std.specs.Option.{option_map};
-ghost use Rattle.dswp.specs.Answer.{Input, Plans, named_in, role_of as spec_role_of};
+ghost use Rattle.dswp.specs.Roles.{Input, Plans};
+ghost use Rattle.dswp.specs.Answer.{named_in, role_of as spec_role_of};
 ghost use Rattle.dswp.specs.Loading.{Gives, IfText};
 ghost use Rattle.dswp.specs.RunText.{status_of};
 
