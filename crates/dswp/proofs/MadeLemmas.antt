@@ -58,6 +58,11 @@ pub finishes_stopped : (line text : List ℕ) (status : ℕ) (told tells : Optio
 finishes_stopped line text status told tells (Ok answered) h w = absurd (cc)
 finishes_stopped line text status told tells (Err fail) h w = front_more line text told tells w
 
+-- what stopped says nothing of the tally
+pub stopped_counts : (result : Result ℕ CrewFail) (P : Type 0) → IsErr result → OnOk result P
+stopped_counts (Ok answered) P h = absurd (cc)
+stopped_counts (Err fail) P h = tt
+
 -- the program that the expansion of a text's is one of
 record Source (text : List ℕ) (q : Program) : Type 0 where
   source : Program

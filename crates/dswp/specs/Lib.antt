@@ -10,4 +10,5 @@ pub mod Made
 pub mod Refusal
 pub mod Loading
 pub mod Carried
+pub mod Runs
 pub mod Status
