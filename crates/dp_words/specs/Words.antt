@@ -21,41 +21,33 @@ pub record Names {X : Type 0} (app : App) (Shows : Values → X → Type 0) (wor
 pub data AsksBy {X : Type 0} (verb : Text) (app : App) (Shows : Values → X → Type 0) : List Text → X → Type 0 where
   Behind : (words : List Text) (x : X) → Names app Shows words x → AsksBy verb app Shows (verb ∷ words) x
 
--- the words ask for this run
-abbrev pub Asks : List Text → Run → Type 0
-Asks = AsksBy (codes "run") run_app ShowsRun
+-- what words may ask for: a run, least plans, the list of this program's sites, a profile, or a run of the made program
+pub data Asked : Type 0 where
+  ToRun : Run → Asked
+  ToPlan : Planning → Asked
+  ToList : List ℕ → Asked
+  ToProfile : Profiling → Asked
+  ToMake : GenWords → Asked
 
--- .. for these plans
-abbrev pub AsksPlans : List Text → Planning → Type 0
-AsksPlans = AsksBy (codes "plan") plan_app ShowsPlanning
+-- the words ask for it
+abbrev pub Asks : List Text → Asked → Type 0
+Asks words (ToRun run) = AsksBy (codes "run") run_app ShowsRun words run
+Asks words (ToPlan planning) = AsksBy (codes "plan") plan_app ShowsPlanning words planning
+Asks words (ToList program) = AsksBy (codes "check") check_app ShowsSites words program
+Asks words (ToProfile profiling) = AsksBy (codes "profile") profile_app ShowsProfiling words profiling
+Asks words (ToMake made) = AsksBy (codes "gen") gen_app ShowsMade words made
 
--- .. for the list of this program's sites
-abbrev pub AsksSites : List Text → List ℕ → Type 0
-AsksSites = AsksBy (codes "check") check_app ShowsSites
+-- they ask for nothing that the program does
+abbrev pub AsksNothing : List Text → Type 0
+AsksNothing words = (asked : Asked) → ¬ Asks words asked
 
--- .. for this profile
-abbrev pub AsksProfile : List Text → Profiling → Type 0
-AsksProfile = AsksBy (codes "profile") profile_app ShowsProfiling
-
--- .. for this run of the made program
-abbrev pub AsksMade : List Text → GenWords → Type 0
-AsksMade = AsksBy (codes "gen") gen_app ShowsMade
-
--- .. for nothing that the program does
-pub record AsksNothing (words : List Text) : Type 0 where
-  pub no_run : (run : Run) → ¬ Asks words run
-  pub no_plans : (planning : Planning) → ¬ AsksPlans words planning
-  pub no_sites : (program : List ℕ) → ¬ AsksSites words program
-  pub no_profile : (profiling : Profiling) → ¬ AsksProfile words profiling
-  pub none_made : (made : GenWords) → ¬ AsksMade words made
-
--- the words ask for this task
-abbrev pub AsksFor : List Text → Task → Type 0
-AsksFor words (task.Run run) = Asks words (shown run)
-AsksFor words (task.Plan plan) = AsksPlans words (shown_planning plan)
-AsksFor words (task.Check program) = AsksSites words program.now
-AsksFor words (task.Profile profile) = AsksProfile words (shown_profiling profile)
-AsksFor words (task.Gen made) = AsksMade words made
+-- what a task asks for
+abbrev pub asked_in : Task → Asked
+asked_in (task.Run run) = ToRun (shown run)
+asked_in (task.Plan plan) = ToPlan (shown_planning plan)
+asked_in (task.Check program) = ToList program.now
+asked_in (task.Profile profile) = ToProfile (shown_profiling profile)
+asked_in (task.Gen made) = ToMake made
 
 -- its numbers are within their limits
 abbrev pub IsWithin : Task → Type 0

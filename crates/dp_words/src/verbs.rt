@@ -1,7 +1,7 @@
 //! The words, read by their verb.
 ghost use Rattle.std.specs.Prelude.{◌≡◌, ◌↔◌, ℕ, List, IsTrue, map, string_bytes, IfOk, IfSome, IfNone};
 ghost use Rattle.dp_words.specs.Commands.{check_app, gen_app, plan_app, profile_app, run_app};
-ghost use Rattle.dp_words.specs.Words.{AsksFor, AsksNothing, IsWithin, Names};
+ghost use Rattle.dp_words.specs.Words.{Asks, AsksNothing, IsWithin, Names, asked_in};
 ghost use Rattle.dp_words.specs.Values.{OptionsWithin};
 ghost use Rattle.dp_words.specs.Run.{Run, RunWithin, ShowsRun, shown};
 ghost use Rattle.dp_words.specs.Planning.{Planning, ShowsPlanning, shown_planning};
@@ -19,7 +19,7 @@ use std::alloc::Global;
 
 /// What the words ask for, if they are taken.
 pub fn asked(alloc: Global, words: &[String]) -> Result<Option<Task<'_>>, NoMemory>
-    ensures some { IfOk result (λ task. IfSome task (AsksFor (map string_bytes words.now))) }
+    ensures some { IfOk result (λ task. IfSome task (λ t. Asks (map string_bytes words.now) (asked_in t))) }
     ensures within { IfOk result (λ task. IfSome task IsWithin) }
     ensures none { IfOk result (λ task. IfNone task (AsksNothing (map string_bytes words.now))) }
 {
