@@ -1,5 +1,6 @@
 //! What is kept between two iterations, and the search for a cause from there.
-ghost use Rattle.std.specs.Prelude.{◌≡◌, IfOk, IfSome, [], if◌then◌else◌, map, filter, length, replicate};
+ghost use Rattle.std.specs.Prelude.{◌≡◌, true, IfOk, IfSome, [], if◌then◌else◌, map, filter, length, replicate};
+ghost use Rattle.dp_tree.specs.Numbering.{regions_in_order};
 ghost use Rattle.dp_tree.specs.declared.Stmt.{out-Stmt};
 ghost use Rattle.dp_plan.specs.Access.{first_site, is_region_at, is_replicated};
 ghost use Rattle.dp_plan.specs.CheckedTable.{IsTabled};
@@ -8,7 +9,7 @@ ghost use Rattle.dp_semantics.specs.EpochCauses.{first_kept, own_kept, views_fro
 ghost use Rattle.dp_semantics.specs.FindsCauses.{turn_by, turn_in, turn_text};
 ghost use Rattle.dp_cause.specs.Views.{last_or};
 ghost use Rattle.dp_cause.specs.Views as definition;
-ghost use Rattle.dp_cause.specs.Watching.{FindsIf, widened};
+ghost use Rattle.dp_cause.specs.Watching.{HasInner, reported_if, widened};
 
 use crate::replaced::Replaced;
 use crate::views::{clear, clear_all, local_cells, show_all};
@@ -107,7 +108,8 @@ fn wide(alloc: Global, plan: &Plan) -> Result<Plan, NoMemory>
 
 /// The statement of a region.
 fn region_of(all: &[Stmt], region: u32) -> Option<&Stmt>
-    ensures { IfSome result (λ found. turn_in (filter (is_region_at region) all.now) ≡ turn_by (out-Stmt found.now)) }
+    requires { regions_in_order 1 all.now ≡ true }
+    ensures { IfSome result (λ found. (turn_in (filter (is_region_at region) all.now) ≡ turn_by (out-Stmt found.now)) × HasInner (out-Stmt found.now)) }
 {
     for statement in all {
         if is_region(region, statement) {
@@ -164,7 +166,8 @@ impl Kept {
         })
     }
 
-    fn search(
+    /// Why the next iteration isn't clean, in the source's memory before it, where so many steps are left; none where it is clean.
+    pub fn cause(
         &self,
         alloc: Global,
         p: &Program,
@@ -176,7 +179,8 @@ impl Kept {
     ) -> Result<Option<Cause>, NoMemory>
         requires tabled { IsTabled p.now plan.now }
         requires first { first ≡ first_site p.now plan.now }
-        ensures { IfOk result (λ found. FindsIf (cause_walk p.now plan.now input.now left (watch_of plan.now self.now.views) (turn_text p.now plan.now) cells) found) }
+        requires regions { regions_in_order 1 p.now.main ≡ true }
+        ensures { IfOk result (λ found. found ≡ reported_if (cause_walk p.now plan.now input.now left (watch_of plan.now self.now.views) (turn_text p.now plan.now) cells)) }
     {
         let wide = wide(alloc, plan)?;
         let mut watched = self.watched(alloc, plan, cells, left)?;
@@ -189,30 +193,8 @@ impl Kept {
             first,
         };
         match region_of(p.main.as_slice(), plan.region) {
-            Some(region) => Ok(watched.find(ground, region)),
-            None => Ok(None),
-        }
-    }
-
-    /// Why the next iteration isn't clean, in the source's memory before it, where so many steps are left; none where it is, or memory
-    /// was wanting.
-    pub fn cause(
-        &self,
-        alloc: Global,
-        p: &Program,
-        plan: &Plan,
-        input: &[i64],
-        first: u32,
-        cells: Cells,
-        left: u64,
-    ) -> Option<Cause>
-        requires tabled { IsTabled p.now plan.now }
-        requires first { first ≡ first_site p.now plan.now }
-        ensures { FindsIf (cause_walk p.now plan.now input.now left (watch_of plan.now self.now.views) (turn_text p.now plan.now) cells) result }
-    {
-        match self.search(alloc, p, plan, input, first, cells, left) {
-            Ok(found) => found,
-            Err(_) => None,
+            Some(region) => watched.find(ground, region),
+            None => Err(NoMemory),
         }
     }
 }

@@ -1,5 +1,5 @@
 -- The verdicts follow the epoch's judgements.
-use Rattle.std.proofs.Common.{◌≡◌, inl, inr, refl, sym, ap, ◌∙◌, subst, ℕ, suc, ◌+◌, ◌-◌, true, false, not, List, [], ◌∷◌, ℤ, length, map, filter_map, Option, Some, arith}
+use Rattle.std.proofs.Common.{◌≡◌, inl, inr, refl, sym, ap, ◌∙◌, subst, ℕ, suc, ◌+◌, ◌-◌, true, false, not, List, [], ◌∷◌, ℤ, length, map, filter_map, Some, arith}
 use Rattle.std.proofs.lemmas.Bool.{cases_lt}
 use Rattle.dp_base.specs.declared.Cause.{Cause as ReportedCause}
 use Rattle.dp_base.specs.declared.StoreOf.{StoreOf}
@@ -21,7 +21,7 @@ use Rattle.dp_semantics.specs.EpochVerdicts.{Carried, Again, Commit, JudgeState,
 use Rattle.dp_semantics.proofs.EpochFound.{finds_in_epochs}
 use Rattle.dp_semantics.proofs.Fitting.{accepted}
 use Rattle.dp_cause.specs.Views.{shown_by, kept_by, clear_cells, local_cells}
-use Rattle.dp_cause.specs.Watching.{Told, FindsIf}
+use Rattle.dp_cause.specs.Watching.{reported_if}
 use Rattle.dp_cause.specs.declared.kept.Kept.{Kept}
 use Rattle.dp_cause.proofs.ViewLemmas.{shown_store, shown_none, clear_local_cells}
 use Rattle.dp_commit.specs.FlatJudge.{WalkState}
@@ -117,15 +117,12 @@ agreed_gives key n t u cells judgement walk verdict at here same (agreed, is, ca
     subst (λ (v : Verdict). Gives u key n v) (sym verdict_is) given
 
 -- an iteration that isn't clean is executed again for its cause
-pub refused_gives : (key : EpochKey) (n : ℕ) (t u : TryCommit) (cells : List ℤ) (found : Option ReportedCause) (verdict : Verdict) → fits_plan t.program.now t.plan.now ≡ true → Knows t key n → cells ≡ (state_at key n).cells → judgement_of key n ≡ UncleanJudgement →
-    FindsIf (cause_walk t.program.now t.plan.now t.input.now t.left (watch_of t.plan.now t.kept.views) (turn_text t.program.now t.plan.now) cells) found →
-    (told : ReportedCause) → found ≡ Some told → verdict ≡ Unclean told → Gives u key n verdict
-refused_gives key n t u cells found verdict fits at here unclean finds told found_is verdict_is =
+pub refused_gives : (key : EpochKey) (n : ℕ) (t u : TryCommit) (cells : List ℤ) (told : ReportedCause) (verdict : Verdict) → fits_plan t.program.now t.plan.now ≡ true → Knows t key n → cells ≡ (state_at key n).cells → judgement_of key n ≡ UncleanJudgement →
+    Some told ≡ reported_if (cause_walk t.program.now t.plan.now t.input.now t.left (watch_of t.plan.now t.kept.views) (turn_text t.program.now t.plan.now) cells) → verdict ≡ Unclean told → Gives u key n verdict
+refused_gives key n t u cells told verdict fits at here unclean told_is verdict_is =
     let same : cause_walk t.program.now t.plan.now t.input.now t.left (watch_of t.plan.now t.kept.views) (turn_text t.program.now t.plan.now) cells ≡ found_in key n =
     (λ i. cause_walk (at.program i) (at.plan i) (at.input i) (at.left i) (watch_of (at.plan i) (at.kept i).views) (turn_text (at.program i) (at.plan i)) (here i)) in
     let law = finds_in_epochs {p = key.program} {plan = key.plan} (λ k program_is plan_is. accepted k.program k.plan ((λ i. fits_plan (program_is i) (plan_is i)) ∙ (λ i. fits_plan (sym at.program i) (sym at.plan i)) ∙ fits)) key refl refl at.sound n at.gone unclean in
-    let t : Told _ told = subst (FindsIf _) found_is finds in
-    let cause_is : Some t.0 ≡ Some (cause_since key.program key.plan (epoch_run key) 0 n) = sym t.1 ∙ same ∙ law in
-    let reported_is : told ≡ reported (cause_since key.program key.plan (epoch_run key) 0 n) = t.2 ∙ ap reported (inside_some t.0 _ cause_is) in
+    let reported_is : told ≡ reported (cause_since key.program key.plan (epoch_run key) 0 n) = inside_some told _ (told_is ∙ ap reported_if (same ∙ law)) in
     let given : Gives u key n (Unclean told) = (ap Again reported_is ∙ sym (ap (verdict_by key n) unclean), tt) in
     subst (λ (v : Verdict). Gives u key n v) (sym verdict_is) given
