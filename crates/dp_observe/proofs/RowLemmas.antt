@@ -1,5 +1,5 @@
 -- Flows that are put into the rows of their first sites.
-use Rattle.std.proofs.Common.{Less, ◌≡◌, ◌≢◌, refl, sym, ap, ◌∙◌, ℕ, zero, suc, ◌+◌, ◌*◌, ◌/◌, ◌%◌, ◌<◌, ◌≤◌, ◌==◌, if◌then◌else◌, Bool, true, false, List, [], ◌∷◌, ◌++◌, append_assoc, append-nil, map, length, get_or, Option, Some, None, slice_get, slice_set, inl, inr, arith, eqb-true, eq-eqb}
+use Rattle.std.proofs.Common.{Less, ◌≡◌, ◌≢◌, refl, sym, ap, ◌∙◌, ℕ, zero, suc, ◌+◌, ◌*◌, ◌/◌, ◌%◌, ◌<◌, ◌≤◌, ◌==◌, if◌then◌else◌, true, false, List, [], ◌∷◌, ◌++◌, append_assoc, append-nil, length, Option, Some, None, slice_get, slice_set, inl, inr, arith, eqb-true, eq-eqb}
 use Rattle.std.specs.Ordering.{nat_cmp}
 use Rattle.std.specs.BTreeMap.{is_at}
 use Rattle.std.specs.List.{AllByRecursion}
@@ -209,9 +209,3 @@ sites_all all left tallies later rows size are none =
     rows_taken 0 all all tallies rows size (λ k from there.
     let here : k ≡ 0 + k = omega arith in
     sym (append-nil (row_at rows k)) ∙ ap (λ (fs : List Flow). row_at rows k ++ fs) (sym (none k from)) ∙ are k from there ∙ ap (λ j. flows_from j from all tallies) here)
-
--- rows in which nothing was put
-pub no_flows : (sites : List RegionSite) (place : ℕ) → row_at (map (λ _. []) sites) place ≡ []
-no_flows [] place = refl
-no_flows (s ∷ sites) zero = refl
-no_flows (s ∷ sites) (suc place) = no_flows sites place

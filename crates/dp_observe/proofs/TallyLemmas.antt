@@ -13,7 +13,6 @@ use Rattle.dp_observe.specs.declared.sparse.Sparse.{Sparse}
 use Rattle.dp_observe.specs.declared.tally.Tally.{Tally}
 use Rattle.dp_observe.specs.Counting.{TallyCounts}
 use Rattle.dp_observe.specs.Frames.{one_if, is_nonzero, counted, loads_at}
-use Rattle.dp_observe.specs.Columns.{at_column}
 use Rattle.dp_observe.specs.Sparse.{at}
 use Rattle.dp_observe.specs.Tracking.{writer_of, since, begun, InOrder, TallyFits}
 use Rattle.dp_observe.proofs.HitLemmas.{count_cons, loads_shown}

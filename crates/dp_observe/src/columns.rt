@@ -21,7 +21,7 @@ impl Model for Columns {
     ghost view = { λ columns. columns.counts.entries };
 }
 
-ghost use Rattle.std.specs.Prelude.{◌≡◌, ℕ, [], if◌then◌else◌, ◌==◌, OnOk};
+ghost use Rattle.std.specs.Prelude.{◌≡◌, ℕ, ◌+◌, [], if◌then◌else◌, ◌==◌, OnOk};
 ghost use Rattle.dp_observe.specs.Columns.{at_column};
 ghost use Rattle.dp_observe.specs.Taken.{Grows};
 
@@ -49,20 +49,16 @@ impl Columns {
         }
     }
 
-    /// The count of a column.
-    pub(crate) fn get(&self, column: usize) -> u64
-        ensures { result ≡ at_column self.now column }
+    /// Counts a column once more. A number that would be too large counts as a want of memory.
+    pub(crate) fn add_one(&mut self, column: usize) -> Result<(), NoMemory>
+        ensures { OnOk result ((k : ℕ) → at_column self.new k ≡ at_column self.old k + (if k == column then 1 else 0)) }
     {
-        match self.counts.get(&column) {
-            Some(count) => *count,
-            None => 0,
+        match self.counts.get_mut(&column) {
+            Some(count) => *count = count.checked_add(1).ok_or(NoMemory)?,
+            None => {
+                self.counts.insert(column, 1)?;
+            }
         }
-    }
-
-    pub(crate) fn set(&mut self, column: usize, count: u64) -> Result<(), NoMemory>
-        ensures { OnOk result ((k : ℕ) → at_column self.new k ≡ (if k == column then count else at_column self.old k)) }
-    {
-        self.counts.insert(column, count)?;
         Ok(())
     }
 

@@ -71,8 +71,7 @@ impl Tally {
         ensures shown { OnOk result ((k : ℕ) → at_column self.new.shown k ≡ at_column self.old.shown k + definition.one_if (definition.hits column k)) }
     {
         if let Some(column) = column {
-            let shown = one_more(self.shown.get(column))?;
-            self.shown.set(column, shown)?;
+            self.shown.add_one(column)?;
         }
         Ok(())
     }

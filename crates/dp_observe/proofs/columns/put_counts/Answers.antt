@@ -6,7 +6,7 @@ pub loop-column-preserved : goal.loop-column-preserved
 loop-column-preserved c =
     let step : c.loop-column.column-iterator ≡ (c.in-Some.column.now, c.in-Some.shown.now) ∷ c.next.new.self = search rules in
     let next = counts_more c.args.sites.now c.args.to c.in-Some.column.now c.in-Some.shown.now c.loop-column.column-iterator c.next.new.self c.args.counts.now.entries c.args.rows.now c.loop-column.rows c.put_flow.new.rows
-        step c.in_ok-put_flow.ensures c.loop-column.invariant.size c.loop-column.invariant.rows in
+    step c.in_ok-put_flow.ensures c.loop-column.invariant.size c.loop-column.invariant.rows in
     record { size = next.0; rows = next.1 }
 
 pub returns : goal.returns
