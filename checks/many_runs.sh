@@ -1,6 +1,7 @@
 #!/usr/bin/env bash
-# Runs each example and each planned program of the documents many times, with 1, 2 and 8 workers and lanes of 1, 2 and 64
-# places, and compares every text and status with the first. Ends with 1 where one differs, and stops a run after a minute.
+# Runs each example, under its least plan and its own, and each planned program of the documents many times, with 1, 2 and 8
+# workers and lanes of 1, 2 and 64 places, and compares every text and status with the first. Ends with 1 where one differs,
+# and stops a run after a minute.
 #
 #   checks/many_runs.sh [COUNT]    COUNT runs of each, 1000 where it isn't given
 set -eu
@@ -37,6 +38,9 @@ cd "$here"
 for program in examples/*.c; do
   ./dswp plan "$program" >"$work/plan"
   repeat "$program" "${program%.c}.in" --plan "$work/plan" --why
+done
+for plan in examples/*.plan; do
+  repeat "${plan%.plan}.c" "${plan%.plan}.in" --plan "$plan" --why
 done
 for plan in docs/transcripts/*.plan; do
   [ -f "${plan%.plan}.c" ] && repeat "${plan%.plan}.c" --plan "$plan" --why

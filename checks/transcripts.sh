@@ -3,7 +3,7 @@
 #
 # A transcript is a line `$ ./dswp ..` of a fenced block, the output, and a line `[status N]`. Each row under a head
 # `| Text | Output |` is a program's text and what `run` writes for it, with ` / ` between its lines. Each program of
-# examples/ writes its NAME.out for its NAME.in.
+# examples/ writes its NAME.out for its NAME.in, and the same but for the lines of its regions under its NAME.plan.
 set -u
 cd "$(dirname "$0")/.." || exit 1
 work=$(mktemp -d) || exit 1
@@ -46,6 +46,10 @@ for program in examples/*.c; do
   name=${program%.c}
   ./dswp run "$program" "$name.in" >"$work/got" 2>/dev/null
   compare "$name.out" "$work/got" "$program"
+  [ -f "$name.plan" ] || continue
+  grep -v '^region ' "$name.out" >"$work/wanted"
+  ./dswp run "$program" "$name.in" --plan "$name.plan" 2>/dev/null | grep -v '^region ' >"$work/got"
+  compare "$work/wanted" "$work/got" "$program under $name.plan"
 done
 for row in "$work"/*.row; do
   [ -e "$row" ] || continue

@@ -1,5 +1,5 @@
 //! A ring between a producer, workers and a consumer in threads of their own.
-ghost use Rattle.std.specs.Prelude.{◌≡◌, ◌<◌, ◌^◌, true, IfSome};
+ghost use Rattle.std.specs.Prelude.{◌≡◌, ◌<◌, ◌^◌, true, IfOk, IfSome};
 ghost use Rattle.dp_ring.specs.declared.view.Stage.TheVariants.{Resting, Taking, Giving};
 ghost use Rattle.dp_ring.specs.Tested.{IsSame, IsKeyed, IsFirst, IsIdle};
 
@@ -21,6 +21,7 @@ pub fn all_items<R: Threads + Wait + Sync>(
     by_two: bool,
 ) -> Result<bool, NoMemory>
     requires { count < 2 ^ 32 }
+    ensures { IfOk result (λ is_ordered. is_ordered ≡ true) }
 {
     let (producer, mut seats, consumer) = Ring::new::<Item>(alloc, &0, PLACES, 2)?;
     let (Some(first), Some(spare)) = (seats.pop(), seats.pop()) else {

@@ -1,6 +1,10 @@
 -- What steps say of the walk that finds a cause.
-use Rattle.std.proofs.Common.{◌≡◌, refl, sym, ap, ◌∙◌, subst, arith, ℕ, zero, suc, ◌+◌, ◌-◌, ◌<◌, length, get_or, drop, add-one, drop-cons, Bool, true, false, if◌then◌else◌, List, [], ◌∷◌, ◌++◌, ℤ, Option, Some, None, Ok, Err}
+use Rattle.std.proofs.Common.{append-nil, ◌≡◌, refl, sym, ap, ◌∙◌, subst, arith, ℕ, zero, suc, ◌+◌, ◌-◌, ◌<◌, length, get_or, drop, add-one, drop-cons, Bool, true, false, if◌then◌else◌, List, [], ◌∷◌, ◌++◌, ℤ, Option, Some, None, Ok, Err}
 use Rattle.std.proofs.lemmas.Bool.{cases_Bool}
+use Rattle.std.specs.List.{list_all}
+use Rattle.dp_tree.specs.Numbering.{is_inner}
+use Rattle.dp_tree.proofs.Heads.{and_true}
+use Rattle.dp_tree.proofs.Inner.{inner_left}
 use Rattle.std.proofs.Common.{inl, inr}
 use Rattle.dp_base.specs.Arithmetic.{is_zero}
 use Rattle.dp_base.specs.declared.Cause.{Cause as ReportedCause}
@@ -26,7 +30,8 @@ use Rattle.dp_cause.specs.declared.watched.Step.{Step}
 use Rattle.dp_cause.specs.declared.watched.Step.TheVariants as step
 use Rattle.dp_cause.specs.declared.watched.Looked.{Looked}
 use Rattle.dp_cause.specs.declared.watched.Looked.TheVariants as looked
-use Rattle.dp_cause.specs.Watching.{Told, watch_in, cause_now, stepped_by, Steps, walk_from, Leads, simply_of, left_of}
+use Rattle.dp_cause.specs.Watching.{Told, watch_in, cause_now, stepped_by, Steps, walk_from, Leads, Turns, simply_of, left_of}
+use Rattle.dp_cause.proofs.InnerLemmas.{inner_chosen}
 
 module _ (p : Program) (plan : Plan) (input : List ℤ) where
   found_walk : (n : ℕ) (w : Watch) (x : Stmt) (rest : List Stmt) (cells : List ℤ) (head : Stmt-F Stmt) (r : Evaluated Effect) (c : Cause) → out-Stmt x ≡ head → evaluated p input cells head ≡ r →
@@ -50,7 +55,20 @@ module _ (p : Program) (plan : Plan) (input : List ℤ) where
       ap (λ (h : Stmt-F Stmt). look_by p plan (cause_walk p plan input n) w x rest cells h (evaluated p input cells h)) is ∙ ap (look_by p plan (cause_walk p plan input n) w x rest cells head) gives
       ∙ ap (λ (o : Option Cause). or_else o (go n)) e ∙ ap go less
 
+  -- where nothing is left to do there is no cause
+  none_walk : (n : ℕ) (w : Watch) (cells : List ℤ) → cause_walk p plan input n w [] cells ≡ None
+  unfolding cause_walk
+  none_walk zero w cells = refl
+  none_walk (suc n) w cells = refl
+
+-- behind the region there is nothing in its text
+nothing_behind : (rest : List Stmt) → list_all is_inner rest ≡ true → behind_region rest ≡ []
+nothing_behind rest w = ap behind_region (sym (append-nil rest)) ∙ inner_left rest [] w
+
 module _ (g : Ground) where
+  pub nothing_left : (s : Watched) → walk_from g s [] ≡ None
+  nothing_left s = none_walk g.program.now g.plan.now g.input.now s.left (watch_in s) s.cells
+
   -- a step of the statement x, which has this head
   module _ (old new : Watched) (x : Stmt) (head : Stmt-F Stmt) (is : out-Stmt x ≡ head) where
     abbrev Stepped : Step → Type 0
@@ -79,25 +97,26 @@ module _ (g : Ground) where
         by : (s : Step) → Stepped s → Leads g old (x ∷ []) new (left_of s)
         by (step.On value) does = elim (cases_Bool (is_zero value)) [
           | inl q ↦ rw q (λ rest. on_leads value rest does ∙ ap (λ (h : Stmt-F Stmt). walk_from g new (followed x rest h value)) break ∙ ap (λ (b : Bool). walk_from g new (if b then rest else behind_region rest)) q)
-          | inr q ↦ rw q tt
+          | inr q ↦ rw q (λ rest w. on_leads value rest does ∙ ap (λ (h : Stmt-F Stmt). walk_from g new (followed x rest h value)) break ∙ ap (λ (b : Bool). walk_from g new (if b then rest else behind_region rest)) q
+              ∙ ap (walk_from g new) (nothing_behind rest (and_true (is_inner x) (list_all is_inner rest) w).1) ∙ nothing_left new)
         ]
         by (step.Found told) does = λ rest. found_leads told rest does
         by step.NoMemory does = tt
 
   -- from another state the same is found
-  pub onward : (old mid new : Watched) (front branch : List Stmt) → ((rest : List Stmt) → walk_from g old (front ++ rest) ≡ walk_from g mid (branch ++ rest)) → (answer : Looked) → Leads g mid branch new answer → Leads g old front new answer
-  onward old mid new front branch same looked.Goes leads = λ rest. same rest ∙ leads rest
-  onward old mid new front branch same (looked.Found told) leads = λ rest. let t = leads rest in (t.0, same rest ∙ t.1, t.2)
-  onward old mid new front branch same looked.Leaves leads = tt
-  onward old mid new front branch same looked.NoMemory leads = tt
+  pub onward : (old mid new : Watched) (front branch : List Stmt) → ((rest : List Stmt) → walk_from g old (front ++ rest) ≡ walk_from g mid (branch ++ rest)) → ((rest : List Stmt) → list_all is_inner (front ++ rest) ≡ true → list_all is_inner (branch ++ rest) ≡ true) → (answer : Looked) → Leads g mid branch new answer → Leads g old front new answer
+  onward old mid new front branch same inner looked.Goes leads = λ rest. same rest ∙ leads rest
+  onward old mid new front branch same inner (looked.Found told) leads = λ rest. let t = leads rest in (t.0, same rest ∙ t.1, t.2)
+  onward old mid new front branch same inner looked.Leaves leads = λ rest w. same rest ∙ leads rest (inner rest w)
+  onward old mid new front branch same inner looked.NoMemory leads = tt
 
   -- .. where the first statements lead no further
-  pub other_leads : (old mid new : Watched) (front branch : List Stmt) (more : List Stmt → List Stmt) → ((rest : List Stmt) → walk_from g old (front ++ rest) ≡ walk_from g mid (branch ++ more rest)) → (answer : Looked) → (answer ≡ looked.Goes → ⊥) →
+  pub other_leads : (old mid new : Watched) (front branch : List Stmt) (more : List Stmt → List Stmt) → ((rest : List Stmt) → walk_from g old (front ++ rest) ≡ walk_from g mid (branch ++ more rest)) → ((rest : List Stmt) → list_all is_inner (front ++ rest) ≡ true → list_all is_inner (branch ++ more rest) ≡ true) → (answer : Looked) → (answer ≡ looked.Goes → ⊥) →
       Leads g mid branch new answer → Leads g old front new answer
-  other_leads old mid new front branch more same looked.Goes other leads = absurd (other refl)
-  other_leads old mid new front branch more same (looked.Found told) other leads = λ rest. let t = leads (more rest) in (t.0, same rest ∙ t.1, t.2)
-  other_leads old mid new front branch more same looked.Leaves other leads = tt
-  other_leads old mid new front branch more same looked.NoMemory other leads = tt
+  other_leads old mid new front branch more same inner looked.Goes other leads = absurd (other refl)
+  other_leads old mid new front branch more same inner (looked.Found told) other leads = λ rest. let t = leads (more rest) in (t.0, same rest ∙ t.1, t.2)
+  other_leads old mid new front branch more same inner looked.Leaves other leads = λ rest w. same rest ∙ leads (more rest) (inner rest w)
+  other_leads old mid new front branch more same inner looked.NoMemory other leads = tt
 
   -- ---- by the statement's form
 
@@ -124,10 +143,28 @@ module _ (g : Ground) where
       Leads g old (tree.If site cond a b ∷ []) new answer
   if_leads old mid new site cond a b value branch does is answer leads =
       onward old mid new (tree.If site cond a b ∷ []) branch
-      (λ rest. on_leads old mid (tree.If site cond a b) (If site cond a b) (outs-If site cond a b) value rest does ∙ ap (λ (xs : List Stmt). walk_from g mid (xs ++ rest)) (sym is)) answer leads
+      (λ rest. on_leads old mid (tree.If site cond a b) (If site cond a b) (outs-If site cond a b) value rest does ∙ ap (λ (xs : List Stmt). walk_from g mid (xs ++ rest)) (sym is))
+      (λ rest w. inner_chosen site cond a b branch rest value is w) answer leads
 
   pub if_found : (old new : Watched) (site : SiteId) (cond : Expr) (a b : List Stmt) (told : ReportedCause) (rest : List Stmt) → Gives old site (If site cond a b) new (step.Found told) → Told (walk_from g old (tree.If site cond a b ∷ rest)) told
   if_found old new site cond a b told rest does = found_leads old new (tree.If site cond a b) (If site cond a b) (outs-If site cond a b) told rest does
+
+  -- a region's turn: its condition is 0, or its body is walked through
+  pub turn_zero : (old mid : Watched) (site : SiteId) (cond : Expr) (body : List Stmt) (value : ℤ) → Gives old site (If site cond body []) mid (step.On value) → is_zero value ≡ true → Turns g old site cond body looked.Goes
+  turn_zero old mid site cond body value does q = λ w.
+      on_leads old mid (tree.If site cond body []) (If site cond body []) (outs-If site cond body []) value [] does ∙ ap (λ (t : Bool). walk_from g mid ((if t then [] else body) ++ [])) q ∙ nothing_left mid
+
+  pub turns : (old mid new : Watched) (site : SiteId) (cond : Expr) (body : List Stmt) (value : ℤ) → Gives old site (If site cond body []) mid (step.On value) → is_zero value ≡ false → (answer : Looked) → Leads g mid body new answer → Turns g old site cond body answer
+  turns old mid new site cond body value does q = by
+    where
+      turned : walk_from g old (tree.If site cond body [] ∷ []) ≡ walk_from g mid (body ++ [])
+      turned = on_leads old mid (tree.If site cond body []) (If site cond body []) (outs-If site cond body []) value [] does ∙ ap (λ (t : Bool). walk_from g mid ((if t then [] else body) ++ [])) q
+
+      by : (answer : Looked) → Leads g mid body new answer → Turns g old site cond body answer
+      by looked.Goes leads = λ w. turned ∙ leads [] ∙ nothing_left new
+      by (looked.Found told) leads = let t = leads [] in (t.0, turned ∙ t.1, t.2)
+      by looked.Leaves leads = λ w. turned ∙ leads [] (ap (λ (xs : List Stmt). list_all is_inner xs) (append-nil body) ∙ w)
+      by looked.NoMemory leads = tt
 
   pub while_found : (old new : Watched) (x : Stmt) (site : SiteId) (cond : Expr) (body : List Stmt) (told : ReportedCause) (rest : List Stmt) → x ≡ tree.While site cond body → Gives old site (While site cond body) new (step.Found told) → Told (walk_from g old (x ∷ rest)) told
   while_found old new x site cond body told rest is does = found_leads old new x (While site cond body) (ap out-Stmt is ∙ outs-While site cond body) told rest does

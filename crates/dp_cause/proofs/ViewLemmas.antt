@@ -1,6 +1,8 @@
 -- The memories that stages see and the numbers of their words, changed place by place.
-use Rattle.std.proofs.Common.{◌≡◌, refl, sym, ap, ◌∙◌, arith, ℕ, zero, suc, ◌+◌, ◌-◌, ◌<◌, ◌≤◌, Bool, if◌then◌else◌, List, [], ◌∷◌, length, ℤ, nat_le, slice_set, get_or, le-leb, eq-eqb, ne_eqb, inl, inr, map, drop, pos, add-one, drop-cons}
+use Rattle.std.proofs.Common.{◌≡◌, refl, sym, ap, ◌∙◌, arith, ℕ, zero, suc, ◌+◌, ◌-◌, ◌<◌, ◌≤◌, Bool, if◌then◌else◌, List, [], ◌∷◌, length, ℤ, nat_le, slice_set, get_or, le-leb, eq-eqb, ne_eqb, inl, inr, map, pos}
 use Rattle.std.proofs.lemmas.Bool.{cases_Bool, lt-leb}
+use Rattle.dp_base.specs.declared.CellId.{CellId}
+use Rattle.dp_base.specs.declared.StoreOf.{StoreOf}
 use Rattle.dp_tree.specs.declared.Program.{Program}
 use Rattle.dp_tree.specs.Step.{Stored, Event, stored, clear_locals, is_local_of}
 use Rattle.dp_tree.specs.declared.VarInfo.{VarInfo}
@@ -8,7 +10,8 @@ use Rattle.dp_plan.specs.declared.Plan.{Plan}
 use Rattle.dp_plan.specs.Access.{stage_of}
 use Rattle.dp_semantics.specs.Clean.{event_words, words_at}
 use Rattle.dp_semantics.specs.CauseWalk.{count_of, shown_from, counted_from}
-use Rattle.dp_cause.specs.Views.{shown_by, count_more, kept_by}
+use Rattle.dp_cause.specs.Views.{shown_by, count_more, kept_by, stages_of, clear_cells, local_cells}
+use Rattle.dp_cause.specs.declared.replaced.Replaced.{Replaced}
 
 -- the first n of the memories are shown the store
 abbrev pub shown_some : ℕ → ℕ → ℕ → ℤ → ℕ → List (List ℤ) → List (List ℤ)
@@ -92,41 +95,42 @@ module _ (p : Program) (plan : Plan) (event : Event) where
   counted_is counts (suc s) e = sym (counted_at s 1 counts (omega (arith, e)))
 
 -- the first n of the memories are cleared
-abbrev pub cleared_some : ℕ → ℕ → List VarInfo → List (List ℤ) → List (List ℤ)
-cleared_some zero region vars views = views
-cleared_some (suc n) region vars [] = []
-cleared_some (suc n) region vars (view ∷ rest) = clear_locals region vars view ∷ cleared_some n region vars rest
+abbrev pub cleared_some : ℕ → List CellId → List (List ℤ) → List (List ℤ)
+cleared_some zero locals views = views
+cleared_some (suc n) locals [] = []
+cleared_some (suc n) locals (view ∷ rest) = clear_cells locals view ∷ cleared_some n locals rest
 
-pub cleared-length : (n region : ℕ) (vars : List VarInfo) (views : List (List ℤ)) → length (cleared_some n region vars views) ≡ length views
-cleared-length zero region vars views = refl
-cleared-length (suc n) region vars [] = refl
-cleared-length (suc n) region vars (view ∷ rest) = ap (λ (k : ℕ). suc k) (cleared-length n region vars rest)
+pub cleared-length : (n : ℕ) (locals : List CellId) (views : List (List ℤ)) → length (cleared_some n locals views) ≡ length views
+cleared-length zero locals views = refl
+cleared-length (suc n) locals [] = refl
+cleared-length (suc n) locals (view ∷ rest) = ap (λ (k : ℕ). suc k) (cleared-length n locals rest)
 
-pub cleared_next : (n region : ℕ) (vars : List VarInfo) (views : List (List ℤ)) → n < length views → (d : List ℤ) →
-    slice_set (cleared_some n region vars views) n (clear_locals region vars (get_or (cleared_some n region vars views) n d)) ≡ cleared_some (suc n) region vars views
-cleared_next n region vars [] h d = absurd (omega (arith, h))
-cleared_next zero region vars (view ∷ rest) h d = refl
-cleared_next (suc n) region vars (view ∷ rest) h d = ap (λ (xs : List (List ℤ)). clear_locals region vars view ∷ xs) (cleared_next n region vars rest (omega (arith, h)) d)
+pub cleared_next : (n : ℕ) (locals : List CellId) (views : List (List ℤ)) → n < length views → (d : List ℤ) →
+    slice_set (cleared_some n locals views) n (clear_cells locals (get_or (cleared_some n locals views) n d)) ≡ cleared_some (suc n) locals views
+cleared_next n locals [] h d = absurd (omega (arith, h))
+cleared_next zero locals (view ∷ rest) h d = refl
+cleared_next (suc n) locals (view ∷ rest) h d = ap (λ (xs : List (List ℤ)). clear_cells locals view ∷ xs) (cleared_next n locals rest (omega (arith, h)) d)
 
-pub cleared_all : (n region : ℕ) (vars : List VarInfo) (views : List (List ℤ)) → length views ≤ n → cleared_some n region vars views ≡ map (clear_locals region vars) views
-cleared_all zero region vars [] h = refl
-cleared_all (suc n) region vars [] h = refl
-cleared_all zero region vars (view ∷ rest) h = absurd (omega (arith, h))
-cleared_all (suc n) region vars (view ∷ rest) h = ap (λ (xs : List (List ℤ)). clear_locals region vars view ∷ xs) (cleared_all n region vars rest (omega (arith, h)))
+pub cleared_all : (n : ℕ) (locals : List CellId) (views : List (List ℤ)) → length views ≤ n → cleared_some n locals views ≡ map (clear_cells locals) views
+cleared_all zero locals [] h = refl
+cleared_all (suc n) locals [] h = refl
+cleared_all zero locals (view ∷ rest) h = absurd (omega (arith, h))
+cleared_all (suc n) locals (view ∷ rest) h = ap (λ (xs : List (List ℤ)). clear_cells locals view ∷ xs) (cleared_all n locals rest (omega (arith, h)))
 
--- one variable more is cleared
-pub cleared_more : (r : ℕ) (vars : List VarInfo) (i : ℕ) (x : VarInfo) (cells next whole : List ℤ) → i < length vars → x ≡ get_or vars i x → next ≡ (if is_local_of r x.scope then slice_set cells x.first.0 (pos 0) else cells) →
-    clear_locals r (drop i vars) cells ≡ whole → clear_locals r (drop (i + 1) vars) next ≡ whole
-cleared_more r vars i x cells next whole h is next_is kept =
-    let cons : drop i vars ≡ x ∷ drop (i + 1) vars = rw add-one (drop-cons vars i x h ∙ ap (λ (y : VarInfo). y ∷ drop (suc i) vars) (sym is)) in
-    ap (clear_locals r (drop (i + 1) vars)) next_is ∙ sym (ap (λ ys. clear_locals r ys cells) cons) ∙ kept
+-- the cells of the body locals read 0 as the locals do
+pub clear_local_cells : (r : ℕ) (vars : List VarInfo) (cells : List ℤ) → clear_cells (local_cells r vars) cells ≡ clear_locals r vars cells
+clear_local_cells r [] cells = refl
+clear_local_cells r (x ∷ xs) cells = elim (cases_Bool (is_local_of r x.scope)) [
+  | inl q ↦ rw q (clear_local_cells r xs (slice_set cells x.first.0 (pos 0)))
+  | inr q ↦ rw q (clear_local_cells r xs cells)
+]
 
-pub cleared_step : (n region : ℕ) (vars : List VarInfo) (now views : List (List ℤ)) (x new d : List ℤ) → now ≡ cleared_some n region vars views → n < length now → x ≡ get_or now n d → new ≡ clear_locals region vars x →
-    slice_set now n new ≡ cleared_some (n + 1) region vars views
-cleared_step n region vars now views x new d is within x_is new_is =
+pub cleared_step : (n : ℕ) (locals : List CellId) (now views : List (List ℤ)) (x new d : List ℤ) → now ≡ cleared_some n locals views → n < length now → x ≡ get_or now n d → new ≡ clear_cells locals x →
+    slice_set now n new ≡ cleared_some (n + 1) locals views
+cleared_step n locals now views x new d is within x_is new_is =
     let more : suc n ≡ n + 1 = omega arith in
-    let h : n < length views = omega (arith, within, ap length is, cleared-length n region vars views) in
-    ap (slice_set now n) (new_is ∙ ap (clear_locals region vars) x_is) ∙ ap (λ (xs : List (List ℤ)). slice_set xs n (clear_locals region vars (get_or xs n d))) is ∙ cleared_next n region vars views h d ∙ ap (λ (k : ℕ). cleared_some k region vars views) more
+    let h : n < length views = omega (arith, within, ap length is, cleared-length n locals views) in
+    ap (slice_set now n) (new_is ∙ ap (clear_cells locals) x_is) ∙ ap (λ (xs : List (List ℤ)). slice_set xs n (clear_cells locals (get_or xs n d))) is ∙ cleared_next n locals views h d ∙ ap (λ (k : ℕ). cleared_some k locals views) more
 
 pub show_step : (n stage cell : ℕ) (value : ℤ) (now views : List (List ℤ)) (x new d : List ℤ) → now ≡ shown_some n stage cell value 1 views → n < length now → x ≡ get_or now n d → new ≡ slice_set x cell value → stage ≤ n + 1 →
     slice_set now n new ≡ shown_some (n + 1) stage cell value 1 views
@@ -136,6 +140,12 @@ show_step n stage cell value now views x new d is within x_is new_is low =
     ap (slice_set now n) (new_is ∙ ap (λ (y : List ℤ). slice_set y cell value) x_is) ∙ ap (λ (xs : List (List ℤ)). slice_set xs n (slice_set (get_or xs n d) cell value)) is
     ∙ shown_more n stage cell value 1 views h (omega (arith, low)) d ∙ ap (λ (k : ℕ). shown_some k stage cell value 1 views) more
 
-pub kept_none : (stages : List ℕ) (views : List (List ℤ)) → kept_by stages [] views ≡ views
-kept_none [] views = refl
-kept_none (stage ∷ stages) views = refl
+-- where there is no store, nothing is shown
+pub no_stores : (stages : List ℕ) (stores : List StoreOf) (views : List (List ℤ)) → length stores ≡ 0 → kept_by stages stores views ≡ views
+no_stores [] stores views e = refl
+no_stores (stage ∷ stages) [] views e = refl
+no_stores (stage ∷ stages) (store ∷ stores) views e = absurd (omega (arith, e))
+
+pub none_replaced : (replaced : List Replaced) (stores : List StoreOf) (views : List (List ℤ)) → length replaced ≡ 0 → kept_by (stages_of replaced) stores views ≡ views
+none_replaced [] stores views e = refl
+none_replaced (was ∷ rest) stores views e = absurd (omega (arith, e))

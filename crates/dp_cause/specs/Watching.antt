@@ -1,10 +1,15 @@
 -- What is watched, as the walk that finds a cause has it, and what each answer says.
-use Rattle.std.specs.Prelude.{◌≡◌, ℕ, zero, suc, ◌-◌, if◌then◌else◌, List, [], ◌∷◌, ◌++◌, ℤ, Option, Some, None, Ok, Err, get_or, pos}
+use Rattle.std.specs.Prelude.{◌≡◌, true, ℕ, zero, suc, ◌-◌, if◌then◌else◌, List, [], ◌∷◌, ◌++◌, ℤ, Option, Some, None, Ok, Err, get_or, pos}
 use Rattle.dp_base.specs.declared.Cause.{Cause as ReportedCause}
 use Rattle.dp_base.specs.declared.SiteId.{SiteId}
 use Rattle.dp_base.specs.declared.Word.{Word}
 use Rattle.dp_base.specs.Arithmetic.{is_zero}
+use Rattle.std.specs.List.{list_all}
 use Rattle.dp_tree.specs.declared.Stmt.{Stmt}
+use Rattle.dp_tree.specs.declared.Stmt.TheOpen.{Stmt-F, Region}
+use Rattle.dp_tree.specs.declared.Stmt.TheVariants as tree
+use Rattle.dp_tree.specs.declared.Expr.{Expr}
+use Rattle.dp_tree.specs.Numbering.{is_inner}
 use Rattle.dp_tree.specs.declared.Program.{Program}
 use Rattle.dp_tree.specs.Eval.{WithLoads, Evaluated}
 use Rattle.dp_tree.specs.Step.{Effect, Stored, Printed, Decided, Tried, Event, value_of, stored, line_of}
@@ -61,11 +66,6 @@ reported_if (Some cause) = Some (reported cause)
 -- there is a cause, and the report has it so
 abbrev pub Told : Option Cause → ReportedCause → Type 0
 Told found told = (cause : Cause) × (found ≡ Some cause) × (told ≡ reported cause)
-
--- this cause was found, or nothing is said
-abbrev pub FindsIf : Option Cause → Option ReportedCause → Type 0
-FindsIf found None = Unit {0}
-FindsIf found (Some told) = Told found told
 
 -- the memories and the numbers of words
 abbrev pub watch_in : Watched → Watch
@@ -125,11 +125,25 @@ Steps g old site r new step.NoMemory = Unit {0}
 abbrev pub walk_from : Ground → Watched → List Stmt → Option Cause
 walk_from g s to_do = cause_walk g.program.now g.plan.now g.input.now s.left (watch_in s) to_do s.cells
 
--- The walk through these statements goes on from the new state, or it finds the cause.
+-- a region's body has no region inside
+abbrev pub HasInner : Stmt-F Stmt → Type 0
+HasInner (Region r site cond body) = list_all is_inner body ≡ true
+HasInner _ = Unit {0}
+
+-- The walk through these statements goes on from the new state, or it finds the cause; or it leaves the region without one, where no
+-- region stands among them and what follows.
 abbrev pub Leads : Ground → Watched → List Stmt → Watched → Looked → Type 0
 Leads g old front new looked.Goes = (rest : List Stmt) → walk_from g old (front ++ rest) ≡ walk_from g new rest
 Leads g old front new (looked.Found told) = (rest : List Stmt) → Told (walk_from g old (front ++ rest)) told
-Leads g old front new _ = Unit {0}
+Leads g old front new looked.Leaves = (rest : List Stmt) → list_all is_inner (front ++ rest) ≡ true → walk_from g old (front ++ rest) ≡ None
+Leads g old front new looked.NoMemory = Unit {0}
+
+-- The walk through a region's turn finds the cause, or none where no region stands in the body.
+abbrev pub Turns : Ground → Watched → SiteId → Expr → List Stmt → Looked → Type 0
+Turns g old site cond body (looked.Found told) = Told (walk_from g old (tree.If site cond body [] ∷ [])) told
+Turns g old site cond body looked.Goes = list_all is_inner body ≡ true → walk_from g old (tree.If site cond body [] ∷ []) ≡ None
+Turns g old site cond body looked.Leaves = list_all is_inner body ≡ true → walk_from g old (tree.If site cond body [] ∷ []) ≡ None
+Turns g old site cond body looked.NoMemory = Unit {0}
 
 -- a step of a statement behind which the next one follows, or before which the region is left where its value isn't 0
 abbrev pub simply_of : Step → Looked

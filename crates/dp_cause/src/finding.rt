@@ -1,13 +1,12 @@
 //! The source's steps through an iteration's text.
-ghost use Rattle.std.specs.Prelude.{◌≡◌, ◌∷◌, []};
+ghost use Rattle.std.specs.Prelude.{◌≡◌, ◌∷◌, [], IfOk};
 ghost use Rattle.dp_tree.specs.declared.Stmt.{out-Stmt};
-ghost use Rattle.dp_tree.specs.declared.Stmt.TheVariants as tree;
 ghost use Rattle.dp_semantics.specs.FindsCauses.{turn_by};
-ghost use Rattle.dp_cause.specs.Watching.{Leads, IsGround, FindsIf, simply_of, left_of, walk_from};
+ghost use Rattle.dp_cause.specs.Watching.{HasInner, Leads, Turns, IsGround, reported_if, simply_of, left_of, walk_from};
 
 use crate::assuming::zero;
 use crate::watched::{Ground, Looked, Step, Watched};
-use dp_base::{Cause, SiteId};
+use dp_base::{Cause, NoMemory, SiteId};
 use dp_tree::{Expr, Stmt};
 
 /// A statement without other statements in it.
@@ -109,7 +108,7 @@ impl Watched {
     /// A region's turn: its condition, and its body where that isn't 0.
     fn turn<'p>(&mut self, ground: Ground<'p>, site: SiteId, cond: &Expr, body: &[Stmt]) -> Looked
         requires ground { IsGround ground }
-        ensures { Leads ground.entry self.old (tree.If site cond.now body.now [] ∷ []) self.new result }
+        ensures { Turns ground.entry self.old site cond.now body.now result }
     {
         match self.decide(ground, site, cond) {
             Step::On(value) => {
@@ -124,10 +123,15 @@ impl Watched {
         }
     }
 
-    /// The cause that is met in a turn of the region, if one is.
-    pub(crate) fn find<'p>(&mut self, ground: Ground<'p>, region: &Stmt) -> Option<Cause>
+    /// The cause that is met in a turn of the region, and none where the turn is clean.
+    pub(crate) fn find<'p>(
+        &mut self,
+        ground: Ground<'p>,
+        region: &Stmt,
+    ) -> Result<Option<Cause>, NoMemory>
         requires ground { IsGround ground }
-        ensures { FindsIf (walk_from ground.entry self.old (turn_by (out-Stmt region.now))) result }
+        requires inner { HasInner (out-Stmt region.now) }
+        ensures { IfOk result (λ found. found ≡ reported_if (walk_from ground.entry self.old (turn_by (out-Stmt region.now)))) }
     {
         match region {
             Stmt::Region {
@@ -136,10 +140,12 @@ impl Watched {
                 body,
                 ..
             } => match self.turn(ground, *site, cond, body.as_slice()) {
-                Looked::Found(cause) => Some(cause),
-                Looked::Goes | Looked::Leaves | Looked::NoMemory => None,
+                Looked::Found(cause) => Ok(Some(cause)),
+                Looked::Goes => Ok(None),
+                Looked::Leaves => Ok(None),
+                Looked::NoMemory => Err(NoMemory),
             },
-            _ => None,
+            _ => Err(NoMemory),
         }
     }
 }

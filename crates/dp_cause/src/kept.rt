@@ -1,18 +1,20 @@
 //! What is kept between two iterations, and the search for a cause from there.
-ghost use Rattle.std.specs.Prelude.{◌≡◌, IfOk, IfSome, [], if◌then◌else◌, map, filter, length, replicate};
-ghost use Rattle.dp_tree.specs.Step.{clear_locals};
+ghost use Rattle.std.specs.Prelude.{◌≡◌, true, IfOk, IfSome, [], if◌then◌else◌, map, filter, length, replicate};
+ghost use Rattle.dp_tree.specs.Numbering.{regions_in_order};
 ghost use Rattle.dp_tree.specs.declared.Stmt.{out-Stmt};
 ghost use Rattle.dp_plan.specs.Access.{first_site, is_region_at, is_replicated};
 ghost use Rattle.dp_plan.specs.CheckedTable.{IsTabled};
 ghost use Rattle.dp_semantics.specs.CauseWalk.{cause_walk};
 ghost use Rattle.dp_semantics.specs.EpochCauses.{first_kept, own_kept, views_from, watch_of};
 ghost use Rattle.dp_semantics.specs.FindsCauses.{turn_by, turn_in, turn_text};
-ghost use Rattle.dp_cause.specs.Views.{kept_by, last_or, stored_all};
-ghost use Rattle.dp_cause.specs.Watching.{FindsIf, widened};
+ghost use Rattle.dp_cause.specs.Views.{last_or};
+ghost use Rattle.dp_cause.specs.Views as definition;
+ghost use Rattle.dp_cause.specs.Watching.{HasInner, reported_if, widened};
 
-use crate::views::{clear, clear_all, put_all, show_all};
+use crate::replaced::Replaced;
+use crate::views::{clear, clear_all, local_cells, show_all};
 use crate::watched::{Ground, Watched};
-use dp_base::{Cause, Cells, NoMemory, Row, StoreOf};
+use dp_base::{Cause, CellId, Cells, NoMemory, Row, StoreOf};
 use dp_plan::{Plan, StageKind, is_region};
 use dp_tree::{Program, Stmt};
 use std::alloc::Global;
@@ -106,7 +108,8 @@ fn wide(alloc: Global, plan: &Plan) -> Result<Plan, NoMemory>
 
 /// The statement of a region.
 fn region_of(all: &[Stmt], region: u32) -> Option<&Stmt>
-    ensures { IfSome result (λ found. turn_in (filter (is_region_at region) all.now) ≡ turn_by (out-Stmt found.now)) }
+    requires { regions_in_order 1 all.now ≡ true }
+    ensures { IfSome result (λ found. (turn_in (filter (is_region_at region) all.now) ≡ turn_by (out-Stmt found.now)) × HasInner (out-Stmt found.now)) }
 {
     for statement in all {
         if is_region(region, statement) {
@@ -116,62 +119,71 @@ fn region_of(all: &[Stmt], region: u32) -> Option<&Stmt>
     None
 }
 
-/// What is kept of an epoch whose iterations so far were clean: for each sequential stage its memory where the next one starts, and
-/// the source's.
+/// What is kept of an epoch whose iterations so far were clean: for each sequential stage its memory where the next one starts.
 #[derive(Drop)]
 pub struct Kept {
     views: Row<Cells>,
-    cells: Cells,
+    /// The cells of the body locals.
+    locals: Row<CellId>,
 }
 
 impl Kept {
     /// Where an epoch begins.
-    pub fn new(alloc: Global, plan: &Plan, base: &Cells) -> Result<Kept, NoMemory>
-        ensures { IfOk result (λ kept. kept ≡ record { views = first_kept base.now plan.now.stages; cells = base.now }) }
+    pub fn new(alloc: Global, p: &Program, plan: &Plan, base: &Cells) -> Result<Kept, NoMemory>
+        ensures { IfOk result (λ kept. kept ≡ record { views = first_kept base.now plan.now.stages; locals = definition.local_cells plan.now.region p.now.vars }) }
     {
         Ok(Kept {
             views: owns(alloc, plan.stages.as_slice(), base)?,
-            cells: base.copy()?,
+            locals: local_cells(alloc, plan.region, p.vars.as_slice())?,
         })
     }
 
-    /// Behind a clean iteration with these stores, each at a site of this stage.
-    pub fn carry(&mut self, p: &Program, plan: &Plan, stores: &[StoreOf], stages: &[u32])
-        ensures { self.new ≡ record { views = map (clear_locals plan.now.region p.now.vars) (kept_by stages.now stores.now self.old.views); cells = clear_locals plan.now.region p.now.vars (stored_all stores.now self.old.cells) } }
+    /// Behind a clean iteration with these stores: the body locals read 0, also in the source's memory, which has the stores.
+    pub fn carry(&mut self, stores: &[StoreOf], replaced: &[Replaced], cells: &mut Cells)
+        ensures kept { self.new ≡ record { views = map (definition.clear_cells self.old.locals) (definition.kept_by (definition.stages_of replaced.now) stores.now self.old.views); locals = self.old.locals } }
+        ensures cells { cells.new ≡ definition.clear_cells self.old.locals cells.old }
     {
-        show_all(self.views.as_mut_slice(), stores, stages);
-        clear_all(plan.region, p.vars.as_slice(), self.views.as_mut_slice());
-        put_all(&mut self.cells, stores);
-        clear(plan.region, p.vars.as_slice(), &mut self.cells);
+        show_all(self.views.as_mut_slice(), stores, replaced);
+        clear_all(self.locals.as_slice(), self.views.as_mut_slice());
+        clear(self.locals.as_slice(), cells);
     }
 
     /// What is watched from here on.
-    fn watched(&self, alloc: Global, plan: &Plan, left: u64) -> Result<Watched, NoMemory>
-        ensures { IfOk result (λ watched. watched ≡ record { views = views_from plan.now 1 [] self.now.views; counts = replicate (length plan.now.stages) 0; cells = self.now.cells; left = left }) }
+    fn watched(
+        &self,
+        alloc: Global,
+        plan: &Plan,
+        cells: Cells,
+        left: u64,
+    ) -> Result<Watched, NoMemory>
+        ensures { IfOk result (λ watched. watched ≡ record { views = views_from plan.now 1 [] self.now.views; counts = replicate (length plan.now.stages) 0; cells = cells; left = left }) }
     {
         Ok(Watched {
             views: views(alloc, plan, self.views.as_slice())?,
             counts: none_counted(alloc, plan.stages.len())?,
-            cells: self.cells.copy()?,
+            cells,
             left,
         })
     }
 
-    fn search(
+    /// Why the next iteration isn't clean, in the source's memory before it, where so many steps are left; none where it is clean.
+    pub fn cause(
         &self,
         alloc: Global,
         p: &Program,
         plan: &Plan,
         input: &[i64],
         first: u32,
+        cells: Cells,
         left: u64,
     ) -> Result<Option<Cause>, NoMemory>
         requires tabled { IsTabled p.now plan.now }
         requires first { first ≡ first_site p.now plan.now }
-        ensures { IfOk result (λ found. FindsIf (cause_walk p.now plan.now input.now left (watch_of plan.now self.now.views) (turn_text p.now plan.now) self.now.cells) found) }
+        requires regions { regions_in_order 1 p.now.main ≡ true }
+        ensures { IfOk result (λ found. found ≡ reported_if (cause_walk p.now plan.now input.now left (watch_of plan.now self.now.views) (turn_text p.now plan.now) cells)) }
     {
         let wide = wide(alloc, plan)?;
-        let mut watched = self.watched(alloc, plan, left)?;
+        let mut watched = self.watched(alloc, plan, cells, left)?;
         let ground = Ground {
             alloc,
             program: p,
@@ -181,28 +193,8 @@ impl Kept {
             first,
         };
         match region_of(p.main.as_slice(), plan.region) {
-            Some(region) => Ok(watched.find(ground, region)),
-            None => Ok(None),
-        }
-    }
-
-    /// Why the next iteration isn't clean, where so many steps are left; none where it is, or memory was wanting.
-    pub fn cause(
-        &self,
-        alloc: Global,
-        p: &Program,
-        plan: &Plan,
-        input: &[i64],
-        first: u32,
-        left: u64,
-    ) -> Option<Cause>
-        requires tabled { IsTabled p.now plan.now }
-        requires first { first ≡ first_site p.now plan.now }
-        ensures { FindsIf (cause_walk p.now plan.now input.now left (watch_of plan.now self.now.views) (turn_text p.now plan.now) self.now.cells) result }
-    {
-        match self.search(alloc, p, plan, input, first, left) {
-            Ok(found) => found,
-            Err(_) => None,
+            Some(region) => watched.find(ground, region),
+            None => Err(NoMemory),
         }
     }
 }

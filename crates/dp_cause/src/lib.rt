@@ -5,8 +5,10 @@ mod assuming;
 mod finding;
 mod kept;
 mod looking;
+mod replaced;
 mod stepping;
 mod views;
 mod watched;
 
 pub use kept::Kept;
+pub use replaced::Replaced;

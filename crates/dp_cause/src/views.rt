@@ -1,12 +1,14 @@
 //! The memories that stages see, and the numbers of their words.
-ghost use Rattle.std.specs.Prelude.{◌≡◌, OnOk, if◌then◌else◌, map, pos, slice_set};
-ghost use Rattle.dp_tree.specs.Step.{clear_locals, is_local_of};
+ghost use Rattle.std.specs.Prelude.{◌≡◌, OnOk, IfOk, map};
+ghost use Rattle.dp_tree.specs.Step.{is_local_of};
 ghost use Rattle.dp_semantics.specs.CauseWalk.{view_of, count_of};
-ghost use Rattle.dp_cause.specs.Views.{count_more, kept_by, shown_by, stored_all};
+ghost use Rattle.dp_cause.specs.Views as definition;
 
 use crate::assuming::put;
-use dp_base::{Cells, NoMemory, Row, StoreOf};
+use crate::replaced::Replaced;
+use dp_base::{CellId, Cells, NoMemory, Row, StoreOf};
 use dp_tree::{VarInfo, VarScope};
+use std::alloc::Global;
 
 /// The memory of a stage; stages count from 1.
 pub fn view(views: &[Cells], stage: u32) -> &[i64]
@@ -36,7 +38,7 @@ pub fn count(counts: &[u64], stage: u32) -> u64
 
 /// A stage has so many words more.
 pub fn add(counts: &mut Row<u64>, stage: u32, more: u64) -> Result<(), NoMemory>
-    ensures { OnOk result (counts.new ≡ count_more stage more counts.old) }
+    ensures { OnOk result (counts.new ≡ definition.count_more stage more counts.old) }
 {
     if stage == 0 {
         return Ok(());
@@ -52,7 +54,7 @@ pub fn add(counts: &mut Row<u64>, stage: u32, more: u64) -> Result<(), NoMemory>
 
 /// A store at a site of a stage is seen by it and the later ones.
 pub fn show(views: &mut [Cells], stage: u32, cell: u32, value: i64)
-    ensures { views.new ≡ shown_by stage cell value 1 views.old }
+    ensures { views.new ≡ definition.shown_by stage cell value 1 views.old }
 {
     let mut place = (stage as usize).saturating_sub(1);
     while place < views.len() {
@@ -62,22 +64,11 @@ pub fn show(views: &mut [Cells], stage: u32, cell: u32, value: i64)
 }
 
 /// Each store is seen by its stage and the later ones.
-pub fn show_all(views: &mut [Cells], stores: &[StoreOf], stages: &[u32])
-    ensures { views.new ≡ kept_by stages.now stores.now views.old }
+pub fn show_all(views: &mut [Cells], stores: &[StoreOf], replaced: &[Replaced])
+    ensures { views.new ≡ definition.kept_by (definition.stages_of replaced.now) stores.now views.old }
 {
-    for (place, store) in stores.iter().enumerate() {
-        if let Some(stage) = stages.get(place) {
-            show(views, *stage, store.cell.0, store.value);
-        }
-    }
-}
-
-/// Stores, one after the other.
-pub fn put_all(cells: &mut Cells, stores: &[StoreOf])
-    ensures { cells.new ≡ stored_all stores.now cells.old }
-{
-    for store in stores {
-        put(cells, store.cell.0, store.value);
+    for (store, was) in stores.iter().zip(replaced.iter()) {
+        show(views, was.stage, store.cell.0, store.value);
     }
 }
 
@@ -90,30 +81,35 @@ fn is_local(region: u32, scope: VarScope) -> bool
     }
 }
 
-fn clear_one(region: u32, info: &VarInfo, cells: &mut Cells)
-    ensures { cells.new ≡ (if is_local_of region info.now.scope then slice_set cells.old info.now.first.0 (pos 0) else cells.old) }
+/// The cells of the region's body locals.
+pub fn local_cells(alloc: Global, region: u32, vars: &[VarInfo]) -> Result<Row<CellId>, NoMemory>
+    ensures { IfOk result (λ cells. cells ≡ definition.local_cells region vars.now) }
 {
-    if is_local(region, info.scope) {
-        put(cells, info.first.0, 0);
+    let mut cells = Row::new(alloc);
+    for info in vars {
+        if is_local(region, info.scope) {
+            cells.push(info.first)?;
+        }
     }
+    Ok(cells)
 }
 
-/// The body locals read 0.
-pub fn clear(region: u32, vars: &[VarInfo], cells: &mut Cells)
-    ensures { cells.new ≡ clear_locals region vars.now cells.old }
+/// These cells read 0.
+pub fn clear(locals: &[CellId], cells: &mut Cells)
+    ensures { cells.new ≡ definition.clear_cells locals.now cells.old }
 {
-    for info in vars {
-        clear_one(region, info, cells);
+    for cell in locals {
+        put(cells, cell.0, 0);
     }
 }
 
 /// .. in each memory.
-pub fn clear_all(region: u32, vars: &[VarInfo], views: &mut [Cells])
-    ensures { views.new ≡ map (clear_locals region vars.now) views.old }
+pub fn clear_all(locals: &[CellId], views: &mut [Cells])
+    ensures { views.new ≡ map (definition.clear_cells locals.now) views.old }
 {
     let mut place = 0;
     while place < views.len() {
-        clear(region, vars, &mut views[place]);
+        clear(locals, &mut views[place]);
         place += 1;
     }
 }

@@ -6,6 +6,8 @@ pub mod Going
 pub mod Committing
 pub mod Applied
 pub mod CountLemmas
+pub mod Undoing
+pub mod FindLemmas
 pub mod WalkLemmas
 pub mod CodeJudges
 pub mod EpochLemmas

@@ -1,5 +1,6 @@
 pub mod CommittedState
 pub mod Told
 pub mod FlatJudge
+pub mod Held
 pub mod Judging
 pub mod Standing

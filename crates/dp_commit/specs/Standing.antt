@@ -1,12 +1,11 @@
 -- Where the judging stands in an epoch, and what it decides.
-use Rattle.std.specs.Prelude.{◌≡◌, ℕ, suc, false, true, ◌<◌, ◌-◌, List, ℤ, length, Some}
-use Rattle.dp_base.specs.declared.Word.{Word}
-use Rattle.dp_semantics.specs.Judge.{Judgement, judge_lists}
+use Rattle.std.specs.Prelude.{◌≡◌, ℕ, suc, false, true, ◌<◌, ◌-◌, length, Some}
 use Rattle.dp_semantics.specs.Packets.{Packet, passed}
 use Rattle.dp_semantics.specs.EpochKey.{EpochKey, epoch_of}
 use Rattle.dp_semantics.specs.EpochVerdicts.{goes_on, state_at, verdict_at}
 use Rattle.dp_semantics.specs.EpochCauses.{IsSound, kept_at}
 use Rattle.dp_semantics.specs.Items.{OrWanting}
+use Rattle.dp_cause.specs.Views.{local_cells}
 use Rattle.dp_commit.specs.Told.{decided}
 use Rattle.dp_commit.specs.declared.trying.TryCommit.{TryCommit}
 use Rattle.dp_commit.specs.declared.verdict.Verdict.{Verdict}
@@ -18,7 +17,7 @@ pub record Knows (t : TryCommit) (key : EpochKey) (n : ℕ) : Type 0 where
   pub plan : t.plan.now ≡ key.plan
   pub input : t.input.now ≡ key.input
   pub left : t.left ≡ key.fuel - (state_at key n).steps
-  pub kept : t.kept ≡ record { views = kept_at key n; cells = (state_at key n).cells }
+  pub kept : t.kept ≡ record { views = kept_at key n; locals = local_cells key.plan.region key.program.vars }
   pub sound : IsSound key
   pub gone : (m : ℕ) → m < n → goes_on (verdict_at key m) ≡ true
 
@@ -47,7 +46,3 @@ pub record IsSame (t u : TryCommit) : Type 0 where
   pub program : t.program.now ≡ u.program.now
   pub plan : t.plan.now ≡ u.plan.now
   pub input : t.input.now ≡ u.input.now
-
--- the judgement is that of these words in the memory that is held
-abbrev pub TellsOf : TryCommit → List (List Word) → Judgement → Type 0
-TellsOf t lists judgement = (cells : List ℤ) → t.cells ≡ Some cells → judgement ≡ judge_lists t.program.now t.plan.now t.left cells lists

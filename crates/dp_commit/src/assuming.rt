@@ -1,5 +1,5 @@
 //! Outcomes that a plan assumes, and the memory's side of the words.
-ghost use Rattle.std.specs.Prelude.{◌≡◌, false, true, get_or, pos, slice_get, slice_index, slice_set, MatchOption, Some, if◌then◌else◌};
+ghost use Rattle.std.specs.Prelude.{◌≡◌, false, true, get_or, pos, slice_get, slice_index, slice_set, drop, MatchOption, Some, if◌then◌else◌};
 ghost use Rattle.dp_plan.specs.Access.{first_site, stage_of};
 ghost use Rattle.std.specs.List.{list_all};
 ghost use Rattle.dp_tree.specs.Event as effect;
@@ -12,7 +12,6 @@ ghost use Rattle.dp_commit.specs.FlatJudge as walk;
 use crate::court::Court;
 use dp_base::{CellId, Cells, Row, SiteId, Word, WordKind};
 use dp_code::Op;
-use dp_packet::Cursor;
 use dp_plan::Plan;
 use dp_tree::Assume;
 
@@ -117,7 +116,7 @@ pub fn is_break(code: &[Op], next: usize, zero: u32) -> bool
     zero > 0 && zero as usize - 1 == next && ends_at(code, next)
 }
 
-fn value_at(cells: &[i64], cell: u32) -> i64
+pub fn value_at(cells: &[i64], cell: u32) -> i64
     ensures { result ≡ get_or cells.now cell (pos 0) }
 {
     match cells.get(cell as usize) {
@@ -133,12 +132,12 @@ fn is_load(word: Word, site: SiteId) -> bool
     word.site.0 == site.0 && word.kind == WordKind::Load
 }
 
-/// The words after the site's loads at the front, where each of them gave what the memory holds.
+/// The place behind the site's loads from a place on, where each of them gave what the memory holds.
 #[inline(always)]
-pub fn behind_loads<'w>(cells: &[i64], words: &'w [Word], site: SiteId) -> Option<&'w [Word]>
-    ensures { MatchOption result (judge.loads_hold site.0 cells.now words.now ≡ false) (λ rest. (judge.loads_hold site.0 cells.now words.now ≡ true) × (rest.now ≡ after_loads_of site.0 words.now)) }
+pub fn behind_loads(cells: &[i64], words: &[Word], from: usize, site: SiteId) -> Option<usize>
+    ensures { MatchOption result (judge.loads_hold site.0 cells.now (drop from words.now) ≡ false) (λ place. (judge.loads_hold site.0 cells.now (drop from words.now) ≡ true) × (drop place words.now ≡ after_loads_of site.0 (drop from words.now))) }
 {
-    let mut i = 0;
+    let mut i = from;
     'words: while i < words.len() {
         let word = words[i];
         if !is_load(word, site) {
@@ -149,7 +148,7 @@ pub fn behind_loads<'w>(cells: &[i64], words: &'w [Word], site: SiteId) -> Optio
         }
         i += 1;
     }
-    Some(&words[i..])
+    Some(i)
 }
 
 #[inline(always)]
@@ -176,17 +175,28 @@ pub fn stage_at<'p>(court: Court<'p>, site: SiteId) -> u32
     }
 }
 
-/// What is left of a stage's words; stages count from 1.
+/// A stage's words; stages count from 1.
 #[inline(always)]
-pub fn list_of<'p>(lists: &[Cursor<'p>], stage: u32) -> &'p [Word]
+pub fn list_of<'p>(lists: &'p [Row<Word>], stage: u32) -> &'p [Word]
     ensures { result.now ≡ word_list lists.now stage }
 {
     if stage == 0 {
         return &[];
     }
     match lists.get(stage as usize - 1) {
-        Some(cursor) => cursor.rest(),
+        Some(list) => list.as_slice(),
         None => &[],
+    }
+}
+
+/// How many words of the list at a place are taken, if there is one.
+#[inline(always)]
+pub fn taken_at(taken: &[usize], place: usize) -> Option<usize>
+    ensures { result ≡ slice_get taken.now place }
+{
+    match taken.get(place) {
+        Some(count) => Some(*count),
+        None => None,
     }
 }
 
@@ -200,12 +210,12 @@ pub fn put(cells: &mut Cells, cell: u32, value: i64)
     }
 }
 
-/// Puts what is left of a list in its place, if there is one.
+/// So many words of the list at a place are taken, if there is one.
 #[inline(always)]
-pub fn put_list<'p>(lists: &mut Row<Cursor<'p>>, place: usize, rest: Cursor<'p>)
-    ensures { lists.new ≡ slice_set lists.old place rest.entry }
+pub fn put_taken(taken: &mut Row<usize>, place: usize, count: usize)
+    ensures { taken.new ≡ slice_set taken.old place count }
 {
-    if place < lists.len() {
-        lists.set(place, rest);
+    if place < taken.len() {
+        taken.set(place, count);
     }
 }

@@ -1,7 +1,7 @@
 //! What the judging of an iteration's words holds.
 use dp_base::{Cells, Row, StoreOf, Word};
+use dp_cause::Replaced;
 use dp_code::Op;
-use dp_packet::Cursor;
 use dp_plan::Plan;
 use dp_tree::Program;
 
@@ -38,27 +38,32 @@ pub struct Walk<'p> {
     pub steps: u64,
     /// The source's memory.
     pub cells: Cells,
-    /// What is left of each stage's words.
-    pub lists: Row<Cursor<'p>>,
+    /// The stages' words.
+    pub lists: &'p [Row<Word>],
+    /// How many of each stage's words are taken.
+    pub taken: Row<usize>,
     pub stores: Row<StoreOf>,
-    /// The stage of each store's site.
-    pub stages: Row<u32>,
+    /// What each store replaced.
+    pub replaced: Row<Replaced>,
     pub prints: Row<i64>,
     pub closing: bool,
 }
 
-/// For how many stores and prints there is room where a judging begins.
-#[derive(Clone, Copy)]
-pub struct Room {
+/// The rows that a judging works with, which the next one takes over, and how many stores and prints there were.
+#[derive(Drop)]
+pub struct Rows {
+    pub taken: Row<usize>,
+    pub replaced: Row<Replaced>,
     pub stores: usize,
     pub prints: usize,
 }
 
-/// The word of what a site did, and the words behind it.
-#[derive(Drop)]
-pub struct Found<'p> {
+/// The word of what a site did.
+#[derive(Clone, Copy)]
+pub struct Found {
     /// The stage of the site.
     pub stage: u32,
     pub word: Word,
-    pub rest: Cursor<'p>,
+    /// How many of the stage's words are taken with it.
+    pub taken: usize,
 }

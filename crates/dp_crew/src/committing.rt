@@ -14,20 +14,22 @@ use crate::threads::{Started, join_all, none_started, slots_of, start};
 use dp_base::{NoMemory, Row};
 use dp_commit::Tally;
 use dp_edge::{Gate, Sink};
-use dp_pipeline::{LaneVerdicts, Unit};
+use dp_pipeline::{Bell, LaneVerdicts, Pause, Unit, ring_all};
 use dp_stop::{Stop, StopSetter};
 use std::alloc::Global;
 use std::sync::Wait;
 use std::thread;
 use std::thread::Threads;
 
-/// Runs each unit in a thread, and commits what they give. When it is over the flag is set, and every thread has ended.
+/// Runs each unit in a thread, which waits by the bell at the unit's place, and commits what they give. When it is over the
+/// flag is set, and every thread has ended.
 #[tactic(auto, using(crate::proofs::WriteLemmas::front_nothing))]
 pub(crate) fn commit_in_threads<'p, 'u, R: Threads + Wait + Sync, K: Sink, G: Gate>(
     rt: &R,
     alloc: Global,
     units: Row<Unit<'u>>,
     verdicts: LaneVerdicts<'u>,
+    bells: &'u [Bell],
     stop: &'u Stop,
     mut setter: StopSetter,
     ledger: Ledger<'p>,
@@ -53,6 +55,7 @@ pub(crate) fn commit_in_threads<'p, 'u, R: Threads + Wait + Sync, K: Sink, G: Ga
     let mut started = none_started(alloc, units.len())?;
     let slots = slots_of(alloc, units)?;
     let shared = slots.as_slice();
+    let pause = Pause::at(bells, slots.len());
     let (lent_sink, lent_tally) = (&mut *sink, &mut *tally);
     let (sink_back, tally_back, end) = thread::scope(
         thread::scope_env(),
@@ -75,11 +78,12 @@ pub(crate) fn commit_in_threads<'p, 'u, R: Threads + Wait + Sync, K: Sink, G: Ga
             ensures room { IfOk result.2 (λ r. HasRoom result.1.now r.0.committed) }
             ensures left { IfOk result.2 (λ r. left_of r.0.committed ≤ left_of ledger.entry.committed) }
         {
-            let begun = start(scope, rt, shared, gate, &mut started);
+            let begun = start(scope, rt, shared, bells, gate, &mut started);
             let Started { threads, own } = started;
-            let verdicts = verdicts.polling(own);
+            let verdicts = verdicts.polling(own, pause);
             let end = commit_all(begun, rt, alloc, verdicts, ledger, lent_sink, lent_tally);
             setter.set(rt, stop);
+            ring_all(bells);
             join_all(rt, threads);
             (lent_sink, lent_tally, end)
         },

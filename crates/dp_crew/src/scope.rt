@@ -17,7 +17,7 @@ use crate::size::CrewSize;
 use dp_code::StageProgram;
 use dp_commit::Tally;
 use dp_edge::{Gate, Sink};
-use dp_pipeline::Pipeline;
+use dp_pipeline::{Pipeline, bells_of};
 use dp_plan::Plan;
 use dp_stop::Stop;
 use dp_tree::Program;
@@ -69,7 +69,18 @@ pub(crate) fn run_one_epoch<'p, R: Threads + Wait + Sync, K: Sink, G: Gate>(
         &flag,
         &mut setter,
     )?;
+    let bells = bells_of(alloc, units.as_slice())?;
     commit_in_threads(
-        rt, alloc, units, verdicts, &flag, setter, ledger, sink, gate, tally,
+        rt,
+        alloc,
+        units,
+        verdicts,
+        bells.as_slice(),
+        &flag,
+        setter,
+        ledger,
+        sink,
+        gate,
+        tally,
     )
 }

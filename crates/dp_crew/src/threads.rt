@@ -1,8 +1,7 @@
 //! The threads of an epoch's units.
-use crossbeam_utils::Backoff;
 use dp_base::{NoMemory, Row};
 use dp_edge::Gate;
-use dp_pipeline::{Polled, Unit};
+use dp_pipeline::{Bell, Pause, Polled, Unit};
 use std::alloc::Global;
 use std::sync::{Mutex, Wait};
 use std::thread::{JoinHandle, Scope, Threads};
@@ -34,16 +33,18 @@ pub(crate) fn slots_of<'u>(alloc: Global, units: Row<Unit<'u>>) -> Result<Vec<Sl
     Ok(slots)
 }
 
-/// Starts a thread for each slot. A unit whose thread couldn't be started is the caller's own.
+/// Starts a thread for each slot, which waits by the bell at its place. A unit whose thread couldn't be started is the
+/// caller's own.
 pub(crate) fn start<'s, 'u, E, R: Wait + Sync, G: Gate>(
     scope: &Scope<'s, E>,
     rt: &'s R,
     slots: &'s [Slot<'u>],
+    bells: &'s [Bell],
     gate: &'s G,
     started: &mut Started<'u>,
 ) -> Result<(), NoMemory> {
-    for slot in slots {
-        match start_one(scope, rt, slot, gate) {
+    for (place, slot) in slots.iter().enumerate() {
+        match start_one(scope, rt, slot, bells, place, gate) {
             Some(thread) => started.threads.push(thread)?,
             None => keep(rt, slot, started)?,
         }
@@ -56,9 +57,11 @@ fn start_one<'s, 'u, E, R: Wait + Sync, G: Gate>(
     scope: &Scope<'s, E>,
     rt: &'s R,
     slot: &'s Slot<'u>,
+    bells: &'s [Bell],
+    place: usize,
     gate: &'s G,
 ) -> Option<JoinHandle<()>> {
-    match scope.spawn(move || run_unit(rt, slot, gate)) {
+    match scope.spawn(move || run_unit(rt, slot, Pause::at(bells, place), gate)) {
         Ok(thread) => Some(thread),
         Err(refused) => {
             drop(refused);
@@ -83,16 +86,18 @@ fn keep<'u, R: Wait>(rt: &R, slot: &Slot<'u>, started: &mut Started<'u>) -> Resu
 }
 
 /// What a unit's thread does: it polls the unit until it has ended.
-fn run_unit<R: Wait, G: Gate>(rt: &R, slot: &Slot<'_>, gate: &G) {
+fn run_unit<R: Wait, G: Gate>(rt: &R, slot: &Slot<'_>, mut pause: Pause<'_>, gate: &G) {
     let Some(mut unit) = take_unit(rt, slot) else {
         return;
     };
-    let backoff = Backoff::new();
     for _ in rt.forever() {
         match unit.poll(rt, gate) {
-            Polled::Moved => backoff.reset(),
-            Polled::Idle(_) => backoff.snooze(),
-            Polled::Ended => return,
+            Polled::Moved => pause.moved(),
+            Polled::Idle(_) => pause.wait(rt),
+            Polled::Ended => {
+                pause.ring();
+                return;
+            }
         }
     }
 }

@@ -1,14 +1,12 @@
 -- Plans that are made region by region.
-use Rattle.std.proofs.Common.{◌≡◌, refl, sym, ap, subst, ◌∙◌, ℕ, zero, suc, ◌+◌, ◌<◌, ◌≤◌, Bool, true, List, [], ◌∷◌, ◌++◌, map, length, sum, drop, drop-cons, get_or, Option, arith}
+use Rattle.std.proofs.Common.{◌≡◌, refl, sym, ap, subst, ◌∙◌, ℕ, zero, suc, ◌+◌, ◌<◌, ◌≤◌, List, [], ◌∷◌, ◌++◌, map, length, sum, drop, drop-cons, get_or, Option, arith}
 use Rattle.std.proofs.lemmas.List.{map-append}
 use Rattle.std.proofs.lemmas.List.Sums.{sum_by-cons}
 use Rattle.dp_tree.specs.declared.Program.{Program}
 use Rattle.dp_tree.specs.Numbering.{numbers_from}
 use Rattle.dp_plan.specs.declared.Plan.{Plan}
-use Rattle.dp_plan.specs.CheckedTable.{with_table}
-use Rattle.dp_plan.specs.GivenPlans.{ArePlans, HasVersion, IsPlan, region_of}
+use Rattle.dp_plan.specs.GivenPlans.{region_of}
 use Rattle.dp_plan.specs.PlanText.{Each}
-use Rattle.dp_plan.specs.WrittenText.{version_of}
 use Rattle.dp_profile.specs.declared.Profile.{Profile}
 use Rattle.dp_tree.specs.declared.Assume.{Assume}
 use Rattle.dp_depend.specs.declared.Edge.{Edge}
@@ -16,7 +14,7 @@ use Rattle.dp_depend.specs.Edges.{chosen_of, edges_of}
 use Rattle.dp_depend.specs.Node.{region_nodes}
 use Rattle.dp_units.specs.Order.{ArePlaces, IsOrder}
 use Rattle.dp_cut.specs.Automatic.{AreAutomatic, IsAutomatic, node_pairs, weights_of}
-use Rattle.dp_cut.specs.LeastPlan.{IsLeastPlan, plan_of_cut}
+use Rattle.dp_cut.specs.LeastPlan.{IsLeastPlan}
 
 each_more : {X : Type 0} (P : X → Type 0) (xs : List X) (x : X) → Each P xs → P x → Each P (xs ++ x ∷ [])
 each_more P [] x each one = (one, tt)
@@ -33,34 +31,21 @@ module _ (p : Program) (profile : Option Profile) (rate most workers : ℕ) wher
   pub record Made (count : ℕ) (plans : List Plan) : Type 0 where
     pub within : count ≤ length p.regions
     pub regions : map region_of plans ≡ numbers_from 1 count
-    pub each : Each (IsPlan p) plans
-    pub version : Each (HasVersion true) plans
     pub least : Each (λ (plan : Plan). IsAutomatic p plan.region profile rate most workers plan) plans
 
   pub made_none : Made 0 []
-  made_none = record { within = omega arith; regions = refl; each = tt; version = tt; least = tt }
+  made_none = record { within = omega arith; regions = refl; least = tt }
 
-  pub made_more : (count : ℕ) (plans : List Plan) (plan : Plan) → count < length p.regions → Made count plans → IsPlan p plan → IsAutomatic p (count + 1) profile rate most workers plan → Made (count + 1) (plans ++ plan ∷ [])
-  made_more count plans plan low made fits least =
+  pub made_more : (count : ℕ) (plans : List Plan) (plan : Plan) → count < length p.regions → Made count plans → IsAutomatic p (count + 1) profile rate most workers plan → Made (count + 1) (plans ++ plan ∷ [])
+  made_more count plans plan low made least =
       let region : plan.region ≡ count + 1 = ap region_of least.least.is in
       let number : plan.region ≡ 1 + count = omega (arith, region) in
       let next : suc count ≡ count + 1 = omega arith in
       record {
         within = omega (arith, low);
         regions = map-append region_of plans (plan ∷ []) ∙ ap (λ (l : List ℕ). l ++ plan.region ∷ []) made.regions ∙ ap (λ (i : ℕ). numbers_from 1 count ++ i ∷ []) number ∙ numbers_more 1 count ∙ ap (numbers_from 1) next;
-        each = each_more (IsPlan p) plans plan made.each fits;
-        version = each_more (HasVersion true) plans plan made.version (ap (λ (q : Plan). q.proved) least.least.is);
         least = each_more (λ (q : Plan). IsAutomatic p q.region profile rate most workers q) plans plan made.least (subst (λ (i : ℕ). IsAutomatic p i profile rate most workers plan) (sym region) least);
       }
-
-one_version : (plans : List Plan) → Each (HasVersion true) plans → Each (HasVersion (version_of plans)) plans
-one_version [] each = tt
-one_version (plan ∷ rest) each = subst (λ (v : Bool). Each (HasVersion v) (plan ∷ rest)) (sym each.0) each
-
-pub made_plans : (p : Program) (profile : Option Profile) (rate most workers count : ℕ) (plans : List Plan) → length p.regions ≤ count → Made p profile rate most workers count plans → ArePlans p plans
-made_plans p profile rate most workers count plans all made =
-    let whole : count ≡ length p.regions = omega (arith, all, made.within) in
-    record { regions = made.regions ∙ ap (numbers_from 1) whole; each = made.each; version = one_version plans made.version }
 
 pub made_least : (p : Program) (profile : Option Profile) (rate most workers count : ℕ) (plans : List Plan) → length p.regions ≤ count → Made p profile rate most workers count plans → AreAutomatic p profile rate most workers plans
 made_least p profile rate most workers count plans all made =
@@ -79,12 +64,6 @@ automatic_made p r profile rate most workers plan order places weights count pai
       (subst (λ (cs : List Assume). IsLeastPlan p r edges cs order places (weights_of p r profile) most workers plan) chosen_are
       (subst (λ (ws : List ℕ). IsLeastPlan p r edges chosen order places ws most workers plan) weights_are least));
 }
-
--- a plan with its table stays as it is
-pub tabled_fits : (p : Program) (r : ℕ) (profile : Option Profile) (rate most workers : ℕ) (plan : Plan) → IsAutomatic p r profile rate most workers plan → IsPlan p (with_table p plan) → IsPlan p plan
-tabled_fits p r profile rate most workers plan least fits =
-    let same : with_table p plan ≡ plan_of_cut p r least.places (chosen_of p r profile rate) least.least.cut = ap (with_table p) least.least.is in
-    subst (IsPlan p) (same ∙ sym least.least.is) fits
 
 pub sum_next : (ws : List ℕ) (i w : ℕ) → i < length ws → w ≡ get_or ws i w → sum (drop i ws) ≡ w + sum (drop (i + 1) ws)
 sum_next ws i w lt is =

@@ -8,4 +8,16 @@ pub mod Greedy
 pub mod LimitLemmas
 pub mod Optimum
 pub mod Weights
+pub mod NodeElements
+pub mod NodesAround
+pub mod NodeKinds
+pub mod ChosenIfs
+pub mod ControlEdges
+pub mod LeastStages
+pub mod RegionHead
+pub mod RegionReady
+pub mod StageLines
+pub mod ValidStages
+pub mod LeastValid
+pub mod PlansValid
 mod rows

@@ -1,6 +1,6 @@
 -- The stages of the units of a cut: they rise from stage to stage, and each stage has a unit.
-use Rattle.std.proofs.Common.{◌≡◌, inl, inr, refl, arith, ℕ, ◌+◌, ◌-◌, ◌<◌, ◌≤◌, nat_lt, Bool, true, false, List, [], ◌∷◌, length}
-use Rattle.std.proofs.lemmas.Bool.{cases_Bool, ltb-true, ltb-false, lt-ltb, true≢false}
+use Rattle.std.proofs.Common.{◌≡◌, ◌∙◌, ap, inl, inr, refl, arith, ℕ, ◌+◌, ◌-◌, ◌<◌, ◌≤◌, nat_lt, Bool, true, false, List, [], ◌∷◌, length}
+use Rattle.std.proofs.lemmas.Bool.{cases_Bool, cases_eq, ltb-true, ltb-false, lt-ltb, le-ltb, true≢false}
 use Rattle.dp_cut.specs.declared.Stretch.{Stretch}
 use Rattle.dp_cut.specs.Allowed.{AreStages}
 use Rattle.dp_cut.specs.LeastPlan.{stage_at}
@@ -48,4 +48,19 @@ module _ (carried : List (ℕ × ℕ)) (count : ℕ) where
   first_sequential begin s rest stages = elim (cases_Bool s.replicated) [
     | inl t ↦ absurd (true≢false (stages.1 t).0)
     | inr f ↦ f
+  ]
+
+  -- each stage has a unit
+  pub stage_reached : (k : ℕ) (closed : Bool) (begin : ℕ) (cut : List Stretch) → AreStages carried count closed begin cut → (j : ℕ) → k ≤ j → j < k + length cut → (a : ℕ) × (begin + a < count) × (stage_at k cut a ≡ j)
+  stage_reached k closed begin [] stages j low high = absurd (omega (arith, low, high))
+  stage_reached k closed begin (s ∷ rest) stages j low high = elim (cases_eq k j) [
+    | inl here ↦
+        let room = within s.replicated (begin + s.units) rest stages.2 in
+        (0, omega (arith, room, stages.0), rw (lt-ltb 0 s.units stages.0) here)
+    | inr other ↦
+        let later = stage_reached (k + 1) s.replicated (begin + s.units) rest stages.2 j (omega (arith, low, other)) (omega (arith, high)) in
+        let past : nat_lt (s.units + later.0) s.units ≡ false = le-ltb (s.units + later.0) s.units (omega arith) in
+        let left : (s.units + later.0) - s.units ≡ later.0 = omega arith in
+        let within = later.1 in
+        (s.units + later.0, omega (arith, within), rw past (ap (stage_at (k + 1) rest) left ∙ later.2))
   ]

@@ -1,8 +1,8 @@
 //! The automatic plans of a program.
-ghost use Rattle.std.specs.Prelude.{◌≡◌, ◌≤◌, ◌<◌, ◌^◌, IfOk, length, map, true};
+ghost use Rattle.std.specs.Prelude.{◌≡◌, ◌≤◌, ◌<◌, ◌^◌, IfOk, length, map, true, false};
 ghost use Rattle.std.specs.Option.{option_copied};
 ghost use Rattle.dp_tree.specs.Inlined.{IsInlined};
-ghost use Rattle.dp_plan.specs.GivenPlans.{ArePlans, IsPlan};
+ghost use Rattle.dp_plan.specs.GivenPlans.{ArePlans};
 ghost use Rattle.dp_units.specs.Graph.{AreWithin};
 ghost use Rattle.dp_cut.specs.Automatic as spec;
 
@@ -68,7 +68,8 @@ fn few(count: usize) -> Result<u32, NoMemory>
 
 /// There are fewer than the numbers of 32 bits.
 fn are_few(order: &[u32]) -> bool
-    ensures { result ≡ true → length order.now < 2 ^ 32 }
+    ensures few { result ≡ true → length order.now < 2 ^ 32 }
+    ensures many { result ≡ false → 2 ^ 32 ≤ length order.now }
 {
     order.len() < 1 << 32
 }
@@ -111,33 +112,7 @@ fn least_plan(alloc: Global, p: &Program, region: u32, wishes: Wishes<'_>) -> Re
     Ok(plan)
 }
 
-/// The least plan of a region, which fits it.
-fn fitting_plan(
-    alloc: Global,
-    p: &Program,
-    region: u32,
-    wishes: Wishes<'_>,
-) -> Result<Plan, NoMemory>
-    requires inlined { IsInlined p.now }
-    requires sites { length p.now.sites < 2 ^ 32 }
-    requires stages { 0 < wishes.stages }
-    requires few_stages { wishes.stages < 9 }
-    requires workers { 0 < wishes.workers }
-    requires few_workers { wishes.workers < 9 }
-    ensures least { IfOk result (λ plan. spec.IsAutomatic p.now region (option_copied wishes.entry.profile) wishes.entry.rate wishes.entry.stages wishes.entry.workers plan) }
-    ensures fits { IfOk result (λ plan. IsPlan p.now plan) }
-{
-    let plan = least_plan(alloc, p, region, wishes)?;
-    let fits = plan.fits(alloc, p)?;
-    if !fits {
-        return Err(NoMemory);
-    }
-    Ok(plan)
-}
-
-/// The automatic plans of an inlined program: for each region, in order, the least plan of its units.
-///
-/// Each plan is tested before it is given; one that doesn't fit its region would answer want of memory.
+/// The automatic plans of an inlined program: for each region, in order, the least plan of its units. They are valid plans.
 pub fn least_plans(alloc: Global, p: &Program, wishes: Wishes<'_>) -> Result<Row<Plan>, NoMemory>
     requires inlined { IsInlined p.now }
     requires sites { length p.now.sites < 2 ^ 32 }
@@ -151,7 +126,7 @@ pub fn least_plans(alloc: Global, p: &Program, wishes: Wishes<'_>) -> Result<Row
     let mut plans = Row::new(alloc);
     for place in 0..p.regions.len() {
         let region = few(place + 1)?;
-        let plan = fitting_plan(alloc, p, region, wishes)?;
+        let plan = least_plan(alloc, p, region, wishes)?;
         plans.push(plan)?;
     }
     Ok(plans)

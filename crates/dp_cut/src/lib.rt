@@ -12,7 +12,7 @@ mod site_weights;
 mod sums;
 
 pub use automatic::{Wishes, least_plans};
-pub use law::automatic_plans_are_one;
+pub use law::{automatic_plans_are_one, least_plans_are_valid};
 pub use places::cut_units;
 pub use plan::cut;
 

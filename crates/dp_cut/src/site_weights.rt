@@ -1,5 +1,5 @@
 //! The weights of a region's sites.
-ghost use Rattle.std.specs.Prelude.{◌≡◌, ◌<◌, ◌+◌, ◌^◌, IfOk, map, sum, true, Some};
+ghost use Rattle.std.specs.Prelude.{◌≡◌, ◌<◌, ◌≤◌, ◌+◌, ◌^◌, IfOk, map, sum, true, false, Some};
 ghost use Rattle.std.specs.Option.{option_copied};
 ghost use Rattle.dp_depend.specs.Shown as shown;
 ghost use Rattle.dp_cut.specs.Automatic as spec;
@@ -68,8 +68,10 @@ pub fn weights_of(
 }
 
 /// The sum has 63 bits.
+#[tactic(auto, using(crate::proofs::AutomaticPlans::sum_next))]
 pub fn is_light(weights: &[u64]) -> bool
-    ensures { result ≡ true → sum weights.now < 2 ^ 63 }
+    ensures light { result ≡ true → sum weights.now < 2 ^ 63 }
+    ensures heavy { result ≡ false → 2 ^ 63 ≤ sum weights.now }
 {
     let most: u64 = 1 << 63;
     let mut left = most;

@@ -24,7 +24,7 @@ mutual
   sites_of_one around loop (tree.Region' r site cond _ a) = ap (λ (l : List ℕ). site.0 ∷ l) (sites_of_row (around ++ site.0 ∷ []) loop a)
   sites_of_one around loop _ = refl
 
-  sites_of_row : {n : _} (around : List ℕ) (loop : Option ℕ) (row : Row_of-Stmt n) → map site_of (nodes_in around loop row) ≡ map site_in (accesses_in row)
+  pub sites_of_row : {n : _} (around : List ℕ) (loop : Option ℕ) (row : Row_of-Stmt n) → map site_of (nodes_in around loop row) ≡ map site_in (accesses_in row)
   sites_of_row around loop end_of-Stmt = refl
   sites_of_row around loop (more_of-Stmt x rest) = joined (nodes around loop x) (nodes_in around loop rest) (accesses x) (accesses_in rest) (sites_of_one around loop x) (sites_of_row around loop rest)
 

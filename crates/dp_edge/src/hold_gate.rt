@@ -1,4 +1,6 @@
 //! A gate for tests, which shows that stages overlap.
+ghost use Rattle.std.specs.Prelude.{◌≡◌};
+
 use crate::gate::Gate;
 use std::sync::atomic::{AtomicBool, Ordering};
 use std::thread;
@@ -15,7 +17,9 @@ pub struct HoldGate {
 
 impl HoldGate {
     /// Entries are named by their stage, from 1, and their iteration, from 0. In each turn the held entry yields once.
-    pub fn new(held: (u32, u64), awaited: (u32, u64), turns: u64) -> HoldGate {
+    pub fn new(held: (u32, u64), awaited: (u32, u64), turns: u64) -> HoldGate
+        ensures { (result.held ≡ held) × (result.awaited ≡ awaited) × (result.turns ≡ turns) }
+    {
         HoldGate {
             held,
             awaited,

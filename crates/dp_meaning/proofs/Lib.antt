@@ -1,14 +1,20 @@
-pub mod PartsLemmas
 pub mod MemoryLemmas
 pub mod EvaluatedLemmas
 pub mod WatchLemmas
+pub mod ChainLemmas
+pub mod GivesLemmas
 pub mod SeenLemmas
 pub mod OuterLemmas
 pub mod FollowedLemmas
+pub mod RestLemmas
+pub mod LeadLemmas
+pub mod TableLemmas
 pub mod ContinuesLemmas
 pub mod StopLemmas
 pub mod ShapeLemmas
 pub mod InlinedLemmas
+pub mod PlaceLemmas
+pub mod StepLemmas
 pub mod TurnLemmas
 pub mod MovedLemmas
 pub mod WatchedLemmas
@@ -23,5 +29,4 @@ pub mod WalkLemmas
 pub mod NextLemmas
 pub mod QuietLemmas
 pub mod SkipRunLemmas
-pub mod DepthLemmas
 pub mod rows

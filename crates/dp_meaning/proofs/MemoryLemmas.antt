@@ -8,7 +8,7 @@ use Rattle.dp_tree.specs.declared.VarInfo.{VarInfo}
 use Rattle.dp_tree.specs.Trace.{start_cells}
 use Rattle.dp_tree.specs.Step.{is_local_of, clear_locals, region_number, clear_one, cleared_leaving}
 use Rattle.dp_meaning.specs.NextIteration.{with_stores}
-use Rattle.dp_meaning.specs.Parts.{first_of, first_region}
+use Rattle.dp_meaning.specs.Places.{first_of, first_region}
 
 -- a store past the end changes nothing
 pub store_out : (cells : List ℤ) (c : ℕ) (v : ℤ) → length cells ≤ c → slice_set cells c v ≡ cells

@@ -1,5 +1,6 @@
 pub mod Runnable
 pub mod MachineState
+pub mod Places
 pub mod Standing
 pub mod Sound
 pub mod Continues
@@ -8,6 +9,5 @@ pub mod PartRun
 pub mod IterationRun
 pub mod NextIteration
 pub mod Turn
-pub mod Parts
-pub mod Depth
 pub mod Watched
+pub mod Chain

@@ -2,17 +2,20 @@
 //! after any number of steps.
 #![tactic(auto)]
 
-mod configuration;
-mod depth;
+mod chain;
+mod code;
 mod ends;
 mod evaluate;
+mod flat;
+mod follow;
 mod loads;
 mod machine;
 mod memory;
+mod node;
+mod position;
 mod seen;
 mod sight;
 mod statement;
-mod to_do;
 mod turn;
 mod watch;
 

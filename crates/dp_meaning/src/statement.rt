@@ -2,14 +2,14 @@
 ghost use Rattle.std.specs.Prelude.{◌≡◌, ◌<◌, Ok, Err, OnOk, MatchResult};
 ghost use Rattle.dp_tree.specs.Eval.{result_of};
 ghost use Rattle.dp_tree.specs.Step as definition;
-ghost use Rattle.dp_tree.specs.Step.{evaluated, choose, Stored};
+ghost use Rattle.dp_tree.specs.Step.{evaluated, Stored};
 ghost use Rattle.dp_tree.specs.declared.Stmt.TheOpen as layer;
 ghost use Rattle.dp_meaning.specs.Watched.{Told, loads_of};
 
-use crate::evaluate::{count_of, evaluate_watched, first_of, is_zero, placed};
-use crate::watch::{Unwatched, Watch};
+use crate::evaluate::{count_of, evaluate_watched, first_of, placed};
+use crate::watch::Watch;
 use dp_base::{Fault, FaultKind, SiteId, VarId};
-use dp_tree::{Expr, Program, Stmt};
+use dp_tree::{Expr, Program};
 
 /// The element's cell and the value to be stored there. The index comes first, then the value, then the bound.
 #[tactic(auto, using(crate::proofs::EvaluatedLemmas::elements))]
@@ -30,29 +30,6 @@ pub(crate) fn element_watched<W: Watch>(
     let value = evaluate_watched(program, input, cells, value, watch)?;
     let place = placed(i, count_of(program, var))?;
     Ok((first_of(program, var) + place, value))
-}
-
-/// The same, which nothing watches.
-#[inline(always)]
-pub(crate) fn element(
-    program: &Program,
-    input: &[i64],
-    cells: &[i64],
-    var: VarId,
-    index: &Expr,
-    value: &Expr,
-) -> Result<(usize, i64), FaultKind>
-    ensures { let evaluation = result_of (evaluated program.now input.now cells.now (layer.Store (record { 0 = 0 }) var index.now value.now)) in
-        MatchResult result (λ store. evaluation ≡ Ok (Stored store.0 store.1)) (λ kind. evaluation ≡ Err kind) }
-{
-    let mut unwatched = Unwatched;
-    element_watched(program, input, cells, var, index, value, &mut unwatched)
-}
-
-pub(crate) fn chosen<'p>(value: i64, then_part: &'p [Stmt], else_part: &'p [Stmt]) -> &'p [Stmt]
-    ensures { result.now ≡ choose value then_part.now else_part.now }
-{
-    if is_zero(value) { else_part } else { then_part }
 }
 
 pub(crate) fn fault_at(program: &Program, site: SiteId, kind: FaultKind) -> Fault

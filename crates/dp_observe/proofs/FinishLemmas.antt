@@ -13,7 +13,7 @@ use Rattle.dp_observe.specs.declared.board.Board.{Board}
 use Rattle.dp_observe.specs.declared.counter.Counter.{Counter}
 use Rattle.dp_observe.specs.declared.tally.Tally.{Tally}
 use Rattle.dp_observe.specs.Frames.{one_if}
-use Rattle.dp_observe.specs.Sparse.{at}
+use Rattle.dp_observe.specs.Columns.{at_column}
 use Rattle.dp_observe.specs.Taken.{flows_of, flows_from, flows_taken, region_taken, regions_taken}
 use Rattle.dp_observe.specs.Tracking.{TallyFits, CounterFits, BoardFits}
 use Rattle.dp_observe.proofs.HitLemmas.{count_cons}
@@ -48,10 +48,10 @@ module _ (p : Program) (region : ℕ) (all : List RegionSite) (trace : List Even
       ap (λ (c : SiteCount). c ∷ map (λ (t : Tally). t.count) tallies) ((fit 0 s t refl refl).count ∙ site_count_whole trace s)
       ∙ ap (λ (cs : List SiteCount). site_count trace s ∷ cs) (counts_are sites tallies (omega (arith, size)) (λ place s t there got. fit (suc place) s t there got))
 
-  pair_is : (place : ℕ) (d u : RegionSite) (t : Tally) → slice_get all place ≡ Some d → TallyFits p region all past u t → flows_of place d u t ≡ flows_between p region all trace d u
+  pair_is : (place : ℕ) (d u : RegionSite) (t : Tally) → slice_get all place ≡ Some d → TallyFits p region all past u t → flows_of place d u t.shown ≡ flows_between p region all trace d u
   pair_is place d u t there fits =
       let even : 2 * place ≡ 2 * place + one_if false = omega arith in
-      ap (λ n. flow_of n d u false ++ flow_of (at t.shown (2 * place + 1)) d u true) (ap (at t.shown) even ∙ fits.shown place d false there)
+      ap (λ n. flow_of n d u false ++ flow_of (at_column t.shown (2 * place + 1)) d u true) (ap (at_column t.shown) even ∙ fits.shown place d false there)
       ∙ ap (λ n. flow_of (shown_back p region all d.site.0 u.site.0 false past) d u false ++ flow_of n d u true) (fits.shown place d true there)
 
   row_is : (place : ℕ) (d : RegionSite) (sites : List RegionSite) (tallies : List Tally) → slice_get all place ≡ Some d → length tallies ≡ length sites → Fit sites tallies

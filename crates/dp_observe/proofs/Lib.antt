@@ -7,6 +7,7 @@ pub mod FrameLemmas
 pub mod HitLemmas
 pub mod TallyLemmas
 pub mod CounterLemmas
+pub mod RowLemmas
 pub mod BoardLemmas
 pub mod ApartLemmas
 pub mod StartLemmas

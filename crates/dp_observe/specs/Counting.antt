@@ -9,13 +9,14 @@ use Rattle.dp_observe.specs.declared.frame.Frame.{Frame}
 use Rattle.dp_observe.specs.declared.frame.Writer.{Writer}
 use Rattle.dp_observe.specs.declared.sparse.Sparse.{Sparse}
 use Rattle.dp_observe.specs.declared.tally.Tally.{Tally}
+use Rattle.dp_observe.specs.Columns.{at_column}
 use Rattle.dp_observe.specs.Sparse.{at}
 use Rattle.dp_observe.specs.Frames.{frame_after, counted, loads_at}
 
 -- an evaluation with loads of these cells is counted
 pub record TallyCounts (effect : Effect) (cells : List ℕ) (frame : Frame) (writers : Sparse Writer) (locals : Sparse Bool) (old new : Tally) : Type 0 where
   pub count : new.count ≡ counted old.count effect
-  pub shown : (k : ℕ) → at new.shown k ≡ at old.shown k + loads_at frame writers locals k cells
+  pub shown : (k : ℕ) → at_column new.shown k ≡ at_column old.shown k + loads_at frame writers locals k cells
 
 -- the tally at its site's place, if there is one
 abbrev pub PlaceCounts : Effect → List ℕ → Frame → Sparse Writer → Sparse Bool → ℕ → List Tally → List Tally → Option Tally → Type 0

@@ -45,7 +45,7 @@ loads_at f writers locals k cells = count_by (λ c. hits (column_of f (at writer
 
 -- nothing was counted
 abbrev pub blank : Tally
-blank = record { count = record { runs = 0; nonzero = 0 }; shown = record { items = []; rest = 0 } }
+blank = record { count = record { runs = 0; nonzero = 0 }; shown = [] }
 
 -- a condition that gave another value than 0
 abbrev pub is_nonzero : Effect → Bool

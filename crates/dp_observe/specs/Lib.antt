@@ -1,4 +1,5 @@
 pub mod Sparse
+pub mod Columns
 pub mod Frames
 pub mod Counting
 pub mod Owners

@@ -12,6 +12,7 @@ use Rattle.dp_observe.specs.declared.frame.Frame.{Frame}
 use Rattle.dp_observe.specs.declared.frame.Writer.{Writer}
 use Rattle.dp_observe.specs.declared.tally.Tally.{Tally}
 use Rattle.dp_observe.specs.Frames.{nobody, one_if}
+use Rattle.dp_observe.specs.Columns.{at_column}
 use Rattle.dp_observe.specs.Sparse.{at}
 
 -- who stored into the cell last
@@ -44,7 +45,7 @@ pub record FrameFits (sites : List RegionSite) (past : List Event) (f : Frame) :
 -- what was counted at a site
 pub record TallyFits (p : Program) (region : ℕ) (sites : List RegionSite) (past : List Event) (s : RegionSite) (t : Tally) : Type 0 where
   pub count : t.count ≡ site_count past s
-  pub shown : (place : ℕ) (d : RegionSite) (carried : Bool) → slice_get sites place ≡ Some d → at t.shown (2 * place + one_if carried) ≡ shown_back p region sites d.site.0 s.site.0 carried past
+  pub shown : (place : ℕ) (d : RegionSite) (carried : Bool) → slice_get sites place ≡ Some d → at_column t.shown (2 * place + one_if carried) ≡ shown_back p region sites d.site.0 s.site.0 carried past
 
 -- what was counted in a region
 pub record CounterFits (p : Program) (region : ℕ) (sites : List RegionSite) (past : List Event) (c : Counter) : Type 0 where

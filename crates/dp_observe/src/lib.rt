@@ -2,12 +2,14 @@
 #![tactic(auto)]
 
 mod board;
+mod columns;
 mod counter;
 mod frame;
 mod law;
 mod locals;
 mod owners;
 mod profile;
+mod rows;
 mod sparse;
 mod tally;
 mod watching;

@@ -1,61 +1,24 @@
 //! The profile that was counted.
-ghost use Rattle.std.specs.Prelude.{◌≡◌, ◌++◌, map, IfOk, OnOk};
+ghost use Rattle.std.specs.Prelude.{◌≡◌, map, IfOk};
 ghost use Rattle.dp_observe.specs.Taken as taken;
 
 use crate::counter::Counter;
+use crate::rows::{empty_rows, joined};
 use crate::tally::Tally;
 use dp_base::{NoMemory, Row};
 use dp_profile::{Flow, RegionProfile, RegionSite, SiteCount};
 use std::alloc::Global;
 
-/// The flow of a kind, if a load showed it.
-fn put_flow(
-    out: &mut Row<Flow>,
-    from: RegionSite,
-    to: RegionSite,
-    carried: bool,
-    shown: u64,
-) -> Result<(), NoMemory>
-    ensures { OnOk result (out.new ≡ out.old ++ taken.one_flow shown from to carried) }
-{
-    if shown == 0 {
-        return Ok(());
-    }
-    out.push(Flow {
-        from: from.site,
-        to: to.site,
-        carried,
-        shown,
-    })
-}
-
-/// The flows from the site at a place to each of these sites.
-fn put_row(
-    out: &mut Row<Flow>,
-    place: usize,
-    from: RegionSite,
-    sites: &[RegionSite],
-    tallies: &[Tally],
-) -> Result<(), NoMemory>
-    ensures { OnOk result (out.new ≡ out.old ++ taken.flows_from place from sites.now tallies.now) }
-{
-    let column = place.checked_mul(2).ok_or(NoMemory)?;
-    for (to, tally) in sites.iter().zip(tallies.iter()) {
-        put_flow(out, from, *to, false, tally.shown.get(column))?;
-        put_flow(out, from, *to, true, tally.shown.get(column + 1))?;
-    }
-    Ok(())
-}
-
-/// The flows between the region's sites, in order. They are looked up pair by pair: a region has at most 1,024 sites.
+/// The flows between the region's sites, in order. Only those that a load showed are gone through: site by site of their
+/// second ones, each into the row of its first.
 fn flows(alloc: Global, sites: &[RegionSite], tallies: &[Tally]) -> Result<Row<Flow>, NoMemory>
     ensures { IfOk result (λ all. all ≡ taken.flows_taken 0 sites.now sites.now tallies.now) }
 {
-    let mut all = Row::new(alloc);
-    for (place, from) in sites.iter().enumerate() {
-        put_row(&mut all, place, *from, sites, tallies)?;
+    let mut rows = empty_rows(alloc, sites)?;
+    for (to, tally) in sites.iter().zip(tallies.iter()) {
+        tally.shown.put(&mut rows, sites, *to)?;
     }
-    Ok(all)
+    joined(alloc, rows.as_slice())
 }
 
 fn counts(alloc: Global, tallies: &[Tally]) -> Result<Row<SiteCount>, NoMemory>

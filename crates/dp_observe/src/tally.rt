@@ -1,8 +1,9 @@
 //! What was counted at one site.
 ghost use Rattle.std.specs.Prelude.{◌≡◌, ℕ, ◌+◌, IfOk, OnOk};
 ghost use Rattle.dp_observe.specs.Frames as definition;
-ghost use Rattle.dp_observe.specs.Sparse.{at};
+ghost use Rattle.dp_observe.specs.Columns.{at_column};
 
+use crate::columns::Columns;
 use crate::frame::{Frame, Writer};
 use crate::sparse::Sparse;
 use dp_base::NoMemory;
@@ -15,7 +16,7 @@ use std::alloc::Global;
 pub(crate) struct Tally {
     pub count: SiteCount,
     /// Two columns for each site of the region: stores of the same iteration, and of earlier ones.
-    pub shown: Sparse<u64>,
+    pub shown: Columns,
 }
 
 /// A number that would be too large counts as a want of memory.
@@ -46,7 +47,7 @@ impl Tally {
                 runs: 0,
                 nonzero: 0,
             },
-            shown: Sparse::new(alloc, 0),
+            shown: Columns::new(alloc),
         }
     }
 
@@ -67,11 +68,10 @@ impl Tally {
     /// Counts a load that reads a store of this column.
     fn loaded(&mut self, column: Option<usize>) -> Result<(), NoMemory>
         ensures count { OnOk result (self.new.count ≡ self.old.count) }
-        ensures shown { OnOk result ((k : ℕ) → at self.new.shown k ≡ at self.old.shown k + definition.one_if (definition.hits column k)) }
+        ensures shown { OnOk result ((k : ℕ) → at_column self.new.shown k ≡ at_column self.old.shown k + definition.one_if (definition.hits column k)) }
     {
         if let Some(column) = column {
-            let shown = one_more(self.shown.get(column))?;
-            self.shown.set(column, shown)?;
+            self.shown.add_one(column)?;
         }
         Ok(())
     }
@@ -85,7 +85,7 @@ impl Tally {
         cells: &[usize],
     ) -> Result<(), NoMemory>
         ensures count { OnOk result (self.new.count ≡ self.old.count) }
-        ensures shown { OnOk result ((k : ℕ) → at self.new.shown k ≡ at self.old.shown k + definition.loads_at frame writers.now locals.now k cells.now) }
+        ensures shown { OnOk result ((k : ℕ) → at_column self.new.shown k ≡ at_column self.old.shown k + definition.loads_at frame writers.now locals.now k cells.now) }
     {
         for cell in cells {
             self.loaded(frame.column(writers.get(*cell), locals.get(*cell)))?;

@@ -140,7 +140,7 @@ judges_next verdict.NoMemory t key n w e = absurd (cc e)
 pub judge_makes : (t new : TryCommit) (x : Carried) (v : Verdict)
     → ((key : EpochKey) (n : ℕ) → Judges t key n → OrWanting (packets.passed (epoch_of key) (length key.plan.stages) n).packet (sent_packet x.packet.status x.packet) → Gives new key n v)
     → (key : EpochKey) (s : ℕ) (place : Option ℕ) (n : ℕ) → JudgesAt (record { court = t }) key s place → At place n → IsCarried key (s - 1) n x
-    → IsJudged key n (record { iteration = x.packet.iteration; verdict = v; plan = x.plan }) × (not (verdict_goes_on (decided v)) ≡ is_last_judged key (record { iteration = x.packet.iteration; verdict = v; plan = x.plan }))
+    → IsJudged key n (record { iteration = x.packet.iteration; verdict = v; plan = x.plan; lists = x.packet.lists }) × (not (verdict_goes_on (decided v)) ≡ is_last_judged key (record { iteration = x.packet.iteration; verdict = v; plan = x.plan; lists = x.packet.lists }))
     × (not (verdict_goes_on (decided v)) ≡ false → JudgesAt (record { court = new }) key s (behind place n))
 judge_makes t new x v judges key s None n w at came = absurd w.stands
 judge_makes t new x v judges key s (Some m) n w at came =

@@ -40,13 +40,20 @@ impl<'p> Stage<Carried<'p>, Judged<'p>> for Judge<'p> {
     ghost stands = { JudgesAt };
 
     fn run<G: Gate>(&mut self, _gate: &G, item: Carried<'p>) -> Made<Judged<'p>> {
-        let verdict = self.decide(&item.packet);
+        let Carried { packet, plan } = item;
+        let verdict = self.decide(&packet);
         let last = is_last_verdict(&verdict);
+        let Packet {
+            iteration,
+            lists,
+            ..
+        } = packet;
         Made {
             item: Judged {
-                iteration: item.packet.iteration,
+                iteration,
                 verdict,
-                plan: item.plan,
+                plan,
+                lists,
             },
             last,
         }

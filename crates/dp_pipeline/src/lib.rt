@@ -3,6 +3,8 @@
 #![tactic(auto)]
 
 mod advance;
+mod bell;
+mod beside;
 mod carried;
 mod ending;
 mod ends;
@@ -14,6 +16,7 @@ mod keys;
 mod making;
 mod offer;
 mod passage;
+mod pause;
 mod pipeline;
 mod polled;
 mod programs;
@@ -29,11 +32,13 @@ mod tickets;
 mod unit;
 mod verdicts;
 
+pub use bell::{Bell, bells_of};
 pub use carried::Carried;
 pub use ends::{Ends, Refused};
 pub use item::Item;
 pub use judged::Judged;
 pub use keys::{EpochKey, LaneKey};
+pub use pause::{Pause, ring_all};
 pub use pipeline::Pipeline;
 pub use polled::{EndedWhy, IdleWhy, Polled};
 pub use programs::stage_programs;

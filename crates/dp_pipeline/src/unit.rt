@@ -52,6 +52,15 @@ impl<'p> Unit<'p> {
         }
     }
 
+    /// Whether it runs a replicated stage, beside other workers.
+    pub(crate) fn is_worker(&self) -> bool {
+        match &self.kind {
+            Kind::Stage(_) => false,
+            Kind::Worker(_) => true,
+            Kind::TryCommit(_) => false,
+        }
+    }
+
     /// Why it has ended, if it has.
     pub fn ended(&self) -> Option<EndedWhy>
         ensures { result ≡ why_ended self.now }

@@ -1,8 +1,8 @@
 //! The verdicts of an epoch as they come out of their lane.
 use crate::judged::Judged;
+use crate::pause::Pause;
 use crate::polled::Polled;
 use crate::unit::Unit;
-use crossbeam_utils::Backoff;
 use dp_base::Row;
 use dp_commit::Verdict;
 use dp_edge::OpenGate;
@@ -16,6 +16,7 @@ use std::sync::Wait;
 pub struct LaneVerdicts<'u> {
     end: TakeEnd<Judged<'u>>,
     own: Row<Unit<'u>>,
+    pause: Pause<'u>,
 }
 
 impl<'u> Model for LaneVerdicts<'u> {
@@ -45,15 +46,21 @@ impl<'u> LaneVerdicts<'u> {
         LaneVerdicts {
             end,
             own: Row::new(alloc),
+            pause: Pause::at(&[], 0),
         }
     }
 
-    /// The same, with the units for which there is no thread: they are polled where no verdict is there.
-    pub fn polling(self, units: Row<Unit<'u>>) -> LaneVerdicts<'u>
+    /// The same, with the units for which there is no thread: they are polled where no verdict is there. It waits by a pause
+    /// for those that have threads.
+    pub fn polling(self, units: Row<Unit<'u>>, pause: Pause<'u>) -> LaneVerdicts<'u>
         ensures { result ≡ self.entry }
     {
-        let LaneVerdicts { end, own: _ } = self;
-        LaneVerdicts { end, own: units }
+        let LaneVerdicts { end, .. } = self;
+        LaneVerdicts {
+            end,
+            own: units,
+            pause,
+        }
     }
 
     /// The verdict on the next iteration. There is none after one that isn't Clean or that closes the region.
@@ -63,11 +70,10 @@ impl<'u> LaneVerdicts<'u> {
         ensures key { self.new.key ≡ self.old.key }
         ensures given { self.new.given ≡ self.old.given + 1 }
     {
-        let backoff = Backoff::new();
         'turns: for _ in rt.forever() {
             match self.take(rt) {
                 Some(verdict) => return verdict,
-                None => self.poll_own(rt, &backoff),
+                None => self.poll_own(rt),
             }
         }
         unreachable!()
@@ -79,19 +85,22 @@ impl<'u> LaneVerdicts<'u> {
         ensures { MatchOption result (self.new ≡ self.old) (λ verdict. Comes verdict self.old self.new) }
     {
         match self.end.take(rt) {
-            Some(Judged { verdict, .. }) => Some(verdict),
+            Some(Judged { verdict, .. }) => {
+                self.pause.moved();
+                Some(verdict)
+            }
             None => None,
         }
     }
 
     /// Polls each unit that has no thread, and waits a little where none of them moved.
-    fn poll_own<R: Wait>(&mut self, rt: &R, backoff: &Backoff)
+    fn poll_own<R: Wait>(&mut self, rt: &R)
         ensures { self.new ≡ self.old }
     {
         if poll_all(rt, &mut self.own) {
-            backoff.reset();
+            self.pause.moved();
         } else {
-            backoff.snooze();
+            self.pause.wait(rt);
         }
     }
 }

@@ -5,9 +5,9 @@ use Rattle.std.proofs.lemmas.Bool.{cases_lt}
 use Rattle.std.proofs.lemmas.Grind.{same_number_lists}
 use Rattle.std.proofs.lemmas.List.{get_or-take, take_all, length-take-le}
 use Rattle.std.proofs.lemmas.List.Elements.{Contains-get_or}
-use Rattle.dp_units.specs.Graph.{Walk, SameUnit}
+use Rattle.dp_units.specs.Graph.{SameUnit}
 use Rattle.dp_units.specs.Order.{IsTaken, IsNext, IsOrder, ArePlaces}
-use Rattle.dp_units.proofs.JoinLemmas.{walk_on}
+use Rattle.dp_units.proofs.PathLemmas.{walk_on}
 
 module _ (n : ℕ) (edges : List (ℕ × ℕ)) where
   abbrev AreNext : List ℕ → Type 0

@@ -3,7 +3,7 @@ use Rattle.std.proofs.Common.{◌≡◌, inl, inr, refl, arith, ℕ, zero, suc, 
 use Rattle.std.proofs.lemmas.Bool.{cases_lt}
 use Rattle.dp_units.specs.Graph.{Walk, SameUnit}
 use Rattle.dp_units.specs.Order.{IsOrder, ArePlaces}
-use Rattle.dp_units.proofs.JoinLemmas.{walk_on}
+use Rattle.dp_units.proofs.PathLemmas.{walk_on}
 
 in_front : (xs : List ℕ) (i j : ℕ) → i < j → i < length xs → Contains (take j xs) (slice_index xs i)
 in_front [] i j h l = absurd (omega (arith, l))

@@ -1,11 +1,15 @@
 //! The units of a directed graph: its classes of nodes that reach each other, and their order.
 #![tactic(auto)]
 
+mod between;
 mod build;
 mod classes;
+mod free;
+mod graph;
 mod laws;
-mod order;
-mod reach;
+mod leaders;
+mod mark;
+mod search;
 #[cfg(test)]
 mod tests;
 

@@ -14,7 +14,13 @@ use Rattle.dp_words.proofs.SimpleRows.{gen_has_simple_rules, gen_is_plain, gen_l
 use Rattle.dp_words.proofs.VerbLemmas.{apart}
 use Rattle.dp_words.specs.Commands.{IsTaken, gen_app, plan_app, profile_app, run_app, value_in}
 use Rattle.dp_words.specs.Reading.{HoldsMade, HoldsOptions, HoldsProfiling, HoldsRun, values_of}
-use Rattle.dp_words.specs.Words.{Names, Planning, Profiling, Run, ShowsMade, ShowsPlanning, ShowsProfiling, ShowsRun, ShowsSites, Values, default_fuel, default_rate, default_stages, number_in, number_or, options_in, source_of}
+use Rattle.dp_words.specs.Words.{Names}
+use Rattle.dp_words.specs.Values.{Values, default_fuel, default_rate, default_stages, number_in, number_or, options_in}
+use Rattle.dp_words.specs.Run.{Run, ShowsRun, source_of}
+use Rattle.dp_words.specs.Planning.{Planning, ShowsPlanning}
+use Rattle.dp_words.specs.Sites.{ShowsSites}
+use Rattle.dp_words.specs.Profiling.{Profiling, ShowsProfiling}
+use Rattle.dp_words.specs.Made.{ShowsMade}
 use Rattle.dp_words.specs.declared.task.GenWords.{GenWords}
 
 -- ---- numbers in their ranges

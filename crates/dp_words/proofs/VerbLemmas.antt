@@ -1,5 +1,5 @@
 -- What the words ask for, by their verb and the words behind it.
-use Rattle.std.proofs.Common.{◌≡◌, ◌∙◌, ap, sym, subst, false, true, Bool, List, [], ◌∷◌, map, Option, Some, None, IfSome, IfNone, String, string_bytes, codes, refl}
+use Rattle.std.proofs.Common.{◌≡◌, ◌∙◌, ap, ℕ, sym, subst, false, true, Bool, List, [], ◌∷◌, map, Option, Some, None, IfSome, IfNone, String, string_bytes, codes, refl}
 use Rattle.std.specs.Prelude.{◌↔◌, IsSomeAnd, IsTrue, MatchOption}
 use Rattle.std.specs.Option.{option_map}
 use Rattle.std.specs.Str.{bytes_eq}
@@ -7,7 +7,14 @@ use Rattle.std.specs.declared.alloc.Global.{Global}
 use Rattle.std.proofs.lemmas.Slice.Eq.{bytes_eq-Decides}
 use Rattle.clap.specs.Words.{App, Text}
 use Rattle.dp_words.specs.Commands.{check_app, gen_app, plan_app, profile_app, run_app}
-use Rattle.dp_words.specs.Words.{Asks, AsksBy, AsksFor, AsksMade, AsksNothing, AsksPlans, AsksProfile, AsksSites, Behind, Names, ShowsMade, ShowsPlanning, ShowsProfiling, ShowsRun, ShowsSites, Values}
+use Rattle.dp_words.specs.Words.{Asked, Asks, AsksBy, AsksNothing, Behind, Names, ToList, ToMake, ToPlan, ToProfile, ToRun, asked_in}
+use Rattle.dp_words.specs.declared.task.GenWords.{GenWords}
+use Rattle.dp_words.specs.Values.{Values}
+use Rattle.dp_words.specs.Run.{Run, ShowsRun}
+use Rattle.dp_words.specs.Planning.{Planning, ShowsPlanning}
+use Rattle.dp_words.specs.Sites.{ShowsSites}
+use Rattle.dp_words.specs.Profiling.{Profiling, ShowsProfiling}
+use Rattle.dp_words.specs.Made.{ShowsMade}
 use Rattle.dp_words.specs.declared.task.Task.{Task}
 
 abbrev texts : List (String Global) → List Text
@@ -30,6 +37,9 @@ behind (verb ∷ words) = words
 words_at : (words rest : List (String Global)) (first : String Global) (given verb : Text) → words ≡ first ∷ rest → given ≡ string_bytes first → given ≡ verb → texts words ≡ verb ∷ texts rest
 words_at words rest first given verb e f g = ap texts e ∙ ap (λ x. x ∷ texts rest) (sym f ∙ g)
 
+abbrev AsksFor : List Text → Task → Type 0
+AsksFor words task = Asks words (asked_in task)
+
 -- the result is what was found, as a task
 abbrev pub IsMade : {N : Type 0} → (N → Task) → Option N → Option Task → Type 0
 IsMade make found result = MatchOption found (result ≡ None) (λ x. IsSomeAnd result (λ t. t ≡ make x))
@@ -45,10 +55,6 @@ module _ {X : Type 0} (verb : Text) (app : App) (Shows : Values → X → Type 0
 
   pub named_behind : {words : List Text} {x : X} → AsksBy verb app Shows words x → Names app Shows (behind words) x
   named_behind (Behind words x h) = h
-
-  -- words with another verb
-  pub not_by : (words : List Text) (other : Text) → first_word words ≡ other → (other ≡ verb → ⊥) → (x : X) → AsksBy verb app Shows words x → ⊥
-  not_by words other e different x h = different (sym e ∙ verb_is h)
 
   module _ {N : Type 0} (make : N → Task) (words rest : List (String Global)) (first : String Global) (given : Text) (is : words ≡ first ∷ rest) (text : given ≡ string_bytes first) (same : given ≡ verb)
       (found : Option N) (result : Option Task) (made : IsMade make found result) where
@@ -74,65 +80,45 @@ module _ {X : Type 0} (verb : Text) (app : App) (Shows : Values → X → Type 0
 
 -- ---- the verbs
 
-no_run_by : (words : List Text) (other : Text) → first_word words ≡ other → (other ≡ codes "run" → ⊥) → (x : _) → Asks words x → ⊥
-no_run_by words other e different x h = not_by (codes "run") run_app ShowsRun words other e different x h
+-- the verb of what is asked for
+abbrev pub verb_of : Asked → Text
+verb_of (ToRun run) = codes "run"
+verb_of (ToPlan planning) = codes "plan"
+verb_of (ToList program) = codes "check"
+verb_of (ToProfile profiling) = codes "profile"
+verb_of (ToMake made) = codes "gen"
 
-no_plans_by : (words : List Text) (other : Text) → first_word words ≡ other → (other ≡ codes "plan" → ⊥) → (x : _) → AsksPlans words x → ⊥
-no_plans_by words other e different x h = not_by (codes "plan") plan_app ShowsPlanning words other e different x h
+pub asks_verb : (words : List Text) (asked : Asked) → Asks words asked → first_word words ≡ verb_of asked
+asks_verb words (ToRun run) h = verb_is (codes "run") run_app ShowsRun h
+asks_verb words (ToPlan planning) h = verb_is (codes "plan") plan_app ShowsPlanning h
+asks_verb words (ToList program) h = verb_is (codes "check") check_app ShowsSites h
+asks_verb words (ToProfile profiling) h = verb_is (codes "profile") profile_app ShowsProfiling h
+asks_verb words (ToMake made) h = verb_is (codes "gen") gen_app ShowsMade h
 
-no_sites_by : (words : List Text) (other : Text) → first_word words ≡ other → (other ≡ codes "check" → ⊥) → (x : _) → AsksSites words x → ⊥
-no_sites_by words other e different x h = not_by (codes "check") check_app ShowsSites words other e different x h
+-- words with one verb, that ask for nothing by it
+module _ (words : List Text) where
+  other_verb : (verb : Text) → first_word words ≡ verb → (asked : Asked) → bytes_eq (verb_of asked) verb ≡ false → Asks words asked → ⊥
+  other_verb verb e asked differ h = apart (verb_of asked) verb differ (sym (asks_verb words asked h) ∙ e)
 
-no_profile_by : (words : List Text) (other : Text) → first_word words ≡ other → (other ≡ codes "profile" → ⊥) → (x : _) → AsksProfile words x → ⊥
-no_profile_by words other e different x h = not_by (codes "profile") profile_app ShowsProfiling words other e different x h
+  pub only_run : first_word words ≡ codes "run" → ((x : Run) → ¬ Asks words (ToRun x)) → AsksNothing words
+  only_run e none (ToRun x) h = none x h
+  only_run e none asked h = other_verb (codes "run") e asked refl h
 
-none_made_by : (words : List Text) (other : Text) → first_word words ≡ other → (other ≡ codes "gen" → ⊥) → (x : _) → AsksMade words x → ⊥
-none_made_by words other e different x h = not_by (codes "gen") gen_app ShowsMade words other e different x h
+  pub only_plans : first_word words ≡ codes "plan" → ((x : Planning) → ¬ Asks words (ToPlan x)) → AsksNothing words
+  only_plans e none (ToPlan x) h = none x h
+  only_plans e none asked h = other_verb (codes "plan") e asked refl h
 
-pub only_run : (words : List Text) → first_word words ≡ codes "run" → ((x : _) → ¬ Asks words x) → AsksNothing words
-only_run words e none = record {
-  no_run = none;
-  no_plans = no_plans_by words (codes "run") e (apart (codes "run") (codes "plan") refl);
-  no_sites = no_sites_by words (codes "run") e (apart (codes "run") (codes "check") refl);
-  no_profile = no_profile_by words (codes "run") e (apart (codes "run") (codes "profile") refl);
-  none_made = none_made_by words (codes "run") e (apart (codes "run") (codes "gen") refl);
-}
+  pub only_sites : first_word words ≡ codes "check" → ((x : List ℕ) → ¬ Asks words (ToList x)) → AsksNothing words
+  only_sites e none (ToList x) h = none x h
+  only_sites e none asked h = other_verb (codes "check") e asked refl h
 
-pub only_plans : (words : List Text) → first_word words ≡ codes "plan" → ((x : _) → ¬ AsksPlans words x) → AsksNothing words
-only_plans words e none = record {
-  no_run = no_run_by words (codes "plan") e (apart (codes "plan") (codes "run") refl);
-  no_plans = none;
-  no_sites = no_sites_by words (codes "plan") e (apart (codes "plan") (codes "check") refl);
-  no_profile = no_profile_by words (codes "plan") e (apart (codes "plan") (codes "profile") refl);
-  none_made = none_made_by words (codes "plan") e (apart (codes "plan") (codes "gen") refl);
-}
+  pub only_profile : first_word words ≡ codes "profile" → ((x : Profiling) → ¬ Asks words (ToProfile x)) → AsksNothing words
+  only_profile e none (ToProfile x) h = none x h
+  only_profile e none asked h = other_verb (codes "profile") e asked refl h
 
-pub only_sites : (words : List Text) → first_word words ≡ codes "check" → ((x : _) → ¬ AsksSites words x) → AsksNothing words
-only_sites words e none = record {
-  no_run = no_run_by words (codes "check") e (apart (codes "check") (codes "run") refl);
-  no_plans = no_plans_by words (codes "check") e (apart (codes "check") (codes "plan") refl);
-  no_sites = none;
-  no_profile = no_profile_by words (codes "check") e (apart (codes "check") (codes "profile") refl);
-  none_made = none_made_by words (codes "check") e (apart (codes "check") (codes "gen") refl);
-}
-
-pub only_profile : (words : List Text) → first_word words ≡ codes "profile" → ((x : _) → ¬ AsksProfile words x) → AsksNothing words
-only_profile words e none = record {
-  no_run = no_run_by words (codes "profile") e (apart (codes "profile") (codes "run") refl);
-  no_plans = no_plans_by words (codes "profile") e (apart (codes "profile") (codes "plan") refl);
-  no_sites = no_sites_by words (codes "profile") e (apart (codes "profile") (codes "check") refl);
-  no_profile = none;
-  none_made = none_made_by words (codes "profile") e (apart (codes "profile") (codes "gen") refl);
-}
-
-pub only_made : (words : List Text) → first_word words ≡ codes "gen" → ((x : _) → ¬ AsksMade words x) → AsksNothing words
-only_made words e none = record {
-  no_run = no_run_by words (codes "gen") e (apart (codes "gen") (codes "run") refl);
-  no_plans = no_plans_by words (codes "gen") e (apart (codes "gen") (codes "plan") refl);
-  no_sites = no_sites_by words (codes "gen") e (apart (codes "gen") (codes "check") refl);
-  no_profile = no_profile_by words (codes "gen") e (apart (codes "gen") (codes "profile") refl);
-  none_made = none;
-}
+  pub only_made : first_word words ≡ codes "gen" → ((x : GenWords) → ¬ Asks words (ToMake x)) → AsksNothing words
+  only_made e none (ToMake x) h = none x h
+  only_made e none asked h = other_verb (codes "gen") e asked refl h
 
 -- a test of the verb that fails
 pub is_other : (test : Bool) (A : Type 0) → (IsTrue test ↔ A) → test ≡ false → A → ⊥
@@ -141,21 +127,12 @@ is_other test A same e a = let clash : false ≡ true = sym e ∙ same.1 a in ab
 -- words whose verb is none of these
 pub unknown_verb : (words : List (String Global)) (rest : List (String Global)) (first : String Global) (given : Text) → words ≡ first ∷ rest → given ≡ string_bytes first →
     (given ≡ codes "run" → ⊥) → (given ≡ codes "plan" → ⊥) → (given ≡ codes "check" → ⊥) → (given ≡ codes "profile" → ⊥) → (given ≡ codes "gen" → ⊥) → AsksNothing (texts words)
-unknown_verb words rest first given e f not_run not_plan not_check not_profile not_gen =
-    let verb : first_word (texts words) ≡ given = ap (λ (ws : List (String Global)). first_word (texts ws)) e ∙ sym f in
-    record {
-      no_run = no_run_by (texts words) given verb not_run;
-      no_plans = no_plans_by (texts words) given verb not_plan;
-      no_sites = no_sites_by (texts words) given verb not_check;
-      no_profile = no_profile_by (texts words) given verb not_profile;
-      none_made = none_made_by (texts words) given verb not_gen;
-    }
-
-pub no_words : AsksNothing []
-no_words = record {
-  no_run = no_run_by [] [] refl (apart [] (codes "run") refl);
-  no_plans = no_plans_by [] [] refl (apart [] (codes "plan") refl);
-  no_sites = no_sites_by [] [] refl (apart [] (codes "check") refl);
-  no_profile = no_profile_by [] [] refl (apart [] (codes "profile") refl);
-  none_made = none_made_by [] [] refl (apart [] (codes "gen") refl);
-}
+unknown_verb words rest first given e f not_run not_plan not_check not_profile not_gen asked h =
+    by asked (f ∙ sym (ap (λ (ws : List (String Global)). first_word (texts ws)) e) ∙ asks_verb (texts words) asked h)
+  where
+    by : (asked : Asked) → given ≡ verb_of asked → ⊥
+    by (ToRun run) = not_run
+    by (ToPlan planning) = not_plan
+    by (ToList program) = not_check
+    by (ToProfile profiling) = not_profile
+    by (ToMake made) = not_gen

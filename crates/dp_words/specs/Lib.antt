@@ -1,3 +1,9 @@
-pub mod Commands
 pub mod Words
+pub mod Commands
+pub mod Values
+pub mod Run
+pub mod Planning
+pub mod Sites
+pub mod Profiling
+pub mod Made
 pub mod Reading

@@ -1,7 +1,11 @@
 //! What the matches of a verb's words show.
 ghost use Rattle.std.specs.Prelude.{◌≡◌, Bool, Some, codes, if◌then◌else◌, IfSome, IfNone};
 ghost use Rattle.std.specs.Option.{option_map};
-ghost use Rattle.dp_words.specs.Words.{MadeWithin, OptionsWithin, Planning, Profiling, ProfilingWithin, Run, RunWithin, ShowsMade, ShowsPlanning, ShowsProfiling, ShowsRun, number_in, number_or, options_in, shown, shown_planning, shown_profiling, shown_source, source_of};
+ghost use Rattle.dp_words.specs.Values.{OptionsWithin, number_in, number_or, options_in};
+ghost use Rattle.dp_words.specs.Run.{Run, RunWithin, ShowsRun, shown, shown_source, source_of};
+ghost use Rattle.dp_words.specs.Planning.{Planning, ShowsPlanning, shown_planning};
+ghost use Rattle.dp_words.specs.Profiling.{Profiling, ProfilingWithin, ShowsProfiling, shown_profiling};
+ghost use Rattle.dp_words.specs.Made.{MadeWithin, ShowsMade};
 ghost use Rattle.dp_words.specs.Reading.{FitsIn, HoldsMade, HoldsOptions, HoldsProfiling, HoldsRun, values_of};
 ghost use Rattle.dp_words.specs.declared.task.GenWords.{GenWords};
 

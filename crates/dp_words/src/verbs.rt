@@ -1,7 +1,13 @@
 //! The words, read by their verb.
 ghost use Rattle.std.specs.Prelude.{◌≡◌, ◌↔◌, ℕ, List, IsTrue, map, string_bytes, IfOk, IfSome, IfNone};
 ghost use Rattle.dp_words.specs.Commands.{check_app, gen_app, plan_app, profile_app, run_app};
-ghost use Rattle.dp_words.specs.Words.{AsksFor, AsksNothing, IsWithin, MadeWithin, Names, OptionsWithin, Planning, Profiling, ProfilingWithin, Run, RunWithin, ShowsMade, ShowsPlanning, ShowsProfiling, ShowsRun, ShowsSites, shown, shown_planning, shown_profiling};
+ghost use Rattle.dp_words.specs.Words.{Asks, AsksNothing, IsWithin, Names, asked_in};
+ghost use Rattle.dp_words.specs.Values.{OptionsWithin};
+ghost use Rattle.dp_words.specs.Run.{Run, RunWithin, ShowsRun, shown};
+ghost use Rattle.dp_words.specs.Planning.{Planning, ShowsPlanning, shown_planning};
+ghost use Rattle.dp_words.specs.Sites.{ShowsSites};
+ghost use Rattle.dp_words.specs.Profiling.{Profiling, ProfilingWithin, ShowsProfiling, shown_profiling};
+ghost use Rattle.dp_words.specs.Made.{MadeWithin, ShowsMade};
 ghost use Rattle.dp_words.specs.declared.task.GenWords.{GenWords};
 
 use crate::commands::{check_command, gen_command, plan_command, profile_command, run_command};
@@ -13,7 +19,7 @@ use std::alloc::Global;
 
 /// What the words ask for, if they are taken.
 pub fn asked(alloc: Global, words: &[String]) -> Result<Option<Task<'_>>, NoMemory>
-    ensures some { IfOk result (λ task. IfSome task (AsksFor (map string_bytes words.now))) }
+    ensures some { IfOk result (λ task. IfSome task (λ t. Asks (map string_bytes words.now) (asked_in t))) }
     ensures within { IfOk result (λ task. IfSome task IsWithin) }
     ensures none { IfOk result (λ task. IfNone task (AsksNothing (map string_bytes words.now))) }
 {

@@ -19,22 +19,38 @@ use Rattle.dswp.specs.declared.texts.Texts.TheVariants as texts
 use Rattle.dswp.specs.Refusal.{refusal_line, refusal_status, failed_read_line}
 use Rattle.dp_report.specs.SiteText.{site_bytes}
 use Rattle.dp_plan.specs.WrittenText.{plans_text}
-use Rattle.dswp.specs.Program.{Reads}
 use Rattle.dswp.specs.declared.refusal.Role.TheVariants as role
 use Rattle.dswp.specs.declared.load.Loaded.{Loaded}
 use Rattle.dswp.specs.declared.load.Loaded.TheVariants.{Text, Refused, Failed}
-use Rattle.dswp.specs.Loading.{LoadsProgram, Gives}
+use Rattle.dswp.specs.Loading.{Gives, LoadsProgram, ReadsProgram}
 use Rattle.dswp.proofs.TextsLemmas.{source_of, refusal_read}
-use Rattle.dp_words.specs.Words.{Run, Planning, Least, Asks, AsksPlans, AsksSites, AsksNothing}
+use Rattle.dp_words.specs.Words.{Asked, Asks, AsksNothing, ToList, ToPlan, ToRun}
+use Rattle.dp_words.specs.Run.{Run, Least}
+use Rattle.dp_words.specs.Planning.{Planning}
 use Rattle.dp_plan.specs.declared.Plan.{Plan}
 use Rattle.dp_crew.specs.Fail.{FaultsAfter}
 use Rattle.dp_run.specs.RunText.{source_run, trace_text, committed_in_all}
 use Rattle.dswp.specs.Status.{status_after}
 use Rattle.dswp.specs.RunText.{run_text, status_of}
-use Rattle.dswp.specs.Answer.{Contents, Holds, Plans, IsRead, Answer, NotTaken, ProgramRefused, InputRefused, PlansRefused, Ran, LeastRefused, PlansWritten, SitesListed, OfProgram, OfInput, OfPlans, OfProfile, OfRun}
-use Rattle.dswp.specs.Headline.{AskForRun, Answered, IsCounted, IsEnd, Whole, Short, Nothing, ReadFailed, WriteFailed, OfAnswer, OfFailedRead}
+use Rattle.dswp.specs.Roles.{ByInput, ByPlans, ByProgram, Contents, Input, NamedProgram, NoPlans, Plans, ProgramOf, SomePlans, TextsGive, Unnamed, program_in}
+use Rattle.dswp.specs.Answer.{NotTaken, Done, OfProgram, OfInput, OfPlans, OfRun, run_fuel}
+use Rattle.dswp.specs.Answer as answers
+use Rattle.dswp.specs.Headline.{Answered, IsCounted, IsEnd, Whole, Short, Nothing, ReadFailed, WriteFailed, OfAnswer, OfFailedRead}
 use Rattle.dswp.specs.Carried.{Names, Finishes, LoadsTexts, Carried, Starved}
 use Rattle.dswp.specs.Carried as carried
+
+-- a program under a name
+named_program : {contents : Contents} {name : List ℕ} {read : Result Program Refusal} → ReadsProgram contents name read → ProgramOf contents (Some name) read
+named_program {name = name} {read = read} h = NamedProgram name h.text read h.held h.reads
+
+-- the texts of a run
+run_texts : (contents : Contents) (run : Run) (p q : Program) (numbers : List ℤ) (plans : List Plan) → ReadsProgram contents run.program (Ok p) → Input contents run.input (Ok numbers) → q ≡ expand p →
+    Plans contents q run.options run.source (Ok plans) → TextsGive contents (ToRun run) p numbers plans
+run_texts contents run p q numbers plans h k is l = record {
+  program = named_program h;
+  input = k;
+  planned = SomePlans run.source run.options (Ok plans) (subst (λ (y : Program). Plans contents y run.options run.source (Ok plans)) is l);
+}
 
 -- what the texts give, where they were loaded
 pub loaded : (contents : Contents) (run : Run) (faults after : ℕ) (failed fails : Names) (r : Result Texts Wanting) (x : Texts) → r ≡ Ok x → IfOk r (LoadsTexts contents run faults after failed fails) →
@@ -60,43 +76,43 @@ module _ (words : List (List ℕ)) (contents : Contents) (faults after : ℕ) (f
       Carried words contents faults after failed fails told tells result
   carry_not_taken result none e f finishes = carried.OfAnswer _ _ (NotTaken none) e f finishes
 
-  pub carry_run : (run : Run) (q : Program) (numbers : List ℤ) (plans : List Plan) (result : Result ℕ CrewFail) → Asks words run → LoadsTexts contents run faults after failed fails (texts.Run q numbers plans) →
+  pub carry_run : (run : Run) (q : Program) (numbers : List ℤ) (plans : List Plan) (result : Result ℕ CrewFail) → Asks words (ToRun run) → LoadsTexts contents run faults after failed fails (texts.Run q numbers plans) →
       Finishes (status_of (source_run q numbers run.fuel).end) (trace_text q plans (source_run q numbers run.fuel) run.why) told tells result → Carried words contents faults after failed fails told tells result
   carry_run run q numbers plans result asks (carried.Loaded p x others given is h k l fit e f) finishes =
-      carried.OfAnswer _ _ (Ran run h.text p numbers plans asks h.held h.reads k (subst (λ (y : Program). Plans contents y run.options run.source (Ok plans)) is l)) e f
+      carried.OfAnswer _ _ (Done (ToRun run) p numbers plans asks (run_texts contents run p q numbers plans h k is l)) e f
       (finishes_source p q is (read_checked h.text p h.reads) plans numbers run.fuel run.why [] told tells result finishes)
 
   -- .. and the tally grew by what was committed of it
-  pub count_run : (run : Run) (q : Program) (numbers : List ℤ) (plans : List Plan) (before now status : ℕ) → Asks words run → LoadsTexts contents run faults after failed fails (texts.Run q numbers plans) →
+  pub count_run : (run : Run) (q : Program) (numbers : List ℤ) (plans : List Plan) (before now status : ℕ) → Asks words (ToRun run) → LoadsTexts contents run faults after failed fails (texts.Run q numbers plans) →
       now ≡ before + committed_in_all q plans (source_run q numbers run.fuel) → IsCounted words contents before now status
-  count_run run q numbers plans before now status asks (carried.Loaded p x others given is h k l fit e f) tally = λ asked end. (
+  count_run run q numbers plans before now status asks (carried.Loaded p x others given is h k l fit e f) tally = λ other spent asked some end. (
     committed_in_all (expand p) plans (source_run (expand p) numbers run.fuel),
-    OfRun run h.text p numbers plans asks h.held h.reads k (subst (λ (y : Program). Plans contents y run.options run.source (Ok plans)) is l),
+    OfRun (ToRun run) p numbers plans run.fuel asks (run_texts contents run p q numbers plans h k is l) refl,
     tally ∙ ap (λ (y : Program). before + committed_in_all y plans (source_run y numbers run.fuel)) is,
   )
 
-  pub carry_refused : (run : Run) (refusal : Refusal) (result : Result ℕ CrewFail) → Asks words run → LoadsTexts contents run faults after failed fails (texts.Refused refusal) →
+  pub carry_refused : (run : Run) (refusal : Refusal) (result : Result ℕ CrewFail) → Asks words (ToRun run) → LoadsTexts contents run faults after failed fails (texts.Refused refusal) →
       Finishes (refusal_status refusal) (refusal_line refusal) told tells result → Carried words contents faults after failed fails told tells result
-  carry_refused run refusal result asks (carried.ProgramRefused other h e f) finishes = carried.OfAnswer _ _ (ProgramRefused run h.text refusal asks h.held h.reads) e f finishes
-  carry_refused run refusal result asks (carried.InputRefused other p h k e f) finishes = carried.OfAnswer _ _ (InputRefused run h.text p refusal asks h.held h.reads k) e f finishes
-  carry_refused run refusal result asks (carried.PlansRefused other p numbers h k l e f) finishes = carried.OfAnswer _ _ (PlansRefused run h.text p numbers refusal asks h.held h.reads k l) e f finishes
+  carry_refused run refusal result asks (carried.ProgramRefused other h e f) finishes = carried.OfAnswer _ _ (answers.Refused (ToRun run) refusal asks (ByProgram refusal (named_program h))) e f finishes
+  carry_refused run refusal result asks (carried.InputRefused other p h k e f) finishes = carried.OfAnswer _ _ (answers.Refused (ToRun run) refusal asks (ByInput p refusal (named_program h) k)) e f finishes
+  carry_refused run refusal result asks (carried.PlansRefused other p numbers h k l e f) finishes = carried.OfAnswer _ _ (answers.Refused (ToRun run) refusal asks (ByPlans p numbers refusal (named_program h) k (SomePlans run.source run.options (Err refusal) l))) e f finishes
 
-  pub carry_failed : (run : Run) (which : Role) (result : Result ℕ CrewFail) → Asks words run → LoadsTexts contents run faults after failed fails (texts.Failed which) →
+  pub carry_failed : (run : Run) (which : Role) (result : Result ℕ CrewFail) → Asks words (ToRun run) → LoadsTexts contents run faults after failed fails (texts.Failed which) →
       Finishes 5 (failed_read_line which) told tells result → Carried words contents faults after failed fails told tells result
-  carry_failed run which result asks (carried.ProgramFailed less e) finishes = carried.OfFailedRead _ _ (OfProgram run asks) less e finishes
-  carry_failed run which result asks (carried.InputFailed p name h named less e) finishes = carried.OfFailedRead _ _ (OfInput run h.text name p asks h.held h.reads named) less e finishes
-  carry_failed run which result asks (carried.PlansFailed p numbers name h k named less e) finishes = carried.OfFailedRead _ _ (OfPlans run h.text name p numbers asks h.held h.reads k named) less e finishes
+  carry_failed run which result asks (carried.ProgramFailed less e) finishes = carried.OfFailedRead _ _ (OfProgram (ToRun run) run.program asks refl) less e finishes
+  carry_failed run which result asks (carried.InputFailed p name h named less e) finishes = carried.OfFailedRead _ _ (OfInput (ToRun run) p name asks (named_program h) named) less e finishes
+  carry_failed run which result asks (carried.PlansFailed p numbers name h k named less e) finishes = carried.OfFailedRead _ _ (OfPlans (ToRun run) p numbers run.source run.options name asks (named_program h) k refl named) less e finishes
 
   abbrev ProgramGives : List ℕ → Loaded Program → Type 0
   ProgramGives name = Gives (LoadsProgram contents name) (Some name) faults after failed fails
 
-  pub carry_sites : (name : List ℕ) (q : Program) (result : Result ℕ CrewFail) → AsksSites words name → ProgramGives name (Text q) → Finishes 0 (site_bytes q) told tells result → Carried words contents faults after failed fails told tells result
+  pub carry_sites : (name : List ℕ) (q : Program) (result : Result ℕ CrewFail) → Asks words (ToList name) → ProgramGives name (Text q) → Finishes 0 (site_bytes q) told tells result → Carried words contents faults after failed fails told tells result
   carry_sites name q result asks g finishes =
       let s = source_of _ _ _ g.0 in
-      carried.OfAnswer _ _ (SitesListed name s.reads.text s.source asks s.reads.held s.reads.reads) g.1 g.2
+      carried.OfAnswer _ _ (Done (ToList name) s.source [] [] asks (record { program = named_program s.reads; input = Unnamed; planned = NoPlans })) g.1 g.2
       (finishes_as 0 0 (site_bytes q) (site_bytes (expand s.source)) told tells result refl (ap site_bytes s.is) finishes)
 
-  module _ (planning : Planning) (asks : AsksPlans words planning) (q : Program) (read : LoadsProgram contents planning.program (Ok q)) where
+  module _ (planning : Planning) (asks : Asks words (ToPlan planning)) (q : Program) (read : LoadsProgram contents planning.program (Ok q)) where
     abbrev LeastGives : Loaded (List Plan) → Type 0
     LeastGives = Gives (Plans contents q planning.options (Least planning.profile)) planning.profile faults after failed fails
 
@@ -106,32 +122,32 @@ module _ (words : List (List ℕ)) (contents : Contents) (faults after : ℕ) (f
     pub carry_plans : (plans : List Plan) (result : Result ℕ CrewFail) → LeastGives (Text plans) → Finishes 0 (plans_text q plans) told tells result → Carried words contents faults after failed fails told tells result
     carry_plans plans result g finishes =
         let s = source_of _ _ _ read in
-        carried.OfAnswer _ _ (PlansWritten planning s.reads.text s.source plans asks s.reads.held s.reads.reads (subst (λ (x : Program). LeastOf x (Ok plans)) s.is g.0)) g.1 g.2
+        carried.OfAnswer _ _ (Done (ToPlan planning) s.source [] plans asks (record { program = named_program s.reads; input = Unnamed; planned = SomePlans (Least planning.profile) planning.options (Ok plans) (subst (λ (x : Program). LeastOf x (Ok plans)) s.is g.0) })) g.1 g.2
         (finishes_as 0 0 (plans_text q plans) (plans_text (expand s.source) plans) told tells result refl (ap (λ (x : Program). plans_text x plans) s.is) finishes)
 
     pub carry_least_refused : (refusal : Refusal) (result : Result ℕ CrewFail) → LeastGives (Refused refusal) → Finishes (refusal_status refusal) (refusal_line refusal) told tells result →
         Carried words contents faults after failed fails told tells result
     carry_least_refused refusal result g finishes =
         let s = source_of _ _ _ read in
-        carried.OfAnswer _ _ (LeastRefused planning s.reads.text s.source refusal asks s.reads.held s.reads.reads (subst (λ (x : Program). LeastOf x (Err refusal)) s.is g.0)) g.1 g.2 finishes
+        carried.OfAnswer _ _ (answers.Refused (ToPlan planning) refusal asks (ByPlans s.source [] refusal (named_program s.reads) Unnamed (SomePlans (Least planning.profile) planning.options (Err refusal) (subst (λ (x : Program). LeastOf x (Err refusal)) s.is g.0)))) g.1 g.2 finishes
 
     pub carry_least_failed : (result : Result ℕ CrewFail) → LeastGives Failed → Finishes 5 (failed_read_line role.Profile) told tells result → Carried words contents faults after failed fails told tells result
     carry_least_failed result g finishes =
         let s = source_of _ _ _ read in
-        carried.OfFailedRead _ _ (OfProfile planning s.reads.text g.0 s.source asks s.reads.held s.reads.reads g.1) g.2 g.3 finishes
+        carried.OfFailedRead _ _ (OfPlans (ToPlan planning) s.source [] (Least planning.profile) planning.options g.0 asks (named_program s.reads) Unnamed refl g.1) g.2 g.3 finishes
 
   -- a program alone that is refused, or that can't be read
-  pub carry_program_refused : (name : List ℕ) (refusal : Refusal) (result : Result ℕ CrewFail) → ((text : List ℕ) → Holds contents name text → Reads text (Err refusal) → Answer words contents (refusal_status refusal) (refusal_line refusal)) →
+  pub carry_program_refused : (asked : Asked) (name : List ℕ) (refusal : Refusal) (result : Result ℕ CrewFail) → Asks words asked → program_in asked ≡ Some name →
       ProgramGives name (Refused refusal) → Finishes (refusal_status refusal) (refusal_line refusal) told tells result → Carried words contents faults after failed fails told tells result
-  carry_program_refused name refusal result answers g finishes =
-      let read = refusal_read _ _ _ g.0 in
-      carried.OfAnswer _ _ (answers read.text read.held read.reads) g.1 g.2 finishes
+  carry_program_refused asked name refusal result asks is g finishes =
+      let read = named_program (refusal_read _ _ _ g.0) in
+      carried.OfAnswer _ _ (answers.Refused asked refusal asks (ByProgram refusal (subst (λ (o : Option (List ℕ)). ProgramOf contents o (Err refusal)) (sym is) read))) g.1 g.2 finishes
 
-  pub carry_program_failed : (name : List ℕ) (result : Result ℕ CrewFail) → IsRead words contents role.Program name → ProgramGives name Failed → Finishes 5 (failed_read_line role.Program) told tells result →
+  pub carry_program_failed : (asked : Asked) (name : List ℕ) (result : Result ℕ CrewFail) → Asks words asked → program_in asked ≡ Some name → ProgramGives name Failed → Finishes 5 (failed_read_line role.Program) told tells result →
       Carried words contents faults after failed fails told tells result
-  carry_program_failed name result read g finishes =
+  carry_program_failed asked name result asks is g finishes =
       let same : name ≡ g.0 = cc g.1 in
-      carried.OfFailedRead _ _ read g.2 (g.3 ∙ ap (λ (n : List ℕ). option_map (λ (names : List (List ℕ)). names ++ n ∷ []) failed) (sym same)) finishes
+      carried.OfFailedRead _ _ (OfProgram asked name asks is) g.2 (g.3 ∙ ap (λ (n : List ℕ). option_map (λ (names : List (List ℕ)). names ++ n ∷ []) failed) (sym same)) finishes
 
   -- .. on the way behind a text that was read
   pub carry_on : (begin : ℕ) (began : Names) (result : Result ℕ CrewFail) → faults ≡ begin → failed ≡ began → Carried words contents faults after failed fails told tells result → Carried words contents begin after began fails told tells result
@@ -213,27 +229,27 @@ status_is s bytes told tells (Err fail) P h finishes = tt
 -- where no run ended, nothing is said of the tally
 module _ (words : List (List ℕ)) (contents : Contents) (before now : ℕ) (told tells : Option (List ℕ)) (result : Result ℕ CrewFail) where
   pub refused_counts : (refusal : Refusal) → Finishes (refusal_status refusal) (refusal_line refusal) told tells result → IfOk result (IsCounted words contents before now)
-  refused_counts refusal h = status_is (refusal_status refusal) (refusal_line refusal) told tells result (IsCounted words contents before now) (λ asks end. absurd (refusal_is_no_end refusal end)) h
+  refused_counts refusal h = status_is (refusal_status refusal) (refusal_line refusal) told tells result (IsCounted words contents before now) (λ asked fuel asks some end. absurd (refusal_is_no_end refusal end)) h
 
   pub failed_counts : (which : Role) → Finishes 5 (failed_read_line which) told tells result → IfOk result (IsCounted words contents before now)
-  failed_counts which h = status_is 5 (failed_read_line which) told tells result (IsCounted words contents before now) (λ asks end. absurd (no_end_by 5 (omega arith) (λ e. omega (arith, e)) end)) h
+  failed_counts which h = status_is 5 (failed_read_line which) told tells result (IsCounted words contents before now) (λ asked fuel asks some end. absurd (no_end_by 5 (omega arith) (λ e. omega (arith, e)) end)) h
 
 all_results : (result : Result ℕ CrewFail) (P : ℕ → Type 0) → ((s : ℕ) → P s) → IfOk result P
 all_results (Ok s) P h = h s
 all_results (Err fail) P h = tt
 
 -- nor where no run was asked for
-pub no_run_counts : (words : List (List ℕ)) (contents : Contents) (before now : ℕ) (result : Result ℕ CrewFail) → ¬ AskForRun words → IfOk result (IsCounted words contents before now)
-no_run_counts words contents before now result none = all_results result (IsCounted words contents before now) (λ s asked end. absurd (none asked))
+pub no_run_counts : (words : List (List ℕ)) (contents : Contents) (before now : ℕ) (result : Result ℕ CrewFail) → ((asked : Asked) (fuel : ℕ) → Asks words asked → run_fuel asked ≡ Some fuel → ⊥) → IfOk result (IsCounted words contents before now)
+no_run_counts words contents before now result none = all_results result (IsCounted words contents before now) (λ s asked fuel asks some end. absurd (none asked fuel asks some))
 
 -- the status after a result: those of failures are no ends
 pub counted_after : (words : List (List ℕ)) (contents : Contents) (before now status : ℕ) (result : Result ℕ CrewFail) → status ≡ status_after result → IfOk result (IsCounted words contents before now) → IsCounted words contents before now status
 counted_after words contents before now status (Ok s) e h = rw e h
-counted_after words contents before now status (Err Write) e h = λ asks end. absurd (no_end_by 6 (omega arith) (λ e. omega (arith, e)) (rw e at end))
-counted_after words contents before now status (Err NoMemory) e h = λ asks end. absurd (no_end_by 7 (omega arith) (λ e. omega (arith, e)) (rw e at end))
+counted_after words contents before now status (Err Write) e h = λ asked fuel asks some end. absurd (no_end_by 6 (omega arith) (λ e. omega (arith, e)) (rw e at end))
+counted_after words contents before now status (Err NoMemory) e h = λ asked fuel asks some end. absurd (no_end_by 7 (omega arith) (λ e. omega (arith, e)) (rw e at end))
 
 -- a run that was loaded: where it ended, the tally grew by what was committed of it
 pub run_counts : (words : List (List ℕ)) (contents : Contents) (faults after : ℕ) (failed fails : Names) (run : Run) (q : Program) (numbers : List ℤ) (plans : List Plan) (before now : ℕ) (result : Result ℕ CrewFail) →
-    Asks words run → LoadsTexts contents run faults after failed fails (texts.Run q numbers plans) → OnOk result (now ≡ before + committed_in_all q plans (source_run q numbers run.fuel)) → IfOk result (IsCounted words contents before now)
+    Asks words (ToRun run) → LoadsTexts contents run faults after failed fails (texts.Run q numbers plans) → OnOk result (now ≡ before + committed_in_all q plans (source_run q numbers run.fuel)) → IfOk result (IsCounted words contents before now)
 run_counts words contents faults after failed fails run q numbers plans before now (Ok status) asks texts h = count_run words contents faults after failed fails None None run q numbers plans before now status asks texts h
 run_counts words contents faults after failed fails run q numbers plans before now (Err fail) asks texts h = tt

@@ -17,7 +17,8 @@ use Rattle.dp_edge.specs.Input.{numbers_of}
 use Rattle.dswp.specs.declared.refusal.Refusal.{Refusal}
 use Rattle.dswp.specs.declared.refusal.Refusal.TheVariants.{Byte, Syntax, Limit}
 use Rattle.dswp.specs.Program.{Reads, ReadsAs, TooLong, NoToken, TooDeep, NoTree, Judged, sized, judged, expanded, refusal_of}
-use Rattle.dswp.specs.Answer.{Contents, Holds, ReadsInput, or_refused}
+use Rattle.dswp.specs.Inputs.{or_refused}
+use Rattle.dswp.specs.Roles.{Contents, Holds, ReadsInput}
 use Rattle.dswp.specs.Loading.{LoadsProgram}
 use Rattle.dswp.proofs.accepted.Lengths.{lengths}
 use Rattle.dswp.proofs.accepted.Exits.{exits}
@@ -50,9 +51,6 @@ pub unread : (text : List ℕ) (refusal : Refusal) → Reads text (Err refusal) 
 unread text refusal h = record { source = Err refusal; reads = h; is = refl }
 
 pub ruleset judged_texts = (read, unread, lengths, exits)
-
-pub fit : (raw : RawProgram) (p : Program) (o : Result Program Refusal) → verdict raw ≡ Ok p → o ≡ expanded (sized p (size_verdict p)) → o ≡ expanded (judged (verdict raw))
-fit raw p o is e = e ∙ sym (ap (λ (v : Result Program CheckFail). expanded (judged v)) is)
 
 pub offending : (raw : RawProgram) (fail : CheckFail) (refusal : Refusal) → verdict raw ≡ Err fail → refusal ≡ refusal_of fail → Err refusal ≡ expanded (judged (verdict raw))
 offending raw fail refusal is e = ap Err e ∙ sym (ap (λ (v : Result Program CheckFail). expanded (judged v)) is)

@@ -1,5 +1,5 @@
 -- The run of the made program.
-use Rattle.std.proofs.Common.{◌≡◌, refl, sym, ◌∙◌, ap, subst, arith, ℕ, zero, suc, ◌+◌, ◌<◌, ◌≤◌, ◌^◌, false, List, ◌++◌, length, ℤ, Option, None, Result, Ok, Err, IfOk, OnOk}
+use Rattle.std.proofs.Common.{◌≡◌, refl, sym, ◌∙◌, ap, subst, arith, ℕ, zero, suc, ◌+◌, ◌<◌, ◌≤◌, ◌^◌, false, List, [], ◌++◌, length, ℤ, Option, None, Result, Ok, Err, IfOk, OnOk}
 use Rattle.std.specs.Result.{IsErr}
 use Rattle.dp_tree.specs.declared.Program.{Program}
 use Rattle.dp_tree.specs.Inlined.{IsInlined}
@@ -13,7 +13,9 @@ use Rattle.dp_report.specs.Generator.{made_text, next_number, words_after}
 use Rattle.dp_plan.specs.declared.Plan.{Plan}
 use Rattle.dp_run.specs.RunText.{source_run, trace_text, committed_in_all}
 use Rattle.dp_words.specs.declared.task.GenWords.{GenWords}
-use Rattle.dp_words.specs.Words.{AsksMade, MadeWithin}
+use Rattle.dp_words.specs.Words.{Asks, ToMake}
+use Rattle.dp_words.specs.Run.{Least}
+use Rattle.dp_words.specs.Made.{MadeWithin}
 use Rattle.dp_plan.specs.GivenPlans.{ArePlans}
 use Rattle.dp_run.specs.Given.{AreGiven}
 use Rattle.dswp.specs.declared.refusal.Refusal.{Refusal}
@@ -22,7 +24,9 @@ use Rattle.dswp.specs.Program.{Reads, ReadsAs, expanded}
 use Rattle.dswp.specs.Plans.{MakesPlans}
 use Rattle.dswp.specs.Made.{made_line, made_words}
 use Rattle.dswp.specs.RunText.{status_of}
-use Rattle.dswp.specs.Answer.{Contents, MadeRefused, MadeRan, OfMade}
+use Rattle.dswp.specs.Roles.{Automatic, ByProgram, Contents, MadeProgram, NotNamed, SomePlans, TextsGive, Unnamed}
+use Rattle.dswp.specs.Answer.{Done, OfRun}
+use Rattle.dswp.specs.Answer as answers
 use Rattle.dswp.specs.Headline.{IsCounted}
 use Rattle.dswp.specs.Carried.{Names, Finishes, Carried}
 use Rattle.dswp.specs.Carried as carried
@@ -54,6 +58,11 @@ pub finishes_stopped : (line text : List ℕ) (status : ℕ) (told tells : Optio
 finishes_stopped line text status told tells (Ok answered) h w = absurd (cc)
 finishes_stopped line text status told tells (Err fail) h w = front_more line text told tells w
 
+-- what stopped says nothing of the tally
+pub stopped_counts : (result : Result ℕ CrewFail) (P : Type 0) → IsErr result → OnOk result P
+stopped_counts (Ok answered) P h = absurd (cc)
+stopped_counts (Err fail) P h = tt
+
 -- the program that the expansion of a text's is one of
 record Source (text : List ℕ) (q : Program) : Type 0 where
   source : Program
@@ -78,6 +87,14 @@ refused_as text refusal h = by h.source h.reads h.is
 pub read_made : (slice text : List ℕ) (o read : Result Program Refusal) → slice ≡ text → text ≡ made_text → o ≡ read → ReadsAs slice o → ReadsAs made_text read
 read_made slice text o read e f is h = subst (λ (t : List ℕ). ReadsAs t read) (e ∙ f) (subst (λ (x : Result Program Refusal). ReadsAs slice x) is h)
 
+-- the texts of its run
+made_texts : (contents : Contents) (made : GenWords) (q : Program) (plans : List Plan) (s : Source made_text q) → MakesPlans q made.options None plans → TextsGive contents (ToMake made) s.source [] plans
+made_texts contents made q plans s plans_made = record {
+  program = MadeProgram (Ok s.source) s.reads;
+  input = Unnamed;
+  planned = SomePlans (Least None) made.options (Ok plans) (Automatic None None plans NotNamed (subst (λ (x : Program). MakesPlans x made.options None plans) s.is plans_made));
+}
+
 module _ (q : Program) (h : ReadsAs made_text (Ok q)) where
   s : Source made_text q
   s = source_of made_text q h
@@ -91,10 +108,10 @@ module _ (q : Program) (h : ReadsAs made_text (Ok q)) where
   pub read_given : (plans : List Plan) → ArePlans q plans → AreGiven q plans
   read_given plans fit = record { inlined = read_inlined; sites = read_few; plans_are = fit }
 
-module _ (words : List (List ℕ)) (contents : Contents) (made : GenWords) (asks : AsksMade words made) where
+module _ (words : List (List ℕ)) (contents : Contents) (made : GenWords) (asks : Asks words (ToMake made)) where
   module _ (faults : ℕ) (failed : Names) (told tells : Option (List ℕ)) (result : Result ℕ CrewFail) where
     pub carry_refused : (refusal : Refusal) → ReadsAs made_text (Err refusal) → Finishes (refusal_status refusal) (refusal_line refusal) told tells result → Carried words contents faults faults failed failed told tells result
-    carry_refused refusal read finishes = carried.OfAnswer _ _ (MadeRefused made refusal asks (refused_as made_text refusal read)) refl refl finishes
+    carry_refused refusal read finishes = carried.OfAnswer _ _ (answers.Refused (ToMake made) refusal asks (ByProgram refusal (MadeProgram (Err refusal) (refused_as made_text refusal read)))) refl refl finishes
 
     pub carry_run : (q : Program) (plans : List Plan) (numbers : List ℤ) → numbers ≡ made_words made → ReadsAs made_text (Ok q) → MakesPlans q made.options None plans →
         Finishes (status_of (source_run q numbers made.fuel).end) (made_line made ++ trace_text q plans (source_run q numbers made.fuel) false) told tells result →
@@ -102,7 +119,7 @@ module _ (words : List (List ℕ)) (contents : Contents) (made : GenWords) (asks
     carry_run q plans numbers e read plans_made finishes =
         let s = source_of made_text q read in
         let here = subst (λ (zs : List ℤ). Finishes (status_of (source_run q zs made.fuel).end) (made_line made ++ trace_text q plans (source_run q zs made.fuel) false) told tells result) e finishes in
-        carried.OfAnswer _ _ (MadeRan made s.source plans asks s.reads (subst (λ (x : Program). MakesPlans x made.options None plans) s.is plans_made)) refl refl
+        carried.OfAnswer _ _ (Done (ToMake made) s.source [] plans asks (made_texts contents made q plans s plans_made)) refl refl
         (finishes_source s.source q s.is (read_checked made_text s.source s.reads) plans (made_words made) made.fuel false (made_line made) told tells result here)
 
   -- where the run ended, the tally grew by what was committed of it
@@ -110,9 +127,9 @@ module _ (words : List (List ℕ)) (contents : Contents) (made : GenWords) (asks
       OnOk result (now ≡ before + committed_in_all q plans (source_run q numbers made.fuel)) → IfOk result (IsCounted words contents before now)
   run_counts q plans numbers before now (Ok status) e read plans_made h =
       let s = source_of made_text q read in
-      λ asked end. (
+      λ other spent asked some end. (
         committed_in_all (expand s.source) plans (source_run (expand s.source) (made_words made) made.fuel),
-        OfMade made s.source plans asks s.reads (subst (λ (x : Program). MakesPlans x made.options None plans) s.is plans_made),
+        OfRun (ToMake made) s.source [] plans made.fuel asks (made_texts contents made q plans s plans_made) refl,
         h ∙ ap (λ (zs : List ℤ). before + committed_in_all q plans (source_run q zs made.fuel)) e ∙ ap (λ (y : Program). before + committed_in_all y plans (source_run y (made_words made) made.fuel)) s.is,
       )
   run_counts q plans numbers before now (Err fail) e read plans_made h = tt

@@ -1,5 +1,5 @@
 -- What a profile's texts give is what its words are answered with.
-use Rattle.std.proofs.Common.{◌≡◌, sym, ◌∙◌, ap, false, ℕ, List, [], ℤ, Option, Result, Ok}
+use Rattle.std.proofs.Common.{◌≡◌, sym, ◌∙◌, ap, false, ℕ, List, [], ℤ, Option, Some, Result, Ok}
 use Rattle.dp_tree.specs.declared.Program.{Program}
 use Rattle.dp_calls.specs.Expand.{expand}
 use Rattle.dp_calls.specs.Frames.{outcome}
@@ -9,7 +9,8 @@ use Rattle.dp_profile.specs.Observed.{observed}
 use Rattle.dp_profile.specs.WrittenText.{profile_text}
 use Rattle.dp_crew.specs.declared.fail.CrewFail.{CrewFail}
 use Rattle.dp_run.specs.RunText.{source_run}
-use Rattle.dp_words.specs.Words.{Profiling, AsksProfile}
+use Rattle.dp_words.specs.Words.{Asks, ToProfile}
+use Rattle.dp_words.specs.Profiling.{Profiling}
 use Rattle.dswp.specs.declared.load.Loaded.{Loaded}
 use Rattle.dswp.specs.declared.load.Loaded.TheVariants.{Text, Refused, Failed}
 use Rattle.dswp.specs.declared.refusal.Refusal.{Refusal}
@@ -17,7 +18,9 @@ use Rattle.dswp.specs.declared.refusal.Role.TheVariants as role
 use Rattle.dswp.specs.Refusal.{refusal_line, refusal_status, failed_read_line}
 use Rattle.dswp.specs.Loading.{Gives, LoadsProgram}
 use Rattle.dswp.specs.RunText.{status_of}
-use Rattle.dswp.specs.Answer.{Contents, Input, ProfileWritten, ProfilingInputRefused, OfProfilingInput}
+use Rattle.dswp.specs.Roles.{ByInput, Contents, Input, NamedProgram, NoPlans, ProgramOf}
+use Rattle.dswp.specs.Answer.{Done, OfInput}
+use Rattle.dswp.specs.Answer as answers
 use Rattle.dswp.specs.Carried.{Names, Finishes, Carried}
 use Rattle.dswp.specs.Carried as carried
 use Rattle.dswp.proofs.TextsLemmas.{Source, source_of}
@@ -26,9 +29,12 @@ use Rattle.dswp.proofs.accepted.Accepted.{read_checked}
 use Rattle.dswp.proofs.accepted.SameText.{same_end}
 
 module _ (words : List (List ℕ)) (contents : Contents) (faults after : ℕ) (failed fails : Names) (told tells : Option (List ℕ)) (result : Result ℕ CrewFail) where
-  module _ (profiling : Profiling) (asks : AsksProfile words profiling) (q : Program) (read : LoadsProgram contents profiling.program (Ok q)) where
+  module _ (profiling : Profiling) (asks : Asks words (ToProfile profiling)) (q : Program) (read : LoadsProgram contents profiling.program (Ok q)) where
     s : Source contents profiling.program q
     s = source_of contents profiling.program q read
+
+    program : ProgramOf contents (Some profiling.program) (Ok s.source)
+    program = NamedProgram profiling.program s.reads.text (Ok s.source) s.reads.held s.reads.reads
 
     abbrev InputGives : Loaded (List ℤ) → Type 0
     InputGives = Gives (Input contents profiling.input) profiling.input faults after failed fails
@@ -42,12 +48,12 @@ module _ (words : List (List ℕ)) (contents : Contents) (faults after : ℕ) (f
     pub carry_profile : (numbers : List ℤ) → InputGives (Text numbers) → Finishes (status_of (observed q numbers profiling.fuel).end) (profile_text q (observed q numbers profiling.fuel).profile) told tells result →
         Carried words contents faults after failed fails told tells result
     carry_profile numbers g finishes =
-        carried.OfAnswer _ _ (ProfileWritten profiling s.reads.text s.source numbers asks s.reads.held s.reads.reads g.0) g.1 g.2
+        carried.OfAnswer _ _ (Done (ToProfile profiling) s.source numbers [] asks (record { program = program; input = g.0; planned = NoPlans })) g.1 g.2
         (finishes_as _ _ (profile_text q (observed q numbers profiling.fuel).profile) (profile_text (expand s.source) (observed (expand s.source) numbers profiling.fuel).profile) told tells result
         (ap status_of (end_is numbers)) (ap (λ (x : Program). profile_text x (observed x numbers profiling.fuel).profile) s.is) finishes)
 
     pub carry_input_refused : (refusal : Refusal) → InputGives (Refused refusal) → Finishes (refusal_status refusal) (refusal_line refusal) told tells result → Carried words contents faults after failed fails told tells result
-    carry_input_refused refusal g finishes = carried.OfAnswer _ _ (ProfilingInputRefused profiling s.reads.text s.source refusal asks s.reads.held s.reads.reads g.0) g.1 g.2 finishes
+    carry_input_refused refusal g finishes = carried.OfAnswer _ _ (answers.Refused (ToProfile profiling) refusal asks (ByInput s.source refusal program g.0)) g.1 g.2 finishes
 
     pub carry_input_failed : InputGives Failed → Finishes 5 (failed_read_line role.Input) told tells result → Carried words contents faults after failed fails told tells result
-    carry_input_failed g finishes = carried.OfFailedRead _ _ (OfProfilingInput profiling s.reads.text g.0 s.source asks s.reads.held s.reads.reads g.1) g.2 g.3 finishes
+    carry_input_failed g finishes = carried.OfFailedRead _ _ (OfInput (ToProfile profiling) s.source g.0 asks program g.1) g.2 g.3 finishes

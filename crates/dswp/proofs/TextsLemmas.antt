@@ -1,6 +1,5 @@
 -- What the texts of a run give, from what each of them was loaded as.
 use Rattle.std.proofs.Common.{◌≡◌, refl, sym, ◌∙◌, ap, subst, ℕ, ◌<◌, List, Option, Some, None, ℤ, Result, Ok, Err, IfOk}
-use Rattle.std.specs.Result.{OnErr}
 use Rattle.std.specs.Option.{option_map}
 use Rattle.dp_base.specs.declared.NoMemory.{NoMemory}
 use Rattle.dp_tree.specs.declared.Program.{Program}
@@ -8,8 +7,8 @@ use Rattle.dp_plan.specs.declared.Plan.{Plan}
 use Rattle.dp_plan.specs.GivenPlans.{ArePlans}
 use Rattle.dp_words.specs.declared.task.PlanOptions.{PlanOptions}
 use Rattle.dp_calls.specs.Expand.{expand}
-use Rattle.dp_words.specs.Words as source
-use Rattle.dp_words.specs.Words.{Run, Least}
+use Rattle.dp_words.specs.Run as source
+use Rattle.dp_words.specs.Run.{Run, Least}
 use Rattle.dp_profile.specs.declared.Profile.{Profile}
 use Rattle.dswp.specs.Plans.{MakesPlans}
 use Rattle.dswp.specs.declared.refusal.Role.{Role}
@@ -18,7 +17,8 @@ use Rattle.dswp.specs.declared.refusal.Refusal.{Refusal}
 use Rattle.dswp.specs.declared.load.Loaded.{Loaded}
 use Rattle.dswp.specs.declared.load.Loaded.TheVariants.{Text, Refused, Failed}
 use Rattle.dswp.specs.declared.texts.Texts.TheVariants as texts
-use Rattle.dswp.specs.Answer.{Contents, ReadsInput, Input, Named, Profiled, NamedProfile, Plans, Automatic, ProfileRefused, Planned, some_read, named_in, role_of}
+use Rattle.dswp.specs.Roles.{Contents, ReadsInput, Input, Named, Profiled, NamedProfile, Plans, Automatic, ProfileRefused, Planned, some_read}
+use Rattle.dswp.specs.Answer.{named_in, role_of}
 use Rattle.dswp.specs.Program.{expanded}
 use Rattle.dswp.specs.Loading.{ReadsProgram, LoadsProgram, LoadsPlans, LoadsProfile, Loads, FaultsAfterLoad, names_after, Gives}
 use Rattle.dswp.specs.Carried.{Names, with_name, LoadsTexts, Loaded as LoadedTexts, ProgramRefused, InputRefused, PlansRefused, ProgramFailed, InputFailed, PlansFailed}
@@ -34,14 +34,6 @@ gives P Q weaker name faults after failed fails (Ok (Text x)) h f e = (weaker (O
 gives P Q weaker name faults after failed fails (Ok (Refused refusal)) h f e = (weaker (Err refusal) h, f, e ∙ same_names failed)
 gives P Q weaker name faults after failed fails (Ok Failed) h f e = (name, refl, f, e)
 gives P Q weaker name faults after failed fails (Err x) h f e = tt
-
--- .. and where memory was wanting
-pub wanting : {X : Type 0} (name : List ℕ) (faults after : ℕ) (failed fails : Names) (r : Result (Loaded X) NoMemory) → FaultsAfterLoad r faults after → fails ≡ option_map (names_after r name) failed →
-    OnErr r ((after ≡ faults) × (fails ≡ failed))
-wanting name faults after failed fails (Ok (Text x)) f e = tt
-wanting name faults after failed fails (Ok (Refused refusal)) f e = tt
-wanting name faults after failed fails (Ok Failed) f e = tt
-wanting name faults after failed fails (Err x) f e = (f, e ∙ same_names failed)
 
 -- an input and plans that are named
 pub input_named : (contents : Contents) (name : List ℕ) (o : Result (List ℤ) Refusal) → ReadsInput contents name o → Input contents (Some name) o

@@ -12,11 +12,12 @@ use Rattle.dp_crew.specs.declared.fail.CrewFail.TheVariants.{NoMemory}
 use Rattle.dswp.specs.declared.texts.Texts.{Texts}
 use Rattle.dswp.specs.declared.texts.Texts.TheVariants as texts
 use Rattle.dswp.specs.Refusal.{failed_read_line}
-use Rattle.dp_words.specs.Words.{Run}
+use Rattle.dp_words.specs.Run.{Run}
 use Rattle.dp_plan.specs.declared.Plan.{Plan}
 use Rattle.dp_plan.specs.GivenPlans.{ArePlans}
 use Rattle.dp_crew.specs.Output.{WritesFront}
-use Rattle.dswp.specs.Answer.{Contents, Answer, IsRead, Input, Plans, named_in, role_of}
+use Rattle.dswp.specs.Roles.{Contents, Input, Plans}
+use Rattle.dswp.specs.Answer.{Answer, IsRead, named_in, role_of}
 use Rattle.dswp.specs.Loading.{ReadsProgram}
 
 abbrev pub Names : Type 0

@@ -1,13 +1,13 @@
 -- What one call of the program does: the headline.
-use Rattle.std.specs.Prelude.{◌≡◌, ◌⊎◌, ◌<◌, ◌+◌, ℕ, List, [], ◌∷◌, ◌++◌, Option}
+use Rattle.std.specs.Prelude.{◌≡◌, ◌⊎◌, ◌<◌, ◌+◌, ℕ, List, [], ◌∷◌, ◌++◌, Option, Some}
 use Rattle.std.specs.Option.{option_map}
 use Rattle.dp_edge.specs.Sink.{appended}
 use Rattle.dswp.specs.declared.refusal.Role.{Role}
 use Rattle.dswp.specs.Refusal.{failed_read_line}
 use Rattle.dp_crew.specs.Output.{WritesFront}
-use Rattle.dp_words.specs.declared.task.GenWords.{GenWords}
-use Rattle.dp_words.specs.Words.{Run, Asks, AsksMade}
-use Rattle.dswp.specs.Answer.{Contents, Answer, Commits, IsRead}
+use Rattle.dp_words.specs.Words.{Asked, Asks}
+use Rattle.dswp.specs.Roles.{Contents}
+use Rattle.dswp.specs.Answer.{Answer, Commits, IsRead, run_fuel}
 
 -- No read and no write failed: the whole answer was written and the status is its own, or memory was wanting, which is
 -- status 7, and a front of the answer was written.
@@ -37,11 +37,7 @@ pub data WriteFailed (words : List (List ℕ)) (contents : Contents) (faults aft
 abbrev pub IsEnd : ℕ → Type 0
 IsEnd status = (status ≡ 0) ⊎ (status ≡ 1) ⊎ (status ≡ 8)
 
--- The words ask for a run: that of a program that they name, or that of the made one.
-pub data AskForRun (words : List (List ℕ)) : Type 0 where
-  OfNamed : (run : Run) → Asks words run → AskForRun words
-  OfMade : (made : GenWords) → AsksMade words made → AskForRun words
-
 -- Where a run was asked for and ended, the tally grew by its iterations that were committed from a pipeline.
 abbrev pub IsCounted : List (List ℕ) → Contents → ℕ → ℕ → ℕ → Type 0
-IsCounted words contents before after status = AskForRun words → IsEnd status → (count : ℕ) × Commits words contents count × (after ≡ before + count)
+IsCounted words contents before after status =
+    (asked : Asked) (fuel : ℕ) → Asks words asked → run_fuel asked ≡ Some fuel → IsEnd status → (count : ℕ) × Commits words contents count × (after ≡ before + count)

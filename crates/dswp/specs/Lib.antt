@@ -1,6 +1,8 @@
 pub mod Headline
 pub mod Answer
+pub mod Roles
 pub mod Program
+pub mod Inputs
 pub mod Plans
 pub mod Profiles
 pub mod RunText
@@ -8,4 +10,5 @@ pub mod Made
 pub mod Refusal
 pub mod Loading
 pub mod Carried
+pub mod Runs
 pub mod Status

@@ -5,7 +5,7 @@ use Rattle.dp_tree.specs.declared.Program.{Program as Tree}
 use Rattle.dswp.specs.declared.refusal.Refusal.{Refusal}
 use Rattle.dswp.specs.declared.load.Loaded.{Loaded}
 use Rattle.dswp.specs.declared.load.Loaded.TheVariants.{Text, Refused, Failed}
-use Rattle.dswp.specs.Answer.{Contents, Holds}
+use Rattle.dswp.specs.Roles.{Contents, Holds}
 use Rattle.dswp.specs.Program.{Reads, expanded}
 use Rattle.dp_plan.specs.declared.Plan.{Plan}
 use Rattle.dswp.specs.Plans.{ReadsPlans}

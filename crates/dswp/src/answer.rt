@@ -2,7 +2,8 @@
 ghost use Rattle.std.specs.Prelude.{◌≡◌, ◌<◌, ◌≤◌, ◌-◌, ◌^◌, ℕ, List, map, string_bytes, IfOk};
 ghost use Rattle.dp_report.specs.SiteText.{site_bytes};
 ghost use Rattle.dp_crew.specs.Fail.{FaultsAfter};
-ghost use Rattle.dp_words.specs.Words.{Asks, AsksSites, RunWithin, shown};
+ghost use Rattle.dp_words.specs.Words.{Asks, ToList, ToRun};
+ghost use Rattle.dp_words.specs.Run.{RunWithin, shown};
 ghost use Rattle.dswp.specs.Headline.{Answered, IsCounted, ReadFailed, WriteFailed};
 ghost use Rattle.dswp.specs.Carried.{Carried, Finishes};
 ghost use Rattle.dswp.specs.Status.{status_after};
@@ -122,9 +123,9 @@ fn answer_run<R: Threads + Wait + Sync, S: Shelf, K: Sink, G: Gate>(
     requires tally { tally.old < 2 ^ 63 }
     ensures contents { S.contents shelf.new ≡ S.contents shelf.old }
     ensures faults { FaultsAfter result (K.faults sink.old) (K.faults sink.new) }
-    ensures carried { (words : List (List ℕ)) → Asks words (shown run.entry) → Carried words (S.contents shelf.old) (S.faults shelf.old) (S.faults shelf.new)
+    ensures carried { (words : List (List ℕ)) → Asks words (ToRun (shown run.entry)) → Carried words (S.contents shelf.old) (S.faults shelf.old) (S.faults shelf.new)
         (S.failed_names shelf.old) (S.failed_names shelf.new) (K.written sink.old) (K.written sink.new) result }
-    ensures counted { (words : List (List ℕ)) → Asks words (shown run.entry) → IfOk result (IsCounted words (S.contents shelf.old) tally.old tally.new) }
+    ensures counted { (words : List (List ℕ)) → Asks words (ToRun (shown run.entry)) → IfOk result (IsCounted words (S.contents shelf.old) tally.old tally.new) }
 {
     match load(alloc, run, shelf)? {
         Texts::Run(program, input, plans) => {
@@ -156,7 +157,7 @@ fn answer_check<S: Shelf, K: Sink>(
     requires sink { K.faults sink.old < 2 ^ 64 - 1 }
     ensures contents { S.contents shelf.new ≡ S.contents shelf.old }
     ensures faults { FaultsAfter result (K.faults sink.old) (K.faults sink.new) }
-    ensures carried { (words : List (List ℕ)) → AsksSites words name.now → Carried words (S.contents shelf.old) (S.faults shelf.old) (S.faults shelf.new)
+    ensures carried { (words : List (List ℕ)) → Asks words (ToList name.now) → Carried words (S.contents shelf.old) (S.faults shelf.old) (S.faults shelf.new)
         (S.failed_names shelf.old) (S.failed_names shelf.new) (K.written sink.old) (K.written sink.new) result }
 {
     match load_program(alloc, shelf, name)? {

@@ -1,7 +1,8 @@
 //! The texts that the words name.
 ghost use Rattle.std.specs.Prelude.{◌≡◌, ◌-◌, ◌^◌, ◌<◌, ◌≤◌, length, IfOk};
 ghost use Rattle.std.specs.Option.{option_map};
-ghost use Rattle.dswp.specs.Answer.{Holds, ReadsInput, input_of};
+ghost use Rattle.dswp.specs.Inputs.{input_of};
+ghost use Rattle.dswp.specs.Roles.{ReadsInput};
 ghost use Rattle.dp_tree.specs.Inlined.{IsInlined};
 ghost use Rattle.dswp.specs.Plans.{ReadsPlans};
 ghost use Rattle.dswp.specs.Profiles.{ReadsProfile};

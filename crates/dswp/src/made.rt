@@ -1,16 +1,16 @@
 //! The run of the made program.
-ghost use Rattle.std.specs.Prelude.{◌≡◌, ◌<◌, ◌≤◌, ◌+◌, ◌-◌, ◌^◌, ◌++◌, ℕ, List, false, length, string_bytes, IfOk, OnErr, OnOk};
+ghost use Rattle.std.specs.Prelude.{◌≡◌, ◌<◌, ◌≤◌, ◌-◌, ◌^◌, ℕ, List, false, length, string_bytes, IfOk, OnErr, OnOk};
 ghost use Rattle.dp_edge.specs.Sink.{appended};
 ghost use Rattle.dp_crew.specs.Fail.{FaultsAfter};
 ghost use Rattle.dp_crew.specs.Output.{WritesFront};
 ghost use Rattle.dp_run.specs.Given.{AreGiven};
-ghost use Rattle.dp_run.specs.RunText.{committed_in_all, source_run, trace_text};
-ghost use Rattle.dp_words.specs.Words.{AsksMade, MadeWithin};
-ghost use Rattle.dswp.specs.Answer.{Contents};
-ghost use Rattle.dswp.specs.Carried.{Carried, Finishes, Names};
+ghost use Rattle.dp_words.specs.Words.{Asks, ToMake};
+ghost use Rattle.dp_words.specs.Made.{MadeWithin};
+ghost use Rattle.dswp.specs.Roles.{Contents};
+ghost use Rattle.dswp.specs.Carried.{Carried, Names};
+ghost use Rattle.dswp.specs.Runs.{Runs};
 ghost use Rattle.dswp.specs.Headline.{IsCounted};
 ghost use Rattle.dswp.specs.Made.{made_line};
-ghost use Rattle.dswp.specs.RunText.{status_of};
 
 use crate::planning::automatic_plans;
 use crate::program::read_program;
@@ -40,9 +40,9 @@ pub fn answer_gen<R: Threads + Wait + Sync, K: Sink, G: Gate>(
     requires sink { K.faults sink.old < 2 ^ 64 - 1 }
     requires tally { tally.old < 2 ^ 63 }
     ensures faults { FaultsAfter result (K.faults sink.old) (K.faults sink.new) }
-    ensures carried { (given : List (List ℕ)) (contents : Contents) (faults : ℕ) (failed : Names) → AsksMade given words →
+    ensures carried { (given : List (List ℕ)) (contents : Contents) (faults : ℕ) (failed : Names) → Asks given (ToMake words) →
         Carried given contents faults faults failed failed (K.written sink.old) (K.written sink.new) result }
-    ensures counted { (given : List (List ℕ)) (contents : Contents) → AsksMade given words → IfOk result (IsCounted given contents tally.old tally.new) }
+    ensures counted { (given : List (List ℕ)) (contents : Contents) → Asks given (ToMake words) → IfOk result (IsCounted given contents tally.old tally.new) }
 {
     let made = make_program(alloc, words.seed, words.size)?;
     match read_program(alloc, made.text.as_slice())? {
@@ -82,9 +82,7 @@ fn run_made<R: Threads + Wait + Sync, K: Sink, G: Gate>(
     requires sink { K.faults sink.old < 2 ^ 64 - 1 }
     requires tally { tally.old < 2 ^ 63 }
     ensures faults { FaultsAfter result (K.faults sink.old) (K.faults sink.new) }
-    ensures finishes { let trace = source_run program.now input.now words.fuel in
-        Finishes (status_of trace.end) (made_line words ++ trace_text program.now plans.now trace false) (K.written sink.old) (K.written sink.new) result }
-    ensures tally { OnOk result (tally.new ≡ tally.old + committed_in_all program.now plans.now (source_run program.now input.now words.fuel)) }
+    ensures runs { Runs (made_line words) program.now plans.now input.now words.fuel false (K.written sink.old) (K.written sink.new) tally.old tally.new result }
 {
     write_line(alloc, words, sink)?;
     let options = RunOptions {

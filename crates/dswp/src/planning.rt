@@ -5,8 +5,11 @@ ghost use Rattle.dp_tree.specs.Inlined.{IsInlined};
 ghost use Rattle.dp_plan.specs.GivenPlans.{ArePlans};
 ghost use Rattle.dp_plan.specs.WrittenText.{plans_text};
 ghost use Rattle.dp_crew.specs.Fail.{FaultsAfter};
-ghost use Rattle.dp_words.specs.Words.{AsksPlans, Least, OptionsWithin, shown_planning};
-ghost use Rattle.dswp.specs.Answer.{Plans, Profiled};
+ghost use Rattle.dp_words.specs.Words.{Asks, ToPlan};
+ghost use Rattle.dp_words.specs.Values.{OptionsWithin};
+ghost use Rattle.dp_words.specs.Run.{Least};
+ghost use Rattle.dp_words.specs.Planning.{shown_planning};
+ghost use Rattle.dswp.specs.Roles.{Plans, Profiled};
 ghost use Rattle.dswp.specs.Carried.{Carried, Finishes};
 ghost use Rattle.dswp.specs.Loading.{Gives, IfText, LoadsProgram};
 ghost use Rattle.dswp.specs.Plans.{MakesPlans};
@@ -126,7 +129,7 @@ pub fn answer_plan<S: Shelf, K: Sink>(
     requires sink { K.faults sink.old < 2 ^ 64 - 1 }
     ensures contents { S.contents shelf.new ≡ S.contents shelf.old }
     ensures faults { FaultsAfter result (K.faults sink.old) (K.faults sink.new) }
-    ensures carried { (words : List (List ℕ)) → AsksPlans words (shown_planning plan.entry) → Carried words (S.contents shelf.old) (S.faults shelf.old) (S.faults shelf.new)
+    ensures carried { (words : List (List ℕ)) → Asks words (ToPlan (shown_planning plan.entry)) → Carried words (S.contents shelf.old) (S.faults shelf.old) (S.faults shelf.new)
         (S.failed_names shelf.old) (S.failed_names shelf.new) (K.written sink.old) (K.written sink.new) result }
 {
     match load_program(alloc, shelf, plan.program)? {
@@ -151,7 +154,7 @@ fn answer_least<S: Shelf, K: Sink>(
     requires sink { K.faults sink.old < 2 ^ 64 - 1 }
     ensures contents { S.contents shelf.new ≡ S.contents shelf.old }
     ensures faults { FaultsAfter result (K.faults sink.old) (K.faults sink.new) }
-    ensures carried { (words : List (List ℕ)) → AsksPlans words (shown_planning plan.entry) → LoadsProgram (S.contents shelf.old) plan.entry.program.now (Ok program.now) →
+    ensures carried { (words : List (List ℕ)) → Asks words (ToPlan (shown_planning plan.entry)) → LoadsProgram (S.contents shelf.old) plan.entry.program.now (Ok program.now) →
         Carried words (S.contents shelf.old) (S.faults shelf.old) (S.faults shelf.new) (S.failed_names shelf.old) (S.failed_names shelf.new) (K.written sink.old) (K.written sink.new) result }
 {
     match load_least(alloc, shelf, plan.profile, plan.options, program)? {

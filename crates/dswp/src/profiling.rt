@@ -4,7 +4,8 @@ ghost use Rattle.dp_tree.specs.Inlined.{IsInlined};
 ghost use Rattle.dp_profile.specs.Observed.{observed};
 ghost use Rattle.dp_profile.specs.WrittenText.{profile_text};
 ghost use Rattle.dp_crew.specs.Fail.{FaultsAfter};
-ghost use Rattle.dp_words.specs.Words.{AsksProfile, shown_profiling};
+ghost use Rattle.dp_words.specs.Words.{Asks, ToProfile};
+ghost use Rattle.dp_words.specs.Profiling.{shown_profiling};
 ghost use Rattle.dswp.specs.Carried.{Carried, Finishes};
 ghost use Rattle.dswp.specs.Loading.{LoadsProgram};
 ghost use Rattle.dswp.specs.RunText.{status_of};
@@ -33,7 +34,7 @@ pub fn answer_profile<S: Shelf, K: Sink>(
     requires sink { K.faults sink.old < 2 ^ 64 - 1 }
     ensures contents { S.contents shelf.new ≡ S.contents shelf.old }
     ensures faults { FaultsAfter result (K.faults sink.old) (K.faults sink.new) }
-    ensures carried { (words : List (List ℕ)) → AsksProfile words (shown_profiling profile.entry) → Carried words (S.contents shelf.old) (S.faults shelf.old) (S.faults shelf.new)
+    ensures carried { (words : List (List ℕ)) → Asks words (ToProfile (shown_profiling profile.entry)) → Carried words (S.contents shelf.old) (S.faults shelf.old) (S.faults shelf.new)
         (S.failed_names shelf.old) (S.failed_names shelf.new) (K.written sink.old) (K.written sink.new) result }
 {
     match load_program(alloc, shelf, profile.program)? {
@@ -56,7 +57,7 @@ fn answer_input<S: Shelf, K: Sink>(
     requires sink { K.faults sink.old < 2 ^ 64 - 1 }
     ensures contents { S.contents shelf.new ≡ S.contents shelf.old }
     ensures faults { FaultsAfter result (K.faults sink.old) (K.faults sink.new) }
-    ensures carried { (words : List (List ℕ)) → AsksProfile words (shown_profiling profile.entry) → LoadsProgram (S.contents shelf.old) profile.entry.program.now (Ok program.now) →
+    ensures carried { (words : List (List ℕ)) → Asks words (ToProfile (shown_profiling profile.entry)) → LoadsProgram (S.contents shelf.old) profile.entry.program.now (Ok program.now) →
         Carried words (S.contents shelf.old) (S.faults shelf.old) (S.faults shelf.new) (S.failed_names shelf.old) (S.failed_names shelf.new) (K.written sink.old) (K.written sink.new) result }
 {
     match load_words(alloc, shelf, profile.input)? {

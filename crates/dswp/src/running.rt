@@ -1,14 +1,16 @@
 //! A run: the texts that it names, and then the program from start to end.
-ghost use Rattle.std.specs.Prelude.{◌≡◌, ◌<◌, ◌≤◌, ◌+◌, ◌-◌, ◌^◌, length, IfOk, OnErr, OnOk};
+ghost use Rattle.std.specs.Prelude.{◌≡◌, ◌<◌, ◌≤◌, ◌-◌, ◌^◌, [], length, IfOk, OnErr};
 ghost use Rattle.dp_tree.specs.Inlined.{IsInlined};
 ghost use Rattle.dp_crew.specs.Fail.{FaultsAfter};
 ghost use Rattle.dp_run.specs.Given.{AreGiven};
-ghost use Rattle.dp_run.specs.RunText.{committed_in_all, source_run, trace_text};
 ghost use Rattle.dp_plan.specs.GivenPlans.{ArePlans};
-ghost use Rattle.dp_words.specs.Words.{OptionsWithin, shown, shown_source};
-ghost use Rattle.dswp.specs.Carried.{Finishes, LoadsTexts};
+ghost use Rattle.dp_words.specs.Values.{OptionsWithin};
+ghost use Rattle.dp_words.specs.Run.{shown, shown_source};
+ghost use Rattle.dswp.specs.Carried.{LoadsTexts};
+ghost use Rattle.dswp.specs.Runs.{Runs};
 ghost use Rattle.std.specs.Option.{option_map};
-ghost use Rattle.dswp.specs.Answer.{Input, Plans, named_in, role_of as spec_role_of};
+ghost use Rattle.dswp.specs.Roles.{Input, Plans};
+ghost use Rattle.dswp.specs.Answer.{named_in, role_of as spec_role_of};
 ghost use Rattle.dswp.specs.Loading.{Gives, IfText};
 ghost use Rattle.dswp.specs.RunText.{status_of};
 
@@ -120,9 +122,7 @@ pub fn run_to_end<R: Threads + Wait + Sync, K: Sink, G: Gate>(
     requires sink { K.faults sink.old < 2 ^ 64 - 1 }
     requires tally { tally.old < 2 ^ 63 }
     ensures faults { FaultsAfter result (K.faults sink.old) (K.faults sink.new) }
-    ensures finishes { let trace = source_run program.now input.now options.fuel in
-        Finishes (status_of trace.end) (trace_text program.now plans.now trace options.why) (K.written sink.old) (K.written sink.new) result }
-    ensures tally { OnOk result (tally.new ≡ tally.old + committed_in_all program.now plans.now (source_run program.now input.now options.fuel)) }
+    ensures runs { Runs [] program.now plans.now input.now options.fuel options.why (K.written sink.old) (K.written sink.new) tally.old tally.new result }
 {
     let end = run_program(
         rt,

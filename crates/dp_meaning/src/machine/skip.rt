@@ -21,7 +21,7 @@ impl<'p> Machine<'p> {
         ensures { (region : ℕ) (out : List ℤ) → next_part self.old ≡ Part.Region region →
             IterationRun region steps self.old self.new out (out ++ prints (iteration (rest_of_run self.old) region 0)) (end_of closing) }
     {
-        self.configuration.skip(self.program, stores, closing);
+        self.position.skip(&self.code, stores, closing);
         self.steps += steps;
     }
 }

@@ -13,13 +13,13 @@ impl<'p> Machine<'p> {
     pub fn watch(&mut self, out: &mut Row<i64>, loads: &mut Loads) -> Result<Sight, NoMemory>
         ensures { IfOk result (λ seen. WatchedStep seen loads.new.cells self.old self.new) }
     {
-        if self.configuration.part() == Part::Finished {
+        if self.position.part(&self.code) == Part::Finished {
             return Ok(Sight::Finished);
         }
         if self.steps == self.fuel {
             return Ok(Sight::Fuel);
         }
-        let seen = self.configuration.look(self.program, self.input, loads)?;
+        let seen = self.position.look(&self.code, self.input, loads)?;
         if let Sight::Step { .. } = seen {
             self.step(out)?;
         }

@@ -3,7 +3,12 @@ use Rattle.std.proofs.Common.{◌≡◌, refl, List, [], ◌∷◌, Some, None, 
 use Rattle.clap.specs.Words.{Text}
 use Rattle.clap.proofs.OnLiterals.{clap_on_literals}
 use Rattle.dp_words.specs.Commands.{IsTaken, check_app, gen_app, plan_app, profile_app, run_app, value_in}
-use Rattle.dp_words.specs.Words.{Least, Named, Names, ShowsMade, ShowsPlanning, ShowsProfiling, ShowsRun, ShowsSites, source_of}
+use Rattle.dp_words.specs.Words.{Names}
+use Rattle.dp_words.specs.Run.{Least, Named, ShowsRun, source_of}
+use Rattle.dp_words.specs.Planning.{ShowsPlanning}
+use Rattle.dp_words.specs.Sites.{ShowsSites}
+use Rattle.dp_words.specs.Profiling.{ShowsProfiling}
+use Rattle.dp_words.specs.Made.{ShowsMade}
 
 -- ---- the names alone
 

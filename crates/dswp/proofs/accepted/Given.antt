@@ -14,10 +14,11 @@ use Rattle.dp_plan.specs.declared.Plan.{Plan}
 use Rattle.dp_plan.specs.GivenPlans.{ArePlans}
 use Rattle.dp_plan.proofs.ReadFits.{read_fits}
 use Rattle.dp_run.specs.Given.{AreGiven}
-use Rattle.dp_words.specs.Words.{Run}
+use Rattle.dp_words.specs.Run.{Run}
 use Rattle.dswp.specs.declared.refusal.Refusal.{Refusal}
 use Rattle.dswp.specs.declared.texts.Texts.TheVariants as texts
-use Rattle.dswp.specs.Answer.{Contents, Input, Unnamed, Named, or_refused}
+use Rattle.dswp.specs.Inputs.{or_refused}
+use Rattle.dswp.specs.Roles.{Contents, Input, Unnamed, Named}
 use Rattle.dswp.specs.Plans.{ReadsPlans, TooLong, NotPlans, Broken, Taken}
 use Rattle.dswp.specs.Carried.{Names, LoadsTexts, Loaded as LoadedTexts}
 use Rattle.dswp.specs.declared.load.Loaded.{Loaded}

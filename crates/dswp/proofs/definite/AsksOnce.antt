@@ -1,13 +1,18 @@
 -- Words ask for one thing only.
-use Rattle.std.proofs.Common.{◌≡◌, refl, sym, ap, ap₂, ◌∙◌, ℕ, ◌==◌, Bool, true, false, if◌then◌else◌, List, length, Option, Some, codes}
+use Rattle.std.proofs.Common.{◌≡◌, refl, sym, ap, ap₂, ◌∙◌, ℕ, ◌==◌, Bool, true, false, if◌then◌else◌, List, length, Option, Some, None, codes}
 use Rattle.std.specs.Option.{option_map_or}
-use Rattle.std.specs.Str.{bytes_eq}
 use Rattle.clap.specs.Words.{App, Text}
-use Rattle.dp_words.proofs.VerbLemmas.{apart, behind, named_behind, verb_is}
+use Rattle.dp_words.proofs.VerbLemmas.{apart, asks_verb, behind, named_behind, verb_of}
 use Rattle.dp_words.specs.Commands.{check_app, gen_app, plan_app, profile_app, run_app, value_in}
 use Rattle.dp_words.specs.declared.task.GenWords.{GenWords}
-use Rattle.dp_words.specs.Words.{Run, Planning, Profiling, Source, Asks, AsksBy, AsksMade, AsksPlans, AsksProfile, AsksSites, ShowsMade, ShowsPlanning, ShowsProfiling, ShowsRun, ShowsSites, Values, default_fuel, default_rate, default_stages, fuel_in, lane_in, options_in, workers_in}
-use Rattle.dswp.specs.Headline.{AskForRun, OfNamed, OfMade}
+use Rattle.dp_words.specs.Words.{Asked, Asks, AsksBy, ToList, ToMake, ToPlan, ToProfile, ToRun}
+use Rattle.dp_words.specs.Values.{Values, default_fuel, default_rate, default_stages, fuel_in, lane_in, options_in, workers_in}
+use Rattle.dp_words.specs.Run.{Run, Source, ShowsRun}
+use Rattle.dp_words.specs.Planning.{Planning, ShowsPlanning}
+use Rattle.dp_words.specs.Sites.{ShowsSites}
+use Rattle.dp_words.specs.Profiling.{Profiling, ShowsProfiling}
+use Rattle.dp_words.specs.Made.{ShowsMade}
+use Rattle.dswp.specs.Answer.{run_fuel}
 
 -- whether a flag was given, by the number of letters of its value
 abbrev why_of : Option Text → Bool
@@ -80,65 +85,29 @@ once_by : {X : Type 0} (verb : Text) (app : App) (Shows : Values → X → Type 
     AsksBy verb app Shows words x → AsksBy verb app Shows words y → x ≡ y
 once_by verb app Shows once {words = words} {x = x} {y = y} a b = once (value_in app (behind words)) x y (named_behind verb app Shows a).shows (named_behind verb app Shows b).shows
 
-pub asks_once : {words : List Text} {run other : Run} → Asks words run → Asks words other → run ≡ other
-asks_once a b = once_by (codes "run") run_app ShowsRun runs_once a b
+-- of one verb
+of_verb : (words : List Text) (a b : Asked) → verb_of a ≡ verb_of b → Asks words a → Asks words b → a ≡ b
+of_verb words (ToRun a) (ToRun b) e h k = ap ToRun (once_by (codes "run") run_app ShowsRun runs_once h k)
+of_verb words (ToPlan a) (ToPlan b) e h k = ap ToPlan (once_by (codes "plan") plan_app ShowsPlanning plannings_once h k)
+of_verb words (ToList a) (ToList b) e h k = ap ToList (once_by (codes "check") check_app ShowsSites programs_once h k)
+of_verb words (ToProfile a) (ToProfile b) e h k = ap ToProfile (once_by (codes "profile") profile_app ShowsProfiling profilings_once h k)
+of_verb words (ToMake a) (ToMake b) e h k = ap ToMake (once_by (codes "gen") gen_app ShowsMade mades_once h k)
+of_verb words a b e h k = absurd (apart (verb_of a) (verb_of b) refl e)
 
-pub planning_once : {words : List Text} {planning other : Planning} → AsksPlans words planning → AsksPlans words other → planning ≡ other
-planning_once a b = once_by (codes "plan") plan_app ShowsPlanning plannings_once a b
+pub asks_once : (words : List Text) (a b : Asked) → Asks words a → Asks words b → a ≡ b
+asks_once words a b h k = of_verb words a b (sym (asks_verb words a h) ∙ asks_verb words b k) h k
 
-pub sites_once : {words : List Text} {program other : List ℕ} → AsksSites words program → AsksSites words other → program ≡ other
-sites_once a b = once_by (codes "check") check_app ShowsSites programs_once a b
+-- words that ask for something else ask for no run
+no_run : (words : List Text) (other : Asked) → run_fuel other ≡ None → Asks words other → (asked : Asked) (fuel : ℕ) → Asks words asked → run_fuel asked ≡ Some fuel → ⊥
+no_run words other none h asked fuel k some =
+    let clash : None ≡ Some fuel = sym none ∙ ap run_fuel (asks_once words other asked h k) ∙ some in
+    absurd (cc clash)
 
-pub profile_once : {words : List Text} {profiling other : Profiling} → AsksProfile words profiling → AsksProfile words other → profiling ≡ other
-profile_once a b = once_by (codes "profile") profile_app ShowsProfiling profilings_once a b
+pub no_run_and_plans : {words : List Text} {planning : Planning} → AsksBy (codes "plan") plan_app ShowsPlanning words planning → (asked : Asked) (fuel : ℕ) → Asks words asked → run_fuel asked ≡ Some fuel → ⊥
+no_run_and_plans {words = words} {planning = planning} h asked fuel k some = no_run words (ToPlan planning) refl h asked fuel k some
 
-pub made_once : {words : List Text} {made other : GenWords} → AsksMade words made → AsksMade words other → made ≡ other
-made_once a b = once_by (codes "gen") gen_app ShowsMade mades_once a b
+pub no_run_and_sites : {words : List Text} {program : List ℕ} → AsksBy (codes "check") check_app ShowsSites words program → (asked : Asked) (fuel : ℕ) → Asks words asked → run_fuel asked ≡ Some fuel → ⊥
+no_run_and_sites {words = words} {program = program} h asked fuel k some = no_run words (ToList program) refl h asked fuel k some
 
--- two verbs
-two_verbs : {A X Y : Type 0} (verb other : Text) (app another : App) (Shows : Values → X → Type 0) (Tells : Values → Y → Type 0) → bytes_eq verb other ≡ false → {words : List Text} {x : X} {y : Y} →
-    AsksBy verb app Shows words x → AsksBy other another Tells words y → A
-two_verbs verb other app another Shows Tells differ a b = absurd (apart verb other differ (sym (verb_is verb app Shows a) ∙ verb_is other another Tells b))
-
-pub not_run_and_plans : {A : Type 0} {words : List Text} {run : Run} {planning : Planning} → Asks words run → AsksPlans words planning → A
-not_run_and_plans a b = two_verbs (codes "run") (codes "plan") run_app plan_app ShowsRun ShowsPlanning refl a b
-
-pub not_run_and_sites : {A : Type 0} {words : List Text} {run : Run} {program : List ℕ} → Asks words run → AsksSites words program → A
-not_run_and_sites a b = two_verbs (codes "run") (codes "check") run_app check_app ShowsRun ShowsSites refl a b
-
-pub not_plans_and_sites : {A : Type 0} {words : List Text} {planning : Planning} {program : List ℕ} → AsksPlans words planning → AsksSites words program → A
-not_plans_and_sites a b = two_verbs (codes "plan") (codes "check") plan_app check_app ShowsPlanning ShowsSites refl a b
-
-pub not_run_and_made : {A : Type 0} {words : List Text} {run : Run} {made : GenWords} → Asks words run → AsksMade words made → A
-not_run_and_made a b = two_verbs (codes "run") (codes "gen") run_app gen_app ShowsRun ShowsMade refl a b
-
-pub not_plans_and_made : {A : Type 0} {words : List Text} {planning : Planning} {made : GenWords} → AsksPlans words planning → AsksMade words made → A
-not_plans_and_made a b = two_verbs (codes "plan") (codes "gen") plan_app gen_app ShowsPlanning ShowsMade refl a b
-
-pub not_sites_and_made : {A : Type 0} {words : List Text} {program : List ℕ} {made : GenWords} → AsksSites words program → AsksMade words made → A
-not_sites_and_made a b = two_verbs (codes "check") (codes "gen") check_app gen_app ShowsSites ShowsMade refl a b
-
-pub not_run_and_profile : {A : Type 0} {words : List Text} {run : Run} {profiling : Profiling} → Asks words run → AsksProfile words profiling → A
-not_run_and_profile a b = two_verbs (codes "run") (codes "profile") run_app profile_app ShowsRun ShowsProfiling refl a b
-
-pub not_plans_and_profile : {A : Type 0} {words : List Text} {planning : Planning} {profiling : Profiling} → AsksPlans words planning → AsksProfile words profiling → A
-not_plans_and_profile a b = two_verbs (codes "plan") (codes "profile") plan_app profile_app ShowsPlanning ShowsProfiling refl a b
-
-pub not_sites_and_profile : {A : Type 0} {words : List Text} {program : List ℕ} {profiling : Profiling} → AsksSites words program → AsksProfile words profiling → A
-not_sites_and_profile a b = two_verbs (codes "check") (codes "profile") check_app profile_app ShowsSites ShowsProfiling refl a b
-
-pub not_profile_and_made : {A : Type 0} {words : List Text} {profiling : Profiling} {made : GenWords} → AsksProfile words profiling → AsksMade words made → A
-not_profile_and_made a b = two_verbs (codes "profile") (codes "gen") profile_app gen_app ShowsProfiling ShowsMade refl a b
-
--- words that ask for no run
-pub no_run_and_plans : {words : List Text} {planning : Planning} → AsksPlans words planning → AskForRun words → ⊥
-no_run_and_plans a (OfNamed run asked) = not_run_and_plans asked a
-no_run_and_plans a (OfMade made asked) = not_plans_and_made a asked
-
-pub no_run_and_sites : {words : List Text} {program : List ℕ} → AsksSites words program → AskForRun words → ⊥
-no_run_and_sites a (OfNamed run asked) = not_run_and_sites asked a
-no_run_and_sites a (OfMade made asked) = not_sites_and_made a asked
-
-pub no_run_and_profile : {words : List Text} {profiling : Profiling} → AsksProfile words profiling → AskForRun words → ⊥
-no_run_and_profile a (OfNamed run asked) = not_run_and_profile asked a
-no_run_and_profile a (OfMade made asked) = not_profile_and_made a asked
+pub no_run_and_profile : {words : List Text} {profiling : Profiling} → AsksBy (codes "profile") profile_app ShowsProfiling words profiling → (asked : Asked) (fuel : ℕ) → Asks words asked → run_fuel asked ≡ Some fuel → ⊥
+no_run_and_profile {words = words} {profiling = profiling} h asked fuel k some = no_run words (ToProfile profiling) refl h asked fuel k some

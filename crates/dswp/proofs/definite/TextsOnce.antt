@@ -4,8 +4,8 @@ use Rattle.dp_tree.specs.declared.Program.{Program}
 use Rattle.dp_calls.specs.Expand.{expand}
 use Rattle.dswp.specs.declared.refusal.Refusal.{Refusal}
 use Rattle.dp_words.specs.declared.task.PlanOptions.{PlanOptions}
-use Rattle.dp_words.specs.Words as source
-use Rattle.dp_words.specs.Words.{Run, Planning, Profiling, Source, Least, Asks, AsksMade, AsksPlans, AsksProfile, AsksSites, AsksNothing}
+use Rattle.dp_words.specs.Run as source
+use Rattle.dp_words.specs.Run.{Source, Least}
 use Rattle.dp_plan.specs.declared.Plan.{Plan}
 use Rattle.dp_profile.specs.declared.Profile.{Profile}
 use Rattle.dp_calls.proofs.InlinedLaws.{expanded_is_inlined}
@@ -13,7 +13,8 @@ use Rattle.dp_cut.proofs.PlansOnce.{automatic_once}
 use Rattle.dswp.specs.Plans.{MakesPlans, ReadsPlans}
 use Rattle.dswp.specs.Profiles.{ReadsProfile}
 use Rattle.dswp.specs.Program.{Reads}
-use Rattle.dswp.specs.Answer.{input_of, some_read, ReadsInput, Input, Unnamed, Named, Profiled, NotNamed, NamedProfile, Plans, Automatic, ProfileRefused, Planned}
+use Rattle.dswp.specs.Inputs.{input_of}
+use Rattle.dswp.specs.Roles.{some_read, ReadsInput, Input, Unnamed, Named, Profiled, NotNamed, NamedProfile, Plans, Automatic, ProfileRefused, Planned}
 use Rattle.dswp.proofs.accepted.Accepted.{read_checked, few_regions_read, few_sites_read}
 use Rattle.dswp.proofs.definite.ReadsOnce.{reads_once}
 use Rattle.dswp.proofs.definite.PlansOnce.{plans_once}

@@ -1,6 +1,6 @@
 use Rattle.std.proofs.Common.{◌≡◌, drop}
-use Rattle.dp_tree.specs.Step.{clear_locals}
+use Rattle.dp_cause.specs.Views.{clear_cells}
 use Rattle.dp_cause.proofs.views.clear.Given as goal
 
-abbrev pub invariant-loop-info : goal.invariant-loop-info
-invariant-loop-info l = clear_locals l.region (drop l.info-index l.vars) l.cells ≡ clear_locals l.region l.vars l.initial.cells
+abbrev pub invariant-loop-cell : goal.invariant-loop-cell
+invariant-loop-cell l = clear_cells (drop l.cell-index l.locals) l.cells ≡ clear_cells l.locals l.initial.cells

@@ -1,6 +1,6 @@
-use Rattle.std.proofs.Common.{◌≡◌, drop}
-use Rattle.dp_cause.specs.Views.{kept_by}
+use Rattle.std.proofs.Common.{◌≡◌}
+use Rattle.dp_cause.specs.Views.{kept_by, stages_of}
 use Rattle.dp_cause.proofs.views.show_all.Given as goal
 
-abbrev pub invariant-loop-place : goal.invariant-loop-place
-invariant-loop-place l = kept_by (drop l.place l.stages) (drop l.place l.stores) l.views ≡ kept_by l.stages l.stores l.initial.views
+abbrev pub invariant-loop-store : goal.invariant-loop-store
+invariant-loop-store l = kept_by (stages_of l.store-iterator.b.rest.now) l.store-iterator.a.rest.now l.views ≡ kept_by (stages_of l.replaced) l.stores l.initial.views

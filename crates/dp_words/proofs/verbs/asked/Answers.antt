@@ -1,7 +1,11 @@
 use Rattle.std.proofs.Common.{refl, Some, None, codes}
 use Rattle.dp_words.proofs.VerbLemmas.{asks_none, asks_some, is_other, only_made, only_plans, only_profile, only_run, only_sites, unknown_verb}
 use Rattle.dp_words.specs.Commands.{check_app, gen_app, plan_app, profile_app, run_app}
-use Rattle.dp_words.specs.Words.{ShowsMade, ShowsPlanning, ShowsProfiling, ShowsRun, ShowsSites, shown, shown_planning, shown_profiling}
+use Rattle.dp_words.specs.Run.{ShowsRun, shown}
+use Rattle.dp_words.specs.Planning.{ShowsPlanning, shown_planning}
+use Rattle.dp_words.specs.Sites.{ShowsSites}
+use Rattle.dp_words.specs.Profiling.{ShowsProfiling, shown_profiling}
+use Rattle.dp_words.specs.Made.{ShowsMade}
 use Rattle.dp_words.specs.declared.task.Task.TheVariants as task
 use Rattle.dp_words.proofs.verbs.asked.Goals as goal
 

@@ -3,7 +3,7 @@ use Rattle.clap.specs.Words.{App, is_simple_and_free}
 use Rattle.dp_words.proofs.RunLemmas.{made_holds, moved_made, none_named, not_taken, parsed_at, some_named}
 use Rattle.dp_words.proofs.SimpleRows.{gen_is_simple}
 use Rattle.dp_words.specs.Commands.{gen_app}
-use Rattle.dp_words.specs.Words.{ShowsMade}
+use Rattle.dp_words.specs.Made.{ShowsMade}
 use Rattle.dp_words.proofs.verbs.made.Goals as goal
 
 pub found-requires : goal.found-requires

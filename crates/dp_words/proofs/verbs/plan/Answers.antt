@@ -3,7 +3,7 @@ use Rattle.clap.specs.Words.{App, is_simple_and_free}
 use Rattle.dp_words.proofs.RunLemmas.{moved_planning, none_named, not_taken, parsed_at, plan_holds, some_named}
 use Rattle.dp_words.proofs.SimpleRows.{plan_is_simple}
 use Rattle.dp_words.specs.Commands.{plan_app}
-use Rattle.dp_words.specs.Words.{ShowsPlanning, shown_planning}
+use Rattle.dp_words.specs.Planning.{ShowsPlanning, shown_planning}
 use Rattle.dp_words.proofs.verbs.plan.Goals as goal
 
 pub found-requires : goal.found-requires

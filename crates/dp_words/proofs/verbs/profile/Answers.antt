@@ -3,7 +3,7 @@ use Rattle.clap.specs.Words.{App, is_simple_and_free}
 use Rattle.dp_words.proofs.RunLemmas.{moved_profiling, none_named, not_taken, parsed_at, profiling_holds, some_named}
 use Rattle.dp_words.proofs.SimpleRows.{profile_is_simple}
 use Rattle.dp_words.specs.Commands.{profile_app}
-use Rattle.dp_words.specs.Words.{ShowsProfiling, shown_profiling}
+use Rattle.dp_words.specs.Profiling.{ShowsProfiling, shown_profiling}
 use Rattle.dp_words.proofs.verbs.profile.Goals as goal
 
 pub found-requires : goal.found-requires

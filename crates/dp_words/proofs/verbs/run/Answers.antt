@@ -3,7 +3,7 @@ use Rattle.clap.specs.Words.{App, is_simple_and_free}
 use Rattle.dp_words.proofs.RunLemmas.{moved_run, none_named, not_taken, parsed_at, run_holds, some_named}
 use Rattle.dp_words.proofs.SimpleRows.{run_is_simple}
 use Rattle.dp_words.specs.Commands.{run_app}
-use Rattle.dp_words.specs.Words.{ShowsRun, shown}
+use Rattle.dp_words.specs.Run.{ShowsRun, shown}
 use Rattle.dp_words.proofs.verbs.run.Goals as goal
 
 pub found-requires : goal.found-requires

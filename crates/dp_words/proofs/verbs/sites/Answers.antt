@@ -4,7 +4,7 @@ use Rattle.dp_words.proofs.RunLemmas.{moved_sites, no_program, none_named, not_t
 use Rattle.dp_words.proofs.SimpleRows.{check_is_simple}
 use Rattle.dp_words.specs.Commands.{check_app}
 use Rattle.dp_words.specs.Reading.{values_of}
-use Rattle.dp_words.specs.Words.{ShowsSites}
+use Rattle.dp_words.specs.Sites.{ShowsSites}
 use Rattle.dp_words.proofs.verbs.sites.Goals as goal
 
 pub found-requires : goal.found-requires

@@ -6,7 +6,7 @@ use Rattle.dswp.proofs.answer.answer_run.Goals as goal
 pub returns-in-Run-clause-carried : goal.returns-in-Run-clause-carried
 returns-in-Run-clause-carried g c words asks =
     let texts = loaded _ _ _ _ _ _ _ _ (c.in_ok-program.was ∙ ap Ok c.in-Run.is) c.load.ensures.loads in
-    carry_run _ _ _ _ _ _ _ _ _ _ _ _ _ asks texts c.run_to_end.ensures.finishes
+    carry_run _ _ _ _ _ _ _ _ _ _ _ _ _ asks texts c.run_to_end.ensures.runs.finishes
 
 pub returns-in-Refused-clause-carried : goal.returns-in-Refused-clause-carried
 returns-in-Refused-clause-carried g c words asks =
@@ -19,7 +19,7 @@ returns-in-Failed-clause-carried g c words asks =
 pub returns-in-Run-clause-counted : goal.returns-in-Run-clause-counted
 returns-in-Run-clause-counted g c words asks =
     let texts = loaded _ _ _ _ _ _ _ _ (c.in_ok-program.was ∙ ap Ok c.in-Run.is) c.load.ensures.loads in
-    run_counts _ _ _ _ _ _ _ _ _ _ _ _ _ asks texts c.run_to_end.ensures.tally
+    run_counts _ _ _ _ _ _ _ _ _ _ _ _ _ asks texts c.run_to_end.ensures.runs.counted
 
 pub returns-in-Refused-clause-counted : goal.returns-in-Refused-clause-counted
 returns-in-Refused-clause-counted g c words asks = refused_counts _ _ _ _ _ _ _ _ c.refuse.ensures.finishes

@@ -1,5 +1,5 @@
 use Rattle.std.proofs.Common.{refl}
-use Rattle.dswp.specs.Answer.{NotNamed}
+use Rattle.dswp.specs.Roles.{NotNamed}
 use Rattle.dswp.proofs.planning.load_counts.Goals as goal
 
 pub returns-in-Some-clause-gives : goal.returns-in-Some-clause-gives

@@ -1,5 +1,6 @@
-use Rattle.std.proofs.Common.{◌∙◌, ap, Ok}
-use Rattle.dswp.specs.Answer.{OfProfiling, ProfilingRefused}
+use Rattle.std.proofs.Common.{◌∙◌, ap, refl, Ok}
+use Rattle.dp_words.specs.Profiling.{shown_profiling}
+use Rattle.dp_words.specs.Words.{ToProfile}
 use Rattle.dswp.proofs.TextsLemmas.{given, program_gives}
 use Rattle.dswp.proofs.AnswerLemmas.{carry_on, carry_program_refused, carry_program_failed}
 use Rattle.dswp.proofs.accepted.Given.{loaded_inlined}
@@ -15,8 +16,8 @@ returns-in-Text-clause-carried g c words asks =
 
 pub returns-in-Refused-clause-carried : goal.returns-in-Refused-clause-carried
 returns-in-Refused-clause-carried g c words asks =
-    carry_program_refused _ _ _ _ _ _ _ _ _ _ _ (λ text h r. ProfilingRefused _ text _ asks h r) (given _ _ _ (c.in_ok-program.was ∙ ap Ok c.in-Refused.is) (program_gives _ _ _ _ _ _ _ c.load_program.ensures.loads c.load_program.ensures.faults c.load_program.ensures.failed_names)) c.refuse.ensures.finishes
+    carry_program_refused _ _ _ _ _ _ _ _ (ToProfile (shown_profiling c.args.profile)) _ _ _ asks refl (given _ _ _ (c.in_ok-program.was ∙ ap Ok c.in-Refused.is) (program_gives _ _ _ _ _ _ _ c.load_program.ensures.loads c.load_program.ensures.faults c.load_program.ensures.failed_names)) c.refuse.ensures.finishes
 
 pub returns-in-Failed-clause-carried : goal.returns-in-Failed-clause-carried
 returns-in-Failed-clause-carried g c words asks =
-    carry_program_failed _ _ _ _ _ _ _ _ _ _ (OfProfiling _ asks) (given _ _ _ (c.in_ok-program.was ∙ ap Ok c.in-Failed.is) (program_gives _ _ _ _ _ _ _ c.load_program.ensures.loads c.load_program.ensures.faults c.load_program.ensures.failed_names)) c.fail_read.ensures.finishes
+    carry_program_failed _ _ _ _ _ _ _ _ (ToProfile (shown_profiling c.args.profile)) _ _ asks refl (given _ _ _ (c.in_ok-program.was ∙ ap Ok c.in-Failed.is) (program_gives _ _ _ _ _ _ _ c.load_program.ensures.loads c.load_program.ensures.faults c.load_program.ensures.failed_names)) c.fail_read.ensures.finishes

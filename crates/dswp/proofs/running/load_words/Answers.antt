@@ -1,5 +1,5 @@
 use Rattle.std.proofs.Common.{refl}
-use Rattle.dswp.specs.Answer.{Unnamed}
+use Rattle.dswp.specs.Roles.{Unnamed}
 use Rattle.dswp.proofs.TextsLemmas.{input_gives}
 use Rattle.dswp.proofs.running.load_words.Goals as goal
 

@@ -1,8 +1,8 @@
-use Rattle.std.proofs.Common.{rules, to_z, of_z, w64, ◌≡◌, refl, sym, ap, ◌∙◌, subst, List, [], ◌∷◌, ◌++◌, ◌+◌, length, drop, arith}
+use Rattle.std.proofs.Common.{rules, to_z, of_z, w64, ◌≡◌, sym, ap, ◌∙◌, subst, List, [], ◌∷◌, ◌++◌, ◌+◌, drop, arith}
 use Rattle.dp_base.specs.Arithmetic.{is_zero}
 use Rattle.dp_tree.specs.declared.Stmt.{Stmt}
 use Rattle.dp_cause.specs.Watching.{Told, Leads, walk_from}
-use Rattle.dp_cause.specs.declared.watched.Looked.TheVariants as looked
+use Rattle.dp_cause.proofs.InnerLemmas.{inner_past, inner_turns}
 use Rattle.dp_cause.proofs.StepLemmas as steps
 use Rattle.dp_cause.proofs.watched.Watched.+text.Goals as goal
 
@@ -63,6 +63,7 @@ statement-returns-in_default t c =
     (λ rest. c.turns.invariant rest
     ∙ steps.while_on c.args.ground c.turns.self c.decide-in-turns.new.self c.args.statement.now c.in-While.site c.in-While.cond c.in-While.body c.as_slice-in-turns.result.now c.in-On-decide.value rest c.in-While.is c.in-On-decide.ensures
     (ap is_zero (sym plain) ∙ sym c.zero-in-On-decide.ensures ∙ c.if-zero-2.false) c.as_slice-in-turns.ensures)
+    (λ rest w. inner_turns c.args.statement.now c.in-While.site c.in-While.cond c.in-While.body c.as_slice-in-turns.result.now rest c.in-While.is c.as_slice-in-turns.ensures w)
     c.statements-in-turns.result c.in_default.not-Goes c.statements-in-turns.ensures
 
 pub statement-turns-preserved : goal.statement-turns-preserved
@@ -78,4 +79,5 @@ statements-returns-in_default t c =
     let cons = steps.dropped c.args.all.now c.loop-statement.statement-index c.statement-item.result (omega (arith, c.loop-statement-test.true)) c.statement-item.is in
     steps.other_leads c.args.ground c.args.self.now c.loop-statement.self c.statement.new.self c.args.all.now (c.statement-item.result ∷ []) (λ rest. drop (c.loop-statement.statement-index + 1) c.args.all.now ++ rest)
     (λ rest. c.loop-statement.invariant rest ∙ ap (λ (xs : List Stmt). walk_from c.args.ground c.loop-statement.self (xs ++ rest)) cons)
+    (λ rest w. inner_past c.args.all.now c.loop-statement.statement-index c.statement-item.result rest cons w)
     c.statement.result c.in_default.not-Goes c.statement.ensures

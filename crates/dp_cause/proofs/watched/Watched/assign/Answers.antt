@@ -1,10 +1,10 @@
 use Rattle.std.proofs.Common.{refl}
-use Rattle.dp_tree.specs.Eval.{eval, first_cell, cell_count}
-use Rattle.dp_tree.specs.Step.{Stored, Printed, Decided, Tried, evaluated, decided, tried}
+use Rattle.dp_tree.specs.Eval.{eval, first_cell}
+use Rattle.dp_tree.specs.Step.{Stored, evaluated}
 use Rattle.dp_tree.specs.declared.Stmt.TheOpen as head
 use Rattle.dp_cause.specs.declared.watched.Form.TheVariants as form
 use Rattle.dp_cause.specs.Watching.{HasForm}
-use Rattle.dp_cause.proofs.TurnLemmas.{by_value, by_element}
+use Rattle.dp_cause.proofs.TurnLemmas.{by_value}
 use Rattle.dp_cause.proofs.watched.Watched.assign.Goals as goal
 
 pub returns-in-Ok : goal.returns-in-Ok

@@ -1,10 +1,9 @@
 use Rattle.std.proofs.Common.{refl}
-use Rattle.dp_tree.specs.Eval.{eval, first_cell, cell_count}
-use Rattle.dp_tree.specs.Step.{Stored, Printed, Decided, Tried, evaluated, decided, tried}
-use Rattle.dp_tree.specs.declared.Stmt.TheOpen as head
+use Rattle.dp_tree.specs.Eval.{eval}
+use Rattle.dp_tree.specs.Step.{Tried, tried}
 use Rattle.dp_cause.specs.declared.watched.Form.TheVariants as form
 use Rattle.dp_cause.specs.Watching.{HasForm}
-use Rattle.dp_cause.proofs.TurnLemmas.{by_value, by_element}
+use Rattle.dp_cause.proofs.TurnLemmas.{by_value}
 use Rattle.dp_cause.proofs.watched.Watched.attempt.Goals as goal
 
 pub returns-in-Ok : goal.returns-in-Ok

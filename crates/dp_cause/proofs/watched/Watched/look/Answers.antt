@@ -1,5 +1,4 @@
-use Rattle.std.proofs.Common.{rules, to_z, of_z, w64, ◌≡◌, refl, sym, ap, ◌∙◌, if◌then◌else◌, length, List, [], ◌∷◌, ◌++◌, ℕ, ℤ, arith}
-use Rattle.dp_tree.specs.Step.{Event, value_of}
+use Rattle.std.proofs.Common.{rules, to_z, of_z, w64, ◌≡◌, sym, ap, ◌∙◌, if◌then◌else◌, length, List, [], ℕ, ℤ, arith}
 use Rattle.dp_plan.specs.Checked.{is_checked}
 use Rattle.dp_semantics.specs.CauseWalk.{count_of, view_of}
 use Rattle.dp_semantics.specs.Words.{load_words, done_word}

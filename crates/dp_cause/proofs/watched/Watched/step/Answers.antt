@@ -1,4 +1,4 @@
-use Rattle.std.proofs.Common.{◌≡◌, refl, sym, ap, ◌∙◌, subst, List, [], ℤ, Err, arith}
+use Rattle.std.proofs.Common.{refl, sym, ap, ◌∙◌, subst, List, [], ℤ, Err, arith}
 use Rattle.dp_plan.specs.declared.Plan.{Plan}
 use Rattle.dp_plan.specs.CheckedTable.{IsTabled}
 use Rattle.dp_code.specs.declared.Op.{Op}

@@ -1,9 +1,9 @@
-use Rattle.std.proofs.Common.{refl}
+use Rattle.std.proofs.Common.{refl, sym, ◌∙◌}
 use Rattle.dp_commit.specs.declared.verdict.Verdict.TheVariants.{Unclean}
 use Rattle.dp_commit.proofs.EpochLemmas.{refused_gives}
 use Rattle.dp_commit.proofs.trying.TryCommit.refuse.Goals as goal
 
 pub returns-in-Some : goal.returns-in-Some
-returns-in-Some c = λ key n knows unclean.
+returns-in-Some c = λ key n knows cells_are unclean.
     let t = c.args.self.now in
-    refused_gives key n t t c.cause.result (Unclean c.in-Some.cause) t.fits knows unclean c.cause.ensures c.in-Some.cause c.in-Some.is refl
+    refused_gives key n t t c.args.cells c.in-Some.cause (Unclean c.in-Some.cause) t.fits knows cells_are unclean (sym c.in-Some.is ∙ c.in-Ok.ensures) refl

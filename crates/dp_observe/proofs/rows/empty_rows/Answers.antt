@@ -1,0 +1,8 @@
+use Rattle.std.proofs.Common.{[], arith}
+use Rattle.dp_observe.proofs.ListLemmas.{pushed_same}
+use Rattle.dp_observe.proofs.rows.empty_rows.Goals as goal
+
+pub loop-site-preserved : goal.loop-site-preserved
+loop-site-preserved c =
+    let test = c.loop-site-test.true in
+    pushed_same [] c.args.sites.now c.loop-site._site-index c.loop-site.rows c.push.new.self c.new.result _ (omega arith) c.in_ok-push.ensures.ok c.new.ensures c.loop-site.invariant

@@ -1,0 +1,104 @@
+//! How a thread waits for the threads beside it.
+use crate::bell::Bell;
+use crate::beside::{after, before};
+use crossbeam_utils::Backoff;
+use std::sync::Wait;
+
+/// So often a thread spins before it sleeps.
+const SPINS: u32 = 4;
+
+/// The threads beside are woken once for so many items.
+const ITEMS: u32 = 16;
+
+/// The waiting of one thread between two polls. A thread that waits long sleeps: where other programs run, a yield costs a
+/// whole slice.
+#[derive(Drop)]
+pub struct Pause<'b> {
+    /// What wakes the thread. Without it nobody does, and it never sleeps.
+    own: Option<&'b Bell>,
+    /// What wakes the threads that it takes from.
+    before: &'b [Bell],
+    /// What wakes the threads that it sends to.
+    after: &'b [Bell],
+    backoff: Backoff,
+    /// How many pauses there were since an item moved.
+    pauses: u32,
+    /// How many items moved since the threads beside were rung.
+    items: u32,
+}
+
+impl<'b> Pause<'b> {
+    /// The waiting of the thread whose bell stands at this place.
+    pub fn at(bells: &'b [Bell], place: usize) -> Pause<'b> {
+        let own = bells.get(place);
+        Pause {
+            own,
+            before: before(bells, place),
+            after: after(bells, place),
+            backoff: Backoff::new(),
+            pauses: 0,
+            items: 0,
+        }
+    }
+
+    /// An item moved.
+    pub fn moved(&mut self) {
+        self.wake();
+        self.items = self.items.saturating_add(1);
+        if self.items >= ITEMS {
+            self.ring();
+        }
+    }
+
+    /// Nothing moved. At first the thread spins, a little longer each time. Then it lets one more poll pass with its bell
+    /// awaited, so that it is rung for what comes behind that poll, and sleeps.
+    pub fn wait<R: Wait>(&mut self, rt: &R) {
+        if self.items > 0 {
+            self.ring();
+        }
+        match self.own {
+            Some(bell) => self.wait_by(rt, bell),
+            None => self.backoff.snooze(),
+        }
+    }
+
+    /// Wakes the threads beside.
+    pub fn ring(&mut self) {
+        self.items = 0;
+        ring_all(self.before);
+        ring_all(self.after);
+    }
+
+    fn wait_by<R: Wait>(&mut self, rt: &R, bell: &Bell) {
+        if self.pauses < SPINS {
+            self.pauses += 1;
+            self.backoff.spin();
+        } else if self.pauses == SPINS {
+            self.pauses += 1;
+            bell.await_ring();
+        } else {
+            bell.sleep(rt);
+            self.wake();
+        }
+    }
+
+    /// The thread is at work again.
+    fn wake(&mut self) {
+        if self.pauses > SPINS {
+            if let Some(bell) = self.own {
+                bell.leave();
+            }
+        }
+        if self.pauses > 0 {
+            self.pauses = 0;
+            self.backoff.reset();
+        }
+    }
+}
+
+/// Wakes the threads of these bells.
+pub fn ring_all(bells: &[Bell]) {
+    for bell in bells {
+        bell.ring();
+    }
+}
