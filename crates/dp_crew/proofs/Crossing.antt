@@ -62,7 +62,7 @@ pub frame_send : (a : NamedLft) → IsSend (Frame.the_row a)
 frame_send a = recorded_send (Frame.the_field a).row _ _ (Frame.the_type a).to_one (frame_field_send a)
 
 pub stage_machine_field_send : (a : NamedLft) → IsSend (StageMachine.the_field a).row
-stage_machine_field_send a = let f = frame_send a in let g = frame_field_send a in search (kept.the_field_send, ready.the_field_send, ready.the_send, rows.the_field_send, rows.the_send, heap.the_field_send, sendable) depth 60 fits 20000
+stage_machine_field_send a = let f = frame_send a in let g = frame_field_send a in search (kept.the_field_send, ready.the_field_send, rows.the_field_send, rows.the_send, heap.the_field_send, sendable) depth 60 fits 20000
 
 pub stage_machine_send : (a : NamedLft) → IsSend (StageMachine.the_row a)
 stage_machine_send a = recorded_send (StageMachine.the_field a).row _ _ (StageMachine.the_type a).to_one (stage_machine_field_send a)
