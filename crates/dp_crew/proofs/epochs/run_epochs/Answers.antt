@@ -29,6 +29,12 @@ returns-in_err-next-in-Unclean-clause-streams g c first b =
     c.in-Unclean.is (c.in_ok-after.ensures.streams first (c.epochs.invariant.begins first b)) in
     streams_stopped _ _ _ _ _ c.from_residual-in_err-next-in-Unclean.ensures.0 (emits_front _ _ _ _ _ (emits_on _ _ _ _ _ _ (c.epochs.invariant.emits first b) gone) (c.in_err-next-in-Unclean.ensures.streams c.args.plan.now first unclean))
 
+pub returns-in-Some-clause-ok : goal.returns-in-Some-clause-ok
+returns-in-Some-clause-ok g c first b =
+    let unclean : IsUnclean c.args.plan.now first c.in_ok-after.after.committed c.in_ok-after.after.report c.in-Unclean.cause =
+    subst (λ (x : EpochEnd). EpochEnds c.args.plan.now first c.in_ok-after.after.committed c.in_ok-after.after.report x) c.in-Unclean.is (c.in_ok-after.ensures.ok first (c.epochs.invariant.begins first b)) in
+    subst (λ (x : Option RegionEnd). AfterRecovery c.args.plan.now first c.in_ok-next-in-Unclean.next.committed c.in_ok-next-in-Unclean.next.report x) c.in-Some.is (c.in_ok-next-in-Unclean.ensures.ok c.args.plan.now first unclean)
+
 pub returns-in-Some-clause-streams : goal.returns-in-Some-clause-streams
 returns-in-Some-clause-streams g c first b =
     let unclean : IsUnclean c.args.plan.now first c.in_ok-after.after.committed c.in_ok-after.after.report c.in-Unclean.cause =
