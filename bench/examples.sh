@@ -1,15 +1,16 @@
 #!/usr/bin/env bash
-# Times each program of examples/ on 65,536 words, reading them and writing the answer included: under dswp and CPython,
-# and as plain C by tcc and by gcc -O2; string_wave isn't, since Python rounds its negative quotients in another way. Each
-# time is the least of nine runs, less that of an empty program under the same runner. Ends with 1 where two answers differ.
+# Times each program of examples/ and of loops/ on 65,536 words, reading them and writing the answer included: under dswp
+# as a pipeline of its least plan, and without its mark by the sequential machine; under CPython, and as plain C by tcc and
+# by gcc -O2. string_wave isn't, since Python rounds its negative quotients in another way. Each time is the least of nine
+# runs, less that of an empty program under the same runner. Ends with 1 where two answers differ.
 # Needs gcc, tcc and python3.
 set -euo pipefail
 . "$(dirname "$0")/common.sh"
 need_dswp
 python=$(python3 -c 'import sys; print(sys.executable)')   # not a wrapper, whose own start takes longer than a run
-runners='dswp python tcc gcc'
+runners='pipeline unmarked python tcc gcc'
 
-# Words of the kind that the example is for, or else those of its own input, again and again.
+# Words of the kind that the program is for, or else those of the example's own input, again and again.
 many_words() {
   case $1 in
     binary_search) words 65536 20 | awk '{ print $1 * $1 }' ;;
@@ -17,6 +18,7 @@ many_words() {
     partial_sums) echo 16; words 16 100; words 32759 8 | awk '{ print $1, $1 + 8 }' ;;
     running_filter) awk 'BEGIN { for (k = 0; k < 65536; k++) print 100 + int(k / 4) + (k % 16 == 0) * 60 }' ;;
     word_histogram) words 65536 13 ;;
+    edit_distance | heap | matrix_powers) words 65536 1000 ;;
     record_checksums) awk '{ line[n] = $0; size[n++] = NF } END { for (k = 0; total + size[k % n] <= 65536; k++) { print line[k % n]; total += size[k % n] } }' "$top/examples/$1.in" ;;
     *) tr -s ' \n' '\n\n' <"$top/examples/$1.in" | awk '/./ { word[n++] = $1 } END { for (k = 0; k < 65536; k++) print word[k % n] }' ;;
   esac
@@ -24,7 +26,8 @@ many_words() {
 
 # Makes what each runner takes of a program.
 prepare() {
-  cp "$1" "$work/dswp.c"
+  cp "$1" "$work/pipeline.c"
+  sed '/#pragma dswp/d' "$1" >"$work/unmarked.c"
   "$top/examples/as_python.py" "$1" >"$work/python.py"
   "$top/examples/as_c.sh" "$1" >"$work/plain.c"
   gcc -O2 -w -o "$work/gcc" "$work/plain.c"
@@ -32,7 +35,7 @@ prepare() {
 }
 run() {
   case $1 in
-    dswp) "$dswp" run "$work/dswp.c" "$work/words" ;;
+    pipeline | unmarked) "$dswp" run "$work/$1.c" "$work/words" --fuel 1000000000 ;;
     python) "$python" "$work/python.py" <"$work/words" ;;
     *) "$work/$1" <"$work/words" ;;
   esac
@@ -45,7 +48,7 @@ prepare "$work/empty.c"
 for runner in $runners; do start[$runner]=$(least run $runner); done
 
 machine
-for program in "$top"/examples/*.c; do
+for program in "$top"/examples/*.c "$here"/loops/*.c; do
   name=$(basename "$program" .c)
   [ "$name" = string_wave ] && continue
   many_words "$name" >"$work/words"
@@ -53,19 +56,25 @@ for program in "$top"/examples/*.c; do
   line=$name
   for runner in $runners; do
     run $runner | sed '/^region /d; /^end /d' >"$work/$runner.answer"
-    cmp "$work/dswp.answer" "$work/$runner.answer"
+    cmp "$work/pipeline.answer" "$work/$runner.answer"
     line="$line $(net "$(least run $runner)" "${start[$runner]}")"
   done
   echo "$line"
 done | awk '
-  NR == 1 { printf "%-18s %10s %18s %18s %18s\n", "milliseconds", "dswp", "CPython", "tcc", "gcc -O2" }
+  NR == 1 { printf "%-18s %10s %10s %18s %18s %18s\n", "milliseconds", "pipeline", "unmarked", "CPython", "tcc", "gcc -O2" }
   {
-    printf "%-18s %10.2f", $1, $2 / 1e6
-    for (k = 3; k <= NF; k++) { printf " %8.2f (%7.2f)", $k / 1e6, $2 / $k; product[k] += log($2 / $k) }
+    printf "%-18s %10.2f %10.2f", $1, $2 / 1e6, $3 / 1e6
+    for (k = 4; k <= NF; k++) {
+      printf " %8.2f (%7.2f)", $k / 1e6, $3 / $k
+      for (one = 2; one <= 3; one++) product[one, k] += log($one / $k)
+    }
     print ""
   }
   END {
-    printf "%-18s %10s", "geometric mean", ""
-    for (k = 3; k <= NF; k++) printf " %8s (%7.2f)", "", exp(product[k] / NR)
-    print "\nIn brackets: how many times as long dswp takes."
+    for (one = 3; one >= 2; one--) {
+      printf "%-40s", "geometric mean, " (one == 3 ? "unmarked" : "pipeline")
+      for (k = 4; k <= NF; k++) printf " %8s (%7.2f)", "", exp(product[one, k] / NR)
+      print ""
+    }
+    print "In brackets: how many times as long the unmarked program takes, and in the last line the pipeline."
   }'
