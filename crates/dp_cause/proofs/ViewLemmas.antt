@@ -47,16 +47,6 @@ shown_all zero stage cell value s (view ∷ rest) h = absurd (omega (arith, h))
 shown_all (suc n) stage cell value s (view ∷ rest) h =
     ap (λ (xs : List (List ℤ)). (if nat_le stage s then slice_set view cell value else view) ∷ xs) (shown_all n stage cell value (suc s) rest (omega (arith, h)))
 
--- where no place is, nothing is set
-pub set_beyond : {X : Type 0} (xs : List X) (k : ℕ) (x : X) → length xs ≤ k → slice_set xs k x ≡ xs
-set_beyond [] k x h = refl
-set_beyond (y ∷ ys) zero x h = absurd (omega (arith, h))
-set_beyond (y ∷ ys) (suc k) x h = ap (λ (zs : List _). y ∷ zs) (set_beyond ys k x (omega (arith, h)))
-
-pub more_at : (stage more : ℕ) (counts : List ℕ) → 0 < stage → count_more stage more counts ≡ slice_set counts (stage - 1) (more + count_of counts stage)
-more_at zero more counts h = absurd (omega (arith, h))
-more_at (suc s) more counts h = let e : s ≡ suc s - 1 = omega arith in ap (λ (k : ℕ). slice_set counts k (more + get_or counts s 0)) e
-
 module _ (p : Program) (plan : Plan) (event : Event) where
   -- a store is shown as the event is
   pub shown_store : (cell : ℕ) (value : ℤ) → event.effect ≡ Stored cell value → (s : ℕ) (views : List (List ℤ)) → shown_by (stage_of p plan event.site) cell value s views ≡ shown_from p plan event s views
