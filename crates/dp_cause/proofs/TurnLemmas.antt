@@ -12,7 +12,7 @@ use Rattle.dp_tree.specs.Step.{Effect, Stored, stored, line_of}
 use Rattle.dp_plan.specs.declared.Plan.{Plan}
 use Rattle.dp_semantics.specs.Words.{Faults, words_of}
 use Rattle.dp_semantics.specs.StageRun.{Ended, TurnEnd}
-use Rattle.dp_semantics.specs.Cause.{ByFault, ByFuel}
+use Rattle.dp_semantics.specs.Cause.{ByFault}
 use Rattle.dp_code.specs.Alone.{event_at, end_alone}
 use Rattle.dp_cause.specs.declared.watched.Ground.{Ground}
 use Rattle.dp_cause.specs.declared.watched.Watched.{Watched}

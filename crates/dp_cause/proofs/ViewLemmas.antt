@@ -1,5 +1,5 @@
 -- The memories that stages see and the numbers of their words, changed place by place.
-use Rattle.std.proofs.Common.{◌≡◌, refl, sym, ap, ◌∙◌, arith, ℕ, zero, suc, ◌+◌, ◌-◌, ◌<◌, ◌≤◌, Bool, if◌then◌else◌, List, [], ◌∷◌, length, ℤ, nat_le, slice_set, get_or, le-leb, eq-eqb, ne_eqb, inl, inr, map, pos}
+use Rattle.std.proofs.Common.{◌≡◌, refl, sym, ap, ◌∙◌, arith, ℕ, zero, suc, ◌+◌, ◌<◌, ◌≤◌, Bool, if◌then◌else◌, List, [], ◌∷◌, length, ℤ, nat_le, slice_set, get_or, le-leb, eq-eqb, ne_eqb, inl, inr, map, pos}
 use Rattle.std.proofs.lemmas.Bool.{cases_Bool, lt-leb}
 use Rattle.dp_base.specs.declared.CellId.{CellId}
 use Rattle.dp_base.specs.declared.StoreOf.{StoreOf}
@@ -9,7 +9,7 @@ use Rattle.dp_tree.specs.declared.VarInfo.{VarInfo}
 use Rattle.dp_plan.specs.declared.Plan.{Plan}
 use Rattle.dp_plan.specs.Access.{stage_of}
 use Rattle.dp_semantics.specs.Clean.{event_words, words_at}
-use Rattle.dp_semantics.specs.CauseWalk.{count_of, shown_from, counted_from}
+use Rattle.dp_semantics.specs.CauseWalk.{shown_from, counted_from}
 use Rattle.dp_cause.specs.Views.{shown_by, count_more, kept_by, stages_of, clear_cells, local_cells}
 use Rattle.dp_cause.specs.declared.replaced.Replaced.{Replaced}
 

@@ -1,5 +1,5 @@
 -- A packet that isn't void is run on, and what a turn makes of it.
-use Rattle.std.proofs.Common.{Some, None, ◌+◌, ◌<◌, suc, length, get_or, drop, ◌∷◌, pos, add-one, drop-cons, ◌∙◌, ◌≡◌, sym, ap, ◌⊎◌, inl, inr, ℕ, List, ℤ, true, false, if◌then◌else◌}
+use Rattle.std.proofs.Common.{◌+◌, ◌<◌, suc, length, get_or, drop, ◌∷◌, pos, add-one, drop-cons, ◌∙◌, ◌≡◌, sym, ap, ◌⊎◌, inl, inr, ℕ, List, ℤ, if◌then◌else◌}
 use Rattle.dp_semantics.specs.StageRun.{TurnEnd}
 use Rattle.dp_semantics.specs.Packets as packets
 use Rattle.dp_packet.specs.declared.PacketStatus.{PacketStatus}
@@ -8,7 +8,6 @@ use Rattle.dp_packet.specs.Packet.{status_of}
 use Rattle.std.specs.Prelude.{slice_set}
 use Rattle.dp_tree.specs.declared.VarInfo.{VarInfo}
 use Rattle.dp_tree.specs.Step.{clear_locals, is_local_of}
-use Rattle.dp_machine.specs.Sending.{CellsAre}
 
 pub runs_on : (key : packets.Epoch) (s : ℕ) (before : List ℤ) (came : packets.Packet) (turn : TurnEnd) (st : PacketStatus) → (st ≡ status.Going) ⊎ (st ≡ status.Closing) →
     packets.passed_on key s before came turn (status_of st) ≡ packets.passed_by key s before came turn

@@ -1,4 +1,4 @@
-use Rattle.std.proofs.Common.{◌≡◌, ◌∙◌, ap, refl, true, List}
+use Rattle.std.proofs.Common.{◌∙◌, ap, refl, List}
 use Rattle.dp_semantics.specs.Packets as packets
 use Rattle.dp_code.specs.declared.Op.{Op}
 use Rattle.dp_code.specs.Order.{in_order}
