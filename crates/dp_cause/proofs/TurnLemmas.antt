@@ -12,7 +12,7 @@ use Rattle.dp_tree.specs.Step.{Effect, Stored, stored, line_of}
 use Rattle.dp_plan.specs.declared.Plan.{Plan}
 use Rattle.dp_semantics.specs.Words.{Faults, words_of}
 use Rattle.dp_semantics.specs.StageRun.{Ended, TurnEnd}
-use Rattle.dp_semantics.specs.Cause.{ByFault, ByFuel}
+use Rattle.dp_semantics.specs.Cause.{ByFault}
 use Rattle.dp_code.specs.Alone.{event_at, end_alone}
 use Rattle.dp_cause.specs.declared.watched.Ground.{Ground}
 use Rattle.dp_cause.specs.declared.watched.Watched.{Watched}
@@ -84,9 +84,6 @@ module _ (p : Program) (plan wide : Plan) (wide_is : wide ≡ widened plan) (cel
 -- ---- the step
 
 module _ (g : Ground) (old : Watched) (site : SiteId) (r : Evaluated Effect) where
-  pub fuel_found : old.left ≡ 0 → Told (cause_here g old site r) why.Fuel
-  fuel_found none = (ByFuel, ap (λ (n : ℕ). cause_now g.program.now g.plan.now n (watch_in old) site r) none, refl)
-
   here_is : 0 < old.left → cause_here g old site r ≡ cause_now g.program.now g.plan.now (suc (old.left - 1)) (watch_in old) site r
   here_is some = let e : old.left ≡ suc (old.left - 1) = omega (arith, some) in ap (λ (n : ℕ). cause_now g.program.now g.plan.now n (watch_in old) site r) e
 

@@ -1,5 +1,5 @@
 -- The memories that stages see and the numbers of their words, changed place by place.
-use Rattle.std.proofs.Common.{◌≡◌, refl, sym, ap, ◌∙◌, arith, ℕ, zero, suc, ◌+◌, ◌-◌, ◌<◌, ◌≤◌, Bool, if◌then◌else◌, List, [], ◌∷◌, length, ℤ, nat_le, slice_set, get_or, le-leb, eq-eqb, ne_eqb, inl, inr, map, pos}
+use Rattle.std.proofs.Common.{◌≡◌, refl, sym, ap, ◌∙◌, arith, ℕ, zero, suc, ◌+◌, ◌<◌, ◌≤◌, Bool, if◌then◌else◌, List, [], ◌∷◌, length, ℤ, nat_le, slice_set, get_or, le-leb, eq-eqb, ne_eqb, inl, inr, map, pos}
 use Rattle.std.proofs.lemmas.Bool.{cases_Bool, lt-leb}
 use Rattle.dp_base.specs.declared.CellId.{CellId}
 use Rattle.dp_base.specs.declared.StoreOf.{StoreOf}
@@ -9,7 +9,7 @@ use Rattle.dp_tree.specs.declared.VarInfo.{VarInfo}
 use Rattle.dp_plan.specs.declared.Plan.{Plan}
 use Rattle.dp_plan.specs.Access.{stage_of}
 use Rattle.dp_semantics.specs.Clean.{event_words, words_at}
-use Rattle.dp_semantics.specs.CauseWalk.{count_of, shown_from, counted_from}
+use Rattle.dp_semantics.specs.CauseWalk.{shown_from, counted_from}
 use Rattle.dp_cause.specs.Views.{shown_by, count_more, kept_by, stages_of, clear_cells, local_cells}
 use Rattle.dp_cause.specs.declared.replaced.Replaced.{Replaced}
 
@@ -46,16 +46,6 @@ shown_all (suc n) stage cell value s [] h = refl
 shown_all zero stage cell value s (view ∷ rest) h = absurd (omega (arith, h))
 shown_all (suc n) stage cell value s (view ∷ rest) h =
     ap (λ (xs : List (List ℤ)). (if nat_le stage s then slice_set view cell value else view) ∷ xs) (shown_all n stage cell value (suc s) rest (omega (arith, h)))
-
--- where no place is, nothing is set
-pub set_beyond : {X : Type 0} (xs : List X) (k : ℕ) (x : X) → length xs ≤ k → slice_set xs k x ≡ xs
-set_beyond [] k x h = refl
-set_beyond (y ∷ ys) zero x h = absurd (omega (arith, h))
-set_beyond (y ∷ ys) (suc k) x h = ap (λ (zs : List _). y ∷ zs) (set_beyond ys k x (omega (arith, h)))
-
-pub more_at : (stage more : ℕ) (counts : List ℕ) → 0 < stage → count_more stage more counts ≡ slice_set counts (stage - 1) (more + count_of counts stage)
-more_at zero more counts h = absurd (omega (arith, h))
-more_at (suc s) more counts h = let e : s ≡ suc s - 1 = omega arith in ap (λ (k : ℕ). slice_set counts k (more + get_or counts s 0)) e
 
 module _ (p : Program) (plan : Plan) (event : Event) where
   -- a store is shown as the event is

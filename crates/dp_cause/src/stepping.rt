@@ -1,9 +1,10 @@
 //! One step of the source, by the engine of the stages.
-ghost use Rattle.std.specs.Prelude.{◌≡◌, List, ℤ, Ok};
+ghost use Rattle.std.specs.Prelude.{◌≡◌, List, ℤ, Ok, true};
 ghost use Rattle.dp_tree.specs.Eval.{WithLoads, Evaluated, eval};
 ghost use Rattle.dp_tree.specs.Step.{Effect, evaluated, decided, tried};
 ghost use Rattle.dp_tree.specs.declared.Stmt.TheOpen as head;
 ghost use Rattle.dp_code.specs.Alone.{EvaluatesTo};
+ghost use Rattle.dp_code.specs.Order.{in_order};
 ghost use Rattle.dp_cause.specs.declared.watched.Form.TheVariants as form;
 ghost use Rattle.dp_cause.specs.Watching.{HasForm, Steps, IsGround};
 
@@ -25,6 +26,7 @@ impl Watched {
         code: &'p StageProgram,
     ) -> Step
         requires ground { IsGround ground }
+        requires ordered { in_order 0 code.now.ops ≡ true }
         ensures { (by : List ℤ → List ℤ → Evaluated Effect) → EvaluatesTo ground.entry.program.now code.entry.now.ops site by → ((v : WithLoads Effect) → by ground.entry.input.now self.old.cells ≡ Ok v → HasForm form site v.value) →
             Steps ground.entry self.old site (by ground.entry.input.now self.old.cells) self.new result }
     {

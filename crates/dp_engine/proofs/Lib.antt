@@ -3,7 +3,6 @@ pub mod ExprLemmas
 pub mod FormLemmas
 pub mod MemoryLemmas
 pub mod MoveLemmas
-pub mod OrderLemmas
 pub mod OutcomeLemmas
 pub mod RunLemmas
 pub mod StepLemmas

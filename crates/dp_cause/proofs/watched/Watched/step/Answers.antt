@@ -4,6 +4,7 @@ use Rattle.dp_plan.specs.CheckedTable.{IsTabled}
 use Rattle.dp_code.specs.declared.Op.{Op}
 use Rattle.dp_code.specs.Correct.{EndsAs}
 use Rattle.dp_code.specs.Alone.{event_at, end_alone}
+use Rattle.dp_code.specs.Order.{in_order}
 use Rattle.dp_packet.specs.declared.VoidWhy.{VoidWhy}
 use Rattle.dp_packet.specs.Packet.{why_of}
 use Rattle.dp_cause.proofs.TurnLemmas.{turn_did, turn_faulted, fault_found, look_steps}
@@ -11,6 +12,9 @@ use Rattle.dp_cause.proofs.watched.Watched.step.Goals as goal
 
 pub turn_over-requires-clause-tabled : goal.turn_over-requires-clause-tabled
 turn_over-requires-clause-tabled c = subst (λ (x : Plan). IsTabled c.args.ground.program.now x) (sym c.requires.ground.wide) c.requires.ground.tabled
+
+pub turn_over-requires-clause-ordered : goal.turn_over-requires-clause-ordered
+turn_over-requires-clause-ordered c = ap (λ (ops : List Op). in_order 0 ops) c.as_slice.ensures ∙ c.requires.ordered
 
 pub returns-in-Done : goal.returns-in-Done
 returns-in-Done c = λ by means form.
