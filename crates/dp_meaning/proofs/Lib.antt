@@ -1,9 +1,5 @@
 pub mod MemoryLemmas
-pub mod EvaluatedLemmas
-pub mod WatchLemmas
-pub mod ChainLemmas
-pub mod GivesLemmas
-pub mod SeenLemmas
+pub mod ActLemmas
 pub mod OuterLemmas
 pub mod FollowedLemmas
 pub mod RestLemmas

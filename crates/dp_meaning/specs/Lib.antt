@@ -8,6 +8,6 @@ pub mod Moved
 pub mod PartRun
 pub mod IterationRun
 pub mod NextIteration
-pub mod Turn
 pub mod Watched
-pub mod Chain
+pub mod Acting
+pub mod Turn

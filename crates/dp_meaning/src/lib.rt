@@ -2,22 +2,18 @@
 //! after any number of steps.
 #![tactic(auto)]
 
-mod chain;
+mod act;
 mod code;
 mod ends;
-mod evaluate;
 mod flat;
-mod follow;
 mod loads;
 mod machine;
 mod memory;
 mod node;
 mod position;
-mod seen;
 mod sight;
-mod statement;
+mod site;
 mod turn;
-mod watch;
 
 pub use ends::{IterEnd, Part, PartEnd};
 pub use loads::Loads;

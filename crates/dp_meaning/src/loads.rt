@@ -1,6 +1,6 @@
 //! The loads of an evaluation.
-use crate::watch::Watch;
 use dp_base::Row;
+use dp_engine::Watch;
 use std::alloc::Global;
 
 /// The cells that an evaluation loads, in order.
@@ -38,8 +38,8 @@ impl Watch for Loads {
 
     ghost told = { notes };
 
-    fn load(&mut self, cell: usize) {
-        if self.cells.push(cell).is_err() {
+    fn load(&mut self, cell: u32, _value: i64) {
+        if self.cells.push(cell as usize).is_err() {
             self.wanting = true;
         }
     }

@@ -1,10 +1,15 @@
 //! What one step gives.
-use dp_base::Fault;
+use crate::sight::Effect;
+use dp_base::{Fault, SiteId};
 
 #[derive(Clone, Copy, Debug, PartialEq, Eq)]
 pub(crate) enum Turn {
-    /// A step was made, and whether it has left a region.
-    Made { left: bool },
+    /// The site was evaluated, with this effect, and whether that has left a region.
+    Made {
+        left: bool,
+        site: SiteId,
+        effect: Effect,
+    },
     /// The evaluation faults. Nothing has changed.
     Fault(Fault),
 }

@@ -6,6 +6,7 @@ use super::Machine;
 use crate::ends::Part;
 use crate::loads::Loads;
 use crate::sight::Sight;
+use crate::turn::Turn;
 use dp_base::{NoMemory, Row};
 
 impl<'p> Machine<'p> {
@@ -19,10 +20,15 @@ impl<'p> Machine<'p> {
         if self.steps == self.fuel {
             return Ok(Sight::Fuel);
         }
-        let seen = self.position.look(&self.code, self.input, loads)?;
-        if let Sight::Step { .. } = seen {
-            self.step(out)?;
+        loads.clear();
+        let turn = self.step(loads, out)?;
+        if loads.wanting {
+            self.spoiled = true;
+            return Err(NoMemory);
         }
-        Ok(seen)
+        match turn {
+            Turn::Made { site, effect, .. } => Ok(Sight::Step { site, effect }),
+            Turn::Fault(fault) => Ok(Sight::Fault(fault)),
+        }
     }
 }

@@ -44,7 +44,7 @@ returns-in-Ok-Made-true c region here =
     let room : c.loop-self.made < c.args.turns = omega arith in
     let s = c.in-Ok-Made-true in
     let t : TurnTaken s.field-0 c.loop-self.self c.step.new.self c.loop-self.out c.step.new.out = s.ensures.ok in
-    let taken : StepTaken s.field-0-0 c.loop-self.self c.step.new.self c.loop-self.out c.step.new.out = rw s.field-0-is at t in
+    let taken : StepTaken s.field-0-0 c.loop-self.self c.step.new.self c.loop-self.out c.step.new.out = (rw s.field-0-is at t).0 in
     iteration_closed region c.args.turns c.loop-self.made c.args.self.now c.loop-self.self c.step.new.self c.args.out.now c.loop-self.out c.step.new.out s.field-0-0 (c.loop-self.invariant.begun region here) room fuel
     taken s.field-0-0-test
 
@@ -80,7 +80,7 @@ returns-in-None c region here =
     let room : c.loop-self.made < c.args.turns = omega arith in
     let s = c.in-Ok-Made-false in
     let t : TurnTaken s.field-0 c.loop-self.self c.step.new.self c.loop-self.out c.step.new.out = s.ensures.ok in
-    let taken : StepTaken s.field-0-0 c.loop-self.self c.step.new.self c.loop-self.out c.step.new.out = rw s.field-0-is at t in
+    let taken : StepTaken s.field-0-0 c.loop-self.self c.step.new.self c.loop-self.out c.step.new.out = (rw s.field-0-is at t).0 in
     let none : c.step.new.self.current ≡ None = ap (λ (m : MachineState). m.current) (sym c.self-in-loop-self-2.view_is) ∙ c.in-None.is in
     iteration_next region c.args.turns c.loop-self.made c.args.self.now c.loop-self.self c.step.new.self c.args.out.now c.loop-self.out c.step.new.out s.field-0-0 (c.loop-self.invariant.begun region here) room fuel
     taken s.field-0-0-test none
@@ -96,7 +96,7 @@ loop-self-preserved c =
     let room : c.loop-self.made < c.args.turns = omega arith in
     let s = c.in-Ok-Made-false in
     let t : TurnTaken s.field-0 c.loop-self.self c.step.new.self c.loop-self.out c.step.new.out = s.ensures.ok in
-    let taken : StepTaken s.field-0-0 c.loop-self.self c.step.new.self c.loop-self.out c.step.new.out = rw s.field-0-is at t in
+    let taken : StepTaken s.field-0-0 c.loop-self.self c.step.new.self c.loop-self.out c.step.new.out = (rw s.field-0-is at t).0 in
     let current = ap (λ (m : MachineState). m.current) (sym c.self-in-loop-self-2.view_is) ∙ c.in-Some.is in
     let some : c.step.new.self.current ≢ None = λ e. let clash = sym current ∙ e in absurd (cc clash) in
     record {
