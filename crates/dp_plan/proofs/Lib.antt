@@ -65,4 +65,3 @@ pub mod RulesMet
 pub mod InsideSites
 pub mod OneStageGiven
 pub mod ApartIs
-pub mod FitsRegion

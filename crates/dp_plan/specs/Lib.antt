@@ -24,4 +24,3 @@ pub mod Parts
 pub mod Storings
 pub mod OneStage
 pub mod Apart
-pub mod Fitting

@@ -8,7 +8,6 @@ use dp_tree::Assume;
 
 mod apart;
 mod conditions;
-mod fitting;
 mod law;
 mod least;
 mod line;
