@@ -33,8 +33,8 @@ step-requires-clause-some c =
     some_left c.loop-self.self.config.to_do
     (unfinished named.0 c.args.turns c.loop-self.made c.args.self.now c.loop-self.self c.args.out.now c.loop-self.out (c.loop-self.invariant.begun named.0 named.1) c.loop-self.invariant.within)
 
-pub returns-in-Ok-Made-true : goal.returns-in-Ok-Made-true
-returns-in-Ok-Made-true c region here =
+pub returns-in-Ok-Made-true-default-default : goal.returns-in-Ok-Made-true-default-default
+returns-in-Ok-Made-true-default-default c region here =
     let unequal = c.if-self.false in
     let inside_fuel = c.self-in-loop-self.invariant.within in
     let inside : c.self-in-loop-self.inside.steps < c.self-in-loop-self.inside.fuel = omega arith in
@@ -42,7 +42,7 @@ returns-in-Ok-Made-true c region here =
     let within = c.loop-self.invariant.within in
     let other = c.if-made-turns.false in
     let room : c.loop-self.made < c.args.turns = omega arith in
-    let s = c.in-Ok-Made-true in
+    let s = c.in-Ok-Made-true-default-default in
     let t : TurnTaken s.field-0 c.loop-self.self c.step.new.self c.loop-self.out c.step.new.out = s.ensures.ok in
     let taken : StepTaken s.field-0-0 c.loop-self.self c.step.new.self c.loop-self.out c.step.new.out = (rw s.field-0-is at t).0 in
     iteration_closed region c.args.turns c.loop-self.made c.args.self.now c.loop-self.self c.step.new.self c.args.out.now c.loop-self.out c.step.new.out s.field-0-0 (c.loop-self.invariant.begun region here) room fuel
@@ -78,7 +78,7 @@ returns-in-None c region here =
     let within = c.loop-self.invariant.within in
     let other = c.if-made-turns.false in
     let room : c.loop-self.made < c.args.turns = omega arith in
-    let s = c.in-Ok-Made-false in
+    let s = c.in-Ok-Made-false-default-default in
     let t : TurnTaken s.field-0 c.loop-self.self c.step.new.self c.loop-self.out c.step.new.out = s.ensures.ok in
     let taken : StepTaken s.field-0-0 c.loop-self.self c.step.new.self c.loop-self.out c.step.new.out = (rw s.field-0-is at t).0 in
     let none : c.step.new.self.current ≡ None = ap (λ (m : MachineState). m.current) (sym c.self-in-loop-self-2.view_is) ∙ c.in-None.is in
@@ -94,7 +94,7 @@ loop-self-preserved c =
     let within = c.loop-self.invariant.within in
     let other = c.if-made-turns.false in
     let room : c.loop-self.made < c.args.turns = omega arith in
-    let s = c.in-Ok-Made-false in
+    let s = c.in-Ok-Made-false-default-default in
     let t : TurnTaken s.field-0 c.loop-self.self c.step.new.self c.loop-self.out c.step.new.out = s.ensures.ok in
     let taken : StepTaken s.field-0-0 c.loop-self.self c.step.new.self c.loop-self.out c.step.new.out = (rw s.field-0-is at t).0 in
     let current = ap (λ (m : MachineState). m.current) (sym c.self-in-loop-self-2.view_is) ∙ c.in-Some.is in
