@@ -2,7 +2,7 @@
 use Rattle.std.proofs.Common.{◌≡◌, refl, ℕ, suc, Bool, true, false, not, List, [], ◌∷◌, map, filter, Option, Some, None, is_none, inl, inr}
 use Rattle.std.proofs.lemmas.Bool.{cases_Bool, not-false}
 use Rattle.dp_tree.specs.declared.Program.{Program}
-use Rattle.dp_plan.specs.PlanText.{Each}
+use Rattle.dp_plan.specs.Each.{Each}
 use Rattle.dp_plan.specs.Written.{WrittenPlan, has, listed, region_sites}
 use Rattle.dp_plan.specs.Enclosing.{region_ifs}
 use Rattle.dp_plan.specs.Rules.{assumed_site, is_late_unassumed, is_no_if_or_again, least, lesser, occurs_again, site_of_condition}

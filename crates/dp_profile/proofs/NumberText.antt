@@ -4,8 +4,8 @@ use Rattle.std.specs.Prelude.{if◌then◌else◌}
 use Rattle.std.specs.List.{list_all}
 use Rattle.std.proofs.lemmas.Str.Parse.{IsNumeralModel, numerals_by_fold}
 use Rattle.std.proofs.lemmas.Fmt.{digits_decimal, digits_value-decimal, decimal_nonempty, first_decimal, decimal-digits_value, decimal_digit}
-use Rattle.dp_plan.specs.Words.{is_digit, is_plain, value_after}
-use Rattle.dp_plan.proofs.JoinLemmas.{IsWord}
+use Rattle.dp_plan_text.specs.Words.{is_digit, is_plain, value_after}
+use Rattle.dp_plan_text.proofs.JoinLemmas.{IsWord}
 use Rattle.dp_profile.specs.Numbers.{value_upto, number_upto}
 
 own : IsNumeralModel (λ ds. list_all is_digit ds ≡ true) (value_after 0)

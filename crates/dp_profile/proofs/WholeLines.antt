@@ -1,7 +1,8 @@
 -- The text of lines is cut into these lines.
 use Rattle.std.proofs.Common.{◌≡◌, refl, ap, ◌∙◌, ℕ, ◌==◌, Bool, true, false, not, ◌&&◌, List, [], ◌∷◌, ◌++◌, map, codes, decimal, arith}
 use Rattle.std.specs.List.{flat_map}
-use Rattle.dp_plan.specs.PlanText.{Each, joined, onto_first, lines_of}
+use Rattle.dp_plan.specs.Each.{Each}
+use Rattle.dp_plan_text.specs.PlanText.{joined, onto_first, lines_of}
 use Rattle.dp_profile.specs.declared.line.Line.{Line}
 use Rattle.dp_profile.specs.declared.line.Line.TheVariants as line
 use Rattle.dp_profile.specs.ProfileText.{kind_word, words_of, line_bytes}

@@ -4,7 +4,8 @@ use Rattle.std.specs.Prelude.{◌^◌}
 use Rattle.dp_tree.specs.Inlined.{IsInlined}
 use Rattle.dp_plan.specs.CheckedTable.{IsTabled}
 use Rattle.dp_plan.specs.GivenPlans.{IsPlan}
-use Rattle.dp_plan.specs.PlanText.{Each, StageFits}
+use Rattle.dp_plan.specs.Each.{Each}
+use Rattle.dp_plan.specs.PlanFits.{StageFits}
 use Rattle.dp_plan.specs.Rules.{first_in}
 use Rattle.dp_plan.specs.Valid.{first_broken}
 use Rattle.dp_plan.specs.declared.WrittenPlan.{WrittenPlan}

@@ -7,7 +7,7 @@ use Rattle.dp_tree.specs.declared.VarScope.TheVariants.{Global, Outer, Body}
 use Rattle.dp_tree.specs.Globals.{is_global_scope}
 use Rattle.dp_tree.specs.Inlined.{IsInlined, has_call, has_call_in, stmt_within}
 use Rattle.dp_tree.specs.Layout.{has_cells}
-use Rattle.dp_plan.specs.declared.conditions.Enclosing.{Enclosing}
+use Rattle.dp_plan.specs.declared.Enclosing.{Enclosing}
 use Rattle.dp_plan.specs.Enclosing.{ifs, ifs_in, inner_whiles, inner_whiles_in, region_ifs, region_inner_whiles}
 use Rattle.dp_plan.specs.Rules.{comes_late, first_in, is_late_unassumed}
 use Rattle.dp_plan.specs.declared.WrittenPlan.{WrittenPlan}
