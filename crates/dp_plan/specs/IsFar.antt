@@ -45,10 +45,6 @@ abbrev mutual
   touches_in end_of-Stmt = []
   touches_in (more_of-Stmt s rest) = touches s ++ touches_in rest
 
--- the sites of region r
-abbrev pub region_touches : Program → ℕ → List SiteTouch
-region_touches p r = flat_map touches (region_in p r)
-
 -- the statements at the top of a region's body
 abbrev pub body_of : Stmt-F Stmt → List Stmt
 body_of (Region r site cond body) = body

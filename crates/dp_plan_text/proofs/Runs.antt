@@ -21,10 +21,6 @@ abbrev pub run : ℕ → Option Reader → List Line → Option Reader
 run n o [] = o
 run n o (l ∷ ls) = run n (step n o l) ls
 
-pub run-append : (n : ℕ) (o : Option Reader) (xs ys : List Line) → run n o (xs ++ ys) ≡ run n (run n o xs) ys
-run-append n o [] ys = refl
-run-append n o (x ∷ xs) ys = run-append n (step n o x) xs ys
-
 -- ---- lines as bytes
 
 abbrev pub onto_text : ℕ → Option (List ℕ) → Option (List ℕ)

@@ -12,22 +12,3 @@ behind_sites earlier (Some sites) = Some (earlier ++ sites)
 abbrev pub length_behind : Option (List ℕ) → ℕ
 length_behind None = 0
 length_behind (Some text) = suc (length text)
-
-behind_one : (earlier : List ℕ) (site : ℕ) (later : Option (List ℕ)) → behind_sites earlier (onto_sites site later) ≡ behind_sites (earlier ++ site ∷ []) later
-behind_one earlier site None = refl
-behind_one earlier site (Some sites) = ap Some (sym (append_assoc earlier (site ∷ []) sites))
-
-pub behind_none : (later : Option (List ℕ)) → behind_sites [] later ≡ later
-behind_none None = refl
-behind_none (Some sites) = refl
-
--- a word that is a site joins the earlier ones
-pub sites-next : (earlier : List ℕ) (low site : ℕ) (word : List ℕ) (rest : List (List ℕ)) → above low (number_of word) ≡ Some site
-    → behind_sites earlier (sites_above low (word ∷ rest)) ≡ behind_sites (earlier ++ site ∷ []) (sites_above site rest)
-sites-next earlier low site word rest e =
-    ap (λ o. behind_sites earlier (site_before o (λ s. sites_above s rest))) e ∙ behind_one earlier site (sites_above site rest)
-
--- a word that is none ends it
-pub sites-none : (earlier : List ℕ) (low : ℕ) (word : List ℕ) (rest : List (List ℕ)) → above low (number_of word) ≡ None
-    → behind_sites earlier (sites_above low (word ∷ rest)) ≡ None
-sites-none earlier low word rest e = ap (λ o. behind_sites earlier (site_before o (λ s. sites_above s rest))) e

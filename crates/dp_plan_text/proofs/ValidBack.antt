@@ -29,15 +29,9 @@ not_again : (n : ℕ) (ns : List ℕ) → count n ns < 2 → occurs_again ns n �
 not_again n ns lt = elim (cases_Bool (nat_lt 1 (count n ns))) [ inl t ↦ absurd (omega (arith, ltb-true 1 (count n ns) t, lt)) | inr t ↦ t ]
 
 module _ (p : Program) (w : WrittenPlan) (valid : first_broken p w ≡ None) (up : AscendAbove 0 (region_sites p w.region)) where
-  -- the assumptions in the order of the sites
-  abbrev pub sorted : List Assume
-  sorted = filter_map (assumption_at w.assume) (region_sites p w.region)
 
   abbrev pub in_order : WrittenPlan
   in_order = record w { assume = filter_map (assumption_at w.assume) (region_sites p w.region) }
-
-  abbrev is_assumed : ℕ → Bool
-  is_assumed site = has site (map assumed_site w.assume)
 
   same : map assumed_site (filter_map (assumption_at w.assume) (region_sites p w.region)) ≡ filter (λ site. has site (map assumed_site w.assume)) (region_sites p w.region)
   same = sorted_sites w.assume (region_sites p w.region)

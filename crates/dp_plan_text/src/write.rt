@@ -3,6 +3,7 @@
 ghost use Rattle.std.specs.Prelude.{◌≡◌, ◌++◌, OnOk, IfOk};
 ghost use Rattle.dp_plan_text.specs.declared.line.Line.TheVariants as line;
 ghost use Rattle.dp_plan_text.specs.PlanText as plan_text;
+ghost use Rattle.dp_plan.specs.GivenPlans.{version_of};
 ghost use Rattle.dp_plan_text.specs.WrittenText as text;
 
 use dp_base::{NoMemory, Row, SiteId};
@@ -27,7 +28,7 @@ pub fn write_plans(alloc: Global, plans: &[Plan], p: &Program) -> Result<Row<u8>
 
 /// The version of plans that have one: without a plan, the second.
 fn is_proved(plans: &[Plan]) -> bool
-    ensures { result ≡ text.version_of plans.now }
+    ensures { result ≡ version_of plans.now }
 {
     match plans {
         [] => true,

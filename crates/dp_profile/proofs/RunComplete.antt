@@ -118,10 +118,6 @@ pub end_next : (all : List (List RegionSite)) (s : Reader) → is_between all s 
 unfolding next
 end_next all s between same = let e : (length (closed s) == length all) ≡ true = search (rules, tests) in rw (between, e) refl
 
-pub or_true : (a b : Bool) → b ≡ true → (a || b) ≡ true
-or_true true b h = refl
-or_true false b h = h
-
 -- the lines of the regions that are left, from a place between two
 regions_run : (before left : List (List RegionSite)) (s : Reader) (shown : List RegionProfile) → is_between (before ++ left) s ≡ true → length (closed s) ≡ length before → RegionsFit left shown
     → run (before ++ left) (Some s) (regions_lines (1 + length before) left shown ++ line.End ∷ []) ≡ Some (over (closed s ++ shown))

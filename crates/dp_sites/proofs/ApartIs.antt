@@ -90,10 +90,6 @@ module _ (p : Program) (plan : Plan) (s : Stmt) (only : region_in p plan.region 
             far_is p plan s only r site condition body is k rises_t us lined test d u (here i d there).t (here j u at).t (found_here i d there) (found_here j u at) loads_is t.variable t.index e proved
             ∙ sym (ap (λ (o : Option Touched). passes_or test u (storing_of p plan us body d.site o)) (stores_is ∙ ap touched_in e))
 
-  -- the table that the code makes
-  abbrev table : Apart
-  table = record { first = k; parts = parts None s; stores = map (storing_at p plan (parts None s) body) (parts None s) }
-
   sites_here : region_sites p plan.region ≡ map part_site (parts None s)
   sites_here = ap (λ (xs : List Stmt). map site_in (flat_map accesses xs)) only ∙ ap (map site_in) (append-nil (accesses s)) ∙ (sites_same (accesses s) (touches s) us lined).0
 

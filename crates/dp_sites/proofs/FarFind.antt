@@ -101,10 +101,6 @@ module _ (test : ℤ → ℤ → Bool) (v : ℕ) (s : Stored) (shift : ℤ) wher
 
 -- ---- two pieces, with another shift in the second
 
-abbrev pub pick : Bool → ℤ → ℤ → ℤ
-pick true k shift = k
-pick false k shift = shift
-
 -- the site is among the first, or behind them
 abbrev pub Among : ℕ → ℕ → Bool → Type 0
 Among n split true = split ≤ n

@@ -68,14 +68,6 @@ module _ (test : ℤ → ℤ → ℤ → Bool) (v d u k : ℕ) (condition : List
       by true = refl
       by false = or_stored_none (stored_at v (pos 0) td.store)
 
-  if_both : (f : Option SiteTouch → Bool) (b : Bool) (t : SiteTouch) → f None ≡ true → f (if b then None else Some t) ≡ (if b then true else f (Some t))
-  if_both f true t e = e
-  if_both f false t e = refl
-
-  if_other : (f : Option SiteTouch → Bool) (b : Bool) (t : SiteTouch) → f None ≡ true → f (if b then Some t else None) ≡ (if b then f (Some t) else true)
-  if_other f true t e = refl
-  if_other f false t e = e
-
   module _ (s : Stored) (is : stored_at v (shift_by h.stride lateD) td.store ≡ Some s) where
     abbrev t : ℤ → ℤ → Bool
     t = test h.stride

@@ -36,9 +36,6 @@ has_bounds m k (a ∷ xs) h e = elim (cases_eq a.site m) [
   | inr f ↦ let r = has_bounds m (suc k) xs h.1 (ap (λ (b : Bool). b || has_site m xs) (sym (ne_eqb a.site m f)) ∙ e) in (omega (arith, r.0), omega (arith, r.1))
 ]
 
-true_is : (b c : Bool) → b ≡ true → c ≡ true → b ≡ c
-true_is b c p q = p ∙ sym q
-
 pub lt_yes : (m n : ℕ) → m < n → nat_lt m n ≡ true
 lt_yes m n low = lt-ltb m n low
 

@@ -28,10 +28,6 @@ use Rattle.dp_sites.proofs.TextNumbers.{before_is, risen_ascend}
 use Rattle.dp_sites.proofs.PartTable.{Seat, any_at, by_order, and_under, code_by, either_any, located, no_seat, part_site, picked, seat, seen_by, sites_same, stored_so, unstored}
 use Rattle.dp_plan.proofs.EachLemmas.{each_at}
 
-or_none : (b : Bool) → (b || false) ≡ b
-or_none true = refl
-or_none false = refl
-
 module _ (p : Program) (plan : Plan) (s : Stmt) (only : region_in p plan.region ≡ s ∷ []) (r : ℕ) (site : SiteId) (condition : Expr) (body : List Stmt) (is : out-Stmt s ≡ Region r site condition body)
     (k : ℕ) (goes_up : Rises k (map part_site (parts None s))) where
   abbrev us : List Part
@@ -51,9 +47,6 @@ module _ (p : Program) (plan : Plan) (s : Stmt) (only : region_in p plan.region 
 
   rises_t : TouchesRise k (touches s)
   rises_t = subst (λ (ns : List ℕ). Rises k ns) (sym (sites_same xs ts us lined).1) goes_up
-
-  abbrev all : List Storing
-  all = storings p plan us body us
 
   accesses_here : region_accesses p plan ≡ accesses s
   accesses_here = ap (flat_map accesses) only ∙ append-nil (accesses s)
