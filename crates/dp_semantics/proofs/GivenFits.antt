@@ -43,7 +43,8 @@ place_low (y ∷ ys) (suc k) x e = let low = place_low ys k x e in omega (arith,
 found_low : (r : ℕ) (entries : List RegionInfo) (entry : RegionInfo) → 1 ≤ r → slice_get entries (r - 1) ≡ Some entry → r < 1 + length entries
 found_low r entries entry low at = let here = place_low entries (r - 1) entry at in omega (arith, here, low)
 
-filled : (lines : List WrittenStage) → Each StageFits lines → list_all lists_site lines ≡ true
+-- each line of a plan that fits lists a site
+pub filled : (lines : List WrittenStage) → Each StageFits lines → list_all lists_site lines ≡ true
 filled [] fit = refl
 filled (line ∷ rest) fit = and_from (lists_site line) _ (lt-ltb 0 (length line.sites) (omega (arith, fit.0.0))) (filled rest fit.1)
 

@@ -10,6 +10,8 @@ pub mod Seeing
 pub mod Projected
 pub mod Integers
 pub mod Taking
+pub mod Shorter
+pub mod TurnEnds
 pub mod Source
 pub mod Stepping
 pub mod Lockstep

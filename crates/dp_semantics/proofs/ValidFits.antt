@@ -1,5 +1,5 @@
 -- A valid plan of an inlined program fits it, and its regions stand alone.
-use Rattle.dp_semantics.proofs.Names.{opened_statement, ◌≡◌, ◌⊎◌, inl, inr, refl, sym, ap, ◌∙◌, subst, ℕ, zero, suc, ◌+◌, ◌-◌, ◌<◌, ◌≤◌, ◌==◌, Bool, true, false, not, ◌&&◌, ◌||◌, List, [], ◌∷◌, length, map, filter, Option, Some, None, slice_get, nat_lt, arith, le-leb, lt-ltb, eq-eqb, ne_eqb, append-nil, length-map, cases_Bool, list_all, flat_map, Region, SiteId, Expr, Stmt, hidden-the_row-Stmt-0, Program, Plan, RegionInfo, VarInfo, Access, accesses, access_known, first_site, first_site_of, fits_plan, has_cell, is_inner, is_local_of, is_numbered, is_region_at, is_replicated, is_single, kinds_apart, kinds_fit, length_of, lies_between, lies_in_order, one_region, region_accesses, region_fits, region_in, stage_of, stands_alone, stores_known, well_nested, and_parts, and_from}
+use Rattle.dp_semantics.proofs.Names.{opened_statement, ◌≡◌, ◌⊎◌, inl, inr, refl, sym, ap, ◌∙◌, subst, ℕ, zero, suc, ◌+◌, ◌-◌, ◌<◌, ◌≤◌, ◌==◌, Bool, true, false, not, ◌&&◌, ◌||◌, List, [], ◌∷◌, length, map, filter, Option, Some, None, slice_get, nat_lt, arith, le-leb, lt-ltb, eq-eqb, ne_eqb, append-nil, length-map, cases_Bool, list_all, flat_map, Region, SiteId, Expr, Stmt, hidden-the_row-Stmt-0, Program, Plan, RegionInfo, VarInfo, Access, accesses, access_known, first_site, first_site_of, fits_plan, has_cell, is_inner, is_local_of, is_numbered, is_region_at, is_replicated, is_single, kinds_apart, kinds_fit, length_of, lies_between, cells_in_order, one_region, region_accesses, region_fits, region_in, stage_of, stands_alone, stores_known, well_nested, and_parts, and_from}
 use Rattle.dp_tree.specs.declared.Stmt.TheVariants as tree
 use Rattle.dp_tree.specs.Layout as layout
 use Rattle.dp_tree.specs.declared.VarScope.{VarScope}
@@ -33,7 +33,7 @@ scoped r (Body q) one e = by (q == r)
     by true = e
     by false = refl
 
-pub laid : (r k : ℕ) (vars : List VarInfo) → layout.lies_in_order k vars ≡ true → lies_in_order r k vars ≡ true
+pub laid : (r k : ℕ) (vars : List VarInfo) → layout.lies_in_order k vars ≡ true → cells_in_order r k vars ≡ true
 laid r k [] e = refl
 laid r k (x ∷ rest) e =
     let both = and_parts ((x.first.0 == k) && has_cells x) (layout.lies_in_order (k + x.length) rest) e in
