@@ -6,6 +6,7 @@ ghost use Rattle.dp_plan_text.specs.Words.{words, words_behind, number_of};
 ghost use Rattle.dp_plan_text.specs.LineWords as spec;
 
 use crate::words::{next_word, number};
+use dp_base::limits::{LEAST_WORDS, MOST_WORDS};
 use dp_base::{NoMemory, Row, SiteId};
 use dp_plan::{StageKind, WrittenStage};
 use dp_tree::Assume;
@@ -92,7 +93,7 @@ fn region_of(region: Option<u32>, words: Option<u32>) -> Option<Line>
 {
     let region = region?;
     let words = words?;
-    if 16 <= words && words <= 4096 {
+    if LEAST_WORDS <= words && words <= MOST_WORDS {
         Some(Line::Region { region, words })
     } else {
         None

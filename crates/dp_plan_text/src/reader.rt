@@ -5,6 +5,7 @@ ghost use Rattle.dp_plan_text.specs.Words.{words};
 ghost use Rattle.dp_plan_text.specs.LineWords.{line_of};
 
 use crate::line::{Line, read_line};
+use dp_base::limits::STAGES;
 use dp_base::{NoMemory, Row};
 use dp_plan::{WrittenPlan, WrittenStage};
 use dp_tree::Assume;
@@ -135,7 +136,7 @@ impl Reader {
     fn stage(self, regions: u32, stage: WrittenStage) -> Result<Option<Reader>, NoMemory>
         ensures { IfOk result (λ reader. reader ≡ spec.next regions self (line.Stage stage)) }
     {
-        if !self.has_region() || self.last.stages.len() >= 8 || !self.last.assume.is_empty() {
+        if !self.has_region() || self.last.stages.len() >= STAGES as usize || !self.last.assume.is_empty() {
             return Ok(None);
         }
         let mut reader = self;
