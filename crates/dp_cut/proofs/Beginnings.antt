@@ -23,7 +23,6 @@ module _ (weights limits : List ℕ) (workers bound : ℕ) (costs : AreCosts wei
   }
 
   module _ (after_seq after_par : List ℕ) (seq : TellsNeed weights carried workers bound false 0 after_seq) (par : TellsNeed weights carried workers bound true 0 after_par) where
-
     pub fits_need : (left end : ℕ) (r : Bool) → end ≤ length weights → left ≤ 8 → Fits weights carried workers bound left r end → (if r then slice_index after_par end else slice_index after_seq end) ≤ left
     fits_need left end true h few fits = (par end left (omega arith) h few).1 fits
     fits_need left end false h few fits = (seq end left (omega arith) h few).1 fits

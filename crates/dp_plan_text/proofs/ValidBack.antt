@@ -29,7 +29,6 @@ not_again : (n : ℕ) (ns : List ℕ) → count n ns < 2 → occurs_again ns n �
 not_again n ns lt = elim (cases_Bool (nat_lt 1 (count n ns))) [ inl t ↦ absurd (omega (arith, ltb-true 1 (count n ns) t, lt)) | inr t ↦ t ]
 
 module _ (p : Program) (w : WrittenPlan) (valid : first_broken p w ≡ None) (up : AscendAbove 0 (region_sites p w.region)) where
-
   abbrev pub in_order : WrittenPlan
   in_order = record w { assume = filter_map (assumption_at w.assume) (region_sites p w.region) }
 

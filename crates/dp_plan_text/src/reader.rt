@@ -136,7 +136,10 @@ impl Reader {
     fn stage(self, regions: u32, stage: WrittenStage) -> Result<Option<Reader>, NoMemory>
         ensures { IfOk result (λ reader. reader ≡ spec.next regions self (line.Stage stage)) }
     {
-        if !self.has_region() || self.last.stages.len() >= STAGES as usize || !self.last.assume.is_empty() {
+        if !self.has_region()
+            || self.last.stages.len() >= STAGES as usize
+            || !self.last.assume.is_empty()
+        {
             return Ok(None);
         }
         let mut reader = self;
