@@ -21,6 +21,7 @@ pub mod OrderLemmas
 pub mod StageLemmas
 pub mod RuleLemmas
 pub mod WriteLemmas
+pub mod Unbroken
 pub mod WholeLines
 pub mod ReadBack
 pub mod OneReading

@@ -14,10 +14,10 @@ use Rattle.dp_plan.specs.Written.{has, listed, region_sites, site_in, written_of
 use Rattle.dp_plan.proofs.PlanBack.{plan_back, plan_fits}
 use Rattle.dp_plan.proofs.RegionFacts.{InOrder, in_order}
 use Rattle.dp_plan.proofs.RegionOrder.{RegionAt, Sought, absent, present}
-use Rattle.dp_plan.proofs.RulesHold.{valid_unbroken}
+use Rattle.dp_plan.proofs.RulesHold.{condition_first, none_foreign, valid_unbroken}
 use Rattle.dp_semantics.specs.ValidPlan.{WrittenAs, lists_site}
 use Rattle.dp_semantics.proofs.TextOrder.{has_fact}
-use Rattle.dp_semantics.proofs.Unbroken.{no_foreign, condition_first, stage_unlisted}
+use Rattle.dp_semantics.proofs.WrittenStages.{stage_unlisted}
 use Rattle.dp_semantics.proofs.ValidFits.{sought, valid_fits}
 use Rattle.dp_semantics.proofs.ValidTables.{valid_tabled}
 
@@ -32,7 +32,7 @@ nowhere p w valid none = let clash = sym (ap (λ (n : ℕ). n == 1) (stage_unlis
     there = ap (λ (ns : List ℕ). written_stage w (first_in ns) == 1) (sym empty) ∙ condition_first p w valid
 
     by : (has 0 (listed w) ≡ true) ⊎ (has 0 (listed w) ≡ false) → has 0 (listed w) ≡ false
-    by (inl e) = let clash : has 0 [] ≡ true = ap (has 0) (sym empty) ∙ has_fact (λ n. has n (region_sites p w.region) ≡ true) (listed w) 0 (no_foreign p w valid) e in absurd (cc clash)
+    by (inl e) = let clash : has 0 [] ≡ true = ap (has 0) (sym empty) ∙ has_fact (λ n. has n (region_sites p w.region) ≡ true) (listed w) 0 (none_foreign p w valid) e in absurd (cc clash)
     by (inr e) = e
 
 place_low : {X : Type 0} (xs : List X) (k : ℕ) (x : X) → slice_get xs k ≡ Some x → k < length xs

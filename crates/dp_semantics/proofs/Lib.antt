@@ -57,7 +57,7 @@ pub mod Told
 pub mod Shift
 pub mod TextOrder
 pub mod Regions
-pub mod Unbroken
+pub mod WrittenStages
 pub mod WellNested
 pub mod PlanStages
 pub mod ValidFits

@@ -6,7 +6,7 @@ use Rattle.dp_plan.specs.declared.WrittenPlan.{WrittenPlan}
 use Rattle.dp_plan.specs.Written.{assumption_at, has, listed, region_sites, written_stage}
 use Rattle.dp_semantics.proofs.TextOrder.{Ascends, Between, ascends_between, ascends_get, has_fact}
 use Rattle.dp_semantics.proofs.WellNested.{none_before}
-use Rattle.dp_semantics.proofs.Unbroken.{stage_unlisted}
+use Rattle.dp_semantics.proofs.WrittenStages.{stage_unlisted}
 use Rattle.dp_semantics.proofs.Setting.{Each, each_map, none_of, all_make}
 
 -- An assumption of a site of the region is one of the plan's.

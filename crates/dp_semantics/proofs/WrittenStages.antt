@@ -1,76 +1,10 @@
--- What it says of a written plan that none of its rules is broken.
+-- The stages of a written plan, where its lines are in order.
 use Rattle.dp_semantics.proofs.Names.{◌≡◌, refl, sym, ap, ◌∙◌, ℕ, zero, suc, ◌+◌, ◌<◌, ◌≤◌, ◌==◌, Bool, true, false, not, ◌&&◌, ◌||◌, if◌then◌else◌, List, [], ◌∷◌, map, length, filter, Option, Some, None, slice_get, nat_lt, arith, list_any-append, list_all, flat_map, Program, Seq, Par, StageKind, is_par, and_parts, or_parts, inl, inr, and-false, cases_Bool, not-true}
-use Rattle.dp_plan.specs.Enclosing.{region_ifs, region_inner_whiles}
-use Rattle.dp_plan.specs.Rules.{comes_late, condition, condition_unless, is_late_unassumed, is_replicated_kind, least, least_site_in, lesser, second_neighbour, site_of_condition, begins_sequential}
-use Rattle.dp_plan.specs.Valid.{broken_from, first_broken, rules}
-use Rattle.dp_plan.specs.declared.WrittenPlan.{WrittenPlan}
+use Rattle.dp_plan.specs.Rules.{is_replicated_kind, least, least_site_in, second_neighbour, begins_sequential}
 use Rattle.dp_plan.specs.declared.WrittenStage.{WrittenStage}
-use Rattle.dp_plan.specs.Written.{has, kind_in, listed, region_sites, sites_in, stage_from, written_stage}
+use Rattle.dp_plan.specs.Written.{has, kind_in, sites_in, stage_from}
+use Rattle.dp_plan.proofs.RulesHold.{none_least}
 use Rattle.dp_semantics.specs.ValidPlan.{lists_site}
-use Rattle.dp_semantics.proofs.Setting.{Each, each_map}
-
--- no rule names a site
-unbroken : (rule : ℕ) (named : List (Option ℕ)) → broken_from rule named ≡ None → Each (λ o. o ≡ None) named
-unbroken rule [] e = tt
-unbroken rule (None ∷ rest) e = (refl, unbroken (suc rule) rest e)
-unbroken rule (Some site ∷ rest) e = absurd (cc)
-
-none_least : (ns : List ℕ) → least ns ≡ None → ns ≡ []
-none_least [] e = refl
-none_least (n ∷ rest) e = absurd (by n (least rest) e)
-  where
-    by : (n : ℕ) (o : Option ℕ) → lesser n o ≡ None → ⊥
-    by n None e = cc
-    by n (Some m) e = cc
-
-none_kept : {X : Type 0} (test : X → Bool) (xs : List X) → filter test xs ≡ [] → Each (λ x. test x ≡ false) xs
-none_kept test [] e = tt
-none_kept test (x ∷ xs) e = elim (cases_Bool (test x)) [
-  | inl t ↦ let clash : x ∷ filter test xs ≡ [] = rw t at e in absurd (cc clash)
-  | inr t ↦ (t, none_kept test xs (rw t at e))
-]
-
-none_mapped : {X Y : Type 0} (f : X → Y) (xs : List X) → map f xs ≡ [] → xs ≡ []
-none_mapped f [] e = refl
-none_mapped f (x ∷ xs) e = absurd (cc)
-
-unless : (p : Program) (w : WrittenPlan) (b : Bool) → condition_unless p w b ≡ None → b ≡ true
-unless p w true e = refl
-unless p w false e = absurd (cc)
-
-not_false : (b : Bool) → not b ≡ false → b ≡ true
-not_false true e = refl
-not_false false e = absurd (cc)
-
-module _ (p : Program) (w : WrittenPlan) (valid : first_broken p w ≡ None) where
-  holds : Each (λ o. o ≡ None) (rules p w)
-  holds = unbroken 1 (rules p w) valid
-
-  abbrev sites : List ℕ
-  sites = region_sites p w.region
-
-  pub all_listed : Each (λ site. has site (listed w) ≡ true) sites
-  all_listed = each_map (λ site. not (has site (listed w)) ≡ false) (λ site. has site (listed w) ≡ true) (λ site e. not_false (has site (listed w)) e) sites
-      (none_kept (λ site. not (has site (listed w))) sites (none_least _ holds.0))
-
-  pub no_foreign : Each (λ site. has site sites ≡ true) (listed w)
-  no_foreign = each_map (λ site. not (has site sites) ≡ false) (λ site. has site sites ≡ true) (λ site e. not_false (has site sites) e) (listed w)
-      (none_kept (λ site. not (has site sites)) (listed w) (none_least _ holds.1.1.0))
-
-  pub condition_first : (written_stage w (condition p w) == 1) ≡ true
-  condition_first = unless p w _ holds.1.1.1.0
-
-  pub sequential_first : begins_sequential w.stages ≡ true
-  sequential_first = unless p w _ holds.1.1.1.1.0
-
-  pub none_beside : least_site_in (second_neighbour w.stages) ≡ None
-  none_beside = holds.1.1.1.1.1.0
-
-  pub whiles_in_time : Each (λ e. comes_late w e ≡ false) (region_inner_whiles p w.region)
-  whiles_in_time = none_kept (comes_late w) (region_inner_whiles p w.region) (none_mapped site_of_condition _ (none_least _ holds.1.1.1.1.1.1.0))
-
-  pub ifs_in_time : Each (λ e. is_late_unassumed w e ≡ false) (region_ifs p w.region)
-  ifs_in_time = none_kept (is_late_unassumed w) (region_ifs p w.region) (none_mapped site_of_condition _ (none_least _ holds.1.1.1.1.1.1.1.0))
 
 -- The stage of a site in the written lines: where it is listed it is one of them, and elsewhere it is 0.
 pub stage_listed : (k : ℕ) (stages : List WrittenStage) (site : ℕ) → has site (flat_map sites_in stages) ≡ true → (k ≤ stage_from k stages site) × (stage_from k stages site < k + length stages)
