@@ -1,21 +1,20 @@
 #!/usr/bin/env bash
-# Compares the texts of crates/dswp/src/tests/examples/ with the files of examples/, byte by byte, so that what is tested
+# Compares the texts of crates/dswp/src/tests/examples.rt with the files of examples/, byte by byte, so that what is tested
 # is what is shown. Ends with 1 where a text differs or has no file.
 set -eu
 cd "$(dirname "$0")/.."
-python3 - crates/dswp/src/tests/examples examples <<'PY'
+python3 - crates/dswp/src/tests/examples.rt examples <<'PY'
 import pathlib, re, sys
 
-sources, folder = pathlib.Path(sys.argv[1]), pathlib.Path(sys.argv[2])
-ends = {"": ".c", "_INPUT": ".in", "_OUTPUT": ".out"}
+source, folder = pathlib.Path(sys.argv[1]).read_text(), pathlib.Path(sys.argv[2])
 escapes = {"n": "\n", "t": "\t", "r": "\r", "0": "\0", "\\": "\\", '"': '"'}
+text = r'\s*b"((?:[^"\\]|\\.)*)",'
 
-source = "".join(it.read_text() for it in sorted(sources.glob("*.rt")))
 tested = {}
-for name, text in re.findall(r'const (\w+): &\[u8\] =\s*b"((?:[^"\\]|\\.)*)";', source):
-    stem, end = re.fullmatch(r"(\w+?)(_INPUT|_OUTPUT|)", name).groups()
-    tested[stem.lower() + ends[end]] = re.sub(r"\\(.)", lambda it: escapes[it[1]], text)
-shown = {it.name: it.read_bytes().decode() for it in folder.iterdir() if it.suffix in ends.values()}
+for name, *texts in re.findall(rf'"(\w+)",{text}{text}{text}', source):
+    for end, it in zip((".c", ".in", ".out"), texts):
+        tested[name + end] = re.sub(r"\\(.)", lambda found: escapes[found[1]], it)
+shown = {it.name: it.read_bytes().decode() for it in folder.iterdir() if it.suffix in (".c", ".in", ".out")}
 
 differ = sorted(name for name in tested if tested[name] != shown.get(name))
 for name in differ:

@@ -47,11 +47,6 @@ top_sites-plain r s h =
     let both = outside-plain (out-RawStmt s) (parts s) h in
     (λ i. sites_of 0 (both.0 i) ++ sites_of r (both.1 i)) ∙ append-nil (sites_of 0 (parts s))
 
-pub top_locals-plain : (r : ℕ) (s : RawStmt) → is_region s ≡ false → top_locals r s ≡ locals_of Outer (parts s)
-top_locals-plain r s h =
-    let both = outside-plain (out-RawStmt s) (parts s) h in
-    (λ i. locals_of Outer (both.0 i) ++ locals_of (Body r) (both.1 i)) ∙ append-nil (locals_of Outer (parts s))
-
 pub top-plain : (t : Sites) (r : ℕ) (s : RawStmt) → is_region s ≡ false → with_top t r s ≡ with_sites t (sites_of 0 (parts s))
 top-plain t r s h =
     same_sites t (ap (λ xs. t.rows ++ xs) (top_sites-plain r s h))

@@ -8,15 +8,9 @@ ghost use Rattle.dp_check.specs.Verdict.{too_many_functions, too_many_cells};
 
 use crate::CheckFail;
 use crate::place::next;
+use dp_base::limits::{CELLS, COUNTED, FUNCTIONS};
 use dp_base::{NoMemory, Quantity};
 use dp_tree::{RawItem, RawProgram};
-
-const MOST_FUNCTIONS: u32 = 64;
-
-const MOST_CELLS: u32 = 65_536;
-
-/// A greater count is reported as this one.
-const MOST_REPORTED: u32 = 1_000_000;
 
 /// How many file-scope variables there are.
 pub fn global_count(items: &[RawItem]) -> Result<u32, NoMemory>
@@ -44,7 +38,7 @@ fn sum(a: u32, b: u32) -> u32
     requires right { b ≤ 1000000 }
     ensures { result ≡ min (a + b) 1000000 }
 {
-    (a + b).min(MOST_REPORTED)
+    (a + b).min(COUNTED)
 }
 
 fn size_reported(size: i64) -> u32
@@ -52,10 +46,10 @@ fn size_reported(size: i64) -> u32
 {
     if size < 0 {
         0
-    } else if size < MOST_REPORTED as i64 {
+    } else if size < COUNTED as i64 {
         size as u32
     } else {
-        MOST_REPORTED
+        COUNTED
     }
 }
 
@@ -107,14 +101,14 @@ pub fn within(raw: &RawProgram) -> Result<(), CheckFail>
     ensures { result ≡ unless (too_many_functions raw.now) (unless (too_many_cells raw.now) (Ok tt)) }
 {
     let functions = function_count(raw.items.as_slice());
-    if functions > MOST_FUNCTIONS {
+    if functions > FUNCTIONS {
         return Err(CheckFail::Limit {
             quantity: Quantity::Functions,
             count: functions,
         });
     }
     let cells = cell_count(raw.items.as_slice());
-    if cells > MOST_CELLS {
+    if cells > CELLS {
         return Err(CheckFail::Limit {
             quantity: Quantity::Cells,
             count: cells,

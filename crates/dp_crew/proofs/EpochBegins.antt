@@ -15,7 +15,7 @@ use Rattle.dp_tree.specs.Iteration.{start, begins_with, memory_after}
 use Rattle.dp_tree.specs.GoesOn.{GoesOnAs}
 use Rattle.dp_plan.specs.declared.Plan.{Plan}
 use Rattle.dp_plan.specs.Access.{is_region_at, region_accesses, region_statement}
-use Rattle.dp_semantics.specs.Fits.{fits_plan, one_region, lies_in_order, access_known}
+use Rattle.dp_semantics.specs.Fits.{fits_plan, one_region, cells_in_order, access_known}
 use Rattle.dp_semantics.specs.Recovery.{epoch}
 use Rattle.dp_semantics.specs.EpochKey.{EpochKey, epoch_run, epoch_begin, from_region}
 use Rattle.dp_semantics.specs.EpochCauses.{IsSound}
@@ -68,7 +68,7 @@ is_one p plan (s ∷ t ∷ rest) e = absurd (cc)
 -- the plan's region stands once in `main`
 stands_once : (p : Program) (plan : Plan) → fits_plan p plan ≡ true → length (filter (is_region_at plan.region) p.main) ≡ 1
 stands_once p plan e =
-    let one = and_parts (lies_in_order plan.region 0 p.vars) _ e in
+    let one = and_parts (cells_in_order plan.region 0 p.vars) _ e in
     let two = and_parts (list_all (access_known p plan) (region_accesses p plan)) _ one.1 in
     let three = and_parts (one_region p plan (region_statement p plan)) _ two.1 in
     is_one p plan (region_statement p plan) three.0

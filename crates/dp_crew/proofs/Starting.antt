@@ -7,7 +7,8 @@ use Rattle.dp_tree.specs.InMain.{StandsInMain}
 use Rattle.dp_tree.specs.Numbering.{regions_in_order}
 use Rattle.dp_plan.specs.declared.Plan.{Plan}
 use Rattle.dp_plan.specs.declared.WrittenStage.{WrittenStage}
-use Rattle.dp_plan.specs.PlanText.{Each, StageFits}
+use Rattle.dp_plan.specs.Each.{Each}
+use Rattle.dp_plan.specs.PlanFits.{StageFits}
 use Rattle.dp_plan.specs.Written.{written_of}
 use Rattle.dp_plan.proofs.PlanBack.{plan_back, plan_fits}
 use Rattle.dp_plan.proofs.RegionFacts.{in_order}

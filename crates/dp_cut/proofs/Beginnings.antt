@@ -22,29 +22,7 @@ module _ (weights limits : List ℕ) (workers bound : ℕ) (costs : AreCosts wei
     cheap = stand.cheap;
   }
 
-  only_none : (closed : Bool) (begin : ℕ) (cut : List Stretch) → length weights ≤ begin → AreStages carried (length weights) closed begin cut → cut ≡ []
-  only_none closed begin [] h stages = refl
-  only_none closed begin (s ∷ rest) h stages = let low = stages_within weights carried workers bound rest s.replicated (begin + s.units) stages.2 in absurd (omega (arith, stages.0, h, low))
-
-  -- the rest as one stage
-  pub whole_begins : (left : ℕ) (closed : Bool) (begin : ℕ) (r : Bool) → begin < length weights → Stands weights limits workers bound closed begin (length weights) r →
-      (r ≡ true → bound < weight_between weights begin (length weights)) → IsBeginning weights carried workers bound left closed begin (record { units = length weights - begin; replicated = r })
-  whole_begins left closed begin r h stands need =
-      let at : begin + (length weights - begin) ≡ length weights = omega (arith, h) in
-      let s : Stretch = record { units = length weights - begin; replicated = r } in
-      let last : Best weights carried workers bound (left + 1) closed begin (s ∷ []) = best_last weights carried workers bound left closed begin s at (may_stand closed begin (length weights) r h (omega arith) stands) need in
-      record {
-        rest = record { cut = []; stages = at; few = omega arith; cheap = omega arith };
-        best = λ cut best.
-            let none : cut ≡ [] = only_none r (begin + (length weights - begin)) cut (omega (arith, at)) best.stages in
-            subst (λ (x : List Stretch). Best weights carried workers bound (left + 1) closed begin (s ∷ x)) (sym none) last;
-      }
-
   module _ (after_seq after_par : List ℕ) (seq : TellsNeed weights carried workers bound false 0 after_seq) (par : TellsNeed weights carried workers bound true 0 after_par) where
-    pub need_fits : (left end : ℕ) (r : Bool) → end ≤ length weights → left ≤ 8 → (if r then slice_index after_par end else slice_index after_seq end) ≤ left → Fits weights carried workers bound left r end
-    need_fits left end true h few need = (par end left (omega arith) h few).0 need
-    need_fits left end false h few need = (seq end left (omega arith) h few).0 need
-
     pub fits_need : (left end : ℕ) (r : Bool) → end ≤ length weights → left ≤ 8 → Fits weights carried workers bound left r end → (if r then slice_index after_par end else slice_index after_seq end) ≤ left
     fits_need left end true h few fits = (par end left (omega arith) h few).1 fits
     fits_need left end false h few fits = (seq end left (omega arith) h few).1 fits

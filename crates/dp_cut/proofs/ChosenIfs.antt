@@ -2,7 +2,7 @@
 use Rattle.std.proofs.Common.{◌≡◌, refl, sym, ap, ◌∙◌, ℕ, ◌<◌, ◌≤◌, ◌^◌, ◌==◌, Bool, true, false, List, [], ◌∷◌, ◌++◌, map, filter, Option, Some, None, inl, inr, arith, ne_eqb, eqb-true}
 use Rattle.std.proofs.lemmas.Bool.{cases_Bool, true≢false}
 use Rattle.dp_tree.specs.declared.Assume.{Assume}
-use Rattle.dp_plan.specs.PlanText.{AscendAbove, Each}
+use Rattle.dp_plan.specs.Each.{AscendAbove, Each}
 use Rattle.dp_plan.specs.Rules.{assumed_site}
 use Rattle.dp_plan.specs.Written.{has}
 use Rattle.dp_plan.proofs.Ascent.{above_each, above_less}

@@ -80,11 +80,3 @@ told_more weights carried workers bound closed begin new needs h before now plac
       let is : slice_index (set needs begin new) place ≡ slice_index needs place = get_or-set_other needs begin place new 0 other in
       subst (λ (v : ℕ). (v ≤ most → Fits weights carried workers bound most closed place) × (Fits weights carried workers bound most closed place → v ≤ most)) (sym is) (before place most (omega (arith, low, other)) within few)
 ]
-
--- at the end nothing is needed
-pub told_end : (weights : List ℕ) (carried : List (ℕ × ℕ)) (workers bound : ℕ) (closed : Bool) (needs : List ℕ) → slice_index needs (length weights) ≡ 0 → TellsNeed weights carried workers bound closed (length weights) needs
-told_end weights carried workers bound closed needs is place most low within few =
-    let at : place ≡ length weights = omega (arith, low, within) in (
-      λ need. record { cut = []; stages = at; few = omega arith; cheap = omega arith },
-      λ fits. let e : slice_index needs place ≡ 0 = ap (λ x. slice_index needs x) at ∙ is in omega (arith, e),
-    )

@@ -77,24 +77,6 @@ module _ (weights : List ℕ) (carried : List (ℕ × ℕ)) (workers bound : ℕ
   kind_least begin end g true need cheap e = refl
   kind_least begin end g false need cheap e = absurd (omega (arith, need e, cheap))
 
-  -- the rest is one stage
-  pub best_last : (most : ℕ) (closed : Bool) (begin : ℕ) (s : Stretch) → begin + s.units ≡ length weights → MayStand weights carried workers bound closed begin (length weights) s.replicated → (s.replicated ≡ true → bound < weight_between weights begin (length weights)) →
-      Best weights carried workers bound (most + 1) closed begin (s ∷ [])
-  best_last most closed begin s at stand need = record {
-    stages = (omega (arith, at, stand.some), λ e. ((stand.may e).0, subst (λ (x : ℕ). IsClear carried begin x) (sym at) (stand.may e).1), at);
-    few = omega arith;
-    cheap = most_of _ _ (subst (λ (x : ℕ). cost_of workers (weight_between weights begin x) s.replicated ≤ bound) (sym at) stand.cheap) (omega arith);
-    first = only;
-  }
-    where
-      only : (other : List Stretch) → AreStages carried (length weights) closed begin other → length other ≤ most + 1 → bottleneck weights workers begin other ≤ bound → NoLater (s ∷ []) other
-      only [] stages few cheap = absurd (omega (arith, stages, stand.some))
-      only (o ∷ []) stages few cheap = (
-        omega (arith, at, stages.2),
-        kind_least begin (length weights) s.replicated o.replicated need (subst (λ (x : ℕ). cost_of workers (weight_between weights begin x) o.replicated ≤ bound) stages.2 (left_of _ _ cheap)),
-      )
-      only (o ∷ p ∷ os) stages few cheap = tt
-
   -- what may follow a stage may follow a sequential one
   pub weaken : (g o : Bool) (begin : ℕ) (cut : List Stretch) → (g ≡ true → o ≡ true) → AreStages carried (length weights) o begin cut → AreStages carried (length weights) g begin cut
   weaken g o begin [] h stages = stages

@@ -9,7 +9,7 @@ use Rattle.dp_plan.specs.declared.Plan.{Plan}
 use Rattle.dp_plan.specs.Access.{region_in}
 use Rattle.dp_plan.specs.Enclosing.{region_ifs, region_inner_whiles}
 use Rattle.dp_plan.specs.GivenPlans.{IsPlan}
-use Rattle.dp_plan.specs.PlanText.{AscendAbove, Each}
+use Rattle.dp_plan.specs.Each.{AscendAbove, Each}
 use Rattle.dp_plan.specs.Rules.{assumed_site, condition, first_in, is_no_if_or_again, occurs_again, site_of_condition}
 use Rattle.dp_plan.specs.Stage.{stage_of}
 use Rattle.dp_plan.specs.Written.{has, region_sites, written_of, written_stage}

@@ -5,13 +5,13 @@ use Rattle.dp_tree.specs.declared.Program.{Program}
 use Rattle.dp_tree.specs.declared.Stmt.{Stmt, Row_of-Stmt, end_of-Stmt, more_of-Stmt}
 use Rattle.dp_tree.specs.declared.Stmt.TheVariants as tree
 use Rattle.dp_plan.specs.Access.{region_in}
-use Rattle.dp_plan.specs.declared.conditions.Enclosing.{Enclosing}
+use Rattle.dp_plan.specs.declared.Enclosing.{Enclosing}
 use Rattle.dp_plan.specs.Enclosing.{ifs, ifs_in, region_ifs}
-use Rattle.dp_plan.specs.PlanText.{Each}
+use Rattle.dp_plan.specs.Each.{Each}
 use Rattle.dp_plan.specs.Rules.{site_of_condition}
 use Rattle.dp_plan.specs.Written.{has}
 use Rattle.dp_plan.proofs.Found.{each_has}
-use Rattle.dp_plan.proofs.RunEnds.{each-lists}
+use Rattle.dp_plan.proofs.EachLemmas.{each-lists}
 use Rattle.dp_depend.specs.declared.nodes.Node.{Node}
 use Rattle.dp_depend.specs.Edges.{site_of}
 use Rattle.dp_depend.specs.Node.{loop_of, nodes, nodes_in, region_nodes}

@@ -5,12 +5,12 @@ use Rattle.std.proofs.lemmas.Bool.{or_left, or_right}
 use Rattle.std.proofs.lemmas.List.Folds.{list_any-append}
 use Rattle.dp_tree.specs.declared.Stmt.{Stmt, Row_of-Stmt, end_of-Stmt, more_of-Stmt}
 use Rattle.dp_tree.specs.declared.Stmt.TheVariants as tree
-use Rattle.dp_plan.specs.declared.conditions.Enclosing.{Enclosing}
+use Rattle.dp_plan.specs.declared.Enclosing.{Enclosing}
 use Rattle.dp_plan.specs.Enclosing.{ifs, ifs_in, inner_whiles, inner_whiles_in, sites_of}
-use Rattle.dp_plan.specs.PlanText.{Each}
+use Rattle.dp_plan.specs.Each.{Each}
 use Rattle.dp_plan.specs.Written.{has}
 use Rattle.dp_plan.proofs.Found.{has_each}
-use Rattle.dp_plan.proofs.RunEnds.{each-lists}
+use Rattle.dp_plan.proofs.EachLemmas.{each-lists}
 use Rattle.dp_depend.specs.declared.nodes.Node.{Node}
 use Rattle.dp_depend.specs.Edges.{site_of}
 use Rattle.dp_depend.specs.Node.{loop_of, nodes, nodes_in}

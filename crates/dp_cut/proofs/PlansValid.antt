@@ -5,8 +5,8 @@ use Rattle.dp_tree.specs.Inlined.{IsInlined}
 use Rattle.dp_tree.specs.Numbering.{numbers_from}
 use Rattle.dp_plan.specs.declared.Plan.{Plan}
 use Rattle.dp_plan.specs.GivenPlans.{ArePlans, HasVersion, IsPlan, region_of}
-use Rattle.dp_plan.specs.PlanText.{Each}
-use Rattle.dp_plan.specs.WrittenText.{version_of}
+use Rattle.dp_plan.specs.Each.{Each}
+use Rattle.dp_plan.specs.GivenPlans.{version_of}
 use Rattle.dp_profile.specs.declared.Profile.{Profile}
 use Rattle.dp_cut.specs.Automatic.{AreAutomatic, IsAutomatic}
 use Rattle.dp_cut.proofs.LeastValid.{least_valid}

@@ -6,7 +6,7 @@ use Rattle.dp_tree.specs.declared.Program.{Program}
 use Rattle.dp_tree.specs.declared.Stmt.{Stmt}
 use Rattle.dp_tree.specs.declared.Stmt.TheVariants as tree
 use Rattle.dp_tree.specs.Inlined.{IsInlined}
-use Rattle.dp_plan.specs.PlanText.{Each}
+use Rattle.dp_plan.specs.Each.{Each}
 use Rattle.dp_plan.specs.Written.{has}
 use Rattle.dp_plan.proofs.Ascent.{Ascends, ascends-numbers_from}
 use Rattle.dp_plan.proofs.RegionOrder.{Sought, absent, present, find_region}

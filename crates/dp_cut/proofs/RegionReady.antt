@@ -2,7 +2,7 @@
 use Rattle.std.proofs.Common.{◌≡◌, refl, sym, ap, subst, ◌∙◌, ℕ, zero, suc, ◌+◌, ◌-◌, ◌<◌, ◌≤◌, ◌^◌, true, false, List, [], ◌∷◌, map, length, Option, Contains, arith}
 use Rattle.dp_tree.specs.declared.Program.{Program}
 use Rattle.dp_tree.specs.Inlined.{IsInlined}
-use Rattle.dp_plan.specs.PlanText.{AscendAbove}
+use Rattle.dp_plan.specs.Each.{AscendAbove}
 use Rattle.dp_plan.specs.Rules.{assumed_site}
 use Rattle.dp_plan.specs.Written.{has, region_sites}
 use Rattle.dp_plan.proofs.Ascent.{Ascends, above-ascends}

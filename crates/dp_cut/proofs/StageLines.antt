@@ -7,7 +7,7 @@ use Rattle.dp_tree.specs.declared.Program.{Program}
 use Rattle.dp_plan.specs.declared.StageKind.{StageKind}
 use Rattle.dp_plan.specs.declared.Plan.{Plan}
 use Rattle.dp_plan.specs.declared.WrittenStage.{WrittenStage}
-use Rattle.dp_plan.specs.PlanText.{AscendAbove}
+use Rattle.dp_plan.specs.Each.{AscendAbove}
 use Rattle.dp_plan.specs.Rules.{begins_sequential, is_replicated_kind, second_neighbour}
 use Rattle.dp_plan.specs.Stage.{stage_of}
 use Rattle.dp_plan.specs.Written.{has, lines_from, region_sites, sites_in}

@@ -5,8 +5,8 @@ use Rattle.std.proofs.lemmas.Bool.{cases_Bool, ltb-true, true≢false}
 use Rattle.dp_tree.specs.declared.Program.{Program}
 use Rattle.dp_plan.specs.declared.Plan.{Plan}
 use Rattle.dp_plan.specs.declared.WrittenPlan.{WrittenPlan}
-use Rattle.dp_plan.specs.declared.conditions.Enclosing.{Enclosing}
-use Rattle.dp_plan.specs.PlanText.{AscendAbove, Each}
+use Rattle.dp_plan.specs.declared.Enclosing.{Enclosing}
+use Rattle.dp_plan.specs.Each.{AscendAbove, Each}
 use Rattle.dp_plan.specs.Rules.{assumed_site, comes_late, is_late_unassumed, occurs_again}
 use Rattle.dp_plan.specs.Stage.{stage_of}
 use Rattle.dp_plan.specs.Written.{has, listed, region_sites, written_of, written_stage}

@@ -4,7 +4,7 @@ use Rattle.dp_tree.specs.declared.Program.{Program}
 use Rattle.dp_tree.specs.Numbering.{numbers_from}
 use Rattle.dp_plan.specs.declared.Plan.{Plan}
 use Rattle.dp_plan.specs.GivenPlans.{region_of}
-use Rattle.dp_plan.specs.PlanText.{Each}
+use Rattle.dp_plan.specs.Each.{Each}
 use Rattle.dp_profile.specs.declared.Profile.{Profile}
 use Rattle.dp_depend.specs.declared.Edge.{Edge}
 use Rattle.dp_depend.specs.declared.nodes.Node.{Node}

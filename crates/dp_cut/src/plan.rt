@@ -12,6 +12,7 @@ use crate::sums::{at_site, carried_pairs, unit_weights};
 use dp_base::{NoMemory, Row};
 use dp_depend::{Graph, Node, nodes_of};
 use dp_plan::{Plan, StageKind};
+use dp_sites::tabled;
 use dp_tree::{Assume, Program};
 use dp_units::Units;
 use std::alloc::Global;
@@ -158,7 +159,7 @@ fn plan_of_cut(
         proved: true,
         checked_at: Row::new(alloc),
     };
-    plan.tabled(alloc, p)
+    tabled(alloc, p, plan)
 }
 
 /// The least plan of a region: its units, in their order, are cut into at most so many stages. `weights` has one number

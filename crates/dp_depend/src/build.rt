@@ -12,8 +12,8 @@ use crate::edges::Basis;
 use crate::kept::{Shown, region_profile};
 use crate::nodes::nodes_of;
 use dp_base::NoMemory;
-use dp_plan::Apart;
 use dp_profile::{Profile, RegionProfile};
+use dp_sites::Apart;
 use dp_tree::Program;
 use std::alloc::Global;
 

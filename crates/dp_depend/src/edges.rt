@@ -1,7 +1,7 @@
 //! The edges between the sites of a region.
 ghost use Rattle.std.specs.Prelude.{◌≡◌, ◌++◌, IfOk, OnOk, Option, Some, None, map, slice_get, true};
 ghost use Rattle.dp_plan.specs.Stage as stages;
-ghost use Rattle.dp_plan.specs.Apart.{TellsApart};
+ghost use Rattle.dp_sites.specs.Apart.{TellsApart};
 ghost use Rattle.dp_plan.specs.IsFar.{is_far, is_far_within};
 ghost use Rattle.dp_plan.specs.Written as written;
 ghost use Rattle.dp_plan.specs.Written.{has, region_sites};
@@ -13,7 +13,7 @@ use crate::kept::Shown;
 use crate::nodes::Node;
 use crate::{Edge, EdgeKind};
 use dp_base::{NoMemory, Row};
-use dp_plan::Apart;
+use dp_sites::Apart;
 use dp_tree::{Assume, Program, VarScope};
 use std::alloc::Global;
 

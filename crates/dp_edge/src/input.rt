@@ -4,14 +4,9 @@ ghost use Rattle.std.specs.List.{position};
 ghost use Rattle.dp_edge.specs.Input.{is_blank, words, number_of, numbers_from, numbers_of, AnswersInput};
 ghost use Rattle.dp_edge.specs.Digits.{digit_after, magnitude_of};
 
+use dp_base::limits::{COUNTED, INPUT_WORDS};
 use dp_base::{NoMemory, Row};
 use std::alloc::Global;
-
-/// An input has at most so many words.
-const MOST_WORDS: usize = 65_536;
-
-/// More words than this are counted as so many.
-const MOST_COUNTED: usize = 1_000_000;
 
 /// Why a text is no input.
 #[derive(Clone, Copy, Debug, PartialEq, Eq)]
@@ -136,9 +131,9 @@ pub fn read_input(alloc: Global, bytes: &[u8]) -> Result<Row<i64>, InputFail>
     ensures { AnswersInput result (numbers_of bytes.now) }
 {
     let count = count_words(bytes);
-    if count > MOST_WORDS {
+    if count > INPUT_WORDS as usize {
         return Err(InputFail::TooMany {
-            count: count.min(MOST_COUNTED) as u32,
+            count: count.min(COUNTED as usize) as u32,
         });
     }
     read_words(alloc, bytes, count)

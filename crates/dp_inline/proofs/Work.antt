@@ -68,5 +68,3 @@ pub work_called : (p : Program) (depth f : ℕ) (fn : Function) → slice_get p.
 unfolding work_within
 work_called p zero f fn h more = absurd (omega arith)
 work_called p (suc depth) f fn h more = let e : suc depth - 1 ≡ depth = omega arith in ap (λ d. work_list (work_within p d) fn.body) e ∙ ap (λ o. work_list (work_within p depth) (body_in o)) (sym h)
-
-pub ruleset work_forms = (work-If, work-While, work-Region, work-Call)

@@ -6,16 +6,10 @@ ghost use Rattle.dp_inline.specs.Verdict.{Gives, reported, unless, too_large, fi
 ghost use Rattle.dp_inline.specs.Counted.{counted, counted_one, counted_list, counted_more, counted_region, first_large};
 
 use crate::InlineFail;
+use dp_base::limits::{COUNTED, INLINED_SIZE, REGION_SITES};
 use dp_base::{NoMemory, Quantity, Row};
 use dp_tree::{Program, Stmt};
 use std::alloc::Global;
-
-const MOST_INLINED: u32 = 8_192;
-
-const MOST_IN_REGION: u32 = 1_024;
-
-/// A greater count is reported as this one.
-const MOST_REPORTED: u32 = 1_000_000;
 
 /// The sum of two counts, as it is reported.
 fn sum(a: u32, b: u32) -> u32
@@ -23,14 +17,14 @@ fn sum(a: u32, b: u32) -> u32
     requires right { b ≤ 1000000 }
     ensures { result ≡ min (a + b) 1000000 }
 {
-    (a + b).min(MOST_REPORTED)
+    (a + b).min(COUNTED)
 }
 
 /// The number of arguments, as it is reported.
 fn bindings(args: usize) -> u32
     ensures { result ≡ min args 1000000 }
 {
-    args.min(MOST_REPORTED as usize) as u32
+    args.min(COUNTED as usize) as u32
 }
 
 /// The size of a function's body, from the sizes of the functions so far.
@@ -38,7 +32,7 @@ fn size_at(sizes: &[u32], function: u32) -> u32
     ensures { result ≡ counted sizes.now function }
 {
     match sizes.get(function as usize) {
-        Some(size) => (*size).min(MOST_REPORTED),
+        Some(size) => (*size).min(COUNTED),
         None => 0,
     }
 }
@@ -119,7 +113,7 @@ fn large_region(sizes: &[u32], all: &[Stmt]) -> Option<u32>
 {
     for s in all {
         let count = region_size(sizes, s);
-        if count > MOST_IN_REGION {
+        if count > REGION_SITES {
             return Some(count);
         }
     }
@@ -132,7 +126,7 @@ pub fn within(alloc: Global, p: &Program) -> Result<(), InlineFail>
 {
     let counts = sizes(alloc, 1, p)?;
     let count = size_of_all(1, counts.as_slice(), p.main.as_slice());
-    if count > MOST_INLINED {
+    if count > INLINED_SIZE {
         return Err(InlineFail::Limit {
             quantity: Quantity::InlinedSize,
             count,

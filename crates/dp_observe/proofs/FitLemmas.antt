@@ -7,7 +7,7 @@ use Rattle.dp_tree.specs.declared.Program.{Program}
 use Rattle.dp_tree.specs.Inlined.{IsInlined}
 use Rattle.dp_tree.specs.Step.{Event, Config, Step, Finished, Faulted, Stepped, step}
 use Rattle.dp_tree.specs.Trace.{run_of, run_by, begin}
-use Rattle.dp_plan.specs.PlanText.{Each}
+use Rattle.dp_plan.specs.Each.{Each}
 use Rattle.dp_profile.specs.declared.Flow.{Flow}
 use Rattle.dp_profile.specs.declared.sites.RegionSite.{RegionSite}
 use Rattle.dp_profile.specs.Sites.{regions}

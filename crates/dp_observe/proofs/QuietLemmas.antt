@@ -17,7 +17,7 @@ use Rattle.dp_tree.specs.Numbering.{is_marked, site_numbers_all}
 use Rattle.dp_tree.specs.Step.{Config, Effect, Stored, Event, Step, Finished, Faulted, Stepped, choose, followed, behind_region, behind_one, region_number, after_effect, site_of, evaluated, value_of, step, step_at, step_by, stored_by}
 use Rattle.dp_tree.specs.Trace.{run_of, run_by, begin, start_cells}
 use Rattle.dp_tree.proofs.Heads.{standing_to_do}
-use Rattle.dp_plan.specs.PlanText.{Each}
+use Rattle.dp_plan.specs.Each.{Each}
 use Rattle.dp_plan.proofs.Ascent.{Ascends, ascends-numbers_from}
 use Rattle.dp_profile.specs.declared.sites.RegionSite.{RegionSite}
 use Rattle.dp_profile.specs.Lists.{site_list, site_lists}

@@ -193,17 +193,6 @@ mutual
   parts_back (token a s) = further (parts_back s)
   parts_back (part d s rest) = back_join (spans_back s) (parts_back rest)
 
-mutual
-  pub begins_back : {n : Nonterminal} {from to : List Lexeme} → Begins n from to → Back from to
-  begins_back rule.nothing = here
-  begins_back (rule.by r b) = begins_parts_back b
-
-  begins_parts_back : {parts : List Part} {from to : List Lexeme} → BeginsParts parts from to → Back from to
-  begins_parts_back rule.none = here
-  begins_parts_back (rule.within b) = begins_back b
-  begins_parts_back (rule.token a b) = further (begins_parts_back b)
-  begins_parts_back (rule.past {n} {from} {middle} d b) = back_join (spans_back (derived_spans n from middle d)) (begins_parts_back b)
-
 -- ---- the fronts
 
 order : (x middle : List Lexeme) → (length middle ≤ length x) ⊎ (length x ≤ length middle)

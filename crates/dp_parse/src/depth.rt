@@ -6,13 +6,8 @@ ghost use Rattle.dp_parse.specs.Depth as spec;
 
 use crate::symbol::{Symbol, symbol_of};
 use dp_base::Quantity;
+use dp_base::limits::{ELSE_IF, NESTING, OPERATORS};
 use dp_lex::Token;
-
-const MAX_NESTING: u32 = 64;
-
-const MAX_OPERATORS: u32 = 64;
-
-const MAX_ELSE_IF: u32 = 256;
 
 fn opens(symbol: Symbol) -> bool
     ensures { result ≡ spec.opens symbol }
@@ -135,15 +130,15 @@ pub fn depth_fault(tokens: &[Token<'_>]) -> Option<(Quantity, u32)>
     ensures { result ≡ spec.depth_fault (map lexeme tokens.now) }
 {
     let nesting = nesting(tokens);
-    if nesting > MAX_NESTING {
+    if nesting > NESTING {
         return Some((Quantity::Nesting, nesting));
     }
     let operators = operators(tokens);
-    if operators > MAX_OPERATORS {
+    if operators > OPERATORS {
         return Some((Quantity::Operators, operators));
     }
     let else_if = else_if(tokens);
-    if else_if > MAX_ELSE_IF {
+    if else_if > ELSE_IF {
         return Some((Quantity::ElseIf, else_if));
     }
     None

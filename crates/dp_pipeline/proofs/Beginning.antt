@@ -2,7 +2,7 @@
 use Rattle.std.proofs.Common.{arith, ◌≡◌, ◌<◌, ◌≤◌, ◌^◌, ℕ, zero, suc, ◌+◌, ◌-◌, Bool, false, List, [], ◌∷◌, ◌++◌, ℤ, length, replicate, Option, Some, None, sym, ap, ◌∙◌, subst, refl}
 use Rattle.dp_tree.specs.declared.Program.{Program}
 use Rattle.dp_plan.specs.declared.Plan.{Plan}
-use Rattle.dp_plan.specs.PlanText.{Each}
+use Rattle.dp_plan.specs.Each.{Each}
 use Rattle.dp_semantics.specs.EpochKey.{EpochKey, epoch_of}
 use Rattle.dp_lane.specs.declared.rule.View.TheVariants.{Sender, Taker}
 use Rattle.dp_lane.specs.Ends.{End, new_end}

@@ -1,7 +1,7 @@
 //! How the units that run one stage are made.
 ghost use Rattle.std.specs.Prelude.{◌≡◌, ◌≤◌, ◌<◌, ◌-◌, ℕ, suc, true, false, Some, length, IfOk};
 ghost use Rattle.dp_plan.specs.Access.{is_replicated};
-ghost use Rattle.dp_plan.specs.PlanText.{Each};
+ghost use Rattle.dp_plan.specs.Each.{Each};
 ghost use Rattle.dp_semantics.specs.EpochKey.{EpochKey};
 ghost use Rattle.dp_pipeline.specs.Keys.{key_of};
 ghost use Rattle.dp_pipeline.specs.Seats.{IsUnused};

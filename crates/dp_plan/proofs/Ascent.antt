@@ -2,7 +2,7 @@
 use Rattle.std.proofs.Common.{◌≡◌, refl, sym, ap, subst, ℕ, zero, suc, ◌+◌, ◌<◌, ◌≤◌, ◌^◌, Bool, List, [], ◌∷◌, ◌++◌, length, filter, inl, inr, arith}
 use Rattle.std.proofs.lemmas.Bool.{cases_Bool}
 use Rattle.dp_tree.specs.Numbering.{numbers_from}
-use Rattle.dp_plan.specs.PlanText.{AscendAbove, Each}
+use Rattle.dp_plan.specs.Each.{AscendAbove, Each}
 
 -- the numbers go up one by one from k
 abbrev pub Ascends : ℕ → List ℕ → Type 0

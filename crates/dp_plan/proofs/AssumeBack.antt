@@ -2,7 +2,8 @@
 use Rattle.std.proofs.Common.{◌≡◌, refl, sym, ap, subst, ◌∙◌, ℕ, ◌<◌, ◌≤◌, ◌==◌, true, false, List, [], ◌∷◌, map, None, filter_map, inl, inr, arith, eq-eqb, eqb-true, ne_eqb}
 use Rattle.std.proofs.lemmas.Bool.{cases_Bool}
 use Rattle.dp_tree.specs.declared.Assume.{Assume}
-use Rattle.dp_plan.specs.PlanText.{AscendAbove, Each, AssumeFits}
+use Rattle.dp_plan.specs.Each.{AscendAbove, Each}
+use Rattle.dp_plan.specs.PlanFits.{AssumeFits}
 use Rattle.dp_plan.specs.Written.{has, assumption_at}
 use Rattle.dp_plan.specs.Rules.{assumed_site}
 use Rattle.dp_plan.proofs.Ascent.{above_each}

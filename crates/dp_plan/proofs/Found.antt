@@ -1,7 +1,7 @@
 -- Numbers that are found in a list.
 use Rattle.std.proofs.Common.{◌≡◌, refl, sym, ap, subst, ℕ, ◌==◌, Bool, true, false, ◌||◌, List, [], ◌∷◌, map, filter, length, inl, inr, ◌<◌, ◌≤◌, arith, eq-eqb, eqb-true, ne_eqb}
 use Rattle.std.proofs.lemmas.Bool.{cases_Bool, or_right}
-use Rattle.dp_plan.specs.PlanText.{Each}
+use Rattle.dp_plan.specs.Each.{Each}
 use Rattle.dp_plan.specs.Written.{has}
 
 pub has_each : (P : ℕ → Type 0) (ns : List ℕ) (n : ℕ) → Each P ns → has n ns ≡ true → P n

@@ -11,7 +11,8 @@ use Rattle.dp_plan.specs.CheckedTable.{with_table}
 use Rattle.dp_plan.specs.Written.{WrittenPlan, assumption_at, has, kind_in, plan_before_table, plan_of, region_sites, written_of, written_stage}
 use Rattle.dp_plan.specs.Enclosing.{region_ifs}
 use Rattle.dp_plan.specs.Rules.{assumed_site, is_no_if_or_again, occurs_again, site_of_condition}
-use Rattle.dp_plan.specs.PlanText.{AscendAbove, Each, PlanFits}
+use Rattle.dp_plan.specs.Each.{AscendAbove, Each}
+use Rattle.dp_plan.specs.PlanFits.{PlanFits}
 use Rattle.dp_plan.specs.GivenPlans.{IsPlan}
 use Rattle.dp_plan.proofs.Ascent.{above-ascends}
 use Rattle.dp_plan.proofs.AssumeBack.{assume_back, assumed_fit}

@@ -1,11 +1,11 @@
 -- What it says of a written plan that none of its rules is broken.
-use Rattle.std.proofs.Common.{◌≡◌, refl, ℕ, suc, Bool, true, false, not, List, [], ◌∷◌, map, filter, Option, Some, None, is_none, inl, inr}
+use Rattle.std.proofs.Common.{◌≡◌, refl, ℕ, suc, ◌==◌, Bool, true, false, not, List, [], ◌∷◌, map, filter, Option, Some, None, is_none, inl, inr}
 use Rattle.std.proofs.lemmas.Bool.{cases_Bool, not-false}
 use Rattle.dp_tree.specs.declared.Program.{Program}
-use Rattle.dp_plan.specs.PlanText.{Each}
-use Rattle.dp_plan.specs.Written.{WrittenPlan, has, listed, region_sites}
-use Rattle.dp_plan.specs.Enclosing.{region_ifs}
-use Rattle.dp_plan.specs.Rules.{assumed_site, is_late_unassumed, is_no_if_or_again, least, lesser, occurs_again, site_of_condition}
+use Rattle.dp_plan.specs.Each.{Each}
+use Rattle.dp_plan.specs.Written.{WrittenPlan, has, listed, region_sites, written_stage}
+use Rattle.dp_plan.specs.Enclosing.{region_ifs, region_inner_whiles}
+use Rattle.dp_plan.specs.Rules.{assumed_site, begins_sequential, comes_late, condition, condition_unless, is_late_unassumed, is_no_if_or_again, least, least_site_in, lesser, occurs_again, second_neighbour, site_of_condition}
 use Rattle.dp_plan.specs.Valid.{BrokenRule, broken_from, first_broken, is_valid, rules}
 
 no_rule : (o : Option BrokenRule) → is_none o ≡ true → o ≡ None
@@ -25,7 +25,7 @@ lesser_some : (n : ℕ) (o : Option ℕ) → lesser n o ≡ None → ⊥
 lesser_some n None e = cc e
 lesser_some n (Some m) e = cc e
 
-none_least : (ns : List ℕ) → least ns ≡ None → ns ≡ []
+pub none_least : (ns : List ℕ) → least ns ≡ None → ns ≡ []
 none_least [] e = refl
 none_least (n ∷ rest) e = absurd (lesser_some n (least rest) e)
 
@@ -36,13 +36,17 @@ none_kept test (n ∷ ns) e = elim (cases_Bool (test n)) [
   | inr t ↦ (t, none_kept test ns (rw t at e))
 ]
 
-none_mapped : {X : Type 0} (f : X → ℕ) (xs : List X) → map f xs ≡ [] → xs ≡ []
+none_mapped : {X Y : Type 0} (f : X → Y) (xs : List X) → map f xs ≡ [] → xs ≡ []
 none_mapped f [] e = refl
 none_mapped f (x ∷ xs) e = absurd (cc e)
 
 each_not : (test : ℕ → Bool) (ns : List ℕ) → Each (λ n. not (test n) ≡ false) ns → Each (λ n. test n ≡ true) ns
 each_not test [] each = tt
 each_not test (n ∷ ns) each = (not-false (test n) each.0, each_not test ns each.1)
+
+met : (p : Program) (w : WrittenPlan) (b : Bool) → condition_unless p w b ≡ None → b ≡ true
+met p w true e = refl
+met p w false e = absurd (cc e)
 
 module _ (p : Program) (w : WrittenPlan) (valid : first_broken p w ≡ None) where
   pub holds : Each (λ o. o ≡ None) (rules p w)
@@ -56,6 +60,18 @@ module _ (p : Program) (w : WrittenPlan) (valid : first_broken p w ≡ None) whe
 
   pub none_foreign : Each (λ site. has site (region_sites p w.region) ≡ true) (listed w)
   none_foreign = each_not (λ site. has site (region_sites p w.region)) (listed w) (none_kept (λ site. not (has site (region_sites p w.region))) (listed w) (none_least _ holds.1.1.0))
+
+  pub condition_first : (written_stage w (condition p w) == 1) ≡ true
+  condition_first = met p w _ holds.1.1.1.0
+
+  pub sequential_first : begins_sequential w.stages ≡ true
+  sequential_first = met p w _ holds.1.1.1.1.0
+
+  pub none_beside : least_site_in (second_neighbour w.stages) ≡ None
+  none_beside = holds.1.1.1.1.1.0
+
+  pub whiles_in_time : Each (λ e. comes_late w e ≡ false) (region_inner_whiles p w.region)
+  whiles_in_time = none_kept (comes_late w) (region_inner_whiles p w.region) (none_mapped site_of_condition _ (none_least _ holds.1.1.1.1.1.1.0))
 
   pub ifs_in_time : Each (λ e. is_late_unassumed w e ≡ false) (region_ifs p w.region)
   ifs_in_time = none_kept (is_late_unassumed w) (region_ifs p w.region) (none_mapped site_of_condition (filter (is_late_unassumed w) (region_ifs p w.region)) (none_least _ holds.1.1.1.1.1.1.1.0))

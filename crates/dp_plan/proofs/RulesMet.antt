@@ -1,7 +1,7 @@
 -- A written plan of which each rule is met breaks none.
 use Rattle.std.proofs.Common.{◌≡◌, refl, ap, ◌∙◌, ℕ, suc, Bool, true, false, not, ◌==◌, List, [], ◌∷◌, map, filter, Option, None}
 use Rattle.dp_tree.specs.declared.Program.{Program}
-use Rattle.dp_plan.specs.PlanText.{Each}
+use Rattle.dp_plan.specs.Each.{Each}
 use Rattle.dp_plan.specs.Written.{WrittenPlan, has, listed, region_sites, written_stage}
 use Rattle.dp_plan.specs.Enclosing.{Enclosing, region_ifs, region_inner_whiles}
 use Rattle.dp_plan.specs.Rules.{assumed_site, begins_sequential, comes_late, condition, condition_later, condition_unless, first_replicated, foreign, is_late_unassumed, is_no_if_or_again, late_if, late_while, least, least_site_in, listed_twice, neighbours_replicated, not_listed, occurs_again, second_neighbour, site_of_condition, wrongly_assumed}

@@ -2,7 +2,7 @@
 use Rattle.std.proofs.Common.{◌≡◌, refl, sym, ap, subst, ◌∙◌, ℕ, ◌+◌, ◌<◌, ◌≤◌, ◌==◌, Bool, true, false, cond, List, [], ◌∷◌, ◌++◌, count_by, inl, inr, arith, eq-eqb, eqb-true}
 use Rattle.std.proofs.lemmas.Bool.{cases_Bool, or_right}
 use Rattle.std.proofs.lemmas.List.Sums.{sum_by-cons, sum_by-append}
-use Rattle.dp_plan.specs.PlanText.{AscendAbove}
+use Rattle.dp_plan.specs.Each.{AscendAbove}
 use Rattle.dp_plan.specs.Written.{has}
 use Rattle.dp_plan.proofs.Ascent.{above_each}
 use Rattle.dp_plan.proofs.Found.{has_each, past, past_other}

@@ -10,7 +10,8 @@ use Rattle.dp_plan.specs.declared.StageKind.{StageKind}
 use Rattle.dp_plan.specs.declared.Plan.{Plan}
 use Rattle.dp_plan.specs.Stage.{first_site, stage_of}
 use Rattle.dp_plan.specs.Written.{has, kind_in, sites_in, stage_from, region_sites, lines_from}
-use Rattle.dp_plan.specs.PlanText.{AscendAbove, Each, StageFits}
+use Rattle.dp_plan.specs.Each.{AscendAbove, Each}
+use Rattle.dp_plan.specs.PlanFits.{StageFits}
 use Rattle.dp_plan.proofs.Ascent.{Ascends, above-filter}
 use Rattle.dp_plan.proofs.Found.{has-filter, kept_some}
 

@@ -1,11 +1,11 @@
 -- The sites that a plan has checked: those whose loads may differ from the source's. A plan of version 2 leaves out what is known to lie apart.
-use Rattle.std.specs.Prelude.{ℕ, if◌then◌else◌, ◌==◌, Bool, false, true, not, ◌&&◌, ◌||◌, List, [], ◌∷◌, ◌++◌, nat_lt}
+use Rattle.std.specs.Prelude.{ℕ, if◌then◌else◌, ◌==◌, Bool, not, ◌&&◌, ◌||◌, List, [], ◌∷◌, ◌++◌}
 use Rattle.std.specs.List.{list_any, flat_map}
 use Rattle.dp_tree.specs.declared.Stmt.{Stmt, Row_of-Stmt, end_of-Stmt, more_of-Stmt}
 use Rattle.dp_tree.specs.declared.Stmt.TheVariants.{Assign, Store, Print, If', While', Region', Break, Call}
 use Rattle.dp_tree.specs.declared.Program.{Program}
 use Rattle.dp_plan.specs.declared.Plan.{Plan}
-use Rattle.dp_plan.specs.Access.{Access, accesses, accesses_in, region_in, region_accesses, stage_of, is_stored_after, is_stored_beside}
+use Rattle.dp_plan.specs.Access.{Access, accesses, region_in, region_accesses, stage_of, is_stored_after, is_stored_beside}
 use Rattle.dp_plan.specs.IsFar.{is_far, is_far_within}
 
 -- one of these is the site

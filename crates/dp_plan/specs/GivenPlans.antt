@@ -1,17 +1,13 @@
 -- What is so of plans that are given for a program.
-use Rattle.std.specs.Prelude.{◌≡◌, ◌⊎◌, ℕ, ◌≤◌, Bool, true, List, map, length, Result, Ok, Err}
+use Rattle.std.specs.Prelude.{◌≡◌, ℕ, ◌≤◌, Bool, true, List, [], ◌∷◌, map, length}
 use Rattle.dp_tree.specs.declared.Program.{Program}
 use Rattle.dp_tree.specs.Numbering.{numbers_from}
 use Rattle.dp_plan.specs.declared.Plan.{Plan}
-use Rattle.dp_plan.specs.declared.PlanFail.{PlanFail}
-use Rattle.dp_plan.specs.declared.PlanFail.TheVariants.{NoMemory}
 use Rattle.dp_plan.specs.Written.{region_sites, has}
 use Rattle.dp_plan.specs.Rules.{assumed_site}
 use Rattle.dp_plan.specs.Valid.{is_valid_plan}
-use Rattle.dp_plan.specs.PlanText.{AscendAbove, Each}
+use Rattle.dp_plan.specs.Each.{AscendAbove, Each}
 use Rattle.dp_plan.specs.CheckedTable.{checked_table}
-use Rattle.dp_plan.specs.Refused.{ReadsAs}
-use Rattle.dp_plan.specs.WrittenText.{version_of}
 
 -- the plan fits its region
 pub record IsPlan (p : Program) (plan : Plan) : Type 0 where
@@ -40,12 +36,13 @@ region_of plan = plan.region
 abbrev pub HasVersion : Bool → Plan → Type 0
 HasVersion proved plan = plan.proved ≡ proved
 
+-- the version of plans that have one; without a plan it is the one with proved independence
+abbrev pub version_of : List Plan → Bool
+version_of [] = true
+version_of (plan ∷ rest) = plan.proved
+
 -- there is a plan for each region, in order, and all have one version
 pub record ArePlans (p : Program) (plans : List Plan) : Type 0 where
   pub regions : map region_of plans ≡ numbers_from 1 (length p.regions)
   pub each : Each (IsPlan p) plans
   pub version : Each (HasVersion (version_of plans)) plans
-
--- Reading the text gives these plans and nothing else, unless memory is wanting.
-abbrev pub ReadsOnly : Program → List ℕ → List Plan → Type 0
-ReadsOnly p bytes plans = (result : Result (List Plan) PlanFail) → ReadsAs p bytes result → (result ≡ Ok plans) ⊎ (result ≡ Err NoMemory)

@@ -1,5 +1,5 @@
 -- Whether two sites of a region are far from each other, read off the text.
-use Rattle.std.specs.Prelude.{ℕ, zero, suc, ◌+◌, ◌==◌, if◌then◌else◌, Bool, true, false, not, ◌&&◌, ◌||◌, List, [], ◌∷◌, ◌++◌, length, ℤ, pos, negsuc, ◌+ℤ◌, ◌-ℤ◌, Option, Some, None, ◌%◌, nat_lt, slice_get, count_by, int_le}
+use Rattle.std.specs.Prelude.{ℕ, suc, ◌==◌, if◌then◌else◌, Bool, false, not, ◌&&◌, ◌||◌, List, [], ◌∷◌, ◌++◌, length, ℤ, pos, negsuc, ◌+ℤ◌, ◌-ℤ◌, Option, Some, None, ◌%◌, nat_lt, slice_get, count_by, int_le}
 use Rattle.std.specs.List.{list_all, list_any, flat_map}
 use Rattle.dp_tree.specs.declared.Expr.{Expr}
 use Rattle.dp_tree.specs.declared.Stmt.{Stmt, Row_of-Stmt, end_of-Stmt, more_of-Stmt, out-Stmt}
@@ -8,7 +8,6 @@ use Rattle.dp_tree.specs.declared.Stmt.TheOpen.{Stmt-F, Region}
 use Rattle.dp_tree.specs.declared.VarInfo.{VarInfo}
 use Rattle.dp_tree.specs.declared.Program.{Program}
 use Rattle.dp_tree.specs.Numbering.{numbers_from}
-use Rattle.dp_tree.specs.Step.{site_of}
 use Rattle.dp_plan.specs.Stage.{is_local}
 use Rattle.dp_plan.specs.Access.{accesses, region_in, stores_var}
 use Rattle.dp_plan.specs.Touch.{Touch, reads, offset, stride_of}
@@ -45,10 +44,6 @@ abbrev mutual
   pub touches_in : {n : _} → Row_of-Stmt n → List SiteTouch
   touches_in end_of-Stmt = []
   touches_in (more_of-Stmt s rest) = touches s ++ touches_in rest
-
--- the sites of region r
-abbrev pub region_touches : Program → ℕ → List SiteTouch
-region_touches p r = flat_map touches (region_in p r)
 
 -- the statements at the top of a region's body
 abbrev pub body_of : Stmt-F Stmt → List Stmt

@@ -2,7 +2,7 @@
 use Rattle.std.specs.Prelude.{ℕ, suc, Bool, List, [], ◌∷◌, Option, Some, None, is_none}
 use Rattle.dp_tree.specs.declared.Program.{Program}
 use Rattle.dp_plan.specs.declared.Plan.{Plan}
-pub use Rattle.dp_plan.specs.declared.rules.BrokenRule.{BrokenRule}
+pub use Rattle.dp_plan.specs.declared.BrokenRule.{BrokenRule}
 use Rattle.dp_plan.specs.Written.{WrittenPlan, written_of}
 use Rattle.dp_plan.specs.Rules.{not_listed, listed_twice, foreign, condition_later, first_replicated, neighbours_replicated, late_while, late_if, wrongly_assumed}
 

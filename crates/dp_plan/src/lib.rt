@@ -1,37 +1,16 @@
 //! Plans: how the sites of a region are spread over the stages of a pipeline.
 //!
-//! `specs/` says which plans are valid, which sites a plan has checked, and how plans are written as a text.
+//! `specs/` says which plans are valid, and which sites a plan has checked.
 #![tactic(auto)]
 
-use dp_base::{NoMemory, Row, SiteId};
+use dp_base::Row;
 use dp_tree::Assume;
 
-mod apart;
-mod conditions;
-mod law;
-mod least;
-mod line;
-mod moving;
-mod one_stage;
-mod part;
-mod place;
-mod read;
-mod reader;
-mod rules;
-mod sites;
+mod checked;
 mod stage;
-mod table;
-mod text;
-mod words;
-mod write;
 
-pub use apart::Apart;
-pub use law::{read_plans_are_plans, written_plans_are_read};
-pub use one_stage::one_stage_plans;
-pub use read::read_plans;
+pub use checked::tables_are_right;
 pub use stage::is_region;
-pub use table::tables_are_right;
-pub use write::write_plans;
 
 /// Whether one unit runs a stage's iterations in order, or several take different ones.
 ///
@@ -78,32 +57,16 @@ pub struct WrittenPlan {
     pub assume: Row<Assume>,
 }
 
-/// The plans of a text, which need not fit the program.
+/// A condition of a region, and the sites at any depth inside its statement.
 #[derive(Drop)]
-pub struct WrittenPlans {
-    /// The text is of version 2.
-    pub proved: bool,
-    pub plans: Row<WrittenPlan>,
+pub struct Enclosing {
+    pub site: u32,
+    pub inside: Row<u32>,
 }
 
-/// Why a text gives no plans.
+/// A rule that fails, from 1 to 9, and the site that it names.
 #[derive(Clone, Copy, Debug, PartialEq, Eq)]
-pub enum PlanFail {
-    /// It isn't in the grammar: the first line, from 1, up to which no text of the grammar begins so.
-    Refused { line: u64 },
-    /// A rule fails, with the site that it names.
-    Invalid { rule: u32, site: SiteId },
-    /// Memory was wanting.
-    NoMemory,
-}
-
-impl From<NoMemory> for PlanFail {
-    ghost use Rattle.std.specs.Prelude.{◌≡◌};
-    ghost use Rattle.dp_plan.specs.declared.PlanFail.TheVariants.{NoMemory};
-
-    ghost from_gives = { λ _ fail. fail ≡ NoMemory };
-
-    fn from(_wanting: NoMemory) -> PlanFail {
-        PlanFail::NoMemory
-    }
+pub struct BrokenRule {
+    pub rule: u32,
+    pub site: u32,
 }

@@ -38,7 +38,8 @@ impl Plan {
         }
     }
 
-    pub(crate) fn first_site(&self, p: &Program) -> u32
+    /// The first site of the plan's region.
+    pub fn first_site(&self, p: &Program) -> u32
         ensures { result ≡ stages.first_site p.now self.now }
     {
         let place = (self.region as usize).saturating_sub(1);
@@ -57,7 +58,8 @@ impl Plan {
         }
     }
 
-    pub(crate) fn is_replicated(&self, stage: u32) -> bool
+    /// The stage is there and is replicated.
+    pub fn is_replicated(&self, stage: u32) -> bool
         ensures { result ≡ stages.is_replicated self.now stage }
     {
         if stage == 0 {
@@ -69,7 +71,8 @@ impl Plan {
         }
     }
 
-    pub(crate) fn is_body_local(&self, p: &Program, var: VarId) -> bool
+    /// The variable is a body local of the plan's region.
+    pub fn is_body_local(&self, p: &Program, var: VarId) -> bool
         ensures { result ≡ stages.is_body_local p.now self.now var.0 }
     {
         match p.vars.get(var.0 as usize) {

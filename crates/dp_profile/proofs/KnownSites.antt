@@ -7,7 +7,7 @@ use Rattle.dp_tree.specs.declared.Stmt.{Stmt, Row_of-Stmt, end_of-Stmt, more_of-
 use Rattle.dp_tree.specs.declared.Stmt.TheVariants as tree
 use Rattle.dp_tree.specs.Inlined.{IsInlined}
 use Rattle.dp_tree.specs.Numbering.{is_marked, site_numbers, site_numbers_in, site_numbers_all}
-use Rattle.dp_plan.specs.PlanText.{Each}
+use Rattle.dp_plan.specs.Each.{Each}
 use Rattle.dp_plan.proofs.Ascent.{Ascends, ascends_split, ascends-numbers_from, length-numbers_from}
 use Rattle.dp_profile.specs.Sites.{RegionSite, sites, sites_in, regions}
 use Rattle.dp_profile.proofs.LineComplete.{top}

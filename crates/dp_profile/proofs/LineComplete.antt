@@ -1,8 +1,8 @@
 -- Each line that fits is read from its words.
 use Rattle.std.proofs.Common.{◌≡◌, ℕ, ◌<◌, ◌≤◌, Bool, true, false, nat_lt, nat_le, [], ◌∷◌, Option, Some, codes, decimal, refl, ap, ◌∙◌, rules, arith}
-use Rattle.dp_plan.specs.PlanText.{joined}
-use Rattle.dp_plan.specs.Words.{words}
-use Rattle.dp_plan.proofs.JoinLemmas.{IsWord, words-joined}
+use Rattle.dp_plan_text.specs.PlanText.{joined}
+use Rattle.dp_plan_text.specs.Words.{words}
+use Rattle.dp_plan_text.proofs.JoinLemmas.{IsWord, words-joined}
 use Rattle.dp_profile.specs.declared.SiteCount.{SiteCount}
 use Rattle.dp_profile.specs.declared.Flow.{Flow}
 use Rattle.dp_profile.specs.declared.line.Line.{Line}

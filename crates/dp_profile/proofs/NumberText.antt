@@ -4,8 +4,9 @@ use Rattle.std.specs.Prelude.{if◌then◌else◌}
 use Rattle.std.specs.List.{list_all}
 use Rattle.std.proofs.lemmas.Str.Parse.{IsNumeralModel, numerals_by_fold}
 use Rattle.std.proofs.lemmas.Fmt.{digits_decimal, digits_value-decimal, decimal_nonempty, first_decimal, decimal-digits_value, decimal_digit}
-use Rattle.dp_plan.specs.Words.{is_digit, is_plain, value_after}
-use Rattle.dp_plan.proofs.JoinLemmas.{IsWord}
+use Rattle.dp_plan_text.specs.Words.{is_digit, is_plain, value_after}
+use Rattle.dp_plan_text.proofs.Unbroken.{Unbroken, unbroken-digits}
+use Rattle.dp_plan_text.proofs.JoinLemmas.{IsWord}
 use Rattle.dp_profile.specs.Numbers.{value_upto, number_upto}
 
 own : IsNumeralModel (λ ds. list_all is_digit ds ≡ true) (value_after 0)
@@ -70,29 +71,20 @@ module _ (most : ℕ) (wide : most < 2 ^ 64) where
 
 -- ---- digits are a word, and have no LF
 
--- no LF stands there
-abbrev pub no_end : List ℕ → Bool
-no_end [] = true
-no_end (byte ∷ text) = not (byte == 10) && no_end text
-
-abbrev pub Unbroken : List ℕ → Type 0
-Unbroken text = no_end text ≡ true
-
 digit_case : (byte : ℕ) (ds : List ℕ) (low high : Bool) → nat_le 48 byte ≡ low → nat_le byte 57 ≡ high → ((low && high) && list_all is_digit ds) ≡ true
-    → (list_all is_digit ds ≡ true → IsWord ds) → (list_all is_digit ds ≡ true → Unbroken ds) → IsWord (byte ∷ ds) × Unbroken (byte ∷ ds)
-digit_case byte ds true true e f h word unbroken =
+    → (list_all is_digit ds ≡ true → IsWord ds) → IsWord (byte ∷ ds)
+digit_case byte ds true true e f h word =
     let above : 48 ≤ byte = search rules in
-    let no_space : (byte == 32) ≡ false = search (rules, tests) in
-    let no_lf : (byte == 10) ≡ false = search (rules, tests) in (rw no_space (word h), rw no_lf (unbroken h))
-digit_case byte ds true false e f h word unbroken = absurd (cc h)
-digit_case byte ds false high e f h word unbroken = absurd (cc h)
+    let no_space : (byte == 32) ≡ false = search (rules, tests) in rw no_space (word h)
+digit_case byte ds true false e f h word = absurd (cc h)
+digit_case byte ds false high e f h word = absurd (cc h)
 
-plain_digits : (ds : List ℕ) → list_all is_digit ds ≡ true → IsWord ds × Unbroken ds
-plain_digits [] h = (refl, refl)
-plain_digits (byte ∷ ds) h = digit_case byte ds (nat_le 48 byte) (nat_le byte 57) refl refl h (λ (g : list_all is_digit ds ≡ true). (plain_digits ds g).0) (λ (g : list_all is_digit ds ≡ true). (plain_digits ds g).1)
+word_digits : (ds : List ℕ) → list_all is_digit ds ≡ true → IsWord ds
+word_digits [] h = refl
+word_digits (byte ∷ ds) h = digit_case byte ds (nat_le 48 byte) (nat_le byte 57) refl refl h (word_digits ds)
 
 pub decimal_word : (n : ℕ) → n < 2 ^ 64 → IsWord (decimal n)
-decimal_word n h = (plain_digits (decimal n) (digits-decimal n h)).0
+decimal_word n h = word_digits (decimal n) (digits-decimal n h)
 
 pub decimal_unbroken : (n : ℕ) → n < 2 ^ 64 → Unbroken (decimal n)
-decimal_unbroken n h = (plain_digits (decimal n) (digits-decimal n h)).1
+decimal_unbroken n h = unbroken-digits (decimal n) (digits-decimal n h)

@@ -3,7 +3,8 @@ use Rattle.std.proofs.Common.{◌≡◌, inl, inr, refl, sym, ap, subst, ◌∙�
 use Rattle.std.proofs.lemmas.List.{take-append-drop}
 use Rattle.dp_tree.specs.declared.Program.{Program}
 use Rattle.dp_tree.specs.Inlined.{IsInlined}
-use Rattle.dp_plan.specs.PlanText.{Each, lines_of}
+use Rattle.dp_plan.specs.Each.{Each}
+use Rattle.dp_plan_text.specs.PlanText.{lines_of}
 use Rattle.dp_profile.specs.declared.Profile.{Profile}
 use Rattle.dp_profile.specs.declared.ProfileFail.TheVariants.{Refused, NoMemory}
 use Rattle.dp_profile.specs.declared.reader.Reader.{Reader}

@@ -1,6 +1,6 @@
 -- The lines of a profile that fits are read to their end.
 use Rattle.std.proofs.Common.{◌≡◌, ℕ, ◌+◌, ◌-◌, ◌<◌, ◌≤◌, ◌==◌, Bool, true, false, ◌||◌, nat_le, nat_lt, List, [], ◌∷◌, ◌++◌, map, length, Some, slice_get, refl, sym, ap, ◌∙◌, append_assoc, append-nil, length-append, rules, arith, tests}
-use Rattle.dp_plan.specs.PlanText.{Each}
+use Rattle.dp_plan.specs.Each.{Each}
 use Rattle.dp_profile.specs.declared.RegionProfile.{RegionProfile}
 use Rattle.dp_profile.specs.declared.SiteCount.{SiteCount}
 use Rattle.dp_profile.specs.declared.Flow.{Flow}
@@ -117,10 +117,6 @@ region_next_some all s r between is upto =
 pub end_next : (all : List (List RegionSite)) (s : Reader) → is_between all s ≡ true → length (closed s) ≡ length all → next all s line.End ≡ Some (over (closed s))
 unfolding next
 end_next all s between same = let e : (length (closed s) == length all) ≡ true = search (rules, tests) in rw (between, e) refl
-
-pub or_true : (a b : Bool) → b ≡ true → (a || b) ≡ true
-or_true true b h = refl
-or_true false b h = h
 
 -- the lines of the regions that are left, from a place between two
 regions_run : (before left : List (List RegionSite)) (s : Reader) (shown : List RegionProfile) → is_between (before ++ left) s ≡ true → length (closed s) ≡ length before → RegionsFit left shown

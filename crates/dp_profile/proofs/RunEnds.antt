@@ -1,8 +1,8 @@
 -- Lines that may begin a text can be completed to one, and the lines of a text fit.
 use Rattle.std.proofs.Common.{◌≡◌, ◌⊎◌, inl, inr, ℕ, suc, ◌+◌, ◌≤◌, ◌==◌, Bool, true, ◌||◌, List, [], ◌∷◌, ◌++◌, map, length, refl, sym, ap, subst, ◌∙◌, append_assoc, append-nil, arith, eqb-true}
 use Rattle.std.proofs.lemmas.Bool.{cases_Bool}
-use Rattle.dp_plan.specs.PlanText.{Each}
-use Rattle.dp_plan.proofs.RunEnds.{each-lists}
+use Rattle.dp_plan.specs.Each.{Each}
+use Rattle.dp_plan.proofs.EachLemmas.{each-lists}
 use Rattle.dp_profile.specs.declared.RegionProfile.{RegionProfile}
 use Rattle.dp_profile.specs.declared.SiteCount.{SiteCount}
 use Rattle.dp_profile.specs.declared.Flow.{Flow}

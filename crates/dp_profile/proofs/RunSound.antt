@@ -1,8 +1,9 @@
 -- Lines that are read one after the other begin the text of a profile.
 use Rattle.std.proofs.Common.{◌≡◌, ◌⊎◌, inl, inr, ℕ, ◌+◌, ◌-◌, ◌<◌, ◌≤◌, ◌==◌, true, false, ◌&&◌, nat_le, nat_lt, List, [], ◌∷◌, ◌++◌, map, length, Some, slice_get, refl, sym, ap, subst, ◌∙◌, append_assoc, append-nil, length-append, rules, arith, eqb-true}
 use Rattle.dp_base.specs.declared.SiteId.{SiteId}
-use Rattle.dp_plan.specs.PlanText.{Each}
-use Rattle.dp_plan.proofs.RunSound.{map-append, each-append}
+use Rattle.dp_plan.specs.Each.{Each}
+use Rattle.std.proofs.lemmas.List.{map-append}
+use Rattle.dp_plan.proofs.EachLemmas.{each-append}
 use Rattle.dp_profile.specs.declared.RegionProfile.{RegionProfile}
 use Rattle.dp_profile.specs.declared.SiteCount.{SiteCount}
 use Rattle.dp_profile.specs.declared.Flow.{Flow}

@@ -1,9 +1,10 @@
 -- The lines of a text, read one after the other.
 use Rattle.std.proofs.Common.{◌≡◌, ℕ, List, [], ◌∷◌, ◌++◌, map, Option, Some, None, refl, sym, ap, ◌∙◌}
-use Rattle.dp_plan.specs.PlanText.{Each, joined}
-use Rattle.dp_plan.specs.Words.{words}
-use Rattle.dp_plan.proofs.JoinLemmas.{joined-words}
-use Rattle.dp_plan.proofs.Runs.{chomped, chomped-line, chomped-sound}
+use Rattle.dp_plan.specs.Each.{Each}
+use Rattle.dp_plan_text.specs.PlanText.{joined}
+use Rattle.dp_plan_text.specs.Words.{words}
+use Rattle.dp_plan_text.proofs.JoinLemmas.{joined-words}
+use Rattle.dp_plan_text.proofs.Runs.{chomped, chomped-line, chomped-sound}
 use Rattle.dp_profile.specs.declared.line.Line.{Line}
 use Rattle.dp_profile.specs.declared.reader.Reader.{Reader}
 use Rattle.dp_profile.specs.ProfileText.{words_of, line_bytes}

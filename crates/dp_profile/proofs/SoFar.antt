@@ -3,11 +3,12 @@ use Rattle.std.proofs.Common.{◌≡◌, ℕ, ◌+◌, ◌≤◌, ◌==◌, List
 use Rattle.std.specs.List.{position}
 use Rattle.std.proofs.Math.Seq.{take-append_seam}
 use Rattle.dp_tree.specs.declared.Program.{Program}
-use Rattle.dp_plan.specs.PlanText.{Each, lines_of}
-use Rattle.dp_plan.specs.Words.{words}
-use Rattle.dp_plan.proofs.WordLemmas.{position_none}
-use Rattle.dp_plan.proofs.CutLemmas.{lines_one}
-use Rattle.dp_plan.proofs.Runs.{chomped-line, chomped-none}
+use Rattle.dp_plan.specs.Each.{Each}
+use Rattle.dp_plan_text.specs.PlanText.{lines_of}
+use Rattle.dp_plan_text.specs.Words.{words}
+use Rattle.dp_plan_text.proofs.WordLemmas.{position_none}
+use Rattle.dp_plan_text.proofs.CutLemmas.{lines_one}
+use Rattle.dp_plan_text.proofs.Runs.{chomped-line, chomped-none}
 use Rattle.dp_profile.specs.declared.Profile.{Profile}
 use Rattle.dp_profile.specs.declared.ProfileFail.{ProfileFail}
 use Rattle.dp_profile.specs.declared.ProfileFail.TheVariants.{Refused, NoMemory}

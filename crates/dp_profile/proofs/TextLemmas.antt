@@ -2,8 +2,9 @@
 use Rattle.std.proofs.Common.{◌≡◌, ℕ, ◌≤◌, List, [], ◌∷◌, ◌++◌, map, length, take, drop, Option, Some, None, refl, sym, ap, subst, ◌∙◌, append_assoc}
 use Rattle.std.proofs.lemmas.List.{take-append-le, take-append-drop}
 use Rattle.dp_tree.specs.declared.Program.{Program}
-use Rattle.dp_plan.specs.PlanText.{Each}
-use Rattle.dp_plan.proofs.RunSound.{map-append, each-append}
+use Rattle.dp_plan.specs.Each.{Each}
+use Rattle.std.proofs.lemmas.List.{map-append}
+use Rattle.dp_plan.proofs.EachLemmas.{each-append}
 use Rattle.dp_profile.specs.declared.Profile.{Profile}
 use Rattle.dp_profile.specs.declared.RegionProfile.{RegionProfile}
 use Rattle.dp_profile.specs.declared.line.Line.{Line}

@@ -1,7 +1,7 @@
 -- Lines with a word too many are none.
 use Rattle.std.proofs.Common.{◌≡◌, ℕ, List, ◌∷◌, Option, None, refl}
-use Rattle.dp_plan.specs.Words.{words}
-use Rattle.dp_plan.proofs.WordLemmas.{some_word}
+use Rattle.dp_plan_text.specs.Words.{words}
+use Rattle.dp_plan_text.proofs.WordLemmas.{some_word}
 use Rattle.dp_profile.specs.declared.line.Line.{Line}
 use Rattle.dp_profile.specs.LineWords.{region_line, runs_line, flow_line, head_line, end_line}
 

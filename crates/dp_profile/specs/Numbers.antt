@@ -1,7 +1,7 @@
 -- The number that a word writes.
 use Rattle.std.specs.Prelude.{ℕ, ◌+◌, ◌-◌, ◌*◌, if◌then◌else◌, ◌&&◌, nat_le, List, Option, Some, None}
 use Rattle.std.specs.List.{list_all}
-use Rattle.dp_plan.specs.Words.{is_digit, is_plain, value_after}
+use Rattle.dp_plan_text.specs.Words.{is_digit, is_plain, value_after}
 
 -- the number that a digit writes behind those of n, where it is at most `most`
 abbrev pub digit_after : ℕ → ℕ → ℕ → Option ℕ

@@ -1,7 +1,7 @@
 -- Texts that aren't in the grammar, with the line at which they are refused; and what a text is read as.
 use Rattle.std.specs.Prelude.{◌≡◌, ℕ, ◌+◌, ◌<◌, ◌≤◌, ◌⊎◌, List, ◌++◌, length, take, Result, Ok, Err}
 use Rattle.dp_tree.specs.declared.Program.{Program}
-use Rattle.dp_plan.specs.PlanText.{lines_of}
+use Rattle.dp_plan_text.specs.PlanText.{lines_of}
 use Rattle.dp_profile.specs.declared.Profile.{Profile}
 use Rattle.dp_profile.specs.declared.ProfileFail.{ProfileFail}
 use Rattle.dp_profile.specs.declared.ProfileFail.TheVariants.{Refused, NoMemory}

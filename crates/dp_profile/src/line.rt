@@ -2,7 +2,7 @@
 
 ghost use Rattle.std.specs.Prelude.{◌≡◌};
 ghost use Rattle.std.specs.Option.{option_copied};
-ghost use Rattle.dp_plan.specs.Words.{words, words_behind};
+ghost use Rattle.dp_plan_text.specs.Words.{words, words_behind};
 ghost use Rattle.dp_profile.specs.LineWords as spec;
 
 use crate::number::{count, short};

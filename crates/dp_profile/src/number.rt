@@ -1,7 +1,7 @@
 //! The numbers that words write.
 
 ghost use Rattle.std.specs.Prelude.{◌≡◌, ◌≤◌, IfSome};
-ghost use Rattle.dp_plan.specs.Words.{is_plain};
+ghost use Rattle.dp_plan_text.specs.Words.{is_plain};
 ghost use Rattle.dp_profile.specs.Numbers as spec;
 ghost use Rattle.dp_profile.specs.LineWords as line_words;
 

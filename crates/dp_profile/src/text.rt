@@ -2,7 +2,7 @@
 
 ghost use Rattle.std.specs.Prelude.{◌≡◌, ◌<◌, ◌^◌, ◌∷◌, ◌++◌, ◌==◌, [], IfSome, MatchOption, length};
 ghost use Rattle.std.specs.List.{position};
-ghost use Rattle.dp_plan.specs.PlanText.{lines_of};
+ghost use Rattle.dp_plan_text.specs.PlanText.{lines_of};
 ghost use Rattle.dp_profile.specs.Ending.{IfEnds};
 
 use crate::reader::{Phase, Reader};

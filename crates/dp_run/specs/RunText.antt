@@ -2,17 +2,14 @@
 use Rattle.std.specs.Prelude.{ℕ, ◌+◌, ◌-◌, Bool, List, [], ◌∷◌, ◌++◌, length, map, ℤ}
 use Rattle.dp_base.specs.declared.RegionReport.{RegionReport}
 use Rattle.dp_tree.specs.declared.Program.{Program}
-use Rattle.dp_tree.specs.Trace.{Run, run_of, begin, prints}
+use Rattle.dp_tree.specs.Trace.{Run, prints}
 use Rattle.dp_tree.specs.Iteration.{begun_count, cells_after}
 use Rattle.dp_plan.specs.declared.Plan.{Plan}
 use Rattle.dp_semantics.specs.Recovery.{recovered}
 use Rattle.dp_semantics.specs.Reported.{region_report}
+pub use Rattle.dp_semantics.specs.Verdict.{source_run}
 use Rattle.dp_report.specs.PrintsText.{prints_bytes}
 use Rattle.dp_report.specs.EndText.{end_bytes}
-
--- the run from the program's start
-abbrev pub source_run : Program → List ℤ → ℕ → Run
-source_run p input fuel = run_of p input fuel (begin p)
 
 -- the reports of the plans' regions, in order
 abbrev pub region_reports : Program → List Plan → Run → List RegionReport

@@ -4,7 +4,8 @@ use Rattle.std.specs.Prelude.{◌^◌}
 use Rattle.dp_tree.specs.Inlined.{IsInlined}
 use Rattle.dp_plan.specs.CheckedTable.{IsTabled}
 use Rattle.dp_plan.specs.GivenPlans.{IsPlan}
-use Rattle.dp_plan.specs.PlanText.{Each, StageFits}
+use Rattle.dp_plan.specs.Each.{Each}
+use Rattle.dp_plan.specs.PlanFits.{StageFits}
 use Rattle.dp_plan.specs.Rules.{first_in}
 use Rattle.dp_plan.specs.Valid.{first_broken}
 use Rattle.dp_plan.specs.declared.WrittenPlan.{WrittenPlan}
@@ -13,10 +14,10 @@ use Rattle.dp_plan.specs.Written.{has, listed, region_sites, site_in, written_of
 use Rattle.dp_plan.proofs.PlanBack.{plan_back, plan_fits}
 use Rattle.dp_plan.proofs.RegionFacts.{InOrder, in_order}
 use Rattle.dp_plan.proofs.RegionOrder.{RegionAt, Sought, absent, present}
-use Rattle.dp_plan.proofs.RulesHold.{valid_unbroken}
+use Rattle.dp_plan.proofs.RulesHold.{condition_first, none_foreign, valid_unbroken}
 use Rattle.dp_semantics.specs.ValidPlan.{WrittenAs, lists_site}
 use Rattle.dp_semantics.proofs.TextOrder.{has_fact}
-use Rattle.dp_semantics.proofs.Unbroken.{no_foreign, condition_first, stage_unlisted}
+use Rattle.dp_semantics.proofs.WrittenStages.{stage_unlisted}
 use Rattle.dp_semantics.proofs.ValidFits.{sought, valid_fits}
 use Rattle.dp_semantics.proofs.ValidTables.{valid_tabled}
 
@@ -31,7 +32,7 @@ nowhere p w valid none = let clash = sym (ap (λ (n : ℕ). n == 1) (stage_unlis
     there = ap (λ (ns : List ℕ). written_stage w (first_in ns) == 1) (sym empty) ∙ condition_first p w valid
 
     by : (has 0 (listed w) ≡ true) ⊎ (has 0 (listed w) ≡ false) → has 0 (listed w) ≡ false
-    by (inl e) = let clash : has 0 [] ≡ true = ap (has 0) (sym empty) ∙ has_fact (λ n. has n (region_sites p w.region) ≡ true) (listed w) 0 (no_foreign p w valid) e in absurd (cc clash)
+    by (inl e) = let clash : has 0 [] ≡ true = ap (has 0) (sym empty) ∙ has_fact (λ n. has n (region_sites p w.region) ≡ true) (listed w) 0 (none_foreign p w valid) e in absurd (cc clash)
     by (inr e) = e
 
 place_low : {X : Type 0} (xs : List X) (k : ℕ) (x : X) → slice_get xs k ≡ Some x → k < length xs
@@ -42,7 +43,8 @@ place_low (y ∷ ys) (suc k) x e = let low = place_low ys k x e in omega (arith,
 found_low : (r : ℕ) (entries : List RegionInfo) (entry : RegionInfo) → 1 ≤ r → slice_get entries (r - 1) ≡ Some entry → r < 1 + length entries
 found_low r entries entry low at = let here = place_low entries (r - 1) entry at in omega (arith, here, low)
 
-filled : (lines : List WrittenStage) → Each StageFits lines → list_all lists_site lines ≡ true
+-- each line of a plan that fits lists a site
+pub filled : (lines : List WrittenStage) → Each StageFits lines → list_all lists_site lines ≡ true
 filled [] fit = refl
 filled (line ∷ rest) fit = and_from (lists_site line) _ (lt-ltb 0 (length line.sites) (omega (arith, fit.0.0))) (filled rest fit.1)
 

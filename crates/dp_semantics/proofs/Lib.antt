@@ -10,6 +10,8 @@ pub mod Seeing
 pub mod Projected
 pub mod Integers
 pub mod Taking
+pub mod Shorter
+pub mod TurnEnds
 pub mod Source
 pub mod Stepping
 pub mod Lockstep
@@ -55,7 +57,7 @@ pub mod Told
 pub mod Shift
 pub mod TextOrder
 pub mod Regions
-pub mod Unbroken
+pub mod WrittenStages
 pub mod WellNested
 pub mod PlanStages
 pub mod ValidFits

@@ -29,7 +29,7 @@ pub use Rattle.dp_tree.specs.declared.Stmt.TheViews.{rolls-Assign, rolls-Break, 
 pub use Rattle.dp_plan.specs.Access.{Access, accesses, first_site_of, accesses_in, first_site, is_body_local, is_local, is_par, is_region_at, is_replicated, is_same_variable, is_stored_after, is_stored_beside, loaded_by, region_accesses, region_in, region_statement, stage_of, stores_var}
 pub use Rattle.dp_plan.specs.Checked.{is_checked, is_checked_access, may_differ, is_apart, is_apart_between, comes_before}
 pub use Rattle.dp_semantics.specs.Clean.{all_agree, as_assumed, count_from, event_agrees, event_as_assumed, event_words, events_since, fits_words, goes_as, stays_late, int_eq, is_clean, loads_agree, pushed, went, word_count, words_at}
-pub use Rattle.dp_semantics.specs.Fits.{access_known, fits_plan, has_cell, is_inner, is_numbered, is_single, kinds_apart, kinds_fit, lies_between, lies_in_order, one_region, region_alone, region_fits, stands_alone, stores_known}
+pub use Rattle.dp_semantics.specs.Fits.{access_known, fits_plan, has_cell, is_inner, is_numbered, is_single, kinds_apart, kinds_fit, lies_between, cells_in_order, one_region, region_alone, region_fits, stands_alone, stores_known}
 pub use Rattle.dp_semantics.specs.Judge.{Agreed, Clean, judge, judge_at, judge_by, judge_lists, judge_spent, judge_status, judge_step, judged, Judgement, Judging, last, loads_hold, Unclean}
 unfoldable pub use Rattle.dp_semantics.specs.Judge.{judge_from}
 pub use Rattle.dp_semantics.specs.Laws.{CleanInOneStage, RecoversInOrder}
@@ -41,6 +41,6 @@ pub use Rattle.dp_semantics.specs.Recovery.{epoch, is_recovered}
 pub use Rattle.dp_semantics.specs.Seen.{covered_value, is_covered, is_local_at, is_local_cell, Past, seen, stored_in}
 pub use Rattle.dp_semantics.specs.StageRun.{closes_at, consumed, consumed_step, Ended, is_zero_at, own_step, stage_at, stage_run, Turn, turn_at, turn_begin, turn_by, turn_step, turned, TurnEnd, words_left}
 unfoldable pub use Rattle.dp_semantics.specs.StageRun.{turn_from}
-pub use Rattle.dp_semantics.specs.Verdict.{applied, CleanSince, Closes, ClosingLeaves, effect_in, site_in, epoch_at, Follows, Judged, JudgesEpochs, JudgesRightly, memory_of, status_when, StoresLead, to_do_after, to_do_in, whole_run, words_at_stage}
+pub use Rattle.dp_semantics.specs.Verdict.{applied, CleanSince, Closes, ClosingLeaves, effect_in, site_in, epoch_at, Follows, Judged, JudgesEpochs, JudgesRightly, memory_of, status_when, StoresLead, to_do_after, to_do_in, source_run, words_at_stage}
 pub use Rattle.dp_semantics.specs.Words.{after_loads_of, done_word, effect_by, Full, is_cell_of, is_done_of, is_load_of, load_word, load_words, Taken, taken_from, Void, word_list, words_in, words_of}
 unfoldable pub use Rattle.dp_tree.proofs.Heads.{opened_statement}

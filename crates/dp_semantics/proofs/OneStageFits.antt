@@ -4,7 +4,7 @@ use Rattle.dp_tree.specs.declared.Stmt.{Row_of-Stmt, end_of-Stmt, more_of-Stmt}
 use Rattle.dp_tree.specs.declared.Stmt.TheVariants as tree
 use Rattle.dp_plan.specs.Access.{accesses_in}
 use Rattle.dp_tree.specs.Inlined.{IsInlined, has_call, has_call_in, stmt_within}
-use Rattle.dp_plan.specs.declared.conditions.Enclosing.{Enclosing}
+use Rattle.dp_plan.specs.declared.Enclosing.{Enclosing}
 use Rattle.dp_plan.specs.Enclosing.{ifs, ifs_in, inner_whiles, inner_whiles_in}
 use Rattle.dp_plan.specs.Written.{site_in}
 use Rattle.dp_plan.specs.CheckedTable.{IsTabled, says_yes, table_says}

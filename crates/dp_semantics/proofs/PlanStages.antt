@@ -1,12 +1,12 @@
 -- The stages of a plan are those of its lines: of each site of its region one of them, and 0 of any other site.
 use Rattle.dp_semantics.proofs.Names.{◌≡◌, ◌⊎◌, inl, inr, refl, sym, ap, ◌∙◌, ℕ, ◌+◌, ◌-◌, ◌<◌, ◌≤◌, Bool, true, false, not, ◌&&◌, ◌||◌, if◌then◌else◌, List, [], ◌∷◌, length, map, filter_map, slice_index, Option, Some, None, is_some, nat_lt, nat_le, ◌==◌, arith, eqb-true, eq-eqb, ne_eqb, le-leb, ltb-false, cases_Bool, cases_eq, cases_lt, lt-leb, get_or_past, length-map, cons_option, Assume, Program, Plan, assumed_in, first_site, stage_of}
-use Rattle.dp_plan.specs.declared.conditions.Enclosing.{Enclosing}
+use Rattle.dp_plan.specs.declared.Enclosing.{Enclosing}
 use Rattle.dp_plan.specs.Rules.{assumed_site, comes_late, is_late_unassumed}
 use Rattle.dp_plan.specs.declared.WrittenPlan.{WrittenPlan}
 use Rattle.dp_plan.specs.Written.{assumption_at, has, listed, region_sites, written_stage}
 use Rattle.dp_semantics.proofs.TextOrder.{Ascends, Between, ascends_between, ascends_get, has_fact}
 use Rattle.dp_semantics.proofs.WellNested.{none_before}
-use Rattle.dp_semantics.proofs.Unbroken.{stage_unlisted}
+use Rattle.dp_semantics.proofs.WrittenStages.{stage_unlisted}
 use Rattle.dp_semantics.proofs.Setting.{Each, each_map, none_of, all_make}
 
 -- An assumption of a site of the region is one of the plan's.

@@ -1,5 +1,5 @@
 -- A valid plan of an inlined program fits it, and its regions stand alone.
-use Rattle.dp_semantics.proofs.Names.{opened_statement, ◌≡◌, ◌⊎◌, inl, inr, refl, sym, ap, ◌∙◌, subst, ℕ, zero, suc, ◌+◌, ◌-◌, ◌<◌, ◌≤◌, ◌==◌, Bool, true, false, not, ◌&&◌, ◌||◌, List, [], ◌∷◌, length, map, filter, Option, Some, None, slice_get, nat_lt, arith, le-leb, lt-ltb, eq-eqb, ne_eqb, append-nil, length-map, cases_Bool, list_all, flat_map, Region, SiteId, Expr, Stmt, hidden-the_row-Stmt-0, Program, Plan, RegionInfo, VarInfo, Access, accesses, access_known, first_site, first_site_of, fits_plan, has_cell, is_inner, is_local_of, is_numbered, is_region_at, is_replicated, is_single, kinds_apart, kinds_fit, length_of, lies_between, lies_in_order, one_region, region_accesses, region_fits, region_in, stage_of, stands_alone, stores_known, well_nested, and_parts, and_from}
+use Rattle.dp_semantics.proofs.Names.{opened_statement, ◌≡◌, ◌⊎◌, inl, inr, refl, sym, ap, ◌∙◌, subst, ℕ, zero, suc, ◌+◌, ◌-◌, ◌<◌, ◌≤◌, ◌==◌, Bool, true, false, not, ◌&&◌, ◌||◌, List, [], ◌∷◌, length, map, filter, Option, Some, None, slice_get, nat_lt, arith, le-leb, lt-ltb, eq-eqb, ne_eqb, append-nil, length-map, cases_Bool, list_all, flat_map, Region, SiteId, Expr, Stmt, hidden-the_row-Stmt-0, Program, Plan, RegionInfo, VarInfo, Access, accesses, access_known, first_site, first_site_of, fits_plan, has_cell, is_inner, is_local_of, is_numbered, is_region_at, is_replicated, is_single, kinds_apart, kinds_fit, length_of, lies_between, cells_in_order, one_region, region_accesses, region_fits, region_in, stage_of, stands_alone, stores_known, well_nested, and_parts, and_from}
 use Rattle.dp_tree.specs.declared.Stmt.TheVariants as tree
 use Rattle.dp_tree.specs.Layout as layout
 use Rattle.dp_tree.specs.declared.VarScope.{VarScope}
@@ -7,7 +7,7 @@ use Rattle.dp_tree.specs.declared.VarScope.TheVariants.{Global, Outer, Body}
 use Rattle.dp_tree.specs.Globals.{is_global_scope}
 use Rattle.dp_tree.specs.Inlined.{IsInlined, has_call, has_call_in, stmt_within}
 use Rattle.dp_tree.specs.Layout.{has_cells}
-use Rattle.dp_plan.specs.declared.conditions.Enclosing.{Enclosing}
+use Rattle.dp_plan.specs.declared.Enclosing.{Enclosing}
 use Rattle.dp_plan.specs.Enclosing.{ifs, ifs_in, inner_whiles, inner_whiles_in, region_ifs, region_inner_whiles}
 use Rattle.dp_plan.specs.Rules.{comes_late, first_in, is_late_unassumed}
 use Rattle.dp_plan.specs.declared.WrittenPlan.{WrittenPlan}
@@ -18,7 +18,8 @@ use Rattle.dp_semantics.proofs.Counts.{count_all}
 use Rattle.dp_semantics.proofs.TextOrder.{Ascends, Between, ascends-numbers_from, ascends_between, each_of_map, has_fact}
 use Rattle.dp_plan.proofs.RegionOrder.{RegionAt, Sought, absent, present, find_region}
 use Rattle.dp_semantics.proofs.Regions.{all_alone}
-use Rattle.dp_semantics.proofs.Unbroken.{all_listed, no_foreign, condition_first, sequential_first, none_beside, whiles_in_time, ifs_in_time, stage_listed, stage_unlisted, first_kind, kinds_differ}
+use Rattle.dp_plan.proofs.RulesHold.{all_listed, none_foreign, condition_first, sequential_first, none_beside, whiles_in_time, ifs_in_time}
+use Rattle.dp_semantics.proofs.WrittenStages.{stage_listed, stage_unlisted, first_kind, kinds_differ}
 use Rattle.dp_semantics.proofs.WellNested.{Within, sites_within, ifs_at, InTime, Ruled, well_inner_in}
 use Rattle.dp_semantics.proofs.PlanStages.{same_stage, in_time, ruled}
 use Rattle.dp_semantics.proofs.Setting.{each_both, Each, each_map, none_of, all_of, all_make, accesses_all, accesses_at, accesses_out, well_hidden}
@@ -33,7 +34,7 @@ scoped r (Body q) one e = by (q == r)
     by true = e
     by false = refl
 
-pub laid : (r k : ℕ) (vars : List VarInfo) → layout.lies_in_order k vars ≡ true → lies_in_order r k vars ≡ true
+pub laid : (r k : ℕ) (vars : List VarInfo) → layout.lies_in_order k vars ≡ true → cells_in_order r k vars ≡ true
 laid r k [] e = refl
 laid r k (x ∷ rest) e =
     let both = and_parts ((x.first.0 == k) && has_cells x) (layout.lies_in_order (k + x.length) rest) e in
@@ -111,7 +112,7 @@ module _ {p : Program} (inlined : IsInlined p) (v : Bool) (w : WrittenPlan) (wri
       there = ap (λ (ns : List ℕ). written_stage w (first_in ns) == 1) (sym empty) ∙ condition_first p w valid
 
       by : (has 0 (listed w) ≡ true) ⊎ (has 0 (listed w) ≡ false) → has 0 (listed w) ≡ false
-      by (inl e) = let clash : has 0 [] ≡ true = ap (has 0) (sym empty) ∙ has_fact (λ n. has n (region_sites p w.region) ≡ true) (listed w) 0 (no_foreign p w valid) e in absurd (cc clash)
+      by (inl e) = let clash : has 0 [] ≡ true = ap (has 0) (sym empty) ∙ has_fact (λ n. has n (region_sites p w.region) ≡ true) (listed w) 0 (none_foreign p w valid) e in absurd (cc clash)
       by (inr e) = e
 
   module _ (entry : RegionInfo) (at : slice_get p.regions (w.region - 1) ≡ Some entry) (q : RegionAt w.region p.main entry) where
@@ -125,7 +126,7 @@ module _ {p : Program} (inlined : IsInlined p) (v : Bool) (w : WrittenPlan) (wri
     order = subst (λ (n : ℕ). Ascends n (region_sites p w.region)) (sym first_is) (subst (λ (ns : List ℕ). Ascends entry.first.0 ns) (sym sites_are) q.sites)
 
     stages_are : (site : ℕ) → stage_of p plan site ≡ written_stage w site
-    stages_are = same_stage p w plan refl order (no_foreign p w valid)
+    stages_are = same_stage p w plan refl order (none_foreign p w valid)
 
     parts : accesses q.statement ≡ accesses_at (Region w.region q.site q.cond q.body)
     parts = accesses_out q.statement ∙ ap accesses_at q.is
@@ -177,17 +178,17 @@ module _ {p : Program} (inlined : IsInlined p) (v : Bool) (w : WrittenPlan) (wri
     -- its conditions come in time
     whiles : Each (InTime p plan) (inner_whiles_in (hidden-the_row-Stmt-0 q.body))
     whiles = subst (λ (es : List Enclosing). Each (InTime p plan) es) (ap (flat_map inner_whiles) q.only ∙ append-nil (inner_whiles q.statement) ∙ ap inner_whiles q.made ∙ whiles_made w.region q.site q.cond q.body)
-        (each_map (λ e. comes_late w e ≡ false) (InTime p plan) (λ e late. in_time p w plan refl order (no_foreign p w valid) e late) (region_inner_whiles p w.region) (whiles_in_time p w valid))
+        (each_map (λ e. comes_late w e ≡ false) (InTime p plan) (λ e late. in_time p w plan refl order (none_foreign p w valid) e late) (region_inner_whiles p w.region) (whiles_in_time p w valid))
 
     ifs_are : region_ifs p w.region ≡ ifs q.statement
     ifs_are = ap (flat_map ifs) q.only ∙ append-nil (ifs q.statement)
 
     told : Each (Ruled p plan) (ifs_in (hidden-the_row-Stmt-0 q.body))
     told = subst (λ (es : List Enclosing). Each (Ruled p plan) es) (ap ifs q.made ∙ ifs_made w.region q.site q.cond q.body)
-        (each_map _ (Ruled p plan) (λ e h. ruled p w plan refl order (no_foreign p w valid) refl e h.0 h.1) (ifs q.statement)
+        (each_map _ (Ruled p plan) (λ e h. ruled p w plan refl order (none_foreign p w valid) refl e h.0 h.1) (ifs q.statement)
         (each_both (λ e. has e.site (region_sites p w.region) ≡ true) (λ e. is_late_unassumed w e ≡ false) (ifs q.statement)
         (ifs_at (λ n. has n (region_sites p w.region) ≡ true) q.statement
-        (each_map (λ a. has a.site (listed w) ≡ true) (λ a. has a.site (region_sites p w.region) ≡ true) (λ a h. has_fact (λ n. has n (region_sites p w.region) ≡ true) (listed w) a.site (no_foreign p w valid) h) (accesses q.statement) has_stage))
+        (each_map (λ a. has a.site (listed w) ≡ true) (λ a. has a.site (region_sites p w.region) ≡ true) (λ a h. has_fact (λ n. has n (region_sites p w.region) ≡ true) (listed w) a.site (none_foreign p w valid) h) (accesses q.statement) has_stage))
         (subst (λ (es : List Enclosing). Each (λ e. is_late_unassumed w e ≡ false) es) ifs_are (ifs_in_time p w valid))))
 
     well : list_all (well_nested p plan) q.body ≡ true

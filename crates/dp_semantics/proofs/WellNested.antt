@@ -4,7 +4,7 @@ use Rattle.dp_tree.specs.declared.Expr.TheVariants as expr
 use Rattle.dp_tree.specs.declared.Stmt.TheVariants as tree
 use Rattle.dp_tree.specs.Inlined.{expr_within, has_call, has_call_in, rows_within, stmt_within}
 use Rattle.dp_tree.specs.Numbering.{is_inner, is_inner_in, is_plain, is_plain_in}
-use Rattle.dp_plan.specs.declared.conditions.Enclosing.{Enclosing}
+use Rattle.dp_plan.specs.declared.Enclosing.{Enclosing}
 use Rattle.dp_plan.specs.Enclosing.{ifs, ifs_in, inner_whiles, inner_whiles_in}
 use Rattle.dp_plan.specs.Written.{site_in}
 use Rattle.dp_semantics.proofs.Setting.{Each, each_split, each_join}

@@ -8,7 +8,7 @@ use Rattle.dp_tree.specs.Trace.{run_of}
 use Rattle.dp_tree.specs.InMain.{StandsInMain}
 use Rattle.dp_tree.specs.Iteration.{start, iteration}
 use Rattle.dp_plan.specs.declared.Plan.{Plan}
-use Rattle.dp_plan.specs.PlanText.{Each}
+use Rattle.dp_plan.specs.Each.{Each}
 use Rattle.dp_plan.specs.IsFar.{is_far, is_far_within}
 
 -- Where site d stores in these events, site u loads another cell in those.

@@ -14,10 +14,10 @@ use Rattle.dp_semantics.specs.Clean.{count_from}
 use Rattle.dp_semantics.specs.Nesting.{well_nested, is_free}
 
 -- The variables have their cells one after the other, from k on: at least one each, and a body local of region r exactly one.
-abbrev pub lies_in_order : ℕ → ℕ → List VarInfo → Bool
-lies_in_order r k [] = true
-lies_in_order r k (x ∷ rest) =
-    ((x.first.0 == k) && (nat_lt 0 x.length && (not (is_local_of r x.scope) || (x.length == 1)))) && lies_in_order r (k + x.length) rest
+abbrev pub cells_in_order : ℕ → ℕ → List VarInfo → Bool
+cells_in_order r k [] = true
+cells_in_order r k (x ∷ rest) =
+    ((x.first.0 == k) && (nat_lt 0 x.length && (not (is_local_of r x.scope) || (x.length == 1)))) && cells_in_order r (k + x.length) rest
 
 -- the variable has a cell
 abbrev pub has_cell : Program → ℕ → Bool
@@ -65,7 +65,7 @@ kinds_fit plan = not (is_replicated plan 1) && list_all (kinds_apart plan) (coun
 -- an inlined program's variables and region, and a plan that keeps the rules
 abbrev pub fits_plan : Program → Plan → Bool
 fits_plan p plan =
-    lies_in_order plan.region 0 p.vars && (list_all (access_known p plan) (region_accesses p plan)
+    cells_in_order plan.region 0 p.vars && (list_all (access_known p plan) (region_accesses p plan)
     && (one_region p plan (region_statement p plan) && (list_all (region_alone plan.region) p.main && kinds_fit plan)))
 
 -- the site has one of the numbers of a region's sites

@@ -7,6 +7,7 @@ pub mod CauseWalk
 pub mod Project
 pub mod Words
 pub mod StageRun
+pub mod TurnBound
 pub mod Packets
 pub mod Judge
 pub mod Verdict

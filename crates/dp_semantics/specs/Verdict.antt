@@ -17,8 +17,8 @@ use Rattle.dp_semantics.specs.Packets.{Status, Going, Closing, Packet, Epoch, pa
 use Rattle.dp_semantics.specs.Judge.{Judgement, Agreed, Clean, judge}
 
 -- the run of the program from its start
-abbrev pub whole_run : Program → List ℤ → ℕ → Run
-whole_run p input fuel = run_of p input fuel (begin p)
+abbrev pub source_run : Program → List ℤ → ℕ → Run
+source_run p input fuel = run_of p input fuel (begin p)
 
 -- the epoch that begins at iteration e of the run
 abbrev pub epoch_at : Program → Plan → List ℤ → Run → ℕ → Epoch

@@ -11,6 +11,7 @@ ghost use Rattle.dp_semantics.specs.Fits.{fits_plan, stands_alone};
 ghost use Rattle.dp_semantics.specs.Laws.{CleanInOneStage, CleanWithoutCause, RecoversInOrder};
 ghost use Rattle.dp_semantics.specs.Shift.{EpochsShift, RegionRunsAlone, VerdictsShift};
 ghost use Rattle.dp_semantics.specs.Told.{StoresAreAll, Tells};
+ghost use Rattle.dp_semantics.specs.TurnBound.{BoundNeverDecides};
 ghost use Rattle.dp_semantics.specs.ValidPlan.{OneStageFits, OneStageTabled, RegionsStandAlone, RegionsStandOnce, ValidPlanFits, ValidPlanTabled};
 ghost use Rattle.dp_semantics.specs.Verdict.{ClosingLeaves, JudgesEpochs, JudgesRightly, StoresLead};
 
@@ -97,4 +98,10 @@ pub fn verdicts_go_on(p: &Program, plan: &Plan)
 pub fn a_judgement_tells_all(plan: &Plan)
     ensures told { Tells plan.now }
     ensures stores { StoresAreAll }
+{}
+
+/// A stage's turn ends by its words: the bound of its steps never decides.
+#[tactic(auto, using(crate::proofs::TurnEnds::bound_idle))]
+pub fn turns_end_by_their_words(p: &Program, plan: &Plan)
+    ensures { BoundNeverDecides p.now plan.now }
 {}

@@ -40,9 +40,6 @@ module _ (n : ℕ) (edges : List (ℕ × ℕ)) (leader_of : List ℕ) (between :
   pub low : l < n
   low = may.within
 
-  pub room : length order < n
-  room = has_room n edges leader_of between within leads apart places order waits free is l may
-
   pub row_is : (row : Vec ℕ Global) → row ≡ slice_index_or rows l row → row.items ≡ targets between l
   row_is row read = graph.targets l row (slice_get_read rows n l row (sym long) low read)
 

@@ -18,7 +18,7 @@ use Rattle.dswp.specs.declared.texts.Texts.{Texts}
 use Rattle.dswp.specs.declared.texts.Texts.TheVariants as texts
 use Rattle.dswp.specs.Refusal.{refusal_line, refusal_status, failed_read_line}
 use Rattle.dp_report.specs.SiteText.{site_bytes}
-use Rattle.dp_plan.specs.WrittenText.{plans_text}
+use Rattle.dp_plan_text.specs.WrittenText.{plans_text}
 use Rattle.dswp.specs.declared.refusal.Role.TheVariants as role
 use Rattle.dswp.specs.declared.load.Loaded.{Loaded}
 use Rattle.dswp.specs.declared.load.Loaded.TheVariants.{Text, Refused, Failed}

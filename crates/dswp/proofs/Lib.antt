@@ -1,4 +1,5 @@
 pub mod accepted
+pub mod ReadPlans
 pub mod LoadLemmas
 pub mod TextsLemmas
 pub mod AnswerLemmas

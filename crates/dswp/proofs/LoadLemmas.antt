@@ -27,7 +27,7 @@ use Rattle.dp_profile.specs.declared.Profile.{Profile}
 use Rattle.dp_profile.specs.ProfileText.{ProfileText}
 use Rattle.dp_profile.specs.Refused.{IsRefused as IsRefusedProfile}
 use Rattle.dp_plan.specs.declared.Plan.{Plan}
-use Rattle.dp_plan.specs.Refused.{IsRefused, IsBroken, StandsFor}
+use Rattle.dp_plan_text.specs.Refused.{IsRefused, IsBroken, StandsFor}
 use Rattle.dswp.specs.declared.refusal.Refusal.TheVariants.{PlanLine, PlanRule, ProfileLine}
 use Rattle.dswp.specs.Plans.{ReadsPlans, TooLong as PlansTooLong, NotPlans, Broken, Taken}
 use Rattle.dswp.specs.Profiles.{ReadsProfile, TooLong as ProfileTooLong, NoProfile, Taken as TakenProfile}

@@ -10,7 +10,7 @@ use Rattle.dp_words.specs.Run as source
 use Rattle.dp_words.specs.Run.{Source, Least}
 use Rattle.dp_run.specs.RunText.{source_run, committed_in_all}
 use Rattle.dp_plan.specs.declared.Plan.{Plan}
-use Rattle.dp_plan.specs.WrittenText.{plans_text}
+use Rattle.dp_plan_text.specs.WrittenText.{plans_text}
 use Rattle.dp_profile.specs.Observed.{observed}
 use Rattle.dp_profile.specs.WrittenText.{profile_text}
 use Rattle.dswp.specs.declared.refusal.Role.{Role}

@@ -5,6 +5,7 @@ pub mod Program
 pub mod Inputs
 pub mod Plans
 pub mod Profiles
+pub mod ReadPlans
 pub mod RunText
 pub mod Made
 pub mod Refusal

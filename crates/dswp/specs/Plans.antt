@@ -3,7 +3,7 @@ use Rattle.std.specs.Prelude.{ℕ, ◌<◌, ◌≤◌, List, length, Option, Som
 use Rattle.dp_base.specs.declared.Quantity.TheVariants.{PlanBytes}
 use Rattle.dp_tree.specs.declared.Program.{Program}
 use Rattle.dp_plan.specs.declared.Plan.{Plan}
-use Rattle.dp_plan.specs.Refused.{IsRefused, IsBroken, StandsFor}
+use Rattle.dp_plan_text.specs.Refused.{IsRefused, IsBroken, StandsFor}
 use Rattle.dp_profile.specs.declared.Profile.{Profile}
 use Rattle.dp_cut.specs.Automatic.{AreAutomatic}
 use Rattle.dp_words.specs.declared.task.PlanOptions.{PlanOptions}

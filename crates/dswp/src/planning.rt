@@ -3,7 +3,7 @@ ghost use Rattle.std.specs.Prelude.{◌≡◌, ◌<◌, ◌-◌, ◌^◌, ℕ, L
 ghost use Rattle.std.specs.Option.{option_copied, option_map};
 ghost use Rattle.dp_tree.specs.Inlined.{IsInlined};
 ghost use Rattle.dp_plan.specs.GivenPlans.{ArePlans};
-ghost use Rattle.dp_plan.specs.WrittenText.{plans_text};
+ghost use Rattle.dp_plan_text.specs.WrittenText.{plans_text};
 ghost use Rattle.dp_crew.specs.Fail.{FaultsAfter};
 ghost use Rattle.dp_words.specs.Words.{Asks, ToPlan};
 ghost use Rattle.dp_words.specs.Values.{OptionsWithin};
@@ -20,7 +20,8 @@ use crate::writing::{fail_read, refuse};
 use dp_base::{NoMemory, Row};
 use dp_cut::{Wishes, least_plans};
 use dp_edge::{Shelf, Sink};
-use dp_plan::{Plan, write_plans};
+use dp_plan::Plan;
+use dp_plan_text::write_plans;
 use dp_profile::Profile;
 use dp_run::{CrewFail, write};
 use dp_tree::Program;

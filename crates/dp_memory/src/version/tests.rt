@@ -39,33 +39,3 @@ fn a_page_is_lent_for_writing_as_the_versions_own(rt: HostRuntime) -> Result<(),
     assert_eq!(rt; first.get(CellId(300)), 9);
     Ok(())
 }
-
-#[test]
-fn a_version_of_257_pages_shares_all_but_one(rt: HostRuntime) -> Result<(), Fail> {
-    let mut first = Version::of(rt.alloc(), &Cells::new(rt.alloc(), 65_537)?)?;
-    let snapshot = first.snapshot()?;
-    first.set(CellId(65_536), 9)?;
-    assert_eq!(rt; first.get(CellId(65_536)), 9);
-    assert_eq!(rt; snapshot.get(CellId(65_536)), 0);
-    Ok(())
-}
-
-#[test]
-fn a_range_over_several_pages_is_filled(rt: HostRuntime) -> Result<(), Fail> {
-    let version = Version::of(rt.alloc(), &Cells::new(rt.alloc(), 1_000)?)?;
-    let version = version.filled(CellId(250), 510, 7)?;
-    for (cell, value) in [(249, 0), (250, 7), (512, 7), (759, 7), (760, 0)] {
-        assert_eq!(rt; version.get(CellId(cell)), value);
-    }
-    Ok(())
-}
-
-fn crosses<T: Send + Drop>(_item: T) -> bool {
-    true
-}
-
-#[test]
-fn a_version_can_cross_threads(rt: HostRuntime) -> Result<(), Fail> {
-    assert!(rt; crosses(Version::of(rt.alloc(), &Cells::new(rt.alloc(), 300)?)?));
-    Ok(())
-}

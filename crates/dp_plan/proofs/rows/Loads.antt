@@ -1,5 +1,5 @@
 -- Every place of a region's text where a variable may be loaded: each is seen by the checked sites.
-use Rattle.std.proofs.Common.{◌≡◌, refl, ℕ, List, [], ◌∷◌, filter, pos}
+use Rattle.std.proofs.Common.{◌≡◌, refl, ℕ, [], ◌∷◌, filter, pos}
 use Rattle.dp_base.specs.declared.BinOp.TheVariants.{Add}
 use Rattle.dp_base.specs.declared.UnOp.TheVariants.{Neg}
 use Rattle.dp_tree.specs.declared.VarScope.TheVariants.{Global}

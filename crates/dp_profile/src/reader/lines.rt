@@ -1,7 +1,7 @@
 //! What each line adds to those that were read.
 
 ghost use Rattle.std.specs.Prelude.{◌≡◌, IfOk};
-ghost use Rattle.dp_plan.specs.Words.{words};
+ghost use Rattle.dp_plan_text.specs.Words.{words};
 ghost use Rattle.dp_profile.specs.LineWords.{line_of};
 
 use super::{Phase, Reader, opened};

@@ -18,7 +18,7 @@ use Rattle.dp_semantics.specs.Cause.{ByAssumption, cause}
 use Rattle.dp_semantics.specs.Judge.{Clean, Unclean}
 use Rattle.dp_semantics.specs.Recovery.{recovered}
 use Rattle.dp_semantics.specs.Fits.{fits_plan}
-use Rattle.dp_semantics.specs.Verdict.{whole_run, judgement_at}
+use Rattle.dp_semantics.specs.Verdict.{source_run, judgement_at}
 
 -- 1  int n;
 -- 3    #pragma dswp
@@ -55,61 +55,61 @@ early_fits : fits_plan until_negative early_break ≡ true
 unfolding tree_opened
 early_fits = refl
 
-two_begun : begun_count (whole_run until_negative negative 10000) 1 ≡ 2
+two_begun : begun_count (source_run until_negative negative 10000) 1 ≡ 2
 unfolding tree_opened
 two_begun = refl
 
-left_by_the_second : is_closing (whole_run until_negative negative 10000) 1 1 ≡ true
+left_by_the_second : is_closing (source_run until_negative negative 10000) 1 1 ≡ true
 unfolding tree_opened
 left_by_the_second = refl
 
 -- where the region is left its body local reads 0, and `i` isn't stepped
-memory_when_left : memory_after (whole_run until_negative negative 10000) 1 2 ≡ pos 5 ∷ pos 1 ∷ pos 0 ∷ []
+memory_when_left : memory_after (source_run until_negative negative 10000) 1 2 ≡ pos 5 ∷ pos 1 ∷ pos 0 ∷ []
 unfolding tree_opened
 memory_when_left = refl
 
-ends_done : (whole_run until_negative negative 10000).end ≡ Done
+ends_done : (source_run until_negative negative 10000).end ≡ Done
 unfolding tree_opened
 ends_done = refl
 
-late_again : recovered until_negative late_break (whole_run until_negative negative 10000) ≡ 1 ∷ []
+late_again : recovered until_negative late_break (source_run until_negative negative 10000) ≡ 1 ∷ []
 unfolding tree_opened
 late_again = refl
 
-late_cause : cause until_negative late_break (whole_run until_negative negative 10000) 1 ≡ ByAssumption 4
+late_cause : cause until_negative late_break (source_run until_negative negative 10000) 1 ≡ ByAssumption 4
 unfolding tree_opened
 late_cause = refl
 
-early_never : recovered until_negative early_break (whole_run until_negative negative 10000) ≡ []
+early_never : recovered until_negative early_break (source_run until_negative negative 10000) ≡ []
 unfolding tree_opened
 early_never = refl
 
-late_untaken : recovered until_negative late_break (whole_run until_negative positive 10000) ≡ []
+late_untaken : recovered until_negative late_break (source_run until_negative positive 10000) ≡ []
 unfolding tree_opened
 late_untaken = refl
 
-early_untaken : recovered until_negative early_break (whole_run until_negative positive 10000) ≡ []
+early_untaken : recovered until_negative early_break (source_run until_negative positive 10000) ≡ []
 unfolding tree_opened
 early_untaken = refl
 
-three_begun : begun_count (whole_run until_negative positive 10000) 1 ≡ 3
+three_begun : begun_count (source_run until_negative positive 10000) 1 ≡ 3
 unfolding tree_opened
 three_begun = refl
 
 -- the fuel ends before the break
-cut_again : recovered until_negative early_break (whole_run until_negative negative 8) ≡ 1 ∷ []
+cut_again : recovered until_negative early_break (source_run until_negative negative 8) ≡ 1 ∷ []
 unfolding tree_opened
 cut_again = refl
 
-cut_end : (whole_run until_negative negative 8).end ≡ Fuel
+cut_end : (source_run until_negative negative 8).end ≡ Fuel
 unfolding tree_opened
 cut_end = refl
 
 -- the packets of the closing iteration, judged
-early_judged : judgement_at until_negative early_break negative (whole_run until_negative negative 10000) 0 1 6 ≡ Clean (record { effects = Decided (pos 1) ∷ Stored 2 (negsuc 0) ∷ Tried (pos 1) ∷ []; sites = 2 ∷ 3 ∷ 4 ∷ []; closing = true })
+early_judged : judgement_at until_negative early_break negative (source_run until_negative negative 10000) 0 1 6 ≡ Clean (record { effects = Decided (pos 1) ∷ Stored 2 (negsuc 0) ∷ Tried (pos 1) ∷ []; sites = 2 ∷ 3 ∷ 4 ∷ []; closing = true })
 unfolding tree_opened Rattle.dp_semantics.specs.StageRun.turn_from Rattle.dp_semantics.specs.Judge.judge_from
 early_judged = refl
 
-late_judged : judgement_at until_negative late_break negative (whole_run until_negative negative 10000) 0 1 6 ≡ Unclean
+late_judged : judgement_at until_negative late_break negative (source_run until_negative negative 10000) 0 1 6 ≡ Unclean
 unfolding tree_opened Rattle.dp_semantics.specs.StageRun.turn_from Rattle.dp_semantics.specs.Judge.judge_from
 late_judged = refl

@@ -12,10 +12,10 @@ use Rattle.dp_plan.specs.declared.StageKind.TheVariants.{Seq}
 use Rattle.dp_plan.proofs.Plans.{plan, zero_divisor_plan, stale_read_plan, skip_negative_plan, stale_step_plan, stale_divisor_plan}
 use Rattle.dp_semantics.specs.Cause.{Cause, ByLoad, ByAssumption, ByWords, ByFault, ByFuel, cause, cause_since}
 use Rattle.dp_semantics.specs.OneStage.{one_stage_plan}
-use Rattle.dp_semantics.specs.Verdict.{whole_run}
+use Rattle.dp_semantics.specs.Verdict.{source_run}
 
 abbrev cause_in : Program → Plan → List ℤ → ℕ → ℕ → Cause
-cause_in p plan input fuel i = cause p plan (whole_run p input fuel) i
+cause_in p plan input fuel i = cause p plan (source_run p input fuel) i
 
 stale_read_first : cause_in stale_read stale_read_plan [] 10000 2 ≡ ByLoad 3 2 (pos 0) (pos 1)
 unfolding tree_opened
@@ -88,6 +88,6 @@ unfolding tree_opened
 assumption_before_words = refl
 
 -- in the epoch from 0 both its loads are stale, too: the first one counts
-first_load_before_all : cause_since failing_twice failing_twice_plan (whole_run failing_twice [] 10000) 0 1 ≡ ByLoad 3 0 (pos 0) (pos 2)
+first_load_before_all : cause_since failing_twice failing_twice_plan (source_run failing_twice [] 10000) 0 1 ≡ ByLoad 3 0 (pos 0) (pos 2)
 unfolding tree_opened
 first_load_before_all = refl

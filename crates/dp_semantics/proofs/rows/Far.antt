@@ -14,7 +14,7 @@ use Rattle.dp_plan.specs.IsFar.{is_far, is_far_within}
 use Rattle.dp_plan.specs.Checked.{is_checked, comes_before}
 use Rattle.dp_semantics.specs.Recovery.{recovered}
 use Rattle.dp_semantics.specs.Fits.{fits_plan}
-use Rattle.dp_semantics.specs.Verdict.{whole_run}
+use Rattle.dp_semantics.specs.Verdict.{source_run}
 
 -- 1  int a[9];
 -- 2  int s;
@@ -94,31 +94,31 @@ behind_fits : fits_plan behind behind_second ≡ true
 unfolding tree_opened
 behind_fits = refl
 
-ahead_again : recovered ahead ahead_first (whole_run ahead [] 10000) ≡ 0 ∷ 1 ∷ 2 ∷ 3 ∷ 4 ∷ 5 ∷ 6 ∷ 7 ∷ []
+ahead_again : recovered ahead ahead_first (source_run ahead [] 10000) ≡ 0 ∷ 1 ∷ 2 ∷ 3 ∷ 4 ∷ 5 ∷ 6 ∷ 7 ∷ []
 unfolding tree_opened
 ahead_again = refl
 
-ahead_never : recovered ahead ahead_second (whole_run ahead [] 10000) ≡ []
+ahead_never : recovered ahead ahead_second (source_run ahead [] 10000) ≡ []
 unfolding tree_opened
 ahead_never = refl
 
-ahead_begun : begun_count (whole_run ahead [] 10000) 1 ≡ 9
+ahead_begun : begun_count (source_run ahead [] 10000) 1 ≡ 9
 unfolding tree_opened
 ahead_begun = refl
 
-ahead_memory : memory_after (whole_run ahead [] 10000) 1 9 ≡ pos 1 ∷ pos 2 ∷ pos 3 ∷ pos 4 ∷ pos 5 ∷ pos 6 ∷ pos 7 ∷ pos 8 ∷ pos 0 ∷ pos 28 ∷ pos 8 ∷ []
+ahead_memory : memory_after (source_run ahead [] 10000) 1 9 ≡ pos 1 ∷ pos 2 ∷ pos 3 ∷ pos 4 ∷ pos 5 ∷ pos 6 ∷ pos 7 ∷ pos 8 ∷ pos 0 ∷ pos 28 ∷ pos 8 ∷ []
 unfolding tree_opened
 ahead_memory = refl
 
-behind_again : recovered behind behind_second (whole_run behind [] 10000) ≡ 1 ∷ 3 ∷ []
+behind_again : recovered behind behind_second (source_run behind [] 10000) ≡ 1 ∷ 3 ∷ []
 unfolding tree_opened
 behind_again = refl
 
-behind_begun : begun_count (whole_run behind [] 10000) 1 ≡ 5
+behind_begun : begun_count (source_run behind [] 10000) 1 ≡ 5
 unfolding tree_opened
 behind_begun = refl
 
-behind_memory : memory_after (whole_run behind [] 10000) 1 5 ≡ pos 0 ∷ pos 7 ∷ pos 7 ∷ pos 7 ∷ pos 7 ∷ pos 21 ∷ pos 4 ∷ []
+behind_memory : memory_after (source_run behind [] 10000) 1 5 ≡ pos 0 ∷ pos 7 ∷ pos 7 ∷ pos 7 ∷ pos 7 ∷ pos 21 ∷ pos 4 ∷ []
 unfolding tree_opened
 behind_memory = refl
 
@@ -210,7 +210,7 @@ element_second_checked : map (is_checked own_element element_second) (2 ∷ 3 �
 unfolding tree_opened
 element_second_checked = refl
 
-order_again : recovered in_text_order store_late (whole_run in_text_order [] 10000) ≡ []
+order_again : recovered in_text_order store_late (source_run in_text_order [] 10000) ≡ []
 unfolding tree_opened
 order_again = refl
 

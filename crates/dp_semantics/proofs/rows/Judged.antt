@@ -18,7 +18,7 @@ use Rattle.dp_semantics.specs.StageRun.{turn_from}
 use Rattle.dp_semantics.specs.Judge.{Judgement, Clean, Unclean, Agreed, judge, judge_from}
 use Rattle.dp_semantics.specs.Packets.{Going, Broken, Packet, Status}
 use Rattle.dp_semantics.specs.Words.{Full}
-use Rattle.dp_semantics.specs.Verdict.{whole_run, judgement_at, packet_at, done_in}
+use Rattle.dp_semantics.specs.Verdict.{source_run, judgement_at, packet_at, done_in}
 
 abbrev same_effect : Effect → Effect → Bool
 same_effect (Stored c v) (Stored d w) = (c == d) && int_eq v w
@@ -62,7 +62,7 @@ abbrev verdicts_of : Program → Plan → List ℤ → Run → List Verdict
 verdicts_of p plan input run = map (λ i. verdict_in p plan input run i (epoch p plan run i)) (count_from 0 (begun_count run plan.region))
 
 abbrev verdicts : Program → Plan → List ℤ → ℕ → List Verdict
-verdicts p plan input fuel = verdicts_of p plan input (whole_run p input fuel)
+verdicts p plan input fuel = verdicts_of p plan input (source_run p input fuel)
 
 stale_reads : verdicts stale_read stale_read_plan [] 10000 ≡ clean ∷ clean ∷ unclean ∷ clean ∷ clean ∷ unclean ∷ clean ∷ []
 unfolding tree_opened turn_from judge_from
@@ -139,7 +139,7 @@ abbrev with_status : Status → Packet → Packet
 with_status status packet = record { lists = packet.lists; status = status; version = packet.version }
 
 abbrev first_packet_as : Status → Judgement
-first_packet_as status = by (whole_run same_value_store [] 10000)
+first_packet_as status = by (source_run same_value_store [] 10000)
   where
     by : Run → Judgement
     by run = judge same_value_store stale_read_plan run.fuel (memory_after run 1 0) (with_status status (packet_at same_value_store stale_read_plan [] run 0 0))

@@ -13,7 +13,7 @@ use Rattle.dp_semantics.specs.Recovery.{epoch}
 use Rattle.dp_semantics.specs.Judge.{Agreed, Clean}
 use Rattle.dp_semantics.specs.Words.{word_list}
 use Rattle.dp_semantics.specs.Fits.{fits_plan}
-use Rattle.dp_semantics.specs.Verdict.{whole_run, packet_at, judgement_at, done_in, words_at_stage, effect_in, applied}
+use Rattle.dp_semantics.specs.Verdict.{source_run, packet_at, judgement_at, done_in, words_at_stage, effect_in, applied}
 use Rattle.dp_tree.proofs.InMain.{begins_in_main}
 use Rattle.dp_tree.proofs.RegionLaws.{regions_are_iterations}
 use Rattle.dp_semantics.proofs.OnceInMain.{regions_once}
@@ -21,12 +21,12 @@ use Rattle.dp_semantics.proofs.Fitting.{fitting_judges, fitting_epochs, fitting_
 
 -- the events at the sites of each region are those of its iterations
 events_of_regions : (p : Program) → IsInlined p → (input : List ℤ) (fuel r : ℕ) → 0 < r → r ≤ length p.regions →
-    filter (is_event_of p r) (whole_run p input fuel).trace ≡ events_of_first (whole_run p input fuel) r (length (starts (whole_run p input fuel) r))
+    filter (is_event_of p r) (source_run p input fuel).trace ≡ events_of_first (source_run p input fuel) r (length (starts (source_run p input fuel) r))
 events_of_regions p inlined input fuel r low high = regions_are_iterations p input fuel r (regions_once p inlined r low high)
 
 module _ (p : Program) (plan : Plan) (fits : fits_plan p plan ≡ true) (input : List ℤ) (fuel : ℕ) where
   abbrev run : Run
-  run = whole_run p input fuel
+  run = source_run p input fuel
 
   clean_is_judged_clean : (i k : ℕ) → start run plan.region i ≡ Some k → is_clean p plan run (epoch p plan run i) i ≡ true →
       judgement_at p plan input run (epoch p plan run i) i k ≡ Clean (done_in plan run i)

@@ -8,10 +8,10 @@ use Rattle.dp_plan.specs.declared.StageKind.TheVariants.{Seq, Par}
 use Rattle.dp_plan.proofs.Plans.{plan, zero_divisor_plan, stale_read_plan, skip_negative_plan, histogram_plan, two_stores_plan, stale_step_plan, stale_divisor_plan}
 use Rattle.dp_semantics.specs.Recovery.{recovered}
 use Rattle.dp_semantics.specs.OneStage.{one_stage_plan}
-use Rattle.dp_semantics.specs.Verdict.{whole_run}
+use Rattle.dp_semantics.specs.Verdict.{source_run}
 
 abbrev recovered_in : Program → Plan → List ℤ → ℕ → List ℕ
-recovered_in p plan input fuel = recovered p plan (whole_run p input fuel)
+recovered_in p plan input fuel = recovered p plan (source_run p input fuel)
 
 -- In one stage only an iteration that the fuel cuts is executed again.
 one_stage_whole : recovered_in sum_loop (one_stage_plan sum_loop 1) [] 10000 ≡ []

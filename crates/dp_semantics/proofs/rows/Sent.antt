@@ -14,7 +14,7 @@ use Rattle.dp_semantics.specs.Packets.{Broken, Closing, Packet, Status, passed}
 use Rattle.dp_semantics.specs.Recovery.{epoch}
 use Rattle.dp_semantics.specs.Words.{Astray, is_load, is_done}
 use Rattle.dp_semantics.specs.StageRun.{turn_from}
-use Rattle.dp_semantics.specs.Verdict.{whole_run, epoch_at, packet_at, words_at_stage}
+use Rattle.dp_semantics.specs.Verdict.{source_run, epoch_at, packet_at, words_at_stage}
 
 abbrev same_word : Word → Word → Bool
 same_word v w = (v.site.0 == w.site.0) && (v.index == w.index) && int_eq v.value w.value && (is_load v.kind && is_load w.kind || is_done v.kind && is_done w.kind)
@@ -33,7 +33,7 @@ abbrev agrees : Program → Plan → List ℤ → Run → ℕ → Bool
 agrees p plan input run i = same_lists (packet_at p plan input run (epoch p plan run i) i).lists (map (words_at_stage p plan (iteration run plan.region i)) (count_from 1 (length plan.stages)))
 
 abbrev agreeing : Program → Plan → List ℤ → List Bool
-agreeing p plan input = by (whole_run p input 10000)
+agreeing p plan input = by (source_run p input 10000)
   where
     by : Run → List Bool
     by run = map (agrees p plan input run) (count_from 0 (begun_count run plan.region))
@@ -64,7 +64,7 @@ closes Closing = true
 closes _ = false
 
 abbrev closing_packets : List Bool
-closing_packets = by (whole_run same_value_store [] 10000)
+closing_packets = by (source_run same_value_store [] 10000)
   where
     by : Run → List Bool
     by run = map (λ i. closes (packet_at same_value_store stale_read_plan [] run 0 i).status) (count_from 0 7)
@@ -78,7 +78,7 @@ done site index z = record { site = record { 0 = site }; kind = word.Done; index
 
 -- a void packet says which stage broke off and why, and keeps the words of the stages before it
 abbrev astray : Packet
-astray = packet_at skip_negative skip_negative_plan (negsuc 0 ∷ []) (whole_run skip_negative (negsuc 0 ∷ []) 10000) 0 0
+astray = packet_at skip_negative skip_negative_plan (negsuc 0 ∷ []) (source_run skip_negative (negsuc 0 ∷ []) 10000) 0 0
 
 broken_in_stage_two : astray ≡ record { lists = (done 2 0 (pos 1) ∷ done 6 1 (pos 1) ∷ []) ∷ []; status = Broken 2 (Astray 5 (Some (done 6 1 (pos 1)))); version = None }
 unfolding tree_opened turn_from
@@ -86,7 +86,7 @@ broken_in_stage_two = refl
 
 -- the memory that stage s of the histogram sends along in the second iteration
 abbrev version_from : ℕ → Option (List ℤ)
-version_from s = (passed (epoch_at histogram histogram_plan input (whole_run histogram input 10000) 0) s 1).packet.version
+version_from s = (passed (epoch_at histogram histogram_plan input (source_run histogram input 10000) 0) s 1).packet.version
   where
     input : List ℤ
     input = pos 0 ∷ pos 1 ∷ pos 2 ∷ []

@@ -12,7 +12,7 @@ use Rattle.dp_tree.specs.Inlined.{IsInlined}
 use Rattle.dp_calls.proofs.InlinedLaws.{expanded_is_inlined}
 use Rattle.dp_plan.specs.declared.Plan.{Plan}
 use Rattle.dp_plan.specs.GivenPlans.{ArePlans}
-use Rattle.dp_plan.proofs.ReadFits.{read_fits}
+use Rattle.dp_plan_text.proofs.ReadFits.{read_fits}
 use Rattle.dp_run.specs.Given.{AreGiven}
 use Rattle.dp_words.specs.Run.{Run}
 use Rattle.dswp.specs.declared.refusal.Refusal.{Refusal}

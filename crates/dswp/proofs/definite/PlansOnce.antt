@@ -5,15 +5,15 @@ use Rattle.std.proofs.lemmas.Bool.{cases_lt}
 use Rattle.dp_base.specs.declared.Quantity.TheVariants.{PlanBytes}
 use Rattle.dp_tree.specs.declared.Program.{Program}
 use Rattle.dp_plan.specs.declared.Plan.{Plan}
-use Rattle.dp_plan.specs.declared.reader.Reader.{Reader}
+use Rattle.dp_plan_text.specs.declared.reader.Reader.{Reader}
 use Rattle.dp_plan.specs.Written.{plan_of}
 use Rattle.dp_plan.specs.declared.WrittenPlan.{WrittenPlan}
 use Rattle.dp_plan.specs.Valid.{first_fault}
-use Rattle.dp_plan.specs.declared.rules.BrokenRule.{BrokenRule}
-use Rattle.dp_plan.specs.PlanText.{PlanLines, PlanText, lines_of}
-use Rattle.dp_plan.specs.Refused.{Begins, IsBroken, IsRefused, StandsFor, at_line, at_end}
-use Rattle.dp_plan.proofs.RunComplete.{over}
-use Rattle.dp_plan.proofs.TextLemmas.{text_runs}
+use Rattle.dp_plan.specs.declared.BrokenRule.{BrokenRule}
+use Rattle.dp_plan_text.specs.PlanText.{PlanLines, PlanText, lines_of}
+use Rattle.dp_plan_text.specs.Refused.{Begins, IsBroken, IsRefused, StandsFor, at_line, at_end}
+use Rattle.dp_plan_text.proofs.RunComplete.{over}
+use Rattle.dp_plan_text.proofs.TextLemmas.{text_runs}
 use Rattle.dswp.specs.declared.refusal.Refusal.{Refusal}
 use Rattle.dswp.specs.declared.refusal.Refusal.TheVariants.{Limit, PlanLine, PlanRule}
 use Rattle.dswp.specs.Plans.{ReadsPlans, TooLong, NotPlans, Broken, Taken}

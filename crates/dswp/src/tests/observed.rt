@@ -1,131 +1,44 @@
 //! Profiles: what runs show, to their ends.
-use super::{answer_to, each};
+use super::{answer_to, cut, each};
 use std::alloc::Global;
 use std::process::Abort;
 use std::sync::Wait;
 use std::test::Fail;
 use std::thread::Threads;
 
-/// What is asked for behind `profile`, what `p.c` and `in.txt` hold, and the profile without its first and its last line.
-type Shown = (&'static str, &'static str, &'static str, &'static str);
-
-/// To their ends. The flows of a body local stay within an iteration, those of the bound of an inner loop are of both kinds;
+/// To their ends: what is asked for behind `profile`, what `p.c` and `in.txt` hold, and the profile without its first and
+/// its last line. The flows of a body local stay within an iteration, those of the bound of an inner loop are of both kinds;
 /// a cell has its own last writer; what was stored before a region begins isn't shown in it.
-const DONE: [Shown; 12] = [
-    ("p.c", "int main() { }", "", ""),
-    ("p.c --fuel 0", "int main() { }", "", ""),
-    (
-        "p.c in.txt",
-        "int main() { int i = 0; while (i < input_len) { i = i + 1; } print(i); }",
-        "1 2",
-        "",
-    ),
-    (
-        "sum_loop.c",
-        "",
-        "",
-        "region 1\nruns 2 4 3\nruns 3 3 0\nruns 4 3 0\nruns 5 3 0\nflow 3 3 carried 2\nflow 3 4 intra 3\nflow 5 2 carried 3\nflow 5 3 carried 2\nflow 5 5 carried 2\n",
-    ),
-    (
-        "skip_negative.c in.txt",
-        "",
-        "5 6 7",
-        "region 1\nruns 2 4 3\nruns 3 3 0\nruns 4 3 0\nruns 5 0 0\nruns 6 3 0\nruns 7 3 0\nflow 3 4 intra 3\nflow 3 7 intra 3\nflow 6 2 carried 3\nflow 6 3 carried 2\nflow 6 6 carried 2\nflow 7 7 carried 2\n",
-    ),
-    (
-        "--fuel=+18 skip_negative.c in.txt",
-        "",
-        "5 -1 7 8",
-        "region 1\nruns 2 4 3\nruns 3 3 0\nruns 4 3 1\nruns 5 1 0\nruns 6 3 0\nruns 7 3 0\nflow 3 4 intra 3\nflow 3 7 intra 3\nflow 5 6 intra 1\nflow 6 2 carried 3\nflow 6 3 carried 2\nflow 6 5 carried 1\nflow 6 6 carried 1\nflow 7 7 carried 2\n",
-    ),
-    (
-        "stale_step.c",
-        "",
-        "",
-        "region 1\nruns 2 4 3\nruns 3 3 0\nruns 4 9 6\nruns 5 6 0\nruns 6 3 0\nruns 7 3 0\nruns 8 3 0\nflow 3 4 intra 3\nflow 3 5 intra 2\nflow 3 6 intra 1\nflow 5 4 intra 6\nflow 5 5 intra 4\nflow 5 6 intra 2\nflow 6 6 carried 2\nflow 7 5 carried 6\nflow 8 2 carried 3\nflow 8 4 carried 8\nflow 8 8 carried 2\n",
-    ),
-    (
-        "early_exit.c in.txt",
-        "",
-        "5 -1 7",
-        "region 1\nruns 2 2 2\nruns 3 2 0\nruns 4 2 1\nruns 5 1 0\nruns 6 1 0\nflow 3 4 intra 2\nflow 3 5 intra 1\nflow 6 2 carried 1\nflow 6 3 carried 1\n",
-    ),
-    (
-        "histogram.c in.txt",
-        "",
-        "1 2 1",
-        "region 1\nruns 2 4 3\nruns 3 3 0\nruns 4 3 0\nruns 5 3 0\nruns 6 3 0\nflow 3 5 intra 3\nflow 4 2 carried 3\nflow 4 3 carried 2\nflow 4 4 carried 2\nflow 5 6 intra 6\nflow 6 6 carried 1\n",
-    ),
-    (
-        "p.c",
-        "int s; int t; int main() { int i = 0; s = 4;\n#pragma dswp\nwhile (i < 2) { s = s + i; i = i + 1; }\nt = s;\n#pragma dswp\nwhile (i < 4) { t = t + s; i = i + 1; } }",
-        "",
-        "region 1\nruns 3 3 2\nruns 4 2 0\nruns 5 2 0\nflow 4 4 carried 1\nflow 5 3 carried 2\nflow 5 4 carried 1\nflow 5 5 carried 1\nregion 2\nruns 7 3 2\nruns 8 2 0\nruns 9 2 0\nflow 8 8 carried 1\nflow 9 7 carried 2\nflow 9 9 carried 1\n",
-    ),
-    (
-        "p.c",
-        "int n; int main() { int i = 0;\n#pragma dswp\nwhile (i < 2) { int j = 0; while (n < i * 2 + 2) { j = j + n; n = n + 1; } i = i + 1; } }",
-        "",
-        "region 1\nruns 2 3 2\nruns 3 2 0\nruns 4 6 4\nruns 5 4 0\nruns 6 4 0\nruns 7 2 0\nflow 3 5 intra 2\nflow 5 5 intra 2\nflow 6 4 intra 4\nflow 6 4 carried 1\nflow 6 5 intra 2\nflow 6 5 carried 1\nflow 6 6 intra 2\nflow 6 6 carried 1\nflow 7 2 carried 2\nflow 7 4 carried 3\nflow 7 7 carried 1\n",
-    ),
-    (
-        "p.c",
-        "int g; void add(int a) { g = g + a; } int main() { int i = 0;\n#pragma dswp\nwhile (i < 2) { add(i); add(g); i = i + 1; } }",
-        "",
-        "region 1\nruns 2 3 2\nruns 3 2 0\nruns 4 2 0\nruns 5 2 0\nruns 6 2 0\nruns 7 2 0\nflow 3 4 intra 2\nflow 4 5 intra 2\nflow 4 6 intra 2\nflow 5 6 intra 2\nflow 6 4 carried 1\nflow 7 2 carried 2\nflow 7 3 carried 1\nflow 7 7 carried 1\n",
-    ),
+const DONE: &[&str] = &[
+    "p.c | int main() { } => ",
+    "p.c --fuel 0 | int main() { } => ",
+    "p.c in.txt | int main() { int i = 0; while (i < input_len) { i = i + 1; } print(i); } | 1 2 => ",
+    "sum_loop.c => region 1\nruns 2 4 3\nruns 3 3 0\nruns 4 3 0\nruns 5 3 0\nflow 3 3 carried 2\nflow 3 4 intra 3\nflow 5 2 carried 3\nflow 5 3 carried 2\nflow 5 5 carried 2\n",
+    "skip_negative.c in.txt |  | 5 6 7 => region 1\nruns 2 4 3\nruns 3 3 0\nruns 4 3 0\nruns 5 0 0\nruns 6 3 0\nruns 7 3 0\nflow 3 4 intra 3\nflow 3 7 intra 3\nflow 6 2 carried 3\nflow 6 3 carried 2\nflow 6 6 carried 2\nflow 7 7 carried 2\n",
+    "--fuel=+18 skip_negative.c in.txt |  | 5 -1 7 8 => region 1\nruns 2 4 3\nruns 3 3 0\nruns 4 3 1\nruns 5 1 0\nruns 6 3 0\nruns 7 3 0\nflow 3 4 intra 3\nflow 3 7 intra 3\nflow 5 6 intra 1\nflow 6 2 carried 3\nflow 6 3 carried 2\nflow 6 5 carried 1\nflow 6 6 carried 1\nflow 7 7 carried 2\n",
+    "stale_step.c => region 1\nruns 2 4 3\nruns 3 3 0\nruns 4 9 6\nruns 5 6 0\nruns 6 3 0\nruns 7 3 0\nruns 8 3 0\nflow 3 4 intra 3\nflow 3 5 intra 2\nflow 3 6 intra 1\nflow 5 4 intra 6\nflow 5 5 intra 4\nflow 5 6 intra 2\nflow 6 6 carried 2\nflow 7 5 carried 6\nflow 8 2 carried 3\nflow 8 4 carried 8\nflow 8 8 carried 2\n",
+    "early_exit.c in.txt |  | 5 -1 7 => region 1\nruns 2 2 2\nruns 3 2 0\nruns 4 2 1\nruns 5 1 0\nruns 6 1 0\nflow 3 4 intra 2\nflow 3 5 intra 1\nflow 6 2 carried 1\nflow 6 3 carried 1\n",
+    "histogram.c in.txt |  | 1 2 1 => region 1\nruns 2 4 3\nruns 3 3 0\nruns 4 3 0\nruns 5 3 0\nruns 6 3 0\nflow 3 5 intra 3\nflow 4 2 carried 3\nflow 4 3 carried 2\nflow 4 4 carried 2\nflow 5 6 intra 6\nflow 6 6 carried 1\n",
+    "p.c | int s; int t; int main() { int i = 0; s = 4;\n#pragma dswp\nwhile (i < 2) { s = s + i; i = i + 1; }\nt = s;\n#pragma dswp\nwhile (i < 4) { t = t + s; i = i + 1; } } => region 1\nruns 3 3 2\nruns 4 2 0\nruns 5 2 0\nflow 4 4 carried 1\nflow 5 3 carried 2\nflow 5 4 carried 1\nflow 5 5 carried 1\nregion 2\nruns 7 3 2\nruns 8 2 0\nruns 9 2 0\nflow 8 8 carried 1\nflow 9 7 carried 2\nflow 9 9 carried 1\n",
+    "p.c | int n; int main() { int i = 0;\n#pragma dswp\nwhile (i < 2) { int j = 0; while (n < i * 2 + 2) { j = j + n; n = n + 1; } i = i + 1; } } => region 1\nruns 2 3 2\nruns 3 2 0\nruns 4 6 4\nruns 5 4 0\nruns 6 4 0\nruns 7 2 0\nflow 3 5 intra 2\nflow 5 5 intra 2\nflow 6 4 intra 4\nflow 6 4 carried 1\nflow 6 5 intra 2\nflow 6 5 carried 1\nflow 6 6 intra 2\nflow 6 6 carried 1\nflow 7 2 carried 2\nflow 7 4 carried 3\nflow 7 7 carried 1\n",
+    "p.c | int g; void add(int a) { g = g + a; } int main() { int i = 0;\n#pragma dswp\nwhile (i < 2) { add(i); add(g); i = i + 1; } } => region 1\nruns 2 3 2\nruns 3 2 0\nruns 4 2 0\nruns 5 2 0\nruns 6 2 0\nruns 7 2 0\nflow 3 4 intra 2\nflow 4 5 intra 2\nflow 4 6 intra 2\nflow 5 6 intra 2\nflow 6 4 carried 1\nflow 7 2 carried 2\nflow 7 3 carried 1\nflow 7 7 carried 1\n",
 ];
 
 /// To a fault: the evaluation that faults isn't counted, nor are its loads.
-const FAULTY: [Shown; 4] = [
-    ("p.c", "int main() { print(1 / 0); }", "", ""),
-    (
-        "zero_divisor.c",
-        "",
-        "",
-        "region 1\nruns 2 4 4\nruns 3 3 0\nruns 4 3 0\nflow 4 2 carried 3\nflow 4 3 carried 2\nflow 4 4 carried 2\n",
-    ),
-    (
-        "p.c",
-        "int main() { int i = 0;\n#pragma dswp\nwhile (6 / (2 - i)) { i = i + 1; } }",
-        "",
-        "region 1\nruns 2 2 2\nruns 3 2 0\nflow 3 2 carried 1\nflow 3 3 carried 1\n",
-    ),
-    (
-        "p.c in.txt",
-        "int s; int main() { int i = 0;\n#pragma dswp\nwhile (i < 4) { s = s + input[i]; i = i + 1; } }",
-        "7 8",
-        "region 1\nruns 2 3 3\nruns 3 2 0\nruns 4 2 0\nflow 3 3 carried 1\nflow 4 2 carried 2\nflow 4 3 carried 1\nflow 4 4 carried 1\n",
-    ),
+const FAULTY: &[&str] = &[
+    "p.c | int main() { print(1 / 0); } => ",
+    "zero_divisor.c => region 1\nruns 2 4 4\nruns 3 3 0\nruns 4 3 0\nflow 4 2 carried 3\nflow 4 3 carried 2\nflow 4 4 carried 2\n",
+    "p.c | int main() { int i = 0;\n#pragma dswp\nwhile (6 / (2 - i)) { i = i + 1; } } => region 1\nruns 2 2 2\nruns 3 2 0\nflow 3 2 carried 1\nflow 3 3 carried 1\n",
+    "p.c in.txt | int s; int main() { int i = 0;\n#pragma dswp\nwhile (i < 4) { s = s + input[i]; i = i + 1; } } | 7 8 => region 1\nruns 2 3 3\nruns 3 2 0\nruns 4 2 0\nflow 3 3 carried 1\nflow 4 2 carried 2\nflow 4 3 carried 1\nflow 4 4 carried 1\n",
 ];
 
 /// To the end of their fuel.
-const SPENT: [Shown; 5] = [
-    ("p.c --fuel 0", "int main() { print(1); }", "", ""),
-    (
-        "sum_loop.c --fuel 0",
-        "",
-        "",
-        "region 1\nruns 2 0 0\nruns 3 0 0\nruns 4 0 0\nruns 5 0 0\n",
-    ),
-    (
-        "sum_loop.c --fuel 9",
-        "",
-        "",
-        "region 1\nruns 2 2 2\nruns 3 2 0\nruns 4 2 0\nruns 5 2 0\nflow 3 3 carried 1\nflow 3 4 intra 2\nflow 5 2 carried 1\nflow 5 3 carried 1\nflow 5 5 carried 1\n",
-    ),
-    (
-        "sum_loop.c --fuel 10",
-        "",
-        "",
-        "region 1\nruns 2 3 3\nruns 3 2 0\nruns 4 2 0\nruns 5 2 0\nflow 3 3 carried 1\nflow 3 4 intra 2\nflow 5 2 carried 2\nflow 5 3 carried 1\nflow 5 5 carried 1\n",
-    ),
-    (
-        "p.c --fuel 9",
-        "int s; int t; int main() { int i = 0; s = 4;\n#pragma dswp\nwhile (i < 2) { s = s + i; i = i + 1; }\nt = s;\n#pragma dswp\nwhile (i < 4) { t = t + s; i = i + 1; } }",
-        "",
-        "region 1\nruns 3 3 2\nruns 4 2 0\nruns 5 2 0\nflow 4 4 carried 1\nflow 5 3 carried 2\nflow 5 4 carried 1\nflow 5 5 carried 1\nregion 2\nruns 7 0 0\nruns 8 0 0\nruns 9 0 0\n",
-    ),
+const SPENT: &[&str] = &[
+    "p.c --fuel 0 | int main() { print(1); } => ",
+    "sum_loop.c --fuel 0 => region 1\nruns 2 0 0\nruns 3 0 0\nruns 4 0 0\nruns 5 0 0\n",
+    "sum_loop.c --fuel 9 => region 1\nruns 2 2 2\nruns 3 2 0\nruns 4 2 0\nruns 5 2 0\nflow 3 3 carried 1\nflow 3 4 intra 2\nflow 5 2 carried 1\nflow 5 3 carried 1\nflow 5 5 carried 1\n",
+    "sum_loop.c --fuel 10 => region 1\nruns 2 3 3\nruns 3 2 0\nruns 4 2 0\nruns 5 2 0\nflow 3 3 carried 1\nflow 3 4 intra 2\nflow 5 2 carried 2\nflow 5 3 carried 1\nflow 5 5 carried 1\n",
+    "p.c --fuel 9 | int s; int t; int main() { int i = 0; s = 4;\n#pragma dswp\nwhile (i < 2) { s = s + i; i = i + 1; }\nt = s;\n#pragma dswp\nwhile (i < 4) { t = t + s; i = i + 1; } } => region 1\nruns 3 3 2\nruns 4 2 0\nruns 5 2 0\nflow 4 4 carried 1\nflow 5 3 carried 2\nflow 5 4 carried 1\nflow 5 5 carried 1\nregion 2\nruns 7 0 0\nruns 8 0 0\nruns 9 0 0\n",
 ];
 
 /// The program's refusal comes before the input's.
@@ -144,10 +57,13 @@ const REFUSED: &[&str] = &[
 fn each_shown<R: Abort + Threads + Wait + Sync>(
     rt: &R,
     alloc: Global,
-    table: &[Shown],
+    table: &[&str],
     status: u8,
 ) -> Result<(), Fail> {
-    for (words, program, input, shown) in table {
+    for row in table {
+        let (front, shown) = cut(row, " => ");
+        let (words, texts) = cut(front, " | ");
+        let (program, input) = cut(texts, " | ");
         let held = [("p.c", program.as_bytes()), ("in.txt", input.as_bytes())];
         let words = format!(in alloc; "profile {words}")?;
         let text = format!(in alloc; "profile 1\n{shown}end\n")?;
@@ -161,9 +77,9 @@ fn each_shown<R: Abort + Threads + Wait + Sync>(
 
 #[test]
 fn runs_show_their_profiles(rt: HostRuntime) -> Result<(), Fail> {
-    each_shown(&rt, rt.alloc(), &DONE, 0)?;
-    each_shown(&rt, rt.alloc(), &FAULTY, 1)?;
-    each_shown(&rt, rt.alloc(), &SPENT, 8)?;
+    each_shown(&rt, rt.alloc(), DONE, 0)?;
+    each_shown(&rt, rt.alloc(), FAULTY, 1)?;
+    each_shown(&rt, rt.alloc(), SPENT, 8)?;
     each(&rt, rt.alloc(), REFUSED)?;
     Ok(())
 }

@@ -1,6 +1,6 @@
 use Rattle.std.proofs.Common.{◌<◌, ◌+◌, ◌-◌, ◌++◌, ◌∷◌, [], ap, ◌∙◌, arith, ℕ, map}
 use Rattle.dp_tree.specs.Numbering.{numbers_from}
-use Rattle.dp_plan.proofs.ListWalks.{joins_more}
+use Rattle.dp_plan.proofs.Joins.{joins_more}
 use Rattle.dp_cut.specs.LeastPlan.{unit_weight, unit_weights}
 use Rattle.dp_cut.proofs.SumLemmas.{count_next}
 use Rattle.dp_cut.proofs.sums.unit_weights.Goals as goal

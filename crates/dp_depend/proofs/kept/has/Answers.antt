@@ -1,5 +1,5 @@
 use Rattle.std.proofs.Common.{sym}
-use Rattle.dp_plan.proofs.OrderLemmas.{absent}
+use Rattle.dp_plan.proofs.Searched.{absent}
 use Rattle.dp_depend.proofs.kept.has.Goals as goal
 
 pub returns-in-Err : goal.returns-in-Err

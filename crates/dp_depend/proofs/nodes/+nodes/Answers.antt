@@ -1,7 +1,7 @@
 use Rattle.std.proofs.Common.{◌+◌, ◌<◌, ◌++◌, ◌∷◌, [], List, ℕ, Option, Some, None, length, drop, sym, ap, ◌∙◌, arith}
 use Rattle.std.proofs.lemmas.List.{at_drop_all}
 use Rattle.dp_tree.specs.declared.Stmt.{Stmt}
-use Rattle.dp_plan.proofs.ListWalks.{joins_more, joins_all, item_and_one, item_and_two}
+use Rattle.dp_plan.proofs.Joins.{joins_more, joins_all, item_and_one, item_and_two}
 use Rattle.dp_depend.specs.Node.{Node, plain_node, if_node, loop_of}
 use Rattle.dp_depend.specs.Lists.{load_list, node_list, node_lists}
 use Rattle.dp_depend.proofs.NodeForms.{nodes-none, nodes-next, nodes-If, nodes-While, nodes-Region}

@@ -1,6 +1,6 @@
 use Rattle.std.proofs.Common.{◌+◌, ◌<◌, ◌++◌, [], None, List, length, drop, sym, ap, ◌∙◌, arith}
 use Rattle.std.proofs.lemmas.List.{at_drop_all}
-use Rattle.dp_plan.proofs.ListWalks.{joins_more, joins_all}
+use Rattle.dp_plan.proofs.Joins.{joins_more, joins_all}
 use Rattle.dp_depend.specs.Node.{Node}
 use Rattle.dp_depend.specs.Lists.{node_list, nodes_in_region}
 use Rattle.dp_depend.proofs.NodeForms.{region-none, region-next, region-skip}

@@ -1,6 +1,6 @@
 use Rattle.std.proofs.Common.{arith, ◌≡◌, ◌+◌, ◌-◌, ◌*◌, ◌^◌, ℕ, suc, List, sym, ap, ◌∙◌, subst, refl}
 use Rattle.dp_plan.specs.Access.{is_replicated}
-use Rattle.dp_plan.specs.PlanText.{Each}
+use Rattle.dp_plan.specs.Each.{Each}
 use Rattle.dp_ring.specs.declared.view.Standing.{Standing}
 use Rattle.dp_pipeline.specs.declared.keys.LaneKey.{LaneKey}
 use Rattle.dp_pipeline.specs.Keys.{key_of}

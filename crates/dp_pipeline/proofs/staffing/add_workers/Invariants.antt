@@ -1,5 +1,5 @@
 use Rattle.std.proofs.Common.{◌≡◌, ℕ, length}
-use Rattle.dp_plan.specs.PlanText.{Each}
+use Rattle.dp_plan.specs.Each.{Each}
 use Rattle.dp_pipeline.specs.Seats.{IsUnused}
 use Rattle.dp_pipeline.proofs.staffing.add_workers.Given as goal
 

@@ -1,6 +1,6 @@
 use Rattle.std.proofs.Common.{◌≡◌, ◌<◌, ◌∷◌, [], ◌++◌, List, length, None, Some, sym, ap, subst, ◌∙◌, arith}
-use Rattle.dp_plan.specs.PlanText.{lines_of}
-use Rattle.dp_plan.specs.Words.{words}
+use Rattle.dp_plan_text.specs.PlanText.{lines_of}
+use Rattle.dp_plan_text.specs.Words.{words}
 use Rattle.dp_profile.specs.declared.reader.Reader.{Reader}
 use Rattle.dp_profile.specs.Sites.{RegionSite, regions}
 use Rattle.dp_profile.specs.LineWords.{line_of}

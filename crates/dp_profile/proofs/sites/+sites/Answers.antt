@@ -1,7 +1,7 @@
 use Rattle.std.proofs.Common.{◌+◌, ◌<◌, ◌++◌, List, length, drop, sym, ap, ◌∙◌, arith, true}
 use Rattle.std.proofs.lemmas.List.{at_drop_all}
 use Rattle.dp_tree.specs.declared.Stmt.{Stmt}
-use Rattle.dp_plan.proofs.ListWalks.{joins_more, joins_all, item_and_one, item_and_two}
+use Rattle.dp_plan.proofs.Joins.{joins_more, joins_all, item_and_one, item_and_two}
 use Rattle.dp_profile.specs.Sites.{RegionSite, region_site}
 use Rattle.dp_profile.specs.Lists.{site_list, site_lists}
 use Rattle.dp_profile.proofs.ListWalks.{sites-none, sites-next, sites-If, sites-While, sites-Region}

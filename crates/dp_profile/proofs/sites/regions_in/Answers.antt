@@ -1,6 +1,6 @@
 use Rattle.std.proofs.Common.{◌+◌, ◌<◌, ◌∷◌, [], ◌++◌, List, length, drop, sym, ap, ◌∙◌, arith}
 use Rattle.std.proofs.lemmas.List.{at_drop_all}
-use Rattle.dp_plan.proofs.ListWalks.{joins_more, joins_all}
+use Rattle.dp_plan.proofs.Joins.{joins_more, joins_all}
 use Rattle.dp_profile.specs.Sites.{RegionSite}
 use Rattle.dp_profile.specs.Lists.{site_list, region_lists}
 use Rattle.dp_profile.proofs.ListWalks.{regions-none, regions-next, regions-skip}

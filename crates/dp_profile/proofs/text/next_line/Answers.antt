@@ -1,6 +1,6 @@
 use Rattle.std.proofs.Common.{◌+◌, ◌∷◌, [], ◌++◌, drop, sym, ap, ◌∙◌}
-use Rattle.dp_plan.specs.PlanText.{lines_of}
-use Rattle.dp_plan.proofs.CutLemmas.{at_end}
+use Rattle.dp_plan_text.specs.PlanText.{lines_of}
+use Rattle.dp_plan_text.proofs.CutLemmas.{at_end}
 use Rattle.dp_profile.proofs.text.next_line.Goals as goal
 
 pub returns-clause-lines : goal.returns-clause-lines

@@ -1,6 +1,6 @@
 use Rattle.std.proofs.Common.{◌+◌, ◌∷◌, drop, sym, ap, ◌∙◌}
-use Rattle.dp_plan.specs.Words.{words}
-use Rattle.dp_plan.proofs.WordLemmas.{no_space, at_space}
+use Rattle.dp_plan_text.specs.Words.{words}
+use Rattle.dp_plan_text.proofs.WordLemmas.{no_space, at_space}
 use Rattle.dp_profile.proofs.words.next_word.Goals as goal
 
 pub returns-in-None-clause-words : goal.returns-in-None-clause-words

@@ -1,5 +1,5 @@
 use Rattle.std.proofs.Common.{◌++◌, inl, inr}
-use Rattle.dp_plan.proofs.ListWalks.{joins_all}
+use Rattle.dp_plan.proofs.Joins.{joins_all}
 use Rattle.dp_profile.specs.WrittenText.{runs_text}
 use Rattle.dp_profile.proofs.WriteLemmas.{no_sites, no_counts}
 use Rattle.dp_profile.proofs.write.put_counts.Goals as goal

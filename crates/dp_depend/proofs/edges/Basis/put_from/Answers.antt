@@ -1,6 +1,6 @@
 use Rattle.std.proofs.Common.{◌+◌, ◌<◌, ◌++◌, sym, ap, ◌∙◌, arith, ℕ, List, length, drop}
 use Rattle.std.proofs.lemmas.List.{at_drop_all}
-use Rattle.dp_plan.proofs.ListWalks.{joins_more, joins_all}
+use Rattle.dp_plan.proofs.Joins.{joins_more, joins_all}
 use Rattle.dp_depend.specs.Node.{Node}
 use Rattle.dp_depend.specs.declared.Edge.{Edge}
 use Rattle.dp_depend.specs.Edges.{edges_from, edges_between}

@@ -1,7 +1,7 @@
 use Rattle.std.proofs.Common.{◌≡◌, ◌∙◌, sym, ap, List, slice_get, Ok}
 use Rattle.dp_plan.specs.declared.Plan.{Plan}
 use Rattle.dp_plan.specs.GivenPlans.{IsPlan, ArePlans}
-use Rattle.dp_plan.proofs.PartTable.{each_at}
+use Rattle.dp_plan.proofs.EachLemmas.{each_at}
 use Rattle.dswp.proofs.TextsLemmas.{given}
 use Rattle.dswp.proofs.accepted.Given.{read_plans_fit}
 use Rattle.dswp.proofs.tests.units.with_program.Goals as goal

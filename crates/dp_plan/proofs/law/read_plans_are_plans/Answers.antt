@@ -1,5 +1,0 @@
-use Rattle.dp_plan.proofs.ReadFits.{read_fits}
-use Rattle.dp_plan.proofs.law.read_plans_are_plans.Goals as goal
-
-pub returns : goal.returns
-returns c = read_fits c.args.p.now c.requires.inlined c.requires.sites

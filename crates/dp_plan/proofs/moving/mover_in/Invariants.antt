@@ -1,6 +1,0 @@
-use Rattle.std.proofs.Common.{◌≡◌, drop}
-use Rattle.dp_plan.specs.Storings as spec
-use Rattle.dp_plan.proofs.moving.mover_in.Given as goal
-
-abbrev pub invariant-loop-statement : goal.invariant-loop-statement
-invariant-loop-statement l = spec.mover_in l.moved (drop l.statement-index l.all) ≡ spec.mover_in l.moved l.all

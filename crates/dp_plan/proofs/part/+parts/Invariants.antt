@@ -1,6 +1,0 @@
-use Rattle.std.proofs.Common.{◌≡◌, ◌++◌, drop}
-use Rattle.dp_plan.specs.Parts.{part_lists}
-use Rattle.dp_plan.proofs.part.+parts.Given as goal
-
-abbrev pub invariant-put_parts-loop-statement : goal.invariant-put_parts-loop-statement
-invariant-put_parts-loop-statement l = l.out ++ part_lists l.until (drop l.statement-index l.all) ≡ l.initial.out ++ part_lists l.until l.all

@@ -1,9 +1,0 @@
-use Rattle.std.proofs.Common.{◌+◌, ◌≤◌, length}
-use Rattle.dp_plan.proofs.SoFar.{SoFar}
-use Rattle.dp_plan.proofs.text.read_text.Given as goal
-
-abbrev pub invariant-lines : goal.invariant-lines
-invariant-lines l = SoFar l.p l.bytes l.reader l.rest l.count × (l.count + length l.rest ≤ length l.bytes)
-
-abbrev pub decreases-lines : goal.decreases-lines
-decreases-lines l = length l.rest

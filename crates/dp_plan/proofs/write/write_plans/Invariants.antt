@@ -1,6 +1,0 @@
-use Rattle.std.proofs.Common.{◌≡◌, ◌++◌, drop}
-use Rattle.dp_plan.specs.WrittenText.{plan_texts}
-use Rattle.dp_plan.proofs.write.write_plans.Given as goal
-
-abbrev pub invariant-loop-plan : goal.invariant-loop-plan
-invariant-loop-plan l = l.out ++ plan_texts l.p (drop l.plan-index l.plans) ≡ l.initial.out ++ plan_texts l.p l.plans

@@ -1,0 +1,14 @@
+-- The sites of a line, word by word.
+use Rattle.std.proofs.Common.{◌≡◌, ℕ, suc, List, [], ◌∷◌, ◌++◌, length, Option, Some, None, refl, sym, ap, ◌∙◌, append_assoc}
+use Rattle.dp_plan_text.specs.Words.{number_of}
+use Rattle.dp_plan_text.specs.LineWords.{above, onto_sites, site_before, sites_above}
+
+-- earlier sites, before what the later words give
+abbrev pub behind_sites : List ℕ → Option (List ℕ) → Option (List ℕ)
+behind_sites earlier None = None
+behind_sites earlier (Some sites) = Some (earlier ++ sites)
+
+-- more than the length of what follows a space, and 0 where nothing follows
+abbrev pub length_behind : Option (List ℕ) → ℕ
+length_behind None = 0
+length_behind (Some text) = suc (length text)

@@ -1,0 +1,96 @@
+-- The first word of a line and the words behind it.
+use Rattle.std.proofs.Common.{◌≡◌, ℕ, suc, ◌+◌, ◌<◌, ◌≤◌, ◌==◌, Bool, true, false, not, cond, nat_lt, List, [], ◌∷◌, length, take, drop, Option, Some, None, refl, sym, ap, ◌∙◌, rules, arith}
+use Rattle.std.specs.List.{position, position_or_len}
+use Rattle.dp_plan_text.specs.PlanText.{onto_first}
+use Rattle.dp_plan_text.specs.declared.line.Line.{Line}
+use Rattle.dp_plan_text.specs.Words.{words}
+use Rattle.dp_plan_text.specs.LineWords.{region_line, assume_line, head_line, end_line}
+
+-- how many bytes stand before the first of this kind
+abbrev pub first_end : ℕ → List ℕ → ℕ
+first_end byte = position_or_len (λ b. b == byte)
+
+pub next_is : (n : ℕ) → 1 + n ≡ suc n
+next_is n = omega arith
+
+words_case : (byte : ℕ) (text : List ℕ) (is : Bool) → (byte == 32) ≡ is → (n : ℕ)
+    → (n < length text → words text ≡ take n text ∷ words (drop (n + 1) text)) → cond (not (byte == 32)) (1 + n) 0 < length (byte ∷ text)
+    → words (byte ∷ text) ≡ take (cond (not (byte == 32)) (1 + n) 0) (byte ∷ text) ∷ words (drop (cond (not (byte == 32)) (1 + n) 0 + 1) (byte ∷ text))
+words_case byte text true e n more lt = rw e refl
+words_case byte text false e n more lt =
+    let long : (1 + n) < suc (length text) = rw e at lt in
+    let short : n < length text = omega (arith, long) in
+    let plus : (1 + n) + 1 ≡ suc (n + 1) = omega arith in
+    rw e (ap (onto_first byte) (more short) ∙ sym (ap (λ k. take k (byte ∷ text) ∷ words (drop ((1 + n) + 1) (byte ∷ text))) (next_is n) ∙ ap (λ k. (byte ∷ take n text) ∷ words (drop k (byte ∷ text))) plus))
+
+-- up to the first space
+pub words_front : (text : List ℕ) → first_end 32 text < length text → words text ≡ take (first_end 32 text) text ∷ words (drop (first_end 32 text + 1) text)
+words_front [] lt = absurd (omega (arith, lt))
+words_front (byte ∷ text) lt = words_case byte text (byte == 32) refl (first_end 32 text) (words_front text) lt
+
+one_case : (byte : ℕ) (text : List ℕ) (is : Bool) → (byte == 32) ≡ is → (n : ℕ)
+    → (length text ≤ n → words text ≡ text ∷ []) → length (byte ∷ text) ≤ cond (not (byte == 32)) (1 + n) 0 → words (byte ∷ text) ≡ (byte ∷ text) ∷ []
+one_case byte text true e n more le =
+    let none : suc (length text) ≤ 0 = rw e at le in absurd (omega (arith, none))
+one_case byte text false e n more le =
+    let long : suc (length text) ≤ 1 + n = rw e at le in rw e (ap (onto_first byte) (more (omega (arith, long))))
+
+-- without a space there is one word
+pub words_one : (text : List ℕ) → length text ≤ first_end 32 text → words text ≡ text ∷ []
+words_one [] le = refl
+words_one (byte ∷ text) le = one_case byte text (byte == 32) refl (first_end 32 text) (words_one text) le
+
+-- ---- what `position` tells
+
+some_case : (n len k : ℕ) (found : Bool) → nat_lt n len ≡ found → cond found (Some n) None ≡ Some k → (k ≡ n) × (n < len)
+some_case n len k true e h = (cc h, search rules)
+some_case n len k false e h = absurd (cc h)
+
+pub position_some : (test : ℕ → Bool) (text : List ℕ) (k : ℕ) → position test text ≡ Some k → (k ≡ position_or_len test text) × (position_or_len test text < length text)
+position_some test text k h = some_case (position_or_len test text) (length text) k _ refl h
+
+none_case : (n len : ℕ) (found : Bool) → nat_lt n len ≡ found → cond found (Some n) None ≡ None → len ≤ n
+none_case n len true e h = absurd (cc h)
+none_case n len false e h = search rules
+
+pub position_none : (test : ℕ → Bool) (text : List ℕ) → position test text ≡ None → length text ≤ position_or_len test text
+position_none test text h = none_case (position_or_len test text) (length text) _ refl h
+
+-- ---- the first word of a line
+
+pub no_space : (text : List ℕ) → position (λ b. b == 32) text ≡ None → words text ≡ text ∷ []
+no_space text h = words_one text (position_none (λ b. b == 32) text h)
+
+pub at_space : (text : List ℕ) (len : ℕ) → position (λ b. b == 32) text ≡ Some len → words text ≡ take len text ∷ words (drop (len + 1) text)
+at_space text len h =
+    let at = position_some (λ b. b == 32) text len h in
+    words_front text at.1 ∙ ap (λ k. take k text ∷ words (drop (k + 1) text)) (sym at.0)
+
+-- ---- there is always a word
+
+first_case : (P : List (List ℕ) → Type 0) (byte : ℕ) (pieces : List (List ℕ)) → ((word : List ℕ) (rest : List (List ℕ)) → P (word ∷ rest)) → P (onto_first byte pieces)
+first_case P byte [] full = full (byte ∷ []) []
+first_case P byte (first ∷ rest) full = full (byte ∷ first) rest
+
+space_case : (P : List (List ℕ) → Type 0) (byte : ℕ) (text : List ℕ) (is : Bool) → (byte == 32) ≡ is → ((word : List ℕ) (rest : List (List ℕ)) → P (word ∷ rest)) → P (words (byte ∷ text))
+space_case P byte text true e full = rw e (full [] (words text))
+space_case P byte text false e full = rw e (first_case P byte (words text) full)
+
+pub some_word : (P : List (List ℕ) → Type 0) → ((word : List ℕ) (rest : List (List ℕ)) → P (word ∷ rest)) → (text : List ℕ) → P (words text)
+some_word P full [] = full [] []
+some_word P full (byte ∷ text) = space_case P byte text (byte == 32) refl full
+
+abbrev is_no_line : Option Line → Type 0
+is_no_line l = l ≡ None
+
+pub end_more : (text : List ℕ) → end_line (words text) ≡ None
+end_more = some_word (λ ws. is_no_line (end_line ws)) (λ _ _. refl)
+
+pub head_more : (a : List ℕ) (text : List ℕ) → head_line (a ∷ words text) ≡ None
+head_more a = some_word (λ ws. is_no_line (head_line (a ∷ ws))) (λ _ _. refl)
+
+pub assume_more : (a b : List ℕ) (text : List ℕ) → assume_line (a ∷ b ∷ words text) ≡ None
+assume_more a b = some_word (λ ws. is_no_line (assume_line (a ∷ b ∷ ws))) (λ _ _. refl)
+
+pub region_more : (a b c : List ℕ) (text : List ℕ) → region_line (a ∷ b ∷ c ∷ words text) ≡ None
+region_more a b c = some_word (λ ws. is_no_line (region_line (a ∷ b ∷ c ∷ ws))) (λ _ _. refl)

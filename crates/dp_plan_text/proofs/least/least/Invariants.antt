@@ -1,0 +1,7 @@
+use Rattle.std.proofs.Common.{◌≡◌, drop}
+use Rattle.dp_plan.specs.Rules as rules
+use Rattle.dp_plan_text.specs.Tables as tables
+use Rattle.dp_plan_text.proofs.least.least.Given as goal
+
+abbrev pub invariant-loop-number : goal.invariant-loop-number
+invariant-loop-number l = tables.lesser_of l.found (rules.least (drop l.number-index l.numbers)) ≡ rules.least l.numbers

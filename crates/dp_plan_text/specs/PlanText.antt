@@ -1,0 +1,76 @@
+-- The text of plans: its lines in order, the words of each, and what the numbers have to be.
+use Rattle.std.specs.Prelude.{◌≡◌, ℕ, ◌^◌, ◌<◌, ◌≤◌, Bool, true, false, ◌==◌, if◌then◌else◌, List, [], ◌∷◌, ◌++◌, map, length, codes, decimal}
+use Rattle.std.specs.List.{flat_map}
+use Rattle.dp_tree.specs.declared.Assume.{Assume}
+use Rattle.dp_tree.specs.declared.Program.{Program}
+use Rattle.dp_tree.specs.Numbering.{numbers_from}
+use Rattle.dp_plan.specs.declared.StageKind.{StageKind}
+use Rattle.dp_plan.specs.declared.StageKind.TheVariants.{Seq, Par}
+use Rattle.dp_plan_text.specs.declared.line.Line.{Line}
+use Rattle.dp_plan_text.specs.declared.line.Line.TheVariants as line
+use Rattle.dp_plan.specs.declared.WrittenPlan.{WrittenPlan}
+use Rattle.dp_plan.specs.Each.{Each}
+use Rattle.dp_plan.specs.PlanFits.{PlanFits}
+
+abbrev pub kind_word : StageKind → List ℕ
+kind_word Seq = codes "seq"
+kind_word Par = codes "par"
+
+-- 1 for an outcome other than 0
+abbrev pub outcome_number : Bool → ℕ
+outcome_number true = 1
+outcome_number false = 0
+
+-- the version of a text whose plans have proved independence, and of one whose plans haven't
+abbrev pub version_number : Bool → ℕ
+version_number true = 2
+version_number false = 1
+
+-- the words of a line; numbers are decimal, without a sign or leading zeros
+abbrev pub words_of : Line → List (List ℕ)
+words_of (line.Head proved) = codes "plan" ∷ decimal (version_number proved) ∷ []
+words_of (line.Region r w) = codes "region" ∷ decimal r ∷ codes "words" ∷ decimal w ∷ []
+words_of (line.Stage stage) = kind_word stage.kind ∷ map decimal stage.sites
+words_of (line.Assume a) = codes "assume" ∷ decimal a.site.0 ∷ decimal (outcome_number a.taken) ∷ []
+words_of line.End = codes "end" ∷ []
+
+-- words with single spaces between
+abbrev pub joined : List (List ℕ) → List ℕ
+joined [] = []
+joined (word ∷ []) = word
+joined (word ∷ next ∷ rest) = word ++ 32 ∷ joined (next ∷ rest)
+
+-- the line's bytes: its words, and LF
+abbrev pub line_bytes : Line → List ℕ
+line_bytes l = joined (words_of l) ++ 10 ∷ []
+
+-- the lines of a region: the first, one for each stage in order, and one for each assumption as they stand
+abbrev pub region_lines : WrittenPlan → List Line
+region_lines w = line.Region w.region w.words ∷ (map line.Stage w.stages ++ map line.Assume w.assume)
+
+-- the lines of a text: the first, which names the version, those of the regions, and the last
+abbrev pub plan_lines : Bool → List WrittenPlan → List Line
+plan_lines proved plans = line.Head proved ∷ (flat_map region_lines plans ++ line.End ∷ [])
+
+abbrev pub region_number : WrittenPlan → ℕ
+region_number w = w.region
+
+-- the lines are those of these plans, one for each region of the program in order, in the version with proved independence or in the one without
+pub record PlanLines (p : Program) (lines : List (List ℕ)) (proved : Bool) (plans : List WrittenPlan) : Type 0 where
+  pub lines_are : lines ≡ map line_bytes (plan_lines proved plans)
+  pub regions : map region_number plans ≡ numbers_from 1 (length p.regions)
+  pub fit : Each PlanFits plans
+
+-- the byte at the front of the first line
+abbrev pub onto_first : ℕ → List (List ℕ) → List (List ℕ)
+onto_first byte [] = (byte ∷ []) ∷ []
+onto_first byte (first ∷ rest) = (byte ∷ first) ∷ rest
+
+-- a text is cut after each LF; what follows the last one is a line too, which no text of the grammar has
+abbrev pub lines_of : List ℕ → List (List ℕ)
+lines_of [] = []
+lines_of (byte ∷ rest) = if byte == 10 then (byte ∷ []) ∷ lines_of rest else onto_first byte (lines_of rest)
+
+-- the text is that of these plans
+abbrev pub PlanText : Program → List ℕ → Bool → List WrittenPlan → Type 0
+PlanText p bytes proved plans = PlanLines p (lines_of bytes) proved plans

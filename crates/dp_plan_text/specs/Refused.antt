@@ -1,0 +1,42 @@
+-- Texts that aren't in the grammar, with the line at which they are refused; and what a text is read as.
+use Rattle.std.specs.Prelude.{◌≡◌, ◌⊎◌, ℕ, ◌+◌, ◌<◌, ◌≤◌, Bool, List, ◌++◌, map, length, take, Option, Some, None, Result, Ok, Err}
+use Rattle.dp_tree.specs.declared.Program.{Program}
+use Rattle.dp_plan.specs.declared.Plan.{Plan}
+use Rattle.dp_plan_text.specs.declared.PlanFail.{PlanFail}
+use Rattle.dp_plan_text.specs.declared.PlanFail.TheVariants.{Refused, Invalid, NoMemory}
+use Rattle.dp_plan.specs.Written.{plan_of}
+use Rattle.dp_plan.specs.declared.WrittenPlan.{WrittenPlan}
+use Rattle.dp_plan.specs.Valid.{first_fault}
+use Rattle.dp_plan.specs.declared.BrokenRule.{BrokenRule}
+use Rattle.dp_plan_text.specs.PlanText.{PlanLines, PlanText, lines_of}
+
+-- a text of the grammar begins with these lines
+abbrev pub Begins : Program → List (List ℕ) → Type 0
+Begins p lines = (more : List (List ℕ)) × (proved : Bool) × (plans : List WrittenPlan) × PlanLines p (lines ++ more) proved plans
+
+-- The least line, from 1, up to which no text of the grammar begins so. Where one begins with all lines, but isn't
+-- these, it is the number after the last line.
+pub data IsRefused (p : Program) (bytes : List ℕ) : ℕ → Type 0 where
+  at_line : (line : ℕ) → 1 ≤ line → line ≤ length (lines_of bytes) → ((k : ℕ) → k < line → Begins p (take k (lines_of bytes)))
+      → ¬ Begins p (take line (lines_of bytes)) → IsRefused p bytes line
+  at_end : (line : ℕ) → line ≡ length (lines_of bytes) + 1 → ((k : ℕ) → k < line → Begins p (take k (lines_of bytes)))
+      → ((proved : Bool) (plans : List WrittenPlan) → ¬ PlanText p bytes proved plans) → IsRefused p bytes line
+
+-- the text is in the grammar, and its plans break this rule first
+abbrev pub IsBroken : Program → List ℕ → Option BrokenRule → Type 0
+IsBroken p bytes fault = (proved : Bool) × (plans : List WrittenPlan) × PlanText p bytes proved plans × (first_fault p plans ≡ fault)
+
+-- the text is in the grammar, its plans are valid, and stand for these, with the version that its first line names
+abbrev pub StandsFor : Program → List ℕ → List Plan → Type 0
+StandsFor p bytes plans = (proved : Bool) × (written : List WrittenPlan) × PlanText p bytes proved written × (first_fault p written ≡ None) × (plans ≡ map (plan_of p proved) written)
+
+-- what a text is read as; want of memory may come at any place
+abbrev pub ReadsAs : Program → List ℕ → Result (List Plan) PlanFail → Type 0
+ReadsAs p bytes (Ok plans) = StandsFor p bytes plans
+ReadsAs p bytes (Err (Refused line)) = IsRefused p bytes line
+ReadsAs p bytes (Err (Invalid rule site)) = IsBroken p bytes (Some (record { rule = rule; site = site.0 }))
+ReadsAs p bytes (Err NoMemory) = Unit {0}
+
+-- Reading the text gives these plans and nothing else, unless memory is wanting.
+abbrev pub ReadsOnly : Program → List ℕ → List Plan → Type 0
+ReadsOnly p bytes plans = (result : Result (List Plan) PlanFail) → ReadsAs p bytes result → (result ≡ Ok plans) ⊎ (result ≡ Err NoMemory)

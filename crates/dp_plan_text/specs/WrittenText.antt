@@ -1,0 +1,58 @@
+-- The text of plans as it is written.
+use Rattle.std.specs.Prelude.{ℕ, ◌+◌, ◌==◌, Bool, true, List, [], ◌∷◌, ◌++◌, map, filter, decimal}
+use Rattle.std.specs.List.{flat_map}
+use Rattle.dp_tree.specs.declared.Assume.{Assume}
+use Rattle.dp_tree.specs.declared.Program.{Program}
+use Rattle.dp_plan.specs.declared.StageKind.{StageKind}
+use Rattle.dp_plan.specs.declared.Plan.{Plan}
+use Rattle.dp_plan_text.specs.declared.line.Line.{Line}
+use Rattle.dp_plan_text.specs.declared.line.Line.TheVariants as line
+use Rattle.dp_plan.specs.Stage.{stage_of}
+use Rattle.dp_plan.specs.Written.{written_of}
+use Rattle.dp_plan.specs.declared.WrittenStage.{WrittenStage}
+use Rattle.dp_plan.specs.GivenPlans.{version_of}
+use Rattle.dp_plan_text.specs.PlanText.{line_bytes, region_lines, plan_lines}
+
+-- the lines of the plans, each stage's sites in text order, and the assumptions as the plan has them
+abbrev pub plans_text : Program → List Plan → List ℕ
+plans_text p plans = flat_map line_bytes (plan_lines (version_of plans) (map (written_of p) plans))
+
+-- a line's bytes
+unfoldable pub line_text : Line → List ℕ
+line_text l = line_bytes l
+
+-- the lines of one plan
+unfoldable pub plan_text : Program → Plan → List ℕ
+plan_text p plan = flat_map line_bytes (region_lines (written_of p plan))
+
+-- those of several
+abbrev pub plan_texts : Program → List Plan → List ℕ
+plan_texts p [] = []
+plan_texts p (plan ∷ rest) = plan_text p plan ++ plan_texts p rest
+
+-- those of these sites that are of stage k
+abbrev pub sites_at : Program → Plan → ℕ → List ℕ → List ℕ
+sites_at p plan k sites = filter (λ site. stage_of p plan site == k) sites
+
+-- stage k with those of these sites that are its own
+abbrev pub stage_at : Program → Plan → List ℕ → ℕ → StageKind → WrittenStage
+stage_at p plan sites k kind = record { kind = kind; sites = sites_at p plan k sites }
+
+-- the lines of stages of these kinds, from stage k on
+abbrev pub stage_texts : Program → Plan → List ℕ → ℕ → List StageKind → List ℕ
+stage_texts p plan sites k [] = []
+stage_texts p plan sites k (kind ∷ rest) = line_text (line.Stage (stage_at p plan sites k kind)) ++ stage_texts p plan sites (k + 1) rest
+
+-- the lines of assumptions
+abbrev pub assume_texts : List Assume → List ℕ
+assume_texts [] = []
+assume_texts (a ∷ rest) = line_text (line.Assume a) ++ assume_texts rest
+
+-- a label, and a number right after it
+unfoldable pub labelled : List ℕ → ℕ → List ℕ
+labelled label n = label ++ decimal n
+
+-- each number behind a space
+abbrev pub spaced : List ℕ → List ℕ
+spaced [] = []
+spaced (n ∷ rest) = labelled (32 ∷ []) n ++ spaced rest

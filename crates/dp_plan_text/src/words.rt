@@ -1,0 +1,65 @@
+//! The words of a line, and the numbers that they write.
+
+ghost use Rattle.std.specs.Prelude.{◌≡◌, ◌<◌, ◌==◌, ◌∷◌, length, IfSome};
+ghost use Rattle.std.specs.Option.{option_copied};
+ghost use Rattle.std.specs.List.{position};
+ghost use Rattle.dp_plan_text.specs.Words as spec;
+
+fn first_space(text: &[u8]) -> Option<usize>
+    ensures { result ≡ position (λ byte. byte == 32) text.now }
+{
+    text.iter().position(|byte| *byte == b' ')
+}
+
+/// The first word, and what follows the space behind it, if one stands there.
+pub fn next_word(text: &[u8]) -> (&[u8], Option<&[u8]>)
+    ensures words { spec.words text.now ≡ result.0.now ∷ spec.words_behind (option_copied result.1) }
+    ensures shorter { IfSome result.1 (λ rest. length rest.now < length text.now) }
+{
+    match first_space(text) {
+        None => (text, None),
+        Some(len) => {
+            let (word, _) = text.split_at(len);
+            let (_, rest) = text.split_at(len + 1);
+            (word, Some(rest))
+        }
+    }
+}
+
+/// The number with one digit more, where it has 32 bits.
+fn with_digit(number: u32, digit: u8) -> Option<u32>
+    ensures { result ≡ spec.digit_after number digit }
+{
+    if !digit.is_ascii_digit() {
+        return None;
+    }
+    number.checked_mul(10)?.checked_add((digit - b'0') as u32)
+}
+
+#[tactic(auto, using(crate::proofs::Digits::value_lost, crate::proofs::Digits::value_found))]
+fn value(digits: &[u8]) -> Option<u32>
+    ensures { result ≡ spec.value_of digits.now }
+{
+    let mut number = 0;
+    'digits: for digit in digits {
+        number = with_digit(number, *digit)?;
+    }
+    Some(number)
+}
+
+fn is_plain(word: &[u8]) -> bool
+    ensures { result ≡ spec.is_plain word.now }
+{
+    match word {
+        [] => false,
+        [_] => true,
+        [first, ..] => *first != b'0',
+    }
+}
+
+/// The number that a word writes without leading zeros, where it has 32 bits.
+pub fn number(word: &[u8]) -> Option<u32>
+    ensures { result ≡ spec.number_of word.now }
+{
+    if is_plain(word) { value(word) } else { None }
+}

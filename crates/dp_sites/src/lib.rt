@@ -1,0 +1,13 @@
+//! The sites of a region in text order, with what each reads and stores: which of them lie apart, and which a plan has checked.
+#![tactic(auto)]
+
+mod apart;
+mod moving;
+mod part;
+mod place;
+mod sites;
+mod table;
+
+pub use apart::Apart;
+pub use sites::{put_sites, sites_of};
+pub use table::tabled;

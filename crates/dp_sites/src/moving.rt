@@ -1,0 +1,287 @@
+//! The stores of a region that move evenly with a variable, and by which store a load may see what the source doesn't have.
+
+ghost use Rattle.std.specs.Prelude.{◌≡◌, ◌==◌, IfOk, count_by, slice_get};
+ghost use Rattle.std.specs.List.{list_all};
+ghost use Rattle.dp_plan.specs.IsFar.{scalar_in};
+ghost use Rattle.dp_sites.specs.Storings as spec;
+
+use crate::part::{Part, Touched};
+use crate::place::{Gap, Place, Step, passes, step_of};
+use dp_base::{NoMemory, Row, SiteId, VarId};
+use dp_plan::Plan;
+use dp_tree::{Program, Stmt};
+use std::alloc::Global;
+
+/// A statement that moves a variable.
+#[derive(Clone, Copy)]
+pub struct Mover {
+    pub site: u32,
+    pub step: Step,
+}
+
+/// A place that is stored, and how it moves.
+#[derive(Clone, Copy)]
+pub struct Moving {
+    pub place: Place,
+    /// The store stands behind the mover.
+    pub late: bool,
+    pub step: Step,
+    /// The mover's site.
+    pub mover: u32,
+}
+
+/// A site that stores.
+#[derive(Clone, Copy)]
+pub struct Storing {
+    pub site: u32,
+    pub stage: u32,
+    pub var: VarId,
+    pub moving: Option<Moving>,
+}
+
+fn mover_by(site: SiteId, step: Option<Step>) -> Option<Mover>
+    ensures { result ≡ spec.mover_by site step }
+{
+    let step = step?;
+    Some(Mover { site: site.0, step })
+}
+
+/// The statement, where it moves the variable.
+#[tactic(auto, using(crate::proofs::MoverForms::mover_forms), unfolding(crate::specs::Place::step_at))]
+fn mover_of(moved: VarId, statement: &Stmt) -> Option<Mover>
+    ensures { result ≡ spec.mover_of moved statement.now }
+{
+    match statement {
+        Stmt::Assign { site, var, value } => {
+            if var.0 == moved.0 {
+                mover_by(*site, step_of(moved, value))
+            } else {
+                None
+            }
+        }
+        Stmt::Store { .. }
+        | Stmt::Print { .. }
+        | Stmt::Break { .. }
+        | Stmt::If { .. }
+        | Stmt::While { .. }
+        | Stmt::Region { .. }
+        | Stmt::Call { .. } => None,
+    }
+}
+
+/// The first of the statements that moves the variable.
+fn mover_in(moved: VarId, all: &[Stmt]) -> Option<Mover>
+    ensures { result ≡ spec.mover_in moved all.now }
+{
+    for statement in all {
+        if let Some(mover) = mover_of(moved, statement) {
+            return Some(mover);
+        }
+    }
+    None
+}
+
+fn stores(part: &Part, var: VarId) -> bool
+    ensures { result ≡ spec.part_stores var part.now }
+{
+    match part.stores {
+        Some(touched) => touched.var.0 == var.0,
+        None => false,
+    }
+}
+
+fn is_stored_once(all: &[Part], var: VarId) -> bool
+    ensures { result ≡ (count_by (spec.part_stores var) all.now == 1) }
+{
+    all.iter().filter(|part| stores(part, var)).count() == 1
+}
+
+fn is_scalar(p: &Program, var: VarId) -> bool
+    ensures { result ≡ scalar_in (slice_get p.now.vars var.0) }
+{
+    match p.vars.get(var.0 as usize) {
+        Some(info) => !info.array,
+        None => false,
+    }
+}
+
+fn is_moved_alone(p: &Program, plan: &Plan, all: &[Part], var: VarId) -> bool
+    ensures { result ≡ spec.is_moved_alone p.now plan.now all.now var }
+{
+    is_scalar(p, var) && !plan.is_body_local(p, var) && is_stored_once(all, var)
+}
+
+fn moving_with(site: u32, place: Place, mover: Option<Mover>) -> Option<Moving>
+    ensures { result ≡ spec.moving_with site place mover }
+{
+    let mover = mover?;
+    Some(Moving {
+        place,
+        late: mover.site < site,
+        step: mover.step,
+        mover: mover.site,
+    })
+}
+
+fn moving_of(
+    p: &Program,
+    plan: &Plan,
+    all: &[Part],
+    body: &[Stmt],
+    site: u32,
+    place: Option<Place>,
+) -> Option<Moving>
+    ensures { result ≡ spec.moving_of p.now plan.now all.now body.now site place }
+{
+    let place = place?;
+    if plan.proved && is_moved_alone(p, plan, all, place.by) {
+        moving_with(site, place, mover_in(place.by, body))
+    } else {
+        None
+    }
+}
+
+pub fn storing_at(
+    p: &Program,
+    plan: &Plan,
+    all: &[Part],
+    body: &[Stmt],
+    part: &Part,
+) -> Option<Storing>
+    ensures { result ≡ spec.storing_at p.now plan.now all.now body.now part.now }
+{
+    let stored = part.stores?;
+    Some(Storing {
+        site: part.site,
+        stage: plan.stage(p, SiteId(part.site)),
+        var: stored.var,
+        moving: moving_of(p, plan, all, body, part.site, stored.place),
+    })
+}
+
+/// The sites that store.
+pub fn storings(
+    alloc: Global,
+    p: &Program,
+    plan: &Plan,
+    all: &[Part],
+    body: &[Stmt],
+) -> Result<Row<Storing>, NoMemory>
+    ensures { IfOk result (λ found. found ≡ spec.storings p.now plan.now all.now body.now all.now) }
+{
+    let mut found = Row::new(alloc);
+    for part in all {
+        if let Some(storing) = storing_at(p, plan, all, body, part) {
+            found.push(storing)?;
+        }
+    }
+    Ok(found)
+}
+
+fn place_passes(test: Gap, site: u32, moving: Moving, place: Option<Place>) -> bool
+    ensures { result ≡ spec.place_passes test site moving place }
+{
+    match place {
+        None => false,
+        Some(place) => {
+            place.by.0 == moving.place.by.0
+                && passes(
+                    test,
+                    moving.place,
+                    moving.late,
+                    place,
+                    moving.mover < site,
+                    moving.step,
+                )
+        }
+    }
+}
+
+fn load_passes(test: Gap, site: u32, array: VarId, moving: Moving, load: Touched) -> bool
+    ensures { result ≡ spec.load_passes test site array moving load }
+{
+    load.var.0 != array.0 || place_passes(test, site, moving, load.place)
+}
+
+fn all_pass(test: Gap, part: &Part, array: VarId, moving: Moving) -> bool
+    ensures { result ≡ list_all (spec.load_passes test part.now.site array moving) part.now.loads }
+{
+    let loads = part.loads.as_slice();
+    for load in loads {
+        if !load_passes(test, part.site, array, moving, *load) {
+            return false;
+        }
+    }
+    true
+}
+
+pub fn lies_apart(test: Gap, part: &Part, storing: Storing) -> bool
+    ensures { result ≡ spec.lies_apart test part.now storing }
+{
+    match storing.moving {
+        None => false,
+        Some(moving) => all_pass(test, part, storing.var, moving),
+    }
+}
+
+fn end_of(part: &Part) -> u32
+    ensures { result ≡ spec.end_of part.now }
+{
+    match part.until {
+        None => part.site,
+        Some(last) => last,
+    }
+}
+
+/// The site stands before the other, and no inner `while` has both.
+fn is_ahead(part: &Part, other: u32) -> bool
+    ensures { result ≡ spec.is_ahead part.now other }
+{
+    part.site < other && end_of(part) < other
+}
+
+/// By this store what the site sees may differ.
+fn differs_by(p: &Program, plan: &Plan, part: &Part, storing: Storing) -> bool
+    ensures { result ≡ spec.differs_by p.now plan.now part.now storing }
+{
+    let stage = plan.stage(p, SiteId(part.site));
+    if stage < storing.stage {
+        !(lies_apart(Gap::Strides, part, storing)
+            && (lies_apart(Gap::Whole, part, storing) || is_ahead(part, storing.site)))
+    } else {
+        plan.is_replicated(stage)
+            && storing.stage == stage
+            && !plan.is_body_local(p, storing.var)
+            && !lies_apart(Gap::Strides, part, storing)
+    }
+}
+
+fn stores_otherwise(p: &Program, plan: &Plan, part: &Part, var: VarId, storing: Storing) -> bool
+    ensures { result ≡ spec.stores_otherwise p.now plan.now part.now var storing }
+{
+    storing.var.0 == var.0 && differs_by(p, plan, part, storing)
+}
+
+fn sees_otherwise(p: &Program, plan: &Plan, all: &[Storing], part: &Part, load: Touched) -> bool
+    ensures { result ≡ spec.sees_otherwise p.now plan.now all.now part.now load }
+{
+    for storing in all {
+        if stores_otherwise(p, plan, part, load.var, *storing) {
+            return true;
+        }
+    }
+    false
+}
+
+/// What a load of the site sees may differ from what the source has.
+pub fn is_checked(p: &Program, plan: &Plan, all: &[Storing], part: &Part) -> bool
+    ensures { result ≡ spec.part_checked p.now plan.now all.now part.now }
+{
+    let loads = part.loads.as_slice();
+    for load in loads {
+        if sees_otherwise(p, plan, all, part, *load) {
+            return true;
+        }
+    }
+    false
+}

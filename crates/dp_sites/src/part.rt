@@ -1,0 +1,247 @@
+//! The sites of a region in text order, each with what it reads and stores.
+
+ghost use Rattle.std.specs.Prelude.{◌≡◌, ◌∷◌, ◌++◌, [], OnOk, IfOk, Some, None};
+ghost use Rattle.dp_sites.specs.Place.{index_place};
+ghost use Rattle.dp_sites.specs.Parts as spec;
+
+use crate::place::{Place, place_of};
+use crate::sites::put_sites_of;
+use dp_base::{NoMemory, Row, SiteId, VarId};
+use dp_tree::{Expr, Stmt};
+use std::alloc::Global;
+
+/// A variable that is read or stored, with the place of its index, if it has one.
+#[derive(Clone, Copy)]
+pub struct Touched {
+    pub var: VarId,
+    pub place: Option<Place>,
+}
+
+/// A site.
+#[derive(Drop)]
+pub struct Part {
+    pub site: u32,
+    pub loads: Row<Touched>,
+    pub stores: Option<Touched>,
+    /// The last site of the outermost inner `while` that has it.
+    pub until: Option<u32>,
+}
+
+/// Appends what the expression may load.
+#[tactic(auto, using(crate::proofs::PartForms::load_forms))]
+fn put_loads(out: &mut Row<Touched>, e: &Expr) -> Result<(), NoMemory>
+    ensures { OnOk result (out.new ≡ out.old ++ spec.loads_in e.now) }
+{
+    match e {
+        Expr::Number(_) | Expr::InputLen => Ok(()),
+        Expr::Input(index) => put_loads(out, index.get()),
+        Expr::Scalar(var) => out.push(Touched {
+            var: *var,
+            place: None,
+        }),
+        Expr::Element(var, index) => {
+            put_loads(out, index.get())?;
+            let place = place_of(index.get());
+            out.push(Touched { var: *var, place })?;
+            Ok(())
+        }
+        Expr::Unary(_, a) => put_loads(out, a.get()),
+        Expr::Binary(_, a, b) => {
+            put_loads(out, a.get())?;
+            put_loads(out, b.get())?;
+            Ok(())
+        }
+        Expr::And(a, b) => {
+            put_loads(out, a.get())?;
+            put_loads(out, b.get())?;
+            Ok(())
+        }
+        Expr::Or(a, b) => {
+            put_loads(out, a.get())?;
+            put_loads(out, b.get())?;
+            Ok(())
+        }
+    }
+}
+
+fn loads(alloc: Global, e: &Expr) -> Result<Row<Touched>, NoMemory>
+    ensures { IfOk result (λ loads. loads ≡ spec.loads_in e.now) }
+{
+    let mut loads = Row::new(alloc);
+    put_loads(&mut loads, e)?;
+    Ok(loads)
+}
+
+fn both_loads(alloc: Global, a: &Expr, b: &Expr) -> Result<Row<Touched>, NoMemory>
+    ensures { IfOk result (λ loads. loads ≡ spec.loads_in a.now ++ spec.loads_in b.now) }
+{
+    let mut loads = Row::new(alloc);
+    put_loads(&mut loads, a)?;
+    put_loads(&mut loads, b)?;
+    Ok(loads)
+}
+
+fn whole(var: VarId) -> Option<Touched>
+    ensures { result ≡ Some (record { var = var; place = None }) }
+{
+    Some(Touched { var, place: None })
+}
+
+fn element(var: VarId, index: &Expr) -> Option<Touched>
+    ensures { result ≡ Some (record { var = var; place = index_place index.now }) }
+{
+    let place = place_of(index);
+    Some(Touched { var, place })
+}
+
+fn put_part(
+    out: &mut Row<Part>,
+    site: SiteId,
+    until: Option<u32>,
+    loads: Row<Touched>,
+    stores: Option<Touched>,
+) -> Result<(), NoMemory>
+    ensures { OnOk result (out.new ≡ out.old ++ record { site = site.0; loads = loads; stores = stores; until = until } ∷ []) }
+{
+    let part = Part {
+        site: site.0,
+        loads,
+        stores,
+        until,
+    };
+    out.push(part)?;
+    Ok(())
+}
+
+/// The last site of the statement, where no `while` around it says a later one.
+fn until_in(alloc: Global, until: Option<u32>, statement: &Stmt) -> Result<Option<u32>, NoMemory>
+    ensures { IfOk result (λ last. last ≡ spec.until_in until statement.now) }
+{
+    match until {
+        Some(last) => Ok(Some(last)),
+        None => {
+            let mut sites = Row::new(alloc);
+            put_sites_of(&mut sites, statement)?;
+            Ok(sites.last().copied())
+        }
+    }
+}
+
+fn put_statement(
+    alloc: Global,
+    out: &mut Row<Part>,
+    until: Option<u32>,
+    site: SiteId,
+    value: &Expr,
+    stores: Option<Touched>,
+) -> Result<(), NoMemory>
+    ensures { OnOk result (out.new ≡ out.old ++ record { site = site.0; loads = spec.loads_in value.now; stores = stores; until = until } ∷ []) }
+{
+    let loads = loads(alloc, value)?;
+    put_part(out, site, until, loads, stores)?;
+    Ok(())
+}
+
+fn put_store(
+    alloc: Global,
+    out: &mut Row<Part>,
+    until: Option<u32>,
+    site: SiteId,
+    var: VarId,
+    index: &Expr,
+    value: &Expr,
+) -> Result<(), NoMemory>
+    ensures { OnOk result (out.new ≡ out.old ++ record { site = site.0; loads = spec.loads_in index.now ++ spec.loads_in value.now; stores = Some (record { var = var; place = index_place index.now }); until = until } ∷ []) }
+{
+    let loads = both_loads(alloc, index, value)?;
+    put_part(out, site, until, loads, element(var, index))?;
+    Ok(())
+}
+
+#[tactic(auto, using(crate::proofs::PartForms::part_forms))]
+#[cycle(parts)]
+fn put_parts_of(
+    alloc: Global,
+    out: &mut Row<Part>,
+    until: Option<u32>,
+    statement: &Stmt,
+) -> Result<(), NoMemory>
+    ensures { OnOk result (out.new ≡ out.old ++ spec.part_list until statement.now) }
+{
+    match statement {
+        Stmt::Assign { site, var, value } => {
+            put_statement(alloc, out, until, *site, value, whole(*var))?;
+            Ok(())
+        }
+        Stmt::Store {
+            site,
+            var,
+            index,
+            value,
+        } => {
+            put_store(alloc, out, until, *site, *var, index, value)?;
+            Ok(())
+        }
+        Stmt::Print { site, value } => {
+            put_statement(alloc, out, until, *site, value, None)?;
+            Ok(())
+        }
+        Stmt::Break { site, cond } => {
+            put_statement(alloc, out, until, *site, cond, None)?;
+            Ok(())
+        }
+        Stmt::If {
+            site,
+            cond,
+            then_part,
+            else_part,
+        } => {
+            put_statement(alloc, out, until, *site, cond, None)?;
+            put_parts(alloc, out, until, then_part.as_slice())?;
+            put_parts(alloc, out, until, else_part.as_slice())?;
+            Ok(())
+        }
+        Stmt::While { site, cond, body } => {
+            let last = until_in(alloc, until, statement)?;
+            put_statement(alloc, out, last, *site, cond, None)?;
+            put_parts(alloc, out, last, body.as_slice())?;
+            Ok(())
+        }
+        Stmt::Region {
+            site,
+            cond,
+            body,
+            ..
+        } => {
+            put_statement(alloc, out, until, *site, cond, None)?;
+            put_parts(alloc, out, until, body.as_slice())?;
+            Ok(())
+        }
+        Stmt::Call { .. } => Ok(()),
+    }
+}
+
+#[tactic(auto, using(crate::proofs::PartForms::part_steps))]
+#[cycle(parts)]
+fn put_parts(
+    alloc: Global,
+    out: &mut Row<Part>,
+    until: Option<u32>,
+    all: &[Stmt],
+) -> Result<(), NoMemory>
+    ensures { OnOk result (out.new ≡ out.old ++ spec.part_lists until all.now) }
+{
+    for statement in all {
+        put_parts_of(alloc, out, until, statement)?;
+    }
+    Ok(())
+}
+
+/// The sites of a statement, in text order.
+pub fn parts_of(alloc: Global, statement: &Stmt) -> Result<Row<Part>, NoMemory>
+    ensures { IfOk result (λ parts. parts ≡ spec.part_list None statement.now) }
+{
+    let mut parts = Row::new(alloc);
+    put_parts_of(alloc, &mut parts, None, statement)?;
+    Ok(parts)
+}
