@@ -10,8 +10,6 @@ mod edges;
 mod kept;
 mod loads;
 mod nodes;
-#[cfg(test)]
-mod tests;
 
 pub use nodes::{Node, nodes_of};
 
