@@ -58,8 +58,9 @@ const STATUSES: [(&str, u8); 7] = [
 ];
 
 /// Workers and lanes that give the same text.
-const CREWS: [&str; 4] = [
+const CREWS: [&str; 5] = [
     " --workers 1 --lane 1",
+    " --workers 1 --lane 64",
     " --workers 2 --lane 16",
     " --workers 8 --lane 64",
     " --workers 8 --lane 1",

@@ -15,6 +15,9 @@ const WRITTEN: &[&str] = &[
     "histogram.c | --stages 2 => seq 2 4\nseq 3 5 6\n",
     "early_exit.c => seq 2 6\nseq 3\nseq 4 5\n",
     "far_reads.c => seq 3 9\nseq 4 5 6 7\nseq 8\n",
+    "stale_step.c => seq 2 8\nseq 3 7\nseq 4 5\nseq 6\n",
+    "mixed_histogram.c => seq 2 4\nseq 3 5\npar 6 7 8 9\nseq 10 11\n",
+    "mixed_histogram.c | --stages 8 --workers 8 => seq 2 4\nseq 3\nseq 5\nseq 6 8\nseq 7\nseq 9\nseq 10 11\n",
 ];
 
 /// Two steps of stage 1, seven units of one site, of which the last two carry sums.
@@ -26,11 +29,12 @@ const MIXING: &[&str] = &[
     "--stages 8 --workers 8 => seq 3\nseq 5\nseq 6\nseq 7\nseq 8\nseq 9\nseq 10 11\n",
 ];
 
-/// No region, several of them, and programs that are refused.
+/// No region, several of them, inner loops in each other with both parts of an `if` behind them, and programs that are refused.
 const PROGRAMS: &[&str] = &[
     "plan p.c | $1 => $1\n",
     "int main() { } => plan 2\nend",
     "int i; int main() { print(i); #pragma dswp while (i < 2) { i = i + 1; } #pragma dswp while (0) { print(7); } } => plan 2\nregion 1 words 4096\nseq 2 3\nregion 2 words 4096\nseq 4\nseq 5\nend",
+    "int s; int t; int u; int main() { int i = 0; #pragma dswp while (i < 1) { i = i + 1; } #pragma dswp while (i < 3) { while (s < i) { while (t < s) { t = t + 1; } s = s + t; } if (t > 5) { u = s; } else { u = t; } print(u); i = i + 1; } } => plan 2\nregion 1 words 4096\nseq 2 3\nregion 2 words 4096\nseq 4 13\nseq 5 6 7 8\nseq 9 10 11 12\nend",
     "int main() { f(); } => refused program unknown line 1",
     "int main() { x = => refused program syntax token 7",
     "int a[65537]; int main() { } => limit cells 65537",

@@ -11,6 +11,10 @@ const CAUSES: &[&str] = &[
     "stale_divisor.c | 4096\nseq 2 3 4 6\nseq 5\n => state\nstep 2\nt 12\nregion 1 iterations 4 recovered 1: 1\ncause 1 load site 4 cell 0 seen 0 source 2\nend done",
     "zero_divisor.c | 4096\nseq 2 4\nseq 3\n => state\nq 12\nregion 1 iterations 4 recovered 1: 3\ncause 3 fault divide line 6\nend fault divide line 6",
     "early_exit.c | 4096\nseq 2 6\nseq 3 4 5\n | 5 -1 7 => state\nn 5\nregion 1 iterations 2 recovered 1: 1\ncause 1 assume site 4\nend done",
+    "stale_bound.c | 4096\nseq 2 6\nseq 3 4 5\n => state\nlim 4\nn 6\nregion 1 iterations 5 recovered 2: 1 3\ncause 1 load site 2 cell 0 seen 1 source 2\ncause 3 load site 2 cell 0 seen 3 source 4\nend done",
+    "stale_bound.c | 4096\nseq 2 6\npar 3 4 5\n => state\nlim 4\nn 6\nregion 1 iterations 5 recovered 2: 1 3\ncause 1 load site 2 cell 0 seen 1 source 2\ncause 3 load site 2 cell 0 seen 3 source 4\nend done",
+    "past_the_end.c | 4096\nseq 1\nseq 2 3 4\n => state\ngo 0\nn 3\nregion 1 iterations 4 recovered 1: 3\ncause 3 load site 1 cell 0 seen 1 source 0\nend done",
+    "past_the_end.c | 4096\nseq 1\npar 2 3 4\n => state\ngo 0\nn 3\nregion 1 iterations 4 recovered 2: 1 3\ncause 1 load site 2 cell 1 seen 0 source 1\ncause 3 load site 1 cell 0 seen 1 source 0\nend done",
     "same_value.c | 4096\nseq 2 3 4\nseq 5\n => state\na 0 0 0 0 0 0 0 0\ns 0\nregion 1 iterations 7 recovered 0\nend done",
 ];
 

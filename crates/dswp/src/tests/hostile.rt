@@ -1,7 +1,7 @@
 //! Texts that are cut or spoiled, reads that fail, and sinks without room.
-use super::answer_to;
-use super::cases::repeated;
-use super::library::{SKIP_PLAN, STALE_PLAN, SUM_LOOP};
+use super::cases::{cut, repeated};
+use super::library::{SKIP_PLAN, SKIP_PROFILE, STALE_PLAN, SUM_LOOP, SUM_PROFILE, WORD_TABLE};
+use super::{answer_to, status_of};
 use dp_base::{NoMemory, Row};
 use std::alloc::Global;
 use std::process::Abort;
@@ -23,88 +23,112 @@ fn line_at(text: &[u8], place: usize) -> u64 {
 // Only the last line feed may be missing.
 #[test]
 fn a_program_that_is_cut_is_refused(rt: HostRuntime) -> Result<(), Fail> {
-    for place in 0..SUM_LOOP.len() {
-        let (front, _) = SUM_LOOP.split_at(place);
-        let answered = answer_to(&rt, rt.alloc(), "run p.c", &[("p.c", front)], &[], None)?;
-        let status = if place + 1 == SUM_LOOP.len() { 0 } else { 3 };
-        assert_eq!(&rt; answered.status, status, "{place}");
+    for program in [SUM_LOOP, WORD_TABLE] {
+        for place in 0..program.len() {
+            let (front, _) = program.split_at(place);
+            let answered = answer_to(&rt, rt.alloc(), "run p.c", &[("p.c", front)], &[], None)?;
+            let status = if place + 1 == program.len() { 0 } else { 3 };
+            assert_eq!(&rt; answered.status, status, "{place}");
+        }
     }
     Ok(())
 }
 
-/// The plan is refused at the line of this place.
+/// The plan or the profile of this program is refused at this line.
 fn expect_line_at<R: Abort + Threads + Wait + Sync>(
     rt: &R,
     alloc: Global,
+    kind: &str,
     program: &str,
-    plan: &[u8],
+    side: &[u8],
     line: u64,
 ) -> Result<(), NoMemory> {
-    let words = format!(in alloc; "run {program} --plan plan.txt")?;
-    let answered = answer_to(rt, alloc, &words, &[("plan.txt", plan)], &[], None)?;
-    let text = format!(in alloc; "refused plan line {line}\n")?;
+    let words = format!(in alloc; "run {program} --{kind} side.txt")?;
+    let answered = answer_to(rt, alloc, &words, &[("side.txt", side)], &[], None)?;
+    let text = format!(in alloc; "refused {kind} line {line}\n")?;
     assert_eq!(rt; answered.text(), text.as_str());
     assert_eq!(rt; answered.status, 4);
     Ok(())
 }
 
+/// Plans and profiles of programs.
+const SIDES: [(&str, &str, &[u8]); 4] = [
+    ("plan", "stale_read.c", STALE_PLAN),
+    ("plan", "skip_negative.c", SKIP_PLAN),
+    ("profile", "sum_loop.c", SUM_PROFILE),
+    ("profile", "skip_negative.c", SKIP_PROFILE),
+];
+
 #[test]
-fn a_plan_that_is_cut_is_refused_at_its_end(rt: HostRuntime) -> Result<(), Fail> {
-    for (program, plan) in [("stale_read.c", STALE_PLAN), ("skip_negative.c", SKIP_PLAN)] {
-        for place in 0..plan.len() {
-            let (front, _) = plan.split_at(place);
-            expect_line_at(&rt, rt.alloc(), program, front, line_at(plan, place))?;
+fn a_side_text_that_is_cut_is_refused_at_its_end(rt: HostRuntime) -> Result<(), Fail> {
+    for (kind, program, side) in SIDES {
+        for place in 0..side.len() {
+            let (front, _) = side.split_at(place);
+            let line = line_at(side, place);
+            expect_line_at(&rt, rt.alloc(), kind, program, front, line)?;
         }
     }
     Ok(())
 }
 
-// No word or number of a plan has an `x`.
+// No word or number of a plan or a profile has an `x`.
 #[test]
 fn a_spoiled_byte_is_refused_at_its_line(rt: HostRuntime) -> Result<(), Fail> {
-    for place in 0..SKIP_PLAN.len() {
-        let mut plan = Row::from_slice(rt.alloc(), SKIP_PLAN)?;
-        if place < plan.len() {
-            plan.set(place, b'x');
+    for (kind, program, side) in SIDES {
+        for place in 0..side.len() {
+            let mut spoiled = Row::from_slice(rt.alloc(), side)?;
+            if place < spoiled.len() {
+                spoiled.set(place, b'x');
+            }
+            let line = line_at(side, place);
+            expect_line_at(&rt, rt.alloc(), kind, program, spoiled.as_slice(), line)?;
         }
-        let line = line_at(SKIP_PLAN, place);
-        expect_line_at(&rt, rt.alloc(), "skip_negative.c", plan.as_slice(), line)?;
     }
     Ok(())
 }
 
+/// What is held for the runs below.
+const HELD: &[(&str, &[u8])] = &[
+    ("in.txt", b"5 -1 7 8"),
+    ("bins.txt", b"0 1 2 3 4 5 6"),
+    ("bad.c", b"int"),
+    (
+        "bins.plan",
+        b"plan 1\nregion 1 words 4096\nseq 2 3 4\npar 5\nseq 6\nend\n",
+    ),
+];
+
 /// Words, and what is written where the sink has room for it.
-const WRITTEN: [(&str, &str); 5] = [
-    (
-        "run sum_loop.c",
-        "0\n1\n3\nstate\ns 3\nregion 1 iterations 4 recovered 0\nend done\n",
-    ),
-    (
-        "run stale_read.c --plan stale.plan",
-        "state\na 0 0 1 2 3 4 5 6\ns 10\nregion 1 iterations 7 recovered 2: 2 5\nend done\n",
-    ),
-    (
-        "plan sum_loop.c",
-        "plan 2\nregion 1 words 4096\nseq 2 5\nseq 3 4\nend\n",
-    ),
-    (
-        "profile zero_divisor.c --fuel 0",
-        "profile 1\nregion 1\nruns 2 0 0\nruns 3 0 0\nruns 4 0 0\nend\n",
-    ),
-    ("run none.c", "failed read program\n"),
+const WRITTEN: &[&str] = &[
+    "run sum_loop.c => 0\n1\n3\nstate\ns 3\nregion 1 iterations 4 recovered 0\nend done\n",
+    "run stale_read.c --plan stale.plan => state\na 0 0 1 2 3 4 5 6\ns 10\nregion 1 iterations 7 recovered 2: 2 5\nend done\n",
+    "run skip_negative.c in.txt --plan skip.plan --why => state\nn 12\nregion 1 iterations 4 recovered 1: 1\ncause 1 assume site 4\nend done\n",
+    "run histogram.c bins.txt --plan bins.plan --workers 8 --lane 1 => state\nh 2 2 1 2\nregion 1 iterations 8 recovered 0\nend done\n",
+    "run zero_divisor.c => state\nq 12\nregion 1 iterations 4 recovered 1: 3\nend fault divide line 6\n",
+    "run sum_loop.c --fuel 9 => 0\n1\nstate\ns 1\nregion 1 iterations 2 recovered 0\nend fuel\n",
+    "plan sum_loop.c => plan 2\nregion 1 words 4096\nseq 2 5\nseq 3 4\nend\n",
+    "profile sum_loop.c => profile 1\nregion 1\nruns 2 4 3\nruns 3 3 0\nruns 4 3 0\nruns 5 3 0\nflow 3 3 carried 2\nflow 3 4 intra 3\nflow 5 2 carried 3\nflow 5 3 carried 2\nflow 5 5 carried 2\nend\n",
+    "check sum_loop.c => ok\nregion 1 line 5 sites 2 to 5\nsite 1 line 3 assign\nsite 2 line 5 while\nsite 3 line 6 assign\nsite 4 line 7 print\nsite 5 line 8 assign\n",
+    "gen 1 1 => gen 1 1\nstate\nhist 0 0 0 0 0 0 0 0 0 0 1 0 0 0 0 0\nsum 10\nregion 1 iterations 2 recovered 0\nend done\n",
+    "run none.c => failed read program\n",
+    "check bad.c => refused program syntax token 1\n",
+    "walk sum_loop.c => refused words\n",
 ];
 
 #[test]
 fn a_sink_without_room_has_taken_a_front(rt: HostRuntime) -> Result<(), Fail> {
-    for (words, text) in WRITTEN {
+    for row in WRITTEN {
+        let (words, text) = cut(row, " => ");
         let bytes = text.as_bytes();
         for room in 0..bytes.len() {
-            let answered = answer_to(&rt, rt.alloc(), words, &[], &[], Some(room as u64))?;
+            let answered = answer_to(&rt, rt.alloc(), words, HELD, &[], Some(room as u64))?;
             assert_eq!(&rt; answered.sink.bytes(), &bytes[..room], "{words} {room}");
             assert_eq!(&rt; answered.status, 6, "{words} {room}");
         }
-        let answered = answer_to(&rt, rt.alloc(), words, &[], &[], Some(bytes.len() as u64))?;
+        let room = Some(bytes.len() as u64);
+        let answered = answer_to(&rt, rt.alloc(), words, HELD, &[], room)?;
         assert_eq!(&rt; answered.text(), text, "{words}");
+        assert_eq!(&rt; answered.status, status_of(text), "{words}");
     }
     Ok(())
 }
@@ -127,43 +151,37 @@ fn a_sink_that_fails_within_many_prints(rt: HostRuntime) -> Result<(), Fail> {
     Ok(())
 }
 
-/// The read that fails, and what is written then.
-const READS: [(u64, u8, &str); 5] = [
-    (1, 5, "failed read program\n"),
-    (2, 5, "failed read input\n"),
-    (3, 5, "failed read plan\n"),
-    (
-        4,
-        0,
-        "state\nn 12\nregion 1 iterations 4 recovered 1: 1\nend done\n",
-    ),
-    (
-        18446744073709551615,
-        0,
-        "state\nn 12\nregion 1 iterations 4 recovered 1: 1\nend done\n",
-    ),
+/// The number of the read that fails, the words, and what is written then. A text that is refused keeps the next from being read, and
+/// what isn't named isn't read.
+const READS: &[&str] = &[
+    "1 run skip_negative.c in.txt --plan skip.plan => failed read program\n",
+    "2 run skip_negative.c in.txt --plan skip.plan => failed read input\n",
+    "3 run skip_negative.c in.txt --plan skip.plan => failed read plan\n",
+    "4 run skip_negative.c in.txt --plan skip.plan => state\nn 12\nregion 1 iterations 4 recovered 1: 1\nend done\n",
+    "18446744073709551615 run skip_negative.c in.txt --plan skip.plan => state\nn 12\nregion 1 iterations 4 recovered 1: 1\nend done\n",
+    "3 run skip_negative.c in.txt --profile skip_negative.prof => failed read profile\n",
+    "2 run sum_loop.c --plan x => failed read plan\n",
+    "2 run sum_loop.c --profile sum_loop.prof => failed read profile\n",
+    "2 run bad.c in.txt => refused program syntax token 1\n",
+    "3 run sum_loop.c skip.plan --plan skip.plan => refused input word 1\n",
+    "1 plan sum_loop.c --profile sum_loop.prof => failed read program\n",
+    "2 plan sum_loop.c --profile sum_loop.prof => failed read profile\n",
+    "2 plan sum_loop.c => plan 2\nregion 1 words 4096\nseq 2 5\nseq 3 4\nend\n",
+    "1 profile skip_negative.c in.txt => failed read program\n",
+    "2 profile skip_negative.c in.txt => failed read input\n",
+    "1 check sum_loop.c => failed read program\n",
+    "1 gen 1 1 => gen 1 1\nstate\nhist 0 0 0 0 0 0 0 0 0 0 1 0 0 0 0 0\nsum 10\nregion 1 iterations 2 recovered 0\nend done\n",
 ];
 
 #[test]
 fn reads_that_fail(rt: HostRuntime) -> Result<(), Fail> {
-    let held: [(&str, &[u8]); 2] = [("in.txt", b"5 -1 7 8"), ("bad.c", b"int")];
-    for (number, status, text) in READS {
-        let words = "run skip_negative.c in.txt --plan skip.plan";
-        let answered = answer_to(&rt, rt.alloc(), words, &held, &[number], None)?;
-        assert_eq!(&rt; answered.text(), text);
-        assert_eq!(&rt; answered.status, status);
+    for row in READS {
+        let (number, rest) = cut(row, " ");
+        let (words, text) = cut(rest, " => ");
+        let failing = [number.parse::<u64>().unwrap_or(0)];
+        let answered = answer_to(&rt, rt.alloc(), words, HELD, &failing, None)?;
+        assert_eq!(&rt; answered.text(), text, "{row}");
+        assert_eq!(&rt; answered.status, status_of(text), "{row}");
     }
-    // without an input the plan is the second text, and a refused program comes before the next read
-    let answered = answer_to(
-        &rt,
-        rt.alloc(),
-        "run sum_loop.c --plan x",
-        &held,
-        &[2],
-        None,
-    )?;
-    assert_eq!(&rt; answered.text(), "failed read plan\n");
-    let answered = answer_to(&rt, rt.alloc(), "run bad.c in.txt", &held, &[2], None)?;
-    assert_eq!(&rt; answered.text(), "refused program syntax token 1\n");
     Ok(())
 }

@@ -125,7 +125,7 @@ while (i < 4) { s = s + a[i]; i = i + 1; a[i] = 7; } }
 ";
 
 /// A table of words with hashing, look-up, insertion and counting.
-const WORD_TABLE: &[u8] = b"int keys[16];
+pub const WORD_TABLE: &[u8] = b"int keys[16];
 int counts[16];
 int distinct;
 int total;
@@ -163,11 +163,11 @@ pub const SKIP_PLAN: &[u8] =
 pub const STALE_PLAN: &[u8] = b"plan 1\nregion 1 words 4096\nseq 2 3 4\nseq 5\nend\n";
 
 /// What a whole run shows.
-const SUM_PROFILE: &[u8] =
+pub const SUM_PROFILE: &[u8] =
     b"profile 1\nregion 1\nruns 2 4 3\nruns 3 3 0\nruns 4 3 0\nruns 5 3 0\nflow 3 3 carried 2\nflow 3 4 intra 3\nflow 5 2 carried 3\nflow 5 3 carried 2\nflow 5 5 carried 2\nend\n";
 
 /// What a run on 5, 6, 7 shows: the `if` is never taken.
-const SKIP_PROFILE: &[u8] =
+pub const SKIP_PROFILE: &[u8] =
     b"profile 1\nregion 1\nruns 2 4 3\nruns 3 3 0\nruns 4 3 0\nruns 5 0 0\nruns 6 3 0\nruns 7 3 0\nflow 3 4 intra 3\nflow 3 7 intra 3\nflow 6 2 carried 3\nflow 6 3 carried 2\nflow 6 6 carried 2\nflow 7 7 carried 2\nend\n";
 
 pub const LIBRARY: &[Named] = &[

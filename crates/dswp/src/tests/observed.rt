@@ -84,21 +84,6 @@ fn runs_show_their_profiles(rt: HostRuntime) -> Result<(), Fail> {
     Ok(())
 }
 
-/// The read that fails, and what is written then.
-const READS: [(u64, &str); 2] = [(1, "failed read program\n"), (2, "failed read input\n")];
-
-#[test]
-fn a_read_of_a_profile_fails(rt: HostRuntime) -> Result<(), Fail> {
-    let held: [(&str, &[u8]); 1] = [("in.txt", b"5")];
-    for (number, text) in READS {
-        let words = "profile skip_negative.c in.txt";
-        let answered = answer_to(&rt, rt.alloc(), words, &held, &[number], None)?;
-        assert_eq!(&rt; answered.text(), text);
-        assert_eq!(&rt; answered.status, 5);
-    }
-    Ok(())
-}
-
 #[test]
 fn a_profile_that_is_written_is_taken(rt: HostRuntime) -> Result<(), Fail> {
     let input: [(&str, &[u8]); 1] = [("in.txt", b"5 6 7")];

@@ -36,14 +36,15 @@ const REFUSED: &[&str] = &[
     "run | 3 0\n | end\nend\n => 8",
 ];
 
-/// Another first line, and a program without regions.
+/// Another first line, a program without regions, and one with two of them, each of which has its own counts.
 const FIRST: &[&str] = &[
-    "plan p.c --profile plan.txt | int main() { } |  | $1 => $1\n",
+    "plan p.c --profile plan.txt | $2int main() { $3} |  | $1 => $1\n",
     " => refused profile line 1",
     "profile 2\nend\n => refused profile line 1",
     "plan 2\nend\n => refused profile line 1",
     "profile 1\nregion 1\nend\n => refused profile line 2",
     "profile 1\nend\n => plan 2\nend",
+    "profile 1\nregion 1\nruns 1 3 2\nruns 2 2 0\nflow 2 1 carried 2\nflow 2 2 carried 1\nregion 2\nruns 3 10 9\nruns 4 9 0\nend\n | int i; int n;  | #pragma dswp while (i < 2) { i = i + 1; } #pragma dswp while (n < 9) { n = n + 1; }  => plan 2\nregion 1 words 4096\nseq 1 2\nregion 2 words 4096\nseq 3\nseq 4\nend",
 ];
 
 /// A profile is read last, and the first refusal counts.

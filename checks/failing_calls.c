@@ -1,11 +1,13 @@
 /* Makes one allocation fail: the one whose number, from 1, is in FAILING_ALLOCATION. At the end it writes how many were
-   asked for, on standard error. Threads share the count, so a number may stand for another allocation in each run. Loaded
-   before the C library. */
+   asked for, on standard error. Threads share the count, so a number may stand for another allocation in each run.
+   Where OUTPUT_ROOM is set, standard output takes so many bytes and then fails. Loaded before the C library. */
 #define _GNU_SOURCE
 #include <dlfcn.h>
+#include <errno.h>
 #include <stdatomic.h>
 #include <stdio.h>
 #include <stdlib.h>
+#include <sys/types.h>
 
 static atomic_long made;
 
@@ -35,4 +37,23 @@ void *realloc(void *old, size_t size) {
   static void *(*next)(void *, size_t);
   if (!next) next = (void *(*)(void *, size_t))dlsym(RTLD_NEXT, "realloc");
   return fails() ? NULL : next(old, size);
+}
+
+/* Only the thread that writes the answer calls it. */
+ssize_t write(int file, const void *bytes, size_t size) {
+  static ssize_t (*next)(int, const void *, size_t);
+  static long left = -1;
+  if (!next) {
+    next = (ssize_t (*)(int, const void *, size_t))dlsym(RTLD_NEXT, "write");
+    const char *room = getenv("OUTPUT_ROOM");
+    if (room) left = atol(room);
+  }
+  if (file != 1 || left < 0) return next(file, bytes, size);
+  if (left == 0) {
+    errno = ENOSPC;
+    return -1;
+  }
+  ssize_t taken = next(file, bytes, size < (size_t)left ? size : (size_t)left);
+  if (taken > 0) left -= taken;
+  return taken;
 }
