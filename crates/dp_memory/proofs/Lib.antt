@@ -1,3 +1,4 @@
+pub mod Booked
 pub mod Built
 pub mod Filled
 pub mod Found

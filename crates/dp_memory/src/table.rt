@@ -1,5 +1,5 @@
-//! All pages of a version.
-ghost use Rattle.std.specs.Prelude.{◌≡◌, ◌≤◌, ◌<◌, Some, length, map, slice_get, IfOk, MatchOption, OnOk, OnErr};
+//! The pages of a version but the last one.
+ghost use Rattle.std.specs.Prelude.{◌≡◌, ◌<◌, Some, length, map, slice_get, IfOk, OnOk, OnErr};
 ghost use Rattle.std.specs.Borrow.{sem};
 
 use crate::group;
@@ -16,12 +16,12 @@ pub(crate) struct Table {
 
 impl Table {
     ghost use Rattle.dp_memory.specs.Piece.{pages_of};
-    ghost use Rattle.dp_memory.specs.Pieces.{HasCell, with_cell, joined, InPieces};
+    ghost use Rattle.dp_memory.specs.Pieces.{HasCell, with_cell, ArePagesOf};
     ghost use Rattle.dp_memory.specs.Table.{table_pages, IsOwnIn, InGroups, lends_page};
 
     /// A table of pages of these cells.
     pub(crate) fn of(alloc: Global, cells: &[i64]) -> Result<Table, NoMemory>
-        ensures { IfOk result (λ table. InGroups table × InPieces 256 (table_pages table) × (joined (table_pages table) ≡ cells.now)) }
+        ensures { IfOk result (λ table. InGroups table × ArePagesOf (table_pages table) cells.now) }
     {
         let mut groups = Vec::new(alloc);
         let mut rest = cells;
@@ -42,22 +42,6 @@ impl Table {
         ensures { slice_get (table_pages self.now) number ≡ Some result.now }
     {
         self.groups[number / 16].as_slice()[number % 16].as_slice()
-    }
-
-    /// The cells of a page, if there is one.
-    #[inline]
-    pub(crate) fn find(&self, number: usize) -> Option<&[i64]>
-        requires groups { InGroups self.now }
-        ensures { MatchOption result (length (table_pages self.now) ≤ number) (λ page. slice_get (table_pages self.now) number ≡ Some page.now) }
-    {
-        if number / 16 >= self.groups.len() {
-            return None;
-        }
-        let pages = self.groups[number / 16].as_slice();
-        if number % 16 >= pages.len() {
-            return None;
-        }
-        Some(pages[number % 16].as_slice())
     }
 
     /// Puts a number into a cell of a page, after a copy of what other tables share.
