@@ -11,7 +11,7 @@ use Rattle.std.specs.declared.sync.Arc.{Arc}
 use Rattle.std.specs.declared.vec.Vec.{Vec}
 use Rattle.std.specs.declared.alloc.Global.{Global}
 use Rattle.dp_memory.specs.declared.piece.Piece.{Piece}
-use Rattle.dp_memory.specs.Piece.{held, items_of}
+use Rattle.dp_memory.specs.Piece.{held, items_of, pages_of}
 
 pub pages_same : (own other : List (Piece ℤ)) (shared : Option (Arc (Vec (Piece ℤ) Global) Global))
     → map items_of other ≡ map items_of own → map items_of (held other shared) ≡ map items_of (held own shared)
@@ -19,7 +19,13 @@ unfolding held
 pages_same own other None e = e
 pages_same own other (Some items) e = refl
 
-pub own_items : (own : List (Piece ℤ)) (shared : Option (Arc (Vec (Piece ℤ) Global) Global)) → shared ≡ None → held own shared ≡ own
+pub groups_same : (own other : List (Piece (Piece ℤ))) (shared : Option (Arc (Vec (Piece (Piece ℤ)) Global) Global))
+    → map pages_of other ≡ map pages_of own → map pages_of (held other shared) ≡ map pages_of (held own shared)
+unfolding held
+groups_same own other None e = e
+groups_same own other (Some items) e = refl
+
+pub own_items : {X : Type 0} (own : List X) (shared : Option (Arc (Vec X Global) Global)) → shared ≡ None → held own shared ≡ own
 unfolding held
 own_items own None e = refl
 own_items own (Some items) e = absurd (cc e)

@@ -12,9 +12,9 @@ use Rattle.std.specs.declared.alloc.Global.{Global}
 use Rattle.dp_base.specs.Lends.{with_items}
 use Rattle.dp_memory.specs.declared.piece.Piece.{Piece}
 use Rattle.dp_memory.specs.declared.table.Table.{Table}
-use Rattle.dp_memory.specs.Piece.{held, items_of, pages_of, changed, changed_to, page_over, group_over}
+use Rattle.dp_memory.specs.Piece.{held, items_of, pages_of, groups_of, IsOwnAmong, changed, changed_to, page_over, group_over}
 use Rattle.dp_memory.specs.Pieces.{joined, InPieces}
-use Rattle.dp_memory.specs.Table.{table_pages, InGroups, IsOwnIn, table_over}
+use Rattle.dp_memory.specs.Table.{table_pages, InGroups, table_over}
 use Rattle.dp_memory.specs.declared.book.Book.{Book}
 use Rattle.dp_memory.specs.Book.{book_pages, IsBook, IsOwnAt, over_before, book_over}
 use Rattle.dp_memory.proofs.Booked.{all_count, before_last, last_there}
@@ -69,35 +69,42 @@ module _ (group : Piece (Piece ℤ)) (at : ℕ) (none : group.shared ≡ None) (
       ∙ ap (set (map items_of group.own.items) at) (own_over page.own page.shared own written)
       ∙ ap (λ (r : List (Piece ℤ)). set (map items_of r) at (over (items_of page) written)) (sym whole)
 
-module _ (table : Table) (number : ℕ) (grouped : InGroups table) (own : IsOwnIn table number) where
+module _ (table : Table) (number : ℕ) (grouped : InGroups table) (own : IsOwnAmong table.groups number) where
   abbrev group : Piece (Piece ℤ)
-  group = own.0
+  group = own.1
 
   abbrev groups : List (List (List ℤ))
-  groups = map pages_of table.groups.items
+  groups = groups_of table.groups
 
   abbrev pub lent_cells : List ℤ
-  lent_cells = items_of own.2.1
+  lent_cells = items_of own.3.1
+
+  own_are : held table.groups.own.items table.groups.shared ≡ table.groups.own.items
+  own_are = own_items table.groups.own.items table.groups.shared own.0
+
+  group_stands : slice_get (items_of table.groups) (number / 16) ≡ Some group
+  group_stands = ap (λ (r : List (Piece (Piece ℤ))). slice_get r (number / 16)) own_are ∙ own.2
 
   stands_in_groups : slice_get groups (number / 16) ≡ Some (pages_of group)
-  stands_in_groups = slice_get-map pages_of table.groups.items (number / 16) ∙ ap (option_map pages_of) own.1
+  stands_in_groups = slice_get-map pages_of (items_of table.groups) (number / 16) ∙ ap (option_map pages_of) group_stands
 
-  page_there : slice_get (items_of group) (number % 16) ≡ Some own.2.1
-  page_there = ap (λ (r : List (Piece ℤ)). slice_get r (number % 16)) (own_items group.own.items group.shared own.2.0) ∙ own.2.2
+  page_there : slice_get (items_of group) (number % 16) ≡ Some own.3.1
+  page_there = ap (λ (r : List (Piece ℤ)). slice_get r (number % 16)) (own_items group.own.items group.shared own.3.0) ∙ own.3.2
 
   pub lent_there : slice_get (table_pages table) number ≡ Some lent_cells
-  lent_there = page_value table.groups.items grouped number group own.2.1 own.1 page_there
+  lent_there = page_value (items_of table.groups) grouped number group own.3.1 group_stands page_there
 
   module _ (written : List ℤ) where
     abbrev after : Table
     after = table_over number written table
 
-    groups_are : map pages_of after.groups.items
-        ≡ set groups (number / 16) (set (pages_of group) (number % 16) (over lent_cells written))
+    groups_are : groups_of after.groups ≡ set groups (number / 16) (set (pages_of group) (number % 16) (over lent_cells written))
     groups_are =
-        ap (map pages_of) (changed_is (group_over (number % 16) written) table.groups (number / 16) group own.1)
-        ∙ map-set pages_of table.groups.items (number / 16) (group_over (number % 16) written group)
-        ∙ ap (set groups (number / 16)) (pages_over group (number % 16) own.2.0 own.2.1 own.2.2 own.2.3 written)
+        ap (map pages_of) (own_items after.groups.own.items table.groups.shared own.0
+        ∙ changed_is (group_over (number % 16) written) table.groups.own (number / 16) group own.2)
+        ∙ map-set pages_of table.groups.own.items (number / 16) (group_over (number % 16) written group)
+        ∙ ap (set (map pages_of table.groups.own.items) (number / 16)) (pages_over group (number % 16) own.3.0 own.3.1 own.3.2 own.3.3 written)
+        ∙ ap (λ (r : List (Piece (Piece ℤ))). set (map pages_of r) (number / 16) (set (pages_of group) (number % 16) (over lent_cells written))) (sym own_are)
 
     pub over_in_groups : InGroups after
     over_in_groups =

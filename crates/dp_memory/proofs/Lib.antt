@@ -7,3 +7,4 @@ pub mod Held
 pub mod Lent
 pub mod Pieces
 pub mod Sliced
+pub mod Unshared

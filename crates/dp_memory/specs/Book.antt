@@ -4,7 +4,8 @@ use Rattle.std.specs.Vec.{with_items}
 use Rattle.std.specs.Borrow.{Lends, Fml, MutBor, Array, i64}
 use Rattle.dp_memory.specs.declared.book.Book.{Book}
 use Rattle.dp_memory.specs.contracts.book.Book.{the_row}
-use Rattle.dp_memory.specs.Table.{table_pages, InGroups, IsOwnIn, table_over}
+use Rattle.dp_memory.specs.Piece.{IsOwnAmong}
+use Rattle.dp_memory.specs.Table.{table_pages, InGroups, table_over}
 
 -- the pages, in order
 abbrev pub book_pages : Book → List (List ℤ)
@@ -16,7 +17,7 @@ IsBook book = InGroups book.table × (book.before ≡ length (table_pages book.t
 
 -- a page is the book's own, as are the lists that it stands in
 abbrev pub IsOwnAt : Book → ℕ → Type 0
-IsOwnAt book number = number < book.before → IsOwnIn book.table number
+IsOwnAt book number = number < book.before → IsOwnAmong book.table.groups number
 
 unfoldable pub over_before : Bool → ℕ → List ℤ → Book → Book
 over_before true number written book = record book { table = table_over number written book.table }
