@@ -30,9 +30,6 @@ module _ (pages : List (List ℤ)) (last : List ℤ) where
     last_there e = get_right pages (last ∷ []) number 0 (omega arith)
 
     module _ (place : ℕ) where
-      pub cell_before : HasCell all number place → number < length pages → HasCell pages number place
-      cell_before cell lt = (cell.0, sym (before_last lt) ∙ cell.1, cell.2)
-
       pub at_last : HasCell all number place → length pages ≤ number → number ≡ length pages
       at_last cell le =
           let within = slice_get_within all number cell.0 cell.1 in

@@ -1,7 +1,7 @@
 -- What a group holds where its own pages hold the same cells.
-use Rattle.std.proofs.Common.{◌≡◌, ℕ, zero, suc, ℤ, ◌+◌, ◌<◌, List, [], ◌∷◌, ◌++◌, append_assoc, drop, length, arith, map, refl, Option, Some, None, sym, ap, ◌∙◌, slice_get, get_or}
+use Rattle.std.proofs.Common.{◌≡◌, ℕ, zero, suc, ℤ, ◌+◌, ◌<◌, List, [], ◌∷◌, drop, length, arith, map, refl, Option, Some, None, sym, ap, ◌∙◌, slice_get, get_or}
 use Rattle.std.proofs.Math.ListN.{set}
-use Rattle.std.proofs.lemmas.List.{map-set, map-append, set-get_or}
+use Rattle.std.proofs.lemmas.List.{map-set, set-get_or}
 use Rattle.std.proofs.lemmas.Option.{slice_get-map, slice_get-get_or, get_or_from_slice_get}
 use Rattle.std.specs.Option.{option_map}
 use Rattle.std.specs.Result.{OnOk, OnErr}
@@ -66,14 +66,6 @@ drop_one (y ∷ xs) zero x e = let same : y ≡ x = cc e in ap (λ r. r ∷ xs) 
 drop_one (y ∷ xs) (suc i) x e =
     let place : suc (i + 1) ≡ suc i + 1 = omega arith in
     drop_one xs i x e ∙ ap (λ k. x ∷ drop k (y ∷ xs)) place
-
-pub copied_more : {X Y : Type 0} (f : X → Y) (done : List X) (x : X) (whole : List Y) (i : ℕ)
-    → map f done ++ drop i whole ≡ whole → slice_get whole i ≡ Some (f x)
-    → map f (done ++ x ∷ []) ++ drop (i + 1) whole ≡ whole
-copied_more f done x whole i before there =
-    ap (λ r. r ++ drop (i + 1) whole) (map-append f done (x ∷ []))
-    ∙ append_assoc (map f done) (f x ∷ []) (drop (i + 1) whole)
-    ∙ ap (λ r. map f done ++ r) (sym (drop_one whole i (f x) there)) ∙ before
 
 pub on_err : {T E P : Type 0} (r : Result T E) → P → OnErr r P
 on_err (Ok x) p = tt
