@@ -1,6 +1,5 @@
 -- Pages in groups.
-use Rattle.std.proofs.Common.{◌≡◌, ℕ, ℤ, ◌+◌, ◌*◌, ◌/◌, ◌%◌, ◌<◌, ◌≤◌, inl, inr, List, [], length, map, Some, sym, ap, ◌∙◌, subst, slice_get, get_or, arith}
-use Rattle.std.proofs.lemmas.Bool.{cases_lt}
+use Rattle.std.proofs.Common.{◌≡◌, ℕ, ℤ, ◌+◌, ◌*◌, ◌/◌, ◌%◌, ◌<◌, List, [], length, map, Some, sym, ap, ◌∙◌, subst, slice_get, get_or, arith}
 use Rattle.std.proofs.lemmas.List.{length-map, map-set}
 use Rattle.std.proofs.Math.ListN.{set}
 use Rattle.std.proofs.lemmas.Option.{slice_get_within, slice_get-map, slice_get-get_or, get_or_from_slice_get}
@@ -89,19 +88,6 @@ module _ (groups : List (Piece (Piece ℤ))) (ok : InPieces 16 (map pages_of gro
         slice_get-map pages_of groups (number / 16) ∙ ap (option_map pages_of) at in
         subst (λ r. InPieces 16 r) (sym (map-set pages_of groups (number / 16) other))
         (in_pieces_set 16 (map pages_of groups) ok (number / 16) (pages_of group) (pages_of other) one long)
-
-  pub no_group : length groups ≤ number / 16 → length (joined (map pages_of groups)) ≤ number
-  no_group few = elim (cases_lt number (length (joined (map pages_of groups)))) [
-    | inl within ↦ let there = group_there within in absurd (omega arith)
-    | inr past ↦ past
-  ]
-
-  pub no_page : (group : Piece (Piece ℤ)) → slice_get groups (number / 16) ≡ Some group → length (items_of group) ≤ number % 16
-      → length (joined (map pages_of groups)) ≤ number
-  no_page group at few = elim (cases_lt number (length (joined (map pages_of groups)))) [
-    | inl within ↦ let there = page_there within group at in absurd (omega arith)
-    | inr past ↦ past
-  ]
 
   pub page_in : (group : Piece (Piece ℤ)) → slice_get groups (number / 16) ≡ Some group → (cells : List ℤ)
       → slice_get (pages_of group) (number % 16) ≡ Some cells → slice_get (joined (map pages_of groups)) number ≡ Some cells

@@ -1,7 +1,7 @@
 -- What a group holds where its own pages hold the same cells.
-use Rattle.std.proofs.Common.{◌≡◌, ℕ, zero, suc, ℤ, ◌+◌, ◌<◌, List, [], ◌∷◌, ◌++◌, append_assoc, drop, length, arith, map, refl, Option, Some, None, sym, ap, ◌∙◌, slice_get, get_or}
+use Rattle.std.proofs.Common.{◌≡◌, ℕ, zero, suc, ℤ, ◌+◌, ◌<◌, List, [], ◌∷◌, drop, length, arith, map, refl, Option, Some, None, sym, ap, ◌∙◌, slice_get, get_or}
 use Rattle.std.proofs.Math.ListN.{set}
-use Rattle.std.proofs.lemmas.List.{map-set, map-append, set-get_or}
+use Rattle.std.proofs.lemmas.List.{map-set, set-get_or}
 use Rattle.std.proofs.lemmas.Option.{slice_get-map, slice_get-get_or, get_or_from_slice_get}
 use Rattle.std.specs.Option.{option_map}
 use Rattle.std.specs.Result.{OnOk, OnErr}
@@ -11,7 +11,7 @@ use Rattle.std.specs.declared.sync.Arc.{Arc}
 use Rattle.std.specs.declared.vec.Vec.{Vec}
 use Rattle.std.specs.declared.alloc.Global.{Global}
 use Rattle.dp_memory.specs.declared.piece.Piece.{Piece}
-use Rattle.dp_memory.specs.Piece.{held, items_of}
+use Rattle.dp_memory.specs.Piece.{held, items_of, pages_of}
 
 pub pages_same : (own other : List (Piece ℤ)) (shared : Option (Arc (Vec (Piece ℤ) Global) Global))
     → map items_of other ≡ map items_of own → map items_of (held other shared) ≡ map items_of (held own shared)
@@ -19,7 +19,13 @@ unfolding held
 pages_same own other None e = e
 pages_same own other (Some items) e = refl
 
-pub own_items : (own : List (Piece ℤ)) (shared : Option (Arc (Vec (Piece ℤ) Global) Global)) → shared ≡ None → held own shared ≡ own
+pub groups_same : (own other : List (Piece (Piece ℤ))) (shared : Option (Arc (Vec (Piece (Piece ℤ)) Global) Global))
+    → map pages_of other ≡ map pages_of own → map pages_of (held other shared) ≡ map pages_of (held own shared)
+unfolding held
+groups_same own other None e = e
+groups_same own other (Some items) e = refl
+
+pub own_items : {X : Type 0} (own : List X) (shared : Option (Arc (Vec X Global) Global)) → shared ≡ None → held own shared ≡ own
 unfolding held
 own_items own None e = refl
 own_items own (Some items) e = absurd (cc e)
@@ -60,14 +66,6 @@ drop_one (y ∷ xs) zero x e = let same : y ≡ x = cc e in ap (λ r. r ∷ xs) 
 drop_one (y ∷ xs) (suc i) x e =
     let place : suc (i + 1) ≡ suc i + 1 = omega arith in
     drop_one xs i x e ∙ ap (λ k. x ∷ drop k (y ∷ xs)) place
-
-pub copied_more : {X Y : Type 0} (f : X → Y) (done : List X) (x : X) (whole : List Y) (i : ℕ)
-    → map f done ++ drop i whole ≡ whole → slice_get whole i ≡ Some (f x)
-    → map f (done ++ x ∷ []) ++ drop (i + 1) whole ≡ whole
-copied_more f done x whole i before there =
-    ap (λ r. r ++ drop (i + 1) whole) (map-append f done (x ∷ []))
-    ∙ append_assoc (map f done) (f x ∷ []) (drop (i + 1) whole)
-    ∙ ap (λ r. map f done ++ r) (sym (drop_one whole i (f x) there)) ∙ before
 
 pub on_err : {T E P : Type 0} (r : Result T E) → P → OnErr r P
 on_err (Ok x) p = tt

@@ -1,5 +1,5 @@
 -- What pages hold where the cells of one are lent for writing.
-use Rattle.std.proofs.Common.{◌≡◌, ℕ, zero, suc, ℤ, ◌+◌, ◌*◌, ◌/◌, ◌%◌, ◌<◌, List, [], ◌∷◌, ◌++◌, length, take, drop, map, Option, Some, None, slice_get, refl, sym, ap, ◌∙◌, subst, inl, inr, take_all, append-nil, append_assoc, drop_of_length-le, arith}
+use Rattle.std.proofs.Common.{◌≡◌, ℕ, zero, suc, ℤ, ◌+◌, ◌*◌, ◌/◌, ◌%◌, ◌<◌, ◌≤◌, Bool, true, false, ltb, List, [], ◌∷◌, ◌++◌, length, take, drop, map, Option, Some, None, slice_get, refl, sym, ap, ◌∙◌, subst, inl, inr, take_all, append-nil, append_assoc, drop_of_length-le, arith}
 use Rattle.std.proofs.Math.ListN.{set}
 use Rattle.std.proofs.lemmas.List.{map-set, take-append-le, take-append-drop, drop-drop, length-take-le, length-set}
 use Rattle.std.proofs.lemmas.Option.{slice_get-map, slice_get_within}
@@ -12,12 +12,16 @@ use Rattle.std.specs.declared.alloc.Global.{Global}
 use Rattle.dp_base.specs.Lends.{with_items}
 use Rattle.dp_memory.specs.declared.piece.Piece.{Piece}
 use Rattle.dp_memory.specs.declared.table.Table.{Table}
-use Rattle.dp_memory.specs.Piece.{held, items_of, pages_of, changed, changed_to, page_over, group_over}
+use Rattle.dp_memory.specs.Piece.{held, items_of, pages_of, groups_of, IsOwnAmong, changed, changed_to, page_over, group_over}
 use Rattle.dp_memory.specs.Pieces.{joined, InPieces}
-use Rattle.dp_memory.specs.Table.{table_pages, InGroups, IsOwnIn, table_over}
+use Rattle.dp_memory.specs.Table.{table_pages, InGroups, table_over}
+use Rattle.dp_memory.specs.declared.book.Book.{Book}
+use Rattle.dp_memory.specs.Book.{book_pages, IsBook, IsOwnAt, over_before, book_over}
+use Rattle.dp_memory.proofs.Booked.{all_count, before_last, last_there}
+use Rattle.std.proofs.lemmas.Bool.{ltb-true, ltb-false}
 use Rattle.dp_memory.proofs.Grouped.{page_value}
 use Rattle.dp_memory.proofs.Held.{own_items, own_cells}
-use Rattle.dp_memory.proofs.Pieces.{joined_item, joined_set, in_pieces_set, piece_is}
+use Rattle.dp_memory.proofs.Pieces.{joined_item, joined_set, in_pieces_set, piece_is, set_left, set_right}
 use Rattle.dp_memory.proofs.Sliced.{at_most_or_more}
 
 pub item_there : {X : Type 0} (xs : List X) (i : ℕ) → i < length xs → (x : X) × (slice_get xs i ≡ Some x)
@@ -65,38 +69,42 @@ module _ (group : Piece (Piece ℤ)) (at : ℕ) (none : group.shared ≡ None) (
       ∙ ap (set (map items_of group.own.items) at) (own_over page.own page.shared own written)
       ∙ ap (λ (r : List (Piece ℤ)). set (map items_of r) at (over (items_of page) written)) (sym whole)
 
-module _ (table : Table) (number : ℕ) (grouped : InGroups table) (own : IsOwnIn table number) where
+module _ (table : Table) (number : ℕ) (grouped : InGroups table) (own : IsOwnAmong table.groups number) where
   abbrev group : Piece (Piece ℤ)
-  group = own.0
+  group = own.1
 
   abbrev groups : List (List (List ℤ))
-  groups = map pages_of table.groups.items
+  groups = groups_of table.groups
 
   abbrev pub lent_cells : List ℤ
-  lent_cells = items_of own.2.1
+  lent_cells = items_of own.3.1
+
+  own_are : held table.groups.own.items table.groups.shared ≡ table.groups.own.items
+  own_are = own_items table.groups.own.items table.groups.shared own.0
+
+  group_stands : slice_get (items_of table.groups) (number / 16) ≡ Some group
+  group_stands = ap (λ (r : List (Piece (Piece ℤ))). slice_get r (number / 16)) own_are ∙ own.2
 
   stands_in_groups : slice_get groups (number / 16) ≡ Some (pages_of group)
-  stands_in_groups = slice_get-map pages_of table.groups.items (number / 16) ∙ ap (option_map pages_of) own.1
+  stands_in_groups = slice_get-map pages_of (items_of table.groups) (number / 16) ∙ ap (option_map pages_of) group_stands
 
-  page_there : slice_get (items_of group) (number % 16) ≡ Some own.2.1
-  page_there = ap (λ (r : List (Piece ℤ)). slice_get r (number % 16)) (own_items group.own.items group.shared own.2.0) ∙ own.2.2
+  page_there : slice_get (items_of group) (number % 16) ≡ Some own.3.1
+  page_there = ap (λ (r : List (Piece ℤ)). slice_get r (number % 16)) (own_items group.own.items group.shared own.3.0) ∙ own.3.2
 
   pub lent_there : slice_get (table_pages table) number ≡ Some lent_cells
-  lent_there = page_value table.groups.items grouped number group own.2.1 own.1 page_there
-
-  pub lent_is : InPieces 256 (table_pages table) → lent_cells ≡ take 256 (drop (256 * number) (joined (table_pages table)))
-  lent_is paged = sym (piece_is 256 (table_pages table) paged number lent_cells lent_there)
+  lent_there = page_value (items_of table.groups) grouped number group own.3.1 group_stands page_there
 
   module _ (written : List ℤ) where
     abbrev after : Table
     after = table_over number written table
 
-    groups_are : map pages_of after.groups.items
-        ≡ set groups (number / 16) (set (pages_of group) (number % 16) (over lent_cells written))
+    groups_are : groups_of after.groups ≡ set groups (number / 16) (set (pages_of group) (number % 16) (over lent_cells written))
     groups_are =
-        ap (map pages_of) (changed_is (group_over (number % 16) written) table.groups (number / 16) group own.1)
-        ∙ map-set pages_of table.groups.items (number / 16) (group_over (number % 16) written group)
-        ∙ ap (set groups (number / 16)) (pages_over group (number % 16) own.2.0 own.2.1 own.2.2 own.2.3 written)
+        ap (map pages_of) (own_items after.groups.own.items table.groups.shared own.0
+        ∙ changed_is (group_over (number % 16) written) table.groups.own (number / 16) group own.2)
+        ∙ map-set pages_of table.groups.own.items (number / 16) (group_over (number % 16) written group)
+        ∙ ap (set (map pages_of table.groups.own.items) (number / 16)) (pages_over group (number % 16) own.3.0 own.3.1 own.3.2 own.3.3 written)
+        ∙ ap (λ (r : List (Piece (Piece ℤ))). set (map pages_of r) (number / 16) (set (pages_of group) (number % 16) (over lent_cells written))) (sym own_are)
 
     pub over_in_groups : InGroups after
     over_in_groups =
@@ -104,7 +112,7 @@ module _ (table : Table) (number : ℕ) (grouped : InGroups table) (own : IsOwnI
         (in_pieces_set 16 groups grouped (number / 16) (pages_of group) (set (pages_of group) (number % 16) (over lent_cells written))
         stands_in_groups (length-set (pages_of group) (number % 16) (over lent_cells written)))
 
-    pages_are : table_pages after ≡ set (table_pages table) number (over lent_cells written)
+    pub pages_are : table_pages after ≡ set (table_pages table) number (over lent_cells written)
     pages_are =
         let page = slice_get-map items_of (items_of group) (number % 16) ∙ ap (option_map items_of) page_there in
         let within = slice_get_within (pages_of group) (number % 16) lent_cells page in
@@ -113,25 +121,71 @@ module _ (table : Table) (number : ℕ) (grouped : InGroups table) (own : IsOwnI
         ∙ joined_item 16 groups grouped (number / 16) (number % 16) (pages_of group) (over lent_cells written) stands_in_groups within
         ∙ ap (λ k. set (joined groups) k (over lent_cells written)) spot
 
-    as_long : length (over lent_cells written) ≡ length lent_cells
-    as_long = sym (length_refill (length lent_cells) lent_cells (take (length lent_cells) written) refl)
+-- the cells of one page are written over
+module _ (pages after : List (List ℤ)) (paged : InPieces 256 pages) (number : ℕ) (cells : List ℤ)
+    (there : slice_get pages number ≡ Some cells) (written : List ℤ) (is : after ≡ set pages number (over cells written)) where
+  as_long : length (over cells written) ≡ length cells
+  as_long = sym (length_refill (length cells) cells (take (length cells) written) refl)
 
-    module _ (paged : InPieces 256 (table_pages table)) where
-      pub over_in_pages : InPieces 256 (table_pages after)
-      over_in_pages =
-          subst (λ r. InPieces 256 r) (sym pages_are)
-          (in_pieces_set 256 (table_pages table) paged number lent_cells (over lent_cells written) lent_there as_long)
+  pub over_in_pages : InPieces 256 after
+  over_in_pages =
+      subst (λ r. InPieces 256 r) (sym is) (in_pieces_set 256 pages paged number cells (over cells written) there as_long)
 
-      pub over_joined : joined (table_pages after)
-          ≡ take (256 * number) (joined (table_pages table))
-          ++ with_items (take 256 (drop (256 * number) (joined (table_pages table)))) (take (length lent_cells) written)
-          ++ drop (256 * number + 256) (joined (table_pages table))
-      over_joined =
-          let ps = table_pages table in
-          ap joined pages_are
-          ∙ joined_set 256 ps paged number lent_cells (over lent_cells written) lent_there as_long
-          ∙ ap (λ (r : List ℤ). take (256 * number) (joined ps) ++ with_items r (take (length lent_cells) written) ++ drop (256 * number + 256) (joined ps))
-          (sym (piece_is 256 ps paged number lent_cells lent_there))
+  pub over_joined : joined after
+      ≡ take (256 * number) (joined pages)
+      ++ with_items (take 256 (drop (256 * number) (joined pages))) (take (length cells) written)
+      ++ drop (256 * number + 256) (joined pages)
+  over_joined =
+      ap joined is
+      ∙ joined_set 256 pages paged number cells (over cells written) there as_long
+      ∙ ap (λ (r : List ℤ). take (256 * number) (joined pages) ++ with_items r (take (length cells) written) ++ drop (256 * number + 256) (joined pages))
+      (sym (piece_is 256 pages paged number cells there))
+
+-- the cells of a book's page are written over
+module _ (book : Book) (number : ℕ) (stands : IsBook book) (own : IsOwnAt book number) (cells : List ℤ)
+    (there : slice_get (book_pages book) number ≡ Some cells) (written : List ℤ) where
+  abbrev IsOver : Book → Type 0
+  IsOver after = IsBook after × (book_pages after ≡ set (book_pages book) number (over cells written))
+
+  over_in_table : number < book.before → IsOver (record book { table = table_over number written book.table })
+  over_in_table lt =
+      let pages = table_pages book.table in
+      let count = stands.1 in
+      let owned = own lt in
+      let both : Some (lent_cells book.table number stands.0 owned) ≡ Some cells =
+      sym (lent_there book.table number stands.0 owned) ∙ sym (before_last pages book.last.items number (omega arith)) ∙ there in
+      let same : lent_cells book.table number stands.0 owned ≡ cells = cc both in
+      let are = pages_are book.table number stands.0 owned written ∙ ap (λ (r : List ℤ). set pages number (over r written)) same in (
+        (
+          over_in_groups book.table number stands.0 owned written,
+          count ∙ sym (ap length are ∙ length-set pages number (over cells written)),
+        ),
+        ap (λ r. r ++ book.last.items ∷ []) are
+            ∙ sym (set_left pages (book.last.items ∷ []) number (over cells written) (omega arith)),
+      )
+
+  over_last : book.before ≤ number → IsOver (record book { last = vec.with_items book.last written })
+  over_last le =
+      let pages = table_pages book.table in
+      let last = book.last.items in
+      let count = stands.1 in
+      let all = all_count pages last in
+      let within = slice_get_within (book_pages book) number cells there in
+      let here : number ≡ length pages = omega arith in
+      let both : Some last ≡ Some cells = sym (last_there pages last number here) ∙ there in
+      let same : last ≡ cells = cc both in
+      let is = ap (λ n. take n (written ++ drop (length written) last)) book.last.ok.0 ∙ only_as_many last written
+      ∙ ap (λ (r : List ℤ). over r written) same in (
+        stands,
+        ap (λ r. pages ++ r ∷ []) is ∙ sym (set_right pages (last ∷ []) number 0 (over cells written) (omega arith)),
+      )
+
+  pub book_is_over : IsOver (book_over number written book)
+  unfolding over_before
+  book_is_over = by (ltb number book.before) refl where
+    by : (before : Bool) → ltb number book.before ≡ before → IsOver (over_before before number written book)
+    by true e = over_in_table (ltb-true number book.before e)
+    by false e = over_last (ltb-false number book.before e)
 
 -- nothing is written
 none_over : (cells written : List ℤ) → with_items cells (take 0 written) ≡ cells

@@ -1,3 +1,4 @@
+pub mod Booked
 pub mod Built
 pub mod Filled
 pub mod Found
@@ -6,3 +7,4 @@ pub mod Held
 pub mod Lent
 pub mod Pieces
 pub mod Sliced
+pub mod Unshared

@@ -1,5 +1,5 @@
 -- What a piece holds.
-use Rattle.std.specs.Prelude.{◌≡◌, ℕ, ℤ, List, map, slice_get, Option, None, Some}
+use Rattle.std.specs.Prelude.{◌≡◌, ◌/◌, ◌%◌, ℕ, ℤ, List, map, slice_get, Option, None, Some}
 use Rattle.std.specs.Arc.{arc_value}
 use Rattle.std.specs.declared.sync.Arc.{Arc}
 use Rattle.std.specs.declared.vec.Vec.{Vec}
@@ -21,6 +21,10 @@ items_of piece = held piece.own.items piece.shared
 -- the cells of each page of a group
 abbrev pub pages_of : Piece (Piece ℤ) → List (List ℤ)
 pages_of group = map items_of (items_of group)
+
+-- the pages of each of the groups
+abbrev pub groups_of : Piece (Piece (Piece ℤ)) → List (List (List ℤ))
+groups_of groups = map pages_of (items_of groups)
 
 -- once the borrow r ends, the piece's own items are those that r shows last
 abbrev pub lends_own : (T : RattleType) → MutBor (Piece T.Denot) → MutBor (List T.Denot) → Fml
@@ -49,3 +53,19 @@ group_over at written group = record group { own = changed (page_over written) g
 -- once the borrow r ends, the group's own page has the cells that r shows last
 abbrev pub lends_own_page : MutBor (Piece (Piece ℤ)) → ℕ → MutBor (List ℤ) → Fml
 lends_own_page group at r = Lends (the_row (the_row i64)) (Array i64 0) group r (λ written. group_over at written group.now)
+
+-- a page of a list of groups is its own, as are the lists that the page stands in
+abbrev pub IsOwnAmong : Piece (Piece (Piece ℤ)) → ℕ → Type 0
+IsOwnAmong groups number =
+    (groups.shared ≡ None) × (group : Piece (Piece ℤ)) × (slice_get groups.own.items (number / 16) ≡ Some group)
+    × IsOwnPage group (number % 16)
+
+-- the list with other cells written over one of its pages
+abbrev pub groups_over : ℕ → List ℤ → Piece (Piece (Piece ℤ)) → Piece (Piece (Piece ℤ))
+groups_over number written groups =
+    record groups { own = changed (group_over (number % 16) written) groups.own (number / 16) }
+
+-- once the borrow r ends, that page has the cells that r shows last
+abbrev pub lends_page_among : MutBor (Piece (Piece (Piece ℤ))) → ℕ → MutBor (List ℤ) → Fml
+lends_page_among groups number r =
+    Lends (the_row (the_row (the_row i64))) (Array i64 0) groups r (λ written. groups_over number written groups.now)

@@ -1,8 +1,8 @@
 //! Sixteen pages, which are shared together.
 ghost use Rattle.std.specs.Prelude.{◌≡◌, ◌<◌, None, Some, length, map, slice_get, IfOk, OnOk, OnErr};
 ghost use Rattle.std.specs.Borrow.{sem};
-ghost use Rattle.dp_memory.specs.Pieces.{HasCell, with_cell, ArePagesOf};
-ghost use Rattle.dp_memory.specs.Piece.{items_of, pages_of, IsOwnPage, lends_own_page};
+ghost use Rattle.dp_memory.specs.Pieces.{HasCell, with_cell, joined, InPieces, ArePagesOf};
+ghost use Rattle.dp_memory.specs.Piece.{items_of, pages_of, groups_of, IsOwnPage, IsOwnAmong, lends_own_page, lends_page_among};
 
 use crate::piece::Piece;
 use dp_base::NoMemory;
@@ -24,27 +24,23 @@ fn freeze_pages(pages: &mut Vec<Page>, alloc: Global) -> Result<(), NoMemory>
     Ok(())
 }
 
-/// Another group that shares the pages.
+/// Makes the group, and its pages, ones that can be shared.
 #[tactic(auto, using(crate::proofs::Held::pages_same))]
-pub(crate) fn share(group: &mut Group, alloc: Global) -> Result<Group, NoMemory>
-    ensures ok { IfOk result (λ other. pages_of other ≡ pages_of group.old) }
-    ensures same { pages_of group.new ≡ pages_of group.old }
+fn freeze(group: &mut Group, alloc: Global) -> Result<(), NoMemory>
+    ensures { pages_of group.new ≡ pages_of group.old }
 {
     freeze_pages(&mut group.own, alloc)?;
-    group.share(alloc)
+    group.freeze(alloc)
 }
 
-/// Other groups that share all the pages.
-pub(crate) fn share_all(groups: &mut Vec<Group>, alloc: Global) -> Result<Vec<Group>, NoMemory>
-    ensures ok { IfOk result (λ others. map pages_of others.items ≡ map pages_of groups.old.items) }
-    ensures same { map pages_of groups.new.items ≡ map pages_of groups.old.items }
+/// The same for all of these groups.
+pub(crate) fn freeze_all(groups: &mut Vec<Group>, alloc: Global) -> Result<(), NoMemory>
+    ensures { map pages_of groups.new.items ≡ map pages_of groups.old.items }
 {
-    let mut others = Vec::with_capacity(alloc, groups.len())?;
     for at in 0..groups.len() {
-        let other = share(&mut groups[at], alloc)?;
-        others.push(other)?;
+        freeze(&mut groups[at], alloc)?;
     }
-    Ok(others)
+    Ok(())
 }
 
 /// Copies of pages, which share their cells.
@@ -54,6 +50,28 @@ fn copies(pages: &[Page], alloc: Global) -> Result<Vec<Page>, NoMemory>
     let mut copies = Vec::with_capacity(alloc, pages.len())?;
     for page in pages {
         copies.push(page.copy(alloc)?)?;
+    }
+    Ok(copies)
+}
+
+/// Another group with the same pages, which it shares where they can be shared.
+#[tactic(auto, unfolding(crate::specs::Piece::held))]
+fn copy(group: &Group, alloc: Global) -> Result<Group, NoMemory>
+    ensures { IfOk result (λ other. pages_of other ≡ pages_of group.now) }
+{
+    match &group.shared {
+        Some(pages) => Piece::shared(alloc, pages),
+        None => Ok(Piece::of(copies(group.own.as_slice(), alloc)?)),
+    }
+}
+
+/// Copies of groups, which share their pages.
+pub(crate) fn copy_all(groups: &[Group], alloc: Global) -> Result<Vec<Group>, NoMemory>
+    ensures { IfOk result (λ copies. map pages_of copies.items ≡ map pages_of groups.now) }
+{
+    let mut copies = Vec::with_capacity(alloc, groups.len())?;
+    for group in groups {
+        copies.push(copy(group, alloc)?)?;
     }
     Ok(copies)
 }
@@ -107,6 +125,17 @@ pub(crate) fn page_mut(group: &mut Group, at: usize) -> &mut [i64]
 {
     let page = &mut group.own[at];
     page.as_mut_slice()
+}
+
+/// The same for the page of this number in a list of groups.
+pub(crate) fn numbered_page_mut(groups: &mut Piece<Group>, number: usize) -> &mut [i64]
+    requires own { IsOwnAmong groups.old number }
+    requires groups { InPieces 16 (groups_of groups.old) }
+    ensures* writes_back { sem 𝓛 (lends_page_among groups.entry number result) }
+    ensures value { slice_get (joined (groups_of groups.old)) number ≡ Some result.now }
+{
+    let group = &mut groups.own[number / 16];
+    page_mut(group, number % 16)
 }
 
 /// Pages of these cells, 256 in each but the last.

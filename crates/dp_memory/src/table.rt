@@ -1,5 +1,5 @@
-//! All pages of a version.
-ghost use Rattle.std.specs.Prelude.{◌≡◌, ◌≤◌, ◌<◌, Some, length, map, slice_get, IfOk, MatchOption, OnOk, OnErr};
+//! The pages of a version but the last one.
+ghost use Rattle.std.specs.Prelude.{◌≡◌, ◌<◌, Some, None, length, slice_get, IfOk, OnOk, OnErr};
 ghost use Rattle.std.specs.Borrow.{sem};
 
 use crate::group;
@@ -11,17 +11,17 @@ use std::alloc::Global;
 /// The groups in which the pages stand, sixteen in each but the last.
 #[derive(Debug, Drop)]
 pub(crate) struct Table {
-    pub(crate) groups: Vec<Group>,
+    pub(crate) groups: Piece<Group>,
 }
 
 impl Table {
-    ghost use Rattle.dp_memory.specs.Piece.{pages_of};
-    ghost use Rattle.dp_memory.specs.Pieces.{HasCell, with_cell, joined, InPieces};
-    ghost use Rattle.dp_memory.specs.Table.{table_pages, IsOwnIn, InGroups, lends_page};
+    ghost use Rattle.dp_memory.specs.Piece.{groups_of, IsOwnAmong};
+    ghost use Rattle.dp_memory.specs.Pieces.{HasCell, with_cell, ArePagesOf};
+    ghost use Rattle.dp_memory.specs.Table.{table_pages, InGroups, lends_page};
 
     /// A table of pages of these cells.
     pub(crate) fn of(alloc: Global, cells: &[i64]) -> Result<Table, NoMemory>
-        ensures { IfOk result (λ table. InGroups table × InPieces 256 (table_pages table) × (joined (table_pages table) ≡ cells.now)) }
+        ensures { IfOk result (λ table. InGroups table × ArePagesOf (table_pages table) cells.now) }
     {
         let mut groups = Vec::new(alloc);
         let mut rest = cells;
@@ -31,7 +31,21 @@ impl Table {
             groups.push(group)?;
             rest = more;
         }
-        Ok(Table { groups })
+        Ok(Table {
+            groups: Piece::of(groups),
+        })
+    }
+
+    /// Makes the list of groups the table's own.
+    fn unshare(&mut self, alloc: Global) -> Result<(), NoMemory>
+        ensures ok { OnOk result (self.new.groups.shared ≡ None) }
+        ensures same { groups_of self.new.groups ≡ groups_of self.old.groups }
+    {
+        if !self.groups.is_own() {
+            let groups = group::copy_all(self.groups.as_slice(), alloc)?;
+            self.groups.put(groups);
+        }
+        Ok(())
     }
 
     /// The cells of a page.
@@ -41,23 +55,7 @@ impl Table {
         requires within { number < length (table_pages self.now) }
         ensures { slice_get (table_pages self.now) number ≡ Some result.now }
     {
-        self.groups[number / 16].as_slice()[number % 16].as_slice()
-    }
-
-    /// The cells of a page, if there is one.
-    #[inline]
-    pub(crate) fn find(&self, number: usize) -> Option<&[i64]>
-        requires groups { InGroups self.now }
-        ensures { MatchOption result (length (table_pages self.now) ≤ number) (λ page. slice_get (table_pages self.now) number ≡ Some page.now) }
-    {
-        if number / 16 >= self.groups.len() {
-            return None;
-        }
-        let pages = self.groups[number / 16].as_slice();
-        if number % 16 >= pages.len() {
-            return None;
-        }
-        Some(pages[number % 16].as_slice())
+        self.groups.as_slice()[number / 16].as_slice()[number % 16].as_slice()
     }
 
     /// Puts a number into a cell of a page, after a copy of what other tables share.
@@ -74,39 +72,41 @@ impl Table {
         ensures ok { OnOk result (table_pages self.new ≡ with_cell (table_pages self.old) number place value) }
         ensures err { OnErr result (table_pages self.new ≡ table_pages self.old) }
     {
-        let group = &mut self.groups[number / 16];
+        self.unshare(alloc)?;
+        let group = &mut self.groups.own[number / 16];
         group::set(group, alloc, number % 16, place, value)?;
         Ok(())
     }
 
-    /// Makes a page, and the list that it stands in, the table's own.
+    /// Makes a page, and the lists that it stands in, the table's own.
     pub(crate) fn own_page(&mut self, alloc: Global, number: usize) -> Result<(), NoMemory>
         requires groups { InGroups self.old }
         requires within { number < length (table_pages self.old) }
-        ensures ok { OnOk result (IsOwnIn self.new number) }
-        ensures same { map pages_of self.new.groups.items ≡ map pages_of self.old.groups.items }
+        ensures ok { OnOk result (IsOwnAmong self.new.groups number) }
+        ensures same { groups_of self.new.groups ≡ groups_of self.old.groups }
     {
-        let group = &mut self.groups[number / 16];
+        self.unshare(alloc)?;
+        let group = &mut self.groups.own[number / 16];
         group::own_page(group, alloc, number % 16)
     }
 
     /// The table's own page, for writing. What is written through the borrow stands there once it ends.
     pub(crate) fn page_mut(&mut self, number: usize) -> &mut [i64]
-        requires own { IsOwnIn self.old number }
+        requires own { IsOwnAmong self.old.groups number }
         requires groups { InGroups self.old }
         ensures* writes_back { sem 𝓛 (lends_page self.entry number result) }
         ensures value { slice_get (table_pages self.old) number ≡ Some result.now }
     {
-        let group = &mut self.groups[number / 16];
-        group::page_mut(group, number % 16)
+        group::numbered_page_mut(&mut self.groups, number)
     }
 
     /// Another table that shares the pages.
     pub(crate) fn share(&mut self, alloc: Global) -> Result<Table, NoMemory>
-        ensures ok { IfOk result (λ other. map pages_of other.groups.items ≡ map pages_of self.old.groups.items) }
-        ensures same { map pages_of self.new.groups.items ≡ map pages_of self.old.groups.items }
+        ensures ok { IfOk result (λ other. groups_of other.groups ≡ groups_of self.old.groups) }
+        ensures same { groups_of self.new.groups ≡ groups_of self.old.groups }
     {
-        let groups = group::share_all(&mut self.groups, alloc)?;
+        group::freeze_all(&mut self.groups.own, alloc)?;
+        let groups = self.groups.share(alloc)?;
         Ok(Table { groups })
     }
 }

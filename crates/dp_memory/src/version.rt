@@ -4,8 +4,8 @@ ghost use Rattle.std.specs.Borrow.{sem};
 ghost use Rattle.dp_memory.specs.Pieces.{page_at, filled};
 ghost use Rattle.dp_memory.specs.Lends.{lends_page};
 
+use crate::book::Book;
 use crate::pages::Pages;
-use crate::table::Table;
 use dp_base::{CellId, Cells, NoMemory};
 use std::alloc::Global;
 use std::marker::Model;
@@ -18,25 +18,25 @@ mod tests;
 #[derive(Debug, Drop)]
 pub struct Version {
     alloc: Global,
-    table: Table,
+    book: Book,
     /// It is empty, and lent where memory for a page is wanting.
     none: Vec<i64>,
 }
 
 impl Model for Version {
-    ghost use Rattle.std.specs.Prelude.{◌≡◌, ℤ, List, [], map};
+    ghost use Rattle.std.specs.Prelude.{◌≡◌, ℤ, List, []};
     ghost use Rattle.std.specs.Coded.{coded_list, coded_ℤ};
     ghost use Rattle.dp_memory.specs.Pieces.{joined, InPieces};
-    ghost use Rattle.dp_memory.specs.Piece.{pages_of};
+    ghost use Rattle.dp_memory.specs.Book.{book_pages, IsBook};
 
     ghost Value = { List ℤ };
 
     ghost coded = { coded_list coded_ℤ };
 
-    ghost view = { λ version. joined (joined (map pages_of version.table.groups.items)) };
+    ghost view = { λ version. joined (book_pages version.book) };
 
-    ghost invariant = { λ version. InPieces 16 (map pages_of version.table.groups.items)
-        × InPieces 256 (joined (map pages_of version.table.groups.items)) × (version.none.items ≡ []) };
+    ghost invariant = { λ version. IsBook version.book × InPieces 256 (book_pages version.book)
+        × (version.none.items ≡ []) };
 }
 
 /// The number at a place, if there is one.
@@ -52,10 +52,10 @@ impl Version {
     pub fn of(alloc: Global, cells: &Cells) -> Result<Version, NoMemory>
         ensures { IfOk result (λ version. version ≡ cells.now) }
     {
-        let table = Table::of(alloc, cells.as_slice())?;
+        let book = Book::of(alloc, cells.as_slice())?;
         Ok(Version {
             alloc,
-            table,
+            book,
             none: Vec::new(alloc),
         })
     }
@@ -66,7 +66,7 @@ impl Version {
         requires { cell.0 < length self.now }
         ensures { slice_get self.now cell.0 ≡ Some result }
     {
-        let page = self.table.page(cell.0 as usize / 256);
+        let page = self.book.page(cell.0 as usize / 256);
         page[cell.0 as usize % 256]
     }
 
@@ -75,7 +75,7 @@ impl Version {
     pub fn find(&self, cell: CellId) -> Option<i64>
         ensures { result ≡ slice_get self.now cell.0 }
     {
-        match self.table.find(cell.0 as usize / 256) {
+        match self.book.find(cell.0 as usize / 256) {
             Some(page) => at(page, cell.0 as usize % 256),
             None => None,
         }
@@ -88,7 +88,7 @@ impl Version {
     {
         let start = first.0 as usize;
         Pages {
-            table: &self.table,
+            book: &self.book,
             start,
             end: start + len as usize,
         }
@@ -111,7 +111,7 @@ impl Version {
         ensures ok { OnOk result (self.new ≡ slice_set self.old place value) }
         ensures err { OnErr result (self.new ≡ self.old) }
     {
-        self.table.set(self.alloc, place / 256, place % 256, value)?;
+        self.book.set(self.alloc, place / 256, place % 256, value)?;
         Ok(())
     }
 
@@ -136,8 +136,8 @@ impl Version {
         ensures value { (result.now ≡ []) ⊎ (result.now ≡ page_at self.old cell.0) }
     {
         let number = cell.0 as usize / 256;
-        match self.table.own_page(self.alloc, number) {
-            Ok(()) => self.table.page_mut(number),
+        match self.book.own_page(self.alloc, number) {
+            Ok(()) => self.book.page_mut(number),
             Err(_) => self.none.as_mut_slice(),
         }
     }
@@ -147,10 +147,10 @@ impl Version {
         ensures ok { IfOk result (λ other. other ≡ self.old) }
         ensures same { self.new ≡ self.old }
     {
-        let table = self.table.share(self.alloc)?;
+        let book = self.book.share(self.alloc)?;
         Ok(Version {
             alloc: self.alloc,
-            table,
+            book,
             none: Vec::new(self.alloc),
         })
     }

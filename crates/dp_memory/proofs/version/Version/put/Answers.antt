@@ -3,13 +3,13 @@ use Rattle.std.proofs.Math.ListN.{set}
 use Rattle.std.proofs.lemmas.List.{length-set}
 use Rattle.std.proofs.lemmas.Option.{get_or_from_slice_get}
 use Rattle.dp_memory.specs.Pieces.{joined, InPieces}
-use Rattle.dp_memory.specs.Table.{table_pages}
+use Rattle.dp_memory.specs.Book.{book_pages}
 use Rattle.dp_memory.proofs.Pieces.{joined_there, joined_item, in_pieces_set}
 use Rattle.dp_memory.proofs.version.Version.put.Goals as goal
 
 pub set-requires-clause-cell : goal.set-requires-clause-cell
 set-requires-clause-cell c =
-    let pages = table_pages c.self.inside.table in
+    let pages = book_pages c.self.inside.book in
     let count = ap length c.self.view_is in
     let asked = c.requires in
     let there = joined_there 256 pages c.self.invariant.1 (c.args.place / 256) (c.args.place % 256) (omega arith) (omega arith) in
@@ -17,7 +17,7 @@ set-requires-clause-cell c =
 
 pub invariant_of-self-2 : goal.invariant_of-self-2
 invariant_of-self-2 c =
-    let pages = table_pages c.self.inside.table in
+    let pages = book_pages c.self.inside.book in
     let count = ap length c.self.view_is in
     let asked = c.requires in
     let there = joined_there 256 pages c.self.invariant.1 (c.args.place / 256) (c.args.place % 256) (omega arith) (omega arith) in
@@ -26,7 +26,7 @@ invariant_of-self-2 c =
     let value = to_z w64 (of_z w64 c.args.value) in
     let page : get_or pages number [] ≡ there.0 = get_or_from_slice_get pages number there.0 [] there.1 in
     let long = length-set (get_or pages number []) place value ∙ ap length page in (
-      c.set.ensures.groups,
+      c.set.ensures.book,
       subst (λ r. InPieces 256 r) (sym c.in_ok-set.ensures.ok)
           (in_pieces_set 256 pages c.self.invariant.1 number there.0 (set (get_or pages number []) place value) there.1 long),
       c.self.invariant.2,
@@ -35,7 +35,7 @@ invariant_of-self-2 c =
 pub returns-clause-ok : goal.returns-clause-ok
 returns-clause-ok c =
     let fits : to_z w64 (of_z w64 c.args.value) ≡ c.args.value = search rules in
-    let pages = table_pages c.self.inside.table in
+    let pages = book_pages c.self.inside.book in
     let count = ap length c.self.view_is in
     let asked = c.requires in
     let there = joined_there 256 pages c.self.invariant.1 (c.args.place / 256) (c.args.place % 256) (omega arith) (omega arith) in
