@@ -10,7 +10,7 @@ use crate::going::{from_cells, from_packet, from_versioned, kept_at_base};
 use crate::making::make_ready;
 use crate::turning::Rows;
 use crate::{Frame, Kept, Ready};
-use dp_base::{Cells, NoMemory, Row, Word};
+use dp_base::{Cells, NoMemory};
 use dp_code::StageProgram;
 use dp_packet::{Packet, PacketStatus};
 use dp_plan::Plan;
@@ -90,14 +90,6 @@ impl<'p> StageMachine<'p> {
             kept,
             rows: Rows::new(alloc)?,
         })
-    }
-
-    /// The words of the next packet take over this row's room.
-    pub fn reuse(&mut self, own: Row<Word>)
-        ensures stands { (key : packets.Epoch) (n : ℕ) → Stands self.old key n → Stands self.new key n }
-        ensures stage { self.new.stage ≡ self.old.stage }
-    {
-        self.rows.reuse(own);
     }
 
     /// What the stage sends for a packet. One that is void, or for which memory was wanting, goes through as it is.

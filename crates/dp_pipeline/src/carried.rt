@@ -5,7 +5,6 @@ ghost use Rattle.dp_pipeline.specs.Keys.{key_of};
 
 use crate::item::Item;
 use crate::keys::LaneKey;
-use dp_base::{Row, Word};
 use dp_lane::LaneItem;
 use dp_packet::Packet;
 use dp_plan::Plan;
@@ -16,8 +15,6 @@ use dp_ring::RingItem;
 pub struct Carried<'p> {
     pub packet: Packet,
     pub plan: &'p Plan,
-    /// Rows whose room the stages take for their words.
-    pub spare: Row<Row<Word>>,
 }
 
 impl<'p> Item for Carried<'p> {

@@ -2,7 +2,6 @@
 use crate::carried::Carried;
 use crate::ending::is_last_verdict;
 use crate::judged::Judged;
-use crate::spare::Spare;
 use crate::stage::{Made, Stage};
 use dp_commit::{TryCommit, Verdict};
 use dp_edge::Gate;
@@ -41,11 +40,7 @@ impl<'p> Stage<Carried<'p>, Judged<'p>> for Judge<'p> {
     ghost stands = { JudgesAt };
 
     fn run<G: Gate>(&mut self, _gate: &G, item: Carried<'p>) -> Made<Judged<'p>> {
-        let Carried {
-            packet,
-            plan,
-            spare,
-        } = item;
+        let Carried { packet, plan } = item;
         let verdict = self.decide(&packet);
         let last = is_last_verdict(&verdict);
         let Packet {
@@ -58,10 +53,7 @@ impl<'p> Stage<Carried<'p>, Judged<'p>> for Judge<'p> {
                 iteration,
                 verdict,
                 plan,
-                spare: Spare {
-                    lists,
-                    outer: spare,
-                },
+                lists,
             },
             last,
         }

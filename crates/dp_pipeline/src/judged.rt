@@ -4,7 +4,7 @@ ghost use Rattle.dp_pipeline.specs.Keys.{key_of};
 
 use crate::item::Item;
 use crate::keys::LaneKey;
-use crate::spare::Spare;
+use dp_base::{Row, Word};
 use dp_commit::Verdict;
 use dp_lane::LaneItem;
 use dp_plan::Plan;
@@ -15,8 +15,8 @@ pub struct Judged<'p> {
     pub iteration: u64,
     pub verdict: Verdict,
     pub plan: &'p Plan,
-    /// What was judged. The thread that takes the verdict sends it back, since the judge has more to do.
-    pub spare: Spare,
+    /// What was judged. The thread that takes the verdict frees it, since the judge has more to do.
+    pub lists: Row<Row<Word>>,
 }
 
 impl<'p> Item for Judged<'p> {

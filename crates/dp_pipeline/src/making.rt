@@ -14,7 +14,6 @@ use crate::keys::{EpochKey, LaneKey};
 use crate::relay::Relay;
 use crate::setting::Setting;
 use crate::source::Source;
-use crate::spare::{Back, spare_lane};
 use crate::staffing::{add_workers, next_is_replicated, stage_unit, staged};
 use crate::start::Start;
 use crate::target::Target;
@@ -133,7 +132,7 @@ fn judging_unit<'p>(
     Ok((unit, told))
 }
 
-/// The units of the epoch, where its verdicts come, and where judged lists are sent back. The units stand in the order of the stages with the try-commit unit
+/// The units of the epoch, and where its verdicts come. They stand in the order of the stages with the try-commit unit
 /// last; a replicated stage stands as its workers.
 pub fn units_of<'p>(
     alloc: Global,
@@ -141,7 +140,7 @@ pub fn units_of<'p>(
     epoch: EpochKey<'p>,
     stop: &'p Stop,
     setter: &mut StopSetter,
-) -> Result<(Row<Unit<'p>>, TakeEnd<Judged<'p>>, Back), NoMemory>
+) -> Result<(Row<Unit<'p>>, TakeEnd<Judged<'p>>), NoMemory>
     requires setting { IsSetting setting }
     requires key { IsKeyIn setting epoch }
     requires steps { epoch.steps ≤ epoch.fuel }
@@ -152,14 +151,7 @@ pub fn units_of<'p>(
 {
     let stages = setting.plan.stages.len() as u32;
     let mut units = Row::new(alloc);
-    let (back, spares) = spare_lane(alloc)?;
-    let mut source = Source::Start(Start::new(
-        alloc,
-        setting.plan,
-        epoch.first,
-        epoch.fuel,
-        spares,
-    ));
+    let mut source = Source::Start(Start::new(alloc, setting.plan, epoch.first, epoch.fuel));
     let mut key = LaneKey { epoch, stage: 1 };
     while key.stage <= stages {
         source = if next_is_replicated(setting.plan, key.stage) {
@@ -171,5 +163,5 @@ pub fn units_of<'p>(
     }
     let (unit, verdicts) = judging_unit(alloc, setting, &key, source, stop, setter.seat(stop))?;
     units.push(unit)?;
-    Ok((units, verdicts, back))
+    Ok((units, verdicts))
 }

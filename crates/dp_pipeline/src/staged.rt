@@ -19,22 +19,13 @@ impl<'p> Stage<Carried<'p>, Carried<'p>> for Staged<'p> {
     ghost stands = { RunsAt };
 
     fn run<G: Gate>(&mut self, gate: &G, item: Carried<'p>) -> Made<Carried<'p>> {
-        let Carried {
-            packet,
-            plan,
-            mut spare,
-        } = item;
-        gate.enter(self.stage, packet.iteration);
-        if let Some(room) = spare.pop() {
-            self.machine.reuse(room);
-        }
-        let packet = self.machine.run(packet);
+        gate.enter(self.stage, item.packet.iteration);
+        let packet = self.machine.run(item.packet);
         let last = is_last_packet(&packet, self.fuel);
         Made {
             item: Carried {
                 packet,
-                plan,
-                spare,
+                plan: item.plan,
             },
             last,
         }

@@ -1,15 +1,12 @@
 //! Where the iterations of an epoch start.
-ghost use Rattle.std.specs.Prelude.{◌≡◌, ◌<◌, ◌≤◌, ◌-◌, ◌+◌, ◌^◌, ℕ, IfOk, OnErr, []};
+ghost use Rattle.std.specs.Prelude.{◌≡◌, ◌<◌, ◌≤◌, ◌-◌, ◌+◌, ◌^◌, ℕ, IfOk, OnErr};
 
 use crate::carried::Carried;
 use crate::polled::IdleWhy;
-use crate::spare::Spare;
 use dp_base::Row;
-use dp_lane::TakeEnd;
 use dp_packet::{Packet, PacketStatus};
 use dp_plan::Plan;
 use std::alloc::Global;
-use std::sync::Wait;
 
 /// Gives each iteration of an epoch an empty packet, up to the one with the fuel's number.
 #[derive(Drop)]
@@ -20,8 +17,6 @@ pub struct Start<'p> {
     pub(crate) next: u64,
     pub(crate) fuel: u64,
     pub(crate) refused: u64,
-    /// Where lists come back whose room is used again.
-    spares: TakeEnd<Spare>,
     ghost counted: { (first ≤ next) × (fuel < 2 ^ 64 - 1) },
 }
 
@@ -33,13 +28,7 @@ impl<'p> Start<'p> {
     ghost use Rattle.dp_pipeline.specs.declared.source.Source.TheVariants as source;
 
     /// The start of an epoch with this iteration.
-    pub(crate) fn new(
-        alloc: Global,
-        plan: &'p Plan,
-        first: u64,
-        fuel: u64,
-        spares: TakeEnd<Spare>,
-    ) -> Start<'p>
+    pub(crate) fn new(alloc: Global, plan: &'p Plan, first: u64, fuel: u64) -> Start<'p>
         requires { fuel < 2 ^ 64 - 1 }
         ensures first { (result.first ≡ first) × (result.next ≡ first) }
         ensures rest { (result.fuel ≡ fuel) × (result.plan.now ≡ plan.now) }
@@ -51,29 +40,11 @@ impl<'p> Start<'p> {
             next: first,
             fuel,
             refused: 0,
-            spares,
-        }
-    }
-
-    /// Rows for a packet, with the room of one that was judged where it has come back. The outer one is empty.
-    fn rows<R: Wait>(&mut self, rt: &R) -> Spare
-        ensures empty { result.outer ≡ [] }
-        ensures same { (self.new.first ≡ self.old.first) × (self.new.next ≡ self.old.next) × (self.new.fuel ≡ self.old.fuel) × (self.new.plan ≡ self.old.plan) × (self.new.refused ≡ self.old.refused) }
-    {
-        match self.spares.take(rt) {
-            Some(Spare { lists, mut outer }) => {
-                outer.clear();
-                Spare { lists, outer }
-            }
-            None => Spare {
-                lists: Row::new(self.alloc),
-                outer: Row::new(self.alloc),
-            },
         }
     }
 
     /// The packet of the next iteration. None comes above the fuel's number.
-    pub(crate) fn take<R: Wait>(&mut self, rt: &R) -> Result<Carried<'p>, IdleWhy>
+    pub(crate) fn take(&mut self) -> Result<Carried<'p>, IdleWhy>
         ensures took { IfOk result (λ item. (key : EpochKey) (s n : ℕ) → Starts self.old key s n → IsCarried key s n item × Starts self.new key s (n + 1)) }
         ensures idle { OnErr result ((key : EpochKey) (s n : ℕ) → Starts self.old key s n → Starts self.new key s n) }
         ensures taking { Takes result (source_facts (source.Start self.old)) (source_facts (source.Start self.new)) }
@@ -82,18 +53,16 @@ impl<'p> Start<'p> {
             self.refused = self.refused.saturating_add(1);
             return Err(IdleWhy::Empty);
         }
-        let Spare { lists, outer } = self.rows(rt);
         let iteration = self.next;
         self.next += 1;
         Ok(Carried {
             packet: Packet {
                 iteration,
-                lists: outer,
+                lists: Row::new(self.alloc),
                 status: PacketStatus::Going,
                 version: None,
             },
             plan: self.plan,
-            spare: lists,
         })
     }
 }

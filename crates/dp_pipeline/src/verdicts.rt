@@ -2,7 +2,6 @@
 use crate::judged::Judged;
 use crate::pause::Pause;
 use crate::polled::Polled;
-use crate::spare::{Back, Spare};
 use crate::unit::Unit;
 use dp_base::Row;
 use dp_commit::Verdict;
@@ -18,8 +17,6 @@ pub struct LaneVerdicts<'u> {
     end: TakeEnd<Judged<'u>>,
     own: Row<Unit<'u>>,
     pause: Pause<'u>,
-    /// Where the lists that were judged are sent back.
-    back: Option<Back>,
 }
 
 impl<'u> Model for LaneVerdicts<'u> {
@@ -50,22 +47,6 @@ impl<'u> LaneVerdicts<'u> {
             end,
             own: Row::new(alloc),
             pause: Pause::at(&[], 0),
-            back: None,
-        }
-    }
-
-    /// The same, which sends back the lists that were judged.
-    pub(crate) fn returning(self, back: Back) -> LaneVerdicts<'u>
-        ensures { result ≡ self.entry }
-    {
-        let LaneVerdicts {
-            end, own, pause, ..
-        } = self;
-        LaneVerdicts {
-            end,
-            own,
-            pause,
-            back: Some(back),
         }
     }
 
@@ -74,12 +55,11 @@ impl<'u> LaneVerdicts<'u> {
     pub fn polling(self, units: Row<Unit<'u>>, pause: Pause<'u>) -> LaneVerdicts<'u>
         ensures { result ≡ self.entry }
     {
-        let LaneVerdicts { end, back, .. } = self;
+        let LaneVerdicts { end, .. } = self;
         LaneVerdicts {
             end,
             own: units,
             pause,
-            back,
         }
     }
 
@@ -105,21 +85,11 @@ impl<'u> LaneVerdicts<'u> {
         ensures { MatchOption result (self.new ≡ self.old) (λ verdict. Comes verdict self.old self.new) }
     {
         match self.end.take(rt) {
-            Some(Judged { verdict, spare, .. }) => {
+            Some(Judged { verdict, .. }) => {
                 self.pause.moved();
-                self.give_back(rt, spare);
                 Some(verdict)
             }
             None => None,
-        }
-    }
-
-    /// Sends the lists of a judged packet back.
-    fn give_back<R: Wait>(&mut self, rt: &R, spare: Spare)
-        ensures { self.new ≡ self.old }
-    {
-        if let Some(back) = &mut self.back {
-            back.send(rt, spare);
         }
     }
 
