@@ -1,5 +1,5 @@
 -- Where the judging stands in an epoch, and what it decides.
-use Rattle.std.specs.Prelude.{◌≡◌, ℕ, suc, false, true, ◌<◌, ◌-◌, length, Some}
+use Rattle.std.specs.Prelude.{◌≡◌, ℕ, suc, false, true, ◌<◌, ◌-◌, length, Some, None}
 use Rattle.dp_semantics.specs.Packets.{Packet, passed}
 use Rattle.dp_semantics.specs.EpochKey.{EpochKey, epoch_of}
 use Rattle.dp_semantics.specs.EpochVerdicts.{goes_on, state_at, verdict_at}
@@ -26,6 +26,12 @@ pub record Judges (t : TryCommit) (key : EpochKey) (n : ℕ) : Type 0 where
   pub knows : Knows t key n
   pub open knows use *
   pub cells : t.cells ≡ Some (state_at key n).cells
+
+-- behind any verdict but a clean one nothing is judged any more
+abbrev pub EndsUnlessClean : TryCommit → Verdict → Type 0
+EndsUnlessClean t (Clean v) = Unit {0}
+EndsUnlessClean t (Unclean cause) = t.cells ≡ None
+EndsUnlessClean t NoMemory = t.cells ≡ None
 
 -- a packet is what the last stage sends for that iteration
 abbrev pub IsLast : EpochKey → ℕ → Packet → Type 0

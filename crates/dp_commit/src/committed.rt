@@ -1,5 +1,5 @@
 //! The committed memory of a region.
-ghost use Rattle.std.specs.Prelude.{◌≡◌, ◌<◌, ◌≤◌, ◌+◌, ◌-◌, ◌^◌, ◌++◌, ℕ, List, ℤ, None, IfOk, MatchResult};
+ghost use Rattle.std.specs.Prelude.{◌≡◌, ◌<◌, ◌≤◌, ◌+◌, ◌-◌, ◌^◌, ◌++◌, ℕ, List, ℤ, None, IsTrue, IsErr, IfOk, OnErr, MatchResult};
 ghost use Rattle.dp_meaning.specs.declared.ends.Part.TheVariants as part;
 ghost use Rattle.dp_meaning.specs.MachineState.{MachineState, next_part, IsAnyRegion};
 ghost use Rattle.dp_meaning.specs.Moved.{Spoiled};
@@ -121,6 +121,8 @@ impl<'p> Committed<'p> {
         requires next { next_part self.old.machine ≡ part.Region self.old.region }
         requires turns { 0 < turns }
         ensures runs { MatchResult result (Reexecuted turns self.old self.new out.old out.new) (λ _. Spoiled turns self.old.machine self.new.machine out.old out.new) }
+        ensures wanting { OnErr result (self.new ≡ record self.old { machine = self.new.machine }) }
+        ensures spoiled { IsTrue self.old.machine.spoiled → IsErr result × (self.new ≡ self.old) × (out.new ≡ out.old) }
         ensures holds { (first : MachineState) → ClosesOnce first self.old.region → IsOpen self.old → Holds first self.old → IfOk result (WhereEnded (Holds first self.new)) }
     {
         let end = self.machine.iterate(turns, out)?;

@@ -1,5 +1,5 @@
 -- What a watched step is of the run.
-use Rattle.std.proofs.Common.{◌≡◌, ◌≢◌, refl, sym, ◌∙◌, ap, subst, append-nil, append_assoc, ℕ, zero, suc, ◌<◌, Bool, false, List, [], ◌∷◌, ◌++◌, ℤ}
+use Rattle.std.proofs.Common.{◌≡◌, ◌≢◌, refl, sym, ◌∙◌, ap, subst, append-nil, append_assoc, ℕ, zero, suc, ◌<◌, Bool, false, true, List, [], ◌∷◌, ◌++◌, ℤ, arith}
 use Rattle.dp_base.specs.declared.End.{End}
 use Rattle.dp_base.specs.declared.End.TheVariants as how
 use Rattle.dp_base.specs.declared.Fault.{Fault}
@@ -8,18 +8,20 @@ use Rattle.dp_tree.specs.declared.Stmt.{Stmt, out-Stmt}
 use Rattle.dp_tree.specs.declared.Stmt.TheOpen.{Stmt-F, Assign, Store, Print, If, While, Region, Break, Call}
 use Rattle.dp_tree.specs.declared.Program.{Program}
 use Rattle.dp_tree.specs.Eval.{Load}
+use Rattle.dp_tree.specs.Event as event
 use Rattle.dp_tree.specs.Step.{Config, Step, Faulted, step}
-use Rattle.dp_tree.specs.Trace.{Run, run_of, ended}
+use Rattle.dp_tree.specs.Trace.{Run, run_of, ended, prints}
 use Rattle.dp_engine.specs.Evaluating.{Told}
 use Rattle.dp_meaning.specs.declared.ends.Part.TheVariants as part
 use Rattle.dp_meaning.specs.declared.loads.Loads.{Loads}
 use Rattle.dp_meaning.specs.declared.sight.Effect.{Effect as Seen}
 use Rattle.dp_meaning.specs.declared.sight.Sight.TheVariants as sight
+use Rattle.dp_meaning.specs.declared.turn.Turn.{Turn}
 use Rattle.dp_meaning.specs.declared.turn.Turn.TheVariants as turn
 use Rattle.dp_meaning.specs.MachineState.{MachineState, fuel_left, rest_of_run, part_from, part_of}
 use Rattle.dp_meaning.specs.Turn.{TurnTaken}
-use Rattle.dp_meaning.specs.Watched.{notes, cells_of, Tells, Ends, WatchedStep}
-use Rattle.dp_meaning.proofs.MovedLemmas.{moved_step}
+use Rattle.dp_meaning.specs.Watched.{notes, cells_of, effect_seen, effect_prints, sight_prints, Tells, Ends, WatchSpoiled, WatchedStep}
+use Rattle.dp_meaning.proofs.MovedLemmas.{moved_none, moved_step}
 use Rattle.dp_meaning.proofs.StopLemmas.{spent_fuel, faults_next}
 
 -- the cells that were told stand behind the others
@@ -80,3 +82,44 @@ stepped_so m new left site seen before after old loads less (taken, shows) tells
       end = run.end;
       steps = ap (λ (n : MachineState). n.steps) taken.rest;
     }
+
+-- an event prints what its effect is seen to print
+effect_printed : (site : ℕ) (loads : List Load) (f : event.Effect) → prints (record { site = site; loads = loads; effect = f } ∷ []) ≡ effect_prints (effect_seen f)
+effect_printed site loads (event.Stored cell value) = refl
+effect_printed site loads (event.Printed value) = refl
+effect_printed site loads (event.Decided value) = refl
+effect_printed site loads (event.Tried value) = refl
+
+pub step_printed : (m new : MachineState) (left : Bool) (site : SiteId) (seen : Seen) (before after : List ℤ) → TurnTaken (turn.Made left site seen) m new before after → after ≡ before ++ sight_prints (sight.Step site seen)
+step_printed m new left site seen before after (taken, shows) =
+    taken.printed ∙ ap (λ xs. before ++ xs) (effect_printed taken.event.site taken.event.loads taken.event.effect ∙ ap effect_prints (sym shows.1))
+
+-- a machine that was spoiled before makes no step
+pub watches_no_more : (m : MachineState) (out : List ℤ) → m.spoiled ≡ true → WatchSpoiled m m out out
+watches_no_more m out h = record { events = []; configs = []; moved = moved_none m out; within = omega arith; spoiled = h }
+
+-- memory was wanting for the step
+pub step_unmade : (m new : MachineState) (before after : List ℤ) → new ≡ record m { spoiled = true } → after ≡ before → WatchSpoiled m new before after
+step_unmade m new before after is same =
+    let none = moved_none m before in
+    let at_last : WatchSpoiled m (record m { spoiled = true }) before before = record {
+      events = [];
+      configs = [];
+      moved = record { run = none.run; prints = none.prints; steps = none.steps; program = refl; input = refl; fuel = refl };
+      within = omega arith;
+      spoiled = refl;
+    } in
+    subst (λ (xs : List ℤ). WatchSpoiled m new before xs) (sym same) (subst (λ (n : MachineState). WatchSpoiled m n before before) (sym is) at_last)
+
+-- memory was wanting for what is told of the step
+pub step_untold : (m new : MachineState) (t : Turn) (before after : List ℤ) → m.steps < m.fuel → TurnTaken t m new before after → WatchSpoiled m (record new { spoiled = true }) before after
+step_untold m new (turn.Made left site seen) before after less (taken, shows) =
+    let step = moved_step left m new before after less taken in
+    record {
+      events = taken.event ∷ [];
+      configs = m.config ∷ [];
+      moved = record { run = step.run; prints = step.prints; steps = step.steps; program = step.program; input = step.input; fuel = step.fuel };
+      within = omega arith;
+      spoiled = refl;
+    }
+step_untold m new (turn.Fault fault) before after less t = step_unmade m (record new { spoiled = true }) before after (ap (λ (n : MachineState). record n { spoiled = true }) t.1) t.2

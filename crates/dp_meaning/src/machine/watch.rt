@@ -1,6 +1,6 @@
 //! One step, with what it evaluates.
-ghost use Rattle.std.specs.Prelude.{IfOk};
-ghost use Rattle.dp_meaning.specs.Watched.{WatchedStep};
+ghost use Rattle.std.specs.Prelude.{◌≡◌, ◌++◌, IsTrue, IsErr, IfOk, OnErr};
+ghost use Rattle.dp_meaning.specs.Watched.{sight_prints, WatchSpoiled, WatchedStep};
 
 use super::Machine;
 use crate::ends::Part;
@@ -12,7 +12,22 @@ use dp_base::{NoMemory, Row};
 impl<'p> Machine<'p> {
     /// Makes the next step, and tells what it does and which cells it loads. It appends what the step prints.
     pub fn watch(&mut self, out: &mut Row<i64>, loads: &mut Loads) -> Result<Sight, NoMemory>
-        ensures { IfOk result (λ seen. WatchedStep seen loads.new.cells self.old self.new) }
+        ensures ok { IfOk result (λ seen. WatchedStep seen loads.new.cells self.old self.new) }
+        ensures err { OnErr result (WatchSpoiled self.old self.new out.old out.new) }
+        ensures prints { IfOk result (λ seen. out.new ≡ out.old ++ sight_prints seen) }
+        ensures spoiled { IsTrue self.old.spoiled → IsErr result × (self.new ≡ self.old) × (out.new ≡ out.old) }
+    {
+        if self.spoiled {
+            return Err(NoMemory);
+        }
+        self.watch_next(out, loads)
+    }
+
+    /// The same, of a machine that isn't spoiled.
+    fn watch_next(&mut self, out: &mut Row<i64>, loads: &mut Loads) -> Result<Sight, NoMemory>
+        ensures ok { IfOk result (λ seen. WatchedStep seen loads.new.cells self.old self.new) }
+        ensures err { OnErr result (WatchSpoiled self.old self.new out.old out.new) }
+        ensures prints { IfOk result (λ seen. out.new ≡ out.old ++ sight_prints seen) }
     {
         if self.position.part(&self.code) == Part::Finished {
             return Ok(Sight::Finished);

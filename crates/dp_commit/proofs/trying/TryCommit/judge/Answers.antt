@@ -3,8 +3,6 @@ use Rattle.dp_semantics.specs.EpochVerdicts.{state_at}
 use Rattle.dp_commit.proofs.EpochLemmas.{inside_some, knows_same}
 use Rattle.dp_commit.proofs.trying.TryCommit.judge.Goals as goal
 
-pub returns-in-Some : goal.returns-in-Some
-returns-in-Some c = record {
-  verdict = λ key n at last.
-      c.judge_in.ensures key n (knows_same key n c.args.self.now _ at.knows (record { program = refl; plan = refl; input = refl }) refl refl) (inside_some c.in-Some.cells (state_at key n).cells (sym c.in-Some.is ∙ c.take.ensures.value ∙ at.cells)) last;
-}
+pub returns-in-Some-clause-verdict : goal.returns-in-Some-clause-verdict
+returns-in-Some-clause-verdict c = λ key n at last.
+    c.judge_in.ensures.verdict key n (knows_same key n c.args.self.now _ at.knows (record { program = refl; plan = refl; input = refl }) refl refl) (inside_some c.in-Some.cells (state_at key n).cells (sym c.in-Some.is ∙ c.take.ensures.value ∙ at.cells)) last
