@@ -5,7 +5,7 @@ use Rattle.dp_cut.specs.declared.Stretch.{Stretch}
 use Rattle.dp_cut.specs.Allowed.{AreStages, weight_between}
 use Rattle.dp_cut.specs.Fits.{Fits, TellsNeed}
 use Rattle.dp_cut.specs.Best.{AreCosts, AreLimits, Stands, MayStand, Best, IsBeginning}
-use Rattle.dp_cut.proofs.Greedy.{stages_within, split, best_last, best_next, best_none, weaken, fits_stage}
+use Rattle.dp_cut.proofs.Greedy.{stages_within, split, best_next, best_none, weaken, fits_stage}
 
 module _ (weights limits : List ℕ) (workers bound : ℕ) (costs : AreCosts weights limits workers) (carried : List (ℕ × ℕ)) (right : AreLimits carried limits) where
   pub may_stand : (closed : Bool) (begin end : ℕ) (r : Bool) → begin < end → end ≤ length weights → Stands weights limits workers bound closed begin end r → MayStand weights carried workers bound closed begin end r

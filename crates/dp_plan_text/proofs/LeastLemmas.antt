@@ -1,10 +1,6 @@
 -- The least of numbers.
-use Rattle.std.proofs.Common.{◌≡◌, ◌⊎◌, inl, inr, refl, sym, subst, ◌∙◌, ap, arith, ℕ, ◌<◌, ◌≤◌, ◌==◌, if◌then◌else◌, nat_lt, Bool, true, false, not, ◌&&◌, ◌||◌, List, [], ◌∷◌, map, filter, Option, Some, None}
-use Rattle.std.specs.List.{list_any}
-use Rattle.std.specs.List.Sorted.{IsPermutation}
-use Rattle.std.proofs.lemmas.Bool.{cases_Bool, ltb-true, ltb-false, eqb-true, eq-eqb, or_cases}
-use Rattle.std.proofs.lemmas.List.Sorted.{list_any-IsPermutation}
-use Rattle.dp_plan.specs.Written.{has}
+use Rattle.std.proofs.Common.{◌≡◌, ◌⊎◌, inl, inr, refl, sym, ◌∙◌, ap, arith, ℕ, ◌<◌, ◌≤◌, if◌then◌else◌, nat_lt, Bool, true, false, ◌||◌, List, [], ◌∷◌, filter, Option, Some, None}
+use Rattle.std.proofs.lemmas.Bool.{cases_Bool, ltb-true, ltb-false}
 use Rattle.dp_plan.specs.Rules.{lesser, least}
 use Rattle.dp_plan_text.specs.Tables.{lesser_of}
 

@@ -1,18 +1,16 @@
 -- A text is that of one list of plans, so what is written of plans is read back as these and nothing else.
-use Rattle.std.proofs.Common.{◌≡◌, ◌⊎◌, inl, inr, refl, sym, ap, subst, ◌∙◌, ℕ, ◌<◌, ◌^◌, Bool, List, ◌++◌, map, length, take, drop, Option, Some, None, Result, Ok, Err}
+use Rattle.std.proofs.Common.{◌≡◌, inl, inr, refl, sym, ap, subst, ◌∙◌, ℕ, ◌<◌, ◌^◌, Bool, List, map, length, take, drop, Ok, Err}
 use Rattle.std.proofs.lemmas.List.{take-append-drop}
 use Rattle.dp_tree.specs.declared.Program.{Program}
 use Rattle.dp_tree.specs.Inlined.{IsInlined}
 use Rattle.dp_plan.specs.declared.Plan.{Plan}
-use Rattle.dp_plan_text.specs.declared.PlanFail.{PlanFail}
 use Rattle.dp_plan_text.specs.declared.PlanFail.TheVariants.{Refused, Invalid, NoMemory}
 use Rattle.dp_plan_text.specs.declared.reader.Reader.{Reader}
 use Rattle.dp_plan.specs.Written.{plan_of}
 use Rattle.dp_plan.specs.declared.WrittenPlan.{WrittenPlan}
 use Rattle.dp_plan.specs.Valid.{first_fault}
-use Rattle.dp_plan.specs.declared.BrokenRule.{BrokenRule}
 use Rattle.dp_plan_text.specs.PlanText.{PlanLines, PlanText, lines_of}
-use Rattle.dp_plan_text.specs.Refused.{Begins, IsBroken, IsRefused, ReadsAs, StandsFor, at_line, at_end}
+use Rattle.dp_plan_text.specs.Refused.{Begins, IsRefused, StandsFor, at_line, at_end}
 use Rattle.dp_plan_text.specs.WrittenText.{plans_text}
 use Rattle.dp_plan.specs.GivenPlans.{ArePlans}
 use Rattle.dp_plan_text.specs.Refused.{ReadsOnly}

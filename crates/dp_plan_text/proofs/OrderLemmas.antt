@@ -1,15 +1,11 @@
 -- Numbers in ascending order: which are among them, and the first that stands there again.
-use Rattle.std.proofs.Common.{◌≡◌, ◌⊎◌, inl, inr, refl, sym, subst, ◌∙◌, ap, arith, ℕ, zero, suc, ◌+◌, ◌<◌, ◌≤◌, ◌==◌, if◌then◌else◌, nat_lt, Bool, true, false, not, ◌&&◌, ◌||◌, List, [], ◌∷◌, filter, cond, length, drop, get_or, Option, Some, None, Err}
+use Rattle.std.proofs.Common.{◌≡◌, inl, inr, refl, sym, ◌∙◌, ap, arith, ℕ, suc, ◌+◌, ◌<◌, ◌≤◌, ◌==◌, if◌then◌else◌, nat_lt, Bool, true, false, ◌||◌, List, [], ◌∷◌, filter, cond, length, drop, get_or, Option, Some, None}
 use Rattle.std.specs.Prelude.{count_by}
-use Rattle.std.specs.List.{list_any}
-use Rattle.std.specs.List.Sorted.{IsNonDecreasing, IsBinarySearchResult}
-use Rattle.std.specs.Ordering.{nat_cmp}
-use Rattle.std.proofs.lemmas.Bool.{cases_Bool, cases_lt, and_parts, eqb-true, eqb-false, eq-eqb, ne_eqb, le-ltb, lt-ltb}
+use Rattle.std.specs.List.Sorted.{IsNonDecreasing}
+use Rattle.std.proofs.lemmas.Bool.{cases_Bool, and_parts, eqb-true, eqb-false, eq-eqb, ne_eqb, le-ltb, lt-ltb}
 use Rattle.std.proofs.lemmas.List.{get_or_default}
-use Rattle.std.proofs.lemmas.List.Elements.{All-from_get_or}
-use Rattle.std.proofs.lemmas.List.Folds.{list_any_none, Any-from_list_any}
+use Rattle.std.proofs.lemmas.List.Folds.{Any-from_list_any}
 use Rattle.std.proofs.lemmas.List.Sums.{sum_by-cons, count_by-le-length}
-use Rattle.std.proofs.lemmas.List.Sorted.{searched}
 use Rattle.dp_plan.specs.Written.{has}
 use Rattle.dp_plan.specs.Rules.{least, occurs_again}
 use Rattle.dp_plan_text.proofs.MemberLemmas.{least_first, clash, has_head, has_later, has_cases, has_passing}

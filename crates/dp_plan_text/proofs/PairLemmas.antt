@@ -1,5 +1,5 @@
 -- The first two neighbours that pass a test.
-use Rattle.std.proofs.Common.{◌≡◌, refl, sym, ◌∙◌, ap, arith, ℕ, zero, suc, ◌+◌, ◌-◌, ◌<◌, ◌≤◌, if◌then◌else◌, Bool, true, false, List, [], ◌∷◌, length, drop, get_or, drop-cons, length-drop, Option, Some, None}
+use Rattle.std.proofs.Common.{◌≡◌, refl, sym, ◌∙◌, ap, arith, ℕ, suc, ◌+◌, ◌<◌, ◌≤◌, if◌then◌else◌, Bool, true, List, [], ◌∷◌, length, drop, get_or, drop-cons, length-drop, Option, Some, None}
 
 module _ {X : Type 0} (test : X → X → Bool) where
   -- the later one of the first two

@@ -1,17 +1,14 @@
 -- The rules over lists in ascending order, and the first rule that fails.
-use Rattle.std.proofs.Common.{◌≡◌, refl, sym, ◌∙◌, ap, ℕ, suc, Bool, not, ◌&&◌, ◌||◌, List, [], ◌∷◌, map, filter, Option, Some, None}
+use Rattle.std.proofs.Common.{◌≡◌, sym, ◌∙◌, ap, ℕ, suc, not, ◌&&◌, ◌||◌, List, ◌∷◌, map, filter, Option, Some, None}
 use Rattle.std.specs.List.Sorted.{IsPermutation}
 use Rattle.std.proofs.lemmas.List.Elements.{filter_agree}
-use Rattle.std.proofs.lemmas.List.Sorted.{IsPermutation-sym}
 use Rattle.dp_tree.specs.declared.Program.{Program}
-use Rattle.dp_plan.specs.Written.{has, listed, region_sites}
+use Rattle.dp_plan.specs.Written.{listed, region_sites}
 use Rattle.dp_plan.specs.declared.WrittenPlan.{WrittenPlan}
 use Rattle.dp_plan.specs.Enclosing.{region_ifs}
-use Rattle.dp_plan.specs.declared.Enclosing.{Enclosing}
 use Rattle.dp_plan.specs.Rules.{least, occurs_again, not_listed, listed_twice, foreign, comes_late, site_of_condition, assumed_site, late_if, is_late_unassumed, wrongly_assumed, is_no_if_or_again}
 use Rattle.dp_plan_text.specs.Tables.{is_outside, lesser_of, is_late_outside, is_outside_or_again}
 use Rattle.dp_plan.specs.Valid.{broken_from}
-use Rattle.dp_plan.specs.declared.BrokenRule.{BrokenRule}
 use Rattle.dp_plan_text.proofs.LeastLemmas.{least_either}
 use Rattle.dp_plan_text.proofs.MemberLemmas.{has_moved, again_moved, least_moved}
 

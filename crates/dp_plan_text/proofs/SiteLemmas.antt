@@ -1,7 +1,5 @@
 -- The sites of a line, word by word.
-use Rattle.std.proofs.Common.{◌≡◌, ℕ, suc, List, [], ◌∷◌, ◌++◌, length, Option, Some, None, refl, sym, ap, ◌∙◌, append_assoc}
-use Rattle.dp_plan_text.specs.Words.{number_of}
-use Rattle.dp_plan_text.specs.LineWords.{above, onto_sites, site_before, sites_above}
+use Rattle.std.proofs.Common.{ℕ, suc, List, ◌++◌, length, Option, Some, None}
 
 -- earlier sites, before what the later words give
 abbrev pub behind_sites : List ℕ → Option (List ℕ) → Option (List ℕ)

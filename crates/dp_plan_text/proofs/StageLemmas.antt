@@ -1,5 +1,5 @@
 -- The stage of a site, line by line; neighbouring stages.
-use Rattle.std.proofs.Common.{◌≡◌, refl, sym, ◌∙◌, ap, arith, ℕ, suc, ◌+◌, ◌<◌, ◌≤◌, if◌then◌else◌, Bool, true, false, List, [], ◌∷◌, length, drop, get_or, add-one, drop-cons, length-drop, Option, Some, None}
+use Rattle.std.proofs.Common.{◌≡◌, refl, sym, ◌∙◌, ap, arith, ℕ, suc, ◌+◌, ◌<◌, ◌≤◌, if◌then◌else◌, true, false, List, [], ◌∷◌, length, drop, get_or, add-one, drop-cons, length-drop, None}
 use Rattle.dp_plan.specs.Written.{has, stage_from}
 use Rattle.dp_plan.specs.declared.WrittenStage.{WrittenStage}
 use Rattle.dp_plan.specs.Rules.{second_neighbour, least_site_in}

@@ -1,7 +1,6 @@
 -- The lines of a text, part by part.
 use Rattle.std.proofs.Common.{◌≡◌, ℕ, suc, ◌+◌, List, [], ◌∷◌, ◌++◌, map, codes, decimal, refl, sym, ap, ◌∙◌, append_assoc, append-nil, arith, Bool}
 use Rattle.std.specs.List.{flat_map}
-use Rattle.std.proofs.lemmas.Fmt.{decimal_digit}
 use Rattle.std.proofs.lemmas.Grind.{flat_map-append}
 use Rattle.dp_tree.specs.declared.Assume.{Assume}
 use Rattle.dp_tree.specs.declared.Program.{Program}

@@ -118,9 +118,6 @@ module _ {p : Program} {plan : Plan} (a : Accepted p plan) (input : List ℤ) (f
     memory_here = memory_at i k e ∙ ap cells_in config_here
         ∙ ap (λ (c : Config). c.cells) (standing_is a input s.cells)
 
-    first_event : slice_get run.trace k ≡ slice_get (t.events ++ t.more) 0
-    first_event = ap (λ (es : List Event). slice_get es k) trace_at ∙ slice_get-seam s.before (t.events ++ t.more) k 0 (omega (arith, s.before_is))
-
     is_as : iteration run r i ≡ t.events → Ending i k s.left t.after t.then_cells → IterationIs i k
     is_as same ending = record {
       after = t.after;

@@ -6,10 +6,6 @@ use Rattle.dp_semantics.proofs.Placed.{all_at, never, PlaceAt, place_at, run_ste
 use Rattle.dp_semantics.proofs.Turns.{decided_is}
 use Rattle.dp_semantics.proofs.Alone.{Lone, AtSite, Around, ahead, beyond, upto, behind, Sites, each_take, one_upto, region, body_sites, followed_sites, around_next, Spotted, within, site_of_step, till}
 
-seam : {X : Type 0} (a b : List X) (k : ℕ) → k ≡ length a → slice_get (a ++ b) k ≡ slice_get b 0
-seam [] b k e = ap (slice_get b) e
-seam (x ∷ a) b k e = let same : k ≡ suc (length a) = omega (arith, e) in ap (slice_get (x ∷ a ++ b)) same ∙ seam a b (length a) refl
-
 -- a region is no break
 region_stays : (r : ℕ) (h : Stmt-F Stmt) (z : ℤ) → is_region r h ≡ true → taken h z ≡ false
 region_stays r (Region q site cond body) z e = refl
@@ -66,9 +62,6 @@ module _ {p : Program} {r : ℕ} {Q : Access → Type 0} (l : Lone p r Q) (input
       where
         place : k ≡ length f.before
         place = omega (arith, q.place_is, f.length_is)
-
-    trace_at : (es : List Event) → (run_of p input f.left q.found).trace ≡ es → slice_get run.trace k ≡ slice_get es 0
-    trace_at es t = ap (λ (all : List Event). slice_get all k) f.trace_is ∙ seam f.before (run_of p input f.left q.found).trace k (omega (arith, q.place_is, f.length_is)) ∙ ap (λ (all : List Event). slice_get all 0) t
 
     abbrev cut : ℕ
     cut = stop_from run k next - k

@@ -24,15 +24,6 @@ pub record IsSent (key : EpochKey) (s k : ℕ) (item : SentPacket) : Type 0 wher
   pub iteration : item.iteration ≡ key.first + k
   pub packet : OrWanting (passed (epoch_of key) s k).packet item.packet
 
--- The ring around stage s, which isn't the first, has as its t-th put item what the stage before sends ..
-abbrev pub IsPut : EpochKey → ℕ → ℕ → SentPacket → Type 0
-IsPut key zero t item = ⊥
-IsPut key (suc s) t item = IsSent key s t item
-
--- .. and as its t-th given item what the stage itself sends.
-abbrev pub IsGiven : EpochKey → ℕ → ℕ → SentPacket → Type 0
-IsGiven key s t item = IsSent key s t item
-
 -- The item is the verdict on the epoch's k-th iteration, the k-th item of the verdict lane.
 pub record IsVerdict (key : EpochKey) (k : ℕ) (item : SentVerdict) : Type 0 where
   pub iteration : item.iteration ≡ key.first + k

@@ -10,7 +10,7 @@ use Rattle.dp_tree.specs.declared.Stmt.TheOpen.{Stmt-F, Region}
 use Rattle.dp_tree.specs.Numbering.{numbers_from}
 use Rattle.dp_plan.specs.declared.Plan.{Plan}
 use Rattle.dp_plan.specs.Access.{accesses, region_in}
-use Rattle.dp_sites.specs.Apart.{Apart, TellsApart, bare_plan, loaded_at, passes_or, stored_at, tells}
+use Rattle.dp_sites.specs.Apart.{TellsApart, bare_plan, loaded_at, passes_or, stored_at, tells}
 use Rattle.dp_plan.specs.Written.{has, region_sites, site_in}
 use Rattle.dp_plan.specs.Touch.{Touch}
 use Rattle.dp_plan.specs.IsFar.{SiteTouch, body_of, passes_with, touches}

@@ -1,4 +1,4 @@
-use Rattle.std.proofs.Common.{◌≡◌, ◌++◌, List, ap, ◌∙◌}
+use Rattle.std.proofs.Common.{◌++◌, List, ap, ◌∙◌}
 use Rattle.dp_tree.specs.declared.Stmt.{Stmt}
 use Rattle.dp_plan.specs.declared.Enclosing.{Enclosing}
 use Rattle.dp_plan_text.specs.Conditions.{whiles_in_region}

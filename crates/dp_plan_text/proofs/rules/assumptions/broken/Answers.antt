@@ -1,4 +1,4 @@
-use Rattle.std.proofs.Common.{◌≡◌, sym, subst, ap, ◌∙◌, ℕ, List, [], ◌∷◌, map, filter, Option, Some, IsPermutation}
+use Rattle.std.proofs.Common.{◌≡◌, sym, subst, ap, ◌∙◌, ℕ, List, [], ◌∷◌, map, filter, Option, IsPermutation}
 use Rattle.dp_tree.specs.declared.Program.{Program}
 use Rattle.dp_plan.specs.declared.WrittenPlan.{WrittenPlan}
 use Rattle.dp_plan.specs.Enclosing.{region_ifs, region_inner_whiles}

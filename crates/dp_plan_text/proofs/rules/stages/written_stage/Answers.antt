@@ -1,4 +1,4 @@
-use Rattle.std.proofs.Common.{◌≡◌, ◌+◌, ◌<◌, List, ℕ, length, sym, ap, ◌∙◌, arith}
+use Rattle.std.proofs.Common.{List, sym, ap, ◌∙◌}
 use Rattle.dp_plan.specs.Written.{has, stage_from}
 use Rattle.dp_plan.specs.declared.WrittenStage.{WrittenStage}
 use Rattle.dp_plan_text.proofs.StageLemmas.{stage_here, stage_later}
