@@ -1,5 +1,5 @@
 -- More programs, and profiles.
-use Rattle.std.proofs.Common.{ℕ, [], ◌∷◌, pos}
+use Rattle.std.proofs.Common.{ℕ, true, [], ◌∷◌, pos}
 use Rattle.dp_base.specs.declared.BinOp.TheVariants as op
 use Rattle.dp_tree.specs.declared.SiteKind.TheVariants.{Assign, While, If, Break}
 use Rattle.dp_tree.specs.declared.VarScope.TheVariants.{Global, Outer, Body}
