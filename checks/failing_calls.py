@@ -40,13 +40,13 @@ def commands(folder, count):
              "words.txt": " ".join(str(k % 10) for k in range(count))}
     for name, text in texts.items():
         Path(folder, name).write_text(text)
+    yield from (words.split() for words in WORDS)
     examples = TOP / "examples"
     for program in sorted(examples.glob("*.c")):
         yield ["run", str(program), str(program.with_suffix(".in"))]
         plan = program.with_suffix(".plan")
         if plan.exists():
             yield ["run", str(program), str(program.with_suffix(".in")), "--plan", str(plan)]
-    yield from (words.split() for words in WORDS)
 
 
 class Runs:
