@@ -31,7 +31,8 @@ use Rattle.dp_check.proofs.GlobalLemmas.{globals_counted}
 use Rattle.dp_check.proofs.BoolLemmas.{both_true, same_number, all_weaker}
 use Rattle.dp_check.proofs.DeclaredLemmas.{Declared, declared_front, declared_back, declared_in_table}
 use Rattle.dp_check.proofs.KnownLemmas.{is_known, all_known, known_later, known_append}
-use Rattle.dp_check.proofs.ScopeLemmas.{At, at_declared, lawful_parts, lawful_first, unseen, all_scoped}
+use Rattle.dp_check.proofs.Visible.{At, at_declared, lawful_parts, lawful_first, unseen}
+use Rattle.dp_check.proofs.ScopeLemmas.{all_scoped}
 use Rattle.dp_check.proofs.MainScopeLemmas.{length-locals_of, length-top_locals, main_scoped}
 
 -- ---- the numbers of the file-scope variables

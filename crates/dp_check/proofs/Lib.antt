@@ -17,6 +17,7 @@ pub mod PlainLemmas
 pub mod GlobalLemmas
 pub mod DeclaredLemmas
 pub mod KnownLemmas
+pub mod Visible
 pub mod ScopeLemmas
 pub mod MainScopeLemmas
 pub mod ItemScopeLemmas

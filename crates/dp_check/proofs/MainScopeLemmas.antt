@@ -29,7 +29,8 @@ use Rattle.dp_check.proofs.TableLemmas.{parts-While, parts-For, local_count-spli
 use Rattle.dp_check.proofs.BoolLemmas.{both_true}
 use Rattle.dp_check.proofs.DeclaredLemmas.{Declared, declared_front, declared_back, declared_in_table, body_scope}
 use Rattle.dp_check.proofs.KnownLemmas.{seen_behind_all, knows_expr}
-use Rattle.dp_check.proofs.ScopeLemmas.{At, Here, here_both, here_one, scoped_both, at_behind, at_passed, lawful_parts, rows_hidden, loop_scoped, stmt_scoped, all_scoped}
+use Rattle.dp_check.proofs.Visible.{At, at_passed, lawful_parts}
+use Rattle.dp_check.proofs.ScopeLemmas.{Here, here_both, here_one, scoped_both, at_behind, rows_hidden, loop_scoped, stmt_scoped, all_scoped}
 
 scope-Region : (p : Program) (r n : ℕ) (visible : List ℕ) (k : ℕ) (site : SiteId) (cond : Expr) (a : List Stmt)
     → in_scope p r n visible (code.Region k site cond a) ≡ (knows visible cond && all_in_scope p k n visible a)

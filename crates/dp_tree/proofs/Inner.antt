@@ -42,9 +42,6 @@ plain_roll (Call f line args) = ap is_plain (rolls-Call f line args)
 plain_out : (x : Stmt) → is_plain x ≡ plain_at (out-Stmt x)
 plain_out x = ap is_plain (sym (roll-out-Stmt x)) ∙ plain_roll (out-Stmt x)
 
-plain_join : (a b : List Stmt) → plain_all a ≡ true → plain_all b ≡ true → plain_all (a ++ b) ≡ true
-plain_join a b h k = list_all-append is_plain a b ∙ and_make (plain_all a) (plain_all b) h k
-
 pub plain_choose : (z : ℤ) (a b : List Stmt) → plain_all a ≡ true → plain_all b ≡ true → plain_all (choose z a b) ≡ true
 plain_choose z a b h k = by (is_zero z)
   where

@@ -1,11 +1,12 @@
 pub mod EvalLemmas
-pub mod LegLemmas
 pub mod RunLaws
 pub mod IterationLaws
 pub mod InMain
+pub mod SitesOf
 pub mod Heads
 pub mod Inner
 pub mod Places
+pub mod MovedLists
 pub mod GoesOn
 pub mod InsideRegion
 pub mod RegionLaws

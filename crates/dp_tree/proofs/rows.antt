@@ -5,7 +5,6 @@ pub mod Scopes
 pub mod BodyLocals
 pub mod Choices
 pub mod TwoRegions
-pub mod Legs
 pub mod Tables
 pub mod Laws
 pub mod UnknownNames

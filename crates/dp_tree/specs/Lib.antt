@@ -8,7 +8,6 @@ pub mod RunLaws
 pub mod Iteration
 pub mod IterationLaws
 pub mod RegionLaws
-pub mod Leg
 pub mod Layout
 pub mod Numbering
 pub mod InMain

@@ -1,0 +1,118 @@
+-- Names of a lawful text: what they mean where they are visible.
+use Rattle.std.proofs.Common.{◌≡◌, refl, sym, ap, ◌∙◌, subst, ℕ, ◌+◌, ◌≤◌, ◌==◌, Bool, true, false, not, ◌&&◌, ◌||◌, if◌then◌else◌, List, [], ◌∷◌, ◌++◌, length, Option, Some, None, slice_get, nat_lt, arith}
+use Rattle.std.proofs.lemmas.Bool.Decides.{nat_tests}
+use Rattle.std.proofs.lemmas.List.{length-map}
+use Rattle.std.specs.List.{list_all}
+use Rattle.dp_base.specs.declared.SiteId.{SiteId}
+use Rattle.dp_tree.specs.declared.Expr.{Expr}
+use Rattle.dp_tree.specs.declared.Program.{Program}
+use Rattle.dp_tree.specs.declared.Stmt.{Stmt}
+use Rattle.dp_tree.specs.declared.Stmt.TheVariants as code
+use Rattle.dp_tree.specs.declared.SiteKind.TheVariants as kind
+use Rattle.dp_tree.specs.declared.raw.Name.{Name}
+use Rattle.dp_tree.specs.declared.raw.RawStmt.{RawStmt, Row_of-RawStmt, end_of-RawStmt, more_of-RawStmt}
+use Rattle.dp_tree.specs.declared.raw.RawStmt.TheVariants as raw
+use Rattle.dp_tree.specs.Functions.{params_in}
+use Rattle.dp_tree.specs.Scoping.{sees, knows, is_declared_in, seen_behind, in_scope, rows_in_scope, all_in_scope}
+use Rattle.dp_check.specs.declared.fail.CheckFail.{CheckFail}
+use Rattle.dp_check.specs.declared.names.Meaning.{Meaning}
+use Rattle.dp_check.specs.declared.names.Meaning.TheVariants.{Scalar, Array, Input, InputLen, Function}
+use Rattle.dp_check.specs.declared.place.Place.{Place}
+use Rattle.dp_check.specs.Names.{named}
+use Rattle.dp_check.specs.Offence.{Token, Assigns, AssignsElement, Calls, offence, offence_of, or_else, first_offence}
+use Rattle.dp_check.specs.Place.{Part, Site, parts, parts_in, parts_all, local_count, passed, sited, with_scalar, after, after_in, after_all}
+use Rattle.dp_check.specs.Tokens.{token, expr_tokens, args_tokens, tokens, tokens_in, tokens_all}
+use Rattle.dp_check.specs.Resolved.{variable_of, function_of, resolved_expr, next_site, next_variable, resolved, resolved_in, resolved_all}
+use Rattle.dp_check.proofs.AnswerLemmas.{first_offence-append}
+use Rattle.dp_check.proofs.PlaceLemmas.{after_variable, after_in_variable, local_count-append}
+use Rattle.dp_check.proofs.NumberLemmas.{stmt_opened}
+use Rattle.dp_check.proofs.BoolLemmas.{both_true, halves, all_weaker}
+use Rattle.dp_check.proofs.DeclaredLemmas.{Declared, declared_front, declared_back}
+use Rattle.dp_check.proofs.KnownLemmas.{seen_behind_all, known_behind, is_known_if, all_known, found, sees_first, known_more, known_append, knows_expr, knows_args}
+
+-- a part of a lawful text is lawful
+pub lawful_parts : (a b : List Token) → first_offence (a ++ b) ≡ None → (first_offence a ≡ None) × (first_offence b ≡ None)
+lawful_parts a b h = by (first_offence a) (first_offence b) (sym (first_offence-append a b) ∙ h)
+  where
+    by : (o q : Option CheckFail) → or_else o q ≡ None → (o ≡ None) × (q ≡ None)
+    by None q e = (refl, e)
+    by (Some f) q e = absurd (cc)
+
+pub lawful_first : (t : Token) (rest : List Token) → first_offence (t ∷ rest) ≡ None → (offence t ≡ None) × (first_offence rest ≡ None)
+lawful_first t rest h = by (offence t) (first_offence rest) h
+  where
+    by : (o q : Option CheckFail) → or_else o q ≡ None → (o ≡ None) × (q ≡ None)
+    by None q e = (refl, e)
+    by (Some f) q e = absurd (cc)
+
+-- At a place: its names are known, and the variables that are visible have numbers below the next one.
+pub record At (p : Program) (n : ℕ) (visible : List ℕ) (q : Place) : Type 0 where
+  pub known : all_known p n visible q.names ≡ true
+  pub below : list_all (λ y. nat_lt y q.variable) visible ≡ true
+
+less_still : (v w : ℕ) → v ≤ w → (y : ℕ) → nat_lt y v ≡ true → nat_lt y w ≡ true
+less_still v w h y e = grind (arith, nat_tests)
+
+pub below_still : (v w : ℕ) → v ≤ w → (visible : List ℕ) → list_all (λ y. nat_lt y v) visible ≡ true → list_all (λ y. nat_lt y w) visible ≡ true
+below_still v w h visible = all_weaker (λ y. nat_lt y v) (λ y. nat_lt y w) (less_still v w h) visible
+
+pub unseen : (v : ℕ) (visible : List ℕ) → list_all (λ y. nat_lt y v) visible ≡ true → sees visible (record { 0 = v }) ≡ false
+unseen v [] h = refl
+unseen v (y ∷ visible) h =
+    let k = halves (nat_lt y v) (list_all (λ y. nat_lt y v) visible) h in
+    let other : (y == v) ≡ false = differs k.0 in ap (λ b. b || sees visible (record { 0 = v })) other ∙ unseen v visible k.1
+  where
+    differs : nat_lt y v ≡ true → (y == v) ≡ false
+    differs e = grind (arith, nat_tests)
+
+module _ {p : Program} {n : ℕ} {visible : List ℕ} {q : Place} where
+  pub at_passed : (ps : List Part) → At p n visible q → At p n visible (passed q ps)
+  at_passed ps here = record { known = here.known; below = below_still q.variable (q.variable + local_count ps) (omega arith) visible here.below }
+
+  -- behind a declaration its variable is visible, too
+  pub at_declared : (name : Name) → At p n visible q → At p n (q.variable ∷ visible) (with_scalar q name)
+  at_declared name here = record {
+    known = known_append p n (q.variable ∷ visible) q.names name.text (Scalar (next_variable q))
+        (all_weaker _ _ (λ e. known_more p n visible q.variable e.meaning) q.names here.known) (sees_first visible (next_variable q));
+    below = both_true (next_above q.variable) (below_still q.variable (q.variable + 1) (omega arith) visible here.below);
+  }
+    where
+      next_above : (v : ℕ) → nat_lt v (v + 1) ≡ true
+      next_above v = grind (arith, nat_tests)
+
+-- ---- what a lawful name means
+
+module _ (p : Program) (n : ℕ) (visible : List ℕ) (line : ℕ) where
+  pub assigned : (m : Option Meaning) → is_known_if p n visible m ≡ true → offence_of line Assigns m ≡ None → sees visible (variable_of m) ≡ true
+  assigned None h lawful = absurd (cc)
+  assigned (Some (Scalar x)) h lawful = h
+  assigned (Some (Array x)) h lawful = absurd (cc)
+  assigned (Some Input) h lawful = absurd (cc)
+  assigned (Some InputLen) h lawful = absurd (cc)
+  assigned (Some (Function f k)) h lawful = absurd (cc)
+
+  pub stored : (m : Option Meaning) → is_known_if p n visible m ≡ true → offence_of line AssignsElement m ≡ None → sees visible (variable_of m) ≡ true
+  stored None h lawful = absurd (cc)
+  stored (Some (Scalar x)) h lawful = absurd (cc)
+  stored (Some (Array x)) h lawful = h
+  stored (Some Input) h lawful = absurd (cc)
+  stored (Some InputLen) h lawful = absurd (cc)
+  stored (Some (Function f k)) h lawful = absurd (cc)
+
+  pub called : (m : Option Meaning) (count : ℕ) → is_known_if p n visible m ≡ true → offence_of line (Calls count) m ≡ None
+      → (nat_lt (function_of m) n ≡ true) × ((count == length (params_in (slice_get p.functions (function_of m)))) ≡ true)
+  called None count h lawful = absurd (cc)
+  called (Some (Scalar x)) count h lawful = absurd (cc)
+  called (Some (Array x)) count h lawful = absurd (cc)
+  called (Some Input) count h lawful = absurd (cc)
+  called (Some InputLen) count h lawful = absurd (cc)
+  called (Some (Function f k)) count h lawful =
+      let e = halves (nat_lt f n) (k == length (params_in (slice_get p.functions f))) h in
+      (e.0, same (length (params_in (slice_get p.functions f))) e.1 (by (k == count) lawful))
+    where
+      by : (b : Bool) → (if not b then Some (Rattle.dp_check.specs.declared.fail.CheckFail.TheVariants.Arguments line) else None) ≡ None → b ≡ true
+      by true g = refl
+      by false g = absurd (cc)
+
+      same : (c : ℕ) → (k == c) ≡ true → (k == count) ≡ true → (count == c) ≡ true
+      same c a b = grind (arith, nat_tests)
