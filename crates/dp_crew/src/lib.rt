@@ -26,3 +26,5 @@ pub use fail::CrewFail;
 pub use region::run_region;
 pub use size::CrewSize;
 pub use verdicts::Verdicts;
+pub use waiting::{flush, flush_if_many};
+pub use writing::write;

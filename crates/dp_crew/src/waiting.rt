@@ -24,7 +24,7 @@ pub(crate) fn wait(waiting: &mut Row<i64>, prints: &[i64]) -> Result<(), NoMemor
 }
 
 /// Writes the prints that wait where they are many.
-pub(crate) fn flush_if_many<K: Sink>(
+pub fn flush_if_many<K: Sink>(
     alloc: Global,
     waiting: &mut Row<i64>,
     sink: &mut K,
@@ -41,7 +41,7 @@ pub(crate) fn flush_if_many<K: Sink>(
 }
 
 /// Writes all prints that wait.
-pub(crate) fn flush<K: Sink>(
+pub fn flush<K: Sink>(
     alloc: Global,
     waiting: &mut Row<i64>,
     sink: &mut K,

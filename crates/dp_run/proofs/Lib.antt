@@ -1,5 +1,4 @@
 mod Lists
-mod WriteLemmas
 mod StreamLemmas
 mod RegionsLeft
 mod Tops

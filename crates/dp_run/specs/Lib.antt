@@ -1,4 +1,3 @@
 pub mod RunText
 pub mod Given
-pub mod Output
 pub mod steps

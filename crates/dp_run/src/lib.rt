@@ -6,8 +6,6 @@ mod parts;
 mod plain;
 mod program;
 mod stretch;
-mod writing;
 
-pub use dp_crew::{CrewFail, CrewSize, Tally};
+pub use dp_crew::{CrewFail, CrewSize, Tally, write};
 pub use program::{RunOptions, run_program};
-pub use writing::write;

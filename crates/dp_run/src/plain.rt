@@ -4,13 +4,12 @@ ghost use Rattle.dp_tree.specs.declared.Program.{Program as Tree};
 ghost use Rattle.dp_meaning.specs.declared.ends.Part.TheVariants.{Plain};
 ghost use Rattle.dp_meaning.specs.MachineState.{next_part};
 ghost use Rattle.dp_crew.specs.Fail.{FaultsAfter};
-ghost use Rattle.dp_run.specs.Output.{Streams};
+ghost use Rattle.dp_crew.specs.Output.{Streams};
 ghost use Rattle.dp_run.specs.steps.Stretches.{Behind, Leads, to_come};
 ghost use Rattle.dp_run.specs.steps.Calls.{PartSteps};
 
-use crate::writing::{flush, flush_if_many};
 use dp_base::{End, Row};
-use dp_crew::CrewFail;
+use dp_crew::{CrewFail, flush, flush_if_many};
 use dp_edge::Sink;
 use dp_meaning::{Machine, Part, PartEnd};
 use std::alloc::Global;
@@ -27,7 +26,7 @@ pub(crate) fn run_plain<'p, K: Sink>(
     requires sink { K.faults sink.old < 2 ^ 64 - 1 }
     ensures faults { FaultsAfter result (K.faults sink.old) (K.faults sink.new) }
     ensures ok { IfOk result (λ end. (p : Tree) (input : List ℤ) (fuel n : ℕ) → Behind p input fuel n machine.old → Leads p input fuel n machine.new end) }
-    ensures streams { Streams result (to_come machine.old) (to_come machine.new) (K.written sink.old) (K.written sink.new) }
+    ensures streams { Streams result (to_come machine.old) (λ _. to_come machine.new) (K.written sink.old) (K.written sink.new) }
 {
     let Part::Plain = machine.part() else {
         return Ok(None);
@@ -49,7 +48,7 @@ fn finish_plain<'p, K: Sink>(
     requires part { next_part machine.old ≡ Plain }
     ensures faults { FaultsAfter result (K.faults sink.old) (K.faults sink.new) }
     ensures ok { IfOk result (λ end. (p : Tree) (input : List ℤ) (fuel n : ℕ) → Behind p input fuel n machine.old → Leads p input fuel n machine.new end) }
-    ensures streams { Streams result (waiting.old ++ to_come machine.old) (waiting.new ++ to_come machine.new) (K.written sink.old) (K.written sink.new) }
+    ensures streams { Streams result (waiting.old ++ to_come machine.old) (λ _. waiting.new ++ to_come machine.new) (K.written sink.old) (K.written sink.new) }
 {
     'calls: loop {
         match go_on(alloc, machine, waiting, sink)? {
@@ -72,7 +71,7 @@ fn go_on<'p, K: Sink>(
     requires part { next_part machine.old ≡ Plain }
     ensures faults { FaultsAfter result (K.faults sink.old) (K.faults sink.new) }
     ensures ok { IfOk result (λ end. PartSteps machine.old machine.new end) }
-    ensures streams { Streams result (waiting.old ++ to_come machine.old) (waiting.new ++ to_come machine.new) (K.written sink.old) (K.written sink.new) }
+    ensures streams { Streams result (waiting.old ++ to_come machine.old) (λ _. waiting.new ++ to_come machine.new) (K.written sink.old) (K.written sink.new) }
 {
     let end = machine.run_part(TURNS, waiting)?;
     flush_if_many(alloc, waiting, sink)?;

@@ -8,9 +8,8 @@ ghost use Rattle.dp_run.specs.Given.{AreGiven};
 ghost use Rattle.dp_run.specs.RunText.{committed_in_all, source_run, trace_text};
 
 use crate::parts::run_parts;
-use crate::writing::write;
 use dp_base::{Cells, End, RegionReport, Row};
-use dp_crew::{CrewFail, CrewSize, Tally};
+use dp_crew::{CrewFail, CrewSize, Tally, write};
 use dp_edge::{Gate, Sink};
 use dp_meaning::Machine;
 use dp_plan::Plan;

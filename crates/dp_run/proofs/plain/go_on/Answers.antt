@@ -1,13 +1,13 @@
 use Rattle.std.proofs.Common.{◌++◌}
 use Rattle.dp_run.specs.steps.Stretches.{to_come}
-use Rattle.dp_run.proofs.StreamLemmas.{streams_stopped}
+use Rattle.dp_crew.proofs.StreamLemmas.{streams_stopped}
 use Rattle.dp_run.proofs.Prints.{part_to_come, emits_called, front_called}
 use Rattle.dp_run.proofs.plain.go_on.Goals as goal
 
 pub returns-in_err-flush_if_many-clause-streams : goal.returns-in_err-flush_if_many-clause-streams
 returns-in_err-flush_if_many-clause-streams g c =
     let same = part_to_come 65536 c.args.machine.now c.run_part.new.self c.args.waiting.now c.run_part.new.out c.in_ok-end.end c.in_ok-end.ensures.runs in
-    streams_stopped _ (c.args.waiting.now ++ to_come c.args.machine.now) (c.flush_if_many.new.waiting ++ to_come c.run_part.new.self) _ _ c.from_residual-in_err-flush_if_many.ensures.0
+    streams_stopped _ (c.args.waiting.now ++ to_come c.args.machine.now) (λ _. c.flush_if_many.new.waiting ++ to_come c.run_part.new.self) _ _ c.from_residual-in_err-flush_if_many.ensures.0
     (front_called c.args.machine.now c.run_part.new.self c.args.waiting.now c.run_part.new.out c.flush_if_many.new.waiting _ _ same c.in_err-flush_if_many.ensures.streams)
 
 pub returns-clause-streams : goal.returns-clause-streams
