@@ -12,7 +12,6 @@ mod read;
 mod reader;
 mod sites;
 mod text;
-mod words;
 mod write;
 
 pub use law::{read_profiles_fit, written_profiles_are_read};

@@ -6,7 +6,6 @@ ghost use Rattle.dp_plan_text.specs.Words.{words, words_behind};
 ghost use Rattle.dp_profile.specs.LineWords as spec;
 
 use crate::number::{count, short};
-use crate::words::next_word;
 use crate::{Flow, SiteCount};
 use dp_base::SiteId;
 

@@ -8,6 +8,7 @@ use Rattle.dp_tree.specs.Iteration.{is_region, begins_with, stands_at_head}
 use Rattle.dp_meaning.specs.declared.ends.Part.{Part}
 use Rattle.dp_meaning.specs.declared.ends.Part.TheVariants as part
 use Rattle.dp_meaning.specs.MachineState.{part_from, part_of, is_any_region, from_region}
+use Rattle.dp_commit.proofs.Parts.{head_part}
 use Rattle.dp_run.specs.steps.Regions.{region_number, number_of, regions_left}
 
 pub left_cons : (s : Stmt) (rest : List Stmt) (o : Option ℕ) → number_of s ≡ o → regions_left (s ∷ rest) ≡ cons_option o (regions_left rest)
@@ -77,35 +78,12 @@ next_of xs off = by (part_of xs) refl
     by part.Plain e = absurd (off e)
     by part.Finished e = nothing e
 
--- whether the part is region r
-abbrev part_is : ℕ → Part → Bool
-part_is r (part.Region q) = q == r
-part_is r part.Plain = false
-part_is r part.Finished = false
-
-head_from : (r : ℕ) (h : Stmt-F Stmt) → is_region r h ≡ part_is r (part_from h)
-head_from r (Region q site cond a) = refl
-head_from r (Assign site v w) = refl
-head_from r (Store site v index w) = refl
-head_from r (Print site w) = refl
-head_from r (If site cond a b) = refl
-head_from r (While site cond a) = refl
-head_from r (Break site cond) = refl
-head_from r (Call g line args) = refl
-
-head_is : (r : ℕ) (xs : List Stmt) → begins_with r xs ≡ part_is r (part_of xs)
-head_is r [] = refl
-head_is r (s ∷ rest) = head_from r (out-Stmt s)
-
-pub head_at : (r : ℕ) (c : Config) (q : Part) → part_of c.to_do ≡ q → stands_at_head r c ≡ part_is r q
-head_at r c q e = head_is r c.to_do ∙ ap (part_is r) e
-
 -- a region isn't at the head of a plain part, nor where nothing is left
 pub off_plain : (r : ℕ) (c : Config) → part_of c.to_do ≡ part.Plain → not (stands_at_head r c) ≡ true
-off_plain r c e = ap not (head_at r c part.Plain e)
+off_plain r c e = ap not (head_part r c part.Plain e)
 
 pub off_finished : (r : ℕ) (c : Config) → part_of c.to_do ≡ part.Finished → not (stands_at_head r c) ≡ true
-off_finished r c e = ap not (head_at r c part.Finished e)
+off_finished r c e = ap not (head_part r c part.Finished e)
 
 pub on_region : (q : ℕ) (c : Config) → part_of c.to_do ≡ part.Region q → stands_at_head q c ≡ true
-on_region q c e = head_at q c (part.Region q) e ∙ eq-eqb q q refl
+on_region q c e = head_part q c (part.Region q) e ∙ eq-eqb q q refl

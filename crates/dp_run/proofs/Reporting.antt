@@ -22,17 +22,7 @@ use Rattle.dp_run.proofs.Lists.{map_same}
 use Rattle.dp_run.proofs.RegionsLeft.{on_region}
 use Rattle.dp_run.proofs.Passing.{run_configs}
 use Rattle.dp_run.proofs.Leading.{config_here}
-
--- the run's own number of steps
-pub run_fuel : (p : Program) (input : List ℤ) (n : ℕ) (c : Config) → (run_of p input n c).fuel ≡ n
-unfolding run_of
-run_fuel p input zero c = refl
-run_fuel p input (suc n) c = by (step p input c)
-  where
-    by : (s : Step) → (run_by (run_of p input n) (suc n) c s).fuel ≡ suc n
-    by Finished = refl
-    by (Faulted fault) = refl
-    by (Stepped event next) = refl
+use Rattle.dp_crew.proofs.Here.{run_fuel}
 
 module _ (p : Program) (plan : Plan) (input : List ℤ) (fuel n : ℕ) (m : MachineState) (number : plan.region ≡ suc n) (b : Between p input fuel n m) (here : part_of m.config.to_do ≡ part.Region (suc n)) where
   abbrev run : Run
