@@ -1,7 +1,8 @@
 #!/usr/bin/env bash
 # Times regions that run as pipelines, in one run on this machine:
 #   the generator's loop over 65,536 words beside oneTBB's parallel_pipeline with the same stages (pipeline_tbb.cpp);
-#   a replicated stage of some two thousand operators an iteration, by 1, 2 and 3 workers, beside the same loop unmarked;
+#   a replicated stage of some two thousand operators an iteration, by 1, 2 and 3 workers, beside the same loop unmarked:
+#   once with three words for six operators, which stages and the judge go through as well, and once for twenty;
 #   a loop beside a memory of 1,000 cells and of 65,536.
 # Each time is the least of nine runs, less the time of an empty program under the same runner; the tables' are less the
 # time of the same program on an empty input, which writes as many values.
@@ -45,6 +46,7 @@ row '  as gen 7 65536, by its least plan' "$(net "$(least "$dswp" gen 7 65536)" 
 row '  oneTBB' "$tbb" "dswp takes $(ratio "$ours" "$tbb") times as long"
 
 words 1000 65536 >some.in
+# A loop whose iterations make so many turns of an inner loop with this statement.
 heavy() {
   cat <<C
 int sum;
@@ -55,8 +57,8 @@ int main() {
     int x = input[i];
     i = i + 1;
     int turns = 0;
-    while (turns < 333) {
-      x = (x * 5 + 3 + turns) % 65536;
+    while (turns < $2) {
+      x = $3;
       turns = turns + 1;
     }
     sum = sum + x;
@@ -64,15 +66,21 @@ int main() {
 }
 C
 }
-heavy '' >unmarked.c
-heavy '#pragma dswp' >heavy.c
+# The rows of such a loop: its name, its turns, its statement, and how many operators all iterations have.
+heavy_rows() {
+  heavy '' "$2" "$3" >unmarked.c
+  heavy '#pragma dswp' "$2" "$3" >heavy.c
+  alone=$(net "$(least "$dswp" run unmarked.c some.in)" "$nothing")
+  row "$1, unmarked" "$alone" "$(ratio "$alone" "$4") ns an operator"
+  for workers in 1 2 3; do
+    ours=$(net "$(least "$dswp" run heavy.c some.in --plan heavy.plan --workers $workers --lane 64)" "$nothing")
+    row "  in three stages, workers: $workers" "$ours" "$(ratio "$alone" "$ours") times as fast"
+  done
+}
 plan 'seq 2 3 4' 'par 5 6 7 8' 'seq 9' >heavy.plan
-alone=$(net "$(least "$dswp" run unmarked.c some.in)" "$nothing")
-row 'two thousand operators, unmarked' "$alone" "$(ratio "$alone" 2331000) ns an operator"
-for workers in 1 2 3; do
-  ours=$(net "$(least "$dswp" run heavy.c some.in --plan heavy.plan --workers $workers --lane 64)" "$nothing")
-  row "  in three stages, workers: $workers" "$ours" "$(ratio "$alone" "$ours") times as fast"
-done
+heavy_rows 'two thousand operators, six a turn' 333 '(x * 5 + 3 + turns) % 65536' 1998000
+heavy_rows 'two thousand operators, twenty a turn' 100 \
+  '((((((x * 5 + 3) % 8191 * 7 + turns) % 8179 * 11 + 1) % 8171 * 13 + turns) % 8167 * 17 + 5) % 8161 * 19 + turns) % 65536' 2000000
 
 words 20000 1000 >indices.in
 for cells in 1000 65536; do
