@@ -24,6 +24,8 @@ pub const INPUT_WORDS: u32 = 65_536;
 pub const PLAN_BYTES: u32 = 1_048_576;
 /// Bytes of a profile file.
 pub const PROFILE_BYTES: u32 = 67_108_864;
+/// A count in a profile.
+pub const PROFILE_COUNT: u64 = 1_000_000_000_000;
 /// Bytes of a commit log.
 pub const LOG_BYTES: u32 = 16_777_216;
 /// Bytes of a checkpoint.
@@ -45,6 +47,9 @@ pub const MOST_WORDS: u32 = 4_096;
 pub const RATE: u32 = 1_000;
 /// Steps of a run.
 pub const FUEL: u32 = 1_000_000_000;
+
+/// The seed of the made program's input.
+pub const SEED: u32 = 2_147_483_647;
 
 /// A count above this is reported as this.
 pub const COUNTED: u32 = 1_000_000;

@@ -1,6 +1,7 @@
 -- What is answered for a tree.
 use Rattle.std.specs.Prelude.{List, ◌++◌, length, Option, Some, None, Result, Ok, nat_lt, if◌then◌else◌}
 use Rattle.dp_base.specs.declared.Quantity.TheVariants.{Functions, Cells}
+use Rattle.dp_base.specs.declared.limits.TheConstants.{CELLS, FUNCTIONS}
 use Rattle.dp_tree.specs.declared.Function.{Function}
 use Rattle.dp_tree.specs.declared.Program.{Program}
 use Rattle.dp_tree.specs.declared.Stmt.{Stmt}
@@ -45,13 +46,13 @@ resolved raw = record {
   main = resolved_main (main_begin raw) 1 raw.main;
 }
 
--- more than 64 functions besides `main`
+-- more functions besides `main` than a program may have
 abbrev pub too_many_functions : RawProgram → Option CheckFail
-too_many_functions raw = if nat_lt 64 (function_count raw.items) then Some (Limit Functions (reported (function_count raw.items))) else None
+too_many_functions raw = if nat_lt FUNCTIONS (function_count raw.items) then Some (Limit Functions (reported (function_count raw.items))) else None
 
--- more than 65,536 cells of file-scope variables
+-- more cells of file-scope variables than a program may have
 abbrev pub too_many_cells : RawProgram → Option CheckFail
-too_many_cells raw = if nat_lt 65536 (global_cells raw.items) then Some (Limit Cells (reported (global_cells raw.items))) else None
+too_many_cells raw = if nat_lt CELLS (global_cells raw.items) then Some (Limit Cells (reported (global_cells raw.items))) else None
 
 -- the functions and `main`, unless a name offends
 unfoldable pub trees_answer : RawProgram → Result (List Function × List Stmt) CheckFail

@@ -34,9 +34,9 @@ fn global_after(count: u32, item: &RawItem) -> Result<u32, NoMemory>
 
 /// The sum of two counts, as it is reported.
 fn sum(a: u32, b: u32) -> u32
-    requires left { a ≤ 1000000 }
-    requires right { b ≤ 1000000 }
-    ensures { result ≡ min (a + b) 1000000 }
+    requires left { a ≤ COUNTED }
+    requires right { b ≤ COUNTED }
+    ensures { result ≡ min (a + b) COUNTED }
 {
     (a + b).min(COUNTED)
 }
@@ -55,7 +55,7 @@ fn size_reported(size: i64) -> u32
 
 fn cells_in(item: &RawItem) -> u32
     ensures value { result ≡ spec.reported (spec.cell_sum (global_of item.now)) }
-    ensures small { result ≤ 1000000 }
+    ensures small { result ≤ COUNTED }
 {
     match item {
         RawItem::Scalar { .. } => 1,
@@ -77,7 +77,7 @@ fn cell_count(items: &[RawItem]) -> u32
 
 fn functions_in(item: &RawItem) -> u32
     ensures value { result ≡ spec.functions_in item.now }
-    ensures small { result ≤ 1000000 }
+    ensures small { result ≤ COUNTED }
 {
     match item {
         RawItem::Function { .. } => 1,

@@ -2,6 +2,7 @@
 use Rattle.std.specs.Prelude.{◌≡◌, ℕ, ◌+◌, min, Bool, ◌&&◌, ◌||◌, if◌then◌else◌, nat_le, ◌==◌, List, [], ◌∷◌, length, Option, Some, None, Result, Ok, Err, ℤ, pos, neg_ℤ}
 use Rattle.std.specs.List.{filter}
 use Rattle.dp_base.specs.Arithmetic.{fits}
+use Rattle.dp_base.specs.declared.limits.TheConstants.{COUNTED, INPUT_WORDS}
 use Rattle.dp_edge.specs.Digits.{is_full, are_digits, value_of}
 use Rattle.dp_edge.specs.declared.input.InputFail.{InputFail}
 use Rattle.dp_edge.specs.declared.input.InputFail.TheVariants.{TooMany, Refused, NoMemory}
@@ -45,10 +46,10 @@ abbrev pub numbers_from : ℕ → List (List ℕ) → Result (List ℤ) InputFai
 numbers_from place [] = Ok []
 numbers_from place (word ∷ words) = number_before (number_of word) place (numbers_from (place + 1) words)
 
--- What a text is read as: too many words come before a word that is no number, and are counted up to 1,000,000. Words
--- are counted from 1.
+-- What a text is read as: too many words come before a word that is no number, and are counted as far as counts
+-- are reported. Words are counted from 1.
 abbrev pub numbers_of : List ℕ → Result (List ℤ) InputFail
-numbers_of text = if nat_le (length (words text)) 65536 then numbers_from 1 (words text) else Err (TooMany (min (length (words text)) 1000000))
+numbers_of text = if nat_le (length (words text)) INPUT_WORDS then numbers_from 1 (words text) else Err (TooMany (min (length (words text)) COUNTED))
 
 -- the answer is the wanted one, or want of memory
 abbrev pub AnswersInput : Result (List ℤ) InputFail → Result (List ℤ) InputFail → Type 0

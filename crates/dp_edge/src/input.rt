@@ -11,7 +11,7 @@ use std::alloc::Global;
 /// Why a text is no input.
 #[derive(Clone, Copy, Debug, PartialEq, Eq)]
 pub enum InputFail {
-    /// It has more than 65,536 words. The count stands at 1,000,000 where there are more.
+    /// It has more than `INPUT_WORDS` words. The count stands at `COUNTED` where there are more.
     TooMany { count: u32 },
     /// A word is no number: the first such word, counted from 1.
     Refused { word: u32 },
@@ -106,7 +106,7 @@ fn number(word: &[u8]) -> Option<i64>
 }
 
 fn read_words(alloc: Global, text: &[u8], count: usize) -> Result<Row<i64>, InputFail>
-    requires { length (words text.now) ≤ 65536 }
+    requires { length (words text.now) ≤ INPUT_WORDS }
     ensures { AnswersInput result (numbers_from 1 (words text.now)) }
 {
     let mut numbers = Row::with_capacity(alloc, count)?;

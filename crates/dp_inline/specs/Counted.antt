@@ -1,5 +1,6 @@
 -- The sizes of functions as the code counts them: each once, in order, none above what is reported.
 use Rattle.std.specs.Prelude.{ℕ, List, [], ◌∷◌, ◌++◌, Option, Some, None, slice_get, nat_lt, if◌then◌else◌}
+use Rattle.dp_base.specs.declared.limits.TheConstants.{REGION_SITES}
 use Rattle.dp_tree.specs.declared.Function.{Function}
 use Rattle.dp_tree.specs.declared.Stmt.{Stmt}
 use Rattle.dp_tree.specs.Numbering.{is_marked}
@@ -35,4 +36,4 @@ counted_region sizes s = counts_if (is_marked s) (counted_one 0 sizes s)
 -- the first of these regions with too many sites
 abbrev pub first_large : List ℕ → List Stmt → Option ℕ
 first_large sizes [] = None
-first_large sizes (s ∷ rest) = if nat_lt 1024 (counted_region sizes s) then Some (reported (counted_region sizes s)) else first_large sizes rest
+first_large sizes (s ∷ rest) = if nat_lt REGION_SITES (counted_region sizes s) then Some (reported (counted_region sizes s)) else first_large sizes rest

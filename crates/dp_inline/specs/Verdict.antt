@@ -1,6 +1,7 @@
 -- What is answered for a program: that it is too large, or its expansion.
 use Rattle.std.specs.Prelude.{ℕ, min, ◌≡◌, ◌≢◌, List, [], ◌∷◌, Option, Some, None, Result, Ok, Err, nat_lt, if◌then◌else◌}
 use Rattle.dp_base.specs.declared.Quantity.TheVariants.{InlinedSize, RegionSites}
+use Rattle.dp_base.specs.declared.limits.TheConstants.{COUNTED, INLINED_SIZE, REGION_SITES}
 use Rattle.dp_tree.specs.declared.Program.{Program}
 use Rattle.dp_tree.specs.declared.Stmt.{Stmt}
 use Rattle.dp_calls.specs.Expand.{expand}
@@ -10,16 +11,16 @@ use Rattle.dp_inline.specs.Size.{inlined_size, region_size}
 
 -- a count as it is reported
 abbrev pub reported : ℕ → ℕ
-reported n = min n 1000000
+reported n = min n COUNTED
 
 -- the program's sites and expanded calls are too many
 abbrev pub too_large : Program → Option InlineFail
-too_large p = if nat_lt 8192 (inlined_size p) then Some (Limit InlinedSize (reported (inlined_size p))) else None
+too_large p = if nat_lt INLINED_SIZE (inlined_size p) then Some (Limit InlinedSize (reported (inlined_size p))) else None
 
 -- the first of these statements that is a region of too many sites
 abbrev pub first_large_region : Program → List Stmt → Option InlineFail
 first_large_region p [] = None
-first_large_region p (s ∷ rest) = if nat_lt 1024 (region_size p s) then Some (Limit RegionSites (reported (region_size p s))) else first_large_region p rest
+first_large_region p (s ∷ rest) = if nat_lt REGION_SITES (region_size p s) then Some (Limit RegionSites (reported (region_size p s))) else first_large_region p rest
 
 -- the answer, unless this cause for a refusal stands
 abbrev pub unless : {X : Type 0} → Option InlineFail → Result X InlineFail → Result X InlineFail

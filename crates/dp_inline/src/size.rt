@@ -13,16 +13,16 @@ use std::alloc::Global;
 
 /// The sum of two counts, as it is reported.
 fn sum(a: u32, b: u32) -> u32
-    requires left { a ≤ 1000000 }
-    requires right { b ≤ 1000000 }
-    ensures { result ≡ min (a + b) 1000000 }
+    requires left { a ≤ COUNTED }
+    requires right { b ≤ COUNTED }
+    ensures { result ≡ min (a + b) COUNTED }
 {
     (a + b).min(COUNTED)
 }
 
 /// The number of arguments, as it is reported.
 fn bindings(args: usize) -> u32
-    ensures { result ≡ min args 1000000 }
+    ensures { result ≡ min args COUNTED }
 {
     args.min(COUNTED as usize) as u32
 }
@@ -43,7 +43,7 @@ fn size_at(sizes: &[u32], function: u32) -> u32
 fn size_of(each: u32, sizes: &[u32], s: &Stmt) -> u32
     requires { each ≤ 1 }
     ensures value { result ≡ reported (counted_one each sizes.now s.now) }
-    ensures small { result ≤ 1000000 }
+    ensures small { result ≤ COUNTED }
 {
     match s {
         Stmt::Assign { .. } | Stmt::Store { .. } | Stmt::Print { .. } | Stmt::Break { .. } => 1,
@@ -74,7 +74,7 @@ fn size_of(each: u32, sizes: &[u32], s: &Stmt) -> u32
 fn size_of_all(each: u32, sizes: &[u32], all: &[Stmt]) -> u32
     requires { each ≤ 1 }
     ensures value { result ≡ reported (counted_list each sizes.now all.now) }
-    ensures small { result ≤ 1000000 }
+    ensures small { result ≤ COUNTED }
 {
     let mut size = 0;
     for s in all {

@@ -1,5 +1,6 @@
 -- What is so of plans that are given for a program.
 use Rattle.std.specs.Prelude.{◌≡◌, ℕ, ◌≤◌, Bool, true, List, [], ◌∷◌, map, length}
+use Rattle.dp_base.specs.declared.limits.TheConstants.{LEAST_WORDS, MOST_WORDS, STAGES}
 use Rattle.dp_tree.specs.declared.Program.{Program}
 use Rattle.dp_tree.specs.Numbering.{numbers_from}
 use Rattle.dp_plan.specs.declared.Plan.{Plan}
@@ -11,12 +12,12 @@ use Rattle.dp_plan.specs.CheckedTable.{checked_table}
 
 -- the plan fits its region
 pub record IsPlan (p : Program) (plan : Plan) : Type 0 where
-  -- W is from 16 to 4,096
-  pub least_words : 16 ≤ plan.words
-  pub most_words : plan.words ≤ 4096
-  -- the stages are from 1 to 8
+  -- the words are within their limits
+  pub least_words : LEAST_WORDS ≤ plan.words
+  pub most_words : plan.words ≤ MOST_WORDS
+  -- so is the number of stages
   pub some_stage : 1 ≤ length plan.stages
-  pub few_stages : length plan.stages ≤ 8
+  pub few_stages : length plan.stages ≤ STAGES
   -- each stage has a site
   pub filled : Each (λ stage. has stage plan.stage_of ≡ true) (numbers_from 1 (length plan.stages))
   -- there is a stage for each site of the region

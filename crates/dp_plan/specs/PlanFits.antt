@@ -1,5 +1,6 @@
 -- A written plan within its limits, which every plan of a text is.
 use Rattle.std.specs.Prelude.{◌^◌, ◌<◌, ◌≤◌, length}
+use Rattle.dp_base.specs.declared.limits.TheConstants.{LEAST_WORDS, MOST_WORDS, STAGES}
 use Rattle.dp_tree.specs.declared.Assume.{Assume}
 use Rattle.dp_plan.specs.Written.{WrittenStage, WrittenPlan}
 use Rattle.dp_plan.specs.Each.{Each, AscendAbove}
@@ -12,11 +13,11 @@ StageFits stage = (1 ≤ length stage.sites) × AscendAbove 0 stage.sites
 abbrev pub AssumeFits : Assume → Type 0
 AssumeFits a = (0 < a.site.0) × (a.site.0 < 2 ^ 32)
 
--- W is from 16 to 4,096, and the stages are from 1 to 8
+-- the words and the number of stages are within their limits
 pub record PlanFits (w : WrittenPlan) : Type 0 where
-  pub least_words : 16 ≤ w.words
-  pub most_words : w.words ≤ 4096
+  pub least_words : LEAST_WORDS ≤ w.words
+  pub most_words : w.words ≤ MOST_WORDS
   pub some_stage : 1 ≤ length w.stages
-  pub few_stages : length w.stages ≤ 8
+  pub few_stages : length w.stages ≤ STAGES
   pub stages : Each StageFits w.stages
   pub assume : Each AssumeFits w.assume

@@ -3,6 +3,7 @@ use Rattle.std.specs.Prelude.{◌≡◌, ℕ, true, List, [], Option, Some, code
 use Rattle.clap.specs.declared.builder.action.ArgAction.TheVariants.{Set, SetTrue}
 use Rattle.clap.specs.declared.builder.value_parser.ValueParser.TheVariants as parser
 use Rattle.clap.specs.Words.{App, Rule, Text, first_of, fault_of, matches_of, new_app, new_rule, with_rule}
+use Rattle.dp_base.specs.declared.limits.TheConstants.{FUEL, INPUT_WORDS, LANE, RATE, SEED, STAGES, WORKERS}
 
 -- a name that has to be given, and one that may be
 abbrev pub name_of : Text → Rule
@@ -31,18 +32,18 @@ verb_app verb = record (new_app verb) { top = record (new_app verb).top { no_bin
 
 -- the options of a crew's size
 abbrev pub workers_option : Rule
-workers_option = number_option (codes "workers") 1 8
+workers_option = number_option (codes "workers") 1 WORKERS
 
 abbrev pub lane_option : Rule
-lane_option = number_option (codes "lane") 1 64
+lane_option = number_option (codes "lane") 1 LANE
 
 -- the greatest number of steps
 abbrev pub fuel_option : Rule
-fuel_option = number_option (codes "fuel") 0 1000000000
+fuel_option = number_option (codes "fuel") 0 FUEL
 
 -- a command with the options of automatic plans
 abbrev pub with_plan_options : App → App
-with_plan_options app = with_rule (with_rule (with_rule (with_rule app (file_option (codes "profile"))) (number_option (codes "rate") 0 1000)) (number_option (codes "stages") 1 8)) workers_option
+with_plan_options app = with_rule (with_rule (with_rule (with_rule app (file_option (codes "profile"))) (number_option (codes "rate") 0 RATE)) (number_option (codes "stages") 1 STAGES)) workers_option
 
 abbrev pub run_app : App
 run_app =
@@ -59,7 +60,7 @@ abbrev pub profile_app : App
 profile_app = with_rule (with_rule (with_rule (verb_app (codes "profile")) (name_of (codes "program"))) (further_name (codes "input"))) fuel_option
 
 abbrev pub gen_app : App
-gen_app = with_rule (with_rule (with_rule (with_rule (verb_app (codes "gen")) (number_name (codes "seed") 0 2147483647)) (number_name (codes "size") 1 65536)) workers_option) lane_option
+gen_app = with_rule (with_rule (with_rule (with_rule (verb_app (codes "gen")) (number_name (codes "seed") 0 SEED)) (number_name (codes "size") 1 INPUT_WORDS)) workers_option) lane_option
 
 -- the command takes the words
 abbrev pub IsTaken : App → List Text → Type 0

@@ -1,6 +1,7 @@
 -- The run of the made program that values name.
 use Rattle.std.specs.Prelude.{◌≡◌, ◌<◌, ◌≤◌, Some, codes}
 use Rattle.std.specs.Option.{option_map}
+use Rattle.dp_base.specs.declared.limits.TheConstants.{FUEL, INPUT_WORDS, LANE, SEED}
 use Rattle.dp_words.specs.declared.task.GenWords.{GenWords}
 use Rattle.dp_words.specs.Values.{OptionsWithin, Values, default_fuel, default_rate, default_stages, lane_in, number_in, workers_in}
 
@@ -14,10 +15,10 @@ pub record ShowsMade (value : Values) (made : GenWords) : Type 0 where
 
 -- its numbers are within their limits
 pub record MadeWithin (made : GenWords) : Type 0 where
-  pub small_seed : made.seed < 2147483648
+  pub small_seed : made.seed ≤ SEED
   pub some_word : 1 ≤ made.size
-  pub few_words : made.size ≤ 65536
+  pub few_words : made.size ≤ INPUT_WORDS
   pub options : OptionsWithin made.options
   pub some_place : 1 ≤ made.lane
-  pub few_places : made.lane ≤ 64
-  pub few_steps : made.fuel ≤ 1000000000
+  pub few_places : made.lane ≤ LANE
+  pub few_steps : made.fuel ≤ FUEL

@@ -1,6 +1,7 @@
 -- The profile that values name.
 use Rattle.std.specs.Prelude.{◌≡◌, ℕ, ◌≤◌, List, Option, Some, codes}
 use Rattle.std.specs.Option.{option_map}
+use Rattle.dp_base.specs.declared.limits.TheConstants.{FUEL}
 use Rattle.dp_words.specs.declared.task.ProfileWords.{ProfileWords}
 use Rattle.dp_words.specs.Values.{Values, fuel_in}
 
@@ -22,4 +23,4 @@ shown_profiling words = record { program = words.program.now; input = option_map
 
 -- its fuel is within its limit
 abbrev pub ProfilingWithin : Profiling → Type 0
-ProfilingWithin profiling = profiling.fuel ≤ 1000000000
+ProfilingWithin profiling = profiling.fuel ≤ FUEL

@@ -2,6 +2,7 @@
 use Rattle.std.specs.Prelude.{◌≡◌, ℕ, ◌≤◌, if◌then◌else◌, Bool, List, Option, Some, None, codes}
 use Rattle.std.specs.Option.{option_map}
 use Rattle.clap.specs.Words.{Text}
+use Rattle.dp_base.specs.declared.limits.TheConstants.{FUEL, LANE}
 use Rattle.dp_words.specs.declared.task.PlanOptions.{PlanOptions}
 use Rattle.dp_words.specs.declared.task.PlanSource.{PlanSource}
 use Rattle.dp_words.specs.declared.task.PlanSource.TheVariants as source
@@ -61,5 +62,5 @@ shown words = record {
 pub record RunWithin (run : Run) : Type 0 where
   pub options : OptionsWithin run.options
   pub some_place : 1 ≤ run.lane
-  pub few_places : run.lane ≤ 64
-  pub few_steps : run.fuel ≤ 1000000000
+  pub few_places : run.lane ≤ LANE
+  pub few_steps : run.fuel ≤ FUEL

@@ -2,6 +2,7 @@
 use Rattle.std.specs.Prelude.{ℕ, ◌≤◌, Option, Some, None, codes}
 use Rattle.std.specs.Str.Parse.{digits_value, without_leading_plus}
 use Rattle.clap.specs.Words.{Text}
+use Rattle.dp_base.specs.declared.limits.TheConstants.{RATE, STAGES, WORKERS}
 use Rattle.dp_words.specs.declared.task.PlanOptions.{PlanOptions}
 
 abbrev pub Values : Type 0
@@ -46,8 +47,8 @@ options_in value = record {
 
 -- they are within their limits
 pub record OptionsWithin (options : PlanOptions) : Type 0 where
-  pub rare : options.rate ≤ 1000
+  pub rare : options.rate ≤ RATE
   pub some_stage : 1 ≤ options.stages
-  pub few_stages : options.stages ≤ 8
+  pub few_stages : options.stages ≤ STAGES
   pub some_worker : 1 ≤ options.workers
-  pub few_workers : options.workers ≤ 8
+  pub few_workers : options.workers ≤ WORKERS

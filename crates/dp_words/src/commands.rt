@@ -5,6 +5,7 @@ ghost use Rattle.dp_words.specs.Commands.{check_app, file_option, flag, fuel_opt
 
 use clap::builder::ValueParser;
 use clap::{Arg, ArgAction, Command};
+use dp_base::limits::{FUEL, INPUT_WORDS, LANE, RATE, SEED, STAGES, WORKERS};
 use dp_base::NoMemory;
 use std::alloc::Global;
 
@@ -55,8 +56,8 @@ pub fn gen_command<'w>(alloc: Global) -> Result<Command<'w>, NoMemory>
     ensures { IfOk result (λ command. app_of command ≡ gen_app) }
 {
     let command = verb_command(alloc, "gen")
-        .arg(number_name(alloc, "seed", 0, 2_147_483_647))?
-        .arg(number_name(alloc, "size", 1, 65_536))?
+        .arg(number_name(alloc, "seed", 0, SEED as u64))?
+        .arg(number_name(alloc, "size", 1, INPUT_WORDS as u64))?
         .arg(workers_option(alloc))?
         .arg(lane_option(alloc))?;
     Ok(command)
@@ -68,8 +69,8 @@ fn with_plan_options<'w>(alloc: Global, command: Command<'w>) -> Result<Command<
 {
     let command = command
         .arg(file_option(alloc, "profile"))?
-        .arg(number_option(alloc, "rate", 0, 1000))?
-        .arg(number_option(alloc, "stages", 1, 8))?
+        .arg(number_option(alloc, "rate", 0, RATE as u64))?
+        .arg(number_option(alloc, "stages", 1, STAGES as u64))?
         .arg(workers_option(alloc))?;
     Ok(command)
 }
@@ -129,7 +130,7 @@ fn workers_option<'w>(alloc: Global) -> Arg<'w>
     ensures rule { rule_of result ≡ workers_option }
     ensures local { result.global ≡ false }
 {
-    number_option(alloc, "workers", 1, 8)
+    number_option(alloc, "workers", 1, WORKERS as u64)
 }
 
 /// The places of a lane.
@@ -137,7 +138,7 @@ fn lane_option<'w>(alloc: Global) -> Arg<'w>
     ensures rule { rule_of result ≡ lane_option }
     ensures local { result.global ≡ false }
 {
-    number_option(alloc, "lane", 1, 64)
+    number_option(alloc, "lane", 1, LANE as u64)
 }
 
 /// The greatest number of steps.
@@ -145,7 +146,7 @@ fn fuel_option<'w>(alloc: Global) -> Arg<'w>
     ensures rule { rule_of result ≡ fuel_option }
     ensures local { result.global ≡ false }
 {
-    number_option(alloc, "fuel", 0, 1_000_000_000)
+    number_option(alloc, "fuel", 0, FUEL as u64)
 }
 
 /// An option that stands alone.
