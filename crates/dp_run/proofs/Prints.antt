@@ -14,13 +14,12 @@ use Rattle.dp_meaning.specs.MachineState.{MachineState, fuel_left, rest_of_run, 
 use Rattle.dp_meaning.specs.Continues.{Continues}
 use Rattle.dp_meaning.specs.PartRun.{PartRun}
 use Rattle.dp_edge.specs.Sink.{appended}
-use Rattle.dp_crew.specs.Output.{WritesFront}
+use Rattle.dp_crew.specs.Output.{Emits, WritesFront}
 use Rattle.dp_crew.specs.RegionRun.{region_run, region_prints}
-use Rattle.dp_run.specs.Output.{Emits}
 use Rattle.dp_run.specs.steps.Stretches.{to_come}
 use Rattle.dp_run.proofs.RegionsLeft.{on_region}
 use Rattle.dp_run.proofs.Passing.{prints_on, prints-append, run_configs}
-use Rattle.dp_run.proofs.StreamLemmas.{emits_ahead, front_ahead, front_more, prints-split}
+use Rattle.dp_crew.proofs.StreamLemmas.{emits_ahead, front_ahead, front_more, prints-split}
 
 -- The steps of a call print what was to come.
 pub part_to_come : (turns : ℕ) (old new : MachineState) (before after : List ℤ) (end : PartEnd) → PartRun turns old new before after end → before ++ to_come old ≡ after ++ to_come new

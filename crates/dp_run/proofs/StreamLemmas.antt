@@ -1,60 +1,11 @@
--- Prints that are written bit by bit.
-use Rattle.std.proofs.Common.{◌≡◌, refl, sym, ap, ◌∙◌, subst, ℕ, List, [], ◌++◌, append_assoc, ℤ, Option, Some, None, Result, Ok, Err}
+-- Prints that are written bit by bit, with what waits.
+use Rattle.std.proofs.Common.{◌≡◌, ap, subst, ℕ, List, [], ◌++◌, ℤ, Option, Result, Ok, Err}
 use Rattle.std.specs.Result.{IsErr}
-use Rattle.std.proofs.lemmas.Grind.{flat_map-append}
-use Rattle.dp_edge.specs.Sink.{appended}
-use Rattle.dp_report.specs.PrintsText.{print_line, prints_bytes}
+use Rattle.dp_report.specs.PrintsText.{prints_bytes}
 use Rattle.dp_crew.specs.declared.fail.CrewFail.{CrewFail}
-use Rattle.dp_crew.specs.Output.{WritesFront}
-use Rattle.dp_run.specs.Output.{Emits, Streams}
-
-pub appended-append : (a b : List ℕ) (told : Option (List ℕ)) → appended b (appended a told) ≡ appended (a ++ b) told
-appended-append a b None = refl
-appended-append a b (Some written) = ap Some (append_assoc written a b)
-
-pub prints-split : (a b : List ℤ) → prints_bytes (a ++ b) ≡ prints_bytes a ++ prints_bytes b
-prints-split a b = flat_map-append print_line a b
-
--- a front of what follows a text that was written
-pub front_behind : (text a b : List ℕ) (told mid tells : Option (List ℕ)) → text ≡ a ++ b → mid ≡ appended a told → WritesFront b mid tells → WritesFront text told tells
-front_behind text a b told mid tells e m w = record {
-  front = a ++ w.front;
-  rest = w.rest;
-  splits = e ∙ ap (λ (x : List ℕ). a ++ x) w.splits ∙ sym (append_assoc a w.front w.rest);
-  sink = w.sink ∙ ap (appended w.front) m ∙ appended-append a w.front told;
-}
-
--- a front of a text is one of each longer text
-pub front_more : (a b : List ℕ) (told tells : Option (List ℕ)) → WritesFront a told tells → WritesFront (a ++ b) told tells
-front_more a b told tells w = record { front = w.front; rest = w.rest ++ b; splits = ap (λ (x : List ℕ). x ++ b) w.splits ∙ append_assoc w.front w.rest b; sink = w.sink }
-
--- first these, then those
-pub emits_on : (a b d : List ℤ) (told mid tells : Option (List ℕ)) → Emits a b told mid → Emits b d mid tells → Emits a d told tells
-emits_on a b d told mid tells e f = record {
-  written = e.written ++ f.written;
-  splits = e.splits ∙ ap (λ (x : List ℤ). e.written ++ x) f.splits ∙ sym (append_assoc e.written f.written d);
-  sink = f.sink ∙ ap (appended (prints_bytes f.written)) e.sink ∙ appended-append (prints_bytes e.written) (prints_bytes f.written) told
-      ∙ ap (λ (x : List ℕ). appended x told) (sym (prints-split e.written f.written));
-}
-
-pub emits_front : (a b : List ℤ) (told mid tells : Option (List ℕ)) → Emits a b told mid → WritesFront (prints_bytes b) mid tells → WritesFront (prints_bytes a) told tells
-emits_front a b told mid tells e w =
-    front_behind (prints_bytes a) (prints_bytes e.written) (prints_bytes b) told mid tells (ap prints_bytes e.splits ∙ prints-split e.written b) e.sink w
-
-pub emits_ahead : (a b more : List ℤ) (told tells : Option (List ℕ)) → Emits a b told tells → Emits (a ++ more) (b ++ more) told tells
-emits_ahead a b more told tells e = record { written = e.written; splits = ap (λ (x : List ℤ). x ++ more) e.splits ∙ append_assoc e.written b more; sink = e.sink }
-
-pub front_ahead : (a more : List ℤ) (told tells : Option (List ℕ)) → WritesFront (prints_bytes a) told tells → WritesFront (prints_bytes (a ++ more)) told tells
-front_ahead a more told tells w = rw (prints-split a more) (front_more (prints_bytes a) (prints_bytes more) told tells w)
-
--- what was written is a front, where it stops now
-pub emits_stopped : (prints left : List ℤ) (told tells : Option (List ℕ)) → Emits prints left told tells → WritesFront (prints_bytes prints) told tells
-emits_stopped prints left told tells e = record {
-  front = prints_bytes e.written;
-  rest = prints_bytes left;
-  splits = ap prints_bytes e.splits ∙ prints-split e.written left;
-  sink = e.sink;
-}
+use Rattle.dp_crew.specs.Output.{Emits, WritesFront}
+use Rattle.dp_crew.proofs.StreamLemmas.{emits_ahead, emits_front, emits_on, front_ahead}
+use Rattle.dp_run.specs.Output.{Streams}
 
 -- Something stopped, and this was written.
 pub streams_stopped : {X : Type 0} (r : Result X CrewFail) (prints left : List ℤ) (told tells : Option (List ℕ)) → IsErr r → WritesFront (prints_bytes prints) told tells → Streams r prints left told tells

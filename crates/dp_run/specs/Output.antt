@@ -1,15 +1,8 @@
 -- What a run writes as it goes on.
-use Rattle.std.specs.Prelude.{◌≡◌, ℕ, List, ◌++◌, ℤ, Option, Result, Ok, Err}
-use Rattle.dp_edge.specs.Sink.{appended}
+use Rattle.std.specs.Prelude.{ℕ, List, ℤ, Option, Result, Ok, Err}
 use Rattle.dp_report.specs.PrintsText.{prints_bytes}
 use Rattle.dp_crew.specs.declared.fail.CrewFail.{CrewFail}
-use Rattle.dp_crew.specs.Output.{WritesFront}
-
--- Some of the prints were written, from the front, and the others are left.
-pub record Emits (prints left : List ℤ) (told tells : Option (List ℕ)) : Type 0 where
-  pub written : List ℤ
-  pub splits : prints ≡ written ++ left
-  pub sink : tells ≡ appended (prints_bytes written) told
+use Rattle.dp_crew.specs.Output.{Emits, WritesFront}
 
 -- These prints are to be written: some were, and the others are left. Where it stopped early, a front of their text was written.
 abbrev pub Streams : {X : Type 0} → Result X CrewFail → List ℤ → List ℤ → Option (List ℕ) → Option (List ℕ) → Type 0

@@ -2,9 +2,8 @@
 ghost use Rattle.std.specs.Prelude.{◌≡◌, ◌<◌, ◌≤◌, ◌-◌, ◌^◌, [], length, IfOk, OnErr};
 ghost use Rattle.dp_report.specs.PrintsText.{prints_bytes};
 ghost use Rattle.dp_crew.specs.Fail.{FaultsAfter};
-ghost use Rattle.dp_crew.specs.Output.{WritesFront};
+ghost use Rattle.dp_crew.specs.Output.{Emits, WritesFront};
 ghost use Rattle.dp_run.specs.Given.{AreGiven};
-ghost use Rattle.dp_run.specs.Output.{Emits};
 ghost use Rattle.dp_run.specs.steps.Stretches.{Behind, Finished, to_come};
 
 use crate::plain::run_plain;

@@ -5,8 +5,7 @@ ghost use Rattle.dp_report.specs.PrintsText.{prints_bytes};
 ghost use Rattle.dp_semantics.specs.Reported.{region_report};
 ghost use Rattle.dp_crew.specs.Fail.{FaultsAfter};
 ghost use Rattle.dp_crew.specs.RegionRun.{IsPlanned};
-ghost use Rattle.dp_run.specs.Output.{Emits};
-ghost use Rattle.dp_crew.specs.Output.{WritesFront};
+ghost use Rattle.dp_crew.specs.Output.{Emits, WritesFront};
 ghost use Rattle.dp_run.specs.RunText.{source_run, committed_count};
 ghost use Rattle.dp_run.specs.steps.Stretches.{AfterRegion, Between, Leads, to_come};
 

@@ -11,6 +11,7 @@ pub mod RegionLaws
 pub mod Leg
 pub mod Layout
 pub mod Numbering
+pub mod SiteTable
 pub mod InMain
 pub mod GoesOn
 pub mod Scoping

@@ -1,5 +1,5 @@
 use Rattle.std.proofs.Common.{◌≡◌}
-use Rattle.dp_run.specs.Output.{Emits}
+use Rattle.dp_crew.specs.Output.{Emits}
 use Rattle.dp_run.specs.steps.Stretches.{Between, Counted, to_come}
 use Rattle.dp_run.proofs.parts.run_parts.Given as goal
 

@@ -1,7 +1,7 @@
 use Rattle.std.proofs.Common.{◌∙◌, subst}
 use Rattle.dp_meaning.specs.declared.ends.PartEnd.{PartEnd}
 use Rattle.dp_run.specs.steps.Calls.{PartSteps}
-use Rattle.dp_run.proofs.StreamLemmas.{emits_on}
+use Rattle.dp_crew.proofs.StreamLemmas.{emits_on}
 use Rattle.dp_run.proofs.PartLemmas.{part_going, part_ends, part_faults, part_spent}
 use Rattle.dp_run.proofs.plain.finish_plain.Goals as goal
 

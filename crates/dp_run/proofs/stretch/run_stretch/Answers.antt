@@ -4,7 +4,7 @@ use Rattle.dp_base.specs.declared.RegionReport.{RegionReport}
 use Rattle.dp_semantics.specs.Reported.{region_report}
 use Rattle.dp_run.specs.RunText.{source_run}
 use Rattle.dp_run.proofs.Ending.{on_err, on_ok}
-use Rattle.dp_run.proofs.StreamLemmas.{emits_front, emits_on, emits_stopped}
+use Rattle.dp_crew.proofs.StreamLemmas.{emits_front, emits_on, emits_stopped}
 use Rattle.dp_run.proofs.Regions.{after_region, region_start}
 use Rattle.dp_run.proofs.RegionCalls.{ran_emits, report_of_run, stopped_front, tally_whole}
 use Rattle.dp_run.proofs.stretch.run_stretch.Goals as goal
