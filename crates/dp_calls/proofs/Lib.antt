@@ -38,5 +38,6 @@ pub mod Within
 -- the numbers of an expanded program
 pub mod SiteLaws
 pub mod RegionTableLaws
+pub mod RoleLaws
 pub mod InlinedLaws
 pub mod rows

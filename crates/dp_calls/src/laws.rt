@@ -1,5 +1,8 @@
+ghost use Rattle.std.specs.Prelude.{◌≡◌, ◌≤◌, true, length};
+ghost use Rattle.std.specs.List.{list_all};
 ghost use Rattle.dp_tree.specs.Checked.{IsChecked};
 ghost use Rattle.dp_tree.specs.Inlined.{IsInlined};
+ghost use Rattle.dp_tree.specs.Numbering.{is_small_region};
 ghost use Rattle.dp_calls.specs.Expand.{expand};
 ghost use Rattle.dp_calls.specs.ExpandLaws.{KeepsText, LeavesNoCall};
 ghost use Rattle.dp_calls.specs.Meaning.{SameMeaning};
@@ -20,9 +23,11 @@ pub fn expansion_keeps_the_meaning(p: &Program)
     ensures same { SameMeaning p.now }
 {}
 
-/// The expansion of a checked program is what the machine, plans and the central theorem ask of a program: no call is
-/// left, and variables, cells, sites and regions are numbered in text order.
+/// The expansion of a checked program, unless it is too large, is what the machine, plans and the central theorem ask of
+/// a program: no call is left, and variables, cells, sites and regions are numbered in text order.
 pub fn expansion_is_inlined(p: &Program)
-    requires { IsChecked p.now }
+    requires checked { IsChecked p.now }
+    requires sites { length (expand p.now).sites ≤ 8192 }
+    requires regions { list_all is_small_region (expand p.now).regions ≡ true }
     ensures inlined { IsInlined (expand p.now) }
 {}

@@ -9,7 +9,7 @@ use Rattle.dp_tree.specs.declared.raw.RawItem.{RawItem}
 use Rattle.dp_tree.specs.declared.raw.RawItem.TheVariants as item
 use Rattle.dp_tree.specs.declared.raw.RawProgram.{RawProgram}
 use Rattle.dp_check.specs.Place.{Part, Site, Local}
-use Rattle.dp_check.specs.Tables.{laid, locals_of, globals, global_of, item_parts, outside, within, top_locals, after_top, main_locals, variables}
+use Rattle.dp_check.specs.Tables.{laid, locals_of, globals, item_parts, outside, within, top_locals, after_top, main_locals, variables}
 use Rattle.std.proofs.Common.{subst, Option, Some, None, Ok}
 use Rattle.dp_tree.specs.declared.Program.{Program}
 use Rattle.dp_check.specs.declared.fail.CheckFail.{CheckFail}
@@ -21,6 +21,7 @@ use Rattle.dp_tree.specs.Layout.{has_cells, lies_in_order}
 use Rattle.dp_tree.specs.Checked.{IsChecked}
 use Rattle.dp_check.specs.Checked.{has_length, breaks_fit, breaks_fit_at_top, is_unbroken_item}
 use Rattle.dp_check.proofs.NumberLemmas.{sites_in_order}
+use Rattle.dp_check.proofs.RoleLemmas.{sites_as_in_text}
 use Rattle.dp_check.proofs.PlainLemmas.{regions_stand_in_order, functions_are_plain}
 use Rattle.dp_check.proofs.BoolLemmas.{both_true, halves, same_number, all_of_both}
 use Rattle.dp_check.proofs.GlobalLemmas.{globals_stand_first}
@@ -94,6 +95,7 @@ checked raw p lengths breaks given =
       globals = globals_stand_first raw;
       cells = variables_in_order raw lengths;
       sites = sites_in_order raw;
+      roles = sites_as_in_text raw;
       regions = regions_stand_in_order (main_begin raw) 1 raw.main fits.0;
       functions = functions_are_plain (begin raw) raw.items fits.1;
       scoped = resolved_in_scope raw e.0;

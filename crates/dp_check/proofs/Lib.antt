@@ -13,6 +13,7 @@ pub mod TopLemmas
 pub mod LimitLemmas
 pub mod VerdictLemmas
 pub mod NumberLemmas
+pub mod RoleLemmas
 pub mod PlainLemmas
 pub mod GlobalLemmas
 pub mod DeclaredLemmas

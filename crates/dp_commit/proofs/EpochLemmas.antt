@@ -17,7 +17,8 @@ use Rattle.dp_semantics.specs.Judge.{Judgement, Unclean as UncleanJudgement}
 use Rattle.dp_semantics.specs.Reported.{reported}
 use Rattle.dp_semantics.specs.Verdict.{applied}
 use Rattle.dp_semantics.specs.EpochKey.{EpochKey, epoch_run}
-use Rattle.dp_semantics.specs.EpochVerdicts.{Carried, Again, Commit, JudgeState, carried_store, goes_on, state_at, judgement_of, after_judgement, verdict_by, verdict_at}
+use Rattle.dp_semantics.specs.EpochVerdicts.{Carried, Again, Commit, JudgeState, goes_on, state_at, judgement_of, after_judgement, verdict_by, verdict_at}
+use Rattle.dp_semantics.specs.Told.{store_made}
 use Rattle.dp_semantics.proofs.EpochFound.{finds_in_epochs}
 use Rattle.dp_semantics.proofs.Fitting.{accepted}
 use Rattle.dp_cause.specs.Views.{shown_by, kept_by, clear_cells, local_cells}
@@ -41,7 +42,7 @@ walk_carries w = record { stores = w.stores; prints = w.prints; steps = w.steps;
 -- ---- what is kept after the stores of these effects
 
 abbrev stores_by : List Effect → List StoreOf
-stores_by effects = filter_map carried_store effects
+stores_by effects = filter_map store_made effects
 
 kept_same : (p : Program) (plan : Plan) (sites : List ℕ) (effects : List Effect) (kept : List (List ℤ)) → kept_by (store_stages p plan sites effects) (stores_by effects) kept ≡ kept_after p plan sites effects kept
 kept_same p plan [] effects kept = refl

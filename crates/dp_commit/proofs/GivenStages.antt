@@ -1,6 +1,5 @@
 -- No site of a given plan is of the stage after the last one.
 use Rattle.std.proofs.Common.{◌≡◌, subst, ℕ, zero, suc, ◌+◌, ◌-◌, ◌<◌, ◌≤◌, List, [], ◌∷◌, length, Some, slice_get, arith}
-use Rattle.std.specs.Prelude.{◌^◌}
 use Rattle.dp_tree.specs.declared.RegionInfo.{RegionInfo}
 use Rattle.dp_tree.specs.declared.Program.{Program}
 use Rattle.dp_tree.specs.Inlined.{IsInlined}
@@ -24,7 +23,7 @@ place_low (y ∷ ys) (suc k) x e = let low = place_low ys k x e in omega (arith,
 found_low : (r : ℕ) (entries : List RegionInfo) (entry : RegionInfo) → 1 ≤ r → slice_get entries (r - 1) ≡ Some entry → r < 1 + length entries
 found_low r entries entry low at = let here = place_low entries (r - 1) entry at in omega (arith, here, low)
 
-module _ (p : Program) (inlined : IsInlined p) (small : length p.sites < 2 ^ 32) (plan : Plan) (is : IsPlan p plan) where
+module _ (p : Program) (inlined : IsInlined p) (plan : Plan) (is : IsPlan p plan) where
   within : (1 ≤ plan.region) × (plan.region < 1 + length p.regions)
   within = by (sought inlined plan.region)
     where
@@ -33,4 +32,4 @@ module _ (p : Program) (inlined : IsInlined p) (small : length p.sites < 2 ^ 32)
       by (present entry low at q least most) = (low, found_low plan.region p.regions entry low at)
 
   pub given_stages : HasStages p plan
-  given_stages = subst (λ (q : Plan). HasStages p q) (plan_back p plan is (in_order p inlined small plan within.0 within.1)) (written_has_stages p plan.proved (written_of p plan))
+  given_stages = subst (λ (q : Plan). HasStages p q) (plan_back p plan is (in_order p inlined plan within.0 within.1)) (written_has_stages p plan.proved (written_of p plan))

@@ -1,32 +1,18 @@
 -- A verdict that carries what the source does in iteration `count` carries the iteration that comes next.
-use Rattle.std.proofs.Common.{◌≡◌, refl, sym, ap, ◌∙◌, subst, ℕ, ◌+◌, true, List, [], ◌∷◌, map, length, filter_map, Option, Some, None, arith}
+use Rattle.std.proofs.Common.{◌≡◌, sym, ap, ◌∙◌, subst, ℕ, ◌+◌, true, length, arith}
 use Rattle.std.proofs.lemmas.List.{length-map}
 use Rattle.dp_base.specs.declared.RegionReport.{RegionReport}
-use Rattle.dp_tree.specs.Step.{Effect, Stored, Printed, Decided, Tried, Event}
 use Rattle.dp_tree.specs.Trace.{Run, prints, printed_by}
 use Rattle.dp_tree.specs.Iteration.{iteration, is_closing, has_ended}
 use Rattle.dp_plan.specs.declared.Plan.{Plan}
 use Rattle.dp_semantics.specs.Verdict.{done_in, effect_in}
-use Rattle.dp_semantics.specs.EpochVerdicts.{Carried, carried, carried_store}
+use Rattle.dp_semantics.specs.EpochVerdicts.{Carried, carried}
+use Rattle.dp_semantics.specs.Told.{store_made, stores_of}
+use Rattle.dp_semantics.proofs.Told.{chosen}
 use Rattle.dp_meaning.specs.MachineState.{MachineState, rest_of_run}
-use Rattle.dp_meaning.specs.NextIteration.{stores, store_by}
 use Rattle.dp_commit.specs.CommittedState.{CommittedState, CarriesNext, region_run}
 use Rattle.dp_crew.specs.Progress.{Progress}
 use Rattle.dp_crew.proofs.Here.{goes_here}
-
-same_store : (effect : Effect) → carried_store effect ≡ store_by effect
-same_store (Stored cell value) = refl
-same_store (Printed value) = refl
-same_store (Decided value) = refl
-same_store (Tried value) = refl
-
-filter_effects : {Y : Type 0} (f h : Effect → Option Y) → ((effect : Effect) → f effect ≡ h effect) → (events : List Event) → filter_map f (map effect_in events) ≡ filter_map (λ e. h e.effect) events
-filter_effects f h same [] = refl
-filter_effects f h same (e ∷ events) = by (h e.effect) refl (filter_effects f h same events)
-  where
-    by : (o : Option _) → h e.effect ≡ o → filter_map f (map effect_in events) ≡ filter_map (λ x. h x.effect) events → filter_map f (e.effect ∷ map effect_in events) ≡ filter_map (λ x. h x.effect) (e ∷ events)
-    by None is go = rw (same e.effect, is, go)
-    by (Some y) is go = rw (same e.effect, is, go)
 
 module _ (plan : Plan) (first : MachineState) (c : CommittedState) (report : RegionReport) (g : Progress plan first c report) where
   abbrev run : Run
@@ -46,15 +32,15 @@ module _ (plan : Plan) (first : MachineState) (c : CommittedState) (report : Reg
   carries ended = record {
     iteration_is = record {
       ended = sym ended_same ∙ ended;
-      stores_are = filter_effects carried_store store_by same_store (iteration run plan.region c.count) ∙ ap stores iteration_same;
+      stores_are = chosen store_made (iteration run plan.region c.count) ∙ ap stores_of iteration_same;
       steps_are = length-map (iteration run plan.region c.count) effect_in ∙ ap length iteration_same;
       closing_is = closing_same;
     };
-    prints_are = filter_effects printed_by printed_by (λ effect. refl) (iteration run plan.region c.count) ∙ ap prints iteration_same;
+    prints_are = chosen printed_by (iteration run plan.region c.count) ∙ ap prints iteration_same;
   }
 
   pub carries_next : (v : Carried) → v ≡ carried (done_in plan run c.count) → has_ended run plan.region c.count ≡ true → CarriesNext c v
   carries_next v e ended = subst (CarriesNext c) (sym e) (subst (λ (r : ℕ). CarriesNext (record { machine = c.machine; region = r; count = c.count }) (carried (done_in plan run c.count))) (sym g.region) (carries ended))
 
   pub prints_of : prints (iteration run plan.region c.count) ≡ (carried (done_in plan run c.count)).prints
-  prints_of = sym (filter_effects printed_by printed_by (λ effect. refl) (iteration run plan.region c.count))
+  prints_of = sym (chosen printed_by (iteration run plan.region c.count))

@@ -5,7 +5,7 @@ use Rattle.std.proofs.lemmas.List.Sums.{sum_by-cons}
 use Rattle.dp_base.specs.declared.Cause.{Cause}
 use Rattle.dp_base.specs.declared.RegionReport.{RegionReport}
 use Rattle.dp_plan.specs.declared.Plan.{Plan}
-use Rattle.dp_semantics.specs.Clean.{count_from}
+use Rattle.dp_tree.specs.Numbering.{numbers_from}
 use Rattle.dp_semantics.specs.Recovery.{is_recovered}
 use Rattle.dp_semantics.specs.Reported.{report_of, region_report}
 use Rattle.dp_tree.specs.Iteration.{begun_count}
@@ -13,9 +13,9 @@ use Rattle.dp_meaning.specs.MachineState.{MachineState}
 use Rattle.dp_commit.specs.CommittedState.{region_run}
 use Rattle.dp_crew.specs.Progress.{again_before, report_before}
 
-count_push : (k n : ℕ) → count_from k (suc n) ≡ count_from k n ++ (k + n) ∷ []
+count_push : (k n : ℕ) → numbers_from k (suc n) ≡ numbers_from k n ++ (k + n) ∷ []
 count_push k zero = let e : k ≡ k + 0 = omega arith in ap (λ (j : ℕ). j ∷ []) e
-count_push k (suc n) = let e : suc k + n ≡ k + suc n = omega arith in ap (λ (js : List ℕ). k ∷ js) (count_push (suc k) n ∙ ap (λ (j : ℕ). count_from (suc k) n ++ j ∷ []) e)
+count_push k (suc n) = let e : k + 1 + n ≡ k + suc n = omega arith in ap (λ (js : List ℕ). k ∷ js) (count_push (k + 1) n ∙ ap (λ (j : ℕ). numbers_from (k + 1) n ++ j ∷ []) e)
 
 filter_join : (test : ℕ → Bool) (xs : List ℕ) (k : ℕ) → filter test (xs ++ k ∷ []) ≡ filter test xs ++ cond (test k) (k ∷ []) []
 filter_join test [] k = refl
@@ -63,7 +63,7 @@ report_counts r n again f report number e =
 
 module _ (plan : Plan) (first : MachineState) (i : ℕ) where
   again_next : again_before plan first (suc i) ≡ again_before plan first i ++ cond (is_recovered first.program plan (region_run first) i) (i ∷ []) []
-  again_next = ap (filter (is_recovered first.program plan (region_run first))) (count_push 0 i ∙ (let e : 0 + i ≡ i = omega arith in ap (λ (j : ℕ). count_from 0 i ++ j ∷ []) e)) ∙ filter_join (is_recovered first.program plan (region_run first)) (count_from 0 i) i
+  again_next = ap (filter (is_recovered first.program plan (region_run first))) (count_push 0 i ∙ (let e : 0 + i ≡ i = omega arith in ap (λ (j : ℕ). numbers_from 0 i ++ j ∷ []) e)) ∙ filter_join (is_recovered first.program plan (region_run first)) (numbers_from 0 i) i
 
   -- a clean iteration isn't listed
   pub again_clean : is_recovered first.program plan (region_run first) i ≡ false → again_before plan first (suc i) ≡ again_before plan first i
@@ -78,11 +78,11 @@ module _ (plan : Plan) (first : MachineState) (i : ℕ) where
   whole_report e = ap (report_before plan first) (sym e)
 
 -- fewer iterations are executed again than were begun
-pub again_few : (test : ℕ → Bool) (k n : ℕ) → length (filter test (count_from k n)) ≤ n
+pub again_few : (test : ℕ → Bool) (k n : ℕ) → length (filter test (numbers_from k n)) ≤ n
 again_few test k zero = omega arith
-again_few test k (suc n) = by (test k) (again_few test (suc k) n)
+again_few test k (suc n) = by (test k) (again_few test (k + 1) n)
   where
-    by : (b : Bool) → length (filter test (count_from (suc k) n)) ≤ n → length (cond b (k ∷ filter test (count_from (suc k) n)) (filter test (count_from (suc k) n))) ≤ suc n
+    by : (b : Bool) → length (filter test (numbers_from (k + 1) n)) ≤ n → length (cond b (k ∷ filter test (numbers_from (k + 1) n)) (filter test (numbers_from (k + 1) n))) ≤ suc n
     by true h = omega (arith, h)
     by false h = omega (arith, h)
 

@@ -26,7 +26,7 @@ filled (line ∷ rest) each = and_from (lists_site line) (list_all lists_site re
 
 pub planned_fits : (p : Program) (plan : Plan) → IsPlanned p plan → fits_plan p plan ≡ true
 planned_fits p plan q =
-    let order = in_order p q.inlined q.sites plan q.counted (omega (arith, q.known)) in
+    let order = in_order p q.inlined plan q.counted (omega (arith, q.known)) in
     valid_fits p plan q.inlined (written_of p plan) (record {
       valid = valid_unbroken p (written_of p plan) q.is_plan.valid;
       filled = filled (written_of p plan).stages (plan_fits p plan q.is_plan order).stages;

@@ -6,7 +6,7 @@ use Rattle.dp_tree.specs.InMain.{StandsInMain}
 use Rattle.dp_tree.specs.Numbering.{regions_in_order}
 use Rattle.dp_plan.specs.declared.Plan.{Plan}
 use Rattle.dp_semantics.specs.Cause.{cause}
-use Rattle.dp_semantics.specs.Clean.{count_from}
+use Rattle.dp_tree.specs.Numbering.{numbers_from}
 use Rattle.dp_semantics.specs.Fits.{fits_plan}
 use Rattle.dp_semantics.specs.Recovery.{is_recovered}
 use Rattle.dp_semantics.specs.Reported.{reported, report_of, region_report}
@@ -31,7 +31,7 @@ cause_of plan first i = reported (cause first.program plan (region_run first) i)
 
 -- of the first n iterations those that are executed again
 abbrev pub again_before : Plan → MachineState → ℕ → List ℕ
-again_before plan first n = filter (is_recovered first.program plan (region_run first)) (count_from 0 n)
+again_before plan first n = filter (is_recovered first.program plan (region_run first)) (numbers_from 0 n)
 
 -- the report of the first n iterations
 abbrev pub report_before : Plan → MachineState → ℕ → RegionReport

@@ -1,5 +1,5 @@
 -- A region from start to end: where it may begin, and where the machine stands when it has ended.
-use Rattle.std.specs.Prelude.{◌≡◌, ◌≢◌, ℕ, suc, ◌+◌, ◌<◌, ◌≤◌, ◌^◌, true, false, List, [], ℤ, drop, length, map, None}
+use Rattle.std.specs.Prelude.{◌≡◌, ◌≢◌, ℕ, suc, ◌+◌, ◌<◌, ◌≤◌, true, false, List, [], ℤ, drop, length, map, None}
 use Rattle.dp_tree.specs.declared.Program.{Program}
 use Rattle.dp_tree.specs.Inlined.{IsInlined}
 use Rattle.dp_tree.specs.InMain.{StandsInMain}
@@ -24,7 +24,6 @@ region_prints run r = prints (events_of_first run r (begun_count run r))
 -- an inlined program, and a plan that is given for one of its regions
 pub record IsPlanned (p : Program) (plan : Plan) : Type 0 where
   pub inlined : IsInlined p
-  pub sites : length p.sites < 2 ^ 32
   pub is_plan : IsPlan p plan
   pub counted : 1 ≤ plan.region
   pub known : plan.region ≤ length p.regions

@@ -1,5 +1,5 @@
 -- A least plan is a valid one.
-use Rattle.std.proofs.Common.{◌≡◌, refl, sym, ap, subst, ◌∙◌, ℕ, zero, suc, ◌+◌, ◌-◌, ◌<◌, ◌≤◌, ◌^◌, ◌==◌, not, if◌then◌else◌, Bool, true, false, is_none, List, [], ◌∷◌, map, length, slice_index, Option, Contains, inl, inr, arith, eq-eqb, le-leb}
+use Rattle.std.proofs.Common.{◌≡◌, refl, sym, ap, subst, ◌∙◌, ℕ, zero, suc, ◌+◌, ◌-◌, ◌<◌, ◌≤◌, ◌==◌, not, if◌then◌else◌, Bool, true, false, is_none, List, [], ◌∷◌, map, length, slice_index, Option, Contains, inl, inr, arith, eq-eqb, le-leb}
 use Rattle.std.proofs.lemmas.Bool.{or_from, or_right}
 use Rattle.std.proofs.lemmas.List.{length-map}
 use Rattle.dp_tree.specs.declared.Program.{Program}
@@ -175,12 +175,12 @@ module _ (p : Program) (r : ℕ) (profile : Option Profile) (rate : ℕ) (ready 
     table = refl;
   }
 
-pub least_valid : (p : Program) → IsInlined p → length p.sites < 2 ^ 32 → (r : ℕ) → 1 ≤ r → r < 1 + length p.regions → (profile : Option Profile) (rate most workers : ℕ) → most < 9 → (plan : Plan) → IsAutomatic p r profile rate most workers plan → IsPlan p plan
-least_valid p inlined small r low high profile rate most workers few plan is =
+pub least_valid : (p : Program) → IsInlined p → (r : ℕ) → 1 ≤ r → r < 1 + length p.regions → (profile : Option Profile) (rate most workers : ℕ) → most < 9 → (plan : Plan) → IsAutomatic p r profile rate most workers plan → IsPlan p plan
+least_valid p inlined r low high profile rate most workers few plan is =
     let weights = weights_of p r profile in
     let carried = carried_pairs is.places (first_of p r) (edges_of p r profile rate) in
     let cut = is.least.cut in
     let allowed = is.least.least.allowed in
     let count : length (unit_weights (length is.order) is.places weights) ≡ length is.order = length-map _ _ ∙ length-numbers_from 0 (length is.order) in
     let stages : AreStages carried (length is.order) true 0 cut = subst (λ (n : ℕ). AreStages carried n true 0 cut) count allowed.0 in
-    subst (IsPlan p) (sym is.least.is) (cut_valid p r profile rate (region_ready p inlined small r low high profile rate) is.order is.places is.ordered is.placed carried cut stages (omega (arith, allowed.1, few)))
+    subst (IsPlan p) (sym is.least.is) (cut_valid p r profile rate (region_ready p inlined r low high profile rate) is.order is.places is.ordered is.placed carried cut stages (omega (arith, allowed.1, few)))

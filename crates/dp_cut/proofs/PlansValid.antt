@@ -1,5 +1,5 @@
 -- The automatic plans of an inlined program are valid.
-use Rattle.std.proofs.Common.{◌≡◌, sym, ap, subst, ℕ, zero, suc, ◌+◌, ◌<◌, ◌≤◌, ◌^◌, Bool, true, List, [], ◌∷◌, map, length, Option, arith}
+use Rattle.std.proofs.Common.{◌≡◌, sym, ap, subst, ℕ, zero, suc, ◌+◌, ◌<◌, ◌≤◌, Bool, true, List, [], ◌∷◌, map, length, Option, arith}
 use Rattle.dp_tree.specs.declared.Program.{Program}
 use Rattle.dp_tree.specs.Inlined.{IsInlined}
 use Rattle.dp_tree.specs.Numbering.{numbers_from}
@@ -15,7 +15,7 @@ one_version : (plans : List Plan) → Each (HasVersion true) plans → Each (Has
 one_version [] each = tt
 one_version (plan ∷ rest) each = subst (λ (v : Bool). Each (HasVersion v) (plan ∷ rest)) (sym each.0) each
 
-module _ (p : Program) (inlined : IsInlined p) (small : length p.sites < 2 ^ 32) (profile : Option Profile) (rate most workers : ℕ) where
+module _ (p : Program) (inlined : IsInlined p) (profile : Option Profile) (rate most workers : ℕ) where
   abbrev Least : Plan → Type 0
   Least plan = IsAutomatic p plan.region profile rate most workers plan
 
@@ -29,7 +29,7 @@ module _ (p : Program) (inlined : IsInlined p) (small : length p.sites < 2 ^ 32)
   each_valid (plan ∷ rest) few k (suc n) low high numbers each =
       let here : plan.region ≡ k = cc numbers in
       let later : map region_of rest ≡ numbers_from (k + 1) n = cc numbers in (
-        least_valid p inlined small plan.region (omega (arith, here, low)) (omega (arith, here, high)) profile rate most workers few plan each.0,
+        least_valid p inlined plan.region (omega (arith, here, low)) (omega (arith, here, high)) profile rate most workers few plan each.0,
         each_valid rest few (k + 1) n (omega arith) (omega (arith, high)) later each.1,
       )
 

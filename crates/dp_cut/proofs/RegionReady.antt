@@ -1,5 +1,5 @@
 -- What is so of a region of an inlined program and of its dependences: its condition leads to all its sites.
-use Rattle.std.proofs.Common.{◌≡◌, refl, sym, ap, subst, ◌∙◌, ℕ, zero, suc, ◌+◌, ◌-◌, ◌<◌, ◌≤◌, ◌^◌, true, false, List, [], ◌∷◌, map, length, Option, Contains, arith}
+use Rattle.std.proofs.Common.{◌≡◌, refl, sym, ap, subst, ◌∙◌, ℕ, zero, suc, ◌+◌, ◌-◌, ◌<◌, ◌≤◌, true, false, List, [], ◌∷◌, map, length, Option, Contains, arith}
 use Rattle.dp_tree.specs.declared.Program.{Program}
 use Rattle.dp_tree.specs.Inlined.{IsInlined}
 use Rattle.dp_plan.specs.Each.{AscendAbove}
@@ -34,7 +34,7 @@ pub record IsReady (p : Program) (r : ℕ) (profile : Option Profile) (rate : �
   -- walks lead from the condition to all sites
   pub leads : (b : ℕ) → b < length (region_nodes p r) → Walk (node_pairs p r profile rate) 0 b
 
-module _ (p : Program) (inlined : IsInlined p) (small : length p.sites < 2 ^ 32) (r : ℕ) (low : 1 ≤ r) (high : r < 1 + length p.regions) (profile : Option Profile) (rate : ℕ) where
+module _ (p : Program) (inlined : IsInlined p) (r : ℕ) (low : 1 ≤ r) (high : r < 1 + length p.regions) (profile : Option Profile) (rate : ℕ) where
   abbrev all : List Node
   all = region_nodes p r
 
@@ -45,7 +45,7 @@ module _ (p : Program) (inlined : IsInlined p) (small : length p.sites < 2 ^ 32)
   first = first_of p r
 
   order : InOrder p (plan_of_cut p r [] [] [])
-  order = in_order p inlined small (plan_of_cut p r [] [] []) low high
+  order = in_order p inlined (plan_of_cut p r [] [] []) low high
 
   ascends : Ascends (first_of p r) (region_sites p r)
   ascends = order.order

@@ -115,7 +115,6 @@ fn least_plan(alloc: Global, p: &Program, region: u32, wishes: Wishes<'_>) -> Re
 /// The automatic plans of an inlined program: for each region, in order, the least plan of its units. They are valid plans.
 pub fn least_plans(alloc: Global, p: &Program, wishes: Wishes<'_>) -> Result<Row<Plan>, NoMemory>
     requires inlined { IsInlined p.now }
-    requires sites { length p.now.sites < 2 ^ 32 }
     requires stages { 0 < wishes.stages }
     requires few_stages { wishes.stages < 9 }
     requires workers { 0 < wishes.workers }

@@ -1,5 +1,5 @@
 //! Laws of the automatic plans, as contracts of functions that do nothing.
-ghost use Rattle.std.specs.Prelude.{◌≡◌, ◌<◌, ◌^◌, ℕ, List, Option, length};
+ghost use Rattle.std.specs.Prelude.{◌≡◌, ◌<◌, ℕ, List, Option};
 ghost use Rattle.dp_tree.specs.Inlined.{IsInlined};
 ghost use Rattle.dp_plan.specs.declared.Plan.{Plan};
 ghost use Rattle.dp_plan.specs.GivenPlans.{ArePlans};
@@ -19,7 +19,6 @@ pub fn automatic_plans_are_one(p: &Program)
 #[tactic(auto, using(crate::proofs::PlansValid::automatic_valid))]
 pub fn least_plans_are_valid(p: &Program)
     requires inlined { IsInlined p.now }
-    requires sites { length p.now.sites < 2 ^ 32 }
     ensures { (profile : Option Profile) (rate most workers : ℕ) (plans : List Plan) → most < 9 →
         AreAutomatic p.now profile rate most workers plans → ArePlans p.now plans }
 {}

@@ -42,14 +42,14 @@ number_before (Some number) place (Ok numbers) = Ok (number ∷ numbers)
 number_before (Some number) place (Err fail) = Err fail
 
 -- the numbers of all words, the first of which stands at a place; or the refusal of the first word that is no number
-abbrev pub numbers_from : ℕ → List (List ℕ) → Result (List ℤ) InputFail
-numbers_from place [] = Ok []
-numbers_from place (word ∷ words) = number_before (number_of word) place (numbers_from (place + 1) words)
+abbrev pub numbers_at : ℕ → List (List ℕ) → Result (List ℤ) InputFail
+numbers_at place [] = Ok []
+numbers_at place (word ∷ words) = number_before (number_of word) place (numbers_at (place + 1) words)
 
 -- What a text is read as: too many words come before a word that is no number, and are counted as far as counts
 -- are reported. Words are counted from 1.
 abbrev pub numbers_of : List ℕ → Result (List ℤ) InputFail
-numbers_of text = if nat_le (length (words text)) INPUT_WORDS then numbers_from 1 (words text) else Err (TooMany (min (length (words text)) COUNTED))
+numbers_of text = if nat_le (length (words text)) INPUT_WORDS then numbers_at 1 (words text) else Err (TooMany (min (length (words text)) COUNTED))
 
 -- the answer is the wanted one, or want of memory
 abbrev pub AnswersInput : Result (List ℤ) InputFail → Result (List ℤ) InputFail → Type 0

@@ -1,7 +1,7 @@
 //! The reader of input texts.
 ghost use Rattle.std.specs.Prelude.{◌≡◌, ℕ, ◌+◌, ◌<◌, ◌≤◌, ◌^◌, ◌∷◌, [], not, length, IfSome, MatchOption};
 ghost use Rattle.std.specs.List.{position};
-ghost use Rattle.dp_edge.specs.Input.{is_blank, words, number_of, numbers_from, numbers_of, AnswersInput};
+ghost use Rattle.dp_edge.specs.Input.{is_blank, words, number_of, numbers_at, numbers_of, AnswersInput};
 ghost use Rattle.dp_edge.specs.Digits.{digit_after, magnitude_of};
 
 use dp_base::limits::{COUNTED, INPUT_WORDS};
@@ -107,7 +107,7 @@ fn number(word: &[u8]) -> Option<i64>
 
 fn read_words(alloc: Global, text: &[u8], count: usize) -> Result<Row<i64>, InputFail>
     requires { length (words text.now) ≤ INPUT_WORDS }
-    ensures { AnswersInput result (numbers_from 1 (words text.now)) }
+    ensures { AnswersInput result (numbers_at 1 (words text.now)) }
 {
     let mut numbers = Row::with_capacity(alloc, count)?;
     let mut rest = text;

@@ -9,5 +9,6 @@ pub mod SizeForms
 pub mod SizeLemmas
 pub mod LimitLemmas
 pub mod SiteCount
+pub mod FewSites
 pub mod MeaningLemmas
 pub mod rows

@@ -1,14 +1,14 @@
 -- What is so of the program that is made, since it is the expansion.
-use Rattle.std.proofs.Common.{◌≡◌, refl, sym, subst, Option, Some, None, Result, Ok, Err, IfOk}
+use Rattle.std.proofs.Common.{◌≡◌, sym, subst, Option, Some, None, Result, Ok, Err, IfOk}
 use Rattle.dp_tree.specs.declared.Program.{Program}
 use Rattle.dp_tree.specs.Checked.{IsChecked}
 use Rattle.dp_tree.specs.Inlined.{IsInlined}
 use Rattle.dp_calls.specs.Expand.{expand}
-use Rattle.dp_calls.proofs.InlinedLaws.{expanded_is_inlined}
 use Rattle.dp_calls.proofs.SameMeanings.{same_meaning}
 use Rattle.dp_inline.specs.declared.fail.InlineFail.{InlineFail}
 use Rattle.dp_inline.specs.Verdict.{Gives, unless, too_large, first_large_region, verdict}
 use Rattle.dp_inline.specs.Same.{DoesTheSame}
+use Rattle.dp_inline.proofs.FewSites.{given_is_inlined}
 
 -- what is given is the expansion
 pub expands : (p q : Program) → verdict p ≡ Ok q → q ≡ expand p
@@ -25,7 +25,7 @@ same p (Ok q) checked h = subst (DoesTheSame p) (sym (expands p q h)) (same_mean
 same p (Err fail) checked h = tt
 
 pub inlined : (p : Program) (result : Result Program InlineFail) → IsChecked p → Gives (verdict p) result → IfOk result IsInlined
-inlined p (Ok q) checked h = subst IsInlined (sym (expands p q h)) (expanded_is_inlined p checked)
+inlined p (Ok q) checked h = subst IsInlined (sym (expands p q h)) (given_is_inlined p checked q h)
 inlined p (Err fail) checked h = tt
 
 pub ruleset meanings = (same, inlined)

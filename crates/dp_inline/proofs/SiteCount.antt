@@ -77,7 +77,7 @@ module _ (p : Program) where
           let e = called f r bound.names bound.tables in
           omega (arith, b, e)
 
-      count_rows : {m : _} (r : ℕ) (rows : Row_of-Stmt m) (names : List Renamed) (t : Tables) → Listed p (site_numbers_in rows) → (q n : ℕ) (visible : List ℕ) → rows_in_scope p q n visible rows ≡ true
+      pub count_rows : {m : _} (r : ℕ) (rows : Row_of-Stmt m) (names : List Renamed) (t : Tables) → Listed p (site_numbers_in rows) → (q n : ℕ) (visible : List ℕ) → rows_in_scope p q n visible rows ≡ true
           → length (expand_rows p calls r rows names t).tables.sites ≡ length t.sites + size_rows 0 c rows
       count_rows r end_of-Stmt names t h q n visible k = omega arith
       count_rows r (more_of-Stmt s rest) names t h q n visible k =
@@ -112,7 +112,7 @@ module _ (p : Program) where
   scoped_body n (fn ∷ fs) (suc f) h = scoped_body (suc n) fs f (and_true (function_in_scope p n fn) (functions_in_scope p (suc n) fs) h).1
 
   module _ (checked : IsChecked p) where
-    count_within : (depth f r : ℕ) (names : List Renamed) (t : Tables) → length (calls_within p depth f r names t).tables.sites ≡ length t.sites + size_within p 0 depth f
+    pub count_within : (depth f r : ℕ) (names : List Renamed) (t : Tables) → length (calls_within p depth f r names t).tables.sites ≡ length t.sites + size_within p 0 depth f
     count_within zero f r names t = omega arith
     count_within (suc depth) f r names t =
         let body = scoped_body 0 p.functions f (scopes 0 p checked).0 in

@@ -7,7 +7,7 @@ use Rattle.dp_tree.specs.declared.Program.{Program}
 use Rattle.dp_tree.specs.declared.VarInfo.{VarInfo}
 use Rattle.dp_tree.specs.Trace.{start_cells}
 use Rattle.dp_tree.specs.Step.{is_local_of, clear_locals, region_number, clear_one, cleared_leaving}
-use Rattle.dp_meaning.specs.NextIteration.{with_stores}
+use Rattle.dp_semantics.specs.Told.{with_stores}
 use Rattle.dp_meaning.specs.Places.{first_of, first_region}
 
 -- a store past the end changes nothing

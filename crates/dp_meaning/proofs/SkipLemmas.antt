@@ -11,7 +11,7 @@ use Rattle.dp_tree.proofs.Heads.{taken, stepped, not_stepped}
 use Rattle.dp_tree.proofs.InMain.{next_at}
 use Rattle.dp_meaning.specs.declared.ends.Part.TheVariants as part
 use Rattle.dp_meaning.specs.MachineState.{part_from, part_of}
-use Rattle.dp_meaning.specs.NextIteration.{stores, with_stores}
+use Rattle.dp_semantics.specs.Told.{stores_of, with_stores}
 use Rattle.dp_meaning.specs.Runnable.{is_inside}
 use Rattle.dp_meaning.proofs.OuterLemmas.{both, all_inside, inside_at, inside_out}
 use Rattle.dp_meaning.proofs.ClearLemmas.{cleared_twice}
@@ -26,11 +26,11 @@ after_more [] event cells = refl
 after_more (e ∷ es) event cells = after_more es event (stored e.effect cells)
 
 -- an event's store is the change that it makes
-pub stores_are_changes : (events : List Event) (cells : List ℤ) → with_stores (stores events) cells ≡ after_events events cells
+pub stores_are_changes : (events : List Event) (cells : List ℤ) → with_stores (stores_of events) cells ≡ after_events events cells
 stores_are_changes [] cells = refl
 stores_are_changes (e ∷ events) cells = by e.effect (λ next. stores_are_changes events next)
   where
-    by : (effect : Effect) → ((next : List ℤ) → with_stores (stores events) next ≡ after_events events next) → with_stores (stores (record e { effect = effect } ∷ events)) cells ≡ after_events events (stored effect cells)
+    by : (effect : Effect) → ((next : List ℤ) → with_stores (stores_of events) next ≡ after_events events next) → with_stores (stores_of (record e { effect = effect } ∷ events)) cells ≡ after_events events (stored effect cells)
     by (Stored c v) go = go (stored (Stored c v) cells)
     by (Printed v) go = go cells
     by (Decided v) go = go cells

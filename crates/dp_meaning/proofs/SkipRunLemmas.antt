@@ -14,7 +14,8 @@ use Rattle.dp_meaning.specs.declared.ends.Part.TheVariants as part
 use Rattle.dp_meaning.specs.Continues.{Continues}
 use Rattle.dp_meaning.specs.MachineState.{MachineState, fuel_left, rest_of_run, part_of, next_part, from_region}
 use Rattle.dp_meaning.specs.IterationRun.{IterationRun, IterationStops, HeadsOnce, has_closed, current_after, upto_closing, Awaits}
-use Rattle.dp_meaning.specs.NextIteration.{NextIteration, stores, with_stores, end_of}
+use Rattle.dp_semantics.specs.Told.{stores_of, with_stores}
+use Rattle.dp_meaning.specs.NextIteration.{NextIteration, end_of}
 use Rattle.dp_meaning.specs.Runnable.{is_outer}
 use Rattle.dp_meaning.specs.Sound.{IsSound, UnderWay}
 use Rattle.dp_meaning.specs.Standing.{IsEndOfMain}
@@ -136,7 +137,7 @@ module _ (region : ℕ) (m : MachineState) (made : List StoreOf) (steps : ℕ) (
         omega (arith, f, g, size, within)
 
     cells_are : with_stores made m.config.cells ≡ after_events w.ended.run.events m.config.cells
-    cells_are = ap (λ (list : List StoreOf). with_stores list m.config.cells) (next.stores_are ∙ ap stores w.is) ∙ stores_are_changes w.ended.run.events m.config.cells
+    cells_are = ap (λ (list : List StoreOf). with_stores list m.config.cells) (next.stores_are ∙ ap stores_of w.is) ∙ stores_are_changes w.ended.run.events m.config.cells
 
     left : (c : Bool) (e : Ended region (suc (fuel_left m)) m here still c) → e.new.config.to_do ≡ (if c then behind_region m.config.to_do else m.config.to_do)
     left true e = e.run.stops.rest ∙ sym (left_behind m.config.to_do)

@@ -1,6 +1,6 @@
 //! Changes of a program's memory.
 ghost use Rattle.std.specs.Prelude.{◌≡◌, if◌then◌else◌, pos, slice_set, length, ◌^◌, ◌<◌, IfOk};
-ghost use Rattle.dp_meaning.specs.NextIteration.{with_stores};
+ghost use Rattle.dp_semantics.specs.Told.{with_stores};
 ghost use Rattle.dp_tree.specs.Step as definition;
 ghost use Rattle.dp_tree.specs.Trace as definition_of_runs;
 

@@ -1,5 +1,5 @@
 -- What the units of a region run on.
-use Rattle.std.specs.Prelude.{◌≡◌, ◌≤◌, ◌<◌, ◌^◌, ℕ, ◌+◌, true, List, Some, length, slice_get}
+use Rattle.std.specs.Prelude.{◌≡◌, ◌≤◌, ◌<◌, ℕ, ◌+◌, true, Some, slice_get}
 use Rattle.dp_tree.specs.Inlined.{IsInlined}
 use Rattle.dp_plan.specs.GivenPlans.{IsPlan}
 use Rattle.dp_plan.specs.CheckedTable.{IsTabled}
@@ -14,7 +14,6 @@ use Rattle.dp_pipeline.specs.Keys.{key_of}
 -- an inlined program, a plan that fits one of its regions, and the code of its stages
 pub record IsSetting (x : Setting) : Type 0 where
   pub inlined : IsInlined x.p.now
-  pub sites : length x.p.now.sites < 2 ^ 32
   pub is_plan : IsPlan x.p.now x.plan.now
   pub fits : fits_plan x.p.now x.plan.now ≡ true
   pub tabled : IsTabled x.p.now x.plan.now

@@ -1,5 +1,5 @@
 //! The pipeline of an epoch.
-ghost use Rattle.std.specs.Prelude.{◌≡◌, ◌≤◌, ◌<◌, ◌^◌, length, IfOk};
+ghost use Rattle.std.specs.Prelude.{◌≡◌, ◌≤◌, length, IfOk};
 ghost use Rattle.dp_tree.specs.Inlined.{IsInlined};
 ghost use Rattle.dp_plan.specs.GivenPlans.{IsPlan};
 ghost use Rattle.dp_semantics.specs.EpochCauses.{IsSound};
@@ -43,7 +43,6 @@ impl<'u> Pipeline<'u> {
         setter: &mut StopSetter,
     ) -> Result<Pipeline<'u>, NoMemory>
         requires inlined { IsInlined p.now }
-        requires sites { length p.now.sites < 2 ^ 32 }
         requires plan { IsPlan p.now plan.now }
         requires programs { ArePrograms p.now plan.now programs.now }
         requires words { length input.now ≤ 65536 }

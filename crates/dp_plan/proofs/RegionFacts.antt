@@ -20,12 +20,12 @@ pub record InOrder (p : Program) (plan : Plan) : Type 0 where
   pub low : 1 ≤ first_site p plan
   pub high : first_site p plan + length (region_sites p plan.region) ≤ 2 ^ 32
 
-module _ (p : Program) (inlined : IsInlined p) (small : length p.sites < 2 ^ 32) where
+module _ (p : Program) (inlined : IsInlined p) where
   many : length (site_numbers_all p.main) ≡ length p.sites
   many = ap length inlined.sites ∙ length-numbers_from 1 (length p.sites)
 
   pub few_regions : length p.regions < 2 ^ 32
-  few_regions = omega (arith, small, many, fewer_regions p.main p.regions inlined.table)
+  few_regions = omega (arith, inlined.few, many, fewer_regions p.main p.regions inlined.table)
 
   pub in_order : (plan : Plan) → 1 ≤ plan.region → plan.region < 1 + length p.regions → InOrder p plan
   in_order plan low high = by (find_region p.main 1 1 p.regions inlined.regions inlined.table (subst (λ (ns : List ℕ). Ascends 1 ns) (sym inlined.sites) (ascends-numbers_from 1 (length p.sites))) plan.region)
@@ -39,5 +39,5 @@ module _ (p : Program) (inlined : IsInlined p) (small : length p.sites < 2 ^ 32)
           record {
             order = subst (λ (ns : List ℕ). Ascends (first_site p plan) ns) (sym same) (subst (λ (i : ℕ). Ascends i (map site_in (accesses region.statement))) (sym first) region.sites);
             low = omega (arith, first, least);
-            high = omega (arith, first, most, many, small, long);
+            high = omega (arith, first, most, many, inlined.few, long);
           }

@@ -47,5 +47,5 @@ module _ (p : Program) (small : length p.regions < 2 ^ 32) (bytes : List ℕ) wh
   read_only plans s (Err (Invalid rule site)) t = absurd (cc (sym s.3 ∙ ap (first_fault p) (one_list s.0 t.0 s.1 t.1 s.2 t.2) ∙ t.3))
   read_only plans s (Err NoMemory) t = inr refl
 
-pub read_back_only : (p : Program) → IsInlined p → length p.sites < 2 ^ 32 → (plans : List Plan) → ArePlans p plans → ReadsOnly p (plans_text p plans) plans
-read_back_only p inlined small plans are = read_only p (few_regions p inlined small) (plans_text p plans) plans (read_back p inlined small plans are)
+pub read_back_only : (p : Program) → IsInlined p → (plans : List Plan) → ArePlans p plans → ReadsOnly p (plans_text p plans) plans
+read_back_only p inlined plans are = read_only p (few_regions p inlined) (plans_text p plans) plans (read_back p inlined plans are)

@@ -1,5 +1,5 @@
 -- What is written of plans is read back.
-use Rattle.std.proofs.Common.{◌≡◌, refl, sym, ap, ◌∙◌, ℕ, suc, ◌+◌, ◌<◌, ◌≤◌, ◌^◌, zero, Bool, List, [], ◌∷◌, map, length, None, arith}
+use Rattle.std.proofs.Common.{◌≡◌, refl, sym, ap, ◌∙◌, ℕ, suc, ◌+◌, ◌≤◌, zero, Bool, List, [], ◌∷◌, map, length, None, arith}
 use Rattle.dp_tree.specs.declared.Program.{Program}
 use Rattle.dp_tree.specs.Inlined.{IsInlined}
 use Rattle.dp_tree.specs.Numbering.{numbers_from}
@@ -43,14 +43,14 @@ all_back p v (plan ∷ rest) ready same =
     ap (λ (l : List Plan). plan ∷ l) (all_back p v rest ready.1 same.1)
     ∙ ap (λ (q : Plan). q ∷ map (plan_of p v) (map (written_of p) rest)) (sym (plan_back p plan ready.0.is ready.0.order) ∙ ap (λ (b : Bool). plan_of p b (written_of p plan)) same.0)
 
-module _ (p : Program) (inlined : IsInlined p) (small : length p.sites < 2 ^ 32) where
+module _ (p : Program) (inlined : IsInlined p) where
   all_ready : (plans : List Plan) (k n : ℕ) → 1 ≤ k → k + n ≤ 1 + length p.regions → map region_of plans ≡ numbers_from k n → Each (IsPlan p) plans → Each (Ready p) plans
   all_ready [] k n low high numbers are = tt
   all_ready (plan ∷ rest) k zero low high numbers are = absurd (cc numbers)
   all_ready (plan ∷ rest) k (suc n) low high numbers are =
       let here : plan.region ≡ k = cc numbers in
       let later : map region_of rest ≡ numbers_from (k + 1) n = cc numbers in (
-        record { is = are.0; order = in_order p inlined small plan (omega (arith, here, low)) (omega (arith, here, high)) },
+        record { is = are.0; order = in_order p inlined plan (omega (arith, here, low)) (omega (arith, here, high)) },
         all_ready rest (k + 1) n (omega arith) (omega (arith, high)) later are.1,
       )
 
@@ -61,7 +61,7 @@ module _ (p : Program) (inlined : IsInlined p) (small : length p.sites < 2 ^ 32)
       let numbers : map region_number (map (written_of p) plans) ≡ numbers_from 1 (length p.regions) = numbers_same p plans ∙ are.regions in
       let fit = all_fit p plans ready in
       let text : PlanText p (plans_text p plans) (version_of plans) (map (written_of p) plans) = record {
-        lines_are = lines_whole (plan_lines (version_of plans) ws) (all_lines_fit (version_of plans) ws (length p.regions) numbers (few_regions p inlined small) fit);
+        lines_are = lines_whole (plan_lines (version_of plans) ws) (all_lines_fit (version_of plans) ws (length p.regions) numbers (few_regions p inlined) fit);
         regions = numbers;
         fit = fit;
       } in

@@ -1,5 +1,5 @@
 -- The plan that a valid written plan stands for fits its region, and what a text is read as are such plans.
-use Rattle.std.proofs.Common.{◌≡◌, refl, sym, ap, subst, ◌∙◌, ℕ, zero, suc, ◌+◌, ◌<◌, ◌≤◌, ◌^◌, Bool, true, false, List, [], ◌∷◌, map, length, Option, Some, None, is_none, inl, inr, arith}
+use Rattle.std.proofs.Common.{◌≡◌, refl, sym, ap, subst, ◌∙◌, ℕ, zero, suc, ◌+◌, ◌≤◌, Bool, true, false, List, [], ◌∷◌, map, length, Option, Some, None, is_none, inl, inr, arith}
 use Rattle.std.proofs.lemmas.Bool.{cases_Bool, ltb-false}
 use Rattle.std.proofs.lemmas.List.{length-map}
 use Rattle.dp_tree.specs.declared.Program.{Program}
@@ -101,7 +101,7 @@ faultless : (first later : Option BrokenRule) → or_later first later ≡ None 
 faultless None later e = (refl, e)
 faultless (Some broken) later e = absurd (cc e)
 
-module _ (p : Program) (v : Bool) (inlined : IsInlined p) (small : length p.sites < 2 ^ 32) where
+module _ (p : Program) (v : Bool) (inlined : IsInlined p) where
   each_is : (ws : List WrittenPlan) (k n : ℕ) → 1 ≤ k → k + n ≤ 1 + length p.regions → map region_number ws ≡ numbers_from k n → Each PlanFits ws → first_fault p ws ≡ None → Each (IsPlan p) (map (plan_of p v) ws)
   each_is [] k n low high numbers fit holds = tt
   each_is (w ∷ rest) k zero low high numbers fit holds = absurd (cc numbers)
@@ -109,11 +109,11 @@ module _ (p : Program) (v : Bool) (inlined : IsInlined p) (small : length p.site
       let here : w.region ≡ k = cc numbers in
       let later : map region_number rest ≡ numbers_from (k + 1) n = cc numbers in
       let both = faultless (first_broken p w) (first_fault p rest) holds in (
-        plan_is p v w both.0 fit.0 (in_order p inlined small (plan_of p v w) (omega (arith, here, low)) (omega (arith, here, high))),
+        plan_is p v w both.0 fit.0 (in_order p inlined (plan_of p v w) (omega (arith, here, low)) (omega (arith, here, high))),
         each_is rest (k + 1) n (omega arith) (omega (arith, high)) later fit.1 both.1,
       )
 
-module _ (p : Program) (inlined : IsInlined p) (small : length p.sites < 2 ^ 32) where
+module _ (p : Program) (inlined : IsInlined p) where
   pub read_fits : (bytes : List ℕ) (plans : List Plan) → StandsFor p bytes plans → ArePlans p plans
   read_fits bytes plans stands =
       let v = stands.0 in
@@ -122,5 +122,5 @@ module _ (p : Program) (inlined : IsInlined p) (small : length p.sites < 2 ^ 32)
       subst (λ (qs : List Plan). ArePlans p qs) (sym stands.4) (record {
         regions = numbers_same p v ws ∙ text.regions;
         version = one_version p v ws;
-        each = each_is p v inlined small ws 1 (length p.regions) (omega arith) (omega arith) text.regions text.fit stands.3;
+        each = each_is p v inlined ws 1 (length p.regions) (omega arith) (omega arith) text.regions text.fit stands.3;
       })

@@ -1,5 +1,5 @@
 -- In an inlined program the sites of regions and the regions are few, so that their numbers have 32 bits.
-use Rattle.std.proofs.Common.{◌≡◌, refl, sym, ap, subst, ◌∙◌, ℕ, suc, ◌+◌, ◌<◌, ◌≤◌, ◌^◌, Bool, true, false, List, [], ◌∷◌, ◌++◌, map, filter, length, length-append, arith}
+use Rattle.std.proofs.Common.{◌≡◌, refl, sym, ap, subst, ◌∙◌, ℕ, suc, ◌+◌, ◌≤◌, Bool, true, false, List, [], ◌∷◌, ◌++◌, map, filter, length, length-append, arith}
 use Rattle.std.specs.Prelude.{if◌then◌else◌}
 use Rattle.std.proofs.lemmas.List.{map-append, length-map}
 use Rattle.dp_tree.specs.declared.Program.{Program}
@@ -70,12 +70,12 @@ fewer (x ∷ rest) = by (is_marked x) refl (fewer rest)
     by true e go = omega (arith, go, long, some_site x e)
     by false e go = omega (arith, go, long)
 
-module _ (p : Program) (inlined : IsInlined p) (small : length p.sites < 2 ^ 32) where
+module _ (p : Program) (inlined : IsInlined p) where
   many : length (site_numbers_all p.main) ≡ length p.sites
   many = ap length inlined.sites ∙ length-numbers_from 1 (length p.sites)
 
   pub few_regions : length (regions p) ≤ top
-  few_regions = omega (arith, small, many, fewer p.main)
+  few_regions = omega (arith, inlined.few, many, fewer p.main)
 
   pub small_sites : Each (Each SmallSite) (regions p)
-  small_sites = all_small p.main 1 (subst (λ (ns : List ℕ). Ascends 1 ns) (sym inlined.sites) (ascends-numbers_from 1 (length p.sites))) (omega (arith, small, many))
+  small_sites = all_small p.main 1 (subst (λ (ns : List ℕ). Ascends 1 ns) (sym inlined.sites) (ascends-numbers_from 1 (length p.sites))) (omega (arith, inlined.few, many))

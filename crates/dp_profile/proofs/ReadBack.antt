@@ -1,5 +1,5 @@
 -- A text is that of one profile, so what is written of a profile that fits is read back as this one and nothing else.
-use Rattle.std.proofs.Common.{◌≡◌, inl, inr, refl, sym, ap, subst, ◌∙◌, ℕ, ◌<◌, ◌≤◌, ◌^◌, List, length, take, drop, Some, Ok, Err}
+use Rattle.std.proofs.Common.{◌≡◌, inl, inr, refl, sym, ap, subst, ◌∙◌, ℕ, ◌≤◌, List, length, take, drop, Some, Ok, Err}
 use Rattle.std.proofs.lemmas.List.{take-append-drop}
 use Rattle.dp_tree.specs.declared.Program.{Program}
 use Rattle.dp_tree.specs.Inlined.{IsInlined}
@@ -38,15 +38,15 @@ module _ (p : Program) (few : length (regions p) ≤ top) (small : Each (Each Sm
   read_only profile s (Err (Refused line)) t = absurd (unrefused profile line s t)
   read_only profile s (Err NoMemory) t = inr refl
 
-module _ (p : Program) (inlined : IsInlined p) (small : length p.sites < 2 ^ 32) where
+module _ (p : Program) (inlined : IsInlined p) where
   pub read_back : (profile : Profile) → ProfileFits p profile → ProfileText p (profile_text p profile) profile
   read_back profile fits = record {
-    lines_are = lines_whole (profile_lines p profile) (whole_fits (regions p) profile.regions (few_regions p inlined small) (small_sites p inlined small) fits);
+    lines_are = lines_whole (profile_lines p profile) (whole_fits (regions p) profile.regions (few_regions p inlined) (small_sites p inlined) fits);
     fits = fits;
   }
 
   pub read_back_only : (profile : Profile) → ProfileFits p profile → ReadsOnly p (profile_text p profile) profile
-  read_back_only profile fits = read_only p (few_regions p inlined small) (small_sites p inlined small) (profile_text p profile) profile (read_back profile fits)
+  read_back_only profile fits = read_only p (few_regions p inlined) (small_sites p inlined) (profile_text p profile) profile (read_back profile fits)
 
 pub read_fits : (p : Program) (bytes : List ℕ) (profile : Profile) → ProfileText p bytes profile → ProfileFits p profile
 read_fits p bytes profile t = t.fits

@@ -1,6 +1,6 @@
 //! Laws of the definitions, as contracts of functions that do nothing.
 
-ghost use Rattle.std.specs.Prelude.{ℕ, List, length, ◌<◌, ◌^◌};
+ghost use Rattle.std.specs.Prelude.{ℕ, List};
 ghost use Rattle.dp_tree.specs.Inlined.{IsInlined};
 ghost use Rattle.dp_profile.specs.declared.Profile.{Profile as profile_of_regions};
 ghost use Rattle.dp_profile.specs.ProfileText.{ProfileFits, ProfileText};
@@ -13,7 +13,6 @@ use dp_tree::Program;
 #[tactic(auto, using(crate::proofs::ReadBack::read_back, crate::proofs::ReadBack::read_back_only))]
 pub fn written_profiles_are_read(p: &Program)
     requires inlined { IsInlined p.now }
-    requires sites { length p.now.sites < 2 ^ 32 }
     ensures text { (profile : profile_of_regions) → ProfileFits p.now profile → ProfileText p.now (profile_text p.now profile) profile }
     ensures alone { (profile : profile_of_regions) → ProfileFits p.now profile → ReadsOnly p.now (profile_text p.now profile) profile }
 {}

@@ -1,6 +1,6 @@
 //! The profile that a text stands for.
 
-ghost use Rattle.std.specs.Prelude.{◌≡◌, ◌<◌, ◌≤◌, ◌^◌, IfOk, MatchResult, length};
+ghost use Rattle.std.specs.Prelude.{◌≡◌, IfOk, MatchResult};
 ghost use Rattle.dp_tree.specs.Inlined.{IsInlined};
 ghost use Rattle.dp_profile.specs.Sites.{regions};
 ghost use Rattle.dp_profile.specs.Refused.{ReadsAs};
@@ -16,7 +16,6 @@ use std::alloc::Global;
 /// The profile of a text, or the line at which it is refused.
 pub fn read_profile(alloc: Global, text: &[u8], p: &Program) -> Result<Profile, ProfileFail>
     requires inlined { IsInlined p.now }
-    requires sites { length p.now.sites < 2 ^ 32 }
     ensures { ReadsAs p.now text.now result }
 {
     let all = regions_of(alloc, p)?;

@@ -51,7 +51,7 @@ module _ (p : Program) (plans : List Plan) (given : AreGiven p plans) where
     number_is = omega (arith, found.1)
 
     pub planned : IsPlanned p plan
-    planned = record { inlined = given.inlined; sites = given.sites; is_plan = found.0; counted = omega (arith, found.1); known = omega (arith, found.1, found.2) }
+    planned = record { inlined = given.inlined; is_plan = found.0; counted = omega (arith, found.1); known = omega (arith, found.1, found.2) }
 
 take_next : {X : Type 0} (xs : List X) (n : ℕ) (x : X) → slice_get xs n ≡ Some x → take (suc n) xs ≡ take n xs ++ x ∷ []
 take_next [] n x e = absurd (cc e)

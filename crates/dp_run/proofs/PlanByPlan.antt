@@ -33,7 +33,7 @@ module _ (p : Program) (plans : List Plan) (input : List ℤ) (fuel n : ℕ) whe
     -- there is room to count a verdict for each step that is left
     pub room_here : AreGiven p plans → n < length plans → fuel ≤ 1000000000 → before < 2 ^ 63 → Between p input fuel n m → now + (m.fuel - m.steps) < 2 ^ 64
     room_here given more few start b =
-        let regions = few_regions p given.inlined given.sites in
+        let regions = few_regions p given.inlined in
         let most : m.fuel - m.steps ≤ fuel = omega (arith, b.behind.fuel_is) in
         room p plans input fuel few n (omega (arith, regions, as_many p plans given, more)) reports before now (m.fuel - m.steps) start most counted
 

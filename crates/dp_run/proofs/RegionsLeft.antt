@@ -9,7 +9,8 @@ use Rattle.dp_meaning.specs.declared.ends.Part.{Part}
 use Rattle.dp_meaning.specs.declared.ends.Part.TheVariants as part
 use Rattle.dp_meaning.specs.MachineState.{part_from, part_of, is_any_region, from_region}
 use Rattle.dp_commit.proofs.Parts.{head_part}
-use Rattle.dp_run.specs.steps.Regions.{region_number, number_of, regions_left}
+use Rattle.dp_tree.specs.Step.{region_number}
+use Rattle.dp_run.specs.steps.Regions.{number_of, regions_left}
 
 pub left_cons : (s : Stmt) (rest : List Stmt) (o : Option ℕ) → number_of s ≡ o → regions_left (s ∷ rest) ≡ cons_option o (regions_left rest)
 left_cons s rest o e = ap (λ (x : Option ℕ). cons_option x (regions_left rest)) e

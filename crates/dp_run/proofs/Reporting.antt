@@ -7,7 +7,8 @@ use Rattle.dp_tree.specs.Step.{Config, Step, Finished, Faulted, Stepped, step}
 use Rattle.dp_tree.specs.Trace.{Run, run_of, run_by, begin}
 use Rattle.dp_tree.specs.Iteration.{starts, start, places, begun_count, stands_at_head}
 use Rattle.dp_plan.specs.declared.Plan.{Plan}
-use Rattle.dp_semantics.specs.Clean.{count_from}
+use Rattle.dp_plan.proofs.Ascent.{length-numbers_from}
+use Rattle.dp_tree.specs.Numbering.{numbers_from}
 use Rattle.dp_semantics.specs.Recovery.{is_recovered, recovered}
 use Rattle.dp_semantics.specs.Cause.{cause}
 use Rattle.dp_semantics.specs.Reported.{reported, report_of, region_report}
@@ -76,12 +77,8 @@ filter_few test (x ∷ xs) = by (test x) (filter_few test xs)
     by true h = omega (arith, h)
     by false h = omega (arith, h)
 
-count_size : (k n : ℕ) → length (count_from k n) ≡ n
-count_size k zero = refl
-count_size k (suc n) = ap suc (count_size (suc k) n)
-
 pub few_recovered : (p : Program) (plan : Plan) (run : Run) → length (recovered p plan run) ≤ begun_count run plan.region
-few_recovered p plan r = let few = filter_few (is_recovered p plan r) (count_from 0 (begun_count r plan.region)) in let size = count_size 0 (begun_count r plan.region) in omega (arith, few, size)
+few_recovered p plan r = let few = filter_few (is_recovered p plan r) (numbers_from 0 (begun_count r plan.region)) in let size = length-numbers_from 0 (begun_count r plan.region) in omega (arith, few, size)
 
 -- Iterations are begun at different steps within the fuel, so there are no more of them than steps.
 places_few : {X : Type 0} (test : X → Bool) (k n : ℕ) (xs : List X) → count_by (λ j. nat_lt j n) (places test k xs) ≤ n - k

@@ -10,7 +10,8 @@ use Rattle.dp_tree.specs.declared.Program.{Program}
 use Rattle.dp_tree.specs.Numbering.{is_marked, is_inner_in, listed_first, has_numbers, site_numbers, top_fits, next_region, regions_in_order, regions_listed, numbers_from}
 use Rattle.dp_tree.specs.Inlined.{IsInlined}
 use Rattle.dp_tree.proofs.Heads.{opened_statement}
-use Rattle.dp_run.specs.steps.Regions.{region_number, number_of, regions_left}
+use Rattle.dp_tree.specs.Step.{region_number}
+use Rattle.dp_run.specs.steps.Regions.{number_of, regions_left}
 use Rattle.dp_run.proofs.RegionsLeft.{left_cons}
 
 -- a statement at the top: a region by its number, or no region

@@ -1,13 +1,13 @@
 -- An iteration is clean where it has ended and no event of it is a cause of re-execution.
-use Rattle.dp_semantics.proofs.Names.{◌≡◌, ◌⊎◌, inl, inr, refl, sym, ap, ◌∙◌, subst, ℕ, zero, suc, ◌+◌, ◌<◌, ◌≤◌, ◌==◌, Bool, true, false, not, ◌&&◌, ◌||◌, if◌then◌else◌, List, [], ◌∷◌, ℤ, length, nat_le, Option, Some, None, arith, both_ways, cases_Bool, cases_eq, eq-eqb, ne_eqb, leb-true, le-leb, lt-leb, list_all, and_parts, and_from, sum_by-cons, Program, Plan, Config, StandsInMain, Load, Event, Run, start, iteration, has_ended, memory_after, Access, stage_of, is_checked, Past, seen, int_eq, loads_agree, event_agrees, all_agree, event_as_assumed, events_since, event_words, words_at, word_count, count_from, fits_words, is_clean}
+use Rattle.dp_semantics.proofs.Names.{◌≡◌, inl, inr, refl, sym, ap, ◌∙◌, subst, ℕ, ◌+◌, ◌<◌, ◌≤◌, Bool, true, false, not, ◌&&◌, ◌||◌, if◌then◌else◌, List, [], ◌∷◌, ℤ, length, nat_le, Option, Some, None, arith, cases_eq, ne_eqb, leb-true, le-leb, list_all, and_parts, and_from, sum_by-cons, Program, Plan, Config, StandsInMain, Load, Event, Run, start, iteration, has_ended, memory_after, stage_of, is_checked, Past, seen, int_eq, loads_agree, event_agrees, all_agree, event_as_assumed, events_since, event_words, words_at, word_count, fits_words, is_clean}
 use Rattle.std.proofs.Common.{ap₂, is_none}
 use Rattle.dp_semantics.specs.Cause.{Cause, or_else, by_load, load_cause, checked_load_cause, assumption_cause, words_cause, event_cause, first_cause}
 use Rattle.dp_semantics.specs.Laws.{CleanWithoutCause}
 use Rattle.dp_semantics.proofs.Setting.{Accepted, Sound, Each, each_map}
-use Rattle.dp_semantics.proofs.Whole.{turn_of, turn_well, turn_sound}
+use Rattle.dp_semantics.proofs.Whole.{turn_well, turn_sound}
 use Rattle.dp_semantics.proofs.Paths.{events_at}
 use Rattle.dp_semantics.proofs.Counts.{all_count, count_all}
-use Rattle.dp_semantics.proofs.Iterations.{run, IterationIs, iteration_is}
+use Rattle.dp_semantics.proofs.Iterations.{run, iteration_is}
 
 quiet_or : (a b : Option Cause) → is_none (or_else a b) ≡ (is_none a && is_none b)
 quiet_or (Some cause) b = refl

@@ -1,18 +1,18 @@
 -- The number of words of a stage is the number that the plan counts.
-use Rattle.dp_semantics.proofs.Names.{◌≡◌, inl, inr, refl, ap, ℕ, zero, suc, ◌+◌, ◌<◌, ◌≤◌, ◌==◌, Bool, true, List, [], ◌∷◌, ◌++◌, length, length-append, nat_le, arith, leb-true, le-leb, sum_by-cons, cases_eq, list_all, Program, Plan, Load, Event, stage_of, is_checked, event_words, words_at, word_count, count_from, fits_words, load_words, done_word, words_of, last, words_at_stage, and_parts, and_from, cases_Bool}
+use Rattle.dp_semantics.proofs.Names.{◌≡◌, inl, inr, refl, ap, ℕ, zero, suc, ◌+◌, ◌<◌, ◌≤◌, ◌==◌, Bool, true, List, [], ◌∷◌, ◌++◌, length, length-append, nat_le, arith, leb-true, le-leb, sum_by-cons, cases_eq, list_all, Program, Plan, Load, Event, stage_of, is_checked, event_words, words_at, word_count, numbers_from, fits_words, load_words, done_word, words_of, last, words_at_stage, and_parts, and_from, cases_Bool}
 use Rattle.dp_semantics.proofs.Stepping.{words_for}
 use Rattle.dp_semantics.proofs.Whole.{words_through}
 
 -- a test of each number from k on, n of them
-pub all_count : (test : ℕ → Bool) (n k s : ℕ) → list_all test (count_from k n) ≡ true → k ≤ s → s < k + n → test s ≡ true
+pub all_count : (test : ℕ → Bool) (n k s : ℕ) → list_all test (numbers_from k n) ≡ true → k ≤ s → s < k + n → test s ≡ true
 all_count test zero k s e low high = absurd (omega (arith, low, high))
 all_count test (suc n) k s e low high =
-    let parts = and_parts (test k) (list_all test (count_from (suc k) n)) e in
-    elim (cases_eq k s) [ inl q ↦ rw (← q) parts.0 | inr q ↦ all_count test n (suc k) s parts.1 (omega (arith, low, q)) (omega (arith, high)) ]
+    let parts = and_parts (test k) (list_all test (numbers_from (k + 1) n)) e in
+    elim (cases_eq k s) [ inl q ↦ rw (← q) parts.0 | inr q ↦ all_count test n (k + 1) s parts.1 (omega (arith, low, q)) (omega (arith, high)) ]
 
-pub count_all : (test : ℕ → Bool) (n k : ℕ) → ((s : ℕ) → k ≤ s → s < k + n → test s ≡ true) → list_all test (count_from k n) ≡ true
+pub count_all : (test : ℕ → Bool) (n k : ℕ) → ((s : ℕ) → k ≤ s → s < k + n → test s ≡ true) → list_all test (numbers_from k n) ≡ true
 count_all test zero k h = refl
-count_all test (suc n) k h = and_from (test k) (list_all test (count_from (suc k) n)) (h k (omega arith) (omega arith)) (count_all test n (suc k) (λ s low high. h s (omega (arith, low)) (omega (arith, high))))
+count_all test (suc n) k h = and_from (test k) (list_all test (numbers_from (k + 1) n)) (h k (omega arith) (omega arith)) (count_all test n (k + 1) (λ s low high. h s (omega (arith, low)) (omega (arith, high))))
 
 load_words-length : (site : ℕ) (loads : List Load) → length (load_words site loads) ≡ length loads
 load_words-length site [] = refl

@@ -1,5 +1,5 @@
 -- From the test of a program and a plan to what the central theorem asks, and the theorem itself.
-use Rattle.dp_semantics.proofs.Names.{◌≡◌, inl, inr, refl, ap, ℕ, zero, suc, ◌+◌, ◌<◌, ◌≤◌, ◌==◌, Bool, true, false, not, if◌then◌else◌, List, [], ◌∷◌, length, Option, Some, None, nat_lt, nat_le, filter, arith, ltb-true, leb-true, eqb-true, eq-eqb, slice_get_past, cases_eq, cases_lt, both_ways, not-true, list_all, flat_map, Stmt, out-Stmt, Stmt-F, Region, Program, Plan, cell_count, Run, Access, accesses, first_site, stage_of, is_par, is_replicated, is_region_at, region_statement, region_accesses, count_from, is_clean, epoch, well_nested, is_free, cells_in_order, has_cell, stores_known, access_known, is_inner, region_fits, one_region, region_alone, kinds_apart, kinds_fit, fits_plan, run_of, ClosingLeaves, CleanSince, JudgesRightly, JudgesEpochs, StoresLead, and_parts, and_from, and-true, cases_Bool}
+use Rattle.dp_semantics.proofs.Names.{◌≡◌, inl, inr, refl, ap, ℕ, zero, suc, ◌+◌, ◌<◌, ◌≤◌, ◌==◌, Bool, true, false, not, if◌then◌else◌, List, [], ◌∷◌, length, Option, Some, None, nat_lt, nat_le, filter, arith, ltb-true, leb-true, eqb-true, eq-eqb, slice_get_past, cases_eq, cases_lt, both_ways, not-true, list_all, flat_map, Stmt, out-Stmt, Stmt-F, Region, Program, Plan, cell_count, Run, Access, accesses, first_site, stage_of, is_par, is_replicated, is_region_at, region_statement, region_accesses, numbers_from, is_clean, epoch, well_nested, is_free, cells_in_order, has_cell, stores_known, access_known, is_inner, region_fits, one_region, region_alone, kinds_apart, kinds_fit, fits_plan, run_of, ClosingLeaves, CleanSince, JudgesRightly, JudgesEpochs, StoresLead, and_parts, and_from, and-true, cases_Bool}
 use Rattle.dp_semantics.proofs.Setting.{each_both, RegionIs, Split, Listed, listed_all, Sound, Accepted, Each, each_map, all_of, Roomy, all_free}
 use Rattle.dp_semantics.proofs.InOrder.{laid_of}
 use Rattle.dp_semantics.proofs.Counts.{all_count}
@@ -91,7 +91,7 @@ module _ (p : Program) (plan : Plan) where
   apart_at e (suc s) rep = elim (cases_lt (suc s) (length plan.stages)) [
     | inl h ↦
         let next : suc s + 1 ≡ suc (suc s) = omega arith in
-        let kinds = and_parts (not (is_replicated plan 1)) (list_all (kinds_apart plan) (count_from 1 (length plan.stages))) e in
+        let kinds = and_parts (not (is_replicated plan 1)) (list_all (kinds_apart plan) (numbers_from 1 (length plan.stages))) e in
         let apart = all_count (kinds_apart plan) (length plan.stages) 1 (suc s) kinds.1 (omega arith) (omega (arith, h)) in
         not-true (is_replicated plan (suc s)) (rw (next, rep, and-true (is_replicated plan (suc s))) at apart)
     | inr h ↦ absurd (both_ways (is_replicated plan (suc (suc s))) (ap is_par (slice_get_past plan.stages (suc s) h)) rep)
@@ -112,7 +112,7 @@ module _ (p : Program) (plan : Plan) where
         part = found.2;
         split = split_of p.main found.0 found.1 four.0;
         sound = sounds_of two.0;
-        sequential = not-true (is_replicated plan 1) (and_parts (not (is_replicated plan 1)) (list_all (kinds_apart plan) (count_from 1 (length plan.stages))) four.1).0;
+        sequential = not-true (is_replicated plan 1) (and_parts (not (is_replicated plan 1)) (list_all (kinds_apart plan) (numbers_from 1 (length plan.stages))) four.1).0;
         apart = apart_at four.1;
       }
 

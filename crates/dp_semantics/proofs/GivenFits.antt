@@ -1,6 +1,5 @@
 -- A plan that is valid as data is what its lines stand for, so it fits and is tabled.
 use Rattle.dp_semantics.proofs.Names.{◌≡◌, ◌⊎◌, inl, inr, refl, sym, ap, ◌∙◌, ℕ, zero, suc, ◌+◌, ◌-◌, ◌<◌, ◌≤◌, ◌==◌, Some, slice_get, RegionInfo, true, false, List, [], ◌∷◌, map, length, None, arith, lt-ltb, and_from, cases_Bool, list_all, flat_map, Stmt, Program, Plan, accesses, fits_plan, region_in}
-use Rattle.std.specs.Prelude.{◌^◌}
 use Rattle.dp_tree.specs.Inlined.{IsInlined}
 use Rattle.dp_plan.specs.CheckedTable.{IsTabled}
 use Rattle.dp_plan.specs.GivenPlans.{IsPlan}
@@ -13,7 +12,7 @@ use Rattle.dp_plan.specs.declared.WrittenStage.{WrittenStage}
 use Rattle.dp_plan.specs.Written.{has, listed, region_sites, site_in, written_of, written_stage}
 use Rattle.dp_plan.proofs.PlanBack.{plan_back, plan_fits}
 use Rattle.dp_plan.proofs.RegionFacts.{InOrder, in_order}
-use Rattle.dp_plan.proofs.RegionOrder.{RegionAt, Sought, absent, present}
+use Rattle.dp_plan.proofs.RegionOrder.{Sought, absent, present}
 use Rattle.dp_plan.proofs.RulesHold.{condition_first, none_foreign, valid_unbroken}
 use Rattle.dp_semantics.specs.ValidPlan.{WrittenAs, lists_site}
 use Rattle.dp_semantics.proofs.TextOrder.{has_fact}
@@ -48,7 +47,7 @@ pub filled : (lines : List WrittenStage) → Each StageFits lines → list_all l
 filled [] fit = refl
 filled (line ∷ rest) fit = and_from (lists_site line) _ (lt-ltb 0 (length line.sites) (omega (arith, fit.0.0))) (filled rest fit.1)
 
-module _ (p : Program) (inlined : IsInlined p) (small : length p.sites < 2 ^ 32) (plan : Plan) (is : IsPlan p plan) where
+module _ (p : Program) (inlined : IsInlined p) (plan : Plan) (is : IsPlan p plan) where
   unbroken : first_broken p (written_of p plan) ≡ None
   unbroken = valid_unbroken p (written_of p plan) is.valid
 
@@ -60,7 +59,7 @@ module _ (p : Program) (inlined : IsInlined p) (small : length p.sites < 2 ^ 32)
       by (present entry low at q least most) = (low, found_low plan.region p.regions entry low at)
 
   order : InOrder p plan
-  order = in_order p inlined small plan within.0 within.1
+  order = in_order p inlined plan within.0 within.1
 
   written : WrittenAs p (written_of p plan) plan
   written = record { valid = unbroken; filled = filled (written_of p plan).stages (plan_fits p plan is order).stages; plan_is = sym (plan_back p plan is order) }

@@ -28,7 +28,8 @@ pub use Rattle.dp_tree.specs.declared.Stmt.TheOpen.{Assign, Break, Call, If, Pri
 pub use Rattle.dp_tree.specs.declared.Stmt.TheViews.{rolls-Assign, rolls-Break, rolls-Call, rolls-If, rolls-Print, rolls-Region, rolls-Store, rolls-While}
 pub use Rattle.dp_plan.specs.Access.{Access, accesses, first_site_of, accesses_in, first_site, is_body_local, is_local, is_par, is_region_at, is_replicated, is_same_variable, is_stored_after, is_stored_beside, loaded_by, region_accesses, region_in, region_statement, stage_of, stores_var}
 pub use Rattle.dp_plan.specs.Checked.{is_checked, is_checked_access, may_differ, is_apart, is_apart_between, comes_before}
-pub use Rattle.dp_semantics.specs.Clean.{all_agree, as_assumed, count_from, event_agrees, event_as_assumed, event_words, events_since, fits_words, goes_as, stays_late, int_eq, is_clean, loads_agree, pushed, went, word_count, words_at}
+pub use Rattle.dp_tree.specs.Numbering.{numbers_from}
+pub use Rattle.dp_semantics.specs.Clean.{all_agree, as_assumed, event_agrees, event_as_assumed, event_words, events_since, fits_words, goes_as, stays_late, int_eq, is_clean, loads_agree, pushed, went, word_count, words_at}
 pub use Rattle.dp_semantics.specs.Fits.{access_known, fits_plan, has_cell, is_inner, is_numbered, is_single, kinds_apart, kinds_fit, lies_between, cells_in_order, one_region, region_alone, region_fits, stands_alone, stores_known}
 pub use Rattle.dp_semantics.specs.Judge.{Agreed, Clean, judge, judge_at, judge_by, judge_lists, judge_spent, judge_status, judge_step, judged, Judgement, Judging, last, loads_hold, Unclean}
 unfoldable pub use Rattle.dp_semantics.specs.Judge.{judge_from}

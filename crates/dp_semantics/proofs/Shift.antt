@@ -1,5 +1,5 @@
 -- What is said of iterations of a run is said of the run from one of them on.
-use Rattle.dp_semantics.proofs.Names.{◌≡◌, inl, inr, refl, sym, ap, ◌∙◌, ℕ, zero, suc, ◌+◌, ◌-◌, ◌≤◌, ◌==◌, Bool, true, false, not, ◌&&◌, ◌||◌, if◌then◌else◌, List, [], ◌∷◌, ◌++◌, ℤ, length, map, filter, Option, Some, None, is_some, unwrap_or, nat_lt, nat_le, arith, eq-eqb, ne_eqb, cases_eq, cases_lt, lt-leb, le-leb, list_all, Program, Plan, Load, Event, Run, run_of, start, iteration, begun_count, has_ended, memory_after, stage_of, is_checked, is_local_at, is_replicated, Past, is_covered, stored_in, seen, int_eq, loads_agree, event_agrees, all_agree, pushed, events_since, event_as_assumed, fits_words, is_clean, count_from, epoch, is_recovered, passed, judge}
+use Rattle.dp_semantics.proofs.Names.{◌≡◌, inl, inr, refl, sym, ap, ◌∙◌, ℕ, zero, suc, ◌+◌, ◌-◌, ◌≤◌, ◌==◌, Bool, true, false, not, ◌&&◌, ◌||◌, if◌then◌else◌, List, [], ◌∷◌, ◌++◌, ℤ, length, map, filter, Option, Some, None, is_some, unwrap_or, nat_lt, nat_le, arith, eq-eqb, ne_eqb, cases_eq, cases_lt, lt-leb, le-leb, list_all, Program, Plan, Load, Event, Run, run_of, start, iteration, begun_count, has_ended, memory_after, stage_of, is_checked, is_local_at, is_replicated, Past, is_covered, stored_in, seen, int_eq, loads_agree, event_agrees, all_agree, pushed, events_since, event_as_assumed, fits_words, is_clean, numbers_from, epoch, is_recovered, passed, judge}
 use Rattle.std.proofs.Common.{ap₂}
 use Rattle.dp_tree.specs.GoesOn.{GoesOnAs}
 use Rattle.dp_tree.proofs.GoesOn.{goes_on_from}
@@ -138,25 +138,25 @@ module _ (p : Program) (plan : Plan) (m k : ℕ) (run rest : Run) (g : GoesOnAs 
     own_cause i = ap (λ (e : ℕ). cause_since p plan run e (m + i)) (epochs i) ∙ causes (epoch p plan rest i) i
 
     -- numbers from m + a on that pass
-    filter_moved : (n a : ℕ) → filter (is_recovered p plan run) (count_from (m + a) n) ≡ map (λ i. m + i) (filter (is_recovered p plan rest) (count_from a n))
+    filter_moved : (n a : ℕ) → filter (is_recovered p plan run) (numbers_from (m + a) n) ≡ map (λ i. m + i) (filter (is_recovered p plan rest) (numbers_from a n))
     filter_moved zero a = refl
     filter_moved (suc n) a =
-        let next : suc (m + a) ≡ m + suc a = omega arith in
-        let rest_is : filter (is_recovered p plan run) (count_from (suc (m + a)) n) ≡ map (λ i. m + i) (filter (is_recovered p plan rest) (count_from (suc a) n)) = ap (λ (b : ℕ). filter (is_recovered p plan run) (count_from b n)) next ∙ filter_moved n (suc a) in
-        ap (λ (b : Bool). if b then (m + a) ∷ filter (is_recovered p plan run) (count_from (suc (m + a)) n) else filter (is_recovered p plan run) (count_from (suc (m + a)) n)) (again a)
+        let next : m + a + 1 ≡ m + (a + 1) = omega arith in
+        let rest_is : filter (is_recovered p plan run) (numbers_from (m + a + 1) n) ≡ map (λ i. m + i) (filter (is_recovered p plan rest) (numbers_from (a + 1) n)) = ap (λ (b : ℕ). filter (is_recovered p plan run) (numbers_from b n)) next ∙ filter_moved n (a + 1) in
+        ap (λ (b : Bool). if b then (m + a) ∷ filter (is_recovered p plan run) (numbers_from (m + a + 1) n) else filter (is_recovered p plan run) (numbers_from (m + a + 1) n)) (again a)
         ∙ ap (λ (ns : List ℕ). if is_recovered p plan rest a then (m + a) ∷ ns else ns) rest_is ∙ by (is_recovered p plan rest a)
       where
-        by : (b : Bool) → (if b then (m + a) ∷ map (λ i. m + i) (filter (is_recovered p plan rest) (count_from (suc a) n)) else map (λ i. m + i) (filter (is_recovered p plan rest) (count_from (suc a) n)))
-            ≡ map (λ i. m + i) (if b then a ∷ filter (is_recovered p plan rest) (count_from (suc a) n) else filter (is_recovered p plan rest) (count_from (suc a) n))
+        by : (b : Bool) → (if b then (m + a) ∷ map (λ i. m + i) (filter (is_recovered p plan rest) (numbers_from (a + 1) n)) else map (λ i. m + i) (filter (is_recovered p plan rest) (numbers_from (a + 1) n)))
+            ≡ map (λ i. m + i) (if b then a ∷ filter (is_recovered p plan rest) (numbers_from (a + 1) n) else filter (is_recovered p plan rest) (numbers_from (a + 1) n))
         by true = refl
         by false = refl
 
-    count_split : (a b n : ℕ) → count_from a (b + n) ≡ count_from a b ++ count_from (a + b) n
-    count_split a zero n = let none : 0 + n ≡ n = omega arith in let same : a ≡ a + 0 = omega arith in ap (count_from a) none ∙ ap (λ (i : ℕ). count_from i n) same
+    count_split : (a b n : ℕ) → numbers_from a (b + n) ≡ numbers_from a b ++ numbers_from (a + b) n
+    count_split a zero n = let none : 0 + n ≡ n = omega arith in let same : a ≡ a + 0 = omega arith in ap (numbers_from a) none ∙ ap (λ (i : ℕ). numbers_from i n) same
     count_split a (suc b) n =
         let next : suc b + n ≡ suc (b + n) = omega arith in
-        let there : suc a + b ≡ a + suc b = omega arith in
-        ap (count_from a) next ∙ ap (λ (ns : List ℕ). a ∷ ns) (count_split (suc a) b n) ∙ ap (λ (i : ℕ). a ∷ (count_from (suc a) b ++ count_from i n)) there
+        let there : a + 1 + b ≡ a + suc b = omega arith in
+        ap (numbers_from a) next ∙ ap (λ (ns : List ℕ). a ∷ ns) (count_split (a + 1) b n) ∙ ap (λ (i : ℕ). a ∷ (numbers_from (a + 1) b ++ numbers_from i n)) there
 
     filter_split : (test : ℕ → Bool) (a b : List ℕ) → filter test (a ++ b) ≡ filter test a ++ filter test b
     filter_split test [] b = refl
@@ -166,13 +166,13 @@ module _ (p : Program) (plan : Plan) (m k : ℕ) (run rest : Run) (g : GoesOnAs 
         by true = refl
         by false = refl
 
-    listed : recovered p plan run ≡ filter (is_recovered p plan run) (count_from 0 m) ++ map (λ i. m + i) (recovered p plan rest)
+    listed : recovered p plan run ≡ filter (is_recovered p plan run) (numbers_from 0 m) ++ map (λ i. m + i) (recovered p plan rest)
     listed =
         let from : 0 + m ≡ m + 0 = omega arith in
-        ap (λ (n : ℕ). filter (is_recovered p plan run) (count_from 0 n)) g.begun_in_all ∙ ap (filter (is_recovered p plan run)) (count_split 0 m (begun_count rest r))
-        ∙ filter_split (is_recovered p plan run) (count_from 0 m) (count_from (0 + m) (begun_count rest r))
-        ∙ ap (λ (a : ℕ). filter (is_recovered p plan run) (count_from 0 m) ++ filter (is_recovered p plan run) (count_from a (begun_count rest r))) from
-        ∙ ap (λ (ns : List ℕ). filter (is_recovered p plan run) (count_from 0 m) ++ ns) (filter_moved (begun_count rest r) 0)
+        ap (λ (n : ℕ). filter (is_recovered p plan run) (numbers_from 0 n)) g.begun_in_all ∙ ap (filter (is_recovered p plan run)) (count_split 0 m (begun_count rest r))
+        ∙ filter_split (is_recovered p plan run) (numbers_from 0 m) (numbers_from (0 + m) (begun_count rest r))
+        ∙ ap (λ (a : ℕ). filter (is_recovered p plan run) (numbers_from 0 m) ++ filter (is_recovered p plan run) (numbers_from a (begun_count rest r))) from
+        ∙ ap (λ (ns : List ℕ). filter (is_recovered p plan run) (numbers_from 0 m) ++ ns) (filter_moved (begun_count rest r) 0)
 
     pub same_epochs : SameEpochs p plan m run rest
     same_epochs = record { epochs = epochs; again = again; cause = own_cause; listed = listed }

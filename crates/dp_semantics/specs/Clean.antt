@@ -1,5 +1,5 @@
 -- The iterations that a pipeline under a plan runs as the source does, judged on the source's own trace.
-use Rattle.std.specs.Prelude.{ℕ, if◌then◌else◌, zero, suc, ◌+◌, ◌==◌, Bool, true, not, ◌&&◌, ◌||◌, List, [], ◌∷◌, length, ℤ, nat_le, int_le, sum_by}
+use Rattle.std.specs.Prelude.{ℕ, if◌then◌else◌, zero, suc, ◌+◌, ◌==◌, Bool, true, not, ◌&&◌, ◌||◌, List, [], ◌∷◌, length, ℤ, nat_le, sum_by}
 use Rattle.std.specs.List.{list_all}
 use Rattle.dp_base.specs.Arithmetic.{is_zero}
 use Rattle.dp_tree.specs.declared.Program.{Program}
@@ -8,6 +8,7 @@ use Rattle.dp_plan.specs.declared.Plan.{Plan}
 use Rattle.dp_tree.specs.Eval.{Load}
 use Rattle.dp_tree.specs.Step.{Event, Effect, Stored, Printed, Decided, Tried}
 use Rattle.dp_tree.specs.Trace.{Run}
+use Rattle.dp_tree.specs.Numbering.{numbers_from}
 use Rattle.dp_tree.specs.Iteration.{leaves, iteration, memory_after, has_ended}
 use Rattle.dp_plan.specs.Access.{stage_of}
 use Rattle.dp_plan.specs.Checked.{is_checked}
@@ -74,14 +75,9 @@ words_at p plan s event = if stage_of p plan event.site == s then event_words p 
 abbrev pub word_count : Program → Plan → List Event → ℕ → ℕ
 word_count p plan events s = sum_by (words_at p plan s) events
 
--- the numbers from k on, n of them
-abbrev pub count_from : ℕ → ℕ → List ℕ
-count_from k zero = []
-count_from k (suc n) = k ∷ count_from (suc k) n
-
 -- no stage has more words than the plan has room for
 abbrev pub fits_words : Program → Plan → List Event → Bool
-fits_words p plan events = list_all (λ s. nat_le (word_count p plan events s) plan.words) (count_from 1 (length plan.stages))
+fits_words p plan events = list_all (λ s. nat_le (word_count p plan events s) plan.words) (numbers_from 1 (length plan.stages))
 
 -- Iteration i is clean in the epoch that began at e: it has ended, each checked load agrees with what its stage sees,
 -- each assumed `if` went as assumed, no break of a stage above 1 was taken, and each stage has room for its words.

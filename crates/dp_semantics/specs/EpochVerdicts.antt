@@ -1,13 +1,14 @@
 -- The verdicts on an epoch's iterations: each judges what the last stage sends for one iteration, in the memory after those before it.
-use Rattle.std.specs.Prelude.{ℕ, zero, suc, ◌+◌, ◌-◌, Bool, false, not, List, ℤ, length, filter_map, Option, Some, None}
+use Rattle.std.specs.Prelude.{ℕ, zero, suc, ◌+◌, ◌-◌, Bool, false, not, List, ℤ, length, filter_map}
 use Rattle.dp_base.specs.declared.StoreOf.{StoreOf}
 use Rattle.dp_base.specs.declared.Cause.{Cause as ReportedCause}
-use Rattle.dp_tree.specs.Step.{Effect, Stored, Printed, Decided, Tried, clear_locals}
+use Rattle.dp_tree.specs.Step.{clear_locals}
 use Rattle.dp_tree.specs.Trace.{printed_by}
 use Rattle.dp_semantics.specs.Cause.{cause_since}
 use Rattle.dp_semantics.specs.Packets.{passed}
 use Rattle.dp_semantics.specs.Judge.{Agreed, Judgement, Clean, Unclean, judge}
 use Rattle.dp_semantics.specs.Verdict.{applied}
+use Rattle.dp_semantics.specs.Told.{store_made}
 use Rattle.dp_semantics.specs.Reported.{reported}
 use Rattle.dp_semantics.specs.EpochKey.{EpochKey, epoch_of, epoch_run}
 
@@ -41,17 +42,10 @@ pub record Carried : Type 0 where
   pub steps : ℕ
   pub closing : Bool
 
--- the store that an effect is
-abbrev pub carried_store : Effect → Option StoreOf
-carried_store (Stored cell value) = Some (record { cell = record { 0 = cell }; value = value })
-carried_store (Printed value) = None
-carried_store (Decided value) = None
-carried_store (Tried value) = None
-
 -- what is carried of what may be committed: each effect is one step
 abbrev pub carried : Agreed → Carried
 carried agreed = record {
-  stores = filter_map carried_store agreed.effects;
+  stores = filter_map store_made agreed.effects;
   prints = filter_map printed_by agreed.effects;
   steps = length agreed.effects;
   closing = agreed.closing;

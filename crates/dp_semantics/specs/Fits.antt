@@ -10,7 +10,7 @@ use Rattle.dp_plan.specs.declared.Plan.{Plan}
 use Rattle.dp_tree.specs.Eval.{cell_count}
 use Rattle.dp_tree.specs.Step.{is_local_of}
 use Rattle.dp_plan.specs.Access.{Access, accesses, first_site, stage_of, is_replicated, is_region_at, region_in, region_statement, region_accesses}
-use Rattle.dp_semantics.specs.Clean.{count_from}
+use Rattle.dp_tree.specs.Numbering.{numbers_from}
 use Rattle.dp_semantics.specs.Nesting.{well_nested, is_free}
 
 -- The variables have their cells one after the other, from k on: at least one each, and a body local of region r exactly one.
@@ -60,7 +60,7 @@ kinds_apart plan s = not (is_replicated plan s && is_replicated plan (s + 1))
 
 -- the first stage is sequential, and no two neighbours are replicated
 abbrev pub kinds_fit : Plan → Bool
-kinds_fit plan = not (is_replicated plan 1) && list_all (kinds_apart plan) (count_from 1 (length plan.stages))
+kinds_fit plan = not (is_replicated plan 1) && list_all (kinds_apart plan) (numbers_from 1 (length plan.stages))
 
 -- an inlined program's variables and region, and a plan that keeps the rules
 abbrev pub fits_plan : Program → Plan → Bool

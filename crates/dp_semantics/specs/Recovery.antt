@@ -4,7 +4,8 @@ use Rattle.dp_tree.specs.declared.Program.{Program}
 use Rattle.dp_plan.specs.declared.Plan.{Plan}
 use Rattle.dp_tree.specs.Trace.{Run}
 use Rattle.dp_tree.specs.Iteration.{begun_count}
-use Rattle.dp_semantics.specs.Clean.{is_clean, count_from}
+use Rattle.dp_tree.specs.Numbering.{numbers_from}
+use Rattle.dp_semantics.specs.Clean.{is_clean}
 
 -- the epoch after iteration i of the one that began at e: a new one where i isn't clean
 abbrev pub next_epoch : Program → Plan → Run → ℕ → ℕ → ℕ
@@ -21,4 +22,4 @@ is_recovered p plan run i = not (is_clean p plan run (epoch p plan run i) i)
 
 -- the begun iterations that are executed again, in order
 abbrev pub recovered : Program → Plan → Run → List ℕ
-recovered p plan run = filter (is_recovered p plan run) (count_from 0 (begun_count run plan.region))
+recovered p plan run = filter (is_recovered p plan run) (numbers_from 0 (begun_count run plan.region))

@@ -6,7 +6,8 @@ use Rattle.dp_tree.specs.Trace.{Run, run_of}
 use Rattle.dp_tree.specs.Iteration.{start, is_begun, begun_count, iteration, is_closing, has_ended, memory_after}
 use Rattle.dp_tree.specs.GoesOn.{GoesOnAs, moved}
 use Rattle.dp_plan.specs.declared.Plan.{Plan}
-use Rattle.dp_semantics.specs.Clean.{is_clean, count_from}
+use Rattle.dp_tree.specs.Numbering.{numbers_from}
+use Rattle.dp_semantics.specs.Clean.{is_clean}
 use Rattle.dp_semantics.specs.Recovery.{epoch, is_recovered, recovered}
 use Rattle.dp_semantics.specs.Cause.{cause_since, cause}
 use Rattle.dp_semantics.specs.Verdict.{packet_at, judgement_at}
@@ -23,7 +24,7 @@ pub record SameEpochs (p : Program) (plan : Plan) (m : ℕ) (run rest : Run) : T
   pub epochs : (i : ℕ) → epoch p plan run (m + i) ≡ m + epoch p plan rest i
   pub again : (i : ℕ) → is_recovered p plan run (m + i) ≡ is_recovered p plan rest i
   pub cause : (i : ℕ) → cause p plan run (m + i) ≡ cause p plan rest i
-  pub listed : recovered p plan run ≡ filter (is_recovered p plan run) (count_from 0 m) ++ map (λ i. m + i) (recovered p plan rest)
+  pub listed : recovered p plan run ≡ filter (is_recovered p plan run) (numbers_from 0 m) ++ map (λ i. m + i) (recovered p plan rest)
 
 -- So it is for each run that reaches the region and goes on so.
 abbrev pub VerdictsShift : Program → Plan → Type 0

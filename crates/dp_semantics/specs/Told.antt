@@ -1,5 +1,6 @@
 -- What a Clean judgement tells: the stores, the prints and the number of steps of its iteration.
 use Rattle.std.specs.Prelude.{◌≡◌, ℕ, List, [], ◌∷◌, ℤ, length, filter_map, Option, Some, None, slice_set}
+use Rattle.dp_base.specs.declared.StoreOf.{StoreOf}
 use Rattle.dp_tree.specs.Step.{Event, Effect, Stored, Printed, Decided, Tried}
 use Rattle.dp_tree.specs.Trace.{Run, printed_by, prints}
 use Rattle.dp_tree.specs.Iteration.{iteration}
@@ -7,21 +8,16 @@ use Rattle.dp_plan.specs.declared.Plan.{Plan}
 use Rattle.dp_semantics.specs.Judge.{Agreed}
 use Rattle.dp_semantics.specs.Verdict.{applied, done_in}
 
--- a cell, and what is stored into it
-pub record CellStore : Type 0 where
-  pub cell : ℕ
-  pub value : ℤ
-
--- the store of an effect, if it is one
-abbrev pub store_by : Effect → Option CellStore
-store_by (Stored cell value) = Some (record { cell = cell; value = value })
-store_by (Printed value) = None
-store_by (Decided value) = None
-store_by (Tried value) = None
+-- the store that an effect makes, if it is one
+abbrev pub store_made : Effect → Option StoreOf
+store_made (Stored cell value) = Some (record { cell = record { 0 = cell }; value = value })
+store_made (Printed value) = None
+store_made (Decided value) = None
+store_made (Tried value) = None
 
 -- the stores in order
-abbrev pub stores_told : Agreed → List CellStore
-stores_told v = filter_map store_by v.effects
+abbrev pub stores_told : Agreed → List StoreOf
+stores_told v = filter_map store_made v.effects
 
 -- the printed values in order
 abbrev pub prints_told : Agreed → List ℤ
@@ -32,13 +28,13 @@ abbrev pub steps_told : Agreed → ℕ
 steps_told v = length v.effects
 
 -- the memory after these stores, one after the other
-abbrev pub with_stores : List CellStore → List ℤ → List ℤ
+abbrev pub with_stores : List StoreOf → List ℤ → List ℤ
 with_stores [] cells = cells
-with_stores (s ∷ rest) cells = with_stores rest (slice_set cells s.cell s.value)
+with_stores (s ∷ rest) cells = with_stores rest (slice_set cells s.cell.0 s.value)
 
 -- the stores of events in order
-abbrev pub stores_of : List Event → List CellStore
-stores_of events = filter_map (λ e. store_by e.effect) events
+abbrev pub stores_of : List Event → List StoreOf
+stores_of events = filter_map (λ e. store_made e.effect) events
 
 -- What the source did in an iteration: its stores, prints and steps.
 pub record TellsAll (plan : Plan) (run : Run) (i : ℕ) : Type 0 where
@@ -48,7 +44,7 @@ pub record TellsAll (plan : Plan) (run : Run) (i : ℕ) : Type 0 where
 
 -- The stores alone lead to the memory after the effects.
 abbrev pub StoresAreAll : Type 0
-StoresAreAll = (effects : List Effect) (cells : List ℤ) → applied effects cells ≡ with_stores (filter_map store_by effects) cells
+StoresAreAll = (effects : List Effect) (cells : List ℤ) → applied effects cells ≡ with_stores (filter_map store_made effects) cells
 
 -- So it is of each iteration of each run.
 abbrev pub Tells : Plan → Type 0

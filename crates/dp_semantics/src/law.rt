@@ -1,6 +1,6 @@
 //! The laws of the definitions, as contracts of functions that do nothing: the central theorem first.
 
-ghost use Rattle.std.specs.Prelude.{◌≡◌, ◌<◌, ◌^◌, true, length};
+ghost use Rattle.std.specs.Prelude.{◌≡◌, true};
 ghost use Rattle.dp_tree.specs.Inlined.{IsInlined};
 ghost use Rattle.dp_plan.specs.CheckedTable.{IsTabled};
 ghost use Rattle.dp_plan.specs.GivenPlans.{IsPlan};
@@ -41,7 +41,6 @@ pub fn valid_plans_fit(p: &Program, plan: &Plan)
 /// A plan that is valid as data, whatever text it came from, fits its inlined program, and its table is right.
 pub fn given_plans_fit(p: &Program, plan: &Plan)
     requires inlined { IsInlined p.now }
-    requires sites { length p.now.sites < 2 ^ 32 }
     requires plan { IsPlan p.now plan.now }
     ensures fits { fits_plan p.now plan.now ≡ true }
     ensures tabled { IsTabled p.now plan.now }

@@ -1,5 +1,6 @@
--- What is so of every inlined program: no call is left, and everything is numbered in text order.
-use Rattle.std.specs.Prelude.{ℕ, ◌≡◌, Bool, true, false, ◌&&◌, ◌||◌, [], length, nat_lt}
+-- What is so of every inlined program, and all that is asked of one: no call is left, everything is numbered in text order,
+-- the tables say what stands in the text, and no limit of the language is passed.
+use Rattle.std.specs.Prelude.{ℕ, ◌≡◌, ◌≤◌, Bool, true, false, ◌&&◌, ◌||◌, [], length, map, nat_lt}
 use Rattle.std.specs.List.{list_all, list_any}
 use Rattle.dp_tree.specs.declared.Expr.{Expr, end_of-Expr, more_of-Expr}
 use Rattle.dp_tree.specs.declared.Expr.TheVariants.{Number, Input', InputLen, Scalar, Element', Unary', Binary', And', Or'}
@@ -7,7 +8,8 @@ use Rattle.dp_tree.specs.declared.Stmt.{Stmt, Row_of-Stmt, end_of-Stmt, more_of-
 use Rattle.dp_tree.specs.declared.Stmt.TheVariants.{Assign, Store, Print, If', While', Region', Break, Call}
 use Rattle.dp_tree.specs.declared.Program.{Program}
 use Rattle.dp_tree.specs.Layout.{globals_first, lies_in_order}
-use Rattle.dp_tree.specs.Numbering.{site_numbers_all, numbers_from, regions_in_order, regions_listed}
+use Rattle.dp_tree.specs.Numbering.{site_numbers_all, numbers_from, regions_in_order, regions_listed, is_small_region}
+use Rattle.dp_tree.specs.SiteTable.{role_of, site_roles_all}
 
 abbrev mutual
   -- a call stands in the statement
@@ -66,6 +68,11 @@ pub record IsInlined (p : Program) : Type 0 where
   pub calls : list_any has_call p.main ≡ false
   -- sites are numbered in text order
   pub sites : site_numbers_all p.main ≡ numbers_from 1 (length p.sites)
+  -- .. and the table has the kind and the region of each
+  pub roles : map role_of p.sites ≡ site_roles_all 0 p.main
   -- regions stand at the top of `main` alone, numbered in text order, and have their sites in the table
   pub regions : regions_in_order 1 p.main ≡ true
   pub table : regions_listed p.main p.regions ≡ true
+  -- there are at most 8,192 sites, and at most 1,024 in a region
+  pub few : length p.sites ≤ 8192
+  pub few_each : list_all is_small_region p.regions ≡ true

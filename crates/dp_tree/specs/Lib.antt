@@ -10,6 +10,7 @@ pub mod IterationLaws
 pub mod RegionLaws
 pub mod Layout
 pub mod Numbering
+pub mod SiteTable
 pub mod InMain
 pub mod GoesOn
 pub mod Scoping

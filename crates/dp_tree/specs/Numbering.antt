@@ -1,5 +1,5 @@
 -- How sites and regions are numbered: in text order, the regions at the top of `main`.
-use Rattle.std.specs.Prelude.{ℕ, zero, suc, ◌+◌, ◌==◌, Bool, true, false, ◌&&◌, List, [], ◌∷◌, ◌++◌, length, ◌≡◌}
+use Rattle.std.specs.Prelude.{ℕ, zero, suc, ◌+◌, ◌==◌, Bool, true, false, ◌&&◌, List, [], ◌∷◌, ◌++◌, length, nat_lt, ◌≡◌}
 use Rattle.std.specs.List.{flat_map}
 use Rattle.dp_tree.specs.declared.RegionInfo.{RegionInfo}
 use Rattle.dp_tree.specs.declared.Program.{Program}
@@ -95,3 +95,7 @@ abbrev pub regions_listed : List Stmt → List RegionInfo → Bool
 regions_listed [] [] = true
 regions_listed [] (info ∷ rest) = false
 regions_listed (s ∷ rest) regions = listed_first (is_marked s) s (regions_listed rest) regions
+
+-- the entry's region has at most 1,024 sites
+abbrev pub is_small_region : RegionInfo → Bool
+is_small_region info = nat_lt info.last.0 (info.first.0 + 1024)

@@ -2,11 +2,11 @@
 use Rattle.std.proofs.Common.{◌≡◌, refl, sym, ◌∙◌, ap, subst, arith, inl, inr, Bool, Some, ℕ, ◌<◌, ◌≤◌, List, Option, ℤ, Result, Ok, Err, IfOk, OnOk, None, ◌≢◌, ◌+◌, ◌∷◌, [], ◌++◌, option_map}
 use Rattle.dp_tree.specs.declared.Program.{Program}
 use Rattle.dp_tree.specs.Checked.{IsChecked}
+use Rattle.dp_tree.specs.Inlined.{IsInlined}
 use Rattle.dp_calls.specs.Frames.{outcome}
 use Rattle.dp_calls.specs.Expand.{expand}
-use Rattle.dp_calls.proofs.InlinedLaws.{expanded_is_inlined}
 use Rattle.dp_calls.proofs.SameMeanings.{same_meaning}
-use Rattle.dswp.proofs.accepted.Accepted.{read_checked}
+use Rattle.dswp.proofs.accepted.Accepted.{read_checked, inlined_read}
 use Rattle.dswp.proofs.accepted.SameText.{same_end, same_text}
 use Rattle.dswp.specs.declared.refusal.Role.{Role}
 use Rattle.dswp.specs.declared.refusal.Refusal.{Refusal}
@@ -62,10 +62,9 @@ pub finishes_as : (s t : ℕ) (a b : List ℕ) (told tells : Option (List ℕ)) 
 finishes_as s t a b told tells result e f h = subst (λ (x : List ℕ). Finishes t x told tells result) f (subst (λ (n : ℕ). Finishes n a told tells result) e h)
 
 -- What the run of the expanded program finishes, behind a line, is what the source's run is to be answered with.
-pub finishes_source : (p q : Program) → q ≡ expand p → IsChecked p → (plans : List Plan) (numbers : List ℤ) (fuel : ℕ) (why : Bool) (line : List ℕ) (told tells : Option (List ℕ)) (result : Result ℕ CrewFail) →
+pub finishes_source : (p q : Program) → q ≡ expand p → IsChecked p → IsInlined (expand p) → (plans : List Plan) (numbers : List ℤ) (fuel : ℕ) (why : Bool) (line : List ℕ) (told tells : Option (List ℕ)) (result : Result ℕ CrewFail) →
     Finishes (status_of (source_run q numbers fuel).end) (line ++ trace_text q plans (source_run q numbers fuel) why) told tells result → Finishes (status_of (outcome p numbers fuel).end) (line ++ run_text p plans numbers fuel why) told tells result
-finishes_source p q is checked plans numbers fuel why line told tells result h =
-    let inlined = expanded_is_inlined p checked in
+finishes_source p q is checked inlined plans numbers fuel why line told tells result h =
     let same = same_meaning p checked in
     finishes_as (status_of (source_run q numbers fuel).end) (status_of (outcome p numbers fuel).end) (line ++ trace_text q plans (source_run q numbers fuel) why) (line ++ run_text p plans numbers fuel why) told tells result
     (ap (λ (x : Program). status_of (source_run x numbers fuel).end) is ∙ ap status_of (sym (same_end p inlined same plans numbers fuel why)))
@@ -80,7 +79,7 @@ module _ (words : List (List ℕ)) (contents : Contents) (faults after : ℕ) (f
       Finishes (status_of (source_run q numbers run.fuel).end) (trace_text q plans (source_run q numbers run.fuel) run.why) told tells result → Carried words contents faults after failed fails told tells result
   carry_run run q numbers plans result asks (carried.Loaded p x others given is h k l fit e f) finishes =
       carried.OfAnswer _ _ (Done (ToRun run) p numbers plans asks (run_texts contents run p q numbers plans h k is l)) e f
-      (finishes_source p q is (read_checked h.text p h.reads) plans numbers run.fuel run.why [] told tells result finishes)
+      (finishes_source p q is (read_checked h.text p h.reads) (inlined_read h.text p h.reads) plans numbers run.fuel run.why [] told tells result finishes)
 
   -- .. and the tally grew by what was committed of it
   pub count_run : (run : Run) (q : Program) (numbers : List ℤ) (plans : List Plan) (before now status : ℕ) → Asks words (ToRun run) → LoadsTexts contents run faults after failed fails (texts.Run q numbers plans) →

@@ -1,10 +1,9 @@
 -- The run of the made program.
-use Rattle.std.proofs.Common.{◌≡◌, refl, sym, ◌∙◌, ap, subst, arith, ℕ, zero, suc, ◌+◌, ◌<◌, ◌≤◌, ◌^◌, false, List, [], ◌++◌, length, ℤ, Option, None, Result, Ok, Err, IfOk, OnOk}
+use Rattle.std.proofs.Common.{◌≡◌, refl, sym, ◌∙◌, ap, subst, arith, ℕ, zero, suc, ◌+◌, ◌≤◌, false, List, [], ◌++◌, length, ℤ, Option, None, Result, Ok, Err, IfOk, OnOk}
 use Rattle.std.specs.Result.{IsErr}
 use Rattle.dp_tree.specs.declared.Program.{Program}
 use Rattle.dp_tree.specs.Inlined.{IsInlined}
 use Rattle.dp_calls.specs.Expand.{expand}
-use Rattle.dp_calls.proofs.InlinedLaws.{expanded_is_inlined}
 use Rattle.dp_edge.specs.Sink.{appended}
 use Rattle.dp_crew.specs.declared.fail.CrewFail.{CrewFail}
 use Rattle.dp_crew.specs.Output.{WritesFront}
@@ -30,7 +29,7 @@ use Rattle.dswp.specs.Answer as answers
 use Rattle.dswp.specs.Headline.{IsCounted}
 use Rattle.dswp.specs.Carried.{Names, Finishes, Carried}
 use Rattle.dswp.specs.Carried as carried
-use Rattle.dswp.proofs.accepted.Accepted.{read_checked, few_sites_read}
+use Rattle.dswp.proofs.accepted.Accepted.{read_checked, inlined_read}
 use Rattle.dswp.proofs.AnswerLemmas.{finishes_source}
 
 text_size : length made_text ≡ 319
@@ -100,13 +99,10 @@ module _ (q : Program) (h : ReadsAs made_text (Ok q)) where
   s = source_of made_text q h
 
   pub read_inlined : IsInlined q
-  read_inlined = subst IsInlined (sym s.is) (expanded_is_inlined s.source (read_checked made_text s.source s.reads))
-
-  pub read_few : length q.sites < 2 ^ 32
-  read_few = subst (λ (x : Program). length x.sites < 2 ^ 32) (sym s.is) (few_sites_read made_text s.source s.reads)
+  read_inlined = subst IsInlined (sym s.is) (inlined_read made_text s.source s.reads)
 
   pub read_given : (plans : List Plan) → ArePlans q plans → AreGiven q plans
-  read_given plans fit = record { inlined = read_inlined; sites = read_few; plans_are = fit }
+  read_given plans fit = record { inlined = read_inlined; plans_are = fit }
 
 module _ (words : List (List ℕ)) (contents : Contents) (made : GenWords) (asks : Asks words (ToMake made)) where
   module _ (faults : ℕ) (failed : Names) (told tells : Option (List ℕ)) (result : Result ℕ CrewFail) where
@@ -120,7 +116,7 @@ module _ (words : List (List ℕ)) (contents : Contents) (made : GenWords) (asks
         let s = source_of made_text q read in
         let here = subst (λ (zs : List ℤ). Finishes (status_of (source_run q zs made.fuel).end) (made_line made ++ trace_text q plans (source_run q zs made.fuel) false) told tells result) e finishes in
         carried.OfAnswer _ _ (Done (ToMake made) s.source [] plans asks (made_texts contents made q plans s plans_made)) refl refl
-        (finishes_source s.source q s.is (read_checked made_text s.source s.reads) plans (made_words made) made.fuel false (made_line made) told tells result here)
+        (finishes_source s.source q s.is (read_checked made_text s.source s.reads) (inlined_read made_text s.source s.reads) plans (made_words made) made.fuel false (made_line made) told tells result here)
 
   -- where the run ended, the tally grew by what was committed of it
   pub run_counts : (q : Program) (plans : List Plan) (numbers : List ℤ) (before now : ℕ) (result : Result ℕ CrewFail) → numbers ≡ made_words made → ReadsAs made_text (Ok q) → MakesPlans q made.options None plans →

@@ -3,7 +3,6 @@ use Rattle.std.proofs.Common.{◌≡◌, sym, ◌∙◌, ap, false, ℕ, List, [
 use Rattle.dp_tree.specs.declared.Program.{Program}
 use Rattle.dp_calls.specs.Expand.{expand}
 use Rattle.dp_calls.specs.Frames.{outcome}
-use Rattle.dp_calls.proofs.InlinedLaws.{expanded_is_inlined}
 use Rattle.dp_calls.proofs.SameMeanings.{same_meaning}
 use Rattle.dp_profile.specs.Observed.{observed}
 use Rattle.dp_profile.specs.WrittenText.{profile_text}
@@ -25,7 +24,7 @@ use Rattle.dswp.specs.Carried.{Names, Finishes, Carried}
 use Rattle.dswp.specs.Carried as carried
 use Rattle.dswp.proofs.TextsLemmas.{Source, source_of}
 use Rattle.dswp.proofs.AnswerLemmas.{finishes_as}
-use Rattle.dswp.proofs.accepted.Accepted.{read_checked}
+use Rattle.dswp.proofs.accepted.Accepted.{read_checked, inlined_read}
 use Rattle.dswp.proofs.accepted.SameText.{same_end}
 
 module _ (words : List (List ℕ)) (contents : Contents) (faults after : ℕ) (failed fails : Names) (told tells : Option (List ℕ)) (result : Result ℕ CrewFail) where
@@ -43,7 +42,7 @@ module _ (words : List (List ℕ)) (contents : Contents) (faults after : ℕ) (f
     end_is : (numbers : List ℤ) → (observed q numbers profiling.fuel).end ≡ (outcome s.source numbers profiling.fuel).end
     end_is numbers =
         let checked = read_checked s.reads.text s.source s.reads.reads in
-        ap (λ (x : Program). (source_run x numbers profiling.fuel).end) s.is ∙ sym (same_end s.source (expanded_is_inlined s.source checked) (same_meaning s.source checked) [] numbers profiling.fuel false)
+        ap (λ (x : Program). (source_run x numbers profiling.fuel).end) s.is ∙ sym (same_end s.source (inlined_read s.reads.text s.source s.reads.reads) (same_meaning s.source checked) [] numbers profiling.fuel false)
 
     pub carry_profile : (numbers : List ℤ) → InputGives (Text numbers) → Finishes (status_of (observed q numbers profiling.fuel).end) (profile_text q (observed q numbers profiling.fuel).profile) told tells result →
         Carried words contents faults after failed fails told tells result

@@ -153,7 +153,6 @@ pub fn load_profile<S: Shelf>(
 ) -> Result<Loaded<Profile>, NoMemory>
     requires shelf { S.faults shelf.old < 2 ^ 64 - 1 }
     requires inlined { IsInlined program.now }
-    requires sites { length program.now.sites < 2 ^ 32 }
     ensures contents { S.contents shelf.new ≡ S.contents shelf.old }
     ensures faults { FaultsAfterLoad result (S.faults shelf.old) (S.faults shelf.new) }
     ensures failed_names { S.failed_names shelf.new ≡ option_map (names_after result name.now) (S.failed_names shelf.old) }
@@ -182,7 +181,6 @@ fn profile(
 ) -> Result<Result<Profile, Refusal>, NoMemory>
     requires text { length text.now ≤ 67108864 }
     requires inlined { IsInlined program.now }
-    requires sites { length program.now.sites < 2 ^ 32 }
     ensures { IfOk result (ReadsProfile program.now text.now) }
 {
     match read_profile(alloc, text, program) {

@@ -1,5 +1,5 @@
 //! The automatic plans of a program.
-ghost use Rattle.std.specs.Prelude.{◌≡◌, ◌<◌, ◌-◌, ◌^◌, ℕ, List, length, Some, Ok, IfOk, OnErr};
+ghost use Rattle.std.specs.Prelude.{◌≡◌, ◌<◌, ◌-◌, ◌^◌, ℕ, List, Some, Ok, IfOk, OnErr};
 ghost use Rattle.std.specs.Option.{option_copied, option_map};
 ghost use Rattle.dp_tree.specs.Inlined.{IsInlined};
 ghost use Rattle.dp_plan.specs.GivenPlans.{ArePlans};
@@ -36,7 +36,6 @@ pub fn automatic_plans(
     options: PlanOptions,
 ) -> Result<Row<Plan>, NoMemory>
     requires inlined { IsInlined program.now }
-    requires sites { length program.now.sites < 2 ^ 32 }
     requires options { OptionsWithin options }
     ensures made { IfOk result (MakesPlans program.now options (option_copied profile.entry)) }
     ensures fit { IfOk result (ArePlans program.now) }
@@ -60,7 +59,6 @@ pub fn load_least<S: Shelf>(
 ) -> Result<Loaded<Row<Plan>>, NoMemory>
     requires shelf { S.faults shelf.old < 2 ^ 64 - 1 }
     requires inlined { IsInlined program.now }
-    requires sites { length program.now.sites < 2 ^ 32 }
     requires options { OptionsWithin options }
     ensures contents { S.contents shelf.new ≡ S.contents shelf.old }
     ensures gives { IfOk result (Gives (Plans (S.contents shelf.old) program.now options (Least (option_map (λ n. n.now) name.entry))) (option_map (λ n. n.now) name.entry) (S.faults shelf.old) (S.faults shelf.new) (S.failed_names shelf.old) (S.failed_names shelf.new)) }
@@ -86,7 +84,6 @@ fn load_counts<S: Shelf>(
 ) -> Result<Loaded<Option<Profile>>, NoMemory>
     requires shelf { S.faults shelf.old < 2 ^ 64 - 1 }
     requires inlined { IsInlined program.now }
-    requires sites { length program.now.sites < 2 ^ 32 }
     ensures contents { S.contents shelf.new ≡ S.contents shelf.old }
     ensures gives { IfOk result (Gives (Profiled (S.contents shelf.old) program.now (option_map (λ n. n.now) name.entry)) (option_map (λ n. n.now) name.entry) (S.faults shelf.old) (S.faults shelf.new) (S.failed_names shelf.old) (S.failed_names shelf.new)) }
     ensures err { OnErr result ((S.faults shelf.new ≡ S.faults shelf.old) × (S.failed_names shelf.new ≡ S.failed_names shelf.old)) }
@@ -106,7 +103,6 @@ fn load_named_counts<S: Shelf>(
 ) -> Result<Loaded<Option<Profile>>, NoMemory>
     requires shelf { S.faults shelf.old < 2 ^ 64 - 1 }
     requires inlined { IsInlined program.now }
-    requires sites { length program.now.sites < 2 ^ 32 }
     ensures contents { S.contents shelf.new ≡ S.contents shelf.old }
     ensures gives { IfOk result (Gives (Profiled (S.contents shelf.old) program.now (Some name.now)) (Some name.now) (S.faults shelf.old) (S.faults shelf.new) (S.failed_names shelf.old) (S.failed_names shelf.new)) }
     ensures err { OnErr result ((S.faults shelf.new ≡ S.faults shelf.old) × (S.failed_names shelf.new ≡ S.failed_names shelf.old)) }
@@ -149,7 +145,6 @@ fn answer_least<S: Shelf, K: Sink>(
     sink: &mut K,
 ) -> Result<u8, CrewFail>
     requires inlined { IsInlined program.now }
-    requires sites { length program.now.sites < 2 ^ 32 }
     requires options { OptionsWithin plan.options }
     requires shelf { S.faults shelf.old < 2 ^ 64 - 1 }
     requires sink { K.faults sink.old < 2 ^ 64 - 1 }

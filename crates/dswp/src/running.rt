@@ -90,7 +90,6 @@ fn load_given<S: Shelf>(
 ) -> Result<Loaded<Row<Plan>>, NoMemory>
     requires shelf { S.faults shelf.old < 2 ^ 64 - 1 }
     requires inlined { IsInlined program.now }
-    requires sites { length program.now.sites < 2 ^ 32 }
     requires options { OptionsWithin options }
     ensures contents { S.contents shelf.new ≡ S.contents shelf.old }
     ensures gives { IfOk result (Gives (Plans (S.contents shelf.old) program.now options (shown_source source.entry)) (named_in (shown_source source.entry)) (S.faults shelf.old) (S.faults shelf.new) (S.failed_names shelf.old) (S.failed_names shelf.new)) }

@@ -130,7 +130,7 @@ branching_expanded = refl
 
 branching_is_checked : IsChecked branching
 unfolding tree_opened
-branching_is_checked = record { globals = refl; cells = refl; sites = refl; regions = refl; functions = refl; scoped = refl }
+branching_is_checked = record { globals = refl; cells = refl; sites = refl; roles = refl; regions = refl; functions = refl; scoped = refl }
 
 -- void e() { } void k(int a) { } void s() { print(8); } int main() { e(); k(4); e(); s(); print(7); }
 abbrev with_empty : Program
@@ -185,4 +185,4 @@ leaving_at_the_break_expanded = refl
 
 leaving_is_checked : IsChecked leaving
 unfolding tree_opened
-leaving_is_checked = record { globals = refl; cells = refl; sites = refl; regions = refl; functions = refl; scoped = refl }
+leaving_is_checked = record { globals = refl; cells = refl; sites = refl; roles = refl; regions = refl; functions = refl; scoped = refl }

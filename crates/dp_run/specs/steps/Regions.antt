@@ -1,13 +1,9 @@
 -- The regions that are left to do, by their numbers.
-use Rattle.std.specs.Prelude.{ℕ, List, filter_map, Option, Some, None}
+use Rattle.std.specs.Prelude.{ℕ, List, filter_map, Option}
 use Rattle.dp_tree.specs.declared.Stmt.{Stmt, out-Stmt}
-use Rattle.dp_tree.specs.declared.Stmt.TheOpen.{Stmt-F, Region}
+use Rattle.dp_tree.specs.Step.{region_number}
 
 -- the region's number
-abbrev pub region_number : Stmt-F Stmt → Option ℕ
-region_number (Region r site cond body) = Some r
-region_number _ = None
-
 abbrev pub number_of : Stmt → Option ℕ
 number_of s = region_number (out-Stmt s)
 

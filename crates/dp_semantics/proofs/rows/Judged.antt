@@ -12,7 +12,8 @@ use Rattle.dp_tree.proofs.Programs.{add, stale_read, same_value_store, skip_nega
 use Rattle.dp_plan.specs.declared.Plan.{Plan}
 use Rattle.dp_plan.specs.declared.StageKind.TheVariants.{Seq, Par}
 use Rattle.dp_plan.proofs.Plans.{plan, stale_read_plan, skip_negative_plan, histogram_plan, two_stores_plan, stale_step_plan, stale_divisor_plan}
-use Rattle.dp_semantics.specs.Clean.{count_from, int_eq, is_clean}
+use Rattle.dp_tree.specs.Numbering.{numbers_from}
+use Rattle.dp_semantics.specs.Clean.{int_eq, is_clean}
 use Rattle.dp_semantics.specs.Recovery.{epoch}
 use Rattle.dp_semantics.specs.StageRun.{turn_from}
 use Rattle.dp_semantics.specs.Judge.{Judgement, Clean, Unclean, Agreed, judge, judge_from}
@@ -59,7 +60,7 @@ abbrev verdict_in : Program → Plan → List ℤ → Run → ℕ → ℕ → Ve
 verdict_in p plan input run i e = compared (is_clean p plan run e i) (done_in plan run i) (judgement_at p plan input run e i (steps_before (start run plan.region i)))
 
 abbrev verdicts_of : Program → Plan → List ℤ → Run → List Verdict
-verdicts_of p plan input run = map (λ i. verdict_in p plan input run i (epoch p plan run i)) (count_from 0 (begun_count run plan.region))
+verdicts_of p plan input run = map (λ i. verdict_in p plan input run i (epoch p plan run i)) (numbers_from 0 (begun_count run plan.region))
 
 abbrev verdicts : Program → Plan → List ℤ → ℕ → List Verdict
 verdicts p plan input fuel = verdicts_of p plan input (source_run p input fuel)

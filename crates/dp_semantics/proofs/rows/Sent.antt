@@ -9,7 +9,8 @@ use Rattle.dp_tree.proofs.Build.{tree_opened}
 use Rattle.dp_tree.proofs.Programs.{stale_read, same_value_store, skip_negative, histogram, stale_step}
 use Rattle.dp_plan.specs.declared.Plan.{Plan}
 use Rattle.dp_plan.proofs.Plans.{stale_read_plan, skip_negative_plan, histogram_plan, stale_step_plan}
-use Rattle.dp_semantics.specs.Clean.{count_from, int_eq}
+use Rattle.dp_tree.specs.Numbering.{numbers_from}
+use Rattle.dp_semantics.specs.Clean.{int_eq}
 use Rattle.dp_semantics.specs.Packets.{Broken, Closing, Packet, Status, passed}
 use Rattle.dp_semantics.specs.Recovery.{epoch}
 use Rattle.dp_semantics.specs.Words.{Astray, is_load, is_done}
@@ -30,13 +31,13 @@ same_lists (v ∷ vs) (w ∷ ws) = same_words v w && same_lists vs ws
 same_lists _ _ = false
 
 abbrev agrees : Program → Plan → List ℤ → Run → ℕ → Bool
-agrees p plan input run i = same_lists (packet_at p plan input run (epoch p plan run i) i).lists (map (words_at_stage p plan (iteration run plan.region i)) (count_from 1 (length plan.stages)))
+agrees p plan input run i = same_lists (packet_at p plan input run (epoch p plan run i) i).lists (map (words_at_stage p plan (iteration run plan.region i)) (numbers_from 1 (length plan.stages)))
 
 abbrev agreeing : Program → Plan → List ℤ → List Bool
 agreeing p plan input = by (source_run p input 10000)
   where
     by : Run → List Bool
-    by run = map (agrees p plan input run) (count_from 0 (begun_count run plan.region))
+    by run = map (agrees p plan input run) (numbers_from 0 (begun_count run plan.region))
 
 stale_reads : agreeing stale_read stale_read_plan [] ≡ true ∷ true ∷ false ∷ true ∷ true ∷ false ∷ true ∷ []
 unfolding tree_opened turn_from
@@ -67,7 +68,7 @@ abbrev closing_packets : List Bool
 closing_packets = by (source_run same_value_store [] 10000)
   where
     by : Run → List Bool
-    by run = map (λ i. closes (packet_at same_value_store stale_read_plan [] run 0 i).status) (count_from 0 7)
+    by run = map (λ i. closes (packet_at same_value_store stale_read_plan [] run 0 i).status) (numbers_from 0 7)
 
 one_closes : closing_packets ≡ false ∷ false ∷ false ∷ false ∷ false ∷ false ∷ true ∷ []
 unfolding tree_opened turn_from

@@ -1,5 +1,5 @@
 -- A valid plan of an inlined program fits it; and the rules alone don't say so, where a stage line lists no site.
-use Rattle.std.proofs.Common.{◌≡◌, refl, true, false, [], ◌∷◌, None}
+use Rattle.std.proofs.Common.{◌≡◌, refl, true, false, [], ◌∷◌, None, arith}
 use Rattle.dp_tree.specs.Inlined.{IsInlined}
 use Rattle.dp_tree.proofs.Build.{tree_opened}
 use Rattle.dp_tree.proofs.Programs.{histogram, word_table_expanded}
@@ -13,7 +13,7 @@ use Rattle.dp_semantics.proofs.ValidFits.{valid_fits}
 
 word_table_is_inlined : IsInlined word_table_expanded
 unfolding tree_opened
-word_table_is_inlined = record { globals = refl; cells = refl; named = refl; functions = refl; calls = refl; sites = refl; regions = refl; table = refl }
+word_table_is_inlined = record { globals = refl; cells = refl; named = refl; functions = refl; calls = refl; sites = refl; roles = refl; regions = refl; table = refl; few = omega arith; few_each = refl }
 
 word_table_is_written : WrittenAs word_table_expanded word_table_written word_table_plan
 unfolding tree_opened

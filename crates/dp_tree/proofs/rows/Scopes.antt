@@ -1,5 +1,5 @@
 -- What checked and inlined programs have, and texts whose names aren't in scope.
-use Rattle.std.proofs.Common.{◌≡◌, refl, true, false, [], ◌∷◌, pos, List}
+use Rattle.std.proofs.Common.{◌≡◌, refl, true, false, [], ◌∷◌, pos, List, arith}
 use Rattle.dp_tree.specs.declared.VarScope.TheVariants.{Global, Outer, Body}
 use Rattle.dp_tree.specs.declared.Function.{Function}
 use Rattle.dp_tree.specs.declared.Program.{Program}
@@ -12,12 +12,12 @@ use Rattle.dp_tree.proofs.Programs.{word_table, word_table_expanded}
 
 table_is_checked : IsChecked word_table
 unfolding tree_opened
-table_is_checked = record { globals = refl; cells = refl; sites = refl; regions = refl; functions = refl; scoped = refl }
+table_is_checked = record { globals = refl; cells = refl; sites = refl; roles = refl; regions = refl; functions = refl; scoped = refl }
 
 expanded_table_is_inlined : IsInlined word_table_expanded
 unfolding tree_opened
 expanded_table_is_inlined =
-    record { globals = refl; cells = refl; named = refl; functions = refl; calls = refl; sites = refl; regions = refl; table = refl }
+    record { globals = refl; cells = refl; named = refl; functions = refl; calls = refl; sites = refl; roles = refl; regions = refl; table = refl; few = omega arith; few_each = refl }
 
 -- variable 0 is a file-scope one, the others are locals
 abbrev naming : List Function → List Stmt → Program

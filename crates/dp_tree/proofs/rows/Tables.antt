@@ -1,13 +1,15 @@
 -- Tables, numbers and texts that no checked or inlined program has.
-use Rattle.std.proofs.Common.{◌≡◌, refl, true, false, List, [], ◌∷◌, pos}
+use Rattle.std.proofs.Common.{◌≡◌, refl, true, false, List, [], ◌∷◌, pos, map}
 use Rattle.std.specs.List.{list_any}
 use Rattle.dp_tree.specs.declared.Stmt.{Stmt}
 use Rattle.dp_tree.specs.declared.Stmt.TheVariants as stmt
 use Rattle.dp_tree.specs.declared.VarScope.TheVariants.{Global, Outer}
 use Rattle.dp_tree.specs.Layout.{globals_first, lies_in_order}
-use Rattle.dp_tree.specs.Numbering.{site_numbers_all, regions_in_order, regions_listed}
+use Rattle.dp_tree.specs.Numbering.{site_numbers_all, regions_in_order, regions_listed, is_small_region}
+use Rattle.dp_tree.specs.SiteTable.{site_roles_all}
+use Rattle.dp_tree.specs.declared.SiteKind.TheVariants as kind
 use Rattle.dp_tree.specs.Inlined.{has_call}
-use Rattle.dp_tree.proofs.Build.{num, say, loop, region, call, scalar, array, one_region, tree_opened}
+use Rattle.dp_tree.proofs.Build.{num, set, set_at, say, loop, region, call, scalar, array, one_region, tree_opened}
 
 skipped_cell : lies_in_order 0 (scalar 0 (pos 0) Global ∷ scalar 2 (pos 0) Outer ∷ []) ≡ false
 skipped_cell = refl
@@ -28,6 +30,23 @@ global_behind_a_local = refl
 numbers_in_text_order : site_numbers_all (stmt.If (record { 0 = 1 }) (num 0) (say 2 (num 0) ∷ []) (say 3 (num 0) ∷ []) ∷ loop 4 (num 0) (say 5 (num 0) ∷ []) ∷ []) ≡ 1 ∷ 2 ∷ 3 ∷ 4 ∷ 5 ∷ []
 unfolding tree_opened
 numbers_in_text_order = refl
+
+-- a statement of each form, first outside all regions and then in region 2
+abbrev of_each_form : List Stmt
+of_each_form = set 1 0 (num 0) ∷ set_at 2 0 (num 0) (num 0) ∷ say 3 (num 0) ∷ stmt.If (record { 0 = 4 }) (num 0) (say 5 (num 0) ∷ []) (set 6 0 (num 0) ∷ []) ∷ call 0 1 [] ∷ loop 7 (num 0) (say 8 (num 0) ∷ []) ∷ []
+
+roles_outside : site_roles_all 0 of_each_form ≡ (kind.Assign, 0) ∷ (kind.Assign, 0) ∷ (kind.Print, 0) ∷ (kind.If, 0) ∷ (kind.Print, 0) ∷ (kind.Assign, 0) ∷ (kind.While, 0) ∷ (kind.Print, 0) ∷ []
+unfolding tree_opened
+roles_outside = refl
+
+roles_inside : site_roles_all 0 (region 2 1 (num 0) (stmt.Break (record { 0 = 2 }) (num 0) ∷ of_each_form) ∷ say 3 (num 0) ∷ []) ≡
+    (kind.While, 2) ∷ (kind.Break, 2) ∷ (kind.Assign, 2) ∷ (kind.Assign, 2) ∷ (kind.Print, 2) ∷ (kind.If, 2) ∷ (kind.Print, 2) ∷ (kind.Assign, 2) ∷ (kind.While, 2) ∷ (kind.Print, 2) ∷ (kind.Print, 0) ∷ []
+unfolding tree_opened
+roles_inside = refl
+
+-- regions of one site, of 1,024 and of 1,025
+sizes_of_regions : map (map is_small_region) (one_region 1 7 7 ∷ one_region 1 7 1030 ∷ one_region 1 7 1031 ∷ []) ≡ (true ∷ []) ∷ (true ∷ []) ∷ (false ∷ []) ∷ []
+sizes_of_regions = refl
 
 two_regions_in_order : regions_in_order 1 (region 1 1 (num 0) [] ∷ say 2 (num 0) ∷ region 2 3 (num 0) [] ∷ []) ≡ true
 unfolding tree_opened

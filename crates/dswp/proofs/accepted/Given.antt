@@ -1,15 +1,14 @@
 -- What is loaded for a run is what a run asks for.
-use Rattle.std.proofs.Common.{◌≡◌, refl, sym, ap, ◌∙◌, subst, ℕ, ◌<◌, ◌≤◌, ◌^◌, Bool, true, false, if◌then◌else◌, nat_lt, nat_le, min, suc, ◌+◌, List, [], ◌∷◌, length, ℤ, Option, Some, None, Result, Ok, Err, IfOk, arith}
+use Rattle.std.proofs.Common.{◌≡◌, refl, sym, ap, ◌∙◌, subst, ℕ, ◌≤◌, Bool, true, false, if◌then◌else◌, nat_lt, nat_le, min, suc, ◌+◌, List, [], ◌∷◌, length, ℤ, Option, Some, None, Result, Ok, Err, IfOk, arith}
 use Rattle.std.proofs.lemmas.Bool.{leb-true}
 use Rattle.dp_base.specs.declared.NoMemory.{NoMemory}
 use Rattle.dp_base.specs.declared.Quantity.TheVariants.{InputBytes}
 use Rattle.dp_edge.specs.declared.input.InputFail.{InputFail}
 use Rattle.dp_edge.specs.declared.input.InputFail.TheVariants.{TooMany}
-use Rattle.dp_edge.specs.Input.{number_before, number_of, numbers_from, numbers_of, words}
+use Rattle.dp_edge.specs.Input.{number_before, number_of, numbers_at, numbers_of, words}
 use Rattle.dswp.specs.declared.refusal.Refusal.TheVariants.{Limit}
 use Rattle.dp_tree.specs.declared.Program.{Program}
 use Rattle.dp_tree.specs.Inlined.{IsInlined}
-use Rattle.dp_calls.proofs.InlinedLaws.{expanded_is_inlined}
 use Rattle.dp_plan.specs.declared.Plan.{Plan}
 use Rattle.dp_plan.specs.GivenPlans.{ArePlans}
 use Rattle.dp_plan_text.proofs.ReadFits.{read_fits}
@@ -25,37 +24,36 @@ use Rattle.dswp.specs.declared.load.Loaded.{Loaded}
 use Rattle.dswp.specs.declared.load.Loaded.TheVariants.{Text, Refused, Failed}
 use Rattle.dswp.specs.Loading.{IfText, Loads, LoadsPlans, LoadsProgram}
 use Rattle.dswp.proofs.TextsLemmas.{Source, source_of}
-use Rattle.dswp.proofs.accepted.Accepted.{read_checked, few_sites_read}
+use Rattle.dswp.proofs.accepted.Accepted.{inlined_read}
 
-read_plans : {p : Program} {text : List ℕ} {o : Result (List Plan) Refusal} (inlined : IsInlined p) → length p.sites < 2 ^ 32 → (plans : List Plan) → ReadsPlans p text o → o ≡ Ok plans → ArePlans p plans
-read_plans inlined few plans (TooLong h) e = absurd (cc e)
-read_plans inlined few plans (NotPlans line h r) e = absurd (cc e)
-read_plans inlined few plans (Broken rule site h r) e = absurd (cc e)
-read_plans {p = p} {text = text} inlined few plans (Taken others h r) e = let same : others ≡ plans = cc e in subst (ArePlans p) same (read_fits p inlined few text others r)
+read_plans : {p : Program} {text : List ℕ} {o : Result (List Plan) Refusal} (inlined : IsInlined p) (plans : List Plan) → ReadsPlans p text o → o ≡ Ok plans → ArePlans p plans
+read_plans inlined plans (TooLong h) e = absurd (cc e)
+read_plans inlined plans (NotPlans line h r) e = absurd (cc e)
+read_plans inlined plans (Broken rule site h r) e = absurd (cc e)
+read_plans {p = p} {text = text} inlined plans (Taken others h r) e = let same : others ≡ plans = cc e in subst (ArePlans p) same (read_fits p inlined text others r)
 
 -- plans that were read fit their regions
-loaded_plans_fit : (contents : Contents) (p : Program) (name : List ℕ) → IsInlined p → length p.sites < 2 ^ 32 → (x : Loaded (List Plan)) → Loads (LoadsPlans contents p name) x → IfText (ArePlans p) x
-loaded_plans_fit contents p name inlined few (Text plans) h = read_plans inlined few plans h.reads refl
-loaded_plans_fit contents p name inlined few (Refused refusal) h = tt
-loaded_plans_fit contents p name inlined few Failed h = tt
+loaded_plans_fit : (contents : Contents) (p : Program) (name : List ℕ) → IsInlined p → (x : Loaded (List Plan)) → Loads (LoadsPlans contents p name) x → IfText (ArePlans p) x
+loaded_plans_fit contents p name inlined (Text plans) h = read_plans inlined plans h.reads refl
+loaded_plans_fit contents p name inlined (Refused refusal) h = tt
+loaded_plans_fit contents p name inlined Failed h = tt
 
-pub read_plans_fit : (contents : Contents) (p : Program) (name : List ℕ) → IsInlined p → length p.sites < 2 ^ 32 → (r : Result (Loaded (List Plan)) NoMemory) → IfOk r (Loads (LoadsPlans contents p name)) → IfOk r (IfText (ArePlans p))
-read_plans_fit contents p name inlined few (Ok x) h = loaded_plans_fit contents p name inlined few x h
-read_plans_fit contents p name inlined few (Err fail) h = tt
+pub read_plans_fit : (contents : Contents) (p : Program) (name : List ℕ) → IsInlined p → (r : Result (Loaded (List Plan)) NoMemory) → IfOk r (Loads (LoadsPlans contents p name)) → IfOk r (IfText (ArePlans p))
+read_plans_fit contents p name inlined (Ok x) h = loaded_plans_fit contents p name inlined x h
+read_plans_fit contents p name inlined (Err fail) h = tt
 
 pub given : (contents : Contents) (run : Run) (faults after : ℕ) (failed fails : Names) (q : Program) (numbers : List ℤ) (plans : List Plan) → LoadsTexts contents run faults after failed fails (texts.Run q numbers plans) → AreGiven q plans
 given contents run faults after failed fails q numbers plans (LoadedTexts p x others more is h k l fit e f) = record {
-  inlined = subst IsInlined (sym is) (expanded_is_inlined p (read_checked h.text p h.reads));
-  sites = subst (λ (z : Program). length z.sites < 2 ^ 32) (sym is) (few_sites_read h.text p h.reads);
+  inlined = subst IsInlined (sym is) (inlined_read h.text p h.reads);
   plans_are = fit;
 }
 
 -- a number for each word
-each_number : (words : List (List ℕ)) (place : ℕ) (numbers : List ℤ) (read : Result (List ℤ) InputFail) → numbers_from place words ≡ read → read ≡ Ok numbers → length numbers ≡ length words
+each_number : (words : List (List ℕ)) (place : ℕ) (numbers : List ℤ) (read : Result (List ℤ) InputFail) → numbers_at place words ≡ read → read ≡ Ok numbers → length numbers ≡ length words
 each_number [] place numbers read e is = let empty : [] ≡ numbers = cc (e ∙ is) in ap length (sym empty)
-each_number (word ∷ words) place numbers read e is = by (number_of word) (numbers_from (place + 1) words) refl (e ∙ is) (λ rest f. each_number words (place + 1) rest (Ok rest) f refl)
+each_number (word ∷ words) place numbers read e is = by (number_of word) (numbers_at (place + 1) words) refl (e ∙ is) (λ rest f. each_number words (place + 1) rest (Ok rest) f refl)
   where
-    by : (n : Option ℤ) (later : Result (List ℤ) InputFail) → numbers_from (place + 1) words ≡ later → number_before n place later ≡ Ok numbers → ((rest : List ℤ) → numbers_from (place + 1) words ≡ Ok rest → length rest ≡ length words) → length numbers ≡ suc (length words)
+    by : (n : Option ℤ) (later : Result (List ℤ) InputFail) → numbers_at (place + 1) words ≡ later → number_before n place later ≡ Ok numbers → ((rest : List ℤ) → numbers_at (place + 1) words ≡ Ok rest → length rest ≡ length words) → length numbers ≡ suc (length words)
     by None later f g next = absurd (cc g)
     by (Some number) (Ok rest) f g next = let same : number ∷ rest ≡ numbers = cc g in ap length (sym same) ∙ ap suc (next rest f)
     by (Some number) (Err fail) f g next = absurd (cc g)
@@ -63,8 +61,8 @@ each_number (word ∷ words) place numbers read e is = by (number_of word) (numb
 numbers_few : (text : List ℕ) (zs : List ℤ) → numbers_of text ≡ Ok zs → (numbers : List ℤ) → zs ≡ numbers → length numbers ≤ 65536
 numbers_few text zs is numbers same = by (nat_le (length (words text)) 65536) refl is
   where
-    by : (b : Bool) → nat_le (length (words text)) 65536 ≡ b → (if b then numbers_from 1 (words text) else Err (TooMany (min (length (words text)) 1000000))) ≡ Ok zs → length numbers ≤ 65536
-    by true few e = let count = each_number (words text) 1 zs (numbers_from 1 (words text)) refl e in let small = leb-true (length (words text)) 65536 few in let size = ap length (sym same) in omega (arith, count, small, size)
+    by : (b : Bool) → nat_le (length (words text)) 65536 ≡ b → (if b then numbers_at 1 (words text) else Err (TooMany (min (length (words text)) 1000000))) ≡ Ok zs → length numbers ≤ 65536
+    by true few e = let count = each_number (words text) 1 zs (numbers_at 1 (words text)) refl e in let small = leb-true (length (words text)) 65536 few in let size = ap length (sym same) in omega (arith, count, small, size)
     by false many e = absurd (cc e)
 
 -- the numbers of an input are few
@@ -83,13 +81,10 @@ few_words numbers (Named name read r) e = by (nat_lt 2097152 (length r.text)) re
 pub words_given : (contents : Contents) (run : Run) (faults after : ℕ) (failed fails : Names) (q : Program) (numbers : List ℤ) (plans : List Plan) → LoadsTexts contents run faults after failed fails (texts.Run q numbers plans) → length numbers ≤ 65536
 words_given contents run faults after failed fails q numbers plans (LoadedTexts p x others more is h k l fit e f) = few_words numbers k refl
 
--- what is run for a program's text has no call, and few sites
+-- what is run for a program's text is an inlined program
 module _ (contents : Contents) (name : List ℕ) (q : Program) (h : LoadsProgram contents name (Ok q)) where
   s : Source contents name q
   s = source_of contents name q h
 
   pub loaded_inlined : IsInlined q
-  loaded_inlined = subst IsInlined (sym s.is) (expanded_is_inlined s.source (read_checked s.reads.text s.source s.reads.reads))
-
-  pub loaded_few : length q.sites < 2 ^ 32
-  loaded_few = subst (λ (x : Program). length x.sites < 2 ^ 32) (sym s.is) (few_sites_read s.reads.text s.source s.reads.reads)
+  loaded_inlined = subst IsInlined (sym s.is) (inlined_read s.reads.text s.source s.reads.reads)

@@ -1,5 +1,5 @@
 -- A profile's text is read in one way only: as one profile, or with one refusal.
-use Rattle.std.proofs.Common.{◌≡◌, refl, sym, ap, ◌∙◌, inl, inr, ℕ, ◌≤◌, ◌<◌, ◌^◌, List, length, Result, Ok, Err, arith}
+use Rattle.std.proofs.Common.{◌≡◌, refl, sym, ap, ◌∙◌, inl, inr, ℕ, ◌≤◌, ◌<◌, List, length, Result, Ok, Err, arith}
 use Rattle.std.proofs.lemmas.Bool.{cases_lt}
 use Rattle.dp_base.specs.declared.Quantity.TheVariants.{ProfileBytes}
 use Rattle.dp_tree.specs.declared.Program.{Program}
@@ -14,15 +14,15 @@ use Rattle.dswp.specs.declared.refusal.Refusal.{Refusal}
 use Rattle.dswp.specs.declared.refusal.Refusal.TheVariants.{Limit, ProfileLine}
 use Rattle.dswp.specs.Profiles.{ReadsProfile, TooLong, NoProfile, Taken}
 
-module _ (p : Program) (inlined : IsInlined p) (few : length p.sites < 2 ^ 32) (text : List ℕ) where
+module _ (p : Program) (inlined : IsInlined p) (text : List ℕ) where
   one_profile : (profile other : Profile) → ProfileText p text profile → ProfileText p text other → profile ≡ other
-  one_profile profile other s t = elim (read_only p (few_regions p inlined few) (small_sites p inlined few) text profile s (Ok other) t) [
+  one_profile profile other s t = elim (read_only p (few_regions p inlined) (small_sites p inlined) text profile s (Ok other) t) [
     | inl same ↦ cc (sym same)
     | inr clash ↦ absurd (cc clash)
   ]
 
   unrefused : {A : Type 0} (profile : Profile) (line : ℕ) → ProfileText p text profile → IsRefused p text line → A
-  unrefused profile line s r = elim (read_only p (few_regions p inlined few) (small_sites p inlined few) text profile s (Err (fail.Refused line)) r) [
+  unrefused profile line s r = elim (read_only p (few_regions p inlined) (small_sites p inlined) text profile s (Err (fail.Refused line)) r) [
     | inl clash ↦ absurd (cc clash)
     | inr clash ↦ absurd (cc clash)
   ]

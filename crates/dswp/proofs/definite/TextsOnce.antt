@@ -8,14 +8,13 @@ use Rattle.dp_words.specs.Run as source
 use Rattle.dp_words.specs.Run.{Source, Least}
 use Rattle.dp_plan.specs.declared.Plan.{Plan}
 use Rattle.dp_profile.specs.declared.Profile.{Profile}
-use Rattle.dp_calls.proofs.InlinedLaws.{expanded_is_inlined}
 use Rattle.dp_cut.proofs.PlansOnce.{automatic_once}
 use Rattle.dswp.specs.Plans.{MakesPlans, ReadsPlans}
 use Rattle.dswp.specs.Profiles.{ReadsProfile}
 use Rattle.dswp.specs.Program.{Reads}
 use Rattle.dswp.specs.Inputs.{input_of}
 use Rattle.dswp.specs.Roles.{some_read, ReadsInput, Input, Unnamed, Named, Profiled, NotNamed, NamedProfile, Plans, Automatic, ProfileRefused, Planned}
-use Rattle.dswp.proofs.accepted.Accepted.{read_checked, few_regions_read, few_sites_read}
+use Rattle.dswp.proofs.accepted.Accepted.{few_regions_read, inlined_read}
 use Rattle.dswp.proofs.definite.ReadsOnce.{reads_once}
 use Rattle.dswp.proofs.definite.PlansOnce.{plans_once}
 use Rattle.dswp.proofs.definite.ProfilesOnce.{profiles_once}
@@ -54,7 +53,7 @@ module _ (held : List ℕ → Option (List ℕ)) where
     from_profile name text a e h r (NamedProfile other more c k s) =
         let same : name ≡ other = cc e in
         let here : ReadsProfile p text c = subst (λ (x : List ℕ). ReadsProfile p x c) (sym (one_text same h k)) s in
-        ap some_read (profiles_once p (expanded_is_inlined program (read_checked own program reads)) (few_sites_read own program reads) text r here)
+        ap some_read (profiles_once p (inlined_read own program reads) text r here)
 
     profiled_by : {o q : Option (List ℕ)} {a b : Result (Option Profile) Refusal} → o ≡ q → Profiled (Some held) p o a → Profiled (Some held) p q b → a ≡ b
     profiled_by e NotNamed k = from_no_profile e k

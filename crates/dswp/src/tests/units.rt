@@ -1,5 +1,5 @@
 //! The units of one epoch, polled by hand: what a poll answers, and that no order of polls changes a verdict.
-ghost use Rattle.std.specs.Prelude.{◌≡◌, ◌≤◌, ◌<◌, ◌^◌, ◌-◌, length, IfOk};
+ghost use Rattle.std.specs.Prelude.{◌≡◌, ◌≤◌, ◌<◌, ◌^◌, ◌-◌, IfOk};
 ghost use Rattle.dp_tree.specs.Inlined.{IsInlined};
 ghost use Rattle.dp_plan.specs.GivenPlans.{IsPlan};
 ghost use Rattle.dp_pipeline.specs.Programs.{ArePrograms};
@@ -60,7 +60,6 @@ fn pipeline_of<'u>(
     setter: &mut StopSetter,
 ) -> Result<Pipeline<'u>, NoMemory>
     requires inlined { IsInlined p.now }
-    requires sites { length p.now.sites < 2 ^ 32 }
     requires plan { IsPlan p.now plan.now }
     requires programs { ArePrograms p.now plan.now programs.now }
     requires workers { (1 ≤ workers) × (workers ≤ 8) }
@@ -106,7 +105,6 @@ fn is_clean_in<R: Wait>(
     order: Order,
 ) -> Result<bool, NoMemory>
     requires inlined { IsInlined p.now }
-    requires sites { length p.now.sites < 2 ^ 32 }
     requires plan { IsPlan p.now plan.now }
 {
     let programs = stage_programs(alloc, p, plan)?;
@@ -143,7 +141,6 @@ fn first_answers<R: Wait>(
     plan: &Plan,
 ) -> Result<Row<Polled>, NoMemory>
     requires inlined { IsInlined p.now }
-    requires sites { length p.now.sites < 2 ^ 32 }
     requires plan { IsPlan p.now plan.now }
 {
     let programs = stage_programs(alloc, p, plan)?;
@@ -175,7 +172,6 @@ fn each_row<R: Abort + Wait>(
     plan: &Plan,
 ) -> Result<(), NoMemory>
     requires inlined { IsInlined p.now }
-    requires sites { length p.now.sites < 2 ^ 32 }
     requires plan { IsPlan p.now plan.now }
 {
     let expected = [
@@ -199,7 +195,6 @@ fn with_program<R: Abort + Wait, S: Shelf>(
     shelf: &mut S,
 ) -> Result<(), NoMemory>
     requires inlined { IsInlined program.now }
-    requires sites { length program.now.sites < 2 ^ 32 }
     requires shelf { S.faults shelf.old < 2 ^ 64 - 1 }
 {
     match load_plans(alloc, shelf, "plan.txt", program)? {

@@ -24,5 +24,5 @@ returns-clause-least c =
 pub returns-clause-fit : goal.returns-clause-fit
 returns-clause-fit c =
     let all : length c.args.p.now.regions ≤ c.loop-place.place = omega (arith, c.loop-place-test.false, c.len-place-end.ensures) in
-    automatic_valid c.args.p.now c.requires.inlined c.requires.sites (option_copied c.args.wishes.profile) c.args.wishes.rate c.args.wishes.stages c.args.wishes.workers c.loop-place.plans c.requires.few_stages
+    automatic_valid c.args.p.now c.requires.inlined (option_copied c.args.wishes.profile) c.args.wishes.rate c.args.wishes.stages c.args.wishes.workers c.loop-place.plans c.requires.few_stages
     (made_least c.args.p.now _ _ _ _ c.loop-place.place c.loop-place.plans all c.loop-place.invariant)

@@ -31,9 +31,9 @@ returns-in-None-next c =
     let same : c.as_slice.result.now ≡ regions c.args.p.now = c.as_slice.ensures ∙ c.in_ok-all.ensures in
     let none : next_by (regions c.args.p.now) c.lines.reader (line_of (words c.in-Some.line.now)) ≡ None =
     ap (λ (l : List (List RegionSite)). next_by l c.lines.reader (line_of (words c.in-Some.line.now))) (sym same) ∙ sym c.in_ok-next-in-Some.ensures ∙ c.in-None-next.is in
-    refused_line p c.args.text.now (few_regions p c.requires.inlined c.requires.sites) (small_sites p c.requires.inlined c.requires.sites) c.lines.reader c.lines.rest.now c.in-Some.line.now c.in-Some.more.now c.lines.count c.lines.invariant.0 cut none
+    refused_line p c.args.text.now (few_regions p c.requires.inlined) (small_sites p c.requires.inlined) c.lines.reader c.lines.rest.now c.in-Some.line.now c.in-Some.more.now c.lines.count c.lines.invariant.0 cut none
 
 pub returns-in-None : goal.returns-in-None
 returns-in-None c =
     let p = c.args.p.now in
-    ended p c.args.text.now (few_regions p c.requires.inlined c.requires.sites) (small_sites p c.requires.inlined c.requires.sites) c.lines.reader c.lines.rest.now c.lines.count c.finished.result c.lines.invariant.0 c.in-None.ensures.lines c.finished.ensures
+    ended p c.args.text.now (few_regions p c.requires.inlined) (small_sites p c.requires.inlined) c.lines.reader c.lines.rest.now c.lines.count c.finished.result c.lines.invariant.0 c.in-None.ensures.lines c.finished.ensures

@@ -3,6 +3,6 @@ use Rattle.dp_semantics.proofs.law.given_plans_fit.Goals as goal
 
 pub returns : goal.returns
 returns c = record {
-  fits = given_fits c.args.p.now c.requires.inlined c.requires.sites c.args.plan.now c.requires.plan;
-  tabled = given_tabled c.args.p.now c.requires.inlined c.requires.sites c.args.plan.now c.requires.plan;
+  fits = given_fits c.args.p.now c.requires.inlined c.args.plan.now c.requires.plan;
+  tabled = given_tabled c.args.p.now c.requires.inlined c.args.plan.now c.requires.plan;
 }

@@ -1,5 +1,5 @@
 use Rattle.dswp.proofs.AnswerLemmas.{refused_counts}
-use Rattle.dswp.proofs.MadeLemmas.{carry_refused, carry_run, few_words, read_few, read_given, read_inlined, read_made, run_counts, short_made}
+use Rattle.dswp.proofs.MadeLemmas.{carry_refused, carry_run, few_words, read_given, read_inlined, read_made, run_counts, short_made}
 use Rattle.dswp.proofs.made.answer_gen.Goals as goal
 
 pub read_program-requires : goal.read_program-requires
@@ -7,9 +7,6 @@ read_program-requires g c = short_made _ _ c.as_slice.ensures c.in_ok-made.ensur
 
 pub automatic_plans-requires-clause-inlined : goal.automatic_plans-requires-clause-inlined
 automatic_plans-requires-clause-inlined g c = read_inlined _ (read_made _ _ _ _ c.as_slice.ensures c.in_ok-made.ensures.text c.in-Ok.is c.in_ok-program.ensures)
-
-pub automatic_plans-requires-clause-sites : goal.automatic_plans-requires-clause-sites
-automatic_plans-requires-clause-sites g c = read_few _ (read_made _ _ _ _ c.as_slice.ensures c.in_ok-made.ensures.text c.in-Ok.is c.in_ok-program.ensures)
 
 pub run_made-requires-clause-given : goal.run_made-requires-clause-given
 run_made-requires-clause-given g c κs within = read_given _ (read_made _ _ _ _ c.as_slice.ensures c.in_ok-made.ensures.text c.in-Ok.is c.in_ok-program.ensures) _ c.in_ok-plans-in-Ok.ensures.fit

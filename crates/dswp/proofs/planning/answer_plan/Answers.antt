@@ -3,14 +3,11 @@ use Rattle.dp_words.specs.Planning.{shown_planning}
 use Rattle.dp_words.specs.Words.{ToPlan}
 use Rattle.dswp.proofs.TextsLemmas.{given, program_gives}
 use Rattle.dswp.proofs.AnswerLemmas.{carry_on, carry_program_refused, carry_program_failed}
-use Rattle.dswp.proofs.accepted.Given.{loaded_inlined, loaded_few}
+use Rattle.dswp.proofs.accepted.Given.{loaded_inlined}
 use Rattle.dswp.proofs.planning.answer_plan.Goals as goal
 
 pub answer_least-requires-clause-inlined : goal.answer_least-requires-clause-inlined
 answer_least-requires-clause-inlined g c = loaded_inlined _ _ _ (given _ _ _ (c.in_ok-program.was ∙ ap Ok c.in-Text.is) (program_gives _ _ _ _ _ _ _ c.load_program.ensures.loads c.load_program.ensures.faults c.load_program.ensures.failed_names)).0
-
-pub answer_least-requires-clause-sites : goal.answer_least-requires-clause-sites
-answer_least-requires-clause-sites g c = loaded_few _ _ _ (given _ _ _ (c.in_ok-program.was ∙ ap Ok c.in-Text.is) (program_gives _ _ _ _ _ _ _ c.load_program.ensures.loads c.load_program.ensures.faults c.load_program.ensures.failed_names)).0
 
 pub returns-in-Text-clause-carried : goal.returns-in-Text-clause-carried
 returns-in-Text-clause-carried g c words asks =

@@ -1,6 +1,6 @@
 use Rattle.std.proofs.Common.{◌∙◌, ap, Ok}
 use Rattle.dswp.proofs.TextsLemmas.{program_gives, given, program_refused, program_failed, input_refused, input_failed, plans_refused, plans_failed, all_loaded}
-use Rattle.dswp.proofs.accepted.Given.{loaded_inlined, loaded_few}
+use Rattle.dswp.proofs.accepted.Given.{loaded_inlined}
 use Rattle.dswp.proofs.running.load.Goals as goal
 
 pub returns-in-Refused-clause-loads : goal.returns-in-Refused-clause-loads
@@ -34,7 +34,3 @@ returns-in-Text-3-clause-loads g c =
 pub load_given-requires-clause-inlined : goal.load_given-requires-clause-inlined
 load_given-requires-clause-inlined g c =
     loaded_inlined _ _ _ (given _ _ _ (c.in_ok-program.was ∙ ap Ok c.in-Text.is) (program_gives _ _ _ _ _ _ _ c.load_program.ensures.loads c.load_program.ensures.faults c.load_program.ensures.failed_names)).0
-
-pub load_given-requires-clause-sites : goal.load_given-requires-clause-sites
-load_given-requires-clause-sites g c =
-    loaded_few _ _ _ (given _ _ _ (c.in_ok-program.was ∙ ap Ok c.in-Text.is) (program_gives _ _ _ _ _ _ _ c.load_program.ensures.loads c.load_program.ensures.faults c.load_program.ensures.failed_names)).0

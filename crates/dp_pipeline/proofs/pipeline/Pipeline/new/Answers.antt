@@ -5,10 +5,9 @@ use Rattle.dp_pipeline.proofs.pipeline.Pipeline.new.Goals as goal
 pub units_of-requires-clause-setting : goal.units_of-requires-clause-setting
 units_of-requires-clause-setting c = record {
   inlined = c.requires.inlined;
-  sites = c.requires.sites;
   is_plan = c.requires.plan;
-  fits = given_fits c.args.p.now c.requires.inlined c.requires.sites c.args.plan.now c.requires.plan;
-  tabled = given_tabled c.args.p.now c.requires.inlined c.requires.sites c.args.plan.now c.requires.plan;
+  fits = given_fits c.args.p.now c.requires.inlined c.args.plan.now c.requires.plan;
+  tabled = given_tabled c.args.p.now c.requires.inlined c.args.plan.now c.requires.plan;
   programs = c.requires.programs.each;
   some_room = c.requires.lane.0;
   little_room = c.requires.lane.1;

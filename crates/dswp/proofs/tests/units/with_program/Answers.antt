@@ -8,5 +8,5 @@ use Rattle.dswp.proofs.tests.units.with_program.Goals as goal
 
 pub each_row-requires-clause-plan : goal.each_row-requires-clause-plan
 each_row-requires-clause-plan g c =
-    let plans_are : ArePlans c.args.program.now c.in-Text.plans = given _ _ _ (c.in_ok-plans.was ∙ ap Ok c.in-Text.is) (read_plans_fit _ _ _ c.requires.inlined c.requires.sites _ c.load_plans.ensures.loads) in
+    let plans_are : ArePlans c.args.program.now c.in-Text.plans = given _ _ _ (c.in_ok-plans.was ∙ ap Ok c.in-Text.is) (read_plans_fit _ _ _ c.requires.inlined _ c.load_plans.ensures.loads) in
     each_at (IsPlan c.args.program.now) _ plans_are.each 0 _ (ap (λ (xs : List Plan). slice_get xs 0) (sym c.as_slice.ensures) ∙ sym c.in-Some.ensures.value)
