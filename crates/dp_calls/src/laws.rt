@@ -1,5 +1,6 @@
 ghost use Rattle.std.specs.Prelude.{◌≡◌, ◌≤◌, true, length};
 ghost use Rattle.std.specs.List.{list_all};
+ghost use Rattle.dp_base.specs.declared.limits.TheConstants.{INLINED_SIZE};
 ghost use Rattle.dp_tree.specs.Checked.{IsChecked};
 ghost use Rattle.dp_tree.specs.Inlined.{IsInlined};
 ghost use Rattle.dp_tree.specs.Numbering.{is_small_region};
@@ -27,7 +28,7 @@ pub fn expansion_keeps_the_meaning(p: &Program)
 /// a program: no call is left, and variables, cells, sites and regions are numbered in text order.
 pub fn expansion_is_inlined(p: &Program)
     requires checked { IsChecked p.now }
-    requires sites { length (expand p.now).sites ≤ 8192 }
+    requires sites { length (expand p.now).sites ≤ INLINED_SIZE }
     requires regions { list_all is_small_region (expand p.now).regions ≡ true }
     ensures inlined { IsInlined (expand p.now) }
 {}

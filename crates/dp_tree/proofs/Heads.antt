@@ -12,7 +12,8 @@ use Rattle.dp_tree.specs.Event.{Effect, Printed, Decided, Tried, Event, value_of
 use Rattle.dp_tree.specs.Step.{Config, Finished, Stepped, choose, followed, behind_region, behind_one, region_number, stored_by, after_effect, site_of, decided, tried, evaluated, standing, step_by, step_at, step_from, step}
 use Rattle.dp_tree.specs.Iteration.{is_region, decides_zero, leaves}
 use Rattle.dp_tree.specs.RegionLaws.{keeps, keeps_in}
-pub use Rattle.dp_tree.proofs.SitesOf.{and_make, and_true, keeps_all, keeps_at, keeps_behind, keeps_followed, keeps_out, no_region, opened_statement}
+pub use Rattle.dp_tree.proofs.SitesOf.{and_make, and_true, keeps_all, keeps_at, keeps_behind, keeps_followed, keeps_out, no_region}
+unfoldable pub use Rattle.dp_tree.proofs.SitesOf.{opened_statement}
 
 -- a break that is taken
 abbrev pub taken : Stmt-F Stmt → ℤ → Bool

@@ -2,6 +2,7 @@
 -- the tables say what stands in the text, and no limit of the language is passed.
 use Rattle.std.specs.Prelude.{ℕ, ◌≡◌, ◌≤◌, Bool, true, false, ◌&&◌, ◌||◌, [], length, map, nat_lt}
 use Rattle.std.specs.List.{list_all, list_any}
+use Rattle.dp_base.specs.declared.limits.TheConstants.{INLINED_SIZE}
 use Rattle.dp_tree.specs.declared.Expr.{Expr, end_of-Expr, more_of-Expr}
 use Rattle.dp_tree.specs.declared.Expr.TheVariants.{Number, Input', InputLen, Scalar, Element', Unary', Binary', And', Or'}
 use Rattle.dp_tree.specs.declared.Stmt.{Stmt, Row_of-Stmt, end_of-Stmt, more_of-Stmt}
@@ -73,6 +74,6 @@ pub record IsInlined (p : Program) : Type 0 where
   -- regions stand at the top of `main` alone, numbered in text order, and have their sites in the table
   pub regions : regions_in_order 1 p.main ≡ true
   pub table : regions_listed p.main p.regions ≡ true
-  -- there are at most 8,192 sites, and at most 1,024 in a region
-  pub few : length p.sites ≤ 8192
+  -- neither the program nor a region has too many of them
+  pub few : length p.sites ≤ INLINED_SIZE
   pub few_each : list_all is_small_region p.regions ≡ true

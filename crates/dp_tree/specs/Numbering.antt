@@ -1,6 +1,7 @@
 -- How sites and regions are numbered: in text order, the regions at the top of `main`.
 use Rattle.std.specs.Prelude.{ℕ, zero, suc, ◌+◌, ◌==◌, Bool, true, false, ◌&&◌, List, [], ◌∷◌, ◌++◌, length, nat_lt, ◌≡◌}
 use Rattle.std.specs.List.{flat_map}
+use Rattle.dp_base.specs.declared.limits.TheConstants.{REGION_SITES}
 use Rattle.dp_tree.specs.declared.RegionInfo.{RegionInfo}
 use Rattle.dp_tree.specs.declared.Program.{Program}
 use Rattle.dp_tree.specs.declared.Stmt.{Stmt, Row_of-Stmt, end_of-Stmt, more_of-Stmt}
@@ -96,6 +97,6 @@ regions_listed [] [] = true
 regions_listed [] (info ∷ rest) = false
 regions_listed (s ∷ rest) regions = listed_first (is_marked s) s (regions_listed rest) regions
 
--- the entry's region has at most 1,024 sites
+-- the entry's region has no more sites than a region may have
 abbrev pub is_small_region : RegionInfo → Bool
-is_small_region info = nat_lt info.last.0 (info.first.0 + 1024)
+is_small_region info = nat_lt info.last.0 (info.first.0 + REGION_SITES)
