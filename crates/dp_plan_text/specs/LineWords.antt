@@ -1,6 +1,7 @@
 -- What a line's words say.
 use Rattle.std.specs.Prelude.{ℕ, ◌==◌, if◌then◌else◌, Bool, true, false, ◌&&◌, nat_le, nat_lt, List, [], ◌∷◌, codes, Option, Some, None}
 use Rattle.std.specs.Str.{bytes_eq}
+use Rattle.dp_base.specs.declared.limits.TheConstants.{LEAST_WORDS, MOST_WORDS}
 use Rattle.dp_plan.specs.declared.StageKind.{StageKind}
 use Rattle.dp_plan.specs.declared.StageKind.TheVariants.{Seq, Par}
 use Rattle.dp_plan_text.specs.declared.line.Line.{Line}
@@ -36,7 +37,7 @@ stage_line kind (Some (site ∷ rest)) = Some (line.Stage (record { kind = kind;
 abbrev pub region_of : Option ℕ → Option ℕ → Option Line
 region_of None w = None
 region_of (Some r) None = None
-region_of (Some r) (Some w) = if nat_le 16 w && nat_le w 4096 then Some (line.Region r w) else None
+region_of (Some r) (Some w) = if nat_le LEAST_WORDS w && nat_le w MOST_WORDS then Some (line.Region r w) else None
 
 -- the same where `words` stands between
 abbrev pub region_labelled : List ℕ → Option ℕ → Option ℕ → Option Line

@@ -1,5 +1,6 @@
 -- Which lines may follow one another.
 use Rattle.std.specs.Prelude.{ℕ, ◌+◌, ◌==◌, if◌then◌else◌, Bool, true, false, not, ◌&&◌, ◌||◌, nat_lt, List, [], ◌∷◌, ◌++◌, length, Option, Some, None}
+use Rattle.dp_base.specs.declared.limits.TheConstants.{STAGES}
 use Rattle.dp_tree.specs.declared.Assume.{Assume}
 use Rattle.dp_plan_text.specs.declared.line.Line.{Line}
 use Rattle.dp_plan_text.specs.declared.line.Line.TheVariants as line
@@ -52,7 +53,7 @@ unfoldable pub next : ℕ → Reader → Line → Option Reader
 next n s (line.Head proved) = if is_start s.phase then Some (record s { phase = phase.Inside; proved = proved }) else None
 next n s (line.Region r w) = if is_between s && (nat_lt s.last.region n && (r == s.last.region + 1)) then Some (with_region s r w) else None
 next n s (line.Stage stage) =
-    if has_region s && (nat_lt (length s.last.stages) 8 && (length s.last.assume == 0)) then Some (with_stage s stage) else None
+    if has_region s && (nat_lt (length s.last.stages) STAGES && (length s.last.assume == 0)) then Some (with_stage s stage) else None
 next n s (line.Assume a) = if has_region s && nat_lt 0 (length s.last.stages) then Some (with_assume s a) else None
 next n s line.End = if is_between s && (s.last.region == n) then Some (with_end s) else None
 

@@ -1,6 +1,7 @@
 -- The text of a profile: its lines in order, the words of each, and what the numbers have to be.
 use Rattle.std.specs.Prelude.{◌≡◌, ℕ, ◌+◌, ◌≤◌, ◌==◌, Bool, true, false, not, ◌&&◌, ◌||◌, nat_lt, List, [], ◌∷◌, ◌++◌, map, codes, decimal}
 use Rattle.std.specs.List.{list_any}
+use Rattle.dp_base.specs.declared.limits.TheConstants.{PROFILE_COUNT}
 use Rattle.dp_tree.specs.declared.Program.{Program}
 use Rattle.dp_plan.specs.Each.{Each}
 use Rattle.dp_plan_text.specs.PlanText.{joined, lines_of}
@@ -14,7 +15,7 @@ use Rattle.dp_profile.specs.Sites.{RegionSite, regions}
 
 -- the most that a count may be
 abbrev pub most_count : ℕ
-most_count = 1000000000000
+most_count = PROFILE_COUNT
 
 -- whether the store was of an earlier iteration
 abbrev pub kind_word : Bool → List ℕ

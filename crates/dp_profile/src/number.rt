@@ -5,6 +5,8 @@ ghost use Rattle.dp_plan_text.specs.Words.{is_plain};
 ghost use Rattle.dp_profile.specs.Numbers as spec;
 ghost use Rattle.dp_profile.specs.LineWords as line_words;
 
+use dp_base::limits::PROFILE_COUNT;
+
 /// The number with one digit more, where it is at most `most`.
 fn with_digit(most: u64, number: u64, digit: u8) -> Option<u64>
     ensures { result ≡ spec.digit_after most number digit }
@@ -62,5 +64,5 @@ pub fn short(word: &[u8]) -> Option<u32>
 pub fn count(word: &[u8]) -> Option<u64>
     ensures { result ≡ line_words.count word.now }
 {
-    number(1_000_000_000_000, word)
+    number(PROFILE_COUNT, word)
 }

@@ -1,5 +1,6 @@
 -- What the definitions should mean, in laws of their own.
 use Rattle.std.specs.Prelude.{◌≡◌, ℕ, ◌<◌, ◌&&◌, true, List, [], Some, is_none, ℤ, length, nat_le, AllPairs, Contains}
+use Rattle.dp_base.specs.declared.limits.TheConstants.{MOST_WORDS}
 use Rattle.dp_tree.specs.declared.Program.{Program}
 use Rattle.dp_plan.specs.declared.Plan.{Plan}
 use Rattle.dp_tree.specs.Step.{Config}
@@ -11,10 +12,10 @@ use Rattle.dp_semantics.specs.Clean.{events_since, is_clean}
 use Rattle.dp_semantics.specs.Recovery.{is_recovered, recovered}
 use Rattle.dp_semantics.specs.OneStage.{one_stage_plan}
 
--- With the one-stage plan an iteration of a run that begins within `main` is clean, in whatever epoch, exactly where it has ended and has at most 4,096 events.
+-- With the one-stage plan an iteration of a run that begins within `main` is clean, in whatever epoch, exactly where it has ended and has at most as many events as a plan may allow words.
 abbrev pub CleanInOneStage : Program → ℕ → Type 0
 CleanInOneStage p r = (input : List ℤ) (fuel : ℕ) (c : Config) → StandsInMain p c → (e i : ℕ) →
-    is_clean p (one_stage_plan p r) (run_of p input fuel c) e i ≡ (has_ended (run_of p input fuel c) r i && nat_le (length (iteration (run_of p input fuel c) r i)) 4096)
+    is_clean p (one_stage_plan p r) (run_of p input fuel c) e i ≡ (has_ended (run_of p input fuel c) r i && nat_le (length (iteration (run_of p input fuel c) r i)) MOST_WORDS)
 
 -- The iterations that are executed again stand in ascending order, and they are the begun ones that aren't clean in their epochs.
 pub record Recovers (p : Program) (plan : Plan) (run : Run) : Type 0 where

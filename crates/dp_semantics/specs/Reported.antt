@@ -3,6 +3,7 @@ use Rattle.std.specs.Prelude.{ℕ, List, length, map, take}
 use Rattle.dp_base.specs.declared.Cause.{Cause as ReportedCause}
 use Rattle.dp_base.specs.declared.Cause.TheVariants as why
 use Rattle.dp_base.specs.declared.RegionReport.{RegionReport}
+use Rattle.dp_base.specs.declared.limits.TheConstants.{LISTED}
 use Rattle.dp_tree.specs.declared.Program.{Program}
 use Rattle.dp_tree.specs.Trace.{Run}
 use Rattle.dp_tree.specs.Iteration.{begun_count}
@@ -18,10 +19,10 @@ reported (ByWords stage site) = why.Words stage (record { 0 = site })
 reported (ByFault fault) = why.Fault fault
 reported ByFuel = why.Fuel
 
--- the report of these begun iterations, of which those were executed again: the first 1,000 of them are listed, each with its cause
+-- the report of these begun iterations, of which those were executed again: the first of them are listed, each with its cause
 abbrev pub report_of : ℕ → ℕ → List ℕ → (ℕ → ReportedCause) → RegionReport
 report_of region n again cause_is =
-    record { region = region; iterations = n; recovered_count = length again; recovered = take 1000 again; causes = map cause_is (take 1000 again) }
+    record { region = region; iterations = n; recovered_count = length again; recovered = take LISTED again; causes = map cause_is (take LISTED again) }
 
 -- the report of the plan's region in a run
 abbrev pub region_report : Program → Plan → Run → RegionReport
