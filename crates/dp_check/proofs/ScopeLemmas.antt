@@ -29,7 +29,7 @@ use Rattle.dp_check.proofs.NumberLemmas.{stmt_opened}
 use Rattle.dp_check.proofs.BoolLemmas.{both_true, halves, all_weaker}
 use Rattle.dp_check.proofs.DeclaredLemmas.{Declared, declared_front, declared_back}
 use Rattle.dp_check.proofs.KnownLemmas.{seen_behind_all, known_behind, is_known_if, all_known, found, sees_first, known_more, known_append, knows_expr, knows_args}
-use Rattle.dp_check.proofs.Visible.{At, assigned, at_declared, at_passed, below, below_still, called, known, lawful_first, lawful_parts, stored, unseen}
+use Rattle.dp_check.proofs.Visible.{At, assigned, at_declared, at_passed, below_still, called, lawful_first, lawful_parts, stored, unseen}
 
 -- ---- each form of statement
 

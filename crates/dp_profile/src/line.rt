@@ -8,6 +8,7 @@ ghost use Rattle.dp_profile.specs.LineWords as spec;
 use crate::number::{count, short};
 use crate::{Flow, SiteCount};
 use dp_base::SiteId;
+use dp_plan_text::next_word;
 
 /// A line of a text.
 #[derive(Clone, Copy, Debug, PartialEq, Eq)]
