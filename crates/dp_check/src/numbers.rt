@@ -1,11 +1,28 @@
 //! The numbers that statements use, before any name is looked at.
 
 ghost use Rattle.std.specs.Prelude.{◌≡◌, OnOk};
-ghost use Rattle.dp_check.specs.Place.{passed, parts, parts_all};
+ghost use Rattle.dp_check.specs.Place.{passed, parts, parts_all, sited, with_variable};
 
 use crate::place::Place;
 use dp_base::NoMemory;
 use dp_tree::RawStmt;
+
+/// Passes a declaration.
+fn pass_declaration(place: &mut Place<'_>) -> Result<(), NoMemory>
+    ensures { OnOk result (place.new ≡ with_variable (sited place.old)) }
+{
+    place.take_site()?;
+    place.take_variable()?;
+    Ok(())
+}
+
+/// Passes a statement that has one site, and no variable.
+fn pass_site(place: &mut Place<'_>) -> Result<(), NoMemory>
+    ensures { OnOk result (place.new ≡ sited place.old) }
+{
+    place.take_site()?;
+    Ok(())
+}
 
 /// Passes a statement: its numbers are used.
 #[tactic(auto, using(crate::proofs::PlaceLemmas::pass_forms))]
@@ -14,18 +31,11 @@ fn pass(place: &mut Place<'_>, s: &RawStmt) -> Result<(), NoMemory>
     ensures { OnOk result (place.new ≡ passed place.old (parts s.now)) }
 {
     match s {
-        RawStmt::Declare { .. } => {
-            place.take_site()?;
-            place.take_variable()?;
-            Ok(())
-        }
+        RawStmt::Declare { .. } => pass_declaration(place),
         RawStmt::Assign { .. }
         | RawStmt::Store { .. }
         | RawStmt::Print { .. }
-        | RawStmt::Break { .. } => {
-            place.take_site()?;
-            Ok(())
-        }
+        | RawStmt::Break { .. } => pass_site(place),
         RawStmt::Call { .. } => Ok(()),
         RawStmt::If {
             then_part,

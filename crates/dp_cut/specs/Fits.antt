@@ -1,5 +1,6 @@
 -- When the units from one on can be cut so that no stage costs more than a bound.
 use Rattle.std.specs.Prelude.{ℕ, ◌≡◌, ◌<◌, ◌≤◌, Bool, true, List, length, slice_index, if◌then◌else◌}
+use Rattle.dp_base.specs.declared.limits.TheConstants.{STAGES}
 use Rattle.dp_cut.specs.declared.Stretch.{Stretch}
 use Rattle.dp_cut.specs.Allowed.{AreStages, IsClear, cost_of, bottleneck}
 
@@ -10,10 +11,10 @@ pub record Fits (weights : List ℕ) (carried : List (ℕ × ℕ)) (workers boun
   pub few : length cut ≤ most
   pub cheap : bottleneck weights workers begin cut ≤ bound
 
--- at each place from `from` on the list tells how many stages are needed: a number up to 8 is exact
+-- at each place from `from` on the list tells how many stages are needed: a number that a plan may have is exact
 abbrev pub TellsNeed : List ℕ → List (ℕ × ℕ) → ℕ → ℕ → Bool → ℕ → List ℕ → Type 0
 TellsNeed weights carried workers bound closed from needs =
-    (begin most : ℕ) → from ≤ begin → begin ≤ length weights → most ≤ 8 → (slice_index needs begin ≤ most → Fits weights carried workers bound most closed begin) × (Fits weights carried workers bound most closed begin → slice_index needs begin ≤ most)
+    (begin most : ℕ) → from ≤ begin → begin ≤ length weights → most ≤ STAGES → (slice_index needs begin ≤ most → Fits weights carried workers bound most closed begin) × (Fits weights carried workers bound most closed begin → slice_index needs begin ≤ most)
 
 -- so far no carried edge is inside: the units from `begin` up to `end` have none exactly where `end` is at most the limit
 abbrev pub IsLimit : List (ℕ × ℕ) → ℕ → ℕ → ℕ → Type 0

@@ -1,6 +1,7 @@
 -- The least plan of a region: its least cut, written as a plan.
 use Rattle.std.specs.Prelude.{ℕ, ◌≡◌, ◌+◌, ◌-◌, ◌==◌, if◌then◌else◌, Bool, true, ◌&&◌, nat_lt, List, [], ◌∷◌, length, map, filter, slice_index}
 use Rattle.std.specs.List.{list_any, flat_map}
+use Rattle.dp_base.specs.declared.limits.TheConstants.{MOST_WORDS}
 use Rattle.dp_tree.specs.declared.Assume.{Assume}
 use Rattle.dp_tree.specs.declared.Program.{Program}
 use Rattle.dp_tree.specs.Numbering.{numbers_from}
@@ -68,7 +69,7 @@ is_needed stages first nodes a = list_any (comes_late stages first a.site.0) nod
 abbrev pub plan_before_table : Program → ℕ → List ℕ → List Assume → List Stretch → Plan
 plan_before_table p r places chosen cut = record {
   region = r;
-  words = 4096;
+  words = MOST_WORDS;
   stages = map kind_of cut;
   stage_of = stages_of cut places;
   assume = filter (is_needed (stages_of cut places) (first_of p r) (region_nodes p r)) chosen;

@@ -9,6 +9,7 @@ ghost use Rattle.dp_cut.specs.LeastPlan as spec;
 use crate::Stretch;
 use crate::places::cut_units;
 use crate::sums::{at_site, carried_pairs, unit_weights};
+use dp_base::limits::MOST_WORDS;
 use dp_base::{NoMemory, Row};
 use dp_depend::{Graph, Node, nodes_of};
 use dp_plan::{Plan, StageKind};
@@ -152,7 +153,7 @@ fn plan_of_cut(
     let stages = kinds_of(alloc, cut)?;
     let plan = Plan {
         region,
-        words: 4096,
+        words: MOST_WORDS,
         stages,
         stage_of,
         assume,

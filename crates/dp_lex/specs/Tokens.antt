@@ -1,5 +1,6 @@
 -- The tokens of a text, and the place at which a text is refused.
 use Rattle.std.specs.Prelude.{◌≡◌, ℕ, ◌+◌, ◌≤◌, List, [], ◌∷◌, length, take, drop, Option, Some, None, Result, Ok, Err}
+use Rattle.dp_base.specs.declared.limits.TheConstants.{PROGRAM_BYTES}
 use Rattle.dp_lex.specs.declared.TokenKind.{TokenKind}
 use Rattle.dp_lex.specs.declared.Token.{Token}
 use Rattle.dp_lex.specs.declared.LexRefused.{LexRefused}
@@ -34,7 +35,7 @@ pub record Reading : Type 0 where
 
 -- a lexer's place and line belong to its text
 pub record IsInText (text : Text) (place line : ℕ) : Type 0 where
-  pub short : length text ≤ 65536
+  pub short : length text ≤ PROGRAM_BYTES
   pub inside : place ≤ length text
   pub counted : line ≡ line_at text place
 

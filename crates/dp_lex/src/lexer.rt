@@ -1,6 +1,7 @@
 //! The tokens of a text, one after another.
 
 ghost use Rattle.std.specs.Prelude.{◌≡◌, ◌≤◌, [], length, drop, count_by};
+ghost use Rattle.dp_base.specs.declared.limits.TheConstants.{PROGRAM_BYTES};
 ghost use Rattle.dp_lex.specs.Characters.{line_ends};
 ghost use Rattle.dp_lex.specs.Tokens.{Reads, IsNext};
 ghost use Rattle.dp_lex.specs.Scan as spec;
@@ -29,7 +30,7 @@ impl<'t> Model for Lexer<'t> {
 
 impl<'t> Lexer<'t> {
     pub fn new(text: &'t [u8]) -> Lexer<'t>
-        requires { length text.now ≤ 65536 }
+        requires { length text.now ≤ PROGRAM_BYTES }
         ensures text { result.text ≡ text.now }
         ensures place { result.place ≡ 0 }
     {
@@ -83,7 +84,7 @@ impl<'t> Lexer<'t> {
 }
 
 fn line_ends(z: &[u8]) -> u32
-    requires { length z.now ≤ 65536 }
+    requires { length z.now ≤ PROGRAM_BYTES }
     ensures value { result ≡ line_ends z.now }
     ensures within { result ≤ length z.now }
 {

@@ -4,6 +4,7 @@
 mod front;
 mod law;
 mod lexer;
+pub mod spelling;
 mod tables;
 
 pub use law::{a_last_answer_is_given_again, each_text_is_read_in_one_way};

@@ -1,14 +1,22 @@
-//! The reserved words and the signs.
+//! The reserved words and the signs: the names of the program's start and of its output, the keywords of C99, and the signs
+//! of the language.
 
 ghost use Rattle.std.specs.Prelude.{◌≡◌, map};
 ghost use Rattle.dp_lex.specs.Spelling.{reserved_words, signs};
 ghost use Rattle.dp_lex.specs.Scan.{is_one_of};
 
+use crate::spelling::{
+    AND, ASSIGN, BREAK, CLOSE_BRACE, CLOSE_BRACKET, CLOSE_PAREN, COMMA, ELSE, EQUAL, FOR, GREATER,
+    GREATER_EQUAL, IF, INT, LESS, LESS_EQUAL, MAIN, MINUS, NOT, NOT_EQUAL, OPEN_BRACE,
+    OPEN_BRACKET, OPEN_PAREN, OR, PERCENT, PLUS, PRINT, RETURN, SEMICOLON, SLASH, STAR, VOID,
+    WHILE,
+};
+
 const RESERVED: [&[u8]; 39] = [
-    b"main",
-    b"print",
+    MAIN,
+    PRINT,
     b"auto",
-    b"break",
+    BREAK,
     b"case",
     b"char",
     b"const",
@@ -16,19 +24,19 @@ const RESERVED: [&[u8]; 39] = [
     b"default",
     b"do",
     b"double",
-    b"else",
+    ELSE,
     b"enum",
     b"extern",
     b"float",
-    b"for",
+    FOR,
     b"goto",
-    b"if",
+    IF,
     b"inline",
-    b"int",
+    INT,
     b"long",
     b"register",
     b"restrict",
-    b"return",
+    RETURN,
     b"short",
     b"signed",
     b"sizeof",
@@ -38,9 +46,9 @@ const RESERVED: [&[u8]; 39] = [
     b"typedef",
     b"union",
     b"unsigned",
-    b"void",
+    VOID,
     b"volatile",
-    b"while",
+    WHILE,
     b"_Bool",
     b"_Complex",
     b"_Imaginary",

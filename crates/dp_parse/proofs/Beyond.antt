@@ -7,10 +7,13 @@ use Rattle.dp_parse.specs.declared.symbol.Symbol.TheVariants.{Name, Comma}
 use Rattle.dp_parse.specs.Programs.{DerivesItems, DerivesReturn}
 use Rattle.dp_parse.specs.Programs as program
 use Rattle.dp_tree.specs.declared.raw.RawItem.{RawItem}
-use Rattle.dp_parse.specs.Begins.{Nonterminal, Expression, Expressions, Arguments, Condition, Simple, First, Head, Statement, Choice, Block, Statements, Exit, Inside, Loop, Names, Params, Item, Items, Tops, Ending, Body, Program, Part, Word, Number, Length, Zero, Of, Allows, Derived, Begins, BeginsParts}
-use Rattle.dp_parse.specs.Begins as rule
+use Rattle.dp_parse.specs.Rules.{Nonterminal, Expression, Expressions, Arguments, Condition, Simple, First, Head, Statement, Choice, Block, Statements, Exit, Inside, Loop, Names, Params, Item, Items, Tops, Ending, Body, Program, Part, Word, Number, Length, Zero, Of}
+use Rattle.dp_parse.specs.Begins.{Allows, Derived, Begins, BeginsParts}
+use Rattle.dp_parse.specs.Rules as rule
+use Rattle.dp_parse.specs.Begins as begins
 use Rattle.dp_parse.specs.descent.Steps.{Outcome, Parser, and_then, ◌>>=◌, pure, expect, eat, sees, after}
 use Rattle.dp_parse.specs.descent.Steps as step
+use Rattle.dp_parse.specs.descent.Numbers as numbers
 use Rattle.dp_parse.proofs.StepLemmas.{expects, took, after-le}
 use Rattle.dp_parse.proofs.LeafLemmas.{reads_name, read_name, read_number}
 use Rattle.dp_parse.proofs.Shorter.{shorter, shorter_list, shorter_arguments, shorter_condition, shorter_simple, shorter_first, shorter_head, shorter_statement, shorter_choice, shorter_block, shorter_statements}
@@ -57,14 +60,14 @@ derived_shorter Program from to d = let a = shorter_items d.3 in let b = shorter
 
 mutual
   pub begins_shorter : {n : Nonterminal} {from to : List Lexeme} → Begins n from to → length to ≤ length from
-  begins_shorter rule.nothing = omega arith
-  begins_shorter (rule.by r b) = parts_shorter b
+  begins_shorter begins.nothing = omega arith
+  begins_shorter (begins.by r b) = parts_shorter b
 
   parts_shorter : {parts : List Part} {from to : List Lexeme} → BeginsParts parts from to → length to ≤ length from
-  parts_shorter rule.none = omega arith
-  parts_shorter (rule.within b) = begins_shorter b
-  parts_shorter (rule.token a b) = let h = parts_shorter b in omega arith
-  parts_shorter (rule.past {n} {from} {middle} d b) = let a = derived_shorter n from middle d in let h = parts_shorter b in omega arith
+  parts_shorter begins.none = omega arith
+  parts_shorter (begins.within b) = begins_shorter b
+  parts_shorter (begins.token a b) = let h = parts_shorter b in omega arith
+  parts_shorter (begins.past {n} {from} {middle} d b) = let a = derived_shorter n from middle d in let h = parts_shorter b in omega arith
 
 -- what reads a nonterminal, and is stuck only behind what begins it, takes no tokens back
 module _ {A : Type 0} (n : Nonterminal) (p : Parser A) (sound : (from to : List Lexeme) (a : A) → p from ≡ Ok (a, to) → Derived n from to) (fails : (from to : List Lexeme) → p from ≡ Err to → Begins n from to) where
@@ -137,12 +140,12 @@ name_by from (Err left) is = let same = ap length (name_stuck from left is) in o
 pub name_shrinks : Shrinks step.name
 name_shrinks from = name_by from (step.name from) refl
 
-number_by : (from : List Lexeme) (o : Outcome ℤ) → step.number from ≡ o → Beyond o from
+number_by : (from : List Lexeme) (o : Outcome ℤ) → numbers.number from ≡ o → Beyond o from
 number_by from (Ok x) is = let r = read_number from x.1 x.0 is in let same = ap length r.splits in omega arith
 number_by from (Err left) is = let same = ap length (number_stuck from left is) in omega arith
 
-pub number_shrinks : Shrinks step.number
-number_shrinks from = number_by from (step.number from) refl
+pub number_shrinks : Shrinks numbers.number
+number_shrinks from = number_by from (numbers.number from) refl
 
 pub pure_shrinks : {A : Type 0} (a : A) → Shrinks (pure a)
 pure_shrinks a from = omega arith

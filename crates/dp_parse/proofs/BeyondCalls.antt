@@ -9,8 +9,9 @@ use Rattle.dp_parse.specs.declared.symbol.Symbol.TheVariants.{Name, Int, Print, 
 use Rattle.dp_parse.specs.declared.level.Level.TheVariants.{Or}
 use Rattle.dp_parse.specs.Symbols.{symbol_at, Is}
 use Rattle.dp_parse.specs.Levels.{prefixing}
-use Rattle.dp_parse.specs.Begins.{Nonterminal, Part, Word, Of, Expression, Expressions, Arguments, Condition, Head, Statement, Choice, Block, Statements, Derived}
-use Rattle.dp_parse.specs.Begins as rule
+use Rattle.dp_parse.specs.Rules.{Nonterminal, Part, Word, Of, Expression, Expressions, Arguments, Condition, Head, Statement, Choice, Block, Statements}
+use Rattle.dp_parse.specs.Begins.{Derived}
+use Rattle.dp_parse.specs.Rules as rule
 use Rattle.dp_parse.specs.descent.Steps.{◌>>=◌, pure, expect, sees, separated}
 use Rattle.dp_parse.specs.descent.Expressions as expr
 use Rattle.dp_parse.specs.descent.Statements as read

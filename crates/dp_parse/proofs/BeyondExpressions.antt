@@ -12,10 +12,13 @@ use Rattle.dp_parse.specs.declared.level.Join.{Join}
 use Rattle.dp_parse.specs.Symbols.{symbol, symbol_at, Is}
 use Rattle.dp_parse.specs.Levels.{operands, joining, prefixing, joined}
 use Rattle.dp_parse.specs.Leaves.{name_of}
-use Rattle.dp_parse.specs.Begins.{Expression, Expressions, Part, Word, Number, Of, Derived}
-use Rattle.dp_parse.specs.Begins as rule
-use Rattle.dp_parse.specs.descent.Steps.{Outcome, Parser, and_then, ◌>>=◌, pure, expect, eat, rest, join_at, prefix_at, separated}
+use Rattle.dp_parse.specs.Rules.{Expression, Expressions, Part, Word, Number, Of}
+use Rattle.dp_parse.specs.Begins.{Derived}
+use Rattle.dp_parse.specs.Rules as rule
+use Rattle.dp_parse.specs.descent.Steps.{Outcome, Parser, and_then, ◌>>=◌, pure, expect, eat, rest, separated}
+use Rattle.dp_parse.specs.descent.Operators.{join_at, prefix_at}
 use Rattle.dp_parse.specs.descent.Steps as step
+use Rattle.dp_parse.specs.descent.Operators as operators
 use Rattle.dp_parse.specs.descent.Expressions as read
 use Rattle.dp_parse.proofs.StepLemmas.{expects, eats, rest-le}
 use Rattle.dp_parse.proofs.Levels.{level_prefixed, level_chain, level_none, chain_by}
@@ -71,7 +74,7 @@ unprefixed : (l m : Level) (from to : List Lexeme) → operands l ≡ Some m →
 unfolding prefix_at
 unprefixed level.Unary m from to o g =
     let at : Goes (Expression level.Primary) from to = subst (λ k. Goes (Expression k) from to) (sym (same_Some level.Primary m o)) g in
-    ap (step.own level.Unary) (primary_goes at)
+    ap (operators.own level.Unary) (primary_goes at)
 unprefixed level.Or m from to o g = prefixes_not level.Or (symbol_at from) (λ k. cc)
 unprefixed level.And m from to o g = prefixes_not level.And (symbol_at from) (λ k. cc)
 unprefixed level.Equality m from to o g = prefixes_not level.Equality (symbol_at from) (λ k. cc)

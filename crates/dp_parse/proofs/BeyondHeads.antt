@@ -10,8 +10,9 @@ use Rattle.dp_parse.specs.declared.symbol.Symbol.TheVariants.{Name, Int, Assign,
 use Rattle.dp_parse.specs.declared.level.Level.TheVariants.{Or}
 use Rattle.dp_parse.specs.Symbols.{symbol_at}
 use Rattle.dp_parse.specs.Levels.{joining}
-use Rattle.dp_parse.specs.Begins.{Part, Word, Of, Expression, Simple, First, Head, Derived}
-use Rattle.dp_parse.specs.Begins as rule
+use Rattle.dp_parse.specs.Rules.{Part, Word, Of, Expression, Simple, First, Head}
+use Rattle.dp_parse.specs.Begins.{Derived}
+use Rattle.dp_parse.specs.Rules as rule
 use Rattle.dp_parse.specs.descent.Steps.{Outcome, Parser, ◌>>=◌, pure, and_then, expect, sees}
 use Rattle.dp_parse.specs.descent.Steps as step
 use Rattle.dp_parse.specs.descent.Expressions as expr

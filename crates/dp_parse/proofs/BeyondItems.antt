@@ -8,10 +8,12 @@ use Rattle.dp_parse.specs.declared.symbol.Symbol.{Symbol}
 use Rattle.dp_parse.specs.declared.symbol.Symbol.TheVariants.{Name, Int, Void, Minus, Assign, OpenParen, CloseParen, OpenBracket, CloseBracket, Comma, Semicolon}
 use Rattle.dp_parse.specs.Symbols.{symbol_at, Is}
 use Rattle.dp_parse.specs.Leaves.{name_of, IsNumber}
-use Rattle.dp_parse.specs.Begins.{Part, Word, Number, Length, Of, Names, Params, Item, Block, Derived}
-use Rattle.dp_parse.specs.Begins as rule
+use Rattle.dp_parse.specs.Rules.{Part, Word, Number, Length, Of, Names, Params, Item, Block}
+use Rattle.dp_parse.specs.Begins.{Derived}
+use Rattle.dp_parse.specs.Rules as rule
 use Rattle.dp_parse.specs.descent.Steps.{Outcome, Parser, ◌>>=◌, pure, and_then, expect, eat, sees, after, rest, given, separated}
 use Rattle.dp_parse.specs.descent.Steps as step
+use Rattle.dp_parse.specs.descent.Numbers as numbers
 use Rattle.dp_parse.specs.descent.Statements as statements
 use Rattle.dp_parse.specs.descent.Programs as read
 use Rattle.dp_parse.proofs.StepLemmas.{eats, stays, sees_other, sees_is, after-le, after_is, rest-le}
@@ -111,23 +113,23 @@ closed n name z = same_reading (grouped (λ _. pure (item.Array name z)) finish 
 length_shrinks : (name : TreeName) (b : Bool) → Shrinks (read.array_by name b >>= finish)
 length_shrinks name true from = omega arith
 length_shrinks name false from =
-    same_beyond from (grouped (λ z. expect CloseBracket >>= (λ _. pure (item.Array name z))) finish step.number from)
-    (and_on step.number (λ z. (expect CloseBracket >>= (λ _. pure (item.Array name z))) >>= finish) (λ z. (closed 0 name z).shrinks) from from (number_shrinks from))
+    same_beyond from (grouped (λ z. expect CloseBracket >>= (λ _. pure (item.Array name z))) finish numbers.number from)
+    (and_on numbers.number (λ z. (expect CloseBracket >>= (λ _. pure (item.Array name z))) >>= finish) (λ z. (closed 0 name z).shrinks) from from (number_shrinks from))
 
-length_opens : (name : TreeName) (t : Lexeme) (v : ℕ) (from : List Lexeme) → IsNumber t v → 1 ≤ v → ((λ ts. read.array_by name (step.sees_zero ts) ts) >>= finish) (t ∷ from) ≡ ((expect CloseBracket >>= (λ _. pure (item.Array name (pos v)))) >>= finish) from
+length_opens : (name : TreeName) (t : Lexeme) (v : ℕ) (from : List Lexeme) → IsNumber t v → 1 ≤ v → ((λ ts. read.array_by name (numbers.sees_zero ts) ts) >>= finish) (t ∷ from) ≡ ((expect CloseBracket >>= (λ _. pure (item.Array name (pos v)))) >>= finish) from
 length_opens name t v from h least =
     ap (λ (b : Bool). and_then (read.array_by name b (t ∷ from)) finish) (sees_of t v from h ∙ not_zero v least)
     ∙ ap (λ (o : Outcome ℤ). and_then (and_then o (λ z. expect CloseBracket >>= (λ _. pure (item.Array name z)))) finish) (reads_number t v from h)
 
-length_goes : (n : ℕ) (name : TreeName) (from to : List Lexeme) → length from ≤ n → GoesParts (Length ∷ Word CloseBracket ∷ Word Semicolon ∷ []) from to → Beyond (((λ ts. read.array_by name (step.sees_zero ts) ts) >>= finish) from) to
+length_goes : (n : ℕ) (name : TreeName) (from to : List Lexeme) → length from ≤ n → GoesParts (Length ∷ Word CloseBracket ∷ Word Semicolon ∷ []) from to → Beyond (((λ ts. read.array_by name (numbers.sees_zero ts) ts) >>= finish) from) to
 length_goes n name from to fits (last {t} a) = same_beyond to (length_opens name t a.0 to a.1 a.2) ((closed n name (pos a.0)).shrinks to)
 length_goes n name from to fits (token {t} {from = middle} a g) = same_beyond to (length_opens name t a.0 middle a.1 a.2) ((closed n name (pos a.0)).goes middle to (omega arith) g)
 
 array_read : (n : ℕ) (name : TreeName) → Reading (read.array name >>= finish) n (Word OpenBracket ∷ Length ∷ Word CloseBracket ∷ Word Semicolon ∷ [])
 unfolding read.array
 array_read n name =
-    same_reading (grouped (λ _. λ ts. read.array_by name (step.sees_zero ts) ts) finish (expect OpenBracket))
-    (word_and OpenBracket n _ _ (λ _. record { shrinks = λ from. length_shrinks name (step.sees_zero from) from; goes = length_goes n name }))
+    same_reading (grouped (λ _. λ ts. read.array_by name (numbers.sees_zero ts) ts) finish (expect OpenBracket))
+    (word_and OpenBracket n _ _ (λ _. record { shrinks = λ from. length_shrinks name (numbers.sees_zero from) from; goes = length_goes n name }))
 
 -- start values
 given_shrinks : (o : Option ℤ) → Shrinks (given o)
@@ -135,7 +137,7 @@ given_shrinks None from = omega arith
 given_shrinks (Some z) from = omega arith
 
 start_shrinks_by : (b : Bool) → Shrinks (read.start_by b)
-start_shrinks_by true from = and_on step.number (λ z. given (step.negated z)) (λ z. given_shrinks (step.negated z)) from from (number_shrinks from)
+start_shrinks_by true from = and_on numbers.number (λ z. given (numbers.negated z)) (λ z. given_shrinks (numbers.negated z)) from from (number_shrinks from)
 start_shrinks_by false from = number_shrinks from
 
 start_shrinks : Shrinks read.start

@@ -12,10 +12,11 @@ use Rattle.dp_parse.specs.Symbols.{symbol_at, Is}
 use Rattle.dp_parse.specs.Leaves.{IsNumber}
 use Rattle.dp_parse.specs.Programs.{DerivesItems}
 use Rattle.dp_parse.specs.Programs as derives
-use Rattle.dp_parse.specs.Begins.{Part, Word, Zero, Of, Derived, Statement, Condition, Block, Loop, Item, Items, Tops, Ending, Body, Program, Begins}
-use Rattle.dp_parse.specs.Begins as rule
+use Rattle.dp_parse.specs.Rules.{Part, Word, Zero, Of, Statement, Condition, Block, Loop, Item, Items, Tops, Ending, Body, Program}
+use Rattle.dp_parse.specs.Begins.{Derived, Begins}
+use Rattle.dp_parse.specs.Rules as rule
 use Rattle.dp_parse.specs.descent.Steps.{Outcome, Parser, ◌>>=◌, pure, and_then, expect, eat, sees, after, many}
-use Rattle.dp_parse.specs.descent.Steps as step
+use Rattle.dp_parse.specs.descent.Numbers as numbers
 use Rattle.dp_parse.specs.descent.Programs as read
 use Rattle.dp_parse.proofs.StepLemmas.{expects, eats, stays, after-le}
 use Rattle.dp_parse.proofs.LeafLemmas.{reads_number, sees_of}
@@ -42,19 +43,19 @@ semicolon_read : (n : ℕ) → Reading semicolon n (Word Semicolon ∷ [])
 semicolon_read n = word_and Semicolon n [] _ (λ _. ends)
 
 zero_shrinks : (b : Bool) → Shrinks (read.zero_by b)
-zero_shrinks true from = and_on step.number (λ _. semicolon) (λ _. (semicolon_read 0).shrinks) from from (number_shrinks from)
+zero_shrinks true from = and_on numbers.number (λ _. semicolon) (λ _. (semicolon_read 0).shrinks) from from (number_shrinks from)
 zero_shrinks false from = omega arith
 
-zero_opens : (t : Lexeme) (from : List Lexeme) → IsNumber t 0 → read.zero_by (step.sees_zero (t ∷ from)) (t ∷ from) ≡ semicolon from
+zero_opens : (t : Lexeme) (from : List Lexeme) → IsNumber t 0 → read.zero_by (numbers.sees_zero (t ∷ from)) (t ∷ from) ≡ semicolon from
 unfolding is_zero
 zero_opens t from h = ap (λ (b : Bool). read.zero_by b (t ∷ from)) (sees_of t 0 from h) ∙ goes (λ _. semicolon) (reads_number t 0 from h)
 
-returned_opens : (w : Lexeme) (from : List Lexeme) → Is Return w → read.returned (w ∷ from) ≡ read.zero_by (step.sees_zero from) from
+returned_opens : (w : Lexeme) (from : List Lexeme) → Is Return w → read.returned (w ∷ from) ≡ read.zero_by (numbers.sees_zero from) from
 unfolding read.returned
 returned_opens w from is = eats Return read.returned_by w from is
 
 returned_goes : (from to : List Lexeme) → Goes Ending from to → Beyond (read.returned from) to
-returned_goes from to (by rule.return (last {t} w)) = same_beyond to (returned_opens t to w) (zero_shrinks (step.sees_zero to) to)
+returned_goes from to (by rule.return (last {t} w)) = same_beyond to (returned_opens t to w) (zero_shrinks (numbers.sees_zero to) to)
 returned_goes from to (by rule.return (token {t = word} w (last {t} z))) = same_beyond to (returned_opens word (t ∷ to) w ∙ zero_opens t to z) ((semicolon_read 0).shrinks to)
 returned_goes from to (by rule.return (token {t = word} w (token {t} {from = middle} z g))) = same_beyond to (returned_opens word (t ∷ middle) w ∙ zero_opens t middle z) ((semicolon_read (length middle)).goes middle to (omega arith) g)
 returned_goes from to (by rule.no_return x11) = elim x11 [ ]

@@ -5,8 +5,9 @@ use Rattle.dp_tree.specs.declared.raw.RawStmt.{RawStmt}
 use Rattle.dp_parse.specs.declared.symbol.Symbol.{Symbol}
 use Rattle.dp_parse.specs.declared.symbol.Symbol.TheVariants.{Name, Int, Print, While, For, If, Else, OpenBrace, CloseBrace}
 use Rattle.dp_parse.specs.Symbols.{symbol_at}
-use Rattle.dp_parse.specs.Begins.{Part, Word, Of, Condition, Head, Statement, Choice, Block, Statements, Exit, Inside, Loop, Derived}
-use Rattle.dp_parse.specs.Begins as rule
+use Rattle.dp_parse.specs.Rules.{Part, Word, Of, Condition, Head, Statement, Choice, Block, Statements, Exit, Inside, Loop}
+use Rattle.dp_parse.specs.Begins.{Derived}
+use Rattle.dp_parse.specs.Rules as rule
 use Rattle.dp_parse.specs.descent.Steps.{Outcome, Parser, sees, many}
 use Rattle.dp_parse.specs.descent.Heads as heads
 use Rattle.dp_parse.specs.descent.Statements as statements

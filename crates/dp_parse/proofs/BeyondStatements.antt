@@ -5,8 +5,9 @@ use Rattle.dp_tree.specs.declared.raw.RawStmt.{RawStmt}
 use Rattle.dp_parse.specs.declared.symbol.Symbol.{Symbol}
 use Rattle.dp_parse.specs.declared.symbol.Symbol.TheVariants.{Name, Int, Print, While, For, If, Else, Assign, OpenParen, OpenBracket, OpenBrace, CloseBrace}
 use Rattle.dp_parse.specs.Symbols.{symbol_at, Is}
-use Rattle.dp_parse.specs.Begins.{Nonterminal, Part, Word, Of, Expression, Expressions, Arguments, Condition, Head, Statement, Choice, Block, Statements, Derived}
-use Rattle.dp_parse.specs.Begins as rule
+use Rattle.dp_parse.specs.Rules.{Nonterminal, Part, Word, Of, Expression, Expressions, Arguments, Condition, Head, Statement, Choice, Block, Statements}
+use Rattle.dp_parse.specs.Begins.{Derived}
+use Rattle.dp_parse.specs.Rules as rule
 use Rattle.dp_parse.specs.descent.Steps.{pure, sees, after, many}
 use Rattle.dp_parse.specs.descent.Heads as heads
 use Rattle.dp_parse.specs.descent.Statements as read

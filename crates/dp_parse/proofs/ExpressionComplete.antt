@@ -14,8 +14,10 @@ use Rattle.dp_parse.specs.Symbols.{symbol, symbol_at, Is}
 use Rattle.dp_parse.specs.Levels.{operands, joining, prefixing}
 use Rattle.dp_parse.specs.Leaves.{name_of, IsNumber}
 use Rattle.dp_parse.specs.Expressions.{DerivesExpr, operand, chain, prefix, number, scalar, element, parenthesized}
-use Rattle.dp_parse.specs.descent.Steps.{Outcome, Parser, ◌>>=◌, pure, and_then, expect, rest, join_at, prefix_at}
+use Rattle.dp_parse.specs.descent.Steps.{Outcome, Parser, ◌>>=◌, pure, and_then, expect, rest}
+use Rattle.dp_parse.specs.descent.Operators.{join_at, prefix_at}
 use Rattle.dp_parse.specs.descent.Steps as step
+use Rattle.dp_parse.specs.descent.Operators as operators
 use Rattle.dp_parse.specs.descent.Expressions as read
 use Rattle.dp_parse.proofs.StepLemmas.{expects, eats, stays}
 use Rattle.dp_parse.proofs.LeafLemmas.{reads_name, reads_number}
@@ -63,7 +65,7 @@ unprefixed : (l m : Level) (from to : List Lexeme) (e : RawExpr) → operands l 
 unfolding prefix_at
 unprefixed level.Unary m from to e o d =
     let at : DerivesExpr level.Primary from to e = subst (λ k. DerivesExpr k from to e) (sym (same_Some level.Primary m o)) d in
-    ap (step.own level.Unary) (primary_begins at)
+    ap (operators.own level.Unary) (primary_begins at)
 unprefixed level.Or m from to e o d = prefixes_not level.Or (symbol_at from) (λ k. cc)
 unprefixed level.And m from to e o d = prefixes_not level.And (symbol_at from) (λ k. cc)
 unprefixed level.Equality m from to e o d = prefixes_not level.Equality (symbol_at from) (λ k. cc)
@@ -75,11 +77,11 @@ unprefixed level.Primary m from to e o d = absurd (cc)
 -- the symbols that close an expression join nothing
 pub closes_bracket : (t : Lexeme) (to : List Lexeme) → Is CloseBracket t → join_at level.Or (symbol_at (t ∷ to)) ≡ None
 unfolding symbol_at join_at
-closes_bracket t to c = ap (λ k. step.own level.Or (joining k)) c
+closes_bracket t to c = ap (λ k. operators.own level.Or (joining k)) c
 
 pub closes_paren : (t : Lexeme) (to : List Lexeme) → Is CloseParen t → join_at level.Or (symbol_at (t ∷ to)) ≡ None
 unfolding symbol_at join_at
-closes_paren t to c = ap (λ k. step.own level.Or (joining k)) c
+closes_paren t to c = ap (λ k. operators.own level.Or (joining k)) c
 
 pub follows_bracket : (t : Lexeme) (to : List Lexeme) → Is CloseBracket t → Follows level.Or (symbol_at (t ∷ to))
 unfolding symbol_at
@@ -180,4 +182,4 @@ reached (parenthesized {opening} {closing} {from} {to} {e} o d c) n fits f =
 pub whole_read : (from to : List Lexeme) (e : RawExpr) → DerivesExpr level.Or from to e → joining (symbol_at to) ≡ None → (symbol_at to ≡ OpenBracket → ⊥) → read.whole from ≡ Ok (e, to)
 unfolding read.whole join_at
 whole_read from to e d none other =
-    nested_read (length from) level.Or from to e (omega arith) (shorter d) (ap (step.own level.Or) none) (λ k le. reached d k le (follows_any level.Or (symbol_at to) none other))
+    nested_read (length from) level.Or from to e (omega arith) (shorter d) (ap (operators.own level.Or) none) (λ k le. reached d k le (follows_any level.Or (symbol_at to) none other))

@@ -13,8 +13,10 @@ use Rattle.dp_parse.specs.Symbols.{symbol, symbol_at, Is}
 use Rattle.dp_parse.specs.Levels.{operands, joining, prefixing, joined}
 use Rattle.dp_parse.specs.Leaves.{name_of}
 use Rattle.dp_parse.specs.Expressions.{DerivesExpr, operand, chain, prefix, number, scalar, element, parenthesized}
-use Rattle.dp_parse.specs.descent.Steps.{Parser, ◌>>=◌, pure, and_then, expect, rest, own, same_level, join_at, prefix_at}
+use Rattle.dp_parse.specs.descent.Steps.{Parser, ◌>>=◌, pure, and_then, expect, rest}
+use Rattle.dp_parse.specs.descent.Operators.{own, same_level, join_at, prefix_at}
 use Rattle.dp_parse.specs.descent.Steps as step
+use Rattle.dp_parse.specs.descent.Numbers as numbers
 use Rattle.dp_parse.specs.descent.Expressions as read
 use Rattle.dp_parse.proofs.StepLemmas.{Sound, then_of, same_pair, took, Ate, passed, stayed, ate, level_is, closed, moved, taken}
 use Rattle.dp_parse.proofs.LeafLemmas.{read_name, read_number}
@@ -51,9 +53,9 @@ module _ (nested : Level → Parser RawExpr) (sound : (l : Level) → Sound (nes
       let c = closed (nested level.Or) CloseParen (λ x. x) e o.middle to o.second in
       moved (DerivesExpr level.Primary) t.splits refl c.made (parenthesized t.is (sound level.Or o.middle (c.closing ∷ to) c.value c.first) c.is)
 
-  sound_number : (from to : List Lexeme) (e : RawExpr) → (step.number >>= (λ z. pure (tree.Number z))) from ≡ Ok (e, to) → DerivesExpr level.Primary from to e
+  sound_number : (from to : List Lexeme) (e : RawExpr) → (numbers.number >>= (λ z. pure (tree.Number z))) from ≡ Ok (e, to) → DerivesExpr level.Primary from to e
   sound_number from to e h =
-      let o = then_of (step.number from) (λ z. pure (tree.Number z)) e to h in
+      let o = then_of (numbers.number from) (λ z. pure (tree.Number z)) e to h in
       let n = read_number from o.middle o.value o.first in
       let parts = same_pair {a = tree.Number o.value} {b = e} {x = o.middle} {y = to} o.second in
       moved (DerivesExpr level.Primary) n.splits (sym parts.1) (sym parts.0 ∙ ap tree.Number n.reads) (number n.is)

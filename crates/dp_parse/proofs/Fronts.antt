@@ -17,8 +17,10 @@ use Rattle.dp_parse.specs.Regions.{DerivesExit, DerivesInside, DerivesLoop}
 use Rattle.dp_parse.specs.Regions as region
 use Rattle.dp_parse.specs.Programs.{DerivesNames, DerivesParams, DerivesItem, DerivesItems, DerivesTops, DerivesReturn, DerivesMain}
 use Rattle.dp_parse.specs.Programs as program
-use Rattle.dp_parse.specs.Begins.{Nonterminal, Expression, Expressions, Arguments, Condition, Simple, First, Head, Statement, Choice, Block, Statements, Exit, Inside, Loop, Names, Params, Item, Items, Tops, Ending, Body, Program, Part, Number, Length, Zero, Of, Rule, Allows, Derived, Begins, BeginsParts}
-use Rattle.dp_parse.specs.Begins as rule
+use Rattle.dp_parse.specs.Rules.{Nonterminal, Expression, Expressions, Arguments, Condition, Simple, First, Head, Statement, Choice, Block, Statements, Exit, Inside, Loop, Names, Params, Item, Items, Tops, Ending, Body, Program, Part, Number, Length, Zero, Of, Rule}
+use Rattle.dp_parse.specs.Begins.{Allows, Derived, Begins, BeginsParts}
+use Rattle.dp_parse.specs.Rules as rule
+use Rattle.dp_parse.specs.Begins as begins
 
 -- ---- places of a list
 
@@ -209,26 +211,26 @@ order x middle = by_test (length middle) (length x)
 
 mutual
   spans_front : {n : Nonterminal} {from to : List Lexeme} → Spans n from to → (x : List Lexeme) → Back from x → length to ≤ length x → Begins n from x
-  spans_front (by r s) x b le = rule.by r (parts_front s x b le)
+  spans_front (by r s) x b le = begins.by r (parts_front s x b le)
 
   parts_front : {parts : List Part} {from to : List Lexeme} → SpansParts parts from to → (x : List Lexeme) → Back from x → length to ≤ length x → BeginsParts parts from x
-  parts_front (end {to}) x b le = let same = back_same b le in rw same rule.none
-  parts_front (token a s) x here le = rule.none
-  parts_front (token a s) x (further b) le = rule.token a (parts_front s x b le)
+  parts_front (end {to}) x b le = let same = back_same b le in rw same begins.none
+  parts_front (token a s) x here le = begins.none
+  parts_front (token a s) x (further b) le = begins.token a (parts_front s x b le)
   parts_front (part {middle} d s rest) x b le =
-      elim (order x middle) [ inl h ↦ rule.within (spans_front s x b h) | inr h ↦ rule.past d (parts_front rest x (back_order (spans_back s) b h) le) ]
+      elim (order x middle) [ inl h ↦ begins.within (spans_front s x b h) | inr h ↦ begins.past d (parts_front rest x (back_order (spans_back s) b h) le) ]
 
 mutual
   -- the first tokens begin the same
   pub front : {n : Nonterminal} {from to : List Lexeme} → Begins n from to → (x : List Lexeme) → Back from x → length to ≤ length x → Begins n from x
-  front (rule.nothing {to}) x b le = let same = back_same b le in rw same rule.nothing
-  front (rule.by r s) x b le = rule.by r (front_parts s x b le)
+  front (begins.nothing {to}) x b le = let same = back_same b le in rw same begins.nothing
+  front (begins.by r s) x b le = begins.by r (front_parts s x b le)
 
   front_parts : {parts : List Part} {from to : List Lexeme} → BeginsParts parts from to → (x : List Lexeme) → Back from x → length to ≤ length x → BeginsParts parts from x
-  front_parts (rule.none {to}) x b le = let same = back_same b le in rw same rule.none
-  front_parts (rule.within s) x b le = rule.within (front s x b le)
-  front_parts (rule.token a s) x here le = rule.none
-  front_parts (rule.token a s) x (further b) le = rule.token a (front_parts s x b le)
-  front_parts (rule.past {n} {from} {middle} d rest) x b le =
+  front_parts (begins.none {to}) x b le = let same = back_same b le in rw same begins.none
+  front_parts (begins.within s) x b le = begins.within (front s x b le)
+  front_parts (begins.token a s) x here le = begins.none
+  front_parts (begins.token a s) x (further b) le = begins.token a (front_parts s x b le)
+  front_parts (begins.past {n} {from} {middle} d rest) x b le =
       let s = derived_spans n from middle d in
-      elim (order x middle) [ inl h ↦ rule.within (spans_front s x b h) | inr h ↦ rule.past d (front_parts rest x (back_order (spans_back s) b h) le) ]
+      elim (order x middle) [ inl h ↦ begins.within (spans_front s x b h) | inr h ↦ begins.past d (front_parts rest x (back_order (spans_back s) b h) le) ]

@@ -17,8 +17,10 @@ use Rattle.dp_parse.specs.Regions.{DerivesExit, DerivesInside, DerivesLoop}
 use Rattle.dp_parse.specs.Regions as region
 use Rattle.dp_parse.specs.Programs.{DerivesNames, DerivesParams, DerivesItem, DerivesItems, DerivesTops, DerivesReturn, DerivesMain}
 use Rattle.dp_parse.specs.Programs as program
-use Rattle.dp_parse.specs.Begins.{Nonterminal, Expression, Expressions, Arguments, Condition, Simple, First, Head, Statement, Choice, Block, Statements, Exit, Inside, Loop, Names, Params, Item, Items, Tops, Ending, Body, Program, Part, Number, Length, Zero, Of, Rule, Allows, Derived, Begins, BeginsParts}
-use Rattle.dp_parse.specs.Begins as rule
+use Rattle.dp_parse.specs.Rules.{Nonterminal, Expression, Expressions, Arguments, Condition, Simple, First, Head, Statement, Choice, Block, Statements, Exit, Inside, Loop, Names, Params, Item, Items, Tops, Ending, Body, Program, Part, Number, Length, Zero, Of, Rule}
+use Rattle.dp_parse.specs.Begins.{Allows, Derived, Begins, BeginsParts}
+use Rattle.dp_parse.specs.Rules as rule
+use Rattle.dp_parse.specs.Begins as begins
 
 mutual
   pub data Goes : Nonterminal → List Lexeme → List Lexeme → Type 0 where
@@ -188,11 +190,11 @@ derived_then d (inr g) = inr (past d g)
 
 mutual
   pub normal : {n : Nonterminal} {from to : List Lexeme} → Begins n from to → OrNone from to (Goes n from to)
-  normal rule.nothing = inl refl
-  normal (rule.by r b) = by_rule r (normal_parts b)
+  normal begins.nothing = inl refl
+  normal (begins.by r b) = by_rule r (normal_parts b)
 
   normal_parts : {parts : List Part} {from to : List Lexeme} → BeginsParts parts from to → OrNone from to (GoesParts parts from to)
-  normal_parts rule.none = inl refl
-  normal_parts (rule.within b) = inside (normal b)
-  normal_parts (rule.token a b) = inr (one_token a (normal_parts b))
-  normal_parts (rule.past d b) = derived_then d (normal_parts b)
+  normal_parts begins.none = inl refl
+  normal_parts (begins.within b) = inside (normal b)
+  normal_parts (begins.token a b) = inr (one_token a (normal_parts b))
+  normal_parts (begins.past d b) = derived_then d (normal_parts b)

@@ -16,6 +16,7 @@ use Rattle.dp_parse.specs.Programs.{DerivesNames, last, more, DerivesParams, voi
 use Rattle.dp_parse.specs.Programs as programs
 use Rattle.dp_parse.specs.descent.Steps.{Outcome, Parser, ◌>>=◌, pure, and_then, expect, eat, rest, sees, after, given, separated, many}
 use Rattle.dp_parse.specs.descent.Steps as step
+use Rattle.dp_parse.specs.descent.Numbers as numbers
 use Rattle.dp_parse.specs.descent.Statements as statements
 use Rattle.dp_parse.specs.descent.Programs as read
 use Rattle.dp_parse.proofs.StepLemmas.{expects, eats, stays, sees_is, sees_other, after_is, after_other}
@@ -38,8 +39,8 @@ pub not_zero : (n : ℕ) → 1 ≤ n → is_zero (pos n) ≡ false
 unfolding is_zero
 not_zero n h = le-ltb n 1 h
 
-pub turns : (n : ℕ) → n ≤ 9223372036854775807 → step.negated (pos n) ≡ Some (neg_ℤ (pos n))
-unfolding step.negated
+pub turns : (n : ℕ) → n ≤ 9223372036854775807 → numbers.negated (pos n) ≡ Some (neg_ℤ (pos n))
+unfolding numbers.negated
 turns zero h = refl
 turns (suc n) h = ap (λ (b : Bool). if b then Some (neg_ℤ (pos (suc n))) else None) (lt-ltb n 9223372036854775808 (omega arith))
 
@@ -50,7 +51,7 @@ reads_plain t n to h = stays Minus read.start_by (t ∷ to) (unlike t to Number 
 pub reads_below : (minus t : Lexeme) (n : ℕ) (to : List Lexeme) → Is Minus minus → IsNumber t n → read.start (minus ∷ t ∷ to) ≡ Ok (neg_ℤ (pos n), to)
 unfolding read.start
 reads_below minus t n to m h =
-    eats Minus read.start_by minus (t ∷ to) m ∙ goes (λ z. given (step.negated z)) (reads_number t n to h) ∙ ap (λ (o : Option ℤ). given o to) (turns n h.fits)
+    eats Minus read.start_by minus (t ∷ to) m ∙ goes (λ z. given (numbers.negated z)) (reads_number t n to h) ∙ ap (λ (o : Option ℤ). given o to) (turns n h.fits)
 
 -- ---- declarations, behind their first token
 
@@ -67,7 +68,7 @@ pub reads_array : (name opening length closing : Lexeme) (n : ℕ) (to : List Le
 unfolding read.array
 reads_array name opening length closing n to o h least c =
     let called = name_of name in
-    goes (λ _. λ ts. read.array_by called (step.sees_zero ts) ts) (expects OpenBracket opening (length ∷ closing ∷ to) o)
+    goes (λ _. λ ts. read.array_by called (numbers.sees_zero ts) ts) (expects OpenBracket opening (length ∷ closing ∷ to) o)
     ∙ ap (λ (b : Bool). read.array_by called b (length ∷ closing ∷ to)) (sees_of length n (closing ∷ to) h ∙ not_zero n least)
     ∙ goes (λ length. expect CloseBracket >>= (λ _. pure (item.Array called length))) (reads_number length n (closing ∷ to) h)
     ∙ goes (λ _. pure (item.Array called (pos n))) (expects CloseBracket closing to c)

@@ -16,6 +16,7 @@ use Rattle.dp_parse.specs.Programs.{DerivesNames, DerivesParams, DerivesItem, De
 use Rattle.dp_parse.specs.Programs as programs
 use Rattle.dp_parse.specs.descent.Steps.{Outcome, Parser, ◌>>=◌, pure, and_then, expect, eat, rest, sees, given, separated, separated_by, many, many_by}
 use Rattle.dp_parse.specs.descent.Steps as step
+use Rattle.dp_parse.specs.descent.Numbers as numbers
 use Rattle.dp_parse.specs.descent.Statements as statements
 use Rattle.dp_parse.specs.descent.Programs as read
 use Rattle.dp_parse.proofs.StepLemmas.{Sound, then_of, same_pair, took, Ate, passed, stayed, ate, closed, moved, taken, gave}
@@ -40,8 +41,8 @@ turned_by : (z w : ℤ) (b : Bool) → (if b then Some (neg_ℤ z) else None) �
 turned_by z w true e = sym (cc)
 turned_by z w false e = absurd (cc)
 
-turned : (z w : ℤ) → step.negated z ≡ Some w → w ≡ neg_ℤ z
-unfolding step.negated
+turned : (z w : ℤ) → numbers.negated z ≡ Some w → w ≡ neg_ℤ z
+unfolding numbers.negated
 turned z w e = turned_by z w (fits (neg_ℤ z)) e
 
 -- the start value that was read
@@ -51,9 +52,9 @@ pub data Start (from to : List Lexeme) (z : ℤ) : Type 0 where
 
 start_ate : (from to : List Lexeme) (z : ℤ) → Ate Minus read.start_by from z to → Start from to z
 start_ate from to z (passed t middle is splits e) =
-    let o = then_of (step.number middle) (λ v. given (step.negated v)) z to e in
+    let o = then_of (numbers.number middle) (λ v. given (numbers.negated v)) z to e in
     let n = read_number middle o.middle o.value o.first in
-    let g = gave (step.negated o.value) z o.middle to o.second in
+    let g = gave (numbers.negated o.value) z o.middle to o.second in
     below t n.token n.value is n.is (splits ∙ taken t (n.splits ∙ taken n.token g.1)) (turned o.value z g.0 ∙ ap neg_ℤ n.reads)
 start_ate from to z (stayed other e) = let n = read_number from to z e in plain n.token n.value n.is n.splits n.reads
 
@@ -70,27 +71,27 @@ started int name equals end from to z i n q (plain t v h splits same) e =
 started int name equals end from to z i n q (below minus t v m h splits same) e =
     moved DerivesItem (taken int (taken name (taken equals splits))) refl (ap (item.Scalar (name_of name)) same) (programs.below_zero i n q m h e)
 
-sound_length : (int name opening end : Lexeme) (from to : List Lexeme) (i : RawItem) (b : Bool) → Is Int int → Is Name name → Is OpenBracket opening → step.sees_zero from ≡ b →
+sound_length : (int name opening end : Lexeme) (from to : List Lexeme) (i : RawItem) (b : Bool) → Is Int int → Is Name name → Is OpenBracket opening → numbers.sees_zero from ≡ b →
     read.array_by (name_of name) b from ≡ Ok (i, end ∷ to) → Is Semicolon end → DerivesItem (int ∷ name ∷ opening ∷ from) to i
 sound_length int name opening end from to i true is_int is_name is_opening seen h is_end = absurd (cc)
 sound_length int name opening end from to i false is_int is_name is_opening seen h is_end =
     let called = name_of name in
-    let p = then_of (step.number from) (λ length. expect CloseBracket >>= (λ _. pure (item.Array called length))) i (end ∷ to) h in
+    let p = then_of (numbers.number from) (λ length. expect CloseBracket >>= (λ _. pure (item.Array called length))) i (end ∷ to) h in
     let n = read_number from p.middle p.value p.first in
     let q = then_of (expect CloseBracket p.middle) (λ _. pure (item.Array called p.value)) i (end ∷ to) p.second in
     let u = took CloseBracket p.middle q.value q.middle q.first in
     let parts = same_pair {a = item.Array called p.value} {b = i} {x = q.middle} {y = end ∷ to} q.second in
-    let zero : is_zero (pos n.value) ≡ false = sym (sees_of n.token n.value p.middle n.is) ∙ ap step.sees_zero (sym n.splits) ∙ seen in
+    let zero : is_zero (pos n.value) ≡ false = sym (sees_of n.token n.value p.middle n.is) ∙ ap numbers.sees_zero (sym n.splits) ∙ seen in
     moved DerivesItem (taken int (taken name (taken opening (n.splits ∙ taken n.token (u.splits ∙ taken q.value parts.1))))) refl (sym parts.0 ∙ ap (item.Array called) n.reads)
     (programs.array is_int is_name is_opening n.is (nonzero_is (pos n.value) n.value refl zero) u.is is_end)
 
 sound_array : (int name end : Lexeme) (from to : List Lexeme) (i : RawItem) → Is Int int → Is Name name → read.array (name_of name) from ≡ Ok (i, end ∷ to) → Is Semicolon end → DerivesItem (int ∷ name ∷ from) to i
 unfolding read.array
 sound_array int name end from to i is_int is_name h is_end =
-    let o = then_of (expect OpenBracket from) (λ _. λ ts. read.array_by (name_of name) (step.sees_zero ts) ts) i (end ∷ to) h in
+    let o = then_of (expect OpenBracket from) (λ _. λ ts. read.array_by (name_of name) (numbers.sees_zero ts) ts) i (end ∷ to) h in
     let t = took OpenBracket from o.value o.middle o.first in
     moved DerivesItem (taken int (taken name t.splits)) refl refl
-    (sound_length int name o.value end o.middle to i (step.sees_zero o.middle) is_int is_name t.is refl o.second is_end)
+    (sound_length int name o.value end o.middle to i (numbers.sees_zero o.middle) is_int is_name t.is refl o.second is_end)
 
 variable_started : (int name end : Lexeme) (from to : List Lexeme) (i : RawItem) → symbol_at from ≡ Assign → Is Int int → Is Name name →
     (read.start >>= (λ z. pure (item.Scalar (name_of name) z))) (rest from) ≡ Ok (i, end ∷ to) → Is Semicolon end → DerivesItem (int ∷ name ∷ from) to i

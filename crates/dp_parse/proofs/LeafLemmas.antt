@@ -11,7 +11,8 @@ use Rattle.dp_tree.specs.declared.raw.Name.{Name as TreeName}
 use Rattle.dp_parse.specs.declared.symbol.Symbol.TheVariants.{Name, Number}
 use Rattle.dp_parse.specs.Symbols.{symbol, Is}
 use Rattle.dp_parse.specs.Leaves.{name_of, IsNumber}
-use Rattle.dp_parse.specs.descent.Steps.{expect, name, rest, same_symbol, number, number_by, number_value, next_number, value_by, zero_by, sees_zero}
+use Rattle.dp_parse.specs.descent.Steps.{expect, name, rest, same_symbol}
+use Rattle.dp_parse.specs.descent.Numbers.{number, number_by, number_value, next_number, value_by, zero_by, sees_zero}
 use Rattle.dp_parse.proofs.StepLemmas.{then_of, same_pair, took, same_is, is_same, expects}
 
 -- the name that was read

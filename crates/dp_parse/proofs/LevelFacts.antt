@@ -7,7 +7,7 @@ use Rattle.dp_parse.specs.declared.level.Level.{Level}
 use Rattle.dp_parse.specs.declared.level.Level.TheVariants as level
 use Rattle.dp_parse.specs.declared.level.Join.{Join}
 use Rattle.dp_parse.specs.Levels.{joining, prefixing}
-use Rattle.dp_parse.specs.descent.Steps.{own, join_at, prefix_at}
+use Rattle.dp_parse.specs.descent.Operators.{own, join_at, prefix_at}
 use Rattle.dp_parse.proofs.StepLemmas.{same_levels, other_levels}
 use Rattle.dp_parse.proofs.Levels.{rank}
 

@@ -10,7 +10,8 @@ use Rattle.dp_parse.specs.declared.level.Level.TheVariants as level
 use Rattle.dp_parse.specs.declared.level.Join.{Join}
 use Rattle.dp_parse.specs.Symbols.{symbol_at}
 use Rattle.dp_parse.specs.Levels.{operands, joined}
-use Rattle.dp_parse.specs.descent.Steps.{Outcome, Parser, ◌>>=◌, and_then, pure, rest, join_at, prefix_at}
+use Rattle.dp_parse.specs.descent.Steps.{Outcome, Parser, ◌>>=◌, and_then, pure, rest}
+use Rattle.dp_parse.specs.descent.Operators.{join_at, prefix_at}
 use Rattle.dp_parse.specs.descent.Expressions as read
 
 -- how many levels are tighter

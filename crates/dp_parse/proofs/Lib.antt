@@ -1,4 +1,3 @@
-pub mod Tables
 pub mod StepLemmas
 pub mod LeafLemmas
 pub mod Shorter

@@ -7,7 +7,7 @@ use Rattle.std.proofs.lemmas.Bool.{lt-leb, le-leb}
 use Rattle.std.proofs.lemmas.List.Folds.{list_all_at, list_all_more}
 use Rattle.std.proofs.lemmas.Int.Digits.{digits_value_more}
 use Rattle.std.proofs.lemmas.Str.Parse.{digits_value-take-le}
-use Rattle.dp_parse.specs.descent.Steps.{number_value}
+use Rattle.dp_parse.specs.descent.Numbers.{number_value}
 
 answer : List ℕ → Bool → Bool → Option ℤ
 answer digits a b = if a && b then Some (pos (digits_value 10 digits)) else None

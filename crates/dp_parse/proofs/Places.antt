@@ -2,7 +2,8 @@
 use Rattle.std.proofs.Common.{◌≡◌, ℕ, ◌+◌, ◌-◌, ◌≤◌, ◌<◌, List, length, drop, Err, arith}
 use Rattle.std.proofs.lemmas.List.{length-drop}
 use Rattle.dp_lex.specs.Token.{Lexeme}
-use Rattle.dp_parse.specs.Begins.{Begins, Program}
+use Rattle.dp_parse.specs.Rules.{Program}
+use Rattle.dp_parse.specs.Begins.{Begins}
 use Rattle.dp_parse.specs.Parses.{LeavesAt}
 use Rattle.dp_parse.specs.descent.Programs as read
 use Rattle.dp_parse.proofs.StuckPrograms.{program_stuck}

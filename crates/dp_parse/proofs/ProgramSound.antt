@@ -14,7 +14,7 @@ use Rattle.dp_parse.specs.Leaves.{IsNumber}
 use Rattle.dp_parse.specs.Programs.{DerivesNames, DerivesParams, DerivesItem, DerivesTops, DerivesReturn, DerivesMain, DerivesItems, Derives}
 use Rattle.dp_parse.specs.Programs as programs
 use Rattle.dp_parse.specs.descent.Steps.{Outcome, Parser, ◌>>=◌, pure, and_then, expect, eat, rest, sees, given, separated, separated_by, many, many_by}
-use Rattle.dp_parse.specs.descent.Steps as step
+use Rattle.dp_parse.specs.descent.Numbers as numbers
 use Rattle.dp_parse.specs.descent.Statements as statements
 use Rattle.dp_parse.specs.descent.Programs as read
 use Rattle.dp_parse.proofs.StepLemmas.{Sound, then_of, same_pair, took, Ate, passed, stayed, ate, moved, taken}
@@ -70,14 +70,14 @@ record Zero (from to : List Lexeme) : Type 0 where
   ends : Is Semicolon end
   splits : from ≡ value ∷ end ∷ to
 
-zero_at : (from to : List Lexeme) (b : Bool) (u : Unit {0}) → step.sees_zero from ≡ b → read.zero_by b from ≡ Ok (u, to) → Zero from to
+zero_at : (from to : List Lexeme) (b : Bool) (u : Unit {0}) → numbers.sees_zero from ≡ b → read.zero_by b from ≡ Ok (u, to) → Zero from to
 zero_at from to true u seen h =
-    let o = then_of (step.number from) (λ _. expect Semicolon >>= (λ _. pure tt)) u to h in
+    let o = then_of (numbers.number from) (λ _. expect Semicolon >>= (λ _. pure tt)) u to h in
     let n = read_number from o.middle o.value o.first in
     let p = then_of (expect Semicolon o.middle) (λ _. pure tt) u to o.second in
     let t = took Semicolon o.middle p.value p.middle p.first in
     let parts = same_pair {a = tt} {b = u} {x = p.middle} {y = to} p.second in
-    let zero : is_zero (pos n.value) ≡ true = sym (sees_of n.token n.value o.middle n.is) ∙ ap step.sees_zero (sym n.splits) ∙ seen in
+    let zero : is_zero (pos n.value) ≡ true = sym (sees_of n.token n.value o.middle n.is) ∙ ap numbers.sees_zero (sym n.splits) ∙ seen in
     record {
       value = n.token;
       end = p.value;
@@ -89,7 +89,7 @@ zero_at from to false u seen h = absurd (cc)
 
 pub returned_ate : (from to : List Lexeme) (u : Unit {0}) → Ate Return read.returned_by from u to → DerivesReturn from to
 returned_ate from to u (passed t left is splits e) =
-    let z = zero_at left to (step.sees_zero left) u refl e in
+    let z = zero_at left to (numbers.sees_zero left) u refl e in
     let all = splits ∙ taken t z.splits in
     rw all (programs.zero is z.zero z.ends)
 returned_ate from to u (stayed other e) = let parts = same_pair {a = tt} {b = u} {x = from} {y = to} e in rw parts.1 programs.none

@@ -8,7 +8,8 @@ use Rattle.dp_parse.specs.contracts.symbol.Symbol as symbols
 use Rattle.dp_parse.specs.declared.level.Level.{Level}
 use Rattle.dp_parse.specs.contracts.level.Level as levels
 use Rattle.dp_parse.specs.Symbols.{symbol, symbol_at, Is}
-use Rattle.dp_parse.specs.descent.Steps.{Outcome, Parser, and_then, ◌>>=◌, pure, given, same_symbol, same_level, sees, after, rest, eat, expect}
+use Rattle.dp_parse.specs.descent.Steps.{Outcome, Parser, and_then, ◌>>=◌, pure, given, same_symbol, sees, after, rest, eat, expect}
+use Rattle.dp_parse.specs.descent.Operators.{same_level}
 
 -- a step that answered, and the one after it
 pub record Then {A B : Type 0} (o : Outcome A) (f : A → Parser B) (b : B) (left : List Lexeme) : Type 0 where

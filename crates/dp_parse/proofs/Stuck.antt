@@ -4,9 +4,11 @@ use Rattle.dp_lex.specs.Token.{Lexeme}
 use Rattle.dp_parse.specs.declared.symbol.Symbol.{Symbol}
 use Rattle.dp_parse.specs.declared.symbol.Symbol.TheVariants.{Name, End}
 use Rattle.dp_parse.specs.Symbols.{symbol, symbol_at, Is}
-use Rattle.dp_parse.specs.Begins.{Nonterminal, Part, Word, Number, Of, Allows, Derived, Begins, BeginsParts, nothing, none, within, token, past}
+use Rattle.dp_parse.specs.Rules.{Nonterminal, Part, Word, Number, Of}
+use Rattle.dp_parse.specs.Begins.{Allows, Derived, Begins, BeginsParts, nothing, none, within, token, past}
 use Rattle.dp_parse.specs.descent.Steps.{Outcome, Parser, and_then, ◌>>=◌, pure, same_symbol, expect, eat, sees, after}
 use Rattle.dp_parse.specs.descent.Steps as step
+use Rattle.dp_parse.specs.descent.Numbers as numbers
 use Rattle.dp_parse.proofs.StepLemmas.{took, taking, same_is, differs, after_is, after_other}
 use Rattle.dp_parse.proofs.LeafLemmas.{read_name, read_number}
 
@@ -77,15 +79,15 @@ called = record {
   passes = λ parts from middle to a e b. let n = read_name from middle a e in rw n.splits (token n.is b);
 }
 
-number_by : (from to : List Lexeme) (o : Option ℤ) → step.number_by o from ≡ Err to → from ≡ to
+number_by : (from to : List Lexeme) (o : Option ℤ) → numbers.number_by o from ≡ Err to → from ≡ to
 number_by from to None e = cc e
 number_by from to (Some z) e = absurd (cc)
 
-pub number_stuck : (from to : List Lexeme) → step.number from ≡ Err to → from ≡ to
-unfolding step.number
-number_stuck from to e = number_by from to (step.next_number from) e
+pub number_stuck : (from to : List Lexeme) → numbers.number from ≡ Err to → from ≡ to
+unfolding numbers.number
+number_stuck from to e = number_by from to (numbers.next_number from) e
 
-pub counted : Reader step.number Number
+pub counted : Reader numbers.number Number
 counted = record {
   stuck = λ parts from to e. rw (number_stuck from to e) none;
   passes = λ parts from middle to a e b. let n = read_number from middle a e in rw n.splits (token {p = Number} (n.value, n.is) b);

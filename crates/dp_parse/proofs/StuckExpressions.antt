@@ -14,9 +14,11 @@ use Rattle.dp_parse.specs.Levels.{operands, joining, prefixing, joined}
 use Rattle.dp_parse.specs.Leaves.{name_of}
 use Rattle.dp_parse.specs.Expressions.{DerivesExpr}
 use Rattle.dp_parse.specs.Expressions as derives
-use Rattle.dp_parse.specs.Begins.{Expression, Expressions, Part, Of, Begins, BeginsParts, nothing, by, none, within, token, past}
-use Rattle.dp_parse.specs.Begins as rule
-use Rattle.dp_parse.specs.descent.Steps.{Outcome, Parser, ◌>>=◌, pure, and_then, expect, eat, rest, join_at, prefix_at, separated, separated_by}
+use Rattle.dp_parse.specs.Rules.{Expression, Expressions, Part, Of}
+use Rattle.dp_parse.specs.Begins.{Begins, BeginsParts, nothing, by, none, within, token, past}
+use Rattle.dp_parse.specs.Rules as rule
+use Rattle.dp_parse.specs.descent.Steps.{Outcome, Parser, ◌>>=◌, pure, and_then, expect, eat, rest, separated, separated_by}
+use Rattle.dp_parse.specs.descent.Operators.{join_at, prefix_at}
 use Rattle.dp_parse.specs.descent.Steps as step
 use Rattle.dp_parse.specs.descent.Expressions as read
 use Rattle.dp_parse.proofs.StepLemmas.{Sound}

@@ -9,10 +9,12 @@ use Rattle.dp_parse.specs.declared.symbol.Symbol.{Symbol}
 use Rattle.dp_parse.specs.declared.symbol.Symbol.TheVariants.{Name, Int, Void, Minus, Assign, OpenParen, CloseParen, OpenBracket, CloseBracket, Comma, Semicolon}
 use Rattle.dp_parse.specs.Symbols.{symbol_at, Is}
 use Rattle.dp_parse.specs.Leaves.{name_of}
-use Rattle.dp_parse.specs.Begins.{Part, Word, Number, Length, Of, Names, Params, Item, Block, Begins, BeginsParts, nothing, by, none, within, token, past}
-use Rattle.dp_parse.specs.Begins as rule
+use Rattle.dp_parse.specs.Rules.{Part, Word, Number, Length, Of, Names, Params, Item, Block}
+use Rattle.dp_parse.specs.Begins.{Begins, BeginsParts, nothing, by, none, within, token, past}
+use Rattle.dp_parse.specs.Rules as rule
 use Rattle.dp_parse.specs.descent.Steps.{Outcome, Parser, ◌>>=◌, ◌>>◌, ◌<$>◌, pure, and_then, expect, eat, sees, rest, given, separated, separated_by}
 use Rattle.dp_parse.specs.descent.Steps as step
+use Rattle.dp_parse.specs.descent.Numbers as numbers
 use Rattle.dp_parse.specs.descent.Statements as statements
 use Rattle.dp_parse.specs.descent.Programs as read
 use Rattle.dp_parse.proofs.LeafLemmas.{read_name, read_number, sees_of}
@@ -81,9 +83,9 @@ ended found middle to h = seq (word Semicolon) _ (λ _. done) middle to h
 abbrev finish : Outcome RawItem → Outcome RawItem
 finish o = and_then o (λ found. expect Semicolon >>= (λ _. pure found))
 
-length_at : (name : TreeName) (from to : List Lexeme) (b : Bool) → step.sees_zero from ≡ b → finish (read.array_by name b from) ≡ Err to → BeginsParts (Length ∷ Word CloseBracket ∷ Word Semicolon ∷ []) from to
+length_at : (name : TreeName) (from to : List Lexeme) (b : Bool) → numbers.sees_zero from ≡ b → finish (read.array_by name b from) ≡ Err to → BeginsParts (Length ∷ Word CloseBracket ∷ Word Semicolon ∷ []) from to
 length_at name from to true seen h = let same : from ≡ to = cc h in rw same none
-length_at name from to false seen h = counted_length (step.number from) refl h
+length_at name from to false seen h = counted_length (numbers.number from) refl h
   where
     behind : (z : ℤ) (middle to : List Lexeme) → finish ((expect CloseBracket >>= (λ _. pure (item.Array name z))) middle) ≡ Err to → BeginsParts (Word CloseBracket ∷ Word Semicolon ∷ []) middle to
     behind z middle to h = closing (expect CloseBracket middle) refl h
@@ -92,16 +94,16 @@ length_at name from to false seen h = counted_length (step.number from) refl h
         closing (Ok x) is h = (word CloseBracket).passes (Word Semicolon ∷ []) middle x.1 to x.0 is (ended (item.Array name z) x.1 to h)
         closing (Err left) is h = let same : left ≡ to = cc h in (word CloseBracket).stuck (Word Semicolon ∷ []) middle to (is ∙ ap Err same)
 
-    counted_length : (o : Outcome ℤ) → step.number from ≡ o → finish (and_then o (λ z. expect CloseBracket >>= (λ _. pure (item.Array name z)))) ≡ Err to → BeginsParts (Length ∷ Word CloseBracket ∷ Word Semicolon ∷ []) from to
+    counted_length : (o : Outcome ℤ) → numbers.number from ≡ o → finish (and_then o (λ z. expect CloseBracket >>= (λ _. pure (item.Array name z)))) ≡ Err to → BeginsParts (Length ∷ Word CloseBracket ∷ Word Semicolon ∷ []) from to
     counted_length (Ok x) is h =
         let n = read_number from x.1 x.0 is in
-        let zero : is_zero (pos n.value) ≡ false = sym (sees_of n.token n.value x.1 n.is) ∙ ap step.sees_zero (sym n.splits) ∙ seen in
+        let zero : is_zero (pos n.value) ≡ false = sym (sees_of n.token n.value x.1 n.is) ∙ ap numbers.sees_zero (sym n.splits) ∙ seen in
         rw n.splits (token {p = Length} (n.value, n.is, nonzero_is (pos n.value) n.value refl zero) (behind x.0 x.1 to h))
     counted_length (Err left) is h = let same : left ≡ to = cc h in rw (number_stuck from to (is ∙ ap Err same)) none
 
-array_at : (name : TreeName) (from to : List Lexeme) (o : Outcome Lexeme) → expect OpenBracket from ≡ o → finish (and_then o (λ _. λ ts. read.array_by name (step.sees_zero ts) ts)) ≡ Err to →
+array_at : (name : TreeName) (from to : List Lexeme) (o : Outcome Lexeme) → expect OpenBracket from ≡ o → finish (and_then o (λ _. λ ts. read.array_by name (numbers.sees_zero ts) ts)) ≡ Err to →
     BeginsParts (Word OpenBracket ∷ Length ∷ Word CloseBracket ∷ Word Semicolon ∷ []) from to
-array_at name from to (Ok x) is h = (word OpenBracket).passes _ from x.1 to x.0 is (length_at name x.1 to (step.sees_zero x.1) refl h)
+array_at name from to (Ok x) is h = (word OpenBracket).passes _ from x.1 to x.0 is (length_at name x.1 to (numbers.sees_zero x.1) refl h)
 array_at name from to (Err left) is h = let same : left ≡ to = cc h in (word OpenBracket).stuck _ from to (is ∙ ap Err same)
 
 array_fails : (name : TreeName) (from to : List Lexeme) → finish (read.array name from) ≡ Err to → BeginsParts (Word OpenBracket ∷ Length ∷ Word CloseBracket ∷ Word Semicolon ∷ []) from to
@@ -119,15 +121,15 @@ module _ (int name equals : Lexeme) (i : Is Int int) (n : Is Name name) (q : Is 
   start_read from middle to z (plain t v h splits same) e = by rule.started (token i (token n (token q (token_at {p = Number} splits (v, h) (ended _ middle to e)))))
   start_read from middle to z (below minus t v m h splits same) e = by rule.below_zero (token i (token n (token q (token_at splits m (token {p = Number} (v, h) (ended _ middle to e))))))
 
-  turned : (from to : List Lexeme) (o : Outcome ℤ) → step.number from ≡ o → and_then o (λ z. given (step.negated z)) ≡ Err to → from ≡ to
+  turned : (from to : List Lexeme) (o : Outcome ℤ) → numbers.number from ≡ o → and_then o (λ z. given (numbers.negated z)) ≡ Err to → from ≡ to
   turned from to (Ok x) is h =
       let m = read_number from x.1 x.0 is in
-      let good : step.negated x.0 ≡ Some _ = ap step.negated m.reads ∙ turns m.value m.is.fits in
+      let good : numbers.negated x.0 ≡ Some _ = ap numbers.negated m.reads ∙ turns m.value m.is.fits in
       let clash = sym (ap (λ (o : Option ℤ). given o x.1) good) ∙ h in absurd (cc clash)
   turned from to (Err left) is h = let same : left ≡ to = cc h in number_stuck from to (is ∙ ap Err same)
 
   start_eaten : (from to : List Lexeme) → Eaten Minus read.start_by from (Err to) → Front from to
-  start_eaten from to (passed t middle m splits h) = by rule.below_zero (token i (token n (token q (token_at splits m (here (turned middle to (step.number middle) refl h))))))
+  start_eaten from to (passed t middle m splits h) = by rule.below_zero (token i (token n (token q (token_at splits m (here (turned middle to (numbers.number middle) refl h))))))
   start_eaten from to (stayed other h) = by rule.started (token i (token n (token q (here (number_stuck from to h)))))
 
   start_stuck : (from to : List Lexeme) → read.start from ≡ Err to → Front from to

@@ -10,10 +10,11 @@ use Rattle.dp_parse.specs.declared.item.Part.TheVariants.{Item as AnItem, Main a
 use Rattle.dp_parse.specs.declared.symbol.Symbol.TheVariants.{Mark, Int, Void, Main, Return, While, For, OpenParen, CloseParen, OpenBrace, CloseBrace, Semicolon}
 use Rattle.dp_parse.specs.Symbols.{Is}
 use Rattle.dp_parse.specs.Programs as derives
-use Rattle.dp_parse.specs.Begins.{Part, Word, Zero, Of, Derived, Condition, Head, Loop, Item, Items, Tops, Ending, Body, Program, Begins, BeginsParts, nothing, by, none, within, token, past}
-use Rattle.dp_parse.specs.Begins as rule
+use Rattle.dp_parse.specs.Rules.{Part, Word, Zero, Of, Condition, Head, Loop, Item, Items, Tops, Ending, Body, Program}
+use Rattle.dp_parse.specs.Begins.{Derived, Begins, BeginsParts, nothing, by, none, within, token, past}
+use Rattle.dp_parse.specs.Rules as rule
 use Rattle.dp_parse.specs.descent.Steps.{Outcome, Parser, ◌>>=◌, pure, and_then, expect, eat, many, many_by}
-use Rattle.dp_parse.specs.descent.Steps as step
+use Rattle.dp_parse.specs.descent.Numbers as numbers
 use Rattle.dp_parse.specs.descent.Statements as statements
 use Rattle.dp_parse.specs.descent.Programs as read
 use Rattle.dp_parse.proofs.StepLemmas.{took, Ate, ate}
@@ -78,19 +79,19 @@ tops = reader Tops (λ ts. many read.ends read.top (length ts) [] ts)
 abbrev semicolon : Parser (Unit {0})
 semicolon = expect Semicolon >>= (λ _. pure tt)
 
-number_at : (from to : List Lexeme) (o : Outcome ℤ) → step.sees_zero from ≡ true → step.number from ≡ o → and_then o (λ _. semicolon) ≡ Err to → BeginsParts (Zero ∷ Word Semicolon ∷ []) from to
+number_at : (from to : List Lexeme) (o : Outcome ℤ) → numbers.sees_zero from ≡ true → numbers.number from ≡ o → and_then o (λ _. semicolon) ≡ Err to → BeginsParts (Zero ∷ Word Semicolon ∷ []) from to
 number_at from to (Ok x) seen is h =
     let n = read_number from x.1 x.0 is in
-    let zero : is_zero (pos n.value) ≡ true = sym (sees_of n.token n.value x.1 n.is) ∙ ap step.sees_zero (sym n.splits) ∙ seen in
+    let zero : is_zero (pos n.value) ≡ true = sym (sees_of n.token n.value x.1 n.is) ∙ ap numbers.sees_zero (sym n.splits) ∙ seen in
     rw n.splits (token {p = Zero} (number_zero n.token n.value (zero_is (pos n.value) n.value refl zero) n.is) (seq (word Semicolon) _ (λ _. done) x.1 to h))
 number_at from to (Err left) seen is h = let same : left ≡ to = cc h in rw (number_stuck from to (is ∙ ap Err same)) none
 
-zero_at : (from to : List Lexeme) (b : Bool) → step.sees_zero from ≡ b → read.zero_by b from ≡ Err to → BeginsParts (Zero ∷ Word Semicolon ∷ []) from to
-zero_at from to true seen h = number_at from to (step.number from) seen refl h
+zero_at : (from to : List Lexeme) (b : Bool) → numbers.sees_zero from ≡ b → read.zero_by b from ≡ Err to → BeginsParts (Zero ∷ Word Semicolon ∷ []) from to
+zero_at from to true seen h = number_at from to (numbers.number from) seen refl h
 zero_at from to false seen h = let same : from ≡ to = cc h in rw same none
 
 returned_eaten : (from to : List Lexeme) → Eaten Return read.returned_by from (Err to) → Begins Ending from to
-returned_eaten from to (passed t left is splits h) = by rule.return (rw splits (token is (zero_at left to (step.sees_zero left) refl h)))
+returned_eaten from to (passed t left is splits h) = by rule.return (rw splits (token is (zero_at left to (numbers.sees_zero left) refl h)))
 returned_eaten from to (stayed other h) = absurd (cc h)
 
 pub returned_stuck : (from to : List Lexeme) → read.returned from ≡ Err to → Begins Ending from to

@@ -8,8 +8,9 @@ use Rattle.dp_parse.specs.declared.symbol.Symbol.TheVariants.{Name, Int, Print, 
 use Rattle.dp_parse.specs.Symbols.{symbol_at, Is}
 use Rattle.dp_parse.specs.Leaves.{name_of}
 use Rattle.dp_parse.specs.Statements.{DerivesStatement}
-use Rattle.dp_parse.specs.Begins.{Part, Word, Of, Expression, Arguments, Condition, Head, Statement, Choice, Block, Statements, Begins, BeginsParts, nothing, by, none, within, token, past}
-use Rattle.dp_parse.specs.Begins as rule
+use Rattle.dp_parse.specs.Rules.{Part, Word, Of, Expression, Arguments, Condition, Head, Statement, Choice, Block, Statements}
+use Rattle.dp_parse.specs.Begins.{Begins, BeginsParts, nothing, by, none, within, token, past}
+use Rattle.dp_parse.specs.Rules as rule
 use Rattle.dp_parse.specs.descent.Steps.{Outcome, Parser, ◌>>=◌, pure, and_then, expect, sees, many, many_by}
 use Rattle.dp_parse.specs.descent.Steps as step
 use Rattle.dp_parse.specs.descent.Statements as read

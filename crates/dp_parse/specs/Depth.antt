@@ -2,6 +2,7 @@
 use Rattle.std.specs.Prelude.{ℕ, ◌+◌, ◌-◌, max, Bool, true, false, ◌&&◌, if◌then◌else◌, List, [], ◌∷◌, map, count_by, nat_lt, Option, Some, None}
 use Rattle.dp_base.specs.declared.Quantity.{Quantity}
 use Rattle.dp_base.specs.declared.Quantity.TheVariants.{Nesting, Operators, ElseIf}
+use Rattle.dp_base.specs.declared.limits.TheConstants.{ELSE_IF, NESTING, OPERATORS}
 use Rattle.dp_lex.specs.Token.{Lexeme}
 use Rattle.dp_parse.specs.declared.symbol.Symbol.{Symbol}
 use Rattle.dp_parse.specs.declared.symbol.Symbol.TheVariants.{If, Else, Plus, Minus, Star, Slash, Percent, Not, Less, LessEqual, Greater, GreaterEqual, Equal, NotEqual, And, Or, OpenParen, OpenBracket, OpenBrace, CloseBrace, Semicolon}
@@ -99,6 +100,6 @@ else_if tokens = else_ifs (map symbol tokens)
 abbrev pub above : Quantity → ℕ → ℕ → Option (Quantity × ℕ) → Option (Quantity × ℕ)
 above quantity most count otherwise = if nat_lt most count then Some (quantity, count) else otherwise
 
--- the first count that is above its number: at most 64 open braces, 64 operators and 256 times `else if`
+-- the first count that is above its limit: open braces, operators, `else if`
 unfoldable pub depth_fault : List Lexeme → Option (Quantity × ℕ)
-depth_fault tokens = above Nesting 64 (nesting tokens) (above Operators 64 (operators tokens) (above ElseIf 256 (else_if tokens) None))
+depth_fault tokens = above Nesting NESTING (nesting tokens) (above Operators OPERATORS (operators tokens) (above ElseIf ELSE_IF (else_if tokens) None))

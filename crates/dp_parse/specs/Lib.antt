@@ -6,6 +6,7 @@ pub mod Heads
 pub mod Statements
 pub mod Regions
 pub mod Programs
+pub mod Rules
 pub mod Begins
 pub mod Depth
 pub mod Parses

@@ -11,7 +11,8 @@ use Rattle.dp_parse.specs.declared.error.ParseError.{ParseError}
 use Rattle.dp_parse.specs.declared.error.ParseError.TheVariants as part
 use Rattle.dp_parse.specs.Depth.{depth_fault}
 use Rattle.dp_parse.specs.Programs.{Derives}
-use Rattle.dp_parse.specs.Begins.{Begins, Program}
+use Rattle.dp_parse.specs.Rules.{Program}
+use Rattle.dp_parse.specs.Begins.{Begins}
 
 -- the text's tokens derive the program
 pub record ParsesAs (text : Text) (program : RawProgram) : Type 0 where

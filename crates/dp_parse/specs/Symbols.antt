@@ -1,29 +1,23 @@
 -- The terminal symbols of the grammar: how each is spelled, and which one a token is.
-use Rattle.std.specs.Prelude.{◌≡◌, ℕ, List, [], ◌∷◌, if◌then◌else◌, codes}
+use Rattle.std.specs.Prelude.{◌≡◌, ℕ, List, [], ◌∷◌, map, if◌then◌else◌}
 use Rattle.std.specs.Str.{bytes_eq}
 use Rattle.dp_lex.specs.declared.TokenKind.{TokenKind}
 use Rattle.dp_lex.specs.declared.TokenKind.TheVariants as kind
 use Rattle.dp_lex.specs.Token.{Lexeme}
+use Rattle.dp_parse.specs.declared.symbol.TheConstants.{WORDS, SIGNS}
 use Rattle.dp_parse.specs.declared.symbol.Symbol.{Symbol}
-use Rattle.dp_parse.specs.declared.symbol.Symbol.TheVariants.{Name, Number, Mark, Int, Void, Main, Return, Print, While, For, Break, If, Else, Plus, Minus, Star, Slash, Percent, Not, Less, LessEqual, Greater, GreaterEqual, Equal, NotEqual, And, Or, Assign, OpenParen, CloseParen, OpenBracket, CloseBracket, OpenBrace, CloseBrace, Comma, Semicolon, Other, End}
+use Rattle.dp_parse.specs.declared.symbol.Symbol.TheVariants.{Name, Number, Mark, Other, End}
 
 abbrev pub Spellings : Type 0
 Spellings = List (List ℕ × Symbol)
 
 -- the reserved words that the grammar uses
 abbrev pub words : Spellings
-words =
-    (codes "int", Int) ∷ (codes "void", Void) ∷ (codes "main", Main) ∷ (codes "return", Return) ∷ (codes "print", Print)
-    ∷ (codes "while", While) ∷ (codes "for", For) ∷ (codes "break", Break) ∷ (codes "if", If) ∷ (codes "else", Else) ∷ []
+words = map (λ entry. (entry.0.now, entry.1)) WORDS
 
 -- the signs that the grammar uses
 abbrev pub signs : Spellings
-signs =
-    (codes "+", Plus) ∷ (codes "-", Minus) ∷ (codes "*", Star) ∷ (codes "/", Slash) ∷ (codes "%", Percent) ∷ (codes "!", Not)
-    ∷ (codes "<", Less) ∷ (codes "<=", LessEqual) ∷ (codes ">", Greater) ∷ (codes ">=", GreaterEqual)
-    ∷ (codes "==", Equal) ∷ (codes "!=", NotEqual) ∷ (codes "&&", And) ∷ (codes "||", Or) ∷ (codes "=", Assign)
-    ∷ (codes "(", OpenParen) ∷ (codes ")", CloseParen) ∷ (codes "[", OpenBracket) ∷ (codes "]", CloseBracket)
-    ∷ (codes "{", OpenBrace) ∷ (codes "}", CloseBrace) ∷ (codes ",", Comma) ∷ (codes ";", Semicolon) ∷ []
+signs = map (λ entry. (entry.0.now, entry.1)) SIGNS
 
 -- the symbol that the table spells so, if any
 abbrev pub spelled : Spellings → List ℕ → Symbol

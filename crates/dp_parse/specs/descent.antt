@@ -1,4 +1,6 @@
 pub mod Steps
+pub mod Numbers
+pub mod Operators
 pub mod Expressions
 pub mod Heads
 pub mod Statements

@@ -3,6 +3,7 @@
 ghost use Rattle.std.specs.Prelude.{◌≡◌, IfOk};
 ghost use Rattle.dp_base.specs.Arithmetic.{is_zero};
 ghost use Rattle.dp_parse.specs.descent.Steps as steps;
+ghost use Rattle.dp_parse.specs.descent.Numbers as numbers;
 ghost use Rattle.dp_parse.specs.descent.Steps.{Reads};
 
 use crate::error::ParseError;
@@ -28,9 +29,9 @@ pub fn name(alloc: Global, tokens: &mut Tokens<'_, '_>) -> Result<Name, ParseErr
 }
 
 /// A number.
-#[tactic(auto, unfolding(crate::specs::descent::Steps::number))]
+#[tactic(auto, unfolding(crate::specs::descent::Numbers::number))]
 pub fn number(tokens: &mut Tokens<'_, '_>) -> Result<i64, ParseError>
-    ensures { Reads (steps.number tokens.old) result tokens.new }
+    ensures { Reads (numbers.number tokens.old) result tokens.new }
 {
     match tokens.next_number() {
         Some(value) => {
@@ -42,9 +43,9 @@ pub fn number(tokens: &mut Tokens<'_, '_>) -> Result<i64, ParseError>
 }
 
 /// Whether the number 0 comes next.
-#[tactic(auto, unfolding(crate::specs::descent::Steps::sees_zero))]
+#[tactic(auto, unfolding(crate::specs::descent::Numbers::sees_zero))]
 pub fn sees_zero(tokens: &Tokens<'_, '_>) -> bool
-    ensures { result ≡ steps.sees_zero tokens.now }
+    ensures { result ≡ numbers.sees_zero tokens.now }
 {
     match tokens.next_number() {
         Some(value) => is_zero(value),
@@ -54,7 +55,7 @@ pub fn sees_zero(tokens: &Tokens<'_, '_>) -> bool
 
 /// The value of the digits, if it is a token's.
 pub fn value(digits: &[u8]) -> Option<i64>
-    ensures { result ≡ steps.number_value digits.now }
+    ensures { result ≡ numbers.number_value digits.now }
 {
     let mut value = 0u64;
     for digit in digits {
@@ -79,9 +80,9 @@ fn is_zero(n: i64) -> bool
 }
 
 /// The number with its sign turned.
-#[tactic(auto, unfolding(crate::specs::descent::Steps::negated))]
+#[tactic(auto, unfolding(crate::specs::descent::Numbers::negated))]
 pub fn negated(n: i64) -> Option<i64>
-    ensures { result ≡ steps.negated n }
+    ensures { result ≡ numbers.negated n }
 {
     n.checked_neg()
 }

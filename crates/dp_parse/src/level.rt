@@ -2,7 +2,7 @@
 
 ghost use Rattle.std.specs.Prelude.{◌≡◌, ◌≢◌, true, false};
 ghost use Rattle.dp_parse.specs.Levels as spec;
-ghost use Rattle.dp_parse.specs.descent.Steps as steps;
+ghost use Rattle.dp_parse.specs.descent.Operators as operators;
 
 use crate::symbol::Symbol;
 use dp_base::{BinOp, UnOp};
@@ -76,15 +76,15 @@ fn prefixing(symbol: Symbol) -> Option<(Level, UnOp)>
 }
 
 fn same_level(a: Level, b: Level) -> bool
-    ensures { result ≡ steps.same_level a b }
+    ensures { result ≡ operators.same_level a b }
 {
     a == b
 }
 
 /// What the symbol makes of two operands of the level, if it is an infix operator of it.
-#[tactic(auto, unfolding(crate::specs::descent::Steps::join_at))]
+#[tactic(auto, unfolding(crate::specs::descent::Operators::join_at))]
 pub fn join_at(level: Level, symbol: Symbol) -> Option<Join>
-    ensures { result ≡ steps.join_at level symbol }
+    ensures { result ≡ operators.join_at level symbol }
 {
     match joining(symbol) {
         Some((own, join)) => same_level(own, level).then_some(join),
@@ -93,9 +93,9 @@ pub fn join_at(level: Level, symbol: Symbol) -> Option<Join>
 }
 
 /// The prefix operator of the level that the symbol is, if it is one.
-#[tactic(auto, unfolding(crate::specs::descent::Steps::prefix_at))]
+#[tactic(auto, unfolding(crate::specs::descent::Operators::prefix_at))]
 pub fn prefix_at(level: Level, symbol: Symbol) -> Option<UnOp>
-    ensures { result ≡ steps.prefix_at level symbol }
+    ensures { result ≡ operators.prefix_at level symbol }
 {
     match prefixing(symbol) {
         Some((own, op)) => same_level(own, level).then_some(op),

@@ -1,6 +1,7 @@
 //! A whole text.
 
 ghost use Rattle.std.specs.Prelude.{◌≡◌, ◌≤◌, ◌<◌, ◌^◌, length, map, MatchResult};
+ghost use Rattle.dp_base.specs.declared.limits.TheConstants.{PROGRAM_BYTES};
 ghost use Rattle.dp_lex.specs.Tokens.{Tokens as AreTokens, lexeme};
 ghost use Rattle.dp_parse.specs.Parses.{Parses, Unread, Gives, outcome_of};
 
@@ -18,7 +19,7 @@ use std::alloc::Global;
 /// A text that nests deeper than the limits is refused before its grammar is looked at, so the descent's own depth is
 /// bounded by them.
 pub fn parse(alloc: Global, text: &[u8]) -> Result<RawProgram, ParseFail>
-    requires { length text.now ≤ 65536 }
+    requires { length text.now ≤ PROGRAM_BYTES }
     ensures { Parses text.now result }
 {
     match read_tokens(alloc, text) {
@@ -29,7 +30,7 @@ pub fn parse(alloc: Global, text: &[u8]) -> Result<RawProgram, ParseFail>
 
 /// The tokens of the whole text, in order.
 fn read_tokens<'t>(alloc: Global, text: &'t [u8]) -> Result<Row<Token<'t>>, ParseFail>
-    requires { length text.now ≤ 65536 }
+    requires { length text.now ≤ PROGRAM_BYTES }
     ensures { MatchResult result (λ tokens. AreTokens text.now (map lexeme tokens)) (Unread text.now) }
 {
     let mut lexer = Lexer::new(text);

@@ -5,7 +5,7 @@ ghost use Rattle.dp_lex.specs.Tokens.{lexeme};
 ghost use Rattle.dp_parse.specs.Symbols as spec;
 ghost use Rattle.dp_parse.specs.descent.Steps as steps;
 
-use dp_lex::{Token, TokenKind};
+use dp_lex::{Token, TokenKind, spelling};
 
 /// A terminal symbol: what a token is to the grammar.
 #[derive(Clone, Copy, Debug, PartialEq, Eq)]
@@ -53,42 +53,42 @@ pub enum Symbol {
 }
 
 const WORDS: [(&[u8], Symbol); 10] = [
-    (b"int", Symbol::Int),
-    (b"void", Symbol::Void),
-    (b"main", Symbol::Main),
-    (b"return", Symbol::Return),
-    (b"print", Symbol::Print),
-    (b"while", Symbol::While),
-    (b"for", Symbol::For),
-    (b"break", Symbol::Break),
-    (b"if", Symbol::If),
-    (b"else", Symbol::Else),
+    (spelling::INT, Symbol::Int),
+    (spelling::VOID, Symbol::Void),
+    (spelling::MAIN, Symbol::Main),
+    (spelling::RETURN, Symbol::Return),
+    (spelling::PRINT, Symbol::Print),
+    (spelling::WHILE, Symbol::While),
+    (spelling::FOR, Symbol::For),
+    (spelling::BREAK, Symbol::Break),
+    (spelling::IF, Symbol::If),
+    (spelling::ELSE, Symbol::Else),
 ];
 
 const SIGNS: [(&[u8], Symbol); 23] = [
-    (b"+", Symbol::Plus),
-    (b"-", Symbol::Minus),
-    (b"*", Symbol::Star),
-    (b"/", Symbol::Slash),
-    (b"%", Symbol::Percent),
-    (b"!", Symbol::Not),
-    (b"<", Symbol::Less),
-    (b"<=", Symbol::LessEqual),
-    (b">", Symbol::Greater),
-    (b">=", Symbol::GreaterEqual),
-    (b"==", Symbol::Equal),
-    (b"!=", Symbol::NotEqual),
-    (b"&&", Symbol::And),
-    (b"||", Symbol::Or),
-    (b"=", Symbol::Assign),
-    (b"(", Symbol::OpenParen),
-    (b")", Symbol::CloseParen),
-    (b"[", Symbol::OpenBracket),
-    (b"]", Symbol::CloseBracket),
-    (b"{", Symbol::OpenBrace),
-    (b"}", Symbol::CloseBrace),
-    (b",", Symbol::Comma),
-    (b";", Symbol::Semicolon),
+    (spelling::PLUS, Symbol::Plus),
+    (spelling::MINUS, Symbol::Minus),
+    (spelling::STAR, Symbol::Star),
+    (spelling::SLASH, Symbol::Slash),
+    (spelling::PERCENT, Symbol::Percent),
+    (spelling::NOT, Symbol::Not),
+    (spelling::LESS, Symbol::Less),
+    (spelling::LESS_EQUAL, Symbol::LessEqual),
+    (spelling::GREATER, Symbol::Greater),
+    (spelling::GREATER_EQUAL, Symbol::GreaterEqual),
+    (spelling::EQUAL, Symbol::Equal),
+    (spelling::NOT_EQUAL, Symbol::NotEqual),
+    (spelling::AND, Symbol::And),
+    (spelling::OR, Symbol::Or),
+    (spelling::ASSIGN, Symbol::Assign),
+    (spelling::OPEN_PAREN, Symbol::OpenParen),
+    (spelling::CLOSE_PAREN, Symbol::CloseParen),
+    (spelling::OPEN_BRACKET, Symbol::OpenBracket),
+    (spelling::CLOSE_BRACKET, Symbol::CloseBracket),
+    (spelling::OPEN_BRACE, Symbol::OpenBrace),
+    (spelling::CLOSE_BRACE, Symbol::CloseBrace),
+    (spelling::COMMA, Symbol::Comma),
+    (spelling::SEMICOLON, Symbol::Semicolon),
 ];
 
 fn spelled(mut table: &[(&[u8], Symbol)], text: &[u8]) -> Symbol
@@ -104,7 +104,7 @@ fn spelled(mut table: &[(&[u8], Symbol)], text: &[u8]) -> Symbol
 }
 
 /// The symbol that a token is.
-#[tactic(auto, using(crate::proofs::Tables::words_are, crate::proofs::Tables::signs_are), unfolding(crate::specs::Symbols::symbol))]
+#[tactic(auto, unfolding(crate::specs::Symbols::symbol))]
 pub fn symbol_of(token: &Token<'_>) -> Symbol
     ensures { result ≡ spec.symbol (lexeme token.now) }
 {

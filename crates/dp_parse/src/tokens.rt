@@ -4,6 +4,7 @@ ghost use Rattle.std.specs.Prelude.{◌≡◌, map, length, IfOk, OnErr, Ok as T
 ghost use Rattle.dp_lex.specs.Tokens.{lexeme};
 ghost use Rattle.dp_parse.specs.Symbols as spec;
 ghost use Rattle.dp_parse.specs.descent.Steps as steps;
+ghost use Rattle.dp_parse.specs.descent.Numbers as numbers;
 
 use crate::error::ParseError;
 use crate::leaf::value;
@@ -57,9 +58,9 @@ impl<'a, 't> Tokens<'a, 't> {
     }
 
     /// The number that comes next, if one does.
-    #[tactic(auto, unfolding(crate::specs::descent::Steps::next_number, crate::specs::Symbols::symbol_at))]
+    #[tactic(auto, unfolding(crate::specs::descent::Numbers::next_number, crate::specs::Symbols::symbol_at))]
     pub fn next_number(&self) -> Option<i64>
-        ensures { result ≡ steps.next_number self.now }
+        ensures { result ≡ numbers.next_number self.now }
     {
         match self.left {
             [first, ..] => number_of(same_symbol(self.next, Symbol::Number), first.text),
@@ -132,7 +133,7 @@ impl<'a, 't> Tokens<'a, 't> {
 
 /// The value of a token's text, if it is a number's.
 fn number_of(is_number: bool, text: &[u8]) -> Option<i64>
-    ensures { result ≡ steps.value_by is_number text.now }
+    ensures { result ≡ numbers.value_by is_number text.now }
 {
     if is_number { value(text) } else { None }
 }

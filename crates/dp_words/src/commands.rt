@@ -5,8 +5,8 @@ ghost use Rattle.dp_words.specs.Commands.{check_app, file_option, flag, fuel_opt
 
 use clap::builder::ValueParser;
 use clap::{Arg, ArgAction, Command};
-use dp_base::limits::{FUEL, INPUT_WORDS, LANE, RATE, SEED, STAGES, WORKERS};
 use dp_base::NoMemory;
+use dp_base::limits::{FUEL, INPUT_WORDS, LANE, RATE, SEED, STAGES, WORKERS};
 use std::alloc::Global;
 
 /// The command that runs a program.

@@ -1,6 +1,7 @@
 -- What the text of an input is read as.
-use Rattle.std.specs.Prelude.{ℕ, if◌then◌else◌, List, length, nat_lt, ℤ, Result, Ok, Err}
+use Rattle.std.specs.Prelude.{ℕ, ◌+◌, if◌then◌else◌, List, length, nat_lt, ℤ, Result, Ok, Err}
 use Rattle.dp_base.specs.declared.Quantity.TheVariants.{InputBytes, InputWords}
+use Rattle.dp_base.specs.declared.limits.TheConstants.{INPUT_BYTES}
 use Rattle.dp_edge.specs.declared.input.InputFail.{InputFail}
 use Rattle.dp_edge.specs.declared.input.InputFail.TheVariants.{TooMany, Refused, NoMemory}
 use Rattle.dp_edge.specs.Input.{numbers_of}
@@ -19,4 +20,4 @@ or_refused (Err fail) = Err (refusal_of fail)
 
 -- the numbers of an input's text, or its refusal
 abbrev pub input_of : List ℕ → Result (List ℤ) Refusal
-input_of text = if nat_lt 2097152 (length text) then Err (Limit InputBytes 2097153) else or_refused (numbers_of text)
+input_of text = if nat_lt INPUT_BYTES (length text) then Err (Limit InputBytes (INPUT_BYTES + 1)) else or_refused (numbers_of text)

@@ -1,6 +1,7 @@
 -- What the plans of a run are: those of the text that the words name, or the least of each region.
-use Rattle.std.specs.Prelude.{ℕ, ◌<◌, ◌≤◌, List, length, Option, Some, Result, Ok, Err}
+use Rattle.std.specs.Prelude.{ℕ, ◌+◌, ◌<◌, ◌≤◌, List, length, Option, Some, Result, Ok, Err}
 use Rattle.dp_base.specs.declared.Quantity.TheVariants.{PlanBytes}
+use Rattle.dp_base.specs.declared.limits.TheConstants.{PLAN_BYTES}
 use Rattle.dp_tree.specs.declared.Program.{Program}
 use Rattle.dp_plan.specs.declared.Plan.{Plan}
 use Rattle.dp_plan_text.specs.Refused.{IsRefused, IsBroken, StandsFor}
@@ -12,10 +13,10 @@ use Rattle.dswp.specs.declared.refusal.Refusal.TheVariants.{Limit, PlanLine, Pla
 
 -- The text is read as these plans of the expanded program, or refused for the first of the causes that stands: its length, its lines, a rule.
 pub data ReadsPlans (p : Program) (text : List ℕ) : Result (List Plan) Refusal → Type 0 where
-  TooLong : 1048576 < length text → ReadsPlans p text (Err (Limit PlanBytes 1048577))
-  NotPlans : (line : ℕ) → length text ≤ 1048576 → IsRefused p text line → ReadsPlans p text (Err (PlanLine line))
-  Broken : (rule site : ℕ) → length text ≤ 1048576 → IsBroken p text (Some (record { rule = rule; site = site })) → ReadsPlans p text (Err (PlanRule rule site))
-  Taken : (plans : List Plan) → length text ≤ 1048576 → StandsFor p text plans → ReadsPlans p text (Ok plans)
+  TooLong : PLAN_BYTES < length text → ReadsPlans p text (Err (Limit PlanBytes (PLAN_BYTES + 1)))
+  NotPlans : (line : ℕ) → length text ≤ PLAN_BYTES → IsRefused p text line → ReadsPlans p text (Err (PlanLine line))
+  Broken : (rule site : ℕ) → length text ≤ PLAN_BYTES → IsBroken p text (Some (record { rule = rule; site = site })) → ReadsPlans p text (Err (PlanRule rule site))
+  Taken : (plans : List Plan) → length text ≤ PLAN_BYTES → StandsFor p text plans → ReadsPlans p text (Ok plans)
 
 -- the automatic plans of the expanded program, made as these options say, by a profile if there is one: the least of each region
 abbrev pub MakesPlans : Program → PlanOptions → Option Profile → List Plan → Type 0

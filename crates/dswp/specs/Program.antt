@@ -1,7 +1,8 @@
 -- What a program's text is read as: a program to run, or a refusal.
-use Rattle.std.specs.Prelude.{◌≡◌, ℕ, ◌<◌, ◌≤◌, List, length, Result, Ok, Err}
+use Rattle.std.specs.Prelude.{◌≡◌, ℕ, ◌+◌, ◌<◌, ◌≤◌, List, length, Result, Ok, Err}
 use Rattle.dp_base.specs.declared.Quantity.{Quantity}
 use Rattle.dp_base.specs.declared.Quantity.TheVariants.{ProgramBytes}
+use Rattle.dp_base.specs.declared.limits.TheConstants.{PROGRAM_BYTES}
 use Rattle.dp_lex.specs.Tokens.{RefusedAt}
 use Rattle.dp_tree.specs.declared.Program.{Program}
 use Rattle.dp_tree.specs.declared.raw.RawProgram.{RawProgram}
@@ -46,11 +47,11 @@ judged (Err fail) = Err (refusal_of fail)
 -- The text is read as this program, or refused for the first of the causes that stands, in their order:
 -- its length, a place where no token begins, a depth, the grammar, a name or a count, a size.
 pub data Reads (text : List ℕ) : Result Program Refusal → Type 0 where
-  TooLong : 65536 < length text → Reads text (Err (Limit ProgramBytes 65537))
-  NoToken : (place : ℕ) → length text ≤ 65536 → RefusedAt text place → Reads text (Err (Byte place))
-  TooDeep : (quantity : Quantity) (count : ℕ) → length text ≤ 65536 → NestsTooDeep text quantity count → Reads text (Err (Limit quantity count))
-  NoTree : (token : ℕ) → length text ≤ 65536 → DerivesNothing text token → Reads text (Err (Syntax token))
-  Judged : (raw : RawProgram) → length text ≤ 65536 → ParsesAs text raw → Reads text (judged (verdict raw))
+  TooLong : PROGRAM_BYTES < length text → Reads text (Err (Limit ProgramBytes (PROGRAM_BYTES + 1)))
+  NoToken : (place : ℕ) → length text ≤ PROGRAM_BYTES → RefusedAt text place → Reads text (Err (Byte place))
+  TooDeep : (quantity : Quantity) (count : ℕ) → length text ≤ PROGRAM_BYTES → NestsTooDeep text quantity count → Reads text (Err (Limit quantity count))
+  NoTree : (token : ℕ) → length text ≤ PROGRAM_BYTES → DerivesNothing text token → Reads text (Err (Syntax token))
+  Judged : (raw : RawProgram) → length text ≤ PROGRAM_BYTES → ParsesAs text raw → Reads text (judged (verdict raw))
 
 -- what is run: the program with its calls expanded
 abbrev pub expanded : Result Program Refusal → Result Program Refusal

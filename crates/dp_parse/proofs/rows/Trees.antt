@@ -18,10 +18,10 @@ use Rattle.dp_parse.proofs.rows.Build.{split}
 -- what opens where a text is read: `unfolding reading_opened`
 unfoldable pub reading_opened : Unit {0}
 unfolding
-    Rattle.dp_parse.specs.Symbols.symbol Rattle.dp_parse.specs.Symbols.symbol_at Rattle.dp_parse.specs.descent.Steps.same_symbol Rattle.dp_parse.specs.descent.Steps.same_level
-    Rattle.dp_parse.specs.descent.Steps.join_at Rattle.dp_parse.specs.descent.Steps.prefix_at Rattle.dp_parse.specs.descent.Steps.rest Rattle.dp_parse.specs.descent.Steps.sees
-    Rattle.dp_parse.specs.descent.Steps.after Rattle.dp_parse.specs.descent.Steps.expect Rattle.dp_parse.specs.descent.Steps.name Rattle.dp_parse.specs.descent.Steps.number_value
-    Rattle.dp_parse.specs.descent.Steps.number Rattle.dp_parse.specs.descent.Steps.next_number Rattle.dp_parse.specs.descent.Steps.sees_zero Rattle.dp_parse.specs.descent.Steps.negated Rattle.dp_parse.specs.descent.Steps.separated Rattle.dp_parse.specs.descent.Steps.many
+    Rattle.dp_parse.specs.Symbols.symbol Rattle.dp_parse.specs.Symbols.symbol_at Rattle.dp_parse.specs.descent.Steps.same_symbol Rattle.dp_parse.specs.descent.Operators.same_level
+    Rattle.dp_parse.specs.descent.Operators.join_at Rattle.dp_parse.specs.descent.Operators.prefix_at Rattle.dp_parse.specs.descent.Steps.rest Rattle.dp_parse.specs.descent.Steps.sees
+    Rattle.dp_parse.specs.descent.Steps.after Rattle.dp_parse.specs.descent.Steps.expect Rattle.dp_parse.specs.descent.Steps.name Rattle.dp_parse.specs.descent.Numbers.number_value
+    Rattle.dp_parse.specs.descent.Numbers.number Rattle.dp_parse.specs.descent.Numbers.next_number Rattle.dp_parse.specs.descent.Numbers.sees_zero Rattle.dp_parse.specs.descent.Numbers.negated Rattle.dp_parse.specs.descent.Steps.separated Rattle.dp_parse.specs.descent.Steps.many
     Rattle.dp_parse.specs.descent.Expressions.chain Rattle.dp_parse.specs.descent.Expressions.variable Rattle.dp_parse.specs.descent.Expressions.parenthesized Rattle.dp_parse.specs.descent.Expressions.primary
     Rattle.dp_parse.specs.descent.Expressions.level_of Rattle.dp_parse.specs.descent.Expressions.expression Rattle.dp_parse.specs.descent.Expressions.nested Rattle.dp_parse.specs.descent.Expressions.whole
     Rattle.dp_parse.specs.descent.Expressions.list Rattle.dp_parse.specs.descent.Statements.condition Rattle.dp_parse.specs.descent.Heads.value Rattle.dp_parse.specs.descent.Heads.declare

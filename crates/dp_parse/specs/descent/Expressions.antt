@@ -11,7 +11,9 @@ use Rattle.dp_parse.specs.declared.level.Level.TheVariants as level
 use Rattle.dp_parse.specs.declared.level.Join.{Join}
 use Rattle.dp_parse.specs.Symbols.{symbol_at}
 use Rattle.dp_parse.specs.Levels.{joined}
-use Rattle.dp_parse.specs.descent.Steps.{Parser, ◌>>=◌, ◌>>◌, ◌<$>◌, pure, refuse, peek, advance, eat, expect, name, number, join_at, prefix_at, separated}
+use Rattle.dp_parse.specs.descent.Steps.{Parser, ◌>>=◌, ◌>>◌, ◌<$>◌, pure, refuse, peek, advance, eat, expect, name, separated}
+use Rattle.dp_parse.specs.descent.Operators.{join_at, prefix_at}
+use Rattle.dp_parse.specs.descent.Numbers.{number}
 
 -- a chain goes on behind its first operands by the operators of a level
 abbrev pub longer : (RawExpr → Parser RawExpr) → Parser RawExpr → RawExpr → Option Join → Parser RawExpr

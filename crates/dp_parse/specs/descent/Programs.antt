@@ -10,7 +10,8 @@ use Rattle.dp_parse.specs.declared.symbol.Symbol.{Symbol}
 use Rattle.dp_parse.specs.declared.symbol.Symbol.TheVariants.{Mark, Int, Void, Main, Return, Minus, Assign, OpenParen, CloseParen, OpenBracket, CloseBracket, OpenBrace, CloseBrace, Semicolon}
 use Rattle.dp_parse.specs.declared.item.Part.{Part}
 use Rattle.dp_parse.specs.declared.item.Part.TheVariants.{Item, Main as Body}
-use Rattle.dp_parse.specs.descent.Steps.{Parser, ◌>>=◌, ◌>>◌, ◌<$>◌, pure, refuse, peek, advance, sees, eat, expect, name, number, separated, many, sees_zero, given, negated}
+use Rattle.dp_parse.specs.descent.Steps.{Parser, ◌>>=◌, ◌>>◌, ◌<$>◌, pure, refuse, peek, advance, sees, eat, expect, name, separated, many, given}
+use Rattle.dp_parse.specs.descent.Numbers.{number, sees_zero, negated}
 use Rattle.dp_parse.specs.descent.Statements.{statement, block}
 use Rattle.dp_parse.specs.descent.Regions.{region}
 

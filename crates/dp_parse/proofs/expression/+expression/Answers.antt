@@ -4,7 +4,8 @@ use Rattle.dp_parse.specs.Symbols.{symbol_at}
 use Rattle.dp_parse.specs.Levels.{operands}
 use Rattle.dp_tree.specs.declared.raw.RawExpr.{RawExpr}
 use Rattle.dp_tree.specs.declared.raw.RawExpr.TheVariants as tree
-use Rattle.dp_parse.specs.descent.Steps.{Outcome, and_then, pure, join_at, prefix_at}
+use Rattle.dp_parse.specs.descent.Steps.{Outcome, and_then, pure}
+use Rattle.dp_parse.specs.descent.Operators.{join_at, prefix_at}
 use Rattle.dp_parse.specs.descent.Expressions as read
 use Rattle.dp_parse.proofs.StepLemmas.{rest-le}
 use Rattle.dp_parse.proofs.Shorter.{shorter}
