@@ -41,11 +41,7 @@ pub fn flush_if_many<K: Sink>(
 }
 
 /// Writes all prints that wait.
-pub fn flush<K: Sink>(
-    alloc: Global,
-    waiting: &mut Row<i64>,
-    sink: &mut K,
-) -> Result<(), CrewFail>
+pub fn flush<K: Sink>(alloc: Global, waiting: &mut Row<i64>, sink: &mut K) -> Result<(), CrewFail>
     requires { K.faults sink.old < 2 ^ 64 - 1 }
     ensures faults { FaultsAfter result (K.faults sink.old) (K.faults sink.new) }
     ensures ok { OnOk result (waiting.new ≡ []) }
