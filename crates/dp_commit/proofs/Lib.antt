@@ -9,6 +9,8 @@ pub mod CountLemmas
 pub mod Undoing
 pub mod FindLemmas
 pub mod WalkLemmas
+pub mod EntryLemmas
+pub mod PaceLemmas
 pub mod CodeJudges
 pub mod EpochLemmas
 pub mod StageNumbers

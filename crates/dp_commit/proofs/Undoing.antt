@@ -1,5 +1,5 @@
 -- The memory before an iteration's stores, and what is left of its words.
-use Rattle.std.proofs.Common.{◌≡◌, refl, sym, ap, ◌∙◌, arith, ℕ, zero, suc, ◌-◌, ◌<◌, List, [], ◌∷◌, ◌++◌, length, ℤ, pos, Some, None, slice_get, slice_set, get_or, drop, replicate}
+use Rattle.std.proofs.Common.{◌≡◌, refl, sym, ap, ◌∙◌, arith, ℕ, zero, suc, ◌-◌, ◌<◌, List, [], ◌∷◌, ◌++◌, length, ℤ, pos, slice_set, get_or, drop, replicate}
 use Rattle.dp_base.specs.declared.Word.{Word}
 use Rattle.dp_semantics.specs.Words.{word_list}
 use Rattle.dp_cause.specs.declared.replaced.Replaced.{Replaced}
@@ -32,18 +32,6 @@ none_dropped zero words e = refl
 none_dropped (suc n) [] e = refl
 none_dropped (suc n) (w ∷ words) e = absurd (cc e)
 
-rest_at : (taken : List ℕ) (lists : List (List Word)) (k n : ℕ) → slice_get taken k ≡ Some n → word_list (rests taken lists) (suc k) ≡ drop n (word_list lists (suc k))
-rest_at [] lists k n e = absurd (cc e)
-rest_at (t ∷ taken) [] k n e = sym (none_dropped n [] refl)
-rest_at (t ∷ taken) (words ∷ lists) zero n e = let same : t ≡ n = cc e in ap (λ (m : ℕ). drop m words) same
-rest_at (t ∷ taken) (words ∷ lists) (suc k) n e = rest_at taken lists k n e
-
-no_rest : (taken : List ℕ) (lists : List (List Word)) (k : ℕ) → slice_get taken k ≡ None → word_list (rests taken lists) (suc k) ≡ []
-no_rest [] lists k e = refl
-no_rest (t ∷ taken) [] k e = refl
-no_rest (t ∷ taken) (words ∷ lists) zero e = absurd (cc e)
-no_rest (t ∷ taken) (words ∷ lists) (suc k) e = no_rest taken lists k e
-
 set_rest : (taken : List ℕ) (lists : List (List Word)) (k n : ℕ) → slice_set (rests taken lists) k (drop n (word_list lists (suc k))) ≡ rests (slice_set taken k n) lists
 set_rest [] lists k n = refl
 set_rest (t ∷ taken) [] zero n = refl
@@ -51,21 +39,53 @@ set_rest (t ∷ taken) [] (suc k) n = refl
 set_rest (t ∷ taken) (words ∷ lists) zero n = refl
 set_rest (t ∷ taken) (words ∷ lists) (suc k) n = ap (λ (ys : List (List Word)). drop t words ∷ ys) (set_rest taken lists k n)
 
+-- what is put where something stands, and what is put twice
+pub set_same : (xs : List ℕ) (k : ℕ) → slice_set xs k (get_or xs k 0) ≡ xs
+set_same [] k = refl
+set_same (x ∷ xs) zero = refl
+set_same (x ∷ xs) (suc k) = ap (λ (ys : List ℕ). x ∷ ys) (set_same xs k)
+
+set_twice : (xs : List ℕ) (k n m : ℕ) → slice_set (slice_set xs k n) k m ≡ slice_set xs k m
+set_twice [] k n m = refl
+set_twice (x ∷ xs) zero n m = refl
+set_twice (x ∷ xs) (suc k) n m = ap (λ (ys : List ℕ). x ∷ ys) (set_twice xs k n m)
+
+pub set_length : (xs : List ℕ) (k n : ℕ) → length (slice_set xs k n) ≡ length xs
+set_length [] k n = refl
+set_length (x ∷ xs) zero n = refl
+set_length (x ∷ xs) (suc k) n = ap suc (set_length xs k n)
+
+left_from : (taken : List ℕ) (lists : List (List Word)) (k n : ℕ) → length taken ≡ length lists → word_list (rests (slice_set taken k n) lists) (suc k) ≡ drop n (word_list lists (suc k))
+left_from [] [] k n e = sym (none_dropped n [] refl)
+left_from [] (words ∷ lists) k n e = absurd (omega (arith, e))
+left_from (t ∷ taken) [] k n e = absurd (omega (arith, e))
+left_from (t ∷ taken) (words ∷ lists) zero n e = refl
+left_from (t ∷ taken) (words ∷ lists) (suc k) n e = left_from taken lists k n (omega (arith, e))
+
 -- .. by the stage, which counts from 1
 module _ (taken : List ℕ) (lists : List (List Word)) (stage : ℕ) (some : 0 < stage) where
   place : stage ≡ suc (stage - 1)
   place = omega (arith, some)
 
-  pub left_there : (n : ℕ) → slice_get taken (stage - 1) ≡ Some n → word_list (rests taken lists) stage ≡ drop n (word_list lists stage)
-  left_there n e = ap (word_list (rests taken lists)) place ∙ rest_at taken lists (stage - 1) n e ∙ ap (λ (s : ℕ). drop n (word_list lists s)) (sym place)
+  -- so many words of it are taken
+  pub left_there : (n : ℕ) → length taken ≡ length lists → word_list (rests (slice_set taken (stage - 1) n) lists) stage ≡ drop n (word_list lists stage)
+  left_there n e =
+      ap (word_list (rests (slice_set taken (stage - 1) n) lists)) place ∙ left_from taken lists (stage - 1) n e ∙ ap (λ (s : ℕ). drop n (word_list lists s)) (sym place)
 
-  pub none_left : slice_get taken (stage - 1) ≡ None → word_list (rests taken lists) stage ≡ []
-  none_left e = ap (word_list (rests taken lists)) place ∙ no_rest taken lists (stage - 1) e
-
-  pub left_behind : (n : ℕ) → rests (slice_set taken (stage - 1) n) lists ≡ slice_set (rests taken lists) (stage - 1) (drop n (word_list lists stage))
-  left_behind n = sym (ap (λ (s : ℕ). slice_set (rests taken lists) (stage - 1) (drop n (word_list lists s))) place ∙ set_rest taken lists (stage - 1) n)
+  -- and more
+  pub left_behind : (n m : ℕ) → rests (slice_set taken (stage - 1) m) lists ≡ slice_set (rests (slice_set taken (stage - 1) n) lists) (stage - 1) (drop m (word_list lists stage))
+  left_behind n m =
+      ap (λ (ns : List ℕ). rests ns lists) (sym (set_twice taken (stage - 1) n m)) ∙ sym (set_rest (slice_set taken (stage - 1) n) lists (stage - 1) m)
+      ∙ ap (λ (s : ℕ). slice_set (rests (slice_set taken (stage - 1) n) lists) (stage - 1) (drop m (word_list lists s))) (sym place)
 
 -- no word is taken yet
-pub all_left : (lists : List (List Word)) → rests (replicate (length lists) 0) lists ≡ lists
+all_left : (lists : List (List Word)) → rests (replicate (length lists) 0) lists ≡ lists
 all_left [] = refl
 all_left (words ∷ lists) = ap (λ (ys : List (List Word)). words ∷ ys) (all_left lists)
+
+none_of_first : (n : ℕ) → slice_set {A = ℕ} (replicate n 0) 0 0 ≡ replicate n 0
+none_of_first zero = refl
+none_of_first (suc n) = refl
+
+pub none_left_out : (taken : List ℕ) (lists : List (List Word)) → taken ≡ replicate (length lists) 0 → rests (slice_set taken 0 0) lists ≡ lists
+none_left_out taken lists e = ap (λ (ns : List ℕ). rests (slice_set ns 0 0) lists) e ∙ ap (λ (ns : List ℕ). rests ns lists) (none_of_first (length lists)) ∙ all_left lists

@@ -1,6 +1,7 @@
 pub mod CommittedState
 pub mod Told
 pub mod FlatJudge
+pub mod Entries
 pub mod Held
 pub mod Judging
 pub mod Standing

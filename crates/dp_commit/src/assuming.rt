@@ -2,6 +2,7 @@
 ghost use Rattle.std.specs.Prelude.{◌≡◌, false, true, get_or, pos, slice_get, slice_index, slice_set, drop, MatchOption, Some, if◌then◌else◌};
 ghost use Rattle.dp_plan.specs.Access.{first_site, stage_of};
 ghost use Rattle.std.specs.List.{list_all};
+ghost use Rattle.dp_base.specs.Arithmetic.{is_zero};
 ghost use Rattle.dp_tree.specs.Event as effect;
 ghost use Rattle.dp_semantics.specs.Clean as clean;
 ghost use Rattle.dp_semantics.specs.Judge as judge;
@@ -21,6 +22,15 @@ pub fn same(x: i64, y: i64) -> bool
     ensures { result ≡ clean.int_eq x y }
 {
     x <= y && y <= x
+}
+
+/// The number is 0.
+#[inline(always)]
+#[tactic(auto, unfolding(dp_base::specs::Arithmetic::is_zero))]
+pub fn zero(value: i64) -> bool
+    ensures { result ≡ is_zero value }
+{
+    value == 0
 }
 
 /// The condition went so.
@@ -189,14 +199,13 @@ pub fn list_of<'p>(lists: &'p [Row<Word>], stage: u32) -> &'p [Word]
     }
 }
 
-/// How many words of the list at a place are taken, if there is one.
-#[inline(always)]
-pub fn taken_at(taken: &[usize], place: usize) -> Option<usize>
-    ensures { result ≡ slice_get taken.now place }
+/// How many words of the list at a place are taken.
+pub fn count_at(taken: &[usize], place: usize) -> usize
+    ensures { result ≡ get_or taken.now place 0 }
 {
     match taken.get(place) {
-        Some(count) => Some(*count),
-        None => None,
+        Some(count) => *count,
+        None => 0,
     }
 }
 

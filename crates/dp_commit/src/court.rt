@@ -1,5 +1,5 @@
 //! What the judging of an iteration's words holds.
-use dp_base::{Cells, Row, StoreOf, Word};
+use dp_base::{CellId, Cells, Row, SiteId, StoreOf, Word};
 use dp_cause::Replaced;
 use dp_code::Op;
 use dp_plan::Plan;
@@ -19,34 +19,70 @@ pub enum Answer {
     Stuck,
 }
 
+/// What is known of a place of the code before anything is judged there: what most words want, so that they are judged by one look-up.
+#[derive(Clone, Copy)]
+pub enum Entry {
+    /// The words of a store to one of these cells are taken, from this stage.
+    Store {
+        site: SiteId,
+        stage: u32,
+        first: CellId,
+        length: u32,
+    },
+    /// Those of a condition that isn't a break's. The plan lets it be 0, or another value, or not.
+    Choice {
+        site: SiteId,
+        stage: u32,
+        to: u32,
+        at_zero: bool,
+        elsewhere: bool,
+    },
+    /// The op says what is done.
+    Rare,
+}
+
 /// What the words are judged by.
 #[derive(Clone, Copy)]
 pub struct Court<'p> {
     pub program: &'p Program,
     pub plan: &'p Plan,
     pub code: &'p [Op],
+    /// One for each place of the code.
+    pub entries: &'p [Entry],
     /// The region's first site: its condition.
     pub first: u32,
     /// The steps that are left of the fuel.
     pub limit: u64,
 }
 
+/// Where the judging stands. While it runs this is kept apart from what it works on, so that it stays in registers.
+#[derive(Clone, Copy)]
+pub struct Pace<'p> {
+    pub place: usize,
+    pub steps: u64,
+    pub closing: bool,
+    /// The stage whose word was taken last,
+    pub stage: u32,
+    /// its words,
+    pub words: &'p [Word],
+    /// and how many of them are taken.
+    pub taken: usize,
+}
+
 /// The judging between two ops.
 #[derive(Drop)]
 pub struct Walk<'p> {
-    pub place: usize,
-    pub steps: u64,
+    pub pace: Pace<'p>,
     /// The source's memory.
     pub cells: Cells,
     /// The stages' words.
     pub lists: &'p [Row<Word>],
-    /// How many of each stage's words are taken.
+    /// How many of each stage's words are taken; of the pace's stage, how many were when it was left last.
     pub taken: Row<usize>,
     pub stores: Row<StoreOf>,
     /// What each store replaced.
     pub replaced: Row<Replaced>,
     pub prints: Row<i64>,
-    pub closing: bool,
 }
 
 /// The rows that a judging works with, which the next one takes over, and how many stores and prints there were.
@@ -56,14 +92,4 @@ pub struct Rows {
     pub replaced: Row<Replaced>,
     pub stores: usize,
     pub prints: usize,
-}
-
-/// The word of what a site did.
-#[derive(Clone, Copy)]
-pub struct Found {
-    /// The stage of the site.
-    pub stage: u32,
-    pub word: Word,
-    /// How many of the stage's words are taken with it.
-    pub taken: usize,
 }

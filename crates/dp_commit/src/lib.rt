@@ -5,6 +5,8 @@ mod assuming;
 mod clean;
 mod committed;
 mod court;
+mod entries;
+mod judging;
 mod taking;
 mod tally;
 mod trying;

@@ -1,12 +1,12 @@
 //! The word of what a site did.
-ghost use Rattle.std.specs.Prelude.{◌≡◌, ◌∷◌, ◌+◌, ◌<◌, [], true, drop, length, IfSome, OnSome, MatchOption};
+ghost use Rattle.std.specs.Prelude.{◌≡◌, ◌∷◌, ◌+◌, ◌-◌, ◌<◌, ℕ, true, false, drop, get_or, length, slice_set, OnSome};
 ghost use Rattle.dp_plan.specs.Access.{first_site, stage_of};
-ghost use Rattle.dp_semantics.specs.Words.{is_done_of, word_list};
-ghost use Rattle.dp_commit.specs.Held.{left_of};
-ghost use Rattle.dp_commit.specs.Judging.{Finds, NoneDone};
+ghost use Rattle.dp_semantics.specs.Words.{is_done_of};
+ghost use Rattle.dp_commit.specs.Held.{IsAt, state_at};
+ghost use Rattle.dp_commit.specs.Judging.{DoneAt, Finds, StandsBehind};
 
-use crate::assuming::{behind_loads, list_of, stage_at, taken_at};
-use crate::court::{Court, Found, Walk};
+use crate::assuming::{behind_loads, count_at, list_of, put_taken};
+use crate::court::{Court, Pace, Walk};
 use dp_base::{SiteId, Word, WordKind};
 
 #[inline(always)]
@@ -17,69 +17,110 @@ fn is_done(word: Word, site: SiteId) -> bool
 }
 
 #[inline(always)]
-fn word_at(words: &[Word], place: usize) -> Word
+pub fn word_at(words: &[Word], place: usize) -> Word
     requires { place < length words.now }
     ensures { drop place words.now ≡ result ∷ drop (place + 1) words.now }
 {
     words[place]
 }
 
-/// The word of what the site did, if one stands at the place.
+/// The word of what the site did stands at the place.
 #[inline(always)]
-fn done_at(words: &[Word], place: usize, site: SiteId) -> Option<Word>
-    ensures { MatchOption result (NoneDone site.0 (drop place words.now)) (λ word. (drop place words.now ≡ word ∷ drop (place + 1) words.now) × (is_done_of site.0 word ≡ true) × (place < length words.now)) }
+fn is_done_at(words: &[Word], place: usize, site: SiteId) -> bool
+    ensures { DoneAt site.0 words.now place result }
 {
     if place >= words.len() {
-        return None;
+        return false;
     }
-    let word = word_at(words, place);
-    if is_done(word, site) {
-        Some(word)
-    } else {
-        None
+    is_done(word_at(words, place), site)
+}
+
+/// The place of that word, if only the site's loads stand before it, which hold.
+#[inline(never)]
+fn find_behind(cells: &[i64], words: &[Word], from: usize, site: SiteId) -> Option<usize>
+    ensures { StandsBehind site.0 cells.now (drop from words.now) words.now result }
+{
+    match behind_loads(cells, words, from, site) {
+        Some(place) => {
+            if is_done_at(words, place, site) {
+                Some(place)
+            } else {
+                None
+            }
+        }
+        None => None,
     }
 }
 
+/// The same. Mostly no load stands before it.
+#[inline(always)]
+fn find_from(cells: &[i64], words: &[Word], from: usize, site: SiteId) -> Option<usize>
+    ensures { StandsBehind site.0 cells.now (drop from words.now) words.now result }
+{
+    if is_done_at(words, from, site) {
+        return Some(from);
+    }
+    find_behind(cells, words, from, site)
+}
+
 impl<'p> Walk<'p> {
-    /// A stage's words, and how many of them are taken.
-    #[inline(always)]
-    fn list(&self, stage: u32) -> Option<(&'p [Word], usize)>
-        ensures { MatchOption result (left_of self.now stage ≡ []) (λ list. (list.0.now ≡ word_list self.now.lists.now stage) × (left_of self.now stage ≡ drop list.1 list.0.now) × (0 < stage)) }
+    /// So many words of a stage are taken; how many of another are.
+    #[inline(never)]
+    fn change(&mut self, left: u32, taken: usize, stage: u32) -> usize
+        requires { 0 < stage }
+        ensures walk { self.new ≡ record self.old { taken = slice_set self.old.taken (left - 1) taken } }
+        ensures taken { result ≡ get_or self.new.taken (stage - 1) 0 }
     {
-        if stage == 0 {
-            return None;
-        }
-        match taken_at(self.taken.as_slice(), stage as usize - 1) {
-            Some(taken) => Some((list_of(self.lists, stage), taken)),
-            None => None,
-        }
+        put_taken(&mut self.taken, (left as usize).saturating_sub(1), taken);
+        count_at(self.taken.as_slice(), stage as usize - 1)
     }
 
-    /// The next word of the site's stage, behind its loads, where a step is left and the loads hold.
+    /// The pace is at a stage's words, if there is one of this number.
     #[inline(always)]
-    pub fn find(&self, court: Court<'p>, site: SiteId) -> Option<Found>
-        requires first { court.first ≡ first_site court.program.now court.plan.now }
-        ensures found { Finds court.entry self.now site result }
-        ensures stage { IfSome result (λ found. (found.stage ≡ stage_of court.entry.program.now court.entry.plan.now site.0) × (0 < found.stage)) }
-        ensures left { OnSome result (self.now.steps < court.entry.limit) }
+    fn turn_to(&mut self, pace: &mut Pace<'p>, stage: u32) -> bool
+        requires at { IsAt pace.old self.old }
+        ensures state { state_at pace.new self.new ≡ state_at pace.old self.old }
+        ensures walk { self.new ≡ record self.old { taken = self.new.taken } }
+        ensures at { IsAt pace.new self.new }
+        ensures there { result ≡ true → pace.new.stage ≡ stage }
+        ensures none { result ≡ false → stage ≡ 0 }
     {
-        if self.steps >= court.limit {
+        if pace.stage == stage {
+            return true;
+        }
+        if stage == 0 {
+            return false;
+        }
+        pace.taken = self.change(pace.stage, pace.taken, stage);
+        pace.words = list_of(self.lists, stage);
+        pace.stage = stage;
+        true
+    }
+
+    /// The place of the next word of a stage among its words, behind the site's loads, where a step is left and the loads hold.
+    #[inline(always)]
+    pub fn find<'c>(
+        &mut self,
+        pace: &mut Pace<'p>,
+        court: Court<'c>,
+        site: SiteId,
+        stage: u32,
+    ) -> Option<usize>
+        requires at { IsAt pace.old self.old }
+        requires stage { stage ≡ stage_of court.program.now court.plan.now site.0 }
+        ensures state { state_at pace.new self.new ≡ state_at pace.old self.old }
+        ensures walk { self.new ≡ record self.old { taken = self.new.taken } }
+        ensures at { IsAt pace.new self.new }
+        ensures found { Finds court.entry (state_at pace.old self.old) pace.new.words.now site result }
+        ensures there { OnSome result (pace.new.stage ≡ stage) }
+        ensures left { OnSome result (pace.new.steps < court.entry.limit) }
+    {
+        if pace.steps >= court.limit {
             return None;
         }
-        let stage = stage_at(court, site);
-        match self.list(stage) {
-            Some((words, taken)) => match behind_loads(self.cells.as_slice(), words, taken, site) {
-                Some(place) => match done_at(words, place, site) {
-                    Some(word) => Some(Found {
-                        stage,
-                        word,
-                        taken: place + 1,
-                    }),
-                    None => None,
-                },
-                None => None,
-            },
-            None => None,
+        if !self.turn_to(pace, stage) {
+            return None;
         }
+        find_from(self.cells.as_slice(), pace.words, pace.taken, site)
     }
 }

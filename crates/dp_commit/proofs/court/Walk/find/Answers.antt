@@ -1,13 +1,19 @@
-use Rattle.std.proofs.Common.{◌≡◌, sym, ap, ◌∙◌, drop, arith}
-use Rattle.dp_plan.specs.Access.{stage_of}
-use Rattle.dp_commit.specs.Held.{left_of}
-use Rattle.dp_commit.proofs.FindLemmas.{none_done}
+use Rattle.std.proofs.Common.{refl, ap, ◌∙◌, subst, List, ℤ, drop, arith}
+use Rattle.dp_commit.specs.FlatJudge.{WalkState}
+use Rattle.dp_commit.specs.Held.{state_at}
+use Rattle.dp_commit.specs.Judging.{Finds, StandsBehind}
+use Rattle.dp_commit.proofs.FindLemmas.{searched}
+use Rattle.dp_commit.proofs.PaceLemmas.{here}
 use Rattle.dp_commit.proofs.court.Walk.find.Goals as goal
 
-pub returns-in-None-done_at-clause-found : goal.returns-in-None-done_at-clause-found
-returns-in-None-done_at-clause-found c =
+pub returns-clause-found : goal.returns-clause-found
+returns-clause-found c =
     let f = c.args.court in
-    let w = c.args.self.now in
-    let words = drop c.in-Some.taken c.in-Some.words.now in
-    let here : left_of w (stage_of f.program.now f.plan.now c.args.site.0) ≡ words = ap (left_of w) (sym c.stage_at-stage.ensures) ∙ c.in-Some.ensures.1 in
-    none_done f w c.args.site words here (omega (arith, c.if-self-court.false)) (drop c.in-Some-behind_loads.place c.in-Some.words.now) c.in-Some-behind_loads.ensures.1 c.in-None-done_at.ensures
+    let w = c.turn_to.new.self in
+    let pace = c.turn_to.new.pace in
+    let steps = ap (λ (s : WalkState). s.steps) c.turn_to.ensures.state in
+    subst (λ (s : WalkState). Finds f s pace.words.now c.args.site c.find_from.result) c.turn_to.ensures.state
+    (searched f (state_at pace w) c.args.site (drop pace.taken pace.words.now) pace.words.now
+    (here f.program.now f.plan.now pace w c.args.site c.turn_to.ensures.at (c.if-not-turn_to.ensures.there refl ∙ c.requires.stage))
+    (omega (arith, c.if-pace-court.false, steps)) c.find_from.result
+    (subst (λ (cells : List ℤ). StandsBehind c.args.site.0 cells (drop pace.taken pace.words.now) pace.words.now c.find_from.result) c.as_slice.ensures c.find_from.ensures))
