@@ -9,9 +9,12 @@ use Rattle.dp_meaning.specs.declared.ends.IterEnd.TheVariants as end
 use Rattle.dp_meaning.specs.MachineState.{MachineState, part_of, part_at, next_part, from_region}
 use Rattle.dp_meaning.specs.Moved.{Moved}
 use Rattle.dp_meaning.specs.IterationRun.{IterationRun, HeadsOnce, has_closed, current_after, Awaits, GoesOn}
+use Rattle.dp_meaning.specs.PlainSteps.{Ran}
 use Rattle.dp_meaning.specs.Turn.{StepTaken, leaves_region, current_behind}
 use Rattle.dp_meaning.proofs.EventLemmas.{closed_later, last_of}
 use Rattle.dp_meaning.proofs.MovedLemmas.{moved_join, moved_step}
+use Rattle.dp_meaning.proofs.PlainLemmas.{along}
+use Rattle.dp_meaning.proofs.ShapeLemmas.{not_plain}
 use Rattle.dp_meaning.proofs.StopLemmas.{from_region-over}
 use Rattle.dp_meaning.proofs.BegunLemmas.{Begun}
 
@@ -156,3 +159,32 @@ module _ (region turns made : ℕ) (old m new : MachineState) (before between af
   pub events_begun : (e : left ≡ false) (some : new.current ≢ None) → (begun_more e some).events ≡ events
   unfolding begun_more
   events_begun e some = refl
+
+-- plain steps more
+module _ (region turns : ℕ) (old : MachineState) (before : List ℤ) where
+  -- the condition is next again, or the iteration goes on
+  pub record After (m : MachineState) (between : List ℤ) (made : ℕ) : Type 0 where
+    pub over : m.current ≡ None → IterationRun region turns old m before between end.Next
+    pub on : m.current ≢ None → Begun region old m before between made
+
+  after_step : (m new : MachineState) (between after : List ℤ) (made : ℕ) → Begun region old m before between made → made < turns → m.steps < m.fuel → StepTaken false m new between after → After new after (made + 1)
+  after_step m new between after made so room fuel s = record {
+    over = λ e. iteration_next region turns made old m new before between after false so room fuel s refl e;
+    on = λ e. begun_more region turns made old m new before between after false so room fuel s refl e;
+  }
+
+  -- a plain statement is in the iteration
+  goes_on : (m : MachineState) (between : List ℤ) (made : ℕ) → After m between made → IsPlain m.config → Begun region old m before between made
+  goes_on m between made a plain = a.on (λ e. let h : part_of m.config.to_do ≡ part.Region region = (a.over e).stops.head in not_plain (part_of m.config.to_do) region h plain)
+
+  pub after_run : (m mid new : MachineState) (x y z : List ℤ) (made n : ℕ) → Begun region old m before x made → made < turns → m.steps < m.fuel → StepTaken false m mid x y → Ran mid new y z n → made + 1 + n ≤ turns → After new z (made + 1 + n)
+  after_run m mid new x y z made n so room fuel s ran within =
+      let start : made + 1 ≡ made + 1 + 0 = omega arith in
+      let further : (a b : MachineState) (v w : List ℤ) (k : ℕ) → IsPlain a.config → a.steps < a.fuel → StepTaken false a b v w → (made + 1 + k ≤ turns → After a v (made + 1 + k)) → made + 1 + (k + 1) ≤ turns → After b w (made + 1 + (k + 1)) =
+      λ a b v w k plain less t far all. (
+      let one : made + 1 + k + 1 ≡ made + 1 + (k + 1) = omega arith in
+      let few : made + 1 + k < turns = omega (arith, all) in
+      subst (After b w) one (after_step a b v w (made + 1 + k) (goes_on a v (made + 1 + k) (far (omega (arith, few))) plain) few less t)
+      ) in
+      subst (λ (o : MachineState). After o z (made + 1 + n)) (sym ran.rest)
+      ((along mid y ran.sound (λ o v k. made + 1 + k ≤ turns → After o v (made + 1 + k)) further new.config z n ran.steps ran.within (λ all. subst (After mid y) start (after_step m mid x y made so room fuel s))).holds within)

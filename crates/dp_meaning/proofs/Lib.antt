@@ -12,6 +12,7 @@ pub mod InlinedLemmas
 pub mod PlaceLemmas
 pub mod StepLemmas
 pub mod TurnLemmas
+pub mod PlainLemmas
 pub mod MovedLemmas
 pub mod WatchedLemmas
 pub mod SoFar

@@ -11,3 +11,4 @@ pub mod NextIteration
 pub mod Watched
 pub mod Acting
 pub mod Turn
+pub mod PlainSteps

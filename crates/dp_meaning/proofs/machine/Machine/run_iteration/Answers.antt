@@ -1,10 +1,10 @@
 -- Each way out of the loop, by what was done so far.
-use Rattle.std.proofs.Common.{◌≡◌, ◌≢◌, ◌<◌, sym, ◌∙◌, ap, subst, None, arith}
+use Rattle.std.proofs.Common.{◌≡◌, ◌≢◌, ◌+◌, ◌<◌, ◌≤◌, Bool, false, sym, ◌∙◌, ap, subst, None, arith}
 use Rattle.dp_meaning.specs.MachineState.{MachineState, next_part}
 use Rattle.dp_meaning.specs.Sound.{UnderWay}
 use Rattle.dp_meaning.specs.Turn.{StepTaken, TurnTaken}
 use Rattle.dp_meaning.proofs.BegunLemmas.{some_region, begun_none, unfinished, iteration_spent, iteration_going, iteration_faults, iteration_spoiled}
-use Rattle.dp_meaning.proofs.IterationLemmas.{iteration_closed, iteration_next, begun_more}
+use Rattle.dp_meaning.proofs.IterationLemmas.{iteration_closed, after_run}
 use Rattle.dp_meaning.proofs.StopLemmas.{some_left}
 use Rattle.dp_meaning.proofs.machine.Machine.run_iteration.Goals as goal
 
@@ -81,9 +81,11 @@ returns-in-None c region here =
     let s = c.in-Ok-Made-false-default-default in
     let t : TurnTaken s.field-0 c.loop-self.self c.step.new.self c.loop-self.out c.step.new.out = s.ensures.ok in
     let taken : StepTaken s.field-0-0 c.loop-self.self c.step.new.self c.loop-self.out c.step.new.out = (rw s.field-0-is at t).0 in
-    let none : c.step.new.self.current ≡ None = ap (λ (m : MachineState). m.current) (sym c.self-in-loop-self-2.view_is) ∙ c.in-None.is in
-    iteration_next region c.args.turns c.loop-self.made c.args.self.now c.loop-self.self c.step.new.self c.args.out.now c.loop-self.out c.step.new.out s.field-0-0 (c.loop-self.invariant.begun region here) room fuel
-    taken s.field-0-0-test none
+    let straight : StepTaken false c.loop-self.self c.step.new.self c.loop-self.out c.step.new.out = subst (λ (b : Bool). StepTaken b c.loop-self.self c.step.new.self c.loop-self.out c.step.new.out) s.field-0-0-test taken in
+    let few = c.run-made.ensures.within in
+    let all : c.loop-self.made + 1 + c.run-made.result ≤ c.args.turns = omega (arith, room) in
+    let none : c.run-made.new.self.current ≡ None = ap (λ (m : MachineState). m.current) (sym c.self-in-loop-self-2.view_is) ∙ c.in-None.is in
+    (after_run region c.args.turns c.args.self.now c.args.out.now c.loop-self.self c.step.new.self c.run-made.new.self c.loop-self.out c.step.new.out c.run-made.new.out c.loop-self.made c.run-made.result (c.loop-self.invariant.begun region here) room fuel straight c.run-made.ensures.ran all).over none
 
 pub loop-self-preserved : goal.loop-self-preserved
 loop-self-preserved c =
@@ -97,10 +99,13 @@ loop-self-preserved c =
     let s = c.in-Ok-Made-false-default-default in
     let t : TurnTaken s.field-0 c.loop-self.self c.step.new.self c.loop-self.out c.step.new.out = s.ensures.ok in
     let taken : StepTaken s.field-0-0 c.loop-self.self c.step.new.self c.loop-self.out c.step.new.out = (rw s.field-0-is at t).0 in
+    let straight : StepTaken false c.loop-self.self c.step.new.self c.loop-self.out c.step.new.out = subst (λ (b : Bool). StepTaken b c.loop-self.self c.step.new.self c.loop-self.out c.step.new.out) s.field-0-0-test taken in
+    let few = c.run-made.ensures.within in
+    let all : c.loop-self.made + 1 + c.run-made.result ≤ c.args.turns = omega (arith, room) in
     let current = ap (λ (m : MachineState). m.current) (sym c.self-in-loop-self-2.view_is) ∙ c.in-Some.is in
-    let some : c.step.new.self.current ≢ None = λ e. let clash = sym current ∙ e in absurd (cc clash) in
+    let some : c.run-made.new.self.current ≢ None = λ e. let clash = sym current ∙ e in absurd (cc clash) in
     record {
       begun = λ region here.
-          begun_more region c.args.turns c.loop-self.made c.args.self.now c.loop-self.self c.step.new.self c.args.out.now c.loop-self.out c.step.new.out s.field-0-0 (c.loop-self.invariant.begun region here) room fuel taken s.field-0-0-test some;
-      within = omega (arith, room);
+          (after_run region c.args.turns c.args.self.now c.args.out.now c.loop-self.self c.step.new.self c.run-made.new.self c.loop-self.out c.step.new.out c.run-made.new.out c.loop-self.made c.run-made.result (c.loop-self.invariant.begun region here) room fuel straight c.run-made.ensures.ran all).on some;
+      within = all;
     }
