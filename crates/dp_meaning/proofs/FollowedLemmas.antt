@@ -19,9 +19,6 @@ inside xs = IsTrue (list_all is_inside xs)
 abbrev simple : List Stmt → Type 0
 simple xs = IsTrue (list_all is_simple xs)
 
-abbrev True : Bool → Type 0
-True b = IsTrue b
-
 -- what is behind the first region begins behind it
 pub left_behind : (xs : List Stmt) → behind_region xs ≡ drop 1 (from_region xs)
 left_behind [] = refl

@@ -18,9 +18,6 @@ neither : (a b : Bool) → (a || b) ≡ false → (a ≡ false) × (b ≡ false)
 neither true b e = absurd (cc)
 neither false b e = (refl, e)
 
-abbrev True : Bool → Type 0
-True b = IsTrue b
-
 mutual
   simple_of : (s : Stmt) → is_plain s ≡ true → has_call s ≡ false → is_simple s ≡ true
   simple_of (Assign site x e) h n = refl

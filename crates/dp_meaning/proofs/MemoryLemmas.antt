@@ -61,8 +61,6 @@ length-clear_one p (Some r) cells = length-clear_locals r p.vars cells
 pub length-cleared_leaving : (p : Program) (xs : List Stmt) (cells : List ℤ) → length (cleared_leaving p xs cells) ≡ length cells
 length-cleared_leaving p xs cells = ap length (leaving p xs cells) ∙ length-clear_one p (first_region xs) cells
 
-pub ruleset leaves = (leaving, length-clear_locals)
-
 pub ruleset clears = (clear_next)
 
 pub ruleset lengths = (length-clear_locals, length-with_stores, length-cleared_leaving)
