@@ -1,5 +1,6 @@
 //! The words of a site, made and found.
-ghost use Rattle.std.specs.Prelude.{◌≡◌, ◌+◌, ◌++◌, ◌∷◌, [], length, true};
+ghost use Rattle.std.specs.Prelude.{◌≡◌, ◌+◌, ◌++◌, ◌∷◌, [], length, true, false, slice_index};
+ghost use Rattle.dp_plan.specs.Access.{first_site, stage_of};
 ghost use Rattle.dp_machine.specs.Engine.{tells, Added, Took};
 ghost use Rattle.dp_semantics.specs.Words.{word_list, after_loads_of};
 
@@ -62,9 +63,20 @@ impl Watch for Teller {
     }
 }
 
-/// The words after the site's loads at the front.
+/// A load of the site's stands at the front.
 #[inline(always)]
-fn after_loads<'w>(words: &'w [Word], site: SiteId) -> &'w [Word]
+fn begins_with_load(words: &[Word], site: SiteId) -> bool
+    ensures { result ≡ false → after_loads_of site.0 words.now ≡ words.now }
+{
+    match words.first() {
+        Some(word) => word.site.0 == site.0 && word.kind == WordKind::Load,
+        None => false,
+    }
+}
+
+/// The words after the site's loads at the front.
+#[inline(never)]
+fn behind_loads<'w>(words: &'w [Word], site: SiteId) -> &'w [Word]
     ensures { result.now ≡ after_loads_of site.0 words.now }
 {
     let mut i = 0;
@@ -76,6 +88,41 @@ fn after_loads<'w>(words: &'w [Word], site: SiteId) -> &'w [Word]
         i += 1;
     }
     &words[i..]
+}
+
+/// The same. Mostly there are none.
+#[inline(always)]
+fn after_loads<'w>(words: &'w [Word], site: SiteId) -> &'w [Word]
+    ensures { result.now ≡ after_loads_of site.0 words.now }
+{
+    if !begins_with_load(words, site) {
+        return words;
+    }
+    behind_loads(words, site)
+}
+
+#[inline(always)]
+fn entry(stages: &[u32], place: usize) -> u32
+    ensures { result ≡ slice_index stages.now place }
+{
+    match stages.get(place) {
+        Some(stage) => *stage,
+        None => 0,
+    }
+}
+
+/// The stage of a site, and 0 for one before the region.
+#[inline(always)]
+fn stage_at<'f>(frame: Frame<'f>, site: SiteId) -> u32
+    requires { frame.first ≡ first_site frame.program.now frame.plan.now }
+    ensures { result ≡ stage_of frame.entry.program.now frame.entry.plan.now site.0 }
+{
+    if frame.first <= site.0 {
+        let place = (site.0 - frame.first) as usize;
+        entry(frame.plan.stage_of.as_slice(), place)
+    } else {
+        0
+    }
 }
 
 /// What is left of a stage's words; stages count from 1.
@@ -99,9 +146,10 @@ pub fn take<'f, 'p>(
     lists: &mut Row<Cursor<'p>>,
     site: SiteId,
 ) -> Result<Word, VoidWhy>
+    requires first { frame.first ≡ first_site frame.program.now frame.plan.now }
     ensures { Took frame.entry lists.old site lists.new result }
 {
-    let stage = frame.plan.stage(frame.program, site);
+    let stage = stage_at(frame, site);
     let words = after_loads(list_of(lists.as_slice(), stage), site);
     match words.first() {
         None => Err(VoidWhy::Astray { site, found: None }),
