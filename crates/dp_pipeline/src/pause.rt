@@ -70,9 +70,7 @@ impl<'b> Pause<'b> {
         ensures items { self.new.items ≡ 0 }
         ensures most { self.new.most ≡ self.old.most }
     {
-        if self.items > 0 {
-            self.ring();
-        }
+        self.tell();
         match self.own {
             Some(bell) => self.wait_by(rt, bell),
             None => self.backoff.snooze(),
@@ -87,6 +85,16 @@ impl<'b> Pause<'b> {
         self.items = 0;
         ring_all(self.before);
         ring_all(self.after);
+    }
+
+    /// Wakes the threads beside, if an item moved since they were rung.
+    fn tell(&mut self)
+        ensures items { self.new.items ≡ 0 }
+        ensures most { self.new.most ≡ self.old.most }
+    {
+        if self.items > 0 {
+            self.ring();
+        }
     }
 
     fn wait_by<R: Wait>(&mut self, rt: &R, bell: &Bell)
@@ -123,8 +131,14 @@ impl<'b> Pause<'b> {
 
 fn most_of(own: Option<&Bell>) -> u32 {
     match own {
-        Some(bell) if bell.is_workers() => WORKERS_ITEMS,
-        _ => ITEMS,
+        Some(bell) => {
+            if bell.is_workers() {
+                WORKERS_ITEMS
+            } else {
+                ITEMS
+            }
+        }
+        None => ITEMS,
     }
 }
 

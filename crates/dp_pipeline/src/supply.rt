@@ -2,7 +2,6 @@
 ghost use Rattle.std.specs.Prelude.{◌≡◌, ◌≤◌, None, [], IfSome};
 ghost use Rattle.dp_semantics.specs.Packets as packets;
 ghost use Rattle.dp_packet.specs.Packet.{packet_of, IsUnless};
-ghost use Rattle.dp_packet.specs.declared.PacketStatus.TheVariants as state;
 
 use crate::spare::Spare;
 use dp_base::{Boxed, NoMemory};
@@ -33,6 +32,7 @@ impl Supply {
 
     /// The empty packet of this iteration, or one that says that memory is wanting, which is the last. None comes above the
     /// fuel's number.
+    #[tactic(auto, using(crate::proofs::Supplied::told))]
     pub(crate) fn packet<R: Wait>(
         &mut self,
         rt: &R,
@@ -58,7 +58,7 @@ impl Supply {
     /// The packet that says that memory is wanting.
     fn wanting(&mut self, iteration: u64) -> Option<Boxed<Packet>>
         ensures number { IfSome result (λ packet. packet.iteration ≡ iteration) }
-        ensures status { IfSome result (λ packet. packet.status ≡ state.NoMemory) }
+        ensures said { IfSome result (λ packet. IsUnless packet.status (packet_of packet) (record { lists = []; status = packets.Going; version = None })) }
     {
         let mut packet = self.last.take()?;
         let inner = packet.get_mut();
@@ -71,7 +71,6 @@ impl Supply {
 /// The packet, which becomes that of an iteration.
 fn renewed(alloc: Global, packet: Boxed<Packet>, iteration: u64) -> Boxed<Packet>
     ensures number { result.iteration ≡ iteration }
-    ensures status { result.status ≡ state.Going }
     ensures said { packet_of result ≡ record { lists = []; status = packets.Going; version = None } }
 {
     let mut packet = packet;
