@@ -69,7 +69,7 @@ module _ (f : Frame) (s : ℕ) (key : packets.Epoch) (n : ℕ) (low : 0 < s) (is
   sent_so : (st : PacketStatus) (sent : packets.Packet) (turn : packets.Passed) → turn ≡ packets.passed key s n → IsUnless st sent turn.packet → IsUnless st sent (packets.passed key s n).packet
   sent_so st sent turn e told = subst (λ (q : packets.Passed). IsUnless st sent q.packet) e told
 
-abbrev all : List ℤ → List ℤ
+abbrev pub all : List ℤ → List ℤ
 all c = c
 
 -- by a stage before a sequential one

@@ -1,5 +1,5 @@
 //! A packet that goes on, by what the stage keeps.
-ghost use Rattle.std.specs.Prelude.{◌≡◌, ◌<◌, ◌⊎◌, ℕ, suc, IfOk, true};
+ghost use Rattle.std.specs.Prelude.{◌≡◌, ◌<◌, ◌⊎◌, ℕ, suc, None, IfOk, true};
 ghost use Rattle.dp_plan.specs.Access.{first_site, is_replicated};
 ghost use Rattle.dp_semantics.specs.Fits.{fits_plan};
 ghost use Rattle.dp_semantics.specs.Packets as packets;
@@ -13,7 +13,8 @@ use crate::clearing::cleared;
 use crate::sending::{send, with_status};
 use crate::turning::Rows;
 use crate::{Frame, Kept, Ready, Versioned};
-use dp_base::{Cells, NoMemory};
+use dp_base::{Boxed, Cells, NoMemory};
+use dp_memory::Version;
 use dp_packet::{Packet, PacketStatus};
 use dp_plan::{Plan, StageKind};
 use std::alloc::Global;
@@ -82,8 +83,8 @@ pub fn from_cells<'p>(
     rows: &mut Rows,
     stage: u32,
     cells: Cells,
-    packet: Packet,
-) -> (Packet, Kept)
+    packet: Boxed<Packet>,
+) -> (Boxed<Packet>, Kept)
     requires first { frame.first ≡ first_site frame.program.now frame.plan.now }
     requires ready { IsReady frame ready.now }
     requires code { frame.code.now ≡ stage_code frame.program.now frame.plan.now stage }
@@ -105,8 +106,8 @@ pub fn from_versioned<'p>(
     rows: &mut Rows,
     stage: u32,
     both: Versioned,
-    packet: Packet,
-) -> (Packet, Kept)
+    packet: Boxed<Packet>,
+) -> (Boxed<Packet>, Kept)
     requires first { frame.first ≡ first_site frame.program.now frame.plan.now }
     requires ready { IsReady frame ready.now }
     requires code { frame.code.now ≡ stage_code frame.program.now frame.plan.now stage }
@@ -135,6 +136,14 @@ pub fn from_versioned<'p>(
     }
 }
 
+/// Takes the version out of the packet.
+fn taken_version(packet: &mut Boxed<Packet>) -> Option<Version>
+    ensures version { result ≡ packet.old.version }
+    ensures left { packet.new ≡ record packet.old { version = None } }
+{
+    packet.get_mut().version.take()
+}
+
 /// By a replicated stage, from the version that the packet brings.
 pub fn from_packet<'p>(
     alloc: Global,
@@ -142,8 +151,8 @@ pub fn from_packet<'p>(
     ready: &Ready<'p>,
     rows: &mut Rows,
     stage: u32,
-    packet: Packet,
-) -> (Packet, Kept)
+    packet: Boxed<Packet>,
+) -> (Boxed<Packet>, Kept)
     requires first { frame.first ≡ first_site frame.program.now frame.plan.now }
     requires ready { IsReady frame ready.now }
     requires code { frame.code.now ≡ stage_code frame.program.now frame.plan.now stage }
@@ -153,23 +162,12 @@ pub fn from_packet<'p>(
     ensures sent { (key : packets.Epoch) (n : ℕ) → StandsAt frame.entry stage kept.Nothing key n → Comes stage key n packet → Sends frame.entry stage result.1 key n result.0 }
     ensures number { result.0.iteration ≡ packet.iteration }
 {
-    let Packet {
-        iteration,
-        lists,
-        status,
-        version,
-    } = packet;
-    let bare = Packet {
-        iteration,
-        lists,
-        status,
-        version: None,
-    };
-    match version {
+    let mut packet = packet;
+    match taken_version(&mut packet) {
         Some(memory) => {
-            let sent = send(alloc, frame, ready, rows, stage, memory, None, bare);
+            let sent = send(alloc, frame, ready, rows, stage, memory, None, packet);
             (sent.packet, Kept::Nothing)
         }
-        None => (with_status(bare, PacketStatus::NoMemory), Kept::Nothing),
+        None => (with_status(packet, PacketStatus::NoMemory), Kept::Nothing),
     }
 }

@@ -3,7 +3,7 @@
 //! One loop over ops serves each kind of memory that a stage runs on.
 #![tactic(auto)]
 
-use dp_base::{Cells, Row, SiteId, Word};
+use dp_base::{Boxed, Cells, Row, SiteId, Word};
 use dp_code::Op;
 use dp_engine::Code;
 use dp_packet::{Cursor, Packet, VoidWhy};
@@ -106,7 +106,7 @@ pub enum Turned<M> {
 /// What a stage sends, and its memory afterwards, where it is kept.
 #[derive(Drop)]
 pub struct Sent<M> {
-    pub packet: Packet,
+    pub packet: Boxed<Packet>,
     pub memory: Option<M>,
 }
 

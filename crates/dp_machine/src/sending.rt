@@ -11,7 +11,7 @@ ghost use Rattle.dp_machine.specs.Sending.{AsTurned, IsSent, key_of};
 
 use crate::turning::{Rows, stage_turn};
 use crate::{Frame, Memory, Ready, Sent, Turned};
-use dp_base::{Row, Word};
+use dp_base::{Boxed, Row, Word};
 use dp_memory::Version;
 use dp_packet::{Packet, PacketStatus};
 use std::alloc::Global;
@@ -28,58 +28,53 @@ fn status_after(status: PacketStatus, closing: bool) -> PacketStatus
     }
 }
 
+/// Adds what a turn that came to its end says.
+fn add(packet: &mut Packet, own: Row<Word>, closing: bool, version: Option<Version>)
+    requires { packet.old.status ≡ state.Going ⊎ packet.old.status ≡ state.Closing }
+    ensures sent { IsUnless packet.new.status (packet_of packet.new) (record { lists = packet.old.lists ++ own ∷ []; status = packets.status_of (status_of packet.old.status) closing; version = version }) }
+    ensures number { packet.new.iteration ≡ packet.old.iteration }
+{
+    match packet.lists.push(own) {
+        Ok(()) => {
+            packet.status = status_after(packet.status, closing);
+            packet.version = version;
+        }
+        Err(_) => packet.status = PacketStatus::NoMemory,
+    }
+}
+
 /// The packet after a turn that came to its end.
-fn after_turn(packet: Packet, own: Row<Word>, closing: bool, version: Option<Version>) -> Packet
+fn after_turn(
+    packet: Boxed<Packet>,
+    own: Row<Word>,
+    closing: bool,
+    version: Option<Version>,
+) -> Boxed<Packet>
     requires { packet.status ≡ state.Going ⊎ packet.status ≡ state.Closing }
     ensures sent { IsUnless result.status (packet_of result) (record { lists = packet.lists ++ own ∷ []; status = packets.status_of (status_of packet.status) closing; version = version }) }
     ensures number { result.iteration ≡ packet.iteration }
 {
-    let Packet {
-        iteration,
-        lists,
-        status,
-        version: _came,
-    } = packet;
-    let mut lists = lists;
-    match lists.push(own) {
-        Ok(()) => Packet {
-            iteration,
-            lists,
-            status: status_after(status, closing),
-            version,
-        },
-        Err(_) => Packet {
-            iteration,
-            lists,
-            status: PacketStatus::NoMemory,
-            version: None,
-        },
-    }
+    let mut packet = packet;
+    add(packet.get_mut(), own, closing, version);
+    packet
 }
 
 /// The packet with its lists and this status.
-pub fn with_status(packet: Packet, status: PacketStatus) -> Packet
+pub fn with_status(packet: Boxed<Packet>, status: PacketStatus) -> Boxed<Packet>
     ensures value { packet_of result ≡ record { lists = packet.lists; status = status_of status; version = None } }
     ensures kept { result.status ≡ status }
     ensures number { result.iteration ≡ packet.iteration }
 {
-    let Packet {
-        iteration,
-        lists,
-        status: _came,
-        version: _version,
-    } = packet;
-    Packet {
-        iteration,
-        lists,
-        status,
-        version: None,
-    }
+    let mut packet = packet;
+    let inner = packet.get_mut();
+    inner.status = status;
+    inner.version = None;
+    packet
 }
 
 /// What the turn makes of the packet.
 fn passed<M: Memory + Drop>(
-    packet: Packet,
+    packet: Boxed<Packet>,
     stage: u32,
     version: Option<Version>,
     left: Turned<M>,
@@ -118,7 +113,7 @@ pub fn send<'p, M: Memory + Drop>(
     stage: u32,
     memory: M,
     version: Option<Version>,
-    packet: Packet,
+    packet: Boxed<Packet>,
 ) -> Sent<M>
     requires first { frame.first ≡ first_site frame.program.now frame.plan.now }
     requires ready { IsReady frame ready.now }
@@ -128,6 +123,13 @@ pub fn send<'p, M: Memory + Drop>(
         IsSent M.cells (packets.run_on (key_of frame.entry base) stage (M.cells memory) (packet_of packet)) result.packet result.memory }
     ensures number { result.packet.iteration ≡ packet.iteration }
 {
-    let left = stage_turn(alloc, frame, ready, rows, memory, packet.lists.as_slice());
+    let left = stage_turn(
+        alloc,
+        frame,
+        ready,
+        rows,
+        memory,
+        packet.get().lists.as_slice(),
+    );
     passed(packet, stage, version, left)
 }

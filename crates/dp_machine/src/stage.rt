@@ -5,12 +5,13 @@ ghost use Rattle.dp_semantics.specs.Fits.{fits_plan};
 ghost use Rattle.dp_code.specs.Code.{stage_code};
 ghost use Rattle.dp_plan.specs.CheckedTable.{IsTabled};
 ghost use Rattle.dp_machine.specs.Engine.{notes_of};
+ghost use Rattle.dp_packet.specs.Packet.{packet_of};
 
 use crate::going::{from_cells, from_packet, from_versioned, kept_at_base};
 use crate::making::make_ready;
 use crate::turning::Rows;
 use crate::{Frame, Kept, Ready};
-use dp_base::{Cells, NoMemory};
+use dp_base::{Boxed, Cells, NoMemory, Row, Word};
 use dp_code::StageProgram;
 use dp_packet::{Packet, PacketStatus};
 use dp_plan::Plan;
@@ -48,12 +49,20 @@ fn first_site_of(p: &Program, plan: &Plan) -> u32
     }
 }
 
+/// Takes out a row whose room may be used.
+fn spare_row(packet: &mut Boxed<Packet>) -> Option<Row<Word>>
+    ensures said { packet_of packet.new ≡ packet_of packet.old }
+    ensures status { packet.new.status ≡ packet.old.status }
+    ensures number { packet.new.iteration ≡ packet.old.iteration }
+{
+    packet.get_mut().spare.pop()
+}
+
 impl<'p> StageMachine<'p> {
     ghost use Rattle.dp_semantics.specs.Packets as packets;
     ghost use Rattle.dp_packet.specs.declared.PacketStatus.TheVariants as state;
     ghost use Rattle.std.specs.Prelude.{◌-◌};
     ghost use Rattle.dp_packet.specs.declared.VoidWhy.{VoidWhy};
-    ghost use Rattle.dp_packet.specs.Packet.{packet_of};
     ghost use Rattle.dp_machine.specs.Machine.{Stands, Passes};
 
     /// The machine of a stage where an epoch begins.
@@ -93,14 +102,14 @@ impl<'p> StageMachine<'p> {
     }
 
     /// What the stage sends for a packet. One that is void, or for which memory was wanting, goes through as it is.
-    pub fn run(&mut self, packet: Packet) -> Packet
+    pub fn run(&mut self, packet: Boxed<Packet>) -> Boxed<Packet>
         ensures sent { (key : packets.Epoch) (n : ℕ) → Stands self.old key n → packet_of packet ≡ (packets.passed key (self.old.stage - 1) n).packet → Passes self.new key n result }
         ensures stage { self.new.stage ≡ self.old.stage }
         ensures number { result.iteration ≡ packet.iteration }
         ensures void { (stage : ℕ) (why : VoidWhy) → packet.status ≡ state.Void stage why → result ≡ packet }
         ensures wanting { packet.status ≡ state.NoMemory → result ≡ packet }
     {
-        match packet.status {
+        match packet.get().status {
             PacketStatus::Going => self.go(packet),
             PacketStatus::Closing => self.go(packet),
             PacketStatus::Void { .. } => packet,
@@ -108,8 +117,20 @@ impl<'p> StageMachine<'p> {
         }
     }
 
-    /// What the stage sends for a packet that goes on.
-    fn go(&mut self, packet: Packet) -> Packet
+    /// What the stage sends for a packet that goes on. Its words take over the room of a row that is to spare.
+    fn go(&mut self, packet: Boxed<Packet>) -> Boxed<Packet>
+        requires going { packet.status ≡ state.Going ⊎ packet.status ≡ state.Closing }
+        ensures sent { (key : packets.Epoch) (n : ℕ) → Stands self.old key n → packet_of packet ≡ (packets.passed key (self.old.stage - 1) n).packet → Passes self.new key n result }
+        ensures stage { self.new.stage ≡ self.old.stage }
+        ensures number { result.iteration ≡ packet.iteration }
+    {
+        let mut packet = packet;
+        self.rows.reuse(spare_row(&mut packet));
+        self.pass(packet)
+    }
+
+    /// The same, in the rows that it has.
+    fn pass(&mut self, packet: Boxed<Packet>) -> Boxed<Packet>
         requires going { packet.status ≡ state.Going ⊎ packet.status ≡ state.Closing }
         ensures sent { (key : packets.Epoch) (n : ℕ) → Stands self.old key n → packet_of packet ≡ (packets.passed key (self.old.stage - 1) n).packet → Passes self.new key n result }
         ensures stage { self.new.stage ≡ self.old.stage }

@@ -5,6 +5,7 @@ use dp_base::{Fault, Row, SiteId, Word};
 use dp_memory::Version;
 
 mod cursor;
+mod renewing;
 
 pub use cursor::Cursor;
 
@@ -37,4 +38,6 @@ pub struct Packet {
     pub status: PacketStatus,
     /// The memory that a replicated stage behind starts from.
     pub version: Option<Version>,
+    /// Rows whose room the next lists take over. What they hold means nothing.
+    pub spare: Row<Row<Word>>,
 }

@@ -3,6 +3,7 @@ pub mod Coming
 pub mod Passing
 pub mod Seated
 pub mod Staging
+pub mod Supplied
 pub mod Ticketed
 pub mod Turned
 pub mod VerdictsCome

@@ -42,7 +42,7 @@ came_by (Void stage why) p wanted o = inr o
 came_by NoMemory p wanted o = inl refl
 
 -- .. and so is one that is sent
-goes_by : (status : PacketStatus) (p : Packet) (wanted : packets.Packet) → IsUnless status (packet_of p) wanted → OrWanting wanted (sent_packet status p)
+pub goes_by : (status : PacketStatus) (p : Packet) (wanted : packets.Packet) → IsUnless status (packet_of p) wanted → OrWanting wanted (sent_packet status p)
 goes_by Going p wanted u = u
 goes_by Closing p wanted u = u
 goes_by (Void stage why) p wanted u = u
@@ -137,16 +137,16 @@ judges_next (verdict.Unclean cause) t key n w e = absurd (cc e)
 judges_next verdict.NoMemory t key n w e = absurd (cc e)
 
 -- the verdict on what came is the one that is to be sent
-pub judge_makes : (t new : TryCommit) (x : Carried) (v : Verdict)
+pub judge_makes : (t new : TryCommit) (x : Carried) (i : ℕ) (v : Verdict) → i ≡ x.packet.iteration
     → ((key : EpochKey) (n : ℕ) → Judges t key n → OrWanting (packets.passed (epoch_of key) (length key.plan.stages) n).packet (sent_packet x.packet.status x.packet) → Gives new key n v)
     → (key : EpochKey) (s : ℕ) (place : Option ℕ) (n : ℕ) → JudgesAt (record { court = t }) key s place → At place n → IsCarried key (s - 1) n x
-    → IsJudged key n (record { iteration = x.packet.iteration; verdict = v; plan = x.plan; lists = x.packet.lists }) × (not (verdict_goes_on (decided v)) ≡ is_last_judged key (record { iteration = x.packet.iteration; verdict = v; plan = x.plan; lists = x.packet.lists }))
+    → IsJudged key n (record { iteration = i; verdict = v; plan = x.plan; packet = x.packet }) × (not (verdict_goes_on (decided v)) ≡ is_last_judged key (record { iteration = i; verdict = v; plan = x.plan; packet = x.packet }))
     × (not (verdict_goes_on (decided v)) ≡ false → JudgesAt (record { court = new }) key s (behind place n))
-judge_makes t new x v judges key s None n w at came = absurd w.stands
-judge_makes t new x v judges key s (Some m) n w at came =
+judge_makes t new x i v is judges key s None n w at came = absurd w.stands
+judge_makes t new x i v is judges key s (Some m) n w at came =
     let gives = judges key n (subst (λ (k : ℕ). Judges t key k) (sym at) w.stands)
     (subst (λ (k : ℕ). OrWanting (packets.passed (epoch_of key) k n).packet (sent_packet x.packet.status x.packet)) w.before came.sent.packet) in (
-      record { verdict = record { iteration = came.sent.iteration; verdict = gives.0 }; plan = came.plan },
+      record { verdict = record { iteration = is ∙ came.sent.iteration; verdict = gives.0 }; plan = came.plan },
       refl,
       λ e. record { before = w.before; stands = judges_next v new key n gives.1 e },
     )

@@ -5,6 +5,7 @@ ghost use Rattle.dp_pipeline.specs.Keys.{key_of};
 
 use crate::item::Item;
 use crate::keys::LaneKey;
+use dp_base::Boxed;
 use dp_lane::LaneItem;
 use dp_packet::Packet;
 use dp_plan::Plan;
@@ -13,7 +14,7 @@ use dp_ring::RingItem;
 /// A packet of an epoch.
 #[derive(Drop)]
 pub struct Carried<'p> {
-    pub packet: Packet,
+    pub packet: Boxed<Packet>,
     pub plan: &'p Plan,
 }
 

@@ -41,19 +41,15 @@ impl<'p> Stage<Carried<'p>, Judged<'p>> for Judge<'p> {
 
     fn run<G: Gate>(&mut self, _gate: &G, item: Carried<'p>) -> Made<Judged<'p>> {
         let Carried { packet, plan } = item;
-        let verdict = self.decide(&packet);
+        let verdict = self.decide(packet.get());
         let last = is_last_verdict(&verdict);
-        let Packet {
-            iteration,
-            lists,
-            ..
-        } = packet;
+        let iteration = packet.get().iteration;
         Made {
             item: Judged {
                 iteration,
                 verdict,
                 plan,
-                lists,
+                packet,
             },
             last,
         }

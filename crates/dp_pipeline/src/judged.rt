@@ -4,9 +4,10 @@ ghost use Rattle.dp_pipeline.specs.Keys.{key_of};
 
 use crate::item::Item;
 use crate::keys::LaneKey;
-use dp_base::{Row, Word};
+use dp_base::Boxed;
 use dp_commit::Verdict;
 use dp_lane::LaneItem;
+use dp_packet::Packet;
 use dp_plan::Plan;
 
 /// The verdict on an iteration.
@@ -15,8 +16,8 @@ pub struct Judged<'p> {
     pub iteration: u64,
     pub verdict: Verdict,
     pub plan: &'p Plan,
-    /// What was judged. The thread that takes the verdict frees it, since the judge has more to do.
-    pub lists: Row<Row<Word>>,
+    /// What was judged. The thread that takes the verdict sends it back, since the judge has more to do.
+    pub packet: Boxed<Packet>,
 }
 
 impl<'p> Item for Judged<'p> {

@@ -14,6 +14,7 @@ use crate::keys::{EpochKey, LaneKey};
 use crate::relay::Relay;
 use crate::setting::Setting;
 use crate::source::Source;
+use crate::spare::{Back, way_back};
 use crate::staffing::{add_workers, next_is_replicated, stage_unit, staged};
 use crate::start::Start;
 use crate::target::Target;
@@ -132,15 +133,15 @@ fn judging_unit<'p>(
     Ok((unit, told))
 }
 
-/// The units of the epoch, and where its verdicts come. They stand in the order of the stages with the try-commit unit
-/// last; a replicated stage stands as its workers.
+/// The units of the epoch, where its verdicts come, and where packets that were judged go back. The units stand in the order
+/// of the stages with the try-commit unit last; a replicated stage stands as its workers.
 pub fn units_of<'p>(
     alloc: Global,
     setting: Setting<'p>,
     epoch: EpochKey<'p>,
     stop: &'p Stop,
     setter: &mut StopSetter,
-) -> Result<(Row<Unit<'p>>, TakeEnd<Judged<'p>>), NoMemory>
+) -> Result<(Row<Unit<'p>>, TakeEnd<Judged<'p>>, Back), NoMemory>
     requires setting { IsSetting setting }
     requires key { IsKeyIn setting epoch }
     requires steps { epoch.steps ≤ epoch.fuel }
@@ -151,7 +152,9 @@ pub fn units_of<'p>(
 {
     let stages = setting.plan.stages.len() as u32;
     let mut units = Row::new(alloc);
-    let mut source = Source::Start(Start::new(alloc, setting.plan, epoch.first, epoch.fuel));
+    let (back, supply) = way_back(alloc)?;
+    let start = Start::new(setting.plan, epoch.first, epoch.fuel, supply);
+    let mut source = Source::Start(start);
     let mut key = LaneKey { epoch, stage: 1 };
     while key.stage <= stages {
         source = if next_is_replicated(setting.plan, key.stage) {
@@ -163,5 +166,5 @@ pub fn units_of<'p>(
     }
     let (unit, verdicts) = judging_unit(alloc, setting, &key, source, stop, setter.seat(stop))?;
     units.push(unit)?;
-    Ok((units, verdicts))
+    Ok((units, verdicts, back))
 }

@@ -1,4 +1,6 @@
 //! How a thread waits for the threads beside it.
+ghost use Rattle.std.specs.Prelude.{◌≡◌, ◌<◌, ◌⊎◌};
+
 use crate::bell::Bell;
 use crate::beside::{after, before};
 use crossbeam_utils::Backoff;
@@ -8,7 +10,10 @@ use std::sync::Wait;
 const SPINS: u32 = 4;
 
 /// The threads beside are woken once for so many items.
-const ITEMS: u32 = 16;
+const ITEMS: u32 = 32;
+
+/// Workers of one stage take from one side of a ring together, so that each wakes the threads beside sooner.
+const WORKERS_ITEMS: u32 = 16;
 
 /// The waiting of one thread between two polls. A thread that waits long sleeps: where other programs run, a yield costs a
 /// whole slice.
@@ -25,11 +30,15 @@ pub struct Pause<'b> {
     pauses: u32,
     /// How many items moved since the threads beside were rung.
     items: u32,
+    /// At so many they are rung.
+    most: u32,
 }
 
 impl<'b> Pause<'b> {
     /// The waiting of the thread whose bell stands at this place.
-    pub fn at(bells: &'b [Bell], place: usize) -> Pause<'b> {
+    pub fn at(bells: &'b [Bell], place: usize) -> Pause<'b>
+        ensures { (result.pauses ≡ 0) × (result.items ≡ 0) }
+    {
         let own = bells.get(place);
         Pause {
             own,
@@ -38,24 +47,30 @@ impl<'b> Pause<'b> {
             backoff: Backoff::new(),
             pauses: 0,
             items: 0,
+            most: most_of(own),
         }
     }
 
     /// An item moved.
-    pub fn moved(&mut self) {
+    pub fn moved(&mut self)
+        ensures pauses { self.new.pauses ≡ 0 }
+        ensures items { (self.new.items ≡ 0) ⊎ (self.new.items < self.new.most) }
+        ensures most { self.new.most ≡ self.old.most }
+    {
         self.wake();
         self.items = self.items.saturating_add(1);
-        if self.items >= ITEMS {
+        if self.items >= self.most {
             self.ring();
         }
     }
 
     /// Nothing moved. At first the thread spins, a little longer each time. Then it lets one more poll pass with its bell
     /// awaited, so that it is rung for what comes behind that poll, and sleeps.
-    pub fn wait<R: Wait>(&mut self, rt: &R) {
-        if self.items > 0 {
-            self.ring();
-        }
+    pub fn wait<R: Wait>(&mut self, rt: &R)
+        ensures items { self.new.items ≡ 0 }
+        ensures most { self.new.most ≡ self.old.most }
+    {
+        self.tell();
         match self.own {
             Some(bell) => self.wait_by(rt, bell),
             None => self.backoff.snooze(),
@@ -63,13 +78,28 @@ impl<'b> Pause<'b> {
     }
 
     /// Wakes the threads beside.
-    pub fn ring(&mut self) {
+    pub fn ring(&mut self)
+        ensures items { self.new.items ≡ 0 }
+        ensures rest { (self.new.pauses ≡ self.old.pauses) × (self.new.most ≡ self.old.most) }
+    {
         self.items = 0;
         ring_all(self.before);
         ring_all(self.after);
     }
 
-    fn wait_by<R: Wait>(&mut self, rt: &R, bell: &Bell) {
+    /// Wakes the threads beside, if an item moved since they were rung.
+    fn tell(&mut self)
+        ensures items { self.new.items ≡ 0 }
+        ensures most { self.new.most ≡ self.old.most }
+    {
+        if self.items > 0 {
+            self.ring();
+        }
+    }
+
+    fn wait_by<R: Wait>(&mut self, rt: &R, bell: &Bell)
+        ensures { (self.new.items ≡ self.old.items) × (self.new.most ≡ self.old.most) }
+    {
         if self.pauses < SPINS {
             self.pauses += 1;
             self.backoff.spin();
@@ -83,7 +113,10 @@ impl<'b> Pause<'b> {
     }
 
     /// The thread is at work again.
-    fn wake(&mut self) {
+    fn wake(&mut self)
+        ensures pauses { self.new.pauses ≡ 0 }
+        ensures items { (self.new.items ≡ self.old.items) × (self.new.most ≡ self.old.most) }
+    {
         if self.pauses > SPINS {
             if let Some(bell) = self.own {
                 bell.leave();
@@ -93,6 +126,19 @@ impl<'b> Pause<'b> {
             self.pauses = 0;
             self.backoff.reset();
         }
+    }
+}
+
+fn most_of(own: Option<&Bell>) -> u32 {
+    match own {
+        Some(bell) => {
+            if bell.is_workers() {
+                WORKERS_ITEMS
+            } else {
+                ITEMS
+            }
+        }
+        None => ITEMS,
     }
 }
 

@@ -72,10 +72,10 @@ impl<'u> Pipeline<'u> {
             steps,
             fuel,
         };
-        let (units, end) = units_of(alloc, setting, epoch, stop, setter)?;
+        let (units, end, back) = units_of(alloc, setting, epoch, stop, setter)?;
         Ok(Pipeline {
             units,
-            verdicts: LaneVerdicts::new(alloc, end),
+            verdicts: LaneVerdicts::new(alloc, end).returning(back),
         })
     }
 }

@@ -31,7 +31,7 @@ impl<'p> Source<'p> {
         ensures taking { Takes result (source_facts self.old) (source_facts self.new) }
     {
         match self {
-            Source::Start(start) => start.take(),
+            Source::Start(start) => start.take(rt),
             Source::Lane(end) => match end.take(rt) {
                 Some(item) => Ok(item),
                 None => Err(IdleWhy::Empty),

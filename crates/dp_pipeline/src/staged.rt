@@ -19,14 +19,12 @@ impl<'p> Stage<Carried<'p>, Carried<'p>> for Staged<'p> {
     ghost stands = { RunsAt };
 
     fn run<G: Gate>(&mut self, gate: &G, item: Carried<'p>) -> Made<Carried<'p>> {
-        gate.enter(self.stage, item.packet.iteration);
-        let packet = self.machine.run(item.packet);
-        let last = is_last_packet(&packet, self.fuel);
+        let Carried { packet, plan } = item;
+        gate.enter(self.stage, packet.get().iteration);
+        let packet = self.machine.run(packet);
+        let last = is_last_packet(packet.get(), self.fuel);
         Made {
-            item: Carried {
-                packet,
-                plan: item.plan,
-            },
+            item: Carried { packet, plan },
             last,
         }
     }

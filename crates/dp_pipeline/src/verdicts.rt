@@ -2,11 +2,13 @@
 use crate::judged::Judged;
 use crate::pause::Pause;
 use crate::polled::Polled;
+use crate::spare::Back;
 use crate::unit::Unit;
-use dp_base::Row;
+use dp_base::{Boxed, Row};
 use dp_commit::Verdict;
 use dp_edge::OpenGate;
 use dp_lane::TakeEnd;
+use dp_packet::Packet;
 use std::alloc::Global;
 use std::marker::Model;
 use std::sync::Wait;
@@ -17,6 +19,8 @@ pub struct LaneVerdicts<'u> {
     end: TakeEnd<Judged<'u>>,
     own: Row<Unit<'u>>,
     pause: Pause<'u>,
+    /// Where the packets that were judged are sent back.
+    back: Option<Back>,
 }
 
 impl<'u> Model for LaneVerdicts<'u> {
@@ -47,6 +51,25 @@ impl<'u> LaneVerdicts<'u> {
             end,
             own: Row::new(alloc),
             pause: Pause::at(&[], 0),
+            back: None,
+        }
+    }
+
+    /// The same, which sends back the packets that were judged.
+    pub(crate) fn returning(self, back: Back) -> LaneVerdicts<'u>
+        ensures { result ≡ self.entry }
+    {
+        let LaneVerdicts {
+            end,
+            own,
+            pause,
+            ..
+        } = self;
+        LaneVerdicts {
+            end,
+            own,
+            pause,
+            back: Some(back),
         }
     }
 
@@ -55,11 +78,12 @@ impl<'u> LaneVerdicts<'u> {
     pub fn polling(self, units: Row<Unit<'u>>, pause: Pause<'u>) -> LaneVerdicts<'u>
         ensures { result ≡ self.entry }
     {
-        let LaneVerdicts { end, .. } = self;
+        let LaneVerdicts { end, back, .. } = self;
         LaneVerdicts {
             end,
             own: units,
             pause,
+            back,
         }
     }
 
@@ -85,11 +109,27 @@ impl<'u> LaneVerdicts<'u> {
         ensures { MatchOption result (self.new ≡ self.old) (λ verdict. Comes verdict self.old self.new) }
     {
         match self.end.take(rt) {
-            Some(Judged { verdict, .. }) => {
+            Some(
+                Judged {
+                    verdict,
+                    packet,
+                    ..
+                },
+            ) => {
                 self.pause.moved();
+                self.give_back(rt, packet);
                 Some(verdict)
             }
             None => None,
+        }
+    }
+
+    /// Sends a judged packet back.
+    fn give_back<R: Wait>(&mut self, rt: &R, packet: Boxed<Packet>)
+        ensures { self.new ≡ self.old }
+    {
+        if let Some(back) = &mut self.back {
+            back.send(rt, packet);
         }
     }
 

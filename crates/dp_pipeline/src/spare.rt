@@ -1,0 +1,48 @@
+//! Packets on their way back to the first stage.
+ghost use Rattle.std.specs.Prelude.{◌≡◌, false, true};
+ghost use Rattle.dp_lane.specs.Ends.{is_sender};
+
+use crate::supply::Supply;
+use dp_base::{Boxed, NoMemory};
+use dp_lane::{LaneItem, SendEnd, lane};
+use dp_packet::Packet;
+use std::alloc::Global;
+use std::sync::Wait;
+
+/// So many packets may be on their way back. More are freed.
+const PLACES: u32 = 64;
+
+/// A packet whose room is used again: what it says means nothing.
+#[derive(Drop)]
+pub struct Spare {
+    pub packet: Boxed<Packet>,
+}
+
+impl LaneItem for Spare {
+    type Key = u64;
+
+    ghost is_item = { λ _ _ _. Unit {0} };
+
+    ghost is_ending = { λ _ _. false };
+}
+
+/// Where judged packets are sent back.
+#[derive(Drop)]
+pub struct Back {
+    end: SendEnd<Spare>,
+    ghost sender: { is_sender end.view ≡ true },
+}
+
+impl Back {
+    /// Sends a packet back, or frees it.
+    pub(crate) fn send<R: Wait>(&mut self, rt: &R, packet: Boxed<Packet>) {
+        drop(self.end.send(rt, Spare { packet }));
+    }
+}
+
+/// The way back for packets that were judged, and what gives them out again.
+pub(crate) fn way_back(alloc: Global) -> Result<(Back, Supply), NoMemory> {
+    let (end, spares) = lane::<Spare>(alloc, &0, PLACES)?;
+    let supply = Supply::new(alloc, spares)?;
+    Ok((Back { end }, supply))
+}

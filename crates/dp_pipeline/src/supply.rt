@@ -1,0 +1,79 @@
+//! Packets for the iterations of an epoch.
+ghost use Rattle.std.specs.Prelude.{◌≡◌, ◌≤◌, None, [], IfSome};
+ghost use Rattle.dp_semantics.specs.Packets as packets;
+ghost use Rattle.dp_packet.specs.Packet.{packet_of, IsUnless};
+
+use crate::spare::Spare;
+use dp_base::{Boxed, NoMemory};
+use dp_lane::TakeEnd;
+use dp_packet::{Packet, PacketStatus};
+use std::alloc::Global;
+use std::sync::Wait;
+
+/// Gives empty packets: those that were judged once more, and else new ones.
+#[derive(Drop)]
+pub struct Supply {
+    alloc: Global,
+    /// Where packets come back that were judged.
+    spares: TakeEnd<Spare>,
+    /// The one that says that there is no memory for another.
+    last: Option<Boxed<Packet>>,
+}
+
+impl Supply {
+    pub(crate) fn new(alloc: Global, spares: TakeEnd<Spare>) -> Result<Supply, NoMemory> {
+        let last = Boxed::new(alloc, Packet::empty(alloc, 0))?;
+        Ok(Supply {
+            alloc,
+            spares,
+            last: Some(last),
+        })
+    }
+
+    /// The empty packet of this iteration, or one that says that memory is wanting, which is the last. None comes above the
+    /// fuel's number.
+    #[tactic(auto, using(crate::proofs::Supplied::told))]
+    pub(crate) fn packet<R: Wait>(
+        &mut self,
+        rt: &R,
+        iteration: u64,
+        fuel: u64,
+    ) -> Option<Boxed<Packet>>
+        ensures number { IfSome result (λ packet. packet.iteration ≡ iteration) }
+        ensures within { IfSome result (λ packet. iteration ≤ fuel) }
+        ensures said { IfSome result (λ packet. IsUnless packet.status (packet_of packet) (record { lists = []; status = packets.Going; version = None })) }
+    {
+        if iteration > fuel {
+            return None;
+        }
+        if let Some(Spare { packet }) = self.spares.take(rt) {
+            return Some(renewed(self.alloc, packet, iteration));
+        }
+        match Boxed::new(self.alloc, Packet::empty(self.alloc, iteration)) {
+            Ok(packet) => Some(packet),
+            Err(NoMemory) => self.wanting(iteration),
+        }
+    }
+
+    /// The packet that says that memory is wanting.
+    fn wanting(&mut self, iteration: u64) -> Option<Boxed<Packet>>
+        ensures number { IfSome result (λ packet. packet.iteration ≡ iteration) }
+        ensures said { IfSome result (λ packet. IsUnless packet.status (packet_of packet) (record { lists = []; status = packets.Going; version = None })) }
+    {
+        let mut packet = self.last.take()?;
+        let inner = packet.get_mut();
+        inner.iteration = iteration;
+        inner.status = PacketStatus::NoMemory;
+        Some(packet)
+    }
+}
+
+/// The packet, which becomes that of an iteration.
+fn renewed(alloc: Global, packet: Boxed<Packet>, iteration: u64) -> Boxed<Packet>
+    ensures number { result.iteration ≡ iteration }
+    ensures said { packet_of result ≡ record { lists = []; status = packets.Going; version = None } }
+{
+    let mut packet = packet;
+    packet.get_mut().renew(alloc, iteration);
+    packet
+}
