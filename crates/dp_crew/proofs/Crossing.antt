@@ -24,6 +24,7 @@ use Rattle.dp_machine.proofs.Kept.TheSendSync as kept
 use Rattle.dp_machine.proofs.Ready.TheSendSync as ready
 use Rattle.dp_machine.proofs.turning.Rows.TheSendSync as rows
 use Rattle.dp_cause.proofs.kept.Kept.TheSendSync as views
+use Rattle.dp_commit.proofs.court.Entry.TheSendSync as entry
 use Rattle.dp_commit.proofs.court.Rows.TheSendSync as judging_rows
 use Rattle.dp_machine.specs.contracts.Frame as Frame
 use Rattle.dp_machine.specs.contracts.stage.StageMachine as StageMachine
@@ -74,7 +75,7 @@ pub staged_send : (a : NamedLft) → IsSend (Staged.the_row a)
 staged_send a = recorded_send (Staged.the_field a).row _ _ (Staged.the_type a).to_one (staged_field_send a)
 
 pub try_commit_field_send : (a : NamedLft) → IsSend (TryCommit.the_field a).row
-try_commit_field_send a = let p = program_sync in let q = program_field_sync in search (plan.the_sync, op.the_sync, heap.the_field_send, cells.the_send, views.the_field_send, judging_rows.the_field_send, judging_rows.the_send, sendable) depth 60 fits 20000
+try_commit_field_send a = let p = program_sync in let q = program_field_sync in search (plan.the_sync, op.the_sync, heap.the_field_send, cells.the_send, views.the_field_send, judging_rows.the_field_send, judging_rows.the_send, entry.the_field_send, entry.the_send, row.the_send, sendable) depth 60 fits 20000
 
 pub try_commit_send : (a : NamedLft) → IsSend (TryCommit.the_row a)
 try_commit_send a = recorded_send (TryCommit.the_field a).row _ _ (TryCommit.the_type a).to_one (try_commit_field_send a)
