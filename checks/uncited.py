@@ -13,7 +13,7 @@ from functools import cache
 sys.dont_write_bytecode = True
 from definitions import CRATES, antt, cites, file_of, found_in, resolved, rt
 
-LIMIT = 105
+LIMIT = 60
 
 
 def lemma_files(crate):
