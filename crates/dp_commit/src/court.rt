@@ -37,6 +37,8 @@ pub enum Entry {
         at_zero: bool,
         elsewhere: bool,
     },
+    /// No word is taken, and this place comes next.
+    Jump(u32),
     /// The op says what is done.
     Rare,
 }
