@@ -11,6 +11,8 @@ pub mod FindLemmas
 pub mod WalkLemmas
 pub mod EntryLemmas
 pub mod PaceLemmas
+pub mod EffectsMore
+pub mod BreakPlaces
 pub mod CodeJudges
 pub mod EpochLemmas
 pub mod StageNumbers

@@ -1,5 +1,5 @@
 //! Outcomes that a plan assumes, and the memory's side of the words.
-ghost use Rattle.std.specs.Prelude.{◌≡◌, false, true, get_or, pos, slice_get, slice_index, slice_set, drop, MatchOption, Some, if◌then◌else◌};
+ghost use Rattle.std.specs.Prelude.{◌≡◌, ◌==◌, false, true, get_or, pos, slice_get, slice_index, slice_set, drop, MatchOption, Some, if◌then◌else◌};
 ghost use Rattle.dp_plan.specs.Access.{first_site, stage_of};
 ghost use Rattle.std.specs.List.{list_all};
 ghost use Rattle.dp_base.specs.Arithmetic.{is_zero};
@@ -82,13 +82,14 @@ fn stays_late<'p>(court: Court<'p>, site: SiteId, value: i64) -> bool
     value == 0 || court.plan.stage(court.program, site) <= 1
 }
 
-/// A condition's value closes the region: a 0 at the region's own one.
+/// A condition's value closes the region: a 0 at the region's own one. It is known whether this is that one.
 #[inline(always)]
 #[tactic(auto, unfolding(dp_base::specs::Arithmetic::is_zero))]
-pub fn closes<'p>(court: Court<'p>, site: SiteId, value: i64) -> bool
+pub fn closes<'p>(court: Court<'p>, opens: bool, site: SiteId, value: i64) -> bool
+    requires { opens ≡ (site.0 == court.first) }
     ensures { result ≡ closes_at court.entry.first site.0 (effect.Decided value) }
 {
-    site.0 == court.first && value == 0
+    opens && value == 0
 }
 
 /// .. and so does a break that is taken.

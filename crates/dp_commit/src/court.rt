@@ -22,7 +22,7 @@ pub enum Answer {
 /// What is known of a place of the code before anything is judged there: what most words want, so that they are judged by one look-up.
 #[derive(Clone, Copy)]
 pub enum Entry {
-    /// The words of a store to one of these cells are taken, from this stage.
+    /// The words of a store to one of these cells are taken, from this stage. Its site isn't the region's condition.
     Store {
         site: SiteId,
         stage: u32,
@@ -37,6 +37,8 @@ pub enum Entry {
         at_zero: bool,
         elsewhere: bool,
     },
+    /// No word is taken, and this place comes next.
+    Jump(u32),
     /// The op says what is done.
     Rare,
 }

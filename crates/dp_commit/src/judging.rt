@@ -1,5 +1,5 @@
 //! A site's words, judged.
-ghost use Rattle.std.specs.Prelude.{◌≡◌, ◌+◌, ◌^◌, ◌-◌, ◌<◌, ◌||◌, ℤ, OnOk, OnErr, ◌++◌, ◌∷◌, [], length};
+ghost use Rattle.std.specs.Prelude.{◌≡◌, ◌+◌, ◌^◌, ◌-◌, ◌<◌, ◌==◌, ◌||◌, ℤ, OnOk, OnErr, ◌++◌, ◌∷◌, [], length};
 ghost use Rattle.dp_plan.specs.Access.{first_site, stage_of};
 ghost use Rattle.dp_code.specs.FlatRun as run;
 ghost use Rattle.dp_code.specs.declared.Op.TheVariants as op;
@@ -62,12 +62,14 @@ impl<'p> Walk<'p> {
         next: usize,
         site: SiteId,
         stage: u32,
+        opens: bool,
         first: CellId,
         count: u32,
     ) -> Answer
         requires at { IsAt pace.old self.old }
         requires first { court.first ≡ first_site court.program.now court.plan.now }
         requires stage { stage ≡ stage_of court.program.now court.plan.now site.0 }
+        requires opens { opens ≡ (site.0 == court.first) }
         requires behind { next ≡ pace.old.place + 1 }
         ensures does { Does (op_in court.entry (state_at pace.old self.old) (op.Consume site first count)) (state_at pace.new self.new) result }
         ensures before { memory_before self.new ≡ memory_before self.old }
@@ -91,7 +93,7 @@ impl<'p> Walk<'p> {
                 match note_store(&mut self.stores, &mut self.replaced, store, was) {
                     Ok(()) => {
                         put(&mut self.cells, word.index, word.value);
-                        pace.pass(at, closes(court, site, word.value), next);
+                        pace.pass(at, closes(court, opens, site, word.value), next);
                         Answer::Goes
                     }
                     Err(_) => Answer::NoMemory,
@@ -123,7 +125,8 @@ impl<'p> Walk<'p> {
                 let word = word_at(pace.words, at);
                 match self.prints.push(word.value) {
                     Ok(()) => {
-                        pace.pass(at, closes(court, site, word.value), next);
+                        let opens = site.0 == court.first;
+                        pace.pass(at, closes(court, opens, site, word.value), next);
                         Answer::Goes
                     }
                     Err(_) => Answer::NoMemory,

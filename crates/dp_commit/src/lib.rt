@@ -6,6 +6,7 @@ mod clean;
 mod committed;
 mod court;
 mod entries;
+mod iteration;
 mod judging;
 mod taking;
 mod tally;

@@ -2,7 +2,7 @@ use Rattle.std.proofs.Common.{rules, ◌≡◌, sym, ap, ◌∙◌, subst, List,
 use Rattle.dp_cause.specs.declared.replaced.Replaced.{Replaced}
 use Rattle.dp_commit.specs.Held.{undone}
 use Rattle.dp_commit.proofs.Undoing.{undone_more}
-use Rattle.dp_commit.proofs.trying.before.Goals as goal
+use Rattle.dp_commit.proofs.iteration.before.Goals as goal
 
 pub loop-was-preserved : goal.loop-was-preserved
 loop-was-preserved c =

@@ -1,6 +1,6 @@
 use Rattle.dp_commit.specs.Held.{state_of}
 use Rattle.dp_commit.proofs.WalkLemmas.{judged_by_code}
-use Rattle.dp_commit.proofs.trying.judged.Goals as goal
+use Rattle.dp_commit.proofs.iteration.judged.Goals as goal
 
 pub returns-clause-told : goal.returns-clause-told
 returns-clause-told c =

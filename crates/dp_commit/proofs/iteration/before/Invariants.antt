@@ -1,6 +1,6 @@
 use Rattle.std.proofs.Common.{◌≡◌, length}
 use Rattle.dp_commit.specs.Held.{undone}
-use Rattle.dp_commit.proofs.trying.before.Given as goal
+use Rattle.dp_commit.proofs.iteration.before.Given as goal
 
 abbrev pub invariant-loop-was : goal.invariant-loop-was
 invariant-loop-was l = undone l.replaced l.cells ≡ undone l.initial.replaced l.initial.cells

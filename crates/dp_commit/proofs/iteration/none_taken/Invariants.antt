@@ -1,5 +1,5 @@
 use Rattle.std.proofs.Common.{◌≡◌, ◌-◌, ◌≤◌, replicate}
-use Rattle.dp_commit.proofs.trying.none_taken.Given as goal
+use Rattle.dp_commit.proofs.iteration.none_taken.Given as goal
 
 abbrev pub invariant-loop-made : goal.invariant-loop-made
 invariant-loop-made l = record {
