@@ -1,4 +1,5 @@
 pub mod CallLemmas
+pub mod DescentLemmas
 pub mod ExprLemmas
 pub mod FormLemmas
 pub mod MemoryLemmas

@@ -1,4 +1,4 @@
 pub mod Values
 pub mod Forms
 pub mod Evaluating
-pub mod Waits
+pub mod Descent
