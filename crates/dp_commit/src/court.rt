@@ -28,17 +28,19 @@ pub enum Entry {
         stage: u32,
         first: CellId,
         length: u32,
+        /// The place that comes next, where jumps have been followed.
+        next: usize,
     },
     /// Those of a condition that isn't a break's. The plan lets it be 0, or another value, or not.
     Choice {
         site: SiteId,
         stage: u32,
-        to: u32,
+        /// The place that comes next at 0, and else.
+        to: usize,
+        next: usize,
         at_zero: bool,
         elsewhere: bool,
     },
-    /// No word is taken, and this place comes next.
-    Jump(u32),
     /// The op says what is done.
     Rare,
 }
