@@ -4,6 +4,7 @@ use dp_cause::Replaced;
 use dp_code::Op;
 use dp_plan::Plan;
 use dp_tree::Program;
+use std::alloc::Global;
 
 /// What an op comes to.
 #[derive(Clone, Copy)]
@@ -96,4 +97,16 @@ pub struct Rows {
     pub replaced: Row<Replaced>,
     pub stores: usize,
     pub prints: usize,
+}
+
+impl Rows {
+    /// Rows that nothing has worked with.
+    pub fn none(alloc: Global) -> Rows {
+        Rows {
+            taken: Row::new(alloc),
+            replaced: Row::new(alloc),
+            stores: 0,
+            prints: 0,
+        }
+    }
 }

@@ -8,8 +8,19 @@ ghost use Rattle.dp_commit.specs.Judging.{Does, Finds, Lets, walking_in};
 use crate::assuming::{closes, put, value_at, zero};
 use crate::court::{Answer, Court, Pace, Walk};
 use crate::taking::word_at;
-use dp_base::{CellId, NoMemory, Row, SiteId, StoreOf};
+use dp_base::{CellId, NoMemory, Row, SiteId, StoreOf, Word};
 use dp_cause::Replaced;
+
+/// The store that a word tells.
+#[inline(always)]
+fn store_of(word: Word) -> StoreOf
+    ensures { result ≡ record { cell = record { 0 = word.index }; value = word.value } }
+{
+    StoreOf {
+        cell: CellId(word.index),
+        value: word.value,
+    }
+}
 
 /// Appends a store, and what it replaced.
 #[inline(always)]
@@ -70,10 +81,7 @@ impl<'p> Walk<'p> {
         if word.index < first.0 || word.index - first.0 >= count {
             return Answer::Refuses;
         }
-        let store = StoreOf {
-            cell: CellId(word.index),
-            value: word.value,
-        };
+        let store = store_of(word);
         let was = Replaced {
             cell: CellId(word.index),
             stage: pace.stage,

@@ -1,4 +1,5 @@
 use Rattle.std.proofs.Common.{refl, ap, sym, ◌∙◌, ℕ, rules, ℤ, to_z, of_z, w64, ◌≡◌, subst, [], ◌∷◌, ◌++◌, pos, List, slice_set, get_or, inl, inr, arith}
+use Rattle.dp_base.specs.declared.StoreOf.{StoreOf}
 use Rattle.dp_tree.specs.Step.{Decided}
 use Rattle.dp_plan.specs.Access.{first_site}
 use Rattle.dp_semantics.specs.StageRun.{closes_at}
@@ -32,7 +33,7 @@ returns-in-Ok-clause-does c =
     store_goes f _ c.args.pace.now c.args.self.now c.args.site c.args.at c.args.next word refl c.requires.at c.requires.there c.requires.found c.word_at-word.ensures
     c.closes.result closes c.args.first.0 c.args.count _ c.put.new.cells c.note_store.new.stores c.note_store.new.replaced (omega (arith, c.if-word-first.false)) (omega (arith, c.if-word-first.false, c.if-word-first-2.false))
     (subst (λ (z : ℤ). c.put.new.cells ≡ slice_set c.args.self.now.cells word.index z) same c.put.ensures)
-    (subst (λ (z : ℤ). c.note_store.new.stores ≡ c.args.self.now.stores ++ record { cell = record { 0 = word.index }; value = z } ∷ []) same c.in-Ok.ensures.stores)
+    (c.in-Ok.ensures.stores ∙ ap (λ (s : StoreOf). c.args.self.now.stores ++ s ∷ []) c.store_of-store.ensures)
     c.in-Ok.ensures.replaced c.requires.there
     ∙ sym (ap (λ pace. On (state_at pace (record c.args.self.now { cells = c.put.new.cells; stores = c.note_store.new.stores; replaced = c.note_store.new.replaced }))) c.pass.ensures)
 
