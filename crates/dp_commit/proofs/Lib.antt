@@ -10,6 +10,7 @@ pub mod Undoing
 pub mod FindLemmas
 pub mod WalkLemmas
 pub mod EntryLemmas
+pub mod Following
 pub mod PaceLemmas
 pub mod EffectsMore
 pub mod BreakPlaces

@@ -106,20 +106,20 @@ module _ (f : Court) (c : WalkState) (pace : Pace) (w : Walk) (site : SiteId) (a
       went_past f pace w site at next closes cells stores replaced prints is stage_is
       ∙ ap (λ (b : WalkState). passed f b next site closes (drop (at + 1) pace.words.now) cells stores (stages_of replaced) prints) same
 
-  module _ (closes : Bool) (next_is : next ≡ c.place + 1) (closes_is : closes ≡ closes_at (first_site f.program.now f.plan.now) site.0 (Decided word.value)) where
+  module _ (closes : Bool) (closes_is : closes ≡ closes_at (first_site f.program.now f.plan.now) site.0 (Decided word.value)) where
     pub store_goes : (first count : ℕ) (was : Replaced) (cells : List ℤ) (stores : List StoreOf) (replaced : List Replaced) → first ≤ word.index → word.index < first + count → cells ≡ slice_set w.cells word.index word.value →
         stores ≡ w.stores ++ record { cell = record { 0 = word.index }; value = word.value } ∷ [] → replaced ≡ w.replaced ++ was ∷ [] → was.stage ≡ stage_of f.program.now f.plan.now site.0 →
-        walking_in f c (λ z. c.place + 1) site (stored_by first count) ≡ On (new_of closes cells stores replaced w.prints)
+        walking_in f c (λ z. next) site (stored_by first count) ≡ On (new_of closes cells stores replaced w.prints)
     store_goes first count was cells stores replaced low high cells_are stores_are replaced_are was_is =
-        store_taken f c (new_of closes cells stores replaced w.prints) pace.words.now at word site finds front next closes next_is closes_is first count cells stores (stages_of replaced) low high
+        store_taken f c (new_of closes cells stores replaced w.prints) pace.words.now at word site finds front next closes closes_is first count cells stores (stages_of replaced) low high
         (cells_are ∙ ap (λ (b : WalkState). slice_set b.cells word.index word.value) same)
         (stores_are ∙ ap (λ (b : WalkState). b.stores ++ record { cell = record { 0 = word.index }; value = word.value } ∷ []) same)
         (ap stages_of replaced_are ∙ stages_more w.replaced was ∙ (λ i. (same i).stages ++ was_is i ∷ []))
         (past closes cells stores replaced w.prints ∙ ap (passed f c next site closes (drop (at + 1) pace.words.now) cells stores (stages_of replaced)) (λ i. (same i).prints))
 
-    pub print_goes : (prints : List ℤ) → prints ≡ w.prints ++ word.value ∷ [] → walking_in f c (λ z. c.place + 1) site printed_by ≡ On (new_of closes w.cells w.stores w.replaced prints)
+    pub print_goes : (prints : List ℤ) → prints ≡ w.prints ++ word.value ∷ [] → walking_in f c (λ z. next) site printed_by ≡ On (new_of closes w.cells w.stores w.replaced prints)
     print_goes prints prints_are =
-        print_taken f c (new_of closes w.cells w.stores w.replaced prints) pace.words.now at word site finds front next closes next_is closes_is prints (prints_are ∙ ap (λ (b : WalkState). b.prints ++ word.value ∷ []) same)
+        print_taken f c (new_of closes w.cells w.stores w.replaced prints) pace.words.now at word site finds front next closes closes_is prints (prints_are ∙ ap (λ (b : WalkState). b.prints ++ word.value ∷ []) same)
         (past closes w.cells w.stores w.replaced prints ∙ (λ i. passed f c next site closes (drop (at + 1) pace.words.now) (same i).cells (same i).stores (same i).stages prints))
 
   -- nothing but the pace goes on

@@ -4,6 +4,7 @@ use dp_cause::Replaced;
 use dp_code::Op;
 use dp_plan::Plan;
 use dp_tree::Program;
+use std::alloc::Global;
 
 /// What an op comes to.
 #[derive(Clone, Copy)]
@@ -28,17 +29,19 @@ pub enum Entry {
         stage: u32,
         first: CellId,
         length: u32,
+        /// The place that comes next, where jumps have been followed.
+        next: usize,
     },
     /// Those of a condition that isn't a break's. The plan lets it be 0, or another value, or not.
     Choice {
         site: SiteId,
         stage: u32,
-        to: u32,
+        /// The place that comes next at 0, and else.
+        to: usize,
+        next: usize,
         at_zero: bool,
         elsewhere: bool,
     },
-    /// No word is taken, and this place comes next.
-    Jump(u32),
     /// The op says what is done.
     Rare,
 }
@@ -94,4 +97,16 @@ pub struct Rows {
     pub replaced: Row<Replaced>,
     pub stores: usize,
     pub prints: usize,
+}
+
+impl Rows {
+    /// Rows that nothing has worked with.
+    pub fn none(alloc: Global) -> Rows {
+        Rows {
+            taken: Row::new(alloc),
+            replaced: Row::new(alloc),
+            stores: 0,
+            prints: 0,
+        }
+    }
 }

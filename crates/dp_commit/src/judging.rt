@@ -1,25 +1,25 @@
-//! A site's words, judged.
-ghost use Rattle.std.specs.Prelude.{◌≡◌, ◌+◌, ◌^◌, ◌-◌, ◌<◌, ◌==◌, ◌||◌, ℤ, OnOk, OnErr, ◌++◌, ◌∷◌, [], length};
+//! A site's word, judged where it stands.
+ghost use Rattle.std.specs.Prelude.{◌≡◌, ◌+◌, ◌^◌, ◌-◌, ◌<◌, ◌==◌, ◌||◌, ℤ, OnOk, OnErr, ◌++◌, ◌∷◌, [], Some, length};
 ghost use Rattle.dp_plan.specs.Access.{first_site, stage_of};
 ghost use Rattle.dp_code.specs.FlatRun as run;
-ghost use Rattle.dp_code.specs.declared.Op.TheVariants as op;
-ghost use Rattle.dp_commit.specs.FlatJudge.{tried_by};
 ghost use Rattle.dp_commit.specs.Held.{IsAt, memory_before, state_at};
-ghost use Rattle.dp_commit.specs.Judging.{Does, Lets, op_in, walking_in};
+ghost use Rattle.dp_commit.specs.Judging.{Does, Finds, Lets, walking_in};
 
-use crate::assuming::{closes, closes_or_leaves, put, stays, value_at, zero};
+use crate::assuming::{closes, put, value_at, zero};
 use crate::court::{Answer, Court, Pace, Walk};
 use crate::taking::word_at;
-use dp_base::{CellId, NoMemory, Row, SiteId, StoreOf};
+use dp_base::{CellId, NoMemory, Row, SiteId, StoreOf, Word};
 use dp_cause::Replaced;
 
-/// The first place at 0, and else the second.
+/// The store that a word tells.
 #[inline(always)]
-#[tactic(auto, unfolding(dp_base::specs::Arithmetic::is_zero))]
-fn by_zero(value: i64, to: u32, next: usize) -> usize
-    ensures { result ≡ run.by_zero value to next }
+fn store_of(word: Word) -> StoreOf
+    ensures { result ≡ record { cell = record { 0 = word.index }; value = word.value } }
 {
-    if value == 0 { to as usize } else { next }
+    StoreOf {
+        cell: CellId(word.index),
+        value: word.value,
+    }
 }
 
 /// Appends a store, and what it replaced.
@@ -41,7 +41,7 @@ fn note_store(
 impl<'p> Pace<'p> {
     /// A step further, behind the word at a place of the stage's words.
     #[inline(always)]
-    fn pass(&mut self, at: usize, closes: bool, next: usize)
+    pub fn pass(&mut self, at: usize, closes: bool, next: usize)
         requires steps { self.old.steps < 2 ^ 64 - 1 }
         requires at { at < length self.old.words.now }
         ensures { self.new ≡ record self.old { place = next; steps = self.old.steps + 1; closing = self.old.closing || closes; taken = at + 1 } }
@@ -54,162 +54,84 @@ impl<'p> Pace<'p> {
 }
 
 impl<'p> Walk<'p> {
+    /// A store, whose word stands at a place of the pace's words.
     #[inline(always)]
-    pub fn store<'c>(
+    pub fn store_at<'c>(
         &mut self,
         pace: &mut Pace<'p>,
         court: Court<'c>,
+        at: usize,
         next: usize,
         site: SiteId,
-        stage: u32,
         opens: bool,
         first: CellId,
         count: u32,
     ) -> Answer
         requires at { IsAt pace.old self.old }
         requires first { court.first ≡ first_site court.program.now court.plan.now }
-        requires stage { stage ≡ stage_of court.program.now court.plan.now site.0 }
+        requires there { pace.old.stage ≡ stage_of court.program.now court.plan.now site.0 }
+        requires found { Finds court (state_at pace.old self.old) pace.old.words.now site (Some at) }
+        requires left { pace.old.steps < court.limit }
         requires opens { opens ≡ (site.0 == court.first) }
-        requires behind { next ≡ pace.old.place + 1 }
-        ensures does { Does (op_in court.entry (state_at pace.old self.old) (op.Consume site first count)) (state_at pace.new self.new) result }
+        ensures does { Does (walking_in court.entry (state_at pace.old self.old) (λ (z : ℤ). next) site (run.stored_by first.0 count)) (state_at pace.new self.new) result }
         ensures before { memory_before self.new ≡ memory_before self.old }
         ensures at { IsAt pace.new self.new }
     {
-        match self.find(pace, court, site, stage) {
-            Some(at) => {
-                let word = word_at(pace.words, at);
-                if word.index < first.0 || word.index - first.0 >= count {
-                    return Answer::Refuses;
-                }
-                let store = StoreOf {
-                    cell: CellId(word.index),
-                    value: word.value,
-                };
-                let was = Replaced {
-                    cell: CellId(word.index),
-                    stage,
-                    value: value_at(self.cells.as_slice(), word.index),
-                };
-                match note_store(&mut self.stores, &mut self.replaced, store, was) {
-                    Ok(()) => {
-                        put(&mut self.cells, word.index, word.value);
-                        pace.pass(at, closes(court, opens, site, word.value), next);
-                        Answer::Goes
-                    }
-                    Err(_) => Answer::NoMemory,
-                }
+        let word = word_at(pace.words, at);
+        if word.index < first.0 || word.index - first.0 >= count {
+            return Answer::Refuses;
+        }
+        let store = store_of(word);
+        let was = Replaced {
+            cell: CellId(word.index),
+            stage: pace.stage,
+            value: value_at(self.cells.as_slice(), word.index),
+        };
+        match note_store(&mut self.stores, &mut self.replaced, store, was) {
+            Ok(()) => {
+                put(&mut self.cells, word.index, word.value);
+                pace.pass(at, closes(court, opens, site, word.value), next);
+                Answer::Goes
             }
-            None => Answer::Refuses,
+            Err(_) => Answer::NoMemory,
         }
     }
 
+    /// A condition that isn't a break's, whose word stands at a place of the pace's words, where it is known which values are let go on.
     #[inline(always)]
-    pub fn print<'c>(
+    pub fn choose_at<'c>(
         &mut self,
         pace: &mut Pace<'p>,
         court: Court<'c>,
+        at: usize,
         next: usize,
         site: SiteId,
-        stage: u32,
-    ) -> Answer
-        requires at { IsAt pace.old self.old }
-        requires first { court.first ≡ first_site court.program.now court.plan.now }
-        requires stage { stage ≡ stage_of court.program.now court.plan.now site.0 }
-        requires behind { next ≡ pace.old.place + 1 }
-        ensures does { Does (op_in court.entry (state_at pace.old self.old) (op.ConsumePrint site)) (state_at pace.new self.new) result }
-        ensures before { memory_before self.new ≡ memory_before self.old }
-        ensures at { IsAt pace.new self.new }
-    {
-        match self.find(pace, court, site, stage) {
-            Some(at) => {
-                let word = word_at(pace.words, at);
-                match self.prints.push(word.value) {
-                    Ok(()) => {
-                        let opens = site.0 == court.first;
-                        pace.pass(at, closes(court, opens, site, word.value), next);
-                        Answer::Goes
-                    }
-                    Err(_) => Answer::NoMemory,
-                }
-            }
-            None => Answer::Refuses,
-        }
-    }
-
-    /// A condition that isn't a break's, where it is known which values are let go on.
-    #[inline(always)]
-    pub fn choose<'c>(
-        &mut self,
-        pace: &mut Pace<'p>,
-        court: Court<'c>,
-        next: usize,
-        site: SiteId,
-        stage: u32,
-        to: u32,
+        to: usize,
         at_zero: bool,
         elsewhere: bool,
     ) -> Answer
         requires at { IsAt pace.old self.old }
         requires first { court.first ≡ first_site court.program.now court.plan.now }
-        requires stage { stage ≡ stage_of court.program.now court.plan.now site.0 }
+        requires there { pace.old.stage ≡ stage_of court.program.now court.plan.now site.0 }
+        requires found { Finds court (state_at pace.old self.old) pace.old.words.now site (Some at) }
+        requires left { pace.old.steps < court.limit }
         requires lets { Lets court site at_zero elsewhere }
         ensures does { Does (walking_in court.entry (state_at pace.old self.old) (λ (z : ℤ). run.by_zero z to next) site run.decided_by) (state_at pace.new self.new) result }
         ensures before { memory_before self.new ≡ memory_before self.old }
         ensures at { IsAt pace.new self.new }
     {
-        match self.find(pace, court, site, stage) {
-            Some(at) => {
-                let word = word_at(pace.words, at);
-                if zero(word.value) {
-                    if !at_zero {
-                        return Answer::Refuses;
-                    }
-                    pace.pass(at, site.0 == court.first, to as usize);
-                } else {
-                    if !elsewhere {
-                        return Answer::Refuses;
-                    }
-                    pace.pass(at, false, next);
-                }
-                Answer::Goes
+        let word = word_at(pace.words, at);
+        if zero(word.value) {
+            if !at_zero {
+                return Answer::Refuses;
             }
-            None => Answer::Refuses,
-        }
-    }
-
-    /// A break's condition.
-    #[inline(always)]
-    pub fn leave<'c>(
-        &mut self,
-        pace: &mut Pace<'p>,
-        court: Court<'c>,
-        next: usize,
-        site: SiteId,
-        stage: u32,
-        to: u32,
-    ) -> Answer
-        requires at { IsAt pace.old self.old }
-        requires first { court.first ≡ first_site court.program.now court.plan.now }
-        requires stage { stage ≡ stage_of court.program.now court.plan.now site.0 }
-        ensures does { Does (walking_in court.entry (state_at pace.old self.old) (λ (z : ℤ). run.by_zero z to next) site tried_by) (state_at pace.new self.new) result }
-        ensures before { memory_before self.new ≡ memory_before self.old }
-        ensures at { IsAt pace.new self.new }
-    {
-        match self.find(pace, court, site, stage) {
-            Some(at) => {
-                let word = word_at(pace.words, at);
-                if stays(court, site, word.value) {
-                    pace.pass(
-                        at,
-                        closes_or_leaves(court, site, word.value),
-                        by_zero(word.value, to, next),
-                    );
-                    Answer::Goes
-                } else {
-                    Answer::Refuses
-                }
+            pace.pass(at, site.0 == court.first, to);
+        } else {
+            if !elsewhere {
+                return Answer::Refuses;
             }
-            None => Answer::Refuses,
+            pace.pass(at, false, next);
         }
+        Answer::Goes
     }
 }

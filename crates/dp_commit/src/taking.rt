@@ -1,5 +1,5 @@
 //! The word of what a site did.
-ghost use Rattle.std.specs.Prelude.{◌≡◌, ◌∷◌, ◌+◌, ◌-◌, ◌<◌, ℕ, true, false, drop, get_or, length, slice_set, OnSome};
+ghost use Rattle.std.specs.Prelude.{◌≡◌, ◌∷◌, ◌+◌, ◌-◌, ◌<◌, ℕ, true, false, drop, get_or, length, slice_set, OnSome, Some};
 ghost use Rattle.dp_plan.specs.Access.{first_site, stage_of};
 ghost use Rattle.dp_semantics.specs.Words.{is_done_of};
 ghost use Rattle.dp_commit.specs.Held.{IsAt, state_at};
@@ -36,7 +36,7 @@ fn is_done_at(words: &[Word], place: usize, site: SiteId) -> bool
 }
 
 /// The place of that word, if only the site's loads stand before it, which hold.
-#[inline(never)]
+#[inline(always)]
 fn find_behind(cells: &[i64], words: &[Word], from: usize, site: SiteId) -> Option<usize>
     ensures { StandsBehind site.0 cells.now (drop from words.now) words.now result }
 {
@@ -50,17 +50,6 @@ fn find_behind(cells: &[i64], words: &[Word], from: usize, site: SiteId) -> Opti
         }
         None => None,
     }
-}
-
-/// The same. Mostly no load stands before it.
-#[inline(always)]
-fn find_from(cells: &[i64], words: &[Word], from: usize, site: SiteId) -> Option<usize>
-    ensures { StandsBehind site.0 cells.now (drop from words.now) words.now result }
-{
-    if is_done_at(words, from, site) {
-        return Some(from);
-    }
-    find_behind(cells, words, from, site)
 }
 
 impl<'p> Walk<'p> {
@@ -97,8 +86,35 @@ impl<'p> Walk<'p> {
         true
     }
 
-    /// The place of the next word of a stage among its words, behind the site's loads, where a step is left and the loads hold.
+    /// The word of what the site did comes next of its stage's, as mostly, and a step is left.
     #[inline(always)]
+    pub fn is_next<'c>(
+        &mut self,
+        pace: &mut Pace<'p>,
+        court: Court<'c>,
+        site: SiteId,
+        stage: u32,
+    ) -> bool
+        requires at { IsAt pace.old self.old }
+        requires stage { stage ≡ stage_of court.program.now court.plan.now site.0 }
+        ensures state { state_at pace.new self.new ≡ state_at pace.old self.old }
+        ensures walk { self.new ≡ record self.old { taken = self.new.taken } }
+        ensures at { IsAt pace.new self.new }
+        ensures found { result ≡ true → Finds court.entry (state_at pace.new self.new) pace.new.words.now site (Some pace.new.taken) }
+        ensures there { result ≡ true → pace.new.stage ≡ stage }
+        ensures left { result ≡ true → pace.new.steps < court.entry.limit }
+    {
+        if pace.steps >= court.limit {
+            return false;
+        }
+        if !self.turn_to(pace, stage) {
+            return false;
+        }
+        is_done_at(pace.words, pace.taken, site)
+    }
+
+    /// The place of the next word of a stage among its words, behind the site's loads, where a step is left and the loads hold.
+    #[inline(never)]
     pub fn find<'c>(
         &mut self,
         pace: &mut Pace<'p>,
@@ -121,6 +137,6 @@ impl<'p> Walk<'p> {
         if !self.turn_to(pace, stage) {
             return None;
         }
-        find_from(self.cells.as_slice(), pace.words, pace.taken, site)
+        find_behind(self.cells.as_slice(), pace.words, pace.taken, site)
     }
 }

@@ -1,42 +1,15 @@
-use Rattle.std.proofs.Common.{◌≡◌, refl, sym, ap, ◌∙◌, true, false, rules, to_z, of_z, w64}
-use Rattle.dp_base.specs.Arithmetic.{is_zero}
-use Rattle.dp_commit.specs.FlatJudge.{On}
+use Rattle.std.proofs.Common.{sym, subst, ℤ, Some}
+use Rattle.dp_code.specs.FlatRun.{by_zero, decided_by}
+use Rattle.dp_commit.specs.FlatJudge.{WalkState}
 use Rattle.dp_commit.specs.Held.{state_at}
-use Rattle.dp_commit.proofs.PaceLemmas.{choice_goes, choice_stops, closes_zero, closes_other}
+use Rattle.dp_commit.specs.Judging.{Does, Finds, walking_in}
 use Rattle.dp_commit.proofs.court.Walk.choose.Goals as goal
 
-pub returns-then-not-at_zero-clause-does : goal.returns-then-not-at_zero-clause-does
-returns-then-not-at_zero-clause-does c =
-    let f = c.args.court in
-    let word = c.word_at-word.result in
-    let same : to_z w64 (of_z w64 word.value) ≡ word.value = search rules in
-    choice_stops f _ c.find.new.pace c.find.new.self c.args.site c.in-Some.at c.args.next word c.in-Some.ensures.state c.in-Some.ensures.at (c.in-Some.ensures.there ∙ c.requires.stage) c.in-Some.ensures.found c.word_at-word.ensures
-    c.args.to c.args.next c.args.at_zero c.args.elsewhere c.requires.lets true (ap is_zero (sym same) ∙ sym c.zero.ensures ∙ c.if-zero.true) c.if-not-at_zero.true
+pub choose_at-requires-clause-found : goal.choose_at-requires-clause-found
+choose_at-requires-clause-found c =
+    subst (λ (s : WalkState). Finds c.args.court s c.find.new.pace.words.now c.args.site (Some c.in-Some.at)) (sym c.in-Some.ensures.state) c.in-Some.ensures.found
 
-pub returns-then-not-elsewhere-clause-does : goal.returns-then-not-elsewhere-clause-does
-returns-then-not-elsewhere-clause-does c =
-    let f = c.args.court in
-    let word = c.word_at-word.result in
-    let same : to_z w64 (of_z w64 word.value) ≡ word.value = search rules in
-    choice_stops f _ c.find.new.pace c.find.new.self c.args.site c.in-Some.at c.args.next word c.in-Some.ensures.state c.in-Some.ensures.at (c.in-Some.ensures.there ∙ c.requires.stage) c.in-Some.ensures.found c.word_at-word.ensures
-    c.args.to c.args.next c.args.at_zero c.args.elsewhere c.requires.lets false (ap is_zero (sym same) ∙ sym c.zero.ensures ∙ c.if-zero.false) c.if-not-elsewhere.true
-
-pub returns-else-not-at_zero-clause-does : goal.returns-else-not-at_zero-clause-does
-returns-else-not-at_zero-clause-does c =
-    let f = c.args.court in
-    let word = c.word_at-word.result in
-    let same : to_z w64 (of_z w64 word.value) ≡ word.value = search rules in
-    let zero : is_zero word.value ≡ true = ap is_zero (sym same) ∙ sym c.zero.ensures ∙ c.if-zero.true in
-    choice_goes f _ c.find.new.pace c.find.new.self c.args.site c.in-Some.at c.args.to word c.in-Some.ensures.state c.in-Some.ensures.at (c.in-Some.ensures.there ∙ c.requires.stage) c.in-Some.ensures.found c.word_at-word.ensures
-    c.args.to c.args.next c.args.at_zero c.args.elsewhere c.requires.lets true zero c.if-not-at_zero.false refl _ (closes_zero f c.args.site word.value zero c.requires.first)
-    ∙ sym (ap (λ pace. On (state_at pace c.find.new.self)) c.pass.ensures)
-
-pub returns-else-not-elsewhere-clause-does : goal.returns-else-not-elsewhere-clause-does
-returns-else-not-elsewhere-clause-does c =
-    let f = c.args.court in
-    let word = c.word_at-word.result in
-    let same : to_z w64 (of_z w64 word.value) ≡ word.value = search rules in
-    let zero : is_zero word.value ≡ false = ap is_zero (sym same) ∙ sym c.zero.ensures ∙ c.if-zero.false in
-    choice_goes f _ c.find.new.pace c.find.new.self c.args.site c.in-Some.at c.args.next word c.in-Some.ensures.state c.in-Some.ensures.at (c.in-Some.ensures.there ∙ c.requires.stage) c.in-Some.ensures.found c.word_at-word.ensures
-    c.args.to c.args.next c.args.at_zero c.args.elsewhere c.requires.lets false zero c.if-not-elsewhere.false refl _ (closes_other f c.args.site word.value zero)
-    ∙ sym (ap (λ pace. On (state_at pace c.find.new.self)) c.pass-else-zero.ensures)
+pub returns-in-Some-clause-does : goal.returns-in-Some-clause-does
+returns-in-Some-clause-does c =
+    subst (λ (s : WalkState). Does (walking_in c.args.court s (λ (z : ℤ). by_zero z c.args.to c.args.next) c.args.site decided_by) (state_at c.choose_at.new.pace c.choose_at.new.self) c.choose_at.result) c.in-Some.ensures.state
+    c.choose_at.ensures.does

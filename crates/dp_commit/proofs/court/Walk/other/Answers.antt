@@ -1,0 +1,15 @@
+use Rattle.std.proofs.Common.{sym, subst, pos, arith}
+use Rattle.dp_code.specs.declared.Op.TheVariants.{Push}
+use Rattle.dp_commit.specs.FlatJudge.{Walked}
+use Rattle.dp_commit.specs.Held.{state_at}
+use Rattle.dp_commit.specs.Judging.{Does}
+use Rattle.dp_commit.proofs.EntryLemmas.{moves_at, stuck_past}
+use Rattle.dp_commit.proofs.court.Walk.other.Goals as goal
+
+pub returns-then-place-court-clause-does : goal.returns-then-place-court-clause-does
+returns-then-place-court-clause-does c = stuck_past c.args.court (state_at c.args.pace.now c.args.self.now) (omega (arith, c.if-place-court.true))
+
+pub returns-clause-does : goal.returns-clause-does
+returns-clause-does c =
+    subst (λ (m : Walked). Does m (state_at c.perform-answer.result.0 c.perform-answer.new.self) c.perform-answer.result.1)
+    (sym (moves_at c.args.court (state_at c.args.pace.now c.args.self.now) (omega (arith, c.if-place-court.false)) (Push (pos 0)))) c.perform-answer.ensures.does
