@@ -151,14 +151,15 @@ module _ (v : Variables) (scope : VarScope) where
 
 pub ruleset local_forms = (local-If, local-While, local-For, with_variables-none)
 
--- a loop with a step, behind its initialiser
+-- the sites of a loop's condition and body, and those of its step
+pub turn_sites : (t : Sites) (r line : ℕ) (body : List RawStmt) → with_sites t (sites_of r (Site line kind.While ∷ parts_all body))
+    ≡ with_sites (with_sites t (record { line = line; kind = kind.While; region = r } ∷ [])) (sites_of r (parts_all body))
+turn_sites t r line body = with_sites-append t (record { line = line; kind = kind.While; region = r } ∷ []) (sites_of r (parts_all body))
+
 pub loop_sites : (t : Sites) (r line : ℕ) (step body : List RawStmt) → with_sites t (sites_of r (loop_parts line step body))
-    ≡ with_sites (with_sites (with_sites t (record { line = line; kind = kind.While; region = r } ∷ [])) (sites_of r (parts_all body))) (sites_of r (parts_all step))
+    ≡ with_sites (with_sites t (sites_of r (Site line kind.While ∷ parts_all body))) (sites_of r (parts_all step))
 loop_sites t r line step body =
-    let one : List SiteInfo = record { line = line; kind = kind.While; region = r } ∷ [] in
-    ap (λ xs. with_sites t (one ++ xs)) (sites_of-append r (parts_all body) (parts_all step))
-    ∙ with_sites-append t one (sites_of r (parts_all body) ++ sites_of r (parts_all step))
-    ∙ with_sites-append (with_sites t one) (sites_of r (parts_all body)) (sites_of r (parts_all step))
+    ap (with_sites t) (sites_of-append r (Site line kind.While ∷ parts_all body) (parts_all step)) ∙ with_sites-append t (sites_of r (Site line kind.While ∷ parts_all body)) (sites_of r (parts_all step))
 
 module _ (t : Sites) (r : ℕ) where
   pub site-If : (line : ℕ) (cond : RawExpr) (a b : List RawStmt) → with_sites t (sites_of r (parts (raw.If line cond a b)))
@@ -170,16 +171,13 @@ module _ (t : Sites) (r : ℕ) where
       ∙ with_sites-append (with_sites t one) (sites_of r (parts_all a)) (sites_of r (parts_all b))
 
   pub site-While : (line : ℕ) (marked : Bool) (cond : RawExpr) (body : List RawStmt) → with_sites t (sites_of r (parts (raw.While line marked cond body)))
-      ≡ with_sites (with_sites t (record { line = line; kind = kind.While; region = r } ∷ [])) (sites_of r (parts_all body))
-  site-While line marked cond body =
-      let one : List SiteInfo = record { line = line; kind = kind.While; region = r } ∷ [] in
-      ap (λ ps. with_sites t (sites_of r ps)) (parts-While line marked cond body) ∙ with_sites-append t one (sites_of r (parts_all body))
+      ≡ with_sites t (sites_of r (Site line kind.While ∷ parts_all body))
+  site-While line marked cond body = ap (λ ps. with_sites t (sites_of r ps)) (parts-While line marked cond body)
 
   pub site-For : (line : ℕ) (marked : Bool) (first : List RawStmt) (cond : RawExpr) (step body : List RawStmt) → with_sites t (sites_of r (parts (raw.For line marked first cond step body)))
-      ≡ with_sites (with_sites (with_sites (with_sites t (sites_of r (parts_all first))) (record { line = line; kind = kind.While; region = r } ∷ [])) (sites_of r (parts_all body)))
-      (sites_of r (parts_all step))
+      ≡ with_sites (with_sites (with_sites t (sites_of r (parts_all first))) (sites_of r (Site line kind.While ∷ parts_all body))) (sites_of r (parts_all step))
   site-For line marked first cond step body =
-      let one : List SiteInfo = record { line = line; kind = kind.While; region = r } ∷ [] in let a = sites_of r (parts_all first) in
+      let a = sites_of r (parts_all first) in
       ap (λ ps. with_sites t (sites_of r ps)) (parts-For line marked first cond step body)
       ∙ ap (with_sites t) (sites_of-append r (parts_all first) (loop_parts line step body))
       ∙ with_sites-append t a (sites_of r (loop_parts line step body)) ∙ loop_sites (with_sites t a) r line step body

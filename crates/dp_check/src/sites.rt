@@ -3,7 +3,8 @@
 ghost use Rattle.std.specs.Prelude.{◌≡◌, ◌-◌, ◌∷◌, ◌++◌, [], OnOk};
 ghost use Rattle.std.specs.List.{flat_map};
 ghost use Rattle.dp_tree.specs.declared.raw.RawStmt.{out-RawStmt};
-ghost use Rattle.dp_check.specs.Place.{parts, parts_all};
+ghost use Rattle.dp_tree.specs.declared.SiteKind.TheVariants as kind;
+ghost use Rattle.dp_check.specs.Place.{Site, parts, parts_all};
 ghost use Rattle.dp_check.specs.Tables as spec;
 
 use crate::place::next;
@@ -50,11 +51,8 @@ impl Sites {
     {
         match s {
             RawStmt::Declare { line, .. } => self.site(*line, SiteKind::Assign, region),
-            RawStmt::Assign { name, .. } | RawStmt::Store { name, .. } => self.site(
-                name.line,
-                SiteKind::Assign,
-                region,
-            ),
+            RawStmt::Assign { name, .. } => self.site(name.line, SiteKind::Assign, region),
+            RawStmt::Store { name, .. } => self.site(name.line, SiteKind::Assign, region),
             RawStmt::Print { line, .. } => self.site(*line, SiteKind::Print, region),
             RawStmt::Break { line, .. } => self.site(*line, SiteKind::Break, region),
             RawStmt::Call { .. } => Ok(()),
@@ -69,11 +67,7 @@ impl Sites {
                 self.statements(region, else_part.as_slice())?;
                 Ok(())
             }
-            RawStmt::While { line, body, .. } => {
-                self.site(*line, SiteKind::While, region)?;
-                self.statements(region, body.as_slice())?;
-                Ok(())
-            }
+            RawStmt::While { line, body, .. } => self.turns(region, *line, body.as_slice()),
             RawStmt::For {
                 line,
                 first,
@@ -82,12 +76,21 @@ impl Sites {
                 ..
             } => {
                 self.statements(region, first.as_slice())?;
-                self.site(*line, SiteKind::While, region)?;
-                self.statements(region, body.as_slice())?;
+                self.turns(region, *line, body.as_slice())?;
                 self.statements(region, step.as_slice())?;
                 Ok(())
             }
         }
+    }
+
+    /// The sites of a loop's condition and body.
+    #[cycle(sites)]
+    fn turns(&mut self, region: u32, line: u32, body: &[RawStmt]) -> Result<(), NoMemory>
+        ensures { OnOk result (self.new ≡ with_sites self.old (spec.sites_of region (Site line kind.While ∷ parts_all body.now))) }
+    {
+        self.site(line, SiteKind::While, region)?;
+        self.statements(region, body)?;
+        Ok(())
     }
 
     /// The sites of statements.
@@ -131,8 +134,7 @@ impl Sites {
             } if *marked => {
                 self.statements(0, first.as_slice())?;
                 let start = self.next;
-                self.site(*line, SiteKind::While, number)?;
-                self.statements(number, body.as_slice())?;
+                self.turns(number, *line, body.as_slice())?;
                 self.statements(number, step.as_slice())?;
                 self.region(*line, start)
             }

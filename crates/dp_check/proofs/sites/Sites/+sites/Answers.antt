@@ -1,6 +1,7 @@
-use Rattle.std.proofs.Common.{◌<◌, ◌∷◌, [], length, sym, ◌∙◌, arith}
+use Rattle.std.proofs.Common.{◌≡◌, ◌<◌, ◌∷◌, [], length, sym, ap, subst, ◌∙◌, OnOk, arith}
 use Rattle.dp_tree.specs.declared.SiteKind.TheVariants as kind
-use Rattle.dp_check.specs.Place.{parts, parts_all}
+use Rattle.dp_check.specs.declared.sites.Sites.{Sites}
+use Rattle.dp_check.specs.Place.{Site, parts, parts_all}
 use Rattle.dp_check.specs.Tables.{sites_of}
 use Rattle.dp_check.specs.Growing.{with_sites}
 use Rattle.dp_check.proofs.LoopLemmas.{fold_more, fold_end}
@@ -24,18 +25,23 @@ statement-returns-in_ok-statements-in-If-2 t c =
     (c.in_ok-statements-in-If-2.ensures ∙ (λ i. with_sites (then_end i) (sites_of r (parts_all (c.as_slice-in-If.ensures i))))
     ∙ sym (tables.site-If c.args.self.now r c.in-If.line c.in-If.cond c.in-If.then_part c.in-If.else_part))
 
-pub statement-returns-in_ok-statements-in-While : goal.statement-returns-in_ok-statements-in-While
-statement-returns-in_ok-statements-in-While t c =
-    rw c.in-While.is
-    (c.in_ok-statements-in-While.ensures ∙ (λ i. with_sites (c.in_ok-site-in-While.ensures i) (sites_of c.args.region (parts_all (c.as_slice-in-While.ensures i))))
-    ∙ sym (tables.site-While c.args.self.now c.args.region c.in-While.line c.in-While.marked c.in-While.cond c.in-While.body))
+pub statement-returns-in-While : goal.statement-returns-in-While
+statement-returns-in-While t c =
+    let r = c.args.region in let w = c.in-While in let old = c.args.self.now in
+    subst (λ (grown : Sites). OnOk c.turns.result (c.turns.new.self ≡ grown))
+    ((λ i. with_sites old (sites_of r (Site w.line kind.While ∷ parts_all (c.as_slice-in-While.ensures i)))) ∙ sym (tables.site-While old r w.line w.marked w.cond w.body) ∙ ap (λ s. with_sites old (sites_of r (parts s))) (sym w.is))
+    c.turns.ensures
 
-pub statement-returns-in_ok-statements-in-For-3 : goal.statement-returns-in_ok-statements-in-For-3
-statement-returns-in_ok-statements-in-For-3 t c =
+pub statement-returns-in_ok-statements-in-For-2 : goal.statement-returns-in_ok-statements-in-For-2
+statement-returns-in_ok-statements-in-For-2 t c =
     let r = c.args.region in let f = c.in-For in
     let first_end = c.in_ok-statements-in-For.ensures ∙ (λ i. with_sites c.args.self.now (sites_of r (parts_all (c.as_slice-in-For.ensures i)))) in
-    let behind = c.in_ok-site-in-For.ensures ∙ (λ i. with_sites (first_end i) (record { line = f.line; kind = kind.While; region = r } ∷ [])) in
-    let body_end = c.in_ok-statements-in-For-2.ensures ∙ (λ i. with_sites (behind i) (sites_of r (parts_all (c.as_slice-in-For-2.ensures i)))) in
+    let body_end = c.in_ok-turns-in-For.ensures ∙ (λ i. with_sites (first_end i) (sites_of r (Site f.line kind.While ∷ parts_all (c.as_slice-in-For-2.ensures i)))) in
     rw f.is
-    (c.in_ok-statements-in-For-3.ensures ∙ (λ i. with_sites (body_end i) (sites_of r (parts_all (c.as_slice-in-For-3.ensures i))))
+    (c.in_ok-statements-in-For-2.ensures ∙ (λ i. with_sites (body_end i) (sites_of r (parts_all (c.as_slice-in-For-3.ensures i))))
     ∙ sym (tables.site-For c.args.self.now r f.line f.marked f.first f.cond f.step f.body))
+
+pub turns-returns : goal.turns-returns
+turns-returns t c =
+    let r = c.args.region in
+    c.in_ok-statements.ensures ∙ (λ i. with_sites (c.in_ok-site.ensures i) (sites_of r (parts_all c.args.body.now))) ∙ sym (tables.turn_sites c.args.self.now r c.args.line c.args.body.now)

@@ -1,6 +1,7 @@
-use Rattle.std.proofs.Common.{◌≡◌, false, sym, ap, subst, ◌∙◌, refl, OnOk}
+use Rattle.std.proofs.Common.{◌≡◌, ◌∷◌, false, sym, ap, subst, ◌∙◌, refl, OnOk}
 use Rattle.dp_check.specs.declared.sites.Sites.{Sites}
-use Rattle.dp_check.specs.Place.{parts_all}
+use Rattle.dp_tree.specs.declared.SiteKind.TheVariants as kind
+use Rattle.dp_check.specs.Place.{Site, parts_all}
 use Rattle.dp_check.specs.Resolved.{is_region}
 use Rattle.dp_check.specs.Tables.{sites_of}
 use Rattle.dp_check.specs.Growing.{with_sites}
@@ -26,12 +27,13 @@ returns-in_default c =
     ] in
     subst (λ (q : Sites). OnOk c.statement-in_default.result (c.statement-in_default.new.self ≡ q)) (sym (top.top-plain c.args.self.now c.args.number c.args.s.now plain)) c.statement-in_default.ensures
 
-pub returns-in_ok-statements-in-For-3 : goal.returns-in_ok-statements-in-For-3
-returns-in_ok-statements-in-For-3 c =
+pub returns-in_ok-statements-in-For-2 : goal.returns-in_ok-statements-in-For-2
+returns-in_ok-statements-in-For-2 c =
     let f = c.in-For in let t = c.args.self.now in let r = c.args.number in
     let is = for_is f.line f.cond c.if-marked-2.true refl refl refl f.is in
     let before = c.in_ok-statements-in-For.ensures ∙ (λ i. with_sites t (sites_of 0 (parts_all (c.as_slice.ensures i)))) in
-    let body_end = c.in_ok-statements-in-For-2.ensures ∙ (λ i. with_sites (c.in_ok-site-in-For.ensures i) (sites_of r (parts_all (c.as_slice-in-For.ensures i)))) in
-    let grown = c.in_ok-statements-in-For-3.ensures ∙ (λ i. with_sites (body_end i) (sites_of r (parts_all (c.as_slice-in-For-2.ensures i)))) ∙ sym (tables.loop_sites c.statements.new.self r f.line f.step f.body) in
+    let grown = c.in_ok-statements-in-For-2.ensures
+    ∙ (λ i. with_sites ((c.in_ok-turns-in-For.ensures ∙ (λ j. with_sites c.statements.new.self (sites_of r (Site f.line kind.While ∷ parts_all (c.as_slice-in-For.ensures j))))) i) (sites_of r (parts_all (c.as_slice-in-For-2.ensures i))))
+    ∙ sym (tables.loop_sites c.statements.new.self r f.line f.step f.body) in
     subst (λ (q : Sites). OnOk c.region-in-For.result (c.region-in-For.new.self ≡ q))
     (top.top-stepped t r f.line f.first f.cond f.step f.body c.args.s.now is c.statements.new.self before _ grown) c.region-in-For.ensures
