@@ -19,7 +19,7 @@ use crate::staffing::{add_workers, next_is_replicated, stage_unit, staged};
 use crate::start::Start;
 use crate::target::Target;
 use crate::unit::{Kind, Unit};
-use dp_base::{NoMemory, Row};
+use dp_base::{Boxed, NoMemory, Row};
 use dp_commit::TryCommit;
 use dp_lane::{TakeEnd, lane};
 use dp_ring::Ring;
@@ -46,7 +46,14 @@ fn add_stage<'p>(
 {
     let stage = staged(alloc, setting, key)?;
     let (target, next) = lane::<Carried>(alloc, key, setting.lane)?;
-    let unit = stage_unit(stage, source, Target::Lane(target), stop, setter.seat(stop));
+    let unit = stage_unit(
+        alloc,
+        stage,
+        source,
+        Target::Lane(target),
+        stop,
+        setter.seat(stop),
+    )?;
     units.push(unit)?;
     Ok(Source::Lane(next))
 }
@@ -82,12 +89,13 @@ fn add_replicated<'p>(
         setting.workers,
     )?;
     let unit = stage_unit(
+        alloc,
         stage,
         source,
         Target::Ring(producer),
         stop,
         setter.seat(stop),
-    );
+    )?;
     units.push(unit)?;
     add_workers(alloc, setting, key, seats, units, stop, setter)?;
     Ok(Source::Ring(consumer))
@@ -127,10 +135,8 @@ fn judging_unit<'p>(
     )?;
     let (verdicts, told) = lane::<Judged>(alloc, key, setting.lane)?;
     let unit = Relay::new(Judge { court }, Judging { source, verdicts }, stop, seat);
-    let unit = Unit {
-        kind: Kind::TryCommit(unit),
-    };
-    Ok((unit, told))
+    let kind = Boxed::new(alloc, Kind::TryCommit(unit))?;
+    Ok((Unit { kind }, told))
 }
 
 /// The units of the epoch, where its verdicts come, and where packets that were judged go back. The units stand in the order

@@ -19,7 +19,7 @@ use crate::staged::Staged;
 use crate::target::Target;
 use crate::tickets::Tickets;
 use crate::unit::{Kind, Unit};
-use dp_base::{NoMemory, Row};
+use dp_base::{Boxed, NoMemory, Row};
 use dp_machine::StageMachine;
 use dp_plan::{Plan, StageKind};
 use dp_ring::WorkerSeat;
@@ -70,20 +70,20 @@ pub(crate) fn staged<'p>(
 
 /// The one unit of a stage that takes its packets in order.
 pub(crate) fn stage_unit<'p>(
+    alloc: Global,
     stage: Staged<'p>,
     source: Source<'p>,
     target: Target<'p>,
     stop: &'p Stop,
     seat: StopSeat,
-) -> Unit<'p>
+) -> Result<Unit<'p>, NoMemory>
     requires start { (key : EpochKey) × (s : ℕ) × RunsAt stage key s (Some 0) × Gives source key (s - 1) 0 × Gets target key s 0 }
     requires counts { ((source_facts source).count ≡ 0) × ((target_facts target).count ≡ 0) × (target_ended target ≡ false) }
     requires seat { (seat.flag ≡ stop.now) × (seat.seen ≡ false) }
 {
     let unit = Relay::new(stage, Passage { source, target }, stop, seat);
-    Unit {
-        kind: Kind::Stage(unit),
-    }
+    let kind = Boxed::new(alloc, Kind::Stage(unit))?;
+    Ok(Unit { kind })
 }
 
 /// A worker of the stage that the key names, at a seat of its ring.
@@ -109,9 +109,8 @@ fn worker<'p>(
         has_ticket: false,
     };
     let unit = Relay::new(stage, ends, stop, seat);
-    Ok(Unit {
-        kind: Kind::Worker(unit),
-    })
+    let kind = Boxed::new(alloc, Kind::Worker(unit))?;
+    Ok(Unit { kind })
 }
 
 /// Adds a worker for each of these seats at the ring of the stage that the key names.

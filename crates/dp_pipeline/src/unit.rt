@@ -8,6 +8,7 @@ use crate::polled::{EndedWhy, Polled};
 use crate::relay::Relay;
 use crate::staged::Staged;
 use crate::tickets::Tickets;
+use dp_base::Boxed;
 use dp_edge::Gate;
 use std::marker::Model;
 use std::sync::Wait;
@@ -23,7 +24,8 @@ pub(crate) enum Kind<'p> {
 /// A stage, a worker of a replicated one, or the try-commit unit of an epoch.
 #[derive(Drop)]
 pub struct Unit<'p> {
-    pub(crate) kind: Kind<'p>,
+    /// In a box, since a unit is moved often and is large.
+    pub(crate) kind: Boxed<Kind<'p>>,
 }
 
 impl<'p> Model for Unit<'p> {
@@ -45,7 +47,7 @@ impl<'p> Unit<'p> {
         ensures polls { Polls self.old result self.new }
         ensures stays { HasEnded self.old → result ≡ Ended }
     {
-        match &mut self.kind {
+        match self.kind.get_mut() {
             Kind::Stage(unit) => unit.poll(rt, gate),
             Kind::Worker(unit) => unit.poll(rt, gate),
             Kind::TryCommit(unit) => unit.poll(rt, gate),
@@ -54,7 +56,7 @@ impl<'p> Unit<'p> {
 
     /// Whether it runs a replicated stage, beside other workers.
     pub(crate) fn is_worker(&self) -> bool {
-        match &self.kind {
+        match self.kind.get() {
             Kind::Stage(_) => false,
             Kind::Worker(_) => true,
             Kind::TryCommit(_) => false,
@@ -65,7 +67,7 @@ impl<'p> Unit<'p> {
     pub fn ended(&self) -> Option<EndedWhy>
         ensures { result ≡ why_ended self.now }
     {
-        match &self.kind {
+        match self.kind.get() {
             Kind::Stage(unit) => unit.ended(),
             Kind::Worker(unit) => unit.ended(),
             Kind::TryCommit(unit) => unit.ended(),

@@ -8,8 +8,8 @@ use Rattle.dp_pipeline.specs.Seats.{IsUnused}
 use Rattle.dp_pipeline.proofs.Beginning.{puts_first, collects_first, all_unused}
 use Rattle.dp_pipeline.proofs.making.add_replicated.Goals as goal
 
-pub stage_unit-unit-requires-clause-start : goal.stage_unit-unit-requires-clause-start
-stage_unit-unit-requires-clause-start c =
+pub stage_unit-requires-clause-start : goal.stage_unit-requires-clause-start
+stage_unit-requires-clause-start c =
     let lane : LaneKey = record { epoch = c.args.key.now.epoch; stage = c.args.key.now.stage + 1 } in (
       key_of c.args.key.now.epoch,
       c.args.key.now.stage,
