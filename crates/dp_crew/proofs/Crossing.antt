@@ -95,7 +95,7 @@ kind_field_send a = let s = staged_send a in let j = judge_send a in
     search (relay.the_send, carried.the_send, judged.the_send, passage.the_send, tickets.the_send, judging.the_send, sendable) depth 60 fits 20000
 
 inside_field_send : (a : NamedLft) → IsSend (Inside.the_field a).row
-inside_field_send a = let k = kind_send a in let f = kind_field_send a in search (sendable) depth 60 fits 20000
+inside_field_send a = let k = kind_send a in let f = kind_field_send a in search (boxed.the_send, sendable) depth 60 fits 20000
 
 inside_send : (a : NamedLft) → IsSend (Inside.the_row a)
 inside_send a = recorded_send (Inside.the_field a).row _ _ (Inside.the_type a).to_one (inside_field_send a)
