@@ -2,7 +2,7 @@
 # Times regions that run as pipelines, in one run on this machine:
 #   the generator's loop over 65,536 words beside oneTBB's parallel_pipeline with the same stages (pipeline_tbb.cpp);
 #   a replicated stage of some two thousand operators an iteration, by 1, 2 and 3 workers, beside the same loop unmarked:
-#   once with three words for six operators, which stages and the judge go through as well, and once for twenty;
+#   with three words for each six operators, which stages and the judge go through as well, for twenty, and for sixty;
 #   a loop beside a memory of 1,000 cells and of 65,536.
 # Each time is the least of nine runs, less the time of an empty program under the same runner; the tables' are less the
 # time of the same program on an empty input, which writes as many values.
@@ -81,6 +81,10 @@ plan 'seq 2 3 4' 'par 5 6 7 8' 'seq 9' >heavy.plan
 heavy_rows 'two thousand operators, six a turn' 333 '(x * 5 + 3 + turns) % 65536' 1998000
 heavy_rows 'two thousand operators, twenty a turn' 100 \
   '((((((x * 5 + 3) % 8191 * 7 + turns) % 8179 * 11 + 1) % 8171 * 13 + turns) % 8167 * 17 + 5) % 8161 * 19 + turns) % 65536' 2000000
+heavy_rows 'two thousand operators, sixty a turn' 32 \
+  "x$(printf ' * %d %% %d' 5 8191 7 8179 11 8171 13 8167 17 8161 19 8147 23 8123 29 8117 31 8111 37 8101 \
+    41 8093 43 8089 47 8087 53 8081 59 8069 61 8059 67 8053 71 8039 73 8017 79 8011 83 8009 89 7993 97 7963 101 7951 \
+    103 7949 107 7937 109 7933 113 7927 127 7919 131 7907) + turns" 2016000
 
 words 20000 1000 >indices.in
 for cells in 1000 65536; do

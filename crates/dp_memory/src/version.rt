@@ -10,9 +10,6 @@ use dp_base::{CellId, Cells, NoMemory};
 use std::alloc::Global;
 use std::marker::Model;
 
-#[cfg(test)]
-mod tests;
-
 /// A program's memory, one number of 64 bits for each cell, which shares pages with the versions that it was taken
 /// from or that were taken from it. Contracts see it as the list of these numbers.
 #[derive(Debug, Drop)]

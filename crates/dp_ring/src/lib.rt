@@ -10,8 +10,6 @@ mod law;
 mod plays;
 mod producer;
 mod ring;
-#[cfg(test)]
-mod tests;
 mod turns;
 mod view;
 mod worker;

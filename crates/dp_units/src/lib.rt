@@ -10,8 +10,6 @@ mod laws;
 mod leaders;
 mod mark;
 mod search;
-#[cfg(test)]
-mod tests;
 
 pub use build::units;
 pub use classes::Units;

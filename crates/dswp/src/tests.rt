@@ -21,6 +21,7 @@ mod made;
 mod names;
 mod observed;
 mod overlap;
+mod parts;
 mod pipelines;
 mod plan_rules;
 mod plan_texts;

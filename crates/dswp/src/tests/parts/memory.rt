@@ -1,5 +1,6 @@
-use super::Version;
+//! Versions of a memory, and the slices of their pages.
 use dp_base::{CellId, Cells};
+use dp_memory::Version;
 use std::test::Fail;
 
 #[test]

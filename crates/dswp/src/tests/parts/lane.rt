@@ -1,7 +1,7 @@
 //! What a lane answers where it is full, and where it is empty.
 ghost use Rattle.std.specs.Prelude.{◌≡◌, ◌+◌, false, Some, slice_get};
 
-use crate::{LaneItem, TakeEnd, lane};
+use dp_lane::{LaneItem, TakeEnd, lane};
 use std::sync::Wait;
 use std::test::*;
 
