@@ -11,9 +11,6 @@ use std::io::{self, Read};
 use std::marker::Model;
 use std::rt::Files;
 
-#[cfg(test)]
-mod tests;
-
 /// So many bytes are asked for at a time.
 const BLOCK: usize = 65_536;
 

@@ -6,9 +6,6 @@ use crate::sink::{PutFail, Sink};
 use std::io::{self, Write};
 use std::marker::Model;
 
-#[cfg(test)]
-mod tests;
-
 /// The standard output. It tells contracts nothing of what was written.
 #[derive(Drop)]
 pub struct OutSink<'a, R: Print> {

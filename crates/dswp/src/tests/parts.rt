@@ -2,6 +2,7 @@
 mod graph;
 mod lane;
 mod memory;
+mod outside;
 mod relay;
 mod ring;
 mod stop;

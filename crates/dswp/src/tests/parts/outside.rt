@@ -1,10 +1,13 @@
-use super::{BLOCK, FileShelf};
-use crate::shelf::{Shelf, ShelfFail};
+//! Real files, and the real output.
+use dp_edge::{FileShelf, OutSink, Shelf, ShelfFail, Sink};
 use std::alloc::{AllocError, Global};
 use std::test::Fail;
 use std::{env, fs};
 
-// A text of so many bytes whose blocks differ.
+/// How much of a file is read at once.
+const BLOCK: usize = 65_536;
+
+/// A text of so many bytes whose blocks differ.
 fn text(alloc: Global, len: usize) -> Result<Vec<u8>, AllocError> {
     let mut bytes = Vec::new(alloc);
     for at in 0..len {
@@ -34,5 +37,13 @@ fn a_real_file_is_read_back(rt: HostRuntime) -> Result<(), Fail> {
     fs::remove_file(&rt, name)?;
     let fail = FileShelf::new(&rt).read(rt.alloc(), name, 10).err();
     assert!(rt; fail == Some(ShelfFail::Failed));
+    Ok(())
+}
+
+#[test]
+fn real_bytes_are_written(rt: HostRuntime) -> Result<(), Fail> {
+    let mut sink = OutSink::new(&rt);
+    sink.put(b"")?;
+    sink.put(b"real bytes\n")?;
     Ok(())
 }
