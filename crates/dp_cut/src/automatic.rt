@@ -1,5 +1,5 @@
 //! The automatic plans of a program.
-ghost use Rattle.std.specs.Prelude.{◌≡◌, ◌≤◌, ◌<◌, ◌^◌, IfOk, length, map, true, false};
+ghost use Rattle.std.specs.Prelude.{◌≡◌, ◌≤◌, ◌<◌, ◌-◌, ◌⊎◌, ◌^◌, IfOk, OnErr, length, map, true, false};
 ghost use Rattle.std.specs.Option.{option_copied};
 ghost use Rattle.dp_tree.specs.Inlined.{IsInlined};
 ghost use Rattle.dp_plan.specs.GivenPlans.{ArePlans};
@@ -33,6 +33,7 @@ fn pair_of(first: u32, count: u32, edge: &Edge) -> Result<(u32, u32), NoMemory>
     ensures value { IfOk result (λ pair. pair ≡ spec.node_pair first edge.now) }
     ensures from { IfOk result (λ pair. pair.0 < count) }
     ensures to { IfOk result (λ pair. pair.1 < count) }
+    ensures outside { OnErr result ((count ≤ edge.now.from.0 - first) ⊎ (count ≤ edge.now.to.0 - first)) }
 {
     let from = edge.from.0.saturating_sub(first);
     let to = edge.to.0.saturating_sub(first);
@@ -61,7 +62,8 @@ fn pairs_of(
 }
 
 fn few(count: usize) -> Result<u32, NoMemory>
-    ensures { IfOk result (λ few. few ≡ count) }
+    ensures value { IfOk result (λ few. few ≡ count) }
+    ensures many { OnErr result (2 ^ 32 ≤ count) }
 {
     u32::try_from(count).map_err(|_| NoMemory)
 }

@@ -41,182 +41,181 @@ fn copied(alloc: Global, numbers: &[u32]) -> Result<Row<u32>, NoMemory>
     Ok(Row::from_vec(items))
 }
 
-/// Appends a node that isn't an `if`.
-fn push_node(
+/// Where a statement stands: inside those of these conditions, and in this outermost inner `while`.
+#[derive(Clone, Copy)]
+struct Inside<'a> {
     alloc: Global,
-    out: &mut Row<Node>,
-    around: &[u32],
+    around: &'a [u32],
     outer_loop: Option<u32>,
-    site: SiteId,
-    loads: Row<u32>,
-    stores: Option<u32>,
-) -> Result<(), NoMemory>
-    ensures { OnOk result (out.new ≡ out.old ++ spec.plain_node around.now outer_loop site loads stores ∷ []) }
-{
-    let around = copied(alloc, around)?;
-    out.push(Node {
-        site,
-        is_if: false,
-        loads,
-        stores,
-        around,
-        outer_loop,
-    })
 }
 
-/// Appends the node of an `if`.
-fn push_if(
-    alloc: Global,
-    out: &mut Row<Node>,
-    around: &[u32],
-    outer_loop: Option<u32>,
-    site: SiteId,
-    cond: &Expr,
-) -> Result<(), NoMemory>
-    ensures { OnOk result (out.new ≡ out.old ++ spec.if_node around.now outer_loop site (lists.load_list cond.now) ∷ []) }
-{
-    let loads = loads_of(alloc, cond)?;
-    let around = copied(alloc, around)?;
-    out.push(Node {
-        site,
-        is_if: true,
-        loads,
-        stores: None,
-        around,
-        outer_loop,
-    })
-}
+impl Inside<'_> {
+    /// Where the sites of an inner `while` with this condition stand.
+    fn in_loop(self, site: SiteId) -> Self
+        ensures around { result.around.now ≡ self.entry.around.now }
+        ensures outer_loop { result.outer_loop ≡ Some (spec.loop_of self.entry.outer_loop site.0) }
+    {
+        let outermost = match self.outer_loop {
+            Some(outermost) => outermost,
+            None => site.0,
+        };
+        Inside {
+            alloc: self.alloc,
+            around: self.around,
+            outer_loop: Some(outermost),
+        }
+    }
 
-/// Appends the node of a site that evaluates one expression.
-fn push_value(
-    alloc: Global,
-    out: &mut Row<Node>,
-    around: &[u32],
-    outer_loop: Option<u32>,
-    site: SiteId,
-    value: &Expr,
-    stores: Option<u32>,
-) -> Result<(), NoMemory>
-    ensures { OnOk result (out.new ≡ out.old ++ spec.plain_node around.now outer_loop site (lists.load_list value.now) stores ∷ []) }
-{
-    let loads = loads_of(alloc, value)?;
-    push_node(alloc, out, around, outer_loop, site, loads, stores)
-}
+    /// Appends a node that isn't an `if`.
+    fn put_node(
+        self,
+        out: &mut Row<Node>,
+        site: SiteId,
+        loads: Row<u32>,
+        stores: Option<u32>,
+    ) -> Result<(), NoMemory>
+        ensures { OnOk result (out.new ≡ out.old ++ spec.plain_node self.entry.around.now self.entry.outer_loop site loads stores ∷ []) }
+    {
+        let around = copied(self.alloc, self.around)?;
+        out.push(Node {
+            site,
+            is_if: false,
+            loads,
+            stores,
+            around,
+            outer_loop: self.outer_loop,
+        })
+    }
 
-/// Appends the node of a store to an element.
-fn push_store(
-    alloc: Global,
-    out: &mut Row<Node>,
-    around: &[u32],
-    outer_loop: Option<u32>,
-    site: SiteId,
-    var: VarId,
-    index: &Expr,
-    value: &Expr,
-) -> Result<(), NoMemory>
-    ensures { OnOk result (out.new ≡ out.old ++ spec.plain_node around.now outer_loop site (lists.load_list index.now ++ lists.load_list value.now) (Some var.0) ∷ []) }
-{
-    let loads = loads_of_both(alloc, index, value)?;
-    push_node(alloc, out, around, outer_loop, site, loads, Some(var.0))
-}
+    /// Appends the node of an `if`.
+    fn put_if(self, out: &mut Row<Node>, site: SiteId, cond: &Expr) -> Result<(), NoMemory>
+        ensures { OnOk result (out.new ≡ out.old ++ spec.if_node self.entry.around.now self.entry.outer_loop site (lists.load_list cond.now) ∷ []) }
+    {
+        let loads = loads_of(self.alloc, cond)?;
+        let around = copied(self.alloc, self.around)?;
+        out.push(Node {
+            site,
+            is_if: true,
+            loads,
+            stores: None,
+            around,
+            outer_loop: self.outer_loop,
+        })
+    }
 
-/// The outermost inner `while` of a loop's sites.
-fn loop_of(outer_loop: Option<u32>, site: SiteId) -> Option<u32>
-    ensures { result ≡ Some (spec.loop_of outer_loop site.0) }
-{
-    match outer_loop {
-        Some(outermost) => Some(outermost),
-        None => Some(site.0),
+    /// Appends the node of a site that evaluates one expression.
+    fn put_value(
+        self,
+        out: &mut Row<Node>,
+        site: SiteId,
+        value: &Expr,
+        stores: Option<u32>,
+    ) -> Result<(), NoMemory>
+        ensures { OnOk result (out.new ≡ out.old ++ spec.plain_node self.entry.around.now self.entry.outer_loop site (lists.load_list value.now) stores ∷ []) }
+    {
+        let loads = loads_of(self.alloc, value)?;
+        self.put_node(out, site, loads, stores)
+    }
+
+    /// Appends the node of a store to an element.
+    fn put_store(
+        self,
+        out: &mut Row<Node>,
+        site: SiteId,
+        var: VarId,
+        index: &Expr,
+        value: &Expr,
+    ) -> Result<(), NoMemory>
+        ensures { OnOk result (out.new ≡ out.old ++ spec.plain_node self.entry.around.now self.entry.outer_loop site (lists.load_list index.now ++ lists.load_list value.now) (Some var.0) ∷ []) }
+    {
+        let loads = loads_of_both(self.alloc, index, value)?;
+        self.put_node(out, site, loads, Some(var.0))
     }
 }
 
 /// Appends the nodes of a statement.
 #[tactic(auto, using(crate::proofs::NodeForms::node_forms))]
 #[cycle(nodes)]
-fn put_nodes_of(
-    alloc: Global,
-    out: &mut Row<Node>,
-    around: &[u32],
-    outer_loop: Option<u32>,
-    statement: &Stmt,
-) -> Result<(), NoMemory>
-    ensures { OnOk result (out.new ≡ out.old ++ lists.node_list around.now outer_loop statement.now) }
+fn put_nodes_of(inside: Inside<'_>, out: &mut Row<Node>, statement: &Stmt) -> Result<(), NoMemory>
+    ensures { OnOk result (out.new ≡ out.old ++ lists.node_list inside.entry.around.now inside.entry.outer_loop statement.now) }
 {
     match statement {
-        Stmt::Assign { site, var, value } => {
-            push_value(alloc, out, around, outer_loop, *site, value, Some(var.0))
-        }
+        Stmt::Assign { site, var, value } => inside.put_value(out, *site, value, Some(var.0)),
         Stmt::Store {
             site,
             var,
             index,
             value,
-        } => push_store(alloc, out, around, outer_loop, *site, *var, index, value),
-        Stmt::Print { site, value } => {
-            push_value(alloc, out, around, outer_loop, *site, value, None)
-        }
-        Stmt::Break { site, cond } => push_value(alloc, out, around, outer_loop, *site, cond, None),
+        } => inside.put_store(out, *site, *var, index, value),
+        Stmt::Print { site, value } => inside.put_value(out, *site, value, None),
+        Stmt::Break { site, cond } => inside.put_value(out, *site, cond, None),
         Stmt::If {
             site,
             cond,
             then_part,
             else_part,
         } => {
-            push_if(alloc, out, around, outer_loop, *site, cond)?;
-            put_inside(alloc, out, around, outer_loop, *site, then_part.as_slice())?;
-            put_inside(alloc, out, around, outer_loop, *site, else_part.as_slice())?;
+            inside.put_if(out, *site, cond)?;
+            put_part(inside, out, *site, then_part.as_slice())?;
+            put_part(inside, out, *site, else_part.as_slice())?;
             Ok(())
         }
         Stmt::While { site, cond, body } => {
-            let whole = loop_of(outer_loop, *site);
-            push_value(alloc, out, around, whole, *site, cond, None)?;
-            put_inside(alloc, out, around, whole, *site, body.as_slice())?;
-            Ok(())
+            put_loop(inside.in_loop(*site), out, *site, body.as_slice(), cond)
         }
         Stmt::Region {
             site,
             cond,
             body,
             ..
-        } => {
-            push_value(alloc, out, around, outer_loop, *site, cond, None)?;
-            put_inside(alloc, out, around, outer_loop, *site, body.as_slice())?;
-            Ok(())
-        }
+        } => put_loop(inside, out, *site, body.as_slice(), cond),
         Stmt::Call { .. } => Ok(()),
     }
 }
 
+/// Appends those of a loop with this condition.
+#[cycle(nodes)]
+fn put_loop(
+    inside: Inside<'_>,
+    out: &mut Row<Node>,
+    site: SiteId,
+    body: &[Stmt],
+    cond: &Expr,
+) -> Result<(), NoMemory>
+    ensures { OnOk result (out.new ≡ out.old ++ spec.plain_node inside.entry.around.now inside.entry.outer_loop site (lists.load_list cond.now) None ∷ lists.node_lists (inside.entry.around.now ++ site.0 ∷ []) inside.entry.outer_loop body.now) }
+{
+    inside.put_value(out, site, cond, None)?;
+    put_part(inside, out, site, body)?;
+    Ok(())
+}
+
 /// Appends those of a part of a statement with this condition.
 #[cycle(nodes)]
-fn put_inside(
-    alloc: Global,
+fn put_part(
+    inside: Inside<'_>,
     out: &mut Row<Node>,
-    around: &[u32],
-    outer_loop: Option<u32>,
     site: SiteId,
     part: &[Stmt],
 ) -> Result<(), NoMemory>
-    ensures { OnOk result (out.new ≡ out.old ++ lists.node_lists (around.now ++ site.0 ∷ []) outer_loop part.now) }
+    ensures { OnOk result (out.new ≡ out.old ++ lists.node_lists (inside.entry.around.now ++ site.0 ∷ []) inside.entry.outer_loop part.now) }
 {
-    let inner = with_one(alloc, around, site.0)?;
-    put_nodes(alloc, out, inner.as_slice(), outer_loop, part)?;
+    let around = with_one(inside.alloc, inside.around, site.0)?;
+    let inner = Inside {
+        alloc: inside.alloc,
+        around: around.as_slice(),
+        outer_loop: inside.outer_loop,
+    };
+    put_nodes(inner, out, part)?;
     Ok(())
 }
 
 /// Appends those of several statements.
 #[cycle(nodes)]
-fn put_nodes(
-    alloc: Global,
-    out: &mut Row<Node>,
-    around: &[u32],
-    outer_loop: Option<u32>,
-    all: &[Stmt],
-) -> Result<(), NoMemory>
-    ensures { OnOk result (out.new ≡ out.old ++ lists.node_lists around.now outer_loop all.now) }
+fn put_nodes(inside: Inside<'_>, out: &mut Row<Node>, all: &[Stmt]) -> Result<(), NoMemory>
+    ensures { OnOk result (out.new ≡ out.old ++ lists.node_lists inside.entry.around.now inside.entry.outer_loop all.now) }
 {
     for statement in all {
-        put_nodes_of(alloc, out, around, outer_loop, statement)?;
+        put_nodes_of(inside, out, statement)?;
     }
     Ok(())
 }
@@ -224,9 +223,14 @@ fn put_nodes(
 fn put_region(alloc: Global, out: &mut Row<Node>, region: u32, all: &[Stmt]) -> Result<(), NoMemory>
     ensures { OnOk result (out.new ≡ out.old ++ lists.nodes_in_region region all.now) }
 {
+    let inside = Inside {
+        alloc,
+        around: &[],
+        outer_loop: None,
+    };
     for statement in all {
         if is_region(region, statement) {
-            put_nodes_of(alloc, out, &[], None, statement)?;
+            put_nodes_of(inside, out, statement)?;
         }
     }
     Ok(())

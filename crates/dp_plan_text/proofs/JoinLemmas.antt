@@ -66,5 +66,5 @@ no_blank-digits : (ds : List ℕ) → list_all is_digit ds ≡ true → no_blank
 no_blank-digits [] h = refl
 no_blank-digits (byte ∷ ds) h = digit_case byte ds (nat_le 48 byte) (nat_le byte 57) refl refl h (no_blank-digits ds)
 
-pub decimal_word : (n : ℕ) → n < 2 ^ 32 → IsWord (decimal n)
+pub decimal_word : (n : ℕ) → n < 2 ^ 64 → IsWord (decimal n)
 decimal_word n h = no_blank-digits (decimal n) (digits-decimal n h)

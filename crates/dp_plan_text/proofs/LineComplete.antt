@@ -70,7 +70,7 @@ kind_is_word Par = refl
 
 sites_are_words : (low : ℕ) (sites : List ℕ) → AscendAbove low sites → Each IsWord (map decimal sites)
 sites_are_words low [] h = tt
-sites_are_words low (site ∷ rest) h = (decimal_word site h.1, sites_are_words site rest h.2)
+sites_are_words low (site ∷ rest) h = (decimal_word site (omega (arith, h.1)), sites_are_words site rest h.2)
 
 outcome_is_word : (taken : Bool) → IsWord (decimal (outcome_number taken))
 outcome_is_word true = decimal_word 1 (omega arith)
@@ -83,8 +83,8 @@ version_is_word false = decimal_word 1 (omega arith)
 pub words-line : (l : Line) → LineFits l → words (joined (words_of l)) ≡ words_of l
 words-line (line.Head proved) fits = words-joined (codes "plan") (decimal (version_number proved) ∷ []) refl (version_is_word proved, tt)
 words-line (line.Region r w) fits =
-    words-joined (codes "region") (decimal r ∷ codes "words" ∷ decimal w ∷ []) refl (decimal_word r fits.0, (refl, (decimal_word w (omega (arith, fits.2)), tt)))
+    words-joined (codes "region") (decimal r ∷ codes "words" ∷ decimal w ∷ []) refl (decimal_word r (omega (arith, fits.0)), (refl, (decimal_word w (omega (arith, fits.2)), tt)))
 words-line (line.Stage stage) fits = words-joined (kind_word stage.kind) (map decimal stage.sites) (kind_is_word stage.kind) (sites_are_words 0 stage.sites fits.1)
 words-line (line.Assume a) fits =
-    words-joined (codes "assume") (decimal a.site.0 ∷ decimal (outcome_number a.taken) ∷ []) refl (decimal_word a.site.0 fits.1, (outcome_is_word a.taken, tt))
+    words-joined (codes "assume") (decimal a.site.0 ∷ decimal (outcome_number a.taken) ∷ []) refl (decimal_word a.site.0 (omega (arith, fits.1)), (outcome_is_word a.taken, tt))
 words-line line.End fits = words-joined (codes "end") [] refl tt

@@ -12,7 +12,7 @@ use Rattle.dp_plan_text.specs.PlanText.{kind_word, outcome_number, words_of}
 use Rattle.dp_plan.specs.Each.{AscendAbove}
 use Rattle.dp_plan_text.specs.Words.{number_of}
 use Rattle.dp_plan_text.specs.LineWords.{above, onto_sites, site_before, sites_above, stage_line, region_of, region_line, outcome, assume_of, assume_line, head_line, end_line, line_of}
-use Rattle.dp_plan_text.proofs.NumberText.{Writes, number_of-sound}
+use Rattle.dp_plan_text.proofs.NumberText.{Writes, number-sound}
 use Rattle.dp_plan_text.proofs.LineComplete.{LineFits}
 
 pub record IsLine (ws : List (List ℕ)) (l : Line) : Type 0 where
@@ -22,13 +22,13 @@ pub record IsLine (ws : List (List ℕ)) (l : Line) : Type 0 where
 -- ---- sites
 
 record Above (low : ℕ) (word : List ℕ) (site : ℕ) : Type 0 where
-  writes : Writes word site
+  writes : Writes 4294967295 word site
   higher : low < site
 
 above_case : (low : ℕ) (word : List ℕ) (n site : ℕ) (lt : Bool) → nat_lt low n ≡ lt → number_of word ≡ Some n → (if lt then Some n else None) ≡ Some site → Above low word site
 above_case low word n site true e w h =
     let same : n ≡ site = cc h in
-    record { writes = number_of-sound word site (w ∙ ap Some same); higher = let lt : low < n = search rules in omega (arith, lt, same) }
+    record { writes = number-sound 4294967295 (omega arith) word site (w ∙ ap Some same); higher = let lt : low < n = search rules in omega (arith, lt, same) }
 above_case low word n site false e w h = absurd (cc h)
 
 above_sound : (low : ℕ) (word : List ℕ) (o : Option ℕ) (site : ℕ) → number_of word ≡ o → above low o ≡ Some site → Above low word site
@@ -55,7 +55,7 @@ sites_case low word ws (Some site) sites e h more =
     let m : AreSites site ws o.0 = more site o.0 o.1 in
     record {
       are = ap (λ w. w ∷ ws) a.writes.is ∙ ap (λ r. decimal site ∷ r) m.are ∙ ap (map decimal) (sym o.2);
-      ascend = first_site low site o.0 sites o.2 a.higher a.writes.small m.ascend;
+      ascend = first_site low site o.0 sites o.2 a.higher (omega (arith, a.writes.small)) m.ascend;
     }
 
 none_case : (low : ℕ) (sites : List ℕ) → sites ≡ [] → AreSites low [] sites
@@ -79,9 +79,9 @@ within_case : (a b : List ℕ) (r w : ℕ) (l : Line) (low high : Bool) → numb
     → (if low && high then Some (line.Region r w) else None) ≡ Some l → IsLine (codes "region" ∷ a ∷ codes "words" ∷ b ∷ []) l
 within_case a b r w l true true p q e f h =
     let is : line.Region r w ≡ l = cc h in
-    let wr : Writes a r = number_of-sound a r p in let ww : Writes b w = number_of-sound b w q in
+    let wr = number-sound 4294967295 (omega arith) a r p in let ww = number-sound 4294967295 (omega arith) b w q in
     let low : 16 ≤ w = search rules in let high : w ≤ 4096 = search rules in
-    rw (← is) (record { are = ap (λ x. codes "region" ∷ x ∷ codes "words" ∷ b ∷ []) wr.is ∙ ap (λ x. codes "region" ∷ decimal r ∷ codes "words" ∷ x ∷ []) ww.is; fits = (wr.small, low, high) })
+    rw (← is) (record { are = ap (λ x. codes "region" ∷ x ∷ codes "words" ∷ b ∷ []) wr.is ∙ ap (λ x. codes "region" ∷ decimal r ∷ codes "words" ∷ x ∷ []) ww.is; fits = (omega (arith, wr.small), low, high) })
 within_case a b r w l true false p q e f h = absurd (cc h)
 within_case a b r w l false high p q e f h = absurd (cc h)
 
@@ -115,7 +115,7 @@ outcome_case n false false taken e f h = absurd (cc h)
 
 outcome_sound : (b : List ℕ) (o : Option ℕ) (taken : Bool) → number_of b ≡ o → outcome o ≡ Some taken → b ≡ decimal (outcome_number taken)
 outcome_sound b None taken e h = absurd (cc h)
-outcome_sound b (Some n) taken e h = (number_of-sound b n e).is ∙ ap decimal (outcome_case n (n == 0) (n == 1) taken refl refl h)
+outcome_sound b (Some n) taken e h = (number-sound 4294967295 (omega arith) b n e).is ∙ ap decimal (outcome_case n (n == 0) (n == 1) taken refl refl h)
 
 assume_case : (a b : List ℕ) (site : Option ℕ) (taken : Option Bool) (l : Line) → above 0 (number_of a) ≡ site → outcome (number_of b) ≡ taken → assume_of site taken ≡ Some l
     → IsLine (codes "assume" ∷ a ∷ b ∷ []) l
@@ -124,7 +124,7 @@ assume_case a b (Some site) None l p q h = absurd (cc h)
 assume_case a b (Some site) (Some taken) l p q h =
     let is : line.Assume (record { site = record { 0 = site }; taken = taken }) ≡ l = cc h in
     let s : Above 0 a site = above_sound 0 a (number_of a) site refl p in
-    rw (← is) (record { are = ap (λ x. codes "assume" ∷ x ∷ b ∷ []) s.writes.is ∙ ap (λ x. codes "assume" ∷ decimal site ∷ x ∷ []) (outcome_sound b (number_of b) taken refl q); fits = (s.higher, s.writes.small) })
+    rw (← is) (record { are = ap (λ x. codes "assume" ∷ x ∷ b ∷ []) s.writes.is ∙ ap (λ x. codes "assume" ∷ decimal site ∷ x ∷ []) (outcome_sound b (number_of b) taken refl q); fits = (s.higher, omega (arith, s.writes.small)) })
 
 assume_sound : (ws : List (List ℕ)) (l : Line) → assume_line ws ≡ Some l → IsLine (codes "assume" ∷ ws) l
 assume_sound [] l h = absurd (cc h)

@@ -1,9 +1,10 @@
 -- Words without an LF, and the line that is cut behind one.
-use Rattle.std.proofs.Common.{◌≡◌, refl, ap, ℕ, ◌≤◌, ◌==◌, Bool, true, false, not, ◌&&◌, nat_le, List, [], ◌∷◌, ◌++◌, rules, tests}
+use Rattle.std.proofs.Common.{◌≡◌, refl, ap, ℕ, ◌<◌, ◌≤◌, ◌^◌, ◌==◌, Bool, true, false, not, ◌&&◌, nat_le, List, [], ◌∷◌, ◌++◌, decimal, rules, tests}
 use Rattle.std.specs.List.{list_all}
 use Rattle.dp_plan.specs.Each.{Each}
 use Rattle.dp_plan_text.specs.PlanText.{joined, onto_first, lines_of}
 use Rattle.dp_plan_text.specs.Words.{is_digit}
+use Rattle.dp_plan_text.proofs.NumberText.{digits-decimal}
 
 -- no LF stands there
 abbrev pub no_end : List ℕ → Bool
@@ -45,6 +46,9 @@ digit_case byte ds true true e f h more =
 digit_case byte ds true false e f h more = absurd (cc h)
 digit_case byte ds false high e f h more = absurd (cc h)
 
-pub unbroken-digits : (ds : List ℕ) → list_all is_digit ds ≡ true → Unbroken ds
+unbroken-digits : (ds : List ℕ) → list_all is_digit ds ≡ true → Unbroken ds
 unbroken-digits [] h = refl
 unbroken-digits (byte ∷ ds) h = digit_case byte ds (nat_le 48 byte) (nat_le byte 57) refl refl h (unbroken-digits ds)
+
+pub unbroken-decimal : (n : ℕ) → n < 2 ^ 64 → Unbroken (decimal n)
+unbroken-decimal n h = unbroken-digits (decimal n) (digits-decimal n h)

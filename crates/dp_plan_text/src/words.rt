@@ -1,6 +1,6 @@
 //! The words of a line, and the numbers that they write.
 
-ghost use Rattle.std.specs.Prelude.{◌≡◌, ◌<◌, ◌==◌, ◌∷◌, length, IfSome};
+ghost use Rattle.std.specs.Prelude.{◌≡◌, ◌<◌, ◌≤◌, ◌==◌, ◌∷◌, length, IfSome};
 ghost use Rattle.std.specs.Option.{option_copied};
 ghost use Rattle.std.specs.List.{position};
 ghost use Rattle.dp_plan_text.specs.Words as spec;
@@ -26,23 +26,25 @@ pub fn next_word(text: &[u8]) -> (&[u8], Option<&[u8]>)
     }
 }
 
-/// The number with one digit more, where it has 32 bits.
-fn with_digit(number: u32, digit: u8) -> Option<u32>
-    ensures { result ≡ spec.digit_after number digit }
+/// The number with one digit more, where it is at most `most`.
+fn with_digit(most: u64, number: u64, digit: u8) -> Option<u64>
+    ensures { result ≡ spec.digit_after most number digit }
 {
     if !digit.is_ascii_digit() {
         return None;
     }
-    number.checked_mul(10)?.checked_add((digit - b'0') as u32)
+    let next = number.checked_mul(10)?.checked_add((digit - b'0') as u64)?;
+    if next <= most { Some(next) } else { None }
 }
 
 #[tactic(auto, using(crate::proofs::Digits::value_lost, crate::proofs::Digits::value_found))]
-fn value(digits: &[u8]) -> Option<u32>
-    ensures { result ≡ spec.value_of digits.now }
+fn value(most: u64, digits: &[u8]) -> Option<u64>
+    ensures value { result ≡ spec.value_upto most digits.now }
+    ensures within { IfSome result (λ n. n ≤ most) }
 {
     let mut number = 0;
     'digits: for digit in digits {
-        number = with_digit(number, *digit)?;
+        number = with_digit(most, number, *digit)?;
     }
     Some(number)
 }
@@ -57,9 +59,22 @@ fn is_plain(word: &[u8]) -> bool
     }
 }
 
-/// The number that a word writes without leading zeros, where it has 32 bits.
+/// The number that a word writes without leading zeros, where it is at most `most`.
+pub fn number_upto(most: u64, word: &[u8]) -> Option<u64>
+    ensures value { result ≡ spec.number_upto most word.now }
+    ensures within { IfSome result (λ n. n ≤ most) }
+{
+    if is_plain(word) {
+        value(most, word)
+    } else {
+        None
+    }
+}
+
+/// The same of a number of 32 bits.
 pub fn number(word: &[u8]) -> Option<u32>
     ensures { result ≡ spec.number_of word.now }
 {
-    if is_plain(word) { value(word) } else { None }
+    let number = number_upto(4_294_967_295, word)?;
+    Some(number as u32)
 }

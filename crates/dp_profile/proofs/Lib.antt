@@ -1,9 +1,7 @@
 pub mod rows
-pub mod Digits
 pub mod WordLemmas
 pub mod ListWalks
 pub mod WriteLemmas
-pub mod NumberText
 pub mod LineComplete
 pub mod LineSound
 pub mod Runs

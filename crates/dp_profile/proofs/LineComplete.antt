@@ -1,15 +1,15 @@
 -- Each line that fits is read from its words.
 use Rattle.std.proofs.Common.{◌≡◌, ℕ, ◌<◌, ◌≤◌, Bool, true, false, nat_lt, nat_le, [], ◌∷◌, Option, Some, codes, decimal, refl, ap, ◌∙◌, rules, arith}
 use Rattle.dp_plan_text.specs.PlanText.{joined}
-use Rattle.dp_plan_text.specs.Words.{words}
-use Rattle.dp_plan_text.proofs.JoinLemmas.{IsWord, words-joined}
+use Rattle.dp_plan_text.specs.Words.{words, number_of}
+use Rattle.dp_plan_text.proofs.JoinLemmas.{IsWord, words-joined, decimal_word}
+use Rattle.dp_plan_text.proofs.NumberText.{number-decimal, number_of-decimal}
 use Rattle.dp_profile.specs.declared.SiteCount.{SiteCount}
 use Rattle.dp_profile.specs.declared.Flow.{Flow}
 use Rattle.dp_profile.specs.declared.line.Line.{Line}
 use Rattle.dp_profile.specs.declared.line.Line.TheVariants as line
 use Rattle.dp_profile.specs.ProfileText.{most_count, kind_word, words_of}
-use Rattle.dp_profile.specs.LineWords.{short, count, kind, region_of, runs_of, flow_of, line_of}
-use Rattle.dp_profile.proofs.NumberText.{number-decimal, decimal_word}
+use Rattle.dp_profile.specs.LineWords.{count, kind, region_of, runs_of, flow_of, line_of}
 
 -- the largest number of 32 bits
 abbrev pub top : ℕ
@@ -22,9 +22,6 @@ LineFits (line.Region r) = r ≤ top
 LineFits (line.Runs site c) = (site.0 ≤ top) × (c.runs ≤ most_count) × (c.nonzero ≤ c.runs)
 LineFits (line.Flow f) = (f.from.0 ≤ top) × (f.to.0 ≤ top) × (0 < f.shown) × (f.shown ≤ most_count)
 LineFits line.End = Unit {0}
-
-pub short-decimal : (n : ℕ) → n ≤ top → short (decimal n) ≡ Some n
-short-decimal n h = number-decimal top (omega arith) n h
 
 pub count-decimal : (n : ℕ) → n ≤ most_count → count (decimal n) ≡ Some n
 count-decimal n h = number-decimal most_count (omega arith) n h
@@ -42,15 +39,15 @@ flow_some f h = let t : nat_lt 0 f.shown ≡ true = search rules in rw t refl
 pub line-words : (l : Line) → LineFits l → line_of (words_of l) ≡ Some l
 unfolding line_of
 line-words line.Head fits = refl
-line-words (line.Region r) fits = ap region_of (short-decimal r fits)
+line-words (line.Region r) fits = ap region_of (number_of-decimal r (omega (arith, fits)))
 line-words (line.Runs site c) fits =
-    ap (λ (o : Option ℕ). runs_of o (count (decimal c.runs)) (count (decimal c.nonzero))) (short-decimal site.0 fits.0)
+    ap (λ (o : Option ℕ). runs_of o (count (decimal c.runs)) (count (decimal c.nonzero))) (number_of-decimal site.0 (omega (arith, fits.0)))
     ∙ ap (λ (o : Option ℕ). runs_of (Some site.0) o (count (decimal c.nonzero))) (count-decimal c.runs fits.1)
     ∙ ap (λ (o : Option ℕ). runs_of (Some site.0) (Some c.runs) o) (count-decimal c.nonzero (omega (arith, fits.1, fits.2)))
     ∙ runs_some site.0 c fits.2
 line-words (line.Flow f) fits =
-    ap (λ (o : Option ℕ). flow_of o (short (decimal f.to.0)) (kind (kind_word f.carried)) (count (decimal f.shown))) (short-decimal f.from.0 fits.0)
-    ∙ ap (λ (o : Option ℕ). flow_of (Some f.from.0) o (kind (kind_word f.carried)) (count (decimal f.shown))) (short-decimal f.to.0 fits.1)
+    ap (λ (o : Option ℕ). flow_of o (number_of (decimal f.to.0)) (kind (kind_word f.carried)) (count (decimal f.shown))) (number_of-decimal f.from.0 (omega (arith, fits.0)))
+    ∙ ap (λ (o : Option ℕ). flow_of (Some f.from.0) o (kind (kind_word f.carried)) (count (decimal f.shown))) (number_of-decimal f.to.0 (omega (arith, fits.1)))
     ∙ ap (λ (o : Option Bool). flow_of (Some f.from.0) (Some f.to.0) o (count (decimal f.shown))) (kind_some f.carried)
     ∙ ap (λ (o : Option ℕ). flow_of (Some f.from.0) (Some f.to.0) (Some f.carried) o) (count-decimal f.shown fits.3)
     ∙ flow_some f fits.2

@@ -3,28 +3,29 @@ use Rattle.std.proofs.Common.{◌≡◌, ℕ, ◌<◌, ◌≤◌, Bool, true, fa
 use Rattle.std.specs.Prelude.{if◌then◌else◌}
 use Rattle.std.specs.Str.{bytes_eq}
 use Rattle.std.proofs.lemmas.Slice.Eq.{bytes_eq-Decides}
+use Rattle.dp_plan_text.specs.Words.{number_of}
+use Rattle.dp_plan_text.proofs.NumberText.{Writes, number-sound}
 use Rattle.dp_profile.specs.declared.line.Line.{Line}
 use Rattle.dp_profile.specs.declared.line.Line.TheVariants as line
 use Rattle.dp_profile.specs.ProfileText.{most_count, kind_word, words_of}
-use Rattle.dp_profile.specs.LineWords.{short, count, kind, region_of, region_line, runs_of, runs_line, flow_of, flow_line, head_line, end_line, line_of}
-use Rattle.dp_profile.proofs.NumberText.{Writes, number-sound}
+use Rattle.dp_profile.specs.LineWords.{count, kind, region_of, region_line, runs_of, runs_line, flow_of, flow_line, head_line, end_line, line_of}
 use Rattle.dp_profile.proofs.LineComplete.{LineFits, top}
 
 pub record IsLine (ws : List (List ℕ)) (l : Line) : Type 0 where
   pub are : ws ≡ words_of l
   pub fits : LineFits l
 
-short_sound : (word : List ℕ) (n : ℕ) → short word ≡ Some n → Writes top (omega arith) word n
+short_sound : (word : List ℕ) (n : ℕ) → number_of word ≡ Some n → Writes top word n
 short_sound word n h = number-sound top (omega arith) word n h
 
-count_sound : (word : List ℕ) (n : ℕ) → count word ≡ Some n → Writes most_count (omega arith) word n
+count_sound : (word : List ℕ) (n : ℕ) → count word ≡ Some n → Writes most_count word n
 count_sound word n h = number-sound most_count (omega arith) word n h
 
 -- a test of a word
 same_word : (a b : List ℕ) → bytes_eq a b ≡ true → a ≡ b
 same_word a b h = (bytes_eq-Decides a b).0 h
 
-region_case : (a : List ℕ) (r : Option ℕ) (l : Line) → short a ≡ r → region_of r ≡ Some l → IsLine (codes "region" ∷ a ∷ []) l
+region_case : (a : List ℕ) (r : Option ℕ) (l : Line) → number_of a ≡ r → region_of r ≡ Some l → IsLine (codes "region" ∷ a ∷ []) l
 region_case a None l p h = absurd (cc h)
 region_case a (Some r) l p h =
     let is : line.Region r ≡ l = cc h in
@@ -33,10 +34,10 @@ region_case a (Some r) l p h =
 
 region_sound : (ws : List (List ℕ)) (l : Line) → region_line ws ≡ Some l → IsLine (codes "region" ∷ ws) l
 region_sound [] l h = absurd (cc h)
-region_sound (a ∷ []) l h = region_case a (short a) l refl h
+region_sound (a ∷ []) l h = region_case a (number_of a) l refl h
 region_sound (a ∷ b ∷ rest) l h = absurd (cc h)
 
-fewer_case : (a b c : List ℕ) (site runs nonzero : ℕ) (l : Line) (le : Bool) → short a ≡ Some site → count b ≡ Some runs → count c ≡ Some nonzero → nat_le nonzero runs ≡ le
+fewer_case : (a b c : List ℕ) (site runs nonzero : ℕ) (l : Line) (le : Bool) → number_of a ≡ Some site → count b ≡ Some runs → count c ≡ Some nonzero → nat_le nonzero runs ≡ le
     → (if le then Some (line.Runs (record { 0 = site }) (record { runs = runs; nonzero = nonzero })) else None) ≡ Some l → IsLine (codes "runs" ∷ a ∷ b ∷ c ∷ []) l
 fewer_case a b c site runs nonzero l true p q r e h =
     let is : line.Runs (record { 0 = site }) (record { runs = runs; nonzero = nonzero }) ≡ l = cc h in
@@ -48,7 +49,7 @@ fewer_case a b c site runs nonzero l true p q r e h =
     })
 fewer_case a b c site runs nonzero l false p q r e h = absurd (cc h)
 
-runs_case : (a b c : List ℕ) (site runs nonzero : Option ℕ) (l : Line) → short a ≡ site → count b ≡ runs → count c ≡ nonzero → runs_of site runs nonzero ≡ Some l → IsLine (codes "runs" ∷ a ∷ b ∷ c ∷ []) l
+runs_case : (a b c : List ℕ) (site runs nonzero : Option ℕ) (l : Line) → number_of a ≡ site → count b ≡ runs → count c ≡ nonzero → runs_of site runs nonzero ≡ Some l → IsLine (codes "runs" ∷ a ∷ b ∷ c ∷ []) l
 runs_case a b c None runs nonzero l p q r h = absurd (cc h)
 runs_case a b c (Some site) None nonzero l p q r h = absurd (cc h)
 runs_case a b c (Some site) (Some runs) None l p q r h = absurd (cc h)
@@ -58,7 +59,7 @@ runs_sound : (ws : List (List ℕ)) (l : Line) → runs_line ws ≡ Some l → I
 runs_sound [] l h = absurd (cc h)
 runs_sound (a ∷ []) l h = absurd (cc h)
 runs_sound (a ∷ b ∷ []) l h = absurd (cc h)
-runs_sound (a ∷ b ∷ c ∷ []) l h = runs_case a b c (short a) (count b) (count c) l refl refl refl h
+runs_sound (a ∷ b ∷ c ∷ []) l h = runs_case a b c (number_of a) (count b) (count c) l refl refl refl h
 runs_sound (a ∷ b ∷ c ∷ d ∷ rest) l h = absurd (cc h)
 
 kind_case : (word : List ℕ) (intra other : Bool) (carried : Bool) → bytes_eq word (codes "intra") ≡ intra → bytes_eq word (codes "carried") ≡ other
@@ -72,7 +73,7 @@ kind_case word false false carried e f h = absurd (cc h)
 kind_sound : (word : List ℕ) (carried : Bool) → kind word ≡ Some carried → word ≡ kind_word carried
 kind_sound word carried h = kind_case word _ _ carried refl refl h
 
-shown_case : (a b k c : List ℕ) (from to : ℕ) (carried : Bool) (shown : ℕ) (l : Line) (some : Bool) → short a ≡ Some from → short b ≡ Some to → kind k ≡ Some carried → count c ≡ Some shown → nat_lt 0 shown ≡ some
+shown_case : (a b k c : List ℕ) (from to : ℕ) (carried : Bool) (shown : ℕ) (l : Line) (some : Bool) → number_of a ≡ Some from → number_of b ≡ Some to → kind k ≡ Some carried → count c ≡ Some shown → nat_lt 0 shown ≡ some
     → (if some then Some (line.Flow (record { from = record { 0 = from }; to = record { 0 = to }; carried = carried; shown = shown })) else None) ≡ Some l → IsLine (codes "flow" ∷ a ∷ b ∷ k ∷ c ∷ []) l
 shown_case a b k c from to carried shown l true p q s r e h =
     let is : line.Flow (record { from = record { 0 = from }; to = record { 0 = to }; carried = carried; shown = shown }) ≡ l = cc h in
@@ -85,7 +86,7 @@ shown_case a b k c from to carried shown l true p q s r e h =
     })
 shown_case a b k c from to carried shown l false p q s r e h = absurd (cc h)
 
-flow_case : (a b k c : List ℕ) (from to : Option ℕ) (carried : Option Bool) (shown : Option ℕ) (l : Line) → short a ≡ from → short b ≡ to → kind k ≡ carried → count c ≡ shown
+flow_case : (a b k c : List ℕ) (from to : Option ℕ) (carried : Option Bool) (shown : Option ℕ) (l : Line) → number_of a ≡ from → number_of b ≡ to → kind k ≡ carried → count c ≡ shown
     → flow_of from to carried shown ≡ Some l → IsLine (codes "flow" ∷ a ∷ b ∷ k ∷ c ∷ []) l
 flow_case a b k c None to carried shown l p q s r h = absurd (cc h)
 flow_case a b k c (Some from) None carried shown l p q s r h = absurd (cc h)
@@ -98,7 +99,7 @@ flow_sound [] l h = absurd (cc h)
 flow_sound (a ∷ []) l h = absurd (cc h)
 flow_sound (a ∷ b ∷ []) l h = absurd (cc h)
 flow_sound (a ∷ b ∷ k ∷ []) l h = absurd (cc h)
-flow_sound (a ∷ b ∷ k ∷ c ∷ []) l h = flow_case a b k c (short a) (short b) (kind k) (count c) l refl refl refl refl h
+flow_sound (a ∷ b ∷ k ∷ c ∷ []) l h = flow_case a b k c (number_of a) (number_of b) (kind k) (count c) l refl refl refl refl h
 flow_sound (a ∷ b ∷ k ∷ c ∷ d ∷ rest) l h = absurd (cc h)
 
 version_case : (a : List ℕ) (is : Bool) (l : Line) → bytes_eq a (codes "1") ≡ is → (if is then Some line.Head else None) ≡ Some l → IsLine (codes "profile" ∷ a ∷ []) l

@@ -1,3 +1,4 @@
 pub mod Profiles
 pub mod Observations
 pub mod Texts
+pub mod Fitting

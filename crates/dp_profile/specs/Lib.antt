@@ -2,7 +2,6 @@ pub mod Sites
 pub mod ProfileText
 pub mod Refused
 pub mod WrittenText
-pub mod Numbers
 pub mod LineWords
 pub mod Reading
 pub mod Ending

@@ -3,12 +3,8 @@ use Rattle.std.specs.Prelude.{ℕ, if◌then◌else◌, Bool, true, false, nat_l
 use Rattle.std.specs.Str.{bytes_eq}
 use Rattle.dp_profile.specs.declared.line.Line.{Line}
 use Rattle.dp_profile.specs.declared.line.Line.TheVariants as line
-use Rattle.dp_profile.specs.Numbers.{number_upto}
+use Rattle.dp_plan_text.specs.Words.{number_of, number_upto}
 use Rattle.dp_profile.specs.ProfileText.{most_count}
-
--- a region's or a site's number has 32 bits
-abbrev pub short : List ℕ → Option ℕ
-short word = number_upto 4294967295 word
 
 -- a count
 abbrev pub count : List ℕ → Option ℕ
@@ -19,7 +15,7 @@ region_of None = None
 region_of (Some r) = Some (line.Region r)
 
 abbrev pub region_line : List (List ℕ) → Option Line
-region_line (r ∷ []) = region_of (short r)
+region_line (r ∷ []) = region_of (number_of r)
 region_line _ = None
 
 -- a site's counts
@@ -31,7 +27,7 @@ runs_of (Some site) (Some runs) (Some nonzero) =
     if nat_le nonzero runs then Some (line.Runs (record { 0 = site }) (record { runs = runs; nonzero = nonzero })) else None
 
 abbrev pub runs_line : List (List ℕ) → Option Line
-runs_line (site ∷ runs ∷ nonzero ∷ []) = runs_of (short site) (count runs) (count nonzero)
+runs_line (site ∷ runs ∷ nonzero ∷ []) = runs_of (number_of site) (count runs) (count nonzero)
 runs_line _ = None
 
 -- whether the word says that the store was of an earlier iteration
@@ -47,7 +43,7 @@ flow_of (Some from) (Some to) (Some carried) (Some shown) =
     if nat_lt 0 shown then Some (line.Flow (record { from = record { 0 = from }; to = record { 0 = to }; carried = carried; shown = shown })) else None
 
 abbrev pub flow_line : List (List ℕ) → Option Line
-flow_line (from ∷ to ∷ carried ∷ shown ∷ []) = flow_of (short from) (short to) (kind carried) (count shown)
+flow_line (from ∷ to ∷ carried ∷ shown ∷ []) = flow_of (number_of from) (number_of to) (kind carried) (count shown)
 flow_line _ = None
 
 abbrev pub head_of : List ℕ → Option Line

@@ -7,11 +7,9 @@ use dp_base::{End, NoMemory, Row, SiteId};
 
 mod law;
 mod line;
-mod number;
 mod read;
 mod reader;
 mod sites;
-mod text;
 mod write;
 
 pub use law::{read_profiles_fit, written_profiles_are_read};

@@ -5,10 +5,10 @@ ghost use Rattle.std.specs.Option.{option_copied};
 ghost use Rattle.dp_plan_text.specs.Words.{words, words_behind};
 ghost use Rattle.dp_profile.specs.LineWords as spec;
 
-use crate::number::{count, short};
 use crate::{Flow, SiteCount};
 use dp_base::SiteId;
-use dp_plan_text::next_word;
+use dp_base::limits::PROFILE_COUNT;
+use dp_plan_text::{next_word, number, number_upto};
 
 /// A line of a text.
 #[derive(Clone, Copy, Debug, PartialEq, Eq)]
@@ -18,6 +18,13 @@ pub enum Line {
     Runs(SiteId, SiteCount),
     Flow(Flow),
     End,
+}
+
+/// A count.
+fn count(word: &[u8]) -> Option<u64>
+    ensures { result ≡ spec.count word.now }
+{
+    number_upto(PROFILE_COUNT, word)
 }
 
 fn region_of(region: Option<u32>) -> Option<Line>
@@ -32,7 +39,7 @@ fn region(text: Option<&[u8]>) -> Option<Line>
 {
     let (region, rest) = next_word(text?);
     match rest {
-        None => region_of(short(region)),
+        None => region_of(number(region)),
         Some(_) => None,
     }
 }
@@ -58,7 +65,7 @@ fn runs(text: Option<&[u8]>) -> Option<Line>
     let (runs, rest) = next_word(rest?);
     let (nonzero, rest) = next_word(rest?);
     match rest {
-        None => runs_of(short(site), count(runs), count(nonzero)),
+        None => runs_of(number(site), count(runs), count(nonzero)),
         Some(_) => None,
     }
 }
@@ -109,7 +116,7 @@ fn flow(text: Option<&[u8]>) -> Option<Line>
     let (carried, rest) = next_word(rest?);
     let (shown, rest) = next_word(rest?);
     match rest {
-        None => flow_of(short(from), short(to), kind(carried), count(shown)),
+        None => flow_of(number(from), number(to), kind(carried), count(shown)),
         Some(_) => None,
     }
 }

@@ -4,14 +4,26 @@ ghost use Rattle.std.specs.Prelude.{◌≡◌, IfOk, MatchResult};
 ghost use Rattle.dp_tree.specs.Inlined.{IsInlined};
 ghost use Rattle.dp_profile.specs.Sites.{regions};
 ghost use Rattle.dp_profile.specs.Refused.{ReadsAs};
+ghost use Rattle.dp_profile.specs.Ending.{IfEnds};
 
-use crate::reader::Reader;
+use crate::reader::{Phase, Reader};
 use crate::sites::{RegionSite, regions_of};
-use crate::text::{finished, next_line};
 use crate::{Profile, ProfileFail};
 use dp_base::{NoMemory, Row};
+use dp_plan_text::next_line;
 use dp_tree::Program;
 use std::alloc::Global;
+
+/// The profile of a text whose lines have been read up to what has no LF.
+fn finished(reader: Reader, rest: &[u8], line: u64) -> Result<Profile, ProfileFail>
+    ensures { IfEnds reader rest.now line result }
+{
+    let Reader { phase, done, .. } = reader;
+    match phase {
+        Phase::Over if rest.is_empty() => Ok(Profile { regions: done }),
+        _ => Err(ProfileFail::Refused { line }),
+    }
+}
 
 /// The profile of a text, or the line at which it is refused.
 pub fn read_profile(alloc: Global, text: &[u8], p: &Program) -> Result<Profile, ProfileFail>

@@ -12,7 +12,7 @@ returns c =
     let edges_are = c.edges-edges.ensures ∙ c.in_ok-graph.ensures.edges in
     automatic_made p r (option_copied c.args.wishes.profile) c.args.wishes.rate c.args.wishes.stages c.args.wishes.workers c.in_ok-plan.plan
     c.in_ok-units.units.order c.in_ok-units.units.place_of c.as_slice-loads.result.now c.in_ok-count.count c.as_slice-ends.result.now c.in_ok-graph.graph.edges c.in_ok-graph.graph.chosen
-    (c.in_ok-count.ensures ∙ ap length nodes_are)
+    (c.in_ok-count.ensures.value ∙ ap length nodes_are)
     (c.as_slice-ends.ensures ∙ c.in_ok-pairs.ensures.value ∙ ap (λ (f : ℕ). map (node_pair f) c.edges-edges.result.now) c.first_of-first.ensures ∙ ap (map (node_pair (first_of c.args.p.now c.args.region))) edges_are)
     (c.as_slice-loads.ensures ∙ c.in_ok-weights.ensures ∙ ap (λ (f : ℕ). map (site_weight (option_copied c.args.wishes.profile) c.args.region f) c.as_slice-sites.result.now) c.first_of-first.ensures
     ∙ ap (map (site_weight (option_copied c.args.wishes.profile) c.args.region (first_of c.args.p.now c.args.region))) nodes_are)

@@ -14,7 +14,7 @@ loop-place-preserved c =
     let below : c.loop-place.place < length c.args.p.now.regions = omega (arith, c.loop-place-test.true, c.len-place-end.ensures) in
     subst (λ (plans : List Plan). Made c.args.p.now (option_copied c.args.wishes.profile) c.args.wishes.rate c.args.wishes.stages c.args.wishes.workers (c.loop-place.place + 1) plans) (sym c.in_ok-push.ensures.ok)
     (made_more c.args.p.now _ _ _ _ c.loop-place.place c.loop-place.plans c.in_ok-plan.plan below c.loop-place.invariant
-    (subst (λ (r : ℕ). IsAutomatic c.args.p.now r (option_copied c.args.wishes.profile) c.args.wishes.rate c.args.wishes.stages c.args.wishes.workers c.in_ok-plan.plan) c.in_ok-region.ensures c.in_ok-plan.ensures))
+    (subst (λ (r : ℕ). IsAutomatic c.args.p.now r (option_copied c.args.wishes.profile) c.args.wishes.rate c.args.wishes.stages c.args.wishes.workers c.in_ok-plan.plan) c.in_ok-region.ensures.value c.in_ok-plan.ensures))
 
 pub returns-clause-least : goal.returns-clause-least
 returns-clause-least c =
