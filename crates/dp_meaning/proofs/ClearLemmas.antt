@@ -1,7 +1,5 @@
 -- Clearing body locals twice is clearing them once.
-use Rattle.std.proofs.Common.{◌≡◌, refl, ◌∙◌, ap, ℕ, zero, suc, Bool, true, false, if◌then◌else◌, List, [], ◌∷◌, slice_set, ℤ, pos}
-use Rattle.dp_tree.specs.declared.VarInfo.{VarInfo}
-use Rattle.dp_tree.specs.Step.{is_local_of, clear_locals}
+use Rattle.dp_meaning.proofs.Names.{◌≡◌, refl, ◌∙◌, ap, ℕ, zero, suc, Bool, true, false, if◌then◌else◌, List, [], ◌∷◌, slice_set, ℤ, pos, VarInfo, is_local_of, clear_locals}
 
 abbrev zeroed : List ℤ → ℕ → List ℤ
 zeroed xs i = slice_set xs i (pos 0)

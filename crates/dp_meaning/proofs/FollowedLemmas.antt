@@ -1,13 +1,7 @@
 -- What is left to do after a step keeps its shape, and what stands from the next region on.
-use Rattle.std.proofs.Common.{◌≡◌, refl, sym, ap, ◌∙◌, Bool, true, false, not, if◌then◌else◌, IsTrue, List, [], ◌∷◌, ◌++◌, drop, ℤ}
-use Rattle.std.specs.List.{list_all}
-use Rattle.dp_base.specs.Arithmetic.{is_zero}
-use Rattle.dp_tree.specs.declared.Stmt.{Stmt, out-Stmt}
-use Rattle.dp_tree.specs.declared.Stmt.TheOpen.{Stmt-F, Assign, Store, Print, If, While, Region, Break, Call}
-use Rattle.dp_tree.specs.Step.{choose, followed, behind_region, behind_one, region_number}
+use Rattle.dp_meaning.proofs.Names.{◌≡◌, refl, sym, ap, ◌∙◌, Bool, true, false, not, if◌then◌else◌, IsTrue, List, [], ◌∷◌, ◌++◌, drop, ℤ, list_all, is_zero, Stmt, out-Stmt, Stmt-F, choose, followed, behind_region, behind_one, region_number, is_simple, is_inside, is_outer, is_any_region, from_region}
+use Rattle.dp_tree.specs.declared.Stmt.TheOpen.{Assign, Store, Print, If, While, Region, Break, Call}
 use Rattle.dp_tree.proofs.Heads.{taken}
-use Rattle.dp_meaning.specs.Runnable.{is_simple, is_inside, is_outer}
-use Rattle.dp_meaning.specs.MachineState.{is_any_region, from_region}
 use Rattle.dp_meaning.proofs.OuterLemmas.{both, both_make, all_append, simple_at, inside_at, all_outer, simple_inside, from_region-append}
 
 abbrev outer : List Stmt → Type 0

@@ -1,17 +1,7 @@
 -- An inlined program's `main` has the shape that a machine runs.
-use Rattle.std.proofs.Common.{◌≡◌, refl, sym, ap, ◌∙◌, Bool, true, false, ◌||◌, IsTrue, List, [], ◌∷◌}
-use Rattle.std.specs.List.{list_all, list_any}
-use Rattle.dp_tree.specs.declared.Stmt.{Stmt, Row_of-Stmt, end_of-Stmt, more_of-Stmt, out-Stmt, roll-Stmt, roll-out-Stmt}
-use Rattle.dp_tree.specs.declared.Stmt.TheVariants.{Assign, Store, Print, If', While', Region', Break, Call}
-use Rattle.dp_tree.specs.declared.Stmt.TheViews.{rolls-Assign, rolls-Store, rolls-Print, rolls-If, rolls-While, rolls-Region, rolls-Break, rolls-Call}
+use Rattle.dp_meaning.proofs.Names.{◌≡◌, refl, sym, ap, ◌∙◌, Bool, true, false, ◌||◌, IsTrue, List, [], ◌∷◌, list_all, list_any, Stmt, Row_of-Stmt, end_of-Stmt, more_of-Stmt, out-Stmt, roll-Stmt, roll-out-Stmt, rolls-Assign, rolls-Store, rolls-Print, rolls-If, rolls-While, rolls-Region, rolls-Break, rolls-Call, Stmt-F, Program, IsInlined, has_call, has_call_in, is_plain, is_plain_in, is_inner, opened_statement, and_true, and_make, plain_all, top_at, is_top, all_top, is_simple, are_simple, is_inside, is_outer}
 use Rattle.dp_tree.specs.declared.Stmt.TheOpen as layer
-use Rattle.dp_tree.specs.declared.Stmt.TheOpen.{Stmt-F}
-use Rattle.dp_tree.specs.declared.Program.{Program}
-use Rattle.dp_tree.specs.Inlined.{IsInlined, has_call, has_call_in}
-use Rattle.dp_tree.specs.Numbering.{is_plain, is_plain_in, is_inner}
-use Rattle.dp_tree.proofs.Heads.{opened_statement, and_true, and_make}
-use Rattle.dp_tree.proofs.Inner.{plain_all, top_at, is_top, all_top}
-use Rattle.dp_meaning.specs.Runnable.{is_simple, are_simple, is_inside, is_outer}
+use Rattle.dp_tree.specs.declared.Stmt.TheVariants.{Assign, Store, Print, If', While', Region', Break, Call}
 use Rattle.dp_meaning.proofs.OuterLemmas.{all_simple, outer_at, outer_out}
 
 neither : (a b : Bool) → (a || b) ≡ false → (a ≡ false) × (b ≡ false)

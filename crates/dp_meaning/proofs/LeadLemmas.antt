@@ -1,22 +1,10 @@
 -- Each entry of the table leads to what follows its statement.
-use Rattle.std.proofs.Common.{◌≡◌, refl, sym, ap, ◌∙◌, subst, ℕ, Bool, true, false, if◌then◌else◌, IsTrue, List, [], ◌∷◌, ◌++◌, drop, ℤ, Option, Some, None, slice_get, zero, suc}
-use Rattle.std.specs.Prelude.{◌-◌}
-use Rattle.std.specs.List.{list_all}
-use Rattle.dp_base.specs.Arithmetic.{is_zero}
-use Rattle.dp_tree.specs.declared.Expr.{Expr}
-use Rattle.dp_base.specs.declared.SiteId.{SiteId}
-use Rattle.dp_tree.specs.declared.Stmt.{Stmt, out-Stmt, Row_of-Stmt, end_of-Stmt, more_of-Stmt, items-the_row-Stmt, items_shown-the_row-Stmt-0}
+use Rattle.dp_meaning.proofs.Names.{◌≡◌, refl, sym, ap, ◌∙◌, subst, ℕ, Bool, true, false, if◌then◌else◌, IsTrue, List, [], ◌∷◌, ◌++◌, drop, ℤ, Option, Some, None, slice_get, zero, suc, ◌-◌, list_all, is_zero, Expr, SiteId, Stmt, out-Stmt, Row_of-Stmt, end_of-Stmt, more_of-Stmt, items-the_row-Stmt, items_shown-the_row-Stmt-0, outs-Assign, outs-Store, outs-Print, outs-If', outs-While', outs-Region', outs-Break, outs-Call, Program, Stmt-F, choose, followed, behind_region, behind_one, region_number, is_simple, are_simple, is_inside, is_outer, is_outer_at, is_any_region, listed, entry, rests, NodeAt, node, table, first_of, first_region}
+use Rattle.dp_tree.specs.declared.Stmt.TheOpen as layer
+unfoldable use Rattle.dp_meaning.proofs.Names.{rests_of, rests_in, table_of, table_in}
 use Rattle.dp_tree.specs.declared.Stmt.TheBlock.{shown-the_row-Stmt-0}
 use Rattle.dp_tree.specs.declared.Stmt.TheVariants.{Assign, Store, Print, If', While', Region', Break, Call}
-use Rattle.dp_tree.specs.declared.Stmt.TheViews.{outs-Assign, outs-Store, outs-Print, outs-If', outs-While', outs-Region', outs-Break, outs-Call}
-use Rattle.dp_tree.specs.declared.Program.{Program}
-use Rattle.dp_tree.specs.declared.Stmt.TheOpen as layer
-use Rattle.dp_tree.specs.declared.Stmt.TheOpen.{Stmt-F}
-use Rattle.dp_tree.specs.Step.{choose, followed, behind_region, behind_one, region_number}
-use Rattle.dp_meaning.specs.Runnable.{is_simple, are_simple, is_inside, is_outer, is_outer_at}
-use Rattle.dp_meaning.specs.MachineState.{is_any_region}
-use Rattle.dp_meaning.specs.Places.{listed, place, entry, rests, NodeAt, node, table, first_of, first_region}
-unfoldable use Rattle.dp_meaning.specs.Places.{rests_of, rests_in, table_of, table_in}
+use Rattle.dp_meaning.specs.Places.{place}
 use Rattle.dp_meaning.proofs.OuterLemmas.{both, both_make, all_inside, simple_inside, outer_at, outer_out, inside_no_region, from_region-append}
 use Rattle.dp_meaning.proofs.FollowedLemmas.{left_behind}
 

@@ -1,14 +1,5 @@
 -- Stores and clearing.
-use Rattle.std.proofs.Common.{◌≡◌, refl, sym, ◌∙◌, ap, ℕ, ◌+◌, ◌<◌, ◌≤◌, suc, Bool, true, false, List, [], ◌∷◌, ◌++◌, replicate, drop, get_or, length, slice_set, if◌then◌else◌, Option, Some, None, ℤ, pos, add-one, drop-cons, length-set}
-use Rattle.std.proofs.Math.Seq.{set_out}
-use Rattle.dp_base.specs.declared.StoreOf.{StoreOf}
-use Rattle.dp_tree.specs.declared.Stmt.{Stmt, out-Stmt}
-use Rattle.dp_tree.specs.declared.Program.{Program}
-use Rattle.dp_tree.specs.declared.VarInfo.{VarInfo}
-use Rattle.dp_tree.specs.Trace.{start_cells}
-use Rattle.dp_tree.specs.Step.{is_local_of, clear_locals, region_number, clear_one, cleared_leaving}
-use Rattle.dp_semantics.specs.Told.{with_stores}
-use Rattle.dp_meaning.specs.Places.{first_of, first_region}
+use Rattle.dp_meaning.proofs.Names.{◌≡◌, refl, sym, ◌∙◌, ap, ℕ, ◌+◌, ◌<◌, ◌≤◌, suc, Bool, true, false, List, [], ◌∷◌, ◌++◌, replicate, drop, get_or, length, slice_set, if◌then◌else◌, Option, Some, None, ℤ, pos, add-one, drop-cons, length-set, set_out, StoreOf, Stmt, out-Stmt, Program, VarInfo, start_cells, is_local_of, clear_locals, region_number, clear_one, cleared_leaving, with_stores, first_of, first_region}
 
 -- a store past the end changes nothing
 pub store_out : (cells : List ℤ) (c : ℕ) (v : ℤ) → length cells ≤ c → slice_set cells c v ≡ cells

@@ -1,12 +1,7 @@
 -- Simple statements and those of `main`, and what is left of them after a step.
-use Rattle.std.proofs.Common.{◌≡◌, refl, sym, ap, ◌∙◌, subst, Bool, true, false, ◌&&◌, if◌then◌else◌, IsTrue, List, [], ◌∷◌, ◌++◌}
-use Rattle.std.specs.List.{list_all}
-use Rattle.dp_tree.specs.declared.Stmt.{Stmt, out-Stmt, roll-Stmt, roll-out-Stmt}
-use Rattle.dp_tree.specs.declared.Stmt.TheViews.{rolls-Assign, rolls-Store, rolls-Print, rolls-If, rolls-While, rolls-Region, rolls-Break, rolls-Call}
-use Rattle.dp_tree.specs.declared.Stmt.TheOpen.{Stmt-F, Assign, Store, Print, If, While, Region, Break, Call}
-use Rattle.dp_meaning.specs.Runnable.{is_simple, are_simple, is_inside, is_outer, is_outer_at}
+use Rattle.dp_meaning.proofs.Names.{◌≡◌, refl, sym, ap, ◌∙◌, subst, Bool, true, false, ◌&&◌, if◌then◌else◌, IsTrue, List, [], ◌∷◌, ◌++◌, list_all, Stmt, out-Stmt, roll-Stmt, roll-out-Stmt, rolls-Assign, rolls-Store, rolls-Print, rolls-If, rolls-While, rolls-Region, rolls-Break, rolls-Call, Stmt-F, is_simple, are_simple, is_inside, is_outer, is_outer_at, part_from, is_any_region, from_region}
 use Rattle.dp_meaning.specs.declared.ends.Part.TheVariants as part
-use Rattle.dp_meaning.specs.MachineState.{part_from, is_any_region, from_region}
+use Rattle.dp_tree.specs.declared.Stmt.TheOpen.{Assign, Store, Print, If, While, Region, Break, Call}
 
 pub both : (a b : Bool) → IsTrue (a && b) → IsTrue a × IsTrue b
 both true b h = (refl, h)

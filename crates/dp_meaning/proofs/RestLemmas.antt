@@ -1,13 +1,7 @@
 -- The places count the sites in text order.
-use Rattle.std.proofs.Common.{◌≡◌, refl, ap, ◌∙◌, ℕ, List, [], ◌∷◌, ◌++◌, map}
-use Rattle.dp_tree.specs.declared.Stmt.{Stmt, out-Stmt, Row_of-Stmt, end_of-Stmt, more_of-Stmt}
+use Rattle.dp_meaning.proofs.Names.{◌≡◌, refl, ap, ◌∙◌, ℕ, List, [], ◌∷◌, ◌++◌, map, Stmt, out-Stmt, Row_of-Stmt, end_of-Stmt, more_of-Stmt, outs-Assign, outs-Store, outs-Print, outs-If', outs-While', outs-Region', outs-Break, outs-Call, Stmt-F, site_of, site_numbers, site_numbers_in, site_numbers_all, listed, number_of, rests}
+unfoldable use Rattle.dp_meaning.proofs.Names.{rests_of, rests_in}
 use Rattle.dp_tree.specs.declared.Stmt.TheVariants.{Assign, Store, Print, If', While', Region', Break, Call}
-use Rattle.dp_tree.specs.declared.Stmt.TheViews.{outs-Assign, outs-Store, outs-Print, outs-If', outs-While', outs-Region', outs-Break, outs-Call}
-use Rattle.dp_tree.specs.declared.Stmt.TheOpen.{Stmt-F}
-use Rattle.dp_tree.specs.Step.{site_of}
-use Rattle.dp_tree.specs.Numbering.{site_numbers, site_numbers_in, site_numbers_all}
-use Rattle.dp_meaning.specs.Places.{listed, number_of, rests}
-unfoldable use Rattle.dp_meaning.specs.Places.{rests_of, rests_in}
 
 -- a statement's number is that of its site
 pub number_out : (s : Stmt) → (site_of (out-Stmt s)).0 ≡ number_of s

@@ -1,25 +1,8 @@
 -- The shape of what is left to do, after a step.
-use Rattle.std.proofs.Common.{◌≡◌, ◌≢◌, ◌⊎◌, inl, inr, refl, sym, ap, ◌∙◌, subst, ℕ, Bool, true, false, IsTrue, List, [], ◌∷◌, ◌++◌, drop, Option, Some, None, ℤ, if◌then◌else◌, ◌<◌, length, eq-eqb, arith}
-use Rattle.std.specs.List.{list_all}
-use Rattle.dp_base.specs.Arithmetic.{is_zero}
-use Rattle.dp_base.specs.declared.SiteId.{SiteId}
-use Rattle.dp_tree.specs.declared.Expr.{Expr}
-use Rattle.dp_tree.specs.declared.Stmt.{Stmt, out-Stmt}
-use Rattle.dp_tree.specs.declared.Stmt.TheOpen.{Stmt-F, Assign, Store, Print, If, While, Region, Break, Call}
-use Rattle.dp_tree.specs.declared.Program.{Program}
-use Rattle.dp_tree.specs.InMain.{StandsInMain}
-use Rattle.dp_tree.specs.Numbering.{is_inner}
-use Rattle.dp_tree.specs.Step.{Config, Event, Stepped, step, standing, value_of, followed}
-use Rattle.dp_tree.specs.Iteration.{is_region, leaves}
-use Rattle.dp_tree.proofs.Heads.{and_true, taken, taken_left, followed-append, standing_to_do, StepsTo, stepped, not_stepped}
-use Rattle.dp_tree.proofs.Inner.{inner_all, inner_at, inner_out}
-use Rattle.dp_meaning.specs.declared.ends.Part.{Part}
+use Rattle.dp_meaning.proofs.Names.{◌≡◌, ◌≢◌, ◌⊎◌, inl, inr, refl, sym, ap, ◌∙◌, subst, ℕ, Bool, true, false, IsTrue, List, [], ◌∷◌, ◌++◌, drop, Option, Some, None, ℤ, if◌then◌else◌, ◌<◌, length, eq-eqb, arith, list_all, is_zero, SiteId, Expr, Stmt, out-Stmt, Stmt-F, Program, StandsInMain, is_inner, Config, Event, Stepped, step, standing, value_of, followed, is_region, leaves, and_true, taken_left, followed-append, standing_to_do, StepsTo, stepped, not_stepped, inner_all, inner_at, inner_out, Part, is_inside, is_outer, part_from, part_of, part_at, is_any_region, from_region, IsWithin, UnderWay, IsEndOfMain, leaves_region, current_behind, has_no_call, no_call_at}
 use Rattle.dp_meaning.specs.declared.ends.Part.TheVariants as part
-use Rattle.dp_meaning.specs.Runnable.{is_inside, is_outer}
-use Rattle.dp_meaning.specs.MachineState.{part_from, part_of, part_at, is_any_region, from_region}
-use Rattle.dp_meaning.specs.Sound.{IsWithin, UnderWay}
-use Rattle.dp_meaning.specs.Standing.{IsEndOfMain}
-use Rattle.dp_meaning.specs.Turn.{leaves_region, current_behind, has_no_call, no_call_at}
+use Rattle.dp_tree.specs.declared.Stmt.TheOpen.{Assign, Store, Print, If, While, Region, Break, Call}
+use Rattle.dp_tree.proofs.Heads.{taken}
 use Rattle.dp_meaning.proofs.OuterLemmas.{both, all_inside, simple_at, inside_at, inside_out, outer_at, outer_out, inside_no_region, from_region-append}
 use Rattle.dp_meaning.proofs.FollowedLemmas.{left_behind, outer_followed, inside_followed}
 use Rattle.dp_meaning.proofs.StopLemmas.{from_region-over}

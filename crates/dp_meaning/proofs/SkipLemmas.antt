@@ -1,18 +1,8 @@
 -- The memory after the steps of an iteration.
-use Rattle.std.proofs.Common.{◌≡◌, refl, sym, ap, ◌∙◌, subst, ℕ, Bool, true, false, not, if◌then◌else◌, IsTrue, List, [], ◌∷◌, ◌++◌, drop, ℤ, Option, None, Some}
-use Rattle.dp_base.specs.Arithmetic.{is_zero}
-use Rattle.dp_tree.specs.declared.Stmt.{Stmt, out-Stmt}
-use Rattle.dp_tree.specs.declared.Stmt.TheOpen.{Stmt-F, Assign, Store, Print, If, While, Region, Break, Call}
-use Rattle.dp_tree.specs.declared.Program.{Program}
-use Rattle.dp_tree.specs.Event.{Effect, Stored, Printed, Decided, Tried, Event, value_of, stored}
-use Rattle.dp_tree.specs.Step.{Config, Stepped, step, step_from, standing, stored_by, after_effect, region_number, clear_one, clear_locals, cleared_leaving, cleared_at}
-use Rattle.dp_tree.specs.Iteration.{leaves}
-use Rattle.dp_tree.proofs.Heads.{taken, stepped, not_stepped}
-use Rattle.dp_tree.proofs.InMain.{next_at}
+use Rattle.dp_meaning.proofs.Names.{◌≡◌, refl, sym, ap, ◌∙◌, subst, ℕ, Bool, true, false, not, if◌then◌else◌, IsTrue, List, [], ◌∷◌, ◌++◌, drop, ℤ, Option, None, Some, is_zero, Stmt, out-Stmt, Stmt-F, Program, Effect, Stored, Printed, Decided, Tried, Event, value_of, stored, Config, Stepped, step, step_from, standing, stored_by, after_effect, region_number, clear_one, clear_locals, cleared_leaving, cleared_at, leaves, stepped, not_stepped, next_at, part_from, part_of, stores_of, with_stores, is_inside}
 use Rattle.dp_meaning.specs.declared.ends.Part.TheVariants as part
-use Rattle.dp_meaning.specs.MachineState.{part_from, part_of}
-use Rattle.dp_semantics.specs.Told.{stores_of, with_stores}
-use Rattle.dp_meaning.specs.Runnable.{is_inside}
+use Rattle.dp_tree.specs.declared.Stmt.TheOpen.{Assign, Store, Print, If, While, Region, Break, Call}
+use Rattle.dp_tree.proofs.Heads.{taken}
 use Rattle.dp_meaning.proofs.OuterLemmas.{both, all_inside, inside_at, inside_out}
 use Rattle.dp_meaning.proofs.ClearLemmas.{cleared_twice}
 
@@ -111,10 +101,10 @@ standing_at p [] r cells e = absurd (cc)
 standing_at p (x ∷ xs) r cells e = (number_of (out-Stmt x) r e).1 p cells
 
 -- a region's locals stay cleared
-pub cleared_still : (p : Program) (xs : List Stmt) (r : ℕ) (c : Config) (cells : List ℤ) → part_of xs ≡ part.Region r → c ≡ standing p xs cells → cleared_leaving p xs c.cells ≡ c.cells
+pub cleared_still : (p : Program) (xs : List Stmt) (r : ℕ) (c : Config) (cells : List ℤ) → part_of xs ≡ part.Region r → c ≡ standing p xs cells → clear_locals r p.vars c.cells ≡ c.cells
 cleared_still p xs r c cells e is =
     let here : c.cells ≡ clear_locals r p.vars cells = ap (λ (d : Config). d.cells) is ∙ standing_at p xs r cells e in
-    leaving_at p xs r c.cells e ∙ ap (clear_locals r p.vars) here ∙ cleared_twice r p.vars cells ∙ sym here
+    ap (clear_locals r p.vars) here ∙ cleared_twice r p.vars cells ∙ sym here
 
 -- a memory at a plain statement is not cleared
 pub standing_plain : (p : Program) (xs : List Stmt) (cells : List ℤ) → part_of xs ≡ part.Plain → (standing p xs cells).cells ≡ cells

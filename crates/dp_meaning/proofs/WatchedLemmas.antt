@@ -1,26 +1,11 @@
 -- What a watched step is of the run.
-use Rattle.std.proofs.Common.{◌≡◌, ◌≢◌, refl, sym, ◌∙◌, ap, subst, append-nil, append_assoc, ℕ, zero, suc, ◌<◌, Bool, false, true, List, [], ◌∷◌, ◌++◌, ℤ, arith}
-use Rattle.dp_base.specs.declared.End.{End}
-use Rattle.dp_base.specs.declared.End.TheVariants as how
-use Rattle.dp_base.specs.declared.Fault.{Fault}
-use Rattle.dp_base.specs.declared.SiteId.{SiteId}
-use Rattle.dp_tree.specs.declared.Stmt.{Stmt, out-Stmt}
-use Rattle.dp_tree.specs.declared.Stmt.TheOpen.{Stmt-F, Assign, Store, Print, If, While, Region, Break, Call}
-use Rattle.dp_tree.specs.declared.Program.{Program}
-use Rattle.dp_tree.specs.Eval.{Load}
-use Rattle.dp_tree.specs.Event as event
-use Rattle.dp_tree.specs.Step.{Config, Step, Faulted, step}
-use Rattle.dp_tree.specs.Trace.{Run, run_of, ended, prints}
-use Rattle.dp_engine.specs.Evaluating.{Told}
+use Rattle.dp_meaning.proofs.Names.{◌≡◌, ◌≢◌, refl, sym, ◌∙◌, ap, subst, append-nil, append_assoc, ℕ, zero, suc, ◌<◌, Bool, false, true, List, [], ◌∷◌, ◌++◌, ℤ, arith, End, Fault, SiteId, Stmt, out-Stmt, Stmt-F, Program, Load, Config, Step, Faulted, step, Run, run_of, ended, prints, Told, Loads, Seen, Turn, MachineState, fuel_left, rest_of_run, part_from, part_of, TurnTaken, notes, cells_of, effect_seen, effect_prints, sight_prints, Tells, Ends, WatchSpoiled, WatchedStep}
 use Rattle.dp_meaning.specs.declared.ends.Part.TheVariants as part
-use Rattle.dp_meaning.specs.declared.loads.Loads.{Loads}
-use Rattle.dp_meaning.specs.declared.sight.Effect.{Effect as Seen}
-use Rattle.dp_meaning.specs.declared.sight.Sight.TheVariants as sight
-use Rattle.dp_meaning.specs.declared.turn.Turn.{Turn}
 use Rattle.dp_meaning.specs.declared.turn.Turn.TheVariants as turn
-use Rattle.dp_meaning.specs.MachineState.{MachineState, fuel_left, rest_of_run, part_from, part_of}
-use Rattle.dp_meaning.specs.Turn.{TurnTaken}
-use Rattle.dp_meaning.specs.Watched.{notes, cells_of, effect_seen, effect_prints, sight_prints, Tells, Ends, WatchSpoiled, WatchedStep}
+use Rattle.dp_base.specs.declared.End.TheVariants as how
+use Rattle.dp_tree.specs.declared.Stmt.TheOpen.{Assign, Store, Print, If, While, Region, Break, Call}
+use Rattle.dp_tree.specs.Event as event
+use Rattle.dp_meaning.specs.declared.sight.Sight.TheVariants as sight
 use Rattle.dp_meaning.proofs.MovedLemmas.{moved_none, moved_step}
 use Rattle.dp_meaning.proofs.StopLemmas.{spent_fuel, faults_next}
 

@@ -1,16 +1,8 @@
 -- A call of `iterate` has one answer: the machine before it settles the machine after it, the prints and the end.
-use Rattle.std.proofs.Common.{◌≡◌, refl, sym, ◌∙◌, ap, subst, ◌⊎◌, inl, inr, Option, None, Some, ℕ, ◌<◌, ◌≤◌, Bool, true, false, ◌||◌, List, [], ◌∷◌, ◌++◌, length, ℤ, arith}
-use Rattle.std.proofs.lemmas.List.Elements.{All-head}
-use Rattle.dp_tree.specs.Step.{Config, Event}
-use Rattle.dp_tree.specs.Trace.{Run}
-use Rattle.dp_tree.specs.Iteration.{decides_zero, is_leaving}
-use Rattle.std.specs.List.{list_any}
-use Rattle.dp_meaning.specs.declared.ends.Part.{Part}
+use Rattle.dp_meaning.proofs.Names.{◌≡◌, refl, sym, ◌∙◌, ap, subst, ◌⊎◌, inl, inr, Option, None, Some, ℕ, ◌<◌, ◌≤◌, Bool, true, false, ◌||◌, List, [], ◌∷◌, ◌++◌, length, ℤ, arith, All-head, Config, Event, Run, decides_zero, is_leaving, list_any, Part, MachineState, part_of, rest_of_run, IterationRun, IterationStops, HeadsOnce, Awaits, GoesOn, StartsAgain, has_closed, upto_closing, current_after}
 use Rattle.dp_meaning.specs.declared.ends.Part.TheVariants as part
 use Rattle.dp_meaning.specs.declared.ends.IterEnd.{IterEnd}
 use Rattle.dp_meaning.specs.declared.ends.IterEnd.TheVariants.{Next, Closed, Fault, Fuel, Going}
-use Rattle.dp_meaning.specs.MachineState.{MachineState, part_of, rest_of_run}
-use Rattle.dp_meaning.specs.IterationRun.{IterationRun, IterationStops, HeadsOnce, Awaits, GoesOn, StartsAgain, has_closed, upto_closing, current_after}
 use Rattle.dp_meaning.proofs.NextLemmas.{upto_front, last_front}
 use Rattle.dp_meaning.proofs.rows.PartAnswers.{no_event}
 use Rattle.dp_meaning.proofs.rows.Stretches.{Further, further, alike, same_prints, same_but, same_machine, behind_all, order}
@@ -47,7 +39,7 @@ closed_front None (e ∷ es) more h = by (decides_zero e.effect) refl
 
 closing_front : (current : Option ℕ) (es more : List Event) → has_closed current es ≡ true → upto_closing current es ≡ es → upto_closing current (es ++ more) ≡ es
 closing_front (Some r) es more c h = upto_front es more c ∙ h
-closing_front None es more c h = last_front es more c h
+closing_front None es more c h = last_front es more c ∙ h
 
 longer : (current : Option ℕ) (es fs more : List Event) → has_closed current es ≡ true → upto_closing current es ≡ es → fs ≡ es ++ more → upto_closing current fs ≡ fs → length es < length fs → ⊥
 longer current es fs more c h is last less =

@@ -1,14 +1,6 @@
 -- A call of `run_part` has one answer: the machine before it settles the machine after it, the prints and the end.
-use Rattle.std.proofs.Common.{◌≡◌, refl, sym, ◌∙◌, ap, subst, inl, inr, None, ℕ, ◌<◌, List, ◌∷◌, length, All, ℤ, arith}
-use Rattle.std.proofs.lemmas.List.Elements.{All-head}
-use Rattle.dp_base.specs.declared.End.{End}
-use Rattle.dp_tree.specs.Step.{Config}
-use Rattle.dp_tree.specs.Trace.{Run, ended}
-use Rattle.dp_meaning.specs.declared.ends.Part.TheVariants.{Plain}
-use Rattle.dp_meaning.specs.declared.ends.PartEnd.{PartEnd}
+use Rattle.dp_meaning.proofs.Names.{◌≡◌, refl, sym, ◌∙◌, ap, subst, inl, inr, None, ℕ, ◌<◌, List, ◌∷◌, length, All, ℤ, arith, All-head, End, Config, Run, ended, Plain, PartEnd, MachineState, part_of, rest_of_run, PartRun, PartStops}
 use Rattle.dp_meaning.specs.declared.ends.PartEnd.TheVariants.{Done, Fault, Fuel, Going}
-use Rattle.dp_meaning.specs.MachineState.{MachineState, part_of, rest_of_run}
-use Rattle.dp_meaning.specs.PartRun.{PartRun, PartStops}
 use Rattle.dp_meaning.proofs.StopLemmas.{part_idle}
 use Rattle.dp_meaning.proofs.rows.Stretches.{further, alike, same_prints, same_but, same_machine, behind_all, order}
 

@@ -1,11 +1,5 @@
 -- Two stretches of steps from one machine on: the longer one goes on where the shorter one stops.
-use Rattle.std.proofs.Common.{◌≡◌, refl, sym, ◌∙◌, ap, subst, ◌⊎◌, inl, inr, ℕ, zero, suc, ◌+◌, ◌-◌, ◌<◌, ◌≤◌, Bool, Option, List, [], ◌∷◌, ◌++◌, append-nil, length, length-append, All, ℤ, arith}
-use Rattle.std.proofs.lemmas.List.Elements.{All-tail}
-use Rattle.dp_tree.specs.declared.Program.{Program}
-use Rattle.dp_tree.specs.Step.{Config, Event, Step, Finished, Faulted, Stepped, step}
-use Rattle.dp_tree.specs.Trace.{Run, run_of, run_by, prints}
-use Rattle.dp_meaning.specs.MachineState.{MachineState, rest_of_run}
-use Rattle.dp_meaning.specs.Moved.{Moved}
+use Rattle.dp_meaning.proofs.Names.{◌≡◌, refl, sym, ◌∙◌, ap, subst, ◌⊎◌, inl, inr, ℕ, zero, suc, ◌+◌, ◌-◌, ◌<◌, ◌≤◌, Bool, Option, List, [], ◌∷◌, ◌++◌, append-nil, length, length-append, All, ℤ, arith, All-tail, Program, Config, Event, Step, Finished, Faulted, Stepped, step, Run, run_of, run_by, prints, MachineState, rest_of_run, Moved}
 
 -- one front of a list, and a longer one or the same
 record Fronts {X : Type 0} (front longer rest further : List X) : Type 0 where

@@ -1,13 +1,8 @@
 -- Each answer of a watched step.
-use Rattle.std.proofs.Common.{rules, ◌≡◌, ◌≢◌, ◌<◌, sym, ap, subst, true, false, arith}
+use Rattle.dp_meaning.proofs.Names.{rules, ◌≡◌, ◌≢◌, ◌<◌, sym, ap, subst, true, false, arith, Loads, TurnTaken, rest_at, MachineState, part_of, WatchSpoiled}
+use Rattle.dp_meaning.specs.declared.turn.Turn.TheVariants as turn
 use Rattle.dp_memory.proofs.Held.{on_err}
 use Rattle.dp_meaning.specs.declared.ends.Part.TheVariants.{Finished}
-use Rattle.dp_meaning.specs.declared.loads.Loads.{Loads}
-use Rattle.dp_meaning.specs.declared.turn.Turn.TheVariants as turn
-use Rattle.dp_meaning.specs.Turn.{TurnTaken}
-use Rattle.dp_meaning.specs.Places.{rest_at}
-use Rattle.dp_meaning.specs.MachineState.{MachineState, part_of}
-use Rattle.dp_meaning.specs.Watched.{WatchSpoiled}
 use Rattle.dp_meaning.proofs.WatchedLemmas.{nothing_left, ends_fuel, faulted_so, stepped_so, step_printed, step_unmade, step_untold}
 use Rattle.dp_meaning.proofs.machine.Machine.watch_next.Goals as goal
 
