@@ -1,5 +1,6 @@
 -- The next iteration of a machine's run, from the pieces of the run.
 use Rattle.dp_meaning.proofs.Names.{◌≡◌, refl, sym, ap, ◌∙◌, ℕ, zero, suc, ◌+◌, ◌-◌, ◌<◌, ◌==◌, Bool, true, false, ◌||◌, if◌then◌else◌, List, [], ◌∷◌, ◌++◌, take, drop, length, All, Option, Some, None, is_some, slice_get, ℤ, eq-eqb, append-nil, arith, list_any, take-append_seam, All-head, All-tail, Program, Stmt, out-Stmt, Stmt-F, Config, Event, Step, Finished, Faulted, Stepped, step, Run, run_by, is_region, begins_with, stands_at_head, places, start, decides_zero, is_leaving, upto_leaving, last_events, closes, events_from, iteration, has_ended, is_closing, Part, part_from, part_of}
+use Rattle.std.proofs.lemmas.Bool.{or_parts}
 unfoldable use Rattle.dp_meaning.proofs.Names.{run_of}
 use Rattle.dp_meaning.specs.declared.ends.Part.TheVariants as part
 use Rattle.dp_tree.specs.declared.Stmt.TheOpen.{Region}
@@ -45,15 +46,11 @@ places_off r k (c ∷ configs) more h =
     meet r k c (configs ++ more) false (off_plain r c (All-head IsPlain c configs h)) ∙ places_off r (suc k) configs more (All-tail IsPlain c configs h)
     ∙ (let same : suc k + length configs ≡ k + suc (length configs) = omega arith in ap (λ (i : ℕ). places (stands_at_head r) i more) same)
 
-neither : (a b : Bool) → (a || b) ≡ false → (a ≡ false) × (b ≡ false)
-neither true b e = absurd (cc)
-neither false b e = (refl, e)
-
 -- events of which none leaves are all of them, and those up to one that leaves stay so with others behind
 upto_all : (es : List Event) → list_any is_leaving es ≡ false → upto_leaving es ≡ es
 upto_all [] h = refl
 upto_all (e ∷ es) h =
-    let r = neither (is_leaving e) (list_any is_leaving es) h in
+    let r = or_parts (is_leaving e) (list_any is_leaving es) h in
     ap (λ (b : Bool). e ∷ (if b then [] else upto_leaving es)) r.0 ∙ ap (λ (xs : List Event). e ∷ xs) (upto_all es r.1)
 
 pub upto_front : (es more : List Event) → list_any is_leaving es ≡ true → upto_leaving (es ++ more) ≡ upto_leaving es
@@ -75,7 +72,7 @@ last_front (e ∷ es) more c = by (decides_zero e.effect) c
 last_open : (es : List Event) → closes es ≡ false → last_events es ≡ es
 last_open [] h = refl
 last_open (e ∷ es) h =
-    let r = neither (decides_zero e.effect) (list_any is_leaving (e ∷ es)) h in
+    let r = or_parts (decides_zero e.effect) (list_any is_leaving (e ∷ es)) h in
     ap (λ (b : Bool). if b then e ∷ [] else upto_leaving (e ∷ es)) r.0 ∙ upto_all (e ∷ es) r.1
 
 -- A run that begins at its region, with the configurations of an iteration first.

@@ -29,15 +29,11 @@ mutual
   unfolding rests_of rests_in
 
   numbers_of : (s : Stmt) (behind : List Stmt) → map first_number (rests_of s behind) ≡ site_numbers s
-  numbers_of (Assign site x e) behind = refl
-  numbers_of (Store site x index e) behind = refl
-  numbers_of (Print site e) behind = refl
   numbers_of (If' site cond i a j b) behind =
       ap (λ ns. site.0 ∷ ns) (numbers-append (rests_in a behind) (rests_in b behind) ∙ ap (λ ns. ns ++ map first_number (rests_in b behind)) (numbers_in a behind) ∙ ap (λ ns. site_numbers_in a ++ ns) (numbers_in b behind))
   numbers_of (While' site cond i a) behind = ap (λ ns. site.0 ∷ ns) (numbers_in a (While' site cond i a ∷ behind))
   numbers_of (Region' r site cond i a) behind = ap (λ ns. site.0 ∷ ns) (numbers_in a (Region' r site cond i a ∷ behind))
-  numbers_of (Break site cond) behind = refl
-  numbers_of (Call f line args) behind = refl
+  numbers_of _ behind = refl
 
   numbers_in : {n : _} (xs : Row_of-Stmt n) (behind : List Stmt) → map first_number (rests_in xs behind) ≡ site_numbers_in xs
   numbers_in end_of-Stmt behind = refl

@@ -1,19 +1,15 @@
 -- The memory after the steps of an iteration.
-use Rattle.dp_meaning.proofs.Names.{◌≡◌, refl, sym, ap, ◌∙◌, subst, ℕ, Bool, true, false, not, if◌then◌else◌, IsTrue, List, [], ◌∷◌, ◌++◌, drop, ℤ, Option, None, Some, is_zero, Stmt, out-Stmt, Stmt-F, Program, Effect, Stored, Printed, Decided, Tried, Event, value_of, stored, Config, Stepped, step, step_from, standing, stored_by, after_effect, region_number, clear_one, clear_locals, cleared_leaving, cleared_at, leaves, stepped, not_stepped, next_at, part_from, part_of, stores_of, with_stores, is_inside}
+use Rattle.dp_meaning.proofs.Names.{and_true, ◌≡◌, refl, sym, ap, ◌∙◌, subst, ℕ, Bool, true, false, not, if◌then◌else◌, IsTrue, List, [], ◌∷◌, ◌++◌, drop, ℤ, Option, None, Some, is_zero, Stmt, out-Stmt, Stmt-F, Program, Effect, Stored, Printed, Decided, Tried, Event, value_of, stored, Config, Stepped, step, step_from, standing, stored_by, after_effect, region_number, clear_one, clear_locals, cleared_leaving, cleared_at, leaves, stepped, not_stepped, next_at, part_from, part_of, stores_of, with_stores, is_inside}
 use Rattle.dp_meaning.specs.declared.ends.Part.TheVariants as part
 use Rattle.dp_tree.specs.declared.Stmt.TheOpen.{Assign, Store, Print, If, While, Region, Break, Call}
 use Rattle.dp_tree.proofs.Heads.{taken}
-use Rattle.dp_meaning.proofs.OuterLemmas.{both, all_inside, inside_at, inside_out}
+use Rattle.dp_meaning.proofs.OuterLemmas.{all_inside, inside_no_region}
 use Rattle.dp_meaning.proofs.ClearLemmas.{cleared_twice}
 
 -- the memory after these events
 abbrev pub after_events : List Event → List ℤ → List ℤ
 after_events [] cells = cells
 after_events (e ∷ rest) cells = after_events rest (stored e.effect cells)
-
-pub after_more : (es : List Event) (event : Event) (cells : List ℤ) → after_events (es ++ event ∷ []) cells ≡ stored event.effect (after_events es cells)
-after_more [] event cells = refl
-after_more (e ∷ es) event cells = after_more es event (stored e.effect cells)
 
 -- an event's store is the change that it makes
 pub stores_are_changes : (events : List Event) (cells : List ℤ) → with_stores (stores_of events) cells ≡ after_events events cells
@@ -22,9 +18,7 @@ stores_are_changes (e ∷ events) cells = by e.effect (λ next. stores_are_chang
   where
     by : (effect : Effect) → ((next : List ℤ) → with_stores (stores_of events) next ≡ after_events events next) → with_stores (stores_of (record e { effect = effect } ∷ events)) cells ≡ after_events events (stored effect cells)
     by (Stored c v) go = go (stored (Stored c v) cells)
-    by (Printed v) go = go cells
-    by (Decided v) go = go cells
-    by (Tried v) go = go cells
+    by _ go = go cells
 
 kept_by : (p : Program) (rest : List Stmt) (h : Stmt-F Stmt) (effect : Effect) (cells : List ℤ) → taken h (value_of effect) ≡ false → stored_by p rest h effect cells ≡ stored effect cells
 kept_by p rest (Break site cond) effect cells t = by (is_zero (value_of effect)) t
@@ -68,28 +62,15 @@ module _ (p : Program) (input : List ℤ) (c d : Config) (event : Event) (s : st
           (left_by p rest (out-Stmt x) event.effect c.cells (sym (stepped p input c x rest event d e s).left ∙ breaks) ∙ ap (λ (xs : List Stmt). cleared_leaving p (drop 1 xs) (stored event.effect c.cells)) (sym e))
 
 -- behind a body's statements the next region is the same
-no_number : (h : Stmt-F Stmt) → IsTrue (inside_at h) → region_number h ≡ None
-no_number (Region r site cond a) k = absurd (cc)
-no_number _ k = refl
-
-abbrev True : Bool → Type 0
-True b = IsTrue b
-
 pub leaving_append : (p : Program) (front behind : List Stmt) (cells : List ℤ) → IsTrue (all_inside front) → cleared_leaving p (front ++ behind) cells ≡ cleared_leaving p behind cells
 leaving_append p [] behind cells h = refl
 leaving_append p (x ∷ front) behind cells h =
-    let r = both (is_inside x) (all_inside front) h in
-    ap (λ (o : Option ℕ). clear_one p o cells (cleared_leaving p (front ++ behind) cells)) (no_number (out-Stmt x) (subst True (inside_out x) r.0)) ∙ leaving_append p front behind cells r.1
+    let r = and_true (is_inside x) (all_inside front) h in
+    ap (λ (o : Option ℕ). clear_one p o cells (cleared_leaving p (front ++ behind) cells)) (inside_no_region x r.0).2 ∙ leaving_append p front behind cells r.1
 
 number_of : (h : Stmt-F Stmt) (r : ℕ) → part_from h ≡ part.Region r → (region_number h ≡ Some r) × ((p : Program) (cells : List ℤ) → cleared_at p h cells ≡ clear_locals r p.vars cells)
 number_of (Region q site cond a) r e = let same : q ≡ r = cc in (ap Some same, λ p cells. ap (λ (k : ℕ). clear_locals k p.vars cells) same)
-number_of (Assign site x v) r e = absurd (cc)
-number_of (Store site x i v) r e = absurd (cc)
-number_of (Print site v) r e = absurd (cc)
-number_of (If site v a b) r e = absurd (cc)
-number_of (While site v a) r e = absurd (cc)
-number_of (Break site v) r e = absurd (cc)
-number_of (Call f line args) r e = absurd (cc)
+number_of _ r e = absurd (cc)
 
 -- where a region is next
 pub leaving_at : (p : Program) (xs : List Stmt) (r : ℕ) (cells : List ℤ) → part_of xs ≡ part.Region r → cleared_leaving p xs cells ≡ clear_locals r p.vars cells
@@ -105,12 +86,3 @@ pub cleared_still : (p : Program) (xs : List Stmt) (r : ℕ) (c : Config) (cells
 cleared_still p xs r c cells e is =
     let here : c.cells ≡ clear_locals r p.vars cells = ap (λ (d : Config). d.cells) is ∙ standing_at p xs r cells e in
     ap (clear_locals r p.vars) here ∙ cleared_twice r p.vars cells ∙ sym here
-
--- a memory at a plain statement is not cleared
-pub standing_plain : (p : Program) (xs : List Stmt) (cells : List ℤ) → part_of xs ≡ part.Plain → (standing p xs cells).cells ≡ cells
-standing_plain p [] cells e = absurd (cc)
-standing_plain p (x ∷ xs) cells e = by (out-Stmt x) e
-  where
-    by : (h : Stmt-F Stmt) → part_from h ≡ part.Plain → cleared_at p h cells ≡ cells
-    by (Region q site cond a) k = absurd (cc)
-    by _ k = refl

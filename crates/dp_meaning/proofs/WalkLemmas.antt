@@ -1,5 +1,5 @@
 -- The steps of an iteration up to its end, or to where the run ends in it, and the memory that they leave.
-use Rattle.dp_meaning.proofs.Names.{inl, inr, Fault, ◌||◌, list_any, is_leaving, ◌≡◌, ◌≢◌, refl, sym, ◌∙◌, ap, subst, ℕ, zero, suc, ◌+◌, ◌<◌, Bool, true, false, if◌then◌else◌, IsTrue, Option, None, Some, List, [], ◌∷◌, ◌++◌, drop, length, ℤ, All, arith, All-nil, All-cons, cases_Bool, End, SiteId, Program, Stmt, Config, Event, Effect, Stored, Printed, Decided, Tried, stored, Step, Finished, Faulted, Stepped, step, standing, clear_locals, cleared_leaving, end_at, ended, Run, run_by, prints, decides_zero, leaves, Part, MachineState, fuel_left, rest_of_run, part_of, part_at, next_part, end_of, is_inside, IsSound, UnderWay, Made, StepTaken, leaves_region, current_behind, effect_seen}
+use Rattle.dp_meaning.proofs.Names.{and_true, inl, inr, Fault, ◌||◌, list_any, is_leaving, ◌≡◌, ◌≢◌, refl, sym, ◌∙◌, ap, subst, ℕ, zero, suc, ◌+◌, ◌<◌, Bool, true, false, if◌then◌else◌, IsTrue, Option, None, Some, List, [], ◌∷◌, ◌++◌, drop, length, ℤ, All, arith, All-nil, All-cons, cases_Bool, End, SiteId, Program, Stmt, Config, Event, Effect, Stored, Printed, Decided, Tried, stored, Step, Finished, Faulted, Stepped, step, standing, clear_locals, cleared_leaving, end_at, ended, Run, run_by, prints, decides_zero, leaves, Part, MachineState, fuel_left, rest_of_run, part_of, part_at, next_part, end_of, is_inside, IsSound, UnderWay, Made, StepTaken, leaves_region, current_behind, effect_seen}
 unfoldable use Rattle.dp_meaning.proofs.Names.{run_of}
 use Rattle.dp_base.specs.declared.End.TheVariants as how
 use Rattle.dp_meaning.specs.declared.ends.Part.TheVariants as part
@@ -7,9 +7,10 @@ use Rattle.dp_meaning.specs.declared.ends.IterEnd.TheVariants as end
 use Rattle.dp_meaning.specs.declared.turn.Turn.TheVariants as turn
 use Rattle.dp_meaning.specs.Stretch.{has_left, Stretch}
 use Rattle.dp_meaning.proofs.MovedLemmas.{moved_step}
-use Rattle.dp_meaning.proofs.OuterLemmas.{both, all_inside}
+use Rattle.dp_meaning.proofs.OuterLemmas.{all_inside}
+use Rattle.dp_meaning.proofs.PlainLemmas.{standing_plain}
 use Rattle.dp_meaning.proofs.ShapeLemmas.{not_plain}
-use Rattle.dp_meaning.proofs.SkipLemmas.{after_events, memory_kept, memory_left, leaving_append, leaving_at, standing_plain}
+use Rattle.dp_meaning.proofs.SkipLemmas.{after_events, memory_kept, memory_left, leaving_append, leaving_at}
 use Rattle.dp_meaning.proofs.StretchLemmas.{IsPlain, none_left, now_left, starts_unfinished, closes_now, ends_now, one_more, events_closed, events_ended, events_more, part_kept}
 use Rattle.dp_meaning.proofs.TurnLemmas.{stepped_to, taken}
 
@@ -68,7 +69,7 @@ module _ (region : ℕ) where
 
       by : (front : List Stmt) → xs ≡ front ++ w.behind → IsTrue (all_inside front) → cleared_leaving p (drop 1 xs) cells ≡ clear_locals region p.vars cells
       by [] f h = absurd (not_plain (part_of xs) r (ap part_of f ∙ w.next) w.first)
-      by (x ∷ front) f h = ap (λ (ys : List Stmt). cleared_leaving p (drop 1 ys) cells) f ∙ leaving_append p front w.behind cells (both (is_inside x) (all_inside front) h).1 ∙ leaving_at p w.behind region cells (w.next ∙ ap part.Region same)
+      by (x ∷ front) f h = ap (λ (ys : List Stmt). cleared_leaving p (drop 1 ys) cells) f ∙ leaving_append p front w.behind cells (and_true (is_inside x) (all_inside front) h).1 ∙ leaving_at p w.behind region cells (w.next ∙ ap part.Region same)
 
   at_condition : (o : Option ℕ) (xs : List Stmt) (r : ℕ) → UnderWay o xs → part_at o xs ≡ part.Region region → part_of xs ≡ part.Region r → part_of xs ≡ part.Region region
   at_condition None xs r u e h = e
@@ -133,7 +134,7 @@ module _ (region : ℕ) where
     -- a plain statement is next, and this comes after it
     further : (e : left ≡ false) (plain : part_of d.to_do ≡ part.Plain) → Outcome k n y → Outcome (suc k) m out
     further e plain (ends closing w) =
-        let cells : n.config.cells ≡ stored s.event.effect m.config.cells = ap (λ (c : Config). c.cells) (kept_memory e) ∙ standing_plain m.program d.to_do (stored s.event.effect m.config.cells) plain in
+        let cells : n.config.cells ≡ stored s.event.effect m.config.cells = ap (λ (c : Config). c.cells) (kept_memory e) ∙ ap (λ (c : Config). c.cells) (standing_plain m.program d.to_do (stored s.event.effect m.config.cells) plain) in
         ends closing (record {
           new = w.new;
           after = w.after;

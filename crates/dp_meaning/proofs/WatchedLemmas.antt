@@ -22,14 +22,8 @@ part_finished [] e = refl
 part_finished (s ∷ rest) e = absurd (by (out-Stmt s) e)
   where
     by : (h : Stmt-F Stmt) → part_from h ≡ part.Finished → ⊥
-    by (Assign site x v) e = cc e
-    by (Store site x index v) e = cc e
-    by (Print site v) e = cc e
-    by (If site cond a b) e = cc e
-    by (While site cond a) e = cc e
     by (Region r site cond a) e = cc e
-    by (Break site cond) e = cc e
-    by (Call f line args) e = cc e
+    by _ e = cc e
 
 done_run : (p : Program) (input cells : List ℤ) (n : ℕ) → run_of p input n (record { to_do = []; cells = cells }) ≡ ended n (record { to_do = []; cells = cells }) how.Done
 unfolding run_of
@@ -71,9 +65,7 @@ stepped_so m new left site seen before after old loads less (taken, shows) tells
 -- an event prints what its effect is seen to print
 effect_printed : (site : ℕ) (loads : List Load) (f : event.Effect) → prints (record { site = site; loads = loads; effect = f } ∷ []) ≡ effect_prints (effect_seen f)
 effect_printed site loads (event.Stored cell value) = refl
-effect_printed site loads (event.Printed value) = refl
-effect_printed site loads (event.Decided value) = refl
-effect_printed site loads (event.Tried value) = refl
+effect_printed site loads _ = refl
 
 pub step_printed : (m new : MachineState) (left : Bool) (site : SiteId) (seen : Seen) (before after : List ℤ) → TurnTaken (turn.Made left site seen) m new before after → after ≡ before ++ sight_prints (sight.Step site seen)
 step_printed m new left site seen before after (taken, shows) =

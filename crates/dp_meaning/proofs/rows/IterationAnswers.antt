@@ -4,11 +4,9 @@ use Rattle.dp_meaning.specs.declared.ends.Part.TheVariants as part
 use Rattle.dp_meaning.specs.declared.ends.IterEnd.{IterEnd}
 use Rattle.dp_meaning.specs.declared.ends.IterEnd.TheVariants.{Next, Closed, Fault, Fuel, Going}
 use Rattle.dp_meaning.proofs.NextLemmas.{upto_front, last_front}
+use Rattle.dp_meaning.proofs.StretchLemmas.{IsPlain}
 use Rattle.dp_meaning.proofs.rows.PartAnswers.{no_event}
 use Rattle.dp_meaning.proofs.rows.Stretches.{Further, further, alike, same_prints, same_but, same_machine, behind_all, order}
-
-abbrev IsPlain : Config → Type 0
-IsPlain c = part_of c.to_do ≡ part.Plain
 
 clash : (p : Part) (r : ℕ) → p ≡ part.Region r → p ≡ part.Plain → ⊥
 clash p r e f = absurd (cc)
@@ -51,9 +49,7 @@ module _ (region turns : ℕ) (old : MachineState) (before : List ℤ) where
   last_step : (b : MachineState) (fs : List Event) (how : IterEnd) → IterationStops region turns old b fs how → (has_closed old.current fs ≡ false) ⊎ (upto_closing old.current fs ≡ fs)
   last_step b fs Next s = inl s.not_closed
   last_step b fs Closed s = inr s.last
-  last_step b fs (Fault fault) s = inl s.0.not_closed
-  last_step b fs Fuel s = inl s.0.not_closed
-  last_step b fs Going s = inl s.0.not_closed
+  last_step b fs _ s = inl s.0.not_closed
 
   module _ (a b : MachineState) (es fs : List Event) (cs ds : List Config) (k : Further a es fs cs ds) (heads : HeadsOnce region old.current ds) (paired : length cs ≡ length es) where
     plain_here : (old.current ≡ None → 0 < length es) → IsPlain a.config
@@ -110,36 +106,26 @@ module _ (region turns : ℕ) (old : MachineState) (before : List ℤ) where
     same_end : (end how : IterEnd) → IterationStops region turns old a es end → IterationStops region turns old b es how → end ≡ how
     same_end Next Next r s = refl
     same_end Next Closed r s = absurd (closes_once s.closed r.not_closed)
-    same_end Next (Fault other) r s = absurd (not_again a b es config r s.0)
-    same_end Next Fuel r s = absurd (not_again a b es config r s.0)
-    same_end Next Going r s = absurd (not_again a b es config r s.0)
+    same_end Next _ r s = absurd (not_again a b es config r s.0)
     same_end Closed Next r s = absurd (closes_once r.closed s.not_closed)
     same_end Closed Closed r s = refl
-    same_end Closed (Fault other) r s = absurd (closes_once r.closed s.0.not_closed)
-    same_end Closed Fuel r s = absurd (closes_once r.closed s.0.not_closed)
-    same_end Closed Going r s = absurd (closes_once r.closed s.0.not_closed)
-    same_end (Fault fault) Next r s = absurd (not_again b a es (sym config) s r.0)
-    same_end (Fault fault) Closed r s = absurd (closes_once s.closed r.0.not_closed)
+    same_end Closed _ r s = absurd (closes_once r.closed s.0.not_closed)
     same_end (Fault fault) (Fault other) r s = let k = ap (λ (x : Run). x.end) (sym r.2.ends ∙ rest ∙ s.2.ends) in cc
     same_end (Fault fault) Fuel r s = let less = r.2.within in let all = s.1.spent in let e = steps in let f = fuel in absurd (omega (arith, less, all, e, f))
     same_end (Fault fault) Going r s = let less = r.1 in let all = s.2 in absurd (omega (arith, less, all))
-    same_end Fuel Next r s = absurd (not_again b a es (sym config) s r.0)
-    same_end Fuel Closed r s = absurd (closes_once s.closed r.0.not_closed)
     same_end Fuel (Fault other) r s = let less = s.2.within in let all = r.1.spent in let e = steps in let f = fuel in absurd (omega (arith, less, all, e, f))
     same_end Fuel Fuel r s = refl
     same_end Fuel Going r s = let less = s.1 in let all = r.1.spent in let e = steps in let f = fuel in absurd (omega (arith, less, all, e, f))
-    same_end Going Next r s = absurd (not_again b a es (sym config) s r.0)
-    same_end Going Closed r s = absurd (closes_once s.closed r.0.not_closed)
     same_end Going (Fault other) r s = let less = s.1 in let all = r.2 in absurd (omega (arith, less, all))
     same_end Going Fuel r s = let less = r.1 in let all = s.1.spent in let e = steps in let f = fuel in absurd (omega (arith, less, all, e, f))
     same_end Going Going r s = refl
+    same_end _ Next r s = absurd (not_again b a es (sym config) s r.0)
+    same_end _ Closed r s = absurd (closes_once s.closed r.0.not_closed)
 
     same_current : (end : IterEnd) → IterationStops region turns old a es end → IterationStops region turns old b es end → a.current ≡ b.current
     same_current Next r s = r.current ∙ sym s.current
     same_current Closed r s = r.current ∙ sym s.current
-    same_current (Fault fault) r s = r.0.current ∙ sym s.0.current
-    same_current Fuel r s = r.0.current ∙ sym s.0.current
-    same_current Going r s = r.0.current ∙ sym s.0.current
+    same_current _ r s = r.0.current ∙ sym s.0.current
 
   module _ (a b : MachineState) (y z : List ℤ) (end how : IterEnd) (r : IterationRun region turns old a before y end) (s : IterationRun region turns old b before z how) where
     record OneAnswer : Type 0 where

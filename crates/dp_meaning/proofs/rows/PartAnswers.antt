@@ -2,10 +2,8 @@
 use Rattle.dp_meaning.proofs.Names.{◌≡◌, refl, sym, ◌∙◌, ap, subst, inl, inr, None, ℕ, ◌<◌, List, ◌∷◌, length, All, ℤ, arith, All-head, End, Config, Run, ended, Plain, PartEnd, MachineState, part_of, rest_of_run, PartRun, PartStops}
 use Rattle.dp_meaning.specs.declared.ends.PartEnd.TheVariants.{Done, Fault, Fuel, Going}
 use Rattle.dp_meaning.proofs.StopLemmas.{part_idle}
+use Rattle.dp_meaning.proofs.StretchLemmas.{IsPlain}
 use Rattle.dp_meaning.proofs.rows.Stretches.{further, alike, same_prints, same_but, same_machine, behind_all, order}
-
-abbrev IsPlain : Config → Type 0
-IsPlain c = part_of c.to_do ≡ Plain
 
 -- a run that has ended has no event
 pub no_event : (r : Run) (fuel : ℕ) (c : Config) (how : End) → r ≡ ended fuel c how → 0 < length r.trace → ⊥
@@ -29,20 +27,17 @@ module _ (turns : ℕ) (old : MachineState) (idle : old.current ≡ None) (befor
   same_end : (m : MachineState) (made : ℕ) (end how : PartEnd) → PartStops turns made old m end → PartStops turns made old m how → end ≡ how
   same_end m made Done Done r s = refl
   same_end m made Done (Fault fault) r s = absurd (r.part s.0)
-  same_end m made Done Fuel r s = absurd (r.part s.0)
-  same_end m made Done Going r s = absurd (r.part s.0)
-  same_end m made (Fault fault) Done r s = absurd (s.part r.0)
+  same_end m made Done _ r s = absurd (r.part s.0)
   same_end m made (Fault fault) (Fault other) r s = let k = ap (λ (x : Run). x.end) (sym r.2.ends ∙ s.2.ends) in cc
   same_end m made (Fault fault) Fuel r s = let less = r.2.within in let all = s.1.spent in absurd (omega (arith, less, all))
   same_end m made (Fault fault) Going r s = let less = r.1 in let all = s.2 in absurd (omega (arith, less, all))
-  same_end m made Fuel Done r s = absurd (s.part r.0)
   same_end m made Fuel (Fault other) r s = let less = s.2.within in let all = r.1.spent in absurd (omega (arith, less, all))
   same_end m made Fuel Fuel r s = refl
   same_end m made Fuel Going r s = let less = s.1 in let all = r.1.spent in absurd (omega (arith, less, all))
-  same_end m made Going Done r s = absurd (s.part r.0)
   same_end m made Going (Fault other) r s = let less = s.1 in let all = r.2 in absurd (omega (arith, less, all))
   same_end m made Going Fuel r s = let less = r.1 in let all = s.1.spent in absurd (omega (arith, less, all))
   same_end m made Going Going r s = refl
+  same_end m made _ Done r s = absurd (s.part r.0)
 
   module _ (a b : MachineState) (y z : List ℤ) (end how : PartEnd) (r : PartRun turns old a before y end) (s : PartRun turns old b before z how) where
     record OneAnswer : Type 0 where
