@@ -44,12 +44,8 @@ module _ (s : Stmt) (rest : List Stmt) (z : ℤ) where
     looped : (xs : List Stmt) → simple xs → Keeps (xs ++ s ∷ rest)
     looped xs h = (all_append is_outer xs (s ∷ rest) (all_outer xs h) (and_make (is_outer s) (list_all is_outer rest) here later), from_region-append xs (s ∷ rest) (simple_inside xs h))
 
-    branch : (b : Bool) (xs ys : List Stmt) → simple xs → simple ys → Keeps ((if b then ys else xs) ++ rest)
-    branch true xs ys h k = before ys k
-    branch false xs ys h k = before xs h
-
     pub outer_followed : (h : Stmt-F Stmt) → IsTrue (simple_at h) → Keeps (followed s rest h z)
-    outer_followed (If site cond a b) k = let r = and_true (list_all is_simple a) (list_all is_simple b) k in branch (is_zero z) a b r.0 r.1
+    outer_followed (If site cond a b) k = let r = and_true (list_all is_simple a) (list_all is_simple b) k in chosen (λ (us : List Stmt). Keeps (us ++ rest)) (is_zero z) a b (before a r.0) (before b r.1)
     outer_followed (While site cond a) k = chosen Keeps (is_zero z) (a ++ s ∷ rest) rest (looped a k) kept
     outer_followed (Region r site cond a) k = absurd (cc)
     outer_followed (Break site cond) k = absurd (cc)

@@ -71,19 +71,17 @@ module _ (p : Program) (P : List Stmt → Type 0) (end : ℕ) where
   Fit [] (x ∷ xs) = ⊥
   Fit (n ∷ ns) [] = ⊥
 
-  pub fit_at : (ns : List NodeAt) (xs : List (List Stmt)) (k : ℕ) (n : NodeAt) → Fit ns xs → slice_get ns k ≡ Some n → (x : List Stmt) × (slice_get xs k ≡ Some x) × Leads n x
-  fit_at [] [] k n f e = absurd (cc)
-  fit_at (m ∷ ns) (x ∷ xs) zero n f e = let same : m ≡ n = cc in (x, refl, subst (λ (o : NodeAt). Leads o x) same f.0)
-  fit_at (m ∷ ns) (x ∷ xs) (suc k) n f e = fit_at ns xs k n f.1 e
-  fit_at [] (x ∷ xs) k n f e = absurd f
-  fit_at (m ∷ ns) [] k n f e = absurd f
+  -- what is left to do at an entry's place
+  abbrev pub Finds : Option NodeAt → Option (List Stmt) → Type 0
+  Finds None o = o ≡ None
+  Finds (Some n) o = (x : List Stmt) × (o ≡ Some x) × Leads n x
 
-  pub fit_none : (ns : List NodeAt) (xs : List (List Stmt)) (k : ℕ) → Fit ns xs → slice_get ns k ≡ None → slice_get xs k ≡ None
-  fit_none [] [] k f e = refl
-  fit_none (m ∷ ns) (x ∷ xs) zero f e = absurd (cc)
-  fit_none (m ∷ ns) (x ∷ xs) (suc k) f e = fit_none ns xs k f.1 e
-  fit_none [] (x ∷ xs) k f e = absurd f
-  fit_none (m ∷ ns) [] k f e = absurd f
+  pub fit_at : (ns : List NodeAt) (xs : List (List Stmt)) (k : ℕ) → Fit ns xs → Finds (slice_get ns k) (slice_get xs k)
+  fit_at [] [] k f = refl
+  fit_at (m ∷ ns) (x ∷ xs) zero f = (x, refl, f.0)
+  fit_at (m ∷ ns) (x ∷ xs) (suc k) f = fit_at ns xs k f.1
+  fit_at [] (x ∷ xs) k f = absurd f
+  fit_at (m ∷ ns) [] k f = absurd f
 
   fit-append : (ms ns : List NodeAt) (xs ys : List (List Stmt)) → Fit ms xs → Fit ns ys → Fit (ms ++ ns) (xs ++ ys)
   fit-append [] ns [] ys f g = g
@@ -91,30 +89,20 @@ module _ (p : Program) (P : List Stmt → Type 0) (end : ℕ) where
   fit-append [] ns (x ∷ xs) ys f g = absurd f
   fit-append (m ∷ ms) ns [] ys f g = absurd f
 
-  -- an entry that goes the same way by each value, and one that has two ways
-  straight : (s : Stmt) (after : List Stmt) (r : ℕ) (h : Stmt-F Stmt) → out-Stmt s ≡ h → ((z : ℤ) → followed s after h z ≡ after) → ((site : SiteId) (cond : Expr) → h ≡ layer.Break site cond → ⊥) → P after
-      → Leads (node p s (entry after end) (entry after end) r) (s ∷ after)
-  straight s after r h is same unlike here = record {
+  leads : (s : Stmt) (after : List Stmt) (r : ℕ) (h : Stmt-F Stmt) (next other : ℕ) → out-Stmt s ≡ h → ((z : ℤ) → Goes (node p s next other r) (is_zero z) (followed s after h z))
+      → ((site : SiteId) (cond : Expr) → h ≡ layer.Break site cond → first_region after ≡ Some r) → Leads (node p s next other r) (s ∷ after)
+  leads s after r h next other is to left = record {
     program = refl;
     after = after;
     is = refl;
-    to = λ z. subst (Goes (node p s (entry after end) (entry after end) r) (is_zero z)) (sym (ap (λ (f : Stmt-F Stmt). followed s after f z) is ∙ same z)) (here, by (is_zero z));
-    left = λ site cond e. absurd (unlike site cond (sym is ∙ e));
-  }
-    where
-      by : (b : Bool) → (if b then entry after end else entry after end) ≡ entry after end
-      by true = refl
-      by false = refl
-
-  forked : (s : Stmt) (after one two : List Stmt) (r : ℕ) (h : Stmt-F Stmt) (next other : ℕ) → out-Stmt s ≡ h → ((z : ℤ) → followed s after h z ≡ choose z one two) → ((site : SiteId) (cond : Expr) → h ≡ layer.Break site cond → first_region after ≡ Some r)
-      → P one → P two → next ≡ entry one end → other ≡ entry two end → Leads (node p s next other r) (s ∷ after)
-  forked s after one two r h next other is same left here there e f = record {
-    program = refl;
-    after = after;
-    is = refl;
-    to = λ z. subst (Goes (node p s next other r) (is_zero z)) (sym (ap (λ (f : Stmt-F Stmt). followed s after f z) is ∙ same z)) (by (is_zero z));
+    to = λ z. subst (λ (f : Stmt-F Stmt). Goes (node p s next other r) (is_zero z) (followed s after f z)) (sym is) (to z);
     left = λ site cond at. left site cond (sym is ∙ at);
   }
+
+  -- an entry that has two ways
+  forked : (s : Stmt) (after one two : List Stmt) (r : ℕ) (h : Stmt-F Stmt) (next other : ℕ) → out-Stmt s ≡ h → ((z : ℤ) → followed s after h z ≡ choose z one two) → ((site : SiteId) (cond : Expr) → h ≡ layer.Break site cond → first_region after ≡ Some r)
+      → P one → P two → next ≡ entry one end → other ≡ entry two end → Leads (node p s next other r) (s ∷ after)
+  forked s after one two r h next other is same left here there e f = leads s after r h next other is (λ z. subst (Goes (node p s next other r) (is_zero z)) (sym (same z)) (by (is_zero z))) left
     where
       by : (b : Bool) → Goes (node p s next other r) b (if b then two else one)
       by true = (there, f)
@@ -136,9 +124,15 @@ module _ (p : Program) (P : List Stmt → Type 0) (end : ℕ) where
   simple_listed end_of-Stmt h = refl
   simple_listed (more_of-Stmt s rest) h = let r = and_true (is_simple s) (are_simple rest) h in and_make (is_simple s) (list_all is_simple (listed rest)) r.0 (simple_listed rest r.1)
 
+  -- one that goes the same way by each value
   one_way : (s : Stmt) (after : List Stmt) (r : ℕ) (h : Stmt-F Stmt) → out-Stmt s ≡ h → ((z : ℤ) → followed s after h z ≡ after) → ((site : SiteId) (cond : Expr) → h ≡ layer.Break site cond → ⊥) → P after
       → Fit (node p s (entry after end) (entry after end) r ∷ []) ((s ∷ after) ∷ [])
-  one_way s after r h is same unlike here = (straight s after r h is same unlike here, tt)
+  one_way s after r h is same unlike here =
+      (leads s after r h (entry after end) (entry after end) is (λ z. subst (Goes (node p s (entry after end) (entry after end) r) (is_zero z)) (sym (same z)) (here, by (is_zero z))) (λ site cond e. absurd (unlike site cond e)), tt)
+    where
+      by : (b : Bool) → (if b then entry after end else entry after end) ≡ entry after end
+      by true = refl
+      by false = refl
 
   loop_leads : (s : Stmt) (after body : List Stmt) (r : ℕ) (h : Stmt-F Stmt) → out-Stmt s ≡ h → ((z : ℤ) → followed s after h z ≡ choose z (body ++ s ∷ after) after) → ((site : SiteId) (cond : Expr) → h ≡ layer.Break site cond → ⊥)
       → P (body ++ s ∷ after) → P after → Leads (node p s (entry body (place s)) (entry after end) r) (s ∷ after)

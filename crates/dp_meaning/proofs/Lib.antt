@@ -18,7 +18,6 @@ pub mod MovedLemmas
 pub mod WatchedLemmas
 pub mod StretchLemmas
 pub mod StretchEnds
-pub mod ClearLemmas
 pub mod SkipLemmas
 pub mod WalkLemmas
 pub mod NextLemmas

@@ -1,10 +1,10 @@
 -- The memory after the steps of an iteration.
-use Rattle.dp_meaning.proofs.Names.{and_true, ◌≡◌, refl, sym, ap, ◌∙◌, subst, ℕ, Bool, true, false, not, if◌then◌else◌, IsTrue, List, [], ◌∷◌, ◌++◌, drop, ℤ, Option, None, Some, is_zero, Stmt, out-Stmt, Stmt-F, Program, Effect, Stored, Printed, Decided, Tried, Event, value_of, stored, Config, Stepped, step, step_from, standing, stored_by, after_effect, region_number, clear_one, clear_locals, cleared_leaving, cleared_at, leaves, stepped, not_stepped, next_at, part_from, part_of, stores_of, with_stores, is_inside}
+use Rattle.dp_meaning.proofs.Names.{inl, and_true, ◌≡◌, refl, sym, ap, ◌∙◌, subst, ℕ, Bool, true, false, not, if◌then◌else◌, IsTrue, List, [], ◌∷◌, ◌++◌, drop, ℤ, Option, None, Some, is_zero, Stmt, out-Stmt, Stmt-F, Program, Effect, Stored, Printed, Decided, Tried, Event, value_of, stored, Config, Stepped, step, step_from, standing, stored_by, after_effect, region_number, clear_one, clear_locals, cleared_leaving, cleared_at, leaves, stepped, not_stepped, next_at, part_from, part_of, stores_of, with_stores, is_inside}
+use Rattle.dp_semantics.proofs.Memory.{clear-at, clear-still}
 use Rattle.dp_meaning.specs.declared.ends.Part.TheVariants as part
 use Rattle.dp_tree.specs.declared.Stmt.TheOpen.{Assign, Store, Print, If, While, Region, Break, Call}
 use Rattle.dp_tree.proofs.Heads.{taken}
 use Rattle.dp_meaning.proofs.OuterLemmas.{all_inside, inside_no_region}
-use Rattle.dp_meaning.proofs.ClearLemmas.{cleared_twice}
 
 -- the memory after these events
 abbrev pub after_events : List Event → List ℤ → List ℤ
@@ -20,46 +20,36 @@ stores_are_changes (e ∷ events) cells = by e.effect (λ next. stores_are_chang
     by (Stored c v) go = go (stored (Stored c v) cells)
     by _ go = go cells
 
-kept_by : (p : Program) (rest : List Stmt) (h : Stmt-F Stmt) (effect : Effect) (cells : List ℤ) → taken h (value_of effect) ≡ false → stored_by p rest h effect cells ≡ stored effect cells
-kept_by p rest (Break site cond) effect cells t = by (is_zero (value_of effect)) t
+-- the effect alone changes it, unless a break is taken
+stored_is : (p : Program) (rest : List Stmt) (h : Stmt-F Stmt) (effect : Effect) (cells : List ℤ) → stored_by p rest h effect cells ≡ (if taken h (value_of effect) then cleared_leaving p rest (stored effect cells) else stored effect cells)
+stored_is p rest (Break site cond) effect cells = by (is_zero (value_of effect))
   where
-    by : (b : Bool) → not b ≡ false → (if b then stored effect cells else cleared_leaving p rest (stored effect cells)) ≡ stored effect cells
-    by true e = refl
-    by false e = absurd (cc)
-kept_by p rest _ effect cells t = refl
-
-left_by : (p : Program) (rest : List Stmt) (h : Stmt-F Stmt) (effect : Effect) (cells : List ℤ) → taken h (value_of effect) ≡ true → stored_by p rest h effect cells ≡ cleared_leaving p rest (stored effect cells)
-left_by p rest (Break site cond) effect cells t = by (is_zero (value_of effect)) t
-  where
-    by : (b : Bool) → not b ≡ true → (if b then stored effect cells else cleared_leaving p rest (stored effect cells)) ≡ cleared_leaving p rest (stored effect cells)
-    by true e = absurd (cc)
-    by false e = refl
-left_by p rest _ effect cells t = absurd (cc)
+    by : (b : Bool) → (if b then stored effect cells else cleared_leaving p rest (stored effect cells)) ≡ (if not b then cleared_leaving p rest (stored effect cells) else stored effect cells)
+    by true = refl
+    by false = refl
+stored_is p rest _ effect cells = refl
 
 module _ (p : Program) (input : List ℤ) (c d : Config) (event : Event) (s : step p input c ≡ Stepped event d) where
-  stands : (x : Stmt) (rest : List Stmt) → c.to_do ≡ x ∷ rest → (cells : List ℤ) → stored_by p rest (out-Stmt x) event.effect c.cells ≡ cells → d ≡ standing p d.to_do cells
-  stands x rest e cells is =
-      let st = stepped p input c x rest event d e s in
-      let after : d ≡ after_effect p x rest c.cells (out-Stmt x) event.effect = next_at p input x rest c.cells (out-Stmt x) event d (sym (ap (step_from p input c.cells) e) ∙ s) in
-      after ∙ ap (λ (xs : List Stmt). standing p xs (stored_by p rest (out-Stmt x) event.effect c.cells)) (sym st.to_do) ∙ ap (standing p d.to_do) is
-
-  -- where no break is taken, the effect alone changes it
-  pub memory_kept : leaves event.effect ≡ false → d ≡ standing p d.to_do (stored event.effect c.cells)
-  memory_kept no_break = by c.to_do refl
+  memory_is : d ≡ standing p d.to_do (if leaves event.effect then cleared_leaving p (drop 1 c.to_do) (stored event.effect c.cells) else stored event.effect c.cells)
+  memory_is = by c.to_do refl
     where
-      by : (xs : List Stmt) → c.to_do ≡ xs → d ≡ standing p d.to_do (stored event.effect c.cells)
-      by [] e = not_stepped p input c event d e s
-      by (x ∷ rest) e = stands x rest e (stored event.effect c.cells) (kept_by p rest (out-Stmt x) event.effect c.cells (sym (stepped p input c x rest event d e s).left ∙ no_break))
-
-  -- where one is, the locals of its region are cleared
-  pub memory_left : leaves event.effect ≡ true → d ≡ standing p d.to_do (cleared_leaving p (drop 1 c.to_do) (stored event.effect c.cells))
-  memory_left breaks = by c.to_do refl
-    where
-      by : (xs : List Stmt) → c.to_do ≡ xs → d ≡ standing p d.to_do (cleared_leaving p (drop 1 c.to_do) (stored event.effect c.cells))
+      by : (xs : List Stmt) → c.to_do ≡ xs → d ≡ standing p d.to_do (if leaves event.effect then cleared_leaving p (drop 1 c.to_do) (stored event.effect c.cells) else stored event.effect c.cells)
       by [] e = not_stepped p input c event d e s
       by (x ∷ rest) e =
-          stands x rest e (cleared_leaving p (drop 1 c.to_do) (stored event.effect c.cells))
-          (left_by p rest (out-Stmt x) event.effect c.cells (sym (stepped p input c x rest event d e s).left ∙ breaks) ∙ ap (λ (xs : List Stmt). cleared_leaving p (drop 1 xs) (stored event.effect c.cells)) (sym e))
+          let st = stepped p input c x rest event d e s in
+          next_at p input x rest c.cells (out-Stmt x) event d (sym (ap (step_from p input c.cells) e) ∙ s) ∙ ap (λ (xs : List Stmt). standing p xs (stored_by p rest (out-Stmt x) event.effect c.cells)) (sym st.to_do)
+          ∙ ap (standing p d.to_do) (stored_is p rest (out-Stmt x) event.effect c.cells ∙ ap (λ (b : Bool). if b then cleared_leaving p rest (stored event.effect c.cells) else stored event.effect c.cells) (sym st.left)
+          ∙ ap (λ (xs : List Stmt). if leaves event.effect then cleared_leaving p (drop 1 xs) (stored event.effect c.cells) else stored event.effect c.cells) (sym e))
+
+  abbrev Memory : Bool → Config
+  Memory b = standing p d.to_do (if b then cleared_leaving p (drop 1 c.to_do) (stored event.effect c.cells) else stored event.effect c.cells)
+
+  pub memory_kept : leaves event.effect ≡ false → d ≡ standing p d.to_do (stored event.effect c.cells)
+  memory_kept no_break = memory_is ∙ ap Memory no_break
+
+  -- where a break is taken, the locals of its region are cleared
+  pub memory_left : leaves event.effect ≡ true → d ≡ standing p d.to_do (cleared_leaving p (drop 1 c.to_do) (stored event.effect c.cells))
+  memory_left breaks = memory_is ∙ ap Memory breaks
 
 -- behind a body's statements the next region is the same
 pub leaving_append : (p : Program) (front behind : List Stmt) (cells : List ℤ) → IsTrue (all_inside front) → cleared_leaving p (front ++ behind) cells ≡ cleared_leaving p behind cells
@@ -85,4 +75,4 @@ standing_at p (x ∷ xs) r cells e = (number_of (out-Stmt x) r e).1 p cells
 pub cleared_still : (p : Program) (xs : List Stmt) (r : ℕ) (c : Config) (cells : List ℤ) → part_of xs ≡ part.Region r → c ≡ standing p xs cells → clear_locals r p.vars c.cells ≡ c.cells
 cleared_still p xs r c cells e is =
     let here : c.cells ≡ clear_locals r p.vars cells = ap (λ (d : Config). d.cells) is ∙ standing_at p xs r cells e in
-    ap (clear_locals r p.vars) here ∙ cleared_twice r p.vars cells ∙ sym here
+    ap (clear_locals r p.vars) here ∙ clear-still r p.vars (clear_locals r p.vars cells) (λ c local. clear-at r c p.vars cells (inl local)) ∙ sym here

@@ -11,7 +11,7 @@ use Rattle.dp_meaning.specs.Stretch.{has_left, upto_left, HeadsHere, IsAmid, Str
 use Rattle.dp_meaning.proofs.OuterLemmas.{from_region-append}
 use Rattle.dp_meaning.proofs.ShapeLemmas.{not_plain}
 use Rattle.dp_meaning.proofs.StopLemmas.{from_region-over, part_idle, plain_idle}
-use Rattle.dp_meaning.proofs.StretchLemmas.{IsPlain, all_plain, wanting}
+use Rattle.dp_meaning.proofs.StretchLemmas.{IsPlain, all_plain}
 
 -- a region has a number
 pub some_region : (q : Part) → IsAnyRegion q → (r : ℕ) × (q ≡ part.Region r)
@@ -113,7 +113,3 @@ pub iterated : (region turns : ℕ) (old new : MachineState) (x z : List ℤ) �
     → MatchResult r (IterationRun region turns old new x z) (λ _. Spoiled turns old new x z)
 iterated region turns old new x z u next (Ok how) s = as_iteration region turns old new x z u next how s
 iterated region turns old new x z u next (Err why) s = s
-
--- nothing is done by a machine that was spoiled before
-pub already_spoiled : (turns : ℕ) (m : MachineState) (out : List ℤ) → 0 < turns → m.spoiled ≡ true → Spoiled turns m m out out
-already_spoiled turns m out some h = wanting turns m out m out some (ap (λ (b : Bool). record m { spoiled = b }) h) refl

@@ -1,12 +1,14 @@
 -- A call of `iterate` has one answer: the machine before it settles the machine after it, the prints and the end.
 use Rattle.dp_meaning.proofs.Names.{◌≡◌, refl, sym, ◌∙◌, ap, subst, ◌⊎◌, inl, inr, Option, None, Some, ℕ, ◌<◌, ◌≤◌, Bool, true, false, ◌||◌, List, [], ◌∷◌, ◌++◌, length, ℤ, arith, All-head, Config, Event, Run, decides_zero, is_leaving, list_any, Part, MachineState, part_of, rest_of_run, IterationRun, IterationStops, HeadsOnce, Awaits, GoesOn, StartsAgain, has_closed, upto_closing, current_after}
+use Rattle.std.proofs.lemmas.List.Folds.{list_any-append}
+use Rattle.std.proofs.lemmas.Bool.{cases_order}
 use Rattle.dp_meaning.specs.declared.ends.Part.TheVariants as part
 use Rattle.dp_meaning.specs.declared.ends.IterEnd.{IterEnd}
 use Rattle.dp_meaning.specs.declared.ends.IterEnd.TheVariants.{Next, Closed, Fault, Fuel, Going}
 use Rattle.dp_meaning.proofs.NextLemmas.{upto_front, last_front}
 use Rattle.dp_meaning.proofs.StretchLemmas.{IsPlain}
 use Rattle.dp_meaning.proofs.rows.PartAnswers.{no_event}
-use Rattle.dp_meaning.proofs.rows.Stretches.{Further, further, alike, same_prints, same_but, same_machine, behind_all, order}
+use Rattle.dp_meaning.proofs.rows.Stretches.{Further, further, alike, same_prints, same_but, same_machine, behind_all}
 
 clash : (p : Part) (r : ℕ) → p ≡ part.Region r → p ≡ part.Plain → ⊥
 clash p r e f = absurd (cc)
@@ -19,21 +21,16 @@ plain_behind region None (d ∷ cs) more c h some = All-head IsPlain c more (beh
 
 -- events that have left the region did so with others behind them, and at the same one
 any_front : (es more : List Event) → list_any is_leaving es ≡ true → list_any is_leaving (es ++ more) ≡ true
-any_front [] more h = absurd (cc)
-any_front (e ∷ es) more h = by (is_leaving e) refl (any_front es more)
-  where
-    by : (b : Bool) → is_leaving e ≡ b → (list_any is_leaving es ≡ true → list_any is_leaving (es ++ more) ≡ true) → (is_leaving e || list_any is_leaving (es ++ more)) ≡ true
-    by true k go = ap (λ (b : Bool). b || list_any is_leaving (es ++ more)) k
-    by false k go = ap (λ (b : Bool). b || list_any is_leaving (es ++ more)) k ∙ go (sym (ap (λ (b : Bool). b || list_any is_leaving es) k) ∙ h)
+any_front es more h = list_any-append is_leaving es more ∙ ap (λ (b : Bool). b || list_any is_leaving more) h
 
 closed_front : (current : Option ℕ) (es more : List Event) → has_closed current es ≡ true → has_closed current (es ++ more) ≡ true
 closed_front (Some r) es more h = any_front es more h
 closed_front None [] more h = absurd (cc)
-closed_front None (e ∷ es) more h = by (decides_zero e.effect) refl
+closed_front None (e ∷ es) more h = by (decides_zero e.effect) h
   where
-    by : (b : Bool) → decides_zero e.effect ≡ b → (decides_zero e.effect || list_any is_leaving (e ∷ es ++ more)) ≡ true
-    by true k = ap (λ (b : Bool). b || list_any is_leaving (e ∷ es ++ more)) k
-    by false k = ap (λ (b : Bool). b || list_any is_leaving (e ∷ es ++ more)) k ∙ any_front (e ∷ es) more (sym (ap (λ (b : Bool). b || list_any is_leaving (e ∷ es)) k) ∙ h)
+    by : (b : Bool) → (b || list_any is_leaving (e ∷ es)) ≡ true → (b || list_any is_leaving (e ∷ es ++ more)) ≡ true
+    by true k = refl
+    by false k = any_front (e ∷ es) more k
 
 closing_front : (current : Option ℕ) (es more : List Event) → has_closed current es ≡ true → upto_closing current es ≡ es → upto_closing current (es ++ more) ≡ es
 closing_front (Some r) es more c h = upto_front es more c ∙ h
@@ -147,7 +144,7 @@ module _ (region turns : ℕ) (old : MachineState) (before : List ℤ) where
         }
 
     one_answer : OneAnswer
-    one_answer = elim (order (length r.events) (length s.events)) [
+    one_answer = elim (cases_order (length r.events) (length s.events)) [
       | inl e ↦ as_long e
       | inr (inl h) ↦ absurd (no_further a b y z end how r s h)
       | inr (inr h) ↦ absurd (no_further b a z y how end s r h)

@@ -1,9 +1,10 @@
 -- A call of `run_part` has one answer: the machine before it settles the machine after it, the prints and the end.
 use Rattle.dp_meaning.proofs.Names.{◌≡◌, refl, sym, ◌∙◌, ap, subst, inl, inr, None, ℕ, ◌<◌, List, ◌∷◌, length, All, ℤ, arith, All-head, End, Config, Run, ended, Plain, PartEnd, MachineState, part_of, rest_of_run, PartRun, PartStops}
+use Rattle.std.proofs.lemmas.Bool.{cases_order}
 use Rattle.dp_meaning.specs.declared.ends.PartEnd.TheVariants.{Done, Fault, Fuel, Going}
 use Rattle.dp_meaning.proofs.StopLemmas.{part_idle}
 use Rattle.dp_meaning.proofs.StretchLemmas.{IsPlain}
-use Rattle.dp_meaning.proofs.rows.Stretches.{further, alike, same_prints, same_but, same_machine, behind_all, order}
+use Rattle.dp_meaning.proofs.rows.Stretches.{further, alike, same_prints, same_but, same_machine, behind_all}
 
 -- a run that has ended has no event
 pub no_event : (r : Run) (fuel : ℕ) (c : Config) (how : End) → r ≡ ended fuel c how → 0 < length r.trace → ⊥
@@ -58,7 +59,7 @@ module _ (turns : ℕ) (old : MachineState) (idle : old.current ≡ None) (befor
         }
 
     one_answer : OneAnswer
-    one_answer = elim (order (length r.events) (length s.events)) [
+    one_answer = elim (cases_order (length r.events) (length s.events)) [
       | inl e ↦ as_long e
       | inr (inl h) ↦ absurd (no_further a b y z end how r s h)
       | inr (inr h) ↦ absurd (no_further b a z y how end s r h)

@@ -1,5 +1,6 @@
 use Rattle.dp_meaning.proofs.Names.{◌∙◌, sym, ap, subst, MachineState, UnderWay}
-use Rattle.dp_meaning.proofs.StretchEnds.{iterated, already_spoiled}
+use Rattle.dp_meaning.proofs.StretchLemmas.{already_spoiled}
+use Rattle.dp_meaning.proofs.StretchEnds.{iterated}
 use Rattle.dp_meaning.proofs.machine.Machine.iterate.Goals as goal
 
 pub returns-then-self-clause-runs : goal.returns-then-self-clause-runs

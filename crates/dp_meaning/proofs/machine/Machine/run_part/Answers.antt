@@ -1,6 +1,7 @@
 use Rattle.dp_meaning.proofs.Names.{◌≡◌, ◌∙◌, sym, ap, subst, MachineState, PartRun}
 use Rattle.dp_meaning.specs.declared.ends.PartEnd.{PartEnd}
-use Rattle.dp_meaning.proofs.StretchEnds.{as_part, already_spoiled}
+use Rattle.dp_meaning.proofs.StretchLemmas.{already_spoiled}
+use Rattle.dp_meaning.proofs.StretchEnds.{as_part}
 use Rattle.dp_meaning.proofs.machine.Machine.run_part.Goals as goal
 
 pub returns-then-self-clause-runs : goal.returns-then-self-clause-runs
