@@ -1,14 +1,7 @@
 -- Pieces of a run, one after the other.
-use Rattle.std.proofs.Common.{◌≡◌, refl, sym, ◌∙◌, ap, ℕ, suc, ◌≢◌, zero, List, [], ◌∷◌, ◌++◌, append_assoc, length-append, ℤ, arith}
-use Rattle.dp_base.specs.declared.Fault.{Fault}
-use Rattle.dp_base.specs.declared.End.TheVariants as how
-use Rattle.dp_tree.specs.declared.Stmt.{Stmt}
-use Rattle.dp_tree.specs.declared.Program.{Program}
-use Rattle.dp_tree.specs.Step.{Config, Event, Step, Finished, Faulted, Stepped, step}
-use Rattle.dp_tree.specs.Trace.{Run, run_of, run_by, ended, end_at}
+use Rattle.dp_meaning.proofs.Names.{◌≡◌, refl, sym, ◌∙◌, ap, ℕ, suc, ◌≢◌, zero, List, [], ◌∷◌, ◌++◌, append_assoc, length-append, ℤ, arith, Fault, Stmt, Program, Config, Event, Step, Finished, Faulted, Stepped, step, Run, run_of, run_by, ended, end_at, part_of, Continues}
 use Rattle.dp_meaning.specs.declared.ends.Part.TheVariants as part
-use Rattle.dp_meaning.specs.MachineState.{part_of}
-use Rattle.dp_meaning.specs.Continues.{Continues}
+use Rattle.dp_base.specs.declared.End.TheVariants as how
 
 -- no step
 pub continues_none : (run : Run) → Continues run [] [] run

@@ -1,23 +1,11 @@
 -- Each entry of the table leads to what follows its statement.
-use Rattle.std.proofs.Common.{◌≡◌, refl, sym, ap, ◌∙◌, subst, ℕ, Bool, true, false, if◌then◌else◌, IsTrue, List, [], ◌∷◌, ◌++◌, drop, ℤ, Option, Some, None, slice_get, zero, suc}
-use Rattle.std.specs.Prelude.{◌-◌}
-use Rattle.std.specs.List.{list_all}
-use Rattle.dp_base.specs.Arithmetic.{is_zero}
-use Rattle.dp_tree.specs.declared.Expr.{Expr}
-use Rattle.dp_base.specs.declared.SiteId.{SiteId}
-use Rattle.dp_tree.specs.declared.Stmt.{Stmt, out-Stmt, Row_of-Stmt, end_of-Stmt, more_of-Stmt, items-the_row-Stmt, items_shown-the_row-Stmt-0}
+use Rattle.dp_meaning.proofs.Names.{and_make, and_true, ◌≡◌, refl, sym, ap, ◌∙◌, subst, ℕ, Bool, true, false, if◌then◌else◌, IsTrue, List, [], ◌∷◌, ◌++◌, drop, ℤ, Option, Some, None, slice_get, zero, suc, ◌-◌, list_all, is_zero, Expr, SiteId, Stmt, out-Stmt, Row_of-Stmt, end_of-Stmt, more_of-Stmt, items-the_row-Stmt, items_shown-the_row-Stmt-0, outs-Assign, outs-Store, outs-Print, outs-If', outs-While', outs-Region', outs-Break, outs-Call, Program, Stmt-F, choose, followed, behind_region, behind_one, region_number, is_simple, are_simple, is_inside, is_outer, is_outer_at, is_any_region, listed, entry, rests, NodeAt, node, table, first_of, first_region}
+use Rattle.dp_tree.specs.declared.Stmt.TheOpen as layer
+unfoldable use Rattle.dp_meaning.proofs.Names.{rests_of, rests_in, table_of, table_in}
 use Rattle.dp_tree.specs.declared.Stmt.TheBlock.{shown-the_row-Stmt-0}
 use Rattle.dp_tree.specs.declared.Stmt.TheVariants.{Assign, Store, Print, If', While', Region', Break, Call}
-use Rattle.dp_tree.specs.declared.Stmt.TheViews.{outs-Assign, outs-Store, outs-Print, outs-If', outs-While', outs-Region', outs-Break, outs-Call}
-use Rattle.dp_tree.specs.declared.Program.{Program}
-use Rattle.dp_tree.specs.declared.Stmt.TheOpen as layer
-use Rattle.dp_tree.specs.declared.Stmt.TheOpen.{Stmt-F}
-use Rattle.dp_tree.specs.Step.{choose, followed, behind_region, behind_one, region_number}
-use Rattle.dp_meaning.specs.Runnable.{is_simple, are_simple, is_inside, is_outer, is_outer_at}
-use Rattle.dp_meaning.specs.MachineState.{is_any_region}
-use Rattle.dp_meaning.specs.Places.{listed, place, entry, rests, NodeAt, node, table, first_of, first_region}
-unfoldable use Rattle.dp_meaning.specs.Places.{rests_of, rests_in, table_of, table_in}
-use Rattle.dp_meaning.proofs.OuterLemmas.{both, both_make, all_inside, simple_inside, outer_at, outer_out, inside_no_region, from_region-append}
+use Rattle.dp_meaning.specs.Places.{place}
+use Rattle.dp_meaning.proofs.OuterLemmas.{all_inside, simple_inside, outer_at, outer_out, inside_no_region, from_region-append}
 use Rattle.dp_meaning.proofs.FollowedLemmas.{left_behind}
 
 items_listed : {n : _} (rows : Row_of-Stmt n) → items-the_row-Stmt _ rows ≡ listed rows
@@ -46,15 +34,11 @@ choose-append z a b rest = by (is_zero z)
 first_of_none : (x : Stmt) (xs : List Stmt) → region_number (out-Stmt x) ≡ None → first_region (x ∷ xs) ≡ first_region xs
 first_of_none x xs e = ap (λ (o : Option ℕ). first_of o (first_region xs)) e
 
-no_number : (h : Stmt-F Stmt) → is_any_region h ≡ false → region_number h ≡ None
-no_number (layer.Region q site cond a) w = absurd (cc)
-no_number _ w = refl
-
 pub first-inside : (xs behind : List Stmt) → IsTrue (all_inside xs) → first_region (xs ++ behind) ≡ first_region behind
 first-inside [] behind h = refl
 first-inside (x ∷ xs) behind h =
-    let r = both (is_inside x) (all_inside xs) h in
-    first_of_none x (xs ++ behind) (no_number (out-Stmt x) (inside_no_region x r.0).0) ∙ first-inside xs behind r.1
+    let r = and_true (is_inside x) (all_inside xs) h in
+    first_of_none x (xs ++ behind) (inside_no_region x r.0).2 ∙ first-inside xs behind r.1
 
 module _ (p : Program) (P : List Stmt → Type 0) (end : ℕ) where
   abbrev pub Each : List (List Stmt) → Type 0
@@ -87,19 +71,17 @@ module _ (p : Program) (P : List Stmt → Type 0) (end : ℕ) where
   Fit [] (x ∷ xs) = ⊥
   Fit (n ∷ ns) [] = ⊥
 
-  pub fit_at : (ns : List NodeAt) (xs : List (List Stmt)) (k : ℕ) (n : NodeAt) → Fit ns xs → slice_get ns k ≡ Some n → (x : List Stmt) × (slice_get xs k ≡ Some x) × Leads n x
-  fit_at [] [] k n f e = absurd (cc)
-  fit_at (m ∷ ns) (x ∷ xs) zero n f e = let same : m ≡ n = cc in (x, refl, subst (λ (o : NodeAt). Leads o x) same f.0)
-  fit_at (m ∷ ns) (x ∷ xs) (suc k) n f e = fit_at ns xs k n f.1 e
-  fit_at [] (x ∷ xs) k n f e = absurd f
-  fit_at (m ∷ ns) [] k n f e = absurd f
+  -- what is left to do at an entry's place
+  abbrev pub Finds : Option NodeAt → Option (List Stmt) → Type 0
+  Finds None o = o ≡ None
+  Finds (Some n) o = (x : List Stmt) × (o ≡ Some x) × Leads n x
 
-  pub fit_none : (ns : List NodeAt) (xs : List (List Stmt)) (k : ℕ) → Fit ns xs → slice_get ns k ≡ None → slice_get xs k ≡ None
-  fit_none [] [] k f e = refl
-  fit_none (m ∷ ns) (x ∷ xs) zero f e = absurd (cc)
-  fit_none (m ∷ ns) (x ∷ xs) (suc k) f e = fit_none ns xs k f.1 e
-  fit_none [] (x ∷ xs) k f e = absurd f
-  fit_none (m ∷ ns) [] k f e = absurd f
+  pub fit_at : (ns : List NodeAt) (xs : List (List Stmt)) (k : ℕ) → Fit ns xs → Finds (slice_get ns k) (slice_get xs k)
+  fit_at [] [] k f = refl
+  fit_at (m ∷ ns) (x ∷ xs) zero f = (x, refl, f.0)
+  fit_at (m ∷ ns) (x ∷ xs) (suc k) f = fit_at ns xs k f.1
+  fit_at [] (x ∷ xs) k f = absurd f
+  fit_at (m ∷ ns) [] k f = absurd f
 
   fit-append : (ms ns : List NodeAt) (xs ys : List (List Stmt)) → Fit ms xs → Fit ns ys → Fit (ms ++ ns) (xs ++ ys)
   fit-append [] ns [] ys f g = g
@@ -107,30 +89,20 @@ module _ (p : Program) (P : List Stmt → Type 0) (end : ℕ) where
   fit-append [] ns (x ∷ xs) ys f g = absurd f
   fit-append (m ∷ ms) ns [] ys f g = absurd f
 
-  -- an entry that goes the same way by each value, and one that has two ways
-  straight : (s : Stmt) (after : List Stmt) (r : ℕ) (h : Stmt-F Stmt) → out-Stmt s ≡ h → ((z : ℤ) → followed s after h z ≡ after) → ((site : SiteId) (cond : Expr) → h ≡ layer.Break site cond → ⊥) → P after
-      → Leads (node p s (entry after end) (entry after end) r) (s ∷ after)
-  straight s after r h is same unlike here = record {
+  leads : (s : Stmt) (after : List Stmt) (r : ℕ) (h : Stmt-F Stmt) (next other : ℕ) → out-Stmt s ≡ h → ((z : ℤ) → Goes (node p s next other r) (is_zero z) (followed s after h z))
+      → ((site : SiteId) (cond : Expr) → h ≡ layer.Break site cond → first_region after ≡ Some r) → Leads (node p s next other r) (s ∷ after)
+  leads s after r h next other is to left = record {
     program = refl;
     after = after;
     is = refl;
-    to = λ z. subst (Goes (node p s (entry after end) (entry after end) r) (is_zero z)) (sym (ap (λ (f : Stmt-F Stmt). followed s after f z) is ∙ same z)) (here, by (is_zero z));
-    left = λ site cond e. absurd (unlike site cond (sym is ∙ e));
-  }
-    where
-      by : (b : Bool) → (if b then entry after end else entry after end) ≡ entry after end
-      by true = refl
-      by false = refl
-
-  forked : (s : Stmt) (after one two : List Stmt) (r : ℕ) (h : Stmt-F Stmt) (next other : ℕ) → out-Stmt s ≡ h → ((z : ℤ) → followed s after h z ≡ choose z one two) → ((site : SiteId) (cond : Expr) → h ≡ layer.Break site cond → first_region after ≡ Some r)
-      → P one → P two → next ≡ entry one end → other ≡ entry two end → Leads (node p s next other r) (s ∷ after)
-  forked s after one two r h next other is same left here there e f = record {
-    program = refl;
-    after = after;
-    is = refl;
-    to = λ z. subst (Goes (node p s next other r) (is_zero z)) (sym (ap (λ (f : Stmt-F Stmt). followed s after f z) is ∙ same z)) (by (is_zero z));
+    to = λ z. subst (λ (f : Stmt-F Stmt). Goes (node p s next other r) (is_zero z) (followed s after f z)) (sym is) (to z);
     left = λ site cond at. left site cond (sym is ∙ at);
   }
+
+  -- an entry that has two ways
+  forked : (s : Stmt) (after one two : List Stmt) (r : ℕ) (h : Stmt-F Stmt) (next other : ℕ) → out-Stmt s ≡ h → ((z : ℤ) → followed s after h z ≡ choose z one two) → ((site : SiteId) (cond : Expr) → h ≡ layer.Break site cond → first_region after ≡ Some r)
+      → P one → P two → next ≡ entry one end → other ≡ entry two end → Leads (node p s next other r) (s ∷ after)
+  forked s after one two r h next other is same left here there e f = leads s after r h next other is (λ z. subst (Goes (node p s next other r) (is_zero z)) (sym (same z)) (by (is_zero z))) left
     where
       by : (b : Bool) → Goes (node p s next other r) b (if b then two else one)
       by true = (there, f)
@@ -138,29 +110,29 @@ module _ (p : Program) (P : List Stmt → Type 0) (end : ℕ) where
 
   first_of_rests : (s : Stmt) (behind : List Stmt) → is_inside s ≡ true → Each (rests_of s behind) → P (s ∷ behind)
   unfolding rests_of rests_in
-  first_of_rests (Assign site x e) behind h each = each.0
-  first_of_rests (Store site x index e) behind h each = each.0
-  first_of_rests (Print site e) behind h each = each.0
-  first_of_rests (If' site cond i a j b) behind h each = each.0
-  first_of_rests (While' site cond i a) behind h each = each.0
-  first_of_rests (Region' r site cond i a) behind h each = each.0
-  first_of_rests (Break site cond) behind h each = each.0
   first_of_rests (Call f line args) behind h each = absurd (cc h)
+  first_of_rests _ behind h each = each.0
 
   -- what is entered first is one of them, or what stands behind
   entered : {n : _} (rows : Row_of-Stmt n) (behind : List Stmt) → IsTrue (all_inside (listed rows)) → P behind → Each (rests_in rows behind) → P (listed rows ++ behind)
   unfolding rests_in
   entered end_of-Stmt behind h here each = here
   entered (more_of-Stmt s rest) behind h here each =
-      first_of_rests s (listed rest ++ behind) (both (is_inside s) (all_inside (listed rest)) h).0 (each_front (rests_of s (listed rest ++ behind)) (rests_in rest behind) each)
+      first_of_rests s (listed rest ++ behind) (and_true (is_inside s) (all_inside (listed rest)) h).0 (each_front (rests_of s (listed rest ++ behind)) (rests_in rest behind) each)
 
   simple_listed : {n : _} (rows : Row_of-Stmt n) → are_simple rows ≡ true → IsTrue (list_all is_simple (listed rows))
   simple_listed end_of-Stmt h = refl
-  simple_listed (more_of-Stmt s rest) h = let r = both (is_simple s) (are_simple rest) h in both_make (is_simple s) (list_all is_simple (listed rest)) r.0 (simple_listed rest r.1)
+  simple_listed (more_of-Stmt s rest) h = let r = and_true (is_simple s) (are_simple rest) h in and_make (is_simple s) (list_all is_simple (listed rest)) r.0 (simple_listed rest r.1)
 
+  -- one that goes the same way by each value
   one_way : (s : Stmt) (after : List Stmt) (r : ℕ) (h : Stmt-F Stmt) → out-Stmt s ≡ h → ((z : ℤ) → followed s after h z ≡ after) → ((site : SiteId) (cond : Expr) → h ≡ layer.Break site cond → ⊥) → P after
       → Fit (node p s (entry after end) (entry after end) r ∷ []) ((s ∷ after) ∷ [])
-  one_way s after r h is same unlike here = (straight s after r h is same unlike here, tt)
+  one_way s after r h is same unlike here =
+      (leads s after r h (entry after end) (entry after end) is (λ z. subst (Goes (node p s (entry after end) (entry after end) r) (is_zero z)) (sym (same z)) (here, by (is_zero z))) (λ site cond e. absurd (unlike site cond e)), tt)
+    where
+      by : (b : Bool) → (if b then entry after end else entry after end) ≡ entry after end
+      by true = refl
+      by false = refl
 
   loop_leads : (s : Stmt) (after body : List Stmt) (r : ℕ) (h : Stmt-F Stmt) → out-Stmt s ≡ h → ((z : ℤ) → followed s after h z ≡ choose z (body ++ s ∷ after) after) → ((site : SiteId) (cond : Expr) → h ≡ layer.Break site cond → ⊥)
       → P (body ++ s ∷ after) → P after → Leads (node p s (entry body (place s)) (entry after end) r) (s ∷ after)
@@ -176,7 +148,7 @@ module _ (p : Program) (P : List Stmt → Type 0) (end : ℕ) where
     link_of (Print site e) after exit r h here each = one_way (Print site e) after r (layer.Print site e) (outs-Print site e) (λ z. refl) (λ t c k. absurd (cc k)) here
     link_of (If' site cond i a j b) after exit r h here each =
         let s = If' site cond i a j b in
-        let simple = both (are_simple a) (are_simple b) h in
+        let simple = and_true (are_simple a) (are_simple b) h in
         let first = each_front (rests_in a after) (rests_in b after) each.1 in
         let second = each_back (rests_in a after) (rests_in b after) each.1 in
         let x = shown-the_row-Stmt-0 i a in let y = shown-the_row-Stmt-0 j b in
@@ -194,14 +166,12 @@ module _ (p : Program) (P : List Stmt → Type 0) (end : ℕ) where
           loop_leads s after (listed a) r (layer.While site cond x) (outs-While' site cond i a) (λ z. ap (λ u. choose z (u ++ s ∷ after) after) (shown_listed i a)) (λ t c k. absurd (cc k)) to_body here,
           link_in a (s ∷ after) exit r h each.0 each.1,
         )
-    link_of (Region' q site cond i a) after exit r h here each = absurd (cc h)
-    link_of (Break site cond) after exit r h here each = absurd (cc h)
-    link_of (Call f line args) after exit r h here each = absurd (cc h)
+    link_of _ after exit r h here each = absurd (cc h)
 
     link_in : {n : _} (rows : Row_of-Stmt n) (behind : List Stmt) (exit r : ℕ) → are_simple rows ≡ true → P behind → Each (rests_in rows behind) → Fit (table_in p rows (entry behind end) exit r) (rests_in rows behind)
     link_in end_of-Stmt behind exit r h here each = tt
     link_in (more_of-Stmt s rest) behind exit r h here each =
-        let simple = both (is_simple s) (are_simple rest) h in
+        let simple = and_true (is_simple s) (are_simple rest) h in
         let later = each_back (rests_of s (listed rest ++ behind)) (rests_in rest behind) each in
         let next = entered rest behind (simple_inside (listed rest) (simple_listed rest simple.1)) here later in
         let first = link_of s (listed rest ++ behind) exit r simple.0 next (each_front (rests_of s (listed rest ++ behind)) (rests_in rest behind) each) in
@@ -212,22 +182,18 @@ module _ (p : Program) (P : List Stmt → Type 0) (end : ℕ) where
   link_inside : (s : Stmt) (after : List Stmt) (r : ℕ) → is_inside s ≡ true → P after → P (behind_region after) → first_region after ≡ Some r → Each (rests_of s after)
       → Fit (table_of p s (entry after end) (entry (behind_region after) end) r) (rests_of s after)
   unfolding rests_of rests_in table_of table_in
-  link_inside (Assign site x e) after r h here away region each = link_of (Assign site x e) after (entry (behind_region after) end) r h here each
-  link_inside (Store site x index e) after r h here away region each = link_of (Store site x index e) after (entry (behind_region after) end) r h here each
-  link_inside (Print site e) after r h here away region each = link_of (Print site e) after (entry (behind_region after) end) r h here each
-  link_inside (If' site cond i a j b) after r h here away region each = link_of (If' site cond i a j b) after (entry (behind_region after) end) r h here each
-  link_inside (While' site cond i a) after r h here away region each = link_of (While' site cond i a) after (entry (behind_region after) end) r h here each
   link_inside (Region' q site cond i a) after r h here away region each = absurd (cc h)
   link_inside (Break site cond) after r h here away region each =
       (forked (Break site cond) after (behind_region after) after r (layer.Break site cond) (entry (behind_region after) end) (entry after end) (outs-Break site cond) (λ z. refl) (λ t c k. region) away here refl refl, tt)
   link_inside (Call f line args) after r h here away region each = absurd (cc h)
+  link_inside s after r h here away region each = link_of s after (entry (behind_region after) end) r h here each
 
   link_body : {n : _} (rows : Row_of-Stmt n) (behind : List Stmt) (r : ℕ) → IsTrue (all_inside (listed rows)) → P behind → P (behind_region behind) → first_region behind ≡ Some r → Each (rests_in rows behind)
       → Fit (table_in p rows (entry behind end) (entry (behind_region behind) end) r) (rests_in rows behind)
   unfolding rests_in table_in
   link_body end_of-Stmt behind r h here away region each = tt
   link_body (more_of-Stmt s rest) behind r h here away region each =
-      let inside = both (is_inside s) (all_inside (listed rest)) h in
+      let inside = and_true (is_inside s) (all_inside (listed rest)) h in
       let later = each_back (rests_of s (listed rest ++ behind)) (rests_in rest behind) each in
       let left : behind_region (listed rest ++ behind) ≡ behind_region behind = left-inside (listed rest) behind inside.1 in
       let first = link_inside s (listed rest ++ behind) r inside.0 (entered rest behind inside.1 here later) (subst P (sym left) away) (first-inside (listed rest) behind inside.1 ∙ region)
@@ -247,9 +213,6 @@ module _ (p : Program) (P : List Stmt → Type 0) (end : ℕ) where
 
   link_top : (s : Stmt) (after : List Stmt) → is_outer s ≡ true → P after → Each (rests_of s after) → P (s ∷ after) × Fit (table_of p s (entry after end) 0 0) (rests_of s after)
   unfolding rests_of rests_in table_of table_in
-  link_top (Assign site x e) after h here each = (each.0, link_of (Assign site x e) after 0 0 refl here each)
-  link_top (Store site x index e) after h here each = (each.0, link_of (Store site x index e) after 0 0 refl here each)
-  link_top (Print site e) after h here each = (each.0, link_of (Print site e) after 0 0 refl here each)
   link_top (If' site cond i a j b) after h here each =
       (each.0, link_of (If' site cond i a j b) after 0 0 (simple_by (If' site cond i a j b) (layer.If site cond (shown-the_row-Stmt-0 i a) (shown-the_row-Stmt-0 j b)) (outs-If' site cond i a j b) refl h) here each)
   link_top (While' site cond i a) after h here each =
@@ -270,11 +233,12 @@ module _ (p : Program) (P : List Stmt → Type 0) (end : ℕ) where
       )
   link_top (Break site cond) after h here each = absurd (cc (outer_by_head (Break site cond) (layer.Break site cond) (outs-Break site cond) h))
   link_top (Call f line args) after h here each = absurd (cc (outer_by_head (Call f line args) (layer.Call f line args) (outs-Call f line args) h))
+  link_top s after h here each = (each.0, link_of s after 0 0 refl here each)
 
   pub link_main : (xs : List Stmt) → IsTrue (list_all is_outer xs) → P [] → Each (rests xs []) → P (xs ++ []) × Fit (table p xs end 0 0) (rests xs [])
   link_main [] h here each = (here, tt)
   link_main (s ∷ rest) h here each =
-      let outer = both (is_outer s) (list_all is_outer rest) h in
+      let outer = and_true (is_outer s) (list_all is_outer rest) h in
       let later = link_main rest outer.1 here (each_back (rests_of s (rest ++ [])) (rests rest []) each) in
       let first = link_top s (rest ++ []) outer.0 later.0 (each_front (rests_of s (rest ++ [])) (rests rest []) each) in (
         first.0,

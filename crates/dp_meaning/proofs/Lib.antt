@@ -1,3 +1,4 @@
+pub mod Names
 pub mod MemoryLemmas
 pub mod ActLemmas
 pub mod OuterLemmas
@@ -15,12 +16,8 @@ pub mod TurnLemmas
 pub mod PlainLemmas
 pub mod MovedLemmas
 pub mod WatchedLemmas
-pub mod SoFar
-pub mod PartLemmas
-pub mod EventLemmas
-pub mod BegunLemmas
-pub mod IterationLemmas
-pub mod ClearLemmas
+pub mod StretchLemmas
+pub mod StretchEnds
 pub mod SkipLemmas
 pub mod WalkLemmas
 pub mod NextLemmas

@@ -1,14 +1,6 @@
 -- Stores and clearing.
-use Rattle.std.proofs.Common.{◌≡◌, refl, sym, ◌∙◌, ap, ℕ, ◌+◌, ◌<◌, ◌≤◌, suc, Bool, true, false, List, [], ◌∷◌, ◌++◌, replicate, drop, get_or, length, slice_set, if◌then◌else◌, Option, Some, None, ℤ, pos, add-one, drop-cons, length-set}
-use Rattle.std.proofs.Math.Seq.{set_out}
-use Rattle.dp_base.specs.declared.StoreOf.{StoreOf}
-use Rattle.dp_tree.specs.declared.Stmt.{Stmt, out-Stmt}
-use Rattle.dp_tree.specs.declared.Program.{Program}
-use Rattle.dp_tree.specs.declared.VarInfo.{VarInfo}
-use Rattle.dp_tree.specs.Trace.{start_cells}
-use Rattle.dp_tree.specs.Step.{is_local_of, clear_locals, region_number, clear_one, cleared_leaving}
-use Rattle.dp_semantics.specs.Told.{with_stores}
-use Rattle.dp_meaning.specs.Places.{first_of, first_region}
+use Rattle.dp_meaning.proofs.Names.{◌≡◌, refl, sym, ◌∙◌, ap, ℕ, ◌+◌, ◌<◌, ◌≤◌, suc, Bool, true, false, List, [], ◌∷◌, ◌++◌, replicate, drop, get_or, length, slice_set, if◌then◌else◌, Option, Some, None, ℤ, pos, add-one, drop-cons, length-set, set_out, StoreOf, Stmt, out-Stmt, Program, VarInfo, start_cells, is_local_of, clear_locals, region_number, clear_one, cleared_leaving, with_stores, first_of, first_region}
+use Rattle.dp_semantics.proofs.Memory.{clear-length}
 
 -- a store past the end changes nothing
 pub store_out : (cells : List ℤ) (c : ℕ) (v : ℤ) → length cells ≤ c → slice_set cells c v ≡ cells
@@ -16,28 +8,19 @@ store_out cells c v h = set_out cells c v h
 
 pub ruleset stores = (store_out)
 
+-- one item more of a list
+pub next_item : {X : Type 0} (xs : List X) (i : ℕ) (x : X) → i < length xs → x ≡ get_or xs i x → drop i xs ≡ x ∷ drop (i + 1) xs
+next_item {X = X} xs i x h is = rw add-one (drop-cons xs i x h ∙ ap (λ (y : X). y ∷ drop (suc i) xs) (sym is))
+
 -- one variable more is cleared
 pub clear_next : (r : ℕ) (vars : List VarInfo) (i : ℕ) (x : VarInfo) (cells : List ℤ) → i < length vars → x ≡ get_or vars i x →
     clear_locals r (drop i vars) cells ≡ clear_locals r (drop (i + 1) vars) (if is_local_of r x.scope then slice_set cells x.first.0 (pos 0) else cells)
-clear_next r vars i x cells h is =
-    let here : drop i vars ≡ x ∷ drop (suc i) vars = drop-cons vars i x h ∙ ap (λ (y : VarInfo). y ∷ drop (suc i) vars) (sym is) in
-    rw (add-one) (ap (λ (xs : List VarInfo). clear_locals r xs cells) here)
-
-length-unless : (b : Bool) (cells : List ℤ) (c : ℕ) → length (if b then slice_set cells c (pos 0) else cells) ≡ length cells
-length-unless true cells c = length-set cells c (pos 0)
-length-unless false cells c = refl
-
-pub length-clear_locals : (r : ℕ) (vars : List VarInfo) (cells : List ℤ) → length (clear_locals r vars cells) ≡ length cells
-length-clear_locals r [] cells = refl
-length-clear_locals r (x ∷ vars) cells =
-    length-clear_locals r vars (if is_local_of r x.scope then slice_set cells x.first.0 (pos 0) else cells) ∙ length-unless (is_local_of r x.scope) cells x.first.0
+clear_next r vars i x cells h is = ap (λ (xs : List VarInfo). clear_locals r xs cells) (next_item vars i x h is)
 
 -- one store more is made
 pub store_next : (list : List StoreOf) (i : ℕ) (x : StoreOf) (cells : List ℤ) → i < length list → x ≡ get_or list i x →
     with_stores (drop i list) cells ≡ with_stores (drop (i + 1) list) (slice_set cells x.cell.0 x.value)
-store_next list i x cells h is =
-    let here : drop i list ≡ x ∷ drop (suc i) list = drop-cons list i x h ∙ ap (λ (y : StoreOf). y ∷ drop (suc i) list) (sym is) in
-    rw (add-one) (ap (λ (xs : List StoreOf). with_stores xs cells) here)
+store_next list i x cells h is = ap (λ (xs : List StoreOf). with_stores xs cells) (next_item list i x h is)
 
 pub length-with_stores : (list : List StoreOf) (cells : List ℤ) → length (with_stores list cells) ≡ length cells
 length-with_stores [] cells = refl
@@ -56,20 +39,18 @@ leaving p (x ∷ xs) cells = by (region_number (out-Stmt x)) (leaving p xs cells
 
 length-clear_one : (p : Program) (o : Option ℕ) (cells : List ℤ) → length (clear_one p o cells cells) ≡ length cells
 length-clear_one p None cells = refl
-length-clear_one p (Some r) cells = length-clear_locals r p.vars cells
+length-clear_one p (Some r) cells = clear-length r p.vars cells
 
 pub length-cleared_leaving : (p : Program) (xs : List Stmt) (cells : List ℤ) → length (cleared_leaving p xs cells) ≡ length cells
 length-cleared_leaving p xs cells = ap length (leaving p xs cells) ∙ length-clear_one p (first_region xs) cells
 
 pub ruleset clears = (clear_next)
 
-pub ruleset lengths = (length-clear_locals, length-with_stores, length-cleared_leaving)
+pub ruleset lengths = (clear-length, length-with_stores, length-cleared_leaving)
 
 -- one variable more has its cells
 pub start_next : (vars : List VarInfo) (i : ℕ) (x : VarInfo) → i < length vars → x ≡ get_or vars i x →
     start_cells (drop i vars) ≡ replicate x.length x.start ++ start_cells (drop (i + 1) vars)
-start_next vars i x h is =
-    let here : drop i vars ≡ x ∷ drop (suc i) vars = drop-cons vars i x h ∙ ap (λ (y : VarInfo). y ∷ drop (suc i) vars) (sym is) in
-    rw (add-one) (ap start_cells here)
+start_next vars i x h is = ap start_cells (next_item vars i x h is)
 
 pub ruleset starts = (start_next)

@@ -1,12 +1,5 @@
 -- What one step, or two pieces one after the other, do to a machine.
-use Rattle.std.proofs.Common.{◌≡◌, refl, sym, ◌∙◌, ap, subst, ℕ, suc, Bool, ◌+◌, ◌-◌, ◌<◌, List, [], ◌∷◌, ◌++◌, append_assoc, append-nil, length-append, ℤ, arith}
-use Rattle.std.proofs.lemmas.List.Elements.{filter_map-append}
-use Rattle.dp_tree.specs.Step.{Config, Event}
-use Rattle.dp_tree.specs.Trace.{run_of, prints, printed_by}
-use Rattle.dp_meaning.specs.MachineState.{MachineState, fuel_left, rest_of_run}
-use Rattle.dp_meaning.specs.Continues.{Continues}
-use Rattle.dp_meaning.specs.Moved.{Moved}
-use Rattle.dp_meaning.specs.Turn.{StepTaken}
+use Rattle.dp_meaning.proofs.Names.{◌≡◌, refl, sym, ◌∙◌, ap, subst, ℕ, suc, Bool, ◌+◌, ◌-◌, ◌<◌, List, [], ◌∷◌, ◌++◌, append_assoc, append-nil, length-append, ℤ, arith, filter_map-append, Config, Event, run_of, prints, printed_by, MachineState, fuel_left, rest_of_run, Continues, Moved, StepTaken}
 use Rattle.dp_meaning.proofs.TurnLemmas.{stepped_to}
 use Rattle.dp_meaning.proofs.ContinuesLemmas.{continues_none, continues_join, continues_step}
 

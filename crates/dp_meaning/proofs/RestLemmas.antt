@@ -1,13 +1,7 @@
 -- The places count the sites in text order.
-use Rattle.std.proofs.Common.{◌≡◌, refl, ap, ◌∙◌, ℕ, List, [], ◌∷◌, ◌++◌, map}
-use Rattle.dp_tree.specs.declared.Stmt.{Stmt, out-Stmt, Row_of-Stmt, end_of-Stmt, more_of-Stmt}
+use Rattle.dp_meaning.proofs.Names.{◌≡◌, refl, ap, ◌∙◌, ℕ, List, [], ◌∷◌, ◌++◌, map, Stmt, out-Stmt, Row_of-Stmt, end_of-Stmt, more_of-Stmt, outs-Assign, outs-Store, outs-Print, outs-If', outs-While', outs-Region', outs-Break, outs-Call, Stmt-F, site_of, site_numbers, site_numbers_in, site_numbers_all, listed, number_of, rests}
+unfoldable use Rattle.dp_meaning.proofs.Names.{rests_of, rests_in}
 use Rattle.dp_tree.specs.declared.Stmt.TheVariants.{Assign, Store, Print, If', While', Region', Break, Call}
-use Rattle.dp_tree.specs.declared.Stmt.TheViews.{outs-Assign, outs-Store, outs-Print, outs-If', outs-While', outs-Region', outs-Break, outs-Call}
-use Rattle.dp_tree.specs.declared.Stmt.TheOpen.{Stmt-F}
-use Rattle.dp_tree.specs.Step.{site_of}
-use Rattle.dp_tree.specs.Numbering.{site_numbers, site_numbers_in, site_numbers_all}
-use Rattle.dp_meaning.specs.Places.{listed, number_of, rests}
-unfoldable use Rattle.dp_meaning.specs.Places.{rests_of, rests_in}
 
 -- a statement's number is that of its site
 pub number_out : (s : Stmt) → (site_of (out-Stmt s)).0 ≡ number_of s
@@ -35,15 +29,11 @@ mutual
   unfolding rests_of rests_in
 
   numbers_of : (s : Stmt) (behind : List Stmt) → map first_number (rests_of s behind) ≡ site_numbers s
-  numbers_of (Assign site x e) behind = refl
-  numbers_of (Store site x index e) behind = refl
-  numbers_of (Print site e) behind = refl
   numbers_of (If' site cond i a j b) behind =
       ap (λ ns. site.0 ∷ ns) (numbers-append (rests_in a behind) (rests_in b behind) ∙ ap (λ ns. ns ++ map first_number (rests_in b behind)) (numbers_in a behind) ∙ ap (λ ns. site_numbers_in a ++ ns) (numbers_in b behind))
   numbers_of (While' site cond i a) behind = ap (λ ns. site.0 ∷ ns) (numbers_in a (While' site cond i a ∷ behind))
   numbers_of (Region' r site cond i a) behind = ap (λ ns. site.0 ∷ ns) (numbers_in a (Region' r site cond i a ∷ behind))
-  numbers_of (Break site cond) behind = refl
-  numbers_of (Call f line args) behind = refl
+  numbers_of _ behind = refl
 
   numbers_in : {n : _} (xs : Row_of-Stmt n) (behind : List Stmt) → map first_number (rests_in xs behind) ≡ site_numbers_in xs
   numbers_in end_of-Stmt behind = refl

@@ -1,44 +1,18 @@
 -- The shape of what is left to do, after a step.
-use Rattle.std.proofs.Common.{◌≡◌, ◌≢◌, ◌⊎◌, inl, inr, refl, sym, ap, ◌∙◌, subst, ℕ, Bool, true, false, IsTrue, List, [], ◌∷◌, ◌++◌, drop, Option, Some, None, ℤ, if◌then◌else◌, ◌<◌, length, eq-eqb, arith}
-use Rattle.std.specs.List.{list_all}
-use Rattle.dp_base.specs.Arithmetic.{is_zero}
-use Rattle.dp_base.specs.declared.SiteId.{SiteId}
-use Rattle.dp_tree.specs.declared.Expr.{Expr}
-use Rattle.dp_tree.specs.declared.Stmt.{Stmt, out-Stmt}
-use Rattle.dp_tree.specs.declared.Stmt.TheOpen.{Stmt-F, Assign, Store, Print, If, While, Region, Break, Call}
-use Rattle.dp_tree.specs.declared.Program.{Program}
-use Rattle.dp_tree.specs.InMain.{StandsInMain}
-use Rattle.dp_tree.specs.Numbering.{is_inner}
-use Rattle.dp_tree.specs.Step.{Config, Event, Stepped, step, standing, value_of, followed}
-use Rattle.dp_tree.specs.Iteration.{is_region, leaves}
-use Rattle.dp_tree.proofs.Heads.{and_true, taken, taken_left, followed-append, standing_to_do, StepsTo, stepped, not_stepped}
-use Rattle.dp_tree.proofs.Inner.{inner_all, inner_at, inner_out}
-use Rattle.dp_meaning.specs.declared.ends.Part.{Part}
+use Rattle.dp_meaning.proofs.Names.{◌≡◌, ◌≢◌, ◌⊎◌, inl, inr, refl, sym, ap, ◌∙◌, subst, ℕ, Bool, true, false, IsTrue, List, [], ◌∷◌, ◌++◌, drop, Option, Some, None, ℤ, if◌then◌else◌, ◌<◌, length, eq-eqb, arith, list_all, is_zero, SiteId, Expr, Stmt, out-Stmt, Stmt-F, Program, StandsInMain, is_inner, Config, Event, Stepped, step, standing, value_of, followed, is_region, leaves, and_true, taken_left, followed-append, standing_to_do, StepsTo, stepped, not_stepped, inner_all, inner_at, inner_out, Part, is_inside, is_outer, part_from, part_of, part_at, is_any_region, from_region, IsWithin, UnderWay, IsEndOfMain, leaves_region, current_behind, has_no_call, no_call_at}
 use Rattle.dp_meaning.specs.declared.ends.Part.TheVariants as part
-use Rattle.dp_meaning.specs.Runnable.{is_inside, is_outer}
-use Rattle.dp_meaning.specs.MachineState.{part_from, part_of, part_at, is_any_region, from_region}
-use Rattle.dp_meaning.specs.Sound.{IsWithin, UnderWay}
-use Rattle.dp_meaning.specs.Standing.{IsEndOfMain}
-use Rattle.dp_meaning.specs.Turn.{leaves_region, current_behind, has_no_call, no_call_at}
-use Rattle.dp_meaning.proofs.OuterLemmas.{both, all_inside, simple_at, inside_at, inside_out, outer_at, outer_out, inside_no_region, from_region-append}
-use Rattle.dp_meaning.proofs.FollowedLemmas.{left_behind, outer_followed, inside_followed}
+use Rattle.dp_tree.specs.declared.Stmt.TheOpen.{Assign, Store, Print, If, While, Region, Break, Call}
+use Rattle.dp_tree.proofs.Heads.{taken}
+use Rattle.dp_meaning.proofs.OuterLemmas.{all_inside, simple_at, inside_at, inside_out, outer_at, outer_out, inside_no_region, from_region-append}
+use Rattle.dp_meaning.proofs.FollowedLemmas.{outer, inside, left_behind, outer_followed, inside_followed}
 use Rattle.dp_meaning.proofs.StopLemmas.{from_region-over}
-
-abbrev outer : List Stmt → Type 0
-outer xs = IsTrue (list_all is_outer xs)
-
-abbrev inside : List Stmt → Type 0
-inside xs = IsTrue (all_inside xs)
-
-abbrev True : Bool → Type 0
-True b = IsTrue b
 
 pub not_plain : (q : Part) (r : ℕ) → q ≡ part.Region r → q ≢ part.Plain
 not_plain q r e f = absurd (cc)
 
 pub outer_rest : (xs : List Stmt) → outer xs → outer (drop 1 xs)
 outer_rest [] h = h
-outer_rest (x ∷ xs) h = (both (is_outer x) (list_all is_outer xs) h).1
+outer_rest (x ∷ xs) h = (and_true (is_outer x) (list_all is_outer xs) h).1
 
 -- a region with such a body, or a simple statement
 record IsMarked (h : Stmt-F Stmt) : Type 0 where
@@ -57,13 +31,9 @@ record IsUnmarked (h : Stmt-F Stmt) : Type 0 where
 
 sort_of : (h : Stmt-F Stmt) → IsTrue (outer_at h) → IsMarked h ⊎ IsUnmarked h
 sort_of (Region r site cond a) k = inl (record { region = r; site = site; cond = cond; body = a; is = refl; within = k })
-sort_of (Assign site x e) k = inr (record { simple = k; none = refl; plain = refl; untaken = λ z. refl })
-sort_of (Store site x index e) k = inr (record { simple = k; none = refl; plain = refl; untaken = λ z. refl })
-sort_of (Print site e) k = inr (record { simple = k; none = refl; plain = refl; untaken = λ z. refl })
-sort_of (If site cond a b) k = inr (record { simple = k; none = refl; plain = refl; untaken = λ z. refl })
-sort_of (While site cond a) k = inr (record { simple = k; none = refl; plain = refl; untaken = λ z. refl })
 sort_of (Break site cond) k = absurd (cc)
 sort_of (Call f line args) k = absurd (cc)
+sort_of _ k = inr (record { simple = k; none = refl; plain = refl; untaken = λ z. refl })
 
 -- what is left of a body, and then the region
 rest_of_body : (r : ℕ) (front behind xs : List Stmt) → inside front → outer behind → part_of behind ≡ part.Region r → xs ≡ front ++ behind → UnderWay (current_behind false (part.Region r) (part_of xs)) xs
@@ -71,7 +41,7 @@ rest_of_body r [] behind xs h k next e =
     subst (λ (ys : List Stmt). UnderWay (current_behind false (part.Region r) (part_of ys)) ys) (sym e)
     (subst (λ (q : Part). UnderWay (current_behind false (part.Region r) q) behind) (sym next) k)
 rest_of_body r (x ∷ front) behind xs h k next e =
-    let here : part_of (x ∷ front ++ behind) ≡ part.Plain = (inside_no_region x (both (is_inside x) (all_inside front) h).0).1 in
+    let here : part_of (x ∷ front ++ behind) ≡ part.Plain = (inside_no_region x (and_true (is_inside x) (all_inside front) h).0).1 in
     subst (λ (ys : List Stmt). UnderWay (current_behind false (part.Region r) (part_of ys)) ys) (sym e)
     (subst (λ (q : Part). UnderWay (current_behind false (part.Region r) q) (x ∷ front ++ behind)) (sym here)
     (record { front = x ∷ front; behind = behind; is = refl; inside = h; outer = k; first = here; next = next }))
@@ -98,7 +68,7 @@ module _ (p : Program) (input : List ℤ) (c d : Config) (event : Event) (s : st
       let off : d.to_do ≡ rest = to.to_do ∙ ap (λ (y : Stmt-F Stmt). followed x rest y z) m.is ∙ ap (λ (b : Bool). if b then rest else m.body ++ x ∷ rest) zero in
       record {
         left_is = sym (ap (λ (q : Part). leaves_region q event.effect) here ∙ to.zero m.region (ap (is_region m.region) m.is ∙ eq-eqb m.region m.region refl) ∙ zero);
-        under_way = subst outer (sym off) (both (is_outer x) (list_all is_outer rest) h).1;
+        under_way = subst outer (sym off) (and_true (is_outer x) (list_all is_outer rest) h).1;
         stays = λ f. absurd (cc f);
         off = λ f. off ∙ ap (drop 1) (sym on);
         plain = λ f. absurd (not_plain (part_of c.to_do) m.region here f);
@@ -121,7 +91,7 @@ module _ (p : Program) (input : List ℤ) (c d : Config) (event : Event) (s : st
   at_simple : (x : Stmt) (rest : List Stmt) → c.to_do ≡ x ∷ rest → outer (x ∷ rest) → IsUnmarked (out-Stmt x) → Shape None false
   at_simple x rest e h u =
       let to = stepped p input c x rest event d e s in
-      let r = both (is_outer x) (list_all is_outer rest) h in
+      let r = and_true (is_outer x) (list_all is_outer rest) h in
       let here : part_of c.to_do ≡ part.Plain = ap part_of e ∙ u.plain in
       let kept = outer_followed x rest z r.0 r.1 u.none (out-Stmt x) u.simple in
       record {
@@ -141,7 +111,7 @@ module _ (p : Program) (input : List ℤ) (c d : Config) (event : Event) (s : st
     within_by : (x : Stmt) (front : List Stmt) → w.front ≡ x ∷ front → (b : Bool) → taken (out-Stmt x) z ≡ b → Shape (Some r) b
     within_by x front e b t =
         let at : c.to_do ≡ x ∷ front ++ w.behind = w.is ∙ ap (λ (ys : List Stmt). ys ++ w.behind) e in
-        let both_in = both (is_inside x) (all_inside front) (subst inside e w.inside) in
+        let both_in = and_true (is_inside x) (all_inside front) (subst inside e w.inside) in
         let to = stepped p input c x (front ++ w.behind) event d at s in
         let told : b ≡ leaves_region (part_of c.to_do) event.effect = sym (ap (λ (q : Part). leaves_region q event.effect) w.first ∙ to.left ∙ t) in
         by b t told to both_in.0 both_in.1
@@ -160,7 +130,7 @@ module _ (p : Program) (input : List ℤ) (c d : Config) (event : Event) (s : st
             }
         by false t told to h k =
             let off : d.to_do ≡ followed x front (out-Stmt x) z ++ w.behind = to.to_do ∙ followed-append x front w.behind (out-Stmt x) z t in
-            let still : inside (followed x front (out-Stmt x) z) = inside_followed x front z h k (out-Stmt x) (subst True (inside_out x) h) t in
+            let still : inside (followed x front (out-Stmt x) z) = inside_followed x front z h k (out-Stmt x) (subst IsTrue (inside_out x) h) t in
             record {
               left_is = told;
               under_way = rest_of_body r (followed x front (out-Stmt x) z) w.behind d.to_do still w.outer w.next off;
@@ -178,7 +148,7 @@ module _ (p : Program) (input : List ℤ) (c d : Config) (event : Event) (s : st
 
   from_main : (to_do : List Stmt) → c.to_do ≡ to_do → outer to_do → (left : Bool) × Shape None left
   from_main [] e h = not_stepped p input c event d e s
-  from_main (x ∷ rest) e h = elim (sort_of (out-Stmt x) (subst True (outer_out x) (both (is_outer x) (list_all is_outer rest) h).0)) [
+  from_main (x ∷ rest) e h = elim (sort_of (out-Stmt x) (subst IsTrue (outer_out x) (and_true (is_outer x) (list_all is_outer rest) h).0)) [
     | inl m ↦ (is_zero z, at_region x rest e h m (is_zero z) refl)
     | inr u ↦ (false, at_simple x rest e h u)
   ]
@@ -195,7 +165,7 @@ call_free _ k = refl
 
 pub no_call_next : (current : Option ℕ) (to_do : List Stmt) → UnderWay current to_do → 0 < length to_do → IsTrue (has_no_call to_do)
 no_call_next current [] u some = absurd (omega (arith, some))
-no_call_next None (x ∷ rest) h some = call_free (out-Stmt x) (inl (subst True (outer_out x) (both (is_outer x) (list_all is_outer rest) h).0))
+no_call_next None (x ∷ rest) h some = call_free (out-Stmt x) (inl (subst IsTrue (outer_out x) (and_true (is_outer x) (list_all is_outer rest) h).0))
 no_call_next (Some r) (x ∷ rest) w some = by w.front w.is w.inside
   where
     by : (front : List Stmt) → x ∷ rest ≡ front ++ w.behind → inside front → IsTrue (has_no_call (x ∷ rest))
@@ -204,8 +174,8 @@ no_call_next (Some r) (x ∷ rest) w some = by w.front w.is w.inside
         absurd (not_plain (part_of (x ∷ rest)) r same w.first)
     by (y ∷ front) e h =
         let same : x ≡ y = cc in
-        let k : IsTrue (is_inside x) = subst (λ (t : Stmt). IsTrue (is_inside t)) (sym same) (both (is_inside y) (all_inside front) h).0 in
-        call_free (out-Stmt x) (inr (subst True (inside_out x) k))
+        let k : IsTrue (is_inside x) = subst (λ (t : Stmt). IsTrue (is_inside t)) (sym same) (and_true (is_inside y) (all_inside front) h).0 in
+        call_free (out-Stmt x) (inr (subst IsTrue (inside_out x) k))
 
 -- Where a machine stands at a region or at the end, the rest of `main` is left to do.
 inner_plain : (h : Stmt-F Stmt) → inner_at h ≡ true → part_from h ≡ part.Plain

@@ -1,29 +1,15 @@
 -- The memory after the steps of an iteration.
-use Rattle.std.proofs.Common.{◌≡◌, refl, sym, ap, ◌∙◌, subst, ℕ, Bool, true, false, not, if◌then◌else◌, IsTrue, List, [], ◌∷◌, ◌++◌, drop, ℤ, Option, None, Some}
-use Rattle.dp_base.specs.Arithmetic.{is_zero}
-use Rattle.dp_tree.specs.declared.Stmt.{Stmt, out-Stmt}
-use Rattle.dp_tree.specs.declared.Stmt.TheOpen.{Stmt-F, Assign, Store, Print, If, While, Region, Break, Call}
-use Rattle.dp_tree.specs.declared.Program.{Program}
-use Rattle.dp_tree.specs.Event.{Effect, Stored, Printed, Decided, Tried, Event, value_of, stored}
-use Rattle.dp_tree.specs.Step.{Config, Stepped, step, step_from, standing, stored_by, after_effect, region_number, clear_one, clear_locals, cleared_leaving, cleared_at}
-use Rattle.dp_tree.specs.Iteration.{leaves}
-use Rattle.dp_tree.proofs.Heads.{taken, stepped, not_stepped}
-use Rattle.dp_tree.proofs.InMain.{next_at}
+use Rattle.dp_meaning.proofs.Names.{inl, and_true, ◌≡◌, refl, sym, ap, ◌∙◌, subst, ℕ, Bool, true, false, not, if◌then◌else◌, IsTrue, List, [], ◌∷◌, ◌++◌, drop, ℤ, Option, None, Some, is_zero, Stmt, out-Stmt, Stmt-F, Program, Effect, Stored, Printed, Decided, Tried, Event, value_of, stored, Config, Stepped, step, step_from, standing, stored_by, after_effect, region_number, clear_one, clear_locals, cleared_leaving, cleared_at, leaves, stepped, not_stepped, next_at, part_from, part_of, stores_of, with_stores, is_inside}
+use Rattle.dp_semantics.proofs.Memory.{clear-at, clear-still}
 use Rattle.dp_meaning.specs.declared.ends.Part.TheVariants as part
-use Rattle.dp_meaning.specs.MachineState.{part_from, part_of}
-use Rattle.dp_semantics.specs.Told.{stores_of, with_stores}
-use Rattle.dp_meaning.specs.Runnable.{is_inside}
-use Rattle.dp_meaning.proofs.OuterLemmas.{both, all_inside, inside_at, inside_out}
-use Rattle.dp_meaning.proofs.ClearLemmas.{cleared_twice}
+use Rattle.dp_tree.specs.declared.Stmt.TheOpen.{Assign, Store, Print, If, While, Region, Break, Call}
+use Rattle.dp_tree.proofs.Heads.{taken}
+use Rattle.dp_meaning.proofs.OuterLemmas.{all_inside, inside_no_region}
 
 -- the memory after these events
 abbrev pub after_events : List Event → List ℤ → List ℤ
 after_events [] cells = cells
 after_events (e ∷ rest) cells = after_events rest (stored e.effect cells)
-
-pub after_more : (es : List Event) (event : Event) (cells : List ℤ) → after_events (es ++ event ∷ []) cells ≡ stored event.effect (after_events es cells)
-after_more [] event cells = refl
-after_more (e ∷ es) event cells = after_more es event (stored e.effect cells)
 
 -- an event's store is the change that it makes
 pub stores_are_changes : (events : List Event) (cells : List ℤ) → with_stores (stores_of events) cells ≡ after_events events cells
@@ -32,74 +18,49 @@ stores_are_changes (e ∷ events) cells = by e.effect (λ next. stores_are_chang
   where
     by : (effect : Effect) → ((next : List ℤ) → with_stores (stores_of events) next ≡ after_events events next) → with_stores (stores_of (record e { effect = effect } ∷ events)) cells ≡ after_events events (stored effect cells)
     by (Stored c v) go = go (stored (Stored c v) cells)
-    by (Printed v) go = go cells
-    by (Decided v) go = go cells
-    by (Tried v) go = go cells
+    by _ go = go cells
 
-kept_by : (p : Program) (rest : List Stmt) (h : Stmt-F Stmt) (effect : Effect) (cells : List ℤ) → taken h (value_of effect) ≡ false → stored_by p rest h effect cells ≡ stored effect cells
-kept_by p rest (Break site cond) effect cells t = by (is_zero (value_of effect)) t
+-- the effect alone changes it, unless a break is taken
+stored_is : (p : Program) (rest : List Stmt) (h : Stmt-F Stmt) (effect : Effect) (cells : List ℤ) → stored_by p rest h effect cells ≡ (if taken h (value_of effect) then cleared_leaving p rest (stored effect cells) else stored effect cells)
+stored_is p rest (Break site cond) effect cells = by (is_zero (value_of effect))
   where
-    by : (b : Bool) → not b ≡ false → (if b then stored effect cells else cleared_leaving p rest (stored effect cells)) ≡ stored effect cells
-    by true e = refl
-    by false e = absurd (cc)
-kept_by p rest _ effect cells t = refl
-
-left_by : (p : Program) (rest : List Stmt) (h : Stmt-F Stmt) (effect : Effect) (cells : List ℤ) → taken h (value_of effect) ≡ true → stored_by p rest h effect cells ≡ cleared_leaving p rest (stored effect cells)
-left_by p rest (Break site cond) effect cells t = by (is_zero (value_of effect)) t
-  where
-    by : (b : Bool) → not b ≡ true → (if b then stored effect cells else cleared_leaving p rest (stored effect cells)) ≡ cleared_leaving p rest (stored effect cells)
-    by true e = absurd (cc)
-    by false e = refl
-left_by p rest _ effect cells t = absurd (cc)
+    by : (b : Bool) → (if b then stored effect cells else cleared_leaving p rest (stored effect cells)) ≡ (if not b then cleared_leaving p rest (stored effect cells) else stored effect cells)
+    by true = refl
+    by false = refl
+stored_is p rest _ effect cells = refl
 
 module _ (p : Program) (input : List ℤ) (c d : Config) (event : Event) (s : step p input c ≡ Stepped event d) where
-  stands : (x : Stmt) (rest : List Stmt) → c.to_do ≡ x ∷ rest → (cells : List ℤ) → stored_by p rest (out-Stmt x) event.effect c.cells ≡ cells → d ≡ standing p d.to_do cells
-  stands x rest e cells is =
-      let st = stepped p input c x rest event d e s in
-      let after : d ≡ after_effect p x rest c.cells (out-Stmt x) event.effect = next_at p input x rest c.cells (out-Stmt x) event d (sym (ap (step_from p input c.cells) e) ∙ s) in
-      after ∙ ap (λ (xs : List Stmt). standing p xs (stored_by p rest (out-Stmt x) event.effect c.cells)) (sym st.to_do) ∙ ap (standing p d.to_do) is
-
-  -- where no break is taken, the effect alone changes it
-  pub memory_kept : leaves event.effect ≡ false → d ≡ standing p d.to_do (stored event.effect c.cells)
-  memory_kept no_break = by c.to_do refl
+  memory_is : d ≡ standing p d.to_do (if leaves event.effect then cleared_leaving p (drop 1 c.to_do) (stored event.effect c.cells) else stored event.effect c.cells)
+  memory_is = by c.to_do refl
     where
-      by : (xs : List Stmt) → c.to_do ≡ xs → d ≡ standing p d.to_do (stored event.effect c.cells)
-      by [] e = not_stepped p input c event d e s
-      by (x ∷ rest) e = stands x rest e (stored event.effect c.cells) (kept_by p rest (out-Stmt x) event.effect c.cells (sym (stepped p input c x rest event d e s).left ∙ no_break))
-
-  -- where one is, the locals of its region are cleared
-  pub memory_left : leaves event.effect ≡ true → d ≡ standing p d.to_do (cleared_leaving p (drop 1 c.to_do) (stored event.effect c.cells))
-  memory_left breaks = by c.to_do refl
-    where
-      by : (xs : List Stmt) → c.to_do ≡ xs → d ≡ standing p d.to_do (cleared_leaving p (drop 1 c.to_do) (stored event.effect c.cells))
+      by : (xs : List Stmt) → c.to_do ≡ xs → d ≡ standing p d.to_do (if leaves event.effect then cleared_leaving p (drop 1 c.to_do) (stored event.effect c.cells) else stored event.effect c.cells)
       by [] e = not_stepped p input c event d e s
       by (x ∷ rest) e =
-          stands x rest e (cleared_leaving p (drop 1 c.to_do) (stored event.effect c.cells))
-          (left_by p rest (out-Stmt x) event.effect c.cells (sym (stepped p input c x rest event d e s).left ∙ breaks) ∙ ap (λ (xs : List Stmt). cleared_leaving p (drop 1 xs) (stored event.effect c.cells)) (sym e))
+          let st = stepped p input c x rest event d e s in
+          next_at p input x rest c.cells (out-Stmt x) event d (sym (ap (step_from p input c.cells) e) ∙ s) ∙ ap (λ (xs : List Stmt). standing p xs (stored_by p rest (out-Stmt x) event.effect c.cells)) (sym st.to_do)
+          ∙ ap (standing p d.to_do) (stored_is p rest (out-Stmt x) event.effect c.cells ∙ ap (λ (b : Bool). if b then cleared_leaving p rest (stored event.effect c.cells) else stored event.effect c.cells) (sym st.left)
+          ∙ ap (λ (xs : List Stmt). if leaves event.effect then cleared_leaving p (drop 1 xs) (stored event.effect c.cells) else stored event.effect c.cells) (sym e))
+
+  abbrev Memory : Bool → Config
+  Memory b = standing p d.to_do (if b then cleared_leaving p (drop 1 c.to_do) (stored event.effect c.cells) else stored event.effect c.cells)
+
+  pub memory_kept : leaves event.effect ≡ false → d ≡ standing p d.to_do (stored event.effect c.cells)
+  memory_kept no_break = memory_is ∙ ap Memory no_break
+
+  -- where a break is taken, the locals of its region are cleared
+  pub memory_left : leaves event.effect ≡ true → d ≡ standing p d.to_do (cleared_leaving p (drop 1 c.to_do) (stored event.effect c.cells))
+  memory_left breaks = memory_is ∙ ap Memory breaks
 
 -- behind a body's statements the next region is the same
-no_number : (h : Stmt-F Stmt) → IsTrue (inside_at h) → region_number h ≡ None
-no_number (Region r site cond a) k = absurd (cc)
-no_number _ k = refl
-
-abbrev True : Bool → Type 0
-True b = IsTrue b
-
 pub leaving_append : (p : Program) (front behind : List Stmt) (cells : List ℤ) → IsTrue (all_inside front) → cleared_leaving p (front ++ behind) cells ≡ cleared_leaving p behind cells
 leaving_append p [] behind cells h = refl
 leaving_append p (x ∷ front) behind cells h =
-    let r = both (is_inside x) (all_inside front) h in
-    ap (λ (o : Option ℕ). clear_one p o cells (cleared_leaving p (front ++ behind) cells)) (no_number (out-Stmt x) (subst True (inside_out x) r.0)) ∙ leaving_append p front behind cells r.1
+    let r = and_true (is_inside x) (all_inside front) h in
+    ap (λ (o : Option ℕ). clear_one p o cells (cleared_leaving p (front ++ behind) cells)) (inside_no_region x r.0).2 ∙ leaving_append p front behind cells r.1
 
 number_of : (h : Stmt-F Stmt) (r : ℕ) → part_from h ≡ part.Region r → (region_number h ≡ Some r) × ((p : Program) (cells : List ℤ) → cleared_at p h cells ≡ clear_locals r p.vars cells)
 number_of (Region q site cond a) r e = let same : q ≡ r = cc in (ap Some same, λ p cells. ap (λ (k : ℕ). clear_locals k p.vars cells) same)
-number_of (Assign site x v) r e = absurd (cc)
-number_of (Store site x i v) r e = absurd (cc)
-number_of (Print site v) r e = absurd (cc)
-number_of (If site v a b) r e = absurd (cc)
-number_of (While site v a) r e = absurd (cc)
-number_of (Break site v) r e = absurd (cc)
-number_of (Call f line args) r e = absurd (cc)
+number_of _ r e = absurd (cc)
 
 -- where a region is next
 pub leaving_at : (p : Program) (xs : List Stmt) (r : ℕ) (cells : List ℤ) → part_of xs ≡ part.Region r → cleared_leaving p xs cells ≡ clear_locals r p.vars cells
@@ -111,16 +72,7 @@ standing_at p [] r cells e = absurd (cc)
 standing_at p (x ∷ xs) r cells e = (number_of (out-Stmt x) r e).1 p cells
 
 -- a region's locals stay cleared
-pub cleared_still : (p : Program) (xs : List Stmt) (r : ℕ) (c : Config) (cells : List ℤ) → part_of xs ≡ part.Region r → c ≡ standing p xs cells → cleared_leaving p xs c.cells ≡ c.cells
+pub cleared_still : (p : Program) (xs : List Stmt) (r : ℕ) (c : Config) (cells : List ℤ) → part_of xs ≡ part.Region r → c ≡ standing p xs cells → clear_locals r p.vars c.cells ≡ c.cells
 cleared_still p xs r c cells e is =
     let here : c.cells ≡ clear_locals r p.vars cells = ap (λ (d : Config). d.cells) is ∙ standing_at p xs r cells e in
-    leaving_at p xs r c.cells e ∙ ap (clear_locals r p.vars) here ∙ cleared_twice r p.vars cells ∙ sym here
-
--- a memory at a plain statement is not cleared
-pub standing_plain : (p : Program) (xs : List Stmt) (cells : List ℤ) → part_of xs ≡ part.Plain → (standing p xs cells).cells ≡ cells
-standing_plain p [] cells e = absurd (cc)
-standing_plain p (x ∷ xs) cells e = by (out-Stmt x) e
-  where
-    by : (h : Stmt-F Stmt) → part_from h ≡ part.Plain → cleared_at p h cells ≡ cells
-    by (Region q site cond a) k = absurd (cc)
-    by _ k = refl
+    ap (clear_locals r p.vars) here ∙ clear-still r p.vars (clear_locals r p.vars cells) (λ c local. clear-at r c p.vars cells (inl local)) ∙ sym here

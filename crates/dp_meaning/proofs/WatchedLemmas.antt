@@ -1,27 +1,13 @@
 -- What a watched step is of the run.
-use Rattle.std.proofs.Common.{◌≡◌, ◌≢◌, refl, sym, ◌∙◌, ap, subst, append-nil, append_assoc, ℕ, zero, suc, ◌<◌, Bool, false, true, List, [], ◌∷◌, ◌++◌, ℤ, arith}
-use Rattle.dp_base.specs.declared.End.{End}
-use Rattle.dp_base.specs.declared.End.TheVariants as how
-use Rattle.dp_base.specs.declared.Fault.{Fault}
-use Rattle.dp_base.specs.declared.SiteId.{SiteId}
-use Rattle.dp_tree.specs.declared.Stmt.{Stmt, out-Stmt}
-use Rattle.dp_tree.specs.declared.Stmt.TheOpen.{Stmt-F, Assign, Store, Print, If, While, Region, Break, Call}
-use Rattle.dp_tree.specs.declared.Program.{Program}
-use Rattle.dp_tree.specs.Eval.{Load}
-use Rattle.dp_tree.specs.Event as event
-use Rattle.dp_tree.specs.Step.{Config, Step, Faulted, step}
-use Rattle.dp_tree.specs.Trace.{Run, run_of, ended, prints}
-use Rattle.dp_engine.specs.Evaluating.{Told}
+use Rattle.dp_meaning.proofs.Names.{Spoiled, ◌≡◌, ◌≢◌, refl, sym, ◌∙◌, ap, subst, append-nil, append_assoc, ℕ, zero, suc, ◌<◌, Bool, false, true, List, [], ◌∷◌, ◌++◌, ℤ, arith, End, Fault, SiteId, Stmt, out-Stmt, Stmt-F, Program, Load, Config, Step, Faulted, step, Run, run_of, ended, prints, Told, Loads, Seen, Turn, MachineState, fuel_left, rest_of_run, part_from, part_of, TurnTaken, notes, cells_of, effect_seen, effect_prints, sight_prints, Tells, Ends, WatchSpoiled, WatchedStep}
+use Rattle.dp_meaning.proofs.StretchLemmas.{wanting, already_spoiled}
 use Rattle.dp_meaning.specs.declared.ends.Part.TheVariants as part
-use Rattle.dp_meaning.specs.declared.loads.Loads.{Loads}
-use Rattle.dp_meaning.specs.declared.sight.Effect.{Effect as Seen}
-use Rattle.dp_meaning.specs.declared.sight.Sight.TheVariants as sight
-use Rattle.dp_meaning.specs.declared.turn.Turn.{Turn}
 use Rattle.dp_meaning.specs.declared.turn.Turn.TheVariants as turn
-use Rattle.dp_meaning.specs.MachineState.{MachineState, fuel_left, rest_of_run, part_from, part_of}
-use Rattle.dp_meaning.specs.Turn.{TurnTaken}
-use Rattle.dp_meaning.specs.Watched.{notes, cells_of, effect_seen, effect_prints, sight_prints, Tells, Ends, WatchSpoiled, WatchedStep}
-use Rattle.dp_meaning.proofs.MovedLemmas.{moved_none, moved_step}
+use Rattle.dp_base.specs.declared.End.TheVariants as how
+use Rattle.dp_tree.specs.declared.Stmt.TheOpen.{Assign, Store, Print, If, While, Region, Break, Call}
+use Rattle.dp_tree.specs.Event as event
+use Rattle.dp_meaning.specs.declared.sight.Sight.TheVariants as sight
+use Rattle.dp_meaning.proofs.MovedLemmas.{moved_step}
 use Rattle.dp_meaning.proofs.StopLemmas.{spent_fuel, faults_next}
 
 -- the cells that were told stand behind the others
@@ -37,14 +23,8 @@ part_finished [] e = refl
 part_finished (s ∷ rest) e = absurd (by (out-Stmt s) e)
   where
     by : (h : Stmt-F Stmt) → part_from h ≡ part.Finished → ⊥
-    by (Assign site x v) e = cc e
-    by (Store site x index v) e = cc e
-    by (Print site v) e = cc e
-    by (If site cond a b) e = cc e
-    by (While site cond a) e = cc e
     by (Region r site cond a) e = cc e
-    by (Break site cond) e = cc e
-    by (Call f line args) e = cc e
+    by _ e = cc e
 
 done_run : (p : Program) (input cells : List ℤ) (n : ℕ) → run_of p input n (record { to_do = []; cells = cells }) ≡ ended n (record { to_do = []; cells = cells }) how.Done
 unfolding run_of
@@ -86,30 +66,22 @@ stepped_so m new left site seen before after old loads less (taken, shows) tells
 -- an event prints what its effect is seen to print
 effect_printed : (site : ℕ) (loads : List Load) (f : event.Effect) → prints (record { site = site; loads = loads; effect = f } ∷ []) ≡ effect_prints (effect_seen f)
 effect_printed site loads (event.Stored cell value) = refl
-effect_printed site loads (event.Printed value) = refl
-effect_printed site loads (event.Decided value) = refl
-effect_printed site loads (event.Tried value) = refl
+effect_printed site loads _ = refl
 
 pub step_printed : (m new : MachineState) (left : Bool) (site : SiteId) (seen : Seen) (before after : List ℤ) → TurnTaken (turn.Made left site seen) m new before after → after ≡ before ++ sight_prints (sight.Step site seen)
 step_printed m new left site seen before after (taken, shows) =
     taken.printed ∙ ap (λ xs. before ++ xs) (effect_printed taken.event.site taken.event.loads taken.event.effect ∙ ap effect_prints (sym shows.1))
 
+watch_spoiled : (m new : MachineState) (before after : List ℤ) → Spoiled 1 m new before after → WatchSpoiled m new before after
+watch_spoiled m new before after s = record { events = s.events; configs = s.configs; moved = s.moved; within = (let few = s.within in omega (arith, few)); spoiled = s.spoiled }
+
 -- a machine that was spoiled before makes no step
 pub watches_no_more : (m : MachineState) (out : List ℤ) → m.spoiled ≡ true → WatchSpoiled m m out out
-watches_no_more m out h = record { events = []; configs = []; moved = moved_none m out; within = omega arith; spoiled = h }
+watches_no_more m out h = watch_spoiled m m out out (already_spoiled 1 m out (omega arith) h)
 
--- memory was wanting for the step
+-- memory was wanting for the next step
 pub step_unmade : (m new : MachineState) (before after : List ℤ) → new ≡ record m { spoiled = true } → after ≡ before → WatchSpoiled m new before after
-step_unmade m new before after is same =
-    let none = moved_none m before in
-    let at_last : WatchSpoiled m (record m { spoiled = true }) before before = record {
-      events = [];
-      configs = [];
-      moved = record { run = none.run; prints = none.prints; steps = none.steps; program = refl; input = refl; fuel = refl };
-      within = omega arith;
-      spoiled = refl;
-    } in
-    subst (λ (xs : List ℤ). WatchSpoiled m new before xs) (sym same) (subst (λ (n : MachineState). WatchSpoiled m n before before) (sym is) at_last)
+step_unmade m new before after is same = watch_spoiled m new before after (wanting 1 m before new after (omega arith) is same)
 
 -- memory was wanting for what is told of the step
 pub step_untold : (m new : MachineState) (t : Turn) (before after : List ℤ) → m.steps < m.fuel → TurnTaken t m new before after → WatchSpoiled m (record new { spoiled = true }) before after

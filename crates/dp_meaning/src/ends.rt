@@ -1,4 +1,7 @@
 //! What comes next in a program, and how a call that runs a part of it ends.
+ghost use Rattle.std.specs.Prelude.{◌≡◌};
+ghost use Rattle.dp_meaning.specs.Stretch.{end_of_part};
+
 use dp_base::Fault;
 
 /// What comes next at the top level of `main`.
@@ -38,4 +41,19 @@ pub enum IterEnd {
     Fuel,
     /// As many steps were made as the call was to make.
     Going,
+}
+
+impl IterEnd {
+    /// How a plain part ends that stops so.
+    pub(crate) fn of_part(self) -> PartEnd
+        ensures { result ≡ end_of_part self }
+    {
+        match self {
+            IterEnd::Next => PartEnd::Done,
+            IterEnd::Closed => PartEnd::Done,
+            IterEnd::Fault(fault) => PartEnd::Fault(fault),
+            IterEnd::Fuel => PartEnd::Fuel,
+            IterEnd::Going => PartEnd::Going,
+        }
+    }
 }

@@ -1,22 +1,14 @@
 -- A call of `iterate` has one answer: the machine before it settles the machine after it, the prints and the end.
-use Rattle.std.proofs.Common.{◌≡◌, refl, sym, ◌∙◌, ap, subst, ◌⊎◌, inl, inr, Option, None, Some, ℕ, ◌<◌, ◌≤◌, Bool, true, false, ◌||◌, List, [], ◌∷◌, ◌++◌, length, ℤ, arith}
-use Rattle.std.proofs.lemmas.List.Elements.{All-head}
-use Rattle.dp_tree.specs.Step.{Config, Event}
-use Rattle.dp_tree.specs.Trace.{Run}
-use Rattle.dp_tree.specs.Iteration.{decides_zero, is_leaving}
-use Rattle.std.specs.List.{list_any}
-use Rattle.dp_meaning.specs.declared.ends.Part.{Part}
+use Rattle.dp_meaning.proofs.Names.{◌≡◌, refl, sym, ◌∙◌, ap, subst, ◌⊎◌, inl, inr, Option, None, Some, ℕ, ◌<◌, ◌≤◌, Bool, true, false, ◌||◌, List, [], ◌∷◌, ◌++◌, length, ℤ, arith, All-head, Config, Event, Run, decides_zero, is_leaving, list_any, Part, MachineState, part_of, rest_of_run, IterationRun, IterationStops, HeadsOnce, Awaits, GoesOn, StartsAgain, has_closed, upto_closing, current_after}
+use Rattle.std.proofs.lemmas.List.Folds.{list_any-append}
+use Rattle.std.proofs.lemmas.Bool.{cases_order}
 use Rattle.dp_meaning.specs.declared.ends.Part.TheVariants as part
 use Rattle.dp_meaning.specs.declared.ends.IterEnd.{IterEnd}
 use Rattle.dp_meaning.specs.declared.ends.IterEnd.TheVariants.{Next, Closed, Fault, Fuel, Going}
-use Rattle.dp_meaning.specs.MachineState.{MachineState, part_of, rest_of_run}
-use Rattle.dp_meaning.specs.IterationRun.{IterationRun, IterationStops, HeadsOnce, Awaits, GoesOn, StartsAgain, has_closed, upto_closing, current_after}
 use Rattle.dp_meaning.proofs.NextLemmas.{upto_front, last_front}
+use Rattle.dp_meaning.proofs.StretchLemmas.{IsPlain}
 use Rattle.dp_meaning.proofs.rows.PartAnswers.{no_event}
-use Rattle.dp_meaning.proofs.rows.Stretches.{Further, further, alike, same_prints, same_but, same_machine, behind_all, order}
-
-abbrev IsPlain : Config → Type 0
-IsPlain c = part_of c.to_do ≡ part.Plain
+use Rattle.dp_meaning.proofs.rows.Stretches.{Further, further, alike, same_prints, same_but, same_machine, behind_all}
 
 clash : (p : Part) (r : ℕ) → p ≡ part.Region r → p ≡ part.Plain → ⊥
 clash p r e f = absurd (cc)
@@ -29,25 +21,20 @@ plain_behind region None (d ∷ cs) more c h some = All-head IsPlain c more (beh
 
 -- events that have left the region did so with others behind them, and at the same one
 any_front : (es more : List Event) → list_any is_leaving es ≡ true → list_any is_leaving (es ++ more) ≡ true
-any_front [] more h = absurd (cc)
-any_front (e ∷ es) more h = by (is_leaving e) refl (any_front es more)
-  where
-    by : (b : Bool) → is_leaving e ≡ b → (list_any is_leaving es ≡ true → list_any is_leaving (es ++ more) ≡ true) → (is_leaving e || list_any is_leaving (es ++ more)) ≡ true
-    by true k go = ap (λ (b : Bool). b || list_any is_leaving (es ++ more)) k
-    by false k go = ap (λ (b : Bool). b || list_any is_leaving (es ++ more)) k ∙ go (sym (ap (λ (b : Bool). b || list_any is_leaving es) k) ∙ h)
+any_front es more h = list_any-append is_leaving es more ∙ ap (λ (b : Bool). b || list_any is_leaving more) h
 
 closed_front : (current : Option ℕ) (es more : List Event) → has_closed current es ≡ true → has_closed current (es ++ more) ≡ true
 closed_front (Some r) es more h = any_front es more h
 closed_front None [] more h = absurd (cc)
-closed_front None (e ∷ es) more h = by (decides_zero e.effect) refl
+closed_front None (e ∷ es) more h = by (decides_zero e.effect) h
   where
-    by : (b : Bool) → decides_zero e.effect ≡ b → (decides_zero e.effect || list_any is_leaving (e ∷ es ++ more)) ≡ true
-    by true k = ap (λ (b : Bool). b || list_any is_leaving (e ∷ es ++ more)) k
-    by false k = ap (λ (b : Bool). b || list_any is_leaving (e ∷ es ++ more)) k ∙ any_front (e ∷ es) more (sym (ap (λ (b : Bool). b || list_any is_leaving (e ∷ es)) k) ∙ h)
+    by : (b : Bool) → (b || list_any is_leaving (e ∷ es)) ≡ true → (b || list_any is_leaving (e ∷ es ++ more)) ≡ true
+    by true k = refl
+    by false k = any_front (e ∷ es) more k
 
 closing_front : (current : Option ℕ) (es more : List Event) → has_closed current es ≡ true → upto_closing current es ≡ es → upto_closing current (es ++ more) ≡ es
 closing_front (Some r) es more c h = upto_front es more c ∙ h
-closing_front None es more c h = last_front es more c h
+closing_front None es more c h = last_front es more c ∙ h
 
 longer : (current : Option ℕ) (es fs more : List Event) → has_closed current es ≡ true → upto_closing current es ≡ es → fs ≡ es ++ more → upto_closing current fs ≡ fs → length es < length fs → ⊥
 longer current es fs more c h is last less =
@@ -59,9 +46,7 @@ module _ (region turns : ℕ) (old : MachineState) (before : List ℤ) where
   last_step : (b : MachineState) (fs : List Event) (how : IterEnd) → IterationStops region turns old b fs how → (has_closed old.current fs ≡ false) ⊎ (upto_closing old.current fs ≡ fs)
   last_step b fs Next s = inl s.not_closed
   last_step b fs Closed s = inr s.last
-  last_step b fs (Fault fault) s = inl s.0.not_closed
-  last_step b fs Fuel s = inl s.0.not_closed
-  last_step b fs Going s = inl s.0.not_closed
+  last_step b fs _ s = inl s.0.not_closed
 
   module _ (a b : MachineState) (es fs : List Event) (cs ds : List Config) (k : Further a es fs cs ds) (heads : HeadsOnce region old.current ds) (paired : length cs ≡ length es) where
     plain_here : (old.current ≡ None → 0 < length es) → IsPlain a.config
@@ -118,36 +103,26 @@ module _ (region turns : ℕ) (old : MachineState) (before : List ℤ) where
     same_end : (end how : IterEnd) → IterationStops region turns old a es end → IterationStops region turns old b es how → end ≡ how
     same_end Next Next r s = refl
     same_end Next Closed r s = absurd (closes_once s.closed r.not_closed)
-    same_end Next (Fault other) r s = absurd (not_again a b es config r s.0)
-    same_end Next Fuel r s = absurd (not_again a b es config r s.0)
-    same_end Next Going r s = absurd (not_again a b es config r s.0)
+    same_end Next _ r s = absurd (not_again a b es config r s.0)
     same_end Closed Next r s = absurd (closes_once r.closed s.not_closed)
     same_end Closed Closed r s = refl
-    same_end Closed (Fault other) r s = absurd (closes_once r.closed s.0.not_closed)
-    same_end Closed Fuel r s = absurd (closes_once r.closed s.0.not_closed)
-    same_end Closed Going r s = absurd (closes_once r.closed s.0.not_closed)
-    same_end (Fault fault) Next r s = absurd (not_again b a es (sym config) s r.0)
-    same_end (Fault fault) Closed r s = absurd (closes_once s.closed r.0.not_closed)
+    same_end Closed _ r s = absurd (closes_once r.closed s.0.not_closed)
     same_end (Fault fault) (Fault other) r s = let k = ap (λ (x : Run). x.end) (sym r.2.ends ∙ rest ∙ s.2.ends) in cc
     same_end (Fault fault) Fuel r s = let less = r.2.within in let all = s.1.spent in let e = steps in let f = fuel in absurd (omega (arith, less, all, e, f))
     same_end (Fault fault) Going r s = let less = r.1 in let all = s.2 in absurd (omega (arith, less, all))
-    same_end Fuel Next r s = absurd (not_again b a es (sym config) s r.0)
-    same_end Fuel Closed r s = absurd (closes_once s.closed r.0.not_closed)
     same_end Fuel (Fault other) r s = let less = s.2.within in let all = r.1.spent in let e = steps in let f = fuel in absurd (omega (arith, less, all, e, f))
     same_end Fuel Fuel r s = refl
     same_end Fuel Going r s = let less = s.1 in let all = r.1.spent in let e = steps in let f = fuel in absurd (omega (arith, less, all, e, f))
-    same_end Going Next r s = absurd (not_again b a es (sym config) s r.0)
-    same_end Going Closed r s = absurd (closes_once s.closed r.0.not_closed)
     same_end Going (Fault other) r s = let less = s.1 in let all = r.2 in absurd (omega (arith, less, all))
     same_end Going Fuel r s = let less = r.1 in let all = s.1.spent in let e = steps in let f = fuel in absurd (omega (arith, less, all, e, f))
     same_end Going Going r s = refl
+    same_end _ Next r s = absurd (not_again b a es (sym config) s r.0)
+    same_end _ Closed r s = absurd (closes_once s.closed r.0.not_closed)
 
     same_current : (end : IterEnd) → IterationStops region turns old a es end → IterationStops region turns old b es end → a.current ≡ b.current
     same_current Next r s = r.current ∙ sym s.current
     same_current Closed r s = r.current ∙ sym s.current
-    same_current (Fault fault) r s = r.0.current ∙ sym s.0.current
-    same_current Fuel r s = r.0.current ∙ sym s.0.current
-    same_current Going r s = r.0.current ∙ sym s.0.current
+    same_current _ r s = r.0.current ∙ sym s.0.current
 
   module _ (a b : MachineState) (y z : List ℤ) (end how : IterEnd) (r : IterationRun region turns old a before y end) (s : IterationRun region turns old b before z how) where
     record OneAnswer : Type 0 where
@@ -169,7 +144,7 @@ module _ (region turns : ℕ) (old : MachineState) (before : List ℤ) where
         }
 
     one_answer : OneAnswer
-    one_answer = elim (order (length r.events) (length s.events)) [
+    one_answer = elim (cases_order (length r.events) (length s.events)) [
       | inl e ↦ as_long e
       | inr (inl h) ↦ absurd (no_further a b y z end how r s h)
       | inr (inr h) ↦ absurd (no_further b a z y how end s r h)

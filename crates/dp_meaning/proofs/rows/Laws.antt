@@ -1,16 +1,8 @@
 -- What stands where memory was wanting, and behind a call.
-use Rattle.std.proofs.Common.{◌≡◌, refl, sym, ◌∙◌, ap, subst, true, ℕ, ◌+◌, ◌<◌, Option, None, Some, List, [], ◌∷◌, ◌++◌, append_assoc, drop, length, ℤ, arith}
-use Rattle.std.proofs.lemmas.List.Elements.{filter_map-append}
-use Rattle.dp_tree.specs.Step.{Config, Event}
-use Rattle.dp_tree.specs.Trace.{prints, printed_by}
+use Rattle.dp_meaning.proofs.Names.{◌≡◌, refl, sym, ◌∙◌, ap, subst, true, ℕ, ◌+◌, ◌<◌, Option, None, Some, List, [], ◌∷◌, ◌++◌, append_assoc, drop, length, ℤ, arith, filter_map-append, Config, Event, prints, printed_by, PartEnd, MachineState, rest_of_run, part_of, part_at, next_part, from_region, Spoiled, PartRun, IterationRun, HeadsOnce, Awaits}
 use Rattle.dp_meaning.specs.declared.ends.Part.TheVariants as part
-use Rattle.dp_meaning.specs.declared.ends.PartEnd.{PartEnd}
 use Rattle.dp_meaning.specs.declared.ends.PartEnd.TheVariants as part_end
 use Rattle.dp_meaning.specs.declared.ends.IterEnd.TheVariants as iter_end
-use Rattle.dp_meaning.specs.MachineState.{MachineState, rest_of_run, part_of, part_at, next_part, from_region}
-use Rattle.dp_meaning.specs.Moved.{Spoiled}
-use Rattle.dp_meaning.specs.PartRun.{PartRun}
-use Rattle.dp_meaning.specs.IterationRun.{IterationRun, HeadsOnce, Awaits}
 
 module _ (turns : ℕ) (old new : MachineState) (before after : List ℤ) (s : Spoiled turns old new before after) where
   -- what was printed and what would be printed from here on are the prints of the run

@@ -1,19 +1,10 @@
 -- A call of `run_part` has one answer: the machine before it settles the machine after it, the prints and the end.
-use Rattle.std.proofs.Common.{◌≡◌, refl, sym, ◌∙◌, ap, subst, inl, inr, None, ℕ, ◌<◌, List, ◌∷◌, length, All, ℤ, arith}
-use Rattle.std.proofs.lemmas.List.Elements.{All-head}
-use Rattle.dp_base.specs.declared.End.{End}
-use Rattle.dp_tree.specs.Step.{Config}
-use Rattle.dp_tree.specs.Trace.{Run, ended}
-use Rattle.dp_meaning.specs.declared.ends.Part.TheVariants.{Plain}
-use Rattle.dp_meaning.specs.declared.ends.PartEnd.{PartEnd}
+use Rattle.dp_meaning.proofs.Names.{◌≡◌, refl, sym, ◌∙◌, ap, subst, inl, inr, None, ℕ, ◌<◌, List, ◌∷◌, length, All, ℤ, arith, All-head, End, Config, Run, ended, Plain, PartEnd, MachineState, part_of, rest_of_run, PartRun, PartStops}
+use Rattle.std.proofs.lemmas.Bool.{cases_order}
 use Rattle.dp_meaning.specs.declared.ends.PartEnd.TheVariants.{Done, Fault, Fuel, Going}
-use Rattle.dp_meaning.specs.MachineState.{MachineState, part_of, rest_of_run}
-use Rattle.dp_meaning.specs.PartRun.{PartRun, PartStops}
 use Rattle.dp_meaning.proofs.StopLemmas.{part_idle}
-use Rattle.dp_meaning.proofs.rows.Stretches.{further, alike, same_prints, same_but, same_machine, behind_all, order}
-
-abbrev IsPlain : Config → Type 0
-IsPlain c = part_of c.to_do ≡ Plain
+use Rattle.dp_meaning.proofs.StretchLemmas.{IsPlain}
+use Rattle.dp_meaning.proofs.rows.Stretches.{further, alike, same_prints, same_but, same_machine, behind_all}
 
 -- a run that has ended has no event
 pub no_event : (r : Run) (fuel : ℕ) (c : Config) (how : End) → r ≡ ended fuel c how → 0 < length r.trace → ⊥
@@ -37,20 +28,17 @@ module _ (turns : ℕ) (old : MachineState) (idle : old.current ≡ None) (befor
   same_end : (m : MachineState) (made : ℕ) (end how : PartEnd) → PartStops turns made old m end → PartStops turns made old m how → end ≡ how
   same_end m made Done Done r s = refl
   same_end m made Done (Fault fault) r s = absurd (r.part s.0)
-  same_end m made Done Fuel r s = absurd (r.part s.0)
-  same_end m made Done Going r s = absurd (r.part s.0)
-  same_end m made (Fault fault) Done r s = absurd (s.part r.0)
+  same_end m made Done _ r s = absurd (r.part s.0)
   same_end m made (Fault fault) (Fault other) r s = let k = ap (λ (x : Run). x.end) (sym r.2.ends ∙ s.2.ends) in cc
   same_end m made (Fault fault) Fuel r s = let less = r.2.within in let all = s.1.spent in absurd (omega (arith, less, all))
   same_end m made (Fault fault) Going r s = let less = r.1 in let all = s.2 in absurd (omega (arith, less, all))
-  same_end m made Fuel Done r s = absurd (s.part r.0)
   same_end m made Fuel (Fault other) r s = let less = s.2.within in let all = r.1.spent in absurd (omega (arith, less, all))
   same_end m made Fuel Fuel r s = refl
   same_end m made Fuel Going r s = let less = s.1 in let all = r.1.spent in absurd (omega (arith, less, all))
-  same_end m made Going Done r s = absurd (s.part r.0)
   same_end m made Going (Fault other) r s = let less = s.1 in let all = r.2 in absurd (omega (arith, less, all))
   same_end m made Going Fuel r s = let less = r.1 in let all = s.1.spent in absurd (omega (arith, less, all))
   same_end m made Going Going r s = refl
+  same_end m made _ Done r s = absurd (s.part r.0)
 
   module _ (a b : MachineState) (y z : List ℤ) (end how : PartEnd) (r : PartRun turns old a before y end) (s : PartRun turns old b before z how) where
     record OneAnswer : Type 0 where
@@ -71,7 +59,7 @@ module _ (turns : ℕ) (old : MachineState) (idle : old.current ≡ None) (befor
         }
 
     one_answer : OneAnswer
-    one_answer = elim (order (length r.events) (length s.events)) [
+    one_answer = elim (cases_order (length r.events) (length s.events)) [
       | inl e ↦ as_long e
       | inr (inl h) ↦ absurd (no_further a b y z end how r s h)
       | inr (inr h) ↦ absurd (no_further b a z y how end s r h)

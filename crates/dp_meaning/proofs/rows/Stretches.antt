@@ -1,11 +1,6 @@
 -- Two stretches of steps from one machine on: the longer one goes on where the shorter one stops.
-use Rattle.std.proofs.Common.{◌≡◌, refl, sym, ◌∙◌, ap, subst, ◌⊎◌, inl, inr, ℕ, zero, suc, ◌+◌, ◌-◌, ◌<◌, ◌≤◌, Bool, Option, List, [], ◌∷◌, ◌++◌, append-nil, length, length-append, All, ℤ, arith}
-use Rattle.std.proofs.lemmas.List.Elements.{All-tail}
-use Rattle.dp_tree.specs.declared.Program.{Program}
-use Rattle.dp_tree.specs.Step.{Config, Event, Step, Finished, Faulted, Stepped, step}
-use Rattle.dp_tree.specs.Trace.{Run, run_of, run_by, prints}
-use Rattle.dp_meaning.specs.MachineState.{MachineState, rest_of_run}
-use Rattle.dp_meaning.specs.Moved.{Moved}
+use Rattle.dp_meaning.proofs.Names.{◌≡◌, refl, sym, ◌∙◌, ap, subst, ◌⊎◌, inl, inr, ℕ, zero, suc, ◌+◌, ◌-◌, ◌<◌, ◌≤◌, Bool, Option, List, [], ◌∷◌, ◌++◌, append-nil, length, length-append, All, ℤ, arith, All-tail, Program, Config, Event, Step, Finished, Faulted, Stepped, step, Run, run_of, run_by, prints, MachineState, rest_of_run, Moved}
+use Rattle.dp_meaning.proofs.NextLemmas.{run_begins}
 
 -- one front of a list, and a longer one or the same
 record Fronts {X : Type 0} (front longer rest further : List X) : Type 0 where
@@ -31,32 +26,21 @@ behind_all P [] ys h = h
 behind_all P (x ∷ xs) ys h = behind_all P xs ys (All-tail P x (xs ++ ys) h)
 
 -- the list begins with this configuration
-record Begins (configs : List Config) (c : Config) : Type 0 where
-  tail : List Config
-  is : configs ≡ c ∷ tail
-
-begins_by : (go : Config → Run) (n : ℕ) (c : Config) (s : Step) → Begins (run_by go n c s).configs c
-begins_by go n c Finished = record { tail = []; is = refl }
-begins_by go n c (Faulted fault) = record { tail = []; is = refl }
-begins_by go n c (Stepped event d) = record { tail = (go d).configs; is = refl }
-
-begins : (p : Program) (input : List ℤ) (n : ℕ) (c : Config) → Begins (run_of p input n c).configs c
-unfolding run_of
-begins p input zero c = record { tail = []; is = refl }
-begins p input (suc n) c = begins_by (run_of p input n) (suc n) c (step p input c)
+abbrev Begins : List Config → Config → Type 0
+Begins configs c = (tail : List Config) × (configs ≡ c ∷ tail)
 
 begins_here : (m : MachineState) → Begins (rest_of_run m).configs m.config
-begins_here m = begins m.program m.input (m.fuel - m.steps) m.config
+begins_here m = run_begins m.program m.input (m.fuel - m.steps) m.config
 
 same_first : (configs : List Config) (c d : Config) → Begins configs c → Begins configs d → c ≡ d
-same_first configs c d b e = let k = sym b.is ∙ e.is in cc
+same_first configs c d b e = let k = sym b.1 ∙ e.1 in cc
 
 front_begins : (more rest configs : List Config) (c : Config) → 0 < length more → Begins configs c → configs ≡ more ++ rest → Begins more c
 front_begins [] rest configs c h b e = absurd (omega (arith, h))
 front_begins (d ∷ more) rest configs c h b e =
-    let k = sym b.is ∙ e in
+    let k = sym b.1 ∙ e in
     let same : d ≡ c = cc in
-    record { tail = more; is = ap (λ (x : Config). x ∷ more) same }
+    (more, ap (λ (x : Config). x ∷ more) same)
 
 -- Where the first stretch stops, the second one makes a step.
 pub record Further (a : MachineState) (es fs : List Event) (cs ds : List Config) : Type 0 where
@@ -96,8 +80,8 @@ module _ (old a b : MachineState) (x y z : List ℤ) (es fs : List Event) (cs ds
         some = omega (arith, h, longer, rest);
         events = t.more;
         events_are = t.longer_is;
-        configs = first.tail;
-        configs_are = c.longer_is ∙ ap (λ (xs : List Config). cs ++ xs) first.is;
+        configs = first.0;
+        configs_are = c.longer_is ∙ ap (λ (xs : List Config). cs ++ xs) first.1;
       }
 
   pub alike : length es ≡ length fs → Alike a b es fs cs ds
@@ -133,10 +117,3 @@ module _ (old a b : MachineState) (x y z : List ℤ) (es fs : List Event) (cs ds
 pub same_machine : (a b : MachineState) → a ≡ record b { current = a.current; spoiled = a.spoiled } → a.current ≡ b.current → a.spoiled ≡ b.spoiled → a ≡ b
 same_machine a b e current spoiled =
     e ∙ ap (λ (v : Option ℕ). record b { current = v; spoiled = a.spoiled }) current ∙ ap (λ (v : Bool). record b { spoiled = v }) spoiled
-
--- one is the longer one, or both are as long
-pub order : (m n : ℕ) → (m ≡ n) ⊎ ((m < n) ⊎ (n < m))
-order zero zero = inl refl
-order zero (suc n) = inr (inl (omega arith))
-order (suc m) zero = inr (inr (omega arith))
-order (suc m) (suc n) = elim (order m n) [ inl e ↦ inl (ap suc e) | inr (inl h) ↦ inr (inl (omega (arith, h))) | inr (inr h) ↦ inr (inr (omega (arith, h))) ]

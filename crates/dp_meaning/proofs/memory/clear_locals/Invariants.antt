@@ -1,4 +1,4 @@
-use Rattle.std.proofs.Common.{◌≡◌, drop}
+use Rattle.dp_meaning.proofs.Names.{◌≡◌, drop}
 use Rattle.dp_tree.specs.Step as definition
 use Rattle.dp_meaning.proofs.memory.clear_locals.Given as goal
 

@@ -1,6 +1,5 @@
 -- What is still to be stored is stored after what was.
-use Rattle.std.proofs.Common.{◌≡◌, drop}
-use Rattle.dp_semantics.specs.Told.{with_stores}
+use Rattle.dp_meaning.proofs.Names.{◌≡◌, drop, with_stores}
 use Rattle.dp_meaning.proofs.memory.make_stores.Given as goal
 
 abbrev pub invariant-loop-store : goal.invariant-loop-store

@@ -1,5 +1,4 @@
-use Rattle.std.proofs.Common.{◌≡◌, ◌<◌, ◌^◌, ◌++◌, drop, vec_len}
-use Rattle.dp_tree.specs.Trace.{start_cells}
+use Rattle.dp_meaning.proofs.Names.{◌≡◌, ◌<◌, ◌^◌, ◌++◌, drop, vec_len, start_cells}
 use Rattle.dp_meaning.proofs.memory.start_cells.Given as goal
 
 abbrev pub invariant-loop-info : goal.invariant-loop-info

@@ -1,5 +1,4 @@
-use Rattle.std.proofs.Common.{◌∙◌, sym, ap}
-use Rattle.dp_meaning.specs.MachineState.{MachineState}
+use Rattle.dp_meaning.proofs.Names.{◌∙◌, sym, ap, MachineState}
 use Rattle.dp_meaning.proofs.WatchedLemmas.{watches_no_more}
 use Rattle.dp_meaning.proofs.machine.Machine.watch.Goals as goal
 

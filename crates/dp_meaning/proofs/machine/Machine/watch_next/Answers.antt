@@ -1,13 +1,9 @@
 -- Each answer of a watched step.
-use Rattle.std.proofs.Common.{rules, ◌≡◌, ◌≢◌, ◌<◌, sym, ap, subst, true, false, arith}
+use Rattle.dp_meaning.proofs.Names.{rules, ◌≡◌, ◌≢◌, ◌<◌, sym, ap, subst, true, false, arith, Loads, TurnTaken, rest_at, MachineState, part_of, WatchSpoiled}
+use Rattle.dp_meaning.specs.declared.turn.Turn.TheVariants as turn
 use Rattle.dp_memory.proofs.Held.{on_err}
 use Rattle.dp_meaning.specs.declared.ends.Part.TheVariants.{Finished}
-use Rattle.dp_meaning.specs.declared.loads.Loads.{Loads}
-use Rattle.dp_meaning.specs.declared.turn.Turn.TheVariants as turn
-use Rattle.dp_meaning.specs.Turn.{TurnTaken}
-use Rattle.dp_meaning.specs.Places.{rest_at}
-use Rattle.dp_meaning.specs.MachineState.{MachineState, part_of}
-use Rattle.dp_meaning.specs.Watched.{WatchSpoiled}
+use Rattle.dp_meaning.proofs.StretchLemmas.{step_left}
 use Rattle.dp_meaning.proofs.WatchedLemmas.{nothing_left, ends_fuel, faulted_so, stepped_so, step_printed, step_unmade, step_untold}
 use Rattle.dp_meaning.proofs.machine.Machine.watch_next.Goals as goal
 
@@ -24,20 +20,14 @@ returns-then-self-clause-ok c =
 
 pub returns-in-Fault-clause-ok : goal.returns-in-Fault-clause-ok
 returns-in-Fault-clause-ok c =
-    let most = c.self.invariant.within in
-    let unequal = c.if-self.false in
-    let inside : c.self.inside.steps < c.self.inside.fuel = omega arith in
-    let less : c.args.self.now.steps < c.args.self.now.fuel = subst (λ (m : MachineState). m.steps < m.fuel) c.self.view_is inside in
+    let less = step_left _ c.args.self.now c.self.view_is c.self.invariant.within c.if-self.false in
     let taken : TurnTaken c.in_ok-turn.turn c.args.self.now c.step.new.self c.args.out.now c.step.new.out = c.in_ok-turn.ensures.ok in
     let t : TurnTaken (turn.Fault c.in-Fault.fault) c.args.self.now c.step.new.self c.args.out.now c.step.new.out = rw c.in-Fault.is at taken in
     faulted_so c.args.self.now c.step.new.self c.in-Fault.fault c.step.new.watch.cells less t.0 t.1
 
 pub returns-in-Made-clause-ok : goal.returns-in-Made-clause-ok
 returns-in-Made-clause-ok c =
-    let most = c.self.invariant.within in
-    let unequal = c.if-self.false in
-    let inside : c.self.inside.steps < c.self.inside.fuel = omega arith in
-    let less : c.args.self.now.steps < c.args.self.now.fuel = subst (λ (m : MachineState). m.steps < m.fuel) c.self.view_is inside in
+    let less = step_left _ c.args.self.now c.self.view_is c.self.invariant.within c.if-self.false in
     let taken : TurnTaken c.in_ok-turn.turn c.args.self.now c.step.new.self c.args.out.now c.step.new.out = c.in_ok-turn.ensures.ok in
     let t : TurnTaken (turn.Made c.in-Made.left c.in-Made.site c.in-Made.effect) c.args.self.now c.step.new.self c.args.out.now c.step.new.out = rw c.in-Made.is at taken in
     let whole : c.step.new.watch.wanting ≡ false = search rules in
@@ -56,10 +46,7 @@ returns-in_err-turn-clause-err c =
 
 pub returns-then-loads-clause-err : goal.returns-then-loads-clause-err
 returns-then-loads-clause-err c =
-    let most = c.self.invariant.within in
-    let unequal = c.if-self.false in
-    let inside : c.self.inside.steps < c.self.inside.fuel = omega arith in
-    let less : c.args.self.now.steps < c.args.self.now.fuel = subst (λ (m : MachineState). m.steps < m.fuel) c.self.view_is inside in
+    let less = step_left _ c.args.self.now c.self.view_is c.self.invariant.within c.if-self.false in
     let taken : TurnTaken c.in_ok-turn.turn c.args.self.now c.step.new.self c.args.out.now c.step.new.out = c.in_ok-turn.ensures.ok in
     subst (λ (m : MachineState). WatchSpoiled c.args.self.now (record m { spoiled = true }) c.args.out.now c.step.new.out) (sym c.self-2.view_is)
     (step_untold c.args.self.now c.step.new.self c.in_ok-turn.turn c.args.out.now c.step.new.out less taken)
