@@ -41,6 +41,15 @@ abbrev pub clear_cells : List CellId → List ℤ → List ℤ
 clear_cells [] cells = cells
 clear_cells (cell ∷ rest) cells = clear_cells rest (slice_set cells cell.0 (pos 0))
 
+-- what the memory of stage s holds behind these stores, each at a site of its stage: those of later stages aren't seen
+abbrev pub seen_upto : ℕ → List ℕ → List StoreOf → List ℤ → List ℤ
+seen_upto s (stage ∷ stages) (store ∷ stores) view = seen_upto s stages stores (if nat_le stage s then slice_set view store.cell.0 store.value else view)
+seen_upto s _ _ view = view
+
+-- .. and where these cells read 0 behind them
+abbrev pub carried_by : List ℕ → List StoreOf → List CellId → ℕ → List ℤ → List ℤ
+carried_by stages stores locals s view = clear_cells locals (seen_upto s stages stores view)
+
 -- the last of the memories, or this one
 abbrev pub last_or : List (List ℤ) → List ℤ → List ℤ
 last_or [] other = other

@@ -12,7 +12,7 @@ ghost use Rattle.dp_cause.specs.Views as definition;
 ghost use Rattle.dp_cause.specs.Watching.{HasInner, reported_if, widened};
 
 use crate::replaced::Replaced;
-use crate::views::{clear, clear_all, local_cells, show_all};
+use crate::views::{carry_all, clear, local_cells};
 use crate::watched::{Ground, Watched};
 use dp_base::{Cause, CellId, Cells, NoMemory, Row, StoreOf};
 use dp_plan::{Plan, StageKind, is_region};
@@ -143,8 +143,12 @@ impl Kept {
         ensures kept { self.new ≡ record { views = map (definition.clear_cells self.old.locals) (definition.kept_by (definition.stages_of replaced.now) stores.now self.old.views); locals = self.old.locals } }
         ensures cells { cells.new ≡ definition.clear_cells self.old.locals cells.old }
     {
-        show_all(self.views.as_mut_slice(), stores, replaced);
-        clear_all(self.locals.as_slice(), self.views.as_mut_slice());
+        carry_all(
+            self.views.as_mut_slice(),
+            stores,
+            replaced,
+            self.locals.as_slice(),
+        );
         clear(self.locals.as_slice(), cells);
     }
 

@@ -63,15 +63,6 @@ pub fn show(views: &mut [Cells], stage: u32, cell: u32, value: i64)
     }
 }
 
-/// Each store is seen by its stage and the later ones.
-pub fn show_all(views: &mut [Cells], stores: &[StoreOf], replaced: &[Replaced])
-    ensures { views.new ≡ definition.kept_by (definition.stages_of replaced.now) stores.now views.old }
-{
-    for (store, was) in stores.iter().zip(replaced.iter()) {
-        show(views, was.stage, store.cell.0, store.value);
-    }
-}
-
 fn is_local(region: u32, scope: VarScope) -> bool
     ensures { result ≡ is_local_of region scope }
 {
@@ -103,13 +94,41 @@ pub fn clear(locals: &[CellId], cells: &mut Cells)
     }
 }
 
-/// .. in each memory.
-pub fn clear_all(locals: &[CellId], views: &mut [Cells])
-    ensures { views.new ≡ map (definition.clear_cells locals.now) views.old }
+/// A stage's memory shows the stores of its own sites and of those before it.
+fn show_upto(view: &mut Cells, stage: usize, stores: &[StoreOf], replaced: &[Replaced])
+    ensures { view.new ≡ definition.seen_upto stage (definition.stages_of replaced.now) stores.now view.old }
+{
+    for (store, was) in stores.iter().zip(replaced.iter()) {
+        if was.stage as usize <= stage {
+            put(view, store.cell.0, store.value);
+        }
+    }
+}
+
+/// .. and these cells read 0. A replicated stage, which has no memory of its own, is passed over at once.
+fn carry_one(
+    view: &mut Cells,
+    stage: usize,
+    stores: &[StoreOf],
+    replaced: &[Replaced],
+    locals: &[CellId],
+)
+    ensures { view.new ≡ definition.carried_by (definition.stages_of replaced.now) stores.now locals.now stage view.old }
+{
+    if view.is_empty() {
+        return;
+    }
+    show_upto(view, stage, stores, replaced);
+    clear(locals, view);
+}
+
+/// .. in each stage's memory.
+pub fn carry_all(views: &mut [Cells], stores: &[StoreOf], replaced: &[Replaced], locals: &[CellId])
+    ensures { views.new ≡ map (definition.clear_cells locals.now) (definition.kept_by (definition.stages_of replaced.now) stores.now views.old) }
 {
     let mut place = 0;
     while place < views.len() {
-        clear(locals, &mut views[place]);
+        carry_one(&mut views[place], place + 1, stores, replaced, locals);
         place += 1;
     }
 }

@@ -1,4 +1,7 @@
 //! What the judging of an iteration's words holds.
+ghost use Rattle.std.specs.Prelude.{◌≡◌, []};
+
+use crate::log::Log;
 use dp_base::{CellId, Cells, Row, SiteId, StoreOf, Word};
 use dp_cause::Replaced;
 use dp_code::Op;
@@ -84,9 +87,9 @@ pub struct Walk<'p> {
     pub lists: &'p [Row<Word>],
     /// How many of each stage's words are taken; of the pace's stage, how many were when it was left last.
     pub taken: Row<usize>,
-    pub stores: Row<StoreOf>,
+    pub stores: Log<StoreOf>,
     /// What each store replaced.
-    pub replaced: Row<Replaced>,
+    pub replaced: Log<Replaced>,
     pub prints: Row<i64>,
 }
 
@@ -101,7 +104,9 @@ pub struct Rows {
 
 impl Rows {
     /// Rows that nothing has worked with.
-    pub fn none(alloc: Global) -> Rows {
+    pub fn none(alloc: Global) -> Rows
+        ensures { result ≡ record { taken = []; replaced = []; stores = 0; prints = 0 } }
+    {
         Rows {
             taken: Row::new(alloc),
             replaced: Row::new(alloc),

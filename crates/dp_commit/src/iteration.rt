@@ -7,6 +7,7 @@ ghost use Rattle.dp_commit.specs.Judging.{IsCourt, Judged};
 
 use crate::assuming::{list_of, put};
 use crate::court::{Answer, Court, Pace, Rows, Walk};
+use crate::log::Log;
 use dp_base::{Cells, NoMemory, Row, Word};
 use std::alloc::Global;
 use std::mem;
@@ -57,8 +58,8 @@ fn begin<'p>(
         cells,
         lists,
         taken: none_taken(emptied(alloc, &mut rows.taken), lists.len())?,
-        stores: Row::with_capacity(alloc, rows.stores)?,
-        replaced: emptied(alloc, &mut rows.replaced),
+        stores: Log::from_row(Row::with_capacity(alloc, rows.stores)?),
+        replaced: Log::from_row(emptied(alloc, &mut rows.replaced)),
         prints: Row::with_capacity(alloc, rows.prints)?,
     })
 }
@@ -90,7 +91,7 @@ pub fn before<'p>(walk: Walk<'p>) -> Cells
         ..
     } = walk;
     let mut cells = cells;
-    let mut replaced = replaced;
+    let mut replaced = replaced.into_row();
     while let Some(was) = replaced.pop() {
         put(&mut cells, was.cell.0, was.value);
     }

@@ -9,6 +9,7 @@ mod entries;
 mod finding;
 mod iteration;
 mod judging;
+mod log;
 mod rounds;
 mod taking;
 mod tally;
