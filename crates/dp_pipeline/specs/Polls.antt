@@ -29,6 +29,10 @@ abbrev pub Polls : Counts → Polled → Counts → Type 0
 Polls old Ended new = HasEnded new × (new.taking ≡ old.taking) × (new.sending ≡ old.sending)
 Polls old answer new = Advances old.taking old.sending answer new.taking new.sending
 
+-- a unit that has ended stays as it is; another looks at the flag once, and ends where it saw it set
+abbrev pub LooksOnce : Counts → Polled → Counts → Type 0
+LooksOnce old answer new = (HasEnded old × (new ≡ old)) ⊎ ((new.loads ≡ old.loads + 1) × (new.stopped ≡ true → answer ≡ Ended))
+
 -- why a unit has ended: an ending item was sent, or else the flag was seen set
 abbrev pub why_ended : Counts → Option EndedWhy
 why_ended counts = if counts.last then Some Last else (if counts.stopped then Some Stopped else None)

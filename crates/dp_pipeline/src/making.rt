@@ -158,7 +158,7 @@ pub fn units_of<'p>(
 {
     let stages = setting.plan.stages.len() as u32;
     let mut units = Row::new(alloc);
-    let (back, supply) = way_back(alloc)?;
+    let (back, supply) = way_back(alloc, stages.saturating_add(2), setting.lane)?;
     let start = Start::new(setting.plan, epoch.first, epoch.fuel, supply);
     let mut source = Source::Start(start);
     let mut key = LaneKey { epoch, stage: 1 };

@@ -1,7 +1,7 @@
 //! A unit of one kind: its stage between its ends.
 ghost use Rattle.std.specs.Prelude.{◌≡◌, false};
 ghost use Rattle.dp_pipeline.specs.declared.polled.Polled.TheVariants.{Ended};
-ghost use Rattle.dp_pipeline.specs.Polls.{Polls, HasEnded, counts_of, why_ended};
+ghost use Rattle.dp_pipeline.specs.Polls.{Polls, HasEnded, LooksOnce, counts_of, why_ended};
 ghost use Rattle.dp_pipeline.specs.Works.{HasSentAll};
 
 use crate::advance::advance;
@@ -65,6 +65,7 @@ impl<'p, I: Item, O: Item, E: Ends<I, O>, S: Stage<I, O>> Relay<'p, I, O, E, S> 
     pub fn poll<R: Wait, G: Gate>(&mut self, rt: &R, gate: &G) -> Polled
         ensures polls { Polls self.old result self.new }
         ensures stays { HasEnded self.old → result ≡ Ended }
+        ensures looks { LooksOnce self.old result self.new }
     {
         if self.ended || self.stopped {
             return Polled::Ended;

@@ -9,9 +9,6 @@ use dp_packet::Packet;
 use std::alloc::Global;
 use std::sync::Wait;
 
-/// So many packets may be on their way back. More are freed.
-const PLACES: u32 = 64;
-
 /// A packet whose room is used again: what it says means nothing.
 #[derive(Drop)]
 pub struct Spare {
@@ -40,9 +37,11 @@ impl Back {
     }
 }
 
-/// The way back for packets that were judged, and what gives them out again.
-pub(crate) fn way_back(alloc: Global) -> Result<(Back, Supply), NoMemory> {
-    let (end, spares) = lane::<Spare>(alloc, &0, PLACES)?;
+/// The way back for packets that were judged, and what gives them out again. So many lanes of so many places hold the
+/// packets of an epoch, and all of them may be on their way back at once.
+pub(crate) fn way_back(alloc: Global, lanes: u32, places: u32) -> Result<(Back, Supply), NoMemory> {
+    let room = lanes.saturating_mul(places).max(1);
+    let (end, spares) = lane::<Spare>(alloc, &0, room)?;
     let supply = Supply::new(alloc, spares)?;
     Ok((Back { end }, supply))
 }

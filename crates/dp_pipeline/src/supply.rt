@@ -1,5 +1,5 @@
 //! Packets for the iterations of an epoch.
-ghost use Rattle.std.specs.Prelude.{◌≡◌, ◌≤◌, None, [], IfSome};
+ghost use Rattle.std.specs.Prelude.{◌≡◌, ◌≤◌, ◌<◌, ◌⊎◌, None, [], IfSome, IfNone};
 ghost use Rattle.dp_semantics.specs.Packets as packets;
 ghost use Rattle.dp_packet.specs.Packet.{packet_of, IsUnless};
 
@@ -31,7 +31,7 @@ impl Supply {
     }
 
     /// The empty packet of this iteration, or one that says that memory is wanting, which is the last. None comes above the
-    /// fuel's number.
+    /// fuel's number, and behind the one that says so.
     #[tactic(auto, using(crate::proofs::Supplied::told))]
     pub(crate) fn packet<R: Wait>(
         &mut self,
@@ -41,6 +41,7 @@ impl Supply {
     ) -> Option<Boxed<Packet>>
         ensures number { IfSome result (λ packet. packet.iteration ≡ iteration) }
         ensures within { IfSome result (λ packet. iteration ≤ fuel) }
+        ensures none { IfNone result ((fuel < iteration) ⊎ (self.old.last ≡ None)) }
         ensures said { IfSome result (λ packet. IsUnless packet.status (packet_of packet) (record { lists = []; status = packets.Going; version = None })) }
     {
         if iteration > fuel {
@@ -57,6 +58,7 @@ impl Supply {
 
     /// The packet that says that memory is wanting.
     fn wanting(&mut self, iteration: u64) -> Option<Boxed<Packet>>
+        ensures none { IfNone result (self.old.last ≡ None) }
         ensures number { IfSome result (λ packet. packet.iteration ≡ iteration) }
         ensures said { IfSome result (λ packet. IsUnless packet.status (packet_of packet) (record { lists = []; status = packets.Going; version = None })) }
     {

@@ -40,12 +40,13 @@ impl<'p> Model for Unit<'p> {
 impl<'p> Unit<'p> {
     ghost use Rattle.std.specs.Prelude.{◌≡◌};
     ghost use Rattle.dp_pipeline.specs.declared.polled.Polled.TheVariants.{Ended};
-    ghost use Rattle.dp_pipeline.specs.Polls.{Polls, HasEnded, why_ended};
+    ghost use Rattle.dp_pipeline.specs.Polls.{Polls, HasEnded, LooksOnce, why_ended};
 
     /// Takes, makes and sends at most one item, and waits neither for an item nor for a place.
     pub fn poll<R: Wait, G: Gate>(&mut self, rt: &R, gate: &G) -> Polled
         ensures polls { Polls self.old result self.new }
         ensures stays { HasEnded self.old → result ≡ Ended }
+        ensures looks { LooksOnce self.old result self.new }
     {
         match self.kind.get_mut() {
             Kind::Stage(unit) => unit.poll(rt, gate),
