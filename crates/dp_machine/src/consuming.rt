@@ -5,13 +5,12 @@ ghost use Rattle.dp_code.specs.FlatRun as run;
 ghost use Rattle.dp_code.specs.declared.Op.TheVariants as op;
 ghost use Rattle.dp_machine.specs.Engine.{flat_of, Does, op_in_frame};
 ghost use Rattle.dp_tree.specs.Event as effect;
-ghost use Rattle.dp_plan.specs.Access.{first_site};
+ghost use Rattle.dp_plan.specs.Access.{first_site, stage_of};
 
 use crate::faults::{by_zero, closes};
-use crate::words::take;
+use crate::words::{astray, take};
 use crate::{Answer, Frame, Memory, Turn};
 use dp_base::{CellId, NoMemory, SiteId, Word};
-use dp_packet::VoidWhy;
 
 impl<'p, M: Memory + Drop> Turn<'p, M> {
     /// An earlier stage's store.
@@ -40,23 +39,22 @@ impl<'p, M: Memory + Drop> Turn<'p, M> {
         &mut self,
         frame: Frame<'f>,
         next: usize,
+        stage: u32,
         site: SiteId,
         first: CellId,
         count: u32,
     ) -> Answer
         requires first { frame.first ≡ first_site frame.program.now frame.plan.now }
         requires behind { next ≡ self.old.place + 1 }
+        requires stage { stage ≡ stage_of frame.program.now frame.plan.now site.0 }
         ensures { Does M.cells (op_in_frame frame.entry (flat_of M.cells self.old) (op.Consume site first count)) self.new result }
     {
-        match take(frame, &mut self.lists, site) {
+        match take(&mut self.lists, stage, site) {
             Ok(word) => {
                 if first.0 <= word.index && word.index - first.0 < count {
                     self.told(frame, next, site, word)
                 } else {
-                    Answer::Void(VoidWhy::Astray {
-                        site,
-                        found: Some(word),
-                    })
+                    Answer::Void(astray(site, Some(word)))
                 }
             }
             Err(why) => Answer::Void(why),
@@ -68,13 +66,15 @@ impl<'p, M: Memory + Drop> Turn<'p, M> {
         &mut self,
         frame: Frame<'f>,
         next: usize,
+        stage: u32,
         site: SiteId,
     ) -> Answer
         requires first { frame.first ≡ first_site frame.program.now frame.plan.now }
         requires behind { next ≡ self.old.place + 1 }
+        requires stage { stage ≡ stage_of frame.program.now frame.plan.now site.0 }
         ensures { Does M.cells (op_in_frame frame.entry (flat_of M.cells self.old) (op.ConsumePrint site)) self.new result }
     {
-        match take(frame, &mut self.lists, site) {
+        match take(&mut self.lists, stage, site) {
             Ok(word) => {
                 self.closing = closes(frame, self.closing, site, word.value);
                 self.place = next;
@@ -89,14 +89,16 @@ impl<'p, M: Memory + Drop> Turn<'p, M> {
         &mut self,
         frame: Frame<'f>,
         next: usize,
+        stage: u32,
         site: SiteId,
         zero: u32,
     ) -> Answer
         requires first { frame.first ≡ first_site frame.program.now frame.plan.now }
         requires behind { next ≡ self.old.place + 1 }
+        requires stage { stage ≡ stage_of frame.program.now frame.plan.now site.0 }
         ensures { Does M.cells (op_in_frame frame.entry (flat_of M.cells self.old) (op.ConsumeBranch site zero)) self.new result }
     {
-        match take(frame, &mut self.lists, site) {
+        match take(&mut self.lists, stage, site) {
             Ok(word) => {
                 self.closing = closes(frame, self.closing, site, word.value);
                 self.place = by_zero(word.value, zero, next);

@@ -12,6 +12,7 @@ use dp_tree::Program;
 
 mod clearing;
 mod consuming;
+mod ends;
 mod faults;
 mod going;
 mod making;
@@ -47,6 +48,12 @@ pub struct Note {
     pub checked: bool,
     /// The op there gives a value.
     pub gives: bool,
+    /// The stage whose words the op there takes, or 0.
+    pub stage: u32,
+    /// Where the first value ends that the site takes.
+    pub first: usize,
+    /// Where the second one ends, if the site takes two, or the first.
+    pub last: usize,
 }
 
 /// A code that is ready to be run.
@@ -82,8 +89,6 @@ pub struct Frame<'p> {
 #[derive(Drop)]
 pub struct Turn<'p, M> {
     pub place: usize,
-    /// What an evaluation works on.
-    pub stack: Row<i64>,
     pub memory: M,
     /// What is left of each earlier stage's words.
     pub lists: Row<Cursor<'p>>,

@@ -1,10 +1,10 @@
 //! A stage's machine, from one packet to the next.
-ghost use Rattle.std.specs.Prelude.{◌≡◌, ◌<◌, ◌⊎◌, ℕ, IfOk, true};
+ghost use Rattle.std.specs.Prelude.{◌≡◌, ◌<◌, ◌⊎◌, ℕ, IfOk, map, true};
 ghost use Rattle.dp_plan.specs.Access.{first_site};
 ghost use Rattle.dp_semantics.specs.Fits.{fits_plan};
 ghost use Rattle.dp_code.specs.Code.{stage_code};
 ghost use Rattle.dp_plan.specs.CheckedTable.{IsTabled};
-ghost use Rattle.dp_machine.specs.Engine.{notes_of};
+ghost use Rattle.dp_machine.specs.Engine.{notes_of, known};
 ghost use Rattle.dp_packet.specs.Packet.{packet_of};
 
 use crate::going::{from_cells, from_packet, from_versioned, kept_at_base};
@@ -31,7 +31,7 @@ pub struct StageMachine<'p> {
     rows: Rows,
     ghost ops: { ready.code.ops.now ≡ frame.code.now },
     ghost input: { ready.code.input.now ≡ frame.input.now },
-    ghost notes: { ready.notes ≡ notes_of frame.program.now frame.plan.now frame.code.now },
+    ghost notes: { map known ready.notes ≡ notes_of frame.program.now frame.plan.now frame.code.now },
     ghost first: { frame.first ≡ first_site frame.program.now frame.plan.now },
     ghost code: { frame.code.now ≡ stage_code frame.program.now frame.plan.now stage },
     ghost fits: { fits_plan frame.program.now frame.plan.now ≡ true },
@@ -97,7 +97,7 @@ impl<'p> StageMachine<'p> {
             ready,
             stage,
             kept,
-            rows: Rows::new(alloc)?,
+            rows: Rows::new(alloc),
         })
     }
 

@@ -1,10 +1,10 @@
 //! The words of a site, made and found.
-ghost use Rattle.std.specs.Prelude.{◌≡◌, ◌+◌, ◌++◌, ◌∷◌, [], length, true, false, slice_index};
-ghost use Rattle.dp_plan.specs.Access.{first_site, stage_of};
+ghost use Rattle.std.specs.Prelude.{◌≡◌, ◌+◌, ◌++◌, ◌∷◌, [], length, true, false};
 ghost use Rattle.dp_machine.specs.Engine.{tells, Added, Took};
 ghost use Rattle.dp_semantics.specs.Words.{word_list, after_loads_of};
+ghost use Rattle.dp_packet.specs.declared.VoidWhy.TheVariants as why;
 
-use crate::{Answer, Frame, Teller};
+use crate::{Answer, Teller};
 use dp_base::{NoMemory, Row, SiteId, Word, WordKind};
 use dp_engine::Watch;
 use dp_packet::{Cursor, VoidWhy};
@@ -63,6 +63,15 @@ impl Watch for Teller {
     }
 }
 
+/// Another word stands where the site's are taken, or none does.
+#[cold]
+#[inline(never)]
+pub fn astray(site: SiteId, found: Option<Word>) -> VoidWhy
+    ensures { result ≡ why.Astray site found }
+{
+    VoidWhy::Astray { site, found }
+}
+
 /// A load of the site's stands at the front.
 #[inline(always)]
 fn begins_with_load(words: &[Word], site: SiteId) -> bool
@@ -101,30 +110,6 @@ fn after_loads<'w>(words: &'w [Word], site: SiteId) -> &'w [Word]
     behind_loads(words, site)
 }
 
-#[inline(always)]
-fn entry(stages: &[u32], place: usize) -> u32
-    ensures { result ≡ slice_index stages.now place }
-{
-    match stages.get(place) {
-        Some(stage) => *stage,
-        None => 0,
-    }
-}
-
-/// The stage of a site, and 0 for one before the region.
-#[inline(always)]
-fn stage_at<'f>(frame: Frame<'f>, site: SiteId) -> u32
-    requires { frame.first ≡ first_site frame.program.now frame.plan.now }
-    ensures { result ≡ stage_of frame.entry.program.now frame.entry.plan.now site.0 }
-{
-    if frame.first <= site.0 {
-        let place = (site.0 - frame.first) as usize;
-        entry(frame.plan.stage_of.as_slice(), place)
-    } else {
-        0
-    }
-}
-
 /// What is left of a stage's words; stages count from 1.
 #[inline(always)]
 fn list_of<'p>(lists: &[Cursor<'p>], stage: u32) -> &'p [Word]
@@ -141,18 +126,12 @@ fn list_of<'p>(lists: &[Cursor<'p>], stage: u32) -> &'p [Word]
 
 /// The word of what a site did is taken from its stage's list.
 #[inline(always)]
-pub fn take<'f, 'p>(
-    frame: Frame<'f>,
-    lists: &mut Row<Cursor<'p>>,
-    site: SiteId,
-) -> Result<Word, VoidWhy>
-    requires first { frame.first ≡ first_site frame.program.now frame.plan.now }
-    ensures { Took frame.entry lists.old site lists.new result }
+pub fn take<'p>(lists: &mut Row<Cursor<'p>>, stage: u32, site: SiteId) -> Result<Word, VoidWhy>
+    ensures { Took stage lists.old site lists.new result }
 {
-    let stage = stage_at(frame, site);
     let words = after_loads(list_of(lists.as_slice(), stage), site);
     match words.first() {
-        None => Err(VoidWhy::Astray { site, found: None }),
+        None => Err(astray(site, None)),
         Some(word) => {
             if word.site.0 == site.0 && word.kind == WordKind::Done {
                 let place = (stage as usize).saturating_sub(1);
@@ -161,10 +140,7 @@ pub fn take<'f, 'p>(
                 }
                 Ok(*word)
             } else {
-                Err(VoidWhy::Astray {
-                    site,
-                    found: Some(*word),
-                })
+                Err(astray(site, Some(*word)))
             }
         }
     }
