@@ -38,8 +38,8 @@ fn left(step: Step) -> Looked
 }
 
 impl Watched {
-    #[cycle(text)]
-    fn statement<'p>(&mut self, ground: Ground<'p>, statement: &Stmt) -> Looked
+    /// A statement without others in it.
+    fn alone<'p>(&mut self, ground: Ground<'p>, statement: &Stmt) -> Looked
         requires ground { IsGround ground }
         ensures { Leads ground.entry self.old (statement.now ∷ []) self.new result }
     {
@@ -53,6 +53,16 @@ impl Watched {
             } => simply(self.store(ground, *site, *var, index, value)),
             Stmt::Print { site, value } => simply(self.print(ground, *site, value)),
             Stmt::Break { site, cond } => left(self.attempt(ground, *site, cond)),
+            _ => Looked::NoMemory,
+        }
+    }
+
+    #[cycle(text)]
+    fn statement<'p>(&mut self, ground: Ground<'p>, statement: &Stmt) -> Looked
+        requires ground { IsGround ground }
+        ensures { Leads ground.entry self.old (statement.now ∷ []) self.new result }
+    {
+        match statement {
             Stmt::If {
                 site,
                 cond,
@@ -87,7 +97,7 @@ impl Watched {
                 }
                 Looked::NoMemory
             }
-            Stmt::Region { .. } | Stmt::Call { .. } => Looked::NoMemory,
+            _ => self.alone(ground, statement),
         }
     }
 

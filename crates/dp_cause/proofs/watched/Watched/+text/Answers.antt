@@ -6,26 +6,6 @@ use Rattle.dp_cause.proofs.InnerLemmas.{inner_past, inner_turns}
 use Rattle.dp_cause.proofs.StepLemmas as steps
 use Rattle.dp_cause.proofs.watched.Watched.+text.Goals as goal
 
-pub statement-returns-in-Assign : goal.statement-returns-in-Assign
-statement-returns-in-Assign t c =
-    subst (λ (x : Stmt). Leads c.args.ground c.args.self.now (x ∷ []) c.assign.new.self c.simply.result) (sym c.in-Assign.is)
-    (steps.assign_leads c.args.ground c.args.self.now c.assign.new.self c.in-Assign.site c.in-Assign.var c.in-Assign.value c.assign.result c.simply.result c.simply.ensures c.assign.ensures)
-
-pub statement-returns-in-Store : goal.statement-returns-in-Store
-statement-returns-in-Store t c =
-    subst (λ (x : Stmt). Leads c.args.ground c.args.self.now (x ∷ []) c.store.new.self c.simply-in-Store.result) (sym c.in-Store.is)
-    (steps.store_leads c.args.ground c.args.self.now c.store.new.self c.in-Store.site c.in-Store.var c.in-Store.index c.in-Store.value c.store.result c.simply-in-Store.result c.simply-in-Store.ensures c.store.ensures)
-
-pub statement-returns-in-Print : goal.statement-returns-in-Print
-statement-returns-in-Print t c =
-    subst (λ (x : Stmt). Leads c.args.ground c.args.self.now (x ∷ []) c.print.new.self c.simply-in-Print.result) (sym c.in-Print.is)
-    (steps.print_leads c.args.ground c.args.self.now c.print.new.self c.in-Print.site c.in-Print.value c.print.result c.simply-in-Print.result c.simply-in-Print.ensures c.print.ensures)
-
-pub statement-returns-in-Break : goal.statement-returns-in-Break
-statement-returns-in-Break t c =
-    subst (λ (x : Stmt). Leads c.args.ground c.args.self.now (x ∷ []) c.attempt.new.self c.left.result) (sym c.in-Break.is)
-    (steps.break_leads c.args.ground c.args.self.now c.attempt.new.self c.in-Break.site c.in-Break.cond c.attempt.result c.left.result c.left.ensures c.attempt.ensures)
-
 pub statement-returns-then-zero : goal.statement-returns-then-zero
 statement-returns-then-zero t c =
     let plain : to_z w64 (of_z w64 c.in-On.value) ≡ c.in-On.value = search rules in
@@ -56,15 +36,15 @@ statement-returns-in-Found-decide t c = λ rest.
     let found = steps.while_found c.args.ground c.turns.self c.decide-in-turns.new.self c.args.statement.now c.in-While.site c.in-While.cond c.in-While.body c.in-Found-decide.cause rest c.in-While.is c.in-Found-decide.ensures in
     (found.0, c.turns.invariant rest ∙ found.1, found.2)
 
-pub statement-returns-in_default : goal.statement-returns-in_default
-statement-returns-in_default t c =
+pub statement-returns-in_default-statements : goal.statement-returns-in_default-statements
+statement-returns-in_default-statements t c =
     let plain : to_z w64 (of_z w64 c.in-On-decide.value) ≡ c.in-On-decide.value = search rules in
     steps.other_leads c.args.ground c.args.self.now c.decide-in-turns.new.self c.statements-in-turns.new.self (c.args.statement.now ∷ []) c.as_slice-in-turns.result.now (λ rest. c.args.statement.now ∷ rest)
     (λ rest. c.turns.invariant rest
     ∙ steps.while_on c.args.ground c.turns.self c.decide-in-turns.new.self c.args.statement.now c.in-While.site c.in-While.cond c.in-While.body c.as_slice-in-turns.result.now c.in-On-decide.value rest c.in-While.is c.in-On-decide.ensures
     (ap is_zero (sym plain) ∙ sym c.zero-in-On-decide.ensures ∙ c.if-zero-2.false) c.as_slice-in-turns.ensures)
     (λ rest w. inner_turns c.args.statement.now c.in-While.site c.in-While.cond c.in-While.body c.as_slice-in-turns.result.now rest c.in-While.is c.as_slice-in-turns.ensures w)
-    c.statements-in-turns.result c.in_default.not-Goes c.statements-in-turns.ensures
+    c.statements-in-turns.result c.in_default-statements.not-Goes c.statements-in-turns.ensures
 
 pub statement-turns-preserved : goal.statement-turns-preserved
 statement-turns-preserved t c = λ rest.
