@@ -1,6 +1,6 @@
 -- What is left to do after a step keeps its shape, and what stands from the next region on.
 use Rattle.dp_meaning.proofs.Names.{and_make, and_true, ◌≡◌, refl, sym, ap, ◌∙◌, Bool, true, false, not, if◌then◌else◌, IsTrue, List, [], ◌∷◌, ◌++◌, drop, ℤ, list_all, is_zero, Stmt, out-Stmt, Stmt-F, choose, followed, behind_region, behind_one, region_number, is_simple, is_inside, is_outer, is_any_region, from_region}
-use Rattle.dp_tree.specs.declared.Stmt.TheOpen.{Assign, Store, Print, If, While, Region, Break, Call}
+use Rattle.dp_tree.specs.declared.Stmt.TheOpen.{If, While, Region, Break, Call}
 use Rattle.dp_tree.proofs.Heads.{taken}
 use Rattle.dp_meaning.proofs.OuterLemmas.{all_append, simple_at, inside_at, all_outer, simple_inside, from_region-append}
 

@@ -2,7 +2,7 @@
 use Rattle.dp_meaning.proofs.Names.{◌≡◌, refl, sym, ap, ◌∙◌, Bool, true, false, ◌||◌, IsTrue, List, [], ◌∷◌, list_all, list_any, Stmt, Row_of-Stmt, end_of-Stmt, more_of-Stmt, out-Stmt, roll-Stmt, roll-out-Stmt, rolls-Assign, rolls-Store, rolls-Print, rolls-If, rolls-While, rolls-Region, rolls-Break, rolls-Call, Stmt-F, Program, IsInlined, has_call, has_call_in, is_plain, is_plain_in, is_inner, opened_statement, and_true, and_make, plain_all, top_at, is_top, all_top, is_simple, are_simple, is_inside, is_outer}
 use Rattle.std.proofs.lemmas.Bool.{or_parts}
 use Rattle.dp_tree.specs.declared.Stmt.TheOpen as layer
-use Rattle.dp_tree.specs.declared.Stmt.TheVariants.{Assign, Store, Print, If', While', Region', Break, Call}
+use Rattle.dp_tree.specs.declared.Stmt.TheVariants.{If', While', Region', Break, Call}
 use Rattle.dp_meaning.proofs.OuterLemmas.{all_simple, outer_at, outer_out}
 
 mutual

@@ -1,5 +1,5 @@
 -- Each entry of the table leads to what follows its statement.
-use Rattle.dp_meaning.proofs.Names.{and_make, and_true, ◌≡◌, refl, sym, ap, ◌∙◌, subst, ℕ, Bool, true, false, if◌then◌else◌, IsTrue, List, [], ◌∷◌, ◌++◌, drop, ℤ, Option, Some, None, slice_get, zero, suc, ◌-◌, list_all, is_zero, Expr, SiteId, Stmt, out-Stmt, Row_of-Stmt, end_of-Stmt, more_of-Stmt, items-the_row-Stmt, items_shown-the_row-Stmt-0, outs-Assign, outs-Store, outs-Print, outs-If', outs-While', outs-Region', outs-Break, outs-Call, Program, Stmt-F, choose, followed, behind_region, behind_one, region_number, is_simple, are_simple, is_inside, is_outer, is_outer_at, is_any_region, listed, entry, rests, NodeAt, node, table, first_of, first_region}
+use Rattle.dp_meaning.proofs.Names.{and_make, and_true, ◌≡◌, refl, sym, ap, ◌∙◌, subst, ℕ, Bool, true, false, if◌then◌else◌, IsTrue, List, [], ◌∷◌, ◌++◌, drop, ℤ, Option, Some, None, slice_get, zero, suc, ◌-◌, list_all, is_zero, Expr, SiteId, Stmt, out-Stmt, Row_of-Stmt, end_of-Stmt, more_of-Stmt, items-the_row-Stmt, items_shown-the_row-Stmt-0, outs-Assign, outs-Store, outs-Print, outs-If', outs-While', outs-Region', outs-Break, outs-Call, Program, Stmt-F, choose, followed, behind_region, behind_one, region_number, is_simple, are_simple, is_inside, is_outer, is_outer_at, listed, entry, rests, NodeAt, node, table, first_of, first_region}
 use Rattle.dp_tree.specs.declared.Stmt.TheOpen as layer
 unfoldable use Rattle.dp_meaning.proofs.Names.{rests_of, rests_in, table_of, table_in}
 use Rattle.dp_tree.specs.declared.Stmt.TheBlock.{shown-the_row-Stmt-0}

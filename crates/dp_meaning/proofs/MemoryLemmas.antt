@@ -1,5 +1,5 @@
 -- Stores and clearing.
-use Rattle.dp_meaning.proofs.Names.{◌≡◌, refl, sym, ◌∙◌, ap, ℕ, ◌+◌, ◌<◌, ◌≤◌, suc, Bool, true, false, List, [], ◌∷◌, ◌++◌, replicate, drop, get_or, length, slice_set, if◌then◌else◌, Option, Some, None, ℤ, pos, add-one, drop-cons, length-set, set_out, StoreOf, Stmt, out-Stmt, Program, VarInfo, start_cells, is_local_of, clear_locals, region_number, clear_one, cleared_leaving, with_stores, first_of, first_region}
+use Rattle.dp_meaning.proofs.Names.{◌≡◌, refl, sym, ◌∙◌, ap, ℕ, ◌+◌, ◌<◌, ◌≤◌, suc, List, [], ◌∷◌, ◌++◌, replicate, drop, get_or, length, slice_set, if◌then◌else◌, Option, Some, None, ℤ, pos, add-one, drop-cons, length-set, set_out, StoreOf, Stmt, out-Stmt, Program, VarInfo, start_cells, is_local_of, clear_locals, region_number, clear_one, cleared_leaving, with_stores, first_of, first_region}
 use Rattle.dp_semantics.proofs.Memory.{clear-length}
 
 -- a store past the end changes nothing

@@ -1,8 +1,8 @@
 -- The words of the definitions, as the proofs use them.
-pub use Rattle.std.proofs.Common.{All, Bool, Err, IfOk, IfSome, IsTrue, List, MatchOption, None, Ok, Option, Result, Some, [], add-one, ap, append-nil, append_assoc, arith, drop, drop-cons, eq-eqb, eqb-true, false, get_or, if◌then◌else◌, inl, inr, is_some, length, length-append, length-set, map, not, of_z, pos, refl, replicate, rules, slice_get, slice_set, subst, suc, sym, take, to_z, true, vec_len, w64, zero, ℕ, ℤ, ◌&&◌, ◌++◌, ◌+◌, ◌-◌, ◌<◌, ◌==◌, ◌^◌, ◌||◌, ◌∙◌, ◌∷◌, ◌≡◌, ◌≢◌, ◌≤◌, ◌⊎◌}
+pub use Rattle.std.proofs.Common.{All, Bool, Err, IfOk, IfSome, IsTrue, List, MatchOption, None, Ok, Option, Result, Some, [], add-one, ap, append-nil, append_assoc, arith, drop, drop-cons, eq-eqb, false, get_or, if◌then◌else◌, inl, inr, is_some, length, length-append, length-set, map, not, of_z, pos, refl, replicate, rules, slice_get, slice_set, subst, suc, sym, take, to_z, true, vec_len, w64, zero, ℕ, ℤ, ◌&&◌, ◌++◌, ◌+◌, ◌-◌, ◌<◌, ◌==◌, ◌^◌, ◌||◌, ◌∙◌, ◌∷◌, ◌≡◌, ◌≢◌, ◌≤◌, ◌⊎◌}
 pub use Rattle.std.proofs.Math.Seq.{set_out, take-append_seam}
 pub use Rattle.std.proofs.lemmas.Bool.{cases_Bool}
-pub use Rattle.std.proofs.lemmas.List.Elements.{All-append, All-cons, All-head, All-nil, All-tail, filter_map-append}
+pub use Rattle.std.proofs.lemmas.List.Elements.{All-cons, All-head, All-nil, All-tail, filter_map-append}
 pub use Rattle.std.specs.List.{list_all, list_any}
 pub use Rattle.std.specs.Option.{option_copied, option_map}
 unfoldable pub use Rattle.dp_base.specs.Arithmetic.{is_zero}
@@ -10,16 +10,16 @@ pub use Rattle.dp_base.specs.declared.End.{End}
 pub use Rattle.dp_base.specs.declared.Fault.{Fault}
 pub use Rattle.dp_base.specs.declared.SiteId.{SiteId}
 pub use Rattle.dp_base.specs.declared.StoreOf.{StoreOf}
-pub use Rattle.dp_tree.proofs.Heads.{StepsTo, and_make, and_true, followed-append, keeps_all, keeps_at, keeps_followed, keeps_out, no_region, not_stepped, standing_to_do, stepped, taken, taken_left}
+pub use Rattle.dp_tree.proofs.Heads.{StepsTo, and_make, and_true, followed-append, keeps_all, keeps_out, no_region, not_stepped, standing_to_do, stepped, taken, taken_left}
 unfoldable pub use Rattle.dp_tree.proofs.Heads.{opened_statement}
-pub use Rattle.dp_tree.proofs.InMain.{begins_in_main, left_ends, next_at, stands_next}
+pub use Rattle.dp_tree.proofs.InMain.{begins_in_main, next_at, stands_next}
 pub use Rattle.dp_tree.proofs.Inner.{all_top, inner_all, inner_at, inner_out, is_top, plain_all, top_at}
 pub use Rattle.dp_tree.specs.Eval.{Evaluated, Load, WithLoads, after_loads, and_then, cell_count, eval, first_cell, just, result_of}
 pub use Rattle.dp_tree.specs.Event.{Decided, Effect, Event, Printed, Stored, Tried, stored, value_of}
 pub use Rattle.dp_tree.specs.InMain.{StandsInMain}
 pub use Rattle.dp_tree.specs.Inlined.{IsInlined, has_call, has_call_in}
 pub use Rattle.dp_tree.specs.Iteration.{begins_with, closes, decides_zero, events_from, has_ended, is_closing, is_leaving, is_region, iteration, last_events, leaves, places, stands_at_head, start, upto_leaving}
-pub use Rattle.dp_tree.specs.Numbering.{is_inner, is_inner_in, is_plain, is_plain_in, next_region, numbers_from, regions_in_order, site_numbers, site_numbers_all, site_numbers_in, top_fits}
+pub use Rattle.dp_tree.specs.Numbering.{is_inner, is_plain, is_plain_in, numbers_from, site_numbers, site_numbers_all, site_numbers_in}
 pub use Rattle.dp_tree.specs.Step.{Config, Faulted, Finished, Step, Stepped, after_effect, behind_one, behind_region, choose, clear_locals, clear_one, cleared_at, cleared_leaving, evaluated, followed, is_local_of, region_number, site_of, standing, step, step_at, step_by, step_from, stored_by}
 pub use Rattle.dp_tree.specs.Trace.{Run, begin, end_at, ended, printed_by, prints, run_by, start_cells}
 unfoldable pub use Rattle.dp_tree.specs.Trace.{run_of}
@@ -51,7 +51,6 @@ pub use Rattle.dp_meaning.specs.Turn.{Made, StepTaken, TurnTaken, current_behind
 pub use Rattle.dp_meaning.specs.Watched.{Ends, Shows, Tells, WatchSpoiled, WatchedStep, cells_of, effect_prints, effect_seen, notes, sight_prints}
 pub use Rattle.dp_meaning.specs.declared.act.Act.{Act}
 pub use Rattle.dp_meaning.specs.declared.ends.Part.{Part}
-pub use Rattle.dp_meaning.specs.declared.ends.Part.TheVariants.{Plain}
 pub use Rattle.dp_meaning.specs.declared.ends.PartEnd.{PartEnd}
 pub use Rattle.dp_meaning.specs.declared.loads.Loads.{Loads}
 pub use Rattle.dp_meaning.specs.declared.sight.Effect.{Effect as Seen}

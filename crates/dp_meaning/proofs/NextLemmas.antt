@@ -1,10 +1,9 @@
 -- The next iteration of a machine's run, from the pieces of the run.
-use Rattle.dp_meaning.proofs.Names.{◌≡◌, refl, sym, ap, ◌∙◌, ℕ, zero, suc, ◌+◌, ◌-◌, ◌<◌, ◌==◌, Bool, true, false, ◌||◌, if◌then◌else◌, List, [], ◌∷◌, ◌++◌, take, drop, length, All, Option, Some, None, is_some, slice_get, ℤ, eq-eqb, append-nil, arith, list_any, take-append_seam, All-head, All-tail, Program, Stmt, out-Stmt, Stmt-F, Config, Event, Step, Finished, Faulted, Stepped, step, Run, run_by, is_region, begins_with, stands_at_head, places, start, decides_zero, is_leaving, upto_leaving, last_events, closes, events_from, iteration, has_ended, is_closing, Part, part_from, part_of}
+use Rattle.dp_meaning.proofs.Names.{◌≡◌, refl, sym, ap, ◌∙◌, ℕ, zero, suc, ◌+◌, ◌-◌, ◌==◌, Bool, true, false, ◌||◌, if◌then◌else◌, List, [], ◌∷◌, ◌++◌, take, drop, length, All, Option, Some, None, is_some, slice_get, ℤ, eq-eqb, append-nil, arith, list_any, take-append_seam, All-head, All-tail, Program, Stmt, out-Stmt, Stmt-F, Config, Event, Step, Finished, Faulted, Stepped, step, Run, run_by, is_region, begins_with, stands_at_head, places, start, decides_zero, is_leaving, upto_leaving, last_events, closes, events_from, iteration, has_ended, is_closing, Part, part_from, part_of}
 use Rattle.std.proofs.lemmas.Bool.{or_parts}
 unfoldable use Rattle.dp_meaning.proofs.Names.{run_of}
 use Rattle.dp_meaning.specs.declared.ends.Part.TheVariants as part
 use Rattle.dp_tree.specs.declared.Stmt.TheOpen.{Region}
-use Rattle.dp_meaning.specs.Stretch.{HeadsHere}
 use Rattle.dp_meaning.proofs.StretchLemmas.{IsPlain}
 
 -- whether the part is region r

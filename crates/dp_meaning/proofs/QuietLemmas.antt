@@ -1,18 +1,16 @@
 -- Behind a region of `main` it doesn't come again.
-use Rattle.dp_meaning.proofs.Names.{if◌then◌else◌, ◌≡◌, ◌≢◌, refl, sym, ap, ◌∙◌, subst, ℕ, suc, ◌+◌, ◌-◌, ◌<◌, ◌≤◌, Bool, true, false, List, [], ◌∷◌, ◌++◌, length, ℤ, Some, None, slice_get, arith, keeps_all, keeps_out, no_region, and_true, Program, Stmt, out-Stmt, Stmt-F, Config, IsInlined, is_region, places, stands_at_head, part_from}
+use Rattle.dp_meaning.proofs.Names.{if◌then◌else◌, ◌≡◌, refl, sym, ap, ◌∙◌, ℕ, ◌-◌, Bool, true, false, List, [], ◌∷◌, ◌++◌, ℤ, arith, keeps_all, keeps_out, no_region, and_true, Program, Stmt, out-Stmt, Config, IsInlined, is_region, places, stands_at_head}
 unfoldable use Rattle.dp_meaning.proofs.Names.{run_of}
 use Rattle.std.proofs.Common.{filter, eq-eqb}
 use Rattle.std.proofs.lemmas.Option.{slice_get_within}
 use Rattle.std.proofs.lemmas.List.Elements.{filter-append}
 use Rattle.dp_tree.specs.RegionLaws.{StandsOnce, is_other_site, keeps}
 use Rattle.dp_tree.specs.declared.Stmt.TheVariants as tree
-use Rattle.dp_tree.specs.declared.Stmt.TheOpen.{Region}
 use Rattle.dp_tree.proofs.InsideRegion.{quiet, region_out}
 use Rattle.dp_plan.specs.Access.{is_region_at}
 use Rattle.dp_plan.proofs.RegionOrder.{Sought, absent, present}
 use Rattle.dp_semantics.proofs.ValidFits.{sought}
 use Rattle.dp_semantics.proofs.OnceInMain.{regions_once}
-use Rattle.dp_meaning.specs.declared.ends.Part.TheVariants as part
 
 module _ (p : Program) (inlined : IsInlined p) (r : ℕ) (before : List Stmt) (x : Stmt) (behind : List Stmt) (main_is : p.main ≡ before ++ x ∷ behind) (at : is_region r (out-Stmt x) ≡ true) where
   -- a region that stands in `main` is in the table

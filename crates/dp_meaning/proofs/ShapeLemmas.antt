@@ -1,7 +1,7 @@
 -- The shape of what is left to do, after a step.
 use Rattle.dp_meaning.proofs.Names.{◌≡◌, ◌≢◌, ◌⊎◌, inl, inr, refl, sym, ap, ◌∙◌, subst, ℕ, Bool, true, false, IsTrue, List, [], ◌∷◌, ◌++◌, drop, Option, Some, None, ℤ, if◌then◌else◌, ◌<◌, length, eq-eqb, arith, list_all, is_zero, SiteId, Expr, Stmt, out-Stmt, Stmt-F, Program, StandsInMain, is_inner, Config, Event, Stepped, step, standing, value_of, followed, is_region, leaves, and_true, taken_left, followed-append, standing_to_do, StepsTo, stepped, not_stepped, inner_all, inner_at, inner_out, Part, is_inside, is_outer, part_from, part_of, part_at, is_any_region, from_region, IsWithin, UnderWay, IsEndOfMain, leaves_region, current_behind, has_no_call, no_call_at}
 use Rattle.dp_meaning.specs.declared.ends.Part.TheVariants as part
-use Rattle.dp_tree.specs.declared.Stmt.TheOpen.{Assign, Store, Print, If, While, Region, Break, Call}
+use Rattle.dp_tree.specs.declared.Stmt.TheOpen.{Region, Break, Call}
 use Rattle.dp_tree.proofs.Heads.{taken}
 use Rattle.dp_meaning.proofs.OuterLemmas.{all_inside, simple_at, inside_at, inside_out, outer_at, outer_out, inside_no_region, from_region-append}
 use Rattle.dp_meaning.proofs.FollowedLemmas.{outer, inside, left_behind, outer_followed, inside_followed}

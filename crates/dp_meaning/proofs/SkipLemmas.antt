@@ -1,8 +1,8 @@
 -- The memory after the steps of an iteration.
-use Rattle.dp_meaning.proofs.Names.{inl, and_true, ◌≡◌, refl, sym, ap, ◌∙◌, subst, ℕ, Bool, true, false, not, if◌then◌else◌, IsTrue, List, [], ◌∷◌, ◌++◌, drop, ℤ, Option, None, Some, is_zero, Stmt, out-Stmt, Stmt-F, Program, Effect, Stored, Printed, Decided, Tried, Event, value_of, stored, Config, Stepped, step, step_from, standing, stored_by, after_effect, region_number, clear_one, clear_locals, cleared_leaving, cleared_at, leaves, stepped, not_stepped, next_at, part_from, part_of, stores_of, with_stores, is_inside}
+use Rattle.dp_meaning.proofs.Names.{inl, and_true, ◌≡◌, refl, sym, ap, ◌∙◌, ℕ, Bool, true, false, not, if◌then◌else◌, IsTrue, List, [], ◌∷◌, ◌++◌, drop, ℤ, Option, Some, is_zero, Stmt, out-Stmt, Stmt-F, Program, Effect, Stored, Event, value_of, stored, Config, Stepped, step, step_from, standing, stored_by, region_number, clear_one, clear_locals, cleared_leaving, cleared_at, leaves, stepped, not_stepped, next_at, part_from, part_of, stores_of, with_stores, is_inside}
 use Rattle.dp_semantics.proofs.Memory.{clear-at, clear-still}
 use Rattle.dp_meaning.specs.declared.ends.Part.TheVariants as part
-use Rattle.dp_tree.specs.declared.Stmt.TheOpen.{Assign, Store, Print, If, While, Region, Break, Call}
+use Rattle.dp_tree.specs.declared.Stmt.TheOpen.{Region, Break}
 use Rattle.dp_tree.proofs.Heads.{taken}
 use Rattle.dp_meaning.proofs.OuterLemmas.{all_inside, inside_no_region}
 

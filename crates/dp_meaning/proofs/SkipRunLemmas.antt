@@ -1,8 +1,7 @@
 -- The machine that makes the next iteration at once, against a call of `iterate` that makes all its steps.
-use Rattle.dp_meaning.proofs.Names.{All, append-nil, begins_with, Program, Part, run_of, ◌≡◌, ◌≢◌, refl, sym, ap, ◌∙◌, subst, ℕ, suc, ◌+◌, ◌-◌, ◌<◌, ◌≤◌, Bool, true, false, if◌then◌else◌, List, [], ◌∷◌, ◌++◌, drop, length, Option, Some, None, ℤ, arith, StoreOf, Stmt, out-Stmt, Stmt-F, Config, Event, standing, behind_region, cleared_leaving, clear_locals, Run, prints, is_region, places, stands_at_head, iteration, has_ended, closes, last_events, Continues, MachineState, fuel_left, rest_of_run, part_of, part_from, next_part, from_region, IterationRun, IterationStops, HeadsOnce, stores_of, with_stores, NextIteration, end_of, IsSound, UnderWay, IsEndOfMain}
+use Rattle.dp_meaning.proofs.Names.{All, append-nil, begins_with, Program, Part, run_of, ◌≡◌, ◌≢◌, refl, sym, ap, ◌∙◌, subst, ℕ, ◌+◌, ◌<◌, Bool, true, false, if◌then◌else◌, List, [], ◌∷◌, ◌++◌, drop, length, Option, None, ℤ, arith, StoreOf, Stmt, Config, Event, standing, behind_region, cleared_leaving, clear_locals, Run, prints, places, stands_at_head, iteration, closes, last_events, Continues, MachineState, fuel_left, rest_of_run, part_of, next_part, from_region, IterationRun, IterationStops, HeadsOnce, stores_of, with_stores, NextIteration, end_of, IsSound, IsEndOfMain}
 use Rattle.dp_meaning.specs.declared.ends.Part.TheVariants as part
-use Rattle.dp_meaning.specs.Stretch.{LeavesBehind, StandsThen, is_closed, has_left, upto_left, HeadsHere, Stretch}
-use Rattle.dp_meaning.proofs.ContinuesLemmas.{fuel_of_run}
+use Rattle.dp_meaning.specs.Stretch.{LeavesBehind, StandsThen, is_closed, has_left, upto_left, HeadsHere}
 use Rattle.dp_meaning.proofs.FollowedLemmas.{left_behind}
 use Rattle.dp_meaning.proofs.NextLemmas.{on_region, run_begins, next_events, last_front, last_iteration, open_iteration}
 use Rattle.dp_meaning.proofs.QuietLemmas.{never_again}
@@ -11,7 +10,7 @@ use Rattle.dp_meaning.proofs.SkipLemmas.{after_events, stores_are_changes, clear
 use Rattle.dp_meaning.proofs.StopLemmas.{part_idle, from_region-over}
 use Rattle.dp_meaning.proofs.StretchLemmas.{IsPlain}
 use Rattle.dp_meaning.proofs.StretchEnds.{at_head, stops}
-use Rattle.dp_meaning.proofs.WalkLemmas.{memory_after, Whole, Stuck, Outcome, ends, stuck, walk}
+use Rattle.dp_meaning.proofs.WalkLemmas.{memory_after, Whole, Outcome, ends, stuck, walk}
 
 -- the first configuration, and the plain ones behind it
 record Begins (c : Config) (configs : List Config) : Type 0 where

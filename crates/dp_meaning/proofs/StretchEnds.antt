@@ -1,5 +1,5 @@
 -- What a stretch of steps is of a plain part, and of an iteration.
-use Rattle.dp_meaning.proofs.Names.{IsAnyRegion, Result, Ok, Err, ◌≡◌, ◌≢◌, refl, sym, ◌∙◌, ap, subst, ℕ, Option, None, Some, List, [], ◌∷◌, ◌++◌, length, ℤ, All, Config, Event, Stmt, Part, PartEnd, MachineState, part_of, part_at, next_part, from_region, Moved, Bool, true, ◌<◌, Spoiled, PartRun, PartStops, IterationRun, HeadsOnce, Awaits, has_closed, upto_closing, current_after, UnderWay}
+use Rattle.dp_meaning.proofs.Names.{IsAnyRegion, Result, Ok, Err, ◌≡◌, refl, sym, ◌∙◌, ap, subst, ℕ, Option, None, Some, List, [], ◌∷◌, length, ℤ, Config, Event, Stmt, Part, PartEnd, MachineState, part_of, part_at, next_part, from_region, Spoiled, PartRun, PartStops, IterationRun, HeadsOnce, Awaits, has_closed, upto_closing, current_after, UnderWay}
 use Rattle.std.specs.Prelude.{MatchResult}
 use Rattle.dp_base.specs.declared.NoMemory.{NoMemory}
 use Rattle.dp_meaning.specs.declared.ends.Part.TheVariants as part
@@ -11,7 +11,7 @@ use Rattle.dp_meaning.specs.Stretch.{has_left, upto_left, HeadsHere, IsAmid, Str
 use Rattle.dp_meaning.proofs.OuterLemmas.{from_region-append}
 use Rattle.dp_meaning.proofs.ShapeLemmas.{not_plain}
 use Rattle.dp_meaning.proofs.StopLemmas.{from_region-over, part_idle, plain_idle}
-use Rattle.dp_meaning.proofs.StretchLemmas.{IsPlain, all_plain}
+use Rattle.dp_meaning.proofs.StretchLemmas.{all_plain}
 
 -- a region has a number
 pub some_region : (q : Part) → IsAnyRegion q → (r : ℕ) × (q ≡ part.Region r)

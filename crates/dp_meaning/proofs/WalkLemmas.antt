@@ -1,9 +1,8 @@
 -- The steps of an iteration up to its end, or to where the run ends in it, and the memory that they leave.
-use Rattle.dp_meaning.proofs.Names.{and_true, inl, inr, Fault, ◌||◌, list_any, is_leaving, ◌≡◌, ◌≢◌, refl, sym, ◌∙◌, ap, subst, ℕ, zero, suc, ◌+◌, ◌<◌, Bool, true, false, if◌then◌else◌, IsTrue, Option, None, Some, List, [], ◌∷◌, ◌++◌, drop, length, ℤ, All, arith, All-nil, All-cons, cases_Bool, End, SiteId, Program, Stmt, Config, Event, Effect, Stored, Printed, Decided, Tried, stored, Step, Finished, Faulted, Stepped, step, standing, clear_locals, cleared_leaving, end_at, ended, Run, run_by, prints, decides_zero, leaves, Part, MachineState, fuel_left, rest_of_run, part_of, part_at, next_part, end_of, is_inside, IsSound, UnderWay, Made, StepTaken, leaves_region, current_behind, effect_seen}
+use Rattle.dp_meaning.proofs.Names.{and_true, inl, inr, ◌||◌, list_any, is_leaving, ◌≡◌, ◌≢◌, refl, sym, ◌∙◌, ap, subst, ℕ, zero, suc, ◌+◌, ◌<◌, Bool, true, false, if◌then◌else◌, IsTrue, Option, None, Some, List, [], ◌∷◌, ◌++◌, drop, ℤ, All, arith, All-nil, All-cons, cases_Bool, End, SiteId, Program, Stmt, Config, Event, Effect, Stored, stored, Step, Finished, Faulted, Stepped, step, standing, clear_locals, cleared_leaving, end_at, ended, Run, run_by, prints, decides_zero, leaves, Part, MachineState, fuel_left, rest_of_run, part_of, part_at, next_part, end_of, is_inside, IsSound, UnderWay, Made, StepTaken, leaves_region, current_behind, effect_seen}
 unfoldable use Rattle.dp_meaning.proofs.Names.{run_of}
 use Rattle.dp_base.specs.declared.End.TheVariants as how
 use Rattle.dp_meaning.specs.declared.ends.Part.TheVariants as part
-use Rattle.dp_meaning.specs.declared.ends.IterEnd.TheVariants as end
 use Rattle.dp_meaning.specs.declared.turn.Turn.TheVariants as turn
 use Rattle.dp_meaning.specs.Stretch.{has_left, Stretch}
 use Rattle.dp_meaning.proofs.MovedLemmas.{moved_step}

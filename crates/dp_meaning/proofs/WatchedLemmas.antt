@@ -4,7 +4,7 @@ use Rattle.dp_meaning.proofs.StretchLemmas.{wanting, already_spoiled}
 use Rattle.dp_meaning.specs.declared.ends.Part.TheVariants as part
 use Rattle.dp_meaning.specs.declared.turn.Turn.TheVariants as turn
 use Rattle.dp_base.specs.declared.End.TheVariants as how
-use Rattle.dp_tree.specs.declared.Stmt.TheOpen.{Assign, Store, Print, If, While, Region, Break, Call}
+use Rattle.dp_tree.specs.declared.Stmt.TheOpen.{Region}
 use Rattle.dp_tree.specs.Event as event
 use Rattle.dp_meaning.specs.declared.sight.Sight.TheVariants as sight
 use Rattle.dp_meaning.proofs.MovedLemmas.{moved_step}

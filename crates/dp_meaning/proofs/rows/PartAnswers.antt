@@ -1,5 +1,5 @@
 -- A call of `run_part` has one answer: the machine before it settles the machine after it, the prints and the end.
-use Rattle.dp_meaning.proofs.Names.{◌≡◌, refl, sym, ◌∙◌, ap, subst, inl, inr, None, ℕ, ◌<◌, List, ◌∷◌, length, All, ℤ, arith, All-head, End, Config, Run, ended, Plain, PartEnd, MachineState, part_of, rest_of_run, PartRun, PartStops}
+use Rattle.dp_meaning.proofs.Names.{◌≡◌, refl, sym, ◌∙◌, ap, subst, inl, inr, None, ℕ, ◌<◌, List, ◌∷◌, length, All, ℤ, arith, All-head, End, Config, Run, ended, PartEnd, MachineState, rest_of_run, PartRun, PartStops}
 use Rattle.std.proofs.lemmas.Bool.{cases_order}
 use Rattle.dp_meaning.specs.declared.ends.PartEnd.TheVariants.{Done, Fault, Fuel, Going}
 use Rattle.dp_meaning.proofs.StopLemmas.{part_idle}

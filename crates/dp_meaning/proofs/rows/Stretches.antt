@@ -1,5 +1,5 @@
 -- Two stretches of steps from one machine on: the longer one goes on where the shorter one stops.
-use Rattle.dp_meaning.proofs.Names.{◌≡◌, refl, sym, ◌∙◌, ap, subst, ◌⊎◌, inl, inr, ℕ, zero, suc, ◌+◌, ◌-◌, ◌<◌, ◌≤◌, Bool, Option, List, [], ◌∷◌, ◌++◌, append-nil, length, length-append, All, ℤ, arith, All-tail, Program, Config, Event, Step, Finished, Faulted, Stepped, step, Run, run_of, run_by, prints, MachineState, rest_of_run, Moved}
+use Rattle.dp_meaning.proofs.Names.{◌≡◌, refl, sym, ◌∙◌, ap, subst, ℕ, ◌+◌, ◌-◌, ◌<◌, ◌≤◌, Bool, Option, List, [], ◌∷◌, ◌++◌, append-nil, length, length-append, All, ℤ, arith, All-tail, Program, Config, Event, prints, MachineState, rest_of_run, Moved}
 use Rattle.dp_meaning.proofs.NextLemmas.{run_begins}
 
 -- one front of a list, and a longer one or the same

@@ -1,4 +1,4 @@
-use Rattle.dp_meaning.proofs.Names.{◌≡◌, ◌∙◌, sym, ap, subst, MachineState, PartRun}
+use Rattle.dp_meaning.proofs.Names.{◌∙◌, sym, ap, subst, MachineState, PartRun}
 use Rattle.dp_meaning.specs.declared.ends.PartEnd.{PartEnd}
 use Rattle.dp_meaning.proofs.StretchLemmas.{already_spoiled}
 use Rattle.dp_meaning.proofs.StretchEnds.{as_part}

@@ -1,5 +1,5 @@
 -- Each answer of a watched step.
-use Rattle.dp_meaning.proofs.Names.{rules, ◌≡◌, ◌≢◌, ◌<◌, sym, ap, subst, true, false, arith, Loads, TurnTaken, rest_at, MachineState, part_of, WatchSpoiled}
+use Rattle.dp_meaning.proofs.Names.{rules, ◌≡◌, ◌≢◌, sym, ap, subst, true, false, Loads, TurnTaken, rest_at, MachineState, part_of, WatchSpoiled}
 use Rattle.dp_meaning.specs.declared.turn.Turn.TheVariants as turn
 use Rattle.dp_memory.proofs.Held.{on_err}
 use Rattle.dp_meaning.specs.declared.ends.Part.TheVariants.{Finished}
