@@ -15,3 +15,4 @@ pub mod FinishLemmas
 pub mod QuietLemmas
 pub mod FitLemmas
 pub mod RunLemmas
+mod LoadRows

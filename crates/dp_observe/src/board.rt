@@ -1,5 +1,5 @@
 //! What was counted in all regions.
-ghost use Rattle.std.specs.Prelude.{◌≡◌, ℕ, ◌<◌, ◌+◌, ◌-◌, ◌^◌, [], IfOk, OnOk};
+ghost use Rattle.std.specs.Prelude.{◌≡◌, ℕ, ◌<◌, ◌≤◌, ◌+◌, ◌-◌, ◌^◌, [], IfOk, OnOk, OnErr};
 ghost use Rattle.dp_observe.specs.Counting.{BoardCounts, writer_after};
 ghost use Rattle.dp_observe.specs.Frames.{nobody};
 ghost use Rattle.dp_observe.specs.Owners.{owner_after};
@@ -44,6 +44,7 @@ fn counters(
 fn one_more(n: u32) -> Result<u32, NoMemory>
     ensures value { IfOk result (λ more. more ≡ n + 1) }
     ensures small { IfOk result (λ more. more < 2 ^ 32) }
+    ensures full { OnErr result (2 ^ 32 ≤ n + 1) }
 {
     n.checked_add(1).ok_or(NoMemory)
 }

@@ -1,5 +1,5 @@
 //! What was counted at one site.
-ghost use Rattle.std.specs.Prelude.{◌≡◌, ℕ, ◌+◌, IfOk, OnOk};
+ghost use Rattle.std.specs.Prelude.{◌≡◌, ℕ, ◌+◌, ◌≤◌, ◌^◌, IfOk, OnOk, OnErr};
 ghost use Rattle.dp_observe.specs.Frames as definition;
 ghost use Rattle.dp_observe.specs.Columns.{at_column};
 
@@ -21,7 +21,8 @@ pub(crate) struct Tally {
 
 /// A number that would be too large counts as a want of memory.
 fn one_more(n: u64) -> Result<u64, NoMemory>
-    ensures { IfOk result (λ more. more ≡ n + 1) }
+    ensures value { IfOk result (λ more. more ≡ n + 1) }
+    ensures full { OnErr result (2 ^ 64 ≤ n + 1) }
 {
     n.checked_add(1).ok_or(NoMemory)
 }
