@@ -127,112 +127,116 @@ fn until_in(alloc: Global, until: Option<u32>, statement: &Stmt) -> Result<Optio
     }
 }
 
-fn put_statement(
+/// Where a statement stands: the last site of the outermost inner `while` that has it.
+#[derive(Clone, Copy)]
+struct Inside {
     alloc: Global,
-    out: &mut Row<Part>,
     until: Option<u32>,
-    site: SiteId,
-    value: &Expr,
-    stores: Option<Touched>,
-) -> Result<(), NoMemory>
-    ensures { OnOk result (out.new ≡ out.old ++ record { site = site.0; loads = spec.loads_in value.now; stores = stores; until = until } ∷ []) }
-{
-    let loads = loads(alloc, value)?;
-    put_part(out, site, until, loads, stores)?;
-    Ok(())
 }
 
-fn put_store(
-    alloc: Global,
-    out: &mut Row<Part>,
-    until: Option<u32>,
-    site: SiteId,
-    var: VarId,
-    index: &Expr,
-    value: &Expr,
-) -> Result<(), NoMemory>
-    ensures { OnOk result (out.new ≡ out.old ++ record { site = site.0; loads = spec.loads_in index.now ++ spec.loads_in value.now; stores = Some (record { var = var; place = index_place index.now }); until = until } ∷ []) }
-{
-    let loads = both_loads(alloc, index, value)?;
-    put_part(out, site, until, loads, element(var, index))?;
-    Ok(())
+impl Inside {
+    /// Where the sites of this `while` stand.
+    fn in_loop(self, statement: &Stmt) -> Result<Inside, NoMemory>
+        ensures { IfOk result (λ within. within.until ≡ spec.until_in self.until statement.now) }
+    {
+        let until = until_in(self.alloc, self.until, statement)?;
+        Ok(Inside {
+            alloc: self.alloc,
+            until,
+        })
+    }
+
+    fn put_statement(
+        self,
+        out: &mut Row<Part>,
+        site: SiteId,
+        value: &Expr,
+        stores: Option<Touched>,
+    ) -> Result<(), NoMemory>
+        ensures { OnOk result (out.new ≡ out.old ++ record { site = site.0; loads = spec.loads_in value.now; stores = stores; until = self.until } ∷ []) }
+    {
+        let loads = loads(self.alloc, value)?;
+        put_part(out, site, self.until, loads, stores)
+    }
+
+    fn put_store(
+        self,
+        out: &mut Row<Part>,
+        site: SiteId,
+        var: VarId,
+        index: &Expr,
+        value: &Expr,
+    ) -> Result<(), NoMemory>
+        ensures { OnOk result (out.new ≡ out.old ++ record { site = site.0; loads = spec.loads_in index.now ++ spec.loads_in value.now; stores = Some (record { var = var; place = index_place index.now }); until = self.until } ∷ []) }
+    {
+        let loads = both_loads(self.alloc, index, value)?;
+        put_part(out, site, self.until, loads, element(var, index))
+    }
 }
 
 #[tactic(auto, using(crate::proofs::PartForms::part_forms))]
 #[cycle(parts)]
-fn put_parts_of(
-    alloc: Global,
-    out: &mut Row<Part>,
-    until: Option<u32>,
-    statement: &Stmt,
-) -> Result<(), NoMemory>
-    ensures { OnOk result (out.new ≡ out.old ++ spec.part_list until statement.now) }
+fn put_parts_of(inside: Inside, out: &mut Row<Part>, statement: &Stmt) -> Result<(), NoMemory>
+    ensures { OnOk result (out.new ≡ out.old ++ spec.part_list inside.until statement.now) }
 {
     match statement {
-        Stmt::Assign { site, var, value } => {
-            put_statement(alloc, out, until, *site, value, whole(*var))?;
-            Ok(())
-        }
+        Stmt::Assign { site, var, value } => inside.put_statement(out, *site, value, whole(*var)),
         Stmt::Store {
             site,
             var,
             index,
             value,
-        } => {
-            put_store(alloc, out, until, *site, *var, index, value)?;
-            Ok(())
-        }
-        Stmt::Print { site, value } => {
-            put_statement(alloc, out, until, *site, value, None)?;
-            Ok(())
-        }
-        Stmt::Break { site, cond } => {
-            put_statement(alloc, out, until, *site, cond, None)?;
-            Ok(())
-        }
+        } => inside.put_store(out, *site, *var, index, value),
+        Stmt::Print { site, value } => inside.put_statement(out, *site, value, None),
+        Stmt::Break { site, cond } => inside.put_statement(out, *site, cond, None),
         Stmt::If {
             site,
             cond,
             then_part,
             else_part,
         } => {
-            put_statement(alloc, out, until, *site, cond, None)?;
-            put_parts(alloc, out, until, then_part.as_slice())?;
-            put_parts(alloc, out, until, else_part.as_slice())?;
+            inside.put_statement(out, *site, cond, None)?;
+            put_parts(inside, out, then_part.as_slice())?;
+            put_parts(inside, out, else_part.as_slice())?;
             Ok(())
         }
         Stmt::While { site, cond, body } => {
-            let last = until_in(alloc, until, statement)?;
-            put_statement(alloc, out, last, *site, cond, None)?;
-            put_parts(alloc, out, last, body.as_slice())?;
-            Ok(())
+            let within = inside.in_loop(statement)?;
+            put_loop(within, out, *site, body.as_slice(), cond)
         }
         Stmt::Region {
             site,
             cond,
             body,
             ..
-        } => {
-            put_statement(alloc, out, until, *site, cond, None)?;
-            put_parts(alloc, out, until, body.as_slice())?;
-            Ok(())
-        }
+        } => put_loop(inside, out, *site, body.as_slice(), cond),
         Stmt::Call { .. } => Ok(()),
     }
 }
 
+/// Appends those of a loop with this condition.
+#[cycle(parts)]
+fn put_loop(
+    inside: Inside,
+    out: &mut Row<Part>,
+    site: SiteId,
+    body: &[Stmt],
+    cond: &Expr,
+) -> Result<(), NoMemory>
+    ensures { OnOk result (out.new ≡ out.old ++ record { site = site.0; loads = spec.loads_in cond.now; stores = None; until = inside.until } ∷ spec.part_lists inside.until body.now) }
+{
+    inside.put_statement(out, site, cond, None)?;
+    put_parts(inside, out, body)?;
+    Ok(())
+}
+
 #[tactic(auto, using(crate::proofs::PartForms::part_steps))]
 #[cycle(parts)]
-fn put_parts(
-    alloc: Global,
-    out: &mut Row<Part>,
-    until: Option<u32>,
-    all: &[Stmt],
-) -> Result<(), NoMemory>
-    ensures { OnOk result (out.new ≡ out.old ++ spec.part_lists until all.now) }
+fn put_parts(inside: Inside, out: &mut Row<Part>, all: &[Stmt]) -> Result<(), NoMemory>
+    ensures { OnOk result (out.new ≡ out.old ++ spec.part_lists inside.until all.now) }
 {
     for statement in all {
-        put_parts_of(alloc, out, until, statement)?;
+        put_parts_of(inside, out, statement)?;
     }
     Ok(())
 }
@@ -242,6 +246,7 @@ pub fn parts_of(alloc: Global, statement: &Stmt) -> Result<Row<Part>, NoMemory>
     ensures { IfOk result (λ parts. parts ≡ spec.part_list None statement.now) }
 {
     let mut parts = Row::new(alloc);
-    put_parts_of(alloc, &mut parts, None, statement)?;
+    let inside = Inside { alloc, until: None };
+    put_parts_of(inside, &mut parts, statement)?;
     Ok(parts)
 }

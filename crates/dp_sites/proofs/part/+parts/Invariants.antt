@@ -3,4 +3,4 @@ use Rattle.dp_sites.specs.Parts.{part_lists}
 use Rattle.dp_sites.proofs.part.+parts.Given as goal
 
 abbrev pub invariant-put_parts-loop-statement : goal.invariant-put_parts-loop-statement
-invariant-put_parts-loop-statement l = l.out ++ part_lists l.until (drop l.statement-index l.all) ≡ l.initial.out ++ part_lists l.until l.all
+invariant-put_parts-loop-statement l = l.out ++ part_lists l.inside.until (drop l.statement-index l.all) ≡ l.initial.out ++ part_lists l.inside.until l.all
