@@ -22,10 +22,16 @@ pub(crate) enum Kind<'p> {
 }
 
 /// A stage, a worker of a replicated one, or the try-commit unit of an epoch.
-#[derive(Drop)]
 pub struct Unit<'p> {
     /// In a box, since a unit is moved often and is large.
     pub(crate) kind: Boxed<Kind<'p>>,
+}
+
+// By hand, so that a crate above doesn't prove again how all that a unit holds is dropped.
+impl<'p> Drop for Unit<'p> {
+    fn drop(self) {
+        let Unit { kind: _ } = self;
+    }
 }
 
 impl<'p> Model for Unit<'p> {

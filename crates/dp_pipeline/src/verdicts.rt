@@ -14,13 +14,24 @@ use std::marker::Model;
 use std::sync::Wait;
 
 /// The end of the verdict lane, and the units that no thread runs.
-#[derive(Drop)]
 pub struct LaneVerdicts<'u> {
     end: TakeEnd<Judged<'u>>,
     own: Row<Unit<'u>>,
     pause: Pause<'u>,
     /// Where the packets that were judged are sent back.
     back: Option<Back>,
+}
+
+// By hand, so that a crate above doesn't prove again how all that they hold is dropped.
+impl<'u> Drop for LaneVerdicts<'u> {
+    fn drop(self) {
+        let LaneVerdicts {
+            end: _,
+            own: _,
+            pause: _,
+            back: _,
+        } = self;
+    }
 }
 
 impl<'u> Model for LaneVerdicts<'u> {
@@ -63,7 +74,7 @@ impl<'u> LaneVerdicts<'u> {
             end,
             own,
             pause,
-            ..
+            back: _,
         } = self;
         LaneVerdicts {
             end,
@@ -78,7 +89,12 @@ impl<'u> LaneVerdicts<'u> {
     pub fn polling(self, units: Row<Unit<'u>>, pause: Pause<'u>) -> LaneVerdicts<'u>
         ensures { result ≡ self.entry }
     {
-        let LaneVerdicts { end, back, .. } = self;
+        let LaneVerdicts {
+            end,
+            own: _,
+            pause: _,
+            back,
+        } = self;
         LaneVerdicts {
             end,
             own: units,
