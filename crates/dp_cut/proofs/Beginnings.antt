@@ -1,8 +1,8 @@
 -- What the code's tests say of stages.
-use Rattle.std.proofs.Common.{◌≡◌, inl, inr, refl, sym, subst, arith, ℕ, ◌<◌, ◌≤◌, ◌+◌, ◌-◌, if◌then◌else◌, Bool, true, false, List, [], ◌∷◌, length, slice_index}
+use Rattle.std.proofs.Common.{◌≡◌, inl, inr, refl, sym, subst, arith, ℕ, ◌<◌, ◌≤◌, ◌+◌, ◌-◌, if◌then◌else◌, Bool, true, false, List, [], length, slice_index}
 use Rattle.std.proofs.lemmas.Bool.{cases_lt, cases_eq}
 use Rattle.dp_cut.specs.declared.Stretch.{Stretch}
-use Rattle.dp_cut.specs.Allowed.{AreStages, weight_between}
+use Rattle.dp_cut.specs.Allowed.{weight_between}
 use Rattle.dp_cut.specs.Fits.{Fits, TellsNeed}
 use Rattle.dp_cut.specs.Best.{AreCosts, AreLimits, Stands, MayStand, Best, IsBeginning}
 use Rattle.dp_cut.proofs.Greedy.{stages_within, split, best_next, best_none, weaken, fits_stage}

@@ -1,13 +1,11 @@
 -- The numbers of flows tell them apart.
-use Rattle.std.proofs.Common.{◌≡◌, refl, sym, ◌∙◌, ap, arith, ℕ, suc, ◌+◌, ◌*◌, ◌^◌, ◌<◌, ◌==◌, if◌then◌else◌, Bool, true, false, ◌&&◌, ◌||◌, List, [], ◌∷◌, ◌++◌, drop, get_or, length, add-one, drop-cons}
+use Rattle.std.proofs.Common.{◌≡◌, sym, ◌∙◌, ℕ, ◌^◌, ◌<◌, ◌==◌, Bool, ◌&&◌, ◌||◌, List}
 use Rattle.std.specs.List.{list_any}
 use Rattle.std.specs.List.Sorted.{IsPermutation, IsNonDecreasing}
-use Rattle.std.proofs.lemmas.Bool.{eq-eqb, eqb-true, true≢false, and_from, and_parts}
 use Rattle.std.proofs.lemmas.List.Sorted.{list_any-IsPermutation}
 use Rattle.dp_plan.specs.Written.{has}
 use Rattle.dp_profile.specs.declared.SiteCount.{SiteCount}
 use Rattle.dp_profile.specs.declared.Flow.{Flow}
-use Rattle.dp_profile.specs.Observed.{same_kind}
 use Rattle.dp_depend.specs.Shown.{is_flow, is_frequent}
 use Rattle.dp_depend.specs.Frequent.{key, HasFrequent, AreFrequent}
 

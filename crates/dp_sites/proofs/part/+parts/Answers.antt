@@ -1,4 +1,4 @@
-use Rattle.std.proofs.Common.{◌≡◌, ◌+◌, ◌<◌, ◌++◌, ◌∷◌, [], List, ℕ, Option, None, length, drop, sym, ap, subst, ◌∙◌, OnOk, arith}
+use Rattle.std.proofs.Common.{◌≡◌, ◌+◌, ◌<◌, ◌++◌, ◌∷◌, List, ℕ, Option, None, length, drop, sym, ap, subst, ◌∙◌, OnOk, arith}
 use Rattle.std.proofs.lemmas.List.{at_drop_all}
 use Rattle.dp_tree.specs.declared.Stmt.{Stmt}
 use Rattle.dp_sites.specs.Parts.{Part, loads_in, part_list, part_lists, until_in}
