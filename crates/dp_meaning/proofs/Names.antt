@@ -13,13 +13,13 @@ pub use Rattle.dp_base.specs.declared.StoreOf.{StoreOf}
 pub use Rattle.dp_tree.proofs.Heads.{StepsTo, and_make, and_true, followed-append, keeps_all, keeps_out, no_region, not_stepped, standing_to_do, stepped, taken, taken_left}
 unfoldable pub use Rattle.dp_tree.proofs.Heads.{opened_statement}
 pub use Rattle.dp_tree.proofs.InMain.{begins_in_main, next_at, stands_next}
-pub use Rattle.dp_tree.proofs.Inner.{all_top, inner_all, inner_at, inner_out, is_top, plain_all, top_at}
+pub use Rattle.dp_tree.proofs.Inner.{all_top, inner_all, inner_at, inner_out, inner_plain, is_top, plain_all, plain_choose, top_at}
 pub use Rattle.dp_tree.specs.Eval.{Evaluated, Load, WithLoads, after_loads, and_then, cell_count, eval, first_cell, just, result_of}
 pub use Rattle.dp_tree.specs.Event.{Decided, Effect, Event, Printed, Stored, Tried, stored, value_of}
 pub use Rattle.dp_tree.specs.InMain.{StandsInMain}
 pub use Rattle.dp_tree.specs.Inlined.{IsInlined, has_call, has_call_in}
 pub use Rattle.dp_tree.specs.Iteration.{begins_with, closes, decides_zero, events_from, has_ended, is_closing, is_leaving, is_region, iteration, last_events, leaves, places, stands_at_head, start, upto_leaving}
-pub use Rattle.dp_tree.specs.Numbering.{is_inner, is_plain, is_plain_in, numbers_from, site_numbers, site_numbers_all, site_numbers_in}
+pub use Rattle.dp_tree.specs.Numbering.{is_inner, is_plain, is_plain_in, next_region, numbers_from, regions_in_order, site_numbers, site_numbers_all, site_numbers_in, top_fits}
 pub use Rattle.dp_tree.specs.Step.{Config, Faulted, Finished, Step, Stepped, after_effect, behind_one, behind_region, choose, clear_locals, clear_one, cleared_at, cleared_leaving, evaluated, followed, is_local_of, region_number, site_of, standing, step, step_at, step_by, step_from, stored_by}
 pub use Rattle.dp_tree.specs.Trace.{Run, begin, end_at, ended, printed_by, prints, run_by, start_cells}
 unfoldable pub use Rattle.dp_tree.specs.Trace.{run_of}
@@ -45,7 +45,7 @@ pub use Rattle.dp_meaning.specs.Places.{LeadsAt, NodeAt, PositionAt, config_at, 
 unfoldable pub use Rattle.dp_meaning.specs.Places.{rest_at, rests_in, rests_of, table_in, table_of}
 pub use Rattle.dp_meaning.specs.PlainSteps.{Follows, LedTo, PlainStep, PlainSteps, Ran, more, none}
 pub use Rattle.dp_meaning.specs.Runnable.{are_simple, is_inside, is_outer, is_outer_at, is_simple}
-pub use Rattle.dp_meaning.specs.Sound.{IsSound, IsWithin, UnderWay}
+pub use Rattle.dp_meaning.specs.Sound.{IsOrdered, IsSound, IsWithin, UnderWay}
 pub use Rattle.dp_meaning.specs.Standing.{IsEndOfMain}
 pub use Rattle.dp_meaning.specs.Turn.{Made, StepTaken, TurnTaken, current_behind, has_no_call, leaves_region, no_call_at}
 pub use Rattle.dp_meaning.specs.Watched.{Ends, Shows, Tells, WatchSpoiled, WatchedStep, cells_of, effect_prints, effect_seen, notes, sight_prints}
