@@ -44,7 +44,6 @@ pub use Rattle.dp_meaning.specs.PartRun.{PartRun, PartStops}
 pub use Rattle.dp_meaning.specs.Places.{LeadsAt, NodeAt, PositionAt, config_at, entry, first_of, first_region, led_to, listed, node, number_of, rests, shown, table, table_for}
 unfoldable pub use Rattle.dp_meaning.specs.Places.{rest_at, rests_in, rests_of, table_in, table_of}
 pub use Rattle.dp_meaning.specs.PlainSteps.{Follows, LedTo, PlainStep, PlainSteps, Ran, more, none}
-pub use Rattle.dp_meaning.specs.Runnable.{are_simple, is_inside, is_outer, is_outer_at, is_simple}
 pub use Rattle.dp_meaning.specs.Sound.{IsOrdered, IsSound, IsWithin, UnderWay}
 pub use Rattle.dp_meaning.specs.Standing.{IsEndOfMain}
 pub use Rattle.dp_meaning.specs.Turn.{Made, StepTaken, TurnTaken, current_behind, has_no_call, leaves_region, no_call_at}
