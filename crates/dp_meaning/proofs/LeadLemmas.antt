@@ -1,5 +1,5 @@
 -- Each entry of the table leads to what follows its statement.
-use Rattle.dp_meaning.proofs.Names.{and_make, and_true, ◌≡◌, refl, sym, ap, ◌∙◌, subst, ℕ, Bool, true, false, if◌then◌else◌, List, [], ◌∷◌, ◌++◌, ℤ, Option, Some, None, ◌==◌, ◌⊎◌, inl, inr, slice_get, zero, suc, ◌-◌, list_any, is_zero, Expr, SiteId, Stmt, out-Stmt, Row_of-Stmt, end_of-Stmt, more_of-Stmt, items-the_row-Stmt, items_shown-the_row-Stmt-0, outs-Assign, outs-Store, outs-Print, outs-If', outs-While', outs-Region', outs-Break, outs-Call, Program, Stmt-F, choose, followed, behind_region, behind_one, region_number, is_plain, is_plain_in, is_inner, inner_all, top_fits, next_region, regions_in_order, has_call, has_call_in, listed, entry, rests, NodeAt, node, table, first_of, first_region}
+use Rattle.dp_meaning.proofs.Names.{and_make, and_true, ◌≡◌, refl, sym, ap, ◌∙◌, subst, ℕ, Bool, true, false, if◌then◌else◌, List, [], ◌∷◌, ◌++◌, ℤ, Option, Some, None, ◌==◌, ◌⊎◌, inl, inr, slice_get, zero, suc, ◌-◌, list_any, is_zero, Stmt, out-Stmt, Row_of-Stmt, end_of-Stmt, more_of-Stmt, items-the_row-Stmt, items_shown-the_row-Stmt-0, outs-Assign, outs-Store, outs-Print, outs-If', outs-While', outs-Region', outs-Break, outs-Call, Program, Stmt-F, choose, followed, behind_region, behind_one, region_number, is_plain, is_plain_in, is_inner, inner_all, top_fits, next_region, regions_in_order, has_call, has_call_in, Leaves, listed, entry, rests, NodeAt, node, table, first_of, first_region}
 use Rattle.std.proofs.lemmas.Bool.{or_parts}
 use Rattle.dp_tree.specs.Numbering.{is_inner_in}
 use Rattle.dp_tree.proofs.Inner.{inner_left}
@@ -62,7 +62,7 @@ module _ (p : Program) (P : List Stmt → Type 0) (end : ℕ) where
     pub after : List Stmt
     pub is : xs ≡ n.statement ∷ after
     pub to : (z : ℤ) → Goes n (is_zero z) (followed n.statement after (out-Stmt n.statement) z)
-    pub left : (site : SiteId) (cond : Expr) → out-Stmt n.statement ≡ layer.Break site cond → first_region after ≡ Some n.region
+    pub left : Leaves (out-Stmt n.statement) after n.region
 
   abbrev pub Fit : List NodeAt → List (List Stmt) → Type 0
   Fit [] [] = Unit {0}
@@ -89,17 +89,17 @@ module _ (p : Program) (P : List Stmt → Type 0) (end : ℕ) where
   fit-append (m ∷ ms) ns [] ys f g = absurd f
 
   leads : (s : Stmt) (after : List Stmt) (r : ℕ) (h : Stmt-F Stmt) (next other : ℕ) → out-Stmt s ≡ h → ((z : ℤ) → Goes (node p s next other r) (is_zero z) (followed s after h z))
-      → ((site : SiteId) (cond : Expr) → h ≡ layer.Break site cond → first_region after ≡ Some r) → Leads (node p s next other r) (s ∷ after)
+      → Leaves h after r → Leads (node p s next other r) (s ∷ after)
   leads s after r h next other is to left = record {
     program = refl;
     after = after;
     is = refl;
     to = λ z. subst (λ (f : Stmt-F Stmt). Goes (node p s next other r) (is_zero z) (followed s after f z)) (sym is) (to z);
-    left = λ site cond at. left site cond (sym is ∙ at);
+    left = subst (λ (f : Stmt-F Stmt). Leaves f after r) (sym is) left;
   }
 
   -- an entry that has two ways
-  forked : (s : Stmt) (after one two : List Stmt) (r : ℕ) (h : Stmt-F Stmt) (next other : ℕ) → out-Stmt s ≡ h → ((z : ℤ) → followed s after h z ≡ choose z one two) → ((site : SiteId) (cond : Expr) → h ≡ layer.Break site cond → first_region after ≡ Some r)
+  forked : (s : Stmt) (after one two : List Stmt) (r : ℕ) (h : Stmt-F Stmt) (next other : ℕ) → out-Stmt s ≡ h → ((z : ℤ) → followed s after h z ≡ choose z one two) → Leaves h after r
       → P one → P two → next ≡ entry one end → other ≡ entry two end → Leads (node p s next other r) (s ∷ after)
   forked s after one two r h next other is same left here there e f = leads s after r h next other is (λ z. subst (Goes (node p s next other r) (is_zero z)) (sym (same z)) (by (is_zero z))) left
     where
@@ -120,19 +120,19 @@ module _ (p : Program) (P : List Stmt → Type 0) (end : ℕ) where
       first_of_rests s (listed rest ++ behind) (or_parts (has_call s) (has_call_in rest) none).0 (each_front (rests_of s (listed rest ++ behind)) (rests_in rest behind) each)
 
   -- one that goes the same way by each value
-  one_way : (s : Stmt) (after : List Stmt) (r : ℕ) (h : Stmt-F Stmt) → out-Stmt s ≡ h → ((z : ℤ) → followed s after h z ≡ after) → ((site : SiteId) (cond : Expr) → h ≡ layer.Break site cond → ⊥) → P after
+  one_way : (s : Stmt) (after : List Stmt) (r : ℕ) (h : Stmt-F Stmt) → out-Stmt s ≡ h → ((z : ℤ) → followed s after h z ≡ after) → Leaves h after r → P after
       → Fit (node p s (entry after end) (entry after end) r ∷ []) ((s ∷ after) ∷ [])
-  one_way s after r h is same unlike here =
-      (leads s after r h (entry after end) (entry after end) is (λ z. subst (Goes (node p s (entry after end) (entry after end) r) (is_zero z)) (sym (same z)) (here, by (is_zero z))) (λ site cond e. absurd (unlike site cond e)), tt)
+  one_way s after r h is same left here =
+      (leads s after r h (entry after end) (entry after end) is (λ z. subst (Goes (node p s (entry after end) (entry after end) r) (is_zero z)) (sym (same z)) (here, by (is_zero z))) left, tt)
     where
       by : (b : Bool) → (if b then entry after end else entry after end) ≡ entry after end
       by true = refl
       by false = refl
 
-  loop_leads : (s : Stmt) (after body : List Stmt) (r : ℕ) (h : Stmt-F Stmt) → out-Stmt s ≡ h → ((z : ℤ) → followed s after h z ≡ choose z (body ++ s ∷ after) after) → ((site : SiteId) (cond : Expr) → h ≡ layer.Break site cond → ⊥)
+  loop_leads : (s : Stmt) (after body : List Stmt) (r : ℕ) (h : Stmt-F Stmt) → out-Stmt s ≡ h → ((z : ℤ) → followed s after h z ≡ choose z (body ++ s ∷ after) after) → Leaves h after r
       → P (body ++ s ∷ after) → P after → Leads (node p s (entry body (place s)) (entry after end) r) (s ∷ after)
-  loop_leads s after body r h is same unlike here there =
-      forked s after (body ++ s ∷ after) after r h (entry body (place s)) (entry after end) is same (λ site cond e. absurd (unlike site cond e)) here there (sym (entry-append body (s ∷ after) end)) refl
+  loop_leads s after body r h is same left here there =
+      forked s after (body ++ s ∷ after) after r h (entry body (place s)) (entry after end) is same left here there (sym (entry-append body (s ∷ after) end)) refl
 
   -- a break goes on behind the next region, which it leaves
   record Breaks (after : List Stmt) (exit r : ℕ) : Type 0 where
@@ -163,9 +163,9 @@ module _ (p : Program) (P : List Stmt → Type 0) (end : ℕ) where
     unfolding rests_of rests_in table_of table_in
 
     link_of : (s : Stmt) (after : List Stmt) (exit r : ℕ) → OfBody s after exit r → has_call s ≡ false → P after → Each (rests_of s after) → Fit (table_of p s (entry after end) exit r) (rests_of s after)
-    link_of (Assign site x e) after exit r h none here each = one_way (Assign site x e) after r (layer.Assign site x e) (outs-Assign site x e) (λ z. refl) (λ t c k. absurd (cc k)) here
-    link_of (Store site x index e) after exit r h none here each = one_way (Store site x index e) after r (layer.Store site x index e) (outs-Store site x index e) (λ z. refl) (λ t c k. absurd (cc k)) here
-    link_of (Print site e) after exit r h none here each = one_way (Print site e) after r (layer.Print site e) (outs-Print site e) (λ z. refl) (λ t c k. absurd (cc k)) here
+    link_of (Assign site x e) after exit r h none here each = one_way (Assign site x e) after r (layer.Assign site x e) (outs-Assign site x e) (λ z. refl) tt here
+    link_of (Store site x index e) after exit r h none here each = one_way (Store site x index e) after r (layer.Store site x index e) (outs-Store site x index e) (λ z. refl) tt here
+    link_of (Print site e) after exit r h none here each = one_way (Print site e) after r (layer.Print site e) (outs-Print site e) (λ z. refl) tt here
     link_of (If' site cond i a j b) after exit r h none here each =
         let s = If' site cond i a j b in
         let plain = and_true (is_plain_in a) (is_plain_in b) (plain_by s after exit r refl h) in
@@ -174,20 +174,20 @@ module _ (p : Program) (P : List Stmt → Type 0) (end : ℕ) where
         let second = each_back (rests_in a after) (rests_in b after) each.1 in
         let x = shown-the_row-Stmt-0 i a in let y = shown-the_row-Stmt-0 j b in (
           forked s after (listed a ++ after) (listed b ++ after) r (layer.If site cond x y) (entry (listed a) (entry after end)) (entry (listed b) (entry after end)) (outs-If' site cond i a j b)
-              (λ z. ap (λ u. choose z u y ++ after) (shown_listed i a) ∙ ap (λ u. choose z (listed a) u ++ after) (shown_listed j b) ∙ choose-append z (listed a) (listed b) after) (λ t c k. absurd (cc k))
+              (λ z. ap (λ u. choose z u y ++ after) (shown_listed i a) ∙ ap (λ u. choose z (listed a) u ++ after) (shown_listed j b) ∙ choose-append z (listed a) (listed b) after) tt
               (entered a after free.0 here first) (entered b after free.1 here second) (sym (entry-append (listed a) after end)) (sym (entry-append (listed b) after end)),
           fit-append (table_in p a (entry after end) exit r) (table_in p b (entry after end) exit r) (rests_in a after) (rests_in b after) (link_in a after exit r (inl plain.0) free.0 here first) (link_in b after exit r (inl plain.1) free.1 here second),
         )
     link_of (While' site cond i a) after exit r h none here each =
         let s = While' site cond i a in (
-          loop_leads s after (listed a) r (layer.While site cond (shown-the_row-Stmt-0 i a)) (outs-While' site cond i a) (λ z. ap (λ u. choose z (u ++ s ∷ after) after) (shown_listed i a)) (λ t c k. absurd (cc k))
+          loop_leads s after (listed a) r (layer.While site cond (shown-the_row-Stmt-0 i a)) (outs-While' site cond i a) (λ z. ap (λ u. choose z (u ++ s ∷ after) after) (shown_listed i a)) tt
               (entered a (s ∷ after) none each.0 each.1) here,
           link_in a (s ∷ after) exit r (inl (plain_by s after exit r refl h)) none each.0 each.1,
         )
     link_of (Region' q site cond i a) after exit r h none here each = absurd (cc (plain_by (Region' q site cond i a) after exit r refl h))
     link_of (Break site cond) after exit r (inl k) none here each = absurd (cc k)
     link_of (Break site cond) after exit r (inr b) none here each =
-        (forked (Break site cond) after (behind_region after) after r (layer.Break site cond) exit (entry after end) (outs-Break site cond) (λ z. refl) (λ t c k. b.1.region) b.1.behind here b.1.goes refl, tt)
+        (forked (Break site cond) after (behind_region after) after r (layer.Break site cond) exit (entry after end) (outs-Break site cond) (λ z. refl) b.1.region b.1.behind here b.1.goes refl, tt)
     link_of (Call f line args) after exit r h none here each = absurd (cc none)
 
     link_in : {n : _} (rows : Row_of-Stmt n) (behind : List Stmt) (exit r : ℕ) → Body rows behind exit r → has_call_in rows ≡ false → P behind → Each (rests_in rows behind) → Fit (table_in p rows (entry behind end) exit r) (rests_in rows behind)
@@ -210,7 +210,7 @@ module _ (p : Program) (P : List Stmt → Type 0) (end : ℕ) where
       let left : behind_region (s ∷ after) ≡ after = ap (λ (f : Stmt-F Stmt). behind_one (region_number f) after (behind_region after)) is in
       let region : first_region (s ∷ after) ≡ Some q = ap (λ (f : Stmt-F Stmt). first_of (region_number f) (first_region after)) is in
       let breaks : Breaks (s ∷ after) (entry after end) q = record { behind = subst P (sym left) here; goes = ap (λ (xs : List Stmt). entry xs end) (sym left); region = region } in (
-        loop_leads s after (listed a) 0 (layer.Region q site cond x) is (λ z. ap (λ u. choose z (u ++ s ∷ after) after) (shown_listed i a)) (λ t c k. absurd (cc k)) (entered a (s ∷ after) none each.0 each.1) here,
+        loop_leads s after (listed a) 0 (layer.Region q site cond x) is (λ z. ap (λ u. choose z (u ++ s ∷ after) after) (shown_listed i a)) tt (entered a (s ∷ after) none each.0 each.1) here,
         link_in a (s ∷ after) (entry after end) q (inr ((and_true (q == k) (is_inner_in a) h).1, breaks)) none each.0 each.1,
       )
   link_top k s after h none here each = link_of s after 0 0 (inl h) none here each

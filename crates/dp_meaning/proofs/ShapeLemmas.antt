@@ -1,11 +1,8 @@
 -- The shape of what is left to do, after a step.
-use Rattle.dp_meaning.proofs.Names.{◌≡◌, ◌≢◌, refl, sym, ap, ◌∙◌, subst, ℕ, zero, suc, Bool, true, false, ◌&&◌, IsTrue, List, [], ◌∷◌, ◌++◌, drop, Option, Some, None, ℤ, get_or, eq-eqb, list_all, Stmt, out-Stmt, Stmt-F, Row_of-Stmt, end_of-Stmt, more_of-Stmt, outs-Assign, outs-Store, outs-Print, outs-If', outs-While', outs-Region', outs-Break, listed, rests, rest_at, Program, StandsInMain, is_inner, is_top, all_top, regions_in_order, Config, Event, Stepped, step, standing, value_of, leaves, and_make, and_true, standing_to_do, StepsTo, stepped, not_stepped, inner_all, inner_at, inner_out, Part, part_from, part_of, part_at, is_any_region, from_region, IsOrdered, UnderWay, IsEndOfMain, leaves_region, current_behind, has_no_call, no_call_at, top_at}
-unfoldable use Rattle.dp_meaning.proofs.Names.{rest_at, rests_of, rests_in}
+use Rattle.dp_meaning.proofs.Names.{◌≡◌, ◌≢◌, refl, sym, ap, ◌∙◌, subst, ℕ, Bool, true, false, List, [], ◌∷◌, ◌++◌, drop, Option, Some, None, ℤ, eq-eqb, list_all, Stmt, out-Stmt, Stmt-F, Program, StandsInMain, is_inner, is_top, all_top, regions_in_order, Config, Event, Stepped, step, standing, value_of, leaves, and_true, standing_to_do, StepsTo, stepped, not_stepped, inner_all, inner_at, inner_out, Part, part_from, part_of, part_at, is_any_region, from_region, IsOrdered, UnderWay, IsEndOfMain, leaves_region, current_behind, top_at}
 use Rattle.std.proofs.lemmas.List.Folds.{list_all-append}
 use Rattle.dp_meaning.specs.declared.ends.Part.TheVariants as part
-use Rattle.dp_tree.specs.declared.Stmt.TheOpen as layer
 use Rattle.dp_tree.specs.declared.Stmt.TheOpen.{Region, Break}
-use Rattle.dp_tree.specs.declared.Stmt.TheVariants as form
 use Rattle.dp_meaning.proofs.FollowedLemmas.{goes_off, fits_at, inner_fits, top_fits_at, followed_off, followed_on, followed_ordered, ordered_rest, ordered_from, ordered_head}
 use Rattle.dp_meaning.proofs.StopLemmas.{from_region-over}
 
@@ -121,45 +118,6 @@ module _ (p : Program) (input : List ℤ) (c d : Config) (event : Event) (s : st
       by (x ∷ rest) e =
           subst (Shape current) ((leaves_by x rest e (out-Stmt x) (to x rest e)).0 ∙ ap (λ (ys : List Stmt). leaves_region (part_of ys) event.effect) (sym e))
           (shaped_at x rest e (fits x rest e in_order t) current u)
-
--- At no place is a call next, since it has no site.
-abbrev AreFree : List (List Stmt) → Type 0
-AreFree xss = list_all has_no_call xss ≡ true
-
-free-append : (xss yss : List (List Stmt)) → AreFree xss → AreFree yss → AreFree (xss ++ yss)
-free-append xss yss f g = list_all-append has_no_call xss yss ∙ and_make (list_all has_no_call xss) (list_all has_no_call yss) f g
-
-free-cons : (s : Stmt) (behind : List Stmt) (xss : List (List Stmt)) (h : Stmt-F Stmt) → out-Stmt s ≡ h → no_call_at h ≡ true → AreFree xss → AreFree ((s ∷ behind) ∷ xss)
-free-cons s behind xss h is free later = and_make (no_call_at (out-Stmt s)) (list_all has_no_call xss) (ap no_call_at is ∙ free) later
-
-mutual
-  unfolding rests_of rests_in
-  free_of : (s : Stmt) (behind : List Stmt) → AreFree (rests_of s behind)
-  free_of (form.Assign site x e) behind = free-cons (form.Assign site x e) behind [] (layer.Assign site x e) (outs-Assign site x e) refl refl
-  free_of (form.Store site x index e) behind = free-cons (form.Store site x index e) behind [] (layer.Store site x index e) (outs-Store site x index e) refl refl
-  free_of (form.Print site e) behind = free-cons (form.Print site e) behind [] (layer.Print site e) (outs-Print site e) refl refl
-  free_of (form.If' site cond i a j b) behind = free-cons (form.If' site cond i a j b) behind (rests_in a behind ++ rests_in b behind) _ (outs-If' site cond i a j b) refl (free-append (rests_in a behind) (rests_in b behind) (free_in a behind) (free_in b behind))
-  free_of (form.While' site cond i a) behind = free-cons (form.While' site cond i a) behind (rests_in a (form.While' site cond i a ∷ behind)) _ (outs-While' site cond i a) refl (free_in a (form.While' site cond i a ∷ behind))
-  free_of (form.Region' q site cond i a) behind = free-cons (form.Region' q site cond i a) behind (rests_in a (form.Region' q site cond i a ∷ behind)) _ (outs-Region' q site cond i a) refl (free_in a (form.Region' q site cond i a ∷ behind))
-  free_of (form.Break site cond) behind = free-cons (form.Break site cond) behind [] (layer.Break site cond) (outs-Break site cond) refl refl
-  free_of (form.Call f line args) behind = refl
-
-  free_in : {n : _} (rows : Row_of-Stmt n) (behind : List Stmt) → AreFree (rests_in rows behind)
-  free_in end_of-Stmt behind = refl
-  free_in (more_of-Stmt s rest) behind = free-append (rests_of s (listed rest ++ behind)) (rests_in rest behind) (free_of s (listed rest ++ behind)) (free_in rest behind)
-
-free_rests : (xs behind : List Stmt) → AreFree (rests xs behind)
-free_rests [] behind = refl
-free_rests (s ∷ rest) behind = free-append (rests_of s (rest ++ behind)) (rests rest behind) (free_of s (rest ++ behind)) (free_rests rest behind)
-
-free_at : (xss : List (List Stmt)) (k : ℕ) → AreFree xss → IsTrue (has_no_call (get_or xss k []))
-free_at [] k f = refl
-free_at (xs ∷ xss) zero f = (and_true (has_no_call xs) (list_all has_no_call xss) f).0
-free_at (xs ∷ xss) (suc k) f = free_at xss k (and_true (has_no_call xs) (list_all has_no_call xss) f).1
-
-pub no_call_next : (p : Program) (k : ℕ) → IsTrue (has_no_call (rest_at p k))
-unfolding rest_at
-no_call_next p k = free_at (rests p.main []) k (free_rests p.main [])
 
 -- Where a machine stands at a region or at the end, the rest of `main` is left to do.
 inner_plain : (h : Stmt-F Stmt) → inner_at h ≡ true → part_from h ≡ part.Plain
