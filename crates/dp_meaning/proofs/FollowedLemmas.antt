@@ -1,5 +1,6 @@
 -- What is left to do after a step, and what of it stands from the next region on.
-use Rattle.dp_meaning.proofs.Names.{and_make, and_true, ◌≡◌, refl, sym, ap, ◌∙◌, subst, ℕ, Bool, true, false, not, if◌then◌else◌, List, [], ◌∷◌, ◌++◌, drop, ℤ, is_zero, Stmt, out-Stmt, Stmt-F, choose, followed, taken_left, behind_region, behind_one, region_number, None, is_plain, is_inner, inner_all, inner_at, inner_out, inner_plain, plain_all, plain_choose, top_at, is_top, top_fits, next_region, regions_in_order, all_top, list_all, IsOrdered, is_any_region, from_region}
+use Rattle.dp_meaning.proofs.Names.{and_make, and_true, ◌≡◌, refl, sym, ap, ◌∙◌, subst, ℕ, Bool, true, false, not, if◌then◌else◌, List, [], ◌∷◌, ◌++◌, drop, ℤ, is_zero, Stmt, out-Stmt, Stmt-F, choose, followed, taken_left, behind_region, behind_one, region_number, None, is_plain, is_inner, inner_all, inner_at, inner_out, inner_plain, plain_all, plain_choose, top_at, is_top, top_fits, next_region, regions_in_order, all_top, list_all, IsOrdered, part_from, is_any_region, from_region}
+use Rattle.dp_meaning.specs.declared.ends.Part.TheVariants as part
 use Rattle.dp_tree.specs.declared.Stmt.TheOpen.{If, While, Region, Break, Call}
 use Rattle.dp_tree.specs.declared.Stmt.TheVariants.{Region'}
 use Rattle.dp_tree.proofs.Heads.{taken}
@@ -14,11 +15,11 @@ left_behind (x ∷ xs) = by (out-Stmt x) (left_behind xs)
     by _ later = later
 
 -- behind statements of a body stands what stood there before
-not_region : (h : Stmt-F Stmt) → inner_at h ≡ true → (is_any_region h ≡ false) × (region_number h ≡ None)
+not_region : (h : Stmt-F Stmt) → inner_at h ≡ true → (is_any_region h ≡ false) × (region_number h ≡ None) × (part_from h ≡ part.Plain)
 not_region (Region r site cond a) k = absurd (cc)
-not_region _ k = (refl, refl)
+not_region _ k = (refl, refl, refl)
 
-pub no_region_at : (x : Stmt) → is_inner x ≡ true → (is_any_region (out-Stmt x) ≡ false) × (region_number (out-Stmt x) ≡ None)
+pub no_region_at : (x : Stmt) → is_inner x ≡ true → (is_any_region (out-Stmt x) ≡ false) × (region_number (out-Stmt x) ≡ None) × (part_from (out-Stmt x) ≡ part.Plain)
 no_region_at x k = not_region (out-Stmt x) (sym (inner_out x) ∙ k)
 
 pub from_region-append : (xs ys : List Stmt) → inner_all xs ≡ true → from_region (xs ++ ys) ≡ from_region ys

@@ -3,22 +3,17 @@ use Rattle.dp_meaning.proofs.Names.{◌≡◌, ◌≢◌, refl, sym, ap, ◌∙�
 use Rattle.std.proofs.lemmas.List.Folds.{list_all-append}
 use Rattle.dp_meaning.specs.declared.ends.Part.TheVariants as part
 use Rattle.dp_tree.specs.declared.Stmt.TheOpen.{Region, Break}
-use Rattle.dp_meaning.proofs.FollowedLemmas.{goes_off, fits_at, inner_fits, top_fits_at, followed_off, followed_on, followed_ordered, ordered_rest, ordered_from, ordered_head}
+use Rattle.dp_meaning.proofs.FollowedLemmas.{no_region_at, goes_off, fits_at, inner_fits, top_fits_at, followed_off, followed_on, followed_ordered, ordered_rest, ordered_from, ordered_head}
 use Rattle.dp_meaning.proofs.StopLemmas.{from_region-over}
 
 pub not_plain : (q : Part) (r : ℕ) → q ≡ part.Region r → q ≢ part.Plain
 not_plain q r e f = absurd (cc)
 
--- a head of `main` that is a region, or neither that nor a break
-abbrev Sorted : Stmt-F Stmt → Part → Type 0
-Sorted h (part.Region r) = part_from h ≡ part.Region r
-Sorted h part.Plain = (is_any_region h ≡ false) × (part_from h ≡ part.Plain) × ((z : ℤ) → goes_off h z ≡ false)
-Sorted h part.Finished = ⊥
-
-sort_of : (h : Stmt-F Stmt) → top_at h ≡ true → Sorted h (part_from h)
-sort_of (Region r site cond a) k = refl
-sort_of (Break site cond) k = absurd (cc)
-sort_of _ k = (refl, refl, λ z. refl)
+-- a plain head of `main` leaves no region
+unbroken : (h : Stmt-F Stmt) (z : ℤ) → top_at h ≡ true → part_from h ≡ part.Plain → goes_off h z ≡ false
+unbroken (Region r site cond a) z k f = absurd (cc f)
+unbroken (Break site cond) z k f = absurd (cc k)
+unbroken _ z k f = refl
 
 module _ (p : Program) (input : List ℤ) (c d : Config) (event : Event) (s : step p input c ≡ Stepped event d) where
   -- the shape after the step, by whether it left a region
@@ -75,40 +70,28 @@ module _ (p : Program) (input : List ℤ) (c d : Config) (event : Event) (s : st
           by (part.Region q) g = subst IsOrdered (from_region-over d.to_do (not_plain (part_of d.to_do) q g)) ordered
           by part.Finished g = subst IsOrdered (from_region-over d.to_do (λ h. let clash : part.Plain ≡ part.Finished = sym h ∙ g in absurd (cc clash))) ordered
 
-      shaped_at : (current : Option ℕ) → UnderWay current c.to_do → Shape current (goes_off head z)
-      shaped_at (Some r) w = record {
-        under_way = within r w.next w.ordered (goes_off head z) refl;
-        stays = on;
-        off = off_to;
-        plain = λ f. absurd (cc f);
-        decides = λ q f. absurd (not_plain (part_of c.to_do) q f w.first);
-      }
-      shaped_at None o = by (part_from head) refl (sort_of head (ordered_head x rest (subst IsOrdered e o)))
+      way : (current : Option ℕ) → UnderWay current c.to_do → UnderWay (current_behind (goes_off head z) (part_at current c.to_do) (part_of d.to_do)) d.to_do
+      way (Some r) w = within r w.next w.ordered (goes_off head z) refl
+      way None o = by head refl (ordered_head x rest (subst IsOrdered e o))
         where
-          here : part_of c.to_do ≡ part_from head
-          here = ap part_of e
+          by : (h : Stmt-F Stmt) → head ≡ h → top_at h ≡ true → UnderWay (current_behind (goes_off head z) (part_of c.to_do) (part_of d.to_do)) d.to_do
+          by (Region r site cond a) is k =
+              let at : part_of c.to_do ≡ part.Region r = ap part_of e ∙ ap part_from is in
+              subst (λ (q : Part). UnderWay (current_behind (goes_off head z) q (part_of d.to_do)) d.to_do) (sym at)
+              (within r (ap part_of (from_region-over c.to_do (not_plain (part_of c.to_do) r at)) ∙ at) (ordered_from c.to_do o) (goes_off head z) refl)
+          by (Break site cond) is k = absurd (cc k)
+          by h is k =
+              let at : part_of c.to_do ≡ part.Plain = ap part_of e ∙ ap part_from is in
+              let stays : goes_off head z ≡ false = ap (λ (f : Stmt-F Stmt). goes_off f z) is in
+              subst (λ (q : Part). UnderWay (current_behind (goes_off head z) q (part_of d.to_do)) d.to_do) (sym at) (subst (λ (b : Bool). UnderWay (current_behind b part.Plain (part_of d.to_do)) d.to_do) (sym stays)
+              (subst IsOrdered (sym to.to_do) (followed_ordered x rest z (subst IsOrdered e o) head (ap top_at is ∙ k) (ap is_any_region is))))
 
-          by : (q : Part) → part_from head ≡ q → Sorted head q → Shape None (goes_off head z)
-          by (part.Region r) is k =
-              let at : part_of c.to_do ≡ part.Region r = here ∙ is in
-              record {
-                under_way = subst (λ (q : Part). UnderWay (current_behind (goes_off head z) q (part_of d.to_do)) d.to_do) (sym at)
-                    (within r (ap part_of (from_region-over c.to_do (not_plain (part_of c.to_do) r at)) ∙ at) (ordered_from c.to_do o) (goes_off head z) refl);
-                stays = on;
-                off = off_to;
-                plain = λ f. absurd (not_plain (part_of c.to_do) r at f);
-                decides = λ q f. (leaves_by head to).1 q (sym here ∙ f);
-              }
-          by part.Plain is k = record {
-            under_way = subst (λ (q : Part). UnderWay (current_behind (goes_off head z) q (part_of d.to_do)) d.to_do) (sym (here ∙ is))
-                (subst (λ (b : Bool). UnderWay (current_behind b part.Plain (part_of d.to_do)) d.to_do) (sym (k.2 z))
-                (subst IsOrdered (sym to.to_do) (followed_ordered x rest z (subst IsOrdered e o) head (ordered_head x rest (subst IsOrdered e o)) k.0)));
-            stays = on;
-            off = off_to;
-            plain = λ f. k.2 z;
-            decides = λ q f. (leaves_by head to).1 q (sym here ∙ f);
-          }
-          by part.Finished is k = absurd k
+      plain_stays : (current : Option ℕ) → UnderWay current c.to_do → part_at current c.to_do ≡ part.Plain → goes_off head z ≡ false
+      plain_stays (Some r) w f = absurd (cc f)
+      plain_stays None o f = unbroken head z (ordered_head x rest (subst IsOrdered e o)) (sym (ap part_of e) ∙ f)
+
+      shaped_at : (current : Option ℕ) → UnderWay current c.to_do → Shape current (goes_off head z)
+      shaped_at current u = record { under_way = way current u; stays = on; off = off_to; plain = plain_stays current u; decides = λ q f. (leaves_by head to).1 q (sym (ap part_of e) ∙ f) }
 
   pub shaped : regions_in_order 1 p.main ≡ true → StandsInMain p c → (current : Option ℕ) → UnderWay current c.to_do → Shape current (leaves_region (part_of c.to_do) event.effect)
   shaped in_order t current u = by c.to_do refl
@@ -120,10 +103,6 @@ module _ (p : Program) (input : List ℤ) (c d : Config) (event : Event) (s : st
           (shaped_at x rest e (fits x rest e in_order t) current u)
 
 -- Where a machine stands at a region or at the end, the rest of `main` is left to do.
-inner_plain : (h : Stmt-F Stmt) → inner_at h ≡ true → part_from h ≡ part.Plain
-inner_plain (Region r site cond a) k = absurd (cc)
-inner_plain _ k = refl
-
 pub at_end : (p : Program) (c : Config) → StandsInMain p c → part_of c.to_do ≢ part.Plain → IsEndOfMain p c
 at_end p c s over = by s.inner refl
   where
@@ -142,4 +121,4 @@ at_end p c s over = by s.inner refl
         }
     by (x ∷ inner) e =
         let here : is_inner x ≡ true = (and_true (is_inner x) (inner_all inner) (ap inner_all (sym e) ∙ s.plain)).0 in
-        absurd (over (ap part_of (left ∙ ap (λ (xs : List Stmt). xs ++ s.behind) e) ∙ inner_plain (out-Stmt x) (sym (inner_out x) ∙ here)))
+        absurd (over (ap part_of (left ∙ ap (λ (xs : List Stmt). xs ++ s.behind) e) ∙ (no_region_at x here).2))
