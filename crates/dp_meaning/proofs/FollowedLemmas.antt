@@ -1,7 +1,7 @@
 -- What is left to do after a step, and what of it stands from the next region on.
 use Rattle.dp_meaning.proofs.Names.{and_make, and_true, ◌≡◌, refl, sym, ap, ◌∙◌, subst, ℕ, Bool, true, false, not, if◌then◌else◌, List, [], ◌∷◌, ◌++◌, drop, ℤ, is_zero, Stmt, out-Stmt, Stmt-F, choose, followed, taken_left, behind_region, behind_one, region_number, None, is_plain, is_inner, inner_all, inner_at, inner_out, inner_plain, plain_all, plain_choose, top_at, is_top, top_fits, next_region, regions_in_order, all_top, list_all, IsOrdered, part_from, is_any_region, from_region}
 use Rattle.dp_meaning.specs.declared.ends.Part.TheVariants as part
-use Rattle.dp_tree.specs.declared.Stmt.TheOpen.{If, While, Region, Break, Call}
+use Rattle.dp_tree.specs.declared.Stmt.TheOpen.{If, While, Region, Break}
 use Rattle.dp_tree.specs.declared.Stmt.TheVariants.{Region'}
 use Rattle.dp_tree.proofs.Heads.{taken}
 

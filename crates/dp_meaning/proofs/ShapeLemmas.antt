@@ -1,5 +1,5 @@
 -- The shape of what is left to do, after a step.
-use Rattle.dp_meaning.proofs.Names.{◌≡◌, ◌≢◌, refl, sym, ap, ◌∙◌, subst, ℕ, Bool, true, false, List, [], ◌∷◌, ◌++◌, drop, Option, Some, None, ℤ, eq-eqb, list_all, Stmt, out-Stmt, Stmt-F, Program, StandsInMain, is_inner, is_top, all_top, regions_in_order, Config, Event, Stepped, step, standing, value_of, leaves, and_true, standing_to_do, StepsTo, stepped, not_stepped, inner_all, inner_at, inner_out, Part, part_from, part_of, part_at, is_any_region, from_region, IsOrdered, UnderWay, IsEndOfMain, leaves_region, current_behind, top_at}
+use Rattle.dp_meaning.proofs.Names.{◌≡◌, ◌≢◌, refl, sym, ap, ◌∙◌, subst, ℕ, Bool, true, false, List, [], ◌∷◌, ◌++◌, drop, Option, Some, None, ℤ, eq-eqb, list_all, Stmt, out-Stmt, Stmt-F, Program, StandsInMain, is_inner, is_top, all_top, regions_in_order, Config, Event, Stepped, step, standing, value_of, leaves, and_true, standing_to_do, StepsTo, stepped, not_stepped, inner_all, inner_out, Part, part_from, part_of, part_at, is_any_region, from_region, IsOrdered, UnderWay, IsEndOfMain, leaves_region, current_behind, top_at}
 use Rattle.std.proofs.lemmas.List.Folds.{list_all-append}
 use Rattle.dp_meaning.specs.declared.ends.Part.TheVariants as part
 use Rattle.dp_tree.specs.declared.Stmt.TheOpen.{Region, Break}
@@ -8,6 +8,9 @@ use Rattle.dp_meaning.proofs.StopLemmas.{from_region-over}
 
 pub not_plain : (q : Part) (r : ℕ) → q ≡ part.Region r → q ≢ part.Plain
 not_plain q r e f = absurd (cc)
+
+to_do_is : (p : Program) (c : Config) (s : StandsInMain p c) → c.to_do ≡ s.inner ++ s.behind
+to_do_is p c s = ap (λ (d : Config). d.to_do) s.config_is ∙ standing_to_do p (s.inner ++ s.behind) s.cells
 
 -- a plain head of `main` leaves no region
 unbroken : (h : Stmt-F Stmt) (z : ℤ) → top_at h ≡ true → part_from h ≡ part.Plain → goes_off h z ≡ false
@@ -36,7 +39,7 @@ module _ (p : Program) (input : List ℤ) (c d : Config) (event : Event) (s : st
 
     -- the head is a statement of a body, or of `main`
     fits : regions_in_order 1 p.main ≡ true → (t : StandsInMain p c) → fits_at head ≡ true
-    fits in_order t = by t.inner t.plain (sym e ∙ ap (λ (b : Config). b.to_do) t.config_is ∙ standing_to_do p (t.inner ++ t.behind) t.cells)
+    fits in_order t = by t.inner t.plain (sym e ∙ to_do_is p c t)
       where
         by : (inner : List Stmt) → inner_all inner ≡ true → x ∷ rest ≡ inner ++ t.behind → fits_at head ≡ true
         by [] k f =
@@ -104,21 +107,14 @@ module _ (p : Program) (input : List ℤ) (c d : Config) (event : Event) (s : st
 
 -- Where a machine stands at a region or at the end, the rest of `main` is left to do.
 pub at_end : (p : Program) (c : Config) → StandsInMain p c → part_of c.to_do ≢ part.Plain → IsEndOfMain p c
-at_end p c s over = by s.inner refl
+at_end p c s over = by s.inner s.plain (to_do_is p c s)
   where
-    left : c.to_do ≡ s.inner ++ s.behind
-    left = ap (λ (d : Config). d.to_do) s.config_is ∙ standing_to_do p (s.inner ++ s.behind) s.cells
-
-    by : (inner : List Stmt) → s.inner ≡ inner → IsEndOfMain p c
-    by [] e =
-        let is : c.to_do ≡ s.behind = left ∙ ap (λ (xs : List Stmt). xs ++ s.behind) e in
-        record {
-          before = s.before;
-          cells = s.cells;
-          main_is = s.main_is ∙ ap (λ (xs : List Stmt). s.before ++ xs) (sym is);
-          config_is = s.config_is ∙ ap (λ (xs : List Stmt). standing p xs s.cells) (sym left);
-          cells_are = s.cells_are;
-        }
-    by (x ∷ inner) e =
-        let here : is_inner x ≡ true = (and_true (is_inner x) (inner_all inner) (ap inner_all (sym e) ∙ s.plain)).0 in
-        absurd (over (ap part_of (left ∙ ap (λ (xs : List Stmt). xs ++ s.behind) e) ∙ (no_region_at x here).2))
+    by : (inner : List Stmt) → inner_all inner ≡ true → c.to_do ≡ inner ++ s.behind → IsEndOfMain p c
+    by [] k e = record {
+      before = s.before;
+      cells = s.cells;
+      main_is = s.main_is ∙ ap (λ (xs : List Stmt). s.before ++ xs) (sym e);
+      config_is = s.config_is ∙ ap (λ (xs : List Stmt). standing p xs s.cells) (sym (to_do_is p c s));
+      cells_are = s.cells_are;
+    }
+    by (x ∷ inner) k e = absurd (over (ap part_of e ∙ (no_region_at x (and_true (is_inner x) (inner_all inner) k).0).2))
