@@ -1,7 +1,6 @@
 pub mod Names
 pub mod MemoryLemmas
 pub mod ActLemmas
-pub mod OuterLemmas
 pub mod FollowedLemmas
 pub mod RestLemmas
 pub mod LeadLemmas
@@ -9,7 +8,6 @@ pub mod TableLemmas
 pub mod ContinuesLemmas
 pub mod StopLemmas
 pub mod ShapeLemmas
-pub mod InlinedLemmas
 pub mod PlaceLemmas
 pub mod StepLemmas
 pub mod TurnLemmas

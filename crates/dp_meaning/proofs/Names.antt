@@ -1,5 +1,5 @@
 -- The words of the definitions, as the proofs use them.
-pub use Rattle.std.proofs.Common.{All, Bool, Err, IfOk, IfSome, IsTrue, List, MatchOption, None, Ok, Option, Result, Some, [], add-one, ap, append-nil, append_assoc, arith, drop, drop-cons, eq-eqb, false, get_or, if◌then◌else◌, inl, inr, is_some, length, length-append, length-set, map, not, of_z, pos, refl, replicate, rules, slice_get, slice_set, subst, suc, sym, take, to_z, true, vec_len, w64, zero, ℕ, ℤ, ◌&&◌, ◌++◌, ◌+◌, ◌-◌, ◌<◌, ◌==◌, ◌^◌, ◌||◌, ◌∙◌, ◌∷◌, ◌≡◌, ◌≢◌, ◌≤◌, ◌⊎◌}
+pub use Rattle.std.proofs.Common.{All, Bool, Err, IfSome, List, MatchOption, None, Ok, Option, Result, Some, [], add-one, ap, append-nil, append_assoc, arith, drop, drop-cons, eq-eqb, false, get_or, if◌then◌else◌, inl, inr, is_some, length, length-append, length-set, map, not, of_z, pos, refl, replicate, rules, slice_get, slice_set, subst, suc, sym, take, to_z, true, vec_len, w64, zero, ℕ, ℤ, ◌++◌, ◌+◌, ◌-◌, ◌<◌, ◌==◌, ◌^◌, ◌||◌, ◌∙◌, ◌∷◌, ◌≡◌, ◌≢◌, ◌≤◌, ◌⊎◌}
 pub use Rattle.std.proofs.Math.Seq.{set_out, take-append_seam}
 pub use Rattle.std.proofs.lemmas.Bool.{cases_Bool}
 pub use Rattle.std.proofs.lemmas.List.Elements.{All-cons, All-head, All-nil, All-tail, filter_map-append}
@@ -10,24 +10,24 @@ pub use Rattle.dp_base.specs.declared.End.{End}
 pub use Rattle.dp_base.specs.declared.Fault.{Fault}
 pub use Rattle.dp_base.specs.declared.SiteId.{SiteId}
 pub use Rattle.dp_base.specs.declared.StoreOf.{StoreOf}
-pub use Rattle.dp_tree.proofs.Heads.{StepsTo, and_make, and_true, followed-append, keeps_all, keeps_out, no_region, not_stepped, standing_to_do, stepped, taken, taken_left}
+pub use Rattle.dp_tree.proofs.Heads.{StepsTo, and_make, and_true, keeps_all, keeps_out, no_region, not_stepped, standing_to_do, stepped, taken, taken_left}
 unfoldable pub use Rattle.dp_tree.proofs.Heads.{opened_statement}
 pub use Rattle.dp_tree.proofs.InMain.{begins_in_main, next_at, stands_next}
-pub use Rattle.dp_tree.proofs.Inner.{all_top, inner_all, inner_at, inner_out, is_top, plain_all, top_at}
+pub use Rattle.dp_tree.proofs.Inner.{all_top, inner_all, inner_at, inner_left, inner_out, inner_plain, is_top, plain_all, plain_choose, top_at}
 pub use Rattle.dp_tree.specs.Eval.{Evaluated, Load, WithLoads, after_loads, and_then, cell_count, eval, first_cell, just, result_of}
 pub use Rattle.dp_tree.specs.Event.{Decided, Effect, Event, Printed, Stored, Tried, stored, value_of}
 pub use Rattle.dp_tree.specs.InMain.{StandsInMain}
 pub use Rattle.dp_tree.specs.Inlined.{IsInlined, has_call, has_call_in}
 pub use Rattle.dp_tree.specs.Iteration.{begins_with, closes, decides_zero, events_from, has_ended, is_closing, is_leaving, is_region, iteration, last_events, leaves, places, stands_at_head, start, upto_leaving}
-pub use Rattle.dp_tree.specs.Numbering.{is_inner, is_plain, is_plain_in, numbers_from, site_numbers, site_numbers_all, site_numbers_in}
+pub use Rattle.dp_tree.specs.Numbering.{is_inner, is_inner_in, is_plain, is_plain_in, next_region, numbers_from, regions_in_order, site_numbers, site_numbers_all, site_numbers_in, top_fits}
 pub use Rattle.dp_tree.specs.Step.{Config, Faulted, Finished, Step, Stepped, after_effect, behind_one, behind_region, choose, clear_locals, clear_one, cleared_at, cleared_leaving, evaluated, followed, is_local_of, region_number, site_of, standing, step, step_at, step_by, step_from, stored_by}
 pub use Rattle.dp_tree.specs.Trace.{Run, begin, end_at, ended, printed_by, prints, run_by, start_cells}
 unfoldable pub use Rattle.dp_tree.specs.Trace.{run_of}
 pub use Rattle.dp_tree.specs.declared.Expr.{Expr}
 pub use Rattle.dp_tree.specs.declared.Program.{Program}
-pub use Rattle.dp_tree.specs.declared.Stmt.{Row_of-Stmt, Stmt, end_of-Stmt, items-the_row-Stmt, items_shown-the_row-Stmt-0, more_of-Stmt, out-Stmt, roll-Stmt, roll-out-Stmt}
+pub use Rattle.dp_tree.specs.declared.Stmt.{Row_of-Stmt, Stmt, end_of-Stmt, items-the_row-Stmt, items_shown-the_row-Stmt-0, more_of-Stmt, out-Stmt}
 pub use Rattle.dp_tree.specs.declared.Stmt.TheOpen.{Stmt-F}
-pub use Rattle.dp_tree.specs.declared.Stmt.TheViews.{outs-Assign, outs-Break, outs-Call, outs-If', outs-Print, outs-Region', outs-Store, outs-While', rolls-Assign, rolls-Break, rolls-Call, rolls-If, rolls-Print, rolls-Region, rolls-Store, rolls-While}
+pub use Rattle.dp_tree.specs.declared.Stmt.TheViews.{outs-Assign, outs-Break, outs-Call, outs-If', outs-Print, outs-Region', outs-Store, outs-While'}
 pub use Rattle.dp_tree.specs.declared.VarInfo.{VarInfo}
 pub use Rattle.dp_engine.specs.Evaluating.{Evaluates, Told}
 pub use Rattle.dp_engine.specs.declared.Reached.{Reached}
@@ -41,13 +41,12 @@ pub use Rattle.dp_meaning.specs.MachineState.{IsAnyRegion, MachineState, from_re
 pub use Rattle.dp_meaning.specs.Moved.{FaultsNext, HasSpentFuel, Moved, Spoiled}
 pub use Rattle.dp_meaning.specs.NextIteration.{NextIteration, end_of}
 pub use Rattle.dp_meaning.specs.PartRun.{PartRun, PartStops}
-pub use Rattle.dp_meaning.specs.Places.{LeadsAt, NodeAt, PositionAt, config_at, entry, first_of, first_region, led_to, listed, node, number_of, rests, shown, table, table_for}
+pub use Rattle.dp_meaning.specs.Places.{LeadsAt, Leaves, NodeAt, PositionAt, config_at, entry, first_of, first_region, led_to, listed, node, number_of, rests, shown, table, table_for}
 unfoldable pub use Rattle.dp_meaning.specs.Places.{rest_at, rests_in, rests_of, table_in, table_of}
 pub use Rattle.dp_meaning.specs.PlainSteps.{Follows, LedTo, PlainStep, PlainSteps, Ran, more, none}
-pub use Rattle.dp_meaning.specs.Runnable.{are_simple, is_inside, is_outer, is_outer_at, is_simple}
-pub use Rattle.dp_meaning.specs.Sound.{IsSound, IsWithin, UnderWay}
+pub use Rattle.dp_meaning.specs.Sound.{IsOrdered, IsSound, UnderWay}
 pub use Rattle.dp_meaning.specs.Standing.{IsEndOfMain}
-pub use Rattle.dp_meaning.specs.Turn.{Made, StepTaken, TurnTaken, current_behind, has_no_call, leaves_region, no_call_at}
+pub use Rattle.dp_meaning.specs.Turn.{Made, StepTaken, TurnTaken, current_behind, leaves_region}
 pub use Rattle.dp_meaning.specs.Watched.{Ends, Shows, Tells, WatchSpoiled, WatchedStep, cells_of, effect_prints, effect_seen, notes, sight_prints}
 pub use Rattle.dp_meaning.specs.declared.act.Act.{Act}
 pub use Rattle.dp_meaning.specs.declared.ends.Part.{Part}

@@ -1,10 +1,9 @@
 -- The memory after the steps of an iteration.
-use Rattle.dp_meaning.proofs.Names.{inl, and_true, ◌≡◌, refl, sym, ap, ◌∙◌, ℕ, Bool, true, false, not, if◌then◌else◌, IsTrue, List, [], ◌∷◌, ◌++◌, drop, ℤ, Option, Some, is_zero, Stmt, out-Stmt, Stmt-F, Program, Effect, Stored, Event, value_of, stored, Config, Stepped, step, step_from, standing, stored_by, region_number, clear_one, clear_locals, cleared_leaving, cleared_at, leaves, stepped, not_stepped, next_at, part_from, part_of, stores_of, with_stores, is_inside}
+use Rattle.dp_meaning.proofs.Names.{inl, ◌≡◌, refl, sym, ap, ◌∙◌, ℕ, Bool, true, false, not, if◌then◌else◌, List, [], ◌∷◌, drop, ℤ, Option, Some, is_zero, Stmt, out-Stmt, Stmt-F, Program, Effect, Stored, Event, value_of, stored, Config, Stepped, step, step_from, standing, stored_by, region_number, clear_one, clear_locals, cleared_leaving, cleared_at, leaves, stepped, not_stepped, next_at, part_from, part_of, stores_of, with_stores, is_any_region, from_region}
 use Rattle.dp_semantics.proofs.Memory.{clear-at, clear-still}
 use Rattle.dp_meaning.specs.declared.ends.Part.TheVariants as part
 use Rattle.dp_tree.specs.declared.Stmt.TheOpen.{Region, Break}
 use Rattle.dp_tree.proofs.Heads.{taken}
-use Rattle.dp_meaning.proofs.OuterLemmas.{all_inside, inside_no_region}
 
 -- the memory after these events
 abbrev pub after_events : List Event → List ℤ → List ℤ
@@ -51,12 +50,14 @@ module _ (p : Program) (input : List ℤ) (c d : Config) (event : Event) (s : st
   pub memory_left : leaves event.effect ≡ true → d ≡ standing p d.to_do (cleared_leaving p (drop 1 c.to_do) (stored event.effect c.cells))
   memory_left breaks = memory_is ∙ ap Memory breaks
 
--- behind a body's statements the next region is the same
-pub leaving_append : (p : Program) (front behind : List Stmt) (cells : List ℤ) → IsTrue (all_inside front) → cleared_leaving p (front ++ behind) cells ≡ cleared_leaving p behind cells
-leaving_append p [] behind cells h = refl
-leaving_append p (x ∷ front) behind cells h =
-    let r = and_true (is_inside x) (all_inside front) h in
-    ap (λ (o : Option ℕ). clear_one p o cells (cleared_leaving p (front ++ behind) cells)) (inside_no_region x r.0).2 ∙ leaving_append p front behind cells r.1
+-- the next region's locals are cleared, and nothing in front of it
+pub leaving_from : (p : Program) (xs : List Stmt) (cells : List ℤ) → cleared_leaving p xs cells ≡ cleared_leaving p (from_region xs) cells
+leaving_from p [] cells = refl
+leaving_from p (x ∷ xs) cells = by (out-Stmt x) refl (leaving_from p xs cells)
+  where
+    by : (h : Stmt-F Stmt) → out-Stmt x ≡ h → cleared_leaving p xs cells ≡ cleared_leaving p (from_region xs) cells → clear_one p (region_number h) cells (cleared_leaving p xs cells) ≡ cleared_leaving p (if is_any_region h then x ∷ xs else from_region xs) cells
+    by (Region r site cond a) is later = sym (ap (λ (h : Stmt-F Stmt). clear_one p (region_number h) cells (cleared_leaving p xs cells)) is)
+    by _ is later = later
 
 number_of : (h : Stmt-F Stmt) (r : ℕ) → part_from h ≡ part.Region r → (region_number h ≡ Some r) × ((p : Program) (cells : List ℤ) → cleared_at p h cells ≡ clear_locals r p.vars cells)
 number_of (Region q site cond a) r e = let same : q ≡ r = cc in (ap Some same, λ p cells. ap (λ (k : ℕ). clear_locals k p.vars cells) same)

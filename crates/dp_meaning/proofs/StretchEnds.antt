@@ -8,7 +8,6 @@ use Rattle.dp_meaning.specs.declared.ends.IterEnd.TheVariants as end
 use Rattle.dp_meaning.specs.declared.ends.PartEnd.TheVariants as part_end
 use Rattle.dp_meaning.specs.IterationRun.{IterationStops}
 use Rattle.dp_meaning.specs.Stretch.{has_left, upto_left, HeadsHere, IsAmid, Stretch, end_of_part}
-use Rattle.dp_meaning.proofs.OuterLemmas.{from_region-append}
 use Rattle.dp_meaning.proofs.ShapeLemmas.{not_plain}
 use Rattle.dp_meaning.proofs.StopLemmas.{from_region-over, part_idle, plain_idle}
 use Rattle.dp_meaning.proofs.StretchLemmas.{all_plain}
@@ -72,13 +71,12 @@ module _ (region : ℕ) where
   }
   at (Some r) c w here =
       let same : r ≡ region = cc in
-      let behind : from_region c.to_do ≡ w.behind = ap from_region w.is ∙ from_region-append w.front w.behind w.inside ∙ from_region-over w.behind (not_plain (part_of w.behind) r w.next) in
       record {
         closed = λ es. sym (ap (λ (q : Part). has_left q es) w.first);
         upto = λ es. sym (ap (λ (q : Part). upto_left q es) w.first);
         heads = λ cs h. all_plain c cs w.first h;
         awaits = w.first;
-        ahead = ap part_of behind ∙ w.next ∙ ap part.Region same;
+        ahead = w.next ∙ ap part.Region same;
       }
 
   named : (o : Option ℕ) (xs : List Stmt) → part_of xs ≡ part.Plain → part_at o xs ≡ part.Region region → o ≡ Some region

@@ -1,15 +1,15 @@
 -- The steps of an iteration up to its end, or to where the run ends in it, and the memory that they leave.
-use Rattle.dp_meaning.proofs.Names.{and_true, inl, inr, ◌||◌, list_any, is_leaving, ◌≡◌, ◌≢◌, refl, sym, ◌∙◌, ap, subst, ℕ, zero, suc, ◌+◌, ◌<◌, Bool, true, false, if◌then◌else◌, IsTrue, Option, None, Some, List, [], ◌∷◌, ◌++◌, drop, ℤ, All, arith, All-nil, All-cons, cases_Bool, End, SiteId, Program, Stmt, Config, Event, Effect, Stored, stored, Step, Finished, Faulted, Stepped, step, standing, clear_locals, cleared_leaving, end_at, ended, Run, run_by, prints, decides_zero, leaves, Part, MachineState, fuel_left, rest_of_run, part_of, part_at, next_part, end_of, is_inside, IsSound, UnderWay, Made, StepTaken, leaves_region, current_behind, effect_seen}
+use Rattle.dp_meaning.proofs.Names.{inl, inr, ◌||◌, list_any, is_leaving, ◌≡◌, ◌≢◌, refl, sym, ◌∙◌, ap, subst, ℕ, zero, suc, ◌+◌, ◌<◌, Bool, true, false, if◌then◌else◌, Option, None, Some, List, [], ◌∷◌, ◌++◌, drop, ℤ, All, arith, All-nil, All-cons, cases_Bool, End, SiteId, Program, Stmt, Config, Event, Effect, Stored, stored, Step, Finished, Faulted, Stepped, step, standing, clear_locals, cleared_leaving, end_at, ended, Run, run_by, prints, decides_zero, leaves, Part, MachineState, fuel_left, rest_of_run, part_of, part_at, next_part, end_of, out-Stmt, Stmt-F, part_from, is_any_region, from_region, IsSound, UnderWay, Made, StepTaken, leaves_region, current_behind, effect_seen}
 unfoldable use Rattle.dp_meaning.proofs.Names.{run_of}
 use Rattle.dp_base.specs.declared.End.TheVariants as how
 use Rattle.dp_meaning.specs.declared.ends.Part.TheVariants as part
 use Rattle.dp_meaning.specs.declared.turn.Turn.TheVariants as turn
 use Rattle.dp_meaning.specs.Stretch.{has_left, Stretch}
 use Rattle.dp_meaning.proofs.MovedLemmas.{moved_step}
-use Rattle.dp_meaning.proofs.OuterLemmas.{all_inside}
+use Rattle.dp_tree.specs.declared.Stmt.TheOpen.{Region}
 use Rattle.dp_meaning.proofs.PlainLemmas.{standing_plain}
 use Rattle.dp_meaning.proofs.ShapeLemmas.{not_plain}
-use Rattle.dp_meaning.proofs.SkipLemmas.{after_events, memory_kept, memory_left, leaving_append, leaving_at}
+use Rattle.dp_meaning.proofs.SkipLemmas.{after_events, memory_kept, memory_left, leaving_from, leaving_at}
 use Rattle.dp_meaning.proofs.StretchLemmas.{IsPlain, none_left, now_left, starts_unfinished, closes_now, ends_now, one_more, events_closed, events_ended, events_more, part_kept}
 use Rattle.dp_meaning.proofs.TurnLemmas.{stepped_to, taken}
 
@@ -58,17 +58,18 @@ module _ (region : ℕ) where
       let h = halted m n why e in
       stuck (record { configs = []; are = h.0; plain = All-nil IsPlain; open_yet = ap (has_left (part_of m.config.to_do)) h.1 ∙ (none_left (part_of m.config.to_do)).0 })
 
+  plain_over : (x : Stmt) (rest : List Stmt) (h : Stmt-F Stmt) → part_from h ≡ part.Plain → (if is_any_region h then x ∷ rest else from_region rest) ≡ from_region rest
+  plain_over x rest (Region r site cond body) e = absurd (cc)
+  plain_over x rest _ e = refl
+
   -- what a break clears is the region's
   cleared : (p : Program) (o : Option ℕ) (xs : List Stmt) → UnderWay o xs → part_at o xs ≡ part.Region region → part_of xs ≡ part.Plain → (cells : List ℤ) → cleared_leaving p (drop 1 xs) cells ≡ clear_locals region p.vars cells
   cleared p None xs u e plain cells = absurd (not_plain (part_of xs) region e plain)
-  cleared p (Some r) xs w e plain cells = by w.front w.is w.inside
-    where
-      same : r ≡ region
-      same = cc e
-
-      by : (front : List Stmt) → xs ≡ front ++ w.behind → IsTrue (all_inside front) → cleared_leaving p (drop 1 xs) cells ≡ clear_locals region p.vars cells
-      by [] f h = absurd (not_plain (part_of xs) r (ap part_of f ∙ w.next) w.first)
-      by (x ∷ front) f h = ap (λ (ys : List Stmt). cleared_leaving p (drop 1 ys) cells) f ∙ leaving_append p front w.behind cells (and_true (is_inside x) (all_inside front) h).1 ∙ leaving_at p w.behind region cells (w.next ∙ ap part.Region same)
+  cleared p (Some r) [] w e plain cells = absurd (cc plain)
+  cleared p (Some r) (x ∷ rest) w e plain cells =
+      let same : r ≡ region = cc e in
+      let over : from_region (x ∷ rest) ≡ from_region rest = plain_over x rest (out-Stmt x) plain in
+      leaving_from p rest cells ∙ leaving_at p (from_region rest) region cells (ap part_of (sym over) ∙ w.next ∙ ap part.Region same)
 
   at_condition : (o : Option ℕ) (xs : List Stmt) (r : ℕ) → UnderWay o xs → part_at o xs ≡ part.Region region → part_of xs ≡ part.Region r → part_of xs ≡ part.Region region
   at_condition None xs r u e h = e

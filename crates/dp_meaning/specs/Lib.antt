@@ -1,4 +1,3 @@
-pub mod Runnable
 pub mod MachineState
 pub mod Places
 pub mod Standing
