@@ -20,11 +20,12 @@ use std::alloc::Global;
 use std::sync::Wait;
 use std::thread;
 use std::thread::Threads;
+use std::time::Clock;
 
 /// Runs each unit in a thread, which waits by the bell at the unit's place, and commits what they give. When it is over the
 /// flag is set, and every thread has ended.
 #[tactic(auto, using(crate::proofs::WriteLemmas::front_nothing))]
-pub(crate) fn commit_in_threads<'p, 'u, R: Threads + Wait + Sync, K: Sink, G: Gate>(
+pub(crate) fn commit_in_threads<'p, 'u, R: Threads + Wait + Clock + Sync, K: Sink, G: Gate>(
     rt: &R,
     alloc: Global,
     units: Row<Unit<'u>>,
@@ -94,7 +95,7 @@ pub(crate) fn commit_in_threads<'p, 'u, R: Threads + Wait + Sync, K: Sink, G: Ga
 }
 
 /// Commits the epoch that begins behind the ledger, if its units were started.
-fn commit_all<'p, R: Wait, K: Sink>(
+fn commit_all<'p, R: Wait + Clock, K: Sink>(
     begun: Result<(), NoMemory>,
     rt: &R,
     alloc: Global,

@@ -16,10 +16,11 @@ use dp_commit::{Clean, Committed, Tally, Verdict};
 use dp_edge::Sink;
 use std::alloc::Global;
 use std::sync::Wait;
+use std::time::Clock;
 
 /// Commits the iterations of an epoch as their verdicts come, and lets their prints wait or writes them, up to the region's
 /// end or the first iteration that isn't clean.
-pub fn run_epoch<'p, R: Wait, V: Verdicts, K: Sink>(
+pub fn run_epoch<'p, R: Wait + Clock, V: Verdicts, K: Sink>(
     rt: &R,
     alloc: Global,
     verdicts: &mut V,

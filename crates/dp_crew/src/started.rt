@@ -15,10 +15,11 @@ use dp_commit::{Committed, Tally};
 use dp_edge::Sink;
 use std::alloc::Global;
 use std::sync::Wait;
+use std::time::Clock;
 
 /// Commits the iterations of the epoch that begins behind what is committed, as the verdicts come, if its units were started.
 #[tactic(auto, using(crate::proofs::WriteLemmas::front_nothing))]
-pub(crate) fn commit_started<'p, R: Wait, V: Verdicts, K: Sink>(
+pub(crate) fn commit_started<'p, R: Wait + Clock, V: Verdicts, K: Sink>(
     started: Result<(), NoMemory>,
     rt: &R,
     alloc: Global,

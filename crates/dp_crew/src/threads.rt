@@ -5,6 +5,7 @@ use dp_pipeline::{Bell, Pause, Polled, Unit};
 use std::alloc::Global;
 use std::sync::{Mutex, Wait};
 use std::thread::{JoinHandle, Scope, Threads};
+use std::time::Clock;
 
 /// A unit lies here until its thread, or the caller, takes it out.
 pub(crate) type Slot<'u> = Mutex<Option<Unit<'u>>>;
@@ -35,7 +36,7 @@ pub(crate) fn slots_of<'u>(alloc: Global, units: Row<Unit<'u>>) -> Result<Vec<Sl
 
 /// Starts a thread for each slot, which waits by the bell at its place. A unit whose thread couldn't be started is the
 /// caller's own.
-pub(crate) fn start<'s, 'u, E, R: Wait + Sync, G: Gate>(
+pub(crate) fn start<'s, 'u, E, R: Wait + Clock + Sync, G: Gate>(
     scope: &Scope<'s, E>,
     rt: &'s R,
     slots: &'s [Slot<'u>],
@@ -53,7 +54,7 @@ pub(crate) fn start<'s, 'u, E, R: Wait + Sync, G: Gate>(
 }
 
 /// Starts a thread for the slot, if one can be started.
-fn start_one<'s, 'u, E, R: Wait + Sync, G: Gate>(
+fn start_one<'s, 'u, E, R: Wait + Clock + Sync, G: Gate>(
     scope: &Scope<'s, E>,
     rt: &'s R,
     slot: &'s Slot<'u>,
@@ -86,7 +87,7 @@ fn keep<'u, R: Wait>(rt: &R, slot: &Slot<'u>, started: &mut Started<'u>) -> Resu
 }
 
 /// What a unit's thread does: it polls the unit until it has ended.
-fn run_unit<R: Wait, G: Gate>(rt: &R, slot: &Slot<'_>, mut pause: Pause<'_>, gate: &G) {
+fn run_unit<R: Wait + Clock, G: Gate>(rt: &R, slot: &Slot<'_>, mut pause: Pause<'_>, gate: &G) {
     let Some(mut unit) = take_unit(rt, slot) else {
         return;
     };

@@ -43,6 +43,7 @@ use std::alloc::Global;
 use std::process::Abort;
 use std::sync::Wait;
 use std::thread::Threads;
+use std::time::Clock;
 
 /// A text under a name.
 type Named<'t> = (&'t str, &'t [u8]);
@@ -106,7 +107,7 @@ fn words_of(alloc: Global, words: &str) -> Result<Vec<String>, NoMemory> {
 }
 
 /// What is answered where these reads fail and the sink has so much room.
-fn answer_to<R: Abort + Threads + Wait + Sync>(
+fn answer_to<R: Abort + Threads + Wait + Clock + Sync>(
     rt: &R,
     alloc: Global,
     words: &str,
@@ -118,7 +119,7 @@ fn answer_to<R: Abort + Threads + Wait + Sync>(
 }
 
 /// .. where the stages pass this gate.
-fn answer_at<R: Abort + Threads + Wait + Sync, G: Gate>(
+fn answer_at<R: Abort + Threads + Wait + Clock + Sync, G: Gate>(
     rt: &R,
     alloc: Global,
     words: &str,
@@ -156,7 +157,7 @@ fn status_of(text: &str) -> u8 {
 }
 
 /// Each case of the table is answered as it says, with these words behind its own.
-fn each_with<R: Abort + Threads + Wait + Sync>(
+fn each_with<R: Abort + Threads + Wait + Clock + Sync>(
     rt: &R,
     alloc: Global,
     table: &[&str],
@@ -188,7 +189,7 @@ fn each_with<R: Abort + Threads + Wait + Sync>(
 }
 
 /// Each case of the table is answered as it says.
-fn each<R: Abort + Threads + Wait + Sync>(
+fn each<R: Abort + Threads + Wait + Clock + Sync>(
     rt: &R,
     alloc: Global,
     table: &[&str],
@@ -197,7 +198,7 @@ fn each<R: Abort + Threads + Wait + Sync>(
 }
 
 /// .. with each number of workers and each lane.
-fn each_crew<R: Abort + Threads + Wait + Sync>(
+fn each_crew<R: Abort + Threads + Wait + Clock + Sync>(
     rt: &R,
     alloc: Global,
     table: &[&str],
