@@ -1,5 +1,5 @@
 //! One epoch: verdicts are taken, and clean iterations are committed in order.
-ghost use Rattle.std.specs.Prelude.{◌≡◌, ◌<◌, ◌≤◌, ◌+◌, ◌-◌, ◌^◌, ◌++◌, IfOk, OnOk};
+ghost use Rattle.std.specs.Prelude.{◌≡◌, ◌<◌, ◌≤◌, ◌+◌, ◌-◌, ◌^◌, ◌++◌, length, IfOk, OnOk};
 ghost use Rattle.dp_meaning.specs.MachineState.{MachineState};
 ghost use Rattle.dp_commit.specs.CommittedState.{CarriesNext, IsOpen};
 ghost use Rattle.dp_crew.specs.Applied.{Applied, HasRoom, left_of};
@@ -79,6 +79,7 @@ fn commit<'p, K: Sink>(
     ensures faults { FaultsAfter result (K.faults sink.old) (K.faults sink.new) }
     ensures ok { OnOk result (Applied clean committed.old committed.new) }
     ensures tally { OnOk result (tally.new ≡ tally.old + 1) }
+    ensures few { OnOk result (length waiting.new < 4096) }
     ensures streams { Streams result (waiting.old ++ clean.prints) (λ _. waiting.new) (K.written sink.old) (K.written sink.new) }
 {
     wait(waiting, clean.prints())?;

@@ -1,7 +1,10 @@
 //! The threads of an epoch's units.
+ghost use Rattle.std.specs.Prelude.{◌≡◌, true};
+
 use dp_base::{NoMemory, Row};
 use dp_edge::Gate;
 use dp_pipeline::{Bell, Pause, Polled, Unit};
+use dp_stop::StopSetter;
 use std::alloc::Global;
 use std::sync::{Mutex, Wait};
 use std::thread::{JoinHandle, Scope, Threads};
@@ -71,8 +74,10 @@ fn start_one<'s, 'u, E, R: Wait + Clock + Sync, G: Gate>(
     }
 }
 
-/// Waits until each thread has ended.
-pub(crate) fn join_all<R: Threads>(rt: &R, threads: Vec<JoinHandle<()>>) {
+/// Waits until each thread has ended, which those do that the flag was set for.
+pub(crate) fn join_all<R: Threads>(rt: &R, setter: &StopSetter, threads: Vec<JoinHandle<()>>)
+    requires { setter.now.set ≡ true }
+{
     for thread in threads {
         thread.join(rt);
     }
