@@ -16,7 +16,7 @@ LIMIT = 4700
 
 def headline():
     """The contract of `drive`, and the traits of what it reads and writes."""
-    drive = rt(CRATES / "dswp/src/answer.rt").own["drive"]
+    drive = rt(CRATES / "dp_drive/src/answer.rt").own["drive"]
     contract = drive.lines[:drive.lines.index("{")]
     outside = [rust_items("dp_edge")[name][0] for name in ("Shelf", "Sink")]
     return [Definition(drive.kind, drive.name, drive.source, drive.first, contract, drive.comments)] + outside

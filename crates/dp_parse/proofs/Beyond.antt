@@ -2,8 +2,8 @@
 use Rattle.std.proofs.Common.{◌≡◌, refl, ap, ℕ, zero, suc, ◌≤◌, Bool, true, false, List, [], ◌∷◌, ◌++◌, length, Ok, Err, ℤ, arith}
 use Rattle.dp_lex.specs.Token.{Lexeme}
 use Rattle.dp_tree.specs.declared.raw.Name.{Name as TreeName}
-use Rattle.dp_parse.specs.declared.symbol.Symbol.{Symbol}
-use Rattle.dp_parse.specs.declared.symbol.Symbol.TheVariants.{Name, Comma}
+use Rattle.dp_tokens.specs.declared.symbol.Symbol.{Symbol}
+use Rattle.dp_tokens.specs.declared.symbol.Symbol.TheVariants.{Name, Comma}
 use Rattle.dp_parse.specs.Programs.{DerivesItems, DerivesReturn}
 use Rattle.dp_parse.specs.Programs as program
 use Rattle.dp_tree.specs.declared.raw.RawItem.{RawItem}
@@ -11,9 +11,9 @@ use Rattle.dp_parse.specs.Rules.{Nonterminal, Expression, Expressions, Arguments
 use Rattle.dp_parse.specs.Begins.{Allows, Derived, Begins, BeginsParts}
 use Rattle.dp_parse.specs.Rules as rule
 use Rattle.dp_parse.specs.Begins as begins
-use Rattle.dp_parse.specs.descent.Steps.{Outcome, Parser, and_then, ◌>>=◌, pure, expect, eat, sees, after}
-use Rattle.dp_parse.specs.descent.Steps as step
-use Rattle.dp_parse.specs.descent.Numbers as numbers
+use Rattle.dp_tokens.specs.Steps.{Outcome, Parser, and_then, ◌>>=◌, pure, expect, eat, sees, after}
+use Rattle.dp_tokens.specs.Steps as step
+use Rattle.dp_tokens.specs.Numbers as numbers
 use Rattle.dp_parse.proofs.StepLemmas.{expects, took, after-le}
 use Rattle.dp_parse.proofs.LeafLemmas.{reads_name, read_name, read_number}
 use Rattle.dp_parse.proofs.Shorter.{shorter, shorter_list, shorter_arguments, shorter_condition, shorter_simple, shorter_first, shorter_head, shorter_statement, shorter_choice, shorter_block, shorter_statements}

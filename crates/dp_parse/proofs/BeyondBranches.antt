@@ -4,12 +4,12 @@ use Rattle.dp_lex.specs.Token.{Lexeme}
 use Rattle.dp_tree.specs.declared.raw.RawExpr.{RawExpr}
 use Rattle.dp_tree.specs.declared.raw.RawStmt.{RawStmt}
 use Rattle.dp_tree.specs.declared.raw.RawStmt.TheVariants as tree
-use Rattle.dp_parse.specs.declared.symbol.Symbol.TheVariants.{If, Break, OpenBrace, CloseBrace, Semicolon}
-use Rattle.dp_parse.specs.Symbols.{symbol_at, Is}
+use Rattle.dp_tokens.specs.declared.symbol.Symbol.TheVariants.{If, Break, OpenBrace, CloseBrace, Semicolon}
+use Rattle.dp_tokens.specs.Symbols.{symbol_at, Is}
 use Rattle.dp_parse.specs.Rules.{Part, Word, Of, Condition, Head, Statement, Choice, Block, Statements, Exit, Inside, Loop}
 use Rattle.dp_parse.specs.Begins.{Derived}
 use Rattle.dp_parse.specs.Rules as rule
-use Rattle.dp_parse.specs.descent.Steps.{Parser, ◌>>=◌, pure, expect, sees, rest}
+use Rattle.dp_tokens.specs.Steps.{Parser, ◌>>=◌, pure, expect, sees, rest}
 use Rattle.dp_parse.specs.descent.Statements as statements
 use Rattle.dp_parse.specs.descent.Regions as read
 use Rattle.dp_parse.proofs.StepLemmas.{is_same, sees_is, sees_other}

@@ -4,15 +4,15 @@ use Rattle.dp_lex.specs.Token.{Lexeme}
 use Rattle.dp_tree.specs.declared.raw.Name.{Name as TreeName}
 use Rattle.dp_tree.specs.declared.raw.RawExpr.{RawExpr}
 use Rattle.dp_tree.specs.declared.raw.RawStmt.{RawStmt}
-use Rattle.dp_parse.specs.declared.symbol.Symbol.{Symbol}
-use Rattle.dp_parse.specs.declared.symbol.Symbol.TheVariants.{Name, Int, Print, Assign, OpenParen, CloseParen, OpenBracket, CloseBracket, Semicolon, Comma}
+use Rattle.dp_tokens.specs.declared.symbol.Symbol.{Symbol}
+use Rattle.dp_tokens.specs.declared.symbol.Symbol.TheVariants.{Name, Int, Print, Assign, OpenParen, CloseParen, OpenBracket, CloseBracket, Semicolon, Comma}
 use Rattle.dp_parse.specs.declared.level.Level.TheVariants.{Or}
-use Rattle.dp_parse.specs.Symbols.{symbol_at, Is}
+use Rattle.dp_tokens.specs.Symbols.{symbol_at, Is}
 use Rattle.dp_parse.specs.Levels.{prefixing}
 use Rattle.dp_parse.specs.Rules.{Nonterminal, Part, Word, Of, Expression, Expressions, Arguments, Condition, Head, Statement, Choice, Block, Statements}
 use Rattle.dp_parse.specs.Begins.{Derived}
 use Rattle.dp_parse.specs.Rules as rule
-use Rattle.dp_parse.specs.descent.Steps.{◌>>=◌, pure, expect, sees, separated}
+use Rattle.dp_tokens.specs.Steps.{◌>>=◌, pure, expect, sees, separated}
 use Rattle.dp_parse.specs.descent.Expressions as expr
 use Rattle.dp_parse.specs.descent.Statements as read
 use Rattle.dp_parse.proofs.StepLemmas.{is_same, sees_other, after_is, sees_is}

@@ -5,16 +5,16 @@ use Rattle.dp_tree.specs.declared.raw.Name.{Name as TreeName}
 use Rattle.dp_tree.specs.declared.raw.RawExpr.{RawExpr}
 use Rattle.dp_tree.specs.declared.raw.RawStmt.{RawStmt}
 use Rattle.dp_tree.specs.declared.raw.RawStmt.TheVariants as tree
-use Rattle.dp_parse.specs.declared.symbol.Symbol.{Symbol}
-use Rattle.dp_parse.specs.declared.symbol.Symbol.TheVariants.{Name, Int, Assign, OpenParen, CloseParen, OpenBracket, CloseBracket, Semicolon}
+use Rattle.dp_tokens.specs.declared.symbol.Symbol.{Symbol}
+use Rattle.dp_tokens.specs.declared.symbol.Symbol.TheVariants.{Name, Int, Assign, OpenParen, CloseParen, OpenBracket, CloseBracket, Semicolon}
 use Rattle.dp_parse.specs.declared.level.Level.TheVariants.{Or}
-use Rattle.dp_parse.specs.Symbols.{symbol_at}
+use Rattle.dp_tokens.specs.Symbols.{symbol_at}
 use Rattle.dp_parse.specs.Levels.{joining}
 use Rattle.dp_parse.specs.Rules.{Part, Word, Of, Expression, Simple, First, Head}
 use Rattle.dp_parse.specs.Begins.{Derived}
 use Rattle.dp_parse.specs.Rules as rule
-use Rattle.dp_parse.specs.descent.Steps.{Outcome, Parser, ◌>>=◌, pure, and_then, expect, sees}
-use Rattle.dp_parse.specs.descent.Steps as step
+use Rattle.dp_tokens.specs.Steps.{Outcome, Parser, ◌>>=◌, pure, and_then, expect, sees}
+use Rattle.dp_tokens.specs.Steps as step
 use Rattle.dp_parse.specs.descent.Expressions as expr
 use Rattle.dp_parse.specs.descent.Heads as read
 use Rattle.dp_parse.proofs.StepLemmas.{is_same}

@@ -7,16 +7,16 @@ use Rattle.dp_tree.specs.declared.raw.RawItem.{RawItem}
 use Rattle.dp_tree.specs.declared.raw.RawProgram.{RawProgram}
 use Rattle.dp_parse.specs.declared.item.Part.{Part as ReadPart}
 use Rattle.dp_parse.specs.declared.item.Part.TheVariants.{Item as AnItem, Main as TheBody}
-use Rattle.dp_parse.specs.declared.symbol.Symbol.TheVariants.{Name, Int, Void, Main, Return, OpenParen, CloseParen, OpenBrace, CloseBrace, Semicolon}
-use Rattle.dp_parse.specs.Symbols.{symbol_at, Is}
-use Rattle.dp_parse.specs.Leaves.{IsNumber}
+use Rattle.dp_tokens.specs.declared.symbol.Symbol.TheVariants.{Name, Int, Void, Main, Return, OpenParen, CloseParen, OpenBrace, CloseBrace, Semicolon}
+use Rattle.dp_tokens.specs.Symbols.{symbol_at, Is}
+use Rattle.dp_tokens.specs.Leaves.{IsNumber}
 use Rattle.dp_parse.specs.Programs.{DerivesItems}
 use Rattle.dp_parse.specs.Programs as derives
 use Rattle.dp_parse.specs.Rules.{Part, Word, Zero, Of, Statement, Condition, Block, Loop, Item, Items, Tops, Ending, Body, Program}
 use Rattle.dp_parse.specs.Begins.{Derived, Begins}
 use Rattle.dp_parse.specs.Rules as rule
-use Rattle.dp_parse.specs.descent.Steps.{Outcome, Parser, ◌>>=◌, pure, and_then, expect, eat, sees, after, many}
-use Rattle.dp_parse.specs.descent.Numbers as numbers
+use Rattle.dp_tokens.specs.Steps.{Outcome, Parser, ◌>>=◌, pure, and_then, expect, eat, sees, after, many}
+use Rattle.dp_tokens.specs.Numbers as numbers
 use Rattle.dp_parse.specs.descent.Programs as read
 use Rattle.dp_parse.proofs.StepLemmas.{expects, eats, stays, after-le}
 use Rattle.dp_parse.proofs.LeafLemmas.{reads_number, sees_of}

@@ -2,12 +2,12 @@
 use Rattle.std.proofs.Common.{◌≡◌, refl, ◌∙◌, sym, ℕ, ◌≤◌, ◌-◌, Bool, true, false, List, [], ◌∷◌, ◌++◌, length, arith}
 use Rattle.dp_lex.specs.Token.{Lexeme}
 use Rattle.dp_tree.specs.declared.raw.RawStmt.{RawStmt}
-use Rattle.dp_parse.specs.declared.symbol.Symbol.TheVariants.{Mark, Return, Else, CloseBrace}
-use Rattle.dp_parse.specs.Symbols.{symbol_at, Is}
+use Rattle.dp_tokens.specs.declared.symbol.Symbol.TheVariants.{Mark, Return, Else, CloseBrace}
+use Rattle.dp_tokens.specs.Symbols.{symbol_at, Is}
 use Rattle.dp_parse.specs.Rules.{Part, Word, Zero, Of, Statement, Condition, Block, Loop, Item, Items, Tops, Ending, Body, Program}
 use Rattle.dp_parse.specs.Begins.{Derived, Begins}
 use Rattle.dp_parse.specs.Rules as rule
-use Rattle.dp_parse.specs.descent.Steps.{sees, after, many}
+use Rattle.dp_tokens.specs.Steps.{sees, after, many}
 use Rattle.dp_parse.specs.descent.Statements as statements
 use Rattle.dp_parse.specs.descent.Regions as regions
 use Rattle.dp_parse.specs.descent.Programs as read

@@ -5,8 +5,8 @@ use mir.Val.{bool_byte}
 use Rattle.std.proofs.lemmas.List.{drop_all}
 use Rattle.dp_lex.specs.declared.Token.{Token}
 use Rattle.dp_lex.specs.Tokens.{lexeme}
-use Rattle.dp_parse.specs.declared.symbol.Symbol.{Symbol}
-use Rattle.dp_parse.specs.Symbols.{symbol}
+use Rattle.dp_tokens.specs.declared.symbol.Symbol.{Symbol}
+use Rattle.dp_tokens.specs.Symbols.{symbol}
 use Rattle.dp_parse.specs.Depth.{opens, closes, operates, separates, is_if, is_else, else_if, largest, fronts, before_first, pieces, open_after, begins_if, nesting, operators, operators_after, else_ifs}
 
 abbrev pub symbols : List Token → List Symbol

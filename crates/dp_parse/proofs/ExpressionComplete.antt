@@ -6,17 +6,17 @@ use Rattle.dp_lex.specs.Token.{Lexeme}
 use Rattle.dp_tree.specs.declared.raw.Name.{Name as TreeName}
 use Rattle.dp_tree.specs.declared.raw.RawExpr.{RawExpr}
 use Rattle.dp_tree.specs.declared.raw.RawExpr.TheVariants as tree
-use Rattle.dp_parse.specs.declared.symbol.Symbol.{Symbol}
-use Rattle.dp_parse.specs.declared.symbol.Symbol.TheVariants.{Name, OpenParen, CloseParen, OpenBracket, CloseBracket}
+use Rattle.dp_tokens.specs.declared.symbol.Symbol.{Symbol}
+use Rattle.dp_tokens.specs.declared.symbol.Symbol.TheVariants.{Name, OpenParen, CloseParen, OpenBracket, CloseBracket}
 use Rattle.dp_parse.specs.declared.level.Level.{Level}
 use Rattle.dp_parse.specs.declared.level.Level.TheVariants as level
-use Rattle.dp_parse.specs.Symbols.{symbol, symbol_at, Is}
+use Rattle.dp_tokens.specs.Symbols.{symbol, symbol_at, Is}
 use Rattle.dp_parse.specs.Levels.{operands, joining, prefixing}
-use Rattle.dp_parse.specs.Leaves.{name_of, IsNumber}
+use Rattle.dp_tokens.specs.Leaves.{name_of, IsNumber}
 use Rattle.dp_parse.specs.Expressions.{DerivesExpr, operand, chain, prefix, number, scalar, element, parenthesized}
-use Rattle.dp_parse.specs.descent.Steps.{Outcome, Parser, ◌>>=◌, pure, and_then, expect, rest}
+use Rattle.dp_tokens.specs.Steps.{Outcome, Parser, ◌>>=◌, pure, and_then, expect, rest}
 use Rattle.dp_parse.specs.descent.Operators.{join_at, prefix_at}
-use Rattle.dp_parse.specs.descent.Steps as step
+use Rattle.dp_tokens.specs.Steps as step
 use Rattle.dp_parse.specs.descent.Operators as operators
 use Rattle.dp_parse.specs.descent.Expressions as read
 use Rattle.dp_parse.proofs.StepLemmas.{expects, eats, stays}

@@ -6,7 +6,7 @@ use Rattle.dp_tree.specs.declared.raw.RawExpr.{RawExpr}
 use Rattle.dp_tree.specs.declared.raw.RawStmt.{RawStmt}
 use Rattle.dp_tree.specs.declared.raw.RawItem.{RawItem}
 use Rattle.dp_parse.specs.declared.level.Level.{Level}
-use Rattle.dp_parse.specs.Symbols.{symbol}
+use Rattle.dp_tokens.specs.Symbols.{symbol}
 use Rattle.dp_parse.specs.Expressions.{DerivesExpr, DerivesList}
 use Rattle.dp_parse.specs.Expressions as expression
 use Rattle.dp_parse.specs.Heads.{DerivesSimple, DerivesFirst, DerivesHead}

@@ -6,16 +6,16 @@ use Rattle.dp_tree.specs.declared.raw.RawExpr.{RawExpr}
 use Rattle.dp_tree.specs.declared.raw.RawStmt.{RawStmt}
 use Rattle.dp_tree.specs.declared.raw.RawStmt.TheVariants as tree
 use Rattle.dp_parse.specs.declared.head.Header.{Header}
-use Rattle.dp_parse.specs.declared.symbol.Symbol.{Symbol}
-use Rattle.dp_parse.specs.declared.symbol.Symbol.TheVariants.{Name, Int, Assign, OpenParen, CloseParen, OpenBracket, CloseBracket, Semicolon}
+use Rattle.dp_tokens.specs.declared.symbol.Symbol.{Symbol}
+use Rattle.dp_tokens.specs.declared.symbol.Symbol.TheVariants.{Name, Int, Assign, OpenParen, CloseParen, OpenBracket, CloseBracket, Semicolon}
 use Rattle.dp_parse.specs.declared.level.Level.TheVariants.{Or}
-use Rattle.dp_parse.specs.Symbols.{symbol_at, Is}
+use Rattle.dp_tokens.specs.Symbols.{symbol_at, Is}
 use Rattle.dp_parse.specs.Levels.{joining}
-use Rattle.dp_parse.specs.Leaves.{name_of}
+use Rattle.dp_tokens.specs.Leaves.{name_of}
 use Rattle.dp_parse.specs.Expressions.{DerivesExpr}
 use Rattle.dp_parse.specs.Heads.{DerivesSimple, scalar, element, DerivesFirst, declared, simple, DerivesHead, head}
-use Rattle.dp_parse.specs.descent.Steps.{Parser, ◌>>=◌, pure, expect, sees}
-use Rattle.dp_parse.specs.descent.Steps as step
+use Rattle.dp_tokens.specs.Steps.{Parser, ◌>>=◌, pure, expect, sees}
+use Rattle.dp_tokens.specs.Steps as step
 use Rattle.dp_parse.specs.descent.Expressions as expr
 use Rattle.dp_parse.specs.descent.Heads as read
 use Rattle.dp_parse.specs.descent.Statements as statements

@@ -7,16 +7,16 @@ use Rattle.dp_tree.specs.declared.raw.Name.{Name as TreeName}
 use Rattle.dp_tree.specs.declared.raw.RawStmt.{RawStmt}
 use Rattle.dp_tree.specs.declared.raw.RawItem.{RawItem}
 use Rattle.dp_tree.specs.declared.raw.RawItem.TheVariants as item
-use Rattle.dp_parse.specs.declared.symbol.Symbol.{Symbol}
-use Rattle.dp_parse.specs.declared.symbol.Symbol.TheVariants.{Name, Number, Int, Void, Minus, OpenParen, CloseParen, OpenBracket, CloseBracket, Comma, Semicolon}
-use Rattle.dp_parse.specs.Symbols.{symbol_at, Is}
-use Rattle.dp_parse.specs.Leaves.{name_of, IsNumber}
+use Rattle.dp_tokens.specs.declared.symbol.Symbol.{Symbol}
+use Rattle.dp_tokens.specs.declared.symbol.Symbol.TheVariants.{Name, Number, Int, Void, Minus, OpenParen, CloseParen, OpenBracket, CloseBracket, Comma, Semicolon}
+use Rattle.dp_tokens.specs.Symbols.{symbol_at, Is}
+use Rattle.dp_tokens.specs.Leaves.{name_of, IsNumber}
 use Rattle.dp_parse.specs.Statements.{DerivesBlock}
 use Rattle.dp_parse.specs.Programs.{DerivesNames, last, more, DerivesParams, void, some, DerivesItem, scalar, started, below_zero, array, function, DerivesTops, region, DerivesReturn, DerivesMain, main, main_void, DerivesItems, Derives}
 use Rattle.dp_parse.specs.Programs as programs
-use Rattle.dp_parse.specs.descent.Steps.{Outcome, Parser, ◌>>=◌, pure, and_then, expect, eat, rest, sees, after, given, separated, many}
-use Rattle.dp_parse.specs.descent.Steps as step
-use Rattle.dp_parse.specs.descent.Numbers as numbers
+use Rattle.dp_tokens.specs.Steps.{Outcome, Parser, ◌>>=◌, pure, and_then, expect, eat, rest, sees, after, given, separated, many}
+use Rattle.dp_tokens.specs.Steps as step
+use Rattle.dp_tokens.specs.Numbers as numbers
 use Rattle.dp_parse.specs.descent.Statements as statements
 use Rattle.dp_parse.specs.descent.Programs as read
 use Rattle.dp_parse.proofs.StepLemmas.{expects, eats, stays, sees_is, sees_other, after_is, after_other}

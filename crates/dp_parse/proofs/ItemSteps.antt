@@ -2,10 +2,10 @@
 use Rattle.std.proofs.Common.{◌≡◌, refl, ap, ◌∙◌, ℕ, ◌<◌, Bool, true, false, ◌||◌, List, ◌∷◌, length, arith, Ok}
 use Rattle.dp_lex.specs.Token.{Lexeme}
 use Rattle.dp_tree.specs.declared.raw.Name.{Name as TreeName}
-use Rattle.dp_parse.specs.declared.symbol.Symbol.TheVariants.{Int, Name, Mark, Return, CloseBrace}
-use Rattle.dp_parse.specs.Symbols.{Is}
-use Rattle.dp_parse.specs.Leaves.{name_of}
-use Rattle.dp_parse.specs.descent.Steps.{expect, name, sees}
+use Rattle.dp_tokens.specs.declared.symbol.Symbol.TheVariants.{Int, Name, Mark, Return, CloseBrace}
+use Rattle.dp_tokens.specs.Symbols.{Is}
+use Rattle.dp_tokens.specs.Leaves.{name_of}
+use Rattle.dp_tokens.specs.Steps.{expect, name, sees}
 use Rattle.dp_parse.specs.descent.Programs.{param, top, top_by, ends}
 use Rattle.dp_parse.specs.descent.Statements.{statement}
 use Rattle.dp_parse.proofs.StepLemmas.{then_of, took, Ate, passed, stayed, ate, seen_some}

@@ -8,11 +8,11 @@ use Rattle.std.proofs.lemmas.Bool.{leb-true, le-leb}
 use Rattle.std.proofs.lemmas.List.Sums.{AllPass-from_list_all, list_all-from_AllPass}
 use Rattle.dp_lex.specs.Token.{Lexeme}
 use Rattle.dp_tree.specs.declared.raw.Name.{Name as TreeName}
-use Rattle.dp_parse.specs.declared.symbol.Symbol.TheVariants.{Name, Number}
-use Rattle.dp_parse.specs.Symbols.{symbol, Is}
-use Rattle.dp_parse.specs.Leaves.{name_of, IsNumber}
-use Rattle.dp_parse.specs.descent.Steps.{expect, name, rest, same_symbol}
-use Rattle.dp_parse.specs.descent.Numbers.{number, number_by, number_value, next_number, value_by, zero_by, sees_zero}
+use Rattle.dp_tokens.specs.declared.symbol.Symbol.TheVariants.{Name, Number}
+use Rattle.dp_tokens.specs.Symbols.{symbol, Is}
+use Rattle.dp_tokens.specs.Leaves.{name_of, IsNumber}
+use Rattle.dp_tokens.specs.Steps.{expect, name, rest, same_symbol}
+use Rattle.dp_tokens.specs.Numbers.{number, number_by, number_value, next_number, value_by, zero_by, sees_zero}
 use Rattle.dp_parse.proofs.StepLemmas.{then_of, same_pair, took, same_is, is_same, expects}
 
 -- the name that was read

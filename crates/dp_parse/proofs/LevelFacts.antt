@@ -1,8 +1,8 @@
 -- The table of levels: each symbol joins at one level, and prefixes stand at one.
 use Rattle.std.proofs.Common.{◌≡◌, refl, ap, ◌∙◌, sym, ℕ, ◌<◌, ◌≤◌, Bool, if◌then◌else◌, Option, Some, None, arith}
 use Rattle.dp_base.specs.declared.UnOp.{UnOp}
-use Rattle.dp_parse.specs.declared.symbol.Symbol.{Symbol}
-use Rattle.dp_parse.specs.declared.symbol.Symbol.TheVariants as symbol
+use Rattle.dp_tokens.specs.declared.symbol.Symbol.{Symbol}
+use Rattle.dp_tokens.specs.declared.symbol.Symbol.TheVariants as symbol
 use Rattle.dp_parse.specs.declared.level.Level.{Level}
 use Rattle.dp_parse.specs.declared.level.Level.TheVariants as level
 use Rattle.dp_parse.specs.declared.level.Join.{Join}

@@ -8,9 +8,9 @@ use Rattle.dp_tree.specs.declared.raw.RawExpr.TheVariants as tree
 use Rattle.dp_parse.specs.declared.level.Level.{Level}
 use Rattle.dp_parse.specs.declared.level.Level.TheVariants as level
 use Rattle.dp_parse.specs.declared.level.Join.{Join}
-use Rattle.dp_parse.specs.Symbols.{symbol_at}
+use Rattle.dp_tokens.specs.Symbols.{symbol_at}
 use Rattle.dp_parse.specs.Levels.{operands, joined}
-use Rattle.dp_parse.specs.descent.Steps.{Outcome, Parser, ◌>>=◌, and_then, pure, rest}
+use Rattle.dp_tokens.specs.Steps.{Outcome, Parser, ◌>>=◌, and_then, pure, rest}
 use Rattle.dp_parse.specs.descent.Operators.{join_at, prefix_at}
 use Rattle.dp_parse.specs.descent.Expressions as read
 

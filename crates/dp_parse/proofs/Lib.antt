@@ -14,7 +14,6 @@ pub mod StatementSound
 pub mod StatementSteps
 pub mod RegionSound
 pub mod ItemSteps
-pub mod NumberSteps
 pub mod StatementReads
 pub mod HeadReads
 pub mod StatementComplete

@@ -1,8 +1,8 @@
 -- Lists of parts: a turn of a loop, and its end.
 use Rattle.std.proofs.Common.{◌≡◌, ap, ◌∙◌, ℕ, zero, suc, ◌-◌, ◌<◌, ◌≤◌, Bool, true, false, List, [], ◌∷◌, ◌++◌, length, Ok, Err, arith}
 use Rattle.dp_lex.specs.Token.{Lexeme}
-use Rattle.dp_parse.specs.declared.symbol.Symbol.TheVariants.{Comma}
-use Rattle.dp_parse.specs.descent.Steps.{Outcome, Parser, and_then, ◌>>=◌, eat, sees, after, separated_by, separated, many_by, many}
+use Rattle.dp_tokens.specs.declared.symbol.Symbol.TheVariants.{Comma}
+use Rattle.dp_tokens.specs.Steps.{Outcome, Parser, and_then, ◌>>=◌, eat, sees, after, separated_by, separated, many_by, many}
 
 module _ {A : Type 0} (item : Parser A) where
   pub separated_turn : (k : ℕ) (found : List A) (ts middle : List Lexeme) (x : A) → item ts ≡ Ok (x, middle) → length middle < length ts → length ts ≤ k →

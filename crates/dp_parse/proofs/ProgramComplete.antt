@@ -11,16 +11,16 @@ use Rattle.dp_tree.specs.declared.raw.RawItem.TheVariants as item
 use Rattle.dp_tree.specs.declared.raw.RawProgram.{RawProgram}
 use Rattle.dp_parse.specs.declared.item.Part.{Part}
 use Rattle.dp_parse.specs.declared.item.Part.TheVariants.{Item, Main as Body}
-use Rattle.dp_parse.specs.declared.symbol.Symbol.{Symbol}
-use Rattle.dp_parse.specs.declared.symbol.Symbol.TheVariants.{Name, Mark, Int, Void, Main, Return, While, For, Else, Assign, OpenParen, CloseParen, OpenBracket, OpenBrace, CloseBrace, Semicolon}
-use Rattle.dp_parse.specs.Symbols.{symbol_at, Is}
-use Rattle.dp_parse.specs.Leaves.{name_of}
+use Rattle.dp_tokens.specs.declared.symbol.Symbol.{Symbol}
+use Rattle.dp_tokens.specs.declared.symbol.Symbol.TheVariants.{Name, Mark, Int, Void, Main, Return, While, For, Else, Assign, OpenParen, CloseParen, OpenBracket, OpenBrace, CloseBrace, Semicolon}
+use Rattle.dp_tokens.specs.Symbols.{symbol_at, Is}
+use Rattle.dp_tokens.specs.Leaves.{name_of}
 use Rattle.dp_parse.specs.Statements.{DerivesStatement, DerivesCondition}
 use Rattle.dp_parse.specs.Heads.{DerivesHead}
 use Rattle.dp_parse.specs.Programs.{DerivesNames, last, more, DerivesParams, void, some, DerivesItem, scalar, started, below_zero, array, function, DerivesTops, region, for_region, DerivesReturn, DerivesMain, main, main_void, DerivesItems, Derives}
 use Rattle.dp_parse.specs.Programs as programs
-use Rattle.dp_parse.specs.descent.Steps.{Outcome, Parser, ◌>>=◌, pure, and_then, expect, eat, rest, sees, after, given, separated, many}
-use Rattle.dp_parse.specs.descent.Steps as step
+use Rattle.dp_tokens.specs.Steps.{Outcome, Parser, ◌>>=◌, pure, and_then, expect, eat, rest, sees, after, given, separated, many}
+use Rattle.dp_tokens.specs.Steps as step
 use Rattle.dp_parse.specs.descent.Programs as read
 use Rattle.dp_parse.proofs.StepLemmas.{is_same, expects, eats, stays, sees_other, same_pair}
 use Rattle.dp_parse.proofs.LeafLemmas.{reads_number, sees_of}

@@ -8,13 +8,13 @@ use Rattle.dp_tree.specs.declared.raw.RawItem.{RawItem}
 use Rattle.dp_tree.specs.declared.raw.RawProgram.{RawProgram}
 use Rattle.dp_parse.specs.declared.item.Part.{Part}
 use Rattle.dp_parse.specs.declared.item.Part.TheVariants.{Item, Main as Body}
-use Rattle.dp_parse.specs.declared.symbol.Symbol.TheVariants.{Mark, Int, Void, Main, Return, OpenParen, CloseParen, OpenBrace, CloseBrace, Semicolon}
-use Rattle.dp_parse.specs.Symbols.{Is}
-use Rattle.dp_parse.specs.Leaves.{IsNumber}
+use Rattle.dp_tokens.specs.declared.symbol.Symbol.TheVariants.{Mark, Int, Void, Main, Return, OpenParen, CloseParen, OpenBrace, CloseBrace, Semicolon}
+use Rattle.dp_tokens.specs.Symbols.{Is}
+use Rattle.dp_tokens.specs.Leaves.{IsNumber}
 use Rattle.dp_parse.specs.Programs.{DerivesNames, DerivesParams, DerivesItem, DerivesTops, DerivesReturn, DerivesMain, DerivesItems, Derives}
 use Rattle.dp_parse.specs.Programs as programs
-use Rattle.dp_parse.specs.descent.Steps.{Outcome, Parser, ◌>>=◌, pure, and_then, expect, eat, rest, sees, given, separated, separated_by, many, many_by}
-use Rattle.dp_parse.specs.descent.Numbers as numbers
+use Rattle.dp_tokens.specs.Steps.{Outcome, Parser, ◌>>=◌, pure, and_then, expect, eat, rest, sees, given, separated, separated_by, many, many_by}
+use Rattle.dp_tokens.specs.Numbers as numbers
 use Rattle.dp_parse.specs.descent.Statements as statements
 use Rattle.dp_parse.specs.descent.Programs as read
 use Rattle.dp_parse.proofs.StepLemmas.{Sound, then_of, same_pair, took, Ate, passed, stayed, ate, moved, taken}

@@ -5,11 +5,11 @@ use Rattle.dp_tree.specs.declared.raw.RawItem.{RawItem}
 use Rattle.dp_tree.specs.declared.raw.RawStmt.{RawStmt}
 use Rattle.dp_parse.specs.declared.item.Part.{Part}
 use Rattle.dp_parse.specs.declared.item.Part.TheVariants.{Item, Main as Body}
-use Rattle.dp_parse.specs.descent.Steps.{Outcome, and_then}
+use Rattle.dp_tokens.specs.Steps.{Outcome, and_then}
 use Rattle.dp_parse.specs.descent.Programs as read
 
 part_empty : read.part [] ≡ Err []
-unfolding read.part Rattle.dp_parse.specs.descent.Steps.sees Rattle.dp_parse.specs.descent.Steps.same_symbol Rattle.dp_parse.specs.Symbols.symbol_at Rattle.dp_parse.specs.descent.Steps.expect Rattle.dp_parse.specs.descent.Steps.after
+unfolding read.part Rattle.dp_tokens.specs.Steps.sees Rattle.dp_tokens.specs.Steps.same_symbol Rattle.dp_tokens.specs.Symbols.symbol_at Rattle.dp_tokens.specs.Steps.expect Rattle.dp_tokens.specs.Steps.after
 part_empty = refl
 
 pub program_none : (k : ℕ) (items : List RawItem) (ts left : List Lexeme) → read.part ts ≡ Err left → length ts ≤ k → read.program_from k items ts ≡ Err left

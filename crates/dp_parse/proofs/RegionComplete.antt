@@ -5,15 +5,15 @@ use Rattle.dp_lex.specs.Token.{Lexeme}
 use Rattle.dp_tree.specs.declared.raw.RawExpr.{RawExpr}
 use Rattle.dp_tree.specs.declared.raw.RawStmt.{RawStmt}
 use Rattle.dp_tree.specs.declared.raw.RawStmt.TheVariants as tree
-use Rattle.dp_parse.specs.declared.symbol.Symbol.{Symbol}
-use Rattle.dp_parse.specs.declared.symbol.Symbol.TheVariants.{Int, Name, Print, While, For, If, Else, Break, OpenBrace, CloseBrace, Semicolon}
-use Rattle.dp_parse.specs.Symbols.{symbol_at, Is}
+use Rattle.dp_tokens.specs.declared.symbol.Symbol.{Symbol}
+use Rattle.dp_tokens.specs.declared.symbol.Symbol.TheVariants.{Int, Name, Print, While, For, If, Else, Break, OpenBrace, CloseBrace, Semicolon}
+use Rattle.dp_tokens.specs.Symbols.{symbol_at, Is}
 use Rattle.dp_parse.specs.Heads.{DerivesHead}
 use Rattle.dp_parse.specs.Statements.{DerivesCondition, DerivesStatement, declare, assign, store, call, print, loop, for_loop, choice, DerivesChoice, alone, otherwise, else_if, DerivesBlock, block, DerivesStatements}
 use Rattle.dp_parse.specs.Statements as statements
 use Rattle.dp_parse.specs.Regions.{DerivesExit, bare, braced, DerivesInside, DerivesLoop}
 use Rattle.dp_parse.specs.Regions as regions
-use Rattle.dp_parse.specs.descent.Steps.{Parser, ◌>>=◌, pure, expect, rest, sees, many}
+use Rattle.dp_tokens.specs.Steps.{Parser, ◌>>=◌, pure, expect, rest, sees, many}
 use Rattle.dp_parse.specs.descent.Heads as heads
 use Rattle.dp_parse.specs.descent.Statements as step
 use Rattle.dp_parse.specs.descent.Regions as read

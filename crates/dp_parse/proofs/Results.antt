@@ -6,12 +6,12 @@ use Rattle.dp_lex.specs.Tokens.{Tokens}
 use Rattle.dp_tree.specs.declared.raw.RawProgram.{RawProgram}
 use Rattle.dp_parse.specs.declared.error.ParseFail.{ParseFail}
 use Rattle.dp_parse.specs.declared.error.ParseFail.TheVariants.{Lex, TooDeep, Refused, NoMemory}
-use Rattle.dp_parse.specs.declared.error.ParseError.{ParseError}
-use Rattle.dp_parse.specs.declared.error.ParseError.TheVariants as part
+use Rattle.dp_tokens.specs.declared.error.ParseError.{ParseError}
+use Rattle.dp_tokens.specs.declared.error.ParseError.TheVariants as part
 use Rattle.dp_parse.specs.Depth.{depth_fault}
 use Rattle.dp_parse.specs.Programs.{Derives}
 use Rattle.dp_parse.specs.Parses.{Parses, Unread, Gives, outcome_of}
-use Rattle.dp_parse.specs.descent.Steps.{Reads}
+use Rattle.dp_tokens.specs.Steps.{Reads}
 use Rattle.dp_parse.specs.descent.Programs as read
 use Rattle.dp_parse.proofs.ProgramSound.{sound_program}
 use Rattle.dp_parse.proofs.ProgramComplete.{reads_program}

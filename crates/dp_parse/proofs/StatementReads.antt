@@ -4,17 +4,17 @@ use Rattle.dp_lex.specs.Token.{Lexeme}
 use Rattle.dp_tree.specs.declared.raw.RawExpr.{RawExpr}
 use Rattle.dp_tree.specs.declared.raw.RawStmt.{RawStmt}
 use Rattle.dp_tree.specs.declared.raw.RawStmt.TheVariants as tree
-use Rattle.dp_parse.specs.declared.symbol.Symbol.{Symbol}
-use Rattle.dp_parse.specs.declared.symbol.Symbol.TheVariants.{Name, Int, Print, While, For, If, Else, OpenParen, CloseParen, OpenBracket, CloseBracket, OpenBrace, Semicolon, Comma}
+use Rattle.dp_tokens.specs.declared.symbol.Symbol.{Symbol}
+use Rattle.dp_tokens.specs.declared.symbol.Symbol.TheVariants.{Name, Int, Print, While, For, If, Else, OpenParen, CloseParen, OpenBracket, CloseBracket, OpenBrace, Semicolon, Comma}
 use Rattle.dp_parse.specs.declared.level.Level.TheVariants.{Or}
-use Rattle.dp_parse.specs.Symbols.{symbol_at, Is}
+use Rattle.dp_tokens.specs.Symbols.{symbol_at, Is}
 use Rattle.dp_parse.specs.Levels.{joining, prefixing}
 use Rattle.dp_parse.specs.declared.level.Level.{Level}
-use Rattle.dp_parse.specs.Leaves.{name_of}
+use Rattle.dp_tokens.specs.Leaves.{name_of}
 use Rattle.dp_parse.specs.Expressions.{DerivesExpr, operand, chain, prefix, number, scalar, element, parenthesized, DerivesList, last, more}
 use Rattle.dp_parse.specs.Statements.{DerivesArguments, none, some, DerivesCondition, condition, DerivesStatement, declare, assign, store, call, print, loop, for_loop, choice, DerivesChoice, alone, otherwise, else_if, DerivesBlock, block, DerivesStatements}
 use Rattle.dp_parse.specs.Statements as statements
-use Rattle.dp_parse.specs.descent.Steps.{Outcome, Parser, ◌>>=◌, pure, and_then, expect, sees, separated}
+use Rattle.dp_tokens.specs.Steps.{Outcome, Parser, ◌>>=◌, pure, and_then, expect, sees, separated}
 use Rattle.dp_parse.specs.descent.Expressions as expr
 use Rattle.dp_parse.specs.descent.Statements as read
 use Rattle.dp_parse.proofs.StepLemmas.{expects, sees_is, sees_other, after_is, after_other}

@@ -5,12 +5,12 @@ use Rattle.dp_lex.specs.Token.{Lexeme}
 use Rattle.dp_tree.specs.declared.raw.RawExpr.{RawExpr}
 use Rattle.dp_tree.specs.declared.raw.RawStmt.{RawStmt}
 use Rattle.dp_tree.specs.declared.raw.RawStmt.TheVariants as tree
-use Rattle.dp_parse.specs.declared.symbol.Symbol.{Symbol}
-use Rattle.dp_parse.specs.declared.symbol.Symbol.TheVariants.{Name, Int, Print, While, For, If, Else, OpenBrace, CloseBrace}
-use Rattle.dp_parse.specs.Symbols.{symbol_at, Is}
+use Rattle.dp_tokens.specs.declared.symbol.Symbol.{Symbol}
+use Rattle.dp_tokens.specs.declared.symbol.Symbol.TheVariants.{Name, Int, Print, While, For, If, Else, OpenBrace, CloseBrace}
+use Rattle.dp_tokens.specs.Symbols.{symbol_at, Is}
 use Rattle.dp_parse.specs.Statements.{DerivesArguments, DerivesCondition, condition, DerivesStatement, declare, assign, store, call, print, loop, for_loop, choice, DerivesChoice, alone, otherwise, else_if, DerivesBlock, block, DerivesStatements}
 use Rattle.dp_parse.specs.Statements as statements
-use Rattle.dp_parse.specs.descent.Steps.{Parser, ◌>>=◌, pure, expect, sees, many, many_by}
+use Rattle.dp_tokens.specs.Steps.{Parser, ◌>>=◌, pure, expect, sees, many, many_by}
 use Rattle.dp_parse.specs.declared.head.Header.{Header}
 use Rattle.dp_parse.specs.descent.Heads as heads
 use Rattle.dp_parse.specs.descent.Statements as read

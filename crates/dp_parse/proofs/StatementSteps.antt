@@ -2,10 +2,10 @@
 use Rattle.std.proofs.Common.{◌≡◌, refl, ap, ℕ, zero, suc, ◌-◌, ◌<◌, List, arith}
 use Rattle.dp_lex.specs.Token.{Lexeme}
 use Rattle.dp_tree.specs.declared.raw.RawStmt.{RawStmt}
-use Rattle.dp_parse.specs.declared.symbol.Symbol.{Symbol}
-use Rattle.dp_parse.specs.declared.symbol.Symbol.TheVariants.{Int, Name, Print, While, For}
-use Rattle.dp_parse.specs.Symbols.{symbol_at}
-use Rattle.dp_parse.specs.descent.Steps.{Parser}
+use Rattle.dp_tokens.specs.declared.symbol.Symbol.{Symbol}
+use Rattle.dp_tokens.specs.declared.symbol.Symbol.TheVariants.{Int, Name, Print, While, For}
+use Rattle.dp_tokens.specs.Symbols.{symbol_at}
+use Rattle.dp_tokens.specs.Steps.{Parser}
 use Rattle.dp_parse.specs.descent.Statements as read
 
 pub statement_opens : (n : ℕ) (ts : List Lexeme) (k : Symbol) → 0 < n → symbol_at ts ≡ k → read.statement n ts ≡ read.statement_by (read.statement (n - 1)) k ts

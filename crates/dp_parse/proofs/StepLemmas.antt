@@ -2,13 +2,13 @@
 use Rattle.std.proofs.Common.{◌≡◌, refl, ap, ◌∙◌, sym, ◌≤◌, ◌<◌, length, arith, Bool, true, false, List, [], ◌∷◌, Option, Some, None, Ok, Err, if◌then◌else◌}
 use denote.Enum.Bare.{same_true, true_same, false_same, same_false}
 use Rattle.dp_lex.specs.Token.{Lexeme}
-use Rattle.dp_parse.specs.declared.symbol.Symbol.{Symbol}
-use Rattle.dp_parse.specs.declared.symbol.Symbol.TheVariants.{End}
-use Rattle.dp_parse.specs.contracts.symbol.Symbol as symbols
+use Rattle.dp_tokens.specs.declared.symbol.Symbol.{Symbol}
+use Rattle.dp_tokens.specs.declared.symbol.Symbol.TheVariants.{End}
+use Rattle.dp_tokens.specs.contracts.symbol.Symbol as symbols
 use Rattle.dp_parse.specs.declared.level.Level.{Level}
 use Rattle.dp_parse.specs.contracts.level.Level as levels
-use Rattle.dp_parse.specs.Symbols.{symbol, symbol_at, Is}
-use Rattle.dp_parse.specs.descent.Steps.{Outcome, Parser, and_then, ◌>>=◌, pure, given, same_symbol, sees, after, rest, eat, expect}
+use Rattle.dp_tokens.specs.Symbols.{symbol, symbol_at, Is}
+use Rattle.dp_tokens.specs.Steps.{Outcome, Parser, and_then, ◌>>=◌, pure, given, same_symbol, sees, after, rest, eat, expect}
 use Rattle.dp_parse.specs.descent.Operators.{same_level}
 
 -- a step that answered, and the one after it

@@ -1,14 +1,14 @@
 -- Where a step of the descent is stuck, the tokens before that place begin the part that it reads.
 use Rattle.std.proofs.Common.{◌≡◌, refl, ap, ◌∙◌, sym, Bool, true, false, List, [], ◌∷◌, Option, Some, None, ◌⊎◌, inl, inr, Ok, Err, ℤ}
 use Rattle.dp_lex.specs.Token.{Lexeme}
-use Rattle.dp_parse.specs.declared.symbol.Symbol.{Symbol}
-use Rattle.dp_parse.specs.declared.symbol.Symbol.TheVariants.{Name, End}
-use Rattle.dp_parse.specs.Symbols.{symbol, symbol_at, Is}
+use Rattle.dp_tokens.specs.declared.symbol.Symbol.{Symbol}
+use Rattle.dp_tokens.specs.declared.symbol.Symbol.TheVariants.{Name, End}
+use Rattle.dp_tokens.specs.Symbols.{symbol, symbol_at, Is}
 use Rattle.dp_parse.specs.Rules.{Nonterminal, Part, Word, Number, Of}
 use Rattle.dp_parse.specs.Begins.{Allows, Derived, Begins, BeginsParts, nothing, none, within, token, past}
-use Rattle.dp_parse.specs.descent.Steps.{Outcome, Parser, and_then, ◌>>=◌, pure, same_symbol, expect, eat, sees, after}
-use Rattle.dp_parse.specs.descent.Steps as step
-use Rattle.dp_parse.specs.descent.Numbers as numbers
+use Rattle.dp_tokens.specs.Steps.{Outcome, Parser, and_then, ◌>>=◌, pure, same_symbol, expect, eat, sees, after}
+use Rattle.dp_tokens.specs.Steps as step
+use Rattle.dp_tokens.specs.Numbers as numbers
 use Rattle.dp_parse.proofs.StepLemmas.{took, taking, same_is, differs, after_is, after_other}
 use Rattle.dp_parse.proofs.LeafLemmas.{read_name, read_number}
 
@@ -65,7 +65,7 @@ word s = record {
   passes = λ parts from middle to a e b. let t = took s from a middle e in rw t.splits (token t.is b);
 }
 
-named_by : (from to : List Lexeme) (o : Outcome Lexeme) → expect Name from ≡ o → and_then o (λ t. pure (Rattle.dp_parse.specs.Leaves.name_of t)) ≡ Err to → from ≡ to
+named_by : (from to : List Lexeme) (o : Outcome Lexeme) → expect Name from ≡ o → and_then o (λ t. pure (Rattle.dp_tokens.specs.Leaves.name_of t)) ≡ Err to → from ≡ to
 named_by from to (Ok x) is e = absurd (cc)
 named_by from to (Err left) is e = let same : left ≡ to = cc e in expect_stuck Name from to (is ∙ ap Err same)
 

@@ -4,22 +4,22 @@ use Rattle.dp_base.specs.declared.UnOp.{UnOp}
 use Rattle.dp_lex.specs.Token.{Lexeme}
 use Rattle.dp_tree.specs.declared.raw.Name.{Name as TreeName}
 use Rattle.dp_tree.specs.declared.raw.RawExpr.{RawExpr}
-use Rattle.dp_parse.specs.declared.symbol.Symbol.{Symbol}
-use Rattle.dp_parse.specs.declared.symbol.Symbol.TheVariants.{Name, Number, OpenParen, CloseParen, OpenBracket, CloseBracket, Comma}
+use Rattle.dp_tokens.specs.declared.symbol.Symbol.{Symbol}
+use Rattle.dp_tokens.specs.declared.symbol.Symbol.TheVariants.{Name, Number, OpenParen, CloseParen, OpenBracket, CloseBracket, Comma}
 use Rattle.dp_parse.specs.declared.level.Level.{Level}
 use Rattle.dp_parse.specs.declared.level.Level.TheVariants as level
 use Rattle.dp_parse.specs.declared.level.Join.{Join}
-use Rattle.dp_parse.specs.Symbols.{symbol, symbol_at, Is}
+use Rattle.dp_tokens.specs.Symbols.{symbol, symbol_at, Is}
 use Rattle.dp_parse.specs.Levels.{operands, joining, prefixing, joined}
-use Rattle.dp_parse.specs.Leaves.{name_of}
+use Rattle.dp_tokens.specs.Leaves.{name_of}
 use Rattle.dp_parse.specs.Expressions.{DerivesExpr}
 use Rattle.dp_parse.specs.Expressions as derives
 use Rattle.dp_parse.specs.Rules.{Expression, Expressions, Part, Of}
 use Rattle.dp_parse.specs.Begins.{Begins, BeginsParts, nothing, by, none, within, token, past}
 use Rattle.dp_parse.specs.Rules as rule
-use Rattle.dp_parse.specs.descent.Steps.{Outcome, Parser, ◌>>=◌, pure, and_then, expect, eat, rest, separated, separated_by}
+use Rattle.dp_tokens.specs.Steps.{Outcome, Parser, ◌>>=◌, pure, and_then, expect, eat, rest, separated, separated_by}
 use Rattle.dp_parse.specs.descent.Operators.{join_at, prefix_at}
-use Rattle.dp_parse.specs.descent.Steps as step
+use Rattle.dp_tokens.specs.Steps as step
 use Rattle.dp_parse.specs.descent.Expressions as read
 use Rattle.dp_parse.proofs.StepLemmas.{Sound}
 use Rattle.dp_parse.proofs.LeafLemmas.{read_name}

@@ -5,16 +5,16 @@ use Rattle.dp_lex.specs.Token.{Lexeme}
 use Rattle.dp_tree.specs.declared.raw.Name.{Name as TreeName}
 use Rattle.dp_tree.specs.declared.raw.RawItem.{RawItem}
 use Rattle.dp_tree.specs.declared.raw.RawItem.TheVariants as item
-use Rattle.dp_parse.specs.declared.symbol.Symbol.{Symbol}
-use Rattle.dp_parse.specs.declared.symbol.Symbol.TheVariants.{Name, Int, Void, Minus, Assign, OpenParen, CloseParen, OpenBracket, CloseBracket, Comma, Semicolon}
-use Rattle.dp_parse.specs.Symbols.{symbol_at, Is}
-use Rattle.dp_parse.specs.Leaves.{name_of}
+use Rattle.dp_tokens.specs.declared.symbol.Symbol.{Symbol}
+use Rattle.dp_tokens.specs.declared.symbol.Symbol.TheVariants.{Name, Int, Void, Minus, Assign, OpenParen, CloseParen, OpenBracket, CloseBracket, Comma, Semicolon}
+use Rattle.dp_tokens.specs.Symbols.{symbol_at, Is}
+use Rattle.dp_tokens.specs.Leaves.{name_of}
 use Rattle.dp_parse.specs.Rules.{Part, Word, Number, Length, Of, Names, Params, Item, Block}
 use Rattle.dp_parse.specs.Begins.{Begins, BeginsParts, nothing, by, none, within, token, past}
 use Rattle.dp_parse.specs.Rules as rule
-use Rattle.dp_parse.specs.descent.Steps.{Outcome, Parser, ◌>>=◌, ◌>>◌, ◌<$>◌, pure, and_then, expect, eat, sees, rest, given, separated, separated_by}
-use Rattle.dp_parse.specs.descent.Steps as step
-use Rattle.dp_parse.specs.descent.Numbers as numbers
+use Rattle.dp_tokens.specs.Steps.{Outcome, Parser, ◌>>=◌, ◌>>◌, ◌<$>◌, pure, and_then, expect, eat, sees, rest, given, separated, separated_by}
+use Rattle.dp_tokens.specs.Steps as step
+use Rattle.dp_tokens.specs.Numbers as numbers
 use Rattle.dp_parse.specs.descent.Statements as statements
 use Rattle.dp_parse.specs.descent.Programs as read
 use Rattle.dp_parse.proofs.LeafLemmas.{read_name, read_number, sees_of}

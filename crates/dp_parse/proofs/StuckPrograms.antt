@@ -7,14 +7,14 @@ use Rattle.dp_tree.specs.declared.raw.RawItem.{RawItem}
 use Rattle.dp_tree.specs.declared.raw.RawProgram.{RawProgram}
 use Rattle.dp_parse.specs.declared.item.Part.{Part as ReadPart}
 use Rattle.dp_parse.specs.declared.item.Part.TheVariants.{Item as AnItem, Main as TheBody}
-use Rattle.dp_parse.specs.declared.symbol.Symbol.TheVariants.{Mark, Int, Void, Main, Return, While, For, OpenParen, CloseParen, OpenBrace, CloseBrace, Semicolon}
-use Rattle.dp_parse.specs.Symbols.{Is}
+use Rattle.dp_tokens.specs.declared.symbol.Symbol.TheVariants.{Mark, Int, Void, Main, Return, While, For, OpenParen, CloseParen, OpenBrace, CloseBrace, Semicolon}
+use Rattle.dp_tokens.specs.Symbols.{Is}
 use Rattle.dp_parse.specs.Programs as derives
 use Rattle.dp_parse.specs.Rules.{Part, Word, Zero, Of, Condition, Head, Loop, Item, Items, Tops, Ending, Body, Program}
 use Rattle.dp_parse.specs.Begins.{Derived, Begins, BeginsParts, nothing, by, none, within, token, past}
 use Rattle.dp_parse.specs.Rules as rule
-use Rattle.dp_parse.specs.descent.Steps.{Outcome, Parser, ◌>>=◌, pure, and_then, expect, eat, many, many_by}
-use Rattle.dp_parse.specs.descent.Numbers as numbers
+use Rattle.dp_tokens.specs.Steps.{Outcome, Parser, ◌>>=◌, pure, and_then, expect, eat, many, many_by}
+use Rattle.dp_tokens.specs.Numbers as numbers
 use Rattle.dp_parse.specs.descent.Statements as statements
 use Rattle.dp_parse.specs.descent.Programs as read
 use Rattle.dp_parse.proofs.StepLemmas.{took, Ate, ate}

@@ -4,13 +4,13 @@ use Rattle.dp_lex.specs.Token.{Lexeme}
 use Rattle.dp_tree.specs.declared.raw.RawExpr.{RawExpr}
 use Rattle.dp_tree.specs.declared.raw.RawStmt.{RawStmt}
 use Rattle.dp_tree.specs.declared.raw.RawStmt.TheVariants as tree
-use Rattle.dp_parse.specs.declared.symbol.Symbol.TheVariants.{While, For, If, Else, Break, OpenBrace, CloseBrace, Semicolon}
-use Rattle.dp_parse.specs.Symbols.{Is}
+use Rattle.dp_tokens.specs.declared.symbol.Symbol.TheVariants.{While, For, If, Else, Break, OpenBrace, CloseBrace, Semicolon}
+use Rattle.dp_tokens.specs.Symbols.{Is}
 use Rattle.dp_parse.specs.Statements.{DerivesCondition}
 use Rattle.dp_parse.specs.Rules.{Part, Word, Of, Condition, Head, Statement, Choice, Block, Exit, Inside, Loop}
 use Rattle.dp_parse.specs.Begins.{Begins, BeginsParts, nothing, by, none, within, token, past}
 use Rattle.dp_parse.specs.Rules as rule
-use Rattle.dp_parse.specs.descent.Steps.{Outcome, Parser, ◌>>=◌, pure, and_then, expect, sees, many, many_by}
+use Rattle.dp_tokens.specs.Steps.{Outcome, Parser, ◌>>=◌, pure, and_then, expect, sees, many, many_by}
 use Rattle.dp_parse.specs.descent.Statements as statements
 use Rattle.dp_parse.specs.descent.Regions as read
 use Rattle.dp_parse.proofs.StepLemmas.{took}

@@ -3,16 +3,16 @@ use Rattle.std.proofs.Common.{◌≡◌, refl, ap, ◌∙◌, sym, ℕ, zero, su
 use Rattle.dp_lex.specs.Token.{Lexeme}
 use Rattle.dp_tree.specs.declared.raw.Name.{Name as TreeName}
 use Rattle.dp_tree.specs.declared.raw.RawStmt.{RawStmt}
-use Rattle.dp_parse.specs.declared.symbol.Symbol.{Symbol}
-use Rattle.dp_parse.specs.declared.symbol.Symbol.TheVariants.{Name, Int, Print, While, For, If, Else, OpenParen, CloseParen, OpenBrace, CloseBrace, Semicolon}
-use Rattle.dp_parse.specs.Symbols.{symbol_at, Is}
-use Rattle.dp_parse.specs.Leaves.{name_of}
+use Rattle.dp_tokens.specs.declared.symbol.Symbol.{Symbol}
+use Rattle.dp_tokens.specs.declared.symbol.Symbol.TheVariants.{Name, Int, Print, While, For, If, Else, OpenParen, CloseParen, OpenBrace, CloseBrace, Semicolon}
+use Rattle.dp_tokens.specs.Symbols.{symbol_at, Is}
+use Rattle.dp_tokens.specs.Leaves.{name_of}
 use Rattle.dp_parse.specs.Statements.{DerivesStatement}
 use Rattle.dp_parse.specs.Rules.{Part, Word, Of, Expression, Arguments, Condition, Head, Statement, Choice, Block, Statements}
 use Rattle.dp_parse.specs.Begins.{Begins, BeginsParts, nothing, by, none, within, token, past}
 use Rattle.dp_parse.specs.Rules as rule
-use Rattle.dp_parse.specs.descent.Steps.{Outcome, Parser, ◌>>=◌, pure, and_then, expect, sees, many, many_by}
-use Rattle.dp_parse.specs.descent.Steps as step
+use Rattle.dp_tokens.specs.Steps.{Outcome, Parser, ◌>>=◌, pure, and_then, expect, sees, many, many_by}
+use Rattle.dp_tokens.specs.Steps as step
 use Rattle.dp_parse.specs.descent.Statements as read
 use Rattle.dp_parse.proofs.StepLemmas.{Sound, saw}
 use Rattle.dp_parse.proofs.LeafLemmas.{read_name}

@@ -5,8 +5,8 @@ use Rattle.dp_tree.specs.declared.raw.Name.{Name as TreeName}
 use Rattle.dp_tree.specs.declared.raw.RawExpr.{RawExpr}
 use Rattle.dp_tree.specs.declared.raw.RawStmt.{RawStmt}
 use Rattle.dp_tree.specs.declared.raw.RawItem.{RawItem}
-use Rattle.dp_parse.specs.Symbols.{Is}
-use Rattle.dp_parse.specs.Leaves.{IsNumber}
+use Rattle.dp_tokens.specs.Symbols.{Is}
+use Rattle.dp_tokens.specs.Leaves.{IsNumber}
 use Rattle.dp_parse.specs.Expressions.{DerivesExpr, DerivesList}
 use Rattle.dp_parse.specs.Heads.{DerivesSimple, DerivesFirst, DerivesHead}
 use Rattle.dp_parse.specs.Statements.{DerivesArguments, DerivesCondition, DerivesStatement, DerivesChoice, DerivesBlock, DerivesStatements}

@@ -4,9 +4,9 @@ use Rattle.dp_base.specs.declared.Quantity.{Quantity}
 use Rattle.dp_base.specs.declared.Quantity.TheVariants.{Nesting, Operators, ElseIf}
 use Rattle.dp_base.specs.declared.limits.TheConstants.{ELSE_IF, NESTING, OPERATORS}
 use Rattle.dp_lex.specs.Token.{Lexeme}
-use Rattle.dp_parse.specs.declared.symbol.Symbol.{Symbol}
-use Rattle.dp_parse.specs.declared.symbol.Symbol.TheVariants.{If, Else, Plus, Minus, Star, Slash, Percent, Not, Less, LessEqual, Greater, GreaterEqual, Equal, NotEqual, And, Or, OpenParen, OpenBracket, OpenBrace, CloseBrace, Semicolon}
-use Rattle.dp_parse.specs.Symbols.{symbol}
+use Rattle.dp_tokens.specs.declared.symbol.Symbol.{Symbol}
+use Rattle.dp_tokens.specs.declared.symbol.Symbol.TheVariants.{If, Else, Plus, Minus, Star, Slash, Percent, Not, Less, LessEqual, Greater, GreaterEqual, Equal, NotEqual, And, Or, OpenParen, OpenBracket, OpenBrace, CloseBrace, Semicolon}
+use Rattle.dp_tokens.specs.Symbols.{symbol}
 
 abbrev pub opens : Symbol → Bool
 opens OpenBrace = true

@@ -4,13 +4,13 @@ use Rattle.dp_base.specs.declared.UnOp.{UnOp}
 use Rattle.dp_lex.specs.Token.{Lexeme}
 use Rattle.dp_tree.specs.declared.raw.RawExpr.{RawExpr}
 use Rattle.dp_tree.specs.declared.raw.RawExpr.TheVariants as tree
-use Rattle.dp_parse.specs.declared.symbol.Symbol.TheVariants.{Name, OpenParen, CloseParen, OpenBracket, CloseBracket, Comma}
+use Rattle.dp_tokens.specs.declared.symbol.Symbol.TheVariants.{Name, OpenParen, CloseParen, OpenBracket, CloseBracket, Comma}
 use Rattle.dp_parse.specs.declared.level.Level.{Level}
 use Rattle.dp_parse.specs.declared.level.Level.TheVariants.{Or, Primary}
 use Rattle.dp_parse.specs.declared.level.Join.{Join}
-use Rattle.dp_parse.specs.Symbols.{symbol, Is}
+use Rattle.dp_tokens.specs.Symbols.{symbol, Is}
 use Rattle.dp_parse.specs.Levels.{operands, joining, prefixing, joined}
-use Rattle.dp_parse.specs.Leaves.{name_of, IsNumber}
+use Rattle.dp_tokens.specs.Leaves.{name_of, IsNumber}
 
 -- The tokens of `from` up to `to` derive the expression at the level:
 --   or = and { "||" and }, and = equality { "&&" equality }, .., product = unary { ( "*" | "/" | "%" ) unary }

@@ -5,8 +5,8 @@ use Rattle.dp_base.specs.declared.UnOp.{UnOp}
 use Rattle.dp_base.specs.declared.UnOp.TheVariants as unary
 use Rattle.dp_tree.specs.declared.raw.RawExpr.{RawExpr}
 use Rattle.dp_tree.specs.declared.raw.RawExpr.TheVariants as tree
-use Rattle.dp_parse.specs.declared.symbol.Symbol.{Symbol}
-use Rattle.dp_parse.specs.declared.symbol.Symbol.TheVariants as symbol
+use Rattle.dp_tokens.specs.declared.symbol.Symbol.{Symbol}
+use Rattle.dp_tokens.specs.declared.symbol.Symbol.TheVariants as symbol
 use Rattle.dp_parse.specs.declared.level.Level.{Level}
 use Rattle.dp_parse.specs.declared.level.Level.TheVariants.{Or, And, Equality, Relation, Sum, Product, Unary, Primary}
 use Rattle.dp_parse.specs.declared.level.Join.{Join}

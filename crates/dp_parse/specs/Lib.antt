@@ -1,6 +1,4 @@
-pub mod Symbols
 pub mod Levels
-pub mod Leaves
 pub mod Expressions
 pub mod Heads
 pub mod Statements
@@ -11,4 +9,3 @@ pub mod Begins
 pub mod Depth
 pub mod Parses
 pub mod descent
-pub mod Cursor

@@ -7,8 +7,8 @@ use Rattle.dp_lex.specs.Tokens.{Tokens, RefusedAt}
 use Rattle.dp_tree.specs.declared.raw.RawProgram.{RawProgram}
 use Rattle.dp_parse.specs.declared.error.ParseFail.{ParseFail}
 use Rattle.dp_parse.specs.declared.error.ParseFail.TheVariants.{Lex, TooDeep, Refused, NoMemory}
-use Rattle.dp_parse.specs.declared.error.ParseError.{ParseError}
-use Rattle.dp_parse.specs.declared.error.ParseError.TheVariants as part
+use Rattle.dp_tokens.specs.declared.error.ParseError.{ParseError}
+use Rattle.dp_tokens.specs.declared.error.ParseError.TheVariants as part
 use Rattle.dp_parse.specs.Depth.{depth_fault}
 use Rattle.dp_parse.specs.Programs.{Derives}
 use Rattle.dp_parse.specs.Rules.{Program}

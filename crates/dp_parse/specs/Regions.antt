@@ -4,8 +4,8 @@ use Rattle.dp_lex.specs.Token.{Lexeme}
 use Rattle.dp_tree.specs.declared.raw.RawExpr.{RawExpr}
 use Rattle.dp_tree.specs.declared.raw.RawStmt.{RawStmt}
 use Rattle.dp_tree.specs.declared.raw.RawStmt.TheVariants as tree
-use Rattle.dp_parse.specs.declared.symbol.Symbol.TheVariants.{If, Break, OpenBrace, CloseBrace, Semicolon}
-use Rattle.dp_parse.specs.Symbols.{Is}
+use Rattle.dp_tokens.specs.declared.symbol.Symbol.TheVariants.{If, Break, OpenBrace, CloseBrace, Semicolon}
+use Rattle.dp_tokens.specs.Symbols.{Is}
 use Rattle.dp_parse.specs.Statements.{DerivesCondition, DerivesStatement}
 
 -- an early exit

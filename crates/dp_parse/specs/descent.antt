@@ -1,5 +1,3 @@
-pub mod Steps
-pub mod Numbers
 pub mod Operators
 pub mod Expressions
 pub mod Heads

@@ -4,10 +4,10 @@ ghost use Rattle.std.specs.Prelude.{◌≡◌, ◌+◌, ◌<◌, ◌^◌, ◌&&�
 ghost use Rattle.dp_lex.specs.Tokens.{lexeme};
 ghost use Rattle.dp_parse.specs.Depth as spec;
 
-use crate::symbol::{Symbol, symbol_of};
 use dp_base::Quantity;
 use dp_base::limits::{ELSE_IF, NESTING, OPERATORS};
 use dp_lex::Token;
+use dp_tokens::{Symbol, symbol_of};
 
 fn opens(symbol: Symbol) -> bool
     ensures { result ≡ spec.opens symbol }

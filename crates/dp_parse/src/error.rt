@@ -1,7 +1,6 @@
 //! Why a text gives no tree.
 
 ghost use Rattle.std.specs.Prelude.{◌≡◌};
-ghost use Rattle.dp_parse.specs.declared.error.ParseError.TheVariants.{NoMemory as Wanting};
 ghost use Rattle.dp_parse.specs.declared.error.ParseFail.TheVariants.{NoMemory as FailWanting};
 
 use dp_base::{NoMemory, Quantity};
@@ -17,22 +16,6 @@ pub enum ParseFail {
     /// behind those before it, or the number of tokens where more of them have to follow.
     Refused { token: u32 },
     NoMemory,
-}
-
-/// Why a part of a program isn't read from the front of the tokens.
-#[derive(Clone, Copy, Debug, PartialEq, Eq)]
-pub enum ParseError {
-    /// The next token fits nowhere.
-    Refused,
-    NoMemory,
-}
-
-impl From<NoMemory> for ParseError {
-    ghost from_gives = { λ _ e. e ≡ Wanting };
-
-    fn from(_: NoMemory) -> ParseError {
-        ParseError::NoMemory
-    }
 }
 
 impl From<NoMemory> for ParseFail {

@@ -2,15 +2,12 @@
 
 ghost use Rattle.std.specs.Prelude.{◌≡◌, IfOk};
 ghost use Rattle.dp_parse.specs.Levels as levels;
-ghost use Rattle.dp_parse.specs.descent.Steps.{Reads};
+ghost use Rattle.dp_tokens.specs.Steps.{Reads};
 ghost use Rattle.dp_parse.specs.descent.Expressions as spec;
 
-use crate::error::ParseError;
-use crate::leaf::{name, number};
 use crate::level::{Join, Level, join_at, operands, prefix_at};
-use crate::symbol::Symbol;
-use crate::tokens::Tokens;
 use dp_base::{Boxed, NoMemory, Row, UnOp};
+use dp_tokens::{ParseError, Symbol, Tokens, name, number};
 use dp_tree::{Name, RawExpr};
 use std::alloc::Global;
 

@@ -1,15 +1,12 @@
 //! Assignments and declarations without their semicolons, and what a `for` has in its parentheses.
 
 ghost use Rattle.std.specs.Prelude.{◌≡◌, IfOk, [], ◌∷◌};
-ghost use Rattle.dp_parse.specs.descent.Steps.{Reads};
+ghost use Rattle.dp_tokens.specs.Steps.{Reads};
 ghost use Rattle.dp_parse.specs.descent.Heads as spec;
 
-use crate::error::ParseError;
 use crate::expression::whole;
-use crate::leaf::name;
-use crate::symbol::Symbol;
-use crate::tokens::Tokens;
 use dp_base::{NoMemory, Row};
+use dp_tokens::{ParseError, Symbol, Tokens, name};
 use dp_tree::{Name, RawExpr, RawStmt};
 use std::alloc::Global;
 

@@ -1,17 +1,14 @@
 //! Declarations at file scope, `main`, and the whole program.
 
 ghost use Rattle.std.specs.Prelude.{◌≡◌, ◌≢◌, Err};
-ghost use Rattle.dp_parse.specs.declared.error.ParseError.TheVariants as error;
-ghost use Rattle.dp_parse.specs.descent.Steps.{Reads};
+ghost use Rattle.dp_tokens.specs.declared.error.ParseError.TheVariants as error;
+ghost use Rattle.dp_tokens.specs.Steps.{Reads};
 ghost use Rattle.dp_parse.specs.descent.Programs as spec;
 
-use crate::error::ParseError;
-use crate::leaf::{name, negated, number, sees_zero};
 use crate::region::region;
 use crate::statement::{block, statement};
-use crate::symbol::Symbol;
-use crate::tokens::Tokens;
 use dp_base::Row;
+use dp_tokens::{ParseError, Symbol, Tokens, name, negated, number, sees_zero};
 use dp_tree::{Name, RawItem, RawProgram, RawStmt};
 use std::alloc::Global;
 

@@ -4,8 +4,8 @@ ghost use Rattle.std.specs.Prelude.{◌≡◌, ◌≢◌, true, false};
 ghost use Rattle.dp_parse.specs.Levels as spec;
 ghost use Rattle.dp_parse.specs.descent.Operators as operators;
 
-use crate::symbol::Symbol;
 use dp_base::{BinOp, UnOp};
+use dp_tokens::Symbol;
 
 /// A level of an expression, from the loosest to the tightest (C99, 6.5).
 #[derive(Clone, Copy, Debug, PartialEq, Eq)]

@@ -9,16 +9,12 @@ mod expression;
 mod head;
 mod item;
 mod law;
-mod leaf;
 mod level;
 mod region;
 mod source;
 mod statement;
-mod symbol;
-mod tokens;
 
 pub use error::ParseFail;
 pub use law::no_tokens_derive_two_programs;
 pub use level::{Join, Level};
 pub use source::parse;
-pub use symbol::Symbol;

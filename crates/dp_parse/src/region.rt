@@ -1,16 +1,14 @@
 //! Regions, in whose bodies early exits may stand.
 
 ghost use Rattle.std.specs.Prelude.{◌≡◌};
-ghost use Rattle.dp_parse.specs.descent.Steps.{Reads};
+ghost use Rattle.dp_tokens.specs.Steps.{Reads};
 ghost use Rattle.dp_parse.specs.descent.Statements.{statement as plain};
 ghost use Rattle.dp_parse.specs.descent.Regions as spec;
 
-use crate::error::ParseError;
 use crate::head::head;
 use crate::statement::{block, condition, otherwise, statement};
-use crate::symbol::Symbol;
-use crate::tokens::Tokens;
 use dp_base::Row;
+use dp_tokens::{ParseError, Symbol, Tokens};
 use dp_tree::{RawExpr, RawStmt};
 use std::alloc::Global;
 

@@ -6,11 +6,11 @@ ghost use Rattle.dp_lex.specs.Tokens.{Tokens as AreTokens, lexeme};
 ghost use Rattle.dp_parse.specs.Parses.{Parses, Unread, Gives, outcome_of};
 
 use crate::depth::depth_fault;
-use crate::error::{ParseError, ParseFail};
+use crate::error::ParseFail;
 use crate::item::program;
-use crate::tokens::Tokens;
 use dp_base::Row;
 use dp_lex::{Lexer, Token};
+use dp_tokens::{ParseError, Tokens};
 use dp_tree::RawProgram;
 use std::alloc::Global;
 

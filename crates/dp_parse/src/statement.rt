@@ -1,15 +1,12 @@
 //! Statements and blocks.
 
-ghost use Rattle.dp_parse.specs.descent.Steps.{Reads};
+ghost use Rattle.dp_tokens.specs.Steps.{Reads};
 ghost use Rattle.dp_parse.specs.descent.Statements as spec;
 
-use crate::error::ParseError;
 use crate::expression::{list, whole};
 use crate::head::{assign, declare, head};
-use crate::leaf::name;
-use crate::symbol::Symbol;
-use crate::tokens::Tokens;
 use dp_base::Row;
+use dp_tokens::{ParseError, Symbol, Tokens, name};
 use dp_tree::{Name, RawExpr, RawStmt};
 use std::alloc::Global;
 
@@ -41,7 +38,7 @@ fn call(alloc: Global, tokens: &mut Tokens<'_, '_>, name: Name) -> Result<RawStm
     tokens.expect(Symbol::OpenParen)?;
     let args = arguments(alloc, tokens)?;
     tokens.expect(Symbol::CloseParen)?;
-    tokens.expect(Symbol::Semicolon)?;
+    tokens.semicolon()?;
     Ok(RawStmt::Call { name, args })
 }
 
@@ -55,7 +52,7 @@ fn named(alloc: Global, tokens: &mut Tokens<'_, '_>) -> Result<RawStmt, ParseErr
         return call(alloc, tokens, name);
     }
     let assigned = assign(alloc, tokens, name)?;
-    tokens.expect(Symbol::Semicolon)?;
+    tokens.semicolon()?;
     Ok(assigned)
 }
 
@@ -64,7 +61,7 @@ fn declaration(alloc: Global, tokens: &mut Tokens<'_, '_>) -> Result<RawStmt, Pa
     ensures { Reads (spec.declaration tokens.old) result tokens.new }
 {
     let declared = declare(alloc, tokens)?;
-    tokens.expect(Symbol::Semicolon)?;
+    tokens.semicolon()?;
     Ok(declared)
 }
 
@@ -74,7 +71,7 @@ fn print(alloc: Global, tokens: &mut Tokens<'_, '_>) -> Result<RawStmt, ParseErr
 {
     let line = tokens.expect(Symbol::Print)?.line;
     let value = condition(alloc, tokens)?;
-    tokens.expect(Symbol::Semicolon)?;
+    tokens.semicolon()?;
     Ok(RawStmt::Print { line, value })
 }
 

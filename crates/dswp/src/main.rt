@@ -2,22 +2,10 @@
 //! exactly what the sequential program answers.
 #![tactic(auto)]
 
-mod answer;
-mod law;
-mod load;
-mod made;
-mod planning;
-mod profiling;
-mod program;
-mod quantity;
-mod refusal;
-mod running;
 #[cfg(test)]
 mod tests;
-mod texts;
-mod writing;
 
-use answer::drive;
+use dp_drive::drive;
 use dp_edge::{FileShelf, OpenGate, OutSink};
 use dp_run::Tally;
 use std::io::ErrorKind;

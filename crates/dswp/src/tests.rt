@@ -21,7 +21,6 @@ mod made;
 mod names;
 mod observed;
 mod overlap;
-mod parts;
 mod pipelines;
 mod plan_rules;
 mod plan_texts;
@@ -33,9 +32,9 @@ mod words;
 
 ghost use Rattle.std.specs.Prelude.{◌≡◌, IfOk};
 
-use crate::answer::drive;
 use cases::{cut, filled};
 use dp_base::{NoMemory, Row};
+use dp_drive::drive;
 use dp_edge::{Gate, Held, MemShelf, MemSink, OpenGate};
 use dp_run::Tally;
 use library::LIBRARY;
@@ -156,6 +155,13 @@ fn status_of(text: &str) -> u8 {
     0
 }
 
+/// These bytes were written with this status, in this case of a table or for these words.
+fn expect<R: Abort>(rt: &R, answered: &Answered, bytes: &[u8], status: u8, words: &str, row: &str) {
+    let text = answered.text();
+    assert!(rt; answered.sink.bytes() == bytes, "{words} {row} gave {text}");
+    assert_eq!(rt; answered.status, status, "{words} {row}");
+}
+
 /// Each case of the table is answered as it says, with these words behind its own.
 fn each_with<R: Abort + Threads + Wait + Clock + Sync>(
     rt: &R,
@@ -182,8 +188,14 @@ fn each_with<R: Abort + Threads + Wait + Clock + Sync>(
         ];
         let answered = answer_to(rt, alloc, &words, &held, &[], None)?;
         let text = filled(alloc, text, ends)?;
-        assert_eq!(rt; answered.text(), text.as_str(), "{words} {row}");
-        assert_eq!(rt; answered.status, status_of(&text), "{words} {row}");
+        expect(
+            rt,
+            &answered,
+            text.as_bytes(),
+            status_of(&text),
+            &words,
+            row,
+        );
     }
     Ok(())
 }

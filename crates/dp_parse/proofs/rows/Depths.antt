@@ -5,7 +5,7 @@ use Rattle.dp_base.specs.declared.Quantity.TheVariants.{Nesting, Operators, Else
 use Rattle.dp_lex.specs.Spelling.{signs}
 use Rattle.dp_lex.specs.Scan.{is_one_of}
 use Rattle.dp_lex.specs.Token.{Lexeme}
-use Rattle.dp_parse.specs.Symbols.{symbol}
+use Rattle.dp_tokens.specs.Symbols.{symbol}
 use Rattle.dp_parse.specs.Depth.{nesting, operators, else_if, depth_fault}
 use Rattle.dp_parse.proofs.rows.Build.{token, split}
 

@@ -2,7 +2,7 @@
 use Rattle.std.proofs.Common.{◌≡◌, refl, ℕ, ◌-◌, length, [], ◌∷◌, map, Option, None, codes, Ok, Some, Err}
 use Rattle.dp_lex.specs.Characters.{Text}
 use Rattle.dp_tree.specs.declared.raw.RawProgram.{RawProgram}
-use Rattle.dp_parse.specs.descent.Steps.{Outcome}
+use Rattle.dp_tokens.specs.Steps.{Outcome}
 use Rattle.dp_parse.specs.descent.Programs.{program}
 use Rattle.dp_parse.proofs.rows.Build.{split}
 use Rattle.dp_parse.proofs.rows.Trees.{reading_opened}

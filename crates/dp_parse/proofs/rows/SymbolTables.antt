@@ -2,8 +2,8 @@
 use Rattle.std.proofs.Common.{◌≡◌, refl, [], ◌∷◌, map, codes}
 use Rattle.dp_lex.specs.Spelling.{signs}
 use Rattle.dp_lex.specs.Scan.{is_one_of}
-use Rattle.dp_parse.specs.declared.symbol.Symbol.TheVariants as symbol
-use Rattle.dp_parse.specs.Symbols.{symbol, symbol_at}
+use Rattle.dp_tokens.specs.declared.symbol.Symbol.TheVariants as symbol
+use Rattle.dp_tokens.specs.Symbols.{symbol, symbol_at}
 use Rattle.dp_parse.proofs.rows.Build.{token, split}
 
 -- ++ -- + - * / % ! < <= > >= == != && || = ( ) [ ] { } , ;

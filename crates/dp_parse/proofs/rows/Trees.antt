@@ -10,7 +10,7 @@ use Rattle.dp_tree.specs.declared.raw.RawStmt.{RawStmt}
 use Rattle.dp_tree.specs.declared.raw.RawStmt.TheVariants as stmt
 use Rattle.dp_tree.specs.declared.raw.RawItem.TheVariants as item
 use Rattle.dp_tree.specs.declared.raw.RawProgram.{RawProgram}
-use Rattle.dp_parse.specs.descent.Steps.{Outcome}
+use Rattle.dp_tokens.specs.Steps.{Outcome}
 use Rattle.dp_parse.specs.descent.Expressions.{whole}
 use Rattle.dp_parse.specs.descent.Programs.{program}
 use Rattle.dp_parse.proofs.rows.Build.{split}
@@ -18,10 +18,10 @@ use Rattle.dp_parse.proofs.rows.Build.{split}
 -- what opens where a text is read: `unfolding reading_opened`
 unfoldable pub reading_opened : Unit {0}
 unfolding
-    Rattle.dp_parse.specs.Symbols.symbol Rattle.dp_parse.specs.Symbols.symbol_at Rattle.dp_parse.specs.descent.Steps.same_symbol Rattle.dp_parse.specs.descent.Operators.same_level
-    Rattle.dp_parse.specs.descent.Operators.join_at Rattle.dp_parse.specs.descent.Operators.prefix_at Rattle.dp_parse.specs.descent.Steps.rest Rattle.dp_parse.specs.descent.Steps.sees
-    Rattle.dp_parse.specs.descent.Steps.after Rattle.dp_parse.specs.descent.Steps.expect Rattle.dp_parse.specs.descent.Steps.name Rattle.dp_parse.specs.descent.Numbers.number_value
-    Rattle.dp_parse.specs.descent.Numbers.number Rattle.dp_parse.specs.descent.Numbers.next_number Rattle.dp_parse.specs.descent.Numbers.sees_zero Rattle.dp_parse.specs.descent.Numbers.negated Rattle.dp_parse.specs.descent.Steps.separated Rattle.dp_parse.specs.descent.Steps.many
+    Rattle.dp_tokens.specs.Symbols.symbol Rattle.dp_tokens.specs.Symbols.symbol_at Rattle.dp_tokens.specs.Steps.same_symbol Rattle.dp_parse.specs.descent.Operators.same_level
+    Rattle.dp_parse.specs.descent.Operators.join_at Rattle.dp_parse.specs.descent.Operators.prefix_at Rattle.dp_tokens.specs.Steps.rest Rattle.dp_tokens.specs.Steps.sees
+    Rattle.dp_tokens.specs.Steps.after Rattle.dp_tokens.specs.Steps.expect Rattle.dp_tokens.specs.Steps.name Rattle.dp_tokens.specs.Numbers.number_value
+    Rattle.dp_tokens.specs.Numbers.number Rattle.dp_tokens.specs.Numbers.next_number Rattle.dp_tokens.specs.Numbers.sees_zero Rattle.dp_tokens.specs.Numbers.negated Rattle.dp_tokens.specs.Steps.separated Rattle.dp_tokens.specs.Steps.many
     Rattle.dp_parse.specs.descent.Expressions.chain Rattle.dp_parse.specs.descent.Expressions.variable Rattle.dp_parse.specs.descent.Expressions.parenthesized Rattle.dp_parse.specs.descent.Expressions.primary
     Rattle.dp_parse.specs.descent.Expressions.level_of Rattle.dp_parse.specs.descent.Expressions.expression Rattle.dp_parse.specs.descent.Expressions.nested Rattle.dp_parse.specs.descent.Expressions.whole
     Rattle.dp_parse.specs.descent.Expressions.list Rattle.dp_parse.specs.descent.Statements.condition Rattle.dp_parse.specs.descent.Heads.value Rattle.dp_parse.specs.descent.Heads.declare

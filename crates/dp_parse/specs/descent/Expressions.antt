@@ -4,16 +4,16 @@ use Rattle.dp_base.specs.declared.UnOp.{UnOp}
 use Rattle.dp_tree.specs.declared.raw.Name.{Name as TreeName}
 use Rattle.dp_tree.specs.declared.raw.RawExpr.{RawExpr}
 use Rattle.dp_tree.specs.declared.raw.RawExpr.TheVariants as tree
-use Rattle.dp_parse.specs.declared.symbol.Symbol.{Symbol}
-use Rattle.dp_parse.specs.declared.symbol.Symbol.TheVariants.{Name, Number, OpenParen, CloseParen, OpenBracket, CloseBracket}
+use Rattle.dp_tokens.specs.declared.symbol.Symbol.{Symbol}
+use Rattle.dp_tokens.specs.declared.symbol.Symbol.TheVariants.{Name, Number, OpenParen, CloseParen, OpenBracket, CloseBracket}
 use Rattle.dp_parse.specs.declared.level.Level.{Level}
 use Rattle.dp_parse.specs.declared.level.Level.TheVariants as level
 use Rattle.dp_parse.specs.declared.level.Join.{Join}
-use Rattle.dp_parse.specs.Symbols.{symbol_at}
+use Rattle.dp_tokens.specs.Symbols.{symbol_at}
 use Rattle.dp_parse.specs.Levels.{joined}
-use Rattle.dp_parse.specs.descent.Steps.{Parser, ◌>>=◌, ◌>>◌, ◌<$>◌, pure, refuse, peek, advance, eat, expect, name, separated}
+use Rattle.dp_tokens.specs.Steps.{Parser, ◌>>=◌, ◌>>◌, ◌<$>◌, pure, refuse, peek, advance, eat, expect, name, separated}
 use Rattle.dp_parse.specs.descent.Operators.{join_at, prefix_at}
-use Rattle.dp_parse.specs.descent.Numbers.{number}
+use Rattle.dp_tokens.specs.Numbers.{number}
 
 -- a chain goes on behind its first operands by the operators of a level
 abbrev pub longer : (RawExpr → Parser RawExpr) → Parser RawExpr → RawExpr → Option Join → Parser RawExpr

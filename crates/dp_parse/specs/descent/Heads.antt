@@ -5,8 +5,8 @@ use Rattle.dp_tree.specs.declared.raw.RawExpr.{RawExpr}
 use Rattle.dp_tree.specs.declared.raw.RawStmt.{RawStmt}
 use Rattle.dp_tree.specs.declared.raw.RawStmt.TheVariants as tree
 use Rattle.dp_parse.specs.declared.head.Header.{Header}
-use Rattle.dp_parse.specs.declared.symbol.Symbol.TheVariants.{Int, Assign, OpenParen, CloseParen, OpenBracket, CloseBracket, Semicolon}
-use Rattle.dp_parse.specs.descent.Steps.{Parser, ◌>>=◌, ◌>>◌, ◌<$>◌, pure, sees, expect, name}
+use Rattle.dp_tokens.specs.declared.symbol.Symbol.TheVariants.{Int, Assign, OpenParen, CloseParen, OpenBracket, CloseBracket, Semicolon}
+use Rattle.dp_tokens.specs.Steps.{Parser, ◌>>=◌, ◌>>◌, ◌<$>◌, pure, sees, expect, name}
 use Rattle.dp_parse.specs.descent.Expressions.{whole}
 
 -- the value after a `=`

@@ -88,7 +88,7 @@ fn tokens_are_cut_from_bytes(rt: HostRuntime) -> Result<(), Fail> {
     each(&rt, rt.alloc(), READ)?;
     for (program, text) in NO_TEXT {
         let answered = answer_to(&rt, rt.alloc(), "check p.c", &[("p.c", program)], &[], None)?;
-        assert_eq!(rt; answered.sink.bytes(), text);
+        assert_eq!(&rt; answered.sink.bytes(), text);
     }
     Ok(())
 }

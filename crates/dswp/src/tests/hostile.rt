@@ -1,7 +1,7 @@
 //! Texts that are cut or spoiled, reads that fail, and sinks without room.
 use super::cases::{cut, repeated};
 use super::library::{SKIP_PLAN, SKIP_PROFILE, STALE_PLAN, SUM_LOOP, SUM_PROFILE, WORD_TABLE};
-use super::{answer_to, status_of};
+use super::{answer_to, expect, status_of};
 use dp_base::{NoMemory, Row};
 use std::alloc::Global;
 use std::process::Abort;
@@ -47,8 +47,7 @@ fn expect_line_at<R: Abort + Threads + Wait + Clock + Sync>(
     let words = format!(in alloc; "run {program} --{kind} side.txt")?;
     let answered = answer_to(rt, alloc, &words, &[("side.txt", side)], &[], None)?;
     let text = format!(in alloc; "refused {kind} line {line}\n")?;
-    assert_eq!(rt; answered.text(), text.as_str());
-    assert_eq!(rt; answered.status, 4);
+    expect(rt, &answered, text.as_bytes(), 4, &words, "");
     Ok(())
 }
 
@@ -123,13 +122,11 @@ fn a_sink_without_room_has_taken_a_front(rt: HostRuntime) -> Result<(), Fail> {
         let bytes = text.as_bytes();
         for room in 0..bytes.len() {
             let answered = answer_to(&rt, rt.alloc(), words, HELD, &[], Some(room as u64))?;
-            assert_eq!(&rt; answered.sink.bytes(), &bytes[..room], "{words} {room}");
-            assert_eq!(&rt; answered.status, 6, "{words} {room}");
+            expect(&rt, &answered, &bytes[..room], 6, words, "");
         }
         let room = Some(bytes.len() as u64);
         let answered = answer_to(&rt, rt.alloc(), words, HELD, &[], room)?;
-        assert_eq!(&rt; answered.text(), text, "{words}");
-        assert_eq!(&rt; answered.status, status_of(text), "{words}");
+        expect(&rt, &answered, bytes, status_of(text), words, "");
     }
     Ok(())
 }
@@ -146,8 +143,7 @@ fn a_sink_that_fails_within_many_prints(rt: HostRuntime) -> Result<(), Fail> {
     for program in PRINTS {
         let held = [("p.c", program)];
         let answered = answer_to(&rt, rt.alloc(), "run p.c", &held, &[], Some(40_001))?;
-        assert_eq!(&rt; answered.text(), front.as_str());
-        assert_eq!(&rt; answered.status, 6);
+        expect(&rt, &answered, front.as_bytes(), 6, "", "");
     }
     Ok(())
 }
@@ -181,8 +177,7 @@ fn reads_that_fail(rt: HostRuntime) -> Result<(), Fail> {
         let (words, text) = cut(rest, " => ");
         let failing = [number.parse::<u64>().unwrap_or(0)];
         let answered = answer_to(&rt, rt.alloc(), words, HELD, &failing, None)?;
-        assert_eq!(&rt; answered.text(), text, "{row}");
-        assert_eq!(&rt; answered.status, status_of(text), "{row}");
+        expect(&rt, &answered, text.as_bytes(), status_of(text), "", row);
     }
     Ok(())
 }

@@ -1,5 +1,5 @@
 //! The run of the made program: its line, and the text of its run.
-use super::{answer_to, each, each_crew};
+use super::{answer_to, each, each_crew, expect};
 use std::test::Fail;
 
 /// The seed and the size; how often each of 16 numbers comes and their sum, and the iterations.
@@ -32,8 +32,7 @@ fn the_made_program_is_run(rt: HostRuntime) -> Result<(), Fail> {
 fn a_failed_write_ends_the_line_or_the_text(rt: HostRuntime) -> Result<(), Fail> {
     for (room, written) in CUT_OFF {
         let answered = answer_to(&rt, rt.alloc(), "gen 1 1", &[], &[], Some(room))?;
-        assert_eq!(rt; answered.sink.bytes(), written);
-        assert_eq!(rt; answered.status, 6);
+        expect(&rt, &answered, written, 6, "", "");
     }
     Ok(())
 }
@@ -42,7 +41,7 @@ fn a_failed_write_ends_the_line_or_the_text(rt: HostRuntime) -> Result<(), Fail>
 #[test]
 fn each_iteration_is_committed(rt: HostRuntime) -> Result<(), Fail> {
     let answered = answer_to(&rt, rt.alloc(), "gen 5 17", &[], &[1], None)?;
-    assert_eq!(rt; answered.status, 0);
-    assert_eq!(rt; answered.committed, 18);
+    assert_eq!(&rt; answered.status, 0);
+    assert_eq!(&rt; answered.committed, 18);
     Ok(())
 }

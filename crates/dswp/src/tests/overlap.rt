@@ -1,5 +1,5 @@
 //! Stages and workers overlap in time: one is held until another has come.
-use super::answer_at;
+use super::{answer_at, expect};
 use dp_edge::HoldGate;
 use std::test::Fail;
 
@@ -19,16 +19,14 @@ fn one_stage_waits_for_another(rt: HostRuntime) -> Result<(), Fail> {
         ("in.txt", b"0 1 2 3 4 5 6".as_slice()),
         ("plan.txt", plan.as_slice()),
     ];
+    let text = b"state\nh 2 2 1 2\nregion 1 iterations 8 recovered 0\nend done\n";
     for (awaited, turns, workers, comes) in AWAITED {
         let gate = HoldGate::new((2, 0), awaited, turns);
         let words = format!(in rt.alloc();
             "run histogram.c in.txt --plan plan.txt --lane 1 --workers {workers}"
         )?;
         let answered = answer_at(&rt, rt.alloc(), &words, &held, &[], None, &gate)?;
-        assert_eq!(&rt;
-            answered.text(),
-            "state\nh 2 2 1 2\nregion 1 iterations 8 recovered 0\nend done\n"
-        );
+        expect(&rt, &answered, text, 0, &words, "");
         assert_eq!(&rt; gate.came(), comes, "{workers} workers");
     }
     Ok(())

@@ -86,7 +86,7 @@ fn committed_iterations_are_counted(rt: HostRuntime) -> Result<(), Fail> {
     for (words, input, committed) in COMMITTED {
         let held = [("in.txt", input.as_bytes()), ("plan.txt", plan.as_slice())];
         let answered = answer_to(&rt, rt.alloc(), words, &held, &[], None)?;
-        assert_eq!(rt; answered.committed, committed, "{words}");
+        assert_eq!(&rt; answered.committed, committed, "{words}");
     }
     Ok(())
 }

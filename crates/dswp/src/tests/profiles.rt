@@ -1,5 +1,5 @@
 //! Least plans by a profile: as the verb `plan` writes them, and runs under them.
-use super::{answer_to, each, each_crew};
+use super::{answer_to, each, each_crew, expect};
 use std::test::Fail;
 
 const WRITTEN: &[&str] = &[
@@ -74,7 +74,6 @@ fn long_profiles_are_refused(rt: HostRuntime) -> Result<(), Fail> {
     let held = [("plan.txt", long.as_slice())];
     let words = "plan sum_loop.c --profile plan.txt";
     let answered = answer_to(&rt, rt.alloc(), words, &held, &[], None)?;
-    assert_eq!(&rt; answered.text(), "limit profile-bytes 67108865\n");
-    assert_eq!(&rt; answered.status, 9);
+    expect(&rt, &answered, b"limit profile-bytes 67108865\n", 9, "", "");
     Ok(())
 }

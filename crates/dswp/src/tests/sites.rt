@@ -1,5 +1,5 @@
 //! The sites of the program with its calls expanded, and the lines of sites and regions.
-use super::{answer_to, each};
+use super::{answer_to, each, expect};
 use std::test::Fail;
 
 /// A binding has the line of the call's name, an `else if` that of its `if`, a marked loop that of its word; the step of a `for` is numbered behind its body.
@@ -39,7 +39,6 @@ fn sites_are_listed(rt: HostRuntime) -> Result<(), Fail> {
 #[test]
 fn a_list_of_sites_may_fail(rt: HostRuntime) -> Result<(), Fail> {
     let answered = answer_to(&rt, rt.alloc(), "check sum_loop.c", &[], &[], Some(10))?;
-    assert_eq!(rt; answered.text(), "ok\nregion ");
-    assert_eq!(rt; answered.status, 6);
+    expect(&rt, &answered, b"ok\nregion ", 6, "", "");
     Ok(())
 }

@@ -1,5 +1,5 @@
 //! Where a program's tokens leave the grammar: the number of the first token, from 0, with which no program goes on.
-use super::{answer_to, cut, each};
+use super::{answer_to, cut, each, expect};
 use std::test::Fail;
 
 /// `goto` is a token that no rule has, in place of the last part of each rule.
@@ -189,7 +189,7 @@ fn texts_that_end_too_soon(rt: HostRuntime) -> Result<(), Fail> {
         let held = [("p.c", program.as_bytes())];
         let answered = answer_to(&rt, rt.alloc(), "check p.c", &held, &[], None)?;
         let text = format!(in rt.alloc(); "refused program syntax token {token}\n")?;
-        assert_eq!(rt; answered.text(), text.as_str(), "{row}");
+        expect(&rt, &answered, text.as_bytes(), 3, "", row);
     }
     Ok(())
 }

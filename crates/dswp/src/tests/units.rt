@@ -5,10 +5,10 @@ ghost use Rattle.dp_plan.specs.GivenPlans.{IsPlan};
 ghost use Rattle.dp_pipeline.specs.Programs.{ArePrograms};
 
 use super::shelf_of;
-use crate::load::{Loaded, load_plans, load_program};
 use dp_base::{Cells, NoMemory, Row};
 use dp_code::StageProgram;
 use dp_commit::Verdict;
+use dp_drive::{Loaded, load_plans, load_program};
 use dp_edge::{OpenGate, Shelf};
 use dp_meaning::Machine;
 use dp_pipeline::{IdleWhy, LaneVerdicts, Pipeline, Polled, stage_programs};

@@ -1,10 +1,10 @@
 use Rattle.std.proofs.Common.{◌≡◌, refl, ap, ◌∙◌, sym, rules, arith, suc, ◌-◌, ◌<◌, length, Some, None, Err}
 use Rattle.std.proofs.lemmas.Grind.{common_steps}
-use Rattle.dp_parse.specs.Symbols.{symbol_at}
+use Rattle.dp_tokens.specs.Symbols.{symbol_at}
 use Rattle.dp_parse.specs.Levels.{operands}
 use Rattle.dp_tree.specs.declared.raw.RawExpr.{RawExpr}
 use Rattle.dp_tree.specs.declared.raw.RawExpr.TheVariants as tree
-use Rattle.dp_parse.specs.descent.Steps.{Outcome, and_then, pure}
+use Rattle.dp_tokens.specs.Steps.{Outcome, and_then, pure}
 use Rattle.dp_parse.specs.descent.Operators.{join_at, prefix_at}
 use Rattle.dp_parse.specs.descent.Expressions as read
 use Rattle.dp_parse.proofs.StepLemmas.{rest-le}

@@ -1,5 +1,5 @@
 use Rattle.std.proofs.Common.{◌≡◌, ℕ, ◌≤◌, length}
-use Rattle.dp_parse.specs.descent.Steps.{separated}
+use Rattle.dp_tokens.specs.Steps.{separated}
 use Rattle.dp_parse.specs.descent.Expressions as spec
 use Rattle.dp_parse.proofs.expression.list.Given as goal
 

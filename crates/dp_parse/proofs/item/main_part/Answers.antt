@@ -1,7 +1,7 @@
 use Rattle.std.proofs.Common.{◌≡◌, refl, ap, ◌∙◌, sym, rules, arith, ◌-◌, List, true, false, Err}
 use Rattle.std.proofs.lemmas.Grind.{common_steps}
 use Rattle.dp_tree.specs.declared.raw.RawStmt.{RawStmt}
-use Rattle.dp_parse.specs.descent.Steps.{Outcome, ◌>>=◌, and_then, pure}
+use Rattle.dp_tokens.specs.Steps.{Outcome, ◌>>=◌, and_then, pure}
 use Rattle.dp_parse.specs.descent.Programs as read
 use Rattle.dp_parse.proofs.Lists.{many_turn, many_none, many_end}
 use Rattle.dp_parse.proofs.Empty.{top_empty}

@@ -1,5 +1,5 @@
 use Rattle.std.proofs.Common.{◌≡◌, ℕ, ◌≤◌, length}
-use Rattle.dp_parse.specs.descent.Steps.{separated}
+use Rattle.dp_tokens.specs.Steps.{separated}
 use Rattle.dp_parse.specs.descent.Programs as spec
 use Rattle.dp_parse.proofs.item.params.Given as goal
 

@@ -1,0 +1,254 @@
+-- From the parts of the program to the headline.
+use Rattle.std.proofs.Common.{◌≡◌, refl, sym, ◌∙◌, ap, subst, arith, inl, inr, Bool, Some, ℕ, ◌<◌, ◌≤◌, List, Option, ℤ, Result, Ok, Err, IfOk, OnOk, None, ◌≢◌, ◌+◌, ◌∷◌, [], ◌++◌, option_map}
+use Rattle.dp_tree.specs.declared.Program.{Program}
+use Rattle.dp_tree.specs.Checked.{IsChecked}
+use Rattle.dp_tree.specs.Inlined.{IsInlined}
+use Rattle.dp_calls.specs.Frames.{outcome}
+use Rattle.dp_calls.specs.Expand.{expand}
+use Rattle.dp_calls.proofs.SameMeanings.{same_meaning}
+use Rattle.dp_drive.proofs.accepted.Accepted.{read_checked, inlined_read}
+use Rattle.dp_drive.proofs.accepted.SameText.{same_end, same_text}
+use Rattle.dp_drive.specs.declared.refusal.Role.{Role}
+use Rattle.dp_drive.specs.declared.refusal.Refusal.{Refusal}
+use Rattle.dp_drive.specs.declared.refusal.Refusal.TheVariants.{Words, Byte, Syntax, Name, InputWord, PlanLine, PlanRule, ProfileLine, Limit}
+use Rattle.dp_crew.specs.declared.fail.CrewFail.{CrewFail}
+use Rattle.dp_crew.specs.declared.fail.CrewFail.TheVariants.{Write, NoMemory}
+use Rattle.dp_base.specs.declared.NoMemory.{NoMemory as Wanting}
+use Rattle.dp_drive.specs.declared.texts.Texts.{Texts}
+use Rattle.dp_drive.specs.declared.texts.Texts.TheVariants as texts
+use Rattle.dp_drive.specs.Refusal.{refusal_line, refusal_status, failed_read_line}
+use Rattle.dp_report.specs.SiteText.{site_bytes}
+use Rattle.dp_plan_text.specs.WrittenText.{plans_text}
+use Rattle.dp_drive.specs.declared.refusal.Role.TheVariants as role
+use Rattle.dp_drive.specs.declared.load.Loaded.{Loaded}
+use Rattle.dp_drive.specs.declared.load.Loaded.TheVariants.{Text, Refused, Failed}
+use Rattle.dp_drive.specs.Loading.{Gives, LoadsProgram, ReadsProgram}
+use Rattle.dp_drive.proofs.TextsLemmas.{source_of, refusal_read}
+use Rattle.dp_words.specs.Words.{Asked, Asks, AsksNothing, ToList, ToPlan, ToRun}
+use Rattle.dp_words.specs.Run.{Run, Least}
+use Rattle.dp_words.specs.Planning.{Planning}
+use Rattle.dp_plan.specs.declared.Plan.{Plan}
+use Rattle.dp_crew.specs.Fail.{FaultsAfter}
+use Rattle.dp_run.specs.RunText.{source_run, trace_text, committed_in_all}
+use Rattle.dp_drive.specs.Status.{status_after}
+use Rattle.dp_drive.specs.RunText.{run_text, status_of}
+use Rattle.dp_drive.specs.Roles.{ByInput, ByPlans, ByProgram, Contents, Input, NamedProgram, NoPlans, Plans, ProgramOf, SomePlans, TextsGive, Unnamed, program_in}
+use Rattle.dp_drive.specs.Answer.{NotTaken, Done, OfProgram, OfInput, OfPlans, OfRun, run_fuel}
+use Rattle.dp_drive.specs.Answer as answers
+use Rattle.dp_drive.specs.Headline.{Answered, IsCounted, IsEnd, Whole, Short, Nothing, ReadFailed, WriteFailed, OfAnswer, OfFailedRead}
+use Rattle.dp_drive.specs.Carried.{Names, Finishes, LoadsTexts, Carried, Starved}
+use Rattle.dp_drive.specs.Carried as carried
+
+-- a program under a name
+named_program : {contents : Contents} {name : List ℕ} {read : Result Program Refusal} → ReadsProgram contents name read → ProgramOf contents (Some name) read
+named_program {name = name} {read = read} h = NamedProgram name h.text read h.held h.reads
+
+-- the texts of a run
+run_texts : (contents : Contents) (run : Run) (p q : Program) (numbers : List ℤ) (plans : List Plan) → ReadsProgram contents run.program (Ok p) → Input contents run.input (Ok numbers) → q ≡ expand p →
+    Plans contents q run.options run.source (Ok plans) → TextsGive contents (ToRun run) p numbers plans
+run_texts contents run p q numbers plans h k is l = record {
+  program = named_program h;
+  input = k;
+  planned = SomePlans run.source run.options (Ok plans) (subst (λ (y : Program). Plans contents y run.options run.source (Ok plans)) is l);
+}
+
+-- what the texts give, where they were loaded
+pub loaded : (contents : Contents) (run : Run) (faults after : ℕ) (failed fails : Names) (r : Result Texts Wanting) (x : Texts) → r ≡ Ok x → IfOk r (LoadsTexts contents run faults after failed fails) →
+    LoadsTexts contents run faults after failed fails x
+loaded contents run faults after failed fails r x e h = rw e at h
+
+-- the same status and the same bytes
+pub finishes_as : (s t : ℕ) (a b : List ℕ) (told tells : Option (List ℕ)) (result : Result ℕ CrewFail) → s ≡ t → a ≡ b → Finishes s a told tells result → Finishes t b told tells result
+finishes_as s t a b told tells result e f h = subst (λ (x : List ℕ). Finishes t x told tells result) f (subst (λ (n : ℕ). Finishes n a told tells result) e h)
+
+-- What the run of the expanded program finishes, behind a line, is what the source's run is to be answered with.
+pub finishes_source : (p q : Program) → q ≡ expand p → IsChecked p → IsInlined (expand p) → (plans : List Plan) (numbers : List ℤ) (fuel : ℕ) (why : Bool) (line : List ℕ) (told tells : Option (List ℕ)) (result : Result ℕ CrewFail) →
+    Finishes (status_of (source_run q numbers fuel).end) (line ++ trace_text q plans (source_run q numbers fuel) why) told tells result → Finishes (status_of (outcome p numbers fuel).end) (line ++ run_text p plans numbers fuel why) told tells result
+finishes_source p q is checked inlined plans numbers fuel why line told tells result h =
+    let same = same_meaning p checked in
+    finishes_as (status_of (source_run q numbers fuel).end) (status_of (outcome p numbers fuel).end) (line ++ trace_text q plans (source_run q numbers fuel) why) (line ++ run_text p plans numbers fuel why) told tells result
+    (ap (λ (x : Program). status_of (source_run x numbers fuel).end) is ∙ ap status_of (sym (same_end p inlined same plans numbers fuel why)))
+    (ap (λ (x : Program). line ++ trace_text x plans (source_run x numbers fuel) why) is ∙ ap (λ (text : List ℕ). line ++ text) (sym (same_text p inlined same plans numbers fuel why))) h
+
+module _ (words : List (List ℕ)) (contents : Contents) (faults after : ℕ) (failed fails : Names) (told tells : Option (List ℕ)) where
+  pub carry_not_taken : (result : Result ℕ CrewFail) → AsksNothing words → after ≡ faults → fails ≡ failed → Finishes (refusal_status Words) (refusal_line Words) told tells result →
+      Carried words contents faults after failed fails told tells result
+  carry_not_taken result none e f finishes = carried.OfAnswer _ _ (NotTaken none) e f finishes
+
+  pub carry_run : (run : Run) (q : Program) (numbers : List ℤ) (plans : List Plan) (result : Result ℕ CrewFail) → Asks words (ToRun run) → LoadsTexts contents run faults after failed fails (texts.Run q numbers plans) →
+      Finishes (status_of (source_run q numbers run.fuel).end) (trace_text q plans (source_run q numbers run.fuel) run.why) told tells result → Carried words contents faults after failed fails told tells result
+  carry_run run q numbers plans result asks (carried.Loaded p x others given is h k l fit e f) finishes =
+      carried.OfAnswer _ _ (Done (ToRun run) p numbers plans asks (run_texts contents run p q numbers plans h k is l)) e f
+      (finishes_source p q is (read_checked h.text p h.reads) (inlined_read h.text p h.reads) plans numbers run.fuel run.why [] told tells result finishes)
+
+  -- .. and the tally grew by what was committed of it
+  pub count_run : (run : Run) (q : Program) (numbers : List ℤ) (plans : List Plan) (before now status : ℕ) → Asks words (ToRun run) → LoadsTexts contents run faults after failed fails (texts.Run q numbers plans) →
+      now ≡ before + committed_in_all q plans (source_run q numbers run.fuel) → IsCounted words contents before now status
+  count_run run q numbers plans before now status asks (carried.Loaded p x others given is h k l fit e f) tally = λ other spent asked some end. (
+    committed_in_all (expand p) plans (source_run (expand p) numbers run.fuel),
+    OfRun (ToRun run) p numbers plans run.fuel asks (run_texts contents run p q numbers plans h k is l) refl,
+    tally ∙ ap (λ (y : Program). before + committed_in_all y plans (source_run y numbers run.fuel)) is,
+  )
+
+  pub carry_refused : (run : Run) (refusal : Refusal) (result : Result ℕ CrewFail) → Asks words (ToRun run) → LoadsTexts contents run faults after failed fails (texts.Refused refusal) →
+      Finishes (refusal_status refusal) (refusal_line refusal) told tells result → Carried words contents faults after failed fails told tells result
+  carry_refused run refusal result asks (carried.ProgramRefused other h e f) finishes = carried.OfAnswer _ _ (answers.Refused (ToRun run) refusal asks (ByProgram refusal (named_program h))) e f finishes
+  carry_refused run refusal result asks (carried.InputRefused other p h k e f) finishes = carried.OfAnswer _ _ (answers.Refused (ToRun run) refusal asks (ByInput p refusal (named_program h) k)) e f finishes
+  carry_refused run refusal result asks (carried.PlansRefused other p numbers h k l e f) finishes = carried.OfAnswer _ _ (answers.Refused (ToRun run) refusal asks (ByPlans p numbers refusal (named_program h) k (SomePlans run.source run.options (Err refusal) l))) e f finishes
+
+  pub carry_failed : (run : Run) (which : Role) (result : Result ℕ CrewFail) → Asks words (ToRun run) → LoadsTexts contents run faults after failed fails (texts.Failed which) →
+      Finishes 5 (failed_read_line which) told tells result → Carried words contents faults after failed fails told tells result
+  carry_failed run which result asks (carried.ProgramFailed less e) finishes = carried.OfFailedRead _ _ (OfProgram (ToRun run) run.program asks refl) less e finishes
+  carry_failed run which result asks (carried.InputFailed p name h named less e) finishes = carried.OfFailedRead _ _ (OfInput (ToRun run) p name asks (named_program h) named) less e finishes
+  carry_failed run which result asks (carried.PlansFailed p numbers name h k named less e) finishes = carried.OfFailedRead _ _ (OfPlans (ToRun run) p numbers run.source run.options name asks (named_program h) k refl named) less e finishes
+
+  abbrev ProgramGives : List ℕ → Loaded Program → Type 0
+  ProgramGives name = Gives (LoadsProgram contents name) (Some name) faults after failed fails
+
+  pub carry_sites : (name : List ℕ) (q : Program) (result : Result ℕ CrewFail) → Asks words (ToList name) → ProgramGives name (Text q) → Finishes 0 (site_bytes q) told tells result → Carried words contents faults after failed fails told tells result
+  carry_sites name q result asks g finishes =
+      let s = source_of _ _ _ g.0 in
+      carried.OfAnswer _ _ (Done (ToList name) s.source [] [] asks (record { program = named_program s.reads; input = Unnamed; planned = NoPlans })) g.1 g.2
+      (finishes_as 0 0 (site_bytes q) (site_bytes (expand s.source)) told tells result refl (ap site_bytes s.is) finishes)
+
+  module _ (planning : Planning) (asks : Asks words (ToPlan planning)) (q : Program) (read : LoadsProgram contents planning.program (Ok q)) where
+    abbrev LeastGives : Loaded (List Plan) → Type 0
+    LeastGives = Gives (Plans contents q planning.options (Least planning.profile)) planning.profile faults after failed fails
+
+    abbrev LeastOf : Program → Result (List Plan) Refusal → Type 0
+    LeastOf x made = Plans contents x planning.options (Least planning.profile) made
+
+    pub carry_plans : (plans : List Plan) (result : Result ℕ CrewFail) → LeastGives (Text plans) → Finishes 0 (plans_text q plans) told tells result → Carried words contents faults after failed fails told tells result
+    carry_plans plans result g finishes =
+        let s = source_of _ _ _ read in
+        carried.OfAnswer _ _ (Done (ToPlan planning) s.source [] plans asks (record { program = named_program s.reads; input = Unnamed; planned = SomePlans (Least planning.profile) planning.options (Ok plans) (subst (λ (x : Program). LeastOf x (Ok plans)) s.is g.0) })) g.1 g.2
+        (finishes_as 0 0 (plans_text q plans) (plans_text (expand s.source) plans) told tells result refl (ap (λ (x : Program). plans_text x plans) s.is) finishes)
+
+    pub carry_least_refused : (refusal : Refusal) (result : Result ℕ CrewFail) → LeastGives (Refused refusal) → Finishes (refusal_status refusal) (refusal_line refusal) told tells result →
+        Carried words contents faults after failed fails told tells result
+    carry_least_refused refusal result g finishes =
+        let s = source_of _ _ _ read in
+        carried.OfAnswer _ _ (answers.Refused (ToPlan planning) refusal asks (ByPlans s.source [] refusal (named_program s.reads) Unnamed (SomePlans (Least planning.profile) planning.options (Err refusal) (subst (λ (x : Program). LeastOf x (Err refusal)) s.is g.0)))) g.1 g.2 finishes
+
+    pub carry_least_failed : (result : Result ℕ CrewFail) → LeastGives Failed → Finishes 5 (failed_read_line role.Profile) told tells result → Carried words contents faults after failed fails told tells result
+    carry_least_failed result g finishes =
+        let s = source_of _ _ _ read in
+        carried.OfFailedRead _ _ (OfPlans (ToPlan planning) s.source [] (Least planning.profile) planning.options g.0 asks (named_program s.reads) Unnamed refl g.1) g.2 g.3 finishes
+
+  -- a program alone that is refused, or that can't be read
+  pub carry_program_refused : (asked : Asked) (name : List ℕ) (refusal : Refusal) (result : Result ℕ CrewFail) → Asks words asked → program_in asked ≡ Some name →
+      ProgramGives name (Refused refusal) → Finishes (refusal_status refusal) (refusal_line refusal) told tells result → Carried words contents faults after failed fails told tells result
+  carry_program_refused asked name refusal result asks is g finishes =
+      let read = named_program (refusal_read _ _ _ g.0) in
+      carried.OfAnswer _ _ (answers.Refused asked refusal asks (ByProgram refusal (subst (λ (o : Option (List ℕ)). ProgramOf contents o (Err refusal)) (sym is) read))) g.1 g.2 finishes
+
+  pub carry_program_failed : (asked : Asked) (name : List ℕ) (result : Result ℕ CrewFail) → Asks words asked → program_in asked ≡ Some name → ProgramGives name Failed → Finishes 5 (failed_read_line role.Program) told tells result →
+      Carried words contents faults after failed fails told tells result
+  carry_program_failed asked name result asks is g finishes =
+      let same : name ≡ g.0 = cc g.1 in
+      carried.OfFailedRead _ _ (OfProgram asked name asks is) g.2 (g.3 ∙ ap (λ (n : List ℕ). option_map (λ (names : List (List ℕ)). names ++ n ∷ []) failed) (sym same)) finishes
+
+  -- .. on the way behind a text that was read
+  pub carry_on : (begin : ℕ) (began : Names) (result : Result ℕ CrewFail) → faults ≡ begin → failed ≡ began → Carried words contents faults after failed fails told tells result → Carried words contents begin after began fails told tells result
+  carry_on begin began result e f h = subst (λ (n : ℕ). Carried words contents n after began fails told tells result) e (subst (λ (names : Names). Carried words contents faults after names fails told tells result) f h)
+
+  same_and_less : {A : Type 0} → after ≡ faults → faults < after → A
+  same_and_less e less = absurd (omega (arith, e, less))
+
+  pub whole_answer : (r : Result ℕ CrewFail) (status old new : ℕ) → status ≡ status_after r → Carried words contents faults after failed fails told tells r → FaultsAfter r old new → after ≡ faults → new ≡ old →
+      Answered words contents told tells status
+  whole_answer r status old new e carry sink same others = rw e (by r carry sink)
+    where
+      by : (r : Result ℕ CrewFail) → Carried words contents faults after failed fails told tells r → FaultsAfter r old new → Answered words contents told tells (status_after r)
+      by (Ok s) (carried.OfAnswer t bytes answer f g h) sink = rw h.0 (Whole t bytes answer h.1)
+      by (Ok s) (carried.OfFailedRead which name read less g h) sink = same_and_less same less
+      by (Ok s) (Starved clash f g h) sink = absurd (cc clash)
+      by (Err Write) carry sink = absurd (omega (arith, sink, others))
+      by (Err NoMemory) (carried.OfAnswer t bytes answer f g h) sink = Short t bytes answer h
+      by (Err NoMemory) (carried.OfFailedRead which name read less g h) sink = same_and_less same less
+      by (Err NoMemory) (Starved clash f g h) sink = Nothing h
+
+  pub failed_read : (r : Result ℕ CrewFail) (status old new : ℕ) → status ≡ status_after r → Carried words contents faults after failed fails told tells r → FaultsAfter r old new → faults < after → new ≡ old →
+      ReadFailed words contents failed fails told tells status
+  failed_read r status old new e carry sink less others = rw e (by r carry sink)
+    where
+      by : (r : Result ℕ CrewFail) → Carried words contents faults after failed fails told tells r → FaultsAfter r old new → ReadFailed words contents failed fails told tells (status_after r)
+      by r (carried.OfAnswer t bytes answer f g h) sink = same_and_less f less
+      by (Ok s) (carried.OfFailedRead which name read more g h) sink = record { role = which; name = name; is_read = read; names = g; written = inl h }
+      by (Err Write) (carried.OfFailedRead which name read more g h) sink = absurd (omega (arith, sink, others))
+      by (Err NoMemory) (carried.OfFailedRead which name read more g h) sink = record { role = which; name = name; is_read = read; names = g; written = inr (refl, h) }
+      by r (Starved is f g h) sink = same_and_less f less
+
+  pub failed_write : (r : Result ℕ CrewFail) (status old new : ℕ) → status ≡ status_after r → Carried words contents faults after failed fails told tells r → FaultsAfter r old new → old < new →
+      (status ≡ 6) × WriteFailed words contents faults after failed fails told tells
+  failed_write (Ok s) status old new e carry sink rose = absurd (omega (arith, sink, rose))
+  failed_write (Err NoMemory) status old new e carry sink rose = absurd (omega (arith, sink, rose))
+  failed_write (Err Write) status old new e (carried.OfAnswer t bytes answer f g h) sink rose = (e, OfAnswer t bytes answer f g h)
+  failed_write (Err Write) status old new e (carried.OfFailedRead which name read less g h) sink rose = (e, OfFailedRead which name read less g h)
+  failed_write (Err Write) status old new e (Starved clash f g h) sink rose = absurd (cc clash)
+
+  pub names_kept : (r : Result ℕ CrewFail) → Carried words contents faults after failed fails told tells r → after ≡ faults → fails ≡ failed
+  names_kept r (carried.OfAnswer s bytes answer e f g) same = f
+  names_kept r (carried.OfFailedRead which name read less f g) same = same_and_less same less
+  names_kept r (Starved is e f g) same = f
+
+  pub faults_kept : (r : Result ℕ CrewFail) → Carried words contents faults after failed fails told tells r → faults ≤ after
+  faults_kept r (carried.OfAnswer s bytes answer e f g) = omega (arith, e)
+  faults_kept r (carried.OfFailedRead which name read less f g) = omega (arith, less)
+  faults_kept r (Starved is e f g) = omega (arith, e)
+
+-- a sink's count of faults doesn't fall
+pub sink_kept : (r : Result ℕ CrewFail) (old new : ℕ) → FaultsAfter r old new → old ≤ new
+sink_kept (Ok s) old new h = omega (arith, h)
+sink_kept (Err Write) old new h = omega (arith, h)
+sink_kept (Err NoMemory) old new h = omega (arith, h)
+
+-- other statuses than a run's
+no_end_by : (n : ℕ) → 1 < n → n ≢ 8 → IsEnd n → ⊥
+no_end_by n more other (inl h) = omega (arith, more, h)
+no_end_by n more other (inr (inl h)) = omega (arith, more, h)
+no_end_by n more other (inr (inr h)) = other h
+
+refusal_is_no_end : (refusal : Refusal) → IsEnd (refusal_status refusal) → ⊥
+refusal_is_no_end Words h = no_end_by 2 (omega arith) (λ e. omega (arith, e)) h
+refusal_is_no_end (Byte place) h = no_end_by 3 (omega arith) (λ e. omega (arith, e)) h
+refusal_is_no_end (Syntax token) h = no_end_by 3 (omega arith) (λ e. omega (arith, e)) h
+refusal_is_no_end (Name offence line) h = no_end_by 3 (omega arith) (λ e. omega (arith, e)) h
+refusal_is_no_end (InputWord word) h = no_end_by 4 (omega arith) (λ e. omega (arith, e)) h
+refusal_is_no_end (PlanLine line) h = no_end_by 4 (omega arith) (λ e. omega (arith, e)) h
+refusal_is_no_end (PlanRule rule site) h = no_end_by 4 (omega arith) (λ e. omega (arith, e)) h
+refusal_is_no_end (ProfileLine line) h = no_end_by 4 (omega arith) (λ e. omega (arith, e)) h
+refusal_is_no_end (Limit quantity count) h = no_end_by 9 (omega arith) (λ e. omega (arith, e)) h
+
+-- a result whose status is this one
+status_is : (s : ℕ) (bytes : List ℕ) (told tells : Option (List ℕ)) (result : Result ℕ CrewFail) (P : ℕ → Type 0) → P s → Finishes s bytes told tells result → IfOk result P
+status_is s bytes told tells (Ok answered) P h finishes = rw finishes.0 h
+status_is s bytes told tells (Err fail) P h finishes = tt
+
+-- where no run ended, nothing is said of the tally
+module _ (words : List (List ℕ)) (contents : Contents) (before now : ℕ) (told tells : Option (List ℕ)) (result : Result ℕ CrewFail) where
+  pub refused_counts : (refusal : Refusal) → Finishes (refusal_status refusal) (refusal_line refusal) told tells result → IfOk result (IsCounted words contents before now)
+  refused_counts refusal h = status_is (refusal_status refusal) (refusal_line refusal) told tells result (IsCounted words contents before now) (λ asked fuel asks some end. absurd (refusal_is_no_end refusal end)) h
+
+  pub failed_counts : (which : Role) → Finishes 5 (failed_read_line which) told tells result → IfOk result (IsCounted words contents before now)
+  failed_counts which h = status_is 5 (failed_read_line which) told tells result (IsCounted words contents before now) (λ asked fuel asks some end. absurd (no_end_by 5 (omega arith) (λ e. omega (arith, e)) end)) h
+
+all_results : (result : Result ℕ CrewFail) (P : ℕ → Type 0) → ((s : ℕ) → P s) → IfOk result P
+all_results (Ok s) P h = h s
+all_results (Err fail) P h = tt
+
+-- nor where no run was asked for
+pub no_run_counts : (words : List (List ℕ)) (contents : Contents) (before now : ℕ) (result : Result ℕ CrewFail) → ((asked : Asked) (fuel : ℕ) → Asks words asked → run_fuel asked ≡ Some fuel → ⊥) → IfOk result (IsCounted words contents before now)
+no_run_counts words contents before now result none = all_results result (IsCounted words contents before now) (λ s asked fuel asks some end. absurd (none asked fuel asks some))
+
+-- the status after a result: those of failures are no ends
+pub counted_after : (words : List (List ℕ)) (contents : Contents) (before now status : ℕ) (result : Result ℕ CrewFail) → status ≡ status_after result → IfOk result (IsCounted words contents before now) → IsCounted words contents before now status
+counted_after words contents before now status (Ok s) e h = rw e h
+counted_after words contents before now status (Err Write) e h = λ asked fuel asks some end. absurd (no_end_by 6 (omega arith) (λ e. omega (arith, e)) (rw e at end))
+counted_after words contents before now status (Err NoMemory) e h = λ asked fuel asks some end. absurd (no_end_by 7 (omega arith) (λ e. omega (arith, e)) (rw e at end))
+
+-- a run that was loaded: where it ended, the tally grew by what was committed of it
+pub run_counts : (words : List (List ℕ)) (contents : Contents) (faults after : ℕ) (failed fails : Names) (run : Run) (q : Program) (numbers : List ℤ) (plans : List Plan) (before now : ℕ) (result : Result ℕ CrewFail) →
+    Asks words (ToRun run) → LoadsTexts contents run faults after failed fails (texts.Run q numbers plans) → OnOk result (now ≡ before + committed_in_all q plans (source_run q numbers run.fuel)) → IfOk result (IsCounted words contents before now)
+run_counts words contents faults after failed fails run q numbers plans before now (Ok status) asks texts h = count_run words contents faults after failed fails None None run q numbers plans before now status asks texts h
+run_counts words contents faults after failed fails run q numbers plans before now (Err fail) asks texts h = tt

@@ -1,0 +1,41 @@
+use Rattle.std.proofs.Common.{◌∙◌, ap, refl, Some}
+use Rattle.dp_drive.specs.declared.refusal.Refusal.TheVariants.{Words}
+use Rattle.dp_drive.proofs.AnswerLemmas.{carry_not_taken, no_run_counts, refused_counts}
+use Rattle.dp_drive.proofs.definite.AsksOnce.{no_run_and_plans, no_run_and_profile, no_run_and_sites}
+use Rattle.dp_drive.proofs.answer.answer.Goals as goal
+
+pub returns-in-None-clause-carried : goal.returns-in-None-clause-carried
+returns-in-None-clause-carried g c = carry_not_taken _ _ _ _ _ _ _ _ _ (rw c.in-None.is at c.in_ok-run.ensures.none) refl refl c.refuse.ensures.finishes
+
+pub returns-in-Some-Run-clause-carried : goal.returns-in-Some-Run-clause-carried
+returns-in-Some-Run-clause-carried g c = c.answer_run.ensures.carried _ (rw (c.in-Some-Run.is ∙ ap Some c.in-Some-Run.field-0-is) at c.in_ok-run.ensures.some)
+
+pub returns-in-Some-Plan-clause-carried : goal.returns-in-Some-Plan-clause-carried
+returns-in-Some-Plan-clause-carried g c = c.answer_plan.ensures.carried _ (rw (c.in-Some-Plan.is ∙ ap Some c.in-Some-Plan.field-0-is) at c.in_ok-run.ensures.some)
+
+pub returns-in-Some-Check-clause-carried : goal.returns-in-Some-Check-clause-carried
+returns-in-Some-Check-clause-carried g c = c.answer_check.ensures.carried _ (rw (c.in-Some-Check.is ∙ ap Some c.in-Some-Check.field-0-is) at c.in_ok-run.ensures.some)
+
+pub returns-in-None-clause-counted : goal.returns-in-None-clause-counted
+returns-in-None-clause-counted g c = refused_counts _ _ _ _ _ _ _ Words c.refuse.ensures.finishes
+
+pub returns-in-Some-Run-clause-counted : goal.returns-in-Some-Run-clause-counted
+returns-in-Some-Run-clause-counted g c = c.answer_run.ensures.counted _ (rw (c.in-Some-Run.is ∙ ap Some c.in-Some-Run.field-0-is) at c.in_ok-run.ensures.some)
+
+pub returns-in-Some-Plan-clause-counted : goal.returns-in-Some-Plan-clause-counted
+returns-in-Some-Plan-clause-counted g c = no_run_counts _ _ _ _ _ (no_run_and_plans (rw (c.in-Some-Plan.is ∙ ap Some c.in-Some-Plan.field-0-is) at c.in_ok-run.ensures.some))
+
+pub returns-in-Some-Check-clause-counted : goal.returns-in-Some-Check-clause-counted
+returns-in-Some-Check-clause-counted g c = no_run_counts _ _ _ _ _ (no_run_and_sites (rw (c.in-Some-Check.is ∙ ap Some c.in-Some-Check.field-0-is) at c.in_ok-run.ensures.some))
+
+pub returns-in-Some-Gen-clause-carried : goal.returns-in-Some-Gen-clause-carried
+returns-in-Some-Gen-clause-carried g c = c.answer_gen.ensures.carried _ _ _ _ (rw (c.in-Some-Gen.is ∙ ap Some c.in-Some-Gen.field-0-is) at c.in_ok-run.ensures.some)
+
+pub returns-in-Some-Gen-clause-counted : goal.returns-in-Some-Gen-clause-counted
+returns-in-Some-Gen-clause-counted g c = c.answer_gen.ensures.counted _ _ (rw (c.in-Some-Gen.is ∙ ap Some c.in-Some-Gen.field-0-is) at c.in_ok-run.ensures.some)
+
+pub returns-in-Some-Profile-clause-carried : goal.returns-in-Some-Profile-clause-carried
+returns-in-Some-Profile-clause-carried g c = c.answer_profile.ensures.carried _ (rw (c.in-Some-Profile.is ∙ ap Some c.in-Some-Profile.field-0-is) at c.in_ok-run.ensures.some)
+
+pub returns-in-Some-Profile-clause-counted : goal.returns-in-Some-Profile-clause-counted
+returns-in-Some-Profile-clause-counted g c = no_run_counts _ _ _ _ _ (no_run_and_profile (rw (c.in-Some-Profile.is ∙ ap Some c.in-Some-Profile.field-0-is) at c.in_ok-run.ensures.some))

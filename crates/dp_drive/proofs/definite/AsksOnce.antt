@@ -1,0 +1,113 @@
+-- Words ask for one thing only.
+use Rattle.std.proofs.Common.{◌≡◌, refl, sym, ap, ap₂, ◌∙◌, ℕ, ◌==◌, Bool, true, false, if◌then◌else◌, List, length, Option, Some, None, codes}
+use Rattle.std.specs.Option.{option_map_or}
+use Rattle.clap.specs.Words.{App, Text}
+use Rattle.dp_words.proofs.VerbLemmas.{apart, asks_verb, behind, named_behind, verb_of}
+use Rattle.dp_words.specs.Commands.{check_app, gen_app, plan_app, profile_app, run_app, value_in}
+use Rattle.dp_words.specs.declared.task.GenWords.{GenWords}
+use Rattle.dp_words.specs.Words.{Asked, Asks, AsksBy, ToList, ToMake, ToPlan, ToProfile, ToRun}
+use Rattle.dp_words.specs.Values.{Values, default_fuel, default_rate, default_stages, fuel_in, lane_in, options_in, workers_in}
+use Rattle.dp_words.specs.Run.{Run, Source, ShowsRun}
+use Rattle.dp_words.specs.Planning.{Planning, ShowsPlanning}
+use Rattle.dp_words.specs.Sites.{ShowsSites}
+use Rattle.dp_words.specs.Profiling.{Profiling, ShowsProfiling}
+use Rattle.dp_words.specs.Made.{ShowsMade}
+use Rattle.dp_drive.specs.Answer.{run_fuel}
+
+-- whether a flag was given, by the number of letters of its value
+abbrev why_of : Option Text → Bool
+why_of value = option_map_or (λ text. length text == 4) value false
+
+-- the run that values stand for
+abbrev run_from : Values → Text → Source → Run
+run_from value program plans = record {
+  program = program;
+  input = value (codes "input");
+  source = plans;
+  options = options_in value;
+  lane = lane_in value;
+  fuel = fuel_in value;
+  why = why_of (value (codes "why"));
+}
+
+why_is : (b : Bool) → why_of (Some (if b then codes "true" else codes "false")) ≡ b
+why_is true = refl
+why_is false = refl
+
+run_is : (value : Values) (run : Run) → ShowsRun value run → run_from value run.program run.source ≡ run
+run_is value run h = rw (h.input, ← h.options, ← h.lane, ← h.fuel, h.why, why_is run.why) refl
+
+runs_once : (value : Values) (run other : Run) → ShowsRun value run → ShowsRun value other → run ≡ other
+runs_once value run other a b =
+    let program : Some run.program ≡ Some other.program = sym a.program ∙ b.program in
+    let plans : Some run.source ≡ Some other.source = sym a.source ∙ b.source in
+    sym (run_is value run a) ∙ ap₂ (run_from value) (cc program) (cc plans) ∙ run_is value other b
+
+abbrev planning_from : Values → Text → Planning
+planning_from value program = record { program = program; profile = value (codes "profile"); options = options_in value }
+
+planning_is : (value : Values) (planning : Planning) → ShowsPlanning value planning → planning_from value planning.program ≡ planning
+planning_is value planning h = rw (h.profile, ← h.options) refl
+
+plannings_once : (value : Values) (planning other : Planning) → ShowsPlanning value planning → ShowsPlanning value other → planning ≡ other
+plannings_once value planning other a b =
+    let program : Some planning.program ≡ Some other.program = sym a.program ∙ b.program in
+    sym (planning_is value planning a) ∙ ap (planning_from value) (cc program) ∙ planning_is value other b
+
+programs_once : (value : Values) (program other : List ℕ) → ShowsSites value program → ShowsSites value other → program ≡ other
+programs_once value program other a b = let same : Some program ≡ Some other = sym a ∙ b in cc same
+
+abbrev profiling_from : Values → Text → Profiling
+profiling_from value program = record { program = program; input = value (codes "input"); fuel = fuel_in value }
+
+profiling_is : (value : Values) (profiling : Profiling) → ShowsProfiling value profiling → profiling_from value profiling.program ≡ profiling
+profiling_is value profiling h = rw (h.input, ← h.fuel) refl
+
+profilings_once : (value : Values) (profiling other : Profiling) → ShowsProfiling value profiling → ShowsProfiling value other → profiling ≡ other
+profilings_once value profiling other a b =
+    let program : Some profiling.program ≡ Some other.program = sym a.program ∙ b.program in
+    sym (profiling_is value profiling a) ∙ ap (profiling_from value) (cc program) ∙ profiling_is value other b
+
+abbrev made_from : Values → ℕ → ℕ → GenWords
+made_from value seed size = record { seed = seed; size = size; options = record { rate = default_rate; stages = default_stages; workers = workers_in value }; lane = lane_in value; fuel = default_fuel }
+
+made_is : (value : Values) (made : GenWords) → ShowsMade value made → made_from value made.seed made.size ≡ made
+made_is value made h = rw (← h.options, ← h.lane, ← h.fuel) refl
+
+mades_once : (value : Values) (made other : GenWords) → ShowsMade value made → ShowsMade value other → made ≡ other
+mades_once value made other a b =
+    let seed : Some made.seed ≡ Some other.seed = sym a.seed ∙ b.seed in
+    let size : Some made.size ≡ Some other.size = sym a.size ∙ b.size in
+    sym (made_is value made a) ∙ ap₂ (made_from value) (cc seed) (cc size) ∙ made_is value other b
+
+-- the words of one verb
+once_by : {X : Type 0} (verb : Text) (app : App) (Shows : Values → X → Type 0) → ((value : Values) (x y : X) → Shows value x → Shows value y → x ≡ y) → {words : List Text} {x y : X} →
+    AsksBy verb app Shows words x → AsksBy verb app Shows words y → x ≡ y
+once_by verb app Shows once {words = words} {x = x} {y = y} a b = once (value_in app (behind words)) x y (named_behind verb app Shows a).shows (named_behind verb app Shows b).shows
+
+-- of one verb
+of_verb : (words : List Text) (a b : Asked) → verb_of a ≡ verb_of b → Asks words a → Asks words b → a ≡ b
+of_verb words (ToRun a) (ToRun b) e h k = ap ToRun (once_by (codes "run") run_app ShowsRun runs_once h k)
+of_verb words (ToPlan a) (ToPlan b) e h k = ap ToPlan (once_by (codes "plan") plan_app ShowsPlanning plannings_once h k)
+of_verb words (ToList a) (ToList b) e h k = ap ToList (once_by (codes "check") check_app ShowsSites programs_once h k)
+of_verb words (ToProfile a) (ToProfile b) e h k = ap ToProfile (once_by (codes "profile") profile_app ShowsProfiling profilings_once h k)
+of_verb words (ToMake a) (ToMake b) e h k = ap ToMake (once_by (codes "gen") gen_app ShowsMade mades_once h k)
+of_verb words a b e h k = absurd (apart (verb_of a) (verb_of b) refl e)
+
+pub asks_once : (words : List Text) (a b : Asked) → Asks words a → Asks words b → a ≡ b
+asks_once words a b h k = of_verb words a b (sym (asks_verb words a h) ∙ asks_verb words b k) h k
+
+-- words that ask for something else ask for no run
+no_run : (words : List Text) (other : Asked) → run_fuel other ≡ None → Asks words other → (asked : Asked) (fuel : ℕ) → Asks words asked → run_fuel asked ≡ Some fuel → ⊥
+no_run words other none h asked fuel k some =
+    let clash : None ≡ Some fuel = sym none ∙ ap run_fuel (asks_once words other asked h k) ∙ some in
+    absurd (cc clash)
+
+pub no_run_and_plans : {words : List Text} {planning : Planning} → AsksBy (codes "plan") plan_app ShowsPlanning words planning → (asked : Asked) (fuel : ℕ) → Asks words asked → run_fuel asked ≡ Some fuel → ⊥
+no_run_and_plans {words = words} {planning = planning} h asked fuel k some = no_run words (ToPlan planning) refl h asked fuel k some
+
+pub no_run_and_sites : {words : List Text} {program : List ℕ} → AsksBy (codes "check") check_app ShowsSites words program → (asked : Asked) (fuel : ℕ) → Asks words asked → run_fuel asked ≡ Some fuel → ⊥
+no_run_and_sites {words = words} {program = program} h asked fuel k some = no_run words (ToList program) refl h asked fuel k some
+
+pub no_run_and_profile : {words : List Text} {profiling : Profiling} → AsksBy (codes "profile") profile_app ShowsProfiling words profiling → (asked : Asked) (fuel : ℕ) → Asks words asked → run_fuel asked ≡ Some fuel → ⊥
+no_run_and_profile {words = words} {profiling = profiling} h asked fuel k some = no_run words (ToProfile profiling) refl h asked fuel k some

@@ -1,0 +1,180 @@
+//! The whole program: from its words to what is written and the exit status.
+ghost use Rattle.std.specs.Prelude.{◌≡◌, ◌<◌, ◌≤◌, ◌-◌, ◌^◌, ℕ, List, map, string_bytes, IfOk};
+ghost use Rattle.dp_report.specs.SiteText.{site_bytes};
+ghost use Rattle.dp_crew.specs.Fail.{FaultsAfter};
+ghost use Rattle.dp_words.specs.Words.{Asks, ToList, ToRun};
+ghost use Rattle.dp_words.specs.Run.{RunWithin, shown};
+ghost use Rattle.dp_drive.specs.Headline.{Answered, IsCounted, ReadFailed, WriteFailed};
+ghost use Rattle.dp_drive.specs.Carried.{Carried, Finishes};
+ghost use Rattle.dp_drive.specs.Status.{status_after};
+
+use crate::load::{Loaded, load_program};
+use crate::made::answer_gen;
+use crate::planning::answer_plan;
+use crate::profiling::answer_profile;
+use crate::refusal::{Refusal, Role};
+use crate::running::{load, run_to_end};
+use crate::texts::Texts;
+use crate::writing::{fail_read, refuse};
+use dp_edge::{Gate, Shelf, Sink};
+use dp_report::site_text;
+use dp_run::{CrewFail, CrewSize, RunOptions, Tally, write};
+use dp_tree::Program;
+use dp_words::{RunWords, Task, asked};
+use std::alloc::Global;
+use std::sync::Wait;
+use std::thread::Threads;
+use std::time::Clock;
+
+/// Does all that the program does, and answers its exit status.
+///
+/// The words are those after the program's name. Texts are read from the shelf, and everything is written to the sink;
+/// the gate is passed by the stages that run in threads. The tally counts the iterations that are committed from a
+/// pipeline.
+pub fn drive<R: Threads + Wait + Clock + Sync, S: Shelf, K: Sink, G: Gate>(
+    rt: &R,
+    alloc: Global,
+    words: &[String],
+    shelf: &mut S,
+    sink: &mut K,
+    gate: &G,
+    tally: &mut Tally,
+) -> u8
+    requires shelf { S.faults shelf.old < 2 ^ 64 - 1 }
+    requires sink { K.faults sink.old < 2 ^ 64 - 1 }
+    requires tally { tally.old < 2 ^ 63 }
+
+    // No fault: the whole answer was written, or a front of it where memory was wanting.
+    ensures answered { S.faults shelf.new ≡ S.faults shelf.old → K.faults sink.new ≡ K.faults sink.old →
+        Answered (map string_bytes words.now) (S.contents shelf.old) (K.written sink.old) (K.written sink.new) result }
+
+    // A failed read: its line, and the one new failed name is the one that the words give.
+    ensures read_failed { S.faults shelf.old < S.faults shelf.new → K.faults sink.new ≡ K.faults sink.old →
+        ReadFailed (map string_bytes words.now) (S.contents shelf.old) (S.failed_names shelf.old) (S.failed_names shelf.new) (K.written sink.old) (K.written sink.new) result }
+
+    // A failed write: nothing is written after it.
+    ensures write_failed { K.faults sink.old < K.faults sink.new →
+        (result ≡ 6) × WriteFailed (map string_bytes words.now) (S.contents shelf.old) (S.faults shelf.old) (S.faults shelf.new) (S.failed_names shelf.old) (S.failed_names shelf.new) (K.written sink.old) (K.written sink.new) }
+
+    // A run that was answered: each iteration that isn't listed as executed again was judged and committed from the pipeline.
+    ensures counted { IsCounted (map string_bytes words.now) (S.contents shelf.old) tally.old tally.new result }
+
+    // What the shelf holds stays, and no count of faults falls.
+    ensures failed_names { S.faults shelf.new ≡ S.faults shelf.old → S.failed_names shelf.new ≡ S.failed_names shelf.old }
+    ensures contents { S.contents shelf.new ≡ S.contents shelf.old }
+    ensures shelf_faults { S.faults shelf.old ≤ S.faults shelf.new }
+    ensures sink_faults { K.faults sink.old ≤ K.faults sink.new }
+{
+    final_status(answer(rt, alloc, words, shelf, sink, gate, tally))
+}
+
+/// The exit status of what was finished or stopped.
+fn final_status(answered: Result<u8, CrewFail>) -> u8
+    ensures { result ≡ status_after answered }
+{
+    match answered {
+        Ok(status) => status,
+        Err(CrewFail::Write) => 6,
+        Err(CrewFail::NoMemory) => 7,
+    }
+}
+
+/// The exit status, where all that it goes with was written.
+fn answer<R: Threads + Wait + Clock + Sync, S: Shelf, K: Sink, G: Gate>(
+    rt: &R,
+    alloc: Global,
+    words: &[String],
+    shelf: &mut S,
+    sink: &mut K,
+    gate: &G,
+    tally: &mut Tally,
+) -> Result<u8, CrewFail>
+    requires shelf { S.faults shelf.old < 2 ^ 64 - 1 }
+    requires sink { K.faults sink.old < 2 ^ 64 - 1 }
+    requires tally { tally.old < 2 ^ 63 }
+    ensures contents { S.contents shelf.new ≡ S.contents shelf.old }
+    ensures faults { FaultsAfter result (K.faults sink.old) (K.faults sink.new) }
+    ensures carried { Carried (map string_bytes words.now) (S.contents shelf.old) (S.faults shelf.old) (S.faults shelf.new)
+        (S.failed_names shelf.old) (S.failed_names shelf.new) (K.written sink.old) (K.written sink.new) result }
+    ensures counted { IfOk result (IsCounted (map string_bytes words.now) (S.contents shelf.old) tally.old tally.new) }
+{
+    match asked(alloc, words)? {
+        Some(Task::Run(run)) => answer_run(rt, alloc, run, shelf, sink, gate, tally),
+        Some(Task::Plan(plan)) => answer_plan(alloc, plan, shelf, sink),
+        Some(Task::Check(program)) => answer_check(alloc, program, shelf, sink),
+        Some(Task::Profile(profile)) => answer_profile(alloc, profile, shelf, sink),
+        Some(Task::Gen(words)) => answer_gen(rt, alloc, words, sink, gate, tally),
+        None => refuse(alloc, Refusal::Words, sink),
+    }
+}
+
+/// The exit status of a run.
+fn answer_run<R: Threads + Wait + Clock + Sync, S: Shelf, K: Sink, G: Gate>(
+    rt: &R,
+    alloc: Global,
+    run: RunWords,
+    shelf: &mut S,
+    sink: &mut K,
+    gate: &G,
+    tally: &mut Tally,
+) -> Result<u8, CrewFail>
+    requires run { RunWithin (shown run) }
+    requires shelf { S.faults shelf.old < 2 ^ 64 - 1 }
+    requires sink { K.faults sink.old < 2 ^ 64 - 1 }
+    requires tally { tally.old < 2 ^ 63 }
+    ensures contents { S.contents shelf.new ≡ S.contents shelf.old }
+    ensures faults { FaultsAfter result (K.faults sink.old) (K.faults sink.new) }
+    ensures carried { (words : List (List ℕ)) → Asks words (ToRun (shown run.entry)) → Carried words (S.contents shelf.old) (S.faults shelf.old) (S.faults shelf.new)
+        (S.failed_names shelf.old) (S.failed_names shelf.new) (K.written sink.old) (K.written sink.new) result }
+    ensures counted { (words : List (List ℕ)) → Asks words (ToRun (shown run.entry)) → IfOk result (IsCounted words (S.contents shelf.old) tally.old tally.new) }
+{
+    match load(alloc, run, shelf)? {
+        Texts::Run(program, input, plans) => {
+            let options = RunOptions {
+                fuel: run.fuel,
+                crew: CrewSize {
+                    workers: run.options.workers,
+                    lane: run.lane,
+                },
+                why: run.why,
+            };
+            run_to_end(
+                rt, alloc, &program, &plans, &input, options, sink, gate, tally,
+            )
+        }
+        Texts::Refused(refusal) => refuse(alloc, refusal, sink),
+        Texts::Failed(role) => fail_read(alloc, role, sink),
+    }
+}
+
+/// The exit status of a list of sites.
+fn answer_check<S: Shelf, K: Sink>(
+    alloc: Global,
+    name: &str,
+    shelf: &mut S,
+    sink: &mut K,
+) -> Result<u8, CrewFail>
+    requires shelf { S.faults shelf.old < 2 ^ 64 - 1 }
+    requires sink { K.faults sink.old < 2 ^ 64 - 1 }
+    ensures contents { S.contents shelf.new ≡ S.contents shelf.old }
+    ensures faults { FaultsAfter result (K.faults sink.old) (K.faults sink.new) }
+    ensures carried { (words : List (List ℕ)) → Asks words (ToList name.now) → Carried words (S.contents shelf.old) (S.faults shelf.old) (S.faults shelf.new)
+        (S.failed_names shelf.old) (S.failed_names shelf.new) (K.written sink.old) (K.written sink.new) result }
+{
+    match load_program(alloc, shelf, name)? {
+        Loaded::Text(program) => list_sites(alloc, &program, sink),
+        Loaded::Refused(refusal) => refuse(alloc, refusal, sink),
+        Loaded::Failed => fail_read(alloc, Role::Program, sink),
+    }
+}
+
+/// Writes the list of the program's sites.
+fn list_sites<K: Sink>(alloc: Global, program: &Program, sink: &mut K) -> Result<u8, CrewFail>
+    requires { K.faults sink.old < 2 ^ 64 - 1 }
+    ensures faults { FaultsAfter result (K.faults sink.old) (K.faults sink.new) }
+    ensures finishes { Finishes 0 (site_bytes program.now) (K.written sink.old) (K.written sink.new) result }
+{
+    let text = site_text(alloc, program)?;
+    write(text.as_slice(), sink)?;
+    Ok(0)
+}
