@@ -42,7 +42,9 @@ fn a_page_is_lent_for_writing_as_the_versions_own(rt: HostRuntime) -> Result<(),
 }
 
 #[test]
-fn a_snapshot_in_the_room_of_a_spent_version_has_none_of_its_numbers(rt: HostRuntime) -> Result<(), Fail> {
+fn a_snapshot_in_the_room_of_a_spent_version_has_none_of_its_numbers(
+    rt: HostRuntime,
+) -> Result<(), Fail> {
     let mut spent = Version::of(rt.alloc(), &Cells::new(rt.alloc(), 600)?)?;
     spent.set(CellId(3), 1)?;
     spent.set(CellId(599), 2)?;
