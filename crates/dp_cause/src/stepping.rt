@@ -12,7 +12,7 @@ use crate::watched::{Form, Ground, Step, Watched};
 use dp_base::{Cause, Cells, NoMemory, SiteId, VarId};
 use dp_code::{StageProgram, assign_program, print_program, store_program, test_program};
 use dp_machine::{Frame, Turned, turn_over};
-use dp_packet::VoidWhy;
+use dp_packet::{Lists, VoidWhy};
 use dp_tree::Expr;
 use std::mem;
 
@@ -46,7 +46,8 @@ impl Watched {
             code: code.ops.as_slice(),
             first: ground.first,
         };
-        match turn_over(ground.alloc, frame, cells, &[]) {
+        let no_lists = Lists::new(ground.alloc);
+        match turn_over(ground.alloc, frame, cells, &no_lists) {
             Turned::Done { own, memory, .. } => {
                 self.cells = memory;
                 self.look(ground, site, form, own.as_slice())

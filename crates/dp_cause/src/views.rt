@@ -1,5 +1,5 @@
 //! The memories that stages see, and the numbers of their words.
-ghost use Rattle.std.specs.Prelude.{◌≡◌, OnOk, IfOk, map};
+ghost use Rattle.std.specs.Prelude.{◌≡◌, ◌≤◌, ◌+◌, ◌^◌, OnErr, OnOk, IfOk, map};
 ghost use Rattle.dp_tree.specs.Step.{is_local_of};
 ghost use Rattle.dp_semantics.specs.CauseWalk.{view_of, count_of};
 ghost use Rattle.dp_cause.specs.Views as definition;
@@ -38,7 +38,8 @@ pub fn count(counts: &[u64], stage: u32) -> u64
 
 /// A stage has so many words more.
 pub fn add(counts: &mut Row<u64>, stage: u32, more: u64) -> Result<(), NoMemory>
-    ensures { OnOk result (counts.new ≡ definition.count_more stage more counts.old) }
+    ensures more { OnOk result (counts.new ≡ definition.count_more stage more counts.old) }
+    ensures full { OnErr result (2 ^ 64 ≤ more + count_of counts.old stage) }
 {
     if stage == 0 {
         return Ok(());

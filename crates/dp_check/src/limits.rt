@@ -1,6 +1,6 @@
 //! What a lawful program is refused for: counts above their limits.
 
-ghost use Rattle.std.specs.Prelude.{◌≡◌, ◌≤◌, ◌+◌, min, length, IfOk};
+ghost use Rattle.std.specs.Prelude.{◌≡◌, ◌≤◌, ◌+◌, ◌^◌, min, length, IfOk, OnErr};
 ghost use Rattle.dp_check.specs.Answer.{unless};
 ghost use Rattle.dp_check.specs.Limits as spec;
 ghost use Rattle.dp_check.specs.Tables.{cells_of, global_of, globals};
@@ -14,7 +14,8 @@ use dp_tree::{RawItem, RawProgram};
 
 /// How many file-scope variables there are.
 pub fn global_count(items: &[RawItem]) -> Result<u32, NoMemory>
-    ensures { IfOk result (λ n. n ≡ length (globals items.now)) }
+    ensures value { IfOk result (λ n. n ≡ length (globals items.now)) }
+    ensures many { OnErr result (2 ^ 32 ≤ length (globals items.now)) }
 {
     let mut count = 0;
     for item in items {
@@ -24,7 +25,8 @@ pub fn global_count(items: &[RawItem]) -> Result<u32, NoMemory>
 }
 
 fn global_after(count: u32, item: &RawItem) -> Result<u32, NoMemory>
-    ensures { IfOk result (λ n. n ≡ count + length (global_of item.now)) }
+    ensures value { IfOk result (λ n. n ≡ count + length (global_of item.now)) }
+    ensures many { OnErr result (2 ^ 32 ≤ count + length (global_of item.now)) }
 {
     match item {
         RawItem::Function { .. } => Ok(count),

@@ -1,6 +1,6 @@
 //! The numbers that statements use, before any name is looked at.
 
-ghost use Rattle.std.specs.Prelude.{◌≡◌, OnOk};
+ghost use Rattle.std.specs.Prelude.{◌≡◌, ◌≤◌, ◌⊎◌, ◌^◌, OnErr, OnOk};
 ghost use Rattle.dp_check.specs.Place.{passed, parts, parts_all, sited, with_variable};
 
 use crate::place::Place;
@@ -9,7 +9,8 @@ use dp_tree::RawStmt;
 
 /// Passes a declaration.
 fn pass_declaration(place: &mut Place<'_>) -> Result<(), NoMemory>
-    ensures { OnOk result (place.new ≡ with_variable (sited place.old)) }
+    ensures place { OnOk result (place.new ≡ with_variable (sited place.old)) }
+    ensures full { OnErr result ((2 ^ 32 ≤ (with_variable (sited place.old)).site) ⊎ (2 ^ 32 ≤ (with_variable (sited place.old)).variable)) }
 {
     place.take_site()?;
     place.take_variable()?;
@@ -18,7 +19,8 @@ fn pass_declaration(place: &mut Place<'_>) -> Result<(), NoMemory>
 
 /// Passes a statement that has one site, and no variable.
 fn pass_site(place: &mut Place<'_>) -> Result<(), NoMemory>
-    ensures { OnOk result (place.new ≡ sited place.old) }
+    ensures place { OnOk result (place.new ≡ sited place.old) }
+    ensures full { OnErr result (2 ^ 32 ≤ (sited place.old).site) }
 {
     place.take_site()?;
     Ok(())

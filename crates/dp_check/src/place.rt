@@ -1,6 +1,6 @@
 //! A place in the text: what is visible there, and the numbers that come next.
 
-ghost use Rattle.std.specs.Prelude.{◌≡◌, ◌+◌, None, IfOk, OnOk};
+ghost use Rattle.std.specs.Prelude.{◌≡◌, ◌≤◌, ◌+◌, ◌^◌, None, IfOk, OnErr, OnOk};
 ghost use Rattle.dp_check.specs.Names.{named};
 
 use crate::names::{Meaning, Names};
@@ -27,7 +27,8 @@ pub struct Numbers {
 
 /// The number after this one.
 pub fn next(number: u32) -> Result<u32, NoMemory>
-    ensures { IfOk result (λ n. n ≡ number + 1) }
+    ensures value { IfOk result (λ n. n ≡ number + 1) }
+    ensures full { OnErr result (2 ^ 32 ≤ number + 1) }
 {
     number.checked_add(1).ok_or(NoMemory)
 }
@@ -40,6 +41,7 @@ impl<'a> Place<'a> {
     pub fn take_site(&mut self) -> Result<SiteId, NoMemory>
         ensures site { IfOk result (λ site. site ≡ next_site self.old) }
         ensures place { OnOk result (self.new ≡ sited self.old) }
+        ensures full { OnErr result (2 ^ 32 ≤ self.old.site + 1) }
     {
         let site = SiteId(self.site);
         self.site = next(self.site)?;
@@ -50,6 +52,7 @@ impl<'a> Place<'a> {
     pub fn take_variable(&mut self) -> Result<VarId, NoMemory>
         ensures variable { IfOk result (λ var. var ≡ next_variable self.old) }
         ensures place { OnOk result (self.new ≡ with_variable self.old) }
+        ensures full { OnErr result (2 ^ 32 ≤ self.old.variable + 1) }
     {
         let var = VarId(self.variable);
         self.variable = next(self.variable)?;

@@ -1,6 +1,6 @@
 //! The statements of `main`, where marked loops are regions.
 
-ghost use Rattle.std.specs.Prelude.{◌≡◌, ◌+◌, ◌++◌, [], ℕ, true, IfOk, OnOk, if◌then◌else◌};
+ghost use Rattle.std.specs.Prelude.{◌≡◌, ◌≤◌, ◌+◌, ◌^◌, ◌++◌, [], ℕ, true, IfOk, OnErr, OnOk, if◌then◌else◌};
 ghost use Rattle.dp_tree.specs.declared.raw.RawStmt.TheVariants as tree;
 ghost use Rattle.dp_check.specs.Place.{after, passed, parts_all, sited};
 ghost use Rattle.dp_check.specs.Resolved as spec;
@@ -120,7 +120,8 @@ fn top<'a>(
 
 /// The number of the next region after a statement.
 pub fn region_after(number: u32, s: &RawStmt) -> Result<u32, NoMemory>
-    ensures { IfOk result (λ n. n ≡ (if spec.is_region s.now then number + 1 else number)) }
+    ensures value { IfOk result (λ n. n ≡ (if spec.is_region s.now then number + 1 else number)) }
+    ensures full { OnErr result (2 ^ 32 ≤ (if spec.is_region s.now then number + 1 else number)) }
 {
     if is_region(s) {
         next(number)

@@ -1,6 +1,6 @@
 //! The table of a program's variables.
 
-ghost use Rattle.std.specs.Prelude.{◌≡◌, ◌∷◌, [], pos, map, IfOk, OnOk};
+ghost use Rattle.std.specs.Prelude.{◌≡◌, ◌≤◌, ◌^◌, ◌∷◌, [], pos, map, IfOk, OnErr, OnOk};
 ghost use Rattle.std.specs.List.{flat_map};
 ghost use Rattle.dp_tree.specs.declared.VarScope.TheVariants.{Outer};
 ghost use Rattle.dp_check.specs.Place.{Local, parts, parts_all};
@@ -23,7 +23,8 @@ pub struct Variables {
 
 /// A length as a number of cells.
 fn cells_of(size: i64) -> Result<u32, NoMemory>
-    ensures { IfOk result (λ n. n ≡ spec.cells_of size) }
+    ensures value { IfOk result (λ n. n ≡ spec.cells_of size) }
+    ensures large { OnErr result (2 ^ 32 ≤ spec.cells_of size) }
 {
     if size < 0 {
         return Ok(0);

@@ -6,7 +6,7 @@ ghost use Rattle.dp_base.specs.Arithmetic.{is_zero};
 ghost use Rattle.dp_tree.specs.Event as effect;
 ghost use Rattle.dp_semantics.specs.Clean as clean;
 ghost use Rattle.dp_semantics.specs.Judge as judge;
-ghost use Rattle.dp_semantics.specs.Words.{is_load_of, after_loads_of, word_list};
+ghost use Rattle.dp_semantics.specs.Words.{is_load_of, after_loads_of};
 ghost use Rattle.dp_semantics.specs.StageRun.{closes_at};
 ghost use Rattle.dp_commit.specs.FlatJudge as walk;
 
@@ -183,20 +183,6 @@ pub fn stage_at<'p>(court: Court<'p>, site: SiteId) -> u32
         entry(court.plan.stage_of.as_slice(), place)
     } else {
         0
-    }
-}
-
-/// A stage's words; stages count from 1.
-#[inline(always)]
-pub fn list_of<'p>(lists: &'p [Row<Word>], stage: u32) -> &'p [Word]
-    ensures { result.now ≡ word_list lists.now stage }
-{
-    if stage == 0 {
-        return &[];
-    }
-    match lists.get(stage as usize - 1) {
-        Some(list) => list.as_slice(),
-        None => &[],
     }
 }
 

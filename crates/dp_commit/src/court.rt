@@ -5,6 +5,7 @@ use crate::log::Log;
 use dp_base::{CellId, Cells, Row, SiteId, StoreOf, Word};
 use dp_cause::Replaced;
 use dp_code::Op;
+use dp_packet::Lists;
 use dp_plan::Plan;
 use dp_tree::Program;
 use std::alloc::Global;
@@ -84,7 +85,7 @@ pub struct Walk<'p> {
     /// The source's memory.
     pub cells: Cells,
     /// The stages' words.
-    pub lists: &'p [Row<Word>],
+    pub lists: &'p Lists,
     /// How many of each stage's words are taken; of the pace's stage, how many were when it was left last.
     pub taken: Row<usize>,
     pub stores: Log<StoreOf>,

@@ -5,10 +5,11 @@ ghost use Rattle.dp_commit.specs.FlatJudge.{walk_begin};
 ghost use Rattle.dp_commit.specs.Held.{IsAt, memory_before, state_of};
 ghost use Rattle.dp_commit.specs.Judging.{IsCourt, Judged};
 
-use crate::assuming::{list_of, put};
+use crate::assuming::put;
 use crate::court::{Answer, Court, Pace, Rows, Walk};
 use crate::log::Log;
-use dp_base::{Cells, NoMemory, Row, Word};
+use dp_base::{Cells, NoMemory, Row};
+use dp_packet::Lists;
 use std::alloc::Global;
 use std::mem;
 
@@ -40,7 +41,7 @@ fn begin<'p>(
     alloc: Global,
     rows: &mut Rows,
     cells: Cells,
-    lists: &'p [Row<Word>],
+    lists: &'p Lists,
 ) -> Result<Walk<'p>, NoMemory>
     ensures state { IfOk result (λ walk. state_of walk ≡ walk_begin cells lists.now) }
     ensures at { IfOk result (λ walk. IsAt walk.pace walk) }
@@ -52,7 +53,7 @@ fn begin<'p>(
             steps: 0,
             closing: false,
             stage: 1,
-            words: list_of(lists, 1),
+            words: lists.of_stage(1),
             taken: 0,
         },
         cells,
@@ -70,7 +71,7 @@ pub fn judged<'c, 'p>(
     rows: &mut Rows,
     court: Court<'c>,
     cells: Cells,
-    lists: &'p [Row<Word>],
+    lists: &'p Lists,
 ) -> Result<(Walk<'p>, Answer), NoMemory>
     requires court { IsCourt court }
     ensures told { IfOk result (λ r. Judged court.entry.program.now court.entry.plan.now cells (judge_lists court.entry.program.now court.entry.plan.now court.entry.limit cells lists.now) (state_of r.0) r.1) }

@@ -5,7 +5,7 @@ ghost use Rattle.dp_semantics.specs.Words.{is_done_of};
 ghost use Rattle.dp_commit.specs.Held.{IsAt, state_at};
 ghost use Rattle.dp_commit.specs.Judging.{DoneAt, Finds, StandsBehind};
 
-use crate::assuming::{behind_loads, count_at, list_of, put_taken};
+use crate::assuming::{behind_loads, count_at, put_taken};
 use crate::court::{Court, Pace, Walk};
 use dp_base::{SiteId, Word, WordKind};
 
@@ -81,7 +81,7 @@ impl<'p> Walk<'p> {
             return false;
         }
         pace.taken = self.change(pace.stage, pace.taken, stage);
-        pace.words = list_of(self.lists, stage);
+        pace.words = self.lists.of_stage(stage);
         pace.stage = stage;
         true
     }

@@ -1,6 +1,7 @@
 //! An epoch whose units run in threads, and the caller as its commit unit.
-ghost use Rattle.std.specs.Prelude.{◌≡◌, ◌<◌, ◌≤◌, ◌+◌, ◌-◌, ◌^◌, IfOk};
+ghost use Rattle.std.specs.Prelude.{◌≡◌, ◌<◌, ◌≤◌, ◌+◌, ◌-◌, ◌^◌, Err, IfOk, OnErr};
 ghost use Rattle.dp_meaning.specs.MachineState.{MachineState};
+ghost use Rattle.dp_crew.specs.declared.fail.CrewFail.TheVariants as stopped;
 ghost use Rattle.dp_crew.specs.Applied.{HasRoom, left_of};
 ghost use Rattle.dp_crew.specs.Fail.{FaultsAfter};
 ghost use Rattle.dp_crew.specs.InEpoch.{BeginsAt, EpochEnds, ToBegin, left_by_epoch};
@@ -20,11 +21,12 @@ use std::alloc::Global;
 use std::sync::Wait;
 use std::thread;
 use std::thread::Threads;
+use std::time::Clock;
 
 /// Runs each unit in a thread, which waits by the bell at the unit's place, and commits what they give. When it is over the
 /// flag is set, and every thread has ended.
 #[tactic(auto, using(crate::proofs::WriteLemmas::front_nothing))]
-pub(crate) fn commit_in_threads<'p, 'u, R: Threads + Wait + Sync, K: Sink, G: Gate>(
+pub(crate) fn commit_in_threads<'p, 'u, R: Threads + Wait + Clock + Sync, K: Sink, G: Gate>(
     rt: &R,
     alloc: Global,
     units: Row<Unit<'u>>,
@@ -84,7 +86,7 @@ pub(crate) fn commit_in_threads<'p, 'u, R: Threads + Wait + Sync, K: Sink, G: Ga
             let end = commit_all(begun, rt, alloc, verdicts, ledger, lent_sink, lent_tally);
             setter.set(rt, stop);
             ring_all(bells);
-            join_all(rt, threads);
+            join_all(rt, &setter, threads);
             (lent_sink, lent_tally, end)
         },
     );
@@ -94,7 +96,7 @@ pub(crate) fn commit_in_threads<'p, 'u, R: Threads + Wait + Sync, K: Sink, G: Ga
 }
 
 /// Commits the epoch that begins behind the ledger, if its units were started.
-fn commit_all<'p, R: Wait, K: Sink>(
+fn commit_all<'p, R: Wait + Clock, K: Sink>(
     begun: Result<(), NoMemory>,
     rt: &R,
     alloc: Global,
@@ -107,6 +109,7 @@ fn commit_all<'p, R: Wait, K: Sink>(
     requires verdicts { BeginsAt verdicts.key verdicts.given ledger.committed }
     requires epoch { (first : MachineState) × ToBegin verdicts.key.program verdicts.key.plan verdicts.key.input first ledger.committed ledger.report }
     requires room { HasRoom tally.old ledger.committed }
+    ensures unstarted { OnErr begun (result ≡ Err stopped.NoMemory) }
     ensures faults { FaultsAfter result (K.faults sink.old) (K.faults sink.new) }
     ensures ok { IfOk result (λ r. (first : MachineState) → ToBegin verdicts.entry.key.program verdicts.entry.key.plan verdicts.entry.key.input first ledger.entry.committed ledger.entry.report →
         EpochEnds verdicts.entry.key.plan first r.0.committed r.0.report r.1) }

@@ -1,5 +1,5 @@
 //! One epoch: verdicts are taken, and clean iterations are committed in order.
-ghost use Rattle.std.specs.Prelude.{◌≡◌, ◌<◌, ◌≤◌, ◌+◌, ◌-◌, ◌^◌, ◌++◌, IfOk, OnOk};
+ghost use Rattle.std.specs.Prelude.{◌≡◌, ◌<◌, ◌≤◌, ◌+◌, ◌-◌, ◌^◌, ◌++◌, length, IfOk, OnOk};
 ghost use Rattle.dp_meaning.specs.MachineState.{MachineState};
 ghost use Rattle.dp_commit.specs.CommittedState.{CarriesNext, IsOpen};
 ghost use Rattle.dp_crew.specs.Applied.{Applied, HasRoom, left_of};
@@ -16,10 +16,11 @@ use dp_commit::{Clean, Committed, Tally, Verdict};
 use dp_edge::Sink;
 use std::alloc::Global;
 use std::sync::Wait;
+use std::time::Clock;
 
 /// Commits the iterations of an epoch as their verdicts come, and lets their prints wait or writes them, up to the region's
 /// end or the first iteration that isn't clean.
-pub fn run_epoch<'p, R: Wait, V: Verdicts, K: Sink>(
+pub fn run_epoch<'p, R: Wait + Clock, V: Verdicts, K: Sink>(
     rt: &R,
     alloc: Global,
     verdicts: &mut V,
@@ -78,6 +79,7 @@ fn commit<'p, K: Sink>(
     ensures faults { FaultsAfter result (K.faults sink.old) (K.faults sink.new) }
     ensures ok { OnOk result (Applied clean committed.old committed.new) }
     ensures tally { OnOk result (tally.new ≡ tally.old + 1) }
+    ensures few { OnOk result (length waiting.new < 4096) }
     ensures streams { Streams result (waiting.old ++ clean.prints) (λ _. waiting.new) (K.written sink.old) (K.written sink.new) }
 {
     wait(waiting, clean.prints())?;

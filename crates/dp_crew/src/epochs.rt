@@ -26,9 +26,10 @@ use dp_tree::Program;
 use std::alloc::Global;
 use std::sync::Wait;
 use std::thread::Threads;
+use std::time::Clock;
 
 /// Runs epochs until the region or the run ends.
-pub(crate) fn run_epochs<'p, R: Threads + Wait + Sync, K: Sink, G: Gate>(
+pub(crate) fn run_epochs<'p, R: Threads + Wait + Clock + Sync, K: Sink, G: Gate>(
     rt: &R,
     alloc: Global,
     p: &Program,

@@ -24,9 +24,10 @@ use dp_tree::Program;
 use std::alloc::Global;
 use std::sync::Wait;
 use std::thread::Threads;
+use std::time::Clock;
 
 /// Runs the plan's region, which comes next: writes its prints, and fills its report.
-pub fn run_region<'p, R: Threads + Wait + Sync, K: Sink, G: Gate>(
+pub fn run_region<'p, R: Threads + Wait + Clock + Sync, K: Sink, G: Gate>(
     rt: &R,
     alloc: Global,
     p: &'p Program,

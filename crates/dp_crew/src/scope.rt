@@ -24,10 +24,11 @@ use dp_tree::Program;
 use std::alloc::Global;
 use std::sync::Wait;
 use std::thread::Threads;
+use std::time::Clock;
 
 /// Runs the epoch that begins behind what is committed.
 #[tactic(auto, using(crate::proofs::WriteLemmas::front_nothing))]
-pub(crate) fn run_one_epoch<'p, R: Threads + Wait + Sync, K: Sink, G: Gate>(
+pub(crate) fn run_one_epoch<'p, R: Threads + Wait + Clock + Sync, K: Sink, G: Gate>(
     rt: &R,
     alloc: Global,
     p: &Program,

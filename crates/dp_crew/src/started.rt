@@ -1,6 +1,7 @@
 //! An epoch whose units were started, or weren't.
-ghost use Rattle.std.specs.Prelude.{◌≡◌, ◌<◌, ◌≤◌, ◌+◌, ◌-◌, ◌^◌, IfOk, OnOk};
+ghost use Rattle.std.specs.Prelude.{◌≡◌, ◌<◌, ◌≤◌, ◌+◌, ◌-◌, ◌^◌, Err, IfOk, OnErr, OnOk};
 ghost use Rattle.dp_meaning.specs.MachineState.{MachineState};
+ghost use Rattle.dp_crew.specs.declared.fail.CrewFail.TheVariants as stopped;
 ghost use Rattle.dp_crew.specs.Applied.{HasRoom, left_of};
 ghost use Rattle.dp_crew.specs.Fail.{FaultsAfter};
 ghost use Rattle.dp_crew.specs.InEpoch.{BeginsAt, EpochEnds, ToBegin, left_by_epoch};
@@ -15,10 +16,11 @@ use dp_commit::{Committed, Tally};
 use dp_edge::Sink;
 use std::alloc::Global;
 use std::sync::Wait;
+use std::time::Clock;
 
 /// Commits the iterations of the epoch that begins behind what is committed, as the verdicts come, if its units were started.
 #[tactic(auto, using(crate::proofs::WriteLemmas::front_nothing))]
-pub(crate) fn commit_started<'p, R: Wait, V: Verdicts, K: Sink>(
+pub(crate) fn commit_started<'p, R: Wait + Clock, V: Verdicts, K: Sink>(
     started: Result<(), NoMemory>,
     rt: &R,
     alloc: Global,
@@ -33,6 +35,7 @@ pub(crate) fn commit_started<'p, R: Wait, V: Verdicts, K: Sink>(
     requires verdicts { BeginsAt (V.key verdicts.old) (V.given verdicts.old) committed.old }
     requires epoch { (first : MachineState) × ToBegin (V.key verdicts.old).program (V.key verdicts.old).plan (V.key verdicts.old).input first committed.old report.old }
     requires room { HasRoom tally.old committed.old }
+    ensures unstarted { OnErr started (result ≡ Err stopped.NoMemory) }
     ensures faults { FaultsAfter result (K.faults sink.old) (K.faults sink.new) }
     ensures ok { IfOk result (λ end. (first : MachineState) → ToBegin (V.key verdicts.old).program (V.key verdicts.old).plan (V.key verdicts.old).input first committed.old report.old →
         EpochEnds (V.key verdicts.old).plan first committed.new report.new end) }

@@ -1,10 +1,14 @@
 //! The threads of an epoch's units.
+ghost use Rattle.std.specs.Prelude.{◌≡◌, true};
+
 use dp_base::{NoMemory, Row};
 use dp_edge::Gate;
 use dp_pipeline::{Bell, Pause, Polled, Unit};
+use dp_stop::StopSetter;
 use std::alloc::Global;
 use std::sync::{Mutex, Wait};
 use std::thread::{JoinHandle, Scope, Threads};
+use std::time::Clock;
 
 /// A unit lies here until its thread, or the caller, takes it out.
 pub(crate) type Slot<'u> = Mutex<Option<Unit<'u>>>;
@@ -35,7 +39,7 @@ pub(crate) fn slots_of<'u>(alloc: Global, units: Row<Unit<'u>>) -> Result<Vec<Sl
 
 /// Starts a thread for each slot, which waits by the bell at its place. A unit whose thread couldn't be started is the
 /// caller's own.
-pub(crate) fn start<'s, 'u, E, R: Wait + Sync, G: Gate>(
+pub(crate) fn start<'s, 'u, E, R: Wait + Clock + Sync, G: Gate>(
     scope: &Scope<'s, E>,
     rt: &'s R,
     slots: &'s [Slot<'u>],
@@ -53,7 +57,7 @@ pub(crate) fn start<'s, 'u, E, R: Wait + Sync, G: Gate>(
 }
 
 /// Starts a thread for the slot, if one can be started.
-fn start_one<'s, 'u, E, R: Wait + Sync, G: Gate>(
+fn start_one<'s, 'u, E, R: Wait + Clock + Sync, G: Gate>(
     scope: &Scope<'s, E>,
     rt: &'s R,
     slot: &'s Slot<'u>,
@@ -70,8 +74,10 @@ fn start_one<'s, 'u, E, R: Wait + Sync, G: Gate>(
     }
 }
 
-/// Waits until each thread has ended.
-pub(crate) fn join_all<R: Threads>(rt: &R, threads: Vec<JoinHandle<()>>) {
+/// Waits until each thread has ended, which those do that the flag was set for.
+pub(crate) fn join_all<R: Threads>(rt: &R, setter: &StopSetter, threads: Vec<JoinHandle<()>>)
+    requires { setter.now.set ≡ true }
+{
     for thread in threads {
         thread.join(rt);
     }
@@ -86,7 +92,7 @@ fn keep<'u, R: Wait>(rt: &R, slot: &Slot<'u>, started: &mut Started<'u>) -> Resu
 }
 
 /// What a unit's thread does: it polls the unit until it has ended.
-fn run_unit<R: Wait, G: Gate>(rt: &R, slot: &Slot<'_>, mut pause: Pause<'_>, gate: &G) {
+fn run_unit<R: Wait + Clock, G: Gate>(rt: &R, slot: &Slot<'_>, mut pause: Pause<'_>, gate: &G) {
     let Some(mut unit) = take_unit(rt, slot) else {
         return;
     };

@@ -8,6 +8,7 @@ ghost use Rattle.dp_commit.specs.Told.{decided};
 use dp_commit::Verdict;
 use dp_pipeline::LaneVerdicts;
 use std::sync::Wait;
+use std::time::Clock;
 
 /// The verdicts on the iterations of one epoch, in order.
 pub trait Verdicts {
@@ -18,7 +19,7 @@ pub trait Verdicts {
     ghost given: { Self → ℕ };
 
     /// The verdict on the next iteration. There is none after one that isn't Clean or that closes the region.
-    fn next<R: Wait>(&mut self, rt: &R) -> Verdict
+    fn next<R: Wait + Clock>(&mut self, rt: &R) -> Verdict
         requires { (n : ℕ) → n < given self.old → goes_on (verdict_at (key self.old) n) ≡ true }
         ensures verdict { OrWanting (verdict_at (key self.old) (given self.old)) (decided result) }
         ensures key { key self.new ≡ key self.old }
@@ -30,7 +31,7 @@ impl<'u> Verdicts for LaneVerdicts<'u> {
 
     ghost given = { λ v. v.given };
 
-    fn next<R: Wait>(&mut self, rt: &R) -> Verdict {
+    fn next<R: Wait + Clock>(&mut self, rt: &R) -> Verdict {
         LaneVerdicts::next(self, rt)
     }
 }

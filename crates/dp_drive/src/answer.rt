@@ -24,13 +24,14 @@ use dp_words::{RunWords, Task, asked};
 use std::alloc::Global;
 use std::sync::Wait;
 use std::thread::Threads;
+use std::time::Clock;
 
 /// Does all that the program does, and answers its exit status.
 ///
 /// The words are those after the program's name. Texts are read from the shelf, and everything is written to the sink;
 /// the gate is passed by the stages that run in threads. The tally counts the iterations that are committed from a
 /// pipeline.
-pub fn drive<R: Threads + Wait + Sync, S: Shelf, K: Sink, G: Gate>(
+pub fn drive<R: Threads + Wait + Clock + Sync, S: Shelf, K: Sink, G: Gate>(
     rt: &R,
     alloc: Global,
     words: &[String],
@@ -79,7 +80,7 @@ fn final_status(answered: Result<u8, CrewFail>) -> u8
 }
 
 /// The exit status, where all that it goes with was written.
-fn answer<R: Threads + Wait + Sync, S: Shelf, K: Sink, G: Gate>(
+fn answer<R: Threads + Wait + Clock + Sync, S: Shelf, K: Sink, G: Gate>(
     rt: &R,
     alloc: Global,
     words: &[String],
@@ -108,7 +109,7 @@ fn answer<R: Threads + Wait + Sync, S: Shelf, K: Sink, G: Gate>(
 }
 
 /// The exit status of a run.
-fn answer_run<R: Threads + Wait + Sync, S: Shelf, K: Sink, G: Gate>(
+fn answer_run<R: Threads + Wait + Clock + Sync, S: Shelf, K: Sink, G: Gate>(
     rt: &R,
     alloc: Global,
     run: RunWords,

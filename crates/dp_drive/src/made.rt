@@ -26,9 +26,10 @@ use dp_words::GenWords;
 use std::alloc::Global;
 use std::sync::Wait;
 use std::thread::Threads;
+use std::time::Clock;
 
 /// The exit status of a run of the made program. No text is read for it.
-pub fn answer_gen<R: Threads + Wait + Sync, K: Sink, G: Gate>(
+pub fn answer_gen<R: Threads + Wait + Clock + Sync, K: Sink, G: Gate>(
     rt: &R,
     alloc: Global,
     words: GenWords,
@@ -65,7 +66,7 @@ pub fn answer_gen<R: Threads + Wait + Sync, K: Sink, G: Gate>(
 }
 
 /// Writes the line of the words, and runs the program.
-fn run_made<R: Threads + Wait + Sync, K: Sink, G: Gate>(
+fn run_made<R: Threads + Wait + Clock + Sync, K: Sink, G: Gate>(
     rt: &R,
     alloc: Global,
     program: &Program,

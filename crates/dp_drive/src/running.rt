@@ -27,6 +27,7 @@ use dp_words::{PlanOptions, PlanSource, RunWords};
 use std::alloc::Global;
 use std::sync::Wait;
 use std::thread::Threads;
+use std::time::Clock;
 
 /// The texts that a run names: first the program, then the input, and then the plans.
 pub fn load<S: Shelf>(alloc: Global, run: RunWords, shelf: &mut S) -> Result<Texts, NoMemory>
@@ -103,7 +104,7 @@ fn load_given<S: Shelf>(
 }
 
 /// Runs the program to its end, and gives the status of that.
-pub fn run_to_end<R: Threads + Wait + Sync, K: Sink, G: Gate>(
+pub fn run_to_end<R: Threads + Wait + Clock + Sync, K: Sink, G: Gate>(
     rt: &R,
     alloc: Global,
     program: &Program,

@@ -111,12 +111,12 @@ impl Versioned {
         Ok(Versioned { cells, version })
     }
 
-    /// A version of the memory as it is now.
-    pub fn snapshot(&mut self) -> Result<Version, NoMemory>
+    /// A version of the memory as it is now, in the room of one that is spent, if there is one.
+    pub fn snapshot(&mut self, spent: Option<Version>) -> Result<Version, NoMemory>
         ensures ok { IfOk result (λ version. version ≡ self.old) }
         ensures same { self.new ≡ self.old }
     {
-        self.version.snapshot()
+        self.version.snapshot(spent)
     }
 
     /// Puts a number into a cell of both, if there is one.

@@ -1,6 +1,6 @@
 //! The expanded text and its tables while they are written.
 
-ghost use Rattle.std.specs.Prelude.{◌≡◌, ◌∷◌, [], IfOk, OnOk, option_copied};
+ghost use Rattle.std.specs.Prelude.{◌≡◌, ◌≤◌, ◌^◌, ◌∷◌, [], IfOk, OnErr, OnOk, length as length_of, option_copied, suc};
 ghost use Rattle.dp_calls.specs.Expand.{is_global};
 ghost use Rattle.dp_calls.specs.Tables.{next_site, scope_in};
 
@@ -26,7 +26,8 @@ pub struct Writer {
 
 /// A length as a number.
 fn count(length: usize) -> Result<u32, NoMemory>
-    ensures { IfOk result (λ n. n ≡ length) }
+    ensures value { IfOk result (λ n. n ≡ length) }
+    ensures many { OnErr result (2 ^ 32 ≤ length) }
 {
     u32::try_from(length).map_err(|_| NoMemory)
 }
@@ -145,7 +146,8 @@ impl Writer {
 
     /// The number of the next site.
     pub fn next(&self) -> Result<SiteId, NoMemory>
-        ensures { IfOk result (λ site. site ≡ next_site (written self.now).tables) }
+        ensures value { IfOk result (λ site. site ≡ next_site (written self.now).tables) }
+        ensures many { OnErr result (2 ^ 32 ≤ suc (length_of (written self.now).tables.sites)) }
     {
         let before = count(self.sites.len())?;
         Ok(SiteId(before.checked_add(1).ok_or(NoMemory)?))

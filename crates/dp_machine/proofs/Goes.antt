@@ -127,6 +127,12 @@ packet_sends f s key n cells packet sent memory low fits (is, one) comes going v
     let came = told (rw one refl) in
     (sent_so f s key n low is sent.status (packet_of sent) _ turn came.0, next_nothing f s key n low is sent.status one)
 
+-- what is sent, with another version to spare
+pub sends_so : (f : Frame) (s : ℕ) (kept : Kept) (key : packets.Epoch) (n : ℕ) (sent same : Packet) → same.status ≡ sent.status → packet_of same ≡ packet_of sent → Sends f s kept key n sent → Sends f s kept key n same
+sends_so f s kept key n sent same status said told =
+    subst (λ (st : PacketStatus). IsUnless st (packet_of same) (packets.passed key s n).packet × StandsNext st f s kept key n) (sym status)
+    (subst (λ (p : packets.Packet). IsUnless sent.status p (packets.passed key s n).packet) (sym said) told.0, told.1)
+
 -- a void packet goes through
 pub void_sends : (f : Frame) (s : ℕ) (kept : Kept) (key : packets.Epoch) (n : ℕ) (packet : Packet) (stage : ℕ) (why : VoidWhy) → 0 < s → packet.status ≡ state.Void stage why → Comes s key n packet → Sends f s kept key n packet
 void_sends f s kept key n packet stage why low e comes =

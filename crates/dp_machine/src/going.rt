@@ -6,6 +6,7 @@ ghost use Rattle.dp_semantics.specs.Packets as packets;
 ghost use Rattle.dp_code.specs.Code.{stage_code};
 ghost use Rattle.dp_packet.specs.declared.PacketStatus.TheVariants as state;
 ghost use Rattle.dp_machine.specs.declared.Kept.TheVariants as kept;
+ghost use Rattle.dp_packet.specs.Packet.{packet_of};
 ghost use Rattle.dp_machine.specs.Engine.{IsReady};
 ghost use Rattle.dp_machine.specs.Standing.{StandsAt, Comes, Sends, Keeps, cells_kept, versioned_kept};
 
@@ -77,7 +78,6 @@ fn keep_versioned(memory: Option<Versioned>) -> Kept
 
 /// By a stage before a sequential one.
 pub fn from_cells<'p>(
-    alloc: Global,
     frame: Frame<'p>,
     ready: &Ready<'p>,
     rows: &mut Rows,
@@ -93,14 +93,13 @@ pub fn from_cells<'p>(
     ensures sent { (key : packets.Epoch) (n : ℕ) → StandsAt frame.entry stage (kept.Cells cells) key n → Comes stage key n packet → Sends frame.entry stage result.1 key n result.0 }
     ensures number { result.0.iteration ≡ packet.iteration }
 {
-    let sent = send(alloc, frame, ready, rows, stage, cells, None, packet);
+    let sent = send(frame, ready, rows, stage, cells, None, packet);
     let next = cleared(frame, sent);
     (next.packet, keep_cells(next.memory))
 }
 
 /// By a stage before a replicated one: it sends along the memory as it was before the iteration.
 pub fn from_versioned<'p>(
-    alloc: Global,
     frame: Frame<'p>,
     ready: &Ready<'p>,
     rows: &mut Rows,
@@ -117,18 +116,11 @@ pub fn from_versioned<'p>(
     ensures number { result.0.iteration ≡ packet.iteration }
 {
     let mut both = both;
-    match both.snapshot() {
+    let mut packet = packet;
+    let spent = taken_spent(&mut packet);
+    match both.snapshot(spent) {
         Ok(version) => {
-            let sent = send(
-                alloc,
-                frame,
-                ready,
-                rows,
-                stage,
-                both,
-                Some(version),
-                packet,
-            );
+            let sent = send(frame, ready, rows, stage, both, Some(version), packet);
             let next = cleared(frame, sent);
             (next.packet, keep_versioned(next.memory))
         }
@@ -144,9 +136,28 @@ fn taken_version(packet: &mut Boxed<Packet>) -> Option<Version>
     packet.get_mut().version.take()
 }
 
+/// Takes the version out of the packet whose room may be used.
+fn taken_spent(packet: &mut Boxed<Packet>) -> Option<Version>
+    ensures said { packet_of packet.new ≡ packet_of packet.old }
+    ensures status { packet.new.status ≡ packet.old.status }
+    ensures number { packet.new.iteration ≡ packet.old.iteration }
+{
+    packet.get_mut().spent.take()
+}
+
+/// The packet, with a version whose room may be used.
+fn with_spent(packet: Boxed<Packet>, spent: Option<Version>) -> Boxed<Packet>
+    ensures said { packet_of result ≡ packet_of packet }
+    ensures status { result.status ≡ packet.status }
+    ensures number { result.iteration ≡ packet.iteration }
+{
+    let mut packet = packet;
+    packet.get_mut().spent = spent;
+    packet
+}
+
 /// By a replicated stage, from the version that the packet brings.
 pub fn from_packet<'p>(
-    alloc: Global,
     frame: Frame<'p>,
     ready: &Ready<'p>,
     rows: &mut Rows,
@@ -165,8 +176,8 @@ pub fn from_packet<'p>(
     let mut packet = packet;
     match taken_version(&mut packet) {
         Some(memory) => {
-            let sent = send(alloc, frame, ready, rows, stage, memory, None, packet);
-            (sent.packet, Kept::Nothing)
+            let sent = send(frame, ready, rows, stage, memory, None, packet);
+            (with_spent(sent.packet, sent.memory), Kept::Nothing)
         }
         None => (with_status(packet, PacketStatus::NoMemory), Kept::Nothing),
     }

@@ -6,7 +6,7 @@
 use dp_base::{Boxed, Cells, Row, SiteId, Word};
 use dp_code::Op;
 use dp_engine::Code;
-use dp_packet::{Cursor, Packet, VoidWhy};
+use dp_packet::{Cursors, Packet, VoidWhy};
 use dp_plan::Plan;
 use dp_tree::Program;
 
@@ -91,7 +91,7 @@ pub struct Turn<'p, M> {
     pub place: usize,
     pub memory: M,
     /// What is left of each earlier stage's words.
-    pub lists: Row<Cursor<'p>>,
+    pub lists: Cursors<'p>,
     pub teller: Teller,
     pub closing: bool,
 }

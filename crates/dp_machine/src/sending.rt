@@ -11,10 +11,9 @@ ghost use Rattle.dp_machine.specs.Sending.{AsTurned, IsSent, key_of};
 
 use crate::turning::{Rows, stage_turn};
 use crate::{Frame, Memory, Ready, Sent, Turned};
-use dp_base::{Boxed, Row, Word};
+use dp_base::{Boxed, Word};
 use dp_memory::Version;
 use dp_packet::{Packet, PacketStatus};
-use std::alloc::Global;
 
 /// The status of a packet that goes on after a turn.
 fn status_after(status: PacketStatus, closing: bool) -> PacketStatus
@@ -29,9 +28,9 @@ fn status_after(status: PacketStatus, closing: bool) -> PacketStatus
 }
 
 /// Adds what a turn that came to its end says.
-fn add(packet: &mut Packet, own: Row<Word>, closing: bool, version: Option<Version>)
+fn add(packet: &mut Packet, own: &[Word], closing: bool, version: Option<Version>)
     requires { packet.old.status ≡ state.Going ⊎ packet.old.status ≡ state.Closing }
-    ensures sent { IsUnless packet.new.status (packet_of packet.new) (record { lists = packet.old.lists ++ own ∷ []; status = packets.status_of (status_of packet.old.status) closing; version = version }) }
+    ensures sent { IsUnless packet.new.status (packet_of packet.new) (record { lists = packet.old.lists ++ own.now ∷ []; status = packets.status_of (status_of packet.old.status) closing; version = version }) }
     ensures number { packet.new.iteration ≡ packet.old.iteration }
 {
     match packet.lists.push(own) {
@@ -46,12 +45,12 @@ fn add(packet: &mut Packet, own: Row<Word>, closing: bool, version: Option<Versi
 /// The packet after a turn that came to its end.
 fn after_turn(
     packet: Boxed<Packet>,
-    own: Row<Word>,
+    own: &[Word],
     closing: bool,
     version: Option<Version>,
 ) -> Boxed<Packet>
     requires { packet.status ≡ state.Going ⊎ packet.status ≡ state.Closing }
-    ensures sent { IsUnless result.status (packet_of result) (record { lists = packet.lists ++ own ∷ []; status = packets.status_of (status_of packet.status) closing; version = version }) }
+    ensures sent { IsUnless result.status (packet_of result) (record { lists = packet.lists ++ own.now ∷ []; status = packets.status_of (status_of packet.status) closing; version = version }) }
     ensures number { result.iteration ≡ packet.iteration }
 {
     let mut packet = packet;
@@ -74,6 +73,7 @@ pub fn with_status(packet: Boxed<Packet>, status: PacketStatus) -> Boxed<Packet>
 
 /// What the turn makes of the packet.
 fn passed<M: Memory + Drop>(
+    rows: &mut Rows,
     packet: Boxed<Packet>,
     stage: u32,
     version: Option<Version>,
@@ -89,10 +89,14 @@ fn passed<M: Memory + Drop>(
             own,
             memory,
             closing,
-        } => Sent {
-            packet: after_turn(packet, own, closing, version),
-            memory: Some(memory),
-        },
+        } => {
+            let packet = after_turn(packet, own.as_slice(), closing, version);
+            rows.reuse(own);
+            Sent {
+                packet,
+                memory: Some(memory),
+            }
+        }
         Turned::Void(why) => Sent {
             packet: with_status(packet, PacketStatus::Void { stage, why }),
             memory: None,
@@ -106,7 +110,6 @@ fn passed<M: Memory + Drop>(
 
 /// What the stage sends, from this memory and with this version, for a packet that goes on.
 pub fn send<'p, M: Memory + Drop>(
-    alloc: Global,
     frame: Frame<'p>,
     ready: &Ready<'p>,
     rows: &mut Rows,
@@ -123,13 +126,6 @@ pub fn send<'p, M: Memory + Drop>(
         IsSent M.cells (packets.run_on (key_of frame.entry base) stage (M.cells memory) (packet_of packet)) result.packet result.memory }
     ensures number { result.packet.iteration ≡ packet.iteration }
 {
-    let left = stage_turn(
-        alloc,
-        frame,
-        ready,
-        rows,
-        memory,
-        packet.get().lists.as_slice(),
-    );
-    passed(packet, stage, version, left)
+    let left = stage_turn(frame, ready, rows, memory, &packet.get().lists);
+    passed(rows, packet, stage, version, left)
 }

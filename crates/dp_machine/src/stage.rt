@@ -11,7 +11,7 @@ use crate::going::{from_cells, from_packet, from_versioned, kept_at_base};
 use crate::making::make_ready;
 use crate::turning::Rows;
 use crate::{Frame, Kept, Ready};
-use dp_base::{Boxed, Cells, NoMemory, Row, Word};
+use dp_base::{Boxed, Cells, NoMemory};
 use dp_code::StageProgram;
 use dp_packet::{Packet, PacketStatus};
 use dp_plan::Plan;
@@ -22,7 +22,6 @@ use std::mem;
 /// A stage's machine. It runs the stage's code on one packet after the other.
 #[derive(Drop)]
 pub struct StageMachine<'p> {
-    alloc: Global,
     frame: Frame<'p>,
     ready: Ready<'p>,
     /// From 1.
@@ -47,15 +46,6 @@ fn first_site_of(p: &Program, plan: &Plan) -> u32
         Some(info) => info.first.0,
         None => 0,
     }
-}
-
-/// Takes out a row whose room may be used.
-fn spare_row(packet: &mut Boxed<Packet>) -> Option<Row<Word>>
-    ensures said { packet_of packet.new ≡ packet_of packet.old }
-    ensures status { packet.new.status ≡ packet.old.status }
-    ensures number { packet.new.iteration ≡ packet.old.iteration }
-{
-    packet.get_mut().spare.pop()
 }
 
 impl<'p> StageMachine<'p> {
@@ -92,7 +82,6 @@ impl<'p> StageMachine<'p> {
         };
         let ready = make_ready(alloc, frame)?;
         Ok(StageMachine {
-            alloc,
             frame,
             ready,
             stage,
@@ -117,20 +106,8 @@ impl<'p> StageMachine<'p> {
         }
     }
 
-    /// What the stage sends for a packet that goes on. Its words take over the room of a row that is to spare.
+    /// What the stage sends for a packet that goes on.
     fn go(&mut self, packet: Boxed<Packet>) -> Boxed<Packet>
-        requires going { packet.status ≡ state.Going ⊎ packet.status ≡ state.Closing }
-        ensures sent { (key : packets.Epoch) (n : ℕ) → Stands self.old key n → packet_of packet ≡ (packets.passed key (self.old.stage - 1) n).packet → Passes self.new key n result }
-        ensures stage { self.new.stage ≡ self.old.stage }
-        ensures number { result.iteration ≡ packet.iteration }
-    {
-        let mut packet = packet;
-        self.rows.reuse(spare_row(&mut packet));
-        self.pass(packet)
-    }
-
-    /// The same, in the rows that it has.
-    fn pass(&mut self, packet: Boxed<Packet>) -> Boxed<Packet>
         requires going { packet.status ≡ state.Going ⊎ packet.status ≡ state.Closing }
         ensures sent { (key : packets.Epoch) (n : ℕ) → Stands self.old key n → packet_of packet ≡ (packets.passed key (self.old.stage - 1) n).packet → Passes self.new key n result }
         ensures stage { self.new.stage ≡ self.old.stage }
@@ -139,7 +116,6 @@ impl<'p> StageMachine<'p> {
         let kept = mem::replace(&mut self.kept, Kept::Nothing);
         let (sent, next) = match kept {
             Kept::Cells(cells) => from_cells(
-                self.alloc,
                 self.frame,
                 &self.ready,
                 &mut self.rows,
@@ -148,7 +124,6 @@ impl<'p> StageMachine<'p> {
                 packet,
             ),
             Kept::Versioned(both) => from_versioned(
-                self.alloc,
                 self.frame,
                 &self.ready,
                 &mut self.rows,
@@ -157,7 +132,6 @@ impl<'p> StageMachine<'p> {
                 packet,
             ),
             Kept::Nothing => from_packet(
-                self.alloc,
                 self.frame,
                 &self.ready,
                 &mut self.rows,

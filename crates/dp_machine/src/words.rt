@@ -1,5 +1,5 @@
 //! The words of a site, made and found.
-ghost use Rattle.std.specs.Prelude.{◌≡◌, ◌+◌, ◌++◌, ◌∷◌, [], length, true, false};
+ghost use Rattle.std.specs.Prelude.{◌≡◌, ◌≤◌, ◌+◌, ◌++◌, ◌∷◌, [], length, drop, true, false};
 ghost use Rattle.dp_machine.specs.Engine.{tells, Added, Took};
 ghost use Rattle.dp_semantics.specs.Words.{word_list, after_loads_of};
 ghost use Rattle.dp_packet.specs.declared.VoidWhy.TheVariants as why;
@@ -7,7 +7,7 @@ ghost use Rattle.dp_packet.specs.declared.VoidWhy.TheVariants as why;
 use crate::{Answer, Teller};
 use dp_base::{NoMemory, Row, SiteId, Word, WordKind};
 use dp_engine::Watch;
-use dp_packet::{Cursor, VoidWhy};
+use dp_packet::{Cursors, VoidWhy};
 
 impl Teller {
     /// The word of a load.
@@ -83,10 +83,11 @@ fn begins_with_load(words: &[Word], site: SiteId) -> bool
     }
 }
 
-/// The words after the site's loads at the front.
+/// How many loads of the site's stand at the front.
 #[inline(never)]
-fn behind_loads<'w>(words: &'w [Word], site: SiteId) -> &'w [Word]
-    ensures { result.now ≡ after_loads_of site.0 words.now }
+fn count_loads(words: &[Word], site: SiteId) -> usize
+    ensures within { result ≤ length words.now }
+    ensures rest { drop result words.now ≡ after_loads_of site.0 words.now }
 {
     let mut i = 0;
     while i < words.len() {
@@ -96,48 +97,33 @@ fn behind_loads<'w>(words: &'w [Word], site: SiteId) -> &'w [Word]
         }
         i += 1;
     }
-    &words[i..]
+    i
 }
 
 /// The same. Mostly there are none.
 #[inline(always)]
-fn after_loads<'w>(words: &'w [Word], site: SiteId) -> &'w [Word]
-    ensures { result.now ≡ after_loads_of site.0 words.now }
+fn loads(words: &[Word], site: SiteId) -> usize
+    ensures within { result ≤ length words.now }
+    ensures rest { drop result words.now ≡ after_loads_of site.0 words.now }
 {
     if !begins_with_load(words, site) {
-        return words;
+        return 0;
     }
-    behind_loads(words, site)
-}
-
-/// What is left of a stage's words; stages count from 1.
-#[inline(always)]
-fn list_of<'p>(lists: &[Cursor<'p>], stage: u32) -> &'p [Word]
-    ensures { result.now ≡ word_list lists.now stage }
-{
-    if stage == 0 {
-        return &[];
-    }
-    match lists.get(stage as usize - 1) {
-        Some(cursor) => cursor.rest(),
-        None => &[],
-    }
+    count_loads(words, site)
 }
 
 /// The word of what a site did is taken from its stage's list.
 #[inline(always)]
-pub fn take<'p>(lists: &mut Row<Cursor<'p>>, stage: u32, site: SiteId) -> Result<Word, VoidWhy>
+pub fn take<'p>(lists: &mut Cursors<'p>, stage: u32, site: SiteId) -> Result<Word, VoidWhy>
     ensures { Took stage lists.old site lists.new result }
 {
-    let words = after_loads(list_of(lists.as_slice(), stage), site);
-    match words.first() {
+    let words = lists.of_stage(stage);
+    let count = loads(words, site);
+    match words.get(count) {
         None => Err(astray(site, None)),
         Some(word) => {
             if word.site.0 == site.0 && word.kind == WordKind::Done {
-                let place = (stage as usize).saturating_sub(1);
-                if place < lists.len() {
-                    lists.set(place, Cursor::over(&words[1..]));
-                }
+                lists.pass(stage, count + 1);
                 Ok(*word)
             } else {
                 Err(astray(site, Some(*word)))

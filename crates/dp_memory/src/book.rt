@@ -17,6 +17,16 @@ pub(crate) struct Book {
     pub(crate) last: Vec<i64>,
 }
 
+/// A vector of these items, in this room.
+fn filled(room: Vec<i64>, items: &[i64]) -> Result<Vec<i64>, NoMemory>
+    ensures { IfOk result (λ made. made.items ≡ items.now) }
+{
+    let mut made = room;
+    made.clear();
+    made.extend_from_slice(items)?;
+    Ok(made)
+}
+
 impl Book {
     ghost use Rattle.dp_memory.specs.Pieces.{HasCell, with_cell, joined, InPieces};
     ghost use Rattle.dp_memory.specs.Book.{book_pages, IsBook, IsOwnAt, lends_page};
@@ -113,15 +123,15 @@ impl Book {
         }
     }
 
-    /// Another book with the same pages.
-    pub(crate) fn share(&mut self, alloc: Global) -> Result<Book, NoMemory>
+    /// Another book with the same pages. Its last page takes over this room.
+    pub(crate) fn share(&mut self, alloc: Global, room: Vec<i64>) -> Result<Book, NoMemory>
         requires { IsBook self.old }
         ensures ok { IfOk result (λ other. IsBook other × (book_pages other ≡ book_pages self.old)) }
         ensures book { IsBook self.new }
         ensures same { book_pages self.new ≡ book_pages self.old }
     {
         let table = self.table.share(alloc)?;
-        let last = Vec::from_slice(alloc, self.last.as_slice())?;
+        let last = filled(room, self.last.as_slice())?;
         Ok(Book {
             table,
             before: self.before,

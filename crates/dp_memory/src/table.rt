@@ -100,11 +100,17 @@ impl Table {
         group::numbered_page_mut(&mut self.groups, number)
     }
 
-    /// Another table that shares the pages.
+    /// Another table that shares the pages. Where there are none, as in a small program, it is an empty one of its own, so
+    /// that no counter is shared.
     pub(crate) fn share(&mut self, alloc: Global) -> Result<Table, NoMemory>
         ensures ok { IfOk result (λ other. groups_of other.groups ≡ groups_of self.old.groups) }
         ensures same { groups_of self.new.groups ≡ groups_of self.old.groups }
     {
+        if self.groups.as_slice().is_empty() {
+            return Ok(Table {
+                groups: Piece::of(Vec::new(alloc)),
+            });
+        }
         group::freeze_all(&mut self.groups.own, alloc)?;
         let groups = self.groups.share(alloc)?;
         Ok(Table { groups })

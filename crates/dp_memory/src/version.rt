@@ -44,6 +44,14 @@ fn at(page: &[i64], place: usize) -> Option<i64>
     page.get(place).copied()
 }
 
+/// The room of a version's last page, if there is one. What else the version holds is given back.
+fn room_of(alloc: Global, spent: Option<Version>) -> Vec<i64> {
+    match spent {
+        Some(version) => version.book.last,
+        None => Vec::new(alloc),
+    }
+}
+
 impl Version {
     /// A version that holds these numbers.
     pub fn of(alloc: Global, cells: &Cells) -> Result<Version, NoMemory>
@@ -139,12 +147,14 @@ impl Version {
         }
     }
 
-    /// Another version with the same numbers, which shares the pages. The version keeps its numbers, also at `Err`.
-    pub fn snapshot(&mut self) -> Result<Version, NoMemory>
+    /// Another version with the same numbers, which shares the pages, in the room of one that is spent, if there is one. The
+    /// version keeps its numbers, also at `Err`.
+    pub fn snapshot(&mut self, spent: Option<Version>) -> Result<Version, NoMemory>
         ensures ok { IfOk result (λ other. other ≡ self.old) }
         ensures same { self.new ≡ self.old }
     {
-        let book = self.book.share(self.alloc)?;
+        let room = room_of(self.alloc, spent);
+        let book = self.book.share(self.alloc, room)?;
         Ok(Version {
             alloc: self.alloc,
             book,

@@ -1,13 +1,16 @@
 //! Packets: what the stages of a plan have said of an iteration so far.
 #![tactic(auto)]
 
-use dp_base::{Fault, Row, SiteId, Word};
+use dp_base::{Fault, SiteId, Word};
 use dp_memory::Version;
 
-mod cursor;
+mod cursors;
+mod lists;
 mod renewing;
+mod span;
 
-pub use cursor::Cursor;
+pub use cursors::{CursorRoom, Cursors};
+pub use lists::Lists;
 
 /// Why a stage's turn broke off.
 #[derive(Clone, Copy)]
@@ -34,10 +37,10 @@ pub enum PacketStatus {
 #[derive(Drop)]
 pub struct Packet {
     pub iteration: u64,
-    pub lists: Row<Row<Word>>,
+    pub lists: Lists,
     pub status: PacketStatus,
     /// The memory that a replicated stage behind starts from.
     pub version: Option<Version>,
-    /// Rows whose room the next lists take over. What they hold means nothing.
-    pub spare: Row<Row<Word>>,
+    /// A version whose room another one may take over. What it holds means nothing.
+    pub spent: Option<Version>,
 }

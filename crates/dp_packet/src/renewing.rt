@@ -4,10 +4,8 @@ ghost use Rattle.dp_semantics.specs.Packets as packets;
 ghost use Rattle.dp_packet.specs.Packet.{packet_of};
 ghost use Rattle.dp_packet.specs.declared.PacketStatus.TheVariants as state;
 
-use crate::{Packet, PacketStatus};
-use dp_base::Row;
+use crate::{Lists, Packet, PacketStatus};
 use std::alloc::Global;
-use std::mem;
 
 impl Packet {
     /// The packet of an iteration of which nothing was said.
@@ -18,23 +16,20 @@ impl Packet {
     {
         Packet {
             iteration,
-            lists: Row::new(alloc),
+            lists: Lists::new(alloc),
             status: PacketStatus::Going,
             version: None,
-            spare: Row::new(alloc),
+            spent: None,
         }
     }
 
-    /// It becomes the packet of this iteration, of which nothing was said. The room of its lists is for the next ones.
-    pub fn renew(&mut self, alloc: Global, iteration: u64)
+    /// It becomes the packet of this iteration, of which nothing was said. Its room is for what is said next.
+    pub fn renew(&mut self, iteration: u64)
         ensures number { self.new.iteration ≡ iteration }
         ensures status { self.new.status ≡ state.Going }
         ensures said { packet_of self.new ≡ record { lists = []; status = packets.Going; version = None } }
     {
-        let spare = mem::replace(&mut self.lists, Row::new(alloc));
-        let mut lists = mem::replace(&mut self.spare, spare);
-        lists.clear();
-        self.lists = lists;
+        self.lists.clear();
         self.iteration = iteration;
         self.status = PacketStatus::Going;
         self.version = None;

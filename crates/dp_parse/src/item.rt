@@ -1,6 +1,7 @@
 //! Declarations at file scope, `main`, and the whole program.
 
-ghost use Rattle.std.specs.Prelude.{◌≡◌};
+ghost use Rattle.std.specs.Prelude.{◌≡◌, ◌≢◌, Err};
+ghost use Rattle.dp_tokens.specs.declared.error.ParseError.TheVariants as error;
 ghost use Rattle.dp_tokens.specs.Steps.{Reads};
 ghost use Rattle.dp_parse.specs.descent.Programs as spec;
 
@@ -14,7 +15,8 @@ use std::alloc::Global;
 /// The start value after a `=`, with its sign.
 #[tactic(auto, unfolding(crate::specs::descent::Programs::start))]
 fn start(tokens: &mut Tokens<'_, '_>) -> Result<i64, ParseError>
-    ensures { Reads (spec.start tokens.old) result tokens.new }
+    ensures reads { Reads (spec.start tokens.old) result tokens.new }
+    ensures decides { result ≢ Err error.NoMemory }
 {
     if tokens.eat(Symbol::Minus) {
         return negated(number(tokens)?).ok_or(ParseError::Refused);
@@ -44,7 +46,8 @@ fn variable(alloc: Global, tokens: &mut Tokens<'_, '_>) -> Result<RawItem, Parse
 /// An array's length in its brackets.
 #[tactic(auto, unfolding(crate::specs::descent::Programs::array))]
 fn array(tokens: &mut Tokens<'_, '_>, name: Name) -> Result<RawItem, ParseError>
-    ensures { Reads (spec.array name tokens.old) result tokens.new }
+    ensures reads { Reads (spec.array name tokens.old) result tokens.new }
+    ensures decides { result ≢ Err error.NoMemory }
 {
     tokens.expect(Symbol::OpenBracket)?;
     if sees_zero(tokens) {
@@ -112,7 +115,8 @@ fn top(alloc: Global, tokens: &mut Tokens<'_, '_>) -> Result<RawStmt, ParseError
 /// A `return 0;` or nothing.
 #[tactic(auto, unfolding(crate::specs::descent::Programs::returned))]
 fn returned(tokens: &mut Tokens<'_, '_>) -> Result<(), ParseError>
-    ensures { Reads (spec.returned tokens.old) result tokens.new }
+    ensures reads { Reads (spec.returned tokens.old) result tokens.new }
+    ensures decides { result ≢ Err error.NoMemory }
 {
     if !tokens.eat(Symbol::Return) {
         return Ok(());
@@ -128,7 +132,8 @@ fn returned(tokens: &mut Tokens<'_, '_>) -> Result<(), ParseError>
 /// The end of `main`, with its brace.
 #[tactic(auto, unfolding(crate::specs::descent::Programs::end))]
 fn end(tokens: &mut Tokens<'_, '_>) -> Result<(), ParseError>
-    ensures { Reads (spec.end tokens.old) result tokens.new }
+    ensures reads { Reads (spec.end tokens.old) result tokens.new }
+    ensures decides { result ≢ Err error.NoMemory }
 {
     returned(tokens)?;
     tokens.expect(Symbol::CloseBrace)?;

@@ -16,6 +16,7 @@ mod keys;
 mod making;
 mod offer;
 mod passage;
+mod patience;
 mod pause;
 mod pipeline;
 mod polled;

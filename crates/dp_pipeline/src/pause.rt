@@ -3,10 +3,12 @@ ghost use Rattle.std.specs.Prelude.{◌≡◌, ◌<◌, ◌⊎◌};
 
 use crate::bell::Bell;
 use crate::beside::{after, before};
+use crate::patience::Patience;
 use crossbeam_utils::Backoff;
 use std::sync::Wait;
+use std::time::Clock;
 
-/// So often a thread spins before it sleeps.
+/// So often a thread spins before it lets others run.
 const SPINS: u32 = 4;
 
 /// The threads beside are woken once for so many items.
@@ -15,8 +17,7 @@ const ITEMS: u32 = 32;
 /// Workers of one stage take from one side of a ring together, so that each wakes the threads beside sooner.
 const WORKERS_ITEMS: u32 = 16;
 
-/// The waiting of one thread between two polls. A thread that waits long sleeps: where other programs run, a yield costs a
-/// whole slice.
+/// The waiting of one thread between two polls. A thread that waits long sleeps.
 #[derive(Drop)]
 pub struct Pause<'b> {
     /// What wakes the thread. Without it nobody does, and it never sleeps.
@@ -26,7 +27,10 @@ pub struct Pause<'b> {
     /// What wakes the threads that it sends to.
     after: &'b [Bell],
     backoff: Backoff,
-    /// How many pauses there were since an item moved.
+    patience: Patience,
+    /// Its own bell is awaited.
+    is_awaiting: bool,
+    /// How often it spun since an item moved.
     pauses: u32,
     /// How many items moved since the threads beside were rung.
     items: u32,
@@ -45,6 +49,8 @@ impl<'b> Pause<'b> {
             before: before(bells, place),
             after: after(bells, place),
             backoff: Backoff::new(),
+            patience: Patience::new(),
+            is_awaiting: false,
             pauses: 0,
             items: 0,
             most: most_of(own),
@@ -64,9 +70,10 @@ impl<'b> Pause<'b> {
         }
     }
 
-    /// Nothing moved. At first the thread spins, a little longer each time. Then it lets one more poll pass with its bell
-    /// awaited, so that it is rung for what comes behind that poll, and sleeps.
-    pub fn wait<R: Wait>(&mut self, rt: &R)
+    /// Nothing moved. At first the thread spins, a little longer each time, and then it lets others run, as long as that is
+    /// quick. Then it lets one more poll pass with its bell awaited, so that it is rung for what comes behind that poll, and
+    /// sleeps.
+    pub fn wait<R: Wait + Clock>(&mut self, rt: &R)
         ensures items { self.new.items ≡ 0 }
         ensures most { self.new.most ≡ self.old.most }
     {
@@ -97,18 +104,28 @@ impl<'b> Pause<'b> {
         }
     }
 
-    fn wait_by<R: Wait>(&mut self, rt: &R, bell: &Bell)
+    fn wait_by<R: Wait + Clock>(&mut self, rt: &R, bell: &Bell)
         ensures { (self.new.items ≡ self.old.items) × (self.new.most ≡ self.old.most) }
     {
         if self.pauses < SPINS {
             self.pauses += 1;
             self.backoff.spin();
-        } else if self.pauses == SPINS {
-            self.pauses += 1;
-            bell.await_ring();
-        } else {
+        } else if !self.patience.give_way(rt) {
+            self.sleep_by(rt, bell);
+        }
+    }
+
+    /// The first time the bell is awaited, and then it is slept by.
+    fn sleep_by<R: Wait>(&mut self, rt: &R, bell: &Bell)
+        ensures { (self.new.items ≡ self.old.items) × (self.new.most ≡ self.old.most) }
+    {
+        if self.is_awaiting {
             bell.sleep(rt);
             self.wake();
+        } else {
+            self.is_awaiting = true;
+            self.patience.rest();
+            bell.await_ring();
         }
     }
 
@@ -117,15 +134,18 @@ impl<'b> Pause<'b> {
         ensures pauses { self.new.pauses ≡ 0 }
         ensures items { (self.new.items ≡ self.old.items) × (self.new.most ≡ self.old.most) }
     {
-        if self.pauses > SPINS {
+        if self.pauses == 0 {
+            return;
+        }
+        if self.is_awaiting {
+            self.is_awaiting = false;
             if let Some(bell) = self.own {
                 bell.leave();
             }
         }
-        if self.pauses > 0 {
-            self.pauses = 0;
-            self.backoff.reset();
-        }
+        self.pauses = 0;
+        self.backoff.reset();
+        self.patience.renew();
     }
 }
 

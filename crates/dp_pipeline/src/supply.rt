@@ -48,7 +48,7 @@ impl Supply {
             return None;
         }
         if let Some(Spare { packet }) = self.spares.take(rt) {
-            return Some(renewed(self.alloc, packet, iteration));
+            return Some(renewed(packet, iteration));
         }
         match Boxed::new(self.alloc, Packet::empty(self.alloc, iteration)) {
             Ok(packet) => Some(packet),
@@ -71,11 +71,11 @@ impl Supply {
 }
 
 /// The packet, which becomes that of an iteration.
-fn renewed(alloc: Global, packet: Boxed<Packet>, iteration: u64) -> Boxed<Packet>
+fn renewed(packet: Boxed<Packet>, iteration: u64) -> Boxed<Packet>
     ensures number { result.iteration ≡ iteration }
     ensures said { packet_of result ≡ record { lists = []; status = packets.Going; version = None } }
 {
     let mut packet = packet;
-    packet.get_mut().renew(alloc, iteration);
+    packet.get_mut().renew(iteration);
     packet
 }

@@ -12,6 +12,7 @@ use dp_packet::Packet;
 use std::alloc::Global;
 use std::marker::Model;
 use std::sync::Wait;
+use std::time::Clock;
 
 /// The end of the verdict lane, and the units that no thread runs.
 pub struct LaneVerdicts<'u> {
@@ -104,7 +105,7 @@ impl<'u> LaneVerdicts<'u> {
     }
 
     /// The verdict on the next iteration. There is none after one that isn't Clean or that closes the region.
-    pub fn next<R: Wait>(&mut self, rt: &R) -> Verdict
+    pub fn next<R: Wait + Clock>(&mut self, rt: &R) -> Verdict
         requires { (n : ℕ) → n < self.old.given → goes_on (verdict_at self.old.key n) ≡ true }
         ensures verdict { OrWanting (verdict_at self.old.key self.old.given) (decided result) }
         ensures key { self.new.key ≡ self.old.key }
@@ -150,7 +151,7 @@ impl<'u> LaneVerdicts<'u> {
     }
 
     /// Polls each unit that has no thread, and waits a little where none of them moved.
-    fn poll_own<R: Wait>(&mut self, rt: &R)
+    fn poll_own<R: Wait + Clock>(&mut self, rt: &R)
         ensures { self.new ≡ self.old }
     {
         if poll_all(rt, &mut self.own) {

@@ -17,9 +17,10 @@ use dp_tree::Program;
 use std::alloc::Global;
 use std::sync::Wait;
 use std::thread::Threads;
+use std::time::Clock;
 
 /// Runs all parts, up to the run's end. The reports are those of the regions that are reached.
-pub(crate) fn run_parts<'p, R: Threads + Wait + Sync, K: Sink, G: Gate>(
+pub(crate) fn run_parts<'p, R: Threads + Wait + Clock + Sync, K: Sink, G: Gate>(
     rt: &R,
     alloc: Global,
     program: &'p Program,

@@ -1,5 +1,5 @@
 //! A plain part of `main`: its statements up to the next region or the end.
-ghost use Rattle.std.specs.Prelude.{◌≡◌, ◌<◌, ◌-◌, ◌^◌, ◌++◌, List, ℤ, ℕ, IfOk};
+ghost use Rattle.std.specs.Prelude.{◌≡◌, ◌<◌, ◌-◌, ◌^◌, ◌++◌, List, ℤ, ℕ, length, IfOk, OnOk};
 ghost use Rattle.dp_tree.specs.declared.Program.{Program as Tree};
 ghost use Rattle.dp_meaning.specs.declared.ends.Part.TheVariants.{Plain};
 ghost use Rattle.dp_meaning.specs.MachineState.{next_part};
@@ -71,6 +71,7 @@ fn go_on<'p, K: Sink>(
     requires part { next_part machine.old ≡ Plain }
     ensures faults { FaultsAfter result (K.faults sink.old) (K.faults sink.new) }
     ensures ok { IfOk result (λ end. PartSteps machine.old machine.new end) }
+    ensures few { OnOk result (length waiting.new < 4096) }
     ensures streams { Streams result (waiting.old ++ to_come machine.old) (λ _. waiting.new ++ to_come machine.new) (K.written sink.old) (K.written sink.new) }
 {
     let end = machine.run_part(TURNS, waiting)?;

@@ -18,6 +18,7 @@ use dp_tree::Program;
 use std::alloc::Global;
 use std::sync::Wait;
 use std::thread::Threads;
+use std::time::Clock;
 
 /// How a program is run.
 #[derive(Clone, Copy, Debug, PartialEq, Eq)]
@@ -33,7 +34,7 @@ pub struct RunOptions {
 /// Runs the program to its end or to the end of its fuel, each region under its plan, and writes the text of the run.
 ///
 /// Prints are written as the run goes on, so that memory doesn't grow with them.
-pub fn run_program<R: Threads + Wait + Sync, K: Sink, G: Gate>(
+pub fn run_program<R: Threads + Wait + Clock + Sync, K: Sink, G: Gate>(
     rt: &R,
     alloc: Global,
     program: &Program,

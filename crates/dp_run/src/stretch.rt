@@ -19,9 +19,10 @@ use dp_tree::Program;
 use std::alloc::Global;
 use std::sync::Wait;
 use std::thread::Threads;
+use std::time::Clock;
 
 /// Runs the plan's region, which comes next, and the plain part behind it. Answers the run's end if that comes in them.
-pub(crate) fn run_stretch<'p, R: Threads + Wait + Sync, K: Sink, G: Gate>(
+pub(crate) fn run_stretch<'p, R: Threads + Wait + Clock + Sync, K: Sink, G: Gate>(
     rt: &R,
     alloc: Global,
     program: &'p Program,

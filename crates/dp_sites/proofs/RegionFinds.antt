@@ -1,5 +1,5 @@
 -- A region's statement, found among those of `main`: the first, and the only one where one is counted.
-use Rattle.std.proofs.Common.{◌≡◌, sym, ap, ◌∙◌, ℕ, suc, ◌+◌, ◌<◌, Bool, true, false, if◌then◌else◌, List, [], ◌∷◌, filter, drop, get_or, length, add-one, drop-cons, Some, slice_get, count_by, arith}
+use Rattle.std.proofs.Common.{◌≡◌, sym, ap, ◌∙◌, ℕ, suc, ◌+◌, ◌<◌, Bool, true, false, if◌then◌else◌, List, [], ◌∷◌, filter, drop, get_or, length, add-one, drop-cons, Some, None, slice_get, count_by, arith}
 use Rattle.std.proofs.lemmas.List.Sums.{length-filter}
 use Rattle.dp_tree.specs.declared.Stmt.{Stmt}
 use Rattle.dp_plan.specs.Access.{is_region_at}
@@ -24,3 +24,7 @@ single (x ∷ y ∷ xs) s e n = absurd (omega (arith, n))
 
 pub only_one : (r : ℕ) (all : List Stmt) (s : Stmt) → slice_get (filter (is_region_at r) all) 0 ≡ Some s → count_by (is_region_at r) all ≡ 1 → filter (is_region_at r) all ≡ s ∷ []
 only_one r all s e n = single (filter (is_region_at r) all) s e (length-filter (is_region_at r) all ∙ n)
+
+pub not_one : (xs : List Stmt) → slice_get xs 0 ≡ None → length xs ≡ 1 → ⊥
+not_one [] e n = omega (arith, n)
+not_one (x ∷ xs) e n = cc e

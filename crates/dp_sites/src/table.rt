@@ -1,6 +1,6 @@
 //! The table of the sites that a plan has checked.
 
-ghost use Rattle.std.specs.Prelude.{◌≡◌, ◌∷◌, [], IfOk, count_by, filter, length, map, slice_get, true};
+ghost use Rattle.std.specs.Prelude.{◌≡◌, ◌≢◌, ◌∷◌, [], IfOk, OnErr, count_by, filter, length, map, slice_get, true};
 ghost use Rattle.std.specs.List.{list_all};
 ghost use Rattle.std.specs.Option.{option_copied};
 ghost use Rattle.dp_tree.specs.Numbering.{numbers_from};
@@ -39,7 +39,8 @@ fn region_count(region: u32, all: &[Stmt]) -> usize
 
 /// The region's statement. One that doesn't stand exactly once answers want of memory.
 pub fn only_region<'p>(p: &'p Program, region: u32) -> Result<&'p Stmt, NoMemory>
-    ensures { IfOk result (λ s. region_in p.now region ≡ s.now ∷ []) }
+    ensures once { IfOk result (λ s. region_in p.now region ≡ s.now ∷ []) }
+    ensures not_once { OnErr result (length (region_in p.now region) ≢ 1) }
 {
     let all = p.main.as_slice();
     let count = region_count(region, all);

@@ -1,7 +1,8 @@
 //! Names and numbers.
 
-ghost use Rattle.std.specs.Prelude.{◌≡◌, IfOk};
+ghost use Rattle.std.specs.Prelude.{◌≡◌, ◌≢◌, IfOk, Err};
 ghost use Rattle.dp_base.specs.Arithmetic.{is_zero};
+ghost use Rattle.dp_tokens.specs.declared.error.ParseError.TheVariants as error;
 ghost use Rattle.dp_tokens.specs.Steps as steps;
 ghost use Rattle.dp_tokens.specs.Numbers as numbers;
 ghost use Rattle.dp_tokens.specs.Steps.{Reads};
@@ -31,7 +32,8 @@ pub fn name(alloc: Global, tokens: &mut Tokens<'_, '_>) -> Result<Name, ParseErr
 /// A number.
 #[tactic(auto, unfolding(crate::specs::Numbers::number))]
 pub fn number(tokens: &mut Tokens<'_, '_>) -> Result<i64, ParseError>
-    ensures { Reads (numbers.number tokens.old) result tokens.new }
+    ensures reads { Reads (numbers.number tokens.old) result tokens.new }
+    ensures decides { result ≢ Err error.NoMemory }
 {
     match tokens.next_number() {
         Some(value) => {

@@ -1,7 +1,8 @@
 //! A cursor over the tokens of a text.
 
-ghost use Rattle.std.specs.Prelude.{◌≡◌, map, length, IfOk, OnErr, Ok as Taken, Err as Stuck};
+ghost use Rattle.std.specs.Prelude.{◌≡◌, ◌≢◌, map, length, IfOk, OnErr, Ok as Taken, Err as Stuck};
 ghost use Rattle.dp_lex.specs.Tokens.{lexeme};
+ghost use Rattle.dp_tokens.specs.declared.error.ParseError.TheVariants as error;
 ghost use Rattle.dp_tokens.specs.declared.symbol.Symbol.TheVariants.{Semicolon};
 ghost use Rattle.dp_tokens.specs.Symbols as spec;
 ghost use Rattle.dp_tokens.specs.Steps as steps;
@@ -116,6 +117,7 @@ impl<'a, 't> Tokens<'a, 't> {
     pub fn expect(&mut self, symbol: Symbol) -> Result<Token<'t>, ParseError>
         ensures taken { IfOk result (λ t. steps.expect symbol self.old ≡ Taken (lexeme t, self.new)) }
         ensures refused { OnErr result (steps.expect symbol self.old ≡ Stuck self.new) }
+        ensures decides { result ≢ Stuck error.NoMemory }
     {
         match self.left {
             [first, rest @ ..] => {

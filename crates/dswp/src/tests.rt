@@ -42,6 +42,7 @@ use std::alloc::Global;
 use std::process::Abort;
 use std::sync::Wait;
 use std::thread::Threads;
+use std::time::Clock;
 
 /// A text under a name.
 type Named<'t> = (&'t str, &'t [u8]);
@@ -105,7 +106,7 @@ fn words_of(alloc: Global, words: &str) -> Result<Vec<String>, NoMemory> {
 }
 
 /// What is answered where these reads fail and the sink has so much room.
-fn answer_to<R: Abort + Threads + Wait + Sync>(
+fn answer_to<R: Abort + Threads + Wait + Clock + Sync>(
     rt: &R,
     alloc: Global,
     words: &str,
@@ -117,7 +118,7 @@ fn answer_to<R: Abort + Threads + Wait + Sync>(
 }
 
 /// .. where the stages pass this gate.
-fn answer_at<R: Abort + Threads + Wait + Sync, G: Gate>(
+fn answer_at<R: Abort + Threads + Wait + Clock + Sync, G: Gate>(
     rt: &R,
     alloc: Global,
     words: &str,
@@ -162,7 +163,7 @@ fn expect<R: Abort>(rt: &R, answered: &Answered, bytes: &[u8], status: u8, words
 }
 
 /// Each case of the table is answered as it says, with these words behind its own.
-fn each_with<R: Abort + Threads + Wait + Sync>(
+fn each_with<R: Abort + Threads + Wait + Clock + Sync>(
     rt: &R,
     alloc: Global,
     table: &[&str],
@@ -200,7 +201,7 @@ fn each_with<R: Abort + Threads + Wait + Sync>(
 }
 
 /// Each case of the table is answered as it says.
-fn each<R: Abort + Threads + Wait + Sync>(
+fn each<R: Abort + Threads + Wait + Clock + Sync>(
     rt: &R,
     alloc: Global,
     table: &[&str],
@@ -209,7 +210,7 @@ fn each<R: Abort + Threads + Wait + Sync>(
 }
 
 /// .. with each number of workers and each lane.
-fn each_crew<R: Abort + Threads + Wait + Sync>(
+fn each_crew<R: Abort + Threads + Wait + Clock + Sync>(
     rt: &R,
     alloc: Global,
     table: &[&str],

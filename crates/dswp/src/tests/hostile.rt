@@ -8,6 +8,7 @@ use std::process::Abort;
 use std::sync::Wait;
 use std::test::Fail;
 use std::thread::Threads;
+use std::time::Clock;
 
 /// The number, from 1, of the line that a place of the text is in.
 fn line_at(text: &[u8], place: usize) -> u64 {
@@ -35,7 +36,7 @@ fn a_program_that_is_cut_is_refused(rt: HostRuntime) -> Result<(), Fail> {
 }
 
 /// The plan or the profile of this program is refused at this line.
-fn expect_line_at<R: Abort + Threads + Wait + Sync>(
+fn expect_line_at<R: Abort + Threads + Wait + Clock + Sync>(
     rt: &R,
     alloc: Global,
     kind: &str,

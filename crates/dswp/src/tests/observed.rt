@@ -5,6 +5,7 @@ use std::process::Abort;
 use std::sync::Wait;
 use std::test::Fail;
 use std::thread::Threads;
+use std::time::Clock;
 
 /// To their ends: what is asked for behind `profile`, what `p.c` and `in.txt` hold, and the profile without its first and
 /// its last line. The flows of a body local stay within an iteration, those of the bound of an inner loop are of both kinds;
@@ -55,7 +56,7 @@ const REFUSED: &[&str] = &[
 ];
 
 /// Each run shows what stands beside it, and its profile comes with this status.
-fn each_shown<R: Abort + Threads + Wait + Sync>(
+fn each_shown<R: Abort + Threads + Wait + Clock + Sync>(
     rt: &R,
     alloc: Global,
     table: &[&str],

@@ -19,6 +19,7 @@ use std::alloc::Global;
 use std::process::Abort;
 use std::sync::Wait;
 use std::test::Fail;
+use std::time::Clock;
 
 const PLAN: &[u8] = b"plan 1\nregion 1 words 4096\nseq 2 3 4\npar 5\nseq 6\nend\n";
 
@@ -80,7 +81,7 @@ fn pipeline_of<'u>(
 }
 
 /// Whether the verdicts on so many iterations are clean, and the last of them closes the region.
-fn all_clean<R: Wait>(rt: &R, verdicts: &mut LaneVerdicts<'_>, count: u32) -> bool
+fn all_clean<R: Wait + Clock>(rt: &R, verdicts: &mut LaneVerdicts<'_>, count: u32) -> bool
     requires { verdicts.old.given ≡ 0 }
 {
     for place in 0..count {
@@ -97,7 +98,7 @@ fn all_clean<R: Wait>(rt: &R, verdicts: &mut LaneVerdicts<'_>, count: u32) -> bo
 }
 
 /// Whether the epoch's eight iterations are clean where its units are polled in this order.
-fn is_clean_in<R: Wait>(
+fn is_clean_in<R: Wait + Clock>(
     rt: &R,
     alloc: Global,
     p: &Program,
@@ -134,7 +135,7 @@ fn is_clean_in<R: Wait>(
 }
 
 /// What the try-commit unit answers first, and then stage 1 twice, where there is one worker and a lane has one place.
-fn first_answers<R: Wait>(
+fn first_answers<R: Wait + Clock>(
     rt: &R,
     alloc: Global,
     p: &Program,
@@ -165,7 +166,7 @@ fn first_answers<R: Wait>(
 }
 
 /// The rows for one plan.
-fn each_row<R: Abort + Wait>(
+fn each_row<R: Abort + Wait + Clock>(
     rt: &R,
     alloc: Global,
     p: &Program,
@@ -188,7 +189,7 @@ fn each_row<R: Abort + Wait>(
 }
 
 /// The rows for the plan in the shelf.
-fn with_program<R: Abort + Wait, S: Shelf>(
+fn with_program<R: Abort + Wait + Clock, S: Shelf>(
     rt: &R,
     alloc: Global,
     program: &Program,
@@ -208,7 +209,7 @@ fn with_program<R: Abort + Wait, S: Shelf>(
 }
 
 /// The rows for the program in the shelf and its plan.
-fn with_texts<R: Abort + Wait, S: Shelf>(
+fn with_texts<R: Abort + Wait + Clock, S: Shelf>(
     rt: &R,
     alloc: Global,
     shelf: &mut S,

@@ -24,7 +24,7 @@ loop-s-preserved c =
     let rest = drop (i + 1) all in
     further main_rest main_one main_step main_answer-more all i m c.loop-s.done _ c.loop-s.invariant c.s-item.result below c.s-item.is
     (c.top.new.done ++ c.in_ok-last.last ∷ []) c.in_ok-last.ensures.value (record { place = c.top.new.place; region = c.in_ok-number.number })
-    (λ j. record { place = c.in_ok-last.ensures.place j; region = c.in_ok-number.ensures j })
+    (λ j. record { place = c.in_ok-last.ensures.place j; region = c.in_ok-number.ensures.value j })
     ∙ ap (λ d. onto d (main_answer c.top.new.place c.in_ok-number.number rest)) (sym c.in_ok-push.ensures.ok)
 
 pub returns-in_err-last : goal.returns-in_err-last

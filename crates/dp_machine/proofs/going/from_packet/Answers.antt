@@ -7,8 +7,9 @@ use Rattle.dp_packet.specs.declared.Packet.{Packet}
 use Rattle.dp_packet.specs.declared.PacketStatus.{PacketStatus}
 use Rattle.dp_packet.specs.declared.PacketStatus.TheVariants as state
 use Rattle.dp_packet.specs.Packet.{packet_of}
+use Rattle.dp_machine.specs.declared.Kept.TheVariants.{Nothing}
 use Rattle.dp_machine.specs.Sending.{IsSent, key_of}
-use Rattle.dp_machine.proofs.Goes.{all, packet_sends}
+use Rattle.dp_machine.proofs.Goes.{all, packet_sends, sends_so}
 use Rattle.dp_machine.proofs.going.from_packet.Goals as goal
 
 pub send-sent-requires-clause-code : goal.send-sent-requires-clause-code
@@ -23,5 +24,6 @@ send-sent-requires-clause-going c =
 pub returns-in-Some-clause-sent : goal.returns-in-Some-clause-sent
 returns-in-Some-clause-sent c = λ key n stands comes.
     let f = c.args.frame in let s = c.args.stage in
-    packet_sends f s key n c.in-Some.memory c.args.packet c.send-sent.result.packet c.send-sent.result.memory c.requires.numbered c.requires.fits stands comes c.requires.going (sym c.taken_version.ensures.version ∙ c.in-Some.is)
-    (λ along. subst (λ (p : Packet). IsSent all (packets.run_on (key_of f key.base) s c.in-Some.memory (packet_of p)) c.send-sent.result.packet c.send-sent.result.memory) c.taken_version.ensures.left (c.send-sent.ensures.sent key.base along))
+    let turn = packet_sends f s key n c.in-Some.memory c.args.packet c.send-sent.result.packet c.send-sent.result.memory c.requires.numbered c.requires.fits stands comes c.requires.going (sym c.taken_version.ensures.version ∙ c.in-Some.is)
+    (λ along. subst (λ (p : Packet). IsSent all (packets.run_on (key_of f key.base) s c.in-Some.memory (packet_of p)) c.send-sent.result.packet c.send-sent.result.memory) c.taken_version.ensures.left (c.send-sent.ensures.sent key.base along)) in
+    sends_so f s Nothing key n c.send-sent.result.packet c.with_spent.result c.with_spent.ensures.status c.with_spent.ensures.said turn

@@ -1,8 +1,10 @@
-use Rattle.std.proofs.Common.{◌∙◌, sym, ap, subst, List, ℤ, Some}
+use Rattle.std.proofs.Common.{◌≡◌, ◌⊎◌, ◌∙◌, sym, ap, subst, List, ℤ, Some}
 use Rattle.dp_semantics.specs.Packets as packets
 use Rattle.dp_code.specs.declared.Op.{Op}
 use Rattle.dp_code.specs.Correct.{IsStageCode}
 use Rattle.dp_code.proofs.Turns.{is_stage_code}
+use Rattle.dp_packet.specs.declared.PacketStatus.{PacketStatus}
+use Rattle.dp_packet.specs.declared.PacketStatus.TheVariants as state
 use Rattle.dp_packet.specs.Packet.{packet_of}
 use Rattle.dp_machine.specs.declared.Kept.{Kept}
 use Rattle.dp_machine.specs.declared.Kept.TheVariants.{Versioned}
@@ -16,12 +18,17 @@ send-sent-requires-clause-code c =
     let p = c.args.frame.program.now in let plan = c.args.frame.plan.now in
     subst (λ (ops : List Op). IsStageCode p plan c.args.stage ops) (sym c.requires.code) (is_stage_code p plan c.args.stage)
 
+pub send-sent-requires-clause-going : goal.send-sent-requires-clause-going
+send-sent-requires-clause-going c =
+    subst (λ (st : PacketStatus). (st ≡ state.Going) ⊎ (st ≡ state.Closing)) (sym c.taken_spent-spent.ensures.status) c.requires.going
+
 pub returns-in-Ok-clause-sent : goal.returns-in-Ok-clause-sent
 returns-in-Ok-clause-sent c = λ key n stands comes.
     let f = c.args.frame in let s = c.args.stage in
     let both = c.snapshot.new.self in
-    let turn = packets.run_on (key_of f key.base) s both (packet_of c.args.packet) in
+    let came = c.taken_spent-spent.new.packet in
+    let turn = packets.run_on (key_of f key.base) s both (packet_of came) in
     subst (λ (k : Kept). Sends f s k key n c.cleared-next.result.packet) (sym c.keep_versioned.ensures)
-    (versioned_sends f s key n both c.args.packet c.cleared-next.result.packet c.cleared-next.result.memory c.requires.numbered
-    (subst (λ (b : List ℤ). StandsAt f s (Versioned b) key n) (sym c.in-Ok.ensures.same) stands) comes
+    (versioned_sends f s key n both came c.cleared-next.result.packet c.cleared-next.result.memory c.requires.numbered
+    (subst (λ (b : List ℤ). StandsAt f s (Versioned b) key n) (sym c.in-Ok.ensures.same) stands) (c.taken_spent-spent.ensures.said ∙ comes)
     (λ along. c.cleared-next.ensures.sent key.base turn (c.send-sent.ensures.sent key.base (ap Some (c.in-Ok.ensures.ok ∙ sym c.in-Ok.ensures.same) ∙ along))))

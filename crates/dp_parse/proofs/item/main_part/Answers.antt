@@ -48,4 +48,4 @@ returns c =
     let l = c.loop-alloc in
     let over : read.ends l.tokens ≡ true = sym c.ends.ensures ∙ c.loop-alloc-test.false in
     let ends = many_end read.top read.ends l.invariant.0 l.body l.tokens over (ends_some l.tokens over) l.invariant.1 in
-    l.invariant.2 ∙ ap closing ends ∙ ap (λ (o : Outcome (Unit {0})). and_then o (λ _. pure l.body)) c.in_ok-end.ensures
+    l.invariant.2 ∙ ap closing ends ∙ ap (λ (o : Outcome (Unit {0})). and_then o (λ _. pure l.body)) c.in_ok-end.ensures.reads

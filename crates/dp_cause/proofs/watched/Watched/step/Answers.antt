@@ -1,4 +1,5 @@
 use Rattle.std.proofs.Common.{refl, sym, ap, ◌∙◌, subst, List, [], ℤ, Err, arith}
+use Rattle.dp_base.specs.declared.Word.{Word}
 use Rattle.dp_plan.specs.declared.Plan.{Plan}
 use Rattle.dp_plan.specs.CheckedTable.{IsTabled}
 use Rattle.dp_code.specs.declared.Op.{Op}
@@ -22,8 +23,9 @@ returns-in-Done c = λ by means form.
     let old = c.args.self.now in
     let r = by g.input.now old.cells in
     let end = end_alone g.program.now g.wide.now old.cells c.args.site r in
-    let runs = subst (λ (ops : List Op). EndsAs g.program.now g.wide.now g.input.now ops c.replace-cells.result [] end) (sym c.as_slice.ensures)
-    (subst (λ (cells : List ℤ). EndsAs g.program.now g.wide.now g.input.now c.args.code.now.ops cells [] end) (sym c.replace-cells.ensures.value) (means g.wide.now g.input.now old.cells)) in
+    let runs = subst (λ (lists : List (List Word)). EndsAs g.program.now g.wide.now g.input.now c.as_slice.result.now c.replace-cells.result lists end) (sym c.new-no_lists.ensures)
+    (subst (λ (ops : List Op). EndsAs g.program.now g.wide.now g.input.now ops c.replace-cells.result [] end) (sym c.as_slice.ensures)
+    (subst (λ (cells : List ℤ). EndsAs g.program.now g.wide.now g.input.now c.args.code.now.ops cells [] end) (sym c.replace-cells.ensures.value) (means g.wide.now g.input.now old.cells))) in
     let did = turn_did g.program.now g.plan.now g.wide.now c.requires.ground.wide old.cells c.args.site r c.in-Done.own c.in-Done.memory c.in-Done.closing (c.in-Done.ensures end runs) in
     look_steps g old c.args.site r did.v c.in-Done.memory did.gave did.memory_is (omega (arith, c.if-self-eq0.false)) c.look.new.self c.look.result
     (c.look.ensures (event_at c.args.site did.v) refl (form did.v did.gave) (c.as_slice-in-Done.ensures ∙ did.words_are))
@@ -34,7 +36,8 @@ returns-in-Fault c = λ by means form.
     let old = c.args.self.now in
     let r = by g.input.now old.cells in
     let end = end_alone g.program.now g.wide.now old.cells c.args.site r in
-    let runs = subst (λ (ops : List Op). EndsAs g.program.now g.wide.now g.input.now ops c.replace-cells.result [] end) (sym c.as_slice.ensures)
-    (subst (λ (cells : List ℤ). EndsAs g.program.now g.wide.now g.input.now c.args.code.now.ops cells [] end) (sym c.replace-cells.ensures.value) (means g.wide.now g.input.now old.cells)) in
+    let runs = subst (λ (lists : List (List Word)). EndsAs g.program.now g.wide.now g.input.now c.as_slice.result.now c.replace-cells.result lists end) (sym c.new-no_lists.ensures)
+    (subst (λ (ops : List Op). EndsAs g.program.now g.wide.now g.input.now ops c.replace-cells.result [] end) (sym c.as_slice.ensures)
+    (subst (λ (cells : List ℤ). EndsAs g.program.now g.wide.now g.input.now c.args.code.now.ops cells [] end) (sym c.replace-cells.ensures.value) (means g.wide.now g.input.now old.cells))) in
     fault_found g old c.args.site r c.in-Fault.fault (omega (arith, c.if-self-eq0.false))
     (turn_faulted g.program.now g.plan.now g.wide.now c.requires.ground.wide old.cells c.args.site r c.in-Fault.fault (c.in-Void.ensures end runs ∙ ap (λ (w : VoidWhy). Err (why_of w)) c.in-Fault.is))

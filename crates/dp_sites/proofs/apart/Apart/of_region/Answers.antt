@@ -23,4 +23,4 @@ returns c =
     ∙ ap (λ (body : List Stmt). map (storing_at c.args.p.now (bare_plan c.args.region) (part_list None c.in_ok-statement.statement.now) body) (part_list None c.in_ok-statement.statement.now)) c.body_of.ensures in
     subst (λ (ps : List Part). TellsApart c.args.p.now c.args.region (record { first = c.first_site-first.result; parts = ps; stores = c.in_ok-stores.stores })) (sym parts_are)
     (subst (λ (st : List (Option Storing)). TellsApart c.args.p.now c.args.region (record { first = c.first_site-first.result; parts = part_list None c.in_ok-statement.statement.now; stores = st })) (sym stores_are)
-    (apart_made p c.args.region s k c.in_ok-statement.ensures up))
+    (apart_made p c.args.region s k c.in_ok-statement.ensures.once up))
