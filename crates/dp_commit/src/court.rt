@@ -1,7 +1,6 @@
 //! What the judging of an iteration's words holds.
 ghost use Rattle.std.specs.Prelude.{◌≡◌, []};
 
-use crate::log::Log;
 use dp_base::{CellId, Cells, Row, SiteId, StoreOf, Word};
 use dp_cause::Replaced;
 use dp_code::Op;
@@ -88,9 +87,9 @@ pub struct Walk<'p> {
     pub lists: &'p Lists,
     /// How many of each stage's words are taken; of the pace's stage, how many were when it was left last.
     pub taken: Row<usize>,
-    pub stores: Log<StoreOf>,
+    pub stores: Row<StoreOf>,
     /// What each store replaced.
-    pub replaced: Log<Replaced>,
+    pub replaced: Row<Replaced>,
     pub prints: Row<i64>,
 }
 

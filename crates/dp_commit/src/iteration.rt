@@ -7,7 +7,6 @@ ghost use Rattle.dp_commit.specs.Judging.{IsCourt, Judged};
 
 use crate::assuming::put;
 use crate::court::{Answer, Court, Pace, Rows, Walk};
-use crate::log::Log;
 use dp_base::{Cells, NoMemory, Row};
 use dp_packet::Lists;
 use std::alloc::Global;
@@ -59,8 +58,8 @@ fn begin<'p>(
         cells,
         lists,
         taken: none_taken(emptied(alloc, &mut rows.taken), lists.len())?,
-        stores: Log::from_row(Row::with_capacity(alloc, rows.stores)?),
-        replaced: Log::from_row(emptied(alloc, &mut rows.replaced)),
+        stores: Row::with_capacity(alloc, rows.stores)?,
+        replaced: emptied(alloc, &mut rows.replaced),
         prints: Row::with_capacity(alloc, rows.prints)?,
     })
 }
@@ -87,12 +86,10 @@ pub fn before<'p>(walk: Walk<'p>) -> Cells
     ensures { result ≡ memory_before walk.entry }
 {
     let Walk {
-        cells,
-        replaced,
+        mut cells,
+        mut replaced,
         ..
     } = walk;
-    let mut cells = cells;
-    let mut replaced = replaced.into_row();
     while let Some(was) = replaced.pop() {
         put(&mut cells, was.cell.0, was.value);
     }

@@ -7,9 +7,8 @@ ghost use Rattle.dp_commit.specs.Judging.{Does, Finds, Lets, walking_in};
 
 use crate::assuming::{closes, put, value_at, zero};
 use crate::court::{Answer, Court, Pace, Walk};
-use crate::log::Log;
 use crate::taking::word_at;
-use dp_base::{CellId, NoMemory, SiteId, StoreOf, Word};
+use dp_base::{CellId, NoMemory, Row, SiteId, StoreOf, Word};
 use dp_cause::Replaced;
 
 /// The store that a word tells.
@@ -26,8 +25,8 @@ fn store_of(word: Word) -> StoreOf
 /// Appends a store, and what it replaced.
 #[inline(always)]
 fn note_store(
-    stores: &mut Log<StoreOf>,
-    replaced: &mut Log<Replaced>,
+    stores: &mut Row<StoreOf>,
+    replaced: &mut Row<Replaced>,
     store: StoreOf,
     was: Replaced,
 ) -> Result<(), NoMemory>

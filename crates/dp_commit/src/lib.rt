@@ -9,7 +9,6 @@ mod entries;
 mod finding;
 mod iteration;
 mod judging;
-mod log;
 mod rounds;
 mod taking;
 mod tally;

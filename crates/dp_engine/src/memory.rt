@@ -2,7 +2,7 @@
 ghost use Rattle.std.specs.Prelude.{◌≡◌, ℤ, List, get_or, slice_set, pos, IfOk, OnOk, OnErr};
 
 use dp_base::{CellId, Cells, NoMemory};
-use dp_memory::Version;
+use dp_memory::{Version, VersionRoom};
 use std::alloc::Global;
 use std::marker::Model;
 
@@ -112,11 +112,11 @@ impl Versioned {
     }
 
     /// A version of the memory as it is now, in the room of one that is spent, if there is one.
-    pub fn snapshot(&mut self, spent: Option<Version>) -> Result<Version, NoMemory>
+    pub fn snapshot(&mut self, room: Option<VersionRoom>) -> Result<Version, NoMemory>
         ensures ok { IfOk result (λ version. version ≡ self.old) }
         ensures same { self.new ≡ self.old }
     {
-        self.version.snapshot(spent)
+        self.version.snapshot(room)
     }
 
     /// Puts a number into a cell of both, if there is one.

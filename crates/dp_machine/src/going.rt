@@ -15,7 +15,7 @@ use crate::sending::{send, with_status};
 use crate::turning::Rows;
 use crate::{Frame, Kept, Ready, Versioned};
 use dp_base::{Boxed, Cells, NoMemory};
-use dp_memory::Version;
+use dp_memory::{Version, VersionRoom};
 use dp_packet::{Packet, PacketStatus};
 use dp_plan::{Plan, StageKind};
 use std::alloc::Global;
@@ -117,8 +117,8 @@ pub fn from_versioned<'p>(
 {
     let mut both = both;
     let mut packet = packet;
-    let spent = taken_spent(&mut packet);
-    match both.snapshot(spent) {
+    let room = taken_room(&mut packet);
+    match both.snapshot(room) {
         Ok(version) => {
             let sent = send(frame, ready, rows, stage, both, Some(version), packet);
             let next = cleared(frame, sent);
@@ -136,23 +136,23 @@ fn taken_version(packet: &mut Boxed<Packet>) -> Option<Version>
     packet.get_mut().version.take()
 }
 
-/// Takes the version out of the packet whose room may be used.
-fn taken_spent(packet: &mut Boxed<Packet>) -> Option<Version>
+/// Takes the room for a version out of the packet.
+fn taken_room(packet: &mut Boxed<Packet>) -> Option<VersionRoom>
     ensures said { packet_of packet.new ≡ packet_of packet.old }
     ensures status { packet.new.status ≡ packet.old.status }
     ensures number { packet.new.iteration ≡ packet.old.iteration }
 {
-    packet.get_mut().spent.take()
+    packet.get_mut().room.take()
 }
 
-/// The packet, with a version whose room may be used.
-fn with_spent(packet: Boxed<Packet>, spent: Option<Version>) -> Boxed<Packet>
+/// The packet, with the room of a version that is spent, for the next one.
+fn with_room(packet: Boxed<Packet>, spent: Option<Version>) -> Boxed<Packet>
     ensures said { packet_of result ≡ packet_of packet }
     ensures status { result.status ≡ packet.status }
     ensures number { result.iteration ≡ packet.iteration }
 {
     let mut packet = packet;
-    packet.get_mut().spent = spent;
+    packet.get_mut().room = spent.map(Version::into_room);
     packet
 }
 
@@ -177,7 +177,7 @@ pub fn from_packet<'p>(
     match taken_version(&mut packet) {
         Some(memory) => {
             let sent = send(frame, ready, rows, stage, memory, None, packet);
-            (with_spent(sent.packet, sent.memory), Kept::Nothing)
+            (with_room(sent.packet, sent.memory), Kept::Nothing)
         }
         None => (with_status(packet, PacketStatus::NoMemory), Kept::Nothing),
     }

@@ -44,10 +44,16 @@ fn at(page: &[i64], place: usize) -> Option<i64>
     page.get(place).copied()
 }
 
-/// The room of a version's last page, if there is one. What else the version holds is given back.
-fn room_of(alloc: Global, spent: Option<Version>) -> Vec<i64> {
-    match spent {
-        Some(version) => version.book.last,
+/// The room of a version that is spent. What it holds means nothing.
+#[derive(Drop)]
+pub struct VersionRoom {
+    page: Vec<i64>,
+}
+
+/// The room for a last page, if there is one.
+fn page_room(alloc: Global, room: Option<VersionRoom>) -> Vec<i64> {
+    match room {
+        Some(room) => room.page,
         None => Vec::new(alloc),
     }
 }
@@ -147,13 +153,20 @@ impl Version {
         }
     }
 
+    /// The room of the version's last page, for another version. All else that it holds is given back.
+    pub fn into_room(self) -> VersionRoom {
+        VersionRoom {
+            page: self.book.last,
+        }
+    }
+
     /// Another version with the same numbers, which shares the pages, in the room of one that is spent, if there is one. The
     /// version keeps its numbers, also at `Err`.
-    pub fn snapshot(&mut self, spent: Option<Version>) -> Result<Version, NoMemory>
+    pub fn snapshot(&mut self, room: Option<VersionRoom>) -> Result<Version, NoMemory>
         ensures ok { IfOk result (λ other. other ≡ self.old) }
         ensures same { self.new ≡ self.old }
     {
-        let room = room_of(self.alloc, spent);
+        let room = page_room(self.alloc, room);
         let book = self.book.share(self.alloc, room)?;
         Ok(Version {
             alloc: self.alloc,

@@ -2,7 +2,7 @@
 #![tactic(auto)]
 
 use dp_base::{Fault, SiteId, Word};
-use dp_memory::Version;
+use dp_memory::{Version, VersionRoom};
 
 mod cursors;
 mod lists;
@@ -41,6 +41,6 @@ pub struct Packet {
     pub status: PacketStatus,
     /// The memory that a replicated stage behind starts from.
     pub version: Option<Version>,
-    /// A version whose room another one may take over. What it holds means nothing.
-    pub spent: Option<Version>,
+    /// The room of a version that is spent, which another one may take over.
+    pub room: Option<VersionRoom>,
 }

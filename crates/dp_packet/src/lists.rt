@@ -7,7 +7,8 @@ use dp_base::{NoMemory, Row, Word};
 use std::alloc::Global;
 use std::marker::Model;
 
-/// Lists of words that stand in one row, one behind the other: a thread that reads what another one wrote finds all of it together. Contracts see the list of these lists.
+/// Lists of words that stand in one row, one behind the other: a thread that reads what another one wrote finds all of it
+/// together. Contracts see the list of these lists.
 #[derive(Drop)]
 pub struct Lists {
     pub(crate) words: Row<Word>,
@@ -19,13 +20,14 @@ impl Model for Lists {
     ghost use Rattle.std.specs.Prelude.{List, length, map};
     ghost use Rattle.std.specs.List.{All};
     ghost use Rattle.dp_base.specs.declared.Word.{Word};
-    ghost use Rattle.dp_packet.specs.Spans.{IsWithin, piece};
+    ghost use Rattle.std.specs.Prelude.{◌≡◌};
+    ghost use Rattle.dp_packet.specs.Spans.{IsWithin, piece, word_count};
 
     ghost Value = { List (List Word) };
 
     ghost view = { λ lists. map (piece lists.words) lists.spans };
 
-    ghost invariant = { λ lists. All (IsWithin (length lists.words)) lists.spans };
+    ghost invariant = { λ lists. All (IsWithin (length lists.words)) lists.spans × (word_count lists.spans ≡ length lists.words) };
 }
 
 impl Lists {
@@ -62,8 +64,13 @@ impl Lists {
         let start = self.words.len();
         self.words.extend_from_slice(list)?;
         let end = self.words.len();
-        self.spans.push(Span { start, end })?;
-        Ok(())
+        match self.spans.push(Span { start, end }) {
+            Ok(()) => Ok(()),
+            Err(NoMemory) => {
+                self.words.truncate(start);
+                Err(NoMemory)
+            }
+        }
     }
 
     /// Takes all lists out. The room stays.

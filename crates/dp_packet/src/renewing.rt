@@ -19,7 +19,7 @@ impl Packet {
             lists: Lists::new(alloc),
             status: PacketStatus::Going,
             version: None,
-            spent: None,
+            room: None,
         }
     }
 

@@ -5,7 +5,7 @@ use std::time::{Clock, Duration, Instant};
 use std::{io, thread};
 
 /// So many yields follow each other at most.
-const YIELDS: u32 = 200;
+const YIELDS: u32 = 8;
 
 /// A yield of more microseconds cost a slice of the processor: other programs run.
 const LONG: u64 = 400;
@@ -30,7 +30,7 @@ pub(crate) struct Patience {
 
 impl Patience {
     pub(crate) fn new() -> Patience
-        ensures { (result.yields ≡ 200) × (result.rests ≡ 0) }
+        ensures { (result.yields ≡ 8) × (result.rests ≡ 0) }
     {
         Patience {
             yields: YIELDS,
@@ -66,7 +66,7 @@ impl Patience {
 
     /// The next wait has all its yields.
     pub(crate) fn renew(&mut self)
-        ensures { self.new ≡ record self.old { yields = 200 } }
+        ensures { self.new ≡ record self.old { yields = 8 } }
     {
         self.yields = YIELDS;
     }

@@ -50,7 +50,7 @@ fn a_snapshot_in_the_room_of_a_spent_version_has_none_of_its_numbers(
     spent.set(CellId(599), 2)?;
     let mut first = Version::of(rt.alloc(), &Cells::new(rt.alloc(), 300)?)?;
     first.set(CellId(299), 5)?;
-    let snapshot = first.snapshot(Some(spent))?;
+    let snapshot = first.snapshot(Some(spent.into_room()))?;
     first.set(CellId(299), 6)?;
     assert_eq!(&rt; snapshot.get(CellId(3)), 0);
     assert_eq!(&rt; snapshot.get(CellId(299)), 5);

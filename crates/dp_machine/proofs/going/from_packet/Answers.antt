@@ -26,4 +26,4 @@ returns-in-Some-clause-sent c = λ key n stands comes.
     let f = c.args.frame in let s = c.args.stage in
     let turn = packet_sends f s key n c.in-Some.memory c.args.packet c.send-sent.result.packet c.send-sent.result.memory c.requires.numbered c.requires.fits stands comes c.requires.going (sym c.taken_version.ensures.version ∙ c.in-Some.is)
     (λ along. subst (λ (p : Packet). IsSent all (packets.run_on (key_of f key.base) s c.in-Some.memory (packet_of p)) c.send-sent.result.packet c.send-sent.result.memory) c.taken_version.ensures.left (c.send-sent.ensures.sent key.base along)) in
-    sends_so f s Nothing key n c.send-sent.result.packet c.with_spent.result c.with_spent.ensures.status c.with_spent.ensures.said turn
+    sends_so f s Nothing key n c.send-sent.result.packet c.with_room.result c.with_room.ensures.status c.with_room.ensures.said turn

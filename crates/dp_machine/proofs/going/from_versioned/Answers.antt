@@ -20,15 +20,15 @@ send-sent-requires-clause-code c =
 
 pub send-sent-requires-clause-going : goal.send-sent-requires-clause-going
 send-sent-requires-clause-going c =
-    subst (λ (st : PacketStatus). (st ≡ state.Going) ⊎ (st ≡ state.Closing)) (sym c.taken_spent-spent.ensures.status) c.requires.going
+    subst (λ (st : PacketStatus). (st ≡ state.Going) ⊎ (st ≡ state.Closing)) (sym c.taken_room-room.ensures.status) c.requires.going
 
 pub returns-in-Ok-clause-sent : goal.returns-in-Ok-clause-sent
 returns-in-Ok-clause-sent c = λ key n stands comes.
     let f = c.args.frame in let s = c.args.stage in
     let both = c.snapshot.new.self in
-    let came = c.taken_spent-spent.new.packet in
+    let came = c.taken_room-room.new.packet in
     let turn = packets.run_on (key_of f key.base) s both (packet_of came) in
     subst (λ (k : Kept). Sends f s k key n c.cleared-next.result.packet) (sym c.keep_versioned.ensures)
     (versioned_sends f s key n both came c.cleared-next.result.packet c.cleared-next.result.memory c.requires.numbered
-    (subst (λ (b : List ℤ). StandsAt f s (Versioned b) key n) (sym c.in-Ok.ensures.same) stands) (c.taken_spent-spent.ensures.said ∙ comes)
+    (subst (λ (b : List ℤ). StandsAt f s (Versioned b) key n) (sym c.in-Ok.ensures.same) stands) (c.taken_room-room.ensures.said ∙ comes)
     (λ along. c.cleared-next.ensures.sent key.base turn (c.send-sent.ensures.sent key.base (ap Some (c.in-Ok.ensures.ok ∙ sym c.in-Ok.ensures.same) ∙ along))))
