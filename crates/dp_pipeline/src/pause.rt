@@ -64,6 +64,7 @@ impl<'b> Pause<'b> {
         ensures most { self.new.most ≡ self.old.most }
     {
         self.wake();
+        self.patience.earn();
         self.items = self.items.saturating_add(1);
         if self.items >= self.most {
             self.ring();
@@ -145,7 +146,6 @@ impl<'b> Pause<'b> {
         }
         self.pauses = 0;
         self.backoff.reset();
-        self.patience.renew();
     }
 }
 
