@@ -8,7 +8,7 @@ ghost use Rattle.dp_tree.specs.Event as effect;
 ghost use Rattle.dp_plan.specs.Access.{first_site, stage_of};
 
 use crate::faults::{by_zero, closes};
-use crate::words::{astray, take};
+use crate::words::take;
 use crate::{Answer, Frame, Memory, Turn};
 use dp_base::{CellId, NoMemory, SiteId, Word};
 
@@ -50,14 +50,14 @@ impl<'p, M: Memory + Drop> Turn<'p, M> {
         ensures { Does M.cells (op_in_frame frame.entry (flat_of M.cells self.old) (op.Consume site first count)) self.new result }
     {
         match take(&mut self.lists, stage, site) {
-            Ok(word) => {
+            Some(word) => {
                 if first.0 <= word.index && word.index - first.0 < count {
                     self.told(frame, next, site, word)
                 } else {
-                    Answer::Void(astray(site, Some(word)))
+                    self.astray(site, Some(word))
                 }
             }
-            Err(why) => Answer::Void(why),
+            None => self.missing(stage, site),
         }
     }
 
@@ -75,12 +75,12 @@ impl<'p, M: Memory + Drop> Turn<'p, M> {
         ensures { Does M.cells (op_in_frame frame.entry (flat_of M.cells self.old) (op.ConsumePrint site)) self.new result }
     {
         match take(&mut self.lists, stage, site) {
-            Ok(word) => {
+            Some(word) => {
                 self.closing = closes(frame, self.closing, site, word.value);
                 self.place = next;
                 Answer::Goes
             }
-            Err(why) => Answer::Void(why),
+            None => self.missing(stage, site),
         }
     }
 
@@ -99,12 +99,12 @@ impl<'p, M: Memory + Drop> Turn<'p, M> {
         ensures { Does M.cells (op_in_frame frame.entry (flat_of M.cells self.old) (op.ConsumeBranch site zero)) self.new result }
     {
         match take(&mut self.lists, stage, site) {
-            Ok(word) => {
+            Some(word) => {
                 self.closing = closes(frame, self.closing, site, word.value);
                 self.place = by_zero(word.value, zero, next);
                 Answer::Goes
             }
-            Err(why) => Answer::Void(why),
+            None => self.missing(stage, site),
         }
     }
 }

@@ -10,6 +10,7 @@ use dp_packet::{Cursors, Packet, VoidWhy};
 use dp_plan::Plan;
 use dp_tree::Program;
 
+mod breaking;
 mod clearing;
 mod consuming;
 mod ends;
@@ -34,7 +35,10 @@ pub enum Answer {
     Goes,
     /// The turn is at its end.
     Done,
-    Void(VoidWhy),
+    /// The stage's words would pass the plan's number.
+    Full,
+    /// The turn breaks off, and knows why.
+    Broken,
     /// Memory was wanting, or the op finds no operand, or none stands there.
     NoMemory,
 }
@@ -94,6 +98,8 @@ pub struct Turn<'p, M> {
     pub lists: Cursors<'p>,
     pub teller: Teller,
     pub closing: bool,
+    /// Why it breaks off, where it does. It stands here so that the answer of an op is small.
+    pub why: VoidWhy,
 }
 
 /// What a turn leaves.

@@ -1,13 +1,12 @@
 //! The words of a site, made and found.
-ghost use Rattle.std.specs.Prelude.{◌≡◌, ◌≤◌, ◌+◌, ◌++◌, ◌∷◌, [], length, drop, true, false};
-ghost use Rattle.dp_machine.specs.Engine.{tells, Added, Took};
+ghost use Rattle.std.specs.Prelude.{◌≡◌, ◌≤◌, ◌+◌, ◌++◌, ◌∷◌, [], length, drop, slice_get, true, false};
+ghost use Rattle.dp_machine.specs.Engine.{tells, words_at, Added, Took};
 ghost use Rattle.dp_semantics.specs.Words.{word_list, after_loads_of};
-ghost use Rattle.dp_packet.specs.declared.VoidWhy.TheVariants as why;
 
 use crate::{Answer, Teller};
 use dp_base::{NoMemory, Row, SiteId, Word, WordKind};
 use dp_engine::Watch;
-use dp_packet::{Cursors, VoidWhy};
+use dp_packet::Cursors;
 
 impl Teller {
     /// The word of a load.
@@ -37,7 +36,7 @@ impl Teller {
             return Answer::NoMemory;
         }
         if self.own.len() >= limit as usize {
-            return Answer::Void(VoidWhy::Full);
+            return Answer::Full;
         }
         let word = Word {
             site: self.at.site,
@@ -61,15 +60,6 @@ impl Watch for Teller {
             self.note(cell, value)
         }
     }
-}
-
-/// Another word stands where the site's are taken, or none does.
-#[cold]
-#[inline(never)]
-pub fn astray(site: SiteId, found: Option<Word>) -> VoidWhy
-    ensures { result ≡ why.Astray site found }
-{
-    VoidWhy::Astray { site, found }
 }
 
 /// A load of the site's stands at the front.
@@ -112,22 +102,32 @@ fn loads(words: &[Word], site: SiteId) -> usize
     count_loads(words, site)
 }
 
-/// The word of what a site did is taken from its stage's list.
+/// What stands where the site's word is taken, if anything does.
+#[cold]
+#[inline(never)]
+pub fn found<'p>(lists: &Cursors<'p>, stage: u32, site: SiteId) -> Option<Word>
+    ensures { result ≡ slice_get (words_at stage lists.now site) 0 }
+{
+    let words = lists.of_stage(stage);
+    words.get(loads(words, site)).copied()
+}
+
+/// The word of what a site did is taken from its stage's list, if it stands there.
 #[inline(always)]
-pub fn take<'p>(lists: &mut Cursors<'p>, stage: u32, site: SiteId) -> Result<Word, VoidWhy>
+pub fn take<'p>(lists: &mut Cursors<'p>, stage: u32, site: SiteId) -> Option<Word>
     ensures { Took stage lists.old site lists.new result }
 {
     let words = lists.of_stage(stage);
     let count = loads(words, site);
     match words.get(count) {
-        None => Err(astray(site, None)),
         Some(word) => {
             if word.site.0 == site.0 && word.kind == WordKind::Done {
                 lists.pass(stage, count + 1);
-                Ok(*word)
+                Some(*word)
             } else {
-                Err(astray(site, Some(*word)))
+                None
             }
         }
+        None => None,
     }
 }
