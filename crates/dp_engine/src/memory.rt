@@ -1,5 +1,5 @@
 //! The memories that a turn runs on.
-ghost use Rattle.std.specs.Prelude.{◌≡◌, ℤ, List, get_or, slice_set, pos, IfOk, OnOk, OnErr};
+ghost use Rattle.std.specs.Prelude.{◌≡◌, ℤ, List, get_or, slice_set, pos, true, IfOk, OnOk, OnErr};
 
 use dp_base::{CellId, Cells, NoMemory};
 use dp_memory::{Version, VersionRoom};
@@ -43,6 +43,17 @@ fn put(cells: &mut Cells, cell: u32, value: i64)
 {
     if (cell as usize) < cells.len() {
         cells.set(CellId(cell), value);
+    }
+}
+
+/// The cell holds this number.
+#[inline(always)]
+fn holds(cells: &[i64], cell: u32, value: i64) -> bool
+    ensures { result ≡ true → slice_set cells.now cell value ≡ cells.now }
+{
+    match cells.get(cell as usize) {
+        Some(held) => *held == value,
+        None => false,
     }
 }
 
@@ -119,10 +130,14 @@ impl Versioned {
         self.version.snapshot(room)
     }
 
-    /// Puts a number into a cell of both, if there is one.
+    /// Puts a number into a cell of both, if there is one. Where it holds that number already, as most body locals hold 0
+    /// behind an iteration, there is nothing to do.
     fn put(&mut self, cell: u32, value: i64) -> Result<(), NoMemory>
         ensures { OnOk result (self.new ≡ slice_set self.old cell value) }
     {
+        if holds(self.cells.as_slice(), cell, value) {
+            return Ok(());
+        }
         put_version(&mut self.version, cell, value)?;
         put(&mut self.cells, cell, value);
         Ok(())
