@@ -1,5 +1,5 @@
 //! A region's report while its iterations are counted.
-ghost use Rattle.std.specs.Prelude.{◌≡◌, ◌<◌, ◌+◌, ◌-◌, ◌^◌, List, ℕ, [], ◌∷◌, ◌++◌, length, OnOk};
+ghost use Rattle.std.specs.Prelude.{◌≡◌, ◌<◌, ◌+◌, ◌-◌, ◌^◌, List, ℕ, [], ◌∷◌, ◌++◌, length, OnErr, OnOk};
 ghost use Rattle.dp_base.specs.declared.Cause.{Cause as cause_value};
 ghost use Rattle.dp_semantics.specs.Reported.{report_of};
 
@@ -31,8 +31,9 @@ pub(crate) fn count_again(
 ) -> Result<(), NoMemory>
     requires number { number < 2 ^ 64 - 1 }
     requires again { report.old.recovered_count < 2 ^ 64 - 1 }
-    ensures { OnOk result ((region n : ℕ) (again : List ℕ) (cause_is : ℕ → cause_value) → report.old ≡ report_of region n again cause_is → cause ≡ cause_is number →
+    ensures counted { OnOk result ((region n : ℕ) (again : List ℕ) (cause_is : ℕ → cause_value) → report.old ≡ report_of region n again cause_is → cause ≡ cause_is number →
         report.new ≡ report_of region (number + 1) (again ++ number ∷ []) cause_is) }
+    ensures wanting { OnErr result (length report.old.recovered < 1000) }
 {
     list(report, number, cause)?;
     report.recovered_count += 1;
@@ -45,6 +46,7 @@ pub(crate) fn count_again(
 fn list(report: &mut RegionReport, number: u64, cause: Cause) -> Result<(), NoMemory>
     ensures listed { OnOk result ((region n : ℕ) (again : List ℕ) (cause_is : ℕ → cause_value) → report.old ≡ report_of region n again cause_is → cause ≡ cause_is number →
         report.new ≡ record (report_of region n (again ++ number ∷ []) cause_is) { recovered_count = length again }) }
+    ensures wanting { OnErr result (length report.old.recovered < 1000) }
     ensures count { OnOk result (report.new.recovered_count ≡ report.old.recovered_count) }
 {
     if report.recovered.len() >= LISTED {

@@ -1,5 +1,5 @@
 //! Prints that wait to be written.
-ghost use Rattle.std.specs.Prelude.{◌≡◌, ◌<◌, ◌-◌, ◌^◌, ◌++◌, [], length, OnOk};
+ghost use Rattle.std.specs.Prelude.{◌≡◌, ◌<◌, ◌≤◌, ◌-◌, ◌^◌, ◌++◌, [], length, OnErr, OnOk};
 ghost use Rattle.dp_crew.specs.Output.{Streams};
 ghost use Rattle.dp_crew.specs.Fail.{FaultsAfter};
 
@@ -15,7 +15,8 @@ const MANY: usize = 4096;
 
 /// Lets more prints wait.
 pub(crate) fn wait(waiting: &mut Row<i64>, prints: &[i64]) -> Result<(), NoMemory>
-    ensures { OnOk result (waiting.new ≡ waiting.old ++ prints.now) }
+    ensures ok { OnOk result (waiting.new ≡ waiting.old ++ prints.now) }
+    ensures wanting { OnErr result (0 < length prints.now) }
 {
     for print in prints {
         waiting.push(*print)?;
@@ -32,6 +33,7 @@ pub fn flush_if_many<K: Sink>(
     requires { K.faults sink.old < 2 ^ 64 - 1 }
     ensures faults { FaultsAfter result (K.faults sink.old) (K.faults sink.new) }
     ensures few { OnOk result (length waiting.new < 4096) }
+    ensures many { OnErr result (4096 ≤ length waiting.old) }
     ensures streams { Streams result waiting.old (λ _. waiting.new) (K.written sink.old) (K.written sink.new) }
 {
     if waiting.len() < MANY {

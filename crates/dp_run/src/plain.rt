@@ -1,5 +1,5 @@
 //! A plain part of `main`: its statements up to the next region or the end.
-ghost use Rattle.std.specs.Prelude.{◌≡◌, ◌<◌, ◌-◌, ◌^◌, ◌++◌, List, ℤ, ℕ, length, IfOk, OnOk};
+ghost use Rattle.std.specs.Prelude.{◌≡◌, ◌<◌, ◌-◌, ◌^◌, ◌++◌, List, ℤ, ℕ, length, IfOk, OnErr, OnOk};
 ghost use Rattle.dp_tree.specs.declared.Program.{Program as Tree};
 ghost use Rattle.dp_meaning.specs.declared.ends.Part.TheVariants.{Plain};
 ghost use Rattle.dp_meaning.specs.MachineState.{next_part};
@@ -26,6 +26,7 @@ pub(crate) fn run_plain<'p, K: Sink>(
     requires sink { K.faults sink.old < 2 ^ 64 - 1 }
     ensures faults { FaultsAfter result (K.faults sink.old) (K.faults sink.new) }
     ensures ok { IfOk result (λ end. (p : Tree) (input : List ℤ) (fuel n : ℕ) → Behind p input fuel n machine.old → Leads p input fuel n machine.new end) }
+    ensures plain { OnErr result (next_part machine.old ≡ Plain) }
     ensures streams { Streams result (to_come machine.old) (λ _. to_come machine.new) (K.written sink.old) (K.written sink.new) }
 {
     let Part::Plain = machine.part() else {

@@ -3,6 +3,7 @@ ghost use Rattle.std.specs.Prelude.{◌≡◌, ◌<◌, ◌≤◌, ◌-◌, ◌+
 ghost use Rattle.dp_tree.specs.declared.Program.{Program as Tree};
 ghost use Rattle.dp_report.specs.PrintsText.{prints_bytes};
 ghost use Rattle.dp_semantics.specs.Reported.{region_report};
+ghost use Rattle.dp_crew.specs.declared.ends.RegionEnd.TheVariants.{Closed};
 ghost use Rattle.dp_crew.specs.Fail.{FaultsAfter};
 ghost use Rattle.dp_crew.specs.RegionRun.{IsPlanned};
 ghost use Rattle.dp_crew.specs.Output.{Emits, WritesFront};
@@ -84,6 +85,7 @@ fn finish_stretch<'p, K: Sink>(
     requires sink { K.faults sink.old < 2 ^ 64 - 1 }
     ensures faults { FaultsAfter result (K.faults sink.old) (K.faults sink.new) }
     ensures ok { IfOk result (λ ran. (p : Tree) (input : List ℤ) (fuel n : ℕ) → AfterRegion p input fuel n machine.entry end → Leads p input fuel n ran.0 ran.1) }
+    ensures closed { OnErr result (end ≡ Closed) }
     ensures written { IfOk result (λ ran. Emits (to_come machine.entry) (to_come ran.0) (K.written sink.old) (K.written sink.new)) }
     ensures front { OnErr result (WritesFront (prints_bytes (to_come machine.entry)) (K.written sink.old) (K.written sink.new)) }
 {

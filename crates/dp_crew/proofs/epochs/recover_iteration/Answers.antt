@@ -39,7 +39,7 @@ returns-in_ok-count_again-clause-ok g c plan first u =
     let steps = c.steps.ensures.value in
     let fuel = c.fuel.ensures in
     let counted : CountedAgain c.args.committed.now c.args.report.now c.count_again.new.report c.args.cause = record {
-      begun = λ h r n again f e w. c.in_ok-count_again.ensures r n again f e (w ∙ ap f (sym c.count-number.ensures.value)) ∙ ap (λ (k : ℕ). report_of r (k + 1) (again ++ k ∷ []) f) c.count-number.ensures.value;
+      begun = λ h r n again f e w. c.in_ok-count_again.ensures.counted r n again f e (w ∙ ap f (sym c.count-number.ensures.value)) ∙ ap (λ (k : ℕ). report_of r (k + 1) (again ++ k ∷ []) f) c.count-number.ensures.value;
       unbegun = λ h. absurd (omega (arith, h, begun, steps, fuel));
     } in
     recovered plan first c.args.committed.now c.args.report.now u.progress c.count_again.new.report c.args.cause u.again u.cause_is counted c.reexecute.new.committed s.0 c.in_ok-end.end s.1
@@ -53,7 +53,7 @@ pub returns-in_ok-count_again-clause-counts : goal.returns-in_ok-count_again-cla
 returns-in_ok-count_again-clause-counts g c =
     let u = c.requires.unclean in
     let again : List ℕ = again_before u.0 u.1 c.args.committed.now.count in
-    let is = c.in_ok-count_again.ensures u.0.region c.args.committed.now.count again (cause_of u.0 u.1) u.2.progress.report_is (u.2.cause_is ∙ ap (cause_of u.0 u.1) (sym c.count-number.ensures.value)) in
+    let is = c.in_ok-count_again.ensures.counted u.0.region c.args.committed.now.count again (cause_of u.0 u.1) u.2.progress.report_is (u.2.cause_is ∙ ap (cause_of u.0 u.1) (sym c.count-number.ensures.value)) in
     let iterations = ap (λ (x : RegionReport). x.iterations) is in
     let more = ap (λ (x : RegionReport). x.recovered_count) is ∙ length-append again (c.count-number.result ∷ []) in
     let before = ap (λ (x : RegionReport). x.iterations) u.2.progress.report_is in
@@ -69,7 +69,7 @@ returns-in_ok-count_again-clause-left g c none =
     let steps = c.steps.ensures.value in
     let fuel = c.fuel.ensures in
     let counted : CountedAgain c.args.committed.now c.args.report.now c.count_again.new.report c.args.cause = record {
-      begun = λ h r n again f e w. c.in_ok-count_again.ensures r n again f e (w ∙ ap f (sym c.count-number.ensures.value)) ∙ ap (λ (k : ℕ). report_of r (k + 1) (again ++ k ∷ []) f) c.count-number.ensures.value;
+      begun = λ h r n again f e w. c.in_ok-count_again.ensures.counted r n again f e (w ∙ ap f (sym c.count-number.ensures.value)) ∙ ap (λ (k : ℕ). report_of r (k + 1) (again ++ k ∷ []) f) c.count-number.ensures.value;
       unbegun = λ h. absurd (omega (arith, h, begun, steps, fuel));
     } in
     recovered_left u.0 u.1 c.args.committed.now c.args.report.now u.2.progress c.count_again.new.report c.args.cause u.2.again u.2.cause_is counted c.reexecute.new.committed s.0 c.in_ok-end.end s.1 none
