@@ -137,6 +137,7 @@ impl<'a, 't> Tokens<'a, 't> {
     pub fn semicolon(&mut self) -> Result<Token<'t>, ParseError>
         ensures taken { IfOk result (λ t. steps.expect Semicolon self.old ≡ Taken (lexeme t, self.new)) }
         ensures refused { OnErr result (steps.expect Semicolon self.old ≡ Stuck self.new) }
+        ensures decides { result ≢ Stuck error.NoMemory }
     {
         self.expect(Symbol::Semicolon)
     }
