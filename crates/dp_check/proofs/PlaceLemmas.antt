@@ -1,5 +1,5 @@
 -- Places after the forms of statements.
-use Rattle.std.proofs.Common.{◌≡◌, refl, sym, ap, ◌∙◌, ℕ, suc, ◌+◌, ◌≤◌, List, [], ◌∷◌, ◌++◌, length, take, drop, add-zero, arith, length-append}
+use Rattle.std.proofs.Common.{◌≡◌, ◌⊎◌, inl, inr, Result, Ok, Err, OnErr, subst, refl, sym, ap, ◌∙◌, ℕ, suc, ◌+◌, ◌≤◌, List, [], ◌∷◌, ◌++◌, length, take, drop, add-zero, arith, length-append}
 use Rattle.std.proofs.lemmas.List.{take-append-le, take_all as all_taken}
 use Rattle.dp_tree.specs.declared.SiteKind.{SiteKind}
 use Rattle.dp_tree.specs.declared.SiteKind.TheVariants as kind
@@ -9,7 +9,7 @@ use Rattle.dp_tree.specs.declared.raw.RawStmt.{RawStmt, Row_of-RawStmt, end_of-R
 use Rattle.dp_tree.specs.declared.raw.RawStmt.TheVariants as raw
 use Rattle.dp_check.specs.declared.place.Place.{Place}
 use Rattle.dp_check.specs.Names.{Named}
-use Rattle.dp_check.specs.Place.{Part, Site, Local, parts, parts_in, parts_all, site_count, local_count, passed, sited, with_scalar, with_variable, after, after_in, after_all}
+use Rattle.dp_check.specs.Place.{Part, Site, Local, IsPastNumbers, parts, parts_in, parts_all, site_count, local_count, passed, sited, with_scalar, with_variable, after, after_in, after_all}
 
 -- what opens where a statement is made
 unfoldable pub opened : Unit {0}
@@ -198,14 +198,36 @@ module _ (p : Place) where
       → passed p (parts (raw.While line marked cond body)) ≡ passed (sited p) (parts_all body)
   pass-While line marked cond body = after-While p line marked cond body
 
+  pub pass-For-first : (line : ℕ) (marked : Rattle.std.proofs.Common.Bool) (first : List RawStmt) (cond : RawExpr) (step body : List RawStmt)
+      → passed p (parts (raw.For line marked first cond step body)) ≡ passed (passed p (parts_all first)) (Site line kind.While ∷ (parts_all body ++ parts_all step))
+  pass-For-first line marked first cond step body =
+      after-For p line marked first cond step body ∙ passed-append p (parts_all first) (Site line kind.While ∷ (parts_all body ++ parts_all step))
+
+  pub pass-For-site : (line : ℕ) (marked : Rattle.std.proofs.Common.Bool) (first : List RawStmt) (cond : RawExpr) (step body : List RawStmt)
+      → passed p (parts (raw.For line marked first cond step body)) ≡ passed (sited (passed p (parts_all first))) (parts_all body ++ parts_all step)
+  pass-For-site line marked first cond step body =
+      pass-For-first line marked first cond step body ∙ passed-site (passed p (parts_all first)) line kind.While (parts_all body ++ parts_all step)
+
   pub pass-For : (line : ℕ) (marked : Rattle.std.proofs.Common.Bool) (first : List RawStmt) (cond : RawExpr) (step body : List RawStmt)
       → passed p (parts (raw.For line marked first cond step body)) ≡ passed (passed (sited (passed p (parts_all first))) (parts_all body)) (parts_all step)
   pass-For line marked first cond step body =
-      after-For p line marked first cond step body ∙ passed-append p (parts_all first) (Site line kind.While ∷ (parts_all body ++ parts_all step))
-      ∙ passed-site (passed p (parts_all first)) line kind.While (parts_all body ++ parts_all step)
+      pass-For-site line marked first cond step body
       ∙ passed-append (sited (passed p (parts_all first))) (parts_all body) (parts_all step)
 
 pub ruleset pass_forms = (pass-Declare, pass-Assign, pass-Store, pass-Call, pass-Print, pass-Break, pass-If, pass-While)
 
 pub passed_more : (p : Place) (s : RawStmt) (rest : List RawStmt) → passed p (parts_all (s ∷ rest)) ≡ passed (passed p (parts s)) (parts_all rest)
 passed_more p s rest = passed-append p (parts s) (parts_all rest)
+
+-- numbers only grow
+pub still_past : (p : Place) (more : List Part) → IsPastNumbers p → IsPastNumbers (passed p more)
+still_past p more (inl sites) = inl (omega arith)
+still_past p more (inr variables) = inr (omega arith)
+
+-- so a front of the parts that is past them shows that the whole is
+pub past_by : (p q : Place) (more : List Part) → q ≡ passed p more → IsPastNumbers p → IsPastNumbers q
+past_by p q more same past = subst IsPastNumbers (sym same) (still_past p more past)
+
+pub on_err : {T E : Type 0} (r : Result T E) (P : Type 0) → P → OnErr r P
+on_err (Ok x) P p = tt
+on_err (Err e) P p = p

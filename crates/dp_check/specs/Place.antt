@@ -1,5 +1,5 @@
 -- What a piece of the text declares, and the place after it.
-use Rattle.std.specs.Prelude.{ℕ, suc, ◌+◌, List, [], ◌∷◌, ◌++◌}
+use Rattle.std.specs.Prelude.{ℕ, suc, ◌+◌, ◌^◌, ◌≤◌, ◌⊎◌, List, [], ◌∷◌, ◌++◌}
 use Rattle.dp_tree.specs.declared.raw.Name.{Name}
 use Rattle.dp_tree.specs.declared.raw.RawStmt.{RawStmt, Row_of-RawStmt, end_of-RawStmt, more_of-RawStmt}
 use Rattle.dp_tree.specs.declared.raw.RawStmt.TheVariants.{Declare, Assign, Store, Call, Print, If', While', For', Break}
@@ -52,6 +52,10 @@ local_count (Local name ∷ rest) = suc (local_count rest)
 -- the place after a block: its numbers are used, and its names are given up
 abbrev pub passed : Place → List Part → Place
 passed p done = record p { variable = p.variable + local_count done; site = p.site + site_count done }
+
+-- a number that comes next has more than 32 bits
+abbrev pub IsPastNumbers : Place → Type 0
+IsPastNumbers p = (2 ^ 32 ≤ p.site) ⊎ (2 ^ 32 ≤ p.variable)
 
 -- the place after a condition's site
 abbrev pub sited : Place → Place

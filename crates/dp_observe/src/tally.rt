@@ -1,5 +1,5 @@
 //! What was counted at one site.
-ghost use Rattle.std.specs.Prelude.{◌≡◌, ℕ, ◌+◌, ◌≤◌, ◌^◌, IfOk, OnOk, OnErr};
+ghost use Rattle.std.specs.Prelude.{◌≡◌, ℕ, ◌+◌, ◌≤◌, ◌⊎◌, ◌^◌, true, IfOk, OnOk, OnErr};
 ghost use Rattle.dp_observe.specs.Frames as definition;
 ghost use Rattle.dp_observe.specs.Columns.{at_column};
 
@@ -54,7 +54,8 @@ impl Tally {
 
     /// Counts an evaluation.
     pub(crate) fn evaluated(&mut self, effect: Effect) -> Result<(), NoMemory>
-        ensures { OnOk result (self.new ≡ record self.old { count = definition.counted self.old.count effect }) }
+        ensures count { OnOk result (self.new ≡ record self.old { count = definition.counted self.old.count effect }) }
+        ensures full { OnErr result ((2 ^ 64 ≤ self.old.count.runs + 1) ⊎ ((2 ^ 64 ≤ self.old.count.nonzero + 1) × (definition.is_nonzero effect ≡ true))) }
     {
         let runs = one_more(self.count.runs)?;
         let nonzero = if is_nonzero(effect) {

@@ -45,9 +45,9 @@ saw_word word old new busy =
     let loads : new.view.loads ≡ old.view.loads + 1 = ap (λ (v : View LaneKey). v.loads) busy.1 in
     let value : new.view.value ≡ word = ap (λ (v : View LaneKey). v.value) busy.1 in
     let more : old.view.loads < new.view.loads = omega (arith, loads) in (
-      (inl more, value, ap (λ (v : View LaneKey). v.at) busy.1),
-      (inl more, value, ap (λ (v : View LaneKey). v.taken) busy.1),
-      (inl more, value, ap (λ (v : View LaneKey). v.given) busy.1),
+      (inl more, value, ap (λ (v : View LaneKey). v.at) busy.1, refl),
+      (inl more, value, ap (λ (v : View LaneKey). v.taken) busy.1, refl),
+      (inl more, value, ap (λ (v : View LaneKey). v.given) busy.1, refl),
     )
 
 -- an item was taken out of the ring, or not yet

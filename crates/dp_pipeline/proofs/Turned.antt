@@ -28,8 +28,8 @@ rose_from first old new least rose = elim rose [ inl more ↦ inl (omega (arith,
 -- a try to send was refused, and nothing was sent before it
 pub send_from : (why : IdleWhy) (first old new : Facts) → Stays first old → RefusesSend why old new → RefusesSend why first new
 send_from Empty first old new stays r = r
-send_from Full first old new stays r = (rose_from first.tries old.tries new.tries stays.1 r.0, r.1 ∙ stays.0)
-send_from (Busy word) first old new stays r = (rose_from first.tries old.tries new.tries stays.1 r.0, r.1, r.2 ∙ stays.0)
+send_from Full first old new stays r = (rose_from first.tries old.tries new.tries stays.1 r.0, r.1 ∙ stays.0, r.2)
+send_from (Busy word) first old new stays r = (rose_from first.tries old.tries new.tries stays.1 r.0, r.1, r.2 ∙ stays.0, r.3)
 
 module _ {E S I O : Type 0} (ready : E → EpochKey → ℕ → Option ℕ → Type 0) (holds : E → EpochKey → ℕ → Option ℕ → ℕ → Type 0) (taking sending : E → Facts) (ended : E → Bool)
     (stands : S → EpochKey → ℕ → Option ℕ → Type 0) (is_taken : EpochKey → ℕ → ℕ → I → Type 0) (is_sent : EpochKey → ℕ → ℕ → O → Type 0) (is_last : EpochKey → O → Bool) where

@@ -1,25 +1,28 @@
 -- What a clause sees of the end that a unit takes from, or sends on.
-use Rattle.std.specs.Prelude.{◌≡◌, ◌⊎◌, ℕ, ◌+◌, ◌-◌, ◌^◌, ◌<◌, ◌≤◌, Result, Ok, Err}
+use Rattle.std.specs.Prelude.{◌≡◌, ◌⊎◌, Bool, true, false, ℕ, ◌+◌, ◌-◌, ◌^◌, ◌<◌, ◌≤◌, Result, Ok, Err}
 use Rattle.dp_pipeline.specs.declared.polled.IdleWhy.{IdleWhy}
 use Rattle.dp_pipeline.specs.declared.polled.IdleWhy.TheVariants.{Empty, Full, Busy}
 use Rattle.dp_pipeline.specs.declared.ends.Refused.{Refused}
 
--- how many items it took or sent, how many tries were refused or words were loaded, and the word that was loaded last
+-- how many items it took or sent, how many tries were refused or words were loaded, the word that was loaded last, and whether it is at a
+-- ring, whose words it loads
 pub record Facts : Type 0 where
   pub count : ℕ
   pub tries : ℕ
   pub word : ℕ
+  pub at_ring : Bool
 
 -- a number of tries rose, or stands at its greatest value
 abbrev pub Rose : ℕ → ℕ → Type 0
 Rose old new = (old < new) ⊎ (new ≡ 2 ^ 64 - 1)
 
--- it was refused once more, and the word loaded last is this one
+-- a ring refused it once more, and the word loaded last is this one
 abbrev pub SawWord : ℕ → Facts → Facts → Type 0
-SawWord word old new = Rose old.tries new.tries × (new.word ≡ word) × (new.count ≡ old.count)
+SawWord word old new = Rose old.tries new.tries × (new.word ≡ word) × (new.count ≡ old.count) × (new.at_ring ≡ true)
 
+-- a lane, or what starts the iterations, refused it once more
 abbrev pub WasRefused : Facts → Facts → Type 0
-WasRefused old new = Rose old.tries new.tries × (new.count ≡ old.count)
+WasRefused old new = Rose old.tries new.tries × (new.count ≡ old.count) × (new.at_ring ≡ false)
 
 -- nothing was taken or sent. A seat that does both may have loaded words
 abbrev pub Stays : Facts → Facts → Type 0

@@ -31,7 +31,7 @@ Polls old answer new = Advances old.taking old.sending answer new.taking new.sen
 
 -- a unit that has ended stays as it is; another looks at the flag once, and ends where it saw it set
 abbrev pub LooksOnce : Counts → Polled → Counts → Type 0
-LooksOnce old answer new = (HasEnded old × (new ≡ old)) ⊎ ((new.loads ≡ old.loads + 1) × (new.stopped ≡ true → answer ≡ Ended))
+LooksOnce old answer new = (HasEnded old → new ≡ old) × (¬ HasEnded old → (new.loads ≡ old.loads + 1) × (new.stopped ≡ true → answer ≡ Ended))
 
 -- why a unit has ended: an ending item was sent, or else the flag was seen set
 abbrev pub why_ended : Counts → Option EndedWhy

@@ -53,10 +53,10 @@ pub record HasTaken (ends : Tickets) (key : EpochKey) (s : ℕ) (place : Option 
 
 -- what is known of a seat that puts or collects, and of a worker's at either side
 abbrev pub seat_facts : Standing LaneKey → Facts
-seat_facts seat = record { count = seat.view.at; tries = seat.view.loads; word = seat.view.value }
+seat_facts seat = record { count = seat.view.at; tries = seat.view.loads; word = seat.view.value; at_ring = true }
 
 abbrev pub taking_facts : Standing LaneKey → Facts
-taking_facts seat = record { count = seat.view.taken; tries = seat.view.loads; word = seat.view.value }
+taking_facts seat = record { count = seat.view.taken; tries = seat.view.loads; word = seat.view.value; at_ring = true }
 
 abbrev pub giving_facts : Standing LaneKey → Facts
-giving_facts seat = record { count = seat.view.given; tries = seat.view.loads; word = seat.view.value }
+giving_facts seat = record { count = seat.view.given; tries = seat.view.loads; word = seat.view.value; at_ring = true }

@@ -64,13 +64,13 @@ module _ {K : Type 0} where
   ended_by _ = false
 
   abbrev pub taken_facts : End K → Facts
-  taken_facts end = record { count = taken_by end.view; tries = end.refused; word = 0 }
+  taken_facts end = record { count = taken_by end.view; tries = end.refused; word = 0; at_ring = false }
 
   abbrev pub sent_facts : End K → Facts
-  sent_facts end = record { count = sent_by end.view; tries = end.refused; word = 0 }
+  sent_facts end = record { count = sent_by end.view; tries = end.refused; word = 0; at_ring = false }
 
 abbrev pub source_facts : Source → Facts
-source_facts (source.Start x) = record { count = x.next - x.first; tries = x.refused; word = 0 }
+source_facts (source.Start x) = record { count = x.next - x.first; tries = x.refused; word = 0; at_ring = false }
 source_facts (source.Lane end) = taken_facts end
 source_facts (source.Ring seat) = seat_facts seat
 

@@ -1,5 +1,5 @@
 //! The programs of a plan's stages.
-ghost use Rattle.std.specs.Prelude.{◌≡◌, ◌+◌, IfOk};
+ghost use Rattle.std.specs.Prelude.{◌≡◌, ◌≤◌, ◌+◌, ◌^◌, IfOk, OnErr};
 ghost use Rattle.dp_code.specs.Code.{stage_code};
 ghost use Rattle.dp_pipeline.specs.Programs.{ArePrograms};
 
@@ -42,7 +42,8 @@ fn program_at(
 
 /// The number of the stage at this place, or want of memory where it has more than 32 bits.
 fn number_at(place: usize) -> Result<u32, NoMemory>
-    ensures { IfOk result (λ number. number ≡ place + 1) }
+    ensures number { IfOk result (λ number. number ≡ place + 1) }
+    ensures wanting { OnErr result (2 ^ 32 ≤ place + 1) }
 {
     match u32::try_from(place) {
         Ok(place) => place.checked_add(1).ok_or(NoMemory),

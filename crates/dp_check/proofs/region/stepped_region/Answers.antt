@@ -43,4 +43,4 @@ returns-clause-place c =
     let p = c.args.place.now in let step = c.args.step.now in let body = c.args.body.now in
     let back = c.in_ok-last.ensures.place ∙ c.in_ok-site.ensures.place in
     let body_end = c.in_ok-body.ensures.place ∙ (λ i. passed (back i) (parts_all body)) in
-    c.in_ok-pass_all.ensures ∙ (λ i. passed (body_end i) (parts_all step)) ∙ sym (passed-append (sited p) (parts_all body) (parts_all step))
+    c.in_ok-pass_all.ensures.place ∙ (λ i. passed (body_end i) (parts_all step)) ∙ sym (passed-append (sited p) (parts_all body) (parts_all step))

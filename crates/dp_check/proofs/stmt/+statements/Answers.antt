@@ -194,7 +194,7 @@ statement-returns-in_ok-append-in-For-clause-place t c =
     let start = c.in_ok-statements-in-For.ensures.place ∙ (λ i. after_all p (c.as_slice-in-For.ensures i)) in
     let behind = c.in_ok-last-in-For.ensures.place ∙ c.in_ok-site-in-For.ensures.place ∙ (λ i. sited (start i)) in
     let body_end = c.in_ok-body-in-For.ensures.place ∙ (λ i. passed (behind i) (parts_all (c.as_slice-in-For-4.ensures i))) in
-    let ended = c.in_ok-pass_all-in-For.ensures ∙ (λ i. passed (body_end i) (parts_all (c.as_slice-in-For-5.ensures i)))
+    let ended = c.in_ok-pass_all-in-For.ensures.place ∙ (λ i. passed (body_end i) (parts_all (c.as_slice-in-For-5.ensures i)))
     ∙ sym (passed-append (sited (after_all p w.first)) (parts_all w.body) (parts_all w.step)) in
     let kept = c.keep.ensures ∙ (λ i. take (c.len-count.ensures i) (ended i).names) in
     rw w.is
@@ -239,13 +239,13 @@ block-returns-clause-value t c =
 pub step_of-returns-in_err-last-clause-value : goal.step_of-returns-in_err-last-clause-value
 step_of-returns-in_err-last-clause-value t c =
     let step = c.args.step.now in let q = passed c.args.place.now (parts_all c.args.body.now) in
-    let refused : (e : CheckFail) → block_answer c.pass_all.new.place step ≡ Err e → block_answer q step ≡ Err e = λ e h. ap (λ r. block_answer r step) (sym c.in_ok-pass_all.ensures) ∙ h in
+    let refused : (e : CheckFail) → block_answer c.pass_all.new.place step ≡ Err e → block_answer q step ≡ Err e = λ e h. ap (λ r. block_answer r step) (sym c.in_ok-pass_all.ensures.place) ∙ h in
     first_of (search rules, grind (arith, common_steps))
 
 pub step_of-returns-clause-value : goal.step_of-returns-clause-value
-step_of-returns-clause-value t c = ap (λ r. block_answer r c.args.step.now) (sym c.in_ok-pass_all.ensures) ∙ c.in_ok-last.ensures.value
+step_of-returns-clause-value t c = ap (λ r. block_answer r c.args.step.now) (sym c.in_ok-pass_all.ensures.place) ∙ c.in_ok-last.ensures.value
 
 pub step_of-returns-clause-place : goal.step_of-returns-clause-place
 step_of-returns-clause-place t c =
-    let ended = c.in_ok-last.ensures.place ∙ ap (λ q. passed q (parts_all c.args.step.now)) c.in_ok-pass_all.ensures in
+    let ended = c.in_ok-last.ensures.place ∙ ap (λ q. passed q (parts_all c.args.step.now)) c.in_ok-pass_all.ensures.place in
     c.renumber.ensures ∙ (λ i. record { names = (ended i).names; variable = (c.numbers-start.ensures i).variable; site = (c.numbers-start.ensures i).site })
