@@ -82,11 +82,8 @@ impl Watched {
             Stmt::While { site, cond, body } => {
                 'turns: for _ in 0..u64::MAX {
                     match self.decide(ground, *site, cond) {
-                        Step::On(value) => {
-                            if zero(value) {
-                                return Looked::Goes;
-                            }
-                        }
+                        Step::On(value) if zero(value) => return Looked::Goes,
+                        Step::On(_) => {}
                         Step::Found(cause) => return Looked::Found(cause),
                         Step::NoMemory => return Looked::NoMemory,
                     }

@@ -52,11 +52,8 @@ impl Watched {
                 self.cells = memory;
                 self.look(ground, site, form, own.as_slice())
             }
-            Turned::Void(why) => match why {
-                VoidWhy::Fault(fault) => Step::Found(Cause::Fault(fault)),
-                VoidWhy::Full | VoidWhy::Astray { .. } => Step::NoMemory,
-            },
-            Turned::NoMemory => Step::NoMemory,
+            Turned::Void(VoidWhy::Fault(fault)) => Step::Found(Cause::Fault(fault)),
+            Turned::Void(_) | Turned::NoMemory => Step::NoMemory,
         }
     }
 

@@ -4,6 +4,7 @@ pub mod AnswerLemmas
 pub mod LoopLemmas
 pub mod ExprLemmas
 pub mod PlaceLemmas
+pub mod Weight
 pub mod StmtLemmas
 pub mod StepLemmas
 pub mod ItemLemmas

@@ -1,34 +1,27 @@
 -- Statements of a lawful text are in scope.
-use Rattle.std.proofs.Common.{◌≡◌, refl, sym, ap, ◌∙◌, subst, ℕ, ◌+◌, ◌≤◌, ◌==◌, Bool, true, false, not, ◌&&◌, ◌||◌, if◌then◌else◌, List, [], ◌∷◌, ◌++◌, length, Option, Some, None, slice_get, nat_lt, arith}
-use Rattle.std.proofs.lemmas.Bool.Decides.{nat_tests}
+use Rattle.std.proofs.Common.{◌≡◌, refl, sym, ap, ◌∙◌, subst, ℕ, ◌≤◌, ◌==◌, Bool, true, false, ◌&&◌, ◌||◌, if◌then◌else◌, List, [], ◌∷◌, ◌++◌, length, None, slice_get, arith}
 use Rattle.std.proofs.lemmas.List.{length-map}
-use Rattle.std.specs.List.{list_all}
 use Rattle.dp_base.specs.declared.SiteId.{SiteId}
 use Rattle.dp_tree.specs.declared.Expr.{Expr}
 use Rattle.dp_tree.specs.declared.Program.{Program}
 use Rattle.dp_tree.specs.declared.Stmt.{Stmt}
 use Rattle.dp_tree.specs.declared.Stmt.TheVariants as code
 use Rattle.dp_tree.specs.declared.SiteKind.TheVariants as kind
-use Rattle.dp_tree.specs.declared.raw.Name.{Name}
 use Rattle.dp_tree.specs.declared.raw.RawStmt.{RawStmt, Row_of-RawStmt, end_of-RawStmt, more_of-RawStmt}
 use Rattle.dp_tree.specs.declared.raw.RawStmt.TheVariants as raw
 use Rattle.dp_tree.specs.Functions.{params_in}
 use Rattle.dp_tree.specs.Scoping.{sees, knows, is_declared_in, seen_behind, in_scope, rows_in_scope, all_in_scope}
-use Rattle.dp_check.specs.declared.fail.CheckFail.{CheckFail}
-use Rattle.dp_check.specs.declared.names.Meaning.{Meaning}
-use Rattle.dp_check.specs.declared.names.Meaning.TheVariants.{Scalar, Array, Input, InputLen, Function}
 use Rattle.dp_check.specs.declared.place.Place.{Place}
 use Rattle.dp_check.specs.Names.{named}
-use Rattle.dp_check.specs.Offence.{Token, Assigns, AssignsElement, Calls, offence, offence_of, or_else, first_offence}
-use Rattle.dp_check.specs.Place.{Part, Site, parts, parts_in, parts_all, local_count, passed, sited, with_scalar, after, after_in, after_all}
+use Rattle.dp_check.specs.Offence.{Assigns, AssignsElement, Calls, first_offence}
+use Rattle.dp_check.specs.Place.{Site, parts, parts_in, parts_all, local_count, passed, sited, with_scalar, after, after_in, after_all}
 use Rattle.dp_check.specs.Tokens.{token, expr_tokens, args_tokens, tokens, tokens_in, tokens_all}
 use Rattle.dp_check.specs.Resolved.{variable_of, function_of, resolved_expr, next_site, next_variable, resolved, resolved_in, resolved_all}
-use Rattle.dp_check.proofs.AnswerLemmas.{first_offence-append}
 use Rattle.dp_check.proofs.PlaceLemmas.{after_variable, after_in_variable, local_count-append}
 use Rattle.dp_check.proofs.NumberLemmas.{stmt_opened}
-use Rattle.dp_check.proofs.BoolLemmas.{both_true, halves, all_weaker}
+use Rattle.dp_check.proofs.BoolLemmas.{both_true, halves}
 use Rattle.dp_check.proofs.DeclaredLemmas.{Declared, declared_front, declared_back}
-use Rattle.dp_check.proofs.KnownLemmas.{seen_behind_all, known_behind, is_known_if, all_known, found, sees_first, known_more, known_append, knows_expr, knows_args}
+use Rattle.dp_check.proofs.KnownLemmas.{seen_behind_all, known_behind, found, knows_expr, knows_args}
 use Rattle.dp_check.proofs.Visible.{At, assigned, at_declared, at_passed, below_still, called, lawful_first, lawful_parts, stored, unseen}
 
 -- ---- each form of statement

@@ -15,7 +15,7 @@ use Rattle.dp_check.specs.Tokens.{token, expr_tokens, args_tokens, tokens, token
 use Rattle.dp_check.specs.Resolved.{variable_of, function_of, resolved_expr, next_site, next_variable, resolved, resolved_in, resolved_all, with_step}
 use Rattle.dp_check.specs.Answer.{answer, expr_answer, args_answer, stmt_answer, block_answer, loop_answer}
 use Rattle.dp_check.proofs.AnswerLemmas.{and_then, first_offence-append, answer-one, answer-two, answer-three}
-use Rattle.dp_check.proofs.PlaceLemmas.{opened, parts_hidden, after_hidden}
+use Rattle.dp_check.proofs.PlaceLemmas.{opened, parts_hidden, after_hidden, passed-append}
 
 pub tokens_hidden : (p : Place) (xs : List RawStmt) → tokens_in p (Rattle.dp_tree.specs.declared.raw.RawStmt.TheBlock.hidden-the_row-RawStmt-0 xs) ≡ tokens_all p xs
 unfolding opened
@@ -126,3 +126,5 @@ module _ (p : Place) where
       ∙ answer-two (first_offence (tokens p s)) (first_offence (tokens_all (after p s) rest)) (resolved p s) (resolved_all (after p s) rest) (λ x xs. x ++ xs)
 
 pub ruleset stmt_answers = (answer-Declare, answer-Assign, answer-Store, answer-Call, answer-Print, answer-Break, answer-If, answer-While, answer-For)
+
+pub ruleset loop_answers = (loop_answer-is, passed-append)

@@ -12,6 +12,7 @@ mod numbers;
 mod place;
 mod program;
 mod region;
+mod simple;
 mod sites;
 mod stmt;
 mod trees;

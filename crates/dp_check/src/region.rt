@@ -6,9 +6,8 @@ ghost use Rattle.dp_check.specs.Place.{after, passed, parts_all, sited};
 ghost use Rattle.dp_check.specs.Resolved as spec;
 ghost use Rattle.dp_check.specs.Answer.{Gives, onto, with_last, stepped_answer, top_answer, main_answer};
 
-use crate::numbers::pass_all;
 use crate::place::{Place, next};
-use crate::stmt::{block, statement, statements, step_of};
+use crate::stmt::{block, looped, statement, statements};
 use crate::{CheckFail, expr};
 use dp_base::{NoMemory, Row};
 use dp_tree::{RawExpr, RawStmt, Stmt};
@@ -62,10 +61,7 @@ fn stepped_region<'a>(
 {
     let cond = expr::resolve(alloc, &place.names, cond)?;
     let site = place.take_site()?;
-    let last = step_of(alloc, place, step, body)?;
-    let mut body = block(alloc, place, body)?;
-    pass_all(place, step)?;
-    body.append(last)?;
+    let body = looped(alloc, place, step, body)?;
     Ok(Stmt::Region {
         region,
         site,
@@ -103,14 +99,8 @@ fn top<'a>(
         } if *marked => {
             let count = place.names.len();
             statements(alloc, place, first.as_slice(), done)?;
-            let last = stepped_region(
-                alloc,
-                place,
-                number,
-                cond,
-                step.as_slice(),
-                body.as_slice(),
-            )?;
+            let (step, body) = (step.as_slice(), body.as_slice());
+            let last = stepped_region(alloc, place, number, cond, step, body)?;
             place.names.keep(count);
             Ok(last)
         }

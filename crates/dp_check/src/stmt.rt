@@ -1,121 +1,105 @@
 //! Statements with names become statements with numbers.
 
-ghost use Rattle.std.specs.Prelude.{◌≡◌, ℕ, [], OnOk};
-ghost use Rattle.dp_tree.specs.declared.Stmt.TheVariants as code;
+ghost use Rattle.std.specs.Prelude.{◌≡◌, ◌++◌, ℕ, Bool, [], OnOk};
 ghost use Rattle.dp_tree.specs.declared.raw.RawStmt.TheVariants as tree;
-ghost use Rattle.dp_check.specs.Place.{after, after_all, passed, parts_all, sited, with_scalar};
-ghost use Rattle.dp_check.specs.Answer.{Gives, onto, with_last, with_all, stmt_answer, block_answer};
+ghost use Rattle.dp_check.specs.Place.{after, after_all, passed, parts_all, sited};
+ghost use Rattle.dp_check.specs.Answer.{Gives, onto, with_last, with_all, stmt_answer, block_answer, loop_answer};
 
 use crate::numbers::pass_all;
 use crate::place::Place;
-use crate::{CheckFail, expr, uses};
-use dp_base::{Row, SiteId};
-use dp_tree::{Expr, Name, RawExpr, RawStmt, Stmt};
+use crate::simple::{assign, call, declare, exit, print, store};
+use crate::{CheckFail, expr};
+use dp_base::Row;
+use dp_tree::{RawExpr, RawStmt, Stmt};
 use std::alloc::Global;
 
+/// An `if` with these parts.
 #[tactic(auto, using(crate::proofs::StmtLemmas::stmt_answers))]
-fn declare<'a>(
+#[cycle(statements)]
+fn conditional<'a>(
     alloc: Global,
     place: &mut Place<'a>,
-    name: &'a Name,
-    value: &RawExpr,
+    then_part: &'a [RawStmt],
+    else_part: &'a [RawStmt],
+    cond: &RawExpr,
 ) -> Result<Stmt, CheckFail>
-    ensures value { (line : ℕ) → Gives (stmt_answer place.old (tree.Declare line name.now value.now)) (with_last [] result) }
-    ensures place { OnOk result (place.new ≡ with_scalar (sited place.old) name.now) }
+    ensures value { (line : ℕ) → Gives (stmt_answer place.old (tree.If line cond.now then_part.now else_part.now)) (with_last [] result) }
+    ensures place { OnOk result (place.new ≡ passed (passed (sited place.old) (parts_all then_part.now)) (parts_all else_part.now)) }
 {
-    uses::undeclared(&place.names, name)?;
-    let value = expr::resolve(alloc, &place.names, value)?;
+    let cond = expr::resolve(alloc, &place.names, cond)?;
     let site = place.take_site()?;
-    let var = place.declare_scalar(name)?;
-    Ok(Stmt::Assign { site, var, value })
-}
-
-#[tactic(auto, using(crate::proofs::StmtLemmas::stmt_answers))]
-fn assign(
-    alloc: Global,
-    place: &mut Place<'_>,
-    name: &Name,
-    value: &RawExpr,
-) -> Result<Stmt, CheckFail>
-    ensures value { Gives (stmt_answer place.old (tree.Assign name.now value.now)) (with_last [] result) }
-    ensures place { OnOk result (place.new ≡ sited place.old) }
-{
-    let var = uses::assigned(&place.names, name)?;
-    let value = expr::resolve(alloc, &place.names, value)?;
-    let site = place.take_site()?;
-    Ok(Stmt::Assign { site, var, value })
-}
-
-#[tactic(auto, using(crate::proofs::StmtLemmas::stmt_answers))]
-fn store(
-    alloc: Global,
-    place: &mut Place<'_>,
-    name: &Name,
-    index: &RawExpr,
-    value: &RawExpr,
-) -> Result<Stmt, CheckFail>
-    ensures value { Gives (stmt_answer place.old (tree.Store name.now index.now value.now)) (with_last [] result) }
-    ensures place { OnOk result (place.new ≡ sited place.old) }
-{
-    let var = uses::assigned_element(&place.names, name)?;
-    let index = expr::resolve(alloc, &place.names, index)?;
-    let value = expr::resolve(alloc, &place.names, value)?;
-    let site = place.take_site()?;
-    Ok(Stmt::Store {
-        site,
-        var,
-        index,
-        value,
-    })
-}
-
-#[tactic(auto, using(crate::proofs::StmtLemmas::stmt_answers))]
-fn call(alloc: Global, place: &Place<'_>, name: &Name, args: &[RawExpr]) -> Result<Stmt, CheckFail>
-    ensures { Gives (stmt_answer place.now (tree.Call name.now args.now)) (with_last [] result) }
-{
-    let function = uses::called(&place.names, name, args.len())?;
-    let args = expr::resolve_all(alloc, &place.names, args)?;
-    Ok(Stmt::Call {
-        function,
-        line: name.line,
-        args,
-    })
-}
-
-#[tactic(auto, using(crate::proofs::StmtLemmas::stmt_answers))]
-fn print(alloc: Global, place: &mut Place<'_>, value: &RawExpr) -> Result<Stmt, CheckFail>
-    ensures value { (line : ℕ) → Gives (stmt_answer place.old (tree.Print line value.now)) (with_last [] result) }
-    ensures place { OnOk result (place.new ≡ sited place.old) }
-{
-    let value = expr::resolve(alloc, &place.names, value)?;
-    let site = place.take_site()?;
-    Ok(Stmt::Print { site, value })
-}
-
-/// An `if` with these parts.
-fn choice(site: SiteId, cond: Expr, then_part: Row<Stmt>, else_part: Row<Stmt>) -> Stmt
-    ensures { result ≡ code.If site cond then_part else_part }
-{
-    Stmt::If {
+    let then_part = block(alloc, place, then_part)?;
+    let else_part = block(alloc, place, else_part)?;
+    Ok(Stmt::If {
         site,
         cond,
         then_part,
         else_part,
-    }
+    })
 }
 
+/// A `while` with these parts. A mark on it means nothing here.
 #[tactic(auto, using(crate::proofs::StmtLemmas::stmt_answers))]
-fn exit(alloc: Global, place: &mut Place<'_>, cond: &RawExpr) -> Result<Stmt, CheckFail>
-    ensures value { (line : ℕ) → Gives (stmt_answer place.old (tree.Break line cond.now)) (with_last [] result) }
-    ensures place { OnOk result (place.new ≡ sited place.old) }
+#[cycle(statements)]
+fn repeated<'a>(
+    alloc: Global,
+    place: &mut Place<'a>,
+    body: &'a [RawStmt],
+    cond: &RawExpr,
+) -> Result<Stmt, CheckFail>
+    ensures value { (line : ℕ) (marked : Bool) → Gives (stmt_answer place.old (tree.While line marked cond.now body.now)) (with_last [] result) }
+    ensures place { OnOk result (place.new ≡ passed (sited place.old) (parts_all body.now)) }
 {
     let cond = expr::resolve(alloc, &place.names, cond)?;
     let site = place.take_site()?;
-    Ok(Stmt::Break { site, cond })
+    let body = block(alloc, place, body)?;
+    Ok(Stmt::While { site, cond, body })
+}
+
+/// The body and then the step of a loop, from the place behind its condition.
+#[tactic(auto, using(crate::proofs::StmtLemmas::loop_answers))]
+#[cycle(statements)]
+pub fn looped<'a>(
+    alloc: Global,
+    place: &mut Place<'a>,
+    step: &'a [RawStmt],
+    body: &'a [RawStmt],
+) -> Result<Row<Stmt>, CheckFail>
+    ensures value { Gives (loop_answer place.old step.now body.now) result }
+    ensures place { OnOk result (place.new ≡ passed place.old (parts_all body.now ++ parts_all step.now)) }
+{
+    let last = step_of(alloc, place, step, body)?;
+    let mut inside = block(alloc, place, body)?;
+    pass_all(place, step)?;
+    inside.append(last)?;
+    Ok(inside)
+}
+
+/// A `for` with these parts. The statements of its initialiser are put behind those that are done.
+#[cycle(statements)]
+fn counted<'a>(
+    alloc: Global,
+    place: &mut Place<'a>,
+    first: &'a [RawStmt],
+    step: &'a [RawStmt],
+    body: &'a [RawStmt],
+    cond: &RawExpr,
+    done: &mut Row<Stmt>,
+) -> Result<Stmt, CheckFail>
+    ensures value { (line : ℕ) (marked : Bool) → Gives (onto done.old (stmt_answer place.old (tree.For line marked first.now cond.now step.now body.now))) (with_last done.new result) }
+    ensures place { (line : ℕ) (marked : Bool) → OnOk result (place.new ≡ after place.old (tree.For line marked first.now cond.now step.now body.now)) }
+{
+    let count = place.names.len();
+    statements(alloc, place, first, done)?;
+    let cond = expr::resolve(alloc, &place.names, cond)?;
+    let site = place.take_site()?;
+    let body = looped(alloc, place, step, body)?;
+    place.names.keep(count);
+    Ok(Stmt::While { site, cond, body })
 }
 
 /// The last of the statements that one stands for. Those before it, of a `for`'s initialiser, are put behind those that are
-/// done. A mark on a loop means nothing here.
+/// done.
 #[tactic(auto, using(crate::proofs::PlaceLemmas::after_forms, crate::proofs::StmtLemmas::stmt_answers))]
 #[cycle(statements)]
 pub fn statement<'a>(
@@ -140,18 +124,10 @@ pub fn statement<'a>(
             else_part,
             ..
         } => {
-            let cond = expr::resolve(alloc, &place.names, cond)?;
-            let site = place.take_site()?;
-            let then_part = block(alloc, place, then_part.as_slice())?;
-            let else_part = block(alloc, place, else_part.as_slice())?;
-            Ok(choice(site, cond, then_part, else_part))
+            let (one, two) = (then_part.as_slice(), else_part.as_slice());
+            conditional(alloc, place, one, two, cond)
         }
-        RawStmt::While { cond, body, .. } => {
-            let cond = expr::resolve(alloc, &place.names, cond)?;
-            let site = place.take_site()?;
-            let body = block(alloc, place, body.as_slice())?;
-            Ok(Stmt::While { site, cond, body })
-        }
+        RawStmt::While { cond, body, .. } => repeated(alloc, place, body.as_slice(), cond),
         RawStmt::For {
             first,
             cond,
@@ -159,16 +135,8 @@ pub fn statement<'a>(
             body,
             ..
         } => {
-            let count = place.names.len();
-            statements(alloc, place, first.as_slice(), done)?;
-            let cond = expr::resolve(alloc, &place.names, cond)?;
-            let site = place.take_site()?;
-            let last = step_of(alloc, place, step.as_slice(), body.as_slice())?;
-            let mut body = block(alloc, place, body.as_slice())?;
-            pass_all(place, step.as_slice())?;
-            body.append(last)?;
-            place.names.keep(count);
-            Ok(Stmt::While { site, cond, body })
+            let (first, step, body) = (first.as_slice(), step.as_slice(), body.as_slice());
+            counted(alloc, place, first, step, body, cond, done)
         }
     }
 }
@@ -211,7 +179,7 @@ pub fn block<'a>(
 
 /// The step of a loop, which the text has before the body. Its numbers come behind the body's, so the place is left as it was.
 #[cycle(statements)]
-pub fn step_of<'a>(
+fn step_of<'a>(
     alloc: Global,
     place: &mut Place<'a>,
     step: &'a [RawStmt],

@@ -6,6 +6,7 @@ mod act;
 mod code;
 mod ends;
 mod flat;
+mod forms;
 mod loads;
 mod machine;
 mod memory;

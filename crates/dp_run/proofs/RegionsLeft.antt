@@ -1,10 +1,10 @@
 -- What the part at the head says of the regions that are left.
-use Rattle.std.proofs.Common.{◌≡◌, ◌≢◌, refl, sym, ap, ◌∙◌, ℕ, ◌==◌, Bool, true, false, not, if◌then◌else◌, List, [], ◌∷◌, drop, Option, Some, None, eq-eqb}
+use Rattle.std.proofs.Common.{◌≡◌, ◌≢◌, refl, sym, ap, ◌∙◌, ℕ, Bool, true, false, not, if◌then◌else◌, List, [], ◌∷◌, drop, Option, Some, None, eq-eqb}
 use Rattle.std.specs.List.{cons_option}
 use Rattle.dp_tree.specs.declared.Stmt.{Stmt, out-Stmt}
 use Rattle.dp_tree.specs.declared.Stmt.TheOpen.{Stmt-F, Assign, Store, Print, If, While, Region, Break, Call}
 use Rattle.dp_tree.specs.Step.{Config}
-use Rattle.dp_tree.specs.Iteration.{is_region, begins_with, stands_at_head}
+use Rattle.dp_tree.specs.Iteration.{stands_at_head}
 use Rattle.dp_meaning.specs.declared.ends.Part.{Part}
 use Rattle.dp_meaning.specs.declared.ends.Part.TheVariants as part
 use Rattle.dp_meaning.specs.MachineState.{part_from, part_of, is_any_region, from_region}

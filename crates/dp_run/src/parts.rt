@@ -26,7 +26,7 @@ pub(crate) fn run_parts<'p, R: Threads + Wait + Clock + Sync, K: Sink, G: Gate>(
     program: &'p Program,
     plans: &[Plan],
     input: &'p [i64],
-    machine: Machine<'p>,
+    mut machine: Machine<'p>,
     crew: CrewSize,
     reports: &mut Row<RegionReport>,
     sink: &mut K,
@@ -46,7 +46,6 @@ pub(crate) fn run_parts<'p, R: Threads + Wait + Clock + Sync, K: Sink, G: Gate>(
     ensures written { IfOk result (λ ran. Emits (to_come machine.entry) (to_come ran.0) (K.written sink.old) (K.written sink.new)) }
     ensures front { OnErr result (WritesFront (prints_bytes (to_come machine.entry)) (K.written sink.old) (K.written sink.new)) }
 {
-    let mut machine = machine;
     if let Some(end) = run_plain(alloc, &mut machine, sink)? {
         return Ok((machine, end));
     }

@@ -57,30 +57,14 @@ pub fn run_program<R: Threads + Wait + Clock + Sync, K: Sink, G: Gate>(
     ensures err { OnErr result (WritesFront (trace_text program.now plans.now (source_run program.now input.now options.fuel) options.why) (K.written sink.old) (K.written sink.new)) }
     ensures tally { OnOk result (tally.new ≡ tally.old + committed_in_all program.now plans.now (source_run program.now input.now options.fuel)) }
 {
+    let (crew, why) = (options.crew, options.why);
     let machine = Machine::new(alloc, program, input, options.fuel)?;
-    let mut reports = Row::new(alloc);
+    let mut told = Row::new(alloc);
     let (machine, end) = run_parts(
-        rt,
-        alloc,
-        program,
-        plans,
-        input,
-        machine,
-        options.crew,
-        &mut reports,
-        sink,
-        gate,
-        tally,
+        rt, alloc, program, plans, input, machine, crew, &mut told, sink, gate, tally,
     )?;
-    write_end(
-        alloc,
-        program,
-        machine.cells(),
-        &reports,
-        end,
-        options.why,
-        sink,
-    )?;
+    let cells = machine.cells();
+    write_end(alloc, program, cells, &told, end, why, sink)?;
     Ok(end)
 }
 

@@ -51,7 +51,7 @@ pub(crate) fn run_stretch<'p, R: Threads + Wait + Clock + Sync, K: Sink, G: Gate
     ensures front { OnErr result (WritesFront (prints_bytes (to_come machine.entry)) (K.written sink.old) (K.written sink.new)) }
     ensures tally { OnOk result (tally.new ≡ tally.old + committed_count program.now plan.now (source_run program.now input.now machine.entry.fuel)) }
 {
-    let mut report = RegionReport {
+    let mut told = RegionReport {
         region: plan.region,
         iterations: 0,
         recovered_count: 0,
@@ -59,19 +59,9 @@ pub(crate) fn run_stretch<'p, R: Threads + Wait + Clock + Sync, K: Sink, G: Gate
         causes: Row::new(alloc),
     };
     let (next, end) = run_region(
-        rt,
-        alloc,
-        program,
-        plan,
-        input,
-        machine,
-        crew,
-        &mut report,
-        sink,
-        gate,
-        tally,
+        rt, alloc, program, plan, input, machine, crew, &mut told, sink, gate, tally,
     )?;
-    reports.push(report)?;
+    reports.push(told)?;
     finish_stretch(alloc, next, end, sink)
 }
 

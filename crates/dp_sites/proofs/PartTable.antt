@@ -1,10 +1,12 @@
 -- What the code answers of a part is what the definition says of its site.
 use Rattle.std.proofs.Common.{◌≡◌, inl, inr, refl, sym, ap, ◌∙◌, subst, ℕ, zero, suc, ◌+◌, ◌<◌, ◌≤◌, ◌==◌, Bool, true, false, if◌then◌else◌, not, ◌&&◌, ◌||◌, nat_lt, nat_le, List, [], ◌∷◌, map, Option, Some, None, slice_get, arith, eq-eqb, ne_eqb, lt-ltb, le-ltb, le-leb}
 use Rattle.std.proofs.lemmas.Bool.{cases_lt, lt-leb}
-use Rattle.std.specs.List.{list_any}
+use Rattle.std.specs.List.{cons_option, list_any}
 use Rattle.dp_plan.specs.Access.{Access}
 use Rattle.dp_plan.specs.Written.{site_in}
 use Rattle.dp_plan.specs.IsFar.{SiteTouch}
+use Rattle.dp_plan.specs.Checked.{has_site}
+use Rattle.dp_sites.specs.declared.moving.Storing.{Storing}
 use Rattle.dp_sites.specs.declared.part.Part.{Part}
 use Rattle.dp_plan.specs.Each.{Each}
 use Rattle.dp_plan.proofs.EachLemmas.{each_map}
@@ -32,6 +34,12 @@ sites_same (a ∷ xs) (t ∷ ts) (u ∷ us) h =
       ap (λ (n : ℕ). n ∷ map site_in xs) (h.0.site ∙ sym same) ∙ ap (λ (ns : List ℕ). u.site ∷ ns) later.0,
       ap (λ (n : ℕ). n ∷ map touch_site ts) (sym same) ∙ ap (λ (ns : List ℕ). u.site ∷ ns) later.1,
     )
+
+-- the sites go up one by one
+pub risen : (k : ℕ) (ws : List Part) → Rises k (map part_site ws) → (j : ℕ) (u : Part) → slice_get ws j ≡ Some u → u.site ≡ k + j
+risen k [] h j u e = absurd (cc e)
+risen k (w ∷ ws) h zero u e = let same : w ≡ u = cc e in omega (arith, ap part_site same, h.0)
+risen k (w ∷ ws) h (suc j) u e = let later = risen (suc k) ws h.1 j u e in omega (arith, later)
 
 -- where a part stands, its access and its touch stand too
 pub record Seat (xs : List Access) (ts : List SiteTouch) (j : ℕ) (u : Part) : Type 0 where
@@ -131,3 +139,23 @@ either_any f g (x ∷ xs) = swap (f x) (g x) (list_any f xs) (list_any g xs) (li
     swap false true true n k e = refl
     swap false true false n k e = refl
     swap false false m n k e = e
+
+-- ---- tests over a list
+
+-- a site is among the accesses
+pub has_any : (k : ℕ) (xs : List Access) → has_site k xs ≡ list_any (λ (a : Access). (a.site == k) && true) xs
+has_any k [] = refl
+has_any k (x ∷ xs) = ap (λ (b : Bool). b || has_site k xs) (and_yes (x.site == k)) ∙ ap (λ (b : Bool). ((x.site == k) && true) || b) (has_any k xs)
+  where
+    and_yes : (b : Bool) → b ≡ (b && true)
+    and_yes true = refl
+    and_yes false = refl
+
+-- the test of a store, where there is one
+abbrev pub passed_by : (Storing → Bool) → Option Storing → Bool
+passed_by test None = false
+passed_by test (Some storing) = test storing
+
+pub any_storing : (test : Storing → Bool) (o : Option Storing) (rest : List Storing) → (passed_by test o || list_any test rest) ≡ list_any test (cons_option o rest)
+any_storing test None rest = refl
+any_storing test (Some storing) rest = refl

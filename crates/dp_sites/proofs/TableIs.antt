@@ -17,7 +17,7 @@ use Rattle.dp_sites.specs.declared.place.Gap.TheVariants as gap
 use Rattle.dp_sites.specs.declared.moving.Moving.{Moving}
 use Rattle.dp_sites.specs.declared.moving.Storing.{Storing}
 use Rattle.dp_sites.specs.declared.part.Part.{Part}
-use Rattle.dp_sites.specs.declared.part.Touched.{Touched}
+use Rattle.dp_sites.specs.declared.touched.Touched.{Touched}
 use Rattle.dp_sites.specs.Parts.{index_in, parts, touched, touched_in}
 use Rattle.dp_sites.specs.Storings.{checked_or, differs_by, end_of, is_ahead, lies_apart, moving_of, part_checked, passes_by, sees_otherwise, storing_at, storing_of, storings, stores_otherwise}
 use Rattle.dp_sites.proofs.Aligned.{Aligned, Same, aligned, variable_in}
@@ -25,7 +25,7 @@ use Rattle.dp_sites.proofs.OuterLoops.{Rises, SitesRise, reaches, shared}
 use Rattle.dp_sites.proofs.FarFind.{TouchesRise, find}
 use Rattle.dp_sites.proofs.FarTest.{far_is}
 use Rattle.dp_sites.proofs.TextNumbers.{before_is, risen_ascend}
-use Rattle.dp_sites.proofs.PartTable.{Seat, any_at, by_order, and_under, code_by, either_any, located, no_seat, part_site, picked, seat, seen_by, sites_same, stored_so, unstored}
+use Rattle.dp_sites.proofs.PartTable.{Seat, any_at, any_storing, by_order, and_under, code_by, either_any, has_any, located, no_seat, part_site, passed_by, picked, risen, seat, seen_by, sites_same, stored_so, unstored}
 use Rattle.dp_plan.proofs.EachLemmas.{each_at}
 
 module _ (p : Program) (plan : Plan) (s : Stmt) (only : region_in p plan.region ≡ s ∷ []) (r : ℕ) (site : SiteId) (condition : Expr) (body : List Stmt) (is : out-Stmt s ≡ Region r site condition body)
@@ -58,11 +58,6 @@ module _ (p : Program) (plan : Plan) (s : Stmt) (only : region_in p plan.region 
 
     number : u.site ≡ k + j
     number = risen k us goes_up j u at
-      where
-        risen : (k : ℕ) (ws : List Part) → Rises k (map part_site ws) → (j : ℕ) (u : Part) → slice_get ws j ≡ Some u → u.site ≡ k + j
-        risen k [] h j u e = absurd (cc e)
-        risen k (w ∷ ws) h zero u e = let same : w ≡ u = cc e in omega (arith, ap part_site same, h.0)
-        risen k (w ∷ ws) h (suc j) u e = let later = risen (suc k) ws h.1 j u e in omega (arith, later)
 
     found_here : find u.site (touches s) ≡ Some here.t
     found_here =
@@ -70,18 +65,9 @@ module _ (p : Program) (plan : Plan) (s : Stmt) (only : region_in p plan.region 
         ∙ (each_at (λ (t : SiteTouch). (k ≤ t.site) × (find t.site ts ≡ Some t)) ts (located k ts rises_t) j here.t here.touch).1
 
     access_has : has_site u.site (accesses s) ≡ true
-    access_has = ap (λ (n : ℕ). has_site n xs) number ∙ as_picked
-      where
-        as_picked : has_site (k + j) (accesses s) ≡ true
-        as_picked = same xs ∙ any_at (λ (a : Access). a.site) (λ (a : Access). true) k xs rises_x j ∙ ap (picked (λ (a : Access). a.site) (λ (a : Access). true)) here.access
-          where
-            and_yes : (b : Bool) → b ≡ (b && true)
-            and_yes true = refl
-            and_yes false = refl
-
-            same : (ys : List Access) → has_site (k + j) ys ≡ list_any (λ (a : Access). (a.site == k + j) && true) ys
-            same [] = refl
-            same (y ∷ ys) = ap (λ (b : Bool). b || has_site (k + j) ys) (and_yes (y.site == k + j)) ∙ ap (λ (b : Bool). ((y.site == k + j) && true) || b) (same ys)
+    access_has =
+        ap (λ (n : ℕ). has_site n xs) number ∙ has_any (k + j) xs ∙ any_at (λ (a : Access). a.site) (λ (a : Access). true) k xs rises_x j
+        ∙ ap (picked (λ (a : Access). a.site) (λ (a : Access). true)) here.access
 
   -- two of its parts
   module _ (j : ℕ) (u : Part) (at : slice_get (parts None s) j ≡ Some u) (i : ℕ) (d : Part) (there : slice_get (parts None s) i ≡ Some d) where
@@ -179,8 +165,7 @@ module _ (p : Program) (plan : Plan) (s : Stmt) (only : region_in p plan.region 
     test a = (is_stored_after p plan (stage_of p plan u.site) x.0 a && not (is_apart p plan u.site a.site)) || (is_stored_beside p plan (stage_of p plan u.site) x.0 a && not (is_apart_between p plan u.site a.site))
 
     abbrev passed : Option Storing → Bool
-    passed None = false
-    passed (Some storing) = stores_otherwise p plan u x storing
+    passed = passed_by (stores_otherwise p plan u x)
 
     one_is : (i : ℕ) (d : Part) (there : slice_get (parts None s) i ≡ Some d) → test (here i d there).a ≡ passed (storing_at p plan us body d)
     one_is i d there = by (here i d there).t.store refl
@@ -218,11 +203,7 @@ module _ (p : Program) (plan : Plan) (s : Stmt) (only : region_in p plan.region 
         let more : (m : ℕ) → n + suc m ≡ suc n + m = λ m. omega arith in
         ap (λ (b : Bool). b || list_any test ys) (ap test (sym same_access) ∙ one_is (n + 0) w there)
         ∙ ap (λ (b : Bool). passed (storing_at p plan us body w) || b) (any_is ys qs ws (suc n) (λ m d e. ap (slice_get us) (sym (more m)) ∙ f (suc m) d e) (λ m b e. ap (slice_get xs) (sym (more m)) ∙ g (suc m) b e) h.1)
-        ∙ with_one (storing_at p plan us body w) (filter_map (storing_at p plan us body) ws) refl
-      where
-        with_one : (o : Option Storing) (rest : List Storing) → storing_at p plan us body w ≡ o → (passed o || list_any (stores_otherwise p plan u x) rest) ≡ list_any (stores_otherwise p plan u x) (Rattle.std.specs.List.cons_option o rest)
-        with_one None rest e = refl
-        with_one (Some storing) rest e = refl
+        ∙ any_storing (stores_otherwise p plan u x) (storing_at p plan us body w) (filter_map (storing_at p plan us body) ws)
 
     seen_is : may_differ p plan (stage_of p plan u.site) u.site x.0 ≡ list_any (stores_otherwise p plan u x) (storings p plan us body us)
     seen_is =

@@ -8,7 +8,7 @@ use Rattle.dp_plan.specs.Touch.{Touch, reads}
 use Rattle.dp_plan.specs.IsFar.{SiteTouch, whole, element}
 use Rattle.dp_sites.specs.Lists.{site_list}
 use Rattle.dp_sites.specs.Place.{Place, place_by}
-pub use Rattle.dp_sites.specs.declared.part.Touched.{Touched}
+pub use Rattle.dp_sites.specs.declared.touched.Touched.{Touched}
 pub use Rattle.dp_sites.specs.declared.part.Part.{Part}
 
 abbrev pub index_in : Option Expr → Option Place

@@ -6,7 +6,8 @@ ghost use Rattle.dp_sites.specs.Apart as spec;
 ghost use Rattle.dp_sites.specs.Storings as stored;
 ghost use Rattle.dp_sites.specs.declared.place.Gap.TheVariants as gap;
 
-use crate::moving::{Storing, lies_apart, storing_at};
+use crate::differing::lies_apart;
+use crate::moving::{Storing, storing_at};
 use crate::part::{Part, parts_of};
 use crate::place::Gap;
 use crate::table::{body_of, goes_up, only_region};

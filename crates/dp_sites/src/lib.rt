@@ -2,11 +2,13 @@
 #![tactic(auto)]
 
 mod apart;
+mod differing;
 mod moving;
 mod part;
 mod place;
 mod sites;
 mod table;
+mod touched;
 
 pub use apart::Apart;
 pub use sites::{put_sites, sites_of};

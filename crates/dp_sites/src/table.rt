@@ -9,7 +9,8 @@ ghost use Rattle.dp_plan.specs.Checked.{is_checked};
 ghost use Rattle.dp_plan.specs.CheckedTable as table;
 ghost use Rattle.dp_sites.specs.Storings as spec;
 
-use crate::moving::{Storing, is_checked, storings};
+use crate::differing::is_checked;
+use crate::moving::{Storing, storings};
 use crate::part::{Part, parts_of};
 use dp_base::{NoMemory, Row};
 use dp_plan::{Plan, is_region};

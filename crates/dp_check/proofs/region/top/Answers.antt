@@ -47,8 +47,8 @@ returns-in_err-statements-in-For-clause-value c =
 pub returns-in_err-last-in-For-clause-value : goal.returns-in_err-last-in-For-clause-value
 returns-in_err-last-in-For-clause-value c =
     let f = c.in-For in let p = c.args.place.now in let k = c.args.number in let done = c.args.done.now in
-    let is = for_is f.line f.cond c.if-marked-2.true c.as_slice-in-For.ensures c.as_slice-in-For-2.ensures c.as_slice-in-For-3.ensures f.is in
-    let first = c.as_slice-in-For.result.now in let step = c.as_slice-in-For-2.result.now in let body = c.as_slice-in-For-3.result.now in
+    let is = for_is f.line f.cond c.if-marked-2.true c.as_slice-in-For.ensures c.as_slice-step.ensures c.as_slice-body.ensures f.is in
+    let first = c.as_slice-in-For.result.now in let step = c.as_slice-step.result.now in let body = c.as_slice-body.result.now in
     let start = c.in_ok-statements-in-For.ensures.place in
     let refused : (e : CheckFail) → stepped_answer c.statements.new.place k f.cond step body ≡ Err e → onto done (top_answer p k c.args.s.now) ≡ Err e = λ e h.
     ap (λ s. onto done (top_answer p k s)) (sym is)
@@ -58,8 +58,8 @@ returns-in_err-last-in-For-clause-value c =
 pub returns-in_ok-last-in-For-clause-value : goal.returns-in_ok-last-in-For-clause-value
 returns-in_ok-last-in-For-clause-value c =
     let f = c.in-For in let p = c.args.place.now in let k = c.args.number in let done = c.args.done.now in
-    let is = for_is f.line f.cond c.if-marked-2.true c.as_slice-in-For.ensures c.as_slice-in-For-2.ensures c.as_slice-in-For-3.ensures f.is in
-    let first = c.as_slice-in-For.result.now in let step = c.as_slice-in-For-2.result.now in let body = c.as_slice-in-For-3.result.now in
+    let is = for_is f.line f.cond c.if-marked-2.true c.as_slice-in-For.ensures c.as_slice-step.ensures c.as_slice-body.ensures f.is in
+    let first = c.as_slice-in-For.result.now in let step = c.as_slice-step.result.now in let body = c.as_slice-body.result.now in
     let start = c.in_ok-statements-in-For.ensures.place in
     ap (λ s. onto done (top_answer p k s)) (sym is)
     ∙ stepped_given p k done f.line first f.cond step body _ c.in_ok-statements-in-For.ensures.value c.in_ok-last-in-For.last
@@ -68,8 +68,8 @@ returns-in_ok-last-in-For-clause-value c =
 pub returns-in_ok-last-in-For-clause-place : goal.returns-in_ok-last-in-For-clause-place
 returns-in_ok-last-in-For-clause-place c =
     let f = c.in-For in let p = c.args.place.now in
-    let is = for_is f.line f.cond c.if-marked-2.true c.as_slice-in-For.ensures c.as_slice-in-For-2.ensures c.as_slice-in-For-3.ensures f.is in
-    let first = c.as_slice-in-For.result.now in let step = c.as_slice-in-For-2.result.now in let body = c.as_slice-in-For-3.result.now in
+    let is = for_is f.line f.cond c.if-marked-2.true c.as_slice-in-For.ensures c.as_slice-step.ensures c.as_slice-body.ensures f.is in
+    let first = c.as_slice-in-For.result.now in let step = c.as_slice-step.result.now in let body = c.as_slice-body.result.now in
     let start = c.in_ok-statements-in-For.ensures.place in
     let ended = c.in_ok-last-in-For.ensures.place ∙ (λ i. passed (sited (start i)) (parts_all body ++ parts_all step)) in
     let kept = c.keep.ensures ∙ (λ i. take (c.len-count.ensures i) (ended i).names) in

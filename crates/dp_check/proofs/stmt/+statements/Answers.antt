@@ -1,15 +1,18 @@
-use Rattle.std.proofs.Common.{◌≡◌, ◌+◌, ◌<◌, ◌∷◌, [], ◌++◌, take, drop, length, List, Err, refl, sym, ap, subst, ◌∙◌, rules, arith}
+use Rattle.std.proofs.Common.{◌≡◌, ◌+◌, ◌<◌, ◌∷◌, [], ◌++◌, take, drop, length, List, OnOk, Err, refl, sym, ap, subst, ◌∙◌, rules, arith}
 use Rattle.std.proofs.lemmas.Grind.{common_steps}
 use Rattle.dp_tree.specs.declared.Stmt.TheVariants as code
 use Rattle.dp_tree.specs.declared.raw.RawExpr.{RawExpr}
+use Rattle.dp_tree.specs.declared.raw.RawStmt.{RawStmt}
 use Rattle.dp_tree.specs.declared.raw.RawStmt.TheVariants as raw
 use Rattle.dp_check.specs.declared.fail.CheckFail.{CheckFail}
+use Rattle.dp_check.specs.declared.place.Place.{Place}
 use Rattle.dp_check.specs.Place.{after, after_all, parts_all, passed, sited}
 use Rattle.dp_check.specs.Resolved.{next_site}
-use Rattle.dp_check.specs.Answer.{Gives, onto, with_last, expr_answer, stmt_answer, block_answer}
+use Rattle.dp_check.specs.Answer.{Gives, onto, with_last, expr_answer, stmt_answer, block_answer, loop_answer}
 use Rattle.dp_check.proofs.AnswerLemmas.{onto-all, gives_behind}
 use Rattle.dp_check.proofs.LoopLemmas.{further, further_refused, further_end, fold_more}
 use Rattle.dp_check.proofs.PlaceLemmas.{passed-append, for_left, after-If, after-While, after-For}
+use Rattle.dp_check.proofs.Weight.{weight, weight_all, weight-If, weight-While, weight-For, weight_item}
 use Rattle.dp_check.proofs.StmtLemmas.{block_answer-none, block_answer-more}
 use Rattle.dp_check.proofs.StepLemmas as steps
 use Rattle.dp_check.proofs.stmt.+statements.Goals as goal
@@ -42,166 +45,130 @@ statement-returns-in-Call-clause-value t c =
     rw w.is (subst (λ (args : List RawExpr). Gives (onto c.args.done.now (stmt_answer c.args.place.now (raw.Call w.name args))) (with_last c.args.done.now c.call.result)) c.as_slice.ensures
     (gives_behind (stmt_answer c.args.place.now (raw.Call w.name c.as_slice.result.now)) c.args.done.now c.call.result c.call.ensures))
 
--- ---- `if` and `while`
+-- ---- statements with blocks
 
-pub statement-returns-in_err-cond-in-If-clause-value : goal.statement-returns-in_err-cond-in-If-clause-value
-statement-returns-in_err-cond-in-If-clause-value t c =
-    let w = c.in-If in let p = c.args.place.now in let done = c.args.done.now in
-    let is = ap (λ s. onto done (stmt_answer p s)) w.is in
-    let refused : (e : CheckFail) → expr_answer p.names w.cond ≡ Err e → onto done (stmt_answer p c.args.s.now) ≡ Err e = λ e h. is ∙ steps.if_refused_at_cond p done w.line w.cond w.then_part w.else_part e h in
-    first_of (search rules, grind (arith, common_steps))
+pub statement-conditional-requires : goal.statement-conditional-requires
+statement-conditional-requires t c =
+    let w = c.in-If in
+    let e = ap weight w.is ∙ weight-If w.line w.cond w.then_part w.else_part in
+    let one = ap weight_all c.as_slice-one.ensures in let two = ap weight_all c.as_slice-two.ensures in
+    (omega (arith, c.decreases, e, one, two), tt)
 
-pub statement-returns-in_err-then_part-in-If-clause-value : goal.statement-returns-in_err-then_part-in-If-clause-value
-statement-returns-in_err-then_part-in-If-clause-value t c =
-    let w = c.in-If in let p = c.args.place.now in let done = c.args.done.now in
-    let is = ap (λ s. onto done (stmt_answer p s)) w.is in
-    let behind = c.in_ok-site-in-If.ensures.place in let slice = c.as_slice-in-If.ensures in
-    let refused : (e : CheckFail) → block_answer c.take_site.new.self c.as_slice-in-If.result.now ≡ Err e → onto done (stmt_answer p c.args.s.now) ≡ Err e = λ e h. is ∙ steps.if_refused_at_then p done w.line w.cond w.then_part w.else_part c.in_ok-cond-in-If.cond c.in_ok-cond-in-If.ensures e ((λ i. block_answer (sym behind i) (sym slice i)) ∙ h) in
-    first_of (search rules, grind (arith, common_steps))
+pub statement-returns-in-If-clause-value : goal.statement-returns-in-If-clause-value
+statement-returns-in-If-clause-value t c =
+    let w = c.in-If in let one = c.as_slice-one in let two = c.as_slice-two in
+    let is = (λ i. raw.If w.line w.cond (one.ensures i) (two.ensures i)) ∙ sym w.is in
+    subst (λ (s : RawStmt). Gives (onto c.args.done.now (stmt_answer c.args.place.now s)) (with_last c.args.done.now c.conditional.result)) is
+    (gives_behind (stmt_answer c.args.place.now (raw.If w.line w.cond one.result.now two.result.now)) c.args.done.now c.conditional.result (c.conditional.ensures.value w.line))
 
-pub statement-returns-in_err-else_part-in-If-clause-value : goal.statement-returns-in_err-else_part-in-If-clause-value
-statement-returns-in_err-else_part-in-If-clause-value t c =
-    let w = c.in-If in let p = c.args.place.now in let done = c.args.done.now in
-    let is = ap (λ s. onto done (stmt_answer p s)) w.is in
-    let behind = c.in_ok-site-in-If.ensures.place in let slice = c.as_slice-in-If.ensures in
-    let taken = (λ i. block_answer (sym behind i) (sym slice i)) ∙ c.in_ok-then_part-in-If.ensures.value in
-    let middle = c.in_ok-then_part-in-If.ensures.place ∙ (λ i. passed (behind i) (parts_all (slice i))) in let other = c.as_slice-in-If-2.ensures in
-    let refused : (e : CheckFail) → block_answer c.block.new.place c.as_slice-in-If-2.result.now ≡ Err e → onto done (stmt_answer p c.args.s.now) ≡ Err e = λ e h. is ∙ steps.if_refused_at_else p done w.line w.cond w.then_part w.else_part c.in_ok-cond-in-If.cond c.in_ok-cond-in-If.ensures c.in_ok-then_part-in-If.then_part taken e ((λ i. block_answer (sym middle i) (sym other i)) ∙ h) in
-    first_of (search rules, grind (arith, common_steps))
+pub statement-returns-in-If-clause-place : goal.statement-returns-in-If-clause-place
+statement-returns-in-If-clause-place t c =
+    let w = c.in-If in let one = c.as_slice-one in let two = c.as_slice-two in let p = c.args.place.now in
+    let is = (λ i. raw.If w.line w.cond (one.ensures i) (two.ensures i)) ∙ sym w.is in
+    subst (λ (q : Place). OnOk c.conditional.result (c.conditional.new.place ≡ q)) (sym (after-If p w.line w.cond one.result.now two.result.now) ∙ ap (after p) is) c.conditional.ensures.place
 
-pub statement-returns-in_ok-else_part-in-If-clause-value : goal.statement-returns-in_ok-else_part-in-If-clause-value
-statement-returns-in_ok-else_part-in-If-clause-value t c =
-    let w = c.in-If in let p = c.args.place.now in let done = c.args.done.now in
-    let behind = c.in_ok-site-in-If.ensures.place in let slice = c.as_slice-in-If.ensures in
-    let taken = (λ i. block_answer (sym behind i) (sym slice i)) ∙ c.in_ok-then_part-in-If.ensures.value in
-    let middle = c.in_ok-then_part-in-If.ensures.place ∙ (λ i. passed (behind i) (parts_all (slice i))) in let other = c.as_slice-in-If-2.ensures in
-    let ended = (λ i. block_answer (sym middle i) (sym other i)) ∙ c.in_ok-else_part-in-If.ensures.value in
-    ap (λ s. onto done (stmt_answer p s)) w.is
-    ∙ steps.if_given p done w.line w.cond w.then_part w.else_part c.in_ok-cond-in-If.cond c.in_ok-cond-in-If.ensures c.in_ok-then_part-in-If.then_part taken c.in_ok-else_part-in-If.else_part ended
-    ∙ (λ i. Rattle.std.proofs.Common.Ok (done ++ code.If (sym c.in_ok-site-in-If.ensures.site i) c.in_ok-cond-in-If.cond c.in_ok-then_part-in-If.then_part c.in_ok-else_part-in-If.else_part ∷ []))
-    ∙ ap (λ s. Rattle.std.proofs.Common.Ok (done ++ s ∷ [])) (sym c.choice.ensures)
+pub statement-repeated-requires : goal.statement-repeated-requires
+statement-repeated-requires t c =
+    let w = c.in-While in
+    let e = ap weight w.is ∙ weight-While w.line w.marked w.cond w.body in let inside = ap weight_all c.as_slice-in-While.ensures in
+    (omega (arith, c.decreases, e, inside), tt)
 
-pub statement-returns-in_ok-else_part-in-If-clause-place : goal.statement-returns-in_ok-else_part-in-If-clause-place
-statement-returns-in_ok-else_part-in-If-clause-place t c =
-    let then_end = c.in_ok-then_part-in-If.ensures.place ∙ (λ i. passed (c.in_ok-site-in-If.ensures.place i) (parts_all (c.as_slice-in-If.ensures i))) in
-    rw c.in-If.is
-    (c.in_ok-else_part-in-If.ensures.place ∙ (λ i. passed (then_end i) (parts_all (c.as_slice-in-If-2.ensures i)))
-    ∙ sym (after-If c.args.place.now c.in-If.line c.in-If.cond c.in-If.then_part c.in-If.else_part))
+pub statement-returns-in-While-clause-value : goal.statement-returns-in-While-clause-value
+statement-returns-in-While-clause-value t c =
+    let w = c.in-While in let slice = c.as_slice-in-While in
+    let is = ap (raw.While w.line w.marked w.cond) slice.ensures ∙ sym w.is in
+    subst (λ (s : RawStmt). Gives (onto c.args.done.now (stmt_answer c.args.place.now s)) (with_last c.args.done.now c.repeated.result)) is
+    (gives_behind (stmt_answer c.args.place.now (raw.While w.line w.marked w.cond slice.result.now)) c.args.done.now c.repeated.result (c.repeated.ensures.value w.line w.marked))
 
-pub statement-returns-in_err-cond-in-While-clause-value : goal.statement-returns-in_err-cond-in-While-clause-value
-statement-returns-in_err-cond-in-While-clause-value t c =
-    let w = c.in-While in let p = c.args.place.now in let done = c.args.done.now in
-    let is = ap (λ s. onto done (stmt_answer p s)) w.is in
-    let refused : (e : CheckFail) → expr_answer p.names w.cond ≡ Err e → onto done (stmt_answer p c.args.s.now) ≡ Err e = λ e h. is ∙ steps.while_refused_at_cond p done w.line w.marked w.cond w.body e h in
-    first_of (search rules, grind (arith, common_steps))
+pub statement-returns-in-While-clause-place : goal.statement-returns-in-While-clause-place
+statement-returns-in-While-clause-place t c =
+    let w = c.in-While in let slice = c.as_slice-in-While in let p = c.args.place.now in
+    let is = ap (raw.While w.line w.marked w.cond) slice.ensures ∙ sym w.is in
+    subst (λ (q : Place). OnOk c.repeated.result (c.repeated.new.place ≡ q)) (sym (after-While p w.line w.marked w.cond slice.result.now) ∙ ap (after p) is) c.repeated.ensures.place
 
-pub statement-returns-in_err-body-in-While-clause-value : goal.statement-returns-in_err-body-in-While-clause-value
-statement-returns-in_err-body-in-While-clause-value t c =
-    let w = c.in-While in let p = c.args.place.now in let done = c.args.done.now in
-    let is = ap (λ s. onto done (stmt_answer p s)) w.is in
-    let behind = c.in_ok-site-in-While.ensures.place in let slice = c.as_slice-in-While.ensures in
-    let refused : (e : CheckFail) → block_answer c.take_site-in-While.new.self c.as_slice-in-While.result.now ≡ Err e → onto done (stmt_answer p c.args.s.now) ≡ Err e = λ e h. is ∙ steps.while_refused_at_body p done w.line w.marked w.cond w.body c.in_ok-cond-in-While.cond c.in_ok-cond-in-While.ensures e ((λ i. block_answer (sym behind i) (sym slice i)) ∙ h) in
-    first_of (search rules, grind (arith, common_steps))
+pub statement-counted-requires : goal.statement-counted-requires
+statement-counted-requires t c =
+    let w = c.in-For in
+    let e = ap weight w.is ∙ weight-For w.line w.marked w.first w.cond w.step w.body in
+    let first = ap weight_all c.as_slice-first.ensures in let step = ap weight_all c.as_slice-step.ensures in let body = ap weight_all c.as_slice-body.ensures in
+    (omega (arith, c.decreases, e, first, step, body), tt)
 
-pub statement-returns-in_ok-body-in-While-clause-value : goal.statement-returns-in_ok-body-in-While-clause-value
-statement-returns-in_ok-body-in-While-clause-value t c =
-    let w = c.in-While in let p = c.args.place.now in let done = c.args.done.now in
-    let behind = c.in_ok-site-in-While.ensures.place in let slice = c.as_slice-in-While.ensures in
-    let inside = (λ i. block_answer (sym behind i) (sym slice i)) ∙ c.in_ok-body-in-While.ensures.value in
-    ap (λ s. onto done (stmt_answer p s)) w.is
-    ∙ steps.while_given p done w.line w.marked w.cond w.body c.in_ok-cond-in-While.cond c.in_ok-cond-in-While.ensures c.in_ok-body-in-While.body inside
-    ∙ (λ i. Rattle.std.proofs.Common.Ok (done ++ code.While (sym c.in_ok-site-in-While.ensures.site i) c.in_ok-cond-in-While.cond c.in_ok-body-in-While.body ∷ []))
+pub statement-returns-in-For-clause-value : goal.statement-returns-in-For-clause-value
+statement-returns-in-For-clause-value t c =
+    let w = c.in-For in
+    let is = (λ i. raw.For w.line w.marked (c.as_slice-first.ensures i) w.cond (c.as_slice-step.ensures i) (c.as_slice-body.ensures i)) ∙ sym w.is in
+    subst (λ (s : RawStmt). Gives (onto c.args.done.now (stmt_answer c.args.place.now s)) (with_last c.counted.new.done c.counted.result)) is (c.counted.ensures.value w.line w.marked)
 
-pub statement-returns-in_ok-body-in-While-clause-place : goal.statement-returns-in_ok-body-in-While-clause-place
-statement-returns-in_ok-body-in-While-clause-place t c =
-    rw c.in-While.is
-    (c.in_ok-body-in-While.ensures.place ∙ (λ i. passed (c.in_ok-site-in-While.ensures.place i) (parts_all (c.as_slice-in-While.ensures i)))
-    ∙ sym (after-While c.args.place.now c.in-While.line c.in-While.marked c.in-While.cond c.in-While.body))
+pub statement-returns-in-For-clause-place : goal.statement-returns-in-For-clause-place
+statement-returns-in-For-clause-place t c =
+    let w = c.in-For in
+    let is = (λ i. raw.For w.line w.marked (c.as_slice-first.ensures i) w.cond (c.as_slice-step.ensures i) (c.as_slice-body.ensures i)) ∙ sym w.is in
+    subst (λ (s : RawStmt). OnOk c.counted.result (c.counted.new.place ≡ after c.args.place.now s)) is (c.counted.ensures.place w.line w.marked)
 
 -- ---- `for`
 
-pub statement-returns-in_err-statements-in-For-clause-value : goal.statement-returns-in_err-statements-in-For-clause-value
-statement-returns-in_err-statements-in-For-clause-value t c =
-    let w = c.in-For in let p = c.args.place.now in let done = c.args.done.now in
-    let is = ap (λ s. onto done (stmt_answer p s)) w.is in
-    let slice = c.as_slice-in-For.ensures in
-    let refused : (e : CheckFail) → onto done (block_answer p c.as_slice-in-For.result.now) ≡ Err e → onto done (stmt_answer p c.args.s.now) ≡ Err e = λ e h. is ∙ steps.for_refused_at_first p done w.line w.marked w.first w.cond w.step w.body e ((λ i. onto done (block_answer p (sym slice i))) ∙ h) in
+pub counted-returns-in_err-statements-clause-value : goal.counted-returns-in_err-statements-clause-value
+counted-returns-in_err-statements-clause-value t c = λ line marked.
+    let p = c.args.place.now in let done = c.args.done.now in let first = c.args.first.now in let cond = c.args.cond.now in let step = c.args.step.now in let body = c.args.body.now in
+    let refused : (e : CheckFail) → onto done (block_answer p first) ≡ Err e → onto done (stmt_answer p (raw.For line marked first cond step body)) ≡ Err e = λ e h.
+    steps.for_refused_at_first p done line marked first cond step body e h in
     first_of (search rules, grind (arith, common_steps))
 
-pub statement-returns-in_err-cond-in-For-clause-value : goal.statement-returns-in_err-cond-in-For-clause-value
-statement-returns-in_err-cond-in-For-clause-value t c =
-    let w = c.in-For in let p = c.args.place.now in let done = c.args.done.now in
-    let is = ap (λ s. onto done (stmt_answer p s)) w.is in
-    let slice = c.as_slice-in-For.ensures in
-    let begun = (λ i. onto done (block_answer p (sym slice i))) ∙ c.in_ok-statements-in-For.ensures.value in
-    let start = c.in_ok-statements-in-For.ensures.place ∙ (λ i. after_all p (slice i)) in
-    let refused : (e : CheckFail) → expr_answer c.statements.new.place.names w.cond ≡ Err e → onto done (stmt_answer p c.args.s.now) ≡ Err e = λ e h. is ∙ steps.for_refused_at_cond p done w.line w.marked w.first w.cond w.step w.body _ begun e ((λ i. expr_answer (sym start i).names w.cond) ∙ h) in
+pub counted-returns-in_err-cond-clause-value : goal.counted-returns-in_err-cond-clause-value
+counted-returns-in_err-cond-clause-value t c = λ line marked.
+    let p = c.args.place.now in let done = c.args.done.now in let first = c.args.first.now in let cond = c.args.cond.now in let step = c.args.step.now in let body = c.args.body.now in
+    let start = c.in_ok-statements.ensures.place in
+    let refused : (e : CheckFail) → expr_answer c.statements.new.place.names cond ≡ Err e → onto done (stmt_answer p (raw.For line marked first cond step body)) ≡ Err e = λ e h.
+    steps.for_refused_at_cond p done line marked first cond step body _ c.in_ok-statements.ensures.value e ((λ i. expr_answer (sym start i).names cond) ∙ h) in
     first_of (search rules, grind (arith, common_steps))
 
-pub statement-returns-in_err-last-in-For-clause-value : goal.statement-returns-in_err-last-in-For-clause-value
-statement-returns-in_err-last-in-For-clause-value t c =
-    let w = c.in-For in let p = c.args.place.now in let done = c.args.done.now in
-    let is = ap (λ s. onto done (stmt_answer p s)) w.is in
-    let slice = c.as_slice-in-For.ensures in
-    let begun = (λ i. onto done (block_answer p (sym slice i))) ∙ c.in_ok-statements-in-For.ensures.value in
-    let start = c.in_ok-statements-in-For.ensures.place ∙ (λ i. after_all p (slice i)) in
-    let tested = (λ i. expr_answer (sym start i).names w.cond) ∙ c.in_ok-cond-in-For.ensures in
-    let behind = c.in_ok-site-in-For.ensures.place ∙ (λ i. sited (start i)) in
-    let step = c.as_slice-in-For-2.ensures in let body = c.as_slice-in-For-3.ensures in
-    let refused : (e : CheckFail) → block_answer (passed c.take_site-in-For.new.self (parts_all c.as_slice-in-For-3.result.now)) c.as_slice-in-For-2.result.now ≡ Err e → onto done (stmt_answer p c.args.s.now) ≡ Err e = λ e h.
-    is ∙ steps.for_refused_at_body p done w.line w.marked w.first w.cond w.step w.body _ begun c.in_ok-cond-in-For.cond tested e
-    (steps.loop_refused_at_step (sited (after_all p w.first)) w.step w.body e ((λ i. block_answer (passed (sym behind i) (parts_all (sym body i))) (sym step i)) ∙ h)) in
+pub counted-returns-in_err-body-clause-value : goal.counted-returns-in_err-body-clause-value
+counted-returns-in_err-body-clause-value t c = λ line marked.
+    let p = c.args.place.now in let done = c.args.done.now in let first = c.args.first.now in let cond = c.args.cond.now in let step = c.args.step.now in let body = c.args.body.now in
+    let start = c.in_ok-statements.ensures.place in
+    let tested = (λ i. expr_answer (sym start i).names cond) ∙ c.in_ok-cond.ensures in
+    let behind = c.in_ok-site.ensures.place ∙ (λ i. sited (start i)) in
+    let refused : (e : CheckFail) → loop_answer c.take_site.new.self step body ≡ Err e → onto done (stmt_answer p (raw.For line marked first cond step body)) ≡ Err e = λ e h.
+    steps.for_refused_at_body p done line marked first cond step body _ c.in_ok-statements.ensures.value c.in_ok-cond.cond tested e ((λ i. loop_answer (sym behind i) step body) ∙ h) in
     first_of (search rules, grind (arith, common_steps))
 
-pub statement-returns-in_err-body-in-For-clause-value : goal.statement-returns-in_err-body-in-For-clause-value
-statement-returns-in_err-body-in-For-clause-value t c =
-    let w = c.in-For in let p = c.args.place.now in let done = c.args.done.now in
-    let is = ap (λ s. onto done (stmt_answer p s)) w.is in
-    let slice = c.as_slice-in-For.ensures in
-    let begun = (λ i. onto done (block_answer p (sym slice i))) ∙ c.in_ok-statements-in-For.ensures.value in
-    let start = c.in_ok-statements-in-For.ensures.place ∙ (λ i. after_all p (slice i)) in
-    let tested = (λ i. expr_answer (sym start i).names w.cond) ∙ c.in_ok-cond-in-For.ensures in
-    let behind = c.in_ok-site-in-For.ensures.place ∙ (λ i. sited (start i)) in
-    let step = c.as_slice-in-For-2.ensures in let body = c.as_slice-in-For-3.ensures in
-    let stepped = (λ i. block_answer (passed (sym behind i) (parts_all (sym body i))) (sym step i)) ∙ c.in_ok-last-in-For.ensures.value in
-    let back = c.in_ok-last-in-For.ensures.place ∙ behind in let again = c.as_slice-in-For-4.ensures in
-    let refused : (e : CheckFail) → block_answer c.step_of.new.place c.as_slice-in-For-4.result.now ≡ Err e → onto done (stmt_answer p c.args.s.now) ≡ Err e = λ e h.
-    is ∙ steps.for_refused_at_body p done w.line w.marked w.first w.cond w.step w.body _ begun c.in_ok-cond-in-For.cond tested e
-    (steps.loop_refused_at_body (sited (after_all p w.first)) w.step w.body c.in_ok-last-in-For.last stepped e ((λ i. block_answer (sym back i) (sym again i)) ∙ h)) in
-    first_of (search rules, grind (arith, common_steps))
+pub counted-returns-clause-value : goal.counted-returns-clause-value
+counted-returns-clause-value t c = λ line marked.
+    let p = c.args.place.now in let done = c.args.done.now in let first = c.args.first.now in let cond = c.args.cond.now in let step = c.args.step.now in let body = c.args.body.now in
+    let start = c.in_ok-statements.ensures.place in
+    let tested = (λ i. expr_answer (sym start i).names cond) ∙ c.in_ok-cond.ensures in
+    let behind = c.in_ok-site.ensures.place ∙ (λ i. sited (start i)) in
+    let inside = (λ i. loop_answer (sym behind i) step body) ∙ c.in_ok-body.ensures.value in
+    let site = c.in_ok-site.ensures.site ∙ (λ i. next_site (start i)) in
+    steps.for_given p done line marked first cond step body _ c.in_ok-statements.ensures.value c.in_ok-cond.cond tested c.in_ok-body.body inside
+    ∙ (λ i. Rattle.std.proofs.Common.Ok (c.statements.new.done ++ code.While (sym site i) c.in_ok-cond.cond c.in_ok-body.body ∷ []))
 
-pub statement-returns-in_ok-append-in-For-clause-value : goal.statement-returns-in_ok-append-in-For-clause-value
-statement-returns-in_ok-append-in-For-clause-value t c =
-    let w = c.in-For in let p = c.args.place.now in let done = c.args.done.now in
-    let slice = c.as_slice-in-For.ensures in
-    let begun = (λ i. onto done (block_answer p (sym slice i))) ∙ c.in_ok-statements-in-For.ensures.value in
-    let start = c.in_ok-statements-in-For.ensures.place ∙ (λ i. after_all p (slice i)) in
-    let tested = (λ i. expr_answer (sym start i).names w.cond) ∙ c.in_ok-cond-in-For.ensures in
-    let behind = c.in_ok-site-in-For.ensures.place ∙ (λ i. sited (start i)) in
-    let step = c.as_slice-in-For-2.ensures in let body = c.as_slice-in-For-3.ensures in
-    let stepped = (λ i. block_answer (passed (sym behind i) (parts_all (sym body i))) (sym step i)) ∙ c.in_ok-last-in-For.ensures.value in
-    let back = c.in_ok-last-in-For.ensures.place ∙ behind in let again = c.as_slice-in-For-4.ensures in
-    let inside = (λ i. block_answer (sym back i) (sym again i)) ∙ c.in_ok-body-in-For.ensures.value in
-    let looped = steps.loop_given (sited (after_all p w.first)) w.step w.body c.in_ok-last-in-For.last stepped c.in_ok-body-in-For.body inside in
-    let site = c.in_ok-site-in-For.ensures.site ∙ (λ i. next_site (start i)) in
-    ap (λ s. onto done (stmt_answer p s)) w.is
-    ∙ steps.for_given p done w.line w.marked w.first w.cond w.step w.body _ begun c.in_ok-cond-in-For.cond tested (c.in_ok-body-in-For.body ++ c.in_ok-last-in-For.last) looped
-    ∙ (λ i. Rattle.std.proofs.Common.Ok (c.statements.new.done ++ code.While (sym site i) c.in_ok-cond-in-For.cond (sym c.in_ok-append-in-For.ensures.ok i) ∷ []))
-
-pub statement-returns-in_ok-append-in-For-clause-place : goal.statement-returns-in_ok-append-in-For-clause-place
-statement-returns-in_ok-append-in-For-clause-place t c =
-    let w = c.in-For in let p = c.args.place.now in
-    let start = c.in_ok-statements-in-For.ensures.place ∙ (λ i. after_all p (c.as_slice-in-For.ensures i)) in
-    let behind = c.in_ok-last-in-For.ensures.place ∙ c.in_ok-site-in-For.ensures.place ∙ (λ i. sited (start i)) in
-    let body_end = c.in_ok-body-in-For.ensures.place ∙ (λ i. passed (behind i) (parts_all (c.as_slice-in-For-4.ensures i))) in
-    let ended = c.in_ok-pass_all-in-For.ensures.place ∙ (λ i. passed (body_end i) (parts_all (c.as_slice-in-For-5.ensures i)))
-    ∙ sym (passed-append (sited (after_all p w.first)) (parts_all w.body) (parts_all w.step)) in
+pub counted-returns-clause-place : goal.counted-returns-clause-place
+counted-returns-clause-place t c = λ line marked.
+    let p = c.args.place.now in let first = c.args.first.now in let step = c.args.step.now in let body = c.args.body.now in
+    let behind = c.in_ok-site.ensures.place ∙ (λ i. sited (c.in_ok-statements.ensures.place i)) in
+    let ended = c.in_ok-body.ensures.place ∙ (λ i. passed (behind i) (parts_all body ++ parts_all step)) in
     let kept = c.keep.ensures ∙ (λ i. take (c.len-count.ensures i) (ended i).names) in
-    rw w.is
-    ((λ i. record { names = kept i; variable = (ended i).variable; site = (ended i).site }) ∙ for_left p w.first w.line (parts_all w.body ++ parts_all w.step)
-    ∙ sym (after-For p w.line w.marked w.first w.cond w.step w.body))
+    (λ i. record { names = kept i; variable = (ended i).variable; site = (ended i).site }) ∙ for_left p first line (parts_all body ++ parts_all step)
+    ∙ sym (after-For p line marked first c.args.cond.now step body)
+
+-- ---- the body and the step of a loop
+
+pub looped-returns-clause-place : goal.looped-returns-clause-place
+looped-returns-clause-place t c =
+    let p = c.args.place.now in let step = c.args.step.now in let body = c.args.body.now in
+    let body_end = c.in_ok-inside.ensures.place ∙ ap (λ q. passed q (parts_all body)) c.in_ok-last.ensures.place in
+    c.in_ok-pass_all.ensures.place ∙ ap (λ q. passed q (parts_all step)) body_end ∙ sym (passed-append p (parts_all body) (parts_all step))
 
 -- ---- several statements
+
+pub statements-statement-requires : goal.statements-statement-requires
+statements-statement-requires t c =
+    let all = c.args.all.now in
+    let below : c.loop-s.s-index < length c.args.all.now = omega arith in
+    let here = ap weight c.s-item.is in
+    let less = weight_item all c.loop-s.s-index c.s-item.result below in
+    (omega (arith, c.decreases, here, less), tt)
 
 pub statements-returns-in_err-last-clause-value : goal.statements-returns-in_err-last-clause-value
 statements-returns-in_err-last-clause-value t c =
@@ -247,5 +214,5 @@ step_of-returns-clause-value t c = ap (λ r. block_answer r c.args.step.now) (sy
 
 pub step_of-returns-clause-place : goal.step_of-returns-clause-place
 step_of-returns-clause-place t c =
-    let ended = c.in_ok-last.ensures.place ∙ ap (λ q. passed q (parts_all c.args.step.now)) c.in_ok-pass_all.ensures.place in
+    let ended = c.in_ok-last.ensures.place ∙ ap (λ q. passed q (parts_all c.args.step.now)) c.in_ok-pass_all.ensures in
     c.renumber.ensures ∙ (λ i. record { names = (ended i).names; variable = (c.numbers-start.ensures i).variable; site = (c.numbers-start.ensures i).site })

@@ -28,14 +28,14 @@ returns-in_err-write_end-clause-err g c =
     let done = subst (λ (k : ℕ). Finished c.args.program.now c.args.plans.now c.args.input.now k c.in_ok-machine-2.machine c.in_ok-machine-2.end c.run_parts.new.reports c.args.tally.now c.run_parts.new.tally) (ap (λ (x : MachineState). x.fuel) c.in_ok-machine.ensures) c.in_ok-machine-2.ensures.ok in
     on_err c.from_residual-in_err-write_end.result _
     (front_at_end c.args.program.now c.args.plans.now c.args.input.now c.args.options.fuel c.args.options.why c.requires.given c.in_ok-machine-2.machine c.in_ok-machine-2.end c.run_parts.new.reports c.args.tally.now c.run_parts.new.tally done
-    c.in_ok-machine.machine c.in_ok-machine.ensures (g.K.Sink.written c.args.sink.now) (g.K.Sink.written c.run_parts.new.sink) c.in_ok-machine-2.ensures.written c.cells.result.now c.cells.ensures (g.K.Sink.written c.write_end.new.sink) c.in_err-write_end.ensures.err)
+    c.in_ok-machine.machine c.in_ok-machine.ensures (g.K.Sink.written c.args.sink.now) (g.K.Sink.written c.run_parts.new.sink) c.in_ok-machine-2.ensures.written c.cells-cells.result.now c.cells-cells.ensures (g.K.Sink.written c.write_end.new.sink) c.in_err-write_end.ensures.err)
 
 pub returns-clause-ok : goal.returns-clause-ok
 returns-clause-ok g c =
     let done = subst (λ (k : ℕ). Finished c.args.program.now c.args.plans.now c.args.input.now k c.in_ok-machine-2.machine c.in_ok-machine-2.end c.run_parts.new.reports c.args.tally.now c.run_parts.new.tally) (ap (λ (x : MachineState). x.fuel) c.in_ok-machine.ensures) c.in_ok-machine-2.ensures.ok in (
       end_is c.args.program.now c.args.plans.now c.args.input.now c.args.options.fuel c.args.options.why c.requires.given c.in_ok-machine-2.machine c.in_ok-machine-2.end c.run_parts.new.reports c.args.tally.now c.run_parts.new.tally done,
       all_written c.args.program.now c.args.plans.now c.args.input.now c.args.options.fuel c.args.options.why c.requires.given c.in_ok-machine-2.machine c.in_ok-machine-2.end c.run_parts.new.reports c.args.tally.now c.run_parts.new.tally done
-          c.in_ok-machine.machine c.in_ok-machine.ensures (g.K.Sink.written c.args.sink.now) (g.K.Sink.written c.run_parts.new.sink) c.in_ok-machine-2.ensures.written c.cells.result.now c.cells.ensures (g.K.Sink.written c.write_end.new.sink) c.in_ok-write_end.ensures.ok,
+          c.in_ok-machine.machine c.in_ok-machine.ensures (g.K.Sink.written c.args.sink.now) (g.K.Sink.written c.run_parts.new.sink) c.in_ok-machine-2.ensures.written c.cells-cells.result.now c.cells-cells.ensures (g.K.Sink.written c.write_end.new.sink) c.in_ok-write_end.ensures.ok,
     )
 
 pub returns-clause-tally : goal.returns-clause-tally

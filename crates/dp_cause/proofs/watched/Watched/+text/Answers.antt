@@ -25,11 +25,11 @@ statement-returns-in-Found t c = λ rest.
     subst (λ (x : Stmt). Told (walk_from c.args.ground c.args.self.now (x ∷ rest)) c.in-Found.cause) (sym c.in-If.is)
     (steps.if_found c.args.ground c.args.self.now c.decide.new.self c.in-If.site c.in-If.cond c.in-If.then_part c.in-If.else_part c.in-Found.cause rest c.in-Found.ensures)
 
-pub statement-returns-then-zero-2 : goal.statement-returns-then-zero-2
-statement-returns-then-zero-2 t c = λ rest.
+pub statement-returns-in-On-decide : goal.statement-returns-in-On-decide
+statement-returns-in-On-decide t c = λ rest.
     let plain : to_z w64 (of_z w64 c.in-On-decide.value) ≡ c.in-On-decide.value = search rules in
     c.turns.invariant rest
-    ∙ steps.while_zero c.args.ground c.turns.self c.decide-in-turns.new.self c.args.statement.now c.in-While.site c.in-While.cond c.in-While.body c.in-On-decide.value rest c.in-While.is c.in-On-decide.ensures (ap is_zero (sym plain) ∙ sym c.zero-in-On-decide.ensures ∙ c.if-zero-2.true)
+    ∙ steps.while_zero c.args.ground c.turns.self c.decide-in-turns.new.self c.args.statement.now c.in-While.site c.in-While.cond c.in-While.body c.in-On-decide.value rest c.in-While.is c.in-On-decide.ensures (ap is_zero (sym plain) ∙ sym c.if-zero-2.ensures)
 
 pub statement-returns-in-Found-decide : goal.statement-returns-in-Found-decide
 statement-returns-in-Found-decide t c = λ rest.
@@ -42,7 +42,7 @@ statement-returns-in_default-statements t c =
     steps.other_leads c.args.ground c.args.self.now c.decide-in-turns.new.self c.statements-in-turns.new.self (c.args.statement.now ∷ []) c.as_slice-in-turns.result.now (λ rest. c.args.statement.now ∷ rest)
     (λ rest. c.turns.invariant rest
     ∙ steps.while_on c.args.ground c.turns.self c.decide-in-turns.new.self c.args.statement.now c.in-While.site c.in-While.cond c.in-While.body c.as_slice-in-turns.result.now c.in-On-decide.value rest c.in-While.is c.in-On-decide.ensures
-    (ap is_zero (sym plain) ∙ sym c.zero-in-On-decide.ensures ∙ c.if-zero-2.false) c.as_slice-in-turns.ensures)
+    (ap is_zero (sym plain) ∙ sym c.if-zero-2.ensures) c.as_slice-in-turns.ensures)
     (λ rest w. inner_turns c.args.statement.now c.in-While.site c.in-While.cond c.in-While.body c.as_slice-in-turns.result.now rest c.in-While.is c.as_slice-in-turns.ensures w)
     c.statements-in-turns.result c.in_default-statements.not-Goes c.statements-in-turns.ensures
 
@@ -51,7 +51,7 @@ statement-turns-preserved t c = λ rest.
     let plain : to_z w64 (of_z w64 c.in-On-decide.value) ≡ c.in-On-decide.value = search rules in
     c.turns.invariant rest
     ∙ steps.while_on c.args.ground c.turns.self c.decide-in-turns.new.self c.args.statement.now c.in-While.site c.in-While.cond c.in-While.body c.as_slice-in-turns.result.now c.in-On-decide.value rest c.in-While.is c.in-On-decide.ensures
-    (ap is_zero (sym plain) ∙ sym c.zero-in-On-decide.ensures ∙ c.if-zero-2.false) c.as_slice-in-turns.ensures
+    (ap is_zero (sym plain) ∙ sym c.if-zero-2.ensures) c.as_slice-in-turns.ensures
     ∙ c.in-Goes.ensures (c.args.statement.now ∷ rest)
 
 pub statements-returns-in_default : goal.statements-returns-in_default

@@ -1,5 +1,7 @@
 use Rattle.std.proofs.Common.{refl, sym, ap, ◌∙◌, subst, List, [], ℤ, Err, arith}
 use Rattle.dp_base.specs.declared.Word.{Word}
+use Rattle.dp_base.specs.declared.Fault.{Fault}
+use Rattle.dp_base.specs.declared.Cause.TheVariants as cause
 use Rattle.dp_plan.specs.declared.Plan.{Plan}
 use Rattle.dp_plan.specs.CheckedTable.{IsTabled}
 use Rattle.dp_code.specs.declared.Op.{Op}
@@ -8,6 +10,7 @@ use Rattle.dp_code.specs.Alone.{event_at, end_alone}
 use Rattle.dp_code.specs.Order.{in_order}
 use Rattle.dp_packet.specs.declared.VoidWhy.{VoidWhy}
 use Rattle.dp_packet.specs.Packet.{why_of}
+use Rattle.dp_cause.specs.Watching.{Told, cause_here}
 use Rattle.dp_cause.proofs.TurnLemmas.{turn_did, turn_faulted, fault_found, look_steps}
 use Rattle.dp_cause.proofs.watched.Watched.step.Goals as goal
 
@@ -30,8 +33,8 @@ returns-in-Done c = λ by means form.
     look_steps g old c.args.site r did.v c.in-Done.memory did.gave did.memory_is (omega (arith, c.if-self-eq0.false)) c.look.new.self c.look.result
     (c.look.ensures (event_at c.args.site did.v) refl (form did.v did.gave) (c.as_slice-in-Done.ensures ∙ did.words_are))
 
-pub returns-in-Fault : goal.returns-in-Fault
-returns-in-Fault c = λ by means form.
+pub returns-in-Void-Fault : goal.returns-in-Void-Fault
+returns-in-Void-Fault c = λ by means form.
     let g = c.args.ground in
     let old = c.args.self.now in
     let r = by g.input.now old.cells in
@@ -39,5 +42,6 @@ returns-in-Fault c = λ by means form.
     let runs = subst (λ (lists : List (List Word)). EndsAs g.program.now g.wide.now g.input.now c.as_slice.result.now c.replace-cells.result lists end) (sym c.new-no_lists.ensures)
     (subst (λ (ops : List Op). EndsAs g.program.now g.wide.now g.input.now ops c.replace-cells.result [] end) (sym c.as_slice.ensures)
     (subst (λ (cells : List ℤ). EndsAs g.program.now g.wide.now g.input.now c.args.code.now.ops cells [] end) (sym c.replace-cells.ensures.value) (means g.wide.now g.input.now old.cells))) in
-    fault_found g old c.args.site r c.in-Fault.fault (omega (arith, c.if-self-eq0.false))
-    (turn_faulted g.program.now g.plan.now g.wide.now c.requires.ground.wide old.cells c.args.site r c.in-Fault.fault (c.in-Void.ensures end runs ∙ ap (λ (w : VoidWhy). Err (why_of w)) c.in-Fault.is))
+    subst (λ (f : Fault). Told (cause_here g old c.args.site r) (cause.Fault f)) (sym c.in-Void-Fault.fault-is)
+    (fault_found g old c.args.site r c.in-Void-Fault.fault (omega (arith, c.if-self-eq0.false))
+    (turn_faulted g.program.now g.plan.now g.wide.now c.requires.ground.wide old.cells c.args.site r c.in-Void-Fault.fault (c.in-Void-Fault.ensures end runs ∙ ap (λ (w : VoidWhy). Err (why_of w)) c.in-Void-Fault.field-0-is)))

@@ -3,7 +3,7 @@ use Rattle.dp_tree.specs.declared.Expr.{Expr}
 use Rattle.dp_sites.specs.Place.{Place, index_place}
 use Rattle.dp_sites.specs.Parts.{Touched, loads_in}
 use Rattle.dp_sites.proofs.PartForms.{two_parts, load-Element, load-Binary, load-And, load-Or}
-use Rattle.dp_sites.proofs.part.+put_loads.Goals as goal
+use Rattle.dp_sites.proofs.touched.+put_loads.Goals as goal
 
 pub returns-in_ok-push-in-Element : goal.returns-in_ok-push-in-Element
 returns-in_ok-push-in-Element t c =
