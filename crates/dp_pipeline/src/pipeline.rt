@@ -55,27 +55,10 @@ impl<'u> Pipeline<'u> {
         ensures setter { setter.new ≡ setter.old }
         ensures verdicts { IfOk result (λ made. made.verdicts ≡ record { key = record { program = p.now; plan = plan.now; input = input.now; first = first; base = base.now; steps = steps; fuel = fuel }; given = 0 }) }
     {
-        let setting = Setting {
-            p,
-            plan,
-            programs,
-            input,
-            workers,
-            lane,
-        };
-        let epoch = EpochKey {
-            p,
-            plan,
-            input,
-            first,
-            base: base.copy()?,
-            steps,
-            fuel,
-        };
+        let setting = Setting::new(p, plan, programs, input, workers, lane);
+        let epoch = EpochKey::copied(p, plan, input, first, base, steps, fuel)?;
         let (units, end, back) = units_of(alloc, setting, epoch, stop, setter)?;
-        Ok(Pipeline {
-            units,
-            verdicts: LaneVerdicts::new(alloc, end).returning(back),
-        })
+        let verdicts = LaneVerdicts::new(alloc, end).returning(back);
+        Ok(Pipeline { units, verdicts })
     }
 }

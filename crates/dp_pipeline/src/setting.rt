@@ -1,4 +1,6 @@
 //! What the units of a region run on.
+ghost use Rattle.std.specs.Prelude.{◌≡◌};
+
 use dp_code::StageProgram;
 use dp_plan::Plan;
 use dp_tree::Program;
@@ -16,4 +18,26 @@ pub struct Setting<'p> {
     pub workers: u32,
     /// From 1 to 64.
     pub lane: u32,
+}
+
+impl<'p> Setting<'p> {
+    pub(crate) fn new(
+        p: &'p Program,
+        plan: &'p Plan,
+        programs: &'p [StageProgram],
+        input: &'p [i64],
+        workers: u32,
+        lane: u32,
+    ) -> Setting<'p>
+        ensures { result ≡ record { p = p.entry; plan = plan.entry; programs = programs.entry; input = input.entry; workers = workers; lane = lane } }
+    {
+        Setting {
+            p,
+            plan,
+            programs,
+            input,
+            workers,
+            lane,
+        }
+    }
 }
