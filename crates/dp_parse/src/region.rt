@@ -1,6 +1,7 @@
 //! Regions, in whose bodies early exits may stand.
 
-ghost use Rattle.std.specs.Prelude.{◌≡◌};
+ghost use Rattle.std.specs.Prelude.{◌≡◌, ◌≢◌, Err};
+ghost use Rattle.dp_tokens.specs.declared.error.ParseError.TheVariants as error;
 ghost use Rattle.dp_tokens.specs.Steps.{Reads};
 ghost use Rattle.dp_parse.specs.descent.Statements.{statement as plain};
 ghost use Rattle.dp_parse.specs.descent.Regions as spec;
@@ -15,7 +16,8 @@ use std::alloc::Global;
 /// An exit behind its condition, without braces.
 #[tactic(auto, unfolding(crate::specs::descent::Regions::bare))]
 fn bare(tokens: &mut Tokens<'_, '_>, line: u32, cond: RawExpr) -> Result<RawStmt, ParseError>
-    ensures { Reads (spec.bare line cond tokens.old) result tokens.new }
+    ensures reads { Reads (spec.bare line cond tokens.old) result tokens.new }
+    ensures decides { result ≢ Err error.NoMemory }
 {
     tokens.expect(Symbol::Break)?;
     tokens.expect(Symbol::Semicolon)?;
@@ -25,7 +27,8 @@ fn bare(tokens: &mut Tokens<'_, '_>, line: u32, cond: RawExpr) -> Result<RawStmt
 /// The same in braces.
 #[tactic(auto, unfolding(crate::specs::descent::Regions::braced))]
 fn braced(tokens: &mut Tokens<'_, '_>, line: u32, cond: RawExpr) -> Result<RawStmt, ParseError>
-    ensures { Reads (spec.braced line cond tokens.old) result tokens.new }
+    ensures reads { Reads (spec.braced line cond tokens.old) result tokens.new }
+    ensures decides { result ≢ Err error.NoMemory }
 {
     tokens.expect(Symbol::OpenBrace)?;
     let exit = bare(tokens, line, cond)?;
