@@ -15,7 +15,8 @@ use Rattle.dp_meaning.specs.MachineState.{MachineState, fuel_left, rest_of_run, 
 use Rattle.dp_meaning.specs.Moved.{Moved}
 use Rattle.dp_meaning.specs.IterationRun.{HeadsOnce, has_closed}
 use Rattle.dp_commit.specs.CommittedState.{CommittedState, IsInside, region_run, steps_of_first}
-use Rattle.dp_commit.proofs.Parts.{head_part, is_off, never_plain, off_plain, on_region, run_begins}
+use Rattle.dp_commit.proofs.Parts.{head_part, is_off, never_plain, off_plain, run_begins}
+use Rattle.dp_meaning.proofs.NextLemmas.{on_region}
 use Rattle.dp_commit.proofs.Lists.{places_behind, places_from, range_past}
 use Rattle.dp_commit.proofs.Heads as heads
 use Rattle.dp_commit.proofs.Committing.{Headed, headed}

@@ -25,10 +25,11 @@ use Rattle.dp_semantics.proofs.EpochFound.{cleared_there}
 use Rattle.dp_semantics.proofs.Fitting.{accepted}
 use Rattle.dp_meaning.specs.MachineState.{MachineState, fuel_left, rest_of_run}
 use Rattle.dp_commit.specs.CommittedState.{CommittedState, region_run, steps_of_first}
-use Rattle.dp_commit.proofs.Parts.{on_region}
+use Rattle.dp_meaning.proofs.NextLemmas.{on_region}
 use Rattle.dp_crew.specs.InEpoch.{BeginsAt, InEpoch, IsKeyOf, ToBegin, key_here}
 use Rattle.dp_crew.specs.Progress.{Progress}
 use Rattle.dp_crew.proofs.Here.{at_head, goes_here, at_once, memory_is, stands_there}
+use Rattle.dp_tree.proofs.Heads.{standing_to_do}
 
 -- no statement of a body is a region
 inner_no_region : (r : ℕ) (x : Stmt) → is_inner x ≡ true → is_region_at r x ≡ false
@@ -88,10 +89,6 @@ standing_again : (p : Program) (xs : List Stmt) (cells : List ℤ) → standing 
 standing_again p [] cells = refl
 standing_again p (s ∷ rest) cells = ap (λ (held : List ℤ). record { to_do = s ∷ rest; cells = held }) (cleared_twice p 0 (out-Stmt s) cells)
 
-standing_list : (p : Program) (xs : List Stmt) (cells : List ℤ) → (standing p xs cells).to_do ≡ xs
-standing_list p [] cells = refl
-standing_list p (s ∷ rest) cells = refl
-
 split : (p : Program) (r : ℕ) (before behind : List Stmt) → length (filter (is_region_at r) (before ++ behind)) ≡ 1 → begins_with r behind ≡ true → from_region r (before ++ behind) ≡ behind
 split p r before [] one e = absurd (cc)
 split p r before (s ∷ rest) one e = no_other r before rest s e one
@@ -99,7 +96,7 @@ split p r before (s ∷ rest) one e = no_other r before rest s e one
 -- Where the region's condition comes next, the configuration is that of an epoch that begins there.
 begins_there : (p : Program) (plan : Plan) (c : Config) → fits_plan p plan ≡ true → StandsInMain p c → begins_with plan.region c.to_do ≡ true → standing p (from_region plan.region p.main) c.cells ≡ c
 begins_there p plan c fits s on =
-    let listed : c.to_do ≡ s.inner ++ s.behind = ap (λ (d : Config). d.to_do) s.config_is ∙ standing_list p (s.inner ++ s.behind) s.cells in
+    let listed : c.to_do ≡ s.inner ++ s.behind = ap (λ (d : Config). d.to_do) s.config_is ∙ standing_to_do p (s.inner ++ s.behind) s.cells in
     let none : s.inner ≡ [] = none_before plan.region s.inner s.behind s.plain (ap (begins_with plan.region) (sym listed) ∙ on) in
     let here : c ≡ standing p s.behind s.cells = s.config_is ∙ ap (λ (xs : List Stmt). standing p (xs ++ s.behind) s.cells) none in
     let head : begins_with plan.region s.behind ≡ true = ap (λ (xs : List Stmt). begins_with plan.region (xs ++ s.behind)) (sym none) ∙ ap (begins_with plan.region) (sym listed) ∙ on in

@@ -1,13 +1,12 @@
 -- Where a region stands between two iterations, in its own run.
-use Rattle.std.proofs.Common.{◌≡◌, refl, sym, ap, ◌∙◌, subst, ℕ, zero, suc, ◌+◌, ◌-◌, true, false, List, [], ◌∷◌, ℤ, Some, slice_get, arith}
+use Rattle.std.proofs.Common.{◌≡◌, refl, sym, ap, ◌∙◌, subst, ℕ, suc, ◌+◌, ◌-◌, true, false, List, [], ◌∷◌, Some, slice_get, arith}
 use Rattle.dp_base.specs.declared.RegionReport.{RegionReport}
 use Rattle.dp_tree.specs.declared.Stmt.{Stmt, out-Stmt}
 use Rattle.dp_tree.specs.declared.Stmt.TheOpen.{Stmt-F, Assign, Store, Print, If, While, Region, Break, Call}
-use Rattle.dp_tree.specs.declared.Program.{Program}
 use Rattle.dp_tree.specs.GoesOn.{GoesOnAs}
 use Rattle.dp_tree.specs.InMain.{StandsInMain}
-use Rattle.dp_tree.specs.Step.{Config, Step, Finished, Faulted, Stepped, step}
-use Rattle.dp_tree.specs.Trace.{Run, run_of, run_by}
+use Rattle.dp_tree.specs.Step.{Config}
+use Rattle.dp_tree.specs.Trace.{Run}
 use Rattle.dp_tree.specs.Iteration.{start, has_ended, is_closing, memory_after}
 use Rattle.dp_tree.proofs.InMain.{stays_in_main}
 use Rattle.dp_plan.specs.declared.Plan.{Plan}
@@ -21,20 +20,10 @@ use Rattle.dp_commit.proofs.Going as going
 use Rattle.dp_commit.proofs.Lists.{get_at_seam}
 use Rattle.dp_commit.proofs.Parts.{run_begins}
 use Rattle.dp_crew.specs.Progress.{Progress, RegionBegins}
-
--- a run has the fuel that it was given
-pub run_fuel : (p : Program) (input : List ℤ) (n : ℕ) (c : Config) → (run_of p input n c).fuel ≡ n
-unfolding run_of
-run_fuel p input zero c = refl
-run_fuel p input (suc n) c = by (step p input c)
-  where
-    by : (s : Step) → (run_by (run_of p input n) (suc n) c s).fuel ≡ suc n
-    by Finished = refl
-    by (Faulted fault) = refl
-    by (Stepped event next) = refl
+use Rattle.dp_semantics.proofs.Central.{fuel_is}
 
 pub rest_fuel : (m : MachineState) → (rest_of_run m).fuel ≡ m.fuel - m.steps
-rest_fuel m = run_fuel m.program m.input (fuel_left m) m.config
+rest_fuel m = fuel_is m.program m.input (fuel_left m) m.config
 
 -- a region at the head is the first one
 region_first : (xs : List Stmt) (r : ℕ) → part_of xs ≡ part.Region r → from_region xs ≡ xs

@@ -1,10 +1,10 @@
 -- A call of the machine that was cut by its turns, and the call that goes on, are one call.
 use Rattle.std.proofs.Common.{◌≡◌, refl, sym, ap, ◌∙◌, subst, ℕ, ◌+◌, ◌<◌, false, List, [], ◌∷◌, ◌++◌, drop, length, length-append, ℤ, Option, Some, None, arith}
 use Rattle.std.proofs.lemmas.Bool.{or_parts}
-use Rattle.std.proofs.lemmas.List.Elements.{All-append, filter_map-append}
+use Rattle.std.proofs.lemmas.List.Elements.{All-append}
 use Rattle.std.specs.List.{list_any}
 use Rattle.dp_tree.specs.Step.{Config, Event}
-use Rattle.dp_tree.specs.Trace.{prints, printed_by}
+use Rattle.dp_tree.specs.Trace.{prints}
 use Rattle.dp_tree.specs.Iteration.{decides_zero, leaves, is_leaving, upto_leaving}
 use Rattle.dp_meaning.specs.declared.ends.Part.TheVariants as part
 use Rattle.dp_meaning.specs.declared.ends.IterEnd.{IterEnd}
@@ -12,9 +12,7 @@ use Rattle.dp_meaning.specs.declared.ends.IterEnd.TheVariants as iter_end
 use Rattle.dp_meaning.specs.MachineState.{MachineState, rest_of_run, part_of}
 use Rattle.dp_meaning.specs.IterationRun.{IterationRun, IterationStops, HeadsOnce, GoesOn, has_closed, upto_closing, current_after}
 use Rattle.dp_commit.proofs.Committing.{join}
-
-pub prints-append : (es fs : List Event) → prints (es ++ fs) ≡ prints es ++ prints fs
-prints-append es fs = filter_map-append (λ (e : Event). printed_by e.effect) es fs
+use Rattle.dp_meaning.proofs.MovedLemmas.{prints-append}
 
 -- the same steps, where no other prints stand before
 pub alone : (region turns : ℕ) (old new : MachineState) (before after : List ℤ) (end : IterEnd) (call : IterationRun region turns old new before after end) → IterationRun region turns old new [] (prints call.events) end

@@ -19,7 +19,8 @@ use Rattle.dp_meaning.specs.MachineState.{MachineState, fuel_left}
 use Rattle.dp_commit.specs.CommittedState.{CommittedState, region_run, steps_of_first}
 use Rattle.dp_crew.specs.InEpoch.{InEpoch}
 use Rattle.dp_crew.specs.Progress.{Progress, cause_of}
-use Rattle.dp_crew.proofs.Here.{run_fuel, memory_is, steps_are, judged_here}
+use Rattle.dp_crew.proofs.Here.{memory_is, steps_are, judged_here}
+use Rattle.dp_semantics.proofs.Central.{fuel_is}
 
 module _ (key : EpochKey) (n : ℕ) (first : MachineState) (c : CommittedState) (report : RegionReport) (e : InEpoch key n first c report) where
   abbrev g : Progress key.plan first c report
@@ -40,7 +41,7 @@ module _ (key : EpochKey) (n : ℕ) (first : MachineState) (c : CommittedState) 
 
   pub judgement_is : judgement_of key n ≡ judgement_at first.program key.plan first.input source began c.count k
   judgement_is =
-      let left : key.fuel - c.machine.steps ≡ source.fuel - k = omega (arith, e.key_is.fuel, steps_are key.plan first c report g, run_fuel first.program first.input (fuel_left first) first.config) in
+      let left : key.fuel - c.machine.steps ≡ source.fuel - k = omega (arith, e.key_is.fuel, steps_are key.plan first c report g, fuel_is first.program first.input (fuel_left first) first.config) in
       let place : n ≡ c.count - began = omega (arith, e.place, e.epoch_is) in
       ap (judgement_in key n) e.state
       ∙ ap (λ (p : Program). judging p key.input (key.fuel - c.machine.steps) c.machine.config.cells key.base n) e.key_is.program

@@ -16,10 +16,10 @@ use Rattle.dp_commit.proofs.Committing.{held_next, held_closed}
 use Rattle.dp_commit.proofs.Going.{started}
 use Rattle.dp_crew.specs.Output.{prints_from}
 use Rattle.dp_crew.specs.Progress.{Progress}
-use Rattle.dp_crew.proofs.Joins.{prints-append}
 use Rattle.dp_crew.proofs.Here.{once}
 use Rattle.dp_crew.proofs.Ending.{begun_next}
 use Rattle.dp_crew.proofs.Done.{begun_is}
+use Rattle.dp_meaning.proofs.MovedLemmas.{prints-append}
 
 -- the events of more iterations begin with those of fewer ones
 more_of : (run : Run) (r n k : ℕ) → (more : List Event) × (events_of_first run r (n + k) ≡ events_of_first run r n ++ more)

@@ -1,6 +1,6 @@
 -- The iteration that broke an epoch, executed again; and the region's first epoch.
-use Rattle.std.proofs.Common.{◌≡◌, ◌⊎◌, inl, inr, refl, sym, ap, ◌∙◌, subst, append_assoc, ℕ, suc, ◌+◌, ◌-◌, ◌<◌, ◌≤◌, Bool, true, false, not, cond, if◌then◌else◌, List, [], ◌∷◌, ◌++◌, length, drop, nat_lt, lt-ltb, le-ltb, Option, Some, None, slice_get, ℤ, arith}
-use Rattle.std.proofs.lemmas.Bool.{cases_lt}
+use Rattle.std.proofs.Common.{◌≡◌, ◌⊎◌, inl, inr, refl, sym, ap, ◌∙◌, subst, append_assoc, ℕ, suc, ◌+◌, ◌-◌, ◌<◌, ◌≤◌, Bool, true, cond, if◌then◌else◌, List, [], ◌∷◌, ◌++◌, length, drop, nat_lt, lt-ltb, le-ltb, Option, Some, None, slice_get, ℤ, arith}
+use Rattle.std.proofs.lemmas.Bool.{cases_lt, not-true}
 use Rattle.std.proofs.lemmas.List.{append-nil}
 use Rattle.std.proofs.lemmas.List.Elements.{All-nil}
 use Rattle.std.proofs.Math.Seq.{drop-append_seam}
@@ -18,7 +18,8 @@ use Rattle.dp_semantics.specs.Reported.{report_of}
 use Rattle.dp_meaning.specs.declared.ends.IterEnd.TheVariants as iter_end
 use Rattle.dp_meaning.specs.MachineState.{MachineState, fuel_left, rest_of_run, part_at}
 use Rattle.dp_commit.specs.CommittedState.{CommittedState, IsInside, region_run, steps_of_first}
-use Rattle.dp_commit.proofs.Parts.{on_region, run_begins}
+use Rattle.dp_commit.proofs.Parts.{run_begins}
+use Rattle.dp_meaning.proofs.NextLemmas.{on_region}
 use Rattle.dp_crew.specs.declared.ends.RegionEnd.{RegionEnd}
 use Rattle.dp_crew.specs.declared.ends.RegionEnd.TheVariants as region_end
 use Rattle.dp_crew.specs.Applied.{left_of}
@@ -27,7 +28,6 @@ use Rattle.dp_crew.specs.Progress.{Progress, RegionBegins, RegionDone, again_bef
 use Rattle.dp_crew.specs.InEpoch.{AfterRecovery, AtEpoch}
 use Rattle.dp_crew.specs.Remade.{Remade, MayPrint, nothing, some, iteration_end}
 use Rattle.dp_crew.proofs.Counting.{again_more}
-use Rattle.dp_crew.proofs.Joins.{prints-append}
 use Rattle.dp_crew.proofs.Here.{rest_fuel}
 use Rattle.dp_crew.proofs.Advancing.{advanced}
 use Rattle.dp_crew.proofs.Ending.{front_of_it}
@@ -35,15 +35,12 @@ use Rattle.dp_crew.proofs.Carrying.{iteration_same}
 use Rattle.dp_crew.proofs.Done.{closed_done, some_step}
 use Rattle.dp_crew.proofs.Stopped.{stops, stops_made, report_whole, events_all}
 use Rattle.dp_crew.proofs.Printing.{next_prints, onward_prints, closing_prints}
+use Rattle.dp_meaning.proofs.MovedLemmas.{prints-append}
 
 -- the report counts the iteration again where it was begun
 pub record CountedAgain (c : CommittedState) (report more : RegionReport) (cause : Cause) : Type 0 where
   pub begun : c.machine.steps < c.machine.fuel → (r n : ℕ) (again : List ℕ) (f : ℕ → Cause) → report ≡ report_of r n again f → cause ≡ f c.count → more ≡ report_of r (c.count + 1) (again ++ c.count ∷ []) f
   pub unbegun : c.machine.fuel ≤ c.machine.steps → more ≡ report
-
-not_clean : (b : Bool) → not b ≡ true → b ≡ false
-not_clean false e = refl
-not_clean true e = absurd (cc)
 
 module _ (plan : Plan) (first : MachineState) (c : CommittedState) (report : RegionReport) (g : Progress plan first c report) where
   abbrev run : Run
@@ -117,7 +114,7 @@ module _ (plan : Plan) (first : MachineState) (c : CommittedState) (report : Reg
           progress = advanced plan first c report g s.turns [] printed new.machine s.call more (told_begun begun);
           fresh =
               (let next : c.count + 1 ≡ suc c.count = omega arith in ap (epoch first.program plan (region_run first)) next)
-              ∙ ap (λ (b : Bool). if b then epoch first.program plan (region_run first) c.count else suc c.count) (not_clean (is_clean first.program plan (region_run first) (epoch first.program plan (region_run first) c.count) c.count) again)
+              ∙ ap (λ (b : Bool). if b then epoch first.program plan (region_run first) c.count else suc c.count) (not-true (is_clean first.program plan (region_run first) (epoch first.program plan (region_run first) c.count) c.count) again)
               ∙ (let back : suc c.count ≡ c.count + 1 = omega arith in back);
         })
     recovered new printed (Some region_end.Closed) s =

@@ -1,28 +1,19 @@
 -- A region starts as the caller gives it: an inlined program, a valid plan of it, and the machine at the plan's region.
-use Rattle.std.proofs.Common.{◌≡◌, refl, sym, ap, ◌∙◌, subst, true, List, [], ◌∷◌, length, lt-ltb, ℤ, arith}
-use Rattle.std.proofs.lemmas.Bool.{and_from}
-use Rattle.std.specs.List.{list_all}
+use Rattle.std.proofs.Common.{◌≡◌, sym, ap, ◌∙◌, subst, true, List, ℤ, arith}
 use Rattle.dp_tree.specs.declared.Program.{Program}
 use Rattle.dp_tree.specs.InMain.{StandsInMain}
 use Rattle.dp_tree.specs.Numbering.{regions_in_order}
 use Rattle.dp_plan.specs.declared.Plan.{Plan}
-use Rattle.dp_plan.specs.declared.WrittenStage.{WrittenStage}
-use Rattle.dp_plan.specs.Each.{Each}
-use Rattle.dp_plan.specs.PlanFits.{StageFits}
 use Rattle.dp_plan.specs.Written.{written_of}
 use Rattle.dp_plan.proofs.PlanBack.{plan_back, plan_fits}
 use Rattle.dp_plan.proofs.RegionFacts.{in_order}
 use Rattle.dp_plan.proofs.RulesHold.{valid_unbroken}
 use Rattle.dp_semantics.specs.Fits.{fits_plan}
-use Rattle.dp_semantics.specs.ValidPlan.{lists_site}
 use Rattle.dp_semantics.proofs.ValidFits.{valid_fits}
 use Rattle.dp_meaning.specs.MachineState.{MachineState}
 use Rattle.dp_crew.specs.RegionRun.{IsPlanned, RegionStart}
 use Rattle.dp_crew.specs.Progress.{RegionBegins}
-
-filled : (lines : List WrittenStage) → Each StageFits lines → list_all lists_site lines ≡ true
-filled [] each = refl
-filled (line ∷ rest) each = and_from (lists_site line) (list_all lists_site rest) (lt-ltb 0 (length line.sites) each.0.0) (filled rest each.1)
+use Rattle.dp_semantics.proofs.GivenFits.{filled}
 
 pub planned_fits : (p : Program) (plan : Plan) → IsPlanned p plan → fits_plan p plan ≡ true
 planned_fits p plan q =

@@ -10,12 +10,10 @@ ghost use Rattle.dp_crew.specs.RegionRun.{IsPlanned, RegionRan, RegionStart, reg
 use crate::ends::RegionEnd;
 use crate::epochs::run_epochs;
 use crate::fail::CrewFail;
-use crate::ledger::Ledger;
-use crate::report::nothing_counted;
+use crate::ledger::{ledger_at_start, settle};
 use crate::size::CrewSize;
-use crate::waiting::flush;
-use dp_base::{RegionReport, Row};
-use dp_commit::{Committed, Tally};
+use dp_base::RegionReport;
+use dp_commit::Tally;
 use dp_edge::{Gate, Sink};
 use dp_meaning::Machine;
 use dp_pipeline::stage_programs;
@@ -55,33 +53,12 @@ pub fn run_region<'p, R: Threads + Wait + Clock + Sync, K: Sink, G: Gate>(
     ensures front { OnErr result (WritesFront (prints_bytes (region_prints (region_run machine.entry) plan.now.region)) (K.written sink.old) (K.written sink.new)) }
     ensures tally { OnOk result (tally.new + report.new.recovered_count ≡ tally.old + report.new.iterations) }
 {
-    let programs = stage_programs(alloc, p, plan)?;
-    let committed = Committed::begin(machine);
-    let waiting = Row::new(alloc);
-    let begun = Ledger {
-        committed,
-        report: nothing_counted(alloc, plan.region),
-        waiting,
-    };
+    let made = stage_programs(alloc, p, plan)?;
+    let programs = made.as_slice();
+    let begun = ledger_at_start(alloc, machine, plan.region);
     let (ledger, end) = run_epochs(
-        rt,
-        alloc,
-        p,
-        plan,
-        input,
-        programs.as_slice(),
-        crew,
-        begun,
-        sink,
-        gate,
-        tally,
+        rt, alloc, p, plan, input, programs, crew, begun, sink, gate, tally,
     )?;
-    let Ledger {
-        committed,
-        report: counted,
-        mut waiting,
-    } = ledger;
-    flush(alloc, &mut waiting, sink)?;
-    *report = counted;
-    Ok((committed.finish(), end))
+    let machine = settle(alloc, ledger, report, sink)?;
+    Ok((machine, end))
 }

@@ -59,29 +59,13 @@ pub(crate) fn run_one_epoch<'p, R: Threads + Wait + Clock + Sync, K: Sink, G: Ga
     ensures left { IfOk result (λ r. left_of r.0.committed ≤ left_of ledger.entry.committed) }
 {
     let (flag, mut setter) = Stop::new(alloc)?;
+    let (begun, lent) = (&ledger.committed, &mut setter);
     let Pipeline { units, verdicts } = pipeline_here(
-        alloc,
-        p,
-        plan,
-        input,
-        programs,
-        crew,
-        &ledger.committed,
-        &flag,
-        &mut setter,
+        alloc, p, plan, input, programs, crew, begun, &flag, lent,
     )?;
-    let bells = bells_of(alloc, units.as_slice())?;
+    let made = bells_of(alloc, units.as_slice())?;
+    let bells = made.as_slice();
     commit_in_threads(
-        rt,
-        alloc,
-        units,
-        verdicts,
-        bells.as_slice(),
-        &flag,
-        setter,
-        ledger,
-        sink,
-        gate,
-        tally,
+        rt, alloc, units, verdicts, bells, &flag, setter, ledger, sink, gate, tally,
     )
 }

@@ -1,6 +1,5 @@
 -- From the machine's end to the run's text.
-use Rattle.std.proofs.Common.{◌≡◌, refl, sym, ap, ◌∙◌, ℕ, zero, suc, ◌+◌, ◌-◌, ◌==◌, Bool, ◌≤◌, if◌then◌else◌, List, [], ◌∷◌, ◌++◌, length, map, take, drop, get_or, min, All, Result, Ok, Err, arith}
-use Rattle.std.specs.Result.{OnErr, OnOk}
+use Rattle.std.proofs.Common.{◌≡◌, refl, sym, ap, ◌∙◌, ℕ, zero, suc, ◌+◌, ◌-◌, ◌==◌, Bool, ◌≤◌, if◌then◌else◌, List, [], ◌∷◌, ◌++◌, length, map, take, drop, get_or, min, All, arith}
 use Rattle.std.proofs.lemmas.List.{length-take}
 use Rattle.std.proofs.lemmas.List.Elements.{All-map}
 use Rattle.std.proofs.Math.Nat.{min_comm}
@@ -16,14 +15,6 @@ use Rattle.dp_semantics.specs.Recovery.{recovered}
 use Rattle.dp_semantics.specs.Reported.{reported, region_report}
 use Rattle.dp_report.specs.RegionText.{counts_line, causes_if, report_lines, regions_bytes}
 use Rattle.dp_run.specs.RunText.{region_reports, committed_count, committed_in_all}
-
-pub on_err : {X E : Type 0} (r : Result X E) (P : Type 0) → P → OnErr r P
-on_err (Ok x) P h = tt
-on_err (Err e) P h = h
-
-pub on_ok : {X E : Type 0} (r : Result X E) (P : Type 0) → P → OnOk r P
-on_ok (Ok x) P h = h
-on_ok (Err e) P h = tt
 
 all_each : {X : Type 0} (P : X → Type 0) → ((x : X) → P x) → (xs : List X) → All P xs
 all_each P h xs = λ k d lt. h (get_or xs k d)

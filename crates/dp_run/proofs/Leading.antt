@@ -24,7 +24,8 @@ use Rattle.dp_run.specs.steps.Regions.{regions_left}
 use Rattle.dp_run.specs.steps.Stretches.{Passed, Behind, Between, Over, Leads}
 use Rattle.dp_run.proofs.RegionsLeft.{left_from_region, left_finished, left_at_region, Next, next_of, region, nothing, off_plain, off_finished}
 use Rattle.dp_run.proofs.Tops.{regions_numbered}
-use Rattle.dp_run.proofs.Passing.{passed_none, passed_on, starts_behind, off_plain_part, cells_at_end, run_configs, run_over, config_at, no_start}
+use Rattle.dp_run.proofs.Passing.{passed_none, passed_on, starts_behind, off_plain_part, cells_at_end, run_over, config_at, no_start}
+use Rattle.dp_commit.proofs.Parts.{run_begins}
 
 standing_to_do : (p : Program) (to_do : List Stmt) (cells : List ℤ) → (standing p to_do cells).to_do ≡ to_do
 standing_to_do p [] cells = refl
@@ -130,7 +131,7 @@ module _ (p : Program) (input : List ℤ) (fuel : ℕ) where
     -- the configuration is one of the run's
     pub config_here : slice_get run.configs (length b.behind.passed.events + 0) ≡ Some m.config
     config_here =
-        let begins = run_configs m.program m.input (fuel_left m) m.config in
+        let begins = run_begins m.program m.input (fuel_left m) m.config in
         config_at run (rest_of_run m) b.behind.passed.events b.behind.passed.configs b.behind.passed.piece 0 ∙ ap (λ (cs : List Config). slice_get cs 0) begins.1
 
     pub stands_here : IsInlined p → StandsInMain p m.config

@@ -1,5 +1,5 @@
 -- Lists behind a seam, and places in them.
-use Rattle.std.proofs.Common.{◌≡◌, refl, ap, ◌∙◌, ℕ, suc, ◌+◌, Bool, true, false, not, if◌then◌else◌, List, [], ◌∷◌, ◌++◌, map, length, slice_get, arith}
+use Rattle.std.proofs.Common.{◌≡◌, refl, ap, ◌∙◌, ℕ, suc, ◌+◌, Bool, true, false, not, if◌then◌else◌, List, [], ◌∷◌, ◌++◌, map, length, arith}
 use Rattle.std.proofs.lemmas.Bool.{and_parts}
 use Rattle.std.specs.List.{list_all}
 use Rattle.dp_tree.specs.Iteration.{places}
@@ -16,10 +16,6 @@ map_map f g (x ∷ xs) = ap (λ (ys : List _). f (g x) ∷ ys) (map_map f g xs)
 map_self : {X : Type 0} (f : X → X) → ((x : X) → f x ≡ x) → (xs : List X) → map f xs ≡ xs
 map_self f h [] = refl
 map_self f h (x ∷ xs) = ap (λ (y : _). y ∷ map f xs) (h x) ∙ ap (λ (ys : List _). x ∷ ys) (map_self f h xs)
-
-pub get_behind : {X : Type 0} (a b : List X) (j : ℕ) → slice_get (a ++ b) (length a + j) ≡ slice_get b j
-get_behind [] b j = let e : 0 + j ≡ j = omega arith in ap (slice_get b) e
-get_behind (x ∷ a) b j = let e : suc (length a) + j ≡ suc (length a + j) = omega arith in ap (slice_get (x ∷ a ++ b)) e ∙ get_behind a b j
 
 -- places moved by nothing, and by two distances
 pub beyond_none : (ks : List ℕ) → map (beyond 0) ks ≡ ks

@@ -8,7 +8,7 @@ use Rattle.dp_base.specs.declared.End.{End}
 use Rattle.dp_base.specs.declared.End.TheVariants.{Done}
 use Rattle.dp_tree.specs.declared.Program.{Program}
 use Rattle.dp_tree.specs.declared.Stmt.{Stmt}
-use Rattle.dp_tree.specs.Step.{Config, Event, Step, Finished, Faulted, Stepped, step, step_from}
+use Rattle.dp_tree.specs.Step.{Config, Event, step_from}
 use Rattle.dp_tree.specs.Trace.{Run, end_at, ended, run_of, run_by, prints, printed_by}
 use Rattle.dp_tree.specs.Iteration.{starts, places, stands_at_head, cells_in, cells_after}
 use Rattle.dp_meaning.specs.declared.ends.Part.TheVariants as part
@@ -16,11 +16,10 @@ use Rattle.dp_meaning.specs.Continues.{Continues}
 use Rattle.dp_meaning.specs.MachineState.{part_of}
 use Rattle.dp_crew.specs.RegionRun.{beyond}
 use Rattle.dp_run.specs.steps.Stretches.{Passed}
-use Rattle.dp_run.proofs.Lists.{beyond_none, beyond_twice, places_behind, places_moved, no_places, get_behind}
+use Rattle.dp_run.proofs.Lists.{beyond_none, beyond_twice, places_behind, places_moved, no_places}
 use Rattle.dp_run.proofs.RegionsLeft.{off_plain, nothing_left}
-
-pub continues_none : (run : Run) → Continues run [] [] run
-continues_none run = record { trace = refl; configs = refl; end = refl; fuel = omega arith; paired = refl }
+use Rattle.dp_commit.proofs.Lists.{get_behind}
+use Rattle.dp_meaning.proofs.ContinuesLemmas.{continues_none}
 
 pub continues_join : (run between rest : Run) (events more : List Event) (configs others : List Config) → Continues run events configs between → Continues between more others rest →
     Continues run (events ++ more) (configs ++ others) rest
@@ -76,17 +75,6 @@ module _ (run rest : Run) (events : List Event) (configs : List Config) (c : Con
       ap (cells_after run) size ∙ ap cells_in (config_at 0) ∙ ap (λ (cs : List Config). cells_in (slice_get cs 0)) are
 
 module _ (p : Program) (input : List ℤ) where
-  -- a run begins where it stands
-  pub run_configs : (n : ℕ) (c : Config) → (more : List Config) × ((run_of p input n c).configs ≡ c ∷ more)
-  unfolding run_of
-  run_configs zero c = ([], refl)
-  run_configs (suc n) c = by (step p input c)
-    where
-      by : (s : Step) → (more : List Config) × ((run_by (run_of p input n) (suc n) c s).configs ≡ c ∷ more)
-      by Finished = ([], refl)
-      by (Faulted fault) = ([], refl)
-      by (Stepped event next) = ((run_of p input n next).configs, refl)
-
   -- where nothing is left to do, the run is over
   pub run_over : (n : ℕ) (c : Config) → part_of c.to_do ≡ part.Finished → run_of p input n c ≡ ended n c Done
   unfolding run_of

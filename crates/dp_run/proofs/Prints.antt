@@ -1,5 +1,5 @@
 -- What is to be printed, and what was written of it.
-use Rattle.std.proofs.Common.{◌≡◌, refl, sym, ap, ◌∙◌, append_assoc, ℕ, zero, suc, ◌+◌, ◌-◌, ◌<◌, ◌≤◌, true, false, if◌then◌else◌, cond, Bool, List, [], ◌∷◌, ◌++◌, ℤ, length, take, drop, count_by, nat_lt, Option, Some, slice_get, arith}
+use Rattle.std.proofs.Common.{◌≡◌, refl, sym, ap, ◌∙◌, append_assoc, ℕ, zero, suc, ◌+◌, ◌-◌, ◌≤◌, true, false, if◌then◌else◌, cond, Bool, List, [], ◌∷◌, ◌++◌, ℤ, length, take, drop, count_by, nat_lt, Option, Some, slice_get, arith}
 use Rattle.std.proofs.lemmas.List.{take-append-drop}
 use Rattle.std.proofs.lemmas.List.Sums.{sum_by-cons}
 use Rattle.dp_tree.specs.Step.{Config, Event}
@@ -18,8 +18,10 @@ use Rattle.dp_crew.specs.Output.{Emits, WritesFront}
 use Rattle.dp_crew.specs.RegionRun.{region_run, region_prints}
 use Rattle.dp_run.specs.steps.Stretches.{to_come}
 use Rattle.dp_run.proofs.RegionsLeft.{on_region}
-use Rattle.dp_run.proofs.Passing.{prints_on, prints-append, run_configs}
+use Rattle.dp_run.proofs.Passing.{prints_on, prints-append}
 use Rattle.dp_crew.proofs.StreamLemmas.{emits_ahead, front_ahead, front_more, prints-split}
+use Rattle.dp_tree.proofs.InMain.{at_index}
+use Rattle.dp_commit.proofs.Parts.{run_begins}
 
 -- The steps of a call print what was to come.
 pub part_to_come : (turns : ℕ) (old new : MachineState) (before after : List ℤ) (end : PartEnd) → PartRun turns old new before after end → before ++ to_come old ≡ after ++ to_come new
@@ -51,11 +53,6 @@ record Splits (all front : List ℤ) : Type 0 where
   pub rest : List ℤ
   pub is : all ≡ front ++ rest
 
-at_place : {X : Type 0} (xs : List X) (k : ℕ) → k < length xs → (x : X) × (slice_get xs k ≡ Some x)
-at_place [] k h = absurd (omega (arith, h))
-at_place (x ∷ xs) zero h = (x, refl)
-at_place (x ∷ xs) (suc k) h = at_place xs k (omega (arith, h))
-
 count_few : (test : ℕ → Bool) (ks : List ℕ) → count_by test ks ≤ length ks
 count_few test [] = omega arith
 count_few test (k ∷ ks) =
@@ -75,7 +72,7 @@ module _ (m : MachineState) (r : ℕ) (here : part_of m.config.to_do ≡ part.Re
   -- the first iteration starts at once
   first_here : start run r 0 ≡ Some 0
   first_here =
-      let begins = run_configs m.program m.input (fuel_left m) m.config in
+      let begins = run_begins m.program m.input (fuel_left m) m.config in
       let more = places (stands_at_head r) 1 begins.0 in
       ap (λ (cs : List Config). slice_get (places (stands_at_head r) 0 cs) 0) begins.1 ∙ ap (λ (t : Bool). slice_get (if t then 0 ∷ more else more) 0) (on_region r m.config here)
 
@@ -83,7 +80,7 @@ module _ (m : MachineState) (r : ℕ) (here : part_of m.config.to_do ≡ part.Re
   first_events zero h = (0, refl)
   first_events (suc i) h =
       let few = count_few (λ k. nat_lt k run.fuel) (starts run r) in
-      let at = at_place (starts run r) i (omega (arith, few, h)) in
+      let at = at_index (starts run r) i (omega (arith, few, h)) in
       let stop = stop_from run at.0 (start run r (suc i)) in
       let size : stop - 0 ≡ stop = omega arith in
       (stop, adjacent.joined 0 i at.0 first_here at.1 ∙ ap (λ (n : ℕ). take n run.trace) size)

@@ -20,9 +20,9 @@ use Rattle.dp_run.specs.RunText.{source_run, committed_count}
 use Rattle.dp_run.specs.steps.Stretches.{Between}
 use Rattle.dp_run.proofs.Lists.{map_same}
 use Rattle.dp_run.proofs.RegionsLeft.{on_region}
-use Rattle.dp_run.proofs.Passing.{run_configs}
 use Rattle.dp_run.proofs.Leading.{config_here}
-use Rattle.dp_crew.proofs.Here.{run_fuel}
+use Rattle.dp_semantics.proofs.Central.{fuel_is}
+use Rattle.dp_commit.proofs.Parts.{run_begins}
 
 module _ (p : Program) (plan : Plan) (input : List ℤ) (fuel n : ℕ) (m : MachineState) (number : plan.region ≡ suc n) (b : Between p input fuel n m) (here : part_of m.config.to_do ≡ part.Region (suc n)) where
   abbrev run : Run
@@ -34,7 +34,7 @@ module _ (p : Program) (plan : Plan) (input : List ℤ) (fuel n : ℕ) (m : Mach
   -- the region's first iteration starts here
   first_start : start run plan.region 0 ≡ Some (made + 0)
   first_start =
-      let begins = run_configs m.program m.input (fuel_left m) m.config in
+      let begins = run_begins m.program m.input (fuel_left m) m.config in
       let more = places (stands_at_head (suc n)) 1 begins.0 in
       let rest_starts : starts (rest_of_run m) (suc n) ≡ 0 ∷ more =
       ap (places (stands_at_head (suc n)) 0) begins.1 ∙ ap (λ (t : Bool). if t then 0 ∷ more else more) (on_region (suc n) m.config here) in
@@ -42,8 +42,8 @@ module _ (p : Program) (plan : Plan) (input : List ℤ) (fuel n : ℕ) (m : Mach
 
   left_is : fuel - (made + 0) ≡ fuel_left m
   left_is =
-      let all = run_fuel p input fuel (begin p) in
-      let rest = run_fuel m.program m.input (fuel_left m) m.config in
+      let all = fuel_is p input fuel (begin p) in
+      let rest = fuel_is m.program m.input (fuel_left m) m.config in
       omega (arith, all, rest, b.behind.passed.piece.fuel)
 
   own_is : run_of p input (fuel - (made + 0)) m.config ≡ region_run m
@@ -97,4 +97,4 @@ begun_few u r = let few = places_few (stands_at_head r) 0 u.fuel u.configs in om
 
 pub committed_few : (p : Program) (plan : Plan) (input : List ℤ) (fuel : ℕ) → committed_count p plan (source_run p input fuel) ≤ fuel
 committed_few p plan input fuel =
-    let few = begun_few (source_run p input fuel) plan.region in let all = run_fuel p input fuel (begin p) in omega (arith, few, all)
+    let few = begun_few (source_run p input fuel) plan.region in let all = fuel_is p input fuel (begin p) in omega (arith, few, all)

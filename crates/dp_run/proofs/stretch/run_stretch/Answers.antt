@@ -3,11 +3,11 @@ use Rattle.std.proofs.lemmas.Result.{IfOk-weaker, on_err_weaker}
 use Rattle.dp_base.specs.declared.RegionReport.{RegionReport}
 use Rattle.dp_semantics.specs.Reported.{region_report}
 use Rattle.dp_run.specs.RunText.{source_run}
-use Rattle.dp_run.proofs.Ending.{on_err, on_ok}
 use Rattle.dp_crew.proofs.StreamLemmas.{emits_front, emits_on, emits_stopped}
 use Rattle.dp_run.proofs.Regions.{after_region, region_start}
 use Rattle.dp_run.proofs.RegionCalls.{ran_emits, report_of_run, stopped_front, tally_whole}
 use Rattle.dp_run.proofs.stretch.run_stretch.Goals as goal
+use Rattle.dp_crew.proofs.Answering.{on_err, on_ok}
 
 pub run_region-requires-clause-start : goal.run_region-requires-clause-start
 run_region-requires-clause-start g c κs within =
