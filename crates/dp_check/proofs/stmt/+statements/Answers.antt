@@ -214,5 +214,5 @@ step_of-returns-clause-value t c = ap (λ r. block_answer r c.args.step.now) (sy
 
 pub step_of-returns-clause-place : goal.step_of-returns-clause-place
 step_of-returns-clause-place t c =
-    let ended = c.in_ok-last.ensures.place ∙ ap (λ q. passed q (parts_all c.args.step.now)) c.in_ok-pass_all.ensures in
+    let ended = c.in_ok-last.ensures.place ∙ ap (λ q. passed q (parts_all c.args.step.now)) c.in_ok-pass_all.ensures.place in
     c.renumber.ensures ∙ (λ i. record { names = (ended i).names; variable = (c.numbers-start.ensures i).variable; site = (c.numbers-start.ensures i).site })
