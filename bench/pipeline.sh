@@ -96,7 +96,7 @@ heavy_rows 'two thousand operators, twenty a turn' turning 100 \
 heavy_rows 'two thousand operators, sixty a turn' turning 32 "x$sixty + turns" 20160000
 cp words.in heavy.in
 plan 'seq 2 3 4' "par $(seq -s ' ' 5 37)" 'seq 38' >heavy.plan
-heavy_rows 'two thousand operators, sixty a statement' straight 33 "$sixty" 131923968
+heavy_rows 'two thousand operators, sixty-one a statement' straight 33 "$sixty" 131923968
 
 words 20000 1000 >indices.in
 for cells in 1000 65536; do
