@@ -1,8 +1,9 @@
 //! Ops that take the words of an earlier stage's site.
-ghost use Rattle.std.specs.Prelude.{◌≡◌, ◌+◌, []};
+ghost use Rattle.std.specs.Prelude.{◌≡◌, ◌≢◌, ◌+◌, []};
 ghost use Rattle.dp_tree.specs.Eval.{place};
 ghost use Rattle.dp_code.specs.FlatRun as run;
 ghost use Rattle.dp_code.specs.declared.Op.TheVariants as op;
+ghost use Rattle.dp_machine.specs.declared.Answer.TheVariants as answer;
 ghost use Rattle.dp_machine.specs.Engine.{flat_of, Does, op_in_frame};
 ghost use Rattle.dp_tree.specs.Event as effect;
 ghost use Rattle.dp_plan.specs.Access.{first_site, stage_of};
@@ -72,7 +73,8 @@ impl<'p, M: Memory + Drop> Turn<'p, M> {
         requires first { frame.first ≡ first_site frame.program.now frame.plan.now }
         requires behind { next ≡ self.old.place + 1 }
         requires stage { stage ≡ stage_of frame.program.now frame.plan.now site.0 }
-        ensures { Does M.cells (op_in_frame frame.entry (flat_of M.cells self.old) (op.ConsumePrint site)) self.new result }
+        ensures does { Does M.cells (op_in_frame frame.entry (flat_of M.cells self.old) (op.ConsumePrint site)) self.new result }
+        ensures asks_none { result ≢ answer.NoMemory }
     {
         match take(&mut self.lists, stage, site) {
             Some(word) => {
@@ -96,7 +98,8 @@ impl<'p, M: Memory + Drop> Turn<'p, M> {
         requires first { frame.first ≡ first_site frame.program.now frame.plan.now }
         requires behind { next ≡ self.old.place + 1 }
         requires stage { stage ≡ stage_of frame.program.now frame.plan.now site.0 }
-        ensures { Does M.cells (op_in_frame frame.entry (flat_of M.cells self.old) (op.ConsumeBranch site zero)) self.new result }
+        ensures does { Does M.cells (op_in_frame frame.entry (flat_of M.cells self.old) (op.ConsumeBranch site zero)) self.new result }
+        ensures asks_none { result ≢ answer.NoMemory }
     {
         match take(&mut self.lists, stage, site) {
             Some(word) => {

@@ -86,6 +86,7 @@ impl Book {
         ensures book { IsBook self.new }
         ensures ok { OnOk result (book_pages self.new ≡ with_cell (book_pages self.old) number place value) }
         ensures err { OnErr result (book_pages self.new ≡ book_pages self.old) }
+        ensures wanting { OnErr result (number < self.old.before) }
     {
         if number < self.before {
             return self.table.set(alloc, number, place, value);
@@ -100,6 +101,7 @@ impl Book {
         requires within { number < length (book_pages self.old) }
         ensures book { IsBook self.new }
         ensures ok { OnOk result (IsOwnAt self.new number) }
+        ensures wanting { OnErr result (number < self.old.before) }
         ensures same { book_pages self.new ≡ book_pages self.old }
     {
         if number < self.before {
