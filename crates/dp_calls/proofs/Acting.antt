@@ -46,25 +46,15 @@ module _ (p q : Program) where
 
   pub step_plain : (r : Program) (input cells : List ℤ) (s : Stmt) (rest : List Stmt) (head : Stmt-F Stmt) → is_apart head ≡ false →
       step_at r input cells s rest head ≡ step_by r (site_of head) (evaluated r input cells head) (after_store r (followed s rest head) cells)
-  step_plain r input cells s rest (Assign site x e) h = refl
-  step_plain r input cells s rest (Store site x index e) h = refl
-  step_plain r input cells s rest (Print site e) h = refl
-  step_plain r input cells s rest (If site cond a b) h = refl
-  step_plain r input cells s rest (While site cond a) h = refl
-  step_plain r input cells s rest (Region k site cond a) h = refl
   step_plain r input cells s rest (Break site cond) h = absurd (cc)
   step_plain r input cells s rest (Call f line args) h = absurd (cc)
+  step_plain r input cells s rest _ h = refl
 
   step_head_plain : (input : List ℤ) (c : State) (f : Frame) (below : List Frame) (rest : List Stmt) (head : Stmt-F Stmt) → is_apart head ≡ false →
       step_head p input c f below rest head ≡ frame_step p f below (step p input (record { to_do = f.to_do; cells = c.globals ++ f.locals }))
-  step_head_plain input c f below rest (Assign site x e) h = refl
-  step_head_plain input c f below rest (Store site x index e) h = refl
-  step_head_plain input c f below rest (Print site e) h = refl
-  step_head_plain input c f below rest (If site cond a b) h = refl
-  step_head_plain input c f below rest (While site cond a) h = refl
-  step_head_plain input c f below rest (Region k site cond a) h = refl
   step_head_plain input c f below rest (Break site cond) h = absurd (cc)
   step_head_plain input c f below rest (Call g line args) h = absurd (cc)
+  step_head_plain input c f below rest _ h = refl
 
   -- the step of the running frame
   pub frame_plain : (input : List ℤ) (c : State) (f : Frame) (below : List Frame) (s : Stmt) (rest : List Stmt) → f.to_do ≡ s ∷ rest → is_apart (out-Stmt s) ≡ false →

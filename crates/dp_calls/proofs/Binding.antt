@@ -31,9 +31,8 @@ use Rattle.dp_calls.proofs.Acting.{after_store, StepsAlike, both_fault, both_go}
 -- the element behind a list
 slice_get_behind : {X : Type 0} (before : List X) (x : X) (after : List X) (n : ℕ) → n ≡ length before → slice_get (before ++ x ∷ after) n ≡ Some x
 slice_get_behind [] x after zero e = refl
-slice_get_behind [] x after (suc n) e = absurd (omega (arith, e))
-slice_get_behind (y ∷ before) x after zero e = absurd (omega (arith, e))
 slice_get_behind (y ∷ before) x after (suc n) e = let less : n ≡ length before = omega (arith, e) in slice_get_behind before x after n less
+slice_get_behind _ x after _ e = absurd (omega (arith, e))
 
 -- behind one parameter more
 seen_behind_one : (visible : List ℕ) (before : List VarId) (x : VarId) → seen_behind_params visible (before ++ x ∷ []) ≡ x.0 ∷ seen_behind_params visible before

@@ -58,8 +58,7 @@ other_cleared first r j (x ∷ xs) l others =
 -- no file-scope variable is a body local
 file_no_local : (r : ℕ) (scope : VarScope) → is_global_scope scope ≡ true → is_local_of r scope ≡ true → ⊥
 file_no_local r Global g l = absurd (cc)
-file_no_local r Outer g l = absurd (cc)
-file_no_local r (Body q) g l = absurd (cc)
+file_no_local r _ g l = absurd (cc)
 
 module _ (count cells : ℕ) (vars : List VarInfo) (lies : (k : ℕ) (info : VarInfo) → slice_get vars k ≡ Some info → PlaceOf count cells k info) (r : ℕ) where
   -- where a body local lies

@@ -26,15 +26,13 @@ or_make true b e f = absurd (cc)
 -- renaming changes numbers alone
 unnumbered-renamed : (names : List Renamed) (e : Expr) → unnumbered (renamed names e) ≡ unnumbered e
 unfolding opened
-unnumbered-renamed names (tree.Number n) = refl
 unnumbered-renamed names (tree.Input' _ (more_of-Expr e end_of-Expr)) = ap tree.Input (unnumbered-renamed names e)
-unnumbered-renamed names tree.InputLen = refl
-unnumbered-renamed names (tree.Scalar x) = refl
 unnumbered-renamed names (tree.Element' x _ (more_of-Expr e end_of-Expr)) = ap (tree.Element (record { 0 = 0 })) (unnumbered-renamed names e)
 unnumbered-renamed names (tree.Unary' op _ (more_of-Expr e end_of-Expr)) = ap (tree.Unary op) (unnumbered-renamed names e)
 unnumbered-renamed names (tree.Binary' op _ (more_of-Expr a end_of-Expr) _ (more_of-Expr b end_of-Expr)) = ap₂ (tree.Binary op) (unnumbered-renamed names a) (unnumbered-renamed names b)
 unnumbered-renamed names (tree.And' _ (more_of-Expr a end_of-Expr) _ (more_of-Expr b end_of-Expr)) = ap₂ tree.And (unnumbered-renamed names a) (unnumbered-renamed names b)
 unnumbered-renamed names (tree.Or' _ (more_of-Expr a end_of-Expr) _ (more_of-Expr b end_of-Expr)) = ap₂ tree.Or (unnumbered-renamed names a) (unnumbered-renamed names b)
+unnumbered-renamed names _ = refl
 
 abbrev hidden_erased : List Stmt → List Stmt
 hidden_erased xs = erased_in (Rattle.dp_tree.specs.declared.Stmt.TheBlock.hidden-the_row-Stmt-0 xs)

@@ -50,17 +50,13 @@ module _ (p : Program) where
   kept_declared false r x names t = kept_local r x t
 
   kept_bound : (r line : ℕ) (caller : List Renamed) (params : List VarId) (args : List Expr) (names : List Renamed) (t : Tables) → Kept t (bindings p r line caller params args names t)
-  kept_bound r line caller [] args names t = refl
-  kept_bound r line caller (x ∷ params) [] names t = refl
   kept_bound r line caller (x ∷ params) (e ∷ args) names t = kept_bound r line caller params args _ _ ∙ kept_local r x.0 (with_site (record { line = line; kind = kind.Assign; region = r }) t)
+  kept_bound r line caller _ _ names t = refl
 
   module _ (calls : Calls) (kept_called : (f r : ℕ) (names : List Renamed) (t : Tables) → Kept t (calls f r names t)) where
     mutual
       kept_one : (r : ℕ) (s : Stmt) (names : List Renamed) (t : Tables) → Kept t (expand_one p calls r s names t)
       kept_one r (stmt.Assign site x e) names t = kept_declared (is_known p (named_in names x.0) x.0) r x.0 names (with_source_site p r site t)
-      kept_one r (stmt.Store site x index e) names t = refl
-      kept_one r (stmt.Print site e) names t = refl
-      kept_one r (stmt.Break site e) names t = refl
       kept_one r (stmt.If' site cond _ a _ b) names t =
           let left = expand_rows p calls r a names (with_source_site p r site t) in
           kept_rows r b left.names left.tables ∙ kept_rows r a names (with_source_site p r site t)
@@ -69,6 +65,7 @@ module _ (p : Program) where
       kept_one r (stmt.Call f line args) names t =
           let bound = bindings p r line names (params_in (slice_get p.functions f)) args [] t in
           kept_called f r bound.names bound.tables ∙ kept_bound r line names (params_in (slice_get p.functions f)) args [] t
+      kept_one r _ names t = refl
 
       kept_rows : {n : _} (r : ℕ) (rows : Row_of-Stmt n) (names : List Renamed) (t : Tables) → Kept t (expand_rows p calls r rows names t)
       kept_rows r end_of-Stmt names t = refl

@@ -51,17 +51,12 @@ none-join (x ∷ a) b h k =
 
 module _ (p : Program) where
   none_bound : (r line : ℕ) (caller : List Renamed) (params : List VarId) (args : List Expr) (names : List Renamed) (t : Tables) → None (bindings p r line caller params args names t).code
-  none_bound r line caller [] args names t = refl
-  none_bound r line caller (x ∷ params) [] names t = refl
   none_bound r line caller (x ∷ params) (e ∷ args) names t = none_bound r line caller params args _ _
+  none_bound r line caller _ _ names t = refl
 
   module _ (calls : Calls) (none_called : (f r : ℕ) (names : List Renamed) (t : Tables) → None (calls f r names t).code) where
     mutual
       none_in_one : (r : ℕ) (s : Stmt) (names : List Renamed) (t : Tables) → None (expand_one p calls r s names t).code
-      none_in_one r (stmt.Assign site x e) names t = refl
-      none_in_one r (stmt.Store site x index e) names t = refl
-      none_in_one r (stmt.Print site e) names t = refl
-      none_in_one r (stmt.Break site e) names t = refl
       none_in_one r (stmt.If' site cond _ a _ b) names t =
           let left = expand_rows p calls r a names (with_source_site p r site t) in
           let right = expand_rows p calls r b left.names left.tables in
@@ -76,6 +71,7 @@ module _ (p : Program) where
       none_in_one r (stmt.Call f line args) names t =
           let bound = bindings p r line names (params_in (slice_get p.functions f)) args [] t in
           none-join bound.code (calls f r bound.names bound.tables).code (none_bound r line names (params_in (slice_get p.functions f)) args [] t) (none_called f r bound.names bound.tables)
+      none_in_one r _ names t = refl
 
       none_in_rows : {n : _} (r : ℕ) (rows : Row_of-Stmt n) (names : List Renamed) (t : Tables) → None (expand_rows p calls r rows names t).code
       none_in_rows r end_of-Stmt names t = refl

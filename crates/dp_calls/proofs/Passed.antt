@@ -29,12 +29,9 @@ use Rattle.dp_calls.proofs.Made.{closes_before, Made, binding_line}
 
 -- a local of a region, or of none, is no file-scope variable
 pub scope_local : (r : ℕ) (scope : VarScope) → is_scope_in r scope ≡ true → is_global_scope scope ≡ false
-scope_local zero Global e = absurd (cc)
 scope_local zero Outer e = refl
-scope_local zero (Body q) e = absurd (cc)
-scope_local (suc r) Global e = absurd (cc)
-scope_local (suc r) Outer e = absurd (cc)
 scope_local (suc r) (Body q) e = refl
+scope_local _ _ e = absurd (cc)
 
 module _ (p : Program) (places : (x : ℕ) (info : VarInfo) → slice_get p.vars x ≡ Some info → PlaceOf (file_count p) (global_count p) x info) where
   -- a declared variable has an entry, and one cell behind the file-scope ones
@@ -118,8 +115,6 @@ module _ (p q : Program) (places : (x : ℕ) (info : VarInfo) → slice_get p.va
       Made p q Any low calls names t (seen_behind_params visible params) (bindings p r line caller params args names t) (Passes params args (bindings p r line caller params args names t).code)
   passed [] [] visible names t scoped long known_all ok lies seen only =
       record { grows = grows_not t; lies = lies; named = ok; steps = steps_not names (length t.vars); seen = seen; becomes = λ g closes e final. bound }
-  passed [] (a ∷ args) visible names t scoped long known_all ok lies seen only = absurd (omega (arith, long))
-  passed (x ∷ params) [] visible names t scoped long known_all ok lies seen only = absurd (omega (arith, long))
   passed (x ∷ params) (a ∷ args) visible names t scoped long known_all ok lies seen only =
       let outer = and_true (not (sees visible x) && is_declared_in 0 (slice_get p.vars x.0)) (params_in_scope p (x.0 ∷ visible) params) scoped in
       let inner = and_true (not (sees visible x)) (is_declared_in 0 (slice_get p.vars x.0)) outer.0 in
@@ -143,3 +138,4 @@ module _ (p q : Program) (places : (x : ℕ) (info : VarInfo) → slice_get p.va
         | inl is ↦ sees_new x.0 visible w is.0
         | inr before ↦ sees_more x.0 visible w (only w y before)
       ]))
+  passed _ _ visible names t scoped long known_all ok lies seen only = absurd (omega (arith, long))

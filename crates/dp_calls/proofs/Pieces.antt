@@ -215,12 +215,11 @@ module _ (p q : Program) (places : (x : ℕ) (info : VarInfo) → slice_get p.va
         let sites = and_true (is_listed p site.0) (list_all (is_listed p) (site_numbers_in body)) listed in
         let first = rows_made body visible names (with_source_site p r site t) both.1 plain sites.1 (names_sited p q places there linked low n scope r link site names t ok) (lies_sited p q places there linked low n scope r link site t lies) seen in
         loop_made site visible names t sites.0 ok lies seen v m body (expand_rows p calls r body names (with_source_site p r site t)) both.0 first
-    one_made (stmt.Region' k site v m body) visible names t scoped plain listed ok lies seen = absurd (cc plain)
-    one_made (stmt.Break site v) visible names t scoped plain listed ok lies seen = absurd (cc plain)
     one_made (stmt.Call f line args) visible names t scoped plain listed ok lies seen =
         let both = and_true (nat_lt f n) (list_all (knows visible) args && (length args == length (params_in (slice_get p.functions f)))) scoped in
         let inner = and_true (list_all (knows visible) args) (length args == length (params_in (slice_get p.functions f))) both.1 in
         call_made visible names t ok lies seen f line args (ltb-true f n both.0) inner.0 (eqb-true (length args) (length (params_in (slice_get p.functions f))) inner.1)
+    one_made _ visible names t scoped plain listed ok lies seen = absurd (cc plain)
 
     pub rows_made : {m : _} (rows : Row_of-Stmt m) (visible : List ℕ) (names : List Renamed) (t : Tables) → rows_in_scope p scope n visible rows ≡ true → is_plain_in rows ≡ true → list_all (is_listed p) (site_numbers_in rows) ≡ true →
         NamesOk p linked low names t → Lies p t → Seen p visible names → BlockMade visible names t (texts rows) (expand_rows p calls r rows names t)

@@ -65,16 +65,13 @@ module _ (p : Program) where
   declared_regions false r x names t = refl
 
   plain_bindings : (r line : ℕ) (caller : List Renamed) (params : List VarId) (args : List Expr) (names : List Renamed) (t : Tables) → Plain t (bindings p r line caller params args names t)
-  plain_bindings r line caller [] args names t = (refl, refl)
-  plain_bindings r line caller (x ∷ params) [] names t = (refl, refl)
   plain_bindings r line caller (x ∷ params) (e ∷ args) names t = plain_bindings r line caller params args _ _
+  plain_bindings r line caller _ _ names t = (refl, refl)
 
   module _ (calls : Calls) (called : (f r : ℕ) (names : List Renamed) (t : Tables) → Plain t (calls f r names t)) where
     mutual
       pub plain_one : (r : ℕ) (s : Stmt) (names : List Renamed) (t : Tables) → is_plain s ≡ true → Plain t (expand_one p calls r s names t)
       plain_one r (stmt.Assign site x e) names t h = (refl, declared_regions (is_known p (named_in names x.0) x.0) r x.0 names (with_source_site p r site t))
-      plain_one r (stmt.Store site x index e) names t h = (refl, refl)
-      plain_one r (stmt.Print site e) names t h = (refl, refl)
       plain_one r (stmt.If' site cond _ a _ b) names t h =
           let both = and_true (is_plain_in a) (is_plain_in b) h in
           let left = expand_rows p calls r a names (with_source_site p r site t) in
@@ -91,6 +88,7 @@ module _ (p : Program) where
       plain_one r (stmt.Call f line args) names t h =
           let bound = bindings p r line names (params_in (slice_get p.functions f)) args [] t in
           plain_joined t bound (calls f r bound.names bound.tables) (plain_bindings r line names (params_in (slice_get p.functions f)) args [] t) (called f r bound.names bound.tables)
+      plain_one r _ names t h = (refl, refl)
 
       pub plain_rows : {n : _} (r : ℕ) (rows : Row_of-Stmt n) (names : List Renamed) (t : Tables) → is_plain_in rows ≡ true → Plain t (expand_rows p calls r rows names t)
       plain_rows r end_of-Stmt names t h = (refl, refl)
@@ -101,14 +99,12 @@ module _ (p : Program) where
 
     -- the same of a region's body, where breaks stand too
     inner_one : (r : ℕ) (s : Stmt) (names : List Renamed) (t : Tables) → is_inner s ≡ true → Inner t (expand_one p calls r s names t)
-    inner_one r (stmt.Break site cond) names t h = (refl, refl)
     inner_one r (stmt.Assign site x e) names t h = plain_inner t (expand_one p calls r (stmt.Assign site x e) names t) (plain_one r (stmt.Assign site x e) names t h)
-    inner_one r (stmt.Store site x i e) names t h = (refl, refl)
-    inner_one r (stmt.Print site e) names t h = (refl, refl)
     inner_one r (stmt.If' site cond c a d b) names t h = plain_inner t (expand_one p calls r (stmt.If' site cond c a d b) names t) (plain_one r (stmt.If' site cond c a d b) names t h)
     inner_one r (stmt.While' site cond c a) names t h = plain_inner t (expand_one p calls r (stmt.While' site cond c a) names t) (plain_one r (stmt.While' site cond c a) names t h)
     inner_one r (stmt.Region' q site cond c a) names t h = absurd (cc)
     inner_one r (stmt.Call f line args) names t h = plain_inner t (expand_one p calls r (stmt.Call f line args) names t) (plain_one r (stmt.Call f line args) names t h)
+    inner_one r _ names t h = (refl, refl)
 
     pub inner_rows : {n : _} (r : ℕ) (rows : Row_of-Stmt n) (names : List Renamed) (t : Tables) → is_inner_in rows ≡ true → Inner t (expand_rows p calls r rows names t)
     inner_rows r end_of-Stmt names t h = (refl, refl)
@@ -136,14 +132,11 @@ module _ (p : Program) where
 
 -- a plain statement is no region
 plain_top : (r : ℕ) (s : Stmt) → is_plain s ≡ true → (top_fits r s ≡ true) × (next_region r s ≡ r)
-plain_top r (stmt.Assign site x e) h = (refl, refl)
-plain_top r (stmt.Store site x index e) h = (refl, refl)
-plain_top r (stmt.Print site e) h = (refl, refl)
 plain_top r (stmt.If' site cond _ a _ b) h = (h, refl)
 plain_top r (stmt.While' site cond _ a) h = (h, refl)
 plain_top r (stmt.Region' q site cond _ a) h = absurd (cc)
 plain_top r (stmt.Break site cond) h = absurd (cc)
-plain_top r (stmt.Call f line args) h = (refl, refl)
+plain_top r _ h = (refl, refl)
 
 plain_front : (r : ℕ) (a b : List Stmt) → list_all is_plain a ≡ true → regions_in_order r b ≡ true → regions_in_order r (a ++ b) ≡ true
 plain_front r [] b h k = k

@@ -23,14 +23,9 @@ length-numbers first zero = refl
 length-numbers first (suc n) = ap suc (length-numbers (first + 1) n)
 
 unmarked : (s : Stmt) → is_plain s ≡ true → is_marked s ≡ false
-unmarked (stmt.Assign site x e) h = refl
-unmarked (stmt.Store site x index e) h = refl
-unmarked (stmt.Print site e) h = refl
-unmarked (stmt.If' site cond _ a _ b) h = refl
-unmarked (stmt.While' site cond _ a) h = refl
 unmarked (stmt.Region' q site cond _ a) h = absurd (cc)
 unmarked (stmt.Break site cond) h = absurd (cc)
-unmarked (stmt.Call f line args) h = refl
+unmarked _ h = refl
 
 marked : (q : ℕ) (site : SiteId) (cond : Expr) (a : List Stmt) → is_marked (stmt.Region q site cond a) ≡ true
 unfolding opened_statement

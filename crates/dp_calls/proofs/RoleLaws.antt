@@ -55,14 +55,10 @@ length-both a b c d e f = let g = length-append a b in let h = length-append c d
 -- each site has a number and a role
 mutual
   as_many : (r : ℕ) (s : Stmt) → length (site_numbers s) ≡ length (site_roles r s)
-  as_many r (stmt.Assign site x e) = refl
-  as_many r (stmt.Store site x index e) = refl
-  as_many r (stmt.Print site e) = refl
   as_many r (stmt.If' site cond _ a _ b) = ap suc (length-both (site_numbers_in a) (site_numbers_in b) (site_roles_in r a) (site_roles_in r b) (as_many_in r a) (as_many_in r b))
   as_many r (stmt.While' site cond _ a) = ap suc (as_many_in r a)
   as_many r (stmt.Region' q site cond _ a) = ap suc (as_many_in q a)
-  as_many r (stmt.Break site cond) = refl
-  as_many r (stmt.Call f line args) = refl
+  as_many r _ = refl
 
   as_many_in : {n : _} (r : ℕ) (rows : Row_of-Stmt n) → length (site_numbers_in rows) ≡ length (site_roles_in r rows)
   as_many_in r end_of-Stmt = refl
@@ -106,9 +102,8 @@ module _ (p : Program) where
 
   entries_parts : (a b : List ℕ) (c d : Roles) → length a ≡ length c → Entries (a ++ b) (c ++ d) → Entries a c × Entries b d
   entries_parts [] b [] d e h = (tt, h)
-  entries_parts [] b (k ∷ c) d e h = absurd (omega (arith, e))
-  entries_parts (n ∷ a) b [] d e h = absurd (omega (arith, e))
   entries_parts (n ∷ a) b (k ∷ c) d e h = let rest = entries_parts a b c d (omega (arith, e)) h.1 in ((h.0, rest.0), rest.1)
+  entries_parts _ b _ d e h = absurd (omega (arith, e))
 
   entries_from : (first : ℕ) (infos : List SiteInfo) → 0 < first → ((j : ℕ) → slice_get p.sites (first - 1 + j) ≡ slice_get infos j) → Entries (numbers_from first (length infos)) (map role_of infos)
   entries_from first [] low at = tt
@@ -124,14 +119,13 @@ module _ (p : Program) where
       ∙ ap (λ (j : SiteKind). map role_of t.sites ++ (j, r) ∷ []) h.1.1
 
   told_bindings : (r line : ℕ) (caller : List Renamed) (params : List VarId) (args : List Expr) (names : List Renamed) (t : Tables) → ToldBy r t (bindings p r line caller params args names t)
-  told_bindings r line caller [] args names t = told_none t
-  told_bindings r line caller (x ∷ params) [] names t = told_none t
   told_bindings r line caller (x ∷ params) (e ∷ args) names t =
       let info : SiteInfo = record { line = line; kind = kind.Assign; region = r } in
       let u = with_local p r x.0 (with_site info t) in
       let more : List Renamed = record { source = x.0; target = length t.vars } ∷ names in
       let after = bindings p r line caller params args more u in
       told_both t u after.tables ((kind.Assign, r) ∷ []) (site_roles_all r after.code) (map-append role_of t.sites (info ∷ [])) (told_bindings r line caller params args more u)
+  told_bindings r line caller _ _ names t = told_none t
 
   module _ (calls : Calls) (called : (f r : ℕ) (names : List Renamed) (t : Tables) → ToldBy r t (calls f r names t)) where
     mutual

@@ -114,8 +114,6 @@ module _ (p : Program) where
   declared_sites false r x names t = refl
 
   numbered_bindings : (r line : ℕ) (caller : List Renamed) (params : List VarId) (args : List Expr) (names : List Renamed) (t : Tables) → Numbered t (bindings p r line caller params args names t)
-  numbered_bindings r line caller [] args names t = none_numbered names t
-  numbered_bindings r line caller (x ∷ params) [] names t = none_numbered names t
   numbered_bindings r line caller (x ∷ params) (e ∷ args) names t =
       let info : SiteInfo = record { line = line; kind = Assign; region = r } in
       let u = with_local p r x.0 (with_site info t) in
@@ -124,6 +122,7 @@ module _ (p : Program) where
       let rest = numbered_bindings r line caller params args more u in
       let grown : length u.sites ≡ suc (length t.sites) = let g = length-append t.sites (info ∷ []) in omega (arith, g) in
       (suc rest.0, first_numbers t u after.tables (site_numbers_all after.code) rest.0 grown rest.1)
+  numbered_bindings r line caller _ _ names t = none_numbered names t
 
   module _ (calls : Calls) (called : (f r : ℕ) (names : List Renamed) (t : Tables) → Numbered t (calls f r names t)) where
     mutual

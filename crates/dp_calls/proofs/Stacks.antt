@@ -75,11 +75,7 @@ module _ (p q : Program) where
 
   pub acts_within : {e : Env} {visible behind : List ℕ} {s t : Stmt} → Acts p q e visible behind s t → Within p q visible behind
   acts_within (assigns _ _ _ _ declares) = declares_within declares
-  acts_within (stores _ _ _ _ _ _) = λ x seen. seen
-  acts_within (prints _ _ _ _) = λ x seen. seen
-  acts_within (branches _ _ _ _ _ _) = λ x seen. seen
-  acts_within (loops _ _ _ _ _) = λ x seen. seen
-  acts_within (marks _ _ _ _ _ _ _) = λ x seen. seen
+  acts_within _ = λ x seen. seen
 
   pub one_within : {e : Env} {visible behind : List ℕ} {s : Stmt} {code : List Stmt} → One p q e visible behind s code → Within p q visible behind
   one_within (act a) = acts_within a

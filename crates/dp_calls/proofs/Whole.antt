@@ -38,12 +38,9 @@ use Rattle.dp_calls.proofs.CheckedTexts.{TextOf}
 
 -- a scope of region r
 scope_is : (r : ℕ) (scope : VarScope) → is_scope_in r scope ≡ true → scope ≡ scope_in r
-scope_is zero Global e = absurd (cc e)
 scope_is zero Outer e = refl
-scope_is zero (Body k) e = absurd (cc e)
-scope_is (suc r) Global e = absurd (cc e)
-scope_is (suc r) Outer e = absurd (cc e)
 scope_is (suc r) (Body k) e = ap Body (eqb-true k (suc r) e)
+scope_is _ _ e = absurd (cc e)
 
 -- both entries are of the same regions
 abbrev pub Linked : Option VarInfo → Option VarInfo → Type 0
@@ -160,13 +157,7 @@ module _ (p q : Program) (places : (x : ℕ) (info : VarInfo) → slice_get p.va
   top_behind : (visible : List ℕ) (s : Stmt) → in_scope p 0 most visible s ≡ true → TopSeen p visible → TopSeen p (seen_behind visible s)
   top_behind visible (stmt.Assign site x v) scoped top =
       top_assigned (sees visible x) visible x refl (and_true (knows visible v) (sees visible x || is_declared_in 0 (slice_get p.vars x.0)) scoped).1 top
-  top_behind visible (stmt.Store site x i v) scoped top = top
-  top_behind visible (stmt.Print site v) scoped top = top
-  top_behind visible (stmt.If' site v m one l other) scoped top = top
-  top_behind visible (stmt.While' site v m body) scoped top = top
-  top_behind visible (stmt.Region' r site v m body) scoped top = top
-  top_behind visible (stmt.Break site v) scoped top = top
-  top_behind visible (stmt.Call f line args) scoped top = top
+  top_behind visible _ scoped top = top
 
   pub main_made : (k : ℕ) (statements : List Stmt) (visible : List ℕ) (names : List Renamed) (t : Tables) → all_in_scope p 0 most visible statements ≡ true → regions_in_order k statements ≡ true → list_all (is_listed p) (site_numbers_all statements) ≡ true →
       Ready visible names t → MainMade visible names t statements (expand_list p calls 0 statements names t)
