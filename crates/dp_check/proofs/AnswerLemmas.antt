@@ -53,25 +53,22 @@ onto-none done = ap Ok (append-nil done)
 pub onto-more : {X : Type 0} (done : List X) (one : Result X CheckFail) (rest : Result (List X) CheckFail)
     → onto done (and_then one (λ x. and_then rest (λ xs. Ok (x ∷ xs)))) ≡ and_then one (λ x. onto (done ++ x ∷ []) rest)
 unfolding onto
-onto-more done (Err e) rest = refl
-onto-more done (Ok x) (Err e) = refl
 onto-more done (Ok x) (Ok xs) = ap Ok (Rattle.std.proofs.Common.sym (append_assoc done (x ∷ []) xs))
+onto-more done _ _ = refl
 
 -- some of the rest are done
 pub onto-further : {X : Type 0} (done : List X) (some rest : Result (List X) CheckFail)
     → onto done (and_then some (λ xs. and_then rest (λ ys. Ok (xs ++ ys)))) ≡ and_then (onto done some) (λ all. onto all rest)
 unfolding onto
-onto-further done (Err e) rest = refl
-onto-further done (Ok xs) (Err e) = refl
 onto-further done (Ok xs) (Ok ys) = ap Ok (Rattle.std.proofs.Common.sym (append_assoc done xs ys))
+onto-further done _ _ = refl
 
 -- several are done, and one more
 pub onto-one : {X : Type 0} (done : List X) (some : Result (List X) CheckFail) (one : Result X CheckFail)
     → onto done (and_then some (λ xs. and_then one (λ x. Ok (xs ++ x ∷ [])))) ≡ and_then (onto done some) (λ all. and_then one (λ x. Ok (all ++ x ∷ [])))
 unfolding onto
-onto-one done (Err e) one = refl
-onto-one done (Ok xs) (Err e) = refl
 onto-one done (Ok xs) (Ok x) = ap Ok (Rattle.std.proofs.Common.sym (append_assoc done xs (x ∷ [])))
+onto-one done _ _ = refl
 
 -- an answer of one statement behind those that are done
 pub gives_behind : (r : Result (List Stmt) CheckFail) (done : List Stmt) (one : Result Stmt CheckFail) → Gives r (with_last [] one) → Gives (onto done r) (with_last done one)

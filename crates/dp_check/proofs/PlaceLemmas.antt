@@ -94,25 +94,11 @@ pub ruleset after_forms = (after-Declare, after-Assign, after-Store, after-Call,
 
 pub after_variable : (p : Place) (s : RawStmt) → (after p s).variable ≡ p.variable + local_count (parts s)
 after_variable p (raw.Declare line name value) = refl
-after_variable p (raw.Assign name value) = refl
-after_variable p (raw.Store name index value) = refl
-after_variable p (raw.Call name args) = refl
-after_variable p (raw.Print line value) = refl
-after_variable p (raw.Break line cond) = refl
-after_variable p (raw.If' line cond _ a _ b) = refl
-after_variable p (raw.While' line marked cond _ body) = refl
-after_variable p (raw.For' line marked _ first cond _ step _ body) = refl
+after_variable p _ = refl
 
 pub after_site : (p : Place) (s : RawStmt) → (after p s).site ≡ p.site + site_count (parts s)
 after_site p (raw.Declare line name value) = refl
-after_site p (raw.Assign name value) = refl
-after_site p (raw.Store name index value) = refl
-after_site p (raw.Call name args) = refl
-after_site p (raw.Print line value) = refl
-after_site p (raw.Break line cond) = refl
-after_site p (raw.If' line cond _ a _ b) = refl
-after_site p (raw.While' line marked cond _ body) = refl
-after_site p (raw.For' line marked _ first cond _ step _ body) = refl
+after_site p _ = refl
 
 -- the first names stay
 pub record Keeps (k : ℕ) (old new : List Named) : Type 0 where
@@ -124,14 +110,7 @@ keeps_more k names more h = record { long = let e = length-append names more in 
 
 pub after_keeps : (k : ℕ) (p : Place) (s : RawStmt) → k ≤ length p.names → Keeps k p.names (after p s).names
 after_keeps k p (raw.Declare line name value) h = keeps_more k p.names _ h
-after_keeps k p (raw.Assign name value) h = record { long = h; kept = refl }
-after_keeps k p (raw.Store name index value) h = record { long = h; kept = refl }
-after_keeps k p (raw.Call name args) h = record { long = h; kept = refl }
-after_keeps k p (raw.Print line value) h = record { long = h; kept = refl }
-after_keeps k p (raw.Break line cond) h = record { long = h; kept = refl }
-after_keeps k p (raw.If' line cond _ a _ b) h = record { long = h; kept = refl }
-after_keeps k p (raw.While' line marked cond _ body) h = record { long = h; kept = refl }
-after_keeps k p (raw.For' line marked _ first cond _ step _ body) h = record { long = h; kept = refl }
+after_keeps k p _ h = record { long = h; kept = refl }
 
 pub after_all_variable : (p : Place) (all : List RawStmt) → (after_all p all).variable ≡ p.variable + local_count (parts_all all)
 after_all_variable p [] = omega arith

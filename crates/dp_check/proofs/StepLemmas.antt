@@ -19,10 +19,8 @@ onto-loop : {X Y : Type 0} (done : List Stmt) (before : Result (List Stmt) Check
     → onto done (and_then before (λ xs. and_then test (λ c. and_then inside (λ x. Ok (xs ++ loop c x ∷ [])))))
     ≡ and_then (onto done before) (λ all. and_then test (λ c. and_then inside (λ x. Ok (all ++ loop c x ∷ []))))
 unfolding onto
-onto-loop done (Err e) test inside loop = refl
-onto-loop done (Ok xs) (Err e) inside loop = refl
-onto-loop done (Ok xs) (Ok c) (Err e) loop = refl
 onto-loop done (Ok xs) (Ok c) (Ok x) loop = ap Ok (sym (append_assoc done xs (loop c x ∷ [])))
+onto-loop done _ _ _ loop = refl
 
 module _ (p : Place) (done : List Stmt) (line : ℕ) (marked : Bool) (first : List RawStmt) (cond : RawExpr) (step body : List RawStmt) where
   abbrev start : Place
