@@ -5,7 +5,7 @@ use Rattle.dp_base.specs.Arithmetic.{is_zero}
 use Rattle.dp_base.specs.declared.Fault.{Fault as FaultAt}
 use Rattle.dp_base.specs.declared.SiteId.{SiteId}
 use Rattle.dp_tree.specs.declared.Stmt.{Stmt, out-Stmt}
-use Rattle.dp_tree.specs.declared.Stmt.TheOpen.{Stmt-F, Assign, Store, Print, If, While, Region, Break, Call}
+use Rattle.dp_tree.specs.declared.Stmt.TheOpen.{Stmt-F, Break, Call}
 use Rattle.dp_tree.specs.declared.Program.{Program}
 use Rattle.dp_tree.specs.Eval.{Evaluated, first_cell}
 use Rattle.dp_tree.specs.Event.{Effect, Event, value_of, stored}
@@ -20,7 +20,7 @@ use Rattle.dp_calls.proofs.Written.{After}
 use Rattle.dp_calls.proofs.Stacks.{Suits, Stack, Ready, Alike, block_then, stack_kept, Sim}
 use Rattle.dp_calls.proofs.Exits.{body_then}
 use Rattle.dp_calls.proofs.Effects.{EvaluatesAlike, faults, goes, stores_alike, prints_alike, decides_alike, elements_alike, values, nothing_stored, element_stored, same_length, declared_stored}
-use Rattle.dp_calls.proofs.Stands.{stands}
+use Rattle.dp_calls.proofs.Clears.{stands}
 use Rattle.dp_calls.proofs.Settles.{settles_running}
 
 -- the statement is a call or a break
@@ -215,8 +215,7 @@ module _ (p q : Program) where
         f.to_do ≡ s ∷ statements → Acts p q e visible behind s t → Todo p q e behind statements text → code ≡ t ∷ (text ++ rest) →
         StepsAlike (step_frames p input c (f ∷ below)) (step_from q input (c.globals ++ h) code)
     acting_steps input c s t statements text code same whole is acts todo code_is =
-        let sites = acts_sites acts in
-        let left = frame_plain input c f below s statements is sites.source in
+        let sites = acts_sites acts in let left = frame_plain input c f below s statements is sites.source in
         let right : step_from q input (c.globals ++ h) code ≡ step_by q (site_of (out-Stmt t)) (evaluated q input (c.globals ++ h) (out-Stmt t)) (after_store q (followed t (text ++ rest) (out-Stmt t)) (c.globals ++ h)) =
         ap (λ (xs : List Stmt). step_from q input (c.globals ++ h) xs) code_is ∙ step_plain q input (c.globals ++ h) t (text ++ rest) (out-Stmt t) sites.target in
         subst (λ (x : FrameStep). StepsAlike x (step_from q input (c.globals ++ h) code)) (sym left)

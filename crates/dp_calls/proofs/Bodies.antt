@@ -75,13 +75,8 @@ module _ (p q : Program) (places : (x : ℕ) (info : VarInfo) → slice_get p.va
 
   inner_made : (s : Stmt) → is_inner s ≡ true → InsideOf s
   inner_made (stmt.Break site v) w = λ visible names t scoped listed ok lies seen. break_made site v visible names t scoped (and_true (is_listed p site.0) true listed).0 ok lies seen
-  inner_made (stmt.Assign site x v) w = plain_made (stmt.Assign site x v) w
-  inner_made (stmt.Store site x i v) w = plain_made (stmt.Store site x i v) w
-  inner_made (stmt.Print site v) w = plain_made (stmt.Print site v) w
-  inner_made (stmt.If' site v m one k other) w = plain_made (stmt.If' site v m one k other) w
-  inner_made (stmt.While' site v m body) w = plain_made (stmt.While' site v m body) w
   inner_made (stmt.Region' k site v m body) w = absurd (cc w)
-  inner_made (stmt.Call f line args) w = plain_made (stmt.Call f line args) w
+  inner_made s w = plain_made s w
 
   pub body_made : {m : _} (rows : Row_of-Stmt m) (visible : List ℕ) (names : List Renamed) (t : Tables) → rows_in_scope p scope n visible rows ≡ true → is_inner_in rows ≡ true → list_all (is_listed p) (site_numbers_in rows) ≡ true →
       NamesOk p linked low names t → Lies p t → Seen p visible names → BodyMade visible names t (texts rows) (expand_rows p calls r rows names t)

@@ -10,7 +10,7 @@ use Rattle.dp_tree.specs.declared.Stmt.TheVariants as stmt
 use Rattle.dp_tree.specs.declared.Stmt.TheOpen.{Assign}
 use Rattle.dp_tree.specs.declared.VarInfo.{VarInfo}
 use Rattle.dp_tree.specs.declared.VarScope.{VarScope}
-use Rattle.dp_tree.specs.declared.VarScope.TheVariants.{Global, Outer, Body}
+use Rattle.dp_tree.specs.declared.VarScope.TheVariants.{Outer, Body}
 use Rattle.dp_tree.specs.declared.SiteInfo.{SiteInfo}
 use Rattle.dp_tree.specs.declared.SiteKind.TheVariants as kind
 use Rattle.dp_tree.specs.declared.Program.{Program}

@@ -30,8 +30,7 @@ use Rattle.dp_calls.proofs.Declared.{lies_sited, names_sited, final_renamed, ass
 pub all_parts : {X : Type 0} (f : X → Bool) (xs ys : List X) → list_all f (xs ++ ys) ≡ true → (list_all f xs ≡ true) × (list_all f ys ≡ true)
 all_parts f [] ys h = (refl, h)
 all_parts f (x ∷ xs) ys h =
-    let both = and_true (f x) (list_all f (xs ++ ys)) h in
-    let rest = all_parts f xs ys both.1 in
+    let both = and_true (f x) (list_all f (xs ++ ys)) h in let rest = all_parts f xs ys both.1 in
     (and_make (f x) (list_all f xs) both.0 rest.0, rest.1)
 
 -- the variables that are visible where the body of function f begins

@@ -53,9 +53,6 @@ plain_joined t a b h k = (plain_join a.code b.code h.0 k.0, k.1 ∙ h.1)
 abbrev pub Inner : Tables → Piece → Type 0
 Inner t a = (list_all is_inner a.code ≡ true) × (a.tables.regions ≡ t.regions)
 
-plain_inner : (t : Tables) (a : Piece) → Plain t a → Inner t a
-plain_inner t a h = (inner_plain a.code h.0, h.1)
-
 inner_joined : (t : Tables) (a b : Piece) → Inner t a → Inner a.tables b → Inner t (record b { code = a.code ++ b.code })
 inner_joined t a b h k = (inner_join a.code b.code h.0 k.0, k.1 ∙ h.1)
 
@@ -93,31 +90,25 @@ module _ (p : Program) where
       pub plain_rows : {n : _} (r : ℕ) (rows : Row_of-Stmt n) (names : List Renamed) (t : Tables) → is_plain_in rows ≡ true → Plain t (expand_rows p calls r rows names t)
       plain_rows r end_of-Stmt names t h = (refl, refl)
       plain_rows r (more_of-Stmt s rest) names t h =
-          let both = and_true (is_plain s) (is_plain_in rest) h in
-          let one = expand_one p calls r s names t in
+          let both = and_true (is_plain s) (is_plain_in rest) h in let one = expand_one p calls r s names t in
           plain_joined t one (expand_rows p calls r rest one.names one.tables) (plain_one r s names t both.0) (plain_rows r rest one.names one.tables both.1)
 
     -- the same of a region's body, where breaks stand too
     inner_one : (r : ℕ) (s : Stmt) (names : List Renamed) (t : Tables) → is_inner s ≡ true → Inner t (expand_one p calls r s names t)
-    inner_one r (stmt.Assign site x e) names t h = plain_inner t (expand_one p calls r (stmt.Assign site x e) names t) (plain_one r (stmt.Assign site x e) names t h)
-    inner_one r (stmt.If' site cond c a d b) names t h = plain_inner t (expand_one p calls r (stmt.If' site cond c a d b) names t) (plain_one r (stmt.If' site cond c a d b) names t h)
-    inner_one r (stmt.While' site cond c a) names t h = plain_inner t (expand_one p calls r (stmt.While' site cond c a) names t) (plain_one r (stmt.While' site cond c a) names t h)
     inner_one r (stmt.Region' q site cond c a) names t h = absurd (cc)
-    inner_one r (stmt.Call f line args) names t h = plain_inner t (expand_one p calls r (stmt.Call f line args) names t) (plain_one r (stmt.Call f line args) names t h)
-    inner_one r _ names t h = (refl, refl)
+    inner_one r (stmt.Break site e) names t h = (refl, refl)
+    inner_one r s names t h = let k = plain_one r s names t h in (inner_plain (expand_one p calls r s names t).code k.0, k.1)
 
     pub inner_rows : {n : _} (r : ℕ) (rows : Row_of-Stmt n) (names : List Renamed) (t : Tables) → is_inner_in rows ≡ true → Inner t (expand_rows p calls r rows names t)
     inner_rows r end_of-Stmt names t h = (refl, refl)
     inner_rows r (more_of-Stmt s rest) names t h =
-        let both = and_true (is_inner s) (is_inner_in rest) h in
-        let one = expand_one p calls r s names t in
+        let both = and_true (is_inner s) (is_inner_in rest) h in let one = expand_one p calls r s names t in
         inner_joined t one (expand_rows p calls r rest one.names one.tables) (inner_one r s names t both.0) (inner_rows r rest one.names one.tables both.1)
 
     pub plain_list : (r : ℕ) (all : List Stmt) (names : List Renamed) (t : Tables) → list_all is_plain all ≡ true → Plain t (expand_list p calls r all names t)
     plain_list r [] names t h = (refl, refl)
     plain_list r (s ∷ rest) names t h =
-        let both = and_true (is_plain s) (list_all is_plain rest) h in
-        let one = expand_one p calls r s names t in
+        let both = and_true (is_plain s) (list_all is_plain rest) h in let one = expand_one p calls r s names t in
         plain_joined t one (expand_list p calls r rest one.names one.tables) (plain_one r s names t both.0) (plain_list r rest one.names one.tables both.1)
 
   plain_body : (fs : List Function) (f : ℕ) → list_all is_plain_function fs ≡ true → list_all is_plain (body_in (slice_get fs f)) ≡ true
@@ -141,8 +132,7 @@ plain_top r _ h = (refl, refl)
 plain_front : (r : ℕ) (a b : List Stmt) → list_all is_plain a ≡ true → regions_in_order r b ≡ true → regions_in_order r (a ++ b) ≡ true
 plain_front r [] b h k = k
 plain_front r (s ∷ a) b h k =
-    let both = and_true (is_plain s) (list_all is_plain a) h in
-    let top = plain_top r s both.0 in
+    let both = and_true (is_plain s) (list_all is_plain a) h in let top = plain_top r s both.0 in
     and_make (top_fits r s) (regions_in_order (next_region r s) (a ++ b)) top.0 (ap (λ q. regions_in_order q (a ++ b)) top.1 ∙ plain_front r a b both.1 k)
 
 region_fits : (r q : ℕ) (site : SiteId) (cond : Expr) (a : List Stmt) → (q == r) ≡ true → list_all is_inner a ≡ true → top_fits r (stmt.Region q site cond a) ≡ true
@@ -161,17 +151,11 @@ module _ (p : Program) (calls : Calls) (called : (f r : ℕ) (names : List Renam
   regions_plain : (s : Stmt) (rest : List Stmt) → Keeps rest → (r : ℕ) (names : List Renamed) (t : Tables) → is_plain s ≡ true → regions_in_order r rest ≡ true
       → regions_in_order r (expand_list p calls 0 (s ∷ rest) names t).code ≡ true
   regions_plain s rest go r names t h k =
-      let one = expand_one p calls 0 s names t in
-      let plain = plain_one p calls called 0 s names t h in
+      let one = expand_one p calls 0 s names t in let plain = plain_one p calls called 0 s names t h in
       plain_front r one.code (expand_list p calls 0 rest one.names one.tables).code plain.0 (go r one.names one.tables k)
 
   regions_top : (s : Stmt) (rest : List Stmt) → Keeps rest → (r : ℕ) (names : List Renamed) (t : Tables) → top_fits r s ≡ true → regions_in_order (next_region r s) rest ≡ true
       → regions_in_order r (expand_list p calls 0 (s ∷ rest) names t).code ≡ true
-  regions_top (stmt.Assign site x e) rest go r names t h k = regions_plain (stmt.Assign site x e) rest go r names t h k
-  regions_top (stmt.Store site x index e) rest go r names t h k = regions_plain (stmt.Store site x index e) rest go r names t h k
-  regions_top (stmt.Print site e) rest go r names t h k = regions_plain (stmt.Print site e) rest go r names t h k
-  regions_top (stmt.If' site cond c a d b) rest go r names t h k = regions_plain (stmt.If' site cond c a d b) rest go r names t h k
-  regions_top (stmt.While' site cond c a) rest go r names t h k = regions_plain (stmt.While' site cond c a) rest go r names t h k
   regions_top (stmt.Region' q site cond c a) rest go r names t h k =
       let both = and_true (q == r) (is_inner_in a) h in
       let body = expand_rows p calls q a names (with_source_site p q site t) in
@@ -182,7 +166,7 @@ module _ (p : Program) (calls : Calls) (called : (f r : ℕ) (names : List Renam
       and_make (top_fits r s) (regions_in_order (next_region r s) after) (region_fits r q (next_site t) (renamed names cond) body.code both.0 inner.0)
       (ap (λ n. regions_in_order n after) (region_next r q (next_site t) (renamed names cond) body.code) ∙ go (r + 1) one.names one.tables k)
   regions_top (stmt.Break site cond) rest go r names t h k = absurd (cc)
-  regions_top (stmt.Call f line args) rest go r names t h k = regions_plain (stmt.Call f line args) rest go r names t h k
+  regions_top s rest go r names t h k = regions_plain s rest go r names t h k
 
   regions_list : (all : List Stmt) → Keeps all
   regions_list [] r names t h = refl

@@ -138,27 +138,23 @@ module _ (p : Program) where
       told_one r q (stmt.If' site cond _ a _ b) names t h =
           let u = with_source_site p r site t in
           let parts = entries_parts (site_numbers_in a) (site_numbers_in b) (site_roles_in q a) (site_roles_in q b) (as_many_in q a) h.1 in
-          let left = expand_rows p calls r a names u in
-          let right = expand_rows p calls r b left.names left.tables in
+          let left = expand_rows p calls r a names u in let right = expand_rows p calls r b left.names left.tables in
           let both = told_both u left.tables right.tables (site_roles_all r left.code) (site_roles_all r right.code) (told_rows r q a names u parts.0) (told_rows r q b left.names left.tables parts.1) in
           told_alone r t right.tables (stmt.If (next_site t) (renamed names cond) left.code right.code) ((kind.If, r) ∷ (site_roles_all r left.code ++ site_roles_all r right.code))
           (roles-If r (next_site t) (renamed names cond) left.code right.code)
           (told_both t u right.tables ((kind.If, r) ∷ []) (site_roles_all r left.code ++ site_roles_all r right.code) (told_source r site t kind.If h.0) both)
       told_one r q (stmt.While' site cond _ a) names t h =
-          let u = with_source_site p r site t in
-          let body = expand_rows p calls r a names u in
+          let u = with_source_site p r site t in let body = expand_rows p calls r a names u in
           told_alone r t body.tables (stmt.While (next_site t) (renamed names cond) body.code) ((kind.While, r) ∷ site_roles_all r body.code)
           (roles-While r (next_site t) (renamed names cond) body.code)
           (told_both t u body.tables ((kind.While, r) ∷ []) (site_roles_all r body.code) (told_source r site t kind.While h.0) (told_rows r q a names u h.1))
       told_one r _ (stmt.Region' q site cond _ a) names t h =
-          let u = with_source_site p q site t in
-          let body = expand_rows p calls q a names u in
+          let u = with_source_site p q site t in let body = expand_rows p calls q a names u in
           told_alone r t body.tables (stmt.Region q (next_site t) (renamed names cond) body.code) ((kind.While, q) ∷ site_roles_all q body.code)
           (roles-Region r q (next_site t) (renamed names cond) body.code)
           (told_both t u body.tables ((kind.While, q) ∷ []) (site_roles_all q body.code) (told_source q site t kind.While h.0) (told_rows q q a names u h.1))
       told_one r q (stmt.Call f line args) names t h =
-          let params = params_in (slice_get p.functions f) in
-          let bound = bindings p r line names params args [] t in
+          let params = params_in (slice_get p.functions f) in let bound = bindings p r line names params args [] t in
           told_joined r t bound (calls f r bound.names bound.tables) (told_bindings r line names params args [] t) (called f r bound.names bound.tables)
 
       told_rows : {n : _} (r q : ℕ) (rows : Row_of-Stmt n) (names : List Renamed) (t : Tables) → Entries (site_numbers_in rows) (site_roles_in q rows) → ToldBy r t (expand_rows p calls r rows names t)

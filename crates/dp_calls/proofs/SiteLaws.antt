@@ -96,8 +96,7 @@ module _ (p : Program) where
   pub listed_parts : (a b : List ℕ) → Listed (a ++ b) → Listed a × Listed b
   listed_parts [] b h = (refl, h)
   listed_parts (x ∷ a) b h =
-      let both = and_true (is_site x) (list_all is_site (a ++ b)) h in
-      let rest = listed_parts a b both.1 in
+      let both = and_true (is_site x) (list_all is_site (a ++ b)) h in let rest = listed_parts a b both.1 in
       (and_make (is_site x) (list_all is_site a) both.0 rest.0, rest.1)
 
   pub grows : (r : ℕ) (site : SiteId) (t : Tables) → is_site site.0 ≡ true → length (with_source_site p r site t).sites ≡ suc (length t.sites)
@@ -139,28 +138,23 @@ module _ (p : Program) where
           let u = with_source_site p r site t in
           let own = and_true (is_site site.0) (list_all is_site (site_numbers_in a ++ site_numbers_in b)) h in
           let parts = listed_parts (site_numbers_in a) (site_numbers_in b) own.1 in
-          let left = expand_rows p calls r a names u in
-          let right = expand_rows p calls r b left.names left.tables in
-          let l = numbered_rows r a names u parts.0 in
-          let m = numbered_rows r b left.names left.tables parts.1 in
+          let left = expand_rows p calls r a names u in let right = expand_rows p calls r b left.names left.tables in
+          let l = numbered_rows r a names u parts.0 in let m = numbered_rows r b left.names left.tables parts.1 in
           let both = both_numbers u left.tables right.tables (site_numbers_all left.code) (site_numbers_all right.code) l.0 m.0 l.1 m.1 in
           let s = stmt.If (next_site t) (renamed names cond) left.code right.code in
           (suc (l.0 + m.0), alone_numbers t right.tables s _ (suc (l.0 + m.0)) (numbers-If (next_site t) (renamed names cond) left.code right.code) (first_numbers t u right.tables _ (l.0 + m.0) (grows r site t own.0) both))
       numbered_one r (stmt.While' site cond _ a) names t h =
           let u = with_source_site p r site t in
           let own = and_true (is_site site.0) (list_all is_site (site_numbers_in a)) h in
-          let body = expand_rows p calls r a names u in
-          let l = numbered_rows r a names u own.1 in
+          let body = expand_rows p calls r a names u in let l = numbered_rows r a names u own.1 in
           (suc l.0, alone_numbers t body.tables (stmt.While (next_site t) (renamed names cond) body.code) _ (suc l.0) (numbers-While (next_site t) (renamed names cond) body.code) (first_numbers t u body.tables _ l.0 (grows r site t own.0) l.1))
       numbered_one r (stmt.Region' q site cond _ a) names t h =
           let u = with_source_site p q site t in
           let own = and_true (is_site site.0) (list_all is_site (site_numbers_in a)) h in
-          let body = expand_rows p calls q a names u in
-          let l = numbered_rows q a names u own.1 in
+          let body = expand_rows p calls q a names u in let l = numbered_rows q a names u own.1 in
           (suc l.0, alone_numbers t body.tables (stmt.Region q (next_site t) (renamed names cond) body.code) _ (suc l.0) (numbers-Region q (next_site t) (renamed names cond) body.code) (first_numbers t u body.tables _ l.0 (grows q site t own.0) l.1))
       numbered_one r (stmt.Call f line args) names t h =
-          let params = params_in (slice_get p.functions f) in
-          let bound = bindings p r line names params args [] t in
+          let params = params_in (slice_get p.functions f) in let bound = bindings p r line names params args [] t in
           joined t bound (calls f r bound.names bound.tables) (numbered_bindings r line names params args [] t) (called f r bound.names bound.tables)
 
       pub numbered_rows : {n : _} (r : ℕ) (rows : Row_of-Stmt n) (names : List Renamed) (t : Tables) → Listed (site_numbers_in rows) → Numbered t (expand_rows p calls r rows names t)

@@ -9,7 +9,7 @@ use Rattle.dp_tree.specs.Functions.{body_in, params_in}
 use Rattle.dp_tree.specs.Scoping.{global_numbers, seen_behind_params}
 use Rattle.dp_tree.specs.Step.{Config, behind_region}
 use Rattle.dp_calls.specs.Frame.{Frame, State, fresh, global_count}
-use Rattle.dp_calls.proofs.Relation.{Env, file_count, IsEnv, Nested, Within, Declares, known, new, Binds, Acts, assigns, stores, prints, branches, loops, marks, Tries, Leaving, One, act, call, Block, done, more, Todo, next, leave, Held, file, held, Agree, Room}
+use Rattle.dp_calls.proofs.Relation.{Env, file_count, IsEnv, Nested, Within, Declares, known, new, Binds, Acts, assigns, Tries, Leaving, One, act, call, Block, done, more, Todo, next, leave, Held, file, held, Agree, Room}
 use Rattle.dp_calls.proofs.SameValues.{sees_more}
 use Rattle.dp_calls.proofs.Written.{Keeps}
 

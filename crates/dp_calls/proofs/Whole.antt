@@ -11,7 +11,7 @@ use Rattle.dp_tree.specs.declared.Stmt.TheVariants as stmt
 use Rattle.dp_tree.specs.declared.Stmt.TheOpen.{Region}
 use Rattle.dp_tree.specs.declared.VarInfo.{VarInfo}
 use Rattle.dp_tree.specs.declared.VarScope.{VarScope}
-use Rattle.dp_tree.specs.declared.VarScope.TheVariants.{Global, Outer, Body}
+use Rattle.dp_tree.specs.declared.VarScope.TheVariants.{Outer, Body}
 use Rattle.dp_tree.specs.declared.Program.{Program}
 use Rattle.dp_tree.specs.Functions.{body_in}
 use Rattle.dp_tree.specs.Numbering.{site_numbers, site_numbers_in, site_numbers_all, is_plain, is_inner_in, top_fits, next_region, regions_in_order}
@@ -132,11 +132,6 @@ module _ (p q : Program) (places : (x : ℕ) (info : VarInfo) → slice_get p.va
 
   top_made : (k : ℕ) (s : Stmt) (visible : List ℕ) (names : List Renamed) (t : Tables) → in_scope p 0 most visible s ≡ true → top_fits k s ≡ true → list_all (is_listed p) (site_numbers s) ≡ true → Ready visible names t →
       TopMade visible names t (seen_behind visible s) s (expand_one p calls 0 s names t)
-  top_made k (stmt.Assign site x v) visible names t scoped fits listed ready = plain_top (stmt.Assign site x v) visible names t scoped fits listed ready
-  top_made k (stmt.Store site x i v) visible names t scoped fits listed ready = plain_top (stmt.Store site x i v) visible names t scoped fits listed ready
-  top_made k (stmt.Print site v) visible names t scoped fits listed ready = plain_top (stmt.Print site v) visible names t scoped fits listed ready
-  top_made k (stmt.If' site v m one l other) visible names t scoped fits listed ready = plain_top (stmt.If' site v m one l other) visible names t scoped fits listed ready
-  top_made k (stmt.While' site v m body) visible names t scoped fits listed ready = plain_top (stmt.While' site v m body) visible names t scoped fits listed ready
   top_made k (stmt.Region' r site v m body) visible names t scoped fits listed ready =
       let both = and_true (knows visible v) (rows_in_scope p r most visible body) scoped in
       let plainly = and_true (r == k) (is_inner_in body) fits in
@@ -145,7 +140,7 @@ module _ (p q : Program) (places : (x : ℕ) (info : VarInfo) → slice_get p.va
       (names_sited p q places there Linked (file_count p) most r r (linked_moved r) site names t ready.0) (lies_sited p q places there Linked (file_count p) most r r (linked_moved r) site t ready.1) ready.2 in
       region_by r site v m body visible names t (expand_rows p calls r body names (with_source_site p r site t)) both.0 sites.0 ready.0 ready.2 ready.3 inside
   top_made k (stmt.Break site v) visible names t scoped fits listed ready = absurd (cc fits)
-  top_made k (stmt.Call f line args) visible names t scoped fits listed ready = plain_top (stmt.Call f line args) visible names t scoped fits listed ready
+  top_made k s visible names t scoped fits listed ready = plain_top s visible names t scoped fits listed ready
 
   top_assigned : (b : Bool) (visible : List ℕ) (x : VarId) → sees visible x ≡ b → (b || is_declared_in 0 (slice_get p.vars x.0)) ≡ true → TopSeen p visible → TopSeen p (if b then visible else x.0 ∷ visible)
   top_assigned true visible x is scoped top w at = top w at
