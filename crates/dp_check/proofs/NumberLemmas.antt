@@ -1,9 +1,9 @@
 -- The sites of a checked program are numbered in text order.
-use Rattle.std.proofs.Common.{◌≡◌, refl, sym, ap, ◌∙◌, ℕ, zero, suc, ◌+◌, true, false, if◌then◌else◌, List, [], ◌∷◌, ◌++◌, map, length, length-append, append-nil, append_assoc, arith}
+use Rattle.std.proofs.Common.{◌≡◌, refl, sym, ap, ◌∙◌, ℕ, zero, suc, ◌+◌, true, if◌then◌else◌, List, [], ◌∷◌, ◌++◌, map, length, length-append, append-nil, append_assoc, arith}
 use Rattle.std.specs.List.{flat_map}
 use Rattle.dp_tree.specs.declared.Expr.{Expr}
 use Rattle.dp_base.specs.declared.SiteId.{SiteId}
-use Rattle.dp_tree.specs.declared.Stmt.{Stmt, Row_of-Stmt}
+use Rattle.dp_tree.specs.declared.Stmt.{Stmt}
 use Rattle.dp_tree.specs.declared.Stmt.TheVariants as code
 use Rattle.dp_tree.specs.declared.SiteKind.TheVariants as kind
 use Rattle.dp_tree.specs.declared.raw.Name.{Name}

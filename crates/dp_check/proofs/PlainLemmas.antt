@@ -1,5 +1,5 @@
 -- The regions of a checked program stand at the top of `main` alone.
-use Rattle.std.proofs.Common.{◌≡◌, refl, ap, ◌∙◌, ℕ, ◌+◌, ◌==◌, true, false, ◌&&◌, if◌then◌else◌, List, [], ◌∷◌, ◌++◌, append_assoc}
+use Rattle.std.proofs.Common.{◌≡◌, refl, ap, ◌∙◌, ℕ, ◌+◌, ◌==◌, true, ◌&&◌, if◌then◌else◌, List, [], ◌∷◌, ◌++◌, append_assoc}
 use Rattle.std.specs.List.{list_all}
 use Rattle.dp_base.specs.declared.SiteId.{SiteId}
 use Rattle.dp_tree.specs.declared.Expr.{Expr}
@@ -84,11 +84,8 @@ inner_from (code.Region' q site cond _ a) h = absurd (cc h)
 inner_from _ h = refl
 
 inner : (p : Place) (s : RawStmt) → may_leave s ≡ true → list_all is_inner (resolved p s) ≡ true
-inner p (raw.If' line cond i a j b) w = all_weaker is_plain is_inner inner_from (resolved p (raw.If' line cond i a j b)) (plain p (raw.If' line cond i a j b) w)
-inner p (raw.While' line marked cond i body) w = all_weaker is_plain is_inner inner_from (resolved p (raw.While' line marked cond i body)) (plain p (raw.While' line marked cond i body) w)
-inner p (raw.For' line marked i first cond j step k body) w =
-    all_weaker is_plain is_inner inner_from (resolved p (raw.For' line marked i first cond j step k body)) (plain p (raw.For' line marked i first cond j step k body) w)
-inner p _ w = refl
+inner p (raw.Break line cond) w = refl
+inner p s w = all_weaker is_plain is_inner inner_from (resolved p s) (plain p s w)
 
 inner_all : (p : Place) (all : List RawStmt) → list_all may_leave all ≡ true → list_all is_inner (resolved_all p all) ≡ true
 inner_all p [] w = refl

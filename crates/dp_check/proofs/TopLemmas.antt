@@ -5,7 +5,7 @@ use Rattle.dp_tree.specs.declared.SiteKind.TheVariants as kind
 use Rattle.dp_tree.specs.declared.raw.RawExpr.{RawExpr}
 use Rattle.dp_tree.specs.declared.raw.RawStmt.{RawStmt, out-RawStmt}
 use Rattle.dp_tree.specs.declared.raw.RawStmt.TheVariants as raw
-use Rattle.dp_tree.specs.declared.raw.RawStmt.TheVariants.{outs-While, outs-For, rolls-For}
+use Rattle.dp_tree.specs.declared.raw.RawStmt.TheVariants.{outs-While, outs-For}
 use Rattle.dp_tree.specs.declared.raw.RawStmt.TheOpen.{RawStmt-F}
 use Rattle.dp_tree.specs.declared.raw.RawStmt.TheOpen as open_form
 use Rattle.dp_check.specs.Resolved.{is_region, is_region_at}

@@ -8,7 +8,7 @@ use Rattle.dp_tree.specs.Functions.{params_in}
 use Rattle.dp_tree.specs.Scoping.{sees}
 use Rattle.dp_check.specs.declared.fail.CheckFail.{CheckFail}
 use Rattle.dp_check.specs.declared.names.Meaning.{Meaning}
-use Rattle.dp_check.specs.declared.names.Meaning.TheVariants.{Scalar, Array, Input, InputLen, Function}
+use Rattle.dp_check.specs.declared.names.Meaning.TheVariants.{Scalar, Array, Function}
 use Rattle.dp_check.specs.declared.place.Place.{Place}
 use Rattle.dp_check.specs.Offence.{Token, Assigns, AssignsElement, Calls, offence, offence_of, or_else, first_offence}
 use Rattle.dp_check.specs.Place.{Part, local_count, passed, with_scalar}
