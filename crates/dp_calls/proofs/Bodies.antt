@@ -44,8 +44,7 @@ module _ (p q : Program) (places : (x : ℕ) (info : VarInfo) → slice_get p.va
   break_made : (site : SiteId) (v : Expr) (visible : List ℕ) (names : List Renamed) (t : Tables) → knows visible v ≡ true → is_listed p site.0 ≡ true → NamesOk p linked low names t → Lies p t → Seen p visible names →
       InsideMade visible names t visible (stmt.Break site v) (alone (stmt.Break (next_site t) (renamed names v)) (nothing names (with_source_site p r site t)))
   break_made site v visible names t known listed ok lies seen =
-      let sited = with_source_site p r site t in
-      let named = names_sited p q places there linked low n scope r link site names t ok in
+      let sited = with_source_site p r site t in let named = names_sited p q places there linked low n scope r link site names t ok in
       record {
         grows = grows_source_site p r site t;
         lies = lies_sited p q places there linked low n scope r link site t lies;
@@ -86,8 +85,7 @@ module _ (p q : Program) (places : (x : ℕ) (info : VarInfo) → slice_get p.va
       let both = and_true (in_scope p scope n visible s) (rows_in_scope p scope n (seen_behind visible s) rest) scoped in
       let fits = and_true (is_inner s) (is_inner_in rest) inner in
       let parts = all_parts (is_listed p) (site_numbers s) (site_numbers_in rest) listed in
-      let a : Piece = expand_one p calls r s names t in
-      let first = inner_made s fits.0 visible names t both.0 parts.0 ok lies seen in
+      let a : Piece = expand_one p calls r s names t in let first = inner_made s fits.0 visible names t both.0 parts.0 ok lies seen in
       let second = body_made rest (seen_behind visible s) a.names a.tables both.1 fits.1 parts.1 first.named first.lies first.seen in
       record {
         grows = grows_on first.grows second.grows;

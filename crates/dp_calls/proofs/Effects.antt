@@ -117,8 +117,7 @@ module _ (p q : Program) (laid : Laid p q) (input : List ℤ) (e : Env) (env : I
   at_first : (behind : List ℕ) (x y : VarId) (z : ℤ) → Left behind (slice_set (g ++ l) (first_cell p x + 0) z) (slice_set (g ++ h) (first_cell q y + 0) z) →
       Left behind (slice_set (g ++ l) (first_cell p x) z) (slice_set (g ++ h) (first_cell q y) z)
   at_first behind x y z left =
-      let one : first_cell p x + 0 ≡ first_cell p x = omega arith in
-      let other : first_cell q y + 0 ≡ first_cell q y = omega arith in
+      let one : first_cell p x + 0 ≡ first_cell p x = omega arith in let other : first_cell q y + 0 ≡ first_cell q y = omega arith in
       subst (λ (c : ℕ). Left behind (slice_set (g ++ l) c z) (slice_set (g ++ h) (first_cell q y) z)) one
       (subst (λ (c : ℕ). Left behind (slice_set (g ++ l) (first_cell p x + 0) z) (slice_set (g ++ h) c z)) other left)
 

@@ -68,8 +68,7 @@ module _ (p : Program) (calls : Calls) where
     same_one r (stmt.Print site e) names t h = ap (λ (u : Expr). stmt.Print (record { 0 = 0 }) u ∷ []) (unnumbered-renamed names e)
     same_one r (stmt.Break site e) names t h = ap (λ (u : Expr). stmt.Break (record { 0 = 0 }) u ∷ []) (unnumbered-renamed names e)
     same_one r (stmt.If' site cond _ a _ b) names t h =
-        let both = or_false (has_call_in a) (has_call_in b) h in
-        let left = expand_rows p calls r a names (with_source_site p r site t) in
+        let both = or_false (has_call_in a) (has_call_in b) h in let left = expand_rows p calls r a names (with_source_site p r site t) in
         let right = expand_rows p calls r b left.names left.tables in
         ap (λ (s : Stmt). s ∷ []) (erased-If (next_site t) (renamed names cond) left.code right.code)
         ∙ ap (λ (u : Expr). stmt.If (record { 0 = 0 }) u (map erased left.code) (map erased right.code) ∷ []) (unnumbered-renamed names cond)

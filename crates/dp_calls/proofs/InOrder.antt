@@ -128,8 +128,7 @@ module _ (p : Program) (checked : IsChecked p) where
   pub expanded_in_order : (lies_in_order 0 (expand p).vars ≡ true) × (globals_first (expand p).vars ≡ true)
   unfolding cells_of
   expanded_in_order =
-      let before = files_lie 0 p.vars checked.cells checked.globals in
-      let after = locals_lie (global_count p) others locals_from in
+      let before = files_lie 0 p.vars checked.cells checked.globals in let after = locals_lie (global_count p) others locals_from in
       let start : 0 + cells_of files ≡ global_count p = omega arith in (
         ap (lies_in_order 0) vars_are ∙ lies_behind 0 files others before.0 (ap (λ (k : ℕ). lies_in_order k others) start ∙ after.0),
         ap globals_first vars_are ∙ locals_behind files others before.1 after.1,

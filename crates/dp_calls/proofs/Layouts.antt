@@ -116,8 +116,7 @@ lies_from k (x ∷ xs) first lies n info at = by (is_global_scope x.scope) refl 
     by : (t : Bool) → is_global_scope x.scope ≡ t → (is_global_scope x.scope ≡ true → PlacesAmong (globals_in xs) (k + x.length) xs info) → PlaceAmong (globals_in (x ∷ xs)) k n info
     by true e behind = subst (λ (files : List VarInfo). PlaceAmong files k n info) (sym (files_some x xs e)) (at_file behind e n at)
     by false e behind =
-        let others = locals_rest x xs first e in
-        let none : globals_in (x ∷ xs) ≡ [] = files_none x xs e ∙ no_files xs others in
+        let others = locals_rest x xs first e in let none : globals_in (x ∷ xs) ≡ [] = files_none x xs e ∙ no_files xs others in
         let all : list_all is_local_variable (x ∷ xs) ≡ true = and_make (is_local_variable x) (list_all is_local_variable xs) (ap not e) others in
         let same : k ≡ k + 0 = omega arith in
         subst (λ (files : List VarInfo). PlaceAmong files k n info) (sym none)

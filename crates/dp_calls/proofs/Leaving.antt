@@ -65,8 +65,7 @@ module _ (p q : Program) where
         Alike p q (left_at p q f below (standing p (behind_region statements) (cleared_leaving p statements (g ++ f.locals)))) (standing q (behind_region (text ++ rest)) (cleared_leaving q (text ++ rest) (g ++ h)))
     unfolding own_left cells_left
     alike_left left =
-        let long = clear_own-length (global_count p) r p.vars f.locals in
-        let wide = clear_own-length (global_count p) r q.vars h in
+        let long = clear_own-length (global_count p) r p.vars f.locals in let wide = clear_own-length (global_count p) r q.vars h in
         alike_at p q laid f ready.env callee (behind_region statements) (behind_region text) (behind_region (text ++ rest)) (cleared_leaving p statements (g ++ f.locals)) (cleared_leaving q (text ++ rest) (g ++ h))
         g own_left cells_left left left_is
         (facts.source (g ++ f.locals) ∙ memory_clears (file_count p) (global_count p) p.vars laid.before r g f.locals whole)

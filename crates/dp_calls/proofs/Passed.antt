@@ -88,8 +88,7 @@ module _ (p q : Program) (places : (x : ℕ) (info : VarInfo) → slice_get p.va
       Made p q Any low calls names t (seen_behind_params visible (x ∷ params)) (bindings p r line caller (x ∷ params) (a ∷ args) names t)
       (Passes (x ∷ params) (a ∷ args) (bindings p r line caller (x ∷ params) (a ∷ args) names t).code)
   one_passed x a params args visible names t info at is_known ok lies free declared made =
-      let t' : Tables = with_local p r x.0 (with_site info_of t) in
-      let now : List Renamed = names_as x.0 (length t.vars) ∷ names in
+      let t' : Tables = with_local p r x.0 (with_site info_of t) in let now : List Renamed = names_as x.0 (length t.vars) ∷ names in
       let grew : Grows t t' = grows_on (grows_site info_of t) (grows_local p r x.0 (with_site info_of t)) in
       let stepped : Steps names (length t.vars) now = steps_one names x.0 (length t.vars) free in
       record {
@@ -118,8 +117,7 @@ module _ (p q : Program) (places : (x : ℕ) (info : VarInfo) → slice_get p.va
   passed (x ∷ params) (a ∷ args) visible names t scoped long known_all ok lies seen only =
       let outer = and_true (not (sees visible x) && is_declared_in 0 (slice_get p.vars x.0)) (params_in_scope p (x.0 ∷ visible) params) scoped in
       let inner = and_true (not (sees visible x)) (is_declared_in 0 (slice_get p.vars x.0)) outer.0 in
-      let both = and_true (knows known a) (list_all (knows known) args) known_all in
-      let declared = local_of p places 0 x.0 inner.1 in
+      let both = and_true (knows known a) (list_all (knows known) args) known_all in let declared = local_of p places 0 x.0 inner.1 in
       let free : named_in names x.0 ≡ None = free_by visible names x (named_in names x.0) refl only inner.0 in
       let now : List Renamed = names_as x.0 (length t.vars) ∷ names in
       let stepped : Steps names (length t.vars) now = steps_one names x.0 (length t.vars) free in

@@ -227,8 +227,7 @@ module _ (p q : Program) (places : (x : ℕ) (info : VarInfo) → slice_get p.va
         let both = and_true (in_scope p scope n visible s) (rows_in_scope p scope n (seen_behind visible s) rest) scoped in
         let plainly = and_true (is_plain s) (is_plain_in rest) plain in
         let parts = all_parts (is_listed p) (site_numbers s) (site_numbers_in rest) listed in
-        let a : Piece = expand_one p calls r s names t in
-        let first = one_made s visible names t both.0 plainly.0 parts.0 ok lies seen in
+        let a : Piece = expand_one p calls r s names t in let first = one_made s visible names t both.0 plainly.0 parts.0 ok lies seen in
         let second = rows_made rest (seen_behind visible s) a.names a.tables both.1 plainly.1 parts.1 first.named first.lies first.seen in
         both_made visible names t s (texts rest) a (expand_rows p calls r rest a.names a.tables) seen first second
 
@@ -239,7 +238,6 @@ module _ (p q : Program) (places : (x : ℕ) (info : VarInfo) → slice_get p.va
       let both = and_true (in_scope p scope n visible s) (all_in_scope p scope n (seen_behind visible s) rest) scoped in
       let plainly = and_true (is_plain s) (list_all is_plain rest) plain in
       let parts = all_parts (is_listed p) (site_numbers s) (site_numbers_all rest) listed in
-      let a : Piece = expand_one p calls r s names t in
-      let first = one_made s visible names t both.0 plainly.0 parts.0 ok lies seen in
+      let a : Piece = expand_one p calls r s names t in let first = one_made s visible names t both.0 plainly.0 parts.0 ok lies seen in
       let second = list_made rest (seen_behind visible s) a.names a.tables both.1 plainly.1 parts.1 first.named first.lies first.seen in
       both_made visible names t s rest a (expand_list p calls r rest a.names a.tables) seen first second

@@ -70,10 +70,8 @@ module _ (p : Program) where
       pub plain_one : (r : ℕ) (s : Stmt) (names : List Renamed) (t : Tables) → is_plain s ≡ true → Plain t (expand_one p calls r s names t)
       plain_one r (stmt.Assign site x e) names t h = (refl, declared_regions (is_known p (named_in names x.0) x.0) r x.0 names (with_source_site p r site t))
       plain_one r (stmt.If' site cond _ a _ b) names t h =
-          let both = and_true (is_plain_in a) (is_plain_in b) h in
-          let left = expand_rows p calls r a names (with_source_site p r site t) in
-          let right = expand_rows p calls r b left.names left.tables in
-          let l = plain_rows r a names (with_source_site p r site t) both.0 in
+          let both = and_true (is_plain_in a) (is_plain_in b) h in let left = expand_rows p calls r a names (with_source_site p r site t) in
+          let right = expand_rows p calls r b left.names left.tables in let l = plain_rows r a names (with_source_site p r site t) both.0 in
           let m = plain_rows r b left.names left.tables both.1 in
           (plain_alone (stmt.If (next_site t) (renamed names cond) left.code right.code) (plain-If (next_site t) (renamed names cond) left.code right.code l.0 m.0), m.1 ∙ l.1)
       plain_one r (stmt.While' site cond _ a) names t h =
@@ -157,8 +155,7 @@ module _ (p : Program) (calls : Calls) (called : (f r : ℕ) (names : List Renam
   regions_top : (s : Stmt) (rest : List Stmt) → Keeps rest → (r : ℕ) (names : List Renamed) (t : Tables) → top_fits r s ≡ true → regions_in_order (next_region r s) rest ≡ true
       → regions_in_order r (expand_list p calls 0 (s ∷ rest) names t).code ≡ true
   regions_top (stmt.Region' q site cond c a) rest go r names t h k =
-      let both = and_true (q == r) (is_inner_in a) h in
-      let body = expand_rows p calls q a names (with_source_site p q site t) in
+      let both = and_true (q == r) (is_inner_in a) h in let body = expand_rows p calls q a names (with_source_site p q site t) in
       let inner = inner_rows p calls called q a names (with_source_site p q site t) both.1 in
       let one = expand_one p calls 0 (stmt.Region' q site cond c a) names t in
       let s = stmt.Region q (next_site t) (renamed names cond) body.code in

@@ -65,8 +65,7 @@ module _ (p : Program) (calls : Calls) (plain : (f r : ℕ) (names : List Rename
       let both = and_true (q == r) (is_inner_in a) h in
       let listed = and_true (is_site p site.0) (list_all (is_site p) (site_numbers_in a)) own in
       let u = with_source_site p q site t in let body = expand_rows p calls q a names u in
-      let inner = inner_rows p calls plain q a names u both.1 in
-      let counted = numbered_rows p calls numbered q a names u listed.1 in
+      let inner = inner_rows p calls plain q a names u both.1 in let counted = numbered_rows p calls numbered q a names u listed.1 in
       let grown : length u.sites ≡ suc (length t.sites) = grows p q site t listed.0 in
       let one = expand_one p calls 0 (stmt.Region' q site cond c a) names t in
       let s = stmt.Region q (next_site t) (renamed names cond) body.code in

@@ -120,8 +120,7 @@ module _ (p : Program) where
 
   told_bindings : (r line : ℕ) (caller : List Renamed) (params : List VarId) (args : List Expr) (names : List Renamed) (t : Tables) → ToldBy r t (bindings p r line caller params args names t)
   told_bindings r line caller (x ∷ params) (e ∷ args) names t =
-      let info : SiteInfo = record { line = line; kind = kind.Assign; region = r } in
-      let u = with_local p r x.0 (with_site info t) in
+      let info : SiteInfo = record { line = line; kind = kind.Assign; region = r } in let u = with_local p r x.0 (with_site info t) in
       let more : List Renamed = record { source = x.0; target = length t.vars } ∷ names in
       let after = bindings p r line caller params args more u in
       told_both t u after.tables ((kind.Assign, r) ∷ []) (site_roles_all r after.code) (map-append role_of t.sites (info ∷ [])) (told_bindings r line caller params args more u)

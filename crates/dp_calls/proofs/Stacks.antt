@@ -92,8 +92,7 @@ module _ (p q : Program) where
   held_kept : {d e : Env} (env : IsEnv p q d) (nested : Nested p q d e) (l h k : List ℤ) → Keeps p q e h k → (x : ℕ) → Held p q d l h x → Held p q d l k x
   held_kept env nested l h k keeps x (file less) = file less
   held_kept {d = d} {e = e} env nested l h k keeps x (held y named same) =
-      let target = env.target x y named in
-      let there : (y - file_count p) + file_count p ≡ y = omega (arith, target.0, env.above) in
+      let target = env.target x y named in let there : (y - file_count p) + file_count p ≡ y = omega (arith, target.0, env.above) in
       let outside : ((y - file_count p) + file_count p < e.low) ⊎ (e.high ≤ (y - file_count p) + file_count p) =
       elim (nested.others x y named) [ inl less ↦ inl (omega (arith, there, less)) | inr above ↦ inr (omega (arith, there, above)) ] in
       held y named (same ∙ sym (keeps (y - file_count p) outside))

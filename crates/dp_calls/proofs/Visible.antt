@@ -41,8 +41,7 @@ module _ (p q : Program) (laid : Laid p q) (e : Env) (env : IsEnv p q e) where
 
   file_place : (x : VarId) (info : VarInfo) → slice_get p.vars x.0 ≡ Some info → x.0 < file_count p → PlaceOf (file_count p) (global_count p) x.0 info → FileAt x
   file_place x info at less (file _ _ within some) =
-      let length_is : cell_count p x ≡ info.length = ap length_of at in
-      let first_is : first_cell p x ≡ info.first.0 = ap first_of at in
+      let length_is : cell_count p x ≡ info.length = ap length_of at in let first_is : first_cell p x ≡ info.first.0 = ap first_of at in
       record {
         first = ap first_of (laid.same x.0 less);
         count = ap length_of (laid.same x.0 less);
@@ -109,8 +108,7 @@ module _ (p q : Program) (laid : Laid p q) (e : Env) (env : IsEnv p q e) where
 
     own_reads : (x : VarId) (y : ℕ) → named_in e.names x.0 ≡ Some y → get_or l (x.0 - file_count p) (pos 0) ≡ get_or h (y - file_count p) (pos 0) → ReadsSame p q (g ++ l) (g ++ h) x (record { 0 = y })
     own_reads x y named same =
-        let at = own_at x y named in
-        let one : cell_count p x ≡ cell_count q (record { 0 = y }) = at.count ∙ sym at.target_count in
+        let at = own_at x y named in let one : cell_count p x ≡ cell_count q (record { 0 = y }) = at.count ∙ sym at.target_count in
         record {
           count = one;
           some = omega (arith, at.count);

@@ -96,8 +96,7 @@ module _ (p q : Program) (places : (x : ℕ) (info : VarInfo) → slice_get p.va
       | inl less ↦ (let over = closes.files x.0 y named in absurd (omega (arith, less, over)))
       | inr outer ↦
           (let same : old.0 ≡ y = same_Some old.0 y (sym (closes.ends.stable x.0 old.0 old.1) ∙ named) in
-          let source = quiet_outer k (slice_get p.vars x.0) outer in
-          let entry = element_there t.vars old.0 (ok.target x.0 old.0 old.1).1 in
+          let source = quiet_outer k (slice_get p.vars x.0) outer in let entry = element_there t.vars old.0 (ok.target x.0 old.0 old.1).1 in
           let final : slice_get q.vars old.0 ≡ slice_get t.vars old.0 = closes.into.vars old.0 entry.0 entry.1 ∙ sym entry.1 in
           (source, ap (λ (n : ℕ). is_quiet k (slice_get q.vars n)) (sym same) ∙ ap (is_quiet k) final ∙ ok.link x.0 old.0 old.1 k ∙ source))
     ]
@@ -162,7 +161,6 @@ module _ (p q : Program) (places : (x : ℕ) (info : VarInfo) → slice_get p.va
       let both = and_true (in_scope p 0 most visible s) (all_in_scope p 0 most (seen_behind visible s) rest) scoped in
       let fit = and_true (top_fits k s) (regions_in_order (next_region k s) rest) fits in
       let parts = all_parts (is_listed p) (site_numbers s) (site_numbers_all rest) listed in
-      let a : Piece = expand_one p calls 0 s names t in
-      let first = top_made k s visible names t both.0 fit.0 parts.0 ready in
+      let a : Piece = expand_one p calls 0 s names t in let first = top_made k s visible names t both.0 fit.0 parts.0 ready in
       let second = main_made (next_region k s) rest (seen_behind visible s) a.names a.tables both.1 fit.1 parts.1 (first.named, first.lies, first.seen, top_behind visible s both.0 ready.3) in
       both_made p q places there Linked (file_count p) most 0 0 (linked_moved 0) calls (omega arith) (λ g. (text_of g).params) (called 0) visible names t s rest a (expand_list p calls 0 rest a.names a.tables) ready.2 first second

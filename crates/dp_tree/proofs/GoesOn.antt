@@ -177,6 +177,5 @@ module _ (p : Program) (input : List ℤ) where
   pub goes_on_from : GoesOnFrom p input
   goes_on_from fuel k r m c d at s =
       let count = (count_to (stands_at_head r) 0 (run_of p input fuel c).configs m k s).0 in
-      let q = goes_on_as fuel k r c d at m (sym (before_is fuel k r c d at) ∙ count) in
-      let all : m + 0 ≡ m = omega arith in
+      let q = goes_on_as fuel k r c d at m (sym (before_is fuel k r c d at) ∙ count) in let all : m + 0 ≡ m = omega arith in
       (q, first_here k m (start (run_of p input (fuel - k) d) r 0) (sym (q.started 0) ∙ ap (start (run_of p input fuel c) r) all ∙ s))

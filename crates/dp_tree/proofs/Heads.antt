@@ -79,8 +79,7 @@ module _ (p : Program) (input : List ℤ) where
   by_evaluated site (Err kind) next_by event next e = absurd (cc)
   by_evaluated site (Ok v) next_by event next e =
       let event_is : event ≡ record { site = site.0; loads = v.loads; effect = v.value } = cc in
-      let next_is : next ≡ next_by v.value = cc in
-      let value_is : v.value ≡ event.effect = sym (ap (λ (x : Event). x.effect) event_is) in
+      let next_is : next ≡ next_by v.value = cc in let value_is : v.value ≡ event.effect = sym (ap (λ (x : Event). x.effect) event_is) in
       record {
         site_is = ap (λ (x : Event). x.site) event_is;
         next_is = next_is ∙ ap next_by value_is;

@@ -118,8 +118,7 @@ module _ (p : Program) (input : List ℤ) where
         let tops = and_true (list_all is_top before) (list_all is_top (x ∷ rest)) (sym (list_all-append is_top before (x ∷ rest)) ∙ ap (list_all is_top) (sym main) ∙ all_top 1 p.main in_order) in
         top_follows x before rest (out-Stmt x) z main (and_true (is_top x) (list_all is_top rest) tops.1).0
     follows (y ∷ inner) before behind x rest z main_is plain e =
-        let here : y ≡ x = cc in let more : inner ++ behind ≡ rest = cc in
-        let both = and_true (is_inner y) (inner_all inner) plain in
+        let here : y ≡ x = cc in let more : inner ++ behind ≡ rest = cc in let both = and_true (is_inner y) (inner_all inner) plain in
         let one : is_inner x ≡ true = ap is_inner (sym here) ∙ both.0 in
         subst (λ (ys : List Stmt). Follows (followed x ys (out-Stmt x) z)) more (elim (cases_Bool (taken (out-Stmt x) z)) [
           | inl t ↦

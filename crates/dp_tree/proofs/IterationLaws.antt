@@ -69,8 +69,7 @@ module _ (run : Run) (r : ℕ) (one_more : length run.configs ≡ suc (length ru
   first_before : (first i k : ℕ) → start run r 0 ≡ Some first → start run r i ≡ Some k → first ≤ k
   first_before first zero k e f = let same : first ≡ k = cc in omega (arith, same)
   first_before first (suc i) k e f =
-      let before = earlier i k f in let h = first_before first i before.0 e before.1 in
-      let up = ascending i before.0 k before.1 f in
+      let before = earlier i k f in let h = first_before first i before.0 e before.1 in let up = ascending i before.0 k before.1 f in
       omega (arith, h, up)
 
   joined : (first i k : ℕ) → start run r 0 ≡ Some first → start run r i ≡ Some k → events_of_first run r (suc i) ≡ slice_range run.trace first (stop_from run k (start run r (suc i)))

@@ -87,8 +87,7 @@ module _ (p : Program) (input : List ℤ) where
       each : (k : ℕ) (before after : Config) (event' : Event) → slice_get (c ∷ run.configs) k ≡ Some before → slice_get (event ∷ run.trace) k ≡ Some event' → slice_get (c ∷ run.configs) (suc k) ≡ Some after →
           step p input before ≡ Stepped event' after
       each zero before after event' b v a =
-          let c_is : c ≡ before = cc (b) in let event_is : event ≡ event' = cc (v) in
-          let next_is : next ≡ after = cc (a, h.first) in
+          let c_is : c ≡ before = cc (b) in let event_is : event ≡ event' = cc (v) in let next_is : next ≡ after = cc (a, h.first) in
           sym (ap (λ (x : Config). step p input x) c_is) ∙ e ∙ ap (λ (x : Event). Stepped x next) event_is ∙ ap (λ (x : Config). Stepped event' x) next_is
       each (suc k) before after event' b v a = h.each k before after event' b v a
 
