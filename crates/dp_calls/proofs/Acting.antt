@@ -5,7 +5,7 @@ use Rattle.dp_base.specs.Arithmetic.{is_zero}
 use Rattle.dp_base.specs.declared.Fault.{Fault as FaultAt}
 use Rattle.dp_base.specs.declared.SiteId.{SiteId}
 use Rattle.dp_tree.specs.declared.Stmt.{Stmt, out-Stmt}
-use Rattle.dp_tree.specs.declared.Stmt.TheOpen.{Stmt-F, Assign, Store, Print, If, While, Region, Break, Call}
+use Rattle.dp_tree.specs.declared.Stmt.TheOpen.{Stmt-F, Break, Call}
 use Rattle.dp_tree.specs.declared.Program.{Program}
 use Rattle.dp_tree.specs.Eval.{Evaluated, first_cell}
 use Rattle.dp_tree.specs.Event.{Effect, Event, value_of, stored}
@@ -20,7 +20,7 @@ use Rattle.dp_calls.proofs.Written.{After}
 use Rattle.dp_calls.proofs.Stacks.{Suits, Stack, Ready, Alike, block_then, stack_kept, Sim}
 use Rattle.dp_calls.proofs.Exits.{body_then}
 use Rattle.dp_calls.proofs.Effects.{EvaluatesAlike, faults, goes, stores_alike, prints_alike, decides_alike, elements_alike, values, nothing_stored, element_stored, same_length, declared_stored}
-use Rattle.dp_calls.proofs.Stands.{stands}
+use Rattle.dp_calls.proofs.Clears.{stands}
 use Rattle.dp_calls.proofs.Settles.{settles_running}
 
 -- the statement is a call or a break
@@ -46,25 +46,15 @@ module _ (p q : Program) where
 
   pub step_plain : (r : Program) (input cells : List ℤ) (s : Stmt) (rest : List Stmt) (head : Stmt-F Stmt) → is_apart head ≡ false →
       step_at r input cells s rest head ≡ step_by r (site_of head) (evaluated r input cells head) (after_store r (followed s rest head) cells)
-  step_plain r input cells s rest (Assign site x e) h = refl
-  step_plain r input cells s rest (Store site x index e) h = refl
-  step_plain r input cells s rest (Print site e) h = refl
-  step_plain r input cells s rest (If site cond a b) h = refl
-  step_plain r input cells s rest (While site cond a) h = refl
-  step_plain r input cells s rest (Region k site cond a) h = refl
   step_plain r input cells s rest (Break site cond) h = absurd (cc)
   step_plain r input cells s rest (Call f line args) h = absurd (cc)
+  step_plain r input cells s rest _ h = refl
 
   step_head_plain : (input : List ℤ) (c : State) (f : Frame) (below : List Frame) (rest : List Stmt) (head : Stmt-F Stmt) → is_apart head ≡ false →
       step_head p input c f below rest head ≡ frame_step p f below (step p input (record { to_do = f.to_do; cells = c.globals ++ f.locals }))
-  step_head_plain input c f below rest (Assign site x e) h = refl
-  step_head_plain input c f below rest (Store site x index e) h = refl
-  step_head_plain input c f below rest (Print site e) h = refl
-  step_head_plain input c f below rest (If site cond a b) h = refl
-  step_head_plain input c f below rest (While site cond a) h = refl
-  step_head_plain input c f below rest (Region k site cond a) h = refl
   step_head_plain input c f below rest (Break site cond) h = absurd (cc)
   step_head_plain input c f below rest (Call g line args) h = absurd (cc)
+  step_head_plain input c f below rest _ h = refl
 
   -- the step of the running frame
   pub frame_plain : (input : List ℤ) (c : State) (f : Frame) (below : List Frame) (s : Stmt) (rest : List Stmt) → f.to_do ≡ s ∷ rest → is_apart (out-Stmt s) ≡ false →
@@ -225,8 +215,7 @@ module _ (p q : Program) where
         f.to_do ≡ s ∷ statements → Acts p q e visible behind s t → Todo p q e behind statements text → code ≡ t ∷ (text ++ rest) →
         StepsAlike (step_frames p input c (f ∷ below)) (step_from q input (c.globals ++ h) code)
     acting_steps input c s t statements text code same whole is acts todo code_is =
-        let sites = acts_sites acts in
-        let left = frame_plain input c f below s statements is sites.source in
+        let sites = acts_sites acts in let left = frame_plain input c f below s statements is sites.source in
         let right : step_from q input (c.globals ++ h) code ≡ step_by q (site_of (out-Stmt t)) (evaluated q input (c.globals ++ h) (out-Stmt t)) (after_store q (followed t (text ++ rest) (out-Stmt t)) (c.globals ++ h)) =
         ap (λ (xs : List Stmt). step_from q input (c.globals ++ h) xs) code_is ∙ step_plain q input (c.globals ++ h) t (text ++ rest) (out-Stmt t) sites.target in
         subst (λ (x : FrameStep). StepsAlike x (step_from q input (c.globals ++ h) code)) (sym left)

@@ -1,5 +1,5 @@
 -- A step that binds an argument, with frames and expanded.
-use Rattle.std.proofs.Common.{◌≡◌, inl, inr, refl, sym, ap, ◌∙◌, subst, ℕ, zero, suc, ◌+◌, ◌-◌, true, List, [], ◌∷◌, ◌++◌, ℤ, length, length-append, append_assoc, Option, Some, Result, Ok, Err, slice_get, slice_set, arith}
+use Rattle.std.proofs.Common.{◌≡◌, inl, inr, refl, sym, ap, ◌∙◌, subst, ℕ, zero, suc, ◌+◌, ◌-◌, true, List, [], ◌∷◌, ◌++◌, ℤ, length, length-append, append_assoc, Option, Some, Ok, Err, slice_get, slice_set, arith}
 use Rattle.dp_base.specs.declared.FaultKind.{FaultKind}
 use Rattle.dp_base.specs.declared.SiteId.{SiteId}
 use Rattle.dp_base.specs.declared.VarId.{VarId}
@@ -24,16 +24,15 @@ use Rattle.dp_calls.proofs.SameValues.{sees_one}
 use Rattle.dp_calls.proofs.Visible.{own_at}
 use Rattle.dp_calls.proofs.Written.{own_memory, room_set, held_here, held_set, keeps_set}
 use Rattle.dp_calls.proofs.Stacks.{Suits, Stack, over, Ready, Filling, Sim, Alike, agree_kept, keeps_wider, stack_kept}
-use Rattle.dp_calls.proofs.Effects.{values}
+use Rattle.dp_calls.proofs.Effects.{value_is, kind_is, values}
 use Rattle.dp_calls.proofs.Settles.{Settles, block_todo, settles_running, settles_binding}
 use Rattle.dp_calls.proofs.Acting.{after_store, StepsAlike, both_fault, both_go}
 
 -- the element behind a list
 slice_get_behind : {X : Type 0} (before : List X) (x : X) (after : List X) (n : ℕ) → n ≡ length before → slice_get (before ++ x ∷ after) n ≡ Some x
 slice_get_behind [] x after zero e = refl
-slice_get_behind [] x after (suc n) e = absurd (omega (arith, e))
-slice_get_behind (y ∷ before) x after zero e = absurd (omega (arith, e))
 slice_get_behind (y ∷ before) x after (suc n) e = let less : n ≡ length before = omega (arith, e) in slice_get_behind before x after n less
+slice_get_behind _ x after _ e = absurd (omega (arith, e))
 
 -- behind one parameter more
 seen_behind_one : (visible : List ℕ) (before : List VarId) (x : VarId) → seen_behind_params visible (before ++ x ∷ []) ≡ x.0 ∷ seen_behind_params visible before
@@ -144,8 +143,7 @@ module _ (p q : Program) where
         Alike p q (record { globals = globals; frames = settled p (call_frames p f below statements k line args (step.bound p (params_in (slice_get p.functions k)) (length args) f.callee z)) })
         (standing q (later ++ (body ++ (own ++ rest))) (slice_set (globals ++ h) (first_cell q (target_of g.names x)) z))
     bound_alike globals whole {later = later} pairs =
-        let code : List Stmt = later ++ (body ++ (own ++ rest)) in
-        let s = bound_settles pairs filling.parameters in
+        let code : List Stmt = later ++ (body ++ (own ++ rest)) in let s = bound_settles pairs filling.parameters in
         subst (λ (m : List ℤ). Alike p q (record { globals = globals; frames = settled p (call_frames p f below statements k line args m) }) (standing q code (slice_set (globals ++ h) (first_cell q (target_of g.names x)) z))) (sym (bound_is (binds_long pairs)))
         (subst (λ (m : List ℤ). Alike p q (record { globals = globals; frames = settled p (call_frames p f below statements k line args callee_set) }) (standing q code m)) (sym (memory_is globals whole))
         (record {
@@ -165,15 +163,9 @@ module _ (p q : Program) where
     where
       after : State
       after = record { globals = c.globals; frames = settled p (call_frames p f below statements k line args (step.bound p (params_in (slice_get p.functions k)) (length args) f.callee x.value)) }
-
-      value_is : ◌≡◌ {A = Result ℤ FaultKind} (Ok x.value) (Ok y.value) → x.value ≡ y.value
-      value_is w = cc (w)
   binding_by c f below statements code k line args site cells cell is alike (Err kind) (Err other) same =
       subst (λ (n : ℕ). StepsAlike p q (Faults (record { kind = kind; line = line })) (Faulted (record { kind = other; line = n }))) (sym is)
       (subst (λ (w : FaultKind). StepsAlike p q (Faults (record { kind = kind; line = line })) (Faulted (record { kind = w; line = line }))) (kind_is same) (both_fault (record { kind = kind; line = line })))
-    where
-      kind_is : ◌≡◌ {A = Result ℤ FaultKind} (Err kind) (Err other) → kind ≡ other
-      kind_is w = cc (w)
   binding_by c f below statements code k line args site cells cell is alike (Ok x) (Err other) same = absurd (cc same)
   binding_by c f below statements code k line args site cells cell is alike (Err kind) (Ok y) same = absurd (cc same)
 

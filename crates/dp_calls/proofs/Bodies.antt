@@ -44,8 +44,7 @@ module _ (p q : Program) (places : (x : ℕ) (info : VarInfo) → slice_get p.va
   break_made : (site : SiteId) (v : Expr) (visible : List ℕ) (names : List Renamed) (t : Tables) → knows visible v ≡ true → is_listed p site.0 ≡ true → NamesOk p linked low names t → Lies p t → Seen p visible names →
       InsideMade visible names t visible (stmt.Break site v) (alone (stmt.Break (next_site t) (renamed names v)) (nothing names (with_source_site p r site t)))
   break_made site v visible names t known listed ok lies seen =
-      let sited = with_source_site p r site t in
-      let named = names_sited p q places there linked low n scope r link site names t ok in
+      let sited = with_source_site p r site t in let named = names_sited p q places there linked low n scope r link site names t ok in
       record {
         grows = grows_source_site p r site t;
         lies = lies_sited p q places there linked low n scope r link site t lies;
@@ -75,13 +74,8 @@ module _ (p q : Program) (places : (x : ℕ) (info : VarInfo) → slice_get p.va
 
   inner_made : (s : Stmt) → is_inner s ≡ true → InsideOf s
   inner_made (stmt.Break site v) w = λ visible names t scoped listed ok lies seen. break_made site v visible names t scoped (and_true (is_listed p site.0) true listed).0 ok lies seen
-  inner_made (stmt.Assign site x v) w = plain_made (stmt.Assign site x v) w
-  inner_made (stmt.Store site x i v) w = plain_made (stmt.Store site x i v) w
-  inner_made (stmt.Print site v) w = plain_made (stmt.Print site v) w
-  inner_made (stmt.If' site v m one k other) w = plain_made (stmt.If' site v m one k other) w
-  inner_made (stmt.While' site v m body) w = plain_made (stmt.While' site v m body) w
   inner_made (stmt.Region' k site v m body) w = absurd (cc w)
-  inner_made (stmt.Call f line args) w = plain_made (stmt.Call f line args) w
+  inner_made s w = plain_made s w
 
   pub body_made : {m : _} (rows : Row_of-Stmt m) (visible : List ℕ) (names : List Renamed) (t : Tables) → rows_in_scope p scope n visible rows ≡ true → is_inner_in rows ≡ true → list_all (is_listed p) (site_numbers_in rows) ≡ true →
       NamesOk p linked low names t → Lies p t → Seen p visible names → BodyMade visible names t (texts rows) (expand_rows p calls r rows names t)
@@ -91,8 +85,7 @@ module _ (p q : Program) (places : (x : ℕ) (info : VarInfo) → slice_get p.va
       let both = and_true (in_scope p scope n visible s) (rows_in_scope p scope n (seen_behind visible s) rest) scoped in
       let fits = and_true (is_inner s) (is_inner_in rest) inner in
       let parts = all_parts (is_listed p) (site_numbers s) (site_numbers_in rest) listed in
-      let a : Piece = expand_one p calls r s names t in
-      let first = inner_made s fits.0 visible names t both.0 parts.0 ok lies seen in
+      let a : Piece = expand_one p calls r s names t in let first = inner_made s fits.0 visible names t both.0 parts.0 ok lies seen in
       let second = body_made rest (seen_behind visible s) a.names a.tables both.1 fits.1 parts.1 first.named first.lies first.seen in
       record {
         grows = grows_on first.grows second.grows;

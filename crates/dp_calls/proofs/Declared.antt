@@ -45,8 +45,7 @@ module _ (p q : Program) (places : (x : ℕ) (info : VarInfo) → slice_get p.va
 
     file_known : x.0 < file_count p → is_global (slice_get p.vars x.0) ≡ true
     file_known less =
-        let inside : x.0 < length p.vars = omega (arith, less, there) in
-        let found = element_there p.vars x.0 inside in
+        let inside : x.0 < length p.vars = omega (arith, less, there) in let found = element_there p.vars x.0 inside in
         file_global x.0 found.0 found.1 less (places x.0 found.0 found.1)
 
     seen_here : (now : List Renamed) → (y : ℕ) → named_in now x.0 ≡ Some y → Seen p visible now → Seen p (x.0 ∷ visible) now

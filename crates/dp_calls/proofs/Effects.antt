@@ -17,6 +17,13 @@ use Rattle.dp_calls.proofs.SameValues.{same_value, sees_more}
 use Rattle.dp_calls.proofs.Visible.{reads_visible, own_at}
 use Rattle.dp_calls.proofs.Written.{After, unchanged, file_stored, own_stored, fewer}
 
+-- what two evaluations that come out alike give
+pub value_is : {X : Type 0} {x y : X} → ◌≡◌ {A = Result X FaultKind} (Ok x) (Ok y) → x ≡ y
+value_is w = cc (w)
+
+pub kind_is : {X : Type 0} {kind other : FaultKind} → ◌≡◌ {A = Result X FaultKind} (Err kind) (Err other) → kind ≡ other
+kind_is w = cc (w)
+
 -- two effects with the same value and print, after which a relation holds of the memories
 pub record EffectsAlike (R : List ℤ → List ℤ → Type 0) (a b : List ℤ) (u v : Effect) : Type 0 where
   pub value : value_of u ≡ value_of v
@@ -39,14 +46,8 @@ module _ {R : List ℤ → List ℤ → Type 0} {a b : List ℤ} where
   then_alike {X = X} (Ok x) (Ok y) f g same each =
       let is : x.value ≡ y.value = value_is same in
       after_both x.loads y.loads (f x.value) (g y.value) (subst (λ (w : X). EvaluatesAlike R a b (f x.value) (g w)) is (each x.value))
-    where
-      value_is : ◌≡◌ {A = Result X FaultKind} (Ok x.value) (Ok y.value) → x.value ≡ y.value
-      value_is h = cc (h)
   then_alike {X = X} (Err kind) (Err other) f g same each =
       subst (λ (k : FaultKind). EvaluatesAlike R a b (Err kind) (Err k)) (kind_is same) (faults kind)
-    where
-      kind_is : ◌≡◌ {A = Result X FaultKind} (Err kind) (Err other) → kind ≡ other
-      kind_is h = cc (h)
   then_alike (Ok x) (Err other) f g same each = absurd (cc same)
   then_alike (Err kind) (Ok y) f g same each = absurd (cc same)
 
@@ -116,8 +117,7 @@ module _ (p q : Program) (laid : Laid p q) (input : List ℤ) (e : Env) (env : I
   at_first : (behind : List ℕ) (x y : VarId) (z : ℤ) → Left behind (slice_set (g ++ l) (first_cell p x + 0) z) (slice_set (g ++ h) (first_cell q y + 0) z) →
       Left behind (slice_set (g ++ l) (first_cell p x) z) (slice_set (g ++ h) (first_cell q y) z)
   at_first behind x y z left =
-      let one : first_cell p x + 0 ≡ first_cell p x = omega arith in
-      let other : first_cell q y + 0 ≡ first_cell q y = omega arith in
+      let one : first_cell p x + 0 ≡ first_cell p x = omega arith in let other : first_cell q y + 0 ≡ first_cell q y = omega arith in
       subst (λ (c : ℕ). Left behind (slice_set (g ++ l) c z) (slice_set (g ++ h) (first_cell q y) z)) one
       (subst (λ (c : ℕ). Left behind (slice_set (g ++ l) (first_cell p x + 0) z) (slice_set (g ++ h) c z)) other left)
 
@@ -127,6 +127,5 @@ module _ (p q : Program) (laid : Laid p q) (input : List ℤ) (e : Env) (env : I
       let some : 0 < cell_count p x = (reads_visible p q laid e env g l h whole visible agree x seen).some in
       at_first visible x (target_of e.names x) z (stored_held x 0 z (agree x seen) some)
   declared_stored x behind (new y named) z =
-      let one = (own_at p q laid e env x y named).count in
-      let some : 0 < cell_count p x = omega (arith, one) in
+      let one = (own_at p q laid e env x y named).count in let some : 0 < cell_count p x = omega (arith, one) in
       at_first (x.0 ∷ visible) x (target_of e.names x) z (own_stored p q e env laid visible g l h whole room agree x y 0 z named some)

@@ -12,6 +12,7 @@ use Rattle.dp_tree.proofs.Heads.{and_true, and_make}
 use Rattle.dp_calls.specs.Frame.{global_count}
 use Rattle.dp_calls.specs.Expand.{expand}
 use Rattle.dp_calls.proofs.Relation.{PlaceOf, file, own, file_count}
+use Rattle.dp_calls.proofs.Layouts.{no_files}
 use Rattle.dp_calls.proofs.SameMeanings.{expanded_place, expanded_files}
 
 -- a local with one cell
@@ -31,22 +32,11 @@ LocalsFrom k xs = (j : ℕ) (info : VarInfo) → slice_get xs j ≡ Some info �
 locals_lie : (k : ℕ) (xs : List VarInfo) → LocalsFrom k xs → (lies_in_order k xs ≡ true) × (list_all is_local_variable xs ≡ true)
 locals_lie k [] h = (refl, refl)
 locals_lie k (x ∷ xs) h =
-    let here = h 0 x refl in
-    let first : x.first.0 ≡ k = omega (arith, here.0) in
+    let here = h 0 x refl in let first : x.first.0 ≡ k = omega (arith, here.0) in
     let more = locals_lie (k + x.length) xs (λ j info at. let next = h (suc j) info at in let e : info.first.0 ≡ (k + x.length) + j = omega (arith, next.0, here.1.0) in (e, next.1)) in (
       and_make ((x.first.0 == k) && has_cells x) (lies_in_order (k + x.length) xs) (and_make (x.first.0 == k) (has_cells x) (eq-eqb x.first.0 k first) (one_cell x here.1.0)) more.0,
       and_make (is_local_variable x) (list_all is_local_variable xs) (ap not here.1.1) more.1,
     )
-
--- no file-scope variable is among locals
-no_files : (xs : List VarInfo) → list_all is_local_variable xs ≡ true → globals_in xs ≡ []
-no_files [] h = refl
-no_files (x ∷ rest) h =
-    let parts = and_true (is_local_variable x) (list_all is_local_variable rest) h in by (is_global_scope x.scope) parts.0 (no_files rest parts.1)
-  where
-    by : (b : Bool) → not b ≡ true → globals_in rest ≡ [] → (if b then x ∷ globals_in rest else globals_in rest) ≡ []
-    by true n e = absurd (cc n)
-    by false n e = e
 
 -- the file-scope variables of a program in order are in order
 files_lie : (k : ℕ) (xs : List VarInfo) → lies_in_order k xs ≡ true → globals_first xs ≡ true → (lies_in_order k (globals_in xs) ≡ true) × (globals_first (globals_in xs) ≡ true)
@@ -80,8 +70,7 @@ unfolding cells_of
 lies_behind k [] b h l = let e : k ≡ k + 0 = omega arith in ap (λ (j : ℕ). lies_in_order j b) e ∙ l
 lies_behind k (x ∷ a) b h l =
     let both = and_true ((x.first.0 == k) && has_cells x) (lies_in_order (k + x.length) a) h in
-    let more = cells_cons x a in
-    let e : (k + x.length) + cells_of a ≡ k + cells_of (x ∷ a) = omega (arith, more) in
+    let more = cells_cons x a in let e : (k + x.length) + cells_of a ≡ k + cells_of (x ∷ a) = omega (arith, more) in
     and_make ((x.first.0 == k) && has_cells x) (lies_in_order (k + x.length) (a ++ b)) both.0 (lies_behind (k + x.length) a b both.1 (ap (λ (j : ℕ). lies_in_order j b) e ∙ l))
 
 locals_join : (a b : List VarInfo) → list_all is_local_variable a ≡ true → list_all is_local_variable b ≡ true → list_all is_local_variable (a ++ b) ≡ true
@@ -112,8 +101,7 @@ begins_as : (ys xs : List VarInfo) → ((j : ℕ) (info : VarInfo) → slice_get
 begins_as [] xs h = refl
 begins_as (y ∷ ys) [] h = let clash = h 0 y refl in absurd (cc clash)
 begins_as (y ∷ ys) (x ∷ xs) h =
-    let first = h 0 y refl in
-    let same : x ≡ y = cc first in
+    let first = h 0 y refl in let same : x ≡ y = cc first in
     ap (λ (z : VarInfo). z ∷ xs) same ∙ ap (λ (zs : List VarInfo). y ∷ zs) (begins_as ys xs (λ j info at. h (suc j) info at))
 
 behind_at : (ys zs : List VarInfo) (j : ℕ) → slice_get (ys ++ zs) (length ys + j) ≡ slice_get zs j
@@ -140,8 +128,7 @@ module _ (p : Program) (checked : IsChecked p) where
   pub expanded_in_order : (lies_in_order 0 (expand p).vars ≡ true) × (globals_first (expand p).vars ≡ true)
   unfolding cells_of
   expanded_in_order =
-      let before = files_lie 0 p.vars checked.cells checked.globals in
-      let after = locals_lie (global_count p) others locals_from in
+      let before = files_lie 0 p.vars checked.cells checked.globals in let after = locals_lie (global_count p) others locals_from in
       let start : 0 + cells_of files ≡ global_count p = omega arith in (
         ap (lies_in_order 0) vars_are ∙ lies_behind 0 files others before.0 (ap (λ (k : ℕ). lies_in_order k others) start ∙ after.0),
         ap globals_first vars_are ∙ locals_behind files others before.1 after.1,

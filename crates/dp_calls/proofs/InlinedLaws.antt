@@ -6,7 +6,7 @@ use Rattle.dp_tree.specs.Checked.{IsChecked}
 use Rattle.dp_tree.specs.Inlined.{IsInlined}
 use Rattle.dp_tree.specs.Numbering.{is_small_region}
 use Rattle.dp_calls.specs.Expand.{expand}
-use Rattle.dp_calls.proofs.NoCallLaws.{leaves_no_call}
+use Rattle.dp_calls.proofs.ExpandLaws.{leaves_no_call}
 use Rattle.dp_calls.proofs.InOrder.{expanded_in_order}
 use Rattle.dp_calls.proofs.Within.{expanded_is_within}
 use Rattle.dp_calls.proofs.SiteLaws.{sites_in_order}

@@ -27,7 +27,7 @@ files_none : (x : VarInfo) (xs : List VarInfo) → is_global_scope x.scope ≡ f
 files_none x xs e = ap (λ (t : Bool). if t then x ∷ globals_in xs else globals_in xs) e
 
 -- where all are locals there is no file-scope variable
-no_files : (xs : List VarInfo) → list_all is_local_variable xs ≡ true → globals_in xs ≡ []
+pub no_files : (xs : List VarInfo) → list_all is_local_variable xs ≡ true → globals_in xs ≡ []
 no_files [] h = refl
 no_files (x ∷ xs) h =
     let both = and_true (is_local_variable x) (list_all is_local_variable xs) h in
@@ -116,8 +116,7 @@ lies_from k (x ∷ xs) first lies n info at = by (is_global_scope x.scope) refl 
     by : (t : Bool) → is_global_scope x.scope ≡ t → (is_global_scope x.scope ≡ true → PlacesAmong (globals_in xs) (k + x.length) xs info) → PlaceAmong (globals_in (x ∷ xs)) k n info
     by true e behind = subst (λ (files : List VarInfo). PlaceAmong files k n info) (sym (files_some x xs e)) (at_file behind e n at)
     by false e behind =
-        let others = locals_rest x xs first e in
-        let none : globals_in (x ∷ xs) ≡ [] = files_none x xs e ∙ no_files xs others in
+        let others = locals_rest x xs first e in let none : globals_in (x ∷ xs) ≡ [] = files_none x xs e ∙ no_files xs others in
         let all : list_all is_local_variable (x ∷ xs) ≡ true = and_make (is_local_variable x) (list_all is_local_variable xs) (ap not e) others in
         let same : k ≡ k + 0 = omega arith in
         subst (λ (files : List VarInfo). PlaceAmong files k n info) (sym none)
@@ -164,8 +163,7 @@ counted k (x ∷ xs) lies = by (is_global_scope x.scope) refl (counted (k + x.le
     by false e rest =
         let files : length (globals_in (x ∷ xs)) ≡ length (globals_in xs) = ap (λ (gs : List VarInfo). length gs) (files_none x xs e) in
         let starts : length (start_cells (globals_in (x ∷ xs))) ≡ length (start_cells (globals_in xs)) = ap (λ (gs : List VarInfo). length (start_cells gs)) (files_none x xs e) in
-        let all = long xs in
-        let one = l.one e in
+        let all = long xs in let one = l.one e in
         record { cells = omega (arith, files, starts, all, one, rest.cells); fewer = omega (arith, files, rest.fewer) }
 
 files_if : (t : Bool) (x : VarInfo) (xs : List VarInfo) → is_global_scope x.scope ≡ t → globals_in xs ≡ xs → globals_in (if t then x ∷ xs else xs) ≡ (if t then x ∷ xs else xs)

@@ -1,5 +1,5 @@
 -- A step at a break, with frames and expanded: only in `main`, where no frame is below.
-use Rattle.std.proofs.Common.{◌≡◌, inr, refl, sym, ap, ◌∙◌, subst, ℕ, ◌+◌, Bool, true, false, if◌then◌else◌, List, [], ◌∷◌, ◌++◌, ℤ, length, append-nil, Result, Ok, Err, arith}
+use Rattle.std.proofs.Common.{◌≡◌, inr, refl, sym, ap, ◌∙◌, subst, ℕ, ◌+◌, Bool, true, false, if◌then◌else◌, List, [], ◌∷◌, ◌++◌, ℤ, length, append-nil, Ok, Err, arith}
 use Rattle.dp_base.specs.Arithmetic.{is_zero}
 use Rattle.dp_base.specs.declared.FaultKind.{FaultKind}
 use Rattle.dp_base.specs.declared.SiteId.{SiteId}
@@ -14,10 +14,9 @@ use Rattle.dp_calls.specs.Frame.{Frame, State, global_count, fresh}
 use Rattle.dp_calls.specs.FrameStep.{FrameStep, Faults, frame_step, step_head, step_frame, step_frames}
 use Rattle.dp_calls.specs.Renaming.{renamed}
 use Rattle.dp_calls.proofs.Relation.{Env, file_count, Laid, Tries, Leaving, Todo, Agree}
-use Rattle.dp_calls.proofs.Clears.{clear_own, clear_own-length, memory_clears, quiet_clears, quiet_agree}
+use Rattle.dp_calls.proofs.Clears.{clear_own, clear_own-length, memory_clears, quiet_clears, quiet_agree, stack_cleared}
 use Rattle.dp_calls.proofs.Stacks.{Stack, bottom, over, Ready, Alike}
-use Rattle.dp_calls.proofs.Stands.{stack_cleared}
-use Rattle.dp_calls.proofs.Effects.{values}
+use Rattle.dp_calls.proofs.Effects.{value_is, kind_is, values}
 use Rattle.dp_calls.proofs.Acting.{StepsAlike, both_fault, both_go, left_at, alike_at}
 
 module _ (p q : Program) where
@@ -31,15 +30,9 @@ module _ (p q : Program) where
       (u v : Evaluated ℤ) → result_of u ≡ result_of v → StepsAlike p q (frame_step p f below (step_by p site (tried u) nexts)) (step_by q here (tried v) next_texts)
   tried_by f below site here nexts next_texts line alike (Ok x) (Ok y) same =
       both_go refl (subst (λ (z : ℤ). Alike p q (left_at p q f below (nexts (Tried x.value))) (next_texts (Tried z))) (value_is same) (alike x.value))
-    where
-      value_is : ◌≡◌ {A = Result ℤ FaultKind} (Ok x.value) (Ok y.value) → x.value ≡ y.value
-      value_is w = cc (w)
   tried_by f below site here nexts next_texts line alike (Err kind) (Err other) same =
       subst (λ (n : ℕ). StepsAlike p q (Faults (record { kind = kind; line = line_of p site })) (Faulted (record { kind = other; line = n }))) (sym line)
       (subst (λ (w : FaultKind). StepsAlike p q (Faults (record { kind = kind; line = line_of p site })) (Faulted (record { kind = w; line = line_of p site }))) (kind_is same) (both_fault (record { kind = kind; line = line_of p site })))
-    where
-      kind_is : ◌≡◌ {A = Result ℤ FaultKind} (Err kind) (Err other) → kind ≡ other
-      kind_is w = cc (w)
   tried_by f below site here nexts next_texts line alike (Ok x) (Err other) same = absurd (cc same)
   tried_by f below site here nexts next_texts line alike (Err kind) (Ok y) same = absurd (cc same)
 
@@ -72,8 +65,7 @@ module _ (p q : Program) where
         Alike p q (left_at p q f below (standing p (behind_region statements) (cleared_leaving p statements (g ++ f.locals)))) (standing q (behind_region (text ++ rest)) (cleared_leaving q (text ++ rest) (g ++ h)))
     unfolding own_left cells_left
     alike_left left =
-        let long = clear_own-length (global_count p) r p.vars f.locals in
-        let wide = clear_own-length (global_count p) r q.vars h in
+        let long = clear_own-length (global_count p) r p.vars f.locals in let wide = clear_own-length (global_count p) r q.vars h in
         alike_at p q laid f ready.env callee (behind_region statements) (behind_region text) (behind_region (text ++ rest)) (cleared_leaving p statements (g ++ f.locals)) (cleared_leaving q (text ++ rest) (g ++ h))
         g own_left cells_left left left_is
         (facts.source (g ++ f.locals) ∙ memory_clears (file_count p) (global_count p) p.vars laid.before r g f.locals whole)

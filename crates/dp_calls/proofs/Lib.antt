@@ -1,6 +1,5 @@
 -- laws of expansion alone
 pub mod ExpandLaws
-pub mod NoCallLaws
 pub mod KeptGlobals
 -- frames against the expanded program: the relation, values and stores
 pub mod InnerTexts
@@ -8,12 +7,11 @@ pub mod Relation
 pub mod SameValues
 pub mod Visible
 pub mod Written
-pub mod Clears
 -- stacks of frames; a step of each kind; whole runs
 pub mod Stacks
 pub mod Exits
 pub mod Effects
-pub mod Stands
+pub mod Clears
 pub mod Settles
 pub mod Acting
 pub mod Leaving

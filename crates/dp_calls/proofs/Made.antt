@@ -72,9 +72,7 @@ module _ (p q : Program) (linked : Option VarInfo → Option VarInfo → Type 0)
 module _ (names after : List Renamed) (visible : List ℕ) (same : (x : VarId) → sees visible x ≡ true → target_of names x ≡ target_of after x) where
   pub same_renamed : (v : Expr) → knows visible v ≡ true → renamed names v ≡ renamed after v
   unfolding opened
-  same_renamed (tree.Number n) k = refl
   same_renamed (tree.Input' _ (more_of-Expr a end_of-Expr)) k = ap tree.Input (same_renamed a k)
-  same_renamed tree.InputLen k = refl
   same_renamed (tree.Scalar x) k = ap tree.Scalar (same x k)
   same_renamed (tree.Element' x _ (more_of-Expr a end_of-Expr)) k =
       let both = and_true (sees visible x) (knows visible a) k in ap₂ tree.Element (same x both.0) (same_renamed a both.1)
@@ -85,6 +83,7 @@ module _ (names after : List Renamed) (visible : List ℕ) (same : (x : VarId) �
       let both = and_true (knows visible a) (knows visible b) k in ap₂ tree.And (same_renamed a both.0) (same_renamed b both.1)
   same_renamed (tree.Or' _ (more_of-Expr a end_of-Expr) _ (more_of-Expr b end_of-Expr)) k =
       let both = and_true (knows visible a) (knows visible b) k in ap₂ tree.Or (same_renamed a both.0) (same_renamed b both.1)
+  same_renamed _ k = refl
 
 next_place : (q : Program) (t : Tables) (info : SiteInfo) → slice_get q.sites (length t.sites) ≡ Some info → line_of q (next_site t) ≡ info.line
 next_place q t info at =

@@ -89,8 +89,7 @@ module _ (p : Program) (linked : Option VarInfo → Option VarInfo → Type 0) (
   pub names_local : (r x : ℕ) (names : List Renamed) (t : Tables) (info : VarInfo) → slice_get p.vars x ≡ Some info → file_count p ≤ x → linked (Some info) (Some (moved info t.cells r)) → named_in names x ≡ None →
       NamesOk names t → NamesOk (names_as x (length t.vars) ∷ names) (with_local p r x t)
   names_local r x names t info at behind link free ok =
-      let long = local_length p r x t info at in
-      let old = names_grow (grows_local p r x t) ok in
+      let long = local_length p r x t info at in let old = names_grow (grows_local p r x t) ok in
       let entry : slice_get (with_local p r x t).vars (length t.vars) ≡ Some (moved info t.cells r) =
       ap (λ (vs : List VarInfo). slice_get vs (length t.vars)) (local_vars p r x t info at) ∙ get_last t.vars (moved info t.cells r) in
       record {

@@ -10,7 +10,7 @@ use Rattle.dp_tree.specs.declared.Stmt.TheVariants as stmt
 use Rattle.dp_tree.specs.declared.Stmt.TheOpen.{Assign}
 use Rattle.dp_tree.specs.declared.VarInfo.{VarInfo}
 use Rattle.dp_tree.specs.declared.VarScope.{VarScope}
-use Rattle.dp_tree.specs.declared.VarScope.TheVariants.{Global, Outer, Body}
+use Rattle.dp_tree.specs.declared.VarScope.TheVariants.{Outer, Body}
 use Rattle.dp_tree.specs.declared.SiteInfo.{SiteInfo}
 use Rattle.dp_tree.specs.declared.SiteKind.TheVariants as kind
 use Rattle.dp_tree.specs.declared.Program.{Program}
@@ -29,12 +29,9 @@ use Rattle.dp_calls.proofs.Made.{closes_before, Made, binding_line}
 
 -- a local of a region, or of none, is no file-scope variable
 pub scope_local : (r : ℕ) (scope : VarScope) → is_scope_in r scope ≡ true → is_global_scope scope ≡ false
-scope_local zero Global e = absurd (cc)
 scope_local zero Outer e = refl
-scope_local zero (Body q) e = absurd (cc)
-scope_local (suc r) Global e = absurd (cc)
-scope_local (suc r) Outer e = absurd (cc)
 scope_local (suc r) (Body q) e = refl
+scope_local _ _ e = absurd (cc)
 
 module _ (p : Program) (places : (x : ℕ) (info : VarInfo) → slice_get p.vars x ≡ Some info → PlaceOf (file_count p) (global_count p) x info) where
   -- a declared variable has an entry, and one cell behind the file-scope ones
@@ -91,8 +88,7 @@ module _ (p q : Program) (places : (x : ℕ) (info : VarInfo) → slice_get p.va
       Made p q Any low calls names t (seen_behind_params visible (x ∷ params)) (bindings p r line caller (x ∷ params) (a ∷ args) names t)
       (Passes (x ∷ params) (a ∷ args) (bindings p r line caller (x ∷ params) (a ∷ args) names t).code)
   one_passed x a params args visible names t info at is_known ok lies free declared made =
-      let t' : Tables = with_local p r x.0 (with_site info_of t) in
-      let now : List Renamed = names_as x.0 (length t.vars) ∷ names in
+      let t' : Tables = with_local p r x.0 (with_site info_of t) in let now : List Renamed = names_as x.0 (length t.vars) ∷ names in
       let grew : Grows t t' = grows_on (grows_site info_of t) (grows_local p r x.0 (with_site info_of t)) in
       let stepped : Steps names (length t.vars) now = steps_one names x.0 (length t.vars) free in
       record {
@@ -118,13 +114,10 @@ module _ (p q : Program) (places : (x : ℕ) (info : VarInfo) → slice_get p.va
       Made p q Any low calls names t (seen_behind_params visible params) (bindings p r line caller params args names t) (Passes params args (bindings p r line caller params args names t).code)
   passed [] [] visible names t scoped long known_all ok lies seen only =
       record { grows = grows_not t; lies = lies; named = ok; steps = steps_not names (length t.vars); seen = seen; becomes = λ g closes e final. bound }
-  passed [] (a ∷ args) visible names t scoped long known_all ok lies seen only = absurd (omega (arith, long))
-  passed (x ∷ params) [] visible names t scoped long known_all ok lies seen only = absurd (omega (arith, long))
   passed (x ∷ params) (a ∷ args) visible names t scoped long known_all ok lies seen only =
       let outer = and_true (not (sees visible x) && is_declared_in 0 (slice_get p.vars x.0)) (params_in_scope p (x.0 ∷ visible) params) scoped in
       let inner = and_true (not (sees visible x)) (is_declared_in 0 (slice_get p.vars x.0)) outer.0 in
-      let both = and_true (knows known a) (list_all (knows known) args) known_all in
-      let declared = local_of p places 0 x.0 inner.1 in
+      let both = and_true (knows known a) (list_all (knows known) args) known_all in let declared = local_of p places 0 x.0 inner.1 in
       let free : named_in names x.0 ≡ None = free_by visible names x (named_in names x.0) refl only inner.0 in
       let now : List Renamed = names_as x.0 (length t.vars) ∷ names in
       let stepped : Steps names (length t.vars) now = steps_one names x.0 (length t.vars) free in
@@ -143,3 +136,4 @@ module _ (p q : Program) (places : (x : ℕ) (info : VarInfo) → slice_get p.va
         | inl is ↦ sees_new x.0 visible w is.0
         | inr before ↦ sees_more x.0 visible w (only w y before)
       ]))
+  passed _ _ visible names t scoped long known_all ok lies seen only = absurd (omega (arith, long))

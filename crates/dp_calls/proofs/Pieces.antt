@@ -30,8 +30,7 @@ use Rattle.dp_calls.proofs.Declared.{lies_sited, names_sited, final_renamed, ass
 pub all_parts : {X : Type 0} (f : X → Bool) (xs ys : List X) → list_all f (xs ++ ys) ≡ true → (list_all f xs ≡ true) × (list_all f ys ≡ true)
 all_parts f [] ys h = (refl, h)
 all_parts f (x ∷ xs) ys h =
-    let both = and_true (f x) (list_all f (xs ++ ys)) h in
-    let rest = all_parts f xs ys both.1 in
+    let both = and_true (f x) (list_all f (xs ++ ys)) h in let rest = all_parts f xs ys both.1 in
     (and_make (f x) (list_all f xs) both.0 rest.0, rest.1)
 
 -- the variables that are visible where the body of function f begins
@@ -215,12 +214,11 @@ module _ (p q : Program) (places : (x : ℕ) (info : VarInfo) → slice_get p.va
         let sites = and_true (is_listed p site.0) (list_all (is_listed p) (site_numbers_in body)) listed in
         let first = rows_made body visible names (with_source_site p r site t) both.1 plain sites.1 (names_sited p q places there linked low n scope r link site names t ok) (lies_sited p q places there linked low n scope r link site t lies) seen in
         loop_made site visible names t sites.0 ok lies seen v m body (expand_rows p calls r body names (with_source_site p r site t)) both.0 first
-    one_made (stmt.Region' k site v m body) visible names t scoped plain listed ok lies seen = absurd (cc plain)
-    one_made (stmt.Break site v) visible names t scoped plain listed ok lies seen = absurd (cc plain)
     one_made (stmt.Call f line args) visible names t scoped plain listed ok lies seen =
         let both = and_true (nat_lt f n) (list_all (knows visible) args && (length args == length (params_in (slice_get p.functions f)))) scoped in
         let inner = and_true (list_all (knows visible) args) (length args == length (params_in (slice_get p.functions f))) both.1 in
         call_made visible names t ok lies seen f line args (ltb-true f n both.0) inner.0 (eqb-true (length args) (length (params_in (slice_get p.functions f))) inner.1)
+    one_made _ visible names t scoped plain listed ok lies seen = absurd (cc plain)
 
     pub rows_made : {m : _} (rows : Row_of-Stmt m) (visible : List ℕ) (names : List Renamed) (t : Tables) → rows_in_scope p scope n visible rows ≡ true → is_plain_in rows ≡ true → list_all (is_listed p) (site_numbers_in rows) ≡ true →
         NamesOk p linked low names t → Lies p t → Seen p visible names → BlockMade visible names t (texts rows) (expand_rows p calls r rows names t)
@@ -229,8 +227,7 @@ module _ (p q : Program) (places : (x : ℕ) (info : VarInfo) → slice_get p.va
         let both = and_true (in_scope p scope n visible s) (rows_in_scope p scope n (seen_behind visible s) rest) scoped in
         let plainly = and_true (is_plain s) (is_plain_in rest) plain in
         let parts = all_parts (is_listed p) (site_numbers s) (site_numbers_in rest) listed in
-        let a : Piece = expand_one p calls r s names t in
-        let first = one_made s visible names t both.0 plainly.0 parts.0 ok lies seen in
+        let a : Piece = expand_one p calls r s names t in let first = one_made s visible names t both.0 plainly.0 parts.0 ok lies seen in
         let second = rows_made rest (seen_behind visible s) a.names a.tables both.1 plainly.1 parts.1 first.named first.lies first.seen in
         both_made visible names t s (texts rest) a (expand_rows p calls r rest a.names a.tables) seen first second
 
@@ -241,7 +238,6 @@ module _ (p q : Program) (places : (x : ℕ) (info : VarInfo) → slice_get p.va
       let both = and_true (in_scope p scope n visible s) (all_in_scope p scope n (seen_behind visible s) rest) scoped in
       let plainly = and_true (is_plain s) (list_all is_plain rest) plain in
       let parts = all_parts (is_listed p) (site_numbers s) (site_numbers_all rest) listed in
-      let a : Piece = expand_one p calls r s names t in
-      let first = one_made s visible names t both.0 plainly.0 parts.0 ok lies seen in
+      let a : Piece = expand_one p calls r s names t in let first = one_made s visible names t both.0 plainly.0 parts.0 ok lies seen in
       let second = list_made rest (seen_behind visible s) a.names a.tables both.1 plainly.1 parts.1 first.named first.lies first.seen in
       both_made visible names t s rest a (expand_list p calls r rest a.names a.tables) seen first second

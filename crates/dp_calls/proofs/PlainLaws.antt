@@ -53,9 +53,6 @@ plain_joined t a b h k = (plain_join a.code b.code h.0 k.0, k.1 ∙ h.1)
 abbrev pub Inner : Tables → Piece → Type 0
 Inner t a = (list_all is_inner a.code ≡ true) × (a.tables.regions ≡ t.regions)
 
-plain_inner : (t : Tables) (a : Piece) → Plain t a → Inner t a
-plain_inner t a h = (inner_plain a.code h.0, h.1)
-
 inner_joined : (t : Tables) (a b : Piece) → Inner t a → Inner a.tables b → Inner t (record b { code = a.code ++ b.code })
 inner_joined t a b h k = (inner_join a.code b.code h.0 k.0, k.1 ∙ h.1)
 
@@ -65,21 +62,16 @@ module _ (p : Program) where
   declared_regions false r x names t = refl
 
   plain_bindings : (r line : ℕ) (caller : List Renamed) (params : List VarId) (args : List Expr) (names : List Renamed) (t : Tables) → Plain t (bindings p r line caller params args names t)
-  plain_bindings r line caller [] args names t = (refl, refl)
-  plain_bindings r line caller (x ∷ params) [] names t = (refl, refl)
   plain_bindings r line caller (x ∷ params) (e ∷ args) names t = plain_bindings r line caller params args _ _
+  plain_bindings r line caller _ _ names t = (refl, refl)
 
   module _ (calls : Calls) (called : (f r : ℕ) (names : List Renamed) (t : Tables) → Plain t (calls f r names t)) where
     mutual
       pub plain_one : (r : ℕ) (s : Stmt) (names : List Renamed) (t : Tables) → is_plain s ≡ true → Plain t (expand_one p calls r s names t)
       plain_one r (stmt.Assign site x e) names t h = (refl, declared_regions (is_known p (named_in names x.0) x.0) r x.0 names (with_source_site p r site t))
-      plain_one r (stmt.Store site x index e) names t h = (refl, refl)
-      plain_one r (stmt.Print site e) names t h = (refl, refl)
       plain_one r (stmt.If' site cond _ a _ b) names t h =
-          let both = and_true (is_plain_in a) (is_plain_in b) h in
-          let left = expand_rows p calls r a names (with_source_site p r site t) in
-          let right = expand_rows p calls r b left.names left.tables in
-          let l = plain_rows r a names (with_source_site p r site t) both.0 in
+          let both = and_true (is_plain_in a) (is_plain_in b) h in let left = expand_rows p calls r a names (with_source_site p r site t) in
+          let right = expand_rows p calls r b left.names left.tables in let l = plain_rows r a names (with_source_site p r site t) both.0 in
           let m = plain_rows r b left.names left.tables both.1 in
           (plain_alone (stmt.If (next_site t) (renamed names cond) left.code right.code) (plain-If (next_site t) (renamed names cond) left.code right.code l.0 m.0), m.1 ∙ l.1)
       plain_one r (stmt.While' site cond _ a) names t h =
@@ -91,37 +83,30 @@ module _ (p : Program) where
       plain_one r (stmt.Call f line args) names t h =
           let bound = bindings p r line names (params_in (slice_get p.functions f)) args [] t in
           plain_joined t bound (calls f r bound.names bound.tables) (plain_bindings r line names (params_in (slice_get p.functions f)) args [] t) (called f r bound.names bound.tables)
+      plain_one r _ names t h = (refl, refl)
 
       pub plain_rows : {n : _} (r : ℕ) (rows : Row_of-Stmt n) (names : List Renamed) (t : Tables) → is_plain_in rows ≡ true → Plain t (expand_rows p calls r rows names t)
       plain_rows r end_of-Stmt names t h = (refl, refl)
       plain_rows r (more_of-Stmt s rest) names t h =
-          let both = and_true (is_plain s) (is_plain_in rest) h in
-          let one = expand_one p calls r s names t in
+          let both = and_true (is_plain s) (is_plain_in rest) h in let one = expand_one p calls r s names t in
           plain_joined t one (expand_rows p calls r rest one.names one.tables) (plain_one r s names t both.0) (plain_rows r rest one.names one.tables both.1)
 
     -- the same of a region's body, where breaks stand too
     inner_one : (r : ℕ) (s : Stmt) (names : List Renamed) (t : Tables) → is_inner s ≡ true → Inner t (expand_one p calls r s names t)
-    inner_one r (stmt.Break site cond) names t h = (refl, refl)
-    inner_one r (stmt.Assign site x e) names t h = plain_inner t (expand_one p calls r (stmt.Assign site x e) names t) (plain_one r (stmt.Assign site x e) names t h)
-    inner_one r (stmt.Store site x i e) names t h = (refl, refl)
-    inner_one r (stmt.Print site e) names t h = (refl, refl)
-    inner_one r (stmt.If' site cond c a d b) names t h = plain_inner t (expand_one p calls r (stmt.If' site cond c a d b) names t) (plain_one r (stmt.If' site cond c a d b) names t h)
-    inner_one r (stmt.While' site cond c a) names t h = plain_inner t (expand_one p calls r (stmt.While' site cond c a) names t) (plain_one r (stmt.While' site cond c a) names t h)
     inner_one r (stmt.Region' q site cond c a) names t h = absurd (cc)
-    inner_one r (stmt.Call f line args) names t h = plain_inner t (expand_one p calls r (stmt.Call f line args) names t) (plain_one r (stmt.Call f line args) names t h)
+    inner_one r (stmt.Break site e) names t h = (refl, refl)
+    inner_one r s names t h = let k = plain_one r s names t h in (inner_plain (expand_one p calls r s names t).code k.0, k.1)
 
     pub inner_rows : {n : _} (r : ℕ) (rows : Row_of-Stmt n) (names : List Renamed) (t : Tables) → is_inner_in rows ≡ true → Inner t (expand_rows p calls r rows names t)
     inner_rows r end_of-Stmt names t h = (refl, refl)
     inner_rows r (more_of-Stmt s rest) names t h =
-        let both = and_true (is_inner s) (is_inner_in rest) h in
-        let one = expand_one p calls r s names t in
+        let both = and_true (is_inner s) (is_inner_in rest) h in let one = expand_one p calls r s names t in
         inner_joined t one (expand_rows p calls r rest one.names one.tables) (inner_one r s names t both.0) (inner_rows r rest one.names one.tables both.1)
 
     pub plain_list : (r : ℕ) (all : List Stmt) (names : List Renamed) (t : Tables) → list_all is_plain all ≡ true → Plain t (expand_list p calls r all names t)
     plain_list r [] names t h = (refl, refl)
     plain_list r (s ∷ rest) names t h =
-        let both = and_true (is_plain s) (list_all is_plain rest) h in
-        let one = expand_one p calls r s names t in
+        let both = and_true (is_plain s) (list_all is_plain rest) h in let one = expand_one p calls r s names t in
         plain_joined t one (expand_list p calls r rest one.names one.tables) (plain_one r s names t both.0) (plain_list r rest one.names one.tables both.1)
 
   plain_body : (fs : List Function) (f : ℕ) → list_all is_plain_function fs ≡ true → list_all is_plain (body_in (slice_get fs f)) ≡ true
@@ -136,20 +121,16 @@ module _ (p : Program) where
 
 -- a plain statement is no region
 plain_top : (r : ℕ) (s : Stmt) → is_plain s ≡ true → (top_fits r s ≡ true) × (next_region r s ≡ r)
-plain_top r (stmt.Assign site x e) h = (refl, refl)
-plain_top r (stmt.Store site x index e) h = (refl, refl)
-plain_top r (stmt.Print site e) h = (refl, refl)
 plain_top r (stmt.If' site cond _ a _ b) h = (h, refl)
 plain_top r (stmt.While' site cond _ a) h = (h, refl)
 plain_top r (stmt.Region' q site cond _ a) h = absurd (cc)
 plain_top r (stmt.Break site cond) h = absurd (cc)
-plain_top r (stmt.Call f line args) h = (refl, refl)
+plain_top r _ h = (refl, refl)
 
 plain_front : (r : ℕ) (a b : List Stmt) → list_all is_plain a ≡ true → regions_in_order r b ≡ true → regions_in_order r (a ++ b) ≡ true
 plain_front r [] b h k = k
 plain_front r (s ∷ a) b h k =
-    let both = and_true (is_plain s) (list_all is_plain a) h in
-    let top = plain_top r s both.0 in
+    let both = and_true (is_plain s) (list_all is_plain a) h in let top = plain_top r s both.0 in
     and_make (top_fits r s) (regions_in_order (next_region r s) (a ++ b)) top.0 (ap (λ q. regions_in_order q (a ++ b)) top.1 ∙ plain_front r a b both.1 k)
 
 region_fits : (r q : ℕ) (site : SiteId) (cond : Expr) (a : List Stmt) → (q == r) ≡ true → list_all is_inner a ≡ true → top_fits r (stmt.Region q site cond a) ≡ true
@@ -168,20 +149,13 @@ module _ (p : Program) (calls : Calls) (called : (f r : ℕ) (names : List Renam
   regions_plain : (s : Stmt) (rest : List Stmt) → Keeps rest → (r : ℕ) (names : List Renamed) (t : Tables) → is_plain s ≡ true → regions_in_order r rest ≡ true
       → regions_in_order r (expand_list p calls 0 (s ∷ rest) names t).code ≡ true
   regions_plain s rest go r names t h k =
-      let one = expand_one p calls 0 s names t in
-      let plain = plain_one p calls called 0 s names t h in
+      let one = expand_one p calls 0 s names t in let plain = plain_one p calls called 0 s names t h in
       plain_front r one.code (expand_list p calls 0 rest one.names one.tables).code plain.0 (go r one.names one.tables k)
 
   regions_top : (s : Stmt) (rest : List Stmt) → Keeps rest → (r : ℕ) (names : List Renamed) (t : Tables) → top_fits r s ≡ true → regions_in_order (next_region r s) rest ≡ true
       → regions_in_order r (expand_list p calls 0 (s ∷ rest) names t).code ≡ true
-  regions_top (stmt.Assign site x e) rest go r names t h k = regions_plain (stmt.Assign site x e) rest go r names t h k
-  regions_top (stmt.Store site x index e) rest go r names t h k = regions_plain (stmt.Store site x index e) rest go r names t h k
-  regions_top (stmt.Print site e) rest go r names t h k = regions_plain (stmt.Print site e) rest go r names t h k
-  regions_top (stmt.If' site cond c a d b) rest go r names t h k = regions_plain (stmt.If' site cond c a d b) rest go r names t h k
-  regions_top (stmt.While' site cond c a) rest go r names t h k = regions_plain (stmt.While' site cond c a) rest go r names t h k
   regions_top (stmt.Region' q site cond c a) rest go r names t h k =
-      let both = and_true (q == r) (is_inner_in a) h in
-      let body = expand_rows p calls q a names (with_source_site p q site t) in
+      let both = and_true (q == r) (is_inner_in a) h in let body = expand_rows p calls q a names (with_source_site p q site t) in
       let inner = inner_rows p calls called q a names (with_source_site p q site t) both.1 in
       let one = expand_one p calls 0 (stmt.Region' q site cond c a) names t in
       let s = stmt.Region q (next_site t) (renamed names cond) body.code in
@@ -189,7 +163,7 @@ module _ (p : Program) (calls : Calls) (called : (f r : ℕ) (names : List Renam
       and_make (top_fits r s) (regions_in_order (next_region r s) after) (region_fits r q (next_site t) (renamed names cond) body.code both.0 inner.0)
       (ap (λ n. regions_in_order n after) (region_next r q (next_site t) (renamed names cond) body.code) ∙ go (r + 1) one.names one.tables k)
   regions_top (stmt.Break site cond) rest go r names t h k = absurd (cc)
-  regions_top (stmt.Call f line args) rest go r names t h k = regions_plain (stmt.Call f line args) rest go r names t h k
+  regions_top s rest go r names t h k = regions_plain s rest go r names t h k
 
   regions_list : (all : List Stmt) → Keeps all
   regions_list [] r names t h = refl

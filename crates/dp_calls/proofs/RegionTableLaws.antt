@@ -23,14 +23,9 @@ length-numbers first zero = refl
 length-numbers first (suc n) = ap suc (length-numbers (first + 1) n)
 
 unmarked : (s : Stmt) → is_plain s ≡ true → is_marked s ≡ false
-unmarked (stmt.Assign site x e) h = refl
-unmarked (stmt.Store site x index e) h = refl
-unmarked (stmt.Print site e) h = refl
-unmarked (stmt.If' site cond _ a _ b) h = refl
-unmarked (stmt.While' site cond _ a) h = refl
 unmarked (stmt.Region' q site cond _ a) h = absurd (cc)
 unmarked (stmt.Break site cond) h = absurd (cc)
-unmarked (stmt.Call f line args) h = refl
+unmarked _ h = refl
 
 marked : (q : ℕ) (site : SiteId) (cond : Expr) (a : List Stmt) → is_marked (stmt.Region q site cond a) ≡ true
 unfolding opened_statement
@@ -60,33 +55,23 @@ module _ (p : Program) (calls : Calls) (plain : (f r : ℕ) (names : List Rename
   entries_plain : (s : Stmt) (rest : List Stmt) → Lists rest → (r : ℕ) (names : List Renamed) (t : Tables) → is_plain s ≡ true → regions_in_order r rest ≡ true → Listed p (site_numbers_all rest)
       → Entries t (expand_list p calls 0 (s ∷ rest) names t)
   entries_plain s rest go r names t h k l =
-      let one = expand_one p calls 0 s names t in
-      let own = plain_one p calls plain 0 s names t h in
-      let next = go r one.names one.tables k l in
-      let after = (expand_list p calls 0 rest one.names one.tables).code in
+      let one = expand_one p calls 0 s names t in let own = plain_one p calls plain 0 s names t h in
+      let next = go r one.names one.tables k l in let after = (expand_list p calls 0 rest one.names one.tables).code in
       (next.0, (next.1.0 ∙ ap (λ (xs : List RegionInfo). xs ++ next.0) own.1, plain_listed one.code after next.0 own.0 ∙ next.1.1))
 
   entries_top : (s : Stmt) (rest : List Stmt) → Lists rest → (r : ℕ) (names : List Renamed) (t : Tables) → top_fits r s ≡ true → regions_in_order (next_region r s) rest ≡ true
       → Listed p (site_numbers s) → Listed p (site_numbers_all rest) → Entries t (expand_list p calls 0 (s ∷ rest) names t)
-  entries_top (stmt.Assign site x e) rest go r names t h k own l = entries_plain (stmt.Assign site x e) rest go r names t h k l
-  entries_top (stmt.Store site x index e) rest go r names t h k own l = entries_plain (stmt.Store site x index e) rest go r names t h k l
-  entries_top (stmt.Print site e) rest go r names t h k own l = entries_plain (stmt.Print site e) rest go r names t h k l
-  entries_top (stmt.If' site cond c a d b) rest go r names t h k own l = entries_plain (stmt.If' site cond c a d b) rest go r names t h k l
-  entries_top (stmt.While' site cond c a) rest go r names t h k own l = entries_plain (stmt.While' site cond c a) rest go r names t h k l
   entries_top (stmt.Region' q site cond c a) rest go r names t h k own l =
       let both = and_true (q == r) (is_inner_in a) h in
       let listed = and_true (is_site p site.0) (list_all (is_site p) (site_numbers_in a)) own in
-      let u = with_source_site p q site t in
-      let body = expand_rows p calls q a names u in
-      let inner = inner_rows p calls plain q a names u both.1 in
-      let counted = numbered_rows p calls numbered q a names u listed.1 in
+      let u = with_source_site p q site t in let body = expand_rows p calls q a names u in
+      let inner = inner_rows p calls plain q a names u both.1 in let counted = numbered_rows p calls numbered q a names u listed.1 in
       let grown : length u.sites ≡ suc (length t.sites) = grows p q site t listed.0 in
       let one = expand_one p calls 0 (stmt.Region' q site cond c a) names t in
       let s = stmt.Region q (next_site t) (renamed names cond) body.code in
       let info : RegionInfo = record { line = line_of p site; first = next_site t; last = record { 0 = length body.tables.sites } } in
       let next = go (r + 1) one.names one.tables k l in
-      let after = (expand_list p calls 0 rest one.names one.tables).code in
-      let n = counted.0 in
+      let after = (expand_list p calls 0 rest one.names one.tables).code in let n = counted.0 in
       let from : suc (length u.sites) ≡ suc (length t.sites) + 1 = omega (arith, grown) in
       let last : length body.tables.sites ≡ suc (length t.sites) + n = let e = counted.1.1 in omega (arith, e, grown) in
       let numbers : site_numbers s ≡ suc (length t.sites) ∷ numbers_from (suc (length t.sites) + 1) n =
@@ -100,7 +85,7 @@ module _ (p : Program) (calls : Calls) (plain : (f r : ℕ) (names : List Rename
         ),
       )
   entries_top (stmt.Break site cond) rest go r names t h k own l = absurd (cc)
-  entries_top (stmt.Call f line args) rest go r names t h k own l = entries_plain (stmt.Call f line args) rest go r names t h k l
+  entries_top s rest go r names t h k own l = entries_plain s rest go r names t h k l
 
   entries_list : (all : List Stmt) → Lists all
   entries_list [] r names t h l = ([], (sym (append-nil t.regions), refl))

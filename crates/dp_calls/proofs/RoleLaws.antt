@@ -55,14 +55,10 @@ length-both a b c d e f = let g = length-append a b in let h = length-append c d
 -- each site has a number and a role
 mutual
   as_many : (r : ℕ) (s : Stmt) → length (site_numbers s) ≡ length (site_roles r s)
-  as_many r (stmt.Assign site x e) = refl
-  as_many r (stmt.Store site x index e) = refl
-  as_many r (stmt.Print site e) = refl
   as_many r (stmt.If' site cond _ a _ b) = ap suc (length-both (site_numbers_in a) (site_numbers_in b) (site_roles_in r a) (site_roles_in r b) (as_many_in r a) (as_many_in r b))
   as_many r (stmt.While' site cond _ a) = ap suc (as_many_in r a)
   as_many r (stmt.Region' q site cond _ a) = ap suc (as_many_in q a)
-  as_many r (stmt.Break site cond) = refl
-  as_many r (stmt.Call f line args) = refl
+  as_many r _ = refl
 
   as_many_in : {n : _} (r : ℕ) (rows : Row_of-Stmt n) → length (site_numbers_in rows) ≡ length (site_roles_in r rows)
   as_many_in r end_of-Stmt = refl
@@ -106,9 +102,8 @@ module _ (p : Program) where
 
   entries_parts : (a b : List ℕ) (c d : Roles) → length a ≡ length c → Entries (a ++ b) (c ++ d) → Entries a c × Entries b d
   entries_parts [] b [] d e h = (tt, h)
-  entries_parts [] b (k ∷ c) d e h = absurd (omega (arith, e))
-  entries_parts (n ∷ a) b [] d e h = absurd (omega (arith, e))
   entries_parts (n ∷ a) b (k ∷ c) d e h = let rest = entries_parts a b c d (omega (arith, e)) h.1 in ((h.0, rest.0), rest.1)
+  entries_parts _ b _ d e h = absurd (omega (arith, e))
 
   entries_from : (first : ℕ) (infos : List SiteInfo) → 0 < first → ((j : ℕ) → slice_get p.sites (first - 1 + j) ≡ slice_get infos j) → Entries (numbers_from first (length infos)) (map role_of infos)
   entries_from first [] low at = tt
@@ -124,14 +119,12 @@ module _ (p : Program) where
       ∙ ap (λ (j : SiteKind). map role_of t.sites ++ (j, r) ∷ []) h.1.1
 
   told_bindings : (r line : ℕ) (caller : List Renamed) (params : List VarId) (args : List Expr) (names : List Renamed) (t : Tables) → ToldBy r t (bindings p r line caller params args names t)
-  told_bindings r line caller [] args names t = told_none t
-  told_bindings r line caller (x ∷ params) [] names t = told_none t
   told_bindings r line caller (x ∷ params) (e ∷ args) names t =
-      let info : SiteInfo = record { line = line; kind = kind.Assign; region = r } in
-      let u = with_local p r x.0 (with_site info t) in
+      let info : SiteInfo = record { line = line; kind = kind.Assign; region = r } in let u = with_local p r x.0 (with_site info t) in
       let more : List Renamed = record { source = x.0; target = length t.vars } ∷ names in
       let after = bindings p r line caller params args more u in
       told_both t u after.tables ((kind.Assign, r) ∷ []) (site_roles_all r after.code) (map-append role_of t.sites (info ∷ [])) (told_bindings r line caller params args more u)
+  told_bindings r line caller _ _ names t = told_none t
 
   module _ (calls : Calls) (called : (f r : ℕ) (names : List Renamed) (t : Tables) → ToldBy r t (calls f r names t)) where
     mutual
@@ -144,27 +137,23 @@ module _ (p : Program) where
       told_one r q (stmt.If' site cond _ a _ b) names t h =
           let u = with_source_site p r site t in
           let parts = entries_parts (site_numbers_in a) (site_numbers_in b) (site_roles_in q a) (site_roles_in q b) (as_many_in q a) h.1 in
-          let left = expand_rows p calls r a names u in
-          let right = expand_rows p calls r b left.names left.tables in
+          let left = expand_rows p calls r a names u in let right = expand_rows p calls r b left.names left.tables in
           let both = told_both u left.tables right.tables (site_roles_all r left.code) (site_roles_all r right.code) (told_rows r q a names u parts.0) (told_rows r q b left.names left.tables parts.1) in
           told_alone r t right.tables (stmt.If (next_site t) (renamed names cond) left.code right.code) ((kind.If, r) ∷ (site_roles_all r left.code ++ site_roles_all r right.code))
           (roles-If r (next_site t) (renamed names cond) left.code right.code)
           (told_both t u right.tables ((kind.If, r) ∷ []) (site_roles_all r left.code ++ site_roles_all r right.code) (told_source r site t kind.If h.0) both)
       told_one r q (stmt.While' site cond _ a) names t h =
-          let u = with_source_site p r site t in
-          let body = expand_rows p calls r a names u in
+          let u = with_source_site p r site t in let body = expand_rows p calls r a names u in
           told_alone r t body.tables (stmt.While (next_site t) (renamed names cond) body.code) ((kind.While, r) ∷ site_roles_all r body.code)
           (roles-While r (next_site t) (renamed names cond) body.code)
           (told_both t u body.tables ((kind.While, r) ∷ []) (site_roles_all r body.code) (told_source r site t kind.While h.0) (told_rows r q a names u h.1))
       told_one r _ (stmt.Region' q site cond _ a) names t h =
-          let u = with_source_site p q site t in
-          let body = expand_rows p calls q a names u in
+          let u = with_source_site p q site t in let body = expand_rows p calls q a names u in
           told_alone r t body.tables (stmt.Region q (next_site t) (renamed names cond) body.code) ((kind.While, q) ∷ site_roles_all q body.code)
           (roles-Region r q (next_site t) (renamed names cond) body.code)
           (told_both t u body.tables ((kind.While, q) ∷ []) (site_roles_all q body.code) (told_source q site t kind.While h.0) (told_rows q q a names u h.1))
       told_one r q (stmt.Call f line args) names t h =
-          let params = params_in (slice_get p.functions f) in
-          let bound = bindings p r line names params args [] t in
+          let params = params_in (slice_get p.functions f) in let bound = bindings p r line names params args [] t in
           told_joined r t bound (calls f r bound.names bound.tables) (told_bindings r line names params args [] t) (called f r bound.names bound.tables)
 
       told_rows : {n : _} (r q : ℕ) (rows : Row_of-Stmt n) (names : List Renamed) (t : Tables) → Entries (site_numbers_in rows) (site_roles_in q rows) → ToldBy r t (expand_rows p calls r rows names t)

@@ -112,8 +112,7 @@ module _ (p : Program) (checked : IsChecked p) where
 
   starts_alike : Alike p (expand p) (start_state p) (begin (expand p))
   starts_alike =
-      let s = settles_running p (expand p) laid suits bottom in
-      let same : whole.code ++ [] ≡ whole.code = append-nil whole.code in
+      let s = settles_running p (expand p) laid suits bottom in let same : whole.code ++ [] ≡ whole.code = append-nil whole.code in
       record {
         own = s.own;
         whole = refl;

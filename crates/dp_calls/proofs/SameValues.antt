@@ -75,8 +75,7 @@ module _ (p q : Program) (input a b : List ℤ) (names : List Renamed) (visible 
 
   same-Scalar : (x : VarId) → ReadsSame p q a b x (target_of names x) → Same (tree.Scalar x)
   same-Scalar x r =
-      let y : VarId = target_of names x in
-      let here : first_cell p x ≡ first_cell p x + 0 = omega arith in
+      let y : VarId = target_of names x in let here : first_cell p x ≡ first_cell p x + 0 = omega arith in
       let there : first_cell q y + 0 ≡ first_cell q y = omega arith in
       let first : get_or a (first_cell p x) (pos 0) ≡ get_or b (first_cell q y) (pos 0) =
       ap (λ (k : ℕ). get_or a k (pos 0)) here ∙ r.cells 0 r.some ∙ ap (λ (k : ℕ). get_or b k (pos 0)) there in

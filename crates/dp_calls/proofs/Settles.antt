@@ -13,7 +13,7 @@ use Rattle.dp_calls.specs.Frame.{Frame, global_count, fresh, new_frame, entered,
 use Rattle.dp_calls.proofs.Relation.{Env, file_count, Laid, IsEnv, Nested, Binds, bound, binds, Acts, assigns, stores, prints, branches, loops, marks, act, call, Tries, Leaving, Block, done, more, Todo, none, next, exit, leave, file, Agree}
 use Rattle.dp_calls.proofs.SameValues.{numbers_below}
 use Rattle.dp_calls.proofs.Stacks.{Suits, Stack, bottom, over, Ready, Filling, Sim, ends, acting, leaving, binding}
-use Rattle.dp_calls.proofs.Stands.{acts_cleared, stack_cleared}
+use Rattle.dp_calls.proofs.Clears.{acts_cleared, stack_cleared}
 use Rattle.dp_base.specs.declared.SiteId.{SiteId}
 
 module _ (p q : Program) (laid : Laid p q) where

@@ -96,8 +96,7 @@ module _ (p : Program) where
   pub listed_parts : (a b : List ℕ) → Listed (a ++ b) → Listed a × Listed b
   listed_parts [] b h = (refl, h)
   listed_parts (x ∷ a) b h =
-      let both = and_true (is_site x) (list_all is_site (a ++ b)) h in
-      let rest = listed_parts a b both.1 in
+      let both = and_true (is_site x) (list_all is_site (a ++ b)) h in let rest = listed_parts a b both.1 in
       (and_make (is_site x) (list_all is_site a) both.0 rest.0, rest.1)
 
   pub grows : (r : ℕ) (site : SiteId) (t : Tables) → is_site site.0 ≡ true → length (with_source_site p r site t).sites ≡ suc (length t.sites)
@@ -114,23 +113,19 @@ module _ (p : Program) where
   declared_sites false r x names t = refl
 
   numbered_bindings : (r line : ℕ) (caller : List Renamed) (params : List VarId) (args : List Expr) (names : List Renamed) (t : Tables) → Numbered t (bindings p r line caller params args names t)
-  numbered_bindings r line caller [] args names t = none_numbered names t
-  numbered_bindings r line caller (x ∷ params) [] names t = none_numbered names t
   numbered_bindings r line caller (x ∷ params) (e ∷ args) names t =
-      let info : SiteInfo = record { line = line; kind = Assign; region = r } in
-      let u = with_local p r x.0 (with_site info t) in
+      let info : SiteInfo = record { line = line; kind = Assign; region = r } in let u = with_local p r x.0 (with_site info t) in
       let more : List Renamed = record { source = x.0; target = length t.vars } ∷ names in
-      let after = bindings p r line caller params args more u in
-      let rest = numbered_bindings r line caller params args more u in
+      let after = bindings p r line caller params args more u in let rest = numbered_bindings r line caller params args more u in
       let grown : length u.sites ≡ suc (length t.sites) = let g = length-append t.sites (info ∷ []) in omega (arith, g) in
       (suc rest.0, first_numbers t u after.tables (site_numbers_all after.code) rest.0 grown rest.1)
+  numbered_bindings r line caller _ _ names t = none_numbered names t
 
   module _ (calls : Calls) (called : (f r : ℕ) (names : List Renamed) (t : Tables) → Numbered t (calls f r names t)) where
     mutual
       pub numbered_one : (r : ℕ) (s : Stmt) (names : List Renamed) (t : Tables) → Listed (site_numbers s) → Numbered t (expand_one p calls r s names t)
       numbered_one r (stmt.Assign site x e) names t h =
-          let u = with_source_site p r site t in
-          let same = declared_sites (is_known p (named_in names x.0) x.0) r x.0 names u in
+          let u = with_source_site p r site t in let same = declared_sites (is_known p (named_in names x.0) x.0) r x.0 names u in
           let grown : length (declared_in p r x.0 names u).tables.sites ≡ suc (length t.sites) = ap length same ∙ grows r site t (and_true (is_site site.0) true h).0 in
           (1, one_number t (declared_in p r x.0 names u).tables grown)
       numbered_one r (stmt.Store site x index e) names t h = (1, one_number t (with_source_site p r site t) (grows r site t (and_true (is_site site.0) true h).0))
@@ -140,42 +135,33 @@ module _ (p : Program) where
           let u = with_source_site p r site t in
           let own = and_true (is_site site.0) (list_all is_site (site_numbers_in a ++ site_numbers_in b)) h in
           let parts = listed_parts (site_numbers_in a) (site_numbers_in b) own.1 in
-          let left = expand_rows p calls r a names u in
-          let right = expand_rows p calls r b left.names left.tables in
-          let l = numbered_rows r a names u parts.0 in
-          let m = numbered_rows r b left.names left.tables parts.1 in
+          let left = expand_rows p calls r a names u in let right = expand_rows p calls r b left.names left.tables in
+          let l = numbered_rows r a names u parts.0 in let m = numbered_rows r b left.names left.tables parts.1 in
           let both = both_numbers u left.tables right.tables (site_numbers_all left.code) (site_numbers_all right.code) l.0 m.0 l.1 m.1 in
           let s = stmt.If (next_site t) (renamed names cond) left.code right.code in
           (suc (l.0 + m.0), alone_numbers t right.tables s _ (suc (l.0 + m.0)) (numbers-If (next_site t) (renamed names cond) left.code right.code) (first_numbers t u right.tables _ (l.0 + m.0) (grows r site t own.0) both))
       numbered_one r (stmt.While' site cond _ a) names t h =
-          let u = with_source_site p r site t in
-          let own = and_true (is_site site.0) (list_all is_site (site_numbers_in a)) h in
-          let body = expand_rows p calls r a names u in
-          let l = numbered_rows r a names u own.1 in
+          let u = with_source_site p r site t in let own = and_true (is_site site.0) (list_all is_site (site_numbers_in a)) h in
+          let body = expand_rows p calls r a names u in let l = numbered_rows r a names u own.1 in
           (suc l.0, alone_numbers t body.tables (stmt.While (next_site t) (renamed names cond) body.code) _ (suc l.0) (numbers-While (next_site t) (renamed names cond) body.code) (first_numbers t u body.tables _ l.0 (grows r site t own.0) l.1))
       numbered_one r (stmt.Region' q site cond _ a) names t h =
-          let u = with_source_site p q site t in
-          let own = and_true (is_site site.0) (list_all is_site (site_numbers_in a)) h in
-          let body = expand_rows p calls q a names u in
-          let l = numbered_rows q a names u own.1 in
+          let u = with_source_site p q site t in let own = and_true (is_site site.0) (list_all is_site (site_numbers_in a)) h in
+          let body = expand_rows p calls q a names u in let l = numbered_rows q a names u own.1 in
           (suc l.0, alone_numbers t body.tables (stmt.Region q (next_site t) (renamed names cond) body.code) _ (suc l.0) (numbers-Region q (next_site t) (renamed names cond) body.code) (first_numbers t u body.tables _ l.0 (grows q site t own.0) l.1))
       numbered_one r (stmt.Call f line args) names t h =
-          let params = params_in (slice_get p.functions f) in
-          let bound = bindings p r line names params args [] t in
+          let params = params_in (slice_get p.functions f) in let bound = bindings p r line names params args [] t in
           joined t bound (calls f r bound.names bound.tables) (numbered_bindings r line names params args [] t) (called f r bound.names bound.tables)
 
       pub numbered_rows : {n : _} (r : ℕ) (rows : Row_of-Stmt n) (names : List Renamed) (t : Tables) → Listed (site_numbers_in rows) → Numbered t (expand_rows p calls r rows names t)
       numbered_rows r end_of-Stmt names t h = none_numbered names t
       numbered_rows r (more_of-Stmt s rest) names t h =
-          let parts = listed_parts (site_numbers s) (site_numbers_in rest) h in
-          let one = expand_one p calls r s names t in
+          let parts = listed_parts (site_numbers s) (site_numbers_in rest) h in let one = expand_one p calls r s names t in
           joined t one (expand_rows p calls r rest one.names one.tables) (numbered_one r s names t parts.0) (numbered_rows r rest one.names one.tables parts.1)
 
     pub numbered_list : (r : ℕ) (all : List Stmt) (names : List Renamed) (t : Tables) → Listed (site_numbers_all all) → Numbered t (expand_list p calls r all names t)
     numbered_list r [] names t h = none_numbered names t
     numbered_list r (s ∷ rest) names t h =
-        let parts = listed_parts (site_numbers s) (site_numbers_all rest) h in
-        let one = expand_one p calls r s names t in
+        let parts = listed_parts (site_numbers s) (site_numbers_all rest) h in let one = expand_one p calls r s names t in
         joined t one (expand_list p calls r rest one.names one.tables) (numbered_one r s names t parts.0) (numbered_list r rest one.names one.tables parts.1)
 
   listed_from : (first n : ℕ) → 0 < first → first + n ≤ suc (length p.sites) → Listed (numbers_from first n)

@@ -9,7 +9,7 @@ use Rattle.dp_tree.specs.Functions.{body_in, params_in}
 use Rattle.dp_tree.specs.Scoping.{global_numbers, seen_behind_params}
 use Rattle.dp_tree.specs.Step.{Config, behind_region}
 use Rattle.dp_calls.specs.Frame.{Frame, State, fresh, global_count}
-use Rattle.dp_calls.proofs.Relation.{Env, file_count, IsEnv, Nested, Within, Declares, known, new, Binds, Acts, assigns, stores, prints, branches, loops, marks, Tries, Leaving, One, act, call, Block, done, more, Todo, next, leave, Held, file, held, Agree, Room}
+use Rattle.dp_calls.proofs.Relation.{Env, file_count, IsEnv, Nested, Within, Declares, known, new, Binds, Acts, assigns, Tries, Leaving, One, act, call, Block, done, more, Todo, next, leave, Held, file, held, Agree, Room}
 use Rattle.dp_calls.proofs.SameValues.{sees_more}
 use Rattle.dp_calls.proofs.Written.{Keeps}
 
@@ -75,11 +75,7 @@ module _ (p q : Program) where
 
   pub acts_within : {e : Env} {visible behind : List ℕ} {s t : Stmt} → Acts p q e visible behind s t → Within p q visible behind
   acts_within (assigns _ _ _ _ declares) = declares_within declares
-  acts_within (stores _ _ _ _ _ _) = λ x seen. seen
-  acts_within (prints _ _ _ _) = λ x seen. seen
-  acts_within (branches _ _ _ _ _ _) = λ x seen. seen
-  acts_within (loops _ _ _ _ _) = λ x seen. seen
-  acts_within (marks _ _ _ _ _ _ _) = λ x seen. seen
+  acts_within _ = λ x seen. seen
 
   pub one_within : {e : Env} {visible behind : List ℕ} {s : Stmt} {code : List Stmt} → One p q e visible behind s code → Within p q visible behind
   one_within (act a) = acts_within a
@@ -96,8 +92,7 @@ module _ (p q : Program) where
   held_kept : {d e : Env} (env : IsEnv p q d) (nested : Nested p q d e) (l h k : List ℤ) → Keeps p q e h k → (x : ℕ) → Held p q d l h x → Held p q d l k x
   held_kept env nested l h k keeps x (file less) = file less
   held_kept {d = d} {e = e} env nested l h k keeps x (held y named same) =
-      let target = env.target x y named in
-      let there : (y - file_count p) + file_count p ≡ y = omega (arith, target.0, env.above) in
+      let target = env.target x y named in let there : (y - file_count p) + file_count p ≡ y = omega (arith, target.0, env.above) in
       let outside : ((y - file_count p) + file_count p < e.low) ⊎ (e.high ≤ (y - file_count p) + file_count p) =
       elim (nested.others x y named) [ inl less ↦ inl (omega (arith, there, less)) | inr above ↦ inr (omega (arith, there, above)) ] in
       held y named (same ∙ sym (keeps (y - file_count p) outside))

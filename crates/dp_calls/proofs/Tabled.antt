@@ -113,8 +113,7 @@ local_length p r x t info at =
 -- so they do with one variable more
 pub lies_local : (p : Program) (r x : ℕ) (t : Tables) (info : VarInfo) → slice_get p.vars x ≡ Some info → info.length ≡ 1 → Lies p t → Lies p (with_local p r x t)
 lies_local p r x t info at one lies =
-    let v : VarInfo = moved info t.cells r in
-    let long = local_length p r x t info at in
+    let v : VarInfo = moved info t.cells r in let long = local_length p r x t info at in
     let next : PlaceOf (file_count p) (global_count p) (length t.vars) v = own lies.above (scope_no_file r) lies.cells one in
     let more : length (lies.own ++ (replicate v.length v.start ++ [])) ≡ length lies.own + length (replicate v.length v.start ++ []) = length-append lies.own (replicate v.length v.start ++ []) in
     let last : length (replicate v.length v.start ++ []) ≡ v.length = ap (λ (c : List ℤ). length c) (append-nil (replicate v.length v.start)) ∙ length-replicate v.length v.start in

@@ -20,14 +20,10 @@ element_there (x ∷ xs) (suc k) h = let less : k < length xs = omega (arith, h)
 -- a cell behind the file-scope ones
 pub own_cell : (g l : List ℤ) (i j : ℕ) → i ≡ length g + j → get_or (g ++ l) i (pos 0) ≡ get_or l j (pos 0)
 own_cell g l i j e =
-    let behind : length g ≤ i = omega (arith, e) in
-    let same : i - length g ≡ j = omega (arith, e) in
+    let behind : length g ≤ i = omega (arith, e) in let same : i - length g ≡ j = omega (arith, e) in
     get_or-append_right g l (length g) i (pos 0) refl behind ∙ ap (λ (k : ℕ). get_or l k (pos 0)) same
 
 module _ (p q : Program) (laid : Laid p q) (e : Env) (env : IsEnv p q e) where
-  target_named : (x : VarId) (y : ℕ) → named_in e.names x.0 ≡ Some y → target_of e.names x ≡ record { 0 = y }
-  target_named x y h = ap (λ (o : Option ℕ). target_or o x.0) h
-
   file_by : (x : VarId) (o : Option ℕ) → named_in e.names x.0 ≡ o → x.0 < file_count p → target_of e.names x ≡ x
   file_by x None h less = ap (λ (o : Option ℕ). target_or o x.0) h
   file_by x (Some y) h less = absurd (omega (arith, less, (env.source x.0 y h).0))
@@ -45,8 +41,7 @@ module _ (p q : Program) (laid : Laid p q) (e : Env) (env : IsEnv p q e) where
 
   file_place : (x : VarId) (info : VarInfo) → slice_get p.vars x.0 ≡ Some info → x.0 < file_count p → PlaceOf (file_count p) (global_count p) x.0 info → FileAt x
   file_place x info at less (file _ _ within some) =
-      let length_is : cell_count p x ≡ info.length = ap length_of at in
-      let first_is : first_cell p x ≡ info.first.0 = ap first_of at in
+      let length_is : cell_count p x ≡ info.length = ap length_of at in let first_is : first_cell p x ≡ info.first.0 = ap first_of at in
       record {
         first = ap first_of (laid.same x.0 less);
         count = ap length_of (laid.same x.0 less);
@@ -57,8 +52,7 @@ module _ (p q : Program) (laid : Laid p q) (e : Env) (env : IsEnv p q e) where
 
   pub file_at : (x : VarId) → x.0 < file_count p → FileAt x
   file_at x less =
-      let there : x.0 < length p.vars = omega (arith, less, laid.there) in
-      let found = element_there p.vars x.0 there in
+      let there : x.0 < length p.vars = omega (arith, less, laid.there) in let found = element_there p.vars x.0 there in
       file_place x found.0 found.1 less (laid.before x.0 found.0 found.1)
 
   -- where a local lies, and the variable that stands for it
@@ -92,12 +86,10 @@ module _ (p q : Program) (laid : Laid p q) (e : Env) (env : IsEnv p q e) where
 
   pub own_at : (x : VarId) (y : ℕ) → named_in e.names x.0 ≡ Some y → OwnAt x y
   own_at x y named =
-      let source = env.source x.0 y named in
-      let target = env.target x.0 y named in
+      let source = env.source x.0 y named in let target = env.target x.0 y named in
       let behind : file_count p ≤ y = omega (arith, env.above, target.0) in
       let within : y < length q.vars = omega (arith, env.within, target.1) in
-      let found = element_there p.vars x.0 source.1 in
-      let goes = element_there q.vars y within in
+      let found = element_there p.vars x.0 source.1 in let goes = element_there q.vars y within in
       own_place x y found.0 goes.0 found.1 goes.1 source.0 source.1 behind within (laid.before x.0 found.0 found.1) (laid.after y goes.0 goes.1)
 
   module _ (g l h : List ℤ) (whole : length g ≡ global_count p) where
@@ -116,8 +108,7 @@ module _ (p q : Program) (laid : Laid p q) (e : Env) (env : IsEnv p q e) where
 
     own_reads : (x : VarId) (y : ℕ) → named_in e.names x.0 ≡ Some y → get_or l (x.0 - file_count p) (pos 0) ≡ get_or h (y - file_count p) (pos 0) → ReadsSame p q (g ++ l) (g ++ h) x (record { 0 = y })
     own_reads x y named same =
-        let at = own_at x y named in
-        let one : cell_count p x ≡ cell_count q (record { 0 = y }) = at.count ∙ sym at.target_count in
+        let at = own_at x y named in let one : cell_count p x ≡ cell_count q (record { 0 = y }) = at.count ∙ sym at.target_count in
         record {
           count = one;
           some = omega (arith, at.count);
@@ -129,7 +120,7 @@ module _ (p q : Program) (laid : Laid p q) (e : Env) (env : IsEnv p q e) where
 
     reads_held : (x : VarId) → Held p q e l h x.0 → ReadsSame p q (g ++ l) (g ++ h) x (target_of e.names x)
     reads_held x (file less) = subst (λ (y : VarId). ReadsSame p q (g ++ l) (g ++ h) x y) (sym (target_file x less)) (file_reads x less)
-    reads_held x (held y named same) = subst (λ (y : VarId). ReadsSame p q (g ++ l) (g ++ h) x y) (sym (target_named x y named)) (own_reads x y named same)
+    reads_held x (held y named same) = subst (λ (y : VarId). ReadsSame p q (g ++ l) (g ++ h) x y) (sym (ap (λ (o : Option ℕ). target_or o x.0) named)) (own_reads x y named same)
 
     pub reads_visible : (visible : List ℕ) → Agree p q e visible l h → (x : VarId) → sees visible x ≡ true → ReadsSame p q (g ++ l) (g ++ h) x (target_of e.names x)
     reads_visible visible agree x seen = reads_held x (agree x seen)

@@ -11,7 +11,7 @@ use Rattle.dp_tree.specs.declared.Stmt.TheVariants as stmt
 use Rattle.dp_tree.specs.declared.Stmt.TheOpen.{Region}
 use Rattle.dp_tree.specs.declared.VarInfo.{VarInfo}
 use Rattle.dp_tree.specs.declared.VarScope.{VarScope}
-use Rattle.dp_tree.specs.declared.VarScope.TheVariants.{Global, Outer, Body}
+use Rattle.dp_tree.specs.declared.VarScope.TheVariants.{Outer, Body}
 use Rattle.dp_tree.specs.declared.Program.{Program}
 use Rattle.dp_tree.specs.Functions.{body_in}
 use Rattle.dp_tree.specs.Numbering.{site_numbers, site_numbers_in, site_numbers_all, is_plain, is_inner_in, top_fits, next_region, regions_in_order}
@@ -38,12 +38,9 @@ use Rattle.dp_calls.proofs.CheckedTexts.{TextOf}
 
 -- a scope of region r
 scope_is : (r : ℕ) (scope : VarScope) → is_scope_in r scope ≡ true → scope ≡ scope_in r
-scope_is zero Global e = absurd (cc e)
 scope_is zero Outer e = refl
-scope_is zero (Body k) e = absurd (cc e)
-scope_is (suc r) Global e = absurd (cc e)
-scope_is (suc r) Outer e = absurd (cc e)
 scope_is (suc r) (Body k) e = ap Body (eqb-true k (suc r) e)
+scope_is _ _ e = absurd (cc e)
 
 -- both entries are of the same regions
 abbrev pub Linked : Option VarInfo → Option VarInfo → Type 0
@@ -99,8 +96,7 @@ module _ (p q : Program) (places : (x : ℕ) (info : VarInfo) → slice_get p.va
       | inl less ↦ (let over = closes.files x.0 y named in absurd (omega (arith, less, over)))
       | inr outer ↦
           (let same : old.0 ≡ y = same_Some old.0 y (sym (closes.ends.stable x.0 old.0 old.1) ∙ named) in
-          let source = quiet_outer k (slice_get p.vars x.0) outer in
-          let entry = element_there t.vars old.0 (ok.target x.0 old.0 old.1).1 in
+          let source = quiet_outer k (slice_get p.vars x.0) outer in let entry = element_there t.vars old.0 (ok.target x.0 old.0 old.1).1 in
           let final : slice_get q.vars old.0 ≡ slice_get t.vars old.0 = closes.into.vars old.0 entry.0 entry.1 ∙ sym entry.1 in
           (source, ap (λ (n : ℕ). is_quiet k (slice_get q.vars n)) (sym same) ∙ ap (is_quiet k) final ∙ ok.link x.0 old.0 old.1 k ∙ source))
     ]
@@ -135,11 +131,6 @@ module _ (p q : Program) (places : (x : ℕ) (info : VarInfo) → slice_get p.va
 
   top_made : (k : ℕ) (s : Stmt) (visible : List ℕ) (names : List Renamed) (t : Tables) → in_scope p 0 most visible s ≡ true → top_fits k s ≡ true → list_all (is_listed p) (site_numbers s) ≡ true → Ready visible names t →
       TopMade visible names t (seen_behind visible s) s (expand_one p calls 0 s names t)
-  top_made k (stmt.Assign site x v) visible names t scoped fits listed ready = plain_top (stmt.Assign site x v) visible names t scoped fits listed ready
-  top_made k (stmt.Store site x i v) visible names t scoped fits listed ready = plain_top (stmt.Store site x i v) visible names t scoped fits listed ready
-  top_made k (stmt.Print site v) visible names t scoped fits listed ready = plain_top (stmt.Print site v) visible names t scoped fits listed ready
-  top_made k (stmt.If' site v m one l other) visible names t scoped fits listed ready = plain_top (stmt.If' site v m one l other) visible names t scoped fits listed ready
-  top_made k (stmt.While' site v m body) visible names t scoped fits listed ready = plain_top (stmt.While' site v m body) visible names t scoped fits listed ready
   top_made k (stmt.Region' r site v m body) visible names t scoped fits listed ready =
       let both = and_true (knows visible v) (rows_in_scope p r most visible body) scoped in
       let plainly = and_true (r == k) (is_inner_in body) fits in
@@ -148,7 +139,7 @@ module _ (p q : Program) (places : (x : ℕ) (info : VarInfo) → slice_get p.va
       (names_sited p q places there Linked (file_count p) most r r (linked_moved r) site names t ready.0) (lies_sited p q places there Linked (file_count p) most r r (linked_moved r) site t ready.1) ready.2 in
       region_by r site v m body visible names t (expand_rows p calls r body names (with_source_site p r site t)) both.0 sites.0 ready.0 ready.2 ready.3 inside
   top_made k (stmt.Break site v) visible names t scoped fits listed ready = absurd (cc fits)
-  top_made k (stmt.Call f line args) visible names t scoped fits listed ready = plain_top (stmt.Call f line args) visible names t scoped fits listed ready
+  top_made k s visible names t scoped fits listed ready = plain_top s visible names t scoped fits listed ready
 
   top_assigned : (b : Bool) (visible : List ℕ) (x : VarId) → sees visible x ≡ b → (b || is_declared_in 0 (slice_get p.vars x.0)) ≡ true → TopSeen p visible → TopSeen p (if b then visible else x.0 ∷ visible)
   top_assigned true visible x is scoped top w at = top w at
@@ -160,13 +151,7 @@ module _ (p q : Program) (places : (x : ℕ) (info : VarInfo) → slice_get p.va
   top_behind : (visible : List ℕ) (s : Stmt) → in_scope p 0 most visible s ≡ true → TopSeen p visible → TopSeen p (seen_behind visible s)
   top_behind visible (stmt.Assign site x v) scoped top =
       top_assigned (sees visible x) visible x refl (and_true (knows visible v) (sees visible x || is_declared_in 0 (slice_get p.vars x.0)) scoped).1 top
-  top_behind visible (stmt.Store site x i v) scoped top = top
-  top_behind visible (stmt.Print site v) scoped top = top
-  top_behind visible (stmt.If' site v m one l other) scoped top = top
-  top_behind visible (stmt.While' site v m body) scoped top = top
-  top_behind visible (stmt.Region' r site v m body) scoped top = top
-  top_behind visible (stmt.Break site v) scoped top = top
-  top_behind visible (stmt.Call f line args) scoped top = top
+  top_behind visible _ scoped top = top
 
   pub main_made : (k : ℕ) (statements : List Stmt) (visible : List ℕ) (names : List Renamed) (t : Tables) → all_in_scope p 0 most visible statements ≡ true → regions_in_order k statements ≡ true → list_all (is_listed p) (site_numbers_all statements) ≡ true →
       Ready visible names t → MainMade visible names t statements (expand_list p calls 0 statements names t)
@@ -176,7 +161,6 @@ module _ (p q : Program) (places : (x : ℕ) (info : VarInfo) → slice_get p.va
       let both = and_true (in_scope p 0 most visible s) (all_in_scope p 0 most (seen_behind visible s) rest) scoped in
       let fit = and_true (top_fits k s) (regions_in_order (next_region k s) rest) fits in
       let parts = all_parts (is_listed p) (site_numbers s) (site_numbers_all rest) listed in
-      let a : Piece = expand_one p calls 0 s names t in
-      let first = top_made k s visible names t both.0 fit.0 parts.0 ready in
+      let a : Piece = expand_one p calls 0 s names t in let first = top_made k s visible names t both.0 fit.0 parts.0 ready in
       let second = main_made (next_region k s) rest (seen_behind visible s) a.names a.tables both.1 fit.1 parts.1 (first.named, first.lies, first.seen, top_behind visible s both.0 ready.3) in
       both_made p q places there Linked (file_count p) most 0 0 (linked_moved 0) calls (omega arith) (λ g. (text_of g).params) (called 0) visible names t s rest a (expand_list p calls 0 rest a.names a.tables) ready.2 first second

@@ -25,9 +25,7 @@ use Rattle.dp_calls.proofs.SameMeanings.{main_is_env, files_below, made, block}
 module _ (n : ℕ) (names : List Renamed) (visible : List ℕ) (below : (x : VarId) → sees visible x ≡ true → nat_lt (target_of names x).0 n ≡ true) where
   pub renamed_within : (v : Expr) → knows visible v ≡ true → expr_within n (renamed names v) ≡ true
   unfolding opened
-  renamed_within (tree.Number z) k = refl
   renamed_within (tree.Input' _ (more_of-Expr a end_of-Expr)) k = renamed_within a k
-  renamed_within tree.InputLen k = refl
   renamed_within (tree.Scalar x) k = below x k
   renamed_within (tree.Element' x _ (more_of-Expr a end_of-Expr)) k =
       let both = and_true (sees visible x) (knows visible a) k in
@@ -42,6 +40,7 @@ module _ (n : ℕ) (names : List Renamed) (visible : List ℕ) (below : (x : Var
   renamed_within (tree.Or' _ (more_of-Expr a end_of-Expr) _ (more_of-Expr b end_of-Expr)) k =
       let both = and_true (knows visible a) (knows visible b) k in
       and_make (expr_within n (renamed names a)) (expr_within n (renamed names b)) (renamed_within a both.0) (renamed_within b both.1)
+  renamed_within _ k = refl
 
 -- statements by their heads
 module _ (n : ℕ) where

@@ -15,8 +15,7 @@ use Rattle.dp_calls.proofs.Visible.{file_at, target_file, own_at}
 -- a store behind the file-scope cells
 pub own_memory : (g m : List ℤ) (i j : ℕ) (z : ℤ) → i ≡ length g + j → slice_set (g ++ m) i z ≡ g ++ slice_set m j z
 own_memory g m i j z at =
-    let behind : length g ≤ i = omega (arith, at) in
-    let same : i - length g ≡ j = omega (arith, at) in
+    let behind : length g ≤ i = omega (arith, at) in let same : i - length g ≡ j = omega (arith, at) in
     set-append_right g m (length g) i z refl behind ∙ ap (λ (n : ℕ). g ++ slice_set m n z) same
 
 module _ (p q : Program) where
@@ -60,9 +59,7 @@ module _ (p q : Program) where
 
       held_other : (w : ℕ) (v : ℕ) → named_in e.names w ≡ Some v → (w ≡ x.0 → ⊥) → get_or l (w - file_count p) (pos 0) ≡ get_or h (v - file_count p) (pos 0) → Held p q e locals_set cells_set w
       held_other w v at differs same =
-          let source = env.source w v at in
-          let here = env.source x.0 y named in
-          let target = env.target w v at in
+          let source = env.source w v at in let here = env.source x.0 y named in let target = env.target w v at in
           let there = env.target x.0 y named in
           let left : (w - file_count p ≡ x.0 - file_count p) → ⊥ = λ k. differs (omega (arith, k, source.0, here.0)) in
           let right : (v - file_count p ≡ y - file_count p) → ⊥ = λ k.

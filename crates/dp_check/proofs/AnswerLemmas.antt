@@ -1,9 +1,10 @@
--- Answers of parts, one after the other.
-use Rattle.std.proofs.Common.{◌≡◌, append_assoc, append-nil, refl, ap, ◌∙◌, List, [], ◌∷◌, ◌++◌, Option, Some, None, Result, Ok, Err}
+-- Answers of parts, one after the other; and a loop that answers for a list, item by item.
+use Rattle.std.proofs.Common.{◌≡◌, append_assoc, append-nil, refl, ap, ◌∙◌, List, [], ◌∷◌, ◌++◌, Option, Some, None, Result, Ok, Err, sym, ℕ, ◌+◌, ◌<◌, ◌≤◌, length, get_or, drop}
 use Rattle.dp_check.specs.declared.fail.CheckFail.{CheckFail}
 use Rattle.dp_check.specs.Offence.{Token, offence, or_else, first_offence}
 use Rattle.dp_tree.specs.declared.Stmt.{Stmt}
 use Rattle.dp_check.specs.Answer.{answer, onto, with_last, Gives}
+use Rattle.std.proofs.lemmas.List.{at_drop_more, at_drop_all}
 
 -- the next answer, unless this one is a refusal
 abbrev pub and_then : {X Y : Type 0} → Result X CheckFail → (X → Result Y CheckFail) → Result Y CheckFail
@@ -53,25 +54,22 @@ onto-none done = ap Ok (append-nil done)
 pub onto-more : {X : Type 0} (done : List X) (one : Result X CheckFail) (rest : Result (List X) CheckFail)
     → onto done (and_then one (λ x. and_then rest (λ xs. Ok (x ∷ xs)))) ≡ and_then one (λ x. onto (done ++ x ∷ []) rest)
 unfolding onto
-onto-more done (Err e) rest = refl
-onto-more done (Ok x) (Err e) = refl
 onto-more done (Ok x) (Ok xs) = ap Ok (Rattle.std.proofs.Common.sym (append_assoc done (x ∷ []) xs))
+onto-more done _ _ = refl
 
 -- some of the rest are done
 pub onto-further : {X : Type 0} (done : List X) (some rest : Result (List X) CheckFail)
     → onto done (and_then some (λ xs. and_then rest (λ ys. Ok (xs ++ ys)))) ≡ and_then (onto done some) (λ all. onto all rest)
 unfolding onto
-onto-further done (Err e) rest = refl
-onto-further done (Ok xs) (Err e) = refl
 onto-further done (Ok xs) (Ok ys) = ap Ok (Rattle.std.proofs.Common.sym (append_assoc done xs ys))
+onto-further done _ _ = refl
 
 -- several are done, and one more
 pub onto-one : {X : Type 0} (done : List X) (some : Result (List X) CheckFail) (one : Result X CheckFail)
     → onto done (and_then some (λ xs. and_then one (λ x. Ok (xs ++ x ∷ [])))) ≡ and_then (onto done some) (λ all. and_then one (λ x. Ok (all ++ x ∷ [])))
 unfolding onto
-onto-one done (Err e) one = refl
-onto-one done (Ok xs) (Err e) = refl
 onto-one done (Ok xs) (Ok x) = ap Ok (Rattle.std.proofs.Common.sym (append_assoc done xs (x ∷ [])))
+onto-one done _ _ = refl
 
 -- an answer of one statement behind those that are done
 pub gives_behind : (r : Result (List Stmt) CheckFail) (done : List Stmt) (one : Result Stmt CheckFail) → Gives r (with_last [] one) → Gives (onto done r) (with_last done one)
@@ -87,3 +85,56 @@ answer-Ok (Some f) x y e = absurd (cc)
 pub answer-Err : {X Y : Type 0} (o : Option CheckFail) (x : X) (y : Y) (e : CheckFail) → answer o x ≡ Err e → answer o y ≡ Err e
 answer-Err None x y e h = absurd (cc)
 answer-Err (Some f) x y e h = ap Err (cc)
+
+-- F answers for a list from a state: the first item by `one`, the rest from the state after it
+module _ {P A X : Type 0} (F : P → List A → Result (List X) CheckFail) (one : P → A → Result X CheckFail) (step : P → A → P)
+    (more : (p : P) (a : A) (rest : List A) → F p (a ∷ rest) ≡ and_then (one p a) (λ x. and_then (F (step p a) rest) (λ xs. Ok (x ∷ xs))))
+    (xs : List A) (i : ℕ) (p : P) (done : List X) (whole : Result (List X) CheckFail) (so_far : whole ≡ onto done (F p (drop i xs))) where
+  turn : (a : A) → i < length xs → a ≡ get_or xs i a → whole ≡ and_then (one p a) (λ x. onto (done ++ x ∷ []) (F (step p a) (drop (i + 1) xs)))
+  turn a below is =
+      so_far ∙ ap (onto done) (at_drop_more (F p) xs i a below ∙ ap (λ y. F p (y ∷ drop (i + 1) xs)) (sym is) ∙ more p a (drop (i + 1) xs))
+      ∙ onto-more done (one p a) (F (step p a) (drop (i + 1) xs))
+
+  -- one more item is done
+  pub loop_more : (a : A) → i < length xs → a ≡ get_or xs i a → (x : X) → one p a ≡ Ok x → (q : P) → q ≡ step p a → whole ≡ onto (done ++ x ∷ []) (F q (drop (i + 1) xs))
+  loop_more a below is x ok q moved =
+      turn a below is ∙ ap (λ r. and_then r (λ y. onto (done ++ y ∷ []) (F (step p a) (drop (i + 1) xs)))) ok
+      ∙ ap (λ r. onto (done ++ x ∷ []) (F r (drop (i + 1) xs))) (sym moved)
+
+  -- an item is refused
+  pub loop_refused : (a : A) → i < length xs → a ≡ get_or xs i a → (e : CheckFail) → one p a ≡ Err e → whole ≡ Err e
+  loop_refused a below is e err = turn a below is ∙ ap (λ r. and_then r (λ y. onto (done ++ y ∷ []) (F (step p a) (drop (i + 1) xs)))) err
+
+  -- all items are done
+  pub loop_end : length xs ≤ i → F p [] ≡ Ok [] → whole ≡ Ok done
+  loop_end over none = so_far ∙ ap (onto done) (at_drop_all (F p) xs i over ∙ none) ∙ onto-none done
+
+-- the same where one item answers with several
+module _ {P A X : Type 0} (F : P → List A → Result (List X) CheckFail) (one : P → A → Result (List X) CheckFail) (step : P → A → P)
+    (more : (p : P) (a : A) (rest : List A) → F p (a ∷ rest) ≡ and_then (one p a) (λ x. and_then (F (step p a) rest) (λ xs. Ok (x ++ xs))))
+    (xs : List A) (i : ℕ) (p : P) (done : List X) (whole : Result (List X) CheckFail) (so_far : whole ≡ onto done (F p (drop i xs))) where
+  turns : (a : A) → i < length xs → a ≡ get_or xs i a → whole ≡ and_then (onto done (one p a)) (λ all. onto all (F (step p a) (drop (i + 1) xs)))
+  turns a below is =
+      so_far ∙ ap (onto done) (at_drop_more (F p) xs i a below ∙ ap (λ y. F p (y ∷ drop (i + 1) xs)) (sym is) ∙ more p a (drop (i + 1) xs))
+      ∙ onto-further done (one p a) (F (step p a) (drop (i + 1) xs))
+
+  pub further : (a : A) → i < length xs → a ≡ get_or xs i a → (all : List X) → onto done (one p a) ≡ Ok all → (q : P) → q ≡ step p a → whole ≡ onto all (F q (drop (i + 1) xs))
+  further a below is all ok q moved =
+      turns a below is ∙ ap (λ r. and_then r (λ y. onto y (F (step p a) (drop (i + 1) xs)))) ok
+      ∙ ap (λ r. onto all (F r (drop (i + 1) xs))) (sym moved)
+
+  pub further_refused : (a : A) → i < length xs → a ≡ get_or xs i a → (e : CheckFail) → onto done (one p a) ≡ Err e → whole ≡ Err e
+  further_refused a below is e err = turns a below is ∙ ap (λ r. and_then r (λ y. onto y (F (step p a) (drop (i + 1) xs)))) err
+
+  pub further_end : length xs ≤ i → F p [] ≡ Ok [] → whole ≡ Ok done
+  further_end over none = so_far ∙ ap (onto done) (at_drop_all (F p) xs i over ∙ none) ∙ onto-none done
+
+-- F goes over a list from a state: its value is that of the rest from the state after the first item
+module _ {P A Q : Type 0} (F : P → List A → Q) (step : P → A → P) (more : (p : P) (a : A) (rest : List A) → F p (a ∷ rest) ≡ F (step p a) rest)
+    (xs : List A) (i : ℕ) (p : P) (whole : Q) (so_far : whole ≡ F p (drop i xs)) where
+  pub fold_more : (a : A) → i < length xs → a ≡ get_or xs i a → (q : P) → q ≡ step p a → whole ≡ F q (drop (i + 1) xs)
+  fold_more a below is q moved =
+      so_far ∙ at_drop_more (F p) xs i a below ∙ ap (λ y. F p (y ∷ drop (i + 1) xs)) (sym is) ∙ more p a (drop (i + 1) xs) ∙ ap (λ r. F r (drop (i + 1) xs)) (sym moved)
+
+  pub fold_end : length xs ≤ i → whole ≡ F p []
+  fold_end over = so_far ∙ at_drop_all (F p) xs i over

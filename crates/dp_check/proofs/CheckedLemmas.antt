@@ -38,8 +38,7 @@ laid_in_order k (x ∷ xs) h = by (has_cells x) h (laid_in_order (k + x.length) 
 
 scope_cells : (scope : VarScope) → (is_global_scope scope || true) ≡ true
 scope_cells Global = refl
-scope_cells Outer = refl
-scope_cells (Body r) = refl
+scope_cells _ = refl
 
 locals_have_cells : (scope : VarScope) (ps : List Part) → list_all has_cells (locals_of scope ps) ≡ true
 locals_have_cells scope [] = refl
@@ -83,9 +82,7 @@ verdict-given raw p given = by (first_offence (names_of raw)) (too_many_function
   where
     by : (a b c : Option CheckFail) → unless a (unless b (unless c (Ok (resolved raw)))) ≡ Ok p → (a ≡ None) × (resolved raw ≡ p)
     by None None None h = (refl, cc)
-    by None None (Some e) h = absurd (cc)
-    by None (Some e) c h = absurd (cc)
-    by (Some e) b c h = absurd (cc)
+    by _ _ _ h = absurd (cc)
 
 pub checked : (raw : RawProgram) (p : Program) → list_all has_length raw.items ≡ true → breaks_fit raw ≡ true → verdict raw ≡ Ok p → IsChecked p
 checked raw p lengths breaks given =

@@ -26,9 +26,8 @@ get_past (x ∷ before) ys k =
 module _ (r : ℕ) where
   -- where a variable lies in memory doesn't matter
   declared_laid : (c : ℕ) (xs : List VarInfo) (j : ℕ) → is_declared_in r (slice_get (laid c xs) j) ≡ is_declared_in r (slice_get xs j)
-  declared_laid c [] j = refl
-  declared_laid c (x ∷ xs) zero = refl
   declared_laid c (x ∷ xs) (suc j) = declared_laid (c + x.length) xs j
+  declared_laid c _ _ = refl
 
   module _ (scope : VarScope) (fits : is_scope_in r scope ≡ true) (later : List VarInfo) where
     declared_here : (ps : List Part) (j : ℕ) → j < local_count ps → is_declared_in r (slice_get (locals_of scope ps ++ later) j) ≡ true

@@ -24,9 +24,8 @@ use Rattle.dp_check.proofs.BoolLemmas.{both_true, halves, same_number, all_of_bo
 abbrev pub is_known : Program → ℕ → List ℕ → Meaning → Bool
 is_known p n visible (Scalar x) = sees visible x
 is_known p n visible (Array x) = sees visible x
-is_known p n visible Input = true
-is_known p n visible InputLen = true
 is_known p n visible (Function f k) = nat_lt f n && (k == length (params_in (slice_get p.functions f)))
+is_known p n visible _ = true
 
 abbrev pub is_known_if : Program → ℕ → List ℕ → Option Meaning → Bool
 is_known_if p n visible None = true
@@ -59,9 +58,8 @@ sees_first visible x = ap (λ b. b || sees visible x) (same_number x.0)
 pub known_more : (p : Program) (n : ℕ) (visible : List ℕ) (y : ℕ) (m : Meaning) → is_known p n visible m ≡ true → is_known p n (y ∷ visible) m ≡ true
 known_more p n visible y (Scalar x) h = sees_more visible y x h
 known_more p n visible y (Array x) h = sees_more visible y x h
-known_more p n visible y Input h = refl
-known_more p n visible y InputLen h = refl
 known_more p n visible y (Function f k) h = h
+known_more p n visible y _ h = refl
 
 -- what is visible behind statements
 abbrev pub seen_behind_all : List ℕ → List Stmt → List ℕ
@@ -75,12 +73,7 @@ known_behind_one p n visible names (code.Assign site x e) h = by (sees visible x
     by true = h
     by false = all_weaker _ _ (λ (e : Named). known_more p n visible x.0 e.meaning) names h
 known_behind_one p n visible names (code.Store site x index e) h = h
-known_behind_one p n visible names (code.Print site e) h = h
-known_behind_one p n visible names (code.If' site cond _ a _ b) h = h
-known_behind_one p n visible names (code.While' site cond _ a) h = h
-known_behind_one p n visible names (code.Region' r site cond _ a) h = h
-known_behind_one p n visible names (code.Break site cond) h = h
-known_behind_one p n visible names (code.Call f line args) h = h
+known_behind_one p n visible names _ h = h
 
 -- what is known stays so behind statements
 pub known_behind : (p : Program) (n : ℕ) (visible : List ℕ) (names : List Named) (all : List Stmt) → all_known p n visible names ≡ true → all_known p n (seen_behind_all visible all) names ≡ true
@@ -92,12 +85,11 @@ less_more f n h = grind (arith, nat_tests)
 
 -- one more function is known
 pub known_later : (p : Program) (n : ℕ) (visible : List ℕ) (m : Meaning) → is_known p n visible m ≡ true → is_known p (suc n) visible m ≡ true
-known_later p n visible (Scalar x) h = h
-known_later p n visible (Array x) h = h
 known_later p n visible Input h = refl
 known_later p n visible InputLen h = refl
 known_later p n visible (Function f k) h =
     let same = halves (nat_lt f n) (k == length (params_in (slice_get p.functions f))) h in both_true (less_more f n same.0) same.1
+known_later p n visible _ h = h
 
 pub known_append : (p : Program) (n : ℕ) (visible : List ℕ) (names : List Named) (text : List ℕ) (m : Meaning) → all_known p n visible names ≡ true → is_known p n visible m ≡ true
     → all_known p n visible (names ++ record { name = text; meaning = m } ∷ []) ≡ true
@@ -137,20 +129,12 @@ module _ (visible : List ℕ) where
 
 module _ (p : Program) (n : ℕ) (visible : List ℕ) where
   knows_scalar : (m : Option Meaning) → is_known_if p n visible m ≡ true → knows visible (scalar_expr m) ≡ true
-  knows_scalar None h = refl
   knows_scalar (Some (Scalar x)) h = h
-  knows_scalar (Some (Array x)) h = refl
-  knows_scalar (Some Input) h = refl
-  knows_scalar (Some InputLen) h = refl
-  knows_scalar (Some (Function f k)) h = refl
+  knows_scalar _ h = refl
 
   knows_element : (m : Option Meaning) (e : Expr) → is_known_if p n visible m ≡ true → knows visible e ≡ true → knows visible (element_expr (array_of m) e) ≡ true
-  knows_element None e h k = knows-Input visible e ∙ k
-  knows_element (Some (Scalar x)) e h k = knows-Input visible e ∙ k
   knows_element (Some (Array x)) e h k = knows-Element visible x e ∙ both_true h k
-  knows_element (Some Input) e h k = knows-Input visible e ∙ k
-  knows_element (Some InputLen) e h k = knows-Input visible e ∙ k
-  knows_element (Some (Function f c)) e h k = knows-Input visible e ∙ k
+  knows_element _ e h k = knows-Input visible e ∙ k
 
   module _ (names : List Named) (known : all_known p n visible names ≡ true) where
     -- an expression names visible variables alone

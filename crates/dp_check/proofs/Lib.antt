@@ -1,12 +1,10 @@
 pub mod BoolLemmas
 pub mod NamesLemmas
 pub mod AnswerLemmas
-pub mod LoopLemmas
 pub mod ExprLemmas
 pub mod PlaceLemmas
 pub mod Weight
 pub mod StmtLemmas
-pub mod StepLemmas
 pub mod ItemLemmas
 pub mod RegionLemmas
 pub mod TableLemmas

@@ -95,21 +95,13 @@ module _ (p : Program) (n : ℕ) where
     where
       by : (l : RawStmt-F RawStmt) → out-RawStmt s ≡ l → Declared p.vars 0 q.variable (local_count (outside_at l (parts s)))
           → Declared p.vars k (q.variable + local_count (outside_at l (parts s))) (local_count (within_at l (parts s))) → Here p 0 n visible (after q s) (region_at q k l (resolved q s))
-      by (open_form.Declare line name value) e d f = stmt_scoped p 0 n q visible s here d lawful
-      by (open_form.Assign name value) e d f = stmt_scoped p 0 n q visible s here d lawful
-      by (open_form.Store name index value) e d f = stmt_scoped p 0 n q visible s here d lawful
-      by (open_form.Call name args) e d f = stmt_scoped p 0 n q visible s here d lawful
-      by (open_form.Print line value) e d f = stmt_scoped p 0 n q visible s here d lawful
-      by (open_form.Break line cond) e d f = stmt_scoped p 0 n q visible s here d lawful
-      by (open_form.If line cond a b) e d f = stmt_scoped p 0 n q visible s here d lawful
-      by (open_form.While line false cond body) e d f = stmt_scoped p 0 n q visible s here d lawful
       by (open_form.While line true cond body) e d f =
           let is : s ≡ raw.While line true cond body = sym (roll-out-RawStmt s) ∙ ap roll-RawStmt e ∙ rolls-While line true cond body in
           region_scoped q k visible s line cond body is here (λ j low high. f j (omega arith) (omega arith)) lawful
-      by (open_form.For line false first cond step body) e d f = stmt_scoped p 0 n q visible s here d lawful
       by (open_form.For line true first cond step body) e d f =
           let is : s ≡ raw.For line true first cond step body = sym (roll-out-RawStmt s) ∙ ap roll-RawStmt e ∙ rolls-For line true first cond step body in
           stepped_scoped q k visible s line first cond step body is here d f lawful
+      by _ e d f = stmt_scoped p 0 n q visible s here d lawful
 
 after_top_above : (k : ℕ) (s : RawStmt) → 0 < k → 0 < after_top k s
 after_top_above k s h = by (is_region s)

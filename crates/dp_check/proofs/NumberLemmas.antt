@@ -1,9 +1,9 @@
 -- The sites of a checked program are numbered in text order.
-use Rattle.std.proofs.Common.{◌≡◌, refl, sym, ap, ◌∙◌, ℕ, zero, suc, ◌+◌, true, false, if◌then◌else◌, List, [], ◌∷◌, ◌++◌, map, length, length-append, append-nil, append_assoc, arith}
+use Rattle.std.proofs.Common.{◌≡◌, refl, sym, ap, ◌∙◌, ℕ, zero, suc, ◌+◌, true, if◌then◌else◌, List, [], ◌∷◌, ◌++◌, map, length, length-append, append-nil, append_assoc, arith}
 use Rattle.std.specs.List.{flat_map}
 use Rattle.dp_tree.specs.declared.Expr.{Expr}
 use Rattle.dp_base.specs.declared.SiteId.{SiteId}
-use Rattle.dp_tree.specs.declared.Stmt.{Stmt, Row_of-Stmt}
+use Rattle.dp_tree.specs.declared.Stmt.{Stmt}
 use Rattle.dp_tree.specs.declared.Stmt.TheVariants as code
 use Rattle.dp_tree.specs.declared.SiteKind.TheVariants as kind
 use Rattle.dp_tree.specs.declared.raw.Name.{Name}
@@ -69,12 +69,6 @@ numbers_inside k a b e f g = ap (λ ns. k ∷ ns) (numbers_joined (k + 1) a b e 
 
 mutual
   numbered : (p : Place) (s : RawStmt) → site_numbers_all (resolved p s) ≡ numbers_from p.site (site_count (parts s))
-  numbered p (raw.Declare line name value) = refl
-  numbered p (raw.Assign name value) = refl
-  numbered p (raw.Store name index value) = refl
-  numbered p (raw.Call name args) = refl
-  numbered p (raw.Print line value) = refl
-  numbered p (raw.Break line cond) = refl
   numbered p (raw.If' line cond _ a _ b) =
       let q = passed (sited p) (parts_in a) in
       append-nil (site_numbers (code.If _ (resolved_expr p.names cond) (resolved_in (sited p) a) (resolved_in q b)))
@@ -94,6 +88,7 @@ mutual
       ∙ numbers_joined p.site (site_count (parts_in first)) (suc (site_count (parts_in body) + site_count (parts_in step))) (after_in_site p first) (numbered_in p first) inside
       ∙ ap (λ n. numbers_from p.site (site_count (parts_in first) + suc n)) (sym (site_count-append (parts_in body) (parts_in step)))
       ∙ ap (numbers_from p.site) (sym (site_count-append (parts_in first) (Site line kind.While ∷ (parts_in body ++ parts_in step))))
+  numbered p _ = refl
 
   numbered_in : {n : _} (p : Place) (row : Row_of-RawStmt n) → site_numbers_all (resolved_in p row) ≡ numbers_from p.site (site_count (parts_in row))
   numbered_in p end_of-RawStmt = refl
@@ -125,25 +120,17 @@ numbered_top : (p : Place) (r : ℕ) (s : RawStmt) → site_numbers_all (resolve
 numbered_top p r s = by (out-RawStmt s) refl
   where
     by : (l : RawStmt-F RawStmt) → out-RawStmt s ≡ l → site_numbers_all (region_at p r l (resolved p s)) ≡ numbers_from p.site (site_count (parts s))
-    by (open_form.Declare line name value) e = numbered p s
-    by (open_form.Assign name value) e = numbered p s
-    by (open_form.Store name index value) e = numbered p s
-    by (open_form.Call name args) e = numbered p s
-    by (open_form.Print line value) e = numbered p s
-    by (open_form.If line cond a b) e = numbered p s
-    by (open_form.Break line cond) e = numbered p s
-    by (open_form.While line false cond body) e = numbered p s
     by (open_form.While line true cond body) e =
         let is : s ≡ raw.While line true cond body = sym (roll-out-RawStmt s) ∙ ap roll-RawStmt e ∙ rolls-While line true cond body in
         append-nil (site_numbers (code.Region r _ (resolved_expr p.names cond) (resolved_all (sited p) body)))
         ∙ numbers-Region r _ (resolved_expr p.names cond) (resolved_all (sited p) body)
         ∙ ap (λ xs. p.site ∷ xs) (numbered_all (sited p) body)
         ∙ ap (λ ps. numbers_from p.site (site_count ps)) (sym (parts-While line true cond body) ∙ ap parts (sym is))
-    by (open_form.For line false first cond step body) e = numbered p s
     by (open_form.For line true first cond step body) e =
         let is : s ≡ raw.For line true first cond step body = sym (roll-out-RawStmt s) ∙ ap roll-RawStmt e ∙ rolls-For line true first cond step body in
         numbered_stepped p r line first cond step body
         ∙ ap (λ ps. numbers_from p.site (site_count ps)) (sym (parts-For line true first cond step body) ∙ ap parts (sym is))
+    by _ e = numbered p s
 
 numbered_main : (p : Place) (r : ℕ) (all : List RawStmt) → site_numbers_all (resolved_main p r all) ≡ numbers_from p.site (site_count (parts_all all))
 numbered_main p r [] = refl

@@ -1,5 +1,5 @@
 -- Places after the forms of statements.
-use Rattle.std.proofs.Common.{◌≡◌, ◌⊎◌, inl, inr, Result, Ok, Err, OnErr, subst, refl, sym, ap, ◌∙◌, ℕ, suc, ◌+◌, ◌≤◌, List, [], ◌∷◌, ◌++◌, length, take, drop, add-zero, arith, length-append}
+use Rattle.std.proofs.Common.{◌≡◌, inl, inr, Result, Ok, Err, OnErr, subst, refl, sym, ap, ◌∙◌, ℕ, ◌+◌, ◌≤◌, List, [], ◌∷◌, ◌++◌, length, take, arith, length-append}
 use Rattle.std.proofs.lemmas.List.{take-append-le, take_all as all_taken}
 use Rattle.dp_tree.specs.declared.SiteKind.{SiteKind}
 use Rattle.dp_tree.specs.declared.SiteKind.TheVariants as kind
@@ -94,25 +94,11 @@ pub ruleset after_forms = (after-Declare, after-Assign, after-Store, after-Call,
 
 pub after_variable : (p : Place) (s : RawStmt) → (after p s).variable ≡ p.variable + local_count (parts s)
 after_variable p (raw.Declare line name value) = refl
-after_variable p (raw.Assign name value) = refl
-after_variable p (raw.Store name index value) = refl
-after_variable p (raw.Call name args) = refl
-after_variable p (raw.Print line value) = refl
-after_variable p (raw.Break line cond) = refl
-after_variable p (raw.If' line cond _ a _ b) = refl
-after_variable p (raw.While' line marked cond _ body) = refl
-after_variable p (raw.For' line marked _ first cond _ step _ body) = refl
+after_variable p _ = refl
 
 pub after_site : (p : Place) (s : RawStmt) → (after p s).site ≡ p.site + site_count (parts s)
 after_site p (raw.Declare line name value) = refl
-after_site p (raw.Assign name value) = refl
-after_site p (raw.Store name index value) = refl
-after_site p (raw.Call name args) = refl
-after_site p (raw.Print line value) = refl
-after_site p (raw.Break line cond) = refl
-after_site p (raw.If' line cond _ a _ b) = refl
-after_site p (raw.While' line marked cond _ body) = refl
-after_site p (raw.For' line marked _ first cond _ step _ body) = refl
+after_site p _ = refl
 
 -- the first names stay
 pub record Keeps (k : ℕ) (old new : List Named) : Type 0 where
@@ -124,14 +110,7 @@ keeps_more k names more h = record { long = let e = length-append names more in 
 
 pub after_keeps : (k : ℕ) (p : Place) (s : RawStmt) → k ≤ length p.names → Keeps k p.names (after p s).names
 after_keeps k p (raw.Declare line name value) h = keeps_more k p.names _ h
-after_keeps k p (raw.Assign name value) h = record { long = h; kept = refl }
-after_keeps k p (raw.Store name index value) h = record { long = h; kept = refl }
-after_keeps k p (raw.Call name args) h = record { long = h; kept = refl }
-after_keeps k p (raw.Print line value) h = record { long = h; kept = refl }
-after_keeps k p (raw.Break line cond) h = record { long = h; kept = refl }
-after_keeps k p (raw.If' line cond _ a _ b) h = record { long = h; kept = refl }
-after_keeps k p (raw.While' line marked cond _ body) h = record { long = h; kept = refl }
-after_keeps k p (raw.For' line marked _ first cond _ step _ body) h = record { long = h; kept = refl }
+after_keeps k p _ h = record { long = h; kept = refl }
 
 pub after_all_variable : (p : Place) (all : List RawStmt) → (after_all p all).variable ≡ p.variable + local_count (parts_all all)
 after_all_variable p [] = omega arith
@@ -176,28 +155,6 @@ module _ (p : Place) where
   pub pass-Declare : (line : ℕ) (name : Name) (value : RawExpr) → passed p (parts (raw.Declare line name value)) ≡ with_variable (sited p)
   pass-Declare line name value = refl
 
-  pub pass-Assign : (name : Name) (value : RawExpr) → passed p (parts (raw.Assign name value)) ≡ sited p
-  pass-Assign name value = passed-alone p name.line kind.Assign
-
-  pub pass-Store : (name : Name) (index value : RawExpr) → passed p (parts (raw.Store name index value)) ≡ sited p
-  pass-Store name index value = passed-alone p name.line kind.Assign
-
-  pub pass-Call : (name : Name) (args : List RawExpr) → passed p (parts (raw.Call name args)) ≡ p
-  pass-Call name args = same_place refl (omega arith) (omega arith)
-
-  pub pass-Print : (line : ℕ) (value : RawExpr) → passed p (parts (raw.Print line value)) ≡ sited p
-  pass-Print line value = passed-alone p line kind.Print
-
-  pub pass-Break : (line : ℕ) (cond : RawExpr) → passed p (parts (raw.Break line cond)) ≡ sited p
-  pass-Break line cond = passed-alone p line kind.Break
-
-  pub pass-If : (line : ℕ) (cond : RawExpr) (a b : List RawStmt) → passed p (parts (raw.If line cond a b)) ≡ passed (passed (sited p) (parts_all a)) (parts_all b)
-  pass-If line cond a b = after-If p line cond a b
-
-  pub pass-While : (line : ℕ) (marked : Rattle.std.proofs.Common.Bool) (cond : RawExpr) (body : List RawStmt)
-      → passed p (parts (raw.While line marked cond body)) ≡ passed (sited p) (parts_all body)
-  pass-While line marked cond body = after-While p line marked cond body
-
   pub pass-For-first : (line : ℕ) (marked : Rattle.std.proofs.Common.Bool) (first : List RawStmt) (cond : RawExpr) (step body : List RawStmt)
       → passed p (parts (raw.For line marked first cond step body)) ≡ passed (passed p (parts_all first)) (Site line kind.While ∷ (parts_all body ++ parts_all step))
   pass-For-first line marked first cond step body =
@@ -214,7 +171,7 @@ module _ (p : Place) where
       pass-For-site line marked first cond step body
       ∙ passed-append (sited (passed p (parts_all first))) (parts_all body) (parts_all step)
 
-pub ruleset pass_forms = (pass-Declare, pass-Assign, pass-Store, pass-Call, pass-Print, pass-Break, pass-If, pass-While)
+pub ruleset pass_forms = (pass-Declare, after-Assign, after-Store, after-Call, after-Print, after-Break, after-If, after-While)
 
 pub passed_more : (p : Place) (s : RawStmt) (rest : List RawStmt) → passed p (parts_all (s ∷ rest)) ≡ passed (passed p (parts s)) (parts_all rest)
 passed_more p s rest = passed-append p (parts s) (parts_all rest)

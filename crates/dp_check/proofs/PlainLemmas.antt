@@ -1,5 +1,5 @@
 -- The regions of a checked program stand at the top of `main` alone.
-use Rattle.std.proofs.Common.{◌≡◌, refl, ap, ◌∙◌, ℕ, ◌+◌, ◌==◌, true, false, ◌&&◌, if◌then◌else◌, List, [], ◌∷◌, ◌++◌, append_assoc}
+use Rattle.std.proofs.Common.{◌≡◌, refl, ap, ◌∙◌, ℕ, ◌+◌, ◌==◌, true, ◌&&◌, if◌then◌else◌, List, [], ◌∷◌, ◌++◌, append_assoc}
 use Rattle.std.specs.List.{list_all}
 use Rattle.dp_base.specs.declared.SiteId.{SiteId}
 use Rattle.dp_tree.specs.declared.Expr.{Expr}
@@ -50,11 +50,6 @@ next-Region r site cond a = refl
 
 mutual
   plain : (p : Place) (s : RawStmt) → is_unbroken s ≡ true → list_all is_plain (resolved p s) ≡ true
-  plain p (raw.Declare line name value) w = refl
-  plain p (raw.Assign name value) w = refl
-  plain p (raw.Store name index value) w = refl
-  plain p (raw.Call name args) w = refl
-  plain p (raw.Print line value) w = refl
   plain p (raw.Break line cond) w = absurd (cc w)
   plain p (raw.If' line cond _ a _ b) w =
       let both = halves (is_unbroken_in a) (is_unbroken_in b) w in
@@ -67,6 +62,7 @@ mutual
       let k = halves (is_unbroken_in first) (is_unbroken_in body && is_unbroken_in step) w in let m = halves (is_unbroken_in body) (is_unbroken_in step) k.1 in
       all_of_both is_plain (resolved_in p first) (code.While (next_site q) (resolved_expr q.names cond) (xs ++ ys) ∷ []) (plain_in p first k.0)
       (both_true (plain-While (next_site q) (resolved_expr q.names cond) (xs ++ ys) ∙ all_of_both is_plain xs ys (plain_in (sited q) body m.0) (plain_in later step m.1)) refl)
+  plain p _ w = refl
 
   plain_in : {n : _} (p : Place) (row : Row_of-RawStmt n) → is_unbroken_in row ≡ true → list_all is_plain (resolved_in p row) ≡ true
   plain_in p end_of-RawStmt w = refl
@@ -82,26 +78,14 @@ plain_all p (s ∷ rest) w =
 
 -- a plain statement may stand in a region's body
 inner_from : (s : Stmt) → is_plain s ≡ true → is_inner s ≡ true
-inner_from (code.Assign site x e) h = refl
-inner_from (code.Store site x index e) h = refl
-inner_from (code.Print site e) h = refl
 inner_from (code.If' site cond _ a _ b) h = h
 inner_from (code.While' site cond _ a) h = h
 inner_from (code.Region' q site cond _ a) h = absurd (cc h)
-inner_from (code.Break site cond) h = refl
-inner_from (code.Call f line args) h = refl
+inner_from _ h = refl
 
 inner : (p : Place) (s : RawStmt) → may_leave s ≡ true → list_all is_inner (resolved p s) ≡ true
 inner p (raw.Break line cond) w = refl
-inner p (raw.Declare line name value) w = refl
-inner p (raw.Assign name value) w = refl
-inner p (raw.Store name index value) w = refl
-inner p (raw.Call name args) w = refl
-inner p (raw.Print line value) w = refl
-inner p (raw.If' line cond i a j b) w = all_weaker is_plain is_inner inner_from (resolved p (raw.If' line cond i a j b)) (plain p (raw.If' line cond i a j b) w)
-inner p (raw.While' line marked cond i body) w = all_weaker is_plain is_inner inner_from (resolved p (raw.While' line marked cond i body)) (plain p (raw.While' line marked cond i body) w)
-inner p (raw.For' line marked i first cond j step k body) w =
-    all_weaker is_plain is_inner inner_from (resolved p (raw.For' line marked i first cond j step k body)) (plain p (raw.For' line marked i first cond j step k body) w)
+inner p s w = all_weaker is_plain is_inner inner_from (resolved p s) (plain p s w)
 
 inner_all : (p : Place) (all : List RawStmt) → list_all may_leave all ≡ true → list_all is_inner (resolved_all p all) ≡ true
 inner_all p [] w = refl
@@ -110,24 +94,14 @@ inner_all p (s ∷ rest) w =
     all_of_both is_inner (resolved p s) (resolved_all (after p s) rest) (inner p s both.0) (inner_all (after p s) rest both.1)
 
 plain-fits : (r : ℕ) (s : Stmt) → is_plain s ≡ true → top_fits r s ≡ true
-plain-fits r (code.Assign site x e) h = h
-plain-fits r (code.Store site x index e) h = h
-plain-fits r (code.Print site e) h = h
-plain-fits r (code.If' site cond _ a _ b) h = h
-plain-fits r (code.While' site cond _ a) h = h
 plain-fits r (code.Region' q site cond _ a) h = absurd (cc)
 plain-fits r (code.Break site cond) h = absurd (cc)
-plain-fits r (code.Call f line args) h = h
+plain-fits r _ h = h
 
 plain-next : (r : ℕ) (s : Stmt) → is_plain s ≡ true → next_region r s ≡ r
-plain-next r (code.Assign site x e) h = refl
-plain-next r (code.Store site x index e) h = refl
-plain-next r (code.Print site e) h = refl
-plain-next r (code.If' site cond _ a _ b) h = refl
-plain-next r (code.While' site cond _ a) h = refl
 plain-next r (code.Region' q site cond _ a) h = absurd (cc)
 plain-next r (code.Break site cond) h = absurd (cc)
-plain-next r (code.Call f line args) h = refl
+plain-next r _ h = refl
 
 -- plain statements leave the regions' numbers as they are
 plain_before : (r : ℕ) (xs rest : List Stmt) → list_all is_plain xs ≡ true → regions_in_order r rest ≡ true → regions_in_order r (xs ++ rest) ≡ true
@@ -145,16 +119,7 @@ region_before p r cond body rest w h =
 -- what a statement at the top of `main` becomes stands in order before what is
 top_before : (p : Place) (r : ℕ) (l : RawStmt-F RawStmt) (s : RawStmt) (rest : List Stmt) → fits_at l (is_unbroken s) ≡ true
     → regions_in_order (if is_region_at l then r + 1 else r) rest ≡ true → regions_in_order r (region_at p r l (resolved p s) ++ rest) ≡ true
-top_before p r (open_form.Declare line name value) s rest w h = plain_before r (resolved p s) rest (plain p s w) h
-top_before p r (open_form.Assign name value) s rest w h = plain_before r (resolved p s) rest (plain p s w) h
-top_before p r (open_form.Store name index value) s rest w h = plain_before r (resolved p s) rest (plain p s w) h
-top_before p r (open_form.Call name args) s rest w h = plain_before r (resolved p s) rest (plain p s w) h
-top_before p r (open_form.Print line value) s rest w h = plain_before r (resolved p s) rest (plain p s w) h
-top_before p r (open_form.Break line cond) s rest w h = plain_before r (resolved p s) rest (plain p s w) h
-top_before p r (open_form.If line cond a b) s rest w h = plain_before r (resolved p s) rest (plain p s w) h
-top_before p r (open_form.While line false cond body) s rest w h = plain_before r (resolved p s) rest (plain p s w) h
 top_before p r (open_form.While line true cond body) s rest w h = region_before p r cond (resolved_all (sited p) body) rest (inner_all (sited p) body w) h
-top_before p r (open_form.For line false first cond step body) s rest w h = plain_before r (resolved p s) rest (plain p s w) h
 top_before p r (open_form.For line true first cond step body) s rest w h =
     let q = after_all p first in let later = passed (sited q) (parts_all body) in let region = stepped_region q r cond step body in
     let k = halves (list_all is_unbroken first) (list_all may_leave body && list_all is_unbroken step) w in let m = halves (list_all may_leave body) (list_all is_unbroken step) k.1 in
@@ -162,6 +127,7 @@ top_before p r (open_form.For line true first cond step body) s rest w h =
     (all_weaker is_plain is_inner inner_from (resolved_all later step) (plain_all later step m.1)) in
     ap (regions_in_order r) (append_assoc (resolved_all p first) (region ∷ []) rest)
     ∙ plain_before r (resolved_all p first) (region ∷ rest) (plain_all p first k.0) (region_before q r cond (with_step (sited q) step body) rest inside h)
+top_before p r _ s rest w h = plain_before r (resolved p s) rest (plain p s w) h
 
 pub regions_stand_in_order : (p : Place) (r : ℕ) (all : List RawStmt) → list_all breaks_fit_at_top all ≡ true → regions_in_order r (resolved_main p r all) ≡ true
 regions_stand_in_order p r [] w = refl

@@ -115,17 +115,9 @@ module _ (p : Place) (r : ℕ) (done : List Stmt) (line : ℕ) (first : List Raw
 
 -- a statement that is no region stands for itself
 region_at-plain : (p : Place) (r : ℕ) (l : RawStmt-F RawStmt) (s : List Stmt) → is_region_at l ≡ false → region_at p r l s ≡ s
-region_at-plain p r (open_form.Declare line name value) s h = refl
-region_at-plain p r (open_form.Assign name value) s h = refl
-region_at-plain p r (open_form.Store name index value) s h = refl
-region_at-plain p r (open_form.Call name args) s h = refl
-region_at-plain p r (open_form.Print line value) s h = refl
-region_at-plain p r (open_form.Break line cond) s h = refl
-region_at-plain p r (open_form.If line cond a b) s h = refl
-region_at-plain p r (open_form.While line false cond body) s h = refl
 region_at-plain p r (open_form.While line true cond body) s h = absurd (cc)
-region_at-plain p r (open_form.For line false first cond step body) s h = refl
 region_at-plain p r (open_form.For line true first cond step body) s h = absurd (cc)
+region_at-plain p r _ s h = refl
 
 pub top_answer-plain : (p : Place) (r : ℕ) (s : RawStmt) → is_region s ≡ false → top_answer p r s ≡ stmt_answer p s
 unfolding top_answer stmt_answer
@@ -170,12 +162,6 @@ pub plain_unless_loop : (s : RawStmt) → ((line : ℕ) (marked : Bool) (cond : 
 plain_unless_loop s never never_for = by (out-RawStmt s) refl
   where
     by : (l : RawStmt-F RawStmt) → out-RawStmt s ≡ l → is_region_at l ≡ false
-    by (open_form.Declare line name value) e = refl
-    by (open_form.Assign name value) e = refl
-    by (open_form.Store name index value) e = refl
-    by (open_form.Call name args) e = refl
-    by (open_form.Print line value) e = refl
-    by (open_form.If line cond a b) e = refl
-    by (open_form.Break line cond) e = refl
     by (open_form.While line marked cond body) e = absurd (never line marked cond body (sym (roll-out-RawStmt s) ∙ ap roll-RawStmt e ∙ rolls-While line marked cond body))
     by (open_form.For line marked first cond step body) e = absurd (never_for line marked first cond step body (sym (roll-out-RawStmt s) ∙ ap roll-RawStmt e ∙ rolls-For line marked first cond step body))
+    by _ e = refl

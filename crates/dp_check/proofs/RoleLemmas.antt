@@ -1,5 +1,5 @@
 -- The table of a checked program has the kind and the region of each site.
-use Rattle.std.proofs.Common.{◌≡◌, refl, sym, ap, ◌∙◌, ℕ, true, false, List, [], ◌∷◌, ◌++◌, map, append-nil, append_assoc}
+use Rattle.std.proofs.Common.{◌≡◌, refl, sym, ap, ◌∙◌, ℕ, true, List, [], ◌∷◌, ◌++◌, map, append-nil, append_assoc}
 use Rattle.std.specs.List.{flat_map}
 use Rattle.std.proofs.lemmas.List.{map-append}
 use Rattle.dp_base.specs.declared.SiteId.{SiteId}
@@ -65,12 +65,6 @@ roles_joined r a b e f = (λ i. e i ++ f i) ∙ sym (map-append role_of (sites_o
 
 mutual
   roles : (r : ℕ) (p : Place) (s : RawStmt) → site_roles_all r (resolved p s) ≡ roles_of r (parts s)
-  roles r p (raw.Declare line name value) = refl
-  roles r p (raw.Assign name value) = refl
-  roles r p (raw.Store name index value) = refl
-  roles r p (raw.Call name args) = refl
-  roles r p (raw.Print line value) = refl
-  roles r p (raw.Break line cond) = refl
   roles r p (raw.If' line cond _ a _ b) =
       let q = passed (sited p) (parts_in a) in
       append-nil (site_roles r (code.If (next_site p) (resolved_expr p.names cond) (resolved_in (sited p) a) (resolved_in q b)))
@@ -86,6 +80,7 @@ mutual
       append-nil (site_roles r loop) ∙ roles-While r (next_site q) (resolved_expr q.names cond) (xs ++ ys)
       ∙ ap (λ (ks : List (SiteKind × ℕ)). (kind.While, r) ∷ ks) (roles_both r xs ys ∙ roles_joined r (parts_in body) (parts_in step) (roles_in r (sited q) body) (roles_in r later step)) in
       roles_both r (resolved_in p first) (loop ∷ []) ∙ roles_joined r (parts_in first) (Site line kind.While ∷ (parts_in body ++ parts_in step)) (roles_in r p first) inside
+  roles r p _ = refl
 
   roles_in : {n : _} (r : ℕ) (p : Place) (row : Row_of-RawStmt n) → site_roles_all r (resolved_in p row) ≡ roles_of r (parts_in row)
   roles_in r p end_of-RawStmt = refl
@@ -110,26 +105,18 @@ roles_top p r s = by (out-RawStmt s) refl
     plain = roles 0 p s ∙ ap (map role_of) (sym (append-nil (sites_of 0 (parts s))))
 
     by : (l : RawStmt-F RawStmt) → out-RawStmt s ≡ l → site_roles_all 0 (region_at p r l (resolved p s)) ≡ map role_of (sites_of 0 (outside_at l (parts s)) ++ sites_of r (within_at l (parts s)))
-    by (open_form.Declare line name value) e = plain
-    by (open_form.Assign name value) e = plain
-    by (open_form.Store name index value) e = plain
-    by (open_form.Call name args) e = plain
-    by (open_form.Print line value) e = plain
-    by (open_form.If line cond a b) e = plain
-    by (open_form.Break line cond) e = plain
-    by (open_form.While line false cond body) e = plain
     by (open_form.While line true cond body) e =
         let is : s ≡ raw.While line true cond body = sym (roll-out-RawStmt s) ∙ ap roll-RawStmt e ∙ rolls-While line true cond body in
         append-nil (site_roles 0 (code.Region r (next_site p) (resolved_expr p.names cond) (resolved_all (sited p) body)))
         ∙ roles-Region 0 r (next_site p) (resolved_expr p.names cond) (resolved_all (sited p) body)
         ∙ ap (λ (xs : List (SiteKind × ℕ)). (kind.While, r) ∷ xs) (roles_all r (sited p) body)
         ∙ ap (roles_of r) (sym (parts-While line true cond body) ∙ ap parts (sym is))
-    by (open_form.For line false first cond step body) e = plain
     by (open_form.For line true first cond step body) e =
         let q = after_all p first in
         roles_both 0 (resolved_all p first) (stepped_region q r cond step body ∷ [])
         ∙ (λ i. roles_all 0 p first i ++ roles_stepped q r line cond step body i)
         ∙ sym (map-append role_of (sites_of 0 (parts_all first)) (sites_of r (loop_parts line step body)))
+    by _ e = plain
 
 roles_main : (p : Place) (r : ℕ) (all : List RawStmt) → site_roles_all 0 (resolved_main p r all) ≡ map role_of (main_sites r all)
 roles_main p r [] = refl

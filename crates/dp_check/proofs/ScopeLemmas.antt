@@ -88,9 +88,6 @@ or_right : (a : Bool) {b : Bool} → b ≡ true → (a || b) ≡ true
 or_right true h = refl
 or_right false h = h
 
-or_left : {a : Bool} (b : Bool) → a ≡ true → (a || b) ≡ true
-or_left b h = ap (λ c. c || b) h
-
 module _ (p : Program) (r n : ℕ) where
   -- a loop whose body ends with a step; the step doesn't see the body's names
   pub loop_scoped : (q : Place) (visible : List ℕ) (x y : List Stmt) (inside : Place) (v w : ℕ) → At p n visible q → Here p r n visible inside x → inside.variable ≤ v
@@ -109,7 +106,7 @@ module _ (p : Program) (r n : ℕ) where
         let k = lawful_first (token q.names Assigns name) (expr_tokens q.names value) lawful in
         let x = variable_of (named q.names name.text) in
         let known = assigned p n visible name.line (named q.names name.text) (found p n visible q.names name.text here.known) k.0 in
-        here_one (both_true (knows_expr p n visible q.names here.known value) (or_left (is_declared_in r (slice_get p.vars x.0)) known))
+        here_one (both_true (knows_expr p n visible q.names here.known value) (ap (λ b. b || is_declared_in r (slice_get p.vars x.0)) known))
         (subst (λ ys. At p n ys (after q (raw.Assign name value))) (ap (λ b. if b then visible else x.0 ∷ visible) (sym known)) (at_passed (parts (raw.Assign name value)) here))
     stmt_scoped q visible (raw.Store name index value) here declared lawful =
         let k = lawful_first (token q.names AssignsElement name) (expr_tokens q.names index ++ expr_tokens q.names value) lawful in

@@ -1,5 +1,5 @@
 -- Tables that grow by the parts of statements.
-use Rattle.std.proofs.Common.{◌≡◌, refl, sym, ap, ◌∙◌, ℕ, suc, ◌+◌, Bool, true, false, List, [], ◌∷◌, ◌++◌, map, length, append_assoc, append-nil, arith, length-append, pos}
+use Rattle.std.proofs.Common.{◌≡◌, refl, sym, ap, ◌∙◌, ℕ, suc, ◌+◌, Bool, true, List, [], ◌∷◌, ◌++◌, map, length, append_assoc, append-nil, arith, length-append, pos}
 use Rattle.std.specs.List.{flat_map}
 use Rattle.dp_tree.specs.declared.VarInfo.{VarInfo}
 use Rattle.dp_tree.specs.declared.VarScope.{VarScope}
@@ -11,7 +11,7 @@ use Rattle.dp_tree.specs.declared.raw.Name.{Name}
 use Rattle.dp_tree.specs.declared.raw.RawExpr.{RawExpr}
 use Rattle.dp_tree.specs.declared.raw.RawStmt.{RawStmt, out-RawStmt, roll-RawStmt, roll-out-RawStmt}
 use Rattle.dp_tree.specs.declared.raw.RawStmt.TheVariants as raw
-use Rattle.dp_tree.specs.declared.raw.RawStmt.TheVariants.{outs-While, outs-For, rolls-For}
+use Rattle.dp_tree.specs.declared.raw.RawStmt.TheVariants.{rolls-For}
 use Rattle.dp_tree.specs.declared.raw.RawStmt.TheOpen.{RawStmt-F}
 use Rattle.dp_tree.specs.declared.raw.RawStmt.TheOpen as open_form
 use Rattle.dp_check.specs.declared.variables.Variables.{Variables}
@@ -40,19 +40,11 @@ pub parts_split : (s : RawStmt) → outside s ++ within s ≡ parts s
 parts_split s = by (out-RawStmt s) refl
   where
     by : (l : RawStmt-F RawStmt) → out-RawStmt s ≡ l → outside_at l (parts s) ++ within_at l (parts s) ≡ parts s
-    by (open_form.Declare line name value) e = append-nil (parts s)
-    by (open_form.Assign name value) e = append-nil (parts s)
-    by (open_form.Store name index value) e = append-nil (parts s)
-    by (open_form.Call name args) e = append-nil (parts s)
-    by (open_form.Print line value) e = append-nil (parts s)
-    by (open_form.Break line cond) e = append-nil (parts s)
-    by (open_form.If line cond a b) e = append-nil (parts s)
-    by (open_form.While line false cond body) e = append-nil (parts s)
     by (open_form.While line true cond body) e = refl
-    by (open_form.For line false first cond step body) e = append-nil (parts s)
     by (open_form.For line true first cond step body) e =
         let is : s ≡ raw.For line true first cond step body = sym (roll-out-RawStmt s) ∙ ap roll-RawStmt e ∙ rolls-For line true first cond step body in
         sym (ap parts is ∙ parts-For line true first cond step body)
+    by _ e = append-nil (parts s)
 
 pub locals_of-append : (scope : VarScope) (a b : List Part) → locals_of scope (a ++ b) ≡ locals_of scope a ++ locals_of scope b
 locals_of-append scope [] b = refl

@@ -5,7 +5,7 @@ use Rattle.dp_tree.specs.declared.SiteKind.TheVariants as kind
 use Rattle.dp_tree.specs.declared.raw.RawExpr.{RawExpr}
 use Rattle.dp_tree.specs.declared.raw.RawStmt.{RawStmt, out-RawStmt}
 use Rattle.dp_tree.specs.declared.raw.RawStmt.TheVariants as raw
-use Rattle.dp_tree.specs.declared.raw.RawStmt.TheVariants.{outs-While, outs-For, rolls-For}
+use Rattle.dp_tree.specs.declared.raw.RawStmt.TheVariants.{outs-While, outs-For}
 use Rattle.dp_tree.specs.declared.raw.RawStmt.TheOpen.{RawStmt-F}
 use Rattle.dp_tree.specs.declared.raw.RawStmt.TheOpen as open_form
 use Rattle.dp_check.specs.Resolved.{is_region, is_region_at}
@@ -17,30 +17,14 @@ use Rattle.dp_check.specs.Growing.{with_variables, with_sites, with_top}
 use Rattle.dp_check.proofs.TableLemmas.{parts-While, locals_of-append, length-sites_of, same_sites, with_variables-append}
 
 pub region_of-plain : (first : ℕ) (l : RawStmt-F RawStmt) (done : List Part) → is_region_at l ≡ false → region_of first l done ≡ []
-region_of-plain first (open_form.Declare line name value) done h = refl
-region_of-plain first (open_form.Assign name value) done h = refl
-region_of-plain first (open_form.Store name index value) done h = refl
-region_of-plain first (open_form.Call name args) done h = refl
-region_of-plain first (open_form.Print line value) done h = refl
-region_of-plain first (open_form.Break line cond) done h = refl
-region_of-plain first (open_form.If line cond a b) done h = refl
-region_of-plain first (open_form.While line false cond body) done h = refl
 region_of-plain first (open_form.While line true cond body) done h = absurd (cc)
-region_of-plain first (open_form.For line false f cond step body) done h = refl
 region_of-plain first (open_form.For line true f cond step body) done h = absurd (cc)
+region_of-plain first _ done h = refl
 
 outside-plain : (l : RawStmt-F RawStmt) (all : List Part) → is_region_at l ≡ false → (outside_at l all ≡ all) × (within_at l all ≡ [])
-outside-plain (open_form.Declare line name value) all h = (refl, refl)
-outside-plain (open_form.Assign name value) all h = (refl, refl)
-outside-plain (open_form.Store name index value) all h = (refl, refl)
-outside-plain (open_form.Call name args) all h = (refl, refl)
-outside-plain (open_form.Print line value) all h = (refl, refl)
-outside-plain (open_form.Break line cond) all h = (refl, refl)
-outside-plain (open_form.If line cond a b) all h = (refl, refl)
-outside-plain (open_form.While line false cond body) all h = (refl, refl)
 outside-plain (open_form.While line true cond body) all h = absurd (cc)
-outside-plain (open_form.For line false f cond step body) all h = (refl, refl)
 outside-plain (open_form.For line true f cond step body) all h = absurd (cc)
+outside-plain _ all h = (refl, refl)
 
 pub top_sites-plain : (r : ℕ) (s : RawStmt) → is_region s ≡ false → top_sites r s ≡ sites_of 0 (parts s)
 top_sites-plain r s h =

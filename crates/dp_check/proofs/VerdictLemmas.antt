@@ -86,13 +86,11 @@ after_names raw = unless (too_many_functions raw) (unless (too_many_cells raw) (
 
 unless-moved : {X Y : Type 0} (f d : Option CheckFail) (x : X) (y : Y) → unless f (unless d (Ok x)) ≡ Ok x → unless f (unless d (Ok y)) ≡ Ok y
 unless-moved None None x y h = refl
-unless-moved None (Some e) x y h = absurd (cc)
-unless-moved (Some e) d x y h = absurd (cc)
+unless-moved _ _ x y h = absurd (cc)
 
 unless-refused : {X Y : Type 0} (f d : Option CheckFail) (x : X) (y : Y) (e : CheckFail) → unless f (unless d (Ok x)) ≡ Err e → unless f (unless d (Ok y)) ≡ Err e
 unless-refused None None x y e h = absurd (cc)
-unless-refused None (Some g) x y e h = ap Err (cc)
-unless-refused (Some g) d x y e h = ap Err (cc)
+unless-refused _ _ x y e h = ap Err (cc)
 
 module _ (raw : RawProgram) where
   pub verdict-offends : (e : CheckFail) → trees_answer raw ≡ Err e → verdict raw ≡ Err e

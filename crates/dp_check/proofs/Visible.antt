@@ -8,7 +8,7 @@ use Rattle.dp_tree.specs.Functions.{params_in}
 use Rattle.dp_tree.specs.Scoping.{sees}
 use Rattle.dp_check.specs.declared.fail.CheckFail.{CheckFail}
 use Rattle.dp_check.specs.declared.names.Meaning.{Meaning}
-use Rattle.dp_check.specs.declared.names.Meaning.TheVariants.{Scalar, Array, Input, InputLen, Function}
+use Rattle.dp_check.specs.declared.names.Meaning.TheVariants.{Scalar, Array, Function}
 use Rattle.dp_check.specs.declared.place.Place.{Place}
 use Rattle.dp_check.specs.Offence.{Token, Assigns, AssignsElement, Calls, offence, offence_of, or_else, first_offence}
 use Rattle.dp_check.specs.Place.{Part, local_count, passed, with_scalar}
@@ -71,28 +71,15 @@ module _ {p : Program} {n : ℕ} {visible : List ℕ} {q : Place} where
 
 module _ (p : Program) (n : ℕ) (visible : List ℕ) (line : ℕ) where
   pub assigned : (m : Option Meaning) → is_known_if p n visible m ≡ true → offence_of line Assigns m ≡ None → sees visible (variable_of m) ≡ true
-  assigned None h lawful = absurd (cc)
   assigned (Some (Scalar x)) h lawful = h
-  assigned (Some (Array x)) h lawful = absurd (cc)
-  assigned (Some Input) h lawful = absurd (cc)
-  assigned (Some InputLen) h lawful = absurd (cc)
-  assigned (Some (Function f k)) h lawful = absurd (cc)
+  assigned _ h lawful = absurd (cc)
 
   pub stored : (m : Option Meaning) → is_known_if p n visible m ≡ true → offence_of line AssignsElement m ≡ None → sees visible (variable_of m) ≡ true
-  stored None h lawful = absurd (cc)
-  stored (Some (Scalar x)) h lawful = absurd (cc)
   stored (Some (Array x)) h lawful = h
-  stored (Some Input) h lawful = absurd (cc)
-  stored (Some InputLen) h lawful = absurd (cc)
-  stored (Some (Function f k)) h lawful = absurd (cc)
+  stored _ h lawful = absurd (cc)
 
   pub called : (m : Option Meaning) (count : ℕ) → is_known_if p n visible m ≡ true → offence_of line (Calls count) m ≡ None
       → (nat_lt (function_of m) n ≡ true) × ((count == length (params_in (slice_get p.functions (function_of m)))) ≡ true)
-  called None count h lawful = absurd (cc)
-  called (Some (Scalar x)) count h lawful = absurd (cc)
-  called (Some (Array x)) count h lawful = absurd (cc)
-  called (Some Input) count h lawful = absurd (cc)
-  called (Some InputLen) count h lawful = absurd (cc)
   called (Some (Function f k)) count h lawful =
       let e = halves (nat_lt f n) (k == length (params_in (slice_get p.functions f))) h in
       (e.0, same (length (params_in (slice_get p.functions f))) e.1 (by (k == count) lawful))
@@ -103,3 +90,4 @@ module _ (p : Program) (n : ℕ) (visible : List ℕ) (line : ℕ) where
 
       same : (c : ℕ) → (k == c) ≡ true → (k == count) ≡ true → (count == c) ≡ true
       same c a b = grind (arith, nat_tests)
+  called _ count h lawful = absurd (cc)

@@ -7,15 +7,10 @@ use Rattle.dp_check.proofs.PlaceLemmas.{opened}
 
 unfoldable mutual
   pub weight : RawStmt → ℕ
-  weight (raw.Declare line name value) = 0
-  weight (raw.Assign name value) = 0
-  weight (raw.Store name index value) = 0
-  weight (raw.Call name args) = 0
-  weight (raw.Print line value) = 0
-  weight (raw.Break line cond) = 0
   weight (raw.If' line cond _ a _ b) = 3 + (weight_in a + weight_in b)
   weight (raw.While' line marked cond _ body) = 3 + weight_in body
   weight (raw.For' line marked _ first cond _ step _ body) = 5 + (weight_in first + (weight_in step + weight_in body))
+  weight _ = 0
 
   pub weight_in : {n : _} → Row_of-RawStmt n → ℕ
   weight_in end_of-RawStmt = 0

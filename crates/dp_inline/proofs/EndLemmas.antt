@@ -21,8 +21,7 @@ module _ (p : Program) (depth r : ℕ) (a : Piece) (site : SiteId) (cond : Expr)
       → else_part ≡ (after_list p depth r (emptied w2) y).code → w3 ≡ record (after_list p depth r (emptied w2) y) { code = w2.code }
       → w4 ≡ with_statement (tree.If number c then_part else_part) w3 → w4 ≡ after_one p depth r a (tree.If site cond x y)
   if_ends x y then_part else_part w1 w2 w3 w4 e1 e_then e2 e_else e3 e4 =
-      let s = with_text_site p r site a in
-      let left = after_list p depth r (emptied s) x in
+      let s = with_text_site p r site a in let left = after_list p depth r (emptied s) x in
       let right = after_list p depth r (emptied left) y in
       let f_then : then_part ≡ left.code = e_then ∙ ap (λ (w : Piece). (after_list p depth r (emptied w) x).code) e1 in
       let f2 : w2 ≡ record left { code = a.code } = e2 ∙ ap (λ (w : Piece). record (after_list p depth r (emptied w) x) { code = w.code }) e1 in
@@ -34,8 +33,7 @@ module _ (p : Program) (depth r : ℕ) (a : Piece) (site : SiteId) (cond : Expr)
       → body ≡ (after_list p depth r (emptied w1) x).code → w2 ≡ record (after_list p depth r (emptied w1) x) { code = w1.code }
       → w3 ≡ with_statement (tree.While number c body) w2 → w3 ≡ after_one p depth r a (tree.While site cond x)
   while_ends x body w1 w2 w3 e1 e_body e2 e3 =
-      let s = with_text_site p r site a in
-      let done = after_list p depth r (emptied s) x in
+      let s = with_text_site p r site a in let done = after_list p depth r (emptied s) x in
       let f_body : body ≡ done.code = e_body ∙ ap (λ (w : Piece). (after_list p depth r (emptied w) x).code) e1 in
       let f2 : w2 ≡ record done { code = a.code } = e2 ∙ ap (λ (w : Piece). record (after_list p depth r (emptied w) x) { code = w.code }) e1 in
       e3 ∙ (λ i. with_statement (tree.While (numbered i) (renamed i) (f_body i)) (f2 i)) ∙ sym (after-While p depth r a site cond x)
@@ -44,8 +42,7 @@ module _ (p : Program) (depth r : ℕ) (a : Piece) (site : SiteId) (cond : Expr)
       → body ≡ (after_list p depth r (emptied w1) x).code → w2 ≡ record (after_list p depth r (emptied w1) x) { code = w1.code }
       → w3 ≡ with_next_region line number w2 → w4 ≡ with_statement (tree.Region r number c body) w3 → w4 ≡ after_one p depth around a (tree.Region r site cond x)
   region_ends line around x body w1 w2 w3 w4 e_line e1 e_body e2 e3 e4 =
-      let s = with_text_site p r site a in
-      let done = after_list p depth r (emptied s) x in
+      let s = with_text_site p r site a in let done = after_list p depth r (emptied s) x in
       let f_body : body ≡ done.code = e_body ∙ ap (λ (w : Piece). (after_list p depth r (emptied w) x).code) e1 in
       let f2 : w2 ≡ record done { code = a.code } = e2 ∙ ap (λ (w : Piece). record (after_list p depth r (emptied w) x) { code = w.code }) e1 in
       let f3 : w3 ≡ with_next_region (line_of p site) (next_site a.tables) (record done { code = a.code }) = e3 ∙ (λ i. with_next_region (e_line i) (numbered i) (f2 i)) in

@@ -24,7 +24,7 @@ use Rattle.dp_inline.specs.declared.fail.InlineFail.{InlineFail}
 use Rattle.dp_inline.specs.declared.fail.InlineFail.TheVariants.{Limit}
 use Rattle.dp_inline.specs.Size.{size_one, size_rows, size_list, size_within, inlined_size, region_size}
 use Rattle.dp_inline.specs.Verdict.{reported, unless, too_large, first_large_region, verdict}
-use Rattle.dp_inline.proofs.SizeLemmas.{scopes}
+use Rattle.dp_inline.proofs.SizeForms.{scopes}
 use Rattle.dp_inline.proofs.SiteCount.{count_rows, count_within, sites_counted}
 
 -- a count in which a call itself counts nothing is the smaller one
@@ -55,8 +55,7 @@ fewer_within p (suc depth) f = fewer_list (size_within p 0 depth) (size_within p
 -- what is answered where a program is given
 nothing_large : (a b : Option InlineFail) (x q : Program) → unless a (unless b (Ok x)) ≡ Ok q → (a ≡ None) × (b ≡ None)
 nothing_large None None x q e = (refl, refl)
-nothing_large None (Some fail) x q e = absurd (cc)
-nothing_large (Some fail) b x q e = absurd (cc)
+nothing_large _ _ x q e = absurd (cc)
 
 -- a limit that isn't passed, and what is asked behind it
 not_passed : (b : Bool) (fail : InlineFail) (rest : Option InlineFail) → (if b then Some fail else rest) ≡ None → (b ≡ false) × (rest ≡ None)
@@ -93,13 +92,8 @@ module _ (p : Program) (checked : IsChecked p) where
       → Listed p (site_numbers s) → Listed p (site_numbers_all rest) → in_scope p 0 depth visible s ≡ true → all_in_scope p 0 depth (seen_behind visible s) rest ≡ true
       → nat_lt 1024 (region_size p s) ≡ false → first_large_region p rest ≡ None → Small t (expand_list p (calls_within p depth) 0 (s ∷ rest) names t)
   small_top (stmt.Assign site x e) rest go r visible names t h k own l scope scoped small none = small_plain (stmt.Assign site x e) rest go r (seen_behind visible (stmt.Assign site x e)) names t h k l scoped none
-  small_top (stmt.Store site x index e) rest go r visible names t h k own l scope scoped small none = small_plain (stmt.Store site x index e) rest go r visible names t h k l scoped none
-  small_top (stmt.Print site e) rest go r visible names t h k own l scope scoped small none = small_plain (stmt.Print site e) rest go r visible names t h k l scoped none
-  small_top (stmt.If' site cond c a d b) rest go r visible names t h k own l scope scoped small none = small_plain (stmt.If' site cond c a d b) rest go r visible names t h k l scoped none
-  small_top (stmt.While' site cond c a) rest go r visible names t h k own l scope scoped small none = small_plain (stmt.While' site cond c a) rest go r visible names t h k l scoped none
   small_top (stmt.Region' q site cond c a) rest go r visible names t h k own l scope scoped small none =
-      let u = with_source_site p q site t in
-      let body = expand_rows p (calls_within p depth) q a names u in
+      let u = with_source_site p q site t in let body = expand_rows p (calls_within p depth) q a names u in
       let listed = and_true (is_site p site.0) (list_all (is_site p) (site_numbers_in a)) own in
       let inner = inner_rows p (calls_within p depth) (plain_within p checked depth) q a names u (and_true (q == r) (is_inner_in a) h).1 in
       let grown : length u.sites ≡ suc (length t.sites) = grows p q site t listed.0 in
@@ -116,7 +110,7 @@ module _ (p : Program) (checked : IsChecked p) where
         ),
       )
   small_top (stmt.Break site cond) rest go r visible names t h k own l scope scoped small none = absurd (cc)
-  small_top (stmt.Call f line args) rest go r visible names t h k own l scope scoped small none = small_plain (stmt.Call f line args) rest go r visible names t h k l scoped none
+  small_top s rest go r visible names t h k own l scope scoped small none = small_plain s rest go r visible names t h k l scoped none
 
   small_list : (all : List Stmt) → KeepsSmall all
   small_list [] r visible names t h l scoped none = ([], (sym (append-nil t.regions), refl))

@@ -6,7 +6,6 @@ pub mod LoopLemmas
 pub mod EndLemmas
 pub mod GlobalLemmas
 pub mod SizeForms
-pub mod SizeLemmas
 pub mod LimitLemmas
 pub mod SiteCount
 pub mod FewSites

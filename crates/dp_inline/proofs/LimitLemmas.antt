@@ -14,7 +14,7 @@ use Rattle.dp_inline.specs.declared.fail.InlineFail.TheVariants.{Limit}
 use Rattle.dp_inline.specs.Size.{size_one, size_within, counts_if, inlined_size, region_size}
 use Rattle.dp_inline.specs.Verdict.{reported, unless, too_large, first_large_region}
 use Rattle.dp_inline.specs.Counted.{counted, counted_one, counted_list, counted_region, first_large}
-use Rattle.dp_inline.proofs.SizeLemmas.{all_sizes, scopes, sizes_agree, main_size, agree_one}
+use Rattle.dp_inline.proofs.SizeForms.{all_sizes, scopes, sizes_agree, main_size, agree_one}
 
 not_above : (a b : ℕ) → b ≤ a → nat_lt a b ≡ false
 not_above a b h = grind (arith, nat_tests)
@@ -30,15 +30,13 @@ limit_of (Some count) = Some (Limit RegionSites count)
 module _ (p : Program) (checked : IsChecked p) where
   pub is_large : (count : ℕ) → count ≡ reported (counted_list 1 (all_sizes 1 p) p.main) → 8192 < count → too_large p ≡ Some (Limit InlinedSize count)
   is_large count is above =
-      let same = main_size 1 p checked in
-      let e : count ≡ reported (inlined_size p) = is ∙ same in
+      let same = main_size 1 p checked in let e : count ≡ reported (inlined_size p) = is ∙ same in
       let over : 8192 < inlined_size p = omega (arith, e) in
       ap (λ (b : Bool). if b then Some (Limit InlinedSize (reported (inlined_size p))) else None) (lt-ltb 8192 (inlined_size p) over) ∙ ap (λ n. Some (Limit InlinedSize n)) (sym e)
 
   pub is_small : (count : ℕ) → count ≡ reported (counted_list 1 (all_sizes 1 p) p.main) → count ≤ 8192 → too_large p ≡ None
   is_small count is within =
-      let same = main_size 1 p checked in
-      let e : count ≡ reported (inlined_size p) = is ∙ same in
+      let same = main_size 1 p checked in let e : count ≡ reported (inlined_size p) = is ∙ same in
       let under : inlined_size p ≤ 8192 = omega (arith, e) in
       ap (λ (b : Bool). if b then Some (Limit InlinedSize (reported (inlined_size p))) else None) (not_above 8192 (inlined_size p) under)
 
@@ -54,8 +52,7 @@ module _ (p : Program) (checked : IsChecked p) where
   regions_alike visible [] h = refl
   regions_alike visible (s ∷ rest) h =
       let both = and_true (in_scope p 0 (length p.functions) visible s) (all_in_scope p 0 (length p.functions) (seen_behind visible s) rest) h in
-      let m = counted_region (all_sizes 0 p) s in
-      let e = region_alike visible s both.0 in
+      let m = counted_region (all_sizes 0 p) s in let e = region_alike visible s both.0 in
       let next = regions_alike (seen_behind visible s) rest both.1 in
       (λ i. if same_test (region_size p s) m (sym e) i then Some (Limit RegionSites (sym e i)) else next i) ∙ out (nat_lt 1024 m) (reported m) (first_large (all_sizes 0 p) rest)
     where

@@ -1,5 +1,5 @@
 -- What is so of the program that is made, since it is the expansion.
-use Rattle.std.proofs.Common.{◌≡◌, sym, subst, Option, Some, None, Result, Ok, Err, IfOk}
+use Rattle.std.proofs.Common.{◌≡◌, sym, subst, Option, None, Result, Ok, Err, IfOk}
 use Rattle.dp_tree.specs.declared.Program.{Program}
 use Rattle.dp_tree.specs.Checked.{IsChecked}
 use Rattle.dp_tree.specs.Inlined.{IsInlined}
@@ -17,8 +17,7 @@ expands p q h = by (too_large p) (first_large_region p p.main) h
   where
     by : (a b : Option InlineFail) → unless a (unless b (Ok (expand p))) ≡ Ok q → q ≡ expand p
     by None None e = cc
-    by None (Some fail) e = absurd (cc)
-    by (Some fail) b e = absurd (cc)
+    by _ _ e = absurd (cc)
 
 pub same : (p : Program) (result : Result Program InlineFail) → IsChecked p → Gives (verdict p) result → IfOk result (DoesTheSame p)
 same p (Ok q) checked h = subst (DoesTheSame p) (sym (expands p q h)) (same_meaning p checked)

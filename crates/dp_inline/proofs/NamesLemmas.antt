@@ -12,13 +12,10 @@ names_of-push [] n = refl
 names_of-push (m ∷ rows) n = ap (λ (xs : List Renamed). xs ++ record { source = m.source; target = m.target } ∷ []) (names_of-push rows n)
 
 -- one name more
-found_at : (rows : List Named) (n : Named) (x : ℕ) → named_in (names_of (rows ++ n ∷ [])) x ≡ (if n.source == x then Some n.target else named_in (names_of rows) x)
-found_at rows n x = ap (λ (xs : List Renamed). named_in xs x) (names_of-push rows n)
-
 -- the names before number k + 1, searched for x
 pub found_before : (rows : List Named) (k : ℕ) (d : Named) (x : ℕ) → k < length rows →
     named_in (names_of (take (k + 1) rows)) x ≡ (if (get_or rows k d).source == x then Some (get_or rows k d).target else named_in (names_of (take k rows)) x)
-found_before rows k d x below = ap (λ (l : List Named). named_in (names_of l) x) (take_more rows k d below) ∙ found_at (take k rows) (get_or rows k d) x
+found_before rows k d x below = ap (λ (l : List Named). named_in (names_of l) x) (take_more rows k d below) ∙ ap (λ (xs : List Renamed). named_in xs x) (names_of-push (take k rows) (get_or rows k d))
 
 equal : (a b : ℕ) → a ≡ b → (a == b) ≡ true
 equal a b e = grind (arith, nat_tests)

@@ -20,14 +20,12 @@ use Rattle.dp_calls.specs.Tables.{Tables, first_tables, with_local, with_site, w
 use Rattle.dp_calls.specs.Expand.{Calls, expand, bindings, declared_in, is_known, expand_one, expand_rows, expand_list, calls_within}
 use Rattle.dp_calls.proofs.SiteLaws.{is_site, Listed, listed_parts, grows, declared_sites, listed_body, all_listed}
 use Rattle.dp_inline.specs.Size.{size_one, size_rows, size_list, size_within}
-use Rattle.dp_inline.proofs.SizeLemmas.{scopes}
+use Rattle.dp_inline.proofs.SizeForms.{scopes}
 
 module _ (p : Program) where
   count_bindings : (r line : ℕ) (caller : List Renamed) (params : List VarId) (args : List Expr) (names : List Renamed) (t : Tables) → length args ≡ length params
       → length (bindings p r line caller params args names t).tables.sites ≡ length t.sites + length args
   count_bindings r line caller [] [] names t e = omega arith
-  count_bindings r line caller [] (a ∷ args) names t e = absurd (omega (arith, e))
-  count_bindings r line caller (x ∷ params) [] names t e = absurd (omega (arith, e))
   count_bindings r line caller (x ∷ params) (a ∷ args) names t e =
       let info : SiteInfo = record { line = line; kind = Assign; region = r } in
       let u = with_local p r x.0 (with_site info t) in
@@ -36,6 +34,7 @@ module _ (p : Program) where
       let rest = count_bindings r line caller params args more u fewer in
       let grown : length u.sites ≡ suc (length t.sites) = let g = length-append t.sites (info ∷ []) in omega (arith, g) in
       omega (arith, rest, grown)
+  count_bindings r line caller _ _ names t e = absurd (omega (arith, e))
 
   module _ (calls : Calls) (c : ℕ → ℕ) (called : (f r : ℕ) (names : List Renamed) (t : Tables) → length (calls f r names t).tables.sites ≡ length t.sites + c f) where
     mutual
@@ -53,8 +52,7 @@ module _ (p : Program) where
           let own = and_true (is_site p site.0) (list_all (is_site p) (site_numbers_in a ++ site_numbers_in b)) h in
           let parts = listed_parts p (site_numbers_in a) (site_numbers_in b) own.1 in
           let both = and_true (rows_in_scope p q n visible a) (rows_in_scope p q n visible b) (and_true (knows visible cond) (rows_in_scope p q n visible a && rows_in_scope p q n visible b) k).1 in
-          let left = expand_rows p calls r a names u in
-          let g = grows p r site t own.0 in
+          let left = expand_rows p calls r a names u in let g = grows p r site t own.0 in
           let l = count_rows r a names u parts.0 q n visible both.0 in
           let m = count_rows r b left.names left.tables parts.1 q n visible both.1 in
           omega (arith, g, l, m)
@@ -73,8 +71,7 @@ module _ (p : Program) where
           let rest = (and_true (nat_lt f n) (list_all (knows visible) args && (length args == length params)) k).1 in
           let same = eqb-true (length args) (length params) (and_true (list_all (knows visible) args) (length args == length params) rest).1 in
           let bound = bindings p r line names params args [] t in
-          let b = count_bindings r line names params args [] t same in
-          let e = called f r bound.names bound.tables in
+          let b = count_bindings r line names params args [] t same in let e = called f r bound.names bound.tables in
           omega (arith, b, e)
 
       pub count_rows : {m : _} (r : ℕ) (rows : Row_of-Stmt m) (names : List Renamed) (t : Tables) → Listed p (site_numbers_in rows) → (q n : ℕ) (visible : List ℕ) → rows_in_scope p q n visible rows ≡ true
@@ -83,8 +80,7 @@ module _ (p : Program) where
       count_rows r (more_of-Stmt s rest) names t h q n visible k =
           let parts = listed_parts p (site_numbers s) (site_numbers_in rest) h in
           let both = and_true (in_scope p q n visible s) (rows_in_scope p q n (seen_behind visible s) rest) k in
-          let one = expand_one p calls r s names t in
-          let e = count_one r s names t parts.0 q n visible both.0 in
+          let one = expand_one p calls r s names t in let e = count_one r s names t parts.0 q n visible both.0 in
           let f = count_rows r rest one.names one.tables parts.1 q n (seen_behind visible s) both.1 in
           omega (arith, e, f)
 
@@ -94,8 +90,7 @@ module _ (p : Program) where
     count_list r (s ∷ rest) names t h q n visible k =
         let parts = listed_parts p (site_numbers s) (site_numbers_all rest) h in
         let both = and_true (in_scope p q n visible s) (all_in_scope p q n (seen_behind visible s) rest) k in
-        let one = expand_one p calls r s names t in
-        let e = count_one r s names t parts.0 q n visible both.0 in
+        let one = expand_one p calls r s names t in let e = count_one r s names t parts.0 q n visible both.0 in
         let f = count_list r rest one.names one.tables parts.1 q n (seen_behind visible s) both.1 in
         omega (arith, e, f)
 

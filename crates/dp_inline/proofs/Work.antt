@@ -11,14 +11,11 @@ use Rattle.dp_tree.proofs.Heads.{opened_statement}
 
 unfoldable mutual
   pub work_one : (ℕ → ℕ) → Stmt → ℕ
-  work_one calls (tree.Assign site x e) = 0
-  work_one calls (tree.Store site x index e) = 0
-  work_one calls (tree.Print site e) = 0
-  work_one calls (tree.Break site cond) = 0
   work_one calls (tree.If' site cond _ a _ b) = 3 + (work_rows calls a + work_rows calls b)
   work_one calls (tree.While' site cond _ a) = 3 + work_rows calls a
   work_one calls (tree.Region' q site cond _ a) = 3 + work_rows calls a
   work_one calls (tree.Call f line args) = 2 + calls f
+  work_one calls _ = 0
 
   pub work_rows : {n : _} → (ℕ → ℕ) → Row_of-Stmt n → ℕ
   work_rows calls end_of-Stmt = 0

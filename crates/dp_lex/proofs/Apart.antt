@@ -43,37 +43,9 @@ digit_is_word b h = grind (arith, nat_tests)
 pub letter_is_word : (b : ℕ) → is_letter b ≡ true → is_word b ≡ true
 letter_is_word b h = rw h
 
--- of each reserved word: its first byte, and all of them
+-- of each reserved word: its first byte
 reserved_first : list_all (λ w. is_letter (slice_index w 0)) reserved_words ≡ true
 reserved_first = refl
-
-reserved_all : list_all (list_all is_word) reserved_words ≡ true
-reserved_all = refl
-
-reserved_some : list_all (λ w. nat_lt 0 (length w)) reserved_words ≡ true
-reserved_some = refl
-
--- of each sign: its first byte, its length, and all of its bytes
-sign_first : list_all (λ w. not (is_letter (slice_index w 0))) signs ≡ true
-sign_first = refl
-
-sign_no_digit : list_all (λ w. not (is_ascii_digit (slice_index w 0))) signs ≡ true
-sign_no_digit = refl
-
-sign_no_mark : list_all (λ w. not (slice_index w 0 == 35)) signs ≡ true
-sign_no_mark = refl
-
-sign_no_white : list_all (λ w. not (is_white (slice_index w 0))) signs ≡ true
-sign_no_white = refl
-
-sign_no_line_end : list_all (list_all (λ b. not (is_line_end b))) signs ≡ true
-sign_no_line_end = refl
-
-sign_length : list_all (λ w. length w == 1 || length w == 2) signs ≡ true
-sign_length = refl
-
-sign_some : list_all (λ w. nat_lt 0 (length w)) signs ≡ true
-sign_some = refl
 
 pub mark_first : (w : Text) → IsMark w → slice_index w 0 ≡ 35
 mark_first w m = ap (λ (x : Text). slice_index x 0) m.spelled
@@ -92,9 +64,9 @@ spelled_kind Number w s =
     rw (digit_no_letter (slice_index w 0) digit, digit)
 spelled_kind Mark w s = rw (mark_first w s)
 spelled_kind Sign w s =
-    let letter = not-true _ (table_has (λ v. not (is_letter (slice_index v 0))) signs w sign_first s) in
-    let digit = not-true _ (table_has (λ v. not (is_ascii_digit (slice_index v 0))) signs w sign_no_digit s) in
-    let mark = not-true _ (table_has (λ v. not (slice_index v 0 == 35)) signs w sign_no_mark s) in
+    let letter = not-true _ (table_has (λ v. not (is_letter (slice_index v 0))) signs w refl s) in
+    let digit = not-true _ (table_has (λ v. not (is_ascii_digit (slice_index v 0))) signs w refl s) in
+    let mark = not-true _ (table_has (λ v. not (slice_index v 0 == 35)) signs w refl s) in
     rw (letter, digit, mark)
 
 -- one spelling, one kind
@@ -107,19 +79,19 @@ spelled_no_white Name w s = letter_no_white (slice_index w 0) s.first
 spelled_no_white Reserved w s = letter_no_white (slice_index w 0) (table_has (λ v. is_letter (slice_index v 0)) reserved_words w reserved_first s)
 spelled_no_white Number w s = digit_no_white (slice_index w 0) (s.digits 0 0 s.some)
 spelled_no_white Mark w s = rw (mark_first w s)
-spelled_no_white Sign w s = not-true _ (table_has (λ v. not (is_white (slice_index v 0))) signs w sign_no_white s)
+spelled_no_white Sign w s = not-true _ (table_has (λ v. not (is_white (slice_index v 0))) signs w refl s)
 
 -- a token has a byte
 pub spelled_some : (kind : TokenKind) (w : Text) → IsSpelled kind w → 0 < length w
 spelled_some Name [] s = absurd (cc s.first)
 spelled_some Name (b ∷ w) s = omega arith
-spelled_some Reserved w s = ltb-true 0 (length w) (table_has (λ v. nat_lt 0 (length v)) reserved_words w reserved_some s)
+spelled_some Reserved w s = ltb-true 0 (length w) (table_has (λ v. nat_lt 0 (length v)) reserved_words w refl s)
 spelled_some Number w s = s.some
 spelled_some Mark w s = rw s.spelled (omega arith)
-spelled_some Sign w s = ltb-true 0 (length w) (table_has (λ v. nat_lt 0 (length v)) signs w sign_some s)
+spelled_some Sign w s = ltb-true 0 (length w) (table_has (λ v. nat_lt 0 (length v)) signs w refl s)
 
 pub reserved_is_word : (w : Text) → Contains reserved_words w → All (λ b. is_word b ≡ true) w
-reserved_is_word w s = AllPass-from_list_all is_word w (table_has (list_all is_word) reserved_words w reserved_all s)
+reserved_is_word w s = AllPass-from_list_all is_word w (table_has (list_all is_word) reserved_words w refl s)
 
 no_line_end : (w : Text) → All (λ b. is_line_end b ≡ false) w → line_ends w ≡ 0
 no_line_end [] all = refl
@@ -137,8 +109,8 @@ spelled_one_line Mark w s =
     let f : ℕ → ℕ = λ x. cond (is_line_end x) 1 0 in
     rw s.spelled (omega (arith, gap, sum_by-append f (codes "#pragma") (s.gap ++ codes "dswp"), sum_by-append f s.gap (codes "dswp")))
 spelled_one_line Sign w s =
-    let all = AllPass-from_list_all (λ b. not (is_line_end b)) w (table_has (list_all (λ b. not (is_line_end b))) signs w sign_no_line_end s) in
+    let all = AllPass-from_list_all (λ b. not (is_line_end b)) w (table_has (list_all (λ b. not (is_line_end b))) signs w refl s) in
     no_line_end w (λ k d h. not-true _ (all k d h))
 
 pub sign_short : (w : Text) → Contains signs w → (length w == 1 || length w == 2) ≡ true
-sign_short w s = table_has (λ v. length v == 1 || length v == 2) signs w sign_length s
+sign_short w s = table_has (λ v. length v == 1 || length v == 2) signs w refl s

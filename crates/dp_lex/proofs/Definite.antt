@@ -53,8 +53,7 @@ pub reads_once : {text : Text} {start end other : ℕ} {ts us : List Lexeme} →
 reads_once stays also last done = let same = after_last also last in (sym same.0, sym same.1)
 reads_once (skips c s reads) also last done = reads_once reads (after_skip c s done also) last done
 reads_once {text} {start} (takes kind w b reads) also last done =
-    let more = after_take kind w b done also in
-    let rest = reads_once reads more.2 last done in
+    let more = after_take kind w b done also in let rest = reads_once reads more.2 last done in
     (ap (λ (ts : List Lexeme). record { kind = kind; text = w; line = line_at text start } ∷ ts) rest.0 ∙ sym more.1, rest.1)
 
 -- ---- every text is read up to its end or to a place where it is stuck
@@ -72,9 +71,6 @@ ends_after_skip text c start s e = record { tokens = e.tokens; end = e.end; read
 ends_after_take : (text w : Text) (start : ℕ) (kind : TokenKind) → Begins (drop start text) kind w → Ends text (start + length w) → Ends text start
 ends_after_take text w start kind b e =
     record { tokens = record { kind = kind; text = w; line = line_at text start } ∷ e.tokens; end = e.end; reads = takes kind w b e.reads; stop = e.stop }
-
-ends_stuck : (text : Text) (start : ℕ) → IsStuck (drop start text) → Ends text start
-ends_stuck text start stuck = record { tokens = []; end = start; reads = stays; stop = inr stuck }
 
 found_cases : (found : Found) → ((kind : TokenKind) × (n : ℕ) × (found ≡ Some (kind, n))) ⊎ (found ≡ None)
 found_cases (Some f) = inl (f.0, f.1, refl)
@@ -95,25 +91,22 @@ next_piece z some =
 pub ends_from : (fuel : ℕ) (text : Text) (start : ℕ) → start ≤ length text → length text - start ≤ fuel → Ends text start
 ends_from zero text start within few = record { tokens = []; end = start; reads = stays; stop = inl (omega arith) }
 ends_from (suc fuel) text start within few =
-    let z = drop start text in
-    let left = length-drop start text in
+    let z = drop start text in let left = length-drop start text in
     elim (cases_eq start (length text)) [
       | inl e ↦ record { tokens = []; end = start; reads = stays; stop = inl e }
       | inr other ↦
           elim (next_piece z (omega (arith, left, within, other))) [
             | inl p ↦
-                let c = p.0 in
-                let some = (skips_len z c p.1).1 in
+                let c = p.0 in let some = (skips_len z c p.1).1 in
                 let fits : length c ≤ length z = omega (arith, ap length p.1.splits, length-append c p.1.rest) in
                 ends_after_skip text c start p.1 (ends_from fuel text (start + length c) (omega (arith, fits, left, within)) (omega (arith, some, few)))
             | inr p ↦
                 elim p [
                   | inl t ↦
-                      let w = t.1 in
-                      let some = begins_some z t.0 w t.2 in
+                      let w = t.1 in let some = begins_some z t.0 w t.2 in
                       let fits : length w ≤ length z = omega (arith, ap length t.2.stands.splits, length-append w t.2.stands.rest) in
                       ends_after_take text w start t.0 t.2 (ends_from fuel text (start + length w) (omega (arith, fits, left, within)) (omega (arith, some, few)))
-                  | inr stuck ↦ ends_stuck text start stuck
+                  | inr stuck ↦ record { tokens = []; end = start; reads = stays; stop = inr stuck }
                 ]
           ]
     ]

@@ -9,10 +9,8 @@ use Rattle.dp_lex.specs.Scan.{opens_comment, word, number, mark, sign, front}
 use Rattle.dp_lex.proofs.Apart.{kinds_same, spelled_no_white, spelled_some}
 use Rattle.dp_lex.proofs.Pieces.{opens_from_test, test_from_opens}
 use Rattle.dp_lex.proofs.Standing.{IsFound, first_same}
-use Rattle.dp_lex.proofs.Words.{word_found}
+use Rattle.dp_lex.proofs.Spelled.{word_found, mark_found, sign_found}
 use Rattle.dp_lex.proofs.Numerals.{number_found}
-use Rattle.dp_lex.proofs.Marks.{mark_found}
-use Rattle.dp_lex.proofs.Signs.{sign_found}
 
 front_found : (z : Text) → opens_comment z ≡ false → IsFound z (front z)
 unfolding front

@@ -1,15 +1,11 @@
 pub mod Runs
-pub mod Closing
 pub mod Membership
-pub mod Numbers
 pub mod Apart
 pub mod Skipping
 pub mod Pieces
 pub mod Standing
-pub mod Words
 pub mod Numerals
-pub mod Marks
-pub mod Signs
+pub mod Spelled
 pub mod Fronts
 pub mod Reading
 pub mod Definite

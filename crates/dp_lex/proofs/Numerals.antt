@@ -1,11 +1,11 @@
--- The number at the front of a text is the longest token there.
-use Rattle.std.proofs.Common.{◌≡◌, ℕ, ◌≤◌, true, false, not, ◌&&◌, ◌==◌, inl, inr, ◌++◌, length, take, drop, slice_index, Some, None, refl, sym, length-take-le, take_at, take-append-drop, get_or-drop, get_or-append-add, add-zero, arith}
-use Rattle.std.specs.Char.{is_ascii_digit}
+-- The value of a number's digits; and the number at the front of a text is the longest token there.
+use Rattle.std.proofs.Common.{◌≡◌, ℕ, ◌≤◌, true, false, not, ◌&&◌, ◌==◌, inl, inr, ◌++◌, length, take, drop, slice_index, Some, None, refl, sym, length-take-le, take_at, take-append-drop, get_or-drop, get_or-append-add, add-zero, arith, ◌+◌, ◌-◌, ◌*◌, ◌/◌, ◌<◌, [], ◌∷◌, get_or}
+use Rattle.std.specs.Char.{is_ascii_digit, digit_value}
 use Rattle.std.specs.List.{prefix_len}
 use Rattle.std.proofs.lemmas.Bool.{cases_Bool, and_parts, and_from, or_cases, or_left, or_right, eqb-true, eq-eqb, leb-true, le-leb, not-true, not_from_false, both_ways, false_from_ne_true, cond_both}
 use Rattle.std.proofs.lemmas.List.Sums.{prefix_len-le-length}
 use Rattle.dp_lex.specs.declared.TokenKind.{TokenKind}
-use Rattle.dp_lex.specs.declared.TokenKind.TheVariants.{Name, Reserved, Number, Mark, Sign}
+use Rattle.dp_lex.specs.declared.TokenKind.TheVariants.{Number}
 use Rattle.dp_lex.specs.Characters.{Text, is_word}
 use Rattle.dp_lex.specs.Spelling.{IsNumber}
 use Rattle.dp_lex.specs.Front.{CanStand}
@@ -13,12 +13,12 @@ use Rattle.dp_lex.specs.Scan.{fits, is_plain, number}
 use Rattle.dp_lex.proofs.Runs.{run_passes, run_exact, run_none, run_some}
 use Rattle.dp_lex.proofs.Apart.{digit_no_letter, digit_is_word}
 use Rattle.dp_lex.proofs.Standing.{IsFound, first_kind}
+use Rattle.std.specs.Str.Parse.{digits_value, digits_value_after}
+use Rattle.std.proofs.lemmas.List.{drop_more}
+use Rattle.std.proofs.lemmas.Bool.Decides.{nat_tests}
 
 number_kind : (kind : TokenKind) (w z : Text) → CanStand kind w z → is_ascii_digit (slice_index z 0) ≡ true → kind ≡ Number
 number_kind kind w z s digit = rw (digit_no_letter (slice_index z 0) digit, digit) at (first_kind kind w z s)
-
-no_word_no_digit : (b : ℕ) → is_word b ≡ false → is_ascii_digit b ≡ false
-no_word_no_digit b h = false_from_ne_true _ (λ t. both_ways _ h (digit_is_word b t))
 
 plain_from_leading : (w : Text) → (slice_index w 0 ≡ 48 → length w ≡ 1) → is_plain w ≡ true
 plain_from_leading w h =
@@ -45,7 +45,7 @@ unfolding fits
 number_run w rest s alone =
     let next : slice_index (w ++ rest) (length w) ≡ slice_index rest 0 = rw (add-zero (length w)) at (get_or-append-add w rest 0 0) in
     record {
-      long = run_exact is_ascii_digit w rest s.digits (run_none is_ascii_digit rest (no_word_no_digit (slice_index rest 0) alone));
+      long = run_exact is_ascii_digit w rest s.digits (run_none is_ascii_digit rest (false_from_ne_true _ (λ t. both_ways _ alone (digit_is_word (slice_index rest 0) t))));
       front = take_at w rest (length w) refl;
       test = rw next (and_from _ _ (and_from _ _ (plain_from_leading w s.leading) (le-leb _ 9223372036854775807 s.value)) (not_from_false _ alone));
     }
@@ -54,27 +54,19 @@ number_refused : (z : Text) → is_ascii_digit (slice_index z 0) ≡ true → (i
 number_refused z digit test Number w s =
     let r : IsRun w z = rw s.splits (number_run w s.rest s.spelled s.alone) in
     both_ways _ test (rw (r.long, r.front) r.test)
-number_refused z digit test Name w s = absurd (cc (number_kind Name w z s digit))
-number_refused z digit test Reserved w s = absurd (cc (number_kind Reserved w z s digit))
-number_refused z digit test Mark w s = absurd (cc (number_kind Mark w z s digit))
-number_refused z digit test Sign w s = absurd (cc (number_kind Sign w z s digit))
+number_refused z digit test kind w s = absurd (cc (number_kind kind w z s digit))
 
 number_bound : (kind : TokenKind) (w z : Text) → is_ascii_digit (slice_index z 0) ≡ true → CanStand kind w z → length w ≤ prefix_len is_ascii_digit z
 number_bound Number w z digit s =
     let r : IsRun w z = rw s.splits (number_run w s.rest s.spelled s.alone) in
     omega (arith, r.long)
-number_bound Name w z digit s = absurd (cc (number_kind Name w z s digit))
-number_bound Reserved w z digit s = absurd (cc (number_kind Reserved w z s digit))
-number_bound Mark w z digit s = absurd (cc (number_kind Mark w z s digit))
-number_bound Sign w z digit s = absurd (cc (number_kind Sign w z s digit))
+number_bound kind w z digit s = absurd (cc (number_kind kind w z s digit))
 
 number_stands : (z : Text) → is_ascii_digit (slice_index z 0) ≡ true → (is_plain (take (prefix_len is_ascii_digit z) z) && fits (take (prefix_len is_ascii_digit z) z) && not (is_word (slice_index z (prefix_len is_ascii_digit z)))) ≡ true → CanStand Number (take (prefix_len is_ascii_digit z) z) z
 unfolding fits
 number_stands z digit test =
-    let n = prefix_len is_ascii_digit z in
-    let some : 1 ≤ n = run_some is_ascii_digit z refl digit in
-    let within = prefix_len-le-length is_ascii_digit z in
-    let parts = and_parts _ _ test in
+    let n = prefix_len is_ascii_digit z in let some : 1 ≤ n = run_some is_ascii_digit z refl digit in
+    let within = prefix_len-le-length is_ascii_digit z in let parts = and_parts _ _ test in
     let plain_fits = and_parts _ _ parts.0 in
     record {
       rest = drop n z;
@@ -95,3 +87,19 @@ number_found z digit =
     cond_both (is_plain (take n z) && fits (take n z) && not (is_word (slice_index z n))) (Some (Number, n)) None (IsFound z)
     (λ test. (number_stands z digit test, λ kind w s. number_bound kind w z digit s, prefix_len-le-length is_ascii_digit z))
     (λ test. number_refused z digit test)
+
+-- more digits make no smaller number
+value_grows : (n : ℕ) (w : Text) → n ≤ digits_value_after 10 n w
+value_grows n [] = omega arith
+value_grows n (b ∷ w) = omega (arith, value_grows (n * 10 + digit_value b) w)
+
+digit_value_is : (b : ℕ) → is_ascii_digit b ≡ true → digit_value b ≡ b - 48
+digit_value_is b h = grind (arith, nat_tests)
+
+-- the digits so far and one more make the number too large
+pub too_large : (w : Text) (i n : ℕ) → i < length w → is_ascii_digit (get_or w i 0) ≡ true → digits_value_after 10 n (drop i w) ≡ digits_value 10 w → (9223372036854775807 - (get_or w i 0 - 48)) / 10 < n → 9223372036854775807 < digits_value 10 w
+too_large w i n h digit so_far large =
+    let b = get_or w i 0 in let value : digit_value b ≡ b - 48 = digit_value_is b digit in
+    let next : digits_value_after 10 n (drop i w) ≡ digits_value_after 10 (n * 10 + digit_value b) (drop (i + 1) w) = rw (drop_more w i 0 h) in
+    let grows = value_grows (n * 10 + digit_value b) (drop (i + 1) w) in
+    omega (arith, so_far, next, grows, value, large)

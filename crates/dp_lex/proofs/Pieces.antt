@@ -1,5 +1,5 @@
 -- What the scan skips at the front of a text is white space or a comment.
-use Rattle.std.proofs.Common.{◌≡◌, ℕ, suc, ◌+◌, ◌<◌, true, false, not, ◌||◌, ◌⊎◌, ◌==◌, if◌then◌else◌, inl, inr, [], ◌∷◌, ◌++◌, length, take, drop, slice_index, codes, Option, Some, None, refl, sym, ◌∙◌, ap, append_assoc, length-append, take_at, take-append-drop, get_or-drop, add-zero, arith}
+use Rattle.std.proofs.Common.{◌≡◌, ℕ, suc, ◌+◌, ◌<◌, true, not, ◌||◌, ◌⊎◌, ◌==◌, if◌then◌else◌, inl, inr, [], ◌∷◌, ◌++◌, length, take, drop, slice_index, codes, Option, Some, None, refl, sym, ◌∙◌, ap, append_assoc, length-append, take_at, take-append-drop, get_or-drop, add-zero, arith}
 use Rattle.std.specs.List.{prefix_len}
 use Rattle.std.proofs.lemmas.Bool.{cases_lt, and_parts, and_from, eqb-true, eq-eqb, not-true, not-false, cond_both, or_cases, or_left, or_right, eqb-false}
 use Rattle.std.proofs.lemmas.List.{drop_all}
@@ -27,8 +27,7 @@ line_ends_there z =
 
 line_skips_at : (z : Text) → Skips (47 ∷ 47 ∷ z) (take (prefix_len (is_in class.Comment) (47 ∷ 47 ∷ z)) (47 ∷ 47 ∷ z))
 line_skips_at z =
-    let n = prefix_len (is_in class.Comment) z in
-    let long : 1 + (1 + n) ≡ suc (suc n) = omega arith in
+    let n = prefix_len (is_in class.Comment) z in let long : 1 + (1 + n) ≡ suc (suc n) = omega arith in
     let inside = run_passes (is_in class.Comment) z n refl in
     rw long (record {
       rest = drop n z;
@@ -79,15 +78,11 @@ unfolding opens_comment
 test_from_opens z o =
     and_from _ _ (eq-eqb _ 47 o.0) (elim o.1 [ inl h ↦ or_left _ _ (eq-eqb _ 47 h) | inr h ↦ or_right _ _ (eq-eqb _ 42 h) ])
 
-second_star : (z : Text) → OpensComment z → (slice_index z 1 == 47) ≡ false → slice_index z 1 ≡ 42
-second_star z o h = elim o.1 [ inl e ↦ absurd (eqb-false _ 47 h e) | inr e ↦ e ]
-
 -- where the scan skips something, that is a piece
 pub skipped_skips : (z : Text) → 0 < skipped z → Skips z (take (skipped z) z)
 unfolding skipped
 skipped_skips z =
-    let P : ℕ → Type 0 = λ n. 0 < n → Skips z (take n z) in
-    let line_len = prefix_len (is_in class.Comment) z in
+    let P : ℕ → Type 0 = λ n. 0 < n → Skips z (take n z) in let line_len = prefix_len (is_in class.Comment) z in
     let closed_len = block_len (closing (drop 2 z)) in
     cond_both (is_white (slice_index z 0)) 1 (if not (opens_comment z) then 0 else (if slice_index z 1 == 47 then line_len else closed_len)) P
     (λ white more. blank_skips z white)
@@ -96,4 +91,4 @@ skipped_skips z =
     (λ opens. let o = opens_from_test z (not-false (opens_comment z) opens) in
     cond_both (slice_index z 1 == 47) line_len closed_len P
     (λ line more. line_skips z o.0 (eqb-true _ 47 line))
-    (λ star more. block_skips z o.0 (second_star z o star) more)))
+    (λ star more. block_skips z o.0 (elim o.1 [ inl e ↦ absurd (eqb-false _ 47 star e) | inr e ↦ e ]) more)))

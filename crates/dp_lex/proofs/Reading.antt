@@ -21,16 +21,14 @@ reads-append (takes kind w b reads) more = takes kind w b (reads-append reads mo
 -- one more piece is skipped
 pub reads_skip : (text : Text) (start mid : ℕ) → Reads text start [] mid → 0 < skipped (drop mid text) → Reads text start [] (mid + skipped (drop mid text))
 reads_skip text start mid reads more =
-    let z = drop mid text in
-    let piece = skipped_skips z more in
+    let z = drop mid text in let piece = skipped_skips z more in
     let long : length (take (skipped z) z) ≡ skipped z = sym (skips_len z (take (skipped z) z) piece).0 in
     rw (← long) (reads-append reads (skips (take (skipped z) z) piece stays))
 
 -- one more token is taken
 pub reads_take : (text : Text) (start mid : ℕ) (kind : TokenKind) (n : ℕ) → Reads text start [] mid → front (drop mid text) ≡ Some (kind, n) → Reads text start (record { kind = kind; text = take n (drop mid text); line = line_at text mid } ∷ []) (mid + n)
 reads_take text start mid kind n reads found =
-    let z = drop mid text in
-    let token = front_begins z kind n found in
+    let z = drop mid text in let token = front_begins z kind n found in
     let long : length (take n z) ≡ n = length-take-le n z token.1 in
     reads-append reads (takes kind (take n z) token.0 (rw long stays))
 
@@ -54,8 +52,7 @@ inside_skip text place line n i within = record {
 
 pub inside_take : (text : Text) (place line : ℕ) (kind : TokenKind) (n : ℕ) → IsInText text place line → front (drop place text) ≡ Some (kind, n) → IsInText text (place + n) line
 inside_take text place line kind n i found =
-    let z = drop place text in
-    let token = front_begins z kind n found in
+    let z = drop place text in let token = front_begins z kind n found in
     let one_line : line_ends (take n z) ≡ 0 = spelled_one_line kind (take n z) token.0.stands.spelled in
     record {
       short = i.short;

@@ -8,8 +8,7 @@ use Rattle.dp_lex.specs.Characters.{Text}
 -- each byte of the run passes
 pub run_passes : (p : ℕ → Bool) (z : Text) (n : ℕ) → n ≡ prefix_len p z → All (λ b. p b ≡ true) (take n z)
 run_passes p z n e k d h =
-    let within = prefix_len-le-length p z in
-    let bound : n ≤ length z = omega (arith, within, e) in
+    let within = prefix_len-le-length p z in let bound : n ≤ length z = omega (arith, within, e) in
     let shorter : k < n = omega (arith, length-take-le n z bound, h) in
     let before : k < prefix_len p z = omega (arith, e, shorter) in
     rw (get_or-take n z k d shorter) (prefix_len_passes p z k d before)

@@ -1,5 +1,5 @@
--- What is skipped at the front of a text is one piece, and its length is what the scan says.
-use Rattle.std.proofs.Common.{◌≡◌, ℕ, ◌+◌, ◌<◌, true, false, ◌&&◌, ◌≢◌, ◌⊎◌, ◌==◌, inl, inr, [], ◌∷◌, ◌++◌, length, take, slice_index, codes, Option, Some, None, All, refl, sym, ◌∙◌, ap, append_assoc, length-append, take_at, arith}
+-- What is skipped at the front of a text is one piece, and its length is what the scan says; where `*/` stands first.
+use Rattle.std.proofs.Common.{◌≡◌, ℕ, ◌+◌, ◌<◌, true, false, ◌&&◌, ◌≢◌, ◌⊎◌, ◌==◌, inl, inr, [], ◌∷◌, ◌++◌, length, take, slice_index, codes, Option, Some, None, All, refl, sym, ◌∙◌, ap, append_assoc, length-append, take_at, arith, ◌≤◌, drop, get_or-drop, add-zero}
 use Rattle.std.specs.List.{prefix_len}
 use Rattle.std.proofs.lemmas.Bool.{cases_Bool, and_parts, and_from, and_right, eqb-true, eq-eqb, not_from_false, both_ways, false_from_ne_true}
 use Rattle.dp_lex.specs.declared.front.Class.TheVariants as class
@@ -7,6 +7,7 @@ use Rattle.dp_lex.specs.Characters.{Text, is_white, is_line_end}
 use Rattle.dp_lex.specs.Scan.{closes, closing, closing_or, opens_comment, skipped, is_in}
 use Rattle.dp_lex.specs.Front.{IsSkipped, Skips}
 use Rattle.dp_lex.proofs.Runs.{run_exact, run_none}
+use Rattle.std.proofs.lemmas.List.{drop_more, drop_all}
 
 -- no `*/` stands in the body
 abbrev pub IsClear : Text → Type 0
@@ -20,16 +21,14 @@ clear_here : (b : ℕ) (body rest : Text) → IsClear (b ∷ body) → closes (b
 clear_here b [] rest clear = and_right (b == 42) false refl
 clear_here b (c ∷ body) rest clear =
     false_from_ne_true (b == 42 && c == 47) (λ t.
-    let parts = and_parts (b == 42) (c == 47) t in
-    let star : b ≡ 42 = eqb-true b 42 parts.0 in
+    let parts = and_parts (b == 42) (c == 47) t in let star : b ≡ 42 = eqb-true b 42 parts.0 in
     let slash : c ≡ 47 = eqb-true c 47 parts.1 in
     clear [] body (rw (star, slash) refl))
 
 -- and a body is clear where its first byte doesn't begin `*/` and its rest is clear
 clear_more : (b : ℕ) (body rest : Text) → closes (b ∷ (body ++ (codes "*/" ++ rest))) 0 ≡ false → IsClear body → IsClear (b ∷ body)
 clear_more b body rest test clear [] back e =
-    let star : b ≡ 42 = cc in
-    let tail : body ≡ 47 ∷ back = cc in
+    let star : b ≡ 42 = cc in let tail : body ≡ 47 ∷ back = cc in
     let slash : slice_index (body ++ (codes "*/" ++ rest)) 0 ≡ 47 = rw tail refl in
     both_ways _ test (and_from _ _ (eq-eqb b 42 star) (eq-eqb _ 47 slash))
 clear_more b body rest test clear (f ∷ front) back e = clear front back (cc)
@@ -57,8 +56,7 @@ pub record Splits (z : Text) (n : ℕ) : Type 0 where
 splits_here : (b : ℕ) (z : Text) → closes (b ∷ z) 0 ≡ true → Splits (b ∷ z) 2
 splits_here b [] test = absurd (cc (and_parts (b == 42) false test).1)
 splits_here b (c ∷ z) test =
-    let parts = and_parts (b == 42) (c == 47) test in
-    let star : b ≡ 42 = eqb-true b 42 parts.0 in
+    let parts = and_parts (b == 42) (c == 47) test in let star : b ≡ 42 = eqb-true b 42 parts.0 in
     let slash : c ≡ 47 = eqb-true c 47 parts.1 in
     record { body = []; rest = z; splits = rw (star, slash) refl; long = refl; clear = clear_nil }
 
@@ -126,3 +124,33 @@ skips_once z c d s t =
     let left : take (length c) z ≡ c = rw s.splits (take_at c s.rest (length c) refl) in
     let right : take (length c) z ≡ d = rw t.splits (take_at d t.rest (length c) (sym long)) in
     sym left ∙ right
+
+-- n more bytes before what was found
+pub shifted : ℕ → Option ℕ → Option ℕ
+shifted n None = None
+shifted n (Some m) = Some (n + m)
+
+pub shifted_none : (found : Option ℕ) → shifted 0 found ≡ found
+unfolding shifted
+shifted_none None = refl
+shifted_none (Some m) = ap (λ (n : ℕ). Some n) (omega arith)
+
+shifted_more : (n : ℕ) (found : Option ℕ) → shifted n (closing_or false found) ≡ shifted (n + 1) found
+unfolding shifted
+shifted_more n None = refl
+shifted_more n (Some m) = ap (λ (k : ℕ). Some k) (omega arith)
+
+closing_at : (z : Text) (at : ℕ) → at < length z → closing (drop at z) ≡ closing_or (closes z at) (closing (drop (at + 1) z))
+unfolding closing
+closing_at z at h = rw (drop_more z at 0 h, get_or-drop (at + 1) z 0 0, add-zero (at + 1)) refl
+
+pub closing_goes : (z : Text) (at : ℕ) → at < length z → closes z at ≡ false → shifted at (closing (drop at z)) ≡ shifted (at + 1) (closing (drop (at + 1) z))
+closing_goes z at h test = rw (closing_at z at h, test) (shifted_more at (closing (drop (at + 1) z)))
+
+pub closing_stops : (z : Text) (at : ℕ) → at < length z → closes z at ≡ true → shifted at (closing (drop at z)) ≡ Some (at + 2)
+unfolding shifted
+closing_stops z at h test = rw (closing_at z at h, test) refl
+
+pub closing_ends : (z : Text) (at : ℕ) → length z ≤ at → shifted at (closing (drop at z)) ≡ None
+unfolding shifted closing
+closing_ends z at h = rw (drop_all at z h) refl

@@ -1,26 +1,21 @@
 -- A step of the descent gets at least to the end of what begins its part, whether it answers or is stuck.
-use Rattle.std.proofs.Common.{◌≡◌, refl, ap, ℕ, zero, suc, ◌≤◌, Bool, true, false, List, [], ◌∷◌, ◌++◌, length, Ok, Err, ℤ, arith}
+use Rattle.std.proofs.Common.{◌≡◌, refl, ap, ℕ, zero, suc, ◌≤◌, Bool, true, false, List, [], ◌∷◌, ◌++◌, length, Ok, Err, arith}
 use Rattle.dp_lex.specs.Token.{Lexeme}
 use Rattle.dp_tree.specs.declared.raw.Name.{Name as TreeName}
 use Rattle.dp_tokens.specs.declared.symbol.Symbol.{Symbol}
 use Rattle.dp_tokens.specs.declared.symbol.Symbol.TheVariants.{Name, Comma}
-use Rattle.dp_parse.specs.Programs.{DerivesItems, DerivesReturn}
-use Rattle.dp_parse.specs.Programs as program
-use Rattle.dp_tree.specs.declared.raw.RawItem.{RawItem}
-use Rattle.dp_parse.specs.Rules.{Nonterminal, Expression, Expressions, Arguments, Condition, Simple, First, Head, Statement, Choice, Block, Statements, Exit, Inside, Loop, Names, Params, Item, Items, Tops, Ending, Body, Program, Part, Word, Number, Length, Zero, Of}
-use Rattle.dp_parse.specs.Begins.{Allows, Derived, Begins, BeginsParts}
-use Rattle.dp_parse.specs.Rules as rule
+use Rattle.dp_parse.specs.Rules.{Nonterminal, Part, Word, Of}
+use Rattle.dp_parse.specs.Begins.{Derived, Begins, BeginsParts}
 use Rattle.dp_parse.specs.Begins as begins
 use Rattle.dp_tokens.specs.Steps.{Outcome, Parser, and_then, ◌>>=◌, pure, expect, eat, sees, after}
+use Rattle.dp_tokens.specs.Symbols.{Is}
 use Rattle.dp_tokens.specs.Steps as step
 use Rattle.dp_tokens.specs.Numbers as numbers
 use Rattle.dp_parse.proofs.StepLemmas.{expects, took, after-le}
 use Rattle.dp_parse.proofs.LeafLemmas.{reads_name, read_name, read_number}
-use Rattle.dp_parse.proofs.Shorter.{shorter, shorter_list, shorter_arguments, shorter_condition, shorter_simple, shorter_first, shorter_head, shorter_statement, shorter_choice, shorter_block, shorter_statements}
-use Rattle.dp_parse.proofs.ShorterPrograms.{shorter_names, shorter_params, shorter_item, shorter_tops, shorter_return, shorter_main}
-use Rattle.dp_parse.proofs.RegionSound.{shorter_exit, shorter_insides, shorter_loop}
+use Rattle.dp_parse.proofs.Spans.{no_longer}
 use Rattle.dp_parse.proofs.Stuck.{expect_stuck, name_stuck, number_stuck}
-use Rattle.dp_parse.proofs.Going.{Goes, GoesParts, last, token, within, past}
+use Rattle.dp_parse.proofs.Going.{Goes, GoesParts, last, token, within, past, no_goes}
 
 -- no more is left than these
 abbrev pub Beyond : {A : Type 0} → Outcome A → List Lexeme → Type 0
@@ -29,34 +24,6 @@ Beyond (Err left) to = length left ≤ length to
 
 abbrev pub Shrinks : {A : Type 0} → Parser A → Type 0
 Shrinks p = (from : List Lexeme) → Beyond (p from) from
-
-shorter_items : {from to : List Lexeme} {items : List RawItem} → DerivesItems from to items → length to ≤ length from
-shorter_items program.none = omega arith
-shorter_items (program.more d ds) = let a = shorter_item d in let b = shorter_items ds in omega arith
-
-pub derived_shorter : (n : Nonterminal) (from to : List Lexeme) → Derived n from to → length to ≤ length from
-derived_shorter (Expression l) from to d = let a = shorter d.1 in omega arith
-derived_shorter Expressions from to d = let a = shorter_list d.1 in omega arith
-derived_shorter Arguments from to d = shorter_arguments d.1
-derived_shorter Condition from to d = let a = shorter_condition d.1 in omega arith
-derived_shorter Simple from to d = let a = shorter_simple d.1 in omega arith
-derived_shorter First from to d = let a = shorter_first d.1 in omega arith
-derived_shorter Head from to d = let a = shorter_head d.3 in omega arith
-derived_shorter Statement from to d = let a = shorter_statement d.1 in omega arith
-derived_shorter Choice from to d = let a = shorter_choice d.1 in omega arith
-derived_shorter Block from to d = let a = shorter_block d.1 in omega arith
-derived_shorter Statements from to d = shorter_statements d.1
-derived_shorter Exit from to d = let a = shorter_exit d.1 in omega arith
-derived_shorter Inside from to d = shorter_insides d.1
-derived_shorter Loop from to d = let a = shorter_loop d.1 in omega arith
-derived_shorter Names from to d = shorter_names d.1
-derived_shorter Params from to d = shorter_params d.1
-derived_shorter Item from to d = let a = shorter_item d.1 in omega arith
-derived_shorter Items from to d = shorter_items d.1
-derived_shorter Tops from to d = shorter_tops d.1
-derived_shorter Ending from to d = shorter_return d
-derived_shorter Body from to d = let a = shorter_main d.1 in omega arith
-derived_shorter Program from to d = let a = shorter_items d.3 in let b = shorter_main d.4 in omega arith
 
 mutual
   pub begins_shorter : {n : Nonterminal} {from to : List Lexeme} → Begins n from to → length to ≤ length from
@@ -67,16 +34,22 @@ mutual
   parts_shorter begins.none = omega arith
   parts_shorter (begins.within b) = begins_shorter b
   parts_shorter (begins.token a b) = let h = parts_shorter b in omega arith
-  parts_shorter (begins.past {n} {from} {middle} d b) = let a = derived_shorter n from middle d in let h = parts_shorter b in omega arith
+  parts_shorter (begins.past {n} {from = from} {middle = middle} d b) = let a = no_longer n from middle d in let h = parts_shorter b in omega arith
 
--- what reads a nonterminal, and is stuck only behind what begins it, takes no tokens back
-module _ {A : Type 0} (n : Nonterminal) (p : Parser A) (sound : (from to : List Lexeme) (a : A) → p from ≡ Ok (a, to) → Derived n from to) (fails : (from to : List Lexeme) → p from ≡ Err to → Begins n from to) where
+-- what is stuck at its first token or behind it, and answers behind it, takes no tokens back
+module _ {A : Type 0} (p : Parser A) (ok : (from to : List Lexeme) (a : A) → p from ≡ Ok (a, to) → length to ≤ length from)
+    (stuck : (from to : List Lexeme) → p from ≡ Err to → length to ≤ length from) where
   shrinks_by : (from : List Lexeme) (o : Outcome A) → p from ≡ o → Beyond o from
-  shrinks_by from (Ok x) is = derived_shorter n from x.1 (sound from x.1 x.0 is)
-  shrinks_by from (Err left) is = begins_shorter (fails from left is)
+  shrinks_by from (Ok x) is = ok from x.1 x.0 is
+  shrinks_by from (Err left) is = stuck from left is
 
-  pub shrinks_as : Shrinks p
-  shrinks_as from = shrinks_by from (p from) refl
+  pub shrinks_if : Shrinks p
+  shrinks_if from = shrinks_by from (p from) refl
+
+-- .. such as what reads a nonterminal, and is stuck only behind what begins it
+pub shrinks_as : {A : Type 0} (n : Nonterminal) (p : Parser A) → ((from to : List Lexeme) (a : A) → p from ≡ Ok (a, to) → Derived n from to) →
+    ((from to : List Lexeme) → p from ≡ Err to → Begins n from to) → Shrinks p
+shrinks_as n p sound fails = shrinks_if p (λ from to a is. no_longer n from to (sound from to a is)) (λ from to is. begins_shorter (fails from to is))
 
 module _ {A : Type 0} where
   pub further : (o : Outcome A) (middle to : List Lexeme) → length middle ≤ length to → Beyond o middle → Beyond o to
@@ -113,77 +86,54 @@ pub record Inner {A : Type 0} (p : Parser A) (k : Nonterminal) (n : ℕ) (parts 
   pub goes : (from to : List Lexeme) → length from ≤ n → Goes k from to → Beyond (p from) to
   pub reads : (from middle to : List Lexeme) → length from ≤ n → Derived k from middle → GoesParts parts middle to → (a : A) × (p from ≡ Ok (a, middle))
 
-module _ {A B : Type 0} (p : Parser A) (k : Nonterminal) (n : ℕ) (parts : List Part) (inner : Inner p k n parts) (f : A → Parser B) (rest : (a : A) → Reading (f a) n parts) where
-  of_goes : (from to : List Lexeme) → length from ≤ n → GoesParts (Of k ∷ parts) from to → Beyond ((p >>= f) from) to
-  of_goes from to fits (within g) = and_on p f (λ a. (rest a).shrinks) from to (inner.goes from to fits g)
-  of_goes from to fits (past {middle} d g) =
-      let r = inner.reads from middle to fits d g in
-      let less = derived_shorter k from middle d in
+module _ {A B : Type 0} (p : Parser A) (k : Nonterminal) (n : ℕ) where
+  of_goes : (parts : List Part) (inner : Inner p k n parts) (f : A → Parser B) (rest : (a : A) → Reading (f a) n parts) (from to : List Lexeme) → length from ≤ n → GoesParts (Of k ∷ parts) from to →
+      Beyond ((p >>= f) from) to
+  of_goes parts inner f rest from to fits (within g) = and_on p f (λ a. (rest a).shrinks) from to (inner.goes from to fits g)
+  of_goes parts inner f rest from to fits (past {middle} d g) =
+      let r = inner.reads from middle to fits d g in let less = no_longer k from middle d in
       same_beyond to (ap (λ (o : Outcome A). and_then o f) r.1) ((rest r.0).goes middle to (omega arith) g)
-  of_goes from to fits (last a) = absurd a
-  of_goes from to fits (token a g) = absurd a
 
-  pub part_and : Reading (p >>= f) n (Of k ∷ parts)
-  part_and = record { shrinks = λ from. and_on p f (λ a. (rest a).shrinks) from from (inner.shrinks from); goes = of_goes }
-
-expect_by : (s : Symbol) (from : List Lexeme) (o : Outcome Lexeme) → expect s from ≡ o → Beyond o from
-expect_by s from (Ok x) is = let t = took s from x.0 x.1 is in let same = ap length t.splits in omega arith
-expect_by s from (Err left) is = let same = ap length (expect_stuck s from left is) in omega arith
+  pub part_and : (parts : List Part) → Inner p k n parts → (f : A → Parser B) → ((a : A) → Reading (f a) n parts) → Reading (p >>= f) n (Of k ∷ parts)
+  part_and parts inner f rest = record { shrinks = λ from. and_on p f (λ a. (rest a).shrinks) from from (inner.shrinks from); goes = of_goes parts inner f rest }
 
 pub expect_shrinks : (s : Symbol) → Shrinks (expect s)
-expect_shrinks s from = expect_by s from (expect s from) refl
-
-name_by : (from : List Lexeme) (o : Outcome TreeName) → step.name from ≡ o → Beyond o from
-name_by from (Ok x) is = let r = read_name from x.1 x.0 is in let same = ap length r.splits in omega arith
-name_by from (Err left) is = let same = ap length (name_stuck from left is) in omega arith
+expect_shrinks s =
+    shrinks_if (expect s) (λ from to a is. let t = took s from a to is in let same = ap length t.splits in omega arith) (λ from to is. let same = ap length (expect_stuck s from to is) in omega arith)
 
 pub name_shrinks : Shrinks step.name
-name_shrinks from = name_by from (step.name from) refl
-
-number_by : (from : List Lexeme) (o : Outcome ℤ) → numbers.number from ≡ o → Beyond o from
-number_by from (Ok x) is = let r = read_number from x.1 x.0 is in let same = ap length r.splits in omega arith
-number_by from (Err left) is = let same = ap length (number_stuck from left is) in omega arith
+name_shrinks =
+    shrinks_if step.name (λ from to a is. let r = read_name from to a is in let same = ap length r.splits in omega arith) (λ from to is. let same = ap length (name_stuck from to is) in omega arith)
 
 pub number_shrinks : Shrinks numbers.number
-number_shrinks from = number_by from (numbers.number from) refl
+number_shrinks =
+    shrinks_if numbers.number (λ from to a is. let r = read_number from to a is in let same = ap length r.splits in omega arith) (λ from to is. let same = ap length (number_stuck from to is) in omega arith)
 
 pub pure_shrinks : {A : Type 0} (a : A) → Shrinks (pure a)
 pure_shrinks a from = omega arith
 
-module _ {B : Type 0} (s : Symbol) (n : ℕ) (parts : List Part) (f : Lexeme → Parser B) (rest : (t : Lexeme) → Reading (f t) n parts) where
-  word_goes : (from to : List Lexeme) → length from ≤ n → GoesParts (Word s ∷ parts) from to → Beyond ((expect s >>= f) from) to
-  word_goes from to fits (last {t} a) = same_beyond to (ap (λ (o : Outcome Lexeme). and_then o f) (expects s t to a)) ((rest t).shrinks to)
-  word_goes from to fits (token {t} {from = middle} a g) = same_beyond to (ap (λ (o : Outcome Lexeme). and_then o f) (expects s t middle a)) ((rest t).goes middle to (omega arith) g)
+-- what reads one token, before what reads the other parts with one token less at least
+module _ {A B : Type 0} (p : Parser A) (s : Symbol) (own : Shrinks p) (reads : (t : Lexeme) (to : List Lexeme) → Is s t → (a : A) × (p (t ∷ to) ≡ Ok (a, to))) (m n : ℕ) (less : m ≤ suc n) where
+  token_goes : (parts : List Part) (f : A → Parser B) (rest : (a : A) → Reading (f a) n parts) (from to : List Lexeme) → length from ≤ m → GoesParts (Word s ∷ parts) from to → Beyond ((p >>= f) from) to
+  token_goes parts f rest from to fits (last {t} a) = let r = reads t to a in same_beyond to (ap (λ (o : Outcome A). and_then o f) r.1) ((rest r.0).shrinks to)
+  token_goes parts f rest from to fits (token {t} {from = middle} a g) =
+      let r = reads t middle a in same_beyond to (ap (λ (o : Outcome A). and_then o f) r.1) ((rest r.0).goes middle to (omega arith) g)
 
-  pub word_and : Reading (expect s >>= f) n (Word s ∷ parts)
-  word_and = record { shrinks = λ from. and_on (expect s) f (λ a. (rest a).shrinks) from from (expect_shrinks s from); goes = word_goes }
+  token_and : (parts : List Part) (f : A → Parser B) → ((a : A) → Reading (f a) n parts) → Reading (p >>= f) m (Word s ∷ parts)
+  token_and parts f rest = record { shrinks = λ from. and_on p f (λ a. (rest a).shrinks) from from (own from); goes = token_goes parts f rest }
 
--- with one token less behind the first
-module _ {B : Type 0} (s : Symbol) (n : ℕ) (parts : List Part) (f : Lexeme → Parser B) (rest : (t : Lexeme) → Reading (f t) n parts) where
-  less_goes : (from to : List Lexeme) → length from ≤ suc n → GoesParts (Word s ∷ parts) from to → Beyond ((expect s >>= f) from) to
-  less_goes from to fits (last {t} a) = same_beyond to (ap (λ (o : Outcome Lexeme). and_then o f) (expects s t to a)) ((rest t).shrinks to)
-  less_goes from to fits (token {t} {from = middle} a g) = same_beyond to (ap (λ (o : Outcome Lexeme). and_then o f) (expects s t middle a)) ((rest t).goes middle to (omega arith) g)
+pub word_and : {B : Type 0} (s : Symbol) (n : ℕ) (parts : List Part) (f : Lexeme → Parser B) → ((t : Lexeme) → Reading (f t) n parts) → Reading (expect s >>= f) n (Word s ∷ parts)
+word_and s n parts f rest = token_and (expect s) s (expect_shrinks s) (λ t to a. (t, expects s t to a)) n n (omega arith) parts f rest
 
-  pub word_less : Reading (expect s >>= f) (suc n) (Word s ∷ parts)
-  word_less = record { shrinks = λ from. and_on (expect s) f (λ a. (rest a).shrinks) from from (expect_shrinks s from); goes = less_goes }
+pub word_less : {B : Type 0} (s : Symbol) (n : ℕ) (parts : List Part) (f : Lexeme → Parser B) → ((t : Lexeme) → Reading (f t) n parts) → Reading (expect s >>= f) (suc n) (Word s ∷ parts)
+word_less s n parts f rest = token_and (expect s) s (expect_shrinks s) (λ t to a. (t, expects s t to a)) (suc n) n (omega arith) parts f rest
 
-module _ {B : Type 0} (n : ℕ) (parts : List Part) (f : TreeName → Parser B) (rest : (t : TreeName) → Reading (f t) n parts) where
-  name_goes : (from to : List Lexeme) → length from ≤ n → GoesParts (Word Name ∷ parts) from to → Beyond ((step.name >>= f) from) to
-  name_goes from to fits (last {t} a) = same_beyond to (ap (λ (o : Outcome TreeName). and_then o f) (reads_name t to a)) ((rest _).shrinks to)
-  name_goes from to fits (token {t} {from = middle} a g) = same_beyond to (ap (λ (o : Outcome TreeName). and_then o f) (reads_name t middle a)) ((rest _).goes middle to (omega arith) g)
-
-  pub name_and : Reading (step.name >>= f) n (Word Name ∷ parts)
-  name_and = record { shrinks = λ from. and_on step.name f (λ a. (rest a).shrinks) from from (name_shrinks from); goes = name_goes }
-
-no_parts : {A : Type 0} (p : Parser A) (n : ℕ) (from to : List Lexeme) (parts : List Part) → parts ≡ [] → GoesParts parts from to → Beyond (p from) to
-no_parts p n from to parts e (last a) = absurd (cc e)
-no_parts p n from to parts e (token a g) = absurd (cc e)
-no_parts p n from to parts e (within g) = absurd (cc e)
-no_parts p n from to parts e (past d g) = absurd (cc e)
+pub name_and : {B : Type 0} (n : ℕ) (parts : List Part) (f : TreeName → Parser B) → ((t : TreeName) → Reading (f t) n parts) → Reading (step.name >>= f) n (Word Name ∷ parts)
+name_and n parts f rest = token_and step.name Name name_shrinks (λ t to a. (_, reads_name t to a)) n n (omega arith) parts f rest
 
 -- nothing is left to read
 pub finished : {A : Type 0} (p : Parser A) (n : ℕ) → Shrinks p → Reading p n []
-finished p n shrinks = record { shrinks = shrinks; goes = λ from to fits g. no_parts p n from to [] refl g }
+finished p n shrinks = record { shrinks = shrinks; goes = λ from to fits g. absurd (no_goes g) }
 
 pub ends : {A : Type 0} {a : A} {n : ℕ} → Reading (pure a) n []
 ends {A} {a} {n} = finished (pure a) n (pure_shrinks a)

@@ -6,18 +6,17 @@ use Rattle.dp_tree.specs.declared.raw.RawStmt.{RawStmt}
 use Rattle.dp_tree.specs.declared.raw.RawStmt.TheVariants as tree
 use Rattle.dp_tokens.specs.declared.symbol.Symbol.TheVariants.{If, Break, OpenBrace, CloseBrace, Semicolon}
 use Rattle.dp_tokens.specs.Symbols.{symbol_at, Is}
-use Rattle.dp_parse.specs.Rules.{Part, Word, Of, Condition, Head, Statement, Choice, Block, Statements, Exit, Inside, Loop}
-use Rattle.dp_parse.specs.Begins.{Derived}
+use Rattle.dp_parse.specs.Rules.{Part, Word, Of, Condition, Choice, Block, Statements}
 use Rattle.dp_parse.specs.Rules as rule
 use Rattle.dp_tokens.specs.Steps.{Parser, ◌>>=◌, pure, expect, sees, rest}
 use Rattle.dp_parse.specs.descent.Statements as statements
 use Rattle.dp_parse.specs.descent.Regions as read
-use Rattle.dp_parse.proofs.StepLemmas.{is_same, sees_is, sees_other}
-use Rattle.dp_parse.proofs.RegionComplete.{unlike_head, tested_as, stays_in, no_break, inside_if}
-use Rattle.dp_parse.proofs.Going.{Goes, GoesParts, by, last, token, within, past}
+use Rattle.dp_parse.proofs.StepLemmas.{is_same, sees_is, sees_other, unlike}
+use Rattle.dp_parse.proofs.StatementReads.{statements_not}
+use Rattle.dp_parse.proofs.RegionComplete.{tested_as, stays_in, inside_if}
+use Rattle.dp_parse.proofs.Going.{Goes, GoesParts, by, last, token, within, past, word_first}
 use Rattle.dp_parse.proofs.Stuck.{grouped}
 use Rattle.dp_parse.proofs.Beyond.{Beyond, Shrinks, same_beyond, Reading, part_and, word_and, finished, ends, same_reading, mapped_and}
-use Rattle.dp_parse.proofs.BeyondExpressions.{word_first}
 use Rattle.dp_parse.proofs.BeyondCalls.{test}
 use Rattle.dp_parse.proofs.BeyondStatements.{statements_first, statement_goes, block, otherwise_shrinks, else_block, else_choice}
 
@@ -34,11 +33,8 @@ module _ (n line : ℕ) (cond : RawExpr) where
   abbrev close : RawStmt → Parser RawStmt
   close s = expect CloseBrace >>= (λ _. pure s)
 
-  closing : Reading (close leave) n (Word CloseBrace ∷ [])
-  closing = word_and CloseBrace n [] _ (λ _. ends)
-
   after_end : Reading ((expect Semicolon >>= (λ _. pure leave)) >>= close) n (Word Semicolon ∷ Word CloseBrace ∷ [])
-  after_end = same_reading (grouped (λ _. pure leave) close (expect Semicolon)) (word_and Semicolon n _ _ (λ _. closing))
+  after_end = same_reading (grouped (λ _. pure leave) close (expect Semicolon)) (word_and Semicolon n _ _ (λ _. word_and CloseBrace n [] _ (λ _. ends)))
 
   bare_closed : Reading (read.bare line cond >>= close) n (Word Break ∷ Word Semicolon ∷ Word CloseBrace ∷ [])
   unfolding read.bare
@@ -71,7 +67,7 @@ module _ (n : ℕ) where
   tested_shrinks line cond from = tested_by line cond (sees Break from) (read.leads_out from) from
 
   not_bare : (t : Lexeme) (to : List Lexeme) → Is OpenBrace t → sees Break (t ∷ to) ≡ false
-  not_bare t to o = sees_other Break (t ∷ to) (unlike_head t to OpenBrace Break o (λ e. cc e))
+  not_bare t to o = sees_other Break (t ∷ to) (unlike t to OpenBrace Break o (λ e. cc e))
 
   leads_as : (t : Lexeme) (to : List Lexeme) → Is OpenBrace t → (b : Bool) → sees Break to ≡ b → read.leads_out (t ∷ to) ≡ b
   unfolding read.leads_out rest
@@ -89,9 +85,7 @@ module _ (n : ℕ) where
 
   no_break_next : (from to : List Lexeme) → GoesParts (Of Statements ∷ Word CloseBrace ∷ []) from to → symbol_at from ≡ Break → ⊥
   no_break_next from to (within g) at = statements_first g Break refl at
-  no_break_next from to (past {middle} d g) at = no_break d.1 (λ k. let clash : CloseBrace ≡ Break = sym (word_first CloseBrace [] middle to g) ∙ k in cc clash) at
-  no_break_next from to (last a) at = absurd a
-  no_break_next from to (token a g) at = absurd a
+  no_break_next from to (past {middle} d g) at = statements_not d.1 Break refl (λ k. let clash : CloseBrace ≡ Break = sym (word_first g) ∙ k in cc clash) at
 
   module _ (line : ℕ) (cond : RawExpr) where
     branched : (parts : List Part) → Reading (statements.otherwise plain) n parts → (from to : List Lexeme) → length from ≤ n → GoesParts (Of Block ∷ parts) from to → Beyond (read.tested plain line cond from) to
@@ -102,19 +96,17 @@ module _ (n : ℕ) where
     branched parts r from to fits (past d g) =
         let k = stays_in d.1 in
         same_beyond to (tested_as plain line cond from false false k.0 k.1) ((branches_read line cond parts r).goes from to fits (past d g))
-    branched parts r _ _ fits (last {t = t} {to = to} x7) = elim x7 [ ]
-    branched parts r _ to fits (token {t = t} {from = from} x11 _) = elim x11 [ ]
 
     pub left : (from to : List Lexeme) → length from ≤ n → GoesParts (Word Break ∷ Word Semicolon ∷ []) from to → Beyond (read.tested plain line cond from) to
     unfolding sees
     left from to fits g =
-        same_beyond to (tested_as plain line cond from true (read.leads_out from) (is_same (symbol_at from) Break (word_first Break _ from to g)) refl) ((bare_read n line cond).goes from to fits g)
+        same_beyond to (tested_as plain line cond from true (read.leads_out from) (is_same (symbol_at from) Break (word_first g)) refl) ((bare_read n line cond).goes from to fits g)
 
     pub left_braced : (from to : List Lexeme) → length from ≤ n → GoesParts (Word OpenBrace ∷ Word Break ∷ Word Semicolon ∷ Word CloseBrace ∷ []) from to → Beyond (read.tested plain line cond from) to
     unfolding sees
     left_braced from to fits (last {t} o) = brace line cond t to fits o
     left_braced from to fits (token {t} {from = middle} o g) =
-        same_beyond to (tested_as plain line cond (t ∷ middle) false true (not_bare t middle o) (leads_as t middle o true (is_same (symbol_at middle) Break (word_first Break _ middle to g))))
+        same_beyond to (tested_as plain line cond (t ∷ middle) false true (not_bare t middle o) (leads_as t middle o true (is_same (symbol_at middle) Break (word_first g))))
         ((braced_read n line cond).goes (t ∷ middle) to fits (token o g))
 
   pub branch_read : (parts : List Part) → ((line : ℕ) (cond : RawExpr) (from to : List Lexeme) → length from ≤ n → GoesParts parts from to → Beyond (read.tested plain line cond from) to) →
@@ -124,7 +116,7 @@ module _ (n : ℕ) where
       word_and If n _ _ (λ word_. part_and statements.condition Condition n _ (test n _) _ (λ cond. record { shrinks = tested_shrinks word_.line cond; goes = goes word_.line cond }))
 
   pub as_branch : (parts : List Part) (from to : List Lexeme) → length from ≤ n → GoesParts (Word If ∷ Of Condition ∷ parts) from to → Reading (read.branch plain) n (Word If ∷ Of Condition ∷ parts) → Beyond (read.inside plain from) to
-  as_branch parts from to fits g r = same_beyond to (inside_if plain from (word_first If _ from to g)) (r.goes from to fits g)
+  as_branch parts from to fits g r = same_beyond to (inside_if plain from (word_first g)) (r.goes from to fits g)
 
   pub choice_goes : (from to : List Lexeme) → length from ≤ n → Goes Choice from to → Beyond (read.inside plain from) to
   choice_goes from to fits (by rule.alone g) = as_branch _ from to fits g (branch_read _ (λ line cond. branched line cond [] (finished (statements.otherwise plain) n (otherwise_shrinks n (statement_goes n)))))

@@ -9,21 +9,20 @@ use Rattle.dp_tokens.specs.declared.symbol.Symbol.TheVariants.{Name, Int, Print,
 use Rattle.dp_parse.specs.declared.level.Level.TheVariants.{Or}
 use Rattle.dp_tokens.specs.Symbols.{symbol_at, Is}
 use Rattle.dp_parse.specs.Levels.{prefixing}
-use Rattle.dp_parse.specs.Rules.{Nonterminal, Part, Word, Of, Expression, Expressions, Arguments, Condition, Head, Statement, Choice, Block, Statements}
-use Rattle.dp_parse.specs.Begins.{Derived}
+use Rattle.dp_parse.specs.Rules.{Part, Word, Of, Expression, Expressions, Arguments, Condition}
 use Rattle.dp_parse.specs.Rules as rule
 use Rattle.dp_tokens.specs.Steps.{◌>>=◌, pure, expect, sees, separated}
 use Rattle.dp_parse.specs.descent.Expressions as expr
 use Rattle.dp_parse.specs.descent.Statements as read
 use Rattle.dp_parse.proofs.StepLemmas.{is_same, sees_other, after_is, sees_is}
-use Rattle.dp_parse.proofs.StatementReads.{reads_condition, reads_arguments, no_paren, before_comma}
+use Rattle.dp_parse.proofs.StatementReads.{reads_condition, reads_arguments, no_paren, before}
 use Rattle.dp_parse.proofs.StatementForms.{sound_arguments}
-use Rattle.dp_parse.proofs.Shorter.{shorter}
+use Rattle.dp_parse.proofs.Spans.{shorter}
 use Rattle.dp_parse.proofs.Lists.{separated_on}
 use Rattle.dp_parse.proofs.StuckStatements.{arguments_stuck}
-use Rattle.dp_parse.proofs.Going.{Goes, GoesParts, by, last, token, within, past}
+use Rattle.dp_parse.proofs.Going.{Goes, GoesParts, by, last, token, last_number, within, past, word_first}
 use Rattle.dp_parse.proofs.Beyond.{Beyond, Shrinks, shrinks_as, same_beyond, Reading, Inner, part_and, word_and, name_and, ends, separated_shrinks, separated_first}
-use Rattle.dp_parse.proofs.BeyondExpressions.{expr_before, whole_shrinks, whole_goes, word_first}
+use Rattle.dp_parse.proofs.BeyondExpressions.{expr_before, whole_shrinks, whole_goes}
 use Rattle.dp_parse.proofs.BeyondHeads.{declare_then, scalar_then, element_then}
 
 condition_read : (n : ℕ) → Reading read.condition n (Word OpenParen ∷ Of (Expression Or) ∷ Word CloseParen ∷ [])
@@ -56,32 +55,17 @@ word_splits s parts from to (token {t} {from = left} a g) = (t, left, refl, a)
 
 no_expr : {l : _} {from to : List Lexeme} → Goes (Expression l) from to → symbol_at from ≡ CloseParen → ⊥
 unfolding symbol_at
-no_expr (by (rule.operand o) (last a)) at = absurd a
-no_expr (by (rule.operand o) (token a g)) at = absurd a
 no_expr (by (rule.operand o) (within g)) at = no_expr g at
-no_expr (by (rule.operand o) (past d g)) at = no_paren d.1 at
-no_expr (by (rule.chain j o) (last a)) at = absurd a
-no_expr (by (rule.chain j o) (token a g)) at = absurd a
 no_expr (by (rule.chain j o) (within g)) at = no_expr g at
 no_expr (by (rule.chain j o) (past d g)) at = no_paren d.1 at
-no_expr (by (rule.prefix p) (last a)) at = let clash = sym (ap prefixing (sym a ∙ at)) ∙ p in absurd (cc clash)
-no_expr (by (rule.prefix p) (token a g)) at = let clash = sym (ap prefixing (sym a ∙ at)) ∙ p in absurd (cc clash)
-no_expr (by rule.number (last a)) at = let clash = sym a.1.number ∙ at in absurd (cc clash)
-no_expr (by rule.number (token a g)) at = let clash = sym a.1.number ∙ at in absurd (cc clash)
-no_expr (by rule.scalar (last a)) at = let clash = sym a ∙ at in absurd (cc clash)
-no_expr (by rule.scalar (token a g)) at = let clash = sym a ∙ at in absurd (cc clash)
-no_expr (by rule.element (last a)) at = let clash = sym a ∙ at in absurd (cc clash)
-no_expr (by rule.element (token a g)) at = let clash = sym a ∙ at in absurd (cc clash)
-no_expr (by rule.parenthesized (last a)) at = let clash = sym a ∙ at in absurd (cc clash)
-no_expr (by rule.parenthesized (token a g)) at = let clash = sym a ∙ at in absurd (cc clash)
+no_expr (by (rule.prefix p) g) at = let clash = sym (ap prefixing (sym (word_first g) ∙ at)) ∙ p in absurd (cc clash)
+no_expr (by rule.number (last_number a)) at = let clash = sym a.1.number ∙ at in absurd (cc clash)
+no_expr (by rule.scalar g) at = let clash = sym (word_first g) ∙ at in absurd (cc clash)
+no_expr (by rule.element g) at = let clash = sym (word_first g) ∙ at in absurd (cc clash)
+no_expr (by rule.parenthesized g) at = let clash = sym (word_first g) ∙ at in absurd (cc clash)
 
 no_list : {from to : List Lexeme} → Goes Expressions from to → symbol_at from ≡ CloseParen → ⊥
-no_list (by rule.last_expression (last a)) at = absurd a
-no_list (by rule.last_expression (token a g)) at = absurd a
 no_list (by rule.last_expression (within g)) at = no_expr g at
-no_list (by rule.last_expression (past d g)) at = no_paren d.1 at
-no_list (by rule.more_expressions (last a)) at = absurd a
-no_list (by rule.more_expressions (token a g)) at = absurd a
 no_list (by rule.more_expressions (within g)) at = no_expr g at
 no_list (by rule.more_expressions (past d g)) at = no_paren d.1 at
 
@@ -89,29 +73,17 @@ list_goes : {from to : List Lexeme} → Goes Expressions from to → (k : ℕ) (
 list_goes (by {from} {to} rule.last_expression (within g)) k found fits = separated_first expr.whole whole_shrinks k found from to fits (whole_goes from to g)
 list_goes (by {from} {to} rule.more_expressions (within g)) k found fits = separated_first expr.whole whole_shrinks k found from to fits (whole_goes from to g)
 list_goes (by {from} rule.more_expressions (past d (last {t = comma} {to} c))) k found fits =
-    same_beyond to (separated_on expr.whole k found from (comma ∷ to) d.0 (before_comma d.1 c) (shorter d.1) fits (sees_is Comma comma to c) ∙ ap (separated expr.whole (k - 1) (found ++ d.0 ∷ [])) (after_is Comma comma to c))
+    same_beyond to (separated_on expr.whole k found from (comma ∷ to) d.0 (before Comma refl (λ e. cc e) d.1 c) (shorter (Expression _) _ _ refl d) fits (sees_is Comma comma to c) ∙ ap (separated expr.whole (k - 1) (found ++ d.0 ∷ [])) (after_is Comma comma to c))
     (separated_shrinks expr.whole whole_shrinks (k - 1) (found ++ d.0 ∷ []) to)
 list_goes (by {from} {to} rule.more_expressions (past d (token {t = comma} {from = middle} c (within g)))) k found fits =
-    let less = shorter d.1 in
-    same_beyond to (separated_on expr.whole k found from (comma ∷ middle) d.0 (before_comma d.1 c) less fits (sees_is Comma comma middle c) ∙ ap (separated expr.whole (k - 1) (found ++ d.0 ∷ [])) (after_is Comma comma middle c))
+    let less = shorter (Expression _) _ _ refl d in
+    same_beyond to (separated_on expr.whole k found from (comma ∷ middle) d.0 (before Comma refl (λ e. cc e) d.1 c) less fits (sees_is Comma comma middle c) ∙ ap (separated expr.whole (k - 1) (found ++ d.0 ∷ [])) (after_is Comma comma middle c))
     (list_goes g (k - 1) (found ++ d.0 ∷ []) (omega arith))
-list_goes (by rule.last_expression (last {t = t} {to = to} x37)) k found fits = elim x37 [ ]
-list_goes {to = to} (by rule.last_expression (token {t = t} {from = from} x42 _)) k found fits = elim x42 [ ]
-list_goes {from = from} {to = to} (by rule.last_expression (past {middle = middle} d x44)) k found fits = elim x44 [ ]
-list_goes (by rule.more_expressions (last {t = t} {to = to} x38)) k found fits = elim x38 [ ]
-list_goes {to = to} (by rule.more_expressions (token {t = t} {from = from} x43 _)) k found fits = elim x43 [ ]
-list_goes {from = from} {to = to} (by rule.more_expressions (past d (token {t = comma} c (last {t = t} x63)))) k found fits = elim x63 [ ]
-list_goes {from = from} {to = to} (by rule.more_expressions (past d (token {t = comma} c (token {t = t} x68 _)))) k found fits = elim x68 [ ]
-list_goes {from = from} {to = to} (by rule.more_expressions (past d (token {t = comma} {from = middle} c (past _ x71)))) k found fits = elim x71 [ ]
 
 arguments_goes : (from to : List Lexeme) → Goes Arguments from to → Beyond (read.arguments from) to
 unfolding read.arguments expr.list
 arguments_goes from to (by rule.arguments (within g)) =
     same_beyond to (ap (λ (b : Bool). read.arguments_by b from) (sees_other CloseParen from (no_list g))) (list_goes g (length from) [] (omega arith))
-arguments_goes from to (by rule.no_arguments x11) = elim x11 [ ]
-arguments_goes _ _ (by rule.arguments (last {t = t} {to = to} x17)) = elim x17 [ ]
-arguments_goes _ to (by rule.arguments (token {t = t} {from = from} x22 _)) = elim x22 [ ]
-arguments_goes from to (by rule.arguments (past {middle = middle} _ x24)) = elim x24 [ ]
 
 given : (n : ℕ) (parts : List Part) → Inner read.arguments Arguments n (Word CloseParen ∷ parts)
 given n parts = record {
@@ -141,7 +113,7 @@ pub named_read : (n : ℕ) (s : Symbol) (parts : List Part) (b : Bool) → ((fro
 unfolding read.named
 named_read n s parts b seen r = name_and n _ _ (λ name. record {
   shrinks = λ from. named_shrinks name (sees OpenParen from) from;
-  goes = λ from to fits g. same_beyond to (ap (λ (c : Bool). read.named_by name c from) (seen from (word_first s parts from to g))) ((r name).goes from to fits g);
+  goes = λ from to fits g. same_beyond to (ap (λ (c : Bool). read.named_by name c from) (seen from (word_first g))) ((r name).goes from to fits g);
 })
 
 pub sees_paren : (from : List Lexeme) → symbol_at from ≡ OpenParen → sees OpenParen from ≡ true

@@ -1,6 +1,5 @@
 -- An expression is read at least to the end of what begins it.
-use Rattle.std.proofs.Common.{◌≡◌, refl, ap, ◌∙◌, sym, ℕ, zero, suc, ◌≤◌, ◌-◌, Bool, true, false, List, ◌∷◌, length, Option, Some, None, Ok, Err, arith, subst}
-use Rattle.std.proofs.lemmas.Option.{same_Some}
+use Rattle.std.proofs.Common.{◌≡◌, refl, ap, ◌∙◌, sym, ℕ, zero, suc, ◌≤◌, ◌-◌, Bool, true, false, List, ◌∷◌, length, Option, Some, None, Ok, Err, arith}
 use Rattle.dp_lex.specs.Token.{Lexeme}
 use Rattle.dp_tree.specs.declared.raw.RawExpr.{RawExpr}
 use Rattle.dp_tree.specs.declared.raw.RawExpr.TheVariants as tree
@@ -12,22 +11,19 @@ use Rattle.dp_parse.specs.declared.level.Join.{Join}
 use Rattle.dp_tokens.specs.Symbols.{symbol, symbol_at, Is}
 use Rattle.dp_parse.specs.Levels.{operands, joining, prefixing, joined}
 use Rattle.dp_tokens.specs.Leaves.{name_of}
-use Rattle.dp_parse.specs.Rules.{Expression, Expressions, Part, Word, Number, Of}
-use Rattle.dp_parse.specs.Begins.{Derived}
+use Rattle.dp_parse.specs.Rules.{Expression, Part, Word}
 use Rattle.dp_parse.specs.Rules as rule
-use Rattle.dp_tokens.specs.Steps.{Outcome, Parser, and_then, ◌>>=◌, pure, expect, eat, rest, separated}
+use Rattle.dp_tokens.specs.Steps.{Outcome, Parser, and_then, ◌>>=◌, pure, expect, rest}
 use Rattle.dp_parse.specs.descent.Operators.{join_at, prefix_at}
 use Rattle.dp_tokens.specs.Steps as step
-use Rattle.dp_parse.specs.descent.Operators as operators
 use Rattle.dp_parse.specs.descent.Expressions as read
 use Rattle.dp_parse.proofs.StepLemmas.{expects, eats, rest-le}
-use Rattle.dp_parse.proofs.Levels.{level_prefixed, level_chain, level_none, chain_by}
-use Rattle.dp_parse.proofs.LevelFacts.{joins, prefixes, prefix_level, prefixes_not, follows_join}
+use Rattle.dp_parse.proofs.Levels.{level_prefixed, level_chain, level_none, chain_by, joins, prefixes, prefix_level, follows_join}
 use Rattle.dp_parse.proofs.ExpressionSound.{sound_expression, sound_nested, sound_whole}
-use Rattle.dp_parse.proofs.ExpressionComplete.{operand_by, reached, number_read, named_read, element_read, nested_read, closes_bracket, follows_bracket, closes_paren, follows_paren, parenthesized_read, whole_read}
+use Rattle.dp_parse.proofs.ExpressionComplete.{operand_by, reached, number_read, named_read, element_read, nested_read, closes, follows, unprefixed, parenthesized_read, whole_read}
 use Rattle.dp_parse.proofs.StuckExpressions.{expression_stuck, nested_stuck, whole_stuck}
-use Rattle.dp_parse.proofs.Going.{Goes, GoesParts, by, last, token, within, past}
-use Rattle.dp_parse.proofs.Shorter.{shorter}
+use Rattle.dp_parse.proofs.Going.{Goes, by, last, token, last_number, within, past, word_first}
+use Rattle.dp_parse.proofs.Spans.{shorter}
 use Rattle.dp_parse.proofs.Beyond.{Beyond, Shrinks, shrinks_as, further, ok_beyond, err_beyond, same_beyond, and_on, expect_shrinks, pure_shrinks, Inner}
 
 nested_shrinks : (n : ℕ) (l : Level) → Shrinks (read.nested n l)
@@ -54,34 +50,6 @@ module _ (l : Level) (operand : Parser RawExpr) (shrinks : Shrinks operand) wher
   chain_beyond k found op from to join at fits h =
       same_beyond to (chain_by l operand k found (op ∷ from) join at fits)
       (and_on operand (λ right. read.chain l operand (k - 1) (joined join found right)) (λ right. chain_shrinks (k - 1) (joined join found right)) from to h)
-
--- what begins a primary expression is no prefix operator
-primary_goes : {from to : List Lexeme} → Goes (Expression level.Primary) from to → prefixing (symbol_at from) ≡ None
-unfolding symbol_at
-primary_goes (by (rule.operand o) g) = absurd (cc o)
-primary_goes (by (rule.chain j o) g) = absurd (cc o)
-primary_goes (by (rule.prefix {s} {is} p) g) = let clash = prefix_level level.Primary s is p in absurd (cc clash)
-primary_goes (by rule.number (last a)) = ap prefixing a.1.number
-primary_goes (by rule.scalar (last n)) = ap prefixing n
-primary_goes (by rule.element (last n)) = ap prefixing n
-primary_goes (by rule.element (token n g)) = ap prefixing n
-primary_goes (by rule.parenthesized (last o)) = ap prefixing o
-primary_goes (by rule.parenthesized (token o g)) = ap prefixing o
-primary_goes {to = to} (by rule.number (token {t = t} {from = from} n g)) = elim g [ ]
-primary_goes {to = to} (by rule.scalar (token {t = t} {from = from} n g)) = elim g [ ]
-
-unprefixed : (l m : Level) (from to : List Lexeme) → operands l ≡ Some m → Goes (Expression m) from to → prefix_at l (symbol_at from) ≡ None
-unfolding prefix_at
-unprefixed level.Unary m from to o g =
-    let at : Goes (Expression level.Primary) from to = subst (λ k. Goes (Expression k) from to) (sym (same_Some level.Primary m o)) g in
-    ap (operators.own level.Unary) (primary_goes at)
-unprefixed level.Or m from to o g = prefixes_not level.Or (symbol_at from) (λ k. cc)
-unprefixed level.And m from to o g = prefixes_not level.And (symbol_at from) (λ k. cc)
-unprefixed level.Equality m from to o g = prefixes_not level.Equality (symbol_at from) (λ k. cc)
-unprefixed level.Relation m from to o g = prefixes_not level.Relation (symbol_at from) (λ k. cc)
-unprefixed level.Sum m from to o g = prefixes_not level.Sum (symbol_at from) (λ k. cc)
-unprefixed level.Product m from to o g = prefixes_not level.Product (symbol_at from) (λ k. cc)
-unprefixed level.Primary m from to o g = absurd (cc o)
 
 module _ (n : ℕ) (l m : Level) (o : operands l ≡ Some m) (from to : List Lexeme) (bare : prefix_at l (symbol_at from) ≡ None) where
   operand_by_beyond : (r : Outcome RawExpr) → read.expression (read.nested n) m from ≡ r → Beyond r to → Beyond (read.expression (read.nested n) l from) to
@@ -133,18 +101,15 @@ expr_beyond (by {from} {to} (rule.operand {l} {m} o) (within g)) n fits =
 expr_beyond (by (rule.chain j o) (within g)) n fits = expr_beyond g n fits
 expr_beyond (by {from} {to} (rule.chain {l} {m} {s} {join} j o) (past d (last {t = op} a))) n fits =
     let at : joining (symbol op) ≡ Some (l, join) = ap joining a ∙ j in
-    let r = reached d.1 n fits (follows_join l (symbol op) join at) in
-    let p = operand_by n (operands l) in
+    let r = reached d.1 n fits (follows_join l (symbol op) join at) in let p = operand_by n (operands l) in
     let same : p ≡ read.expression (read.nested n) m = ap (operand_by n) o in
     let shrinks : Shrinks p = rw same (expression_shrinks n m) in
     same_beyond to r.is (chain_beyond l p shrinks r.turns d.0 op to to join (joins l (symbol op) join at) r.enough (shrinks to))
 expr_beyond (by {from} {to} (rule.chain {l} {m} {s} {join} j o) (past d (token {t = op} {from = middle} a (within g)))) n fits =
     let at : joining (symbol op) ≡ Some (l, join) = ap joining a ∙ j in
-    let r = reached d.1 n fits (follows_join l (symbol op) join at) in
-    let p = operand_by n (operands l) in
+    let r = reached d.1 n fits (follows_join l (symbol op) join at) in let p = operand_by n (operands l) in
     let same : p ≡ read.expression (read.nested n) m = ap (operand_by n) o in
-    let shrinks : Shrinks p = rw same (expression_shrinks n m) in
-    let less = shorter d.1 in
+    let shrinks : Shrinks p = rw same (expression_shrinks n m) in let less = shorter (Expression _) _ _ refl d in
     let h : Beyond (p middle) to = rw same (expr_beyond g n (omega arith)) in
     same_beyond to r.is (chain_beyond l p shrinks r.turns d.0 op middle to join (joins l (symbol op) join at) r.enough h)
 expr_beyond (by (rule.prefix {l} {s} {is} p) (last {t = op} {to} a)) n fits =
@@ -155,7 +120,7 @@ expr_beyond (by {to} (rule.prefix {l} {s} {is} p) (token {t = op} {from = middle
     let at = ap prefixing a ∙ p in
     same_beyond to (level_prefixed (read.nested n) l level.Primary (ap operands (prefix_level l (symbol op) is at)) (op ∷ middle) is (prefixes l (symbol op) is at))
     (and_on (read.nested n l) (λ x. pure (tree.Unary is x)) (λ x. pure_shrinks (tree.Unary is x)) middle to (nested_beyond n l middle to (omega arith) (λ k le. expr_beyond g k le)))
-expr_beyond (by rule.number (last {t} {to} a)) n fits = ok_beyond to (number_read (read.nested n) t a.0 to a.1) (omega arith)
+expr_beyond (by rule.number (last_number {t} {to} a)) n fits = ok_beyond to (number_read (read.nested n) t a.0 to a.1) (omega arith)
 expr_beyond (by rule.scalar (last {t} {to} a)) n fits = name_beyond (read.nested n) (nested_shrinks n) t to a
 expr_beyond (by rule.element (last {t} {to} a)) n fits = name_beyond (read.nested n) (nested_shrinks n) t to a
 expr_beyond (by rule.element (token {t} a (last {t = opening} {to} o))) n fits = index_beyond (read.nested n) (nested_shrinks n) t opening to to a o (nested_shrinks n level.Or to)
@@ -163,32 +128,13 @@ expr_beyond (by {to} rule.element (token {t} a (token {t = opening} {from = midd
     index_beyond (read.nested n) (nested_shrinks n) t opening middle to a o (nested_beyond n level.Or middle to (omega arith) (λ k le. expr_beyond g k le))
 expr_beyond (by rule.element (token {t} a (token {t = opening} {from = middle} o (past d (last {t = closing} {to} c))))) n fits =
     ok_beyond to (element_read (read.nested n) t opening closing middle to d.0 a o
-    (nested_read n level.Or middle (closing ∷ to) d.0 (omega arith) (shorter d.1) (closes_bracket closing to c) (λ k le. reached d.1 k le (follows_bracket closing to c))) c) (omega arith)
+    (nested_read n level.Or middle (closing ∷ to) d.0 (omega arith) (shorter (Expression _) _ _ refl d) (closes CloseBracket closing to refl c) (λ k le. reached d.1 k le (follows CloseBracket closing to refl (λ e. cc e) c))) c) (omega arith)
 expr_beyond (by rule.parenthesized (last {t} {to} o)) n fits = paren_beyond (read.nested n) (nested_shrinks n) t to to o (nested_shrinks n level.Or to)
 expr_beyond (by {to} rule.parenthesized (token {t} {from = middle} o (within g))) n fits =
     paren_beyond (read.nested n) (nested_shrinks n) t middle to o (nested_beyond n level.Or middle to (omega arith) (λ k le. expr_beyond g k le))
 expr_beyond (by rule.parenthesized (token {t} {from = middle} o (past d (last {t = closing} {to} c)))) n fits =
     ok_beyond to (parenthesized_read (read.nested n) t closing middle to d.0 o
-    (nested_read n level.Or middle (closing ∷ to) d.0 (omega arith) (shorter d.1) (closes_paren closing to c) (λ k le. reached d.1 k le (follows_paren closing to c))) c) (omega arith)
-expr_beyond {l = l} (by (rule.operand {m = m} o) (last {t = op} {to = to} a)) n fits = elim a [ ]
-expr_beyond {l = l} {to = to} (by (rule.operand {m = m} o) (token {t = op} {from = middle} a _)) n fits = elim a [ ]
-expr_beyond {l = l} {from = from} {to = to} (by (rule.operand {m = m} o) (past {middle = middle} d x46)) n fits = elim x46 [ ]
-expr_beyond {l = l} (by (rule.chain {m = m} {s = s} {join = join} j o) (last {t = op} {to = to} a)) n fits = elim a [ ]
-expr_beyond {l = l} {to = to} (by (rule.chain {m = m} {s = s} {join = join} j o) (token {t = op} {from = middle} a _)) n fits = elim a [ ]
-expr_beyond {l = l} {from = from} {to = to} (by (rule.chain {m = m} {s = s} {join = join} j o) (past d (token {t = op} a (last {t = t} x65)))) n fits = elim x65 [ ]
-expr_beyond {l = l} {from = from} {to = to} (by (rule.chain {m = m} {s = s} {join = join} j o) (past d (token {t = op} a (token {t = t} x70 _)))) n fits = elim x70 [ ]
-expr_beyond {l = l} {from = from} {to = to} (by (rule.chain {m = m} {s = s} {join = join} j o) (past d (token {t = op} {from = middle} a (past _ x73)))) n fits = elim x73 [ ]
-expr_beyond {l = l} (by (rule.prefix {s = s} {is = is} p) (token {t = op} a (last {t = opening} {to = to} o))) n fits = elim o [ ]
-expr_beyond {l = l} {to = to} (by (rule.prefix {s = s} {is = is} p) (token {t = op} a (token {t = opening} {from = from} o _))) n fits = elim o [ ]
-expr_beyond {l = l} {to = to} (by (rule.prefix {s = s} {is = is} p) (token {t = op} {from = middle} a (past d x59))) n fits = elim x59 [ ]
-expr_beyond {to = to} (by rule.number (token {t = op} {from = middle} a x46)) n fits = elim x46 [ ]
-expr_beyond {to = to} (by rule.scalar (token {t = op} {from = middle} a x47)) n fits = elim x47 [ ]
-expr_beyond (by rule.element (token {t = t} a (token {t = opening} o (last {to = to} x66)))) n fits = elim x66 [ ]
-expr_beyond {to = to} (by rule.element (token {t = t} a (token {t = opening} o (token {from = from} x71 _)))) n fits = elim x71 [ ]
-expr_beyond {to = to} (by rule.element (token {t = t} a (token {t = opening} {from = middle} o (past d (token {from = from} _ x85))))) n fits = elim x85 [ ]
-expr_beyond (by rule.parenthesized (token {t = t} o (last {t = opening} {to = to} x56))) n fits = elim x56 [ ]
-expr_beyond {to = to} (by rule.parenthesized (token {t = t} o (token {t = opening} {from = from} x61 _))) n fits = elim x61 [ ]
-expr_beyond {to = to} (by rule.parenthesized (token {t = t} {from = middle} o (past d (token {from = from} _ x75)))) n fits = elim x75 [ ]
+    (nested_read n level.Or middle (closing ∷ to) d.0 (omega arith) (shorter (Expression _) _ _ refl d) (closes CloseParen closing to refl c) (λ k le. reached d.1 k le (follows CloseParen closing to refl (λ e. cc e) c))) c) (omega arith)
 
 pub whole_goes : (from to : List Lexeme) → Goes (Expression level.Or) from to → Beyond (read.whole from) to
 unfolding read.whole
@@ -197,18 +143,12 @@ whole_goes from to g = nested_beyond (length from) level.Or from to (omega arith
 pub whole_shrinks : Shrinks read.whole
 whole_shrinks = shrinks_as (Expression level.Or) read.whole (λ from to a e. (a, sound_whole from to a e)) whole_stuck
 
--- the first symbol of what goes on with a word
-pub word_first : (s : Symbol) (parts : List Part) (from to : List Lexeme) → GoesParts (Word s ∷ parts) from to → symbol_at from ≡ s
-unfolding symbol_at
-word_first s parts from to (last a) = a
-word_first s parts from to (token a g) = a
-
 -- a whole expression before a symbol that joins nothing and opens no index
 pub expr_before : (s : Symbol) (n : ℕ) (parts : List Part) → joining s ≡ None → (s ≡ OpenBracket → ⊥) → Inner read.whole (Expression level.Or) n (Word s ∷ parts)
 expr_before s n parts none other = record {
   shrinks = whole_shrinks;
   goes = λ from to fits g. whole_goes from to g;
   reads = λ from middle to fits d g.
-      let at = word_first s parts middle to g in
+      let at = word_first g in
       (d.0, whole_read from middle d.0 d.1 (ap joining at ∙ none) (λ k. other (sym at ∙ k)));
 }

@@ -8,24 +8,18 @@ use Rattle.dp_tree.specs.declared.raw.RawStmt.TheVariants as tree
 use Rattle.dp_tokens.specs.declared.symbol.Symbol.{Symbol}
 use Rattle.dp_tokens.specs.declared.symbol.Symbol.TheVariants.{Name, Int, Assign, OpenParen, CloseParen, OpenBracket, CloseBracket, Semicolon}
 use Rattle.dp_parse.specs.declared.level.Level.TheVariants.{Or}
-use Rattle.dp_tokens.specs.Symbols.{symbol_at}
 use Rattle.dp_parse.specs.Levels.{joining}
 use Rattle.dp_parse.specs.Rules.{Part, Word, Of, Expression, Simple, First, Head}
-use Rattle.dp_parse.specs.Begins.{Derived}
 use Rattle.dp_parse.specs.Rules as rule
 use Rattle.dp_tokens.specs.Steps.{Outcome, Parser, ◌>>=◌, pure, and_then, expect, sees}
 use Rattle.dp_tokens.specs.Steps as step
 use Rattle.dp_parse.specs.descent.Expressions as expr
 use Rattle.dp_parse.specs.descent.Heads as read
-use Rattle.dp_parse.proofs.StepLemmas.{is_same}
-use Rattle.dp_parse.proofs.HeadReads.{ends_at, assign_other, first_other, reads_simple, reads_first, reads_head}
+use Rattle.dp_parse.proofs.HeadReads.{ends_at, assign_bracket, assign_other, simple_first, first_int, first_other, reads_simple, reads_first, reads_head}
 use Rattle.dp_parse.proofs.Stuck.{grouped, alone_by}
-use Rattle.dp_parse.proofs.Going.{Goes, GoesParts, by, last, token, within, past}
+use Rattle.dp_parse.proofs.Going.{Goes, GoesParts, by, within, no_goes, word_first}
 use Rattle.dp_parse.proofs.Beyond.{Beyond, Shrinks, same_beyond, Reading, Inner, part_and, word_and, name_and, ends, same_reading}
-use Rattle.dp_parse.proofs.BeyondExpressions.{whole_shrinks, whole_goes, expr_before, word_first}
-
-no_goes : {from to : List Lexeme} → GoesParts [] from to → ⊥
-no_goes g = elim g [ ]
+use Rattle.dp_parse.proofs.BeyondExpressions.{whole_shrinks, whole_goes, expr_before}
 
 -- an expression that nothing follows
 expr_last : (n : ℕ) → Inner expr.whole (Expression Or) n []
@@ -68,22 +62,18 @@ module _ {B : Type 0} (n : ℕ) (rest : List Part) (next : Inner expr.whole (Exp
     unfolding read.assign
     assign_shrinks from = assign_by (sees OpenBracket from) from
 
-    assign_bracket : (ts : List Lexeme) → symbol_at ts ≡ OpenBracket → read.assign name ts ≡ read.store name ts
-    unfolding read.assign sees
-    assign_bracket ts at = ap (λ (b : Bool). read.assign_by name b ts) (is_same (symbol_at ts) OpenBracket at)
-
     pub scalar_then : Reading (read.assign name >>= f) n (Word Assign ∷ Of (Expression Or) ∷ rest)
     scalar_then = record {
       shrinks = assign_shrinks;
       goes = λ from to fits g.
-          same_beyond to (ap (λ (o : Outcome RawStmt). and_then o f) (assign_other name from (λ k. let clash : Assign ≡ OpenBracket = sym (word_first Assign _ from to g) ∙ k in cc clash)))
+          same_beyond to (ap (λ (o : Outcome RawStmt). and_then o f) (assign_other name from (λ k. let clash : Assign ≡ OpenBracket = sym (word_first g) ∙ k in cc clash)))
           ((valued (tree.Assign name)).goes from to fits g);
     }
 
     pub element_then : Reading (read.assign name >>= f) n (Word OpenBracket ∷ Of (Expression Or) ∷ Word CloseBracket ∷ Word Assign ∷ Of (Expression Or) ∷ rest)
     element_then = record {
       shrinks = assign_shrinks;
-      goes = λ from to fits g. same_beyond to (ap (λ (o : Outcome RawStmt). and_then o f) (assign_bracket from (word_first OpenBracket _ from to g))) (store_then.goes from to fits g);
+      goes = λ from to fits g. same_beyond to (ap (λ (o : Outcome RawStmt). and_then o f) (assign_bracket name from (word_first g))) (store_then.goes from to fits g);
     }
 
 -- ---- what stands in the parentheses of a `for`
@@ -108,16 +98,8 @@ simple : (s : Symbol) (n : ℕ) (parts : List Part) → joining s ≡ None → (
 simple s n parts none other = record {
   shrinks = (scalar_read n).shrinks;
   goes = simple_goes n;
-  reads = λ from middle to fits d g. (d.0, reads_simple d.1 (ends_at s middle (word_first s parts middle to g) none other));
+  reads = λ from middle to fits d g. (d.0, reads_simple d.1 (ends_at s middle (word_first g) none other));
 }
-
-simple_first : {from to : List Lexeme} → Goes Simple from to → symbol_at from ≡ Name
-simple_first (by {from} {to} rule.scalar_assigned g) = word_first Name _ from to g
-simple_first (by {from} {to} rule.element_assigned g) = word_first Name _ from to g
-
-first_declares : (ts : List Lexeme) → symbol_at ts ≡ Int → read.first ts ≡ read.declare ts
-unfolding read.first sees
-first_declares ts at = ap (λ (b : Bool). read.first_by b ts) (is_same (symbol_at ts) Int at)
 
 first_by : (b : Bool) → Shrinks (read.first_by b)
 first_by true from = (declare_read 0).shrinks from
@@ -128,18 +110,15 @@ unfolding read.first
 first_shrinks from = first_by (sees Int from) from
 
 first_goes : (n : ℕ) (from to : List Lexeme) → length from ≤ n → Goes First from to → Beyond (read.first from) to
-first_goes n from to fits (by rule.declared g) = same_beyond to (first_declares from (word_first Int _ from to g)) ((declare_read n).goes from to fits g)
+first_goes n from to fits (by rule.declared g) = same_beyond to (first_int from (word_first g)) ((declare_read n).goes from to fits g)
 first_goes n from to fits (by rule.simple (within g)) =
     same_beyond to (first_other from (λ e. let clash : Name ≡ Int = sym (simple_first g) ∙ e in cc clash)) (simple_goes n from to fits g)
-first_goes n from to fits (by rule.simple (last a)) = absurd a
-first_goes n from to fits (by rule.simple (token a g)) = absurd a
-first_goes n from to fits (by rule.simple (past d g)) = absurd (no_goes g)
 
 first : (s : Symbol) (n : ℕ) (parts : List Part) → joining s ≡ None → (s ≡ OpenBracket → ⊥) → Inner read.first First n (Word s ∷ parts)
 first s n parts none other = record {
   shrinks = first_shrinks;
   goes = first_goes n;
-  reads = λ from middle to fits d g. (d.0, reads_first d.1 (ends_at s middle (word_first s parts middle to g) none other));
+  reads = λ from middle to fits d g. (d.0, reads_first d.1 (ends_at s middle (word_first g) none other));
 }
 
 head_read : (n : ℕ) → Reading read.head n (Word OpenParen ∷ Of First ∷ Word Semicolon ∷ Of (Expression Or) ∷ Word Semicolon ∷ Of Simple ∷ Word CloseParen ∷ [])

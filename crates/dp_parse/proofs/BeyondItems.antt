@@ -8,25 +8,23 @@ use Rattle.dp_tokens.specs.declared.symbol.Symbol.{Symbol}
 use Rattle.dp_tokens.specs.declared.symbol.Symbol.TheVariants.{Name, Int, Void, Minus, Assign, OpenParen, CloseParen, OpenBracket, CloseBracket, Comma, Semicolon}
 use Rattle.dp_tokens.specs.Symbols.{symbol_at, Is}
 use Rattle.dp_tokens.specs.Leaves.{name_of, IsNumber}
-use Rattle.dp_parse.specs.Rules.{Part, Word, Number, Length, Of, Names, Params, Item, Block}
-use Rattle.dp_parse.specs.Begins.{Derived}
+use Rattle.dp_parse.specs.Rules.{Part, Word, Number, Length, Of, Names, Params, Block}
 use Rattle.dp_parse.specs.Rules as rule
-use Rattle.dp_tokens.specs.Steps.{Outcome, Parser, ◌>>=◌, pure, and_then, expect, eat, sees, after, rest, given, separated}
+use Rattle.dp_tokens.specs.Steps.{Outcome, Parser, ◌>>=◌, pure, and_then, expect, sees, after, rest, given, separated}
 use Rattle.dp_tokens.specs.Steps as step
 use Rattle.dp_tokens.specs.Numbers as numbers
 use Rattle.dp_parse.specs.descent.Statements as statements
 use Rattle.dp_parse.specs.descent.Programs as read
-use Rattle.dp_parse.proofs.StepLemmas.{eats, stays, sees_other, sees_is, after-le, after_is, rest-le}
+use Rattle.dp_parse.proofs.StepLemmas.{eats, stays, sees_other, sees_is, after-le, after_is, rest-le, unlike}
 use Rattle.dp_parse.proofs.LeafLemmas.{reads_name, reads_number, sees_of}
 use Rattle.dp_parse.proofs.Lists.{separated_on}
 use Rattle.dp_parse.proofs.ItemSound.{sound_params}
-use Rattle.dp_parse.proofs.ItemComplete.{unlike, not_zero, reads_plain, reads_below, reads_param, reads_params}
+use Rattle.dp_parse.proofs.ItemComplete.{names_first, not_zero, reads_plain, reads_below, reads_param, reads_params}
 use Rattle.dp_parse.proofs.StatementComplete.{reads_block}
 use Rattle.dp_parse.proofs.StuckItems.{params_stuck}
-use Rattle.dp_parse.proofs.Going.{Goes, GoesParts, by, last, token, within, past}
+use Rattle.dp_parse.proofs.Going.{Goes, GoesParts, by, last, token, last_number, next_number, last_size, next_size, within, word_first}
 use Rattle.dp_parse.proofs.Stuck.{grouped}
 use Rattle.dp_parse.proofs.Beyond.{Beyond, Shrinks, shrinks_as, further, ok_beyond, same_beyond, and_on, name_shrinks, number_shrinks, Reading, Inner, part_and, word_and, name_and, ends, same_reading, separated_shrinks, separated_first}
-use Rattle.dp_parse.proofs.BeyondExpressions.{word_first}
 use Rattle.dp_parse.proofs.BeyondCalls.{word_splits}
 use Rattle.dp_parse.proofs.BeyondStatements.{block, block_goes, statement_goes}
 
@@ -34,7 +32,6 @@ use Rattle.dp_parse.proofs.BeyondStatements.{block, block_goes, statement_goes}
 
 name_alone : (n : ℕ) (from to : List Lexeme) → length from ≤ n → GoesParts (Word Name ∷ []) from to → Beyond (step.name from) to
 name_alone n from to fits (last {t} a) = ok_beyond to (reads_name t to a) (omega arith)
-name_alone n from to fits (token a g) = elim g [ ]
 
 param_read : (n : ℕ) → Reading read.param n (Word Int ∷ Word Name ∷ [])
 unfolding read.param
@@ -55,16 +52,6 @@ names_goes (by {to} rule.more_names (token {t = int} i (token {t = name} n (toke
     same_beyond to (separated_on read.param k found (int ∷ name ∷ comma ∷ middle) (comma ∷ middle) (name_of name) (reads_param int name (comma ∷ middle) i n) (omega arith) fits (sees_is Comma comma middle c)
     ∙ ap (separated read.param (k - 1) (found ++ name_of name ∷ [])) (after_is Comma comma middle c))
     (names_goes g (k - 1) (found ++ name_of name ∷ []) (omega arith))
-names_goes (by rule.more_names (token {t = int} i (token {t = name} n (token {t = comma} c (last {t = t} {to = to} x37))))) k found fits = elim x37 [ ]
-names_goes {to = to} (by rule.more_names (token {t = int} i (token {t = name} n (token {t = comma} c (token {t = t} {from = from} x42 _))))) k found fits = elim x42 [ ]
-names_goes {to = to} (by rule.more_names (token {t = int} i (token {t = name} n (token {t = comma} {from = middle} c (past _ x44))))) k found fits = elim x44 [ ]
-
-names_first : {from to : List Lexeme} → Goes Names from to → symbol_at from ≡ Int
-unfolding symbol_at
-names_first (by rule.last_name (last i)) = i
-names_first (by rule.last_name (token i g)) = i
-names_first (by rule.more_names (last i)) = i
-names_first (by rule.more_names (token i g)) = i
 
 params_goes : (from to : List Lexeme) → Goes Params from to → Beyond (read.params from) to
 unfolding read.params
@@ -75,11 +62,6 @@ params_goes from to (by rule.params (within g)) =
     same_beyond to (ap (λ (b : Bool). read.params_by b from) (sees_other CloseParen from (λ e. let clash : Int ≡ CloseParen = sym at ∙ e in cc clash))
     ∙ stays Void read.named_params_by from (λ e. let clash : Int ≡ Void = sym at ∙ e in cc clash))
     (names_goes g (length from) [] (omega arith))
-params_goes from to (by rule.no_params x11) = elim x11 [ ]
-params_goes _ to (by rule.void (token {t = t} {from = from} _ x22)) = elim x22 [ ]
-params_goes _ _ (by rule.params (last {t = t} {to = to} w)) = elim w [ ]
-params_goes _ to (by rule.params (token {t = t} {from = from} x23 _)) = elim x23 [ ]
-params_goes from to (by rule.params (past {middle = middle} _ x25)) = elim x25 [ ]
 
 given_params : (n : ℕ) (parts : List Part) → Inner read.params Params n (Word CloseParen ∷ parts)
 given_params n parts = record {
@@ -122,8 +104,8 @@ length_opens name t v from h least =
     ∙ ap (λ (o : Outcome ℤ). and_then (and_then o (λ z. expect CloseBracket >>= (λ _. pure (item.Array name z)))) finish) (reads_number t v from h)
 
 length_goes : (n : ℕ) (name : TreeName) (from to : List Lexeme) → length from ≤ n → GoesParts (Length ∷ Word CloseBracket ∷ Word Semicolon ∷ []) from to → Beyond (((λ ts. read.array_by name (numbers.sees_zero ts) ts) >>= finish) from) to
-length_goes n name from to fits (last {t} a) = same_beyond to (length_opens name t a.0 to a.1 a.2) ((closed n name (pos a.0)).shrinks to)
-length_goes n name from to fits (token {t} {from = middle} a g) = same_beyond to (length_opens name t a.0 middle a.1 a.2) ((closed n name (pos a.0)).goes middle to (omega arith) g)
+length_goes n name from to fits (last_size {t} a) = same_beyond to (length_opens name t a.0 to a.1 a.2) ((closed n name (pos a.0)).shrinks to)
+length_goes n name from to fits (next_size {t} {from = middle} a g) = same_beyond to (length_opens name t a.0 middle a.1 a.2) ((closed n name (pos a.0)).goes middle to (omega arith) g)
 
 array_read : (n : ℕ) (name : TreeName) → Reading (read.array name >>= finish) n (Word OpenBracket ∷ Length ∷ Word CloseBracket ∷ Word Semicolon ∷ [])
 unfolding read.array
@@ -156,8 +138,8 @@ scalar_opens : (name : TreeName) (z : ℤ) (from middle to : List Lexeme) → re
 scalar_opens name z from middle to e h = same_beyond to (ap (λ (o : Outcome ℤ). and_then (and_then o (λ z. pure (item.Scalar name z))) finish) e) h
 
 plain_goes : (n : ℕ) (name : TreeName) (from to : List Lexeme) → length from ≤ n → GoesParts (Number ∷ Word Semicolon ∷ []) from to → Beyond (scalar name from) to
-plain_goes n name from to fits (last {t} a) = scalar_opens name _ (t ∷ to) to to (reads_plain t a.0 to a.1) ((ended n _).shrinks to)
-plain_goes n name from to fits (token {t} {from = middle} a g) = scalar_opens name _ (t ∷ middle) middle to (reads_plain t a.0 middle a.1) ((ended n _).goes middle to (omega arith) g)
+plain_goes n name from to fits (last_number {t} a) = scalar_opens name _ (t ∷ to) to to (reads_plain t a.0 to a.1) ((ended n _).shrinks to)
+plain_goes n name from to fits (next_number {t} {from = middle} a g) = scalar_opens name _ (t ∷ middle) middle to (reads_plain t a.0 middle a.1) ((ended n _).goes middle to (omega arith) g)
 
 minus_opens : (name : TreeName) (t : Lexeme) (to : List Lexeme) → Is Minus t → Beyond (read.start (t ∷ to)) to
 unfolding read.start
@@ -167,8 +149,8 @@ below_goes : (n : ℕ) (name : TreeName) (from to : List Lexeme) → length from
 below_goes n name from to fits (last {t} m) =
     same_beyond to (grouped (λ z. pure (item.Scalar name z)) finish read.start (t ∷ to))
     (and_on read.start (λ z. finish (item.Scalar name z)) (λ z. (ended 0 (item.Scalar name z)).shrinks) (t ∷ to) to (minus_opens name t to m))
-below_goes n name from to fits (token {t = minus} m (last {t} a)) = scalar_opens name _ (minus ∷ t ∷ to) to to (reads_below minus t a.0 to m a.1) ((ended n _).shrinks to)
-below_goes n name from to fits (token {t = minus} m (token {t} {from = middle} a g)) = scalar_opens name _ (minus ∷ t ∷ middle) middle to (reads_below minus t a.0 middle m a.1) ((ended n _).goes middle to (omega arith) g)
+below_goes n name from to fits (token {t = minus} m (last_number {t} a)) = scalar_opens name _ (minus ∷ t ∷ to) to to (reads_below minus t a.0 to m a.1) ((ended n _).shrinks to)
+below_goes n name from to fits (token {t = minus} m (next_number {t} {from = middle} a g)) = scalar_opens name _ (minus ∷ t ∷ middle) middle to (reads_below minus t a.0 middle m a.1) ((ended n _).goes middle to (omega arith) g)
 
 -- behind a `=`
 assign_goes : (n : ℕ) (name : TreeName) (parts : List Part) → ((from to : List Lexeme) → length from ≤ n → GoesParts parts from to → Beyond (scalar name from) to) →
@@ -191,7 +173,7 @@ variable_shrinks name _ from = (ended 0 _).shrinks from
 by_symbol : (n : ℕ) (name : TreeName) (s : Symbol) (parts : List Part) → Reading (read.variable_by name s >>= finish) n (Word s ∷ parts) → Reading (step.peek >>= (λ s. read.variable_by name s >>= finish)) n (Word s ∷ parts)
 by_symbol n name s parts r = record {
   shrinks = λ from. variable_shrinks name (symbol_at from) from;
-  goes = λ from to fits g. same_beyond to (ap (λ (k : Symbol). (read.variable_by name k >>= finish) from) (word_first s parts from to g)) (r.goes from to fits g);
+  goes = λ from to fits g. same_beyond to (ap (λ (k : Symbol). (read.variable_by name k >>= finish) from) (word_first g)) (r.goes from to fits g);
 }
 
 variable_read : (n : ℕ) (s : Symbol) (parts : List Part) → ((name : TreeName) → Reading (read.variable_by name s >>= finish) n (Word s ∷ parts)) → Reading read.variable n (Word Name ∷ Word s ∷ parts)

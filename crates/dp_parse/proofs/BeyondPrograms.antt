@@ -1,5 +1,5 @@
 -- A program is read at least to the end of what begins it.
-use Rattle.std.proofs.Common.{◌≡◌, refl, ap, ◌∙◌, sym, ℕ, zero, suc, ◌≤◌, ◌-◌, Bool, true, false, List, [], ◌∷◌, ◌++◌, length, Ok, Err, arith, inl, inr}
+use Rattle.std.proofs.Common.{◌≡◌, refl, ap, ◌∙◌, sym, ℕ, zero, suc, ◌≤◌, ◌-◌, Bool, true, false, List, [], ◌∷◌, ◌++◌, length, arith, inl, inr}
 use Rattle.dp_base.specs.Arithmetic.{is_zero}
 use Rattle.dp_lex.specs.Token.{Lexeme}
 use Rattle.dp_tree.specs.declared.raw.RawStmt.{RawStmt}
@@ -12,24 +12,22 @@ use Rattle.dp_tokens.specs.Symbols.{symbol_at, Is}
 use Rattle.dp_tokens.specs.Leaves.{IsNumber}
 use Rattle.dp_parse.specs.Programs.{DerivesItems}
 use Rattle.dp_parse.specs.Programs as derives
-use Rattle.dp_parse.specs.Rules.{Part, Word, Zero, Of, Statement, Condition, Block, Loop, Item, Items, Tops, Ending, Body, Program}
-use Rattle.dp_parse.specs.Begins.{Derived, Begins}
+use Rattle.dp_parse.specs.Rules.{Part, Word, Of, Block, Item, Items, Tops, Ending, Body, Program}
+use Rattle.dp_parse.specs.Begins.{Begins}
 use Rattle.dp_parse.specs.Rules as rule
-use Rattle.dp_tokens.specs.Steps.{Outcome, Parser, ◌>>=◌, pure, and_then, expect, eat, sees, after, many}
+use Rattle.dp_tokens.specs.Steps.{Parser, ◌>>=◌, pure, expect, eat, sees, after, many}
 use Rattle.dp_tokens.specs.Numbers as numbers
 use Rattle.dp_parse.specs.descent.Programs as read
-use Rattle.dp_parse.proofs.StepLemmas.{expects, eats, stays, after-le}
+use Rattle.dp_parse.proofs.StepLemmas.{eats, stays, after-le}
 use Rattle.dp_parse.proofs.LeafLemmas.{reads_number, sees_of}
-use Rattle.dp_parse.proofs.ShorterPrograms.{shorter_item, shorter_main}
+use Rattle.dp_parse.proofs.Spans.{shorter, no_longer}
 use Rattle.dp_parse.proofs.StatementReads.{goes}
-use Rattle.dp_parse.proofs.ItemComplete.{unlike}
 use Rattle.dp_parse.proofs.ProgramSteps.{program_item}
 use Rattle.dp_parse.proofs.ProgramSound.{inside, DerivesPart, sound_part}
-use Rattle.dp_parse.proofs.ProgramComplete.{ends_return, reads_tops, return_closes, reads_returned, reads_item}
-use Rattle.dp_parse.proofs.StuckPrograms.{returned_sound, returned_stuck, part_stuck, PartBegins, an_item, a_body}
-use Rattle.dp_parse.proofs.Going.{Goes, GoesParts, by, last, token, within, past, normal, OrNone}
-use Rattle.dp_parse.proofs.Beyond.{Beyond, Shrinks, shrinks_as, begins_shorter, further, same_beyond, and_on, number_shrinks, Reading, Inner, part_and, word_and, ends, mapped_and, many_shrinks}
-use Rattle.dp_parse.proofs.BeyondExpressions.{word_first}
+use Rattle.dp_parse.proofs.ProgramComplete.{part_int, part_void, ends_return, reads_tops, return_closes, reads_returned, reads_item}
+use Rattle.dp_parse.proofs.StuckPrograms.{returned_sound, returned_stuck, part_stuck, an_item, a_body}
+use Rattle.dp_parse.proofs.Going.{Goes, GoesParts, by, last, token, last_zero, next_zero, within, past, normal, OrNone, word_first}
+use Rattle.dp_parse.proofs.Beyond.{Beyond, Shrinks, shrinks_if, shrinks_as, begins_shorter, further, same_beyond, and_on, number_shrinks, Reading, Inner, part_and, word_and, ends, mapped_and, many_shrinks}
 use Rattle.dp_parse.proofs.BeyondCalls.{word_splits}
 use Rattle.dp_parse.proofs.BeyondItems.{function_read, plain_read, started_read, below_read, bracket_read}
 use Rattle.dp_parse.proofs.BeyondTops.{top_shrinks, tops_go}
@@ -56,9 +54,8 @@ returned_opens w from is = eats Return read.returned_by w from is
 
 returned_goes : (from to : List Lexeme) → Goes Ending from to → Beyond (read.returned from) to
 returned_goes from to (by rule.return (last {t} w)) = same_beyond to (returned_opens t to w) (zero_shrinks (numbers.sees_zero to) to)
-returned_goes from to (by rule.return (token {t = word} w (last {t} z))) = same_beyond to (returned_opens word (t ∷ to) w ∙ zero_opens t to z) ((semicolon_read 0).shrinks to)
-returned_goes from to (by rule.return (token {t = word} w (token {t} {from = middle} z g))) = same_beyond to (returned_opens word (t ∷ middle) w ∙ zero_opens t middle z) ((semicolon_read (length middle)).goes middle to (omega arith) g)
-returned_goes from to (by rule.no_return x11) = elim x11 [ ]
+returned_goes from to (by rule.return (token {t = word} w (last_zero {t} z))) = same_beyond to (returned_opens word (t ∷ to) w ∙ zero_opens t to z) ((semicolon_read 0).shrinks to)
+returned_goes from to (by rule.return (token {t = word} w (next_zero {t} {from = middle} z g))) = same_beyond to (returned_opens word (t ∷ middle) w ∙ zero_opens t middle z) ((semicolon_read (length middle)).goes middle to (omega arith) g)
 
 ending : (n : ℕ) (parts : List Part) → Inner read.returned Ending n (Word CloseBrace ∷ parts)
 unfolding read.returned
@@ -76,14 +73,11 @@ return_first : {from to : List Lexeme} → Goes Ending from to → symbol_at fro
 unfolding symbol_at
 return_first (by rule.return (last a)) = a
 return_first (by rule.return (token a g)) = a
-return_first {from = from} {to = to} (by rule.no_return x11) = elim x11 [ ]
 
 -- what may stand behind the statements of `main`
 closes : (from to : List Lexeme) → GoesParts (Of Ending ∷ Word CloseBrace ∷ []) from to → read.ends from ≡ true
 closes from to (within g) = ends_return from (return_first g)
 closes from to (past {middle} d g) = let w = word_splits CloseBrace [] middle to g in return_closes d w.0 w.1 w.2 w.3
-closes _ _ (last {t = t} {to = to} x5) = elim x5 [ ]
-closes _ to (token {t = t} {from = from} x10 _) = elim x10 [ ]
 
 tops : (n : ℕ) → Inner (λ ts. many read.ends read.top (length ts) [] ts) Tops n (Of Ending ∷ Word CloseBrace ∷ [])
 tops n = record {
@@ -100,7 +94,7 @@ void_shrinks from = further _ (after Void from) from (after-le Void from) ((insi
 
 plain_goes : (n : ℕ) (from to : List Lexeme) → length from ≤ n → GoesParts (Word CloseParen ∷ Word OpenBrace ∷ Of Tops ∷ Of Ending ∷ Word CloseBrace ∷ []) from to → Beyond ((eat Void >>= (λ _. inside)) from) to
 plain_goes n from to fits g =
-    same_beyond to (stays Void (λ _. inside) from (λ e. let clash : CloseParen ≡ Void = sym (word_first CloseParen _ from to g) ∙ e in cc clash)) ((inside_read n).goes from to fits g)
+    same_beyond to (stays Void (λ _. inside) from (λ e. let clash : CloseParen ≡ Void = sym (word_first g) ∙ e in cc clash)) ((inside_read n).goes from to fits g)
 
 void_goes : (n : ℕ) (from to : List Lexeme) → length from ≤ n → GoesParts (Word Void ∷ Word CloseParen ∷ Word OpenBrace ∷ Of Tops ∷ Of Ending ∷ Word CloseBrace ∷ []) from to → Beyond ((eat Void >>= (λ _. inside)) from) to
 void_goes n from to fits (last {t} v) = same_beyond to (eats Void (λ _. inside) t to v) ((inside_read 0).shrinks to)
@@ -116,14 +110,6 @@ main_void_read n = word_and OpenParen n _ _ (λ _. record { shrinks = void_shrin
 
 -- ---- parts of a program
 
-part_int : (int : Lexeme) (from : List Lexeme) → Is Int int → read.part (int ∷ from) ≡ (eat Main >>= read.global_by) from
-unfolding read.part
-part_int int from i = stays Void read.part_by (int ∷ from) (unlike int from Int Void i (λ e. cc e)) ∙ goes (λ _. eat Main >>= read.global_by) (expects Int int from i)
-
-part_void : (word : Lexeme) (from : List Lexeme) → Is Void word → read.part (word ∷ from) ≡ (read.function >>= (λ f. pure (AnItem f))) from
-unfolding read.part
-part_void word from v = eats Void read.part_by word from v
-
 function_and : (n : ℕ) → Reading (read.function >>= (λ f. pure (AnItem f))) n (Word Name ∷ Word OpenParen ∷ Of rule.Params ∷ Word CloseParen ∷ Of Block ∷ [])
 function_and n = mapped_and read.function n _ (function_read n) AnItem
 
@@ -138,7 +124,7 @@ int_shrinks from = further _ (after Main from) from (after-le Main from) (global
 variable_goes : (parts : List Part) → ((n : ℕ) → Reading read.variable n (Word Name ∷ parts)) → (from to : List Lexeme) → GoesParts (Word Int ∷ Word Name ∷ parts) from to → Beyond (read.part from) to
 variable_goes parts r from to (last {t} i) = same_beyond to (part_int t to i) (int_shrinks to)
 variable_goes parts r from to (token {t} {from = middle} i g) =
-    same_beyond to (part_int t middle i ∙ stays Main read.global_by middle (λ e. let clash : Name ≡ Main = sym (word_first Name parts middle to g) ∙ e in cc clash))
+    same_beyond to (part_int t middle i ∙ stays Main read.global_by middle (λ e. let clash : Name ≡ Main = sym (word_first g) ∙ e in cc clash))
     ((mapped_and read.variable (length middle) _ (r (length middle)) AnItem).goes middle to (omega arith) g)
 
 item_goes : (from to : List Lexeme) → Goes Item from to → Beyond (read.part from) to
@@ -171,19 +157,12 @@ program_by again goes found (AnItem i) = goes (found ++ i ∷ [])
 program_by again goes found (TheBody body) = finished_shrinks found body
 
 read_shorter : (from to : List Lexeme) (p : ReadPart) → DerivesPart from to p → length to ≤ length from
-read_shorter from to (AnItem i) d = let a = shorter_item d in omega arith
-read_shorter from to (TheBody body) d = let a = shorter_main d in omega arith
-
-part_by : (from : List Lexeme) (o : Outcome ReadPart) → read.part from ≡ o → Beyond o from
-part_by from (Ok x) is = read_shorter from x.1 x.0 (sound_part from x.1 x.0 is)
-part_by from (Err left) is = begun (part_stuck from left is)
-  where
-    begun : PartBegins from left → length left ≤ length from
-    begun (an_item b) = begins_shorter b
-    begun (a_body b) = begins_shorter b
+read_shorter from to (AnItem i) d = no_longer Item _ _ (_, d)
+read_shorter from to (TheBody body) d = no_longer Body _ _ (_, d)
 
 part_shrinks : Shrinks read.part
-part_shrinks from = part_by from (read.part from) refl
+part_shrinks =
+    shrinks_if read.part (λ from to p is. read_shorter from to p (sound_part from to p is)) (λ from to is. elim (part_stuck from to is) [ an_item b ↦ begins_shorter b | a_body b ↦ begins_shorter b ])
 
 from_shrinks : (k : ℕ) (found : List RawItem) → Shrinks (read.program_from k found)
 unfolding read.program_from
@@ -198,30 +177,19 @@ from_first (suc k) found from to fits h = and_on read.part (read.program_by (rea
 items_go : {from to : List Lexeme} → Goes Items from to → (k : ℕ) (found : List RawItem) → length from ≤ k → Beyond (read.program_from k found from) to
 items_go (by {from} {to} rule.more_items (within g)) k found fits = from_first k found from to fits (item_goes from to g)
 items_go (by {from} {to} rule.more_items (past {middle} d (within g))) k found fits =
-    let less = shorter_item d.1 in
+    let less = shorter Item _ _ refl d in
     same_beyond to (program_item k found from middle d.0 (reads_item d.1) less fits) (items_go g (k - 1) (found ++ d.0 ∷ []) (omega arith))
-items_go {from = from} {to = to} (by rule.no_item x26) k found fits = elim x26 [ ]
-items_go (by rule.more_items (last {t = t} {to = to} x38)) k found fits = elim x38 [ ]
-items_go {to = to} (by rule.more_items (token {t = t} {from = from} x43 _)) k found fits = elim x43 [ ]
-items_go {from = from} {to = to} (by rule.more_items (past d (last {t = t} x52))) k found fits = elim x52 [ ]
-items_go {from = from} {to = to} (by rule.more_items (past d (token {t = t} x57 _))) k found fits = elim x57 [ ]
-items_go {from = from} {to = to} (by rule.more_items (past {middle = middle} d (past _ x60))) k found fits = elim x60 [ ]
 
 then_body : {from middle : List Lexeme} {items : List RawItem} → DerivesItems from middle items → (to : List Lexeme) → Goes Body middle to → (k : ℕ) (found : List RawItem) → length from ≤ k → Beyond (read.program_from k found from) to
 then_body (derives.none {to = from}) to g k found fits = from_first k found from to fits (body_goes from to g)
 then_body (derives.more {from} {middle} {i} d ds) to g k found fits =
-    let less = shorter_item d in
+    let less = shorter Item _ _ refl (_, d) in
     same_beyond to (program_item k found from middle i (reads_item d) less fits) (then_body ds to g (k - 1) (found ++ i ∷ []) (omega arith))
 
 program_goes : (from to : List Lexeme) → Goes Program from to → Beyond (read.program from) to
 unfolding read.program
 program_goes from to (by rule.program (within g)) = items_go g (length from) [] (omega arith)
 program_goes from to (by rule.program (past d (within g))) = then_body d.1 to g (length from) [] (omega arith)
-program_goes _ _ (by rule.program (last {t = t} {to = to} x16)) = elim x16 [ ]
-program_goes _ to (by rule.program (token {t = t} {from = from} x21 _)) = elim x21 [ ]
-program_goes from to (by rule.program (past d (last {t = t} x23))) = elim x23 [ ]
-program_goes from to (by rule.program (past d (token {t = t} x28 _))) = elim x28 [ ]
-program_goes from to (by rule.program (past {middle = middle} d (past _ x30))) = elim x30 [ ]
 
 program_shrinks : Shrinks read.program
 unfolding read.program

@@ -1,30 +1,28 @@
 -- A region is read at least to the end of what begins it.
-use Rattle.std.proofs.Common.{◌≡◌, refl, ◌∙◌, sym, ℕ, ◌≤◌, ◌-◌, Bool, true, false, List, [], ◌∷◌, ◌++◌, length, Ok, Err, arith}
+use Rattle.std.proofs.Common.{◌≡◌, refl, ◌∙◌, sym, ℕ, ◌≤◌, ◌-◌, Bool, true, false, List, [], ◌∷◌, ◌++◌, length, Ok, arith}
 use Rattle.dp_lex.specs.Token.{Lexeme}
 use Rattle.dp_tree.specs.declared.raw.RawStmt.{RawStmt}
 use Rattle.dp_tokens.specs.declared.symbol.Symbol.{Symbol}
 use Rattle.dp_tokens.specs.declared.symbol.Symbol.TheVariants.{Name, Int, Print, While, For, If, Else, OpenBrace, CloseBrace}
 use Rattle.dp_tokens.specs.Symbols.{symbol_at}
-use Rattle.dp_parse.specs.Rules.{Part, Word, Of, Condition, Head, Statement, Choice, Block, Statements, Exit, Inside, Loop}
-use Rattle.dp_parse.specs.Begins.{Derived}
+use Rattle.dp_parse.specs.Rules.{Part, Word, Of, Condition, Head, Statement, Exit, Inside, Loop}
 use Rattle.dp_parse.specs.Rules as rule
-use Rattle.dp_tokens.specs.Steps.{Outcome, Parser, sees, many}
+use Rattle.dp_tokens.specs.Steps.{Parser, sees, many}
 use Rattle.dp_parse.specs.descent.Heads as heads
 use Rattle.dp_parse.specs.descent.Statements as statements
 use Rattle.dp_parse.specs.descent.Regions as read
 use Rattle.dp_parse.proofs.StepLemmas.{sees_other}
 use Rattle.dp_parse.proofs.Lists.{many_turn}
-use Rattle.dp_parse.proofs.Shorter.{shorter_statement}
-use Rattle.dp_parse.proofs.StatementReads.{begins_not}
-use Rattle.dp_parse.proofs.RegionSound.{inside_shorter, shorter_exit}
-use Rattle.dp_parse.proofs.RegionComplete.{inside_other, exit_begins, reads_inside, reads_exit, reads_insides, reads_loop, region_while, region_for}
+use Rattle.dp_parse.proofs.Spans.{shorter}
+use Rattle.dp_parse.proofs.StatementReads.{first_not, begins_not}
+use Rattle.dp_parse.proofs.RegionSound.{inside_shorter}
+use Rattle.dp_parse.proofs.RegionComplete.{inside_other, exit_not, reads_inside, reads_exit, reads_insides, reads_loop, region_while, region_for}
 use Rattle.dp_parse.proofs.StuckRegions.{Begun, plainly, leaves, inside_stuck}
-use Rattle.dp_parse.proofs.Going.{Goes, by, last, token, within, past}
-use Rattle.dp_parse.proofs.Beyond.{Beyond, Shrinks, begins_shorter, same_beyond, Reading, Inner, part_and, word_and, ends, many_shrinks, many_first}
-use Rattle.dp_parse.proofs.BeyondExpressions.{word_first}
+use Rattle.dp_parse.proofs.Going.{Goes, by, within, past, word_first, goes_whole}
+use Rattle.dp_parse.proofs.Beyond.{Beyond, Shrinks, shrinks_if, begins_shorter, same_beyond, Reading, Inner, part_and, word_and, ends, many_shrinks, many_first}
 use Rattle.dp_parse.proofs.BeyondHeads.{head}
 use Rattle.dp_parse.proofs.BeyondCalls.{test}
-use Rattle.dp_parse.proofs.BeyondStatements.{first_not, statement_goes}
+use Rattle.dp_parse.proofs.BeyondStatements.{statement_goes}
 use Rattle.dp_parse.proofs.BeyondBranches.{left, left_braced, branch_read, as_branch, choice_goes}
 
 module _ (n : ℕ) where
@@ -37,17 +35,14 @@ module _ (n : ℕ) where
   other_goes s from to at other fits g = same_beyond to (inside_other plain from (λ k. other (sym at ∙ k))) (statement_goes n from to fits g)
 
   inside_goes : (from to : List Lexeme) → length from ≤ n → Goes Statement from to → Beyond (read.inside plain from) to
-  inside_goes from to fits (by rule.declare g) = other_goes Int from to (word_first Int _ from to g) (λ e. cc e) fits (by rule.declare g)
-  inside_goes from to fits (by rule.assign g) = other_goes Name from to (word_first Name _ from to g) (λ e. cc e) fits (by rule.assign g)
-  inside_goes from to fits (by rule.store g) = other_goes Name from to (word_first Name _ from to g) (λ e. cc e) fits (by rule.store g)
-  inside_goes from to fits (by rule.call g) = other_goes Name from to (word_first Name _ from to g) (λ e. cc e) fits (by rule.call g)
-  inside_goes from to fits (by rule.print g) = other_goes Print from to (word_first Print _ from to g) (λ e. cc e) fits (by rule.print g)
-  inside_goes from to fits (by rule.loop g) = other_goes While from to (word_first While _ from to g) (λ e. cc e) fits (by rule.loop g)
-  inside_goes from to fits (by rule.for_loop g) = other_goes For from to (word_first For _ from to g) (λ e. cc e) fits (by rule.for_loop g)
+  inside_goes from to fits (by rule.declare g) = other_goes Int from to (word_first g) (λ e. cc e) fits (by rule.declare g)
+  inside_goes from to fits (by rule.assign g) = other_goes Name from to (word_first g) (λ e. cc e) fits (by rule.assign g)
+  inside_goes from to fits (by rule.store g) = other_goes Name from to (word_first g) (λ e. cc e) fits (by rule.store g)
+  inside_goes from to fits (by rule.call g) = other_goes Name from to (word_first g) (λ e. cc e) fits (by rule.call g)
+  inside_goes from to fits (by rule.print g) = other_goes Print from to (word_first g) (λ e. cc e) fits (by rule.print g)
+  inside_goes from to fits (by rule.loop g) = other_goes While from to (word_first g) (λ e. cc e) fits (by rule.loop g)
+  inside_goes from to fits (by rule.for_loop g) = other_goes For from to (word_first g) (λ e. cc e) fits (by rule.for_loop g)
   inside_goes from to fits (by rule.choice (within g)) = choice_goes n from to fits g
-  inside_goes from to fits (by rule.choice (last a)) = absurd a
-  inside_goes from to fits (by rule.choice (token a g)) = absurd a
-  inside_goes from to fits (by rule.choice (past d g)) = elim g [ ]
 
   exit_goes : (from to : List Lexeme) → length from ≤ n → Goes Exit from to → Beyond (read.inside plain from) to
   exit_goes from to fits (by rule.bare g) = as_branch n _ from to fits g (branch_read n _ (λ line cond. left n line cond))
@@ -57,30 +52,14 @@ module _ (n : ℕ) where
   begun_shorter (plainly b) = begins_shorter b
   begun_shorter (leaves b) = begins_shorter b
 
-  inside_by : (from : List Lexeme) (o : Outcome RawStmt) → read.inside plain from ≡ o → Beyond o from
-  inside_by from (Ok x) is = let less = inside_shorter n from x.1 x.0 is in omega arith
-  inside_by from (Err stuck) is = begun_shorter (inside_stuck n from stuck is)
-
   inside_shrinks : Shrinks (read.inside plain)
-  inside_shrinks from = inside_by from (read.inside plain from) refl
-
-  exit_first : {from to : List Lexeme} → Goes Exit from to → symbol_at from ≡ If
-  exit_first (by {from} {to} rule.bare g) = word_first If _ from to g
-  exit_first (by {from} {to} rule.braced g) = word_first If _ from to g
-
-  exit_not : {from to : List Lexeme} → Goes Exit from to → (k : Symbol) → (If ≡ k → ⊥) → symbol_at from ≡ k → ⊥
-  exit_not g k other at = other (sym (exit_first g) ∙ at)
+  inside_shrinks = shrinks_if (read.inside plain) (λ from to s is. let less = inside_shorter n from to s is in omega arith) (λ from to is. begun_shorter (inside_stuck n from to is))
 
   insides_first : {from to : List Lexeme} → Goes Inside from to → symbol_at from ≡ Else → ⊥
   insides_first (by rule.statement_inside (within g)) at = first_not g Else refl at
   insides_first (by rule.statement_inside (past d g)) at = begins_not d.1 Else refl at
-  insides_first (by rule.statement_inside (last a)) at = absurd a
-  insides_first (by rule.statement_inside (token a g)) at = absurd a
   insides_first (by rule.exit_inside (within g)) at = exit_not g Else (λ e. cc e) at
-  insides_first (by rule.exit_inside (past d g)) at = exit_begins d.1 Else (λ e. cc) at
-  insides_first (by rule.exit_inside (last a)) at = absurd a
-  insides_first (by rule.exit_inside (token a g)) at = absurd a
-  insides_first {from = from} {to = to} (by rule.nothing_inside x18) at = elim x18 [ ]
+  insides_first (by rule.exit_inside (past d g)) at = exit_not (goes_whole Exit refl d) Else (λ e. cc) at
 
   abbrev all : ℕ → List RawStmt → Parser (List RawStmt)
   all k found = many (sees CloseBrace) (read.inside plain) k found
@@ -96,29 +75,18 @@ module _ (n : ℕ) where
   insides_go : {from to : List Lexeme} → Goes Inside from to → (k : ℕ) (found : List RawStmt) → length from ≤ n → length from ≤ k → Beyond (all k found from) to
   insides_go (by {from} {to} rule.statement_inside (within g)) k found fits enough = first_goes k found from to enough (first_not g CloseBrace refl) (inside_goes from to fits g)
   insides_go (by {from} {to} rule.statement_inside (past {middle} d (within g))) k found fits enough =
-      let less = shorter_statement d.1 in
+      let less = shorter Statement _ _ refl d in
       same_beyond to (turn k found from middle d.0 enough (begins_not d.1 CloseBrace refl) (reads_inside d.1 n fits (insides_first g))) (insides_go g (k - 1) (found ++ d.0 ∷ []) (omega arith) (omega arith))
   insides_go (by {from} {to} rule.exit_inside (within g)) k found fits enough = first_goes k found from to enough (exit_not g CloseBrace (λ e. cc e)) (exit_goes from to fits g)
   insides_go (by {from} {to} rule.exit_inside (past {middle} d (within g))) k found fits enough =
-      let less = shorter_exit d.1 in
-      same_beyond to (turn k found from middle d.0 enough (exit_begins d.1 CloseBrace (λ e. cc)) (reads_exit plain d.1)) (insides_go g (k - 1) (found ++ d.0 ∷ []) (omega arith) (omega arith))
-  insides_go {from = from} {to = to} (by rule.nothing_inside x37) k found fits enough = elim x37 [ ]
-  insides_go (by rule.statement_inside (last {t = t} {to = to} x55)) k found fits enough = elim x55 [ ]
-  insides_go {to = to} (by rule.statement_inside (token {t = t} {from = from} x60 _)) k found fits enough = elim x60 [ ]
-  insides_go {from = from} {to = to} (by rule.statement_inside (past d (last {t = t} x76))) k found fits enough = elim x76 [ ]
-  insides_go {from = from} {to = to} (by rule.statement_inside (past d (token {t = t} x81 _))) k found fits enough = elim x81 [ ]
-  insides_go {from = from} {to = to} (by rule.statement_inside (past {middle = middle} d (past _ x85))) k found fits enough = elim x85 [ ]
-  insides_go (by rule.exit_inside (last {t = t} {to = to} x56)) k found fits enough = elim x56 [ ]
-  insides_go {to = to} (by rule.exit_inside (token {t = t} {from = from} x61 _)) k found fits enough = elim x61 [ ]
-  insides_go {from = from} {to = to} (by rule.exit_inside (past d (last {t = t} x77))) k found fits enough = elim x77 [ ]
-  insides_go {from = from} {to = to} (by rule.exit_inside (past d (token {t = t} x82 _))) k found fits enough = elim x82 [ ]
-  insides_go {from = from} {to = to} (by rule.exit_inside (past {middle = middle} d (past _ x86))) k found fits enough = elim x86 [ ]
+      let less = shorter Exit _ _ refl d in
+      same_beyond to (turn k found from middle d.0 enough (exit_not (goes_whole Exit refl d) CloseBrace (λ e. cc)) (reads_exit plain d.1)) (insides_go g (k - 1) (found ++ d.0 ∷ []) (omega arith) (omega arith))
 
   insides : Inner (λ ts. all (length ts) [] ts) Inside n (Word CloseBrace ∷ [])
   insides = record {
     shrinks = λ from. many_shrinks (read.inside plain) inside_shrinks (sees CloseBrace) (length from) [] from;
     goes = λ from to fits g. insides_go g (length from) [] fits (omega arith);
-    reads = λ from middle to fits d g. (d.0, reads_insides n d.1 fits (word_first CloseBrace [] middle to g) [] (length from) (omega arith));
+    reads = λ from middle to fits d g. (d.0, reads_insides n d.1 fits (word_first g) [] (length from) (omega arith));
   }
 
   body_read : Reading (read.body plain) n (Word OpenBrace ∷ Of Inside ∷ Word CloseBrace ∷ [])
@@ -152,7 +120,7 @@ module _ (n : ℕ) where
   region_shrinks from = region_by (sees For from) from
 
   pub while_read : Reading (read.region plain) n (Word While ∷ Of Condition ∷ Of Loop ∷ [])
-  while_read = record { shrinks = region_shrinks; goes = λ from to fits g. same_beyond to (region_while n from (word_first While _ from to g)) (repeated_read.goes from to fits g) }
+  while_read = record { shrinks = region_shrinks; goes = λ from to fits g. same_beyond to (region_while n from (word_first g)) (repeated_read.goes from to fits g) }
 
   pub for_read : Reading (read.region plain) n (Word For ∷ Of Head ∷ Of Loop ∷ [])
-  for_read = record { shrinks = region_shrinks; goes = λ from to fits g. same_beyond to (region_for n from (word_first For _ from to g)) (counted_read.goes from to fits g) }
+  for_read = record { shrinks = region_shrinks; goes = λ from to fits g. same_beyond to (region_for n from (word_first g)) (counted_read.goes from to fits g) }

@@ -5,66 +5,28 @@ use Rattle.dp_tree.specs.declared.raw.RawStmt.{RawStmt}
 use Rattle.dp_tokens.specs.declared.symbol.Symbol.{Symbol}
 use Rattle.dp_tokens.specs.declared.symbol.Symbol.TheVariants.{Name, Int, Print, While, For, If, Else, Assign, OpenParen, OpenBracket, OpenBrace, CloseBrace}
 use Rattle.dp_tokens.specs.Symbols.{symbol_at, Is}
-use Rattle.dp_parse.specs.Rules.{Nonterminal, Part, Word, Of, Expression, Expressions, Arguments, Condition, Head, Statement, Choice, Block, Statements}
-use Rattle.dp_parse.specs.Begins.{Derived}
+use Rattle.dp_parse.specs.Rules.{Part, Word, Of, Condition, Head, Statement, Choice, Block, Statements}
 use Rattle.dp_parse.specs.Rules as rule
 use Rattle.dp_tokens.specs.Steps.{pure, sees, after, many}
 use Rattle.dp_parse.specs.descent.Heads as heads
 use Rattle.dp_parse.specs.descent.Statements as read
 use Rattle.dp_parse.proofs.StepLemmas.{is_same, eats, sees_other, after-le}
 use Rattle.dp_parse.proofs.StatementSound.{sound_statement}
-use Rattle.dp_parse.proofs.StatementReads.{begins, begins_not}
-use Rattle.dp_parse.proofs.Shorter.{shorter_statement}
+use Rattle.dp_parse.proofs.StatementReads.{begins, choice_first, first_not, begins_not}
+use Rattle.dp_parse.proofs.Spans.{shorter}
 use Rattle.dp_parse.proofs.Lists.{many_turn}
 use Rattle.dp_parse.proofs.StatementComplete.{reads_statement, reads_statements, reads_block}
 use Rattle.dp_parse.proofs.StuckStatements.{statement_stuck}
-use Rattle.dp_parse.proofs.Going.{Goes, GoesParts, by, last, token, within, past}
+use Rattle.dp_parse.proofs.Going.{Goes, GoesParts, by, last, token, within, past, word_first}
 use Rattle.dp_parse.proofs.Beyond.{Beyond, Shrinks, shrinks_as, further, same_beyond, and_on, pure_shrinks, Reading, Inner, part_and, word_and, finished, ends, mapped_and, word_less, many_shrinks, many_first}
-use Rattle.dp_parse.proofs.BeyondExpressions.{word_first}
 use Rattle.dp_parse.proofs.BeyondHeads.{head}
 use Rattle.dp_parse.proofs.BeyondCalls.{test, declaration_read, print_read, scalar_read, element_read, named_read, sees_paren, sees_no_paren, call_read}
 
 -- ---- which symbols begin a statement
 
-pub choice_first : {from to : List Lexeme} → Goes Choice from to → symbol_at from ≡ If
-unfolding symbol_at
-choice_first (by rule.alone (last a)) = a
-choice_first (by rule.alone (token a g)) = a
-choice_first (by rule.otherwise (last a)) = a
-choice_first (by rule.otherwise (token a g)) = a
-choice_first (by rule.else_if (last a)) = a
-choice_first (by rule.else_if (token a g)) = a
-
-statement_first : {from to : List Lexeme} → Goes Statement from to → begins (symbol_at from) ≡ true
-unfolding symbol_at
-statement_first (by rule.declare (last a)) = ap begins a
-statement_first (by rule.declare (token a g)) = ap begins a
-statement_first (by rule.assign (last a)) = ap begins a
-statement_first (by rule.assign (token a g)) = ap begins a
-statement_first (by rule.store (last a)) = ap begins a
-statement_first (by rule.store (token a g)) = ap begins a
-statement_first (by rule.call (last a)) = ap begins a
-statement_first (by rule.call (token a g)) = ap begins a
-statement_first (by rule.print (last a)) = ap begins a
-statement_first (by rule.print (token a g)) = ap begins a
-statement_first (by rule.loop (last a)) = ap begins a
-statement_first (by rule.loop (token a g)) = ap begins a
-statement_first (by rule.for_loop (last a)) = ap begins a
-statement_first (by rule.for_loop (token a g)) = ap begins a
-statement_first (by rule.choice (within g)) = ap begins (choice_first g)
-statement_first (by rule.choice (last a)) = absurd a
-statement_first (by rule.choice (token a g)) = absurd a
-statement_first (by rule.choice (past d g)) = elim g [ ]
-
-pub first_not : {from to : List Lexeme} → Goes Statement from to → (k : Symbol) → begins k ≡ false → symbol_at from ≡ k → ⊥
-first_not g k off at = let clash : true ≡ false = sym (statement_first g) ∙ ap begins at ∙ off in cc clash
-
 pub statements_first : {from to : List Lexeme} → Goes Statements from to → (k : Symbol) → begins k ≡ false → symbol_at from ≡ k → ⊥
-statements_first (by rule.more_statements (last a)) k off at = absurd a
-statements_first (by rule.more_statements (token a g)) k off at = absurd a
 statements_first (by rule.more_statements (within g)) k off at = first_not g k off at
 statements_first (by rule.more_statements (past d g)) k off at = begins_not d.1 k off at
-statements_first {from = from} {to = to} (by rule.no_statement x25) k off at = elim x25 [ ]
 
 -- ---- blocks
 
@@ -76,22 +38,16 @@ module _ (n : ℕ) (goes : (from to : List Lexeme) → length from ≤ n → Goe
   many_goes (by {from} {to} rule.more_statements (within g)) k found fits enough =
       many_first (read.statement n) (statement_shrinks n) (sees CloseBrace) k found from to enough (sees_other CloseBrace from (first_not g CloseBrace refl)) (goes from to fits g)
   many_goes (by {from} {to} rule.more_statements (past {middle} d (within g))) k found fits enough =
-      let less = shorter_statement d.1 in
+      let less = shorter Statement _ _ refl d in
       let reads = reads_statement d.1 n fits (statements_first g Else refl) in
       same_beyond to (many_turn (read.statement n) (sees CloseBrace) k found from middle d.0 (sees_other CloseBrace from (begins_not d.1 CloseBrace refl)) reads less enough)
       (many_goes g (k - 1) (found ++ d.0 ∷ []) (omega arith) (omega arith))
-  many_goes {from = from} {to = to} (by rule.no_statement x37) k found fits enough = elim x37 [ ]
-  many_goes (by rule.more_statements (last {t = t} {to = to} x55)) k found fits enough = elim x55 [ ]
-  many_goes {to = to} (by rule.more_statements (token {t = t} {from = from} x60 _)) k found fits enough = elim x60 [ ]
-  many_goes {from = from} {to = to} (by rule.more_statements (past d (last {t = t} x76))) k found fits enough = elim x76 [ ]
-  many_goes {from = from} {to = to} (by rule.more_statements (past d (token {t = t} x81 _))) k found fits enough = elim x81 [ ]
-  many_goes {from = from} {to = to} (by rule.more_statements (past {middle = middle} d (past _ x85))) k found fits enough = elim x85 [ ]
 
   body : Inner (λ ts. many (sees CloseBrace) (read.statement n) (length ts) [] ts) Statements n (Word CloseBrace ∷ [])
   body = record {
     shrinks = λ from. many_shrinks (read.statement n) (statement_shrinks n) (sees CloseBrace) (length from) [] from;
     goes = λ from to fits g. many_goes g (length from) [] fits (omega arith);
-    reads = λ from middle to fits d g. (d.0, reads_statements d.1 n fits (word_first CloseBrace [] middle to g) [] (length from) (omega arith));
+    reads = λ from middle to fits d g. (d.0, reads_statements d.1 n fits (word_first g) [] (length from) (omega arith));
   }
 
   block_read : Reading (read.block (read.statement n)) n (Word OpenBrace ∷ Of Statements ∷ Word CloseBrace ∷ [])
@@ -142,9 +98,6 @@ module _ (n : ℕ) (goes : (from to : List Lexeme) → length from ≤ n → Goe
   else_block from to fits (last {t} a) = else_beyond t to to a (else_shrinks (sees If to) to)
   else_block from to fits (token {t} {from = middle} a (within g)) =
       else_beyond t middle to a (same_beyond to (ap (λ (b : Bool). read.else_by (read.statement n) b middle) (sees_other If middle (λ k. let clash : OpenBrace ≡ If = sym (block_first g) ∙ k in cc clash))) (block_goes middle to (omega arith) g))
-  else_block _ _ fits (token {t = t} a (last {to = to} x11)) = elim x11 [ ]
-  else_block _ to fits (token {t = t} a (token {from = from} x16 _)) = elim x16 [ ]
-  else_block _ to fits (token {t = t} {from = middle} a (past _ x18)) = elim x18 [ ]
 
   pub else_choice : (from to : List Lexeme) → length from ≤ n → GoesParts (Word Else ∷ Of Choice ∷ []) from to → Beyond (read.otherwise (read.statement n) from) to
   unfolding sees
@@ -152,9 +105,6 @@ module _ (n : ℕ) (goes : (from to : List Lexeme) → length from ≤ n → Goe
   else_choice from to fits (token {t} {from = middle} a (within g)) =
       else_beyond t middle to a (same_beyond to (ap (λ (b : Bool). read.else_by (read.statement n) b middle) (is_same (symbol_at middle) If (choice_first g)))
       (and_on (read.statement n) (λ s. pure (s ∷ [])) (λ s. pure_shrinks (s ∷ [])) middle to (goes middle to (omega arith) (by rule.choice (within g)))))
-  else_choice _ _ fits (token {t = t} a (last {to = to} x11)) = elim x11 [ ]
-  else_choice _ to fits (token {t = t} a (token {from = from} x16 _)) = elim x16 [ ]
-  else_choice _ to fits (token {t = t} {from = middle} a (past _ x18)) = elim x18 [ ]
 
   choice_read : (parts : List Part) → Reading (read.otherwise (read.statement n)) n parts → Reading (read.choice (read.statement n)) (suc n) (Word If ∷ Of Condition ∷ Of Block ∷ parts)
   unfolding read.choice
@@ -170,17 +120,14 @@ module _ (n : ℕ) (goes : (from to : List Lexeme) → length from ≤ n → Goe
   opened k from to at h = same_beyond to (ap (λ (s : Symbol). read.statement_by (read.statement n) s from) at) h
 
   pub deeper : (from to : List Lexeme) → length from ≤ suc n → Goes Statement from to → Beyond (read.statement (suc n) from) to
-  deeper from to fits (by rule.declare g) = opened Int from to (word_first Int _ from to g) ((declaration_read (suc n)).goes from to fits g)
-  deeper from to fits (by rule.assign g) = opened Name from to (word_first Name _ from to g) ((named_read (suc n) Assign _ false (sees_no_paren Assign (λ e. cc e)) (scalar_read (suc n))).goes from to fits g)
-  deeper from to fits (by rule.store g) = opened Name from to (word_first Name _ from to g) ((named_read (suc n) OpenBracket _ false (sees_no_paren OpenBracket (λ e. cc e)) (element_read (suc n))).goes from to fits g)
-  deeper from to fits (by rule.call g) = opened Name from to (word_first Name _ from to g) ((named_read (suc n) OpenParen _ true sees_paren (call_read (suc n))).goes from to fits g)
-  deeper from to fits (by rule.print g) = opened Print from to (word_first Print _ from to g) ((print_read (suc n)).goes from to fits g)
-  deeper from to fits (by rule.loop g) = opened While from to (word_first While _ from to g) (repeated_read.goes from to fits g)
-  deeper from to fits (by rule.for_loop g) = opened For from to (word_first For _ from to g) (counted_read.goes from to fits g)
+  deeper from to fits (by rule.declare g) = opened Int from to (word_first g) ((declaration_read (suc n)).goes from to fits g)
+  deeper from to fits (by rule.assign g) = opened Name from to (word_first g) ((named_read (suc n) Assign _ false (sees_no_paren Assign (λ e. cc e)) (scalar_read (suc n))).goes from to fits g)
+  deeper from to fits (by rule.store g) = opened Name from to (word_first g) ((named_read (suc n) OpenBracket _ false (sees_no_paren OpenBracket (λ e. cc e)) (element_read (suc n))).goes from to fits g)
+  deeper from to fits (by rule.call g) = opened Name from to (word_first g) ((named_read (suc n) OpenParen _ true sees_paren (call_read (suc n))).goes from to fits g)
+  deeper from to fits (by rule.print g) = opened Print from to (word_first g) ((print_read (suc n)).goes from to fits g)
+  deeper from to fits (by rule.loop g) = opened While from to (word_first g) (repeated_read.goes from to fits g)
+  deeper from to fits (by rule.for_loop g) = opened For from to (word_first g) (counted_read.goes from to fits g)
   deeper from to fits (by rule.choice (within g)) = opened If from to (choice_first g) (choice_goes from to fits g)
-  deeper _ _ fits (by rule.choice (last {t = t} {to = to} x10)) = elim x10 [ ]
-  deeper _ to fits (by rule.choice (token {t = t} {from = from} x15 _)) = elim x15 [ ]
-  deeper from to fits (by rule.choice (past {middle = middle} _ x16)) = elim x16 [ ]
 
 pub statement_goes : (n : ℕ) (from to : List Lexeme) → length from ≤ n → Goes Statement from to → Beyond (read.statement n from) to
 unfolding read.statement

@@ -4,23 +4,20 @@ use Rattle.dp_lex.specs.Token.{Lexeme}
 use Rattle.dp_tree.specs.declared.raw.RawStmt.{RawStmt}
 use Rattle.dp_tokens.specs.declared.symbol.Symbol.TheVariants.{Mark, Return, Else, CloseBrace}
 use Rattle.dp_tokens.specs.Symbols.{symbol_at, Is}
-use Rattle.dp_parse.specs.Rules.{Part, Word, Zero, Of, Statement, Condition, Block, Loop, Item, Items, Tops, Ending, Body, Program}
-use Rattle.dp_parse.specs.Begins.{Derived, Begins}
+use Rattle.dp_parse.specs.Rules.{Part, Statement, Condition, Loop, Tops}
 use Rattle.dp_parse.specs.Rules as rule
 use Rattle.dp_tokens.specs.Steps.{sees, after, many}
 use Rattle.dp_parse.specs.descent.Statements as statements
 use Rattle.dp_parse.specs.descent.Regions as regions
 use Rattle.dp_parse.specs.descent.Programs as read
-use Rattle.dp_parse.proofs.StepLemmas.{eats, stays, after-le}
+use Rattle.dp_parse.proofs.StepLemmas.{eats, stays, after-le, unlike}
 use Rattle.dp_parse.proofs.Lists.{many_turn}
-use Rattle.dp_parse.proofs.Shorter.{shorter_statement, shorter_condition, shorter_head}
-use Rattle.dp_parse.proofs.RegionSound.{shorter_loop}
-use Rattle.dp_parse.proofs.StatementReads.{begins_not}
-use Rattle.dp_parse.proofs.ItemComplete.{unlike}
+use Rattle.dp_parse.proofs.Spans.{shorter}
+use Rattle.dp_parse.proofs.StatementReads.{first_not, begins_not}
 use Rattle.dp_parse.proofs.ProgramComplete.{ends_not, reads_top_statement, reads_region, reads_for_region, region_turn}
-use Rattle.dp_parse.proofs.Going.{Goes, GoesParts, by, last, token, within, past}
+use Rattle.dp_parse.proofs.Going.{Goes, GoesParts, by, last, token, within, past, word_first}
 use Rattle.dp_parse.proofs.Beyond.{Beyond, Shrinks, further, same_beyond, Reading, many_first}
-use Rattle.dp_parse.proofs.BeyondStatements.{first_not, statement_goes, statement_shrinks}
+use Rattle.dp_parse.proofs.BeyondStatements.{statement_goes, statement_shrinks}
 use Rattle.dp_parse.proofs.BeyondRegions.{while_read, for_read}
 
 top_by : (n : ℕ) (b : Bool) → Shrinks (read.top_by n b)
@@ -49,22 +46,16 @@ many_begun k found mark from to fits m h =
     many_first read.top top_shrinks read.ends k found (mark ∷ from) to fits (ends_not (mark ∷ from) (unlike mark from Mark Return m (λ e. cc e)) (unlike mark from Mark CloseBrace m (λ e. cc e))) h
 
 tops_first : {from to : List Lexeme} → Goes Tops from to → symbol_at from ≡ Else → ⊥
-unfolding symbol_at
 tops_first (by rule.statement (within g)) at = first_not g Else refl at
 tops_first (by rule.statement (past d g)) at = begins_not d.1 Else refl at
-tops_first (by rule.statement (last a)) at = absurd a
-tops_first (by rule.statement (token a g)) at = absurd a
-tops_first (by rule.for_region (last m)) at = let clash : Mark ≡ Else = sym m ∙ at in cc clash
-tops_first (by rule.for_region (token m g)) at = let clash : Mark ≡ Else = sym m ∙ at in cc clash
-tops_first (by rule.region (last m)) at = let clash : Mark ≡ Else = sym m ∙ at in cc clash
-tops_first (by rule.region (token m g)) at = let clash : Mark ≡ Else = sym m ∙ at in cc clash
-tops_first {from = from} {to = to} (by rule.no_top x18) at = elim x18 [ ]
+tops_first (by rule.for_region g) at = let clash : Mark ≡ Else = sym (word_first g) ∙ at in cc clash
+tops_first (by rule.region g) at = let clash : Mark ≡ Else = sym (word_first g) ∙ at in cc clash
 
 pub tops_go : {from to : List Lexeme} → Goes Tops from to → (k : ℕ) (found : List RawStmt) → length from ≤ k → Beyond (many read.ends read.top k found from) to
 tops_go (by {from} {to} rule.statement (within g)) k found fits =
     many_first read.top top_shrinks read.ends k found from to fits (ends_not from (first_not g Return refl) (first_not g CloseBrace refl)) (top_statement from to g)
 tops_go (by {from} {to} rule.statement (past {middle} d (within g))) k found fits =
-    let less = shorter_statement d.1 in
+    let less = shorter Statement _ _ refl d in
     same_beyond to (many_turn read.top read.ends k found from middle d.0 (ends_not from (begins_not d.1 Return refl) (begins_not d.1 CloseBrace refl)) (reads_top_statement from middle d.0 d.1 (tops_first g)) less fits)
     (tops_go g (k - 1) (found ++ d.0 ∷ []) (omega arith))
 tops_go (by rule.region (last {t = mark} {to} m)) k found fits =
@@ -74,8 +65,7 @@ tops_go (by {to} rule.region (token {t = mark} {from = middle} m (last w))) k fo
 tops_go (by {to} rule.region (token {t = mark} {from = middle} m (token w (within g)))) k found fits = many_begun k found mark middle to fits m (region_begun _ while_read mark middle to m (token w (within g)))
 tops_go (by {to} rule.region (token {t = mark} {from = middle} m (token w (past c (within g))))) k found fits = many_begun k found mark middle to fits m (region_begun _ while_read mark middle to m (token w (past c (within g))))
 tops_go (by {to} rule.region (token {t = mark} m (token {t = word} {from = inner} w (past {middle = tested} c (past {middle = left} b (within g)))))) k found fits =
-    let less = shorter_condition c.1 in
-    let shorter = shorter_loop b.1 in
+    let less = shorter Condition _ _ refl c in let loop_less = shorter Loop _ _ refl b in
     same_beyond to (region_turn mark (word ∷ inner) left _ m (reads_region mark word inner tested left c.0 b.0 m w c.1 b.1) (omega arith) found k fits)
     (tops_go g (k - 1) _ (omega arith))
 tops_go (by rule.for_region (last {t = mark} {to} m)) k found fits =
@@ -85,27 +75,6 @@ tops_go (by {to} rule.for_region (token {t = mark} {from = middle} m (last w))) 
 tops_go (by {to} rule.for_region (token {t = mark} {from = middle} m (token w (within g)))) k found fits = many_begun k found mark middle to fits m (region_begun _ for_read mark middle to m (token w (within g)))
 tops_go (by {to} rule.for_region (token {t = mark} {from = middle} m (token w (past c (within g))))) k found fits = many_begun k found mark middle to fits m (region_begun _ for_read mark middle to m (token w (past c (within g))))
 tops_go (by {to} rule.for_region (token {t = mark} m (token {t = word} {from = inner} w (past {middle = tested} c (past {middle = left} b (within g)))))) k found fits =
-    let less = shorter_head c.3 in
-    let shorter = shorter_loop b.1 in
+    let less = shorter rule.Head _ _ refl c in let loop_less = shorter Loop _ _ refl b in
     same_beyond to (region_turn mark (word ∷ inner) left _ m (reads_for_region mark word inner tested left c.0 c.2 c.1 b.0 m w c.3 b.1) (omega arith) found k fits)
     (tops_go g (k - 1) _ (omega arith))
-tops_go {from = from} {to = to} (by rule.no_top x26) k found fits = elim x26 [ ]
-tops_go (by rule.statement (last {t = mark} {to = to} m)) k found fits = elim m [ ]
-tops_go {to = to} (by rule.statement (token {t = mark} {from = middle} m _)) k found fits = elim m [ ]
-tops_go {from = from} {to = to} (by rule.statement (past d (last {t = t} x52))) k found fits = elim x52 [ ]
-tops_go {from = from} {to = to} (by rule.statement (past d (token {t = t} x57 _))) k found fits = elim x57 [ ]
-tops_go {from = from} {to = to} (by rule.statement (past {middle = middle} d (past _ x60))) k found fits = elim x60 [ ]
-tops_go (by rule.region (token {t = mark} m (token {t = word} w (last {t = t} {to = to} x61)))) k found fits = elim x61 [ ]
-tops_go {to = to} (by rule.region (token {t = mark} m (token {t = word} w (token {t = t} {from = from} x66 _)))) k found fits = elim x66 [ ]
-tops_go {to = to} (by rule.region (token {t = mark} m (token {t = word} {from = inner} w (past c (last {t = t} x75))))) k found fits = elim x75 [ ]
-tops_go {to = to} (by rule.region (token {t = mark} m (token {t = word} {from = inner} w (past c (token {t = t} {from = from} x80 _))))) k found fits = elim x80 [ ]
-tops_go {to = to} (by rule.region (token {t = mark} m (token {t = word} {from = inner} w (past {middle = tested} c (past b (last {t = t} x89)))))) k found fits = elim x89 [ ]
-tops_go {to = to} (by rule.region (token {t = mark} m (token {t = word} {from = inner} w (past {middle = tested} c (past b (token {t = t} {from = from} x94 _)))))) k found fits = elim x94 [ ]
-tops_go {to = to} (by rule.region (token {t = mark} m (token {t = word} {from = inner} w (past {middle = tested} c (past {middle = left} b (past {middle = middle} _ x97)))))) k found fits = elim x97 [ ]
-tops_go (by rule.for_region (token {t = mark} m (token {t = word} w (last {t = t} {to = to} x61)))) k found fits = elim x61 [ ]
-tops_go {to = to} (by rule.for_region (token {t = mark} m (token {t = word} w (token {t = t} {from = from} x66 _)))) k found fits = elim x66 [ ]
-tops_go {to = to} (by rule.for_region (token {t = mark} m (token {t = word} {from = inner} w (past c (last {t = t} x75))))) k found fits = elim x75 [ ]
-tops_go {to = to} (by rule.for_region (token {t = mark} m (token {t = word} {from = inner} w (past c (token {t = t} {from = from} x80 _))))) k found fits = elim x80 [ ]
-tops_go {to = to} (by rule.for_region (token {t = mark} m (token {t = word} {from = inner} w (past {middle = tested} c (past b (last {t = t} x89)))))) k found fits = elim x89 [ ]
-tops_go {to = to} (by rule.for_region (token {t = mark} m (token {t = word} {from = inner} w (past {middle = tested} c (past b (token {t = t} {from = from} x94 _)))))) k found fits = elim x94 [ ]
-tops_go {to = to} (by rule.for_region (token {t = mark} m (token {t = word} {from = inner} w (past {middle = tested} c (past {middle = left} b (past {middle = middle} _ x97)))))) k found fits = elim x97 [ ]

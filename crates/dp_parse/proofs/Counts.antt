@@ -50,8 +50,7 @@ open_now opened closed (s ∷ ss) = omega arith
 pub nesting_next : (opened closed most : ℕ) (s : Symbol) (ss : List Symbol) → opened - closed ≤ most →
     nesting_from opened closed most (s ∷ ss) ≡ nesting_from (opened + one (opens s)) (closed + one (closes s)) (max most ((opened + one (opens s)) - (closed + one (closes s)))) ss
 nesting_next opened closed most s ss le =
-    let f = open_with opened closed in
-    let g = open_with (opened + one (opens s)) (closed + one (closes s)) in
+    let f = open_with opened closed in let g = open_with (opened + one (opens s)) (closed + one (closes s)) in
     let step : (front : List Symbol) → f (s ∷ front) ≡ g front = λ front. let a = count_next opens s front in let b = count_next closes s front in omega arith in
     let moved = largest_map f (λ (front : List Symbol). s ∷ front) (fronts ss) ∙ largest_same (λ front. f (s ∷ front)) g step (fronts ss) in
     let now = open_now (opened + one (opens s)) (closed + one (closes s)) ss in

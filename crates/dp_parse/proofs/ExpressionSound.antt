@@ -13,12 +13,12 @@ use Rattle.dp_tokens.specs.Symbols.{symbol, symbol_at, Is}
 use Rattle.dp_parse.specs.Levels.{operands, joining, prefixing, joined}
 use Rattle.dp_tokens.specs.Leaves.{name_of}
 use Rattle.dp_parse.specs.Expressions.{DerivesExpr, operand, chain, prefix, number, scalar, element, parenthesized}
-use Rattle.dp_tokens.specs.Steps.{Parser, ◌>>=◌, pure, and_then, expect, rest}
+use Rattle.dp_tokens.specs.Steps.{Parser, ◌>>=◌, pure, expect, rest}
 use Rattle.dp_parse.specs.descent.Operators.{own, same_level, join_at, prefix_at}
 use Rattle.dp_tokens.specs.Steps as step
 use Rattle.dp_tokens.specs.Numbers as numbers
 use Rattle.dp_parse.specs.descent.Expressions as read
-use Rattle.dp_parse.proofs.StepLemmas.{Sound, then_of, same_pair, took, Ate, passed, stayed, ate, level_is, closed, moved, taken}
+use Rattle.dp_parse.proofs.StepLemmas.{Sound, then_of, same_pair, takes, Ate, passed, stayed, ate, level_is, closed, moved, taken}
 use Rattle.dp_parse.proofs.LeafLemmas.{read_name, read_number}
 
 -- an operator that was found at its level
@@ -48,10 +48,9 @@ module _ (nested : Level → Parser RawExpr) (sound : (l : Level) → Sound (nes
   sound_parenthesized : Sound (read.parenthesized nested) (DerivesExpr level.Primary)
   unfolding read.parenthesized
   sound_parenthesized from to e h =
-      let o = then_of (expect OpenParen from) (λ _. nested level.Or >>= (λ x. expect CloseParen >>= (λ _. pure x))) e to h in
-      let t = took OpenParen from o.value o.middle o.first in
+      let o = takes OpenParen from (λ _. nested level.Or >>= (λ x. expect CloseParen >>= (λ _. pure x))) e to h in
       let c = closed (nested level.Or) CloseParen (λ x. x) e o.middle to o.second in
-      moved (DerivesExpr level.Primary) t.splits refl c.made (parenthesized t.is (sound level.Or o.middle (c.closing ∷ to) c.value c.first) c.is)
+      moved (DerivesExpr level.Primary) o.splits refl c.made (parenthesized o.is (sound level.Or o.middle (c.closing ∷ to) c.value c.first) c.is)
 
   sound_number : (from to : List Lexeme) (e : RawExpr) → (numbers.number >>= (λ z. pure (tree.Number z))) from ≡ Ok (e, to) → DerivesExpr level.Primary from to e
   sound_number from to e h =

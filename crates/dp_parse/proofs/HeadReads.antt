@@ -14,15 +14,16 @@ use Rattle.dp_parse.specs.Levels.{joining}
 use Rattle.dp_tokens.specs.Leaves.{name_of}
 use Rattle.dp_parse.specs.Expressions.{DerivesExpr}
 use Rattle.dp_parse.specs.Heads.{DerivesSimple, scalar, element, DerivesFirst, declared, simple, DerivesHead, head}
-use Rattle.dp_tokens.specs.Steps.{Parser, ◌>>=◌, pure, expect, sees}
-use Rattle.dp_tokens.specs.Steps as step
+use Rattle.dp_tokens.specs.Steps.{sees, Parser, ◌>>=◌, pure, expect}
 use Rattle.dp_parse.specs.descent.Expressions as expr
 use Rattle.dp_parse.specs.descent.Heads as read
 use Rattle.dp_parse.specs.descent.Statements as statements
-use Rattle.dp_parse.proofs.StepLemmas.{expects, sees_is, sees_other}
+use Rattle.dp_parse.proofs.StepLemmas.{is_same, expects, sees_other}
 use Rattle.dp_parse.proofs.LeafLemmas.{reads_name}
 use Rattle.dp_parse.proofs.ExpressionComplete.{whole_read}
-use Rattle.dp_parse.proofs.StatementReads.{goes, before_bracket, before_semicolon}
+use Rattle.dp_parse.specs.Rules as rule
+use Rattle.dp_parse.proofs.Going.{Goes, by, word_first, goes_whole}
+use Rattle.dp_parse.proofs.StatementReads.{goes, before}
 
 -- a statement up to its semicolon
 pub reads_ended : (p : Parser RawStmt) (from : List Lexeme) (end : Lexeme) (to : List Lexeme) (s : RawStmt) → p from ≡ Ok (s, end ∷ to) → Is Semicolon end → statements.ended p from ≡ Ok (s, to)
@@ -44,22 +45,17 @@ pub reads_declare : (int name equals : Lexeme) (from to : List Lexeme) (e : RawE
     read.declare (int ∷ name ∷ equals ∷ from) ≡ Ok (tree.Declare int.line (name_of name) e, to)
 unfolding read.declare
 reads_declare int name equals from to e i n q d h =
-    goes (λ (int : Lexeme). step.name >>= (λ name. read.value >>= (λ value. pure (tree.Declare int.line name value)))) (expects Int int (name ∷ equals ∷ from) i)
-    ∙ goes (λ name. read.value >>= (λ value. pure (tree.Declare int.line name value))) (reads_name name (equals ∷ from) n)
-    ∙ goes (λ value. pure (tree.Declare int.line (name_of name) value)) (reads_value equals from to e q d h)
+    rw (expects Int int (name ∷ equals ∷ from) i) (rw (reads_name name (equals ∷ from) n) (rw (reads_value equals from to e q d h)))
 
 reads_store : (name opening closing equals : Lexeme) (from middle to : List Lexeme) (index e : RawExpr) → Is OpenBracket opening → DerivesExpr Or from (closing ∷ equals ∷ middle) index → Is CloseBracket closing →
     Is Assign equals → DerivesExpr Or middle to e → Ends to → read.store (name_of name) (opening ∷ from) ≡ Ok (tree.Store (name_of name) index e, to)
 unfolding read.store
 reads_store name opening closing equals from middle to index e o d c q f h =
-    goes (λ _. expr.whole >>= (λ index. expect CloseBracket >>= (λ _. read.value >>= (λ value. pure (tree.Store (name_of name) index value))))) (expects OpenBracket opening from o)
-    ∙ goes (λ index. expect CloseBracket >>= (λ _. read.value >>= (λ value. pure (tree.Store (name_of name) index value)))) (before_bracket d c)
-    ∙ goes (λ _. read.value >>= (λ value. pure (tree.Store (name_of name) index value))) (expects CloseBracket closing (equals ∷ middle) c)
-    ∙ goes (λ value. pure (tree.Store (name_of name) index value)) (reads_value equals middle to e q f h)
+    rw (expects OpenBracket opening from o) (rw (before CloseBracket refl (λ e. cc e) d c) (rw (expects CloseBracket closing (equals ∷ middle) c) (rw (reads_value equals middle to e q f h))))
 
-pub assign_bracket : (name : TreeName) (t : Lexeme) (ts : List Lexeme) → Is OpenBracket t → read.assign name (t ∷ ts) ≡ read.store name (t ∷ ts)
-unfolding read.assign
-assign_bracket name t ts o = ap (λ (b : Bool). read.assign_by name b (t ∷ ts)) (sees_is OpenBracket t ts o)
+pub assign_bracket : (name : TreeName) (ts : List Lexeme) → symbol_at ts ≡ OpenBracket → read.assign name ts ≡ read.store name ts
+unfolding read.assign sees
+assign_bracket name ts at = ap (λ (b : Bool). read.assign_by name b ts) (is_same (symbol_at ts) OpenBracket at)
 
 pub assign_other : (name : TreeName) (ts : List Lexeme) → (symbol_at ts ≡ OpenBracket → ⊥) → read.assign name ts ≡ (read.value >>= (λ x. pure (tree.Assign name x))) ts
 unfolding read.assign
@@ -73,8 +69,9 @@ reads_scalar name equals from to e q d h =
 
 pub reads_element : (name opening closing equals : Lexeme) (from middle to : List Lexeme) (index e : RawExpr) → Is OpenBracket opening → DerivesExpr Or from (closing ∷ equals ∷ middle) index → Is CloseBracket closing →
     Is Assign equals → DerivesExpr Or middle to e → Ends to → read.assign (name_of name) (opening ∷ from) ≡ Ok (tree.Store (name_of name) index e, to)
+unfolding symbol_at
 reads_element name opening closing equals from middle to index e o d c q f h =
-    assign_bracket (name_of name) opening from o ∙ reads_store name opening closing equals from middle to index e o d c q f h
+    assign_bracket (name_of name) (opening ∷ from) o ∙ reads_store name opening closing equals from middle to index e o d c q f h
 
 pub reads_simple : {from to : List Lexeme} {s : RawStmt} → DerivesSimple from to s → Ends to → read.simple from ≡ Ok (s, to)
 unfolding read.simple
@@ -82,22 +79,22 @@ reads_simple (scalar {name} {equals} {from} {to} {e} n q d) h = goes read.assign
 reads_simple (element {name} {opening} {closing} {equals} {from} {middle} {to} {index} {e} n o d c q f) h =
     goes read.assign (reads_name name (opening ∷ from) n) ∙ reads_element name opening closing equals from middle to index e o d c q f h
 
-pub simple_begins : {from to : List Lexeme} {s : RawStmt} → DerivesSimple from to s → symbol_at from ≡ Name
-unfolding symbol_at
-simple_begins (scalar n q d) = n
-simple_begins (element n o d c q f) = n
+pub simple_first : {from to : List Lexeme} → Goes rule.Simple from to → symbol_at from ≡ Name
+simple_first (by rule.scalar_assigned g) = word_first g
+simple_first (by rule.element_assigned g) = word_first g
 
 pub first_other : (ts : List Lexeme) → (symbol_at ts ≡ Int → ⊥) → read.first ts ≡ read.simple ts
 unfolding read.first
 first_other ts other = ap (λ (b : Bool). read.first_by b ts) (sees_other Int ts other)
 
-pub first_int : (t : Lexeme) (ts : List Lexeme) → Is Int t → read.first (t ∷ ts) ≡ read.declare (t ∷ ts)
-unfolding read.first
-first_int t ts i = ap (λ (b : Bool). read.first_by b (t ∷ ts)) (sees_is Int t ts i)
+pub first_int : (ts : List Lexeme) → symbol_at ts ≡ Int → read.first ts ≡ read.declare ts
+unfolding read.first sees
+first_int ts at = ap (λ (b : Bool). read.first_by b ts) (is_same (symbol_at ts) Int at)
 
 pub reads_first : {from to : List Lexeme} {s : RawStmt} → DerivesFirst from to s → Ends to → read.first from ≡ Ok (s, to)
-reads_first (declared {int} {name} {equals} {from} {to} {e} i n q d) h = first_int int (name ∷ equals ∷ from) i ∙ reads_declare int name equals from to e i n q d h
-reads_first (simple {from} d) h = first_other from (λ e. let clash : Name ≡ Int = sym (simple_begins d) ∙ e in cc clash) ∙ reads_simple d h
+unfolding symbol_at
+reads_first (declared {int} {name} {equals} {from} {to} {e} i n q d) h = first_int (int ∷ name ∷ equals ∷ from) i ∙ reads_declare int name equals from to e i n q d h
+reads_first (simple {from} d) h = first_other from (λ e. let clash : Name ≡ Int = sym (simple_first (goes_whole rule.Simple refl (_, d))) ∙ e in cc clash) ∙ reads_simple d h
 
 abbrev pub as_head : RawStmt → RawExpr → RawStmt → Header
 as_head first cond step = record { first = first ∷ []; cond = cond; step = step ∷ [] }
@@ -105,10 +102,5 @@ as_head first cond step = record { first = first ∷ []; cond = cond; step = ste
 pub reads_head : {from to : List Lexeme} {first step : RawStmt} {e : RawExpr} → DerivesHead from to first e step → read.head from ≡ Ok (as_head first e step, to)
 unfolding read.head symbol_at
 reads_head (head {opening} {end} {behind} {closing} {from} {middle} {after} {to} {first} {step} {e} o d h c k s p) =
-    goes (λ _. read.first >>= (λ first. expect Semicolon >>= (λ _. expr.whole >>= (λ cond. expect Semicolon >>= (λ _. read.simple >>= (λ step. expect CloseParen >>= (λ _. pure (as_head first cond step)))))))) (expects OpenParen opening from o)
-    ∙ goes (λ first. expect Semicolon >>= (λ _. expr.whole >>= (λ cond. expect Semicolon >>= (λ _. read.simple >>= (λ step. expect CloseParen >>= (λ _. pure (as_head first cond step))))))) (reads_first d (ends_at Semicolon (end ∷ middle) h refl (λ e. cc e)))
-    ∙ goes (λ _. expr.whole >>= (λ cond. expect Semicolon >>= (λ _. read.simple >>= (λ step. expect CloseParen >>= (λ _. pure (as_head first cond step)))))) (expects Semicolon end middle h)
-    ∙ goes (λ cond. expect Semicolon >>= (λ _. read.simple >>= (λ step. expect CloseParen >>= (λ _. pure (as_head first cond step))))) (before_semicolon c k)
-    ∙ goes (λ _. read.simple >>= (λ step. expect CloseParen >>= (λ _. pure (as_head first e step)))) (expects Semicolon behind after k)
-    ∙ goes (λ step. expect CloseParen >>= (λ _. pure (as_head first e step))) (reads_simple s (ends_at CloseParen (closing ∷ to) p refl (λ e. cc e)))
-    ∙ goes (λ _. pure (as_head first e step)) (expects CloseParen closing to p)
+    rw (expects OpenParen opening from o) (rw (reads_first d (ends_at Semicolon (end ∷ middle) h refl (λ e. cc e))) (rw (expects Semicolon end middle h) (rw (before Semicolon refl (λ e. cc e) c k)
+    (rw (expects Semicolon behind after k) (rw (reads_simple s (ends_at CloseParen (closing ∷ to) p refl (λ e. cc e))) (rw (expects CloseParen closing to p)))))))

@@ -12,11 +12,11 @@ use Rattle.dp_tokens.specs.Symbols.{Is}
 use Rattle.dp_tokens.specs.Leaves.{name_of}
 use Rattle.dp_parse.specs.Expressions.{DerivesExpr}
 use Rattle.dp_parse.specs.Heads.{DerivesSimple, scalar, element, DerivesFirst, declared, simple, DerivesHead, head}
-use Rattle.dp_tokens.specs.Steps.{Parser, ◌>>=◌, pure, expect, sees}
+use Rattle.dp_tokens.specs.Steps.{◌>>=◌, pure, expect, sees}
 use Rattle.dp_tokens.specs.Steps as step
 use Rattle.dp_parse.specs.descent.Expressions as expr
 use Rattle.dp_parse.specs.descent.Heads as read
-use Rattle.dp_parse.proofs.StepLemmas.{Sound, then_of, same_pair, took, moved, taken}
+use Rattle.dp_parse.proofs.StepLemmas.{Sound, then_of, same_pair, takes, moved, taken}
 use Rattle.dp_parse.proofs.LeafLemmas.{read_name}
 use Rattle.dp_parse.proofs.ExpressionSound.{sound_whole}
 
@@ -31,36 +31,32 @@ record Value (from to : List Lexeme) (e : RawExpr) : Type 0 where
 read_value : (from to : List Lexeme) (e : RawExpr) → read.value from ≡ Ok (e, to) → Value from to e
 unfolding read.value
 read_value from to e h =
-    let o = then_of (expect Assign from) (λ _. expr.whole) e to h in
-    let t = took Assign from o.value o.middle o.first in
-    record { equals = o.value; inside = o.middle; is = t.is; splits = t.splits; value = sound_whole o.middle to e o.second }
+    let o = takes Assign from (λ _. expr.whole) e to h in
+    record { equals = o.value; inside = o.middle; is = o.is; splits = o.splits; value = sound_whole o.middle to e o.second }
 
 pub sound_declare : Sound read.declare DerivesFirst
 unfolding read.declare
 sound_declare from to s h =
-    let o = then_of (expect Int from) (λ int. step.name >>= (λ name. read.value >>= (λ value. pure (tree.Declare int.line name value)))) s to h in
-    let t = took Int from o.value o.middle o.first in
+    let o = takes Int from (λ int. step.name >>= (λ name. read.value >>= (λ value. pure (tree.Declare int.line name value)))) s to h in
     let p = then_of (step.name o.middle) (λ name. read.value >>= (λ value. pure (tree.Declare o.value.line name value))) s to o.second in
     let n = read_name o.middle p.middle p.value p.first in
     let q = then_of (read.value p.middle) (λ value. pure (tree.Declare o.value.line p.value value)) s to p.second in
     let r = read_value p.middle q.middle q.value q.first in
     let parts = same_pair {a = tree.Declare o.value.line p.value q.value} {b = s} {x = q.middle} {y = to} q.second in
-    moved DerivesFirst (t.splits ∙ taken o.value (n.splits ∙ taken n.token r.splits)) (sym parts.1)
-    (sym parts.0 ∙ ap (λ (name : TreeName). tree.Declare o.value.line name q.value) n.called) (declared t.is n.is r.is r.value)
+    moved DerivesFirst (o.splits ∙ taken o.value (n.splits ∙ taken n.token r.splits)) (sym parts.1)
+    (sym parts.0 ∙ ap (λ (name : TreeName). tree.Declare o.value.line name q.value) n.called) (declared o.is n.is r.is r.value)
 
 sound_store : (name : Lexeme) (from to : List Lexeme) (s : RawStmt) → Is Name name → read.store (name_of name) from ≡ Ok (s, to) → DerivesSimple (name ∷ from) to s
 unfolding read.store
 sound_store name from to s is h =
-    let o = then_of (expect OpenBracket from) (λ _. expr.whole >>= (λ index. expect CloseBracket >>= (λ _. read.value >>= (λ value. pure (tree.Store (name_of name) index value))))) s to h in
-    let t = took OpenBracket from o.value o.middle o.first in
+    let o = takes OpenBracket from (λ _. expr.whole >>= (λ index. expect CloseBracket >>= (λ _. read.value >>= (λ value. pure (tree.Store (name_of name) index value))))) s to h in
     let p = then_of (expr.whole o.middle) (λ index. expect CloseBracket >>= (λ _. read.value >>= (λ value. pure (tree.Store (name_of name) index value)))) s to o.second in
-    let q = then_of (expect CloseBracket p.middle) (λ _. read.value >>= (λ value. pure (tree.Store (name_of name) p.value value))) s to p.second in
-    let u = took CloseBracket p.middle q.value q.middle q.first in
+    let q = takes CloseBracket p.middle (λ _. read.value >>= (λ value. pure (tree.Store (name_of name) p.value value))) s to p.second in
     let v = then_of (read.value q.middle) (λ value. pure (tree.Store (name_of name) p.value value)) s to q.second in
     let r = read_value q.middle v.middle v.value v.first in
     let parts = same_pair {a = tree.Store (name_of name) p.value v.value} {b = s} {x = v.middle} {y = to} v.second in
-    let index = moved (DerivesExpr Or) refl (sym (u.splits ∙ taken q.value r.splits)) refl (sound_whole o.middle p.middle p.value p.first) in
-    moved DerivesSimple (taken name t.splits) (sym parts.1) (sym parts.0) (element is t.is index u.is r.is r.value)
+    let index = moved (DerivesExpr Or) refl (sym (q.splits ∙ taken q.value r.splits)) refl (sound_whole o.middle p.middle p.value p.first) in
+    moved DerivesSimple (taken name o.splits) (sym parts.1) (sym parts.0) (element is o.is index q.is r.is r.value)
 
 sound_scalar : (name : Lexeme) (from to : List Lexeme) (s : RawStmt) → Is Name name → (read.value >>= (λ x. pure (tree.Assign (name_of name) x))) from ≡ Ok (s, to) → DerivesSimple (name ∷ from) to s
 sound_scalar name from to s is h =
@@ -80,8 +76,7 @@ sound_assign name from to s is h = assign_at name (sees OpenBracket from) from t
 pub sound_simple : Sound read.simple DerivesSimple
 unfolding read.simple
 sound_simple from to s h =
-    let o = then_of (step.name from) read.assign s to h in
-    let n = read_name from o.middle o.value o.first in
+    let o = then_of (step.name from) read.assign s to h in let n = read_name from o.middle o.value o.first in
     moved DerivesSimple n.splits refl refl (sound_assign n.token o.middle to s n.is (ap (λ (name : TreeName). read.assign name o.middle) (sym n.called) ∙ o.second))
 
 first_at : (b : Bool) (from to : List Lexeme) (s : RawStmt) → read.first_by b from ≡ Ok (s, to) → DerivesFirst from to s
@@ -113,23 +108,19 @@ head_by from opening a b end c d behind x y closing z to first cond step p q r s
 pub read_head : (from to : List Lexeme) (h : Header) → read.head from ≡ Ok (h, to) → Heads from to h
 unfolding read.head
 read_head from to h e =
-    let o = then_of (expect OpenParen from) (λ _. read.first >>= (λ first. expect Semicolon >>= (λ _. expr.whole >>= (λ cond. expect Semicolon >>= (λ _. read.simple >>= (λ step. expect CloseParen >>= (λ _. pure (as_head first cond step)))))))) h to e in
-    let t = took OpenParen from o.value o.middle o.first in
+    let o = takes OpenParen from (λ _. read.first >>= (λ first. expect Semicolon >>= (λ _. expr.whole >>= (λ cond. expect Semicolon >>= (λ _. read.simple >>= (λ step. expect CloseParen >>= (λ _. pure (as_head first cond step)))))))) h to e in
     let p = then_of (read.first o.middle) (λ first. expect Semicolon >>= (λ _. expr.whole >>= (λ cond. expect Semicolon >>= (λ _. read.simple >>= (λ step. expect CloseParen >>= (λ _. pure (as_head first cond step))))))) h to o.second in
-    let q = then_of (expect Semicolon p.middle) (λ _. expr.whole >>= (λ cond. expect Semicolon >>= (λ _. read.simple >>= (λ step. expect CloseParen >>= (λ _. pure (as_head p.value cond step)))))) h to p.second in
-    let u = took Semicolon p.middle q.value q.middle q.first in
+    let q = takes Semicolon p.middle (λ _. expr.whole >>= (λ cond. expect Semicolon >>= (λ _. read.simple >>= (λ step. expect CloseParen >>= (λ _. pure (as_head p.value cond step)))))) h to p.second in
     let v = then_of (expr.whole q.middle) (λ cond. expect Semicolon >>= (λ _. read.simple >>= (λ step. expect CloseParen >>= (λ _. pure (as_head p.value cond step))))) h to q.second in
-    let w = then_of (expect Semicolon v.middle) (λ _. read.simple >>= (λ step. expect CloseParen >>= (λ _. pure (as_head p.value v.value step)))) h to v.second in
-    let x = took Semicolon v.middle w.value w.middle w.first in
+    let w = takes Semicolon v.middle (λ _. read.simple >>= (λ step. expect CloseParen >>= (λ _. pure (as_head p.value v.value step)))) h to v.second in
     let y = then_of (read.simple w.middle) (λ step. expect CloseParen >>= (λ _. pure (as_head p.value v.value step))) h to w.second in
-    let z = then_of (expect CloseParen y.middle) (λ _. pure (as_head p.value v.value y.value)) h to y.second in
-    let c = took CloseParen y.middle z.value z.middle z.first in
+    let z = takes CloseParen y.middle (λ _. pure (as_head p.value v.value y.value)) h to y.second in
     let parts = same_pair {a = as_head p.value v.value y.value} {b = h} {x = z.middle} {y = to} z.second in
     record {
       first = p.value;
       cond = v.value;
       step = y.value;
-      derives = head_by from o.value o.middle p.middle q.value q.middle v.middle w.value w.middle y.middle z.value z.middle to p.value v.value y.value t.splits u.splits x.splits c.splits parts.1 t.is u.is x.is c.is
+      derives = head_by from o.value o.middle p.middle q.value q.middle v.middle w.value w.middle y.middle z.value z.middle to p.value v.value y.value o.splits q.splits w.splits z.splits parts.1 o.is q.is w.is z.is
           (sound_first o.middle p.middle p.value p.first) (sound_whole q.middle v.middle v.value v.first) (sound_simple w.middle y.middle y.value y.first);
       made = sym parts.0;
     }

@@ -12,26 +12,20 @@ use Rattle.dp_tokens.specs.declared.symbol.Symbol.TheVariants.{Name, Number, Int
 use Rattle.dp_tokens.specs.Symbols.{symbol_at, Is}
 use Rattle.dp_tokens.specs.Leaves.{name_of, IsNumber}
 use Rattle.dp_parse.specs.Statements.{DerivesBlock}
-use Rattle.dp_parse.specs.Programs.{DerivesNames, last, more, DerivesParams, void, some, DerivesItem, scalar, started, below_zero, array, function, DerivesTops, region, DerivesReturn, DerivesMain, main, main_void, DerivesItems, Derives}
+use Rattle.dp_parse.specs.Programs.{DerivesNames, last, more, DerivesParams, void, some, array, function}
 use Rattle.dp_parse.specs.Programs as programs
-use Rattle.dp_tokens.specs.Steps.{Outcome, Parser, ◌>>=◌, pure, and_then, expect, eat, rest, sees, after, given, separated, many}
+use Rattle.dp_tokens.specs.Steps.{◌>>=◌, pure, and_then, expect, sees, given, separated}
 use Rattle.dp_tokens.specs.Steps as step
 use Rattle.dp_tokens.specs.Numbers as numbers
-use Rattle.dp_parse.specs.descent.Statements as statements
 use Rattle.dp_parse.specs.descent.Programs as read
-use Rattle.dp_parse.proofs.StepLemmas.{expects, eats, stays, sees_is, sees_other, after_is, after_other}
+use Rattle.dp_parse.specs.Rules.{Names}
+use Rattle.dp_parse.specs.Rules as rule
+use Rattle.dp_parse.proofs.Going.{Goes, by, word_first, goes_whole}
+use Rattle.dp_parse.proofs.StepLemmas.{pair, expects, eats, stays, sees_is, sees_other, after_is, after_other, unlike}
 use Rattle.dp_parse.proofs.LeafLemmas.{reads_name, reads_number, sees_of}
 use Rattle.dp_parse.proofs.Lists.{separated_on, separated_off}
 use Rattle.dp_parse.proofs.StatementReads.{goes}
 use Rattle.dp_parse.proofs.StatementComplete.{reads_block}
-
-abbrev pub pair : {A : Type 0} → A → List Lexeme → A × List Lexeme
-pair a ts = (a, ts)
-
--- a token isn't one symbol where it is another
-pub unlike : (t : Lexeme) (ts : List Lexeme) (s k : Symbol) → Is s t → (s ≡ k → ⊥) → symbol_at (t ∷ ts) ≡ k → ⊥
-unfolding symbol_at
-unlike t ts s k h f at = f (sym h ∙ at)
 
 -- ---- numbers that are 0, or turned
 
@@ -59,9 +53,7 @@ pub reads_variable : (name end : Lexeme) (from to : List Lexeme) (k : Symbol) (i
 unfolding read.variable
 reads_variable name end from to k i n at h e =
     goes (λ name. step.peek >>= (λ s. read.variable_by name s >>= (λ found. expect Semicolon >>= (λ _. pure found)))) (reads_name name from n)
-    ∙ ap (λ (k : Symbol). and_then (read.variable_by (name_of name) k from) (λ found. expect Semicolon >>= (λ _. pure found))) at
-    ∙ goes (λ found. expect Semicolon >>= (λ _. pure found)) h
-    ∙ goes (λ _. pure i) (expects Semicolon end to e)
+    ∙ ap (λ (k : Symbol). and_then (read.variable_by (name_of name) k from) (λ found. expect Semicolon >>= (λ _. pure found))) at ∙ rw h (rw (expects Semicolon end to e))
 
 pub reads_array : (name opening length closing : Lexeme) (n : ℕ) (to : List Lexeme) → Is OpenBracket opening → IsNumber length n → 1 ≤ n → Is CloseBracket closing →
     read.array (name_of name) (opening ∷ length ∷ closing ∷ to) ≡ Ok (item.Array (name_of name) (pos n), to)
@@ -89,10 +81,9 @@ reads_names (more {int} {name} {comma} {from} {to} {names} i n c ds) closing lef
     ∙ reads_names ds closing left splits h (k - 1) (found ++ name_of name ∷ []) (omega arith)
     ∙ ap (λ (all : List TreeName). Ok (pair all to)) (append_assoc found (name_of name ∷ []) names)
 
-names_begin : {from to : List Lexeme} {names : List TreeName} → DerivesNames from to names → symbol_at from ≡ Int
-unfolding symbol_at
-names_begin (last i n) = i
-names_begin (more i n c ds) = i
+pub names_first : {from to : List Lexeme} → Goes Names from to → symbol_at from ≡ Int
+names_first (by rule.last_name g) = word_first g
+names_first (by rule.more_names g) = word_first g
 
 pub reads_params : {from to : List Lexeme} {names : List TreeName} → DerivesParams from to names → (closing : Lexeme) (left : List Lexeme) → to ≡ closing ∷ left → Is CloseParen closing → read.params from ≡ Ok (names, to)
 unfolding read.params
@@ -101,7 +92,7 @@ reads_params (programs.none {to}) closing left splits h =
 reads_params (void {word} {to} w) closing left splits h =
     ap (λ (b : Bool). read.params_by b (word ∷ to)) (sees_other CloseParen (word ∷ to) (unlike word to Void CloseParen w (λ e. cc))) ∙ eats Void read.named_params_by word to w
 reads_params (some {from} {to} {names} d) closing left splits h =
-    let at = names_begin d in
+    let at = names_first (goes_whole Names refl (_, d)) in
     ap (λ (b : Bool). read.params_by b from) (sees_other CloseParen from (λ e. let clash : Int ≡ CloseParen = sym at ∙ e in cc clash))
     ∙ stays Void read.named_params_by from (λ e. let clash : Int ≡ Void = sym at ∙ e in cc clash)
     ∙ reads_names d closing left splits h (length from) [] (omega arith)
@@ -110,8 +101,5 @@ pub reads_function : (name opening closing : Lexeme) (from middle to : List Lexe
     DerivesBlock middle to body → read.function (name ∷ opening ∷ from) ≡ Ok (item.Function (name_of name) params body, to)
 unfolding read.function
 reads_function name opening closing from middle to params body n o d c b =
-    goes (λ name. expect OpenParen >>= (λ _. read.params >>= (λ params. expect CloseParen >>= (λ _. (λ ts. statements.block (statements.statement (length ts)) ts) >>= (λ body. pure (item.Function name params body)))))) (reads_name name (opening ∷ from) n)
-    ∙ goes (λ _. read.params >>= (λ params. expect CloseParen >>= (λ _. (λ ts. statements.block (statements.statement (length ts)) ts) >>= (λ body. pure (item.Function (name_of name) params body))))) (expects OpenParen opening from o)
-    ∙ goes (λ params. expect CloseParen >>= (λ _. (λ ts. statements.block (statements.statement (length ts)) ts) >>= (λ body. pure (item.Function (name_of name) params body)))) (reads_params d closing middle refl c)
-    ∙ goes (λ _. (λ ts. statements.block (statements.statement (length ts)) ts) >>= (λ body. pure (item.Function (name_of name) params body))) (expects CloseParen closing middle c)
-    ∙ goes (λ body. pure (item.Function (name_of name) params body)) (reads_block b (length middle) (omega arith))
+    rw (reads_name name (opening ∷ from) n) (rw (expects OpenParen opening from o) (rw (reads_params d closing middle refl c) (rw (expects CloseParen closing middle c)
+    (rw (reads_block b (length middle) (omega arith))))))

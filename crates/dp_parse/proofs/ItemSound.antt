@@ -1,5 +1,5 @@
 -- What the descent reads as a declaration, the grammar derives.
-use Rattle.std.proofs.Common.{◌≡◌, refl, ap, ◌∙◌, sym, ℕ, zero, suc, ◌≤◌, ℤ, pos, neg_ℤ, nat_lt, Bool, true, false, if◌then◌else◌, List, [], ◌∷◌, ◌++◌, length, Some, None, Ok, append_assoc, arith}
+use Rattle.std.proofs.Common.{◌≡◌, refl, ap, ◌∙◌, sym, ℕ, zero, ◌≤◌, ℤ, pos, neg_ℤ, nat_lt, Bool, true, false, if◌then◌else◌, List, [], ◌∷◌, ◌++◌, length, Some, None, Ok, arith}
 use Rattle.std.proofs.lemmas.Bool.{ltb-true, ltb-false}
 use Rattle.dp_base.specs.Arithmetic.{is_zero, fits}
 use Rattle.dp_lex.specs.Token.{Lexeme}
@@ -8,24 +8,22 @@ use Rattle.dp_tree.specs.declared.raw.RawStmt.{RawStmt}
 use Rattle.dp_tree.specs.declared.raw.RawItem.{RawItem}
 use Rattle.dp_tree.specs.declared.raw.RawItem.TheVariants as item
 use Rattle.dp_tokens.specs.declared.symbol.Symbol.{Symbol}
-use Rattle.dp_tokens.specs.declared.symbol.Symbol.TheVariants.{Name, Int, Void, Minus, Assign, OpenParen, CloseParen, OpenBracket, CloseBracket, Comma, Semicolon}
+use Rattle.dp_tokens.specs.declared.symbol.Symbol.TheVariants.{Name, Int, Void, Minus, Assign, OpenParen, CloseParen, OpenBracket, CloseBracket, Semicolon}
 use Rattle.dp_tokens.specs.Symbols.{symbol_at, Is}
 use Rattle.dp_tokens.specs.Leaves.{name_of, IsNumber}
 use Rattle.dp_parse.specs.Statements.{DerivesBlock}
-use Rattle.dp_parse.specs.Programs.{DerivesNames, DerivesParams, DerivesItem, DerivesTops, DerivesReturn, DerivesMain, DerivesItems, Derives}
+use Rattle.dp_parse.specs.Programs.{DerivesNames, DerivesParams, DerivesItem}
 use Rattle.dp_parse.specs.Programs as programs
-use Rattle.dp_tokens.specs.Steps.{Outcome, Parser, ◌>>=◌, pure, and_then, expect, eat, rest, sees, given, separated, separated_by, many, many_by}
+use Rattle.dp_tokens.specs.Steps.{◌>>=◌, pure, expect, rest, sees, given, separated}
 use Rattle.dp_tokens.specs.Steps as step
 use Rattle.dp_tokens.specs.Numbers as numbers
 use Rattle.dp_parse.specs.descent.Statements as statements
 use Rattle.dp_parse.specs.descent.Programs as read
-use Rattle.dp_parse.proofs.StepLemmas.{Sound, then_of, same_pair, took, Ate, passed, stayed, ate, closed, moved, taken, gave}
+use Rattle.dp_parse.proofs.StepLemmas.{pair, Sound, then_of, same_pair, takes, Ate, passed, stayed, ate, closed, moved, taken, gave}
+use Rattle.dp_parse.proofs.Lists.{separated_sound}
 use Rattle.dp_parse.proofs.LeafLemmas.{read_name, read_number, sees_of}
 use Rattle.dp_parse.proofs.StatementSound.{sound_block, sound_statement}
-use Rattle.dp_parse.proofs.ItemSteps.{Param, read_param}
-
-abbrev pair : {A : Type 0} → A → List Lexeme → A × List Lexeme
-pair a ts = (a, ts)
+use Rattle.dp_parse.proofs.ItemSteps.{read_param}
 
 -- ---- numbers that are 0, or turned
 
@@ -78,20 +76,18 @@ sound_length int name opening end from to i false is_int is_name is_opening seen
     let called = name_of name in
     let p = then_of (numbers.number from) (λ length. expect CloseBracket >>= (λ _. pure (item.Array called length))) i (end ∷ to) h in
     let n = read_number from p.middle p.value p.first in
-    let q = then_of (expect CloseBracket p.middle) (λ _. pure (item.Array called p.value)) i (end ∷ to) p.second in
-    let u = took CloseBracket p.middle q.value q.middle q.first in
+    let q = takes CloseBracket p.middle (λ _. pure (item.Array called p.value)) i (end ∷ to) p.second in
     let parts = same_pair {a = item.Array called p.value} {b = i} {x = q.middle} {y = end ∷ to} q.second in
     let zero : is_zero (pos n.value) ≡ false = sym (sees_of n.token n.value p.middle n.is) ∙ ap numbers.sees_zero (sym n.splits) ∙ seen in
-    moved DerivesItem (taken int (taken name (taken opening (n.splits ∙ taken n.token (u.splits ∙ taken q.value parts.1))))) refl (sym parts.0 ∙ ap (item.Array called) n.reads)
-    (programs.array is_int is_name is_opening n.is (nonzero_is (pos n.value) n.value refl zero) u.is is_end)
+    moved DerivesItem (taken int (taken name (taken opening (n.splits ∙ taken n.token (q.splits ∙ taken q.value parts.1))))) refl (sym parts.0 ∙ ap (item.Array called) n.reads)
+    (programs.array is_int is_name is_opening n.is (nonzero_is (pos n.value) n.value refl zero) q.is is_end)
 
 sound_array : (int name end : Lexeme) (from to : List Lexeme) (i : RawItem) → Is Int int → Is Name name → read.array (name_of name) from ≡ Ok (i, end ∷ to) → Is Semicolon end → DerivesItem (int ∷ name ∷ from) to i
 unfolding read.array
 sound_array int name end from to i is_int is_name h is_end =
-    let o = then_of (expect OpenBracket from) (λ _. λ ts. read.array_by (name_of name) (numbers.sees_zero ts) ts) i (end ∷ to) h in
-    let t = took OpenBracket from o.value o.middle o.first in
-    moved DerivesItem (taken int (taken name t.splits)) refl refl
-    (sound_length int name o.value end o.middle to i (numbers.sees_zero o.middle) is_int is_name t.is refl o.second is_end)
+    let o = takes OpenBracket from (λ _. λ ts. read.array_by (name_of name) (numbers.sees_zero ts) ts) i (end ∷ to) h in
+    moved DerivesItem (taken int (taken name o.splits)) refl refl
+    (sound_length int name o.value end o.middle to i (numbers.sees_zero o.middle) is_int is_name o.is refl o.second is_end)
 
 variable_started : (int name end : Lexeme) (from to : List Lexeme) (i : RawItem) → symbol_at from ≡ Assign → Is Int int → Is Name name →
     (read.start >>= (λ z. pure (item.Scalar (name_of name) z))) (rest from) ≡ Ok (i, end ∷ to) → Is Semicolon end → DerivesItem (int ∷ name ∷ from) to i
@@ -124,27 +120,11 @@ sound_variable int from to i is_int h =
 
 -- ---- functions, behind their `void`
 
-abbrev Listed : (List Lexeme → List Lexeme → List TreeName → List TreeName → Type 0)
-Listed from to found out = (names : List TreeName) × (out ≡ found ++ names) × DerivesNames from to names
-
-names_by : (again : List TreeName → Parser (List TreeName)) (goes : (from to : List Lexeme) (found out : List TreeName) → again found from ≡ Ok (out, to) → Listed from to found out)
-    (from middle to : List Lexeme) (found out : List TreeName) (x : TreeName) → Param from middle x → Ate Comma (separated_by again (found ++ x ∷ [])) middle out to → Listed from to found out
-names_by again goes from middle to found out x p (passed t left is splits e) =
-    let others = goes left to (found ++ x ∷ []) out e in
-    let same = ap (λ (n : TreeName). n ∷ others.0) p.called in
-    (x ∷ others.0, others.1 ∙ append_assoc found (x ∷ []) others.0, moved DerivesNames (p.splits ∙ taken p.int (taken p.token splits)) refl same (programs.more p.is_int p.is is others.2))
-names_by again goes from middle to found out x p (stayed other e) =
-    let parts = same_pair {a = found ++ x ∷ []} {b = out} {x = middle} {y = to} e in
-    let same = ap (λ (n : TreeName). n ∷ []) p.called in
-    (x ∷ [], sym parts.0, moved DerivesNames (p.splits ∙ taken p.int (taken p.token parts.1)) refl same (programs.last p.is_int p.is))
-
-separated_names : (n : ℕ) (from to : List Lexeme) (found out : List TreeName) → separated read.param n found from ≡ Ok (out, to) → Listed from to found out
-unfolding separated
-separated_names zero from to found out h = absurd (cc)
-separated_names (suc n) from to found out h =
-    let o = then_of (read.param from) (λ x. eat Comma >>= separated_by (separated read.param n) (found ++ x ∷ [])) out to h in
-    names_by (separated read.param n) (separated_names n) from o.middle to found out o.value (read_param from o.middle o.value o.first)
-    (ate Comma (separated_by (separated read.param n) (found ++ o.value ∷ [])) out to o.middle (λ k. cc) o.second)
+separated_names : (n : ℕ) (from to : List Lexeme) (found out : List TreeName) → separated read.param n found from ≡ Ok (out, to) →
+    (names : List TreeName) × (out ≡ found ++ names) × DerivesNames from to names
+separated_names =
+    separated_sound read.param DerivesNames (λ from to x e. let p = read_param from to x e in moved DerivesNames p.splits refl (ap (λ (n : TreeName). n ∷ []) p.called) (programs.last p.is_int p.is))
+    (λ from left to t x rest e is ds. let p = read_param from (t ∷ left) x e in moved DerivesNames p.splits refl (ap (λ (n : TreeName). n ∷ rest) p.called) (programs.more p.is_int p.is is ds))
 
 named_params : (from to : List Lexeme) (names : List TreeName) → Ate Void read.named_params_by from names to → DerivesParams from to names
 named_params from to names (passed t left is splits e) =
@@ -166,14 +146,12 @@ sound_function void from to i is_void h =
     let last = λ (name : TreeName) (params : List TreeName) (body : List RawStmt). item.Function name params body in
     let o = then_of (step.name from) (λ name. expect OpenParen >>= (λ _. read.params >>= (λ params. expect CloseParen >>= (λ _. (λ ts. statements.block (statements.statement (length ts)) ts) >>= (λ body. pure (last name params body)))))) i to h in
     let n = read_name from o.middle o.value o.first in
-    let p = then_of (expect OpenParen o.middle) (λ _. read.params >>= (λ params. expect CloseParen >>= (λ _. (λ ts. statements.block (statements.statement (length ts)) ts) >>= (λ body. pure (last o.value params body))))) i to o.second in
-    let t = took OpenParen o.middle p.value p.middle p.first in
+    let p = takes OpenParen o.middle (λ _. read.params >>= (λ params. expect CloseParen >>= (λ _. (λ ts. statements.block (statements.statement (length ts)) ts) >>= (λ body. pure (last o.value params body))))) i to o.second in
     let q = then_of (read.params p.middle) (λ params. expect CloseParen >>= (λ _. (λ ts. statements.block (statements.statement (length ts)) ts) >>= (λ body. pure (last o.value params body)))) i to p.second in
-    let u = then_of (expect CloseParen q.middle) (λ _. (λ ts. statements.block (statements.statement (length ts)) ts) >>= (λ body. pure (last o.value q.value body))) i to q.second in
-    let c = took CloseParen q.middle u.value u.middle u.first in
+    let u = takes CloseParen q.middle (λ _. (λ ts. statements.block (statements.statement (length ts)) ts) >>= (λ body. pure (last o.value q.value body))) i to q.second in
     let v = then_of (statements.block (statements.statement (length u.middle)) u.middle) (λ body. pure (last o.value q.value body)) i to u.second in
     let parts = same_pair {a = last o.value q.value v.value} {b = i} {x = v.middle} {y = to} v.second in
     let body = moved DerivesBlock refl (sym parts.1) refl (sound_block (statements.statement (length u.middle)) (sound_statement (length u.middle)) u.middle v.middle v.value v.first) in
-    let params = moved DerivesParams refl (sym c.splits) refl (sound_params p.middle q.middle q.value q.first) in
-    moved DerivesItem (taken void (n.splits ∙ taken n.token t.splits)) refl (sym parts.0 ∙ ap (λ (name : TreeName). item.Function name q.value v.value) n.called)
-    (programs.function is_void n.is t.is params c.is body)
+    let params = moved DerivesParams refl (sym u.splits) refl (sound_params p.middle q.middle q.value q.first) in
+    moved DerivesItem (taken void (n.splits ∙ taken n.token p.splits)) refl (sym parts.0 ∙ ap (λ (name : TreeName). item.Function name q.value v.value) n.called)
+    (programs.function is_void n.is p.is params u.is body)

@@ -11,9 +11,9 @@ use Rattle.dp_tree.specs.declared.raw.Name.{Name as TreeName}
 use Rattle.dp_tokens.specs.declared.symbol.Symbol.TheVariants.{Name, Number}
 use Rattle.dp_tokens.specs.Symbols.{symbol, Is}
 use Rattle.dp_tokens.specs.Leaves.{name_of, IsNumber}
-use Rattle.dp_tokens.specs.Steps.{expect, name, rest, same_symbol}
+use Rattle.dp_tokens.specs.Steps.{name, rest, same_symbol}
 use Rattle.dp_tokens.specs.Numbers.{number, number_by, number_value, next_number, value_by, zero_by, sees_zero}
-use Rattle.dp_parse.proofs.StepLemmas.{then_of, same_pair, took, same_is, is_same, expects}
+use Rattle.dp_parse.proofs.StepLemmas.{same_pair, takes, same_is, is_same, expects}
 
 -- the name that was read
 pub record Named (from to : List Lexeme) (n : TreeName) : Type 0 where
@@ -25,10 +25,8 @@ pub record Named (from to : List Lexeme) (n : TreeName) : Type 0 where
 pub read_name : (from to : List Lexeme) (n : TreeName) → name from ≡ Ok (n, to) → Named from to n
 unfolding name
 read_name from to n e =
-    let h = then_of (expect Name from) _ n to e in
-    let t = took Name from h.value h.middle h.first in
-    let parts = same_pair h.second in
-    record { token = h.value; is = t.is; splits = t.splits ∙ ap (λ ts. h.value ∷ ts) parts.1; called = sym parts.0 }
+    let h = takes Name from _ n to e in let parts = same_pair h.second in
+    record { token = h.value; is = h.is; splits = h.splits ∙ ap (λ ts. h.value ∷ ts) parts.1; called = sym parts.0 }
 
 pub reads_name : (t : Lexeme) (to : List Lexeme) → Is Name t → name (t ∷ to) ≡ Ok (name_of t, to)
 unfolding name
@@ -51,8 +49,7 @@ record Valued (digits : List ℕ) (z : ℤ) : Type 0 where
 valued_by : (digits : List ℕ) (z : ℤ) (a b : Bool) → list_all is_ascii_digit digits ≡ a → nat_le (digits_value 10 digits) 9223372036854775807 ≡ b →
     (if a && b then Some (pos (digits_value 10 digits)) else None) ≡ Some z → Valued digits z
 valued_by digits z true true all fits e = record { digits_only = AllPass-from_list_all is_ascii_digit digits all; fits = leb-true _ _ fits; is = sym (cc) }
-valued_by digits z true false all fits e = absurd (cc)
-valued_by digits z false b all fits e = absurd (cc)
+valued_by digits z _ _ all fits e = absurd (cc)
 
 valued : (digits : List ℕ) (z : ℤ) → number_value digits ≡ Some z → Valued digits z
 unfolding number_value

@@ -1,12 +1,12 @@
 pub mod StepLemmas
 pub mod LeafLemmas
-pub mod Shorter
+pub mod Spans
+pub mod Going
 pub mod Empty
 pub mod Lists
 pub mod ExpressionSound
-pub mod Levels
 pub mod Counts
-pub mod LevelFacts
+pub mod Levels
 pub mod ExpressionComplete
 pub mod HeadSound
 pub mod StatementForms
@@ -19,7 +19,6 @@ pub mod HeadReads
 pub mod StatementComplete
 pub mod RegionComplete
 pub mod ProgramSteps
-pub mod ShorterPrograms
 pub mod ItemSound
 pub mod ProgramSound
 pub mod ItemComplete
@@ -32,7 +31,6 @@ pub mod StuckStatements
 pub mod StuckRegions
 pub mod StuckItems
 pub mod StuckPrograms
-pub mod Going
 pub mod Beyond
 pub mod BeyondExpressions
 pub mod BeyondHeads
@@ -44,6 +42,5 @@ pub mod BeyondItems
 pub mod BeyondTops
 pub mod BeyondPrograms
 pub mod Fronts
-pub mod Places
 pub mod Results
 pub mod rows

@@ -9,7 +9,6 @@ use Rattle.dp_tree.specs.declared.raw.RawStmt.TheVariants as stmt
 use Rattle.dp_tree.specs.declared.raw.RawItem.{RawItem}
 use Rattle.dp_tree.specs.declared.raw.RawItem.TheVariants as item
 use Rattle.dp_tree.specs.declared.raw.RawProgram.{RawProgram}
-use Rattle.dp_parse.specs.declared.item.Part.{Part}
 use Rattle.dp_parse.specs.declared.item.Part.TheVariants.{Item, Main as Body}
 use Rattle.dp_tokens.specs.declared.symbol.Symbol.{Symbol}
 use Rattle.dp_tokens.specs.declared.symbol.Symbol.TheVariants.{Name, Mark, Int, Void, Main, Return, While, For, Else, Assign, OpenParen, CloseParen, OpenBracket, OpenBrace, CloseBrace, Semicolon}
@@ -17,24 +16,23 @@ use Rattle.dp_tokens.specs.Symbols.{symbol_at, Is}
 use Rattle.dp_tokens.specs.Leaves.{name_of}
 use Rattle.dp_parse.specs.Statements.{DerivesStatement, DerivesCondition}
 use Rattle.dp_parse.specs.Heads.{DerivesHead}
-use Rattle.dp_parse.specs.Programs.{DerivesNames, last, more, DerivesParams, void, some, DerivesItem, scalar, started, below_zero, array, function, DerivesTops, region, for_region, DerivesReturn, DerivesMain, main, main_void, DerivesItems, Derives}
+use Rattle.dp_parse.specs.Programs.{more, void, DerivesItem, scalar, started, below_zero, array, function, DerivesTops, region, for_region, DerivesReturn, DerivesMain, main, main_void, DerivesItems, Derives}
 use Rattle.dp_parse.specs.Programs as programs
-use Rattle.dp_tokens.specs.Steps.{Outcome, Parser, ◌>>=◌, pure, and_then, expect, eat, rest, sees, after, given, separated, many}
+use Rattle.dp_tokens.specs.Steps.{Parser, ◌>>=◌, pure, expect, eat, rest, sees, after, many}
 use Rattle.dp_tokens.specs.Steps as step
 use Rattle.dp_parse.specs.descent.Programs as read
-use Rattle.dp_parse.proofs.StepLemmas.{is_same, expects, eats, stays, sees_other, same_pair}
+use Rattle.dp_parse.proofs.StepLemmas.{pair, is_same, expects, eats, stays, sees_other, same_pair, unlike}
 use Rattle.dp_parse.proofs.LeafLemmas.{reads_number, sees_of}
-use Rattle.dp_parse.proofs.Lists.{many_turn, many_end}
-use Rattle.dp_parse.proofs.Shorter.{shorter_statement, shorter_condition, shorter_head}
+use Rattle.dp_parse.proofs.Lists.{many_turn, many_more, many_over}
+use Rattle.dp_parse.specs.Rules as rule
+use Rattle.dp_parse.proofs.Spans.{shorter}
 use Rattle.dp_parse.proofs.StatementReads.{goes, begins_not}
 use Rattle.dp_parse.specs.Regions.{DerivesLoop}
 use Rattle.dp_parse.proofs.StatementComplete.{reads_statement}
-use Rattle.dp_parse.proofs.RegionSound.{shorter_loop}
 use Rattle.dp_parse.proofs.RegionComplete.{reads_marked, reads_marked_for}
 use Rattle.dp_parse.proofs.ItemSteps.{ends_some}
 use Rattle.dp_parse.proofs.ProgramSteps.{program_item, program_main}
-use Rattle.dp_parse.proofs.ShorterPrograms.{shorter_item, shorter_main}
-use Rattle.dp_parse.proofs.ItemComplete.{pair, unlike, reads_plain, reads_below, reads_variable, reads_array, reads_function}
+use Rattle.dp_parse.proofs.ItemComplete.{reads_plain, reads_below, reads_variable, reads_array, reads_function}
 
 -- a token that is a symbol stands for it
 at_head : (t : Lexeme) (ts : List Lexeme) (s : Symbol) → Is s t → symbol_at (t ∷ ts) ≡ s
@@ -83,7 +81,7 @@ pub reads_region : (mark word : Lexeme) (from inside to : List Lexeme) (e : RawE
     read.top (mark ∷ word ∷ from) ≡ Ok (stmt.While word.line true e body, to)
 unfolding read.top
 reads_region mark word from inside to e body m w c b =
-    let less = shorter_condition c in
+    let less = shorter rule.Condition _ _ refl (_, c) in
     eats Mark (read.top_by (length (mark ∷ word ∷ from))) mark (word ∷ from) m
     ∙ reads_marked (length (mark ∷ word ∷ from)) word from inside to e body w c b (omega arith)
 
@@ -91,7 +89,7 @@ pub reads_for_region : (mark word : Lexeme) (from inside to : List Lexeme) (firs
     read.top (mark ∷ word ∷ from) ≡ Ok (stmt.For word.line true (first ∷ []) e (step ∷ []) body, to)
 unfolding read.top
 reads_for_region mark word from inside to first next e body m w c b =
-    let less = shorter_head c in
+    let less = shorter rule.Head _ _ refl (_, _, _, c) in
     eats Mark (read.top_by (length (mark ∷ word ∷ from))) mark (word ∷ from) m
     ∙ reads_marked_for (length (mark ∷ word ∷ from)) word from inside to first next e body w c b (omega arith)
 
@@ -102,23 +100,19 @@ region_turn mark from middle s m h less found k enough =
     many_turn read.top read.ends k found (mark ∷ from) middle s (ends_not (mark ∷ from) (unlike mark from Mark Return m (λ e. cc)) (unlike mark from Mark CloseBrace m (λ e. cc))) h less enough
 
 pub reads_tops : {from to : List Lexeme} {body : List RawStmt} → DerivesTops from to body → Closes to → (found : List RawStmt) (k : ℕ) → length from ≤ k → many read.ends read.top k found from ≡ Ok (found ++ body, to)
-reads_tops (programs.none {to}) h found k enough =
-    many_end read.top read.ends k found to h (ends_some to h) enough ∙ ap (λ (all : List RawStmt). Ok (pair all to)) (sym (append-nil found))
+reads_tops (programs.none {to}) h found k enough = many_over read.top read.ends k found to h (ends_some to h) enough
 reads_tops (programs.statement {from} {middle} {to} {s} {rest = body} d ds) h found k enough =
-    let less = shorter_statement d in
-    many_turn read.top read.ends k found from middle s (ends_not from (begins_not d Return refl) (begins_not d CloseBrace refl)) (reads_top_statement from middle s d (tops_no_else ds h)) less enough
-    ∙ reads_tops ds h (found ++ s ∷ []) (k - 1) (omega arith)
-    ∙ ap (λ (all : List RawStmt). Ok (pair all to)) (append_assoc found (s ∷ []) body)
+    let less = shorter rule.Statement _ _ refl (_, d) in
+    many_more read.top read.ends k found from middle to s body (ends_not from (begins_not d Return refl) (begins_not d CloseBrace refl)) (reads_top_statement from middle s d (tops_no_else ds h)) less enough
+    (reads_tops ds h (found ++ s ∷ []) (k - 1) (omega arith))
 reads_tops (region {mark} {word} {from} {inside} {middle} {to} {e} {body} {rest = others} m w c b ds) h found k enough =
-    let less = shorter_condition c in
-    let shorter = shorter_loop b in
+    let less = shorter rule.Condition _ _ refl (_, c) in let loop_less = shorter rule.Loop _ _ refl (_, b) in
     let s = stmt.While word.line true e body in
     region_turn mark (word ∷ from) middle s m (reads_region mark word from inside middle e body m w c b) (omega arith) found k enough
     ∙ reads_tops ds h (found ++ s ∷ []) (k - 1) (omega arith)
     ∙ ap (λ (all : List RawStmt). Ok (pair all to)) (append_assoc found (s ∷ []) others)
 reads_tops (for_region {mark} {word} {from} {inside} {middle} {to} {first} {step} {e} {body} {rest = others} m w c b ds) h found k enough =
-    let less = shorter_head c in
-    let shorter = shorter_loop b in
+    let less = shorter rule.Head _ _ refl (_, _, _, c) in let loop_less = shorter rule.Loop _ _ refl (_, b) in
     let s = stmt.For word.line true (first ∷ []) e (step ∷ []) body in
     region_turn mark (word ∷ from) middle s m (reads_for_region mark word from inside middle first step e body m w c b) (omega arith) found k enough
     ∙ reads_tops ds h (found ++ s ∷ []) (k - 1) (omega arith)
@@ -133,10 +127,8 @@ unfolding is_zero
 reads_returned (programs.none {to}) closing left splits c =
     stays Return read.returned_by to (λ at. unlike closing left CloseBrace Return c (λ e. cc) (ap symbol_at (sym splits) ∙ at))
 reads_returned (programs.zero {word} {value} {end} {to} w v e) closing left splits c =
-    eats Return read.returned_by word (value ∷ end ∷ to) w
-    ∙ ap (λ (b : Bool). read.zero_by b (value ∷ end ∷ to)) (sees_of value 0 (end ∷ to) v)
-    ∙ goes (λ _. expect Semicolon >>= (λ _. pure tt)) (reads_number value 0 (end ∷ to) v)
-    ∙ goes (λ _. pure tt) (expects Semicolon end to e)
+    eats Return read.returned_by word (value ∷ end ∷ to) w ∙ ap (λ (b : Bool). read.zero_by b (value ∷ end ∷ to)) (sees_of value 0 (end ∷ to) v) ∙ rw (reads_number value 0 (end ∷ to) v)
+    (rw (expects Semicolon end to e))
 
 reads_end : (from left : List Lexeme) (closing : Lexeme) → DerivesReturn from (closing ∷ left) → Is CloseBrace closing → read.end from ≡ Ok (tt, left)
 unfolding read.end read.returned
@@ -149,10 +141,8 @@ inside = expect CloseParen >>= (λ _. expect OpenBrace >>= (λ _. (λ ts. many r
 reads_inside : (paren brace closing : Lexeme) (from behind to : List Lexeme) (body : List RawStmt) → Is CloseParen paren → Is OpenBrace brace → DerivesTops from behind body → DerivesReturn behind (closing ∷ to) → Is CloseBrace closing →
     inside (paren ∷ brace ∷ from) ≡ Ok (body, to)
 reads_inside paren brace closing from behind to body p b d r c =
-    goes (λ _. expect OpenBrace >>= (λ _. (λ ts. many read.ends read.top (length ts) [] ts) >>= (λ body. read.end >>= (λ _. pure body)))) (expects CloseParen paren (brace ∷ from) p)
-    ∙ goes (λ _. (λ ts. many read.ends read.top (length ts) [] ts) >>= (λ body. read.end >>= (λ _. pure body))) (expects OpenBrace brace from b)
-    ∙ goes (λ body. read.end >>= (λ _. pure body)) (reads_tops d (return_closes r closing to refl c) [] (length from) (omega arith))
-    ∙ goes (λ _. pure body) (reads_end behind to closing r c)
+    rw (expects CloseParen paren (brace ∷ from) p) (rw (expects OpenBrace brace from b) (rw (reads_tops d (return_closes r closing to refl c) [] (length from) (omega arith))
+    (rw (reads_end behind to closing r c))))
 
 reads_main_plain : (opening : Lexeme) (from to : List Lexeme) (body : List RawStmt) → Is OpenParen opening → (symbol_at from ≡ Void → ⊥) → inside from ≡ Ok (body, to) → read.main_part (opening ∷ from) ≡ Ok (body, to)
 unfolding read.main_part
@@ -164,21 +154,20 @@ reads_main_void opening word from to body o v h = goes (λ _. eat Void >>= (λ _
 
 -- ---- parts of a program
 
-part_int : (int : Lexeme) (from to : List Lexeme) (p : Part) → Is Int int → (eat Main >>= read.global_by) from ≡ Ok (p, to) → read.part (int ∷ from) ≡ Ok (p, to)
+pub part_int : (int : Lexeme) (from : List Lexeme) → Is Int int → read.part (int ∷ from) ≡ (eat Main >>= read.global_by) from
 unfolding read.part
-part_int int from to p i h =
-    stays Void read.part_by (int ∷ from) (unlike int from Int Void i (λ e. cc)) ∙ goes (λ _. eat Main >>= read.global_by) (expects Int int from i) ∙ h
+part_int int from i = stays Void read.part_by (int ∷ from) (unlike int from Int Void i (λ e. cc e)) ∙ goes (λ _. eat Main >>= read.global_by) (expects Int int from i)
+
+pub part_void : (word : Lexeme) (from : List Lexeme) → Is Void word → read.part (word ∷ from) ≡ (read.function >>= (λ f. pure (Item f))) from
+unfolding read.part
+part_void word from v = eats Void read.part_by word from v
 
 part_variable : (int name : Lexeme) (from to : List Lexeme) (i : RawItem) → Is Int int → Is Name name → read.variable (name ∷ from) ≡ Ok (i, to) → read.part (int ∷ name ∷ from) ≡ Ok (Item i, to)
 part_variable int name from to i is_int n h =
-    part_int int (name ∷ from) to (Item i) is_int (stays Main read.global_by (name ∷ from) (unlike name from Name Main n (λ e. cc)) ∙ goes (λ v. pure (Item v)) h)
+    part_int int (name ∷ from) is_int ∙ stays Main read.global_by (name ∷ from) (unlike name from Name Main n (λ e. cc)) ∙ goes (λ v. pure (Item v)) h
 
 part_main : (int name : Lexeme) (from to : List Lexeme) (body : List RawStmt) → Is Int int → Is Main name → read.main_part from ≡ Ok (body, to) → read.part (int ∷ name ∷ from) ≡ Ok (Body body, to)
-part_main int name from to body i m h = part_int int (name ∷ from) to (Body body) i (eats Main read.global_by name from m ∙ goes (λ body. pure (Body body)) h)
-
-part_function : (word : Lexeme) (from to : List Lexeme) (i : RawItem) → Is Void word → read.function from ≡ Ok (i, to) → read.part (word ∷ from) ≡ Ok (Item i, to)
-unfolding read.part
-part_function word from to i v h = eats Void read.part_by word from v ∙ goes (λ f. pure (Item f)) h
+part_main int name from to body i m h = part_int int (name ∷ from) i ∙ eats Main read.global_by name from m ∙ goes (λ body. pure (Body body)) h
 
 pub reads_item : {from to : List Lexeme} {i : RawItem} → DerivesItem from to i → read.part from ≡ Ok (Item i, to)
 unfolding rest
@@ -197,7 +186,7 @@ reads_item (array {int} {name} {opening} {length} {closing} {end} {n = v} {to} i
     (reads_variable name end (opening ∷ length ∷ closing ∷ end ∷ to) to OpenBracket (item.Array (name_of name) (pos v)) n (at_head opening (length ∷ closing ∷ end ∷ to) OpenBracket o)
     (reads_array name opening length closing v (end ∷ to) o h least c) e)
 reads_item (function {void = word} {name} {opening} {closing} {from} {middle} {to} {params} {body} w n o d c b) =
-    part_function word (name ∷ opening ∷ from) to (item.Function (name_of name) params body) w (reads_function name opening closing from middle to params body n o d c b)
+    part_void word (name ∷ opening ∷ from) w ∙ goes (λ f. pure (Item f)) (reads_function name opening closing from middle to params body n o d c b)
 
 reads_main : {from to : List Lexeme} {body : List RawStmt} → DerivesMain from to body → read.part from ≡ Ok (Body body, to)
 reads_main (main {int} {name} {opening} {paren} {brace} {closing} {from} {after = behind} {to} {body} i m o p b d r c) =
@@ -215,9 +204,9 @@ whole items body = record { items = items; main = body }
 reads_items : {from middle : List Lexeme} {items : List RawItem} → DerivesItems from middle items → (body : List RawStmt) → DerivesMain middle [] body → (found : List RawItem) (k : ℕ) → length from ≤ k →
     read.program_from k found from ≡ Ok (whole (found ++ items) body, [])
 reads_items (programs.none {to}) body m found k enough =
-    program_main k found to [] body (reads_main m) (shorter_main m) enough ∙ ap (λ (all : List RawItem). Ok (pair (whole all body) [])) (sym (append-nil found))
+    program_main k found to [] body (reads_main m) (shorter rule.Body _ _ refl (_, m)) enough ∙ ap (λ (all : List RawItem). Ok (pair (whole all body) [])) (sym (append-nil found))
 reads_items (programs.more {from} {middle} {to} {i} {rest = others} d ds) body m found k enough =
-    let less = shorter_item d in
+    let less = shorter rule.Item _ _ refl (_, d) in
     program_item k found from middle i (reads_item d) less enough
     ∙ reads_items ds body m (found ++ i ∷ []) (k - 1) (omega arith)
     ∙ ap (λ (all : List RawItem). Ok (pair (whole all body) [])) (append_assoc found (i ∷ []) others)

@@ -11,13 +11,14 @@ use Rattle.dp_parse.specs.declared.item.Part.TheVariants.{Item, Main as Body}
 use Rattle.dp_tokens.specs.declared.symbol.Symbol.TheVariants.{Mark, Int, Void, Main, Return, OpenParen, CloseParen, OpenBrace, CloseBrace, Semicolon}
 use Rattle.dp_tokens.specs.Symbols.{Is}
 use Rattle.dp_tokens.specs.Leaves.{IsNumber}
-use Rattle.dp_parse.specs.Programs.{DerivesNames, DerivesParams, DerivesItem, DerivesTops, DerivesReturn, DerivesMain, DerivesItems, Derives}
+use Rattle.dp_parse.specs.Programs.{DerivesItem, DerivesTops, DerivesReturn, DerivesMain, DerivesItems, Derives}
 use Rattle.dp_parse.specs.Programs as programs
-use Rattle.dp_tokens.specs.Steps.{Outcome, Parser, ◌>>=◌, pure, and_then, expect, eat, rest, sees, given, separated, separated_by, many, many_by}
+use Rattle.dp_tokens.specs.Steps.{Parser, ◌>>=◌, pure, expect, eat, many}
 use Rattle.dp_tokens.specs.Numbers as numbers
 use Rattle.dp_parse.specs.descent.Statements as statements
 use Rattle.dp_parse.specs.descent.Programs as read
-use Rattle.dp_parse.proofs.StepLemmas.{Sound, then_of, same_pair, took, Ate, passed, stayed, ate, moved, taken}
+use Rattle.dp_parse.proofs.StepLemmas.{Sound, then_of, same_pair, takes, Ate, passed, stayed, ate, moved, taken}
+use Rattle.dp_parse.proofs.Lists.{many_sound}
 use Rattle.dp_parse.proofs.LeafLemmas.{read_number, sees_of}
 use Rattle.dp_parse.proofs.StatementSound.{sound_statement}
 use Rattle.dp_parse.proofs.RegionSound.{Marked, by_while, by_for, read_region}
@@ -41,23 +42,9 @@ pub sound_top : (from middle to : List Lexeme) (s : RawStmt) (others : List RawS
 unfolding read.top
 sound_top from middle to s others h ds = top_at (length from) from middle to s others (ate Mark (read.top_by (length from)) s middle from (λ k. cc) h) ds
 
-abbrev pub Stated : (List Lexeme → List Lexeme → List RawStmt → List RawStmt → Type 0)
-Stated from to found out = (body : List RawStmt) × (out ≡ found ++ body) × DerivesTops from to body
-
-tops_at : (again : List RawStmt → Parser (List RawStmt)) (goes : (from to : List Lexeme) (found out : List RawStmt) → again found from ≡ Ok (out, to) → Stated from to found out)
-    (from to : List Lexeme) (found out : List RawStmt) (b : Bool) → many_by read.top again found b from ≡ Ok (out, to) → Stated from to found out
-tops_at again goes from to found out true e =
-    let parts = same_pair {a = found} {b = out} {x = from} {y = to} e in
-    ([], sym parts.0 ∙ sym (append-nil found), moved DerivesTops refl (sym parts.1) refl programs.none)
-tops_at again goes from to found out false e =
-    let o = then_of (read.top from) (λ x. again (found ++ x ∷ [])) out to e in
-    let others = goes o.middle to (found ++ o.value ∷ []) out o.second in
-    (o.value ∷ others.0, others.1 ∙ append_assoc found (o.value ∷ []) others.0, sound_top from o.middle to o.value others.0 o.first others.2)
-
-pub many_tops : (n : ℕ) (from to : List Lexeme) (found out : List RawStmt) → many read.ends read.top n found from ≡ Ok (out, to) → Stated from to found out
-unfolding many
-many_tops zero from to found out h = absurd (cc)
-many_tops (suc n) from to found out h = tops_at (many read.ends read.top n) (many_tops n) from to found out (read.ends from) h
+pub many_tops : (n : ℕ) (from to : List Lexeme) (found out : List RawStmt) → many read.ends read.top n found from ≡ Ok (out, to) →
+    (body : List RawStmt) × (out ≡ found ++ body) × DerivesTops from to body
+many_tops = many_sound read.top DerivesTops read.ends (λ to. programs.none) sound_top
 
 pub number_zero : (t : Lexeme) (n : ℕ) → n ≡ 0 → IsNumber t n → IsNumber t 0
 number_zero t n e h = rw e at h
@@ -74,23 +61,21 @@ zero_at : (from to : List Lexeme) (b : Bool) (u : Unit {0}) → numbers.sees_zer
 zero_at from to true u seen h =
     let o = then_of (numbers.number from) (λ _. expect Semicolon >>= (λ _. pure tt)) u to h in
     let n = read_number from o.middle o.value o.first in
-    let p = then_of (expect Semicolon o.middle) (λ _. pure tt) u to o.second in
-    let t = took Semicolon o.middle p.value p.middle p.first in
+    let p = takes Semicolon o.middle (λ _. pure tt) u to o.second in
     let parts = same_pair {a = tt} {b = u} {x = p.middle} {y = to} p.second in
     let zero : is_zero (pos n.value) ≡ true = sym (sees_of n.token n.value o.middle n.is) ∙ ap numbers.sees_zero (sym n.splits) ∙ seen in
     record {
       value = n.token;
       end = p.value;
       zero = number_zero n.token n.value (zero_is (pos n.value) n.value refl zero) n.is;
-      ends = t.is;
-      splits = n.splits ∙ taken n.token (t.splits ∙ taken p.value parts.1);
+      ends = p.is;
+      splits = n.splits ∙ taken n.token (p.splits ∙ taken p.value parts.1);
     }
 zero_at from to false u seen h = absurd (cc)
 
 pub returned_ate : (from to : List Lexeme) (u : Unit {0}) → Ate Return read.returned_by from u to → DerivesReturn from to
 returned_ate from to u (passed t left is splits e) =
-    let z = zero_at left to (numbers.sees_zero left) u refl e in
-    let all = splits ∙ taken t z.splits in
+    let z = zero_at left to (numbers.sees_zero left) u refl e in let all = splits ∙ taken t z.splits in
     rw all (programs.zero is z.zero z.ends)
 returned_ate from to u (stayed other e) = let parts = same_pair {a = tt} {b = u} {x = from} {y = to} e in rw parts.1 programs.none
 
@@ -104,11 +89,10 @@ read_end : (from to : List Lexeme) (u : Unit {0}) → read.end from ≡ Ok (u, t
 unfolding read.end read.returned
 read_end from to u h =
     let o = then_of ((eat Return >>= read.returned_by) from) (λ _. expect CloseBrace >>= (λ _. pure tt)) u to h in
-    let p = then_of (expect CloseBrace o.middle) (λ _. pure tt) u to o.second in
-    let t = took CloseBrace o.middle p.value p.middle p.first in
+    let p = takes CloseBrace o.middle (λ _. pure tt) u to o.second in
     let parts = same_pair {a = tt} {b = u} {x = p.middle} {y = to} p.second in
-    let all : o.middle ≡ p.value ∷ to = t.splits ∙ taken p.value parts.1 in
-    record { closing = p.value; is = t.is; returns = rw all at (returned_ate from o.middle o.value (ate Return read.returned_by o.value o.middle from (λ k. cc) o.first)) }
+    let all : o.middle ≡ p.value ∷ to = p.splits ∙ taken p.value parts.1 in
+    record { closing = p.value; is = p.is; returns = rw all at (returned_ate from o.middle o.value (ate Return read.returned_by o.value o.middle from (λ k. cc) o.first)) }
 
 -- `main` from its opening brace on
 record Inside (from to : List Lexeme) (body : List RawStmt) : Type 0 where
@@ -127,10 +111,8 @@ inside = expect CloseParen >>= (λ _. expect OpenBrace >>= (λ _. (λ ts. many r
 
 read_inside : (from to : List Lexeme) (body : List RawStmt) → inside from ≡ Ok (body, to) → Inside from to body
 read_inside from to body h =
-    let o = then_of (expect CloseParen from) (λ _. expect OpenBrace >>= (λ _. (λ ts. many read.ends read.top (length ts) [] ts) >>= (λ body. read.end >>= (λ _. pure body)))) body to h in
-    let t = took CloseParen from o.value o.middle o.first in
-    let p = then_of (expect OpenBrace o.middle) (λ _. (λ ts. many read.ends read.top (length ts) [] ts) >>= (λ body. read.end >>= (λ _. pure body))) body to o.second in
-    let u = took OpenBrace o.middle p.value p.middle p.first in
+    let o = takes CloseParen from (λ _. expect OpenBrace >>= (λ _. (λ ts. many read.ends read.top (length ts) [] ts) >>= (λ body. read.end >>= (λ _. pure body)))) body to h in
+    let p = takes OpenBrace o.middle (λ _. (λ ts. many read.ends read.top (length ts) [] ts) >>= (λ body. read.end >>= (λ _. pure body))) body to o.second in
     let q = then_of (many read.ends read.top (length p.middle) [] p.middle) (λ body. read.end >>= (λ _. pure body)) body to p.second in
     let m = many_tops (length p.middle) p.middle q.middle [] q.value q.first in
     let v = then_of (read.end q.middle) (λ _. pure q.value) body to q.second in
@@ -141,9 +123,9 @@ read_inside from to body h =
       brace = p.value;
       inner = p.middle;
       last = q.middle;
-      is_paren = t.is;
-      is_brace = u.is;
-      splits = t.splits ∙ taken o.value u.splits;
+      is_paren = o.is;
+      is_brace = p.is;
+      splits = o.splits ∙ taken o.value p.splits;
       tops = moved DerivesTops refl refl (sym parts.0 ∙ m.1) m.2;
       ended = rw parts.1 at e;
     }
@@ -159,9 +141,8 @@ main_ate int name opening from to body i m o (stayed other e) =
 sound_main : (int name : Lexeme) (from to : List Lexeme) (body : List RawStmt) → Is Int int → Is Main name → read.main_part from ≡ Ok (body, to) → DerivesMain (int ∷ name ∷ from) to body
 unfolding read.main_part
 sound_main int name from to body i m h =
-    let o = then_of (expect OpenParen from) (λ _. eat Void >>= (λ _. inside)) body to h in
-    let t = took OpenParen from o.value o.middle o.first in
-    moved DerivesMain (taken int (taken name t.splits)) refl refl (main_ate int name o.value o.middle to body i m t.is (ate Void (λ _. inside) body to o.middle (λ k. cc) o.second))
+    let o = takes OpenParen from (λ _. eat Void >>= (λ _. inside)) body to h in
+    moved DerivesMain (taken int (taken name o.splits)) refl refl (main_ate int name o.value o.middle to body i m o.is (ate Void (λ _. inside) body to o.middle (λ k. cc) o.second))
 
 -- ---- parts of a program
 
@@ -185,9 +166,8 @@ part_ate from to p (passed t left is splits e) =
     let parts = same_pair {a = Item o.value} {b = p} {x = o.middle} {y = to} o.second in
     moved DerivesPart splits (sym parts.1) (sym parts.0) (sound_function t left o.middle o.value is o.first)
 part_ate from to p (stayed other e) =
-    let o = then_of (expect Int from) (λ _. eat Main >>= read.global_by) p to e in
-    let t = took Int from o.value o.middle o.first in
-    moved DerivesPart t.splits refl refl (global_ate o.value o.middle to p t.is (ate Main read.global_by p to o.middle (λ k. cc) o.second))
+    let o = takes Int from (λ _. eat Main >>= read.global_by) p to e in
+    moved DerivesPart o.splits refl refl (global_ate o.value o.middle to p o.is (ate Main read.global_by p to o.middle (λ k. cc) o.second))
 
 pub sound_part : Sound read.part DerivesPart
 unfolding read.part

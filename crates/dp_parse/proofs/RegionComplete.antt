@@ -1,6 +1,5 @@
 -- What the grammar derives as a region, the descent reads.
-use Rattle.std.proofs.Common.{◌≡◌, refl, ap, ◌∙◌, sym, ℕ, ◌-◌, ◌<◌, ◌≤◌, Bool, true, false, ◌&&◌, List, [], ◌∷◌, ◌++◌, length, Ok, append_assoc, arith}
-use Rattle.std.proofs.lemmas.List.{append-nil}
+use Rattle.std.proofs.Common.{◌≡◌, refl, ap, ◌∙◌, sym, ℕ, ◌-◌, ◌≤◌, Bool, true, false, ◌&&◌, List, [], ◌∷◌, ◌++◌, length, Ok, arith}
 use Rattle.dp_lex.specs.Token.{Lexeme}
 use Rattle.dp_tree.specs.declared.raw.RawExpr.{RawExpr}
 use Rattle.dp_tree.specs.declared.raw.RawStmt.{RawStmt}
@@ -9,39 +8,31 @@ use Rattle.dp_tokens.specs.declared.symbol.Symbol.{Symbol}
 use Rattle.dp_tokens.specs.declared.symbol.Symbol.TheVariants.{Int, Name, Print, While, For, If, Else, Break, OpenBrace, CloseBrace, Semicolon}
 use Rattle.dp_tokens.specs.Symbols.{symbol_at, Is}
 use Rattle.dp_parse.specs.Heads.{DerivesHead}
-use Rattle.dp_parse.specs.Statements.{DerivesCondition, DerivesStatement, declare, assign, store, call, print, loop, for_loop, choice, DerivesChoice, alone, otherwise, else_if, DerivesBlock, block, DerivesStatements}
-use Rattle.dp_parse.specs.Statements as statements
+use Rattle.dp_parse.specs.Statements.{DerivesCondition, DerivesStatement, declare, assign, store, call, print, loop, for_loop, choice, DerivesChoice, alone, otherwise, else_if, DerivesBlock, block}
 use Rattle.dp_parse.specs.Regions.{DerivesExit, bare, braced, DerivesInside, DerivesLoop}
 use Rattle.dp_parse.specs.Regions as regions
-use Rattle.dp_tokens.specs.Steps.{Parser, ◌>>=◌, pure, expect, rest, sees, many}
-use Rattle.dp_parse.specs.descent.Heads as heads
+use Rattle.dp_tokens.specs.Steps.{Parser, rest, sees, many}
 use Rattle.dp_parse.specs.descent.Statements as step
 use Rattle.dp_parse.specs.descent.Regions as read
-use Rattle.dp_parse.proofs.StepLemmas.{is_same, expects, sees_is, sees_other, seen_some}
-use Rattle.dp_parse.proofs.Lists.{many_turn, many_end}
-use Rattle.dp_parse.proofs.Shorter.{shorter_statement}
-use Rattle.dp_parse.proofs.StatementReads.{goes, pair, reads_condition, begins_not}
+use Rattle.dp_parse.proofs.StepLemmas.{is_same, expects, sees_is, sees_other, unlike}
+use Rattle.dp_parse.proofs.Lists.{many_more, many_closed}
+use Rattle.dp_parse.specs.Rules as rule
+use Rattle.dp_parse.proofs.Spans.{shorter}
+use Rattle.dp_parse.proofs.StatementReads.{reads_condition, begins_not, statements_not}
+use Rattle.dp_parse.proofs.Going.{Goes, by, word_first, goes_whole}
 use Rattle.dp_parse.proofs.HeadReads.{reads_head}
 use Rattle.dp_parse.proofs.StatementComplete.{reads_statement, reads_choice}
-use Rattle.dp_parse.proofs.RegionSound.{shorter_exit}
-
-pub unlike_head : (t : Lexeme) (ts : List Lexeme) (s k : Symbol) → Is s t → (s ≡ k → ⊥) → symbol_at (t ∷ ts) ≡ k → ⊥
-unfolding symbol_at
-unlike_head t ts s k is differ at = differ (sym is ∙ at)
 
 reads_bare : (line : ℕ) (cond : RawExpr) (leave end : Lexeme) (to : List Lexeme) → Is Break leave → Is Semicolon end → read.bare line cond (leave ∷ end ∷ to) ≡ Ok (tree.Break line cond, to)
 unfolding read.bare
 reads_bare line cond leave end to l e =
-    goes (λ _. expect Semicolon >>= (λ _. pure (tree.Break line cond))) (expects Break leave (end ∷ to) l)
-    ∙ goes (λ _. pure (tree.Break line cond)) (expects Semicolon end to e)
+    rw (expects Break leave (end ∷ to) l) (rw (expects Semicolon end to e))
 
 reads_braced : (line : ℕ) (cond : RawExpr) (opening leave end closing : Lexeme) (to : List Lexeme) → Is OpenBrace opening → Is Break leave → Is Semicolon end → Is CloseBrace closing →
     read.braced line cond (opening ∷ leave ∷ end ∷ closing ∷ to) ≡ Ok (tree.Break line cond, to)
 unfolding read.braced
 reads_braced line cond opening leave end closing to o l e c =
-    goes (λ _. read.bare line cond >>= (λ s. expect CloseBrace >>= (λ _. pure s))) (expects OpenBrace opening (leave ∷ end ∷ closing ∷ to) o)
-    ∙ goes (λ s. expect CloseBrace >>= (λ _. pure s)) (reads_bare line cond leave end (closing ∷ to) l e)
-    ∙ goes (λ _. pure (tree.Break line cond)) (expects CloseBrace closing to c)
+    rw (expects OpenBrace opening (leave ∷ end ∷ closing ∷ to) o) (rw (reads_bare line cond leave end (closing ∷ to) l e) (rw (expects CloseBrace closing to c)))
 
 leads : (opening leave : Lexeme) (to : List Lexeme) → Is OpenBrace opening → Is Break leave → read.leads_out (opening ∷ leave ∷ to) ≡ true
 unfolding read.leads_out rest
@@ -51,9 +42,7 @@ module _ (statement : Parser RawStmt) where
   to_tested : (word : Lexeme) (from middle : List Lexeme) (cond : RawExpr) → Is If word → DerivesCondition from middle cond → read.inside statement (word ∷ from) ≡ read.tested statement word.line cond middle
   unfolding read.inside read.branch
   to_tested word from middle cond is d =
-      ap (λ (b : Bool). read.inside_by statement b (word ∷ from)) (sees_is If word from is)
-      ∙ goes (λ (word : Lexeme). step.condition >>= (λ cond. read.tested statement word.line cond)) (expects If word from is)
-      ∙ goes (λ cond. read.tested statement word.line cond) (reads_condition d)
+      ap (λ (b : Bool). read.inside_by statement b (word ∷ from)) (sees_is If word from is) ∙ rw (expects If word from is) (rw (reads_condition d))
 
   pub inside_if : (from : List Lexeme) → symbol_at from ≡ If → read.inside statement from ≡ read.branch statement from
   unfolding read.inside sees
@@ -71,26 +60,20 @@ module _ (statement : Parser RawStmt) where
   reads_exit (braced {word} {opening} {leave} {end} {closing} {from} {to} {e} i d o l h c) =
       to_tested word from (opening ∷ leave ∷ end ∷ closing ∷ to) e i d
       ∙ tested_as word.line e (opening ∷ leave ∷ end ∷ closing ∷ to) false true
-      (sees_other Break (opening ∷ leave ∷ end ∷ closing ∷ to) (unlike_head opening (leave ∷ end ∷ closing ∷ to) OpenBrace Break o (λ e. cc))) (leads opening leave (end ∷ closing ∷ to) o l)
+      (sees_other Break (opening ∷ leave ∷ end ∷ closing ∷ to) (unlike opening (leave ∷ end ∷ closing ∷ to) OpenBrace Break o (λ e. cc))) (leads opening leave (end ∷ closing ∷ to) o l)
       ∙ reads_braced word.line e opening leave end closing to o l h c
 
   -- an `if` of a block is read as elsewhere
   chooses : (word : Lexeme) (from middle : List Lexeme) (cond : RawExpr) → Is If word → DerivesCondition from middle cond → step.choice statement (word ∷ from) ≡ read.branches statement word.line cond middle
   unfolding step.choice read.branches
   chooses word from middle cond is d =
-      goes (λ (word : Lexeme). step.condition >>= (λ cond. step.block statement >>= (λ then_part. step.otherwise statement >>= (λ else_part. pure (tree.If word.line cond then_part else_part))))) (expects If word from is)
-      ∙ goes (λ cond. step.block statement >>= (λ then_part. step.otherwise statement >>= (λ else_part. pure (tree.If word.line cond then_part else_part)))) (reads_condition d)
-
--- no statement of a block is a break
-pub no_break : {from to : List Lexeme} {body : List RawStmt} → DerivesStatements from to body → (symbol_at to ≡ Break → ⊥) → symbol_at from ≡ Break → ⊥
-no_break statements.none other at = other at
-no_break (statements.more d ds) other at = begins_not d Break refl at
+      rw (expects If word from is) (rw (reads_condition d))
 
 pub stays_in : {middle to : List Lexeme} {body : List RawStmt} → DerivesBlock middle to body → (sees Break middle ≡ false) × (read.leads_out middle ≡ false)
 unfolding read.leads_out rest
 stays_in (block {opening} {closing} {from} {to} o d c) = (
-  sees_other Break (opening ∷ from) (unlike_head opening from OpenBrace Break o (λ e. cc)),
-  ap (λ (b : Bool). b && sees Break from) (sees_is OpenBrace opening from o) ∙ sees_other Break from (no_break d (unlike_head closing to CloseBrace Break c (λ e. cc))),
+  sees_other Break (opening ∷ from) (unlike opening from OpenBrace Break o (λ e. cc)),
+  ap (λ (b : Bool). b && sees Break from) (sees_is OpenBrace opening from o) ∙ sees_other Break from (statements_not d Break refl (unlike closing to CloseBrace Break c (λ e. cc))),
 )
 
 pub record Opens (from : List Lexeme) : Type 0 where
@@ -121,80 +104,62 @@ inside_other statement from other = ap (λ (b : Bool). read.inside_by statement 
 
 pub reads_inside : {from to : List Lexeme} {s : RawStmt} → DerivesStatement from to s → (n : ℕ) → length from ≤ n → (symbol_at to ≡ Else → ⊥) → read.inside (step.statement n) from ≡ Ok (s, to)
 reads_inside (declare {int} {name} {equals} {end} {from} i n q d h) depth fits other =
-    inside_other (step.statement depth) (int ∷ name ∷ equals ∷ from) (unlike_head int (name ∷ equals ∷ from) Int If i (λ e. cc)) ∙ reads_statement (declare i n q d h) depth fits other
+    inside_other (step.statement depth) (int ∷ name ∷ equals ∷ from) (unlike int (name ∷ equals ∷ from) Int If i (λ e. cc)) ∙ reads_statement (declare i n q d h) depth fits other
 reads_inside (assign {name} {equals} {end} {from} n q d h) depth fits other =
-    inside_other (step.statement depth) (name ∷ equals ∷ from) (unlike_head name (equals ∷ from) Name If n (λ e. cc)) ∙ reads_statement (assign n q d h) depth fits other
+    inside_other (step.statement depth) (name ∷ equals ∷ from) (unlike name (equals ∷ from) Name If n (λ e. cc)) ∙ reads_statement (assign n q d h) depth fits other
 reads_inside (store {name} {opening} {closing} {equals} {end} {from} n o d c q f h) depth fits other =
-    inside_other (step.statement depth) (name ∷ opening ∷ from) (unlike_head name (opening ∷ from) Name If n (λ e. cc)) ∙ reads_statement (store n o d c q f h) depth fits other
+    inside_other (step.statement depth) (name ∷ opening ∷ from) (unlike name (opening ∷ from) Name If n (λ e. cc)) ∙ reads_statement (store n o d c q f h) depth fits other
 reads_inside (call {name} {opening} {closing} {end} {from} n o d c h) depth fits other =
-    inside_other (step.statement depth) (name ∷ opening ∷ from) (unlike_head name (opening ∷ from) Name If n (λ e. cc)) ∙ reads_statement (call n o d c h) depth fits other
+    inside_other (step.statement depth) (name ∷ opening ∷ from) (unlike name (opening ∷ from) Name If n (λ e. cc)) ∙ reads_statement (call n o d c h) depth fits other
 reads_inside (print {word} {end} {from} w d h) depth fits other =
-    inside_other (step.statement depth) (word ∷ from) (unlike_head word from Print If w (λ e. cc)) ∙ reads_statement (print w d h) depth fits other
+    inside_other (step.statement depth) (word ∷ from) (unlike word from Print If w (λ e. cc)) ∙ reads_statement (print w d h) depth fits other
 reads_inside (loop {word} {from} w d b) depth fits other =
-    inside_other (step.statement depth) (word ∷ from) (unlike_head word from While If w (λ e. cc)) ∙ reads_statement (loop w d b) depth fits other
+    inside_other (step.statement depth) (word ∷ from) (unlike word from While If w (λ e. cc)) ∙ reads_statement (loop w d b) depth fits other
 reads_inside (for_loop {word} {from} w d b) depth fits other =
-    inside_other (step.statement depth) (word ∷ from) (unlike_head word from For If w (λ e. cc)) ∙ reads_statement (for_loop w d b) depth fits other
+    inside_other (step.statement depth) (word ∷ from) (unlike word from For If w (λ e. cc)) ∙ reads_statement (for_loop w d b) depth fits other
 reads_inside (choice {from} d) depth fits other = inside_choice (step.statement depth) from (opens d) ∙ reads_choice d depth (omega arith) other
 
-pub exit_begins : {from to : List Lexeme} {s : RawStmt} → DerivesExit from to s → (k : Symbol) → (If ≡ k → ⊥) → symbol_at from ≡ k → ⊥
-exit_begins (bare {word} {from = from} i d l h) k other = unlike_head word _ If k i other
-exit_begins (braced {word} {from = from} i d o l h c) k other = unlike_head word _ If k i other
+pub exit_not : {from to : List Lexeme} → Goes rule.Exit from to → (k : Symbol) → (If ≡ k → ⊥) → symbol_at from ≡ k → ⊥
+exit_not (by rule.bare g) k other at = other (sym (word_first g) ∙ at)
+exit_not (by rule.braced g) k other at = other (sym (word_first g) ∙ at)
 
 pub insides_no_else : {from to : List Lexeme} {body : List RawStmt} → DerivesInside from to body → (symbol_at to ≡ Else → ⊥) → symbol_at from ≡ Else → ⊥
 insides_no_else regions.none other at = other at
 insides_no_else (regions.statement d ds) other at = begins_not d Else refl at
-insides_no_else (regions.exit d ds) other at = exit_begins d Else (λ e. cc) at
+insides_no_else (regions.exit d ds) other at = exit_not (goes_whole rule.Exit refl (_, d)) Else (λ e. cc) at
 
 module _ (n : ℕ) where
   abbrev one : Parser RawStmt
   one = read.inside (step.statement n)
 
-  no_more : (to : List Lexeme) → symbol_at to ≡ CloseBrace → (found : List RawStmt) (k : ℕ) → length to ≤ k → many (sees CloseBrace) one k found to ≡ Ok (found ++ [], to)
-  unfolding sees
-  no_more to ends found k enough =
-      let seen = is_same (symbol_at to) CloseBrace ends in
-      many_end one (sees CloseBrace) k found to seen (seen_some CloseBrace to (λ e. cc) seen) enough ∙ ap (λ (all : List RawStmt). Ok (pair all to)) (sym (append-nil found))
-
-  one_more : (from middle : List Lexeme) (s : RawStmt) → (symbol_at from ≡ CloseBrace → ⊥) → one from ≡ Ok (s, middle) → length middle < length from →
-      (found : List RawStmt) (k : ℕ) → length from ≤ k → many (sees CloseBrace) one k found from ≡ many (sees CloseBrace) one (k - 1) (found ++ s ∷ []) middle
-  one_more from middle s other h less found k enough = many_turn one (sees CloseBrace) k found from middle s (sees_other CloseBrace from other) h less enough
-
   pub reads_insides : {from to : List Lexeme} {body : List RawStmt} → DerivesInside from to body → length from ≤ n → symbol_at to ≡ CloseBrace →
       (found : List RawStmt) (k : ℕ) → length from ≤ k → many (sees CloseBrace) one k found from ≡ Ok (found ++ body, to)
-  reads_insides (regions.none {to}) fits ends found k enough = no_more to ends found k enough
+  reads_insides (regions.none {to}) fits ends found k enough = many_closed one k found to ends enough
   reads_insides (regions.statement {from} {middle} {to} {s} {rest = body} d ds) fits ends found k enough =
-      let less = shorter_statement d in
-      one_more from middle s (begins_not d CloseBrace refl) (reads_inside d n fits (insides_no_else ds (λ at. let clash : CloseBrace ≡ Else = sym ends ∙ at in cc clash))) less found k enough
-      ∙ reads_insides ds (omega arith) ends (found ++ s ∷ []) (k - 1) (omega arith)
-      ∙ ap (λ (all : List RawStmt). Ok (pair all to)) (append_assoc found (s ∷ []) body)
+      let less = shorter rule.Statement _ _ refl (_, d) in
+      many_more one (sees CloseBrace) k found from middle to s body (sees_other CloseBrace from (begins_not d CloseBrace refl))
+      (reads_inside d n fits (insides_no_else ds (λ at. let clash : CloseBrace ≡ Else = sym ends ∙ at in cc clash))) less enough (reads_insides ds (omega arith) ends (found ++ s ∷ []) (k - 1) (omega arith))
   reads_insides (regions.exit {from} {middle} {to} {s} {rest = body} d ds) fits ends found k enough =
-      let less = shorter_exit d in
-      one_more from middle s (exit_begins d CloseBrace (λ e. cc)) (reads_exit (step.statement n) d) less found k enough
-      ∙ reads_insides ds (omega arith) ends (found ++ s ∷ []) (k - 1) (omega arith)
-      ∙ ap (λ (all : List RawStmt). Ok (pair all to)) (append_assoc found (s ∷ []) body)
+      let less = shorter rule.Exit _ _ refl (_, d) in
+      many_more one (sees CloseBrace) k found from middle to s body (sees_other CloseBrace from (exit_not (goes_whole rule.Exit refl (_, d)) CloseBrace (λ e. cc)))
+      (reads_exit (step.statement n) d) less enough (reads_insides ds (omega arith) ends (found ++ s ∷ []) (k - 1) (omega arith))
 
   pub reads_loop : {from to : List Lexeme} {body : List RawStmt} → DerivesLoop from to body → length from ≤ n → read.body (step.statement n) from ≡ Ok (body, to)
   unfolding read.body symbol_at
   reads_loop (regions.loop {opening} {closing} {from} {to} {body} o d c) fits =
-      goes (λ _. (λ ts. many (sees CloseBrace) one (length ts) [] ts) >>= (λ body. expect CloseBrace >>= (λ _. pure body))) (expects OpenBrace opening from o)
-      ∙ goes (λ body. expect CloseBrace >>= (λ _. pure body)) (reads_insides d (omega arith) c [] (length from) (omega arith))
-      ∙ goes (λ _. pure body) (expects CloseBrace closing to c)
+      rw (expects OpenBrace opening from o) (rw (reads_insides d (omega arith) c [] (length from) (omega arith)) (rw (expects CloseBrace closing to c)))
 
   reads_repeated : (word : Lexeme) (from middle to : List Lexeme) (e : RawExpr) (body : List RawStmt) → Is While word → DerivesCondition from middle e → DerivesLoop middle to body → length middle ≤ n →
       read.repeated (step.statement n) (word ∷ from) ≡ Ok (tree.While word.line true e body, to)
   unfolding read.repeated
   reads_repeated word from middle to e body w d b fits =
-      goes (λ (word : Lexeme). step.condition >>= (λ cond. read.body (step.statement n) >>= (λ body. pure (tree.While word.line true cond body)))) (expects While word from w)
-      ∙ goes (λ cond. read.body (step.statement n) >>= (λ body. pure (tree.While word.line true cond body))) (reads_condition d)
-      ∙ goes (λ body. pure (tree.While word.line true e body)) (reads_loop b fits)
+      rw (expects While word from w) (rw (reads_condition d) (rw (reads_loop b fits)))
 
   reads_counted : (word : Lexeme) (from middle to : List Lexeme) (first next : RawStmt) (e : RawExpr) (body : List RawStmt) → Is For word → DerivesHead from middle first e next → DerivesLoop middle to body → length middle ≤ n →
       read.counted (step.statement n) (word ∷ from) ≡ Ok (tree.For word.line true (first ∷ []) e (next ∷ []) body, to)
   unfolding read.counted
   reads_counted word from middle to first next e body w d b fits =
-      goes (λ (word : Lexeme). heads.head >>= (λ head. read.body (step.statement n) >>= (λ body. pure (tree.For word.line true head.first head.cond head.step body)))) (expects For word from w)
-      ∙ goes (λ head. read.body (step.statement n) >>= (λ body. pure (tree.For word.line true head.first head.cond head.step body))) (reads_head d)
-      ∙ goes (λ body. pure (tree.For word.line true (first ∷ []) e (next ∷ []) body)) (reads_loop b fits)
+      rw (expects For word from w) (rw (reads_head d) (rw (reads_loop b fits)))
 
   pub region_while : (from : List Lexeme) → symbol_at from ≡ While → read.region (step.statement n) from ≡ read.repeated (step.statement n) from
   unfolding read.region

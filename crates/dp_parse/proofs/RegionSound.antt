@@ -1,6 +1,5 @@
 -- What the descent reads as a region, the grammar derives.
-use Rattle.std.proofs.Common.{◌≡◌, refl, ap, ◌∙◌, sym, ℕ, zero, suc, ◌<◌, ◌≤◌, Bool, true, false, List, [], ◌∷◌, ◌++◌, length, Ok, append_assoc, arith}
-use Rattle.std.proofs.lemmas.List.{append-nil}
+use Rattle.std.proofs.Common.{◌≡◌, refl, ap, ◌∙◌, sym, ℕ, ◌<◌, Bool, true, false, List, [], ◌∷◌, ◌++◌, length, Ok}
 use Rattle.dp_lex.specs.Token.{Lexeme}
 use Rattle.dp_tree.specs.declared.raw.RawExpr.{RawExpr}
 use Rattle.dp_tree.specs.declared.raw.RawStmt.{RawStmt}
@@ -12,12 +11,14 @@ use Rattle.dp_parse.specs.Heads.{DerivesHead}
 use Rattle.dp_parse.specs.Statements.{DerivesCondition, DerivesStatement, choice}
 use Rattle.dp_parse.specs.Regions.{DerivesExit, bare, braced, DerivesInside, DerivesLoop, loop}
 use Rattle.dp_parse.specs.Regions as regions
-use Rattle.dp_tokens.specs.Steps.{Parser, ◌>>=◌, pure, expect, sees, many, many_by}
+use Rattle.dp_tokens.specs.Steps.{Parser, ◌>>=◌, pure, expect, sees, many}
 use Rattle.dp_parse.specs.descent.Heads as heads
 use Rattle.dp_parse.specs.descent.Statements as statements
 use Rattle.dp_parse.specs.descent.Regions as read
-use Rattle.dp_parse.proofs.StepLemmas.{Sound, then_of, same_pair, took, closed, moved, taken}
-use Rattle.dp_parse.proofs.Shorter.{shorter_statement, shorter_condition}
+use Rattle.dp_parse.proofs.StepLemmas.{Sound, then_of, same_pair, takes, closed, moved, taken}
+use Rattle.dp_parse.proofs.Lists.{many_sound}
+use Rattle.dp_parse.specs.Rules as rule
+use Rattle.dp_parse.proofs.Spans.{shorter}
 use Rattle.dp_parse.proofs.HeadSound.{read_head}
 use Rattle.dp_parse.proofs.StatementForms.{sound_condition}
 use Rattle.dp_parse.proofs.StatementSound.{sound_block, read_otherwise, chosen, sound_statement}
@@ -34,17 +35,15 @@ record Leaves (line : ℕ) (cond : RawExpr) (from to : List Lexeme) (s : RawStmt
 read_bare : (line : ℕ) (cond : RawExpr) (from to : List Lexeme) (s : RawStmt) → read.bare line cond from ≡ Ok (s, to) → Leaves line cond from to s
 unfolding read.bare
 read_bare line cond from to s h =
-    let o = then_of (expect Break from) (λ _. expect Semicolon >>= (λ _. pure (tree.Break line cond))) s to h in
-    let t = took Break from o.value o.middle o.first in
-    let p = then_of (expect Semicolon o.middle) (λ _. pure (tree.Break line cond)) s to o.second in
-    let u = took Semicolon o.middle p.value p.middle p.first in
+    let o = takes Break from (λ _. expect Semicolon >>= (λ _. pure (tree.Break line cond))) s to h in
+    let p = takes Semicolon o.middle (λ _. pure (tree.Break line cond)) s to o.second in
     let parts = same_pair {a = tree.Break line cond} {b = s} {x = p.middle} {y = to} p.second in
     record {
       leave = o.value;
       end = p.value;
-      is = t.is;
-      ends = u.is;
-      splits = t.splits ∙ taken o.value (u.splits ∙ taken p.value parts.1);
+      is = o.is;
+      ends = p.is;
+      splits = o.splits ∙ taken o.value (p.splits ∙ taken p.value parts.1);
       made = sym parts.0;
     }
 
@@ -56,11 +55,10 @@ sound_bare word from middle to cond s is d h =
 sound_braced : (word : Lexeme) (from middle to : List Lexeme) (cond : RawExpr) (s : RawStmt) → Is If word → DerivesCondition from middle cond → read.braced word.line cond middle ≡ Ok (s, to) → DerivesExit (word ∷ from) to s
 unfolding read.braced
 sound_braced word from middle to cond s is d h =
-    let o = then_of (expect OpenBrace middle) (λ _. read.bare word.line cond >>= (λ s. expect CloseBrace >>= (λ _. pure s))) s to h in
-    let t = took OpenBrace middle o.value o.middle o.first in
+    let o = takes OpenBrace middle (λ _. read.bare word.line cond >>= (λ s. expect CloseBrace >>= (λ _. pure s))) s to h in
     let c = closed (read.bare word.line cond) CloseBrace (λ s. s) s o.middle to o.second in
     let l = read_bare word.line cond o.middle (c.closing ∷ to) c.value c.first in
-    moved DerivesExit refl refl (c.made ∙ l.made) (braced is (moved DerivesCondition refl (sym (t.splits ∙ taken o.value l.splits)) refl d) t.is l.is l.ends c.is)
+    moved DerivesExit refl refl (c.made ∙ l.made) (braced is (moved DerivesCondition refl (sym (o.splits ∙ taken o.value l.splits)) refl d) o.is l.is l.ends c.is)
 
 -- a statement of a region's body
 pub data Inside (from to : List Lexeme) (s : RawStmt) : Type 0 where
@@ -89,10 +87,9 @@ module _ (statement : Parser RawStmt) (sound : Sound statement DerivesStatement)
   sound_branch : (from to : List Lexeme) (s : RawStmt) → read.branch statement from ≡ Ok (s, to) → Inside from to s
   unfolding read.branch
   sound_branch from to s h =
-      let o = then_of (expect If from) (λ word. statements.condition >>= (λ cond. read.tested statement word.line cond)) s to h in
-      let t = took If from o.value o.middle o.first in
+      let o = takes If from (λ word. statements.condition >>= (λ cond. read.tested statement word.line cond)) s to h in
       let p = then_of (statements.condition o.middle) (λ cond. read.tested statement o.value.line cond) s to o.second in
-      moved Inside t.splits refl refl (sound_tested o.value o.middle p.middle to p.value s t.is (sound_condition o.middle p.middle p.value p.first) p.second)
+      moved Inside o.splits refl refl (sound_tested o.value o.middle p.middle to p.value s o.is (sound_condition o.middle p.middle p.value p.first) p.second)
 
   inside_at : (b : Bool) (from to : List Lexeme) (s : RawStmt) → read.inside_by statement b from ≡ Ok (s, to) → Inside from to s
   inside_at true from to s h = sound_branch from to s h
@@ -102,36 +99,21 @@ module _ (statement : Parser RawStmt) (sound : Sound statement DerivesStatement)
   unfolding read.inside
   sound_inside from to s h = inside_at (sees If from) from to s h
 
-  abbrev Stated : (List Lexeme → List Lexeme → List RawStmt → List RawStmt → Type 0)
-  Stated from to found out = (body : List RawStmt) × (out ≡ found ++ body) × DerivesInside from to body
-
   one_more : (from middle to : List Lexeme) (s : RawStmt) (rest : List RawStmt) → Inside from middle s → DerivesInside middle to rest → DerivesInside from to (s ∷ rest)
   one_more from middle to s rest (plain d) ds = regions.statement d ds
   one_more from middle to s rest (leaving d) ds = regions.exit d ds
 
-  many_at : (again : List RawStmt → Parser (List RawStmt)) (goes : (from to : List Lexeme) (found out : List RawStmt) → again found from ≡ Ok (out, to) → Stated from to found out)
-      (from to : List Lexeme) (found out : List RawStmt) (b : Bool) → many_by (read.inside statement) again found b from ≡ Ok (out, to) → Stated from to found out
-  many_at again goes from to found out true e =
-      let parts = same_pair {a = found} {b = out} {x = from} {y = to} e in
-      ([], sym parts.0 ∙ sym (append-nil found), moved DerivesInside refl (sym parts.1) refl regions.none)
-  many_at again goes from to found out false e =
-      let o = then_of (read.inside statement from) (λ x. again (found ++ x ∷ [])) out to e in
-      let others = goes o.middle to (found ++ o.value ∷ []) out o.second in
-      (o.value ∷ others.0, others.1 ∙ append_assoc found (o.value ∷ []) others.0, one_more from o.middle to o.value others.0 (sound_inside from o.middle o.value o.first) others.2)
-
-  pub many_inside : (n : ℕ) (from to : List Lexeme) (found out : List RawStmt) → many (sees CloseBrace) (read.inside statement) n found from ≡ Ok (out, to) → Stated from to found out
-  unfolding many
-  many_inside zero from to found out h = absurd (cc)
-  many_inside (suc n) from to found out h = many_at (many (sees CloseBrace) (read.inside statement) n) (many_inside n) from to found out (sees CloseBrace from) h
+  pub many_inside : (n : ℕ) (from to : List Lexeme) (found out : List RawStmt) → many (sees CloseBrace) (read.inside statement) n found from ≡ Ok (out, to) →
+      (body : List RawStmt) × (out ≡ found ++ body) × DerivesInside from to body
+  many_inside = many_sound (read.inside statement) DerivesInside (sees CloseBrace) (λ to. regions.none) (λ from middle to s rest e ds. one_more from middle to s rest (sound_inside from middle s e) ds)
 
   pub sound_body : Sound (read.body statement) DerivesLoop
   unfolding read.body
   sound_body from to body h =
-      let o = then_of (expect OpenBrace from) (λ _. (λ ts. many (sees CloseBrace) (read.inside statement) (length ts) [] ts) >>= (λ body. expect CloseBrace >>= (λ _. pure body))) body to h in
-      let t = took OpenBrace from o.value o.middle o.first in
+      let o = takes OpenBrace from (λ _. (λ ts. many (sees CloseBrace) (read.inside statement) (length ts) [] ts) >>= (λ body. expect CloseBrace >>= (λ _. pure body))) body to h in
       let c = closed (λ ts. many (sees CloseBrace) (read.inside statement) (length ts) [] ts) CloseBrace (λ x. x) body o.middle to o.second in
       let m = many_inside (length o.middle) o.middle (c.closing ∷ to) [] c.value c.first in
-      moved DerivesLoop t.splits refl (c.made ∙ m.1) (loop t.is m.2 c.is)
+      moved DerivesLoop o.splits refl (c.made ∙ m.1) (loop o.is m.2 c.is)
 
   -- a region, by its word
   pub data Marked (from to : List Lexeme) (s : RawStmt) : Type 0 where
@@ -143,12 +125,11 @@ module _ (statement : Parser RawStmt) (sound : Sound statement DerivesStatement)
   read_repeated : (from to : List Lexeme) (s : RawStmt) → read.repeated statement from ≡ Ok (s, to) → Marked from to s
   unfolding read.repeated
   read_repeated from to s h =
-      let o = then_of (expect While from) (λ word. statements.condition >>= (λ cond. read.body statement >>= (λ body. pure (tree.While word.line true cond body)))) s to h in
-      let t = took While from o.value o.middle o.first in
+      let o = takes While from (λ word. statements.condition >>= (λ cond. read.body statement >>= (λ body. pure (tree.While word.line true cond body)))) s to h in
       let p = then_of (statements.condition o.middle) (λ cond. read.body statement >>= (λ body. pure (tree.While o.value.line true cond body))) s to o.second in
       let q = then_of (read.body statement p.middle) (λ body. pure (tree.While o.value.line true p.value body)) s to p.second in
       let parts = same_pair {a = tree.While o.value.line true p.value q.value} {b = s} {x = q.middle} {y = to} q.second in
-      by_while o.value o.middle p.middle p.value q.value t.is t.splits (sound_condition o.middle p.middle p.value p.first) (moved DerivesLoop refl (sym parts.1) refl (sound_body p.middle q.middle q.value q.first)) (sym parts.0)
+      by_while o.value o.middle p.middle p.value q.value o.is o.splits (sound_condition o.middle p.middle p.value p.first) (moved DerivesLoop refl (sym parts.1) refl (sound_body p.middle q.middle q.value q.first)) (sym parts.0)
 
   abbrev for_of : ℕ → Header → List RawStmt → RawStmt
   for_of line h body = tree.For line true h.first h.cond h.step body
@@ -156,13 +137,12 @@ module _ (statement : Parser RawStmt) (sound : Sound statement DerivesStatement)
   read_counted : (from to : List Lexeme) (s : RawStmt) → read.counted statement from ≡ Ok (s, to) → Marked from to s
   unfolding read.counted
   read_counted from to s h =
-      let o = then_of (expect For from) (λ word. heads.head >>= (λ head. read.body statement >>= (λ body. pure (for_of word.line head body)))) s to h in
-      let t = took For from o.value o.middle o.first in
+      let o = takes For from (λ word. heads.head >>= (λ head. read.body statement >>= (λ body. pure (for_of word.line head body)))) s to h in
       let p = then_of (heads.head o.middle) (λ head. read.body statement >>= (λ body. pure (for_of o.value.line head body))) s to o.second in
       let k = read_head o.middle p.middle p.value p.first in
       let q = then_of (read.body statement p.middle) (λ body. pure (for_of o.value.line p.value body)) s to p.second in
       let parts = same_pair {a = for_of o.value.line p.value q.value} {b = s} {x = q.middle} {y = to} q.second in
-      by_for o.value o.middle p.middle k.first k.step k.cond q.value t.is t.splits k.derives (moved DerivesLoop refl (sym parts.1) refl (sound_body p.middle q.middle q.value q.first))
+      by_for o.value o.middle p.middle k.first k.step k.cond q.value o.is o.splits k.derives (moved DerivesLoop refl (sym parts.1) refl (sound_body p.middle q.middle q.value q.first))
       (sym parts.0 ∙ ap (λ (head : Header). for_of o.value.line head q.value) k.made)
 
   region_at : (b : Bool) (from to : List Lexeme) (s : RawStmt) → read.region_by statement b from ≡ Ok (s, to) → Marked from to s
@@ -173,22 +153,6 @@ module _ (statement : Parser RawStmt) (sound : Sound statement DerivesStatement)
   unfolding read.region
   read_region from to s h = region_at (sees For from) from to s h
 
--- what is derived takes tokens
-pub shorter_exit : {from to : List Lexeme} {s : RawStmt} → DerivesExit from to s → length to < length from
-shorter_exit (bare i d l e) = let a = shorter_condition d in omega arith
-shorter_exit (braced i d o l e c) = let a = shorter_condition d in omega arith
-
-pub shorter_insides : {from to : List Lexeme} {body : List RawStmt} → DerivesInside from to body → length to ≤ length from
-shorter_insides regions.none = omega arith
-shorter_insides (regions.statement d ds) = let a = shorter_statement d in let b = shorter_insides ds in omega arith
-shorter_insides (regions.exit d ds) = let a = shorter_exit d in let b = shorter_insides ds in omega arith
-
-pub shorter_loop : {from to : List Lexeme} {body : List RawStmt} → DerivesLoop from to body → length to < length from
-shorter_loop (loop o d c) = let a = shorter_insides d in omega arith
-
-shorter_by : (from to : List Lexeme) (s : RawStmt) → Inside from to s → length to < length from
-shorter_by from to s (plain d) = shorter_statement d
-shorter_by from to s (leaving d) = shorter_exit d
-
 pub inside_shorter : (n : ℕ) (from to : List Lexeme) (s : RawStmt) → read.inside (statements.statement n) from ≡ Ok (s, to) → length to < length from
-inside_shorter n from to s h = shorter_by from to s (sound_inside (statements.statement n) (sound_statement n) from to s h)
+inside_shorter n from to s h =
+    elim (sound_inside (statements.statement n) (sound_statement n) from to s h) [ plain d ↦ shorter rule.Statement _ _ refl (_, d) | leaving d ↦ shorter rule.Exit _ _ refl (_, d) ]

@@ -1,6 +1,5 @@
 -- What the grammar derives as a statement, the descent reads.
-use Rattle.std.proofs.Common.{◌≡◌, refl, ap, ◌∙◌, sym, ℕ, suc, ◌-◌, ◌<◌, ◌≤◌, Bool, false, List, [], ◌∷◌, ◌++◌, length, append_assoc, arith, Ok}
-use Rattle.std.proofs.lemmas.List.{append-nil}
+use Rattle.std.proofs.Common.{◌≡◌, refl, ap, ◌∙◌, sym, ℕ, suc, ◌-◌, ◌≤◌, Bool, false, List, [], ◌∷◌, ◌++◌, length, arith, Ok}
 use Rattle.dp_lex.specs.Token.{Lexeme}
 use Rattle.dp_tree.specs.declared.raw.Name.{Name as TreeName}
 use Rattle.dp_tree.specs.declared.raw.RawExpr.{RawExpr}
@@ -12,18 +11,20 @@ use Rattle.dp_tokens.specs.Leaves.{name_of}
 use Rattle.dp_parse.specs.declared.level.Level.TheVariants.{Or}
 use Rattle.dp_parse.specs.Expressions.{DerivesExpr}
 use Rattle.dp_parse.specs.Heads.{DerivesHead}
-use Rattle.dp_parse.specs.Statements.{DerivesArguments, none, some, DerivesCondition, condition, DerivesStatement, declare, assign, store, call, print, loop, for_loop, choice, DerivesChoice, alone, otherwise, else_if, DerivesBlock, block, DerivesStatements}
+use Rattle.dp_parse.specs.Statements.{none, DerivesStatement, declare, assign, store, call, print, loop, for_loop, choice, DerivesChoice, alone, otherwise, else_if, DerivesBlock, block, DerivesStatements}
 use Rattle.dp_parse.specs.Statements as statements
-use Rattle.dp_tokens.specs.Steps.{Parser, ◌>>=◌, pure, expect, sees, many}
+use Rattle.dp_tokens.specs.Steps.{Parser, pure, sees, many}
 use Rattle.dp_parse.specs.descent.Heads as heads
 use Rattle.dp_parse.specs.descent.Statements as read
-use Rattle.dp_parse.proofs.StepLemmas.{is_same, expects, eats, stays, sees_is, sees_other, seen_some}
+use Rattle.dp_parse.proofs.StepLemmas.{is_same, expects, eats, stays, sees_is, sees_other}
 use Rattle.dp_parse.proofs.LeafLemmas.{reads_name}
-use Rattle.dp_parse.proofs.Lists.{many_turn, many_end}
-use Rattle.dp_parse.proofs.Shorter.{shorter_condition, shorter_head, shorter_block, shorter_statement, shorter_choice}
+use Rattle.dp_parse.proofs.Lists.{many_more, many_closed}
+use Rattle.dp_parse.specs.Rules as rule
+use Rattle.dp_parse.proofs.Spans.{shorter}
 use Rattle.dp_parse.proofs.StatementSteps.{statement_opens}
 use Rattle.dp_parse.proofs.HeadReads.{ends_at, reads_ended, reads_declare, reads_scalar, reads_element, reads_head}
-use Rattle.dp_parse.proofs.StatementReads.{goes, pair, reads_call, reads_print, reads_repeated, reads_if, choice_begins, block_begins, begins_not, no_else}
+use Rattle.dp_parse.proofs.StatementReads.{goes, reads_call, reads_print, reads_repeated, reads_if, choice_first, block_begins, begins_not, statements_not}
+use Rattle.dp_parse.proofs.Going.{goes_whole}
 
 -- ---- declarations and what begins with a name
 
@@ -50,9 +51,7 @@ reads_counted : (statement : Parser RawStmt) (word : Lexeme) (from middle to : L
     read.block statement middle ≡ Ok (body, to) → read.counted statement (word ∷ from) ≡ Ok (tree.For word.line false (first ∷ []) e (step ∷ []) body, to)
 unfolding read.counted
 reads_counted statement word from middle to first step e body w d h =
-    goes (λ (word : Lexeme). heads.head >>= (λ head. read.block statement >>= (λ body. pure (tree.For word.line false head.first head.cond head.step body)))) (expects For word from w)
-    ∙ goes (λ head. read.block statement >>= (λ body. pure (tree.For word.line false head.first head.cond head.step body))) (reads_head d)
-    ∙ goes (λ body. pure (tree.For word.line false (first ∷ []) e (step ∷ []) body)) h
+    rw (expects For word from w) (rw (reads_head d) (rw h))
 
 -- ---- blocks
 
@@ -78,19 +77,7 @@ module _ (statement : Parser RawStmt) where
       read.block statement (opening ∷ from) ≡ Ok (body, to)
   unfolding read.block
   in_braces opening closing from to body o h c =
-      goes (λ _. (λ ts. many (sees CloseBrace) statement (length ts) [] ts) >>= (λ body. expect CloseBrace >>= (λ _. pure body))) (expects OpenBrace opening from o)
-      ∙ goes (λ body. expect CloseBrace >>= (λ _. pure body)) h
-      ∙ goes (λ _. pure body) (expects CloseBrace closing to c)
-
-  no_more : (to : List Lexeme) → symbol_at to ≡ CloseBrace → (found : List RawStmt) (k : ℕ) → length to ≤ k → many (sees CloseBrace) statement k found to ≡ Ok (found ++ [], to)
-  unfolding sees
-  no_more to ends found k enough =
-      let seen = is_same (symbol_at to) CloseBrace ends in
-      many_end statement (sees CloseBrace) k found to seen (seen_some CloseBrace to (λ e. cc) seen) enough ∙ ap (λ (all : List RawStmt). Ok (pair all to)) (sym (append-nil found))
-
-  one_more : (from middle : List Lexeme) (s : RawStmt) → (symbol_at from ≡ CloseBrace → ⊥) → statement from ≡ Ok (s, middle) → length middle < length from →
-      (found : List RawStmt) (k : ℕ) → length from ≤ k → many (sees CloseBrace) statement k found from ≡ many (sees CloseBrace) statement (k - 1) (found ++ s ∷ []) middle
-  one_more from middle s other h less found k enough = many_turn statement (sees CloseBrace) k found from middle s (sees_other CloseBrace from other) h less enough
+      rw (expects OpenBrace opening from o) (rw h (rw (expects CloseBrace closing to c)))
 
 mutual
   unfolding symbol_at
@@ -112,33 +99,31 @@ mutual
   reads_statement (print {word} {end} {from} {to} {e} w d h) depth fits other =
       statement_opens depth (word ∷ from) Print (omega arith) w ∙ reads_print word end from to e w d h
   reads_statement (loop {word} {from} {middle} {to} {e} {body} w d b) depth fits other =
-      let less = shorter_condition d in
+      let less = shorter rule.Condition _ _ refl (_, d) in
       statement_opens depth (word ∷ from) While (omega arith) w
       ∙ reads_repeated (read.statement (depth - 1)) word from middle to e body w d (reads_block b (depth - 1) (omega arith))
   reads_statement (for_loop {word} {from} {middle} {to} {first} {step} {e} {body} w d b) depth fits other =
-      let less = shorter_head d in
+      let less = shorter rule.Head _ _ refl (_, _, _, d) in
       statement_opens depth (word ∷ from) For (omega arith) w
       ∙ reads_counted (read.statement (depth - 1)) word from middle to first step e body w d (reads_block b (depth - 1) (omega arith))
   reads_statement (choice {from} d) depth fits other =
-      let least = shorter_choice d in
-      statement_opens depth from If (omega arith) (choice_begins d) ∙ reads_choice d (depth - 1) (omega arith) other
+      let least = shorter rule.Choice _ _ refl (_, d) in
+      statement_opens depth from If (omega arith) (choice_first (goes_whole rule.Choice refl (_, d))) ∙ reads_choice d (depth - 1) (omega arith) other
 
   pub reads_choice : {from to : List Lexeme} {s : RawStmt} → DerivesChoice from to s → (n : ℕ) → length from ≤ suc n → (symbol_at to ≡ Else → ⊥) → read.choice (read.statement n) from ≡ Ok (s, to)
   reads_choice (alone {word} {from} {middle} {to} {e} {body} w d b) depth fits other =
-      let less = shorter_condition d in
+      let less = shorter rule.Condition _ _ refl (_, d) in
       reads_if (read.statement depth) word from middle to to e body [] w d (reads_block b depth (omega arith)) (reads_nothing (read.statement depth) to other)
   reads_choice (otherwise {word} {other} {from} {middle} {after} {to} {e} {body} {else_part} w d b o f) depth fits free =
-      let less = shorter_condition d in
-      let shorter = shorter_block b in
+      let less = shorter rule.Condition _ _ refl (_, d) in let block_less = shorter rule.Block _ _ refl (_, b) in
       reads_if (read.statement depth) word from middle (other ∷ after) to e body else_part w d (reads_block b depth (omega arith))
       (reads_else_block (read.statement depth) other after to else_part o (block_begins f) (reads_block f depth (omega arith)))
   reads_choice (else_if {word} {other} {from} {middle} {after} {to} {e} {body} {s} w d b o f) depth fits free =
-      let less = shorter_condition d in
-      let shorter = shorter_block b in
-      let least = shorter_choice f in
+      let less = shorter rule.Condition _ _ refl (_, d) in let block_less = shorter rule.Block _ _ refl (_, b) in
+      let least = shorter rule.Choice _ _ refl (_, f) in
       reads_if (read.statement depth) word from middle (other ∷ after) to e body (s ∷ []) w d (reads_block b depth (omega arith))
-      (reads_else_if (read.statement depth) other after to s o (choice_begins f)
-      (statement_opens depth after If (omega arith) (choice_begins f) ∙ reads_choice f (depth - 1) (omega arith) free))
+      (reads_else_if (read.statement depth) other after to s o (choice_first (goes_whole rule.Choice refl (_, f)))
+      (statement_opens depth after If (omega arith) (choice_first (goes_whole rule.Choice refl (_, f))) ∙ reads_choice f (depth - 1) (omega arith) free))
 
   pub reads_block : {from to : List Lexeme} {body : List RawStmt} → DerivesBlock from to body → (n : ℕ) → length from ≤ suc n → read.block (read.statement n) from ≡ Ok (body, to)
   reads_block (block {opening} {closing} {from} {to} {body} o d c) depth fits =
@@ -146,10 +131,9 @@ mutual
 
   pub reads_statements : {from to : List Lexeme} {body : List RawStmt} → DerivesStatements from to body → (n : ℕ) → length from ≤ n → symbol_at to ≡ CloseBrace →
       (found : List RawStmt) (k : ℕ) → length from ≤ k → many (sees CloseBrace) (read.statement n) k found from ≡ Ok (found ++ body, to)
-  reads_statements (statements.none {to}) depth fits ends found k enough = no_more (read.statement depth) to ends found k enough
+  reads_statements (statements.none {to}) depth fits ends found k enough = many_closed (read.statement depth) k found to ends enough
   reads_statements (statements.more {from} {middle} {to} {s} {body} d ds) depth fits ends found k enough =
-      let less = shorter_statement d in
-      one_more (read.statement depth) from middle s (begins_not d CloseBrace refl)
-      (reads_statement d depth fits (no_else ds (λ at. let clash : CloseBrace ≡ Else = sym ends ∙ at in cc clash))) less found k enough
-      ∙ reads_statements ds depth (omega arith) ends (found ++ s ∷ []) (k - 1) (omega arith)
-      ∙ ap (λ (all : List RawStmt). Ok (pair all to)) (append_assoc found (s ∷ []) body)
+      let less = shorter rule.Statement _ _ refl (_, d) in
+      many_more (read.statement depth) (sees CloseBrace) k found from middle to s body (sees_other CloseBrace from (begins_not d CloseBrace refl))
+      (reads_statement d depth fits (statements_not ds Else refl (λ at. let clash : CloseBrace ≡ Else = sym ends ∙ at in cc clash))) less enough
+      (reads_statements ds depth (omega arith) ends (found ++ s ∷ []) (k - 1) (omega arith))

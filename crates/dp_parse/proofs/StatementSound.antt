@@ -1,6 +1,5 @@
 -- What the descent reads as a statement, the grammar derives.
-use Rattle.std.proofs.Common.{◌≡◌, refl, ap, ◌∙◌, sym, ℕ, zero, suc, Bool, true, false, List, [], ◌∷◌, ◌++◌, length, append_assoc, Ok}
-use Rattle.std.proofs.lemmas.List.{append-nil}
+use Rattle.std.proofs.Common.{◌≡◌, refl, ap, ◌∙◌, sym, ℕ, zero, suc, Bool, true, false, List, [], ◌∷◌, ◌++◌, length, Ok}
 use Rattle.dp_lex.specs.Token.{Lexeme}
 use Rattle.dp_tree.specs.declared.raw.RawExpr.{RawExpr}
 use Rattle.dp_tree.specs.declared.raw.RawStmt.{RawStmt}
@@ -8,44 +7,30 @@ use Rattle.dp_tree.specs.declared.raw.RawStmt.TheVariants as tree
 use Rattle.dp_tokens.specs.declared.symbol.Symbol.{Symbol}
 use Rattle.dp_tokens.specs.declared.symbol.Symbol.TheVariants.{Name, Int, Print, While, For, If, Else, OpenBrace, CloseBrace}
 use Rattle.dp_tokens.specs.Symbols.{symbol_at, Is}
-use Rattle.dp_parse.specs.Statements.{DerivesArguments, DerivesCondition, condition, DerivesStatement, declare, assign, store, call, print, loop, for_loop, choice, DerivesChoice, alone, otherwise, else_if, DerivesBlock, block, DerivesStatements}
+use Rattle.dp_parse.specs.Statements.{DerivesCondition, condition, DerivesStatement, loop, for_loop, choice, DerivesChoice, alone, otherwise, else_if, DerivesBlock, block, DerivesStatements, declare, assign, store, call, print}
 use Rattle.dp_parse.specs.Statements as statements
-use Rattle.dp_tokens.specs.Steps.{Parser, ◌>>=◌, pure, expect, sees, many, many_by}
+use Rattle.dp_tokens.specs.Steps.{Parser, ◌>>=◌, pure, expect, sees, many}
 use Rattle.dp_parse.specs.declared.head.Header.{Header}
 use Rattle.dp_parse.specs.descent.Heads as heads
 use Rattle.dp_parse.specs.descent.Statements as read
-use Rattle.dp_parse.proofs.StepLemmas.{Sound, then_of, same_pair, took, Ate, passed, stayed, ate, closed, moved, saw}
+use Rattle.dp_parse.proofs.StepLemmas.{Sound, then_of, same_pair, takes, Ate, passed, stayed, ate, closed, moved, saw}
+use Rattle.dp_parse.proofs.Lists.{many_sound}
 use Rattle.dp_parse.proofs.StatementForms.{sound_condition, sound_declaration, sound_named, sound_print}
 use Rattle.dp_parse.proofs.HeadSound.{read_head}
 
 module _ (statement : Parser RawStmt) (sound : Sound statement DerivesStatement) where
-  abbrev pub Stated : (List Lexeme → List Lexeme → List RawStmt → List RawStmt → Type 0)
-  Stated from to found out = (body : List RawStmt) × (out ≡ found ++ body) × DerivesStatements from to body
-
-  many_at : (again : List RawStmt → Parser (List RawStmt)) (goes : (from to : List Lexeme) (found out : List RawStmt) → again found from ≡ Ok (out, to) → Stated from to found out)
-      (from to : List Lexeme) (found out : List RawStmt) (b : Bool) → many_by statement again found b from ≡ Ok (out, to) → Stated from to found out
-  many_at again goes from to found out true e =
-      let parts = same_pair {a = found} {b = out} {x = from} {y = to} e in
-      ([], sym parts.0 ∙ sym (append-nil found), moved DerivesStatements refl (sym parts.1) refl statements.none)
-  many_at again goes from to found out false e =
-      let o = then_of (statement from) (λ x. again (found ++ x ∷ [])) out to e in
-      let others = goes o.middle to (found ++ o.value ∷ []) out o.second in
-      (o.value ∷ others.0, others.1 ∙ append_assoc found (o.value ∷ []) others.0, statements.more (sound from o.middle o.value o.first) others.2)
-
   -- statements up to a brace, after those that were found
-  pub many_statements : (n : ℕ) (from to : List Lexeme) (found out : List RawStmt) → many (sees CloseBrace) statement n found from ≡ Ok (out, to) → Stated from to found out
-  unfolding many
-  many_statements zero from to found out h = absurd (cc)
-  many_statements (suc n) from to found out h = many_at (many (sees CloseBrace) statement n) (many_statements n) from to found out (sees CloseBrace from) h
+  pub many_statements : (n : ℕ) (from to : List Lexeme) (found out : List RawStmt) → many (sees CloseBrace) statement n found from ≡ Ok (out, to) →
+      (body : List RawStmt) × (out ≡ found ++ body) × DerivesStatements from to body
+  many_statements = many_sound statement DerivesStatements (sees CloseBrace) (λ to. statements.none) (λ from middle to s rest e ds. statements.more (sound from middle s e) ds)
 
   pub sound_block : Sound (read.block statement) DerivesBlock
   unfolding read.block
   sound_block from to body h =
-      let o = then_of (expect OpenBrace from) (λ _. (λ ts. many (sees CloseBrace) statement (length ts) [] ts) >>= (λ body. expect CloseBrace >>= (λ _. pure body))) body to h in
-      let t = took OpenBrace from o.value o.middle o.first in
+      let o = takes OpenBrace from (λ _. (λ ts. many (sees CloseBrace) statement (length ts) [] ts) >>= (λ body. expect CloseBrace >>= (λ _. pure body))) body to h in
       let c = closed (λ ts. many (sees CloseBrace) statement (length ts) [] ts) CloseBrace (λ x. x) body o.middle to o.second in
       let m = many_statements (length o.middle) o.middle (c.closing ∷ to) [] c.value c.first in
-      moved DerivesBlock t.splits refl (c.made ∙ m.1) (block t.is m.2 c.is)
+      moved DerivesBlock o.splits refl (c.made ∙ m.1) (block o.is m.2 c.is)
 
   -- what follows an `if` and its block
   pub data Otherwise (from to : List Lexeme) (part : List RawStmt) : Type 0 where
@@ -92,25 +77,23 @@ module _ (statement : Parser RawStmt) (sound : Sound statement DerivesStatement)
   pub sound_choice : Sound (read.choice statement) DerivesChoice
   unfolding read.choice
   sound_choice from to s h =
-      let o = then_of (expect If from) (λ word. read.condition >>= (λ cond. read.block statement >>= (λ then_part. read.otherwise statement >>= (λ else_part. pure (tree.If word.line cond then_part else_part))))) s to h in
-      let t = took If from o.value o.middle o.first in
+      let o = takes If from (λ word. read.condition >>= (λ cond. read.block statement >>= (λ then_part. read.otherwise statement >>= (λ else_part. pure (tree.If word.line cond then_part else_part))))) s to h in
       let p = then_of (read.condition o.middle) (λ cond. read.block statement >>= (λ then_part. read.otherwise statement >>= (λ else_part. pure (tree.If o.value.line cond then_part else_part)))) s to o.second in
       let q = then_of (read.block statement p.middle) (λ then_part. read.otherwise statement >>= (λ else_part. pure (tree.If o.value.line p.value then_part else_part))) s to p.second in
       let u = then_of (read.otherwise statement q.middle) (λ else_part. pure (tree.If o.value.line p.value q.value else_part)) s to q.second in
       let parts = same_pair {a = tree.If o.value.line p.value q.value u.value} {b = s} {x = u.middle} {y = to} u.second in
-      moved DerivesChoice t.splits (sym parts.1) (sym parts.0)
-      (chosen o.value o.middle p.middle q.middle u.middle p.value q.value u.value t.is (sound_condition o.middle p.middle p.value p.first)
+      moved DerivesChoice o.splits (sym parts.1) (sym parts.0)
+      (chosen o.value o.middle p.middle q.middle u.middle p.value q.value u.value o.is (sound_condition o.middle p.middle p.value p.first)
       (sound_block statement sound p.middle q.middle q.value q.first) (read_otherwise statement sound q.middle u.middle u.value u.first))
 
   sound_loop : (from to : List Lexeme) (s : RawStmt) → read.repeated statement from ≡ Ok (s, to) → DerivesStatement from to s
   unfolding read.repeated
   sound_loop from to s h =
-      let o = then_of (expect While from) (λ word. read.condition >>= (λ cond. read.block statement >>= (λ body. pure (tree.While word.line false cond body)))) s to h in
-      let t = took While from o.value o.middle o.first in
+      let o = takes While from (λ word. read.condition >>= (λ cond. read.block statement >>= (λ body. pure (tree.While word.line false cond body)))) s to h in
       let p = then_of (read.condition o.middle) (λ cond. read.block statement >>= (λ body. pure (tree.While o.value.line false cond body))) s to o.second in
       let q = then_of (read.block statement p.middle) (λ body. pure (tree.While o.value.line false p.value body)) s to p.second in
       let parts = same_pair {a = tree.While o.value.line false p.value q.value} {b = s} {x = q.middle} {y = to} q.second in
-      moved DerivesStatement t.splits (sym parts.1) (sym parts.0) (loop t.is (sound_condition o.middle p.middle p.value p.first) (sound_block statement sound p.middle q.middle q.value q.first))
+      moved DerivesStatement o.splits (sym parts.1) (sym parts.0) (loop o.is (sound_condition o.middle p.middle p.value p.first) (sound_block statement sound p.middle q.middle q.value q.first))
 
   abbrev for_of : ℕ → Header → List RawStmt → RawStmt
   for_of line h body = tree.For line false h.first h.cond h.step body
@@ -118,13 +101,12 @@ module _ (statement : Parser RawStmt) (sound : Sound statement DerivesStatement)
   sound_for : (from to : List Lexeme) (s : RawStmt) → read.counted statement from ≡ Ok (s, to) → DerivesStatement from to s
   unfolding read.counted
   sound_for from to s h =
-      let o = then_of (expect For from) (λ word. heads.head >>= (λ head. read.block statement >>= (λ body. pure (for_of word.line head body)))) s to h in
-      let t = took For from o.value o.middle o.first in
+      let o = takes For from (λ word. heads.head >>= (λ head. read.block statement >>= (λ body. pure (for_of word.line head body)))) s to h in
       let p = then_of (heads.head o.middle) (λ head. read.block statement >>= (λ body. pure (for_of o.value.line head body))) s to o.second in
       let k = read_head o.middle p.middle p.value p.first in
       let q = then_of (read.block statement p.middle) (λ body. pure (for_of o.value.line p.value body)) s to p.second in
       let parts = same_pair {a = for_of o.value.line p.value q.value} {b = s} {x = q.middle} {y = to} q.second in
-      moved DerivesStatement t.splits (sym parts.1) (sym parts.0 ∙ ap (λ (head : Header). for_of o.value.line head q.value) k.made) (for_loop t.is k.derives (sound_block statement sound p.middle q.middle q.value q.first))
+      moved DerivesStatement o.splits (sym parts.1) (sym parts.0 ∙ ap (λ (head : Header). for_of o.value.line head q.value) k.made) (for_loop o.is k.derives (sound_block statement sound p.middle q.middle q.value q.first))
 
   statement_at : (k : Symbol) (from to : List Lexeme) (s : RawStmt) → read.statement_by statement k from ≡ Ok (s, to) → DerivesStatement from to s
   statement_at Int from to s h = sound_declaration from to s h

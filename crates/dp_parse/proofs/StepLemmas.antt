@@ -11,6 +11,9 @@ use Rattle.dp_tokens.specs.Symbols.{symbol, symbol_at, Is}
 use Rattle.dp_tokens.specs.Steps.{Outcome, Parser, and_then, ◌>>=◌, pure, given, same_symbol, sees, after, rest, eat, expect}
 use Rattle.dp_parse.specs.descent.Operators.{same_level}
 
+abbrev pub pair : {A : Type 0} → A → List Lexeme → A × List Lexeme
+pair a ts = (a, ts)
+
 -- a step that answered, and the one after it
 pub record Then {A B : Type 0} (o : Outcome A) (f : A → Parser B) (b : B) (left : List Lexeme) : Type 0 where
   pub value : A
@@ -81,6 +84,19 @@ unfolding expect
 took s [] t left e = absurd (cc)
 took s (u ∷ us) t left e = took_by s u us t left (same_symbol (symbol u) s) refl e
 
+-- a symbol was expected there and came, and what follows it answered
+pub record Takes {B : Type 0} (s : Symbol) (ts : List Lexeme) (f : Lexeme → Parser B) (b : B) (left : List Lexeme) : Type 0 where
+  pub value : Lexeme
+  pub middle : List Lexeme
+  pub is : Is s value
+  pub splits : ts ≡ value ∷ middle
+  pub second : f value middle ≡ Ok (b, left)
+
+pub takes : {B : Type 0} (s : Symbol) (ts : List Lexeme) (f : Lexeme → Parser B) (b : B) (left : List Lexeme) → and_then (expect s ts) f ≡ Ok (b, left) → Takes s ts f b left
+takes s ts f b left e =
+    let o = then_of (expect s ts) f b left e in let t = took s ts o.value o.middle o.first in
+    record { value = o.value; middle = o.middle; is = t.is; splits = t.splits; second = o.second }
+
 pub expects : (s : Symbol) (t : Lexeme) (ts : List Lexeme) → Is s t → expect s (t ∷ ts) ≡ Ok (t, ts)
 unfolding expect
 expects s t ts h = ap (λ (b : Bool). taking b t ts) (is_same (symbol t) s h)
@@ -145,14 +161,13 @@ module _ {A B : Type 0} where
   pub closed : (p : Parser A) (s : Symbol) (f : A → B) (b : B) (from to : List Lexeme) → (p >>= (λ x. expect s >>= (λ _. pure (f x)))) from ≡ Ok (b, to) → Closed p s f b from to
   closed p s f b from to e =
       let h = then_of (p from) (λ x. expect s >>= (λ _. pure (f x))) b to e in
-      let g = then_of (expect s h.middle) (λ _. pure (f h.value)) b to h.second in
-      let t = took s h.middle g.value g.middle g.first in
+      let g = takes s h.middle (λ _. pure (f h.value)) b to h.second in
       let parts = same_pair {a = f h.value} {b = b} {x = g.middle} {y = to} g.second in
       record {
         value = h.value;
         closing = g.value;
-        first = h.first ∙ ap (λ (ts : List Lexeme). Ok (both h.value ts)) (t.splits ∙ ap (λ (ts : List Lexeme). g.value ∷ ts) parts.1);
-        is = t.is;
+        first = h.first ∙ ap (λ (ts : List Lexeme). Ok (both h.value ts)) (g.splits ∙ ap (λ (ts : List Lexeme). g.value ∷ ts) parts.1);
+        is = g.is;
         made = sym parts.0;
       }
 
@@ -189,3 +204,8 @@ pub seen_some : (s : Symbol) (ts : List Lexeme) → (End ≡ s → ⊥) → sees
 unfolding sees symbol_at
 seen_some s [] real h = absurd (real (same_is End s h))
 seen_some s (t ∷ ts) real h = omega arith
+
+-- a token with another symbol than this one
+pub unlike : (t : Lexeme) (ts : List Lexeme) (s k : Symbol) → Is s t → (s ≡ k → ⊥) → symbol_at (t ∷ ts) ≡ k → ⊥
+unfolding symbol_at
+unlike t ts s k h f at = f (sym h ∙ at)

@@ -1,15 +1,15 @@
 -- Where a step of the descent is stuck, the tokens before that place begin the part that it reads.
-use Rattle.std.proofs.Common.{◌≡◌, refl, ap, ◌∙◌, sym, Bool, true, false, List, [], ◌∷◌, Option, Some, None, ◌⊎◌, inl, inr, Ok, Err, ℤ}
+use Rattle.std.proofs.Common.{◌≡◌, refl, ap, ◌∙◌, sym, ℕ, zero, suc, Bool, true, false, List, [], ◌∷◌, ◌++◌, Option, Some, None, ◌⊎◌, inl, inr, Ok, Err, ℤ}
 use Rattle.dp_lex.specs.Token.{Lexeme}
 use Rattle.dp_tokens.specs.declared.symbol.Symbol.{Symbol}
-use Rattle.dp_tokens.specs.declared.symbol.Symbol.TheVariants.{Name, End}
+use Rattle.dp_tokens.specs.declared.symbol.Symbol.TheVariants.{Name, End, Comma}
 use Rattle.dp_tokens.specs.Symbols.{symbol, symbol_at, Is}
 use Rattle.dp_parse.specs.Rules.{Nonterminal, Part, Word, Number, Of}
 use Rattle.dp_parse.specs.Begins.{Allows, Derived, Begins, BeginsParts, nothing, none, within, token, past}
-use Rattle.dp_tokens.specs.Steps.{Outcome, Parser, and_then, ◌>>=◌, pure, same_symbol, expect, eat, sees, after}
+use Rattle.dp_tokens.specs.Steps.{Outcome, Parser, and_then, ◌>>=◌, pure, same_symbol, expect, eat, sees, after, many, many_by, separated, separated_by}
 use Rattle.dp_tokens.specs.Steps as step
 use Rattle.dp_tokens.specs.Numbers as numbers
-use Rattle.dp_parse.proofs.StepLemmas.{took, taking, same_is, differs, after_is, after_other}
+use Rattle.dp_parse.proofs.StepLemmas.{pair, took, taking, same_is, differs, after_is, after_other}
 use Rattle.dp_parse.proofs.LeafLemmas.{read_name, read_number}
 
 -- what stands before the place begins the parts
@@ -162,3 +162,33 @@ module _ {A B : Type 0} {p : Parser A} {part : Part} {a b : List Part} (r : Read
 
   pub seq_or : FailsOr (p >>= f) (part ∷ a) (part ∷ b)
   seq_or from to e = seq_or_by from to (p from) refl e
+
+-- ---- lists: the first part is stuck, or one behind others
+
+module _ {A : Type 0} (n : Nonterminal) (item : Parser A) (first : (from to : List Lexeme) → item from ≡ Err to → Begins n from to) where
+  module _ (stops : List Lexeme → Bool) (next : (from middle to : List Lexeme) (x : A) → item from ≡ Ok (x, middle) → Begins n middle to → Begins n from to) where
+    many_at : (again : List A → Parser (List A)) (goes : (found : List A) (from to : List Lexeme) → again found from ≡ Err to → Begins n from to)
+        (found : List A) (from to : List Lexeme) (b : Bool) → many_by item again found b from ≡ Err to → Begins n from to
+    many_at again goes found from to true h = absurd (cc h)
+    many_at again goes found from to false h =
+        cases item (λ x. again (found ++ x ∷ [])) (Begins n) first (λ from middle to x e f. next from middle to x e (goes (found ++ x ∷ []) middle to f)) from to h
+
+    pub many_stuck : (k : ℕ) (found : List A) (from to : List Lexeme) → many stops item k found from ≡ Err to → Begins n from to
+    unfolding many
+    many_stuck zero found from to h = refused from to h
+    many_stuck (suc k) found from to h = many_at (many stops item k) (many_stuck k) found from to (stops from) h
+
+  -- with commas between them
+  module _ (next : (from left to : List Lexeme) (t : Lexeme) (x : A) → item from ≡ Ok (x, t ∷ left) → Is Comma t → Begins n left to → Begins n from to) where
+    next_at : (again : List A → Parser (List A)) (goes : (found : List A) (from to : List Lexeme) → again found from ≡ Err to → Begins n from to)
+        (from middle to : List Lexeme) (found : List A) (x : A) → item from ≡ Ok (x, middle) → Eaten Comma (separated_by again (found ++ x ∷ [])) middle (Err to) → Begins n from to
+    next_at again goes from middle to found x e (passed t left is splits h) = next from left to t x (e ∙ ap (λ (ts : List Lexeme). Ok (pair x ts)) splits) is (goes (found ++ x ∷ []) left to h)
+    next_at again goes from middle to found x e (stayed other h) = absurd (cc h)
+
+    pub separated_stuck : (k : ℕ) (found : List A) (from to : List Lexeme) → separated item k found from ≡ Err to → Begins n from to
+    unfolding separated
+    separated_stuck zero found from to h = refused from to h
+    separated_stuck (suc k) found from to h =
+        cases item (λ x. eat Comma >>= separated_by (separated item k) (found ++ x ∷ [])) (Begins n) first
+        (λ from middle to x e f. next_at (separated item k) (separated_stuck k) from middle to found x e
+        (eaten Comma (separated_by (separated item k) (found ++ x ∷ [])) (Err to) middle (λ k. cc k) f)) from to h

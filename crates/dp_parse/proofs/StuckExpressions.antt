@@ -1,11 +1,11 @@
 -- Where an expression is stuck, the tokens before that place begin one.
-use Rattle.std.proofs.Common.{◌≡◌, refl, ap, ◌∙◌, sym, ℕ, zero, suc, List, [], ◌∷◌, ◌++◌, length, Option, Some, None, Ok, Err}
+use Rattle.std.proofs.Common.{◌≡◌, refl, ap, ◌∙◌, sym, ℕ, zero, suc, List, [], ◌∷◌, length, Option, Some, None, Ok, Err}
 use Rattle.dp_base.specs.declared.UnOp.{UnOp}
 use Rattle.dp_lex.specs.Token.{Lexeme}
 use Rattle.dp_tree.specs.declared.raw.Name.{Name as TreeName}
 use Rattle.dp_tree.specs.declared.raw.RawExpr.{RawExpr}
 use Rattle.dp_tokens.specs.declared.symbol.Symbol.{Symbol}
-use Rattle.dp_tokens.specs.declared.symbol.Symbol.TheVariants.{Name, Number, OpenParen, CloseParen, OpenBracket, CloseBracket, Comma}
+use Rattle.dp_tokens.specs.declared.symbol.Symbol.TheVariants.{Name, Number, OpenParen, CloseParen, OpenBracket, CloseBracket}
 use Rattle.dp_parse.specs.declared.level.Level.{Level}
 use Rattle.dp_parse.specs.declared.level.Level.TheVariants as level
 use Rattle.dp_parse.specs.declared.level.Join.{Join}
@@ -14,17 +14,17 @@ use Rattle.dp_parse.specs.Levels.{operands, joining, prefixing, joined}
 use Rattle.dp_tokens.specs.Leaves.{name_of}
 use Rattle.dp_parse.specs.Expressions.{DerivesExpr}
 use Rattle.dp_parse.specs.Expressions as derives
-use Rattle.dp_parse.specs.Rules.{Expression, Expressions, Part, Of}
-use Rattle.dp_parse.specs.Begins.{Begins, BeginsParts, nothing, by, none, within, token, past}
+use Rattle.dp_parse.specs.Rules.{Expression, Expressions, Of}
+use Rattle.dp_parse.specs.Begins.{Begins, nothing, by, within, token, past}
 use Rattle.dp_parse.specs.Rules as rule
-use Rattle.dp_tokens.specs.Steps.{Outcome, Parser, ◌>>=◌, pure, and_then, expect, eat, rest, separated, separated_by}
+use Rattle.dp_tokens.specs.Steps.{Outcome, Parser, and_then, rest}
 use Rattle.dp_parse.specs.descent.Operators.{join_at, prefix_at}
 use Rattle.dp_tokens.specs.Steps as step
 use Rattle.dp_parse.specs.descent.Expressions as read
 use Rattle.dp_parse.proofs.StepLemmas.{Sound}
 use Rattle.dp_parse.proofs.LeafLemmas.{read_name}
 use Rattle.dp_parse.proofs.ExpressionSound.{own_is, sound_expression, sound_primary, sound_nested, sound_whole}
-use Rattle.dp_parse.proofs.Stuck.{Reader, seq, done, word, name_stuck, counted, reader, Eaten, passed, stayed, eaten, refused}
+use Rattle.dp_parse.proofs.Stuck.{Reader, seq, done, word, name_stuck, counted, reader, Eaten, passed, stayed, eaten, refused, separated_stuck}
 
 module _ (nested : Level → Parser RawExpr) (sound : (l : Level) → Sound (nested l) (DerivesExpr l)) (fails : (l : Level) (from to : List Lexeme) → nested l from ≡ Err to → Begins (Expression l) from to) where
   inner : (l : Level) → Reader (nested l) (Of (Expression l))
@@ -148,24 +148,8 @@ whole_stuck from to h = nested_stuck (length from) level.Or from to h
 pub expr : Reader read.whole (Of (Expression level.Or))
 expr = reader (Expression level.Or) read.whole (λ from to a e. (a, sound_whole from to a e)) whole_stuck
 
--- lists, behind those that were found
-list_next : (again : List RawExpr → Parser (List RawExpr)) (goes : (found : List RawExpr) (from to : List Lexeme) → again found from ≡ Err to → Begins Expressions from to)
-    (from middle to : List Lexeme) (found : List RawExpr) (x : RawExpr) → DerivesExpr level.Or from middle x → Eaten Comma (separated_by again (found ++ x ∷ [])) middle (Err to) → Begins Expressions from to
-list_next again goes from middle to found x d (passed t left is splits h) =
-    by rule.more_expressions (past (x, d) (rw splits (token is (within (goes (found ++ x ∷ []) left to h)))))
-list_next again goes from middle to found x d (stayed other h) = absurd (cc h)
-
-list_at : (again : List RawExpr → Parser (List RawExpr)) (goes : (found : List RawExpr) (from to : List Lexeme) → again found from ≡ Err to → Begins Expressions from to)
-    (found : List RawExpr) (from to : List Lexeme) (o : Outcome RawExpr) → read.whole from ≡ o → and_then o (λ x. eat Comma >>= separated_by again (found ++ x ∷ [])) ≡ Err to → Begins Expressions from to
-list_at again goes found from to (Ok x) is h =
-    list_next again goes from x.1 to found x.0 (sound_whole from x.1 x.0 is) (eaten Comma (separated_by again (found ++ x.0 ∷ [])) (Err to) x.1 (λ k. cc k) h)
-list_at again goes found from to (Err left) is h = let same : left ≡ to = cc h in by rule.last_expression (within (whole_stuck from to (is ∙ ap Err same)))
-
-separated_stuck : (n : ℕ) (found : List RawExpr) (from to : List Lexeme) → separated read.whole n found from ≡ Err to → Begins Expressions from to
-unfolding separated
-separated_stuck zero found from to h = refused from to h
-separated_stuck (suc n) found from to h = list_at (separated read.whole n) (separated_stuck n) found from to (read.whole from) refl h
-
 pub list_stuck : (from to : List Lexeme) → read.list from ≡ Err to → Begins Expressions from to
 unfolding read.list
-list_stuck from to h = separated_stuck (length from) [] from to h
+list_stuck from to h =
+    separated_stuck Expressions read.whole (λ from to e. by rule.last_expression (within (whole_stuck from to e)))
+    (λ from left to t x e is b. by rule.more_expressions (past (x, sound_whole from (t ∷ left) x e) (token is (within b)))) (length from) [] from to h

@@ -10,9 +10,9 @@ use Rattle.dp_parse.specs.declared.level.Level.TheVariants.{Or}
 use Rattle.dp_tokens.specs.Symbols.{Is}
 use Rattle.dp_tokens.specs.Leaves.{name_of}
 use Rattle.dp_parse.specs.Rules.{Part, Word, Of, Expression, Simple, First, Head}
-use Rattle.dp_parse.specs.Begins.{Begins, BeginsParts, nothing, by, none, within, token, past}
+use Rattle.dp_parse.specs.Begins.{Begins, BeginsParts, nothing, by, within, token}
 use Rattle.dp_parse.specs.Rules as rule
-use Rattle.dp_tokens.specs.Steps.{Outcome, Parser, ◌>>=◌, pure, and_then, expect, sees}
+use Rattle.dp_tokens.specs.Steps.{Parser, ◌>>=◌, pure, expect, sees}
 use Rattle.dp_tokens.specs.Steps as step
 use Rattle.dp_parse.specs.descent.Expressions as expr
 use Rattle.dp_parse.specs.descent.Heads as read

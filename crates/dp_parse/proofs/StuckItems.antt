@@ -1,18 +1,18 @@
 -- Where a declaration is stuck, the tokens before that place begin one.
-use Rattle.std.proofs.Common.{◌≡◌, refl, ap, ◌∙◌, sym, ℕ, zero, suc, ℤ, pos, Bool, true, false, List, [], ◌∷◌, ◌++◌, length, Option, Some, Ok, Err}
+use Rattle.std.proofs.Common.{◌≡◌, refl, ap, ◌∙◌, sym, ℕ, zero, ℤ, pos, Bool, true, false, List, [], ◌∷◌, length, Option, Some, Ok, Err}
 use Rattle.dp_base.specs.Arithmetic.{is_zero}
 use Rattle.dp_lex.specs.Token.{Lexeme}
 use Rattle.dp_tree.specs.declared.raw.Name.{Name as TreeName}
 use Rattle.dp_tree.specs.declared.raw.RawItem.{RawItem}
 use Rattle.dp_tree.specs.declared.raw.RawItem.TheVariants as item
 use Rattle.dp_tokens.specs.declared.symbol.Symbol.{Symbol}
-use Rattle.dp_tokens.specs.declared.symbol.Symbol.TheVariants.{Name, Int, Void, Minus, Assign, OpenParen, CloseParen, OpenBracket, CloseBracket, Comma, Semicolon}
+use Rattle.dp_tokens.specs.declared.symbol.Symbol.TheVariants.{Name, Int, Void, Minus, Assign, OpenParen, CloseParen, OpenBracket, CloseBracket, Semicolon}
 use Rattle.dp_tokens.specs.Symbols.{symbol_at, Is}
 use Rattle.dp_tokens.specs.Leaves.{name_of}
 use Rattle.dp_parse.specs.Rules.{Part, Word, Number, Length, Of, Names, Params, Item, Block}
-use Rattle.dp_parse.specs.Begins.{Begins, BeginsParts, nothing, by, none, within, token, past}
+use Rattle.dp_parse.specs.Begins.{Begins, BeginsParts, by, none, within, token}
 use Rattle.dp_parse.specs.Rules as rule
-use Rattle.dp_tokens.specs.Steps.{Outcome, Parser, ◌>>=◌, ◌>>◌, ◌<$>◌, pure, and_then, expect, eat, sees, rest, given, separated, separated_by}
+use Rattle.dp_tokens.specs.Steps.{Outcome, ◌>>=◌, ◌>>◌, pure, and_then, expect, sees, rest, given, separated}
 use Rattle.dp_tokens.specs.Steps as step
 use Rattle.dp_tokens.specs.Numbers as numbers
 use Rattle.dp_parse.specs.descent.Statements as statements
@@ -22,7 +22,7 @@ use Rattle.dp_parse.proofs.ItemSteps.{read_param}
 use Rattle.dp_parse.proofs.ItemSound.{Start, plain, below, read_start, sound_params, nonzero_is}
 use Rattle.dp_parse.proofs.ItemComplete.{turns}
 use Rattle.dp_parse.proofs.StatementSound.{sound_block, sound_statement}
-use Rattle.dp_parse.proofs.Stuck.{Fails, Reader, here, token_at, seq, done, word, called, number_stuck, reader, Eaten, passed, stayed, eaten, refused}
+use Rattle.dp_parse.proofs.Stuck.{Fails, Reader, here, token_at, seq, done, word, called, number_stuck, reader, Eaten, passed, stayed, eaten, separated_stuck}
 use Rattle.dp_parse.proofs.StuckStatements.{block_stuck, statement_stuck, if_stuck}
 
 -- ---- parameters
@@ -31,22 +31,10 @@ param_fails : (parts : List Part) → Fails read.param (Word Int ∷ Word Name �
 unfolding read.param
 param_fails parts from to h = seq (word Int) _ (λ _. λ middle end e. called.stuck parts middle end e) from to h
 
-names_next : (again : List TreeName → Parser (List TreeName)) (goes : (found : List TreeName) (from to : List Lexeme) → again found from ≡ Err to → Begins Names from to)
-    (int name : Lexeme) (middle to : List Lexeme) (found : List TreeName) → Is Int int → Is Name name → Eaten Comma (separated_by again found) middle (Err to) → Begins Names (int ∷ name ∷ middle) to
-names_next again goes int name middle to found i n (passed t left is splits h) = by rule.more_names (token i (token n (token_at splits is (within (goes found left to h)))))
-names_next again goes int name middle to found i n (stayed other h) = absurd (cc h)
-
-names_at : (again : List TreeName → Parser (List TreeName)) (goes : (found : List TreeName) (from to : List Lexeme) → again found from ≡ Err to → Begins Names from to)
-    (found : List TreeName) (from to : List Lexeme) (o : Outcome TreeName) → read.param from ≡ o → and_then o (λ x. eat Comma >>= separated_by again (found ++ x ∷ [])) ≡ Err to → Begins Names from to
-names_at again goes found from to (Ok x) is h =
-    let p = read_param from x.1 x.0 is in
-    rw p.splits (names_next again goes p.int p.token x.1 to (found ++ x.0 ∷ []) p.is_int p.is (eaten Comma (separated_by again (found ++ x.0 ∷ [])) (Err to) x.1 (λ k. cc k) h))
-names_at again goes found from to (Err left) is h = let same : left ≡ to = cc h in by rule.last_name (param_fails [] from to (is ∙ ap Err same))
-
 names_stuck : (n : ℕ) (found : List TreeName) (from to : List Lexeme) → separated read.param n found from ≡ Err to → Begins Names from to
-unfolding separated
-names_stuck zero found from to h = refused from to h
-names_stuck (suc n) found from to h = names_at (separated read.param n) (names_stuck n) found from to (read.param from) refl h
+names_stuck =
+    separated_stuck Names read.param (λ from to e. by rule.last_name (param_fails [] from to e))
+    (λ from left to t x e is b. let p = read_param from (t ∷ left) x e in rw p.splits (by rule.more_names (token p.is_int (token p.is (token is (within b))))))
 
 params_eaten : (from to : List Lexeme) → Eaten Void read.named_params_by from (Err to) → Begins Params from to
 params_eaten from to (passed t left is splits h) = absurd (cc h)

@@ -10,10 +10,10 @@ use Rattle.dp_parse.specs.declared.item.Part.TheVariants.{Item as AnItem, Main a
 use Rattle.dp_tokens.specs.declared.symbol.Symbol.TheVariants.{Mark, Int, Void, Main, Return, While, For, OpenParen, CloseParen, OpenBrace, CloseBrace, Semicolon}
 use Rattle.dp_tokens.specs.Symbols.{Is}
 use Rattle.dp_parse.specs.Programs as derives
-use Rattle.dp_parse.specs.Rules.{Part, Word, Zero, Of, Condition, Head, Loop, Item, Items, Tops, Ending, Body, Program}
-use Rattle.dp_parse.specs.Begins.{Derived, Begins, BeginsParts, nothing, by, none, within, token, past}
+use Rattle.dp_parse.specs.Rules.{Word, Zero, Of, Condition, Head, Loop, Item, Items, Tops, Ending, Body, Program}
+use Rattle.dp_parse.specs.Begins.{Derived, Begins, BeginsParts, by, none, within, token, past}
 use Rattle.dp_parse.specs.Rules as rule
-use Rattle.dp_tokens.specs.Steps.{Outcome, Parser, ◌>>=◌, pure, and_then, expect, eat, many, many_by}
+use Rattle.dp_tokens.specs.Steps.{Outcome, Parser, ◌>>=◌, pure, and_then, expect, eat, many}
 use Rattle.dp_tokens.specs.Numbers as numbers
 use Rattle.dp_parse.specs.descent.Statements as statements
 use Rattle.dp_parse.specs.descent.Programs as read
@@ -24,7 +24,7 @@ use Rattle.dp_parse.proofs.StatementSound.{sound_statement}
 use Rattle.dp_parse.proofs.RegionSound.{Marked, by_while, by_for, read_region}
 use Rattle.dp_parse.proofs.ItemSound.{zero_is}
 use Rattle.dp_parse.proofs.ProgramSound.{many_tops, returned_ate, inside, sound_part, number_zero}
-use Rattle.dp_parse.proofs.Stuck.{Fails, Reader, token_at, seq, done, word, number_stuck, reader, mapped, seq_or, Eaten, passed, stayed, eaten, refused}
+use Rattle.dp_parse.proofs.Stuck.{Fails, Reader, token_at, seq, done, word, number_stuck, reader, mapped, seq_or, Eaten, passed, stayed, eaten, refused, many_stuck}
 use Rattle.dp_parse.proofs.StuckStatements.{statement_stuck}
 use Rattle.dp_parse.proofs.StuckRegions.{region_fails}
 use Rattle.dp_parse.proofs.StuckItems.{function_stuck, variable_stuck}
@@ -57,24 +57,9 @@ top_passes : (from middle to : List Lexeme) (s : RawStmt) → read.top from ≡ 
 unfolding read.top
 top_passes from middle to s h b = top_ate (length from) from middle to s (ate Mark (read.top_by (length from)) s middle from (λ k. cc) h) b
 
-next_at : (again : List RawStmt → Parser (List RawStmt)) (goes : (found : List RawStmt) (from to : List Lexeme) → again found from ≡ Err to → Begins Tops from to)
-    (found : List RawStmt) (from to : List Lexeme) (o : Outcome RawStmt) → read.top from ≡ o → and_then o (λ x. again (found ++ x ∷ [])) ≡ Err to → Begins Tops from to
-next_at again goes found from to (Ok x) is h = top_passes from x.1 to x.0 is (goes (found ++ x.0 ∷ []) x.1 to h)
-next_at again goes found from to (Err left) is h = let same : left ≡ to = cc h in top_stuck from to (is ∙ ap Err same)
-
-many_at : (again : List RawStmt → Parser (List RawStmt)) (goes : (found : List RawStmt) (from to : List Lexeme) → again found from ≡ Err to → Begins Tops from to)
-    (found : List RawStmt) (from to : List Lexeme) (b : Bool) → many_by read.top again found b from ≡ Err to → Begins Tops from to
-many_at again goes found from to true h = absurd (cc h)
-many_at again goes found from to false h = next_at again goes found from to (read.top from) refl h
-
-tops_stuck : (n : ℕ) (found : List RawStmt) (from to : List Lexeme) → many read.ends read.top n found from ≡ Err to → Begins Tops from to
-unfolding many
-tops_stuck zero found from to h = refused from to h
-tops_stuck (suc n) found from to h = many_at (many read.ends read.top n) (tops_stuck n) found from to (read.ends from) h
-
 tops : Reader (λ ts. many read.ends read.top (length ts) [] ts) (Of Tops)
 tops = reader Tops (λ ts. many read.ends read.top (length ts) [] ts)
-    (λ from to a e. let m = many_tops (length from) from to [] a e in (m.0, m.2)) (λ from to e. tops_stuck (length from) [] from to e)
+    (λ from to a e. let m = many_tops (length from) from to [] a e in (m.0, m.2)) (λ from to e. many_stuck Tops read.top top_stuck read.ends top_passes (length from) [] from to e)
 
 abbrev semicolon : Parser (Unit {0})
 semicolon = expect Semicolon >>= (λ _. pure tt)
@@ -102,12 +87,9 @@ pub returned_sound : (from to : List Lexeme) (u : Unit {0}) → read.returned fr
 unfolding read.returned
 returned_sound from to u h = returned_ate from to u (ate Return read.returned_by u to from (λ k. cc) h)
 
-ending : Reader read.returned (Of Ending)
-ending = reader Ending read.returned returned_sound returned_stuck
-
 end_fails : Fails read.end (Of Ending ∷ Word CloseBrace ∷ [])
 unfolding read.end
-end_fails from to h = seq ending _ (λ _. seq (word CloseBrace) _ (λ _. done)) from to h
+end_fails from to h = seq (reader Ending read.returned returned_sound returned_stuck) _ (λ _. seq (word CloseBrace) _ (λ _. done)) from to h
 
 inside_fails : Fails inside (Word CloseParen ∷ Word OpenBrace ∷ Of Tops ∷ Of Ending ∷ Word CloseBrace ∷ [])
 inside_fails from to h = seq (word CloseParen) _ (λ _. seq (word OpenBrace) _ (λ _. seq tops _ (λ body. mapped end_fails _))) from to h

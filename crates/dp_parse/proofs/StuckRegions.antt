@@ -1,5 +1,5 @@
 -- Where a region is stuck, the tokens before that place begin one.
-use Rattle.std.proofs.Common.{◌≡◌, refl, ap, ◌∙◌, ℕ, zero, suc, Bool, true, false, List, [], ◌∷◌, ◌++◌, length, ◌⊎◌, inl, inr, Ok, Err}
+use Rattle.std.proofs.Common.{◌≡◌, refl, ap, ◌∙◌, ℕ, Bool, true, false, List, [], ◌∷◌, length, ◌⊎◌, inl, inr, Ok, Err}
 use Rattle.dp_lex.specs.Token.{Lexeme}
 use Rattle.dp_tree.specs.declared.raw.RawExpr.{RawExpr}
 use Rattle.dp_tree.specs.declared.raw.RawStmt.{RawStmt}
@@ -8,16 +8,16 @@ use Rattle.dp_tokens.specs.declared.symbol.Symbol.TheVariants.{While, For, If, E
 use Rattle.dp_tokens.specs.Symbols.{Is}
 use Rattle.dp_parse.specs.Statements.{DerivesCondition}
 use Rattle.dp_parse.specs.Rules.{Part, Word, Of, Condition, Head, Statement, Choice, Block, Exit, Inside, Loop}
-use Rattle.dp_parse.specs.Begins.{Begins, BeginsParts, nothing, by, none, within, token, past}
+use Rattle.dp_parse.specs.Begins.{Begins, BeginsParts, by, within, token, past}
 use Rattle.dp_parse.specs.Rules as rule
-use Rattle.dp_tokens.specs.Steps.{Outcome, Parser, ◌>>=◌, pure, and_then, expect, sees, many, many_by}
+use Rattle.dp_tokens.specs.Steps.{Outcome, Parser, ◌>>=◌, pure, and_then, expect, sees, many}
 use Rattle.dp_parse.specs.descent.Statements as statements
 use Rattle.dp_parse.specs.descent.Regions as read
 use Rattle.dp_parse.proofs.StepLemmas.{took}
 use Rattle.dp_parse.proofs.StatementForms.{sound_condition}
 use Rattle.dp_parse.proofs.StatementSound.{sound_statement}
 use Rattle.dp_parse.proofs.RegionSound.{Inside as Insides, plain, leaving, sound_inside, many_inside, sound_body}
-use Rattle.dp_parse.proofs.Stuck.{Fails, Reader, seq, seq_or, FailsOr, done, word, reader, refused, cases, token_at, here, expect_stuck}
+use Rattle.dp_parse.proofs.Stuck.{Fails, Reader, seq, seq_or, FailsOr, done, word, reader, cases, token_at, here, expect_stuck, many_stuck}
 use Rattle.dp_parse.proofs.StuckHeads.{head}
 use Rattle.dp_parse.proofs.StuckStatements.{condition_stuck, test, statement_stuck, if_stuck, block, otherwise_fails, mapped_or}
 
@@ -110,21 +110,11 @@ module _ (n : ℕ) where
   further (plain d) b = by rule.statement_inside (past (_, d) (within b))
   further (leaving d) b = by rule.exit_inside (past (_, d) (within b))
 
-  many_at : (again : List RawStmt → Parser (List RawStmt)) (goes : (found : List RawStmt) (from to : List Lexeme) → again found from ≡ Err to → Begins Inside from to)
-      (found : List RawStmt) (from to : List Lexeme) (b : Bool) → many_by one again found b from ≡ Err to → Begins Inside from to
-  many_at again goes found from to true h = absurd (cc h)
-  many_at again goes found from to false h =
-      cases one (λ x. again (found ++ x ∷ [])) (Begins Inside) (λ from to e. begun (inside_stuck from to e))
-      (λ from middle to s e f. further (sound_inside (statements.statement n) (sound_statement n) from middle s e) (goes (found ++ s ∷ []) middle to f)) from to h
-
-  many_stuck : (k : ℕ) (found : List RawStmt) (from to : List Lexeme) → many (sees CloseBrace) one k found from ≡ Err to → Begins Inside from to
-  unfolding many
-  many_stuck zero found from to h = refused from to h
-  many_stuck (suc k) found from to h = many_at (many (sees CloseBrace) one k) (many_stuck k) found from to (sees CloseBrace from) h
-
   insides : Reader (λ ts. many (sees CloseBrace) one (length ts) [] ts) (Of Inside)
   insides = reader Inside (λ ts. many (sees CloseBrace) one (length ts) [] ts)
-      (λ from to a e. let m = many_inside (statements.statement n) (sound_statement n) (length from) from to [] a e in (m.0, m.2)) (λ from to e. many_stuck (length from) [] from to e)
+      (λ from to a e. let m = many_inside (statements.statement n) (sound_statement n) (length from) from to [] a e in (m.0, m.2))
+      (λ from to e. many_stuck Inside one (λ from to e. begun (inside_stuck from to e)) (sees CloseBrace)
+      (λ from middle to s e b. further (sound_inside (statements.statement n) (sound_statement n) from middle s e) b) (length from) [] from to e)
 
   body_stuck : (from to : List Lexeme) → read.body (statements.statement n) from ≡ Err to → Begins Loop from to
   unfolding read.body

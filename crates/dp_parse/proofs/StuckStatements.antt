@@ -1,5 +1,5 @@
 -- Where a statement is stuck, the tokens before that place begin one.
-use Rattle.std.proofs.Common.{◌≡◌, refl, ap, ◌∙◌, sym, ℕ, zero, suc, Bool, true, false, List, [], ◌∷◌, ◌++◌, length, ◌⊎◌, inl, inr, Ok, Err}
+use Rattle.std.proofs.Common.{◌≡◌, refl, ap, ◌∙◌, sym, ℕ, zero, suc, Bool, true, false, List, [], ◌∷◌, length, ◌⊎◌, inl, inr, Ok, Err}
 use Rattle.dp_lex.specs.Token.{Lexeme}
 use Rattle.dp_tree.specs.declared.raw.Name.{Name as TreeName}
 use Rattle.dp_tree.specs.declared.raw.RawStmt.{RawStmt}
@@ -8,17 +8,17 @@ use Rattle.dp_tokens.specs.declared.symbol.Symbol.TheVariants.{Name, Int, Print,
 use Rattle.dp_tokens.specs.Symbols.{symbol_at, Is}
 use Rattle.dp_tokens.specs.Leaves.{name_of}
 use Rattle.dp_parse.specs.Statements.{DerivesStatement}
-use Rattle.dp_parse.specs.Rules.{Part, Word, Of, Expression, Arguments, Condition, Head, Statement, Choice, Block, Statements}
-use Rattle.dp_parse.specs.Begins.{Begins, BeginsParts, nothing, by, none, within, token, past}
+use Rattle.dp_parse.specs.Rules.{Part, Word, Of, Arguments, Condition, Head, Statement, Choice, Block, Statements}
+use Rattle.dp_parse.specs.Begins.{Begins, BeginsParts, nothing, by, within, token, past}
 use Rattle.dp_parse.specs.Rules as rule
-use Rattle.dp_tokens.specs.Steps.{Outcome, Parser, ◌>>=◌, pure, and_then, expect, sees, many, many_by}
+use Rattle.dp_tokens.specs.Steps.{Outcome, Parser, ◌>>=◌, pure, and_then, expect, sees, many}
 use Rattle.dp_tokens.specs.Steps as step
 use Rattle.dp_parse.specs.descent.Statements as read
 use Rattle.dp_parse.proofs.StepLemmas.{Sound, saw}
 use Rattle.dp_parse.proofs.LeafLemmas.{read_name}
 use Rattle.dp_parse.proofs.StatementForms.{sound_condition, sound_arguments}
 use Rattle.dp_parse.proofs.StatementSound.{many_statements, sound_block, sound_statement}
-use Rattle.dp_parse.proofs.Stuck.{Fails, Reader, seq, done, word, name_stuck, reader, cases, FailsOr, seq_or, Eaten, passed, stayed, eaten, refused}
+use Rattle.dp_parse.proofs.Stuck.{Fails, Reader, seq, done, word, name_stuck, reader, cases, FailsOr, seq_or, Eaten, passed, stayed, eaten, refused, many_stuck}
 use Rattle.dp_parse.proofs.StuckExpressions.{expr, list_stuck}
 use Rattle.dp_parse.proofs.StuckHeads.{Assigned, scalar, element, assign_then, declare_then, head}
 
@@ -76,24 +76,11 @@ print_stuck from to h = by rule.print (seq (word Print) _ (λ word_. seq test _ 
 
 module _ (statement : Parser RawStmt) (sound : Sound statement DerivesStatement) (fails : (from to : List Lexeme) → statement from ≡ Err to → Begins Statement from to)
     (fails_if : (from to : List Lexeme) → symbol_at from ≡ If → statement from ≡ Err to → Begins Choice from to) where
-  next_at : (again : List RawStmt → Parser (List RawStmt)) (goes : (found : List RawStmt) (from to : List Lexeme) → again found from ≡ Err to → Begins Statements from to)
-      (found : List RawStmt) (from to : List Lexeme) (o : Outcome RawStmt) → statement from ≡ o → and_then o (λ x. again (found ++ x ∷ [])) ≡ Err to → Begins Statements from to
-  next_at again goes found from to (Ok x) is h = by rule.more_statements (past (x.0, sound from x.1 x.0 is) (within (goes (found ++ x.0 ∷ []) x.1 to h)))
-  next_at again goes found from to (Err left) is h = let same : left ≡ to = cc h in by rule.more_statements (within (fails from to (is ∙ ap Err same)))
-
-  many_at : (again : List RawStmt → Parser (List RawStmt)) (goes : (found : List RawStmt) (from to : List Lexeme) → again found from ≡ Err to → Begins Statements from to)
-      (found : List RawStmt) (from to : List Lexeme) (b : Bool) → many_by statement again found b from ≡ Err to → Begins Statements from to
-  many_at again goes found from to true h = absurd (cc h)
-  many_at again goes found from to false h = next_at again goes found from to (statement from) refl h
-
-  many_stuck : (n : ℕ) (found : List RawStmt) (from to : List Lexeme) → many (sees CloseBrace) statement n found from ≡ Err to → Begins Statements from to
-  unfolding many
-  many_stuck zero found from to h = refused from to h
-  many_stuck (suc n) found from to h = many_at (many (sees CloseBrace) statement n) (many_stuck n) found from to (sees CloseBrace from) h
-
   body : Reader (λ ts. many (sees CloseBrace) statement (length ts) [] ts) (Of Statements)
   body = reader Statements (λ ts. many (sees CloseBrace) statement (length ts) [] ts)
-      (λ from to a e. let m = many_statements statement sound (length from) from to [] a e in (m.0, m.2)) (λ from to e. many_stuck (length from) [] from to e)
+      (λ from to a e. let m = many_statements statement sound (length from) from to [] a e in (m.0, m.2))
+      (λ from to e. many_stuck Statements statement (λ from to e. by rule.more_statements (within (fails from to e))) (sees CloseBrace)
+      (λ from middle to s e b. by rule.more_statements (past (s, sound from middle s e) (within b))) (length from) [] from to e)
 
   pub block_stuck : (from to : List Lexeme) → read.block statement from ≡ Err to → Begins Block from to
   unfolding read.block

@@ -14,14 +14,11 @@ pub reads_length : {text : Text} {start end : ℕ} {tokens : List Lexeme} → Re
 reads_length stays within = (omega arith, within)
 reads_length {text} {start} (skips c s r) within =
     let room : length c + length s.rest ≡ length text - start = sym (length-append c s.rest) ∙ ap length (sym s.splits) ∙ length-drop start text in
-    let h = reads_length r (omega arith) in
-    let a = h.0 in
+    let h = reads_length r (omega arith) in let a = h.0 in
     (omega arith, h.1)
 reads_length {text} {start} (takes kind w b r) within =
     let room : length w + length b.stands.rest ≡ length text - start = sym (length-append w b.stands.rest) ∙ ap length (sym b.stands.splits) ∙ length-drop start text in
-    let some = begins_some (drop start text) kind w b in
-    let h = reads_length r (omega arith) in
-    let a = h.0 in
+    let some = begins_some (drop start text) kind w b in let h = reads_length r (omega arith) in let a = h.0 in
     (omega arith, h.1)
 
 -- a text has no more tokens than bytes

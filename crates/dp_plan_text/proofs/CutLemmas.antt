@@ -11,8 +11,7 @@ lines_case byte text true e n more lt =
     let is : byte ≡ 10 = search rules in
     rw e (ap (λ b. (b ∷ []) ∷ lines_of text) is)
 lines_case byte text false e n more lt =
-    let long : (1 + n) < suc (length text) = rw e at lt in
-    let short : n < length text = omega (arith, long) in
+    let long : (1 + n) < suc (length text) = rw e at lt in let short : n < length text = omega (arith, long) in
     let plus : (1 + n) + 1 ≡ suc (n + 1) = omega arith in
     rw e (ap (onto_first byte) (more short) ∙ sym (ap (λ k. (take k (byte ∷ text) ++ 10 ∷ []) ∷ lines_of (drop ((1 + n) + 1) (byte ∷ text))) (next_is n) ∙ ap (λ k. (byte ∷ (take n text ++ 10 ∷ [])) ∷ lines_of (drop k (byte ∷ text))) plus))
 

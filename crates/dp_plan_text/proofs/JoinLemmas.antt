@@ -59,8 +59,7 @@ digit_case : (byte : ℕ) (ds : List ℕ) (low high : Bool) → nat_le 48 byte �
 digit_case byte ds true true e f h more =
     let above : 48 ≤ byte = search rules in
     let other : (byte == 32) ≡ false = search (rules, tests) in rw other (more h)
-digit_case byte ds true false e f h more = absurd (cc h)
-digit_case byte ds false high e f h more = absurd (cc h)
+digit_case byte ds _ _ e f h more = absurd (cc h)
 
 no_blank-digits : (ds : List ℕ) → list_all is_digit ds ≡ true → no_blank ds ≡ true
 no_blank-digits [] h = refl

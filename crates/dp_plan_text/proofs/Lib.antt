@@ -1,7 +1,6 @@
 pub mod rows
 pub mod Digits
 pub mod WordLemmas
-pub mod SiteLemmas
 pub mod CutLemmas
 pub mod NumberText
 pub mod JoinLemmas
@@ -14,15 +13,12 @@ pub mod RunEnds
 pub mod TextLemmas
 pub mod SoFar
 pub mod ConditionWalks
-pub mod LeastLemmas
 pub mod MemberLemmas
-pub mod PairLemmas
 pub mod OrderLemmas
 pub mod StageLemmas
 pub mod RuleLemmas
 pub mod WriteLemmas
 pub mod Unbroken
-pub mod WholeLines
 pub mod ReadBack
 pub mod OneReading
 pub mod LinesBack

@@ -15,11 +15,10 @@ use Rattle.dp_plan_text.proofs.JoinLemmas.{IsWord, words-joined, decimal_word}
 
 -- the numbers of a line fit
 abbrev pub LineFits : Line → Type 0
-LineFits (line.Head proved) = Unit {0}
 LineFits (line.Region r w) = (r < 2 ^ 32) × (16 ≤ w) × (w ≤ 4096)
 LineFits (line.Stage stage) = StageFits stage
 LineFits (line.Assume a) = AssumeFits a
-LineFits line.End = Unit {0}
+LineFits _ = Unit {0}
 
 above_some : (low n : ℕ) (o : Option ℕ) → o ≡ Some n → low < n → above low o ≡ Some n
 above_some low n o e h = let t : nat_lt low n ≡ true = search rules in rw e (rw t refl)

@@ -43,37 +43,29 @@ onto_case : (site : ℕ) (later : Option (List ℕ)) (sites : List ℕ) → onto
 onto_case site None sites h = absurd (cc h)
 onto_case site (Some rest) sites h = (rest, refl, cc h)
 
-first_site : (low site : ℕ) (rest sites : List ℕ) → sites ≡ site ∷ rest → low < site → site < 2 ^ 32 → AscendAbove site rest → AscendAbove low sites
-first_site low site rest sites e higher small ascend = rw e (higher, small, ascend)
-
 sites_case : (low : ℕ) (word : List ℕ) (ws : List (List ℕ)) (o : Option ℕ) (sites : List ℕ) → above low (number_of word) ≡ o → site_before o (λ s. sites_above s ws) ≡ Some sites
     → ((site : ℕ) (rest : List ℕ) → sites_above site ws ≡ Some rest → AreSites site ws rest) → AreSites low (word ∷ ws) sites
 sites_case low word ws None sites e h more = absurd (cc h)
 sites_case low word ws (Some site) sites e h more =
     let a : Above low word site = above_sound low word (number_of word) site refl e in
-    let o = onto_case site (sites_above site ws) sites h in
-    let m : AreSites site ws o.0 = more site o.0 o.1 in
+    let o = onto_case site (sites_above site ws) sites h in let m : AreSites site ws o.0 = more site o.0 o.1 in
     record {
       are = ap (λ w. w ∷ ws) a.writes.is ∙ ap (λ r. decimal site ∷ r) m.are ∙ ap (map decimal) (sym o.2);
-      ascend = first_site low site o.0 sites o.2 a.higher (omega (arith, a.writes.small)) m.ascend;
+      ascend = rw o.2 (a.higher, omega (arith, a.writes.small), m.ascend);
     }
 
-none_case : (low : ℕ) (sites : List ℕ) → sites ≡ [] → AreSites low [] sites
-none_case low sites e = rw e (record { are = refl; ascend = tt })
-
 pub sites_sound : (low : ℕ) (ws : List (List ℕ)) (sites : List ℕ) → sites_above low ws ≡ Some sites → AreSites low ws sites
-sites_sound low [] sites h = none_case low sites (cc h)
+sites_sound low [] sites h = let none : sites ≡ [] = cc h in rw none (record { are = refl; ascend = tt })
 sites_sound low (word ∷ ws) sites h = sites_case low word ws (above low (number_of word)) sites refl h (λ site rest. sites_sound site ws rest)
 
 -- ---- each kind of line
 
 stage_case : (kind : StageKind) (ws : List (List ℕ)) (o : Option (List ℕ)) (l : Line) → sites_above 0 ws ≡ o → stage_line kind o ≡ Some l → IsLine (kind_word kind ∷ ws) l
-stage_case kind ws None l e h = absurd (cc h)
-stage_case kind ws (Some []) l e h = absurd (cc h)
 stage_case kind ws (Some (site ∷ rest)) l e h =
     let is : line.Stage (record { kind = kind; sites = site ∷ rest }) ≡ l = cc h in
     let s : AreSites 0 ws (site ∷ rest) = sites_sound 0 ws (site ∷ rest) e in
     rw (← is) (record { are = ap (λ r. kind_word kind ∷ r) s.are; fits = (omega arith, s.ascend) })
+stage_case kind ws _ l e h = absurd (cc h)
 
 within_case : (a b : List ℕ) (r w : ℕ) (l : Line) (low high : Bool) → number_of a ≡ Some r → number_of b ≡ Some w → nat_le 16 w ≡ low → nat_le w 4096 ≡ high
     → (if low && high then Some (line.Region r w) else None) ≡ Some l → IsLine (codes "region" ∷ a ∷ codes "words" ∷ b ∷ []) l
@@ -86,9 +78,8 @@ within_case a b r w l true false p q e f h = absurd (cc h)
 within_case a b r w l false high p q e f h = absurd (cc h)
 
 region_case : (a b : List ℕ) (r w : Option ℕ) (l : Line) → number_of a ≡ r → number_of b ≡ w → region_of r w ≡ Some l → IsLine (codes "region" ∷ a ∷ codes "words" ∷ b ∷ []) l
-region_case a b None w l p q h = absurd (cc h)
-region_case a b (Some r) None l p q h = absurd (cc h)
 region_case a b (Some r) (Some w) l p q h = within_case a b r w l (nat_le 16 w) (nat_le w 4096) p q refl refl h
+region_case a b _ _ l p q h = absurd (cc h)
 
 -- a test of a word
 same_word : (a b : List ℕ) → bytes_eq a b ≡ true → a ≡ b
@@ -100,11 +91,8 @@ label_case a b label true l e h = rw (same_word label (codes "words") e) (region
 label_case a b label false l e h = absurd (cc h)
 
 region_sound : (ws : List (List ℕ)) (l : Line) → region_line ws ≡ Some l → IsLine (codes "region" ∷ ws) l
-region_sound [] l h = absurd (cc h)
-region_sound (a ∷ []) l h = absurd (cc h)
-region_sound (a ∷ label ∷ []) l h = absurd (cc h)
 region_sound (a ∷ label ∷ b ∷ []) l h = label_case a b label (bytes_eq label (codes "words")) l refl h
-region_sound (a ∷ label ∷ b ∷ c ∷ rest) l h = absurd (cc h)
+region_sound _ l h = absurd (cc h)
 
 outcome_case : (n : ℕ) (zero_is one_is : Bool) (taken : Bool) → (n == 0) ≡ zero_is → (n == 1) ≡ one_is → (if zero_is then Some false else (if one_is then Some true else None)) ≡ Some taken → n ≡ outcome_number taken
 outcome_case n true one_is taken e f h =
@@ -119,18 +107,15 @@ outcome_sound b (Some n) taken e h = (number-sound 4294967295 (omega arith) b n 
 
 assume_case : (a b : List ℕ) (site : Option ℕ) (taken : Option Bool) (l : Line) → above 0 (number_of a) ≡ site → outcome (number_of b) ≡ taken → assume_of site taken ≡ Some l
     → IsLine (codes "assume" ∷ a ∷ b ∷ []) l
-assume_case a b None taken l p q h = absurd (cc h)
-assume_case a b (Some site) None l p q h = absurd (cc h)
 assume_case a b (Some site) (Some taken) l p q h =
     let is : line.Assume (record { site = record { 0 = site }; taken = taken }) ≡ l = cc h in
     let s : Above 0 a site = above_sound 0 a (number_of a) site refl p in
     rw (← is) (record { are = ap (λ x. codes "assume" ∷ x ∷ b ∷ []) s.writes.is ∙ ap (λ x. codes "assume" ∷ decimal site ∷ x ∷ []) (outcome_sound b (number_of b) taken refl q); fits = (s.higher, omega (arith, s.writes.small)) })
+assume_case a b _ _ l p q h = absurd (cc h)
 
 assume_sound : (ws : List (List ℕ)) (l : Line) → assume_line ws ≡ Some l → IsLine (codes "assume" ∷ ws) l
-assume_sound [] l h = absurd (cc h)
-assume_sound (a ∷ []) l h = absurd (cc h)
 assume_sound (a ∷ b ∷ []) l h = assume_case a b (above 0 (number_of a)) (outcome (number_of b)) l refl refl h
-assume_sound (a ∷ b ∷ c ∷ rest) l h = absurd (cc h)
+assume_sound _ l h = absurd (cc h)
 
 second_case : (a : List ℕ) (is : Bool) (l : Line) → bytes_eq a (codes "2") ≡ is → (if is then Some (line.Head true) else None) ≡ Some l → IsLine (codes "plan" ∷ a ∷ []) l
 second_case a true l e h =
@@ -145,9 +130,8 @@ version_case a true l e h =
 version_case a false l e h = second_case a (bytes_eq a (codes "2")) l refl h
 
 head_sound : (ws : List (List ℕ)) (l : Line) → head_line ws ≡ Some l → IsLine (codes "plan" ∷ ws) l
-head_sound [] l h = absurd (cc h)
 head_sound (a ∷ []) l h = version_case a (bytes_eq a (codes "1")) l refl h
-head_sound (a ∷ b ∷ rest) l h = absurd (cc h)
+head_sound _ l h = absurd (cc h)
 
 end_sound : (ws : List (List ℕ)) (l : Line) → end_line ws ≡ Some l → IsLine (codes "end" ∷ ws) l
 end_sound [] l h = let is : line.End ≡ l = cc h in rw (← is) (record { are = refl; fits = tt })

@@ -112,8 +112,7 @@ module _ (p : Program) (plan : Plan) (up : AscendAbove 0 (region_sites p plan.re
   pub stages_filled : (k : ℕ) (stages : List WrittenStage) → Listed k stages → Each (λ stage. has stage (map (stage_of p plan) (region_sites p plan.region)) ≡ true) (numbers_from k (length stages))
   stages_filled k [] h = tt
   stages_filled k (line ∷ rest) h =
-      let first = first_listed line.sites h.fit.0.0 in
-      let next : suc k ≡ k + 1 = omega arith in
+      let first = first_listed line.sites h.fit.0.0 in let next : suc k ≡ k + 1 = omega arith in
       let there : has (stage_of p plan first.0) (map (stage_of p plan) (region_sites p plan.region)) ≡ true = has-map (stage_of p plan) sites first.0 (h.known first.0 (in_line k line rest h first.0 first.1)) in (
         subst (λ (i : ℕ). has i (map (stage_of p plan) sites) ≡ true) (line_stage k line rest h first.0 first.1) there,
         subst (λ (i : ℕ). Each (λ stage. has stage (map (stage_of p plan) sites) ≡ true) (numbers_from i (length rest))) next (stages_filled (suc k) rest (later k line rest h)),

@@ -54,8 +54,7 @@ module _ (most : ℕ) (wide : most < 2 ^ 64) where
 
   kept_case : (a : Bool) (v n : ℕ) (fits : Bool) → nat_le v most ≡ fits → (if a && fits then Some v else None) ≡ Some n → Kept a v n
   kept_case true v n true e h = record { digits = refl; same = cc h; small = search rules }
-  kept_case true v n false e h = absurd (cc h)
-  kept_case false v n fits e h = absurd (cc h)
+  kept_case _ v n _ e h = absurd (cc h)
 
   plain_case : (word : List ℕ) (n : ℕ) (plain : Bool) → is_plain word ≡ plain → (if plain then value_upto most word else None) ≡ Some n → Writes most word n
   plain_case word n true e h =

@@ -9,7 +9,7 @@ use Rattle.std.proofs.lemmas.List.Sums.{sum_by-cons, count_by-le-length}
 use Rattle.dp_plan.specs.Written.{has}
 use Rattle.dp_plan.specs.Rules.{least, occurs_again}
 use Rattle.dp_plan_text.proofs.MemberLemmas.{least_first, clash, has_head, has_later, has_cases, has_passing}
-use Rattle.dp_plan_text.proofs.PairLemmas.{first_pair, pair_here, no_pair}
+use Rattle.dp_plan_text.proofs.StageLemmas.{first_pair, pair_here, no_pair}
 
 -- none of the others is below the first, and so on
 abbrev Rises : List ℕ → Type 0
@@ -56,10 +56,6 @@ filter_members test other (x ∷ xs) agree =
     ap (λ b. if b then x ∷ filter test xs else filter test xs) (agree x (has_head x xs))
     ∙ ap (λ l. if other x then x ∷ l else l) (filter_members test other xs (λ n e. agree n (has_later n x xs e)))
 
--- what is let through is a member
-passing_has : (test : ℕ → Bool) (n : ℕ) (xs : List ℕ) → has n (filter test xs) ≡ true → has n xs ≡ true
-passing_has test n xs e = (and_parts (test n) (has n xs) (sym (has_passing test n xs) ∙ e)).1
-
 repeated_more : (x y : ℕ) (rest : List ℕ) → Rises (x ∷ y ∷ rest) → least (filter (occurs_again (y ∷ rest)) (y ∷ rest)) ≡ first_again (y ∷ rest)
     → least (filter (occurs_again (x ∷ y ∷ rest)) (x ∷ y ∷ rest)) ≡ first_again (x ∷ y ∷ rest)
 repeated_more x y rest up ih =
@@ -70,11 +66,10 @@ repeated_more x y rest up ih =
           let twice : occurs_again (x ∷ y ∷ rest) x ≡ true =
           lt-ltb 1 (times x (x ∷ y ∷ rest)) (omega (arith, times_same x (y ∷ rest), times_more x y rest ∙ ap (λ b. cond b 1 0 + times x rest) same)) in
           ap (λ b. least (if b then x ∷ later else later)) twice
-          ∙ least_first x later (λ n t. up.0 n (passing_has (occurs_again (x ∷ y ∷ rest)) n (y ∷ rest) t))
+          ∙ least_first x later (λ n t. up.0 n (and_parts (occurs_again (x ∷ y ∷ rest) n) (has n (y ∷ rest)) (sym (has_passing (occurs_again (x ∷ y ∷ rest)) n (y ∷ rest)) ∙ t)).1)
           ∙ ap Some (eqb-true x y e) ∙ sym (ap (λ b. if b then Some y else first_again (y ∷ rest)) e)
       | inr e ↦
-          let below : x ≤ y = up.0 y (has_head y rest) in
-          let apart = eqb-false x y e in
+          let below : x ≤ y = up.0 y (has_head y rest) in let apart = eqb-false x y e in
           let gone : has x (y ∷ rest) ≡ false = elim (cases_Bool (has x (y ∷ rest))) [
             | inl t ↦ elim (has_cases x y rest t) [ inl same ↦ absurd (apart (sym same)) | inr deeper ↦ absurd (apart (omega (arith, below, up.1.0 x deeper))) ]
             | inr f ↦ f

@@ -17,7 +17,7 @@ use Rattle.dp_plan.proofs.PlanBack.{plan_back, plan_fits}
 use Rattle.dp_plan.proofs.RegionFacts.{InOrder, few_regions, in_order}
 use Rattle.dp_plan.proofs.RulesHold.{valid_unbroken}
 use Rattle.dp_plan_text.proofs.RunEnds.{all_lines_fit}
-use Rattle.dp_plan_text.proofs.WholeLines.{lines_whole}
+use Rattle.dp_plan_text.proofs.Unbroken.{lines_whole}
 
 -- a plan that fits, with its region's sites in order
 record Ready (p : Program) (plan : Plan) : Type 0 where

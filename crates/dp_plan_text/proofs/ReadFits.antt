@@ -116,9 +116,7 @@ module _ (p : Program) (v : Bool) (inlined : IsInlined p) where
 module _ (p : Program) (inlined : IsInlined p) where
   pub read_fits : (bytes : List ℕ) (plans : List Plan) → StandsFor p bytes plans → ArePlans p plans
   read_fits bytes plans stands =
-      let v = stands.0 in
-      let ws = stands.1 in
-      let text = stands.2 in
+      let v = stands.0 in let ws = stands.1 in let text = stands.2 in
       subst (λ (qs : List Plan). ArePlans p qs) (sym stands.4) (record {
         regions = numbers_same p v ws ∙ text.regions;
         version = one_version p v ws;

@@ -9,8 +9,7 @@ use Rattle.dp_plan.specs.Enclosing.{region_ifs}
 use Rattle.dp_plan.specs.Rules.{least, occurs_again, not_listed, listed_twice, foreign, comes_late, site_of_condition, assumed_site, late_if, is_late_unassumed, wrongly_assumed, is_no_if_or_again}
 use Rattle.dp_plan_text.specs.Tables.{is_outside, lesser_of, is_late_outside, is_outside_or_again}
 use Rattle.dp_plan.specs.Valid.{broken_from}
-use Rattle.dp_plan_text.proofs.LeastLemmas.{least_either}
-use Rattle.dp_plan_text.proofs.MemberLemmas.{has_moved, again_moved, least_moved}
+use Rattle.dp_plan_text.proofs.MemberLemmas.{least_either, has_moved, again_moved, least_moved}
 
 outside_moved : (xs ys : List ℕ) → IsPermutation xs ys → (n : ℕ) → is_outside ys n ≡ is_outside xs n
 outside_moved xs ys moved n = ap not (sym (has_moved n xs ys moved))

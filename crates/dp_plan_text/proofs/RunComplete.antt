@@ -89,8 +89,6 @@ pub plans_run : (ws : List WrittenPlan) (n k : ℕ) (s : Reader) → is_between 
     → run n (Some s) (flat_map region_lines ws ++ line.End ∷ []) ≡ Some (over s.proved (closed s ++ ws))
 plans_run [] n zero s between numbers count fit =
     end_next n s between (omega (arith, count)) ∙ ap (λ p. Some (over s.proved p)) (sym (append-nil (closed s)))
-plans_run [] n (suc k) s between numbers count fit = absurd (cc numbers)
-plans_run (w ∷ ws) n zero s between numbers count fit = absurd (cc numbers)
 plans_run (w ∷ ws) n (suc k) s between numbers count fit =
     let first : w.region ≡ s.last.region + 1 = cc numbers in
     let others : map region_number ws ≡ numbers_from ((s.last.region + 1) + 1) k = cc numbers in
@@ -102,6 +100,7 @@ plans_run (w ∷ ws) n (suc k) s between numbers count fit =
     ∙ plans_run ws n k (inside s.proved (closed s) w) (between_regions s.proved (closed s) w full) later (omega (arith, first, count)) fit.1
     ∙ ap (λ p. Some (over s.proved (p ++ ws))) (closed_last s.proved (closed s) w positive)
     ∙ ap (λ p. Some (over s.proved p)) (append_assoc (closed s) (w ∷ []) ws)
+plans_run _ n _ s between numbers count fit = absurd (cc numbers)
 
 pub head_next : (n : ℕ) (v : Bool) → next n begun (line.Head v) ≡ Some (inside v [] (part 0 0 [] []))
 unfolding next

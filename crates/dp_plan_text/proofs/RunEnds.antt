@@ -30,8 +30,7 @@ pub lines_fit : (ws : List WrittenPlan) (r k : ℕ) → map region_number ws ≡
 lines_fit [] r k numbers small fit = tt
 lines_fit (w ∷ ws) r zero numbers small fit = absurd (cc numbers)
 lines_fit (w ∷ ws) r (suc k) numbers small fit =
-    let is : w.region ≡ r = cc numbers in
-    let later : map region_number ws ≡ numbers_from (r + 1) k = cc numbers in
+    let is : w.region ≡ r = cc numbers in let later : map region_number ws ≡ numbers_from (r + 1) k = cc numbers in
     each-lists LineFits (region_lines w) (flat_map region_lines ws) (
       (omega (arith, is, small), fit.0.least_words, fit.0.most_words),
       each-lists LineFits (map line.Stage w.stages) (map line.Assume w.assume)
@@ -96,8 +95,7 @@ one_more n o s l fits is e = record { more = l ∷ e.more; proved = e.proved; pl
 region_ends : (v : Bool) (n r words : ℕ) (plans : List WrittenPlan) (stages : List WrittenStage) (assumed : List Assume) → n < 2 ^ 32 → 0 < r → r ≤ n → (length stages ≡ 0 → assumed ≡ [])
     → Ends n (inside v plans (part r words stages assumed))
 region_ends v n r words plans [] assumed small some upto first =
-    let none : assumed ≡ [] = first refl in
-    let full : 0 < length (filler_stage ∷ []) = omega arith in
+    let none : assumed ≡ [] = first refl in let full : 0 < length (filler_stage ∷ []) = omega arith in
     rw none (one_more n (inside v plans (part r words [] [])) (inside v plans (part r words (filler_stage ∷ []) [])) (line.Stage filler_stage) filler_stage_fits
     (stage_next v n r words plans some [] filler_stage (omega arith))
     (rest_ends n (n - r) (inside v plans (part r words (filler_stage ∷ []) [])) small (between_regions v plans (part r words (filler_stage ∷ []) []) full) (omega (arith, upto))))
@@ -135,7 +133,5 @@ pub record IsText (n : ℕ) (v : Bool) (plans : List WrittenPlan) (ls : List Lin
   pub fit : Each PlanFits plans
 
 pub reads_over : (n : ℕ) (s : Reader) (ls : List Line) → Reads n s ls → s.phase ≡ phase.Over → IsText n s.proved s.plans ls
-reads_over n _ _ at_start h = absurd (cc h)
-reads_over n _ _ (headed v) h = absurd (cc h)
-reads_over n _ _ (in_region v plans w some upto numbers fit last) h = absurd (cc h)
 reads_over n _ _ (at_end v plans numbers fit) h = record { are = refl; numbers = numbers; fit = fit }
+reads_over n _ _ _ h = absurd (cc h)

@@ -100,9 +100,6 @@ last_numbers : (plans : List WrittenPlan) (w v : WrittenPlan) → v.region ≡ w
 last_numbers plans w v e h =
     map-append region_number plans (v ∷ []) ∙ ap (λ r. map region_number plans ++ r ∷ []) e ∙ sym (map-append region_number plans (w ∷ [])) ∙ h ∙ ap (numbers_from 1) (sym e)
 
-no_stage_yet : (stages : List WrittenStage) (stage : WrittenStage) (assumed : List Assume) → length (stages ++ stage ∷ []) ≡ 0 → assumed ≡ []
-no_stage_yet stages stage assumed h = absurd (omega (arith, h, length-append stages (stage ∷ [])))
-
 module _ (n : ℕ) (v : Bool) (plans : List WrittenPlan) (w : WrittenPlan) (some : 0 < w.region) (upto : w.region ≤ n)
     (numbers : map region_number (plans ++ w ∷ []) ≡ numbers_from 1 w.region) (fit : Each PlanFits plans) (last : LastFits w) where
   abbrev so_far : List Line
@@ -118,8 +115,7 @@ module _ (n : ℕ) (v : Bool) (plans : List WrittenPlan) (w : WrittenPlan) (some
   region_after : (r words : ℕ) (s : Reader) → LineFits (line.Region r words) → next n (inside v plans w) (line.Region r words) ≡ Some s → Reads n s (so_far ++ line.Region r words ∷ [])
   unfolding next
   region_after r words s fits h =
-      let t = taken _ _ s h in
-      let b = both _ _ t.0 in let c = both _ _ b.second in
+      let t = taken _ _ s h in let b = both _ _ t.0 in let c = both _ _ b.second in
       let below : w.region < n = let lt : nat_lt w.region n ≡ true = c.first in search rules in
       let is : r ≡ w.region + 1 = let e : (r == w.region + 1) ≡ true = c.second in search (rules, tests) in
       let full : 0 < length w.stages = between b.first in
@@ -138,8 +134,7 @@ module _ (n : ℕ) (v : Bool) (plans : List WrittenPlan) (w : WrittenPlan) (some
   stage_after : (stage : WrittenStage) (s : Reader) → StageFits stage → next n (inside v plans w) (line.Stage stage) ≡ Some s → Reads n s (so_far ++ line.Stage stage ∷ [])
   unfolding next
   stage_after stage s fits h =
-      let t = taken _ _ s h in
-      let b = both _ _ t.0 in let c = both _ _ b.second in
+      let t = taken _ _ s h in let b = both _ _ t.0 in let c = both _ _ b.second in
       let few : length w.stages < 8 = let lt : nat_lt (length w.stages) 8 ≡ true = c.first in search rules in
       let none : w.assume ≡ [] = empty w.assume (let e : (length w.assume == 0) ≡ true = c.second in search (rules, tests)) in
       let more = more_stage w stage in
@@ -150,7 +145,7 @@ module _ (n : ℕ) (v : Bool) (plans : List WrittenPlan) (w : WrittenPlan) (some
         few_stages = omega (arith, few, length-append w.stages (stage ∷ []));
         stages = each-append StageFits w.stages stage last.stages fits;
         assume = last.assume;
-        first_stages = no_stage_yet w.stages stage w.assume;
+        first_stages = λ none. absurd (omega (arith, none, length-append w.stages (stage ∷ [])));
       } in
       subst (λ (q : Reader). Reads n q (so_far ++ line.Stage stage ∷ [])) t.1
       (subst (λ (ls : List Line). Reads n (inside v plans more) ls) lines (in_region v plans more some upto (last_numbers plans w more refl numbers) fit fits_more))
@@ -158,8 +153,7 @@ module _ (n : ℕ) (v : Bool) (plans : List WrittenPlan) (w : WrittenPlan) (some
   assume_after : (a : Assume) (s : Reader) → AssumeFits a → next n (inside v plans w) (line.Assume a) ≡ Some s → Reads n s (so_far ++ line.Assume a ∷ [])
   unfolding next
   assume_after a s fits h =
-      let t = taken _ _ s h in
-      let b = both _ _ t.0 in
+      let t = taken _ _ s h in let b = both _ _ t.0 in
       let full : 0 < length w.stages = let lt : nat_lt 0 (length w.stages) ≡ true = b.second in search rules in
       let more = more_assume w a in
       let lines : line.Head v ∷ flat_map region_lines (plans ++ more ∷ []) ≡ so_far ++ line.Assume a ∷ [] = ap (λ l. line.Head v ∷ l) (last_line plans w more (line.Assume a) (assume_lines w a)) in
@@ -177,8 +171,7 @@ module _ (n : ℕ) (v : Bool) (plans : List WrittenPlan) (w : WrittenPlan) (some
   end_after : (s : Reader) → next n (inside v plans w) line.End ≡ Some s → Reads n s (so_far ++ line.End ∷ [])
   unfolding next
   end_after s h =
-      let t = taken _ _ s h in
-      let b = both _ _ t.0 in
+      let t = taken _ _ s h in let b = both _ _ t.0 in
       let is : w.region ≡ n = let e : (w.region == n) ≡ true = b.second in search (rules, tests) in
       let full : 0 < length w.stages = between b.first in
       let now : over v (closed (inside v plans w)) ≡ over v (plans ++ w ∷ []) = ap (over v) (closed_last v plans w some) in
@@ -190,16 +183,12 @@ module _ (n : ℕ) (v : Bool) (plans : List WrittenPlan) (w : WrittenPlan) (some
 start_after : (n : ℕ) (l : Line) (s : Reader) → next n begun l ≡ Some s → Reads n s (l ∷ [])
 unfolding next
 start_after n (line.Head v) s h = let is : inside v [] (part 0 0 [] []) ≡ s = cc h in rw (← is) (headed v)
-start_after n (line.Region r w) s h = absurd (cc h)
-start_after n (line.Stage stage) s h = absurd (cc h)
-start_after n (line.Assume a) s h = absurd (cc h)
-start_after n line.End s h = absurd (cc h)
+start_after n _ s h = absurd (cc h)
 
 first_region : (v : Bool) (n r words : ℕ) (s : Reader) → LineFits (line.Region r words) → next n (inside v [] (part 0 0 [] [])) (line.Region r words) ≡ Some s → Reads n s (line.Head v ∷ line.Region r words ∷ [])
 unfolding next
 first_region v n r words s fits h =
-    let t = taken _ _ s h in
-    let c = both _ _ t.0 in
+    let t = taken _ _ s h in let c = both _ _ t.0 in
     let below : 0 < n = let lt : nat_lt 0 n ≡ true = c.first in search rules in
     let is : r ≡ 1 = let e : (r == 0 + 1) ≡ true = c.second in search (rules, tests) in
     let count : r ∷ [] ≡ numbers_from 1 r = rw is refl in
@@ -209,25 +198,19 @@ first_region v n r words s fits h =
 no_region : (v : Bool) (n : ℕ) (s : Reader) → next n (inside v [] (part 0 0 [] [])) line.End ≡ Some s → Reads n s (line.Head v ∷ line.End ∷ [])
 unfolding next
 no_region v n s h =
-    let t = taken _ _ s h in
-    let is : 0 ≡ n = let e : (0 == n) ≡ true = t.0 in search (rules, tests) in
+    let t = taken _ _ s h in let is : 0 ≡ n = let e : (0 == n) ≡ true = t.0 in search (rules, tests) in
     subst (λ (q : Reader). Reads n q (line.Head v ∷ line.End ∷ [])) t.1 (at_end v [] (ap (numbers_from 1) is) tt)
 
 headed_after : (v : Bool) (n : ℕ) (l : Line) (s : Reader) → LineFits l → next n (inside v [] (part 0 0 [] [])) l ≡ Some s → Reads n s (line.Head v ∷ l ∷ [])
 unfolding next
-headed_after v n (line.Head other) s fits h = absurd (cc h)
 headed_after v n (line.Region r w) s fits h = first_region v n r w s fits h
-headed_after v n (line.Stage stage) s fits h = absurd (cc h)
-headed_after v n (line.Assume a) s fits h = absurd (cc h)
 headed_after v n line.End s fits h = no_region v n s h
+headed_after v n _ s fits h = absurd (cc h)
 
 over_after : (n : ℕ) (v : Bool) (plans : List WrittenPlan) (l : Line) (s : Reader) → next n (over v plans) l ≡ Some s → ⊥
 unfolding next
 over_after n v plans (line.Head other) s h = cc h
-over_after n v plans (line.Region r w) s h = cc h
-over_after n v plans (line.Stage stage) s h = cc h
-over_after n v plans (line.Assume a) s h = cc h
-over_after n v plans line.End s h = cc h
+over_after n v plans _ s h = cc h
 
 pub reads_next : (n : ℕ) (o : Reader) (ls : List Line) (l : Line) (s : Reader) → Reads n o ls → LineFits l → next n o l ≡ Some s → Reads n s (ls ++ l ∷ [])
 reads_next n _ _ l s at_start fits h = start_after n l s h

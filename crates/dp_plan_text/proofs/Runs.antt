@@ -34,9 +34,8 @@ chomped (byte ∷ []) = if byte == 10 then Some [] else None
 chomped (byte ∷ next_byte ∷ rest) = onto_text byte (chomped (next_byte ∷ rest))
 
 pub chomped-line : (text : List ℕ) → chomped (text ++ 10 ∷ []) ≡ Some text
-chomped-line [] = refl
-chomped-line (byte ∷ []) = refl
 chomped-line (byte ∷ next_byte ∷ rest) = ap (onto_text byte) (chomped-line (next_byte ∷ rest))
+chomped-line _ = refl
 
 single_case : (byte : ℕ) (text : List ℕ) (is : Bool) → (byte == 10) ≡ is → (if is then Some [] else None) ≡ Some text → byte ∷ [] ≡ text ++ 10 ∷ []
 single_case byte text true e h =

@@ -13,7 +13,7 @@ use Rattle.dp_plan_text.specs.Words.{words}
 use Rattle.dp_plan_text.specs.LineWords.{line_of}
 use Rattle.dp_plan_text.specs.Reading.{begun, next_by}
 use Rattle.dp_plan_text.specs.declared.PlanFail.{PlanFail}
-use Rattle.dp_plan_text.specs.declared.PlanFail.TheVariants.{Refused, Invalid, NoMemory}
+use Rattle.dp_plan_text.specs.declared.PlanFail.TheVariants.{Refused}
 use Rattle.dp_plan_text.specs.Ending.{IfEnds, ReadsText}
 use Rattle.dp_plan_text.proofs.WordLemmas.{position_none}
 use Rattle.dp_plan_text.proofs.CutLemmas.{lines_one}
@@ -98,5 +98,4 @@ module _ (p : Program) (bytes : List ℕ) (small : length p.regions < 2 ^ 32) wh
       let over_here : SoFar p bytes s [] count = subst (λ (t : List ℕ). SoFar p bytes s t count) e.0 f in
       subst (λ (v : Bool). PlanText p bytes v text.plans) (sym e.3) (subst (λ (ws : List WrittenPlan). PlanText p bytes s.proved ws) (sym e.2) (accepted s count over_here e.1))
   ended s rest count (Err (Refused line)) f none e = subst (λ (l : ℕ). IsRefused p bytes l) (sym e.0) (refused_rest s rest count f none e.1)
-  ended s rest count (Err (Invalid rule site)) f none e = absurd e
-  ended s rest count (Err NoMemory) f none e = absurd e
+  ended s rest count _ f none e = absurd e

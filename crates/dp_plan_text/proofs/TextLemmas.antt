@@ -37,8 +37,7 @@ next_case n o s (Some line) h = (line, refl, h)
 
 pub reached_next : (n : ℕ) (o s : Reader) (done : List (List ℕ)) (bytes : List ℕ) → Reached n o done → next_by n o (read_bytes bytes) ≡ Some s → Reached n s (done ++ bytes ∷ [])
 reached_next n o s done bytes r h =
-    let c = next_case n o s (read_bytes bytes) h in
-    let b : IsBytes bytes c.0 = read_bytes-sound bytes c.0 c.1 in
+    let c = next_case n o s (read_bytes bytes) h in let b : IsBytes bytes c.0 = read_bytes-sound bytes c.0 c.1 in
     record {
       lines = r.lines ++ c.0 ∷ [];
       are = ap (λ d. d ++ bytes ∷ []) r.are ∙ ap (λ x. map line_bytes r.lines ++ x ∷ []) b.are ∙ sym (map-append line_bytes r.lines (c.0 ∷ []));
@@ -62,8 +61,7 @@ module _ (p : Program) (small : length p.regions < 2 ^ 32) where
 
   pub begins : (s : Reader) (done : List (List ℕ)) → Reached (length p.regions) s done → Begins p done
   begins s done r =
-      let n = length p.regions in
-      let e : Ends (length p.regions) s = reads_end n s r.lines small r.reads in
+      let n = length p.regions in let e : Ends (length p.regions) s = reads_end n s r.lines small r.reads in
       let t : IsText (length p.regions) e.proved e.plans (r.lines ++ e.more) = reads_over n (over e.proved e.plans) (r.lines ++ e.more) (reads_more n e.more s (over e.proved e.plans) r.lines r.reads e.fit e.runs) refl in (
         map line_bytes e.more,
         e.proved,

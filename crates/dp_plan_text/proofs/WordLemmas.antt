@@ -18,8 +18,7 @@ words_case : (byte : ℕ) (text : List ℕ) (is : Bool) → (byte == 32) ≡ is 
     → words (byte ∷ text) ≡ take (cond (not (byte == 32)) (1 + n) 0) (byte ∷ text) ∷ words (drop (cond (not (byte == 32)) (1 + n) 0 + 1) (byte ∷ text))
 words_case byte text true e n more lt = rw e refl
 words_case byte text false e n more lt =
-    let long : (1 + n) < suc (length text) = rw e at lt in
-    let short : n < length text = omega (arith, long) in
+    let long : (1 + n) < suc (length text) = rw e at lt in let short : n < length text = omega (arith, long) in
     let plus : (1 + n) + 1 ≡ suc (n + 1) = omega arith in
     rw e (ap (onto_first byte) (more short) ∙ sym (ap (λ k. take k (byte ∷ text) ∷ words (drop ((1 + n) + 1) (byte ∷ text))) (next_is n) ∙ ap (λ k. (byte ∷ take n text) ∷ words (drop k (byte ∷ text))) plus))
 

@@ -56,8 +56,7 @@ stages_are : (p : Program) (plan : Plan) (k : ℕ) (kinds : List StageKind)
 unfolding line_text
 stages_are p plan k [] = refl
 stages_are p plan k (kind ∷ rest) =
-    let up : k + 1 ≡ suc k = omega arith in
-    let sites = region_sites p plan.region in
+    let up : k + 1 ≡ suc k = omega arith in let sites = region_sites p plan.region in
     ap (λ (n : ℕ). line_text (line.Stage (stage_at p plan sites k kind)) ++ stage_texts p plan sites n rest) up
     ∙ ap (λ (l : List ℕ). line_text (line.Stage (stage_at p plan sites k kind)) ++ l) (stages_are p plan (suc k) rest)
 

@@ -1,16 +1,13 @@
 -- A run goes on from each of its configurations as the run from there does.
-use Rattle.std.proofs.Common.{◌≡◌, refl, sym, ap, ap₂, ◌∙◌, ℕ, zero, suc, ◌+◌, ◌-◌, ◌<◌, ◌≤◌, ◌||◌, Bool, true, false, if◌then◌else◌, List, [], ◌∷◌, ◌++◌, ℤ, length, take, drop, map, Option, Some, None, is_some, slice_get, inl, inr, slice_range, count_by, nat_lt, cond, lt-ltb, le-ltb, arith}
-use Rattle.std.specs.Option.{option_map}
-use Rattle.std.proofs.lemmas.Bool.{cases_lt}
+use Rattle.std.proofs.Common.{◌≡◌, refl, sym, ap, ap₂, ◌∙◌, ℕ, zero, suc, ◌+◌, ◌-◌, ◌≤◌, ◌||◌, Bool, true, if◌then◌else◌, List, [], ◌∷◌, ◌++◌, ℤ, length, take, drop, map, Option, Some, None, is_some, slice_get, slice_range, count_by, nat_lt, cond, arith}
 use Rattle.std.proofs.lemmas.Option.{slice_get-map, slice_get_within}
 use Rattle.std.proofs.lemmas.List.{drop-drop, take-append-drop, length-take-le}
-use Rattle.std.proofs.lemmas.List.Sums.{sum_by-cons, sum_by-append}
+use Rattle.std.proofs.lemmas.List.Sums.{sum_by-append}
 use Rattle.dp_tree.specs.declared.Program.{Program}
-use Rattle.dp_tree.specs.Step.{Config, Event, Step, Finished, Faulted, Stepped, step}
+use Rattle.dp_tree.specs.Step.{Config, Event, Step, Stepped, step}
 use Rattle.dp_tree.specs.Trace.{Run, run_of, run_by}
 use Rattle.dp_tree.specs.Iteration.{stands_at_head, places, starts, start, is_within, begun_count, closes, last_events, stop_from, events_from, iteration, is_closing, has_ended, cells_in, cells_after, memory_from, memory_after}
 use Rattle.dp_tree.specs.GoesOn.{moved, GoesOnAs, starts_before, GoesOn, GoesOnFrom}
-use Rattle.dp_tree.proofs.Places.{places_up}
 use Rattle.dp_tree.proofs.RunLaws.{runs_by_step}
 use Rattle.dp_tree.proofs.MovedLists.{at_drop, at_seam, count_above, count_below, count_moved, count_to, moved_map, places_moved, places_split, range_moved, same_test}
 
@@ -27,23 +24,20 @@ module _ (p : Program) (input : List ℤ) where
 
   rest_by : (fuel k : ℕ) (c d : Config) → ((next : Config) → slice_get (run_of p input fuel next).configs k ≡ Some d → Rest fuel k (run_of p input fuel next) d) →
       (s : Step) → slice_get (run_by (run_of p input fuel) (suc fuel) c s).configs (suc k) ≡ Some d → Rest (suc fuel) (suc k) (run_by (run_of p input fuel) (suc fuel) c s) d
-  rest_by fuel k c d go Finished e = one_config c d k e
-  rest_by fuel k c d go (Faulted fault) e = one_config c d k e
   rest_by fuel k c d go (Stepped event next) e =
-      let q = go next e in
-      let left : fuel - k ≡ suc fuel - suc k = omega arith in
+      let q = go next e in let left : fuel - k ≡ suc fuel - suc k = omega arith in
       record {
         within = omega (arith, q.within);
         trace = q.trace ∙ ap (λ (n : ℕ). (run_of p input n d).trace) left;
         configs = q.configs ∙ ap (λ (n : ℕ). (run_of p input n d).configs) left;
         end = q.end ∙ ap (λ (n : ℕ). (run_of p input n d).end) left;
       }
+  rest_by fuel k c d go _ e = one_config c d k e
 
   rest_of : (k fuel : ℕ) (c d : Config) → slice_get (run_of p input fuel c).configs k ≡ Some d → Rest fuel k (run_of p input fuel c) d
   unfolding run_of
   rest_of zero fuel c d e =
-      let same : c ≡ d = cc (e, (runs_by_step p input fuel c).first) in
-      let all : fuel ≡ fuel - 0 = omega arith in
+      let same : c ≡ d = cc (e, (runs_by_step p input fuel c).first) in let all : fuel ≡ fuel - 0 = omega arith in
       let run : run_of p input fuel c ≡ run_of p input (fuel - 0) d = ap (λ (n : ℕ). run_of p input n c) all ∙ ap (run_of p input (fuel - 0)) same in
       record { within = omega arith; trace = ap (λ (r : Run). r.trace) run; configs = ap (λ (r : Run). r.configs) run; end = ap (λ (r : Run). r.end) run }
   rest_of (suc k) zero c d e = one_config c d k e
@@ -75,23 +69,17 @@ module _ (p : Program) (input : List ℤ) where
     fuels : run.fuel ≡ k + later.fuel
     fuels = omega (arith, kept, left, q.within)
 
-    reached : k < length run.configs
-    reached = slice_get_within run.configs k d at
-
     front : length (take k run.configs) ≡ k
-    front = length-take-le k run.configs (omega (arith, reached))
+    front = length-take-le k run.configs (omega (arith, slice_get_within run.configs k d at))
 
     starts_are : starts run r ≡ earlier ++ map (λ (n : ℕ). k + n) (starts later r)
     starts_are = ap (places here 0) (sym (take-append-drop k run.configs)) ∙ places_split here 0 (take k run.configs) (drop k run.configs)
         ∙ ap (λ (n : ℕ). earlier ++ places here n (drop k run.configs)) (omega (arith, front)) ∙ ap (λ (cs : List Config). earlier ++ places here k cs) q.configs
         ∙ ap (λ (ns : List ℕ). earlier ++ ns) (places_moved here k later.configs)
 
-    below : (n : ℕ) → k ≤ n → count_by (λ m. nat_lt m n) earlier ≡ length earlier
-    below n h = count_below here n 0 (take k run.configs) (omega (arith, front, h))
-
     counted : (n : ℕ) → k ≤ n → count_by (λ m. nat_lt m n) (starts run r) ≡ length earlier + count_by (λ m. nat_lt m n) (map (λ (i : ℕ). k + i) (starts later r))
     counted n h = ap (λ (ns : List ℕ). count_by (λ m. nat_lt m n) ns) starts_are ∙ sum_by-append (λ (m : ℕ). cond (nat_lt m n) 1 0) earlier (map (λ (i : ℕ). k + i) (starts later r))
-        ∙ ap (λ (i : ℕ). i + count_by (λ m. nat_lt m n) (map (λ (i : ℕ). k + i) (starts later r))) (below n h)
+        ∙ ap (λ (i : ℕ). i + count_by (λ m. nat_lt m n) (map (λ (i : ℕ). k + i) (starts later r))) (count_below here n 0 (take k run.configs) (omega (arith, front, h)))
 
     before_is : starts_before run r k ≡ length earlier
     before_is =
@@ -159,8 +147,7 @@ module _ (p : Program) (input : List ℤ) where
           by None e = absurd (cc)
           by (Some n) e = cells_moved n
       memories some (suc i) =
-          let last : (m + suc i) - 1 ≡ m + i = omega arith in
-          let this : suc i - 1 ≡ i = omega arith in
+          let last : (m + suc i) - 1 ≡ m + i = omega arith in let this : suc i - 1 ≡ i = omega arith in
           ap₂ (memory_from run) (started (suc i)) (ap (start run r) last ∙ started i) ∙ memory_moved (start later r (suc i)) (start later r i)
           ∙ ap (λ (n : ℕ). memory_from later (start later r (suc i)) (start later r n)) (sym this)
 
@@ -190,6 +177,5 @@ module _ (p : Program) (input : List ℤ) where
   pub goes_on_from : GoesOnFrom p input
   goes_on_from fuel k r m c d at s =
       let count = (count_to (stands_at_head r) 0 (run_of p input fuel c).configs m k s).0 in
-      let q = goes_on_as fuel k r c d at m (sym (before_is fuel k r c d at) ∙ count) in
-      let all : m + 0 ≡ m = omega arith in
+      let q = goes_on_as fuel k r c d at m (sym (before_is fuel k r c d at) ∙ count) in let all : m + 0 ≡ m = omega arith in
       (q, first_here k m (start (run_of p input (fuel - k) d) r 0) (sym (q.started 0) ∙ ap (start (run_of p input fuel c) r) all ∙ s))

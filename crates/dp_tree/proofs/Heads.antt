@@ -1,17 +1,14 @@
 -- Statements by their heads: whose sites pass a test, what follows them, and their steps.
 use Rattle.std.proofs.Common.{◌≡◌, refl, sym, ap, ◌∙◌, append_assoc, ℕ, Bool, true, false, not, ◌&&◌, ◌==◌, if◌then◌else◌, List, [], ◌∷◌, ◌++◌, ℤ, pos, Ok, Err, Option, Some, None, ◌⊎◌, inl, inr}
-use Rattle.std.specs.List.{list_all}
 use Rattle.dp_base.specs.Arithmetic.{is_zero}
 use Rattle.dp_base.specs.declared.SiteId.{SiteId}
-use Rattle.dp_tree.specs.declared.Stmt.{Stmt, out-Stmt, roll-Stmt, roll-out-Stmt}
-use Rattle.dp_tree.specs.declared.Stmt.TheViews.{rolls-Assign, rolls-Store, rolls-Print, rolls-If, rolls-While, rolls-Region, rolls-Break, rolls-Call}
+use Rattle.dp_tree.specs.declared.Stmt.{Stmt, out-Stmt}
 use Rattle.dp_tree.specs.declared.Stmt.TheOpen.{Stmt-F, Assign, Store, Print, If, While, Region, Break, Call}
 use Rattle.dp_tree.specs.declared.Program.{Program}
 use Rattle.dp_tree.specs.Eval.{Load, Evaluated, eval, and_then, after_loads, place, cell_count}
 use Rattle.dp_tree.specs.Event.{Effect, Printed, Decided, Tried, Event, value_of}
 use Rattle.dp_tree.specs.Step.{Config, Finished, Stepped, choose, followed, behind_region, behind_one, region_number, stored_by, after_effect, site_of, decided, tried, evaluated, standing, step_by, step_at, step_from, step}
 use Rattle.dp_tree.specs.Iteration.{is_region, decides_zero, leaves}
-use Rattle.dp_tree.specs.RegionLaws.{keeps, keeps_in}
 pub use Rattle.dp_tree.proofs.SitesOf.{and_make, and_true, keeps_all, keeps_at, keeps_behind, keeps_followed, keeps_out, no_region}
 unfoldable pub use Rattle.dp_tree.proofs.SitesOf.{opened_statement}
 
@@ -20,28 +17,21 @@ abbrev pub taken : Stmt-F Stmt → ℤ → Bool
 taken (Break site cond) z = not (is_zero z)
 taken _ z = false
 
+back_to : (x : Stmt) (rest behind a : List Stmt) (t : Bool) → (if t then rest ++ behind else a ++ x ∷ (rest ++ behind)) ≡ (if t then rest else a ++ x ∷ rest) ++ behind
+back_to x rest behind a true = refl
+back_to x rest behind a false = sym (append_assoc a (x ∷ rest) behind)
+
 -- what follows goes on into the statements behind, unless it is left
 pub followed-append : (x : Stmt) (rest behind : List Stmt) (h : Stmt-F Stmt) (z : ℤ) → taken h z ≡ false → followed x (rest ++ behind) h z ≡ followed x rest h z ++ behind
-followed-append x rest behind (Assign site v e) z t = refl
-followed-append x rest behind (Store site v index e) z t = refl
-followed-append x rest behind (Print site e) z t = refl
 followed-append x rest behind (Break site cond) z t = by (is_zero z) t
   where
     by : (t : Bool) → not t ≡ false → (if t then rest ++ behind else behind_region (rest ++ behind)) ≡ (if t then rest else behind_region rest) ++ behind
     by true t = refl
     by false t = absurd (cc)
 followed-append x rest behind (If site cond a b) z t = sym (append_assoc (choose z a b) rest behind)
-followed-append x rest behind (While site cond a) z t = by (is_zero z)
-  where
-    by : (t : Bool) → (if t then rest ++ behind else a ++ x ∷ (rest ++ behind)) ≡ (if t then rest else a ++ x ∷ rest) ++ behind
-    by true = refl
-    by false = sym (append_assoc a (x ∷ rest) behind)
-followed-append x rest behind (Region q site cond a) z t = by (is_zero z)
-  where
-    by : (t : Bool) → (if t then rest ++ behind else a ++ x ∷ (rest ++ behind)) ≡ (if t then rest else a ++ x ∷ rest) ++ behind
-    by true = refl
-    by false = sym (append_assoc a (x ∷ rest) behind)
-followed-append x rest behind (Call f line args) z t = refl
+followed-append x rest behind (While site cond a) z t = back_to x rest behind a (is_zero z)
+followed-append x rest behind (Region q site cond a) z t = back_to x rest behind a (is_zero z)
+followed-append x rest behind _ z t = refl
 
 -- what is left to do where a break is taken
 pub taken_left : (x : Stmt) (rest : List Stmt) (h : Stmt-F Stmt) (z : ℤ) → taken h z ≡ true → followed x rest h z ≡ behind_region rest
@@ -89,8 +79,7 @@ module _ (p : Program) (input : List ℤ) where
   by_evaluated site (Err kind) next_by event next e = absurd (cc)
   by_evaluated site (Ok v) next_by event next e =
       let event_is : event ≡ record { site = site.0; loads = v.loads; effect = v.value } = cc in
-      let next_is : next ≡ next_by v.value = cc in
-      let value_is : v.value ≡ event.effect = sym (ap (λ (x : Event). x.effect) event_is) in
+      let next_is : next ≡ next_by v.value = cc in let value_is : v.value ≡ event.effect = sym (ap (λ (x : Event). x.effect) event_is) in
       record {
         site_is = ap (λ (x : Event). x.site) event_is;
         next_is = next_is ∙ ap next_by value_is;

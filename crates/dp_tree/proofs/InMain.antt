@@ -12,7 +12,7 @@ use Rattle.dp_tree.specs.declared.Stmt.TheOpen.{Stmt-F, If, While, Region, Break
 use Rattle.dp_tree.specs.declared.VarInfo.{VarInfo}
 use Rattle.dp_tree.specs.declared.Program.{Program}
 use Rattle.dp_tree.specs.Eval.{Evaluated}
-use Rattle.dp_tree.specs.Event.{Effect, Stored, Printed, Decided, Tried, Event, value_of, stored}
+use Rattle.dp_tree.specs.Event.{Effect, Stored, Event, value_of, stored}
 use Rattle.dp_tree.specs.Step.{Config, Stepped, choose, followed, behind_region, behind_one, region_number, clear_one, cleared_leaving, stored_by, after_effect, site_of, evaluated, is_local_of, clear_locals, cleared_at, standing, step_by, step_at, step}
 use Rattle.dp_tree.specs.Trace.{run_of, start_cells, begin}
 use Rattle.dp_tree.specs.Numbering.{is_inner, regions_in_order}
@@ -30,9 +30,7 @@ at_index (x ∷ xs) (suc k) h = at_index xs k (omega (arith, h))
 
 pub stored_length : (effect : Effect) (cells : List ℤ) → length (stored effect cells) ≡ length cells
 stored_length (Stored cell value) cells = length-set cells cell value
-stored_length (Printed value) cells = refl
-stored_length (Decided value) cells = refl
-stored_length (Tried value) cells = refl
+stored_length _ cells = refl
 
 module _ (p : Program) (input : List ℤ) where
   next_by : (site : SiteId) (e : Evaluated Effect) (next_of : Effect → Config) (event : Event) (next : Config) → step_by p site e next_of ≡ Stepped event next → next ≡ next_of event.effect
@@ -120,9 +118,7 @@ module _ (p : Program) (input : List ℤ) where
         let tops = and_true (list_all is_top before) (list_all is_top (x ∷ rest)) (sym (list_all-append is_top before (x ∷ rest)) ∙ ap (list_all is_top) (sym main) ∙ all_top 1 p.main in_order) in
         top_follows x before rest (out-Stmt x) z main (and_true (is_top x) (list_all is_top rest) tops.1).0
     follows (y ∷ inner) before behind x rest z main_is plain e =
-        let here : y ≡ x = cc in
-        let more : inner ++ behind ≡ rest = cc in
-        let both = and_true (is_inner y) (inner_all inner) plain in
+        let here : y ≡ x = cc in let more : inner ++ behind ≡ rest = cc in let both = and_true (is_inner y) (inner_all inner) plain in
         let one : is_inner x ≡ true = ap is_inner (sym here) ∙ both.0 in
         subst (λ (ys : List Stmt). Follows (followed x ys (out-Stmt x) z)) more (elim (cases_Bool (taken (out-Stmt x) z)) [
           | inl t ↦

@@ -39,9 +39,6 @@ plain_roll (Region q site cond a) = ap is_plain (rolls-Region q site cond a)
 plain_roll (Break site cond) = ap is_plain (rolls-Break site cond)
 plain_roll (Call f line args) = ap is_plain (rolls-Call f line args)
 
-plain_out : (x : Stmt) → is_plain x ≡ plain_at (out-Stmt x)
-plain_out x = ap is_plain (sym (roll-out-Stmt x)) ∙ plain_roll (out-Stmt x)
-
 pub plain_choose : (z : ℤ) (a b : List Stmt) → plain_all a ≡ true → plain_all b ≡ true → plain_all (choose z a b) ≡ true
 plain_choose z a b h k = by (is_zero z)
   where
@@ -87,7 +84,7 @@ pub inner_plain : (xs : List Stmt) → plain_all xs ≡ true → inner_all xs �
 inner_plain [] w = refl
 inner_plain (x ∷ xs) w =
     let both = and_true (is_plain x) (plain_all xs) w in
-    and_make (is_inner x) (inner_all xs) (inner_out x ∙ inner_from (out-Stmt x) (sym (plain_out x) ∙ both.0)) (inner_plain xs both.1)
+    and_make (is_inner x) (inner_all xs) (inner_out x ∙ inner_from (out-Stmt x) (sym (ap is_plain (sym (roll-out-Stmt x)) ∙ plain_roll (out-Stmt x)) ∙ both.0)) (inner_plain xs both.1)
 
 pub inner_join : (a b : List Stmt) → inner_all a ≡ true → inner_all b ≡ true → inner_all (a ++ b) ≡ true
 inner_join a b h k = list_all-append is_inner a b ∙ and_make (inner_all a) (inner_all b) h k
@@ -130,14 +127,11 @@ is_top x = top_at (out-Stmt x)
 
 top_roll : (r : ℕ) (h : Stmt-F Stmt) → top_fits r (roll-Stmt h) ≡ true → top_at h ≡ true
 unfolding opened_statement
-top_roll r (Assign site x e) w = refl
-top_roll r (Store site x index e) w = refl
-top_roll r (Print site e) w = refl
 top_roll r (If site cond a b) w = sym (plain_roll (If site cond a b)) ∙ ap is_plain (rolls-If site cond a b) ∙ sym (ap (top_fits r) (rolls-If site cond a b)) ∙ w
 top_roll r (While site cond a) w = sym (plain_roll (While site cond a)) ∙ ap is_plain (rolls-While site cond a) ∙ sym (ap (top_fits r) (rolls-While site cond a)) ∙ w
 top_roll r (Region q site cond a) w = sym (inner_hidden a) ∙ (and_true (q == r) (hidden_inner a) (sym (ap (top_fits r) (rolls-Region q site cond a)) ∙ w)).1
 top_roll r (Break site cond) w = sym (ap (top_fits r) (rolls-Break site cond)) ∙ w
-top_roll r (Call f line args) w = refl
+top_roll r _ w = refl
 
 top_out : (r : ℕ) (x : Stmt) → top_fits r x ≡ true → is_top x ≡ true
 top_out r x w = top_roll r (out-Stmt x) (ap (top_fits r) (roll-out-Stmt x) ∙ w)

@@ -7,7 +7,7 @@ use Rattle.dp_tree.specs.declared.Stmt.TheVariants as tree
 use Rattle.dp_tree.specs.declared.Stmt.TheOpen.{Stmt-F, Region}
 use Rattle.dp_tree.specs.declared.Program.{Program}
 use Rattle.dp_tree.specs.Event.{Event, value_of}
-use Rattle.dp_tree.specs.Step.{Config, Step, Finished, Faulted, Stepped, followed, behind_region, behind_one, region_number, site_of, step}
+use Rattle.dp_tree.specs.Step.{Config, Step, Stepped, followed, behind_region, behind_one, region_number, site_of, step}
 use Rattle.dp_tree.specs.Trace.{Run, run_of, run_by, ended, extended}
 use Rattle.dp_base.specs.declared.End.{End}
 use Rattle.std.proofs.lemmas.Bool.{cases_Bool}
@@ -63,8 +63,6 @@ module _ (p : Program) (input : List ℤ) (r : ℕ) (once : StandsOnce p r) wher
   -- behind the region
   quiet_by : (n : ℕ) (c : Config) (xs : List Stmt) (go : (d : Config) → keeps_all others r d.to_do ≡ true → Quiet (run_of p input n d)) (s : Step) →
       step p input c ≡ s → c.to_do ≡ xs → keeps_all others r xs ≡ true → Quiet (run_by (run_of p input n) (suc n) c s)
-  quiet_by n c xs go Finished e todo h = record { none = refl; no_start = λ k. skip c k [] (away c xs todo h) }
-  quiet_by n c xs go (Faulted fault) e todo h = record { none = refl; no_start = λ k. skip c k [] (away c xs todo h) }
   quiet_by n c [] go (Stepped event next) e todo h = not_stepped p input c event next todo e
   quiet_by n c (x ∷ xs) go (Stepped event next) e todo h =
       let both = and_true (keeps others r x) (keeps_all others r xs) h in
@@ -76,6 +74,7 @@ module _ (p : Program) (input : List ℤ) (r : ℕ) (once : StandsOnce p r) wher
         none = left_out event (run_of p input n next).trace (st.tested others r head) ∙ q.none;
         no_start = λ k. skip c k (run_of p input n next).configs (away c (x ∷ xs) todo h) ∙ q.no_start (suc k);
       }
+  quiet_by n c xs go _ e todo h = record { none = refl; no_start = λ k. skip c k [] (away c xs todo h) }
 
   pub quiet : (n : ℕ) (c : Config) → keeps_all others r c.to_do ≡ true → Quiet (run_of p input n c)
   unfolding run_of
@@ -126,9 +125,8 @@ module _ (p : Program) (input : List ℤ) (r : ℕ) (once : StandsOnce p r) wher
   }
     where
       by : (b : Bool) (i k : ℕ) → slice_get (if b then 0 ∷ [] else []) i ≡ Some k → k + length (last_events (drop k [])) ≡ 0
-      by false i k e = absurd (cc)
       by true zero k e = let same : 0 ≡ k = cc in ap (λ (n : ℕ). n + length (last_events (drop n []))) (sym same) ∙ omega arith
-      by true (suc i) k e = absurd (cc)
+      by _ _ k e = absurd (cc)
 
   -- where an event doesn't leave, the events up to the leaving one are it and those of the rest
   goes_further : (event : Event) (events : List Event) → leaves event.effect ≡ false → upto_leaving (event ∷ events) ≡ event ∷ upto_leaving events
@@ -142,16 +140,13 @@ module _ (p : Program) (input : List ℤ) (r : ℕ) (once : StandsOnce p r) wher
     trace_is = refl;
     all_own = kept event [] is;
     none_behind = q.none;
-    stops = λ i k e f. no_place i k (sym (ap (λ (ns : List ℕ). slice_get ns i) (skip c 0 run.configs off ∙ q.no_start 1)) ∙ e);
+    stops = λ i k e f. let none : None ≡ Some k = sym (ap (λ (ns : List ℕ). slice_get ns i) (skip c 0 run.configs off ∙ q.no_start 1)) ∙ e in absurd (cc none);
     open_yet = λ e. ap (λ (b : Bool). event ∷ (if b then [] else upto_leaving run.trace)) out;
   }
-    where
-      no_place : {A : Type 0} (i k : ℕ) → slice_get {X = ℕ} [] i ≡ Some k → A
-      no_place i k e = absurd (cc)
 
   -- an event of the body
   grows_inside : (fuel : ℕ) (c : Config) (event : Event) (run : Run) → mine event.site ≡ true → here c ≡ false → leaves event.effect ≡ false → Inside run → Inside (extended fuel c event run)
-  grows_inside fuel c event run is off stays h = record {
+  grows_inside fuel c event run is off stays h = let off_places = skip c 0 run.configs off in record {
     own = event ∷ h.own;
     behind = h.behind;
     trace_is = ap (λ (es : List Event). event ∷ es) h.trace_is;
@@ -160,28 +155,19 @@ module _ (p : Program) (input : List ℤ) (r : ℕ) (once : StandsOnce p r) wher
     stops = λ i k e f. later_stop fuel c event run (length h.own) i k h.stops (sym (ap (λ (ns : List ℕ). slice_get ns i) off_places) ∙ e) (sym (ap (λ (ns : List ℕ). slice_get ns (suc i)) off_places) ∙ f);
     open_yet = λ e. goes_further event run.trace stays ∙ ap (λ (es : List Event). event ∷ es) (h.open_yet (still_none run.configs (sym off_places ∙ e)));
   }
-    where
-      off_places : places here 0 (c ∷ run.configs) ≡ places here 1 run.configs
-      off_places = skip c 0 run.configs off
 
   -- the condition of an iteration that goes on
   goes_round : (fuel : ℕ) (c : Config) (event : Event) (run : Run) → mine event.site ≡ true → here c ≡ true → decided_zero (Some event) ≡ false → leaves event.effect ≡ false → Inside run → Inside (extended fuel c event run)
-  goes_round fuel c event run is on nonzero stays h = record {
+  goes_round fuel c event run is on nonzero stays h = let on_places = meet c 0 run.configs on in record {
     own = event ∷ h.own;
     behind = h.behind;
     trace_is = ap (λ (es : List Event). event ∷ es) h.trace_is;
     all_own = kept event h.own is ∙ ap (λ (es : List Event). event ∷ es) h.all_own;
     none_behind = h.none_behind;
     stops = λ i k e f. stops i k (sym (ap (λ (ns : List ℕ). slice_get ns i) on_places) ∙ e) (sym (ap (λ (ns : List ℕ). slice_get ns (suc i)) on_places) ∙ f);
-    open_yet = λ e. no_such e;
+    open_yet = λ e. let clash : 0 ∷ places here 1 run.configs ≡ [] = sym on_places ∙ e in absurd (cc clash);
   }
     where
-      on_places : places here 0 (c ∷ run.configs) ≡ 0 ∷ places here 1 run.configs
-      on_places = meet c 0 run.configs on
-
-      no_such : {A : Type 0} → places here 0 (c ∷ run.configs) ≡ [] → A
-      no_such e = let clash : 0 ∷ places here 1 run.configs ≡ [] = sym on_places ∙ e in absurd (cc clash)
-
       stops : (i k : ℕ) → slice_get (0 ∷ places here 1 run.configs) i ≡ Some k → slice_get (0 ∷ places here 1 run.configs) (suc i) ≡ None → stop_from (extended fuel c event run) k None ≡ suc (length h.own)
       stops zero k e f =
           let same : 0 ≡ k = cc in
@@ -192,22 +178,16 @@ module _ (p : Program) (input : List ℤ) (r : ℕ) (once : StandsOnce p r) wher
 
   -- the condition of the closing iteration
   closes : (fuel : ℕ) (c : Config) (event : Event) (run : Run) → mine event.site ≡ true → here c ≡ true → decided_zero (Some event) ≡ true → Quiet run → Inside (extended fuel c event run)
-  closes fuel c event run is on zero_is q = record {
+  closes fuel c event run is on zero_is q = let on_places = meet c 0 run.configs on ∙ ap (λ (ns : List ℕ). 0 ∷ ns) (q.no_start 1) in record {
     own = event ∷ [];
     behind = run.trace;
     trace_is = refl;
     all_own = kept event [] is;
     none_behind = q.none;
     stops = λ i k e f. stops i k (sym (ap (λ (ns : List ℕ). slice_get ns i) on_places) ∙ e);
-    open_yet = λ e. no_such e;
+    open_yet = λ e. let clash : 0 ∷ [] ≡ [] = sym on_places ∙ e in absurd (cc clash);
   }
     where
-      on_places : places here 0 (c ∷ run.configs) ≡ 0 ∷ []
-      on_places = meet c 0 run.configs on ∙ ap (λ (ns : List ℕ). 0 ∷ ns) (q.no_start 1)
-
-      no_such : {A : Type 0} → places here 0 (c ∷ run.configs) ≡ [] → A
-      no_such e = let clash : 0 ∷ [] ≡ [] = sym on_places ∙ e in absurd (cc clash)
-
       stops : (i k : ℕ) → slice_get (0 ∷ []) i ≡ Some k → stop_from (extended fuel c event run) k None ≡ 1
       stops zero k e =
           let same : 0 ≡ k = cc in
@@ -222,8 +202,6 @@ module _ (p : Program) (input : List ℤ) (r : ℕ) (once : StandsOnce p r) wher
 
   inside_by : (n : ℕ) (c : Config) (xs : List Stmt) (go : (d : Config) (ys : List Stmt) → d.to_do ≡ ys ++ region ∷ once.behind → keeps_all mine r ys ≡ true → inner_all ys ≡ true → Inside (run_of p input n d)) (s : Step) →
       step p input c ≡ s → c.to_do ≡ xs ++ region ∷ once.behind → keeps_all mine r xs ≡ true → inner_all xs ≡ true → Inside (run_by (run_of p input n) (suc n) c s)
-  inside_by n c xs go Finished e todo h w = stays_inside (suc n) c _
-  inside_by n c xs go (Faulted fault) e todo h w = stays_inside (suc n) c _
   inside_by n c [] go (Stepped event next) e todo h w =
       let st = stepped p input c region once.behind event next todo e in
       let is : mine event.site ≡ true = ap mine st.site ∙ ap (λ (u : Stmt-F Stmt). mine (site_of u).0) region_out ∙ once.condition in
@@ -249,6 +227,7 @@ module _ (p : Program) (input : List ℤ) (r : ℕ) (once : StandsOnce p r) wher
             (go next (followed x xs (out-Stmt x) (value_of event.effect)) rest (keeps_followed mine r x xs (out-Stmt x) (value_of event.effect) both.0 head both.1)
             (inner_followed x xs (out-Stmt x) (value_of event.effect) t plain.0 (sym (inner_out x) ∙ plain.0) plain.1))
       ]
+  inside_by n c xs go _ e todo h w = stays_inside (suc n) c _
 
   pub inside : (n : ℕ) (c : Config) (xs : List Stmt) → c.to_do ≡ xs ++ region ∷ once.behind → keeps_all mine r xs ≡ true → inner_all xs ≡ true → Inside (run_of p input n c)
   unfolding run_of

@@ -11,8 +11,7 @@ use Rattle.dp_tree.proofs.RunLaws.{runs_by_step}
 -- a part of a list and the part behind it
 range_join : {X : Type 0} (xs : List X) (a b c : ℕ) → a ≤ b → b ≤ c → slice_range xs a b ++ slice_range xs b c ≡ slice_range xs a c
 range_join {X = X} xs a b c h k =
-    let sum : c - a ≡ (b - a) + (c - b) = omega (arith, h, k) in
-    let at : a + (b - a) ≡ b = omega (arith, h) in
+    let sum : c - a ≡ (b - a) + (c - b) = omega (arith, h, k) in let at : a + (b - a) ≡ b = omega (arith, h) in
     let rest : drop (b - a) (drop a xs) ≡ drop b xs = drop-drop (b - a) a xs ∙ ap (λ (n : ℕ). drop n xs) at in
     sym (ap (λ (n : ℕ). take n (drop a xs)) sum ∙ take-add (b - a) (c - b) (drop a xs) ∙ ap (λ (ys : List X). take (b - a) (drop a xs) ++ take (c - b) ys) rest)
 
@@ -70,9 +69,7 @@ module _ (run : Run) (r : ℕ) (one_more : length run.configs ≡ suc (length ru
   first_before : (first i k : ℕ) → start run r 0 ≡ Some first → start run r i ≡ Some k → first ≤ k
   first_before first zero k e f = let same : first ≡ k = cc in omega (arith, same)
   first_before first (suc i) k e f =
-      let before = earlier i k f in
-      let h = first_before first i before.0 e before.1 in
-      let up = ascending i before.0 k before.1 f in
+      let before = earlier i k f in let h = first_before first i before.0 e before.1 in let up = ascending i before.0 k before.1 f in
       omega (arith, h, up)
 
   joined : (first i k : ℕ) → start run r 0 ≡ Some first → start run r i ≡ Some k → events_of_first run r (suc i) ≡ slice_range run.trace first (stop_from run k (start run r (suc i)))

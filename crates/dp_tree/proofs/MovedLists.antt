@@ -1,17 +1,12 @@
 -- Lists that are moved: places, ranges and counts behind a front.
-use Rattle.std.proofs.Common.{◌≡◌, refl, sym, ap, ap₂, ◌∙◌, ℕ, zero, suc, ◌+◌, ◌-◌, ◌<◌, ◌≤◌, ◌||◌, Bool, true, false, if◌then◌else◌, List, [], ◌∷◌, ◌++◌, ℤ, length, take, drop, map, Option, Some, None, is_some, slice_get, inl, inr, slice_range, count_by, nat_lt, cond, lt-ltb, le-ltb, arith}
+use Rattle.std.proofs.Common.{◌≡◌, refl, sym, ap, ap₂, ◌∙◌, ℕ, zero, suc, ◌+◌, ◌-◌, ◌<◌, ◌≤◌, Bool, true, false, if◌then◌else◌, List, [], ◌∷◌, ◌++◌, length, take, drop, map, Option, Some, None, slice_get, inl, inr, slice_range, count_by, nat_lt, cond, lt-ltb, le-ltb, arith}
 use Rattle.std.specs.Option.{option_map}
 use Rattle.std.proofs.lemmas.Bool.{cases_lt}
-use Rattle.std.proofs.lemmas.Option.{slice_get-map, slice_get_within}
-use Rattle.std.proofs.lemmas.List.{drop-drop, take-append-drop, length-take-le}
-use Rattle.std.proofs.lemmas.List.Sums.{sum_by-cons, sum_by-append}
-use Rattle.dp_tree.specs.declared.Program.{Program}
-use Rattle.dp_tree.specs.Step.{Config, Event, Step, Finished, Faulted, Stepped, step}
-use Rattle.dp_tree.specs.Trace.{Run, run_of, run_by}
-use Rattle.dp_tree.specs.Iteration.{stands_at_head, places, starts, start, is_within, begun_count, closes, last_events, stop_from, events_from, iteration, is_closing, has_ended, cells_in, cells_after, memory_from, memory_after}
-use Rattle.dp_tree.specs.GoesOn.{moved, GoesOnAs, starts_before, GoesOn, GoesOnFrom}
+use Rattle.std.proofs.lemmas.List.{drop-drop}
+use Rattle.std.proofs.lemmas.List.Sums.{sum_by-cons}
+use Rattle.dp_tree.specs.Iteration.{places}
+use Rattle.dp_tree.specs.GoesOn.{moved}
 use Rattle.dp_tree.proofs.Places.{places_up}
-use Rattle.dp_tree.proofs.RunLaws.{runs_by_step}
 
 -- what stands at a place behind the front
 pub at_drop : {X : Type 0} (k i : ℕ) (xs : List X) → slice_get xs (k + i) ≡ slice_get (drop k xs) i

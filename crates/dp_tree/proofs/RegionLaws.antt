@@ -9,7 +9,7 @@ use Rattle.dp_tree.specs.declared.Program.{Program}
 use Rattle.dp_tree.specs.declared.Stmt.TheOpen.{Stmt-F}
 use Rattle.std.proofs.lemmas.Bool.{cases_Bool}
 use Rattle.dp_tree.specs.Event.{Event, value_of}
-use Rattle.dp_tree.specs.Step.{Config, Step, Finished, Faulted, Stepped, followed, behind_region, behind_one, region_number, step}
+use Rattle.dp_tree.specs.Step.{Config, Step, Stepped, followed, behind_region, behind_one, region_number, step}
 use Rattle.dp_tree.specs.Trace.{Run, run_of, run_by, ended, extended, start_cells, begin}
 use Rattle.dp_tree.specs.Iteration.{begins_with, stands_at_head, places, starts, start, stop_from}
 use Rattle.dp_tree.specs.IterationLaws.{events_of_first, AreAdjacent}
@@ -47,7 +47,7 @@ module _ (p : Program) (input : List ℤ) (r : ℕ) (once : StandsOnce p r) wher
 
   -- at the region
   arrives : (c : Config) (run : Run) → here c ≡ true → (more : List Config) → run.configs ≡ c ∷ more → Inside p input r once run → Reached run
-  arrives c run on more configs_are h = record {
+  arrives c run on more configs_are h = let on_places = ap (λ (cs : List Config). places here 0 cs) configs_are ∙ meet p input r once c 0 more on in record {
     before = [];
     own = h.own;
     behind = h.behind;
@@ -56,21 +56,12 @@ module _ (p : Program) (input : List ℤ) (r : ℕ) (once : StandsOnce p r) wher
     all_own = h.all_own;
     none_behind = h.none_behind;
     first = λ k e. first k (sym (ap (λ (ns : List ℕ). slice_get ns 0) on_places) ∙ e);
-    stops = λ i k e f. h.stops i k e f ∙ sym (zero_more (length h.own));
-    unreached = λ e. no_such e;
+    stops = λ i k e f. let same : 0 + length h.own ≡ length h.own = omega arith in h.stops i k e f ∙ sym same;
+    unreached = λ e. let clash : 0 ∷ places here 1 more ≡ [] = sym on_places ∙ e in absurd (cc clash);
   }
     where
-      on_places : places here 0 run.configs ≡ 0 ∷ places here 1 more
-      on_places = ap (λ (cs : List Config). places here 0 cs) configs_are ∙ meet p input r once c 0 more on
-
       first : (k : ℕ) → slice_get (0 ∷ places here 1 more) 0 ≡ Some k → 0 ≡ k
       first k e = cc
-
-      zero_more : (m : ℕ) → 0 + m ≡ m
-      zero_more m = omega arith
-
-      no_such : {A : Type 0} → places here 0 run.configs ≡ [] → A
-      no_such e = let clash : 0 ∷ places here 1 more ≡ [] = sym on_places ∙ e in absurd (cc clash)
 
   -- before the region, where no step is made
   waits : (fuel : ℕ) (c : Config) (end : _) → here c ≡ false → Reached (ended fuel c end)
@@ -92,7 +83,7 @@ module _ (p : Program) (input : List ℤ) (r : ℕ) (once : StandsOnce p r) wher
 
   -- an event before the region
   goes_on : (fuel : ℕ) (c : Config) (event : Event) (run : Run) → others event.site ≡ true → here c ≡ false → Reached run → Reached (extended fuel c event run)
-  goes_on fuel c event run is off h = record {
+  goes_on fuel c event run is off h = let off_places = skip p input r once c 0 run.configs off in record {
     before = event ∷ h.before;
     own = h.own;
     behind = h.behind;
@@ -105,9 +96,6 @@ module _ (p : Program) (input : List ℤ) (r : ℕ) (once : StandsOnce p r) wher
     unreached = λ e. h.unreached (still_none p input r once run.configs (sym off_places ∙ e));
   }
     where
-      off_places : places here 0 (c ∷ run.configs) ≡ places here 1 run.configs
-      off_places = skip p input r once c 0 run.configs off
-
       first : (k : ℕ) → slice_get (places here 1 run.configs) 0 ≡ Some k → suc (length h.before) ≡ k
       first k e = let down = place_down here 0 run.configs 0 k e in ap (λ (n : ℕ). suc n) (h.first down.0 down.1) ∙ sym down.2
 
@@ -116,7 +104,7 @@ module _ (p : Program) (input : List ℤ) (r : ℕ) (once : StandsOnce p r) wher
 
   -- an event that passes the region by
   passes_by : (fuel : ℕ) (c : Config) (event : Event) (run : Run) → others event.site ≡ true → here c ≡ false → Quiet p input r once run → Reached (extended fuel c event run)
-  passes_by fuel c event run is off q = record {
+  passes_by fuel c event run is off q = let nowhere = skip p input r once c 0 run.configs off ∙ q.no_start 1 in record {
     before = event ∷ [];
     own = [];
     behind = run.trace;
@@ -124,24 +112,16 @@ module _ (p : Program) (input : List ℤ) (r : ℕ) (once : StandsOnce p r) wher
     none_before = left_out p input r once event [] is;
     all_own = refl;
     none_behind = q.none;
-    first = λ k e. no_place 0 k (sym (ap (λ (ns : List ℕ). slice_get ns 0) nowhere) ∙ e);
-    stops = λ i k e f. no_place i k (sym (ap (λ (ns : List ℕ). slice_get ns i) nowhere) ∙ e);
+    first = λ k e. let none : None ≡ Some k = sym (ap (λ (ns : List ℕ). slice_get ns 0) nowhere) ∙ e in absurd (cc none);
+    stops = λ i k e f. let none : None ≡ Some k = sym (ap (λ (ns : List ℕ). slice_get ns i) nowhere) ∙ e in absurd (cc none);
     unreached = λ e. refl;
   }
-    where
-      nowhere : places here 0 (c ∷ run.configs) ≡ []
-      nowhere = skip p input r once c 0 run.configs off ∙ q.no_start 1
-
-      no_place : {A : Type 0} (i k : ℕ) → slice_get {X = ℕ} [] i ≡ Some k → A
-      no_place i k e = absurd (cc)
 
   region_left : behind_region (region ∷ once.behind) ≡ once.behind
   region_left = ap (λ (u : Stmt-F Stmt). behind_one (region_number u) once.behind (behind_region once.behind)) (region_out p input r once)
 
   reached_by : (n : ℕ) (c : Config) (x : Stmt) (xs : List Stmt) (go : (d : Config) (ys : List Stmt) → d.to_do ≡ ys ++ region ∷ once.behind → keeps_all others r ys ≡ true → Reached (run_of p input n d)) (s : Step) →
       step p input c ≡ s → c.to_do ≡ x ∷ xs ++ region ∷ once.behind → keeps_all others r (x ∷ xs) ≡ true → here c ≡ false → Reached (run_by (run_of p input n) (suc n) c s)
-  reached_by n c x xs go Finished e todo h off = waits (suc n) c _ off
-  reached_by n c x xs go (Faulted fault) e todo h off = waits (suc n) c _ off
   reached_by n c x xs go (Stepped event next) e todo h off =
       let both = and_true (keeps others r x) (keeps_all others r xs) h in
       let head : keeps_at others r (out-Stmt x) ≡ true = sym (keeps_out others r x) ∙ both.0 in
@@ -163,6 +143,7 @@ module _ (p : Program) (input : List ℤ) (r : ℕ) (once : StandsOnce p r) wher
             let rest : next.to_do ≡ followed x xs (out-Stmt x) (value_of event.effect) ++ region ∷ once.behind = st.to_do ∙ followed-append x xs (region ∷ once.behind) (out-Stmt x) (value_of event.effect) t in
             goes_on (suc n) c event (run_of p input n next) mine off (go next (followed x xs (out-Stmt x) (value_of event.effect)) rest kept)
       ]
+  reached_by n c x xs go _ e todo h off = waits (suc n) c _ off
 
   first_of_run : (n : ℕ) (c : Config) → (more : List Config) × ((run_of p input n c).configs ≡ c ∷ more)
   unfolding run_of
@@ -170,9 +151,8 @@ module _ (p : Program) (input : List ℤ) (r : ℕ) (once : StandsOnce p r) wher
   first_of_run (suc n) c = by (step p input c)
     where
       by : (s : Step) → (more : List Config) × ((run_by (run_of p input n) (suc n) c s).configs ≡ c ∷ more)
-      by Finished = ([], refl)
-      by (Faulted fault) = ([], refl)
       by (Stepped event next) = ((run_of p input n next).configs, refl)
+      by _ = ([], refl)
 
   not_yet : (c : Config) (x : Stmt) (xs : List Stmt) → c.to_do ≡ x ∷ xs ++ region ∷ once.behind → keeps_all others r (x ∷ xs) ≡ true → here c ≡ false
   not_yet c x xs e h = ap (begins_with r) e ∙ no_region others r (out-Stmt x) (sym (keeps_out others r x) ∙ (and_true (keeps others r x) (keeps_all others r xs) h).0)
@@ -199,8 +179,7 @@ module _ (p : Program) (input : List ℤ) (r : ℕ) (once : StandsOnce p r) wher
     joined_own : (ns : List ℕ) → starts run r ≡ ns → h.own ≡ events_of_first run r (length ns)
     joined_own [] e = h.unreached e
     joined_own (n ∷ ns) e =
-        let k = get_or (n ∷ ns) (length ns) 0 in
-        let inner : length ns < length (n ∷ ns) = omega arith in
+        let k = get_or (n ∷ ns) (length ns) 0 in let inner : length ns < length (n ∷ ns) = omega arith in
         let first_at : start run r 0 ≡ Some n = ap (λ (xs : List ℕ). slice_get xs 0) e in
         let last_at : start run r (length ns) ≡ Some k = ap (λ (xs : List ℕ). slice_get xs (length ns)) e ∙ slice_get-get_or (n ∷ ns) (length ns) 0 inner in
         let past : start run r (suc (length ns)) ≡ None = ap (λ (xs : List ℕ). slice_get xs (suc (length ns))) e ∙ slice_get_past (n ∷ ns) (suc (length ns)) (omega arith) in

@@ -1,5 +1,5 @@
 -- Runs step by step.
-use Rattle.std.proofs.Common.{◌≡◌, refl, sym, ap, ◌∙◌, ◌⊎◌, inl, inr, ℕ, zero, suc, ◌-◌, ◌<◌, ◌≤◌, Bool, true, false, List, [], ◌∷◌, ℤ, length, take, Some, None, slice_get, arith}
+use Rattle.std.proofs.Common.{◌≡◌, refl, sym, ap, ◌∙◌, ◌⊎◌, inl, inr, ℕ, zero, suc, ◌-◌, ◌≤◌, List, [], ◌∷◌, ℤ, length, take, Some, slice_get, arith}
 use Rattle.dp_base.specs.declared.End.{End}
 use Rattle.dp_base.specs.declared.End.TheVariants.{Done, Fault, Fuel}
 use Rattle.dp_tree.specs.declared.Stmt.{Stmt}
@@ -12,8 +12,7 @@ module _ (p : Program) (input : List ℤ) where
   -- the first configuration of a run is where it starts
   by_first : (go : Config → Run) (n : ℕ) (c : Config) (s : Step) → take 1 (run_by go n c s).configs ≡ c ∷ []
   by_first go n c Finished = refl
-  by_first go n c (Faulted fault) = refl
-  by_first go n c (Stepped event next) = refl
+  by_first go n c _ = refl
 
   first_config : (n : ℕ) (c : Config) → take 1 (run_of p input n c).configs ≡ c ∷ []
   unfolding run_of
@@ -32,11 +31,10 @@ module _ (p : Program) (input : List ℤ) where
 
   front_by : (m n : ℕ) (c : Config) (go : (d : Config) → IsFront m (run_of p input m d) (run_of p input n d)) (s : Step) →
       IsFront (suc m) (run_by (run_of p input m) (suc m) c s) (run_by (run_of p input n) (suc n) c s)
-  front_by m n c go Finished = record { trace = refl; configs = refl; end = inr refl }
-  front_by m n c go (Faulted fault) = record { trace = refl; configs = refl; end = inr refl }
   front_by m n c go (Stepped event next) =
       let h = go next in
       record { trace = ap (λ es. event ∷ es) h.trace; configs = ap (λ cs. c ∷ cs) h.configs; end = h.end }
+  front_by m n c go _ = record { trace = refl; configs = refl; end = inr refl }
 
   front : (m n : ℕ) (c : Config) → m ≤ n → IsFront m (run_of p input m c) (run_of p input n c)
   unfolding run_of
@@ -89,9 +87,7 @@ module _ (p : Program) (input : List ℤ) where
       each : (k : ℕ) (before after : Config) (event' : Event) → slice_get (c ∷ run.configs) k ≡ Some before → slice_get (event ∷ run.trace) k ≡ Some event' → slice_get (c ∷ run.configs) (suc k) ≡ Some after →
           step p input before ≡ Stepped event' after
       each zero before after event' b v a =
-          let c_is : c ≡ before = cc (b) in
-          let event_is : event ≡ event' = cc (v) in
-          let next_is : next ≡ after = cc (a, h.first) in
+          let c_is : c ≡ before = cc (b) in let event_is : event ≡ event' = cc (v) in let next_is : next ≡ after = cc (a, h.first) in
           sym (ap (λ (x : Config). step p input x) c_is) ∙ e ∙ ap (λ (x : Event). Stepped x next) event_is ∙ ap (λ (x : Config). Stepped event' x) next_is
       each (suc k) before after event' b v a = h.each k before after event' b v a
 

@@ -1,16 +1,12 @@
 -- Statements whose sites pass a test, and what is left of them.
-use Rattle.std.proofs.Common.{◌≡◌, refl, sym, ap, ◌∙◌, append_assoc, ℕ, Bool, true, false, not, ◌&&◌, ◌==◌, if◌then◌else◌, List, [], ◌∷◌, ◌++◌, ℤ, pos, Ok, Err, Option, Some, None, ◌⊎◌, inl, inr}
+use Rattle.std.proofs.Common.{◌≡◌, refl, sym, ap, ◌∙◌, ℕ, Bool, true, false, not, ◌&&◌, ◌==◌, if◌then◌else◌, List, [], ◌∷◌, ◌++◌, ℤ, Option, Some, None}
 use Rattle.std.specs.List.{list_all}
 use Rattle.dp_base.specs.Arithmetic.{is_zero}
-use Rattle.dp_base.specs.declared.SiteId.{SiteId}
 use Rattle.dp_tree.specs.declared.Stmt.{Stmt, out-Stmt, roll-Stmt, roll-out-Stmt}
 use Rattle.dp_tree.specs.declared.Stmt.TheViews.{rolls-Assign, rolls-Store, rolls-Print, rolls-If, rolls-While, rolls-Region, rolls-Break, rolls-Call}
 use Rattle.dp_tree.specs.declared.Stmt.TheOpen.{Stmt-F, Assign, Store, Print, If, While, Region, Break, Call}
-use Rattle.dp_tree.specs.declared.Program.{Program}
-use Rattle.dp_tree.specs.Eval.{Load, Evaluated, eval, and_then, after_loads, place, cell_count}
-use Rattle.dp_tree.specs.Event.{Effect, Printed, Decided, Tried, Event, value_of}
-use Rattle.dp_tree.specs.Step.{Config, Finished, Stepped, choose, followed, behind_region, behind_one, region_number, stored_by, after_effect, site_of, decided, tried, evaluated, standing, step_by, step_at, step_from, step}
-use Rattle.dp_tree.specs.Iteration.{is_region, decides_zero, leaves}
+use Rattle.dp_tree.specs.Step.{choose, followed, behind_region, behind_one, region_number}
+use Rattle.dp_tree.specs.Iteration.{is_region}
 use Rattle.dp_tree.specs.RegionLaws.{keeps, keeps_in}
 
 -- what opens where a statement is made
@@ -84,9 +80,6 @@ module _ (test : ℕ → Bool) (r : ℕ) where
 
   -- what follows a statement has no other sites
   pub keeps_followed : (x : Stmt) (rest : List Stmt) (h : Stmt-F Stmt) (z : ℤ) → keeps test r x ≡ true → keeps_at h ≡ true → keeps_all rest ≡ true → keeps_all (followed x rest h z) ≡ true
-  keeps_followed x rest (Assign site v e) z w h k = k
-  keeps_followed x rest (Store site v index e) z w h k = k
-  keeps_followed x rest (Print site e) z w h k = k
   keeps_followed x rest (If site cond a b) z w h k =
       let both = and_true (keeps_all a) (keeps_all b) (and_true (test site.0) (keeps_all a && keeps_all b) h).1 in
       keeps-append (choose z a b) rest (keeps_choose z a b both.0 both.1) k
@@ -96,18 +89,12 @@ module _ (test : ℕ → Bool) (r : ℕ) where
       let both = and_true (not (q == r)) (keeps_all a) (and_true (test site.0) (not (q == r) && keeps_all a) h).1 in
       keeps_choose z (a ++ x ∷ rest) rest (keeps-append a (x ∷ rest) both.1 (and_make (keeps test r x) (keeps_all rest) w k)) k
   keeps_followed x rest (Break site cond) z w h k = keeps_choose z (behind_region rest) rest (keeps_behind rest k) k
-  keeps_followed x rest (Call f line args) z w h k = k
+  keeps_followed x rest _ z w h k = k
 
   pub no_region : (h : Stmt-F Stmt) → keeps_at h ≡ true → is_region r h ≡ false
-  no_region (Assign site v e) w = refl
-  no_region (Store site v index e) w = refl
-  no_region (Print site e) w = refl
-  no_region (If site cond a b) w = refl
-  no_region (While site cond a) w = refl
   no_region (Region q site cond a) w = differs (q == r) (and_true (not (q == r)) (keeps_all a) (and_true (test site.0) (not (q == r) && keeps_all a) w).1).0
     where
       differs : (b : Bool) → not b ≡ true → b ≡ false
       differs false e = refl
       differs true e = absurd (cc)
-  no_region (Break site cond) w = refl
-  no_region (Call f line args) w = refl
+  no_region _ w = refl

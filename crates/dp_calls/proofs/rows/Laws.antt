@@ -10,8 +10,7 @@ use Rattle.dp_calls.specs.Expand.{expand}
 use Rattle.dp_calls.specs.ExpandLaws.{erased}
 use Rattle.dp_calls.specs.Frame.{global_count}
 use Rattle.dp_calls.specs.Frames.{outcome}
-use Rattle.dp_calls.proofs.ExpandLaws.{keeps_text}
-use Rattle.dp_calls.proofs.NoCallLaws.{leaves_no_call}
+use Rattle.dp_calls.proofs.ExpandLaws.{keeps_text, leaves_no_call}
 use Rattle.dp_calls.proofs.SameMeanings.{same_meaning}
 
 no_call_is_left : (p : Program) → list_any has_call (expand p).main ≡ false

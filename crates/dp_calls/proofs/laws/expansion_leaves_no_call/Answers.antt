@@ -1,5 +1,4 @@
-use Rattle.dp_calls.proofs.ExpandLaws.{keeps_text}
-use Rattle.dp_calls.proofs.NoCallLaws.{leaves_no_call}
+use Rattle.dp_calls.proofs.ExpandLaws.{keeps_text, leaves_no_call}
 use Rattle.dp_calls.proofs.laws.expansion_leaves_no_call.Goals as goal
 
 pub returns : goal.returns

@@ -1,8 +1,7 @@
 use Rattle.std.proofs.Common.{drop, ◌+◌, ◌<◌, length, sym, ap, ◌∙◌, refl, rules, arith}
 use Rattle.std.proofs.lemmas.Grind.{common_steps}
 use Rattle.dp_check.specs.Answer.{expr_answer, args_answer, onto}
-use Rattle.dp_check.proofs.AnswerLemmas.{onto-all}
-use Rattle.dp_check.proofs.LoopLemmas.{loop_more, loop_refused, loop_end}
+use Rattle.dp_check.proofs.AnswerLemmas.{onto-all, loop_more, loop_refused, loop_end}
 use Rattle.dp_check.proofs.ExprLemmas.{args_answer-none, args_answer-more}
 use Rattle.dp_check.proofs.expr.resolve_all.Goals as goal
 

@@ -3,8 +3,7 @@ use Rattle.std.proofs.lemmas.Grind.{common_steps}
 use Rattle.std.proofs.lemmas.List.{at_drop_more, at_drop_all}
 use Rattle.dp_check.specs.Place.{after_params, with_scalar}
 use Rattle.dp_check.specs.Answer.{param_answer, params_answer, onto}
-use Rattle.dp_check.proofs.AnswerLemmas.{onto-all}
-use Rattle.dp_check.proofs.LoopLemmas.{loop_more, loop_refused, loop_end}
+use Rattle.dp_check.proofs.AnswerLemmas.{onto-all, loop_more, loop_refused, loop_end}
 use Rattle.dp_check.proofs.ItemLemmas.{params_answer-none, params_answer-more}
 use Rattle.dp_check.proofs.items.parameters.Goals as goal
 

@@ -2,8 +2,8 @@ use Rattle.std.proofs.Common.{◌<◌, ◌+◌, ◌∷◌, ◌++◌, drop, lengt
 use Rattle.dp_tree.specs.declared.SiteKind.TheVariants as kind
 use Rattle.dp_check.specs.declared.place.Place.{Place}
 use Rattle.dp_check.specs.Place.{Site, IsPastNumbers, passed, sited, parts, parts_all}
-use Rattle.dp_check.proofs.LoopLemmas.{fold_more, fold_end}
-use Rattle.dp_check.proofs.PlaceLemmas.{passed_more, passed-none, past_by, on_err, pass-If, pass-While, pass-For, pass-For-first, pass-For-site}
+use Rattle.dp_check.proofs.AnswerLemmas.{fold_more, fold_end}
+use Rattle.dp_check.proofs.PlaceLemmas.{passed_more, passed-none, past_by, on_err, after-If, after-While, pass-For, pass-For-first, pass-For-site}
 use Rattle.dp_check.proofs.numbers.+numbers.Goals as goal
 
 pub pass_all-loop-s-preserved : goal.pass_all-loop-s-preserved
@@ -20,13 +20,13 @@ pass-returns-in_ok-pass_all-in-If-2-clause-place t c =
     let then_end = c.in_ok-pass_all-in-If.ensures.place ∙ (λ i. passed (c.in_ok-take_site-in-If.ensures.place i) (parts_all (c.as_slice.ensures i))) in
     rw c.in-If.is
     (c.in_ok-pass_all-in-If-2.ensures.place ∙ (λ i. passed (then_end i) (parts_all (c.as_slice-in-If.ensures i)))
-    ∙ sym (pass-If c.args.place.now c.in-If.line c.in-If.cond c.in-If.then_part c.in-If.else_part))
+    ∙ sym (after-If c.args.place.now c.in-If.line c.in-If.cond c.in-If.then_part c.in-If.else_part))
 
 pub pass-returns-in_ok-pass_all-in-While-clause-place : goal.pass-returns-in_ok-pass_all-in-While-clause-place
 pass-returns-in_ok-pass_all-in-While-clause-place t c =
     rw c.in-While.is
     (c.in_ok-pass_all-in-While.ensures.place ∙ (λ i. passed (c.in_ok-take_site-in-While.ensures.place i) (parts_all (c.as_slice-in-While.ensures i)))
-    ∙ sym (pass-While c.args.place.now c.in-While.line c.in-While.marked c.in-While.cond c.in-While.body))
+    ∙ sym (after-While c.args.place.now c.in-While.line c.in-While.marked c.in-While.cond c.in-While.body))
 
 pub pass-returns-in_ok-pass_all-in-For-3-clause-place : goal.pass-returns-in_ok-pass_all-in-For-3-clause-place
 pass-returns-in_ok-pass_all-in-For-3-clause-place t c =
@@ -49,7 +49,7 @@ pub pass-returns-in_err-pass_all-in-If-clause-full : goal.pass-returns-in_err-pa
 pass-returns-in_err-pass_all-in-If-clause-full t c =
     let f = c.in-If in let p = c.args.place.now in
     on_err c.from_residual-in_err-pass_all-in-If.result _
-    (past_by (passed (sited p) (parts_all f.then_part)) _ (parts_all f.else_part) (ap (λ s. passed p (parts s)) f.is ∙ pass-If p f.line f.cond f.then_part f.else_part)
+    (past_by (passed (sited p) (parts_all f.then_part)) _ (parts_all f.else_part) (ap (λ s. passed p (parts s)) f.is ∙ after-If p f.line f.cond f.then_part f.else_part)
     (subst IsPastNumbers (λ i. passed (c.in_ok-take_site-in-If.ensures.place i) (parts_all (c.as_slice.ensures i))) c.in_err-pass_all-in-If.ensures.full))
 
 pub pass-returns-in_err-pass_all-in-If-2-clause-full : goal.pass-returns-in_err-pass_all-in-If-2-clause-full
@@ -57,13 +57,13 @@ pass-returns-in_err-pass_all-in-If-2-clause-full t c =
     let f = c.in-If in let p = c.args.place.now in
     let then_end = c.in_ok-pass_all-in-If.ensures.place ∙ (λ i. passed (c.in_ok-take_site-in-If.ensures.place i) (parts_all (c.as_slice.ensures i))) in
     on_err c.from_residual-in_err-pass_all-in-If-2.result _
-    (subst IsPastNumbers ((λ i. passed (then_end i) (parts_all (c.as_slice-in-If.ensures i))) ∙ sym (ap (λ s. passed p (parts s)) f.is ∙ pass-If p f.line f.cond f.then_part f.else_part)) c.in_err-pass_all-in-If-2.ensures.full)
+    (subst IsPastNumbers ((λ i. passed (then_end i) (parts_all (c.as_slice-in-If.ensures i))) ∙ sym (ap (λ s. passed p (parts s)) f.is ∙ after-If p f.line f.cond f.then_part f.else_part)) c.in_err-pass_all-in-If-2.ensures.full)
 
 pub pass-returns-in_err-pass_all-in-While-clause-full : goal.pass-returns-in_err-pass_all-in-While-clause-full
 pass-returns-in_err-pass_all-in-While-clause-full t c =
     let f = c.in-While in let p = c.args.place.now in
     on_err c.from_residual-in_err-pass_all-in-While.result _
-    (subst IsPastNumbers ((λ i. passed (c.in_ok-take_site-in-While.ensures.place i) (parts_all (c.as_slice-in-While.ensures i))) ∙ sym (ap (λ s. passed p (parts s)) f.is ∙ pass-While p f.line f.marked f.cond f.body)) c.in_err-pass_all-in-While.ensures.full)
+    (subst IsPastNumbers ((λ i. passed (c.in_ok-take_site-in-While.ensures.place i) (parts_all (c.as_slice-in-While.ensures i))) ∙ sym (ap (λ s. passed p (parts s)) f.is ∙ after-While p f.line f.marked f.cond f.body)) c.in_err-pass_all-in-While.ensures.full)
 
 pub pass-returns-in_err-pass_all-in-For-clause-full : goal.pass-returns-in_err-pass_all-in-For-clause-full
 pass-returns-in_err-pass_all-in-For-clause-full t c =

@@ -1,8 +1,7 @@
 use Rattle.std.proofs.Common.{◌++◌, ◌∷◌, [], ◌+◌, ◌<◌, drop, length, sym, ap, ◌∙◌, rules, arith}
 use Rattle.std.proofs.lemmas.Grind.{common_steps}
 use Rattle.dp_check.specs.Answer.{main_answer, onto}
-use Rattle.dp_check.proofs.AnswerLemmas.{onto-all}
-use Rattle.dp_check.proofs.LoopLemmas.{further, further_refused, further_end}
+use Rattle.dp_check.proofs.AnswerLemmas.{onto-all, further, further_refused, further_end}
 use Rattle.dp_check.proofs.RegionLemmas.{MainPlace, main_rest, main_one, main_step, main_answer-none, main_answer-more}
 use Rattle.dp_check.proofs.region.main_statements.Goals as goal
 
@@ -20,8 +19,7 @@ pub loop-s-preserved : goal.loop-s-preserved
 loop-s-preserved c =
     let all = c.args.all.now in let i = c.loop-s.s-index in
     let m : MainPlace = record { place = c.loop-s.place; region = c.loop-s.number } in
-    let below : c.loop-s.s-index < length c.args.all.now = omega arith in
-    let rest = drop (i + 1) all in
+    let below : c.loop-s.s-index < length c.args.all.now = omega arith in let rest = drop (i + 1) all in
     further main_rest main_one main_step main_answer-more all i m c.loop-s.done _ c.loop-s.invariant c.s-item.result below c.s-item.is
     (c.top.new.done ++ c.in_ok-last.last ∷ []) c.in_ok-last.ensures.value (record { place = c.top.new.place; region = c.in_ok-number.number })
     (λ j. record { place = c.in_ok-last.ensures.place j; region = c.in_ok-number.ensures.value j })

@@ -9,12 +9,11 @@ use Rattle.dp_check.specs.declared.place.Place.{Place}
 use Rattle.dp_check.specs.Place.{after, after_all, parts_all, passed, sited}
 use Rattle.dp_check.specs.Resolved.{next_site}
 use Rattle.dp_check.specs.Answer.{Gives, onto, with_last, expr_answer, stmt_answer, block_answer, loop_answer}
-use Rattle.dp_check.proofs.AnswerLemmas.{onto-all, gives_behind}
-use Rattle.dp_check.proofs.LoopLemmas.{further, further_refused, further_end, fold_more}
+use Rattle.dp_check.proofs.AnswerLemmas.{onto-all, gives_behind, further, further_refused, further_end, fold_more}
 use Rattle.dp_check.proofs.PlaceLemmas.{passed-append, for_left, after-If, after-While, after-For}
 use Rattle.dp_check.proofs.Weight.{weight, weight_all, weight-If, weight-While, weight-For, weight_item}
 use Rattle.dp_check.proofs.StmtLemmas.{block_answer-none, block_answer-more}
-use Rattle.dp_check.proofs.StepLemmas as steps
+use Rattle.dp_check.proofs.StmtLemmas as steps
 use Rattle.dp_check.proofs.stmt.+statements.Goals as goal
 
 -- ---- statements without a block
@@ -49,8 +48,7 @@ statement-returns-in-Call-clause-value t c =
 
 pub statement-conditional-requires : goal.statement-conditional-requires
 statement-conditional-requires t c =
-    let w = c.in-If in
-    let e = ap weight w.is ∙ weight-If w.line w.cond w.then_part w.else_part in
+    let w = c.in-If in let e = ap weight w.is ∙ weight-If w.line w.cond w.then_part w.else_part in
     let one = ap weight_all c.as_slice-one.ensures in let two = ap weight_all c.as_slice-two.ensures in
     (omega (arith, c.decreases, e, one, two), tt)
 
@@ -88,8 +86,7 @@ statement-returns-in-While-clause-place t c =
 
 pub statement-counted-requires : goal.statement-counted-requires
 statement-counted-requires t c =
-    let w = c.in-For in
-    let e = ap weight w.is ∙ weight-For w.line w.marked w.first w.cond w.step w.body in
+    let w = c.in-For in let e = ap weight w.is ∙ weight-For w.line w.marked w.first w.cond w.step w.body in
     let first = ap weight_all c.as_slice-first.ensures in let step = ap weight_all c.as_slice-step.ensures in let body = ap weight_all c.as_slice-body.ensures in
     (omega (arith, c.decreases, e, first, step, body), tt)
 
@@ -164,10 +161,8 @@ looped-returns-clause-place t c =
 
 pub statements-statement-requires : goal.statements-statement-requires
 statements-statement-requires t c =
-    let all = c.args.all.now in
-    let below : c.loop-s.s-index < length c.args.all.now = omega arith in
-    let here = ap weight c.s-item.is in
-    let less = weight_item all c.loop-s.s-index c.s-item.result below in
+    let all = c.args.all.now in let below : c.loop-s.s-index < length c.args.all.now = omega arith in
+    let here = ap weight c.s-item.is in let less = weight_item all c.loop-s.s-index c.s-item.result below in
     (omega (arith, c.decreases, here, less), tt)
 
 pub statements-returns-in_err-last-clause-value : goal.statements-returns-in_err-last-clause-value

@@ -87,8 +87,7 @@ statement-call-requires t c =
 pub statements-statement-requires : goal.statements-statement-requires
 statements-statement-requires t c =
     let calls = work_within c.args.p.now c.args.depth in let all = c.args.all.now in
-    let below : c.loop-s.s-index < length c.args.all.now = omega arith in
-    let here = ap (work_one calls) c.s-item.is in
+    let below : c.loop-s.s-index < length c.args.all.now = omega arith in let here = ap (work_one calls) c.s-item.is in
     let less = work_item calls all c.loop-s.s-index c.s-item.result below in
     (omega (arith, c.decreases, here, less), tt)
 

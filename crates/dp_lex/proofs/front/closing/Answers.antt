@@ -1,6 +1,6 @@
 use Rattle.std.proofs.Common.{sym, ◌∙◌, arith}
 use Rattle.dp_lex.specs.Scan.{closing}
-use Rattle.dp_lex.proofs.Closing.{shifted_none, closing_goes, closing_stops, closing_ends}
+use Rattle.dp_lex.proofs.Skipping.{shifted_none, closing_goes, closing_stops, closing_ends}
 use Rattle.dp_lex.proofs.front.closing.Goals as goal
 
 pub loop-at-init : goal.loop-at-init

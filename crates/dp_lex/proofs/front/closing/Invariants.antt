@@ -1,6 +1,6 @@
 use Rattle.std.proofs.Common.{◌≡◌, drop}
 use Rattle.dp_lex.specs.Scan.{closing}
-use Rattle.dp_lex.proofs.Closing.{shifted}
+use Rattle.dp_lex.proofs.Skipping.{shifted}
 use Rattle.dp_lex.proofs.front.closing.Given as goal
 
 abbrev pub invariant-loop-at : goal.invariant-loop-at

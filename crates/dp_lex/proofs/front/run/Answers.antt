@@ -12,6 +12,5 @@ returns-else-is_in-clause-passes c =
 
 pub returns-after-loop-end-clause-passes : goal.returns-after-loop-end-clause-passes
 returns-after-loop-end-clause-passes c =
-    let p = is_in c.args.class in
-    let stop = prefix_len-drop_all p c.args.z.now c.loop-end.end c.loop-end-test.false in
+    let p = is_in c.args.class in let stop = prefix_len-drop_all p c.args.z.now c.loop-end.end c.loop-end-test.false in
     run_passes p c.args.z.now c.loop-end.end (omega (arith, c.loop-end.invariant.0, stop))

@@ -8,7 +8,8 @@ use Rattle.dp_tokens.specs.Steps.{Outcome, and_then, pure}
 use Rattle.dp_parse.specs.descent.Operators.{join_at, prefix_at}
 use Rattle.dp_parse.specs.descent.Expressions as read
 use Rattle.dp_parse.proofs.StepLemmas.{rest-le}
-use Rattle.dp_parse.proofs.Shorter.{shorter}
+use Rattle.dp_parse.specs.Rules as rule
+use Rattle.dp_parse.proofs.Spans.{shorter}
 use Rattle.dp_parse.proofs.ExpressionSound.{sound_expression, sound_nested}
 use Rattle.dp_parse.proofs.Levels.{level_ends, level_prefixed, level_chain, level_none, chain_end, chain_turn, chain_none}
 use Rattle.dp_parse.proofs.expression.+expression.Goals as goal
@@ -58,11 +59,9 @@ expression-loop-join-init t c =
 
 pub expression-returns-in_err-right : goal.expression-returns-in_err-right
 expression-returns-in_err-right t c =
-    let nested = read.nested c.args.depth in
-    let l = c.loop-join in
+    let nested = read.nested c.args.depth in let l = c.loop-join in
     let joins : join_at c.args.level (symbol_at l.tokens) ≡ Some c.in-Some-join_at.join = ap (join_at c.args.level) (sym c.peek-in-loop-join.ensures) ∙ sym c.join_at.ensures ∙ c.in-Some-join_at.is in
-    let operand = read.expression nested c.in-Some.inner in
-    let left = c.expression-in-Some-join_at.new.tokens in
+    let operand = read.expression nested c.in-Some.inner in let left = c.expression-in-Some-join_at.new.tokens in
     let fails : operand c.advance-in-Some-join_at.new.self ≡ Err left → read.expression nested c.args.level c.args.tokens.now ≡ Err left = λ h.
     l.invariant.2 ∙ chain_none c.args.level operand l.invariant.0 l.found l.tokens left c.in-Some-join_at.join joins (ap operand (sym c.advance-in-Some-join_at.ensures) ∙ h) l.invariant.1 in
     first_of (search rules, grind (arith, common_steps))
@@ -70,22 +69,25 @@ expression-returns-in_err-right t c =
 pub expression-loop-join-smaller : goal.expression-loop-join-smaller
 expression-loop-join-smaller t c =
     let l = c.loop-join in
-    let less = shorter (sound_expression (read.nested c.args.depth) (sound_nested c.args.depth) c.in-Some.inner c.advance-in-Some-join_at.new.self
-    c.expression-in-Some-join_at.new.tokens c.in_ok-right.right c.in_ok-right.ensures) in
-    let passed = rest-le l.tokens in
-    let same = ap length c.advance-in-Some-join_at.ensures in
+    let less = shorter (rule.Expression _) _ _ refl (
+      _,
+      sound_expression (read.nested c.args.depth) (sound_nested c.args.depth) c.in-Some.inner c.advance-in-Some-join_at.new.self
+          c.expression-in-Some-join_at.new.tokens c.in_ok-right.right c.in_ok-right.ensures,
+    ) in
+    let passed = rest-le l.tokens in let same = ap length c.advance-in-Some-join_at.ensures in
     let smaller : length c.expression-in-Some-join_at.new.tokens < length l.tokens = omega arith in smaller
 
 pub expression-loop-join-preserved : goal.expression-loop-join-preserved
 expression-loop-join-preserved t c =
-    let nested = read.nested c.args.depth in
-    let operand = read.expression nested c.in-Some.inner in
+    let nested = read.nested c.args.depth in let operand = read.expression nested c.in-Some.inner in
     let l = c.loop-join in
     let joins : join_at c.args.level (symbol_at l.tokens) ≡ Some c.in-Some-join_at.join = ap (join_at c.args.level) (sym c.peek-in-loop-join.ensures) ∙ sym c.join_at.ensures ∙ c.in-Some-join_at.is in
-    let less = shorter (sound_expression nested (sound_nested c.args.depth) c.in-Some.inner c.advance-in-Some-join_at.new.self
-    c.expression-in-Some-join_at.new.tokens c.in_ok-right.right c.in_ok-right.ensures) in
-    let passed = rest-le l.tokens in
-    let same = ap length c.advance-in-Some-join_at.ensures in
+    let less = shorter (rule.Expression _) _ _ refl (
+      _,
+      sound_expression nested (sound_nested c.args.depth) c.in-Some.inner c.advance-in-Some-join_at.new.self
+          c.expression-in-Some-join_at.new.tokens c.in_ok-right.right c.in_ok-right.ensures,
+    ) in
+    let passed = rest-le l.tokens in let same = ap length c.advance-in-Some-join_at.ensures in
     let fits = l.invariant.1 in
     let turn = chain_turn c.args.level operand l.invariant.0 l.found c.in_ok-right.right l.tokens c.expression-in-Some-join_at.new.tokens c.in-Some-join_at.join joins
     (ap operand (sym c.advance-in-Some-join_at.ensures) ∙ c.in_ok-right.ensures) l.invariant.1 in

@@ -11,8 +11,7 @@ use Rattle.dp_parse.proofs.item.params.Goals as goal
 
 pub returns-in_err-param : goal.returns-in_err-param
 returns-in_err-param c =
-    let l = c.loop-found in
-    let left = c.param.new.tokens in
+    let l = c.loop-found in let left = c.param.new.tokens in
     let fails : param l.tokens ≡ Err left → params c.args.tokens.now ≡ Err left = λ h. l.invariant.2 ∙ separated_none param param_empty l.invariant.0 l.found l.tokens left h l.invariant.1 in
     first_of (search rules, grind (arith, common_steps))
 
@@ -28,16 +27,14 @@ pub loop-found-smaller : goal.loop-found-smaller
 loop-found-smaller c =
     let l = c.loop-found in
     let less = param_shorter l.tokens c.param.new.tokens c.in_ok-param.field-0 c.in_ok-param.ensures in
-    let passed = after-le Comma c.param.new.tokens in
-    let same = ap length c.eat-in-loop-found.ensures.after in
+    let passed = after-le Comma c.param.new.tokens in let same = ap length c.eat-in-loop-found.ensures.after in
     let smaller : length c.eat-in-loop-found.new.self < length l.tokens = omega arith in smaller
 
 pub loop-found-preserved : goal.loop-found-preserved
 loop-found-preserved c =
     let l = c.loop-found in
     let less = param_shorter l.tokens c.param.new.tokens c.in_ok-param.field-0 c.in_ok-param.ensures in
-    let passed = after-le Comma c.param.new.tokens in
-    let same = ap length c.eat-in-loop-found.ensures.after in
+    let passed = after-le Comma c.param.new.tokens in let same = ap length c.eat-in-loop-found.ensures.after in
     let fits = l.invariant.1 in
     let seen : sees Comma c.param.new.tokens ≡ true = sym c.eat-in-loop-found.ensures.found ∙ c.if-not-eat.false in
     let turn = separated_on param l.invariant.0 l.found l.tokens c.param.new.tokens c.in_ok-param.field-0 c.in_ok-param.ensures less l.invariant.1 seen in

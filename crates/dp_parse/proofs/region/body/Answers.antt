@@ -18,8 +18,7 @@ closing o = and_then o (λ body. expect CloseBrace >>= (λ _. pure body))
 
 pub returns-in_err-inside : goal.returns-in_err-inside
 returns-in_err-inside c =
-    let l = c.loop-alloc in
-    let one = read.inside (statement c.args.depth) in
+    let l = c.loop-alloc in let one = read.inside (statement c.args.depth) in
     let goes : sees CloseBrace l.tokens ≡ false = sym c.sees.ensures ∙ c.loop-alloc-test.true in
     let left = c.inside.new.tokens in
     let fails : one l.tokens ≡ Err left → read.body (statement c.args.depth) c.args.tokens.now ≡ Err left = λ h.
@@ -31,8 +30,7 @@ loop-alloc-smaller c = inside_shorter c.args.depth c.loop-alloc.tokens c.inside.
 
 pub loop-alloc-preserved : goal.loop-alloc-preserved
 loop-alloc-preserved c =
-    let l = c.loop-alloc in
-    let one = read.inside (statement c.args.depth) in
+    let l = c.loop-alloc in let one = read.inside (statement c.args.depth) in
     let goes : sees CloseBrace l.tokens ≡ false = sym c.sees.ensures ∙ c.loop-alloc-test.true in
     let less = inside_shorter c.args.depth l.tokens c.inside.new.tokens c.in_ok-inside.field-0 c.in_ok-inside.ensures in
     let fits = l.invariant.1 in
@@ -41,8 +39,7 @@ loop-alloc-preserved c =
 
 pub returns-in_err-expect-2 : goal.returns-in_err-expect-2
 returns-in_err-expect-2 c =
-    let l = c.loop-alloc in
-    let over : sees CloseBrace l.tokens ≡ true = sym c.sees.ensures ∙ c.loop-alloc-test.false in
+    let l = c.loop-alloc in let over : sees CloseBrace l.tokens ≡ true = sym c.sees.ensures ∙ c.loop-alloc-test.false in
     let ends = many_end (read.inside (statement c.args.depth)) (sees CloseBrace) l.invariant.0 l.body l.tokens over (seen_some CloseBrace l.tokens (λ e. cc) over) l.invariant.1 in
     let fails : read.body (statement c.args.depth) c.args.tokens.now ≡ Err c.expect-2.new.self =
     l.invariant.2 ∙ ap closing ends ∙ ap (λ (o : Outcome Lexeme). and_then o (λ _. pure l.body)) c.in_err-expect-2.ensures.refused in
@@ -50,7 +47,6 @@ returns-in_err-expect-2 c =
 
 pub returns : goal.returns
 returns c =
-    let l = c.loop-alloc in
-    let over : sees CloseBrace l.tokens ≡ true = sym c.sees.ensures ∙ c.loop-alloc-test.false in
+    let l = c.loop-alloc in let over : sees CloseBrace l.tokens ≡ true = sym c.sees.ensures ∙ c.loop-alloc-test.false in
     let ends = many_end (read.inside (statement c.args.depth)) (sees CloseBrace) l.invariant.0 l.body l.tokens over (seen_some CloseBrace l.tokens (λ e. cc) over) l.invariant.1 in
     l.invariant.2 ∙ ap closing ends ∙ ap (λ (o : Outcome Lexeme). and_then o (λ _. pure l.body)) c.in_ok-expect-2.ensures.taken

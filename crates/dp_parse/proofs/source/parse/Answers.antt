@@ -6,8 +6,7 @@ use Rattle.dp_parse.proofs.source.parse.Goals as goal
 
 pub derive-requires : goal.derive-requires
 derive-requires c =
-    let few = few_tokens c.args.text.now c.in-Ok.tokens c.in-Ok.ensures in
-    let same = ap length c.as_slice.ensures in
+    let few = few_tokens c.args.text.now c.in-Ok.tokens c.in-Ok.ensures in let same = ap length c.as_slice.ensures in
     let short = c.requires in
     omega arith
 

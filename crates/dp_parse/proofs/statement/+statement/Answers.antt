@@ -7,7 +7,8 @@ use Rattle.dp_tokens.specs.Steps.{Outcome, ◌>>=◌, and_then, pure, expect, se
 use Rattle.dp_parse.specs.descent.Statements as read
 use Rattle.dp_parse.proofs.StepLemmas.{seen_some}
 use Rattle.dp_parse.proofs.Empty.{statement_empty}
-use Rattle.dp_parse.proofs.Shorter.{shorter_statement}
+use Rattle.dp_parse.specs.Rules as rule
+use Rattle.dp_parse.proofs.Spans.{shorter}
 use Rattle.dp_parse.proofs.Lists.{many_turn, many_none, many_end}
 use Rattle.dp_parse.proofs.StatementSound.{sound_statement}
 use Rattle.dp_parse.proofs.StatementSteps.{statement_opens, choice_by}
@@ -19,8 +20,7 @@ closing o = and_then o (λ body. expect CloseBrace >>= (λ _. pure body))
 
 pub block-returns-in_err-statement : goal.block-returns-in_err-statement
 block-returns-in_err-statement t c =
-    let l = c.loop-alloc in
-    let statement = read.statement c.args.depth in
+    let l = c.loop-alloc in let statement = read.statement c.args.depth in
     let goes : sees CloseBrace l.tokens ≡ false = sym c.sees.ensures ∙ c.loop-alloc-test.true in
     let left = c.statement.new.tokens in
     let fails : statement l.tokens ≡ Err left → read.block statement c.args.tokens.now ≡ Err left = λ h.
@@ -30,23 +30,20 @@ block-returns-in_err-statement t c =
 pub block-loop-alloc-smaller : goal.block-loop-alloc-smaller
 block-loop-alloc-smaller t c =
     let l = c.loop-alloc in
-    let less = shorter_statement (sound_statement c.args.depth l.tokens c.statement.new.tokens c.in_ok-statement.field-0 c.in_ok-statement.ensures) in
-    less
+    shorter rule.Statement _ _ refl (_, sound_statement c.args.depth l.tokens c.statement.new.tokens c.in_ok-statement.field-0 c.in_ok-statement.ensures)
 
 pub block-loop-alloc-preserved : goal.block-loop-alloc-preserved
 block-loop-alloc-preserved t c =
-    let l = c.loop-alloc in
-    let statement = read.statement c.args.depth in
+    let l = c.loop-alloc in let statement = read.statement c.args.depth in
     let goes : sees CloseBrace l.tokens ≡ false = sym c.sees.ensures ∙ c.loop-alloc-test.true in
-    let less = shorter_statement (sound_statement c.args.depth l.tokens c.statement.new.tokens c.in_ok-statement.field-0 c.in_ok-statement.ensures) in
+    let less = shorter rule.Statement _ _ refl (_, sound_statement c.args.depth l.tokens c.statement.new.tokens c.in_ok-statement.field-0 c.in_ok-statement.ensures) in
     let fits = l.invariant.1 in
     let turn = many_turn statement (sees CloseBrace) l.invariant.0 l.body l.tokens c.statement.new.tokens c.in_ok-statement.field-0 goes c.in_ok-statement.ensures less l.invariant.1 in
     (l.invariant.0 - 1, omega arith, l.invariant.2 ∙ ap closing turn ∙ rw c.in_ok-push.ensures.ok refl)
 
 pub block-returns-in_err-expect-2 : goal.block-returns-in_err-expect-2
 block-returns-in_err-expect-2 t c =
-    let l = c.loop-alloc in
-    let over : sees CloseBrace l.tokens ≡ true = sym c.sees.ensures ∙ c.loop-alloc-test.false in
+    let l = c.loop-alloc in let over : sees CloseBrace l.tokens ≡ true = sym c.sees.ensures ∙ c.loop-alloc-test.false in
     let ends = many_end (read.statement c.args.depth) (sees CloseBrace) l.invariant.0 l.body l.tokens over (seen_some CloseBrace l.tokens (λ e. cc) over) l.invariant.1 in
     let fails : read.block (read.statement c.args.depth) c.args.tokens.now ≡ Err c.expect-2.new.self =
     l.invariant.2 ∙ ap closing ends ∙ ap (λ (o : Outcome Lexeme). and_then o (λ _. pure l.body)) c.in_err-expect-2.ensures.refused in
@@ -54,8 +51,7 @@ block-returns-in_err-expect-2 t c =
 
 pub block-returns : goal.block-returns
 block-returns t c =
-    let l = c.loop-alloc in
-    let over : sees CloseBrace l.tokens ≡ true = sym c.sees.ensures ∙ c.loop-alloc-test.false in
+    let l = c.loop-alloc in let over : sees CloseBrace l.tokens ≡ true = sym c.sees.ensures ∙ c.loop-alloc-test.false in
     let ends = many_end (read.statement c.args.depth) (sees CloseBrace) l.invariant.0 l.body l.tokens over (seen_some CloseBrace l.tokens (λ e. cc) over) l.invariant.1 in
     l.invariant.2 ∙ ap closing ends ∙ ap (λ (o : Outcome Lexeme). and_then o (λ _. pure l.body)) c.in_ok-expect-2.ensures.taken
 

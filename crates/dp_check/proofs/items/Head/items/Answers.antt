@@ -14,8 +14,7 @@ loop-item-init c = subst (λ (d : List Function). ItemsSoFar c.args.self.now c.a
 pub returns-in_err-item-clause-value : goal.returns-in_err-item-clause-value
 returns-in_err-item-clause-value c =
     let all = c.args.all.now in let i = c.loop-item.item-index in
-    let below : c.loop-item.item-index < length c.args.all.now = omega arith in
-    let rest = drop (i + 1) all in
+    let below : c.loop-item.item-index < length c.args.all.now = omega arith in let rest = drop (i + 1) all in
     let e : drop i all ≡ c.item-item.result ∷ rest = drop_more all i c.item-item.result below ∙ ap (λ y. y ∷ rest) (sym c.item-item.is) in
     let refused = items_refused c.item-item.result rest (subst (λ (l : List RawItem). ItemsSoFar c.args.self.now c.loop-item.self c.loop-item.done all l) e c.loop-item.invariant) in
     first_of (search rules, grind (arith, common_steps))
@@ -23,8 +22,7 @@ returns-in_err-item-clause-value c =
 pub loop-item-preserved : goal.loop-item-preserved
 loop-item-preserved c =
     let all = c.args.all.now in let i = c.loop-item.item-index in
-    let below : c.loop-item.item-index < length c.args.all.now = omega arith in
-    let rest = drop (i + 1) all in
+    let below : c.loop-item.item-index < length c.args.all.now = omega arith in let rest = drop (i + 1) all in
     let e : drop i all ≡ c.item-item.result ∷ rest = drop_more all i c.item-item.result below ∙ ap (λ y. y ∷ rest) (sym c.item-item.is) in
     let here = subst (λ (l : List RawItem). ItemsSoFar c.args.self.now c.loop-item.self c.loop-item.done all l) e c.loop-item.invariant in
     let goes = items_go_on c.item-item.result rest here c.in_ok-item.ensures.value in

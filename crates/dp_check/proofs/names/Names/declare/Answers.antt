@@ -1,4 +1,4 @@
-use Rattle.std.proofs.Common.{◌≡◌, ◌++◌, ◌∷◌, [], map, ap, sym, ◌∙◌, None}
+use Rattle.std.proofs.Common.{◌≡◌, ◌++◌, ◌∷◌, [], map, ap, ◌∙◌, None}
 use Rattle.dp_check.specs.Names.{Named, named}
 use Rattle.dp_check.proofs.NamesLemmas.{shown, shown-inserted}
 use Rattle.dp_check.proofs.names.Names.declare.Goals as goal

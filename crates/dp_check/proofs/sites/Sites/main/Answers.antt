@@ -1,5 +1,5 @@
 use Rattle.std.proofs.Common.{◌<◌, length, sym, ◌∙◌, arith}
-use Rattle.dp_check.proofs.LoopLemmas.{fold_more, fold_end}
+use Rattle.dp_check.proofs.AnswerLemmas.{fold_more, fold_end}
 use Rattle.dp_check.proofs.TableLemmas as tables
 use Rattle.dp_check.proofs.sites.Sites.main.Goals as goal
 

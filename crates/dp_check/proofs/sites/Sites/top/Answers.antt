@@ -13,8 +13,7 @@ use Rattle.dp_check.proofs.sites.Sites.top.Goals as goal
 
 pub returns-in_ok-statement-in-While : goal.returns-in_ok-statement-in-While
 returns-in_ok-statement-in-While c =
-    let w = c.in-While in
-    let is = while_is w.line w.cond c.if-marked.true refl w.is in
+    let w = c.in-While in let is = while_is w.line w.cond c.if-marked.true refl w.is in
     subst (λ (q : Sites). OnOk c.region.result (c.region.new.self ≡ q))
     (top.top-region c.args.self.now c.args.number w.line w.cond w.body c.args.s.now is c.statement.new.self c.in_ok-statement-in-While.ensures) c.region.ensures
 

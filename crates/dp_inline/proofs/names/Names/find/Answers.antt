@@ -14,8 +14,7 @@ among rows x = named_in (names_of rows) x
 pub returns-then-named-source : goal.returns-then-named-source
 returns-then-named-source c =
     let rows = c.as_slice-rows.result.now in let k = c.loop-left.left - 1 in let x = c.args.source in
-    let on : c.loop-left.left ≡ k + 1 = omega arith in
-    let below : k < length rows = omega arith in
+    let on : c.loop-left.left ≡ k + 1 = omega arith in let below : k < length rows = omega arith in
     sym (ap (λ names. named_in names x) (sym c.self.view_is) ∙ ap (λ l. among l x) (sym c.as_slice-rows.ensures)
     ∙ c.loop-left.invariant.1 ∙ ap (λ n. among (take n rows) x) on ∙ found_before rows k none x below
     ∙ found_here (get_or rows k none).source x (Some (get_or rows k none).target) (among (take k rows) x) c.if-named-source.true)

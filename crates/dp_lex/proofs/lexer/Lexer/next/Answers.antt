@@ -9,8 +9,7 @@ use Rattle.dp_lex.proofs.lexer.Lexer.next.Goals as goal
 
 pub returns-in_default-clause-next : goal.returns-in_default-clause-next
 returns-in_default-clause-next c =
-    let text = c.self.inside.text.now in
-    let place = c.self.inside.place in
+    let text = c.self.inside.text.now in let place = c.self.inside.place in
     let same : drop place text ≡ drop c.skip.new.self.place c.args.self.now.text = ap (λ (v : Reading). drop v.place v.text) c.self.view_is ∙ ap (λ (t : Text). drop c.skip.new.self.place t) c.skip.ensures.text in
     let value : c.front.result ≡ front (drop place text) = rw (take_rest text place) at c.front.ensures.value in
     let found : front (drop place text) ≡ None = sym value ∙ c.in_default.is in
@@ -21,16 +20,13 @@ returns-in_default-clause-next c =
 
 pub invariant_of-self : goal.invariant_of-self
 invariant_of-self c =
-    let text = c.self.inside.text.now in
-    let place = c.self.inside.place in
+    let text = c.self.inside.text.now in let place = c.self.inside.place in
     let value : c.front.result ≡ front (drop place text) = rw (take_rest text place) at c.front.ensures.value in
     inside_take text place c.self.inside.line c.in-Some.kind c.in-Some.len c.self.invariant (sym value ∙ c.in-Some.is)
 
 pub returns-clause-next : goal.returns-clause-next
 returns-clause-next c =
-    let text = c.self.inside.text.now in
-    let place = c.self.inside.place in
-    let mid = c.skip.new.self.place in
+    let text = c.self.inside.text.now in let place = c.self.inside.place in let mid = c.skip.new.self.place in
     let whole = c.args.self.now.text in
     let same_text : text ≡ whole = ap (λ (v : Reading). v.text) c.self.view_is ∙ c.skip.ensures.text in
     let same_place : place ≡ mid = ap (λ (v : Reading). v.place) c.self.view_is in

@@ -13,10 +13,8 @@ loop-rest-init c =
 
 pub loop-rest-preserved : goal.loop-rest-preserved
 loop-rest-preserved c =
-    let text = c.loop-rest.self-inside.text.now in
-    let place = c.loop-rest.self-inside.place in
-    let line = c.loop-rest.self-inside.line in
-    let n = c.skipped-n.result in
+    let text = c.loop-rest.self-inside.text.now in let place = c.loop-rest.self-inside.place in
+    let line = c.loop-rest.self-inside.line in let n = c.skipped-n.result in
     let value : n ≡ skipped (drop place text) = rw (take_rest text place) at c.skipped-n.ensures.value in
     let within : n ≤ length (drop place text) = rw (take_rest text place) at c.skipped-n.ensures.within in
     let ends : c.line_ends.result ≡ line_ends (take n (drop place text)) = rw (take_rest text place) at c.line_ends.ensures.value in
