@@ -3,13 +3,15 @@ use Rattle.std.proofs.Common.{◌≡◌, ◌≢◌, ◌⊎◌, inl, inr, refl, s
 use Rattle.std.proofs.Math.ListN.{set, length-set}
 use Rattle.std.proofs.lemmas.Bool.{cases_lt, cases_eq}
 use Rattle.std.proofs.lemmas.List.{get_or-set_same, get_or-set_other}
-use Rattle.std.proofs.lemmas.Option.{same_Some, slice_get-get_or, slice_get_past}
+use Rattle.std.proofs.lemmas.Option.{same_Some, slice_get-map, slice_get-get_or, slice_get_past}
 use Rattle.dp_units.specs.Entries.{At, Has}
+pub use Rattle.std.proofs.lemmas.Option.{slice_get_within as at_within}
+use Rattle.std.specs.Option.{option_map}
 
-pub at_within : {X : Type 0} (xs : List X) (i : ℕ) (x : X) → At xs i x → i < length xs
-at_within [] i x e = absurd (cc e)
-at_within (y ∷ xs) zero x e = omega arith
-at_within (y ∷ xs) (suc i) x e = let rest = at_within xs i x e in omega (arith, rest)
+pub some_at : {X : Type 0} (xs : List X) (i : ℕ) → i < length xs → (x : X) × At xs i x
+some_at [] i h = absurd (omega (arith, h))
+some_at (x ∷ xs) zero h = (x, refl)
+some_at (x ∷ xs) (suc i) h = some_at xs i (omega (arith, h))
 
 pub at_none : {X : Type 0} (i : ℕ) (x : X) → At [] i x → ⊥
 at_none i x e = cc e
@@ -38,10 +40,7 @@ pub at_push : {X : Type 0} (xs : List X) (y : X) (i : ℕ) (x : X) → At (xs ++
 at_push [] y zero x e = inr (refl, sym (same_Some y x e))
 at_push [] y (suc i) x e = absurd (cc e)
 at_push (z ∷ xs) y zero x e = inl e
-at_push (z ∷ xs) y (suc i) x e = elim (at_push xs y i x e) [
-  | inl old ↦ inl old
-  | inr new ↦ inr (ap suc new.0, new.1)
-]
+at_push (z ∷ xs) y (suc i) x e = elim (at_push xs y i x e) [ inl old ↦ inl old | inr new ↦ inr (ap suc new.0, new.1) ]
 
 pub at_last : {X : Type 0} (xs : List X) (y : X) → At (xs ++ y ∷ []) (length xs) y
 at_last [] y = refl
@@ -65,9 +64,7 @@ at_map f (x ∷ xs) zero y e = (x, refl, sym (same_Some (f x) y e))
 at_map f (x ∷ xs) (suc i) y e = at_map f xs i y e
 
 pub at_mapped : {X Y : Type 0} (f : X → Y) (xs : List X) (i : ℕ) (x : X) → At xs i x → At (map f xs) i (f x)
-at_mapped f [] i x e = absurd (at_none i x e)
-at_mapped f (z ∷ xs) zero x e = ap (λ y. Some (f y)) (same_Some z x e)
-at_mapped f (z ∷ xs) (suc i) x e = at_mapped f xs i x e
+at_mapped f xs i x e = slice_get-map f xs i ∙ ap (option_map f) e
 
 pub has_kept : {X : Type 0} (xs ys : List X) (x : X) → Has xs x → Has (xs ++ ys) x
 has_kept xs ys x (i, e) = (i, at_kept xs ys i x e)
@@ -76,16 +73,10 @@ pub has_added : {X : Type 0} (xs ys : List X) (x : X) → Has ys x → Has (xs +
 has_added xs ys x (i, e) = (length xs + i, at_added xs ys i x e)
 
 pub has_append : {X : Type 0} (xs ys : List X) (x : X) → Has (xs ++ ys) x → Has xs x ⊎ Has ys x
-has_append xs ys x (i, e) = elim (at_append xs ys i x e) [
-  | inl old ↦ inl (i, old)
-  | inr new ↦ inr (new.0, new.2)
-]
+has_append xs ys x (i, e) = elim (at_append xs ys i x e) [ inl old ↦ inl (i, old) | inr new ↦ inr (new.0, new.2) ]
 
 pub has_push : {X : Type 0} (xs : List X) (y x : X) → Has (xs ++ y ∷ []) x → Has xs x ⊎ (x ≡ y)
-has_push xs y x (i, e) = elim (at_push xs y i x e) [
-  | inl old ↦ inl (i, old)
-  | inr new ↦ inr new.1
-]
+has_push xs y x (i, e) = elim (at_push xs y i x e) [ inl old ↦ inl (i, old) | inr new ↦ inr new.1 ]
 
 pub get_set_same : {X : Type 0} (xs : List X) (i : ℕ) (y : X) → i < length xs → slice_get (set xs i y) i ≡ Some y
 get_set_same xs i y h =

@@ -1,5 +1,5 @@
 -- The edges between units, one edge after the other.
-use Rattle.std.proofs.Common.{◌≡◌, ◌≢◌, inl, inr, refl, sym, subst, ◌∙◌, ap, arith, ℕ, ◌<◌, ◌≤◌, ◌+◌, ◌==◌, ◌&&◌, Bool, true, false, List, [], ◌∷◌, ◌++◌, length, take, drop, replicate, slice_index, slice_index_or}
+use Rattle.std.proofs.Common.{◌≡◌, ◌≢◌, inl, inr, refl, sym, subst, ◌∙◌, ap, arith, ℕ, ◌<◌, ◌≤◌, ◌+◌, ◌==◌, ◌&&◌, List, [], ◌∷◌, ◌++◌, length, take, drop, replicate, slice_index, slice_index_or}
 use Rattle.std.proofs.Math.ListN.{set}
 use Rattle.std.proofs.lemmas.Bool.{cases_eq, eq-eqb, ne_eqb}
 use Rattle.std.proofs.lemmas.List.{take_more, drop_more, get_or-set_same, get_or-set_other, get_or-replicate}
@@ -10,6 +10,7 @@ use Rattle.dp_units.specs.Rows.{waits_for}
 use Rattle.dp_units.specs.Leaders.{AreLeaders, AreBetween}
 use Rattle.dp_units.proofs.EnterLemmas.{pair_first, pair_second}
 use Rattle.dp_units.proofs.TakeLemmas.{edge_within}
+use Rattle.dp_units.proofs.CountLemmas.{left_of, at_most_one}
 
 module _ (edges : List (ℕ × ℕ)) (leader_of : List ℕ) (i : ℕ) (old new : List (ℕ × ℕ)) (f t : ℕ) (h : i < length edges) (is : slice_index_or edges i (0, 0) ≡ (f, t))
     (same : slice_index leader_of f ≡ slice_index leader_of t → new ≡ old)
@@ -87,11 +88,7 @@ module _ (n : ℕ) (edges : List (ℕ × ℕ)) (within : AreWithin n edges) (wai
       let both = within i (0, 0) h in
       let all : slice_index (replicate n n) edge.0 ≡ n = get_or-replicate n edge.0 n 0 both.0 in
       ap (λ (es : List (ℕ × ℕ)). waits_for n (replicate n n) es v) (drop_more edges i (0, 0) h)
-      ∙ ap (λ k. k + waits_for n (replicate n n) (drop (i + 1) edges) v) (one_of (edge.1 == v) (slice_index (replicate n n) edge.0 == n) (eq-eqb (slice_index (replicate n n) edge.0) n all))
-    where
-      one_of : (b c : Bool) → c ≡ true → one_if (b && c) ≡ one_if b
-      one_of true c e = ap one_if e
-      one_of false c e = refl
+      ∙ ap (λ k. k + waits_for n (replicate n n) (drop (i + 1) edges) v) (left_of (edge.1 == v) (slice_index (replicate n n) edge.0 == n) (eq-eqb (slice_index (replicate n n) edge.0) n all))
 
   pub target_low : edge.1 < n
   target_low = (within i (0, 0) h).1
@@ -121,10 +118,6 @@ module _ (n : ℕ) (edges : List (ℕ × ℕ)) (within : AreWithin n edges) (wai
       let most = at_most edges edge.1 in
       omega (arith, l, c, one, most)
     where
-      one_most : (b : Bool) → one_if b ≤ 1
-      one_most true = omega arith
-      one_most false = omega arith
-
       at_most : (es : List (ℕ × ℕ)) (v : ℕ) → waits_for n (replicate n n) es v ≤ length es
       at_most [] v = omega arith
-      at_most (e ∷ es) v = let rest = at_most es v in let one = one_most ((e.1 == v) && (slice_index (replicate n n) e.0 == n)) in omega (arith, rest, one)
+      at_most (e ∷ es) v = let rest = at_most es v in let one = at_most_one ((e.1 == v) && (slice_index (replicate n n) e.0 == n)) in omega (arith, rest, one)

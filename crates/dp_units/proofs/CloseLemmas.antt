@@ -34,10 +34,7 @@ closing_of marks now path bottom unit is = record {
   each = is.each;
   closed = λ i v low at. is.closed (i - bottom) v (at_dropped bottom path i v low at);
   kept = λ v m at none. is.kept v m at (λ i on. none (bottom + i) (omega arith) (at_drop bottom path i v on));
-  others = λ v m at. elim (is.others v m at) [
-    | inl old ↦ inl old
-    | inr (same, has) ↦ inr (same, bottom + has.0, omega arith, at_drop bottom path has.0 v has.1)
-  ];
+  others = λ v m at. elim (is.others v m at) [ inl old ↦ inl old | inr (same, has) ↦ inr (same, bottom + has.0, omega arith, at_drop bottom path has.0 v has.1) ];
 }
 
 pub least_of : (path : List ℕ) (bottom l : ℕ) → ((i v : ℕ) → At (drop bottom path) i v → l ≤ v) → (i v : ℕ) → bottom ≤ i → At path i v → l ≤ v
@@ -67,10 +64,7 @@ module _ (n : ℕ) (edges : List (ℕ × ℕ)) (ms now : List Mark) (path bs : L
   ]
 
   other_bottom : (b : ℕ) → b < t → Has bs' b → Has bs b
-  other_bottom b h has = elim (has_push bs t b has) [
-    | inl old ↦ old
-    | inr same ↦ absurd (omega (arith, same, h))
-  ]
+  other_bottom b h has = elim (has_push bs t b has) [ inl old ↦ old | inr same ↦ absurd (omega (arith, same, h)) ]
 
   -- what was marked as closed, or stands lower on the path, still is
   still : (v c : ℕ) → At ms v (Closed c) → At now v (Closed c)
@@ -83,10 +77,7 @@ module _ (n : ℕ) (edges : List (ℕ × ℕ)) (ms now : List Mark) (path bs : L
 
   -- a closed node was closed, or is of the new unit
   closed_cases : (c v : ℕ) → At now v (Closed c) → At ms v (Closed c) ⊎ ((c ≡ length ls) × (i : ℕ) × (t ≤ i) × At path i v)
-  closed_cases c v at = elim (closing.others v (Closed c) at) [
-    | inl old ↦ inl old
-    | inr (same, i, low, on) ↦ inr (same_unit c (length ls) same, i, low, on)
-  ]
+  closed_cases c v at = elim (closing.others v (Closed c) at) [ inl old ↦ inl old | inr (same, i, low, on) ↦ inr (same_unit c (length ls) same, i, low, on) ]
 
   number : (c v : ℕ) → At ms v (Closed c) → c < length ls
   number c v at = let led = is.led c v at in at_within ls c led.0 led.1
@@ -114,10 +105,7 @@ module _ (n : ℕ) (edges : List (ℕ × ℕ)) (ms now : List Mark) (path bs : L
     onward = λ i j a b h ati atj. is.way.onward i j a b h (at_take t path i a ati).1 (at_take t path j b atj).1;
     back = λ i a b ati atb.
         let at = at_take t path (i + 1) a ati in
-        elim (is.way.back i a b at.1 (at_take t path i b atb).1) [
-          | inl bottom ↦ inl (other_bottom (i + 1) at.0 bottom)
-          | inr walk ↦ inr walk
-        ];
+        elim (is.way.back i a b at.1 (at_take t path i b atb).1) [ inl bottom ↦ inl (other_bottom (i + 1) at.0 bottom) | inr walk ↦ inr walk ];
     rising = λ i j a b h ati atj. is.way.rising i j a b h (at_kept bs (t ∷ []) i a ati) (at_kept bs (t ∷ []) j b atj);
     low = λ b has. let h = below b has in omega (arith, h, short);
     first = λ h. other_bottom 0 (omega (arith, h, short)) (is.way.first (omega (arith, inside)));
@@ -169,7 +157,4 @@ module _ (n : ℕ) (edges : List (ℕ × ℕ)) (ms now : List Mark) (path bs : L
   }
 
   pub unseen_still : (v : ℕ) → IsUnseen now v → IsUnseen ms v
-  unseen_still v at = elim (closing.others v Unseen at) [
-    | inl old ↦ old
-    | inr (new, j, high, on) ↦ absurd (unseen_closed (length ls) new)
-  ]
+  unseen_still v at = elim (closing.others v Unseen at) [ inl old ↦ old | inr (new, j, high, on) ↦ absurd (unseen_closed (length ls) new) ]

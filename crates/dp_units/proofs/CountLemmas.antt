@@ -7,7 +7,7 @@ use Rattle.dp_units.specs.Graph.{HasEdge}
 use Rattle.dp_units.specs.Rows.{targets, waits_for}
 use Rattle.dp_units.specs.Taking.{left_over}
 
-at_most_one : (b : Bool) → one_if b ≤ 1
+pub at_most_one : (b : Bool) → one_if b ≤ 1
 at_most_one true = omega arith
 at_most_one false = omega arith
 
@@ -86,15 +86,7 @@ some_waits n places (e ∷ edges) x some = elim (one_by (e.1 == x) (slice_index 
       (rest.0, later_edge e edges rest.0 x rest.1, rest.2)
 ]
 
-if_true : {X : Type 0} (t : Bool) (x y : X) → t ≡ true → (if t then x else y) ≡ x
-if_true true x y e = refl
-if_true false x y e = absurd (cc e)
-
-if_false : {X : Type 0} (t : Bool) (x y : X) → t ≡ false → (if t then x else y) ≡ y
-if_false false x y e = refl
-if_false true x y e = absurd (cc e)
-
-left_of : (b c : Bool) → c ≡ true → one_if (b && c) ≡ one_if b
+pub left_of : (b c : Bool) → c ≡ true → one_if (b && c) ≡ one_if b
 left_of true c e = ap one_if e
 left_of false c e = refl
 
@@ -110,7 +102,7 @@ fewer_wait n places now l was is others (e ∷ edges) x =
     let rest = fewer_wait n places now l was is others edges x in
     elim (cases_eq e.0 l) [
       | inl same ↦
-          let row : targets (e ∷ edges) l ≡ e.1 ∷ targets edges l = if_true (e.0 == l) (e.1 ∷ targets edges l) (targets edges l) (eq-eqb e.0 l same) in
+          let row : targets (e ∷ edges) l ≡ e.1 ∷ targets edges l = ap (λ t. if t then e.1 ∷ targets edges l else targets edges l) (eq-eqb e.0 l same) in
           let count : times (targets (e ∷ edges) l) x ≡ one_if (e.1 == x) + times (targets edges l) x = ap (λ (ys : List ℕ). times ys x) row in
           let before : one_if ((e.1 == x) && (slice_index places e.0 == n)) ≡ one_if (e.1 == x) =
           left_of (e.1 == x) (slice_index places e.0 == n) (eq-eqb (slice_index places e.0) n (ap (λ k. slice_index places k) same ∙ was)) in
@@ -118,7 +110,7 @@ fewer_wait n places now l was is others (e ∷ edges) x =
           gone (e.1 == x) (slice_index now e.0 == n) (ne_eqb (slice_index now e.0) n (λ h. is (ap (λ k. slice_index now k) (sym same) ∙ h))) in
           omega (arith, rest, count, before, after)
       | inr other ↦
-          let row : targets (e ∷ edges) l ≡ targets edges l = if_false (e.0 == l) (e.1 ∷ targets edges l) (targets edges l) (ne_eqb e.0 l other) in
+          let row : targets (e ∷ edges) l ≡ targets edges l = ap (λ t. if t then e.1 ∷ targets edges l else targets edges l) (ne_eqb e.0 l other) in
           let count : times (targets (e ∷ edges) l) x ≡ times (targets edges l) x = ap (λ (ys : List ℕ). times ys x) row in
           let kept : one_if ((e.1 == x) && (slice_index now e.0 == n)) ≡ one_if ((e.1 == x) && (slice_index places e.0 == n)) =
           ap (λ k. one_if ((e.1 == x) && (k == n))) (others e.0 other) in
@@ -130,7 +122,7 @@ pub edge_of : (edges : List (ℕ × ℕ)) (l x : ℕ) → times (targets edges l
 edge_of [] l x some = absurd (some refl)
 edge_of (e ∷ edges) l x some = elim (cases_eq e.0 l) [
   | inl same ↦
-      let row : targets (e ∷ edges) l ≡ e.1 ∷ targets edges l = if_true (e.0 == l) (e.1 ∷ targets edges l) (targets edges l) (eq-eqb e.0 l same) in
+      let row : targets (e ∷ edges) l ≡ e.1 ∷ targets edges l = ap (λ t. if t then e.1 ∷ targets edges l else targets edges l) (eq-eqb e.0 l same) in
       let count : times (targets (e ∷ edges) l) x ≡ one_if (e.1 == x) + times (targets edges l) x = ap (λ (ys : List ℕ). times ys x) row in
       elim (cases_eq e.1 x) [
         | inl to ↦ subst (λ y. HasEdge (e ∷ edges) l y) to (subst (λ k. HasEdge (e ∷ edges) k e.1) same (first_edge edges e.0 e.1))
@@ -139,7 +131,7 @@ edge_of (e ∷ edges) l x some = elim (cases_eq e.0 l) [
             later_edge e edges l x (edge_of edges l x (λ zero. some (omega (arith, zero, none, count))))
       ]
   | inr other ↦
-      let row : targets (e ∷ edges) l ≡ targets edges l = if_false (e.0 == l) (e.1 ∷ targets edges l) (targets edges l) (ne_eqb e.0 l other) in
+      let row : targets (e ∷ edges) l ≡ targets edges l = ap (λ t. if t then e.1 ∷ targets edges l else targets edges l) (ne_eqb e.0 l other) in
       let count : times (targets (e ∷ edges) l) x ≡ times (targets edges l) x = ap (λ (ys : List ℕ). times ys x) row in
       later_edge e edges l x (edge_of edges l x (λ zero. some (omega (arith, zero, count))))
 ]

@@ -50,10 +50,7 @@ module _ (n : ℕ) (edges : List (ℕ × ℕ)) (leader_of : List ℕ) (between :
     all_placed v h = all_placed_by leads.highest v h (omega arith)
 
     pub is_order : IsOrder n edges order
-    is_order = record {
-      next = is.next;
-      all = λ v h. is_taken n edges leader_of between within leads apart places order waits [] is v h (all_placed v h);
-    }
+    is_order = record { next = is.next; all = λ v h. is_taken n edges leader_of between within leads apart places order waits [] is v h (all_placed v h) }
 
     pub are_places : (place_of : List ℕ) → length place_of ≡ n → ((v : ℕ) → v < n → slice_index place_of v ≡ slice_index places (lead v)) → ArePlaces n edges order place_of
     are_places place_of each made = record {

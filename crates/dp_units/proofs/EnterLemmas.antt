@@ -5,7 +5,7 @@ use Rattle.dp_units.specs.Entries.{At, Has, Rises}
 use Rattle.dp_units.specs.declared.mark.Mark.{Mark}
 use Rattle.dp_units.specs.declared.mark.Mark.TheVariants.{Unseen, OnPath, Closed}
 use Rattle.dp_units.specs.Graph.{Walk, HasEdge}
-use Rattle.dp_units.specs.Search.{IsSearch, IsSettled, IsUnseen}
+use Rattle.dp_units.specs.Search.{IsPath, IsSearch, IsSettled, IsUnseen}
 use Rattle.dp_units.proofs.AtLemmas.{at_within, at_one, at_push, at_last, at_kept, at_append, at_map, at_mapped, at_set, at_unset, get_set_same, has_kept, has_added, has_append, has_push}
 use Rattle.dp_units.proofs.PathLemmas.{longer, joined}
 
@@ -67,10 +67,7 @@ module _ (n : ℕ) (edges : List (ℕ × ℕ)) (ms : List Mark) (path bs : List 
     still_settled i w h (inr (j, at, low)) = inr (
       j,
       still w (OnPath j) (unseen_on_path j) at,
-      λ b has le. elim (has_push bs (length path) b has) [
-        | inl old ↦ low b old le
-        | inr new ↦ absurd (omega (arith, h, le, new))
-      ],
+      λ b has le. elim (has_push bs (length path) b has) [ inl old ↦ low b old le | inr new ↦ absurd (omega (arith, h, le, new)) ],
     )
 
     waits_more : (i w : ℕ) → Has more (i, w) → Has ws (i, w) ⊎ ((i ≡ length path) × Has row w)
@@ -126,33 +123,34 @@ module _ (n : ℕ) (edges : List (ℕ × ℕ)) (ms : List Mark) (path bs : List 
     }
 
     pub unseen_before : (u : ℕ) → IsUnseen now u → IsUnseen ms u
-    unseen_before u at = elim (at_set ms v (OnPath (length path)) u Unseen long at) [
-      | inl new ↦ absurd (unseen_on_path (length path) new.1)
-      | inr old ↦ old.1
-    ]
+    unseen_before u at = elim (at_set ms v (OnPath (length path)) u Unseen long at) [ inl new ↦ absurd (unseen_on_path (length path) new.1) | inr old ↦ old.1 ]
+
+  -- fewer groups, of which each began before
+  pub regrouped : (kept : List ℕ) → IsPath edges path kept → ((b : ℕ) → Has kept b → Has bs b) → IsSearch n edges ms path kept ws ls
+  regrouped kept way old = record {
+    each = is.each;
+    placed = is.placed;
+    marked = is.marked;
+    way = way;
+    waits = is.waits;
+    sorted = is.sorted;
+    looked = λ i u x atu edge. elim (is.looked i u x atu edge) [
+      | inl (inl closed) ↦ inl (inl closed)
+      | inl (inr (k, on, low)) ↦ inl (inr (k, on, λ b has le. low b (old b has) le))
+      | inr waits ↦ inr waits
+    ];
+    closed = is.closed;
+    unit = is.unit;
+    led = is.led;
+    leads = is.leads;
+  }
 
   -- the groups down to place j grow together
   pub grown : (t : ℕ) → ((b : ℕ) → Has bs b → b ≤ t) → (p j w : ℕ) → t ≤ p → Has ws (p, w) → At ms w (OnPath j) →
       (kept : List ℕ) → Rises kept → ((b : ℕ) → Has kept b → Has bs b) → ((b : ℕ) → Has bs b → b ≤ j → Has kept b) → IsSearch n edges ms path kept ws ls
   grown t top p j w low wait at kept rises old lower =
       let from = is.waits p w wait in
-      record {
-        each = is.each;
-        placed = is.placed;
-        marked = is.marked;
-        way = joined edges path bs is.way t top p j from.0 w low from.1 (is.placed w j at) from.2 kept rises old lower;
-        waits = is.waits;
-        sorted = is.sorted;
-        looked = λ i u x atu edge. elim (is.looked i u x atu edge) [
-          | inl (inl closed) ↦ inl (inl closed)
-          | inl (inr (k, on, low)) ↦ inl (inr (k, on, λ b has le. low b (old b has) le))
-          | inr waits ↦ inr waits
-        ];
-        closed = is.closed;
-        unit = is.unit;
-        led = is.led;
-        leads = is.leads;
-      }
+      regrouped kept (joined edges path bs is.way t top p j from.0 w low from.1 (is.placed w j at) from.2 kept rises old lower) old
 
 -- a settled edge needs to wait no longer
 pub settled : (n : ℕ) (edges : List (ℕ × ℕ)) (ms : List Mark) (path bs : List ℕ) (ws : List (ℕ × ℕ)) (ls : List ℕ) (p w : ℕ) →

@@ -20,24 +20,15 @@ has_later : (k x : ℕ) (ks : List ℕ) → Has ks x → Has (k ∷ ks) x
 has_later k x ks (i, e) = (suc i, e)
 
 pub insert_from : (ks : List ℕ) (k x : ℕ) → Has (insert_key nat_cmp ks k) x → Has ks x ⊎ (x ≡ k)
-insert_from [] k x has = elim (has_first k x [] has) [
-  | inl same ↦ inr same
-  | inr none ↦ inl none
-]
+insert_from [] k x has = elim (has_first k x [] has) [ inl same ↦ inr same | inr none ↦ inl none ]
 insert_from (y ∷ ys) k x has = by (nat_cmp k y) has (insert_from ys k x)
   where
     by : (o : Ordering) → Has (match_ordering o (k ∷ y ∷ ys) (y ∷ ys) (y ∷ insert_key nat_cmp ys k)) x → (Has (insert_key nat_cmp ys k) x → Has ys x ⊎ (x ≡ k)) → Has (y ∷ ys) x ⊎ (x ≡ k)
-    by Less has rest = elim (has_first k x (y ∷ ys) has) [
-      | inl same ↦ inr same
-      | inr old ↦ inl old
-    ]
+    by Less has rest = elim (has_first k x (y ∷ ys) has) [ inl same ↦ inr same | inr old ↦ inl old ]
     by Equal has rest = inl has
     by Greater has rest = elim (has_first y x (insert_key nat_cmp ys k) has) [
       | inl same ↦ inl (0, ap Some (sym same))
-      | inr later ↦ elim (rest later) [
-        | inl old ↦ inl (has_later y x ys old)
-        | inr same ↦ inr same
-      ]
+      | inr later ↦ elim (rest later) [ inl old ↦ inl (has_later y x ys old) | inr same ↦ inr same ]
     ]
 
 pub insert_kept : (ks : List ℕ) (k x : ℕ) → Has ks x → Has (insert_key nat_cmp ks k) x
@@ -47,10 +38,7 @@ insert_kept (y ∷ ys) k x has = by (nat_cmp k y) has (insert_kept ys k x)
     by : (o : Ordering) → Has (y ∷ ys) x → (Has ys x → Has (insert_key nat_cmp ys k) x) → Has (match_ordering o (k ∷ y ∷ ys) (y ∷ ys) (y ∷ insert_key nat_cmp ys k)) x
     by Less has rest = has_later k x (y ∷ ys) has
     by Equal has rest = has
-    by Greater has rest = elim (has_first y x ys has) [
-      | inl same ↦ (0, ap Some (sym same))
-      | inr later ↦ has_later y x (insert_key nat_cmp ys k) (rest later)
-    ]
+    by Greater has rest = elim (has_first y x ys has) [ inl same ↦ (0, ap Some (sym same)) | inr later ↦ has_later y x (insert_key nat_cmp ys k) (rest later) ]
 
 pub insert_added : (ks : List ℕ) (k : ℕ) → Has (insert_key nat_cmp ks k) k
 insert_added [] k = (0, refl)

@@ -1,5 +1,5 @@
 -- Each step of a search keeps what it knows, and leaves less to do.
-use Rattle.std.proofs.Common.{◌≡◌, ◌≢◌, inl, inr, refl, sym, subst, ◌∙◌, ap, arith, ℕ, zero, suc, ◌<◌, ◌≤◌, ◌+◌, ◌-◌, List, [], ◌∷◌, ◌++◌, length, take, drop, Vec, slice_index_or}
+use Rattle.std.proofs.Common.{◌≡◌, ◌≢◌, inl, inr, refl, sym, subst, ◌∙◌, ap, arith, ℕ, ◌<◌, ◌≤◌, ◌+◌, ◌-◌, List, [], ◌∷◌, ◌++◌, length, take, drop, Vec, slice_index_or}
 use Rattle.std.proofs.Math.ListN.{set}
 use Rattle.std.specs.declared.alloc.Global.{Global}
 use Rattle.std.proofs.lemmas.Bool.{cases_eq}
@@ -14,9 +14,9 @@ use Rattle.dp_units.specs.Graph.Walk.{along}
 use Rattle.dp_units.specs.Rows.{targets, IsGraph}
 use Rattle.dp_units.specs.Search.{IsSearch, IsSettled, IsUnseen, IsMarked}
 use Rattle.dp_units.specs.Steps.{edges_from, rows_left, IsGoing, IsLastGroup, LeadsOn, IsDone, HasEntered, HasJoined, HasGone}
-use Rattle.dp_units.proofs.AtLemmas.{at_within, at_one, at_none, at_push, at_last, get_set_same}
+use Rattle.dp_units.proofs.AtLemmas.{at_within, at_one, at_none, at_push, at_last, get_set_same, some_at}
 use Rattle.dp_units.proofs.PathLemmas.{to_last}
-use Rattle.dp_units.proofs.EnterLemmas.{entered, unseen_before, grown, settled, unseen_on_path}
+use Rattle.dp_units.proofs.EnterLemmas.{entered, unseen_before, regrouped, grown, settled, unseen_on_path}
 use Rattle.dp_units.proofs.CloseLemmas.{closed_group, unseen_still, closing_of, least_of, member_of}
 use Rattle.dp_units.proofs.TakeLemmas.{edge_within}
 use Rattle.dp_units.proofs.RowLemmas.{in_row, edge_in_row, rows_fewer, rows_no_more}
@@ -117,32 +117,13 @@ module _ (edges : List (ℕ × ℕ)) (rows : List (Vec ℕ Global)) (graph : IsG
       )
         where
           grown_none : HasJoined (Closed c) s.bottoms.items s'.bottoms.items → IsSearch (length rows) edges s.marks.items s.path.items s'.bottoms.items s.waiting.items s.leaders.items
-          grown_none joined = record {
-            each = is.each;
-            placed = is.placed;
-            marked = is.marked;
-            way = record {
-              onward = is.way.onward;
-              back = λ i a b ati atb. elim (is.way.back i a b ati atb) [
-                | inl has ↦ inl (joined.all (i + 1) has (λ k e. absurd (cc e)))
-                | inr walk ↦ inr walk
-              ];
-              rising = joined.rising;
-              low = λ b has. is.way.low b (joined.kept b has);
-              first = λ h. joined.all 0 (is.way.first h) (λ k e. absurd (cc e));
-            };
-            waits = is.waits;
-            sorted = is.sorted;
-            looked = λ i u x atu edge. elim (is.looked i u x atu edge) [
-              | inl (inl closed) ↦ inl (inl closed)
-              | inl (inr (k, on, low)) ↦ inl (inr (k, on, λ b has le. low b (joined.kept b has) le))
-              | inr waits ↦ inr waits
-            ];
-            closed = is.closed;
-            unit = is.unit;
-            led = is.led;
-            leads = is.leads;
-          }
+          grown_none joined = regrouped (length rows) edges s.marks.items s.path.items s.bottoms.items s.waiting.items s.leaders.items is s'.bottoms.items (record {
+            onward = is.way.onward;
+            back = λ i a b ati atb. elim (is.way.back i a b ati atb) [ inl has ↦ inl (joined.all (i + 1) has (λ k e. absurd (cc e))) | inr walk ↦ inr walk ];
+            rising = joined.rising;
+            low = λ b has. is.way.low b (joined.kept b has);
+            first = λ h. joined.all 0 (is.way.first h) (λ k e. absurd (cc e));
+          }) joined.kept
 
   pub group_inside : (bottom : ℕ) → IsLastGroup s bottom → bottom < length s.path.items
   group_inside bottom last =
@@ -157,17 +138,12 @@ module _ (edges : List (ℕ × ℕ)) (rows : List (Vec ℕ Global)) (graph : IsG
   none_waits bottom done i w (k, at) =
       let h : k < length s.waiting.items = at_within s.waiting.items k (i, w) at in
       let end = length s.waiting.items - 1 in
-      let last = some_pair s.waiting.items end (omega (arith, h)) in
-      let low = done last.0 last.1 last.2 in
+      let last = some_at s.waiting.items end (omega (arith, h)) in
+      let low = done last.0.0 last.0.1 last.1 in
       elim (cases_eq k end) [
         | inl same ↦ done i w (subst (λ j. At s.waiting.items j (i, w)) same at)
-        | inr ne ↦ let le = is.sorted k end i last.0 w last.1 (omega (arith, h, ne)) at last.2 in omega (arith, le, low)
+        | inr ne ↦ let le = is.sorted k end i last.0.0 w last.0.1 (omega (arith, h, ne)) at last.1 in omega (arith, le, low)
       ]
-    where
-      some_pair : (xs : List (ℕ × ℕ)) (i : ℕ) → i < length xs → (a : ℕ) × (b : ℕ) × At xs i (a, b)
-      some_pair [] i h = absurd (omega (arith, h))
-      some_pair (x ∷ xs) zero h = (x.0, x.1, refl)
-      some_pair (x ∷ xs) (suc i) h = some_pair xs i (omega (arith, h))
 
   -- the last group is closed
   pub closed_on : (bottom l : ℕ) (s' : Search) → IsLastGroup s bottom → IsDone s bottom → IsMarked s.marks.items s'.marks.items (drop bottom s.path.items) (length s.leaders.items) →

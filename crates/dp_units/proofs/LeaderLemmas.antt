@@ -1,5 +1,5 @@
 -- Where the search has closed all nodes, the leaders that it found are those of the units.
-use Rattle.std.proofs.Common.{◌≡◌, inl, inr, refl, sym, subst, ◌∙◌, ap, arith, ℕ, zero, suc, ◌<◌, ◌≤◌, ◌+◌, List, [], ◌∷◌, ◌++◌, length, Option, Some, None, slice_get, slice_index, Result, Ok, Err, IfOk}
+use Rattle.std.proofs.Common.{◌≡◌, inl, inr, refl, sym, subst, ◌∙◌, ap, arith, ℕ, ◌<◌, ◌≤◌, ◌+◌, List, [], ◌∷◌, ◌++◌, length, Option, Some, None, slice_get, slice_index, Result, Ok, Err, IfOk}
 use Rattle.std.proofs.lemmas.Bool.{cases_eq}
 use Rattle.std.proofs.lemmas.List.{get_or_push, get_or_append_left}
 use Rattle.dp_units.specs.Entries.{At}
@@ -9,14 +9,9 @@ use Rattle.dp_units.specs.Graph.{Walk, AreWithin}
 use Rattle.dp_units.specs.Graph.Walk.{stay, along}
 use Rattle.dp_units.specs.Search.{IsSearch, IsUnseen}
 use Rattle.dp_units.specs.Leaders.{AreLeaders}
-use Rattle.dp_units.proofs.AtLemmas.{at_within, at_one, at_none}
+use Rattle.dp_units.proofs.AtLemmas.{at_within, at_one, at_none, some_at}
 use Rattle.dp_units.proofs.EnterLemmas.{same_unit}
 use Rattle.dp_units.proofs.TakeLemmas.{edge_within}
-
-mark_at : (ms : List Mark) (v : ℕ) → v < length ms → (m : Mark) × At ms v m
-mark_at [] v h = absurd (omega (arith, h))
-mark_at (m ∷ ms) zero h = (m, refl)
-mark_at (m ∷ ms) (suc v) h = mark_at ms v (omega (arith, h))
 
 abbrev number_of : Option Mark → ℕ
 number_of None = 0
@@ -27,7 +22,7 @@ number_of (Some (Closed c)) = c
 module _ (n : ℕ) (edges : List (ℕ × ℕ)) (within : AreWithin n edges) (ms : List Mark) (bs : List ℕ) (ws : List (ℕ × ℕ)) (ls : List ℕ)
     (is : IsSearch n edges ms [] bs ws ls) (met : (v : ℕ) → v < n → IsUnseen ms v → ⊥) where
   pub closed_at : (v : ℕ) → v < n → (c : ℕ) × At ms v (Closed c)
-  closed_at v h = let at = mark_at ms v (subst (λ k. v < k) (sym is.each) h) in by at.0 at.1
+  closed_at v h = let at = some_at ms v (subst (λ k. v < k) (sym is.each) h) in by at.0 at.1
     where
       by : (m : Mark) → At ms v m → (c : ℕ) × At ms v (Closed c)
       by Unseen at = absurd (met v h at)

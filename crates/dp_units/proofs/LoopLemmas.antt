@@ -37,10 +37,7 @@ marked_more marks now nodes i unit h low is =
           (is.kept v m at (λ k on. none k (at_kept (take i nodes) (node ∷ []) k v on)));
       others = λ v m at. elim (at_set now node (Closed unit) v m long at) [
         | inl new ↦ inr (new.1, (length (take i nodes), subst (λ x. At (take i nodes ++ node ∷ []) (length (take i nodes)) x) (sym new.0) (at_last (take i nodes) node)))
-        | inr old ↦ elim (is.others v m old.1) [
-          | inl was ↦ inl was
-          | inr (same, has) ↦ inr (same, has_kept (take i nodes) (node ∷ []) v has)
-        ]
+        | inr old ↦ elim (is.others v m old.1) [ inl was ↦ inl was | inr (same, has) ↦ inr (same, has_kept (take i nodes) (node ∷ []) v has) ]
       ];
     })
 

@@ -1,5 +1,5 @@
 -- A turn of the loop that takes the units.
-use Rattle.std.proofs.Common.{◌≡◌, ◌≢◌, ◌⊎◌, inl, inr, refl, sym, subst, ◌∙◌, ap, arith, ℕ, suc, ◌<◌, ◌≤◌, ◌+◌, List, [], ◌∷◌, ◌++◌, length, take, drop, Vec, All, slice_get, slice_index, slice_index_or}
+use Rattle.std.proofs.Common.{◌≡◌, ◌≢◌, ◌⊎◌, inl, inr, refl, sym, subst, ◌∙◌, ap, arith, ℕ, suc, ◌<◌, ◌≤◌, ◌+◌, List, [], ◌∷◌, ◌++◌, length, take, drop, Vec, All, slice_get, slice_index, slice_index_or, true, false}
 use Rattle.std.proofs.Math.ListN.{set}
 use Rattle.std.specs.declared.alloc.Global.{Global}
 use Rattle.std.specs.Ordering.{nat_cmp}
@@ -16,7 +16,7 @@ use Rattle.dp_units.proofs.LoopLemmas.{item_at}
 use Rattle.dp_units.proofs.FreeLemmas.{has_first}
 use Rattle.dp_units.proofs.RowLemmas.{in_row}
 use Rattle.dp_units.proofs.TakeLemmas.{edge_within}
-use Rattle.dp_units.proofs.StepLemmas.{counted, taken, left_falls, has_room}
+use Rattle.dp_units.proofs.StepLemmas.{counted, taken, fewer, has_room}
 
 -- the items of a vector are written anew, as many as there were
 pub whole_written : {X : Type 0} (now was : List X) (n : ℕ) → length now ≡ length was → n ≡ length was → take n (now ++ drop (length now) was) ≡ now
@@ -31,9 +31,12 @@ all_above k ks all x (i, at) =
     below : (x y : ℕ) → IsLtBy nat_cmp x y → x < y
     below x y lt = grind (arith, common_steps, lt)
 
-module _ (n : ℕ) (edges : List (ℕ × ℕ)) (leader_of : List ℕ) (between : List (ℕ × ℕ)) (within : AreWithin n edges) (leads : AreLeaders n edges leader_of) (apart : AreBetween edges leader_of between)
-    (rows : List (Vec ℕ Global)) (graph : IsGraph between rows) (long : length rows ≡ n)
-    (places order waits free : List ℕ) (is : IsTaking n edges leader_of between places order waits free) (l : ℕ) (rest : List ℕ) (removal : free ≡ l ∷ rest) where
+module _ {n : ℕ} {edges : List (ℕ × ℕ)} {leader_of : List ℕ} {between : List (ℕ × ℕ)} (within : AreWithin n edges) (leads : AreLeaders n edges leader_of) (apart : AreBetween edges leader_of between)
+    {shown : List (ℕ × ℕ)} {rows : List (Vec ℕ Global)} (is_shown : shown ≡ between) (made : IsGraph shown rows) (long : length rows ≡ n)
+    {places order waits free : List ℕ} (is : IsTaking n edges leader_of between places order waits free) {l : ℕ} {rest : List ℕ} (removal : free ≡ l ∷ rest) where
+  graph : IsGraph between rows
+  graph = subst (λ (es : List (ℕ × ℕ)). IsGraph es rows) is_shown made
+
   may : MayBeTaken n leader_of between places l
   may = is.may l (0, ap (λ (ks : List ℕ). slice_get ks 0) removal)
 
@@ -65,10 +68,7 @@ module _ (n : ℕ) (edges : List (ℕ × ℕ)) (leader_of : List ℕ) (between :
       (λ x h. ap (λ (xs : List ℕ). slice_index waits' x + times xs x) (sym same) ∙ less x (subst (λ k. x < k) (sym is.wide) h))
       (λ x has. (subst (λ (ks : List ℕ). Has ks x) (sym removal) (has.0 + 1, on has.0 x has.1), all_above l rest above x has))
       (λ x has. has_first l x rest (subst (λ (ks : List ℕ). Has ks x) removal has))
-      (λ x has. elim (from x has) [
-        | inl old ↦ inl old
-        | inr (some, none) ↦ inr ((λ e. some (ap (λ (xs : List ℕ). times xs x) same ∙ e)), none)
-      ])
+      (λ x has. elim (from x has) [ inl old ↦ inl old | inr (some, none) ↦ inr ((λ e. some (ap (λ (xs : List ℕ). times xs x) same ∙ e)), none) ])
       kept
       (λ x some none. added x (λ e. some (ap (λ (xs : List ℕ). times xs x) (sym same) ∙ e)) none)
     where
@@ -76,8 +76,13 @@ module _ (n : ℕ) (edges : List (ℕ × ℕ)) (leader_of : List ℕ) (between :
       on i x at = let e : suc i ≡ i + 1 = omega arith in subst (λ k. At (l ∷ rest) k x) e at
 
   pub next_smaller : left_over n (set places l (length order)) < left_over n places
-  next_smaller = left_falls n edges leader_of between within leads apart places order waits free is l may
+  next_smaller = fewer n edges leader_of between within leads apart places order waits free is l may
 
-pub no_keys : (ks : List ℕ) → ¬ (0 < length ks) → ks ≡ []
+no_keys : (ks : List ℕ) → ((0 < length ks) → false ≡ true) → ks ≡ []
 no_keys [] none = refl
-no_keys (k ∷ ks) none = absurd (none (omega arith))
+no_keys (k ∷ ks) none = let bad : false ≡ true = none (omega arith) in absurd (cc bad)
+
+-- no leader is free any more
+pub none_free : {n : ℕ} {edges : List (ℕ × ℕ)} {leader_of : List ℕ} {between : List (ℕ × ℕ)} {places order waits free : List ℕ} → IsTaking n edges leader_of between places order waits free → ((0 < length free) → false ≡ true) →
+    IsTaking n edges leader_of between places order waits []
+none_free {n} {edges} {leader_of} {between} {places} {order} {waits} {free} is none = subst (λ (ks : List ℕ). IsTaking n edges leader_of between places order waits ks) (no_keys free none) is

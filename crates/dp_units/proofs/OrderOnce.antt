@@ -47,7 +47,7 @@ module _ (n : ℕ) (edges : List (ℕ × ℕ)) where
   ]
 
   -- a unit stands once in the order
-  not_again : (order : List ℕ) → IsOrder n edges order → (i j : ℕ) → i < j → j < length order → SameUnit edges (slice_index order i) (slice_index order j) → ⊥
+  pub not_again : (order : List ℕ) → IsOrder n edges order → (i j : ℕ) → i < j → j < length order → SameUnit edges (slice_index order i) (slice_index order j) → ⊥
   not_again order ordered i j less within same =
       let at : slice_index (take j order) i ≡ slice_index order i = get_or-take j order i 0 less in
       let size : i < length (take j order) = let count = length-take-le j order (omega (arith, within)) in omega (arith, count, less) in

@@ -1,29 +1,21 @@
 -- What stands on the path reaches what.
-use Rattle.std.proofs.Common.{◌≡◌, ◌≢◌, inl, inr, refl, sym, subst, arith, ℕ, zero, suc, ◌<◌, ◌≤◌, ◌+◌, List, [], ◌∷◌, ◌++◌, length}
+use Rattle.std.proofs.Common.{◌≡◌, ◌≢◌, inl, inr, sym, subst, arith, ℕ, zero, suc, ◌≤◌, ◌+◌, List, [], ◌∷◌, ◌++◌, length}
 use Rattle.std.proofs.lemmas.Bool.{cases_lt, cases_eq}
 use Rattle.std.proofs.lemmas.List.{length_push}
 use Rattle.dp_units.specs.Entries.{At, Has, Rises}
 use Rattle.dp_units.specs.Graph.{Walk, HasEdge}
 use Rattle.dp_units.specs.Graph.Walk.{stay, along}
 use Rattle.dp_units.specs.Search.{IsPath}
-use Rattle.dp_units.proofs.AtLemmas.{at_within, at_push, at_last, has_kept}
+use Rattle.dp_units.proofs.AtLemmas.{at_within, at_push, at_last, has_kept, some_at}
 
 pub walk_on : (edges : List (ℕ × ℕ)) {a b c : ℕ} → Walk edges a b → Walk edges b c → Walk edges a c
 walk_on edges first stay = first
 walk_on edges first (along {between = m} {to = t} before edge) = along (walk_on edges first before) edge
 
-some_at : (xs : List ℕ) (i : ℕ) → i < length xs → (x : ℕ) × At xs i x
-some_at [] i h = absurd (omega (arith, h))
-some_at (x ∷ xs) zero h = (x, refl)
-some_at (x ∷ xs) (suc i) h = some_at xs i (omega (arith, h))
-
 module _ (edges : List (ℕ × ℕ)) (path bottoms : List ℕ) (is : IsPath edges path bottoms) where
   -- within the last group each node reaches the earlier ones
   pub down : (t : ℕ) → ((b : ℕ) → Has bottoms b → b ≤ t) → (i j a b : ℕ) → t ≤ j → j ≤ i → At path i a → At path j b → Walk edges a b
-  down t top i j a b low h ati atj = elim (cases_eq i j) [
-    | inl same ↦ is.onward i j a b (omega (arith, same)) ati atj
-    | inr other ↦ step i other h ati
-  ]
+  down t top i j a b low h ati atj = elim (cases_eq i j) [ inl same ↦ is.onward i j a b (omega (arith, same)) ati atj | inr other ↦ step i other h ati ]
     where
       step : (i : ℕ) → i ≢ j → j ≤ i → At path i a → Walk edges a b
       step i other h ati = from i (omega (arith, other, h)) a ati
@@ -63,10 +55,7 @@ module _ (edges : List (ℕ × ℕ)) (path bottoms : List ℕ) (is : IsPath edge
     ];
     back = λ i a b ati atb. elim (at_push path v (i + 1) a ati) [
       | inl old ↦ elim (at_push path v i b atb) [
-        | inl was ↦ elim (is.back i a b old was) [
-          | inl bottom ↦ inl (has_kept bottoms (length path ∷ []) (i + 1) bottom)
-          | inr walk ↦ inr walk
-        ]
+        | inl was ↦ elim (is.back i a b old was) [ inl bottom ↦ inl (has_kept bottoms (length path ∷ []) (i + 1) bottom) | inr walk ↦ inr walk ]
         | inr new ↦ let w = at_within path (i + 1) a old in absurd (omega (arith, w, new.0))
       ]
       | inr new ↦ inl (length bottoms, subst (λ k. At (bottoms ++ length path ∷ []) (length bottoms) k) (sym new.0) (at_last bottoms (length path)))

@@ -1,23 +1,16 @@
 -- What an order of units says of the places of nodes.
-use Rattle.std.proofs.Common.{◌≡◌, inl, inr, refl, arith, ℕ, zero, suc, ◌<◌, ◌≤◌, List, [], ◌∷◌, length, take, slice_index, Contains}
+use Rattle.std.proofs.Common.{◌≡◌, inl, inr, sym, subst, arith, ℕ, ◌<◌, ◌≤◌, List, length, take, drop, slice_index, Contains}
 use Rattle.std.proofs.lemmas.Bool.{cases_lt}
+use Rattle.std.proofs.lemmas.List.{take-take, take-append-drop}
+use Rattle.std.proofs.lemmas.List.Elements.{Contains-append_left}
 use Rattle.dp_units.specs.Graph.{Walk, SameUnit}
 use Rattle.dp_units.specs.Order.{IsOrder, ArePlaces}
 use Rattle.dp_units.proofs.PathLemmas.{walk_on}
-
-in_front : (xs : List ℕ) (i j : ℕ) → i < j → i < length xs → Contains (take j xs) (slice_index xs i)
-in_front [] i j h l = absurd (omega (arith, l))
-in_front (x ∷ xs) i zero h l = absurd (omega (arith, h))
-in_front (x ∷ xs) zero (suc j) h l = (zero, omega arith, refl)
-in_front (x ∷ xs) (suc i) (suc j) h l = let r = in_front xs i j (omega (arith, h)) (omega (arith, l)) in (suc r.0, omega (arith, r.1), r.2)
+use Rattle.dp_units.proofs.OrderOnce.{not_again}
 
 more_taken : (xs : List ℕ) (x j k : ℕ) → j ≤ k → Contains (take j xs) x → Contains (take k xs) x
-more_taken [] x zero k h c = absurd (omega (arith, c.1))
-more_taken [] x (suc j) k h c = absurd (omega (arith, c.1))
-more_taken (y ∷ ys) x zero k h c = absurd (omega (arith, c.1))
-more_taken (y ∷ ys) x (suc j) zero h c = absurd (omega (arith, h))
-more_taken (y ∷ ys) x (suc j) (suc k) h (zero, lt, is) = (zero, omega arith, is)
-more_taken (y ∷ ys) x (suc j) (suc k) h (suc i, lt, is) = let r = more_taken ys x j k (omega (arith, h)) (i, omega (arith, lt), is) in (suc r.0, omega (arith, r.1), r.2)
+more_taken xs x j k h c = subst (λ (ys : List ℕ). Contains ys x) (take-append-drop j (take k xs))
+    (Contains-append_left (take j (take k xs)) (drop j (take k xs)) x (subst (λ (ys : List ℕ). Contains ys x) (sym (take-take j k xs h)) c))
 
 module _ (n : ℕ) (edges : List (ℕ × ℕ)) (order places : List ℕ) (ordered : IsOrder n edges order) (placed : ArePlaces n edges order places) where
   abbrev place : ℕ → ℕ
@@ -32,10 +25,6 @@ module _ (n : ℕ) (edges : List (ℕ × ℕ)) (order places : List ℕ) (ordere
   turned : {a b : ℕ} → SameUnit edges a b → SameUnit edges b a
   turned one = (one.1, one.0)
 
-  -- the unit at a place isn't that of an earlier one
-  not_before : (i k : ℕ) → i < k → k < length order → SameUnit edges (slice_index order i) (slice_index order k) → ⊥
-  not_before i k h l same = (ordered.next k l).free.left (slice_index order i, in_front order i k h (omega (arith, h, l)), same)
-
   -- along a walk the places don't fall
   pub along_walks : (a b : ℕ) → a < n → b < n → Walk edges a b → place a ≤ place b
   along_walks a b ha hb walk = elim (cases_lt (place b) (place a)) [
@@ -45,7 +34,7 @@ module _ (n : ℕ) (edges : List (ℕ × ℕ)) (order places : List ℕ) (ordere
         let lb : place b < length order = placed.within b hb in
         let to_leader : Walk edges a (leader b) = walk_on edges walk (placed.same b hb).1 in
         elim ((ordered.next (place b) lb).free.ready a to_leader) [
-          | inl same ↦ absurd (not_before (place b) (place a) below la (turned (joined (placed.same a ha) same)))
+          | inl same ↦ absurd (not_again n edges order ordered (place b) (place a) below la (turned (joined (placed.same a ha) same)))
           | inr taken ↦ absurd ((ordered.next (place a) la).free.left (taken.0, more_taken order taken.0 (place b) (place a) (omega (arith, below)) taken.1, joined taken.2 (turned (placed.same a ha))))
         ]
   ]
@@ -58,11 +47,8 @@ module _ (n : ℕ) (edges : List (ℕ × ℕ)) (order places : List ℕ) (ordere
       let there : place node < length order = placed.within node h in
       let same : SameUnit edges (leader node) node = placed.same node h in
       elim (cases_lt (place node) k) [
-        | inl below ↦ absurd (not_before (place node) k below l same)
-        | inr low ↦ elim (cases_lt k (place node)) [
-          | inl above ↦ absurd (not_before k (place node) above there (turned same))
-          | inr high ↦ omega (arith, low, high)
-        ]
+        | inl below ↦ absurd (not_again n edges order ordered (place node) k below l same)
+        | inr low ↦ elim (cases_lt k (place node)) [ inl above ↦ absurd (not_again n edges order ordered k (place node) above there (turned same)) | inr high ↦ omega (arith, low, high) ]
       ]
 
   -- the least node stands first where walks lead from it to all others

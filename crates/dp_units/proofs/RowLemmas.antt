@@ -58,8 +58,7 @@ rows_fewer (r ∷ rows) (Closed c ∷ marks) (suc v) i row at un = rows_fewer ro
 
 more_rows : (r : Vec ℕ Global) (rows : List (Vec ℕ Global)) (m : Mark) (marks : List Mark) → rows_left rows marks ≤ rows_left (r ∷ rows) (m ∷ marks)
 more_rows r rows Unseen marks = omega arith
-more_rows r rows (OnPath i) marks = omega arith
-more_rows r rows (Closed c) marks = omega arith
+more_rows r rows _ marks = omega arith
 
 -- what is met stays so, and nothing comes to what is left
 pub rows_no_more : (rows : List (Vec ℕ Global)) (marks now : List Mark) → ((v : ℕ) → IsUnseen now v → IsUnseen marks v) → rows_left rows now ≤ rows_left rows marks
@@ -73,8 +72,7 @@ rows_no_more (r ∷ rows) [] (m ∷ now) back = let none = rows_no_more rows [] 
 
     first : (m : Mark) → (IsUnseen (m ∷ now) 0 → IsUnseen [] 0) → rows_left rows now ≤ rows_left rows [] → rows_left (r ∷ rows) (m ∷ now) ≤ 0
     first Unseen back low = absurd (at_none 0 Unseen (back refl))
-    first (OnPath i) back low = let e = nothing rows in omega (arith, low, e)
-    first (Closed c) back low = let e = nothing rows in omega (arith, low, e)
+    first _ back low = let e = nothing rows in omega (arith, low, e)
 rows_no_more (r ∷ rows) (k ∷ marks) (m ∷ now) back = let rest = rows_no_more rows marks now (λ v un. back (suc v) un) in first m (back 0) rest
   where
     first : (m : Mark) → (IsUnseen (m ∷ now) 0 → IsUnseen (k ∷ marks) 0) → rows_left rows now ≤ rows_left rows marks → rows_left (r ∷ rows) (m ∷ now) ≤ rows_left (r ∷ rows) (k ∷ marks)

@@ -53,10 +53,7 @@ module _ (n : ℕ) (edges : List (ℕ × ℕ)) (leader_of : List ℕ) (between :
 
     -- a place is the new one, or was given before
     place_cases : (v : ℕ) → slice_index places' v ≢ n → (v ≡ l) ⊎ ((v ≢ l) × (slice_index places v ≢ n) × (slice_index places' v ≡ slice_index places v))
-    place_cases v has = elim (cases_eq v l) [
-      | inl same ↦ inl same
-      | inr ne ↦ inr (ne, (λ e. has (other v ne ∙ e)), other v ne)
-    ]
+    place_cases v has = elim (cases_eq v l) [ inl same ↦ inl same | inr ne ↦ inr (ne, (λ e. has (other v ne ∙ e)), other v ne) ]
 
     next_now : ((x : ℕ) → Has free x → l ≤ x) → (k : ℕ) → k < length order' → IsNext n edges (take k order') (slice_index order' k)
     next_now least k h = elim (cases_eq k (length order)) [
@@ -72,12 +69,10 @@ module _ (n : ℕ) (edges : List (ℕ × ℕ)) (leader_of : List ℕ) (between :
           (subst (λ x. IsNext n edges (take k order) x) (sym (before_last k early)) (is.next k early))
     ]
 
-    fewer : left_over n places' < left_over n places
+    -- fewer nodes are left
+    pub fewer : left_over n places' < left_over n places
     fewer = left_over_lt n places places' l (length-set places l (length order))
-        (λ k h e. elim (cases_eq k l) [
-          | inl same ↦ ap (λ v. slice_index places v) same ∙ may.left
-          | inr ne ↦ sym (other k ne) ∙ e
-        ])
+        (λ k h e. elim (cases_eq k l) [ inl same ↦ ap (λ v. slice_index places v) same ∙ may.left | inr ne ↦ sym (other k ne) ∙ e ])
         inside may.left given_here
 
     pub taken : (waits' free' rest : List ℕ) → length waits' ≡ n → ((x : ℕ) → x < n → slice_index waits' x + times (targets between l) x ≡ slice_index waits x) →
@@ -93,12 +88,7 @@ module _ (n : ℕ) (edges : List (ℕ × ℕ)) (leader_of : List ℕ) (between :
         | inl old ↦
             let (was, high) = above x old in
             let before = is.may x was in
-            record {
-              within = before.within;
-              leader = before.leader;
-              left = other x (omega (arith, high)) ∙ before.left;
-              ready = still_none x before.ready;
-            }
+            record { within = before.within; leader = before.leader; left = other x (omega (arith, high)) ∙ before.left; ready = still_none x before.ready }
         | inr (some, none) ↦
             let (ne, a, b, edge, is_a, is_b) = apart.from l x (edge_of between l x some) in
             let (in_a, in_b) = edge_within n edges within a b edge in
@@ -168,11 +158,4 @@ module _ (n : ℕ) (edges : List (ℕ × ℕ)) (leader_of : List ℕ) (between :
         counts_now x h = let a = less x h in let b = is.counts x h in let c = counted x in omega (arith, a, b, c)
 
         still_given : (v : ℕ) → slice_index places v ≢ n → slice_index places' v ≢ n
-        still_given v has e = elim (cases_eq v l) [
-          | inl same ↦ has (ap (λ k. slice_index places k) same ∙ may.left)
-          | inr ne ↦ has (sym (other v ne) ∙ e)
-        ]
-
-    -- the longest order leaves the least number of nodes
-    pub left_falls : left_over n places' < left_over n places
-    left_falls = fewer
+        still_given v has e = elim (cases_eq v l) [ inl same ↦ has (ap (λ k. slice_index places k) same ∙ may.left) | inr ne ↦ has (sym (other v ne) ∙ e) ]

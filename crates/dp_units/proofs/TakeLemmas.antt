@@ -30,10 +30,7 @@ module _ (n : ℕ) (edges : List (ℕ × ℕ)) (leader_of : List ℕ) (between :
 
     -- a unit that an edge leads into from another
     crosses : (a b : ℕ) → HasEdge edges a b → (lead a ≡ lead b) ⊎ HasEdge between (lead a) (lead b)
-    crosses a b edge = elim (cases_eq (lead a) (lead b)) [
-      | inl same ↦ inl same
-      | inr other ↦ inr (apart.all a b edge other)
-    ]
+    crosses a b edge = elim (cases_eq (lead a) (lead b)) [ inl same ↦ inl same | inr other ↦ inr (apart.all a b edge other) ]
 
     -- what reaches a unit that waits for none is of it, or has its place
     before_ready : (x : ℕ) → waits_for n places between x ≡ 0 → ((a : ℕ) → (b : ℕ) → HasEdge edges a b → place (lead b) ≢ n → place (lead a) ≢ n) →
@@ -93,10 +90,7 @@ module _ (n : ℕ) (edges : List (ℕ × ℕ)) (leader_of : List ℕ) (between :
           let may' : MayBeTaken n leader_of between places (lead other) = record {
             within = low;
             leader = same;
-            left = elim (cases_eq (place (lead other)) n) [
-              | inl left ↦ left
-              | inr has ↦ absurd (free.left (is_taken other free.within has))
-            ];
+            left = elim (cases_eq (place (lead other)) n) [ inl left ↦ left | inr has ↦ absurd (free.left (is_taken other free.within has)) ];
             ready = elim (cases_eq (waits_for n places between (lead other)) 0) [
               | inl none ↦ none
               | inr some ↦

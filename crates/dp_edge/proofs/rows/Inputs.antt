@@ -16,32 +16,17 @@ read : numbers_of (codes "007 -3 -0\n10") ≡ Ok (pos 7 ∷ negsuc 2 ∷ pos 0 �
 read = refl
 
 -- the bytes right before `0` and right behind `9` are no digits
-before_the_digits : number_of (codes "1/") ≡ None
-before_the_digits = refl
+beside_the_digits : (number_of (codes "1/") ≡ None) × (number_of (codes "1:") ≡ None)
+beside_the_digits = (refl, refl)
 
-behind_the_digits : number_of (codes "1:") ≡ None
-behind_the_digits = refl
+greatest : (number_of (codes "9223372036854775807") ≡ Some (pos 9223372036854775807)) × (number_of (codes "9223372036854775808") ≡ None)
+greatest = (refl, refl)
 
-greatest : number_of (codes "9223372036854775807") ≡ Some (pos 9223372036854775807)
-greatest = refl
+least : (number_of (codes "-9223372036854775808") ≡ Some (negsuc 9223372036854775807)) × (number_of (codes "-9223372036854775809") ≡ None)
+least = (refl, refl)
 
-past_the_greatest : number_of (codes "9223372036854775808") ≡ None
-past_the_greatest = refl
-
-least : number_of (codes "-9223372036854775808") ≡ Some (negsuc 9223372036854775807)
-least = refl
-
-past_the_least : number_of (codes "-9223372036854775809") ≡ None
-past_the_least = refl
-
-sign_alone : number_of (codes "-") ≡ None
-sign_alone = refl
-
-two_signs : number_of (codes "--5") ≡ None
-two_signs = refl
-
-plus : number_of (codes "+5") ≡ None
-plus = refl
+signs : (number_of (codes "-") ≡ None) × (number_of (codes "--5") ≡ None) × (number_of (codes "+5") ≡ None)
+signs = (refl, refl, refl)
 
 -- the first of two faulty words is refused, at its place from 1
 second_word : numbers_of (codes "8 x 9 y") ≡ Err (Refused 2)
@@ -61,17 +46,11 @@ refused word wanted e = e
 twelve : digit_after 1 50 ≡ Some 12
 twelve = refl
 
-last_digit_that_fits : digit_after 1844674407370955161 53 ≡ Some 18446744073709551615
-last_digit_that_fits = refl
+last_digit : (digit_after 1844674407370955161 53 ≡ Some 18446744073709551615) × (digit_after 1844674407370955161 54 ≡ None)
+last_digit = (refl, refl)
 
-first_digit_too_many : digit_after 1844674407370955161 54 ≡ None
-first_digit_too_many = refl
-
-greatest_without_a_sign : magnitude_of (codes "18446744073709551615") ≡ Some 18446744073709551615
-greatest_without_a_sign = refl
-
-past_the_greatest_without_a_sign : magnitude_of (codes "18446744073709551616") ≡ None
-past_the_greatest_without_a_sign = refl
+greatest_without_a_sign : (magnitude_of (codes "18446744073709551615") ≡ Some 18446744073709551615) × (magnitude_of (codes "18446744073709551616") ≡ None)
+greatest_without_a_sign = (refl, refl)
 
 no_digit : magnitude_of [] ≡ None
 no_digit = refl

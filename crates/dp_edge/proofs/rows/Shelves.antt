@@ -18,26 +18,14 @@ stock = record { held = texts; failing = 1 ∷ 4 ∷ []; calls = 2; failed_names
 abbrev failing : Stock
 failing = record stock { calls = 3 }
 
-first_counts : next_answer stock (codes "a") 9 ≡ Ok (codes "first")
-first_counts = refl
+first_counts : (next_answer stock (codes "a") 9 ≡ Ok (codes "first")) × (next_answer stock (codes "b") 0 ≡ Ok [])
+first_counts = (refl, refl)
 
-fits_just : next_answer stock (codes "a") 5 ≡ Ok (codes "first")
-fits_just = refl
+fits_just : (next_answer stock (codes "a") 5 ≡ Ok (codes "first")) × (next_answer stock (codes "a") 4 ≡ Err TooLong)
+fits_just = (refl, refl)
 
-one_byte_too_many : next_answer stock (codes "a") 4 ≡ Err TooLong
-one_byte_too_many = refl
-
-empty_text : next_answer stock (codes "b") 0 ≡ Ok []
-empty_text = refl
-
-not_held : next_answer stock (codes "ab") 9 ≡ Err Failed
-not_held = refl
-
-not_held_either : next_answer stock [] 9 ≡ Err Failed
-not_held_either = refl
-
-fourth_call : next_answer failing (codes "a") 9 ≡ Err Failed
-fourth_call = refl
+not_held : (next_answer stock (codes "ab") 9 ≡ Err Failed) × (next_answer stock [] 9 ≡ Err Failed) × (next_answer failing (codes "a") 9 ≡ Err Failed)
+not_held = (refl, refl, refl)
 
 -- the number of a call stays at its greatest value
 last_call : next_answer (record stock { calls = 18446744073709551615; failing = 18446744073709551616 ∷ [] }) (codes "b") 0 ≡ Ok []

@@ -14,11 +14,9 @@ wide = record basin { left = None }
 abbrev after : Result ℕ PutFail → Basin
 after answer = after_put answer basin (codes "seven and nine")
 
-after_ok : after_put {X = ℕ} (Ok 1) basin (codes "seven") ≡ record basin { bytes = codes "oldseven"; left = Some 4 }
-after_ok = refl
-
-after_ok_without_a_limit : after_put {X = ℕ} (Ok 1) wide (codes "seven") ≡ record wide { bytes = codes "oldseven" }
-after_ok_without_a_limit = refl
+after_ok : (after_put {X = ℕ} (Ok 1) basin (codes "seven") ≡ record basin { bytes = codes "oldseven"; left = Some 4 })
+    × (after_put {X = ℕ} (Ok 1) wide (codes "seven") ≡ record wide { bytes = codes "oldseven" })
+after_ok = (refl, refl)
 
 -- a failed put takes what there is room for, and then nothing is left
 after_failed : after (Err Failed) ≡ record { bytes = codes "oldseven and"; left = Some 0; faults = 5 }
@@ -27,14 +25,8 @@ after_failed = refl
 after_no_memory : after (Err NoMemory) ≡ basin
 after_no_memory = refl
 
-fits_just : fits (Some 9) 9 ≡ true
-fits_just = refl
-
-one_too_many : fits (Some 9) 10 ≡ false
-one_too_many = refl
-
-never_too_many : fits None 10 ≡ true
-never_too_many = refl
+fits_so_many : (fits (Some 9) 9 ≡ true) × (fits (Some 9) 10 ≡ false) × (fits None 10 ≡ true)
+fits_so_many = (refl, refl, refl)
 
 -- ---- each answer that says something, written out
 
@@ -55,11 +47,8 @@ module _ (old new : ℕ) where
   no_fault_without_memory : FaultsAfterPut {X = ℕ} (Err NoMemory) old new → new ≡ old
   no_fault_without_memory e = e
 
-all_appended : appended (codes "seven") (Some (codes "old")) ≡ Some (codes "oldseven")
-all_appended = refl
-
-not_told : appended (codes "seven") None ≡ None
-not_told = refl
+all_appended : (appended (codes "seven") (Some (codes "old")) ≡ Some (codes "oldseven")) × (appended (codes "seven") None ≡ None)
+all_appended = (refl, refl)
 
 module _ (bytes : List ℕ) (old new : Option (List ℕ)) where
   all_put : Puts {X = ℕ} (Ok 1) bytes old new → new ≡ appended bytes old

@@ -5,7 +5,4 @@ use Rattle.dp_edge.proofs.file_shelf.take_all.Goals as goal
 
 pub turns-preserved : goal.turns-preserved
 turns-preserved g c =
-    let block = c.in_ok-take_block.ensures in
-    let old = c.turns.bytes.items in
-    let new = c.take_block.new.bytes.items in
-    (search rules, subst (Consumes _ _) (sym (starts_with_rest new old block.appends)) (Consumes-trans _ _ _ _ _ c.turns.invariant.1 block.bytes))
+    (search rules, subst (Consumes _ _) (sym (starts_with_rest _ _ c.in_ok-take_block.ensures.appends)) (Consumes-trans _ _ _ _ _ c.turns.invariant.1 c.in_ok-take_block.ensures.bytes))

@@ -5,8 +5,7 @@ use Rattle.dp_edge.proofs.file_shelf.take_block.Goals as goal
 
 pub returns-in-Ok-clause-bytes : goal.returns-in-Ok-clause-bytes
 returns-in-Ok-clause-bytes g c =
-    let filled = c.read_at.new.bytes in
-    let long : c.resize.new.self.len ≡ length filled = search rules in
-    let kept = c.truncate.ensures.items ∙ ap (take _) (written_whole c.resize.new.self.len filled _ long) in
-    let cut = appended_cut c.args.bytes.now.items filled c.truncate.new.self.items c.len-at.result c.in-Ok.n (search rules) kept in
+    let long : c.resize.new.self.len ≡ length c.read_at.new.bytes = search rules in
+    let kept = c.truncate.ensures.items ∙ ap (take _) (written_whole c.resize.new.self.len c.read_at.new.bytes _ long) in
+    let cut = appended_cut c.args.bytes.now.items c.read_at.new.bytes c.truncate.new.self.items c.len-at.result c.in-Ok.n (search rules) kept in
     subst (Consumes _ _) (sym cut) c.in-Ok.ensures.taken

@@ -11,9 +11,7 @@ moves_front all done rest n e =
 pub turns-preserved : goal.turns-preserved
 turns-preserved g c =
     let (done, split, appended) = c.turns.invariant in
-    let rest = c.turns.rest.now in
-    let n = c.in-Ok.n in
-    (done ++ take n rest, moves_front _ done rest n split, Appends-trans _ _ _ _ _ appended c.in-Ok.ensures.bytes)
+    (done ++ take c.in-Ok.n c.turns.rest.now, moves_front _ done c.turns.rest.now c.in-Ok.n split, Appends-trans _ _ _ _ _ appended c.in-Ok.ensures.bytes)
 
 pub returns-in_default-clause-err : goal.returns-in_default-clause-err
 returns-in_default-clause-err g c =

@@ -8,13 +8,12 @@ use Rattle.dp_units.proofs.between.entering.Goals as goal
 pub overflow_add-index_mut : goal.overflow_add-index_mut
 overflow_add-index_mut c =
     let edges : List (ℕ × ℕ) = c.args.edges.now in
-    let waits : List ℕ = c.loop-edge.waits.items in
     let i : ℕ = c.loop-edge.edge-index in
     let h : i < length edges = omega arith in
-    let room = room_for_one c.args.count edges c.requires waits i h c.loop-edge.invariant.each c.loop-edge.invariant.counts in
-    let low = target_low c.args.count edges c.requires waits i h c.loop-edge.invariant.each c.loop-edge.invariant.counts in
-    let same : c.index_mut.result.now ≡ slice_index waits (slice_index_or edges i (0, 0)).1 =
-    get_or_read waits (slice_index_or edges i (0, 0)).1 c.index_mut.result.now (subst (λ k. (slice_index_or edges i (0, 0)).1 < k) (sym c.loop-edge.invariant.each) low) c.index_mut.ensures.value 0 in
+    let room = room_for_one c.args.count edges c.requires c.loop-edge.waits.items i h c.loop-edge.invariant.each c.loop-edge.invariant.counts in
+    let low = target_low c.args.count edges c.requires c.loop-edge.waits.items i h c.loop-edge.invariant.each c.loop-edge.invariant.counts in
+    let same : c.index_mut.result.now ≡ slice_index c.loop-edge.waits.items (slice_index_or edges i (0, 0)).1 =
+    get_or_read _ (slice_index_or edges i (0, 0)).1 c.index_mut.result.now (subst (λ k. (slice_index_or edges i (0, 0)).1 < k) (sym c.loop-edge.invariant.each) low) c.index_mut.ensures.value 0 in
     omega (arith, same, room)
 
 pub loop-edge-preserved : goal.loop-edge-preserved

@@ -1,13 +1,12 @@
-use Rattle.std.proofs.Common.{◌≡◌, ◌<◌, ◌≤◌, ◌+◌, ◌++◌, [], ◌∷◌, ◌∙◌, sym, ap, subst, ℕ, List, Vec, true, false, length, take, drop, replicate, slice_index}
+use Rattle.std.proofs.Common.{◌≡◌, ◌<◌, ◌≤◌, ◌+◌, ◌++◌, [], ◌∷◌, ◌∙◌, sym, ap, subst, ℕ, List, length, replicate, slice_index}
 use Rattle.std.proofs.Math.ListN.{set}
-use Rattle.std.specs.declared.alloc.Global.{Global}
 use Rattle.dp_units.specs.Entries.{times}
 use Rattle.dp_units.specs.Graph.{AreWithin}
-use Rattle.dp_units.specs.Rows.{targets, waits_for, IsGraph}
+use Rattle.dp_units.specs.Rows.{targets, waits_for}
 use Rattle.dp_units.specs.Order.{IsOrder, ArePlaces}
 use Rattle.dp_units.specs.Taking.{IsTaking, left_over}
 use Rattle.dp_units.proofs.BetweenLemmas.{between_within}
-use Rattle.dp_units.proofs.OrderLemmas.{whole_written, no_keys, low, row_is, row_within, row_enough, next_taken, next_smaller}
+use Rattle.dp_units.proofs.OrderLemmas.{whole_written, none_free, low, row_is, row_within, row_enough, next_taken, next_smaller}
 use Rattle.dp_units.proofs.EndLemmas.{nothing_taken, is_order, are_places}
 use Rattle.dp_units.proofs.build.in_order.Goals as goal
 
@@ -39,146 +38,66 @@ loop-node-init c =
 
 pub index_mut-requires : goal.index_mut-requires
 index_mut-requires c =
-    let n : ℕ = c.args.count in
-    let edges : List (ℕ × ℕ) = c.args.graph.edges.now in
-    let leader_of : List ℕ = c.args.leader_of.now in
-    let between : List (ℕ × ℕ) = c.in_ok-between.between.items in
-    let rows : List (Vec ℕ Global) = c.in_ok-rows.rows.items in
-    let graph : IsGraph between rows = subst (λ (es : List (ℕ × ℕ)). IsGraph es rows) c.as_slice.ensures.value c.in_ok-rows.ensures.graph in
-    let places : List ℕ = c.loop-node.place_of.items in
-    let order : List ℕ = c.loop-node.order.items in
-    let waits : List ℕ = c.loop-node.waits.items in
-    let free : List ℕ = c.loop-node.free.keys in
-    let rest : List ℕ = c.pop_first.new.self.keys in
-    let node : ℕ = c.in-Some.node in
-    subst (λ k. node < k) (sym c.loop-node.invariant.each ∙ sym c.loop-node.place_of.ok.0) (low n edges leader_of between c.requires.within c.requires.leaders c.in_ok-between.ensures rows graph c.in_ok-rows.ensures.count places order waits free c.loop-node.invariant node rest c.in-Some.ensures.removal)
+    subst (λ k. c.in-Some.node < k) (sym c.loop-node.invariant.each ∙ sym c.loop-node.place_of.ok.0)
+    (low c.requires.within c.requires.leaders c.in_ok-between.ensures c.as_slice.ensures.value c.in_ok-rows.ensures.graph c.in_ok-rows.ensures.count c.loop-node.invariant c.in-Some.ensures.removal)
 
 pub index-requires : goal.index-requires
 index-requires c =
-    let n : ℕ = c.args.count in
-    let edges : List (ℕ × ℕ) = c.args.graph.edges.now in
-    let leader_of : List ℕ = c.args.leader_of.now in
-    let between : List (ℕ × ℕ) = c.in_ok-between.between.items in
-    let rows : List (Vec ℕ Global) = c.in_ok-rows.rows.items in
-    let graph : IsGraph between rows = subst (λ (es : List (ℕ × ℕ)). IsGraph es rows) c.as_slice.ensures.value c.in_ok-rows.ensures.graph in
-    let places : List ℕ = c.loop-node.place_of.items in
-    let order : List ℕ = c.loop-node.order.items in
-    let waits : List ℕ = c.loop-node.waits.items in
-    let free : List ℕ = c.loop-node.free.keys in
-    let rest : List ℕ = c.pop_first.new.self.keys in
-    let node : ℕ = c.in-Some.node in
-    subst (λ k. node < k) (sym c.in_ok-rows.ensures.count ∙ sym c.in_ok-rows.rows.ok.0) (low n edges leader_of between c.requires.within c.requires.leaders c.in_ok-between.ensures rows graph c.in_ok-rows.ensures.count places order waits free c.loop-node.invariant node rest c.in-Some.ensures.removal)
+    subst (λ k. c.in-Some.node < k) (sym c.in_ok-rows.ensures.count ∙ sym c.in_ok-rows.rows.ok.0)
+    (low c.requires.within c.requires.leaders c.in_ok-between.ensures c.as_slice.ensures.value c.in_ok-rows.ensures.graph c.in_ok-rows.ensures.count c.loop-node.invariant c.in-Some.ensures.removal)
 
 pub release-requires-clause-within : goal.release-requires-clause-within
 release-requires-clause-within c = λ i x at.
-    let n : ℕ = c.args.count in
-    let edges : List (ℕ × ℕ) = c.args.graph.edges.now in
-    let leader_of : List ℕ = c.args.leader_of.now in
-    let between : List (ℕ × ℕ) = c.in_ok-between.between.items in
-    let rows : List (Vec ℕ Global) = c.in_ok-rows.rows.items in
-    let graph : IsGraph between rows = subst (λ (es : List (ℕ × ℕ)). IsGraph es rows) c.as_slice.ensures.value c.in_ok-rows.ensures.graph in
-    let places : List ℕ = c.loop-node.place_of.items in
-    let order : List ℕ = c.loop-node.order.items in
-    let waits : List ℕ = c.loop-node.waits.items in
-    let free : List ℕ = c.loop-node.free.keys in
-    let rest : List ℕ = c.pop_first.new.self.keys in
-    let node : ℕ = c.in-Some.node in
-    let row : c.as_slice-row.result.now ≡ targets between node =
-    c.as_slice-row.ensures.value ∙ row_is n edges leader_of between c.requires.within c.requires.leaders c.in_ok-between.ensures rows graph c.in_ok-rows.ensures.count places order waits free c.loop-node.invariant node rest c.in-Some.ensures.removal c.index.result.now c.index.ensures in
-    subst (λ k. x < k) (sym (ap (λ (xs : List ℕ). length xs) c.as_mut_slice.ensures.value ∙ c.loop-node.invariant.wide)) (row_within n edges leader_of between c.requires.within c.requires.leaders c.in_ok-between.ensures rows graph c.in_ok-rows.ensures.count places order waits free c.loop-node.invariant node rest c.in-Some.ensures.removal c.as_slice-row.result.now row i x at)
+    let row : c.as_slice-row.result.now ≡ targets c.in_ok-between.between.items c.in-Some.node =
+    c.as_slice-row.ensures.value ∙ row_is c.requires.within c.requires.leaders c.in_ok-between.ensures c.as_slice.ensures.value c.in_ok-rows.ensures.graph c.in_ok-rows.ensures.count c.loop-node.invariant c.in-Some.ensures.removal c.index.result.now c.index.ensures in
+    subst (λ k. x < k) (sym (ap (λ (xs : List ℕ). length xs) c.as_mut_slice.ensures.value ∙ c.loop-node.invariant.wide))
+    (row_within c.requires.within c.requires.leaders c.in_ok-between.ensures c.as_slice.ensures.value c.in_ok-rows.ensures.graph c.in_ok-rows.ensures.count c.loop-node.invariant c.in-Some.ensures.removal c.as_slice-row.result.now row i x at)
 
 pub release-requires-clause-enough : goal.release-requires-clause-enough
 release-requires-clause-enough c = λ x h.
-    let n : ℕ = c.args.count in
-    let edges : List (ℕ × ℕ) = c.args.graph.edges.now in
-    let leader_of : List ℕ = c.args.leader_of.now in
-    let between : List (ℕ × ℕ) = c.in_ok-between.between.items in
-    let rows : List (Vec ℕ Global) = c.in_ok-rows.rows.items in
-    let graph : IsGraph between rows = subst (λ (es : List (ℕ × ℕ)). IsGraph es rows) c.as_slice.ensures.value c.in_ok-rows.ensures.graph in
-    let places : List ℕ = c.loop-node.place_of.items in
-    let order : List ℕ = c.loop-node.order.items in
-    let waits : List ℕ = c.loop-node.waits.items in
-    let free : List ℕ = c.loop-node.free.keys in
-    let rest : List ℕ = c.pop_first.new.self.keys in
-    let node : ℕ = c.in-Some.node in
-    let row : c.as_slice-row.result.now ≡ targets between node =
-    c.as_slice-row.ensures.value ∙ row_is n edges leader_of between c.requires.within c.requires.leaders c.in_ok-between.ensures rows graph c.in_ok-rows.ensures.count places order waits free c.loop-node.invariant node rest c.in-Some.ensures.removal c.index.result.now c.index.ensures in
-    let in_x : x < n = subst (λ k. x < k) (ap (λ (xs : List ℕ). length xs) c.as_mut_slice.ensures.value ∙ c.loop-node.invariant.wide) h in
-    subst (λ (xs : List ℕ). times c.as_slice-row.result.now x ≤ slice_index xs x) (sym c.as_mut_slice.ensures.value) (row_enough n edges leader_of between c.requires.within c.requires.leaders c.in_ok-between.ensures rows graph c.in_ok-rows.ensures.count places order waits free c.loop-node.invariant node rest c.in-Some.ensures.removal c.as_slice-row.result.now row x in_x)
+    let row : c.as_slice-row.result.now ≡ targets c.in_ok-between.between.items c.in-Some.node =
+    c.as_slice-row.ensures.value ∙ row_is c.requires.within c.requires.leaders c.in_ok-between.ensures c.as_slice.ensures.value c.in_ok-rows.ensures.graph c.in_ok-rows.ensures.count c.loop-node.invariant c.in-Some.ensures.removal c.index.result.now c.index.ensures in
+    subst (λ (xs : List ℕ). times c.as_slice-row.result.now x ≤ slice_index xs x) (sym c.as_mut_slice.ensures.value)
+    (row_enough c.requires.within c.requires.leaders c.in_ok-between.ensures c.as_slice.ensures.value c.in_ok-rows.ensures.graph c.in_ok-rows.ensures.count c.loop-node.invariant c.in-Some.ensures.removal c.as_slice-row.result.now row x
+    (subst (λ k. x < k) (ap (λ (xs : List ℕ). length xs) c.as_mut_slice.ensures.value ∙ c.loop-node.invariant.wide) h))
 
 pub loop-node-smaller : goal.loop-node-smaller
 loop-node-smaller c =
-    let n : ℕ = c.args.count in
-    let edges : List (ℕ × ℕ) = c.args.graph.edges.now in
-    let leader_of : List ℕ = c.args.leader_of.now in
-    let between : List (ℕ × ℕ) = c.in_ok-between.between.items in
-    let rows : List (Vec ℕ Global) = c.in_ok-rows.rows.items in
-    let graph : IsGraph between rows = subst (λ (es : List (ℕ × ℕ)). IsGraph es rows) c.as_slice.ensures.value c.in_ok-rows.ensures.graph in
-    let places : List ℕ = c.loop-node.place_of.items in
-    let order : List ℕ = c.loop-node.order.items in
-    let waits : List ℕ = c.loop-node.waits.items in
-    let free : List ℕ = c.loop-node.free.keys in
-    let rest : List ℕ = c.pop_first.new.self.keys in
-    let node : ℕ = c.in-Some.node in
-    let place : c.len.result ≡ length order = c.len.ensures ∙ c.loop-node.order.ok.0 in
-    subst (λ k. left_over n (set places node k) < left_over n places) (sym place) (next_smaller n edges leader_of between c.requires.within c.requires.leaders c.in_ok-between.ensures rows graph c.in_ok-rows.ensures.count places order waits free c.loop-node.invariant node rest c.in-Some.ensures.removal)
+    subst (λ k. left_over c.args.count (set c.loop-node.place_of.items c.in-Some.node k) < left_over c.args.count c.loop-node.place_of.items) (sym (c.len.ensures ∙ c.loop-node.order.ok.0))
+    (next_smaller c.requires.within c.requires.leaders c.in_ok-between.ensures c.as_slice.ensures.value c.in_ok-rows.ensures.graph c.in_ok-rows.ensures.count c.loop-node.invariant c.in-Some.ensures.removal)
 
 pub loop-node-preserved : goal.loop-node-preserved
 loop-node-preserved c =
     let n : ℕ = c.args.count in
     let edges : List (ℕ × ℕ) = c.args.graph.edges.now in
-    let leader_of : List ℕ = c.args.leader_of.now in
     let between : List (ℕ × ℕ) = c.in_ok-between.between.items in
-    let rows : List (Vec ℕ Global) = c.in_ok-rows.rows.items in
-    let graph : IsGraph between rows = subst (λ (es : List (ℕ × ℕ)). IsGraph es rows) c.as_slice.ensures.value c.in_ok-rows.ensures.graph in
     let places : List ℕ = c.loop-node.place_of.items in
-    let order : List ℕ = c.loop-node.order.items in
     let waits : List ℕ = c.loop-node.waits.items in
-    let free : List ℕ = c.loop-node.free.keys in
-    let rest : List ℕ = c.pop_first.new.self.keys in
     let node : ℕ = c.in-Some.node in
-    let row : c.as_slice-row.result.now ≡ targets between node =
-    c.as_slice-row.ensures.value ∙ row_is n edges leader_of between c.requires.within c.requires.leaders c.in_ok-between.ensures rows graph c.in_ok-rows.ensures.count places order waits free c.loop-node.invariant node rest c.in-Some.ensures.removal c.index.result.now c.index.ensures in
-    let place : c.len.result ≡ length order = c.len.ensures ∙ c.loop-node.order.ok.0 in
+    let row : c.as_slice-row.result.now ≡ targets c.in_ok-between.between.items c.in-Some.node =
+    c.as_slice-row.ensures.value ∙ row_is c.requires.within c.requires.leaders c.in_ok-between.ensures c.as_slice.ensures.value c.in_ok-rows.ensures.graph c.in_ok-rows.ensures.count c.loop-node.invariant c.in-Some.ensures.removal c.index.result.now c.index.ensures in
     let now : List ℕ = c.release.new.waits in
     let same : length now ≡ length waits = c.release.auto.waits ∙ ap (λ (xs : List ℕ). length xs) c.as_mut_slice.ensures.value in
-    let whole : take c.loop-node.waits.len (now ++ drop (length now) waits) ≡ now = whole_written now waits c.loop-node.waits.len same c.loop-node.waits.ok.0 in
-    let row_now : List ℕ = c.as_slice-row.result.now in
-    let less : (x : ℕ) → x < length waits → slice_index now x + times row_now x ≡ slice_index waits x =
+    let less : (x : ℕ) → x < length waits → slice_index now x + times c.as_slice-row.result.now x ≡ slice_index waits x =
     λ x h. c.in_ok-release.ensures.less x (subst (λ (xs : List ℕ). x < length xs) (sym c.as_mut_slice.ensures.value) h) ∙ ap (λ (xs : List ℕ). slice_index xs x) c.as_mut_slice.ensures.value in
-    let next = next_taken n edges leader_of between c.requires.within c.requires.leaders c.in_ok-between.ensures rows graph c.in_ok-rows.ensures.count places order waits free c.loop-node.invariant node rest c.in-Some.ensures.removal row_now row c.in-Some.ensures.all_above now c.release.new.free.keys same less
-    c.in_ok-release.ensures.from c.in_ok-release.ensures.kept c.in_ok-release.ensures.added in
-    subst (λ (xs : List ℕ). IsTaking n edges leader_of between (set places node c.len.result) c.push.new.self.items xs c.release.new.free.keys) (sym whole)
-    (subst (λ (xs : List ℕ). IsTaking n edges leader_of between (set places node c.len.result) xs now c.release.new.free.keys) (sym c.in_ok-push.ensures.items)
-    (subst (λ k. IsTaking n edges leader_of between (set places node k) (order ++ node ∷ []) now c.release.new.free.keys) (sym place) next))
+    let next = next_taken c.requires.within c.requires.leaders c.in_ok-between.ensures c.as_slice.ensures.value c.in_ok-rows.ensures.graph c.in_ok-rows.ensures.count c.loop-node.invariant c.in-Some.ensures.removal c.as_slice-row.result.now row
+    c.in-Some.ensures.all_above now c.release.new.free.keys same less c.in_ok-release.ensures.from c.in_ok-release.ensures.kept c.in_ok-release.ensures.added in
+    subst (λ (xs : List ℕ). IsTaking n edges c.args.leader_of.now between (set places node c.len.result) c.push.new.self.items xs c.release.new.free.keys) (sym (whole_written now waits c.loop-node.waits.len same c.loop-node.waits.ok.0))
+    (subst (λ (xs : List ℕ). IsTaking n edges c.args.leader_of.now between (set places node c.len.result) xs now c.release.new.free.keys) (sym c.in_ok-push.ensures.items)
+    (subst (λ k. IsTaking n edges c.args.leader_of.now between (set places node k) (c.loop-node.order.items ++ node ∷ []) now c.release.new.free.keys) (sym (c.len.ensures ∙ c.loop-node.order.ok.0)) next))
 
 pub returns-clause-order : goal.returns-clause-order
 returns-clause-order c =
-    let n : ℕ = c.args.count in
-    let edges : List (ℕ × ℕ) = c.args.graph.edges.now in
-    let leader_of : List ℕ = c.args.leader_of.now in
-    let between : List (ℕ × ℕ) = c.in_ok-between.between.items in
-    let places : List ℕ = c.loop-node.place_of.items in
-    let order : List ℕ = c.loop-node.order.items in
-    let waits : List ℕ = c.loop-node.waits.items in
-    let none : c.loop-node.free.keys ≡ [] = no_keys c.loop-node.free.keys (λ h. let bad : false ≡ true = c.in_default.ensures.variant.1 h in absurd (cc bad)) in
-    let last : IsTaking n edges leader_of between places order waits [] = subst (λ (ks : List ℕ). IsTaking n edges leader_of between places order waits ks) none c.loop-node.invariant in
-    subst (λ (xs : List ℕ). IsOrder n edges xs) (sym c.from_vec-2.ensures) (is_order n edges leader_of between c.requires.within c.requires.leaders c.in_ok-between.ensures places order waits last)
+    subst (λ (xs : List ℕ). IsOrder c.args.count c.args.graph.edges.now xs) (sym c.from_vec-2.ensures)
+    (is_order _ _ _ _ c.requires.within c.requires.leaders c.in_ok-between.ensures _ _ _ (none_free c.loop-node.invariant c.in_default.ensures.variant.1))
 
 pub returns-clause-places : goal.returns-clause-places
 returns-clause-places c =
     let n : ℕ = c.args.count in
     let edges : List (ℕ × ℕ) = c.args.graph.edges.now in
-    let leader_of : List ℕ = c.args.leader_of.now in
-    let between : List (ℕ × ℕ) = c.in_ok-between.between.items in
-    let places : List ℕ = c.loop-node.place_of.items in
-    let order : List ℕ = c.loop-node.order.items in
-    let waits : List ℕ = c.loop-node.waits.items in
-    let none : c.loop-node.free.keys ≡ [] = no_keys c.loop-node.free.keys (λ h. let bad : false ≡ true = c.in_default.ensures.variant.1 h in absurd (cc bad)) in
-    let last : IsTaking n edges leader_of between places order waits [] = subst (λ (ks : List ℕ). IsTaking n edges leader_of between places order waits ks) none c.loop-node.invariant in
     let made : List ℕ = c.in_ok-place_of-2.place_of.items in
     let long : length made ≡ n = c.in_ok-place_of-2.ensures.each ∙ c.requires.leaders.each in
-    let each : (v : ℕ) → v < n → slice_index made v ≡ slice_index places (slice_index leader_of v) =
-    λ v h. c.in_ok-place_of-2.ensures.made v (subst (λ k. v < k) (sym c.requires.leaders.each) h) ∙ ap (λ (xs : List ℕ). slice_index xs (slice_index leader_of v)) c.as_slice-4.ensures.value in
-    subst (λ (xs : List ℕ). ArePlaces n edges xs c.from_vec.result) (sym c.from_vec-2.ensures)
-    (subst (λ (xs : List ℕ). ArePlaces n edges order xs) (sym c.from_vec.ensures) (are_places n edges leader_of between c.requires.within c.requires.leaders c.in_ok-between.ensures places order waits last made long each))
+    let each : (v : ℕ) → v < n → slice_index made v ≡ slice_index c.loop-node.place_of.items (slice_index c.args.leader_of.now v) =
+    λ v h. c.in_ok-place_of-2.ensures.made v (subst (λ k. v < k) (sym c.requires.leaders.each) h) ∙ ap (λ (xs : List ℕ). slice_index xs (slice_index c.args.leader_of.now v)) c.as_slice-4.ensures.value in
+    subst (λ (xs : List ℕ). ArePlaces n edges xs c.from_vec.result) (sym c.from_vec-2.ensures) (subst (λ (xs : List ℕ). ArePlaces n edges c.loop-node.order.items xs) (sym c.from_vec.ensures)
+    (are_places _ _ _ _ c.requires.within c.requires.leaders c.in_ok-between.ensures _ _ _ (none_free c.loop-node.invariant c.in_default.ensures.variant.1) made long each))

@@ -33,7 +33,6 @@ pub loop-node-preserved : goal.loop-node-preserved
 loop-node-preserved c =
     let row : List ℕ = c.args.row.now in
     let initial : List ℕ = c.args.waits.now in
-    let waits : List ℕ = c.loop-node.waits in
     let i : ℕ = c.loop-node.node-index in
     let node : ℕ = slice_index_or row i 0 in
     let h : i < length row = omega arith in
@@ -41,8 +40,8 @@ loop-node-preserved c =
     let before = c.loop-node.invariant in
     let offer = c.in_ok-offer.ensures in
     record {
-      less = less_more initial waits row i node h refl low c.loop-node.auto.waits c.requires.enough before.less;
-      from = from_more initial waits row i node h refl low c.loop-node.auto.waits c.requires.enough before.less c.args.free.now.keys c.loop-node.free.keys c.offer.new.free.keys before.from before.added offer.from offer.kept offer.added;
+      less = less_more initial c.loop-node.waits row i node h refl low c.loop-node.auto.waits c.requires.enough before.less;
+      from = from_more initial _ row i node h refl low c.loop-node.auto.waits c.requires.enough before.less c.args.free.now.keys c.loop-node.free.keys c.offer.new.free.keys before.from before.added offer.from offer.kept offer.added;
       kept = λ y has. offer.kept y (before.kept y has);
-      added = added_more initial waits row i node h refl low c.loop-node.auto.waits c.requires.enough before.less c.args.free.now.keys c.loop-node.free.keys c.offer.new.free.keys before.from before.added offer.from offer.kept offer.added;
+      added = added_more initial _ row i node h refl low c.loop-node.auto.waits c.requires.enough before.less c.args.free.now.keys c.loop-node.free.keys c.offer.new.free.keys before.from before.added offer.from offer.kept offer.added;
     }

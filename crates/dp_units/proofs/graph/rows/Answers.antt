@@ -13,12 +13,11 @@ loop-from-preserved c =
     let i : ℕ = c.loop-from.from-index in
     let edge : ℕ × ℕ = slice_index_or edges i (0, 0) in
     let h : i < length edges = omega arith in
-    let old : Vec ℕ Global = c.index_mut.result.now in
     let low : edge.0 < length rows = subst (λ k. edge.0 < k) (sym c.loop-from.invariant.count) (c.requires i (0, 0) h).0 in
-    let there : At rows edge.0 old = slice_get_read rows (length rows) edge.0 old refl low c.index_mut.ensures.value in
+    let there : At rows edge.0 c.index_mut.result.now = slice_get_read rows (length rows) edge.0 c.index_mut.result.now refl low c.index_mut.ensures.value in
     record {
       count = length-set rows edge.0 c.add.new.row ∙ c.loop-from.invariant.count;
-      targets = row_more rows edges i edge.0 edge.1 old c.add.new.row h refl low there c.in_ok-add.ensures c.loop-from.invariant.targets;
+      targets = row_more rows edges i edge.0 edge.1 c.index_mut.result.now c.add.new.row h refl low there c.in_ok-add.ensures c.loop-from.invariant.targets;
     }
 
 pub returns-clause-graph : goal.returns-clause-graph

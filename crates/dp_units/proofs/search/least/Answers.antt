@@ -1,4 +1,4 @@
-use Rattle.std.proofs.Common.{◌≡◌, ◌<◌, ◌≤◌, ℕ, List, length, min, sym, subst, arith, slice_index_or}
+use Rattle.std.proofs.Common.{◌<◌, ◌≤◌, ℕ, List, length, sym, subst, arith}
 use Rattle.dp_units.specs.Entries.{Has}
 use Rattle.dp_units.proofs.AtLemmas.{at_within}
 use Rattle.dp_units.proofs.LoopLemmas.{least_more, least_below}
@@ -9,10 +9,9 @@ loop-node-preserved c =
     let nodes : List ℕ = c.args.nodes.now in
     let i : ℕ = c.loop-node.node-index in
     let h : i < length nodes = omega arith in
-    let e : c.min-least.result ≡ min c.loop-node.least (slice_index_or nodes i 0) = c.min-least.ensures in
     record {
-      member = subst (λ k. Has nodes k) (sym e) (least_more nodes c.loop-node.least i h c.loop-node.invariant.member);
-      least = λ k node before at. subst (λ x. x ≤ node) (sym e) (least_below nodes c.loop-node.least i h c.loop-node.invariant.least k node before at);
+      member = subst (λ k. Has nodes k) (sym c.min-least.ensures) (least_more nodes c.loop-node.least i h c.loop-node.invariant.member);
+      least = λ k node before at. subst (λ x. x ≤ node) (sym c.min-least.ensures) (least_below nodes c.loop-node.least i h c.loop-node.invariant.least k node before at);
     }
 
 pub returns-clause-least : goal.returns-clause-least
