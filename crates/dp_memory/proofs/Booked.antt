@@ -1,19 +1,10 @@
 -- Pages with a last one behind them.
-use Rattle.std.proofs.Common.{◌≡◌, ℕ, suc, zero, ℤ, ◌+◌, ◌<◌, ◌≤◌, List, [], ◌∷◌, ◌++◌, length, Some, sym, ap, refl, ◌∙◌, subst, length-append, slice_get, get_or, arith}
+use Rattle.std.proofs.Common.{◌≡◌, ℕ, ℤ, ◌+◌, ◌<◌, ◌≤◌, List, [], ◌∷◌, ◌++◌, length, Some, sym, ap, ◌∙◌, subst, length-append, slice_get, get_or, arith}
 use Rattle.std.proofs.Math.ListN.{set}
-use Rattle.std.proofs.lemmas.Option.{slice_get_within, get_or_from_slice_get}
+use Rattle.std.proofs.lemmas.Option.{slice_get_within, get_or_from_slice_get, slice_get-get_or}
 use Rattle.dp_memory.specs.Pieces.{HasCell, with_cell}
 use Rattle.dp_memory.proofs.Pieces.{get_right, set_left, set_right}
-
-get_front : {X : Type 0} (xs ys : List X) (n : ℕ) → n < length xs → slice_get (xs ++ ys) n ≡ slice_get xs n
-get_front [] ys n lt = let clash : ⊥ = omega arith in absurd clash
-get_front (x ∷ xs) ys zero lt = refl
-get_front (x ∷ xs) ys (suc n) lt = get_front xs ys n (omega arith)
-
-or_front : {X : Type 0} (xs ys : List X) (n : ℕ) (d : X) → n < length xs → get_or (xs ++ ys) n d ≡ get_or xs n d
-or_front [] ys n d lt = let clash : ⊥ = omega arith in absurd clash
-or_front (x ∷ xs) ys zero d lt = refl
-or_front (x ∷ xs) ys (suc n) d lt = or_front xs ys n d (omega arith)
+use Rattle.std.proofs.lemmas.List.{get_or_append_left}
 
 module _ (pages : List (List ℤ)) (last : List ℤ) where
   abbrev all : List (List ℤ)
@@ -24,7 +15,8 @@ module _ (pages : List (List ℤ)) (last : List ℤ) where
 
   module _ (number : ℕ) where
     pub before_last : number < length pages → slice_get all number ≡ slice_get pages number
-    before_last lt = get_front pages (last ∷ []) number lt
+    before_last lt =
+        slice_get-get_or all number [] (omega (arith, all_count, lt)) ∙ ap Some (get_or_append_left pages (last ∷ []) [] number lt) ∙ sym (slice_get-get_or pages number [] lt)
 
     pub last_there : number ≡ length pages → slice_get all number ≡ Some last
     last_there e = get_right pages (last ∷ []) number 0 (omega arith)
@@ -45,11 +37,9 @@ module _ (pages : List (List ℤ)) (last : List ℤ) where
       pub set_before : (value : ℤ) → number < length pages → with_cell all number place value ≡ with_cell pages number place value ++ last ∷ []
       set_before value lt =
           let written : List ℤ → List ℤ = λ (r : List ℤ). set r place value in
-          ap (λ r. set all number (written r)) (or_front pages (last ∷ []) number [] lt)
-          ∙ set_left pages (last ∷ []) number (written (get_or pages number [])) lt
+          ap (λ r. set all number (written r)) (get_or_append_left pages (last ∷ []) [] number lt) ∙ set_left pages (last ∷ []) number (written (get_or pages number [])) lt
 
       pub set_last : (value : ℤ) → number ≡ length pages → with_cell all number place value ≡ pages ++ set last place value ∷ []
       set_last value e =
           let page : get_or all number [] ≡ last = get_or_from_slice_get all number last [] (last_there e) in
-          ap (λ r. set all number (set r place value)) page
-          ∙ set_right pages (last ∷ []) number 0 (set last place value) (omega arith)
+          ap (λ r. set all number (set r place value)) page ∙ set_right pages (last ∷ []) number 0 (set last place value) (omega arith)

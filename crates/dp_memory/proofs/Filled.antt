@@ -9,8 +9,7 @@ use Rattle.dp_memory.proofs.Held.{drop_one}
 use Rattle.dp_memory.proofs.Lent.{item_there}
 
 module _ (cells : List ℤ) (first : ℕ) (value : ℤ) where
-  pub filled_next : (count : ℕ) → first + count < length cells
-      → set (filled cells first count value) (first + count) value ≡ filled cells first (count + 1) value
+  pub filled_next : (count : ℕ) → first + count < length cells → set (filled cells first count value) (first + count) value ≡ filled cells first (count + 1) value
   filled_next count within =
       let front = take first cells ++ replicate count value in
       let taken = length-take-le first cells (omega arith) in
@@ -20,8 +19,7 @@ module _ (cells : List ℤ) (first : ℕ) (value : ℤ) where
       let rest = drop (first + count + 1) cells in
       let next : first + count + 1 ≡ first + (count + 1) = omega arith in
       set_right front (drop (first + count) cells) (first + count) 0 value (omega arith)
-      ∙ ap (λ (r : List ℤ). front ++ set r 0 value) (drop_one cells (first + count) item.0 item.1)
-      ∙ sym (append_assoc front (value ∷ []) rest)
+      ∙ ap (λ (r : List ℤ). front ++ set r 0 value) (drop_one cells (first + count) item.0 item.1) ∙ sym (append_assoc front (value ∷ []) rest)
       ∙ ap (λ (r : List ℤ). r ++ rest) (append_assoc (take first cells) (replicate count value) (value ∷ []))
       ∙ ap (λ (r : List ℤ). take first cells ++ r ++ rest) (sym (replicate_next count value))
       ∙ ap (λ (k : ℕ). take first cells ++ replicate (count + 1) value ++ drop k cells) next

@@ -65,8 +65,7 @@ module _ (group : Piece (Piece ℤ)) (at : ℕ) (none : group.shared ≡ None) (
       let other = changed (page_over written) group.own at in
       let whole : held group.own.items group.shared ≡ group.own.items = own_items group.own.items group.shared none in
       ap (map items_of) (own_items other.items group.shared none ∙ changed_is (page_over written) group.own at page there)
-      ∙ map-set items_of group.own.items at (page_over written page)
-      ∙ ap (set (map items_of group.own.items) at) (own_over page.own page.shared own written)
+      ∙ map-set items_of group.own.items at (page_over written page) ∙ ap (set (map items_of group.own.items) at) (own_over page.own page.shared own written)
       ∙ ap (λ (r : List (Piece ℤ)). set (map items_of r) at (over (items_of page) written)) (sym whole)
 
 module _ (table : Table) (number : ℕ) (grouped : InGroups table) (own : IsOwnAmong table.groups number) where
@@ -117,8 +116,7 @@ module _ (table : Table) (number : ℕ) (grouped : InGroups table) (own : IsOwnA
         let page = slice_get-map items_of (items_of group) (number % 16) ∙ ap (option_map items_of) page_there in
         let within = slice_get_within (pages_of group) (number % 16) lent_cells page in
         let spot : 16 * (number / 16) + number % 16 ≡ number = omega arith in
-        ap joined groups_are
-        ∙ joined_item 16 groups grouped (number / 16) (number % 16) (pages_of group) (over lent_cells written) stands_in_groups within
+        ap joined groups_are ∙ joined_item 16 groups grouped (number / 16) (number % 16) (pages_of group) (over lent_cells written) stands_in_groups within
         ∙ ap (λ k. set (joined groups) k (over lent_cells written)) spot
 
 -- the cells of one page are written over
@@ -128,16 +126,12 @@ module _ (pages after : List (List ℤ)) (paged : InPieces 256 pages) (number : 
   as_long = sym (length_refill (length cells) cells (take (length cells) written) refl)
 
   pub over_in_pages : InPieces 256 after
-  over_in_pages =
-      subst (λ r. InPieces 256 r) (sym is) (in_pieces_set 256 pages paged number cells (over cells written) there as_long)
+  over_in_pages = subst (λ r. InPieces 256 r) (sym is) (in_pieces_set 256 pages paged number cells (over cells written) there as_long)
 
-  pub over_joined : joined after
-      ≡ take (256 * number) (joined pages)
-      ++ with_items (take 256 (drop (256 * number) (joined pages))) (take (length cells) written)
+  pub over_joined : joined after ≡ take (256 * number) (joined pages) ++ with_items (take 256 (drop (256 * number) (joined pages))) (take (length cells) written)
       ++ drop (256 * number + 256) (joined pages)
   over_joined =
-      ap joined is
-      ∙ joined_set 256 pages paged number cells (over cells written) there as_long
+      ap joined is ∙ joined_set 256 pages paged number cells (over cells written) there as_long
       ∙ ap (λ (r : List ℤ). take (256 * number) (joined pages) ++ with_items r (take (length cells) written) ++ drop (256 * number + 256) (joined pages))
       (sym (piece_is 256 pages paged number cells there))
 
@@ -160,8 +154,7 @@ module _ (book : Book) (number : ℕ) (stands : IsBook book) (own : IsOwnAt book
           over_in_groups book.table number stands.0 owned written,
           count ∙ sym (ap length are ∙ length-set pages number (over cells written)),
         ),
-        ap (λ r. r ++ book.last.items ∷ []) are
-            ∙ sym (set_left pages (book.last.items ∷ []) number (over cells written) (omega arith)),
+        ap (λ r. r ++ book.last.items ∷ []) are ∙ sym (set_left pages (book.last.items ∷ []) number (over cells written) (omega arith)),
       )
 
   over_last : book.before ≤ number → IsOver (record book { last = vec.with_items book.last written })
@@ -174,8 +167,7 @@ module _ (book : Book) (number : ℕ) (stands : IsBook book) (own : IsOwnAt book
       let here : number ≡ length pages = omega arith in
       let both : Some last ≡ Some cells = sym (last_there pages last number here) ∙ there in
       let same : last ≡ cells = cc both in
-      let is = ap (λ n. take n (written ++ drop (length written) last)) book.last.ok.0 ∙ only_as_many last written
-      ∙ ap (λ (r : List ℤ). over r written) same in (
+      let is = ap (λ n. take n (written ++ drop (length written) last)) book.last.ok.0 ∙ only_as_many last written ∙ ap (λ (r : List ℤ). over r written) same in (
         stands,
         ap (λ r. pages ++ r ∷ []) is ∙ sym (set_right pages (last ∷ []) number 0 (over cells written) (omega arith)),
       )
@@ -199,8 +191,6 @@ pub nothing_over : (cells : List ℤ) (a : ℕ) (none : List ℤ) (written : Lis
 nothing_over cells a none written is =
     let page = take 256 (drop a cells) in
     ap (λ (r : List ℤ). take a cells ++ with_items page (take (length r) written) ++ drop (a + 256) cells) is
-    ∙ ap (λ r. take a cells ++ r ++ drop (a + 256) cells) (none_over page written)
-    ∙ append_assoc (take a cells) page (drop (a + 256) cells)
-    ∙ ap (λ r. take a cells ++ (page ++ r)) (sym (drop-drop 256 a cells))
-    ∙ ap (λ r. take a cells ++ r) (take-append-drop 256 (drop a cells))
+    ∙ ap (λ r. take a cells ++ r ++ drop (a + 256) cells) (none_over page written) ∙ append_assoc (take a cells) page (drop (a + 256) cells)
+    ∙ ap (λ r. take a cells ++ (page ++ r)) (sym (drop-drop 256 a cells)) ∙ ap (λ r. take a cells ++ r) (take-append-drop 256 (drop a cells))
     ∙ take-append-drop a cells

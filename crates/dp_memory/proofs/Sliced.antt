@@ -19,16 +19,13 @@ module _ (pages : List (List ℤ)) (ok : InPieces 256 pages) (start end : ℕ) (
       let same : there.0 ≡ page = cc both in
       subst (λ r. start % 256 < length r) same there.2
 
-  pub left_is : (page : List ℤ) → slice_get pages (start / 256) ≡ Some page
-      → drop (start % 256) page ≡ take (256 - start % 256) (drop start (joined pages))
+  pub left_is : (page : List ℤ) → slice_get pages (start / 256) ≡ Some page → drop (start % 256) page ≡ take (256 - start % 256) (drop start (joined pages))
   left_is page at =
       let begin = drop (256 * (start / 256)) (joined pages) in
       let whole : 256 ≡ start % 256 + (256 - start % 256) = omega arith in
       let place : 256 * (start / 256) + start % 256 ≡ start = omega arith in
-      ap (drop (start % 256)) (sym (piece_is 256 pages ok (start / 256) page at))
-      ∙ ap (λ n. drop (start % 256) (take n begin)) whole
-      ∙ drop-take (start % 256) (256 - start % 256) begin
-      ∙ ap (take (256 - start % 256)) (drop-drop (start % 256) (256 * (start / 256)) (joined pages))
+      ap (drop (start % 256)) (sym (piece_is 256 pages ok (start / 256) page at)) ∙ ap (λ n. drop (start % 256) (take n begin)) whole
+      ∙ drop-take (start % 256) (256 - start % 256) begin ∙ ap (take (256 - start % 256)) (drop-drop (start % 256) (256 * (start / 256)) (joined pages))
       ∙ ap (λ k. take (256 - start % 256) (drop k (joined pages))) place
 
 -- a cell's page is one of the pages
@@ -37,6 +34,12 @@ pub page_of_cell : (pages : List (List ℤ)) → InPieces 256 pages → (cells :
 page_of_cell pages ok cells is place lt =
     let long = ap length is in
     page_within pages ok place (place + 1) (omega arith) (omega arith)
+
+pub place_in_page : (pages : List (List ℤ)) → InPieces 256 pages → (cells : List ℤ) → joined pages ≡ cells → (place : ℕ) → place < length cells
+    → (page : List ℤ) → slice_get pages (place / 256) ≡ Some page → place % 256 < length page
+place_in_page pages ok cells is place lt page at =
+    let long = ap length is in
+    place_within pages ok place (place + 1) (omega arith) (omega arith) page at
 
 pub at_most_or_more : (m r : ℕ) → (m ≤ r) ⊎ (r < m)
 at_most_or_more m r = grind arith
@@ -61,15 +64,13 @@ pub next_view : (cells : List ℤ) (start end n : ℕ) (slice : List ℤ) → n 
 next_view cells start end n slice within some long =
     let count : end - start ≡ n + (end - (start + n)) = omega arith in
     let rest : take (end - (start + n)) (drop (start + n) cells) ≡ drop n (take (end - start) (drop start cells)) =
-    ap (take (end - (start + n))) (sym (drop-drop n start cells))
-    ∙ sym (drop-take n (end - (start + n)) (drop start cells))
+    ap (take (end - (start + n))) (sym (drop-drop n start cells)) ∙ sym (drop-take n (end - (start + n)) (drop start cells))
     ∙ ap (λ k. drop n (take k (drop start cells))) (sym count) in
     let pair : List ℤ → ℕ × List ℤ = λ (r : List ℤ). (start + n, r) in
     let moved : ℕ → ℕ × List ℤ = λ (k : ℕ). (start + k, drop k (take (end - start) (drop start cells))) in
     ap pair rest ∙ ap moved (sym long)
 
-pub next_slice : (cells left : List ℤ) (m r n : ℕ) → left ≡ take m cells → r ≤ length cells → n ≡ min (length left) r
-    → take n left ≡ take m (take r cells)
+pub next_slice : (cells left : List ℤ) (m r n : ℕ) → left ≡ take m cells → r ≤ length cells → n ≡ min (length left) r → take n left ≡ take m (take r cells)
 next_slice cells left m r n is within least =
     let long = length-take m cells in
     let same = ap length is in

@@ -32,7 +32,5 @@ returns-clause-same c =
     let none = c.in_ok-unshare.ensures.ok in
     let page = c.unshare-2.new.self in
     let shown = ap (map items_of) (sym (own_items g.own.items g.shared none)) ∙ c.unshare.ensures.same in
-    ap (map items_of) (own_items (set g.own.items c.args.at page) g.shared none)
-    ∙ map-set_same items_of g.own.items c.args.at page c.index_mut-page.result.now
-    (c.unshare-2.ensures.same ∙ ap items_of c.index_mut-page.ensures.value)
-    ∙ shown
+    ap (map items_of) (own_items (set g.own.items c.args.at page) g.shared none) ∙ map-set_same items_of g.own.items c.args.at page c.index_mut-page.result.now
+    (c.unshare-2.ensures.same ∙ ap items_of c.index_mut-page.ensures.value) ∙ shown

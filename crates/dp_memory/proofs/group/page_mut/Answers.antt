@@ -20,8 +20,5 @@ returns c =
     ap (λ (r : List (Piece ℤ)). slice_get (map items_of r) at) (own_items g.own.items g.shared c.requires.0)
     ∙ slice_get-map items_of g.own.items at ∙ ap (option_map items_of) there in (
       (refl, (λ w. ap (over w) (sym there))),
-      record {
-        writes_back = tt;
-        value = page_is ∙ ap Some (sym c.as_mut_slice.ensures.value);
-      },
+      record { writes_back = tt; value = page_is ∙ ap Some (sym c.as_mut_slice.ensures.value) },
     )

@@ -8,22 +8,20 @@ use Rattle.dp_memory.proofs.book.Book.of.Goals as goal
 
 pub returns : goal.returns
 returns c =
-    let cells = c.args.cells.now in
     let pages = table_pages c.in_ok-table.table in
     let last = c.in_ok-last.last.items in
-    let of = c.in_ok-table.ensures.1 in
     let less = c.saturating_sub-before.ensures in
-    let front = ap length of.0 in
+    let front = ap length c.in_ok-table.ensures.1.0 in
     let front_len = c.split_at.ensures.front_len in
     let back = ap length c.in_ok-last.ensures.items in
     let back_len = c.split_at.ensures.back_len in
-    let most = at_most 256 pages of.1 in
-    let few = of.2 in
+    let most = at_most 256 pages c.in_ok-table.ensures.1.1 in
+    let few = c.in_ok-table.ensures.1.2 in
     let full : length (joined pages) ≡ 256 * length pages = omega arith in
     let short : length last ≤ 256 = omega arith in (
       (c.in_ok-table.ensures.0, omega arith),
-      in_pieces_append 256 pages (last ∷ []) of.1 full (one_piece 256 last short),
+      in_pieces_append 256 pages (last ∷ []) c.in_ok-table.ensures.1.1 full (one_piece 256 last short),
       joined_append 256 pages (last ∷ []) ∙ ap (λ r. joined pages ++ r) (joined_one last ∙ c.in_ok-last.ensures.items ∙ c.split_at.ensures.back)
-          ∙ ap (λ r. r ++ drop (c.saturating_sub-before.result / 256 * 256) cells) (of.0 ∙ c.split_at.ensures.front)
-          ∙ take-append-drop (c.saturating_sub-before.result / 256 * 256) cells,
+          ∙ ap (λ r. r ++ drop (c.saturating_sub-before.result / 256 * 256) c.args.cells.now) (c.in_ok-table.ensures.1.0 ∙ c.split_at.ensures.front)
+          ∙ take-append-drop (c.saturating_sub-before.result / 256 * 256) c.args.cells.now,
     )

@@ -6,7 +6,6 @@ use Rattle.dp_memory.proofs.version.Version.filled.Goals as goal
 
 pub loop-place-preserved : goal.loop-place-preserved
 loop-place-preserved c =
-    let cells = c.args.self in
     let first = c.args.first.0 in
     let place = c.loop-place.place in
     let value = to_z w64 (of_z w64 c.args.value) in
@@ -17,6 +16,5 @@ loop-place-preserved c =
     let spot : first + (place - first) ≡ place = omega arith in
     let next : place - first + 1 ≡ place + 1 - first = omega arith in
     c.in_ok-put.ensures.ok ∙ ap (λ (r : List ℤ). set r place value) c.loop-place.invariant
-    ∙ ap (λ (k : ℕ). set (filled cells first (place - first) value) k value) (sym spot)
-    ∙ filled_next cells first value (place - first) (omega arith)
-    ∙ ap (λ (k : ℕ). filled cells first k value) next
+    ∙ ap (λ (k : ℕ). set (filled c.args.self first (place - first) value) k value) (sym spot) ∙ filled_next c.args.self first value (place - first) (omega arith)
+    ∙ ap (λ (k : ℕ). filled c.args.self first k value) next
