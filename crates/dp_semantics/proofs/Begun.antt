@@ -1,36 +1,13 @@
 -- A run that begins within `main` begins before the region, in an iteration, or beyond it.
-use Rattle.dp_semantics.proofs.Names.{◌≡◌, ◌⊎◌, inl, inr, refl, sym, ap, ◌∙◌, append_assoc, true, List, [], ◌∷◌, ◌++◌, ℕ, list_all, list_all-append, and_parts, and_from, Stmt, Row_of-Stmt, end_of-Stmt, more_of-Stmt, Program, Config, StandsInMain, is_plain, is_plain_in, is_free, is_free_in}
-use Rattle.dp_tree.specs.declared.Stmt.TheVariants as tree
+use Rattle.dp_semantics.proofs.Names.{◌≡◌, ◌⊎◌, inl, inr, refl, sym, ap, ◌∙◌, append_assoc, true, List, [], ◌∷◌, ◌++◌, ℕ, list_all, list_all-append, and_parts, and_from, Stmt, Program, Config, StandsInMain, is_free}
 use Rattle.dp_tree.specs.Numbering.{is_inner}
 use Rattle.dp_semantics.proofs.Setting.{all_free}
+use Rattle.dp_semantics.proofs.Regions.{inner_free}
 
 module _ (r : ℕ) where
-  mutual
-    -- where no region stands, region r doesn't
-    free_plain : (x : Stmt) → is_plain x ≡ true → is_free r x ≡ true
-    free_plain (tree.If' site cond _ a _ b) w = let both = and_parts (is_plain_in a) (is_plain_in b) w in and_from _ _ (free_plain_in a both.0) (free_plain_in b both.1)
-    free_plain (tree.While' site cond _ a) w = free_plain_in a w
-    free_plain (tree.Region' q site cond _ a) w = absurd (cc)
-    free_plain (tree.Break site cond) w = refl
-    free_plain _ w = refl
-
-    free_plain_in : {n : _} (row : Row_of-Stmt n) → is_plain_in row ≡ true → is_free_in r row ≡ true
-    free_plain_in end_of-Stmt w = refl
-    free_plain_in (more_of-Stmt x rest) w = let both = and_parts (is_plain x) (is_plain_in rest) w in and_from _ _ (free_plain x both.0) (free_plain_in rest both.1)
-
-  free_inner : (x : Stmt) → is_inner x ≡ true → is_free r x ≡ true
-  free_inner (tree.Break site cond) w = refl
-  free_inner (tree.Assign site v e) w = refl
-  free_inner (tree.Store site v index e) w = refl
-  free_inner (tree.Print site e) w = refl
-  free_inner (tree.If' site cond l a m b) w = free_plain (tree.If' site cond l a m b) w
-  free_inner (tree.While' site cond l a) w = free_plain (tree.While' site cond l a) w
-  free_inner (tree.Region' q site cond l a) w = absurd (cc)
-  free_inner (tree.Call f line args) w = refl
-
   free_plain_all : (xs : List Stmt) → list_all is_inner xs ≡ true → all_free r xs ≡ true
   free_plain_all [] w = refl
-  free_plain_all (x ∷ xs) w = let both = and_parts (is_inner x) (list_all is_inner xs) w in and_from (is_free r x) (all_free r xs) (free_inner x both.0) (free_plain_all xs both.1)
+  free_plain_all (x ∷ xs) w = let both = and_parts (is_inner x) (list_all is_inner xs) w in and_from (is_free r x) (all_free r xs) (inner_free r x both.0) (free_plain_all xs both.1)
 
   free_join : (a b : List Stmt) → all_free r a ≡ true → all_free r b ≡ true → all_free r (a ++ b) ≡ true
   free_join a b h k = list_all-append (is_free r) a b ∙ and_from (all_free r a) (all_free r b) h k

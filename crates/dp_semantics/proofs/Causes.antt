@@ -19,15 +19,10 @@ quiet_if false cause = refl
 
 -- tests in another order
 reorder : (a b c d e f : Bool) → ((a && (b && c)) && (d && (e && f))) ≡ ((a && d) && ((b && e) && (c && f)))
-reorder false b c d e f = refl
 reorder true false c true e f = refl
-reorder true false c false e f = refl
 reorder true true false true true f = refl
-reorder true true false true false f = refl
-reorder true true false false e f = refl
 reorder true true true true true f = refl
-reorder true true true true false f = refl
-reorder true true true false e f = refl
+reorder _ _ _ _ _ _ = refl
 
 regroup : (h a t f : Bool) → (h && a && t && f) ≡ (h && (a && (t && f)))
 regroup false a t f = refl

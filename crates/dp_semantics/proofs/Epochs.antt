@@ -1,5 +1,5 @@
 -- The packets of an epoch whose iterations so far went in agreement with the plan.
-use Rattle.dp_semantics.proofs.Names.{◌≡◌, inl, inr, refl, sym, ap, ◌∙◌, subst, ℕ, zero, suc, ◌+◌, ◌<◌, true, false, List, [], ◌∷◌, ◌++◌, ℤ, pos, length, get_or, length-append, Option, Some, None, slice_get, Ok, arith, slice_get_past, cases_order, both_ways, Word, Event, StageKind, Seq, Par, Plan, is_par, is_replicated, Past, pushed, word_list, TurnEnd, stage_run, Status, Packet, Passed, Epoch, status_of, passed_by, run_on, cleared, at_sequential, at_replicated, at_kind, passed, last}
+use Rattle.dp_semantics.proofs.Names.{◌≡◌, inl, inr, refl, sym, ap, ◌∙◌, subst, ℕ, zero, suc, ◌+◌, ◌<◌, true, false, List, [], ◌∷◌, ◌++◌, ℤ, pos, length, get_or, length-append, Option, Some, slice_get, Ok, arith, slice_get_past, cases_order, both_ways, Word, Event, StageKind, Par, Plan, is_par, is_replicated, Past, pushed, word_list, TurnEnd, stage_run, Status, Packet, Passed, Epoch, status_of, passed_by, run_on, cleared, at_sequential, at_replicated, at_kind, passed, last}
 use Rattle.dp_tree.specs.Iteration.{closes}
 use Rattle.dp_semantics.proofs.Setting.{size, Fit, Before, fresh_start, went_on}
 use Rattle.dp_semantics.proofs.PacketFacts.{live, status_for, status_next, status_live, word_list-early, word_list-last, passed_live, run_before, Left, left_live}
@@ -211,8 +211,7 @@ module _ {k : Epoch} (h : History k) where
 
     by_kind : (kind : Option StageKind) → slice_get plan.stages s ≡ kind → (n : ℕ) → Gone n → Claim (suc s) n (at_kind kind k (suc s) came n)
     by_kind (Some Par) is = replicated (ap is_par is)
-    by_kind (Some Seq) is = sequential (ap is_par is)
-    by_kind None is = sequential (ap is_par is)
+    by_kind _ is = sequential (ap is_par is)
 
   pub claims_at : (s : ℕ) → s < last plan → (n : ℕ) → Gone n → Claim s n (passed k s n)
   claims_at zero high n g = record {

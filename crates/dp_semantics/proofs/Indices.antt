@@ -44,13 +44,12 @@ module _ (f : ℕ → Bool) where
   reads_fine : (e : Expr) → list_all f (loaded_by e) ≡ true → list_all fine (reads e) ≡ true
   reads_fine (tree.Number n) h = refl
   reads_fine (tree.Input' _ (more_of-Expr a end_of-Expr)) h = reads_fine a h
-  reads_fine tree.InputLen h = refl
-  reads_fine (tree.Scalar x) h = refl
   reads_fine (tree.Element' x _ (more_of-Expr a end_of-Expr)) h = let q = and_parts (f x.0) (list_all f (loaded_by a)) h in two (reads a) (record { variable = x.0; index = Some a } ∷ []) (reads_fine a q.1) (and_from _ _ q.1 refl)
   reads_fine (tree.Unary' o _ (more_of-Expr a end_of-Expr)) h = reads_fine a h
   reads_fine (tree.Binary' o _ (more_of-Expr a end_of-Expr) _ (more_of-Expr b end_of-Expr)) h = let q = parts (loaded_by a) (loaded_by b) h in two (reads a) (reads b) (reads_fine a q.0) (reads_fine b q.1)
   reads_fine (tree.And' _ (more_of-Expr a end_of-Expr) _ (more_of-Expr b end_of-Expr)) h = let q = parts (loaded_by a) (loaded_by b) h in two (reads a) (reads b) (reads_fine a q.0) (reads_fine b q.1)
   reads_fine (tree.Or' _ (more_of-Expr a end_of-Expr) _ (more_of-Expr b end_of-Expr)) h = let q = parts (loaded_by a) (loaded_by b) h in two (reads a) (reads b) (reads_fine a q.0) (reads_fine b q.1)
+  reads_fine _ h = refl
 
   pub head_fine : (h : Stmt-F Stmt) → list_all f (head_loads h) ≡ true → list_all fine (head_reads h) ≡ true
   head_fine (Assign site x e) c = reads_fine e c

@@ -4,10 +4,7 @@ use Rattle.dp_semantics.proofs.Fitting.{split_of}
 use Rattle.dp_semantics.proofs.Alone.{Lone, AtSite, found_is}
 use Rattle.dp_semantics.proofs.RegionSites.{iteration_sites}
 use Rattle.dp_semantics.proofs.Setting.{Each, each_map, each_split, all_of, none_make}
-
-and_off : (b c : Bool) → c ≡ false → (b && c) ≡ false
-and_off true c e = e
-and_off false c e = refl
+use Rattle.std.proofs.lemmas.Bool.{and_left, and_right}
 
 never_beside : (a b c d : Bool) → b ≡ false → (a && b && c && d) ≡ false
 never_beside true false c d e = refl
@@ -38,15 +35,12 @@ module _ (p : Program) (r : ℕ) (alone : stands_alone p r ≡ true) where
   all_first : Each First (region_accesses p plan)
   all_first = each_map (λ u. is_numbered p r u ≡ true) First (λ u h. numbered_first p r u.site (slice_get p.regions (r - 1)) refl h) (region_accesses p plan) (all_of (is_numbered p r) (region_accesses p plan) tests.2)
 
-  off_left : (a b : Bool) → a ≡ false → (a && b) ≡ false
-  off_left a b e = ap (λ (t : Bool). t && b) e
-
   same_there : (site x : ℕ) → may_differ p plan 1 site x ≡ false
   same_there site x =
       ap (λ (b : Bool). b || list_any (λ (d : Access). is_stored_beside p plan 1 x d && not (is_apart_between p plan site d.site)) (region_accesses p plan)) (none_make (λ (d : Access). is_stored_after p plan 1 x d && not (is_apart p plan site d.site)) (region_accesses p plan)
-      (each_map First _ (λ d e. off_left (is_stored_after p plan 1 x d) (not (is_apart p plan site d.site)) (and_off (stores_var x d) (nat_lt 1 (stage_of p plan d.site)) (ap (nat_lt 1) e))) (region_accesses p plan) all_first))
+      (each_map First _ (λ d e. and_left (is_stored_after p plan 1 x d) (not (is_apart p plan site d.site)) (and_right (stores_var x d) (nat_lt 1 (stage_of p plan d.site)) (ap (nat_lt 1) e))) (region_accesses p plan) all_first))
       ∙ none_make (λ (d : Access). is_stored_beside p plan 1 x d && not (is_apart_between p plan site d.site)) (region_accesses p plan)
-      (each_map First _ (λ d e. off_left (is_stored_beside p plan 1 x d) (not (is_apart_between p plan site d.site)) (never_beside (stores_var x d) (is_replicated plan 1) (stage_of p plan d.site == 1) (not (is_body_local p plan x)) refl)) (region_accesses p plan) all_first)
+      (each_map First _ (λ d e. and_left (is_stored_beside p plan 1 x d) (not (is_apart_between p plan site d.site)) (never_beside (stores_var x d) (is_replicated plan 1) (stage_of p plan d.site == 1) (not (is_body_local p plan x)) refl)) (region_accesses p plan) all_first)
 
   every : {X : Type 0} (Q : X → Type 0) → ((x : X) → Q x) → (xs : List X) → Each Q xs
   every Q f [] = tt
@@ -59,7 +53,7 @@ module _ (p : Program) (r : ℕ) (alone : stands_alone p r ≡ true) where
       here u one = by (cases_eq u.site site)
         where
           by : (u.site ≡ site) ⊎ (u.site ≡ site → ⊥) → is_checked_access p plan site u ≡ false
-          by (inl e) = and_off (u.site == site) _ (ap (λ (s : ℕ). list_any (may_differ p plan s site) u.loads) (sym (ap (stage_of p plan) e) ∙ one)
+          by (inl e) = and_right (u.site == site) _ (ap (λ (s : ℕ). list_any (may_differ p plan s site) u.loads) (sym (ap (stage_of p plan) e) ∙ one)
               ∙ none_make (may_differ p plan 1 site) u.loads (every (λ x. may_differ p plan 1 site x ≡ false) (same_there site) u.loads))
           by (inr e) = ap (λ (b : Bool). b && list_any (may_differ p plan (stage_of p plan site) site) u.loads) (ne_eqb u.site site e)
 

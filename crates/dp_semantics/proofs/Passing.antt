@@ -57,15 +57,14 @@ module _ (p : Program) where
   parts a b h = each_split (λ x. 0 < cell_count p (record { 0 = x })) (loaded_by a) (loaded_by b) h
 
   reads_celled : (e : Expr) → Celled (loaded_by e) → list_all celled (reads e) ≡ true
-  reads_celled (tree.Number n) h = refl
   reads_celled (tree.Input' _ (more_of-Expr a end_of-Expr)) h = reads_celled a h
-  reads_celled tree.InputLen h = refl
   reads_celled (tree.Scalar x) h = and_from _ _ (lt-ltb 0 (cell_count p x) h.0) refl
   reads_celled (tree.Element' x _ (more_of-Expr a end_of-Expr)) h = two (reads a) (record { variable = x.0; index = Some a } ∷ []) (reads_celled a h.1) (and_from _ _ (lt-ltb 0 (cell_count p x) h.0) refl)
   reads_celled (tree.Unary' op _ (more_of-Expr a end_of-Expr)) h = reads_celled a h
   reads_celled (tree.Binary' op _ (more_of-Expr a end_of-Expr) _ (more_of-Expr b end_of-Expr)) h = two (reads a) (reads b) (reads_celled a (parts a b h).0) (reads_celled b (parts a b h).1)
   reads_celled (tree.And' _ (more_of-Expr a end_of-Expr) _ (more_of-Expr b end_of-Expr)) h = two (reads a) (reads b) (reads_celled a (parts a b h).0) (reads_celled b (parts a b h).1)
   reads_celled (tree.Or' _ (more_of-Expr a end_of-Expr) _ (more_of-Expr b end_of-Expr)) h = two (reads a) (reads b) (reads_celled a (parts a b h).0) (reads_celled b (parts a b h).1)
+  reads_celled _ h = refl
 
   head_celled : (h : Stmt-F Stmt) → Celled (head_loads h) → list_all celled (head_reads h) ≡ true
   head_celled (Assign site x e) c = reads_celled e c

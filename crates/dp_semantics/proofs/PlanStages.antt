@@ -8,6 +8,7 @@ use Rattle.dp_semantics.proofs.TextOrder.{Ascends, Between, ascends_between, asc
 use Rattle.dp_semantics.proofs.WellNested.{none_before}
 use Rattle.dp_semantics.proofs.WrittenStages.{stage_unlisted}
 use Rattle.dp_semantics.proofs.Setting.{Each, each_map, none_of, all_make}
+use Rattle.std.proofs.lemmas.Bool.{or_right}
 
 -- An assumption of a site of the region is one of the plan's.
 found_assumption : (assumed : List Assume) (site : ℕ) → has site (map assumed_site assumed) ≡ true → (a : Assume) × (assumption_at assumed site ≡ Some a) × (a.site.0 ≡ site)
@@ -75,11 +76,7 @@ module _ (p : Program) (w : WrittenPlan) (plan : Plan) (stages_are : plan.stage_
   pub ruled : plan.assume ≡ filter_map (assumption_at w.assume) sites → (e : Enclosing) → has e.site sites ≡ true → is_late_unassumed w e ≡ false → (is_some (assumed_in plan.assume e.site) || none_before p plan e) ≡ true
   ruled assumed e at late = by (comes_late w e) refl (has e.site (map assumed_site w.assume)) refl late
     where
-      or_true : (b c : Bool) → c ≡ true → (b || c) ≡ true
-      or_true true c q = refl
-      or_true false c q = q
-
       by : (b : Bool) → comes_late w e ≡ b → (c : Bool) → has e.site (map assumed_site w.assume) ≡ c → (b && not c) ≡ false → (is_some (assumed_in plan.assume e.site) || none_before p plan e) ≡ true
-      by false t c q n = or_true (is_some (assumed_in plan.assume e.site)) (none_before p plan e) (in_time e t)
+      by false t c q n = or_right (is_some (assumed_in plan.assume e.site)) (none_before p plan e) (in_time e t)
       by true t true q n = ap (λ (b : Bool). b || none_before p plan e) (ap (λ (those : List Assume). is_some (assumed_in those e.site)) assumed ∙ assumed_by w.assume e.site q sites at)
       by true t false q n = absurd (cc)

@@ -15,15 +15,11 @@ mutual
   plain_free_in r end_of-Stmt w = refl
   plain_free_in r (more_of-Stmt x rest) w = let both = and_parts _ _ w in and_from _ _ (plain_free r x both.0) (plain_free_in r rest both.1)
 
-inner_free : (r : ℕ) (x : Stmt) → is_inner x ≡ true → is_free r x ≡ true
-inner_free r (tree.Break site cond) w = refl
-inner_free r (tree.Assign site v e) w = refl
-inner_free r (tree.Store site v index e) w = refl
-inner_free r (tree.Print site e) w = refl
+pub inner_free : (r : ℕ) (x : Stmt) → is_inner x ≡ true → is_free r x ≡ true
 inner_free r (tree.If' site cond l a m b) w = plain_free r (tree.If' site cond l a m b) w
 inner_free r (tree.While' site cond l a) w = plain_free r (tree.While' site cond l a) w
 inner_free r (tree.Region' q site cond l a) w = absurd (cc)
-inner_free r (tree.Call f line args) w = refl
+inner_free r _ w = refl
 
 pub inner_free_in : {n : _} (r : ℕ) (row : Row_of-Stmt n) → is_inner_in row ≡ true → is_free_in r row ≡ true
 inner_free_in r end_of-Stmt w = refl

@@ -7,6 +7,7 @@ use Rattle.dp_semantics.specs.Recovery.{next_epoch, recovered}
 use Rattle.dp_semantics.specs.Cause.{Cause, or_else, by_load, load_cause, checked_load_cause, assumption_cause, words_cause, first_cause, cause_or_end, cause_since, cause}
 use Rattle.dp_semantics.specs.Verdict.{packet_at, judgement_at}
 use Rattle.dp_semantics.specs.Shift.{SameVerdicts, SameEpochs, VerdictsShift, EpochsShift, RegionRunsAlone}
+use Rattle.std.proofs.lemmas.List.Elements.{filter-append}
 
 eq_moved : (m j i : ℕ) → (m + j == m + i) ≡ (j == i)
 eq_moved m j i = elim (cases_eq j i) [
@@ -158,19 +159,11 @@ module _ (p : Program) (plan : Plan) (m k : ℕ) (run rest : Run) (g : GoesOnAs 
         let there : a + 1 + b ≡ a + suc b = omega arith in
         ap (numbers_from a) next ∙ ap (λ (ns : List ℕ). a ∷ ns) (count_split (a + 1) b n) ∙ ap (λ (i : ℕ). a ∷ (numbers_from (a + 1) b ++ numbers_from i n)) there
 
-    filter_split : (test : ℕ → Bool) (a b : List ℕ) → filter test (a ++ b) ≡ filter test a ++ filter test b
-    filter_split test [] b = refl
-    filter_split test (x ∷ a) b = ap (λ (ns : List ℕ). if test x then x ∷ ns else ns) (filter_split test a b) ∙ by (test x)
-      where
-        by : (t : Bool) → (if t then x ∷ (filter test a ++ filter test b) else filter test a ++ filter test b) ≡ (if t then x ∷ filter test a else filter test a) ++ filter test b
-        by true = refl
-        by false = refl
-
     listed : recovered p plan run ≡ filter (is_recovered p plan run) (numbers_from 0 m) ++ map (λ i. m + i) (recovered p plan rest)
     listed =
         let from : 0 + m ≡ m + 0 = omega arith in
         ap (λ (n : ℕ). filter (is_recovered p plan run) (numbers_from 0 n)) g.begun_in_all ∙ ap (filter (is_recovered p plan run)) (count_split 0 m (begun_count rest r))
-        ∙ filter_split (is_recovered p plan run) (numbers_from 0 m) (numbers_from (0 + m) (begun_count rest r))
+        ∙ filter-append (is_recovered p plan run) (numbers_from 0 m) (numbers_from (0 + m) (begun_count rest r))
         ∙ ap (λ (a : ℕ). filter (is_recovered p plan run) (numbers_from 0 m) ++ filter (is_recovered p plan run) (numbers_from a (begun_count rest r))) from
         ∙ ap (λ (ns : List ℕ). filter (is_recovered p plan run) (numbers_from 0 m) ++ ns) (filter_moved (begun_count rest r) 0)
 

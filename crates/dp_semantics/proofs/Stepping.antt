@@ -1,10 +1,11 @@
 -- One step of the source against one step, or none, of a stage: it stays in step, and its words are the event's.
-use Rattle.dp_semantics.proofs.Names.{closes_at, and_parts, well_nested, ◌≡◌, inl, inr, refl, sym, ap, ◌∙◌, subst, ℕ, suc, ◌+◌, ◌-◌, ◌<◌, ◌≤◌, true, ◌||◌, if◌then◌else◌, List, [], ◌∷◌, ◌++◌, ℤ, length, length-append, get_or, sum_by, slice_set, Ok, arith, eq-eqb, ne_eqb, le-leb, append-nil, length-set, sum_by-set, cases_eq, cases_order, Word, SiteId, Stmt, out-Stmt, roll-Stmt, out-roll-Stmt, Stmt-F, If, While, Program, Plan, WithLoads, Event, Effect, followed, site_of, value_of, evaluated, stage_of, first_site, is_checked, Past, as_assumed, project, project_all, Taken, words_of, done_word, effect_by, taken_from, load_words, word_list, Turn, turned, stage_at, consumed, words_left, turn_step, turn_from, Epoch, or-false}
+use Rattle.dp_semantics.proofs.Names.{closes_at, and_parts, well_nested, ◌≡◌, inl, inr, refl, sym, ap, ◌∙◌, subst, ℕ, suc, ◌+◌, ◌-◌, ◌<◌, ◌≤◌, true, ◌||◌, List, [], ◌∷◌, ◌++◌, ℤ, length, length-append, get_or, sum_by, slice_set, Ok, arith, eq-eqb, ne_eqb, le-leb, append-nil, length-set, sum_by-set, cases_eq, cases_order, Word, SiteId, Stmt, out-Stmt, roll-Stmt, out-roll-Stmt, Stmt-F, If, While, Program, Plan, WithLoads, Event, Effect, followed, site_of, value_of, evaluated, stage_of, first_site, Past, as_assumed, project, project_all, Taken, words_of, effect_by, taken_from, word_list, Turn, turned, stage_at, consumed, words_left, turn_step, turn_from, Epoch, or-false}
 pub use Rattle.dp_semantics.proofs.Taking.{words_for, words_here, event_passes, words_elsewhere, event_held, word_list_is, word_list_same, word_list_other, effect_of_word, taken_event}
 pub use Rattle.dp_semantics.proofs.Source.{event_of, past_of, stage_for, Stands, stands_next, own_site, form_of, stage_does, own_loads, Gives, source_does, event_sees, well_parts, each_joins, each_parts, head_fact, head_well, store_within}
 pub use Rattle.dp_semantics.proofs.Seeing.{stored_none, seen_alike, seen_base, up_to, Sees, stored-length, sees_later, sees_stored}
 pub use Rattle.dp_semantics.proofs.Projected.{reached, assumed_of, late_stays, proj_head, stays_there, kept_followed, unseen}
 use Rattle.dp_semantics.proofs.Setting.{size, Fit, Form, project_out, all_well}
+use Rattle.dp_semantics.proofs.Shorter.{some_word}
 
 -- stage s stands in iteration i where the source has `to_do` to do after the earlier events
 pub record InStep (k : Epoch) (i s : ℕ) (to_do : List Stmt) (earlier : List Past) (c : Turn) : Type 0 where
@@ -45,9 +46,6 @@ module _ (p : Program) (plan : Plan) (s : ℕ) where
   effect_proj (If site cond a b) w = refl
   effect_proj (While site cond a) w = refl
   effect_proj _ w = refl
-
-some_word : (p : Program) (plan : Plan) (event : Event) → 0 < length (words_of p plan event)
-some_word p plan event = omega (arith, length-append (if is_checked p plan event.site then load_words event.site event.loads else []) (done_word event.site event.effect ∷ []))
 
 module _ {k : Epoch} (ok : Fit k) {i : ℕ} {x : Stmt} {rest : List Stmt} {earlier : List Past} {cells : List ℤ} (at : Stands k i (x ∷ rest) earlier cells) (s : ℕ) where
   open k use {program, plan, input}

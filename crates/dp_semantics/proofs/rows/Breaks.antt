@@ -47,63 +47,39 @@ negative = pos 5 ∷ negsuc 0 ∷ pos 7 ∷ []
 abbrev positive : List ℤ
 positive = pos 5 ∷ pos 6 ∷ []
 
-late_fits : fits_plan until_negative late_break ≡ true
+both_fit : (fits_plan until_negative late_break ≡ true) × (fits_plan until_negative early_break ≡ true)
 unfolding tree_opened
-late_fits = refl
+both_fit = (refl, refl)
 
-early_fits : fits_plan until_negative early_break ≡ true
+left_by_the_second : (begun_count (source_run until_negative negative 10000) 1 ≡ 2) × (is_closing (source_run until_negative negative 10000) 1 1 ≡ true)
 unfolding tree_opened
-early_fits = refl
-
-two_begun : begun_count (source_run until_negative negative 10000) 1 ≡ 2
-unfolding tree_opened
-two_begun = refl
-
-left_by_the_second : is_closing (source_run until_negative negative 10000) 1 1 ≡ true
-unfolding tree_opened
-left_by_the_second = refl
+left_by_the_second = (refl, refl)
 
 -- where the region is left its body local reads 0, and `i` isn't stepped
-memory_when_left : memory_after (source_run until_negative negative 10000) 1 2 ≡ pos 5 ∷ pos 1 ∷ pos 0 ∷ []
+memory_when_left : (memory_after (source_run until_negative negative 10000) 1 2 ≡ pos 5 ∷ pos 1 ∷ pos 0 ∷ []) × ((source_run until_negative negative 10000).end ≡ Done)
 unfolding tree_opened
-memory_when_left = refl
+memory_when_left = (refl, refl)
 
-ends_done : (source_run until_negative negative 10000).end ≡ Done
+late_again : (recovered until_negative late_break (source_run until_negative negative 10000) ≡ 1 ∷ []) × (cause until_negative late_break (source_run until_negative negative 10000) 1 ≡ ByAssumption 4)
 unfolding tree_opened
-ends_done = refl
-
-late_again : recovered until_negative late_break (source_run until_negative negative 10000) ≡ 1 ∷ []
-unfolding tree_opened
-late_again = refl
-
-late_cause : cause until_negative late_break (source_run until_negative negative 10000) 1 ≡ ByAssumption 4
-unfolding tree_opened
-late_cause = refl
+late_again = (refl, refl)
 
 early_never : recovered until_negative early_break (source_run until_negative negative 10000) ≡ []
 unfolding tree_opened
 early_never = refl
 
-late_untaken : recovered until_negative late_break (source_run until_negative positive 10000) ≡ []
+untaken : (recovered until_negative late_break (source_run until_negative positive 10000) ≡ []) × (recovered until_negative early_break (source_run until_negative positive 10000) ≡ [])
 unfolding tree_opened
-late_untaken = refl
-
-early_untaken : recovered until_negative early_break (source_run until_negative positive 10000) ≡ []
-unfolding tree_opened
-early_untaken = refl
+untaken = (refl, refl)
 
 three_begun : begun_count (source_run until_negative positive 10000) 1 ≡ 3
 unfolding tree_opened
 three_begun = refl
 
 -- the fuel ends before the break
-cut_again : recovered until_negative early_break (source_run until_negative negative 8) ≡ 1 ∷ []
+cut_again : (recovered until_negative early_break (source_run until_negative negative 8) ≡ 1 ∷ []) × ((source_run until_negative negative 8).end ≡ Fuel)
 unfolding tree_opened
-cut_again = refl
-
-cut_end : (source_run until_negative negative 8).end ≡ Fuel
-unfolding tree_opened
-cut_end = refl
+cut_again = (refl, refl)
 
 -- the packets of the closing iteration, judged
 early_judged : judgement_at until_negative early_break negative (source_run until_negative negative 10000) 0 1 6 ≡ Clean (record { effects = Decided (pos 1) ∷ Stored 2 (negsuc 0) ∷ Tried (pos 1) ∷ []; sites = 2 ∷ 3 ∷ 4 ∷ []; closing = true })

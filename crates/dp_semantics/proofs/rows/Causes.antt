@@ -31,21 +31,13 @@ unfolding tree_opened
 broken_assumption = refl
 
 -- a stale load comes before the words that follow it
-load_before_words : cause_in stale_step (stale_step_plan 19) [] 10000 1 ≡ ByLoad 5 0 (pos 0) (pos 2)
+too_many_words : (cause_in stale_step (stale_step_plan 19) [] 10000 1 ≡ ByLoad 5 0 (pos 0) (pos 2)) × (cause_in stale_step (stale_step_plan 19) [] 10000 2 ≡ ByWords 1 8)
 unfolding tree_opened
-load_before_words = refl
+too_many_words = (refl, refl)
 
-too_many_words : cause_in stale_step (stale_step_plan 19) [] 10000 2 ≡ ByWords 1 8
+faults : (cause_in zero_divisor zero_divisor_plan [] 10000 3 ≡ ByFault (record { kind = Divide; line = 6 })) × (cause_in sum_loop (one_stage_plan sum_loop 1) [] 10 2 ≡ ByFuel)
 unfolding tree_opened
-too_many_words = refl
-
-source_fault : cause_in zero_divisor zero_divisor_plan [] 10000 3 ≡ ByFault (record { kind = Divide; line = 6 })
-unfolding tree_opened
-source_fault = refl
-
-spent_fuel : cause_in sum_loop (one_stage_plan sum_loop 1) [] 10 2 ≡ ByFuel
-unfolding tree_opened
-spent_fuel = refl
+faults = (refl, refl)
 
 -- stage 1 faults on a stale 0; the cause is the load in the source
 stale_division : cause_in stale_divisor stale_divisor_plan [] 10000 1 ≡ ByLoad 4 0 (pos 0) (pos 2)

@@ -57,22 +57,14 @@ ahead_second = proved (unchecked 7 (plan 16 (Seq ∷ Seq ∷ []) (1 ∷ 1 ∷ 1 
 abbrev behind_second : Plan
 behind_second = proved (unchecked 4 (plan 4096 (Seq ∷ Seq ∷ []) (1 ∷ 1 ∷ 1 ∷ 2 ∷ []) []))
 
-loads_ahead : is_far ahead 1 8 4 ≡ true
+loads_ahead : (is_far ahead 1 8 4 ≡ true) × (is_far_within ahead 1 8 7 ≡ true)
 unfolding tree_opened
-loads_ahead = refl
-
-loads_ahead_within : is_far_within ahead 1 8 7 ≡ true
-unfolding tree_opened
-loads_ahead_within = refl
+loads_ahead = (refl, refl)
 
 -- the store stands behind the step, so it is one iteration ahead of the load
-store_ahead : is_far behind 1 5 3 ≡ false
+store_ahead : (is_far behind 1 5 3 ≡ false) × (is_far_within behind 1 5 3 ≡ true)
 unfolding tree_opened
-store_ahead = refl
-
-store_ahead_within : is_far_within behind 1 5 3 ≡ true
-unfolding tree_opened
-store_ahead_within = refl
+store_ahead = (refl, refl)
 
 ahead_first_checked : map (is_checked ahead ahead_first) (3 ∷ 4 ∷ 5 ∷ 6 ∷ 7 ∷ 8 ∷ 9 ∷ []) ≡ false ∷ true ∷ true ∷ true ∷ true ∷ false ∷ false ∷ []
 unfolding tree_opened
@@ -86,41 +78,26 @@ behind_second_checked : map (is_checked behind behind_second) (2 ∷ 3 ∷ 4 ∷
 unfolding tree_opened
 behind_second_checked = refl
 
-second_fits : fits_plan ahead ahead_second ≡ true
+second_fit : (fits_plan ahead ahead_second ≡ true) × (fits_plan behind behind_second ≡ true)
 unfolding tree_opened
-second_fits = refl
+second_fit = (refl, refl)
 
-behind_fits : fits_plan behind behind_second ≡ true
+ahead_again : (recovered ahead ahead_first (source_run ahead [] 10000) ≡ 0 ∷ 1 ∷ 2 ∷ 3 ∷ 4 ∷ 5 ∷ 6 ∷ 7 ∷ []) × (recovered ahead ahead_second (source_run ahead [] 10000) ≡ [])
 unfolding tree_opened
-behind_fits = refl
+ahead_again = (refl, refl)
 
-ahead_again : recovered ahead ahead_first (source_run ahead [] 10000) ≡ 0 ∷ 1 ∷ 2 ∷ 3 ∷ 4 ∷ 5 ∷ 6 ∷ 7 ∷ []
+ahead_memory : (begun_count (source_run ahead [] 10000) 1 ≡ 9)
+    × (memory_after (source_run ahead [] 10000) 1 9 ≡ pos 1 ∷ pos 2 ∷ pos 3 ∷ pos 4 ∷ pos 5 ∷ pos 6 ∷ pos 7 ∷ pos 8 ∷ pos 0 ∷ pos 28 ∷ pos 8 ∷ [])
 unfolding tree_opened
-ahead_again = refl
-
-ahead_never : recovered ahead ahead_second (source_run ahead [] 10000) ≡ []
-unfolding tree_opened
-ahead_never = refl
-
-ahead_begun : begun_count (source_run ahead [] 10000) 1 ≡ 9
-unfolding tree_opened
-ahead_begun = refl
-
-ahead_memory : memory_after (source_run ahead [] 10000) 1 9 ≡ pos 1 ∷ pos 2 ∷ pos 3 ∷ pos 4 ∷ pos 5 ∷ pos 6 ∷ pos 7 ∷ pos 8 ∷ pos 0 ∷ pos 28 ∷ pos 8 ∷ []
-unfolding tree_opened
-ahead_memory = refl
+ahead_memory = (refl, refl)
 
 behind_again : recovered behind behind_second (source_run behind [] 10000) ≡ 1 ∷ 3 ∷ []
 unfolding tree_opened
 behind_again = refl
 
-behind_begun : begun_count (source_run behind [] 10000) 1 ≡ 5
+behind_memory : (begun_count (source_run behind [] 10000) 1 ≡ 5) × (memory_after (source_run behind [] 10000) 1 5 ≡ pos 0 ∷ pos 7 ∷ pos 7 ∷ pos 7 ∷ pos 7 ∷ pos 21 ∷ pos 4 ∷ [])
 unfolding tree_opened
-behind_begun = refl
-
-behind_memory : memory_after (source_run behind [] 10000) 1 5 ≡ pos 0 ∷ pos 7 ∷ pos 7 ∷ pos 7 ∷ pos 7 ∷ pos 21 ∷ pos 4 ∷ []
-unfolding tree_opened
-behind_memory = refl
+behind_memory = (refl, refl)
 
 -- 4    int i = 0;
 -- 6    while (i < 4) {
@@ -186,13 +163,9 @@ abbrev element_second : Plan
 element_second = proved (unchecked 3 (plan 4096 (Seq ∷ Par ∷ []) (1 ∷ 2 ∷ 1 ∷ []) []))
 
 -- a load before the store of the same element needs no check, one behind it or in a loop with it does
-order_checked : map (is_checked in_text_order store_late) (2 ∷ 3 ∷ 4 ∷ 5 ∷ []) ≡ false ∷ false ∷ false ∷ false ∷ []
+order_checked : (map (is_checked in_text_order store_late) (2 ∷ 3 ∷ 4 ∷ 5 ∷ []) ≡ false ∷ false ∷ false ∷ false ∷ []) × (is_far_within in_text_order 1 4 3 ≡ false)
 unfolding tree_opened
-order_checked = refl
-
-order_within : is_far_within in_text_order 1 4 3 ≡ false
-unfolding tree_opened
-order_within = refl
+order_checked = (refl, refl)
 
 against_checked : map (is_checked against_text_order store_early) (2 ∷ 3 ∷ 4 ∷ 5 ∷ []) ≡ false ∷ false ∷ true ∷ false ∷ []
 unfolding tree_opened
@@ -202,17 +175,14 @@ loop_checked : map (is_checked in_one_loop store_in_loop) (3 ∷ 4 ∷ 5 ∷ 6 �
 unfolding tree_opened
 loop_checked = refl
 
-element_first_checked : map (is_checked own_element element_first) (2 ∷ 3 ∷ 4 ∷ []) ≡ false ∷ true ∷ false ∷ []
+element_checked : (map (is_checked own_element element_first) (2 ∷ 3 ∷ 4 ∷ []) ≡ false ∷ true ∷ false ∷ [])
+    × (map (is_checked own_element element_second) (2 ∷ 3 ∷ 4 ∷ []) ≡ false ∷ false ∷ false ∷ [])
 unfolding tree_opened
-element_first_checked = refl
+element_checked = (refl, refl)
 
-element_second_checked : map (is_checked own_element element_second) (2 ∷ 3 ∷ 4 ∷ []) ≡ false ∷ false ∷ false ∷ []
+order_again : (recovered in_text_order store_late (source_run in_text_order [] 10000) ≡ []) × (is_far in_text_order 1 4 3 ≡ true)
 unfolding tree_opened
-element_second_checked = refl
-
-order_again : recovered in_text_order store_late (source_run in_text_order [] 10000) ≡ []
-unfolding tree_opened
-order_again = refl
+order_again = (refl, refl)
 
 -- 6    while (i < 4) {
 -- 7      s = s + a[i];
@@ -247,7 +217,3 @@ twice_near = refl
 local_near : is_far local_moves 1 4 3 ≡ false
 unfolding tree_opened
 local_near = refl
-
-order_far : is_far in_text_order 1 4 3 ≡ true
-unfolding tree_opened
-order_far = refl

@@ -8,53 +8,29 @@ use Rattle.dp_plan.specs.CheckedTable.{checked_table}
 use Rattle.dp_semantics.specs.OneStage.{one_stage_plan}
 use Rattle.dp_semantics.specs.Fits.{fits_plan}
 
-sum_loop_fits : fits_plan sum_loop (one_stage_plan sum_loop 1) ≡ true
+one_stage_fits : (fits_plan sum_loop (one_stage_plan sum_loop 1) ≡ true) × (fits_plan closed_at_once (one_stage_plan closed_at_once 1) ≡ true)
 unfolding tree_opened
-sum_loop_fits = refl
+one_stage_fits = (refl, refl)
 
-one_stage_written_out : one_stage_plan sum_loop 1 ≡ proved sum_loop_one_stage
+one_stage_written_out : (one_stage_plan sum_loop 1 ≡ proved sum_loop_one_stage) × (checked_table sum_loop (one_stage_plan sum_loop 1) ≡ (one_stage_plan sum_loop 1).checked_at)
 unfolding tree_opened
-one_stage_written_out = refl
+one_stage_written_out = (refl, refl)
 
-one_stage_is_tabled : checked_table sum_loop (one_stage_plan sum_loop 1) ≡ (one_stage_plan sum_loop 1).checked_at
+stale_read_fits : (fits_plan stale_read stale_read_plan ≡ true) × (fits_plan same_value_store stale_read_plan ≡ true) × (fits_plan stale_divisor stale_divisor_plan ≡ true)
 unfolding tree_opened
-one_stage_is_tabled = refl
+stale_read_fits = (refl, refl, refl)
 
-closed_at_once_fits : fits_plan closed_at_once (one_stage_plan closed_at_once 1) ≡ true
+skip_negative_fits : (fits_plan skip_negative skip_negative_plan ≡ true) × (fits_plan zero_divisor zero_divisor_plan ≡ true)
 unfolding tree_opened
-closed_at_once_fits = refl
+skip_negative_fits = (refl, refl)
 
-zero_divisor_fits : fits_plan zero_divisor zero_divisor_plan ≡ true
+histogram_fits : (fits_plan histogram histogram_plan ≡ true) × (fits_plan two_stores two_stores_plan ≡ true)
 unfolding tree_opened
-zero_divisor_fits = refl
-
-stale_read_fits : fits_plan stale_read stale_read_plan ≡ true
-unfolding tree_opened
-stale_read_fits = refl
-
-same_value_store_fits : fits_plan same_value_store stale_read_plan ≡ true
-unfolding tree_opened
-same_value_store_fits = refl
-
-skip_negative_fits : fits_plan skip_negative skip_negative_plan ≡ true
-unfolding tree_opened
-skip_negative_fits = refl
-
-histogram_fits : fits_plan histogram histogram_plan ≡ true
-unfolding tree_opened
-histogram_fits = refl
-
-two_stores_fit : fits_plan two_stores two_stores_plan ≡ true
-unfolding tree_opened
-two_stores_fit = refl
+histogram_fits = (refl, refl)
 
 stale_step_fits : (words : ℕ) → fits_plan stale_step (stale_step_plan words) ≡ true
 unfolding tree_opened
 stale_step_fits words = refl
-
-stale_divisor_fits : fits_plan stale_divisor stale_divisor_plan ≡ true
-unfolding tree_opened
-stale_divisor_fits = refl
 
 -- an `if` of a later stage that isn't assumed
 unassumed : fits_plan skip_negative (plan 4096 (Seq ∷ Seq ∷ []) (1 ∷ 2 ∷ 2 ∷ 1 ∷ 1 ∷ 2 ∷ []) []) ≡ false
@@ -66,23 +42,15 @@ late_while : fits_plan stale_step (plan 64 (Seq ∷ Seq ∷ []) (1 ∷ 1 ∷ 2 �
 unfolding tree_opened
 late_while = refl
 
-replicated_first : fits_plan histogram (plan 4096 (Par ∷ Seq ∷ Seq ∷ []) (1 ∷ 1 ∷ 1 ∷ 2 ∷ 3 ∷ []) []) ≡ false
+replicated : (fits_plan histogram (plan 4096 (Par ∷ Seq ∷ Seq ∷ []) (1 ∷ 1 ∷ 1 ∷ 2 ∷ 3 ∷ []) []) ≡ false) × (fits_plan histogram (plan 4096 (Seq ∷ Par ∷ Par ∷ []) (1 ∷ 1 ∷ 1 ∷ 2 ∷ 3 ∷ []) []) ≡ false)
 unfolding tree_opened
-replicated_first = refl
-
-replicated_neighbours : fits_plan histogram (plan 4096 (Seq ∷ Par ∷ Par ∷ []) (1 ∷ 1 ∷ 1 ∷ 2 ∷ 3 ∷ []) []) ≡ false
-unfolding tree_opened
-replicated_neighbours = refl
+replicated = (refl, refl)
 
 late_condition : fits_plan stale_read (plan 4096 (Seq ∷ Seq ∷ []) (2 ∷ 1 ∷ 1 ∷ 2 ∷ []) []) ≡ false
 unfolding tree_opened
 late_condition = refl
 
 -- a site without a stage, and one with a stage too high
-unlisted : fits_plan stale_read (plan 4096 (Seq ∷ Seq ∷ []) (1 ∷ 1 ∷ 1 ∷ []) []) ≡ false
+unlisted : (fits_plan stale_read (plan 4096 (Seq ∷ Seq ∷ []) (1 ∷ 1 ∷ 1 ∷ []) []) ≡ false) × (fits_plan stale_read (plan 4096 (Seq ∷ []) (1 ∷ 1 ∷ 1 ∷ 2 ∷ []) []) ≡ false)
 unfolding tree_opened
-unlisted = refl
-
-beyond_the_stages : fits_plan stale_read (plan 4096 (Seq ∷ []) (1 ∷ 1 ∷ 1 ∷ 2 ∷ []) []) ≡ false
-unfolding tree_opened
-beyond_the_stages = refl
+unlisted = (refl, refl)

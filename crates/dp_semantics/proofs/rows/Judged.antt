@@ -86,13 +86,9 @@ stores_in_source_order : verdicts two_stores two_stores_plan [] 10000 ≡ clean 
 unfolding tree_opened turn_from judge_from
 stores_in_source_order = refl
 
-stale_loop : verdicts stale_step (stale_step_plan 64) [] 10000 ≡ clean ∷ unclean ∷ clean ∷ clean ∷ []
+stale_loop : (verdicts stale_step (stale_step_plan 64) [] 10000 ≡ clean ∷ unclean ∷ clean ∷ clean ∷ []) × (verdicts stale_step (stale_step_plan 19) [] 10000 ≡ clean ∷ unclean ∷ unclean ∷ clean ∷ [])
 unfolding tree_opened turn_from judge_from
-stale_loop = refl
-
-words_too_few : verdicts stale_step (stale_step_plan 19) [] 10000 ≡ clean ∷ unclean ∷ unclean ∷ clean ∷ []
-unfolding tree_opened turn_from judge_from
-words_too_few = refl
+stale_loop = (refl, refl)
 
 stale_division : verdicts stale_divisor stale_divisor_plan [] 10000 ≡ clean ∷ unclean ∷ clean ∷ clean ∷ []
 unfolding tree_opened turn_from judge_from
@@ -149,10 +145,6 @@ abbrev is_clean_judgement : Judgement → Bool
 is_clean_judgement (Clean a) = true
 is_clean_judgement Unclean = false
 
-not_void : is_clean_judgement (first_packet_as Going) ≡ true
+void : (is_clean_judgement (first_packet_as Going) ≡ true) × (is_clean_judgement (first_packet_as (Broken 2 Full)) ≡ false)
 unfolding tree_opened turn_from judge_from
-not_void = refl
-
-void : is_clean_judgement (first_packet_as (Broken 2 Full)) ≡ false
-unfolding tree_opened turn_from judge_from
-void = refl
+void = (refl, refl)

@@ -18,17 +18,10 @@ one_stage_whole : recovered_in sum_loop (one_stage_plan sum_loop 1) [] 10000 ≡
 unfolding tree_opened
 one_stage_whole = refl
 
-fuel_after_an_iteration : recovered_in sum_loop (one_stage_plan sum_loop 1) [] 9 ≡ []
+fuel : (recovered_in sum_loop (one_stage_plan sum_loop 1) [] 9 ≡ []) × (recovered_in sum_loop (one_stage_plan sum_loop 1) [] 10 ≡ 2 ∷ [])
+    × (recovered_in sum_loop (one_stage_plan sum_loop 1) [] 13 ≡ [])
 unfolding tree_opened
-fuel_after_an_iteration = refl
-
-fuel_within_an_iteration : recovered_in sum_loop (one_stage_plan sum_loop 1) [] 10 ≡ 2 ∷ []
-unfolding tree_opened
-fuel_within_an_iteration = refl
-
-fuel_before_the_closing : recovered_in sum_loop (one_stage_plan sum_loop 1) [] 13 ≡ []
-unfolding tree_opened
-fuel_before_the_closing = refl
+fuel = (refl, refl, refl)
 
 -- the source divides by 0 in iteration 3
 fault : recovered_in zero_divisor zero_divisor_plan [] 10000 ≡ 3 ∷ []
@@ -49,17 +42,14 @@ assumed_broken_once : recovered_in skip_negative skip_negative_plan (pos 5 ∷ n
 unfolding tree_opened
 assumed_broken_once = refl
 
-assumed_broken_first : recovered_in skip_negative skip_negative_plan (negsuc 0 ∷ pos 5 ∷ pos 3 ∷ []) 10000 ≡ 0 ∷ []
+assumed_broken_first : (recovered_in skip_negative skip_negative_plan (negsuc 0 ∷ pos 5 ∷ pos 3 ∷ []) 10000 ≡ 0 ∷ [])
+    × (recovered_in skip_negative skip_negative_plan (negsuc 9223372036854775807 ∷ []) 10000 ≡ 0 ∷ [])
 unfolding tree_opened
-assumed_broken_first = refl
+assumed_broken_first = (refl, refl)
 
 assumed_broken_twice : recovered_in skip_negative skip_negative_plan (negsuc 0 ∷ negsuc 0 ∷ negsuc 0 ∷ negsuc 0 ∷ []) 10000 ≡ 0 ∷ 1 ∷ []
 unfolding tree_opened
 assumed_broken_twice = refl
-
-least_number : recovered_in skip_negative skip_negative_plan (negsuc 9223372036854775807 ∷ []) 10000 ≡ 0 ∷ []
-unfolding tree_opened
-least_number = refl
 
 -- a middle stage that is replicated
 replicated : recovered_in histogram histogram_plan (pos 0 ∷ pos 1 ∷ pos 2 ∷ pos 3 ∷ pos 4 ∷ pos 5 ∷ pos 6 ∷ []) 10000 ≡ []
@@ -81,13 +71,9 @@ stale_loop : recovered_in stale_step (stale_step_plan 64) [] 10000 ≡ 1 ∷ []
 unfolding tree_opened
 stale_loop = refl
 
-words_enough : recovered_in stale_step (stale_step_plan 20) [] 10000 ≡ 1 ∷ []
+words : (recovered_in stale_step (stale_step_plan 20) [] 10000 ≡ 1 ∷ []) × (recovered_in stale_step (stale_step_plan 19) [] 10000 ≡ 1 ∷ 2 ∷ [])
 unfolding tree_opened
-words_enough = refl
-
-words_too_few : recovered_in stale_step (stale_step_plan 19) [] 10000 ≡ 1 ∷ 2 ∷ []
-unfolding tree_opened
-words_too_few = refl
+words = (refl, refl)
 
 -- stage 1 divides by a stale 0 where the source doesn't
 stale_division : recovered_in stale_divisor stale_divisor_plan [] 10000 ≡ 1 ∷ []

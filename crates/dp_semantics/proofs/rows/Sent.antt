@@ -39,13 +39,10 @@ agreeing p plan input = by (source_run p input 10000)
     by : Run → List Bool
     by run = map (agrees p plan input run) (numbers_from 0 (begun_count run plan.region))
 
-stale_reads : agreeing stale_read stale_read_plan [] ≡ true ∷ true ∷ false ∷ true ∷ true ∷ false ∷ true ∷ []
+stale_reads : (agreeing stale_read stale_read_plan [] ≡ true ∷ true ∷ false ∷ true ∷ true ∷ false ∷ true ∷ [])
+    × (agreeing same_value_store stale_read_plan [] ≡ true ∷ true ∷ true ∷ true ∷ true ∷ true ∷ true ∷ [])
 unfolding tree_opened turn_from
-stale_reads = refl
-
-same_values : agreeing same_value_store stale_read_plan [] ≡ true ∷ true ∷ true ∷ true ∷ true ∷ true ∷ true ∷ []
-unfolding tree_opened turn_from
-same_values = refl
+stale_reads = (refl, refl)
 
 assumed_broken : agreeing skip_negative skip_negative_plan (pos 5 ∷ negsuc 0 ∷ pos 7 ∷ pos 8 ∷ []) ≡ true ∷ false ∷ true ∷ true ∷ []
 unfolding tree_opened turn_from
@@ -97,10 +94,6 @@ first_version : version_from 1 ≡ Some (pos 0 ∷ pos 0 ∷ pos 0 ∷ pos 0 ∷
 unfolding tree_opened turn_from
 first_version = refl
 
-no_version_from_the_replicated : version_from 2 ≡ None
+no_later_version : (version_from 2 ≡ None) × (version_from 3 ≡ None)
 unfolding tree_opened turn_from
-no_version_from_the_replicated = refl
-
-no_version_from_the_last : version_from 3 ≡ None
-unfolding tree_opened turn_from
-no_version_from_the_last = refl
+no_later_version = (refl, refl)
