@@ -1,7 +1,7 @@
 -- What is held after one more iteration, by how it ends.
 use Rattle.std.proofs.Common.{sym, subst, ℕ, ◌+◌, Bool, true, false, List, ℤ}
 use Rattle.dp_meaning.specs.declared.ends.IterEnd.{IterEnd}
-use Rattle.dp_meaning.specs.declared.ends.IterEnd.TheVariants.{Next, Closed, Fault, Fuel, Going}
+use Rattle.dp_meaning.specs.declared.ends.IterEnd.TheVariants.{Next, Closed}
 use Rattle.dp_meaning.specs.MachineState.{MachineState}
 use Rattle.dp_meaning.specs.IterationRun.{IterationRun}
 use Rattle.dp_meaning.specs.NextIteration.{end_of}
@@ -18,6 +18,4 @@ module _ (first : MachineState) (c : CommittedState) (once : ClosesOnce first c.
   pub reexecuted_holds : (new : CommittedState) (turns : ℕ) (before after : List ℤ) (end : IterEnd) → Reexecuted turns c new before after end → WhereEnded (Holds first new) end
   reexecuted_holds new turns before after Next q = subst (Holds first) (sym q.rest) (applied_holds new.machine turns before after false q.call)
   reexecuted_holds new turns before after Closed q = subst (Holds first) (sym q.rest) (applied_holds new.machine turns before after true q.call)
-  reexecuted_holds new turns before after (Fault fault) q = tt
-  reexecuted_holds new turns before after Fuel q = tt
-  reexecuted_holds new turns before after Going q = tt
+  reexecuted_holds new turns before after _ q = tt

@@ -1,5 +1,5 @@
 -- One more iteration is committed, from the pipeline or by re-execution: what is held stays the source's.
-use Rattle.std.proofs.Common.{◌≡◌, refl, sym, ap, ◌∙◌, subst, append_assoc, ℕ, suc, ◌+◌, ◌-◌, ◌<◌, inl, inr, true, false, if◌then◌else◌, List, [], ◌∷◌, ◌++◌, All, length, length-append, drop, Option, Some, None, slice_get, ℤ, arith}
+use Rattle.std.proofs.Common.{◌≡◌, refl, sym, ap, ◌∙◌, subst, ℕ, suc, ◌+◌, ◌-◌, ◌<◌, inl, inr, true, false, if◌then◌else◌, List, [], ◌∷◌, ◌++◌, All, length, length-append, drop, Option, Some, None, slice_get, ℤ, arith}
 use Rattle.std.proofs.lemmas.List.Elements.{All-weaker, All-cons, All-append}
 use Rattle.std.specs.List.{list_all}
 use Rattle.dp_tree.specs.Step.{Config, Event}
@@ -16,18 +16,11 @@ use Rattle.dp_meaning.specs.IterationRun.{IterationRun, HeadsOnce, has_closed, u
 use Rattle.dp_commit.specs.CommittedState.{CommittedState, IsOpen, Holds, IsInside, region_run, steps_of_first}
 use Rattle.dp_commit.proofs.Lists.{get_at_seam}
 use Rattle.dp_commit.proofs.Parts.{is_off, never_plain, on_region, run_begins}
-use Rattle.dp_commit.proofs.Leaving.{last_more}
 use Rattle.dp_commit.proofs.Heads as heads
 use Rattle.dp_commit.proofs.Going.{goes, started}
-
-pub join : (run mid rest : Run) (a b : List Event) (cs ds : List Config) → Continues run a cs mid → Continues mid b ds rest → Continues run (a ++ b) (cs ++ ds) rest
-join run mid rest a b cs ds x y = record {
-  trace = x.trace ∙ ap (λ (es : List Event). a ++ es) y.trace ∙ sym (append_assoc a b rest.trace);
-  configs = x.configs ∙ ap (λ (xs : List Config). cs ++ xs) y.configs ∙ sym (append_assoc cs ds rest.configs);
-  end = x.end ∙ y.end;
-  fuel = omega (arith, x.fuel, y.fuel, length-append a b);
-  paired = omega (arith, x.paired, y.paired, length-append a b, length-append cs ds);
-}
+pub use Rattle.dp_meaning.proofs.ContinuesLemmas.{continues_join as join}
+use Rattle.dp_meaning.proofs.NextLemmas.{last_front}
+use Rattle.std.proofs.Math.Seq.{drop-append_seam}
 
 -- the configurations of an iteration that begins in this call: the first at the region's condition, the others inside
 pub record Headed (r : ℕ) (configs : List Config) : Type 0 where
@@ -150,15 +143,11 @@ module _ (first : MachineState) (c : CommittedState) (h : Holds first c) (o : Is
       off_there : stands_at_head c.region m.config ≡ false
       off_there = heads.left_is c.region rest (rest_of_run m) events q.first q.inner piece on off closed last m.config begins.0 begins.1 none_there
 
-      drop_front : {X : Type 0} (a b : List X) → drop (length a) (a ++ b) ≡ b
-      drop_front [] b = refl
-      drop_front (x ∷ a) b = drop_front a b
-
       stop_is : stop_from run made None ≡ steps_of_first run c.region (suc i)
       stop_is =
           ap (λ (es : List Event). made + length (last_events (drop made es))) (h.piece.trace ∙ ap (λ (es : List Event). events_of_first run c.region i ++ es) went.run.trace)
-          ∙ ap (λ (es : List Event). made + length (last_events es)) (drop_front (events_of_first run c.region i) (events ++ (rest_of_run m).trace))
-          ∙ ap (λ (es : List Event). made + length es) (last_more events (rest_of_run m).trace closed ∙ last) ∙ sym (size is_last)
+          ∙ ap (λ (es : List Event). made + length (last_events es)) (drop-append_seam (events_of_first run c.region i) (events ++ (rest_of_run m).trace))
+          ∙ ap (λ (es : List Event). made + length es) (last_front events (rest_of_run m).trace closed ∙ last) ∙ sym (size is_last)
 
       memory_is : memory_after run c.region (suc i) ≡ m.config.cells
       memory_is =

@@ -2,7 +2,7 @@
 use Rattle.std.proofs.Common.{◌≡◌, refl, ap, subst, ℕ, ◌+◌, ◌≤◌, ◌<◌, Bool, true, false, IsTrue, IsErr, Result, Ok, List, [], ◌∷◌, length, ℤ, Option, Some, None, arith}
 use Rattle.dp_tree.specs.Step.{Event}
 use Rattle.dp_meaning.specs.declared.ends.IterEnd.{IterEnd}
-use Rattle.dp_meaning.specs.declared.ends.IterEnd.TheVariants.{Next, Closed, Fault, Fuel, Going}
+use Rattle.dp_meaning.specs.declared.ends.IterEnd.TheVariants.{Next, Closed, Fault}
 use Rattle.dp_meaning.specs.MachineState.{MachineState}
 use Rattle.dp_meaning.specs.IterationRun.{IterationRun, IterationStops, GoesOn, StartsAgain, has_closed}
 use Rattle.dp_meaning.specs.NextIteration.{end_of}
@@ -30,8 +30,7 @@ bound_by region turns count old new events Next g s h =
 bound_by region turns count old new events Closed g s h =
     let none = ap under_way_count g.current in let some = some_closed old.current events g.closed in omega (arith, s, h, none, some)
 bound_by region turns count old new events (Fault fault) g s h = going_bound region count old new events g.0 s h
-bound_by region turns count old new events Fuel g s h = going_bound region count old new events g.0 s h
-bound_by region turns count old new events Going g s h = going_bound region count old new events g.0 s h
+bound_by region turns count old new events _ g s h = going_bound region count old new events g.0 s h
 
 pub bound : (region turns count : ℕ) (old new : MachineState) (before after : List ℤ) (end : IterEnd) → IterationRun region turns old new before after end → count + under_way_count old.current ≤ old.steps →
     count_after count end + under_way_count new.current ≤ new.steps

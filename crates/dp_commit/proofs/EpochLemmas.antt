@@ -1,11 +1,10 @@
 -- The verdicts follow the epoch's judgements.
-use Rattle.std.proofs.Common.{◌≡◌, inl, inr, refl, sym, ap, ◌∙◌, subst, ℕ, suc, ◌+◌, ◌-◌, true, false, not, List, [], ◌∷◌, ℤ, length, map, filter_map, Some, arith}
+use Rattle.std.proofs.Common.{◌≡◌, inl, inr, refl, sym, ap, ◌∙◌, subst, ℕ, suc, ◌+◌, ◌-◌, true, false, not, List, [], ◌∷◌, ℤ, length, map, Some, arith}
 use Rattle.std.proofs.lemmas.Bool.{cases_lt}
 use Rattle.dp_base.specs.declared.Cause.{Cause as ReportedCause}
-use Rattle.dp_base.specs.declared.StoreOf.{StoreOf}
 use Rattle.dp_tree.specs.declared.Program.{Program}
 use Rattle.dp_tree.specs.declared.VarInfo.{VarInfo}
-use Rattle.dp_tree.specs.Step.{Effect, Stored, Printed, Decided, Tried, clear_locals}
+use Rattle.dp_tree.specs.Step.{Effect, Stored, clear_locals}
 use Rattle.dp_plan.specs.declared.Plan.{Plan}
 use Rattle.dp_plan.specs.Access.{stage_of}
 use Rattle.dp_semantics.specs.Fits.{fits_plan}
@@ -18,7 +17,6 @@ use Rattle.dp_semantics.specs.Reported.{reported}
 use Rattle.dp_semantics.specs.Verdict.{applied}
 use Rattle.dp_semantics.specs.EpochKey.{EpochKey, epoch_run}
 use Rattle.dp_semantics.specs.EpochVerdicts.{Carried, Again, Commit, JudgeState, goes_on, state_at, judgement_of, after_judgement, verdict_by, verdict_at}
-use Rattle.dp_semantics.specs.Told.{store_made}
 use Rattle.dp_semantics.proofs.EpochFound.{finds_in_epochs}
 use Rattle.dp_semantics.proofs.Fitting.{accepted}
 use Rattle.dp_cause.specs.Views.{shown_by, kept_by, clear_cells, local_cells}
@@ -31,9 +29,8 @@ use Rattle.dp_commit.specs.declared.verdict.Verdict.{Verdict}
 use Rattle.dp_commit.specs.declared.verdict.Verdict.TheVariants.{Clean, Unclean}
 use Rattle.dp_commit.specs.Judging.{Tells, store_stages}
 use Rattle.dp_commit.specs.Standing.{Judges, Knows, Gives, IsSame}
-
-pub inside_some : {X : Type 0} (x y : X) → Some x ≡ Some y → x ≡ y
-inside_some x y e = cc e
+use Rattle.std.proofs.lemmas.Option.{same_Some}
+use Rattle.dp_commit.proofs.EffectsMore.{stores_by}
 
 -- what a walk that agreed carries
 abbrev pub walk_carries : WalkState → Carried
@@ -41,21 +38,14 @@ walk_carries w = record { stores = w.stores; prints = w.prints; steps = w.steps;
 
 -- ---- what is kept after the stores of these effects
 
-abbrev stores_by : List Effect → List StoreOf
-stores_by effects = filter_map store_made effects
-
 kept_same : (p : Program) (plan : Plan) (sites : List ℕ) (effects : List Effect) (kept : List (List ℤ)) → kept_by (store_stages p plan sites effects) (stores_by effects) kept ≡ kept_after p plan sites effects kept
 kept_same p plan [] effects kept = refl
 kept_same p plan (site ∷ sites) [] kept = refl
 kept_same p plan (site ∷ sites) (Stored cell value ∷ effects) kept =
     kept_same p plan sites effects (shown_by (stage_of p plan site) cell value 1 kept)
     ∙ ap (kept_after p plan sites effects) (shown_store p plan (record { site = site; loads = []; effect = Stored cell value }) cell value refl 1 kept)
-kept_same p plan (site ∷ sites) (Printed value ∷ effects) kept =
-    kept_same p plan sites effects kept ∙ ap (kept_after p plan sites effects) (shown_none p plan (record { site = site; loads = []; effect = Printed value }) (λ view. refl) 1 kept)
-kept_same p plan (site ∷ sites) (Decided value ∷ effects) kept =
-    kept_same p plan sites effects kept ∙ ap (kept_after p plan sites effects) (shown_none p plan (record { site = site; loads = []; effect = Decided value }) (λ view. refl) 1 kept)
-kept_same p plan (site ∷ sites) (Tried value ∷ effects) kept =
-    kept_same p plan sites effects kept ∙ ap (kept_after p plan sites effects) (shown_none p plan (record { site = site; loads = []; effect = Tried value }) (λ view. refl) 1 kept)
+kept_same p plan (site ∷ sites) (e ∷ effects) kept =
+    kept_same p plan sites effects kept ∙ ap (kept_after p plan sites effects) (shown_none p plan (record { site = site; loads = []; effect = e }) (λ view. refl) 1 kept)
 
 -- the cells of the body locals read 0, as the locals do
 map_cleared : (r : ℕ) (vars : List VarInfo) (views : List (List ℤ)) → map (clear_cells (local_cells r vars)) views ≡ map (clear_locals r vars) views
@@ -124,6 +114,6 @@ refused_gives key n t u cells told verdict fits at here unclean told_is verdict_
     let same : cause_walk t.program.now t.plan.now t.input.now t.left (watch_of t.plan.now t.kept.views) (turn_text t.program.now t.plan.now) cells ≡ found_in key n =
     (λ i. cause_walk (at.program i) (at.plan i) (at.input i) (at.left i) (watch_of (at.plan i) (at.kept i).views) (turn_text (at.program i) (at.plan i)) (here i)) in
     let law = finds_in_epochs {p = key.program} {plan = key.plan} (λ k program_is plan_is. accepted k.program k.plan ((λ i. fits_plan (program_is i) (plan_is i)) ∙ (λ i. fits_plan (sym at.program i) (sym at.plan i)) ∙ fits)) key refl refl at.sound n at.gone unclean in
-    let reported_is : told ≡ reported (cause_since key.program key.plan (epoch_run key) 0 n) = inside_some told _ (told_is ∙ ap reported_if (same ∙ law)) in
+    let reported_is : told ≡ reported (cause_since key.program key.plan (epoch_run key) 0 n) = same_Some told _ (told_is ∙ ap reported_if (same ∙ law)) in
     let given : Gives u key n (Unclean told) = (ap Again reported_is ∙ sym (ap (verdict_by key n) unclean), tt) in
     subst (λ (v : Verdict). Gives u key n v) (sym verdict_is) given

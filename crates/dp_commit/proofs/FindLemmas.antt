@@ -1,5 +1,5 @@
 -- What it says where the word of what a site did is found, and where not.
-use Rattle.std.proofs.Common.{◌≡◌, refl, ap, ◌∙◌, ℕ, ◌+◌, ◌<◌, ◌≤◌, Bool, true, false, ◌&&◌, if◌then◌else◌, List, [], ◌∷◌, drop, Result, Ok, Err, Option, Some, None, lt-ltb, le-ltb, inl, inr, ℤ}
+use Rattle.std.proofs.Common.{◌≡◌, refl, ap, ◌∙◌, ℕ, ◌+◌, ◌<◌, Bool, true, false, ◌&&◌, if◌then◌else◌, List, [], ◌∷◌, drop, Result, Ok, Err, Option, Some, None, lt-ltb, inl, inr, ℤ}
 use Rattle.dp_base.specs.declared.SiteId.{SiteId}
 use Rattle.dp_base.specs.declared.Word.{Word}
 use Rattle.dp_base.specs.declared.WordKind.{WordKind}
@@ -47,10 +47,6 @@ module _ (f : Court) (c : WalkState) (site : SiteId) where
   not_held : (next : ℤ → ℕ) (r : Result Taken Void) → walked_by p plan c next site false r ≡ Refused
   not_held next (Err why) = refl
   not_held next (Ok w) = refl
-
-  -- no step is left
-  pub none_spare : (words : List Word) → f.limit ≤ c.steps → Finds f c words site None
-  none_spare words none = λ next effect. rw (le-ltb c.steps f.limit none) refl
 
   module _ (left words : List Word) (here : words_at p plan c site ≡ left) (some : c.steps < f.limit) where
     walked_here : (next : ℤ → ℕ) (effect : Word → Option Effect) →

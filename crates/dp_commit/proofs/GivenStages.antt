@@ -1,6 +1,5 @@
 -- No site of a given plan is of the stage after the last one.
-use Rattle.std.proofs.Common.{◌≡◌, subst, ℕ, zero, suc, ◌+◌, ◌-◌, ◌<◌, ◌≤◌, List, [], ◌∷◌, length, Some, slice_get, arith}
-use Rattle.dp_tree.specs.declared.RegionInfo.{RegionInfo}
+use Rattle.std.proofs.Common.{subst, ◌+◌, ◌-◌, ◌<◌, ◌≤◌, length, arith}
 use Rattle.dp_tree.specs.declared.Program.{Program}
 use Rattle.dp_tree.specs.Inlined.{IsInlined}
 use Rattle.dp_plan.specs.declared.Plan.{Plan}
@@ -14,14 +13,7 @@ use Rattle.dp_semantics.proofs.GivenFits.{nowhere}
 use Rattle.dp_semantics.proofs.ValidFits.{sought}
 use Rattle.dp_commit.specs.Judging.{HasStages}
 use Rattle.dp_commit.proofs.StageNumbers.{written_has_stages}
-
-place_low : {X : Type 0} (xs : List X) (k : ℕ) (x : X) → slice_get xs k ≡ Some x → k < length xs
-place_low [] k x e = absurd (cc)
-place_low (y ∷ ys) zero x e = omega arith
-place_low (y ∷ ys) (suc k) x e = let low = place_low ys k x e in omega (arith, low)
-
-found_low : (r : ℕ) (entries : List RegionInfo) (entry : RegionInfo) → 1 ≤ r → slice_get entries (r - 1) ≡ Some entry → r < 1 + length entries
-found_low r entries entry low at = let here = place_low entries (r - 1) entry at in omega (arith, here, low)
+use Rattle.std.proofs.lemmas.Option.{slice_get_within}
 
 module _ (p : Program) (inlined : IsInlined p) (plan : Plan) (is : IsPlan p plan) where
   within : (1 ≤ plan.region) × (plan.region < 1 + length p.regions)
@@ -29,7 +21,7 @@ module _ (p : Program) (inlined : IsInlined p) (plan : Plan) (is : IsPlan p plan
     where
       by : Sought plan.region 1 1 p.main p.regions → (1 ≤ plan.region) × (plan.region < 1 + length p.regions)
       by (absent none out) = absurd (nowhere p (written_of p plan) (valid_unbroken p (written_of p plan) is.valid) none)
-      by (present entry low at q least most) = (low, found_low plan.region p.regions entry low at)
+      by (present entry low at q least most) = (let here = slice_get_within p.regions (plan.region - 1) entry at in (low, omega (arith, here, low)))
 
   pub given_stages : HasStages p plan
   given_stages = subst (λ (q : Plan). HasStages p q) (plan_back p plan is (in_order p inlined plan within.0 within.1)) (written_has_stages p plan.proved (written_of p plan))

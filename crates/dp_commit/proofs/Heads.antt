@@ -6,8 +6,9 @@ use Rattle.dp_tree.specs.Trace.{Run}
 use Rattle.dp_tree.specs.Iteration.{stands_at_head, places, starts, start, stop_from, events_from, iteration, is_closing, last_events, closes}
 use Rattle.dp_meaning.specs.Continues.{Continues}
 use Rattle.dp_commit.proofs.Lists.{places_behind, places_from, range_front, range_past}
-use Rattle.dp_commit.proofs.Leaving.{closes_more, last_more}
+use Rattle.dp_commit.proofs.Leaving.{closes_more}
 use Rattle.dp_commit.proofs.Parts.{is_off}
+use Rattle.dp_meaning.proofs.NextLemmas.{last_front}
 
 module _ (r : ℕ) (run rest : Run) (events : List Event) (first : Config) (inner : List Config) (c : Continues run events (first ∷ inner) rest) (on : stands_at_head r first ≡ true) (off : list_all (is_off r) inner ≡ true) where
   pub starts_are : starts run r ≡ 0 ∷ places (stands_at_head r) (length events) rest.configs
@@ -37,7 +38,7 @@ module _ (r : ℕ) (run rest : Run) (events : List Event) (first : Config) (inne
   module _ (closed : closes events ≡ true) (last : last_events events ≡ events) where
     stop_last : stop_from run 0 None ≡ length events
     stop_last =
-        ap (λ (es : List Event). 0 + length (last_events (drop 0 es))) c.trace ∙ ap (λ (es : List Event). 0 + length es) (last_more events rest.trace closed ∙ last)
+        ap (λ (es : List Event). 0 + length (last_events (drop 0 es))) c.trace ∙ ap (λ (es : List Event). 0 + length es) (last_front events rest.trace closed ∙ last)
         ∙ (let e : 0 + length events ≡ length events = omega arith in e)
 
     stops_past : (o : Option ℕ) → start run r 1 ≡ o → length events ≤ stop_from run 0 o

@@ -1,34 +1,14 @@
 -- Events by which a region is left, and events behind them.
-use Rattle.std.proofs.Common.{◌≡◌, refl, ap, true, List, [], ◌∷◌, ◌++◌, inl, inr}
+use Rattle.std.proofs.Common.{◌≡◌, refl, true, List, [], ◌∷◌, ◌++◌, inl, inr}
 use Rattle.std.proofs.lemmas.Bool.{cases_Bool}
 use Rattle.std.specs.List.{list_any}
 use Rattle.dp_tree.specs.Step.{Event}
-use Rattle.dp_tree.specs.Iteration.{decides_zero, leaves, is_leaving, upto_leaving, last_events, closes}
+use Rattle.dp_tree.specs.Iteration.{decides_zero, leaves, is_leaving, closes}
 
 any_more : (es more : List Event) → list_any is_leaving es ≡ true → list_any is_leaving (es ++ more) ≡ true
 any_more [] more h = absurd (cc)
-any_more (e ∷ es) more h = elim (cases_Bool (leaves e.effect)) [
-  | inl t ↦ rw t refl
-  | inr t ↦ rw t (any_more es more (rw t at h))
-]
-
-upto_more : (es more : List Event) → list_any is_leaving es ≡ true → upto_leaving (es ++ more) ≡ upto_leaving es
-upto_more [] more h = absurd (cc)
-upto_more (e ∷ es) more h = elim (cases_Bool (leaves e.effect)) [
-  | inl t ↦ rw t refl
-  | inr t ↦ rw t (ap (λ (xs : List Event). e ∷ xs) (upto_more es more (rw t at h)))
-]
+any_more (e ∷ es) more h = elim (cases_Bool (leaves e.effect)) [ inl t ↦ rw t refl | inr t ↦ rw t (any_more es more (rw t at h)) ]
 
 pub closes_more : (es more : List Event) → closes es ≡ true → closes (es ++ more) ≡ true
 closes_more [] more h = absurd (cc)
-closes_more (e ∷ es) more h = elim (cases_Bool (decides_zero e.effect)) [
-  | inl t ↦ rw t refl
-  | inr t ↦ rw t (any_more (e ∷ es) more (rw t at h))
-]
-
-pub last_more : (es more : List Event) → closes es ≡ true → last_events (es ++ more) ≡ last_events es
-last_more [] more h = absurd (cc)
-last_more (e ∷ es) more h = elim (cases_Bool (decides_zero e.effect)) [
-  | inl t ↦ rw t refl
-  | inr t ↦ rw t (upto_more (e ∷ es) more (rw t at h))
-]
+closes_more (e ∷ es) more h = elim (cases_Bool (decides_zero e.effect)) [ inl t ↦ rw t refl | inr t ↦ rw t (any_more (e ∷ es) more (rw t at h)) ]

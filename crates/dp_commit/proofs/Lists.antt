@@ -4,16 +4,13 @@ use Rattle.std.proofs.lemmas.Bool.{cases_Bool, and_parts}
 use Rattle.std.proofs.Math.Seq.{take-append_seam}
 use Rattle.std.specs.List.{list_all}
 use Rattle.dp_tree.specs.Iteration.{places}
-
-pub get_behind : {X : Type 0} (a b : List X) (j : ℕ) → slice_get (a ++ b) (length a + j) ≡ slice_get b j
-get_behind [] b j = let e : 0 + j ≡ j = omega arith in ap (slice_get b) e
-get_behind (x ∷ a) b j = let e : suc (length a) + j ≡ suc (length a + j) = omega arith in ap (slice_get (x ∷ a ++ b)) e ∙ get_behind a b j
+use Rattle.dp_tree.proofs.MovedLists.{at_seam}
 
 -- the item behind the seam
 pub get_at_seam : {X : Type 0} (a b : List X) (n : ℕ) (x : X) (more : List X) → n ≡ length a → b ≡ x ∷ more → slice_get (a ++ b) n ≡ Some x
 get_at_seam a b n x more e is =
     let size : n ≡ length a + 0 = omega (arith, e) in
-    ap (slice_get (a ++ b)) size ∙ get_behind a b 0 ∙ ap (λ (xs : List _). slice_get xs 0) is
+    ap (slice_get (a ++ b)) size ∙ at_seam a b 0 ∙ ap (λ (xs : List _). slice_get xs 0) is
 
 -- a front that reaches past the seam
 pub take_past : {X : Type 0} (a b : List X) (k : ℕ) → length a ≤ k → take k (a ++ b) ≡ a ++ take (k - length a) b

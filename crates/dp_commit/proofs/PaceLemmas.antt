@@ -22,7 +22,7 @@ use Rattle.dp_commit.specs.FlatJudge.{WalkState, On, Refused, tried_by, words_at
 use Rattle.dp_commit.specs.Held.{IsAt, rests, state_at}
 use Rattle.dp_commit.specs.Judging.{DoneAt, Finds, Lets, StandsBehind, walking_in}
 use Rattle.dp_commit.proofs.FindLemmas.{front_behind, front_holds, other_word}
-use Rattle.dp_commit.proofs.Undoing.{left_behind, left_there, set_same, stages_more}
+use Rattle.dp_commit.proofs.Undoing.{left_behind, left_there, stages_more}
 use Rattle.dp_commit.proofs.WalkLemmas.{passed, store_taken, store_astray, print_taken, chosen, not_let, left_early, stayed}
 
 -- ---- words at a place
@@ -58,23 +58,12 @@ here p plan pace w site is stage_is =
     ap (word_list (rests (slice_set w.taken (pace.stage - 1) pace.taken) w.lists.now)) (sym stage_is)
     ∙ left_there w.taken w.lists.now pace.stage is.0 pace.taken is.2 ∙ ap (drop pace.taken) (sym is.1)
 
--- of a stage before the first there are none
-pub none_here : (p : Program) (plan : Plan) (c : WalkState) (site : SiteId) → stage_of p plan site.0 ≡ 0 → words_at p plan c site ≡ []
-none_here p plan c site e = ap (word_list c.lists) e
-
--- the words of another stage come next
-pub turned : (taken next : List ℕ) (lists : List (List Word)) (a n b m : ℕ) → next ≡ slice_set taken a n → m ≡ get_or next b 0 → rests (slice_set next b m) lists ≡ rests (slice_set taken a n) lists
-turned taken next lists a n b m next_is m_is = ap (λ (ns : List ℕ). rests ns lists) (ap (slice_set next b) m_is ∙ set_same next b ∙ next_is)
-
 -- behind a word at a place of the stage's words
 abbrev pub onward : Pace → ℕ → Bool → ℕ → Pace
 onward pace at closes next = record pace { place = next; steps = pace.steps + 1; closing = pace.closing || closes; taken = at + 1 }
 
 abbrev pub working : Walk → List ℤ → List StoreOf → List Replaced → List ℤ → Walk
 working w cells stores replaced prints = record w { cells = cells; stores = stores; replaced = replaced; prints = prints }
-
-pub on_is_at : (pace : Pace) (w : Walk) (at next : ℕ) (closes : Bool) (cells : List ℤ) (stores : List StoreOf) (replaced : List Replaced) (prints : List ℤ) → IsAt pace w → IsAt (onward pace at closes next) (working w cells stores replaced prints)
-on_is_at pace w at next closes cells stores replaced prints is = (is.0, is.1, is.2)
 
 pub went_past : (f : Court) (pace : Pace) (w : Walk) (site : SiteId) (at next : ℕ) (closes : Bool) (cells : List ℤ) (stores : List StoreOf) (replaced : List Replaced) (prints : List ℤ) →
     IsAt pace w → pace.stage ≡ stage_of f.program.now f.plan.now site.0 →

@@ -1,33 +1,25 @@
 -- What comes next, and whether a region stands at the head.
-use Rattle.std.proofs.Common.{◌≡◌, refl, ap, ◌∙◌, ℕ, zero, suc, ◌==◌, eq-eqb, Bool, true, false, not, List, [], ◌∷◌, All, ℤ}
+use Rattle.std.proofs.Common.{◌≡◌, refl, ap, ◌∙◌, ℕ, ◌==◌, Bool, true, false, not, List, [], ◌∷◌, All}
 use Rattle.std.proofs.lemmas.List.Elements.{All-weaker}
 use Rattle.std.proofs.lemmas.List.Sums.{list_all-from_AllPass}
 use Rattle.std.specs.List.{list_all}
 use Rattle.dp_tree.specs.declared.Stmt.{Stmt, out-Stmt}
-use Rattle.dp_tree.specs.declared.Stmt.TheOpen.{Stmt-F, Assign, Store, Print, If, While, Region, Break, Call}
-use Rattle.dp_tree.specs.declared.Program.{Program}
-use Rattle.dp_tree.specs.Step.{Config, Step, Finished, Faulted, Stepped, step}
-use Rattle.dp_tree.specs.Trace.{run_of, run_by}
+use Rattle.dp_tree.specs.declared.Stmt.TheOpen.{Stmt-F, Region}
+use Rattle.dp_tree.specs.Step.{Config}
 use Rattle.dp_tree.specs.Iteration.{is_region, begins_with, stands_at_head}
 use Rattle.dp_meaning.specs.declared.ends.Part.{Part}
 use Rattle.dp_meaning.specs.declared.ends.Part.TheVariants as part
 use Rattle.dp_meaning.specs.MachineState.{part_from, part_of}
+pub use Rattle.dp_meaning.proofs.NextLemmas.{on_region, run_begins}
 
 -- the part is an iteration of region r
 abbrev pub part_is : ℕ → Part → Bool
 part_is r (part.Region q) = q == r
-part_is r part.Plain = false
-part_is r part.Finished = false
+part_is r _ = false
 
 head_from : (r : ℕ) (x : Stmt-F Stmt) → is_region r x ≡ part_is r (part_from x)
 head_from r (Region q site cond a) = refl
-head_from r (Assign site v w) = refl
-head_from r (Store site v index w) = refl
-head_from r (Print site w) = refl
-head_from r (If site cond a b) = refl
-head_from r (While site cond a) = refl
-head_from r (Break site cond) = refl
-head_from r (Call g line args) = refl
+head_from r _ = refl
 
 head_is : (r : ℕ) (xs : List Stmt) → begins_with r xs ≡ part_is r (part_of xs)
 head_is r [] = refl
@@ -39,23 +31,9 @@ head_part r c q e = head_is r c.to_do ∙ ap (part_is r) e
 pub off_plain : (r : ℕ) (c : Config) → part_of c.to_do ≡ part.Plain → stands_at_head r c ≡ false
 off_plain r c e = head_is r c.to_do ∙ ap (part_is r) e
 
-pub on_region : (r : ℕ) (c : Config) → part_of c.to_do ≡ part.Region r → stands_at_head r c ≡ true
-on_region r c e = head_is r c.to_do ∙ ap (part_is r) e ∙ eq-eqb r r refl
-
 -- the region's condition isn't the next evaluation
 abbrev pub is_off : ℕ → Config → Bool
 is_off r c = not (stands_at_head r c)
 
 pub never_plain : (r : ℕ) (configs : List Config) → All (λ c. part_of c.to_do ≡ part.Plain) configs → list_all (is_off r) configs ≡ true
 never_plain r configs h = list_all-from_AllPass (is_off r) configs (All-weaker (λ c. part_of c.to_do ≡ part.Plain) (λ c. is_off r c ≡ true) (λ c e. ap not (off_plain r c e)) configs h)
-
--- a run begins where it stands
-pub run_begins : (p : Program) (input : List ℤ) (n : ℕ) (c : Config) → (more : List Config) × ((run_of p input n c).configs ≡ c ∷ more)
-unfolding run_of
-run_begins p input zero c = ([], refl)
-run_begins p input (suc n) c = by (step p input c)
-  where
-    by : (s : Step) → (more : List Config) × ((run_by (run_of p input n) (suc n) c s).configs ≡ c ∷ more)
-    by Finished = ([], refl)
-    by (Faulted fault) = ([], refl)
-    by (Stepped event next) = ((run_of p input n next).configs, refl)

@@ -33,27 +33,14 @@ none_dropped (suc n) [] e = refl
 none_dropped (suc n) (w ∷ words) e = absurd (cc e)
 
 set_rest : (taken : List ℕ) (lists : List (List Word)) (k n : ℕ) → slice_set (rests taken lists) k (drop n (word_list lists (suc k))) ≡ rests (slice_set taken k n) lists
-set_rest [] lists k n = refl
 set_rest (t ∷ taken) [] zero n = refl
-set_rest (t ∷ taken) [] (suc k) n = refl
-set_rest (t ∷ taken) (words ∷ lists) zero n = refl
 set_rest (t ∷ taken) (words ∷ lists) (suc k) n = ap (λ (ys : List (List Word)). drop t words ∷ ys) (set_rest taken lists k n)
-
--- what is put where something stands, and what is put twice
-pub set_same : (xs : List ℕ) (k : ℕ) → slice_set xs k (get_or xs k 0) ≡ xs
-set_same [] k = refl
-set_same (x ∷ xs) zero = refl
-set_same (x ∷ xs) (suc k) = ap (λ (ys : List ℕ). x ∷ ys) (set_same xs k)
+set_rest _ _ _ n = refl
 
 set_twice : (xs : List ℕ) (k n m : ℕ) → slice_set (slice_set xs k n) k m ≡ slice_set xs k m
 set_twice [] k n m = refl
 set_twice (x ∷ xs) zero n m = refl
 set_twice (x ∷ xs) (suc k) n m = ap (λ (ys : List ℕ). x ∷ ys) (set_twice xs k n m)
-
-pub set_length : (xs : List ℕ) (k n : ℕ) → length (slice_set xs k n) ≡ length xs
-set_length [] k n = refl
-set_length (x ∷ xs) zero n = refl
-set_length (x ∷ xs) (suc k) n = ap suc (set_length xs k n)
 
 left_from : (taken : List ℕ) (lists : List (List Word)) (k n : ℕ) → length taken ≡ length lists → word_list (rests (slice_set taken k n) lists) (suc k) ≡ drop n (word_list lists (suc k))
 left_from [] [] k n e = sym (none_dropped n [] refl)

@@ -12,9 +12,7 @@ use Rattle.dp_commit.proofs.court.Walk.store_at.Goals as goal
 
 pub returns-then-word-first-clause-does : goal.returns-then-word-first-clause-does
 returns-then-word-first-clause-does c =
-    let f = c.args.court in
-    let word = c.word_at-word.result in
-    store_stops f _ c.args.pace.now c.args.self.now c.args.site c.args.at c.args.next word refl c.requires.at c.requires.there c.requires.found c.word_at-word.ensures
+    store_stops c.args.court _ c.args.pace.now c.args.self.now c.args.site c.args.at c.args.next _ refl c.requires.at c.requires.there c.requires.found c.word_at-word.ensures
     c.args.first.0 c.args.count
     (elim c.then-word-first.branch [
       | then-word-first-via-then-word-first w ↦ inl (omega (arith, w.if-word-first.true))
@@ -24,13 +22,12 @@ returns-then-word-first-clause-does c =
 
 pub returns-in-Ok-clause-does : goal.returns-in-Ok-clause-does
 returns-in-Ok-clause-does c =
-    let f = c.args.court in
     let word = c.word_at-word.result in
     let same : to_z w64 (of_z w64 word.value) ≡ word.value = search rules in
-    let closes : c.closes.result ≡ closes_at (first_site f.program.now f.plan.now) c.args.site.0 (Decided word.value) =
-    subst (λ (z : ℤ). c.closes.result ≡ closes_at (first_site f.program.now f.plan.now) c.args.site.0 (Decided z)) same
+    let closes : c.closes.result ≡ closes_at (first_site c.args.court.program.now c.args.court.plan.now) c.args.site.0 (Decided word.value) =
+    subst (λ (z : ℤ). c.closes.result ≡ closes_at (first_site c.args.court.program.now c.args.court.plan.now) c.args.site.0 (Decided z)) same
     (c.closes.ensures ∙ ap (λ (n : ℕ). closes_at n c.args.site.0 (Decided (to_z w64 (of_z w64 word.value)))) c.requires.first) in
-    store_goes f _ c.args.pace.now c.args.self.now c.args.site c.args.at c.args.next word refl c.requires.at c.requires.there c.requires.found c.word_at-word.ensures
+    store_goes c.args.court _ c.args.pace.now c.args.self.now c.args.site c.args.at c.args.next word refl c.requires.at c.requires.there c.requires.found c.word_at-word.ensures
     c.closes.result closes c.args.first.0 c.args.count _ c.put.new.cells c.note_store.new.stores c.note_store.new.replaced (omega (arith, c.if-word-first.false)) (omega (arith, c.if-word-first.false, c.if-word-first-2.false))
     (subst (λ (z : ℤ). c.put.new.cells ≡ slice_set c.args.self.now.cells word.index z) same c.put.ensures)
     (c.in-Ok.ensures.stores ∙ ap (λ (s : StoreOf). c.args.self.now.stores ++ s ∷ []) c.store_of-store.ensures)
