@@ -5,7 +5,7 @@ use Rattle.std.proofs.lemmas.List.Folds.{list_all-append}
 use Rattle.dp_base.specs.declared.SiteId.{SiteId}
 use Rattle.dp_tree.specs.declared.Expr.{Expr}
 use Rattle.dp_tree.specs.declared.Stmt.{Stmt, out-Stmt}
-use Rattle.dp_tree.specs.declared.Stmt.TheOpen.{Stmt-F, Assign, Store, Print, If, While, Region, Break, Call}
+use Rattle.dp_tree.specs.declared.Stmt.TheOpen.{Stmt-F, If, While, Region}
 use Rattle.dp_tree.specs.declared.Stmt.TheVariants as tree
 use Rattle.dp_tree.specs.declared.Stmt.TheVariants.{outs-If, outs-While, outs-Region}
 use Rattle.dp_tree.specs.Numbering.{is_inner, regions_in_order}
@@ -47,14 +47,8 @@ inner_region x r site cond a given is given_is w = ap inner_all given_is ∙ sub
 
 -- a region of `main`
 top_has : (h : Stmt-F Stmt) → top_at h ≡ true → HasInner h
-top_has (Assign site x e) w = tt
-top_has (Store site x index e) w = tt
-top_has (Print site e) w = tt
-top_has (If site cond a b) w = tt
-top_has (While site cond a) w = tt
 top_has (Region q site cond a) w = w
-top_has (Break site cond) w = tt
-top_has (Call f line args) w = tt
+top_has _ w = tt
 
 top_item : (xs : List Stmt) (i : ℕ) (d : Stmt) → i < length xs → list_all is_top xs ≡ true → HasInner (out-Stmt (get_or xs i d))
 top_item [] i d h w = absurd (omega (arith, h))

@@ -7,6 +7,7 @@ unfoldable use Rattle.dp_plan.specs.Walks.{is_region_of}
 use Rattle.dp_semantics.specs.FindsCauses.{turn_by, turn_in}
 use Rattle.dp_semantics.specs.EpochCauses.{views_from}
 use Rattle.dp_cause.specs.Views.{last_or}
+use Rattle.dp_cause.proofs.StepLemmas.{dropped}
 
 last_more : (made : List (List ℤ)) (view other : List ℤ) → last_or (made ++ view ∷ []) other ≡ view
 last_more [] view other = refl
@@ -34,9 +35,6 @@ views_more plan kept made new whole place own view d shared h own_is shared_is v
     ∙ append_assoc made (view ∷ []) (views_from plan (suc (place + 1)) view (drop (place + 1) kept))
     ∙ ap (λ (v : List ℤ). made ++ (v ∷ views_from plan (suc (place + 1)) v (drop (place + 1) kept))) same
     ∙ ap (λ (xs : List (List ℤ)). made ++ views_from plan (place + 1) (last_or made []) xs) (sym cons) ∙ kept_is
-
-dropped : (all : List Stmt) (i : ℕ) (x : Stmt) → i < length all → x ≡ get_or all i x → drop i all ≡ x ∷ drop (i + 1) all
-dropped all i x h is = rw add-one (drop-cons all i x h ∙ ap (λ (y : Stmt). y ∷ drop (suc i) all) (sym is))
 
 pub region_here : (r : ℕ) (all : List Stmt) (i : ℕ) (x : Stmt) → i < length all → x ≡ get_or all i x → is_region_of r x ≡ true → turn_in (filter (is_region_at r) (drop i all)) ≡ turn_by (out-Stmt x)
 unfolding is_region_of

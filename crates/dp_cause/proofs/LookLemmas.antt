@@ -22,10 +22,11 @@ use Rattle.dp_semantics.specs.Reported.{reported}
 use Rattle.dp_cause.specs.declared.watched.Ground.{Ground}
 use Rattle.dp_cause.specs.declared.watched.Watched.{Watched}
 use Rattle.dp_cause.specs.declared.watched.Form.{Form}
-use Rattle.dp_cause.specs.declared.watched.Form.TheVariants.{Stores, Prints, Decides, Tries}
+use Rattle.dp_cause.specs.declared.watched.Form.TheVariants.{Stores}
 use Rattle.dp_cause.specs.Views.{count_more}
 use Rattle.dp_cause.specs.Watching.{seen_otherwise, reported_if, Told, HasForm, watch_in, watched_by, views_by, noted}
 use Rattle.dp_cause.proofs.ViewLemmas.{shown_store, shown_none, counted_is}
+use Rattle.std.proofs.lemmas.Option.{same_Some}
 
 load_is : (site : ℕ) (l : Load) → is_load_of site (load_word site l) ≡ true
 load_is site l = rw (eq-eqb site site refl) refl
@@ -82,12 +83,9 @@ assumed_print p plan site value = ap (λ (b : Bool). b && true) (all_free site (
 pub assumed_try : (p : Program) (plan : Plan) (site : ℕ) (value : ℤ) → as_assumed p plan site (Tried value) ≡ stays_late p plan site (Tried value)
 assumed_try p plan site value = ap (λ (b : Bool). b && stays_late p plan site (Tried value)) (all_free site (Tried value) (λ t. refl) plan.assume)
 
-pub inside_some : {X : Type 0} (x y : X) → Some x ≡ Some y → x ≡ y
-inside_some x y e = cc e
-
 told_of : (o : Option Cause) (told : ReportedCause) → reported_if o ≡ Some told → Told o told
 told_of None told e = absurd (cc e)
-told_of (Some cause) told e = (cause, refl, sym (inside_some (reported cause) told e))
+told_of (Some cause) told e = (cause, refl, sym (same_Some (reported cause) told e))
 
 none_of : (o : Option Cause) → reported_if o ≡ None → o ≡ None
 none_of None e = refl
@@ -169,9 +167,7 @@ module _ (g : Ground) (old : Watched) (event : Event) (site : SiteId) (form : Fo
     where
       by : (f : Form) → HasForm f site event.effect → views_by f at (done_word event.site event.effect) old.views ≡ shown_from p plan event 1 old.views
       by Stores e = shown_store p plan event _ _ e 1 old.views
-      by Prints e = shown_none p plan event (λ view. ap (λ (f : Effect). stored f view) e) 1 old.views
-      by Decides e = shown_none p plan event (λ view. ap (λ (f : Effect). stored f view) e) 1 old.views
-      by Tries e = shown_none p plan event (λ view. ap (λ (f : Effect). stored f view) e) 1 old.views
+      by _ e = shown_none p plan event (λ view. ap (λ (f : Effect). stored f view) e) 1 old.views
 
   pub words_fail : {r : Option ReportedCause} {stage more : ℕ} {view : List ℤ} {words : List Word} {word : Word} {new : Watched} (assumed : Bool) (count : ℕ) → Compared r stage view words → r ≡ None →
       assumed ≡ as_assumed p plan site.0 event.effect → assumed ≡ true → Noted stage more word new → count ≡ count_of new.counts stage → plan.words < count → Told (cause_in p plan w event) (why.Words stage site)

@@ -9,17 +9,13 @@ use Rattle.dp_cause.proofs.looking.assumed.Goals as goal
 
 pub returns-in-Stores : goal.returns-in-Stores
 returns-in-Stores c = λ effect has value.
-    let p = c.args.program.now in
-    let plan = c.args.plan.now in
     let is : effect ≡ Stored (cell_of effect) (value_of effect) = subst (λ (f : Form). HasForm f c.args.site effect) c.in-Stores.is has in
-    sym (ap (as_assumed p plan c.args.site.0) is ∙ assumed_store p plan c.args.site.0 (cell_of effect) (value_of effect))
+    sym (ap (as_assumed c.args.program.now c.args.plan.now c.args.site.0) is ∙ assumed_store c.args.program.now c.args.plan.now c.args.site.0 (cell_of effect) (value_of effect))
 
 pub returns-in-Prints : goal.returns-in-Prints
 returns-in-Prints c = λ effect has value.
-    let p = c.args.program.now in
-    let plan = c.args.plan.now in
     let is : effect ≡ Printed (value_of effect) = subst (λ (f : Form). HasForm f c.args.site effect) c.in-Prints.is has in
-    sym (ap (as_assumed p plan c.args.site.0) is ∙ assumed_print p plan c.args.site.0 (value_of effect))
+    sym (ap (as_assumed c.args.program.now c.args.plan.now c.args.site.0) is ∙ assumed_print c.args.program.now c.args.plan.now c.args.site.0 (value_of effect))
 
 pub returns-in-Tries : goal.returns-in-Tries
 returns-in-Tries c = λ effect has value.

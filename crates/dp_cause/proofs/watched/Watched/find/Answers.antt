@@ -8,8 +8,7 @@ use Rattle.dp_cause.proofs.watched.Watched.find.Goals as goal
 
 pub returns-in-Found : goal.returns-in-Found
 returns-in-Found c =
-    let f = c.in-Region in
-    let text = turn_is c.args.region.now f.region f.site f.cond f.body c.as_slice.result.now f.is c.as_slice.ensures in
+    let text = turn_is c.args.region.now c.in-Region.region c.in-Region.site c.in-Region.cond c.in-Region.body c.as_slice.result.now c.in-Region.is c.as_slice.ensures in
     let told : Told (walk_from c.args.ground c.args.self.now (turn_by (out-Stmt c.args.region.now))) c.in-Found.cause = subst (λ (xs : List Stmt). Told (walk_from c.args.ground c.args.self.now xs) c.in-Found.cause) text c.in-Found.ensures in
     ap Some told.2 ∙ sym (ap reported_if told.1)
 
