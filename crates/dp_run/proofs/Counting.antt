@@ -1,10 +1,9 @@
 -- The plans one after the other: their regions' numbers, their reports, and how many iterations were committed.
-use Rattle.std.proofs.Common.{◌≡◌, refl, sym, ap, ◌∙◌, ℕ, zero, suc, ◌+◌, ◌*◌, ◌<◌, ◌≤◌, ◌^◌, List, [], ◌∷◌, ◌++◌, ℤ, length, map, take, Some, slice_get, arith}
-use Rattle.std.proofs.lemmas.List.{length-take}
+use Rattle.std.proofs.Common.{◌≡◌, sym, ap, ◌∙◌, ℕ, zero, suc, ◌+◌, ◌*◌, ◌<◌, ◌≤◌, ◌^◌, List, [], ◌∷◌, ◌++◌, ℤ, length, map, take, Some, slice_get, arith}
+use Rattle.std.proofs.lemmas.List.{length-take, map-append, length-map}
 use Rattle.dp_base.specs.declared.RegionReport.{RegionReport}
 use Rattle.dp_tree.specs.declared.Program.{Program}
 use Rattle.dp_tree.specs.Numbering.{numbers_from}
-use Rattle.dp_tree.specs.Trace.{Run}
 use Rattle.dp_plan.specs.declared.Plan.{Plan}
 use Rattle.dp_plan.specs.Each.{Each}
 use Rattle.dp_plan.specs.GivenPlans.{IsPlan, region_of}
@@ -14,6 +13,10 @@ use Rattle.dp_run.specs.Given.{AreGiven}
 use Rattle.dp_run.specs.RunText.{source_run, region_reports, committed_count, committed_in_all}
 use Rattle.dp_run.specs.steps.Stretches.{Counted}
 use Rattle.dp_run.proofs.Reporting.{committed_few}
+use Rattle.dp_run.proofs.Ending.{in_all_append}
+use Rattle.dp_plan.proofs.Ascent.{length-numbers_from}
+use Rattle.std.proofs.Math.Seq.{take-suc}
+use Rattle.std.proofs.lemmas.Option.{slice_get_within, get_or_from_slice_get}
 
 -- the plan at a place of a list whose numbers begin with k
 each_at : (p : Program) (plans : List Plan) (k n count : ℕ) (plan : Plan) → Each (IsPlan p) plans → map region_of plans ≡ numbers_from k count → slice_get plans n ≡ Some plan → IsPlan p plan × (plan.region ≡ k + n) × (n < count)
@@ -35,13 +38,7 @@ each_at p (x ∷ plans) k (suc n) (suc count) plan each numbers is =
 
 module _ (p : Program) (plans : List Plan) (given : AreGiven p plans) where
   pub as_many : length plans ≡ length p.regions
-  as_many = sizes plans 1 (length p.regions) given.plans_are.regions
-    where
-      sizes : (xs : List Plan) (k count : ℕ) → map region_of xs ≡ numbers_from k count → length xs ≡ count
-      sizes [] k zero e = refl
-      sizes [] k (suc count) e = absurd (cc e)
-      sizes (x ∷ xs) k zero e = absurd (cc e)
-      sizes (x ∷ xs) k (suc count) e = let rest : map region_of xs ≡ numbers_from (k + 1) count = cc e in ap suc (sizes xs (k + 1) count rest)
+  as_many = sym (length-map plans region_of) ∙ ap (λ (ns : List ℕ). length ns) given.plans_are.regions ∙ length-numbers_from 1 (length p.regions)
 
   module _ (n : ℕ) (plan : Plan) (is : slice_get plans n ≡ Some plan) where
     found : IsPlan p plan × (plan.region ≡ 1 + n) × (n < length p.regions)
@@ -54,17 +51,7 @@ module _ (p : Program) (plans : List Plan) (given : AreGiven p plans) where
     planned = record { inlined = given.inlined; is_plan = found.0; counted = omega (arith, found.1); known = omega (arith, found.1, found.2) }
 
 take_next : {X : Type 0} (xs : List X) (n : ℕ) (x : X) → slice_get xs n ≡ Some x → take (suc n) xs ≡ take n xs ++ x ∷ []
-take_next [] n x e = absurd (cc e)
-take_next (y ∷ xs) zero x e = let same : y ≡ x = cc e in ap (λ (z : _). z ∷ []) same
-take_next (y ∷ xs) (suc n) x e = ap (λ (zs : List _). y ∷ zs) (take_next xs n x e)
-
-map_last : {X Y : Type 0} (f : X → Y) (xs : List X) (x : X) → map f (xs ++ x ∷ []) ≡ map f xs ++ f x ∷ []
-map_last f [] x = refl
-map_last f (y ∷ xs) x = ap (λ (ys : List _). f y ∷ ys) (map_last f xs x)
-
-in_all_last : (p : Program) (run : Run) (xs : List Plan) (x : Plan) → committed_in_all p (xs ++ x ∷ []) run ≡ committed_in_all p xs run + committed_count p x run
-in_all_last p run [] x = omega arith
-in_all_last p run (y ∷ xs) x = let go = in_all_last p run xs x in omega (arith, go)
+take_next xs n x e = take-suc xs n x (slice_get_within xs n x e) ∙ ap (λ (y : _). take n xs ++ y ∷ []) (get_or_from_slice_get xs n x x e)
 
 in_all_few : (p : Program) (input : List ℤ) (fuel : ℕ) → fuel ≤ 1000000000 → (xs : List Plan) → committed_in_all p xs (source_run p input fuel) ≤ length xs * 1000000000
 in_all_few p input fuel h [] = omega arith
@@ -82,8 +69,8 @@ module _ (p : Program) (plans : List Plan) (input : List ℤ) (fuel : ℕ) where
       more ≡ reports ++ region_report p plan (source_run p input fuel) ∷ [] → now ≡ mid + committed_count p plan (source_run p input fuel) → Counted p plans input fuel (suc n) more before now
   counted_next n plan is reports more before mid now c e f = record {
     reports_are = e ∙ ap (λ (rs : List RegionReport). rs ++ region_report p plan (source_run p input fuel) ∷ []) c.reports_are
-        ∙ sym (map_last (λ x. region_report p x (source_run p input fuel)) (take n plans) plan) ∙ ap (λ (xs : List Plan). region_reports p xs (source_run p input fuel)) (sym (take_next plans n plan is));
-    tally_is = let one = in_all_last p (source_run p input fuel) (take n plans) plan in
+        ∙ sym (map-append (λ x. region_report p x (source_run p input fuel)) (take n plans) (plan ∷ [])) ∙ ap (λ (xs : List Plan). region_reports p xs (source_run p input fuel)) (sym (take_next plans n plan is));
+    tally_is = let one = in_all_append p (source_run p input fuel) (take n plans) (plan ∷ []) in
         let all = ap (λ (xs : List Plan). committed_in_all p xs (source_run p input fuel)) (take_next plans n plan is) in omega (arith, f, c.tally_is, one, all);
   }
 

@@ -1,6 +1,6 @@
 -- From the machine's end to the run's text.
 use Rattle.std.proofs.Common.{◌≡◌, refl, sym, ap, ◌∙◌, ℕ, zero, suc, ◌+◌, ◌-◌, ◌==◌, Bool, ◌≤◌, if◌then◌else◌, List, [], ◌∷◌, ◌++◌, length, map, take, drop, get_or, min, All, arith}
-use Rattle.std.proofs.lemmas.List.{length-take}
+use Rattle.std.proofs.lemmas.List.{length-take, length-map, map-append}
 use Rattle.std.proofs.lemmas.List.Elements.{All-map}
 use Rattle.std.proofs.Math.Nat.{min_comm}
 use Rattle.dp_base.specs.declared.RegionReport.{RegionReport}
@@ -19,10 +19,6 @@ use Rattle.dp_run.specs.RunText.{region_reports, committed_count, committed_in_a
 all_each : {X : Type 0} (P : X → Type 0) → ((x : X) → P x) → (xs : List X) → All P xs
 all_each P h xs = λ k d lt. h (get_or xs k d)
 
-length_map : {X Y : Type 0} (f : X → Y) (xs : List X) → length (map f xs) ≡ length xs
-length_map f [] = refl
-length_map f (x ∷ xs) = ap suc (length_map f xs)
-
 abbrev pub IsListed : RegionReport → Type 0
 IsListed report = length report.recovered ≡ min report.recovered_count 1000
 
@@ -39,7 +35,7 @@ module _ (p : Program) (run : Run) where
   pub explained_in : (plans : List Plan) → All IsExplained (region_reports p plans run)
   explained_in plans =
       All-map IsExplained (λ plan. region_report p plan run) plans
-      (all_each (λ plan. IsExplained (region_report p plan run)) (λ plan. length_map (λ i. reported (cause p plan run i)) (take 1000 (recovered p plan run))) plans)
+      (all_each (λ plan. IsExplained (region_report p plan run)) (λ plan. length-map (take 1000 (recovered p plan run)) (λ i. reported (cause p plan run i))) plans)
 
   none_begun : (plan : Plan) → starts run plan.region ≡ [] → begun_count run plan.region ≡ 0
   none_begun plan e = rw e refl
@@ -73,8 +69,7 @@ module _ (p : Program) (run : Run) where
       let go = none_in (k + 1) plans (λ r h. none r (omega (arith, h))) count rest in omega (arith, one, go)
 
   pub reports_append : (a b : List Plan) → region_reports p (a ++ b) run ≡ region_reports p a run ++ region_reports p b run
-  reports_append [] b = refl
-  reports_append (x ∷ a) b = ap (λ (rs : List RegionReport). region_report p x run ∷ rs) (reports_append a b)
+  reports_append a b = map-append (λ plan. region_report p plan run) a b
 
   pub in_all_append : (a b : List Plan) → committed_in_all p (a ++ b) run ≡ committed_in_all p a run + committed_in_all p b run
   in_all_append [] b = omega arith

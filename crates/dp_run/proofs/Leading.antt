@@ -3,12 +3,11 @@ use Rattle.std.proofs.Common.{◌≡◌, refl, sym, ap, ◌∙◌, subst, ℕ, s
 use Rattle.dp_base.specs.declared.Fault.{Fault as FaultAt}
 use Rattle.dp_base.specs.declared.End.{End}
 use Rattle.dp_base.specs.declared.End.TheVariants as how
-use Rattle.dp_tree.specs.declared.Stmt.{Stmt}
 use Rattle.dp_tree.specs.declared.Program.{Program}
 use Rattle.dp_tree.specs.Inlined.{IsInlined}
 use Rattle.dp_tree.specs.InMain.{StandsInMain}
 use Rattle.dp_tree.specs.Numbering.{numbers_from}
-use Rattle.dp_tree.specs.Step.{Config, standing}
+use Rattle.dp_tree.specs.Step.{Config}
 use Rattle.dp_tree.specs.Trace.{Run, run_of, ended, begin, start_cells}
 use Rattle.dp_tree.specs.Iteration.{starts, stands_at_head}
 use Rattle.dp_tree.proofs.InMain.{begins_in_main, stays_in_main}
@@ -26,10 +25,7 @@ use Rattle.dp_run.proofs.RegionsLeft.{left_from_region, left_finished, left_at_r
 use Rattle.dp_run.proofs.Tops.{regions_numbered}
 use Rattle.dp_run.proofs.Passing.{passed_none, passed_on, starts_behind, off_plain_part, cells_at_end, run_over, config_at, no_start}
 use Rattle.dp_commit.proofs.Parts.{run_begins}
-
-standing_to_do : (p : Program) (to_do : List Stmt) (cells : List ℤ) → (standing p to_do cells).to_do ≡ to_do
-standing_to_do p [] cells = refl
-standing_to_do p (x ∷ rest) cells = refl
+use Rattle.dp_tree.proofs.Heads.{standing_to_do}
 
 module _ (p : Program) (input : List ℤ) (fuel : ℕ) where
   abbrev run : Run

@@ -1,17 +1,14 @@
 -- Lists behind a seam, and places in them.
-use Rattle.std.proofs.Common.{◌≡◌, refl, ap, ◌∙◌, ℕ, suc, ◌+◌, Bool, true, false, not, if◌then◌else◌, List, [], ◌∷◌, ◌++◌, map, length, arith}
+use Rattle.std.proofs.Common.{◌≡◌, refl, ap, ◌∙◌, ℕ, suc, ◌+◌, Bool, true, false, not, if◌then◌else◌, List, [], ◌∷◌, map, arith}
 use Rattle.std.proofs.lemmas.Bool.{and_parts}
 use Rattle.std.specs.List.{list_all}
 use Rattle.dp_tree.specs.Iteration.{places}
 use Rattle.dp_crew.specs.RegionRun.{beyond}
+use Rattle.std.proofs.lemmas.Simd.{map-map}
 
 pub map_same : {X Y : Type 0} (f g : X → Y) → ((x : X) → f x ≡ g x) → (xs : List X) → map f xs ≡ map g xs
 map_same f g h [] = refl
 map_same f g h (x ∷ xs) = ap (λ (y : _). y ∷ map f xs) (h x) ∙ ap (λ (ys : List _). g x ∷ ys) (map_same f g h xs)
-
-pub map_map : {X Y Z : Type 0} (f : Y → Z) (g : X → Y) (xs : List X) → map f (map g xs) ≡ map (λ x. f (g x)) xs
-map_map f g [] = refl
-map_map f g (x ∷ xs) = ap (λ (ys : List _). f (g x) ∷ ys) (map_map f g xs)
 
 map_self : {X : Type 0} (f : X → X) → ((x : X) → f x ≡ x) → (xs : List X) → map f xs ≡ xs
 map_self f h [] = refl
@@ -22,20 +19,12 @@ pub beyond_none : (ks : List ℕ) → map (beyond 0) ks ≡ ks
 beyond_none ks = map_self (beyond 0) (λ k. omega arith) ks
 
 pub beyond_twice : (a b n : ℕ) → n ≡ a + b → (ks : List ℕ) → map (beyond a) (map (beyond b) ks) ≡ map (beyond n) ks
-beyond_twice a b n e ks = map_map (beyond a) (beyond b) ks ∙ map_same (λ k. beyond a (beyond b k)) (beyond n) (λ k. omega (arith, e)) ks
+beyond_twice a b n e ks = map-map (beyond a) (beyond b) ks ∙ map_same (λ k. beyond a (beyond b k)) (beyond n) (λ k. omega (arith, e)) ks
 
 module _ {X : Type 0} (test : X → Bool) where
   off : (k : ℕ) (rest : List X) (t : Bool) → not t ≡ true → (if t then k ∷ places test (suc k) rest else places test (suc k) rest) ≡ places test (suc k) rest
   off k rest false e = refl
   off k rest true e = absurd (cc)
-
-  -- none of the first list passes
-  pub places_behind : (k : ℕ) (a b : List X) → list_all (λ x. not (test x)) a ≡ true → places test k (a ++ b) ≡ places test (length a + k) b
-  places_behind k [] b h = let e : k ≡ 0 + k = omega arith in ap (λ (n : ℕ). places test n b) e
-  places_behind k (x ∷ a) b h =
-      let parts = and_parts (not (test x)) (list_all (λ y. not (test y)) a) h in
-      let e : length a + suc k ≡ suc (length a) + k = omega arith in
-      off k (a ++ b) (test x) parts.0 ∙ places_behind (suc k) a b parts.1 ∙ ap (λ (n : ℕ). places test n b) e
 
   pub no_places : (k : ℕ) (a : List X) → list_all (λ x. not (test x)) a ≡ true → places test k a ≡ []
   no_places k [] h = refl

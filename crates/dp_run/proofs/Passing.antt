@@ -1,7 +1,7 @@
 -- Runs that begin with some steps, and the regions that weren't reached in them.
-use Rattle.std.proofs.Common.{◌≡◌, refl, sym, ap, ◌∙◌, append_assoc, ℕ, zero, suc, ◌+◌, ◌≤◌, true, not, List, [], ◌∷◌, ◌++◌, ℤ, length, map, All, length-append, slice_get, arith}
+use Rattle.std.proofs.Common.{◌≡◌, refl, sym, ap, ◌∙◌, ℕ, zero, suc, ◌+◌, ◌≤◌, true, not, List, [], ◌∷◌, ◌++◌, ℤ, length, map, All, length-append, slice_get, arith}
 use Rattle.std.proofs.lemmas.Bool.{and_from}
-use Rattle.std.proofs.lemmas.List.Elements.{All-weaker, filter_map-append}
+use Rattle.std.proofs.lemmas.List.Elements.{All-weaker}
 use Rattle.std.proofs.lemmas.List.Sums.{list_all-from_AllPass}
 use Rattle.std.specs.List.{list_all}
 use Rattle.dp_base.specs.declared.End.{End}
@@ -9,33 +9,25 @@ use Rattle.dp_base.specs.declared.End.TheVariants.{Done}
 use Rattle.dp_tree.specs.declared.Program.{Program}
 use Rattle.dp_tree.specs.declared.Stmt.{Stmt}
 use Rattle.dp_tree.specs.Step.{Config, Event, step_from}
-use Rattle.dp_tree.specs.Trace.{Run, end_at, ended, run_of, run_by, prints, printed_by}
+use Rattle.dp_tree.specs.Trace.{Run, end_at, ended, run_of, run_by, prints}
 use Rattle.dp_tree.specs.Iteration.{starts, places, stands_at_head, cells_in, cells_after}
 use Rattle.dp_meaning.specs.declared.ends.Part.TheVariants as part
 use Rattle.dp_meaning.specs.Continues.{Continues}
 use Rattle.dp_meaning.specs.MachineState.{part_of}
 use Rattle.dp_crew.specs.RegionRun.{beyond}
 use Rattle.dp_run.specs.steps.Stretches.{Passed}
-use Rattle.dp_run.proofs.Lists.{beyond_none, beyond_twice, places_behind, places_moved, no_places}
+use Rattle.dp_run.proofs.Lists.{beyond_none, beyond_twice, places_moved, no_places}
 use Rattle.dp_run.proofs.RegionsLeft.{off_plain, nothing_left}
-use Rattle.dp_commit.proofs.Lists.{get_behind}
-use Rattle.dp_meaning.proofs.ContinuesLemmas.{continues_none}
-
-pub continues_join : (run between rest : Run) (events more : List Event) (configs others : List Config) → Continues run events configs between → Continues between more others rest →
-    Continues run (events ++ more) (configs ++ others) rest
-continues_join run between rest events more configs others c d = record {
-  trace = c.trace ∙ ap (λ (es : List Event). events ++ es) d.trace ∙ sym (append_assoc events more rest.trace);
-  configs = c.configs ∙ ap (λ (cs : List Config). configs ++ cs) d.configs ∙ sym (append_assoc configs others rest.configs);
-  end = c.end ∙ d.end;
-  fuel = omega (arith, c.fuel, d.fuel, length-append events more);
-  paired = omega (arith, c.paired, d.paired, length-append events more, length-append configs others);
-}
+use Rattle.dp_meaning.proofs.ContinuesLemmas.{continues_none, continues_join}
+use Rattle.dp_meaning.proofs.MovedLemmas.{prints-append}
+use Rattle.dp_commit.proofs.Lists.{places_behind}
+use Rattle.dp_tree.proofs.MovedLists.{at_seam}
 
 -- Where region r is at the head of none of a piece's configurations, its starts are those behind the piece.
 pub starts_behind : (run rest : Run) (r : ℕ) (events : List Event) (configs : List Config) → Continues run events configs rest → list_all (λ c. not (stands_at_head r c)) configs ≡ true →
     starts run r ≡ map (beyond (length events)) (starts rest r)
 starts_behind run rest r events configs c off =
-    let size : length configs + 0 ≡ length events + 0 = omega (arith, c.paired) in
+    let size : 0 + length configs ≡ length events + 0 = omega (arith, c.paired) in
     ap (places (stands_at_head r) 0) c.configs ∙ places_behind (stands_at_head r) 0 configs rest.configs off
     ∙ ap (λ (n : ℕ). places (stands_at_head r) n rest.configs) size ∙ places_moved (stands_at_head r) (length events) 0 rest.configs
 
@@ -56,9 +48,6 @@ passed_on run here rest k j later a events configs c ahead = record {
       ∙ beyond_twice (length a.events) (length events) (length (a.events ++ events)) (length-append a.events events) (starts rest r);
 }
 
-pub prints-append : (events more : List Event) → prints (events ++ more) ≡ prints events ++ prints more
-prints-append events more = filter_map-append (λ e. printed_by e.effect) events more
-
 module _ (run rest : Run) (events : List Event) (configs : List Config) (c : Continues run events configs rest) where
   pub prints_on : prints run.trace ≡ prints events ++ prints rest.trace
   prints_on = ap prints c.trace ∙ prints-append events rest.trace
@@ -66,7 +55,7 @@ module _ (run rest : Run) (events : List Event) (configs : List Config) (c : Con
   pub config_at : (k : ℕ) → slice_get run.configs (length events + k) ≡ slice_get rest.configs k
   config_at k =
       ap (λ (cs : List Config). slice_get cs (length events + k)) c.configs ∙ ap (λ (n : ℕ). slice_get (configs ++ rest.configs) (n + k)) (sym c.paired)
-      ∙ get_behind configs rest.configs k
+      ∙ at_seam configs rest.configs k
 
   -- the memory after all steps, where the rest makes none
   pub cells_at_end : (last : Config) → rest.trace ≡ [] → rest.configs ≡ last ∷ [] → cells_after run (length run.trace) ≡ last.cells

@@ -1,7 +1,7 @@
 -- What is to be printed, and what was written of it.
-use Rattle.std.proofs.Common.{◌≡◌, refl, sym, ap, ◌∙◌, append_assoc, ℕ, zero, suc, ◌+◌, ◌-◌, ◌≤◌, true, false, if◌then◌else◌, cond, Bool, List, [], ◌∷◌, ◌++◌, ℤ, length, take, drop, count_by, nat_lt, Option, Some, slice_get, arith}
+use Rattle.std.proofs.Common.{◌≡◌, refl, sym, ap, ◌∙◌, append_assoc, ℕ, zero, suc, ◌+◌, ◌-◌, ◌≤◌, if◌then◌else◌, Bool, List, ◌∷◌, ◌++◌, ℤ, take, drop, nat_lt, Option, Some, slice_get, arith}
 use Rattle.std.proofs.lemmas.List.{take-append-drop}
-use Rattle.std.proofs.lemmas.List.Sums.{sum_by-cons}
+use Rattle.std.proofs.lemmas.List.Sums.{count_by-le-length}
 use Rattle.dp_tree.specs.Step.{Config, Event}
 use Rattle.dp_tree.specs.Trace.{Run, prints}
 use Rattle.dp_tree.specs.Iteration.{starts, start, places, begun_count, stands_at_head, stop_from}
@@ -18,7 +18,8 @@ use Rattle.dp_crew.specs.Output.{Emits, WritesFront}
 use Rattle.dp_crew.specs.RegionRun.{region_run, region_prints}
 use Rattle.dp_run.specs.steps.Stretches.{to_come}
 use Rattle.dp_run.proofs.RegionsLeft.{on_region}
-use Rattle.dp_run.proofs.Passing.{prints_on, prints-append}
+use Rattle.dp_run.proofs.Passing.{prints_on}
+use Rattle.dp_meaning.proofs.MovedLemmas.{prints-append}
 use Rattle.dp_crew.proofs.StreamLemmas.{emits_ahead, front_ahead, front_more, prints-split}
 use Rattle.dp_tree.proofs.InMain.{at_index}
 use Rattle.dp_commit.proofs.Parts.{run_begins}
@@ -53,15 +54,6 @@ record Splits (all front : List ℤ) : Type 0 where
   pub rest : List ℤ
   pub is : all ≡ front ++ rest
 
-count_few : (test : ℕ → Bool) (ks : List ℕ) → count_by test ks ≤ length ks
-count_few test [] = omega arith
-count_few test (k ∷ ks) =
-    let c = sum_by-cons (λ j. cond (test j) 1 0) k ks in let go = count_few test ks in one (test k) c go
-  where
-    one : (b : Bool) → count_by test (k ∷ ks) ≡ cond b 1 0 + count_by test ks → count_by test ks ≤ length ks → count_by test (k ∷ ks) ≤ suc (length ks)
-    one true c go = omega (arith, c, go)
-    one false c go = omega (arith, c, go)
-
 module _ (m : MachineState) (r : ℕ) (here : part_of m.config.to_do ≡ part.Region r) where
   abbrev run : Run
   run = region_run m
@@ -79,7 +71,7 @@ module _ (m : MachineState) (r : ℕ) (here : part_of m.config.to_do ≡ part.Re
   first_events : (n : ℕ) → n ≤ begun_count run r → (k : ℕ) × (events_of_first run r n ≡ take k run.trace)
   first_events zero h = (0, refl)
   first_events (suc i) h =
-      let few = count_few (λ k. nat_lt k run.fuel) (starts run r) in
+      let few = count_by-le-length (λ k. nat_lt k run.fuel) (starts run r) in
       let at = at_index (starts run r) i (omega (arith, few, h)) in
       let stop = stop_from run at.0 (start run r (suc i)) in
       let size : stop - 0 ≡ stop = omega arith in

@@ -1,8 +1,8 @@
 -- What the part at the head says of the regions that are left.
-use Rattle.std.proofs.Common.{◌≡◌, ◌≢◌, refl, sym, ap, ◌∙◌, ℕ, Bool, true, false, not, if◌then◌else◌, List, [], ◌∷◌, drop, Option, Some, None, eq-eqb}
+use Rattle.std.proofs.Common.{◌≡◌, ◌≢◌, refl, sym, ap, ◌∙◌, ℕ, Bool, true, false, not, if◌then◌else◌, List, [], ◌∷◌, drop, Option, Some, None}
 use Rattle.std.specs.List.{cons_option}
 use Rattle.dp_tree.specs.declared.Stmt.{Stmt, out-Stmt}
-use Rattle.dp_tree.specs.declared.Stmt.TheOpen.{Stmt-F, Assign, Store, Print, If, While, Region, Break, Call}
+use Rattle.dp_tree.specs.declared.Stmt.TheOpen.{Stmt-F, Region}
 use Rattle.dp_tree.specs.Step.{Config}
 use Rattle.dp_tree.specs.Iteration.{stands_at_head}
 use Rattle.dp_meaning.specs.declared.ends.Part.{Part}
@@ -11,19 +11,15 @@ use Rattle.dp_meaning.specs.MachineState.{part_from, part_of, is_any_region, fro
 use Rattle.dp_commit.proofs.Parts.{head_part}
 use Rattle.dp_tree.specs.Step.{region_number}
 use Rattle.dp_run.specs.steps.Regions.{number_of, regions_left}
+pub use Rattle.dp_meaning.proofs.WatchedLemmas.{part_finished as nothing_left}
+pub use Rattle.dp_meaning.proofs.NextLemmas.{on_region}
 
 pub left_cons : (s : Stmt) (rest : List Stmt) (o : Option ℕ) → number_of s ≡ o → regions_left (s ∷ rest) ≡ cons_option o (regions_left rest)
 left_cons s rest o e = ap (λ (x : Option ℕ). cons_option x (regions_left rest)) e
 
 unmarked : (h : Stmt-F Stmt) → is_any_region h ≡ false → region_number h ≡ None
 unmarked (Region q site cond body) e = absurd (cc)
-unmarked (Assign site v w) e = refl
-unmarked (Store site v index w) e = refl
-unmarked (Print site w) e = refl
-unmarked (If site cond a b) e = refl
-unmarked (While site cond a) e = refl
-unmarked (Break site cond) e = refl
-unmarked (Call g line args) e = refl
+unmarked _ e = refl
 
 -- They stand behind the first of them.
 pub left_from_region : (xs : List Stmt) → regions_left (from_region xs) ≡ regions_left xs
@@ -36,32 +32,12 @@ left_from_region (s ∷ rest) = by (is_any_region (out-Stmt s)) refl (left_from_
 
 number_at : (h : Stmt-F Stmt) (q : ℕ) → part_from h ≡ part.Region q → region_number h ≡ Some q
 number_at (Region n site cond body) q e = let same : n ≡ q = cc in ap Some same
-number_at (Assign site v w) q e = absurd (cc)
-number_at (Store site v index w) q e = absurd (cc)
-number_at (Print site w) q e = absurd (cc)
-number_at (If site cond a b) q e = absurd (cc)
-number_at (While site cond a) q e = absurd (cc)
-number_at (Break site cond) q e = absurd (cc)
-number_at (Call g line args) q e = absurd (cc)
+number_at _ q e = absurd (cc)
 
 -- A region at the head is the first of them.
 pub left_at_region : (q : ℕ) (xs : List Stmt) → part_of xs ≡ part.Region q → regions_left xs ≡ q ∷ regions_left (drop 1 xs)
 left_at_region q [] e = absurd (cc)
 left_at_region q (s ∷ rest) e = left_cons s rest (Some q) (number_at (out-Stmt s) q e)
-
-some_part : (h : Stmt-F Stmt) → part_from h ≡ part.Finished → ⊥
-some_part (Region q site cond a) e = absurd (cc)
-some_part (Assign site v w) e = absurd (cc)
-some_part (Store site v index w) e = absurd (cc)
-some_part (Print site w) e = absurd (cc)
-some_part (If site cond a b) e = absurd (cc)
-some_part (While site cond a) e = absurd (cc)
-some_part (Break site cond) e = absurd (cc)
-some_part (Call g line args) e = absurd (cc)
-
-pub nothing_left : (xs : List Stmt) → part_of xs ≡ part.Finished → xs ≡ []
-nothing_left [] e = refl
-nothing_left (s ∷ rest) e = absurd (some_part (out-Stmt s) e)
 
 pub left_finished : (xs : List Stmt) → part_of xs ≡ part.Finished → regions_left xs ≡ []
 left_finished xs e = ap regions_left (nothing_left xs e)
@@ -85,6 +61,3 @@ off_plain r c e = ap not (head_part r c part.Plain e)
 
 pub off_finished : (r : ℕ) (c : Config) → part_of c.to_do ≡ part.Finished → not (stands_at_head r c) ≡ true
 off_finished r c e = ap not (head_part r c part.Finished e)
-
-pub on_region : (q : ℕ) (c : Config) → part_of c.to_do ≡ part.Region q → stands_at_head q c ≡ true
-on_region q c e = head_part q c (part.Region q) e ∙ eq-eqb q q refl

@@ -1,6 +1,6 @@
 -- What is reported of a region's own run is what is reported of it in the whole run.
-use Rattle.std.proofs.Common.{◌≡◌, refl, sym, ap, ◌∙◌, ℕ, suc, ◌+◌, ◌-◌, ◌<◌, ◌≤◌, Bool, true, false, if◌then◌else◌, cond, List, [], ◌∷◌, ℤ, length, map, take, filter, count_by, nat_lt, Some, slice_get, arith, rules}
-use Rattle.std.proofs.lemmas.List.Sums.{sum_by-cons}
+use Rattle.std.proofs.Common.{◌≡◌, refl, sym, ap, ◌∙◌, ℕ, suc, ◌+◌, ◌-◌, ◌<◌, ◌≤◌, Bool, true, false, if◌then◌else◌, cond, List, [], ◌∷◌, ℤ, length, map, take, count_by, nat_lt, Some, slice_get, arith, rules}
+use Rattle.std.proofs.lemmas.List.Sums.{sum_by-cons, count_by-le-length, length-filter}
 use Rattle.dp_base.specs.declared.Cause.{Cause as ReportedCause}
 use Rattle.dp_tree.specs.declared.Program.{Program}
 use Rattle.dp_tree.specs.Trace.{Run, run_of, begin}
@@ -67,17 +67,8 @@ module _ (p : Program) (plan : Plan) (input : List ℤ) (fuel n : ℕ) (m : Mach
   pub report_is : region_report p plan (region_run m) ≡ region_report p plan run
   report_is = sym (report_own ∙ ap (region_report p plan) own_is)
 
--- A filter keeps no more than there is.
-filter_few : (test : ℕ → Bool) (xs : List ℕ) → length (filter test xs) ≤ length xs
-filter_few test [] = omega arith
-filter_few test (x ∷ xs) = by (test x) (filter_few test xs)
-  where
-    by : (t : Bool) → length (filter test xs) ≤ length xs → length (cond t (x ∷ filter test xs) (filter test xs)) ≤ suc (length xs)
-    by true h = omega (arith, h)
-    by false h = omega (arith, h)
-
 pub few_recovered : (p : Program) (plan : Plan) (run : Run) → length (recovered p plan run) ≤ begun_count run plan.region
-few_recovered p plan r = let few = filter_few (is_recovered p plan r) (numbers_from 0 (begun_count r plan.region)) in let size = length-numbers_from 0 (begun_count r plan.region) in omega (arith, few, size)
+few_recovered p plan r = let ns : List ℕ = numbers_from 0 (begun_count r plan.region) in omega (arith, length-filter (is_recovered p plan r) ns, count_by-le-length (is_recovered p plan r) ns, length-numbers_from 0 (begun_count r plan.region))
 
 -- Iterations are begun at different steps within the fuel, so there are no more of them than steps.
 places_few : {X : Type 0} (test : X → Bool) (k n : ℕ) (xs : List X) → count_by (λ j. nat_lt j n) (places test k xs) ≤ n - k
