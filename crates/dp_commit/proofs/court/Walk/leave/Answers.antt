@@ -20,7 +20,8 @@ returns-then-stays-clause-does c =
 
 pub returns-else-stays-clause-does : goal.returns-else-stays-clause-does
 returns-else-stays-clause-does c =
+    let f = c.args.court in
     let word = c.word_at-word.result in
     let same : to_z w64 (of_z w64 word.value) ≡ word.value = search rules in
-    break_stops _ _ c.find.new.pace c.find.new.self c.args.site c.in-Some.at c.args.next word c.in-Some.ensures.state c.in-Some.ensures.at (c.in-Some.ensures.there ∙ c.requires.stage) c.in-Some.ensures.found c.word_at-word.ensures
-    c.args.to c.args.next c.stays.result (c.stays.ensures ∙ ap (λ (z : ℤ). as_assumed c.args.court.program.now c.args.court.plan.now c.args.site.0 (Tried z)) same) c.if-stays.false
+    break_stops f _ c.find.new.pace c.find.new.self c.args.site c.in-Some.at c.args.next word c.in-Some.ensures.state c.in-Some.ensures.at (c.in-Some.ensures.there ∙ c.requires.stage) c.in-Some.ensures.found c.word_at-word.ensures
+    c.args.to c.args.next c.stays.result (c.stays.ensures ∙ ap (λ (z : ℤ). as_assumed f.program.now f.plan.now c.args.site.0 (Tried z)) same) c.if-stays.false

@@ -5,4 +5,5 @@ use Rattle.dp_commit.proofs.trying.TryCommit.refuse.Goals as goal
 
 pub returns-in-Some-clause-verdict : goal.returns-in-Some-clause-verdict
 returns-in-Some-clause-verdict c = λ key n knows cells_are unclean.
-    refused_gives key n _ _ c.args.cells c.in-Some.cause (Unclean c.in-Some.cause) c.args.self.now.fits knows cells_are unclean (sym c.in-Some.is ∙ c.in-Ok.ensures) refl
+    let t = c.args.self.now in
+    refused_gives key n t t c.args.cells c.in-Some.cause (Unclean c.in-Some.cause) t.fits knows cells_are unclean (sym c.in-Some.is ∙ c.in-Ok.ensures) refl
