@@ -61,6 +61,7 @@ stepped_so m new left site seen before after old loads less (taken, shows) tells
       trace = run.trace;
       end = run.end;
       steps = ap (λ (n : MachineState). n.steps) taken.rest;
+      rest = taken.rest ∙ (λ i. record m { config = new.config; steps = sym (ap (λ (n : MachineState). n.steps) taken.rest) i; current = sym (ap (λ (n : MachineState). n.current) taken.rest) i });
     }
 
 -- an event prints what its effect is seen to print
