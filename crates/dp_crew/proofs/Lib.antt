@@ -17,6 +17,7 @@ pub mod Recovering
 pub mod Answering
 pub mod Recovered
 pub mod EpochLemmas
+pub mod Outcomes
 pub mod Starting
 pub mod WholeRegion
 pub mod Crossing
