@@ -1,17 +1,30 @@
 #!/usr/bin/env python3
 """Prints the book: the definitions that the headline rests on, in reading order, from the contract of `drive` down. Each
-stands once, under its file, with its line; the last line says how many lines they are. Ends with 1 above the limit.
+stands once, under its file, with its line. The first part is what a call answers, given its words, the program that
+its text is read as, the input and the plans; the later parts say how these are read and made. Each part ends with its
+number of lines. Ends with 1 where a part has too many.
 
-  checks/book.py [--names]     the whole text, or the places alone
+  checks/book.py [--names] [--counts]     the whole text, the places alone, or the numbers alone
 
 It follows names from definition to definition, and not whole files. Those of the kit's libraries aren't followed.
 """
 import sys
 
 sys.dont_write_bytecode = True
-from definitions import CRATES, TOP, Definition, cites, rt, rust_items
+from definitions import CRATES, TOP, Definition, antt, cites, rt, rust_items
 
-LIMIT = 4700
+# lines of definitions in a part; comments are counted apart, and attributes of types are left out
+LIMIT = 1500
+# each later part, and the definitions that it begins with
+LATER = [
+    ("Which texts are programs", [("dp_drive/specs/Program", "Reads")]),
+    ("How words, inputs, plans and profiles are read and made", [
+        ("dp_words/specs/Words", "Asks"), ("dp_words/specs/Words", "AsksNothing"), ("dp_drive/specs/Inputs", "input_of"),
+        ("dp_drive/specs/Plans", "ReadsPlans"), ("dp_drive/specs/Plans", "MakesPlans"), ("dp_drive/specs/Profiles", "ReadsProfile"),
+        ("dp_profile/specs/Observed", "observed"), ("dp_plan_text/specs/WrittenText", "plans_text"),
+        ("dp_profile/specs/WrittenText", "profile_text"), ("dp_report/specs/SiteText", "site_bytes"), ("dp_drive/specs/Refusal", "refusal_line"),
+    ]),
+]
 
 
 def headline():
@@ -22,15 +35,27 @@ def headline():
     return [Definition(drive.kind, drive.name, drive.source, drive.first, contract, drive.comments)] + outside
 
 
-def book():
+def reached(begin, but):
     """The definitions, in the order in which a reader meets them: behind each one those that it cites."""
-    order, waiting = {}, headline()
+    order, waiting = {}, list(begin)
     while waiting:
         definition = waiting.pop(0)
-        if definition not in order:
+        if definition not in order and definition not in but:
             order[definition] = True
             waiting = cites(definition) + waiting
     return list(order)
+
+
+def book():
+    """The parts, each with its title and its definitions."""
+    later = [(title, [antt(CRATES / f"{file}.antt").own[name] for file, name in begin]) for title, begin in LATER]
+    parts, before = [], []
+    for title, begin in [("What a call answers", headline())] + later:
+        waits = [definition for other, heads in later if other != title for definition in heads]
+        part = reached(begin, set(before + waits) - set(begin))
+        parts.append((title, part))
+        before += part
+    return parts
 
 
 def chapters(order):
@@ -41,21 +66,41 @@ def chapters(order):
     return [sorted(group, key=lambda definition: definition.first) for group in files.values()]
 
 
+def lines_of(definition):
+    return [line for line in definition.lines if line.strip() and not line.startswith("#[")]
+
+
+def counts(order):
+    """The number of lines, and the number of comments."""
+    lines = [line for definition in order for line in lines_of(definition)]
+    comments = sum(line.lstrip().startswith(("--", "//")) for line in lines)
+    return len(lines) - comments, comments
+
+
+def show(chapter):
+    print(f"==== {chapter[0].source.path.relative_to(TOP)}\n")
+    for definition in chapter:
+        if "--names" in sys.argv:
+            print(f"{definition.place}  {definition.name}")
+        else:
+            blocks = [head.strip() for head in definition.inside if head.lstrip().startswith("module")]
+            print(f"-- {definition.place}", *blocks, *lines_of(definition), "", sep="\n")
+    print()
+
+
 def main():
-    order = book()
-    for chapter in chapters(order):
-        print(f"==== {chapter[0].source.path.relative_to(TOP)}\n")
-        for definition in chapter:
-            if "--names" in sys.argv:
-                print(f"{definition.place}  {definition.name}")
-            else:
-                blocks = [head.strip() for head in definition.inside if head.lstrip().startswith("module")]
-                print(f"-- {definition.place}", *blocks, *definition.lines, "", sep="\n")
-        print()
-    lines = sum(len(definition.lines) for definition in order)
-    comments = sum(line.lstrip().startswith(("--", "//")) for definition in order for line in definition.lines)
-    print(f"{len(order)} definitions of {len(chapters(order))} files: {lines} lines, {comments} of them comments")
-    return 0 if lines <= LIMIT else 1
+    sums, status = [0, 0, 0], 0
+    for title, order in book():
+        if "--counts" not in sys.argv:
+            print(f"######## {title}\n")
+            for chapter in chapters(order):
+                show(chapter)
+        lines, comments = counts(order)
+        print(f"{title}: {len(order)} definitions of {len(chapters(order))} files, {lines} lines and {comments} of comments")
+        sums = [a + b for a, b in zip(sums, (len(order), lines, comments))]
+        status |= lines > LIMIT
+    print(f"In all: {sums[0]} definitions, {sums[1]} lines and {sums[2]} of comments; a part has at most {LIMIT} lines")
+    return status
 
 
 if __name__ == "__main__":
