@@ -56,7 +56,7 @@ pub fn drive<R: Threads + Wait + Clock + Sync, S: Shelf, K: Sink, G: Gate>(
     ensures write_failed { K.faults sink.old < K.faults sink.new →
         (result ≡ 6) × WriteFailed (map string_bytes words.now) (S.contents shelf.old) (S.faults shelf.old) (S.faults shelf.new) (S.failed_names shelf.old) (S.failed_names shelf.new) (K.written sink.old) (K.written sink.new) }
 
-    // A run that was answered: each iteration that isn't listed as executed again was judged and committed from the pipeline.
+    // A run that was answered: the tally grew by the iterations that regions began, less those that were executed again.
     ensures counted { IsCounted (map string_bytes words.now) (S.contents shelf.old) tally.old tally.new result }
 
     // What the shelf holds stays, and no count of faults falls.
