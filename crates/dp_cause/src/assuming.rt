@@ -1,4 +1,4 @@
-//! Small tests.
+//! What a plan assumes of a condition's outcome, and the cells that a judgement compares and puts; `dp_commit` judges by the same.
 ghost use Rattle.std.specs.Prelude.{◌≡◌, get_or, pos, slice_set};
 ghost use Rattle.std.specs.List.{list_all};
 ghost use Rattle.dp_base.specs.Arithmetic.{is_zero};
@@ -35,12 +35,15 @@ fn went(taken: bool, value: i64) -> bool
     if value == 0 { !taken } else { taken }
 }
 
+/// The outcome at the site is as the assumption says, if it is about that site.
 fn goes_as(site: SiteId, value: i64, assumed: &Assume) -> bool
     ensures { result ≡ clean.goes_as site.0 (effect.Decided value) assumed.now }
 {
     assumed.site.0 != site.0 || went(assumed.taken, value)
 }
 
+/// The outcome at the site is as each assumption of the plan says.
+#[inline]
 pub fn goes_as_assumed(plan: &Plan, site: SiteId, value: i64) -> bool
     ensures { result ≡ list_all (clean.goes_as site.0 (effect.Decided value)) plan.now.assume }
 {
@@ -52,6 +55,7 @@ pub fn goes_as_assumed(plan: &Plan, site: SiteId, value: i64) -> bool
     true
 }
 
+/// An early exit isn't taken, or stands in the first stage.
 #[tactic(auto, unfolding(dp_base::specs::Arithmetic::is_zero))]
 pub fn stays_late(program: &Program, plan: &Plan, site: SiteId, value: i64) -> bool
     ensures { result ≡ clean.stays_late program.now plan.now site.0 (effect.Tried value) }
@@ -59,6 +63,7 @@ pub fn stays_late(program: &Program, plan: &Plan, site: SiteId, value: i64) -> b
     value == 0 || plan.stage(program, site) <= 1
 }
 
+/// The number in a cell, and 0 where there is none.
 pub fn value_at(cells: &[i64], cell: u32) -> i64
     ensures { result ≡ get_or cells.now cell (pos 0) }
 {
@@ -68,6 +73,7 @@ pub fn value_at(cells: &[i64], cell: u32) -> i64
     }
 }
 
+/// The word tells a load of the site.
 #[inline(always)]
 pub fn is_load(word: Word, site: SiteId) -> bool
     ensures { result ≡ is_load_of site.0 word }

@@ -5,9 +5,9 @@ ghost use Rattle.dp_commit.specs.FlatJudge.{walk_begin};
 ghost use Rattle.dp_commit.specs.Held.{IsAt, memory_before, state_of};
 ghost use Rattle.dp_commit.specs.Judging.{IsCourt, Judged};
 
-use crate::assuming::put;
 use crate::court::{Answer, Court, Pace, Rows, Walk};
 use dp_base::{Cells, NoMemory, Row};
+use dp_cause::put;
 use dp_packet::Lists;
 use std::alloc::Global;
 use std::mem;

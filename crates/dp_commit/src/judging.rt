@@ -5,11 +5,11 @@ ghost use Rattle.dp_code.specs.FlatRun as run;
 ghost use Rattle.dp_commit.specs.Held.{IsAt, memory_before, state_at};
 ghost use Rattle.dp_commit.specs.Judging.{Does, Finds, Lets, walking_in};
 
-use crate::assuming::{closes, put, value_at, zero};
+use crate::assuming::closes;
 use crate::court::{Answer, Court, Pace, Walk};
 use crate::taking::word_at;
 use dp_base::{CellId, NoMemory, Row, SiteId, StoreOf, Word};
-use dp_cause::Replaced;
+use dp_cause::{Replaced, put, value_at, zero};
 
 /// The store that a word tells.
 #[inline(always)]

@@ -7,6 +7,7 @@ mod committed;
 mod court;
 mod entries;
 mod finding;
+mod holding;
 mod iteration;
 mod judging;
 mod rounds;

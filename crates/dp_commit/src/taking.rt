@@ -5,8 +5,8 @@ ghost use Rattle.dp_semantics.specs.Words.{is_done_of};
 ghost use Rattle.dp_commit.specs.Held.{IsAt, state_at};
 ghost use Rattle.dp_commit.specs.Judging.{DoneAt, Finds, StandsBehind};
 
-use crate::assuming::{behind_loads, count_at, put_taken};
 use crate::court::{Court, Pace, Walk};
+use crate::holding::{behind_loads, count_at, put_taken};
 use dp_base::{SiteId, Word, WordKind};
 
 #[inline(always)]

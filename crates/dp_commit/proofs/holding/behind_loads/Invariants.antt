@@ -1,7 +1,7 @@
 use Rattle.std.proofs.Common.{length, ◌-◌, ◌≡◌, drop}
 use Rattle.dp_semantics.specs.Judge.{loads_hold}
 use Rattle.dp_semantics.specs.Words.{after_loads_of}
-use Rattle.dp_commit.proofs.assuming.behind_loads.Given as goal
+use Rattle.dp_commit.proofs.holding.behind_loads.Given as goal
 
 abbrev pub invariant-words : goal.invariant-words
 invariant-words l =
