@@ -128,7 +128,7 @@ pub struct Kept {
 }
 
 impl Kept {
-    /// Where an epoch begins.
+    /// What is kept where an epoch begins: each sequential stage's memory is a copy of the base.
     pub fn new(alloc: Global, p: &Program, plan: &Plan, base: &Cells) -> Result<Kept, NoMemory>
         ensures { IfOk result (λ kept. kept ≡ record { views = first_kept base.now plan.now.stages; locals = definition.local_cells plan.now.region p.now.vars }) }
     {
@@ -138,7 +138,8 @@ impl Kept {
         })
     }
 
-    /// Behind a clean iteration with these stores: the body locals read 0, also in the source's memory, which has the stores.
+    /// Takes the stages' memories past a clean iteration: applies each store to the stages that see it, and clears the body
+    /// locals, also in the source's memory `cells`, which has the stores already.
     pub fn carry(&mut self, stores: &[StoreOf], replaced: &[Replaced], cells: &mut Cells)
         ensures kept { self.new ≡ record { views = map (definition.clear_cells self.old.locals) (definition.kept_by (definition.stages_of replaced.now) stores.now self.old.views); locals = self.old.locals } }
         ensures cells { cells.new ≡ definition.clear_cells self.old.locals cells.old }

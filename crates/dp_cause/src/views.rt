@@ -106,7 +106,8 @@ fn show_upto(view: &mut Cells, stage: usize, stores: &[StoreOf], replaced: &[Rep
     }
 }
 
-/// .. and these cells read 0. A replicated stage, which has no memory of its own, is passed over at once.
+/// Takes one stage's memory past a clean iteration: it shows the stores that the stage sees, and the body locals read 0. A
+/// replicated stage has no memory of its own and is passed over.
 fn carry_one(
     view: &mut Cells,
     stage: usize,
@@ -123,7 +124,7 @@ fn carry_one(
     clear(locals, view);
 }
 
-/// .. in each stage's memory.
+/// Takes each stage's memory past a clean iteration, as `carry_one` does.
 pub fn carry_all(views: &mut [Cells], stores: &[StoreOf], replaced: &[Replaced], locals: &[CellId])
     ensures { views.new ≡ map (definition.clear_cells locals.now) (definition.kept_by (definition.stages_of replaced.now) stores.now views.old) }
 {

@@ -136,7 +136,7 @@ pub fn answer_plan<S: Shelf, K: Sink>(
     }
 }
 
-/// .. where the program was read.
+/// The exit status of plans whose program was read.
 fn answer_least<S: Shelf, K: Sink>(
     alloc: Global,
     plan: PlanWords,

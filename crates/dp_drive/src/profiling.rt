@@ -44,7 +44,7 @@ pub fn answer_profile<S: Shelf, K: Sink>(
     }
 }
 
-/// .. where the program was read.
+/// The exit status of a profile whose program was read.
 fn answer_input<S: Shelf, K: Sink>(
     alloc: Global,
     profile: ProfileWords,

@@ -117,7 +117,7 @@ fn answer_to<R: Abort + Threads + Wait + Clock + Sync>(
     answer_at(rt, alloc, words, held, failing, room, &OpenGate)
 }
 
-/// .. where the stages pass this gate.
+/// What the words are answered where the stages pass this gate.
 fn answer_at<R: Abort + Threads + Wait + Clock + Sync, G: Gate>(
     rt: &R,
     alloc: Global,
@@ -209,7 +209,7 @@ fn each<R: Abort + Threads + Wait + Clock + Sync>(
     each_with(rt, alloc, table, "")
 }
 
-/// .. with each number of workers and each lane.
+/// Each case of the table is answered as it says, with each number of workers and each lane.
 fn each_crew<R: Abort + Threads + Wait + Clock + Sync>(
     rt: &R,
     alloc: Global,
