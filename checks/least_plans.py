@@ -4,7 +4,8 @@
   checks/least_plans.py [COUNT [SEED]]    COUNT programs, 2000 where it isn't given
 
 The search here is a second one: it goes through every cut and every choice of replicated stages, and sorts them as
-docs/USAGE.md says. Ends with 1 at the first difference, and shows it.
+docs/USAGE.md says. Many loops move a variable by a stride, so that elements indexed by it lie apart or don't. Ends with
+1 at the first difference, and shows it.
 """
 import itertools
 import os
@@ -19,10 +20,12 @@ COUNTS = [0, 1, 3, 10, 100, 101, 1000, 5000]
 
 
 class Site:
-    """What one site loads and stores, and the conditions around it."""
+    """What one site loads and stores, and the conditions around it; of `g` also the offsets from `m` at which it does, None
+    for another index."""
 
-    def __init__(self, kind, loads, stores, around):
+    def __init__(self, kind, loads, stores, around, offsets, stored_at):
         self.kind, self.loads, self.stores, self.around = kind, loads, stores, around
+        self.offsets, self.stored_at = offsets, stored_at
 
 
 class Program:
@@ -30,8 +33,8 @@ class Program:
 
     def __init__(self, rng):
         self.rng, self.lines, self.sites, self.locals = rng, [], {}, set()
-        self.names = 0
-        self.lines.append("int a; int b; int c = 5; int h[4];\nint main() {")
+        self.names, self.mover, self.stride, self.offsets = 0, None, 0, []
+        self.lines.append("int a; int b; int c = 5; int h[4]; int g[9]; int m;\nint main() {")
         for _ in range(rng.randrange(3)):
             self.statement(["a", "b", "c"], [], 0)
         self.first = len(self.sites) + 1
@@ -45,10 +48,37 @@ class Program:
 
     inside = False
 
-    def site(self, kind, loads, stores, around):
+    def site(self, kind, loads, stores, around, stored_at=None):
         number = len(self.sites) + 1
-        self.sites[number] = Site(kind, loads, stores, list(around))
+        self.sites[number] = Site(kind, loads, stores, list(around), self.offsets, stored_at)
+        self.offsets = []
         return number
+
+    def index(self, visible):
+        """An index of `g`, the variables that it loads, and its offset from `m`."""
+        if self.rng.random() < 0.1:
+            name = self.rng.choice(visible)
+            return "%s %% 4" % name, {name}, None
+        offset = self.rng.randint(-3, 3)
+        forms = ["m + %d" % offset, "%d + m" % offset] if offset >= 0 else ["m - %d" % -offset]
+        return self.rng.choice(forms + ["m"] * (offset == 0)), {"m"}, offset
+
+    def move(self):
+        self.stride = self.rng.choice((1, 1, 2, 3, -1, -2))
+        self.mover = self.site("assign", {"m"}, "m", [])
+        self.lines.append("m = m %s %d;" % ("+-"[self.stride < 0], abs(self.stride)))
+
+    def place(self, number, offset):
+        """An offset from what `m` is when the iteration starts."""
+        return offset + (self.stride if number > self.mover else 0)
+
+    def apart(self, start, to):
+        """Whether no store at the one site is to what the other loads later, and whether none is in the same iteration."""
+        stored, loaded = self.sites[start].stored_at, self.sites[to].offsets
+        if self.mover is None or stored is None or None in loaded:
+            return False, False
+        ways = [self.place(start, stored) - self.place(to, offset) for offset in loaded]
+        return all(way * self.stride <= 0 or way % self.stride for way in ways), all(ways)
 
     def expression(self, visible):
         names = self.rng.sample(visible, self.rng.randrange(min(3, len(visible) + 1)))
@@ -56,11 +86,19 @@ class Program:
         if self.rng.random() < 0.2:
             index = self.rng.choice(visible)
             text, loads = "%s - h[%s %% 4]" % (text, index), loads | {index, "h"}
+        if self.rng.random() < 0.3:
+            index, names, offset = self.index(visible)
+            text, loads = "%s - g[%s]" % (text, index), loads | names | {"g"}
+            self.offsets.append(offset)
         return text, loads
 
     def block(self, visible, around, depth):
         visible = list(visible)
-        for _ in range(self.rng.randrange(1, 4 if depth else 6)):
+        count = self.rng.randrange(1, 4 if depth else 6)
+        moves = self.rng.randrange(count) if not depth and self.rng.random() < 0.7 else None
+        for at in range(count):
+            if at == moves:
+                self.move()
             self.statement(visible, around, depth)
 
     def statement(self, visible, around, depth):
@@ -70,6 +108,10 @@ class Program:
             name = self.rng.choice(visible)
             self.site("assign", loads, name, around)
             self.lines.append("%s = %s;" % (name, text))
+        elif form < 0.41 and self.inside:
+            index, names, offset = self.index(visible)
+            self.site("assign", loads | names, "g", around, offset)
+            self.lines.append("g[%s] = %s;" % (index, text))
         elif form < 0.45:
             index = self.rng.choice(visible)
             self.site("assign", loads | {index}, "h", around)
@@ -148,8 +190,9 @@ def edges_of(program, profile, rate, chosen):
             continue
         loops = [set(site.around) | {number} for number, site in ((start, store), (to, load))]
         one_loop = any(program.sites[cond].kind == "while" for cond in loops[0] & loops[1])
-        kinds = ["intra"] if start < to or one_loop else []
-        kinds += [] if store.stores in program.locals else ["carried"]
+        later, within = program.apart(start, to) if store.stores == "g" else (False, False)
+        kinds = ["intra"] if (start < to or one_loop) and not within else []
+        kinds += [] if store.stores in program.locals or later else ["carried"]
         for kind in kinds:
             runs = profile.runs[to][0] if profile else 0
             if runs and profile.flows.get((start, to, kind), 0) * 1000 <= rate * runs:
