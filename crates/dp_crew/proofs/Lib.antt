@@ -17,7 +17,6 @@ pub mod Recovering
 pub mod Answering
 pub mod Recovered
 pub mod EpochLemmas
-pub mod Outcomes
 pub mod Starting
 pub mod WholeRegion
 pub mod Crossing

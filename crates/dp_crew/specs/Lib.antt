@@ -5,4 +5,3 @@ pub mod Applied
 pub mod Remade
 pub mod Progress
 pub mod InEpoch
-pub mod EpochRan

@@ -1,12 +1,11 @@
 //! One epoch: verdicts are taken, and clean iterations are committed in order.
-ghost use Rattle.std.specs.Prelude.{◌≡◌, ◌<◌, ◌+◌, ◌-◌, ◌^◌, ◌++◌, length, OnOk};
+ghost use Rattle.std.specs.Prelude.{◌≡◌, ◌<◌, ◌≤◌, ◌+◌, ◌-◌, ◌^◌, ◌++◌, length, IfOk, OnOk};
 ghost use Rattle.dp_meaning.specs.MachineState.{MachineState};
 ghost use Rattle.dp_commit.specs.CommittedState.{CarriesNext, IsOpen};
-ghost use Rattle.dp_crew.specs.Applied.{Applied, HasRoom};
-ghost use Rattle.dp_crew.specs.EpochRan.{EpochRan, beside};
+ghost use Rattle.dp_crew.specs.Applied.{Applied, HasRoom, left_of};
 ghost use Rattle.dp_crew.specs.Fail.{FaultsAfter};
-ghost use Rattle.dp_crew.specs.InEpoch.{InEpoch};
-ghost use Rattle.dp_crew.specs.Output.{Streams};
+ghost use Rattle.dp_crew.specs.InEpoch.{EpochEnds, InEpoch, left_by_epoch};
+ghost use Rattle.dp_crew.specs.Output.{Streams, to_come};
 
 use crate::ends::EpochEnd;
 use crate::fail::CrewFail;
@@ -34,9 +33,16 @@ pub fn run_epoch<'p, R: Wait + Clock, V: Verdicts, K: Sink>(
     requires sink { K.faults sink.old < 2 ^ 64 - 1 }
     requires epoch { (first : MachineState) × InEpoch (V.key verdicts.old) (V.given verdicts.old) first committed.old report.old }
     requires room { HasRoom tally.old committed.old }
-    ensures ran { EpochRan (V.key verdicts.old).plan (InEpoch (V.key verdicts.old) (V.given verdicts.old)) (record { committed = committed.old; report = report.old; waiting = waiting.old })
-        result (λ end. (record { committed = committed.new; report = report.new; waiting = waiting.new }, end)) (beside (K.written sink.old) (K.faults sink.old) tally.old) (beside (K.written sink.new) (K.faults sink.new) tally.new) }
+    ensures faults { FaultsAfter result (K.faults sink.old) (K.faults sink.new) }
+    ensures ok { IfOk result (λ end. (first : MachineState) → InEpoch (V.key verdicts.old) (V.given verdicts.old) first committed.old report.old →
+        EpochEnds (V.key verdicts.old).plan first committed.new report.new end) }
+    ensures streams { (first : MachineState) → InEpoch (V.key verdicts.old) (V.given verdicts.old) first committed.old report.old →
+        Streams result (to_come (V.key verdicts.old).plan first waiting.old committed.old.count) (left_by_epoch (V.key verdicts.old).plan first waiting.new committed.new.count) (K.written sink.old) (K.written sink.new) }
+    ensures report { OnOk result (report.new ≡ record report.old { iterations = committed.new.count }) }
     ensures key { V.key verdicts.new ≡ V.key verdicts.old }
+    ensures tally { OnOk result (tally.new + committed.old.count ≡ tally.old + committed.new.count) }
+    ensures room { OnOk result (HasRoom tally.new committed.new) }
+    ensures left { OnOk result (left_of committed.new ≤ left_of committed.old) }
 {
     'verdicts: loop {
         match verdicts.next(rt) {

@@ -16,10 +16,13 @@ use crate::ledger::Ledger;
 use crate::reexecute::reexecute;
 use crate::report::count_again;
 use crate::scope::run_one_epoch;
+use crate::size::CrewSize;
 use dp_base::{Cause, RegionReport, Row};
+use dp_code::StageProgram;
 use dp_commit::{Committed, Tally};
 use dp_edge::{Gate, Sink};
-use dp_pipeline::Setting;
+use dp_plan::Plan;
+use dp_tree::Program;
 use std::alloc::Global;
 use std::sync::Wait;
 use std::thread::Threads;
@@ -29,28 +32,34 @@ use std::time::Clock;
 pub(crate) fn run_epochs<'p, R: Threads + Wait + Clock + Sync, K: Sink, G: Gate>(
     rt: &R,
     alloc: Global,
-    setting: Setting<'_>,
+    p: &Program,
+    plan: &Plan,
+    input: &[i64],
+    programs: &[StageProgram],
+    crew: CrewSize,
     mut ledger: Ledger<'p>,
     sink: &mut K,
     gate: &G,
     tally: &mut Tally,
 ) -> Result<(Ledger<'p>, RegionEnd), CrewFail>
-    requires planned { IsPlanned setting.p.now setting.plan.now }
-    requires programs { ArePrograms setting.p.now setting.plan.now setting.programs.now }
-    requires words { length setting.input.now ≤ 65536 }
-    requires crew { (1 ≤ setting.workers) × (setting.workers ≤ 8) × (1 ≤ setting.lane) × (setting.lane ≤ 64) }
+    requires planned { IsPlanned p.now plan.now }
+    requires programs { ArePrograms p.now plan.now programs.now }
+    requires words { length input.now ≤ 65536 }
     requires fuel { ledger.committed.machine.fuel ≤ 1000000000 }
+    requires crew { (1 ≤ crew.workers) × (crew.workers ≤ 8) × (1 ≤ crew.lane) × (crew.lane ≤ 64) }
     requires sink { K.faults sink.old < 2 ^ 64 - 1 }
-    requires start { (first : MachineState) × ToBegin setting.p.now setting.plan.now setting.input.now first ledger.committed ledger.report }
+    requires start { (first : MachineState) × ToBegin p.now plan.now input.now first ledger.committed ledger.report }
     requires room { HasRoom tally.old ledger.committed }
     ensures faults { FaultsAfter result (K.faults sink.old) (K.faults sink.new) }
-    ensures ok { IfOk result (λ r. (first : MachineState) → ToBegin setting.entry.p.now setting.entry.plan.now setting.entry.input.now first ledger.entry.committed ledger.entry.report → RegionDone setting.entry.plan.now first r.0.committed r.0.report r.1) }
-    ensures streams { (first : MachineState) → ToBegin setting.entry.p.now setting.entry.plan.now setting.entry.input.now first ledger.entry.committed ledger.entry.report →
-        Streams result (to_come setting.entry.plan.now first ledger.entry.waiting ledger.entry.committed.count) (λ r. r.0.waiting) (K.written sink.old) (K.written sink.new) }
+    ensures ok { IfOk result (λ r. (first : MachineState) → ToBegin p.now plan.now input.now first ledger.entry.committed ledger.entry.report → RegionDone plan.now first r.0.committed r.0.report r.1) }
+    ensures streams { (first : MachineState) → ToBegin p.now plan.now input.now first ledger.entry.committed ledger.entry.report →
+        Streams result (to_come plan.now first ledger.entry.waiting ledger.entry.committed.count) (λ r. r.0.waiting) (K.written sink.old) (K.written sink.new) }
     ensures tally { IfOk result (λ r. tally.new + r.0.report.recovered_count + ledger.entry.report.iterations ≡ tally.old + r.0.report.iterations + ledger.entry.report.recovered_count) }
 {
     'epochs: loop {
-        let (after, end) = run_one_epoch(rt, alloc, setting, ledger, sink, gate, tally)?;
+        let (after, end) = run_one_epoch(
+            rt, alloc, p, plan, input, programs, crew, ledger, sink, gate, tally,
+        )?;
         match end {
             EpochEnd::Closed => return Ok((after, RegionEnd::Closed)),
             EpochEnd::Unclean(cause) => {

@@ -10,13 +10,13 @@ ghost use Rattle.dp_crew.specs.RegionRun.{IsPlanned, RegionRan, RegionStart, reg
 use crate::ends::RegionEnd;
 use crate::epochs::run_epochs;
 use crate::fail::CrewFail;
-use crate::ledger::Ledger;
+use crate::ledger::{ledger_at_start, settle};
 use crate::size::CrewSize;
 use dp_base::RegionReport;
 use dp_commit::Tally;
 use dp_edge::{Gate, Sink};
 use dp_meaning::Machine;
-use dp_pipeline::{Setting, stage_programs};
+use dp_pipeline::stage_programs;
 use dp_plan::Plan;
 use dp_tree::Program;
 use std::alloc::Global;
@@ -54,16 +54,11 @@ pub fn run_region<'p, R: Threads + Wait + Clock + Sync, K: Sink, G: Gate>(
     ensures tally { OnOk result (tally.new + report.new.recovered_count ≡ tally.old + report.new.iterations) }
 {
     let made = stage_programs(alloc, p, plan)?;
-    let setting = Setting {
-        p,
-        plan,
-        programs: made.as_slice(),
-        input,
-        workers: crew.workers,
-        lane: crew.lane,
-    };
-    let begun = Ledger::begin(alloc, machine, plan.region);
-    let (ledger, end) = run_epochs(rt, alloc, setting, begun, sink, gate, tally)?;
-    let machine = ledger.settle(alloc, report, sink)?;
+    let programs = made.as_slice();
+    let begun = ledger_at_start(alloc, machine, plan.region);
+    let (ledger, end) = run_epochs(
+        rt, alloc, p, plan, input, programs, crew, begun, sink, gate, tally,
+    )?;
+    let machine = settle(alloc, ledger, report, sink)?;
     Ok((machine, end))
 }

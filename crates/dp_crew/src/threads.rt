@@ -3,8 +3,8 @@ ghost use Rattle.std.specs.Prelude.{◌≡◌, true};
 
 use dp_base::{NoMemory, Row};
 use dp_edge::Gate;
-use dp_pipeline::{Bell, Pause, Polled, Unit, ring_all};
-use dp_stop::{Stop, StopSetter};
+use dp_pipeline::{Bell, Pause, Polled, Unit};
+use dp_stop::StopSetter;
 use std::alloc::Global;
 use std::sync::{Mutex, Wait};
 use std::thread::{JoinHandle, Scope, Threads};
@@ -20,20 +20,21 @@ pub(crate) struct Started<'u> {
     pub(crate) own: Row<Unit<'u>>,
 }
 
-/// Lays each unit into a slot of its own, and makes room for what starting them gives.
-pub(crate) fn to_start<'u, 'v>(
-    alloc: Global,
-    units: Row<Unit<'u>>,
-) -> Result<(Vec<Slot<'u>>, Started<'v>), NoMemory> {
-    let started = Started {
-        threads: Vec::with_capacity(alloc, units.len())?,
-        own: Row::with_capacity(alloc, units.len())?,
-    };
+/// Room for so many threads or units.
+pub(crate) fn none_started<'u>(alloc: Global, count: usize) -> Result<Started<'u>, NoMemory> {
+    Ok(Started {
+        threads: Vec::with_capacity(alloc, count)?,
+        own: Row::with_capacity(alloc, count)?,
+    })
+}
+
+/// Lays each unit into a slot of its own.
+pub(crate) fn slots_of<'u>(alloc: Global, units: Row<Unit<'u>>) -> Result<Vec<Slot<'u>>, NoMemory> {
     let mut slots = Vec::with_capacity(alloc, units.len())?;
     for unit in units.into_vec() {
         slots.push(Mutex::new(Some(unit)))?;
     }
-    Ok((slots, started))
+    Ok(slots)
 }
 
 /// Starts a thread for each slot, which waits by the bell at its place. A unit whose thread couldn't be started is the
@@ -73,23 +74,8 @@ fn start_one<'s, 'u, E, R: Wait + Clock + Sync, G: Gate>(
     }
 }
 
-/// Sets the flag, wakes the threads, and waits until each has ended.
-pub(crate) fn end_all<R: Threads + Wait>(
-    rt: &R,
-    stop: &Stop,
-    mut setter: StopSetter,
-    bells: &[Bell],
-    threads: Vec<JoinHandle<()>>,
-)
-    requires { setter.flag ≡ stop.now }
-{
-    setter.set(rt, stop);
-    ring_all(bells);
-    join_all(rt, &setter, threads);
-}
-
 /// Waits until each thread has ended, which those do that the flag was set for.
-fn join_all<R: Threads>(rt: &R, setter: &StopSetter, threads: Vec<JoinHandle<()>>)
+pub(crate) fn join_all<R: Threads>(rt: &R, setter: &StopSetter, threads: Vec<JoinHandle<()>>)
     requires { setter.now.set ≡ true }
 {
     for thread in threads {

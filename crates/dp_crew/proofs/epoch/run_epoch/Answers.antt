@@ -1,16 +1,10 @@
-use Rattle.std.proofs.Common.{◌≡◌, ◌∙◌, ◌+◌, refl, sym, ap, subst, ℕ, true, Result, Err, arith}
-use Rattle.std.proofs.lemmas.Result.{err_from_is_err_and}
+use Rattle.std.proofs.Common.{◌≡◌, ◌∙◌, refl, sym, ap, subst, true, arith}
 use Rattle.dp_base.specs.declared.RegionReport.{RegionReport}
 use Rattle.dp_semantics.specs.EpochKey.{EpochKey}
 use Rattle.dp_semantics.specs.EpochVerdicts.{Commit, Again, goes_on, verdict_at}
 use Rattle.dp_commit.specs.CommittedState.{CommittedState}
-use Rattle.dp_crew.specs.declared.ends.EpochEnd.{EpochEnd}
-use Rattle.dp_crew.specs.declared.fail.CrewFail.{CrewFail}
-use Rattle.dp_crew.specs.Applied.{HasRoom}
-use Rattle.dp_crew.specs.Fail.{FaultsAfter}
 use Rattle.dp_crew.specs.InEpoch.{InEpoch}
-use Rattle.dp_crew.proofs.Outcomes.{counts_here, ran_err}
-use Rattle.dp_crew.proofs.StreamLemmas.{emits_front, emits_nothing, emits_on, emits_stopped}
+use Rattle.dp_crew.proofs.StreamLemmas.{streams_stopped, emits_front, emits_nothing, emits_on, emits_stopped}
 use Rattle.dp_crew.proofs.EpochLemmas.{unclean_here, may_commit, left_here, left_falls, epoch_closes, epoch_goes, commit_front, goes_emits, closes_emits}
 use Rattle.dp_crew.proofs.epoch.run_epoch.Goals as goal
 
@@ -36,42 +30,40 @@ commit-requires-clause-tally g c =
     let room = c.verdicts.invariant.room in
     omega (arith, some, room)
 
-pub returns-in_err-commit-in-Clean-clause-ran : goal.returns-in_err-commit-in-Clean-clause-ran
-returns-in_err-commit-in-Clean-clause-ran g c =
+pub returns-in_err-commit-in-Clean-clause-streams : goal.returns-in_err-commit-in-Clean-clause-streams
+returns-in_err-commit-in-Clean-clause-streams g c first e =
     let gives : Commit c.in-Clean.clean ≡ verdict_at (g.V.Verdicts.key c.args.verdicts.now) (g.V.Verdicts.given c.verdicts.verdicts) =
     subst (λ (k : EpochKey). Commit c.in-Clean.clean ≡ verdict_at k (g.V.Verdicts.given c.verdicts.verdicts)) c.verdicts.invariant.key c.in-Clean.ensures.verdict in
-    let stops = err_from_is_err_and c.from_residual.result c.from_residual.ensures.1 in
-    let faults =
-    subst (λ (n : ℕ). FaultsAfter c.from_residual.result n (g.K.Sink.faults c.commit.new.sink)) c.verdicts.invariant.faults
-    (subst (λ (x : Result EpochEnd CrewFail). FaultsAfter x (g.K.Sink.faults c.verdicts.sink) (g.K.Sink.faults c.commit.new.sink)) (sym (stops.1 ∙ ap Err stops.2)) c.in_err-commit-in-Clean.ensures.faults) in
-    ran_err _ _ _ _ _ _ _ c.from_residual.ensures.0
-    (λ first e. emits_front _ _ _ _ _ (c.verdicts.invariant.emits first e)
-    (commit_front _ _ first _ c.verdicts.report (c.verdicts.invariant.epoch first e) c.in-Clean.clean gives c.verdicts.waiting _ _ c.in_err-commit-in-Clean.ensures.streams)) faults
+    streams_stopped _ _ _ _ _ c.from_residual.ensures.0 (emits_front _ _ _ _ _ (c.verdicts.invariant.emits first e)
+    (commit_front _ _ first _ c.verdicts.report (c.verdicts.invariant.epoch first e) c.in-Clean.clean gives c.verdicts.waiting _ _ c.in_err-commit-in-Clean.ensures.streams))
 
-pub returns-then-closing-clause-ran : goal.returns-then-closing-clause-ran
-returns-then-closing-clause-ran g c =
+pub returns-then-closing-clause-ok : goal.returns-then-closing-clause-ok
+returns-then-closing-clause-ok g c first e =
     let gives : Commit c.in-Clean.clean ≡ verdict_at (g.V.Verdicts.key c.args.verdicts.now) (g.V.Verdicts.given c.verdicts.verdicts) =
     subst (λ (k : EpochKey). Commit c.in-Clean.clean ≡ verdict_at k (g.V.Verdicts.given c.verdicts.verdicts)) c.verdicts.invariant.key c.in-Clean.ensures.verdict in
-    let closing = sym c.closing-closing.ensures ∙ c.if-closing.true in
-    let applied = c.in_ok-commit-in-Clean.ensures.ok in
-    let less = left_falls c.in-Clean.clean c.verdicts.committed c.commit.new.committed (c.verdicts.invariant.epoch c.requires.epoch.0 c.requires.epoch.1).progress.is_open applied in
-    let one = c.in_ok-commit-in-Clean.ensures.tally in
-    let counted = ap (λ (s : CommittedState). s.count) applied.rest in
-    let balance = c.verdicts.invariant.tally in
+    epoch_closes _ _ first _ c.verdicts.report (c.verdicts.invariant.epoch first e) c.in-Clean.clean gives c.commit.new.committed c.in_ok-commit-in-Clean.ensures.ok c.count-report.result c.count-report.ensures.value
+    (sym c.closing-closing.ensures ∙ c.if-closing.true)
+
+pub returns-then-closing-clause-streams : goal.returns-then-closing-clause-streams
+returns-then-closing-clause-streams g c first e =
+    let gives : Commit c.in-Clean.clean ≡ verdict_at (g.V.Verdicts.key c.args.verdicts.now) (g.V.Verdicts.given c.verdicts.verdicts) =
+    subst (λ (k : EpochKey). Commit c.in-Clean.clean ≡ verdict_at k (g.V.Verdicts.given c.verdicts.verdicts)) c.verdicts.invariant.key c.in-Clean.ensures.verdict in
+    emits_on _ _ _ _ _ _ (c.verdicts.invariant.emits first e)
+    (closes_emits _ _ first _ c.verdicts.report (c.verdicts.invariant.epoch first e) c.in-Clean.clean gives c.commit.new.committed c.in_ok-commit-in-Clean.ensures.ok c.verdicts.waiting c.commit.new.waiting _ _ c.in_ok-commit-in-Clean.ensures.streams
+    (sym c.closing-closing.ensures ∙ c.if-closing.true))
+
+pub returns-then-closing-clause-room : goal.returns-then-closing-clause-room
+returns-then-closing-clause-room g c =
+    let less = left_falls c.in-Clean.clean c.verdicts.committed c.commit.new.committed (c.verdicts.invariant.epoch c.requires.epoch.0 c.requires.epoch.1).progress.is_open c.in_ok-commit-in-Clean.ensures.ok in
     let room = c.verdicts.invariant.room in
+    let one = c.in_ok-commit-in-Clean.ensures.tally in
+    omega (arith, less, room, one)
+
+pub returns-then-closing-clause-left : goal.returns-then-closing-clause-left
+returns-then-closing-clause-left g c =
+    let less = left_falls c.in-Clean.clean c.verdicts.committed c.commit.new.committed (c.verdicts.invariant.epoch c.requires.epoch.0 c.requires.epoch.1).progress.is_open c.in_ok-commit-in-Clean.ensures.ok in
     let left = c.verdicts.invariant.left in
-    let tally : c.commit.new.tally + c.args.committed.now.count ≡ c.args.tally.now + c.commit.new.committed.count = omega (arith, one, counted, balance) in
-    let more : HasRoom c.commit.new.tally c.commit.new.committed = omega (arith, less, room, one) in
-    record {
-      ends = λ first e. epoch_closes _ _ first _ c.verdicts.report (c.verdicts.invariant.epoch first e) c.in-Clean.clean gives c.commit.new.committed applied c.count-report.result c.count-report.ensures.value closing;
-      emits = λ first e. emits_on _ _ _ _ _ _ (c.verdicts.invariant.emits first e)
-          (closes_emits _ _ first _ c.verdicts.report (c.verdicts.invariant.epoch first e) c.in-Clean.clean gives c.commit.new.committed applied c.verdicts.waiting c.commit.new.waiting _ _ c.in_ok-commit-in-Clean.ensures.streams closing);
-      report = counts_here c.verdicts.report c.args.report.now c.verdicts.committed.count c.count-report.result c.commit.new.committed.count c.verdicts.invariant.report c.count-report.ensures.value;
-      faults = c.in_ok-commit-in-Clean.ensures.faults ∙ c.verdicts.invariant.faults;
-      tally = tally;
-      room = more;
-      left = omega (arith, less, left);
-    }
+    omega (arith, less, left)
 
 pub verdicts-smaller : goal.verdicts-smaller
 verdicts-smaller g c = left_falls c.in-Clean.clean c.verdicts.committed c.commit.new.committed (c.verdicts.invariant.epoch c.requires.epoch.0 c.requires.epoch.1).progress.is_open c.in_ok-commit-in-Clean.ensures.ok
@@ -100,22 +92,14 @@ verdicts-preserved g c =
       faults = c.in_ok-commit-in-Clean.ensures.faults ∙ c.verdicts.invariant.faults;
     }
 
-pub returns-in-Unclean-clause-ran : goal.returns-in-Unclean-clause-ran
-returns-in-Unclean-clause-ran g c =
+pub returns-in-Unclean-clause-ok : goal.returns-in-Unclean-clause-ok
+returns-in-Unclean-clause-ok g c first e =
     let gives : Again c.in-Unclean.cause ≡ verdict_at (g.V.Verdicts.key c.args.verdicts.now) (g.V.Verdicts.given c.verdicts.verdicts) =
     subst (λ (k : EpochKey). Again c.in-Unclean.cause ≡ verdict_at k (g.V.Verdicts.given c.verdicts.verdicts)) c.verdicts.invariant.key c.in-Unclean.ensures.verdict in
-    record {
-      ends = λ first e. unclean_here _ _ first _ c.verdicts.report (c.verdicts.invariant.epoch first e) c.in-Unclean.cause gives c.count-report-in-Unclean.result c.count-report-in-Unclean.ensures.value;
-      emits = c.verdicts.invariant.emits;
-      report = counts_here c.verdicts.report c.args.report.now c.verdicts.committed.count c.count-report-in-Unclean.result c.verdicts.committed.count c.verdicts.invariant.report c.count-report-in-Unclean.ensures.value;
-      faults = c.verdicts.invariant.faults;
-      tally = c.verdicts.invariant.tally;
-      room = c.verdicts.invariant.room;
-      left = c.verdicts.invariant.left;
-    }
+    unclean_here _ _ first _ c.verdicts.report (c.verdicts.invariant.epoch first e) c.in-Unclean.cause gives c.count-report-in-Unclean.result c.count-report-in-Unclean.ensures.value
 
-pub returns-in-NoMemory-clause-ran : goal.returns-in-NoMemory-clause-ran
-returns-in-NoMemory-clause-ran g c = record { front = λ first e. emits_stopped _ _ _ _ (c.verdicts.invariant.emits first e); faults = c.verdicts.invariant.faults }
+pub returns-in-NoMemory-clause-streams : goal.returns-in-NoMemory-clause-streams
+returns-in-NoMemory-clause-streams g c first e = emits_stopped _ _ _ _ (c.verdicts.invariant.emits first e)
 
 pub verdicts-init : goal.verdicts-init
 verdicts-init g c = record {
