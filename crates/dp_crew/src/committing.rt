@@ -125,27 +125,14 @@ fn commit_all<'p, R: Wait + Clock, K: Sink>(
         mut report,
         mut waiting,
     } = ledger;
-    match commit_started(
-        begun,
-        rt,
-        alloc,
-        &mut verdicts,
-        &mut committed,
-        &mut report,
-        &mut waiting,
-        sink,
-        tally,
-    ) {
-        Ok(end) => Ok((
-            Ledger {
-                committed,
-                report,
-                waiting,
-            },
-            end,
-        )),
-        Err(fail) => Err(fail),
-    }
+    let (from, kept, told, prints) = (&mut verdicts, &mut committed, &mut report, &mut waiting);
+    let end = commit_started(begun, rt, alloc, from, kept, told, prints, sink, tally)?;
+    let ledger = Ledger {
+        committed,
+        report,
+        waiting,
+    };
+    Ok((ledger, end))
 }
 
 /// Ends a loan.

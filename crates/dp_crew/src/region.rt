@@ -10,7 +10,7 @@ ghost use Rattle.dp_crew.specs.RegionRun.{IsPlanned, RegionRan, RegionStart, reg
 use crate::ends::RegionEnd;
 use crate::epochs::run_epochs;
 use crate::fail::CrewFail;
-use crate::ledger::{ledger_at_start, settle};
+use crate::ledger::Ledger;
 use crate::size::CrewSize;
 use dp_base::RegionReport;
 use dp_commit::Tally;
@@ -55,10 +55,10 @@ pub fn run_region<'p, R: Threads + Wait + Clock + Sync, K: Sink, G: Gate>(
 {
     let made = stage_programs(alloc, p, plan)?;
     let programs = made.as_slice();
-    let begun = ledger_at_start(alloc, machine, plan.region);
+    let begun = Ledger::begin(alloc, machine, plan.region);
     let (ledger, end) = run_epochs(
         rt, alloc, p, plan, input, programs, crew, begun, sink, gate, tally,
     )?;
-    let machine = settle(alloc, ledger, report, sink)?;
+    let machine = ledger.settle(alloc, report, sink)?;
     Ok((machine, end))
 }

@@ -7,7 +7,7 @@ use Rattle.dp_crew.proofs.region.run_region.Goals as goal
 pub run_epochs-requires-clause-start : goal.run_epochs-requires-clause-start
 run_epochs-requires-clause-start g c lifetimes within = (
   c.args.machine,
-  region_begins c.args.p.now c.args.plan.now c.args.input.now c.args.machine c.requires.start c.requires.planned c.ledger_at_start-begun.result.committed c.ledger_at_start-begun.ensures.committed c.ledger_at_start-begun.result.report c.ledger_at_start-begun.ensures.report,
+  region_begins c.args.p.now c.args.plan.now c.args.input.now c.args.machine c.requires.start c.requires.planned c.begin-begun.result.committed c.begin-begun.ensures.committed c.begin-begun.result.report c.begin-begun.ensures.report,
 )
 
 pub returns-in_err-made-clause-front : goal.returns-in_err-made-clause-front
@@ -15,28 +15,28 @@ returns-in_err-made-clause-front g c = on_err c.from_residual.result _ (front_no
 
 pub returns-in_err-ledger-clause-front : goal.returns-in_err-ledger-clause-front
 returns-in_err-ledger-clause-front g c =
-    let begins = region_begins c.args.p.now c.args.plan.now c.args.input.now c.args.machine c.requires.start c.requires.planned c.ledger_at_start-begun.result.committed c.ledger_at_start-begun.ensures.committed c.ledger_at_start-begun.result.report c.ledger_at_start-begun.ensures.report in
-    let none = none_yet c.args.machine c.ledger_at_start-begun.result.committed c.args.plan.now.region c.requires.start.next c.ledger_at_start-begun.ensures.committed in
-    on_err c.from_residual-in_err-ledger.result _ (region_front c.args.plan.now c.args.machine c.ledger_at_start-begun.result.waiting c.ledger_at_start-begun.ensures.waiting c.ledger_at_start-begun.result.committed.count none _ _ (c.in_err-ledger.ensures.streams c.args.machine begins))
+    let begins = region_begins c.args.p.now c.args.plan.now c.args.input.now c.args.machine c.requires.start c.requires.planned c.begin-begun.result.committed c.begin-begun.ensures.committed c.begin-begun.result.report c.begin-begun.ensures.report in
+    let none = none_yet c.args.machine c.begin-begun.result.committed c.args.plan.now.region c.requires.start.next c.begin-begun.ensures.committed in
+    on_err c.from_residual-in_err-ledger.result _ (region_front c.args.plan.now c.args.machine c.begin-begun.result.waiting c.begin-begun.ensures.waiting c.begin-begun.result.committed.count none _ _ (c.in_err-ledger.ensures.streams c.args.machine begins))
 
 pub returns-in_err-machine-clause-front : goal.returns-in_err-machine-clause-front
 returns-in_err-machine-clause-front g c =
-    let begins = region_begins c.args.p.now c.args.plan.now c.args.input.now c.args.machine c.requires.start c.requires.planned c.ledger_at_start-begun.result.committed c.ledger_at_start-begun.ensures.committed c.ledger_at_start-begun.result.report c.ledger_at_start-begun.ensures.report in
-    let none = none_yet c.args.machine c.ledger_at_start-begun.result.committed c.args.plan.now.region c.requires.start.next c.ledger_at_start-begun.ensures.committed in
-    on_err c.from_residual-in_err-machine.result _ (region_flush_front c.args.plan.now c.args.machine c.ledger_at_start-begun.result.waiting c.ledger_at_start-begun.ensures.waiting c.ledger_at_start-begun.result.committed.count none c.in_ok-ledger.ledger.waiting _ _ (c.in_ok-ledger.ensures.streams c.args.machine begins) _ c.in_err-machine.ensures.streams)
+    let begins = region_begins c.args.p.now c.args.plan.now c.args.input.now c.args.machine c.requires.start c.requires.planned c.begin-begun.result.committed c.begin-begun.ensures.committed c.begin-begun.result.report c.begin-begun.ensures.report in
+    let none = none_yet c.args.machine c.begin-begun.result.committed c.args.plan.now.region c.requires.start.next c.begin-begun.ensures.committed in
+    on_err c.from_residual-in_err-machine.result _ (region_flush_front c.args.plan.now c.args.machine c.begin-begun.result.waiting c.begin-begun.ensures.waiting c.begin-begun.result.committed.count none c.in_ok-ledger.ledger.waiting _ _ (c.in_ok-ledger.ensures.streams c.args.machine begins) _ c.in_err-machine.ensures.streams)
 
 pub returns-clause-ran : goal.returns-clause-ran
 returns-clause-ran g c =
-    let begins = region_begins c.args.p.now c.args.plan.now c.args.input.now c.args.machine c.requires.start c.requires.planned c.ledger_at_start-begun.result.committed c.ledger_at_start-begun.ensures.committed c.ledger_at_start-begun.result.report c.ledger_at_start-begun.ensures.report in
+    let begins = region_begins c.args.p.now c.args.plan.now c.args.input.now c.args.machine c.requires.start c.requires.planned c.begin-begun.result.committed c.begin-begun.ensures.committed c.begin-begun.result.report c.begin-begun.ensures.report in
     region_ran c.args.p.now c.args.plan.now c.args.input.now c.args.machine c.requires.start c.in_ok-ledger.ledger.committed c.in_ok-ledger.ledger.report c.in_ok-ledger.end c.in_ok-machine.machine (c.in_ok-ledger.ensures.ok c.args.machine begins) c.in_ok-machine.ensures.machine
 
 pub returns-clause-report : goal.returns-clause-report
 returns-clause-report g c =
-    let begins = region_begins c.args.p.now c.args.plan.now c.args.input.now c.args.machine c.requires.start c.requires.planned c.ledger_at_start-begun.result.committed c.ledger_at_start-begun.ensures.committed c.ledger_at_start-begun.result.report c.ledger_at_start-begun.ensures.report in
+    let begins = region_begins c.args.p.now c.args.plan.now c.args.input.now c.args.machine c.requires.start c.requires.planned c.begin-begun.result.committed c.begin-begun.ensures.committed c.begin-begun.result.report c.begin-begun.ensures.report in
     c.in_ok-machine.ensures.report ∙ region_reported c.args.p.now c.args.plan.now c.args.input.now c.args.machine c.requires.start c.in_ok-ledger.ledger.committed c.in_ok-ledger.ledger.report c.in_ok-ledger.end (c.in_ok-ledger.ensures.ok c.args.machine begins)
 
 pub returns-clause-written : goal.returns-clause-written
 returns-clause-written g c =
-    let begins = region_begins c.args.p.now c.args.plan.now c.args.input.now c.args.machine c.requires.start c.requires.planned c.ledger_at_start-begun.result.committed c.ledger_at_start-begun.ensures.committed c.ledger_at_start-begun.result.report c.ledger_at_start-begun.ensures.report in
-    let none = none_yet c.args.machine c.ledger_at_start-begun.result.committed c.args.plan.now.region c.requires.start.next c.ledger_at_start-begun.ensures.committed in
-    region_written c.args.plan.now c.args.machine c.ledger_at_start-begun.result.waiting c.ledger_at_start-begun.ensures.waiting c.ledger_at_start-begun.result.committed.count none c.in_ok-ledger.ledger.waiting _ _ (c.in_ok-ledger.ensures.streams c.args.machine begins) _ [] refl c.in_ok-machine.ensures.streams
+    let begins = region_begins c.args.p.now c.args.plan.now c.args.input.now c.args.machine c.requires.start c.requires.planned c.begin-begun.result.committed c.begin-begun.ensures.committed c.begin-begun.result.report c.begin-begun.ensures.report in
+    let none = none_yet c.args.machine c.begin-begun.result.committed c.args.plan.now.region c.requires.start.next c.begin-begun.ensures.committed in
+    region_written c.args.plan.now c.args.machine c.begin-begun.result.waiting c.begin-begun.ensures.waiting c.begin-begun.result.committed.count none c.in_ok-ledger.ledger.waiting _ _ (c.in_ok-ledger.ensures.streams c.args.machine begins) _ [] refl c.in_ok-machine.ensures.streams
