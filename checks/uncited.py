@@ -1,6 +1,7 @@
 #!/usr/bin/env python3
 """Lists the definitions and lemmas that nothing stands on: no clause, no answer to a function's goal and no row leads to
-them; and the folders under proofs/ whose function is gone. Ends with 1 where there are more than are known to serve as rows or laws.
+them; and the folders under proofs/ whose function is gone. Ends with 1 where there are more than are known to serve as
+rows or laws.
 
   checks/uncited.py [CRATES..]     all crates where none is named
 

@@ -1,4 +1,5 @@
 pub mod Engine
+pub mod Asking
 pub mod Sending
 pub mod Standing
 pub mod Machine
