@@ -1,6 +1,6 @@
 //! A ring between a producer, workers and a consumer in threads of their own.
 ghost use Rattle.std.specs.Prelude.{◌≡◌, ◌<◌, ◌^◌, true, IfOk, IfSome};
-ghost use Rattle.dp_ring.specs.declared.view.Stage.TheVariants.{Resting, Taking, Giving};
+ghost use Rattle.dp_ring.specs.declared.view.Phase.TheVariants.{Resting, Taking, Giving};
 ghost use Rattle.dp_ring.specs.Tested.{IsSame, IsKeyed, IsFirst, IsIdle};
 
 use crate::PLACES;
@@ -138,9 +138,9 @@ fn work<R: Wait>(rt: &R, count: u64, mut seat: WorkerSeat<Item>)
 }
 
 fn take<R: Wait>(rt: &R, seat: &mut WorkerSeat<Item>) -> Item
-    requires { (seat.old.view.stage ≡ Taking) × IsKeyed seat.old }
+    requires { (seat.old.view.phase ≡ Taking) × IsKeyed seat.old }
     ensures item { result.0 ≡ seat.old.view.at }
-    ensures seat { (seat.new.view.stage ≡ Giving) × IsSame seat.old seat.new }
+    ensures seat { (seat.new.view.phase ≡ Giving) × IsSame seat.old seat.new }
 {
     let backoff = Backoff::new();
     for _ in rt.forever() {
@@ -153,9 +153,9 @@ fn take<R: Wait>(rt: &R, seat: &mut WorkerSeat<Item>) -> Item
 }
 
 fn give<R: Wait>(rt: &R, seat: &mut WorkerSeat<Item>, item: Item)
-    requires seat { (seat.old.view.stage ≡ Giving) × IsKeyed seat.old }
+    requires seat { (seat.old.view.phase ≡ Giving) × IsKeyed seat.old }
     requires item { item.0 ≡ seat.old.view.at }
-    ensures { (seat.new.view.stage ≡ Resting) × IsSame seat.old seat.new }
+    ensures { (seat.new.view.phase ≡ Resting) × IsSame seat.old seat.new }
 {
     let backoff = Backoff::new();
     let mut mine = item;

@@ -7,7 +7,7 @@ use Rattle.dp_semantics.specs.EpochKey.{EpochKey, epoch_of}
 use Rattle.dp_lane.specs.declared.rule.View.TheVariants.{Sender, Taker}
 use Rattle.dp_lane.specs.Ends.{End, new_end}
 use Rattle.dp_ring.specs.declared.view.Standing.{Standing}
-use Rattle.dp_ring.specs.declared.view.Stage.TheVariants.{Putting, Resting, Collecting}
+use Rattle.dp_ring.specs.declared.view.Phase.TheVariants.{Putting, Resting, Collecting}
 use Rattle.dp_ring.specs.Calls.{at_start}
 use Rattle.dp_machine.specs.declared.stage.StageMachine.{StageMachine}
 use Rattle.dp_machine.specs.Machine.{Stands}
@@ -16,7 +16,7 @@ use Rattle.dp_commit.specs.Standing.{Judges}
 use Rattle.dp_pipeline.specs.declared.keys.EpochKey.{EpochKey as Held}
 use Rattle.dp_pipeline.specs.declared.keys.LaneKey.{LaneKey}
 use Rattle.dp_pipeline.specs.declared.setting.Setting.{Setting}
-use Rattle.dp_pipeline.specs.Setting.{IsKeyIn}
+use Rattle.dp_pipeline.specs.steps.Setting.{IsKeyIn}
 use Rattle.dp_pipeline.specs.declared.passage.Passage.{Passage}
 use Rattle.dp_pipeline.specs.declared.judged.Judged.{Judged}
 use Rattle.dp_pipeline.specs.declared.judging.Judging.{Judging}
@@ -69,7 +69,7 @@ worker_begins stage at lane runs new fuel =
       free = record {
         place_is = refl;
         sits = record { ring = lane; key_is = ap (λ (s : Standing LaneKey). s.view.key) new; epoch = refl; stage = refl };
-        free = (ap (λ (s : Standing LaneKey). s.view.stage) new, omega (arith, drawn));
+        free = (ap (λ (s : Standing LaneKey). s.view.phase) new, omega (arith, drawn));
         fuel = omega (arith, fuel);
       };
       stands_on = λ _. runs;

@@ -1,5 +1,5 @@
 -- A list of programs, one more at its end.
-use Rattle.std.proofs.Common.{◌≡◌, subst, ℕ, zero, suc, ◌+◌, List, [], ◌∷◌, ◌++◌, length, slice_get, Option, Some}
+use Rattle.std.proofs.Common.{◌≡◌, ap, ◌∙◌, subst, arith, ℕ, zero, suc, ◌+◌, ◌-◌, ◌<◌, List, [], ◌∷◌, ◌++◌, length, slice_get, Option, Some}
 use Rattle.dp_tree.specs.declared.Program.{Program}
 use Rattle.dp_plan.specs.declared.Plan.{Plan}
 use Rattle.dp_code.specs.declared.StageProgram.{StageProgram}
@@ -18,3 +18,8 @@ one_more p plan xs x h k = each_more (λ i y. y.ops ≡ stage_code p plan (i + 1
 
 pub none_yet : (p : Program) (plan : Plan) → AreStages p plan []
 none_yet p plan i x e = absurd (cc e)
+
+-- the code of stage s stands one place before its number
+pub code_of_stage : (p : Program) (plan : Plan) (xs : List StageProgram) (s place : ℕ) (code : StageProgram) → AreStages p plan xs → 0 < s → place ≡ s - 1 → slice_get xs place ≡ Some code → code.ops ≡ stage_code p plan s
+code_of_stage p plan xs s place code all some is at =
+    let number : place + 1 ≡ s = omega (arith, some, is) in all place code at ∙ ap (stage_code p plan) number

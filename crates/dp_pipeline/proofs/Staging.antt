@@ -26,7 +26,7 @@ use Rattle.dp_pipeline.specs.declared.judged.Judged.{Judged}
 use Rattle.dp_pipeline.specs.declared.staged.Staged.{Staged}
 use Rattle.dp_pipeline.specs.declared.judge.Judge.{Judge}
 use Rattle.dp_pipeline.specs.Carried.{IsCarried, IsJudged, is_last_carried, is_last_judged, sent_packet, sent_of}
-use Rattle.dp_pipeline.specs.Ending.{ends_with}
+use Rattle.dp_pipeline.specs.steps.Ending.{ends_with}
 use Rattle.dp_pipeline.specs.Places.{At, behind}
 use Rattle.dp_pipeline.specs.Staging.{StandsFor, RunsAt, JudgesFor, JudgesAt}
 

@@ -3,8 +3,8 @@ use Rattle.std.proofs.Common.{arith, ◌≡◌, ◌<◌, ◌≤◌, ℕ, ◌+◌
 use Rattle.dp_semantics.specs.EpochKey.{EpochKey}
 use Rattle.dp_ring.specs.declared.view.Standing.{Standing}
 use Rattle.dp_ring.specs.declared.view.View.{View}
-use Rattle.dp_ring.specs.declared.view.Stage.{Stage}
-use Rattle.dp_ring.specs.declared.view.Stage.TheVariants.{Resting, Taking, Giving}
+use Rattle.dp_ring.specs.declared.view.Phase.{Phase}
+use Rattle.dp_ring.specs.declared.view.Phase.TheVariants.{Resting, Taking, Giving}
 use Rattle.dp_ring.specs.Views.{after_draw, after_take, after_give}
 use Rattle.dp_ring.specs.Calls.{served, IsBusy}
 use Rattle.dp_pipeline.specs.declared.keys.LaneKey.{LaneKey}
@@ -17,15 +17,15 @@ use Rattle.dp_pipeline.specs.Seats.{SitsAt, IsFreeBy, MayTake, HasTaken}
 use Rattle.dp_pipeline.proofs.Seated.{known, known_back, sits_on, to_epoch, to_ring, within_fuel}
 
 -- by whether it has a ticket
-pub without_ticket : (has : Bool) (view : View LaneKey) (fuel : ℕ) → has ≡ false → IsFreeBy has view fuel → (view.stage ≡ Resting) × (view.drawn ≤ fuel + 1)
+pub without_ticket : (has : Bool) (view : View LaneKey) (fuel : ℕ) → has ≡ false → IsFreeBy has view fuel → (view.phase ≡ Resting) × (view.drawn ≤ fuel + 1)
 without_ticket has view fuel is free = subst (λ (b : Bool). IsFreeBy b view fuel) is free
 
-pub with_ticket : (has : Bool) (view : View LaneKey) (fuel : ℕ) → has ≡ true → IsFreeBy has view fuel → (view.stage ≡ Taking) × (view.drawn ≤ view.at + 1)
+pub with_ticket : (has : Bool) (view : View LaneKey) (fuel : ℕ) → has ≡ true → IsFreeBy has view fuel → (view.phase ≡ Taking) × (view.drawn ≤ view.at + 1)
 with_ticket has view fuel is free = subst (λ (b : Bool). IsFreeBy b view fuel) is free
 
 -- a worker without a ticket may draw one
 pub may_draw : (ends : Tickets) (key : EpochKey) (s : ℕ) (place : Option ℕ) → MayTake ends key s place → ends.has_ticket ≡ false
-    → (ends.seat.view.stage ≡ Resting) × (ends.seat.view.drawn < 2 ^ 32)
+    → (ends.seat.view.phase ≡ Resting) × (ends.seat.view.drawn < 2 ^ 32)
 may_draw ends key s place may none =
     let free = without_ticket ends.has_ticket ends.seat.view key.fuel none may.free in let most = free.1 in let few = may.fuel in (free.0, omega (arith, most, few))
 
@@ -37,7 +37,7 @@ has_drawn old new ticket is least key s place may =
     let at : new.view.at ≡ ticket = ap (λ (v : View LaneKey). v.at) is in record {
       place_is = may.place_is;
       sits = sits_on old.seat new key s (ap (λ (v : View LaneKey). v.key) is) may.sits;
-      free = (ap (λ (v : View LaneKey). v.stage) is, omega (arith, drawn, at, least));
+      free = (ap (λ (v : View LaneKey). v.phase) is, omega (arith, drawn, at, least));
       fuel = may.fuel;
     }
 
@@ -58,7 +58,7 @@ has_taken old new x has put is key s place may =
       record {
         place_is = may.place_is;
         sits = sits_on old.seat new key s (ap (λ (v : View LaneKey). v.key) is) may.sits;
-        stage = ap (λ (v : View LaneKey). v.stage) is;
+        phase = ap (λ (v : View LaneKey). v.phase) is;
         ticket = ap (λ (v : View LaneKey). v.at) is;
         drawn = omega (arith, drawn, most);
         within = within_fuel key (s - 1) old.seat.view.at x came;
@@ -67,25 +67,25 @@ has_taken old new x has put is key s place may =
     )
 
 -- .. or not yet
-free_on : (has : Bool) (old new : View LaneKey) (fuel : ℕ) → new.stage ≡ old.stage → new.drawn ≡ old.drawn → new.at ≡ old.at → IsFreeBy has old fuel → IsFreeBy has new fuel
-free_on false old new fuel stage drawn at free = let most = free.1 in (stage ∙ free.0, omega (arith, drawn, most))
-free_on true old new fuel stage drawn at free = let most = free.1 in (stage ∙ free.0, omega (arith, drawn, at, most))
+free_on : (has : Bool) (old new : View LaneKey) (fuel : ℕ) → new.phase ≡ old.phase → new.drawn ≡ old.drawn → new.at ≡ old.at → IsFreeBy has old fuel → IsFreeBy has new fuel
+free_on false old new fuel phase drawn at free = let most = free.1 in (phase ∙ free.0, omega (arith, drawn, most))
+free_on true old new fuel phase drawn at free = let most = free.1 in (phase ∙ free.0, omega (arith, drawn, at, most))
 
 pub take_waits : (old : Tickets) (new : Standing LaneKey) (word : ℕ) → IsBusy word old.seat new
     → (key : EpochKey) (s : ℕ) (place : Option ℕ) → MayTake old key s place → MayTake (record { seat = new; has_ticket = old.has_ticket }) key s place
 take_waits old new word busy key s place may = record {
   place_is = may.place_is;
   sits = sits_on old.seat new key s (ap (λ (v : View LaneKey). v.key) busy.1) may.sits;
-  free = free_on old.has_ticket old.seat.view new.view key.fuel (ap (λ (v : View LaneKey). v.stage) busy.1) (ap (λ (v : View LaneKey). v.drawn) busy.1)
+  free = free_on old.has_ticket old.seat.view new.view key.fuel (ap (λ (v : View LaneKey). v.phase) busy.1) (ap (λ (v : View LaneKey). v.drawn) busy.1)
       (ap (λ (v : View LaneKey). v.at) busy.1) may.free;
   fuel = may.fuel;
 }
 
 -- it may give what it made of the packet
 pub may_give : (ends : Tickets) (x : Carried) (key : EpochKey) (s : ℕ) (place : Option ℕ) (n : ℕ) → HasTaken ends key s place n → IsCarried key s n x
-    → (ends.seat.view.stage ≡ Giving) × IfSome ends.seat.view.key (λ (k : LaneKey). IsCarried (key_of k.epoch) k.stage ends.seat.view.at x)
+    → (ends.seat.view.phase ≡ Giving) × IfSome ends.seat.view.key (λ (k : LaneKey). IsCarried (key_of k.epoch) k.stage ends.seat.view.at x)
 may_give ends x key s place n has is = (
-  has.stage,
+  has.phase,
   known_back (λ (k : LaneKey). IsCarried (key_of k.epoch) k.stage ends.seat.view.at x) ends.seat key s has.sits
       (to_ring ends.seat key s has.sits.ring.stage s n has.sits x has.sits.stage has.ticket is),
 )
@@ -102,7 +102,7 @@ has_given old new x gave key s place n has =
       record {
         place_is = ap (λ (p : Option ℕ). behind p n) has.place_is;
         sits = sits_on old.seat new key s (ap (λ (v : View LaneKey). v.key) is) has.sits;
-        free = (ap (λ (v : View LaneKey). v.stage) is, omega (arith, drawn, most, within));
+        free = (ap (λ (v : View LaneKey). v.phase) is, omega (arith, drawn, most, within));
         fuel = has.fuel;
       },
       ap (λ (v : View LaneKey). v.ended) is ∙ ap (λ (e : EpochKey). is_last_carried e x) has.sits.epoch,
@@ -118,7 +118,7 @@ give_waits old new word busy key s place n has =
     let drawn : new.view.drawn ≡ old.seat.view.drawn = ap (λ (v : View LaneKey). v.drawn) busy.1 in let most = has.drawn in record {
       place_is = has.place_is;
       sits = sits_on old.seat new key s (ap (λ (v : View LaneKey). v.key) busy.1) has.sits;
-      stage = ap (λ (v : View LaneKey). v.stage) busy.1 ∙ has.stage;
+      phase = ap (λ (v : View LaneKey). v.phase) busy.1 ∙ has.phase;
       ticket = ap (λ (v : View LaneKey). v.at) busy.1 ∙ has.ticket;
       drawn = omega (arith, drawn, most);
       within = has.within;

@@ -7,8 +7,7 @@ pub mod Keys
 pub mod Carried
 pub mod Seats
 pub mod Standing
-pub mod Ending
 pub mod Staging
-pub mod Setting
 pub mod Programs
 pub mod Coming
+pub mod steps

@@ -3,7 +3,7 @@ use Rattle.std.specs.Prelude.{◌≡◌, ◌≤◌, ◌<◌, ◌^◌, ℕ, ◌+�
 use Rattle.dp_semantics.specs.EpochKey.{EpochKey}
 use Rattle.dp_ring.specs.declared.view.Standing.{Standing}
 use Rattle.dp_ring.specs.declared.view.View.{View}
-use Rattle.dp_ring.specs.declared.view.Stage.TheVariants.{Resting, Taking, Giving}
+use Rattle.dp_ring.specs.declared.view.Phase.TheVariants.{Resting, Taking, Giving}
 use Rattle.dp_ring.specs.Calls.{at_start}
 use Rattle.dp_pipeline.specs.declared.keys.LaneKey.{LaneKey}
 use Rattle.dp_pipeline.specs.declared.tickets.Tickets.{Tickets}
@@ -31,8 +31,8 @@ IsUnused lane seat = seat ≡ at_start seat.ring seat.size Resting (2 ^ 32) (Som
 
 -- it is about to draw a ticket, or has one whose item it hasn't taken. So many tickets were drawn at most
 abbrev pub IsFreeBy : Bool → View LaneKey → ℕ → Type 0
-IsFreeBy false view fuel = (view.stage ≡ Resting) × (view.drawn ≤ fuel + 1)
-IsFreeBy true view fuel = (view.stage ≡ Taking) × (view.drawn ≤ view.at + 1)
+IsFreeBy false view fuel = (view.phase ≡ Resting) × (view.drawn ≤ fuel + 1)
+IsFreeBy true view fuel = (view.phase ≡ Taking) × (view.drawn ≤ view.at + 1)
 
 -- a worker of stage s may take the item of any ticket
 pub record MayTake (ends : Tickets) (key : EpochKey) (s : ℕ) (place : Option ℕ) : Type 0 where
@@ -45,7 +45,7 @@ pub record MayTake (ends : Tickets) (key : EpochKey) (s : ℕ) (place : Option �
 pub record HasTaken (ends : Tickets) (key : EpochKey) (s : ℕ) (place : Option ℕ) (n : ℕ) : Type 0 where
   pub place_is : place ≡ None
   pub sits : SitsAt ends.seat key s
-  pub stage : ends.seat.view.stage ≡ Giving
+  pub phase : ends.seat.view.phase ≡ Giving
   pub ticket : ends.seat.view.at ≡ n
   pub drawn : ends.seat.view.drawn ≤ n + 1
   pub within : n ≤ key.fuel

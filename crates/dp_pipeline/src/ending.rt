@@ -2,7 +2,7 @@
 ghost use Rattle.std.specs.Prelude.{◌≡◌, not};
 ghost use Rattle.dp_semantics.specs.Items.{verdict_goes_on};
 ghost use Rattle.dp_commit.specs.Told.{decided};
-ghost use Rattle.dp_pipeline.specs.Ending.{ends_with};
+ghost use Rattle.dp_pipeline.specs.steps.Ending.{ends_with};
 
 use dp_commit::Verdict;
 use dp_packet::{Packet, PacketStatus};

@@ -3,7 +3,7 @@ ghost use Rattle.std.specs.Prelude.{◌≡◌, ◌<◌, ◌≤◌, ◌+◌, ◌-
 ghost use Rattle.dp_plan.specs.Access.{is_replicated};
 ghost use Rattle.dp_lane.specs.declared.rule.View.TheVariants.{Taker};
 ghost use Rattle.dp_pipeline.specs.Keys.{key_of};
-ghost use Rattle.dp_pipeline.specs.Setting.{IsSetting, IsKeyIn};
+ghost use Rattle.dp_pipeline.specs.steps.Setting.{IsSetting, IsKeyIn};
 ghost use Rattle.dp_pipeline.specs.Standing.{Gives, source_facts};
 
 use crate::carried::Carried;

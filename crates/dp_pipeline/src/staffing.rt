@@ -5,7 +5,7 @@ ghost use Rattle.dp_plan.specs.Each.{Each};
 ghost use Rattle.dp_semantics.specs.EpochKey.{EpochKey};
 ghost use Rattle.dp_pipeline.specs.Keys.{key_of};
 ghost use Rattle.dp_pipeline.specs.Seats.{IsUnused};
-ghost use Rattle.dp_pipeline.specs.Setting.{IsSetting, IsKeyIn};
+ghost use Rattle.dp_pipeline.specs.steps.Setting.{IsSetting, IsKeyIn};
 ghost use Rattle.dp_pipeline.specs.Staging.{RunsAt};
 ghost use Rattle.dp_pipeline.specs.Standing.{Gives, Gets, source_facts, target_facts, target_ended};
 

@@ -7,8 +7,8 @@ use lib.ListN.{get_elem?}
 use Rattle.std.specs.Prelude.{Option, None, Some}
 use Rattle.atomic_table.specs.Table.{State}
 use Rattle.dp_ring.specs.declared.view.View.{View}
-use Rattle.dp_ring.specs.declared.view.Stage.{Stage}
-use Rattle.dp_ring.specs.declared.view.Stage.TheVariants.{Putting, Taking, Giving, Collecting}
+use Rattle.dp_ring.specs.declared.view.Phase.{Phase}
+use Rattle.dp_ring.specs.declared.view.Phase.TheVariants.{Putting, Taking, Giving, Collecting}
 use Rattle.dp_ring.specs.Views.{Side, inward, outward, side, up, face, base}
 use Rattle.dp_ring.specs.Turns.{Book, rank, InOrder, IsHeldBy, Contains, item_of, Stands, InTurn}
 use Rattle.dp_ring.specs.RingRule.{Ruled, TurnsAreRuled}
@@ -69,7 +69,7 @@ module _ {T Key : Type 0} (is_put is_given : Key → ℕ → T → Type 0) (key 
     word : (d : Side) (k : ℕ) → k < n → get_or s.words (base n d + k + 1) 0 ≡ 2 * ((r.cells (base n d + k)).0 / n) + up (r.cells (base n d + k)).1
     word d k near = (r.each_cell d k near).shows ∙ face_is n _ _
 
-    stands_at : (j : ℕ) (v : V) (st : Stage) → get_elem? s.views j ≡ some v → v.stage ≡ st → Stands r.book n r.cells (length s.views) j v.at st
+    stands_at : (j : ℕ) (v : V) (st : Phase) → get_elem? s.views j ≡ some v → v.phase ≡ st → Stands r.book n r.cells (length s.views) j v.at st
     stands_at j v st at e = subst (Stands r.book n r.cells (length s.views) j v.at) e (r.each_seat j v at).stands
 
     ruled : Ruled is_put is_given key n s
@@ -89,7 +89,7 @@ module _ {T Key : Type 0} (is_put is_given : Key → ℕ → T → Type 0) (key 
       taken = λ j v at st. in_above v.at (stands_at j v Giving at st).3;
       taken_drawn = λ t ge. subst (λ (z : ℕ). t < z) (sym r.drawn_is) (taken_is t ge);
       given_drawn = λ t ge. subst (λ (z : ℕ). t < z) (sym r.drawn_is) (given_is t ge);
-      found = λ j v at f. let x = (r.each_seat j v at).finds f in let c = r.each_cell (side v.stage) (v.at % n) (mod-lt v.at r.some_slot) in (c.shows ∙ (λ i. face n (x.1 i).0 (x.1 i).1), x.2);
+      found = λ j v at f. let x = (r.each_seat j v at).finds f in let c = r.each_cell (side v.phase) (v.at % n) (mod-lt v.at r.some_slot) in (c.shows ∙ (λ i. face n (x.1 i).0 (x.1 i).1), x.2);
       found_alone = λ i j u v at at' f f' same. let mine = (r.each_seat i u at).finds f in sym (one_finder is_put is_given key s r i j u v at at' mine.0 mine.1 f' (sym same));
       keyed = λ j v at. (r.each_seat j v at).named;
       at_home = λ d k y near at. let c = r.each_cell d k near in ⊎_elim

@@ -20,5 +20,5 @@ pub use item::RingItem;
 pub use law::turns_are_ruled;
 pub use producer::ProducerSeat;
 pub use ring::Ring;
-pub use view::{Stage, Standing, View};
+pub use view::{Phase, Standing, View};
 pub use worker::WorkerSeat;

@@ -1,6 +1,6 @@
 //! A producer, two workers and a consumer of a ring in threads of their own.
 ghost use Rattle.std.specs.Prelude.{◌≡◌, ◌*◌, ◌≤◌, false, true};
-ghost use Rattle.dp_ring.specs.declared.view.Stage.TheVariants.{Resting, Taking, Giving};
+ghost use Rattle.dp_ring.specs.declared.view.Phase.TheVariants.{Resting, Taking, Giving};
 ghost use Rattle.dp_ring.specs.Tested.{IsSame, IsKeyed, IsFirst, IsIdle};
 
 use dp_base::NoMemory;
@@ -43,9 +43,9 @@ fn produce<R: Wait>(rt: &R, mut seat: ProducerSeat<Number>)
 }
 
 fn take<R: Wait>(rt: &R, seat: &mut WorkerSeat<Number>) -> Number
-    requires { (seat.old.view.stage ≡ Taking) × IsKeyed seat.old }
+    requires { (seat.old.view.phase ≡ Taking) × IsKeyed seat.old }
     ensures item { result.0 ≡ seat.old.view.at }
-    ensures seat { (seat.new.view.stage ≡ Giving) × IsSame seat.old seat.new }
+    ensures seat { (seat.new.view.phase ≡ Giving) × IsSame seat.old seat.new }
 {
     for _ in rt.forever() {
         if let Ok(item) = seat.take() {
@@ -57,9 +57,9 @@ fn take<R: Wait>(rt: &R, seat: &mut WorkerSeat<Number>) -> Number
 }
 
 fn give<R: Wait>(rt: &R, seat: &mut WorkerSeat<Number>, number: u64)
-    requires seat { (seat.old.view.stage ≡ Giving) × IsKeyed seat.old }
+    requires seat { (seat.old.view.phase ≡ Giving) × IsKeyed seat.old }
     requires number { number ≡ 2 * seat.old.view.at }
-    ensures { (seat.new.view.stage ≡ Resting) × IsSame seat.old seat.new }
+    ensures { (seat.new.view.phase ≡ Resting) × IsSame seat.old seat.new }
 {
     for _ in rt.forever() {
         if seat.give(Number(number)).is_ok() {

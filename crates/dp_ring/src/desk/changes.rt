@@ -1,6 +1,6 @@
 //! The four changes of a slot, each with the change of its word that gives the slot back.
 ghost use Rattle.std.specs.Prelude.{◌≡◌, ◌+◌, [], ◌∷◌, true, false, Some, None};
-ghost use Rattle.dp_ring.specs.declared.view.Stage.TheVariants.{Putting, Taking, Giving, Collecting};
+ghost use Rattle.dp_ring.specs.declared.view.Phase.TheVariants.{Putting, Taking, Giving, Collecting};
 ghost use Rattle.dp_ring.specs.Views.{face, after_put, after_take, after_give, after_collect};
 ghost use Rattle.dp_ring.specs.Desks.{view, carried, HasTurn, HasFree, HasFull};
 

@@ -1,7 +1,7 @@
 //! How a ring is made, and how seats come to it.
 ghost use Rattle.std.specs.Prelude.{◌≡◌, ◌+◌, ◌<◌, ◌≤◌, ◌^◌, [], false, IfOk, OnOk};
 ghost use Rattle.atomic_table.specs.Table.{Splits};
-ghost use Rattle.dp_ring.specs.declared.view.Stage.TheVariants.{Fresh, Collecting};
+ghost use Rattle.dp_ring.specs.declared.view.Phase.TheVariants.{Fresh, Collecting};
 ghost use Rattle.dp_ring.specs.Views.{fresh};
 ghost use Rattle.dp_ring.specs.Turns.{InTurn};
 ghost use Rattle.dp_ring.specs.Plays.{as_consumer, as_producer, without_worker, as_worker};
@@ -52,7 +52,7 @@ impl<T: RingItem> Desk<T> {
 
     /// The first seat becomes the consumer's, and the producer's comes.
     pub fn with_producer(&mut self) -> Result<Desk<T>, NoMemory>
-        requires { ((view self.old).stage ≡ Fresh) × ((view self.old).found ≡ false) }
+        requires { ((view self.old).phase ≡ Fresh) × ((view self.old).found ≡ false) }
         ensures ring { self.new.seat.table_id ≡ self.old.seat.table_id }
         ensures size { self.new.size ≡ self.old.size }
         ensures carried { carried self.new ≡ carried self.old }
@@ -64,7 +64,7 @@ impl<T: RingItem> Desk<T> {
 
     /// A worker's seat comes. The consumer's has its tickets.
     pub fn with_worker(&mut self) -> Result<Desk<T>, NoMemory>
-        requires { ((view self.old).stage ≡ Collecting) × ((view self.old).found ≡ false) × (2 ^ 32 ≤ (view self.old).spare) }
+        requires { ((view self.old).phase ≡ Collecting) × ((view self.old).found ≡ false) × (2 ^ 32 ≤ (view self.old).spare) }
         ensures ring { self.new.seat.table_id ≡ self.old.seat.table_id }
         ensures size { self.new.size ≡ self.old.size }
         ensures carried { carried self.new ≡ carried self.old }

@@ -1,7 +1,7 @@
 use Rattle.std.proofs.Common.{◌≡◌}
-use Rattle.dp_ring.specs.declared.view.Stage.TheVariants.{Giving}
+use Rattle.dp_ring.specs.declared.view.Phase.TheVariants.{Giving}
 use Rattle.dp_ring.specs.Tested.{IsSame}
 use Rattle.dp_bench.proofs.through_ring.give.Given as goal
 
 abbrev pub invariant-loop : goal.invariant-loop
-invariant-loop g l = (l.seat.view.stage ≡ Giving) × IsSame l.fn.seat l.seat × (l.mine.0 ≡ l.seat.view.at)
+invariant-loop g l = (l.seat.view.phase ≡ Giving) × IsSame l.fn.seat l.seat × (l.mine.0 ≡ l.seat.view.at)

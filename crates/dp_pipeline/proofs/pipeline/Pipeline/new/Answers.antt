@@ -1,5 +1,5 @@
 use Rattle.std.proofs.Common.{sym, subst}
-use Rattle.dp_pipeline.specs.Setting.{IsSetting}
+use Rattle.dp_pipeline.specs.steps.Setting.{IsSetting}
 use Rattle.dp_semantics.proofs.GivenFits.{given_fits, given_tabled}
 use Rattle.dp_pipeline.proofs.pipeline.Pipeline.new.Goals as goal
 

@@ -1,6 +1,6 @@
 use Rattle.std.proofs.Common.{sym, ap, ◌∙◌}
 use Rattle.dp_packet.specs.declared.Packet.{Packet}
-use Rattle.dp_pipeline.specs.Ending.{ends_with}
+use Rattle.dp_pipeline.specs.steps.Ending.{ends_with}
 use Rattle.dp_pipeline.proofs.Staging.{staged_makes}
 use Rattle.dp_pipeline.proofs.staged.StagedStageCarriedCarried.run.Goals as goal
 
