@@ -16,7 +16,7 @@ use Rattle.dp_plan.specs.Access.{stage_of}
 use Rattle.dp_plan.specs.Checked.{is_checked}
 use Rattle.dp_semantics.specs.Clean.{as_assumed, goes_as, went, stays_late, event_as_assumed, event_words}
 use Rattle.dp_semantics.specs.Words.{load_word, load_words, done_word, words_of, is_load_of}
-use Rattle.dp_semantics.specs.Cause.{Cause, ByAssumption, ByWords, or_else, by_load, assumption_cause}
+use Rattle.dp_semantics.specs.Cause.{Cause, ByAssumption, ByWords, by_load, assumption_cause}
 use Rattle.dp_semantics.specs.CauseWalk.{Watch, view_of, count_of, watched, shown_from, load_cause_in, checked_cause_in, words_cause_in, cause_in}
 use Rattle.dp_semantics.specs.Reported.{reported}
 use Rattle.dp_cause.specs.declared.watched.Ground.{Ground}
@@ -27,6 +27,7 @@ use Rattle.dp_cause.specs.Views.{count_more}
 use Rattle.dp_cause.specs.Watching.{seen_otherwise, reported_if, Told, HasForm, watch_in, watched_by, views_by, noted}
 use Rattle.dp_cause.proofs.ViewLemmas.{shown_store, shown_none, counted_is}
 use Rattle.std.proofs.lemmas.Option.{same_Some}
+use Rattle.std.specs.Option.{option_or}
 
 load_is : (site : ℕ) (l : Load) → is_load_of site (load_word site l) ≡ true
 load_is site l = rw (eq-eqb site site refl) refl
@@ -36,10 +37,10 @@ done_is site effect = rw (eq-eqb site site refl) refl
 
 -- among the words of loads and of what was done the loads alone are compared
 seen_loads : (site : ℕ) (view : List ℤ) (loads : List Load) (effect : Effect) → seen_otherwise site view (load_words site loads ++ done_word site effect ∷ []) ≡ load_cause_in view site loads
-seen_loads site view [] effect = ap (λ (b : Bool). or_else (if b then by_load site (record { cell = (done_word site effect).index; value = value_of effect }) (get_or view (done_word site effect).index (pos 0)) else None) None) (done_is site effect)
+seen_loads site view [] effect = ap (λ (b : Bool). option_or (if b then by_load site (record { cell = (done_word site effect).index; value = value_of effect }) (get_or view (done_word site effect).index (pos 0)) else None) None) (done_is site effect)
 seen_loads site view (l ∷ rest) effect =
-    ap (λ (b : Bool). or_else (if b then by_load site l (get_or view l.cell (pos 0)) else None) (seen_otherwise site view (load_words site rest ++ done_word site effect ∷ []))) (load_is site l)
-    ∙ ap (λ (o : Option Cause). or_else (by_load site l (get_or view l.cell (pos 0))) o) (seen_loads site view rest effect)
+    ap (λ (b : Bool). option_or (if b then by_load site l (get_or view l.cell (pos 0)) else None) (seen_otherwise site view (load_words site rest ++ done_word site effect ∷ []))) (load_is site l)
+    ∙ ap (λ (o : Option Cause). option_or (by_load site l (get_or view l.cell (pos 0))) o) (seen_loads site view rest effect)
 
 pub seen_words : (p : Program) (plan : Plan) (view : List ℤ) (event : Event) → seen_otherwise event.site view (words_of p plan event) ≡ checked_cause_in p plan view event
 seen_words p plan view event = elim (cases_Bool (is_checked p plan event.site)) [
@@ -65,7 +66,7 @@ seen_here site view words i d told whole h found kept =
     let cons : drop i words ≡ get_or words i d ∷ drop (i + 1) words = rw add-one (drop-cons words i d h) in
     taken (if is_load_of site (get_or words i d) then by_load site (record { cell = (get_or words i d).index; value = (get_or words i d).value }) (get_or view (get_or words i d).index (pos 0)) else None) found ∙ ap reported_if (sym (ap (seen_otherwise site view) cons) ∙ kept)
   where
-    taken : (o : Option Cause) → reported_if (or_else o None) ≡ Some told → Some told ≡ reported_if (or_else o (seen_otherwise site view (drop (i + 1) words)))
+    taken : (o : Option Cause) → reported_if (option_or o None) ≡ Some told → Some told ≡ reported_if (option_or o (seen_otherwise site view (drop (i + 1) words)))
     taken None e = absurd (cc e)
     taken (Some cause) e = sym e
 
@@ -108,7 +109,7 @@ module _ (g : Ground) (old : Watched) (event : Event) (site : SiteId) (form : Fo
   loads = checked_cause_in p plan (view_of old.views at) event
 
   abbrev rest : Option Cause
-  rest = or_else (assumption_cause p plan event) (words_cause_in p plan (count_of (watched p plan event w).counts at) event)
+  rest = option_or (assumption_cause p plan event) (words_cause_in p plan (count_of (watched p plan event w).counts at) event)
 
   stage_same : (stage : ℕ) → stage ≡ stage_of p plan site.0 → stage ≡ at
   stage_same stage e = e ∙ ap (stage_of p plan) (sym same_site)
@@ -128,11 +129,11 @@ module _ (g : Ground) (old : Watched) (event : Event) (site : SiteId) (form : Fo
   pub load_fails : {r : Option ReportedCause} {stage : ℕ} {view : List ℤ} {words : List Word} (told : ReportedCause) → Compared r stage view words → r ≡ Some told → Told (cause_in p plan w event) told
   load_fails told c e = by loads (told_of loads told (sym (compared_is c) ∙ e))
     where
-      by : (o : Option Cause) → Told o told → Told (or_else o rest) told
-      by o (cause, is, same) = (cause, ap (λ (x : Option Cause). or_else x rest) is, same)
+      by : (o : Option Cause) → Told o told → Told (option_or o rest) told
+      by o (cause, is, same) = (cause, ap (λ (x : Option Cause). option_or x rest) is, same)
 
   no_load : {r : Option ReportedCause} {stage : ℕ} {view : List ℤ} {words : List Word} → Compared r stage view words → r ≡ None → cause_in p plan w event ≡ rest
-  no_load c e = ap (λ (x : Option Cause). or_else x rest) (none_of loads (sym (compared_is c) ∙ e))
+  no_load c e = ap (λ (x : Option Cause). option_or x rest) (none_of loads (sym (compared_is c) ∙ e))
 
   assumed_is : (assumed : Bool) → assumed ≡ as_assumed p plan site.0 event.effect → event_as_assumed p plan event ≡ assumed
   assumed_is assumed e = ap (λ (n : ℕ). as_assumed p plan n event.effect) same_site ∙ sym e
@@ -141,14 +142,14 @@ module _ (g : Ground) (old : Watched) (event : Event) (site : SiteId) (form : Fo
       Told (cause_in p plan w event) (why.Assumed site)
   assumption_fails assumed c none is fails = (
     ByAssumption event.site,
-    no_load c none ∙ ap (λ (b : Bool). or_else (if b then None else Some (ByAssumption event.site)) (words_cause_in p plan (count_of (watched p plan event w).counts at) event)) (assumed_is assumed is ∙ fails),
+    no_load c none ∙ ap (λ (b : Bool). option_or (if b then None else Some (ByAssumption event.site)) (words_cause_in p plan (count_of (watched p plan event w).counts at) event)) (assumed_is assumed is ∙ fails),
     ap (λ (n : ℕ). why.Assumed (record { 0 = n })) (sym same_site),
   )
 
   no_assumption : {r : Option ReportedCause} {stage : ℕ} {view : List ℤ} {words : List Word} (assumed : Bool) → Compared r stage view words → r ≡ None → assumed ≡ as_assumed p plan site.0 event.effect → assumed ≡ true →
       cause_in p plan w event ≡ words_cause_in p plan (count_of (watched p plan event w).counts at) event
   no_assumption assumed c none is holds =
-      no_load c none ∙ ap (λ (b : Bool). or_else (if b then None else Some (ByAssumption event.site)) (words_cause_in p plan (count_of (watched p plan event w).counts at) event)) (assumed_is assumed is ∙ holds)
+      no_load c none ∙ ap (λ (b : Bool). option_or (if b then None else Some (ByAssumption event.site)) (words_cause_in p plan (count_of (watched p plan event w).counts at) event)) (assumed_is assumed is ∙ holds)
 
   -- after the event is noted
   pub record Noted (stage more : ℕ) (word : Word) (new : Watched) : Type 0 where

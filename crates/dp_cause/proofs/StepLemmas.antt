@@ -16,11 +16,12 @@ use Rattle.dp_tree.specs.declared.Stmt.TheVariants as tree
 use Rattle.dp_tree.specs.declared.Stmt.TheVariants.{outs-Assign, outs-Store, outs-Print, outs-If, outs-While, outs-Region, outs-Break}
 use Rattle.dp_semantics.specs.FindsCauses.{turn_by}
 use Rattle.dp_base.specs.declared.VarId.{VarId}
+use Rattle.std.specs.Option.{option_or}
 use Rattle.dp_tree.specs.declared.Program.{Program}
 use Rattle.dp_tree.specs.Eval.{WithLoads, Evaluated}
 use Rattle.dp_tree.specs.Step.{Effect, value_of, stored, site_of, evaluated, followed, choose, behind_region}
 use Rattle.dp_plan.specs.declared.Plan.{Plan}
-use Rattle.dp_semantics.specs.Cause.{Cause, or_else}
+use Rattle.dp_semantics.specs.Cause.{Cause}
 use Rattle.dp_semantics.specs.CauseWalk.{Watch, watched, look_by}
 unfoldable use Rattle.dp_semantics.specs.CauseWalk.{cause_walk}
 use Rattle.dp_code.specs.Alone.{event_at}
@@ -42,7 +43,7 @@ module _ (p : Program) (plan : Plan) (input : List ℤ) where
       ap (λ (h : Stmt-F Stmt). look_by p plan (cause_walk p plan input n) w x rest cells h (evaluated p input cells h)) is ∙ ap (look_by p plan (cause_walk p plan input n) w x rest cells head) gives ∙ e
   found_walk (suc n) w x rest cells head (Ok v) c is gives e =
       ap (λ (h : Stmt-F Stmt). look_by p plan (cause_walk p plan input n) w x rest cells h (evaluated p input cells h)) is ∙ ap (look_by p plan (cause_walk p plan input n) w x rest cells head) gives
-      ∙ ap (λ (o : Option Cause). or_else o (cause_walk p plan input n (watched p plan (event_at (site_of head) v) w) (followed x rest head (value_of v.value)) (stored v.value cells))) e
+      ∙ ap (λ (o : Option Cause). option_or o (cause_walk p plan input n (watched p plan (event_at (site_of head) v) w) (followed x rest head (value_of v.value)) (stored v.value cells))) e
 
   on_walk : (n : ℕ) (w : Watch) (x : Stmt) (rest : List Stmt) (cells : List ℤ) (head : Stmt-F Stmt) (v : WithLoads Effect) → out-Stmt x ≡ head → evaluated p input cells head ≡ Ok v →
       cause_now p plan n w (site_of head) (Ok v) ≡ None →
@@ -53,7 +54,7 @@ module _ (p : Program) (plan : Plan) (input : List ℤ) where
       let less : n ≡ suc n - 1 = omega arith in
       let go = λ (m : ℕ). cause_walk p plan input m (watched p plan (event_at (site_of head) v) w) (followed x rest head (value_of v.value)) (stored v.value cells) in
       ap (λ (h : Stmt-F Stmt). look_by p plan (cause_walk p plan input n) w x rest cells h (evaluated p input cells h)) is ∙ ap (look_by p plan (cause_walk p plan input n) w x rest cells head) gives
-      ∙ ap (λ (o : Option Cause). or_else o (go n)) e ∙ ap go less
+      ∙ ap (λ (o : Option Cause). option_or o (go n)) e ∙ ap go less
 
   -- where nothing is left to do there is no cause
   none_walk : (n : ℕ) (w : Watch) (cells : List ℤ) → cause_walk p plan input n w [] cells ≡ None

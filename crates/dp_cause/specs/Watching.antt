@@ -1,10 +1,11 @@
 -- What is watched, as the walk that finds a cause has it, and what each answer says.
-use Rattle.std.specs.Prelude.{◌≡◌, true, ℕ, zero, suc, ◌-◌, if◌then◌else◌, List, [], ◌∷◌, ◌++◌, ℤ, Option, Some, None, Ok, Err, get_or, pos}
+use Rattle.std.specs.Prelude.{◌≡◌, ◌≤◌, true, ℕ, zero, suc, ◌+◌, ◌-◌, ◌^◌, if◌then◌else◌, List, [], ◌∷◌, ◌++◌, length, ℤ, Option, Some, None, Ok, Err, get_or, pos}
 use Rattle.dp_base.specs.declared.Cause.{Cause as ReportedCause}
 use Rattle.dp_base.specs.declared.SiteId.{SiteId}
 use Rattle.dp_base.specs.declared.Word.{Word}
 use Rattle.dp_base.specs.Arithmetic.{is_zero}
 use Rattle.std.specs.List.{list_all}
+use Rattle.std.specs.Option.{option_or}
 use Rattle.dp_tree.specs.declared.Stmt.{Stmt}
 use Rattle.dp_tree.specs.declared.Stmt.TheOpen.{Stmt-F, Region}
 use Rattle.dp_tree.specs.declared.Stmt.TheVariants as tree
@@ -14,11 +15,11 @@ use Rattle.dp_tree.specs.declared.Program.{Program}
 use Rattle.dp_tree.specs.Eval.{WithLoads, Evaluated}
 use Rattle.dp_tree.specs.Step.{Effect, Stored, Printed, Decided, Tried, Event, value_of, stored, line_of}
 use Rattle.dp_plan.specs.declared.Plan.{Plan}
-use Rattle.dp_plan.specs.Access.{first_site}
+use Rattle.dp_plan.specs.Access.{first_site, stage_of}
 use Rattle.dp_plan.specs.CheckedTable.{IsTabled}
-use Rattle.dp_semantics.specs.Words.{is_load_of, done_word}
-use Rattle.dp_semantics.specs.Cause.{Cause, ByFault, ByFuel, or_else, by_load}
-use Rattle.dp_semantics.specs.CauseWalk.{Watch, cause_in, watched, cause_walk}
+use Rattle.dp_semantics.specs.Words.{is_load_of, done_word, words_of}
+use Rattle.dp_semantics.specs.Cause.{Cause, ByFault, ByFuel, by_load}
+use Rattle.dp_semantics.specs.CauseWalk.{Watch, cause_in, count_of, watched, cause_walk}
 use Rattle.dp_semantics.specs.Reported.{reported}
 use Rattle.dp_code.specs.Alone.{event_at}
 use Rattle.dp_cause.specs.Views.{shown_by, count_more}
@@ -56,7 +57,7 @@ HasForm form site effect = effect ≡ formed form (done_word site.0 effect)
 abbrev pub seen_otherwise : ℕ → List ℤ → List Word → Option Cause
 seen_otherwise site view [] = None
 seen_otherwise site view (w ∷ rest) =
-    or_else (if is_load_of site w then by_load site (record { cell = w.index; value = w.value }) (get_or view w.index (pos 0)) else None) (seen_otherwise site view rest)
+    option_or (if is_load_of site w then by_load site (record { cell = w.index; value = w.value }) (get_or view w.index (pos 0)) else None) (seen_otherwise site view rest)
 
 -- the cause, if any, as a report has it
 abbrev pub reported_if : Option Cause → Option ReportedCause
@@ -91,11 +92,11 @@ views_by Tries stage w views = views
 abbrev pub noted : Form → ℕ → Word → ℕ → Watched → Watched
 noted form stage w more s = record { views = views_by form stage w s.views; counts = count_more stage more s.counts; cells = s.cells; left = s.left }
 
--- what a look at an event says
+-- what a look at an event says; memory is wanting only where a stage's words are too many to be counted
 abbrev pub Looks : Ground → Watched → Event → Watched → Step → Type 0
 Looks g old event new (step.On value) = (value ≡ value_of event.effect) × (cause_in g.program.now g.plan.now (watch_in old) event ≡ None) × (new ≡ watched_by g event old)
 Looks g old event new (step.Found told) = Told (cause_in g.program.now g.plan.now (watch_in old) event) told
-Looks g old event new step.NoMemory = Unit {0}
+Looks g old event new step.NoMemory = 2 ^ 64 ≤ length (words_of g.program.now g.plan.now event) + count_of old.counts (stage_of g.program.now g.plan.now event.site)
 
 -- the cause of one step by itself
 abbrev pub cause_now : Program → Plan → ℕ → Watch → SiteId → Evaluated Effect → Option Cause

@@ -1,5 +1,5 @@
 //! What is kept between two iterations, and the search for a cause from there.
-ghost use Rattle.std.specs.Prelude.{◌≡◌, true, IfOk, IfSome, [], if◌then◌else◌, map, filter, length, replicate};
+ghost use Rattle.std.specs.Prelude.{◌≡◌, true, IfOk, IfNone, IfSome, [], if◌then◌else◌, map, filter, length, replicate};
 ghost use Rattle.dp_tree.specs.Numbering.{regions_in_order};
 ghost use Rattle.dp_tree.specs.declared.Stmt.{out-Stmt};
 ghost use Rattle.dp_plan.specs.Access.{first_site, is_region_at, is_replicated};
@@ -109,7 +109,8 @@ fn wide(alloc: Global, plan: &Plan) -> Result<Plan, NoMemory>
 /// The statement of a region.
 fn region_of(all: &[Stmt], region: u32) -> Option<&Stmt>
     requires { regions_in_order 1 all.now ≡ true }
-    ensures { IfSome result (λ found. (turn_in (filter (is_region_at region) all.now) ≡ turn_by (out-Stmt found.now)) × HasInner (out-Stmt found.now)) }
+    ensures found { IfSome result (λ found. (turn_in (filter (is_region_at region) all.now) ≡ turn_by (out-Stmt found.now)) × HasInner (out-Stmt found.now)) }
+    ensures none { IfNone result (turn_in (filter (is_region_at region) all.now) ≡ []) }
 {
     for statement in all {
         if is_region(region, statement) {

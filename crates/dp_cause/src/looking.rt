@@ -1,7 +1,8 @@
 //! A look at what a site did: its loads, its assumption, and the number of its stage's words.
-ghost use Rattle.std.specs.Prelude.{◌≡◌, ◌∷◌, ◌++◌, [], List, Option, Some, OnOk, OnErr};
+ghost use Rattle.std.specs.Prelude.{◌≡◌, ◌≤◌, ◌+◌, ◌^◌, ◌∷◌, ◌++◌, [], List, Option, Some, OnOk, OnErr};
 ghost use Rattle.dp_base.specs.declared.Word.{Word as OneWord};
 ghost use Rattle.dp_tree.specs.Step.{Effect, Event, value_of};
+ghost use Rattle.dp_semantics.specs.CauseWalk.{count_of};
 ghost use Rattle.dp_semantics.specs.Clean.{as_assumed};
 ghost use Rattle.dp_semantics.specs.Words.{words_of};
 ghost use Rattle.dp_cause.specs.Watching.{seen_otherwise, reported_if, HasForm, Looks, noted};
@@ -69,7 +70,8 @@ fn assumed(program: &Program, plan: &Plan, site: SiteId, form: Form, value: i64)
 impl Watched {
     /// The words of an event are counted, and its store is shown.
     fn note(&mut self, stage: u32, form: Form, word: Word, more: u64) -> Result<(), NoMemory>
-        ensures { OnOk result (self.new ≡ noted form stage word more self.old) }
+        ensures noted { OnOk result (self.new ≡ noted form stage word more self.old) }
+        ensures full { OnErr result (2 ^ 64 ≤ more + count_of self.old.counts stage) }
     {
         add(&mut self.counts, stage, more)?;
         match form {

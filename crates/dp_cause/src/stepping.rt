@@ -1,11 +1,12 @@
 //! One step of the source, by the engine of the stages.
-ghost use Rattle.std.specs.Prelude.{◌≡◌, List, ℤ, Ok, true};
+ghost use Rattle.std.specs.Prelude.{◌≡◌, ◌≢◌, List, ℤ, Ok, true};
 ghost use Rattle.dp_tree.specs.Eval.{WithLoads, Evaluated, eval};
 ghost use Rattle.dp_tree.specs.Step.{Effect, evaluated, decided, tried};
 ghost use Rattle.dp_tree.specs.declared.Stmt.TheOpen as head;
 ghost use Rattle.dp_code.specs.Alone.{EvaluatesTo};
 ghost use Rattle.dp_code.specs.Order.{in_order};
 ghost use Rattle.dp_cause.specs.declared.watched.Form.TheVariants as form;
+ghost use Rattle.dp_cause.specs.declared.watched.Step.TheVariants as step;
 ghost use Rattle.dp_cause.specs.Watching.{HasForm, Steps, IsGround};
 
 use crate::watched::{Form, Ground, Step, Watched};
@@ -17,7 +18,7 @@ use dp_tree::Expr;
 use std::mem;
 
 impl Watched {
-    /// One evaluation of a site by its code, and a look at what it did.
+    /// One evaluation of a site by its code, and a look at what it did. Where no step is left nothing asks for memory.
     fn step<'p>(
         &mut self,
         ground: Ground<'p>,
@@ -27,8 +28,9 @@ impl Watched {
     ) -> Step
         requires ground { IsGround ground }
         requires ordered { in_order 0 code.now.ops ≡ true }
-        ensures { (by : List ℤ → List ℤ → Evaluated Effect) → EvaluatesTo ground.entry.program.now code.entry.now.ops site by → ((v : WithLoads Effect) → by ground.entry.input.now self.old.cells ≡ Ok v → HasForm form site v.value) →
+        ensures steps { (by : List ℤ → List ℤ → Evaluated Effect) → EvaluatesTo ground.entry.program.now code.entry.now.ops site by → ((v : WithLoads Effect) → by ground.entry.input.now self.old.cells ≡ Ok v → HasForm form site v.value) →
             Steps ground.entry self.old site (by ground.entry.input.now self.old.cells) self.new result }
+        ensures spent { self.old.left ≡ 0 → result ≢ step.NoMemory }
     {
         if self.left == 0 {
             return Step::Found(Cause::Fuel);

@@ -5,7 +5,7 @@ use Rattle.dp_meaning.specs.declared.ends.IterEnd.TheVariants.{Next, Closed}
 use Rattle.dp_meaning.specs.MachineState.{MachineState}
 use Rattle.dp_meaning.specs.IterationRun.{IterationRun}
 use Rattle.dp_meaning.specs.NextIteration.{end_of}
-use Rattle.dp_commit.specs.CommittedState.{CommittedState, IsOpen, Holds, ClosesOnce, Reexecuted, WhereEnded, steps_of_first, region_run}
+use Rattle.dp_commit.specs.CommittedState.{CommittedState, IsOpen, Holds, ClosesOnce, RecoversFor, WhereEnded, steps_of_first, region_run}
 use Rattle.dp_commit.proofs.Going.{started}
 use Rattle.dp_commit.proofs.Committing.{held_next, held_closed}
 
@@ -15,7 +15,7 @@ module _ (first : MachineState) (c : CommittedState) (once : ClosesOnce first c.
   applied_holds m turns before after true call =
       (held_closed first c h o m turns before after (once c.count (steps_of_first (region_run first) c.region c.count) (started first c h o)) call).held
 
-  pub reexecuted_holds : (new : CommittedState) (turns : ℕ) (before after : List ℤ) (end : IterEnd) → Reexecuted turns c new before after end → WhereEnded (Holds first new) end
-  reexecuted_holds new turns before after Next q = subst (Holds first) (sym q.rest) (applied_holds new.machine turns before after false q.call)
-  reexecuted_holds new turns before after Closed q = subst (Holds first) (sym q.rest) (applied_holds new.machine turns before after true q.call)
-  reexecuted_holds new turns before after _ q = tt
+  pub recovers_holds : (new : CommittedState) (turns : ℕ) (before after : List ℤ) (end : IterEnd) → RecoversFor turns c new before after end → WhereEnded (Holds first new) end
+  recovers_holds new turns before after Next q = subst (Holds first) (sym q.rest) (applied_holds new.machine turns before after false q.call)
+  recovers_holds new turns before after Closed q = subst (Holds first) (sym q.rest) (applied_holds new.machine turns before after true q.call)
+  recovers_holds new turns before after _ q = tt

@@ -19,7 +19,7 @@ use Rattle.dp_commit.specs.declared.court.Court.{Court}
 use Rattle.dp_commit.specs.declared.court.Pace.{Pace}
 use Rattle.dp_commit.specs.declared.court.Walk.{Walk}
 use Rattle.dp_commit.specs.FlatJudge.{WalkState, On, Refused, tried_by, words_at}
-use Rattle.dp_commit.specs.Held.{IsAt, rests, state_at}
+use Rattle.dp_commit.specs.steps.Held.{IsAt, rests, state_at}
 use Rattle.dp_commit.specs.Judging.{DoneAt, Finds, Lets, StandsBehind, walking_in}
 use Rattle.dp_commit.proofs.FindLemmas.{front_behind, front_holds, other_word}
 use Rattle.dp_commit.proofs.Undoing.{left_behind, left_there, stages_more}

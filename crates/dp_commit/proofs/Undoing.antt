@@ -4,7 +4,7 @@ use Rattle.dp_base.specs.declared.Word.{Word}
 use Rattle.dp_semantics.specs.Words.{word_list}
 use Rattle.dp_cause.specs.declared.replaced.Replaced.{Replaced}
 use Rattle.dp_cause.specs.Views.{stages_of}
-use Rattle.dp_commit.specs.Held.{rests, undone}
+use Rattle.dp_commit.specs.steps.Held.{rests, undone}
 
 pub undone_more : (xs : List Replaced) (was : Replaced) (cells : List ℤ) → undone (xs ++ was ∷ []) cells ≡ undone xs (slice_set cells was.cell.0 was.value)
 undone_more [] was cells = refl

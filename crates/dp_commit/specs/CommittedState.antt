@@ -48,7 +48,7 @@ count_after n Fuel = n
 count_after n Going = n
 
 -- One call of the re-execution: the machine made steps of the current iteration, as `iterate` does, and the iteration counts where it ends.
-pub record Reexecuted (turns : ℕ) (old new : CommittedState) (before after : List ℤ) (end : IterEnd) : Type 0 where
+pub record RecoversFor (turns : ℕ) (old new : CommittedState) (before after : List ℤ) (end : IterEnd) : Type 0 where
   pub call : IterationRun old.region turns old.machine new.machine before after end
   pub rest : new ≡ record old { machine = new.machine; count = count_after old.count end }
 

@@ -2,6 +2,6 @@ pub mod CommittedState
 pub mod Told
 pub mod FlatJudge
 pub mod Entries
-pub mod Held
 pub mod Judging
 pub mod Standing
+pub mod steps

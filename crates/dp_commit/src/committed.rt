@@ -5,7 +5,7 @@ ghost use Rattle.dp_meaning.specs.MachineState.{MachineState, next_part, IsAnyRe
 ghost use Rattle.dp_meaning.specs.Moved.{Spoiled};
 ghost use Rattle.dp_meaning.specs.IterationRun.{IterationRun};
 ghost use Rattle.dp_meaning.specs.NextIteration.{end_of};
-ghost use Rattle.dp_commit.specs.CommittedState.{CarriesNext, ClosesOnce, CountsSteps, Holds, IsOpen, Reexecuted, WhereEnded, count_after};
+ghost use Rattle.dp_commit.specs.CommittedState.{CarriesNext, ClosesOnce, CountsSteps, Holds, IsOpen, RecoversFor, WhereEnded, count_after};
 
 use crate::clean::Clean;
 use crate::tally::Tally;
@@ -120,7 +120,7 @@ impl<'p> Committed<'p> {
     pub fn recover(&mut self, turns: u32, out: &mut Row<i64>) -> Result<IterEnd, NoMemory>
         requires next { next_part self.old.machine ≡ part.Region self.old.region }
         requires turns { 0 < turns }
-        ensures runs { MatchResult result (Reexecuted turns self.old self.new out.old out.new) (λ _. Spoiled turns self.old.machine self.new.machine out.old out.new) }
+        ensures runs { MatchResult result (RecoversFor turns self.old self.new out.old out.new) (λ _. Spoiled turns self.old.machine self.new.machine out.old out.new) }
         ensures wanting { OnErr result (self.new ≡ record self.old { machine = self.new.machine }) }
         ensures spoiled { IsTrue self.old.machine.spoiled → IsErr result × (self.new ≡ self.old) × (out.new ≡ out.old) }
         ensures holds { (first : MachineState) → ClosesOnce first self.old.region → IsOpen self.old → Holds first self.old → IfOk result (WhereEnded (Holds first self.new)) }

@@ -1,10 +1,11 @@
 //! A site's words, found and judged.
-ghost use Rattle.std.specs.Prelude.{◌≡◌, ◌+◌, ℤ};
+ghost use Rattle.std.specs.Prelude.{◌≡◌, ◌≢◌, ◌+◌, ℤ};
 ghost use Rattle.dp_plan.specs.Access.{first_site, stage_of};
 ghost use Rattle.dp_code.specs.FlatRun as run;
 ghost use Rattle.dp_code.specs.declared.Op.TheVariants as op;
+ghost use Rattle.dp_commit.specs.declared.court.Answer.TheVariants as answer;
 ghost use Rattle.dp_commit.specs.FlatJudge.{tried_by};
-ghost use Rattle.dp_commit.specs.Held.{IsAt, memory_before, state_at};
+ghost use Rattle.dp_commit.specs.steps.Held.{IsAt, memory_before, state_at};
 ghost use Rattle.dp_commit.specs.Judging.{Does, Lets, op_in, walking_in};
 
 use crate::assuming::{closes, closes_or_leaves, stays};
@@ -101,6 +102,7 @@ impl<'p> Walk<'p> {
         requires stage { stage ≡ stage_of court.program.now court.plan.now site.0 }
         requires lets { Lets court site at_zero elsewhere }
         ensures does { Does (walking_in court.entry (state_at pace.old self.old) (λ (z : ℤ). run.by_zero z to next) site run.decided_by) (state_at pace.new self.new) result }
+        ensures asks_none { result ≢ answer.NoMemory }
         ensures before { memory_before self.new ≡ memory_before self.old }
         ensures at { IsAt pace.new self.new }
     {
@@ -128,6 +130,7 @@ impl<'p> Walk<'p> {
         requires first { court.first ≡ first_site court.program.now court.plan.now }
         requires stage { stage ≡ stage_of court.program.now court.plan.now site.0 }
         ensures does { Does (walking_in court.entry (state_at pace.old self.old) (λ (z : ℤ). run.by_zero z to next) site tried_by) (state_at pace.new self.new) result }
+        ensures asks_none { result ≢ answer.NoMemory }
         ensures before { memory_before self.new ≡ memory_before self.old }
         ensures at { IsAt pace.new self.new }
     {

@@ -2,7 +2,7 @@
 ghost use Rattle.std.specs.Prelude.{◌≡◌, IfOk, replicate, []};
 ghost use Rattle.dp_semantics.specs.Judge.{judge_lists};
 ghost use Rattle.dp_commit.specs.FlatJudge.{walk_begin};
-ghost use Rattle.dp_commit.specs.Held.{IsAt, memory_before, state_of};
+ghost use Rattle.dp_commit.specs.steps.Held.{IsAt, memory_before, state_of};
 ghost use Rattle.dp_commit.specs.Judging.{IsCourt, Judged};
 
 use crate::court::{Answer, Court, Pace, Rows, Walk};

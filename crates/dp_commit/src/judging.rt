@@ -1,8 +1,9 @@
 //! A site's word, judged where it stands.
-ghost use Rattle.std.specs.Prelude.{◌≡◌, ◌+◌, ◌^◌, ◌-◌, ◌<◌, ◌==◌, ◌||◌, ℤ, OnOk, OnErr, ◌++◌, ◌∷◌, [], Some, length};
+ghost use Rattle.std.specs.Prelude.{◌≡◌, ◌≢◌, ◌+◌, ◌^◌, ◌-◌, ◌<◌, ◌==◌, ◌||◌, ℤ, OnOk, OnErr, ◌++◌, ◌∷◌, [], Some, length};
 ghost use Rattle.dp_plan.specs.Access.{first_site, stage_of};
 ghost use Rattle.dp_code.specs.FlatRun as run;
-ghost use Rattle.dp_commit.specs.Held.{IsAt, memory_before, state_at};
+ghost use Rattle.dp_commit.specs.declared.court.Answer.TheVariants as answer;
+ghost use Rattle.dp_commit.specs.steps.Held.{IsAt, memory_before, state_at};
 ghost use Rattle.dp_commit.specs.Judging.{Does, Finds, Lets, walking_in};
 
 use crate::assuming::closes;
@@ -117,6 +118,7 @@ impl<'p> Walk<'p> {
         requires left { pace.old.steps < court.limit }
         requires lets { Lets court site at_zero elsewhere }
         ensures does { Does (walking_in court.entry (state_at pace.old self.old) (λ (z : ℤ). run.by_zero z to next) site run.decided_by) (state_at pace.new self.new) result }
+        ensures asks_none { result ≢ answer.NoMemory }
         ensures before { memory_before self.new ≡ memory_before self.old }
         ensures at { IsAt pace.new self.new }
     {

@@ -1,4 +1,4 @@
 pub mod Values
 pub mod Forms
 pub mod Evaluating
-pub mod Descent
+pub mod steps

@@ -1,3 +1,4 @@
+pub mod Ends
 pub mod Engine
 pub mod Asking
 pub mod Sending

@@ -1,6 +1,6 @@
 use Rattle.std.proofs.Common.{rules, ◌≡◌, sym, ap, ◌∙◌, subst, List, ℤ, to_z, of_z, w64, slice_set}
 use Rattle.dp_cause.specs.declared.replaced.Replaced.{Replaced}
-use Rattle.dp_commit.specs.Held.{undone}
+use Rattle.dp_commit.specs.steps.Held.{undone}
 use Rattle.dp_commit.proofs.Undoing.{undone_more}
 use Rattle.dp_commit.proofs.iteration.before.Goals as goal
 

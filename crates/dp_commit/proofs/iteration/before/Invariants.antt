@@ -1,5 +1,5 @@
 use Rattle.std.proofs.Common.{◌≡◌, length}
-use Rattle.dp_commit.specs.Held.{undone}
+use Rattle.dp_commit.specs.steps.Held.{undone}
 use Rattle.dp_commit.proofs.iteration.before.Given as goal
 
 abbrev pub invariant-loop-was : goal.invariant-loop-was

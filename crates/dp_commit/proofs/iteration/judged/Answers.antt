@@ -1,4 +1,4 @@
-use Rattle.dp_commit.specs.Held.{state_of}
+use Rattle.dp_commit.specs.steps.Held.{state_of}
 use Rattle.dp_commit.proofs.WalkLemmas.{judged_by_code}
 use Rattle.dp_commit.proofs.iteration.judged.Goals as goal
 

@@ -10,4 +10,4 @@ pub returns-in-Ok : goal.returns-in-Ok
 returns-in-Ok c =
     let p = c.args.ground.program.now in
     let cells = c.args.self.now.cells in
-    c.step.ensures (λ input held. decided (eval p input held c.args.cond.now)) c.in-Ok.ensures.decides (λ v e. by_value (HasForm form.Decides c.args.site) (eval p c.args.ground.input.now cells c.args.cond.now) Decided v e (λ z. refl))
+    c.step.ensures.steps (λ input held. decided (eval p input held c.args.cond.now)) c.in-Ok.ensures.decides (λ v e. by_value (HasForm form.Decides c.args.site) (eval p c.args.ground.input.now cells c.args.cond.now) Decided v e (λ z. refl))

@@ -11,4 +11,4 @@ pub returns-in-Ok : goal.returns-in-Ok
 returns-in-Ok c =
     let p = c.args.ground.program.now in
     let cells = c.args.self.now.cells in
-    c.step.ensures (λ input held. evaluated p input held (head.Print c.args.site c.args.value.now)) c.in-Ok.ensures.meaning (λ v e. by_value (HasForm form.Prints c.args.site) (eval p c.args.ground.input.now cells c.args.value.now) Printed v e (λ z. refl))
+    c.step.ensures.steps (λ input held. evaluated p input held (head.Print c.args.site c.args.value.now)) c.in-Ok.ensures.meaning (λ v e. by_value (HasForm form.Prints c.args.site) (eval p c.args.ground.input.now cells c.args.value.now) Printed v e (λ z. refl))

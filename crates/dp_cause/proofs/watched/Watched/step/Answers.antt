@@ -20,8 +20,8 @@ turn_over-requires-clause-tabled c = subst (λ (x : Plan). IsTabled c.args.groun
 pub turn_over-requires-clause-ordered : goal.turn_over-requires-clause-ordered
 turn_over-requires-clause-ordered c = ap (λ (ops : List Op). in_order 0 ops) c.as_slice.ensures ∙ c.requires.ordered
 
-pub returns-in-Done : goal.returns-in-Done
-returns-in-Done c = λ by means form.
+pub returns-in-Done-clause-steps : goal.returns-in-Done-clause-steps
+returns-in-Done-clause-steps c = λ by means form.
     let g = c.args.ground in
     let old = c.args.self.now in
     let r = by g.input.now old.cells in
@@ -33,8 +33,8 @@ returns-in-Done c = λ by means form.
     look_steps g old c.args.site r did.v c.in-Done.memory did.gave did.memory_is (omega (arith, c.if-self-eq0.false)) c.look.new.self c.look.result
     (c.look.ensures (event_at c.args.site did.v) refl (form did.v did.gave) (c.as_slice-in-Done.ensures ∙ did.words_are))
 
-pub returns-in-Void-Fault : goal.returns-in-Void-Fault
-returns-in-Void-Fault c = λ by means form.
+pub returns-in-Void-Fault-clause-steps : goal.returns-in-Void-Fault-clause-steps
+returns-in-Void-Fault-clause-steps c = λ by means form.
     let g = c.args.ground in
     let old = c.args.self.now in
     let r = by g.input.now old.cells in

@@ -11,4 +11,4 @@ pub returns-in-Ok : goal.returns-in-Ok
 returns-in-Ok c =
     let p = c.args.ground.program.now in
     let cells = c.args.self.now.cells in
-    c.step.ensures (λ input held. evaluated p input held (head.Store c.args.site c.args.array c.args.index.now c.args.value.now)) c.in-Ok.ensures.meaning (λ v e. by_element (HasForm form.Stores c.args.site) (eval p c.args.ground.input.now cells c.args.index.now) (eval p c.args.ground.input.now cells c.args.value.now) (cell_count p c.args.array) (first_cell p c.args.array) v e (λ k z. refl))
+    c.step.ensures.steps (λ input held. evaluated p input held (head.Store c.args.site c.args.array c.args.index.now c.args.value.now)) c.in-Ok.ensures.meaning (λ v e. by_element (HasForm form.Stores c.args.site) (eval p c.args.ground.input.now cells c.args.index.now) (eval p c.args.ground.input.now cells c.args.value.now) (cell_count p c.args.array) (first_cell p c.args.array) v e (λ k z. refl))

@@ -1,7 +1,7 @@
 use Rattle.std.proofs.Common.{sym, subst, ℤ, Some}
 use Rattle.dp_code.specs.FlatRun.{by_zero, decided_by}
 use Rattle.dp_commit.specs.FlatJudge.{WalkState}
-use Rattle.dp_commit.specs.Held.{state_at}
+use Rattle.dp_commit.specs.steps.Held.{state_at}
 use Rattle.dp_commit.specs.Judging.{Does, Finds, walking_in}
 use Rattle.dp_commit.proofs.court.Walk.choose.Goals as goal
 

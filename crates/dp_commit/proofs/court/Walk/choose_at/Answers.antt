@@ -1,7 +1,7 @@
 use Rattle.std.proofs.Common.{◌≡◌, refl, sym, ap, ◌∙◌, true, false, rules, to_z, of_z, w64}
 use Rattle.dp_base.specs.Arithmetic.{is_zero}
 use Rattle.dp_commit.specs.FlatJudge.{On}
-use Rattle.dp_commit.specs.Held.{state_at}
+use Rattle.dp_commit.specs.steps.Held.{state_at}
 use Rattle.dp_commit.proofs.PaceLemmas.{choice_goes, choice_stops, closes_zero, closes_other}
 use Rattle.dp_commit.proofs.court.Walk.choose_at.Goals as goal
 

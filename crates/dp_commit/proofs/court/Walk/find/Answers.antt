@@ -1,6 +1,6 @@
 use Rattle.std.proofs.Common.{refl, ap, ◌∙◌, subst, List, ℤ, drop, arith}
 use Rattle.dp_commit.specs.FlatJudge.{WalkState}
-use Rattle.dp_commit.specs.Held.{state_at}
+use Rattle.dp_commit.specs.steps.Held.{state_at}
 use Rattle.dp_commit.specs.Judging.{Finds, StandsBehind}
 use Rattle.dp_commit.proofs.FindLemmas.{searched}
 use Rattle.dp_commit.proofs.PaceLemmas.{here}

@@ -1,7 +1,7 @@
 use Rattle.std.proofs.Common.{refl, ap, ◌∙◌, subst, Bool, Some, drop, pos, arith}
 use Rattle.dp_base.specs.declared.WordKind.TheVariants.{Load}
 use Rattle.dp_commit.specs.FlatJudge.{WalkState}
-use Rattle.dp_commit.specs.Held.{state_at}
+use Rattle.dp_commit.specs.steps.Held.{state_at}
 use Rattle.dp_commit.specs.Judging.{DoneAt}
 use Rattle.dp_commit.proofs.FindLemmas.{searched}
 use Rattle.dp_commit.proofs.PaceLemmas.{at_front, here}

@@ -4,7 +4,7 @@ use Rattle.dp_semantics.specs.Clean.{as_assumed}
 use Rattle.dp_semantics.specs.StageRun.{closes_at}
 use Rattle.dp_code.specs.FlatRun.{by_zero}
 use Rattle.dp_commit.specs.FlatJudge.{On}
-use Rattle.dp_commit.specs.Held.{state_at}
+use Rattle.dp_commit.specs.steps.Held.{state_at}
 use Rattle.dp_commit.proofs.PaceLemmas.{break_goes, break_stops}
 use Rattle.dp_commit.proofs.court.Walk.leave.Goals as goal
 

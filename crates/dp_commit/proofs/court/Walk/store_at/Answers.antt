@@ -4,7 +4,8 @@ use Rattle.dp_tree.specs.Step.{Decided}
 use Rattle.dp_plan.specs.Access.{first_site}
 use Rattle.dp_semantics.specs.StageRun.{closes_at}
 use Rattle.dp_commit.specs.FlatJudge.{On}
-use Rattle.dp_commit.specs.Held.{state_at}
+use Rattle.dp_commit.specs.steps.Held.{state_at}
+use Rattle.dp_commit.specs.Judging.{GoesOn}
 use Rattle.dp_commit.proofs.Undoing.{store_undone}
 use Rattle.dp_commit.proofs.PaceLemmas.{store_goes, store_stops}
 use Rattle.dp_commit.proofs.court.Walk.store_at.Goals.{then-word-first-via-then-word-first, then-word-first-via-else-word-first+then-word-first-2}
@@ -33,6 +34,15 @@ returns-in-Ok-clause-does c =
     (c.in-Ok.ensures.stores ∙ ap (λ (s : StoreOf). c.args.self.now.stores ++ s ∷ []) c.store_of-store.ensures)
     c.in-Ok.ensures.replaced c.requires.there
     ∙ sym (ap (λ pace. On (state_at pace (record c.args.self.now { cells = c.put.new.cells; stores = c.note_store.new.stores; replaced = c.note_store.new.replaced }))) c.pass.ensures)
+
+pub returns-in-Err-clause-does : goal.returns-in-Err-clause-does
+returns-in-Err-clause-does c =
+    let word = c.word_at-word.result in
+    subst GoesOn
+    (sym (store_goes c.args.court _ c.args.pace.now c.args.self.now c.args.site c.args.at c.args.next word refl c.requires.at c.requires.there c.requires.found c.word_at-word.ensures
+    (closes_at (first_site c.args.court.program.now c.args.court.plan.now) c.args.site.0 (Decided word.value)) refl c.args.first.0 c.args.count
+    (record { cell = record { 0 = word.index }; stage = c.args.pace.now.stage; value = word.value }) _ _ _
+    (omega (arith, c.if-word-first.false)) (omega (arith, c.if-word-first.false, c.if-word-first-2.false)) refl refl refl c.requires.there)) tt
 
 pub returns-in-Ok-clause-before : goal.returns-in-Ok-clause-before
 returns-in-Ok-clause-before c =

@@ -1,7 +1,7 @@
 use Rattle.std.proofs.Common.{refl, ◌∙◌, subst, Some, None}
 use Rattle.dp_semantics.specs.Judge.{Judgement, judge_lists}
 use Rattle.dp_commit.specs.declared.court.Answer.{Answer}
-use Rattle.dp_commit.specs.Held.{state_of}
+use Rattle.dp_commit.specs.steps.Held.{state_of}
 use Rattle.dp_commit.specs.Judging.{Judged, Tells}
 use Rattle.dp_commit.specs.Standing.{IsSame}
 use Rattle.dp_commit.proofs.EpochLemmas.{agreed_gives, knows_same}
