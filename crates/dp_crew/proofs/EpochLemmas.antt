@@ -22,7 +22,7 @@ use Rattle.dp_commit.proofs.CountLemmas.{some_closed}
 use Rattle.dp_crew.specs.declared.ends.RegionEnd.TheVariants as region_end
 use Rattle.dp_crew.specs.Applied.{Applied, left_of}
 use Rattle.dp_crew.specs.Output.{Emits, WritesFront, prints_from, to_come}
-use Rattle.dp_crew.specs.Progress.{Progress, RegionDone, report_before}
+use Rattle.dp_crew.specs.Progress.{Progress, RegionDone}
 use Rattle.dp_crew.specs.InEpoch.{InEpoch, IsUnclean}
 use Rattle.dp_crew.proofs.StreamLemmas.{emits_ahead, front_within}
 use Rattle.dp_crew.proofs.Here.{rest_fuel}
@@ -76,20 +76,15 @@ left_falls v old new o a =
     let some = some_events old.region v.steps old.machine new.machine [] v.prints v.closing o.between a.call in
     omega (arith, some, a.call.moved.run.fuel, rest_fuel old.machine, rest_fuel new.machine)
 
--- the report is the same, where its count is
-same_report : (plan : Plan) (first : MachineState) (i k : ℕ) (report : RegionReport) → report ≡ report_before plan first i → k ≡ i → record report { iterations = k } ≡ report
-same_report plan first i k report is e =
-    ap (λ (x : RegionReport). record x { iterations = k }) is ∙ ap (λ (n : ℕ). record (report_before plan first i) { iterations = n }) e ∙ sym is
-
 module _ (key : EpochKey) (n : ℕ) (first : MachineState) (c : CommittedState) (report : RegionReport) (e : InEpoch key n first c report) where
-  pub unclean_here : (why : Cause) → Again why ≡ verdict_at key n → (k : ℕ) → k ≡ c.count → IsUnclean key.plan first c (record report { iterations = k }) why
-  unclean_here why gives k same =
+  -- the report counts what is committed
+  pub report_here : report ≡ record report { iterations = c.count }
+  report_here = e.progress.report_is ∙ ap (λ (x : RegionReport). record x { iterations = c.count }) (sym e.progress.report_is)
+
+  pub unclean_here : (why : Cause) → Again why ≡ verdict_at key n → IsUnclean key.plan first c report why
+  unclean_here why gives =
       let not_clean = unclean_case key n first c report e why gives in
-      record {
-        progress = subst (Progress key.plan first c) (sym (same_report key.plan first c.count k report e.progress.report_is same)) e.progress;
-        again = not_clean.again;
-        cause_is = not_clean.cause_is;
-      }
+      record { progress = e.progress; again = not_clean.again; cause_is = not_clean.cause_is }
 
   module _ (v : Carried) (gives : Commit v ≡ verdict_at key n) where
     q : IsClean key n first c report e v
@@ -137,17 +132,17 @@ module _ (key : EpochKey) (n : ℕ) (first : MachineState) (c : CommittedState) 
         closes_emits closing =
             subst (λ (xs : List ℤ). Emits (to_come key.plan first waiting c.count) xs told tells) (ap (λ (xs : List ℤ). after ++ xs) (none_behind closing) ∙ append-nil after) ahead
 
-      module _ (k : ℕ) (same : k ≡ new.count) where
-        more_is : record report { iterations = k } ≡ record report { iterations = c.count + 1 }
-        more_is = ap (λ (m : ℕ). record report { iterations = m }) (same ∙ new_count)
+      module _ (more : RegionReport) (told : more ≡ record report { iterations = new.count }) where
+        more_is : more ≡ record report { iterations = c.count + 1 }
+        more_is = told ∙ ap (λ (m : ℕ). record report { iterations = m }) new_count
 
-        pub epoch_closes : v.closing ≡ true → RegionDone key.plan first new (record report { iterations = k }) region_end.Closed
+        pub epoch_closes : v.closing ≡ true → RegionDone key.plan first new more region_end.Closed
         epoch_closes closing =
-            subst (λ (s : CommittedState). RegionDone key.plan first s (record report { iterations = k }) region_end.Closed) (sym a.rest)
-            (closed_done key.plan first c report e.progress new.machine v.steps [] v.prints (subst (λ (b : Bool). IterationRun c.region v.steps c.machine new.machine [] v.prints (end_of b)) closing a.call) (record report { iterations = k })
-            (report_next key n first c report e v q (record report { iterations = k }) more_is))
+            subst (λ (s : CommittedState). RegionDone key.plan first s more region_end.Closed) (sym a.rest)
+            (closed_done key.plan first c report e.progress new.machine v.steps [] v.prints (subst (λ (b : Bool). IterationRun c.region v.steps c.machine new.machine [] v.prints (end_of b)) closing a.call) more
+            (report_next key n first c report e v q more more_is))
 
-        pub epoch_goes : v.closing ≡ false → InEpoch key (n + 1) first new (record report { iterations = k })
+        pub epoch_goes : v.closing ≡ false → InEpoch key (n + 1) first new more
         epoch_goes going =
-            subst (λ (s : CommittedState). InEpoch key (n + 1) first s (record report { iterations = k })) (sym a.rest)
-            (epoch_on key n first c report e v q v.steps [] v.prints new.machine (subst (λ (b : Bool). IterationRun c.region v.steps c.machine new.machine [] v.prints (end_of b)) going a.call) going (record report { iterations = k }) more_is)
+            subst (λ (s : CommittedState). InEpoch key (n + 1) first s more) (sym a.rest)
+            (epoch_on key n first c report e v q v.steps [] v.prints new.machine (subst (λ (b : Bool). IterationRun c.region v.steps c.machine new.machine [] v.prints (end_of b)) going a.call) going more more_is)

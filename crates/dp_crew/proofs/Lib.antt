@@ -17,6 +17,8 @@ pub mod Recovering
 pub mod Answering
 pub mod Recovered
 pub mod EpochLemmas
+pub mod EpochRuns
 pub mod Starting
 pub mod WholeRegion
 pub mod Crossing
+pub mod rows

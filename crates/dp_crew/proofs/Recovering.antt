@@ -38,7 +38,7 @@ use Rattle.dp_crew.proofs.Printing.{next_prints, onward_prints, closing_prints}
 use Rattle.dp_meaning.proofs.MovedLemmas.{prints-append}
 
 -- the report counts the iteration again where it was begun
-pub record CountedAgain (c : CommittedState) (report more : RegionReport) (cause : Cause) : Type 0 where
+pub record CountedRecovered (c : CommittedState) (report more : RegionReport) (cause : Cause) : Type 0 where
   pub begun : c.machine.steps < c.machine.fuel → (r n : ℕ) (again : List ℕ) (f : ℕ → Cause) → report ≡ report_of r n again f → cause ≡ f c.count → more ≡ report_of r (c.count + 1) (again ++ c.count ∷ []) f
   pub unbegun : c.machine.fuel ≤ c.machine.steps → more ≡ report
 
@@ -86,7 +86,7 @@ module _ (plan : Plan) (first : MachineState) (c : CommittedState) (report : Reg
   front_prints printed (some new iter_end.Fuel s) = ([], recovered_prints new printed (Some region_end.Fuel) s)
   front_prints printed (some new iter_end.Going s) = going_prints new printed s
 
-  module _ (more : RegionReport) (cause : Cause) (again : is_recovered first.program plan (region_run first) c.count ≡ true) (why : cause ≡ cause_of plan first c.count) (q : CountedAgain c report more cause) where
+  module _ (more : RegionReport) (cause : Cause) (again : is_recovered first.program plan (region_run first) c.count ≡ true) (why : cause ≡ cause_of plan first c.count) (q : CountedRecovered c report more cause) where
     told_begun : c.machine.steps < c.machine.fuel → more ≡ report_before plan first (c.count + 1)
     told_begun h =
         let next : suc c.count ≡ c.count + 1 = omega arith in

@@ -8,7 +8,7 @@ use Rattle.dp_meaning.specs.declared.ends.IterEnd.{IterEnd}
 use Rattle.dp_meaning.specs.declared.ends.IterEnd.TheVariants.{Going}
 use Rattle.dp_meaning.specs.MachineState.{next_part, part_at}
 use Rattle.dp_meaning.specs.IterationRun.{IterationRun}
-use Rattle.dp_commit.specs.CommittedState.{CommittedState, count_after, Reexecuted}
+use Rattle.dp_commit.specs.CommittedState.{CommittedState, count_after, RecoversFor}
 use Rattle.dp_crew.specs.Output.{Emits, WritesFront}
 use Rattle.dp_crew.specs.Remade.{Remade, MayPrint, nothing, some}
 use Rattle.dp_crew.proofs.Joins.{alone, iteration_join, under_way}
@@ -64,8 +64,8 @@ pub remade_falls : (mid new : CommittedState) (printed : List ℤ) → Remade mi
 remade_falls mid new printed s = omega (arith, s.some, s.call.moved.steps, s.call.moved.fuel, s.call.stops.1, s.call.stops.2)
 
 -- one call of the committed memory
-pub reexecuted : (turns : ℕ) (old new : CommittedState) (before after : List ℤ) (end : IterEnd) → 0 < turns → (q : Reexecuted turns old new before after end) → Remade old new (prints q.call.events) end
-reexecuted turns old new before after end h q = record { turns = turns; some = h; call = alone old.region turns old.machine new.machine before after end q.call; rest = q.rest }
+pub recovers_for : (turns : ℕ) (old new : CommittedState) (before after : List ℤ) (end : IterEnd) → 0 < turns → (q : RecoversFor turns old new before after end) → Remade old new (prints q.call.events) end
+recovers_for turns old new before after end h q = record { turns = turns; some = h; call = alone old.region turns old.machine new.machine before after end q.call; rest = q.rest }
 
 -- the prints of two calls
 module _ (w a w1 b : List ℤ) (told mid : Option (List ℕ)) (e : Emits (w ++ a) w1 told mid) where

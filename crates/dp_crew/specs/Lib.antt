@@ -5,3 +5,4 @@ pub mod Applied
 pub mod Remade
 pub mod Progress
 pub mod InEpoch
+pub mod EpochRan

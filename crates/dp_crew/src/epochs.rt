@@ -5,7 +5,7 @@ ghost use Rattle.dp_meaning.specs.MachineState.{MachineState};
 ghost use Rattle.dp_pipeline.specs.Programs.{ArePrograms};
 ghost use Rattle.dp_crew.specs.Applied.{HasRoom, left_of};
 ghost use Rattle.dp_crew.specs.Fail.{FaultsAfter};
-ghost use Rattle.dp_crew.specs.InEpoch.{AfterRecovery, IsUnclean, ToBegin, left_by_recovery};
+ghost use Rattle.dp_crew.specs.InEpoch.{AfterRecovery, EpochEnds, IsUnclean, ToBegin, left_by_epoch, left_by_recovery};
 ghost use Rattle.dp_crew.specs.Output.{Streams, to_come};
 ghost use Rattle.dp_crew.specs.Progress.{RegionDone};
 ghost use Rattle.dp_crew.specs.RegionRun.{IsPlanned};
@@ -13,8 +13,8 @@ ghost use Rattle.dp_crew.specs.RegionRun.{IsPlanned};
 use crate::ends::{EpochEnd, RegionEnd};
 use crate::fail::CrewFail;
 use crate::ledger::Ledger;
-use crate::reexecute::reexecute;
-use crate::report::count_again;
+use crate::recover::recover_to_end;
+use crate::report::count_recovered;
 use crate::scope::run_one_epoch;
 use crate::size::CrewSize;
 use dp_base::{Cause, RegionReport, Row};
@@ -60,21 +60,38 @@ pub(crate) fn run_epochs<'p, R: Threads + Wait + Clock + Sync, K: Sink, G: Gate>
         let (after, end) = run_one_epoch(
             rt, alloc, p, plan, input, programs, crew, ledger, sink, gate, tally,
         )?;
+        let (next, end) = recover(alloc, after, end, sink)?;
         match end {
-            EpochEnd::Closed => return Ok((after, RegionEnd::Closed)),
-            EpochEnd::Unclean(cause) => {
-                let (next, end) = recover(alloc, after, cause, sink)?;
-                match end {
-                    Some(end) => return Ok((next, end)),
-                    None => ledger = next,
-                }
-            }
+            Some(end) => return Ok((next, end)),
+            None => ledger = next,
         }
     }
 }
 
-/// Executes the iteration again that isn't clean.
+/// Goes on behind an epoch that ended so: where an iteration isn't clean, it is executed again.
 fn recover<'p, K: Sink>(
+    alloc: Global,
+    ledger: Ledger<'p>,
+    end: EpochEnd,
+    sink: &mut K,
+) -> Result<(Ledger<'p>, Option<RegionEnd>), CrewFail>
+    requires sink { K.faults sink.old < 2 ^ 64 - 1 }
+    requires ended { (plan : Plan) × (first : MachineState) × EpochEnds plan first ledger.committed ledger.report end }
+    ensures faults { FaultsAfter result (K.faults sink.old) (K.faults sink.new) }
+    ensures ok { IfOk result (λ r. (plan : Plan) (first : MachineState) → EpochEnds plan first ledger.entry.committed ledger.entry.report end → AfterRecovery plan first r.0.committed r.0.report r.1) }
+    ensures streams { (plan : Plan) (first : MachineState) → EpochEnds plan first ledger.entry.committed ledger.entry.report end →
+        Streams result (left_by_epoch plan first ledger.entry.waiting ledger.entry.committed.count end) (λ r. left_by_recovery plan first r.0.waiting r.0.committed.count r.1) (K.written sink.old) (K.written sink.new) }
+    ensures counts { IfOk result (λ r. r.0.report.iterations + ledger.entry.report.recovered_count ≡ ledger.entry.report.iterations + r.0.report.recovered_count) }
+    ensures left { IfOk result (λ r. r.1 ≡ None → left_of r.0.committed < left_of ledger.entry.committed) }
+{
+    match end {
+        EpochEnd::Closed => Ok((ledger, Some(RegionEnd::Closed))),
+        EpochEnd::Unclean(cause) => recover_unclean(alloc, ledger, cause, sink),
+    }
+}
+
+/// Executes the iteration again that isn't clean.
+fn recover_unclean<'p, K: Sink>(
     alloc: Global,
     ledger: Ledger<'p>,
     cause: Cause,
@@ -134,9 +151,9 @@ pub(crate) fn recover_iteration<'p, K: Sink>(
 {
     let number = committed.count();
     let begun = committed.steps() < committed.fuel();
-    let end = reexecute(alloc, committed, waiting, sink)?;
+    let end = recover_to_end(alloc, committed, waiting, sink)?;
     if begun {
-        count_again(report, number, cause)?;
+        count_recovered(report, number, cause)?;
     }
     Ok(end)
 }

@@ -1,15 +1,17 @@
 //! What is kept of a region between its epochs.
-ghost use Rattle.std.specs.Prelude.{◌≡◌, ◌<◌, ◌-◌, ◌^◌, [], ℕ, None, IfOk, OnOk};
+ghost use Rattle.std.specs.Prelude.{◌≡◌, ◌<◌, ◌+◌, ◌-◌, ◌^◌, ◌++◌, [], ℕ, length, None, IfOk, OnOk};
 ghost use Rattle.dp_meaning.specs.declared.ends.Part.TheVariants as part;
 ghost use Rattle.dp_meaning.specs.MachineState.{IsAnyRegion, next_part};
+ghost use Rattle.dp_commit.specs.CommittedState.{CarriesNext, IsOpen};
+ghost use Rattle.dp_crew.specs.Applied.{Applied};
 ghost use Rattle.dp_crew.specs.Fail.{FaultsAfter};
 ghost use Rattle.dp_crew.specs.Output.{Streams};
 
 use crate::fail::CrewFail;
 use crate::report::nothing_counted;
-use crate::waiting::flush;
+use crate::waiting::{flush, flush_if_many, wait};
 use dp_base::{RegionReport, Row};
-use dp_commit::Committed;
+use dp_commit::{Clean, Committed, Tally};
 use dp_edge::Sink;
 use dp_meaning::Machine;
 use std::alloc::Global;
@@ -39,6 +41,31 @@ impl<'p> Ledger<'p> {
             report,
             waiting,
         }
+    }
+
+    /// Commits a clean iteration, and lets its prints wait or writes them.
+    pub(crate) fn commit<K: Sink>(
+        &mut self,
+        alloc: Global,
+        clean: Clean,
+        sink: &mut K,
+        tally: &mut Tally,
+    ) -> Result<(), CrewFail>
+        requires sink { K.faults sink.old < 2 ^ 64 - 1 }
+        requires open { IsOpen self.old.committed }
+        requires next { CarriesNext self.old.committed clean }
+        requires tally { tally.old < 2 ^ 64 - 1 }
+        ensures faults { FaultsAfter result (K.faults sink.old) (K.faults sink.new) }
+        ensures ok { OnOk result (Applied clean self.old.committed self.new.committed) }
+        ensures report { OnOk result (self.new.report ≡ record self.old.report { iterations = self.new.committed.count }) }
+        ensures tally { OnOk result (tally.new ≡ tally.old + 1) }
+        ensures few { OnOk result (length self.new.waiting < 4096) }
+        ensures streams { Streams result (self.old.waiting ++ clean.prints) (λ _. self.new.waiting) (K.written sink.old) (K.written sink.new) }
+    {
+        wait(&mut self.waiting, clean.prints())?;
+        self.committed.apply(clean, tally);
+        self.report.iterations = self.committed.count();
+        flush_if_many(alloc, &mut self.waiting, sink)
     }
 
     /// Writes the prints that wait, hands over the report, and gives the machine back.

@@ -10,7 +10,7 @@ use std::alloc::Global;
 const LISTED: usize = 1000;
 
 /// The report of this region before its first iteration.
-pub(crate) fn nothing_counted(alloc: Global, region: u32) -> RegionReport
+pub fn nothing_counted(alloc: Global, region: u32) -> RegionReport
     ensures { result ≡ record { region = region; iterations = 0; recovered_count = 0; recovered = []; causes = [] } }
 {
     RegionReport {
@@ -24,7 +24,7 @@ pub(crate) fn nothing_counted(alloc: Global, region: u32) -> RegionReport
 
 /// Counts an iteration that is executed again for this cause.
 #[tactic(auto, using(crate::proofs::Counting::report_counts))]
-pub(crate) fn count_again(
+pub(crate) fn count_recovered(
     report: &mut RegionReport,
     number: u64,
     cause: Cause,

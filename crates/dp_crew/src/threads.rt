@@ -3,8 +3,8 @@ ghost use Rattle.std.specs.Prelude.{◌≡◌, true};
 
 use dp_base::{NoMemory, Row};
 use dp_edge::Gate;
-use dp_pipeline::{Bell, Pause, Polled, Unit};
-use dp_stop::StopSetter;
+use dp_pipeline::{Bell, Pause, Polled, Unit, bells_of, ring_all};
+use dp_stop::{Stop, StopSetter};
 use std::alloc::Global;
 use std::sync::{Mutex, Wait};
 use std::thread::{JoinHandle, Scope, Threads};
@@ -20,8 +20,19 @@ pub(crate) struct Started<'u> {
     pub(crate) own: Row<Unit<'u>>,
 }
 
+/// A slot for each unit, with the unit in it, a bell for each, and room for as many threads.
+pub(crate) fn seats_of<'u>(
+    alloc: Global,
+    units: Row<Unit<'u>>,
+) -> Result<(Vec<Slot<'u>>, Vec<Bell>, Started<'u>), NoMemory> {
+    let bells = bells_of(alloc, units.as_slice())?;
+    let started = none_started(alloc, units.len())?;
+    let slots = slots_of(alloc, units)?;
+    Ok((slots, bells, started))
+}
+
 /// Room for so many threads or units.
-pub(crate) fn none_started<'u>(alloc: Global, count: usize) -> Result<Started<'u>, NoMemory> {
+fn none_started<'u>(alloc: Global, count: usize) -> Result<Started<'u>, NoMemory> {
     Ok(Started {
         threads: Vec::with_capacity(alloc, count)?,
         own: Row::with_capacity(alloc, count)?,
@@ -29,7 +40,7 @@ pub(crate) fn none_started<'u>(alloc: Global, count: usize) -> Result<Started<'u
 }
 
 /// Lays each unit into a slot of its own.
-pub(crate) fn slots_of<'u>(alloc: Global, units: Row<Unit<'u>>) -> Result<Vec<Slot<'u>>, NoMemory> {
+fn slots_of<'u>(alloc: Global, units: Row<Unit<'u>>) -> Result<Vec<Slot<'u>>, NoMemory> {
     let mut slots = Vec::with_capacity(alloc, units.len())?;
     for unit in units.into_vec() {
         slots.push(Mutex::new(Some(unit)))?;
@@ -74,8 +85,23 @@ fn start_one<'s, 'u, E, R: Wait + Clock + Sync, G: Gate>(
     }
 }
 
+/// Sets the flag, wakes the threads, and waits until each has ended.
+pub(crate) fn end_all<R: Threads + Wait>(
+    rt: &R,
+    mut setter: StopSetter,
+    stop: &Stop,
+    bells: &[Bell],
+    threads: Vec<JoinHandle<()>>,
+)
+    requires { setter.flag ≡ stop.now }
+{
+    setter.set(rt, stop);
+    ring_all(bells);
+    join_all(rt, &setter, threads);
+}
+
 /// Waits until each thread has ended, which those do that the flag was set for.
-pub(crate) fn join_all<R: Threads>(rt: &R, setter: &StopSetter, threads: Vec<JoinHandle<()>>)
+fn join_all<R: Threads>(rt: &R, setter: &StopSetter, threads: Vec<JoinHandle<()>>)
     requires { setter.now.set ≡ true }
 {
     for thread in threads {

@@ -12,7 +12,7 @@ ghost use Rattle.dp_run.specs.steps.Stretches.{AfterRegion, Between, Leads, to_c
 
 use crate::plain::run_plain;
 use dp_base::{End, RegionReport, Row};
-use dp_crew::{CrewFail, CrewSize, RegionEnd, Tally, run_region};
+use dp_crew::{CrewFail, CrewSize, RegionEnd, Tally, nothing_counted, run_region};
 use dp_edge::{Gate, Sink};
 use dp_meaning::Machine;
 use dp_plan::Plan;
@@ -51,13 +51,7 @@ pub(crate) fn run_stretch<'p, R: Threads + Wait + Clock + Sync, K: Sink, G: Gate
     ensures front { OnErr result (WritesFront (prints_bytes (to_come machine.entry)) (K.written sink.old) (K.written sink.new)) }
     ensures tally { OnOk result (tally.new ≡ tally.old + committed_count program.now plan.now (source_run program.now input.now machine.entry.fuel)) }
 {
-    let mut told = RegionReport {
-        region: plan.region,
-        iterations: 0,
-        recovered_count: 0,
-        recovered: Row::new(alloc),
-        causes: Row::new(alloc),
-    };
+    let mut told = nothing_counted(alloc, plan.region);
     let (next, end) = run_region(
         rt, alloc, program, plan, input, machine, crew, &mut told, sink, gate, tally,
     )?;

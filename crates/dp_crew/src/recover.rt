@@ -20,7 +20,7 @@ use std::alloc::Global;
 const TURNS: u32 = 65536;
 
 /// Executes the current iteration to its end, and lets its prints wait or writes them. With `None` the next one comes.
-pub(crate) fn reexecute<'p, K: Sink>(
+pub(crate) fn recover_to_end<'p, K: Sink>(
     alloc: Global,
     committed: &mut Committed<'p>,
     waiting: &mut Row<i64>,

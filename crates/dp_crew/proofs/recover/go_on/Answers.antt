@@ -4,14 +4,14 @@ use Rattle.dp_tree.specs.Trace.{prints}
 use Rattle.dp_crew.specs.Output.{Emits, WritesFront}
 use Rattle.dp_crew.specs.Remade.{some}
 use Rattle.dp_crew.proofs.Answering.{on_err}
-use Rattle.dp_crew.proofs.RemadeLemmas.{reexecuted}
-use Rattle.dp_crew.proofs.reexecute.go_on.Goals as goal
+use Rattle.dp_crew.proofs.RemadeLemmas.{recovers_for}
+use Rattle.dp_crew.proofs.recover.go_on.Goals as goal
 
 pub returns-clause-ok : goal.returns-clause-ok
 returns-clause-ok g c =
     let q = c.in_ok-end.ensures.runs in (
       prints q.call.events,
-      reexecuted 65536 c.args.committed.now c.recover.new.self c.args.waiting.now c.recover.new.out c.in_ok-end.end (omega arith) q,
+      recovers_for 65536 c.args.committed.now c.recover.new.self c.args.waiting.now c.recover.new.out c.in_ok-end.end (omega arith) q,
       subst (λ (xs : List ℤ). Emits xs c.flush_if_many.new.waiting (g.K.Sink.written c.args.sink.now) (g.K.Sink.written c.flush_if_many.new.sink)) q.call.moved.prints c.in_ok-flush_if_many.ensures.streams,
     )
 
@@ -20,6 +20,6 @@ returns-in_err-flush_if_many-clause-err g c =
     let q = c.in_ok-end.ensures.runs in
     on_err c.from_residual-in_err-flush_if_many.result _ (
       prints q.call.events,
-      some c.recover.new.self c.in_ok-end.end (reexecuted 65536 c.args.committed.now c.recover.new.self c.args.waiting.now c.recover.new.out c.in_ok-end.end (omega arith) q),
+      some c.recover.new.self c.in_ok-end.end (recovers_for 65536 c.args.committed.now c.recover.new.self c.args.waiting.now c.recover.new.out c.in_ok-end.end (omega arith) q),
       subst (λ (xs : List ℤ). WritesFront (prints_bytes xs) (g.K.Sink.written c.args.sink.now) (g.K.Sink.written c.flush_if_many.new.sink)) q.call.moved.prints c.in_err-flush_if_many.ensures.streams,
     )
