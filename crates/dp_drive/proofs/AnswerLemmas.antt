@@ -1,5 +1,5 @@
 -- From the parts of the program to the headline.
-use Rattle.std.proofs.Common.{◌≡◌, refl, sym, ◌∙◌, ap, subst, arith, inl, inr, Bool, Some, ℕ, ◌<◌, ◌≤◌, List, Option, ℤ, Result, Ok, Err, IfOk, OnOk, None, ◌≢◌, ◌+◌, ◌∷◌, [], ◌++◌, option_map}
+use Rattle.std.proofs.Common.{◌≡◌, refl, sym, ◌∙◌, ap, subst, Bool, Some, ℕ, List, Option, ℤ, Result, Ok, Err, IfOk, ◌+◌, ◌∷◌, [], ◌++◌, option_map}
 use Rattle.dp_tree.specs.declared.Program.{Program}
 use Rattle.dp_tree.specs.Checked.{IsChecked}
 use Rattle.dp_tree.specs.Inlined.{IsInlined}
@@ -10,9 +10,8 @@ use Rattle.dp_drive.proofs.accepted.Accepted.{read_checked, inlined_read}
 use Rattle.dp_drive.proofs.accepted.SameText.{same_end, same_text}
 use Rattle.dp_drive.specs.declared.refusal.Role.{Role}
 use Rattle.dp_drive.specs.declared.refusal.Refusal.{Refusal}
-use Rattle.dp_drive.specs.declared.refusal.Refusal.TheVariants.{Words, Byte, Syntax, Name, InputWord, PlanLine, PlanRule, ProfileLine, Limit}
+use Rattle.dp_drive.specs.declared.refusal.Refusal.TheVariants.{Words}
 use Rattle.dp_crew.specs.declared.fail.CrewFail.{CrewFail}
-use Rattle.dp_crew.specs.declared.fail.CrewFail.TheVariants.{Write, NoMemory}
 use Rattle.dp_base.specs.declared.NoMemory.{NoMemory as Wanting}
 use Rattle.dp_drive.specs.declared.texts.Texts.{Texts}
 use Rattle.dp_drive.specs.declared.texts.Texts.TheVariants as texts
@@ -28,16 +27,14 @@ use Rattle.dp_words.specs.Words.{Asked, Asks, AsksNothing, ToList, ToPlan, ToRun
 use Rattle.dp_words.specs.Run.{Run, Least}
 use Rattle.dp_words.specs.Planning.{Planning}
 use Rattle.dp_plan.specs.declared.Plan.{Plan}
-use Rattle.dp_crew.specs.Fail.{FaultsAfter}
 use Rattle.dp_run.specs.RunText.{source_run, trace_text, committed_in_all}
-use Rattle.dp_drive.specs.Status.{status_after}
 use Rattle.dp_drive.specs.RunText.{run_text, status_of}
 use Rattle.dp_drive.specs.Roles.{ByInput, ByPlans, ByProgram, Contents, Input, NamedProgram, NoPlans, Plans, ProgramOf, SomePlans, TextsGive, Unnamed, program_in}
-use Rattle.dp_drive.specs.Answer.{NotTaken, Done, OfProgram, OfInput, OfPlans, OfRun, run_fuel}
+use Rattle.dp_drive.specs.Answer.{NotTaken, Done, OfProgram, OfInput, OfPlans, OfRun}
 use Rattle.dp_drive.specs.Answer as answers
-use Rattle.dp_drive.specs.Headline.{Answered, IsCounted, IsEnd, Whole, Short, Nothing, ReadFailed, WriteFailed, OfAnswer, OfFailedRead}
-use Rattle.dp_drive.specs.Carried.{Names, Finishes, LoadsTexts, Carried, Starved}
-use Rattle.dp_drive.specs.Carried as carried
+use Rattle.dp_drive.specs.Headline.{IsCounted}
+use Rattle.dp_drive.specs.steps.Carried.{Names, Finishes, LoadsTexts, Carried}
+use Rattle.dp_drive.specs.steps.Carried as carried
 
 -- a program under a name
 named_program : {contents : Contents} {name : List ℕ} {read : Result Program Refusal} → ReadsProgram contents name read → ProgramOf contents (Some name) read
@@ -151,104 +148,3 @@ module _ (words : List (List ℕ)) (contents : Contents) (faults after : ℕ) (f
   -- .. on the way behind a text that was read
   pub carry_on : (begin : ℕ) (began : Names) (result : Result ℕ CrewFail) → faults ≡ begin → failed ≡ began → Carried words contents faults after failed fails told tells result → Carried words contents begin after began fails told tells result
   carry_on begin began result e f h = subst (λ (n : ℕ). Carried words contents n after began fails told tells result) e (subst (λ (names : Names). Carried words contents faults after names fails told tells result) f h)
-
-  same_and_less : {A : Type 0} → after ≡ faults → faults < after → A
-  same_and_less e less = absurd (omega (arith, e, less))
-
-  pub whole_answer : (r : Result ℕ CrewFail) (status old new : ℕ) → status ≡ status_after r → Carried words contents faults after failed fails told tells r → FaultsAfter r old new → after ≡ faults → new ≡ old →
-      Answered words contents told tells status
-  whole_answer r status old new e carry sink same others = rw e (by r carry sink)
-    where
-      by : (r : Result ℕ CrewFail) → Carried words contents faults after failed fails told tells r → FaultsAfter r old new → Answered words contents told tells (status_after r)
-      by (Ok s) (carried.OfAnswer t bytes answer f g h) sink = rw h.0 (Whole t bytes answer h.1)
-      by (Ok s) (carried.OfFailedRead which name read less g h) sink = same_and_less same less
-      by (Ok s) (Starved clash f g h) sink = absurd (cc clash)
-      by (Err Write) carry sink = absurd (omega (arith, sink, others))
-      by (Err NoMemory) (carried.OfAnswer t bytes answer f g h) sink = Short t bytes answer h
-      by (Err NoMemory) (carried.OfFailedRead which name read less g h) sink = same_and_less same less
-      by (Err NoMemory) (Starved clash f g h) sink = Nothing h
-
-  pub failed_read : (r : Result ℕ CrewFail) (status old new : ℕ) → status ≡ status_after r → Carried words contents faults after failed fails told tells r → FaultsAfter r old new → faults < after → new ≡ old →
-      ReadFailed words contents failed fails told tells status
-  failed_read r status old new e carry sink less others = rw e (by r carry sink)
-    where
-      by : (r : Result ℕ CrewFail) → Carried words contents faults after failed fails told tells r → FaultsAfter r old new → ReadFailed words contents failed fails told tells (status_after r)
-      by r (carried.OfAnswer t bytes answer f g h) sink = same_and_less f less
-      by (Ok s) (carried.OfFailedRead which name read more g h) sink = record { role = which; name = name; is_read = read; names = g; written = inl h }
-      by (Err Write) (carried.OfFailedRead which name read more g h) sink = absurd (omega (arith, sink, others))
-      by (Err NoMemory) (carried.OfFailedRead which name read more g h) sink = record { role = which; name = name; is_read = read; names = g; written = inr (refl, h) }
-      by r (Starved is f g h) sink = same_and_less f less
-
-  pub failed_write : (r : Result ℕ CrewFail) (status old new : ℕ) → status ≡ status_after r → Carried words contents faults after failed fails told tells r → FaultsAfter r old new → old < new →
-      (status ≡ 6) × WriteFailed words contents faults after failed fails told tells
-  failed_write (Ok s) status old new e carry sink rose = absurd (omega (arith, sink, rose))
-  failed_write (Err NoMemory) status old new e carry sink rose = absurd (omega (arith, sink, rose))
-  failed_write (Err Write) status old new e (carried.OfAnswer t bytes answer f g h) sink rose = (e, OfAnswer t bytes answer f g h)
-  failed_write (Err Write) status old new e (carried.OfFailedRead which name read less g h) sink rose = (e, OfFailedRead which name read less g h)
-  failed_write (Err Write) status old new e (Starved clash f g h) sink rose = absurd (cc clash)
-
-  pub names_kept : (r : Result ℕ CrewFail) → Carried words contents faults after failed fails told tells r → after ≡ faults → fails ≡ failed
-  names_kept r (carried.OfAnswer s bytes answer e f g) same = f
-  names_kept r (carried.OfFailedRead which name read less f g) same = same_and_less same less
-  names_kept r (Starved is e f g) same = f
-
-  pub faults_kept : (r : Result ℕ CrewFail) → Carried words contents faults after failed fails told tells r → faults ≤ after
-  faults_kept r (carried.OfAnswer s bytes answer e f g) = omega (arith, e)
-  faults_kept r (carried.OfFailedRead which name read less f g) = omega (arith, less)
-  faults_kept r (Starved is e f g) = omega (arith, e)
-
--- a sink's count of faults doesn't fall
-pub sink_kept : (r : Result ℕ CrewFail) (old new : ℕ) → FaultsAfter r old new → old ≤ new
-sink_kept (Ok s) old new h = omega (arith, h)
-sink_kept (Err Write) old new h = omega (arith, h)
-sink_kept (Err NoMemory) old new h = omega (arith, h)
-
--- other statuses than a run's
-no_end_by : (n : ℕ) → 1 < n → n ≢ 8 → IsEnd n → ⊥
-no_end_by n more other (inl h) = omega (arith, more, h)
-no_end_by n more other (inr (inl h)) = omega (arith, more, h)
-no_end_by n more other (inr (inr h)) = other h
-
-refusal_is_no_end : (refusal : Refusal) → IsEnd (refusal_status refusal) → ⊥
-refusal_is_no_end Words h = no_end_by 2 (omega arith) (λ e. omega (arith, e)) h
-refusal_is_no_end (Byte place) h = no_end_by 3 (omega arith) (λ e. omega (arith, e)) h
-refusal_is_no_end (Syntax token) h = no_end_by 3 (omega arith) (λ e. omega (arith, e)) h
-refusal_is_no_end (Name offence line) h = no_end_by 3 (omega arith) (λ e. omega (arith, e)) h
-refusal_is_no_end (InputWord word) h = no_end_by 4 (omega arith) (λ e. omega (arith, e)) h
-refusal_is_no_end (PlanLine line) h = no_end_by 4 (omega arith) (λ e. omega (arith, e)) h
-refusal_is_no_end (PlanRule rule site) h = no_end_by 4 (omega arith) (λ e. omega (arith, e)) h
-refusal_is_no_end (ProfileLine line) h = no_end_by 4 (omega arith) (λ e. omega (arith, e)) h
-refusal_is_no_end (Limit quantity count) h = no_end_by 9 (omega arith) (λ e. omega (arith, e)) h
-
--- a result whose status is this one
-status_is : (s : ℕ) (bytes : List ℕ) (told tells : Option (List ℕ)) (result : Result ℕ CrewFail) (P : ℕ → Type 0) → P s → Finishes s bytes told tells result → IfOk result P
-status_is s bytes told tells (Ok answered) P h finishes = rw finishes.0 h
-status_is s bytes told tells (Err fail) P h finishes = tt
-
--- where no run ended, nothing is said of the tally
-module _ (words : List (List ℕ)) (contents : Contents) (before now : ℕ) (told tells : Option (List ℕ)) (result : Result ℕ CrewFail) where
-  pub refused_counts : (refusal : Refusal) → Finishes (refusal_status refusal) (refusal_line refusal) told tells result → IfOk result (IsCounted words contents before now)
-  refused_counts refusal h = status_is (refusal_status refusal) (refusal_line refusal) told tells result (IsCounted words contents before now) (λ asked fuel asks some end. absurd (refusal_is_no_end refusal end)) h
-
-  pub failed_counts : (which : Role) → Finishes 5 (failed_read_line which) told tells result → IfOk result (IsCounted words contents before now)
-  failed_counts which h = status_is 5 (failed_read_line which) told tells result (IsCounted words contents before now) (λ asked fuel asks some end. absurd (no_end_by 5 (omega arith) (λ e. omega (arith, e)) end)) h
-
-all_results : (result : Result ℕ CrewFail) (P : ℕ → Type 0) → ((s : ℕ) → P s) → IfOk result P
-all_results (Ok s) P h = h s
-all_results (Err fail) P h = tt
-
--- nor where no run was asked for
-pub no_run_counts : (words : List (List ℕ)) (contents : Contents) (before now : ℕ) (result : Result ℕ CrewFail) → ((asked : Asked) (fuel : ℕ) → Asks words asked → run_fuel asked ≡ Some fuel → ⊥) → IfOk result (IsCounted words contents before now)
-no_run_counts words contents before now result none = all_results result (IsCounted words contents before now) (λ s asked fuel asks some end. absurd (none asked fuel asks some))
-
--- the status after a result: those of failures are no ends
-pub counted_after : (words : List (List ℕ)) (contents : Contents) (before now status : ℕ) (result : Result ℕ CrewFail) → status ≡ status_after result → IfOk result (IsCounted words contents before now) → IsCounted words contents before now status
-counted_after words contents before now status (Ok s) e h = rw e h
-counted_after words contents before now status (Err Write) e h = λ asked fuel asks some end. absurd (no_end_by 6 (omega arith) (λ e. omega (arith, e)) (rw e at end))
-counted_after words contents before now status (Err NoMemory) e h = λ asked fuel asks some end. absurd (no_end_by 7 (omega arith) (λ e. omega (arith, e)) (rw e at end))
-
--- a run that was loaded: where it ended, the tally grew by what was committed of it
-pub run_counts : (words : List (List ℕ)) (contents : Contents) (faults after : ℕ) (failed fails : Names) (run : Run) (q : Program) (numbers : List ℤ) (plans : List Plan) (before now : ℕ) (result : Result ℕ CrewFail) →
-    Asks words (ToRun run) → LoadsTexts contents run faults after failed fails (texts.Run q numbers plans) → OnOk result (now ≡ before + committed_in_all q plans (source_run q numbers run.fuel)) → IfOk result (IsCounted words contents before now)
-run_counts words contents faults after failed fails run q numbers plans before now (Ok status) asks texts h = count_run words contents faults after failed fails None None run q numbers plans before now status asks texts h
-run_counts words contents faults after failed fails run q numbers plans before now (Err fail) asks texts h = tt

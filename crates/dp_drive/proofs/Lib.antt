@@ -3,6 +3,8 @@ pub mod ReadPlans
 pub mod LoadLemmas
 pub mod TextsLemmas
 pub mod AnswerLemmas
+pub mod HeadlineLemmas
+pub mod CountLemmas
 pub mod MadeLemmas
 pub mod ProfilingLemmas
 pub mod definite

@@ -9,14 +9,14 @@ use Rattle.dp_tree.specs.declared.raw.RawProgram.{RawProgram}
 use Rattle.dp_lex.specs.Tokens.{RefusedAt}
 use Rattle.dp_parse.specs.Parses.{ParsesAs, NestsTooDeep, DerivesNothing}
 use Rattle.dp_check.specs.declared.fail.CheckFail.{CheckFail}
-use Rattle.dp_check.specs.Verdict.{verdict}
+use Rattle.dp_check.specs.CheckAnswer.{check_answer}
 use Rattle.dp_inline.specs.declared.fail.InlineFail.{InlineFail}
-use Rattle.dp_inline.specs.Verdict.{verdict as size_verdict}
+use Rattle.dp_inline.specs.InlineAnswer.{inline_answer}
 use Rattle.dp_inline.proofs.MeaningLemmas.{expands}
 use Rattle.dp_edge.specs.Input.{numbers_of}
 use Rattle.dp_drive.specs.declared.refusal.Refusal.{Refusal}
 use Rattle.dp_drive.specs.declared.refusal.Refusal.TheVariants.{Byte, Syntax, Limit}
-use Rattle.dp_drive.specs.Program.{Reads, ReadsAs, TooLong, NoToken, TooDeep, NoTree, Judged, sized, judged, expanded, refusal_of}
+use Rattle.dp_drive.specs.Program.{Reads, ReadsAs, TooLong, NoToken, TooDeep, NoTree, Checked, sized, checked_read, expanded, refusal_of}
 use Rattle.dp_drive.specs.Inputs.{or_refused}
 use Rattle.dp_drive.specs.Roles.{Contents, Holds, ReadsInput}
 use Rattle.dp_drive.specs.Loading.{LoadsProgram}
@@ -44,18 +44,18 @@ no_tree text token short h = NoTree token short h
 
 pub ruleset unread_texts = (no_token, too_deep, no_tree)
 
-pub read : (text : List ℕ) (raw : RawProgram) (read : Result Program Refusal) → length text ≤ 65536 → ParsesAs text raw → read ≡ expanded (judged (verdict raw)) → ReadsAs text read
-read text raw o short h e = record { source = judged (verdict raw); reads = Judged raw short h; is = e }
+pub read : (text : List ℕ) (raw : RawProgram) (read : Result Program Refusal) → length text ≤ 65536 → ParsesAs text raw → read ≡ expanded (checked_read (check_answer raw)) → ReadsAs text read
+read text raw o short h e = record { source = checked_read (check_answer raw); reads = Checked raw short h; is = e }
 
 pub unread : (text : List ℕ) (refusal : Refusal) → Reads text (Err refusal) → ReadsAs text (Err refusal)
 unread text refusal h = record { source = Err refusal; reads = h; is = refl }
 
-pub ruleset judged_texts = (read, unread, lengths, exits)
+pub ruleset checked_texts = (read, unread, lengths, exits)
 
-pub offending : (raw : RawProgram) (fail : CheckFail) (refusal : Refusal) → verdict raw ≡ Err fail → refusal ≡ refusal_of fail → Err refusal ≡ expanded (judged (verdict raw))
-offending raw fail refusal is e = ap Err e ∙ sym (ap (λ (v : Result Program CheckFail). expanded (judged v)) is)
+pub offending : (raw : RawProgram) (fail : CheckFail) (refusal : Refusal) → check_answer raw ≡ Err fail → refusal ≡ refusal_of fail → Err refusal ≡ expanded (checked_read (check_answer raw))
+offending raw fail refusal is e = ap Err e ∙ sym (ap (λ (v : Result Program CheckFail). expanded (checked_read v)) is)
 
-pub expansion : (p q : Program) → size_verdict p ≡ Ok q → Ok q ≡ expanded (sized p (size_verdict p))
+pub expansion : (p q : Program) → inline_answer p ≡ Ok q → Ok q ≡ expanded (sized p (inline_answer p))
 expansion p q h = ap Ok (expands p q h) ∙ sym (ap (λ (v : Result Program InlineFail). expanded (sized p v)) h)
 
 pub ruleset expansions = (expansion)

@@ -27,8 +27,8 @@ use Rattle.dp_drive.specs.Roles.{Automatic, ByProgram, Contents, MadeProgram, No
 use Rattle.dp_drive.specs.Answer.{Done, OfRun}
 use Rattle.dp_drive.specs.Answer as answers
 use Rattle.dp_drive.specs.Headline.{IsCounted}
-use Rattle.dp_drive.specs.Carried.{Names, Finishes, Carried}
-use Rattle.dp_drive.specs.Carried as carried
+use Rattle.dp_drive.specs.steps.Carried.{Names, Finishes, Carried}
+use Rattle.dp_drive.specs.steps.Carried as carried
 use Rattle.dp_drive.proofs.accepted.Accepted.{read_checked, inlined_read}
 use Rattle.dp_drive.proofs.AnswerLemmas.{finishes_source}
 

@@ -20,8 +20,8 @@ use Rattle.dp_drive.specs.RunText.{status_of}
 use Rattle.dp_drive.specs.Roles.{ByInput, Contents, Input, NamedProgram, NoPlans, ProgramOf}
 use Rattle.dp_drive.specs.Answer.{Done, OfInput}
 use Rattle.dp_drive.specs.Answer as answers
-use Rattle.dp_drive.specs.Carried.{Names, Finishes, Carried}
-use Rattle.dp_drive.specs.Carried as carried
+use Rattle.dp_drive.specs.steps.Carried.{Names, Finishes, Carried}
+use Rattle.dp_drive.specs.steps.Carried as carried
 use Rattle.dp_drive.proofs.TextsLemmas.{Source, source_of}
 use Rattle.dp_drive.proofs.AnswerLemmas.{finishes_as}
 use Rattle.dp_drive.proofs.accepted.Accepted.{read_checked, inlined_read}

@@ -21,7 +21,7 @@ use Rattle.dp_drive.specs.Roles.{Contents, ReadsInput, Input, Named, Profiled, N
 use Rattle.dp_drive.specs.Answer.{named_in, role_of}
 use Rattle.dp_drive.specs.Program.{expanded}
 use Rattle.dp_drive.specs.Loading.{ReadsProgram, LoadsProgram, LoadsPlans, LoadsProfile, Loads, FaultsAfterLoad, names_after, Gives}
-use Rattle.dp_drive.specs.Carried.{Names, with_name, LoadsTexts, Loaded as LoadedTexts, ProgramRefused, InputRefused, PlansRefused, ProgramFailed, InputFailed, PlansFailed}
+use Rattle.dp_drive.specs.steps.Carried.{Names, with_name, LoadsTexts, Loaded as LoadedTexts, ProgramRefused, InputRefused, PlansRefused, ProgramFailed, InputFailed, PlansFailed}
 
 same_names : (names : Names) → option_map (λ all. all) names ≡ names
 same_names None = refl

@@ -10,6 +10,4 @@ pub mod RunText
 pub mod Made
 pub mod Refusal
 pub mod Loading
-pub mod Carried
-pub mod Runs
-pub mod Status
+pub mod steps

@@ -9,11 +9,11 @@ use Rattle.dp_tree.specs.declared.raw.RawProgram.{RawProgram}
 use Rattle.dp_parse.specs.Parses.{ParsesAs, NestsTooDeep, DerivesNothing}
 use Rattle.dp_check.specs.declared.fail.CheckFail.{CheckFail}
 use Rattle.dp_check.specs.declared.fail.CheckFail.TheVariants as check
-use Rattle.dp_check.specs.Verdict.{verdict}
+use Rattle.dp_check.specs.CheckAnswer.{check_answer}
 use Rattle.dp_calls.specs.Expand.{expand}
 use Rattle.dp_inline.specs.declared.fail.InlineFail.{InlineFail}
 use Rattle.dp_inline.specs.declared.fail.InlineFail.TheVariants as inline
-use Rattle.dp_inline.specs.Verdict.{verdict as size_verdict}
+use Rattle.dp_inline.specs.InlineAnswer.{inline_answer}
 use Rattle.dp_drive.specs.declared.refusal.Offence.TheVariants as offence
 use Rattle.dp_drive.specs.declared.refusal.Refusal.{Refusal}
 use Rattle.dp_drive.specs.declared.refusal.Refusal.TheVariants.{Byte, Syntax, Name, Limit}
@@ -40,9 +40,9 @@ sized p (Ok q) = Ok p
 sized p (Err fail) = Err (size_refusal fail)
 
 -- what a tree is read as
-abbrev pub judged : Result Program CheckFail → Result Program Refusal
-judged (Ok p) = sized p (size_verdict p)
-judged (Err fail) = Err (refusal_of fail)
+abbrev pub checked_read : Result Program CheckFail → Result Program Refusal
+checked_read (Ok p) = sized p (inline_answer p)
+checked_read (Err fail) = Err (refusal_of fail)
 
 -- The text is read as this program, or refused for the first of the causes that stands, in their order:
 -- its length, a place where no token begins, a depth, the grammar, a name or a count, a size.
@@ -51,7 +51,7 @@ pub data Reads (text : List ℕ) : Result Program Refusal → Type 0 where
   NoToken : (place : ℕ) → length text ≤ PROGRAM_BYTES → RefusedAt text place → Reads text (Err (Byte place))
   TooDeep : (quantity : Quantity) (count : ℕ) → length text ≤ PROGRAM_BYTES → NestsTooDeep text quantity count → Reads text (Err (Limit quantity count))
   NoTree : (token : ℕ) → length text ≤ PROGRAM_BYTES → DerivesNothing text token → Reads text (Err (Syntax token))
-  Judged : (raw : RawProgram) → length text ≤ PROGRAM_BYTES → ParsesAs text raw → Reads text (judged (verdict raw))
+  Checked : (raw : RawProgram) → length text ≤ PROGRAM_BYTES → ParsesAs text raw → Reads text (checked_read (check_answer raw))
 
 -- what is run: the program with its calls expanded
 abbrev pub expanded : Result Program Refusal → Result Program Refusal

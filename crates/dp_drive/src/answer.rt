@@ -4,9 +4,9 @@ ghost use Rattle.dp_report.specs.SiteText.{site_bytes};
 ghost use Rattle.dp_crew.specs.Fail.{FaultsAfter};
 ghost use Rattle.dp_words.specs.Words.{Asks, ToList, ToRun};
 ghost use Rattle.dp_words.specs.Run.{RunWithin, shown};
-ghost use Rattle.dp_drive.specs.Headline.{Answered, IsCounted, ReadFailed, WriteFailed};
-ghost use Rattle.dp_drive.specs.Carried.{Carried, Finishes};
-ghost use Rattle.dp_drive.specs.Status.{status_after};
+ghost use Rattle.dp_drive.specs.Headline.{Drives, IsCounted};
+ghost use Rattle.dp_drive.specs.steps.Carried.{Carried, Finishes};
+ghost use Rattle.dp_drive.specs.steps.Status.{status_after};
 
 use crate::load::{Loaded, load_program};
 use crate::made::answer_gen;
@@ -44,26 +44,14 @@ pub fn drive<R: Threads + Wait + Clock + Sync, S: Shelf, K: Sink, G: Gate>(
     requires sink { K.faults sink.old < 2 ^ 64 - 1 }
     requires tally { tally.old < 2 ^ 63 }
 
-    // No fault: the whole answer was written, or a front of it where memory was wanting.
-    ensures answered { S.faults shelf.new ≡ S.faults shelf.old → K.faults sink.new ≡ K.faults sink.old →
-        Answered (map string_bytes words.now) (S.contents shelf.old) (K.written sink.old) (K.written sink.new) result }
-
-    // A failed read: its line, and the one new failed name is the one that the words give.
-    ensures read_failed { S.faults shelf.old < S.faults shelf.new → K.faults sink.new ≡ K.faults sink.old →
-        ReadFailed (map string_bytes words.now) (S.contents shelf.old) (S.failed_names shelf.old) (S.failed_names shelf.new) (K.written sink.old) (K.written sink.new) result }
-
-    // A failed write: nothing is written after it.
-    ensures write_failed { K.faults sink.old < K.faults sink.new →
-        (result ≡ 6) × WriteFailed (map string_bytes words.now) (S.contents shelf.old) (S.faults shelf.old) (S.faults shelf.new) (S.failed_names shelf.old) (S.failed_names shelf.new) (K.written sink.old) (K.written sink.new) }
+    // From the outside before to the outside after: the answer to the words, or what a failed read or write leaves of it.
+    ensures drives { Drives (map string_bytes words.now)
+        (record { contents = S.contents shelf.old; failed_reads = S.faults shelf.old; failed_names = S.failed_names shelf.old; written = K.written sink.old; failed_writes = K.faults sink.old })
+        (record { contents = S.contents shelf.new; failed_reads = S.faults shelf.new; failed_names = S.failed_names shelf.new; written = K.written sink.new; failed_writes = K.faults sink.new })
+        result }
 
     // A run that was answered: the tally grew by the iterations that regions began, less those that were executed again.
     ensures counted { IsCounted (map string_bytes words.now) (S.contents shelf.old) tally.old tally.new result }
-
-    // What the shelf holds stays, and no count of faults falls.
-    ensures failed_names { S.faults shelf.new ≡ S.faults shelf.old → S.failed_names shelf.new ≡ S.failed_names shelf.old }
-    ensures contents { S.contents shelf.new ≡ S.contents shelf.old }
-    ensures shelf_faults { S.faults shelf.old ≤ S.faults shelf.new }
-    ensures sink_faults { K.faults sink.old ≤ K.faults sink.new }
 {
     final_status(answer(rt, alloc, words, shelf, sink, gate, tally))
 }

@@ -7,8 +7,8 @@ ghost use Rattle.dp_run.specs.Given.{AreGiven};
 ghost use Rattle.dp_words.specs.Words.{Asks, ToMake};
 ghost use Rattle.dp_words.specs.Made.{MadeWithin};
 ghost use Rattle.dp_drive.specs.Roles.{Contents};
-ghost use Rattle.dp_drive.specs.Carried.{Carried, Names};
-ghost use Rattle.dp_drive.specs.Runs.{Runs};
+ghost use Rattle.dp_drive.specs.steps.Carried.{Carried, Names};
+ghost use Rattle.dp_drive.specs.steps.Runs.{Runs};
 ghost use Rattle.dp_drive.specs.Headline.{IsCounted};
 ghost use Rattle.dp_drive.specs.Made.{made_line};
 

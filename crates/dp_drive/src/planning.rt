@@ -10,7 +10,7 @@ ghost use Rattle.dp_words.specs.Values.{OptionsWithin};
 ghost use Rattle.dp_words.specs.Run.{Least};
 ghost use Rattle.dp_words.specs.Planning.{shown_planning};
 ghost use Rattle.dp_drive.specs.Roles.{Plans, Profiled};
-ghost use Rattle.dp_drive.specs.Carried.{Carried, Finishes};
+ghost use Rattle.dp_drive.specs.steps.Carried.{Carried, Finishes};
 ghost use Rattle.dp_drive.specs.Loading.{Gives, IfText, LoadsProgram};
 ghost use Rattle.dp_drive.specs.Plans.{MakesPlans};
 

@@ -6,7 +6,7 @@ ghost use Rattle.dp_profile.specs.WrittenText.{profile_text};
 ghost use Rattle.dp_crew.specs.Fail.{FaultsAfter};
 ghost use Rattle.dp_words.specs.Words.{Asks, ToProfile};
 ghost use Rattle.dp_words.specs.Profiling.{shown_profiling};
-ghost use Rattle.dp_drive.specs.Carried.{Carried, Finishes};
+ghost use Rattle.dp_drive.specs.steps.Carried.{Carried, Finishes};
 ghost use Rattle.dp_drive.specs.Loading.{LoadsProgram};
 ghost use Rattle.dp_drive.specs.RunText.{status_of};
 

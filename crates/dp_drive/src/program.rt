@@ -4,10 +4,10 @@ ghost use Rattle.std.specs.List.{list_all};
 ghost use Rattle.dp_tree.specs.Checked.{IsChecked};
 ghost use Rattle.dp_parse.specs.Parses.{Parses};
 ghost use Rattle.dp_check.specs.Checked.{breaks_fit, has_length};
-ghost use Rattle.dp_check.specs.Verdict.{verdict};
+ghost use Rattle.dp_check.specs.CheckAnswer.{check_answer};
 ghost use Rattle.dp_check.specs.declared.fail.CheckFail.TheVariants as failed;
-ghost use Rattle.dp_inline.specs.Verdict.{verdict as size_verdict};
-ghost use Rattle.dp_drive.specs.Program.{Reads, ReadsAs, refusal_of, sized, judged, expanded};
+ghost use Rattle.dp_inline.specs.InlineAnswer.{inline_answer};
+ghost use Rattle.dp_drive.specs.Program.{Reads, ReadsAs, refusal_of, sized, checked_read, expanded};
 
 use crate::refusal::{Offence, Refusal};
 use dp_base::NoMemory;
@@ -18,13 +18,13 @@ use dp_tree::{Program, RawProgram};
 use std::alloc::Global;
 
 /// The text's program with its calls expanded, or why it is refused.
-#[tactic(auto, using(crate::proofs::LoadLemmas::judged_texts))]
+#[tactic(auto, using(crate::proofs::LoadLemmas::checked_texts))]
 pub fn read_program(alloc: Global, text: &[u8]) -> Result<Result<Program, Refusal>, NoMemory>
     requires { length text.now ≤ 65536 }
     ensures { IfOk result (ReadsAs text.now) }
 {
     match parse(alloc, text) {
-        Ok(raw) => judge(alloc, &raw),
+        Ok(raw) => check_tree(alloc, &raw),
         Err(fail) => Ok(Err(unread(fail)?)),
     }
 }
@@ -43,10 +43,10 @@ fn unread(fail: ParseFail) -> Result<Refusal, NoMemory>
 }
 
 /// The tree's program with its calls expanded, where no name offends and no size is above its limit.
-fn judge(alloc: Global, raw: &RawProgram) -> Result<Result<Program, Refusal>, NoMemory>
+fn check_tree(alloc: Global, raw: &RawProgram) -> Result<Result<Program, Refusal>, NoMemory>
     requires lengths { list_all has_length raw.now.items ≡ true }
     requires exits { breaks_fit raw.now ≡ true }
-    ensures { IfOk result (λ read. read ≡ expanded (judged (verdict raw.now))) }
+    ensures { IfOk result (λ read. read ≡ expanded (checked_read (check_answer raw.now))) }
 {
     match check(alloc, raw) {
         Ok(program) => expand_calls(alloc, &program),
@@ -75,7 +75,7 @@ fn offending(fail: CheckFail) -> Result<Refusal, NoMemory>
 #[tactic(auto, using(crate::proofs::LoadLemmas::expansions))]
 fn expand_calls(alloc: Global, program: &Program) -> Result<Result<Program, Refusal>, NoMemory>
     requires { IsChecked program.now }
-    ensures { IfOk result (λ read. read ≡ expanded (sized program.now (size_verdict program.now))) }
+    ensures { IfOk result (λ read. read ≡ expanded (sized program.now (inline_answer program.now))) }
 {
     match inline(alloc, program) {
         Ok(expanded) => Ok(Ok(expanded)),

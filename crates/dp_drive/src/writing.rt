@@ -1,7 +1,7 @@
 //! Answers of one line.
 ghost use Rattle.std.specs.Prelude.{◌<◌, ◌-◌, ◌^◌};
 ghost use Rattle.dp_crew.specs.Fail.{FaultsAfter};
-ghost use Rattle.dp_drive.specs.Carried.{Finishes};
+ghost use Rattle.dp_drive.specs.steps.Carried.{Finishes};
 ghost use Rattle.dp_drive.specs.Refusal.{refusal_line, refusal_status, failed_read_line};
 
 use crate::refusal::{Refusal, Role};

@@ -19,7 +19,7 @@ use Rattle.dp_drive.specs.declared.texts.Texts.TheVariants as texts
 use Rattle.dp_drive.specs.Inputs.{or_refused}
 use Rattle.dp_drive.specs.Roles.{Contents, Input, Unnamed, Named}
 use Rattle.dp_drive.specs.Plans.{ReadsPlans, TooLong, NotPlans, Broken, Taken}
-use Rattle.dp_drive.specs.Carried.{Names, LoadsTexts, Loaded as LoadedTexts}
+use Rattle.dp_drive.specs.steps.Carried.{Names, LoadsTexts, Loaded as LoadedTexts}
 use Rattle.dp_drive.specs.declared.load.Loaded.{Loaded}
 use Rattle.dp_drive.specs.declared.load.Loaded.TheVariants.{Text, Refused, Failed}
 use Rattle.dp_drive.specs.Loading.{IfText, Loads, LoadsPlans, LoadsProgram}

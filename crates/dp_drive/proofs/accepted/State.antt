@@ -1,9 +1,10 @@
 -- The state in a run's text needs the cells of the file-scope variables alone.
-use Rattle.std.proofs.Common.{◌≡◌, refl, sym, ap, ◌∙◌, ℕ, ◌+◌, ◌-◌, ◌≤◌, ◌==◌, Bool, true, false, not, ◌&&◌, if◌then◌else◌, List, [], ◌∷◌, ◌++◌, length, take, drop, replicate, ℤ, arith, eqb-true, subst}
+use Rattle.std.proofs.Common.{◌≡◌, refl, sym, ap, ◌∙◌, ℕ, ◌+◌, ◌-◌, ◌≤◌, ◌==◌, Bool, true, false, ◌&&◌, if◌then◌else◌, List, [], ◌∷◌, ◌++◌, length, take, drop, replicate, ℤ, arith, eqb-true, subst}
 use Rattle.std.specs.Prelude.{codes}
 use Rattle.std.proofs.lemmas.Bool.{and_parts}
 use Rattle.std.proofs.lemmas.List.{drop-take, take-take, length-replicate, length-append}
 use Rattle.std.specs.List.{list_all, flat_map}
+use Rattle.dp_calls.proofs.Layouts.{no_files}
 use Rattle.dp_tree.specs.declared.VarInfo.{VarInfo}
 use Rattle.dp_tree.specs.Globals.{is_global_scope, globals_in}
 use Rattle.dp_tree.specs.Layout.{has_cells, lies_in_order, is_local_variable, globals_first}
@@ -18,18 +19,6 @@ values_within n cells v within =
     ap (λ (m : ℕ). take v.length (drop v.first.0 (take m cells))) apart
     ∙ ap (take v.length) (drop-take v.first.0 (n - v.first.0) cells)
     ∙ take-take v.length (n - v.first.0) (drop v.first.0 cells) short
-
--- no file-scope variable is among locals
-none_global : (vars : List VarInfo) → list_all is_local_variable vars ≡ true → globals_in vars ≡ []
-none_global [] h = refl
-none_global (x ∷ rest) h = by (is_global_scope x.scope) refl (none_global rest parts.1)
-  where
-    parts : (is_local_variable x ≡ true) × (list_all is_local_variable rest ≡ true)
-    parts = and_parts (is_local_variable x) (list_all is_local_variable rest) h
-
-    by : (b : Bool) → is_global_scope x.scope ≡ b → globals_in rest ≡ [] → (if b then x ∷ globals_in rest else globals_in rest) ≡ []
-    by true is e = let clash = sym (ap not is) ∙ parts.0 in absurd (cc clash)
-    by false is e = e
 
 -- The lines of the file-scope variables, whose cells are among the first n.
 state_within : (k n : ℕ) (cells : List ℤ) (vars : List VarInfo) → lies_in_order k vars ≡ true → globals_first vars ≡ true → k + length (start_cells (globals_in vars)) ≤ n →
@@ -55,7 +44,7 @@ state_within k n cells (x ∷ rest) order first within = by (is_global_scope x.s
         ap (λ (zs : List ℤ). line (x.name ++ spaced_signed zs) ++ flat_map (variable_line (take n cells)) (globals_in rest)) (values_within n cells x inside)
         ∙ ap (λ (bytes : List ℕ). variable_line cells x ++ bytes) (go more (omega (arith, all, total)))
     by false is go =
-        let none : globals_in rest ≡ [] = none_global rest (sym (ap (λ (b : Bool). if b then globals_first rest else list_all is_local_variable rest) is) ∙ first) in
+        let none : globals_in rest ≡ [] = no_files rest (sym (ap (λ (b : Bool). if b then globals_first rest else list_all is_local_variable rest) is) ∙ first) in
         ap (flat_map (variable_line (take n cells))) none ∙ sym (ap (flat_map (variable_line cells)) none)
 
 -- The state's text, from the first cells alone.

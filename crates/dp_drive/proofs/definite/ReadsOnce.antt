@@ -12,10 +12,10 @@ use Rattle.dp_parse.specs.Depth.{depth_fault}
 use Rattle.dp_parse.specs.Parses.{ParsesAs, NestsTooDeep, DerivesNothing, LeavesAt}
 use Rattle.dp_parse.specs.Programs.{Derives}
 use Rattle.dp_parse.proofs.ProgramComplete.{one_program}
-use Rattle.dp_check.specs.Verdict.{verdict}
+use Rattle.dp_check.specs.CheckAnswer.{check_answer}
 use Rattle.dp_drive.specs.declared.refusal.Refusal.{Refusal}
 use Rattle.dp_drive.specs.declared.refusal.Refusal.TheVariants.{Byte, Syntax, Limit}
-use Rattle.dp_drive.specs.Program.{Reads, TooLong, NoToken, TooDeep, NoTree, Judged, judged}
+use Rattle.dp_drive.specs.Program.{Reads, TooLong, NoToken, TooDeep, NoTree, Checked, checked_read}
 
 -- the refusal of a depth
 abbrev limit_of : Option (Quantity × ℕ) → Result Program Refusal
@@ -35,14 +35,14 @@ module _ (text : List ℕ) where
   from_too_long h (NoToken place k r) = absurd (omega (arith, h, k))
   from_too_long h (TooDeep quantity count k d) = absurd (omega (arith, h, k))
   from_too_long h (NoTree token k d) = absurd (omega (arith, h, k))
-  from_too_long h (Judged raw k d) = absurd (omega (arith, h, k))
+  from_too_long h (Checked raw k d) = absurd (omega (arith, h, k))
 
   from_no_token : {b : Result Program Refusal} (place : ℕ) → length text ≤ 65536 → RefusedAt text place → Reads text b → Err (Byte place) ≡ b
   from_no_token place h r (TooLong k) = absurd (omega (arith, h, k))
   from_no_token place h r (NoToken other k s) = ap (λ (n : ℕ). Err (Byte n)) (refused_once text place other r s)
   from_no_token place h r (TooDeep quantity count k d) = absurd (tokens_not_refused text d.tokens place d.of_text r)
   from_no_token place h r (NoTree token k d) = absurd (tokens_not_refused text d.tokens place d.of_text r)
-  from_no_token place h r (Judged raw k d) = absurd (tokens_not_refused text d.tokens place d.of_text r)
+  from_no_token place h r (Checked raw k d) = absurd (tokens_not_refused text d.tokens place d.of_text r)
 
   from_too_deep : {b : Result Program Refusal} (quantity : Quantity) (count : ℕ) → length text ≤ 65536 → NestsTooDeep text quantity count → Reads text b → Err (Limit quantity count) ≡ b
   from_too_deep quantity count h d (TooLong k) = absurd (omega (arith, h, k))
@@ -51,7 +51,7 @@ module _ (text : List ℕ) where
       let same : Some (quantity, count) ≡ Some (other, more) = sym d.deep ∙ same_depth d.tokens e.tokens d.of_text e.of_text ∙ e.deep in
       ap limit_of same
   from_too_deep quantity count h d (NoTree token k e) = shallow_and_deep d.tokens e.tokens quantity count d.of_text e.of_text d.deep e.shallow
-  from_too_deep quantity count h d (Judged raw k e) = shallow_and_deep d.tokens e.tokens quantity count d.of_text e.of_text d.deep e.shallow
+  from_too_deep quantity count h d (Checked raw k e) = shallow_and_deep d.tokens e.tokens quantity count d.of_text e.of_text d.deep e.shallow
 
   derives_here : (tokens others : List Lexeme) (raw : RawProgram) → Tokens text tokens → Tokens text others → Derives others raw → Derives tokens raw
   derives_here tokens others raw a b d = subst (λ (list : List Lexeme). Derives list raw) (tokens_once text others tokens b a) d
@@ -75,19 +75,19 @@ module _ (text : List ℕ) where
   from_no_tree token h d (TooDeep quantity count k e) = shallow_and_deep e.tokens d.tokens quantity count e.of_text d.of_text e.deep d.shallow
   from_no_tree token h d (NoTree other k e) =
       ap (λ (n : ℕ). Err (Syntax n)) (one_place d.tokens token other d.place (subst (λ (list : List Lexeme). LeavesAt list other) (tokens_once text e.tokens d.tokens e.of_text d.of_text) e.place))
-  from_no_tree token h d (Judged raw k e) = absurd (d.none raw (derives_here d.tokens e.tokens raw d.of_text e.of_text e.derives))
+  from_no_tree token h d (Checked raw k e) = absurd (d.none raw (derives_here d.tokens e.tokens raw d.of_text e.of_text e.derives))
 
-  from_judged : {b : Result Program Refusal} (raw : RawProgram) → length text ≤ 65536 → ParsesAs text raw → Reads text b → judged (verdict raw) ≡ b
-  from_judged raw h d (TooLong k) = absurd (omega (arith, h, k))
-  from_judged raw h d (NoToken place k s) = absurd (tokens_not_refused text d.tokens place d.of_text s)
-  from_judged raw h d (TooDeep quantity count k e) = shallow_and_deep e.tokens d.tokens quantity count e.of_text d.of_text e.deep d.shallow
-  from_judged raw h d (NoTree token k e) = absurd (e.none raw (derives_here e.tokens d.tokens raw e.of_text d.of_text d.derives))
-  from_judged raw h d (Judged other k e) =
-      ap (λ (x : RawProgram). judged (verdict x)) (one_program d.tokens raw other d.derives (derives_here d.tokens e.tokens other d.of_text e.of_text e.derives))
+  from_checked : {b : Result Program Refusal} (raw : RawProgram) → length text ≤ 65536 → ParsesAs text raw → Reads text b → checked_read (check_answer raw) ≡ b
+  from_checked raw h d (TooLong k) = absurd (omega (arith, h, k))
+  from_checked raw h d (NoToken place k s) = absurd (tokens_not_refused text d.tokens place d.of_text s)
+  from_checked raw h d (TooDeep quantity count k e) = shallow_and_deep e.tokens d.tokens quantity count e.of_text d.of_text e.deep d.shallow
+  from_checked raw h d (NoTree token k e) = absurd (e.none raw (derives_here e.tokens d.tokens raw e.of_text d.of_text d.derives))
+  from_checked raw h d (Checked other k e) =
+      ap (λ (x : RawProgram). checked_read (check_answer x)) (one_program d.tokens raw other d.derives (derives_here d.tokens e.tokens other d.of_text e.of_text e.derives))
 
   pub reads_once : {a b : Result Program Refusal} → Reads text a → Reads text b → a ≡ b
   reads_once (TooLong h) r = from_too_long h r
   reads_once (NoToken place h s) r = from_no_token place h s r
   reads_once (TooDeep quantity count h d) r = from_too_deep quantity count h d r
   reads_once (NoTree token h d) r = from_no_tree token h d r
-  reads_once (Judged raw h d) r = from_judged raw h d r
+  reads_once (Checked raw h d) r = from_checked raw h d r

@@ -1,6 +1,7 @@
 use Rattle.std.proofs.Common.{◌∙◌, ap, refl, Some}
 use Rattle.dp_drive.specs.declared.refusal.Refusal.TheVariants.{Words}
-use Rattle.dp_drive.proofs.AnswerLemmas.{carry_not_taken, no_run_counts, refused_counts}
+use Rattle.dp_drive.proofs.AnswerLemmas.{carry_not_taken}
+use Rattle.dp_drive.proofs.CountLemmas.{no_run_counts, refused_counts}
 use Rattle.dp_drive.proofs.definite.AsksOnce.{no_run_and_plans, no_run_and_profile, no_run_and_sites}
 use Rattle.dp_drive.proofs.answer.answer.Goals as goal
 

@@ -1,5 +1,6 @@
 use Rattle.std.proofs.Common.{◌∙◌, ap, Ok}
-use Rattle.dp_drive.proofs.AnswerLemmas.{loaded, carry_run, carry_refused, carry_failed, run_counts, refused_counts, failed_counts}
+use Rattle.dp_drive.proofs.AnswerLemmas.{loaded, carry_run, carry_refused, carry_failed}
+use Rattle.dp_drive.proofs.CountLemmas.{run_counts, refused_counts, failed_counts}
 use Rattle.dp_drive.proofs.accepted.Given.{given, words_given}
 use Rattle.dp_drive.proofs.answer.answer_run.Goals as goal
 

@@ -1,4 +1,4 @@
-use Rattle.dp_drive.proofs.AnswerLemmas.{refused_counts}
+use Rattle.dp_drive.proofs.CountLemmas.{refused_counts}
 use Rattle.dp_drive.proofs.MadeLemmas.{carry_refused, carry_run, few_words, read_given, read_inlined, read_made, run_counts, short_made}
 use Rattle.dp_drive.proofs.made.answer_gen.Goals as goal
 

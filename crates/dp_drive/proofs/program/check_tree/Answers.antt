@@ -1,6 +1,6 @@
 use Rattle.dp_check.proofs.CheckedLemmas.{checked}
 use Rattle.dp_drive.proofs.LoadLemmas.{offending}
-use Rattle.dp_drive.proofs.program.judge.Goals as goal
+use Rattle.dp_drive.proofs.program.check_tree.Goals as goal
 
 pub expand_calls-requires : goal.expand_calls-requires
 expand_calls-requires c = checked _ _ c.requires.lengths c.requires.exits c.in-Ok.ensures
