@@ -2,6 +2,7 @@
 use Rattle.std.proofs.Common.{◌≡◌, ◌⊎◌, inl, inr, refl, sym, ap, ap₂, ◌∙◌, subst, ℕ, ◌<◌, ◌≤◌, Bool, true, false, ◌&&◌, ◌||◌, if◌then◌else◌, List, ◌∷◌, length, Option, Some, None, slice_get, arith}
 use Rattle.dp_base.specs.declared.SiteId.{SiteId}
 use Rattle.dp_base.specs.declared.VarId.{VarId}
+use Rattle.dp_base.proofs.ListLemmas.{at_index}
 use Rattle.dp_tree.specs.declared.Expr.{Expr}
 use Rattle.dp_tree.specs.declared.Stmt.TheViews.{outs-Assign}
 use Rattle.dp_tree.specs.declared.Stmt.TheVariants as stmt
@@ -15,7 +16,6 @@ use Rattle.dp_calls.specs.Tables.{Tables, with_local, with_source_site, next_sit
 use Rattle.dp_calls.specs.Expand.{Piece, nothing, is_global, is_known, declared_by, declared_in, assigned}
 use Rattle.dp_calls.proofs.Relation.{Env, PlaceOf, file, own, file_count, Declares, known, new, One, act, assigns}
 use Rattle.dp_calls.proofs.SameValues.{sees_one}
-use Rattle.dp_calls.proofs.Visible.{element_there}
 use Rattle.dp_calls.proofs.Tabled.{grows_not, grows_on, grows_source_site, grows_local, Lies, lies_local, moved}
 use Rattle.dp_calls.proofs.Named.{NamesOk, names_grow, names_local, names_as, named_new, Steps, steps_not, steps_one, Seen, seen_steps}
 use Rattle.dp_calls.proofs.Made.{Closes, closes_before, Made, target_by, same_target, same_renamed, source_line, is_listed}
@@ -45,7 +45,7 @@ module _ (p q : Program) (places : (x : ℕ) (info : VarInfo) → slice_get p.va
 
     file_known : x.0 < file_count p → is_global (slice_get p.vars x.0) ≡ true
     file_known less =
-        let inside : x.0 < length p.vars = omega (arith, less, there) in let found = element_there p.vars x.0 inside in
+        let inside : x.0 < length p.vars = omega (arith, less, there) in let found = at_index p.vars x.0 inside in
         file_global x.0 found.0 found.1 less (places x.0 found.0 found.1)
 
     seen_here : (now : List Renamed) → (y : ℕ) → named_in now x.0 ≡ Some y → Seen p visible now → Seen p (x.0 ∷ visible) now

@@ -2,6 +2,7 @@
 use Rattle.std.proofs.Common.{◌≡◌, ◌⊎◌, inl, inr, refl, sym, ap, ap₂, ◌∙◌, ℕ, suc, ◌-◌, ◌<◌, ◌≤◌, Bool, true, List, ◌++◌, length, Option, Some, None, slice_get, nat_lt, arith, ltb-true}
 use Rattle.dp_base.specs.declared.SiteId.{SiteId}
 use Rattle.dp_base.specs.declared.VarId.{VarId}
+use Rattle.dp_base.proofs.ListLemmas.{at_index}
 use Rattle.dp_tree.specs.declared.Expr.{Expr, end_of-Expr, more_of-Expr}
 use Rattle.dp_tree.specs.declared.Expr.TheVariants as tree
 use Rattle.dp_tree.specs.declared.VarInfo.{VarInfo}
@@ -15,7 +16,6 @@ use Rattle.dp_calls.specs.Piece.{Piece}
 use Rattle.dp_tree.proofs.EvalLemmas.{opened}
 use Rattle.dp_tree.proofs.Heads.{and_true}
 use Rattle.dp_calls.proofs.Relation.{Env, file_count}
-use Rattle.dp_calls.proofs.Visible.{element_there}
 use Rattle.dp_calls.proofs.Tabled.{Grows, grows_on, Lies, get_last}
 use Rattle.dp_calls.proofs.Named.{NamesOk, Steps, steps_on, Seen}
 
@@ -105,7 +105,7 @@ module _ (p q : Program) where
   -- the site of a statement keeps its line
   pub source_line : (r : ℕ) (site : SiteId) (t : Tables) → is_listed p site.0 ≡ true → Grows (with_source_site p r site t) (tables_of q) → line_of q (next_site t) ≡ line_of p site
   source_line r site t listed into =
-      let found = element_there p.sites (site.0 - 1) (ltb-true (site.0 - 1) (length p.sites) listed) in
+      let found = at_index p.sites (site.0 - 1) (ltb-true (site.0 - 1) (length p.sites) listed) in
       entry_line r site t found.0 found.1 into
 
   -- a binding has the line of the call

@@ -2,13 +2,13 @@
 use Rattle.std.proofs.Common.{◌≡◌, ◌⊎◌, inl, inr, refl, sym, ap, ◌∙◌, subst, ℕ, ◌<◌, ◌≤◌, ◌==◌, Bool, true, false, if◌then◌else◌, List, [], ◌∷◌, length, Option, Some, None, slice_get, arith, eqb-true, eq-eqb}
 use Rattle.std.proofs.lemmas.Option.{same_Some, slice_get_within}
 use Rattle.dp_base.specs.declared.VarId.{VarId}
+use Rattle.dp_base.proofs.ListLemmas.{at_index}
 use Rattle.dp_tree.specs.declared.VarInfo.{VarInfo}
 use Rattle.dp_tree.specs.declared.Program.{Program}
 use Rattle.dp_tree.specs.Scoping.{sees}
 use Rattle.dp_calls.specs.Renaming.{Renamed, named_in}
 use Rattle.dp_calls.specs.Tables.{Tables, with_local}
 use Rattle.dp_calls.proofs.Relation.{file_count}
-use Rattle.dp_calls.proofs.Visible.{element_there}
 use Rattle.dp_calls.proofs.Tabled.{Grows, moved, local_vars, local_length, grows_local, get_last}
 
 -- a variable that stands for another one
@@ -75,7 +75,7 @@ module _ (p : Program) (linked : Option VarInfo → Option VarInfo → Type 0) (
     target = λ x y at. (let w = ok.target x y at in (w.0, omega (arith, w.1, grows.long)));
     apart = ok.apart;
     link = λ x y at.
-        (let there = element_there t.vars y (ok.target x y at).1 in
+        (let there = at_index t.vars y (ok.target x y at).1 in
         let same : slice_get t.vars y ≡ slice_get u.vars y = there.1 ∙ sym (grows.vars y there.0 there.1) in
         subst (λ (o : Option VarInfo). linked (slice_get p.vars x) o) same (ok.link x y at));
     begun = omega (arith, ok.begun, grows.long);

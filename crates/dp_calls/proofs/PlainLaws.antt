@@ -1,5 +1,5 @@
 -- The regions of an expanded program are those of `main`, in the same order, each with its sites in the table.
-use Rattle.std.proofs.Common.{◌≡◌, refl, ap, ◌∙◌, ℕ, zero, suc, ◌+◌, ◌==◌, Bool, true, false, ◌&&◌, List, [], ◌∷◌, ◌++◌, length, slice_get}
+use Rattle.std.proofs.Common.{◌≡◌, refl, ap, ◌∙◌, ℕ, zero, suc, ◌+◌, ◌==◌, Bool, true, false, List, [], ◌∷◌, ◌++◌, length, slice_get}
 use Rattle.std.specs.List.{list_all}
 use Rattle.dp_base.specs.declared.SiteId.{SiteId}
 use Rattle.dp_base.specs.declared.VarId.{VarId}
@@ -9,9 +9,9 @@ use Rattle.dp_tree.specs.declared.Stmt.TheVariants as stmt
 use Rattle.dp_tree.specs.declared.Function.{Function}
 use Rattle.dp_tree.specs.declared.Program.{Program}
 use Rattle.dp_tree.specs.Functions.{body_in, params_in}
-use Rattle.dp_tree.specs.Numbering.{is_plain, is_plain_in, is_inner, is_inner_in, top_fits, next_region, regions_in_order}
+use Rattle.dp_tree.specs.Numbering.{is_plain, is_plain_at, is_plain_in, is_inner, is_inner_in, top_fits, next_region, regions_in_order}
 use Rattle.dp_tree.specs.Checked.{IsChecked, is_plain_function}
-use Rattle.dp_tree.proofs.Heads.{opened_statement, and_true, and_make}
+use Rattle.dp_tree.proofs.Heads.{everywhere_hidden, opened_statement, and_true, and_make}
 use Rattle.dp_tree.proofs.Inner.{hidden_inner, inner_hidden, inner_plain, inner_join}
 use Rattle.dp_calls.specs.Renaming.{Renamed, named_in, renamed}
 use Rattle.dp_calls.specs.Tables.{Tables, first_tables, with_source_site, next_site}
@@ -21,9 +21,7 @@ abbrev hidden_plain : List Stmt → Bool
 hidden_plain xs = is_plain_in (Rattle.dp_tree.specs.declared.Stmt.TheBlock.hidden-the_row-Stmt-0 xs)
 
 plain_hidden : (xs : List Stmt) → hidden_plain xs ≡ list_all is_plain xs
-unfolding opened_statement
-plain_hidden [] = refl
-plain_hidden (x ∷ xs) = ap (λ (b : Bool). is_plain x && b) (plain_hidden xs)
+plain_hidden xs = everywhere_hidden is_plain_at xs
 
 plain-If : (site : SiteId) (cond : Expr) (a b : List Stmt) → list_all is_plain a ≡ true → list_all is_plain b ≡ true → is_plain (stmt.If site cond a b) ≡ true
 unfolding opened_statement

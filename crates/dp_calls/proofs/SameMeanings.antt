@@ -2,6 +2,7 @@
 use Rattle.std.proofs.Common.{◌≡◌, inl, refl, sym, ap, ◌∙◌, subst, ℕ, true, ◌+◌, ◌<◌, ◌≤◌, List, [], ◌∷◌, ◌++◌, ℤ, length, append-nil, Some, slice_get, arith}
 use Rattle.std.proofs.lemmas.Option.{slice_get_within}
 use Rattle.dp_base.specs.declared.VarId.{VarId}
+use Rattle.dp_base.proofs.ListLemmas.{at_index}
 use Rattle.dp_tree.specs.declared.Stmt.{Stmt}
 use Rattle.dp_tree.specs.declared.VarInfo.{VarInfo}
 use Rattle.dp_tree.specs.declared.Program.{Program}
@@ -18,7 +19,6 @@ use Rattle.dp_calls.specs.Meaning.{SameMeaning}
 use Rattle.dp_tree.proofs.Heads.{standing_to_do}
 use Rattle.dp_calls.proofs.Relation.{Env, PlaceOf, file_count, Laid, IsEnv, Block}
 use Rattle.dp_calls.proofs.SameValues.{numbers_below}
-use Rattle.dp_calls.proofs.Visible.{element_there}
 use Rattle.dp_calls.proofs.Stacks.{Suits, bottom, Sim, Alike}
 use Rattle.dp_calls.proofs.Settles.{file_agree, block_todo, settles_running}
 use Rattle.dp_calls.proofs.Simulation.{outcomes_alike}
@@ -76,7 +76,7 @@ module _ (p : Program) (checked : IsChecked p) where
 
   same_file : (x : ℕ) → x < file_count p → slice_get (expand p).vars x ≡ slice_get p.vars x
   same_file x less =
-      let found = element_there (globals_in p.vars) x less in
+      let found = at_index (globals_in p.vars) x less in
       made.grows.vars x found.0 found.1 ∙ sym found.1 ∙ file_before p checked.globals checked.cells x less
 
   laid : Laid p (expand p)

@@ -1,5 +1,5 @@
 -- The sites of an expanded program are numbered in text order.
-use Rattle.std.proofs.Common.{◌≡◌, refl, sym, ap, ap₂, ◌∙◌, ℕ, zero, suc, ◌+◌, ◌-◌, ◌<◌, ◌≤◌, Bool, true, false, ◌&&◌, List, [], ◌∷◌, ◌++◌, length, length-append, append_assoc, append-nil, Option, slice_get, get_or, nat_lt, arith}
+use Rattle.std.proofs.Common.{◌≡◌, refl, sym, ap, ap₂, ◌∙◌, ℕ, zero, suc, ◌+◌, ◌-◌, ◌<◌, ◌≤◌, Bool, true, false, ◌&&◌, List, [], ◌∷◌, ◌++◌, length, length-append, append-nil, Option, slice_get, get_or, nat_lt, arith}
 use Rattle.std.specs.List.{list_all, flat_map}
 use Rattle.std.proofs.lemmas.Bool.{ltb-true, lt-ltb}
 use Rattle.std.proofs.lemmas.Option.{slice_get-get_or}
@@ -13,36 +13,29 @@ use Rattle.dp_tree.specs.declared.SiteInfo.{SiteInfo}
 use Rattle.dp_tree.specs.declared.SiteKind.TheVariants.{Assign}
 use Rattle.dp_tree.specs.declared.Program.{Program}
 use Rattle.dp_tree.specs.Functions.{body_in, params_in}
-use Rattle.dp_tree.specs.Numbering.{site_numbers, site_numbers_in, site_numbers_all, numbers_from}
+use Rattle.std.proofs.lemmas.Grind.{flat_map-append}
+use Rattle.dp_tree.specs.Numbering.{number_at, site_numbers, site_numbers_in, site_numbers_all, numbers_from}
+use Rattle.dp_tree.proofs.Asked.{asked-If, asked-While, asked-Region}
 use Rattle.dp_tree.specs.Checked.{IsChecked}
 use Rattle.dp_tree.proofs.Heads.{opened_statement, and_true, and_make}
 use Rattle.dp_calls.specs.Renaming.{Renamed, named_in, renamed}
 use Rattle.dp_calls.specs.Tables.{Tables, first_tables, with_local, with_site, with_source_site, site_in, next_site}
 use Rattle.dp_calls.specs.Expand.{Piece, Calls, expand, bindings, declared_by, declared_in, is_known, expand_one, expand_rows, expand_list, calls_within}
 
-abbrev hidden_numbers : List Stmt → List ℕ
-hidden_numbers xs = site_numbers_in (Rattle.dp_tree.specs.declared.Stmt.TheBlock.hidden-the_row-Stmt-0 xs)
-
-numbers_hidden : (xs : List Stmt) → hidden_numbers xs ≡ site_numbers_all xs
-unfolding opened_statement
-numbers_hidden [] = refl
-numbers_hidden (x ∷ xs) = ap (λ (ns : List ℕ). site_numbers x ++ ns) (numbers_hidden xs)
-
 numbers-If : (site : SiteId) (cond : Expr) (a b : List Stmt) → site_numbers (stmt.If site cond a b) ≡ site.0 ∷ (site_numbers_all a ++ site_numbers_all b)
 unfolding opened_statement
-numbers-If site cond a b = ap₂ (λ (ms ns : List ℕ). site.0 ∷ (ms ++ ns)) (numbers_hidden a) (numbers_hidden b)
+numbers-If site cond a b = asked-If number_at site cond a b
 
 numbers-While : (site : SiteId) (cond : Expr) (a : List Stmt) → site_numbers (stmt.While site cond a) ≡ site.0 ∷ site_numbers_all a
 unfolding opened_statement
-numbers-While site cond a = ap (λ (ns : List ℕ). site.0 ∷ ns) (numbers_hidden a)
+numbers-While site cond a = asked-While number_at site cond a
 
 pub numbers-Region : (q : ℕ) (site : SiteId) (cond : Expr) (a : List Stmt) → site_numbers (stmt.Region q site cond a) ≡ site.0 ∷ site_numbers_all a
 unfolding opened_statement
-numbers-Region q site cond a = ap (λ (ns : List ℕ). site.0 ∷ ns) (numbers_hidden a)
+numbers-Region q site cond a = asked-Region number_at q site cond a
 
 numbers_join : (a b : List Stmt) → site_numbers_all (a ++ b) ≡ site_numbers_all a ++ site_numbers_all b
-numbers_join [] b = refl
-numbers_join (x ∷ a) b = ap (λ (ns : List ℕ). site_numbers x ++ ns) (numbers_join a b) ∙ sym (append_assoc (site_numbers x) (site_numbers_all a) (site_numbers_all b))
+numbers_join a b = flat_map-append site_numbers a b
 
 from_join : (first m n : ℕ) → numbers_from first m ++ numbers_from (first + m) n ≡ numbers_from first (m + n)
 from_join first zero n = let e : first + 0 ≡ first = omega arith in let f : 0 + n ≡ n = omega arith in ap (λ k. numbers_from k n) e ∙ ap (numbers_from first) (sym f)

@@ -1,8 +1,8 @@
 -- How the tables of an expanded program grow: at their ends, so that what stands there stays.
-use Rattle.std.proofs.Common.{◌≡◌, ◌⊎◌, inl, inr, refl, sym, ap, ◌∙◌, subst, ℕ, zero, suc, ◌+◌, ◌-◌, ◌≤◌, Bool, true, false, if◌then◌else◌, List, [], ◌∷◌, ◌++◌, ℤ, length, length-append, replicate, append-nil, append_assoc, Option, Some, None, slice_get, arith}
+use Rattle.std.proofs.Common.{◌≡◌, inl, inr, refl, sym, ap, ◌∙◌, subst, ℕ, zero, suc, ◌+◌, ◌-◌, ◌≤◌, Bool, true, false, if◌then◌else◌, List, [], ◌∷◌, ◌++◌, ℤ, length, length-append, replicate, append-nil, append_assoc, Option, Some, None, slice_get, arith}
 use Rattle.std.proofs.lemmas.List.{length-replicate}
-use Rattle.std.proofs.lemmas.Option.{same_Some}
 use Rattle.dp_base.specs.declared.SiteId.{SiteId}
+use Rattle.dp_base.proofs.ListLemmas.{get_before, get_pushed}
 use Rattle.dp_tree.specs.declared.VarInfo.{VarInfo}
 use Rattle.dp_tree.specs.declared.SiteInfo.{SiteInfo}
 use Rattle.dp_tree.specs.declared.Program.{Program}
@@ -11,18 +11,6 @@ use Rattle.dp_tree.specs.Trace.{start_cells}
 use Rattle.dp_calls.specs.Frame.{global_count}
 use Rattle.dp_calls.specs.Tables.{Tables, scope_in, moved_to, with_local, with_site, site_in, with_source_site, with_region}
 use Rattle.dp_calls.proofs.Relation.{PlaceOf, own, file_count}
-
--- the element of a list that grew by one
-pub get_pushed : {X : Type 0} (xs : List X) (y : X) (k : ℕ) (x : X) → slice_get (xs ++ y ∷ []) k ≡ Some x → (slice_get xs k ≡ Some x) ⊎ ((k ≡ length xs) × (y ≡ x))
-get_pushed [] y zero x e = inr (refl, same_Some y x e)
-get_pushed [] y (suc k) x e = absurd (cc)
-get_pushed (z ∷ xs) y zero x e = inl e
-get_pushed (z ∷ xs) y (suc k) x e = elim (get_pushed xs y k x e) [ inl before ↦ inl before | inr both ↦ inr (ap (λ (n : ℕ). suc n) both.0, both.1) ]
-
-pub get_before : {X : Type 0} (xs ys : List X) (k : ℕ) (x : X) → slice_get xs k ≡ Some x → slice_get (xs ++ ys) k ≡ Some x
-get_before [] ys k x e = absurd (cc)
-get_before (z ∷ xs) ys zero x e = e
-get_before (z ∷ xs) ys (suc k) x e = get_before xs ys k x e
 
 pub get_last : {X : Type 0} (xs : List X) (y : X) → slice_get (xs ++ y ∷ []) (length xs) ≡ Some y
 get_last [] y = refl

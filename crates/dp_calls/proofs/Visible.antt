@@ -1,7 +1,8 @@
 -- Visible variables read the same in a frame's memory and in the expanded one.
-use Rattle.std.proofs.Common.{◌≡◌, refl, sym, ap, ◌∙◌, subst, ℕ, zero, suc, ◌+◌, ◌-◌, ◌<◌, ◌≤◌, true, List, [], ◌∷◌, ◌++◌, ℤ, pos, length, get_or, Option, Some, None, slice_get, arith}
+use Rattle.std.proofs.Common.{◌≡◌, refl, sym, ap, ◌∙◌, subst, ℕ, ◌+◌, ◌-◌, ◌<◌, ◌≤◌, true, List, ◌++◌, ℤ, pos, length, get_or, Option, Some, None, slice_get, arith}
 use Rattle.std.proofs.lemmas.List.{get_or_append_left, get_or-append_right}
 use Rattle.dp_base.specs.declared.VarId.{VarId}
+use Rattle.dp_base.proofs.ListLemmas.{at_index}
 use Rattle.dp_tree.specs.declared.VarInfo.{VarInfo}
 use Rattle.dp_tree.specs.declared.Program.{Program}
 use Rattle.dp_tree.specs.Eval.{first_of, length_of, first_cell, cell_count}
@@ -10,12 +11,6 @@ use Rattle.dp_calls.specs.Frame.{global_count}
 use Rattle.dp_calls.specs.Renaming.{named_in, target_or, target_of}
 use Rattle.dp_calls.proofs.Relation.{Env, PlaceOf, file, own, file_count, Laid, IsEnv, Held, held, Agree}
 use Rattle.dp_calls.proofs.SameValues.{ReadsSame}
-
--- the element at a place below the length
-pub element_there : {X : Type 0} (xs : List X) (k : ℕ) → k < length xs → (x : X) × (slice_get xs k ≡ Some x)
-element_there [] k h = absurd (omega (arith, h))
-element_there (x ∷ xs) zero h = (x, refl)
-element_there (x ∷ xs) (suc k) h = let less : k < length xs = omega (arith, h) in element_there xs k less
 
 -- a cell behind the file-scope ones
 pub own_cell : (g l : List ℤ) (i j : ℕ) → i ≡ length g + j → get_or (g ++ l) i (pos 0) ≡ get_or l j (pos 0)
@@ -52,7 +47,7 @@ module _ (p q : Program) (laid : Laid p q) (e : Env) (env : IsEnv p q e) where
 
   pub file_at : (x : VarId) → x.0 < file_count p → FileAt x
   file_at x less =
-      let there : x.0 < length p.vars = omega (arith, less, laid.there) in let found = element_there p.vars x.0 there in
+      let there : x.0 < length p.vars = omega (arith, less, laid.there) in let found = at_index p.vars x.0 there in
       file_place x found.0 found.1 less (laid.before x.0 found.0 found.1)
 
   -- where a local lies, and the variable that stands for it
@@ -89,7 +84,7 @@ module _ (p q : Program) (laid : Laid p q) (e : Env) (env : IsEnv p q e) where
       let source = env.source x.0 y named in let target = env.target x.0 y named in
       let behind : file_count p ≤ y = omega (arith, env.above, target.0) in
       let within : y < length q.vars = omega (arith, env.within, target.1) in
-      let found = element_there p.vars x.0 source.1 in let goes = element_there q.vars y within in
+      let found = at_index p.vars x.0 source.1 in let goes = at_index q.vars y within in
       own_place x y found.0 goes.0 found.1 goes.1 source.0 source.1 behind within (laid.before x.0 found.0 found.1) (laid.after y goes.0 goes.1)
 
   module _ (g l h : List ℤ) (whole : length g ≡ global_count p) where

@@ -4,6 +4,7 @@ use Rattle.std.specs.List.{list_all}
 use Rattle.std.proofs.lemmas.Option.{same_Some}
 use Rattle.dp_base.specs.declared.SiteId.{SiteId}
 use Rattle.dp_base.specs.declared.VarId.{VarId}
+use Rattle.dp_base.proofs.ListLemmas.{at_index}
 use Rattle.dp_tree.specs.declared.Expr.{Expr}
 use Rattle.dp_tree.specs.declared.Stmt.{Stmt, Row_of-Stmt}
 use Rattle.dp_tree.specs.declared.Stmt.TheViews.{outs-Region, outs-Region'}
@@ -26,7 +27,6 @@ use Rattle.dp_calls.proofs.InnerTexts.{texts, shown_texts}
 use Rattle.dp_calls.proofs.Relation.{Env, PlaceOf, file_count, is_quiet, Quiet, One, act, Block, Body as BodyOf, marks}
 use Rattle.dp_calls.proofs.SameValues.{sees_one}
 use Rattle.dp_calls.proofs.Tabled.{grows_on, grows_source_site, grows_region, Lies, moved}
-use Rattle.dp_calls.proofs.Visible.{element_there}
 use Rattle.dp_calls.proofs.Named.{NamesOk, names_grow, Seen, steps_not}
 use Rattle.dp_calls.proofs.Made.{Closes, closes_before, Made, source_line, is_listed}
 use Rattle.dp_calls.proofs.Passed.{Any}
@@ -96,7 +96,7 @@ module _ (p q : Program) (places : (x : ℕ) (info : VarInfo) → slice_get p.va
       | inl less ↦ (let over = closes.files x.0 y named in absurd (omega (arith, less, over)))
       | inr outer ↦
           (let same : old.0 ≡ y = same_Some old.0 y (sym (closes.ends.stable x.0 old.0 old.1) ∙ named) in
-          let source = quiet_outer k (slice_get p.vars x.0) outer in let entry = element_there t.vars old.0 (ok.target x.0 old.0 old.1).1 in
+          let source = quiet_outer k (slice_get p.vars x.0) outer in let entry = at_index t.vars old.0 (ok.target x.0 old.0 old.1).1 in
           let final : slice_get q.vars old.0 ≡ slice_get t.vars old.0 = closes.into.vars old.0 entry.0 entry.1 ∙ sym entry.1 in
           (source, ap (λ (n : ℕ). is_quiet k (slice_get q.vars n)) (sym same) ∙ ap (is_quiet k) final ∙ ok.link x.0 old.0 old.1 k ∙ source))
     ]

@@ -1,5 +1,5 @@
 -- The text of an expanded program names only variables of its own.
-use Rattle.std.proofs.Common.{◌≡◌, inl, inr, refl, sym, ap, ◌∙◌, ℕ, ◌<◌, ◌≤◌, Bool, true, ◌&&◌, List, [], ◌∷◌, ◌++◌, length, Option, Some, None, nat_lt, arith, lt-ltb}
+use Rattle.std.proofs.Common.{◌≡◌, inl, inr, refl, sym, ap, ◌∙◌, ℕ, ◌<◌, ◌≤◌, Bool, true, ◌&&◌, List, ◌∷◌, ◌++◌, length, Option, Some, None, nat_lt, arith, lt-ltb}
 use Rattle.std.specs.List.{list_all}
 use Rattle.std.proofs.lemmas.List.Folds.{list_all-append}
 use Rattle.dp_base.specs.declared.VarId.{VarId}
@@ -10,12 +10,12 @@ use Rattle.dp_tree.specs.declared.Stmt.TheViews.{rolls-Assign, rolls-Store, roll
 use Rattle.dp_tree.specs.declared.Stmt.TheOpen.{Stmt-F, Assign, Store, Print, If, While, Region, Break, Call}
 use Rattle.dp_tree.specs.declared.Program.{Program}
 use Rattle.dp_tree.specs.Checked.{IsChecked}
-use Rattle.dp_tree.specs.Inlined.{expr_within, stmt_within, rows_within}
+use Rattle.dp_tree.specs.Inlined.{expr_within, names_within, stmt_within, rows_within}
 use Rattle.dp_tree.specs.Scoping.{sees, knows, global_numbers, seen_behind_params}
 use Rattle.dp_calls.specs.Renaming.{Renamed, named_in, target_or, target_of, renamed}
 use Rattle.dp_calls.specs.Expand.{expand}
 use Rattle.dp_tree.proofs.EvalLemmas.{opened}
-use Rattle.dp_tree.proofs.Heads.{opened_statement, and_true, and_make}
+use Rattle.dp_tree.proofs.Heads.{everywhere_hidden, opened_statement, and_true, and_make}
 use Rattle.dp_calls.proofs.Relation.{Env, file_count, IsEnv, Declares, known, new, Binds, bound, binds, Acts, assigns, stores, prints, branches, loops, marks, One, act, call, Inside, stays, exits, Body, finished, onward, Block, done, more}
 use Rattle.dp_calls.proofs.SameValues.{sees_one}
 use Rattle.dp_calls.proofs.Named.{Seen}
@@ -51,9 +51,7 @@ module _ (n : ℕ) where
   hidden_within xs = rows_within n (Rattle.dp_tree.specs.declared.Stmt.TheBlock.hidden-the_row-Stmt-0 xs)
 
   within_hidden : (xs : List Stmt) → hidden_within xs ≡ all_within xs
-  unfolding opened_statement
-  within_hidden [] = refl
-  within_hidden (x ∷ xs) = ap (λ (b : Bool). stmt_within n x && b) (within_hidden xs)
+  within_hidden xs = everywhere_hidden (names_within n) xs
 
   abbrev pub within_at : Stmt-F Stmt → Bool
   within_at (Assign site x e) = nat_lt x.0 n && expr_within n e

@@ -3,6 +3,6 @@
 //! `specs/` has both meanings. That of frames knows nothing of expansion.
 #![tactic(auto)]
 
-mod laws;
+mod law;
 
-pub use laws::{expansion_is_inlined, expansion_keeps_the_meaning, expansion_leaves_no_call};
+pub use law::{expansion_is_inlined, expansion_keeps_the_meaning, expansion_leaves_no_call};

@@ -1,28 +1,29 @@
 -- Answers of parts, one after the other; and a loop that answers for a list, item by item.
 use Rattle.std.proofs.Common.{◌≡◌, append_assoc, append-nil, refl, ap, ◌∙◌, List, [], ◌∷◌, ◌++◌, Option, Some, None, Result, Ok, Err, sym, ℕ, ◌+◌, ◌<◌, ◌≤◌, length, get_or, drop}
 use Rattle.dp_check.specs.declared.fail.CheckFail.{CheckFail}
-use Rattle.dp_check.specs.Offence.{Token, offence, or_else, first_offence}
+use Rattle.dp_check.specs.Offence.{Token, offence, first_offence}
 use Rattle.dp_tree.specs.declared.Stmt.{Stmt}
 use Rattle.dp_check.specs.Answer.{answer, onto, with_last, Gives}
 use Rattle.std.proofs.lemmas.List.{at_drop_more, at_drop_all}
+use Rattle.std.specs.Option.{option_or}
 
 -- the next answer, unless this one is a refusal
 abbrev pub and_then : {X Y : Type 0} → Result X CheckFail → (X → Result Y CheckFail) → Result Y CheckFail
 and_then (Ok x) next = next x
 and_then (Err e) next = Err e
 
-pub or_else-None : (o : Option CheckFail) → or_else o None ≡ o
-or_else-None None = refl
-or_else-None (Some e) = refl
+pub option_or-None : (o : Option CheckFail) → option_or o None ≡ o
+option_or-None None = refl
+option_or-None (Some e) = refl
 
-pub or_else-or_else : (a b c : Option CheckFail) → or_else (or_else a b) c ≡ or_else a (or_else b c)
-or_else-or_else None b c = refl
-or_else-or_else (Some e) b c = refl
+pub option_or-option_or : (a b c : Option CheckFail) → option_or (option_or a b) c ≡ option_or a (option_or b c)
+option_or-option_or None b c = refl
+option_or-option_or (Some e) b c = refl
 
-pub first_offence-append : (a b : List Token) → first_offence (a ++ b) ≡ or_else (first_offence a) (first_offence b)
+pub first_offence-append : (a b : List Token) → first_offence (a ++ b) ≡ option_or (first_offence a) (first_offence b)
 first_offence-append [] b = refl
 first_offence-append (t ∷ a) b =
-    ap (or_else (offence t)) (first_offence-append a b) ∙ Rattle.std.proofs.Common.sym (or_else-or_else (offence t) (first_offence a) (first_offence b))
+    ap (option_or (offence t)) (first_offence-append a b) ∙ Rattle.std.proofs.Common.sym (option_or-option_or (offence t) (first_offence a) (first_offence b))
 
 -- an answer of one part
 pub answer-one : {X Z : Type 0} (o : Option CheckFail) (x : X) (f : X → Z) → answer o (f x) ≡ and_then (answer o x) (λ u. Ok (f u))
@@ -31,13 +32,13 @@ answer-one (Some e) x f = refl
 
 -- an answer of two parts
 pub answer-two : {X Y Z : Type 0} (o p : Option CheckFail) (x : X) (y : Y) (f : X → Y → Z)
-    → answer (or_else o p) (f x y) ≡ and_then (answer o x) (λ u. and_then (answer p y) (λ v. Ok (f u v)))
+    → answer (option_or o p) (f x y) ≡ and_then (answer o x) (λ u. and_then (answer p y) (λ v. Ok (f u v)))
 answer-two None p x y f = answer-one p y (f x)
 answer-two (Some e) p x y f = refl
 
 -- an answer of three parts
 pub answer-three : {X Y Z W : Type 0} (o p q : Option CheckFail) (x : X) (y : Y) (z : Z) (f : X → Y → Z → W)
-    → answer (or_else o (or_else p q)) (f x y z) ≡ and_then (answer o x) (λ u. and_then (answer p y) (λ v. and_then (answer q z) (λ w. Ok (f u v w))))
+    → answer (option_or o (option_or p q)) (f x y z) ≡ and_then (answer o x) (λ u. and_then (answer p y) (λ v. and_then (answer q z) (λ w. Ok (f u v w))))
 answer-three None p q x y z f = answer-two p q y z (f x)
 answer-three (Some e) p q x y z f = refl
 

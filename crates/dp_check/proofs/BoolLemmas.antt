@@ -1,15 +1,12 @@
 -- Tests that hold together, and tests of lists.
-use Rattle.std.proofs.Common.{◌≡◌, refl, ap, ◌∙◌, ℕ, ◌==◌, Bool, true, false, ◌&&◌, List, [], ◌∷◌, ◌++◌, arith}
+use Rattle.std.proofs.Common.{◌≡◌, refl, ap, ◌∙◌, ℕ, ◌==◌, Bool, true, ◌&&◌, List, [], ◌∷◌, ◌++◌, arith}
+pub use Rattle.std.proofs.lemmas.Bool.{and_parts as halves}
 use Rattle.std.proofs.lemmas.Bool.Decides.{nat_tests}
 use Rattle.std.proofs.lemmas.List.Folds.{list_all-append}
 use Rattle.std.specs.List.{list_all}
 
 pub both_true : {a b : Bool} → a ≡ true → b ≡ true → (a && b) ≡ true
 both_true {a} {b} p q = ap (λ c. c && b) p ∙ q
-
-pub halves : (a b : Bool) → (a && b) ≡ true → (a ≡ true) × (b ≡ true)
-halves true b h = (refl, h)
-halves false b h = absurd (cc)
 
 pub same_number : (k : ℕ) → (k == k) ≡ true
 same_number k = grind (arith, nat_tests)

@@ -15,7 +15,7 @@ use Rattle.dp_tree.specs.declared.Program.{Program}
 use Rattle.dp_check.specs.declared.fail.CheckFail.{CheckFail}
 use Rattle.dp_check.specs.Offence.{first_offence}
 use Rattle.dp_check.specs.Answer.{unless}
-use Rattle.dp_check.specs.Verdict.{names_of, begin, main_begin, too_many_functions, too_many_cells, resolved, verdict}
+use Rattle.dp_check.specs.CheckAnswer.{names_of, begin, main_begin, too_many_functions, too_many_cells, resolved, check_answer}
 use Rattle.dp_tree.specs.Globals.{is_global_scope}
 use Rattle.dp_tree.specs.Layout.{has_cells, lies_in_order}
 use Rattle.dp_tree.specs.Checked.{IsChecked}
@@ -76,17 +76,17 @@ variables_in_order raw h =
     (all_of_both has_cells (g ++ m) f (all_of_both has_cells g m (globals_have_cells raw.items h) (main_have_cells 1 raw.main)) (items_have_cells raw.items))
 
 -- a program that is given is the resolved one, and no name of its text offends
-verdict-given : (raw : RawProgram) (p : Program) → verdict raw ≡ Ok p → (first_offence (names_of raw) ≡ None) × (resolved raw ≡ p)
-unfolding verdict
-verdict-given raw p given = by (first_offence (names_of raw)) (too_many_functions raw) (too_many_cells raw) given
+check_answer-given : (raw : RawProgram) (p : Program) → check_answer raw ≡ Ok p → (first_offence (names_of raw) ≡ None) × (resolved raw ≡ p)
+unfolding check_answer
+check_answer-given raw p given = by (first_offence (names_of raw)) (too_many_functions raw) (too_many_cells raw) given
   where
     by : (a b c : Option CheckFail) → unless a (unless b (unless c (Ok (resolved raw)))) ≡ Ok p → (a ≡ None) × (resolved raw ≡ p)
     by None None None h = (refl, cc)
     by _ _ _ h = absurd (cc)
 
-pub checked : (raw : RawProgram) (p : Program) → list_all has_length raw.items ≡ true → breaks_fit raw ≡ true → verdict raw ≡ Ok p → IsChecked p
+pub checked : (raw : RawProgram) (p : Program) → list_all has_length raw.items ≡ true → breaks_fit raw ≡ true → check_answer raw ≡ Ok p → IsChecked p
 checked raw p lengths breaks given =
-    let e = verdict-given raw p given in
+    let e = check_answer-given raw p given in
     let fits = halves (list_all breaks_fit_at_top raw.main) (list_all is_unbroken_item raw.items) breaks in
     subst IsChecked e.1 (record {
       globals = globals_stand_first raw;

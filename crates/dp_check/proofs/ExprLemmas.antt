@@ -11,7 +11,7 @@ use Rattle.dp_check.specs.Offence.{offence, first_offence, Reads, ReadsElement}
 use Rattle.dp_check.specs.Tokens.{token, expr_tokens, args_tokens}
 use Rattle.dp_check.specs.Resolved.{scalar_expr, array_of, element_expr, resolved_expr}
 use Rattle.dp_check.specs.Answer.{answer, expr_answer, args_answer}
-use Rattle.dp_check.proofs.AnswerLemmas.{and_then, or_else-None, first_offence-append, answer-one, answer-two}
+use Rattle.dp_check.proofs.AnswerLemmas.{and_then, option_or-None, first_offence-append, answer-one, answer-two}
 
 -- what opens where an expression is made
 unfoldable opened : Unit {0}
@@ -26,7 +26,7 @@ module _ (names : List Named) where
 
   pub answer-Scalar : (name : Name) → expr_answer names (raw.Scalar name) ≡ answer (offence (token names Reads name)) (scalar_expr (named names name.text))
   unfolding expr_answer
-  answer-Scalar name = ap (λ o. answer o (scalar_expr (named names name.text))) (or_else-None (offence (token names Reads name)))
+  answer-Scalar name = ap (λ o. answer o (scalar_expr (named names name.text))) (option_or-None (offence (token names Reads name)))
 
   pub answer-Element : (name : Name) (e : RawExpr) → expr_answer names (raw.Element name e)
       ≡ and_then (answer (offence (token names ReadsElement name)) (array_of (named names name.text))) (λ a. and_then (expr_answer names e) (λ i. Ok (element_expr a i)))

@@ -2,6 +2,7 @@
 use Rattle.std.proofs.Common.{◌≡◌, refl, sym, ap, ◌∙◌, ℕ, ◌+◌, ◌≤◌, List, [], ◌∷◌, ◌++◌, map, length, take, append_assoc, append-nil, arith, Option, Some, None, Ok, Err}
 use Rattle.std.proofs.lemmas.List.{take_all}
 use Rattle.dp_base.specs.declared.VarId.{VarId}
+use Rattle.std.specs.Option.{option_or}
 use Rattle.dp_tree.specs.declared.Function.{Function}
 use Rattle.dp_tree.specs.declared.raw.Name.{Name}
 use Rattle.dp_tree.specs.declared.raw.RawStmt.{RawStmt}
@@ -11,7 +12,7 @@ use Rattle.dp_check.specs.declared.fail.CheckFail.{CheckFail}
 use Rattle.dp_check.specs.declared.items.Head.{Head}
 use Rattle.dp_check.specs.declared.place.Place.{Place}
 use Rattle.dp_check.specs.Names.{Named}
-use Rattle.dp_check.specs.Offence.{Declares, offence, or_else, first_offence}
+use Rattle.dp_check.specs.Offence.{Declares, offence, first_offence}
 use Rattle.dp_check.specs.Place.{Local, parts_all, local_count, site_count, passed, with_scalar, after_params}
 use Rattle.dp_check.specs.Tokens.{token, tokens_all, params_tokens}
 use Rattle.dp_check.specs.Resolved.{next_variable, resolved_all, param_variables}
@@ -72,7 +73,7 @@ pub function_answer-is : (h : Head) (name : Name) (params : List Name) (body : L
 unfolding function_answer body_answer
 function_answer-is h name params body = by (offence (token h.place.names Declares name)) _ _
   where
-    by : (o p : Option CheckFail) (x : Function) → answer (or_else o p) x ≡ and_then (answer {X = Unit {0}} o tt) (λ _. answer p x)
+    by : (o p : Option CheckFail) (x : Function) → answer (option_or o p) x ≡ and_then (answer {X = Unit {0}} o tt) (λ _. answer p x)
     by None p x = refl
     by (Some e) p x = refl
 
@@ -109,7 +110,7 @@ module _ {begin now : Head} {done : List Function} {all : List RawItem} where
       let none = (answer-Ok (first_offence (item_tokens now x)) tt tt lawful).0 in
       record {
         offence = so_far.offence ∙ first_offence-append (item_tokens now x) (items_tokens (after_item now x) rest)
-            ∙ ap (λ o. or_else o (first_offence (items_tokens (after_item now x) rest))) none;
+            ∙ ap (λ o. option_or o (first_offence (items_tokens (after_item now x) rest))) none;
         functions = so_far.functions ∙ sym (append_assoc done (item_functions now x) (items_functions (after_item now x) rest));
         head = so_far.head;
       }
@@ -121,7 +122,7 @@ module _ {begin now : Head} {done : List Function} {all : List RawItem} where
       ap (λ o. answer o (items_functions begin all)) (so_far.offence ∙ first_offence-append (item_tokens now x) (items_tokens (after_item now x) rest))
       ∙ by (first_offence (item_tokens now x)) (first_offence (items_tokens (after_item now x) rest)) refused
     where
-      by : (o p : Option CheckFail) → answer {X = Unit {0}} o tt ≡ Err e → answer (or_else o p) (items_functions begin all) ≡ Err e
+      by : (o p : Option CheckFail) → answer {X = Unit {0}} o tt ≡ Err e → answer (option_or o p) (items_functions begin all) ≡ Err e
       by None p h = absurd (cc)
       by (Some f) p h = ap Err (cc)
 

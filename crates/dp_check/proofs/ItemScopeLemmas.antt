@@ -24,7 +24,7 @@ use Rattle.dp_check.specs.Tokens.{token, tokens_all, params_tokens}
 use Rattle.dp_check.specs.Resolved.{resolved_all, param_variables}
 use Rattle.dp_check.specs.Tables.{laid, locals_of, globals, item_parts, function_parts, top_locals, after_top, main_locals}
 use Rattle.dp_check.specs.Items.{item_tokens, items_tokens, items_functions, after_item, after_items}
-use Rattle.dp_check.specs.Verdict.{begin, main_begin, names_of, resolved}
+use Rattle.dp_check.specs.CheckAnswer.{begin, main_begin, names_of, resolved}
 use Rattle.dp_check.proofs.PlaceLemmas.{local_count-append}
 use Rattle.dp_check.proofs.ItemLemmas.{after_params_variable}
 use Rattle.dp_check.proofs.GlobalLemmas.{globals_counted}

@@ -4,13 +4,13 @@ pub mod AnswerLemmas
 pub mod ExprLemmas
 pub mod PlaceLemmas
 pub mod Weight
-pub mod StmtLemmas
+pub mod StatementLemmas
 pub mod ItemLemmas
 pub mod RegionLemmas
 pub mod TableLemmas
 pub mod TopLemmas
 pub mod LimitLemmas
-pub mod VerdictLemmas
+pub mod CheckAnswerLemmas
 pub mod NumberLemmas
 pub mod RoleLemmas
 pub mod PlainLemmas

@@ -23,7 +23,7 @@ use Rattle.dp_check.specs.Resolved.{resolved, resolved_all, resolved_expr, stepp
 use Rattle.dp_check.specs.Tables.{laid, locals_of, loop_parts, outside_at, within_at, outside, within, top_locals, after_top, main_locals}
 use Rattle.dp_check.proofs.NumberLemmas.{stmt_opened}
 use Rattle.dp_check.proofs.PlaceLemmas.{opened, local_count-append, after_variable, after_all_variable, after-While, after-For}
-use Rattle.dp_check.proofs.StmtLemmas.{tokens_hidden}
+use Rattle.dp_check.proofs.StatementLemmas.{tokens_hidden}
 use Rattle.dp_check.proofs.RegionLemmas.{tokens_For}
 use Rattle.dp_check.proofs.TableLemmas.{parts-While, parts-For, local_count-split}
 use Rattle.dp_check.proofs.BoolLemmas.{both_true}

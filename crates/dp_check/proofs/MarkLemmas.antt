@@ -17,7 +17,7 @@ use Rattle.dp_check.specs.Offence.{Token, Use, Declares, Reads, ReadsElement, As
 use Rattle.dp_check.specs.Place.{Local, parts_in, local_count, passed, sited, with_scalar, after, after_in, after_all, after_params}
 use Rattle.dp_check.specs.Tokens.{token, expr_tokens, args_tokens, tokens, tokens_in, tokens_all, params_tokens}
 use Rattle.dp_check.specs.Items.{items_tokens, after_item, after_items}
-use Rattle.dp_check.specs.Verdict.{begin, main_begin, names_of}
+use Rattle.dp_check.specs.CheckAnswer.{begin, main_begin, names_of}
 use Rattle.dp_check.specs.Marks.{Mark, Writes, Declared, Opens, Closes, seen, read_off, expr_marks, args_marks, block, marks, marks_in, marks_all, params_marks, items_marks, text_marks}
 use Rattle.dp_check.proofs.PlaceLemmas.{after_variable, after_in_variable}
 use Rattle.dp_check.proofs.ItemLemmas.{after_params_variable}

@@ -1,5 +1,5 @@
 -- The sites of a checked program are numbered in text order.
-use Rattle.std.proofs.Common.{◌≡◌, refl, sym, ap, ◌∙◌, ℕ, zero, suc, ◌+◌, true, if◌then◌else◌, List, [], ◌∷◌, ◌++◌, map, length, length-append, append-nil, append_assoc, arith}
+use Rattle.std.proofs.Common.{◌≡◌, refl, sym, ap, ◌∙◌, ℕ, zero, suc, ◌+◌, true, if◌then◌else◌, List, [], ◌∷◌, ◌++◌, map, length, length-append, append-nil, arith}
 use Rattle.std.specs.List.{flat_map}
 use Rattle.dp_tree.specs.declared.Expr.{Expr}
 use Rattle.dp_base.specs.declared.SiteId.{SiteId}
@@ -22,8 +22,10 @@ use Rattle.dp_check.specs.Place.{Part, Site, Local, parts, parts_in, parts_all, 
 use Rattle.dp_check.specs.Resolved.{next_site, resolved, resolved_in, resolved_all, resolved_expr, stepped_region, resolved_top, resolved_main, region_at, is_region}
 use Rattle.dp_check.specs.Tables.{sites_of, loop_parts, top_sites, main_sites, after_top, item_parts, function_parts, sites}
 use Rattle.dp_check.specs.Items.{items_functions, after_item}
-use Rattle.dp_check.specs.Verdict.{begin, main_begin, resolved as whole}
-use Rattle.dp_tree.specs.Numbering.{site_numbers, site_numbers_in, site_numbers_all, numbers_from, SitesInOrder}
+use Rattle.dp_check.specs.CheckAnswer.{begin, main_begin, resolved as whole}
+use Rattle.dp_tree.specs.Numbering.{number_at, site_numbers, site_numbers_all, numbers_from, SitesInOrder}
+use Rattle.std.proofs.lemmas.Grind.{flat_map-append}
+use Rattle.dp_tree.proofs.Asked.{asked-If, asked-While, asked-Region}
 use Rattle.dp_check.proofs.PlaceLemmas.{after_site, after_in_site, after_all_site, site_count-append}
 use Rattle.dp_check.proofs.ItemLemmas.{after_params_site}
 use Rattle.dp_check.proofs.TableLemmas.{length-sites_of, length-top_sites, parts-While, parts-For}
@@ -32,22 +34,17 @@ unfoldable pub stmt_opened : Unit {0}
 unfolding Rattle.dp_tree.specs.declared.Stmt.TheBlock.shape-the_row-Stmt-0 Rattle.dp_tree.specs.declared.Stmt.TheBlock.hidden-the_row-Stmt-0 denote.Hole.Carrier.hidden
 stmt_opened = tt
 
-numbers_hidden : (xs : List Stmt) → site_numbers_in (Rattle.dp_tree.specs.declared.Stmt.TheBlock.hidden-the_row-Stmt-0 xs) ≡ site_numbers_all xs
-unfolding stmt_opened
-numbers_hidden [] = refl
-numbers_hidden (x ∷ xs) = ap (λ ys. site_numbers x ++ ys) (numbers_hidden xs)
-
 numbers-If : (site : SiteId) (cond : Expr) (a b : List Stmt) → site_numbers (code.If site cond a b) ≡ site.0 ∷ (site_numbers_all a ++ site_numbers_all b)
 unfolding stmt_opened
-numbers-If site cond a b = λ i. site.0 ∷ (numbers_hidden a i ++ numbers_hidden b i)
+numbers-If site cond a b = asked-If number_at site cond a b
 
 numbers-While : (site : SiteId) (cond : Expr) (a : List Stmt) → site_numbers (code.While site cond a) ≡ site.0 ∷ site_numbers_all a
 unfolding stmt_opened
-numbers-While site cond a = λ i. site.0 ∷ numbers_hidden a i
+numbers-While site cond a = asked-While number_at site cond a
 
 numbers-Region : (r : ℕ) (site : SiteId) (cond : Expr) (a : List Stmt) → site_numbers (code.Region r site cond a) ≡ site.0 ∷ site_numbers_all a
 unfolding stmt_opened
-numbers-Region r site cond a = λ i. site.0 ∷ numbers_hidden a i
+numbers-Region r site cond a = asked-Region number_at r site cond a
 
 numbers_from-append : (k a b : ℕ) → numbers_from k (a + b) ≡ numbers_from k a ++ numbers_from (k + a) b
 numbers_from-append k zero b = let e : 0 + b ≡ b = omega arith in let f : k ≡ k + 0 = omega arith in ap (numbers_from k) e ∙ ap (λ m. numbers_from m b) f
@@ -56,8 +53,7 @@ numbers_from-append k (suc a) b =
     ap (numbers_from k) e ∙ ap (λ xs. k ∷ xs) (numbers_from-append (k + 1) a b ∙ ap (λ m. numbers_from (k + 1) a ++ numbers_from m b) f)
 
 numbers_both : (a b : List Stmt) → site_numbers_all (a ++ b) ≡ site_numbers_all a ++ site_numbers_all b
-numbers_both [] b = refl
-numbers_both (x ∷ a) b = ap (λ ns. site_numbers x ++ ns) (numbers_both a b) ∙ sym (append_assoc (site_numbers x) (site_numbers_all a) (site_numbers_all b))
+numbers_both a b = flat_map-append site_numbers a b
 
 -- two pieces of a text, one behind the other
 numbers_joined : (k a b : ℕ) {xs ys : List ℕ} {m : ℕ} → m ≡ k + a → xs ≡ numbers_from k a → ys ≡ numbers_from m b → xs ++ ys ≡ numbers_from k (a + b)

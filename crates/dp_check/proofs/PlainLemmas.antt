@@ -17,15 +17,14 @@ use Rattle.dp_check.specs.declared.items.Head.{Head}
 use Rattle.dp_check.specs.Place.{parts_in, parts_all, passed, sited, after, after_in, after_all, after_params}
 use Rattle.dp_check.specs.Resolved.{next_site, resolved, resolved_in, resolved_all, resolved_expr, with_step, stepped_region, resolved_main, region_at, is_region_at, is_region}
 use Rattle.dp_check.specs.Items.{items_functions, after_item}
-use Rattle.dp_tree.specs.Numbering.{is_plain, is_plain_in, is_inner, is_inner_in, top_fits, next_region, regions_in_order}
+use Rattle.dp_tree.specs.Numbering.{is_plain, is_plain_at, is_plain_in, is_inner, is_inner_in, top_fits, next_region, regions_in_order}
+use Rattle.dp_tree.proofs.SitesOf.{everywhere_hidden}
 use Rattle.dp_check.proofs.NumberLemmas.{stmt_opened}
 use Rattle.dp_check.specs.Checked.{is_unbroken, is_unbroken_in, may_leave, fits_at, breaks_fit_at_top, is_unbroken_item}
 use Rattle.dp_check.proofs.BoolLemmas.{both_true, halves, same_number, all_of_both, all_weaker}
 
 plain_hidden : (xs : List Stmt) → is_plain_in (Rattle.dp_tree.specs.declared.Stmt.TheBlock.hidden-the_row-Stmt-0 xs) ≡ list_all is_plain xs
-unfolding stmt_opened
-plain_hidden [] = refl
-plain_hidden (x ∷ xs) = ap (λ b. is_plain x && b) (plain_hidden xs)
+plain_hidden xs = everywhere_hidden is_plain_at xs
 
 plain-If : (site : SiteId) (cond : Expr) (a b : List Stmt) → is_plain (code.If site cond a b) ≡ (list_all is_plain a && list_all is_plain b)
 unfolding stmt_opened

@@ -15,10 +15,10 @@ use Rattle.dp_check.specs.Offence.{first_offence}
 use Rattle.dp_check.specs.Place.{sited, passed, parts_all, after, after_all}
 use Rattle.dp_check.specs.Tokens.{expr_tokens, tokens, tokens_all}
 use Rattle.dp_check.specs.Resolved.{resolved_expr, next_site, resolved, resolved_all, with_step, stepped_region, is_region_at, is_region, region_at, resolved_top, resolved_main}
-use Rattle.dp_check.specs.Answer.{onto, answer, expr_answer, stmt_answer, block_answer, loop_answer, stepped_answer, top_answer, main_answer}
+use Rattle.dp_check.specs.Answer.{onto, answer, expr_answer, statement_answer, block_answer, loop_answer, stepped_answer, top_answer, main_answer}
 use Rattle.dp_check.proofs.AnswerLemmas.{and_then, onto-one, first_offence-append, answer-two}
 use Rattle.dp_check.proofs.PlaceLemmas.{opened, parts_hidden, after_hidden}
-use Rattle.dp_check.proofs.StmtLemmas.{tokens_hidden}
+use Rattle.dp_check.proofs.StatementLemmas.{tokens_hidden}
 
 pub is_region-Declare : (line : ℕ) (name : Name) (value : RawExpr) → is_region (raw.Declare line name value) ≡ false
 is_region-Declare line name value = ap is_region_at (outs-Declare line name value)
@@ -119,8 +119,8 @@ region_at-plain p r (open_form.While line true cond body) s h = absurd (cc)
 region_at-plain p r (open_form.For line true first cond step body) s h = absurd (cc)
 region_at-plain p r _ s h = refl
 
-pub top_answer-plain : (p : Place) (r : ℕ) (s : RawStmt) → is_region s ≡ false → top_answer p r s ≡ stmt_answer p s
-unfolding top_answer stmt_answer
+pub top_answer-plain : (p : Place) (r : ℕ) (s : RawStmt) → is_region s ≡ false → top_answer p r s ≡ statement_answer p s
+unfolding top_answer statement_answer
 top_answer-plain p r s h = ap (answer (first_offence (tokens p s))) (region_at-plain p r (out-RawStmt s) (resolved p s) h)
 
 -- the statements of `main` as a loop that carries its place and the number of the next region

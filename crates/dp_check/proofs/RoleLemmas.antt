@@ -27,7 +27,7 @@ use Rattle.dp_check.specs.Place.{Part, Site, Local, parts, parts_in, parts_all, 
 use Rattle.dp_check.specs.Resolved.{next_site, resolved, resolved_in, resolved_all, resolved_expr, stepped_region, resolved_top, resolved_main, region_at}
 use Rattle.dp_check.specs.Tables.{sites_of, loop_parts, outside_at, within_at, top_sites, main_sites, after_top, item_parts, function_parts}
 use Rattle.dp_check.specs.Items.{items_functions, after_item}
-use Rattle.dp_check.specs.Verdict.{begin, main_begin, resolved as whole}
+use Rattle.dp_check.specs.CheckAnswer.{begin, main_begin, resolved as whole}
 use Rattle.dp_check.proofs.NumberLemmas.{stmt_opened}
 use Rattle.dp_check.proofs.TableLemmas.{sites_of-append, parts-While}
 

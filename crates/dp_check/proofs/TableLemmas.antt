@@ -19,7 +19,7 @@ use Rattle.dp_check.specs.declared.sites.Sites.{Sites}
 use Rattle.dp_check.specs.Place.{Part, Site, Local, parts, parts_all, site_count, local_count}
 use Rattle.dp_check.specs.Tables.{laid, locals_of, sites_of, loop_parts, outside_at, within_at, outside, within, top_locals, top_sites, after_top, main_locals, main_sites, regions_from, region_of, scalar_info, function_parts}
 use Rattle.dp_check.specs.Limits.{cell_sum}
-use Rattle.dp_check.specs.Growing.{with_variables, with_sites, with_top, with_main}
+use Rattle.dp_check.specs.steps.Growing.{with_variables, with_sites, with_top, with_main}
 use Rattle.dp_check.proofs.PlaceLemmas.{opened, parts_hidden, site_count-append, local_count-append}
 
 pub parts-If : (line : ℕ) (cond : RawExpr) (a b : List RawStmt) → parts (raw.If line cond a b) ≡ Site line kind.If ∷ (parts_all a ++ parts_all b)

@@ -13,7 +13,7 @@ use Rattle.dp_check.specs.declared.variables.Variables.{Variables}
 use Rattle.dp_check.specs.declared.sites.Sites.{Sites}
 use Rattle.dp_check.specs.Place.{Part, Site, parts, parts_all, site_count}
 use Rattle.dp_check.specs.Tables.{locals_of, sites_of, loop_parts, outside_at, within_at, top_locals, top_sites, region_of}
-use Rattle.dp_check.specs.Growing.{with_variables, with_sites, with_top}
+use Rattle.dp_check.specs.steps.Growing.{with_variables, with_sites, with_top}
 use Rattle.dp_check.proofs.TableLemmas.{parts-While, locals_of-append, length-sites_of, same_sites, with_variables-append}
 
 pub region_of-plain : (first : ℕ) (l : RawStmt-F RawStmt) (done : List Part) → is_region_at l ≡ false → region_of first l done ≡ []

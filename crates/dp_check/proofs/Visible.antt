@@ -2,6 +2,7 @@
 use Rattle.std.proofs.Common.{◌≡◌, refl, sym, ap, ◌∙◌, ℕ, ◌+◌, ◌≤◌, ◌==◌, Bool, true, false, not, ◌||◌, if◌then◌else◌, List, [], ◌∷◌, ◌++◌, length, Option, Some, None, slice_get, nat_lt, arith}
 use Rattle.std.proofs.lemmas.Bool.Decides.{nat_tests}
 use Rattle.std.specs.List.{list_all}
+use Rattle.std.specs.Option.{option_or}
 use Rattle.dp_tree.specs.declared.Program.{Program}
 use Rattle.dp_tree.specs.declared.raw.Name.{Name}
 use Rattle.dp_tree.specs.Functions.{params_in}
@@ -10,7 +11,7 @@ use Rattle.dp_check.specs.declared.fail.CheckFail.{CheckFail}
 use Rattle.dp_check.specs.declared.names.Meaning.{Meaning}
 use Rattle.dp_check.specs.declared.names.Meaning.TheVariants.{Scalar, Array, Function}
 use Rattle.dp_check.specs.declared.place.Place.{Place}
-use Rattle.dp_check.specs.Offence.{Token, Assigns, AssignsElement, Calls, offence, offence_of, or_else, first_offence}
+use Rattle.dp_check.specs.Offence.{Token, Assigns, AssignsElement, Calls, offence, offence_of, first_offence}
 use Rattle.dp_check.specs.Place.{Part, local_count, passed, with_scalar}
 use Rattle.dp_check.specs.Resolved.{variable_of, function_of, next_variable}
 use Rattle.dp_check.proofs.AnswerLemmas.{first_offence-append}
@@ -21,14 +22,14 @@ use Rattle.dp_check.proofs.KnownLemmas.{is_known_if, all_known, sees_first, know
 pub lawful_parts : (a b : List Token) → first_offence (a ++ b) ≡ None → (first_offence a ≡ None) × (first_offence b ≡ None)
 lawful_parts a b h = by (first_offence a) (first_offence b) (sym (first_offence-append a b) ∙ h)
   where
-    by : (o q : Option CheckFail) → or_else o q ≡ None → (o ≡ None) × (q ≡ None)
+    by : (o q : Option CheckFail) → option_or o q ≡ None → (o ≡ None) × (q ≡ None)
     by None q e = (refl, e)
     by (Some f) q e = absurd (cc)
 
 pub lawful_first : (t : Token) (rest : List Token) → first_offence (t ∷ rest) ≡ None → (offence t ≡ None) × (first_offence rest ≡ None)
 lawful_first t rest h = by (offence t) (first_offence rest) h
   where
-    by : (o q : Option CheckFail) → or_else o q ≡ None → (o ≡ None) × (q ≡ None)
+    by : (o q : Option CheckFail) → option_or o q ≡ None → (o ≡ None) × (q ≡ None)
     by None q e = (refl, e)
     by (Some f) q e = absurd (cc)
 

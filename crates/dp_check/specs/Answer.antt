@@ -54,8 +54,8 @@ unfoldable pub args_answer : List Named → List RawExpr → Result (List Expr) 
 args_answer names args = answer (first_offence (args_tokens names args)) (map (resolved_expr names) args)
 
 -- what is answered for a statement at a place
-unfoldable pub stmt_answer : Place → RawStmt → Result (List Stmt) CheckFail
-stmt_answer p s = answer (first_offence (tokens p s)) (resolved p s)
+unfoldable pub statement_answer : Place → RawStmt → Result (List Stmt) CheckFail
+statement_answer p s = answer (first_offence (tokens p s)) (resolved p s)
 
 -- what is answered for the statements of a block
 unfoldable pub block_answer : Place → List RawStmt → Result (List Stmt) CheckFail

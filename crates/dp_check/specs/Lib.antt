@@ -7,7 +7,7 @@ pub mod Answer
 pub mod Tables
 pub mod Items
 pub mod Limits
-pub mod Verdict
+pub mod CheckAnswer
 pub mod Marks
-pub mod Growing
 pub mod Checked
+pub mod steps

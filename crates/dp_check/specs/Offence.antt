@@ -1,5 +1,6 @@
 -- What offends at a name of the text.
 use Rattle.std.specs.Prelude.{ℕ, Bool, true, false, not, ◌==◌, List, [], ◌∷◌, Option, Some, None, is_some, if◌then◌else◌}
+use Rattle.std.specs.Option.{option_or}
 use Rattle.dp_tree.specs.declared.raw.Name.{Name}
 use Rattle.dp_check.specs.declared.fail.CheckFail.{CheckFail}
 use Rattle.dp_check.specs.declared.fail.CheckFail.TheVariants.{Unknown, Twice, NotArray, NotScalar, Arguments, ReadOnly}
@@ -93,12 +94,7 @@ offence_of line u m =
 abbrev pub offence : Token → Option CheckFail
 offence t = offence_of t.name.line t.purpose (named t.visible t.name.text)
 
--- the first offence, or else the later one
-abbrev pub or_else : Option CheckFail → Option CheckFail → Option CheckFail
-or_else (Some e) later = Some e
-or_else None later = later
-
 -- the offence of the first name that offends
 abbrev pub first_offence : List Token → Option CheckFail
 first_offence [] = None
-first_offence (t ∷ rest) = or_else (offence t) (first_offence rest)
+first_offence (t ∷ rest) = option_or (offence t) (first_offence rest)

@@ -9,7 +9,7 @@ ghost use Rattle.dp_check.specs.Answer.{Gives, answer, param_answer, params_answ
 
 use crate::names::Meaning;
 use crate::place::{Place, next};
-use crate::stmt::block;
+use crate::statement::block;
 use crate::{CheckFail, uses};
 use dp_base::{Row, VarId};
 use dp_tree::{Function, Name, RawItem, RawStmt};

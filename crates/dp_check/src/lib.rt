@@ -14,7 +14,7 @@ mod program;
 mod region;
 mod simple;
 mod sites;
-mod stmt;
+mod statement;
 mod trees;
 mod uses;
 mod variables;

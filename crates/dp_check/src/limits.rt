@@ -4,7 +4,7 @@ ghost use Rattle.std.specs.Prelude.{◌≡◌, ◌≤◌, ◌+◌, ◌^◌, min,
 ghost use Rattle.dp_check.specs.Answer.{unless};
 ghost use Rattle.dp_check.specs.Limits as spec;
 ghost use Rattle.dp_check.specs.Tables.{cells_of, global_of, globals};
-ghost use Rattle.dp_check.specs.Verdict.{too_many_functions, too_many_cells};
+ghost use Rattle.dp_check.specs.CheckAnswer.{too_many_functions, too_many_cells};
 
 use crate::CheckFail;
 use crate::place::next;

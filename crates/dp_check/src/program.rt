@@ -3,7 +3,7 @@
 ghost use Rattle.std.specs.Prelude.{◌≡◌, IfOk};
 ghost use Rattle.dp_check.specs.Tables as tables;
 ghost use Rattle.dp_check.specs.Answer.{Gives};
-ghost use Rattle.dp_check.specs.Verdict.{verdict};
+ghost use Rattle.dp_check.specs.CheckAnswer.{check_answer};
 
 use crate::CheckFail;
 use crate::limits::within;
@@ -14,7 +14,7 @@ use dp_base::{NoMemory, Row};
 use dp_tree::{Program, RawProgram, VarInfo};
 use std::alloc::Global;
 
-#[tactic(auto, using(crate::proofs::VerdictLemmas::variable_tables))]
+#[tactic(auto, using(crate::proofs::CheckAnswerLemmas::variable_tables))]
 fn variables(alloc: Global, raw: &RawProgram) -> Result<Row<VarInfo>, NoMemory>
     ensures { IfOk result (λ rows. rows ≡ tables.variables raw.now) }
 {
@@ -37,9 +37,9 @@ fn sites(alloc: Global, raw: &RawProgram) -> Result<Sites, NoMemory>
 
 /// The program that a lawful tree stands for. A tree of more than 4,294,967,295 sites or variables has none: its
 /// answer is that memory is wanting.
-#[tactic(auto, using(crate::proofs::VerdictLemmas::verdicts))]
+#[tactic(auto, using(crate::proofs::CheckAnswerLemmas::check_answers))]
 pub fn check(alloc: Global, raw: &RawProgram) -> Result<Program, CheckFail>
-    ensures { Gives (verdict raw.now) result }
+    ensures { Gives (check_answer raw.now) result }
 {
     let (functions, main) = resolve(alloc, raw)?;
     within(raw)?;

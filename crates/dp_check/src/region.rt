@@ -7,7 +7,7 @@ ghost use Rattle.dp_check.specs.Resolved as spec;
 ghost use Rattle.dp_check.specs.Answer.{Gives, onto, with_last, stepped_answer, top_answer, main_answer};
 
 use crate::place::{Place, next};
-use crate::stmt::{block, looped, statement, statements};
+use crate::statement::{block, looped, statement, statements};
 use crate::{CheckFail, expr};
 use dp_base::{NoMemory, Row};
 use dp_tree::{RawExpr, RawStmt, Stmt};

@@ -3,21 +3,21 @@
 ghost use Rattle.std.specs.Prelude.{◌≡◌, ℕ, [], OnOk};
 ghost use Rattle.dp_tree.specs.declared.raw.RawStmt.TheVariants as tree;
 ghost use Rattle.dp_check.specs.Place.{sited, with_scalar};
-ghost use Rattle.dp_check.specs.Answer.{Gives, with_last, stmt_answer};
+ghost use Rattle.dp_check.specs.Answer.{Gives, with_last, statement_answer};
 
 use crate::place::Place;
 use crate::{CheckFail, expr, uses};
 use dp_tree::{Name, RawExpr, Stmt};
 use std::alloc::Global;
 
-#[tactic(auto, using(crate::proofs::StmtLemmas::stmt_answers))]
+#[tactic(auto, using(crate::proofs::StatementLemmas::statement_answers))]
 pub fn declare<'a>(
     alloc: Global,
     place: &mut Place<'a>,
     name: &'a Name,
     value: &RawExpr,
 ) -> Result<Stmt, CheckFail>
-    ensures value { (line : ℕ) → Gives (stmt_answer place.old (tree.Declare line name.now value.now)) (with_last [] result) }
+    ensures value { (line : ℕ) → Gives (statement_answer place.old (tree.Declare line name.now value.now)) (with_last [] result) }
     ensures place { OnOk result (place.new ≡ with_scalar (sited place.old) name.now) }
 {
     uses::undeclared(&place.names, name)?;
@@ -27,14 +27,14 @@ pub fn declare<'a>(
     Ok(Stmt::Assign { site, var, value })
 }
 
-#[tactic(auto, using(crate::proofs::StmtLemmas::stmt_answers))]
+#[tactic(auto, using(crate::proofs::StatementLemmas::statement_answers))]
 pub fn assign(
     alloc: Global,
     place: &mut Place<'_>,
     name: &Name,
     value: &RawExpr,
 ) -> Result<Stmt, CheckFail>
-    ensures value { Gives (stmt_answer place.old (tree.Assign name.now value.now)) (with_last [] result) }
+    ensures value { Gives (statement_answer place.old (tree.Assign name.now value.now)) (with_last [] result) }
     ensures place { OnOk result (place.new ≡ sited place.old) }
 {
     let var = uses::assigned(&place.names, name)?;
@@ -43,7 +43,7 @@ pub fn assign(
     Ok(Stmt::Assign { site, var, value })
 }
 
-#[tactic(auto, using(crate::proofs::StmtLemmas::stmt_answers))]
+#[tactic(auto, using(crate::proofs::StatementLemmas::statement_answers))]
 pub fn store(
     alloc: Global,
     place: &mut Place<'_>,
@@ -51,7 +51,7 @@ pub fn store(
     index: &RawExpr,
     value: &RawExpr,
 ) -> Result<Stmt, CheckFail>
-    ensures value { Gives (stmt_answer place.old (tree.Store name.now index.now value.now)) (with_last [] result) }
+    ensures value { Gives (statement_answer place.old (tree.Store name.now index.now value.now)) (with_last [] result) }
     ensures place { OnOk result (place.new ≡ sited place.old) }
 {
     let var = uses::assigned_element(&place.names, name)?;
@@ -66,14 +66,14 @@ pub fn store(
     })
 }
 
-#[tactic(auto, using(crate::proofs::StmtLemmas::stmt_answers))]
+#[tactic(auto, using(crate::proofs::StatementLemmas::statement_answers))]
 pub fn call(
     alloc: Global,
     place: &Place<'_>,
     name: &Name,
     args: &[RawExpr],
 ) -> Result<Stmt, CheckFail>
-    ensures { Gives (stmt_answer place.now (tree.Call name.now args.now)) (with_last [] result) }
+    ensures { Gives (statement_answer place.now (tree.Call name.now args.now)) (with_last [] result) }
 {
     let function = uses::called(&place.names, name, args.len())?;
     let args = expr::resolve_all(alloc, &place.names, args)?;
@@ -84,9 +84,9 @@ pub fn call(
     })
 }
 
-#[tactic(auto, using(crate::proofs::StmtLemmas::stmt_answers))]
+#[tactic(auto, using(crate::proofs::StatementLemmas::statement_answers))]
 pub fn print(alloc: Global, place: &mut Place<'_>, value: &RawExpr) -> Result<Stmt, CheckFail>
-    ensures value { (line : ℕ) → Gives (stmt_answer place.old (tree.Print line value.now)) (with_last [] result) }
+    ensures value { (line : ℕ) → Gives (statement_answer place.old (tree.Print line value.now)) (with_last [] result) }
     ensures place { OnOk result (place.new ≡ sited place.old) }
 {
     let value = expr::resolve(alloc, &place.names, value)?;
@@ -94,9 +94,9 @@ pub fn print(alloc: Global, place: &mut Place<'_>, value: &RawExpr) -> Result<St
     Ok(Stmt::Print { site, value })
 }
 
-#[tactic(auto, using(crate::proofs::StmtLemmas::stmt_answers))]
+#[tactic(auto, using(crate::proofs::StatementLemmas::statement_answers))]
 pub fn exit(alloc: Global, place: &mut Place<'_>, cond: &RawExpr) -> Result<Stmt, CheckFail>
-    ensures value { (line : ℕ) → Gives (stmt_answer place.old (tree.Break line cond.now)) (with_last [] result) }
+    ensures value { (line : ℕ) → Gives (statement_answer place.old (tree.Break line cond.now)) (with_last [] result) }
     ensures place { OnOk result (place.new ≡ sited place.old) }
 {
     let cond = expr::resolve(alloc, &place.names, cond)?;

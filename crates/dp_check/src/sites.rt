@@ -23,7 +23,7 @@ pub struct Sites {
 }
 
 impl Sites {
-    ghost use Rattle.dp_check.specs.Growing.{with_sites, with_top, with_main};
+    ghost use Rattle.dp_check.specs.steps.Growing.{with_sites, with_top, with_main};
 
     pub fn new(alloc: Global) -> Sites
         ensures { result ≡ record { rows = []; regions = []; next = 1 } }

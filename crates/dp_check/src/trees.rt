@@ -1,7 +1,7 @@
 //! A program's text with numbers in place of names.
 
 ghost use Rattle.dp_check.specs.Answer.{Gives};
-ghost use Rattle.dp_check.specs.Verdict.{trees_answer};
+ghost use Rattle.dp_check.specs.CheckAnswer.{trees_answer};
 
 use crate::CheckFail;
 use crate::items::Head;

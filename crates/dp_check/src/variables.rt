@@ -33,7 +33,7 @@ fn cells_of(size: i64) -> Result<u32, NoMemory>
 }
 
 impl Variables {
-    ghost use Rattle.dp_check.specs.Growing.{with_variables};
+    ghost use Rattle.dp_check.specs.steps.Growing.{with_variables};
 
     pub fn new(alloc: Global) -> Variables
         ensures { result ≡ record { alloc = alloc; rows = []; cells = 0 } }

@@ -2,6 +2,7 @@
 use Rattle.std.proofs.Common.{◌≡◌, refl, sym, ap, subst, ◌∙◌, ℕ, zero, suc, ◌+◌, ◌<◌, ◌≤◌, List, [], ◌∷◌, ◌++◌, map, length, sum, drop, drop-cons, get_or, Option, arith}
 use Rattle.std.proofs.lemmas.List.{map-append}
 use Rattle.std.proofs.lemmas.List.Sums.{sum_by-cons}
+use Rattle.dp_plan.proofs.EachLemmas.{each-append}
 use Rattle.dp_tree.specs.declared.Program.{Program}
 use Rattle.dp_tree.specs.Numbering.{numbers_from}
 use Rattle.dp_plan.specs.declared.Plan.{Plan}
@@ -15,10 +16,6 @@ use Rattle.dp_depend.specs.Node.{region_nodes}
 use Rattle.dp_units.specs.Order.{ArePlaces, IsOrder}
 use Rattle.dp_cut.specs.Automatic.{AreAutomatic, IsAutomatic, node_pairs, weights_of}
 use Rattle.dp_cut.specs.LeastPlan.{IsLeastPlan}
-
-each_more : {X : Type 0} (P : X → Type 0) (xs : List X) (x : X) → Each P xs → P x → Each P (xs ++ x ∷ [])
-each_more P [] x each one = (one, tt)
-each_more P (y ∷ xs) x each one = (each.0, each_more P xs x each.1 one)
 
 numbers_more : (k n : ℕ) → numbers_from k n ++ (k + n) ∷ [] ≡ numbers_from k (suc n)
 numbers_more k zero = let e : k + 0 ≡ k = omega arith in ap (λ (i : ℕ). i ∷ []) e
@@ -44,7 +41,7 @@ module _ (p : Program) (profile : Option Profile) (rate most workers : ℕ) wher
       record {
         within = omega (arith, low);
         regions = map-append region_of plans (plan ∷ []) ∙ ap (λ (l : List ℕ). l ++ plan.region ∷ []) made.regions ∙ ap (λ (i : ℕ). numbers_from 1 count ++ i ∷ []) number ∙ numbers_more 1 count ∙ ap (numbers_from 1) next;
-        least = each_more (λ (q : Plan). IsAutomatic p q.region profile rate most workers q) plans plan made.least (subst (λ (i : ℕ). IsAutomatic p i profile rate most workers plan) (sym region) least);
+        least = each-append (λ (q : Plan). IsAutomatic p q.region profile rate most workers q) plans plan made.least (subst (λ (i : ℕ). IsAutomatic p i profile rate most workers plan) (sym region) least);
       }
 
 pub made_least : (p : Program) (profile : Option Profile) (rate most workers count : ℕ) (plans : List Plan) → length p.regions ≤ count → Made p profile rate most workers count plans → AreAutomatic p profile rate most workers plans

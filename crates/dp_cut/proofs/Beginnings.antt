@@ -3,8 +3,8 @@ use Rattle.std.proofs.Common.{◌≡◌, inl, inr, refl, sym, subst, arith, ℕ,
 use Rattle.std.proofs.lemmas.Bool.{cases_lt, cases_eq}
 use Rattle.dp_cut.specs.declared.Stretch.{Stretch}
 use Rattle.dp_cut.specs.Allowed.{weight_between}
-use Rattle.dp_cut.specs.Fits.{Fits, TellsNeed}
-use Rattle.dp_cut.specs.Best.{AreCosts, AreLimits, Stands, MayStand, Best, IsBeginning}
+use Rattle.dp_cut.specs.steps.Fits.{Fits, TellsNeed}
+use Rattle.dp_cut.specs.steps.Best.{AreCosts, AreLimits, Stands, MayStand, Best, IsBeginning}
 use Rattle.dp_cut.proofs.Greedy.{stages_within, split, best_next, best_none, weaken, fits_stage}
 
 module _ (weights limits : List ℕ) (workers bound : ℕ) (costs : AreCosts weights limits workers) (carried : List (ℕ × ℕ)) (right : AreLimits carried limits) where

@@ -4,8 +4,8 @@ use Rattle.std.proofs.lemmas.Bool.{cases_eq}
 use Rattle.std.proofs.Math.ListN.{set}
 use Rattle.std.proofs.lemmas.List.{get_or-set_same, get_or-set_other}
 use Rattle.dp_cut.specs.Allowed.{weight_between}
-use Rattle.dp_cut.specs.Fits.{Fits, StageFits, TellsNeed}
-use Rattle.dp_cut.specs.Best.{AreCosts, AreLimits, HasFirst, Stands}
+use Rattle.dp_cut.specs.steps.Fits.{Fits, StageFits, TellsNeed}
+use Rattle.dp_cut.specs.steps.Best.{AreCosts, AreLimits, HasFirst, Stands}
 use Rattle.dp_cut.proofs.Greedy.{fits_stage, split}
 use Rattle.dp_cut.proofs.Beginnings.{may_stand, stands_back}
 

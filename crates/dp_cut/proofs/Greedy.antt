@@ -3,8 +3,8 @@ use Rattle.std.proofs.Common.{◌≡◌, inl, inr, refl, sym, subst, ◌∙◌, 
 use Rattle.std.proofs.lemmas.Bool.{cases_lt, cases_eq}
 use Rattle.dp_cut.specs.declared.Stretch.{Stretch}
 use Rattle.dp_cut.specs.Allowed.{AreStages, IsClear, cost_of, weight_between, bottleneck}
-use Rattle.dp_cut.specs.Fits.{Fits}
-use Rattle.dp_cut.specs.Best.{NoLater, MayStand, Best}
+use Rattle.dp_cut.specs.steps.Fits.{Fits}
+use Rattle.dp_cut.specs.steps.Best.{NoLater, MayStand, Best}
 
 most_of : (a b : ℕ) {c : ℕ} → a ≤ c → b ≤ c → max a b ≤ c
 most_of a b h k = omega (arith, h, k)

@@ -11,11 +11,10 @@ use Rattle.dp_plan.specs.Each.{Each}
 use Rattle.dp_plan.specs.Rules.{site_of_condition}
 use Rattle.dp_plan.specs.Written.{has}
 use Rattle.dp_plan.proofs.Found.{each_has}
-use Rattle.dp_plan.proofs.EachLemmas.{each-lists}
+use Rattle.dp_plan.proofs.EachLemmas.{each-lists, each_split}
 use Rattle.dp_depend.specs.declared.nodes.Node.{Node}
 use Rattle.dp_depend.specs.Edges.{site_of}
 use Rattle.dp_depend.specs.Node.{loop_of, nodes, nodes_in, region_nodes}
-use Rattle.dp_cut.proofs.NodesAround.{each_split}
 
 -- what is so of each image is so of each element by its image
 pub each_off : {X : Type 0} (f : X → ℕ) (P : ℕ → Type 0) (xs : List X) → Each P (map f xs) → Each (λ x. P (f x)) xs

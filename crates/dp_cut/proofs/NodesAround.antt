@@ -10,15 +10,11 @@ use Rattle.dp_plan.specs.Enclosing.{ifs, ifs_in, inner_whiles, inner_whiles_in, 
 use Rattle.dp_plan.specs.Each.{Each}
 use Rattle.dp_plan.specs.Written.{has}
 use Rattle.dp_plan.proofs.Found.{has_each}
-use Rattle.dp_plan.proofs.EachLemmas.{each-lists}
+use Rattle.dp_plan.proofs.EachLemmas.{each-lists, each_split}
 use Rattle.dp_depend.specs.declared.nodes.Node.{Node}
 use Rattle.dp_depend.specs.Edges.{site_of}
 use Rattle.dp_depend.specs.Node.{loop_of, nodes, nodes_in}
 use Rattle.dp_depend.proofs.NodeSites.{sites_of_row}
-
-pub each_split : {X : Type 0} (P : X → Type 0) (xs ys : List X) → Each P (xs ++ ys) → Each P xs × Each P ys
-each_split P [] ys each = (tt, each)
-each_split P (x ∷ xs) ys each = let both = each_split P xs ys each.1 in ((each.0, both.0), both.1)
 
 has_more : (x y : ℕ) (xs : List ℕ) → has x xs ≡ true → has x (xs ++ y ∷ []) ≡ true
 has_more x y xs e = list_any-append (λ n. n == x) xs (y ∷ []) ∙ or_left (has x xs) (has x (y ∷ [])) e

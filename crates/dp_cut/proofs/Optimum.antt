@@ -6,8 +6,8 @@ use Rattle.dp_cut.specs.Allowed.{IsAllowed, bottleneck}
 use Rattle.dp_cut.specs.Order.{places_from, IsListBefore, IsBefore, replicated_count}
 use Rattle.dp_cut.specs.Order.IsBefore.{by_bottleneck, by_places, by_count}
 use Rattle.dp_cut.specs.LeastCut.{IsLeastCut}
-use Rattle.dp_cut.specs.Best.{NoLater, Best}
-use Rattle.dp_cut.specs.Fits.{Fits}
+use Rattle.dp_cut.specs.steps.Best.{NoLater, Best}
+use Rattle.dp_cut.specs.steps.Fits.{Fits}
 
 -- the same stages, replicated only where those of the second are
 abbrev pub IsWithin : List Stretch → List Stretch → Type 0

@@ -1,7 +1,6 @@
 pub mod Allowed
-pub mod Best
-pub mod Fits
 pub mod LeastCut
 pub mod Order
 pub mod LeastPlan
 pub mod Automatic
+pub mod steps

@@ -1,7 +1,7 @@
 //! The least bottleneck.
 ghost use Rattle.std.specs.Prelude.{◌≡◌, ◌<◌, ◌≤◌, ◌^◌, ℕ, List, true, length, sum, IfOk};
-ghost use Rattle.dp_cut.specs.Fits.{Fits};
-ghost use Rattle.dp_cut.specs.Best.{AreCosts, AreLimits};
+ghost use Rattle.dp_cut.specs.steps.Fits.{Fits};
+ghost use Rattle.dp_cut.specs.steps.Best.{AreCosts, AreLimits};
 
 use crate::needs::{Costs, stage_needs};
 use dp_base::NoMemory;

@@ -1,8 +1,8 @@
 //! How many stages are needed from each unit on, where none may cost more than a bound.
 ghost use Rattle.std.specs.Prelude.{◌≡◌, ◌<◌, ◌≤◌, ◌+◌, ◌⊎◌, ◌↔◌, ◌^◌, ℕ, Bool, true, false, List, length, slice_index, IfOk};
 ghost use Rattle.dp_cut.specs.Allowed.{cost_of};
-ghost use Rattle.dp_cut.specs.Fits.{StageFits, TellsNeed};
-ghost use Rattle.dp_cut.specs.Best.{AreCosts, AreLimits, HasFirst};
+ghost use Rattle.dp_cut.specs.steps.Fits.{StageFits, TellsNeed};
+ghost use Rattle.dp_cut.specs.steps.Best.{AreCosts, AreLimits, HasFirst};
 
 use dp_base::NoMemory;
 use std::alloc::Global;

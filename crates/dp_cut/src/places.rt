@@ -2,8 +2,8 @@
 ghost use Rattle.std.specs.Prelude.{◌≡◌, ◌<◌, ◌≤◌, ◌+◌, ◌^◌, ℕ, List, Bool, true, false, length, sum, All, IfOk, IfSome, IfNone, if◌then◌else◌, slice_index};
 ghost use Rattle.dp_cut.specs.LeastCut.{IsLeastCut};
 ghost use Rattle.dp_cut.specs.Allowed.{weight_between};
-ghost use Rattle.dp_cut.specs.Fits.{Fits, TellsNeed};
-ghost use Rattle.dp_cut.specs.Best.{AreCosts, AreLimits, Best, Stands, MayStand, IsBeginning};
+ghost use Rattle.dp_cut.specs.steps.Fits.{Fits, TellsNeed};
+ghost use Rattle.dp_cut.specs.steps.Best.{AreCosts, AreLimits, Best, Stands, MayStand, IsBeginning};
 
 use crate::Stretch;
 use crate::bound::least_bound;

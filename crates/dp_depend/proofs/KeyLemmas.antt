@@ -7,7 +7,7 @@ use Rattle.dp_plan.specs.Written.{has}
 use Rattle.dp_profile.specs.declared.SiteCount.{SiteCount}
 use Rattle.dp_profile.specs.declared.Flow.{Flow}
 use Rattle.dp_depend.specs.Shown.{is_flow, is_frequent}
-use Rattle.dp_depend.specs.Frequent.{key, HasFrequent, AreFrequent}
+use Rattle.dp_depend.specs.steps.Frequent.{key, HasFrequent, AreFrequent}
 
 abbrev pub passes : List SiteCount → ℕ → ℕ → ℕ → ℕ → Bool → Flow → Bool
 passes counts first rate from to carried f = is_flow from to carried f && is_frequent counts first rate f

@@ -1,5 +1,5 @@
 pub mod Node
 pub mod Lists
 pub mod Shown
-pub mod Frequent
 pub mod Edges
+pub mod steps

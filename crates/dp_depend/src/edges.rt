@@ -6,7 +6,7 @@ ghost use Rattle.dp_plan.specs.IsFar.{is_far, is_far_within};
 ghost use Rattle.dp_plan.specs.Written as written;
 ghost use Rattle.dp_plan.specs.Written.{has, region_sites};
 ghost use Rattle.dp_depend.specs.Edges as spec;
-ghost use Rattle.dp_depend.specs.Frequent.{AreFrequent};
+ghost use Rattle.dp_depend.specs.steps.Frequent.{AreFrequent};
 
 use crate::chosen::is_assumed;
 use crate::kept::Shown;

@@ -4,7 +4,7 @@ ghost use Rattle.std.specs.Option.{option_copied};
 ghost use Rattle.std.specs.List.Sorted.{IsNonDecreasing};
 ghost use Rattle.dp_plan.specs.Written as written;
 ghost use Rattle.dp_depend.specs.Shown as spec;
-ghost use Rattle.dp_depend.specs.Frequent.{key, AreFrequent, HasFrequent};
+ghost use Rattle.dp_depend.specs.steps.Frequent.{key, AreFrequent, HasFrequent};
 
 use dp_base::{NoMemory, Row, SiteId};
 use dp_profile::{Flow, Profile, RegionProfile, SiteCount};

@@ -12,7 +12,7 @@ use Rattle.dp_tree.specs.Step.{line_of}
 use Rattle.dp_calls.specs.Renaming.{Renamed}
 use Rattle.dp_calls.specs.Tables.{next_site}
 use Rattle.dp_calls.specs.Piece.{Piece}
-use Rattle.dp_inline.specs.Written.{emptied, with_statement, with_text_site, with_next_region, expr_in, after_one, after_list, after_bindings}
+use Rattle.dp_inline.specs.steps.Written.{emptied, with_statement, with_text_site, with_next_region, expr_in, after_one, after_list, after_bindings}
 use Rattle.dp_inline.proofs.FormLemmas.{unnamed, after-If, after-While, after-Region, after-Call-zero, after-Call-more, bindings-more, bindings-no_params, bindings-no_args}
 
 module _ (p : Program) (depth r : ℕ) (a : Piece) (site : SiteId) (cond : Expr) {number : SiteId} {c : Expr} (numbered : number ≡ next_site a.tables) (renamed : c ≡ expr_in a.names cond) where

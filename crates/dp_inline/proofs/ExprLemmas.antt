@@ -7,7 +7,7 @@ use Rattle.dp_tree.specs.declared.Expr.{Expr}
 use Rattle.dp_tree.specs.declared.Expr.TheVariants as tree
 use Rattle.dp_tree.proofs.EvalLemmas.{opened}
 use Rattle.dp_calls.specs.Renaming.{Renamed, target_of}
-use Rattle.dp_inline.specs.Written.{expr_in}
+use Rattle.dp_inline.specs.steps.Written.{expr_in}
 
 module _ (names : List Renamed) where
   pub in-Number : (n : ℤ) → expr_in names (tree.Number n) ≡ tree.Number n

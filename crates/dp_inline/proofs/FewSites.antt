@@ -23,7 +23,7 @@ use Rattle.dp_calls.proofs.PlainLaws.{inner_rows, plain_one, plain_within}
 use Rattle.dp_inline.specs.declared.fail.InlineFail.{InlineFail}
 use Rattle.dp_inline.specs.declared.fail.InlineFail.TheVariants.{Limit}
 use Rattle.dp_inline.specs.Size.{size_one, size_rows, size_list, size_within, inlined_size, region_size}
-use Rattle.dp_inline.specs.Verdict.{reported, unless, too_large, first_large_region, verdict}
+use Rattle.dp_inline.specs.InlineAnswer.{reported, unless, too_large, first_large_region, inline_answer}
 use Rattle.dp_inline.proofs.SizeForms.{scopes}
 use Rattle.dp_inline.proofs.SiteCount.{count_rows, count_within, sites_counted}
 
@@ -127,8 +127,8 @@ module _ (p : Program) (checked : IsChecked p) where
       ap (list_all is_small_region) whole.1.0 ∙ whole.1.1
 
   -- the expansion is as later parts ask for it
-  pub given_is_inlined : (q : Program) → verdict p ≡ Ok q → IsInlined (expand p)
-  unfolding verdict
+  pub given_is_inlined : (q : Program) → inline_answer p ≡ Ok q → IsInlined (expand p)
+  unfolding inline_answer
   given_is_inlined q given =
       let small = nothing_large (too_large p) (first_large_region p p.main) (expand p) q given in
       expanded_is_inlined p checked (few_sites small.0) (few_in_regions small.1)

@@ -15,7 +15,7 @@ use Rattle.dp_calls.specs.Renaming.{Renamed, target_of}
 use Rattle.dp_calls.specs.Tables.{Tables, next_site}
 use Rattle.dp_calls.specs.Piece.{Piece, nothing, behind, followed_by}
 use Rattle.dp_calls.specs.Expand.{Calls, expand_one, expand_rows, expand_list, calls_within, bindings, back_to}
-use Rattle.dp_inline.specs.Written.{emptied, with_statement, with_binding_site, with_text_site, with_new_local, with_declared, with_next_region, expr_in, after_one, after_list, after_bindings}
+use Rattle.dp_inline.specs.steps.Written.{emptied, with_statement, with_binding_site, with_text_site, with_new_local, with_declared, with_next_region, expr_in, after_one, after_list, after_bindings}
 
 behind_assoc : (a b c : Piece) → behind a (behind b c) ≡ behind (behind a b) c
 behind_assoc a b c = ap (λ (code : List Stmt). record c { code = code }) (sym (append_assoc a.code b.code c.code))

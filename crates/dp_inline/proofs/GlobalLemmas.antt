@@ -4,7 +4,7 @@ use Rattle.dp_tree.specs.declared.Program.{Program}
 use Rattle.dp_calls.specs.Piece.{Piece}
 use Rattle.dp_calls.specs.Tables.{first_tables}
 use Rattle.dp_calls.specs.Expand.{expand, program_of}
-use Rattle.dp_inline.specs.Written.{after_list}
+use Rattle.dp_inline.specs.steps.Written.{after_list}
 
 -- the begin of the text
 abbrev pub start : Program → Piece

@@ -12,8 +12,8 @@ use Rattle.dp_tree.proofs.Heads.{and_true}
 use Rattle.dp_inline.specs.declared.fail.InlineFail.{InlineFail}
 use Rattle.dp_inline.specs.declared.fail.InlineFail.TheVariants.{Limit}
 use Rattle.dp_inline.specs.Size.{size_one, size_within, counts_if, inlined_size, region_size}
-use Rattle.dp_inline.specs.Verdict.{reported, unless, too_large, first_large_region}
-use Rattle.dp_inline.specs.Counted.{counted, counted_one, counted_list, counted_region, first_large}
+use Rattle.dp_inline.specs.InlineAnswer.{reported, unless, too_large, first_large_region}
+use Rattle.dp_inline.specs.steps.Counted.{counted, counted_one, counted_list, counted_region, first_large}
 use Rattle.dp_inline.proofs.SizeForms.{all_sizes, scopes, sizes_agree, main_size, agree_one}
 
 not_above : (a b : ℕ) → b ≤ a → nat_lt a b ≡ false

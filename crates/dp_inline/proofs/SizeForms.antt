@@ -9,8 +9,8 @@ use Rattle.dp_tree.specs.declared.Program.{Program}
 use Rattle.dp_tree.proofs.Heads.{opened_statement, and_true}
 use Rattle.dp_calls.specs.Expand.{expand}
 use Rattle.dp_inline.specs.Size.{size_one, size_rows, size_list, size_within}
-use Rattle.dp_inline.specs.Counted.{counted, counted_one, counted_list, number_in, counted_more}
-use Rattle.dp_inline.specs.Verdict.{unless, verdict, too_large, first_large_region, reported}
+use Rattle.dp_inline.specs.steps.Counted.{counted, counted_one, counted_list, number_in, counted_more}
+use Rattle.dp_inline.specs.InlineAnswer.{unless, inline_answer, too_large, first_large_region, reported}
 use Rattle.std.specs.List.{list_all}
 use Rattle.std.proofs.lemmas.Bool.{ltb-true}
 use Rattle.std.proofs.lemmas.Bool.Decides.{eqb_tells}
@@ -73,12 +73,12 @@ module _ (each : ℕ) (sizes : List ℕ) where
 
 pub ruleset size_forms = (size-Assign, size-Store, size-Print, size-Break, size-If, size-While, size-Region, size-Call)
 
--- the verdict from its parts
-pub verdict_is : (p : Program) → verdict p ≡ unless (too_large p) (unless (first_large_region p p.main) (Ok (expand p)))
-unfolding verdict
-verdict_is p = refl
+-- the answer from its parts
+pub inline_answer_is : (p : Program) → inline_answer p ≡ unless (too_large p) (unless (first_large_region p p.main) (Ok (expand p)))
+unfolding inline_answer
+inline_answer_is p = refl
 
-pub ruleset verdicts = (verdict_is)
+pub ruleset inline_answers = (inline_answer_is)
 
 -- two ways to count the first n functions agree, up to what is reported
 module _ (each : ℕ) (p : Program) (n : ℕ) (c d : ℕ → ℕ) (same : (g : ℕ) → g < n → reported (c g) ≡ reported (d g)) where

@@ -1,6 +1,5 @@
 pub mod Size
-pub mod Verdict
-pub mod Counted
+pub mod InlineAnswer
 pub mod Named
-pub mod Written
 pub mod Same
+pub mod steps

@@ -1,7 +1,7 @@
 //! The bindings of a call's arguments to the parameters.
 
 ghost use Rattle.std.specs.Prelude.{◌≡◌, ◌∷◌, [], OnOk};
-ghost use Rattle.dp_inline.specs.Written.{written, after_bindings};
+ghost use Rattle.dp_inline.specs.steps.Written.{written, after_bindings};
 
 use crate::expr::rename;
 use crate::names::Names;

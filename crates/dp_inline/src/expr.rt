@@ -2,7 +2,7 @@
 
 ghost use Rattle.std.specs.Prelude.{◌≡◌, IfOk};
 ghost use Rattle.dp_calls.specs.Renaming.{renamed};
-ghost use Rattle.dp_inline.specs.Written.{expr_in};
+ghost use Rattle.dp_inline.specs.steps.Written.{expr_in};
 
 use crate::names::Names;
 use dp_base::{Boxed, NoMemory};

@@ -12,7 +12,7 @@ mod piece;
 mod program;
 mod site;
 mod size;
-mod stmt;
+mod statement;
 
 pub use fail::InlineFail;
 pub use law::sizes_count_sites;

@@ -68,7 +68,7 @@ fn is_file_scope(info: Option<&VarInfo>) -> bool
 }
 
 impl Writer {
-    ghost use Rattle.dp_inline.specs.Written.{written, blank, with_globals, emptied, expr_in, with_statement, with_binding_site, with_text_site, with_new_local, with_declared, with_next_region};
+    ghost use Rattle.dp_inline.specs.steps.Written.{written, blank, with_globals, emptied, expr_in, with_statement, with_binding_site, with_text_site, with_new_local, with_declared, with_next_region};
 
     /// No text yet.
     pub fn new(alloc: Global) -> Writer

@@ -4,7 +4,7 @@ ghost use Rattle.std.specs.Prelude.{◌≡◌, ℕ, OnOk, IfOk};
 ghost use Rattle.dp_tree.specs.declared.Stmt.TheVariants as tree;
 ghost use Rattle.dp_tree.specs.Step.{line_of};
 ghost use Rattle.dp_calls.specs.Tables.{next_site};
-ghost use Rattle.dp_inline.specs.Written.{written, expr_in, with_text_site, after_one};
+ghost use Rattle.dp_inline.specs.steps.Written.{written, expr_in, with_text_site, after_one};
 
 use crate::piece::Writer;
 use dp_base::{NoMemory, SiteId, VarId};

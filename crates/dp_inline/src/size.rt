@@ -2,8 +2,8 @@
 
 ghost use Rattle.std.specs.Prelude.{◌≡◌, ◌≤◌, ◌+◌, [], min, IfOk, Ok};
 ghost use Rattle.dp_tree.specs.Checked.{IsChecked};
-ghost use Rattle.dp_inline.specs.Verdict.{Gives, reported, unless, too_large, first_large_region};
-ghost use Rattle.dp_inline.specs.Counted.{counted, counted_one, counted_list, counted_more, counted_region, first_large};
+ghost use Rattle.dp_inline.specs.InlineAnswer.{Gives, reported, unless, too_large, first_large_region};
+ghost use Rattle.dp_inline.specs.steps.Counted.{counted, counted_one, counted_list, counted_more, counted_region, first_large};
 
 use crate::InlineFail;
 use dp_base::limits::{COUNTED, INLINED_SIZE, REGION_SITES};

@@ -43,10 +43,10 @@ pub use Rattle.dp_meaning.specs.NextIteration.{NextIteration, end_of}
 pub use Rattle.dp_meaning.specs.PartRun.{PartRun, PartStops}
 pub use Rattle.dp_meaning.specs.Places.{LeadsAt, Leaves, NodeAt, PositionAt, config_at, entry, first_of, first_region, led_to, listed, node, number_of, rests, shown, table, table_for}
 unfoldable pub use Rattle.dp_meaning.specs.Places.{rest_at, rests_in, rests_of, table_in, table_of}
-pub use Rattle.dp_meaning.specs.PlainSteps.{Follows, LedTo, PlainStep, PlainSteps, Ran, more, none}
+pub use Rattle.dp_meaning.specs.steps.PlainSteps.{Follows, LedTo, PlainStep, PlainSteps, Ran, more, none}
 pub use Rattle.dp_meaning.specs.Sound.{IsOrdered, IsSound, UnderWay}
 pub use Rattle.dp_meaning.specs.Standing.{IsEndOfMain}
-pub use Rattle.dp_meaning.specs.Turn.{Made, StepTaken, TurnTaken, current_behind, leaves_region}
+pub use Rattle.dp_meaning.specs.steps.Turn.{Made, StepTaken, TurnTaken, current_behind, leaves_region}
 pub use Rattle.dp_meaning.specs.Watched.{Ends, Shows, Tells, WatchSpoiled, WatchedStep, cells_of, effect_prints, effect_seen, notes, sight_prints}
 pub use Rattle.dp_meaning.specs.declared.act.Act.{Act}
 pub use Rattle.dp_meaning.specs.declared.ends.Part.{Part}

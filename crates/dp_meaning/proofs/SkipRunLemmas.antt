@@ -1,7 +1,7 @@
 -- The machine that makes the next iteration at once, against a call of `iterate` that makes all its steps.
 use Rattle.dp_meaning.proofs.Names.{All, append-nil, begins_with, Program, Part, run_of, ◌≡◌, ◌≢◌, refl, sym, ap, ◌∙◌, subst, ℕ, ◌+◌, ◌<◌, Bool, true, false, if◌then◌else◌, List, [], ◌∷◌, ◌++◌, drop, length, Option, None, ℤ, arith, StoreOf, Stmt, Config, Event, standing, behind_region, cleared_leaving, clear_locals, Run, prints, places, stands_at_head, iteration, closes, last_events, Continues, MachineState, fuel_left, rest_of_run, part_of, next_part, from_region, IterationRun, IterationStops, HeadsOnce, stores_of, with_stores, NextIteration, end_of, IsSound, IsEndOfMain}
 use Rattle.dp_meaning.specs.declared.ends.Part.TheVariants as part
-use Rattle.dp_meaning.specs.Stretch.{LeavesBehind, StandsThen, is_closed, has_left, upto_left, HeadsHere}
+use Rattle.dp_meaning.specs.steps.Stretch.{LeavesBehind, StandsThen, is_closed, has_left, upto_left, HeadsHere}
 use Rattle.dp_meaning.proofs.FollowedLemmas.{left_behind}
 use Rattle.dp_meaning.proofs.NextLemmas.{on_region, run_begins, next_events, last_front, last_iteration, open_iteration}
 use Rattle.dp_meaning.proofs.QuietLemmas.{never_again}

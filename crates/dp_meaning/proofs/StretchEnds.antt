@@ -7,7 +7,7 @@ use Rattle.dp_meaning.specs.declared.ends.IterEnd.{IterEnd}
 use Rattle.dp_meaning.specs.declared.ends.IterEnd.TheVariants as end
 use Rattle.dp_meaning.specs.declared.ends.PartEnd.TheVariants as part_end
 use Rattle.dp_meaning.specs.IterationRun.{IterationStops}
-use Rattle.dp_meaning.specs.Stretch.{has_left, upto_left, HeadsHere, IsAmid, Stretch, end_of_part}
+use Rattle.dp_meaning.specs.steps.Stretch.{has_left, upto_left, HeadsHere, IsAmid, Stretch, end_of_part}
 use Rattle.dp_meaning.proofs.ShapeLemmas.{not_plain}
 use Rattle.dp_meaning.proofs.StopLemmas.{from_region-over, part_idle, plain_idle}
 use Rattle.dp_meaning.proofs.StretchLemmas.{all_plain}

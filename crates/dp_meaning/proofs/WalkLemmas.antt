@@ -4,7 +4,7 @@ unfoldable use Rattle.dp_meaning.proofs.Names.{run_of}
 use Rattle.dp_base.specs.declared.End.TheVariants as how
 use Rattle.dp_meaning.specs.declared.ends.Part.TheVariants as part
 use Rattle.dp_meaning.specs.declared.turn.Turn.TheVariants as turn
-use Rattle.dp_meaning.specs.Stretch.{has_left, Stretch}
+use Rattle.dp_meaning.specs.steps.Stretch.{has_left, Stretch}
 use Rattle.dp_meaning.proofs.MovedLemmas.{moved_step}
 use Rattle.dp_tree.specs.declared.Stmt.TheOpen.{Region}
 use Rattle.dp_meaning.proofs.PlainLemmas.{standing_plain}

@@ -6,9 +6,7 @@ pub mod Continues
 pub mod Moved
 pub mod PartRun
 pub mod IterationRun
-pub mod Stretch
 pub mod NextIteration
 pub mod Watched
 pub mod Acting
-pub mod Turn
-pub mod PlainSteps
+pub mod steps

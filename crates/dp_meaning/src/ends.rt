@@ -1,6 +1,6 @@
 //! What comes next in a program, and how a call that runs a part of it ends.
 ghost use Rattle.std.specs.Prelude.{◌≡◌};
-ghost use Rattle.dp_meaning.specs.Stretch.{end_of_part};
+ghost use Rattle.dp_meaning.specs.steps.Stretch.{end_of_part};
 
 use dp_base::Fault;
 

@@ -3,10 +3,10 @@ use Rattle.std.proofs.Common.{◌≡◌, ℕ, ℤ, ◌+◌, ◌<◌, List, [], �
 use Rattle.std.proofs.Math.ListN.{set}
 use Rattle.std.proofs.lemmas.List.{length-take-le, length-replicate}
 use Rattle.std.proofs.lemmas.Grind.{replicate_next}
+use Rattle.dp_base.proofs.ListLemmas.{at_index}
 use Rattle.dp_memory.specs.Pieces.{filled}
 use Rattle.dp_memory.proofs.Pieces.{set_right}
 use Rattle.dp_memory.proofs.Held.{drop_one}
-use Rattle.dp_memory.proofs.Lent.{item_there}
 
 module _ (cells : List ℤ) (first : ℕ) (value : ℤ) where
   pub filled_next : (count : ℕ) → first + count < length cells → set (filled cells first count value) (first + count) value ≡ filled cells first (count + 1) value
@@ -15,7 +15,7 @@ module _ (cells : List ℤ) (first : ℕ) (value : ℤ) where
       let taken = length-take-le first cells (omega arith) in
       let middle = length-replicate count value in
       let long = length-append (take first cells) (replicate count value) in
-      let item = item_there cells (first + count) within in
+      let item = at_index cells (first + count) within in
       let rest = drop (first + count + 1) cells in
       let next : first + count + 1 ≡ first + (count + 1) = omega arith in
       set_right front (drop (first + count) cells) (first + count) 0 value (omega arith)

@@ -1,5 +1,5 @@
 -- What pages hold where the cells of one are lent for writing.
-use Rattle.std.proofs.Common.{◌≡◌, ℕ, zero, suc, ℤ, ◌+◌, ◌*◌, ◌/◌, ◌%◌, ◌<◌, ◌≤◌, Bool, true, false, ltb, List, [], ◌∷◌, ◌++◌, length, take, drop, map, Option, Some, None, slice_get, refl, sym, ap, ◌∙◌, subst, inl, inr, take_all, append-nil, append_assoc, drop_of_length-le, arith}
+use Rattle.std.proofs.Common.{◌≡◌, ℕ, ℤ, ◌+◌, ◌*◌, ◌/◌, ◌%◌, ◌<◌, ◌≤◌, Bool, true, false, ltb, List, [], ◌∷◌, ◌++◌, length, take, drop, map, Option, Some, None, slice_get, refl, sym, ap, ◌∙◌, subst, inl, inr, take_all, append-nil, append_assoc, drop_of_length-le, arith}
 use Rattle.std.proofs.Math.ListN.{set}
 use Rattle.std.proofs.lemmas.List.{map-set, take-append-le, take-append-drop, drop-drop, length-take-le, length-set}
 use Rattle.std.proofs.lemmas.Option.{slice_get-map, slice_get_within}
@@ -23,11 +23,6 @@ use Rattle.dp_memory.proofs.Grouped.{page_value}
 use Rattle.dp_memory.proofs.Held.{own_items, own_cells}
 use Rattle.dp_memory.proofs.Pieces.{joined_item, joined_set, in_pieces_set, piece_is, set_left, set_right}
 use Rattle.dp_memory.proofs.Sliced.{at_most_or_more}
-
-pub item_there : {X : Type 0} (xs : List X) (i : ℕ) → i < length xs → (x : X) × (slice_get xs i ≡ Some x)
-item_there [] i lt = let clash : ⊥ = omega arith in absurd clash
-item_there (x ∷ xs) zero lt = (x, refl)
-item_there (x ∷ xs) (suc i) lt = item_there xs i (omega arith)
 
 -- what is written over items counts only as far as there are items
 only_as_many : (xs ws : List ℤ) → take (length xs) (ws ++ drop (length ws) xs) ≡ with_items xs (take (length xs) ws)

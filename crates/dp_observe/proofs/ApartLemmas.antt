@@ -11,9 +11,9 @@ use Rattle.dp_profile.specs.declared.sites.RegionSite.{RegionSite}
 use Rattle.dp_profile.specs.Sites.{sites, regions}
 use Rattle.dp_profile.specs.ProfileText.{has_site}
 use Rattle.dp_profile.proofs.KnownSites.{number, numbers_are}
-use Rattle.dp_observe.specs.Owners.{owner_after}
-use Rattle.dp_observe.specs.Starting.{first_of}
-use Rattle.dp_observe.specs.Tracking.{InOrder}
+use Rattle.dp_observe.specs.steps.Owners.{owner_after}
+use Rattle.dp_observe.specs.steps.Starting.{first_of}
+use Rattle.dp_observe.specs.steps.Tracking.{InOrder}
 use Rattle.dp_observe.proofs.HitLemmas.{unequal}
 
 -- the regions' sites go up from k on

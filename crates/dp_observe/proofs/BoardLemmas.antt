@@ -10,9 +10,9 @@ use Rattle.dp_profile.specs.Observed.{stores_into}
 use Rattle.dp_observe.specs.declared.board.Board.{Board}
 use Rattle.dp_observe.specs.declared.counter.Counter.{Counter}
 use Rattle.dp_observe.specs.declared.sparse.Sparse.{Sparse}
-use Rattle.dp_observe.specs.Counting.{OwnerCounts, BoardCounts, writer_after}
+use Rattle.dp_observe.specs.steps.Counting.{OwnerCounts, BoardCounts, writer_after}
 use Rattle.dp_observe.specs.Sparse.{at}
-use Rattle.dp_observe.specs.Tracking.{writer_of, CounterFits, BoardFits}
+use Rattle.dp_observe.specs.steps.Tracking.{writer_of, CounterFits, BoardFits}
 use Rattle.dp_observe.proofs.HitLemmas.{same_test, unequal}
 use Rattle.dp_observe.proofs.CounterLemmas.{get_set_same, get_set_other, length_set, counter_own, counter_other}
 

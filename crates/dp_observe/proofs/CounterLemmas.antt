@@ -1,6 +1,8 @@
 -- What was counted in a region, after one event more.
-use Rattle.std.proofs.Common.{◌≡◌, ◌≢◌, refl, sym, ap, subst, ◌∙◌, ℕ, zero, suc, ◌-◌, ◌<◌, ◌==◌, Bool, true, false, List, [], ◌∷◌, length, Option, Some, None, slice_get, slice_set, inl, inr, arith, eqb-true, eq-eqb}
+use Rattle.std.proofs.Common.{◌≡◌, ◌≢◌, refl, sym, ap, subst, ◌∙◌, ℕ, zero, suc, ◌-◌, ◌==◌, Bool, true, false, List, [], ◌∷◌, length, Option, Some, None, slice_get, slice_set, inl, inr, arith, eqb-true, eq-eqb}
 use Rattle.std.proofs.lemmas.Bool.{cases_Bool}
+use Rattle.dp_base.proofs.ListLemmas.{at_index}
+use Rattle.std.proofs.lemmas.Option.{slice_get_within}
 use Rattle.dp_tree.specs.declared.Program.{Program}
 use Rattle.dp_tree.specs.Step.{Event}
 use Rattle.dp_meaning.specs.Watched.{cells_of, effect_seen}
@@ -11,22 +13,12 @@ use Rattle.dp_observe.specs.declared.frame.Frame.{Frame}
 use Rattle.dp_observe.specs.declared.frame.Writer.{Writer}
 use Rattle.dp_observe.specs.declared.sparse.Sparse.{Sparse}
 use Rattle.dp_observe.specs.declared.tally.Tally.{Tally}
-use Rattle.dp_observe.specs.Counting.{TallyCounts, PlaceCounts, Counts}
+use Rattle.dp_observe.specs.steps.Counting.{TallyCounts, PlaceCounts, Counts}
 use Rattle.dp_observe.specs.Sparse.{at}
-use Rattle.dp_observe.specs.Tracking.{writer_of, FrameFits, TallyFits, CounterFits}
+use Rattle.dp_observe.specs.steps.Tracking.{writer_of, FrameFits, TallyFits, CounterFits}
 use Rattle.dp_observe.proofs.FrameLemmas.{frame_own, frame_other}
 use Rattle.dp_observe.proofs.HitLemmas.{unequal, in_order_at, in_order_find}
 use Rattle.dp_observe.proofs.TallyLemmas.{tally_own, tally_other}
-
-pub item_there : {X : Type 0} (xs : List X) (k : ℕ) → k < length xs → (x : X) × (slice_get xs k ≡ Some x)
-item_there [] k h = absurd (omega (arith, h))
-item_there (x ∷ xs) zero h = (x, refl)
-item_there (x ∷ xs) (suc k) h = item_there xs k (omega (arith, h))
-
-pub there_within : {X : Type 0} (xs : List X) (k : ℕ) (x : X) → slice_get xs k ≡ Some x → k < length xs
-there_within [] k x e = absurd (cc e)
-there_within (y ∷ xs) zero x e = omega arith
-there_within (y ∷ xs) (suc k) x e = let later = there_within xs k x e in omega (arith, later)
 
 pub get_set_same : {X : Type 0} (xs : List X) (k : ℕ) (x y : X) → slice_get (slice_set xs k x) k ≡ Some y → y ≡ x
 get_set_same [] k x y e = absurd (cc e)
@@ -93,9 +85,9 @@ module _ (p : Program) (region : ℕ) (sites : List RegionSite) (e : Event) (pas
     new_by : (o : Option Tally) → slice_get c.tallies n ≡ o → PlaceCounts (effect_seen e.effect) (cells_of e.loads) d.frame writers c.locals n c.tallies d.tallies o → New d.tallies
     new_by None got so =
         let find = in_order_find c.frame.first.0 sites e.site fits.frame.first here in
-        let within = there_within sites n find.1.0 find.1.1 in
+        let within = slice_get_within sites n find.1.0 find.1.1 in
         let size = fits.size in
-        let item = item_there c.tallies n (omega (arith, within, size)) in
+        let item = at_index c.tallies n (omega (arith, within, size)) in
         let clash = sym got ∙ item.1 in absurd (cc clash)
     new_by (Some t) got so = (
       ap length so.1 ∙ length_set c.tallies n so.0 ∙ fits.size,

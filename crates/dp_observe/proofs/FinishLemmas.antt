@@ -12,10 +12,10 @@ use Rattle.dp_profile.specs.Observed.{backward, gives_nonzero, site_count, shown
 use Rattle.dp_observe.specs.declared.board.Board.{Board}
 use Rattle.dp_observe.specs.declared.counter.Counter.{Counter}
 use Rattle.dp_observe.specs.declared.tally.Tally.{Tally}
-use Rattle.dp_observe.specs.Frames.{one_if}
-use Rattle.dp_observe.specs.Columns.{at_column}
-use Rattle.dp_observe.specs.Taken.{flows_of, flows_from, flows_taken, region_taken, regions_taken}
-use Rattle.dp_observe.specs.Tracking.{TallyFits, CounterFits, BoardFits}
+use Rattle.dp_observe.specs.steps.Frames.{one_if}
+use Rattle.dp_observe.specs.steps.Columns.{at_column}
+use Rattle.dp_observe.specs.steps.Taken.{flows_of, flows_from, flows_taken, region_taken, regions_taken}
+use Rattle.dp_observe.specs.steps.Tracking.{TallyFits, CounterFits, BoardFits}
 use Rattle.dp_observe.proofs.HitLemmas.{count_cons}
 
 count_backward : (test : Event → Bool) (acc xs : List Event) → count_by test (backward acc xs) ≡ count_by test xs + count_by test acc

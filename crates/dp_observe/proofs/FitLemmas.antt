@@ -3,6 +3,7 @@ use Rattle.std.proofs.Common.{◌≡◌, refl, sym, ap, ◌∙◌, ℕ, zero, su
 use Rattle.std.specs.List.{flat_map}
 use Rattle.std.proofs.lemmas.Bool.{cases_Bool, lt-ltb}
 use Rattle.std.proofs.lemmas.List.Sums.{count_by-le-length}
+use Rattle.dp_plan.proofs.EachLemmas.{each-lists}
 use Rattle.dp_tree.specs.declared.Program.{Program}
 use Rattle.dp_tree.specs.Inlined.{IsInlined}
 use Rattle.dp_tree.specs.Step.{Event, Config, Step, Finished, Faulted, Stepped, step}
@@ -13,9 +14,9 @@ use Rattle.dp_profile.specs.declared.sites.RegionSite.{RegionSite}
 use Rattle.dp_profile.specs.Sites.{regions}
 use Rattle.dp_profile.specs.ProfileText.{most_count, has_site, is_before, CountFits, CountsFit, FlowFits, Ascend, RegionFits, RegionsFit, ProfileFits}
 use Rattle.dp_profile.specs.Observed.{gives_nonzero, site_count, begins_iteration, last_store, is_local_cell, is_from, shown_by, shown_back, backward, flow_of, flows_between, flows_seen, region_seen, regions_seen, observed}
-use Rattle.dp_observe.specs.Frames.{one_if}
+use Rattle.dp_observe.specs.steps.Frames.{one_if}
 use Rattle.dp_observe.specs.Loads.{loads_made}
-use Rattle.dp_observe.specs.Tracking.{InOrder}
+use Rattle.dp_observe.specs.steps.Tracking.{InOrder}
 use Rattle.dp_observe.proofs.ApartLemmas.{Apart, regions_apart}
 use Rattle.dp_observe.proofs.CounterLemmas.{has_site_at}
 use Rattle.dp_observe.proofs.HitLemmas.{count_cons}
@@ -47,10 +48,6 @@ shown_less p r sites from to carried (e ∷ before) = by (e.site == to) (shown_l
     by false later = omega (arith, later)
 
 -- ---- flows in order
-
-each_join : {X : Type 0} (P : X → Type 0) (xs ys : List X) → Each P xs → Each P ys → Each P (xs ++ ys)
-each_join P [] ys h k = k
-each_join P (x ∷ xs) ys h k = (h.0, each_join P xs ys h.1 k)
 
 each_more : {X : Type 0} (P Q : X → Type 0) (xs : List X) → ((x : X) → P x → Q x) → Each P xs → Each Q xs
 each_more P Q [] go h = tt
@@ -147,7 +144,7 @@ module _ (p : Program) (r : ℕ) (all : List RegionSite) (trace : List Event) (f
 
     pair_of : (u : RegionSite) (low : ℕ) → has_site u.site.0 all ≡ true → u.site.0 ≡ low → Each (RowOf d.site.0 low) (flows_between p r all trace d u)
     pair_of u low inside number =
-        each_join (RowOf d.site.0 low) (flow_of _ d u false) (flow_of _ d u true)
+        each-lists (RowOf d.site.0 low) (flow_of _ d u false) (flow_of _ d u true)
         (each_more (Of d.site.0 u.site.0 false) (RowOf d.site.0 low) (flow_of _ d u false) (fits_of u false low inside number) (flow_is _ d u false (less u false)))
         (each_more (Of d.site.0 u.site.0 true) (RowOf d.site.0 low) (flow_of _ d u true) (fits_of u true low inside number) (flow_is _ d u true (less u true)))
 
@@ -160,13 +157,13 @@ module _ (p : Program) (r : ℕ) (all : List RegionSite) (trace : List Event) (f
     row_of : (low : ℕ) (us : List RegionSite) → InOrder low us → Inside us → Each (RowOf d.site.0 low) (flat_map (flows_between p r all trace d) us)
     row_of low [] order inside = tt
     row_of low (u ∷ us) order inside =
-        each_join (RowOf d.site.0 low) (flows_between p r all trace d u) (flat_map (flows_between p r all trace d) us) (pair_of u low (inside 0 u refl) order.0)
+        each-lists (RowOf d.site.0 low) (flows_between p r all trace d u) (flat_map (flows_between p r all trace d) us) (pair_of u low (inside 0 u refl) order.0)
         (each_more (RowOf d.site.0 (suc low)) (RowOf d.site.0 low) (flat_map (flows_between p r all trace d) us) (λ f h. (h.0, h.1, (let l = h.2 in omega (arith, l))))
         (row_of (suc low) us order.1 (λ i v there. inside (suc i) v there)))
 
     pair_to : (u : RegionSite) → Each (λ f. (f.from.0 ≡ d.site.0) × (f.to.0 ≡ u.site.0)) (flows_between p r all trace d u)
     pair_to u =
-        each_join (λ f. (f.from.0 ≡ d.site.0) × (f.to.0 ≡ u.site.0)) (flow_of _ d u false) (flow_of _ d u true)
+        each-lists (λ f. (f.from.0 ≡ d.site.0) × (f.to.0 ≡ u.site.0)) (flow_of _ d u false) (flow_of _ d u true)
         (each_more (Of d.site.0 u.site.0 false) (λ f. (f.from.0 ≡ d.site.0) × (f.to.0 ≡ u.site.0)) (flow_of _ d u false) (λ f h. (h.from_is, h.to_is)) (flow_is _ d u false (less u false)))
         (each_more (Of d.site.0 u.site.0 true) (λ f. (f.from.0 ≡ d.site.0) × (f.to.0 ≡ u.site.0)) (flow_of _ d u true) (λ f h. (h.from_is, h.to_is)) (flow_is _ d u true (less u true)))
 
@@ -185,7 +182,7 @@ module _ (p : Program) (r : ℕ) (all : List RegionSite) (trace : List Event) (f
     rows_of : (low : ℕ) (ds : List RegionSite) → InOrder low ds → Inside ds → Each (FromOf low) (flat_map (λ d. flat_map (flows_between p r all trace d) all) ds)
     rows_of low [] o i = tt
     rows_of low (d ∷ ds) o i =
-        each_join (FromOf low) (flat_map (flows_between p r all trace d) all) (flat_map (λ d. flat_map (flows_between p r all trace d) all) ds)
+        each-lists (FromOf low) (flat_map (flows_between p r all trace d) all) (flat_map (λ d. flat_map (flows_between p r all trace d) all) ds)
         (each_more (RowOf d.site.0 k) (FromOf low) (flat_map (flows_between p r all trace d) all) (λ f h. (h.0, (let from = h.1 in let number = o.0 in omega (arith, from, number)))) (row_of d (i 0 d refl) k all order inside))
         (each_more (FromOf (suc low)) (FromOf low) (flat_map (λ d. flat_map (flows_between p r all trace d) all) ds) (λ f h. (h.0, (let l = h.1 in omega (arith, l)))) (rows_of (suc low) ds o.1 (λ j v there. i (suc j) v there)))
 

@@ -7,8 +7,8 @@ use Rattle.dp_profile.specs.ProfileText.{has_site}
 use Rattle.dp_profile.specs.Observed.{Source, begins_iteration, stores_into, last_store}
 use Rattle.dp_observe.specs.declared.frame.Frame.{Frame}
 use Rattle.dp_observe.specs.declared.frame.Writer.{Writer}
-use Rattle.dp_observe.specs.Frames.{kept, frame_after}
-use Rattle.dp_observe.specs.Tracking.{writer_of, since, begun, InOrder, FrameFits}
+use Rattle.dp_observe.specs.steps.Frames.{kept, frame_after}
+use Rattle.dp_observe.specs.steps.Tracking.{writer_of, since, begun, InOrder, FrameFits}
 
 kept_at : (f : Frame) (n k target : ℕ) → (f.last ≡ n → k ≡ target) → (f.last ≢ n → n ≡ target) → kept f (suc n) k ≡ target
 kept_at f n k target same other =

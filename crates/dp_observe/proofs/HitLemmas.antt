@@ -12,9 +12,9 @@ use Rattle.dp_profile.specs.Observed.{begins_iteration, last_store, is_from, is_
 use Rattle.dp_observe.specs.declared.frame.Frame.{Frame}
 use Rattle.dp_observe.specs.declared.frame.Writer.{Writer}
 use Rattle.dp_observe.specs.declared.sparse.Sparse.{Sparse}
-use Rattle.dp_observe.specs.Frames.{one_if, column, column_of, hits, loads_at}
+use Rattle.dp_observe.specs.steps.Frames.{one_if, column, column_of, hits, loads_at}
 use Rattle.dp_observe.specs.Sparse.{at}
-use Rattle.dp_observe.specs.Tracking.{writer_of, since, begun, InOrder}
+use Rattle.dp_observe.specs.steps.Tracking.{writer_of, since, begun, InOrder}
 use Rattle.dp_observe.proofs.FrameLemmas.{source_of, writer_own, load_found}
 
 pub same_test : (a b c d : ℕ) → (a ≡ b → c ≡ d) → (c ≡ d → a ≡ b) → (a == b) ≡ (c == d)

@@ -10,28 +10,26 @@ use Rattle.dp_tree.specs.declared.Stmt.{Stmt, out-Stmt, roll-Stmt, roll-out-Stmt
 use Rattle.dp_tree.specs.declared.Stmt.TheOpen.{Stmt-F, Assign, Store, Print, If, While, Region, Break, Call}
 use Rattle.dp_tree.specs.declared.Stmt.TheViews.{rolls-If, rolls-While, rolls-Region, rolls-Break}
 use Rattle.dp_base.specs.declared.VarId.{VarId}
+use Rattle.dp_base.proofs.ListLemmas.{get_before}
+use Rattle.dp_plan.proofs.EachLemmas.{each_split}
 use Rattle.dp_tree.specs.declared.Expr.{Expr}
 use Rattle.dp_tree.specs.Eval.{WithLoads, Evaluated, and_then, after_loads, just, eval, place, cell_count, first_cell}
 use Rattle.dp_tree.specs.Inlined.{IsInlined}
 use Rattle.dp_tree.specs.Numbering.{is_marked, site_numbers_all}
 use Rattle.dp_tree.specs.Step.{Config, Effect, Stored, Event, Step, Finished, Faulted, Stepped, choose, followed, behind_region, behind_one, region_number, after_effect, site_of, evaluated, value_of, step, step_at, step_by, stored_by}
 use Rattle.dp_tree.specs.Trace.{run_of, run_by, begin, start_cells}
+use Rattle.dp_tree.proofs.Asked.{asked-If, asked-While, asked-Region}
 use Rattle.dp_tree.proofs.Heads.{standing_to_do}
+use Rattle.dp_tree.proofs.SitesOf.{opened_statement}
 use Rattle.dp_plan.specs.Each.{Each}
 use Rattle.dp_plan.proofs.Ascent.{Ascends, ascends-numbers_from}
 use Rattle.dp_profile.specs.declared.sites.RegionSite.{RegionSite}
-use Rattle.dp_profile.specs.Lists.{site_list, site_lists}
-use Rattle.dp_profile.specs.Sites.{region_site, sites, regions}
+use Rattle.dp_profile.specs.Sites.{region_site, site_at, sites, regions}
 use Rattle.dp_profile.specs.Observed.{gives_nonzero}
 use Rattle.dp_profile.proofs.KnownSites.{number, numbers_are}
-use Rattle.dp_profile.proofs.ListWalks.{sites-If, sites-While, sites-Region, sites-Break}
-use Rattle.dp_observe.specs.Tracking.{InOrder}
+use Rattle.dp_observe.specs.steps.Tracking.{InOrder}
 use Rattle.dp_observe.proofs.ApartLemmas.{in_order}
 use Rattle.dp_observe.proofs.HitLemmas.{count_cons, in_order_at}
-
-each_split : {X : Type 0} (P : X → Type 0) (xs ys : List X) → Each P (xs ++ ys) → Each P xs × Each P ys
-each_split P [] ys h = (tt, h)
-each_split P (x ∷ xs) ys h = let later = each_split P xs ys h.1 in ((h.0, later.0), later.1)
 
 each_place : {X : Type 0} (P : X → Type 0) (xs : List X) → ((i : ℕ) (x : X) → slice_get xs i ≡ Some x → P x) → Each P xs
 each_place P [] h = tt
@@ -73,22 +71,22 @@ module _ (n : ℕ) where
   QuietAt (Call f line args) = Unit {0}
 
   quiet_roll : (h : Stmt-F Stmt) → Each Still (sites (roll-Stmt h)) → QuietAt h
-  unfolding site_list site_lists
+  unfolding opened_statement
   quiet_roll (Assign site x e) q = tt
   quiet_roll (Store site x index e) q = tt
   quiet_roll (Print site e) q = tt
   quiet_roll (If site cond a b) q =
-      let all : Each Still (region_site site true ∷ (flat_map sites a ++ flat_map sites b)) = subst (Each Still) (ap sites (rolls-If site cond a b) ∙ sites-If site cond a b) q in
+      let all : Each Still (region_site site true ∷ (flat_map sites a ++ flat_map sites b)) = subst (Each Still) (ap sites (rolls-If site cond a b) ∙ asked-If site_at site cond a b) q in
       let parts = each_split Still (flat_map sites a) (flat_map sites b) all.1 in
       (all.0, quiet_flat a parts.0, quiet_flat b parts.1)
   quiet_roll (While site cond a) q =
-      let all : Each Still (region_site site true ∷ flat_map sites a) = subst (Each Still) (ap sites (rolls-While site cond a) ∙ sites-While site cond a) q in
+      let all : Each Still (region_site site true ∷ flat_map sites a) = subst (Each Still) (ap sites (rolls-While site cond a) ∙ asked-While site_at site cond a) q in
       (all.0, quiet_flat a all.1)
   quiet_roll (Region r site cond a) q =
-      let all : Each Still (region_site site true ∷ flat_map sites a) = subst (Each Still) (ap sites (rolls-Region r site cond a) ∙ sites-Region r site cond a) q in
+      let all : Each Still (region_site site true ∷ flat_map sites a) = subst (Each Still) (ap sites (rolls-Region r site cond a) ∙ asked-Region site_at r site cond a) q in
       (all.0, quiet_flat a all.1)
   quiet_roll (Break site cond) q =
-      let all : Each Still (region_site site true ∷ []) = subst (Each Still) (ap sites (rolls-Break site cond) ∙ sites-Break site cond) q in all.0
+      let all : Each Still (region_site site true ∷ []) = subst (Each Still) (ap sites (rolls-Break site cond)) q in all.0
   quiet_roll (Call f line args) q = tt
 
   quiet_out : (x : Stmt) → Each Still (sites x) → QuietAt (out-Stmt x)
@@ -198,11 +196,6 @@ module _ (n : ℕ) where
       ]
 
 -- ---- a region's site among all sites of `main`
-
-get_before : {X : Type 0} (xs ys : List X) (k : ℕ) (x : X) → slice_get xs k ≡ Some x → slice_get (xs ++ ys) k ≡ Some x
-get_before [] ys k x e = absurd (cc e)
-get_before (z ∷ xs) ys zero x e = e
-get_before (z ∷ xs) ys (suc k) x e = get_before xs ys k x e
 
 get_behind : {X : Type 0} (xs ys : List X) (k : ℕ) (x : X) → slice_get ys k ≡ Some x → (i : ℕ) × (slice_get (xs ++ ys) i ≡ Some x)
 get_behind [] ys k x e = (k, e)

@@ -7,12 +7,14 @@ use Rattle.std.specs.List.Sorted.{IsStrictlySortedBy}
 use Rattle.std.specs.Map.{keys_of}
 use Rattle.std.proofs.lemmas.Bool.{cases_Bool}
 use Rattle.std.proofs.lemmas.Bool.Decides.{nat_tests}
+use Rattle.dp_base.proofs.ListLemmas.{at_index}
+use Rattle.std.proofs.lemmas.Option.{slice_get_within}
 use Rattle.dp_profile.specs.declared.Flow.{Flow}
 use Rattle.dp_profile.specs.declared.sites.RegionSite.{RegionSite}
 use Rattle.dp_observe.specs.declared.tally.Tally.{Tally}
-use Rattle.dp_observe.specs.Columns.{at_column}
-use Rattle.dp_observe.specs.Taken.{one_flow, flows_of, Puts, row_at, Grows, all_rows, flows_from, flows_taken}
-use Rattle.dp_observe.proofs.CounterLemmas.{item_there, there_within, length_set}
+use Rattle.dp_observe.specs.steps.Columns.{at_column}
+use Rattle.dp_observe.specs.steps.Taken.{one_flow, flows_of, Puts, row_at, Grows, all_rows, flows_from, flows_taken}
+use Rattle.dp_observe.proofs.CounterLemmas.{length_set}
 
 -- ---- the counts of columns in order
 
@@ -131,7 +133,7 @@ module _ (sites : List RegionSite) (to : RegionSite) (column shown : ℕ) (old n
 
       by : (s : Option RegionSite) (r : Option (List Flow)) → slice_get sites (column / 2) ≡ s → slice_get old (column / 2) ≡ r → Puts to column shown s r old new → Grown
       by None r at got so = same so (λ place from there within. away place (λ e. let clash = sym at ∙ ap (slice_get sites) e ∙ there in absurd (cc clash)))
-      by (Some d) None at got so = same so (λ place from there within. away place (λ e. let item = item_there old place within in let clash = sym got ∙ ap (slice_get old) e ∙ item.1 in absurd (cc clash)))
+      by (Some d) None at got so = same so (λ place from there within. away place (λ e. let item = at_index old place within in let clash = sym got ∙ ap (slice_get old) e ∙ item.1 in absurd (cc clash)))
       by (Some d) (Some row) at got so = (
         ap length so ∙ length_set old (column / 2) (row ++ one_flow shown d to (column % 2 == 1)),
         λ place from there within.
@@ -196,7 +198,7 @@ pub site_more : (all left rest : List RegionSite) (tallies later : List Tally) (
 site_more all left rest tallies later to t goal old new is so grows size are = (
   grows.size ∙ size,
   λ place from there.
-      ap (λ (r : List Flow). r ++ flows_from place from rest later) (grows.rows place from there (let within = there_within all place from there in omega (arith, within, size)))
+      ap (λ (r : List Flow). r ++ flows_from place from rest later) (grows.rows place from there (let within = slice_get_within all place from there in omega (arith, within, size)))
       ∙ append_assoc (row_at old place) (flows_of place from to t.shown) (flows_from place from rest later)
       ∙ ap (λ (ts : List Tally). row_at old place ++ flows_from place from (to ∷ rest) ts) (sym so) ∙ ap (λ (ss : List RegionSite). row_at old place ++ flows_from place from ss tallies) (sym is) ∙ are place from there,
 )

@@ -16,14 +16,14 @@ use Rattle.dp_profile.specs.Sites.{regions}
 use Rattle.dp_profile.specs.Observed.{backward, regions_seen, observed}
 use Rattle.dp_observe.specs.declared.board.Board.{Board}
 use Rattle.dp_observe.specs.declared.counter.Counter.{Counter}
-use Rattle.dp_observe.specs.Counting.{BoardCounts}
-use Rattle.dp_observe.specs.Frames.{nobody}
-use Rattle.dp_observe.specs.Owners.{owner_after}
-use Rattle.dp_observe.specs.Running.{Ran}
+use Rattle.dp_observe.specs.steps.Counting.{BoardCounts}
+use Rattle.dp_observe.specs.steps.Frames.{nobody}
+use Rattle.dp_observe.specs.steps.Owners.{owner_after}
+use Rattle.dp_observe.specs.steps.Running.{Ran}
 use Rattle.dp_observe.specs.Sparse.{at}
-use Rattle.dp_observe.specs.Starting.{AllStart}
-use Rattle.dp_observe.specs.Taken.{regions_taken}
-use Rattle.dp_observe.specs.Tracking.{BoardFits}
+use Rattle.dp_observe.specs.steps.Starting.{AllStart}
+use Rattle.dp_observe.specs.steps.Taken.{regions_taken}
+use Rattle.dp_observe.specs.steps.Tracking.{BoardFits}
 use Rattle.dp_observe.proofs.BoardLemmas.{board_next}
 use Rattle.dp_observe.proofs.FinishLemmas.{profile_is}
 use Rattle.dp_observe.proofs.StartLemmas.{board_starts}

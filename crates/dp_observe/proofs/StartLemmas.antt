@@ -10,11 +10,11 @@ use Rattle.dp_observe.specs.declared.counter.Counter.{Counter}
 use Rattle.dp_observe.specs.declared.frame.Writer.{Writer}
 use Rattle.dp_observe.specs.declared.sparse.Sparse.{Sparse}
 use Rattle.dp_observe.specs.declared.tally.Tally.{Tally}
-use Rattle.dp_observe.specs.Frames.{nobody, blank}
-use Rattle.dp_observe.specs.Owners.{owner_after}
+use Rattle.dp_observe.specs.steps.Frames.{nobody, blank}
+use Rattle.dp_observe.specs.steps.Owners.{owner_after}
 use Rattle.dp_observe.specs.Sparse.{at}
-use Rattle.dp_observe.specs.Starting.{Starts, AllStart, first_of}
-use Rattle.dp_observe.specs.Tracking.{InOrder, FrameFits, TallyFits, CounterFits, BoardFits}
+use Rattle.dp_observe.specs.steps.Starting.{Starts, AllStart, first_of}
+use Rattle.dp_observe.specs.steps.Tracking.{InOrder, FrameFits, TallyFits, CounterFits, BoardFits}
 use Rattle.dp_observe.proofs.ApartLemmas.{regions_apart, owner_is, order_of}
 
 all_same : {X Y : Type 0} (b : Y) (xs : List X) (k : ℕ) (y : Y) → slice_get (map (λ _. b) xs) k ≡ Some y → y ≡ b

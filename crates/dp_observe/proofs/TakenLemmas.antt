@@ -3,7 +3,7 @@ use Rattle.std.proofs.Common.{◌≡◌, refl, ℕ, List, [], ◌∷◌, length,
 use Rattle.dp_profile.specs.declared.sites.RegionSite.{RegionSite}
 use Rattle.dp_observe.specs.declared.counter.Counter.{Counter}
 use Rattle.dp_observe.specs.declared.tally.Tally.{Tally}
-use Rattle.dp_observe.specs.Taken.{flows_from, regions_taken}
+use Rattle.dp_observe.specs.steps.Taken.{flows_from, regions_taken}
 
 pub no_sites : (place : ℕ) (from : RegionSite) (sites : List RegionSite) (tallies : List Tally) → length sites ≡ 0 → flows_from place from sites tallies ≡ []
 no_sites place from [] tallies e = refl

@@ -11,10 +11,10 @@ use Rattle.dp_observe.specs.declared.frame.Frame.{Frame}
 use Rattle.dp_observe.specs.declared.frame.Writer.{Writer}
 use Rattle.dp_observe.specs.declared.sparse.Sparse.{Sparse}
 use Rattle.dp_observe.specs.declared.tally.Tally.{Tally}
-use Rattle.dp_observe.specs.Counting.{TallyCounts}
-use Rattle.dp_observe.specs.Frames.{one_if, is_nonzero, counted, loads_at}
+use Rattle.dp_observe.specs.steps.Counting.{TallyCounts}
+use Rattle.dp_observe.specs.steps.Frames.{one_if, is_nonzero, counted, loads_at}
 use Rattle.dp_observe.specs.Sparse.{at}
-use Rattle.dp_observe.specs.Tracking.{writer_of, since, begun, InOrder, TallyFits}
+use Rattle.dp_observe.specs.steps.Tracking.{writer_of, since, begun, InOrder, TallyFits}
 use Rattle.dp_observe.proofs.HitLemmas.{count_cons, loads_shown}
 
 nonzero_seen : (e : Effect) → is_nonzero (effect_seen e) ≡ gives_nonzero e

@@ -1,10 +1,10 @@
 //! What was counted in all regions.
 ghost use Rattle.std.specs.Prelude.{◌≡◌, ℕ, ◌<◌, ◌≤◌, ◌+◌, ◌-◌, ◌^◌, [], IfOk, OnOk, OnErr};
-ghost use Rattle.dp_observe.specs.Counting.{BoardCounts, writer_after};
-ghost use Rattle.dp_observe.specs.Frames.{nobody};
-ghost use Rattle.dp_observe.specs.Owners.{owner_after};
+ghost use Rattle.dp_observe.specs.steps.Counting.{BoardCounts, writer_after};
+ghost use Rattle.dp_observe.specs.steps.Frames.{nobody};
+ghost use Rattle.dp_observe.specs.steps.Owners.{owner_after};
 ghost use Rattle.dp_observe.specs.Sparse.{at};
-ghost use Rattle.dp_observe.specs.Starting.{AllStart};
+ghost use Rattle.dp_observe.specs.steps.Starting.{AllStart};
 
 use crate::counter::Counter;
 use crate::frame::{Seen, Writer};

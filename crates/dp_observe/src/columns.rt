@@ -22,8 +22,8 @@ impl Model for Columns {
 }
 
 ghost use Rattle.std.specs.Prelude.{◌≡◌, ℕ, ◌+◌, [], if◌then◌else◌, ◌==◌, OnOk};
-ghost use Rattle.dp_observe.specs.Columns.{at_column};
-ghost use Rattle.dp_observe.specs.Taken.{Grows};
+ghost use Rattle.dp_observe.specs.steps.Columns.{at_column};
+ghost use Rattle.dp_observe.specs.steps.Taken.{Grows};
 
 /// Puts the flow of each column into the row of its first site.
 fn put_counts(

@@ -1,9 +1,9 @@
 //! What was counted in one region.
 ghost use Rattle.std.specs.Prelude.{◌≡◌, ◌<◌, map, IfOk, OnOk};
-ghost use Rattle.dp_observe.specs.Counting.{Counts};
-ghost use Rattle.dp_observe.specs.Frames.{blank};
-ghost use Rattle.dp_observe.specs.Starting as starting;
-ghost use Rattle.dp_observe.specs.Starting.{Starts};
+ghost use Rattle.dp_observe.specs.steps.Counting.{Counts};
+ghost use Rattle.dp_observe.specs.steps.Frames.{blank};
+ghost use Rattle.dp_observe.specs.steps.Starting as starting;
+ghost use Rattle.dp_observe.specs.steps.Starting.{Starts};
 
 use crate::frame::{Frame, Seen, Writer};
 use crate::locals::locals_of;

@@ -1,6 +1,6 @@
 //! Where a run stands in a region, and from where a load's value came.
 ghost use Rattle.std.specs.Prelude.{◌≡◌, ◌<◌};
-ghost use Rattle.dp_observe.specs.Frames as definition;
+ghost use Rattle.dp_observe.specs.steps.Frames as definition;
 
 use dp_base::SiteId;
 use dp_meaning::Effect;

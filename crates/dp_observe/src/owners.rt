@@ -2,7 +2,7 @@
 ghost use Rattle.std.specs.Prelude.{◌≡◌, ℕ, ◌^◌, ◌-◌, if◌then◌else◌, IfOk, OnOk};
 ghost use Rattle.dp_profile.specs.ProfileText.{has_site};
 ghost use Rattle.dp_observe.specs.Sparse.{at};
-ghost use Rattle.dp_observe.specs.Owners.{owner_after};
+ghost use Rattle.dp_observe.specs.steps.Owners.{owner_after};
 
 use crate::sparse::Sparse;
 use dp_base::{NoMemory, Row};

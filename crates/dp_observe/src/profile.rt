@@ -1,6 +1,6 @@
 //! The profile that was counted.
 ghost use Rattle.std.specs.Prelude.{◌≡◌, map, IfOk};
-ghost use Rattle.dp_observe.specs.Taken as taken;
+ghost use Rattle.dp_observe.specs.steps.Taken as taken;
 
 use crate::counter::Counter;
 use crate::rows::{empty_rows, joined};

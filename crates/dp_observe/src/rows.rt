@@ -1,6 +1,6 @@
 //! Flows in rows, one for each site that they come from.
 ghost use Rattle.std.specs.Prelude.{◌≡◌, ◌++◌, ◌/◌, slice_get, map, [], IfOk, OnOk};
-ghost use Rattle.dp_observe.specs.Taken as taken;
+ghost use Rattle.dp_observe.specs.steps.Taken as taken;
 
 use dp_base::{NoMemory, Row};
 use dp_profile::{Flow, RegionSite};

@@ -1,7 +1,7 @@
 //! What was counted at one site.
 ghost use Rattle.std.specs.Prelude.{◌≡◌, ℕ, ◌+◌, ◌≤◌, ◌⊎◌, ◌^◌, true, IfOk, OnOk, OnErr};
-ghost use Rattle.dp_observe.specs.Frames as definition;
-ghost use Rattle.dp_observe.specs.Columns.{at_column};
+ghost use Rattle.dp_observe.specs.steps.Frames as definition;
+ghost use Rattle.dp_observe.specs.steps.Columns.{at_column};
 
 use crate::columns::Columns;
 use crate::frame::{Frame, Writer};

@@ -2,7 +2,7 @@
 ghost use Rattle.std.specs.Prelude.{◌≡◌, IfOk};
 ghost use Rattle.dp_tree.specs.Inlined.{IsInlined};
 ghost use Rattle.dp_profile.specs.Observed.{observed};
-ghost use Rattle.dp_observe.specs.Running.{Ran};
+ghost use Rattle.dp_observe.specs.steps.Running.{Ran};
 
 use crate::board::Board;
 use crate::frame::Seen;

@@ -9,8 +9,8 @@ use Rattle.dp_tokens.specs.Symbols.{symbol_at, Is}
 use Rattle.dp_parse.specs.Rules.{Part, Word, Of, Condition, Choice, Block, Statements}
 use Rattle.dp_parse.specs.Rules as rule
 use Rattle.dp_tokens.specs.Steps.{Parser, ◌>>=◌, pure, expect, sees, rest}
-use Rattle.dp_parse.specs.descent.Statements as statements
-use Rattle.dp_parse.specs.descent.Regions as read
+use Rattle.dp_parse.specs.steps.Statements as statements
+use Rattle.dp_parse.specs.steps.Regions as read
 use Rattle.dp_parse.proofs.StepLemmas.{is_same, sees_is, sees_other, unlike}
 use Rattle.dp_parse.proofs.StatementReads.{statements_not}
 use Rattle.dp_parse.proofs.RegionComplete.{tested_as, stays_in, inside_if}

@@ -12,8 +12,8 @@ use Rattle.dp_parse.specs.Levels.{prefixing}
 use Rattle.dp_parse.specs.Rules.{Part, Word, Of, Expression, Expressions, Arguments, Condition}
 use Rattle.dp_parse.specs.Rules as rule
 use Rattle.dp_tokens.specs.Steps.{◌>>=◌, pure, expect, sees, separated}
-use Rattle.dp_parse.specs.descent.Expressions as expr
-use Rattle.dp_parse.specs.descent.Statements as read
+use Rattle.dp_parse.specs.steps.Expressions as expr
+use Rattle.dp_parse.specs.steps.Statements as read
 use Rattle.dp_parse.proofs.StepLemmas.{is_same, sees_other, after_is, sees_is}
 use Rattle.dp_parse.proofs.StatementReads.{reads_condition, reads_arguments, no_paren, before}
 use Rattle.dp_parse.proofs.StatementForms.{sound_arguments}

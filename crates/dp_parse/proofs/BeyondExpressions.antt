@@ -14,9 +14,9 @@ use Rattle.dp_tokens.specs.Leaves.{name_of}
 use Rattle.dp_parse.specs.Rules.{Expression, Part, Word}
 use Rattle.dp_parse.specs.Rules as rule
 use Rattle.dp_tokens.specs.Steps.{Outcome, Parser, and_then, ◌>>=◌, pure, expect, rest}
-use Rattle.dp_parse.specs.descent.Operators.{join_at, prefix_at}
+use Rattle.dp_parse.specs.steps.Operators.{join_at, prefix_at}
 use Rattle.dp_tokens.specs.Steps as step
-use Rattle.dp_parse.specs.descent.Expressions as read
+use Rattle.dp_parse.specs.steps.Expressions as read
 use Rattle.dp_parse.proofs.StepLemmas.{expects, eats, rest-le}
 use Rattle.dp_parse.proofs.Levels.{level_prefixed, level_chain, level_none, chain_by, joins, prefixes, prefix_level, follows_join}
 use Rattle.dp_parse.proofs.ExpressionSound.{sound_expression, sound_nested, sound_whole}

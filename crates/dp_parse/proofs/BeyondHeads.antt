@@ -13,8 +13,8 @@ use Rattle.dp_parse.specs.Rules.{Part, Word, Of, Expression, Simple, First, Head
 use Rattle.dp_parse.specs.Rules as rule
 use Rattle.dp_tokens.specs.Steps.{Outcome, Parser, ◌>>=◌, pure, and_then, expect, sees}
 use Rattle.dp_tokens.specs.Steps as step
-use Rattle.dp_parse.specs.descent.Expressions as expr
-use Rattle.dp_parse.specs.descent.Heads as read
+use Rattle.dp_parse.specs.steps.Expressions as expr
+use Rattle.dp_parse.specs.steps.Heads as read
 use Rattle.dp_parse.proofs.HeadReads.{ends_at, assign_bracket, assign_other, simple_first, first_int, first_other, reads_simple, reads_first, reads_head}
 use Rattle.dp_parse.proofs.Stuck.{grouped, alone_by}
 use Rattle.dp_parse.proofs.Going.{Goes, GoesParts, by, within, no_goes, word_first}

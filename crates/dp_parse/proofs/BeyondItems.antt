@@ -13,8 +13,8 @@ use Rattle.dp_parse.specs.Rules as rule
 use Rattle.dp_tokens.specs.Steps.{Outcome, Parser, ◌>>=◌, pure, and_then, expect, sees, after, rest, given, separated}
 use Rattle.dp_tokens.specs.Steps as step
 use Rattle.dp_tokens.specs.Numbers as numbers
-use Rattle.dp_parse.specs.descent.Statements as statements
-use Rattle.dp_parse.specs.descent.Programs as read
+use Rattle.dp_parse.specs.steps.Statements as statements
+use Rattle.dp_parse.specs.steps.Programs as read
 use Rattle.dp_parse.proofs.StepLemmas.{eats, stays, sees_other, sees_is, after-le, after_is, rest-le, unlike}
 use Rattle.dp_parse.proofs.LeafLemmas.{reads_name, reads_number, sees_of}
 use Rattle.dp_parse.proofs.Lists.{separated_on}

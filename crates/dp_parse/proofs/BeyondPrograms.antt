@@ -17,7 +17,7 @@ use Rattle.dp_parse.specs.Begins.{Begins}
 use Rattle.dp_parse.specs.Rules as rule
 use Rattle.dp_tokens.specs.Steps.{Parser, ◌>>=◌, pure, expect, eat, sees, after, many}
 use Rattle.dp_tokens.specs.Numbers as numbers
-use Rattle.dp_parse.specs.descent.Programs as read
+use Rattle.dp_parse.specs.steps.Programs as read
 use Rattle.dp_parse.proofs.StepLemmas.{eats, stays, after-le}
 use Rattle.dp_parse.proofs.LeafLemmas.{reads_number, sees_of}
 use Rattle.dp_parse.proofs.Spans.{shorter, no_longer}

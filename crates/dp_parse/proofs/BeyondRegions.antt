@@ -8,9 +8,9 @@ use Rattle.dp_tokens.specs.Symbols.{symbol_at}
 use Rattle.dp_parse.specs.Rules.{Part, Word, Of, Condition, Head, Statement, Exit, Inside, Loop}
 use Rattle.dp_parse.specs.Rules as rule
 use Rattle.dp_tokens.specs.Steps.{Parser, sees, many}
-use Rattle.dp_parse.specs.descent.Heads as heads
-use Rattle.dp_parse.specs.descent.Statements as statements
-use Rattle.dp_parse.specs.descent.Regions as read
+use Rattle.dp_parse.specs.steps.Heads as heads
+use Rattle.dp_parse.specs.steps.Statements as statements
+use Rattle.dp_parse.specs.steps.Regions as read
 use Rattle.dp_parse.proofs.StepLemmas.{sees_other}
 use Rattle.dp_parse.proofs.Lists.{many_turn}
 use Rattle.dp_parse.proofs.Spans.{shorter}

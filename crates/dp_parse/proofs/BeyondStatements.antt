@@ -8,8 +8,8 @@ use Rattle.dp_tokens.specs.Symbols.{symbol_at, Is}
 use Rattle.dp_parse.specs.Rules.{Part, Word, Of, Condition, Head, Statement, Choice, Block, Statements}
 use Rattle.dp_parse.specs.Rules as rule
 use Rattle.dp_tokens.specs.Steps.{pure, sees, after, many}
-use Rattle.dp_parse.specs.descent.Heads as heads
-use Rattle.dp_parse.specs.descent.Statements as read
+use Rattle.dp_parse.specs.steps.Heads as heads
+use Rattle.dp_parse.specs.steps.Statements as read
 use Rattle.dp_parse.proofs.StepLemmas.{is_same, eats, sees_other, after-le}
 use Rattle.dp_parse.proofs.StatementSound.{sound_statement}
 use Rattle.dp_parse.proofs.StatementReads.{begins, choice_first, first_not, begins_not}

@@ -7,9 +7,9 @@ use Rattle.dp_tokens.specs.Symbols.{symbol_at, Is}
 use Rattle.dp_parse.specs.Rules.{Part, Statement, Condition, Loop, Tops}
 use Rattle.dp_parse.specs.Rules as rule
 use Rattle.dp_tokens.specs.Steps.{sees, after, many}
-use Rattle.dp_parse.specs.descent.Statements as statements
-use Rattle.dp_parse.specs.descent.Regions as regions
-use Rattle.dp_parse.specs.descent.Programs as read
+use Rattle.dp_parse.specs.steps.Statements as statements
+use Rattle.dp_parse.specs.steps.Regions as regions
+use Rattle.dp_parse.specs.steps.Programs as read
 use Rattle.dp_parse.proofs.StepLemmas.{eats, stays, after-le, unlike}
 use Rattle.dp_parse.proofs.Lists.{many_turn}
 use Rattle.dp_parse.proofs.Spans.{shorter}

@@ -1,9 +1,9 @@
 -- Where no token is left, no part is read.
 use Rattle.std.proofs.Common.{◌≡◌, refl, ℕ, zero, suc, [], Err}
-use Rattle.dp_parse.specs.descent.Expressions.{whole, nested}
-use Rattle.dp_parse.specs.descent.Statements.{statement, choice}
-use Rattle.dp_parse.specs.descent.Regions.{inside}
-use Rattle.dp_parse.specs.descent.Programs.{param, top}
+use Rattle.dp_parse.specs.steps.Expressions.{whole, nested}
+use Rattle.dp_parse.specs.steps.Statements.{statement, choice}
+use Rattle.dp_parse.specs.steps.Regions.{inside}
+use Rattle.dp_parse.specs.steps.Programs.{param, top}
 
 pub whole_empty : whole [] ≡ Err []
 unfolding whole nested

@@ -14,10 +14,10 @@ use Rattle.dp_parse.specs.Levels.{operands, joining, prefixing}
 use Rattle.dp_tokens.specs.Leaves.{name_of, IsNumber}
 use Rattle.dp_parse.specs.Expressions.{DerivesExpr, operand, chain, prefix, number, scalar, element, parenthesized}
 use Rattle.dp_tokens.specs.Steps.{Outcome, Parser, pure, and_then, rest}
-use Rattle.dp_parse.specs.descent.Operators.{join_at, prefix_at}
+use Rattle.dp_parse.specs.steps.Operators.{join_at, prefix_at}
 use Rattle.dp_tokens.specs.Steps as step
-use Rattle.dp_parse.specs.descent.Operators as operators
-use Rattle.dp_parse.specs.descent.Expressions as read
+use Rattle.dp_parse.specs.steps.Operators as operators
+use Rattle.dp_parse.specs.steps.Expressions as read
 use Rattle.dp_parse.proofs.StepLemmas.{expects, eats, stays}
 use Rattle.dp_parse.proofs.LeafLemmas.{reads_name, reads_number}
 use Rattle.dp_parse.specs.Rules as rule

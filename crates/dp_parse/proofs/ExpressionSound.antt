@@ -14,10 +14,10 @@ use Rattle.dp_parse.specs.Levels.{operands, joining, prefixing, joined}
 use Rattle.dp_tokens.specs.Leaves.{name_of}
 use Rattle.dp_parse.specs.Expressions.{DerivesExpr, operand, chain, prefix, number, scalar, element, parenthesized}
 use Rattle.dp_tokens.specs.Steps.{Parser, ◌>>=◌, pure, expect, rest}
-use Rattle.dp_parse.specs.descent.Operators.{own, same_level, join_at, prefix_at}
+use Rattle.dp_parse.specs.steps.Operators.{own, same_level, join_at, prefix_at}
 use Rattle.dp_tokens.specs.Steps as step
 use Rattle.dp_tokens.specs.Numbers as numbers
-use Rattle.dp_parse.specs.descent.Expressions as read
+use Rattle.dp_parse.specs.steps.Expressions as read
 use Rattle.dp_parse.proofs.StepLemmas.{Sound, then_of, same_pair, takes, Ate, passed, stayed, ate, level_is, closed, moved, taken}
 use Rattle.dp_parse.proofs.LeafLemmas.{read_name, read_number}
 

@@ -15,9 +15,9 @@ use Rattle.dp_tokens.specs.Leaves.{name_of}
 use Rattle.dp_parse.specs.Expressions.{DerivesExpr}
 use Rattle.dp_parse.specs.Heads.{DerivesSimple, scalar, element, DerivesFirst, declared, simple, DerivesHead, head}
 use Rattle.dp_tokens.specs.Steps.{sees, Parser, ◌>>=◌, pure, expect}
-use Rattle.dp_parse.specs.descent.Expressions as expr
-use Rattle.dp_parse.specs.descent.Heads as read
-use Rattle.dp_parse.specs.descent.Statements as statements
+use Rattle.dp_parse.specs.steps.Expressions as expr
+use Rattle.dp_parse.specs.steps.Heads as read
+use Rattle.dp_parse.specs.steps.Statements as statements
 use Rattle.dp_parse.proofs.StepLemmas.{is_same, expects, sees_other}
 use Rattle.dp_parse.proofs.LeafLemmas.{reads_name}
 use Rattle.dp_parse.proofs.ExpressionComplete.{whole_read}

@@ -14,8 +14,8 @@ use Rattle.dp_parse.specs.Expressions.{DerivesExpr}
 use Rattle.dp_parse.specs.Heads.{DerivesSimple, scalar, element, DerivesFirst, declared, simple, DerivesHead, head}
 use Rattle.dp_tokens.specs.Steps.{◌>>=◌, pure, expect, sees}
 use Rattle.dp_tokens.specs.Steps as step
-use Rattle.dp_parse.specs.descent.Expressions as expr
-use Rattle.dp_parse.specs.descent.Heads as read
+use Rattle.dp_parse.specs.steps.Expressions as expr
+use Rattle.dp_parse.specs.steps.Heads as read
 use Rattle.dp_parse.proofs.StepLemmas.{Sound, then_of, same_pair, takes, moved, taken}
 use Rattle.dp_parse.proofs.LeafLemmas.{read_name}
 use Rattle.dp_parse.proofs.ExpressionSound.{sound_whole}

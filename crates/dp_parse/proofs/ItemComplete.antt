@@ -17,7 +17,7 @@ use Rattle.dp_parse.specs.Programs as programs
 use Rattle.dp_tokens.specs.Steps.{◌>>=◌, pure, and_then, expect, sees, given, separated}
 use Rattle.dp_tokens.specs.Steps as step
 use Rattle.dp_tokens.specs.Numbers as numbers
-use Rattle.dp_parse.specs.descent.Programs as read
+use Rattle.dp_parse.specs.steps.Programs as read
 use Rattle.dp_parse.specs.Rules.{Names}
 use Rattle.dp_parse.specs.Rules as rule
 use Rattle.dp_parse.proofs.Going.{Goes, by, word_first, goes_whole}

@@ -17,8 +17,8 @@ use Rattle.dp_parse.specs.Programs as programs
 use Rattle.dp_tokens.specs.Steps.{◌>>=◌, pure, expect, rest, sees, given, separated}
 use Rattle.dp_tokens.specs.Steps as step
 use Rattle.dp_tokens.specs.Numbers as numbers
-use Rattle.dp_parse.specs.descent.Statements as statements
-use Rattle.dp_parse.specs.descent.Programs as read
+use Rattle.dp_parse.specs.steps.Statements as statements
+use Rattle.dp_parse.specs.steps.Programs as read
 use Rattle.dp_parse.proofs.StepLemmas.{pair, Sound, then_of, same_pair, takes, Ate, passed, stayed, ate, closed, moved, taken, gave}
 use Rattle.dp_parse.proofs.Lists.{separated_sound}
 use Rattle.dp_parse.proofs.LeafLemmas.{read_name, read_number, sees_of}

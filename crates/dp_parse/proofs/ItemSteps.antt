@@ -6,8 +6,8 @@ use Rattle.dp_tokens.specs.declared.symbol.Symbol.TheVariants.{Int, Name, Mark, 
 use Rattle.dp_tokens.specs.Symbols.{Is}
 use Rattle.dp_tokens.specs.Leaves.{name_of}
 use Rattle.dp_tokens.specs.Steps.{name, sees}
-use Rattle.dp_parse.specs.descent.Programs.{param, top, top_by, ends}
-use Rattle.dp_parse.specs.descent.Statements.{statement}
+use Rattle.dp_parse.specs.steps.Programs.{param, top, top_by, ends}
+use Rattle.dp_parse.specs.steps.Statements.{statement}
 use Rattle.dp_parse.proofs.StepLemmas.{takes, Ate, passed, stayed, ate, seen_some}
 use Rattle.dp_parse.proofs.LeafLemmas.{read_name}
 use Rattle.dp_parse.specs.Rules as rule

@@ -11,8 +11,8 @@ use Rattle.dp_parse.specs.declared.level.Join.{Join}
 use Rattle.dp_tokens.specs.Symbols.{symbol_at}
 use Rattle.dp_parse.specs.Levels.{operands, joined, joining, prefixing}
 use Rattle.dp_tokens.specs.Steps.{Outcome, Parser, ◌>>=◌, and_then, pure, rest}
-use Rattle.dp_parse.specs.descent.Operators.{join_at, prefix_at, own}
-use Rattle.dp_parse.specs.descent.Expressions as read
+use Rattle.dp_parse.specs.steps.Operators.{join_at, prefix_at, own}
+use Rattle.dp_parse.specs.steps.Expressions as read
 use Rattle.dp_tokens.specs.declared.symbol.Symbol.{Symbol}
 use Rattle.dp_tokens.specs.declared.symbol.Symbol.TheVariants as symbol
 use Rattle.dp_parse.proofs.StepLemmas.{same_levels, other_levels}

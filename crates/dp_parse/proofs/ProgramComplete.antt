@@ -20,7 +20,7 @@ use Rattle.dp_parse.specs.Programs.{more, void, DerivesItem, scalar, started, be
 use Rattle.dp_parse.specs.Programs as programs
 use Rattle.dp_tokens.specs.Steps.{Parser, ◌>>=◌, pure, expect, eat, rest, sees, after, many}
 use Rattle.dp_tokens.specs.Steps as step
-use Rattle.dp_parse.specs.descent.Programs as read
+use Rattle.dp_parse.specs.steps.Programs as read
 use Rattle.dp_parse.proofs.StepLemmas.{pair, is_same, expects, eats, stays, sees_other, same_pair, unlike}
 use Rattle.dp_parse.proofs.LeafLemmas.{reads_number, sees_of}
 use Rattle.dp_parse.proofs.Lists.{many_turn, many_more, many_over}

@@ -15,8 +15,8 @@ use Rattle.dp_parse.specs.Programs.{DerivesItem, DerivesTops, DerivesReturn, Der
 use Rattle.dp_parse.specs.Programs as programs
 use Rattle.dp_tokens.specs.Steps.{Parser, ◌>>=◌, pure, expect, eat, many}
 use Rattle.dp_tokens.specs.Numbers as numbers
-use Rattle.dp_parse.specs.descent.Statements as statements
-use Rattle.dp_parse.specs.descent.Programs as read
+use Rattle.dp_parse.specs.steps.Statements as statements
+use Rattle.dp_parse.specs.steps.Programs as read
 use Rattle.dp_parse.proofs.StepLemmas.{Sound, then_of, same_pair, takes, Ate, passed, stayed, ate, moved, taken}
 use Rattle.dp_parse.proofs.Lists.{many_sound}
 use Rattle.dp_parse.proofs.LeafLemmas.{read_number, sees_of}

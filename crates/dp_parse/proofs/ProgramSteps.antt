@@ -6,7 +6,7 @@ use Rattle.dp_tree.specs.declared.raw.RawStmt.{RawStmt}
 use Rattle.dp_parse.specs.declared.item.Part.{Part}
 use Rattle.dp_parse.specs.declared.item.Part.TheVariants.{Item, Main as Body}
 use Rattle.dp_tokens.specs.Steps.{Outcome, and_then}
-use Rattle.dp_parse.specs.descent.Programs as read
+use Rattle.dp_parse.specs.steps.Programs as read
 
 part_empty : read.part [] ≡ Err []
 unfolding read.part Rattle.dp_tokens.specs.Steps.sees Rattle.dp_tokens.specs.Steps.same_symbol Rattle.dp_tokens.specs.Symbols.symbol_at Rattle.dp_tokens.specs.Steps.expect Rattle.dp_tokens.specs.Steps.after

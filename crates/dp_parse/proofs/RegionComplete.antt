@@ -12,8 +12,8 @@ use Rattle.dp_parse.specs.Statements.{DerivesCondition, DerivesStatement, declar
 use Rattle.dp_parse.specs.Regions.{DerivesExit, bare, braced, DerivesInside, DerivesLoop}
 use Rattle.dp_parse.specs.Regions as regions
 use Rattle.dp_tokens.specs.Steps.{Parser, rest, sees, many}
-use Rattle.dp_parse.specs.descent.Statements as step
-use Rattle.dp_parse.specs.descent.Regions as read
+use Rattle.dp_parse.specs.steps.Statements as step
+use Rattle.dp_parse.specs.steps.Regions as read
 use Rattle.dp_parse.proofs.StepLemmas.{is_same, expects, sees_is, sees_other, unlike}
 use Rattle.dp_parse.proofs.Lists.{many_more, many_closed}
 use Rattle.dp_parse.specs.Rules as rule

@@ -12,9 +12,9 @@ use Rattle.dp_parse.specs.Statements.{DerivesCondition, DerivesStatement, choice
 use Rattle.dp_parse.specs.Regions.{DerivesExit, bare, braced, DerivesInside, DerivesLoop, loop}
 use Rattle.dp_parse.specs.Regions as regions
 use Rattle.dp_tokens.specs.Steps.{Parser, ◌>>=◌, pure, expect, sees, many}
-use Rattle.dp_parse.specs.descent.Heads as heads
-use Rattle.dp_parse.specs.descent.Statements as statements
-use Rattle.dp_parse.specs.descent.Regions as read
+use Rattle.dp_parse.specs.steps.Heads as heads
+use Rattle.dp_parse.specs.steps.Statements as statements
+use Rattle.dp_parse.specs.steps.Regions as read
 use Rattle.dp_parse.proofs.StepLemmas.{Sound, then_of, same_pair, takes, closed, moved, taken}
 use Rattle.dp_parse.proofs.Lists.{many_sound}
 use Rattle.dp_parse.specs.Rules as rule

@@ -5,7 +5,7 @@ use Rattle.dp_lex.specs.Token.{Lexeme}
 use Rattle.dp_parse.specs.Rules.{Program}
 use Rattle.dp_parse.specs.Begins.{Begins}
 use Rattle.dp_parse.specs.Parses.{LeavesAt, Parses, Unread, Gives, outcome_of}
-use Rattle.dp_parse.specs.descent.Programs as read
+use Rattle.dp_parse.specs.steps.Programs as read
 use Rattle.dp_parse.proofs.StuckPrograms.{program_stuck}
 use Rattle.dp_parse.proofs.BeyondPrograms.{program_beyond}
 use Rattle.dp_parse.proofs.Beyond.{begins_shorter}
@@ -14,10 +14,10 @@ use Rattle.dp_parse.proofs.Fronts.{front}
 use Rattle.dp_lex.specs.Characters.{Text}
 use Rattle.dp_lex.specs.Tokens.{Tokens}
 use Rattle.dp_tree.specs.declared.raw.RawProgram.{RawProgram}
-use Rattle.dp_parse.specs.declared.error.ParseFail.{ParseFail}
-use Rattle.dp_parse.specs.declared.error.ParseFail.TheVariants.{Lex, TooDeep, Refused, NoMemory}
-use Rattle.dp_tokens.specs.declared.error.ParseError.{ParseError}
-use Rattle.dp_tokens.specs.declared.error.ParseError.TheVariants as part
+use Rattle.dp_parse.specs.declared.fail.ParseFail.{ParseFail}
+use Rattle.dp_parse.specs.declared.fail.ParseFail.TheVariants.{Lex, TooDeep, Refused, NoMemory}
+use Rattle.dp_tokens.specs.declared.fail.PartFail.{PartFail}
+use Rattle.dp_tokens.specs.declared.fail.PartFail.TheVariants as part
 use Rattle.dp_parse.specs.Depth.{depth_fault}
 use Rattle.dp_tokens.specs.Steps.{Reads}
 use Rattle.dp_parse.proofs.ProgramSound.{sound_program}
@@ -41,7 +41,7 @@ leaves_at tokens left n m all rest e = record {
   leaves = not_begun tokens left (n - m) e (omega arith);
 }
 
-pub gives : (tokens left : List Lexeme) (n m : ℕ) (r : Result RawProgram ParseError) → n ≡ length tokens → m ≡ length left → depth_fault tokens ≡ None → Reads (read.program tokens) r left → Gives tokens (outcome_of n m r)
+pub gives : (tokens left : List Lexeme) (n m : ℕ) (r : Result RawProgram PartFail) → n ≡ length tokens → m ≡ length left → depth_fault tokens ≡ None → Reads (read.program tokens) r left → Gives tokens (outcome_of n m r)
 gives tokens left n m (Ok program) all rest shallow h = (shallow, sound_program tokens left program h)
 gives tokens left n m (Err part.Refused) all rest shallow h = (shallow, (λ program d. let clash = sym (reads_program tokens program d) ∙ h refl in cc clash), leaves_at tokens left n m all rest (h refl))
 gives tokens left n m (Err part.NoMemory) all rest shallow h = tt

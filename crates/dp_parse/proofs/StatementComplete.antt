@@ -14,8 +14,8 @@ use Rattle.dp_parse.specs.Heads.{DerivesHead}
 use Rattle.dp_parse.specs.Statements.{none, DerivesStatement, declare, assign, store, call, print, loop, for_loop, choice, DerivesChoice, alone, otherwise, else_if, DerivesBlock, block, DerivesStatements}
 use Rattle.dp_parse.specs.Statements as statements
 use Rattle.dp_tokens.specs.Steps.{Parser, pure, sees, many}
-use Rattle.dp_parse.specs.descent.Heads as heads
-use Rattle.dp_parse.specs.descent.Statements as read
+use Rattle.dp_parse.specs.steps.Heads as heads
+use Rattle.dp_parse.specs.steps.Statements as read
 use Rattle.dp_parse.proofs.StepLemmas.{is_same, expects, eats, stays, sees_is, sees_other}
 use Rattle.dp_parse.proofs.LeafLemmas.{reads_name}
 use Rattle.dp_parse.proofs.Lists.{many_more, many_closed}

@@ -15,9 +15,9 @@ use Rattle.dp_parse.specs.Statements.{DerivesArguments, DerivesCondition, condit
 use Rattle.dp_parse.specs.Statements as statements
 use Rattle.dp_tokens.specs.Steps.{Parser, ◌>>=◌, pure, expect, sees}
 use Rattle.dp_tokens.specs.Steps as step
-use Rattle.dp_parse.specs.descent.Expressions as expr
-use Rattle.dp_parse.specs.descent.Heads as declares
-use Rattle.dp_parse.specs.descent.Statements as read
+use Rattle.dp_parse.specs.steps.Expressions as expr
+use Rattle.dp_parse.specs.steps.Heads as declares
+use Rattle.dp_parse.specs.steps.Statements as read
 use Rattle.dp_parse.proofs.StepLemmas.{Sound, then_of, same_pair, takes, closed, moved, taken}
 use Rattle.dp_parse.proofs.Lists.{separated_sound}
 use Rattle.dp_parse.proofs.LeafLemmas.{read_name}

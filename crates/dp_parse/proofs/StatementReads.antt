@@ -15,8 +15,8 @@ use Rattle.dp_parse.specs.Expressions.{DerivesExpr, operand, chain, prefix, numb
 use Rattle.dp_parse.specs.Statements.{DerivesArguments, none, some, DerivesCondition, condition, DerivesStatement, declare, assign, store, call, print, loop, for_loop, choice, alone, otherwise, else_if, DerivesBlock, block, DerivesStatements}
 use Rattle.dp_parse.specs.Statements as statements
 use Rattle.dp_tokens.specs.Steps.{Outcome, Parser, and_then, sees, separated}
-use Rattle.dp_parse.specs.descent.Expressions as expr
-use Rattle.dp_parse.specs.descent.Statements as read
+use Rattle.dp_parse.specs.steps.Expressions as expr
+use Rattle.dp_parse.specs.steps.Statements as read
 use Rattle.dp_parse.proofs.StepLemmas.{pair, expects, sees_is, sees_other, after_is, after_other}
 use Rattle.dp_parse.proofs.Lists.{separated_on, separated_off}
 use Rattle.dp_parse.specs.Rules.{Statement, Choice}

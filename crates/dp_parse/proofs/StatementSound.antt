@@ -11,8 +11,8 @@ use Rattle.dp_parse.specs.Statements.{DerivesCondition, condition, DerivesStatem
 use Rattle.dp_parse.specs.Statements as statements
 use Rattle.dp_tokens.specs.Steps.{Parser, ◌>>=◌, pure, expect, sees, many}
 use Rattle.dp_parse.specs.declared.head.Header.{Header}
-use Rattle.dp_parse.specs.descent.Heads as heads
-use Rattle.dp_parse.specs.descent.Statements as read
+use Rattle.dp_parse.specs.steps.Heads as heads
+use Rattle.dp_parse.specs.steps.Statements as read
 use Rattle.dp_parse.proofs.StepLemmas.{Sound, then_of, same_pair, takes, Ate, passed, stayed, ate, closed, moved, saw}
 use Rattle.dp_parse.proofs.Lists.{many_sound}
 use Rattle.dp_parse.proofs.StatementForms.{sound_condition, sound_declaration, sound_named, sound_print}

@@ -6,7 +6,7 @@ use Rattle.dp_tokens.specs.declared.symbol.Symbol.{Symbol}
 use Rattle.dp_tokens.specs.declared.symbol.Symbol.TheVariants.{Int, Name, Print, While, For}
 use Rattle.dp_tokens.specs.Symbols.{symbol_at}
 use Rattle.dp_tokens.specs.Steps.{Parser}
-use Rattle.dp_parse.specs.descent.Statements as read
+use Rattle.dp_parse.specs.steps.Statements as read
 
 pub statement_opens : (n : ℕ) (ts : List Lexeme) (k : Symbol) → 0 < n → symbol_at ts ≡ k → read.statement n ts ≡ read.statement_by (read.statement (n - 1)) k ts
 unfolding read.statement

@@ -9,7 +9,7 @@ use Rattle.dp_parse.specs.declared.level.Level.{Level}
 use Rattle.dp_parse.specs.contracts.level.Level as levels
 use Rattle.dp_tokens.specs.Symbols.{symbol, symbol_at, Is}
 use Rattle.dp_tokens.specs.Steps.{Outcome, Parser, and_then, ◌>>=◌, pure, given, same_symbol, sees, after, rest, eat, expect}
-use Rattle.dp_parse.specs.descent.Operators.{same_level}
+use Rattle.dp_parse.specs.steps.Operators.{same_level}
 
 abbrev pub pair : {A : Type 0} → A → List Lexeme → A × List Lexeme
 pair a ts = (a, ts)

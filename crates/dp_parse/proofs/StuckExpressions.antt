@@ -18,9 +18,9 @@ use Rattle.dp_parse.specs.Rules.{Expression, Expressions, Of}
 use Rattle.dp_parse.specs.Begins.{Begins, nothing, by, within, token, past}
 use Rattle.dp_parse.specs.Rules as rule
 use Rattle.dp_tokens.specs.Steps.{Outcome, Parser, and_then, rest}
-use Rattle.dp_parse.specs.descent.Operators.{join_at, prefix_at}
+use Rattle.dp_parse.specs.steps.Operators.{join_at, prefix_at}
 use Rattle.dp_tokens.specs.Steps as step
-use Rattle.dp_parse.specs.descent.Expressions as read
+use Rattle.dp_parse.specs.steps.Expressions as read
 use Rattle.dp_parse.proofs.StepLemmas.{Sound}
 use Rattle.dp_parse.proofs.LeafLemmas.{read_name}
 use Rattle.dp_parse.proofs.ExpressionSound.{own_is, sound_expression, sound_primary, sound_nested, sound_whole}

@@ -14,8 +14,8 @@ use Rattle.dp_parse.specs.Begins.{Begins, BeginsParts, nothing, by, within, toke
 use Rattle.dp_parse.specs.Rules as rule
 use Rattle.dp_tokens.specs.Steps.{Parser, ◌>>=◌, pure, expect, sees}
 use Rattle.dp_tokens.specs.Steps as step
-use Rattle.dp_parse.specs.descent.Expressions as expr
-use Rattle.dp_parse.specs.descent.Heads as read
+use Rattle.dp_parse.specs.steps.Expressions as expr
+use Rattle.dp_parse.specs.steps.Heads as read
 use Rattle.dp_parse.proofs.LeafLemmas.{read_name}
 use Rattle.dp_parse.proofs.HeadSound.{sound_simple, sound_first, read_head}
 use Rattle.dp_parse.proofs.Stuck.{Fails, Reader, seq, done, word, called, name_stuck, reader, cases, regroup, alone_by, alone}

@@ -15,8 +15,8 @@ use Rattle.dp_parse.specs.Rules as rule
 use Rattle.dp_tokens.specs.Steps.{Outcome, ◌>>=◌, ◌>>◌, pure, and_then, expect, sees, rest, given, separated}
 use Rattle.dp_tokens.specs.Steps as step
 use Rattle.dp_tokens.specs.Numbers as numbers
-use Rattle.dp_parse.specs.descent.Statements as statements
-use Rattle.dp_parse.specs.descent.Programs as read
+use Rattle.dp_parse.specs.steps.Statements as statements
+use Rattle.dp_parse.specs.steps.Programs as read
 use Rattle.dp_parse.proofs.LeafLemmas.{read_name, read_number, sees_of}
 use Rattle.dp_parse.proofs.ItemSteps.{read_param}
 use Rattle.dp_parse.proofs.ItemSound.{Start, plain, below, read_start, sound_params, nonzero_is}

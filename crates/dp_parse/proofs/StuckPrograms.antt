@@ -15,8 +15,8 @@ use Rattle.dp_parse.specs.Begins.{Derived, Begins, BeginsParts, by, none, within
 use Rattle.dp_parse.specs.Rules as rule
 use Rattle.dp_tokens.specs.Steps.{Outcome, Parser, ◌>>=◌, pure, and_then, expect, eat, many}
 use Rattle.dp_tokens.specs.Numbers as numbers
-use Rattle.dp_parse.specs.descent.Statements as statements
-use Rattle.dp_parse.specs.descent.Programs as read
+use Rattle.dp_parse.specs.steps.Statements as statements
+use Rattle.dp_parse.specs.steps.Programs as read
 use Rattle.dp_parse.proofs.StepLemmas.{took, Ate, ate}
 use Rattle.dp_parse.proofs.StepLemmas as steps
 use Rattle.dp_parse.proofs.LeafLemmas.{read_number, sees_of}

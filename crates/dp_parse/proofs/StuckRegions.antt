@@ -11,8 +11,8 @@ use Rattle.dp_parse.specs.Rules.{Part, Word, Of, Condition, Head, Statement, Cho
 use Rattle.dp_parse.specs.Begins.{Begins, BeginsParts, by, within, token, past}
 use Rattle.dp_parse.specs.Rules as rule
 use Rattle.dp_tokens.specs.Steps.{Outcome, Parser, ◌>>=◌, pure, and_then, expect, sees, many}
-use Rattle.dp_parse.specs.descent.Statements as statements
-use Rattle.dp_parse.specs.descent.Regions as read
+use Rattle.dp_parse.specs.steps.Statements as statements
+use Rattle.dp_parse.specs.steps.Regions as read
 use Rattle.dp_parse.proofs.StepLemmas.{took}
 use Rattle.dp_parse.proofs.StatementForms.{sound_condition}
 use Rattle.dp_parse.proofs.StatementSound.{sound_statement}

@@ -8,4 +8,4 @@ pub mod Rules
 pub mod Begins
 pub mod Depth
 pub mod Parses
-pub mod descent
+pub mod steps

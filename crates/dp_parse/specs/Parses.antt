@@ -5,10 +5,10 @@ use Rattle.dp_lex.specs.Characters.{Text}
 use Rattle.dp_lex.specs.Token.{Lexeme}
 use Rattle.dp_lex.specs.Tokens.{Tokens, RefusedAt}
 use Rattle.dp_tree.specs.declared.raw.RawProgram.{RawProgram}
-use Rattle.dp_parse.specs.declared.error.ParseFail.{ParseFail}
-use Rattle.dp_parse.specs.declared.error.ParseFail.TheVariants.{Lex, TooDeep, Refused, NoMemory}
-use Rattle.dp_tokens.specs.declared.error.ParseError.{ParseError}
-use Rattle.dp_tokens.specs.declared.error.ParseError.TheVariants as part
+use Rattle.dp_parse.specs.declared.fail.ParseFail.{ParseFail}
+use Rattle.dp_parse.specs.declared.fail.ParseFail.TheVariants.{Lex, TooDeep, Refused, NoMemory}
+use Rattle.dp_tokens.specs.declared.fail.PartFail.{PartFail}
+use Rattle.dp_tokens.specs.declared.fail.PartFail.TheVariants as part
 use Rattle.dp_parse.specs.Depth.{depth_fault}
 use Rattle.dp_parse.specs.Programs.{Derives}
 use Rattle.dp_parse.specs.Rules.{Program}
@@ -68,7 +68,7 @@ Gives tokens (Err (Refused token)) = (depth_fault tokens ≡ None) × ((program 
 Gives tokens (Err NoMemory) = Unit {0}
 
 -- what the descent's answer is for a whole text of so many tokens, of which some are left
-abbrev pub outcome_of : ℕ → ℕ → Result RawProgram ParseError → Result RawProgram ParseFail
+abbrev pub outcome_of : ℕ → ℕ → Result RawProgram PartFail → Result RawProgram ParseFail
 outcome_of tokens left (Ok program) = Ok program
 outcome_of tokens left (Err part.Refused) = Err (Refused (tokens - left))
 outcome_of tokens left (Err part.NoMemory) = Err NoMemory

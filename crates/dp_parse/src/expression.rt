@@ -3,17 +3,17 @@
 ghost use Rattle.std.specs.Prelude.{◌≡◌, IfOk};
 ghost use Rattle.dp_parse.specs.Levels as levels;
 ghost use Rattle.dp_tokens.specs.Steps.{Reads};
-ghost use Rattle.dp_parse.specs.descent.Expressions as spec;
+ghost use Rattle.dp_parse.specs.steps.Expressions as spec;
 
 use crate::level::{Join, Level, join_at, operands, prefix_at};
 use dp_base::{Boxed, NoMemory, Row, UnOp};
-use dp_tokens::{ParseError, Symbol, Tokens, name, number};
+use dp_tokens::{PartFail, Symbol, Tokens, name, number};
 use dp_tree::{Name, RawExpr};
 use std::alloc::Global;
 
 /// A whole expression.
-#[tactic(auto, unfolding(crate::specs::descent::Expressions::whole))]
-pub fn whole(alloc: Global, tokens: &mut Tokens<'_, '_>) -> Result<RawExpr, ParseError>
+#[tactic(auto, unfolding(crate::specs::steps::Expressions::whole))]
+pub fn whole(alloc: Global, tokens: &mut Tokens<'_, '_>) -> Result<RawExpr, PartFail>
     ensures { Reads (spec.whole tokens.old) result tokens.new }
 {
     // Each level of nesting takes a token.
@@ -28,11 +28,11 @@ fn nested(
     tokens: &mut Tokens<'_, '_>,
     depth: usize,
     level: Level,
-) -> Result<RawExpr, ParseError>
+) -> Result<RawExpr, PartFail>
     ensures { Reads (spec.nested depth level tokens.old) result tokens.new }
 {
     if depth == 0 {
-        return Err(ParseError::Refused);
+        return Err(PartFail::Refused);
     }
     expression(alloc, tokens, depth - 1, level)
 }
@@ -44,7 +44,7 @@ fn expression(
     tokens: &mut Tokens<'_, '_>,
     depth: usize,
     level: Level,
-) -> Result<RawExpr, ParseError>
+) -> Result<RawExpr, PartFail>
     ensures { Reads (spec.expression (spec.nested depth) level tokens.old) result tokens.new }
 {
     let Some(inner) = operands(level) else {
@@ -65,8 +65,8 @@ fn expression(
 }
 
 #[cycle(expression)]
-#[tactic(auto, unfolding(crate::specs::descent::Expressions::primary, crate::specs::descent::Expressions::parenthesized))]
-fn primary(alloc: Global, tokens: &mut Tokens<'_, '_>, depth: usize) -> Result<RawExpr, ParseError>
+#[tactic(auto, unfolding(crate::specs::steps::Expressions::primary, crate::specs::steps::Expressions::parenthesized))]
+fn primary(alloc: Global, tokens: &mut Tokens<'_, '_>, depth: usize) -> Result<RawExpr, PartFail>
     ensures { Reads (spec.primary (spec.nested depth) tokens.old) result tokens.new }
 {
     match tokens.peek() {
@@ -86,13 +86,13 @@ fn primary(alloc: Global, tokens: &mut Tokens<'_, '_>, depth: usize) -> Result<R
 
 /// The variable of the name, with its index where one follows.
 #[cycle(expression)]
-#[tactic(auto, unfolding(crate::specs::descent::Expressions::variable))]
+#[tactic(auto, unfolding(crate::specs::steps::Expressions::variable))]
 fn variable(
     alloc: Global,
     tokens: &mut Tokens<'_, '_>,
     depth: usize,
     name: Name,
-) -> Result<RawExpr, ParseError>
+) -> Result<RawExpr, PartFail>
     ensures { Reads (spec.variable (spec.nested depth) name tokens.old) result tokens.new }
 {
     if !tokens.eat(Symbol::OpenBracket) {
@@ -122,7 +122,7 @@ fn joined(alloc: Global, join: Join, left: RawExpr, right: RawExpr) -> Result<Ra
 }
 
 /// One expression or more, with commas between.
-pub fn list(alloc: Global, tokens: &mut Tokens<'_, '_>) -> Result<Row<RawExpr>, ParseError>
+pub fn list(alloc: Global, tokens: &mut Tokens<'_, '_>) -> Result<Row<RawExpr>, PartFail>
     ensures { Reads (spec.list tokens.old) result tokens.new }
 {
     let mut found = Row::new(alloc);

@@ -2,25 +2,25 @@
 
 ghost use Rattle.std.specs.Prelude.{◌≡◌, IfOk, [], ◌∷◌};
 ghost use Rattle.dp_tokens.specs.Steps.{Reads};
-ghost use Rattle.dp_parse.specs.descent.Heads as spec;
+ghost use Rattle.dp_parse.specs.steps.Heads as spec;
 
 use crate::expression::whole;
 use dp_base::{NoMemory, Row};
-use dp_tokens::{ParseError, Symbol, Tokens, name};
+use dp_tokens::{PartFail, Symbol, Tokens, name};
 use dp_tree::{Name, RawExpr, RawStmt};
 use std::alloc::Global;
 
 /// The value after a `=`.
-#[tactic(auto, unfolding(crate::specs::descent::Heads::value))]
-fn value(alloc: Global, tokens: &mut Tokens<'_, '_>) -> Result<RawExpr, ParseError>
+#[tactic(auto, unfolding(crate::specs::steps::Heads::value))]
+fn value(alloc: Global, tokens: &mut Tokens<'_, '_>) -> Result<RawExpr, PartFail>
     ensures { Reads (spec.value tokens.old) result tokens.new }
 {
     tokens.expect(Symbol::Assign)?;
     whole(alloc, tokens)
 }
 
-#[tactic(auto, unfolding(crate::specs::descent::Heads::declare))]
-pub fn declare(alloc: Global, tokens: &mut Tokens<'_, '_>) -> Result<RawStmt, ParseError>
+#[tactic(auto, unfolding(crate::specs::steps::Heads::declare))]
+pub fn declare(alloc: Global, tokens: &mut Tokens<'_, '_>) -> Result<RawStmt, PartFail>
     ensures { Reads (spec.declare tokens.old) result tokens.new }
 {
     let line = tokens.expect(Symbol::Int)?.line;
@@ -30,8 +30,8 @@ pub fn declare(alloc: Global, tokens: &mut Tokens<'_, '_>) -> Result<RawStmt, Pa
 }
 
 /// An assignment to an element, from its bracket on.
-#[tactic(auto, unfolding(crate::specs::descent::Heads::store))]
-fn store(alloc: Global, tokens: &mut Tokens<'_, '_>, name: Name) -> Result<RawStmt, ParseError>
+#[tactic(auto, unfolding(crate::specs::steps::Heads::store))]
+fn store(alloc: Global, tokens: &mut Tokens<'_, '_>, name: Name) -> Result<RawStmt, PartFail>
     ensures { Reads (spec.store name tokens.old) result tokens.new }
 {
     tokens.expect(Symbol::OpenBracket)?;
@@ -42,8 +42,8 @@ fn store(alloc: Global, tokens: &mut Tokens<'_, '_>, name: Name) -> Result<RawSt
 }
 
 /// An assignment, from behind its name on.
-#[tactic(auto, unfolding(crate::specs::descent::Heads::assign))]
-pub fn assign(alloc: Global, tokens: &mut Tokens<'_, '_>, name: Name) -> Result<RawStmt, ParseError>
+#[tactic(auto, unfolding(crate::specs::steps::Heads::assign))]
+pub fn assign(alloc: Global, tokens: &mut Tokens<'_, '_>, name: Name) -> Result<RawStmt, PartFail>
     ensures { Reads (spec.assign name tokens.old) result tokens.new }
 {
     if tokens.sees(Symbol::OpenBracket) {
@@ -53,8 +53,8 @@ pub fn assign(alloc: Global, tokens: &mut Tokens<'_, '_>, name: Name) -> Result<
     Ok(RawStmt::Assign { name, value })
 }
 
-#[tactic(auto, unfolding(crate::specs::descent::Heads::simple))]
-fn simple(alloc: Global, tokens: &mut Tokens<'_, '_>) -> Result<RawStmt, ParseError>
+#[tactic(auto, unfolding(crate::specs::steps::Heads::simple))]
+fn simple(alloc: Global, tokens: &mut Tokens<'_, '_>) -> Result<RawStmt, PartFail>
     ensures { Reads (spec.simple tokens.old) result tokens.new }
 {
     let name = name(alloc, tokens)?;
@@ -62,8 +62,8 @@ fn simple(alloc: Global, tokens: &mut Tokens<'_, '_>) -> Result<RawStmt, ParseEr
 }
 
 /// The initialiser of a `for`.
-#[tactic(auto, unfolding(crate::specs::descent::Heads::first))]
-fn first(alloc: Global, tokens: &mut Tokens<'_, '_>) -> Result<RawStmt, ParseError>
+#[tactic(auto, unfolding(crate::specs::steps::Heads::first))]
+fn first(alloc: Global, tokens: &mut Tokens<'_, '_>) -> Result<RawStmt, PartFail>
     ensures { Reads (spec.first tokens.old) result tokens.new }
 {
     if tokens.sees(Symbol::Int) {
@@ -88,8 +88,8 @@ pub struct Header {
     pub step: Row<RawStmt>,
 }
 
-#[tactic(auto, unfolding(crate::specs::descent::Heads::head))]
-pub fn head(alloc: Global, tokens: &mut Tokens<'_, '_>) -> Result<Header, ParseError>
+#[tactic(auto, unfolding(crate::specs::steps::Heads::head))]
+pub fn head(alloc: Global, tokens: &mut Tokens<'_, '_>) -> Result<Header, PartFail>
     ensures { Reads (spec.head tokens.old) result tokens.new }
 {
     tokens.expect(Symbol::OpenParen)?;

@@ -1,32 +1,32 @@
 //! Declarations at file scope, `main`, and the whole program.
 
 ghost use Rattle.std.specs.Prelude.{◌≡◌, ◌≢◌, Err};
-ghost use Rattle.dp_tokens.specs.declared.error.ParseError.TheVariants as error;
+ghost use Rattle.dp_tokens.specs.declared.fail.PartFail.TheVariants as fail;
 ghost use Rattle.dp_tokens.specs.Steps.{Reads};
-ghost use Rattle.dp_parse.specs.descent.Programs as spec;
+ghost use Rattle.dp_parse.specs.steps.Programs as spec;
 
 use crate::region::region;
 use crate::statement::{block, statement};
 use dp_base::Row;
-use dp_tokens::{ParseError, Symbol, Tokens, name, negated, number, sees_zero};
+use dp_tokens::{PartFail, Symbol, Tokens, name, negated, number, sees_zero};
 use dp_tree::{Name, RawItem, RawProgram, RawStmt};
 use std::alloc::Global;
 
 /// The start value after a `=`, with its sign.
-#[tactic(auto, unfolding(crate::specs::descent::Programs::start))]
-fn start(tokens: &mut Tokens<'_, '_>) -> Result<i64, ParseError>
+#[tactic(auto, unfolding(crate::specs::steps::Programs::start))]
+fn start(tokens: &mut Tokens<'_, '_>) -> Result<i64, PartFail>
     ensures reads { Reads (spec.start tokens.old) result tokens.new }
-    ensures decides { result ≢ Err error.NoMemory }
+    ensures decides { result ≢ Err fail.NoMemory }
 {
     if tokens.eat(Symbol::Minus) {
-        return negated(number(tokens)?).ok_or(ParseError::Refused);
+        return negated(number(tokens)?).ok_or(PartFail::Refused);
     }
     number(tokens)
 }
 
 /// A variable at file scope, from its name on.
-#[tactic(auto, unfolding(crate::specs::descent::Programs::variable))]
-fn variable(alloc: Global, tokens: &mut Tokens<'_, '_>) -> Result<RawItem, ParseError>
+#[tactic(auto, unfolding(crate::specs::steps::Programs::variable))]
+fn variable(alloc: Global, tokens: &mut Tokens<'_, '_>) -> Result<RawItem, PartFail>
     ensures { Reads (spec.variable tokens.old) result tokens.new }
 {
     let name = name(alloc, tokens)?;
@@ -44,30 +44,30 @@ fn variable(alloc: Global, tokens: &mut Tokens<'_, '_>) -> Result<RawItem, Parse
 }
 
 /// An array's length in its brackets.
-#[tactic(auto, unfolding(crate::specs::descent::Programs::array))]
-fn array(tokens: &mut Tokens<'_, '_>, name: Name) -> Result<RawItem, ParseError>
+#[tactic(auto, unfolding(crate::specs::steps::Programs::array))]
+fn array(tokens: &mut Tokens<'_, '_>, name: Name) -> Result<RawItem, PartFail>
     ensures reads { Reads (spec.array name tokens.old) result tokens.new }
-    ensures decides { result ≢ Err error.NoMemory }
+    ensures decides { result ≢ Err fail.NoMemory }
 {
     tokens.expect(Symbol::OpenBracket)?;
     if sees_zero(tokens) {
-        return Err(ParseError::Refused);
+        return Err(PartFail::Refused);
     }
     let length = number(tokens)?;
     tokens.expect(Symbol::CloseBracket)?;
     Ok(RawItem::Array { name, length })
 }
 
-#[tactic(auto, unfolding(crate::specs::descent::Programs::param))]
-fn param(alloc: Global, tokens: &mut Tokens<'_, '_>) -> Result<Name, ParseError>
+#[tactic(auto, unfolding(crate::specs::steps::Programs::param))]
+fn param(alloc: Global, tokens: &mut Tokens<'_, '_>) -> Result<Name, PartFail>
     ensures { Reads (spec.param tokens.old) result tokens.new }
 {
     tokens.expect(Symbol::Int)?;
     name(alloc, tokens)
 }
 
-#[tactic(auto, unfolding(crate::specs::descent::Programs::params))]
-fn params(alloc: Global, tokens: &mut Tokens<'_, '_>) -> Result<Row<Name>, ParseError>
+#[tactic(auto, unfolding(crate::specs::steps::Programs::params))]
+fn params(alloc: Global, tokens: &mut Tokens<'_, '_>) -> Result<Row<Name>, PartFail>
     ensures { Reads (spec.params tokens.old) result tokens.new }
 {
     let mut found = Row::new(alloc);
@@ -86,8 +86,8 @@ fn params(alloc: Global, tokens: &mut Tokens<'_, '_>) -> Result<Row<Name>, Parse
 }
 
 /// A function, from its name on.
-#[tactic(auto, unfolding(crate::specs::descent::Programs::function))]
-fn function(alloc: Global, tokens: &mut Tokens<'_, '_>) -> Result<RawItem, ParseError>
+#[tactic(auto, unfolding(crate::specs::steps::Programs::function))]
+fn function(alloc: Global, tokens: &mut Tokens<'_, '_>) -> Result<RawItem, PartFail>
     ensures { Reads (spec.function tokens.old) result tokens.new }
 {
     let name = name(alloc, tokens)?;
@@ -100,8 +100,8 @@ fn function(alloc: Global, tokens: &mut Tokens<'_, '_>) -> Result<RawItem, Parse
 }
 
 /// A statement of `main`, which may be a region.
-#[tactic(auto, unfolding(crate::specs::descent::Programs::top))]
-fn top(alloc: Global, tokens: &mut Tokens<'_, '_>) -> Result<RawStmt, ParseError>
+#[tactic(auto, unfolding(crate::specs::steps::Programs::top))]
+fn top(alloc: Global, tokens: &mut Tokens<'_, '_>) -> Result<RawStmt, PartFail>
     ensures { Reads (spec.top tokens.old) result tokens.new }
 {
     let depth = tokens.len();
@@ -113,16 +113,16 @@ fn top(alloc: Global, tokens: &mut Tokens<'_, '_>) -> Result<RawStmt, ParseError
 }
 
 /// A `return 0;` or nothing.
-#[tactic(auto, unfolding(crate::specs::descent::Programs::returned))]
-fn returned(tokens: &mut Tokens<'_, '_>) -> Result<(), ParseError>
+#[tactic(auto, unfolding(crate::specs::steps::Programs::returned))]
+fn returned(tokens: &mut Tokens<'_, '_>) -> Result<(), PartFail>
     ensures reads { Reads (spec.returned tokens.old) result tokens.new }
-    ensures decides { result ≢ Err error.NoMemory }
+    ensures decides { result ≢ Err fail.NoMemory }
 {
     if !tokens.eat(Symbol::Return) {
         return Ok(());
     }
     if !sees_zero(tokens) {
-        return Err(ParseError::Refused);
+        return Err(PartFail::Refused);
     }
     number(tokens)?;
     tokens.expect(Symbol::Semicolon)?;
@@ -130,10 +130,10 @@ fn returned(tokens: &mut Tokens<'_, '_>) -> Result<(), ParseError>
 }
 
 /// The end of `main`, with its brace.
-#[tactic(auto, unfolding(crate::specs::descent::Programs::end))]
-fn end(tokens: &mut Tokens<'_, '_>) -> Result<(), ParseError>
+#[tactic(auto, unfolding(crate::specs::steps::Programs::end))]
+fn end(tokens: &mut Tokens<'_, '_>) -> Result<(), PartFail>
     ensures reads { Reads (spec.end tokens.old) result tokens.new }
-    ensures decides { result ≢ Err error.NoMemory }
+    ensures decides { result ≢ Err fail.NoMemory }
 {
     returned(tokens)?;
     tokens.expect(Symbol::CloseBrace)?;
@@ -141,7 +141,7 @@ fn end(tokens: &mut Tokens<'_, '_>) -> Result<(), ParseError>
 }
 
 /// Whether the statements of `main` are over.
-#[tactic(auto, unfolding(crate::specs::descent::Programs::ends))]
+#[tactic(auto, unfolding(crate::specs::steps::Programs::ends))]
 fn ends(tokens: &Tokens<'_, '_>) -> bool
     ensures { result ≡ spec.ends tokens.now }
 {
@@ -149,8 +149,8 @@ fn ends(tokens: &Tokens<'_, '_>) -> bool
 }
 
 /// `main`, from its parenthesis on.
-#[tactic(auto, unfolding(crate::specs::descent::Programs::main_part))]
-fn main_part(alloc: Global, tokens: &mut Tokens<'_, '_>) -> Result<Row<RawStmt>, ParseError>
+#[tactic(auto, unfolding(crate::specs::steps::Programs::main_part))]
+fn main_part(alloc: Global, tokens: &mut Tokens<'_, '_>) -> Result<Row<RawStmt>, PartFail>
     ensures { Reads (spec.main_part tokens.old) result tokens.new }
 {
     tokens.expect(Symbol::OpenParen)?;
@@ -172,8 +172,8 @@ enum Part {
     Main(Row<RawStmt>),
 }
 
-#[tactic(auto, unfolding(crate::specs::descent::Programs::part))]
-fn next_part(alloc: Global, tokens: &mut Tokens<'_, '_>) -> Result<Part, ParseError>
+#[tactic(auto, unfolding(crate::specs::steps::Programs::part))]
+fn next_part(alloc: Global, tokens: &mut Tokens<'_, '_>) -> Result<Part, PartFail>
     ensures { Reads (spec.part tokens.old) result tokens.new }
 {
     if tokens.eat(Symbol::Void) {
@@ -187,7 +187,7 @@ fn next_part(alloc: Global, tokens: &mut Tokens<'_, '_>) -> Result<Part, ParseEr
 }
 
 /// A whole program, after which no token is left.
-pub fn program(alloc: Global, tokens: &mut Tokens<'_, '_>) -> Result<RawProgram, ParseError>
+pub fn program(alloc: Global, tokens: &mut Tokens<'_, '_>) -> Result<RawProgram, PartFail>
     ensures { Reads (spec.program tokens.old) result tokens.new }
 {
     let mut items = Row::new(alloc);
@@ -196,7 +196,7 @@ pub fn program(alloc: Global, tokens: &mut Tokens<'_, '_>) -> Result<RawProgram,
             Part::Item(item) => items.push(item)?,
             Part::Main(main) => {
                 if tokens.len() > 0 {
-                    return Err(ParseError::Refused);
+                    return Err(PartFail::Refused);
                 }
                 return Ok(RawProgram { items, main });
             }

@@ -2,7 +2,7 @@
 
 ghost use Rattle.std.specs.Prelude.{◌≡◌, ◌≢◌, true, false};
 ghost use Rattle.dp_parse.specs.Levels as spec;
-ghost use Rattle.dp_parse.specs.descent.Operators as operators;
+ghost use Rattle.dp_parse.specs.steps.Operators as operators;
 
 use dp_base::{BinOp, UnOp};
 use dp_tokens::Symbol;
@@ -82,7 +82,7 @@ fn same_level(a: Level, b: Level) -> bool
 }
 
 /// What the symbol makes of two operands of the level, if it is an infix operator of it.
-#[tactic(auto, unfolding(crate::specs::descent::Operators::join_at))]
+#[tactic(auto, unfolding(crate::specs::steps::Operators::join_at))]
 pub fn join_at(level: Level, symbol: Symbol) -> Option<Join>
     ensures { result ≡ operators.join_at level symbol }
 {
@@ -93,7 +93,7 @@ pub fn join_at(level: Level, symbol: Symbol) -> Option<Join>
 }
 
 /// The prefix operator of the level that the symbol is, if it is one.
-#[tactic(auto, unfolding(crate::specs::descent::Operators::prefix_at))]
+#[tactic(auto, unfolding(crate::specs::steps::Operators::prefix_at))]
 pub fn prefix_at(level: Level, symbol: Symbol) -> Option<UnOp>
     ensures { result ≡ operators.prefix_at level symbol }
 {

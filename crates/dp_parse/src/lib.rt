@@ -4,8 +4,8 @@
 #![tactic(auto)]
 
 mod depth;
-mod error;
 mod expression;
+mod fail;
 mod head;
 mod item;
 mod law;
@@ -14,7 +14,7 @@ mod region;
 mod source;
 mod statement;
 
-pub use error::ParseFail;
+pub use fail::ParseFail;
 pub use law::no_tokens_derive_two_programs;
 pub use level::{Join, Level};
 pub use source::parse;

@@ -1,23 +1,23 @@
 //! Regions, in whose bodies early exits may stand.
 
 ghost use Rattle.std.specs.Prelude.{◌≡◌, ◌≢◌, Err};
-ghost use Rattle.dp_tokens.specs.declared.error.ParseError.TheVariants as error;
+ghost use Rattle.dp_tokens.specs.declared.fail.PartFail.TheVariants as fail;
 ghost use Rattle.dp_tokens.specs.Steps.{Reads};
-ghost use Rattle.dp_parse.specs.descent.Statements.{statement as plain};
-ghost use Rattle.dp_parse.specs.descent.Regions as spec;
+ghost use Rattle.dp_parse.specs.steps.Statements.{statement as plain};
+ghost use Rattle.dp_parse.specs.steps.Regions as spec;
 
 use crate::head::head;
 use crate::statement::{block, condition, otherwise, statement};
 use dp_base::Row;
-use dp_tokens::{ParseError, Symbol, Tokens};
+use dp_tokens::{PartFail, Symbol, Tokens};
 use dp_tree::{RawExpr, RawStmt};
 use std::alloc::Global;
 
 /// An exit behind its condition, without braces.
-#[tactic(auto, unfolding(crate::specs::descent::Regions::bare))]
-fn bare(tokens: &mut Tokens<'_, '_>, line: u32, cond: RawExpr) -> Result<RawStmt, ParseError>
+#[tactic(auto, unfolding(crate::specs::steps::Regions::bare))]
+fn bare(tokens: &mut Tokens<'_, '_>, line: u32, cond: RawExpr) -> Result<RawStmt, PartFail>
     ensures reads { Reads (spec.bare line cond tokens.old) result tokens.new }
-    ensures decides { result ≢ Err error.NoMemory }
+    ensures decides { result ≢ Err fail.NoMemory }
 {
     tokens.expect(Symbol::Break)?;
     tokens.expect(Symbol::Semicolon)?;
@@ -25,10 +25,10 @@ fn bare(tokens: &mut Tokens<'_, '_>, line: u32, cond: RawExpr) -> Result<RawStmt
 }
 
 /// The same in braces.
-#[tactic(auto, unfolding(crate::specs::descent::Regions::braced))]
-fn braced(tokens: &mut Tokens<'_, '_>, line: u32, cond: RawExpr) -> Result<RawStmt, ParseError>
+#[tactic(auto, unfolding(crate::specs::steps::Regions::braced))]
+fn braced(tokens: &mut Tokens<'_, '_>, line: u32, cond: RawExpr) -> Result<RawStmt, PartFail>
     ensures reads { Reads (spec.braced line cond tokens.old) result tokens.new }
-    ensures decides { result ≢ Err error.NoMemory }
+    ensures decides { result ≢ Err fail.NoMemory }
 {
     tokens.expect(Symbol::OpenBrace)?;
     let exit = bare(tokens, line, cond)?;
@@ -37,7 +37,7 @@ fn braced(tokens: &mut Tokens<'_, '_>, line: u32, cond: RawExpr) -> Result<RawSt
 }
 
 /// Whether an exit in braces comes next.
-#[tactic(auto, unfolding(crate::specs::descent::Regions::leads_out))]
+#[tactic(auto, unfolding(crate::specs::steps::Regions::leads_out))]
 fn leads_out(tokens: &Tokens<'_, '_>) -> bool
     ensures { result ≡ spec.leads_out tokens.now }
 {
@@ -45,14 +45,14 @@ fn leads_out(tokens: &Tokens<'_, '_>) -> bool
 }
 
 /// An `if` behind its condition.
-#[tactic(auto, unfolding(crate::specs::descent::Regions::branches))]
+#[tactic(auto, unfolding(crate::specs::steps::Regions::branches))]
 fn branches(
     alloc: Global,
     tokens: &mut Tokens<'_, '_>,
     depth: usize,
     line: u32,
     cond: RawExpr,
-) -> Result<RawStmt, ParseError>
+) -> Result<RawStmt, PartFail>
     ensures { Reads (spec.branches (plain depth) line cond tokens.old) result tokens.new }
 {
     let then_part = block(alloc, tokens, depth)?;
@@ -66,14 +66,14 @@ fn branches(
 }
 
 /// What follows an `if` and its condition.
-#[tactic(auto, unfolding(crate::specs::descent::Regions::tested))]
+#[tactic(auto, unfolding(crate::specs::steps::Regions::tested))]
 fn tested(
     alloc: Global,
     tokens: &mut Tokens<'_, '_>,
     depth: usize,
     line: u32,
     cond: RawExpr,
-) -> Result<RawStmt, ParseError>
+) -> Result<RawStmt, PartFail>
     ensures { Reads (spec.tested (plain depth) line cond tokens.old) result tokens.new }
 {
     if tokens.sees(Symbol::Break) {
@@ -85,8 +85,8 @@ fn tested(
     branches(alloc, tokens, depth, line, cond)
 }
 
-#[tactic(auto, unfolding(crate::specs::descent::Regions::branch))]
-fn branch(alloc: Global, tokens: &mut Tokens<'_, '_>, depth: usize) -> Result<RawStmt, ParseError>
+#[tactic(auto, unfolding(crate::specs::steps::Regions::branch))]
+fn branch(alloc: Global, tokens: &mut Tokens<'_, '_>, depth: usize) -> Result<RawStmt, PartFail>
     ensures { Reads (spec.branch (plain depth) tokens.old) result tokens.new }
 {
     let line = tokens.expect(Symbol::If)?.line;
@@ -95,8 +95,8 @@ fn branch(alloc: Global, tokens: &mut Tokens<'_, '_>, depth: usize) -> Result<Ra
 }
 
 /// A statement of a region's body, which may be an early exit.
-#[tactic(auto, unfolding(crate::specs::descent::Regions::inside))]
-fn inside(alloc: Global, tokens: &mut Tokens<'_, '_>, depth: usize) -> Result<RawStmt, ParseError>
+#[tactic(auto, unfolding(crate::specs::steps::Regions::inside))]
+fn inside(alloc: Global, tokens: &mut Tokens<'_, '_>, depth: usize) -> Result<RawStmt, PartFail>
     ensures { Reads (spec.inside (plain depth) tokens.old) result tokens.new }
 {
     if tokens.sees(Symbol::If) {
@@ -105,12 +105,8 @@ fn inside(alloc: Global, tokens: &mut Tokens<'_, '_>, depth: usize) -> Result<Ra
     statement(alloc, tokens, depth)
 }
 
-#[tactic(auto, unfolding(crate::specs::descent::Regions::body))]
-fn body(
-    alloc: Global,
-    tokens: &mut Tokens<'_, '_>,
-    depth: usize,
-) -> Result<Row<RawStmt>, ParseError>
+#[tactic(auto, unfolding(crate::specs::steps::Regions::body))]
+fn body(alloc: Global, tokens: &mut Tokens<'_, '_>, depth: usize) -> Result<Row<RawStmt>, PartFail>
     ensures { Reads (spec.body (plain depth) tokens.old) result tokens.new }
 {
     tokens.expect(Symbol::OpenBrace)?;
@@ -123,8 +119,8 @@ fn body(
 }
 
 /// A region, from its `while` on.
-#[tactic(auto, unfolding(crate::specs::descent::Regions::repeated))]
-fn repeated(alloc: Global, tokens: &mut Tokens<'_, '_>, depth: usize) -> Result<RawStmt, ParseError>
+#[tactic(auto, unfolding(crate::specs::steps::Regions::repeated))]
+fn repeated(alloc: Global, tokens: &mut Tokens<'_, '_>, depth: usize) -> Result<RawStmt, PartFail>
     ensures { Reads (spec.repeated (plain depth) tokens.old) result tokens.new }
 {
     let line = tokens.expect(Symbol::While)?.line;
@@ -139,8 +135,8 @@ fn repeated(alloc: Global, tokens: &mut Tokens<'_, '_>, depth: usize) -> Result<
 }
 
 /// A region, from its `for` on.
-#[tactic(auto, unfolding(crate::specs::descent::Regions::counted))]
-fn counted(alloc: Global, tokens: &mut Tokens<'_, '_>, depth: usize) -> Result<RawStmt, ParseError>
+#[tactic(auto, unfolding(crate::specs::steps::Regions::counted))]
+fn counted(alloc: Global, tokens: &mut Tokens<'_, '_>, depth: usize) -> Result<RawStmt, PartFail>
     ensures { Reads (spec.counted (plain depth) tokens.old) result tokens.new }
 {
     let line = tokens.expect(Symbol::For)?.line;
@@ -157,12 +153,8 @@ fn counted(alloc: Global, tokens: &mut Tokens<'_, '_>, depth: usize) -> Result<R
 }
 
 /// A region, from behind its mark on.
-#[tactic(auto, unfolding(crate::specs::descent::Regions::region))]
-pub fn region(
-    alloc: Global,
-    tokens: &mut Tokens<'_, '_>,
-    depth: usize,
-) -> Result<RawStmt, ParseError>
+#[tactic(auto, unfolding(crate::specs::steps::Regions::region))]
+pub fn region(alloc: Global, tokens: &mut Tokens<'_, '_>, depth: usize) -> Result<RawStmt, PartFail>
     ensures { Reads (spec.region (plain depth) tokens.old) result tokens.new }
 {
     if tokens.sees(Symbol::For) {

@@ -6,11 +6,11 @@ ghost use Rattle.dp_lex.specs.Tokens.{Tokens as AreTokens, lexeme};
 ghost use Rattle.dp_parse.specs.Parses.{Parses, Unread, Gives, outcome_of};
 
 use crate::depth::depth_fault;
-use crate::error::ParseFail;
+use crate::fail::ParseFail;
 use crate::item::program;
 use dp_base::Row;
 use dp_lex::{Lexer, Token};
-use dp_tokens::{ParseError, Tokens};
+use dp_tokens::{PartFail, Tokens};
 use dp_tree::RawProgram;
 use std::alloc::Global;
 
@@ -63,7 +63,7 @@ fn derive(alloc: Global, tokens: &[Token<'_>]) -> Result<RawProgram, ParseFail>
 
 /// The answer for a whole text of so many tokens, of which some are left.
 fn outcome(
-    found: Result<RawProgram, ParseError>,
+    found: Result<RawProgram, PartFail>,
     tokens: usize,
     left: usize,
 ) -> Result<RawProgram, ParseFail>
@@ -72,9 +72,9 @@ fn outcome(
 {
     match found {
         Ok(program) => Ok(program),
-        Err(ParseError::Refused) => Err(ParseFail::Refused {
+        Err(PartFail::Refused) => Err(ParseFail::Refused {
             token: tokens.saturating_sub(left) as u32,
         }),
-        Err(ParseError::NoMemory) => Err(ParseFail::NoMemory),
+        Err(PartFail::NoMemory) => Err(ParseFail::NoMemory),
     }
 }

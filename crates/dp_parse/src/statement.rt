@@ -1,18 +1,18 @@
 //! Statements and blocks.
 
 ghost use Rattle.dp_tokens.specs.Steps.{Reads};
-ghost use Rattle.dp_parse.specs.descent.Statements as spec;
+ghost use Rattle.dp_parse.specs.steps.Statements as spec;
 
 use crate::expression::{list, whole};
 use crate::head::{assign, declare, head};
 use dp_base::Row;
-use dp_tokens::{ParseError, Symbol, Tokens, name};
+use dp_tokens::{PartFail, Symbol, Tokens, name};
 use dp_tree::{Name, RawExpr, RawStmt};
 use std::alloc::Global;
 
 /// An expression in parentheses.
-#[tactic(auto, unfolding(crate::specs::descent::Statements::condition))]
-pub fn condition(alloc: Global, tokens: &mut Tokens<'_, '_>) -> Result<RawExpr, ParseError>
+#[tactic(auto, unfolding(crate::specs::steps::Statements::condition))]
+pub fn condition(alloc: Global, tokens: &mut Tokens<'_, '_>) -> Result<RawExpr, PartFail>
     ensures { Reads (spec.condition tokens.old) result tokens.new }
 {
     tokens.expect(Symbol::OpenParen)?;
@@ -21,8 +21,8 @@ pub fn condition(alloc: Global, tokens: &mut Tokens<'_, '_>) -> Result<RawExpr, 
     Ok(inside)
 }
 
-#[tactic(auto, unfolding(crate::specs::descent::Statements::arguments))]
-fn arguments(alloc: Global, tokens: &mut Tokens<'_, '_>) -> Result<Row<RawExpr>, ParseError>
+#[tactic(auto, unfolding(crate::specs::steps::Statements::arguments))]
+fn arguments(alloc: Global, tokens: &mut Tokens<'_, '_>) -> Result<Row<RawExpr>, PartFail>
     ensures { Reads (spec.arguments tokens.old) result tokens.new }
 {
     if tokens.sees(Symbol::CloseParen) {
@@ -31,8 +31,8 @@ fn arguments(alloc: Global, tokens: &mut Tokens<'_, '_>) -> Result<Row<RawExpr>,
     list(alloc, tokens)
 }
 
-#[tactic(auto, unfolding(crate::specs::descent::Statements::call))]
-fn call(alloc: Global, tokens: &mut Tokens<'_, '_>, name: Name) -> Result<RawStmt, ParseError>
+#[tactic(auto, unfolding(crate::specs::steps::Statements::call))]
+fn call(alloc: Global, tokens: &mut Tokens<'_, '_>, name: Name) -> Result<RawStmt, PartFail>
     ensures { Reads (spec.call name tokens.old) result tokens.new }
 {
     tokens.expect(Symbol::OpenParen)?;
@@ -43,8 +43,8 @@ fn call(alloc: Global, tokens: &mut Tokens<'_, '_>, name: Name) -> Result<RawStm
 }
 
 /// A statement that begins with a name.
-#[tactic(auto, unfolding(crate::specs::descent::Statements::named))]
-fn named(alloc: Global, tokens: &mut Tokens<'_, '_>) -> Result<RawStmt, ParseError>
+#[tactic(auto, unfolding(crate::specs::steps::Statements::named))]
+fn named(alloc: Global, tokens: &mut Tokens<'_, '_>) -> Result<RawStmt, PartFail>
     ensures { Reads (spec.named tokens.old) result tokens.new }
 {
     let name = name(alloc, tokens)?;
@@ -56,8 +56,8 @@ fn named(alloc: Global, tokens: &mut Tokens<'_, '_>) -> Result<RawStmt, ParseErr
     Ok(assigned)
 }
 
-#[tactic(auto, unfolding(crate::specs::descent::Statements::declaration))]
-fn declaration(alloc: Global, tokens: &mut Tokens<'_, '_>) -> Result<RawStmt, ParseError>
+#[tactic(auto, unfolding(crate::specs::steps::Statements::declaration))]
+fn declaration(alloc: Global, tokens: &mut Tokens<'_, '_>) -> Result<RawStmt, PartFail>
     ensures { Reads (spec.declaration tokens.old) result tokens.new }
 {
     let declared = declare(alloc, tokens)?;
@@ -65,8 +65,8 @@ fn declaration(alloc: Global, tokens: &mut Tokens<'_, '_>) -> Result<RawStmt, Pa
     Ok(declared)
 }
 
-#[tactic(auto, unfolding(crate::specs::descent::Statements::print))]
-fn print(alloc: Global, tokens: &mut Tokens<'_, '_>) -> Result<RawStmt, ParseError>
+#[tactic(auto, unfolding(crate::specs::steps::Statements::print))]
+fn print(alloc: Global, tokens: &mut Tokens<'_, '_>) -> Result<RawStmt, PartFail>
     ensures { Reads (spec.print tokens.old) result tokens.new }
 {
     let line = tokens.expect(Symbol::Print)?.line;
@@ -77,16 +77,16 @@ fn print(alloc: Global, tokens: &mut Tokens<'_, '_>) -> Result<RawStmt, ParseErr
 
 /// A statement in which others nest at most `depth` deep.
 #[cycle(statement)]
-#[tactic(auto, unfolding(crate::specs::descent::Statements::statement))]
+#[tactic(auto, unfolding(crate::specs::steps::Statements::statement))]
 pub fn statement(
     alloc: Global,
     tokens: &mut Tokens<'_, '_>,
     depth: usize,
-) -> Result<RawStmt, ParseError>
+) -> Result<RawStmt, PartFail>
     ensures { Reads (spec.statement depth tokens.old) result tokens.new }
 {
     if depth == 0 {
-        return Err(ParseError::Refused);
+        return Err(PartFail::Refused);
     }
     match tokens.peek() {
         Symbol::Int => declaration(alloc, tokens),
@@ -100,8 +100,8 @@ pub fn statement(
 
 /// A loop, from its `while` on.
 #[cycle(statement)]
-#[tactic(auto, unfolding(crate::specs::descent::Statements::repeated))]
-fn repeated(alloc: Global, tokens: &mut Tokens<'_, '_>, depth: usize) -> Result<RawStmt, ParseError>
+#[tactic(auto, unfolding(crate::specs::steps::Statements::repeated))]
+fn repeated(alloc: Global, tokens: &mut Tokens<'_, '_>, depth: usize) -> Result<RawStmt, PartFail>
     ensures { Reads (spec.repeated (spec.statement depth) tokens.old) result tokens.new }
 {
     let line = tokens.expect(Symbol::While)?.line;
@@ -117,8 +117,8 @@ fn repeated(alloc: Global, tokens: &mut Tokens<'_, '_>, depth: usize) -> Result<
 
 /// A loop, from its `for` on.
 #[cycle(statement)]
-#[tactic(auto, unfolding(crate::specs::descent::Statements::counted))]
-fn counted(alloc: Global, tokens: &mut Tokens<'_, '_>, depth: usize) -> Result<RawStmt, ParseError>
+#[tactic(auto, unfolding(crate::specs::steps::Statements::counted))]
+fn counted(alloc: Global, tokens: &mut Tokens<'_, '_>, depth: usize) -> Result<RawStmt, PartFail>
     ensures { Reads (spec.counted (spec.statement depth) tokens.old) result tokens.new }
 {
     let line = tokens.expect(Symbol::For)?.line;
@@ -135,8 +135,8 @@ fn counted(alloc: Global, tokens: &mut Tokens<'_, '_>, depth: usize) -> Result<R
 }
 
 #[cycle(statement)]
-#[tactic(auto, unfolding(crate::specs::descent::Statements::choice))]
-fn choice(alloc: Global, tokens: &mut Tokens<'_, '_>, depth: usize) -> Result<RawStmt, ParseError>
+#[tactic(auto, unfolding(crate::specs::steps::Statements::choice))]
+fn choice(alloc: Global, tokens: &mut Tokens<'_, '_>, depth: usize) -> Result<RawStmt, PartFail>
     ensures { Reads (spec.choice (spec.statement depth) tokens.old) result tokens.new }
 {
     let line = tokens.expect(Symbol::If)?.line;
@@ -153,12 +153,12 @@ fn choice(alloc: Global, tokens: &mut Tokens<'_, '_>, depth: usize) -> Result<Ra
 
 /// What follows an `if` and its block: the part after an `else`, or nothing.
 #[cycle(statement)]
-#[tactic(auto, unfolding(crate::specs::descent::Statements::otherwise))]
+#[tactic(auto, unfolding(crate::specs::steps::Statements::otherwise))]
 pub fn otherwise(
     alloc: Global,
     tokens: &mut Tokens<'_, '_>,
     depth: usize,
-) -> Result<Row<RawStmt>, ParseError>
+) -> Result<Row<RawStmt>, PartFail>
     ensures { Reads (spec.otherwise (spec.statement depth) tokens.old) result tokens.new }
 {
     if !tokens.eat(Symbol::Else) {
@@ -174,12 +174,12 @@ pub fn otherwise(
 
 /// Statements in braces, each of which nests at most `depth` deep.
 #[cycle(statement)]
-#[tactic(auto, unfolding(crate::specs::descent::Statements::block))]
+#[tactic(auto, unfolding(crate::specs::steps::Statements::block))]
 pub fn block(
     alloc: Global,
     tokens: &mut Tokens<'_, '_>,
     depth: usize,
-) -> Result<Row<RawStmt>, ParseError>
+) -> Result<Row<RawStmt>, PartFail>
     ensures { Reads (spec.block (spec.statement depth) tokens.old) result tokens.new }
 {
     tokens.expect(Symbol::OpenBrace)?;

@@ -1,5 +1,5 @@
 -- Assumptions that ascend by site stand in the order of the sites.
-use Rattle.std.proofs.Common.{◌≡◌, refl, sym, ap, subst, ◌∙◌, ℕ, ◌<◌, ◌≤◌, ◌==◌, true, false, List, [], ◌∷◌, map, None, filter_map, inl, inr, arith, eq-eqb, eqb-true, ne_eqb}
+use Rattle.std.proofs.Common.{◌≡◌, refl, sym, ap, subst, ◌∙◌, ℕ, ◌<◌, ◌≤◌, ◌==◌, true, false, List, [], ◌∷◌, map, Some, None, filter_map, inl, inr, arith, eq-eqb, eqb-true, ne_eqb}
 use Rattle.std.proofs.lemmas.Bool.{cases_Bool}
 use Rattle.dp_tree.specs.declared.Assume.{Assume}
 use Rattle.dp_plan.specs.Each.{AscendAbove, Each}
@@ -8,6 +8,14 @@ use Rattle.dp_plan.specs.Written.{has, assumption_at}
 use Rattle.dp_plan.specs.Rules.{assumed_site}
 use Rattle.dp_plan.proofs.Ascent.{above_each}
 use Rattle.dp_plan.proofs.Found.{has_each, past, past_other}
+
+-- the assumption of a site that is assumed
+pub found_assumption : (assumed : List Assume) (site : ℕ) → has site (map assumed_site assumed) ≡ true → (a : Assume) × (assumption_at assumed site ≡ Some a) × (a.site.0 ≡ site)
+found_assumption [] site e = absurd (cc e)
+found_assumption (a ∷ rest) site e = elim (cases_Bool (a.site.0 == site)) [
+  | inl here ↦ (a, rw here refl, eqb-true a.site.0 site here)
+  | inr off ↦ let later = found_assumption rest site (rw off at e) in (later.0, rw off later.1, later.2)
+]
 
 each_past : (s : ℕ) (rest ns : List ℕ) → Each (λ n. s < n) ns → Each (λ n. has n (s ∷ rest) ≡ true) ns → Each (λ n. has n rest ≡ true) ns
 each_past s rest [] above each = tt

@@ -4,12 +4,13 @@ use Rattle.std.specs.List.{flat_map}
 use Rattle.std.proofs.lemmas.Bool.{or_right}
 use Rattle.std.proofs.lemmas.List.{map-append}
 use Rattle.std.proofs.lemmas.List.Folds.{list_any-append}
-use Rattle.dp_tree.specs.declared.Stmt.{Stmt, Row_of-Stmt, end_of-Stmt, more_of-Stmt}
+use Rattle.dp_tree.specs.declared.Stmt.{Stmt}
 use Rattle.dp_tree.specs.declared.Stmt.TheVariants as tree
 use Rattle.dp_tree.specs.declared.Program.{Program}
-use Rattle.dp_plan.specs.Access.{Access, accesses, accesses_in, region_in}
+use Rattle.dp_tree.proofs.Asked.{asked_both}
+use Rattle.dp_plan.specs.Access.{Access, access_at, accesses, region_in}
 use Rattle.dp_plan.specs.Written.{has, site_in, region_sites}
-use Rattle.dp_plan.specs.Enclosing.{Enclosing, ifs, ifs_in, region_ifs}
+use Rattle.dp_plan.specs.Enclosing.{Enclosing, if_at, ifs, region_ifs}
 use Rattle.dp_plan.specs.Rules.{site_of_condition}
 
 -- the number is found among the sites where it is among the conditions
@@ -28,17 +29,12 @@ within-append : (n : ℕ) (a b : List Enclosing) (xs ys : List Access) → Withi
 within-append n a b xs ys first second e =
     has_mapped site_in n xs ys ∙ or_both (has n (map site_of_condition a)) (has n (map site_of_condition b)) (has n (map site_in xs)) (has n (map site_in ys)) first second (sym (has_mapped site_of_condition n a b) ∙ e)
 
-mutual
-  within : (n : ℕ) (x : Stmt) → Within n (ifs x) (accesses x)
-  within n (tree.If' site cond _ a _ b) = or_both (site.0 == n) (has n (map site_of_condition (ifs_in a ++ ifs_in b))) (site.0 == n) (has n (map site_in (accesses_in a ++ accesses_in b))) (λ e. e)
-      (within-append n (ifs_in a) (ifs_in b) (accesses_in a) (accesses_in b) (within_in n a) (within_in n b))
-  within n (tree.While' site cond _ a) = λ e. or_right (site.0 == n) (has n (map site_in (accesses_in a))) (within_in n a e)
-  within n (tree.Region' r site cond _ a) = λ e. or_right (site.0 == n) (has n (map site_in (accesses_in a))) (within_in n a e)
-  within n _ = λ e. absurd (cc e)
+within_own : (n : ℕ) (x : Stmt) → Within n (if_at x) (access_at x)
+within_own n (tree.If' site cond _ a _ b) = λ e. e
+within_own n _ = λ e. absurd (cc e)
 
-  within_in : {m : _} (n : ℕ) (row : Row_of-Stmt m) → Within n (ifs_in row) (accesses_in row)
-  within_in n end_of-Stmt = λ e. absurd (cc e)
-  within_in n (more_of-Stmt x rest) = within-append n (ifs x) (ifs_in rest) (accesses x) (accesses_in rest) (within n x) (within_in n rest)
+within : (n : ℕ) (x : Stmt) → Within n (ifs x) (accesses x)
+within n x = asked_both (Within n) (λ e. absurd (cc e)) (within-append n) if_at access_at (within_own n) x
 
 within_all : (n : ℕ) (all : List Stmt) → Within n (flat_map ifs all) (flat_map accesses all)
 within_all n [] = λ e. absurd (cc e)

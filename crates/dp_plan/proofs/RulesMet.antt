@@ -19,7 +19,7 @@ pub record Meets (p : Program) (w : WrittenPlan) : Type 0 where
   pub ifs : Each (λ e. is_late_unassumed w e ≡ false) (region_ifs p w.region)
   pub assumed : Each (λ site. is_no_if_or_again p w site ≡ false) (map assumed_site w.assume)
 
-dropped : {X : Type 0} (test : X → Bool) (xs : List X) → Each (λ x. test x ≡ false) xs → filter test xs ≡ []
+pub dropped : {X : Type 0} (test : X → Bool) (xs : List X) → Each (λ x. test x ≡ false) xs → filter test xs ≡ []
 dropped test [] each = refl
 dropped test (x ∷ xs) each = rw each.0 (dropped test xs each.1)
 
@@ -33,7 +33,7 @@ each_off : (test : ℕ → Bool) (ns : List ℕ) → Each (λ n. test n ≡ true
 each_off test [] each = tt
 each_off test (n ∷ ns) each = (ap not each.0, each_off test ns each.1)
 
-none_broken : (rule : ℕ) (named : List (Option ℕ)) → Each (λ o. o ≡ None) named → broken_from rule named ≡ None
+pub none_broken : (rule : ℕ) (named : List (Option ℕ)) → Each (λ o. o ≡ None) named → broken_from rule named ≡ None
 none_broken rule [] each = refl
 none_broken rule (o ∷ rest) each = ap (λ (q : Option ℕ). broken_from rule (q ∷ rest)) each.0 ∙ none_broken (suc rule) rest each.1
 

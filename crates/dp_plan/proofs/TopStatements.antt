@@ -5,30 +5,26 @@ use Rattle.std.proofs.lemmas.List.{map-append}
 use Rattle.dp_tree.specs.declared.RegionInfo.{RegionInfo}
 use Rattle.dp_base.specs.declared.SiteId.{SiteId}
 use Rattle.dp_tree.specs.declared.Expr.{Expr}
-use Rattle.dp_tree.specs.declared.Stmt.{Stmt, Row_of-Stmt, end_of-Stmt, more_of-Stmt, out-Stmt, out-roll-Stmt, roll-Stmt, roll-out-Stmt}
+use Rattle.dp_tree.specs.declared.Stmt.{Stmt, out-Stmt, out-roll-Stmt, roll-Stmt, roll-out-Stmt}
 use Rattle.dp_tree.specs.declared.Stmt.TheBlock.{hidden-the_row-Stmt-0}
 use Rattle.dp_tree.specs.declared.Stmt.TheOpen.{Assign, Break, Call, If, Print, Region, Stmt-F, Store, While}
 use Rattle.dp_tree.specs.declared.Stmt.TheVariants as tree
 use Rattle.dp_tree.specs.declared.Stmt.TheViews.{rolls-Assign, rolls-Break, rolls-Call, rolls-If, rolls-Print, rolls-Region, rolls-Store, rolls-While}
 use Rattle.dp_tree.specs.Iteration.{is_region}
-use Rattle.dp_tree.specs.Numbering.{has_numbers, is_marked, is_inner_in, is_plain, listed_first, next_region, regions_listed, site_numbers, site_numbers_in, site_numbers_all, top_fits}
-use Rattle.dp_plan.specs.Access.{accesses, accesses_in, is_region_at}
+use Rattle.dp_tree.specs.Numbering.{has_numbers, is_marked, is_inner_in, is_plain, listed_first, next_region, number_at, regions_listed, site_numbers, site_numbers_all, top_fits}
+use Rattle.dp_tree.proofs.Asked.{asked_both}
+use Rattle.dp_plan.specs.Access.{Access, access_at, accesses, is_region_at}
 use Rattle.dp_plan.specs.Written.{site_in}
 use Rattle.dp_plan.proofs.LoadLemmas.{opened}
 
-mutual
-  -- a statement's numbers are its sites
-  pub sites_are : (x : Stmt) → site_numbers x ≡ map site_in (accesses x)
-  sites_are (tree.If' site cond _ a _ b) = ap (λ ns. site.0 ∷ ns) (ap (λ ns. ns ++ site_numbers_in b) (sites_are_in a)
-      ∙ ap (λ ns. map site_in (accesses_in a) ++ ns) (sites_are_in b) ∙ sym (map-append site_in (accesses_in a) (accesses_in b)))
-  sites_are (tree.While' site cond _ a) = ap (λ ns. site.0 ∷ ns) (sites_are_in a)
-  sites_are (tree.Region' r site cond _ a) = ap (λ ns. site.0 ∷ ns) (sites_are_in a)
-  sites_are _ = refl
+number_is : (x : Stmt) → number_at x ≡ map site_in (access_at x)
+number_is (tree.Call f line args) = refl
+number_is _ = refl
 
-  sites_are_in : {n : _} (row : Row_of-Stmt n) → site_numbers_in row ≡ map site_in (accesses_in row)
-  sites_are_in end_of-Stmt = refl
-  sites_are_in (more_of-Stmt x rest) = ap (λ ns. ns ++ site_numbers_in rest) (sites_are x) ∙ ap (λ ns. map site_in (accesses x) ++ ns) (sites_are_in rest)
-      ∙ sym (map-append site_in (accesses x) (accesses_in rest))
+-- a statement's numbers are its sites
+pub sites_are : (x : Stmt) → site_numbers x ≡ map site_in (accesses x)
+sites_are x = asked_both (λ (ns : List ℕ) (xs : List Access). ns ≡ map site_in xs) refl
+    (λ a b xs ys p q. ap (λ ns. ns ++ b) p ∙ ap (λ ns. map site_in xs ++ ns) q ∙ sym (map-append site_in xs ys)) number_at access_at number_is x
 
 -- a statement at the top: a region, or none
 pub data Top (x : Stmt) : Type 0 where

@@ -1,6 +1,5 @@
--- Which statements are a region, by their form, and the accesses of a row of statements.
-use Rattle.std.proofs.Common.{◌≡◌, refl, ap, ℕ, ◌==◌, false, List, [], ◌∷◌, ◌++◌}
-use Rattle.std.specs.List.{flat_map}
+-- Which statements are a region, by their form.
+use Rattle.std.proofs.Common.{◌≡◌, ap, ℕ, ◌==◌, false, List}
 use Rattle.dp_base.specs.declared.SiteId.{SiteId}
 use Rattle.dp_base.specs.declared.VarId.{VarId}
 use Rattle.dp_tree.specs.declared.Expr.{Expr}
@@ -8,11 +7,7 @@ use Rattle.dp_tree.specs.declared.Stmt.{Stmt}
 use Rattle.dp_tree.specs.declared.Stmt.TheVariants as tree
 use Rattle.dp_tree.specs.declared.Stmt.TheVariants.{outs-Assign, outs-Store, outs-Print, outs-If, outs-While, outs-Region, outs-Break, outs-Call}
 use Rattle.dp_tree.specs.Iteration.{is_region}
-use Rattle.dp_plan.specs.Access.{accesses, accesses_in}
-use Rattle.dp_plan.proofs.LoadLemmas.{opened}
 use Rattle.dp_plan.specs.Walks.{is_region_of}
-
--- ---- regions
 
 module _ (r : ℕ) where
   pub region-Assign : (site : SiteId) (x : VarId) (e : Expr) → is_region_of r (tree.Assign site x e) ≡ false
@@ -48,10 +43,3 @@ module _ (r : ℕ) where
   region-Call f line args = ap (is_region r) (outs-Call f line args)
 
 pub ruleset region_forms = (region-Assign, region-Store, region-Print, region-Break, region-If, region-While, region-Region, region-Call)
-
--- ---- accesses
-
-pub accesses_hidden : (xs : List Stmt) → accesses_in (Rattle.dp_tree.specs.declared.Stmt.TheBlock.hidden-the_row-Stmt-0 xs) ≡ flat_map accesses xs
-unfolding opened
-accesses_hidden [] = refl
-accesses_hidden (x ∷ xs) = ap (λ r. accesses x ++ r) (accesses_hidden xs)

@@ -3,10 +3,11 @@ use Rattle.std.specs.Prelude.{ℕ, ◌==◌, Bool, false, not, ◌&&◌, List, [
 use Rattle.std.specs.List.{flat_map}
 use Rattle.dp_tree.specs.declared.Expr.{Expr, end_of-Expr, more_of-Expr}
 use Rattle.dp_tree.specs.declared.Expr.TheVariants.{Number, Input', InputLen, Scalar, Element', Unary', Binary', And', Or'}
-use Rattle.dp_tree.specs.declared.Stmt.{Stmt, Row_of-Stmt, end_of-Stmt, more_of-Stmt, out-Stmt}
+use Rattle.dp_tree.specs.declared.Stmt.{Stmt, Row_of-Stmt, out-Stmt}
 use Rattle.dp_tree.specs.declared.Stmt.TheVariants.{Assign, Store, Print, If', While', Region', Break, Call}
 use Rattle.dp_tree.specs.declared.Program.{Program}
 use Rattle.dp_plan.specs.declared.Plan.{Plan}
+use Rattle.dp_tree.specs.Statements.{asked, asked_in}
 use Rattle.dp_tree.specs.Iteration.{is_region}
 pub use Rattle.dp_plan.specs.Stage.{first_site_of, first_site, stage_of, is_par, is_replicated, is_local, is_body_local}
 
@@ -28,23 +29,24 @@ pub record Access : Type 0 where
   pub loads : List ℕ
   pub stores : Option ℕ
 
-abbrev mutual
-  -- the sites of a statement, in text order
-  pub accesses : Stmt → List Access
-  accesses (Assign site x e) = record { site = site.0; loads = loaded_by e; stores = Some x.0 } ∷ []
-  accesses (Store site x index e) = record { site = site.0; loads = loaded_by index ++ loaded_by e; stores = Some x.0 } ∷ []
-  accesses (Print site e) = record { site = site.0; loads = loaded_by e; stores = None } ∷ []
-  accesses (If' site cond _ then_part _ else_part) =
-      record { site = site.0; loads = loaded_by cond; stores = None } ∷ (accesses_in then_part ++ accesses_in else_part)
-  accesses (While' site cond _ body) = record { site = site.0; loads = loaded_by cond; stores = None } ∷ accesses_in body
-  accesses (Region' r site cond _ body) = record { site = site.0; loads = loaded_by cond; stores = None } ∷ accesses_in body
-  accesses (Break site cond) = record { site = site.0; loads = loaded_by cond; stores = None } ∷ []
-  accesses (Call f line args) = []
+-- the statement's own site
+abbrev pub access_at : Stmt → List Access
+access_at (Assign site x e) = record { site = site.0; loads = loaded_by e; stores = Some x.0 } ∷ []
+access_at (Store site x index e) = record { site = site.0; loads = loaded_by index ++ loaded_by e; stores = Some x.0 } ∷ []
+access_at (Print site e) = record { site = site.0; loads = loaded_by e; stores = None } ∷ []
+access_at (If' site cond _ then_part _ else_part) = record { site = site.0; loads = loaded_by cond; stores = None } ∷ []
+access_at (While' site cond _ body) = record { site = site.0; loads = loaded_by cond; stores = None } ∷ []
+access_at (Region' r site cond _ body) = record { site = site.0; loads = loaded_by cond; stores = None } ∷ []
+access_at (Break site cond) = record { site = site.0; loads = loaded_by cond; stores = None } ∷ []
+access_at (Call f line args) = []
 
-  -- those of several statements
-  pub accesses_in : {n : _} → Row_of-Stmt n → List Access
-  accesses_in end_of-Stmt = []
-  accesses_in (more_of-Stmt s rest) = accesses s ++ accesses_in rest
+-- the sites of a statement, in text order
+abbrev pub accesses : Stmt → List Access
+accesses s = asked access_at s
+
+-- those of several statements
+abbrev pub accesses_in : {n : _} → Row_of-Stmt n → List Access
+accesses_in rows = asked_in access_at rows
 
 -- the statement is region r
 abbrev pub is_region_at : ℕ → Stmt → Bool

@@ -1,10 +1,11 @@
 -- The sites that a plan has checked: those whose loads may differ from the source's. A plan of version 2 leaves out what is known to lie apart.
-use Rattle.std.specs.Prelude.{ℕ, if◌then◌else◌, ◌==◌, Bool, not, ◌&&◌, ◌||◌, List, [], ◌∷◌, ◌++◌}
+use Rattle.std.specs.Prelude.{ℕ, if◌then◌else◌, ◌==◌, Bool, not, ◌&&◌, ◌||◌, List, [], ◌∷◌}
 use Rattle.std.specs.List.{list_any, flat_map}
-use Rattle.dp_tree.specs.declared.Stmt.{Stmt, Row_of-Stmt, end_of-Stmt, more_of-Stmt}
-use Rattle.dp_tree.specs.declared.Stmt.TheVariants.{Assign, Store, Print, If', While', Region', Break, Call}
+use Rattle.dp_tree.specs.declared.Stmt.{Stmt, Row_of-Stmt}
+use Rattle.dp_tree.specs.declared.Stmt.TheVariants.{While'}
 use Rattle.dp_tree.specs.declared.Program.{Program}
 use Rattle.dp_plan.specs.declared.Plan.{Plan}
+use Rattle.dp_tree.specs.Statements.{asked, asked_in}
 use Rattle.dp_plan.specs.Access.{Access, accesses, region_in, region_accesses, stage_of, is_stored_after, is_stored_beside}
 use Rattle.dp_plan.specs.IsFar.{is_far, is_far_within}
 
@@ -16,21 +17,18 @@ has_site site all = list_any (λ (a : Access). a.site == site) all
 abbrev pub has_both : ℕ → ℕ → List Access → Bool
 has_both u d all = has_site u all && has_site d all
 
-abbrev mutual
-  -- the sites of each inner `while`, its condition's included
-  pub loops : Stmt → List (List Access)
-  loops (Assign site x e) = []
-  loops (Store site x index e) = []
-  loops (Print site e) = []
-  loops (If' site cond _ then_part _ else_part) = loops_in then_part ++ loops_in else_part
-  loops (While' site cond h body) = accesses (While' site cond h body) ∷ loops_in body
-  loops (Region' r site cond _ body) = loops_in body
-  loops (Break site cond) = []
-  loops (Call f line args) = []
+-- the sites of the statement, where it is an inner `while`, its condition's included
+abbrev pub loop_at : Stmt → List (List Access)
+loop_at (While' site cond h body) = accesses (While' site cond h body) ∷ []
+loop_at _ = []
 
-  pub loops_in : {n : _} → Row_of-Stmt n → List (List Access)
-  loops_in end_of-Stmt = []
-  loops_in (more_of-Stmt s rest) = loops s ++ loops_in rest
+-- the sites of each inner `while`
+abbrev pub loops : Stmt → List (List Access)
+loops s = asked loop_at s
+
+-- those of several statements
+abbrev pub loops_in : {n : _} → Row_of-Stmt n → List (List Access)
+loops_in rows = asked_in loop_at rows
 
 -- an inner `while` of the region has both as sites
 abbrev pub share_a_loop : Program → ℕ → ℕ → ℕ → Bool

@@ -1,12 +1,14 @@
 -- Whether two sites of a region are far from each other, read off the text.
 use Rattle.std.specs.Prelude.{ℕ, suc, ◌==◌, if◌then◌else◌, Bool, false, not, ◌&&◌, ◌||◌, List, [], ◌∷◌, ◌++◌, length, ℤ, pos, negsuc, ◌+ℤ◌, ◌-ℤ◌, Option, Some, None, ◌%◌, nat_lt, slice_get, count_by, int_le}
 use Rattle.std.specs.List.{list_all, list_any, flat_map}
+use Rattle.std.specs.Option.{option_or}
 use Rattle.dp_tree.specs.declared.Expr.{Expr}
-use Rattle.dp_tree.specs.declared.Stmt.{Stmt, Row_of-Stmt, end_of-Stmt, more_of-Stmt, out-Stmt}
+use Rattle.dp_tree.specs.declared.Stmt.{Stmt, Row_of-Stmt, out-Stmt}
 use Rattle.dp_tree.specs.declared.Stmt.TheVariants.{Assign, Store, Print, If', While', Region', Break, Call}
 use Rattle.dp_tree.specs.declared.Stmt.TheOpen.{Stmt-F, Region}
 use Rattle.dp_tree.specs.declared.VarInfo.{VarInfo}
 use Rattle.dp_tree.specs.declared.Program.{Program}
+use Rattle.dp_tree.specs.Statements.{asked, asked_in}
 use Rattle.dp_tree.specs.Numbering.{numbers_from}
 use Rattle.dp_plan.specs.Stage.{is_local}
 use Rattle.dp_plan.specs.Access.{accesses, region_in, stores_var}
@@ -28,22 +30,24 @@ whole x = record { variable = x; index = None }
 abbrev pub element : ℕ → Expr → Touch
 element x e = record { variable = x; index = Some e }
 
-abbrev mutual
-  -- the sites of a statement, in text order
-  pub touches : Stmt → List SiteTouch
-  touches (Assign site x e) = record { site = site.0; reads = reads e; store = Some (whole x.0) } ∷ []
-  touches (Store site x index e) = record { site = site.0; reads = reads index ++ reads e; store = Some (element x.0 index) } ∷ []
-  touches (Print site e) = record { site = site.0; reads = reads e; store = None } ∷ []
-  touches (If' site cond _ then_part _ else_part) = record { site = site.0; reads = reads cond; store = None } ∷ (touches_in then_part ++ touches_in else_part)
-  touches (While' site cond _ body) = record { site = site.0; reads = reads cond; store = None } ∷ touches_in body
-  touches (Region' r site cond _ body) = record { site = site.0; reads = reads cond; store = None } ∷ touches_in body
-  touches (Break site cond) = record { site = site.0; reads = reads cond; store = None } ∷ []
-  touches (Call f line args) = []
+-- the statement's own site
+abbrev pub touch_at : Stmt → List SiteTouch
+touch_at (Assign site x e) = record { site = site.0; reads = reads e; store = Some (whole x.0) } ∷ []
+touch_at (Store site x index e) = record { site = site.0; reads = reads index ++ reads e; store = Some (element x.0 index) } ∷ []
+touch_at (Print site e) = record { site = site.0; reads = reads e; store = None } ∷ []
+touch_at (If' site cond _ then_part _ else_part) = record { site = site.0; reads = reads cond; store = None } ∷ []
+touch_at (While' site cond _ body) = record { site = site.0; reads = reads cond; store = None } ∷ []
+touch_at (Region' r site cond _ body) = record { site = site.0; reads = reads cond; store = None } ∷ []
+touch_at (Break site cond) = record { site = site.0; reads = reads cond; store = None } ∷ []
+touch_at (Call f line args) = []
 
-  -- those of several statements
-  pub touches_in : {n : _} → Row_of-Stmt n → List SiteTouch
-  touches_in end_of-Stmt = []
-  touches_in (more_of-Stmt s rest) = touches s ++ touches_in rest
+-- the sites of a statement, in text order
+abbrev pub touches : Stmt → List SiteTouch
+touches s = asked touch_at s
+
+-- those of several statements
+abbrev pub touches_in : {n : _} → Row_of-Stmt n → List SiteTouch
+touches_in rows = asked_in touch_at rows
 
 -- the statements at the top of a region's body
 abbrev pub body_of : Stmt-F Stmt → List Stmt
@@ -105,9 +109,6 @@ far_between test stored (Some loaded) = test stored loaded
 abbrev pub apart_by : ℤ → ℤ → ℤ → Bool
 apart_by k stored loaded = not (is_strides k (stored -ℤ loaded))
 
-abbrev pub differ : ℤ → ℤ → Bool
-differ stored loaded = not (int_eq stored loaded)
-
 -- what is read of the array is read at a place that passes
 abbrev pub read_passes : (ℤ → ℤ → Bool) → ℕ → ℕ → ℤ → ℤ → Touch → Bool
 read_passes test v array stored shift t = not (t.variable == array) || far_between test stored (place_of v shift t.index)
@@ -129,10 +130,6 @@ stored_at v shift (Some t) = stored_by t.variable (place_of v shift t.index)
 abbrev pub store_of : ℕ → ℤ → ℕ → List SiteTouch → Option Stored
 store_of v shift d [] = None
 store_of v shift d (t ∷ rest) = if t.site == d then stored_at v shift t.store else store_of v shift d rest
-
-abbrev pub or_stored : Option Stored → Option Stored → Option Stored
-or_stored (Some s) later = Some s
-or_stored None later = later
 
 abbrev pub is_stored : Stored → Option Stored → Bool
 is_stored s None = false
@@ -158,7 +155,7 @@ all_pass test v d u condition h (Some s) =
 abbrev pub halves_pass : (ℤ → ℤ → ℤ → Bool) → ℕ → ℕ → ℕ → List SiteTouch → Option Halves → Bool
 halves_pass test v d u condition None = false
 halves_pass test v d u condition (Some h) =
-    all_pass (test h.stride) v d u condition h (or_stored (store_of v (pos 0) d (front_touches condition h)) (store_of v h.stride d (back_touches h)))
+    all_pass (test h.stride) v d u condition h (option_or (store_of v (pos 0) d (front_touches condition h)) (store_of v h.stride d (back_touches h)))
 
 -- the condition's own site
 abbrev pub condition_touch : Stmt-F Stmt → List SiteTouch
@@ -173,7 +170,7 @@ passes_with test p r d u v = moves_alone p r v && halves_pass test v d u (region
 
 -- the test of the places alone
 abbrev pub by_place : ℤ → ℤ → ℤ → Bool
-by_place k stored loaded = differ stored loaded
+by_place k stored loaded = not (int_eq stored loaded)
 
 -- a number of strides of v, at least one, never lies between what d stores and what u loads
 abbrev pub is_far : Program → ℕ → ℕ → ℕ → Bool

@@ -12,7 +12,7 @@ pub mod RunSound
 pub mod RunEnds
 pub mod TextLemmas
 pub mod SoFar
-pub mod ConditionWalks
+pub mod ConditionForms
 pub mod MemberLemmas
 pub mod OrderLemmas
 pub mod StageLemmas

@@ -9,7 +9,7 @@ use Rattle.dp_plan.specs.Each.{Each, AscendAbove}
 use Rattle.dp_plan_text.specs.PlanText.{kind_word, outcome_number, version_number, words_of, joined}
 use Rattle.dp_plan.specs.PlanFits.{StageFits, AssumeFits}
 use Rattle.dp_plan_text.specs.Words.{words, number_of}
-use Rattle.dp_plan_text.specs.LineWords.{above, onto_sites, site_before, sites_above, stage_line, region_of, outcome, assume_of, line_of}
+use Rattle.dp_plan_text.specs.steps.LineWords.{above, onto_sites, site_before, sites_above, stage_line, region_of, outcome, assume_of, line_of}
 use Rattle.dp_plan_text.proofs.NumberText.{number_of-decimal}
 use Rattle.dp_plan_text.proofs.JoinLemmas.{IsWord, words-joined, decimal_word}
 

@@ -6,7 +6,7 @@ use Rattle.std.proofs.lemmas.List.Elements.{filter_agree}
 use Rattle.std.proofs.lemmas.List.Sorted.{list_any-IsPermutation, sum_by-IsPermutation}
 use Rattle.dp_plan.specs.Written.{has}
 use Rattle.dp_plan.specs.Rules.{lesser, least, occurs_again}
-use Rattle.dp_plan_text.specs.Tables.{lesser_of}
+use Rattle.dp_plan_text.specs.steps.Tables.{lesser_of}
 
 -- the number is the least of these
 abbrev IsLeast : List ℕ → Option ℕ → Type 0

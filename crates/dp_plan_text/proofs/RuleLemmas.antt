@@ -7,7 +7,7 @@ use Rattle.dp_plan.specs.Written.{listed, region_sites}
 use Rattle.dp_plan.specs.declared.WrittenPlan.{WrittenPlan}
 use Rattle.dp_plan.specs.Enclosing.{region_ifs}
 use Rattle.dp_plan.specs.Rules.{least, occurs_again, not_listed, listed_twice, foreign, comes_late, site_of_condition, assumed_site, late_if, is_late_unassumed, wrongly_assumed, is_no_if_or_again}
-use Rattle.dp_plan_text.specs.Tables.{is_outside, lesser_of, is_late_outside, is_outside_or_again}
+use Rattle.dp_plan_text.specs.steps.Tables.{is_outside, lesser_of, is_late_outside, is_outside_or_again}
 use Rattle.dp_plan.specs.Valid.{broken_from}
 use Rattle.dp_plan_text.proofs.MemberLemmas.{least_either, has_moved, again_moved, least_moved}
 

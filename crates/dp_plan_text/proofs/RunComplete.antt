@@ -12,7 +12,7 @@ use Rattle.dp_plan.specs.declared.WrittenPlan.{WrittenPlan}
 use Rattle.dp_plan.specs.Each.{Each}
 use Rattle.dp_plan.specs.PlanFits.{PlanFits}
 use Rattle.dp_plan_text.specs.PlanText.{region_number, region_lines, plan_lines}
-use Rattle.dp_plan_text.specs.Reading.{begun, is_between, closed, next}
+use Rattle.dp_plan_text.specs.steps.Reading.{begun, is_between, closed, next}
 use Rattle.dp_plan_text.proofs.Runs.{run}
 
 abbrev pub part : ℕ → ℕ → List WrittenStage → List Assume → WrittenPlan

@@ -13,18 +13,14 @@ use Rattle.dp_plan.specs.declared.WrittenPlan.{WrittenPlan}
 use Rattle.dp_plan.specs.Each.{Each}
 use Rattle.dp_plan.specs.PlanFits.{StageFits, AssumeFits, PlanFits}
 use Rattle.dp_plan_text.specs.PlanText.{region_number, region_lines, plan_lines}
-use Rattle.dp_plan_text.specs.Reading.{begun, is_between, closed, next}
+use Rattle.dp_plan_text.specs.steps.Reading.{begun, is_between, closed, next}
 use Rattle.dp_plan_text.proofs.LineComplete.{LineFits}
 use Rattle.dp_plan_text.proofs.Runs.{run}
 use Rattle.dp_plan_text.proofs.RunComplete.{part, inside, over, stage_next, between_regions, plans_run, lines_run}
-use Rattle.dp_plan.proofs.EachLemmas.{each-lists}
+use Rattle.dp_plan.proofs.EachLemmas.{each-lists, each_made}
 use Rattle.dp_plan_text.proofs.RunSound.{Reads, at_start, headed, in_region, at_end, reads_next}
 
 -- ---- the lines of plans fit
-
-each-map : {A B : Type 0} (P : A → Type 0) (Q : B → Type 0) (f : A → B) → ((x : A) → P x → Q (f x)) → (xs : List A) → Each P xs → Each Q (map f xs)
-each-map P Q f each_one [] each = tt
-each-map P Q f each_one (x ∷ xs) each = (each_one x each.0, each-map P Q f each_one xs each.1)
 
 pub lines_fit : (ws : List WrittenPlan) (r k : ℕ) → map region_number ws ≡ numbers_from r k → r + k ≤ 2 ^ 32 → Each PlanFits ws → Each LineFits (flat_map region_lines ws)
 lines_fit [] r k numbers small fit = tt
@@ -34,7 +30,7 @@ lines_fit (w ∷ ws) r (suc k) numbers small fit =
     each-lists LineFits (region_lines w) (flat_map region_lines ws) (
       (omega (arith, is, small), fit.0.least_words, fit.0.most_words),
       each-lists LineFits (map line.Stage w.stages) (map line.Assume w.assume)
-          (each-map StageFits LineFits line.Stage (λ _ h. h) w.stages fit.0.stages) (each-map AssumeFits LineFits line.Assume (λ _ h. h) w.assume fit.0.assume),
+          (each_made StageFits LineFits line.Stage (λ _ h. h) w.stages fit.0.stages) (each_made AssumeFits LineFits line.Assume (λ _ h. h) w.assume fit.0.assume),
     )
     (lines_fit ws (r + 1) k later (omega (arith, small)) fit.1)
 

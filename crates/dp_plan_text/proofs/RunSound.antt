@@ -15,7 +15,7 @@ use Rattle.dp_plan.specs.declared.WrittenPlan.{WrittenPlan}
 use Rattle.dp_plan.specs.Each.{Each}
 use Rattle.dp_plan.specs.PlanFits.{StageFits, AssumeFits, PlanFits}
 use Rattle.dp_plan_text.specs.PlanText.{region_number, region_lines, plan_lines}
-use Rattle.dp_plan_text.specs.Reading.{begun, is_between, closed, next}
+use Rattle.dp_plan_text.specs.steps.Reading.{begun, is_between, closed, next}
 use Rattle.dp_plan_text.proofs.LineComplete.{LineFits}
 use Rattle.dp_plan_text.proofs.RunComplete.{part, inside, over, not_zero, closed_last}
 
@@ -47,21 +47,21 @@ numbers-next (suc k) first =
     let same : first + suc k ≡ (first + 1) + k = omega arith in
     ap (λ r. first ∷ r) (ap (λ m. numbers_from (first + 1) k ++ m ∷ []) same ∙ numbers-next k (first + 1))
 
-empty : {A : Type 0} (xs : List A) → length xs ≡ 0 → xs ≡ []
+pub empty : {A : Type 0} (xs : List A) → length xs ≡ 0 → xs ≡ []
 empty [] h = refl
 empty (x ∷ xs) h = absurd (omega (arith, h))
 
 -- ---- what a test tells
 
-record Both (a b : Bool) : Type 0 where
-  first : a ≡ true
-  second : b ≡ true
+pub record Both (a b : Bool) : Type 0 where
+  pub first : a ≡ true
+  pub second : b ≡ true
 
-taken : {X : Type 0} (t : Bool) (x y : X) → (if t then Some x else None) ≡ Some y → (t ≡ true) × (x ≡ y)
+pub taken : {X : Type 0} (t : Bool) (x y : X) → (if t then Some x else None) ≡ Some y → (t ≡ true) × (x ≡ y)
 taken true x y h = (refl, cc h)
 taken false x y h = absurd (cc h)
 
-both : (a b : Bool) → (a && b) ≡ true → Both a b
+pub both : (a b : Bool) → (a && b) ≡ true → Both a b
 both true b h = record { first = refl; second = h }
 both false b h = absurd (cc h)
 

@@ -6,8 +6,8 @@ use Rattle.dp_plan_text.specs.declared.reader.Reader.{Reader}
 use Rattle.dp_plan.specs.Each.{Each}
 use Rattle.dp_plan_text.specs.PlanText.{words_of, joined, line_bytes}
 use Rattle.dp_plan_text.specs.Words.{words}
-use Rattle.dp_plan_text.specs.LineWords.{line_of}
-use Rattle.dp_plan_text.specs.Reading.{next, next_by}
+use Rattle.dp_plan_text.specs.steps.LineWords.{line_of}
+use Rattle.dp_plan_text.specs.steps.Reading.{next, next_by}
 use Rattle.dp_plan_text.proofs.WordLemmas.{first_end}
 use Rattle.dp_plan_text.proofs.JoinLemmas.{joined-words}
 use Rattle.dp_plan_text.proofs.LineComplete.{LineFits, line-words, words-line}

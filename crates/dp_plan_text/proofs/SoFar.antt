@@ -10,11 +10,11 @@ use Rattle.dp_plan_text.specs.declared.WrittenPlans.{WrittenPlans}
 use Rattle.dp_plan_text.specs.PlanText.{PlanLines, PlanText, lines_of}
 use Rattle.dp_plan_text.specs.Refused.{Begins, IsRefused, at_line, at_end}
 use Rattle.dp_plan_text.specs.Words.{words}
-use Rattle.dp_plan_text.specs.LineWords.{line_of}
-use Rattle.dp_plan_text.specs.Reading.{begun, next_by}
+use Rattle.dp_plan_text.specs.steps.LineWords.{line_of}
+use Rattle.dp_plan_text.specs.steps.Reading.{begun, next_by}
 use Rattle.dp_plan_text.specs.declared.PlanFail.{PlanFail}
 use Rattle.dp_plan_text.specs.declared.PlanFail.TheVariants.{Refused}
-use Rattle.dp_plan_text.specs.Ending.{IfEnds, ReadsText}
+use Rattle.dp_plan_text.specs.steps.Ending.{IfEnds, ReadsText}
 use Rattle.dp_plan_text.proofs.WordLemmas.{position_none}
 use Rattle.dp_plan_text.proofs.CutLemmas.{lines_one}
 use Rattle.dp_plan_text.proofs.Runs.{chomped-line, chomped-none, read_text, read_bytes, run_bytes}

@@ -9,7 +9,7 @@ use Rattle.dp_plan.specs.declared.WrittenPlan.{WrittenPlan}
 use Rattle.dp_plan.specs.Each.{Each}
 use Rattle.dp_plan_text.specs.PlanText.{PlanLines, line_bytes, plan_lines}
 use Rattle.dp_plan_text.specs.Refused.{Begins}
-use Rattle.dp_plan_text.specs.Reading.{begun, next, next_by}
+use Rattle.dp_plan_text.specs.steps.Reading.{begun, next, next_by}
 use Rattle.dp_plan_text.proofs.LineComplete.{LineFits}
 use Rattle.dp_plan_text.proofs.Runs.{read_bytes, IsBytes, read_bytes-sound, run_bytes, run_bytes-none, run_bytes-append, run_bytes-lines}
 use Rattle.dp_plan_text.proofs.RunComplete.{over, lines_run}

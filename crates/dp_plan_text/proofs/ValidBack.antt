@@ -1,6 +1,7 @@
 -- A valid written plan is valid with its assumptions in the order of the sites too.
-use Rattle.std.proofs.Common.{◌≡◌, refl, ap, ◌∙◌, ℕ, suc, ◌<◌, Bool, true, false, not, List, [], ◌∷◌, map, filter, filter_map, Option, None, nat_lt, inl, inr, arith}
+use Rattle.std.proofs.Common.{◌≡◌, refl, ap, ◌∙◌, ℕ, ◌<◌, true, false, not, List, [], ◌∷◌, map, filter, filter_map, None, nat_lt, inl, inr, arith}
 use Rattle.std.proofs.lemmas.Bool.{cases_Bool, ltb-true, not-false, or_from, or_parts}
+use Rattle.dp_plan.proofs.RulesMet.{dropped, none_broken}
 use Rattle.dp_tree.specs.declared.Program.{Program}
 use Rattle.dp_plan.specs.Each.{AscendAbove, Each}
 use Rattle.dp_plan.specs.Written.{assumption_at, has, region_sites}
@@ -8,21 +9,13 @@ use Rattle.dp_plan.specs.declared.WrittenPlan.{WrittenPlan}
 use Rattle.dp_plan.specs.Enclosing.{region_ifs}
 use Rattle.dp_plan.specs.declared.Enclosing.{Enclosing}
 use Rattle.dp_plan.specs.Rules.{assumed_site, comes_late, is_late_unassumed, is_no_if_or_again, late_if, least, occurs_again, site_of_condition, wrongly_assumed}
-use Rattle.dp_plan.specs.Valid.{broken_from, first_broken, rules}
+use Rattle.dp_plan.specs.Valid.{first_broken, rules}
 use Rattle.dp_plan.proofs.Ascent.{above-filter}
 use Rattle.dp_plan.proofs.Found.{each_has, has_each, has-filter, kept}
 use Rattle.dp_plan.proofs.IfSites.{ifs_are_sites}
 use Rattle.dp_plan.proofs.RulesHold.{holds, ifs_in_time, rightly_assumed}
 use Rattle.dp_plan.proofs.SameNumbers.{ascending_once, count}
 use Rattle.dp_plan_text.proofs.SortedAssume.{sorted_sites}
-
-all_dropped : {X : Type 0} (test : X → Bool) (xs : List X) → Each (λ x. test x ≡ false) xs → filter test xs ≡ []
-all_dropped test [] each = refl
-all_dropped test (x ∷ xs) each = rw each.0 (all_dropped test xs each.1)
-
-none_broken : (rule : ℕ) (named : List (Option ℕ)) → Each (λ o. o ≡ None) named → broken_from rule named ≡ None
-none_broken rule [] each = refl
-none_broken rule (o ∷ rest) each = ap (λ (q : Option ℕ). broken_from rule (q ∷ rest)) each.0 ∙ none_broken (suc rule) rest each.1
 
 not_again : (n : ℕ) (ns : List ℕ) → count n ns < 2 → occurs_again ns n ≡ false
 not_again n ns lt = elim (cases_Bool (nat_lt 1 (count n ns))) [ inl t ↦ absurd (omega (arith, ltb-true 1 (count n ns) t, lt)) | inr t ↦ t ]
@@ -69,11 +62,11 @@ module _ (p : Program) (w : WrittenPlan) (valid : first_broken p w ≡ None) (up
   if_sites (n ∷ ns) each = (ifs_are_sites p w.region n each.0, if_sites ns each.1)
 
   none_late : late_if p in_order ≡ None
-  none_late = ap (λ (es : List Enclosing). least (map site_of_condition es)) (all_dropped (is_late_unassumed in_order) (region_ifs p w.region)
+  none_late = ap (λ (es : List Enclosing). least (map site_of_condition es)) (dropped (is_late_unassumed in_order) (region_ifs p w.region)
       (in_time (region_ifs p w.region) (ifs_in_time p w valid) (if_sites (map site_of_condition (region_ifs p w.region)) (each_has (map site_of_condition (region_ifs p w.region))))))
 
   none_wrong : wrongly_assumed p in_order ≡ None
-  none_wrong = ap least (all_dropped (is_no_if_or_again p in_order) (map assumed_site (filter_map (assumption_at w.assume) (region_sites p w.region)))
+  none_wrong = ap least (dropped (is_no_if_or_again p in_order) (map assumed_site (filter_map (assumption_at w.assume) (region_sites p w.region)))
       (rightly (map assumed_site (filter_map (assumption_at w.assume) (region_sites p w.region)))
       (rw same (each_has (filter (λ site. has site (map assumed_site w.assume)) (region_sites p w.region))))))
 

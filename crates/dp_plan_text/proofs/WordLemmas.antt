@@ -4,7 +4,7 @@ use Rattle.std.specs.List.{position, position_or_len}
 use Rattle.dp_plan_text.specs.PlanText.{onto_first}
 use Rattle.dp_plan_text.specs.declared.line.Line.{Line}
 use Rattle.dp_plan_text.specs.Words.{words}
-use Rattle.dp_plan_text.specs.LineWords.{region_line, assume_line, head_line, end_line}
+use Rattle.dp_plan_text.specs.steps.LineWords.{region_line, assume_line, head_line, end_line}
 
 -- how many bytes stand before the first of this kind
 abbrev pub first_end : ℕ → List ℕ → ℕ

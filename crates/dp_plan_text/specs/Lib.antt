@@ -1,9 +1,5 @@
 pub mod PlanText
 pub mod Refused
 pub mod Words
-pub mod LineWords
-pub mod Reading
-pub mod Ending
-pub mod Conditions
-pub mod Tables
 pub mod WrittenText
+pub mod steps

@@ -4,7 +4,7 @@ ghost use Rattle.std.specs.Prelude.{◌≡◌, not, filter, IsPermutation};
 ghost use Rattle.std.specs.List.Sorted.{IsNonDecreasing};
 ghost use Rattle.dp_plan.specs.Written as written;
 ghost use Rattle.dp_plan.specs.Rules as rules;
-ghost use Rattle.dp_plan_text.specs.Tables as tables;
+ghost use Rattle.dp_plan_text.specs.steps.Tables as tables;
 
 use dp_base::Row;
 

@@ -3,7 +3,7 @@
 ghost use Rattle.std.specs.Prelude.{◌≡◌, IfOk};
 ghost use Rattle.std.specs.Option.{option_copied};
 ghost use Rattle.dp_plan_text.specs.Words.{words, words_behind, number_of};
-ghost use Rattle.dp_plan_text.specs.LineWords as spec;
+ghost use Rattle.dp_plan_text.specs.steps.LineWords as spec;
 
 use crate::words::{next_word, number};
 use dp_base::limits::{LEAST_WORDS, MOST_WORDS};
@@ -165,7 +165,7 @@ fn end(text: Option<&[u8]>) -> Option<Line>
 }
 
 /// The line that a text without its LF is, if it is one.
-#[tactic(auto, unfolding(crate::specs::LineWords::line_of))]
+#[tactic(auto, unfolding(crate::specs::steps::LineWords::line_of))]
 pub fn read_line(alloc: Global, text: &[u8]) -> Result<Option<Line>, NoMemory>
     ensures { IfOk result (λ read. read ≡ spec.line_of (words text.now)) }
 {

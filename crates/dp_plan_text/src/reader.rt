@@ -2,7 +2,7 @@
 
 ghost use Rattle.std.specs.Prelude.{◌≡◌, [], IfOk};
 ghost use Rattle.dp_plan_text.specs.Words.{words};
-ghost use Rattle.dp_plan_text.specs.LineWords.{line_of};
+ghost use Rattle.dp_plan_text.specs.steps.LineWords.{line_of};
 
 use crate::line::{Line, read_line};
 use dp_base::limits::STAGES;
@@ -48,7 +48,7 @@ fn opened(alloc: Global, region: u32, words: u32) -> WrittenPlan
 impl Reader {
     ghost use Rattle.std.specs.Prelude.{Some};
     ghost use Rattle.dp_plan_text.specs.declared.line.Line.TheVariants as line;
-    ghost use Rattle.dp_plan_text.specs.Reading as spec;
+    ghost use Rattle.dp_plan_text.specs.steps.Reading as spec;
 
     pub(crate) fn new(alloc: Global) -> Reader
         ensures { result ≡ spec.begun }
@@ -95,7 +95,7 @@ impl Reader {
         Ok(plans)
     }
 
-    #[tactic(auto, unfolding(crate::specs::Reading::next))]
+    #[tactic(auto, unfolding(crate::specs::steps::Reading::next))]
     fn head(self, regions: u32, proved: bool) -> Option<Reader>
         ensures { result ≡ spec.next regions self (line.Head proved) }
     {
@@ -111,7 +111,7 @@ impl Reader {
         })
     }
 
-    #[tactic(auto, unfolding(crate::specs::Reading::next))]
+    #[tactic(auto, unfolding(crate::specs::steps::Reading::next))]
     fn region(
         self,
         alloc: Global,
@@ -132,7 +132,7 @@ impl Reader {
         }))
     }
 
-    #[tactic(auto, unfolding(crate::specs::Reading::next))]
+    #[tactic(auto, unfolding(crate::specs::steps::Reading::next))]
     fn stage(self, regions: u32, stage: WrittenStage) -> Result<Option<Reader>, NoMemory>
         ensures { IfOk result (λ reader. reader ≡ spec.next regions self (line.Stage stage)) }
     {
@@ -147,7 +147,7 @@ impl Reader {
         Ok(Some(reader))
     }
 
-    #[tactic(auto, unfolding(crate::specs::Reading::next))]
+    #[tactic(auto, unfolding(crate::specs::steps::Reading::next))]
     fn assume(self, regions: u32, assume: Assume) -> Result<Option<Reader>, NoMemory>
         ensures { IfOk result (λ reader. reader ≡ spec.next regions self (line.Assume assume)) }
     {
@@ -159,7 +159,7 @@ impl Reader {
         Ok(Some(reader))
     }
 
-    #[tactic(auto, unfolding(crate::specs::Reading::next))]
+    #[tactic(auto, unfolding(crate::specs::steps::Reading::next))]
     fn end(self, alloc: Global, regions: u32) -> Result<Option<Reader>, NoMemory>
         ensures { IfOk result (λ reader. reader ≡ spec.next regions self line.End) }
     {
@@ -175,7 +175,7 @@ impl Reader {
     }
 
     /// What is known after one more line, if it may stand here.
-    #[tactic(auto, unfolding(crate::specs::Reading::next_by))]
+    #[tactic(auto, unfolding(crate::specs::steps::Reading::next_by))]
     fn after(
         self,
         alloc: Global,

@@ -3,7 +3,7 @@
 ghost use Rattle.std.specs.Prelude.{◌≡◌, ◌<◌, ◌≤◌, ◌^◌, ◌∷◌, ◌++◌, ◌==◌, [], IfSome, MatchOption, MatchResult, length};
 ghost use Rattle.std.specs.List.{position};
 ghost use Rattle.dp_plan_text.specs.PlanText.{lines_of};
-ghost use Rattle.dp_plan_text.specs.Ending.{IfEnds, ReadsText};
+ghost use Rattle.dp_plan_text.specs.steps.Ending.{IfEnds, ReadsText};
 
 use crate::reader::{Phase, Reader};
 use crate::{PlanFail, WrittenPlans};

@@ -1,6 +1,5 @@
 -- Counts, flows and regions that fit, one more at the end.
-use Rattle.std.proofs.Common.{◌≡◌, ℕ, suc, ◌+◌, ◌-◌, true, List, [], ◌∷◌, ◌++◌, length, map, Some, None, slice_get, refl, sym, ap, ◌∙◌, append_assoc, append-nil, arith}
-use Rattle.dp_plan.specs.Each.{Each}
+use Rattle.std.proofs.Common.{◌≡◌, ℕ, suc, ◌+◌, ◌-◌, true, List, [], ◌∷◌, ◌++◌, length, Some, None, slice_get, refl, sym, ap, ◌∙◌, append_assoc, append-nil, arith}
 use Rattle.dp_profile.specs.declared.RegionProfile.{RegionProfile}
 use Rattle.dp_profile.specs.declared.SiteCount.{SiteCount}
 use Rattle.dp_profile.specs.declared.Flow.{Flow}
@@ -8,7 +7,7 @@ use Rattle.dp_profile.specs.declared.line.Line.{Line}
 use Rattle.dp_profile.specs.declared.line.Line.TheVariants as line
 use Rattle.dp_profile.specs.Sites.{RegionSite}
 use Rattle.dp_profile.specs.ProfileText.{CountsFit, Ascend, RegionsFit, runs_lines, region_lines, regions_lines}
-use Rattle.dp_profile.specs.Reading.{last_flow, is_behind}
+use Rattle.dp_profile.specs.steps.Reading.{last_flow, is_behind}
 
 pub seam : {X : Type 0} (xs : List X) (y : X) (ys : List X) → slice_get (xs ++ y ∷ ys) (length xs) ≡ Some y
 seam [] y ys = refl
@@ -79,7 +78,3 @@ ascend_more (g ∷ h ∷ rest) f up behind =
     (up.0, ascend_more (h ∷ rest) f up.1 (ap (λ o. is_behind o f) (sym (last_next g h rest)) ∙ behind))
 
 -- ---- each of a list
-
-pub each_of : {A B : Type 0} (P : A → Type 0) (Q : B → Type 0) (f : A → B) → ((x : A) → P x → Q (f x)) → (xs : List A) → Each P xs → Each Q (map f xs)
-each_of P Q f one [] each = tt
-each_of P Q f one (x ∷ xs) each = (one x each.0, each_of P Q f one xs each.1)

@@ -3,32 +3,28 @@ use Rattle.std.proofs.Common.{◌≡◌, refl, sym, ap, subst, ◌∙◌, ℕ, s
 use Rattle.std.specs.Prelude.{if◌then◌else◌}
 use Rattle.std.proofs.lemmas.List.{map-append, length-map}
 use Rattle.dp_tree.specs.declared.Program.{Program}
-use Rattle.dp_tree.specs.declared.Stmt.{Stmt, Row_of-Stmt, end_of-Stmt, more_of-Stmt}
+use Rattle.dp_tree.specs.declared.Stmt.{Stmt}
 use Rattle.dp_tree.specs.declared.Stmt.TheVariants as tree
 use Rattle.dp_tree.specs.Inlined.{IsInlined}
-use Rattle.dp_tree.specs.Numbering.{is_marked, site_numbers, site_numbers_in, site_numbers_all}
+use Rattle.dp_tree.specs.Numbering.{is_marked, number_at, site_numbers, site_numbers_all}
+use Rattle.dp_tree.proofs.Asked.{asked_both}
 use Rattle.dp_plan.specs.Each.{Each}
 use Rattle.dp_plan.proofs.Ascent.{Ascends, ascends_split, ascends-numbers_from, length-numbers_from}
-use Rattle.dp_profile.specs.Sites.{RegionSite, sites, sites_in, regions}
+use Rattle.dp_profile.specs.Sites.{RegionSite, site_at, sites, regions}
 use Rattle.dp_profile.proofs.LineComplete.{top}
 use Rattle.dp_profile.proofs.RunEnds.{SmallSite}
 
 abbrev pub number : RegionSite → ℕ
 number s = s.site.0
 
-mutual
-  -- the numbers of a statement's sites
-  pub numbers_are : (x : Stmt) → site_numbers x ≡ map number (sites x)
-  numbers_are (tree.If' site cond _ a _ b) = ap (λ ns. site.0 ∷ ns) (ap (λ ns. ns ++ site_numbers_in b) (numbers_are_in a)
-      ∙ ap (λ ns. map number (sites_in a) ++ ns) (numbers_are_in b) ∙ sym (map-append number (sites_in a) (sites_in b)))
-  numbers_are (tree.While' site cond _ a) = ap (λ ns. site.0 ∷ ns) (numbers_are_in a)
-  numbers_are (tree.Region' r site cond _ a) = ap (λ ns. site.0 ∷ ns) (numbers_are_in a)
-  numbers_are _ = refl
+number_is : (x : Stmt) → number_at x ≡ map number (site_at x)
+number_is (tree.Call f line args) = refl
+number_is _ = refl
 
-  numbers_are_in : {n : _} (row : Row_of-Stmt n) → site_numbers_in row ≡ map number (sites_in row)
-  numbers_are_in end_of-Stmt = refl
-  numbers_are_in (more_of-Stmt x rest) = ap (λ ns. ns ++ site_numbers_in rest) (numbers_are x) ∙ ap (λ ns. map number (sites x) ++ ns) (numbers_are_in rest)
-      ∙ sym (map-append number (sites x) (sites_in rest))
+-- the numbers of a statement's sites
+pub numbers_are : (x : Stmt) → site_numbers x ≡ map number (sites x)
+numbers_are x = asked_both (λ (ns : List ℕ) (ss : List RegionSite). ns ≡ map number ss) refl
+    (λ a b ss ts p q. ap (λ ns. ns ++ b) p ∙ ap (λ ns. map number ss ++ ns) q ∙ sym (map-append number ss ts)) number_at site_at number_is x
 
 some_site : (x : Stmt) → is_marked x ≡ true → 1 ≤ length (site_numbers x)
 some_site (tree.Region' r site cond _ a) h = omega arith

@@ -1,6 +1,5 @@
 pub mod rows
 pub mod WordLemmas
-pub mod ListWalks
 pub mod WriteLemmas
 pub mod LineComplete
 pub mod LineSound

@@ -9,7 +9,7 @@ use Rattle.dp_profile.specs.declared.Flow.{Flow}
 use Rattle.dp_profile.specs.declared.line.Line.{Line}
 use Rattle.dp_profile.specs.declared.line.Line.TheVariants as line
 use Rattle.dp_profile.specs.ProfileText.{most_count, kind_word, words_of}
-use Rattle.dp_profile.specs.LineWords.{count, kind, region_of, runs_of, flow_of, line_of}
+use Rattle.dp_profile.specs.steps.LineWords.{count, kind, region_of, runs_of, flow_of, line_of}
 
 -- the largest number of 32 bits
 abbrev pub top : ℕ

@@ -8,7 +8,7 @@ use Rattle.dp_plan_text.proofs.NumberText.{Writes, number-sound}
 use Rattle.dp_profile.specs.declared.line.Line.{Line}
 use Rattle.dp_profile.specs.declared.line.Line.TheVariants as line
 use Rattle.dp_profile.specs.ProfileText.{most_count, kind_word, words_of}
-use Rattle.dp_profile.specs.LineWords.{count, kind, region_of, region_line, runs_of, runs_line, flow_of, flow_line, head_line, end_line, line_of}
+use Rattle.dp_profile.specs.steps.LineWords.{count, kind, region_of, region_line, runs_of, runs_line, flow_of, flow_line, head_line, end_line, line_of}
 use Rattle.dp_profile.proofs.LineComplete.{LineFits, top}
 
 pub record IsLine (ws : List (List ℕ)) (l : Line) : Type 0 where

@@ -6,7 +6,7 @@ use Rattle.dp_profile.specs.declared.line.Line.TheVariants as line
 use Rattle.dp_profile.specs.declared.reader.Reader.{Reader}
 use Rattle.dp_profile.specs.declared.reader.Phase.TheVariants as phase
 use Rattle.dp_profile.specs.Sites.{RegionSite}
-use Rattle.dp_profile.specs.Reading.{begun, state, opened, region_next, next}
+use Rattle.dp_profile.specs.steps.Reading.{begun, state, opened, region_next, next}
 use Rattle.dp_profile.proofs.LineComplete.{LineFits}
 use Rattle.dp_profile.proofs.RunComplete.{within, over}
 use Rattle.dp_profile.proofs.TestLemmas.{Both, both, taken}

@@ -10,7 +10,7 @@ use Rattle.dp_profile.specs.declared.reader.Reader.{Reader}
 use Rattle.dp_profile.specs.declared.reader.Phase.TheVariants as phase
 use Rattle.dp_profile.specs.Sites.{RegionSite}
 use Rattle.dp_profile.specs.ProfileText.{CountFits, CountsFit, FlowFits, Ascend, RegionFits, RegionsFit, has_site, runs_lines, region_lines, regions_lines}
-use Rattle.dp_profile.specs.Reading.{begun, state, opened, sites_or_none, last_sites, is_counted, is_between, closed, counts_at, is_behind, last_flow, next}
+use Rattle.dp_profile.specs.steps.Reading.{begun, state, opened, sites_or_none, last_sites, is_counted, is_between, closed, counts_at, is_behind, last_flow, next}
 use Rattle.dp_profile.proofs.Fitting.{seam, counts_many}
 use Rattle.dp_profile.proofs.Runs.{run}
 

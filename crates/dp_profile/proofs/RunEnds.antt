@@ -2,7 +2,7 @@
 use Rattle.std.proofs.Common.{◌≡◌, ◌⊎◌, inl, inr, ℕ, suc, ◌+◌, ◌≤◌, ◌==◌, Bool, true, ◌||◌, List, [], ◌∷◌, ◌++◌, map, length, refl, sym, ap, subst, ◌∙◌, append_assoc, append-nil, arith, eqb-true}
 use Rattle.std.proofs.lemmas.Bool.{cases_Bool}
 use Rattle.dp_plan.specs.Each.{Each}
-use Rattle.dp_plan.proofs.EachLemmas.{each-lists}
+use Rattle.dp_plan.proofs.EachLemmas.{each-lists, each_made}
 use Rattle.dp_profile.specs.declared.RegionProfile.{RegionProfile}
 use Rattle.dp_profile.specs.declared.SiteCount.{SiteCount}
 use Rattle.dp_profile.specs.declared.Flow.{Flow}
@@ -12,7 +12,7 @@ use Rattle.dp_profile.specs.declared.reader.Reader.{Reader}
 use Rattle.dp_profile.specs.declared.reader.Phase.TheVariants as phase
 use Rattle.dp_profile.specs.Sites.{RegionSite}
 use Rattle.dp_profile.specs.ProfileText.{CountsFit, FlowFits, Ascend, RegionFits, RegionsFit, has_site, runs_lines, region_lines, regions_lines}
-use Rattle.dp_profile.proofs.Fitting.{each_of, regions_fit_more, regions_more, counts_more, runs_more}
+use Rattle.dp_profile.proofs.Fitting.{regions_fit_more, regions_more, counts_more, runs_more}
 use Rattle.dp_profile.proofs.LineComplete.{LineFits, top}
 use Rattle.dp_profile.proofs.RunComplete.{counted}
 use Rattle.dp_profile.proofs.RunSound.{Reads, at_start, headed, in_region, at_end}
@@ -154,7 +154,7 @@ regions_fit r [] shown few small fit = tt
 regions_fit r (sites ∷ later) [] few small fit = tt
 regions_fit r (sites ∷ later) (one ∷ shown) few small fit =
     each-lists LineFits (region_lines r sites one) (regions_lines (r + 1) later shown)
-    (omega (arith, few), each-lists LineFits (runs_lines sites one.sites) (map line.Flow one.flows) (runs_fit sites one.sites small.0 fit.0.counts) (each_of (FlowFits sites) LineFits line.Flow (flow_fits sites small.0) one.flows fit.0.flows))
+    (omega (arith, few), each-lists LineFits (runs_lines sites one.sites) (map line.Flow one.flows) (runs_fit sites one.sites small.0 fit.0.counts) (each_made (FlowFits sites) LineFits line.Flow (flow_fits sites small.0) one.flows fit.0.flows))
     (regions_fit (r + 1) later shown (omega (arith, few)) small.1 fit.1)
 
 pub whole_fits : (all : List (List RegionSite)) (shown : List RegionProfile) → length all ≤ top → Each (Each SmallSite) all → RegionsFit all shown → Each LineFits (whole_lines all shown)

@@ -13,7 +13,7 @@ use Rattle.dp_profile.specs.declared.reader.Reader.{Reader}
 use Rattle.dp_profile.specs.declared.reader.Phase.TheVariants as phase
 use Rattle.dp_profile.specs.Sites.{RegionSite}
 use Rattle.dp_profile.specs.ProfileText.{CountsFit, FlowFits, Ascend, RegionFits, RegionsFit, has_site, runs_lines, region_lines, regions_lines}
-use Rattle.dp_profile.specs.Reading.{begun, state, opened, last_sites, is_counted, is_between, closed, region_next, counts_at, is_behind, last_flow, flows_next, next}
+use Rattle.dp_profile.specs.steps.Reading.{begun, state, opened, last_sites, is_counted, is_between, closed, region_next, counts_at, is_behind, last_flow, flows_next, next}
 use Rattle.dp_profile.proofs.Fitting.{seam, past, counts_many, counts_more, runs_more, regions_many, regions_fit_more, regions_one, ascend_more}
 use Rattle.dp_profile.proofs.LineComplete.{LineFits}
 use Rattle.dp_profile.proofs.RunComplete.{counted, within, over, sites_here}

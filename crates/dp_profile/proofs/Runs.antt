@@ -8,8 +8,8 @@ use Rattle.dp_plan_text.proofs.Runs.{chomped, chomped-line, chomped-sound}
 use Rattle.dp_profile.specs.declared.line.Line.{Line}
 use Rattle.dp_profile.specs.declared.reader.Reader.{Reader}
 use Rattle.dp_profile.specs.ProfileText.{words_of, line_bytes}
-use Rattle.dp_profile.specs.LineWords.{line_of}
-use Rattle.dp_profile.specs.Reading.{next, next_by}
+use Rattle.dp_profile.specs.steps.LineWords.{line_of}
+use Rattle.dp_profile.specs.steps.Reading.{next, next_by}
 use Rattle.dp_profile.specs.Sites.{RegionSite}
 use Rattle.dp_profile.proofs.LineComplete.{LineFits, line-words, words-line}
 use Rattle.dp_profile.proofs.LineSound.{IsLine, line_sound}

@@ -17,9 +17,9 @@ use Rattle.dp_profile.specs.declared.reader.Phase.TheVariants as phase
 use Rattle.dp_profile.specs.Sites.{RegionSite, regions}
 use Rattle.dp_profile.specs.ProfileText.{ProfileLines, ProfileText}
 use Rattle.dp_profile.specs.Refused.{Begins, IsRefused, at_line, at_end, ReadsAs}
-use Rattle.dp_profile.specs.LineWords.{line_of}
-use Rattle.dp_profile.specs.Reading.{begun, next_by}
-use Rattle.dp_profile.specs.Ending.{IfEnds}
+use Rattle.dp_profile.specs.steps.LineWords.{line_of}
+use Rattle.dp_profile.specs.steps.Reading.{begun, next_by}
+use Rattle.dp_profile.specs.steps.Ending.{IfEnds}
 use Rattle.dp_profile.proofs.LineComplete.{top}
 use Rattle.dp_profile.proofs.Runs.{read_text, read_bytes, run_bytes}
 use Rattle.dp_profile.proofs.RunComplete.{over}

@@ -13,7 +13,7 @@ use Rattle.dp_profile.specs.declared.reader.Phase.TheVariants as phase
 use Rattle.dp_profile.specs.Sites.{RegionSite, regions}
 use Rattle.dp_profile.specs.ProfileText.{ProfileLines, line_bytes, profile_lines}
 use Rattle.dp_profile.specs.Refused.{Begins}
-use Rattle.dp_profile.specs.Reading.{begun, next, next_by}
+use Rattle.dp_profile.specs.steps.Reading.{begun, next, next_by}
 use Rattle.dp_profile.proofs.LineComplete.{LineFits, top}
 use Rattle.dp_profile.proofs.Runs.{read_bytes, IsBytes, read_bytes-sound, run_bytes, run_bytes-none, run_bytes-append, run_bytes-lines}
 use Rattle.dp_profile.proofs.RunComplete.{over, lines_run}

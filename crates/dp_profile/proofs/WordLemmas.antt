@@ -3,7 +3,7 @@ use Rattle.std.proofs.Common.{◌≡◌, ℕ, List, ◌∷◌, Option, None, ref
 use Rattle.dp_plan_text.specs.Words.{words}
 use Rattle.dp_plan_text.proofs.WordLemmas.{some_word}
 use Rattle.dp_profile.specs.declared.line.Line.{Line}
-use Rattle.dp_profile.specs.LineWords.{region_line, runs_line, flow_line, head_line, end_line}
+use Rattle.dp_profile.specs.steps.LineWords.{region_line, runs_line, flow_line, head_line, end_line}
 
 abbrev is_no_line : Option Line → Type 0
 is_no_line l = l ≡ None

@@ -2,8 +2,5 @@ pub mod Sites
 pub mod ProfileText
 pub mod Refused
 pub mod WrittenText
-pub mod LineWords
-pub mod Reading
-pub mod Ending
-pub mod Lists
 pub mod Observed
+pub mod steps

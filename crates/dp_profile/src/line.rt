@@ -3,7 +3,7 @@
 ghost use Rattle.std.specs.Prelude.{◌≡◌};
 ghost use Rattle.std.specs.Option.{option_copied};
 ghost use Rattle.dp_plan_text.specs.Words.{words, words_behind};
-ghost use Rattle.dp_profile.specs.LineWords as spec;
+ghost use Rattle.dp_profile.specs.steps.LineWords as spec;
 
 use crate::{Flow, SiteCount};
 use dp_base::SiteId;
@@ -153,7 +153,7 @@ fn end(text: Option<&[u8]>) -> Option<Line>
 }
 
 /// The line that a text without its LF is, if it is one.
-#[tactic(auto, unfolding(crate::specs::LineWords::line_of))]
+#[tactic(auto, unfolding(crate::specs::steps::LineWords::line_of))]
 pub fn read_line(text: &[u8]) -> Option<Line>
     ensures { result ≡ spec.line_of (words text.now) }
 {

@@ -4,7 +4,7 @@ ghost use Rattle.std.specs.Prelude.{◌≡◌, IfOk, MatchResult};
 ghost use Rattle.dp_tree.specs.Inlined.{IsInlined};
 ghost use Rattle.dp_profile.specs.Sites.{regions};
 ghost use Rattle.dp_profile.specs.Refused.{ReadsAs};
-ghost use Rattle.dp_profile.specs.Ending.{IfEnds};
+ghost use Rattle.dp_profile.specs.steps.Ending.{IfEnds};
 
 use crate::reader::{Phase, Reader};
 use crate::sites::{RegionSite, regions_of};

@@ -60,7 +60,7 @@ fn is_before(f: Flow, g: Flow) -> bool
 impl Reader {
     ghost use Rattle.std.specs.Prelude.{Some, length, slice_get, ◌==◌};
     ghost use Rattle.std.specs.Option.{option_copied};
-    ghost use Rattle.dp_profile.specs.Reading as spec;
+    ghost use Rattle.dp_profile.specs.steps.Reading as spec;
 
     pub(crate) fn new(alloc: Global) -> Reader
         ensures { result ≡ spec.begun }

@@ -3,8 +3,9 @@ use Rattle.dp_semantics.proofs.Names.{◌≡◌, ◌⊎◌, inl, inr, refl, sym,
 use Rattle.std.proofs.Common.{is_none}
 use Rattle.dp_base.specs.declared.End.{End}
 use Rattle.dp_base.specs.declared.End.TheVariants as run_end
+use Rattle.std.specs.Option.{option_or}
 use Rattle.dp_tree.specs.Step.{line_of}
-use Rattle.dp_semantics.specs.Cause.{Cause, ByFault, ByFuel, or_else, first_cause, cause_or_end, end_cause, cause_since}
+use Rattle.dp_semantics.specs.Cause.{Cause, ByFault, ByFuel, first_cause, cause_or_end, end_cause, cause_since}
 use Rattle.dp_semantics.specs.CauseWalk.{Watch, watched_all, next_watch, look_by}
 unfoldable use Rattle.dp_semantics.specs.CauseWalk.{cause_walk}
 use Rattle.dp_semantics.specs.FindsCauses.{turn_by, turn_in, turn_text, watch_before, walk_at, FoundAt, FindsCauses}
@@ -31,11 +32,11 @@ some_at_fault : (p : Program) (plan : Plan) (input : List ℤ) (m : ℕ) (w : Wa
 unfolding cause_walk
 some_at_fault p plan input m w x rest cells kind f = ap (look_by p plan (cause_walk p plan input m) w x rest cells (out-Stmt x)) f
 
-or_none : (o : Option Cause) → or_else o None ≡ o
+or_none : (o : Option Cause) → option_or o None ≡ o
 or_none None = refl
 or_none (Some c) = refl
 
-or_end : (o : Option Cause) (t : End) → or_else o (Some (end_cause t)) ≡ Some (cause_or_end o t)
+or_end : (o : Option Cause) (t : End) → option_or o (Some (end_cause t)) ≡ Some (cause_or_end o t)
 or_end None t = refl
 or_end (Some c) t = refl
 
@@ -80,35 +81,35 @@ module _ {p : Program} {plan : Plan} (a : Accepted p plan) (input : List ℤ) (f
     then_watch = watched_all p plan (iteration source plan.region i) (watch_at h n)
 
     -- it goes through the iteration's events, and on from where they end
-    found_from : (m : ℕ) → it.left ≡ length (iteration source plan.region i) + m → found ≡ or_else first_failure (cause_walk p plan input m then_watch it.after it.then_cells)
+    found_from : (m : ℕ) → it.left ≡ length (iteration source plan.region i) + m → found ≡ option_or first_failure (cause_walk p plan input m then_watch it.after it.then_cells)
     found_from m are =
         let steps : fuel - k ≡ length (iteration source plan.region i) + m = omega (arith, it.steps_are, are) in
         ap (λ (u : ℕ). cause_walk p plan input u (watch_at h n) (turn_of a) (memory_after source plan.region i)) steps
         ∙ cause_is h n m (iteration source plan.region i) it.after it.then_cells gone_by it.path
-        ∙ ap (λ (earlier : List Past). or_else (first_cause p plan (memory_after source plan.region e) i earlier [] (iteration source plan.region i)) (cause_walk p plan input m then_watch it.after it.then_cells)) (sym (since_is source plan.region e n))
+        ∙ ap (λ (earlier : List Past). option_or (first_cause p plan (memory_after source plan.region e) i earlier [] (iteration source plan.region i)) (cause_walk p plan input m then_watch it.after it.then_cells)) (sym (since_is source plan.region e n))
 
     -- Where the iteration has ended, its first event that fails is found ..
     when_ended : length (iteration source plan.region i) ≤ it.left → it.after ≡ [] → found ≡ first_failure
     when_ended within end =
         let m = it.left - length (iteration source plan.region i) in
         found_from m (omega (arith, within))
-        ∙ ap (λ (after : List Stmt). or_else first_failure (cause_walk p plan input m then_watch after it.then_cells)) end
-        ∙ ap (λ (o : Option Cause). or_else first_failure o) (none_at_end p plan input m then_watch it.then_cells) ∙ or_none first_failure
+        ∙ ap (λ (after : List Stmt). option_or first_failure (cause_walk p plan input m then_watch after it.then_cells)) end
+        ∙ ap (λ (o : Option Cause). option_or first_failure o) (none_at_end p plan input m then_watch it.then_cells) ∙ or_none first_failure
 
     -- .. and else that event, or the run's end.
     when_broken : (x : Stmt) (rest : List Stmt) → it.after ≡ x ∷ rest → (why : (it.left ≡ length (iteration source plan.region i)) ⊎ ((kind : FaultKind) × (evaluated p input it.then_cells (out-Stmt x) ≡ Err kind))) →
         StopsSo p input x it.then_cells (length (iteration source plan.region i) < it.left) source.end why → found ≡ Some (cause_or_end first_failure source.end)
     when_broken x rest after (inl spent) ends =
         found_from 0 (omega (arith, spent))
-        ∙ ap (λ (xs : List Stmt). or_else first_failure (cause_walk p plan input 0 then_watch xs it.then_cells)) after
-        ∙ ap (λ (o : Option Cause). or_else first_failure o) (some_when_spent p plan input then_watch x rest it.then_cells)
+        ∙ ap (λ (xs : List Stmt). option_or first_failure (cause_walk p plan input 0 then_watch xs it.then_cells)) after
+        ∙ ap (λ (o : Option Cause). option_or first_failure o) (some_when_spent p plan input then_watch x rest it.then_cells)
         ∙ or_end first_failure run_end.Fuel ∙ ap (λ (t : End). Some (cause_or_end first_failure t)) (sym ends)
     when_broken x rest after (inr (kind, fails)) ends =
         let m = it.left - length (iteration source plan.region i) - 1 in
         let more = ends.0 in
         found_from (suc m) (omega (arith, more))
-        ∙ ap (λ (xs : List Stmt). or_else first_failure (cause_walk p plan input (suc m) then_watch xs it.then_cells)) after
-        ∙ ap (λ (o : Option Cause). or_else first_failure o) (some_at_fault p plan input m then_watch x rest it.then_cells kind fails)
+        ∙ ap (λ (xs : List Stmt). option_or first_failure (cause_walk p plan input (suc m) then_watch xs it.then_cells)) after
+        ∙ ap (λ (o : Option Cause). option_or first_failure o) (some_at_fault p plan input m then_watch x rest it.then_cells kind fails)
         ∙ or_end first_failure (run_end.Fault (record { kind = kind; line = line_of p (site_of (out-Stmt x)) })) ∙ ap (λ (t : End). Some (cause_or_end first_failure t)) (sym ends.1)
 
     clean_is : is_clean p plan source e i ≡ (has_ended source plan.region i && is_none first_failure)

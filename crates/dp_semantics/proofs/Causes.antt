@@ -1,7 +1,8 @@
 -- An iteration is clean where it has ended and no event of it is a cause of re-execution.
 use Rattle.dp_semantics.proofs.Names.{◌≡◌, inl, inr, refl, sym, ap, ◌∙◌, subst, ℕ, ◌+◌, ◌<◌, ◌≤◌, Bool, true, false, not, ◌&&◌, ◌||◌, if◌then◌else◌, List, [], ◌∷◌, ℤ, length, nat_le, Option, Some, None, arith, cases_eq, ne_eqb, leb-true, le-leb, list_all, and_parts, and_from, sum_by-cons, Program, Plan, Config, StandsInMain, Load, Event, Run, start, iteration, has_ended, memory_after, stage_of, is_checked, Past, seen, int_eq, loads_agree, event_agrees, all_agree, event_as_assumed, events_since, event_words, words_at, word_count, fits_words, is_clean}
 use Rattle.std.proofs.Common.{ap₂, is_none}
-use Rattle.dp_semantics.specs.Cause.{Cause, or_else, by_load, load_cause, checked_load_cause, assumption_cause, words_cause, event_cause, first_cause}
+use Rattle.std.specs.Option.{option_or}
+use Rattle.dp_semantics.specs.Cause.{Cause, by_load, load_cause, checked_load_cause, assumption_cause, words_cause, event_cause, first_cause}
 use Rattle.dp_semantics.specs.Laws.{CleanWithoutCause}
 use Rattle.dp_semantics.proofs.Setting.{Accepted, Sound, Each, each_map}
 use Rattle.dp_semantics.proofs.Whole.{turn_well, turn_sound}
@@ -9,7 +10,7 @@ use Rattle.dp_semantics.proofs.Paths.{events_at}
 use Rattle.dp_semantics.proofs.Counts.{all_count, count_all}
 use Rattle.dp_semantics.proofs.Iterations.{run, iteration_is}
 
-quiet_or : (a b : Option Cause) → is_none (or_else a b) ≡ (is_none a && is_none b)
+quiet_or : (a b : Option Cause) → is_none (option_or a b) ≡ (is_none a && is_none b)
 quiet_or (Some cause) b = refl
 quiet_or None b = refl
 
@@ -59,7 +60,7 @@ module _ (p : Program) (plan : Plan) (base : List ℤ) (i : ℕ) where
   quiet_first earlier done (event ∷ rest) =
       let now = record { iteration = i; event = event } ∷ earlier in
       let one : is_none (event_cause p plan base i earlier done event) ≡ (event_agrees p plan base i earlier event && (event_as_assumed p plan event && nat_le (word_count p plan (event ∷ done) (stage_of p plan event.site)) plan.words)) =
-      quiet_or (checked_load_cause p plan base i earlier event) (or_else (assumption_cause p plan event) (words_cause p plan done event))
+      quiet_or (checked_load_cause p plan base i earlier event) (option_or (assumption_cause p plan event) (words_cause p plan done event))
       ∙ ap₂ (λ (a b : Bool). a && b) (quiet_checked earlier event)
       (quiet_or (assumption_cause p plan event) (words_cause p plan done event) ∙ ap₂ (λ (a b : Bool). a && b) (quiet_if (event_as_assumed p plan event) _) (quiet_if (nat_le (word_count p plan (event ∷ done) (stage_of p plan event.site)) plan.words) _)) in
       quiet_or (event_cause p plan base i earlier done event) (first_cause p plan base i (record { iteration = i; event = event } ∷ earlier) (event ∷ done) rest)

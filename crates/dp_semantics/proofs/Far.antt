@@ -51,7 +51,3 @@ module _ (p : Program) (v d u array : ℕ) (stored : ℤ) (Loads : ℤ → Type 
   -- the place that is stored is none that is loaded
   abbrev pub FarWithin : Type 0
   FarWithin = (place : ℤ) → Loads place → stored ≡ place → ⊥
-
--- Where site d stores in these events, site u loads another cell in those.
-abbrev pub AreApart : ℕ → ℕ → List Event → List Event → Type 0
-AreApart d u stores loads = Each (λ (store : Event). store.site ≡ d → (c : ℕ) (z : ℤ) → store.effect ≡ Stored c z → Each (λ (load : Event). load.site ≡ u → Each (λ (l : Load). l.cell ≡ c → ⊥) load.loads) loads) stores

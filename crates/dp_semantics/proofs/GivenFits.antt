@@ -1,5 +1,6 @@
 -- A plan that is valid as data is what its lines stand for, so it fits and is tabled.
-use Rattle.dp_semantics.proofs.Names.{◌≡◌, ◌⊎◌, inl, inr, refl, sym, ap, ◌∙◌, ℕ, zero, suc, ◌+◌, ◌-◌, ◌<◌, ◌≤◌, ◌==◌, Some, slice_get, RegionInfo, true, false, List, [], ◌∷◌, map, length, None, arith, lt-ltb, and_from, cases_Bool, list_all, flat_map, Stmt, Program, Plan, accesses, fits_plan, region_in}
+use Rattle.dp_semantics.proofs.Names.{◌≡◌, ◌⊎◌, inl, inr, refl, sym, ap, ◌∙◌, ℕ, ◌+◌, ◌-◌, ◌<◌, ◌≤◌, ◌==◌, Some, slice_get, RegionInfo, true, false, List, [], ◌∷◌, map, length, None, arith, lt-ltb, and_from, cases_Bool, list_all, flat_map, Stmt, Program, Plan, accesses, fits_plan, region_in}
+use Rattle.std.proofs.lemmas.Option.{slice_get_within}
 use Rattle.dp_tree.specs.Inlined.{IsInlined}
 use Rattle.dp_plan.specs.CheckedTable.{IsTabled}
 use Rattle.dp_plan.specs.GivenPlans.{IsPlan}
@@ -34,13 +35,8 @@ nowhere p w valid none = let clash = sym (ap (λ (n : ℕ). n == 1) (stage_unlis
     by (inl e) = let clash : has 0 [] ≡ true = ap (has 0) (sym empty) ∙ has_fact (λ n. has n (region_sites p w.region) ≡ true) (listed w) 0 (none_foreign p w valid) e in absurd (cc clash)
     by (inr e) = e
 
-place_low : {X : Type 0} (xs : List X) (k : ℕ) (x : X) → slice_get xs k ≡ Some x → k < length xs
-place_low [] k x e = absurd (cc)
-place_low (y ∷ ys) zero x e = omega arith
-place_low (y ∷ ys) (suc k) x e = let low = place_low ys k x e in omega (arith, low)
-
 found_low : (r : ℕ) (entries : List RegionInfo) (entry : RegionInfo) → 1 ≤ r → slice_get entries (r - 1) ≡ Some entry → r < 1 + length entries
-found_low r entries entry low at = let here = place_low entries (r - 1) entry at in omega (arith, here, low)
+found_low r entries entry low at = let here = slice_get_within entries (r - 1) entry at in omega (arith, here, low)
 
 -- each line of a plan that fits lists a site
 pub filled : (lines : List WrittenStage) → Each StageFits lines → list_all lists_site lines ≡ true

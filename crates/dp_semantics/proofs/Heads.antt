@@ -1,6 +1,10 @@
 -- What the text's definitions say of a statement, by its head.
 use Rattle.dp_semantics.proofs.Names.{opened_statement, ◌≡◌, refl, sym, ap, ◌∙◌, ℕ, Bool, true, false, not, ◌&&◌, ◌||◌, ◌==◌, List, [], ◌∷◌, ◌++◌, is_some, flat_map, list_all, SiteId, Expr, Stmt, out-Stmt, roll-Stmt, roll-out-Stmt, hidden-the_row-Stmt-0, rolls-Assign, rolls-Store, rolls-Print, rolls-If, rolls-While, rolls-Region, rolls-Break, rolls-Call, Stmt-F, Assign, Store, Print, If, While, Region, Break, Call, Program, Plan, site_of, Access, accesses, accesses_in, assumed_in, branch_of, where_reached, project, project_in, project_all, none_earlier, well_nested, well_nested_in, is_free, is_free_in}
 use Rattle.dp_tree.specs.declared.Stmt.TheVariants as tree
+use Rattle.dp_tree.proofs.Asked.{asked_hidden}
+use Rattle.dp_tree.proofs.SitesOf.{everywhere_hidden}
+use Rattle.dp_plan.specs.Access.{access_at}
+use Rattle.dp_semantics.specs.Nesting.{is_other, nests_at}
 use Rattle.dp_semantics.proofs.Evaluation.{head_loads, head_stores}
 
 -- The sites: the statement's own, and those inside it.
@@ -21,9 +25,7 @@ accesses_at (Call f line args) = []
 accesses_at h = head_access h ∷ inside h
 
 accesses_hidden : (xs : List Stmt) → accesses_in (hidden-the_row-Stmt-0 xs) ≡ accesses_all xs
-unfolding opened_statement
-accesses_hidden [] = refl
-accesses_hidden (x ∷ xs) = ap (λ ys. accesses x ++ ys) (accesses_hidden xs)
+accesses_hidden xs = asked_hidden access_at xs
 
 pub accesses_roll : (h : Stmt-F Stmt) → accesses (roll-Stmt h) ≡ accesses_at h
 unfolding opened_statement
@@ -51,9 +53,7 @@ module _ (r : ℕ) where
   free_at _ = true
 
   pub free_hidden : (xs : List Stmt) → is_free_in r (hidden-the_row-Stmt-0 xs) ≡ all_free r xs
-  unfolding opened_statement
-  free_hidden [] = refl
-  free_hidden (x ∷ xs) = ap (λ b. is_free r x && b) (free_hidden xs)
+  free_hidden xs = everywhere_hidden (is_other r) xs
 
   free_roll : (h : Stmt-F Stmt) → is_free r (roll-Stmt h) ≡ free_at h
   unfolding opened_statement
@@ -86,9 +86,7 @@ module _ (p : Program) (plan : Plan) where
   well_at _ = true
 
   pub well_hidden : (xs : List Stmt) → well_nested_in p plan (hidden-the_row-Stmt-0 xs) ≡ all_well xs
-  unfolding opened_statement
-  well_hidden [] = refl
-  well_hidden (x ∷ xs) = ap (λ b. well_nested p plan x && b) (well_hidden xs)
+  well_hidden xs = everywhere_hidden (nests_at p plan) xs
 
   well_roll : (h : Stmt-F Stmt) → well_nested p plan (roll-Stmt h) ≡ well_at h
   unfolding opened_statement

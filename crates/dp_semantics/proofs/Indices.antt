@@ -1,11 +1,11 @@
 -- The variables of an index are among those that its site loads.
-use Rattle.dp_semantics.proofs.Names.{◌≡◌, inl, inr, refl, sym, ap, ◌∙◌, subst, ℕ, ◌==◌, Bool, true, false, ◌&&◌, ◌||◌, List, [], ◌∷◌, ◌++◌, ℤ, pos, Option, Some, None, list_all, list_any, list_all-append, and_parts, and_from, or-true, eq-eqb, eqb-true, cases_Bool, Expr, end_of-Expr, more_of-Expr, Stmt, Stmt-F, Assign, Store, Print, If, While, Region, Break, Call, loaded_by}
+use Rattle.dp_semantics.proofs.Names.{◌≡◌, inl, inr, refl, sym, ap, ◌∙◌, subst, ℕ, ◌==◌, Bool, true, ◌||◌, List, [], ◌∷◌, ◌++◌, ℤ, pos, Option, Some, None, list_all, list_any, list_all-append, and_parts, and_from, or-true, eq-eqb, eqb-true, cases_Bool, Expr, end_of-Expr, more_of-Expr, Stmt, Stmt-F, Assign, Store, Print, If, While, Region, Break, Call, loaded_by}
 use Rattle.dp_tree.specs.declared.Expr.TheVariants as tree
 use Rattle.dp_base.specs.declared.BinOp.{BinOp}
 use Rattle.dp_base.specs.declared.BinOp.TheVariants as op
 use Rattle.dp_semantics.proofs.Each.{Each, each_map, all_make}
 use Rattle.dp_semantics.proofs.Evaluation.{head_loads}
-use Rattle.dp_plan.specs.Touch.{Touch, reads, head_reads, offset, added, when_so, or_else, negated, is_var, number_in}
+use Rattle.dp_plan.specs.Touch.{Touch, reads, head_reads, offset, added, when_so, is_var, number_in}
 use Rattle.dp_semantics.proofs.Offsets as offsets
 
 -- the variable is one of these

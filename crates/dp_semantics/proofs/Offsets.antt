@@ -1,5 +1,5 @@
 -- What an index amounts to, and how an assignment moves a variable.
-use Rattle.dp_semantics.proofs.Names.{◌≡◌, ◌⊎◌, inl, inr, refl, sym, ap, ◌∙◌, ℕ, zero, suc, ◌+◌, ◌<◌, ◌≤◌, ◌==◌, Bool, true, false, if◌then◌else◌, List, [], ◌∷◌, ℤ, pos, negsuc, get_or, Option, Some, None, Result, Ok, Err, arith, eqb-true, FaultKind, Expr, end_of-Expr, more_of-Expr, Program, Stmt, Stmt-F, Assign, Store, Print, If, While, Region, Break, Call, WithLoads, Evaluated, just, and_then, without_loads, place, load, first_cell, cell_count, eval, Effect, Stored, evaluated}
+use Rattle.dp_semantics.proofs.Names.{◌≡◌, ◌⊎◌, inl, inr, refl, sym, ap, ◌∙◌, ℕ, zero, suc, ◌+◌, ◌<◌, ◌≤◌, ◌==◌, Bool, true, false, if◌then◌else◌, List, [], ◌∷◌, ℤ, pos, negsuc, get_or, Option, Some, None, Result, Ok, Err, arith, eqb-true, FaultKind, Expr, end_of-Expr, more_of-Expr, Program, Stmt, Stmt-F, Assign, Store, WithLoads, just, and_then, without_loads, place, load, first_cell, cell_count, eval, Effect, Stored, evaluated}
 use Rattle.std.specs.Prelude.{◌+ℤ◌, ◌-ℤ◌, neg_ℤ}
 use Rattle.std.proofs.Common.{ap₂}
 use Rattle.std.proofs.lemmas.Int.{ints}
@@ -7,8 +7,9 @@ use Rattle.dp_base.specs.Arithmetic.{fits, unless_overflow, binary_result}
 use Rattle.dp_base.specs.declared.FaultKind.TheVariants.{Overflow}
 use Rattle.dp_base.specs.declared.BinOp.{BinOp}
 use Rattle.dp_base.specs.declared.BinOp.TheVariants as op
+use Rattle.std.specs.Option.{option_or}
 use Rattle.dp_tree.specs.declared.Expr.TheVariants as tree
-use Rattle.dp_plan.specs.Touch.{Touch, is_var, number_in, when_so, or_else, negated, added, offset, positive, moved_by, moves, stride_of, head_store}
+use Rattle.dp_plan.specs.Touch.{Touch, is_var, number_in, when_so, negated, added, offset, positive, moved_by, moves, stride_of, head_store}
 use Rattle.dp_semantics.proofs.Reading.{then_parts, place_is, Loaded}
 
 abbrev index_in : Option Touch → Option Expr
@@ -23,7 +24,7 @@ pub when_parts : (b : Bool) (n : Option ℤ) (o : ℤ) → when_so b n ≡ Some 
 when_parts true n o e = (refl, e)
 when_parts false n o e = absurd (cc)
 
-pub or_parts : (a b : Option ℤ) (o : ℤ) → or_else a b ≡ Some o → (a ≡ Some o) ⊎ (b ≡ Some o)
+pub or_parts : (a b : Option ℤ) (o : ℤ) → option_or a b ≡ Some o → (a ≡ Some o) ⊎ (b ≡ Some o)
 or_parts (Some n) b o e = inl e
 or_parts None b o e = inr e
 

@@ -3,7 +3,8 @@ use Rattle.dp_semantics.proofs.Names.{◌≡◌, ◌⊎◌, inl, inr, refl, sym,
 use Rattle.dp_tree.specs.declared.Stmt.TheVariants as tree
 use Rattle.dp_tree.specs.Inlined.{IsInlined}
 use Rattle.dp_tree.specs.Numbering.{site_numbers, site_numbers_all}
-use Rattle.dp_tree.specs.RegionLaws.{StandsOnce, in_range, is_site_of, is_other_site, keeps, keeps_in}
+use Rattle.dp_tree.specs.RegionLaws.{StandsOnce, in_range, is_site_of, is_other_site, keeps, keeps_own}
+use Rattle.dp_tree.specs.Statements.{everywhere_in}
 use Rattle.dp_tree.proofs.Inner.{inner_hidden}
 use Rattle.dp_plan.specs.Written.{site_in}
 use Rattle.dp_semantics.specs.ValidPlan.{RegionsStandOnce}
@@ -29,20 +30,20 @@ module _ (test : ℕ → Bool) (r : ℕ) where
     keeps_from (tree.If' site cond _ a _ b) w h =
         let free = and_parts (is_free_in r a) (is_free_in r b) w in
         let sites = each_split Passes (accesses_in a) (accesses_in b) h.1 in
-        and_from (test site.0) _ h.0 (and_from (keeps_in test r a) (keeps_in test r b) (keeps_from_in a free.0 sites.0) (keeps_from_in b free.1 sites.1))
-    keeps_from (tree.While' site cond _ a) w h = and_from (test site.0) (keeps_in test r a) h.0 (keeps_from_in a w h.1)
+        and_from (test site.0) _ h.0 (and_from (everywhere_in (keeps_own test r) a) (everywhere_in (keeps_own test r) b) (keeps_from_in a free.0 sites.0) (keeps_from_in b free.1 sites.1))
+    keeps_from (tree.While' site cond _ a) w h = and_from (test site.0) (everywhere_in (keeps_own test r) a) h.0 (keeps_from_in a w h.1)
     keeps_from (tree.Region' q site cond _ a) w h =
         let free = and_parts (not (q == r)) (is_free_in r a) w in
-        and_from (test site.0) _ h.0 (and_from (not (q == r)) (keeps_in test r a) free.0 (keeps_from_in a free.1 h.1))
+        and_from _ (everywhere_in (keeps_own test r) a) (and_from (test site.0) (not (q == r)) h.0 free.0) (keeps_from_in a free.1 h.1)
     keeps_from (tree.Break site cond) w h = h.0
     keeps_from (tree.Call f line args) w h = refl
 
-    keeps_from_in : {n : _} (row : Row_of-Stmt n) → is_free_in r row ≡ true → Each Passes (accesses_in row) → keeps_in test r row ≡ true
+    keeps_from_in : {n : _} (row : Row_of-Stmt n) → is_free_in r row ≡ true → Each Passes (accesses_in row) → everywhere_in (keeps_own test r) row ≡ true
     keeps_from_in end_of-Stmt w h = refl
     keeps_from_in (more_of-Stmt x rest) w h =
         let free = and_parts (is_free r x) (is_free_in r rest) w in
         let sites = each_split Passes (accesses x) (accesses_in rest) h in
-        and_from (keeps test r x) (keeps_in test r rest) (keeps_from x free.0 sites.0) (keeps_from_in rest free.1 sites.1)
+        and_from (keeps test r x) (everywhere_in (keeps_own test r) rest) (keeps_from x free.0 sites.0) (keeps_from_in rest free.1 sites.1)
 
   keeps_from_all : (xs : List Stmt) → all_free r xs ≡ true → Each Passes (accesses_all xs) → list_all (keeps test r) xs ≡ true
   keeps_from_all [] w h = refl

@@ -1,5 +1,5 @@
 -- The stages of a plan are those of its lines: of each site of its region one of them, and 0 of any other site.
-use Rattle.dp_semantics.proofs.Names.{◌≡◌, ◌⊎◌, inl, inr, refl, sym, ap, ◌∙◌, ℕ, ◌+◌, ◌-◌, ◌<◌, ◌≤◌, Bool, true, false, not, ◌&&◌, ◌||◌, if◌then◌else◌, List, [], ◌∷◌, length, map, filter_map, slice_index, Option, Some, None, is_some, nat_lt, nat_le, ◌==◌, arith, eqb-true, eq-eqb, ne_eqb, le-leb, ltb-false, cases_Bool, cases_eq, cases_lt, lt-leb, get_or_past, length-map, cons_option, Assume, Program, Plan, assumed_in, first_site, stage_of}
+use Rattle.dp_semantics.proofs.Names.{◌≡◌, ◌⊎◌, inl, inr, refl, sym, ap, ◌∙◌, ℕ, ◌+◌, ◌-◌, ◌<◌, ◌≤◌, Bool, true, false, not, ◌&&◌, ◌||◌, if◌then◌else◌, List, [], ◌∷◌, length, map, filter_map, slice_index, Option, Some, None, is_some, nat_lt, nat_le, ◌==◌, arith, eq-eqb, ne_eqb, le-leb, ltb-false, cases_Bool, cases_eq, cases_lt, lt-leb, get_or_past, length-map, cons_option, Assume, Program, Plan, assumed_in, first_site, stage_of}
 use Rattle.dp_plan.specs.declared.Enclosing.{Enclosing}
 use Rattle.dp_plan.specs.Rules.{assumed_site, comes_late, is_late_unassumed}
 use Rattle.dp_plan.specs.declared.WrittenPlan.{WrittenPlan}
@@ -9,14 +9,7 @@ use Rattle.dp_semantics.proofs.WellNested.{none_before}
 use Rattle.dp_semantics.proofs.WrittenStages.{stage_unlisted}
 use Rattle.dp_semantics.proofs.Setting.{Each, each_map, none_of, all_make}
 use Rattle.std.proofs.lemmas.Bool.{or_right}
-
--- An assumption of a site of the region is one of the plan's.
-found_assumption : (assumed : List Assume) (site : ℕ) → has site (map assumed_site assumed) ≡ true → (a : Assume) × (assumption_at assumed site ≡ Some a) × (a.site.0 ≡ site)
-found_assumption [] site e = absurd (cc)
-found_assumption (a ∷ rest) site e = elim (cases_Bool (a.site.0 == site)) [
-  | inl here ↦ (a, rw here, eqb-true a.site.0 site here)
-  | inr off ↦ let later = found_assumption rest site (rw off at e) in (later.0, rw off later.1, later.2)
-]
+use Rattle.dp_plan.proofs.AssumeBack.{found_assumption}
 
 kept_assumption : (a : Assume) (later : List Assume) (site : ℕ) → is_some (assumed_in later site) ≡ true → is_some (assumed_in (a ∷ later) site) ≡ true
 kept_assumption a later site e = elim (cases_Bool (a.site.0 == site)) [ inl here ↦ rw here | inr off ↦ rw off e ]

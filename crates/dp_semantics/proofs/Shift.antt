@@ -4,10 +4,11 @@ use Rattle.std.proofs.Common.{ap₂}
 use Rattle.dp_tree.specs.GoesOn.{GoesOnAs}
 use Rattle.dp_tree.proofs.GoesOn.{goes_on_from}
 use Rattle.dp_semantics.specs.Recovery.{next_epoch, recovered}
-use Rattle.dp_semantics.specs.Cause.{Cause, or_else, by_load, load_cause, checked_load_cause, assumption_cause, words_cause, first_cause, cause_or_end, cause_since, cause}
+use Rattle.dp_semantics.specs.Cause.{Cause, by_load, load_cause, checked_load_cause, assumption_cause, words_cause, first_cause, cause_or_end, cause_since, cause}
 use Rattle.dp_semantics.specs.Verdict.{packet_at, judgement_at}
 use Rattle.dp_semantics.specs.Shift.{SameVerdicts, SameEpochs, VerdictsShift, EpochsShift, RegionRunsAlone}
 use Rattle.std.proofs.lemmas.List.Elements.{filter-append}
+use Rattle.std.specs.Option.{option_or}
 
 eq_moved : (m j i : ℕ) → (m + j == m + i) ≡ (j == i)
 eq_moved m j i = elim (cases_eq j i) [
@@ -53,7 +54,7 @@ module _ (p : Program) (plan : Plan) (m : ℕ) where
   load_cause_moved : (base : List ℤ) (i : ℕ) (earlier : List Past) (site : ℕ) (loads : List Load) → load_cause p plan base (m + i) (map (later m) earlier) site loads ≡ load_cause p plan base i earlier site loads
   load_cause_moved base i earlier site [] = refl
   load_cause_moved base i earlier site (l ∷ rest) =
-      ap₂ or_else (ap (by_load site l) (seen_moved base (stage_of p plan site) i earlier l.cell)) (load_cause_moved base i earlier site rest)
+      ap₂ option_or (ap (by_load site l) (seen_moved base (stage_of p plan site) i earlier l.cell)) (load_cause_moved base i earlier site rest)
 
   checked_moved : (base : List ℤ) (i : ℕ) (earlier : List Past) (event : Event) → checked_load_cause p plan base (m + i) (map (later m) earlier) event ≡ checked_load_cause p plan base i earlier event
   checked_moved base i earlier event = ap (λ (o : Option Cause). if is_checked p plan event.site then o else None) (load_cause_moved base i earlier event.site event.loads)
@@ -61,7 +62,7 @@ module _ (p : Program) (plan : Plan) (m : ℕ) where
   first_moved : (base : List ℤ) (i : ℕ) (earlier : List Past) (done events : List Event) → first_cause p plan base (m + i) (map (later m) earlier) done events ≡ first_cause p plan base i earlier done events
   first_moved base i earlier done [] = refl
   first_moved base i earlier done (event ∷ rest) =
-      ap₂ or_else (ap (λ (o : Option Cause). or_else o (or_else (assumption_cause p plan event) (words_cause p plan done event))) (checked_moved base i earlier event))
+      ap₂ option_or (ap (λ (o : Option Cause). option_or o (option_or (assumption_cause p plan event) (words_cause p plan done event))) (checked_moved base i earlier event))
       (first_moved base i (record { iteration = i; event = event } ∷ earlier) (event ∷ done) rest)
 
 none_since : (run : Run) (r e i : ℕ) → i ≤ e → events_since run r e i ≡ []

@@ -1,24 +1,21 @@
 -- A pair of sites that passes the test never shows as carried, in the trace of any run.
-use Rattle.dp_semantics.proofs.Names.{◌≡◌, ◌⊎◌, inl, inr, refl, sym, ap, ◌∙◌, subst, ℕ, zero, suc, ◌+◌, ◌<◌, ◌≤◌, ◌==◌, Bool, true, false, ◌&&◌, not, if◌then◌else◌, List, [], ◌∷◌, ◌++◌, ℤ, pos, negsuc, Option, Some, None, list_all, list_any, list_all-append, flat_map, flat_map-append, append-nil, and_parts, and_from, arith, eqb-true, eq-eqb, both_ways, cases_Bool, not-true, sum_by-cons, Expr, Stmt, out-Stmt, Stmt-F, Assign, Store, Print, If, While, Region, Break, Call, site_of, Program, Plan, Config, StandsInMain, Access, accesses, region_in, stores_var, is_body_local, is_local, length, slice_get, cell_count, well_nested, start, iteration}
+use Rattle.dp_semantics.proofs.Names.{◌≡◌, inl, inr, refl, sym, ap, ◌∙◌, subst, ℕ, zero, suc, ◌+◌, ◌<◌, ◌==◌, Bool, true, false, List, [], ◌∷◌, ◌++◌, ℤ, pos, negsuc, Option, Some, None, list_all, list_any, list_all-append, flat_map, flat_map-append, append-nil, and_parts, arith, eqb-true, eq-eqb, both_ways, cases_Bool, sum_by-cons, Expr, Stmt, out-Stmt, Stmt-F, Assign, If, Region, Program, Plan, Access, accesses, region_in, stores_var, cell_count, well_nested}
 use Rattle.std.proofs.Common.{cond, count_by}
-use Rattle.std.specs.Prelude.{neg_ℤ}
 use Rattle.std.proofs.lemmas.List.Sums.{sum_by-append}
-use Rattle.dp_tree.specs.Numbering.{numbers_from}
 use Rattle.dp_semantics.proofs.Setting.{Accepted, Sound, Each, each_split, accesses_all, accesses_at, accesses_out, head_access, all_well}
-use Rattle.dp_semantics.proofs.Stepping.{each_joins}
 use Rattle.dp_semantics.proofs.Whole.{sound_parts}
-use Rattle.dp_semantics.proofs.Iterations.{run}
 use Rattle.dp_tree.specs.declared.Expr.{end_of-Expr, more_of-Expr}
 use Rattle.dp_tree.specs.declared.Expr.TheVariants as tree
 use Rattle.dp_base.specs.declared.BinOp.{BinOp}
 use Rattle.dp_base.specs.declared.BinOp.TheVariants as op
-use Rattle.dp_plan.specs.Touch.{Touch, reads, stride_of, moves, moved_by, when_so, positive, number_in, is_var, negated}
-use Rattle.dp_semantics.proofs.Far.{Both, Far, AreApart}
-use Rattle.dp_plan.specs.IsFar.{SiteTouch, Stored, Halves, halves, touches, touch_passes, front_touches, back_touches, region_body, region_condition, all_pass, halves_pass, passes_with, moves_alone, scalar_in, apart_by, is_far, store_of, or_stored, body_of, condition_touch}
+use Rattle.std.specs.Option.{option_or}
+use Rattle.dp_plan.specs.Touch.{reads, stride_of, moves, moved_by, when_so, positive, number_in, is_var, negated}
+use Rattle.dp_semantics.proofs.Far.{Both}
+use Rattle.dp_plan.specs.IsFar.{SiteTouch, Stored, Halves, halves, touches, touch_passes, front_touches, back_touches, region_body, region_condition, all_pass, halves_pass, store_of, body_of, condition_touch}
 use Rattle.dp_semantics.proofs.Touches.{touches_all, touches_at, touches_out, head_touch}
 use Rattle.dp_semantics.proofs.Strides.{Moving}
-use Rattle.dp_semantics.proofs.Passing.{Passed, both_there, Stride, up, down, never_between}
-use Rattle.dp_semantics.proofs.Text.{Split, halves_are, Piece, NotStored, piece_facts, tests}
+use Rattle.dp_semantics.proofs.Passing.{both_there, Stride, up, down}
+use Rattle.dp_semantics.proofs.Text.{Split, halves_are, Piece, piece_facts, tests}
 
 pub any_found : (test : ℕ → Bool) (xs : List ℕ) → list_any test xs ≡ true → (x : ℕ) × (test x ≡ true)
 any_found test [] e = absurd (cc)
@@ -111,7 +108,7 @@ module _ {p : Program} {plan : Plan} (a : Accepted p plan) (test : ℤ → ℤ �
 
       by_halves : (o : Option Halves) → halves v a.body ≡ o → halves_pass test v d u condition o ≡ true → Found
       by_halves None q e = absurd (cc)
-      by_halves (Some h) q e = by_stored h (halves_are v a.body h q) (or_stored (store_of v (pos 0) d (front_touches condition h)) (store_of v h.stride d (back_touches h))) e
+      by_halves (Some h) q e = by_stored h (halves_are v a.body h q) (option_or (store_of v (pos 0) d (front_touches condition h)) (store_of v h.stride d (back_touches h))) e
 
   module _ (f : Found) (one : count_by counts (flat_map accesses (region_in p r)) ≡ 1) where
     abbrev front : List Stmt

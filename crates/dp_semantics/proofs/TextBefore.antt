@@ -9,7 +9,8 @@ use Rattle.dp_semantics.proofs.Stepping.{event_of, well_parts, each_joins, each_
 use Rattle.dp_semantics.proofs.Projected.{well_left}
 use Rattle.dp_semantics.proofs.Whole.{turn_well}
 use Rattle.dp_semantics.proofs.Unmet.{pushed_each}
-use Rattle.dp_plan.specs.Checked.{has_site, has_both, loops, loops_in, share_a_loop, behind_site, comes_before}
+use Rattle.dp_tree.proofs.Asked.{asked_hidden}
+use Rattle.dp_plan.specs.Checked.{has_site, has_both, loop_at, loops, loops_in, share_a_loop, behind_site, comes_before}
 
 -- The loops of a statement by its head.
 abbrev loops_all : List Stmt → List (List Access)
@@ -22,9 +23,7 @@ loops_at (Region r site cond a) = loops_all a
 loops_at _ = []
 
 loops_hidden : (xs : List Stmt) → loops_in (hidden-the_row-Stmt-0 xs) ≡ loops_all xs
-unfolding opened_statement
-loops_hidden [] = refl
-loops_hidden (x ∷ xs) = ap (λ ys. loops x ++ ys) (loops_hidden xs)
+loops_hidden xs = asked_hidden loop_at xs
 
 loops_roll : (h : Stmt-F Stmt) → loops (roll-Stmt h) ≡ loops_at h
 unfolding opened_statement

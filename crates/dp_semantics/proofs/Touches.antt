@@ -1,9 +1,10 @@
 -- The touches of a statement by its head, and the numbers of strides.
-use Rattle.dp_semantics.proofs.Names.{opened_statement, ◌≡◌, refl, sym, ap, ◌∙◌, ℕ, zero, suc, ◌+◌, ◌≤◌, ◌==◌, Bool, true, false, ◌&&◌, ◌||◌, not, List, [], ◌∷◌, ◌++◌, ℤ, pos, negsuc, Option, Some, None, flat_map, SiteId, Expr, Stmt, out-Stmt, roll-Stmt, roll-out-Stmt, hidden-the_row-Stmt-0, rolls-Assign, rolls-Store, rolls-Print, rolls-If, rolls-While, rolls-Region, rolls-Break, rolls-Call, Stmt-F, Assign, Store, Print, If, While, Region, Break, Call, site_of, arith, lt-ltb, eq-eqb, nat_lt}
+use Rattle.dp_semantics.proofs.Names.{opened_statement, ◌≡◌, sym, ap, ◌∙◌, ℕ, zero, suc, ◌+◌, ◌≤◌, ◌==◌, Bool, true, false, ◌&&◌, ◌||◌, not, List, [], ◌∷◌, ◌++◌, ℤ, pos, negsuc, Option, Some, None, flat_map, SiteId, Expr, Stmt, out-Stmt, roll-Stmt, roll-out-Stmt, hidden-the_row-Stmt-0, rolls-Assign, rolls-Store, rolls-Print, rolls-If, rolls-While, rolls-Region, rolls-Break, rolls-Call, Stmt-F, Assign, Store, Print, If, While, Region, Break, Call, site_of, arith, lt-ltb, eq-eqb, nat_lt}
 use Rattle.std.specs.Prelude.{◌+ℤ◌, ◌-ℤ◌, ◌%◌, ◌*◌}
 use Rattle.std.proofs.lemmas.Int.{ints}
 use Rattle.dp_plan.specs.Touch.{Touch, head_reads, head_store}
-use Rattle.dp_plan.specs.IsFar.{SiteTouch, touches, touches_in, is_strides}
+use Rattle.dp_tree.proofs.Asked.{asked_hidden}
+use Rattle.dp_plan.specs.IsFar.{SiteTouch, touch_at, touches, touches_in, is_strides}
 use Rattle.dp_semantics.proofs.Far.{times}
 
 abbrev pub touches_all : List Stmt → List SiteTouch
@@ -23,9 +24,7 @@ touches_at (Call f line args) = []
 touches_at h = head_touch h ∷ touched_inside h
 
 touches_hidden : (xs : List Stmt) → touches_in (hidden-the_row-Stmt-0 xs) ≡ touches_all xs
-unfolding opened_statement
-touches_hidden [] = refl
-touches_hidden (x ∷ xs) = ap (λ ys. touches x ++ ys) (touches_hidden xs)
+touches_hidden xs = asked_hidden touch_at xs
 
 touches_roll : (h : Stmt-F Stmt) → touches (roll-Stmt h) ≡ touches_at h
 unfolding opened_statement

@@ -1,6 +1,7 @@
 -- The walk at an iteration of an epoch whose earlier iterations are clean.
 use Rattle.dp_semantics.proofs.Names.{◌≡◌, arith, ℕ, zero, suc, ◌+◌, List, [], length, ℤ, Stmt, Event, Epoch}
-use Rattle.dp_semantics.specs.Cause.{or_else, first_cause}
+use Rattle.std.specs.Option.{option_or}
+use Rattle.dp_semantics.specs.Cause.{first_cause}
 use Rattle.dp_semantics.proofs.Lockstep.{Goes}
 use Rattle.dp_semantics.proofs.Whole.{turn_of}
 use Rattle.dp_semantics.proofs.Epochs.{History, numbered, past_at, Gone, ready}
@@ -29,6 +30,6 @@ module _ {k : Epoch} (h : History k) where
   -- The walk from there finds the first of the iteration's events that fails, and else what follows them.
   pub cause_is : (n m : ℕ) (made : List Event) (after : List Stmt) (then_cells : List ℤ) → Gone h n → Goes program input (turn_of ok.accepted) (memory n) made after then_cells →
       cause_walk program plan input (length made + m) (watch_at n) (turn_of ok.accepted) (memory n) ≡
-      or_else (first_cause program plan base (numbered h.first n) (past_at h.first events n) [] made) (cause_walk program plan input m (watched_all program plan made (watch_at n)) after then_cells)
+      option_or (first_cause program plan base (numbered h.first n) (past_at h.first events n) [] made) (cause_walk program plan input m (watched_all program plan made (watch_at n)) after then_cells)
   cause_is n m made after then_cells gone path =
       (walk_is ok (numbered h.first n) m [] (watch_at n) (ready h n gone).at path (watches_at n gone)).is

@@ -1,6 +1,7 @@
 -- The walk with one memory a stage finds the first cause.
 use Rattle.dp_semantics.proofs.Names.{◌≡◌, ◌⊎◌, refl, sym, ap, ◌∙◌, subst, arith, ℕ, zero, suc, ◌+◌, ◌<◌, ◌≤◌, if◌then◌else◌, Bool, true, false, List, [], ◌∷◌, length, ℤ, pos, Option, Some, None, Ok, get_or, nat_le, le-leb, lt-leb, sum_by-cons, cases_lt, inl, inr, Stmt, out-Stmt, Program, Plan, Load, WithLoads, Event, Effect, Stored, value_of, stored, evaluated, followed, stage_of, is_checked, last, Past, seen, Epoch, word_count, words_at, pushed}
-use Rattle.dp_semantics.specs.Cause.{Cause, or_else, load_cause, checked_load_cause, assumption_cause, words_cause, event_cause, first_cause, by_load}
+use Rattle.std.specs.Option.{option_or}
+use Rattle.dp_semantics.specs.Cause.{Cause, load_cause, checked_load_cause, assumption_cause, words_cause, event_cause, first_cause, by_load}
 use Rattle.dp_semantics.proofs.Setting.{Fit, size}
 use Rattle.dp_semantics.proofs.Source.{Stands, stands_next, own_site, form_of, store_within, event_of, past_of}
 use Rattle.dp_semantics.proofs.Seeing.{Sees, sees_later, sees_stored, stored-length}
@@ -62,8 +63,8 @@ module _ {k : Epoch} (ok : Fit k) (i : ℕ) where
   loads_same earlier s site view sees e [] = refl
   loads_same earlier s site view sees e (l ∷ rest) =
       let same : seen program plan base (stage_of program plan site) i earlier l.cell ≡ get_or view l.cell (pos 0) = ap (λ (t : ℕ). seen program plan base t i earlier l.cell) (sym e) ∙ sym (sees l.cell) in
-      ap (λ (z : ℤ). or_else (by_load site l z) (load_cause program plan base i earlier site rest)) same
-      ∙ ap (λ (o : Option Cause). or_else (by_load site l (get_or view l.cell (pos 0))) o) (loads_same earlier s site view sees e rest)
+      ap (λ (z : ℤ). option_or (by_load site l z) (load_cause program plan base i earlier site rest)) same
+      ∙ ap (λ (o : Option Cause). option_or (by_load site l (get_or view l.cell (pos 0))) o) (loads_same earlier s site view sees e rest)
 
   cause_same : (earlier : List Past) (done : List Event) (w : Watch) (event : Event) → Watches earlier done w → 0 < stage_of program plan event.site → stage_of program plan event.site < last plan →
       event_cause program plan base i earlier done event ≡ cause_in program plan w event
@@ -74,8 +75,8 @@ module _ {k : Epoch} (ok : Fit k) (i : ℕ) where
       let count : word_count program plan (event ∷ done) s ≡ count_of (watched program plan event w).counts s =
       sum_by-cons (words_at program plan s) event done ∙ ap (λ (n : ℕ). words_at program plan s event + n) (sym (b.counts s real early))
       ∙ sym (count_counted program plan event s w.counts real (omega (arith, b.counts_are, early))) in
-      ap (λ (o : Option Cause). or_else o (or_else (assumption_cause program plan event) (words_cause program plan done event))) loads
-      ∙ ap (λ (n : ℕ). or_else (checked_cause_in program plan (view_of w.views s) event) (or_else (assumption_cause program plan event) (words_cause_in program plan n event))) count
+      ap (λ (o : Option Cause). option_or o (option_or (assumption_cause program plan event) (words_cause program plan done event))) loads
+      ∙ ap (λ (n : ℕ). option_or (checked_cause_in program plan (view_of w.views s) event) (option_or (assumption_cause program plan event) (words_cause_in program plan n event))) count
 
   watches_next : (earlier : List Past) (done : List Event) (w : Watch) (event : Event) → Watches earlier done w →
       ((c : ℕ) (value : ℤ) → event.effect ≡ Stored c value → c < size program) → Watches (record { iteration = i; event = event } ∷ earlier) (event ∷ done) (watched program plan event w)
@@ -100,12 +101,12 @@ module _ {k : Epoch} (ok : Fit k) (i : ℕ) where
       seen_by s real early (inr upto) = rw (le-leb (stage_of program plan event.site) s upto)
           (sees_stored k s i earlier (view_of w.views s) event (omega (arith, upto)) (λ c value e. let size_is = b.sizes s real early in let low = within c value e in omega (arith, size_is, low)) (b.sees s real early))
 
-  or_else-assoc : (a b c : Option Cause) → or_else (or_else a b) c ≡ or_else a (or_else b c)
-  or_else-assoc (Some x) b c = refl
-  or_else-assoc None b c = refl
+  option_or-assoc : (a b c : Option Cause) → option_or (option_or a b) c ≡ option_or a (option_or b c)
+  option_or-assoc (Some x) b c = refl
+  option_or-assoc None b c = refl
 
   walk_step : (u : ℕ) (w : Watch) (x : Stmt) (rest : List Stmt) (cells : List ℤ) (v : WithLoads Effect) → evaluated program input cells (out-Stmt x) ≡ Ok v →
-      cause_walk program plan input (suc u) w (x ∷ rest) cells ≡ or_else (cause_in program plan w (event_of (out-Stmt x) v)) (cause_walk program plan input u (watched program plan (event_of (out-Stmt x) v) w) (followed x rest (out-Stmt x) (value_of v.value)) (stored v.value cells))
+      cause_walk program plan input (suc u) w (x ∷ rest) cells ≡ option_or (cause_in program plan w (event_of (out-Stmt x) v)) (cause_walk program plan input u (watched program plan (event_of (out-Stmt x) v) w) (followed x rest (out-Stmt x) (value_of v.value)) (stored v.value cells))
   unfolding cause_walk
   walk_step u w x rest cells v e = ap (look_by program plan (cause_walk program plan input u) w x rest cells (out-Stmt x)) e
 
@@ -118,7 +119,7 @@ module _ {k : Epoch} (ok : Fit k) (i : ℕ) where
   pub record Walked (n : ℕ) (earlier : List Past) (done events : List Event) (w : Watch) (to_do after : List Stmt) (cells then_cells : List ℤ) : Type 0 where
     pub watches : Watches (pushed i events earlier) (done_after events done) (watched_all program plan events w)
     pub is : cause_walk program plan input (length events + n) w to_do cells ≡
-        or_else (first_cause program plan base i earlier done events) (cause_walk program plan input n (watched_all program plan events w) after then_cells)
+        option_or (first_cause program plan base i earlier done events) (cause_walk program plan input n (watched_all program plan events w) after then_cells)
 
   -- The walk finds the first of the events that fails, and else what follows them.
   pub walk_is : (n : ℕ) {to_do : List Stmt} {earlier : List Past} {cells : List ℤ} {events : List Event} {after : List Stmt} {then_cells : List ℤ} (done : List Event) (w : Watch) →
@@ -135,7 +136,7 @@ module _ {k : Epoch} (ok : Fit k) (i : ℕ) where
       record {
         watches = r.watches;
         is = ap (λ (u : ℕ). cause_walk program plan input u w (x ∷ rest) cells) m ∙ walk_step (length more + n) w x rest cells v e
-            ∙ ap (λ (o : Option Cause). or_else (cause_in program plan w event) o) r.is
-            ∙ ap (λ (o : Option Cause). or_else o (or_else (first_cause program plan base i (past_of i x v ∷ earlier) (event ∷ done) more) (cause_walk program plan input n last_watch after then_cells))) (sym (cause_same earlier done w event b site.staged site.early))
-            ∙ sym (or_else-assoc (event_cause program plan base i earlier done event) (first_cause program plan base i (past_of i x v ∷ earlier) (event ∷ done) more) (cause_walk program plan input n last_watch after then_cells));
+            ∙ ap (λ (o : Option Cause). option_or (cause_in program plan w event) o) r.is
+            ∙ ap (λ (o : Option Cause). option_or o (option_or (first_cause program plan base i (past_of i x v ∷ earlier) (event ∷ done) more) (cause_walk program plan input n last_watch after then_cells))) (sym (cause_same earlier done w event b site.staged site.early))
+            ∙ sym (option_or-assoc (event_cause program plan base i earlier done event) (first_cause program plan base i (past_of i x v ∷ earlier) (event ∷ done) more) (cause_walk program plan input n last_watch after then_cells));
       }

@@ -3,9 +3,11 @@ use Rattle.dp_semantics.proofs.Names.{◌≡◌, refl, sym, ap, ◌∙◌, ℕ, 
 use Rattle.dp_tree.specs.declared.Expr.TheVariants as expr
 use Rattle.dp_tree.specs.declared.Stmt.TheVariants as tree
 use Rattle.dp_tree.specs.Inlined.{expr_within, has_call, has_call_in, rows_within, stmt_within}
+use Rattle.dp_tree.proofs.Asked.{asked_both}
 use Rattle.dp_tree.specs.Numbering.{is_inner, is_inner_in, is_plain, is_plain_in}
 use Rattle.dp_plan.specs.declared.Enclosing.{Enclosing}
-use Rattle.dp_plan.specs.Enclosing.{ifs, ifs_in, inner_whiles, inner_whiles_in}
+use Rattle.dp_plan.specs.Access.{access_at}
+use Rattle.dp_plan.specs.Enclosing.{if_at, ifs, ifs_in, inner_whiles, inner_whiles_in}
 use Rattle.dp_plan.specs.Written.{site_in}
 use Rattle.dp_semantics.proofs.Setting.{Each, each_split, each_join}
 
@@ -60,16 +62,13 @@ module _ (Q : ℕ → Type 0) where
   abbrev Of : Enclosing → Type 0
   Of e = Q e.site
 
-  mutual
-    pub ifs_at : (x : Stmt) → Each At (accesses x) → Each Of (ifs x)
-    ifs_at (tree.If' site cond _ a _ b) h = let both = each_split At (accesses_in a) (accesses_in b) h.1 in (h.0, each_join Of (ifs_in a) (ifs_in b) (ifs_at_in a both.0) (ifs_at_in b both.1))
-    ifs_at (tree.While' site cond _ a) h = ifs_at_in a h.1
-    ifs_at (tree.Region' r site cond _ a) h = ifs_at_in a h.1
-    ifs_at _ h = tt
+  if_own : (x : Stmt) → Each At (access_at x) → Each Of (if_at x)
+  if_own (tree.If' site cond _ a _ b) h = (h.0, tt)
+  if_own _ h = tt
 
-    ifs_at_in : {n : _} (row : Row_of-Stmt n) → Each At (accesses_in row) → Each Of (ifs_in row)
-    ifs_at_in end_of-Stmt h = tt
-    ifs_at_in (more_of-Stmt x rest) h = let both = each_split At (accesses x) (accesses_in rest) h in each_join Of (ifs x) (ifs_in rest) (ifs_at x both.0) (ifs_at_in rest both.1)
+  pub ifs_at : (x : Stmt) → Each At (accesses x) → Each Of (ifs x)
+  ifs_at x = asked_both (λ (xs : List Access) (es : List Enclosing). Each At xs → Each Of es) (λ h. tt)
+      (λ a b c d p q h. let both = each_split At a b h in each_join Of c d (p both.0) (q both.1)) access_at if_at if_own x
 
 module _ (p : Program) (plan : Plan) where
   abbrev pub none_before : Enclosing → Bool

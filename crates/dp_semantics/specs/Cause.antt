@@ -3,6 +3,7 @@ use Rattle.std.specs.Prelude.{ℕ, if◌then◌else◌, List, [], ◌∷◌, ℤ
 use Rattle.dp_base.specs.declared.Fault.{Fault as FaultAt}
 use Rattle.dp_base.specs.declared.End.{End}
 use Rattle.dp_base.specs.declared.End.TheVariants as run_end
+use Rattle.std.specs.Option.{option_or}
 use Rattle.dp_tree.specs.declared.Program.{Program}
 use Rattle.dp_plan.specs.declared.Plan.{Plan}
 use Rattle.dp_tree.specs.Eval.{Load}
@@ -23,11 +24,6 @@ pub data Cause : Type 0 where
   ByFault : FaultAt → Cause
   ByFuel : Cause
 
--- the first cause, or else the second
-abbrev pub or_else : Option Cause → Option Cause → Option Cause
-or_else (Some cause) other = Some cause
-or_else None other = other
-
 -- the load, where this is seen in place of its value
 abbrev pub by_load : ℕ → Load → ℤ → Option Cause
 by_load site l found = if int_eq found l.value then None else Some (ByLoad site l.cell found l.value)
@@ -36,7 +32,7 @@ by_load site l found = if int_eq found l.value then None else Some (ByLoad site 
 abbrev pub load_cause : Program → Plan → List ℤ → ℕ → List Past → ℕ → List Load → Option Cause
 load_cause p plan base i earlier site [] = None
 load_cause p plan base i earlier site (l ∷ rest) =
-    or_else (by_load site l (seen p plan base (stage_of p plan site) i earlier l.cell)) (load_cause p plan base i earlier site rest)
+    option_or (by_load site l (seen p plan base (stage_of p plan site) i earlier l.cell)) (load_cause p plan base i earlier site rest)
 
 -- .. where the site is checked
 abbrev pub checked_load_cause : Program → Plan → List ℤ → ℕ → List Past → Event → Option Cause
@@ -56,13 +52,13 @@ words_cause p plan done event =
 -- at one event the loads come first, then the assumption, then the words
 abbrev pub event_cause : Program → Plan → List ℤ → ℕ → List Past → List Event → Event → Option Cause
 event_cause p plan base i earlier done event =
-    or_else (checked_load_cause p plan base i earlier event) (or_else (assumption_cause p plan event) (words_cause p plan done event))
+    option_or (checked_load_cause p plan base i earlier event) (option_or (assumption_cause p plan event) (words_cause p plan done event))
 
 -- the first event of iteration i that fails
 abbrev pub first_cause : Program → Plan → List ℤ → ℕ → List Past → List Event → List Event → Option Cause
 first_cause p plan base i earlier done [] = None
 first_cause p plan base i earlier done (event ∷ rest) =
-    or_else (event_cause p plan base i earlier done event)
+    option_or (event_cause p plan base i earlier done event)
     (first_cause p plan base i (record { iteration = i; event = event } ∷ earlier) (event ∷ done) rest)
 
 -- where no event fails: the run's fault, or the spent fuel

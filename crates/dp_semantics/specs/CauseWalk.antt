@@ -1,5 +1,6 @@
 -- How the cause is found: the source's steps through an iteration, with the memory that each stage sees.
 use Rattle.std.specs.Prelude.{ℕ, if◌then◌else◌, zero, suc, ◌+◌, List, [], ◌∷◌, ℤ, pos, Option, Some, None, Ok, Err, get_or, nat_le, length, replicate}
+use Rattle.std.specs.Option.{option_or}
 use Rattle.dp_tree.specs.declared.Stmt.{Stmt, out-Stmt}
 use Rattle.dp_tree.specs.declared.Stmt.TheOpen.{Stmt-F}
 use Rattle.dp_tree.specs.declared.Program.{Program}
@@ -9,7 +10,7 @@ use Rattle.dp_tree.specs.Step.{Effect, Event, value_of, stored, line_of, site_of
 use Rattle.dp_plan.specs.Access.{stage_of, is_replicated}
 use Rattle.dp_plan.specs.Checked.{is_checked}
 use Rattle.dp_semantics.specs.Clean.{words_at}
-use Rattle.dp_semantics.specs.Cause.{Cause, ByFault, ByFuel, ByWords, or_else, by_load, assumption_cause}
+use Rattle.dp_semantics.specs.Cause.{Cause, ByFault, ByFuel, ByWords, by_load, assumption_cause}
 
 -- for each stage, the first one's first: the memory that it sees, and the number of its words in this iteration
 pub record Watch : Type 0 where
@@ -43,7 +44,7 @@ module _ (p : Program) (plan : Plan) (event : Event) where
 -- the first of the site's loads whose cell reads otherwise in this memory
 abbrev pub load_cause_in : List ℤ → ℕ → List Load → Option Cause
 load_cause_in view site [] = None
-load_cause_in view site (l ∷ rest) = or_else (by_load site l (get_or view l.cell (pos 0))) (load_cause_in view site rest)
+load_cause_in view site (l ∷ rest) = option_or (by_load site l (get_or view l.cell (pos 0))) (load_cause_in view site rest)
 
 module _ (p : Program) (plan : Plan) where
   -- .. where the site is checked
@@ -57,8 +58,8 @@ module _ (p : Program) (plan : Plan) where
   -- at one event the loads come first, then the assumption, then the words
   abbrev pub cause_in : Watch → Event → Option Cause
   cause_in w event =
-      or_else (checked_cause_in (view_of w.views (stage_of p plan event.site)) event)
-      (or_else (assumption_cause p plan event) (words_cause_in (count_of (watched p plan event w).counts (stage_of p plan event.site)) event))
+      option_or (checked_cause_in (view_of w.views (stage_of p plan event.site)) event)
+      (option_or (assumption_cause p plan event) (words_cause_in (count_of (watched p plan event w).counts (stage_of p plan event.site)) event))
 
   -- the event of an evaluation
   abbrev pub event_by : Stmt-F Stmt → List Load → Effect → Event
@@ -68,7 +69,7 @@ module _ (p : Program) (plan : Plan) where
   abbrev pub look_by : (Watch → List Stmt → List ℤ → Option Cause) → Watch → Stmt → List Stmt → List ℤ → Stmt-F Stmt → Evaluated Effect → Option Cause
   look_by go w x rest cells head (Err kind) = Some (ByFault (record { kind = kind; line = line_of p (site_of head) }))
   look_by go w x rest cells head (Ok v) =
-      or_else (cause_in w (event_by head v.loads v.value))
+      option_or (cause_in w (event_by head v.loads v.value))
       (go (watched p plan (event_by head v.loads v.value) w) (followed x rest head (value_of v.value)) (stored v.value cells))
 
   -- no step is left

@@ -9,7 +9,7 @@ use Rattle.dp_plan.specs.Access.{Access, accesses, accesses_in, loaded_by}
 use Rattle.dp_plan.specs.Touch.{Touch, reads}
 use Rattle.dp_plan.specs.IsFar.{SiteTouch, touches, touches_in}
 use Rattle.dp_sites.specs.declared.part.Part.{Part}
-use Rattle.dp_sites.specs.Parts.{part_of, parts, parts_in, until_in}
+use Rattle.dp_sites.specs.steps.Parts.{part_of, parts, parts_in, until_in}
 use Rattle.dp_plan.proofs.LoadLemmas.{list_any-append}
 
 abbrev pub variable_in : Option Touch → Option ℕ

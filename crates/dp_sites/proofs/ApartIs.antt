@@ -19,7 +19,7 @@ use Rattle.dp_sites.specs.declared.place.Gap.{Gap}
 use Rattle.dp_sites.specs.declared.place.Gap.TheVariants as gap
 use Rattle.dp_sites.specs.declared.part.Part.{Part}
 use Rattle.dp_sites.specs.declared.touched.Touched.{Touched}
-use Rattle.dp_sites.specs.Parts.{part_list, parts, touched, touched_in}
+use Rattle.dp_sites.specs.steps.Parts.{part_list, parts, touched, touched_in}
 use Rattle.dp_sites.specs.Storings.{body_at, goes_up_from, storing_at, storing_of}
 use Rattle.dp_sites.proofs.Aligned.{Aligned, aligned}
 use Rattle.dp_sites.proofs.OuterLoops.{Rises}

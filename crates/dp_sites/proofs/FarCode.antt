@@ -14,7 +14,7 @@ use Rattle.dp_sites.specs.declared.place.Step.{Step}
 use Rattle.dp_sites.specs.declared.place.Gap.{Gap}
 use Rattle.dp_sites.specs.declared.moving.Moving.{Moving}
 use Rattle.dp_sites.specs.Place.{offset_in, place_at, stride_in, test_of}
-use Rattle.dp_sites.specs.Parts.{index_in, touched}
+use Rattle.dp_sites.specs.steps.Parts.{index_in, touched}
 use Rattle.dp_sites.specs.Storings.{load_passes, place_passes}
 use Rattle.dp_sites.proofs.FarOffsets.{offset_by, offset_is}
 use Rattle.dp_sites.proofs.FarHalves.{shift_by}

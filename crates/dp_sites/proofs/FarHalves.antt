@@ -2,7 +2,8 @@
 use Rattle.std.proofs.Common.{◌≡◌, refl, sym, ap, ◌∙◌, ℕ, ◌+◌, Bool, true, false, if◌then◌else◌, ◌&&◌, List, ◌++◌, length, ℤ, pos, negsuc, Option, Some, None, arith, eq-eqb, le-leb}
 use Rattle.std.proofs.lemmas.Bool.{and_from}
 use Rattle.std.specs.List.{list_all}
-use Rattle.dp_plan.specs.IsFar.{SiteTouch, Stored, Halves, all_pass, back_touches, front_touches, halves_pass, int_eq, is_stored, or_stored, read_passes, store_of, stored_at}
+use Rattle.std.specs.Option.{option_or}
+use Rattle.dp_plan.specs.IsFar.{SiteTouch, Stored, Halves, all_pass, back_touches, front_touches, halves_pass, int_eq, is_stored, read_passes, store_of, stored_at}
 use Rattle.dp_sites.proofs.FarFind.{Among, TouchesRise, all_found, find, found_first, found_second, reads_pass, store_found, stored_in, stores_it}
 
 abbrev pub shift_by : ℤ → Bool → ℤ
@@ -18,7 +19,7 @@ int_self : (x : ℤ) → int_eq x x ≡ true
 int_self (pos a) = and_from _ _ (le-leb a a (omega arith)) (le-leb a a (omega arith))
 int_self (negsuc a) = and_from _ _ (le-leb a a (omega arith)) (le-leb a a (omega arith))
 
-or_stored_none : (o : Option Stored) → or_stored o None ≡ o
+or_stored_none : (o : Option Stored) → option_or o None ≡ o
 or_stored_none None = refl
 or_stored_none (Some s) = refl
 
@@ -58,13 +59,13 @@ module _ (test : ℤ → ℤ → ℤ → Bool) (v d u k : ℕ) (condition : List
   abbrev rest : TouchesRise k fs × TouchesRise (k + length fs) bs
   rest = Rattle.dp_sites.proofs.FarFind.touches_split k fs bs rises
 
-  stored : or_stored (store_of v (pos 0) d fs) (store_of v h.stride d bs) ≡ stored_at v (shift_by h.stride lateD) td.store
+  stored : option_or (store_of v (pos 0) d fs) (store_of v h.stride d bs) ≡ stored_at v (shift_by h.stride lateD) td.store
   stored =
-      ap (λ (o : Option Stored). or_stored o (store_of v h.stride d bs)) (store_found v (pos 0) d fs ∙ ap (stored_in v (pos 0)) (found_first d k fs bs rises td atD lateD whenD))
-      ∙ ap (or_stored (stored_in v (pos 0) (if lateD then None else Some td))) (store_found v h.stride d bs ∙ ap (stored_in v h.stride) (found_second d k fs bs rises td atD lateD whenD))
+      ap (λ (o : Option Stored). option_or o (store_of v h.stride d bs)) (store_found v (pos 0) d fs ∙ ap (stored_in v (pos 0)) (found_first d k fs bs rises td atD lateD whenD))
+      ∙ ap (option_or (stored_in v (pos 0) (if lateD then None else Some td))) (store_found v h.stride d bs ∙ ap (stored_in v h.stride) (found_second d k fs bs rises td atD lateD whenD))
       ∙ by lateD
     where
-      by : (late : Bool) → or_stored (stored_in v (pos 0) (if late then None else Some td)) (stored_in v h.stride (if late then Some td else None)) ≡ stored_at v (shift_by h.stride late) td.store
+      by : (late : Bool) → option_or (stored_in v (pos 0) (if late then None else Some td)) (stored_in v h.stride (if late then Some td else None)) ≡ stored_at v (shift_by h.stride late) td.store
       by true = refl
       by false = or_stored_none (stored_at v (pos 0) td.store)
 

@@ -4,11 +4,12 @@ use Rattle.std.specs.Prelude.{neg_ℤ}
 use Rattle.dp_base.specs.declared.BinOp.{BinOp}
 use Rattle.dp_base.specs.declared.BinOp.TheVariants as op
 use Rattle.dp_base.specs.declared.VarId.{VarId}
+use Rattle.std.specs.Option.{option_or}
 use Rattle.dp_tree.specs.declared.Expr.{Expr, end_of-Expr, more_of-Expr}
 use Rattle.dp_tree.specs.declared.Expr.TheVariants as expr
 use Rattle.dp_sites.specs.declared.place.Place.{Place}
 use Rattle.dp_sites.specs.declared.place.Step.{Step}
-use Rattle.dp_plan.specs.Touch.{added, is_var, moved_by, moves, negated, number_in, offset, or_else, positive, when_so}
+use Rattle.dp_plan.specs.Touch.{added, is_var, moved_by, moves, negated, number_in, offset, positive, when_so}
 use Rattle.dp_sites.specs.Place.{added_place, added_step, offset_in, or_place, place_by, placed, scalar_in, step_by, step_from, step_in, stride_in}
 
 -- the offset of a place by v
@@ -55,7 +56,7 @@ apart (expr.And' a b c d) x h = refl
 apart (expr.Or' a b c d) x h = refl
 
 -- where the first is a variable the second side has nothing
-first_only : (v : ℕ) (a b : Expr) → or_else (offset_by v (placed false (scalar_in a) (number_in b))) (offset_by v (placed false (scalar_in b) (number_in a))) ≡ offset_by v (or_place (placed false (scalar_in a) (number_in b)) (placed false (scalar_in b) (number_in a)))
+first_only : (v : ℕ) (a b : Expr) → option_or (offset_by v (placed false (scalar_in a) (number_in b))) (offset_by v (placed false (scalar_in b) (number_in a))) ≡ offset_by v (or_place (placed false (scalar_in a) (number_in b)) (placed false (scalar_in b) (number_in a)))
 first_only v a b = by (scalar_in a) refl (number_in b)
   where
     nothing : (x : Option VarId) (n : Option ℤ) → n ≡ None → placed false x n ≡ None
@@ -63,20 +64,20 @@ first_only v a b = by (scalar_in a) refl (number_in b)
     nothing (Some y) None e = refl
     nothing (Some y) (Some n) e = absurd (cc e)
 
-    by : (x : Option VarId) → scalar_in a ≡ x → (n : Option ℤ) → or_else (offset_by v (placed false x n)) (offset_by v (placed false (scalar_in b) (number_in a))) ≡ offset_by v (or_place (placed false x n) (placed false (scalar_in b) (number_in a)))
+    by : (x : Option VarId) → scalar_in a ≡ x → (n : Option ℤ) → option_or (offset_by v (placed false x n)) (offset_by v (placed false (scalar_in b) (number_in a))) ≡ offset_by v (or_place (placed false x n) (placed false (scalar_in b) (number_in a)))
     by None e n = refl
     by (Some x) e None = refl
     by (Some x) e (Some n) =
-        ap (λ (q : Option Place). or_else (offset_by v (placed false (Some x) (Some n))) (offset_by v q)) (nothing (scalar_in b) (number_in a) (apart a x e)) ∙ same (x.0 == v)
+        ap (λ (q : Option Place). option_or (offset_by v (placed false (Some x) (Some n))) (offset_by v q)) (nothing (scalar_in b) (number_in a) (apart a x e)) ∙ same (x.0 == v)
       where
-        same : (t : Bool) → or_else (when_so t (Some n)) None ≡ when_so t (Some n)
+        same : (t : Bool) → option_or (when_so t (Some n)) None ≡ when_so t (Some n)
         same true = refl
         same false = refl
 
 by_op : (v : ℕ) (o : BinOp) (a b : Expr) → added v o a b ≡ offset_by v (added_place o a b)
 by_op v op.Add a b =
-    ap (λ (t : Bool). or_else (when_so t (number_in b)) (when_so (is_var v b) (number_in a))) (scalar_var v a) ∙ ap (λ (o : Option ℤ). or_else o (when_so (is_var v b) (number_in a))) (one_side v (scalar_in a) (number_in b))
-    ∙ ap (λ (t : Bool). or_else (offset_by v (placed false (scalar_in a) (number_in b))) (when_so t (number_in a))) (scalar_var v b) ∙ ap (or_else (offset_by v (placed false (scalar_in a) (number_in b)))) (one_side v (scalar_in b) (number_in a))
+    ap (λ (t : Bool). option_or (when_so t (number_in b)) (when_so (is_var v b) (number_in a))) (scalar_var v a) ∙ ap (λ (o : Option ℤ). option_or o (when_so (is_var v b) (number_in a))) (one_side v (scalar_in a) (number_in b))
+    ∙ ap (λ (t : Bool). option_or (offset_by v (placed false (scalar_in a) (number_in b))) (when_so t (number_in a))) (scalar_var v b) ∙ ap (option_or (offset_by v (placed false (scalar_in a) (number_in b)))) (one_side v (scalar_in b) (number_in a))
     ∙ first_only v a b
 by_op v op.Sub a b = ap (λ (t : Bool). negated (when_so t (number_in b))) (scalar_var v a) ∙ other_side v (scalar_in a) (number_in b)
 by_op v _ a b = refl

@@ -25,7 +25,7 @@ use Rattle.dp_sites.specs.declared.moving.Moving.{Moving}
 use Rattle.dp_sites.specs.declared.moving.Mover.{Mover}
 use Rattle.dp_sites.specs.declared.part.Part.{Part}
 use Rattle.dp_sites.specs.Place.{offset_in, stride_in, test_of}
-use Rattle.dp_sites.specs.Parts.{index_in, part_of, touched}
+use Rattle.dp_sites.specs.steps.Parts.{index_in, part_of, touched}
 use Rattle.dp_sites.specs.Storings.{is_moved_alone, mover_in, moving_of, moving_with, part_stores, passes_by}
 use Rattle.dp_plan.proofs.LoadLemmas.{opened}
 use Rattle.dp_sites.proofs.Aligned.{Aligned, Same}
@@ -67,7 +67,7 @@ counted v (a ∷ xs) (t ∷ ts) (u ∷ us) h =
       | inr f ↦ Rattle.std.proofs.Common.ne_eqb x y f ∙ sym (Rattle.std.proofs.Common.ne_eqb y x (λ e. f (sym e)))
     ]
 
-    same : (o : Option Touch) → Rattle.dp_sites.specs.Storings.is_touched v (Rattle.dp_sites.specs.Parts.touched_in o) ≡ Rattle.dp_plan.specs.Access.is_same_variable v.0 (Rattle.dp_sites.proofs.Aligned.variable_in o)
+    same : (o : Option Touch) → Rattle.dp_sites.specs.Storings.is_touched v (Rattle.dp_sites.specs.steps.Parts.touched_in o) ≡ Rattle.dp_plan.specs.Access.is_same_variable v.0 (Rattle.dp_sites.proofs.Aligned.variable_in o)
     same None = refl
     same (Some x) = turn x.variable v.0
 

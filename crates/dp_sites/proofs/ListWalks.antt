@@ -1,91 +1,65 @@
--- The sites of a statement by its form, and of a list, item by item.
-use Rattle.std.proofs.Common.{◌≡◌, refl, sym, ◌∙◌, ap, ℕ, suc, ◌+◌, ◌<◌, ◌≤◌, Bool, true, false, List, [], ◌∷◌, ◌++◌, map, filter, drop, get_or, length, add-one, drop-cons, append_assoc, append-nil}
+-- What the walk over a text's statements appends, statement by statement; and the sites of statements.
+use Rattle.std.proofs.Common.{◌≡◌, refl, sym, ◌∙◌, ap, ℕ, suc, ◌+◌, ◌<◌, true, false, List, [], ◌∷◌, ◌++◌, map, drop, get_or, length, add-one, drop-cons, append_assoc}
 use Rattle.std.specs.List.{flat_map}
-use Rattle.std.proofs.lemmas.List.{at_drop_all}
-use Rattle.dp_base.specs.declared.SiteId.{SiteId}
-use Rattle.dp_base.specs.declared.VarId.{VarId}
-use Rattle.dp_tree.specs.declared.Expr.{Expr}
-use Rattle.dp_tree.specs.declared.Stmt.{Stmt}
-use Rattle.dp_tree.specs.declared.Stmt.TheVariants as tree
-use Rattle.dp_plan.specs.Access.{accesses, accesses_in, is_region_at}
-use Rattle.dp_plan.specs.Written.{site_in}
-use Rattle.dp_plan.specs.Walks.{is_region_of}
-use Rattle.dp_sites.specs.Lists.{site_list, site_lists, sites_in_region}
-use Rattle.dp_plan.proofs.LoadLemmas.{opened}
-use Rattle.dp_plan.proofs.WalkLemmas.{accesses_hidden}
 use Rattle.std.proofs.lemmas.List.{map-append}
-
-pub sites-Assign : (site : SiteId) (x : VarId) (e : Expr) → site_list (tree.Assign site x e) ≡ site.0 ∷ []
-unfolding site_list
-sites-Assign site x e = refl
-
-pub sites-Store : (site : SiteId) (x : VarId) (i e : Expr) → site_list (tree.Store site x i e) ≡ site.0 ∷ []
-unfolding site_list
-sites-Store site x i e = refl
-
-pub sites-Print : (site : SiteId) (e : Expr) → site_list (tree.Print site e) ≡ site.0 ∷ []
-unfolding site_list
-sites-Print site e = refl
-
-pub sites-Break : (site : SiteId) (e : Expr) → site_list (tree.Break site e) ≡ site.0 ∷ []
-unfolding site_list
-sites-Break site e = refl
-
-pub sites-Call : (f line : ℕ) (args : List Expr) → site_list (tree.Call f line args) ≡ []
-unfolding site_list
-sites-Call f line args = refl
-
-pub sites-If : (site : SiteId) (e : Expr) (a b : List Stmt) → site_list (tree.If site e a b) ≡ site.0 ∷ (site_lists a ++ site_lists b)
-unfolding site_list site_lists opened
-sites-If site e a b =
-    ap (λ r. site.0 ∷ map site_in (r ++ accesses_in (Rattle.dp_tree.specs.declared.Stmt.TheBlock.hidden-the_row-Stmt-0 b))) (accesses_hidden a)
-    ∙ ap (λ r. site.0 ∷ map site_in (flat_map accesses a ++ r)) (accesses_hidden b)
-    ∙ ap (λ r. site.0 ∷ r) (map-append site_in (flat_map accesses a) (flat_map accesses b))
-
-pub sites-While : (site : SiteId) (e : Expr) (a : List Stmt) → site_list (tree.While site e a) ≡ site.0 ∷ site_lists a
-unfolding site_list site_lists opened
-sites-While site e a = ap (λ r. site.0 ∷ map site_in r) (accesses_hidden a)
-
-pub sites-Region : (r : ℕ) (site : SiteId) (e : Expr) (a : List Stmt) → site_list (tree.Region r site e a) ≡ site.0 ∷ site_lists a
-unfolding site_list site_lists opened
-sites-Region r site e a = ap (λ r. site.0 ∷ map site_in r) (accesses_hidden a)
-
-pub ruleset site_forms = (sites-Assign, sites-Store, sites-Print, sites-Break, sites-Call, append-nil)
-
-pub sites-none : site_lists [] ≡ []
-unfolding site_lists
-sites-none = refl
-
--- one statement more
-pub sites-next : (all : List Stmt) (i : ℕ) (s : Stmt) → i < length all → s ≡ get_or all i s → site_lists (drop i all) ≡ site_list s ++ site_lists (drop (i + 1) all)
-unfolding site_lists site_list
-sites-next all i s h is =
-    let here : drop i all ≡ s ∷ drop (suc i) all = drop-cons all i s h ∙ ap (λ (t : Stmt). t ∷ drop (suc i) all) (sym is) in
-    rw add-one (ap (λ l. map site_in (flat_map accesses l)) here ∙ map-append site_in (accesses s) (flat_map accesses (drop (suc i) all)))
-
-pub ruleset site_steps = (sites-none, sites-next)
-
-pub region-none : (r : ℕ) → sites_in_region r [] ≡ []
-unfolding sites_in_region
-region-none r = refl
-
-pub region_case : (r : ℕ) (s : Stmt) (rest : List Stmt) → is_region_at r s ≡ true → sites_in_region r (s ∷ rest) ≡ site_list s ++ sites_in_region r rest
-unfolding sites_in_region site_list
-region_case r s rest e = rw e (map-append site_in (accesses s) (flat_map accesses (filter (is_region_at r) rest)))
-
-pub skip_case : (r : ℕ) (s : Stmt) (rest : List Stmt) → is_region_at r s ≡ false → sites_in_region r (s ∷ rest) ≡ sites_in_region r rest
-unfolding sites_in_region
-skip_case r s rest e = rw e refl
+use Rattle.dp_tree.specs.declared.Program.{Program}
+use Rattle.dp_tree.specs.declared.Stmt.{Stmt}
+use Rattle.dp_tree.specs.Numbering.{number_at}
+use Rattle.dp_tree.specs.Statements.{asked}
+use Rattle.dp_plan.specs.Access.{accesses, is_region_at, region_in}
+use Rattle.dp_plan.specs.Walks.{is_region_of}
+use Rattle.dp_plan.specs.Written.{site_in, region_sites}
+use Rattle.dp_plan.proofs.TopStatements.{sites_are}
+use Rattle.dp_sites.specs.Lists.{asked_in_region, site_list, site_lists}
 
 next_of : (all : List Stmt) (i : ℕ) (s : Stmt) → i < length all → s ≡ get_or all i s → drop i all ≡ s ∷ drop (i + 1) all
 next_of all i s h is = rw add-one (drop-cons all i s h ∙ ap (λ (t : Stmt). t ∷ drop (suc i) all) (sym is))
 
-pub region-next : (r : ℕ) (all : List Stmt) (i : ℕ) (s : Stmt) → i < length all → s ≡ get_or all i s → is_region_of r s ≡ true
-    → sites_in_region r (drop i all) ≡ site_list s ++ sites_in_region r (drop (i + 1) all)
-unfolding is_region_of
-region-next r all i s h is e = ap (sites_in_region r) (next_of all i s h is) ∙ region_case r s (drop (i + 1) all) e
+module _ {X : Type 0} where
+  -- a statement's own answers join the end, and then those of what is inside it
+  pub own_and_one : (old one two own inner : List X) {whole : List X} → one ≡ old ++ own → two ≡ one ++ inner → whole ≡ own ++ inner → two ≡ old ++ whole
+  own_and_one old one two own inner p q is = q ∙ ap (λ l. l ++ inner) p ∙ append_assoc old own inner ∙ ap (λ l. old ++ l) (sym is)
 
-pub region-skip : (r : ℕ) (all : List Stmt) (i : ℕ) (s : Stmt) → i < length all → s ≡ get_or all i s → is_region_of r s ≡ false
-    → sites_in_region r (drop i all) ≡ sites_in_region r (drop (i + 1) all)
-unfolding is_region_of
-region-skip r all i s h is e = ap (sites_in_region r) (next_of all i s h is) ∙ skip_case r s (drop (i + 1) all) e
+  pub own_and_two : (old one two three own a b : List X) {whole : List X} → one ≡ old ++ own → two ≡ one ++ a → three ≡ two ++ b → whole ≡ own ++ (a ++ b) → three ≡ old ++ whole
+  own_and_two old one two three own a b p q r is = own_and_one old one three own (a ++ b) p (r ∙ ap (λ l. l ++ b) q ∙ append_assoc one a b) is
+
+  -- nothing joins the end
+  pub none_joins : (old now next : List X) {whole rest : List X} → now ++ whole ≡ old → whole ≡ rest → next ≡ now → next ++ rest ≡ old
+  none_joins old now next {whole} {rest} so_far same is = ap (λ l. l ++ rest) is ∙ ap (λ l. now ++ l) (sym same) ∙ so_far
+
+-- ---- regions among several statements
+
+module _ {X : Type 0} (ask : Stmt → List X) where
+  region_case : (r : ℕ) (s : Stmt) (rest : List Stmt) → is_region_at r s ≡ true
+      → asked_in_region ask r (s ∷ rest) ≡ asked ask s ++ asked_in_region ask r rest
+  region_case r s rest e = rw e refl
+
+  skip_case : (r : ℕ) (s : Stmt) (rest : List Stmt) → is_region_at r s ≡ false
+      → asked_in_region ask r (s ∷ rest) ≡ asked_in_region ask r rest
+  skip_case r s rest e = rw e refl
+
+  pub region-next : (r : ℕ) (all : List Stmt) (i : ℕ) (s : Stmt) → i < length all → s ≡ get_or all i s → is_region_of r s ≡ true
+      → asked_in_region ask r (drop i all) ≡ asked ask s ++ asked_in_region ask r (drop (i + 1) all)
+  unfolding is_region_of
+  region-next r all i s h is e = ap (asked_in_region ask r) (next_of all i s h is) ∙ region_case r s (drop (i + 1) all) e
+
+  pub region-skip : (r : ℕ) (all : List Stmt) (i : ℕ) (s : Stmt) → i < length all → s ≡ get_or all i s → is_region_of r s ≡ false
+      → asked_in_region ask r (drop i all) ≡ asked_in_region ask r (drop (i + 1) all)
+  unfolding is_region_of
+  region-skip r all i s h is e = ap (asked_in_region ask r) (next_of all i s h is) ∙ skip_case r s (drop (i + 1) all) e
+
+-- ---- sites
+
+-- the numbers of a statement are its sites
+pub numbers_of : (x : Stmt) → asked number_at x ≡ site_list x
+unfolding site_list
+numbers_of x = sites_are x
+
+pub numbers_in : (all : List Stmt) → flat_map (asked number_at) all ≡ site_lists all
+unfolding site_lists
+numbers_in [] = refl
+numbers_in (x ∷ rest) = ap (λ ns. ns ++ flat_map (asked number_at) rest) (sites_are x) ∙ ap (λ ns. map site_in (accesses x) ++ ns) (numbers_in rest) ∙ sym (map-append site_in (accesses x) (flat_map accesses rest))
+
+pub numbers_in_region : (p : Program) (r : ℕ) → flat_map (asked number_at) (region_in p r) ≡ region_sites p r
+unfolding site_lists
+numbers_in_region p r = numbers_in (region_in p r)

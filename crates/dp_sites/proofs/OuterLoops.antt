@@ -10,7 +10,7 @@ use Rattle.dp_plan.specs.Touch.{reads}
 use Rattle.dp_plan.specs.Written.{site_in}
 use Rattle.dp_plan.specs.Checked.{has_both, has_site, loops, loops_in}
 use Rattle.dp_sites.specs.declared.part.Part.{Part}
-use Rattle.dp_sites.specs.Parts.{part_of, parts, parts_in, until_in}
+use Rattle.dp_sites.specs.steps.Parts.{part_of, parts, parts_in, until_in}
 use Rattle.dp_sites.specs.Storings.{end_of}
 use Rattle.dp_plan.proofs.LoadLemmas.{list_any-append}
 

@@ -11,7 +11,7 @@ use Rattle.dp_tree.specs.declared.Expr.{Expr}
 use Rattle.dp_tree.specs.declared.Expr.TheVariants as expr
 use Rattle.dp_plan.specs.Touch.{reads}
 use Rattle.dp_sites.specs.Place.{index_place}
-use Rattle.dp_sites.specs.Parts.{Part, Touched, loads_in, touched, parts, parts_in, part_list, part_lists, until_in}
+use Rattle.dp_sites.specs.steps.Parts.{Part, Touched, loads_in, touched, parts, parts_in, part_list, part_lists, until_in}
 use Rattle.dp_plan.proofs.LoadLemmas.{opened}
 use Rattle.std.proofs.lemmas.List.{map-append}
 

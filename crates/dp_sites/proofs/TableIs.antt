@@ -18,7 +18,7 @@ use Rattle.dp_sites.specs.declared.moving.Moving.{Moving}
 use Rattle.dp_sites.specs.declared.moving.Storing.{Storing}
 use Rattle.dp_sites.specs.declared.part.Part.{Part}
 use Rattle.dp_sites.specs.declared.touched.Touched.{Touched}
-use Rattle.dp_sites.specs.Parts.{index_in, parts, touched, touched_in}
+use Rattle.dp_sites.specs.steps.Parts.{index_in, parts, touched, touched_in}
 use Rattle.dp_sites.specs.Storings.{checked_or, differs_by, end_of, is_ahead, lies_apart, moving_of, part_checked, passes_by, sees_otherwise, storing_at, storing_of, storings, stores_otherwise}
 use Rattle.dp_sites.proofs.Aligned.{Aligned, Same, aligned, variable_in}
 use Rattle.dp_sites.proofs.OuterLoops.{Rises, SitesRise, reaches, shared}

@@ -14,7 +14,7 @@ use Rattle.dp_plan.specs.Access.{first_site, is_region_at, region_in}
 use Rattle.dp_plan.specs.IsFar.{body_of}
 use Rattle.dp_plan.specs.Checked.{is_checked}
 use Rattle.dp_plan.specs.CheckedTable.{checked_table}
-use Rattle.dp_sites.specs.Parts.{part_list, parts}
+use Rattle.dp_sites.specs.steps.Parts.{part_list, parts}
 use Rattle.dp_sites.specs.Storings.{answer_at, body_at, goes_up_from}
 use Rattle.dp_sites.proofs.OuterLoops.{Rises}
 use Rattle.dp_sites.proofs.PartTable.{part_site}

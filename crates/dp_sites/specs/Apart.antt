@@ -7,7 +7,7 @@ use Rattle.dp_sites.specs.declared.place.Gap.TheVariants.{Strides, Whole}
 pub use Rattle.dp_sites.specs.declared.apart.Apart.{Apart}
 use Rattle.dp_plan.specs.Written.{has, region_sites}
 use Rattle.dp_plan.specs.IsFar.{is_far, is_far_within}
-use Rattle.dp_sites.specs.Parts.{Part}
+use Rattle.dp_sites.specs.steps.Parts.{Part}
 use Rattle.dp_sites.specs.Storings.{Storing, lies_apart}
 
 -- the plan of region r that says nothing but that accesses which are known to lie apart aren't checked

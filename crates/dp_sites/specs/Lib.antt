@@ -1,5 +1,5 @@
 pub mod Lists
 pub mod Place
-pub mod Parts
 pub mod Storings
 pub mod Apart
+pub mod steps

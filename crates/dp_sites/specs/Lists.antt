@@ -1,7 +1,8 @@
--- The sites of statements, in text order.
+-- What a walk over statements gives, in text order.
 use Rattle.std.specs.Prelude.{ℕ, List, map, filter}
 use Rattle.std.specs.List.{flat_map}
 use Rattle.dp_tree.specs.declared.Stmt.{Stmt}
+use Rattle.dp_tree.specs.Statements.{asked}
 use Rattle.dp_plan.specs.Access.{accesses, is_region_at}
 use Rattle.dp_plan.specs.Written.{site_in}
 
@@ -13,6 +14,6 @@ site_list s = map site_in (accesses s)
 unfoldable pub site_lists : List Stmt → List ℕ
 site_lists all = map site_in (flat_map accesses all)
 
--- those of region r
-unfoldable pub sites_in_region : ℕ → List Stmt → List ℕ
-sites_in_region r all = map site_in (flat_map accesses (filter (is_region_at r) all))
+-- what a question gives of region r among the statements
+abbrev pub asked_in_region : {X : Type 0} → (Stmt → List X) → ℕ → List Stmt → List X
+asked_in_region ask r all = flat_map (asked ask) (filter (is_region_at r) all)

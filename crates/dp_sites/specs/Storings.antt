@@ -11,7 +11,7 @@ use Rattle.dp_plan.specs.Access.{stage_of, is_replicated, is_body_local}
 use Rattle.dp_plan.specs.IsFar.{scalar_in, body_of}
 use Rattle.dp_sites.specs.Place.{Place, Step, Gap, step_in, place_at, stride_in, test_of}
 use Rattle.dp_sites.specs.declared.place.Gap.TheVariants as gap
-use Rattle.dp_sites.specs.Parts.{Part, Touched}
+use Rattle.dp_sites.specs.steps.Parts.{Part, Touched}
 pub use Rattle.dp_sites.specs.declared.moving.Mover.{Mover}
 pub use Rattle.dp_sites.specs.declared.moving.Moving.{Moving}
 pub use Rattle.dp_sites.specs.declared.moving.Storing.{Storing}

@@ -9,7 +9,9 @@ mod place;
 mod sites;
 mod table;
 mod touched;
+mod walk;
 
 pub use apart::Apart;
 pub use sites::{put_sites, sites_of};
 pub use table::tabled;
+pub use walk::{Question, ask_each, ask_region};

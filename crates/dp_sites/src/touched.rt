@@ -2,7 +2,7 @@
 
 ghost use Rattle.std.specs.Prelude.{◌≡◌, ◌++◌, OnOk, IfOk, Some, None};
 ghost use Rattle.dp_sites.specs.Place.{index_place};
-ghost use Rattle.dp_sites.specs.Parts as spec;
+ghost use Rattle.dp_sites.specs.steps.Parts as spec;
 
 use crate::place::{Place, place_of};
 use dp_base::{NoMemory, Row, VarId};

@@ -6,8 +6,8 @@ use Rattle.dp_lex.specs.Token.{Lexeme}
 use Rattle.dp_tree.specs.declared.raw.Name.{Name as TreeName}
 use Rattle.dp_tokens.specs.declared.symbol.Symbol.{Symbol}
 use Rattle.dp_tokens.specs.declared.symbol.Symbol.TheVariants.{Name, Comma}
-use Rattle.dp_tokens.specs.declared.error.ParseError.{ParseError}
-use Rattle.dp_tokens.specs.declared.error.ParseError.TheVariants.{Refused}
+use Rattle.dp_tokens.specs.declared.fail.PartFail.{PartFail}
+use Rattle.dp_tokens.specs.declared.fail.PartFail.TheVariants.{Refused}
 use Rattle.dp_tokens.specs.Symbols.{symbol, symbol_at}
 use Rattle.dp_tokens.specs.Leaves.{name_of}
 use Rattle.dp_tokens.specs.contracts.symbol.Symbol as symbols
@@ -42,7 +42,7 @@ refuse = λ ts. Err ts
 
 -- what a function that parses ensures: the outcome, unless memory fails. Where it refuses, its tokens are left
 -- from the first one on that stands where nothing fits.
-abbrev pub Reads : {A : Type 0} → Outcome A → Result A ParseError → List Lexeme → Type 0
+abbrev pub Reads : {A : Type 0} → Outcome A → Result A PartFail → List Lexeme → Type 0
 Reads outcome (Ok a) new = outcome ≡ Ok (a, new)
 Reads outcome (Err e) new = e ≡ Refused → outcome ≡ Err new
 

@@ -2,12 +2,12 @@
 
 ghost use Rattle.std.specs.Prelude.{◌≡◌, ◌≢◌, IfOk, Err};
 ghost use Rattle.dp_base.specs.Arithmetic.{is_zero};
-ghost use Rattle.dp_tokens.specs.declared.error.ParseError.TheVariants as error;
+ghost use Rattle.dp_tokens.specs.declared.fail.PartFail.TheVariants as fail;
 ghost use Rattle.dp_tokens.specs.Steps as steps;
 ghost use Rattle.dp_tokens.specs.Numbers as numbers;
 ghost use Rattle.dp_tokens.specs.Steps.{Reads};
 
-use crate::error::ParseError;
+use crate::fail::PartFail;
 use crate::symbol::Symbol;
 use crate::tokens::Tokens;
 use dp_base::Row;
@@ -19,7 +19,7 @@ const MAX_NUMBER: u64 = 9_223_372_036_854_775_807;
 
 /// A name, with its line.
 #[tactic(auto, unfolding(crate::specs::Steps::name))]
-pub fn name(alloc: Global, tokens: &mut Tokens<'_, '_>) -> Result<Name, ParseError>
+pub fn name(alloc: Global, tokens: &mut Tokens<'_, '_>) -> Result<Name, PartFail>
     ensures { Reads (steps.name tokens.old) result tokens.new }
 {
     let token = tokens.expect(Symbol::Name)?;
@@ -31,16 +31,16 @@ pub fn name(alloc: Global, tokens: &mut Tokens<'_, '_>) -> Result<Name, ParseErr
 
 /// A number.
 #[tactic(auto, unfolding(crate::specs::Numbers::number))]
-pub fn number(tokens: &mut Tokens<'_, '_>) -> Result<i64, ParseError>
+pub fn number(tokens: &mut Tokens<'_, '_>) -> Result<i64, PartFail>
     ensures reads { Reads (numbers.number tokens.old) result tokens.new }
-    ensures decides { result ≢ Err error.NoMemory }
+    ensures decides { result ≢ Err fail.NoMemory }
 {
     match tokens.next_number() {
         Some(value) => {
             tokens.advance();
             Ok(value)
         }
-        None => Err(ParseError::Refused),
+        None => Err(PartFail::Refused),
     }
 }
 

@@ -2,13 +2,13 @@
 
 ghost use Rattle.std.specs.Prelude.{◌≡◌, ◌≢◌, map, length, IfOk, OnErr, Ok as Taken, Err as Stuck};
 ghost use Rattle.dp_lex.specs.Tokens.{lexeme};
-ghost use Rattle.dp_tokens.specs.declared.error.ParseError.TheVariants as error;
+ghost use Rattle.dp_tokens.specs.declared.fail.PartFail.TheVariants as fail;
 ghost use Rattle.dp_tokens.specs.declared.symbol.Symbol.TheVariants.{Semicolon};
 ghost use Rattle.dp_tokens.specs.Symbols as spec;
 ghost use Rattle.dp_tokens.specs.Steps as steps;
 ghost use Rattle.dp_tokens.specs.Numbers as numbers;
 
-use crate::error::ParseError;
+use crate::fail::PartFail;
 use crate::leaf::value;
 use crate::symbol::{Symbol, same_symbol, symbol_at};
 use dp_lex::Token;
@@ -114,30 +114,30 @@ impl<'a, 't> Tokens<'a, 't> {
 
     /// Takes the next token, which has to be the symbol.
     #[tactic(auto, unfolding(crate::specs::Steps::expect, crate::specs::Symbols::symbol_at))]
-    pub fn expect(&mut self, symbol: Symbol) -> Result<Token<'t>, ParseError>
+    pub fn expect(&mut self, symbol: Symbol) -> Result<Token<'t>, PartFail>
         ensures taken { IfOk result (λ t. steps.expect symbol self.old ≡ Taken (lexeme t, self.new)) }
         ensures refused { OnErr result (steps.expect symbol self.old ≡ Stuck self.new) }
-        ensures decides { result ≢ Stuck error.NoMemory }
+        ensures decides { result ≢ Stuck fail.NoMemory }
     {
         match self.left {
             [first, rest @ ..] => {
                 if !same_symbol(self.next, symbol) {
-                    return Err(ParseError::Refused);
+                    return Err(PartFail::Refused);
                 }
                 let token = *first;
                 self.left = rest;
                 self.next = symbol_at(rest);
                 Ok(token)
             }
-            [] => Err(ParseError::Refused),
+            [] => Err(PartFail::Refused),
         }
     }
 
     /// Takes the `;` at the end of a statement.
-    pub fn semicolon(&mut self) -> Result<Token<'t>, ParseError>
+    pub fn semicolon(&mut self) -> Result<Token<'t>, PartFail>
         ensures taken { IfOk result (λ t. steps.expect Semicolon self.old ≡ Taken (lexeme t, self.new)) }
         ensures refused { OnErr result (steps.expect Semicolon self.old ≡ Stuck self.new) }
-        ensures decides { result ≢ Stuck error.NoMemory }
+        ensures decides { result ≢ Stuck fail.NoMemory }
     {
         self.expect(Symbol::Semicolon)
     }

@@ -9,7 +9,7 @@ use Rattle.dp_tree.specs.Eval.{Load, Evaluated, eval, and_then, after_loads, pla
 use Rattle.dp_tree.specs.Event.{Effect, Printed, Decided, Tried, Event, value_of}
 use Rattle.dp_tree.specs.Step.{Config, Finished, Stepped, choose, followed, behind_region, behind_one, region_number, stored_by, after_effect, site_of, decided, tried, evaluated, standing, step_by, step_at, step_from, step}
 use Rattle.dp_tree.specs.Iteration.{is_region, decides_zero, leaves}
-pub use Rattle.dp_tree.proofs.SitesOf.{and_make, and_true, keeps_all, keeps_at, keeps_behind, keeps_followed, keeps_out, no_region}
+pub use Rattle.dp_tree.proofs.SitesOf.{everywhere_hidden, and_make, and_true, keeps_all, keeps_at, keeps_behind, keeps_followed, keeps_out, no_region}
 unfoldable pub use Rattle.dp_tree.proofs.SitesOf.{opened_statement}
 
 -- a break that is taken
@@ -176,7 +176,7 @@ module _ (p : Program) (input : List ℤ) where
       record {
         site = b.site_is;
         to_do = to_do_of x rest cells (Region q site cond a) event next b.next_is;
-        tested = λ test r k. ap test b.site_is ∙ (and_true (test site.0) (not (q == r) && keeps_all test r a) k).0;
+        tested = λ test r k. ap test b.site_is ∙ (and_true (test site.0) (not (q == r)) (and_true (test site.0 && not (q == r)) (keeps_all test r a) k).0).0;
         zero = λ r k. decided_zero_is (eval p input cells cond) event.effect b.loads_of b.was;
         left = decided_stays (eval p input cells cond) event.effect b.loads_of b.was;
       }

@@ -1,5 +1,5 @@
 -- A run that begins within `main` stays there.
-use Rattle.std.proofs.Common.{◌≡◌, refl, sym, ap, ◌∙◌, subst, append_assoc, ℕ, zero, suc, Bool, true, false, if◌then◌else◌, List, [], ◌∷◌, ◌++◌, ℤ, pos, ◌<◌, length, Option, Some, None, inl, inr, slice_get, slice_set, Ok, Err, arith}
+use Rattle.std.proofs.Common.{◌≡◌, refl, sym, ap, ◌∙◌, subst, append_assoc, ℕ, zero, suc, Bool, true, false, if◌then◌else◌, List, [], ◌∷◌, ◌++◌, ℤ, pos, length, Option, Some, None, inl, inr, slice_get, slice_set, Ok, Err, arith}
 use Rattle.std.specs.List.{list_all}
 use Rattle.std.proofs.lemmas.Bool.{cases_Bool}
 use Rattle.std.proofs.lemmas.Option.{slice_get_within}
@@ -7,6 +7,7 @@ use Rattle.std.proofs.lemmas.List.{length-set}
 use Rattle.std.proofs.lemmas.List.Folds.{list_all-append}
 use Rattle.dp_base.specs.Arithmetic.{is_zero}
 use Rattle.dp_base.specs.declared.SiteId.{SiteId}
+use Rattle.dp_base.proofs.ListLemmas.{at_index}
 use Rattle.dp_tree.specs.declared.Stmt.{Stmt, out-Stmt}
 use Rattle.dp_tree.specs.declared.Stmt.TheOpen.{Stmt-F, If, While, Region, Break, Call}
 use Rattle.dp_tree.specs.declared.VarInfo.{VarInfo}
@@ -21,12 +22,6 @@ use Rattle.dp_tree.specs.InMain.{StandsInMain, StaysInMain}
 use Rattle.dp_tree.proofs.Heads.{and_true, followed-append, taken, taken_left}
 use Rattle.dp_tree.proofs.Inner.{plain_all, plain_choose, inner_all, inner_plain, inner_left, inner_followed, inner_out, top_at, is_top, all_top}
 use Rattle.dp_tree.proofs.RunLaws.{runs_by_step}
-
--- what stands at a place of a list
-pub at_index : {X : Type 0} (xs : List X) (k : ℕ) → k < length xs → (x : X) × (slice_get xs k ≡ Some x)
-at_index [] k h = absurd (omega (arith, h))
-at_index (x ∷ xs) zero h = (x, refl)
-at_index (x ∷ xs) (suc k) h = at_index xs k (omega (arith, h))
 
 pub stored_length : (effect : Effect) (cells : List ℤ) → length (stored effect cells) ≡ length cells
 stored_length (Stored cell value) cells = length-set cells cell value

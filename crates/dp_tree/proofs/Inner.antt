@@ -7,8 +7,8 @@ use Rattle.dp_tree.specs.declared.Stmt.{Stmt, out-Stmt, roll-Stmt, roll-out-Stmt
 use Rattle.dp_tree.specs.declared.Stmt.TheViews.{rolls-Assign, rolls-Store, rolls-Print, rolls-If, rolls-While, rolls-Region, rolls-Break, rolls-Call}
 use Rattle.dp_tree.specs.declared.Stmt.TheOpen.{Stmt-F, Assign, Store, Print, If, While, Region, Break, Call}
 use Rattle.dp_tree.specs.Step.{choose, followed, behind_region, behind_one, region_number}
-use Rattle.dp_tree.specs.Numbering.{is_plain, is_plain_in, is_inner, is_inner_in, top_fits, next_region, regions_in_order}
-use Rattle.dp_tree.proofs.Heads.{opened_statement, and_true, and_make, taken}
+use Rattle.dp_tree.specs.Numbering.{is_plain, is_plain_at, is_plain_in, is_inner, is_inner_in, top_fits, next_region, regions_in_order}
+use Rattle.dp_tree.proofs.Heads.{everywhere_hidden, opened_statement, and_true, and_make, taken}
 
 abbrev hidden_plain : List Stmt → Bool
 hidden_plain xs = is_plain_in (Rattle.dp_tree.specs.declared.Stmt.TheBlock.hidden-the_row-Stmt-0 xs)
@@ -17,9 +17,7 @@ abbrev pub plain_all : List Stmt → Bool
 plain_all xs = list_all is_plain xs
 
 plain_hidden : (xs : List Stmt) → hidden_plain xs ≡ plain_all xs
-unfolding opened_statement
-plain_hidden [] = refl
-plain_hidden (x ∷ xs) = ap (λ (b : Bool). is_plain x && b) (plain_hidden xs)
+plain_hidden xs = everywhere_hidden is_plain_at xs
 
 abbrev pub plain_at : Stmt-F Stmt → Bool
 plain_at (If site cond a b) = plain_all a && plain_all b

@@ -1,38 +1,36 @@
 -- Statements whose sites pass a test, and what is left of them.
 use Rattle.std.proofs.Common.{◌≡◌, refl, sym, ap, ◌∙◌, ℕ, Bool, true, false, not, ◌&&◌, ◌==◌, if◌then◌else◌, List, [], ◌∷◌, ◌++◌, ℤ, Option, Some, None}
 use Rattle.std.specs.List.{list_all}
+pub use Rattle.std.proofs.lemmas.Bool.{and_from as and_make, and_parts as and_true}
 use Rattle.dp_base.specs.Arithmetic.{is_zero}
 use Rattle.dp_tree.specs.declared.Stmt.{Stmt, out-Stmt, roll-Stmt, roll-out-Stmt}
 use Rattle.dp_tree.specs.declared.Stmt.TheViews.{rolls-Assign, rolls-Store, rolls-Print, rolls-If, rolls-While, rolls-Region, rolls-Break, rolls-Call}
 use Rattle.dp_tree.specs.declared.Stmt.TheOpen.{Stmt-F, Assign, Store, Print, If, While, Region, Break, Call}
 use Rattle.dp_tree.specs.Step.{choose, followed, behind_region, behind_one, region_number}
 use Rattle.dp_tree.specs.Iteration.{is_region}
-use Rattle.dp_tree.specs.RegionLaws.{keeps, keeps_in}
+use Rattle.dp_tree.specs.RegionLaws.{keeps, keeps_own}
+use Rattle.dp_tree.specs.Statements.{everywhere, everywhere_in}
 
 -- what opens where a statement is made
 unfoldable pub opened_statement : Unit {0}
 unfolding Rattle.dp_tree.specs.declared.Stmt.TheBlock.shape-the_row-Stmt-0 Rattle.dp_tree.specs.declared.Stmt.TheBlock.hidden-the_row-Stmt-0 denote.Hole.Carrier.hidden
 opened_statement = tt
 
-pub and_true : (a b : Bool) → (a && b) ≡ true → (a ≡ true) × (b ≡ true)
-and_true true b e = (refl, e)
-and_true false b e = absurd (cc)
-
-pub and_make : (a b : Bool) → a ≡ true → b ≡ true → (a && b) ≡ true
-and_make true b e f = f
-and_make false b e f = absurd (cc)
+-- a test of all that stands in a row
+pub everywhere_hidden : (test : Stmt → Bool) (xs : List Stmt) → everywhere_in test (Rattle.dp_tree.specs.declared.Stmt.TheBlock.hidden-the_row-Stmt-0 xs) ≡ list_all (everywhere test) xs
+unfolding opened_statement
+everywhere_hidden test [] = refl
+everywhere_hidden test (x ∷ xs) = ap (λ (b : Bool). everywhere test x && b) (everywhere_hidden test xs)
 
 abbrev hidden_keeps : (ℕ → Bool) → ℕ → List Stmt → Bool
-hidden_keeps test r xs = keeps_in test r (Rattle.dp_tree.specs.declared.Stmt.TheBlock.hidden-the_row-Stmt-0 xs)
+hidden_keeps test r xs = everywhere_in (keeps_own test r) (Rattle.dp_tree.specs.declared.Stmt.TheBlock.hidden-the_row-Stmt-0 xs)
 
 module _ (test : ℕ → Bool) (r : ℕ) where
   abbrev pub keeps_all : List Stmt → Bool
   keeps_all statements = list_all (keeps test r) statements
 
   keeps_hidden : (xs : List Stmt) → hidden_keeps test r xs ≡ keeps_all xs
-  unfolding opened_statement
-  keeps_hidden [] = refl
-  keeps_hidden (x ∷ xs) = ap (λ (b : Bool). keeps test r x && b) (keeps_hidden xs)
+  keeps_hidden xs = everywhere_hidden (keeps_own test r) xs
 
   abbrev pub keeps_at : Stmt-F Stmt → Bool
   keeps_at (Assign site x e) = test site.0
@@ -40,7 +38,7 @@ module _ (test : ℕ → Bool) (r : ℕ) where
   keeps_at (Print site e) = test site.0
   keeps_at (If site cond a b) = test site.0 && (keeps_all a && keeps_all b)
   keeps_at (While site cond a) = test site.0 && keeps_all a
-  keeps_at (Region q site cond a) = test site.0 && (not (q == r) && keeps_all a)
+  keeps_at (Region q site cond a) = (test site.0 && not (q == r)) && keeps_all a
   keeps_at (Break site cond) = test site.0
   keeps_at (Call f line args) = true
 
@@ -51,7 +49,7 @@ module _ (test : ℕ → Bool) (r : ℕ) where
   keeps_roll (Print site e) = ap (keeps test r) (rolls-Print site e)
   keeps_roll (If site cond a b) = ap (keeps test r) (rolls-If site cond a b) ∙ ap (λ (u : Bool). test site.0 && (u && hidden_keeps test r b)) (keeps_hidden a) ∙ ap (λ (u : Bool). test site.0 && (keeps_all a && u)) (keeps_hidden b)
   keeps_roll (While site cond a) = ap (keeps test r) (rolls-While site cond a) ∙ ap (λ (u : Bool). test site.0 && u) (keeps_hidden a)
-  keeps_roll (Region q site cond a) = ap (keeps test r) (rolls-Region q site cond a) ∙ ap (λ (u : Bool). test site.0 && (not (q == r) && u)) (keeps_hidden a)
+  keeps_roll (Region q site cond a) = ap (keeps test r) (rolls-Region q site cond a) ∙ ap (λ (u : Bool). (test site.0 && not (q == r)) && u) (keeps_hidden a)
   keeps_roll (Break site cond) = ap (keeps test r) (rolls-Break site cond)
   keeps_roll (Call f line args) = ap (keeps test r) (rolls-Call f line args)
 
@@ -86,13 +84,12 @@ module _ (test : ℕ → Bool) (r : ℕ) where
   keeps_followed x rest (While site cond a) z w h k =
       keeps_choose z (a ++ x ∷ rest) rest (keeps-append a (x ∷ rest) (and_true (test site.0) (keeps_all a) h).1 (and_make (keeps test r x) (keeps_all rest) w k)) k
   keeps_followed x rest (Region q site cond a) z w h k =
-      let both = and_true (not (q == r)) (keeps_all a) (and_true (test site.0) (not (q == r) && keeps_all a) h).1 in
-      keeps_choose z (a ++ x ∷ rest) rest (keeps-append a (x ∷ rest) both.1 (and_make (keeps test r x) (keeps_all rest) w k)) k
+      keeps_choose z (a ++ x ∷ rest) rest (keeps-append a (x ∷ rest) (and_true (test site.0 && not (q == r)) (keeps_all a) h).1 (and_make (keeps test r x) (keeps_all rest) w k)) k
   keeps_followed x rest (Break site cond) z w h k = keeps_choose z (behind_region rest) rest (keeps_behind rest k) k
   keeps_followed x rest _ z w h k = k
 
   pub no_region : (h : Stmt-F Stmt) → keeps_at h ≡ true → is_region r h ≡ false
-  no_region (Region q site cond a) w = differs (q == r) (and_true (not (q == r)) (keeps_all a) (and_true (test site.0) (not (q == r) && keeps_all a) w).1).0
+  no_region (Region q site cond a) w = differs (q == r) (and_true (test site.0) (not (q == r)) (and_true (test site.0 && not (q == r)) (keeps_all a) w).0).1
     where
       differs : (b : Bool) → not b ≡ true → b ≡ false
       differs false e = refl

@@ -8,6 +8,7 @@ use Rattle.dp_tree.specs.declared.Expr.TheVariants.{Number, Input', InputLen, Sc
 use Rattle.dp_tree.specs.declared.Stmt.{Stmt, Row_of-Stmt, end_of-Stmt, more_of-Stmt}
 use Rattle.dp_tree.specs.declared.Stmt.TheVariants.{Assign, Store, Print, If', While', Region', Break, Call}
 use Rattle.dp_tree.specs.declared.Program.{Program}
+use Rattle.dp_tree.specs.Statements.{everywhere, everywhere_in}
 use Rattle.dp_tree.specs.Layout.{globals_first, lies_in_order}
 use Rattle.dp_tree.specs.Numbering.{site_numbers_all, numbers_from, regions_in_order, regions_listed, is_small_region}
 use Rattle.dp_tree.specs.SiteTable.{role_of, site_roles_all}
@@ -41,22 +42,24 @@ expr_within n (Binary' op _ (more_of-Expr a end_of-Expr) _ (more_of-Expr b end_o
 expr_within n (And' _ (more_of-Expr a end_of-Expr) _ (more_of-Expr b end_of-Expr)) = expr_within n a && expr_within n b
 expr_within n (Or' _ (more_of-Expr a end_of-Expr) _ (more_of-Expr b end_of-Expr)) = expr_within n a && expr_within n b
 
-abbrev mutual
-  -- the variables that the statement names are among the first n
-  pub stmt_within : ℕ → Stmt → Bool
-  stmt_within n (Assign site x e) = nat_lt x.0 n && expr_within n e
-  stmt_within n (Store site x index e) = nat_lt x.0 n && (expr_within n index && expr_within n e)
-  stmt_within n (Print site e) = expr_within n e
-  stmt_within n (If' site cond _ then_part _ else_part) = expr_within n cond && (rows_within n then_part && rows_within n else_part)
-  stmt_within n (While' site cond _ body) = expr_within n cond && rows_within n body
-  stmt_within n (Region' r site cond _ body) = expr_within n cond && rows_within n body
-  stmt_within n (Break site cond) = expr_within n cond
-  stmt_within n (Call f line args) = list_all (expr_within n) args
+-- the variables that the statement's own site names are among the first n
+abbrev pub names_within : ℕ → Stmt → Bool
+names_within n (Assign site x e) = nat_lt x.0 n && expr_within n e
+names_within n (Store site x index e) = nat_lt x.0 n && (expr_within n index && expr_within n e)
+names_within n (Print site e) = expr_within n e
+names_within n (If' site cond _ then_part _ else_part) = expr_within n cond
+names_within n (While' site cond _ body) = expr_within n cond
+names_within n (Region' r site cond _ body) = expr_within n cond
+names_within n (Break site cond) = expr_within n cond
+names_within n (Call f line args) = list_all (expr_within n) args
 
-  -- the same of several statements
-  pub rows_within : {m : _} → ℕ → Row_of-Stmt m → Bool
-  rows_within n end_of-Stmt = true
-  rows_within n (more_of-Stmt s rest) = stmt_within n s && rows_within n rest
+-- the variables that the statement names are among the first n
+abbrev pub stmt_within : ℕ → Stmt → Bool
+stmt_within n s = everywhere (names_within n) s
+
+-- the same of several statements
+abbrev pub rows_within : {m : _} → ℕ → Row_of-Stmt m → Bool
+rows_within n rows = everywhere_in (names_within n) rows
 
 pub record IsInlined (p : Program) : Type 0 where
   -- the file-scope variables come first, and the cells of all variables one after the other

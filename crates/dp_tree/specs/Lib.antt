@@ -4,6 +4,7 @@ pub mod Step
 pub mod Trace
 pub mod Globals
 pub mod Functions
+pub mod Statements
 pub mod RunLaws
 pub mod Iteration
 pub mod IterationLaws

@@ -6,26 +6,29 @@ use Rattle.dp_tree.specs.declared.RegionInfo.{RegionInfo}
 use Rattle.dp_tree.specs.declared.Program.{Program}
 use Rattle.dp_tree.specs.declared.Stmt.{Stmt, Row_of-Stmt, end_of-Stmt, more_of-Stmt}
 use Rattle.dp_tree.specs.declared.Stmt.TheVariants.{Assign, Store, Print, If', While', Region', Break, Call}
+use Rattle.dp_tree.specs.Statements.{asked, asked_in, everywhere, everywhere_in}
 
-abbrev mutual
-  -- the numbers of the sites of a statement, in text order
-  pub site_numbers : Stmt → List ℕ
-  site_numbers (Assign site x e) = site.0 ∷ []
-  site_numbers (Store site x index e) = site.0 ∷ []
-  site_numbers (Print site e) = site.0 ∷ []
-  site_numbers (If' site cond _ then_part _ else_part) = site.0 ∷ (site_numbers_in then_part ++ site_numbers_in else_part)
-  site_numbers (While' site cond _ body) = site.0 ∷ site_numbers_in body
-  site_numbers (Region' r site cond _ body) = site.0 ∷ site_numbers_in body
-  site_numbers (Break site cond) = site.0 ∷ []
-  site_numbers (Call f line args) = []
+-- the number of the statement's own site
+abbrev pub number_at : Stmt → List ℕ
+number_at (Assign site x e) = site.0 ∷ []
+number_at (Store site x index e) = site.0 ∷ []
+number_at (Print site e) = site.0 ∷ []
+number_at (If' site cond _ then_part _ else_part) = site.0 ∷ []
+number_at (While' site cond _ body) = site.0 ∷ []
+number_at (Region' r site cond _ body) = site.0 ∷ []
+number_at (Break site cond) = site.0 ∷ []
+number_at (Call f line args) = []
 
-  pub site_numbers_in : {n : _} → Row_of-Stmt n → List ℕ
-  site_numbers_in end_of-Stmt = []
-  site_numbers_in (more_of-Stmt s rest) = site_numbers s ++ site_numbers_in rest
+-- the numbers of the sites of a statement, in text order
+abbrev pub site_numbers : Stmt → List ℕ
+site_numbers s = asked number_at s
+
+-- those of several statements
+abbrev pub site_numbers_in : {n : _} → Row_of-Stmt n → List ℕ
+site_numbers_in rows = asked_in number_at rows
 
 abbrev pub site_numbers_all : List Stmt → List ℕ
-site_numbers_all [] = []
-site_numbers_all (s ∷ rest) = site_numbers s ++ site_numbers_all rest
+site_numbers_all all = flat_map site_numbers all
 
 -- so many numbers from this one on
 abbrev pub numbers_from : ℕ → ℕ → List ℕ
@@ -36,21 +39,19 @@ numbers_from first (suc n) = first ∷ numbers_from (first + 1) n
 abbrev pub SitesInOrder : Program → Type 0
 SitesInOrder p = site_numbers_all p.main ++ flat_map (λ f. site_numbers_all f.body) p.functions ≡ numbers_from 1 (length p.sites)
 
-abbrev mutual
-  -- no region and no break stands in the statement
-  pub is_plain : Stmt → Bool
-  is_plain (Assign site x e) = true
-  is_plain (Store site x index e) = true
-  is_plain (Print site e) = true
-  is_plain (If' site cond _ then_part _ else_part) = is_plain_in then_part && is_plain_in else_part
-  is_plain (While' site cond _ body) = is_plain_in body
-  is_plain (Region' r site cond _ body) = false
-  is_plain (Break site cond) = false
-  is_plain (Call f line args) = true
+-- the statement is no region and no break
+abbrev pub is_plain_at : Stmt → Bool
+is_plain_at (Region' r site cond _ body) = false
+is_plain_at (Break site cond) = false
+is_plain_at _ = true
 
-  pub is_plain_in : {n : _} → Row_of-Stmt n → Bool
-  is_plain_in end_of-Stmt = true
-  is_plain_in (more_of-Stmt s rest) = is_plain s && is_plain_in rest
+-- no region and no break stands in the statement
+abbrev pub is_plain : Stmt → Bool
+is_plain s = everywhere is_plain_at s
+
+-- none stands in one of them
+abbrev pub is_plain_in : {n : _} → Row_of-Stmt n → Bool
+is_plain_in rows = everywhere_in is_plain_at rows
 
 -- a statement at the top of a region's body: a break, or a plain one
 abbrev pub is_inner : Stmt → Bool

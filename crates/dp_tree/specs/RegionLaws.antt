@@ -3,10 +3,11 @@ use Rattle.std.specs.Prelude.{◌≡◌, ℕ, ◌-◌, ◌==◌, Bool, true, fal
 use Rattle.std.specs.List.{list_all}
 use Rattle.dp_base.specs.declared.SiteId.{SiteId}
 use Rattle.dp_tree.specs.declared.Expr.{Expr}
-use Rattle.dp_tree.specs.declared.Stmt.{Stmt, Row_of-Stmt, end_of-Stmt, more_of-Stmt}
+use Rattle.dp_tree.specs.declared.Stmt.{Stmt}
 use Rattle.dp_tree.specs.declared.Stmt.TheVariants.{Assign, Store, Print, If', While', Region, Region', Break, Call}
 use Rattle.dp_tree.specs.declared.RegionInfo.{RegionInfo}
 use Rattle.dp_tree.specs.declared.Program.{Program}
+use Rattle.dp_tree.specs.Statements.{everywhere}
 use Rattle.dp_tree.specs.Step.{Event}
 use Rattle.dp_tree.specs.Numbering.{is_inner}
 use Rattle.dp_tree.specs.Trace.{run_of, begin}
@@ -26,22 +27,20 @@ is_site_of p r site = in_range (slice_get p.regions (r - 1)) site
 abbrev pub is_other_site : Program → ℕ → ℕ → Bool
 is_other_site p r site = not (is_site_of p r site)
 
-abbrev mutual
-  -- each site of the statement passes the test, and region r doesn't stand in it
-  pub keeps : (ℕ → Bool) → ℕ → Stmt → Bool
-  keeps test r (Assign site x e) = test site.0
-  keeps test r (Store site x index e) = test site.0
-  keeps test r (Print site e) = test site.0
-  keeps test r (If' site cond _ then_part _ else_part) = test site.0 && (keeps_in test r then_part && keeps_in test r else_part)
-  keeps test r (While' site cond _ body) = test site.0 && keeps_in test r body
-  keeps test r (Region' q site cond _ body) = test site.0 && (not (q == r) && keeps_in test r body)
-  keeps test r (Break site cond) = test site.0
-  keeps test r (Call f line args) = true
+-- the statement's own site passes the test, and the statement isn't region r
+abbrev pub keeps_own : (ℕ → Bool) → ℕ → Stmt → Bool
+keeps_own test r (Assign site x e) = test site.0
+keeps_own test r (Store site x index e) = test site.0
+keeps_own test r (Print site e) = test site.0
+keeps_own test r (If' site cond _ then_part _ else_part) = test site.0
+keeps_own test r (While' site cond _ body) = test site.0
+keeps_own test r (Region' q site cond _ body) = test site.0 && not (q == r)
+keeps_own test r (Break site cond) = test site.0
+keeps_own test r (Call f line args) = true
 
-  -- the same of several statements
-  pub keeps_in : {n : _} → (ℕ → Bool) → ℕ → Row_of-Stmt n → Bool
-  keeps_in test r end_of-Stmt = true
-  keeps_in test r (more_of-Stmt s rest) = keeps test r s && keeps_in test r rest
+-- each site of the statement passes the test, and region r doesn't stand in it
+abbrev pub keeps : (ℕ → Bool) → ℕ → Stmt → Bool
+keeps test r s = everywhere (keeps_own test r) s
 
 -- Region r stands once in `main`, its sites are those of the table, and they stand nowhere else.
 pub record StandsOnce (p : Program) (r : ℕ) : Type 0 where

@@ -6,10 +6,10 @@
 
 use dp_base::{BinOp, Boxed, CellId, Row, SiteId, UnOp, VarId};
 
-mod laws;
+mod law;
 mod raw;
 
-pub use laws::{
+pub use law::{
     a_region_is_its_iterations, a_run_goes_by_steps, a_run_goes_on, iterations_adjoin,
     less_fuel_gives_a_front, runs_stay_in_main,
 };

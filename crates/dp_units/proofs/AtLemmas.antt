@@ -4,7 +4,7 @@ use Rattle.std.proofs.Math.ListN.{set, length-set}
 use Rattle.std.proofs.lemmas.Bool.{cases_lt, cases_eq}
 use Rattle.std.proofs.lemmas.List.{get_or-set_same, get_or-set_other}
 use Rattle.std.proofs.lemmas.Option.{same_Some, slice_get-map, slice_get-get_or, slice_get_past}
-use Rattle.dp_units.specs.Entries.{At, Has}
+use Rattle.dp_units.specs.steps.Entries.{At, Has}
 pub use Rattle.std.proofs.lemmas.Option.{slice_get_within as at_within}
 use Rattle.std.specs.Option.{option_map}
 

@@ -4,10 +4,10 @@ use Rattle.std.proofs.Math.ListN.{set}
 use Rattle.std.proofs.lemmas.Bool.{cases_eq, eq-eqb, ne_eqb}
 use Rattle.std.proofs.lemmas.List.{take_more, drop_more, get_or-set_same, get_or-set_other, get_or-replicate}
 use Rattle.std.proofs.lemmas.List.Elements.{Contains-get_or, Contains-append_left, Contains-push, Contains-push_cases}
-use Rattle.dp_units.specs.Entries.{one_if}
+use Rattle.dp_units.specs.steps.Entries.{one_if}
 use Rattle.dp_units.specs.Graph.{HasEdge, AreWithin}
-use Rattle.dp_units.specs.Rows.{waits_for}
-use Rattle.dp_units.specs.Leaders.{AreLeaders, AreBetween}
+use Rattle.dp_units.specs.steps.Rows.{waits_for}
+use Rattle.dp_units.specs.steps.Leaders.{AreLeaders, AreBetween}
 use Rattle.dp_units.proofs.EnterLemmas.{pair_first, pair_second}
 use Rattle.dp_units.proofs.TakeLemmas.{edge_within}
 use Rattle.dp_units.proofs.CountLemmas.{left_of, at_most_one}

@@ -2,11 +2,11 @@
 use Rattle.std.proofs.Common.{◌≡◌, ◌⊎◌, inl, inr, sym, subst, ◌∙◌, arith, ℕ, zero, suc, ◌<◌, ◌≤◌, ◌+◌, ◌-◌, List, [], ◌∷◌, ◌++◌, length, take, drop}
 use Rattle.std.proofs.lemmas.Bool.{cases_lt}
 use Rattle.std.proofs.lemmas.List.{length-take-le}
-use Rattle.dp_units.specs.Entries.{At, Has}
+use Rattle.dp_units.specs.steps.Entries.{At, Has}
 use Rattle.dp_units.specs.declared.mark.Mark.{Mark}
 use Rattle.dp_units.specs.declared.mark.Mark.TheVariants.{Unseen, OnPath, Closed}
 use Rattle.dp_units.specs.Graph.{HasEdge}
-use Rattle.dp_units.specs.Search.{IsPath, IsSearch, IsSettled, IsUnseen, IsMarked}
+use Rattle.dp_units.specs.steps.Search.{IsPath, IsSearch, IsSettled, IsUnseen, IsMarked}
 use Rattle.dp_units.proofs.AtLemmas.{at_within, at_none, at_one, at_push, at_last, at_kept, at_take, at_front, has_kept, has_push}
 use Rattle.dp_units.proofs.PathLemmas.{down}
 use Rattle.dp_units.proofs.EnterLemmas.{on_path_closed, unseen_closed, same_unit}

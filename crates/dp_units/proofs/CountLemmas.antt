@@ -2,10 +2,10 @@
 use Rattle.std.proofs.Common.{◌≡◌, ◌≢◌, ◌⊎◌, inl, inr, refl, sym, subst, ◌∙◌, ap, arith, ℕ, zero, suc, ◌<◌, ◌≤◌, ◌+◌, ◌==◌, ◌&&◌, if◌then◌else◌, Bool, true, false, List, [], ◌∷◌, length, replicate, slice_index, get_or}
 use Rattle.std.proofs.lemmas.Bool.{cases_eq, eq-eqb, ne_eqb, and_from}
 use Rattle.std.proofs.lemmas.Option.{slice_get-get_or, same_Some}
-use Rattle.dp_units.specs.Entries.{one_if, times}
+use Rattle.dp_units.specs.steps.Entries.{one_if, times}
 use Rattle.dp_units.specs.Graph.{HasEdge}
-use Rattle.dp_units.specs.Rows.{targets, waits_for}
-use Rattle.dp_units.specs.Taking.{left_over}
+use Rattle.dp_units.specs.steps.Rows.{targets, waits_for}
+use Rattle.dp_units.specs.steps.Taking.{left_over}
 
 pub at_most_one : (b : Bool) → one_if b ≤ 1
 at_most_one true = omega arith

@@ -2,12 +2,12 @@
 use Rattle.std.proofs.Common.{◌≡◌, ◌≢◌, inl, inr, sym, subst, ◌∙◌, ap, arith, ℕ, zero, suc, ◌<◌, ◌≤◌, ◌+◌, List, [], length, replicate, slice_index}
 use Rattle.std.proofs.lemmas.Bool.{cases_eq}
 use Rattle.std.proofs.lemmas.List.{get_or-replicate, length-replicate}
-use Rattle.dp_units.specs.Entries.{Has}
+use Rattle.dp_units.specs.steps.Entries.{Has}
 use Rattle.dp_units.specs.Graph.{SameUnit, AreWithin}
 use Rattle.dp_units.specs.Order.{IsOrder, ArePlaces}
-use Rattle.dp_units.specs.Rows.{waits_for}
-use Rattle.dp_units.specs.Leaders.{AreLeaders, AreBetween}
-use Rattle.dp_units.specs.Taking.{IsTaking}
+use Rattle.dp_units.specs.steps.Rows.{waits_for}
+use Rattle.dp_units.specs.steps.Leaders.{AreLeaders, AreBetween}
+use Rattle.dp_units.specs.steps.Taking.{IsTaking}
 use Rattle.dp_units.proofs.AtLemmas.{at_none}
 use Rattle.dp_units.proofs.CountLemmas.{all_left, some_waits}
 use Rattle.dp_units.proofs.TakeLemmas.{edge_within, lead_within, is_taken}

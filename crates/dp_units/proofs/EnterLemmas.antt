@@ -1,11 +1,11 @@
 -- The search meets a node, or settles an edge.
 use Rattle.std.proofs.Common.{◌≡◌, ◌⊎◌, inl, inr, sym, subst, ◌∙◌, ap, arith, ℕ, ◌<◌, ◌≤◌, List, [], ◌∷◌, ◌++◌, length, map}
 use Rattle.std.proofs.Math.ListN.{set, length-set}
-use Rattle.dp_units.specs.Entries.{At, Has, Rises}
+use Rattle.dp_units.specs.steps.Entries.{At, Has, Rises}
 use Rattle.dp_units.specs.declared.mark.Mark.{Mark}
 use Rattle.dp_units.specs.declared.mark.Mark.TheVariants.{Unseen, OnPath, Closed}
 use Rattle.dp_units.specs.Graph.{Walk, HasEdge}
-use Rattle.dp_units.specs.Search.{IsPath, IsSearch, IsSettled, IsUnseen}
+use Rattle.dp_units.specs.steps.Search.{IsPath, IsSearch, IsSettled, IsUnseen}
 use Rattle.dp_units.proofs.AtLemmas.{at_within, at_one, at_push, at_last, at_kept, at_append, at_map, at_mapped, at_set, at_unset, get_set_same, has_kept, has_added, has_append, has_push}
 use Rattle.dp_units.proofs.PathLemmas.{longer, joined}
 

@@ -5,15 +5,15 @@ use Rattle.std.specs.declared.alloc.Global.{Global}
 use Rattle.std.proofs.lemmas.Bool.{cases_eq}
 use Rattle.std.proofs.lemmas.List.{length_push, length-append, length-map, length-take-le}
 use Rattle.std.proofs.lemmas.Option.{slice_get_read}
-use Rattle.dp_units.specs.Entries.{At, Has}
+use Rattle.dp_units.specs.steps.Entries.{At, Has}
 use Rattle.dp_units.specs.declared.mark.Mark.{Mark}
 use Rattle.dp_units.specs.declared.mark.Mark.TheVariants.{Unseen, OnPath, Closed}
 use Rattle.dp_units.specs.declared.search.Search.{Search}
 use Rattle.dp_units.specs.Graph.{Walk, HasEdge}
 use Rattle.dp_units.specs.Graph.Walk.{along}
-use Rattle.dp_units.specs.Rows.{targets, IsGraph}
-use Rattle.dp_units.specs.Search.{IsSearch, IsSettled, IsUnseen, IsMarked}
-use Rattle.dp_units.specs.Steps.{edges_from, rows_left, IsGoing, IsLastGroup, LeadsOn, IsDone, HasEntered, HasJoined, HasGone}
+use Rattle.dp_units.specs.steps.Rows.{targets, IsGraph}
+use Rattle.dp_units.specs.steps.Search.{IsSearch, IsSettled, IsUnseen, IsMarked}
+use Rattle.dp_units.specs.steps.Steps.{edges_from, rows_left, IsGoing, IsLastGroup, LeadsOn, IsDone, HasEntered, HasJoined, HasGone}
 use Rattle.dp_units.proofs.AtLemmas.{at_within, at_one, at_none, at_push, at_last, get_set_same, some_at}
 use Rattle.dp_units.proofs.PathLemmas.{to_last}
 use Rattle.dp_units.proofs.EnterLemmas.{entered, unseen_before, regrouped, grown, settled, unseen_on_path}

@@ -2,13 +2,13 @@
 use Rattle.std.proofs.Common.{◌≡◌, inl, inr, refl, sym, subst, ◌∙◌, ap, arith, ℕ, ◌<◌, ◌≤◌, ◌+◌, List, [], ◌∷◌, ◌++◌, length, Option, Some, None, slice_get, slice_index, Result, Ok, Err, IfOk}
 use Rattle.std.proofs.lemmas.Bool.{cases_eq}
 use Rattle.std.proofs.lemmas.List.{get_or_push, get_or_append_left}
-use Rattle.dp_units.specs.Entries.{At}
+use Rattle.dp_units.specs.steps.Entries.{At}
 use Rattle.dp_units.specs.declared.mark.Mark.{Mark}
 use Rattle.dp_units.specs.declared.mark.Mark.TheVariants.{Unseen, OnPath, Closed}
 use Rattle.dp_units.specs.Graph.{Walk, AreWithin}
 use Rattle.dp_units.specs.Graph.Walk.{stay, along}
-use Rattle.dp_units.specs.Search.{IsSearch, IsUnseen}
-use Rattle.dp_units.specs.Leaders.{AreLeaders}
+use Rattle.dp_units.specs.steps.Search.{IsSearch, IsUnseen}
+use Rattle.dp_units.specs.steps.Leaders.{AreLeaders}
 use Rattle.dp_units.proofs.AtLemmas.{at_within, at_one, at_none, some_at}
 use Rattle.dp_units.proofs.EnterLemmas.{same_unit}
 use Rattle.dp_units.proofs.TakeLemmas.{edge_within}

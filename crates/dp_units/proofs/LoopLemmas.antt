@@ -5,12 +5,12 @@ use Rattle.std.specs.declared.alloc.Global.{Global}
 use Rattle.std.proofs.lemmas.Bool.{cases_lt, cases_eq, eq-eqb, ne_eqb}
 use Rattle.std.proofs.lemmas.List.{take_more, drop_more, append_assoc, append-nil, take_at, length_push, drop_all}
 use Rattle.std.proofs.lemmas.Option.{slice_get-get_or}
-use Rattle.dp_units.specs.Entries.{At, Has}
+use Rattle.dp_units.specs.steps.Entries.{At, Has}
 use Rattle.dp_units.specs.declared.mark.Mark.{Mark}
 use Rattle.dp_units.specs.declared.mark.Mark.TheVariants.{Closed}
 use Rattle.dp_units.specs.Graph.{AreWithin}
-use Rattle.dp_units.specs.Rows.{targets, IsGraph}
-use Rattle.dp_units.specs.Search.{IsMarked}
+use Rattle.dp_units.specs.steps.Rows.{targets, IsGraph}
+use Rattle.dp_units.specs.steps.Search.{IsMarked}
 use Rattle.dp_units.proofs.AtLemmas.{at_one, at_push, at_last, at_kept, at_set, at_unset, get_set_same, has_kept}
 
 pub item_at : {X : Type 0} (xs : List X) (i : ℕ) (d : X) → i < length xs → At xs i (slice_index_or xs i d)

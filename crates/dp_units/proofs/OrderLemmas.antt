@@ -6,11 +6,11 @@ use Rattle.std.specs.Ordering.{nat_cmp}
 use Rattle.std.specs.BTreeMap.Range.{IsLtBy}
 use Rattle.std.proofs.lemmas.Grind.{common_steps}
 use Rattle.std.proofs.lemmas.Option.{slice_get_read}
-use Rattle.dp_units.specs.Entries.{At, Has, times}
+use Rattle.dp_units.specs.steps.Entries.{At, Has, times}
 use Rattle.dp_units.specs.Graph.{HasEdge, AreWithin}
-use Rattle.dp_units.specs.Rows.{targets, IsGraph}
-use Rattle.dp_units.specs.Leaders.{AreLeaders, AreBetween}
-use Rattle.dp_units.specs.Taking.{MayBeTaken, IsTaking, left_over}
+use Rattle.dp_units.specs.steps.Rows.{targets, IsGraph}
+use Rattle.dp_units.specs.steps.Leaders.{AreLeaders, AreBetween}
+use Rattle.dp_units.specs.steps.Taking.{MayBeTaken, IsTaking, left_over}
 use Rattle.dp_units.proofs.AtLemmas.{at_within, at_one}
 use Rattle.dp_units.proofs.LoopLemmas.{item_at}
 use Rattle.dp_units.proofs.FreeLemmas.{has_first}

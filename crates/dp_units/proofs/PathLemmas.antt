@@ -2,10 +2,10 @@
 use Rattle.std.proofs.Common.{◌≡◌, ◌≢◌, inl, inr, sym, subst, arith, ℕ, zero, suc, ◌≤◌, ◌+◌, List, [], ◌∷◌, ◌++◌, length}
 use Rattle.std.proofs.lemmas.Bool.{cases_lt, cases_eq}
 use Rattle.std.proofs.lemmas.List.{length_push}
-use Rattle.dp_units.specs.Entries.{At, Has, Rises}
+use Rattle.dp_units.specs.steps.Entries.{At, Has, Rises}
 use Rattle.dp_units.specs.Graph.{Walk, HasEdge}
 use Rattle.dp_units.specs.Graph.Walk.{stay, along}
-use Rattle.dp_units.specs.Search.{IsPath}
+use Rattle.dp_units.specs.steps.Search.{IsPath}
 use Rattle.dp_units.proofs.AtLemmas.{at_within, at_push, at_last, has_kept, some_at}
 
 pub walk_on : (edges : List (ℕ × ℕ)) {a b c : ℕ} → Walk edges a b → Walk edges b c → Walk edges a c

@@ -4,13 +4,13 @@ use Rattle.std.proofs.Math.ListN.{set}
 use Rattle.std.specs.declared.alloc.Global.{Global}
 use Rattle.std.proofs.lemmas.Bool.{cases_eq, eq-eqb, ne_eqb}
 use Rattle.std.proofs.lemmas.Option.{same_Some}
-use Rattle.dp_units.specs.Entries.{At, Has}
+use Rattle.dp_units.specs.steps.Entries.{At, Has}
 use Rattle.dp_units.specs.declared.mark.Mark.{Mark}
 use Rattle.dp_units.specs.declared.mark.Mark.TheVariants.{Unseen, OnPath, Closed}
 use Rattle.dp_units.specs.Graph.{HasEdge}
-use Rattle.dp_units.specs.Rows.{targets}
-use Rattle.dp_units.specs.Search.{IsUnseen}
-use Rattle.dp_units.specs.Steps.{rows_left}
+use Rattle.dp_units.specs.steps.Rows.{targets}
+use Rattle.dp_units.specs.steps.Search.{IsUnseen}
+use Rattle.dp_units.specs.steps.Steps.{rows_left}
 use Rattle.dp_units.proofs.AtLemmas.{at_none}
 use Rattle.dp_units.proofs.EnterLemmas.{unseen_on_path, unseen_closed}
 use Rattle.dp_units.proofs.CountLemmas.{first_edge, later_edge}

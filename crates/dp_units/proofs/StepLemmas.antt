@@ -3,12 +3,12 @@ use Rattle.std.proofs.Common.{◌≡◌, ◌≢◌, ◌⊎◌, inl, inr, refl, s
 use Rattle.std.proofs.Math.ListN.{set, length-set}
 use Rattle.std.proofs.lemmas.Bool.{cases_eq}
 use Rattle.std.proofs.lemmas.List.{get_or_append_left, get_or_push, take-append-le, take_all, length_push, get_or-set_same, get_or-set_other}
-use Rattle.dp_units.specs.Entries.{Has, times}
+use Rattle.dp_units.specs.steps.Entries.{Has, times}
 use Rattle.dp_units.specs.Graph.{AreWithin}
 use Rattle.dp_units.specs.Order.{IsNext}
-use Rattle.dp_units.specs.Rows.{targets, waits_for}
-use Rattle.dp_units.specs.Leaders.{AreLeaders, AreBetween}
-use Rattle.dp_units.specs.Taking.{MayBeTaken, IsTaking, left_over}
+use Rattle.dp_units.specs.steps.Rows.{targets, waits_for}
+use Rattle.dp_units.specs.steps.Leaders.{AreLeaders, AreBetween}
+use Rattle.dp_units.specs.steps.Taking.{MayBeTaken, IsTaking, left_over}
 use Rattle.dp_units.proofs.CountLemmas.{left_over_lt, some_left, fewer_wait, edge_of}
 use Rattle.dp_units.proofs.TakeLemmas.{edge_within, lead_within, is_next}
 

@@ -1,13 +1,13 @@
 -- Taking the least free leader again and again gives the order.
 use Rattle.std.proofs.Common.{◌≡◌, ◌≢◌, ◌⊎◌, inl, inr, sym, subst, ◌∙◌, ap, arith, ℕ, ◌<◌, ◌≤◌, List, slice_index}
 use Rattle.std.proofs.lemmas.Bool.{cases_eq}
-use Rattle.dp_units.specs.Entries.{Has}
+use Rattle.dp_units.specs.steps.Entries.{Has}
 use Rattle.dp_units.specs.Graph.{Walk, HasEdge, AreWithin}
 use Rattle.dp_units.specs.Graph.Walk.{stay, along}
 use Rattle.dp_units.specs.Order.{IsTaken, IsNext}
-use Rattle.dp_units.specs.Rows.{waits_for}
-use Rattle.dp_units.specs.Leaders.{AreLeaders, AreBetween}
-use Rattle.dp_units.specs.Taking.{MayBeTaken, IsTaking}
+use Rattle.dp_units.specs.steps.Rows.{waits_for}
+use Rattle.dp_units.specs.steps.Leaders.{AreLeaders, AreBetween}
+use Rattle.dp_units.specs.steps.Taking.{MayBeTaken, IsTaking}
 use Rattle.dp_units.proofs.CountLemmas.{none_waits, some_waits, or_any}
 
 pub edge_within : (n : ℕ) (edges : List (ℕ × ℕ)) → AreWithin n edges → (a b : ℕ) → HasEdge edges a b → (a < n) × (b < n)

@@ -1,8 +1,8 @@
 //! The edges between units.
 ghost use Rattle.std.specs.Prelude.{◌≡◌, ◌≢◌, ◌++◌, ◌<◌, [], ◌∷◌, ℕ, length, replicate, slice_index, IfOk, OnOk};
 ghost use Rattle.dp_units.specs.Graph.{AreWithin};
-ghost use Rattle.dp_units.specs.Leaders.{AreBetween};
-ghost use Rattle.dp_units.specs.Rows.{waits_for};
+ghost use Rattle.dp_units.specs.steps.Leaders.{AreBetween};
+ghost use Rattle.dp_units.specs.steps.Rows.{waits_for};
 
 use dp_base::NoMemory;
 use std::alloc::Global;

@@ -1,7 +1,7 @@
 //! The units and their order.
 ghost use Rattle.std.specs.Prelude.{◌≡◌, ◌<◌, ℕ, length, slice_index, IfOk};
 ghost use Rattle.dp_units.specs.Graph.{AreWithin};
-ghost use Rattle.dp_units.specs.Leaders.{AreLeaders};
+ghost use Rattle.dp_units.specs.steps.Leaders.{AreLeaders};
 ghost use Rattle.dp_units.specs.Order.{IsOrder, ArePlaces};
 
 use crate::between::{edges_between, entering};

@@ -1,6 +1,6 @@
 //! The leaders that may be taken.
 ghost use Rattle.std.specs.Prelude.{◌≡◌, ◌≢◌, ◌⊎◌, ◌↔◌, ◌+◌, ◌<◌, ◌≤◌, ℕ, length, slice_index, IfOk, OnOk};
-ghost use Rattle.dp_units.specs.Entries.{At, Has, times};
+ghost use Rattle.dp_units.specs.steps.Entries.{At, Has, times};
 
 use dp_base::NoMemory;
 use std::alloc::Global;

@@ -1,7 +1,7 @@
 //! A graph, by its edges and by the rows of its nodes.
 ghost use Rattle.std.specs.Prelude.{◌≡◌, ◌++◌, [], ◌∷◌, length, All, IfOk, OnOk};
 ghost use Rattle.dp_units.specs.Graph.{AreWithin};
-ghost use Rattle.dp_units.specs.Rows.{IsGraph};
+ghost use Rattle.dp_units.specs.steps.Rows.{IsGraph};
 
 use dp_base::NoMemory;
 use std::alloc::Global;

@@ -1,12 +1,12 @@
 //! The leader of each node: the least node of its unit.
 ghost use Rattle.std.specs.Prelude.{◌≡◌, ◌<◌, [], ℕ, length, slice_index, IfOk};
-ghost use Rattle.dp_units.specs.Entries.{At};
+ghost use Rattle.dp_units.specs.steps.Entries.{At};
 ghost use Rattle.dp_units.specs.declared.mark.Mark.{Mark};
 ghost use Rattle.dp_units.specs.declared.mark.Mark.TheVariants.{Closed};
-ghost use Rattle.dp_units.specs.Leaders.{AreLeaders};
-ghost use Rattle.dp_units.specs.Rows.{IsGraph};
-ghost use Rattle.dp_units.specs.Search.{IsUnseen};
-ghost use Rattle.dp_units.specs.Steps.{IsGoing};
+ghost use Rattle.dp_units.specs.steps.Leaders.{AreLeaders};
+ghost use Rattle.dp_units.specs.steps.Rows.{IsGraph};
+ghost use Rattle.dp_units.specs.steps.Search.{IsUnseen};
+ghost use Rattle.dp_units.specs.steps.Steps.{IsGoing};
 
 use crate::graph::Graph;
 use crate::mark::Mark;

@@ -6,11 +6,11 @@
 ghost use Rattle.std.specs.Prelude.{◌≡◌, ◌≢◌, ◌<◌, ◌≤◌, ◌-◌, ◌++◌, [], ◌∷◌, ℕ, List, Vec, length, take, drop, replicate, IfOk, OnOk, IfSome, IfNone};
 ghost use Rattle.std.specs.declared.alloc.Global.{Global};
 ghost use Rattle.std.specs.declared.option.Option.TheVariants.{Some};
-ghost use Rattle.dp_units.specs.Entries.{At, Has, Rises};
+ghost use Rattle.dp_units.specs.steps.Entries.{At, Has, Rises};
 ghost use Rattle.dp_units.specs.declared.mark.Mark.TheVariants.{Unseen, Closed};
-ghost use Rattle.dp_units.specs.Rows.{IsGraph};
-ghost use Rattle.dp_units.specs.Search.{IsUnseen, IsMarked};
-ghost use Rattle.dp_units.specs.Steps.{edges_from, IsGoing, IsLastGroup, LeadsOn, IsDone, HasEntered, HasJoined, HasGone};
+ghost use Rattle.dp_units.specs.steps.Rows.{IsGraph};
+ghost use Rattle.dp_units.specs.steps.Search.{IsUnseen, IsMarked};
+ghost use Rattle.dp_units.specs.steps.Steps.{edges_from, IsGoing, IsLastGroup, LeadsOn, IsDone, HasEntered, HasJoined, HasGone};
 
 use crate::graph::Graph;
 use crate::mark::Mark;

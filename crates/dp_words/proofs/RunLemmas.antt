@@ -13,7 +13,7 @@ use Rattle.dp_words.proofs.PassLemmas.{Each, HasParser, value_passes}
 use Rattle.dp_words.proofs.SimpleRows.{gen_has_simple_rules, gen_is_plain, gen_lane, gen_seed, gen_size, gen_workers, plan_has_simple_rules, plan_is_plain, plan_rate, plan_stages, plan_workers, profile_fuel, profile_has_simple_rules, profile_is_plain, run_fuel, run_has_simple_rules, run_is_plain, run_lane, run_rate, run_stages, run_workers}
 use Rattle.dp_words.proofs.VerbLemmas.{apart}
 use Rattle.dp_words.specs.Commands.{IsTaken, gen_app, plan_app, profile_app, run_app, value_in}
-use Rattle.dp_words.specs.Reading.{HoldsMade, HoldsOptions, HoldsProfiling, HoldsRun, values_of}
+use Rattle.dp_words.specs.steps.Reading.{HoldsMade, HoldsOptions, HoldsProfiling, HoldsRun, values_of}
 use Rattle.dp_words.specs.Words.{Names}
 use Rattle.dp_words.specs.Values.{Values, default_fuel, default_rate, default_stages, number_in, number_or, options_in}
 use Rattle.dp_words.specs.Run.{Run, ShowsRun, source_of}

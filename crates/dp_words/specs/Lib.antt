@@ -6,4 +6,4 @@ pub mod Planning
 pub mod Sites
 pub mod Profiling
 pub mod Made
-pub mod Reading
+pub mod steps

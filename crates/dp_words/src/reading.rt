@@ -6,7 +6,7 @@ ghost use Rattle.dp_words.specs.Run.{Run, RunWithin, ShowsRun, shown, shown_sour
 ghost use Rattle.dp_words.specs.Planning.{Planning, ShowsPlanning, shown_planning};
 ghost use Rattle.dp_words.specs.Profiling.{Profiling, ProfilingWithin, ShowsProfiling, shown_profiling};
 ghost use Rattle.dp_words.specs.Made.{MadeWithin, ShowsMade};
-ghost use Rattle.dp_words.specs.Reading.{FitsIn, HoldsMade, HoldsOptions, HoldsProfiling, HoldsRun, values_of};
+ghost use Rattle.dp_words.specs.steps.Reading.{FitsIn, HoldsMade, HoldsOptions, HoldsProfiling, HoldsRun, values_of};
 ghost use Rattle.dp_words.specs.declared.task.GenWords.{GenWords};
 
 use crate::task::{GenWords, PlanOptions, PlanSource, PlanWords, ProfileWords, RunWords};

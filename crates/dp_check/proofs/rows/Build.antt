@@ -33,7 +33,7 @@ say line e = stmt.Print line e
 -- what opens where a tree with names is read: `unfolding names_opened`
 unfoldable pub names_opened : Unit {0}
 unfolding
-    Rattle.dp_check.specs.Verdict.verdict
+    Rattle.dp_check.specs.CheckAnswer.check_answer
     Rattle.dp_tree.specs.declared.raw.RawStmt.TheViews.out-RawStmt denote.Hole.Carrier.out
     Rattle.dp_tree.specs.declared.raw.RawExpr.TheBlock.shape-the_row-RawExpr-0 Rattle.dp_tree.specs.declared.raw.RawExpr.TheBlock.hidden-the_row-RawExpr-0
     Rattle.dp_tree.specs.declared.raw.RawStmt.TheBlock.shape-the_row-RawStmt-0 Rattle.dp_tree.specs.declared.raw.RawStmt.TheBlock.hidden-the_row-RawStmt-0

@@ -20,7 +20,7 @@ use Rattle.dp_check.specs.declared.fail.CheckFail.TheVariants.{Unknown, Twice}
 use Rattle.dp_check.specs.Offence.{Token, first_offence}
 use Rattle.dp_check.specs.Tokens.{tokens_all}
 use Rattle.dp_check.specs.Checked.{breaks_fit}
-use Rattle.dp_check.specs.Verdict.{names_of, resolved, verdict}
+use Rattle.dp_check.specs.CheckAnswer.{names_of, resolved, check_answer}
 use Rattle.dp_check.proofs.rows.Build.{on, var, num, add, declare, set, say, names_opened}
 
 abbrev i : ℕ → RawExpr
@@ -30,7 +30,7 @@ abbrev text : List RawStmt → RawProgram
 text main = record { items = []; main = main }
 
 abbrev answer : List RawStmt → Result Program CheckFail
-answer main = verdict (text main)
+answer main = check_answer (text main)
 
 -- 3 for (
 -- 4   int i = 0;

@@ -17,7 +17,7 @@ use Rattle.dp_tree.specs.declared.raw.RawProgram.{RawProgram}
 use Rattle.dp_tree.proofs.Build as numbered
 use Rattle.dp_check.specs.declared.names.Meaning.TheVariants.{Scalar}
 use Rattle.dp_check.specs.Resolved.{resolved_expr}
-use Rattle.dp_check.specs.Verdict.{resolved}
+use Rattle.dp_check.specs.CheckAnswer.{resolved}
 use Rattle.dp_check.proofs.rows.Build.{on, var, num, declare, set, say, names_opened}
 
 -- 1  int n = -3;  int a[4];

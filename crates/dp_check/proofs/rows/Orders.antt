@@ -16,7 +16,7 @@ use Rattle.dp_check.specs.Offence.{Token}
 use Rattle.dp_check.specs.Tokens.{expr_tokens, tokens_all}
 use Rattle.dp_check.specs.Answer.{Gives}
 use Rattle.dp_check.specs.Limits.{reported}
-use Rattle.dp_check.specs.Verdict.{verdict}
+use Rattle.dp_check.specs.CheckAnswer.{check_answer}
 use Rattle.dp_check.proofs.rows.Build.{on, var, num, add, declare, set, say, names_opened}
 
 abbrev lines_of : List Token → List ℕ
@@ -44,7 +44,7 @@ functions zero = []
 functions (suc n) = functions n ++ item.Function (on 1 (102 ∷ n ∷ [])) [] [] ∷ []
 
 abbrev answer : List RawItem → List RawStmt → Result Program CheckFail
-answer items main = verdict (record { items = items; main = main })
+answer items main = check_answer (record { items = items; main = main })
 
 abbrev large : List RawItem
 large = item.Array (on 1 (codes "a")) (pos 65530) ∷ item.Scalar (on 1 (codes "s")) (pos 3) ∷ item.Array (on 1 (codes "b")) (pos 6) ∷ []

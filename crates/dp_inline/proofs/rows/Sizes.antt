@@ -9,7 +9,7 @@ use Rattle.dp_tree.proofs.Build.{num, set, set_at, say, loop, region, call, func
 use Rattle.dp_inline.specs.declared.fail.InlineFail.{InlineFail}
 use Rattle.dp_inline.specs.declared.fail.InlineFail.TheVariants.{Limit, NoMemory}
 use Rattle.dp_inline.specs.Size.{inlined_size, site_total, region_size}
-use Rattle.dp_inline.specs.Verdict.{reported, Gives, too_large, first_large_region, verdict}
+use Rattle.dp_inline.specs.InlineAnswer.{reported, Gives, too_large, first_large_region, inline_answer}
 
 abbrev with_main : List Function → List Stmt → Program
 with_main functions main = with_functions functions (program [] [] [] main)
@@ -93,8 +93,8 @@ unfolding tree_opened
 first_region = refl
 
 -- the size of the whole program comes before that of a region
-both : verdict (with_main (printing 13) (region 1 1 (num 1) (call 13 1 [] ∷ []) ∷ [])) ≡ Err (Limit InlinedSize 24576)
-unfolding tree_opened verdict
+both : inline_answer (with_main (printing 13) (region 1 1 (num 1) (call 13 1 [] ∷ []) ∷ [])) ≡ Err (Limit InlinedSize 24576)
+unfolding tree_opened inline_answer
 both = refl
 
 -- what an outcome says of the answer, written out

@@ -5,7 +5,7 @@ use Rattle.dp_lex.specs.Characters.{Text}
 use Rattle.dp_lex.specs.Token.{Lexeme}
 use Rattle.dp_lex.specs.Tokens.{Tokens, RefusedAt}
 use Rattle.dp_tree.specs.declared.raw.RawProgram.{RawProgram}
-use Rattle.dp_parse.specs.declared.error.ParseFail.TheVariants.{Lex, TooDeep, Refused}
+use Rattle.dp_parse.specs.declared.fail.ParseFail.TheVariants.{Lex, TooDeep, Refused}
 use Rattle.dp_parse.specs.Depth.{depth_fault}
 use Rattle.dp_parse.specs.Programs.{Derives}
 use Rattle.dp_parse.specs.Parses.{Parses, LeavesAt}

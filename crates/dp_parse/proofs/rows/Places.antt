@@ -3,7 +3,7 @@ use Rattle.std.proofs.Common.{◌≡◌, refl, ℕ, ◌-◌, length, [], ◌∷�
 use Rattle.dp_lex.specs.Characters.{Text}
 use Rattle.dp_tree.specs.declared.raw.RawProgram.{RawProgram}
 use Rattle.dp_tokens.specs.Steps.{Outcome}
-use Rattle.dp_parse.specs.descent.Programs.{program}
+use Rattle.dp_parse.specs.steps.Programs.{program}
 use Rattle.dp_parse.proofs.rows.Build.{split}
 use Rattle.dp_parse.proofs.rows.Trees.{reading_opened}
 

@@ -11,31 +11,31 @@ use Rattle.dp_tree.specs.declared.raw.RawStmt.TheVariants as stmt
 use Rattle.dp_tree.specs.declared.raw.RawItem.TheVariants as item
 use Rattle.dp_tree.specs.declared.raw.RawProgram.{RawProgram}
 use Rattle.dp_tokens.specs.Steps.{Outcome}
-use Rattle.dp_parse.specs.descent.Expressions.{whole}
-use Rattle.dp_parse.specs.descent.Programs.{program}
+use Rattle.dp_parse.specs.steps.Expressions.{whole}
+use Rattle.dp_parse.specs.steps.Programs.{program}
 use Rattle.dp_parse.proofs.rows.Build.{split}
 
 -- what opens where a text is read: `unfolding reading_opened`
 unfoldable pub reading_opened : Unit {0}
 unfolding
-    Rattle.dp_tokens.specs.Symbols.symbol Rattle.dp_tokens.specs.Symbols.symbol_at Rattle.dp_tokens.specs.Steps.same_symbol Rattle.dp_parse.specs.descent.Operators.same_level
-    Rattle.dp_parse.specs.descent.Operators.join_at Rattle.dp_parse.specs.descent.Operators.prefix_at Rattle.dp_tokens.specs.Steps.rest Rattle.dp_tokens.specs.Steps.sees
+    Rattle.dp_tokens.specs.Symbols.symbol Rattle.dp_tokens.specs.Symbols.symbol_at Rattle.dp_tokens.specs.Steps.same_symbol Rattle.dp_parse.specs.steps.Operators.same_level
+    Rattle.dp_parse.specs.steps.Operators.join_at Rattle.dp_parse.specs.steps.Operators.prefix_at Rattle.dp_tokens.specs.Steps.rest Rattle.dp_tokens.specs.Steps.sees
     Rattle.dp_tokens.specs.Steps.after Rattle.dp_tokens.specs.Steps.expect Rattle.dp_tokens.specs.Steps.name Rattle.dp_tokens.specs.Numbers.number_value
     Rattle.dp_tokens.specs.Numbers.number Rattle.dp_tokens.specs.Numbers.next_number Rattle.dp_tokens.specs.Numbers.sees_zero Rattle.dp_tokens.specs.Numbers.negated Rattle.dp_tokens.specs.Steps.separated Rattle.dp_tokens.specs.Steps.many
-    Rattle.dp_parse.specs.descent.Expressions.chain Rattle.dp_parse.specs.descent.Expressions.variable Rattle.dp_parse.specs.descent.Expressions.parenthesized Rattle.dp_parse.specs.descent.Expressions.primary
-    Rattle.dp_parse.specs.descent.Expressions.level_of Rattle.dp_parse.specs.descent.Expressions.expression Rattle.dp_parse.specs.descent.Expressions.nested Rattle.dp_parse.specs.descent.Expressions.whole
-    Rattle.dp_parse.specs.descent.Expressions.list Rattle.dp_parse.specs.descent.Statements.condition Rattle.dp_parse.specs.descent.Heads.value Rattle.dp_parse.specs.descent.Heads.declare
-    Rattle.dp_parse.specs.descent.Heads.store Rattle.dp_parse.specs.descent.Heads.assign Rattle.dp_parse.specs.descent.Heads.simple Rattle.dp_parse.specs.descent.Heads.first Rattle.dp_parse.specs.descent.Heads.head
-    Rattle.dp_parse.specs.descent.Statements.declaration Rattle.dp_parse.specs.descent.Statements.counted Rattle.dp_parse.specs.descent.Regions.repeated Rattle.dp_parse.specs.descent.Regions.counted
-    Rattle.dp_parse.specs.descent.Statements.arguments Rattle.dp_parse.specs.descent.Statements.call Rattle.dp_parse.specs.descent.Statements.named
-    Rattle.dp_parse.specs.descent.Statements.print Rattle.dp_parse.specs.descent.Statements.block Rattle.dp_parse.specs.descent.Statements.repeated Rattle.dp_parse.specs.descent.Statements.otherwise
-    Rattle.dp_parse.specs.descent.Statements.choice Rattle.dp_parse.specs.descent.Statements.statement Rattle.dp_parse.specs.descent.Programs.start Rattle.dp_parse.specs.descent.Programs.array
-    Rattle.dp_parse.specs.descent.Programs.variable Rattle.dp_parse.specs.descent.Programs.param Rattle.dp_parse.specs.descent.Programs.params Rattle.dp_parse.specs.descent.Programs.function
-    Rattle.dp_parse.specs.descent.Programs.top Rattle.dp_parse.specs.descent.Programs.returned Rattle.dp_parse.specs.descent.Programs.end Rattle.dp_parse.specs.descent.Programs.ends
-    Rattle.dp_parse.specs.descent.Programs.main_part Rattle.dp_parse.specs.descent.Programs.part Rattle.dp_parse.specs.descent.Programs.program_from Rattle.dp_parse.specs.descent.Programs.program
-    Rattle.dp_parse.specs.descent.Regions.bare Rattle.dp_parse.specs.descent.Regions.braced Rattle.dp_parse.specs.descent.Regions.leads_out
-    Rattle.dp_parse.specs.descent.Regions.branches Rattle.dp_parse.specs.descent.Regions.tested Rattle.dp_parse.specs.descent.Regions.branch
-    Rattle.dp_parse.specs.descent.Regions.inside Rattle.dp_parse.specs.descent.Regions.body Rattle.dp_parse.specs.descent.Regions.region
+    Rattle.dp_parse.specs.steps.Expressions.chain Rattle.dp_parse.specs.steps.Expressions.variable Rattle.dp_parse.specs.steps.Expressions.parenthesized Rattle.dp_parse.specs.steps.Expressions.primary
+    Rattle.dp_parse.specs.steps.Expressions.level_of Rattle.dp_parse.specs.steps.Expressions.expression Rattle.dp_parse.specs.steps.Expressions.nested Rattle.dp_parse.specs.steps.Expressions.whole
+    Rattle.dp_parse.specs.steps.Expressions.list Rattle.dp_parse.specs.steps.Statements.condition Rattle.dp_parse.specs.steps.Heads.value Rattle.dp_parse.specs.steps.Heads.declare
+    Rattle.dp_parse.specs.steps.Heads.store Rattle.dp_parse.specs.steps.Heads.assign Rattle.dp_parse.specs.steps.Heads.simple Rattle.dp_parse.specs.steps.Heads.first Rattle.dp_parse.specs.steps.Heads.head
+    Rattle.dp_parse.specs.steps.Statements.declaration Rattle.dp_parse.specs.steps.Statements.counted Rattle.dp_parse.specs.steps.Regions.repeated Rattle.dp_parse.specs.steps.Regions.counted
+    Rattle.dp_parse.specs.steps.Statements.arguments Rattle.dp_parse.specs.steps.Statements.call Rattle.dp_parse.specs.steps.Statements.named
+    Rattle.dp_parse.specs.steps.Statements.print Rattle.dp_parse.specs.steps.Statements.block Rattle.dp_parse.specs.steps.Statements.repeated Rattle.dp_parse.specs.steps.Statements.otherwise
+    Rattle.dp_parse.specs.steps.Statements.choice Rattle.dp_parse.specs.steps.Statements.statement Rattle.dp_parse.specs.steps.Programs.start Rattle.dp_parse.specs.steps.Programs.array
+    Rattle.dp_parse.specs.steps.Programs.variable Rattle.dp_parse.specs.steps.Programs.param Rattle.dp_parse.specs.steps.Programs.params Rattle.dp_parse.specs.steps.Programs.function
+    Rattle.dp_parse.specs.steps.Programs.top Rattle.dp_parse.specs.steps.Programs.returned Rattle.dp_parse.specs.steps.Programs.end Rattle.dp_parse.specs.steps.Programs.ends
+    Rattle.dp_parse.specs.steps.Programs.main_part Rattle.dp_parse.specs.steps.Programs.part Rattle.dp_parse.specs.steps.Programs.program_from Rattle.dp_parse.specs.steps.Programs.program
+    Rattle.dp_parse.specs.steps.Regions.bare Rattle.dp_parse.specs.steps.Regions.braced Rattle.dp_parse.specs.steps.Regions.leads_out
+    Rattle.dp_parse.specs.steps.Regions.branches Rattle.dp_parse.specs.steps.Regions.tested Rattle.dp_parse.specs.steps.Regions.branch
+    Rattle.dp_parse.specs.steps.Regions.inside Rattle.dp_parse.specs.steps.Regions.body Rattle.dp_parse.specs.steps.Regions.region
     Rattle.dp_lex.specs.Scan.is_one_of Rattle.dp_base.specs.Arithmetic.is_zero
 reading_opened = tt
 

@@ -3,7 +3,7 @@
 ghost use Rattle.std.specs.Prelude.{◌≡◌, ◌∷◌, [], IfOk, map, filter};
 ghost use Rattle.std.specs.List.Sorted.{IsNonDecreasing};
 ghost use Rattle.dp_plan.specs.Rules as rules;
-ghost use Rattle.dp_plan_text.specs.Tables as tables;
+ghost use Rattle.dp_plan_text.specs.steps.Tables as tables;
 ghost use Rattle.dp_plan.specs.Valid.{broken_from};
 
 use super::written_stage;

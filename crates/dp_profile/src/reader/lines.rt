@@ -2,7 +2,7 @@
 
 ghost use Rattle.std.specs.Prelude.{◌≡◌, IfOk};
 ghost use Rattle.dp_plan_text.specs.Words.{words};
-ghost use Rattle.dp_profile.specs.LineWords.{line_of};
+ghost use Rattle.dp_profile.specs.steps.LineWords.{line_of};
 
 use super::{Phase, Reader, opened};
 use crate::line::{Line, read_line};
@@ -13,9 +13,9 @@ use std::alloc::Global;
 
 impl Reader {
     ghost use Rattle.dp_profile.specs.declared.line.Line.TheVariants as line;
-    ghost use Rattle.dp_profile.specs.Reading as spec;
+    ghost use Rattle.dp_profile.specs.steps.Reading as spec;
 
-    #[tactic(auto, unfolding(crate::specs::Reading::next))]
+    #[tactic(auto, unfolding(crate::specs::steps::Reading::next))]
     fn head(self, all: &[Row<RegionSite>]) -> Option<Reader>
         ensures { result ≡ spec.next all.now self line.Head }
     {
@@ -30,7 +30,7 @@ impl Reader {
         })
     }
 
-    #[tactic(auto, unfolding(crate::specs::Reading::next))]
+    #[tactic(auto, unfolding(crate::specs::steps::Reading::next))]
     fn region(
         self,
         alloc: Global,
@@ -49,7 +49,7 @@ impl Reader {
         }))
     }
 
-    #[tactic(auto, unfolding(crate::specs::Reading::next))]
+    #[tactic(auto, unfolding(crate::specs::steps::Reading::next))]
     fn runs(
         self,
         all: &[Row<RegionSite>],
@@ -66,7 +66,7 @@ impl Reader {
         Ok(Some(reader))
     }
 
-    #[tactic(auto, unfolding(crate::specs::Reading::next))]
+    #[tactic(auto, unfolding(crate::specs::steps::Reading::next))]
     fn flow(self, all: &[Row<RegionSite>], flow: Flow) -> Result<Option<Reader>, NoMemory>
         ensures { IfOk result (λ reader. reader ≡ spec.next all.now self (line.Flow flow)) }
     {
@@ -78,7 +78,7 @@ impl Reader {
         Ok(Some(reader))
     }
 
-    #[tactic(auto, unfolding(crate::specs::Reading::next))]
+    #[tactic(auto, unfolding(crate::specs::steps::Reading::next))]
     fn end(self, alloc: Global, all: &[Row<RegionSite>]) -> Result<Option<Reader>, NoMemory>
         ensures { IfOk result (λ reader. reader ≡ spec.next all.now self line.End) }
     {
@@ -93,7 +93,7 @@ impl Reader {
     }
 
     /// What is known after one more line, if it may stand here.
-    #[tactic(auto, unfolding(crate::specs::Reading::next_by))]
+    #[tactic(auto, unfolding(crate::specs::steps::Reading::next_by))]
     fn after(
         self,
         alloc: Global,

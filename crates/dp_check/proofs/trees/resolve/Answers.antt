@@ -1,6 +1,6 @@
 use Rattle.std.proofs.Common.{rules, arith}
 use Rattle.std.proofs.lemmas.Grind.{common_steps}
-use Rattle.dp_check.proofs.VerdictLemmas.{trees_items_refused, trees_main_refused, trees_given}
+use Rattle.dp_check.proofs.CheckAnswerLemmas.{trees_items_refused, trees_main_refused, trees_given}
 use Rattle.dp_check.proofs.trees.resolve.Goals as goal
 
 pub returns-in_err-functions : goal.returns-in_err-functions

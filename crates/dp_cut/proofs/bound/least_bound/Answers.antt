@@ -1,5 +1,5 @@
 use Rattle.std.proofs.Common.{◌≡◌, ◌<◌, ◌≤◌, ◌+◌, ◌-◌, ◌/◌, ℕ, List, true, length, subst, sym, ◌∙◌, arith, slice_index}
-use Rattle.dp_cut.specs.Fits.{Fits}
+use Rattle.dp_cut.specs.steps.Fits.{Fits}
 use Rattle.dp_cut.proofs.Weights.{weight_low}
 use Rattle.dp_cut.proofs.LimitLemmas.{or_any}
 use Rattle.dp_cut.proofs.Beginnings.{all_fit, fits_more}

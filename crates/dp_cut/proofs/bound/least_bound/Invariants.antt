@@ -1,6 +1,6 @@
 use Rattle.std.proofs.Common.{◌<◌, ◌≤◌, ◌-◌, ℕ, List, true, sum}
-use Rattle.dp_cut.specs.Fits.{Fits}
-use Rattle.dp_cut.specs.Best.{AreLimits}
+use Rattle.dp_cut.specs.steps.Fits.{Fits}
+use Rattle.dp_cut.specs.steps.Best.{AreLimits}
 use Rattle.dp_cut.proofs.bound.least_bound.Given as goal
 
 abbrev pub invariant-loop-low : goal.invariant-loop-low

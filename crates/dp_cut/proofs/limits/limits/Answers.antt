@@ -1,5 +1,5 @@
 use Rattle.std.proofs.Common.{◌≡◌, ◌<◌, ◌+◌, ◌++◌, ◌∷◌, [], ℕ, List, length, length-append, subst, sym, ap, ◌∙◌, arith, slice_index}
-use Rattle.dp_cut.specs.Fits.{IsLimit}
+use Rattle.dp_cut.specs.steps.Fits.{IsLimit}
 use Rattle.dp_cut.proofs.LimitLemmas.{limits_more}
 use Rattle.dp_cut.proofs.limits.limits.Goals as goal
 

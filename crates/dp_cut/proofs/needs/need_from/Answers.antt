@@ -1,7 +1,7 @@
 use Rattle.std.proofs.Common.{◌≡◌, ◌↔◌, ◌≤◌, ◌+◌, ℕ, List, length, subst, sym, ap, ◌∙◌, inl, inr, arith, slice_index}
 use Rattle.dp_cut.specs.Allowed.{weight_between}
-use Rattle.dp_cut.specs.Fits.{StageFits}
-use Rattle.dp_cut.specs.Best.{HasFirst}
+use Rattle.dp_cut.specs.steps.Fits.{StageFits}
+use Rattle.dp_cut.specs.steps.Best.{HasFirst}
 use Rattle.dp_cut.proofs.Weights.{weight_more, weight_low}
 use Rattle.dp_cut.proofs.FirstLemmas.{first_more, first_less}
 use Rattle.dp_cut.proofs.needs.need_from.Goals as goal

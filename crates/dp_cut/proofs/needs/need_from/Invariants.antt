@@ -1,6 +1,6 @@
 use Rattle.std.proofs.Common.{◌≡◌, ◌↔◌, ◌≤◌, ℕ}
 use Rattle.dp_cut.specs.Allowed.{weight_between}
-use Rattle.dp_cut.specs.Best.{HasFirst}
+use Rattle.dp_cut.specs.steps.Best.{HasFirst}
 use Rattle.dp_cut.proofs.needs.need_from.Given as goal
 
 abbrev pub invariant-loop-last : goal.invariant-loop-last

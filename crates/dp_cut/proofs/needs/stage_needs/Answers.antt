@@ -1,7 +1,7 @@
 use Rattle.std.proofs.Common.{◌≡◌, ◌↔◌, ◌<◌, ◌≤◌, ◌+◌, ◌-◌, ℕ, List, true, false, length, subst, ◌∙◌, arith}
 use Rattle.std.proofs.Math.ListN.{length-set}
-use Rattle.dp_cut.specs.Fits.{TellsNeed}
-use Rattle.dp_cut.specs.Best.{HasFirst, AreLimits}
+use Rattle.dp_cut.specs.steps.Fits.{TellsNeed}
+use Rattle.dp_cut.specs.steps.Best.{HasFirst, AreLimits}
 use Rattle.dp_cut.proofs.FirstLemmas.{need_is, told_more}
 use Rattle.dp_cut.proofs.needs.stage_needs.Goals as goal
 

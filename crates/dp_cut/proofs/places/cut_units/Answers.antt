@@ -1,7 +1,7 @@
 use Rattle.std.proofs.Common.{◌<◌, ℕ, List, subst, sym, slice_index}
 use Rattle.dp_cut.specs.LeastCut.{IsLeastCut}
-use Rattle.dp_cut.specs.Fits.{IsLimit}
-use Rattle.dp_cut.specs.Best.{AreLimits}
+use Rattle.dp_cut.specs.steps.Fits.{IsLimit}
+use Rattle.dp_cut.specs.steps.Best.{AreLimits}
 use Rattle.dp_cut.proofs.Optimum.{least_of_best}
 use Rattle.dp_cut.proofs.places.cut_units.Goals as goal
 

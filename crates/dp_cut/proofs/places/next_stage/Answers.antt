@@ -1,7 +1,7 @@
 use Rattle.std.proofs.Common.{◌≤◌, ℕ, subst, inl, inr, arith}
 use Rattle.std.proofs.lemmas.Bool.{cases_eq}
-use Rattle.dp_cut.specs.Fits.{Fits}
-use Rattle.dp_cut.specs.Best.{MayStand}
+use Rattle.dp_cut.specs.steps.Fits.{Fits}
+use Rattle.dp_cut.specs.steps.Best.{MayStand}
 use Rattle.dp_cut.proofs.Beginnings.{next_begins, one_begins}
 use Rattle.dp_cut.proofs.places.next_stage.Goals as goal
 

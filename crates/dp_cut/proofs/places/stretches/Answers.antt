@@ -1,7 +1,7 @@
 use Rattle.std.proofs.Common.{◌≡◌, ◌+◌, ◌-◌, ◌++◌, ◌∷◌, [], ℕ, List, subst, sym, ap, ◌∙◌, arith, append_assoc, append-nil, true}
 use Rattle.dp_cut.specs.declared.Stretch.{Stretch}
-use Rattle.dp_cut.specs.Fits.{Fits}
-use Rattle.dp_cut.specs.Best.{AreLimits, Best, IsBeginning}
+use Rattle.dp_cut.specs.steps.Fits.{Fits}
+use Rattle.dp_cut.specs.steps.Best.{AreLimits, Best, IsBeginning}
 use Rattle.dp_cut.proofs.Beginnings.{ends_none}
 use Rattle.dp_cut.proofs.places.stretches.Goals as goal
 use Rattle.dp_cut.proofs.places.stretches.Goals.{then-loop-begin-test+else-left-gt0, else-loop-begin-test}

@@ -1,7 +1,7 @@
 use Rattle.std.proofs.Common.{◌≤◌, ◌++◌, ℕ, List, true}
 use Rattle.dp_cut.specs.declared.Stretch.{Stretch}
-use Rattle.dp_cut.specs.Fits.{Fits}
-use Rattle.dp_cut.specs.Best.{AreLimits, Best}
+use Rattle.dp_cut.specs.steps.Fits.{Fits}
+use Rattle.dp_cut.specs.steps.Best.{AreLimits, Best}
 use Rattle.dp_cut.proofs.places.stretches.Given as goal
 
 abbrev pub invariant-loop-begin : goal.invariant-loop-begin

@@ -1,5 +1,5 @@
 use Rattle.std.proofs.Common.{◌<◌, length, sym, ◌∙◌, arith}
-use Rattle.dp_inline.specs.Written.{written}
+use Rattle.dp_inline.specs.steps.Written.{written}
 use Rattle.dp_inline.proofs.EndLemmas.{bound_more, bound_end}
 use Rattle.dp_inline.proofs.binding.bindings.Goals as goal
 

@@ -1,5 +1,5 @@
 use Rattle.std.proofs.Common.{◌≡◌, drop}
-use Rattle.dp_inline.specs.Written.{written, after_bindings}
+use Rattle.dp_inline.specs.steps.Written.{written, after_bindings}
 use Rattle.dp_inline.proofs.binding.bindings.Given as goal
 
 abbrev pub invariant-loop-i : goal.invariant-loop-i

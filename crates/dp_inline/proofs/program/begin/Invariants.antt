@@ -1,5 +1,5 @@
 use Rattle.std.proofs.Common.{◌≡◌, drop}
-use Rattle.dp_inline.specs.Written.{written, blank, with_globals}
+use Rattle.dp_inline.specs.steps.Written.{written, blank, with_globals}
 use Rattle.dp_inline.proofs.program.begin.Given as goal
 
 abbrev pub invariant-loop-info : goal.invariant-loop-info

@@ -1,6 +1,6 @@
 use Rattle.std.proofs.Common.{◌≡◌, ◌∙◌, length}
 use Rattle.dp_calls.specs.Expand.{program_of}
-use Rattle.dp_inline.specs.Written.{written, after_list}
+use Rattle.dp_inline.specs.steps.Written.{written, after_list}
 use Rattle.dp_inline.proofs.GlobalLemmas.{start, expands}
 use Rattle.dp_inline.proofs.program.expanded.Goals as goal
 

@@ -1,6 +1,6 @@
 use Rattle.std.proofs.Common.{◌≡◌, ◌+◌, ◌<◌, drop, ◌∷◌, length, sym, ap, ◌∙◌, arith}
 use Rattle.std.proofs.lemmas.List.{at_drop_more, at_drop_all}
-use Rattle.dp_inline.specs.Counted.{counted_one, counted_list}
+use Rattle.dp_inline.specs.steps.Counted.{counted_one, counted_list}
 use Rattle.dp_inline.proofs.SizeForms.{size-none, size-more}
 use Rattle.dp_inline.proofs.size.+size.Goals as goal
 

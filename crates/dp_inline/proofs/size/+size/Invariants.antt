@@ -1,6 +1,6 @@
 use Rattle.std.proofs.Common.{◌≡◌, ◌+◌, ◌≤◌, min, drop}
-use Rattle.dp_inline.specs.Verdict.{reported}
-use Rattle.dp_inline.specs.Counted.{counted_list}
+use Rattle.dp_inline.specs.InlineAnswer.{reported}
+use Rattle.dp_inline.specs.steps.Counted.{counted_list}
 use Rattle.dp_inline.proofs.size.+size.Given as goal
 
 abbrev pub invariant-size_of_all-loop-s : goal.invariant-size_of_all-loop-s

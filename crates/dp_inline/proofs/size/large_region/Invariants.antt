@@ -1,5 +1,5 @@
 use Rattle.std.proofs.Common.{◌≡◌, drop}
-use Rattle.dp_inline.specs.Counted.{first_large}
+use Rattle.dp_inline.specs.steps.Counted.{first_large}
 use Rattle.dp_inline.proofs.size.large_region.Given as goal
 
 abbrev pub invariant-loop-s : goal.invariant-loop-s

@@ -1,5 +1,5 @@
 use Rattle.std.proofs.Common.{◌≡◌, [], drop}
-use Rattle.dp_inline.specs.Counted.{counted_more}
+use Rattle.dp_inline.specs.steps.Counted.{counted_more}
 use Rattle.dp_inline.proofs.size.sizes.Given as goal
 
 abbrev pub invariant-loop-function : goal.invariant-loop-function

@@ -1,8 +1,9 @@
-use Rattle.std.proofs.Common.{rules, ◌≡◌, sym, ap, subst, ◌∙◌, ℕ, ◌+◌, ◌<◌, ◌++◌, [], ◌∷◌, List, length, length-append, Some, slice_get, inl, inr, arith}
+use Rattle.std.proofs.Common.{rules, ◌≡◌, refl, sym, ap, subst, ◌∙◌, ℕ, ◌+◌, ◌<◌, ◌++◌, [], ◌∷◌, List, length, length-append, Some, slice_get, inl, inr, arith}
+use Rattle.dp_base.proofs.ListLemmas.{get_pushed}
+use Rattle.std.proofs.lemmas.Option.{slice_get_read}
 use Rattle.dp_profile.specs.declared.sites.RegionSite.{RegionSite}
 use Rattle.dp_observe.specs.declared.counter.Counter.{Counter}
-use Rattle.dp_observe.specs.Starting.{Starts}
-use Rattle.dp_observe.proofs.ListLemmas.{get_pushed, stands}
+use Rattle.dp_observe.specs.steps.Starting.{Starts}
 use Rattle.dp_observe.proofs.board.counters.Goals as goal
 
 pub loop-sites-preserved : goal.loop-sites-preserved
@@ -14,7 +15,7 @@ loop-sites-preserved c =
     let test = c.loop-sites-test.true in
     let within : c.loop-sites.sites-index < length c.args.regions.now = omega arith in
     let here : slice_get c.args.regions.now c.loop-sites.sites-index ≡ Some c.as_slice.result.now =
-    stands c.args.regions.now c.loop-sites.sites-index c.sites-item.result within c.sites-item.is ∙ ap Some (sym c.as_slice.ensures) in
+    slice_get_read c.args.regions.now (length c.args.regions.now) c.loop-sites.sites-index c.sites-item.result refl within c.sites-item.is ∙ ap Some (sym c.as_slice.ensures) in
     let number : c.in_ok-region.region ≡ c.loop-sites.sites-index + 1 = search rules in
     let starts : Starts c.args.program.now c.in_ok-region.region c.as_slice.result.now c.in_ok-new.field-0 = c.in_ok-new.ensures in
     record {

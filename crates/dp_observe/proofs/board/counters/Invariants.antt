@@ -1,7 +1,7 @@
 use Rattle.std.proofs.Common.{◌≡◌, ℕ, ◌+◌, ◌<◌, ◌^◌, List, length, Some, slice_get}
 use Rattle.dp_profile.specs.declared.sites.RegionSite.{RegionSite}
 use Rattle.dp_observe.specs.declared.counter.Counter.{Counter}
-use Rattle.dp_observe.specs.Starting.{Starts}
+use Rattle.dp_observe.specs.steps.Starting.{Starts}
 use Rattle.dp_observe.proofs.board.counters.Given as goal
 
 abbrev pub invariant-loop-sites : goal.invariant-loop-sites

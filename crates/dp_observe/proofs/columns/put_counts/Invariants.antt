@@ -1,6 +1,6 @@
 use Rattle.std.proofs.Common.{◌≡◌, ℕ, ◌++◌, ◌<◌, length, Some, slice_get}
 use Rattle.dp_profile.specs.declared.sites.RegionSite.{RegionSite}
-use Rattle.dp_observe.specs.Taken.{row_at}
+use Rattle.dp_observe.specs.steps.Taken.{row_at}
 use Rattle.dp_observe.proofs.RowLemmas.{column_flows}
 use Rattle.dp_observe.proofs.columns.put_counts.Given as goal
 

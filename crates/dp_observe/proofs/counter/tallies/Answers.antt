@@ -1,5 +1,5 @@
 use Rattle.std.proofs.Common.{arith}
-use Rattle.dp_observe.specs.Frames.{blank}
+use Rattle.dp_observe.specs.steps.Frames.{blank}
 use Rattle.dp_observe.proofs.ListLemmas.{pushed_same}
 use Rattle.dp_observe.proofs.counter.tallies.Goals as goal
 

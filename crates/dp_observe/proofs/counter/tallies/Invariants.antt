@@ -1,5 +1,5 @@
 use Rattle.std.proofs.Common.{◌≡◌, ◌++◌, map, drop}
-use Rattle.dp_observe.specs.Frames.{blank}
+use Rattle.dp_observe.specs.steps.Frames.{blank}
 use Rattle.dp_observe.proofs.counter.tallies.Given as goal
 
 abbrev pub invariant-loop-site : goal.invariant-loop-site

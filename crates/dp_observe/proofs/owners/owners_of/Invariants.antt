@@ -1,6 +1,6 @@
 use Rattle.std.proofs.Common.{◌≡◌, ℕ, ◌-◌, ◌^◌, drop}
 use Rattle.dp_observe.specs.Sparse.{at}
-use Rattle.dp_observe.specs.Owners.{owner_after}
+use Rattle.dp_observe.specs.steps.Owners.{owner_after}
 use Rattle.dp_observe.proofs.owners.owners_of.Given as goal
 
 abbrev pub invariant-loop-place : goal.invariant-loop-place

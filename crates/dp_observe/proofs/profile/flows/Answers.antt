@@ -1,5 +1,5 @@
 use Rattle.std.proofs.Common.{rules, ◌≡◌, ◌∷◌, inl, inr}
-use Rattle.dp_observe.specs.Taken.{flows_from, all_rows}
+use Rattle.dp_observe.specs.steps.Taken.{flows_from, all_rows}
 use Rattle.dp_observe.proofs.RowLemmas.{site_more, sites_all}
 use Rattle.dp_observe.proofs.TakenLemmas.{no_sites, no_tallies}
 use Rattle.dp_observe.proofs.profile.flows.Goals as goal

@@ -1,5 +1,5 @@
 use Rattle.std.proofs.Common.{inl, inr}
-use Rattle.dp_observe.specs.Taken.{regions_taken}
+use Rattle.dp_observe.specs.steps.Taken.{regions_taken}
 use Rattle.dp_observe.proofs.ListLemmas.{all_joined}
 use Rattle.dp_observe.proofs.TakenLemmas.{no_regions, no_counters}
 use Rattle.dp_observe.proofs.profile.profiles.Goals as goal

@@ -1,5 +1,5 @@
 use Rattle.std.proofs.Common.{◌≡◌, ◌++◌}
-use Rattle.dp_observe.specs.Taken.{regions_taken}
+use Rattle.dp_observe.specs.steps.Taken.{regions_taken}
 use Rattle.dp_observe.proofs.profile.profiles.Given as goal
 
 abbrev pub invariant-loop-sites : goal.invariant-loop-sites

@@ -1,5 +1,5 @@
 use Rattle.std.proofs.Common.{◌≡◌, ◌++◌, drop}
-use Rattle.dp_observe.specs.Taken.{all_rows}
+use Rattle.dp_observe.specs.steps.Taken.{all_rows}
 use Rattle.dp_observe.proofs.rows.joined.Given as goal
 
 abbrev pub invariant-loop-row : goal.invariant-loop-row

@@ -5,8 +5,8 @@ use Rattle.dp_parse.specs.Levels.{operands}
 use Rattle.dp_tree.specs.declared.raw.RawExpr.{RawExpr}
 use Rattle.dp_tree.specs.declared.raw.RawExpr.TheVariants as tree
 use Rattle.dp_tokens.specs.Steps.{Outcome, and_then, pure}
-use Rattle.dp_parse.specs.descent.Operators.{join_at, prefix_at}
-use Rattle.dp_parse.specs.descent.Expressions as read
+use Rattle.dp_parse.specs.steps.Operators.{join_at, prefix_at}
+use Rattle.dp_parse.specs.steps.Expressions as read
 use Rattle.dp_parse.proofs.StepLemmas.{rest-le}
 use Rattle.dp_parse.specs.Rules as rule
 use Rattle.dp_parse.proofs.Spans.{shorter}

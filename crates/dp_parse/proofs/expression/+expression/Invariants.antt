@@ -1,5 +1,5 @@
 use Rattle.std.proofs.Common.{◌≡◌, ℕ, ◌+◌, ◌*◌, ◌≤◌, length}
-use Rattle.dp_parse.specs.descent.Expressions as spec
+use Rattle.dp_parse.specs.steps.Expressions as spec
 use Rattle.dp_parse.proofs.Levels.{rank}
 use Rattle.dp_parse.proofs.expression.+expression.Given as goal
 

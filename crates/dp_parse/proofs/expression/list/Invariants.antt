@@ -1,6 +1,6 @@
 use Rattle.std.proofs.Common.{◌≡◌, ℕ, ◌≤◌, length}
 use Rattle.dp_tokens.specs.Steps.{separated}
-use Rattle.dp_parse.specs.descent.Expressions as spec
+use Rattle.dp_parse.specs.steps.Expressions as spec
 use Rattle.dp_parse.proofs.expression.list.Given as goal
 
 abbrev pub invariant-loop-found : goal.invariant-loop-found

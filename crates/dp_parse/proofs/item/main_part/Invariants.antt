@@ -1,6 +1,6 @@
 use Rattle.std.proofs.Common.{◌≡◌, ℕ, ◌≤◌, length}
 use Rattle.dp_tokens.specs.Steps.{and_then, ◌>>=◌, pure, many}
-use Rattle.dp_parse.specs.descent.Programs as spec
+use Rattle.dp_parse.specs.steps.Programs as spec
 use Rattle.dp_parse.proofs.item.main_part.Given as goal
 
 abbrev pub invariant-loop-alloc : goal.invariant-loop-alloc

@@ -2,7 +2,7 @@ use Rattle.std.proofs.Common.{◌≡◌, refl, ap, ap₂, ◌∙◌, sym, rules,
 use Rattle.std.proofs.lemmas.Grind.{common_steps}
 use Rattle.dp_tokens.specs.declared.symbol.Symbol.TheVariants.{Comma}
 use Rattle.dp_tokens.specs.Steps.{sees, separated}
-use Rattle.dp_parse.specs.descent.Programs.{param, params}
+use Rattle.dp_parse.specs.steps.Programs.{param, params}
 use Rattle.dp_parse.proofs.StepLemmas.{after-le}
 use Rattle.dp_parse.proofs.Lists.{separated_none, separated_on, separated_off}
 use Rattle.dp_parse.proofs.Empty.{param_empty}

@@ -1,6 +1,6 @@
 use Rattle.std.proofs.Common.{◌≡◌, ℕ, ◌≤◌, length}
 use Rattle.dp_tokens.specs.Steps.{separated}
-use Rattle.dp_parse.specs.descent.Programs as spec
+use Rattle.dp_parse.specs.steps.Programs as spec
 use Rattle.dp_parse.proofs.item.params.Given as goal
 
 abbrev pub invariant-loop-found : goal.invariant-loop-found

@@ -1,6 +1,6 @@
 use Rattle.std.proofs.Common.{◌≡◌, refl, ap, ◌∙◌, sym, rules, arith, ◌-◌, List, length, Ok, Err}
 use Rattle.std.proofs.lemmas.Grind.{common_steps}
-use Rattle.dp_parse.specs.descent.Programs as read
+use Rattle.dp_parse.specs.steps.Programs as read
 use Rattle.dp_lex.specs.Token.{Lexeme}
 use Rattle.dp_parse.specs.declared.item.Part.{Part}
 use Rattle.dp_parse.specs.declared.item.Part.TheVariants.{Item, Main as Body}

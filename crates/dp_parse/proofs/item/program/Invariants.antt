@@ -1,5 +1,5 @@
 use Rattle.std.proofs.Common.{◌≡◌, ℕ, ◌≤◌, length}
-use Rattle.dp_parse.specs.descent.Programs as spec
+use Rattle.dp_parse.specs.steps.Programs as spec
 use Rattle.dp_parse.proofs.item.program.Given as goal
 
 abbrev pub invariant-loop-items : goal.invariant-loop-items

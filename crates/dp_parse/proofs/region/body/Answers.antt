@@ -4,8 +4,8 @@ use Rattle.dp_lex.specs.Token.{Lexeme}
 use Rattle.dp_tree.specs.declared.raw.RawStmt.{RawStmt}
 use Rattle.dp_tokens.specs.declared.symbol.Symbol.TheVariants.{CloseBrace}
 use Rattle.dp_tokens.specs.Steps.{Outcome, ◌>>=◌, and_then, pure, expect, sees}
-use Rattle.dp_parse.specs.descent.Statements.{statement}
-use Rattle.dp_parse.specs.descent.Regions as read
+use Rattle.dp_parse.specs.steps.Statements.{statement}
+use Rattle.dp_parse.specs.steps.Regions as read
 use Rattle.dp_parse.proofs.StepLemmas.{seen_some}
 use Rattle.dp_parse.proofs.Lists.{many_turn, many_none, many_end}
 use Rattle.dp_parse.proofs.Empty.{inside_empty}

@@ -1,8 +1,8 @@
 use Rattle.std.proofs.Common.{◌≡◌, ℕ, ◌≤◌, length}
 use Rattle.dp_tokens.specs.declared.symbol.Symbol.TheVariants.{CloseBrace}
 use Rattle.dp_tokens.specs.Steps.{and_then, ◌>>=◌, pure, expect, many, sees}
-use Rattle.dp_parse.specs.descent.Statements.{statement}
-use Rattle.dp_parse.specs.descent.Regions as spec
+use Rattle.dp_parse.specs.steps.Statements.{statement}
+use Rattle.dp_parse.specs.steps.Regions as spec
 use Rattle.dp_parse.proofs.region.body.Given as goal
 
 abbrev pub invariant-loop-alloc : goal.invariant-loop-alloc

@@ -4,7 +4,7 @@ use Rattle.dp_lex.specs.Token.{Lexeme}
 use Rattle.dp_tree.specs.declared.raw.RawStmt.{RawStmt}
 use Rattle.dp_tokens.specs.declared.symbol.Symbol.TheVariants.{CloseBrace, Int, Name, Print, While, For}
 use Rattle.dp_tokens.specs.Steps.{Outcome, ◌>>=◌, and_then, pure, expect, sees}
-use Rattle.dp_parse.specs.descent.Statements as read
+use Rattle.dp_parse.specs.steps.Statements as read
 use Rattle.dp_parse.proofs.StepLemmas.{seen_some}
 use Rattle.dp_parse.proofs.Empty.{statement_empty}
 use Rattle.dp_parse.specs.Rules as rule

@@ -1,7 +1,7 @@
 use Rattle.std.proofs.Common.{◌≡◌, ℕ, ◌+◌, ◌*◌, ◌≤◌, length}
 use Rattle.dp_tokens.specs.declared.symbol.Symbol.TheVariants.{CloseBrace}
 use Rattle.dp_tokens.specs.Steps.{and_then, ◌>>=◌, pure, expect, many, sees}
-use Rattle.dp_parse.specs.descent.Statements as spec
+use Rattle.dp_parse.specs.steps.Statements as spec
 use Rattle.dp_parse.proofs.statement.+statement.Given as goal
 
 abbrev pub decreases-statement : goal.decreases-statement

@@ -2,8 +2,8 @@ use Rattle.std.proofs.Common.{◌≡◌, ◌<◌, ◌∷◌, [], ◌++◌, lengt
 use Rattle.dp_plan_text.specs.declared.reader.Reader.{Reader}
 use Rattle.dp_plan_text.specs.PlanText.{lines_of}
 use Rattle.dp_plan_text.specs.Words.{words}
-use Rattle.dp_plan_text.specs.LineWords.{line_of}
-use Rattle.dp_plan_text.specs.Reading.{next_by}
+use Rattle.dp_plan_text.specs.steps.LineWords.{line_of}
+use Rattle.dp_plan_text.specs.steps.Reading.{next_by}
 use Rattle.dp_plan_text.proofs.SoFar.{SoFar, so_far_start, so_far_next, refused_line, ended}
 use Rattle.dp_plan_text.proofs.text.read_text.Goals as goal
 

@@ -3,8 +3,8 @@ use Rattle.dp_plan_text.specs.PlanText.{lines_of}
 use Rattle.dp_plan_text.specs.Words.{words}
 use Rattle.dp_profile.specs.declared.reader.Reader.{Reader}
 use Rattle.dp_profile.specs.Sites.{RegionSite, regions}
-use Rattle.dp_profile.specs.LineWords.{line_of}
-use Rattle.dp_profile.specs.Reading.{next_by}
+use Rattle.dp_profile.specs.steps.LineWords.{line_of}
+use Rattle.dp_profile.specs.steps.Reading.{next_by}
 use Rattle.dp_profile.proofs.KnownSites.{few_regions, small_sites}
 use Rattle.dp_profile.proofs.SoFar.{SoFar, so_far_start, so_far_next, refused_line, ended}
 use Rattle.dp_profile.proofs.read.read_profile.Goals as goal

@@ -1,7 +1,7 @@
 use Rattle.std.proofs.Common.{◌≡◌, ◌+◌, ◌<◌, ◌++◌, ◌∷◌, List, ℕ, Option, None, length, drop, sym, ap, subst, ◌∙◌, OnOk, arith}
 use Rattle.std.proofs.lemmas.List.{at_drop_all}
 use Rattle.dp_tree.specs.declared.Stmt.{Stmt}
-use Rattle.dp_sites.specs.Parts.{Part, loads_in, part_list, part_lists, until_in}
+use Rattle.dp_sites.specs.steps.Parts.{Part, loads_in, part_list, part_lists, until_in}
 use Rattle.dp_plan.proofs.Joins.{joins_more, joins_all, item_and_one, item_and_two}
 use Rattle.dp_sites.proofs.PartForms.{part, parts-none, parts-next, part-If, part-While, part-Region}
 use Rattle.dp_sites.proofs.part.+parts.Goals as goal

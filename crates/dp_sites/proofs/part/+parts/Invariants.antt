@@ -1,5 +1,5 @@
 use Rattle.std.proofs.Common.{◌≡◌, ◌++◌, drop}
-use Rattle.dp_sites.specs.Parts.{part_lists}
+use Rattle.dp_sites.specs.steps.Parts.{part_lists}
 use Rattle.dp_sites.proofs.part.+parts.Given as goal
 
 abbrev pub invariant-put_parts-loop-statement : goal.invariant-put_parts-loop-statement

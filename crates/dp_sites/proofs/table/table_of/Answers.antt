@@ -2,7 +2,7 @@ use Rattle.std.proofs.Common.{◌≡◌, ℕ, true, List, map, length, None, sym
 use Rattle.dp_tree.specs.Numbering.{numbers_from}
 use Rattle.dp_tree.specs.declared.Stmt.{Stmt}
 use Rattle.dp_plan.specs.Access.{first_site}
-use Rattle.dp_sites.specs.Parts.{part_list}
+use Rattle.dp_sites.specs.steps.Parts.{part_list}
 use Rattle.dp_sites.specs.declared.part.Part.{Part}
 use Rattle.dp_sites.specs.Storings.{answer_at, goes_up_from}
 use Rattle.dp_sites.proofs.TableMade.{table_made}

@@ -1,7 +1,7 @@
 use Rattle.std.proofs.Common.{◌++◌, ◌∷◌, [], List, Option, sym, ap, ◌∙◌}
 use Rattle.dp_tree.specs.declared.Expr.{Expr}
 use Rattle.dp_sites.specs.Place.{Place, index_place}
-use Rattle.dp_sites.specs.Parts.{Touched, loads_in}
+use Rattle.dp_sites.specs.steps.Parts.{Touched, loads_in}
 use Rattle.dp_sites.proofs.PartForms.{two_parts, load-Element, load-Binary, load-And, load-Or}
 use Rattle.dp_sites.proofs.touched.+put_loads.Goals as goal
 

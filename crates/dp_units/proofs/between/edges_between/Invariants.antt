@@ -1,5 +1,5 @@
 use Rattle.std.proofs.Common.{take}
-use Rattle.dp_units.specs.Leaders.{AreBetween}
+use Rattle.dp_units.specs.steps.Leaders.{AreBetween}
 use Rattle.dp_units.proofs.between.edges_between.Given as goal
 
 abbrev pub invariant-loop-from : goal.invariant-loop-from

@@ -1,7 +1,7 @@
 use Rattle.std.proofs.Common.{◌≡◌, ◌<◌, ◌+◌, ◌∙◌, sym, ap, subst, arith, ℕ, List, length, drop, replicate, slice_index, slice_index_or}
 use Rattle.std.proofs.Math.ListN.{set, length-set}
 use Rattle.std.proofs.lemmas.List.{get_or_read}
-use Rattle.dp_units.specs.Rows.{waits_for}
+use Rattle.dp_units.specs.steps.Rows.{waits_for}
 use Rattle.dp_units.proofs.BetweenLemmas.{counted_more, target_low, room_for_one}
 use Rattle.dp_units.proofs.between.entering.Goals as goal
 

@@ -1,5 +1,5 @@
 use Rattle.std.proofs.Common.{◌≡◌, ◌<◌, ◌+◌, ℕ, length, drop, replicate, slice_index}
-use Rattle.dp_units.specs.Rows.{waits_for}
+use Rattle.dp_units.specs.steps.Rows.{waits_for}
 use Rattle.dp_units.proofs.between.entering.Given as goal
 
 abbrev pub invariant-loop-edge : goal.invariant-loop-edge

@@ -1,10 +1,10 @@
 use Rattle.std.proofs.Common.{◌≡◌, ◌<◌, ◌≤◌, ◌+◌, ◌++◌, [], ◌∷◌, ◌∙◌, sym, ap, subst, ℕ, List, length, replicate, slice_index}
 use Rattle.std.proofs.Math.ListN.{set}
-use Rattle.dp_units.specs.Entries.{times}
+use Rattle.dp_units.specs.steps.Entries.{times}
 use Rattle.dp_units.specs.Graph.{AreWithin}
-use Rattle.dp_units.specs.Rows.{targets, waits_for}
+use Rattle.dp_units.specs.steps.Rows.{targets, waits_for}
 use Rattle.dp_units.specs.Order.{IsOrder, ArePlaces}
-use Rattle.dp_units.specs.Taking.{IsTaking, left_over}
+use Rattle.dp_units.specs.steps.Taking.{IsTaking, left_over}
 use Rattle.dp_units.proofs.BetweenLemmas.{between_within}
 use Rattle.dp_units.proofs.OrderLemmas.{whole_written, none_free, low, row_is, row_within, row_enough, next_taken, next_smaller}
 use Rattle.dp_units.proofs.EndLemmas.{nothing_taken, is_order, are_places}

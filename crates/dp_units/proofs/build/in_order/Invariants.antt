@@ -1,4 +1,4 @@
-use Rattle.dp_units.specs.Taking.{IsTaking, left_over}
+use Rattle.dp_units.specs.steps.Taking.{IsTaking, left_over}
 use Rattle.dp_units.proofs.build.in_order.Given as goal
 
 abbrev pub invariant-loop-node : goal.invariant-loop-node

@@ -1,5 +1,5 @@
 use Rattle.std.proofs.Common.{inl, inr, sym, subst, List, ℕ}
-use Rattle.dp_units.specs.Entries.{Has}
+use Rattle.dp_units.specs.steps.Entries.{Has}
 use Rattle.dp_units.proofs.FreeLemmas.{insert_from, insert_kept, insert_added}
 use Rattle.dp_units.proofs.free.offer.Goals as goal
 

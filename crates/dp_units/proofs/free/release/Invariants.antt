@@ -1,5 +1,5 @@
 use Rattle.std.proofs.Common.{◌≡◌, ◌≢◌, ◌⊎◌, ◌<◌, ◌+◌, ℕ, length, take, slice_index}
-use Rattle.dp_units.specs.Entries.{Has, times}
+use Rattle.dp_units.specs.steps.Entries.{Has, times}
 use Rattle.dp_units.proofs.free.release.Given as goal
 
 abbrev pub invariant-loop-node : goal.invariant-loop-node

@@ -2,7 +2,7 @@ use Rattle.std.proofs.Common.{◌<◌, ℕ, List, Vec, length, refl, sym, subst,
 use Rattle.std.specs.declared.alloc.Global.{Global}
 use Rattle.std.proofs.Math.ListN.{length-set}
 use Rattle.std.proofs.lemmas.Option.{slice_get_read}
-use Rattle.dp_units.specs.Entries.{At}
+use Rattle.dp_units.specs.steps.Entries.{At}
 use Rattle.dp_units.proofs.LoopLemmas.{row_more, is_graph}
 use Rattle.dp_units.proofs.graph.rows.Goals as goal
 

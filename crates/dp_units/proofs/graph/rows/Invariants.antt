@@ -1,7 +1,7 @@
 use Rattle.std.proofs.Common.{◌≡◌, ◌++◌, ℕ, Vec, drop, length}
 use Rattle.std.specs.declared.alloc.Global.{Global}
-use Rattle.dp_units.specs.Entries.{At}
-use Rattle.dp_units.specs.Rows.{targets}
+use Rattle.dp_units.specs.steps.Entries.{At}
+use Rattle.dp_units.specs.steps.Rows.{targets}
 use Rattle.dp_units.proofs.graph.rows.Given as goal
 
 abbrev pub invariant-loop-from : goal.invariant-loop-from

@@ -1,6 +1,6 @@
 use Rattle.std.proofs.Common.{◌≡◌, ◌<◌, ◌∙◌, ◌+◌, ℕ, List, length, sym, subst, ap, arith, slice_index, slice_index_or}
 use Rattle.std.proofs.lemmas.List.{length_push}
-use Rattle.dp_units.specs.Entries.{At}
+use Rattle.dp_units.specs.steps.Entries.{At}
 use Rattle.dp_units.specs.declared.mark.Mark.{Mark}
 use Rattle.dp_units.specs.declared.mark.Mark.TheVariants.{Unseen, Closed}
 use Rattle.dp_units.proofs.AtLemmas.{at_within}

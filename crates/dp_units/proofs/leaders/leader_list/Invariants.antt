@@ -1,5 +1,5 @@
 use Rattle.std.proofs.Common.{◌≡◌, ◌<◌, ℕ, length, slice_index}
-use Rattle.dp_units.specs.Entries.{At}
+use Rattle.dp_units.specs.steps.Entries.{At}
 use Rattle.dp_units.specs.declared.mark.Mark.TheVariants.{Closed}
 use Rattle.dp_units.proofs.leaders.leader_list.Given as goal
 

@@ -1,6 +1,6 @@
 use Rattle.std.proofs.Common.{◌<◌, ℕ, length, subst}
 use Rattle.dp_units.specs.declared.search.Search.{Search}
-use Rattle.dp_units.specs.Search.{IsUnseen, IsSearch}
+use Rattle.dp_units.specs.steps.Search.{IsUnseen, IsSearch}
 use Rattle.dp_units.specs.Graph.{AreWithin}
 use Rattle.dp_units.proofs.LeaderLemmas.{all_closed, leaders_are, if_ok_both}
 use Rattle.dp_units.proofs.leaders.leaders.Goals as goal

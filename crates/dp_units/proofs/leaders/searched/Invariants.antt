@@ -1,6 +1,6 @@
 use Rattle.std.proofs.Common.{◌≡◌, ◌<◌, ℕ, []}
-use Rattle.dp_units.specs.Search.{IsUnseen}
-use Rattle.dp_units.specs.Steps.{IsGoing}
+use Rattle.dp_units.specs.steps.Search.{IsUnseen}
+use Rattle.dp_units.specs.steps.Steps.{IsGoing}
 use Rattle.dp_units.proofs.leaders.searched.Given as goal
 
 abbrev pub invariant-loop-node : goal.invariant-loop-node

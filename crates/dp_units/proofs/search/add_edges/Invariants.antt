@@ -1,5 +1,5 @@
 use Rattle.std.proofs.Common.{◌≡◌, ◌++◌, drop}
-use Rattle.dp_units.specs.Steps.{edges_from}
+use Rattle.dp_units.specs.steps.Steps.{edges_from}
 use Rattle.dp_units.proofs.search.add_edges.Given as goal
 
 abbrev pub invariant-loop-target : goal.invariant-loop-target

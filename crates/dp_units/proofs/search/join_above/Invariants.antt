@@ -1,5 +1,5 @@
 use Rattle.std.proofs.Common.{ℕ, ◌≤◌, length}
-use Rattle.dp_units.specs.Entries.{Has, Rises}
+use Rattle.dp_units.specs.steps.Entries.{Has, Rises}
 use Rattle.dp_units.proofs.search.join_above.Given as goal
 
 abbrev pub invariant-loop-bottom : goal.invariant-loop-bottom

@@ -1,5 +1,5 @@
 use Rattle.std.proofs.Common.{◌<◌, ◌≤◌, ℕ, List, length, sym, subst, arith}
-use Rattle.dp_units.specs.Entries.{Has}
+use Rattle.dp_units.specs.steps.Entries.{Has}
 use Rattle.dp_units.proofs.AtLemmas.{at_within}
 use Rattle.dp_units.proofs.LoopLemmas.{least_more, least_below}
 use Rattle.dp_units.proofs.search.least.Goals as goal

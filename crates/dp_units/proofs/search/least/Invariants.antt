@@ -1,5 +1,5 @@
 use Rattle.std.proofs.Common.{ℕ, ◌<◌, ◌≤◌}
-use Rattle.dp_units.specs.Entries.{At, Has}
+use Rattle.dp_units.specs.steps.Entries.{At, Has}
 use Rattle.dp_units.proofs.search.least.Given as goal
 
 abbrev pub invariant-loop-node : goal.invariant-loop-node

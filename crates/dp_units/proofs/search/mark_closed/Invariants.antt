@@ -1,5 +1,5 @@
 use Rattle.std.proofs.Common.{take}
-use Rattle.dp_units.specs.Search.{IsMarked}
+use Rattle.dp_units.specs.steps.Search.{IsMarked}
 use Rattle.dp_units.proofs.search.mark_closed.Given as goal
 
 abbrev pub invariant-loop-node : goal.invariant-loop-node

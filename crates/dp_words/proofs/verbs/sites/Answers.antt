@@ -3,7 +3,7 @@ use Rattle.clap.specs.Words.{App, is_simple_and_free}
 use Rattle.dp_words.proofs.RunLemmas.{moved_sites, no_program, none_named, not_taken, some_named, some_program}
 use Rattle.dp_words.proofs.SimpleRows.{check_is_simple}
 use Rattle.dp_words.specs.Commands.{check_app}
-use Rattle.dp_words.specs.Reading.{values_of}
+use Rattle.dp_words.specs.steps.Reading.{values_of}
 use Rattle.dp_words.specs.Sites.{ShowsSites}
 use Rattle.dp_words.proofs.verbs.sites.Goals as goal
 

@@ -3,7 +3,7 @@ use Rattle.dp_tree.specs.declared.SiteKind.TheVariants as kind
 use Rattle.dp_check.specs.declared.sites.Sites.{Sites}
 use Rattle.dp_check.specs.Place.{Site, parts, parts_all}
 use Rattle.dp_check.specs.Tables.{sites_of}
-use Rattle.dp_check.specs.Growing.{with_sites}
+use Rattle.dp_check.specs.steps.Growing.{with_sites}
 use Rattle.dp_check.proofs.AnswerLemmas.{fold_more, fold_end}
 use Rattle.dp_check.proofs.TableLemmas as tables
 use Rattle.dp_check.proofs.sites.Sites.+sites.Goals as goal

@@ -1,7 +1,7 @@
 use Rattle.std.proofs.Common.{◌≡◌, drop}
 use Rattle.dp_check.specs.Place.{parts_all}
 use Rattle.dp_check.specs.Tables.{sites_of}
-use Rattle.dp_check.specs.Growing.{with_sites}
+use Rattle.dp_check.specs.steps.Growing.{with_sites}
 use Rattle.dp_check.proofs.sites.Sites.+sites.Given as goal
 
 abbrev pub invariant-statements-loop-s : goal.invariant-statements-loop-s

@@ -1,7 +1,7 @@
 use Rattle.std.proofs.Common.{◌≡◌, List, sym, ap, subst, ◌∙◌}
 use Rattle.dp_check.specs.Place.{parts_all}
 use Rattle.dp_check.specs.Tables.{sites_of, item_parts}
-use Rattle.dp_check.specs.Growing.{with_sites}
+use Rattle.dp_check.specs.steps.Growing.{with_sites}
 use Rattle.dp_check.proofs.TableLemmas as tables
 use Rattle.std.proofs.Common.{OnOk}
 use Rattle.dp_tree.specs.declared.SiteInfo.{SiteInfo}

@@ -1,7 +1,7 @@
 use Rattle.std.proofs.Common.{◌≡◌, drop}
 use Rattle.std.specs.List.{flat_map}
 use Rattle.dp_check.specs.Tables.{sites_of, item_parts}
-use Rattle.dp_check.specs.Growing.{with_sites}
+use Rattle.dp_check.specs.steps.Growing.{with_sites}
 use Rattle.dp_check.proofs.sites.Sites.functions.Given as goal
 
 abbrev pub invariant-loop-item : goal.invariant-loop-item

@@ -1,5 +1,5 @@
 use Rattle.std.proofs.Common.{◌≡◌, drop}
-use Rattle.dp_check.specs.Growing.{with_main}
+use Rattle.dp_check.specs.steps.Growing.{with_main}
 use Rattle.dp_check.proofs.sites.Sites.main.Given as goal
 
 abbrev pub invariant-loop-s : goal.invariant-loop-s

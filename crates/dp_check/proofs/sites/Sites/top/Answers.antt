@@ -4,7 +4,7 @@ use Rattle.dp_tree.specs.declared.SiteKind.TheVariants as kind
 use Rattle.dp_check.specs.Place.{Site, parts_all}
 use Rattle.dp_check.specs.Resolved.{is_region}
 use Rattle.dp_check.specs.Tables.{sites_of}
-use Rattle.dp_check.specs.Growing.{with_sites}
+use Rattle.dp_check.specs.steps.Growing.{with_sites}
 use Rattle.dp_check.proofs.TableLemmas as tables
 use Rattle.dp_check.proofs.TopLemmas as top
 use Rattle.dp_check.proofs.RegionLemmas.{is_region-While, is_region-For, while_is, for_is, plain_unless_loop}

@@ -1,7 +1,7 @@
 use Rattle.std.proofs.Common.{◌≡◌, drop}
 use Rattle.dp_check.specs.Place.{parts_all}
 use Rattle.dp_check.specs.Tables.{locals_of}
-use Rattle.dp_check.specs.Growing.{with_variables}
+use Rattle.dp_check.specs.steps.Growing.{with_variables}
 use Rattle.dp_check.proofs.variables.Variables.+locals.Given as goal
 
 abbrev pub invariant-locals-loop-s : goal.invariant-locals-loop-s

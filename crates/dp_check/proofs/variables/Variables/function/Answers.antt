@@ -2,7 +2,7 @@ use Rattle.std.proofs.Common.{map, sym, ◌∙◌}
 use Rattle.dp_tree.specs.declared.VarScope.TheVariants.{Outer}
 use Rattle.dp_check.specs.Place.{Local, parts_all}
 use Rattle.dp_check.specs.Tables.{locals_of}
-use Rattle.dp_check.specs.Growing.{with_variables}
+use Rattle.dp_check.specs.steps.Growing.{with_variables}
 use Rattle.dp_check.proofs.TableLemmas as tables
 use Rattle.dp_check.proofs.variables.Variables.function.Goals as goal
 

@@ -2,7 +2,7 @@ use Rattle.std.proofs.Common.{◌≡◌, drop}
 use Rattle.std.specs.List.{flat_map}
 use Rattle.dp_tree.specs.declared.VarScope.TheVariants.{Outer}
 use Rattle.dp_check.specs.Tables.{locals_of, item_parts}
-use Rattle.dp_check.specs.Growing.{with_variables}
+use Rattle.dp_check.specs.steps.Growing.{with_variables}
 use Rattle.dp_check.proofs.variables.Variables.functions.Given as goal
 
 abbrev pub invariant-loop-item : goal.invariant-loop-item

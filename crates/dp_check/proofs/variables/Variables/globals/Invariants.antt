@@ -1,6 +1,6 @@
 use Rattle.std.proofs.Common.{◌≡◌, drop}
 use Rattle.dp_check.specs.Tables.{globals}
-use Rattle.dp_check.specs.Growing.{with_variables}
+use Rattle.dp_check.specs.steps.Growing.{with_variables}
 use Rattle.dp_check.proofs.variables.Variables.globals.Given as goal
 
 abbrev pub invariant-loop-item : goal.invariant-loop-item

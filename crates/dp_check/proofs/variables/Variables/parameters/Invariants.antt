@@ -2,7 +2,7 @@ use Rattle.std.proofs.Common.{◌≡◌, drop, map}
 use Rattle.dp_tree.specs.declared.VarScope.TheVariants.{Outer}
 use Rattle.dp_check.specs.Place.{Local}
 use Rattle.dp_check.specs.Tables.{locals_of}
-use Rattle.dp_check.specs.Growing.{with_variables}
+use Rattle.dp_check.specs.steps.Growing.{with_variables}
 use Rattle.dp_check.proofs.variables.Variables.parameters.Given as goal
 
 abbrev pub invariant-loop-name : goal.invariant-loop-name

@@ -3,7 +3,7 @@ use Rattle.dp_tree.specs.declared.VarScope.TheVariants.{Body}
 use Rattle.dp_check.specs.declared.variables.Variables.{Variables}
 use Rattle.dp_check.specs.Place.{parts_all}
 use Rattle.dp_check.specs.Tables.{locals_of}
-use Rattle.dp_check.specs.Growing.{with_variables}
+use Rattle.dp_check.specs.steps.Growing.{with_variables}
 use Rattle.dp_check.proofs.RegionLemmas.{while_is, for_is}
 use Rattle.dp_check.proofs.TopLemmas as top
 use Rattle.dp_check.proofs.variables.Variables.top.Goals as goal

@@ -1,6 +1,6 @@
 use Rattle.std.proofs.Common.{◌≡◌, ℕ, ◌+◌, drop}
-use Rattle.dp_observe.specs.Columns.{at_column}
-use Rattle.dp_observe.specs.Frames.{loads_at}
+use Rattle.dp_observe.specs.steps.Columns.{at_column}
+use Rattle.dp_observe.specs.steps.Frames.{loads_at}
 use Rattle.dp_observe.proofs.tally.Tally.load_all.Given as goal
 
 abbrev pub invariant-loop-cell : goal.invariant-loop-cell

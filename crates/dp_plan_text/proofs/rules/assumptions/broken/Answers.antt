@@ -4,7 +4,7 @@ use Rattle.dp_plan.specs.declared.WrittenPlan.{WrittenPlan}
 use Rattle.dp_plan.specs.Enclosing.{region_ifs, region_inner_whiles}
 use Rattle.dp_plan.specs.declared.Enclosing.{Enclosing}
 use Rattle.dp_plan.specs.Rules.{least, comes_late, site_of_condition, assumed_site, late_while, late_if, wrongly_assumed}
-use Rattle.dp_plan_text.specs.Tables.{is_late_outside, is_outside_or_again}
+use Rattle.dp_plan_text.specs.steps.Tables.{is_late_outside, is_outside_or_again}
 use Rattle.dp_plan_text.proofs.RuleLemmas.{breaks, holds, late_if_is, wrongly_assumed_is}
 use Rattle.dp_plan_text.proofs.rules.assumptions.broken.Goals as goal
 

@@ -1,6 +1,6 @@
 use Rattle.std.proofs.Common.{ap, ◌∙◌, map, IsPermutation, subst, Option, ℕ, List, filter}
 use Rattle.dp_plan.specs.Rules.{least, site_of_condition}
-use Rattle.dp_plan_text.specs.Tables.{lesser_of, is_outside}
+use Rattle.dp_plan_text.specs.steps.Tables.{lesser_of, is_outside}
 use Rattle.dp_plan_text.proofs.RuleLemmas.{wrong_either}
 use Rattle.dp_plan_text.proofs.rules.assumptions.wrongly_assumed.Goals as goal
 

@@ -3,7 +3,7 @@ use Rattle.dp_tree.specs.declared.Program.{Program}
 use Rattle.dp_plan.specs.Written.{listed, region_sites}
 use Rattle.dp_plan.specs.declared.WrittenPlan.{WrittenPlan}
 use Rattle.dp_plan.specs.Rules.{least, occurs_again, not_listed, listed_twice, foreign}
-use Rattle.dp_plan_text.specs.Tables.{is_outside}
+use Rattle.dp_plan_text.specs.steps.Tables.{is_outside}
 use Rattle.dp_plan_text.proofs.RuleLemmas.{breaks, holds, not_listed_is, listed_twice_is, foreign_is}
 use Rattle.dp_plan_text.proofs.rules.lists.broken.Goals as goal
 

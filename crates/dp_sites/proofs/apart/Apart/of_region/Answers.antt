@@ -3,7 +3,7 @@ use Rattle.dp_tree.specs.declared.Stmt.{Stmt}
 use Rattle.dp_plan.specs.declared.Plan.{Plan}
 use Rattle.dp_sites.specs.declared.part.Part.{Part}
 use Rattle.dp_sites.specs.Apart.{TellsApart, bare_plan}
-use Rattle.dp_sites.specs.Parts.{part_list}
+use Rattle.dp_sites.specs.steps.Parts.{part_list}
 use Rattle.dp_sites.specs.Storings.{Storing, body_at, goes_up_from, storing_at}
 use Rattle.dp_sites.proofs.ApartIs.{apart_made}
 use Rattle.dp_sites.proofs.apart.Apart.of_region.Goals as goal

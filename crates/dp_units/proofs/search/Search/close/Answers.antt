@@ -1,10 +1,10 @@
 use Rattle.std.proofs.Common.{◌≡◌, ◌<◌, ◌-◌, ◌∙◌, ℕ, List, length, take, drop, refl, sym, subst, ap, arith}
 use Rattle.std.proofs.lemmas.List.{with_items_is, length-drop}
 use Rattle.std.specs.Vec.{with_items}
-use Rattle.dp_units.specs.Entries.{At, Has}
+use Rattle.dp_units.specs.steps.Entries.{At, Has}
 use Rattle.dp_units.specs.declared.mark.Mark.{Mark}
 use Rattle.dp_units.specs.declared.search.Search.{Search}
-use Rattle.dp_units.specs.Search.{IsMarked}
+use Rattle.dp_units.specs.steps.Search.{IsMarked}
 use Rattle.dp_units.proofs.GoneLemmas.{group_inside, path_within, closed_on}
 use Rattle.dp_units.proofs.CloseLemmas.{at_drop}
 use Rattle.dp_units.proofs.search.Search.close.Goals as goal

@@ -1,6 +1,6 @@
 use Rattle.std.proofs.Common.{ℕ}
-use Rattle.dp_units.specs.Search.{IsUnseen}
-use Rattle.dp_units.specs.Steps.{IsGoing, work_left}
+use Rattle.dp_units.specs.steps.Search.{IsUnseen}
+use Rattle.dp_units.specs.steps.Steps.{IsGoing, work_left}
 use Rattle.dp_units.proofs.search.Search.explore.Given as goal
 
 abbrev pub invariant-loop-bottom : goal.invariant-loop-bottom

@@ -2,11 +2,11 @@ use Rattle.std.proofs.Common.{◌≡◌, ◌<◌, ◌-◌, ◌∙◌, ℕ, List,
 use Rattle.std.specs.declared.alloc.Global.{Global}
 use Rattle.std.proofs.lemmas.Option.{slice_get_read}
 use Rattle.std.proofs.lemmas.Result.{on_ok_weaker}
-use Rattle.dp_units.specs.Entries.{At}
+use Rattle.dp_units.specs.steps.Entries.{At}
 use Rattle.dp_units.specs.declared.mark.Mark.{Mark}
 use Rattle.dp_units.specs.declared.mark.Mark.TheVariants.{Unseen}
 use Rattle.dp_units.specs.declared.search.Search.{Search}
-use Rattle.dp_units.specs.Steps.{HasEntered}
+use Rattle.dp_units.specs.steps.Steps.{HasEntered}
 use Rattle.dp_units.proofs.GoneLemmas.{target_within, entered_on, reach_target, settled_on}
 use Rattle.dp_units.proofs.search.Search.look.Goals as goal
 

@@ -1,6 +1,6 @@
 use Rattle.std.proofs.Common.{◌<◌, length, refl, sym, subst}
 use Rattle.std.proofs.lemmas.Option.{slice_get_read}
-use Rattle.dp_units.specs.Entries.{At}
+use Rattle.dp_units.specs.steps.Entries.{At}
 use Rattle.dp_units.specs.declared.mark.Mark.TheVariants.{Unseen}
 use Rattle.dp_units.specs.declared.search.Search.{Search}
 use Rattle.dp_units.proofs.AtLemmas.{at_one}

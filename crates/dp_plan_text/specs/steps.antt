@@ -1,0 +1,4 @@
+pub mod LineWords
+pub mod Reading
+pub mod Ending
+pub mod Tables
