@@ -1,3 +1,6 @@
 pub mod Division
 pub mod ListLemmas
+pub mod LoopLemmas
+pub mod PositionLemmas
+pub mod ResultLemmas
 pub mod rows

@@ -1,20 +1,14 @@
 -- A region's body, and then the region again: each break in it leaves for what is behind the region.
-use Rattle.std.proofs.Common.{◌≡◌, refl, sym, ap, ◌∙◌, subst, ℕ, true, List, [], ◌∷◌, ◌++◌, ℤ, length, append_assoc, Option, Some, None}
+use Rattle.std.proofs.Common.{◌≡◌, refl, sym, ap, ◌∙◌, subst, ℕ, true, List, [], ◌∷◌, ◌++◌, ℤ, length, append_assoc, Option, Some}
 use Rattle.std.specs.List.{list_all}
 use Rattle.dp_tree.specs.declared.Stmt.{Stmt, out-Stmt}
-use Rattle.dp_tree.specs.declared.Stmt.TheOpen.{Stmt-F, Region}
 use Rattle.dp_tree.specs.declared.Program.{Program}
 use Rattle.dp_tree.specs.Numbering.{is_inner}
 use Rattle.dp_tree.specs.Step.{clear_locals, behind_region, behind_one, region_number, clear_one, cleared_leaving}
 use Rattle.dp_tree.proofs.Heads.{and_true}
-use Rattle.dp_tree.proofs.Inner.{inner_at, inner_out, inner_left}
+use Rattle.dp_tree.proofs.Inner.{inner_out, inner_left, no_number}
 use Rattle.dp_calls.proofs.Relation.{Env, Within, Quiet, stays, exits, Body, finished, onward, Todo, next, exit, leave}
 use Rattle.dp_calls.proofs.Stacks.{one_within}
-
--- no region stands in a region's body
-unnumbered_at : (h : Stmt-F Stmt) → inner_at h ≡ true → region_number h ≡ None
-unnumbered_at (Region q site cond a) w = absurd (cc)
-unnumbered_at _ w = refl
 
 module _ (r : Program) where
   -- what stands in a body before the region has no part in leaving it
@@ -22,7 +16,7 @@ module _ (r : Program) where
   inner_cleared [] behind cells w = refl
   inner_cleared (x ∷ xs) behind cells w =
       let both = and_true (is_inner x) (list_all is_inner xs) w in
-      ap (λ (o : Option ℕ). clear_one r o cells (cleared_leaving r (xs ++ behind) cells)) (unnumbered_at (out-Stmt x) (sym (inner_out x) ∙ both.0)) ∙ inner_cleared xs behind cells both.1
+      ap (λ (o : Option ℕ). clear_one r o cells (cleared_leaving r (xs ++ behind) cells)) (no_number (out-Stmt x) (sym (inner_out x) ∙ both.0)) ∙ inner_cleared xs behind cells both.1
 
   pub cleared_before : (xs : List Stmt) (s : Stmt) (rest : List Stmt) (k : ℕ) → region_number (out-Stmt s) ≡ Some k → list_all is_inner xs ≡ true → (cells : List ℤ) → cleared_leaving r (xs ++ s ∷ rest) cells ≡ clear_locals k r.vars cells
   cleared_before xs s rest k is w cells = inner_cleared xs (s ∷ rest) cells w ∙ ap (λ (o : Option ℕ). clear_one r o cells (cleared_leaving r rest cells)) is

@@ -14,16 +14,14 @@ use Rattle.dp_calls.specs.Expand.{expand}
 use Rattle.dp_calls.proofs.Relation.{PlaceOf, file, own, file_count}
 use Rattle.dp_calls.proofs.Layouts.{no_files}
 use Rattle.dp_calls.proofs.SameMeanings.{expanded_place, expanded_files}
+use Rattle.std.proofs.lemmas.Bool.{or_right}
+use Rattle.dp_base.proofs.ListLemmas.{get_behind}
 
 -- a local with one cell
 one_cell : (x : VarInfo) → x.length ≡ 1 → has_cells x ≡ true
 one_cell x e =
     let single : (x.length == 1) ≡ true = eq-eqb x.length 1 e in
-    and_make (nat_lt 0 x.length) (is_global_scope x.scope || (x.length == 1)) (let less : 0 < x.length = omega (arith, e) in lt-ltb 0 x.length less) (either (is_global_scope x.scope) (x.length == 1) single)
-  where
-    either : (a b : Bool) → b ≡ true → (a || b) ≡ true
-    either true b h = refl
-    either false b h = h
+    and_make (nat_lt 0 x.length) (is_global_scope x.scope || (x.length == 1)) (let less : 0 < x.length = omega (arith, e) in lt-ltb 0 x.length less) (or_right (is_global_scope x.scope) (x.length == 1) single)
 
 -- each entry is a local, with one cell at its place
 abbrev LocalsFrom : ℕ → List VarInfo → Type 0
@@ -104,10 +102,6 @@ begins_as (y ∷ ys) (x ∷ xs) h =
     let first = h 0 y refl in let same : x ≡ y = cc first in
     ap (λ (z : VarInfo). z ∷ xs) same ∙ ap (λ (zs : List VarInfo). y ∷ zs) (begins_as ys xs (λ j info at. h (suc j) info at))
 
-behind_at : (ys zs : List VarInfo) (j : ℕ) → slice_get (ys ++ zs) (length ys + j) ≡ slice_get zs j
-behind_at [] zs j = let e : 0 + j ≡ j = omega arith in ap (slice_get zs) e
-behind_at (y ∷ ys) zs j = let e : suc (length ys) + j ≡ suc (length ys + j) = omega arith in ap (slice_get (y ∷ ys ++ zs)) e ∙ behind_at ys zs j
-
 module _ (p : Program) (checked : IsChecked p) where
   abbrev files : List VarInfo
   files = globals_in p.vars
@@ -119,7 +113,7 @@ module _ (p : Program) (checked : IsChecked p) where
   vars_are = begins_as files (expand p).vars (expanded_files p checked)
 
   locals_from : LocalsFrom (global_count p) others
-  locals_from j info at = by (expanded_place p checked (length files + j) info (ap (λ (vs : List VarInfo). slice_get vs (length files + j)) vars_are ∙ behind_at files others j ∙ at))
+  locals_from j info at = by (expanded_place p checked (length files + j) info (ap (λ (vs : List VarInfo). slice_get vs (length files + j)) vars_are ∙ get_behind files others j ∙ at))
     where
       by : PlaceOf (file_count p) (global_count p) (length files + j) info → (info.first.0 ≡ global_count p + j) × ((info.length ≡ 1) × (is_global_scope info.scope ≡ false))
       by (file less global within some) = absurd (omega (arith, less))

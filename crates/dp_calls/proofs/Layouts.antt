@@ -11,10 +11,7 @@ use Rattle.dp_tree.specs.Trace.{start_cells}
 use Rattle.dp_calls.specs.Frame.{global_count, fresh}
 use Rattle.dp_tree.proofs.Heads.{and_true, and_make}
 use Rattle.dp_calls.proofs.Relation.{PlaceOf, file, own, file_count}
-
-not_false : (b : Bool) → not b ≡ true → b ≡ false
-not_false false e = refl
-not_false true e = absurd (cc e)
+use Rattle.std.proofs.lemmas.Bool.{not-true}
 
 or_one : (a b : Bool) → (a || b) ≡ true → a ≡ false → b ≡ true
 or_one false b h e = h
@@ -31,7 +28,7 @@ pub no_files : (xs : List VarInfo) → list_all is_local_variable xs ≡ true �
 no_files [] h = refl
 no_files (x ∷ xs) h =
     let both = and_true (is_local_variable x) (list_all is_local_variable xs) h in
-    files_none x xs (not_false (is_global_scope x.scope) both.0) ∙ no_files xs both.1
+    files_none x xs (not-true (is_global_scope x.scope) both.0) ∙ no_files xs both.1
 
 first_rest : (x : VarInfo) (xs : List VarInfo) → globals_first (x ∷ xs) ≡ true → is_global_scope x.scope ≡ true → globals_first xs ≡ true
 first_rest x xs h e = sym (ap (λ (t : Bool). if t then globals_first xs else list_all is_local_variable xs) e) ∙ h
@@ -67,7 +64,7 @@ local_lies k (x ∷ xs) locals lies n info at = by n at (λ m there. local_lies 
     both = and_true (is_local_variable x) (list_all is_local_variable xs) locals
 
     no : is_global_scope x.scope ≡ false
-    no = not_false (is_global_scope x.scope) both.0
+    no = not-true (is_global_scope x.scope) both.0
 
     l : Lying k x xs
     l = lying k x xs lies

@@ -16,6 +16,7 @@ use Rattle.dp_tree.proofs.Inner.{hidden_inner, inner_hidden, inner_plain, inner_
 use Rattle.dp_calls.specs.Renaming.{Renamed, named_in, renamed}
 use Rattle.dp_calls.specs.Tables.{Tables, first_tables, with_source_site, next_site}
 use Rattle.dp_calls.specs.Expand.{Piece, Calls, expand, bindings, declared_by, is_known, expand_one, expand_rows, expand_list, calls_within}
+use Rattle.dp_tree.proofs.PlainLists.{plain_front}
 
 abbrev hidden_plain : List Stmt → Bool
 hidden_plain xs = is_plain_in (Rattle.dp_tree.specs.declared.Stmt.TheBlock.hidden-the_row-Stmt-0 xs)
@@ -116,20 +117,6 @@ module _ (p : Program) where
     pub plain_within : (depth f r : ℕ) (names : List Renamed) (t : Tables) → Plain t (calls_within p depth f r names t)
     plain_within zero f r names t = (refl, refl)
     plain_within (suc depth) f r names t = plain_list (calls_within p depth) (plain_within depth) r (body_in (slice_get p.functions f)) names t (plain_body p.functions f checked.functions)
-
--- a plain statement is no region
-plain_top : (r : ℕ) (s : Stmt) → is_plain s ≡ true → (top_fits r s ≡ true) × (next_region r s ≡ r)
-plain_top r (stmt.If' site cond _ a _ b) h = (h, refl)
-plain_top r (stmt.While' site cond _ a) h = (h, refl)
-plain_top r (stmt.Region' q site cond _ a) h = absurd (cc)
-plain_top r (stmt.Break site cond) h = absurd (cc)
-plain_top r _ h = (refl, refl)
-
-plain_front : (r : ℕ) (a b : List Stmt) → list_all is_plain a ≡ true → regions_in_order r b ≡ true → regions_in_order r (a ++ b) ≡ true
-plain_front r [] b h k = k
-plain_front r (s ∷ a) b h k =
-    let both = and_true (is_plain s) (list_all is_plain a) h in let top = plain_top r s both.0 in
-    and_make (top_fits r s) (regions_in_order (next_region r s) (a ++ b)) top.0 (ap (λ q. regions_in_order q (a ++ b)) top.1 ∙ plain_front r a b both.1 k)
 
 region_fits : (r q : ℕ) (site : SiteId) (cond : Expr) (a : List Stmt) → (q == r) ≡ true → list_all is_inner a ≡ true → top_fits r (stmt.Region q site cond a) ≡ true
 unfolding opened_statement

@@ -1,5 +1,5 @@
 -- Each region of an expanded program has its entry in the table, with the numbers of its sites.
-use Rattle.std.proofs.Common.{◌≡◌, refl, sym, ap, ◌∙◌, ℕ, zero, suc, ◌+◌, ◌==◌, Bool, true, false, List, [], ◌∷◌, ◌++◌, length, append_assoc, append-nil, arith}
+use Rattle.std.proofs.Common.{◌≡◌, refl, sym, ap, ◌∙◌, ℕ, suc, ◌+◌, ◌==◌, Bool, true, false, List, [], ◌∷◌, ◌++◌, length, append_assoc, append-nil, arith}
 use Rattle.std.specs.List.{list_all}
 use Rattle.std.proofs.lemmas.Bool.{eq-eqb}
 use Rattle.dp_base.specs.declared.SiteId.{SiteId}
@@ -15,12 +15,10 @@ use Rattle.dp_tree.proofs.Heads.{opened_statement, and_true, and_make}
 use Rattle.dp_calls.specs.Renaming.{Renamed, renamed}
 use Rattle.dp_calls.specs.Tables.{Tables, first_tables, with_source_site, next_site}
 use Rattle.dp_calls.specs.Expand.{Piece, Calls, expand, expand_one, expand_rows, expand_list, calls_within}
-use Rattle.dp_calls.proofs.SiteLaws.{Numbered, is_site, Listed, listed_parts, grows, numbered_rows, numbered_within, numbers-Region, all_listed}
+use Rattle.dp_calls.proofs.SiteLaws.{Numbered, is_site, Listed, listed_parts, grows, numbered_rows, numbered_within, all_listed}
 use Rattle.dp_calls.proofs.PlainLaws.{Plain, inner_rows, plain_one, plain_within}
-
-length-numbers : (first n : ℕ) → length (numbers_from first n) ≡ n
-length-numbers first zero = refl
-length-numbers first (suc n) = ap suc (length-numbers (first + 1) n)
+use Rattle.dp_tree.proofs.NumberLists.{length-numbers_from}
+use Rattle.dp_tree.proofs.SiteForms.{numbers-Region}
 
 unmarked : (s : Stmt) → is_plain s ≡ true → is_marked s ≡ false
 unmarked (stmt.Region' q site cond _ a) h = absurd (cc)
@@ -42,7 +40,7 @@ entry_fits : (info : RegionInfo) (numbers : List ℕ) (first n : ℕ) → number
 entry_fits info numbers first n e f l =
     ap (has_numbers info) e
     ∙ and_make (info.first.0 == first) (info.last.0 == first + length (numbers_from (first + 1) n)) (eq-eqb info.first.0 first f)
-    (eq-eqb info.last.0 (first + length (numbers_from (first + 1) n)) (l ∙ ap (λ k. first + k) (sym (length-numbers (first + 1) n))))
+    (eq-eqb info.last.0 (first + length (numbers_from (first + 1) n)) (l ∙ ap (λ k. first + k) (sym (length-numbers_from (first + 1) n))))
 
 module _ (p : Program) (calls : Calls) (plain : (f r : ℕ) (names : List Renamed) (t : Tables) → Plain t (calls f r names t)) (numbered : (f r : ℕ) (names : List Renamed) (t : Tables) → Numbered t (calls f r names t)) where
   -- these entries are added for the regions of the piece

@@ -1,5 +1,5 @@
 -- The table of an expanded program has the kind and the region of each site.
-use Rattle.std.proofs.Common.{◌≡◌, refl, sym, ap, ap₂, ◌∙◌, subst, ℕ, zero, suc, ◌+◌, ◌-◌, ◌<◌, List, [], ◌∷◌, ◌++◌, map, length, length-append, append_assoc, append-nil, Option, Some, slice_get, arith}
+use Rattle.std.proofs.Common.{◌≡◌, refl, sym, ap, ◌∙◌, subst, ℕ, zero, suc, ◌+◌, ◌-◌, ◌<◌, List, [], ◌∷◌, ◌++◌, map, length, length-append, append_assoc, append-nil, Option, Some, slice_get, arith}
 use Rattle.std.specs.List.{flat_map}
 use Rattle.std.proofs.lemmas.List.{map-append}
 use Rattle.dp_base.specs.declared.SiteId.{SiteId}
@@ -16,38 +16,14 @@ use Rattle.dp_tree.specs.Functions.{body_in, params_in}
 use Rattle.dp_tree.specs.Numbering.{site_numbers, site_numbers_in, site_numbers_all, numbers_from}
 use Rattle.dp_tree.specs.SiteTable.{role_of, site_roles, site_roles_in, site_roles_all}
 use Rattle.dp_tree.specs.Checked.{IsChecked}
-use Rattle.dp_tree.proofs.Heads.{opened_statement}
 use Rattle.dp_calls.specs.Renaming.{Renamed, named_in, renamed}
 use Rattle.dp_calls.specs.Tables.{Tables, first_tables, with_local, with_site, with_source_site, site_in, next_site}
 use Rattle.dp_calls.specs.Expand.{Piece, Calls, expand, bindings, is_known, expand_one, expand_rows, expand_list, calls_within}
 use Rattle.dp_calls.proofs.SiteLaws.{declared_sites}
+use Rattle.dp_tree.proofs.SiteForms.{roles-If, roles-While, roles-Region, roles_both}
 
 abbrev Roles : Type 0
 Roles = List (SiteKind × ℕ)
-
-abbrev hidden_roles : ℕ → List Stmt → Roles
-hidden_roles r xs = site_roles_in r (Rattle.dp_tree.specs.declared.Stmt.TheBlock.hidden-the_row-Stmt-0 xs)
-
-roles_hidden : (r : ℕ) (xs : List Stmt) → hidden_roles r xs ≡ site_roles_all r xs
-unfolding opened_statement
-roles_hidden r [] = refl
-roles_hidden r (x ∷ xs) = ap (λ (ks : Roles). site_roles r x ++ ks) (roles_hidden r xs)
-
-roles-If : (r : ℕ) (site : SiteId) (cond : Expr) (a b : List Stmt) → site_roles r (stmt.If site cond a b) ≡ (kind.If, r) ∷ (site_roles_all r a ++ site_roles_all r b)
-unfolding opened_statement
-roles-If r site cond a b = ap₂ (λ (ks ls : Roles). (kind.If, r) ∷ (ks ++ ls)) (roles_hidden r a) (roles_hidden r b)
-
-roles-While : (r : ℕ) (site : SiteId) (cond : Expr) (a : List Stmt) → site_roles r (stmt.While site cond a) ≡ (kind.While, r) ∷ site_roles_all r a
-unfolding opened_statement
-roles-While r site cond a = ap (λ (ks : Roles). (kind.While, r) ∷ ks) (roles_hidden r a)
-
-roles-Region : (r q : ℕ) (site : SiteId) (cond : Expr) (a : List Stmt) → site_roles r (stmt.Region q site cond a) ≡ (kind.While, q) ∷ site_roles_all q a
-unfolding opened_statement
-roles-Region r q site cond a = ap (λ (ks : Roles). (kind.While, q) ∷ ks) (roles_hidden q a)
-
-roles_join : (r : ℕ) (a b : List Stmt) → site_roles_all r (a ++ b) ≡ site_roles_all r a ++ site_roles_all r b
-roles_join r [] b = refl
-roles_join r (x ∷ a) b = ap (λ (ks : Roles). site_roles r x ++ ks) (roles_join r a b) ∙ sym (append_assoc (site_roles r x) (site_roles_all r a) (site_roles_all r b))
 
 length-both : (a b : List ℕ) (c d : Roles) → length a ≡ length c → length b ≡ length d → length (a ++ b) ≡ length (c ++ d)
 length-both a b c d e f = let g = length-append a b in let h = length-append c d in omega (arith, e, f, g, h)
@@ -83,7 +59,7 @@ told_both t u v ks ls h k = k ∙ ap (λ (ms : Roles). ms ++ ls) h ∙ append_as
 
 told_joined : (r : ℕ) (t : Tables) (a b : Piece) → ToldBy r t a → ToldBy r a.tables b → ToldBy r t (record b { code = a.code ++ b.code })
 told_joined r t a b h k =
-    told_both t a.tables b.tables (site_roles_all r a.code) (site_roles_all r b.code) h k ∙ ap (λ (ks : Roles). map role_of t.sites ++ ks) (sym (roles_join r a.code b.code))
+    told_both t a.tables b.tables (site_roles_all r a.code) (site_roles_all r b.code) h k ∙ ap (λ (ks : Roles). map role_of t.sites ++ ks) (sym (roles_both r a.code b.code))
 
 -- the statement's own sites are all that it stands for
 told_alone : (r : ℕ) (t after : Tables) (s : Stmt) (ks : Roles) → site_roles r s ≡ ks → Told t ks after → Told t (site_roles_all r (s ∷ [])) after

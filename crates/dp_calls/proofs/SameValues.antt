@@ -15,14 +15,7 @@ use Rattle.dp_tree.proofs.Heads.{and_true}
 use Rattle.dp_base.specs.declared.FaultKind.TheVariants.{Index}
 use Rattle.dp_base.specs.declared.UnOp.{UnOp}
 use Rattle.dp_base.specs.declared.BinOp.{BinOp}
-
-pub or_true : (a b : Bool) → (a || b) ≡ true → (a ≡ true) ⊎ (b ≡ true)
-or_true true b e = inl refl
-or_true false b e = inr e
-
-pub or_right : (a b : Bool) → b ≡ true → (a || b) ≡ true
-or_right true b e = refl
-or_right false b e = e
+use Rattle.std.proofs.lemmas.Bool.{or_right, or_cases}
 
 pub or_left : (a b : Bool) → a ≡ true → (a || b) ≡ true
 or_left true b e = refl
@@ -30,7 +23,7 @@ or_left false b e = absurd (cc)
 
 -- behind one variable more
 pub sees_one : (y : ℕ) (visible : List ℕ) (x : VarId) → sees (y ∷ visible) x ≡ true → (y ≡ x.0) ⊎ (sees visible x ≡ true)
-sees_one y visible x e = elim (or_true (y == x.0) (sees visible x) e) [ inl h ↦ inl (eqb-true y x.0 h) | inr h ↦ inr h ]
+sees_one y visible x e = elim (or_cases (y == x.0) (sees visible x) e) [ inl h ↦ inl (eqb-true y x.0 h) | inr h ↦ inr h ]
 
 pub sees_new : (y : ℕ) (visible : List ℕ) (x : VarId) → y ≡ x.0 → sees (y ∷ visible) x ≡ true
 sees_new y visible x e = or_left (y == x.0) (sees visible x) (eq-eqb y x.0 e)

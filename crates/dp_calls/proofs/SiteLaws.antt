@@ -13,35 +13,14 @@ use Rattle.dp_tree.specs.declared.SiteInfo.{SiteInfo}
 use Rattle.dp_tree.specs.declared.SiteKind.TheVariants.{Assign}
 use Rattle.dp_tree.specs.declared.Program.{Program}
 use Rattle.dp_tree.specs.Functions.{body_in, params_in}
-use Rattle.std.proofs.lemmas.Grind.{flat_map-append}
-use Rattle.dp_tree.specs.Numbering.{number_at, site_numbers, site_numbers_in, site_numbers_all, numbers_from}
-use Rattle.dp_tree.proofs.Asked.{asked-If, asked-While, asked-Region}
+use Rattle.dp_tree.specs.Numbering.{site_numbers, site_numbers_in, site_numbers_all, numbers_from}
 use Rattle.dp_tree.specs.Checked.{IsChecked}
-use Rattle.dp_tree.proofs.Heads.{opened_statement, and_true, and_make}
+use Rattle.dp_tree.proofs.Heads.{and_true, and_make}
 use Rattle.dp_calls.specs.Renaming.{Renamed, named_in, renamed}
 use Rattle.dp_calls.specs.Tables.{Tables, first_tables, with_local, with_site, with_source_site, site_in, next_site}
 use Rattle.dp_calls.specs.Expand.{Piece, Calls, expand, bindings, declared_by, declared_in, is_known, expand_one, expand_rows, expand_list, calls_within}
-
-numbers-If : (site : SiteId) (cond : Expr) (a b : List Stmt) → site_numbers (stmt.If site cond a b) ≡ site.0 ∷ (site_numbers_all a ++ site_numbers_all b)
-unfolding opened_statement
-numbers-If site cond a b = asked-If number_at site cond a b
-
-numbers-While : (site : SiteId) (cond : Expr) (a : List Stmt) → site_numbers (stmt.While site cond a) ≡ site.0 ∷ site_numbers_all a
-unfolding opened_statement
-numbers-While site cond a = asked-While number_at site cond a
-
-pub numbers-Region : (q : ℕ) (site : SiteId) (cond : Expr) (a : List Stmt) → site_numbers (stmt.Region q site cond a) ≡ site.0 ∷ site_numbers_all a
-unfolding opened_statement
-numbers-Region q site cond a = asked-Region number_at q site cond a
-
-numbers_join : (a b : List Stmt) → site_numbers_all (a ++ b) ≡ site_numbers_all a ++ site_numbers_all b
-numbers_join a b = flat_map-append site_numbers a b
-
-from_join : (first m n : ℕ) → numbers_from first m ++ numbers_from (first + m) n ≡ numbers_from first (m + n)
-from_join first zero n = let e : first + 0 ≡ first = omega arith in let f : 0 + n ≡ n = omega arith in ap (λ k. numbers_from k n) e ∙ ap (numbers_from first) (sym f)
-from_join first (suc m) n =
-    let e : first + suc m ≡ first + 1 + m = omega arith in let f : suc m + n ≡ suc (m + n) = omega arith in
-    ap (λ k. first ∷ (numbers_from (first + 1) m ++ numbers_from k n)) e ∙ ap (λ (ns : List ℕ). first ∷ ns) (from_join (first + 1) m n) ∙ ap (numbers_from first) (sym f)
+use Rattle.dp_tree.proofs.NumberLists.{numbers_from-append}
+use Rattle.dp_tree.proofs.SiteForms.{numbers-If, numbers-While, numbers-Region, numbers_both}
 
 -- from these tables on, so many sites come next in order
 abbrev pub Numbers : Tables → List ℕ → Tables → ℕ → Type 0
@@ -57,7 +36,7 @@ both_numbers : (t u v : Tables) (ms ns : List ℕ) (m n : ℕ) → Numbers t ms 
 both_numbers t u v ms ns m n h k =
     let e : suc (length u.sites) ≡ suc (length t.sites) + m = let g = h.1 in omega (arith, g) in
     let l : length v.sites ≡ length t.sites + (m + n) = let g = h.1 in let f = k.1 in omega (arith, g, f) in
-    (ap₂ (λ (xs ys : List ℕ). xs ++ ys) h.0 k.0 ∙ ap (λ j. numbers_from (suc (length t.sites)) m ++ numbers_from j n) e ∙ from_join (suc (length t.sites)) m n, l)
+    (ap₂ (λ (xs ys : List ℕ). xs ++ ys) h.0 k.0 ∙ ap (λ j. numbers_from (suc (length t.sites)) m ++ numbers_from j n) e ∙ sym (numbers_from-append (suc (length t.sites)) m n), l)
 
 -- a site, and then these
 first_numbers : (t u v : Tables) (ns : List ℕ) (n : ℕ) → length u.sites ≡ suc (length t.sites) → Numbers u ns v n → Numbers t (suc (length t.sites) ∷ ns) v (suc n)
@@ -72,7 +51,7 @@ one_number t u grown = let l : length u.sites ≡ length t.sites + 1 = omega (ar
 joined : (t : Tables) (a b : Piece) → Numbered t a → Numbered a.tables b → Numbered t (record b { code = a.code ++ b.code })
 joined t a b h k =
     let both = both_numbers t a.tables b.tables (site_numbers_all a.code) (site_numbers_all b.code) h.0 k.0 h.1 k.1 in
-    (h.0 + k.0, (numbers_join a.code b.code ∙ both.0, both.1))
+    (h.0 + k.0, (numbers_both a.code b.code ∙ both.0, both.1))
 
 -- the statement's own numbers are all that it stands for
 alone_numbers : (t after : Tables) (s : Stmt) (numbers : List ℕ) (n : ℕ) → site_numbers s ≡ numbers → Numbers t numbers after n → Numbers t (site_numbers_all (s ∷ [])) after n

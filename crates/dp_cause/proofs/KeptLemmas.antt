@@ -7,7 +7,7 @@ unfoldable use Rattle.dp_plan.specs.Walks.{is_region_of}
 use Rattle.dp_semantics.specs.FindsCauses.{turn_by, turn_in}
 use Rattle.dp_semantics.specs.EpochCauses.{views_from}
 use Rattle.dp_cause.specs.Views.{last_or}
-use Rattle.dp_cause.proofs.StepLemmas.{dropped}
+use Rattle.dp_base.proofs.ListLemmas.{next_of}
 
 last_more : (made : List (List ℤ)) (view other : List ℤ) → last_or (made ++ view ∷ []) other ≡ view
 last_more [] view other = refl
@@ -38,8 +38,8 @@ views_more plan kept made new whole place own view d shared h own_is shared_is v
 
 pub region_here : (r : ℕ) (all : List Stmt) (i : ℕ) (x : Stmt) → i < length all → x ≡ get_or all i x → is_region_of r x ≡ true → turn_in (filter (is_region_at r) (drop i all)) ≡ turn_by (out-Stmt x)
 unfolding is_region_of
-region_here r all i x h is test = ap (λ (xs : List Stmt). turn_in (filter (is_region_at r) xs)) (dropped all i x h is) ∙ rw test refl
+region_here r all i x h is test = ap (λ (xs : List Stmt). turn_in (filter (is_region_at r) xs)) (next_of all i x h is) ∙ rw test refl
 
 pub region_next : (r : ℕ) (all : List Stmt) (i : ℕ) (x : Stmt) → i < length all → x ≡ get_or all i x → is_region_of r x ≡ false → turn_in (filter (is_region_at r) (drop i all)) ≡ turn_in (filter (is_region_at r) (drop (i + 1) all))
 unfolding is_region_of
-region_next r all i x h is test = ap (λ (xs : List Stmt). turn_in (filter (is_region_at r) xs)) (dropped all i x h is) ∙ rw test refl
+region_next r all i x h is test = ap (λ (xs : List Stmt). turn_in (filter (is_region_at r) xs)) (next_of all i x h is) ∙ rw test refl

@@ -1,5 +1,5 @@
 -- What a look at an event's words says of the event.
-use Rattle.std.proofs.Common.{◌≡◌, refl, sym, ap, ◌∙◌, length-append, arith, ℕ, suc, ◌+◌, ◌<◌, ◌≤◌, ◌==◌, Bool, true, false, not, ◌&&◌, if◌then◌else◌, List, [], ◌∷◌, ◌++◌, length, ℤ, pos, nat_le, get_or, drop, eq-eqb, le-leb, inl, inr, Option, Some, None, add-one, drop-cons}
+use Rattle.std.proofs.Common.{◌≡◌, refl, sym, ap, ◌∙◌, length-append, arith, ℕ, suc, ◌+◌, ◌<◌, ◌≤◌, ◌==◌, Bool, true, false, not, ◌&&◌, if◌then◌else◌, List, [], ◌∷◌, ◌++◌, length, ℤ, pos, nat_le, get_or, drop, le-leb, inl, inr, Option, Some, None, add-one, drop-cons}
 use Rattle.std.proofs.lemmas.Bool.{cases_Bool, lt-leb}
 use Rattle.std.proofs.Math.Bool.{or-true}
 use Rattle.std.specs.List.{list_all}
@@ -15,7 +15,7 @@ use Rattle.dp_plan.specs.declared.Plan.{Plan}
 use Rattle.dp_plan.specs.Access.{stage_of}
 use Rattle.dp_plan.specs.Checked.{is_checked}
 use Rattle.dp_semantics.specs.Clean.{as_assumed, goes_as, went, stays_late, event_as_assumed, event_words}
-use Rattle.dp_semantics.specs.Words.{load_word, load_words, done_word, words_of, is_load_of}
+use Rattle.dp_semantics.specs.Words.{load_words, done_word, words_of, is_load_of}
 use Rattle.dp_semantics.specs.Cause.{Cause, ByAssumption, ByWords, by_load, assumption_cause}
 use Rattle.dp_semantics.specs.CauseWalk.{Watch, view_of, count_of, watched, shown_from, load_cause_in, checked_cause_in, words_cause_in, cause_in}
 use Rattle.dp_semantics.specs.Reported.{reported}
@@ -28,18 +28,13 @@ use Rattle.dp_cause.specs.Watching.{seen_otherwise, reported_if, Told, HasForm, 
 use Rattle.dp_cause.proofs.ViewLemmas.{shown_store, shown_none, counted_is}
 use Rattle.std.proofs.lemmas.Option.{same_Some}
 use Rattle.std.specs.Option.{option_or}
-
-load_is : (site : ℕ) (l : Load) → is_load_of site (load_word site l) ≡ true
-load_is site l = rw (eq-eqb site site refl) refl
-
-done_is : (site : ℕ) (effect : Effect) → is_load_of site (done_word site effect) ≡ false
-done_is site effect = rw (eq-eqb site site refl) refl
+use Rattle.dp_semantics.proofs.Taking.{load_here, done_no_load}
 
 -- among the words of loads and of what was done the loads alone are compared
 seen_loads : (site : ℕ) (view : List ℤ) (loads : List Load) (effect : Effect) → seen_otherwise site view (load_words site loads ++ done_word site effect ∷ []) ≡ load_cause_in view site loads
-seen_loads site view [] effect = ap (λ (b : Bool). option_or (if b then by_load site (record { cell = (done_word site effect).index; value = value_of effect }) (get_or view (done_word site effect).index (pos 0)) else None) None) (done_is site effect)
+seen_loads site view [] effect = ap (λ (b : Bool). option_or (if b then by_load site (record { cell = (done_word site effect).index; value = value_of effect }) (get_or view (done_word site effect).index (pos 0)) else None) None) (done_no_load site effect)
 seen_loads site view (l ∷ rest) effect =
-    ap (λ (b : Bool). option_or (if b then by_load site l (get_or view l.cell (pos 0)) else None) (seen_otherwise site view (load_words site rest ++ done_word site effect ∷ []))) (load_is site l)
+    ap (λ (b : Bool). option_or (if b then by_load site l (get_or view l.cell (pos 0)) else None) (seen_otherwise site view (load_words site rest ++ done_word site effect ∷ []))) (load_here site l)
     ∙ ap (λ (o : Option Cause). option_or (by_load site l (get_or view l.cell (pos 0))) o) (seen_loads site view rest effect)
 
 pub seen_words : (p : Program) (plan : Plan) (view : List ℤ) (event : Event) → seen_otherwise event.site view (words_of p plan event) ≡ checked_cause_in p plan view event

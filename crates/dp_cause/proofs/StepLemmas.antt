@@ -1,5 +1,5 @@
 -- What steps say of the walk that finds a cause.
-use Rattle.std.proofs.Common.{append-nil, ◌≡◌, refl, sym, ap, ◌∙◌, subst, arith, ℕ, zero, suc, ◌+◌, ◌-◌, ◌<◌, length, get_or, drop, add-one, drop-cons, Bool, true, false, if◌then◌else◌, List, [], ◌∷◌, ◌++◌, ℤ, Option, Some, None, Ok, Err}
+use Rattle.std.proofs.Common.{append-nil, ◌≡◌, refl, sym, ap, ◌∙◌, subst, arith, ℕ, zero, suc, ◌+◌, ◌-◌, Bool, true, false, if◌then◌else◌, List, [], ◌∷◌, ◌++◌, ℤ, Option, Some, None, Ok, Err}
 use Rattle.std.proofs.lemmas.Bool.{cases_Bool}
 use Rattle.std.specs.List.{list_all}
 use Rattle.dp_tree.specs.Numbering.{is_inner}
@@ -185,7 +185,3 @@ module _ (g : Ground) where
 pub turn_is : (x : Stmt) (r : ℕ) (site : SiteId) (cond : Expr) (body given : List Stmt) → x ≡ tree.Region r site cond body → given ≡ body → tree.If site cond given [] ∷ [] ≡ turn_by (out-Stmt x)
 turn_is x r site cond body given is given_is =
     ap (λ (xs : List Stmt). tree.If site cond xs [] ∷ []) given_is ∙ sym (ap turn_by (outs-Region r site cond body)) ∙ ap (λ (y : Stmt). turn_by (out-Stmt y)) (sym is)
-
--- the statement at a place, and those behind it
-pub dropped : (all : List Stmt) (i : ℕ) (x : Stmt) → i < length all → x ≡ get_or all i x → drop i all ≡ x ∷ drop (i + 1) all
-dropped all i x h is = rw add-one (drop-cons all i x h ∙ ap (λ (y : Stmt). y ∷ drop (suc i) all) (sym is))

@@ -7,6 +7,7 @@ use Rattle.dp_tree.specs.declared.VarScope.TheVariants.{Body}
 use Rattle.dp_tree.specs.Scoping.{is_scope_in, is_declared_in}
 use Rattle.dp_check.specs.Place.{Part, Site, Local, local_count}
 use Rattle.dp_check.specs.Tables.{laid, locals_of}
+use Rattle.dp_base.proofs.ListLemmas.{get_behind}
 
 -- the n variables from k on are declared in region r, or outside all regions where r is 0
 abbrev pub Declared : List VarInfo → ℕ → ℕ → ℕ → Type 0
@@ -17,11 +18,6 @@ declared_front vars r k a b n e d j low high = d j low (omega arith)
 
 pub declared_back : (vars : List VarInfo) (r k a b n m : ℕ) → n ≡ a + b → m ≡ k + a → Declared vars r k n → Declared vars r m b
 declared_back vars r k a b n m e f d j low high = d j (omega arith) (omega arith)
-
-get_past : (before ys : List VarInfo) (k : ℕ) → slice_get (before ++ ys) (length before + k) ≡ slice_get ys k
-get_past [] ys k = let e : 0 + k ≡ k = omega arith in ap (slice_get ys) e
-get_past (x ∷ before) ys k =
-    let e : suc (length before) + k ≡ suc (length before + k) = omega arith in ap (slice_get (x ∷ (before ++ ys))) e ∙ get_past before ys k
 
 module _ (r : ℕ) where
   -- where a variable lies in memory doesn't matter
@@ -43,7 +39,7 @@ module _ (r : ℕ) where
         let is : j ≡ length before + (j - length before) = omega arith in
         declared_laid 0 (before ++ (locals_of scope ps ++ later)) j
         ∙ ap (λ i. is_declared_in r (slice_get (before ++ (locals_of scope ps ++ later)) i)) is
-        ∙ ap (is_declared_in r) (get_past before (locals_of scope ps ++ later) (j - length before))
+        ∙ ap (is_declared_in r) (get_behind before (locals_of scope ps ++ later) (j - length before))
         ∙ declared_here ps (j - length before) (omega arith)
 
 -- a local of a region is one of that region

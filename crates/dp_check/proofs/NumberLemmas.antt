@@ -1,8 +1,6 @@
 -- The sites of a checked program are numbered in text order.
-use Rattle.std.proofs.Common.{◌≡◌, refl, sym, ap, ◌∙◌, ℕ, zero, suc, ◌+◌, true, if◌then◌else◌, List, [], ◌∷◌, ◌++◌, map, length, length-append, append-nil, arith}
+use Rattle.std.proofs.Common.{◌≡◌, refl, sym, ap, ◌∙◌, ℕ, suc, ◌+◌, true, if◌then◌else◌, List, [], ◌∷◌, ◌++◌, map, length, length-append, append-nil, arith}
 use Rattle.std.specs.List.{flat_map}
-use Rattle.dp_tree.specs.declared.Expr.{Expr}
-use Rattle.dp_base.specs.declared.SiteId.{SiteId}
 use Rattle.dp_tree.specs.declared.Stmt.{Stmt}
 use Rattle.dp_tree.specs.declared.Stmt.TheVariants as code
 use Rattle.dp_tree.specs.declared.SiteKind.TheVariants as kind
@@ -23,37 +21,16 @@ use Rattle.dp_check.specs.Resolved.{next_site, resolved, resolved_in, resolved_a
 use Rattle.dp_check.specs.Tables.{sites_of, loop_parts, top_sites, main_sites, after_top, item_parts, function_parts, sites}
 use Rattle.dp_check.specs.Items.{items_functions, after_item}
 use Rattle.dp_check.specs.CheckAnswer.{begin, main_begin, resolved as whole}
-use Rattle.dp_tree.specs.Numbering.{number_at, site_numbers, site_numbers_all, numbers_from, SitesInOrder}
-use Rattle.std.proofs.lemmas.Grind.{flat_map-append}
-use Rattle.dp_tree.proofs.Asked.{asked-If, asked-While, asked-Region}
+use Rattle.dp_tree.specs.Numbering.{site_numbers, site_numbers_all, numbers_from, SitesInOrder}
 use Rattle.dp_check.proofs.PlaceLemmas.{after_site, after_in_site, after_all_site, site_count-append}
 use Rattle.dp_check.proofs.ItemLemmas.{after_params_site}
 use Rattle.dp_check.proofs.TableLemmas.{length-sites_of, length-top_sites, parts-While, parts-For}
+use Rattle.dp_tree.proofs.NumberLists.{numbers_from-append}
+use Rattle.dp_tree.proofs.SiteForms.{numbers-If, numbers-While, numbers-Region, numbers_both}
 
 unfoldable pub stmt_opened : Unit {0}
 unfolding Rattle.dp_tree.specs.declared.Stmt.TheBlock.shape-the_row-Stmt-0 Rattle.dp_tree.specs.declared.Stmt.TheBlock.hidden-the_row-Stmt-0 denote.Hole.Carrier.hidden
 stmt_opened = tt
-
-numbers-If : (site : SiteId) (cond : Expr) (a b : List Stmt) → site_numbers (code.If site cond a b) ≡ site.0 ∷ (site_numbers_all a ++ site_numbers_all b)
-unfolding stmt_opened
-numbers-If site cond a b = asked-If number_at site cond a b
-
-numbers-While : (site : SiteId) (cond : Expr) (a : List Stmt) → site_numbers (code.While site cond a) ≡ site.0 ∷ site_numbers_all a
-unfolding stmt_opened
-numbers-While site cond a = asked-While number_at site cond a
-
-numbers-Region : (r : ℕ) (site : SiteId) (cond : Expr) (a : List Stmt) → site_numbers (code.Region r site cond a) ≡ site.0 ∷ site_numbers_all a
-unfolding stmt_opened
-numbers-Region r site cond a = asked-Region number_at r site cond a
-
-numbers_from-append : (k a b : ℕ) → numbers_from k (a + b) ≡ numbers_from k a ++ numbers_from (k + a) b
-numbers_from-append k zero b = let e : 0 + b ≡ b = omega arith in let f : k ≡ k + 0 = omega arith in ap (numbers_from k) e ∙ ap (λ m. numbers_from m b) f
-numbers_from-append k (suc a) b =
-    let e : suc a + b ≡ suc (a + b) = omega arith in let f : (k + 1) + a ≡ k + suc a = omega arith in
-    ap (numbers_from k) e ∙ ap (λ xs. k ∷ xs) (numbers_from-append (k + 1) a b ∙ ap (λ m. numbers_from (k + 1) a ++ numbers_from m b) f)
-
-numbers_both : (a b : List Stmt) → site_numbers_all (a ++ b) ≡ site_numbers_all a ++ site_numbers_all b
-numbers_both a b = flat_map-append site_numbers a b
 
 -- two pieces of a text, one behind the other
 numbers_joined : (k a b : ℕ) {xs ys : List ℕ} {m : ℕ} → m ≡ k + a → xs ≡ numbers_from k a → ys ≡ numbers_from m b → xs ++ ys ≡ numbers_from k (a + b)

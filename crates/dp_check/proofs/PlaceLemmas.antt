@@ -1,5 +1,5 @@
 -- Places after the forms of statements.
-use Rattle.std.proofs.Common.{◌≡◌, inl, inr, Result, Ok, Err, OnErr, subst, refl, sym, ap, ◌∙◌, ℕ, ◌+◌, ◌≤◌, List, [], ◌∷◌, ◌++◌, length, take, arith, length-append}
+use Rattle.std.proofs.Common.{◌≡◌, inl, inr, subst, refl, sym, ap, ◌∙◌, ℕ, ◌+◌, ◌≤◌, List, [], ◌∷◌, ◌++◌, length, take, arith, length-append}
 use Rattle.std.proofs.lemmas.List.{take-append-le, take_all as all_taken}
 use Rattle.dp_tree.specs.declared.SiteKind.{SiteKind}
 use Rattle.dp_tree.specs.declared.SiteKind.TheVariants as kind
@@ -184,7 +184,3 @@ still_past p more (inr variables) = inr (omega arith)
 -- so a front of the parts that is past them shows that the whole is
 pub past_by : (p q : Place) (more : List Part) → q ≡ passed p more → IsPastNumbers p → IsPastNumbers q
 past_by p q more same past = subst IsPastNumbers (sym same) (still_past p more past)
-
-pub on_err : {T E : Type 0} (r : Result T E) (P : Type 0) → P → OnErr r P
-on_err (Ok x) P p = tt
-on_err (Err e) P p = p

@@ -22,6 +22,7 @@ use Rattle.dp_tree.proofs.SitesOf.{everywhere_hidden}
 use Rattle.dp_check.proofs.NumberLemmas.{stmt_opened}
 use Rattle.dp_check.specs.Checked.{is_unbroken, is_unbroken_in, may_leave, fits_at, breaks_fit_at_top, is_unbroken_item}
 use Rattle.dp_check.proofs.BoolLemmas.{both_true, halves, same_number, all_of_both, all_weaker}
+use Rattle.dp_tree.proofs.PlainLists.{plain_front}
 
 plain_hidden : (xs : List Stmt) → is_plain_in (Rattle.dp_tree.specs.declared.Stmt.TheBlock.hidden-the_row-Stmt-0 xs) ≡ list_all is_plain xs
 plain_hidden xs = everywhere_hidden is_plain_at xs
@@ -92,23 +93,6 @@ inner_all p (s ∷ rest) w =
     let both = halves (may_leave s) (list_all may_leave rest) w in
     all_of_both is_inner (resolved p s) (resolved_all (after p s) rest) (inner p s both.0) (inner_all (after p s) rest both.1)
 
-plain-fits : (r : ℕ) (s : Stmt) → is_plain s ≡ true → top_fits r s ≡ true
-plain-fits r (code.Region' q site cond _ a) h = absurd (cc)
-plain-fits r (code.Break site cond) h = absurd (cc)
-plain-fits r _ h = h
-
-plain-next : (r : ℕ) (s : Stmt) → is_plain s ≡ true → next_region r s ≡ r
-plain-next r (code.Region' q site cond _ a) h = absurd (cc)
-plain-next r (code.Break site cond) h = absurd (cc)
-plain-next r _ h = refl
-
--- plain statements leave the regions' numbers as they are
-plain_before : (r : ℕ) (xs rest : List Stmt) → list_all is_plain xs ≡ true → regions_in_order r rest ≡ true → regions_in_order r (xs ++ rest) ≡ true
-plain_before r [] rest w h = h
-plain_before r (x ∷ xs) rest w h =
-    let k = halves (is_plain x) (list_all is_plain xs) w in
-    both_true (plain-fits r x k.0) (ap (λ n. regions_in_order n (xs ++ rest)) (plain-next r x k.0) ∙ plain_before r xs rest k.1 h)
-
 region_before : (p : Place) (r : ℕ) (cond : RawExpr) (body rest : List Stmt) → list_all is_inner body ≡ true → regions_in_order (r + 1) rest ≡ true
     → regions_in_order r (code.Region r (next_site p) (resolved_expr p.names cond) body ∷ rest) ≡ true
 region_before p r cond body rest w h =
@@ -125,8 +109,8 @@ top_before p r (open_form.For line true first cond step body) s rest w h =
     let inside = all_of_both is_inner (resolved_all (sited q) body) (resolved_all later step) (inner_all (sited q) body m.0)
     (all_weaker is_plain is_inner inner_from (resolved_all later step) (plain_all later step m.1)) in
     ap (regions_in_order r) (append_assoc (resolved_all p first) (region ∷ []) rest)
-    ∙ plain_before r (resolved_all p first) (region ∷ rest) (plain_all p first k.0) (region_before q r cond (with_step (sited q) step body) rest inside h)
-top_before p r _ s rest w h = plain_before r (resolved p s) rest (plain p s w) h
+    ∙ plain_front r (resolved_all p first) (region ∷ rest) (plain_all p first k.0) (region_before q r cond (with_step (sited q) step body) rest inside h)
+top_before p r _ s rest w h = plain_front r (resolved p s) rest (plain p s w) h
 
 pub regions_stand_in_order : (p : Place) (r : ℕ) (all : List RawStmt) → list_all breaks_fit_at_top all ≡ true → regions_in_order r (resolved_main p r all) ≡ true
 regions_stand_in_order p r [] w = refl

@@ -1,11 +1,8 @@
 -- The table of a checked program has the kind and the region of each site.
-use Rattle.std.proofs.Common.{◌≡◌, refl, sym, ap, ◌∙◌, ℕ, true, List, [], ◌∷◌, ◌++◌, map, append-nil, append_assoc}
+use Rattle.std.proofs.Common.{◌≡◌, refl, sym, ap, ◌∙◌, ℕ, true, List, [], ◌∷◌, ◌++◌, map, append-nil}
 use Rattle.std.specs.List.{flat_map}
 use Rattle.std.proofs.lemmas.List.{map-append}
-use Rattle.dp_base.specs.declared.SiteId.{SiteId}
-use Rattle.dp_tree.specs.declared.Expr.{Expr}
 use Rattle.dp_tree.specs.declared.Function.{Function}
-use Rattle.dp_tree.specs.declared.Stmt.{Stmt}
 use Rattle.dp_tree.specs.declared.Stmt.TheVariants as code
 use Rattle.dp_tree.specs.declared.SiteInfo.{SiteInfo}
 use Rattle.dp_tree.specs.declared.SiteKind.{SiteKind}
@@ -20,7 +17,7 @@ use Rattle.dp_tree.specs.declared.raw.RawStmt.TheOpen as open_form
 use Rattle.dp_tree.specs.declared.raw.RawItem.{RawItem}
 use Rattle.dp_tree.specs.declared.raw.RawItem.TheVariants as item
 use Rattle.dp_tree.specs.declared.raw.RawProgram.{RawProgram}
-use Rattle.dp_tree.specs.SiteTable.{role_of, site_roles, site_roles_in, site_roles_all, SitesAsInText}
+use Rattle.dp_tree.specs.SiteTable.{role_of, site_roles, site_roles_all, SitesAsInText}
 use Rattle.dp_check.specs.declared.place.Place.{Place}
 use Rattle.dp_check.specs.declared.items.Head.{Head}
 use Rattle.dp_check.specs.Place.{Part, Site, Local, parts, parts_in, parts_all, passed, sited, after, after_in, after_all, after_params}
@@ -28,36 +25,12 @@ use Rattle.dp_check.specs.Resolved.{next_site, resolved, resolved_in, resolved_a
 use Rattle.dp_check.specs.Tables.{sites_of, loop_parts, outside_at, within_at, top_sites, main_sites, after_top, item_parts, function_parts}
 use Rattle.dp_check.specs.Items.{items_functions, after_item}
 use Rattle.dp_check.specs.CheckAnswer.{begin, main_begin, resolved as whole}
-use Rattle.dp_check.proofs.NumberLemmas.{stmt_opened}
 use Rattle.dp_check.proofs.TableLemmas.{sites_of-append, parts-While}
+use Rattle.dp_tree.proofs.SiteForms.{roles-If, roles-While, roles-Region, roles_both}
 
 -- what the table says of the sites among the parts of a text
 abbrev roles_of : ℕ → List Part → List (SiteKind × ℕ)
 roles_of r ps = map role_of (sites_of r ps)
-
-abbrev hidden_roles : ℕ → List Stmt → List (SiteKind × ℕ)
-hidden_roles r xs = site_roles_in r (Rattle.dp_tree.specs.declared.Stmt.TheBlock.hidden-the_row-Stmt-0 xs)
-
-roles_hidden : (r : ℕ) (xs : List Stmt) → hidden_roles r xs ≡ site_roles_all r xs
-unfolding stmt_opened
-roles_hidden r [] = refl
-roles_hidden r (x ∷ xs) = ap (λ (ys : List (SiteKind × ℕ)). site_roles r x ++ ys) (roles_hidden r xs)
-
-roles-If : (r : ℕ) (site : SiteId) (cond : Expr) (a b : List Stmt) → site_roles r (code.If site cond a b) ≡ (kind.If, r) ∷ (site_roles_all r a ++ site_roles_all r b)
-unfolding stmt_opened
-roles-If r site cond a b = λ i. (kind.If, r) ∷ (roles_hidden r a i ++ roles_hidden r b i)
-
-roles-While : (r : ℕ) (site : SiteId) (cond : Expr) (a : List Stmt) → site_roles r (code.While site cond a) ≡ (kind.While, r) ∷ site_roles_all r a
-unfolding stmt_opened
-roles-While r site cond a = λ i. (kind.While, r) ∷ roles_hidden r a i
-
-roles-Region : (r q : ℕ) (site : SiteId) (cond : Expr) (a : List Stmt) → site_roles r (code.Region q site cond a) ≡ (kind.While, q) ∷ site_roles_all q a
-unfolding stmt_opened
-roles-Region r q site cond a = λ i. (kind.While, q) ∷ roles_hidden q a i
-
-roles_both : (r : ℕ) (a b : List Stmt) → site_roles_all r (a ++ b) ≡ site_roles_all r a ++ site_roles_all r b
-roles_both r [] b = refl
-roles_both r (x ∷ a) b = ap (λ (ys : List (SiteKind × ℕ)). site_roles r x ++ ys) (roles_both r a b) ∙ sym (append_assoc (site_roles r x) (site_roles_all r a) (site_roles_all r b))
 
 -- two pieces of a text, one behind the other
 roles_joined : (r : ℕ) (a b : List Part) {xs ys : List (SiteKind × ℕ)} → xs ≡ roles_of r a → ys ≡ roles_of r b → xs ++ ys ≡ roles_of r (a ++ b)

@@ -18,20 +18,16 @@ use Rattle.dp_check.proofs.AnswerLemmas.{first_offence-append}
 use Rattle.dp_check.proofs.BoolLemmas.{both_true, halves, all_weaker}
 use Rattle.dp_check.proofs.KnownLemmas.{is_known_if, all_known, sees_first, known_more, known_append}
 
+neither : (o q : Option CheckFail) → option_or o q ≡ None → (o ≡ None) × (q ≡ None)
+neither None q e = (refl, e)
+neither (Some f) q e = absurd (cc)
+
 -- a part of a lawful text is lawful
 pub lawful_parts : (a b : List Token) → first_offence (a ++ b) ≡ None → (first_offence a ≡ None) × (first_offence b ≡ None)
-lawful_parts a b h = by (first_offence a) (first_offence b) (sym (first_offence-append a b) ∙ h)
-  where
-    by : (o q : Option CheckFail) → option_or o q ≡ None → (o ≡ None) × (q ≡ None)
-    by None q e = (refl, e)
-    by (Some f) q e = absurd (cc)
+lawful_parts a b h = neither (first_offence a) (first_offence b) (sym (first_offence-append a b) ∙ h)
 
 pub lawful_first : (t : Token) (rest : List Token) → first_offence (t ∷ rest) ≡ None → (offence t ≡ None) × (first_offence rest ≡ None)
-lawful_first t rest h = by (offence t) (first_offence rest) h
-  where
-    by : (o q : Option CheckFail) → option_or o q ≡ None → (o ≡ None) × (q ≡ None)
-    by None q e = (refl, e)
-    by (Some f) q e = absurd (cc)
+lawful_first t rest h = neither (offence t) (first_offence rest) h
 
 -- At a place: its names are known, and the variables that are visible have numbers below the next one.
 pub record At (p : Program) (n : ℕ) (visible : List ℕ) (q : Place) : Type 0 where

@@ -21,6 +21,7 @@ use Rattle.dp_commit.proofs.Going.{goes, started}
 pub use Rattle.dp_meaning.proofs.ContinuesLemmas.{continues_join as join}
 use Rattle.dp_meaning.proofs.NextLemmas.{last_front}
 use Rattle.std.proofs.Math.Seq.{drop-append_seam}
+use Rattle.dp_meaning.proofs.SkipRunLemmas.{some_events}
 
 -- the configurations of an iteration that begins in this call: the first at the region's condition, the others inside
 pub record Headed (r : ℕ) (configs : List Config) : Type 0 where
@@ -33,10 +34,6 @@ pub record Headed (r : ℕ) (configs : List Config) : Type 0 where
 pub headed : (r : ℕ) (configs : List Config) → 0 < length configs → HeadsOnce r None configs → Headed r configs
 headed r [] some h = absurd (omega (arith, some))
 headed r (c ∷ inner) some h = record { first = c; inner = inner; is = refl; on = h.0; plain = h.1 }
-
-some_closes : (es : List Event) → closes es ≡ true → 0 < length es
-some_closes [] h = absurd (cc)
-some_closes (e ∷ es) h = omega arith
 
 module _ (first : MachineState) (c : CommittedState) (h : Holds first c) (o : IsOpen c) (m : MachineState) where
   abbrev run : Run
@@ -184,7 +181,7 @@ module _ (first : MachineState) (c : CommittedState) (h : Holds first c) (o : Is
     held_closed once call =
         let closed : closes call.events ≡ true = ap (λ (u : Option ℕ). has_closed u call.events) (sym o.between) ∙ call.stops.closed in
         let last : last_events call.events ≡ call.events = ap (λ (u : Option ℕ). upto_closing u call.events) (sym o.between) ∙ call.stops.last in
-        let some = some_closes call.events closed in
+        let some = some_events call.events closed in
         let q = call_heads call.configs (omega (arith, some, call.moved.run.paired)) call.heads in
         record {
           iteration_is = iteration_same ∙ is_last before after call.events call.configs call.moved q closed last once;

@@ -15,6 +15,8 @@ pub mod PaceLemmas
 pub mod EffectsMore
 pub mod BreakPlaces
 pub mod CodeJudges
+pub mod JumpPlaces
+pub mod MovesLeft
 pub mod EpochLemmas
 pub mod StageNumbers
 pub mod GivenStages

@@ -4,13 +4,13 @@ use Rattle.std.proofs.lemmas.Bool.{cases_Bool, and_parts}
 use Rattle.std.proofs.Math.Seq.{take-append_seam}
 use Rattle.std.specs.List.{list_all}
 use Rattle.dp_tree.specs.Iteration.{places}
-use Rattle.dp_tree.proofs.MovedLists.{at_seam}
+use Rattle.dp_base.proofs.ListLemmas.{get_behind}
 
 -- the item behind the seam
 pub get_at_seam : {X : Type 0} (a b : List X) (n : ℕ) (x : X) (more : List X) → n ≡ length a → b ≡ x ∷ more → slice_get (a ++ b) n ≡ Some x
 get_at_seam a b n x more e is =
     let size : n ≡ length a + 0 = omega (arith, e) in
-    ap (slice_get (a ++ b)) size ∙ at_seam a b 0 ∙ ap (λ (xs : List _). slice_get xs 0) is
+    ap (slice_get (a ++ b)) size ∙ get_behind a b 0 ∙ ap (λ (xs : List _). slice_get xs 0) is
 
 -- a front that reaches past the seam
 pub take_past : {X : Type 0} (a b : List X) (k : ℕ) → length a ≤ k → take k (a ++ b) ≡ a ++ take (k - length a) b

@@ -1,29 +1,15 @@
 -- What comes next, and whether a region stands at the head.
-use Rattle.std.proofs.Common.{◌≡◌, refl, ap, ◌∙◌, ℕ, ◌==◌, Bool, true, false, not, List, [], ◌∷◌, All}
+use Rattle.std.proofs.Common.{◌≡◌, ap, ◌∙◌, ℕ, Bool, true, false, not, List, All}
 use Rattle.std.proofs.lemmas.List.Elements.{All-weaker}
 use Rattle.std.proofs.lemmas.List.Sums.{list_all-from_AllPass}
 use Rattle.std.specs.List.{list_all}
-use Rattle.dp_tree.specs.declared.Stmt.{Stmt, out-Stmt}
-use Rattle.dp_tree.specs.declared.Stmt.TheOpen.{Stmt-F, Region}
 use Rattle.dp_tree.specs.Step.{Config}
-use Rattle.dp_tree.specs.Iteration.{is_region, begins_with, stands_at_head}
+use Rattle.dp_tree.specs.Iteration.{stands_at_head}
 use Rattle.dp_meaning.specs.declared.ends.Part.{Part}
 use Rattle.dp_meaning.specs.declared.ends.Part.TheVariants as part
-use Rattle.dp_meaning.specs.MachineState.{part_from, part_of}
+use Rattle.dp_meaning.specs.MachineState.{part_of}
 pub use Rattle.dp_meaning.proofs.NextLemmas.{on_region, run_begins}
-
--- the part is an iteration of region r
-abbrev pub part_is : ℕ → Part → Bool
-part_is r (part.Region q) = q == r
-part_is r _ = false
-
-head_from : (r : ℕ) (x : Stmt-F Stmt) → is_region r x ≡ part_is r (part_from x)
-head_from r (Region q site cond a) = refl
-head_from r _ = refl
-
-head_is : (r : ℕ) (xs : List Stmt) → begins_with r xs ≡ part_is r (part_of xs)
-head_is r [] = refl
-head_is r (s ∷ rest) = head_from r (out-Stmt s)
+use Rattle.dp_meaning.proofs.NextLemmas.{part_is, head_is}
 
 pub head_part : (r : ℕ) (c : Config) (q : Part) → part_of c.to_do ≡ q → stands_at_head r c ≡ part_is r q
 head_part r c q e = head_is r c.to_do ∙ ap (part_is r) e

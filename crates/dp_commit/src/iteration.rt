@@ -3,7 +3,8 @@ ghost use Rattle.std.specs.Prelude.{◌≡◌, IfOk, replicate, []};
 ghost use Rattle.dp_semantics.specs.Judge.{judge_lists};
 ghost use Rattle.dp_commit.specs.FlatJudge.{walk_begin};
 ghost use Rattle.dp_commit.specs.steps.Held.{IsAt, memory_before, state_of};
-ghost use Rattle.dp_commit.specs.Judging.{IsCourt, Judged};
+ghost use Rattle.dp_commit.specs.declared.court.Answer.TheVariants as answer;
+ghost use Rattle.dp_commit.specs.Judging.{IsCourt, Judged, WantsIn};
 
 use crate::court::{Answer, Court, Pace, Rows, Walk};
 use dp_base::{Cells, NoMemory, Row};
@@ -74,6 +75,7 @@ pub fn judged<'c, 'p>(
 ) -> Result<(Walk<'p>, Answer), NoMemory>
     requires court { IsCourt court }
     ensures told { IfOk result (λ r. Judged court.entry.program.now court.entry.plan.now cells (judge_lists court.entry.program.now court.entry.plan.now court.entry.limit cells lists.now) (state_of r.0) r.1) }
+    ensures wants { IfOk result (λ r. r.1 ≡ answer.NoMemory → WantsIn court.entry (walk_begin cells lists.now)) }
     ensures before { IfOk result (λ r. memory_before r.0 ≡ cells) }
 {
     let mut walk = begin(alloc, rows, cells, lists)?;

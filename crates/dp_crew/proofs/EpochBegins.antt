@@ -20,7 +20,7 @@ use Rattle.dp_semantics.specs.Recovery.{epoch}
 use Rattle.dp_semantics.specs.EpochKey.{EpochKey, epoch_run, epoch_begin, from_region}
 use Rattle.dp_semantics.specs.EpochCauses.{IsSound}
 use Rattle.dp_semantics.proofs.Memory.{clear-at, clear-still}
-use Rattle.dp_semantics.proofs.Placed.{cleared-length}
+use Rattle.dp_semantics.proofs.Placed.{standing-length}
 use Rattle.dp_semantics.proofs.EpochFound.{cleared_there}
 use Rattle.dp_semantics.proofs.Fitting.{accepted}
 use Rattle.dp_meaning.specs.MachineState.{MachineState, fuel_left, rest_of_run}
@@ -134,10 +134,6 @@ pub epoch_here : (key : EpochKey) (given : ℕ) (first : MachineState) (c : Comm
 epoch_here key given first c report k b =
     subst (λ (n : ℕ). InEpoch key n first c report) (sym k.none)
     (begins_epoch key first c report b.at_epoch.progress (record { program = sym b.program_is; input = sym b.input_is; fuel = k.fuel ∙ b.at_epoch.progress.holds.fuel }) b.at_epoch.fresh k.first k.base k.steps)
-
-standing-length : (p : Program) (xs : List Stmt) (cells : List ℤ) → length (standing p xs cells).cells ≡ length cells
-standing-length p [] cells = refl
-standing-length p (x ∷ xs) cells = cleared-length p cells (out-Stmt x)
 
 -- .. in a memory as the program has it
 pub sound_here : (p : Program) (plan : Plan) (input : List ℤ) (first : MachineState) (c : CommittedState) (report : RegionReport) → ToBegin p plan input first c report → IsSound (key_here p plan input c)

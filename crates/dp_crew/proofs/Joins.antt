@@ -13,6 +13,7 @@ use Rattle.dp_meaning.specs.MachineState.{MachineState, rest_of_run, part_of}
 use Rattle.dp_meaning.specs.IterationRun.{IterationRun, IterationStops, HeadsOnce, GoesOn, has_closed, upto_closing, current_after}
 use Rattle.dp_commit.proofs.Committing.{join}
 use Rattle.dp_meaning.proofs.MovedLemmas.{prints-append}
+use Rattle.dp_tree.proofs.Leaving.{upto_more}
 
 -- the same steps, where no other prints stand before
 pub alone : (region turns : ℕ) (old new : MachineState) (before after : List ℤ) (end : IterEnd) (call : IterationRun region turns old new before after end) → IterationRun region turns old new [] (prints call.events) end
@@ -35,10 +36,6 @@ none_left : (es fs : List Event) → list_any is_leaving es ≡ false → list_a
 none_left [] fs h = refl
 none_left (e ∷ es) fs h = let both = or_parts (leaves e.effect) (list_any is_leaving es) h in rw (both.0) (none_left es fs both.1)
 
-upto_none : (es fs : List Event) → list_any is_leaving es ≡ false → upto_leaving (es ++ fs) ≡ es ++ upto_leaving fs
-upto_none [] fs h = refl
-upto_none (e ∷ es) fs h = let both = or_parts (leaves e.effect) (list_any is_leaving es) h in rw (both.0) (ap (λ (xs : List Event). e ∷ xs) (upto_none es fs both.1))
-
 pub closed_front : (current : Option ℕ) (events more : List Event) → 0 < length events → has_closed current events ≡ false → has_closed current (events ++ more) ≡ list_any is_leaving more
 closed_front (Some r) events more h e = none_left events more e
 closed_front None [] more h e = absurd (omega (arith, h))
@@ -46,10 +43,10 @@ closed_front None (event ∷ events) more h e =
     let both = or_parts (decides_zero event.effect) (list_any is_leaving (event ∷ events)) e in rw (both.0) (none_left (event ∷ events) more both.1)
 
 pub upto_front : (current : Option ℕ) (events more : List Event) → 0 < length events → has_closed current events ≡ false → upto_closing current (events ++ more) ≡ events ++ upto_leaving more
-upto_front (Some r) events more h e = upto_none events more e
+upto_front (Some r) events more h e = upto_more events more e
 upto_front None [] more h e = absurd (omega (arith, h))
 upto_front None (event ∷ events) more h e =
-    let both = or_parts (decides_zero event.effect) (list_any is_leaving (event ∷ events)) e in rw (both.0) (upto_none (event ∷ events) more both.1)
+    let both = or_parts (decides_zero event.effect) (list_any is_leaving (event ∷ events)) e in rw (both.0) (upto_more (event ∷ events) more both.1)
 
 current_front : (region : ℕ) (current : Option ℕ) (events more : List Event) → 0 < length events → current_after region (Some region) more ≡ current_after region current (events ++ more)
 current_front region current [] more h = absurd (omega (arith, h))

@@ -26,13 +26,13 @@ use Rattle.dp_tree.proofs.InMain.{stays_in_main}
 use Rattle.dp_crew.specs.RegionRun.{RegionMade, RegionStops, beyond}
 use Rattle.dp_crew.specs.Progress.{Progress, report_before}
 use Rattle.dp_crew.proofs.Counting.{whole_report}
-use Rattle.dp_crew.proofs.Joins.{upto_front}
-use Rattle.dp_crew.proofs.Here.{at_head, at_once, first_there, starts_here, goes_here, once, rest_fuel, stands_there}
+use Rattle.dp_crew.proofs.Here.{at_once, starts_here, rest_fuel}
 use Rattle.dp_crew.proofs.Here as here
 use Rattle.dp_semantics.specs.Reported.{region_report}
 use Rattle.dp_crew.proofs.Carrying.{iteration_same, ended_same}
 use Rattle.dp_crew.proofs.Ending.{inside_off, others_behind, last_begun, inside_call, q, piece, on, off}
 use Rattle.dp_crew.proofs.Done.{made_by}
+use Rattle.dp_meaning.proofs.NextLemmas.{last_open}
 
 module _ (plan : Plan) (first : MachineState) (c : CommittedState) (report : RegionReport) (g : Progress plan first c report) (m : MachineState) where
   abbrev run : Run
@@ -98,17 +98,13 @@ module _ (plan : Plan) (first : MachineState) (c : CommittedState) (report : Reg
     yet_open : closes events ≡ false
     yet_open = ap (λ (o : Option ℕ). has_closed o events) (sym g.is_open.between) ∙ stay.not_closed
 
-    all_of : (es : List Event) → closes es ≡ false → last_events es ≡ es
-    all_of [] e = refl
-    all_of (x ∷ es) e = ap last_events (sym (append-nil (x ∷ es))) ∙ upto_front None (x ∷ es) [] (omega arith) e ∙ append-nil (x ∷ es)
-
     -- the iteration is what was made
     iteration_is : iteration rest plan.region 0 ≡ events
     iteration_is =
         ap (λ (k : Option ℕ). events_from rest k (start rest plan.region 1)) at_start
         ∙ ap (λ (k : Option ℕ). slice_range rest.trace 0 (stop_from rest 0 k)) none_next
         ∙ ap (λ (es : List Event). slice_range es 0 (0 + length (last_events (drop 0 es)))) trace_is
-        ∙ ap (λ (es : List Event). slice_range events 0 (0 + length es)) (all_of events yet_open)
+        ∙ ap (λ (es : List Event). slice_range events 0 (0 + length es)) (last_open events yet_open)
         ∙ (let size : (0 + length events) - 0 ≡ length events = omega arith in ap (λ (n : ℕ). take n events) size ∙ take_all (length events) events (omega arith))
 
     not_ended : has_ended run plan.region c.count ≡ false

@@ -13,7 +13,7 @@ use Rattle.dp_plan.specs.Each.{AscendAbove, Each}
 use Rattle.dp_plan.specs.Rules.{assumed_site, condition, first_in, is_no_if_or_again, occurs_again, site_of_condition}
 use Rattle.dp_plan.specs.Stage.{stage_of}
 use Rattle.dp_plan.specs.Written.{has, region_sites, written_of, written_stage}
-use Rattle.dp_plan.proofs.Ascent.{Ascends, length-numbers_from}
+use Rattle.dp_plan.proofs.Ascent.{Ascends}
 use Rattle.dp_plan.proofs.EachLemmas.{each_map}
 use Rattle.dp_plan.proofs.Found.{each_has, has_each}
 use Rattle.dp_plan.proofs.RulesMet.{Meets, unbroken}
@@ -39,6 +39,7 @@ use Rattle.dp_cut.proofs.RegionReady.{IsReady, region_ready}
 use Rattle.dp_cut.proofs.StageFacts.{first_stage, stage_least, stage_most, stage_reached}
 use Rattle.dp_cut.proofs.StageLines.{no_neighbours, sequential_first}
 use Rattle.dp_cut.proofs.ValidStages.{InTime, Unassumed, all_listed, ifs_in_time, none_again, none_foreign, not_again, stage_written, whiles_in_time}
+use Rattle.dp_tree.proofs.NumberLists.{length-numbers_from}
 
 -- ---- lists
 

@@ -1,13 +1,9 @@
 -- One edge more, and one limit more.
-use Rattle.std.proofs.Common.{◌≡◌, inl, inr, sym, subst, ◌∙◌, ap, arith, ℕ, ◌<◌, ◌≤◌, ◌+◌, List, [], ◌∷◌, ◌++◌, length, get_or, slice_index, slice_index_or}
+use Rattle.std.proofs.Common.{◌≡◌, inl, inr, sym, subst, ◌∙◌, ap, arith, ℕ, ◌<◌, ◌≤◌, ◌+◌, List, [], ◌∷◌, ◌++◌, length, slice_index, slice_index_or}
 use Rattle.std.proofs.lemmas.Bool.{cases_eq}
-use Rattle.std.proofs.lemmas.Option.{slice_get-get_or, same_Some}
-use Rattle.std.proofs.lemmas.List.{get_or_push, get_or_append_left}
+use Rattle.std.proofs.lemmas.List.{get_or_push, get_or_append_left, get_or_default}
 use Rattle.dp_cut.specs.Allowed.{IsBetween}
 use Rattle.dp_cut.specs.steps.Fits.{IsLimit}
-
-pub or_any : {X : Type 0} (xs : List X) (i : ℕ) (d e : X) → i < length xs → get_or xs i d ≡ get_or xs i e
-or_any xs i d e h = same_Some (get_or xs i d) (get_or xs i e) (sym (slice_get-get_or xs i d h) ∙ slice_get-get_or xs i e h)
 
 module _ (edges : List (ℕ × ℕ)) (begin count limit next i : ℕ) (h : i < length edges)
     (least : (end : ℕ) → end ≤ next → (end ≤ limit) × ¬ ((begin ≤ (slice_index_or edges i (0, 0)).0) × ((slice_index_or edges i (0, 0)).0 < end) × (begin ≤ (slice_index_or edges i (0, 0)).1) × ((slice_index_or edges i (0, 0)).1 < end)))
@@ -20,7 +16,7 @@ module _ (edges : List (ℕ × ℕ)) (begin count limit next i : ℕ) (h : i < l
         (low end now.0).0,
         λ k d below both. elim (cases_eq k i) [
           | inl here ↦
-              let same : slice_index_or edges k d ≡ slice_index_or edges i (0, 0) = ap (λ x. slice_index_or edges x d) here ∙ or_any edges i d (0, 0) h in
+              let same : slice_index_or edges k d ≡ slice_index_or edges i (0, 0) = ap (λ x. slice_index_or edges x d) here ∙ get_or_default edges i d (0, 0) h in
               let at : IsBetween begin end (slice_index_or edges i (0, 0)).0 × IsBetween begin end (slice_index_or edges i (0, 0)).1 =
               subst (λ (x : ℕ × ℕ). IsBetween begin end x.0 × IsBetween begin end x.1) same both in
               now.1 (at.0.0, at.0.1, at.1.0, at.1.1)

@@ -1,7 +1,7 @@
 -- The lines of a plan whose sites are all of its stages: they list the sites of the region, each once.
 use Rattle.std.proofs.Common.{◌≡◌, refl, sym, ap, ◌∙◌, ℕ, suc, ◌+◌, ◌<◌, ◌≤◌, ◌==◌, Bool, true, false, not, ◌&&◌, ◌||◌, if◌then◌else◌, List, [], ◌∷◌, filter, map, length, Some, None, inl, inr, arith, eqb-true}
 use Rattle.std.specs.List.{flat_map}
-use Rattle.std.proofs.lemmas.Bool.{cases_Bool, eqb-false, or_cases, or_left, or_right}
+use Rattle.std.proofs.lemmas.Bool.{cases_Bool, eqb-false, or_cases, or_left, or_right, and_right}
 use Rattle.std.proofs.lemmas.List.Folds.{list_any-append}
 use Rattle.dp_tree.specs.declared.Program.{Program}
 use Rattle.dp_plan.specs.declared.StageKind.{StageKind}
@@ -69,17 +69,13 @@ module _ (p : Program) (plan : Plan) where
 
 -- ---- the kinds of a cut's stages
 
-pub and_off : (a b : Bool) → b ≡ false → (a && b) ≡ false
-and_off true b e = e
-and_off false b e = refl
-
 replicated_kind : (s : Stretch) → is_replicated_kind (kind_of s) ≡ s.replicated
 replicated_kind s = elim (cases_Bool s.replicated) [ inl t ↦ rw t refl | inr f ↦ rw f refl ]
 
 both_kinds : (s t : Stretch) → (t.replicated ≡ true → s.replicated ≡ false) → (is_replicated_kind (kind_of s) && is_replicated_kind (kind_of t)) ≡ false
 both_kinds s t alone = elim (cases_Bool t.replicated) [
   | inl on ↦ ap (λ (b : Bool). b && is_replicated_kind (kind_of t)) (replicated_kind s ∙ alone on)
-  | inr off ↦ and_off (is_replicated_kind (kind_of s)) (is_replicated_kind (kind_of t)) (replicated_kind t ∙ off)
+  | inr off ↦ and_right (is_replicated_kind (kind_of s)) (is_replicated_kind (kind_of t)) (replicated_kind t ∙ off)
 ]
 
 module _ (p : Program) (plan : Plan) (carried : List (ℕ × ℕ)) (count : ℕ) where

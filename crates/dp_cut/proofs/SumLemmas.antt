@@ -4,8 +4,8 @@ use Rattle.std.proofs.lemmas.Bool.{cases_eq, ne_eqb}
 use Rattle.std.proofs.lemmas.List.{length-map}
 use Rattle.std.proofs.lemmas.List.Sums.{sum_by-cons}
 use Rattle.dp_tree.specs.Numbering.{numbers_from}
-use Rattle.dp_plan.proofs.Ascent.{length-numbers_from}
 use Rattle.dp_cut.specs.LeastPlan.{unit_weight, unit_weights}
+use Rattle.dp_tree.proofs.NumberLists.{length-numbers_from}
 
 abbrev pub share_of : ℕ → ℕ → ℕ → ℕ
 share_of at place weight = if at == place then weight else 0

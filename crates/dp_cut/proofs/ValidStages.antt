@@ -1,7 +1,7 @@
 -- What makes a plan valid, read off the stages of its region's sites.
 use Rattle.std.proofs.Common.{◌≡◌, refl, sym, ap, ◌∙◌, ℕ, ◌+◌, ◌<◌, ◌≤◌, ◌&&◌, not, nat_lt, Bool, true, false, List, [], ◌∷◌, map, length, inl, inr, ◌⊎◌, arith}
 use Rattle.std.specs.List.{list_any}
-use Rattle.std.proofs.lemmas.Bool.{cases_Bool, ltb-true, true≢false}
+use Rattle.std.proofs.lemmas.Bool.{cases_Bool, ltb-true, true≢false, and_right}
 use Rattle.dp_tree.specs.declared.Program.{Program}
 use Rattle.dp_plan.specs.declared.Plan.{Plan}
 use Rattle.dp_plan.specs.declared.WrittenPlan.{WrittenPlan}
@@ -15,7 +15,7 @@ use Rattle.dp_plan.proofs.Found.{each_has}
 use Rattle.dp_plan.proofs.SameNumbers.{count}
 use Rattle.dp_plan.proofs.StagesBack.{stage_back}
 use Rattle.dp_cut.proofs.NodesAround.{Inside, PlainInside}
-use Rattle.dp_cut.proofs.StageLines.{and_off, is_listed, listed_once, listed_where}
+use Rattle.dp_cut.proofs.StageLines.{is_listed, listed_once, listed_where}
 
 pub not_again : (n : ℕ) (ns : List ℕ) → count n ns ≤ 1 → occurs_again ns n ≡ false
 not_again n ns le = elim (cases_Bool (nat_lt 1 (count n ns))) [ inl t ↦ absurd (omega (arith, ltb-true 1 (count n ns) t, le)) | inr t ↦ t ]
@@ -63,7 +63,7 @@ module _ (p : Program) (plan : Plan) (up : AscendAbove 0 (region_sites p plan.re
 
   not_late : (e : Enclosing) → Inside InTime Unassumed e → is_late_unassumed w e ≡ false
   not_late e inside = elim (cases_Bool (has e.site (map assumed_site plan.assume))) [
-    | inl t ↦ and_off (comes_late w e) (not (has e.site (map assumed_site plan.assume))) (ap not t)
+    | inl t ↦ and_right (comes_late w e) (not (has e.site (map assumed_site plan.assume))) (ap not t)
     | inr f ↦ ap (λ (b : Bool). b && not (has e.site (map assumed_site plan.assume))) (no_later e.site e.inside f inside)
   ]
 

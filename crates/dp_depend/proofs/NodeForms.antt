@@ -1,5 +1,5 @@
 -- The sites of a statement by its form, and of a list, item by item.
-use Rattle.std.proofs.Common.{◌≡◌, refl, sym, ◌∙◌, ap, ℕ, suc, ◌+◌, ◌<◌, Bool, true, false, List, [], ◌∷◌, ◌++◌, filter, drop, get_or, length, add-one, drop-cons, append-nil, append_assoc, Option, Some, None}
+use Rattle.std.proofs.Common.{◌≡◌, refl, ◌∙◌, ap, ℕ, ◌+◌, ◌<◌, true, false, List, [], ◌∷◌, ◌++◌, drop, get_or, length, append-nil, Option, Some, None}
 use Rattle.std.specs.List.{flat_map}
 use Rattle.dp_base.specs.declared.SiteId.{SiteId}
 use Rattle.dp_base.specs.declared.VarId.{VarId}
@@ -12,6 +12,7 @@ use Rattle.dp_plan.specs.Walks.{is_region_of}
 use Rattle.dp_plan.proofs.LoadLemmas.{opened}
 use Rattle.dp_depend.specs.Node.{nodes, nodes_in, plain_node, if_node, loop_of, region_nodes}
 use Rattle.dp_depend.specs.Lists.{load_list, node_list, node_lists, nodes_in_region}
+use Rattle.dp_base.proofs.ListLemmas.{next_of}
 
 nodes_hidden : (around : List ℕ) (loop : Option ℕ) (xs : List Stmt) → nodes_in around loop (Rattle.dp_tree.specs.declared.Stmt.TheBlock.hidden-the_row-Stmt-0 xs) ≡ flat_map (nodes around loop) xs
 unfolding opened
@@ -58,9 +59,6 @@ module _ (around : List ℕ) (loop : Option ℕ) where
   nodes-Region r site e a = ap (λ r. plain_node around loop site (load_list e) None ∷ r) (nodes_hidden (around ++ site.0 ∷ []) loop a)
 
 pub ruleset node_forms = (nodes-Assign, nodes-Store, nodes-Print, nodes-Break, nodes-Call, append-nil)
-
-next_of : (all : List Stmt) (i : ℕ) (s : Stmt) → i < length all → s ≡ get_or all i s → drop i all ≡ s ∷ drop (i + 1) all
-next_of all i s h is = rw add-one (drop-cons all i s h ∙ ap (λ (t : Stmt). t ∷ drop (suc i) all) (sym is))
 
 pub nodes-none : (around : List ℕ) (loop : Option ℕ) → node_lists around loop [] ≡ []
 unfolding node_lists

@@ -3,13 +3,12 @@ use Rattle.std.proofs.Common.{◌≡◌, ◌∙◌, refl, sym, ap, subst, ℕ, B
 use Rattle.std.proofs.lemmas.List.{set-get_or, get_or-replicate, get_or_past, length-replicate}
 use Rattle.std.proofs.lemmas.Bool.{cases_lt}
 use Rattle.dp_tree.specs.declared.Program.{Program}
-use Rattle.dp_tree.specs.declared.Stmt.{Stmt, out-Stmt}
 use Rattle.dp_tree.specs.declared.VarInfo.{VarInfo}
-use Rattle.dp_tree.specs.Step.{clear_locals, is_local_of, standing}
+use Rattle.dp_tree.specs.Step.{clear_locals, is_local_of}
 use Rattle.dp_tree.specs.Trace.{begin, start_cells}
 use Rattle.dp_plan.specs.declared.Plan.{Plan}
 use Rattle.dp_semantics.specs.EpochCauses.{IsSound}
-use Rattle.dp_semantics.proofs.Placed.{cleared-length}
+use Rattle.dp_semantics.proofs.Placed.{standing-length}
 
 abbrev zeros : ℕ → List ℤ
 zeros n = replicate n (pos 0)
@@ -32,14 +31,10 @@ zeros_cleared : (r n : ℕ) (vars : List VarInfo) → clear_locals r vars (zeros
 zeros_cleared r n [] = refl
 zeros_cleared r n (x ∷ xs) = ap (clear_locals r xs) (zeros_if (is_local_of r x.scope) n x.first.0) ∙ zeros_cleared r n xs
 
-begin_length : (p : Program) (xs : List Stmt) (cells : List ℤ) → length (standing p xs cells).cells ≡ length cells
-begin_length p [] cells = refl
-begin_length p (x ∷ xs) cells = cleared-length p cells (out-Stmt x)
-
 -- the memory has as many cells as the one where the program starts
 pub zeros_are_sound : (p : Program) (plan : Plan) (input : List ℤ) (n fuel : ℕ) → n ≡ length (begin p).cells →
     IsSound (record { program = p; plan = plan; input = input; first = 0; base = replicate n (pos 0); steps = 0; fuel = fuel })
 zeros_are_sound p plan input n fuel is = record {
-  size = length-replicate n (pos 0) ∙ is ∙ begin_length p p.main (start_cells p.vars);
+  size = length-replicate n (pos 0) ∙ is ∙ standing-length p p.main (start_cells p.vars);
   cleared = zeros_cleared plan.region n p.vars;
 }

@@ -25,11 +25,12 @@ Wrote bytes before after = after.written ≡ appended bytes before.written
 abbrev pub WroteFront : List ℕ → Outside → Outside → Type 0
 WroteFront bytes before after = WritesFront bytes before.written after.written
 
--- No further read failed; or this name is the one new failed one.
+-- No further read failed.
 pub record ReadsOn (before after : Outside) : Type 0 where
   pub reads : after.failed_reads ≡ before.failed_reads
   pub names : after.failed_names ≡ before.failed_names
 
+-- This name is the one new failed one.
 abbrev pub FailsAt : List ℕ → Outside → Outside → Type 0
 FailsAt name before after = after.failed_names ≡ option_map (λ names. names ++ name ∷ []) before.failed_names
 

@@ -6,6 +6,7 @@ use Rattle.std.proofs.lemmas.List.Sums.{prefix_len-le-length}
 use Rattle.std.proofs.Math.ListN.{drop_of_length-le}
 use Rattle.dp_edge.specs.Digits.{is_full}
 use Rattle.dp_edge.specs.Input.{is_blank, onto_first, pieces, words}
+use Rattle.dp_base.proofs.PositionLemmas.{position_some, position_none}
 
 -- how many blanks stand before the first word, and how many bytes before the first blank
 abbrev pub blanks : List ℕ → ℕ
@@ -71,20 +72,6 @@ word_front (byte ∷ text) some full =
     ap (filter is_full) (pieces_split (byte ∷ text)) ∙ rw front (ap (λ later. take (word_len (byte ∷ text)) (byte ∷ text) ∷ later) (later_words (byte ∷ text)))
 
 -- ---- what `position` tells
-
-some_case : (n len k : ℕ) (found : Bool) → nat_lt n len ≡ found → cond found (Some n) None ≡ Some k → (k ≡ n) × (n < len)
-some_case n len k true e h = (cc h, search rules)
-some_case n len k false e h = absurd (cc h)
-
-position_some : (test : ℕ → Bool) (text : List ℕ) (k : ℕ) → position test text ≡ Some k → (k ≡ position_or_len test text) × (position_or_len test text < length text)
-position_some test text k h = some_case (position_or_len test text) (length text) k _ refl h
-
-none_case : (n len : ℕ) (found : Bool) → nat_lt n len ≡ found → cond found (Some n) None ≡ None → len ≤ n
-none_case n len true e h = absurd (cc h)
-none_case n len false e h = search rules
-
-position_none : (test : ℕ → Bool) (text : List ℕ) → position test text ≡ None → length text ≤ position_or_len test text
-position_none test text h = none_case (position_or_len test text) (length text) _ refl h
 
 else_case : (n len : ℕ) (found : Bool) → nat_lt n len ≡ found → n ≤ len → unwrap_or (cond found (Some n) None) len ≡ n
 else_case n len true e le = refl

@@ -1,6 +1,6 @@
 -- What is refused, from the counts.
 use Rattle.std.proofs.Common.{◌≡◌, refl, sym, ap, ◌∙◌, ℕ, ◌≤◌, ◌<◌, Bool, true, false, if◌then◌else◌, List, [], ◌∷◌, length, Option, Some, None, Result, nat_lt, arith}
-use Rattle.std.proofs.lemmas.Bool.{lt-ltb}
+use Rattle.std.proofs.lemmas.Bool.{lt-ltb, le-ltb}
 use Rattle.std.proofs.lemmas.Bool.Decides.{nat_tests}
 use Rattle.dp_base.specs.declared.Quantity.TheVariants.{InlinedSize, RegionSites}
 use Rattle.dp_tree.specs.declared.Stmt.{Stmt}
@@ -15,9 +15,6 @@ use Rattle.dp_inline.specs.Size.{size_one, size_within, counts_if, inlined_size,
 use Rattle.dp_inline.specs.InlineAnswer.{reported, unless, too_large, first_large_region}
 use Rattle.dp_inline.specs.steps.Counted.{counted, counted_one, counted_list, counted_region, first_large}
 use Rattle.dp_inline.proofs.SizeForms.{all_sizes, scopes, sizes_agree, main_size, agree_one}
-
-not_above : (a b : ℕ) → b ≤ a → nat_lt a b ≡ false
-not_above a b h = grind (arith, nat_tests)
 
 -- both are above a limit or neither is, if they are reported alike
 same_test : (m n : ℕ) → reported m ≡ reported n → nat_lt 1024 m ≡ nat_lt 1024 n
@@ -38,7 +35,7 @@ module _ (p : Program) (checked : IsChecked p) where
   is_small count is within =
       let same = main_size 1 p checked in let e : count ≡ reported (inlined_size p) = is ∙ same in
       let under : inlined_size p ≤ 8192 = omega (arith, e) in
-      ap (λ (b : Bool). if b then Some (Limit InlinedSize (reported (inlined_size p))) else None) (not_above 8192 (inlined_size p) under)
+      ap (λ (b : Bool). if b then Some (Limit InlinedSize (reported (inlined_size p))) else None) (le-ltb 8192 (inlined_size p) under)
 
   region_alike : (visible : List ℕ) (s : Stmt) → in_scope p 0 (length p.functions) visible s ≡ true → reported (counted_region (all_sizes 0 p) s) ≡ reported (region_size p s)
   unfolding counted_one

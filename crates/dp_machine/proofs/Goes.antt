@@ -19,13 +19,10 @@ use Rattle.dp_machine.specs.Sending.{IsSent, CellsAre, onward, key_of}
 use Rattle.dp_machine.specs.Standing.{IsOf, Keeps, StandsAt, StandsNext, Comes, Sends, cells_kept, versioned_kept}
 use Rattle.dp_machine.proofs.SendLemmas.{runs_on}
 use Rattle.dp_machine.proofs.Epochs.{passed_run, starts, next_start, same_memory, version_there}
+use Rattle.std.proofs.lemmas.Option.{same_Some}
 
 same_key : (f : Frame) (key : packets.Epoch) → IsOf f key → key_of f key.base ≡ key
 same_key f key is = λ i. record { program = sym is.0 i; plan = sym is.1 i; input = sym is.2 i; base = key.base }
-
--- two Somes
-inside : {X : Type 0} (x y : X) → Some x ≡ Some y → x ≡ y
-inside x y e = cc e
 
 module _ (f : Frame) (s : ℕ) (key : packets.Epoch) (n : ℕ) (low : 0 < s) (is : IsOf f key) where
   -- the turn from the memory where the machine stands, on the packet that comes, is the stage's
@@ -122,7 +119,7 @@ packet_sends f s key n cells packet sent memory low fits (is, one) comes going v
     let alive = ap (λ (p : packets.Packet). live p.status) (sym comes) ∙ goes_alive packet.status going in
     let there = version_there key (s - 1) n second (replicated f s key n low is (s - 1) false apart) (ap (is_replicated key.plan) back ∙ rep) alive in
     let both : Some cells ≡ Some (packets.passed key (s - 1) n).before = sym version ∙ ap (λ (p : packets.Packet). p.version) comes ∙ there in
-    let cells_are : cells ≡ (packets.passed key s n).before = inside cells (packets.passed key (s - 1) n).before both ∙ sym (same_memory key s n rep) in
+    let cells_are : cells ≡ (packets.passed key s n).before = same_Some cells (packets.passed key (s - 1) n).before both ∙ sym (same_memory key s n rep) in
     let turn = bare_same (key_of f key.base) s cells packet going ∙ turn_is f s key n low is cells packet cells_are comes in
     let came = told (rw one refl) in
     (sent_so f s key n low is sent.status (packet_of sent) _ turn came.0, next_nothing f s key n low is sent.status one)

@@ -1,6 +1,7 @@
 -- Stores and clearing.
-use Rattle.dp_meaning.proofs.Names.{◌≡◌, refl, sym, ◌∙◌, ap, ℕ, ◌+◌, ◌<◌, ◌≤◌, suc, List, [], ◌∷◌, ◌++◌, replicate, drop, get_or, length, slice_set, if◌then◌else◌, Option, Some, None, ℤ, pos, add-one, drop-cons, length-set, set_out, StoreOf, Stmt, out-Stmt, Program, VarInfo, start_cells, is_local_of, clear_locals, region_number, clear_one, cleared_leaving, with_stores, first_of, first_region}
-use Rattle.dp_semantics.proofs.Memory.{clear-length}
+use Rattle.dp_meaning.proofs.Names.{◌≡◌, refl, ◌∙◌, ap, ℕ, ◌+◌, ◌<◌, ◌≤◌, List, [], ◌∷◌, ◌++◌, replicate, drop, get_or, length, slice_set, if◌then◌else◌, Option, Some, None, ℤ, pos, length-set, set_out, StoreOf, Stmt, out-Stmt, Program, VarInfo, start_cells, is_local_of, clear_locals, region_number, clear_one, cleared_leaving, with_stores, first_of, first_region}
+use Rattle.dp_base.proofs.ListLemmas.{next_of}
+use Rattle.dp_tree.proofs.InMain.{cleared_length}
 
 -- a store past the end changes nothing
 pub store_out : (cells : List ℤ) (c : ℕ) (v : ℤ) → length cells ≤ c → slice_set cells c v ≡ cells
@@ -8,19 +9,15 @@ store_out cells c v h = set_out cells c v h
 
 pub ruleset stores = (store_out)
 
--- one item more of a list
-pub next_item : {X : Type 0} (xs : List X) (i : ℕ) (x : X) → i < length xs → x ≡ get_or xs i x → drop i xs ≡ x ∷ drop (i + 1) xs
-next_item {X = X} xs i x h is = rw add-one (drop-cons xs i x h ∙ ap (λ (y : X). y ∷ drop (suc i) xs) (sym is))
-
 -- one variable more is cleared
 pub clear_next : (r : ℕ) (vars : List VarInfo) (i : ℕ) (x : VarInfo) (cells : List ℤ) → i < length vars → x ≡ get_or vars i x →
     clear_locals r (drop i vars) cells ≡ clear_locals r (drop (i + 1) vars) (if is_local_of r x.scope then slice_set cells x.first.0 (pos 0) else cells)
-clear_next r vars i x cells h is = ap (λ (xs : List VarInfo). clear_locals r xs cells) (next_item vars i x h is)
+clear_next r vars i x cells h is = ap (λ (xs : List VarInfo). clear_locals r xs cells) (next_of vars i x h is)
 
 -- one store more is made
 pub store_next : (list : List StoreOf) (i : ℕ) (x : StoreOf) (cells : List ℤ) → i < length list → x ≡ get_or list i x →
     with_stores (drop i list) cells ≡ with_stores (drop (i + 1) list) (slice_set cells x.cell.0 x.value)
-store_next list i x cells h is = ap (λ (xs : List StoreOf). with_stores xs cells) (next_item list i x h is)
+store_next list i x cells h is = ap (λ (xs : List StoreOf). with_stores xs cells) (next_of list i x h is)
 
 pub length-with_stores : (list : List StoreOf) (cells : List ℤ) → length (with_stores list cells) ≡ length cells
 length-with_stores [] cells = refl
@@ -39,18 +36,18 @@ leaving p (x ∷ xs) cells = by (region_number (out-Stmt x)) (leaving p xs cells
 
 length-clear_one : (p : Program) (o : Option ℕ) (cells : List ℤ) → length (clear_one p o cells cells) ≡ length cells
 length-clear_one p None cells = refl
-length-clear_one p (Some r) cells = clear-length r p.vars cells
+length-clear_one p (Some r) cells = cleared_length r p.vars cells
 
 pub length-cleared_leaving : (p : Program) (xs : List Stmt) (cells : List ℤ) → length (cleared_leaving p xs cells) ≡ length cells
 length-cleared_leaving p xs cells = ap length (leaving p xs cells) ∙ length-clear_one p (first_region xs) cells
 
 pub ruleset clears = (clear_next)
 
-pub ruleset lengths = (clear-length, length-with_stores, length-cleared_leaving)
+pub ruleset lengths = (cleared_length, length-with_stores, length-cleared_leaving)
 
 -- one variable more has its cells
 pub start_next : (vars : List VarInfo) (i : ℕ) (x : VarInfo) → i < length vars → x ≡ get_or vars i x →
     start_cells (drop i vars) ≡ replicate x.length x.start ++ start_cells (drop (i + 1) vars)
-start_next vars i x h is = ap start_cells (next_item vars i x h is)
+start_next vars i x h is = ap start_cells (next_of vars i x h is)
 
 pub ruleset starts = (start_next)

@@ -7,11 +7,11 @@ use Rattle.dp_tree.specs.declared.Stmt.TheOpen.{Region}
 use Rattle.dp_meaning.proofs.StretchLemmas.{IsPlain}
 
 -- whether the part is region r
-abbrev part_is : ℕ → Part → Bool
+abbrev pub part_is : ℕ → Part → Bool
 part_is r (part.Region q) = q == r
 part_is r _ = false
 
-head_is : (r : ℕ) (xs : List Stmt) → begins_with r xs ≡ part_is r (part_of xs)
+pub head_is : (r : ℕ) (xs : List Stmt) → begins_with r xs ≡ part_is r (part_of xs)
 head_is r [] = refl
 head_is r (s ∷ rest) = by (out-Stmt s)
   where
@@ -68,7 +68,7 @@ last_front (e ∷ es) more c = by (decides_zero e.effect) c
     by true k = refl
     by false k = upto_front (e ∷ es) more k
 
-last_open : (es : List Event) → closes es ≡ false → last_events es ≡ es
+pub last_open : (es : List Event) → closes es ≡ false → last_events es ≡ es
 last_open [] h = refl
 last_open (e ∷ es) h =
     let r = or_parts (decides_zero e.effect) (list_any is_leaving (e ∷ es)) h in

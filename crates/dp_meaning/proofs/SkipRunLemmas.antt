@@ -22,7 +22,7 @@ begins : (c : Config) (configs : List Config) → HeadsHere c configs → 0 < le
 begins c [] h some = absurd (omega (arith, some))
 begins c (d ∷ rest) h some = record { rest = rest; is = ap (λ (e : Config). e ∷ rest) h.0; plain = h.1 }
 
-some_events : (es : List Event) → closes es ≡ true → 0 < length es
+pub some_events : (es : List Event) → closes es ≡ true → 0 < length es
 some_events [] e = absurd (cc)
 some_events (x ∷ es) e = omega arith
 

@@ -73,20 +73,24 @@ pub step_printed : (m new : MachineState) (left : Bool) (site : SiteId) (seen : 
 step_printed m new left site seen before after (taken, shows) =
     taken.printed ∙ ap (λ xs. before ++ xs) (effect_printed taken.event.site taken.event.loads taken.event.effect ∙ ap effect_prints (sym shows.1))
 
-watch_spoiled : (m new : MachineState) (before after : List ℤ) → Spoiled 1 m new before after → WatchSpoiled m new before after
-watch_spoiled m new before after s = record { events = s.events; configs = s.configs; moved = s.moved; within = (let few = s.within in omega (arith, few)); spoiled = s.spoiled }
+-- a step is to be made, which the fuel lets be made
+abbrev IsNext : MachineState → Type 0
+IsNext m = (m.steps < m.fuel) × (part_of m.config.to_do ≢ part.Finished)
+
+watch_spoiled : (m new : MachineState) (before after : List ℤ) → (m.spoiled ≡ false → IsNext m) → Spoiled 1 m new before after → WatchSpoiled m new before after
+watch_spoiled m new before after left s = record { events = s.events; configs = s.configs; moved = s.moved; within = (let few = s.within in omega (arith, few)); spoiled = s.spoiled; left = left }
 
 -- a machine that was spoiled before makes no step
 pub watches_no_more : (m : MachineState) (out : List ℤ) → m.spoiled ≡ true → WatchSpoiled m m out out
-watches_no_more m out h = watch_spoiled m m out out (already_spoiled 1 m out (omega arith) h)
+watches_no_more m out h = watch_spoiled m m out out (λ fresh. (let clash : true ≡ false = sym h ∙ fresh in absurd (cc clash))) (already_spoiled 1 m out (omega arith) h)
 
 -- memory was wanting for the next step
-pub step_unmade : (m new : MachineState) (before after : List ℤ) → new ≡ record m { spoiled = true } → after ≡ before → WatchSpoiled m new before after
-step_unmade m new before after is same = watch_spoiled m new before after (wanting 1 m before new after (omega arith) is same)
+pub step_unmade : (m new : MachineState) (before after : List ℤ) → m.steps < m.fuel → part_of m.config.to_do ≢ part.Finished → new ≡ record m { spoiled = true } → after ≡ before → WatchSpoiled m new before after
+step_unmade m new before after less some is same = watch_spoiled m new before after (λ fresh. (less, some)) (wanting 1 m before new after (omega arith) (λ fresh. less) is same)
 
 -- memory was wanting for what is told of the step
-pub step_untold : (m new : MachineState) (t : Turn) (before after : List ℤ) → m.steps < m.fuel → TurnTaken t m new before after → WatchSpoiled m (record new { spoiled = true }) before after
-step_untold m new (turn.Made left site seen) before after less (taken, shows) =
+pub step_untold : (m new : MachineState) (t : Turn) (before after : List ℤ) → m.steps < m.fuel → part_of m.config.to_do ≢ part.Finished → TurnTaken t m new before after → WatchSpoiled m (record new { spoiled = true }) before after
+step_untold m new (turn.Made left site seen) before after less some (taken, shows) =
     let step = moved_step left m new before after less taken in
     record {
       events = taken.event ∷ [];
@@ -94,5 +98,6 @@ step_untold m new (turn.Made left site seen) before after less (taken, shows) =
       moved = record { run = step.run; prints = step.prints; steps = step.steps; program = step.program; input = step.input; fuel = step.fuel };
       within = omega arith;
       spoiled = refl;
+      left = λ fresh. (less, some);
     }
-step_untold m new (turn.Fault fault) before after less t = step_unmade m (record new { spoiled = true }) before after (ap (λ (n : MachineState). record n { spoiled = true }) t.1) t.2
+step_untold m new (turn.Fault fault) before after less some t = step_unmade m (record new { spoiled = true }) before after less some (ap (λ (n : MachineState). record n { spoiled = true }) t.1) t.2

@@ -1,10 +1,10 @@
 -- What a group holds where its own pages hold the same cells.
 use Rattle.std.proofs.Common.{◌≡◌, ℕ, ℤ, ◌+◌, ◌<◌, List, [], ◌∷◌, drop, length, arith, map, refl, Option, Some, None, sym, ap, ◌∙◌, slice_get, get_or}
 use Rattle.std.proofs.Math.ListN.{set}
-use Rattle.std.proofs.lemmas.List.{map-set, set-get_or, length-map, length-set, drop_more, get_or-set_same}
+use Rattle.std.proofs.lemmas.List.{map-set, set-get_or, length-map, drop_more}
 use Rattle.std.proofs.lemmas.Option.{slice_get-map, slice_get-get_or, slice_get_within, get_or_from_slice_get}
 use Rattle.std.specs.Option.{option_map}
-use Rattle.std.specs.Result.{OnOk, OnErr}
+use Rattle.std.specs.Result.{OnOk}
 use Rattle.std.specs.Prelude.{Result, Ok, Err}
 use Rattle.dp_memory.specs.Pieces.{with_cell}
 use Rattle.std.specs.declared.sync.Arc.{Arc}
@@ -66,13 +66,6 @@ module _ (group : Piece (Piece ℤ)) (none : group.shared ≡ None) (pages : Lis
 pub drop_one : {X : Type 0} (xs : List X) (i : ℕ) (x : X) → slice_get xs i ≡ Some x → drop i xs ≡ x ∷ drop (i + 1) xs
 drop_one xs i x e = drop_more xs i x (slice_get_within xs i x e) ∙ ap (λ y. y ∷ drop (i + 1) xs) (get_or_from_slice_get xs i x x e)
 
-pub on_err : {T E P : Type 0} (r : Result T E) → P → OnErr r P
-on_err (Ok x) p = tt
-on_err (Err e) p = p
-
 pub on_ok : {T E P Q : Type 0} (r : Result T E) → (P → Q) → OnOk r P → OnOk r Q
 on_ok (Ok x) f p = f p
 on_ok (Err e) f p = tt
-
-pub set_there : {X : Type 0} (xs : List X) (i : ℕ) (x : X) → i < length xs → slice_get (set xs i x) i ≡ Some x
-set_there xs i x lt = slice_get-get_or (set xs i x) i x (omega (arith, length-set xs i x, lt)) ∙ ap Some (get_or-set_same xs i x x lt)

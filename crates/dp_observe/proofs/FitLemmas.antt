@@ -21,6 +21,7 @@ use Rattle.dp_observe.proofs.ApartLemmas.{Apart, regions_apart}
 use Rattle.dp_observe.proofs.CounterLemmas.{has_site_at}
 use Rattle.dp_observe.proofs.HitLemmas.{count_cons}
 use Rattle.dp_observe.proofs.QuietLemmas.{site_quiet}
+use Rattle.std.proofs.Math.Bool.{or-true}
 
 less_both : (b c : Bool) → one_if (b && c) ≤ one_if b
 less_both true true = omega arith
@@ -76,18 +77,14 @@ lower_to f g same h = elim (cases_Bool (nat_lt f.from.0 g.from.0)) [
   | inr t ↦ rw t (rw (eq-eqb f.from.0 g.from.0 same) (rw (lt-ltb f.to.0 g.to.0 h) refl))
 ]
 
-or_true : (b : Bool) → (b || true) ≡ true
-or_true true = refl
-or_true false = refl
-
 lower_kind : (f g : Flow) → f.from.0 ≡ g.from.0 → f.to.0 ≡ g.to.0 → f.carried ≡ false → g.carried ≡ true → is_before f g ≡ true
 lower_kind f g from to intra carried =
     let kinds : (not f.carried && g.carried) ≡ true = ap (λ b. not b && g.carried) intra ∙ carried in
     let inner : ((f.to.0 == g.to.0) && (not f.carried && g.carried)) ≡ true = ap (λ b. b && (not f.carried && g.carried)) (eq-eqb f.to.0 g.to.0 to) ∙ kinds in
-    let second : (nat_lt f.to.0 g.to.0 || ((f.to.0 == g.to.0) && (not f.carried && g.carried))) ≡ true = ap (λ b. nat_lt f.to.0 g.to.0 || b) inner ∙ or_true (nat_lt f.to.0 g.to.0) in
+    let second : (nat_lt f.to.0 g.to.0 || ((f.to.0 == g.to.0) && (not f.carried && g.carried))) ≡ true = ap (λ b. nat_lt f.to.0 g.to.0 || b) inner ∙ or-true (nat_lt f.to.0 g.to.0) in
     let outer : ((f.from.0 == g.from.0) && (nat_lt f.to.0 g.to.0 || ((f.to.0 == g.to.0) && (not f.carried && g.carried)))) ≡ true =
     ap (λ b. b && (nat_lt f.to.0 g.to.0 || ((f.to.0 == g.to.0) && (not f.carried && g.carried)))) (eq-eqb f.from.0 g.from.0 from) ∙ second in
-    ap (λ b. nat_lt f.from.0 g.from.0 || b) outer ∙ or_true (nat_lt f.from.0 g.from.0)
+    ap (λ b. nat_lt f.from.0 g.from.0 || b) outer ∙ or-true (nat_lt f.from.0 g.from.0)
 
 -- each of these before each of those
 each_pairs : (P Q : Flow → Type 0) (xs ys : List Flow) → ((f g : Flow) → P f → Q g → is_before f g ≡ true) → Each P xs → Each Q ys → Each (λ f. Each (λ g. is_before f g ≡ true) ys) xs

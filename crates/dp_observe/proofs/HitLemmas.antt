@@ -16,6 +16,7 @@ use Rattle.dp_observe.specs.steps.Frames.{one_if, column, column_of, hits, loads
 use Rattle.dp_observe.specs.Sparse.{at}
 use Rattle.dp_observe.specs.steps.Tracking.{writer_of, since, begun, InOrder}
 use Rattle.dp_observe.proofs.FrameLemmas.{source_of, writer_own, load_found}
+use Rattle.std.proofs.Math.Bool.{and-true}
 
 pub same_test : (a b c d : ℕ) → (a ≡ b → c ≡ d) → (c ≡ d → a ≡ b) → (a == b) ≡ (c == d)
 same_test a b c d to back = elim (cases_Bool (a == b)) [
@@ -32,10 +33,6 @@ unequal a b other = elim (cases_Bool (a == b)) [ inl e ↦ absurd (other (eqb-tr
 and_no : (x : Bool) → (x && false) ≡ false
 and_no true = refl
 and_no false = refl
-
-and_yes : (x : Bool) → (x && true) ≡ x
-and_yes true = refl
-and_yes false = refl
 
 -- the number of a site is that of its place
 pub in_order_at : (n : ℕ) (sites : List RegionSite) (place : ℕ) (s : RegionSite) → InOrder n sites → slice_get sites place ≡ Some s → s.site.0 ≡ n + place
@@ -64,10 +61,10 @@ module _ (f : Frame) (w : Writer) (place : ℕ) (d : RegionSite) (low : f.first.
   hit_found : (c local k : Bool) → hits (if c && local then None else Some (column f w.site.0 c)) (2 * place + one_if k) ≡ ((w.site.0 == d.site.0) && (same_kind c k && not (c && local)))
   hit_found true true true = sym (and_no (w.site.0 == d.site.0))
   hit_found true true false = sym (and_no (w.site.0 == d.site.0))
-  hit_found true false true = same_column 1 ∙ sym (and_yes (w.site.0 == d.site.0))
+  hit_found true false true = same_column 1 ∙ sym (and-true (w.site.0 == d.site.0))
   hit_found true false false = unequal (2 * (w.site.0 - f.first.0) + 1) (2 * place + 0) (λ e. omega (arith, e)) ∙ sym (and_no (w.site.0 == d.site.0))
   hit_found false local true = unequal (2 * (w.site.0 - f.first.0) + 0) (2 * place + 1) (λ e. omega (arith, e)) ∙ sym (and_no (w.site.0 == d.site.0))
-  hit_found false local false = same_column 0 ∙ sym (and_yes (w.site.0 == d.site.0))
+  hit_found false local false = same_column 0 ∙ sym (and-true (w.site.0 == d.site.0))
 
 -- a load is counted in a column where it reads a store of the column's site and kind
 pub hit : (f : Frame) (w : Writer) (local : Bool) (sites : List RegionSite) (place : ℕ) (d : RegionSite) (k : Bool) → InOrder f.first.0 sites → slice_get sites place ≡ Some d

@@ -33,6 +33,7 @@ use Rattle.dp_parse.proofs.RegionComplete.{reads_marked, reads_marked_for}
 use Rattle.dp_parse.proofs.ItemSteps.{ends_some}
 use Rattle.dp_parse.proofs.ProgramSteps.{program_item, program_main}
 use Rattle.dp_parse.proofs.ItemComplete.{reads_plain, reads_below, reads_variable, reads_array, reads_function}
+use Rattle.std.proofs.Math.Bool.{or-true}
 
 -- a token that is a symbol stands for it
 at_head : (t : Lexeme) (ts : List Lexeme) (s : Symbol) → Is s t → symbol_at (t ∷ ts) ≡ s
@@ -49,13 +50,9 @@ pub ends_return : (ts : List Lexeme) → symbol_at ts ≡ Return → Closes ts
 unfolding read.ends sees
 ends_return ts at = ap (λ (b : Bool). b || step.same_symbol (symbol_at ts) CloseBrace) (is_same (symbol_at ts) Return at)
 
-or_true : (b : Bool) → (b || true) ≡ true
-or_true true = refl
-or_true false = refl
-
 ends_brace : (ts : List Lexeme) → symbol_at ts ≡ CloseBrace → Closes ts
 unfolding read.ends sees
-ends_brace ts at = ap (λ (b : Bool). step.same_symbol (symbol_at ts) Return || b) (is_same (symbol_at ts) CloseBrace at) ∙ or_true (step.same_symbol (symbol_at ts) Return)
+ends_brace ts at = ap (λ (b : Bool). step.same_symbol (symbol_at ts) Return || b) (is_same (symbol_at ts) CloseBrace at) ∙ or-true (step.same_symbol (symbol_at ts) Return)
 
 pub ends_not : (ts : List Lexeme) → (symbol_at ts ≡ Return → ⊥) → (symbol_at ts ≡ CloseBrace → ⊥) → read.ends ts ≡ false
 unfolding read.ends

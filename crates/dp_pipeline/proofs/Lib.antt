@@ -8,3 +8,4 @@ pub mod Ticketed
 pub mod Turned
 pub mod VerdictsCome
 pub mod ProgramLists
+pub mod UnitCounts

@@ -9,5 +9,6 @@ pub mod Seats
 pub mod Standing
 pub mod Staging
 pub mod Programs
+pub mod UnitCount
 pub mod Coming
 pub mod steps

@@ -5,6 +5,7 @@ ghost use Rattle.dp_lane.specs.declared.rule.View.TheVariants.{Taker};
 ghost use Rattle.dp_pipeline.specs.Keys.{key_of};
 ghost use Rattle.dp_pipeline.specs.steps.Setting.{IsSetting, IsKeyIn};
 ghost use Rattle.dp_pipeline.specs.Standing.{Gives, source_facts};
+ghost use Rattle.dp_pipeline.specs.UnitCount.{unit_count};
 
 use crate::carried::Carried;
 use crate::judge::Judge;
@@ -42,6 +43,7 @@ fn add_stage<'p>(
     requires source { Gives source (key_of key.now.epoch) (key.now.stage - 1) 0 × ((source_facts source).count ≡ 0) }
     requires setter { setter.old.flag ≡ stop.now }
     ensures next { IfOk result (λ next. Gives next (key_of key.now.epoch) key.now.stage 0 × ((source_facts next).count ≡ 0)) }
+    ensures count { OnOk result (length units.new ≡ length units.old + 1) }
     ensures setter { setter.new ≡ setter.old }
 {
     let stage = staged(alloc, setting, key)?;
@@ -77,6 +79,7 @@ fn add_replicated<'p>(
     requires source { Gives source (key_of key.old.epoch) (key.old.stage - 1) 0 × ((source_facts source).count ≡ 0) }
     requires setter { setter.old.flag ≡ stop.now }
     ensures next { IfOk result (λ next. Gives next (key_of key.old.epoch) (key.old.stage + 1) 0 × ((source_facts next).count ≡ 0)) }
+    ensures count { OnOk result (length units.new ≡ length units.old + (setting.entry.workers + 1)) }
     ensures key { OnOk result (key.new ≡ record { epoch = key.old.epoch; stage = key.old.stage + 1 }) }
     ensures setter { setter.new ≡ setter.old }
 {
@@ -153,6 +156,7 @@ pub fn units_of<'p>(
     requires steps { epoch.steps ≤ epoch.fuel }
     requires fuel { epoch.fuel ≤ 1000000000 }
     requires setter { setter.old.flag ≡ stop.now }
+    ensures count { IfOk result (λ made. length made.0 ≡ unit_count setting.entry.workers setting.entry.plan.now) }
     ensures verdicts { IfOk result (λ made. made.1.view ≡ Taker (record { epoch = epoch.entry; stage = length setting.entry.plan.now.stages + 1 }) 0) }
     ensures setter { setter.new ≡ setter.old }
 {

@@ -4,6 +4,7 @@ ghost use Rattle.dp_tree.specs.Inlined.{IsInlined};
 ghost use Rattle.dp_plan.specs.GivenPlans.{IsPlan};
 ghost use Rattle.dp_semantics.specs.EpochCauses.{IsSound};
 ghost use Rattle.dp_pipeline.specs.Programs.{ArePrograms};
+ghost use Rattle.dp_pipeline.specs.UnitCount.{unit_count};
 
 use crate::keys::EpochKey;
 use crate::making::units_of;
@@ -52,6 +53,7 @@ impl<'u> Pipeline<'u> {
         requires workers { (1 ≤ workers) × (workers ≤ 8) }
         requires lane { (1 ≤ lane) × (lane ≤ 64) }
         requires setter { setter.old.flag ≡ stop.now }
+        ensures units { IfOk result (λ made. length made.units ≡ unit_count workers plan.now) }
         ensures setter { setter.new ≡ setter.old }
         ensures verdicts { IfOk result (λ made. made.verdicts ≡ record { key = record { program = p.now; plan = plan.now; input = input.now; first = first; base = base.now; steps = steps; fuel = fuel }; given = 0 }) }
     {

@@ -1,5 +1,5 @@
 //! Packets on their way back to the first stage.
-ghost use Rattle.std.specs.Prelude.{◌≡◌, false, true};
+ghost use Rattle.std.specs.Prelude.{◌≡◌, false, true, is_some, IfOk};
 ghost use Rattle.dp_lane.specs.Ends.{is_sender};
 
 use crate::supply::Supply;
@@ -39,7 +39,9 @@ impl Back {
 
 /// The way back for packets that were judged, and what gives them out again. So many lanes of so many places hold the
 /// packets of an epoch, and all of them may be on their way back at once.
-pub(crate) fn way_back(alloc: Global, lanes: u32, places: u32) -> Result<(Back, Supply), NoMemory> {
+pub(crate) fn way_back(alloc: Global, lanes: u32, places: u32) -> Result<(Back, Supply), NoMemory>
+    ensures { IfOk result (λ made. is_some made.1.last ≡ true) }
+{
     let room = lanes.saturating_mul(places).max(1);
     let (end, spares) = lane::<Spare>(alloc, &0, room)?;
     let supply = Supply::new(alloc, spares)?;

@@ -1,5 +1,5 @@
 //! How the units that run one stage are made.
-ghost use Rattle.std.specs.Prelude.{◌≡◌, ◌≤◌, ◌<◌, ◌-◌, ℕ, suc, true, false, Some, length, IfOk};
+ghost use Rattle.std.specs.Prelude.{◌≡◌, ◌≤◌, ◌<◌, ◌-◌, ℕ, suc, true, false, Some, length, IfOk, OnOk, ◌+◌};
 ghost use Rattle.dp_plan.specs.Access.{is_replicated};
 ghost use Rattle.dp_plan.specs.Each.{Each};
 ghost use Rattle.dp_semantics.specs.EpochKey.{EpochKey};
@@ -130,6 +130,7 @@ pub(crate) fn add_workers<'p>(
     requires replicated { is_replicated setting.plan.now key.now.stage ≡ true }
     requires seats { Each (IsUnused key.now) seats }
     requires setter { setter.old.flag ≡ stop.now }
+    ensures count { OnOk result (length units.new ≡ length units.old + length seats.entry) }
     ensures setter { setter.new ≡ setter.old }
 {
     while let Some(at) = seats.pop() {

@@ -1,5 +1,5 @@
 //! Where the iterations of an epoch start.
-ghost use Rattle.std.specs.Prelude.{◌≡◌, ◌<◌, ◌≤◌, ◌-◌, ◌+◌, ◌^◌, ℕ, IfOk, OnErr};
+ghost use Rattle.std.specs.Prelude.{◌≡◌, ◌<◌, ◌≤◌, ◌-◌, ◌+◌, ◌^◌, ◌⊎◌, ℕ, None, IfOk, OnErr};
 
 use crate::carried::Carried;
 use crate::polled::IdleWhy;
@@ -20,6 +20,7 @@ pub struct Start<'p> {
 }
 
 impl<'p> Start<'p> {
+    ghost use Rattle.dp_packet.specs.declared.PacketStatus.TheVariants as state;
     ghost use Rattle.dp_semantics.specs.EpochKey.{EpochKey};
     ghost use Rattle.dp_pipeline.specs.Carried.{IsCarried};
     ghost use Rattle.dp_pipeline.specs.Facts.{Takes};
@@ -31,6 +32,7 @@ impl<'p> Start<'p> {
         requires { fuel < 2 ^ 64 - 1 }
         ensures first { (result.first ≡ first) × (result.next ≡ first) }
         ensures rest { (result.fuel ≡ fuel) × (result.plan.now ≡ plan.now) }
+        ensures begun { (result.supply ≡ supply) × (result.refused ≡ 0) }
     {
         Start {
             plan,
@@ -42,10 +44,13 @@ impl<'p> Start<'p> {
         }
     }
 
-    /// The packet of the next iteration. None comes above the fuel's number.
+    /// The packet of the next iteration. None comes above the fuel's number, and behind one that says that memory is wanting.
     pub(crate) fn take<R: Wait>(&mut self, rt: &R) -> Result<Carried<'p>, IdleWhy>
         ensures took { IfOk result (λ item. (key : EpochKey) (s n : ℕ) → Starts self.old key s n → IsCarried key s n item × Starts self.new key s (n + 1)) }
         ensures idle { OnErr result ((key : EpochKey) (s n : ℕ) → Starts self.old key s n → Starts self.new key s n) }
+        ensures none { OnErr result ((self.old.fuel < self.old.next) ⊎ (self.old.supply.last ≡ None)) }
+        ensures kept { OnErr result (self.new.supply.last ≡ self.old.supply.last) }
+        ensures spent { IfOk result (λ item. (item.packet.status ≡ state.NoMemory) ⊎ (self.new.supply.last ≡ self.old.supply.last)) }
         ensures taking { Takes result (source_facts (source.Start self.old)) (source_facts (source.Start self.new)) }
     {
         match self.supply.packet(rt, self.next, self.fuel) {

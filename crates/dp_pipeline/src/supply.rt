@@ -1,6 +1,7 @@
 //! Packets for the iterations of an epoch.
-ghost use Rattle.std.specs.Prelude.{◌≡◌, ◌≤◌, ◌<◌, ◌⊎◌, None, [], IfSome, IfNone};
+ghost use Rattle.std.specs.Prelude.{◌≡◌, ◌≤◌, ◌<◌, ◌⊎◌, None, [], true, is_some, IfOk, IfSome, IfNone};
 ghost use Rattle.dp_semantics.specs.Packets as packets;
+ghost use Rattle.dp_packet.specs.declared.PacketStatus.TheVariants as state;
 ghost use Rattle.dp_packet.specs.Packet.{packet_of, IsUnless};
 
 use crate::spare::Spare;
@@ -17,11 +18,13 @@ pub struct Supply {
     /// Where packets come back that were judged.
     spares: TakeEnd<Spare>,
     /// The one that says that there is no memory for another.
-    last: Option<Boxed<Packet>>,
+    pub(crate) last: Option<Boxed<Packet>>,
 }
 
 impl Supply {
-    pub(crate) fn new(alloc: Global, spares: TakeEnd<Spare>) -> Result<Supply, NoMemory> {
+    pub(crate) fn new(alloc: Global, spares: TakeEnd<Spare>) -> Result<Supply, NoMemory>
+        ensures { IfOk result (λ supply. is_some supply.last ≡ true) }
+    {
         let last = Boxed::new(alloc, Packet::empty(alloc, 0))?;
         Ok(Supply {
             alloc,
@@ -42,6 +45,8 @@ impl Supply {
         ensures number { IfSome result (λ packet. packet.iteration ≡ iteration) }
         ensures within { IfSome result (λ packet. iteration ≤ fuel) }
         ensures none { IfNone result ((fuel < iteration) ⊎ (self.old.last ≡ None)) }
+        ensures kept { IfNone result (self.new.last ≡ self.old.last) }
+        ensures spent { IfSome result (λ packet. (packet.status ≡ state.NoMemory) ⊎ (self.new.last ≡ self.old.last)) }
         ensures said { IfSome result (λ packet. IsUnless packet.status (packet_of packet) (record { lists = []; status = packets.Going; version = None })) }
     {
         if iteration > fuel {
@@ -59,6 +64,8 @@ impl Supply {
     /// The packet that says that memory is wanting.
     fn wanting(&mut self, iteration: u64) -> Option<Boxed<Packet>>
         ensures none { IfNone result (self.old.last ≡ None) }
+        ensures kept { IfNone result (self.new.last ≡ self.old.last) }
+        ensures wanting { IfSome result (λ packet. packet.status ≡ state.NoMemory) }
         ensures number { IfSome result (λ packet. packet.iteration ≡ iteration) }
         ensures said { IfSome result (λ packet. IsUnless packet.status (packet_of packet) (record { lists = []; status = packets.Going; version = None })) }
     {

@@ -1,5 +1,5 @@
 -- Numbers that go up, one by one as those of a region's sites do, or strictly.
-use Rattle.std.proofs.Common.{◌≡◌, refl, sym, ap, subst, ℕ, zero, suc, ◌+◌, ◌<◌, ◌≤◌, ◌^◌, Bool, List, [], ◌∷◌, ◌++◌, length, filter, inl, inr, arith}
+use Rattle.std.proofs.Common.{◌≡◌, refl, sym, subst, ℕ, zero, suc, ◌+◌, ◌<◌, ◌≤◌, ◌^◌, Bool, List, [], ◌∷◌, ◌++◌, length, filter, inl, inr, arith}
 use Rattle.std.proofs.lemmas.Bool.{cases_Bool}
 use Rattle.dp_tree.specs.Numbering.{numbers_from}
 use Rattle.dp_plan.specs.Each.{AscendAbove, Each}
@@ -18,10 +18,6 @@ ascends_split k [] b h = let e : k ≡ k + 0 = omega arith in (tt, subst (λ (i 
 ascends_split k (n ∷ a) b h =
     let r = ascends_split (suc k) a b h.1 in
     let e : suc k + length a ≡ k + suc (length a) = omega arith in ((h.0, r.0), subst (λ (i : ℕ). Ascends i b) e r.1)
-
-pub length-numbers_from : (k n : ℕ) → length (numbers_from k n) ≡ n
-length-numbers_from k zero = refl
-length-numbers_from k (suc n) = ap suc (length-numbers_from (k + 1) n)
 
 -- ---- strictly
 

@@ -2,6 +2,11 @@
 use Rattle.std.proofs.Common.{◌≡◌, ℕ, zero, suc, List, [], ◌∷◌, ◌++◌, Some, slice_get, map, subst}
 use Rattle.dp_plan.specs.Each.{Each}
 
+-- .. where it is so of any
+pub every : {X : Type 0} (Q : X → Type 0) → ((x : X) → Q x) → (xs : List X) → Each Q xs
+every Q f [] = tt
+every Q f (x ∷ xs) = (f x, every Q f xs)
+
 -- .. gives another
 pub each_map : {X : Type 0} (Q R : X → Type 0) (f : (x : X) → Q x → R x) (xs : List X) → Each Q xs → Each R xs
 each_map Q R f [] h = tt

@@ -10,9 +10,10 @@ use Rattle.dp_plan.specs.declared.Plan.{Plan}
 use Rattle.dp_plan.specs.Stage.{first_site, first_site_of}
 use Rattle.dp_plan.specs.Access.{accesses}
 use Rattle.dp_plan.specs.Written.{region_sites, site_in}
-use Rattle.dp_plan.proofs.Ascent.{Ascends, ascends-numbers_from, length-numbers_from}
+use Rattle.dp_plan.proofs.Ascent.{Ascends, ascends-numbers_from}
 use Rattle.dp_plan.proofs.RegionOrder.{Sought, absent, present, find_region}
 use Rattle.dp_plan.proofs.TopStatements.{fewer_regions}
+use Rattle.dp_tree.proofs.NumberLists.{length-numbers_from}
 
 -- they go up one by one from the first site, and have 32 bits
 pub record InOrder (p : Program) (plan : Plan) : Type 0 where

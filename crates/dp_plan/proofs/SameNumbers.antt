@@ -7,8 +7,8 @@ use Rattle.dp_plan.specs.Written.{has}
 use Rattle.dp_plan.proofs.Ascent.{above_each}
 use Rattle.dp_plan.proofs.Found.{has_each, past, past_other}
 
-here : (x : ℕ) (xs : List ℕ) → has x (x ∷ xs) ≡ true
-here x xs = rw (eq-eqb x x refl) refl
+pub has_head : (x : ℕ) (xs : List ℕ) → has x (x ∷ xs) ≡ true
+has_head x xs = rw (eq-eqb x x refl) refl
 
 heads : (x y : ℕ) (xs ys : List ℕ) → AscendAbove x xs → AscendAbove y ys → has x (y ∷ ys) ≡ true → has y (x ∷ xs) ≡ true → x ≡ y
 heads x y xs ys up up_too e f = elim (cases_Bool (y == x)) [
@@ -29,10 +29,10 @@ tails x xs ys up f n e =
 
 pub same_numbers : (low : ℕ) (xs ys : List ℕ) → AscendAbove low xs → AscendAbove low ys → ((n : ℕ) → has n xs ≡ true → has n ys ≡ true) → ((n : ℕ) → has n ys ≡ true → has n xs ≡ true) → xs ≡ ys
 same_numbers low [] [] up up_too f g = refl
-same_numbers low [] (y ∷ ys) up up_too f g = let clash : false ≡ true = g y (here y ys) in absurd (cc clash)
-same_numbers low (x ∷ xs) [] up up_too f g = let clash : false ≡ true = f x (here x xs) in absurd (cc clash)
+same_numbers low [] (y ∷ ys) up up_too f g = let clash : false ≡ true = g y (has_head y ys) in absurd (cc clash)
+same_numbers low (x ∷ xs) [] up up_too f g = let clash : false ≡ true = f x (has_head x xs) in absurd (cc clash)
 same_numbers low (x ∷ xs) (y ∷ ys) up up_too f g =
-    let e : x ≡ y = heads x y xs ys up.2 up_too.2 (f x (here x xs)) (g y (here y ys)) in
+    let e : x ≡ y = heads x y xs ys up.2 up_too.2 (f x (has_head x xs)) (g y (has_head y ys)) in
     let later : AscendAbove x ys = subst (λ (i : ℕ). AscendAbove i ys) (sym e) up_too.2 in
     ap (λ (l : List ℕ). x ∷ l) (same_numbers x xs ys up.2 later
     (tails x xs ys up.2 (λ n h. subst (λ (i : ℕ). has n (i ∷ ys) ≡ true) (sym e) (f n h)))

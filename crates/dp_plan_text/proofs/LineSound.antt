@@ -1,5 +1,5 @@
 -- Words that are read as a line are the words of that line.
-use Rattle.std.proofs.Common.{◌≡◌, ℕ, ◌^◌, ◌<◌, ◌≤◌, ◌==◌, Bool, true, false, ◌&&◌, nat_lt, nat_le, List, [], ◌∷◌, map, Option, Some, None, codes, decimal, refl, sym, ap, ◌∙◌, rules, arith, tests}
+use Rattle.std.proofs.Common.{◌≡◌, ℕ, ◌<◌, ◌≤◌, ◌==◌, Bool, true, false, ◌&&◌, nat_lt, nat_le, List, [], ◌∷◌, map, Option, Some, None, codes, decimal, refl, sym, ap, ◌∙◌, rules, arith, tests}
 use Rattle.std.specs.Prelude.{if◌then◌else◌}
 use Rattle.std.specs.Str.{bytes_eq}
 use Rattle.std.proofs.lemmas.Slice.Eq.{bytes_eq-Decides}
@@ -82,7 +82,7 @@ region_case a b (Some r) (Some w) l p q h = within_case a b r w l (nat_le 16 w) 
 region_case a b _ _ l p q h = absurd (cc h)
 
 -- a test of a word
-same_word : (a b : List ℕ) → bytes_eq a b ≡ true → a ≡ b
+pub same_word : (a b : List ℕ) → bytes_eq a b ≡ true → a ≡ b
 same_word a b h = (bytes_eq-Decides a b).0 h
 
 label_case : (a b label : List ℕ) (is : Bool) (l : Line) → bytes_eq label (codes "words") ≡ is → (if is then region_of (number_of a) (number_of b) else None) ≡ Some l

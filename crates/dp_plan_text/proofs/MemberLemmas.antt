@@ -1,12 +1,14 @@
 -- The least of numbers; lists with the same members have the same least number.
 use Rattle.std.proofs.Common.{◌≡◌, ◌⊎◌, inl, inr, refl, sym, subst, ◌∙◌, ap, arith, ℕ, ◌≤◌, ◌==◌, if◌then◌else◌, nat_lt, Bool, true, false, ◌&&◌, ◌||◌, List, [], ◌∷◌, filter, cond, Option, Some, None, ◌<◌}
 use Rattle.std.specs.List.Sorted.{IsPermutation}
-use Rattle.std.proofs.lemmas.Bool.{cases_Bool, true≢false, eqb-true, eq-eqb, or_cases, ltb-true, ltb-false}
+use Rattle.std.proofs.lemmas.Bool.{cases_Bool, true≢false, eqb-true, or_cases, ltb-true, ltb-false}
 use Rattle.std.proofs.lemmas.List.Elements.{filter_agree}
 use Rattle.std.proofs.lemmas.List.Sorted.{list_any-IsPermutation, sum_by-IsPermutation}
 use Rattle.dp_plan.specs.Written.{has}
 use Rattle.dp_plan.specs.Rules.{lesser, least, occurs_again}
 use Rattle.dp_plan_text.specs.steps.Tables.{lesser_of}
+use Rattle.std.proofs.Math.Bool.{or-true}
+use Rattle.dp_plan.proofs.SameNumbers.{has_head}
 
 -- the number is the least of these
 abbrev IsLeast : List ℕ → Option ℕ → Type 0
@@ -16,15 +18,8 @@ IsLeast xs (Some m) = (has m xs ≡ true) × ((n : ℕ) → has n xs ≡ true �
 pub clash : {P : Type 0} {b : Bool} → b ≡ true → b ≡ false → P
 clash t f = absurd (true≢false (sym t ∙ f))
 
-pub has_head : (x : ℕ) (xs : List ℕ) → has x (x ∷ xs) ≡ true
-has_head x xs = ap (λ b. b || has x xs) (eq-eqb x x refl)
-
 pub has_later : (n x : ℕ) (xs : List ℕ) → has n xs ≡ true → has n (x ∷ xs) ≡ true
-has_later n x xs e = ap (λ b. (x == n) || b) e ∙ or_true (x == n)
-  where
-    or_true : (b : Bool) → (b || true) ≡ true
-    or_true true = refl
-    or_true false = refl
+has_later n x xs e = ap (λ b. (x == n) || b) e ∙ or-true (x == n)
 
 -- what is among these is the first or among the others
 pub has_cases : (n x : ℕ) (xs : List ℕ) → has n (x ∷ xs) ≡ true → (x ≡ n) ⊎ (has n xs ≡ true)

@@ -8,8 +8,9 @@ use Rattle.std.proofs.lemmas.List.Folds.{Any-from_list_any}
 use Rattle.std.proofs.lemmas.List.Sums.{sum_by-cons, count_by-le-length}
 use Rattle.dp_plan.specs.Written.{has}
 use Rattle.dp_plan.specs.Rules.{least, occurs_again}
-use Rattle.dp_plan_text.proofs.MemberLemmas.{least_first, clash, has_head, has_later, has_cases, has_passing}
+use Rattle.dp_plan_text.proofs.MemberLemmas.{least_first, clash, has_later, has_cases, has_passing}
 use Rattle.dp_plan_text.proofs.StageLemmas.{first_pair, pair_here, no_pair}
+use Rattle.dp_plan.proofs.SameNumbers.{has_head}
 
 -- none of the others is below the first, and so on
 abbrev Rises : List ℕ → Type 0

@@ -1,5 +1,5 @@
 -- The lines of plans that fit are read to their end.
-use Rattle.std.proofs.Common.{◌≡◌, ℕ, zero, suc, ◌+◌, ◌<◌, ◌≤◌, ◌==◌, Bool, true, false, ◌||◌, nat_lt, List, [], ◌∷◌, ◌++◌, map, length, Some, refl, sym, ap, ◌∙◌, append_assoc, append-nil, length-append, rules, arith, tests}
+use Rattle.std.proofs.Common.{◌≡◌, ℕ, zero, suc, ◌+◌, ◌<◌, ◌≤◌, ◌==◌, Bool, true, false, nat_lt, List, [], ◌∷◌, ◌++◌, map, length, Some, refl, sym, ap, ◌∙◌, append_assoc, append-nil, length-append, rules, arith, tests}
 use Rattle.std.specs.List.{flat_map}
 use Rattle.dp_tree.specs.declared.Assume.{Assume}
 use Rattle.dp_tree.specs.Numbering.{numbers_from}
@@ -14,6 +14,7 @@ use Rattle.dp_plan.specs.PlanFits.{PlanFits}
 use Rattle.dp_plan_text.specs.PlanText.{region_number, region_lines, plan_lines}
 use Rattle.dp_plan_text.specs.steps.Reading.{begun, is_between, closed, next}
 use Rattle.dp_plan_text.proofs.Runs.{run}
+use Rattle.std.proofs.lemmas.Bool.{or_right}
 
 abbrev pub part : ℕ → ℕ → List WrittenStage → List Assume → WrittenPlan
 part r words stages assumed = record { region = r; words = words; stages = stages; assume = assumed }
@@ -71,12 +72,8 @@ region_run n s w more between lt same fits =
     ∙ stages_run s.proved n w.region w.words (closed s) positive [] w.stages (map line.Assume w.assume ++ more) (omega (arith, fits.few_stages))
     ∙ assumes_run s.proved n w.region w.words (closed s) positive w.stages [] w.assume more full
 
-or_true : (a b : Bool) → b ≡ true → (a || b) ≡ true
-or_true true b h = refl
-or_true false b h = h
-
 pub between_regions : (v : Bool) (plans : List WrittenPlan) (w : WrittenPlan) → 0 < length w.stages → is_between (inside v plans w) ≡ true
-between_regions v plans w full = or_true (w.region == 0) (nat_lt 0 (length w.stages)) (search rules)
+between_regions v plans w full = or_right (w.region == 0) (nat_lt 0 (length w.stages)) (search rules)
 
 pub closed_last : (v : Bool) (plans : List WrittenPlan) (w : WrittenPlan) → 0 < w.region → closed (inside v plans w) ≡ plans ++ w ∷ []
 closed_last v plans w h = rw (not_zero w.region h) refl

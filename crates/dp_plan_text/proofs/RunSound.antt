@@ -2,7 +2,7 @@
 use Rattle.std.proofs.Common.{◌≡◌, ℕ, zero, suc, ◌+◌, ◌<◌, ◌≤◌, ◌==◌, Bool, true, false, ◌&&◌, nat_lt, List, [], ◌∷◌, ◌++◌, map, length, Some, None, refl, sym, ap, subst, ◌∙◌, append_assoc, append-nil, length-append, rules, arith, tests}
 use Rattle.std.specs.Prelude.{if◌then◌else◌}
 use Rattle.std.specs.List.{flat_map}
-use Rattle.std.proofs.lemmas.List.{map-append}
+use Rattle.std.proofs.lemmas.List.{map-append, nil_from_length}
 use Rattle.std.proofs.lemmas.Grind.{flat_map-append}
 use Rattle.dp_plan.proofs.EachLemmas.{each-append}
 use Rattle.dp_tree.specs.declared.Assume.{Assume}
@@ -46,10 +46,6 @@ numbers-next zero first = ap (λ m. m ∷ []) (omega arith)
 numbers-next (suc k) first =
     let same : first + suc k ≡ (first + 1) + k = omega arith in
     ap (λ r. first ∷ r) (ap (λ m. numbers_from (first + 1) k ++ m ∷ []) same ∙ numbers-next k (first + 1))
-
-pub empty : {A : Type 0} (xs : List A) → length xs ≡ 0 → xs ≡ []
-empty [] h = refl
-empty (x ∷ xs) h = absurd (omega (arith, h))
 
 -- ---- what a test tells
 
@@ -136,7 +132,7 @@ module _ (n : ℕ) (v : Bool) (plans : List WrittenPlan) (w : WrittenPlan) (some
   stage_after stage s fits h =
       let t = taken _ _ s h in let b = both _ _ t.0 in let c = both _ _ b.second in
       let few : length w.stages < 8 = let lt : nat_lt (length w.stages) 8 ≡ true = c.first in search rules in
-      let none : w.assume ≡ [] = empty w.assume (let e : (length w.assume == 0) ≡ true = c.second in search (rules, tests)) in
+      let none : w.assume ≡ [] = nil_from_length w.assume (let e : (length w.assume == 0) ≡ true = c.second in search (rules, tests)) in
       let more = more_stage w stage in
       let lines : line.Head v ∷ flat_map region_lines (plans ++ more ∷ []) ≡ so_far ++ line.Stage stage ∷ [] = ap (λ l. line.Head v ∷ l) (last_line plans w more (line.Stage stage) (stage_lines w stage none)) in
       let fits_more : LastFits more = record {

@@ -15,11 +15,11 @@ use Rattle.dp_plan_text.specs.steps.Reading.{begun, next_by}
 use Rattle.dp_plan_text.specs.declared.PlanFail.{PlanFail}
 use Rattle.dp_plan_text.specs.declared.PlanFail.TheVariants.{Refused}
 use Rattle.dp_plan_text.specs.steps.Ending.{IfEnds, ReadsText}
-use Rattle.dp_plan_text.proofs.WordLemmas.{position_none}
 use Rattle.dp_plan_text.proofs.CutLemmas.{lines_one}
 use Rattle.dp_plan_text.proofs.Runs.{chomped-line, chomped-none, read_text, read_bytes, run_bytes}
 use Rattle.dp_plan_text.proofs.RunComplete.{over}
 use Rattle.dp_plan_text.proofs.TextLemmas.{Reached, reached_start, reached_next, text_runs, is_text, begins, fronts, not_begun}
+use Rattle.dp_base.proofs.PositionLemmas.{position_none}
 
 -- so many lines have been read, and the rest hasn't
 pub record SoFar (p : Program) (bytes : List ℕ) (s : Reader) (rest : List ℕ) (count : ℕ) : Type 0 where

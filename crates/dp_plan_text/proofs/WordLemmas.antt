@@ -1,10 +1,11 @@
 -- The first word of a line and the words behind it.
-use Rattle.std.proofs.Common.{◌≡◌, ℕ, suc, ◌+◌, ◌<◌, ◌≤◌, ◌==◌, Bool, true, false, not, cond, nat_lt, List, [], ◌∷◌, length, take, drop, Option, Some, None, refl, sym, ap, ◌∙◌, rules, arith}
+use Rattle.std.proofs.Common.{◌≡◌, ℕ, suc, ◌+◌, ◌<◌, ◌≤◌, ◌==◌, Bool, true, false, not, cond, List, [], ◌∷◌, length, take, drop, Option, Some, None, refl, sym, ap, ◌∙◌, arith}
 use Rattle.std.specs.List.{position, position_or_len}
 use Rattle.dp_plan_text.specs.PlanText.{onto_first}
 use Rattle.dp_plan_text.specs.declared.line.Line.{Line}
 use Rattle.dp_plan_text.specs.Words.{words}
 use Rattle.dp_plan_text.specs.steps.LineWords.{region_line, assume_line, head_line, end_line}
+use Rattle.dp_base.proofs.PositionLemmas.{position_some, position_none}
 
 -- how many bytes stand before the first of this kind
 abbrev pub first_end : ℕ → List ℕ → ℕ
@@ -40,20 +41,6 @@ words_one [] le = refl
 words_one (byte ∷ text) le = one_case byte text (byte == 32) refl (first_end 32 text) (words_one text) le
 
 -- ---- what `position` tells
-
-some_case : (n len k : ℕ) (found : Bool) → nat_lt n len ≡ found → cond found (Some n) None ≡ Some k → (k ≡ n) × (n < len)
-some_case n len k true e h = (cc h, search rules)
-some_case n len k false e h = absurd (cc h)
-
-pub position_some : (test : ℕ → Bool) (text : List ℕ) (k : ℕ) → position test text ≡ Some k → (k ≡ position_or_len test text) × (position_or_len test text < length text)
-position_some test text k h = some_case (position_or_len test text) (length text) k _ refl h
-
-none_case : (n len : ℕ) (found : Bool) → nat_lt n len ≡ found → cond found (Some n) None ≡ None → len ≤ n
-none_case n len true e h = absurd (cc h)
-none_case n len false e h = search rules
-
-pub position_none : (test : ℕ → Bool) (text : List ℕ) → position test text ≡ None → length text ≤ position_or_len test text
-position_none test text h = none_case (position_or_len test text) (length text) _ refl h
 
 -- ---- the first word of a line
 

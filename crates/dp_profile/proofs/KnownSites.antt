@@ -9,10 +9,11 @@ use Rattle.dp_tree.specs.Inlined.{IsInlined}
 use Rattle.dp_tree.specs.Numbering.{is_marked, number_at, site_numbers, site_numbers_all}
 use Rattle.dp_tree.proofs.Asked.{asked_both}
 use Rattle.dp_plan.specs.Each.{Each}
-use Rattle.dp_plan.proofs.Ascent.{Ascends, ascends_split, ascends-numbers_from, length-numbers_from}
+use Rattle.dp_plan.proofs.Ascent.{Ascends, ascends_split, ascends-numbers_from}
 use Rattle.dp_profile.specs.Sites.{RegionSite, site_at, sites, regions}
 use Rattle.dp_profile.proofs.LineComplete.{top}
 use Rattle.dp_profile.proofs.RunEnds.{SmallSite}
+use Rattle.dp_tree.proofs.NumberLists.{length-numbers_from}
 
 abbrev pub number : RegionSite → ℕ
 number s = s.site.0

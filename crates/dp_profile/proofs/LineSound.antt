@@ -2,7 +2,6 @@
 use Rattle.std.proofs.Common.{◌≡◌, ℕ, ◌<◌, ◌≤◌, Bool, true, false, nat_lt, nat_le, List, [], ◌∷◌, Option, Some, None, codes, decimal, refl, ap, ◌∙◌, rules, arith}
 use Rattle.std.specs.Prelude.{if◌then◌else◌}
 use Rattle.std.specs.Str.{bytes_eq}
-use Rattle.std.proofs.lemmas.Slice.Eq.{bytes_eq-Decides}
 use Rattle.dp_plan_text.specs.Words.{number_of}
 use Rattle.dp_plan_text.proofs.NumberText.{Writes, number-sound}
 use Rattle.dp_profile.specs.declared.line.Line.{Line}
@@ -10,6 +9,7 @@ use Rattle.dp_profile.specs.declared.line.Line.TheVariants as line
 use Rattle.dp_profile.specs.ProfileText.{most_count, kind_word, words_of}
 use Rattle.dp_profile.specs.steps.LineWords.{count, kind, region_of, region_line, runs_of, runs_line, flow_of, flow_line, head_line, end_line, line_of}
 use Rattle.dp_profile.proofs.LineComplete.{LineFits, top}
+use Rattle.dp_plan_text.proofs.LineSound.{same_word}
 
 pub record IsLine (ws : List (List ℕ)) (l : Line) : Type 0 where
   pub are : ws ≡ words_of l
@@ -20,10 +20,6 @@ short_sound word n h = number-sound top (omega arith) word n h
 
 count_sound : (word : List ℕ) (n : ℕ) → count word ≡ Some n → Writes most_count word n
 count_sound word n h = number-sound most_count (omega arith) word n h
-
--- a test of a word
-same_word : (a b : List ℕ) → bytes_eq a b ≡ true → a ≡ b
-same_word a b h = (bytes_eq-Decides a b).0 h
 
 region_case : (a : List ℕ) (r : Option ℕ) (l : Line) → number_of a ≡ r → region_of r ≡ Some l → IsLine (codes "region" ∷ a ∷ []) l
 region_case a None l p h = absurd (cc h)

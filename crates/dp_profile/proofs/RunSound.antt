@@ -2,7 +2,7 @@
 use Rattle.std.proofs.Common.{◌≡◌, ◌⊎◌, inl, inr, ℕ, ◌+◌, ◌-◌, ◌<◌, ◌≤◌, ◌==◌, true, false, ◌&&◌, nat_le, nat_lt, List, [], ◌∷◌, ◌++◌, map, length, Some, slice_get, refl, sym, ap, subst, ◌∙◌, append_assoc, append-nil, length-append, rules, arith, eqb-true}
 use Rattle.dp_base.specs.declared.SiteId.{SiteId}
 use Rattle.dp_plan.specs.Each.{Each}
-use Rattle.std.proofs.lemmas.List.{map-append}
+use Rattle.std.proofs.lemmas.List.{map-append, nil_from_length}
 use Rattle.dp_plan.proofs.EachLemmas.{each-append}
 use Rattle.dp_profile.specs.declared.RegionProfile.{RegionProfile}
 use Rattle.dp_profile.specs.declared.SiteCount.{SiteCount}
@@ -17,7 +17,7 @@ use Rattle.dp_profile.specs.steps.Reading.{begun, state, opened, last_sites, is_
 use Rattle.dp_profile.proofs.Fitting.{seam, past, counts_many, counts_more, runs_more, regions_many, regions_fit_more, regions_one, ascend_more}
 use Rattle.dp_profile.proofs.LineComplete.{LineFits}
 use Rattle.dp_profile.proofs.RunComplete.{counted, within, over, sites_here}
-use Rattle.dp_profile.proofs.TestLemmas.{Both, both, taken, empty, FitsAt, fits_at}
+use Rattle.dp_profile.proofs.TestLemmas.{Both, both, taken, FitsAt, fits_at}
 
 -- the state behind lines that may begin a text for these regions
 pub data Reads (all : List (List RegionSite)) : Reader → List Line → Type 0 where
@@ -47,7 +47,7 @@ module _ (all before later : List (List RegionSite)) (had left : List RegionSite
   none_left : is_counted all (within done last) ≡ true → left ≡ []
   none_left h =
       let same : length counts ≡ length (last_sites all (within done (counted counts flows))) = eqb-true _ _ h in
-      empty left (omega (arith, same ∙ ap length sites_are, length-append had left, counts_many had counts counts_fit))
+      nil_from_length left (omega (arith, same ∙ ap length sites_are, length-append had left, counts_many had counts counts_fit))
 
   whole_sites : left ≡ [] → had ++ left ≡ had
   whole_sites none = ap (λ (l : List RegionSite). had ++ l) none ∙ append-nil had
@@ -213,7 +213,7 @@ module _ (all before later : List (List RegionSite)) (had left : List RegionSite
       no_later : later ≡ []
       no_later =
           let same : length (done ++ last ∷ []) ≡ length all = eqb-true _ _ b.second in
-          empty later (omega (arith, same, closed_many, ap length (all_here none), length-append (before ++ had ∷ []) later))
+          nil_from_length later (omega (arith, same, closed_many, ap length (all_here none), length-append (before ++ had ∷ []) later))
 
       all_ends : all ≡ before ++ had ∷ []
       all_ends = all_here none ∙ ap (λ (l : List (List RegionSite)). (before ++ had ∷ []) ++ l) no_later ∙ append-nil (before ++ had ∷ [])

@@ -6,7 +6,6 @@ use Rattle.dp_tree.specs.declared.Program.{Program}
 use Rattle.dp_plan.specs.Each.{Each}
 use Rattle.dp_plan_text.specs.PlanText.{lines_of}
 use Rattle.dp_plan_text.specs.Words.{words}
-use Rattle.dp_plan_text.proofs.WordLemmas.{position_none}
 use Rattle.dp_plan_text.proofs.CutLemmas.{lines_one}
 use Rattle.dp_plan_text.proofs.Runs.{chomped-line, chomped-none}
 use Rattle.dp_profile.specs.declared.Profile.{Profile}
@@ -25,6 +24,7 @@ use Rattle.dp_profile.proofs.Runs.{read_text, read_bytes, run_bytes}
 use Rattle.dp_profile.proofs.RunComplete.{over}
 use Rattle.dp_profile.proofs.RunEnds.{SmallSite}
 use Rattle.dp_profile.proofs.TextLemmas.{Reached, reached_start, reached_next, text_runs, is_text, begins, fronts, not_begun}
+use Rattle.dp_base.proofs.PositionLemmas.{position_none}
 
 -- so many lines have been read, and the rest hasn't
 pub record SoFar (all : List (List RegionSite)) (bytes : List ℕ) (s : Reader) (rest : List ℕ) (count : ℕ) : Type 0 where

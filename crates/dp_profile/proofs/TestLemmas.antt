@@ -1,7 +1,7 @@
 -- What tests of a reader's state tell.
 use Rattle.std.proofs.Common.{◌≡◌, ℕ, ◌==◌, Bool, true, false, ◌||◌, Some, ap, eqb-true}
 use Rattle.dp_base.specs.declared.SiteId.{SiteId}
-pub use Rattle.dp_plan_text.proofs.RunSound.{Both, both, empty, taken}
+pub use Rattle.dp_plan_text.proofs.RunSound.{Both, both, taken}
 use Rattle.dp_profile.specs.declared.SiteCount.{SiteCount}
 use Rattle.dp_profile.specs.Sites.{RegionSite}
 use Rattle.dp_profile.specs.steps.Reading.{counts_at}

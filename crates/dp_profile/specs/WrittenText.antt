@@ -1,5 +1,5 @@
 -- The text of a profile as it is written.
-use Rattle.std.specs.Prelude.{ℕ, ◌+◌, List, [], ◌∷◌, ◌++◌, decimal}
+use Rattle.std.specs.Prelude.{ℕ, ◌+◌, List, [], ◌∷◌, ◌++◌}
 use Rattle.std.specs.List.{flat_map}
 use Rattle.dp_tree.specs.declared.Program.{Program}
 use Rattle.dp_profile.specs.declared.Profile.{Profile}
@@ -10,6 +10,7 @@ use Rattle.dp_profile.specs.declared.line.Line.{Line}
 use Rattle.dp_profile.specs.declared.line.Line.TheVariants as line
 use Rattle.dp_profile.specs.Sites.{RegionSite}
 use Rattle.dp_profile.specs.ProfileText.{line_bytes, region_lines, profile_lines}
+unfoldable pub use Rattle.dp_plan_text.specs.WrittenText.{labelled}
 
 -- the lines of the profile
 abbrev pub profile_text : Program → Profile → List ℕ
@@ -39,7 +40,3 @@ abbrev pub regions_text : ℕ → List (List RegionSite) → List RegionProfile 
 regions_text r [] shown = []
 regions_text r (sites ∷ later) [] = []
 regions_text r (sites ∷ later) (shown ∷ rest) = region_text r sites shown ++ regions_text (r + 1) later rest
-
--- a label, and a number right after it
-unfoldable pub labelled : List ℕ → ℕ → List ℕ
-labelled label n = label ++ decimal n

@@ -1,6 +1,6 @@
 //! What the lines of a text say so far, and what each line adds.
 
-ghost use Rattle.std.specs.Prelude.{◌≡◌, ◌<◌, [], IfOk};
+ghost use Rattle.std.specs.Prelude.{◌≡◌, ◌<◌, [], IfOk, OnErr};
 ghost use Rattle.dp_profile.specs.ProfileText as text;
 
 mod lines;
@@ -58,7 +58,7 @@ fn is_before(f: Flow, g: Flow) -> bool
 }
 
 impl Reader {
-    ghost use Rattle.std.specs.Prelude.{Some, length, slice_get, ◌==◌};
+    ghost use Rattle.std.specs.Prelude.{Some, length, slice_get, true, ◌==◌};
     ghost use Rattle.std.specs.Option.{option_copied};
     ghost use Rattle.dp_profile.specs.steps.Reading as spec;
 
@@ -126,9 +126,10 @@ impl Reader {
         0 < region && region as usize <= all.len() && self.has_regions(region as usize - 1)
     }
 
-    /// The regions with the last one.
+    /// The regions with the last one. Memory is asked for where a region is open.
     fn closed(self) -> Result<Row<RegionProfile>, NoMemory>
-        ensures { IfOk result (λ regions. regions ≡ spec.closed self) }
+        ensures wanting { OnErr result (spec.in_region self.phase ≡ true) }
+        ensures closed { IfOk result (λ regions. regions ≡ spec.closed self) }
     {
         let is_open = self.in_region();
         let Reader { mut done, last, .. } = self;

@@ -1,6 +1,6 @@
 //! The sites of regions in text order.
 
-ghost use Rattle.std.specs.Prelude.{◌≡◌, ◌∷◌, [], ◌++◌, OnOk, IfOk, Bool, map, filter};
+ghost use Rattle.std.specs.Prelude.{◌≡◌, ◌<◌, ◌∷◌, [], ◌++◌, length, OnOk, OnErr, IfOk, Bool, map, filter};
 ghost use Rattle.dp_tree.specs.Numbering as numbering;
 ghost use Rattle.dp_profile.specs.Sites.{region_site, regions, site_at, sites};
 
@@ -28,7 +28,10 @@ struct Sites;
 impl Question<RegionSite> for Sites {
     ghost gives = { site_at };
 
-    fn ask(&self, out: &mut Row<RegionSite>, statement: &Stmt) -> Result<(), NoMemory> {
+    fn ask(&self, out: &mut Row<RegionSite>, statement: &Stmt) -> Result<(), NoMemory>
+        ensures gives { OnOk result (out.new ≡ out.old ++ site_at statement.now) }
+        ensures wanting { OnErr result (0 < length (site_at statement.now)) }
+    {
         match statement {
             Stmt::Assign { site, .. } => put(out, *site, false),
             Stmt::Store { site, .. } => put(out, *site, false),

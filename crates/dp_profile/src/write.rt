@@ -1,6 +1,6 @@
 //! A profile as a text.
 
-ghost use Rattle.std.specs.Prelude.{◌≡◌, ◌++◌, OnOk, IfOk};
+ghost use Rattle.std.specs.Prelude.{◌≡◌, ◌<◌, ◌++◌, length, OnOk, OnErr, IfOk};
 ghost use Rattle.dp_profile.specs.declared.line.Line.TheVariants as line;
 ghost use Rattle.dp_profile.specs.ProfileText as profile_text;
 ghost use Rattle.dp_profile.specs.WrittenText as text;
@@ -29,7 +29,8 @@ fn put_regions(
     all: &[Row<RegionSite>],
     shown: &[RegionProfile],
 ) -> Result<(), NoMemory>
-    ensures { OnOk result (out.new ≡ out.old ++ text.regions_text 1 all.now shown.now) }
+    ensures text { OnOk result (out.new ≡ out.old ++ text.regions_text 1 all.now shown.now) }
+    ensures wanting { OnErr result ((0 < length all.now) × (0 < length shown.now)) }
 {
     for (place, (sites, shown)) in all.iter().zip(shown.iter()).enumerate() {
         put_region(out, place as u64 + 1, sites.as_slice(), shown)?;
@@ -69,7 +70,8 @@ fn put_head(out: &mut Row<u8>, number: u64) -> Result<(), NoMemory>
 }
 
 fn put_counts(out: &mut Row<u8>, sites: &[RegionSite], counts: &[SiteCount]) -> Result<(), NoMemory>
-    ensures { OnOk result (out.new ≡ out.old ++ text.runs_text sites.now counts.now) }
+    ensures text { OnOk result (out.new ≡ out.old ++ text.runs_text sites.now counts.now) }
+    ensures wanting { OnErr result ((0 < length sites.now) × (0 < length counts.now)) }
 {
     for (site, count) in sites.iter().zip(counts.iter()) {
         put_count(out, site.site, *count)?;
@@ -87,7 +89,8 @@ fn put_count(out: &mut Row<u8>, site: SiteId, count: SiteCount) -> Result<(), No
 }
 
 fn put_flows(out: &mut Row<u8>, flows: &[Flow]) -> Result<(), NoMemory>
-    ensures { OnOk result (out.new ≡ out.old ++ text.flows_text flows.now) }
+    ensures text { OnOk result (out.new ≡ out.old ++ text.flows_text flows.now) }
+    ensures wanting { OnErr result (0 < length flows.now) }
 {
     for flow in flows {
         put_flow(out, *flow)?;

@@ -14,9 +14,9 @@ use Rattle.dp_run.specs.RunText.{source_run, region_reports, committed_count, co
 use Rattle.dp_run.specs.steps.Stretches.{Counted}
 use Rattle.dp_run.proofs.Reporting.{committed_few}
 use Rattle.dp_run.proofs.Ending.{in_all_append}
-use Rattle.dp_plan.proofs.Ascent.{length-numbers_from}
 use Rattle.std.proofs.Math.Seq.{take-suc}
 use Rattle.std.proofs.lemmas.Option.{slice_get_within, get_or_from_slice_get}
+use Rattle.dp_tree.proofs.NumberLists.{length-numbers_from}
 
 -- the plan at a place of a list whose numbers begin with k
 each_at : (p : Program) (plans : List Plan) (k n count : ℕ) (plan : Plan) → Each (IsPlan p) plans → map region_of plans ≡ numbers_from k count → slice_get plans n ≡ Some plan → IsPlan p plan × (plan.region ≡ k + n) × (n < count)

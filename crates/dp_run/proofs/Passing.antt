@@ -21,7 +21,7 @@ use Rattle.dp_run.proofs.RegionsLeft.{off_plain, nothing_left}
 use Rattle.dp_meaning.proofs.ContinuesLemmas.{continues_none, continues_join}
 use Rattle.dp_meaning.proofs.MovedLemmas.{prints-append}
 use Rattle.dp_commit.proofs.Lists.{places_behind}
-use Rattle.dp_tree.proofs.MovedLists.{at_seam}
+use Rattle.dp_base.proofs.ListLemmas.{get_behind}
 
 -- Where region r is at the head of none of a piece's configurations, its starts are those behind the piece.
 pub starts_behind : (run rest : Run) (r : ℕ) (events : List Event) (configs : List Config) → Continues run events configs rest → list_all (λ c. not (stands_at_head r c)) configs ≡ true →
@@ -55,7 +55,7 @@ module _ (run rest : Run) (events : List Event) (configs : List Config) (c : Con
   pub config_at : (k : ℕ) → slice_get run.configs (length events + k) ≡ slice_get rest.configs k
   config_at k =
       ap (λ (cs : List Config). slice_get cs (length events + k)) c.configs ∙ ap (λ (n : ℕ). slice_get (configs ++ rest.configs) (n + k)) (sym c.paired)
-      ∙ at_seam configs rest.configs k
+      ∙ get_behind configs rest.configs k
 
   -- the memory after all steps, where the rest makes none
   pub cells_at_end : (last : Config) → rest.trace ≡ [] → rest.configs ≡ last ∷ [] → cells_after run (length run.trace) ≡ last.cells

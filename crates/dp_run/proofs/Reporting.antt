@@ -6,7 +6,6 @@ use Rattle.dp_tree.specs.declared.Program.{Program}
 use Rattle.dp_tree.specs.Trace.{Run, run_of, begin}
 use Rattle.dp_tree.specs.Iteration.{starts, start, places, begun_count, stands_at_head}
 use Rattle.dp_plan.specs.declared.Plan.{Plan}
-use Rattle.dp_plan.proofs.Ascent.{length-numbers_from}
 use Rattle.dp_tree.specs.Numbering.{numbers_from}
 use Rattle.dp_semantics.specs.Recovery.{is_recovered, recovered}
 use Rattle.dp_semantics.specs.Cause.{cause}
@@ -23,6 +22,7 @@ use Rattle.dp_run.proofs.RegionsLeft.{on_region}
 use Rattle.dp_run.proofs.Leading.{config_here}
 use Rattle.dp_semantics.proofs.Central.{fuel_is}
 use Rattle.dp_commit.proofs.Parts.{run_begins}
+use Rattle.dp_tree.proofs.NumberLists.{length-numbers_from}
 
 module _ (p : Program) (plan : Plan) (input : List ℤ) (fuel n : ℕ) (m : MachineState) (number : plan.region ≡ suc n) (b : Between p input fuel n m) (here : part_of m.config.to_do ≡ part.Region (suc n)) where
   abbrev run : Run

@@ -3,8 +3,9 @@ use Rattle.dp_semantics.proofs.Names.{◌≡◌, inl, inr, refl, sym, ap, ◌∙
 use Rattle.dp_tree.specs.Iteration.{closes}
 use Rattle.dp_semantics.proofs.Setting.{size, Fit, Before, fresh_start, went_on}
 use Rattle.dp_semantics.proofs.PacketFacts.{live, status_for, status_next, status_live, word_list-early, word_list-last, passed_live, run_before, Left, left_live}
-use Rattle.dp_semantics.proofs.Whole.{turn_of, stands_at_start, Fresh, Makes, TurnIs, TurnEnds, stage_whole, AllBefore, pushed_before, before_later, Cleared, sees_next, sees_replicated, clear-length, words_through, closing_after, stands_after}
+use Rattle.dp_semantics.proofs.Whole.{turn_of, stands_at_start, Fresh, Makes, TurnIs, TurnEnds, stage_whole, AllBefore, pushed_before, before_later, Cleared, sees_next, sees_replicated, words_through, closing_after, stands_after}
 use Rattle.dp_semantics.proofs.Stepping.{Sees, Stands}
+use Rattle.dp_tree.proofs.InMain.{cleared_length}
 
 last_sequential : (plan : Plan) → is_replicated plan (last plan) ≡ false
 last_sequential plan = ap is_par (slice_get_past plan.stages (length plan.stages) (omega arith))
@@ -64,7 +65,7 @@ module _ {k : Epoch} (h : History k) where
     before = before_next n r;
     at = stands_at_start ok (number (suc n)) (past (suc n)) (memory (suc n)) after.known
         (subst (λ (cells : List ℤ). Sees k (last plan) (number (suc n)) (past (suc n)) cells) (sym gone.onward) (sees_next k (last plan) (number n) (past (suc n)) gone.makes.then_cells (last_sequential plan) h.clean_base (before_next n r) after.sees))
-        (ap length gone.onward ∙ clear-length plan.region program.vars gone.makes.then_cells ∙ after.size_is) chained;
+        (ap length gone.onward ∙ cleared_length plan.region program.vars gone.makes.then_cells ∙ after.size_is) chained;
     chain = chained;
   }
     where
@@ -195,7 +196,7 @@ module _ {k : Epoch} (h : History k) where
         ran s (suc n) high (ready (suc n) g) (cleared k (at_sequential k (suc s) came n).after)
         (record {
           sees = sees_next k (suc s) (number n) (past (suc n)) (at_sequential k (suc s) came n).after seq h.clean_base (before_next n (ready n fewer)) was.sees;
-          size_is = clear-length plan.region program.vars (at_sequential k (suc s) came n).after ∙ was.size_is;
+          size_is = cleared_length plan.region program.vars (at_sequential k (suc s) came n).after ∙ was.size_is;
         })
         (came (suc n)).packet (claims (suc n) g).sent (claims (suc n) g).ends
 

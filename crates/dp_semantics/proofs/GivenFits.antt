@@ -47,15 +47,15 @@ module _ (p : Program) (inlined : IsInlined p) (plan : Plan) (is : IsPlan p plan
   unbroken : first_broken p (written_of p plan) ≡ None
   unbroken = valid_unbroken p (written_of p plan) is.valid
 
-  within : (1 ≤ plan.region) × (plan.region < 1 + length p.regions)
-  within = by (sought inlined plan.region)
+  pub region_within : (1 ≤ plan.region) × (plan.region < 1 + length p.regions)
+  region_within = by (sought inlined plan.region)
     where
       by : Sought plan.region 1 1 p.main p.regions → (1 ≤ plan.region) × (plan.region < 1 + length p.regions)
       by (absent none out) = absurd (nowhere p (written_of p plan) unbroken none)
       by (present entry low at q least most) = (low, found_low plan.region p.regions entry low at)
 
   order : InOrder p plan
-  order = in_order p inlined plan within.0 within.1
+  order = in_order p inlined plan region_within.0 region_within.1
 
   written : WrittenAs p (written_of p plan) plan
   written = record { valid = unbroken; filled = filled (written_of p plan).stages (plan_fits p plan is order).stages; plan_is = sym (plan_back p plan is order) }

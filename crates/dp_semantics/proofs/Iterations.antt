@@ -2,10 +2,11 @@
 use Rattle.dp_semantics.proofs.Names.{last_events, ◌≡◌, ◌⊎◌, inl, inr, refl, sym, ap, ◌∙◌, subst, ℕ, suc, ◌+◌, ◌-◌, ◌<◌, ◌≤◌, true, false, ◌||◌, List, [], ◌∷◌, ◌++◌, ℤ, pos, length, get_or, take, drop, Option, Some, None, is_some, slice_get, slice_range, Err, arith, drop-append_seam, take-append_seam, append-nil, FaultKind, Stmt, out-Stmt, Program, Plan, Config, Event, evaluated, Run, run_of, standing, StandsInMain, stands_at_head, start, stop_from, events_from, iteration, is_closing, has_ended, cells_in, cells_after, memory_from, memory_after, places, to_do_in, to_do_after}
 use Rattle.dp_tree.specs.Iteration.{closes as closes_of}
 use Rattle.dp_semantics.proofs.Setting.{size, Accepted, Each, each_split}
-use Rattle.dp_semantics.proofs.Whole.{turn_of, Cleared, clear-at, clear-length, Goes}
+use Rattle.dp_semantics.proofs.Whole.{turn_of, Cleared, clear-at, Goes}
 use Rattle.dp_semantics.proofs.Begun.{reach}
 use Rattle.dp_semantics.proofs.Placed.{StopsSo, before_it, beyond, Spotted, Spot, spot_next, behind, all_at, at_start, PlaceAt, place_at, From, run_from, run_first}
 use Rattle.dp_semantics.proofs.Turns.{clear, start_at, run_at, next_start, Outcome, onward, closed, broken, Turned, standing_is, starts_first, turned}
+use Rattle.dp_tree.proofs.InMain.{cleared_length}
 
 slice_get-seam : {X : Type 0} (a b : List X) (k j : ℕ) → k ≡ length a + j → slice_get (a ++ b) k ≡ slice_get b j
 slice_get-seam [] b k j e = let same : k ≡ j = omega (arith, e) in ap (slice_get b) same
@@ -124,7 +125,7 @@ module _ {p : Program} {plan : Plan} (a : Accepted p plan) (input : List ℤ) (f
       then_cells = t.then_cells;
       path = subst (λ (es : List Event). Goes p input (turn_of a) (memory_after run r i) es t.after t.then_cells) (sym same)
           (subst (λ (cells : List ℤ). Goes p input (turn_of a) cells t.events t.after t.then_cells) (sym memory_here) t.path);
-      size_is = ap length memory_here ∙ clear-length r p.vars s.cells ∙ s.size_is;
+      size_is = ap length memory_here ∙ cleared_length r p.vars s.cells ∙ s.size_is;
       cleared = λ c local. ap (λ (cells : List ℤ). get_or cells c (pos 0)) memory_here ∙ clear-at r c p.vars s.cells (inl local);
       left = s.left;
       steps_are = s.steps_are;

@@ -1,21 +1,22 @@
 -- What a site loads is no cell into which a site that lies apart from it stored.
-use Rattle.dp_semantics.proofs.Names.{◌≡◌, ◌⊎◌, inl, inr, refl, sym, ap, ◌∙◌, subst, ℕ, zero, suc, ◌+◌, ◌-◌, ◌<◌, ◌≤◌, ◌==◌, Bool, true, false, ◌&&◌, ◌||◌, not, List, [], ◌∷◌, ◌++◌, ℤ, pos, length, Option, Some, None, Ok, is_some, arith, both_ways, cases_Bool, cases_eq, eqb-true, eq-eqb, not-true, and-false, list_all, list_any, flat_map, flat_map-append, append-nil, slice_get, and_parts, Stmt-F, Assign, Region, Stmt, out-Stmt, site_of, Program, Plan, WithLoads, Load, Stored, Past, Access, accesses, region_in, region_accesses, stores_var, is_same_variable, is_local, evaluated}
+use Rattle.dp_semantics.proofs.Names.{◌≡◌, inl, inr, refl, sym, ap, ◌∙◌, subst, ℕ, ◌+◌, ◌-◌, ◌≤◌, ◌==◌, Bool, true, false, ◌&&◌, ◌||◌, not, List, [], ◌∷◌, ◌++◌, ℤ, pos, length, Option, Some, None, Ok, is_some, arith, both_ways, cases_Bool, cases_eq, eqb-true, eq-eqb, not-true, and-false, list_all, list_any, flat_map, flat_map-append, append-nil, slice_get, and_parts, Stmt-F, Assign, Region, Stmt, out-Stmt, site_of, Program, Plan, WithLoads, Load, Stored, Past, Access, accesses, region_in, region_accesses, stores_var, is_same_variable, is_local, evaluated}
 use Rattle.std.specs.Prelude.{◌+ℤ◌}
 use Rattle.std.proofs.lemmas.Int.{ints}
 use Rattle.std.proofs.Common.{count_by}
 use Rattle.dp_tree.specs.Numbering.{numbers_from}
 use Rattle.dp_semantics.proofs.Integers.{int_eq-self}
 use Rattle.dp_semantics.proofs.Setting.{Accepted, Each, each_map, each_split, each_join, each_both, all_of, none_make, accesses_all, accesses_at, accesses_out, head_access, Clear, ClearSame, NotInto, NeverMet, turn_of}
-use Rattle.dp_semantics.proofs.Ways.{Here, Apart}
+use Rattle.dp_semantics.proofs.Ways.{Here}
 use Rattle.dp_plan.specs.Touch.{Touch, stride_of}
 use Rattle.dp_plan.specs.IsFar.{SiteTouch, touch_passes, touches, is_stored, stored_at, passes_with, halves_pass, halves, region_condition, region_body, moves_alone, scalar_in, apart_by, by_place, is_far, is_far_within, int_eq, front_touches, back_touches}
 use Rattle.dp_plan.specs.Checked.{comes_before}
 use Rattle.dp_semantics.proofs.Far.{times}
-use Rattle.dp_semantics.proofs.Touches.{touches_all, touches_at, touches_out, head_touch}
+use Rattle.dp_semantics.proofs.Touches.{touches_all, touches_at, touches_out}
 use Rattle.dp_semantics.proofs.Passing.{Stride, never_between}
 use Rattle.dp_semantics.proofs.Tested.{any_found, stride_data, Found, found, accesses_body, mover_is, stores, front_none, back_none, moving}
 use Rattle.dp_semantics.proofs.Unmet.{all_unmet}
 use Rattle.dp_semantics.proofs.TextBefore.{in_order}
+use Rattle.dp_plan.proofs.EachLemmas.{every}
 
 -- a store with an index
 abbrev has_index : Option Touch → Bool
@@ -136,10 +137,6 @@ module _ {p : Program} {plan : Plan} (a : Accepted p plan) where
 each_every : {D X : Type 0} (Q : D → X → Type 0) (xs : List X) → ((d : D) → Each (Q d) xs) → Each (λ x. (d : D) → Q d x) xs
 each_every Q [] h = tt
 each_every Q (x ∷ xs) h = ((λ d. (h d).0), each_every Q xs (λ d. (h d).1))
-
-every : {X : Type 0} (Q : X → Type 0) → ((x : X) → Q x) → (xs : List X) → Each Q xs
-every Q f [] = tt
-every Q f (x ∷ xs) = (f x, every Q f xs)
 
 module _ {p : Program} {plan : Plan} (a : Accepted p plan) (input : List ℤ) (i : ℕ) (x : Stmt) (rest : List Stmt) (earlier : List Past) (cells : List ℤ) (h : Here p input plan.region (turn_of a) i (x ∷ rest) earlier cells) (one : List ℤ) (w : WithLoads _) (gave : evaluated p input one (out-Stmt x) ≡ Ok w)
     (same : ClearSame p plan one cells (out-Stmt x)) where

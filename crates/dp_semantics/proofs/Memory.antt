@@ -79,10 +79,6 @@ clear-still r (x ∷ xs) cells h = elim (cases_Bool (is_local_of r x.scope)) [
     later : (c : ℕ) → list_any (is_local_cell r c) xs ≡ true → (is_local_cell r c x || list_any (is_local_cell r c) xs) ≡ true
     later c e = ap (λ (b : Bool). is_local_cell r c x || b) e ∙ or-true (is_local_cell r c x)
 
-pub clear-length : (r : ℕ) (vars : List VarInfo) (cells : List ℤ) → length (clear_locals r vars cells) ≡ length cells
-clear-length r [] cells = refl
-clear-length r (x ∷ xs) cells = clear-length r xs (one_cleared r x cells) ∙ elim (cases_Bool (is_local_of r x.scope)) [ inl l ↦ rw l (length-set cells x.first.0 (pos 0)) | inr l ↦ rw l ]
-
 -- the memory has its body locals at 0
 abbrev pub Cleared : Program → Plan → List ℤ → Type 0
 Cleared p plan cells = (c : ℕ) → is_local_at p plan c ≡ true → get_or cells c (pos 0) ≡ pos 0

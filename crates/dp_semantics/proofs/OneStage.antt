@@ -5,6 +5,7 @@ use Rattle.dp_semantics.proofs.Alone.{Lone, AtSite, found_is}
 use Rattle.dp_semantics.proofs.RegionSites.{iteration_sites}
 use Rattle.dp_semantics.proofs.Setting.{Each, each_map, each_split, all_of, none_make}
 use Rattle.std.proofs.lemmas.Bool.{and_left, and_right}
+use Rattle.dp_plan.proofs.EachLemmas.{every}
 
 never_beside : (a b c d : Bool) → b ≡ false → (a && b && c && d) ≡ false
 never_beside true false c d e = refl
@@ -41,10 +42,6 @@ module _ (p : Program) (r : ℕ) (alone : stands_alone p r ≡ true) where
       (each_map First _ (λ d e. and_left (is_stored_after p plan 1 x d) (not (is_apart p plan site d.site)) (and_right (stores_var x d) (nat_lt 1 (stage_of p plan d.site)) (ap (nat_lt 1) e))) (region_accesses p plan) all_first))
       ∙ none_make (λ (d : Access). is_stored_beside p plan 1 x d && not (is_apart_between p plan site d.site)) (region_accesses p plan)
       (each_map First _ (λ d e. and_left (is_stored_beside p plan 1 x d) (not (is_apart_between p plan site d.site)) (never_beside (stores_var x d) (is_replicated plan 1) (stage_of p plan d.site == 1) (not (is_body_local p plan x)) refl)) (region_accesses p plan) all_first)
-
-  every : {X : Type 0} (Q : X → Type 0) → ((x : X) → Q x) → (xs : List X) → Each Q xs
-  every Q f [] = tt
-  every Q f (x ∷ xs) = (f x, every Q f xs)
 
   pub unchecked : (site : ℕ) → is_checked p plan site ≡ false
   unchecked site = none_make (is_checked_access p plan site) (region_accesses p plan) (each_map First (λ u. is_checked_access p plan site u ≡ false) here (region_accesses p plan) all_first)

@@ -1,5 +1,5 @@
 -- The one-stage plan of each region fits an inlined program, and its table, which says no of each site, is right.
-use Rattle.dp_semantics.proofs.Names.{opened_statement, ◌≡◌, refl, sym, ap, ◌∙◌, subst, ℕ, zero, suc, ◌+◌, ◌-◌, ◌<◌, ◌≤◌, ◌==◌, Bool, true, false, not, ◌&&◌, ◌||◌, List, [], ◌∷◌, ◌++◌, map, length, lies_between, replicate, Option, Some, None, slice_get, nat_lt, nat_le, arith, le-leb, lt-ltb, eq-eqb, ne_eqb, append-nil, list_all, flat_map, Region, Expr, Stmt, SiteId, hidden-the_row-Stmt-0, Program, Plan, RegionInfo, Access, accesses, access_known, first_site, first_site_of, fits_plan, has_cell, is_checked, is_inner, is_region_at, kinds_fit, one_region, region_accesses, region_fits, region_in, stage_of, stands_alone, stores_known, well_nested, one_stage_plan, sites_between, and_parts, and_from}
+use Rattle.dp_semantics.proofs.Names.{◌≡◌, refl, sym, ap, ◌∙◌, subst, ℕ, zero, suc, ◌+◌, ◌-◌, ◌<◌, ◌==◌, true, false, not, List, [], ◌∷◌, ◌++◌, map, length, lies_between, replicate, Option, Some, None, slice_get, nat_le, arith, le-leb, lt-ltb, eq-eqb, ne_eqb, append-nil, list_all, flat_map, Region, Stmt, hidden-the_row-Stmt-0, Program, Plan, RegionInfo, Access, accesses, access_known, first_site, first_site_of, fits_plan, has_cell, is_inner, is_region_at, one_region, region_accesses, region_fits, region_in, stage_of, stores_known, well_nested, one_stage_plan, sites_between, and_from}
 use Rattle.dp_tree.specs.declared.Stmt.{Row_of-Stmt, end_of-Stmt, more_of-Stmt}
 use Rattle.dp_tree.specs.declared.Stmt.TheVariants as tree
 use Rattle.dp_plan.specs.Access.{accesses_in}
@@ -7,7 +7,7 @@ use Rattle.dp_tree.specs.Inlined.{IsInlined, has_call, has_call_in, stmt_within}
 use Rattle.dp_plan.specs.declared.Enclosing.{Enclosing}
 use Rattle.dp_plan.specs.Enclosing.{ifs, ifs_in, inner_whiles, inner_whiles_in}
 use Rattle.dp_plan.specs.Written.{site_in}
-use Rattle.dp_plan.specs.CheckedTable.{IsTabled, says_yes, table_says}
+use Rattle.dp_plan.specs.CheckedTable.{says_yes}
 use Rattle.dp_plan.proofs.RegionOrder.{RegionAt, Sought, absent, present}
 use Rattle.dp_semantics.specs.ValidPlan.{OneStageFits, OneStageTabled}
 use Rattle.dp_semantics.proofs.OneStage.{numbered_first, unchecked}
@@ -16,10 +16,7 @@ use Rattle.dp_semantics.proofs.TextOrder.{Ascends, Between, ascends_between, eac
 use Rattle.dp_semantics.proofs.ValidFits.{between, call_made, cells_at, ifs_made, kept, laid, regions_alone, sought, whiles_made}
 use Rattle.dp_semantics.proofs.WellNested.{Within, sites_within, InTime, Ruled, well_inner_in}
 use Rattle.dp_semantics.proofs.Setting.{Each, each_both, each_join, each_split, each_map, none_of, all_of, all_make, accesses_all, accesses_at, accesses_out, well_hidden}
-
-or_right : (a b : Bool) → b ≡ true → (a || b) ≡ true
-or_right true b e = refl
-or_right false b e = e
+use Rattle.std.proofs.lemmas.Bool.{or_right, and_right}
 
 -- where all sites are of stage 1, each condition comes in time
 module _ (p : Program) (plan : Plan) where
@@ -136,11 +133,7 @@ says_no zero k = refl
 says_no (suc n) zero = refl
 says_no (suc n) (suc k) = says_no n k
 
-and_off : (a b : Bool) → b ≡ false → (a && b) ≡ false
-and_off true b e = e
-and_off false b e = refl
-
 pub one_tabled : (p : Program) → IsInlined p → OneStageTabled p
 one_tabled p inlined r low high site =
-    and_off (nat_le (first_site p (one_stage_plan p r)) site) _ (says_no (sites_between (slice_get p.regions (r - 1))) (site - first_site p (one_stage_plan p r)))
+    and_right (nat_le (first_site p (one_stage_plan p r)) site) _ (says_no (sites_between (slice_get p.regions (r - 1))) (site - first_site p (one_stage_plan p r)))
     ∙ sym (unchecked p r (regions_alone p inlined r low high) site)

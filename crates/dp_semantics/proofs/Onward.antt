@@ -3,9 +3,10 @@ use Rattle.dp_semantics.proofs.Names.{◌≡◌, refl, sym, ap, ◌∙◌, subst
 use Rattle.std.specs.Prelude.{replicate}
 use Rattle.dp_semantics.proofs.Setting.{Fit, size}
 use Rattle.dp_semantics.proofs.Seeing.{Sees}
-use Rattle.dp_semantics.proofs.Memory.{AllBefore, Cleared, sees_next, sees_replicated, clear-length}
+use Rattle.dp_semantics.proofs.Memory.{AllBefore, Cleared, sees_next, sees_replicated}
 use Rattle.dp_semantics.specs.CauseWalk.{Watch, view_of, count_of, next_from, no_words, next_watch, first_watch}
 use Rattle.dp_semantics.proofs.Watching.{Watches}
+use Rattle.dp_tree.proofs.InMain.{cleared_length}
 
 module _ (p : Program) (plan : Plan) where
   abbrev clear : List ℤ → List ℤ
@@ -79,7 +80,7 @@ module _ {k : Epoch} (ok : Fit k) where
       cleared_view : (s : ℕ) (view : List ℤ) → 0 < s → s < last plan → is_replicated plan s ≡ false → view ≡ clear_locals plan.region program.vars (view_of w.views s) → Starts (suc i) s earlier view
       cleared_view s view real early seq e = record {
         sees = subst (λ (v : List ℤ). Sees k s (suc i) earlier v) (sym e) (sees_next k s i earlier (view_of w.views s) seq clean before (b.sees s real early));
-        size_is = ap length e ∙ clear-length plan.region program.vars (view_of w.views s) ∙ b.sizes s real early;
+        size_is = ap length e ∙ cleared_length plan.region program.vars (view_of w.views s) ∙ b.sizes s real early;
       }
 
       starts : (s : ℕ) → 0 < s → s < last plan → Starts (suc i) s earlier (view_of (next_from program plan 1 [] w.views) s)

@@ -5,6 +5,7 @@ use Rattle.dp_semantics.proofs.Setting.{Accepted, Each, each_split, head_access,
 use Rattle.dp_semantics.proofs.Whole.{turn_of, Goes, stays, goes, closing_after}
 use Rattle.dp_semantics.proofs.Turns.{decided_is}
 use Rattle.dp_semantics.proofs.Stepping.{event_of, well_parts, each_joins, each_parts, head_fact}
+use Rattle.std.proofs.Math.Bool.{or_assoc}
 
 -- the first of the steps from a statement to the end
 pub record First (p : Program) (input : List ℤ) (x : Stmt) (rest : List Stmt) (cells : List ℤ) (events : List Event) (after : List Stmt) (then_cells : List ℤ) : Type 0 where
@@ -67,16 +68,12 @@ module _ {p : Program} {plan : Plan} (a : Accepted p plan) (input : List ℤ) wh
   abbrev Other : Access → Type 0
   Other u = u.site ≡ first_site p plan → ⊥
 
-  or_apart : (b c d : Bool) → ((b || c) || d) ≡ (b || (c || d))
-  or_apart true c d = refl
-  or_apart false c d = refl
-
   -- events at other sites than the region's condition close where they leave
   closing_kept : (events : List Event) → Each (λ event. (u : Access) × (u.site ≡ event.site) × Other u) events → (closing : Bool) → closing_after p plan closing events ≡ (closing || list_any is_leaving events)
   closing_kept [] other closing = sym (or-false closing)
   closing_kept (event ∷ rest) other closing =
       ap (λ (b : Bool). closing_after p plan (closing || ((b && is_zero (value_of event.effect)) || leaves event.effect)) rest) (ne_eqb event.site (first_site p plan) (λ e. other.0.2 (other.0.1 ∙ e)))
-      ∙ closing_kept rest other.1 (closing || leaves event.effect) ∙ or_apart closing (leaves event.effect) (list_any is_leaving rest)
+      ∙ closing_kept rest other.1 (closing || leaves event.effect) ∙ or_assoc closing (leaves event.effect) (list_any is_leaving rest)
 
   zero_first : (v : WithLoads Effect) (z : ℤ) (site : ℕ) → v.value ≡ Decided z → is_zero (value_of v.value) ≡ decided_zero (Some (record { site = site; loads = v.loads; effect = v.value }))
   zero_first v z site d = ap (λ (f : Effect). is_zero (value_of f)) d ∙ sym (ap (λ (f : Effect). decided_zero (Some (record { site = site; loads = v.loads; effect = f }))) d)
@@ -96,7 +93,7 @@ module _ {p : Program} {plan : Plan} (a : Accepted p plan) (input : List ℤ) wh
       (false || closes_at (first_site p plan) (site_of (out-Stmt x)).0 v.value)
       ∙ ap (λ (b : Bool). (false || ((b && is_zero (value_of v.value)) || leaves v.value)) || list_any is_leaving more) (eq-eqb (site_of (out-Stmt x)).0 (first_site p plan) (ap (λ (h : Stmt-F Stmt). (site_of h).0) head ∙ sym a.first))
       ∙ ap (λ (b : Bool). (false || (b || leaves v.value)) || list_any is_leaving more) (zero_first v d.0 (site_of (out-Stmt x)).0 d.1)
-      ∙ or_apart (decided_zero (Some (record { site = (site_of (out-Stmt x)).0; loads = v.loads; effect = v.value }))) (leaves v.value) (list_any is_leaving more)
+      ∙ or_assoc (decided_zero (Some (record { site = (site_of (out-Stmt x)).0; loads = v.loads; effect = v.value }))) (leaves v.value) (list_any is_leaving more)
     where
       chosen_well : (b : Bool) → all_well p plan (if b then [] else a.body) ≡ true
       chosen_well true = refl

@@ -1,12 +1,11 @@
 -- Where a run stands: before the region, in an iteration with the region's statement behind, or beyond it.
 use Rattle.dp_semantics.proofs.Names.{stored_by, taken, taken_left, behind_region, behind_one, region_number, ◌≡◌, refl, sym, ap, ◌∙◌, subst, ℕ, zero, suc, Bool, true, false, not, ◌==◌, if◌then◌else◌, List, [], ◌∷◌, ◌++◌, ℤ, length, both_ways, not-true, is_zero, Stmt, Row_of-Stmt, end_of-Stmt, more_of-Stmt, out-Stmt, Stmt-F, If, While, Region, Program, Plan, Config, Step, Stepped, followed, value_of, standing, cleared_at, step, Run, run_of, is_region, stands_at_head, places, well_nested, well_nested_in, is_free, is_free_in, and_parts, and_from, followed-append, inl, inr, cases_Bool}
-use Rattle.dp_tree.proofs.InMain.{stored_by_length}
+use Rattle.dp_tree.proofs.InMain.{stored_by_length, cleared_length}
 use Rattle.dp_tree.proofs.Heads.{left-append}
 use Rattle.dp_semantics.proofs.Followed.{left_has}
 pub use Rattle.dp_semantics.proofs.Runs.{StopsSo, leaves_taken, first_place, is_step, run_step, step_on, step_off, run_first, PlaceAt, place_at, From, run_from, Leads, step_leads}
 use Rattle.dp_tree.specs.declared.Stmt.TheVariants as tree
 use Rattle.dp_semantics.proofs.Setting.{size, Accepted, Each, each_map, all_free, free_at, free_out, all_well, Parts, followed_has, all_joins}
-use Rattle.dp_semantics.proofs.Whole.{clear-length}
 
 module _ (r : ℕ) where
   free_parts : (h : Stmt-F Stmt) → free_at r h ≡ true → Parts (λ xs. all_free r xs ≡ true) h
@@ -44,8 +43,12 @@ free_well_all p plan r [] w = refl
 free_well_all p plan r (x ∷ xs) w = let both = and_parts (well_nested p plan x) (all_well p plan xs) w in and_from (is_free r x) (all_free r xs) (free_well p plan r x both.0) (free_well_all p plan r xs both.1)
 
 pub cleared-length : (p : Program) (cells : List ℤ) (h : Stmt-F Stmt) → length (cleared_at p h cells) ≡ length cells
-cleared-length p cells (Region q site cond a) = clear-length q p.vars cells
+cleared-length p cells (Region q site cond a) = cleared_length q p.vars cells
 cleared-length p cells _ = refl
+
+pub standing-length : (p : Program) (xs : List Stmt) (cells : List ℤ) → length (standing p xs cells).cells ≡ length cells
+standing-length p [] cells = refl
+standing-length p (x ∷ xs) cells = cleared-length p cells (out-Stmt x)
 
 -- What holds of the statements to do, and is kept by each step, holds all along a run.
 module _ (p : Program) (input : List ℤ) (n : ℕ) (I : List Stmt → Type 0) (keeps : (x : Stmt) (rest : List Stmt) (z : ℤ) → I (x ∷ rest) → I (followed x rest (out-Stmt x) z)) where

@@ -9,6 +9,7 @@ use Rattle.dp_semantics.specs.Verdict.{packet_at, judgement_at}
 use Rattle.dp_semantics.specs.Shift.{SameVerdicts, SameEpochs, VerdictsShift, EpochsShift, RegionRunsAlone}
 use Rattle.std.proofs.lemmas.List.Elements.{filter-append}
 use Rattle.std.specs.Option.{option_or}
+use Rattle.dp_tree.proofs.NumberLists.{numbers_from-append}
 
 eq_moved : (m j i : ℕ) → (m + j == m + i) ≡ (j == i)
 eq_moved m j i = elim (cases_eq j i) [
@@ -153,17 +154,10 @@ module _ (p : Program) (plan : Plan) (m k : ℕ) (run rest : Run) (g : GoesOnAs 
         by true = refl
         by false = refl
 
-    count_split : (a b n : ℕ) → numbers_from a (b + n) ≡ numbers_from a b ++ numbers_from (a + b) n
-    count_split a zero n = let none : 0 + n ≡ n = omega arith in let same : a ≡ a + 0 = omega arith in ap (numbers_from a) none ∙ ap (λ (i : ℕ). numbers_from i n) same
-    count_split a (suc b) n =
-        let next : suc b + n ≡ suc (b + n) = omega arith in
-        let there : a + 1 + b ≡ a + suc b = omega arith in
-        ap (numbers_from a) next ∙ ap (λ (ns : List ℕ). a ∷ ns) (count_split (a + 1) b n) ∙ ap (λ (i : ℕ). a ∷ (numbers_from (a + 1) b ++ numbers_from i n)) there
-
     listed : recovered p plan run ≡ filter (is_recovered p plan run) (numbers_from 0 m) ++ map (λ i. m + i) (recovered p plan rest)
     listed =
         let from : 0 + m ≡ m + 0 = omega arith in
-        ap (λ (n : ℕ). filter (is_recovered p plan run) (numbers_from 0 n)) g.begun_in_all ∙ ap (filter (is_recovered p plan run)) (count_split 0 m (begun_count rest r))
+        ap (λ (n : ℕ). filter (is_recovered p plan run) (numbers_from 0 n)) g.begun_in_all ∙ ap (filter (is_recovered p plan run)) (numbers_from-append 0 m (begun_count rest r))
         ∙ filter-append (is_recovered p plan run) (numbers_from 0 m) (numbers_from (0 + m) (begun_count rest r))
         ∙ ap (λ (a : ℕ). filter (is_recovered p plan run) (numbers_from 0 m) ++ filter (is_recovered p plan run) (numbers_from a (begun_count rest r))) from
         ∙ ap (λ (ns : List ℕ). filter (is_recovered p plan run) (numbers_from 0 m) ++ ns) (filter_moved (begun_count rest r) 0)

@@ -30,10 +30,10 @@ module _ (p : Program) (plan : Plan) where
   words_elsewhere t event e = ap (λ (b : Bool). if b then words_of p plan event else []) (ne_eqb (stage_of p plan event.site) t e)
 
 -- One site's words.
-load_here : (site : ℕ) (l : Load) → is_load_of site (load_word site l) ≡ true
+pub load_here : (site : ℕ) (l : Load) → is_load_of site (load_word site l) ≡ true
 load_here site l = ap (λ (b : Bool). b && true) (eq-eqb site site refl)
 
-done_no_load : (site : ℕ) (effect : Effect) → is_load_of site (done_word site effect) ≡ false
+pub done_no_load : (site : ℕ) (effect : Effect) → is_load_of site (done_word site effect) ≡ false
 done_no_load site effect = ap (λ (b : Bool). b && false) (eq-eqb site site refl)
 
 -- the loads at the front are passed

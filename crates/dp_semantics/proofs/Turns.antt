@@ -1,5 +1,5 @@
 -- One iteration from the region's condition on: to where the next one starts, to its closing, or to where the run ends in it.
-use Rattle.dp_semantics.proofs.Names.{◌||◌, take, list_any, or_parts, closes, is_leaving, leaves, last_events, upto_leaving, after_effect, cleared_leaving, region_number, sym, ◌≡◌, ◌⊎◌, inl, inr, refl, ap, ◌∙◌, subst, ℕ, zero, suc, ◌+◌, ◌<◌, ◌≤◌, Bool, true, false, if◌then◌else◌, List, [], ◌∷◌, ◌++◌, ℤ, length, Option, Some, None, slice_get, Ok, Err, arith, eq-eqb, append-nil, is_zero, FaultKind, SiteId, site_of, Stmt, out-Stmt, outs-If, Stmt-F, If, Program, Plan, WithLoads, Evaluated, eval, Config, Event, Effect, Decided, Faulted, Stepped, choose, value_of, stored, decided, evaluated, standing, cleared_at, clear_locals, step, Run, run_of, extended, is_region, stands_at_head, places, decided_zero, cases_Bool}
+use Rattle.dp_semantics.proofs.Names.{◌||◌, take, list_any, closes, is_leaving, leaves, last_events, upto_leaving, after_effect, cleared_leaving, region_number, sym, ◌≡◌, ◌⊎◌, inl, inr, refl, ap, ◌∙◌, subst, ℕ, zero, suc, ◌+◌, ◌<◌, ◌≤◌, Bool, true, false, if◌then◌else◌, List, [], ◌∷◌, ◌++◌, ℤ, length, Option, Some, None, slice_get, Ok, Err, arith, eq-eqb, append-nil, is_zero, FaultKind, SiteId, site_of, Stmt, out-Stmt, outs-If, Stmt-F, If, Program, Plan, WithLoads, Evaluated, eval, Config, Event, Effect, Decided, Faulted, Stepped, choose, value_of, stored, decided, evaluated, standing, cleared_at, clear_locals, step, Run, run_of, extended, is_region, stands_at_head, places, decided_zero, cases_Bool}
 use Rattle.dp_tree.specs.declared.Stmt.TheVariants as tree
 use Rattle.dp_base.specs.declared.End.{End}
 use Rattle.dp_base.specs.declared.End.TheVariants as run_end
@@ -9,6 +9,7 @@ use Rattle.dp_semantics.proofs.Whole.{turn_of, clear-at, clear-still, Goes, stay
 use Rattle.dp_semantics.proofs.Placed.{StopsSo, behind, region_left, never, is_step, run_step, run_first, first_place, step_on, step_off}
 use Rattle.dp_semantics.proofs.Walks.{Ends, through, away, halted, Walk, walk}
 use Rattle.dp_semantics.proofs.Stepping.{event_of}
+use Rattle.dp_tree.proofs.Leaving.{upto_more}
 
 pub decided_is : (u : Evaluated ℤ) (v : WithLoads Effect) → decided u ≡ Ok v → (z : ℤ) × (v.value ≡ Decided z)
 decided_is (Ok w) v e = (w.value, cc)
@@ -135,13 +136,6 @@ module _ {p : Program} {plan : Plan} (a : Accepted p plan) (input : List ℤ) wh
           (ap (λ (run : Run). slice_get run.configs 1) whole ∙ ap (λ (b : Bool). slice_get (rest_from (if b then a.tail else a.body ++ behind a)).configs 0) q ∙ run_first p input m (standing p a.tail (clear cells))
           ∙ ap (λ (held : List ℤ). Some (standing p a.tail held)) (sym cleared_twice)) (omega arith);
     }
-
-    -- the events of an iteration that goes on
-    upto_more : (events more : List Event) → list_any is_leaving events ≡ false → upto_leaving (events ++ more) ≡ events ++ upto_leaving more
-    upto_more [] more h = refl
-    upto_more (event ∷ events) more h =
-        let both = or_parts (leaves event.effect) (list_any is_leaving events) h in
-        ap (λ (b : Bool). event ∷ (if b then [] else upto_leaving (events ++ more))) both.0 ∙ ap (λ (es : List Event). event ∷ es) (upto_more events more both.1)
 
     -- after the condition that wasn't 0 those of the body follow
     last_of : (es : List Event) → is_zero z ≡ false → last_events (event_at v ∷ es) ≡ event_at v ∷ upto_leaving es

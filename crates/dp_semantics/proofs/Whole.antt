@@ -1,6 +1,6 @@
 -- A whole iteration: the turns of the stages, and the judgement on their words.
 use Rattle.dp_semantics.proofs.Names.{◌≡◌, refl, sym, ap, ◌∙◌, subst, ℕ, suc, ◌+◌, ◌-◌, ◌<◌, ◌≤◌, Bool, true, false, ◌&&◌, List, [], ◌∷◌, ◌++◌, ℤ, length, map, nat_le, arith, sum_by, le-leb, is_some, Ok, append-nil, list_all, Word, Stmt, outs-If, Region, Program, Plan, Event, Access, stage_of, region_statement, Past, all_agree, event_as_assumed, pushed, assumed_in, project_all, word_list, Turn, TurnEnd, Ended, turn_at, turn_from, turn_begin, stage_run, Epoch, Agreed, Clean, judge_lists, last, none_earlier, well_nested, effect_in, site_in, and_from, or-true}
-pub use Rattle.dp_semantics.proofs.Memory.{AllBefore, pushed_before, before_later, Cleared, sees_next, sees_replicated, clear-length, clear-at, clear-other, clear-still}
+pub use Rattle.dp_semantics.proofs.Memory.{AllBefore, pushed_before, before_later, Cleared, sees_next, sees_replicated, clear-at, clear-other, clear-still}
 pub use Rattle.dp_semantics.proofs.Lockstep.{words_through, closing_after, stands_after, Goes, stays, goes, lockstep, Through}
 use Rattle.dp_tree.specs.declared.Stmt.TheVariants as tree
 pub use Rattle.dp_semantics.proofs.Setting.{turn_of}

@@ -2,7 +2,7 @@
 use Rattle.std.proofs.Common.{◌≡◌, inl, inr, refl, sym, ap, ◌∙◌, ℕ, zero, suc, ◌+◌, ◌<◌, ◌≤◌, ◌==◌, Bool, true, false, not, ◌&&◌, ◌||◌, nat_lt, List, [], ◌∷◌, map, ℤ, Option, Some, None, arith, eq-eqb}
 use Rattle.std.specs.Prelude.{◌+ℤ◌}
 use Rattle.std.proofs.lemmas.Int.{ints}
-use Rattle.std.proofs.lemmas.Bool.{cases_Bool, cases_eq}
+use Rattle.std.proofs.lemmas.Bool.{cases_eq}
 use Rattle.std.specs.List.{list_all, list_any}
 use Rattle.dp_tree.specs.declared.Expr.{Expr}
 use Rattle.dp_tree.specs.Numbering.{numbers_from}
@@ -18,6 +18,7 @@ use Rattle.dp_sites.specs.steps.Parts.{index_in, touched}
 use Rattle.dp_sites.specs.Storings.{load_passes, place_passes}
 use Rattle.dp_sites.proofs.FarOffsets.{offset_by, offset_is}
 use Rattle.dp_sites.proofs.FarHalves.{shift_by}
+use Rattle.std.proofs.Math.Bool.{or-false}
 
 -- the place of an index, by what the code keeps of it
 pub place_is : (v : ℕ) (shift : ℤ) (index : Option Expr) → place_of v shift index ≡ shifted shift (offset_by v (index_in index))
@@ -73,10 +74,6 @@ pub none_any : (f : ℕ → Bool) (first n : ℕ) → ((v : ℕ) → f v ≡ fal
 none_any f first zero off = refl
 none_any f first (suc n) off = ap (λ (b : Bool). b || list_any f (numbers_from (first + 1) n)) (off first) ∙ none_any f (first + 1) n off
 
-or_off : (b : Bool) → (b || false) ≡ b
-or_off true = refl
-or_off false = refl
-
 below_any : (f : ℕ → Bool) (v first n : ℕ) → ((w : ℕ) → (w ≡ v → ⊥) → f w ≡ false) → v < first → list_any f (numbers_from first n) ≡ false
 below_any f v first zero off low = refl
 below_any f v first (suc n) off low = ap (λ (b : Bool). b || list_any f (numbers_from (first + 1) n)) (off first (λ e. omega (arith, e, low))) ∙ below_any f v (first + 1) n off (omega (arith, low))
@@ -84,7 +81,7 @@ below_any f v first (suc n) off low = ap (λ (b : Bool). b || list_any f (number
 pub single_any : (f : ℕ → Bool) (v first n : ℕ) → ((w : ℕ) → (w ≡ v → ⊥) → f w ≡ false) → first ≤ v → (first + n ≤ v → f v ≡ false) → list_any f (numbers_from first n) ≡ f v
 single_any f v first zero off low high = sym (high (omega (arith, low)))
 single_any f v first (suc n) off low high = elim (cases_eq first v) [
-  | inl e ↦ ap (λ (b : Bool). f first || b) (below_any f v (first + 1) n off (omega (arith, e))) ∙ or_off (f first) ∙ ap f e
+  | inl e ↦ ap (λ (b : Bool). f first || b) (below_any f v (first + 1) n off (omega (arith, e))) ∙ or-false (f first) ∙ ap f e
   | inr other ↦ ap (λ (b : Bool). b || list_any f (numbers_from (first + 1) n)) (off first other) ∙ single_any f v (first + 1) n off (above other) (λ h. high (omega (arith, h)))
 ]
   where

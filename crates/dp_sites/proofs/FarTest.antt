@@ -1,6 +1,6 @@
 -- In a region that stands once and whose sites go up one by one, the code's test of two sites is the definition's.
-use Rattle.std.proofs.Common.{◌≡◌, ◌⊎◌, inl, inr, refl, sym, ap, ◌∙◌, subst, ℕ, zero, suc, ◌+◌, ◌-◌, ◌<◌, ◌≤◌, ◌==◌, Bool, true, false, if◌then◌else◌, not, ◌&&◌, ◌||◌, nat_lt, List, [], ◌∷◌, ◌++◌, map, length, length-append, append_assoc, append-nil, ℤ, pos, Option, Some, None, slice_get, count_by, cond, arith, eq-eqb, ltb-true, ltb-false}
-use Rattle.std.proofs.lemmas.Bool.{cases_Bool}
+use Rattle.std.proofs.Common.{◌≡◌, inl, inr, refl, sym, ap, ◌∙◌, subst, ℕ, zero, suc, ◌+◌, ◌-◌, ◌≤◌, ◌==◌, Bool, true, false, if◌then◌else◌, not, ◌&&◌, nat_lt, List, [], ◌∷◌, ◌++◌, map, length, length-append, append_assoc, append-nil, ℤ, Option, Some, None, slice_get, count_by, cond, arith, eq-eqb, ltb-true, ltb-false}
+use Rattle.std.proofs.lemmas.Bool.{and_right}
 use Rattle.std.proofs.lemmas.List.Sums.{sum_by-cons}
 use Rattle.std.specs.List.{list_all, list_any, flat_map}
 use Rattle.std.proofs.lemmas.Grind.{flat_map-append}
@@ -25,10 +25,10 @@ use Rattle.dp_sites.specs.declared.moving.Moving.{Moving}
 use Rattle.dp_sites.specs.declared.moving.Mover.{Mover}
 use Rattle.dp_sites.specs.declared.part.Part.{Part}
 use Rattle.dp_sites.specs.Place.{offset_in, stride_in, test_of}
-use Rattle.dp_sites.specs.steps.Parts.{index_in, part_of, touched}
+use Rattle.dp_sites.specs.steps.Parts.{index_in, touched}
 use Rattle.dp_sites.specs.Storings.{is_moved_alone, mover_in, moving_of, moving_with, part_stores, passes_by}
 use Rattle.dp_plan.proofs.LoadLemmas.{opened}
-use Rattle.dp_sites.proofs.Aligned.{Aligned, Same}
+use Rattle.dp_sites.proofs.Aligned.{Aligned}
 use Rattle.dp_sites.proofs.FarFind.{Among, TouchesRise, find, touch_site, touches_split}
 use Rattle.dp_sites.proofs.FarHalves.{halves_are, passes_stored, shift_by}
 use Rattle.dp_sites.proofs.FarMovers.{Cut, cut, cut_at, uncut}
@@ -70,10 +70,6 @@ counted v (a ∷ xs) (t ∷ ts) (u ∷ us) h =
     same : (o : Option Touch) → Rattle.dp_sites.specs.Storings.is_touched v (Rattle.dp_sites.specs.steps.Parts.touched_in o) ≡ Rattle.dp_plan.specs.Access.is_same_variable v.0 (Rattle.dp_sites.proofs.Aligned.variable_in o)
     same None = refl
     same (Some x) = turn x.variable v.0
-
-and_off : (b c : Bool) → c ≡ false → (b && c) ≡ false
-and_off true c e = e
-and_off false c e = refl
 
 beyond : (vars : List VarInfo) (v : ℕ) → length vars ≤ v → scalar_in (slice_get vars v) ≡ false
 beyond [] v high = refl
@@ -148,7 +144,7 @@ module _ (p : Program) (plan : Plan) (s : Stmt) (only : region_in p plan.region 
 
     -- by a variable from which the stored place has no offset
     unplaced : (v : ℕ) → offset_by v (index_in index) ≡ None → passes_with tests p plan.region d.site u.site v ≡ false
-    unplaced v none = passes_here v ∙ and_off (moves_alone p plan.region v) _ (by (cut_at (record { 0 = v }) body))
+    unplaced v none = passes_here v ∙ and_right (moves_alone p plan.region v) _ (by (cut_at (record { 0 = v }) body))
       where
         by : Cut (record { 0 = v }) body → halves_pass tests v d.site u.site (head_of site condition ∷ []) (halves v body) ≡ false
         by (uncut a b) = ap (halves_pass tests v d.site u.site (head_of site condition ∷ [])) a
@@ -224,7 +220,7 @@ module _ (p : Program) (plan : Plan) (s : Stmt) (only : region_in p plan.region 
     passes_nothing v =
         ap (λ (cs : List SiteTouch). moves_alone p plan.region v && halves_pass (test_of test) v d.site u.site cs (halves v (region_body p plan.region))) condition_here
         ∙ ap (λ (xs : List Stmt). moves_alone p plan.region v && halves_pass (test_of test) v d.site u.site (head_of site condition ∷ []) (halves v xs)) body_here
-        ∙ and_off (moves_alone p plan.region v) _ (nothing v)
+        ∙ and_right (moves_alone p plan.region v) _ (nothing v)
 
     -- What stores nothing isn't known to lie apart.
     pub far_none : list_any (passes_with (test_of test) p plan.region d.site u.site) (numbers_from 0 (length p.vars)) ≡ false

@@ -1,5 +1,5 @@
 -- What the walk over a text's statements appends, statement by statement; and the sites of statements.
-use Rattle.std.proofs.Common.{◌≡◌, refl, sym, ◌∙◌, ap, ℕ, suc, ◌+◌, ◌<◌, true, false, List, [], ◌∷◌, ◌++◌, map, drop, get_or, length, add-one, drop-cons, append_assoc}
+use Rattle.std.proofs.Common.{◌≡◌, refl, sym, ◌∙◌, ap, ℕ, ◌+◌, ◌<◌, true, false, List, [], ◌∷◌, ◌++◌, map, drop, get_or, length, append_assoc}
 use Rattle.std.specs.List.{flat_map}
 use Rattle.std.proofs.lemmas.List.{map-append}
 use Rattle.dp_tree.specs.declared.Program.{Program}
@@ -11,9 +11,7 @@ use Rattle.dp_plan.specs.Walks.{is_region_of}
 use Rattle.dp_plan.specs.Written.{site_in, region_sites}
 use Rattle.dp_plan.proofs.TopStatements.{sites_are}
 use Rattle.dp_sites.specs.Lists.{asked_in_region, site_list, site_lists}
-
-next_of : (all : List Stmt) (i : ℕ) (s : Stmt) → i < length all → s ≡ get_or all i s → drop i all ≡ s ∷ drop (i + 1) all
-next_of all i s h is = rw add-one (drop-cons all i s h ∙ ap (λ (t : Stmt). t ∷ drop (suc i) all) (sym is))
+use Rattle.dp_base.proofs.ListLemmas.{next_of}
 
 module _ {X : Type 0} where
   -- a statement's own answers join the end, and then those of what is inside it

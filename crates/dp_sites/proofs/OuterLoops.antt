@@ -1,6 +1,6 @@
 -- Which sites share an inner `while`, by the last site of the outermost one that has the first of them.
 use Rattle.std.proofs.Common.{◌≡◌, ◌⊎◌, inl, inr, refl, sym, ap, ◌∙◌, subst, ℕ, suc, ◌+◌, ◌-◌, ◌<◌, ◌≤◌, ◌==◌, Bool, true, false, ◌&&◌, ◌||◌, nat_le, nat_lt, List, [], ◌∷◌, ◌++◌, map, length, Option, Some, None, slice_get, arith, eq-eqb, ne_eqb, le-leb, lt-ltb, le-ltb}
-use Rattle.std.proofs.lemmas.Bool.{cases_eq, cases_lt, and_parts, lt-leb}
+use Rattle.std.proofs.lemmas.Bool.{cases_eq, cases_lt, and_parts, lt-leb, or_right, le-ltb, lt-ltb, or_cases}
 use Rattle.std.specs.List.{list_any}
 use Rattle.dp_tree.specs.declared.Stmt.{Stmt, Row_of-Stmt, end_of-Stmt, more_of-Stmt}
 use Rattle.dp_tree.specs.declared.Stmt.TheVariants as tree
@@ -36,16 +36,10 @@ has_bounds m k (a ∷ xs) h e = elim (cases_eq a.site m) [
   | inr f ↦ let r = has_bounds m (suc k) xs h.1 (ap (λ (b : Bool). b || has_site m xs) (sym (ne_eqb a.site m f)) ∙ e) in (omega (arith, r.0), omega (arith, r.1))
 ]
 
-pub lt_yes : (m n : ℕ) → m < n → nat_lt m n ≡ true
-lt_yes m n low = lt-ltb m n low
-
-pub lt_no : (m n : ℕ) → n ≤ m → nat_lt m n ≡ false
-lt_no m n high = le-ltb m n high
-
 pub has_risen : (m k : ℕ) (xs : List Access) → SitesRise k xs → k ≤ m → has_site m xs ≡ nat_lt m (k + length xs)
-has_risen m k [] h low = sym (lt_no m (k + 0) (omega (arith, low)))
+has_risen m k [] h low = sym (le-ltb m (k + 0) (omega (arith, low)))
 has_risen m k (a ∷ xs) h low = elim (cases_eq a.site m) [
-  | inl t ↦ ap (λ (b : Bool). b || has_site m xs) (eq-eqb a.site m t) ∙ sym (lt_yes m (k + suc (length xs)) (omega (arith, h.0, t)))
+  | inl t ↦ ap (λ (b : Bool). b || has_site m xs) (eq-eqb a.site m t) ∙ sym (lt-ltb m (k + suc (length xs)) (omega (arith, h.0, t)))
   | inr f ↦
       let more : suc k + length xs ≡ k + suc (length xs) = omega arith in
       let over : suc k ≤ m = above f low h.0 in
@@ -121,20 +115,12 @@ module _ (u d : ℕ) where
   has_both-first xs bs e = let both = and_parts (has_site u xs) (has_site d xs) e in
       ap (λ (t : Bool). t && has_site d (xs ++ bs)) (has-append u xs bs ∙ ap (λ (t : Bool). t || has_site u bs) both.0) ∙ has-append d xs bs ∙ ap (λ (t : Bool). t || has_site d bs) both.1
 
-  or_right : (a b : Bool) → b ≡ true → (a || b) ≡ true
-  or_right true b e = refl
-  or_right false b e = e
-
   has_both-second : (xs bs : List Access) → has_both u d bs ≡ true → has_both u d (xs ++ bs) ≡ true
   has_both-second xs bs e = let both = and_parts (has_site u bs) (has_site d bs) e in
       ap (λ (t : Bool). t && has_site d (xs ++ bs)) (has-append u xs bs ∙ or_right (has_site u xs) (has_site u bs) both.0) ∙ has-append d xs bs ∙ or_right (has_site d xs) (has_site d bs) both.1
 
-  either : (a b : Bool) → (a || b) ≡ true → (a ≡ true) ⊎ (b ≡ true)
-  either true b e = inl refl
-  either false b e = inr e
-
   any_split : (xs bs : List (List Access)) → list_any (has_both u d) (xs ++ bs) ≡ true → (list_any (has_both u d) xs ≡ true) ⊎ (list_any (has_both u d) bs ≡ true)
-  any_split xs bs e = either _ _ (sym (list_any-append (has_both u d) xs bs) ∙ e)
+  any_split xs bs e = or_cases _ _ (sym (list_any-append (has_both u d) xs bs) ∙ e)
 
   -- what an inner loop has, the statement has
   mutual
@@ -144,7 +130,7 @@ module _ (u d : ℕ) where
         by : (list_any (has_both u d) (loops_in a) ≡ true) ⊎ (list_any (has_both u d) (loops_in b) ≡ true) → (list_any (has_both u d) (loops_in a) ≡ true → has_both u d (accesses_in a) ≡ true) → (list_any (has_both u d) (loops_in b) ≡ true → has_both u d (accesses_in b) ≡ true) → has_both u d (accesses (tree.If' site cond h a k b)) ≡ true
         by (inl t) f g = has_both-second (record { site = site.0; loads = loaded_by cond; stores = None } ∷ []) (accesses_in a ++ accesses_in b) (has_both-first (accesses_in a) (accesses_in b) (f t))
         by (inr t) f g = has_both-second (record { site = site.0; loads = loaded_by cond; stores = None } ∷ []) (accesses_in a ++ accesses_in b) (has_both-second (accesses_in a) (accesses_in b) (g t))
-    inner (tree.While' site cond h a) e = by (either _ _ e) (inner_in a)
+    inner (tree.While' site cond h a) e = by (or_cases _ _ e) (inner_in a)
       where
         by : (has_both u d (accesses (tree.While' site cond h a)) ≡ true) ⊎ (list_any (has_both u d) (loops_in a) ≡ true) → (list_any (has_both u d) (loops_in a) ≡ true → has_both u d (accesses_in a) ≡ true) → has_both u d (accesses (tree.While' site cond h a)) ≡ true
         by (inl t) f = t
@@ -187,8 +173,8 @@ module _ (u d : ℕ) where
           where
             turned : nat_lt d (k + length xs) ≡ nat_le d (k + (length xs - 1))
             turned = elim (cases_lt d (k + length xs)) [
-              | inl low ↦ lt_yes d (k + length xs) low ∙ sym (le-leb d (k + (length xs - 1)) (omega (arith, low, some)))
-              | inr high ↦ lt_no d (k + length xs) (omega (arith, high)) ∙ sym (lt-leb d (k + (length xs - 1)) (omega (arith, high, some)))
+              | inl low ↦ lt-ltb d (k + length xs) low ∙ sym (le-leb d (k + (length xs - 1)) (omega (arith, low, some)))
+              | inr high ↦ le-ltb d (k + length xs) (omega (arith, high)) ∙ sym (lt-leb d (k + (length xs - 1)) (omega (arith, high, some)))
             ]
 
     or_left : (a b c : Bool) → a ≡ false → b ≡ c → (a || b) ≡ c

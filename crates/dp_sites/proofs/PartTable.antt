@@ -13,6 +13,7 @@ use Rattle.dp_plan.proofs.EachLemmas.{each_map}
 use Rattle.dp_sites.proofs.Aligned.{Aligned, Same}
 use Rattle.dp_sites.proofs.OuterLoops.{Rises}
 use Rattle.dp_sites.proofs.FarFind.{TouchesRise, find, touch_site}
+use Rattle.std.proofs.Math.Bool.{or-false}
 
 abbrev pub part_site : Part → ℕ
 part_site u = u.site
@@ -80,16 +81,12 @@ module _ {X : Type 0} (number : X → ℕ) where
   none_lower f n k (x ∷ xs) h low =
       ap (λ (b : Bool). (b && f x) || list_any (λ (y : X). (number y == n) && f y) xs) (ne_eqb (number x) n (λ e. omega (arith, e, h.0, low))) ∙ none_lower f n (suc k) xs h.1 (omega (arith, low))
 
-  or_none : (b : Bool) → (b || false) ≡ b
-  or_none true = refl
-  or_none false = refl
-
   pub any_at : (f : X → Bool) (k : ℕ) (xs : List X) → Rises k (map number xs) → (j : ℕ) → list_any (λ (x : X). (number x == k + j) && f x) xs ≡ picked f (slice_get xs j)
   any_at f k [] h j = refl
   any_at f k (x ∷ xs) h zero =
       let here : k + 0 ≡ number x = omega (arith, h.0) in
       ap (λ (b : Bool). (b && f x) || list_any (λ (y : X). (number y == k + 0) && f y) xs) (eq-eqb (number x) (k + 0) (sym here))
-      ∙ ap (λ (b : Bool). f x || b) (none_lower f (k + 0) (suc k) xs h.1 (omega arith)) ∙ or_none (f x)
+      ∙ ap (λ (b : Bool). f x || b) (none_lower f (k + 0) (suc k) xs h.1 (omega arith)) ∙ or-false (f x)
   any_at f k (x ∷ xs) h (suc j) =
       let on : k + suc j ≡ suc k + j = omega arith in
       ap (λ (b : Bool). (b && f x) || list_any (λ (y : X). (number y == k + suc j) && f y) xs) (ne_eqb (number x) (k + suc j) (λ e. omega (arith, e, h.0)))

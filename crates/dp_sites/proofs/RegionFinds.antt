@@ -1,12 +1,10 @@
 -- A region's statement, found among those of `main`: the first, and the only one where one is counted.
-use Rattle.std.proofs.Common.{◌≡◌, sym, ap, ◌∙◌, ℕ, suc, ◌+◌, ◌<◌, Bool, true, false, if◌then◌else◌, List, [], ◌∷◌, filter, drop, get_or, length, add-one, drop-cons, Some, None, slice_get, count_by, arith}
+use Rattle.std.proofs.Common.{◌≡◌, ap, ◌∙◌, ℕ, ◌+◌, ◌<◌, Bool, true, false, if◌then◌else◌, List, [], ◌∷◌, filter, drop, get_or, length, Some, None, slice_get, count_by, arith}
 use Rattle.std.proofs.lemmas.List.Sums.{length-filter}
 use Rattle.dp_tree.specs.declared.Stmt.{Stmt}
 use Rattle.dp_plan.specs.Access.{is_region_at}
 use Rattle.dp_plan.specs.Walks.{is_region_of}
-
-next_of : (all : List Stmt) (i : ℕ) (s : Stmt) → i < length all → s ≡ get_or all i s → drop i all ≡ s ∷ drop (i + 1) all
-next_of all i s h is = rw add-one (drop-cons all i s h ∙ ap (λ (t : Stmt). t ∷ drop (suc i) all) (sym is))
+use Rattle.dp_base.proofs.ListLemmas.{next_of}
 
 module _ (r : ℕ) (all : List Stmt) (i : ℕ) (s : Stmt) (low : i < length all) (is : s ≡ get_or all i s) where
   pub first_here : is_region_of r s ≡ true → slice_get (filter (is_region_at r) (drop i all)) 0 ≡ Some s

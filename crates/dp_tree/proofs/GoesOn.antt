@@ -1,5 +1,5 @@
 -- A run goes on from each of its configurations as the run from there does.
-use Rattle.std.proofs.Common.{◌≡◌, refl, sym, ap, ap₂, ◌∙◌, ℕ, zero, suc, ◌+◌, ◌-◌, ◌≤◌, ◌||◌, Bool, true, if◌then◌else◌, List, [], ◌∷◌, ◌++◌, ℤ, length, take, drop, map, Option, Some, None, is_some, slice_get, slice_range, count_by, nat_lt, cond, arith}
+use Rattle.std.proofs.Common.{◌≡◌, refl, sym, ap, ap₂, ◌∙◌, ℕ, zero, suc, ◌+◌, ◌-◌, ◌≤◌, ◌||◌, Bool, true, List, [], ◌∷◌, ◌++◌, ℤ, length, take, drop, map, Option, Some, None, is_some, slice_get, slice_range, count_by, nat_lt, cond, arith}
 use Rattle.std.proofs.lemmas.Option.{slice_get-map, slice_get_within}
 use Rattle.std.proofs.lemmas.List.{drop-drop, take-append-drop, length-take-le}
 use Rattle.std.proofs.lemmas.List.Sums.{sum_by-append}
@@ -9,7 +9,8 @@ use Rattle.dp_tree.specs.Trace.{Run, run_of, run_by}
 use Rattle.dp_tree.specs.Iteration.{stands_at_head, places, starts, start, is_within, begun_count, closes, last_events, stop_from, events_from, iteration, is_closing, has_ended, cells_in, cells_after, memory_from, memory_after}
 use Rattle.dp_tree.specs.GoesOn.{moved, GoesOnAs, starts_before, GoesOn, GoesOnFrom}
 use Rattle.dp_tree.proofs.RunLaws.{runs_by_step}
-use Rattle.dp_tree.proofs.MovedLists.{at_drop, at_seam, count_above, count_below, count_moved, count_to, moved_map, places_moved, places_split, range_moved, same_test}
+use Rattle.dp_tree.proofs.MovedLists.{at_drop, count_above, count_below, count_moved, count_to, moved_map, places_moved, places_split, range_moved, same_test}
+use Rattle.dp_base.proofs.ListLemmas.{get_behind}
 
 module _ (p : Program) (input : List ℤ) where
   -- behind its first k steps the run is the one from d
@@ -97,7 +98,7 @@ module _ (p : Program) (input : List ℤ) where
       started : (i : ℕ) → start run r (m + i) ≡ moved k (start later r i)
       started i =
           ap (λ (ns : List ℕ). slice_get ns (m + i)) starts_are ∙ ap (λ (n : ℕ). slice_get (earlier ++ map (λ (j : ℕ). k + j) (starts later r)) (n + i)) (sym before)
-          ∙ at_seam earlier (map (λ (j : ℕ). k + j) (starts later r)) i ∙ slice_get-map (λ (j : ℕ). k + j) (starts later r) i ∙ moved_map k (start later r i)
+          ∙ get_behind earlier (map (λ (j : ℕ). k + j) (starts later r)) i ∙ slice_get-map (λ (j : ℕ). k + j) (starts later r) i ∙ moved_map k (start later r i)
 
       next_started : (i : ℕ) → start run r (suc (m + i)) ≡ moved k (start later r (suc i))
       next_started i = let same : suc (m + i) ≡ m + suc i = omega arith in ap (start run r) same ∙ started (suc i)

@@ -27,6 +27,14 @@ pub stored_length : (effect : Effect) (cells : List ℤ) → length (stored effe
 stored_length (Stored cell value) cells = length-set cells cell value
 stored_length _ cells = refl
 
+pub cleared_length : (r : ℕ) (vars : List VarInfo) (cells : List ℤ) → length (clear_locals r vars cells) ≡ length cells
+cleared_length r [] cells = refl
+cleared_length r (x ∷ xs) cells = cleared_length r xs (if is_local_of r x.scope then slice_set cells x.first.0 (pos 0) else cells) ∙ by (is_local_of r x.scope)
+  where
+    by : (b : Bool) → length (if b then slice_set cells x.first.0 (pos 0) else cells) ≡ length cells
+    by true = length-set cells x.first.0 (pos 0)
+    by false = refl
+
 module _ (p : Program) (input : List ℤ) where
   next_by : (site : SiteId) (e : Evaluated Effect) (next_of : Effect → Config) (event : Event) (next : Config) → step_by p site e next_of ≡ Stepped event next → next ≡ next_of event.effect
   next_by site (Err kind) next_of event next e = absurd (cc)
@@ -38,14 +46,6 @@ module _ (p : Program) (input : List ℤ) where
   pub next_at : (x : Stmt) (rest : List Stmt) (cells : List ℤ) (h : Stmt-F Stmt) (event : Event) (next : Config) → step_at p input cells x rest h ≡ Stepped event next → next ≡ after_effect p x rest cells h event.effect
   next_at x rest cells (Call f line args) event next e = absurd (cc)
   next_at x rest cells h event next e = next_by (site_of h) (evaluated p input cells h) (after_effect p x rest cells h) event next e
-
-  cleared_length : (r : ℕ) (vars : List VarInfo) (cells : List ℤ) → length (clear_locals r vars cells) ≡ length cells
-  cleared_length r [] cells = refl
-  cleared_length r (x ∷ xs) cells = cleared_length r xs (if is_local_of r x.scope then slice_set cells x.first.0 (pos 0) else cells) ∙ by (is_local_of r x.scope)
-    where
-      by : (b : Bool) → length (if b then slice_set cells x.first.0 (pos 0) else cells) ≡ length cells
-      by true = length-set cells x.first.0 (pos 0)
-      by false = refl
 
   cleared_at_length : (h : Stmt-F Stmt) (cells : List ℤ) → length (cleared_at p h cells) ≡ length cells
   cleared_at_length (Region q site cond a) cells = cleared_length q p.vars cells

@@ -88,7 +88,7 @@ pub inner_join : (a b : List Stmt) → inner_all a ≡ true → inner_all b ≡ 
 inner_join a b h k = list_all-append is_inner a b ∙ and_make (inner_all a) (inner_all b) h k
 
 -- no region is among them
-no_number : (h : Stmt-F Stmt) → inner_at h ≡ true → region_number h ≡ None
+pub no_number : (h : Stmt-F Stmt) → inner_at h ≡ true → region_number h ≡ None
 no_number (Region q site cond a) w = absurd (cc)
 no_number _ w = refl
 

@@ -1,5 +1,5 @@
 -- A run from within a region: the region's events, and where its last iteration stops.
-use Rattle.std.proofs.Common.{◌≡◌, refl, sym, ap, ◌∙◌, ℕ, zero, suc, Bool, true, false, not, cond, if◌then◌else◌, List, [], ◌∷◌, ◌++◌, ℤ, length, filter, Some, None, slice_get, eq-eqb, inl, inr, ◌+◌, take, drop, arith}
+use Rattle.std.proofs.Common.{◌≡◌, refl, sym, ap, ◌∙◌, ℕ, zero, suc, Bool, true, false, cond, if◌then◌else◌, List, [], ◌∷◌, ◌++◌, ℤ, length, filter, Some, None, slice_get, eq-eqb, inl, inr, ◌+◌, take, drop, arith}
 use Rattle.dp_base.specs.Arithmetic.{is_zero}
 use Rattle.dp_tree.specs.declared.Stmt.{Stmt, out-Stmt, out-roll-Stmt}
 use Rattle.dp_tree.specs.declared.Stmt.TheViews.{rolls-Region}
@@ -10,7 +10,7 @@ use Rattle.dp_tree.specs.Event.{Event, value_of}
 use Rattle.dp_tree.specs.Step.{Config, Step, Stepped, followed, behind_region, behind_one, region_number, site_of, step}
 use Rattle.dp_tree.specs.Trace.{Run, run_of, run_by, ended, extended}
 use Rattle.dp_base.specs.declared.End.{End}
-use Rattle.std.proofs.lemmas.Bool.{cases_Bool}
+use Rattle.std.proofs.lemmas.Bool.{cases_Bool, not-true}
 use Rattle.dp_tree.specs.Numbering.{is_inner}
 use Rattle.dp_tree.specs.Iteration.{is_region, begins_with, stands_at_head, places, decided_zero, leaves, upto_leaving, last_events, stop_from}
 use Rattle.dp_tree.specs.RegionLaws.{is_site_of, is_other_site, keeps, StandsOnce, is_event_of}
@@ -34,15 +34,11 @@ module _ (p : Program) (input : List ℤ) (r : ℕ) (once : StandsOnce p r) wher
   abbrev pub region : Stmt
   region = tree.Region r once.site once.cond once.body
 
-  false_of : (b : Bool) → not b ≡ true → b ≡ false
-  false_of false e = refl
-  false_of true e = absurd (cc)
-
   kept : (event : Event) (events : List Event) → mine event.site ≡ true → only (event ∷ events) ≡ event ∷ only events
   kept event events e = ap (λ (b : Bool). cond b (event ∷ only events) (only events)) e
 
   pub left_out : (event : Event) (events : List Event) → others event.site ≡ true → only (event ∷ events) ≡ only events
-  left_out event events e = ap (λ (b : Bool). cond b (event ∷ only events) (only events)) (false_of (mine event.site) e)
+  left_out event events e = ap (λ (b : Bool). cond b (event ∷ only events) (only events)) (not-true (mine event.site) e)
 
   -- the region neither stands at the head from here on nor has an event
   pub record Quiet (run : Run) : Type 0 where

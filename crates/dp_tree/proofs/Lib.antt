@@ -6,6 +6,10 @@ pub mod SitesOf
 pub mod Heads
 pub mod Inner
 pub mod Asked
+pub mod NumberLists
+pub mod SiteForms
+pub mod PlainLists
+pub mod Leaving
 pub mod Places
 pub mod MovedLists
 pub mod GoesOn

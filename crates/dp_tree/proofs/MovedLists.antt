@@ -14,10 +14,6 @@ at_drop zero i xs = let same : 0 + i ≡ i = omega arith in ap (slice_get xs) sa
 at_drop (suc k) i [] = refl
 at_drop (suc k) i (x ∷ xs) = let same : suc k + i ≡ suc (k + i) = omega arith in ap (slice_get (x ∷ xs)) same ∙ at_drop k i xs
 
-pub at_seam : {X : Type 0} (a b : List X) (i : ℕ) → slice_get (a ++ b) (length a + i) ≡ slice_get b i
-at_seam [] b i = let same : 0 + i ≡ i = omega arith in ap (slice_get b) same
-at_seam (x ∷ a) b i = let same : suc (length a) + i ≡ suc (length a + i) = omega arith in ap (slice_get (x ∷ a ++ b)) same ∙ at_seam a b i
-
 pub range_moved : {X : Type 0} (xs : List X) (k a b : ℕ) → slice_range xs (k + a) (k + b) ≡ slice_range (drop k xs) a b
 range_moved {X = X} xs k a b =
     let many : (k + b) - (k + a) ≡ b - a = omega arith in

@@ -10,6 +10,7 @@ use Rattle.dp_tree.specs.Step.{choose, followed, behind_region, behind_one, regi
 use Rattle.dp_tree.specs.Iteration.{is_region}
 use Rattle.dp_tree.specs.RegionLaws.{keeps, keeps_own}
 use Rattle.dp_tree.specs.Statements.{everywhere, everywhere_in}
+use Rattle.std.proofs.lemmas.Bool.{not-true}
 
 -- what opens where a statement is made
 unfoldable pub opened_statement : Unit {0}
@@ -89,9 +90,5 @@ module _ (test : ℕ → Bool) (r : ℕ) where
   keeps_followed x rest _ z w h k = k
 
   pub no_region : (h : Stmt-F Stmt) → keeps_at h ≡ true → is_region r h ≡ false
-  no_region (Region q site cond a) w = differs (q == r) (and_true (test site.0) (not (q == r)) (and_true (test site.0 && not (q == r)) (keeps_all a) w).0).1
-    where
-      differs : (b : Bool) → not b ≡ true → b ≡ false
-      differs false e = refl
-      differs true e = absurd (cc)
+  no_region (Region q site cond a) w = not-true (q == r) (and_true (test site.0) (not (q == r)) (and_true (test site.0 && not (q == r)) (keeps_all a) w).0).1
   no_region _ w = refl

@@ -2,11 +2,12 @@
 use Rattle.std.proofs.Common.{◌≡◌, ◌≢◌, ◌⊎◌, inl, inr, refl, sym, subst, ◌∙◌, ap, arith, ℕ, zero, suc, ◌<◌, ◌≤◌, ◌+◌, List, [], ◌∷◌, ◌++◌, length, take, map, Some, slice_get}
 use Rattle.std.proofs.Math.ListN.{set, length-set}
 use Rattle.std.proofs.lemmas.Bool.{cases_lt, cases_eq}
-use Rattle.std.proofs.lemmas.List.{get_or-set_same, get_or-set_other}
+use Rattle.std.proofs.lemmas.List.{get_or-set_other}
 use Rattle.std.proofs.lemmas.Option.{same_Some, slice_get-map, slice_get-get_or, slice_get_past}
 use Rattle.dp_units.specs.steps.Entries.{At, Has}
 pub use Rattle.std.proofs.lemmas.Option.{slice_get_within as at_within}
 use Rattle.std.specs.Option.{option_map}
+use Rattle.dp_base.proofs.ListLemmas.{get_set_same}
 
 pub some_at : {X : Type 0} (xs : List X) (i : ℕ) → i < length xs → (x : X) × At xs i x
 some_at [] i h = absurd (omega (arith, h))
@@ -77,11 +78,6 @@ has_append xs ys x (i, e) = elim (at_append xs ys i x e) [ inl old ↦ inl (i, o
 
 pub has_push : {X : Type 0} (xs : List X) (y x : X) → Has (xs ++ y ∷ []) x → Has xs x ⊎ (x ≡ y)
 has_push xs y x (i, e) = elim (at_push xs y i x e) [ inl old ↦ inl (i, old) | inr new ↦ inr new.1 ]
-
-pub get_set_same : {X : Type 0} (xs : List X) (i : ℕ) (y : X) → i < length xs → slice_get (set xs i y) i ≡ Some y
-get_set_same xs i y h =
-    let long : i < length (set xs i y) = omega (arith, length-set xs i y) in
-    slice_get-get_or (set xs i y) i y long ∙ ap Some (get_or-set_same xs i y y h)
 
 pub get_set_other : {X : Type 0} (xs : List X) (i j : ℕ) (y : X) → j ≢ i → slice_get (set xs i y) j ≡ slice_get xs j
 get_set_other xs i j y ne = elim (cases_lt j (length xs)) [

@@ -1,7 +1,6 @@
 -- Counts of nodes without a place, and of edges from them.
-use Rattle.std.proofs.Common.{◌≡◌, ◌≢◌, ◌⊎◌, inl, inr, refl, sym, subst, ◌∙◌, ap, arith, ℕ, zero, suc, ◌<◌, ◌≤◌, ◌+◌, ◌==◌, ◌&&◌, if◌then◌else◌, Bool, true, false, List, [], ◌∷◌, length, replicate, slice_index, get_or}
+use Rattle.std.proofs.Common.{◌≡◌, ◌≢◌, ◌⊎◌, inl, inr, refl, sym, subst, ◌∙◌, ap, arith, ℕ, zero, suc, ◌<◌, ◌≤◌, ◌+◌, ◌==◌, ◌&&◌, if◌then◌else◌, Bool, true, false, List, [], ◌∷◌, length, replicate, slice_index}
 use Rattle.std.proofs.lemmas.Bool.{cases_eq, eq-eqb, ne_eqb, and_from}
-use Rattle.std.proofs.lemmas.Option.{slice_get-get_or, same_Some}
 use Rattle.dp_units.specs.steps.Entries.{one_if, times}
 use Rattle.dp_units.specs.Graph.{HasEdge}
 use Rattle.dp_units.specs.steps.Rows.{targets, waits_for}
@@ -135,6 +134,3 @@ edge_of (e ∷ edges) l x some = elim (cases_eq e.0 l) [
       let count : times (targets (e ∷ edges) l) x ≡ times (targets edges l) x = ap (λ (ys : List ℕ). times ys x) row in
       later_edge e edges l x (edge_of edges l x (λ zero. some (omega (arith, zero, count))))
 ]
-
-pub or_any : {X : Type 0} (xs : List X) (i : ℕ) (d e : X) → i < length xs → get_or xs i d ≡ get_or xs i e
-or_any xs i d e h = same_Some (get_or xs i d) (get_or xs i e) (sym (slice_get-get_or xs i d h) ∙ slice_get-get_or xs i e h)

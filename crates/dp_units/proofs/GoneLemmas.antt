@@ -14,12 +14,13 @@ use Rattle.dp_units.specs.Graph.Walk.{along}
 use Rattle.dp_units.specs.steps.Rows.{targets, IsGraph}
 use Rattle.dp_units.specs.steps.Search.{IsSearch, IsSettled, IsUnseen, IsMarked}
 use Rattle.dp_units.specs.steps.Steps.{edges_from, rows_left, IsGoing, IsLastGroup, LeadsOn, IsDone, HasEntered, HasJoined, HasGone}
-use Rattle.dp_units.proofs.AtLemmas.{at_within, at_one, at_none, at_push, at_last, get_set_same, some_at}
+use Rattle.dp_units.proofs.AtLemmas.{at_within, at_one, at_none, at_push, at_last, some_at}
 use Rattle.dp_units.proofs.PathLemmas.{to_last}
 use Rattle.dp_units.proofs.EnterLemmas.{entered, unseen_before, regrouped, grown, settled, unseen_on_path}
 use Rattle.dp_units.proofs.CloseLemmas.{closed_group, unseen_still, closing_of, least_of, member_of}
 use Rattle.dp_units.proofs.TakeLemmas.{edge_within}
 use Rattle.dp_units.proofs.RowLemmas.{in_row, edge_in_row, rows_fewer, rows_no_more}
+use Rattle.dp_base.proofs.ListLemmas.{get_set_same}
 
 module _ (edges : List (ℕ × ℕ)) (rows : List (Vec ℕ Global)) (graph : IsGraph edges rows) (s : Search) (is : IsGoing edges rows s) where
   -- the search is that of these lists

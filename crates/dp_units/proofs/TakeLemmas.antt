@@ -8,7 +8,8 @@ use Rattle.dp_units.specs.Order.{IsTaken, IsNext}
 use Rattle.dp_units.specs.steps.Rows.{waits_for}
 use Rattle.dp_units.specs.steps.Leaders.{AreLeaders, AreBetween}
 use Rattle.dp_units.specs.steps.Taking.{MayBeTaken, IsTaking}
-use Rattle.dp_units.proofs.CountLemmas.{none_waits, some_waits, or_any}
+use Rattle.dp_units.proofs.CountLemmas.{none_waits, some_waits}
+use Rattle.std.proofs.lemmas.List.{get_or_default}
 
 pub edge_within : (n : ℕ) (edges : List (ℕ × ℕ)) → AreWithin n edges → (a b : ℕ) → HasEdge edges a b → (a < n) × (b < n)
 edge_within n edges within a b edge = subst (λ (x : ℕ × ℕ). (x.0 < n) × (x.1 < n)) edge.2 (within edge.0 (a, b) edge.1)
@@ -58,11 +59,11 @@ module _ (n : ℕ) (edges : List (ℕ × ℕ)) (leader_of : List ℕ) (between :
     is_taken v h has =
         let low = lead_within v h in
         let at = is.placed (lead v) low has in
-        (lead v, (place (lead v), at, or_any order (place (lead v)) (lead v) 0 at ∙ is.stands (lead v) low has), leads.same v h)
+        (lead v, (place (lead v), at, get_or_default order (place (lead v)) (lead v) 0 at ∙ is.stands (lead v) low has), leads.same v h)
 
     has_place : (v : ℕ) → v < n → IsTaken edges order v → place (lead v) ≢ n
     has_place v h (t, at, same) =
-        let there : slice_index order at.0 ≡ t = or_any order at.0 0 t at.1 ∙ at.2 in
+        let there : slice_index order at.0 ≡ t = get_or_default order at.0 0 t at.1 ∙ at.2 in
         let low : t < n = subst (λ k. k < n) there (is.within at.0 at.1) in
         let has : place t ≢ n = subst (λ k. place k ≢ n) there (is.given at.0 at.1) in
         let one : t ≡ lead v = sym (is.leader t low has) ∙ leads.one t v low h same in

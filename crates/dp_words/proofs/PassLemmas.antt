@@ -1,10 +1,10 @@
 -- A value that a parse took passed the parser of its argument.
-use Rattle.std.proofs.Common.{◌≡◌, ◌∙◌, ◌<◌, ap, refl, sym, subst, arith, ℕ, zero, suc, Bool, true, false, not, List, [], ◌∷◌, length, map, Option, Some, None, inl, inr, codes}
+use Rattle.std.proofs.Common.{◌≡◌, ◌∙◌, ◌<◌, ap, refl, sym, subst, arith, ℕ, zero, suc, Bool, true, false, List, [], ◌∷◌, length, map, Option, Some, None, inl, inr, codes}
 use Rattle.std.specs.Prelude.{option_map, slice_get}
 use Rattle.std.specs.List.{All, slice_index_or, list_all}
 use Rattle.std.specs.Str.{bytes_eq}
 use Rattle.std.specs.Borrow.{Bor}
-use Rattle.std.proofs.lemmas.Bool.{cases_lt, ne_eqb}
+use Rattle.std.proofs.lemmas.Bool.{cases_lt, ne_eqb, not-true}
 use Rattle.std.proofs.lemmas.Slice.Eq.{bytes_eq-Decides}
 use Rattle.clap.proofs.CallerLemmas.{entry_by_id}
 use Rattle.clap.proofs.WalkLemmas.{both}
@@ -40,10 +40,6 @@ none_in (x ∷ xs) e =
     let bad : false ≡ true = sym (ne_eqb (suc (length xs)) 0 (λ z. omega (arith, z))) ∙ e in
     absurd (cc bad)
 
-not_true : (b : Bool) → not b ≡ true → b ≡ false
-not_true true e = absurd (cc e)
-not_true false e = refl
-
 simple_groups : (a : Arg) → is_simple_arg a ≡ true → a.groups.items ≡ []
 simple_groups a e = none_in a.groups.items (both _ _ (both _ _ (both _ _ e).1).1).0
 
@@ -56,7 +52,7 @@ no_groups : (c : Command) → (app_of c).top.is_plain ≡ true → groups_of c �
 no_groups c e = none_in (groups_of c) (both _ _ e).0
 
 no_globals : (c : Command) → (app_of c).top.is_plain ≡ true → (out-Command c).has_globals ≡ false
-no_globals c e = not_true (out-Command c).has_globals (both _ _ (both _ _ (both _ _ e).1).1).0
+no_globals c e = not-true (out-Command c).has_globals (both _ _ (both _ _ (both _ _ e).1).1).0
 
 -- what the argument of the built command takes, the caller's argument takes
 accepts_same : (a x : Arg) (q : ValueParser) (t : Text) → SameRules a x → (a.value_parser ≡ Some q) × (a.ignore_case ≡ false) → Accepts x.ignore_case (parser_of x) t → Accepts false q t

@@ -1,5 +1,5 @@
 -- What stands where memory was wanting, and behind a call.
-use Rattle.dp_meaning.proofs.Names.{◌≡◌, refl, sym, ◌∙◌, ap, subst, true, ℕ, ◌+◌, ◌<◌, Option, None, Some, List, [], ◌∷◌, ◌++◌, append_assoc, drop, length, ℤ, arith, filter_map-append, Config, Event, prints, printed_by, PartEnd, MachineState, rest_of_run, part_of, part_at, next_part, from_region, Spoiled, PartRun, IterationRun, HeadsOnce, Awaits}
+use Rattle.dp_meaning.proofs.Names.{◌≡◌, refl, sym, ◌∙◌, ap, subst, true, false, ℕ, ◌+◌, ◌<◌, Option, None, Some, List, [], ◌∷◌, ◌++◌, append_assoc, drop, length, ℤ, arith, filter_map-append, Config, Event, prints, printed_by, PartEnd, MachineState, rest_of_run, part_of, part_at, next_part, from_region, Spoiled, PartRun, IterationRun, HeadsOnce, Awaits}
 use Rattle.dp_meaning.specs.declared.ends.Part.TheVariants as part
 use Rattle.dp_meaning.specs.declared.ends.PartEnd.TheVariants as part_end
 use Rattle.dp_meaning.specs.declared.ends.IterEnd.TheVariants as iter_end
@@ -28,6 +28,9 @@ module _ (turns : ℕ) (old new : MachineState) (before after : List ℤ) (s : S
 
   no_step_follows : new.spoiled ≡ true
   no_step_follows = s.spoiled
+
+  a_step_is_left : old.spoiled ≡ false → new.steps < new.fuel
+  a_step_is_left = s.left
 
 -- what is left to do behind a call
 module _ (turns : ℕ) (old new : MachineState) (before after : List ℤ) where

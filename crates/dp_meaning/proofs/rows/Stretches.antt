@@ -1,6 +1,7 @@
 -- Two stretches of steps from one machine on: the longer one goes on where the shorter one stops.
 use Rattle.dp_meaning.proofs.Names.{◌≡◌, refl, sym, ◌∙◌, ap, subst, ℕ, ◌+◌, ◌-◌, ◌<◌, ◌≤◌, Bool, Option, List, [], ◌∷◌, ◌++◌, append-nil, length, length-append, All, ℤ, arith, All-tail, Program, Config, Event, prints, MachineState, rest_of_run, Moved}
 use Rattle.dp_meaning.proofs.NextLemmas.{run_begins}
+use Rattle.std.proofs.lemmas.List.{nil_from_length}
 
 -- one front of a list, and a longer one or the same
 record Fronts {X : Type 0} (front longer rest further : List X) : Type 0 where
@@ -16,10 +17,6 @@ fronts {X = X} (x ∷ xs) (y ∷ ys) r s e h =
     let tails : xs ++ r ≡ ys ++ s = cc in
     let so = fronts xs ys r s tails (omega (arith, h)) in
     record { more = so.more; longer_is = ap (λ (z : X). z ∷ ys) same ∙ ap (λ (zs : List X). x ∷ zs) so.longer_is; rest_is = so.rest_is }
-
-no_more : {X : Type 0} (xs : List X) → length xs ≡ 0 → xs ≡ []
-no_more [] e = refl
-no_more (x ∷ xs) e = absurd (omega (arith, e))
 
 pub behind_all : {X : Type 0} (P : X → Type 0) (xs ys : List X) → All P (xs ++ ys) → All P ys
 behind_all P [] ys h = h
@@ -92,8 +89,8 @@ module _ (old a b : MachineState) (x y z : List ℤ) (es fs : List Event) (cs ds
       let q = n.run.paired in
       let longer : length fs ≡ length es + length t.more = ap (λ (xs : List Event). length xs) t.longer_is ∙ length-append es t.more in
       let listed : length ds ≡ length cs + length c.more = ap (λ (xs : List Config). length xs) c.longer_is ∙ length-append cs c.more in
-      let no_event = no_more t.more (omega (arith, h, longer)) in
-      let no_config = no_more c.more (omega (arith, h, p, q, listed)) in
+      let no_event = nil_from_length t.more (omega (arith, h, longer)) in
+      let no_config = nil_from_length c.more (omega (arith, h, p, q, listed)) in
       let same : (rest_of_run a).configs ≡ (rest_of_run b).configs = c.rest_is ∙ ap (λ (xs : List Config). xs ++ (rest_of_run b).configs) no_config in
       record {
         events = t.longer_is ∙ ap (λ (xs : List Event). es ++ xs) no_event ∙ append-nil es;

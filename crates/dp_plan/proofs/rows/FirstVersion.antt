@@ -1,11 +1,12 @@
 -- Under a plan of version 1 the sites that are checked are those that load a variable of another stage.
-use Rattle.std.proofs.Common.{◌≡◌, refl, ap, ◌∙◌, ℕ, ◌==◌, Bool, true, false, not, ◌&&◌, ◌||◌, List, [], ◌∷◌}
+use Rattle.std.proofs.Common.{◌≡◌, refl, ap, ◌∙◌, ℕ, ◌==◌, Bool, false, not, ◌&&◌, ◌||◌, List, [], ◌∷◌}
 use Rattle.std.specs.List.{list_any}
 use Rattle.dp_tree.specs.declared.Program.{Program}
 use Rattle.dp_plan.specs.declared.Plan.{Plan}
 use Rattle.dp_plan.specs.Access.{Access, is_stored_after, is_stored_beside, region_accesses, stage_of}
 use Rattle.dp_plan.specs.IsFar.{is_far, is_far_within}
 use Rattle.dp_plan.specs.Checked.{comes_before, is_apart, is_apart_between, is_checked, is_checked_access, may_differ}
+use Rattle.std.proofs.Math.Bool.{and-true}
 
 -- without proved independence each store of a later stage counts, and in a replicated stage its own
 abbrev plainly : Program → Plan → ℕ → ℕ → Bool
@@ -18,10 +19,6 @@ any_alike : {X : Type 0} (f g : X → Bool) → ((x : X) → f x ≡ g x) → (x
 any_alike f g same [] = refl
 any_alike f g same (x ∷ xs) = ap (λ (b : Bool). b || list_any f xs) (same x) ∙ ap (λ (b : Bool). g x || b) (any_alike f g same xs)
 
-and_true : (b : Bool) → (b && true) ≡ b
-and_true true = refl
-and_true false = refl
-
 module _ (p : Program) (plan : Plan) (first : plan.proved ≡ false) where
   between_none : (u d : ℕ) → is_apart_between p plan u d ≡ false
   between_none u d = ap (λ (b : Bool). b && is_far p plan.region d u) first
@@ -30,7 +27,7 @@ module _ (p : Program) (plan : Plan) (first : plan.proved ≡ false) where
   apart_none u d = ap (λ (b : Bool). b && (is_far_within p plan.region d u || comes_before p plan.region u d)) (between_none u d)
 
   alone : (b c : Bool) → c ≡ false → (b && not c) ≡ b
-  alone b c e = ap (λ (t : Bool). b && not t) e ∙ and_true b
+  alone b c e = ap (λ (t : Bool). b && not t) e ∙ and-true b
 
   differ_same : (s u x : ℕ) → may_differ p plan s u x ≡ plainly p plan s x
   differ_same s u x =

@@ -1,6 +1,6 @@
 //! What each line adds to those that were read.
 
-ghost use Rattle.std.specs.Prelude.{◌≡◌, IfOk};
+ghost use Rattle.std.specs.Prelude.{◌≡◌, true, is_some, IfOk, OnErr};
 ghost use Rattle.dp_plan_text.specs.Words.{words};
 ghost use Rattle.dp_profile.specs.steps.LineWords.{line_of};
 
@@ -37,7 +37,8 @@ impl Reader {
         all: &[Row<RegionSite>],
         region: u32,
     ) -> Result<Option<Reader>, NoMemory>
-        ensures { IfOk result (λ reader. reader ≡ spec.next all.now self (line.Region region)) }
+        ensures next { IfOk result (λ reader. reader ≡ spec.next all.now self (line.Region region)) }
+        ensures wanting { OnErr result (is_some (spec.next all.now self (line.Region region)) ≡ true) }
     {
         if !self.is_between(all) || !self.region_next(all, region) {
             return Ok(None);
@@ -56,7 +57,8 @@ impl Reader {
         site: SiteId,
         count: SiteCount,
     ) -> Result<Option<Reader>, NoMemory>
-        ensures { IfOk result (λ reader. reader ≡ spec.next all.now self (line.Runs site count)) }
+        ensures next { IfOk result (λ reader. reader ≡ spec.next all.now self (line.Runs site count)) }
+        ensures wanting { OnErr result (is_some (spec.next all.now self (line.Runs site count)) ≡ true) }
     {
         if !self.in_region() || !self.counts_next(all, site, count) {
             return Ok(None);
@@ -68,7 +70,8 @@ impl Reader {
 
     #[tactic(auto, unfolding(crate::specs::steps::Reading::next))]
     fn flow(self, all: &[Row<RegionSite>], flow: Flow) -> Result<Option<Reader>, NoMemory>
-        ensures { IfOk result (λ reader. reader ≡ spec.next all.now self (line.Flow flow)) }
+        ensures next { IfOk result (λ reader. reader ≡ spec.next all.now self (line.Flow flow)) }
+        ensures wanting { OnErr result (is_some (spec.next all.now self (line.Flow flow)) ≡ true) }
     {
         if !self.is_counted(all) || !self.flows_next(all, flow) {
             return Ok(None);
@@ -80,7 +83,8 @@ impl Reader {
 
     #[tactic(auto, unfolding(crate::specs::steps::Reading::next))]
     fn end(self, alloc: Global, all: &[Row<RegionSite>]) -> Result<Option<Reader>, NoMemory>
-        ensures { IfOk result (λ reader. reader ≡ spec.next all.now self line.End) }
+        ensures next { IfOk result (λ reader. reader ≡ spec.next all.now self line.End) }
+        ensures wanting { OnErr result (is_some (spec.next all.now self line.End) ≡ true) }
     {
         if !self.is_between(all) || !self.has_regions(all.len()) {
             return Ok(None);
@@ -92,7 +96,7 @@ impl Reader {
         }))
     }
 
-    /// What is known after one more line, if it may stand here.
+    /// What is known after one more line, if it may stand here. Memory is asked for only where it may.
     #[tactic(auto, unfolding(crate::specs::steps::Reading::next_by))]
     fn after(
         self,
@@ -100,7 +104,8 @@ impl Reader {
         all: &[Row<RegionSite>],
         line: Option<Line>,
     ) -> Result<Option<Reader>, NoMemory>
-        ensures { IfOk result (λ reader. reader ≡ spec.next_by all.now self line) }
+        ensures next { IfOk result (λ reader. reader ≡ spec.next_by all.now self line) }
+        ensures wanting { OnErr result (is_some (spec.next_by all.now self line) ≡ true) }
     {
         match line {
             None => Ok(None),
@@ -119,7 +124,8 @@ impl Reader {
         all: &[Row<RegionSite>],
         text: &[u8],
     ) -> Result<Option<Reader>, NoMemory>
-        ensures { IfOk result (λ reader. reader ≡ spec.next_by all.now self (line_of (words text.now))) }
+        ensures next { IfOk result (λ reader. reader ≡ spec.next_by all.now self (line_of (words text.now))) }
+        ensures wanting { OnErr result (is_some (spec.next_by all.now self (line_of (words text.now))) ≡ true) }
     {
         self.after(alloc, all, read_line(text))
     }

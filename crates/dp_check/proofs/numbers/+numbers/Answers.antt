@@ -2,9 +2,10 @@ use Rattle.std.proofs.Common.{◌<◌, ◌+◌, ◌∷◌, ◌++◌, drop, lengt
 use Rattle.dp_tree.specs.declared.SiteKind.TheVariants as kind
 use Rattle.dp_check.specs.declared.place.Place.{Place}
 use Rattle.dp_check.specs.Place.{Site, IsPastNumbers, passed, sited, parts, parts_all}
-use Rattle.dp_check.proofs.AnswerLemmas.{fold_more, fold_end}
-use Rattle.dp_check.proofs.PlaceLemmas.{passed_more, passed-none, past_by, on_err, after-If, after-While, pass-For, pass-For-first, pass-For-site}
+use Rattle.dp_check.proofs.PlaceLemmas.{passed_more, passed-none, past_by, after-If, after-While, pass-For, pass-For-first, pass-For-site}
 use Rattle.dp_check.proofs.numbers.+numbers.Goals as goal
+use Rattle.dp_base.proofs.LoopLemmas.{fold_more, fold_end}
+use Rattle.dp_base.proofs.ResultLemmas.{on_err}
 
 pub pass_all-loop-s-preserved : goal.pass_all-loop-s-preserved
 pass_all-loop-s-preserved t c =

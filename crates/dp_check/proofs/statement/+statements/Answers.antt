@@ -9,12 +9,13 @@ use Rattle.dp_check.specs.declared.place.Place.{Place}
 use Rattle.dp_check.specs.Place.{after, after_all, parts_all, passed, sited}
 use Rattle.dp_check.specs.Resolved.{next_site}
 use Rattle.dp_check.specs.Answer.{Gives, onto, with_last, expr_answer, statement_answer, block_answer, loop_answer}
-use Rattle.dp_check.proofs.AnswerLemmas.{onto-all, gives_behind, further, further_refused, further_end, fold_more}
+use Rattle.dp_check.proofs.AnswerLemmas.{onto-all, gives_behind, further, further_refused, further_end}
 use Rattle.dp_check.proofs.PlaceLemmas.{passed-append, for_left, after-If, after-While, after-For}
 use Rattle.dp_check.proofs.Weight.{weight, weight_all, weight-If, weight-While, weight-For, weight_item}
 use Rattle.dp_check.proofs.StatementLemmas.{block_answer-none, block_answer-more}
 use Rattle.dp_check.proofs.StatementLemmas as steps
 use Rattle.dp_check.proofs.statement.+statements.Goals as goal
+use Rattle.dp_base.proofs.LoopLemmas.{fold_more}
 
 -- ---- statements without a block
 

@@ -1,10 +1,10 @@
 use Rattle.std.proofs.Common.{◌≡◌, ◌<◌, ◌≤◌, ◌+◌, ◌-◌, ◌/◌, ℕ, List, true, length, subst, sym, ◌∙◌, arith, slice_index}
 use Rattle.dp_cut.specs.steps.Fits.{Fits}
 use Rattle.dp_cut.proofs.Weights.{weight_low}
-use Rattle.dp_cut.proofs.LimitLemmas.{or_any}
 use Rattle.dp_cut.proofs.Beginnings.{all_fit, fits_more}
 use Rattle.dp_cut.proofs.bound.least_bound.Goals as goal
 use Rattle.dp_cut.proofs.bound.least_bound.Goals.{then-index-stages, else-index-stages}
+use Rattle.std.proofs.lemmas.List.{get_or_default}
 
 pub loop-low-init : goal.loop-low-init
 loop-low-init c =
@@ -24,7 +24,7 @@ loop-low-preserved c =
     let middle : ℕ = c.loop-low.low + (c.loop-low.high - c.loop-low.low) / 2 in
     let needs : List ℕ = c.in_ok-needs.needs.after_par.items in
     let long : 0 < length needs = (let l = c.in_ok-needs.ensures.length.1 in omega (arith, l)) in
-    let need : c.index.result.now ≡ slice_index needs 0 = c.index.ensures ∙ or_any needs 0 c.index.result.now 0 long in
+    let need : c.index.result.now ≡ slice_index needs 0 = c.index.ensures ∙ get_or_default needs 0 c.index.result.now 0 long in
     let few : c.args.stages ≤ 8 = omega arith in
     elim c.if-index-stages.branch [
       | then-index-stages w ↦

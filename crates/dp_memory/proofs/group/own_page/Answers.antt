@@ -2,8 +2,9 @@ use Rattle.std.proofs.Common.{ap, sym, ◌∙◌, map, length, set, arith}
 use Rattle.std.proofs.Math.Seq.{map-set_same}
 use Rattle.std.proofs.lemmas.List.{length-map}
 use Rattle.dp_memory.specs.Piece.{items_of}
-use Rattle.dp_memory.proofs.Held.{own_items, on_ok, set_there}
+use Rattle.dp_memory.proofs.Held.{own_items, on_ok}
 use Rattle.dp_memory.proofs.group.own_page.Goals as goal
+use Rattle.dp_base.proofs.ListLemmas.{get_set_same}
 
 pub index_mut-page-requires : goal.index_mut-page-requires
 index_mut-page-requires c =
@@ -24,7 +25,7 @@ returns-clause-ok c =
     let before = ap length c.unshare.ensures.same in
     let asked = c.requires in
     let page = c.unshare-2.new.self in
-    on_ok c.unshare-2.result (λ none. (c.in_ok-unshare.ensures.ok, page, set_there g.own.items c.args.at page (omega arith), none)) c.unshare-2.ensures.ok
+    on_ok c.unshare-2.result (λ none. (c.in_ok-unshare.ensures.ok, page, get_set_same g.own.items c.args.at page (omega arith), none)) c.unshare-2.ensures.ok
 
 pub returns-clause-same : goal.returns-clause-same
 returns-clause-same c =

@@ -21,7 +21,7 @@ lines-preserved c =
     let shorter : length c.in-Some.more.now < length c.lines.rest.now = c.in-Some.ensures.shorter in
     let same : c.as_slice.result.now ≡ regions c.args.p.now = c.as_slice.ensures ∙ c.in_ok-all.ensures in
     let taken : next_by (regions c.args.p.now) c.lines.reader (line_of (words c.in-Some.line.now)) ≡ Some c.in-Some-next.after =
-    ap (λ (l : List (List RegionSite)). next_by l c.lines.reader (line_of (words c.in-Some.line.now))) (sym same) ∙ sym c.in_ok-next-in-Some.ensures ∙ c.in-Some-next.is in
+    ap (λ (l : List (List RegionSite)). next_by l c.lines.reader (line_of (words c.in-Some.line.now))) (sym same) ∙ sym c.in_ok-next-in-Some.ensures.next ∙ c.in-Some-next.is in
     (so_far_next all c.args.text.now c.lines.reader c.in-Some-next.after c.lines.rest.now c.in-Some.line.now c.in-Some.more.now c.lines.count c.lines.invariant.0 cut taken, omega (arith, c.lines.invariant.1, shorter))
 
 pub returns-in-None-next : goal.returns-in-None-next
@@ -30,7 +30,7 @@ returns-in-None-next c =
     let cut : lines_of c.lines.rest.now ≡ (c.in-Some.line.now ++ 10 ∷ []) ∷ lines_of c.in-Some.more.now = c.in-Some.ensures.lines in
     let same : c.as_slice.result.now ≡ regions c.args.p.now = c.as_slice.ensures ∙ c.in_ok-all.ensures in
     let none : next_by (regions c.args.p.now) c.lines.reader (line_of (words c.in-Some.line.now)) ≡ None =
-    ap (λ (l : List (List RegionSite)). next_by l c.lines.reader (line_of (words c.in-Some.line.now))) (sym same) ∙ sym c.in_ok-next-in-Some.ensures ∙ c.in-None-next.is in
+    ap (λ (l : List (List RegionSite)). next_by l c.lines.reader (line_of (words c.in-Some.line.now))) (sym same) ∙ sym c.in_ok-next-in-Some.ensures.next ∙ c.in-None-next.is in
     refused_line p c.args.text.now (few_regions p c.requires.inlined) (small_sites p c.requires.inlined) c.lines.reader c.lines.rest.now c.in-Some.line.now c.in-Some.more.now c.lines.count c.lines.invariant.0 cut none
 
 pub returns-in-None : goal.returns-in-None

@@ -4,8 +4,8 @@ use Rattle.dp_profile.specs.WrittenText.{runs_text}
 use Rattle.dp_profile.proofs.WriteLemmas.{no_sites, no_counts}
 use Rattle.dp_profile.proofs.write.put_counts.Goals as goal
 
-pub returns : goal.returns
-returns c =
+pub returns-clause-text : goal.returns-clause-text
+returns-clause-text c =
     let sites = c.loop-site.site-iterator.a.rest.now in let counts = c.loop-site.site-iterator.b.rest.now in
     joins_all (c.args.out.now ++ runs_text c.args.sites.now c.args.counts.now) c.loop-site.out (runs_text sites counts) c.loop-site.invariant
     (elim c.in-None.ensures.steps [

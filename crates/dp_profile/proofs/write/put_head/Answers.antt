@@ -1,7 +1,8 @@
 use Rattle.std.proofs.Common.{◌++◌, List, ℕ, ap, ◌∙◌, codes}
 use Rattle.std.proofs.lemmas.Result.{on_ok_weaker}
-use Rattle.dp_profile.proofs.WriteLemmas.{one_number, region_line}
+use Rattle.dp_profile.proofs.WriteLemmas.{region_line}
 use Rattle.dp_profile.proofs.write.put_head.Goals as goal
+use Rattle.dp_plan_text.proofs.WriteLemmas.{one_number}
 
 pub returns : goal.returns
 returns c =

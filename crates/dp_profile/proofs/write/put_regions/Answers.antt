@@ -4,8 +4,8 @@ use Rattle.dp_profile.specs.WrittenText.{regions_text}
 use Rattle.dp_profile.proofs.WriteLemmas.{no_regions, none_shown}
 use Rattle.dp_profile.proofs.write.put_regions.Goals as goal
 
-pub returns : goal.returns
-returns c =
+pub returns-clause-text : goal.returns-clause-text
+returns-clause-text c =
     let all = c.loop-place.place-iterator.iter.a.rest.now in let shown = c.loop-place.place-iterator.iter.b.rest.now in
     let number = c.loop-place.place-iterator.count + 1 in
     joins_all (c.args.out.now ++ regions_text 1 c.args.all.now c.args.shown.now) c.loop-place.out (regions_text number all shown) c.loop-place.invariant

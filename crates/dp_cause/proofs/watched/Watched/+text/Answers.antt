@@ -5,6 +5,7 @@ use Rattle.dp_cause.specs.Watching.{Told, Leads, walk_from}
 use Rattle.dp_cause.proofs.InnerLemmas.{inner_past, inner_turns}
 use Rattle.dp_cause.proofs.StepLemmas as steps
 use Rattle.dp_cause.proofs.watched.Watched.+text.Goals as goal
+use Rattle.dp_base.proofs.ListLemmas.{next_of}
 
 pub statement-returns-then-zero : goal.statement-returns-then-zero
 statement-returns-then-zero t c =
@@ -56,7 +57,7 @@ statement-turns-preserved t c = λ rest.
 
 pub statements-returns-in_default : goal.statements-returns-in_default
 statements-returns-in_default t c =
-    let cons = steps.dropped c.args.all.now c.loop-statement.statement-index c.statement-item.result (omega (arith, c.loop-statement-test.true)) c.statement-item.is in
+    let cons = next_of c.args.all.now c.loop-statement.statement-index c.statement-item.result (omega (arith, c.loop-statement-test.true)) c.statement-item.is in
     steps.other_leads c.args.ground c.args.self.now c.loop-statement.self c.statement.new.self c.args.all.now (c.statement-item.result ∷ []) (λ rest. drop (c.loop-statement.statement-index + 1) c.args.all.now ++ rest)
     (λ rest. c.loop-statement.invariant rest ∙ ap (λ (xs : List Stmt). walk_from c.args.ground c.loop-statement.self (xs ++ rest)) cons)
     (λ rest w. inner_past c.args.all.now c.loop-statement.statement-index c.statement-item.result rest cons w)

@@ -4,9 +4,9 @@ use Rattle.dp_check.specs.declared.sites.Sites.{Sites}
 use Rattle.dp_check.specs.Place.{Site, parts, parts_all}
 use Rattle.dp_check.specs.Tables.{sites_of}
 use Rattle.dp_check.specs.steps.Growing.{with_sites}
-use Rattle.dp_check.proofs.AnswerLemmas.{fold_more, fold_end}
 use Rattle.dp_check.proofs.TableLemmas as tables
 use Rattle.dp_check.proofs.sites.Sites.+sites.Goals as goal
+use Rattle.dp_base.proofs.LoopLemmas.{fold_more, fold_end}
 
 pub statements-loop-s-preserved : goal.statements-loop-s-preserved
 statements-loop-s-preserved t c =
