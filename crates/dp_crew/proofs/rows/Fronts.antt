@@ -1,0 +1,10 @@
+-- What was written of a text of which a front was.
+use Rattle.std.proofs.Common.{◌≡◌, sym, ap, ◌∙◌, append_assoc, ℕ, List, ◌++◌, Some}
+use Rattle.dp_crew.specs.Output.{WritesFront}
+
+-- nothing but the text's own bytes stands behind what was told before
+the_rest_of_the_text_completes_it : (text told tells : List ℕ) → WritesFront text (Some told) (Some tells) → (rest : List ℕ) × (told ++ text ≡ tells ++ rest)
+the_rest_of_the_text_completes_it text told tells w =
+    let is : Some tells ≡ Some (told ++ w.front) = w.sink in
+    let same : tells ≡ told ++ w.front = cc is in
+    (w.rest, ap (λ (x : List ℕ). told ++ x) w.splits ∙ sym (append_assoc told w.front w.rest) ∙ ap (λ (x : List ℕ). x ++ w.rest) (sym same))
