@@ -1,3 +1,4 @@
+pub mod DigitLemmas
 pub mod Division
 pub mod ListLemmas
 pub mod LoopLemmas

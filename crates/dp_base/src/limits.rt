@@ -1,4 +1,6 @@
 //! The numbers that are limits, in one table. Code and definitions cite them from here.
+ghost use Rattle.std.specs.Prelude.{◌≡◌, ◌≤◌, ◌+◌};
+ghost use Rattle.dp_base.specs.Counts.{reported};
 
 /// Bytes of a program's text.
 pub const PROGRAM_BYTES: u32 = 65_536;
@@ -55,3 +57,12 @@ pub const SEED: u32 = 2_147_483_647;
 pub const COUNTED: u32 = 1_000_000;
 /// Iterations that a region's report lists.
 pub const LISTED: u32 = 1_000;
+
+/// The sum of two counts, as it is reported.
+pub fn counted_sum(a: u32, b: u32) -> u32
+    requires left { a ≤ COUNTED }
+    requires right { b ≤ COUNTED }
+    ensures { result ≡ reported (a + b) }
+{
+    (a + b).min(COUNTED)
+}

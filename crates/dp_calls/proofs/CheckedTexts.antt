@@ -50,7 +50,7 @@ module _ (p : Program) where
     pub main_listed : list_all (is_listed p) (site_numbers_all p.main) ≡ true
     main_listed = (all_parts (is_listed p) (site_numbers_all p.main) (sites_in p.functions) all_listed).0
 
-    scoped_both : (functions_in_scope p 0 p.functions ≡ true) × (all_in_scope p 0 (length p.functions) (global_numbers p) p.main ≡ true)
+    pub scoped_both : (functions_in_scope p 0 p.functions ≡ true) × (all_in_scope p 0 (length p.functions) (global_numbers p) p.main ≡ true)
     scoped_both = and_true (functions_in_scope p 0 p.functions) (all_in_scope p 0 (length p.functions) (global_numbers p) p.main) checked.scoped
 
     pub main_scoped : all_in_scope p 0 (length p.functions) (global_numbers p) p.main ≡ true

@@ -1,5 +1,5 @@
 -- What a look at an event's words says of the event.
-use Rattle.std.proofs.Common.{◌≡◌, refl, sym, ap, ◌∙◌, length-append, arith, ℕ, suc, ◌+◌, ◌<◌, ◌≤◌, ◌==◌, Bool, true, false, not, ◌&&◌, if◌then◌else◌, List, [], ◌∷◌, ◌++◌, length, ℤ, pos, nat_le, get_or, drop, le-leb, inl, inr, Option, Some, None, add-one, drop-cons}
+use Rattle.std.proofs.Common.{◌≡◌, refl, sym, ap, ◌∙◌, ℕ, ◌+◌, ◌<◌, ◌≤◌, ◌==◌, Bool, true, false, not, ◌&&◌, if◌then◌else◌, List, [], ◌∷◌, ◌++◌, length, ℤ, pos, nat_le, get_or, drop, le-leb, inl, inr, Option, Some, None, add-one, drop-cons}
 use Rattle.std.proofs.lemmas.Bool.{cases_Bool, lt-leb}
 use Rattle.std.proofs.Math.Bool.{or-true}
 use Rattle.std.specs.List.{list_all}
@@ -14,7 +14,7 @@ use Rattle.dp_tree.specs.Step.{Effect, Stored, Printed, Tried, Event, value_of, 
 use Rattle.dp_plan.specs.declared.Plan.{Plan}
 use Rattle.dp_plan.specs.Access.{stage_of}
 use Rattle.dp_plan.specs.Checked.{is_checked}
-use Rattle.dp_semantics.specs.Clean.{as_assumed, goes_as, went, stays_late, event_as_assumed, event_words}
+use Rattle.dp_semantics.specs.Clean.{as_assumed, goes_as, went, stays_late, event_as_assumed}
 use Rattle.dp_semantics.specs.Words.{load_words, done_word, words_of, is_load_of}
 use Rattle.dp_semantics.specs.Cause.{Cause, ByAssumption, ByWords, by_load, assumption_cause}
 use Rattle.dp_semantics.specs.CauseWalk.{Watch, view_of, count_of, watched, shown_from, load_cause_in, checked_cause_in, words_cause_in, cause_in}
@@ -28,6 +28,7 @@ use Rattle.dp_cause.specs.Watching.{seen_otherwise, reported_if, Told, HasForm, 
 use Rattle.dp_cause.proofs.ViewLemmas.{shown_store, shown_none, counted_is}
 use Rattle.std.proofs.lemmas.Option.{same_Some}
 use Rattle.std.specs.Option.{option_or}
+use Rattle.dp_semantics.proofs.Counts.{event_words-length}
 use Rattle.dp_semantics.proofs.Taking.{load_here, done_no_load}
 
 -- among the words of loads and of what was done the loads alone are compared
@@ -41,16 +42,6 @@ pub seen_words : (p : Program) (plan : Plan) (view : List ℤ) (event : Event) �
 seen_words p plan view event = elim (cases_Bool (is_checked p plan event.site)) [
   | inl q ↦ rw q (seen_loads event.site view event.loads event.effect)
   | inr q ↦ rw q (seen_loads event.site view [] event.effect)
-]
-
-load_words-length : (site : ℕ) (loads : List Load) → length (load_words site loads) ≡ length loads
-load_words-length site [] = refl
-load_words-length site (l ∷ rest) = ap (λ (n : ℕ). suc n) (load_words-length site rest)
-
-pub words-length : (p : Program) (plan : Plan) (event : Event) → length (words_of p plan event) ≡ event_words p plan event
-words-length p plan event = elim (cases_Bool (is_checked p plan event.site)) [
-  | inl q ↦ rw q (omega (arith, length-append (load_words event.site event.loads) (done_word event.site event.effect ∷ []), load_words-length event.site event.loads))
-  | inr q ↦ rw q (omega arith)
 ]
 
 -- a word of the list that fails
@@ -155,7 +146,7 @@ module _ (g : Ground) (old : Watched) (event : Event) (site : SiteId) (form : Fo
 
   counts_are : {stage more : ℕ} {word : Word} {new : Watched} → Noted stage more word new → new.counts ≡ (watched p plan event w).counts
   counts_are {stage = stage} {more = more} n =
-      ap (λ (s : Watched). s.counts) n.is ∙ ap (λ (k : ℕ). count_more stage k old.counts) (n.more_is ∙ words-length p plan event) ∙ counted_is p plan event old.counts stage (stage_same stage n.stage_is)
+      ap (λ (s : Watched). s.counts) n.is ∙ ap (λ (k : ℕ). count_more stage k old.counts) (n.more_is ∙ event_words-length p plan event) ∙ counted_is p plan event old.counts stage (stage_same stage n.stage_is)
 
   views_are : {stage more : ℕ} {word : Word} {new : Watched} → Noted stage more word new → new.views ≡ (watched p plan event w).views
   views_are {stage = stage} {word = word} n =

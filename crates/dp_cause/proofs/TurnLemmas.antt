@@ -18,7 +18,7 @@ use Rattle.dp_cause.specs.declared.watched.Ground.{Ground}
 use Rattle.dp_cause.specs.declared.watched.Watched.{Watched}
 use Rattle.dp_cause.specs.declared.watched.Step.{Step}
 use Rattle.dp_cause.specs.declared.watched.Step.TheVariants as step
-use Rattle.dp_cause.specs.Watching.{widened, Told, HasForm, watch_in, cause_now, cause_here, Looks, Steps}
+use Rattle.dp_cause.specs.Watching.{widened, Told, watch_in, cause_now, cause_here, Looks, Steps}
 
 -- ---- the forms of effects
 

@@ -10,7 +10,7 @@ use Rattle.dp_tree.specs.declared.raw.RawItem.TheVariants as item
 use Rattle.dp_tree.specs.declared.raw.RawProgram.{RawProgram}
 use Rattle.dp_check.specs.Place.{Part, Site, Local}
 use Rattle.dp_check.specs.Tables.{laid, locals_of, globals, item_parts, outside, within, top_locals, after_top, main_locals, variables}
-use Rattle.std.proofs.Common.{subst, Option, Some, None, Ok}
+use Rattle.std.proofs.Common.{subst, Option, None, Ok}
 use Rattle.dp_tree.specs.declared.Program.{Program}
 use Rattle.dp_check.specs.declared.fail.CheckFail.{CheckFail}
 use Rattle.dp_check.specs.Offence.{first_offence}

@@ -11,7 +11,7 @@ use Rattle.dp_tree.specs.declared.raw.RawProgram.{RawProgram}
 use Rattle.dp_tree.specs.Globals.{is_global_scope, globals_in}
 use Rattle.dp_tree.specs.Layout.{is_local_variable, globals_first}
 use Rattle.dp_check.specs.Place.{Part, Site, Local}
-use Rattle.dp_check.specs.Tables.{laid, locals_of, globals, global_of, item_parts, outside, within, top_locals, after_top, main_locals, variables}
+use Rattle.dp_check.specs.Tables.{laid, locals_of, globals, item_parts, outside, within, top_locals, after_top, main_locals, variables}
 use Rattle.dp_check.proofs.BoolLemmas.{both_true, all_of_both}
 
 -- the variables of all texts, behind the file-scope ones

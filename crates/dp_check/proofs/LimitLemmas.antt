@@ -1,8 +1,9 @@
 -- Counts of the items of a program.
 use Rattle.std.proofs.Common.{◌≡◌, ap, ◌∙◌, ℕ, ◌+◌, min, length, length-append, arith, List, ◌∷◌}
+use Rattle.dp_base.specs.Counts.{reported}
 use Rattle.dp_tree.specs.declared.raw.RawItem.{RawItem}
 use Rattle.dp_check.specs.Tables.{globals, global_of}
-use Rattle.dp_check.specs.Limits.{reported, functions_in, function_count, cell_sum, global_cells}
+use Rattle.dp_check.specs.Limits.{functions_in, function_count, cell_sum, global_cells}
 use Rattle.dp_check.proofs.TableLemmas.{cell_sum-append}
 
 pub reported_sum : (c a b : ℕ) → min (c + (a + b)) 1000000 ≡ min (min (c + min a 1000000) 1000000 + b) 1000000

@@ -2,6 +2,7 @@
 use Rattle.std.specs.Prelude.{List, ◌++◌, length, Option, Some, None, Result, Ok, nat_lt, if◌then◌else◌}
 use Rattle.dp_base.specs.declared.Quantity.TheVariants.{Functions, Cells}
 use Rattle.dp_base.specs.declared.limits.TheConstants.{CELLS, FUNCTIONS}
+use Rattle.dp_base.specs.Counts.{reported}
 use Rattle.dp_tree.specs.declared.Function.{Function}
 use Rattle.dp_tree.specs.declared.Program.{Program}
 use Rattle.dp_tree.specs.declared.Stmt.{Stmt}
@@ -18,7 +19,7 @@ use Rattle.dp_check.specs.Resolved.{resolved_main}
 use Rattle.dp_check.specs.Answer.{unless, answer}
 use Rattle.dp_check.specs.Items.{items_tokens, items_functions, after_items}
 use Rattle.dp_check.specs.Tables.{globals, variables, sites, regions_from}
-use Rattle.dp_check.specs.Limits.{reported, function_count, global_cells}
+use Rattle.dp_check.specs.Limits.{function_count, global_cells}
 
 -- the begin of `main`, whose variables come after the file-scope ones; its sites come first
 abbrev pub main_numbers : RawProgram → Place

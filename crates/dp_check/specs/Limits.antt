@@ -1,14 +1,9 @@
 -- The counts of a program that have limits.
-use Rattle.std.specs.Prelude.{ℕ, ◌+◌, min, List, [], ◌∷◌}
-use Rattle.dp_base.specs.declared.limits.TheConstants.{COUNTED}
+use Rattle.std.specs.Prelude.{ℕ, ◌+◌, List, [], ◌∷◌}
 use Rattle.dp_tree.specs.declared.VarInfo.{VarInfo}
 use Rattle.dp_tree.specs.declared.raw.RawItem.{RawItem}
 use Rattle.dp_tree.specs.declared.raw.RawItem.TheVariants.{Scalar, Array, Function}
 use Rattle.dp_check.specs.Tables.{globals}
-
--- a count as it is reported
-abbrev pub reported : ℕ → ℕ
-reported n = min n COUNTED
 
 -- how many functions an item declares
 abbrev pub functions_in : RawItem → ℕ

@@ -1,6 +1,7 @@
 //! What a lawful program is refused for: counts above their limits.
 
-ghost use Rattle.std.specs.Prelude.{◌≡◌, ◌≤◌, ◌+◌, ◌^◌, min, length, IfOk, OnErr};
+ghost use Rattle.std.specs.Prelude.{◌≡◌, ◌≤◌, ◌+◌, ◌^◌, length, IfOk, OnErr};
+ghost use Rattle.dp_base.specs.Counts.{reported};
 ghost use Rattle.dp_check.specs.Answer.{unless};
 ghost use Rattle.dp_check.specs.Limits as spec;
 ghost use Rattle.dp_check.specs.Tables.{cells_of, global_of, globals};
@@ -8,7 +9,7 @@ ghost use Rattle.dp_check.specs.CheckAnswer.{too_many_functions, too_many_cells}
 
 use crate::CheckFail;
 use crate::place::next;
-use dp_base::limits::{CELLS, COUNTED, FUNCTIONS};
+use dp_base::limits::{CELLS, COUNTED, FUNCTIONS, counted_sum};
 use dp_base::{NoMemory, Quantity};
 use dp_tree::{RawItem, RawProgram};
 
@@ -34,17 +35,8 @@ fn global_after(count: u32, item: &RawItem) -> Result<u32, NoMemory>
     }
 }
 
-/// The sum of two counts, as it is reported.
-fn sum(a: u32, b: u32) -> u32
-    requires left { a ≤ COUNTED }
-    requires right { b ≤ COUNTED }
-    ensures { result ≡ min (a + b) COUNTED }
-{
-    (a + b).min(COUNTED)
-}
-
 fn size_reported(size: i64) -> u32
-    ensures { result ≡ spec.reported (cells_of size) }
+    ensures { result ≡ reported (cells_of size) }
 {
     if size < 0 {
         0
@@ -56,7 +48,7 @@ fn size_reported(size: i64) -> u32
 }
 
 fn cells_in(item: &RawItem) -> u32
-    ensures value { result ≡ spec.reported (spec.cell_sum (global_of item.now)) }
+    ensures value { result ≡ reported (spec.cell_sum (global_of item.now)) }
     ensures small { result ≤ COUNTED }
 {
     match item {
@@ -68,11 +60,11 @@ fn cells_in(item: &RawItem) -> u32
 
 /// The cells of the file-scope variables, as they are reported.
 fn cell_count(items: &[RawItem]) -> u32
-    ensures { result ≡ spec.reported (spec.global_cells items.now) }
+    ensures { result ≡ reported (spec.global_cells items.now) }
 {
     let mut count = 0;
     for item in items {
-        count = sum(count, cells_in(item));
+        count = counted_sum(count, cells_in(item));
     }
     count
 }
@@ -89,11 +81,11 @@ fn functions_in(item: &RawItem) -> u32
 
 /// The functions, as they are reported.
 fn function_count(items: &[RawItem]) -> u32
-    ensures { result ≡ spec.reported (spec.function_count items.now) }
+    ensures { result ≡ reported (spec.function_count items.now) }
 {
     let mut count = 0;
     for item in items {
-        count = sum(count, functions_in(item));
+        count = counted_sum(count, functions_in(item));
     }
     count
 }

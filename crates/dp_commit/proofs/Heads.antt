@@ -6,7 +6,7 @@ use Rattle.dp_tree.specs.Trace.{Run}
 use Rattle.dp_tree.specs.Iteration.{stands_at_head, places, starts, start, stop_from, events_from, iteration, is_closing, last_events, closes}
 use Rattle.dp_meaning.specs.Continues.{Continues}
 use Rattle.dp_commit.proofs.Lists.{places_behind, places_from, range_front, range_past}
-use Rattle.dp_commit.proofs.Leaving.{closes_more}
+use Rattle.dp_tree.proofs.Leaving.{closes_more}
 use Rattle.dp_commit.proofs.Parts.{is_off}
 use Rattle.dp_meaning.proofs.NextLemmas.{last_front}
 

@@ -18,7 +18,8 @@ use Rattle.dp_code.specs.Code.{by_stage, test_code, branch, either, repetition, 
 unfoldable use Rattle.dp_code.specs.Code.{stmt_code, row_code}
 use Rattle.dp_code.proofs.Running.{From, later, op_here}
 use Rattle.dp_commit.specs.declared.court.Court.{Court}
-use Rattle.dp_commit.specs.Judging.{HasStages, IsCourt, Settles, is_jump}
+use Rattle.dp_commit.specs.Judging.{HasStages, IsCourt}
+use Rattle.dp_commit.specs.steps.Moves.{Settles, is_jump}
 use Rattle.dp_commit.proofs.BreakPlaces.{consumes, branches}
 
 module _ (p : Program) (plan : Plan) (code : List Op) (stages : HasStages p plan) where

@@ -1,6 +1,5 @@
 pub mod Lists
 pub mod Parts
-pub mod Leaving
 pub mod Heads
 pub mod Going
 pub mod Committing

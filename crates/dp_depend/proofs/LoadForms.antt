@@ -1,5 +1,5 @@
 -- The variables that an expression may load, by its form.
-use Rattle.std.proofs.Common.{◌≡◌, refl, ℕ, List, [], ◌∷◌, ◌++◌, append_assoc, append-nil}
+use Rattle.std.proofs.Common.{◌≡◌, refl, [], ◌∷◌, ◌++◌, append_assoc, append-nil}
 use Rattle.dp_base.specs.declared.VarId.{VarId}
 use Rattle.dp_base.specs.declared.UnOp.{UnOp}
 use Rattle.dp_base.specs.declared.BinOp.{BinOp}

@@ -104,7 +104,7 @@ module _ (words : List (List ℕ)) (contents : Contents) (faults after : ℕ) (f
 
   pub carry_sites : (name : List ℕ) (q : Program) (result : Result ℕ CrewFail) → Asks words (ToList name) → ProgramGives name (Text q) → Finishes 0 (site_bytes q) told tells result → Carried words contents faults after failed fails told tells result
   carry_sites name q result asks g finishes =
-      let s = source_of _ _ _ g.0 in
+      let s = source_of (ReadsProgram contents name) q g.0 in
       carried.OfAnswer _ _ (Done (ToList name) s.source [] [] asks (record { program = named_program s.reads; input = Unnamed; planned = NoPlans })) g.1 g.2
       (finishes_as 0 0 (site_bytes q) (site_bytes (expand s.source)) told tells result refl (ap site_bytes s.is) finishes)
 
@@ -117,26 +117,26 @@ module _ (words : List (List ℕ)) (contents : Contents) (faults after : ℕ) (f
 
     pub carry_plans : (plans : List Plan) (result : Result ℕ CrewFail) → LeastGives (Text plans) → Finishes 0 (plans_text q plans) told tells result → Carried words contents faults after failed fails told tells result
     carry_plans plans result g finishes =
-        let s = source_of _ _ _ read in
+        let s = source_of (ReadsProgram contents planning.program) q read in
         carried.OfAnswer _ _ (Done (ToPlan planning) s.source [] plans asks (record { program = named_program s.reads; input = Unnamed; planned = SomePlans (Least planning.profile) planning.options (Ok plans) (subst (λ (x : Program). LeastOf x (Ok plans)) s.is g.0) })) g.1 g.2
         (finishes_as 0 0 (plans_text q plans) (plans_text (expand s.source) plans) told tells result refl (ap (λ (x : Program). plans_text x plans) s.is) finishes)
 
     pub carry_least_refused : (refusal : Refusal) (result : Result ℕ CrewFail) → LeastGives (Refused refusal) → Finishes (refusal_status refusal) (refusal_line refusal) told tells result →
         Carried words contents faults after failed fails told tells result
     carry_least_refused refusal result g finishes =
-        let s = source_of _ _ _ read in
+        let s = source_of (ReadsProgram contents planning.program) q read in
         carried.OfAnswer _ _ (answers.Refused (ToPlan planning) refusal asks (ByPlans s.source [] refusal (named_program s.reads) Unnamed (SomePlans (Least planning.profile) planning.options (Err refusal) (subst (λ (x : Program). LeastOf x (Err refusal)) s.is g.0)))) g.1 g.2 finishes
 
     pub carry_least_failed : (result : Result ℕ CrewFail) → LeastGives Failed → Finishes 5 (failed_read_line role.Profile) told tells result → Carried words contents faults after failed fails told tells result
     carry_least_failed result g finishes =
-        let s = source_of _ _ _ read in
+        let s = source_of (ReadsProgram contents planning.program) q read in
         carried.OfFailedRead _ _ (OfPlans (ToPlan planning) s.source [] (Least planning.profile) planning.options g.0 asks (named_program s.reads) Unnamed refl g.1) g.2 g.3 finishes
 
   -- a program alone that is refused, or that can't be read
   pub carry_program_refused : (asked : Asked) (name : List ℕ) (refusal : Refusal) (result : Result ℕ CrewFail) → Asks words asked → program_in asked ≡ Some name →
       ProgramGives name (Refused refusal) → Finishes (refusal_status refusal) (refusal_line refusal) told tells result → Carried words contents faults after failed fails told tells result
   carry_program_refused asked name refusal result asks is g finishes =
-      let read = named_program (refusal_read _ _ _ g.0) in
+      let read = named_program (refusal_read (ReadsProgram contents name) refusal g.0) in
       carried.OfAnswer _ _ (answers.Refused asked refusal asks (ByProgram refusal (subst (λ (o : Option (List ℕ)). ProgramOf contents o (Err refusal)) (sym is) read))) g.1 g.2 finishes
 
   pub carry_program_failed : (asked : Asked) (name : List ℕ) (result : Result ℕ CrewFail) → Asks words asked → program_in asked ≡ Some name → ProgramGives name Failed → Finishes 5 (failed_read_line role.Program) told tells result →

@@ -1,5 +1,5 @@
 -- From what a call has carried out to the headline.
-use Rattle.std.proofs.Common.{◌≡◌, refl, arith, inl, inr, ℕ, ◌<◌, ◌≤◌, List, Result, Ok, Err, ◌∷◌}
+use Rattle.std.proofs.Common.{◌≡◌, refl, arith, inl, inr, ℕ, ◌<◌, ◌≤◌, List, Result, Ok, Err}
 use Rattle.dp_crew.specs.declared.fail.CrewFail.{CrewFail}
 use Rattle.dp_crew.specs.declared.fail.CrewFail.TheVariants.{Write, NoMemory}
 use Rattle.dp_crew.specs.Fail.{FaultsAfter}

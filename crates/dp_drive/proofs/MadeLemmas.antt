@@ -19,7 +19,7 @@ use Rattle.dp_plan.specs.GivenPlans.{ArePlans}
 use Rattle.dp_run.specs.Given.{AreGiven}
 use Rattle.dp_drive.specs.declared.refusal.Refusal.{Refusal}
 use Rattle.dp_drive.specs.Refusal.{refusal_line, refusal_status}
-use Rattle.dp_drive.specs.Program.{Reads, ReadsAs, expanded}
+use Rattle.dp_drive.specs.Program.{Reads, ReadsAs}
 use Rattle.dp_drive.specs.Plans.{MakesPlans}
 use Rattle.dp_drive.specs.Made.{made_line, made_words}
 use Rattle.dp_drive.specs.RunText.{status_of}
@@ -31,6 +31,7 @@ use Rattle.dp_drive.specs.steps.Carried.{Names, Finishes, Carried}
 use Rattle.dp_drive.specs.steps.Carried as carried
 use Rattle.dp_drive.proofs.accepted.Accepted.{read_checked, inlined_read}
 use Rattle.dp_drive.proofs.AnswerLemmas.{finishes_source}
+use Rattle.dp_drive.proofs.TextsLemmas.{Source, source_of, refusal_read}
 
 text_size : length made_text ≡ 319
 unfolding made_text
@@ -62,32 +63,12 @@ pub stopped_counts : (result : Result ℕ CrewFail) (P : Type 0) → IsErr resul
 stopped_counts (Ok answered) P h = absurd (cc)
 stopped_counts (Err fail) P h = tt
 
--- the program that the expansion of a text's is one of
-record Source (text : List ℕ) (q : Program) : Type 0 where
-  source : Program
-  reads : Reads text (Ok source)
-  is : q ≡ expand source
-
-source_of : (text : List ℕ) (q : Program) → ReadsAs text (Ok q) → Source text q
-source_of text q h = by h.source h.reads h.is
-  where
-    by : (o : Result Program Refusal) → Reads text o → Ok q ≡ expanded o → Source text q
-    by (Ok p) reads is = record { source = p; reads = reads; is = cc is }
-    by (Err refusal) reads is = absurd (cc is)
-
-refused_as : (text : List ℕ) (refusal : Refusal) → ReadsAs text (Err refusal) → Reads text (Err refusal)
-refused_as text refusal h = by h.source h.reads h.is
-  where
-    by : (o : Result Program Refusal) → Reads text o → Err refusal ≡ expanded o → Reads text (Err refusal)
-    by (Ok p) reads is = absurd (cc is)
-    by (Err other) reads is = let e : other ≡ refusal = cc is in subst (λ (x : Refusal). Reads text (Err x)) e reads
-
 -- what the made text was read as
 pub read_made : (slice text : List ℕ) (o read : Result Program Refusal) → slice ≡ text → text ≡ made_text → o ≡ read → ReadsAs slice o → ReadsAs made_text read
 read_made slice text o read e f is h = subst (λ (t : List ℕ). ReadsAs t read) (e ∙ f) (subst (λ (x : Result Program Refusal). ReadsAs slice x) is h)
 
 -- the texts of its run
-made_texts : (contents : Contents) (made : GenWords) (q : Program) (plans : List Plan) (s : Source made_text q) → MakesPlans q made.options None plans → TextsGive contents (ToMake made) s.source [] plans
+made_texts : (contents : Contents) (made : GenWords) (q : Program) (plans : List Plan) (s : Source (Reads made_text) q) → MakesPlans q made.options None plans → TextsGive contents (ToMake made) s.source [] plans
 made_texts contents made q plans s plans_made = record {
   program = MadeProgram (Ok s.source) s.reads;
   input = Unnamed;
@@ -95,8 +76,8 @@ made_texts contents made q plans s plans_made = record {
 }
 
 module _ (q : Program) (h : ReadsAs made_text (Ok q)) where
-  s : Source made_text q
-  s = source_of made_text q h
+  s : Source (Reads made_text) q
+  s = source_of (Reads made_text) q h
 
   pub read_inlined : IsInlined q
   read_inlined = subst IsInlined (sym s.is) (inlined_read made_text s.source s.reads)
@@ -107,13 +88,13 @@ module _ (q : Program) (h : ReadsAs made_text (Ok q)) where
 module _ (words : List (List ℕ)) (contents : Contents) (made : GenWords) (asks : Asks words (ToMake made)) where
   module _ (faults : ℕ) (failed : Names) (told tells : Option (List ℕ)) (result : Result ℕ CrewFail) where
     pub carry_refused : (refusal : Refusal) → ReadsAs made_text (Err refusal) → Finishes (refusal_status refusal) (refusal_line refusal) told tells result → Carried words contents faults faults failed failed told tells result
-    carry_refused refusal read finishes = carried.OfAnswer _ _ (answers.Refused (ToMake made) refusal asks (ByProgram refusal (MadeProgram (Err refusal) (refused_as made_text refusal read)))) refl refl finishes
+    carry_refused refusal read finishes = carried.OfAnswer _ _ (answers.Refused (ToMake made) refusal asks (ByProgram refusal (MadeProgram (Err refusal) (refusal_read (Reads made_text) refusal read)))) refl refl finishes
 
     pub carry_run : (q : Program) (plans : List Plan) (numbers : List ℤ) → numbers ≡ made_words made → ReadsAs made_text (Ok q) → MakesPlans q made.options None plans →
         Finishes (status_of (source_run q numbers made.fuel).end) (made_line made ++ trace_text q plans (source_run q numbers made.fuel) false) told tells result →
         Carried words contents faults faults failed failed told tells result
     carry_run q plans numbers e read plans_made finishes =
-        let s = source_of made_text q read in
+        let s = source_of (Reads made_text) q read in
         let here = subst (λ (zs : List ℤ). Finishes (status_of (source_run q zs made.fuel).end) (made_line made ++ trace_text q plans (source_run q zs made.fuel) false) told tells result) e finishes in
         carried.OfAnswer _ _ (Done (ToMake made) s.source [] plans asks (made_texts contents made q plans s plans_made)) refl refl
         (finishes_source s.source q s.is (read_checked made_text s.source s.reads) (inlined_read made_text s.source s.reads) plans (made_words made) made.fuel false (made_line made) told tells result here)
@@ -122,7 +103,7 @@ module _ (words : List (List ℕ)) (contents : Contents) (made : GenWords) (asks
   pub run_counts : (q : Program) (plans : List Plan) (numbers : List ℤ) (before now : ℕ) (result : Result ℕ CrewFail) → numbers ≡ made_words made → ReadsAs made_text (Ok q) → MakesPlans q made.options None plans →
       OnOk result (now ≡ before + committed_in_all q plans (source_run q numbers made.fuel)) → IfOk result (IsCounted words contents before now)
   run_counts q plans numbers before now (Ok status) e read plans_made h =
-      let s = source_of made_text q read in
+      let s = source_of (Reads made_text) q read in
       λ other spent asked some end. (
         committed_in_all (expand s.source) plans (source_run (expand s.source) (made_words made) made.fuel),
         OfRun (ToMake made) s.source [] plans made.fuel asks (made_texts contents made q plans s plans_made) refl,

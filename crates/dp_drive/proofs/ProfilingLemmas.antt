@@ -15,7 +15,7 @@ use Rattle.dp_drive.specs.declared.load.Loaded.TheVariants.{Text, Refused, Faile
 use Rattle.dp_drive.specs.declared.refusal.Refusal.{Refusal}
 use Rattle.dp_drive.specs.declared.refusal.Role.TheVariants as role
 use Rattle.dp_drive.specs.Refusal.{refusal_line, refusal_status, failed_read_line}
-use Rattle.dp_drive.specs.Loading.{Gives, LoadsProgram}
+use Rattle.dp_drive.specs.Loading.{Gives, LoadsProgram, ReadsProgram}
 use Rattle.dp_drive.specs.RunText.{status_of}
 use Rattle.dp_drive.specs.Roles.{ByInput, Contents, Input, NamedProgram, NoPlans, ProgramOf}
 use Rattle.dp_drive.specs.Answer.{Done, OfInput}
@@ -29,8 +29,8 @@ use Rattle.dp_drive.proofs.accepted.SameText.{same_end}
 
 module _ (words : List (List ℕ)) (contents : Contents) (faults after : ℕ) (failed fails : Names) (told tells : Option (List ℕ)) (result : Result ℕ CrewFail) where
   module _ (profiling : Profiling) (asks : Asks words (ToProfile profiling)) (q : Program) (read : LoadsProgram contents profiling.program (Ok q)) where
-    s : Source contents profiling.program q
-    s = source_of contents profiling.program q read
+    s : Source (ReadsProgram contents profiling.program) q
+    s = source_of (ReadsProgram contents profiling.program) q read
 
     program : ProgramOf contents (Some profiling.program) (Ok s.source)
     program = NamedProgram profiling.program s.reads.text (Ok s.source) s.reads.held s.reads.reads

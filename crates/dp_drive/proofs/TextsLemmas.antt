@@ -19,7 +19,7 @@ use Rattle.dp_drive.specs.declared.load.Loaded.TheVariants.{Text, Refused, Faile
 use Rattle.dp_drive.specs.declared.texts.Texts.TheVariants as texts
 use Rattle.dp_drive.specs.Roles.{Contents, ReadsInput, Input, Named, Profiled, NamedProfile, Plans, Automatic, ProfileRefused, Planned, some_read}
 use Rattle.dp_drive.specs.Answer.{named_in, role_of}
-use Rattle.dp_drive.specs.Program.{expanded}
+use Rattle.dp_drive.specs.Program.{Expands, expanded}
 use Rattle.dp_drive.specs.Loading.{ReadsProgram, LoadsProgram, LoadsPlans, LoadsProfile, Loads, FaultsAfterLoad, names_after, Gives}
 use Rattle.dp_drive.specs.steps.Carried.{Names, with_name, LoadsTexts, Loaded as LoadedTexts, ProgramRefused, InputRefused, PlansRefused, ProgramFailed, InputFailed, PlansFailed}
 
@@ -74,25 +74,26 @@ module _ (contents : Contents) (p : Program) (options : PlanOptions) (name : Opt
   pub least_refused : (refusal : Refusal) → CountsGive (Refused refusal) → LeastGive (Refused refusal)
   least_refused refusal g = (ProfileRefused name refusal g.0, g.1, g.2)
 
--- the program that a loaded one is the expansion of
-pub record Source (contents : Contents) (name : List ℕ) (q : Program) : Type 0 where
+-- the program that this one is the expansion of
+pub record Source (Read : Result Program Refusal → Type 0) (q : Program) : Type 0 where
   pub source : Program
-  pub reads : ReadsProgram contents name (Ok source)
+  pub reads : Read (Ok source)
   pub is : q ≡ expand source
 
-pub source_of : (contents : Contents) (name : List ℕ) (q : Program) → LoadsProgram contents name (Ok q) → Source contents name q
-source_of contents name q h = by h.source h.reads h.is
-  where
-    by : (o : Result Program Refusal) → ReadsProgram contents name o → Ok q ≡ expanded o → Source contents name q
-    by (Ok p) reads is = record { source = p; reads = reads; is = cc }
-    by (Err refusal) reads is = absurd (cc)
+module _ (Read : Result Program Refusal → Type 0) where
+  pub source_of : (q : Program) → Expands Read (Ok q) → Source Read q
+  source_of q h = by h.source h.reads h.is
+    where
+      by : (o : Result Program Refusal) → Read o → Ok q ≡ expanded o → Source Read q
+      by (Ok p) reads is = record { source = p; reads = reads; is = cc is }
+      by (Err refusal) reads is = absurd (cc is)
 
-pub refusal_read : (contents : Contents) (name : List ℕ) (refusal : Refusal) → LoadsProgram contents name (Err refusal) → ReadsProgram contents name (Err refusal)
-refusal_read contents name refusal h = by h.source h.reads h.is
-  where
-    by : (o : Result Program Refusal) → ReadsProgram contents name o → Err refusal ≡ expanded o → ReadsProgram contents name (Err refusal)
-    by (Ok p) reads is = absurd (cc)
-    by (Err other) reads is = let e : other ≡ refusal = cc in subst (λ (x : Refusal). ReadsProgram contents name (Err x)) e reads
+  pub refusal_read : (refusal : Refusal) → Expands Read (Err refusal) → Read (Err refusal)
+  refusal_read refusal h = by h.source h.reads h.is
+    where
+      by : (o : Result Program Refusal) → Read o → Err refusal ≡ expanded o → Read (Err refusal)
+      by (Ok p) reads is = absurd (cc is)
+      by (Err other) reads is = let e : other ≡ refusal = cc is in subst (λ (x : Refusal). Read (Err x)) e reads
 
 -- what a load gave, where it gave something
 pub given : {X E : Type 0} (P : X → Type 0) (r : Result X E) (x : X) → r ≡ Ok x → IfOk r P → P x
@@ -103,14 +104,14 @@ module _ (contents : Contents) (run : Run) (faults one : ℕ) (failed names : Na
   ProgramGives = Gives (LoadsProgram contents run.program) (Some run.program) faults one failed names
 
   pub program_refused : (refusal : Refusal) → ProgramGives (Refused refusal) → LoadsTexts contents run faults one failed names (texts.Refused refusal)
-  program_refused refusal g = ProgramRefused refusal (refusal_read contents run.program refusal g.0) g.1 g.2
+  program_refused refusal g = ProgramRefused refusal (refusal_read (ReadsProgram contents run.program) refusal g.0) g.1 g.2
 
   pub program_failed : ProgramGives Failed → LoadsTexts contents run faults one failed names (texts.Failed role.Program)
   program_failed g = let same : run.program ≡ g.0 = cc g.1 in ProgramFailed g.2 (g.3 ∙ ap (λ (n : List ℕ). with_name n failed) (sym same))
 
   module _ (two : ℕ) (more : Names) (q : Program) (g : ProgramGives (Text q)) where
-    s : Source contents run.program q
-    s = source_of contents run.program q g.0
+    s : Source (ReadsProgram contents run.program) q
+    s = source_of (ReadsProgram contents run.program) q g.0
 
     abbrev pub InputGives : Loaded (List ℤ) → Type 0
     InputGives = Gives (Input contents run.input) run.input one two names more

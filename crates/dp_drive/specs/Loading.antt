@@ -6,7 +6,7 @@ use Rattle.dp_drive.specs.declared.refusal.Refusal.{Refusal}
 use Rattle.dp_drive.specs.declared.load.Loaded.{Loaded}
 use Rattle.dp_drive.specs.declared.load.Loaded.TheVariants.{Text, Refused, Failed}
 use Rattle.dp_drive.specs.Roles.{Contents, Holds}
-use Rattle.dp_drive.specs.Program.{Reads, expanded}
+use Rattle.dp_drive.specs.Program.{Reads, Expands}
 use Rattle.dp_plan.specs.declared.Plan.{Plan}
 use Rattle.dp_drive.specs.Plans.{ReadsPlans}
 use Rattle.dp_profile.specs.declared.Profile.{Profile}
@@ -18,11 +18,9 @@ pub record ReadsProgram (contents : Contents) (name : List ℕ) (read : Result T
   pub held : Holds contents name text
   pub reads : Reads text read
 
--- what is run for it: that program with its calls expanded, or its refusal
-pub record LoadsProgram (contents : Contents) (name : List ℕ) (read : Result Tree Refusal) : Type 0 where
-  pub source : Result Tree Refusal
-  pub reads : ReadsProgram contents name source
-  pub is : read ≡ expanded source
+-- what is run for it, or its refusal
+abbrev pub LoadsProgram : Contents → List ℕ → Result Tree Refusal → Type 0
+LoadsProgram contents name = Expands (ReadsProgram contents name)
 
 -- what a text of plans under the name is read as
 pub record LoadsPlans (contents : Contents) (p : Tree) (name : List ℕ) (read : Result (List Plan) Refusal) : Type 0 where

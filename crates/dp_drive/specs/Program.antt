@@ -58,8 +58,12 @@ abbrev pub expanded : Result Program Refusal → Result Program Refusal
 expanded (Ok p) = Ok (expand p)
 expanded (Err refusal) = Err refusal
 
--- the text is read as a program whose expansion this is, or it is refused so
-pub record ReadsAs (text : List ℕ) (read : Result Program Refusal) : Type 0 where
+-- a program that is read so has this expansion, or it is refused so
+pub record Expands (Read : Result Program Refusal → Type 0) (read : Result Program Refusal) : Type 0 where
   pub source : Result Program Refusal
-  pub reads : Reads text source
+  pub reads : Read source
   pub is : read ≡ expanded source
+
+-- what is run for the text, or its refusal
+abbrev pub ReadsAs : List ℕ → Result Program Refusal → Type 0
+ReadsAs text = Expands (Reads text)

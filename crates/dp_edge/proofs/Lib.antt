@@ -1,4 +1,3 @@
-pub mod Digits
 pub mod Inputs
 pub mod KnownBytes
 pub mod Words

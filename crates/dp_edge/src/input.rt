@@ -1,11 +1,11 @@
 //! The reader of input texts.
-ghost use Rattle.std.specs.Prelude.{◌≡◌, ℕ, ◌+◌, ◌<◌, ◌≤◌, ◌^◌, ◌∷◌, [], not, length, IfSome, MatchOption};
+ghost use Rattle.std.specs.Prelude.{◌≡◌, ◌+◌, ◌<◌, ◌≤◌, ◌∷◌, [], not, length, IfSome, MatchOption};
 ghost use Rattle.std.specs.List.{position};
 ghost use Rattle.dp_edge.specs.Input.{is_blank, words, number_of, numbers_at, numbers_of, AnswersInput};
-ghost use Rattle.dp_edge.specs.Digits.{digit_after, magnitude_of};
+ghost use Rattle.dp_edge.specs.Digits.{magnitude_of};
 
 use dp_base::limits::{COUNTED, INPUT_WORDS};
-use dp_base::{NoMemory, Row};
+use dp_base::{NoMemory, Row, value_upto};
 use std::alloc::Global;
 
 /// Why a text is no input.
@@ -71,29 +71,14 @@ fn count_words(text: &[u8]) -> usize
     count
 }
 
-// The number with one digit more, where it lies in 64 bits without a sign.
-fn with_digit(number: u64, digit: u8) -> Option<u64>
-    ensures { result ≡ digit_after number digit }
-{
-    if !digit.is_ascii_digit() {
-        return None;
-    }
-    number.checked_mul(10)?.checked_add((digit - b'0') as u64)
-}
-
-// The number that digits write, where it lies in 64 bits without a sign.
-#[tactic(auto, using(crate::proofs::Digits::magnitude_lost, crate::proofs::Digits::magnitude_found))]
+// The number that one or more digits write, where it lies in 64 bits without a sign.
 fn magnitude(digits: &[u8]) -> Option<u64>
     ensures { result ≡ magnitude_of digits.now }
 {
     if digits.is_empty() {
         return None;
     }
-    let mut number = 0;
-    'digits: for digit in digits {
-        number = with_digit(number, *digit)?;
-    }
-    Some(number)
+    value_upto(u64::MAX, digits)
 }
 
 fn number(word: &[u8]) -> Option<i64>

@@ -3,6 +3,7 @@ use Rattle.std.proofs.Common.{◌≡◌, refl, sym, ap, ◌∙◌, ℕ, zero, su
 use Rattle.std.specs.List.{list_all}
 use Rattle.std.proofs.lemmas.Bool.{ltb-false, lt-ltb}
 use Rattle.dp_base.specs.declared.Quantity.TheVariants.{InlinedSize, RegionSites}
+use Rattle.dp_base.specs.Counts.{reported}
 use Rattle.dp_tree.specs.declared.RegionInfo.{RegionInfo}
 use Rattle.dp_tree.specs.declared.Stmt.{Stmt, Row_of-Stmt, end_of-Stmt, more_of-Stmt}
 use Rattle.dp_tree.specs.declared.Stmt.TheVariants as stmt
@@ -20,11 +21,11 @@ use Rattle.dp_calls.specs.Expand.{Piece, expand, expand_one, expand_rows, expand
 use Rattle.dp_calls.proofs.InlinedLaws.{expanded_is_inlined}
 use Rattle.dp_calls.proofs.SiteLaws.{is_site, Listed, listed_parts, grows, all_listed}
 use Rattle.dp_calls.proofs.PlainLaws.{inner_rows, plain_one, plain_within}
+use Rattle.dp_calls.proofs.CheckedTexts.{scoped_both}
 use Rattle.dp_inline.specs.declared.fail.InlineFail.{InlineFail}
 use Rattle.dp_inline.specs.declared.fail.InlineFail.TheVariants.{Limit}
 use Rattle.dp_inline.specs.Size.{size_one, size_rows, size_list, size_within, inlined_size, region_size}
-use Rattle.dp_inline.specs.InlineAnswer.{reported, unless, too_large, first_large_region, inline_answer}
-use Rattle.dp_inline.proofs.SizeForms.{scopes}
+use Rattle.dp_inline.specs.InlineAnswer.{unless, too_large, first_large_region, inline_answer}
 use Rattle.dp_inline.proofs.SiteCount.{count_rows, count_within, sites_counted}
 
 -- a count in which a call itself counts nothing is the smaller one
@@ -123,7 +124,7 @@ module _ (p : Program) (checked : IsChecked p) where
 
   few_in_regions : first_large_region p p.main ≡ None → list_all is_small_region (expand p).regions ≡ true
   few_in_regions none =
-      let whole = small_list p.main 1 (global_numbers p) [] (first_tables p) checked.regions (all_listed p checked).0 (scopes 0 p checked).1 none in
+      let whole = small_list p.main 1 (global_numbers p) [] (first_tables p) checked.regions (all_listed p checked).0 (scoped_both p checked).1 none in
       ap (list_all is_small_region) whole.1.0 ∙ whole.1.1
 
   -- the expansion is as later parts ask for it

@@ -3,18 +3,20 @@ use Rattle.std.proofs.Common.{◌≡◌, refl, sym, ap, ◌∙◌, ℕ, ◌≤�
 use Rattle.std.proofs.lemmas.Bool.{lt-ltb, le-ltb}
 use Rattle.std.proofs.lemmas.Bool.Decides.{nat_tests}
 use Rattle.dp_base.specs.declared.Quantity.TheVariants.{InlinedSize, RegionSites}
+use Rattle.dp_base.specs.Counts.{reported}
 use Rattle.dp_tree.specs.declared.Stmt.{Stmt}
 use Rattle.dp_tree.specs.declared.Program.{Program}
 use Rattle.dp_tree.specs.Numbering.{is_marked}
 use Rattle.dp_tree.specs.Scoping.{in_scope, all_in_scope, seen_behind, global_numbers}
 use Rattle.dp_tree.specs.Checked.{IsChecked}
 use Rattle.dp_tree.proofs.Heads.{and_true}
+use Rattle.dp_calls.proofs.CheckedTexts.{scoped_both}
 use Rattle.dp_inline.specs.declared.fail.InlineFail.{InlineFail}
 use Rattle.dp_inline.specs.declared.fail.InlineFail.TheVariants.{Limit}
 use Rattle.dp_inline.specs.Size.{size_one, size_within, counts_if, inlined_size, region_size}
-use Rattle.dp_inline.specs.InlineAnswer.{reported, unless, too_large, first_large_region}
+use Rattle.dp_inline.specs.InlineAnswer.{unless, too_large, first_large_region}
 use Rattle.dp_inline.specs.steps.Counted.{counted, counted_one, counted_list, counted_region, first_large}
-use Rattle.dp_inline.proofs.SizeForms.{all_sizes, scopes, sizes_agree, main_size, agree_one}
+use Rattle.dp_inline.proofs.SizeForms.{all_sizes, sizes_agree, main_size, agree_one}
 
 -- both are above a limit or neither is, if they are reported alike
 same_test : (m n : ℕ) → reported m ≡ reported n → nat_lt 1024 m ≡ nat_lt 1024 n
@@ -58,7 +60,7 @@ module _ (p : Program) (checked : IsChecked p) where
       out false n o = refl
 
   pub large_regions : first_large_region p p.main ≡ limit_of (first_large (all_sizes 0 p) p.main)
-  large_regions = regions_alike (global_numbers p) p.main (scopes 0 p checked).1
+  large_regions = regions_alike (global_numbers p) p.main (scoped_both p checked).1
 
 -- what is answered without a region that is too large
 pub answers : {X : Type 0} (first second : Option InlineFail) (x : Result X InlineFail) → first ≡ None → unless first (unless second x) ≡ unless second x

@@ -19,8 +19,8 @@ use Rattle.dp_calls.specs.Renaming.{Renamed, named_in}
 use Rattle.dp_calls.specs.Tables.{Tables, first_tables, with_local, with_site, with_source_site}
 use Rattle.dp_calls.specs.Expand.{Calls, expand, bindings, declared_in, is_known, expand_one, expand_rows, expand_list, calls_within}
 use Rattle.dp_calls.proofs.SiteLaws.{is_site, Listed, listed_parts, grows, declared_sites, listed_body, all_listed}
+use Rattle.dp_calls.proofs.CheckedTexts.{scoped_both}
 use Rattle.dp_inline.specs.Size.{size_one, size_rows, size_list, size_within}
-use Rattle.dp_inline.proofs.SizeForms.{scopes}
 
 module _ (p : Program) where
   count_bindings : (r line : ℕ) (caller : List Renamed) (params : List VarId) (args : List Expr) (names : List Renamed) (t : Tables) → length args ≡ length params
@@ -110,11 +110,11 @@ module _ (p : Program) where
     pub count_within : (depth f r : ℕ) (names : List Renamed) (t : Tables) → length (calls_within p depth f r names t).tables.sites ≡ length t.sites + size_within p 0 depth f
     count_within zero f r names t = omega arith
     count_within (suc depth) f r names t =
-        let body = scoped_body 0 p.functions f (scopes 0 p checked).0 in
+        let body = scoped_body 0 p.functions f (scoped_both p checked).0 in
         count_list (calls_within p depth) (size_within p 0 depth) (count_within depth) r (body_in (slice_get p.functions f)) names t (listed_body p p.functions f (all_listed p checked).1) 0 body.0 body.1.0 body.1.1
 
     pub sites_counted : length (expand p).sites ≡ size_list 0 (size_within p 0 (length p.functions)) p.main
     sites_counted =
         let e = count_list (calls_within p (length p.functions)) (size_within p 0 (length p.functions)) (count_within (length p.functions)) 0 p.main [] (first_tables p) (all_listed p checked).0
-        0 (length p.functions) (global_numbers p) (scopes 0 p checked).1 in
+        0 (length p.functions) (global_numbers p) (scoped_both p checked).1 in
         omega (arith, e)

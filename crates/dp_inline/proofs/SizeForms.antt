@@ -2,15 +2,17 @@
 use Rattle.std.proofs.Common.{◌≡◌, refl, ap, ap₂, ℕ, ◌+◌, List, [], ◌∷◌, length, Ok, sym, ◌∙◌, zero, suc, ◌<◌, ◌==◌, true, ◌&&◌, ◌++◌, length-append, Option, Some, slice_get, nat_lt, arith, inl, inr}
 use Rattle.dp_base.specs.declared.SiteId.{SiteId}
 use Rattle.dp_base.specs.declared.VarId.{VarId}
+use Rattle.dp_base.specs.Counts.{reported}
 use Rattle.dp_tree.specs.declared.Expr.{Expr}
 use Rattle.dp_tree.specs.declared.Stmt.{Stmt, Row_of-Stmt, end_of-Stmt, more_of-Stmt}
 use Rattle.dp_tree.specs.declared.Stmt.TheVariants as tree
 use Rattle.dp_tree.specs.declared.Program.{Program}
 use Rattle.dp_tree.proofs.Heads.{opened_statement, and_true}
 use Rattle.dp_calls.specs.Expand.{expand}
+use Rattle.dp_calls.proofs.CheckedTexts.{scoped_both}
 use Rattle.dp_inline.specs.Size.{size_one, size_rows, size_list, size_within}
 use Rattle.dp_inline.specs.steps.Counted.{counted, counted_one, counted_list, number_in, counted_more}
-use Rattle.dp_inline.specs.InlineAnswer.{unless, inline_answer, too_large, first_large_region, reported}
+use Rattle.dp_inline.specs.InlineAnswer.{unless, inline_answer, too_large, first_large_region}
 use Rattle.std.specs.List.{list_all}
 use Rattle.std.proofs.lemmas.Bool.{ltb-true}
 use Rattle.std.proofs.lemmas.Bool.Decides.{eqb_tells}
@@ -171,13 +173,10 @@ module _ (each : ℕ) (p : Program) where
   all_sizes = counted_more each [] p.functions
 
   module _ (checked : IsChecked p) where
-    pub scopes : (functions_in_scope p 0 p.functions ≡ true) × (all_in_scope p 0 (length p.functions) (global_numbers p) p.main ≡ true)
-    scopes = and_true (functions_in_scope p 0 p.functions) (all_in_scope p 0 (length p.functions) (global_numbers p) p.main) checked.scoped
-
     pub sizes_agree : (g : ℕ) → g < length p.functions → reported (counted all_sizes g) ≡ reported (size_within p each (length p.functions) g)
     sizes_agree g less =
-        counts_all 0 [] p.functions refl (λ k. let e : 0 + k ≡ k = omega arith in ap (slice_get p.functions) e) scopes.0 (λ k none. absurd (omega arith)) g (omega arith) (length p.functions) less
+        counts_all 0 [] p.functions refl (λ k. let e : 0 + k ≡ k = omega arith in ap (slice_get p.functions) e) (scoped_both p checked).0 (λ k none. absurd (omega arith)) g (omega arith) (length p.functions) less
 
     pub main_size : reported (counted_list each all_sizes p.main) ≡ reported (size_list each (size_within p each (length p.functions)) p.main)
     unfolding counted_list
-    main_size = agree_list each p (length p.functions) (counted all_sizes) (size_within p each (length p.functions)) sizes_agree 0 (global_numbers p) p.main scopes.1
+    main_size = agree_list each p (length p.functions) (counted all_sizes) (size_within p each (length p.functions)) sizes_agree 0 (global_numbers p) p.main (scoped_both p checked).1

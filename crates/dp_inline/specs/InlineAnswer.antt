@@ -1,17 +1,14 @@
 -- What is answered for a program: that it is too large, or its expansion.
-use Rattle.std.specs.Prelude.{ℕ, min, ◌≡◌, ◌≢◌, List, [], ◌∷◌, Option, Some, None, Result, Ok, Err, nat_lt, if◌then◌else◌}
+use Rattle.std.specs.Prelude.{◌≡◌, ◌≢◌, List, [], ◌∷◌, Option, Some, None, Result, Ok, Err, nat_lt, if◌then◌else◌}
 use Rattle.dp_base.specs.declared.Quantity.TheVariants.{InlinedSize, RegionSites}
-use Rattle.dp_base.specs.declared.limits.TheConstants.{COUNTED, INLINED_SIZE, REGION_SITES}
+use Rattle.dp_base.specs.declared.limits.TheConstants.{INLINED_SIZE, REGION_SITES}
+use Rattle.dp_base.specs.Counts.{reported}
 use Rattle.dp_tree.specs.declared.Program.{Program}
 use Rattle.dp_tree.specs.declared.Stmt.{Stmt}
 use Rattle.dp_calls.specs.Expand.{expand}
 use Rattle.dp_inline.specs.declared.fail.InlineFail.{InlineFail}
 use Rattle.dp_inline.specs.declared.fail.InlineFail.TheVariants.{Limit, NoMemory}
 use Rattle.dp_inline.specs.Size.{inlined_size, region_size}
-
--- a count as it is reported
-abbrev pub reported : ℕ → ℕ
-reported n = min n COUNTED
 
 -- the program's sites and expanded calls are too many
 abbrev pub too_large : Program → Option InlineFail

@@ -1,24 +1,16 @@
 //! How large the expanded program is, counted without making it.
 
-ghost use Rattle.std.specs.Prelude.{◌≡◌, ◌≤◌, ◌+◌, [], min, IfOk, Ok};
+ghost use Rattle.std.specs.Prelude.{◌≡◌, ◌≤◌, [], min, IfOk, Ok};
+ghost use Rattle.dp_base.specs.Counts.{reported};
 ghost use Rattle.dp_tree.specs.Checked.{IsChecked};
-ghost use Rattle.dp_inline.specs.InlineAnswer.{Gives, reported, unless, too_large, first_large_region};
+ghost use Rattle.dp_inline.specs.InlineAnswer.{Gives, unless, too_large, first_large_region};
 ghost use Rattle.dp_inline.specs.steps.Counted.{counted, counted_one, counted_list, counted_more, counted_region, first_large};
 
 use crate::InlineFail;
-use dp_base::limits::{COUNTED, INLINED_SIZE, REGION_SITES};
+use dp_base::limits::{COUNTED, INLINED_SIZE, REGION_SITES, counted_sum};
 use dp_base::{NoMemory, Quantity, Row};
 use dp_tree::{Program, Stmt};
 use std::alloc::Global;
-
-/// The sum of two counts, as it is reported.
-fn sum(a: u32, b: u32) -> u32
-    requires left { a ≤ COUNTED }
-    requires right { b ≤ COUNTED }
-    ensures { result ≡ min (a + b) COUNTED }
-{
-    (a + b).min(COUNTED)
-}
 
 /// The number of arguments, as it is reported.
 fn bindings(args: usize) -> u32
@@ -51,20 +43,20 @@ fn size_of(each: u32, sizes: &[u32], s: &Stmt) -> u32
             then_part,
             else_part,
             ..
-        } => sum(
+        } => counted_sum(
             1,
-            sum(
+            counted_sum(
                 size_of_all(each, sizes, then_part.as_slice()),
                 size_of_all(each, sizes, else_part.as_slice()),
             ),
         ),
-        Stmt::While { body, .. } | Stmt::Region { body, .. } => sum(
+        Stmt::While { body, .. } | Stmt::Region { body, .. } => counted_sum(
             1,
             size_of_all(each, sizes, body.as_slice()),
         ),
-        Stmt::Call { function, args, .. } => sum(
+        Stmt::Call { function, args, .. } => counted_sum(
             each,
-            sum(bindings(args.len()), size_at(sizes, *function)),
+            counted_sum(bindings(args.len()), size_at(sizes, *function)),
         ),
     }
 }
@@ -78,7 +70,7 @@ fn size_of_all(each: u32, sizes: &[u32], all: &[Stmt]) -> u32
 {
     let mut size = 0;
     for s in all {
-        size = sum(size, size_of(each, sizes, s));
+        size = counted_sum(size, size_of(each, sizes, s));
     }
     size
 }

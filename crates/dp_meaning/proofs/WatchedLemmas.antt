@@ -1,13 +1,13 @@
 -- What a watched step is of the run.
-use Rattle.dp_meaning.proofs.Names.{Spoiled, ◌≡◌, ◌≢◌, refl, sym, ◌∙◌, ap, subst, append-nil, append_assoc, ℕ, zero, suc, ◌<◌, Bool, false, true, List, [], ◌∷◌, ◌++◌, ℤ, arith, End, Fault, SiteId, Stmt, out-Stmt, Stmt-F, Program, Load, Config, Step, Faulted, step, Run, run_of, ended, prints, Told, Loads, Seen, Turn, MachineState, fuel_left, rest_of_run, part_from, part_of, TurnTaken, notes, cells_of, effect_seen, effect_prints, sight_prints, Tells, Ends, WatchSpoiled, WatchedStep}
+use Rattle.dp_meaning.proofs.Names.{Spoiled, ◌≡◌, ◌≢◌, refl, sym, ◌∙◌, ap, subst, append-nil, append_assoc, ℕ, zero, suc, ◌<◌, Bool, false, true, List, [], ◌∷◌, ◌++◌, ℤ, arith, End, Fault, SiteId, Stmt, out-Stmt, Stmt-F, Program, Load, Config, Step, Faulted, step, Run, run_of, ended, prints, Told, Loads, Seen, Turn, MachineState, fuel_left, rest_of_run, part_from, part_of, TurnTaken, notes, cells_of, effect_prints, sight_prints, Tells, Ends, WatchSpoiled, WatchedStep}
 use Rattle.dp_meaning.proofs.StretchLemmas.{wanting, already_spoiled}
 use Rattle.dp_meaning.specs.declared.ends.Part.TheVariants as part
 use Rattle.dp_meaning.specs.declared.turn.Turn.TheVariants as turn
 use Rattle.dp_base.specs.declared.End.TheVariants as how
 use Rattle.dp_tree.specs.declared.Stmt.TheOpen.{Region}
-use Rattle.dp_tree.specs.Event as event
 use Rattle.dp_meaning.specs.declared.sight.Sight.TheVariants as sight
 use Rattle.dp_meaning.proofs.MovedLemmas.{moved_step}
+use Rattle.dp_meaning.proofs.StepLemmas.{printed_so}
 use Rattle.dp_meaning.proofs.StopLemmas.{spent_fuel, faults_next}
 
 -- the cells that were told stand behind the others
@@ -64,14 +64,9 @@ stepped_so m new left site seen before after old loads less (taken, shows) tells
       rest = taken.rest ∙ (λ i. record m { config = new.config; steps = sym (ap (λ (n : MachineState). n.steps) taken.rest) i; current = sym (ap (λ (n : MachineState). n.current) taken.rest) i });
     }
 
--- an event prints what its effect is seen to print
-effect_printed : (site : ℕ) (loads : List Load) (f : event.Effect) → prints (record { site = site; loads = loads; effect = f } ∷ []) ≡ effect_prints (effect_seen f)
-effect_printed site loads (event.Stored cell value) = refl
-effect_printed site loads _ = refl
-
 pub step_printed : (m new : MachineState) (left : Bool) (site : SiteId) (seen : Seen) (before after : List ℤ) → TurnTaken (turn.Made left site seen) m new before after → after ≡ before ++ sight_prints (sight.Step site seen)
 step_printed m new left site seen before after (taken, shows) =
-    taken.printed ∙ ap (λ xs. before ++ xs) (effect_printed taken.event.site taken.event.loads taken.event.effect ∙ ap effect_prints (sym shows.1))
+    taken.printed ∙ ap (λ xs. before ++ xs) (sym (printed_so taken.event.effect taken.event refl) ∙ ap effect_prints (sym shows.1))
 
 -- a step is to be made, which the fuel lets be made
 abbrev IsNext : MachineState → Type 0

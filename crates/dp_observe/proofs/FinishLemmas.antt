@@ -1,6 +1,7 @@
 -- What was counted in a whole run is what it shows.
 use Rattle.std.proofs.Common.{◌≡◌, refl, sym, ap, subst, ◌∙◌, ℕ, suc, ◌+◌, ◌*◌, ◌==◌, ◌&&◌, Bool, true, false, List, [], ◌∷◌, ◌++◌, map, count_by, length, Some, slice_get, arith}
 use Rattle.std.specs.List.{flat_map}
+use Rattle.dp_base.specs.Counts.{one_if}
 use Rattle.dp_tree.specs.declared.Program.{Program}
 use Rattle.dp_tree.specs.Step.{Event}
 use Rattle.dp_profile.specs.declared.Flow.{Flow}
@@ -12,7 +13,6 @@ use Rattle.dp_profile.specs.Observed.{backward, gives_nonzero, site_count, shown
 use Rattle.dp_observe.specs.declared.board.Board.{Board}
 use Rattle.dp_observe.specs.declared.counter.Counter.{Counter}
 use Rattle.dp_observe.specs.declared.tally.Tally.{Tally}
-use Rattle.dp_observe.specs.steps.Frames.{one_if}
 use Rattle.dp_observe.specs.steps.Columns.{at_column}
 use Rattle.dp_observe.specs.steps.Taken.{flows_of, flows_from, flows_taken, region_taken, regions_taken}
 use Rattle.dp_observe.specs.steps.Tracking.{TallyFits, CounterFits, BoardFits}

@@ -3,6 +3,7 @@ use Rattle.std.proofs.Common.{◌≡◌, refl, sym, ap, ◌∙◌, ℕ, zero, su
 use Rattle.std.specs.List.{flat_map}
 use Rattle.std.proofs.lemmas.Bool.{cases_Bool, lt-ltb}
 use Rattle.std.proofs.lemmas.List.Sums.{count_by-le-length}
+use Rattle.dp_base.specs.Counts.{one_if}
 use Rattle.dp_plan.proofs.EachLemmas.{each-lists}
 use Rattle.dp_tree.specs.declared.Program.{Program}
 use Rattle.dp_tree.specs.Inlined.{IsInlined}
@@ -14,7 +15,6 @@ use Rattle.dp_profile.specs.declared.sites.RegionSite.{RegionSite}
 use Rattle.dp_profile.specs.Sites.{regions}
 use Rattle.dp_profile.specs.ProfileText.{most_count, has_site, is_before, CountFits, CountsFit, FlowFits, Ascend, RegionFits, RegionsFit, ProfileFits}
 use Rattle.dp_profile.specs.Observed.{gives_nonzero, site_count, begins_iteration, last_store, is_local_cell, is_from, shown_by, shown_back, backward, flow_of, flows_between, flows_seen, region_seen, regions_seen, observed}
-use Rattle.dp_observe.specs.steps.Frames.{one_if}
 use Rattle.dp_observe.specs.Loads.{loads_made}
 use Rattle.dp_observe.specs.steps.Tracking.{InOrder}
 use Rattle.dp_observe.proofs.ApartLemmas.{Apart, regions_apart}

@@ -2,6 +2,7 @@
 use Rattle.std.proofs.Common.{◌≡◌, ◌≢◌, refl, sym, ap, subst, ◌∙◌, ℕ, zero, suc, ◌+◌, ◌-◌, ◌*◌, ◌≤◌, ◌<◌, ◌==◌, if◌then◌else◌, ◌&&◌, not, Bool, true, false, nat_le, List, [], ◌∷◌, cond, count_by, Some, None, slice_get, inl, inr, arith, eqb-true, eq-eqb}
 use Rattle.std.proofs.lemmas.Bool.{cases_Bool, leb-false}
 use Rattle.std.proofs.lemmas.List.Sums.{sum_by-cons}
+use Rattle.dp_base.specs.Counts.{one_if}
 use Rattle.dp_tree.specs.declared.Program.{Program}
 use Rattle.dp_tree.specs.Eval.{Load}
 use Rattle.dp_tree.specs.Step.{Event}
@@ -12,7 +13,7 @@ use Rattle.dp_profile.specs.Observed.{begins_iteration, last_store, is_from, is_
 use Rattle.dp_observe.specs.declared.frame.Frame.{Frame}
 use Rattle.dp_observe.specs.declared.frame.Writer.{Writer}
 use Rattle.dp_observe.specs.declared.sparse.Sparse.{Sparse}
-use Rattle.dp_observe.specs.steps.Frames.{one_if, column, column_of, hits, loads_at}
+use Rattle.dp_observe.specs.steps.Frames.{column, column_of, hits, loads_at}
 use Rattle.dp_observe.specs.Sparse.{at}
 use Rattle.dp_observe.specs.steps.Tracking.{writer_of, since, begun, InOrder}
 use Rattle.dp_observe.proofs.FrameLemmas.{source_of, writer_own, load_found}

@@ -1,5 +1,6 @@
 -- What was counted at a site, after one event more.
 use Rattle.std.proofs.Common.{◌≡◌, refl, sym, ap, ◌∙◌, ℕ, ◌+◌, ◌*◌, ◌==◌, ◌&&◌, Bool, true, false, List, ◌∷◌, count_by, arith}
+use Rattle.dp_base.specs.Counts.{one_if}
 use Rattle.dp_tree.specs.declared.Program.{Program}
 use Rattle.dp_tree.specs.Step.{Event, Effect, Stored, Printed, Decided, Tried}
 use Rattle.dp_meaning.specs.Watched.{cells_of, effect_seen}
@@ -12,7 +13,7 @@ use Rattle.dp_observe.specs.declared.frame.Writer.{Writer}
 use Rattle.dp_observe.specs.declared.sparse.Sparse.{Sparse}
 use Rattle.dp_observe.specs.declared.tally.Tally.{Tally}
 use Rattle.dp_observe.specs.steps.Counting.{TallyCounts}
-use Rattle.dp_observe.specs.steps.Frames.{one_if, is_nonzero, counted, loads_at}
+use Rattle.dp_observe.specs.steps.Frames.{is_nonzero, counted, loads_at}
 use Rattle.dp_observe.specs.Sparse.{at}
 use Rattle.dp_observe.specs.steps.Tracking.{writer_of, since, begun, InOrder, TallyFits}
 use Rattle.dp_observe.proofs.HitLemmas.{count_cons, loads_shown}

@@ -1,5 +1,6 @@
 //! What was counted at one site.
 ghost use Rattle.std.specs.Prelude.{◌≡◌, ℕ, ◌+◌, ◌≤◌, ◌⊎◌, ◌^◌, true, IfOk, OnOk, OnErr};
+ghost use Rattle.dp_base.specs.Counts.{one_if};
 ghost use Rattle.dp_observe.specs.steps.Frames as definition;
 ghost use Rattle.dp_observe.specs.steps.Columns.{at_column};
 
@@ -70,7 +71,7 @@ impl Tally {
     /// Counts a load that reads a store of this column.
     fn loaded(&mut self, column: Option<usize>) -> Result<(), NoMemory>
         ensures count { OnOk result (self.new.count ≡ self.old.count) }
-        ensures shown { OnOk result ((k : ℕ) → at_column self.new.shown k ≡ at_column self.old.shown k + definition.one_if (definition.hits column k)) }
+        ensures shown { OnOk result ((k : ℕ) → at_column self.new.shown k ≡ at_column self.old.shown k + one_if (definition.hits column k)) }
     {
         if let Some(column) = column {
             self.shown.add_one(column)?;

@@ -17,7 +17,7 @@ use Rattle.dp_parse.specs.steps.Expressions as expr
 use Rattle.dp_parse.specs.steps.Heads as read
 use Rattle.dp_parse.proofs.HeadReads.{ends_at, assign_bracket, assign_other, simple_first, first_int, first_other, reads_simple, reads_first, reads_head}
 use Rattle.dp_parse.proofs.Stuck.{grouped, alone_by}
-use Rattle.dp_parse.proofs.Going.{Goes, GoesParts, by, within, no_goes, word_first}
+use Rattle.dp_parse.proofs.Going.{Goes, by, within, no_goes, word_first}
 use Rattle.dp_parse.proofs.Beyond.{Beyond, Shrinks, same_beyond, Reading, Inner, part_and, word_and, name_and, ends, same_reading}
 use Rattle.dp_parse.proofs.BeyondExpressions.{whole_shrinks, whole_goes, expr_before}
 

@@ -8,7 +8,7 @@ use Rattle.dp_plan.specs.declared.StageKind.{StageKind}
 use Rattle.dp_plan.specs.declared.Plan.{Plan}
 use Rattle.dp_plan.specs.Stage.{first_site, stage_of}
 use Rattle.dp_plan.specs.CheckedTable.{with_table}
-use Rattle.dp_plan.specs.Written.{WrittenPlan, assumption_at, has, kind_in, plan_before_table, plan_of, region_sites, written_of, written_stage}
+use Rattle.dp_plan.specs.Written.{WrittenPlan, assumption_at, has, plan_before_table, plan_of, region_sites, written_of, written_stage}
 use Rattle.dp_plan.specs.Enclosing.{region_ifs}
 use Rattle.dp_plan.specs.Rules.{assumed_site, is_no_if_or_again, occurs_again, site_of_condition}
 use Rattle.dp_plan.specs.Each.{AscendAbove, Each}

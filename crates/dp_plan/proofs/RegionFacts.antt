@@ -22,7 +22,7 @@ pub record InOrder (p : Program) (plan : Plan) : Type 0 where
   pub high : first_site p plan + length (region_sites p plan.region) ≤ 2 ^ 32
 
 module _ (p : Program) (inlined : IsInlined p) where
-  many : length (site_numbers_all p.main) ≡ length p.sites
+  pub many : length (site_numbers_all p.main) ≡ length p.sites
   many = ap length inlined.sites ∙ length-numbers_from 1 (length p.sites)
 
   pub few_regions : length p.regions < 2 ^ 32

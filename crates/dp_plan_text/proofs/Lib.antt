@@ -1,5 +1,4 @@
 pub mod rows
-pub mod Digits
 pub mod WordLemmas
 pub mod CutLemmas
 pub mod NumberText

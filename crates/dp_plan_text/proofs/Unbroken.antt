@@ -1,9 +1,9 @@
 -- Words without an LF, and the line that is cut behind one; the text of lines is cut into these lines.
 use Rattle.std.proofs.Common.{◌≡◌, refl, ap, ℕ, ◌<◌, ◌≤◌, ◌^◌, ◌==◌, Bool, true, false, not, ◌&&◌, nat_le, List, [], ◌∷◌, ◌++◌, decimal, rules, tests, ◌∙◌, map, codes, arith}
 use Rattle.std.specs.List.{list_all, flat_map}
+use Rattle.dp_base.specs.Digits.{is_digit}
 use Rattle.dp_plan.specs.Each.{Each, AscendAbove}
 use Rattle.dp_plan_text.specs.PlanText.{joined, onto_first, lines_of, kind_word, outcome_number, version_number, words_of, line_bytes}
-use Rattle.dp_plan_text.specs.Words.{is_digit}
 use Rattle.dp_plan_text.proofs.NumberText.{digits-decimal}
 use Rattle.dp_plan.specs.declared.StageKind.{StageKind}
 use Rattle.dp_plan.specs.declared.StageKind.TheVariants.{Seq, Par}

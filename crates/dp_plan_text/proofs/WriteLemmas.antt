@@ -2,6 +2,7 @@
 use Rattle.std.proofs.Common.{◌≡◌, ℕ, suc, ◌+◌, List, [], ◌∷◌, ◌++◌, map, codes, decimal, refl, sym, ap, ◌∙◌, append_assoc, append-nil, arith, Bool}
 use Rattle.std.specs.List.{flat_map}
 use Rattle.std.proofs.lemmas.Grind.{flat_map-append}
+use Rattle.dp_base.specs.Labels.{labelled, spaced}
 use Rattle.dp_tree.specs.declared.Assume.{Assume}
 use Rattle.dp_tree.specs.declared.Program.{Program}
 use Rattle.dp_plan.specs.declared.StageKind.{StageKind}
@@ -10,7 +11,7 @@ use Rattle.dp_plan_text.specs.declared.line.Line.TheVariants as line
 use Rattle.dp_plan.specs.Written.{region_sites, lines_from, written_of}
 use Rattle.dp_plan.specs.declared.WrittenStage.{WrittenStage}
 use Rattle.dp_plan_text.specs.PlanText.{kind_word, outcome_number, version_number, joined, line_bytes, region_lines}
-use Rattle.dp_plan_text.specs.WrittenText.{plans_text, line_text, plan_text, plan_texts, stage_at, stage_texts, assume_texts, labelled, spaced}
+use Rattle.dp_plan_text.specs.WrittenText.{plans_text, line_text, plan_text, plan_texts, stage_at, stage_texts, assume_texts}
 use Rattle.dp_plan.specs.GivenPlans.{version_of}
 
 -- a text that grew by three parts

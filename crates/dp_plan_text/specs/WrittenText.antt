@@ -1,5 +1,5 @@
 -- The text of plans as it is written.
-use Rattle.std.specs.Prelude.{ℕ, ◌+◌, ◌==◌, List, [], ◌∷◌, ◌++◌, map, filter, decimal}
+use Rattle.std.specs.Prelude.{ℕ, ◌+◌, ◌==◌, List, [], ◌∷◌, ◌++◌, map, filter}
 use Rattle.std.specs.List.{flat_map}
 use Rattle.dp_tree.specs.declared.Assume.{Assume}
 use Rattle.dp_tree.specs.declared.Program.{Program}
@@ -47,12 +47,3 @@ stage_texts p plan sites k (kind ∷ rest) = line_text (line.Stage (stage_at p p
 abbrev pub assume_texts : List Assume → List ℕ
 assume_texts [] = []
 assume_texts (a ∷ rest) = line_text (line.Assume a) ++ assume_texts rest
-
--- a label, and a number right after it
-unfoldable pub labelled : List ℕ → ℕ → List ℕ
-labelled label n = label ++ decimal n
-
--- each number behind a space
-abbrev pub spaced : List ℕ → List ℕ
-spaced [] = []
-spaced (n ∷ rest) = labelled (32 ∷ []) n ++ spaced rest

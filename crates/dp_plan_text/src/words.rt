@@ -5,6 +5,8 @@ ghost use Rattle.std.specs.Option.{option_copied};
 ghost use Rattle.std.specs.List.{position};
 ghost use Rattle.dp_plan_text.specs.Words as spec;
 
+use dp_base::value_upto;
+
 fn first_space(text: &[u8]) -> Option<usize>
     ensures { result ≡ position (λ byte. byte == 32) text.now }
 {
@@ -26,29 +28,6 @@ pub fn next_word(text: &[u8]) -> (&[u8], Option<&[u8]>)
     }
 }
 
-/// The number with one digit more, where it is at most `most`.
-fn with_digit(most: u64, number: u64, digit: u8) -> Option<u64>
-    ensures { result ≡ spec.digit_after most number digit }
-{
-    if !digit.is_ascii_digit() {
-        return None;
-    }
-    let next = number.checked_mul(10)?.checked_add((digit - b'0') as u64)?;
-    if next <= most { Some(next) } else { None }
-}
-
-#[tactic(auto, using(crate::proofs::Digits::value_lost, crate::proofs::Digits::value_found))]
-fn value(most: u64, digits: &[u8]) -> Option<u64>
-    ensures value { result ≡ spec.value_upto most digits.now }
-    ensures within { IfSome result (λ n. n ≤ most) }
-{
-    let mut number = 0;
-    'digits: for digit in digits {
-        number = with_digit(most, number, *digit)?;
-    }
-    Some(number)
-}
-
 fn is_plain(word: &[u8]) -> bool
     ensures { result ≡ spec.is_plain word.now }
 {
@@ -65,7 +44,7 @@ pub fn number_upto(most: u64, word: &[u8]) -> Option<u64>
     ensures within { IfSome result (λ n. n ≤ most) }
 {
     if is_plain(word) {
-        value(most, word)
+        value_upto(most, word)
     } else {
         None
     }

@@ -1,6 +1,7 @@
 //! Plans as a text.
 
 ghost use Rattle.std.specs.Prelude.{◌≡◌, ◌++◌, OnOk, IfOk};
+ghost use Rattle.dp_base.specs.Labels.{labelled, spaced};
 ghost use Rattle.dp_plan_text.specs.declared.line.Line.TheVariants as line;
 ghost use Rattle.dp_plan_text.specs.PlanText as plan_text;
 ghost use Rattle.dp_plan.specs.GivenPlans.{version_of};
@@ -50,9 +51,9 @@ fn version_number(proved: bool) -> u32
 }
 
 /// A label, and a number right after it.
-#[tactic(auto, unfolding(crate::specs::WrittenText::labelled))]
+#[tactic(auto, unfolding(dp_base::specs::Labels::labelled))]
 fn put_labelled(out: &mut Row<u8>, label: &[u8], n: u32) -> Result<(), NoMemory>
-    ensures { OnOk result (out.new ≡ out.old ++ text.labelled label.now n) }
+    ensures { OnOk result (out.new ≡ out.old ++ labelled label.now n) }
 {
     let mut digits = Buffer::new();
     out.extend_from_slice(label)?;
@@ -119,7 +120,7 @@ fn put_sites(
     sites: &[u32],
     stage: u64,
 ) -> Result<(), NoMemory>
-    ensures { OnOk result (out.new ≡ out.old ++ text.spaced (text.sites_at p.now plan.now stage sites.now)) }
+    ensures { OnOk result (out.new ≡ out.old ++ spaced (text.sites_at p.now plan.now stage sites.now)) }
 {
     for site in sites {
         if plan.stage(p, SiteId(*site)) as u64 == stage {

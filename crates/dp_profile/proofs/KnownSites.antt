@@ -9,11 +9,11 @@ use Rattle.dp_tree.specs.Inlined.{IsInlined}
 use Rattle.dp_tree.specs.Numbering.{is_marked, number_at, site_numbers, site_numbers_all}
 use Rattle.dp_tree.proofs.Asked.{asked_both}
 use Rattle.dp_plan.specs.Each.{Each}
+use Rattle.dp_plan.proofs.RegionFacts.{many}
 use Rattle.dp_plan.proofs.Ascent.{Ascends, ascends_split, ascends-numbers_from}
 use Rattle.dp_profile.specs.Sites.{RegionSite, site_at, sites, regions}
 use Rattle.dp_profile.proofs.LineComplete.{top}
 use Rattle.dp_profile.proofs.RunEnds.{SmallSite}
-use Rattle.dp_tree.proofs.NumberLists.{length-numbers_from}
 
 abbrev pub number : RegionSite → ℕ
 number s = s.site.0
@@ -68,11 +68,8 @@ fewer (x ∷ rest) = by (is_marked x) refl (fewer rest)
     by false e go = omega (arith, go, long)
 
 module _ (p : Program) (inlined : IsInlined p) where
-  many : length (site_numbers_all p.main) ≡ length p.sites
-  many = ap length inlined.sites ∙ length-numbers_from 1 (length p.sites)
-
   pub few_regions : length (regions p) ≤ top
-  few_regions = omega (arith, inlined.few, many, fewer p.main)
+  few_regions = omega (arith, inlined.few, many p inlined, fewer p.main)
 
   pub small_sites : Each (Each SmallSite) (regions p)
-  small_sites = all_small p.main 1 (subst (λ (ns : List ℕ). Ascends 1 ns) (sym inlined.sites) (ascends-numbers_from 1 (length p.sites))) (omega (arith, inlined.few, many))
+  small_sites = all_small p.main 1 (subst (λ (ns : List ℕ). Ascends 1 ns) (sym inlined.sites) (ascends-numbers_from 1 (length p.sites))) (omega (arith, inlined.few, many p inlined))

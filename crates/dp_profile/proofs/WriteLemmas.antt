@@ -3,6 +3,7 @@ use Rattle.std.proofs.Common.{◌≡◌, ℕ, ◌+◌, List, [], ◌∷◌, ◌+
 use Rattle.std.specs.List.{flat_map}
 use Rattle.std.proofs.lemmas.Grind.{flat_map-append}
 use Rattle.dp_base.specs.declared.SiteId.{SiteId}
+use Rattle.dp_base.specs.Labels.{labelled}
 use Rattle.dp_tree.specs.declared.Program.{Program}
 use Rattle.dp_profile.specs.declared.Profile.{Profile}
 use Rattle.dp_profile.specs.declared.RegionProfile.{RegionProfile}
@@ -11,7 +12,7 @@ use Rattle.dp_profile.specs.declared.Flow.{Flow}
 use Rattle.dp_profile.specs.declared.line.Line.TheVariants as line
 use Rattle.dp_profile.specs.Sites.{RegionSite, regions}
 use Rattle.dp_profile.specs.ProfileText.{kind_word, line_bytes, runs_lines, region_lines, regions_lines}
-use Rattle.dp_profile.specs.WrittenText.{profile_text, line_text, runs_text, flows_text, region_text, regions_text, labelled}
+use Rattle.dp_profile.specs.WrittenText.{profile_text, line_text, runs_text, flows_text, region_text, regions_text}
 
 -- three numbers, each behind its label, and LF
 pub three_numbers : (out one two three four label more last : List ℕ) (n m k : ℕ) → one ≡ out ++ labelled label n → two ≡ one ++ labelled more m → three ≡ two ++ labelled last k → four ≡ three ++ 10 ∷ []

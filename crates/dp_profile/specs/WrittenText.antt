@@ -10,7 +10,6 @@ use Rattle.dp_profile.specs.declared.line.Line.{Line}
 use Rattle.dp_profile.specs.declared.line.Line.TheVariants as line
 use Rattle.dp_profile.specs.Sites.{RegionSite}
 use Rattle.dp_profile.specs.ProfileText.{line_bytes, region_lines, profile_lines}
-unfoldable pub use Rattle.dp_plan_text.specs.WrittenText.{labelled}
 
 -- the lines of the profile
 abbrev pub profile_text : Program → Profile → List ℕ

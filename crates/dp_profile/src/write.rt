@@ -1,6 +1,7 @@
 //! A profile as a text.
 
 ghost use Rattle.std.specs.Prelude.{◌≡◌, ◌<◌, ◌++◌, length, OnOk, OnErr, IfOk};
+ghost use Rattle.dp_base.specs.Labels.{labelled};
 ghost use Rattle.dp_profile.specs.declared.line.Line.TheVariants as line;
 ghost use Rattle.dp_profile.specs.ProfileText as profile_text;
 ghost use Rattle.dp_profile.specs.WrittenText as text;
@@ -53,9 +54,9 @@ fn put_region(
 }
 
 /// A label, and a number right after it.
-#[tactic(auto, unfolding(crate::specs::WrittenText::labelled))]
+#[tactic(auto, unfolding(dp_base::specs::Labels::labelled))]
 fn put_labelled(out: &mut Row<u8>, label: &[u8], n: u64) -> Result<(), NoMemory>
-    ensures { OnOk result (out.new ≡ out.old ++ text.labelled label.now n) }
+    ensures { OnOk result (out.new ≡ out.old ++ labelled label.now n) }
 {
     let mut digits = Buffer::new();
     out.extend_from_slice(label)?;

@@ -1,23 +1,14 @@
 -- Lines of a text.
-use Rattle.std.specs.Prelude.{ℕ, ◌+◌, ℤ, List, [], ◌∷◌, ◌++◌, codes, decimal}
+use Rattle.std.specs.Prelude.{ℕ, ◌+◌, ℤ, List, [], ◌∷◌, ◌++◌, codes}
 use Rattle.std.specs.Fmt.{signed_decimal}
 
 -- a line ends with LF
 abbrev pub line : List ℕ → List ℕ
 line words = words ++ codes "\n"
 
--- a label, and a number right after it
-unfoldable pub labelled : List ℕ → ℕ → List ℕ
-labelled label n = label ++ decimal n
-
 -- a label, and a number right after it that may have a sign
 unfoldable pub labelled_signed : List ℕ → ℤ → List ℕ
 labelled_signed label z = label ++ signed_decimal z
-
--- each number behind a space
-abbrev pub spaced : List ℕ → List ℕ
-spaced [] = []
-spaced (n ∷ more) = labelled (codes " ") n ++ spaced more
 
 -- each number behind a space, where numbers may have a sign
 abbrev pub spaced_signed : List ℤ → List ℕ

@@ -1,11 +1,12 @@
 -- The list of a program's sites.
 use Rattle.std.specs.Prelude.{ℕ, List, ◌++◌, codes}
+use Rattle.dp_base.specs.Labels.{labelled}
 use Rattle.dp_tree.specs.declared.SiteKind.{SiteKind}
 use Rattle.dp_tree.specs.declared.SiteKind.TheVariants.{Assign, Print, If, While, Break}
 use Rattle.dp_tree.specs.declared.SiteInfo.{SiteInfo}
 use Rattle.dp_tree.specs.declared.RegionInfo.{RegionInfo}
 use Rattle.dp_tree.specs.declared.Program.{Program}
-use Rattle.dp_report.specs.Lines.{line, labelled, numbered}
+use Rattle.dp_report.specs.Lines.{line, numbered}
 
 -- a kind's name in the text; initialisers and bindings are assignments
 abbrev pub kind_name : SiteKind → List ℕ

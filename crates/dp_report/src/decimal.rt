@@ -2,7 +2,8 @@
 
 ghost use Rattle.std.specs.Prelude.{◌≡◌, ◌++◌, OnOk, decimal};
 ghost use Rattle.std.specs.Fmt.{signed_decimal};
-ghost use Rattle.dp_report.specs.Lines.{labelled, labelled_signed, spaced, spaced_signed};
+ghost use Rattle.dp_base.specs.Labels.{labelled, spaced};
+ghost use Rattle.dp_report.specs.Lines.{labelled_signed, spaced_signed};
 
 use dp_base::{NoMemory, Row};
 use itoa::Buffer;
@@ -22,7 +23,7 @@ pub fn put_signed(out: &mut Row<u8>, n: i64) -> Result<(), NoMemory>
 }
 
 /// A label, and a number right after it.
-#[tactic(auto, unfolding(crate::specs::Lines::labelled))]
+#[tactic(auto, unfolding(dp_base::specs::Labels::labelled))]
 pub fn put_labelled(out: &mut Row<u8>, label: &[u8], n: u64) -> Result<(), NoMemory>
     ensures { OnOk result (out.new ≡ out.old ++ labelled label.now n) }
 {

@@ -1,5 +1,5 @@
 -- The regions of an inlined program are numbered from 1 in the order in which they stand.
-use Rattle.std.proofs.Common.{◌≡◌, refl, sym, ap, ◌∙◌, ℕ, ◌+◌, ◌==◌, eq-eqb, Bool, true, false, List, [], ◌∷◌, length, Option, Some, None, eqb-true}
+use Rattle.std.proofs.Common.{◌≡◌, refl, sym, ap, ◌∙◌, ℕ, ◌+◌, ◌==◌, eq-eqb, Bool, true, false, List, [], ◌∷◌, length, Some, None, eqb-true}
 use Rattle.std.proofs.lemmas.Bool.{and_parts}
 use Rattle.dp_tree.specs.declared.Stmt.{Stmt, out-Stmt}
 use Rattle.dp_tree.specs.declared.Stmt.TheBlock.{hidden-the_row-Stmt-0}

@@ -1,5 +1,5 @@
 -- What a store far from a load leaves is never loaded there in a later iteration.
-use Rattle.dp_semantics.proofs.Names.{◌||◌, ◌≡◌, ◌⊎◌, inl, inr, refl, sym, ap, ◌∙◌, subst, ℕ, zero, suc, ◌+◌, ◌-◌, ◌<◌, ◌≤◌, Bool, true, false, List, [], ◌∷◌, ℤ, pos, length, get_or, Option, Some, None, is_some, arith, both_ways, cases_eq, list_all, Stmt-F, Stmt, Expr, Program, Plan, Config, StandsInMain, WithLoads, Load, Effect, Stored, Event, first_cell, cell_count, evaluated, Run, start, starts, iteration, is_closing, has_ended, memory_after, clear_locals, is_body_local, is_local_at, site_of}
+use Rattle.dp_semantics.proofs.Names.{◌||◌, ◌≡◌, inl, inr, refl, sym, ap, ◌∙◌, subst, ℕ, zero, suc, ◌+◌, ◌-◌, ◌<◌, ◌≤◌, false, List, [], ℤ, pos, Option, Some, None, is_some, arith, both_ways, cases_eq, Stmt, Expr, Program, Plan, Config, StandsInMain, Load, Stored, Event, first_cell, cell_count, Run, start, starts, iteration, is_closing, has_ended, memory_after, clear_locals, is_body_local}
 use Rattle.std.specs.Prelude.{◌+ℤ◌}
 use Rattle.std.proofs.lemmas.Int.{ints}
 use Rattle.dp_semantics.proofs.Setting.{Accepted, Each, each_map, InVar}

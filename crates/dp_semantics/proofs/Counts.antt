@@ -19,7 +19,7 @@ load_words-length site [] = refl
 load_words-length site (l ∷ rest) = ap (λ (n : ℕ). suc n) (load_words-length site rest)
 
 module _ (p : Program) (plan : Plan) where
-  event_words-length : (event : Event) → length (words_of p plan event) ≡ event_words p plan event
+  pub event_words-length : (event : Event) → length (words_of p plan event) ≡ event_words p plan event
   event_words-length event = elim (cases_Bool (is_checked p plan event.site)) [
     | inl e ↦ rw e (omega (arith, length-append (load_words event.site event.loads) (done_word event.site event.effect ∷ []), load_words-length event.site event.loads))
     | inr e ↦ rw e

@@ -1,17 +1,13 @@
 -- A variable that one statement at the top of the body moves: what it holds at each event of an iteration.
-use Rattle.dp_semantics.proofs.Names.{◌≡◌, ◌⊎◌, inl, inr, refl, sym, ap, ◌∙◌, subst, ℕ, zero, suc, ◌+◌, ◌<◌, ◌≤◌, Bool, true, false, ◌||◌, if◌then◌else◌, List, [], ◌∷◌, ◌++◌, ℤ, pos, length, get_or, slice_set, get_or-set_other, Option, Some, None, Ok, arith, both_ways, or-true, append-nil, list_any, and_parts, cases_Bool, cases_eq, Stmt, out-Stmt, outs-If, Stmt-F, If, Program, Plan, WithLoads, Evaluated, Effect, Stored, Printed, Decided, Tried, Event, choose, followed, value_of, stored, evaluated, first_cell, cell_count, closes, is_leaving, leaves, taken, taken_left, behind_region, decided_zero, is_zero, slice_get, followed-append, Access, well_nested}
-use Rattle.std.specs.Prelude.{◌+ℤ◌}
-use Rattle.dp_tree.specs.declared.Stmt.TheVariants as tree
+use Rattle.dp_semantics.proofs.Names.{◌≡◌, inl, inr, refl, sym, ap, ◌∙◌, subst, ℕ, ◌+◌, ◌<◌, Bool, true, false, ◌||◌, List, [], ◌∷◌, ◌++◌, ℤ, pos, get_or-set_other, Some, Ok, arith, or-true, list_any, and_parts, cases_Bool, Stmt, out-Stmt, Stmt-F, Program, Plan, WithLoads, Effect, Stored, Printed, Decided, Tried, Event, followed, value_of, stored, evaluated, first_cell, cell_count, is_leaving, leaves, taken, taken_left, behind_region, followed-append, well_nested}
 use Rattle.dp_semantics.proofs.Followed.{Joins, Parts, followed_has, all_joins}
-use Rattle.dp_semantics.proofs.Setting.{Laid, Sound, Accepted, Each, each_map, each_join, Form, InVar, Roomy, head_access, head_stores, head_loads, evaluated_tracks, Readable, all_well, well_at, well_out}
+use Rattle.dp_semantics.proofs.Setting.{Laid, Sound, Each, each_map, Form, InVar, head_access, head_stores, head_loads, evaluated_tracks, Readable, all_well, well_at, well_out}
 use Rattle.dp_semantics.proofs.Stepping.{event_of, well_parts}
 use Rattle.dp_semantics.proofs.Projected.{well_left}
 use Rattle.dp_semantics.proofs.Placed.{leaves_taken, is_step}
-use Rattle.dp_semantics.proofs.Whole.{Goes, stays, goes, turn_of}
-use Rattle.dp_semantics.proofs.Paths.{no_more, first_of}
-use Rattle.dp_semantics.proofs.Turns.{decided_is}
-use Rattle.dp_plan.specs.Touch.{stride_of}
-use Rattle.dp_semantics.proofs.Offsets.{held, stride_value}
+use Rattle.dp_semantics.proofs.Whole.{Goes, stays, goes}
+use Rattle.dp_semantics.proofs.Paths.{no_more}
+use Rattle.dp_semantics.proofs.Offsets.{held}
 
 -- A fact of lists of statements that their steps keep, and what it says of each head.
 pub record Facts (F : List Stmt → Type 0) (T : Stmt-F Stmt → Type 0) : Type 0 where

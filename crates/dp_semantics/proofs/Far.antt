@@ -1,16 +1,12 @@
 -- Accesses that no iteration carries to a later one: offsets that no number of strides brings together.
-use Rattle.std.specs.Prelude.{◌≡◌, ℕ, zero, suc, ◌+◌, ◌<◌, ◌≤◌, Bool, true, List, ℤ, pos, ◌+ℤ◌, Option, Some}
+use Rattle.std.specs.Prelude.{◌≡◌, ℕ, zero, suc, ◌<◌, ◌≤◌, Bool, true, ℤ, pos, ◌+ℤ◌, Option, Some}
 use Rattle.std.specs.List.{list_all}
 use Rattle.dp_tree.specs.declared.Expr.{Expr}
 use Rattle.dp_tree.specs.declared.Stmt.{Stmt}
 use Rattle.dp_tree.specs.declared.Stmt.TheOpen.{Stmt-F}
 use Rattle.dp_tree.specs.declared.Program.{Program}
-use Rattle.dp_base.specs.declared.VarId.{VarId}
 use Rattle.dp_tree.specs.Eval.{cell_count}
 use Rattle.dp_tree.specs.Step.{site_of}
-use Rattle.dp_tree.specs.Eval.{Load}
-use Rattle.dp_tree.specs.Event.{Event, Stored}
-use Rattle.dp_semantics.proofs.Each.{Each}
 use Rattle.dp_plan.specs.Touch.{Touch, head_reads, head_store, offset}
 
 -- k, n times

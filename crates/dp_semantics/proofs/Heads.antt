@@ -121,7 +121,7 @@ module _ (p : Program) (plan : Plan) where
     project_at (Break site cond) = where_reached p plan s site.0 (tree.Break site cond ∷ []) []
     project_at (Call f line args) = []
 
-    project_hidden : (xs : List Stmt) → project_in p plan s (hidden-the_row-Stmt-0 xs) ≡ project_all p plan s xs
+    pub project_hidden : (xs : List Stmt) → project_in p plan s (hidden-the_row-Stmt-0 xs) ≡ project_all p plan s xs
     unfolding opened_statement
     project_hidden [] = refl
     project_hidden (x ∷ xs) = ap (λ ys. project p plan s x ++ ys) (project_hidden xs)

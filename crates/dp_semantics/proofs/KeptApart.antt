@@ -1,5 +1,5 @@
 -- What a site loads is no cell into which a site that lies apart from it stored.
-use Rattle.dp_semantics.proofs.Names.{◌≡◌, inl, inr, refl, sym, ap, ◌∙◌, subst, ℕ, ◌+◌, ◌-◌, ◌≤◌, ◌==◌, Bool, true, false, ◌&&◌, ◌||◌, not, List, [], ◌∷◌, ◌++◌, ℤ, pos, length, Option, Some, None, Ok, is_some, arith, both_ways, cases_Bool, cases_eq, eqb-true, eq-eqb, not-true, and-false, list_all, list_any, flat_map, flat_map-append, append-nil, slice_get, and_parts, Stmt-F, Assign, Region, Stmt, out-Stmt, site_of, Program, Plan, WithLoads, Load, Stored, Past, Access, accesses, region_in, region_accesses, stores_var, is_same_variable, is_local, evaluated}
+use Rattle.dp_semantics.proofs.Names.{◌≡◌, inl, inr, refl, sym, ap, ◌∙◌, subst, ℕ, ◌-◌, ◌≤◌, ◌==◌, Bool, true, false, ◌&&◌, ◌||◌, not, List, [], ◌∷◌, ◌++◌, ℤ, pos, length, Option, Some, None, Ok, is_some, arith, both_ways, cases_Bool, cases_eq, eqb-true, eq-eqb, not-true, and-false, list_all, list_any, flat_map, flat_map-append, append-nil, slice_get, and_parts, Stmt-F, Assign, Region, Stmt, out-Stmt, site_of, Program, Plan, WithLoads, Load, Stored, Past, Access, accesses, region_in, region_accesses, stores_var, is_same_variable, is_local, evaluated}
 use Rattle.std.specs.Prelude.{◌+ℤ◌}
 use Rattle.std.proofs.lemmas.Int.{ints}
 use Rattle.std.proofs.Common.{count_by}

@@ -1,5 +1,5 @@
 -- Lockstep: a stage over any piece of an iteration that agrees with the plan.
-use Rattle.dp_semantics.proofs.Names.{closes_at, ◌≡◌, refl, sym, ap, ◌∙◌, subst, append_assoc, ℕ, ◌+◌, ◌<◌, ◌≤◌, Bool, true, ◌||◌, List, [], ◌∷◌, ◌++◌, ℤ, length, length-append, sum_by, Ok, arith, append-nil, list_all, Word, Stmt, out-Stmt, Program, Plan, WithLoads, Event, Effect, followed, value_of, stored, evaluated, stage_of, first_site, Past, all_agree, event_agrees, event_as_assumed, pushed, words_of, word_list, Turn, turn_from, Epoch, and_parts, append_cancel_left}
+use Rattle.dp_semantics.proofs.Names.{closes_at, ◌≡◌, refl, sym, ap, ◌∙◌, subst, append_assoc, ℕ, ◌+◌, ◌<◌, ◌≤◌, Bool, true, ◌||◌, List, [], ◌∷◌, ◌++◌, ℤ, length, length-append, sum_by, arith, append-nil, list_all, Word, Stmt, out-Stmt, Program, Plan, Event, followed, value_of, stage_of, first_site, Past, all_agree, event_agrees, event_as_assumed, pushed, words_of, word_list, Turn, turn_from, Epoch, and_parts, append_cancel_left}
 pub use Rattle.dp_semantics.proofs.Ways.{Goes, stays, goes}
 use Rattle.dp_semantics.proofs.Setting.{Fit}
 use Rattle.dp_semantics.proofs.Stepping.{stage_for, InStep, Moved, Advanced, advance, words_for, words_here, event_of, past_of, Stands, stands_next, own_site, form_of, stage_does}

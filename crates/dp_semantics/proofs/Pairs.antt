@@ -1,9 +1,9 @@
 -- From the tests of the text to the laws of a run.
-use Rattle.dp_semantics.proofs.Names.{◌≡◌, ℕ, ◌<◌, ◌+◌, true, List, ℤ, Some, length, ap, ◌∙◌, both_ways, not-true, out-Stmt, Program, Plan, Config, StandsInMain, run_of, start, iteration}
+use Rattle.dp_semantics.proofs.Names.{◌≡◌, true, ℤ, length, ap, ◌∙◌, both_ways, not-true, out-Stmt, Program, Plan}
 use Rattle.dp_tree.specs.Numbering.{numbers_from}
 use Rattle.dp_semantics.proofs.Setting.{Accepted}
 use Rattle.dp_semantics.proofs.Integers.{int_eq-self}
-use Rattle.dp_plan.specs.IsFar.{is_far, is_far_within, passes_with, apart_by, by_place, int_eq}
+use Rattle.dp_plan.specs.IsFar.{passes_with, apart_by, by_place, int_eq}
 use Rattle.dp_semantics.proofs.Passing.{never_between}
 use Rattle.dp_semantics.proofs.Tested.{any_found, stride_data, moving}
 use Rattle.dp_semantics.proofs.KeptApart.{passing}

@@ -1,5 +1,5 @@
 -- From the tests of the text to what the laws ask.
-use Rattle.dp_semantics.proofs.Names.{◌≡◌, ◌⊎◌, inl, inr, refl, sym, ap, ◌∙◌, subst, ℕ, zero, suc, ◌+◌, ◌-◌, ◌<◌, ◌≤◌, ◌==◌, Bool, true, false, ◌&&◌, ◌||◌, not, if◌then◌else◌, List, [], ◌∷◌, ◌++◌, ℤ, pos, negsuc, Option, Some, None, list_all, list_all-append, and_parts, and_from, arith, lt-ltb, ltb-true, eq-eqb, eqb-true, nat_lt, both_ways, cases_Bool, Expr, end_of-Expr, more_of-Expr, Stmt, Stmt-F, Assign, Store, Print, If, While, Region, Break, Call, site_of, Program, loaded_by, cell_count}
+use Rattle.dp_semantics.proofs.Names.{◌≡◌, refl, sym, ap, ◌∙◌, ℕ, zero, suc, ◌-◌, ◌<◌, ◌≤◌, ◌==◌, Bool, true, false, ◌&&◌, ◌||◌, not, List, [], ◌∷◌, ◌++◌, ℤ, pos, negsuc, Option, Some, None, list_all, list_all-append, and_parts, and_from, arith, lt-ltb, ltb-true, eq-eqb, eqb-true, nat_lt, Expr, end_of-Expr, more_of-Expr, Stmt, Stmt-F, Assign, Store, Print, If, While, Region, Break, Call, site_of, Program, loaded_by, cell_count}
 use Rattle.std.specs.Prelude.{◌+ℤ◌, ◌-ℤ◌, neg_ℤ, ◌%◌, ◌*◌}
 use Rattle.std.proofs.Math.Nat.{mul-mod_left, mul-suc, suc-mul}
 use Rattle.std.proofs.lemmas.Int.{ints}
@@ -8,9 +8,9 @@ use Rattle.dp_semantics.proofs.Integers.{int_same}
 use Rattle.dp_semantics.proofs.Each.{Each, each_split}
 use Rattle.dp_semantics.proofs.Evaluation.{head_loads}
 use Rattle.dp_plan.specs.Touch.{Touch, reads, head_reads, head_store, offset}
-use Rattle.dp_semantics.proofs.Far.{times, Lies, StoresAt, LoadsThere, LoadsAt, Both, Far}
+use Rattle.dp_semantics.proofs.Far.{times, Lies, Both}
 use Rattle.dp_plan.specs.IsFar.{int_eq}
-use Rattle.dp_plan.specs.IsFar.{SiteTouch, Stored, stored_at, stored_by, is_stored, is_strides, apart_by, place_of, shifted, read_passes, far_between, touch_passes}
+use Rattle.dp_plan.specs.IsFar.{Stored, stored_at, stored_by, is_stored, is_strides, apart_by, place_of, shifted, read_passes, far_between, touch_passes}
 use Rattle.dp_semantics.proofs.Touches.{head_touch}
 
 times_pos : (q m : ℕ) → times q (pos m) ≡ pos (q * m)

@@ -1,8 +1,8 @@
 -- What an evaluation loads, by the elements that its text names, and what an index amounts to.
-use Rattle.dp_semantics.proofs.Names.{◌≡◌, ◌⊎◌, inl, inr, refl, sym, ap, ◌∙◌, subst, ℕ, suc, ◌+◌, ◌<◌, ◌==◌, Bool, true, false, ◌&&◌, if◌then◌else◌, List, [], ◌∷◌, ◌++◌, ℤ, pos, negsuc, length, get_or, nat_lt, Option, Some, None, Result, Ok, Err, arith, ltb-true, eqb-true, cases_Bool, list_all, list_all-append, and_parts, FaultKind, binary_result, unary_result, is_zero, Expr, end_of-Expr, more_of-Expr, Program, Stmt, Stmt-F, Assign, Store, Print, If, While, Region, Break, Call, Load, WithLoads, Evaluated, just, after_loads, and_then, without_loads, place, load, first_cell, cell_count, eval, Effect, Stored, Printed, Decided, Tried, evaluated}
+use Rattle.dp_semantics.proofs.Names.{◌≡◌, refl, sym, ap, ◌∙◌, subst, ℕ, ◌+◌, ◌<◌, Bool, true, false, if◌then◌else◌, List, [], ◌∷◌, ◌++◌, ℤ, pos, negsuc, length, get_or, nat_lt, Option, Some, None, Result, Ok, Err, arith, ltb-true, list_all, list_all-append, and_parts, FaultKind, binary_result, unary_result, is_zero, Expr, end_of-Expr, more_of-Expr, Program, Stmt, Stmt-F, Assign, Store, Print, If, While, Region, Break, Call, Load, WithLoads, Evaluated, just, after_loads, and_then, without_loads, place, load, first_cell, cell_count, eval, Effect, evaluated}
 use Rattle.dp_tree.specs.declared.Expr.TheVariants as tree
 use Rattle.dp_base.specs.declared.FaultKind.TheVariants.{Index}
-use Rattle.dp_semantics.proofs.Each.{Each, each_join, each_map}
+use Rattle.dp_semantics.proofs.Each.{Each, each_join}
 use Rattle.dp_plan.specs.Touch.{Touch, reads, head_reads}
 
 -- the parts of an evaluation that follows another one

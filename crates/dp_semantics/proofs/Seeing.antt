@@ -1,5 +1,5 @@
 -- What a stage sees: how a step changes it, and where it is what the stage after the last one sees, which is the source's memory.
-use Rattle.dp_semantics.proofs.Names.{is_apart, is_apart_between, and_from, comes_before, cases_Bool, subst, ◌≡◌, inl, inr, refl, sym, ap, ◌∙◌, ℕ, suc, ◌<◌, ◌==◌, Bool, true, false, not, ◌&&◌, ◌||◌, List, [], ◌∷◌, ℤ, pos, length, get_or, nat_lt, Option, None, unwrap_or, arith, ltb-false, lt-ltb, le-ltb, eq-eqb, eqb-true, and_parts, ne_eqb, cases_eq, get_or-set_other, get_or-set_at, list_any, Program, Plan, Event, Effect, Stored, stored, Access, stage_of, is_replicated, is_body_local, stores_var, is_same_variable, region_accesses, is_stored_after, is_stored_beside, may_differ, Past, is_local_at, is_covered, stored_in, covered_value, seen, Epoch, last, or_parts, and-false, and-true, and_self, or-true}
+use Rattle.dp_semantics.proofs.Names.{is_apart, is_apart_between, comes_before, cases_Bool, subst, ◌≡◌, inl, inr, refl, sym, ap, ◌∙◌, ℕ, suc, ◌<◌, ◌==◌, Bool, true, false, not, ◌&&◌, ◌||◌, List, [], ◌∷◌, ℤ, pos, length, get_or, nat_lt, Option, None, unwrap_or, arith, ltb-false, lt-ltb, le-ltb, eq-eqb, eqb-true, and_parts, ne_eqb, cases_eq, get_or-set_other, get_or-set_at, list_any, Program, Plan, Event, Effect, Stored, stored, Access, stage_of, is_replicated, is_body_local, stores_var, is_same_variable, region_accesses, is_stored_after, is_stored_beside, may_differ, Past, is_local_at, is_covered, stored_in, covered_value, seen, Epoch, last, or_parts, and-false, and-true, and_self, or-true}
 use Rattle.dp_plan.specs.IsFar.{is_far, is_far_within}
 use Rattle.dp_semantics.proofs.Setting.{each_both, NotInto, Apart, Fit, StoredBy, Known, Each, each_map, InVar}
 pub use Rattle.dp_tree.proofs.InMain.{stored_length as stored-length}

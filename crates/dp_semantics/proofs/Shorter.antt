@@ -1,5 +1,5 @@
 -- What is left of a stage's words is shorter than what was there, and each event makes a word.
-use Rattle.dp_semantics.proofs.Names.{◌≡◌, ap, ◌∙◌, arith, length-append, ℕ, zero, suc, ◌+◌, ◌-◌, ◌<◌, ◌≤◌, if◌then◌else◌, Bool, List, [], ◌∷◌, length, Option, Some, None, Ok, Err, sum_by, slice_set, get_or, get_or_past, sum_by-set, cases_lt, inl, inr, cases_Bool, sym, Word, Stmt, Stmt-F, Program, Plan, Event, Effect, site_of, effect_by, words_of, is_checked, load_words, done_word, after_loads_of, is_load_of, is_done_of, Taken, taken_from, word_list}
+use Rattle.dp_semantics.proofs.Names.{◌≡◌, ap, ◌∙◌, arith, length-append, ℕ, zero, suc, ◌-◌, ◌<◌, ◌≤◌, if◌then◌else◌, List, [], ◌∷◌, length, Option, Some, None, Ok, Err, sum_by, slice_set, get_or, get_or_past, sum_by-set, cases_lt, inl, inr, cases_Bool, sym, Word, Stmt, Stmt-F, Program, Plan, Event, Effect, site_of, effect_by, words_of, is_checked, load_words, done_word, after_loads_of, is_load_of, is_done_of, Taken, taken_from, word_list}
 use Rattle.dp_semantics.specs.Words.{Astray, done_from, taken_by}
 use Rattle.dp_semantics.proofs.Taking.{word_list_is}
 

@@ -1,5 +1,5 @@
 -- The source within an iteration: its rest, its memory and the events so far.
-use Rattle.dp_semantics.proofs.Names.{both_ways, is_same_variable, stores_var, ◌≡◌, refl, sym, ap, ◌∙◌, subst, ℕ, ◌<◌, true, false, List, ◌∷◌, ℤ, pos, length, get_or, arith, eq-eqb, Ok, Stmt, out-Stmt, Stmt-F, Assign, Store, If, While, Region, Call, Program, Plan, Load, WithLoads, cell_count, Event, Effect, Stored, followed, site_of, value_of, stored, evaluated, Access, accesses, stage_of, may_differ, is_checked_access, is_checked, Past, seen, int_eq, event_agrees, well_nested, Epoch, last, and_parts, flat_map-append, inl, inr, Some, cases_Bool}
+use Rattle.dp_semantics.proofs.Names.{both_ways, is_same_variable, stores_var, ◌≡◌, refl, sym, ap, ◌∙◌, subst, ℕ, ◌<◌, true, false, List, ◌∷◌, ℤ, pos, length, get_or, arith, eq-eqb, Ok, Stmt, out-Stmt, Stmt-F, Assign, Store, If, While, Region, Call, Program, Plan, Load, WithLoads, cell_count, Effect, Stored, followed, site_of, value_of, stored, evaluated, Access, accesses, stage_of, may_differ, is_checked_access, is_checked, Past, seen, int_eq, event_agrees, well_nested, Epoch, last, and_parts, flat_map-append, inl, inr, Some, cases_Bool}
 use Rattle.dp_plan.specs.IsFar.{is_far}
 pub use Rattle.dp_semantics.proofs.Setting.{event_of}
 use Rattle.dp_semantics.proofs.Setting.{turn_of, Here, here_next, Clear, NotInto, ClearSame, each_both, head_stores, size, Sound, Fit, StoredBy, Known, Each, each_split, each_join, each_map, none_of, all_of, all_make, InVar, Form, Readable, Holds, IsHeld, head_loads, head_stores, Tracked, evaluated_tracks, accesses_all, all_well, head_access, inside, accesses_at, accesses_out, well_at, well_out, Joins, Parts, followed_has, all_joins, int_same, int_eq-self}

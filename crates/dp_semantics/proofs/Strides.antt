@@ -1,9 +1,9 @@
 -- One iteration moves the variable by its stride, and each of its events lies before or behind that.
-use Rattle.dp_semantics.proofs.Names.{◌≡◌, ◌⊎◌, inl, inr, refl, sym, ap, ◌∙◌, subst, ℕ, zero, suc, ◌+◌, ◌-◌, ◌<◌, ◌≤◌, Bool, true, false, ◌||◌, if◌then◌else◌, List, [], ◌∷◌, ◌++◌, ℤ, pos, length, get_or, get_or-set_at, list_any, Option, Some, None, Ok, arith, both_ways, append-nil, cases_Bool, and_parts, Stmt, out-Stmt, outs-If, Stmt-F, Assign, Store, Print, If, While, Region, Break, Call, Program, Plan, WithLoads, Evaluated, eval, Effect, Stored, Decided, Event, choose, followed, value_of, stored, decided, evaluated, first_cell, cell_count, closes, is_leaving, leaves, decided_zero, is_zero, slice_get, well_nested, is_body_local}
+use Rattle.dp_semantics.proofs.Names.{◌≡◌, inl, inr, refl, sym, ap, ◌∙◌, subst, ℕ, ◌+◌, ◌-◌, ◌<◌, Bool, true, false, ◌||◌, if◌then◌else◌, List, [], ◌∷◌, ◌++◌, ℤ, pos, length, get_or-set_at, list_any, Some, Ok, arith, both_ways, append-nil, cases_Bool, and_parts, Stmt, out-Stmt, outs-If, Stmt-F, Assign, If, Program, Plan, WithLoads, eval, Effect, Decided, Event, choose, followed, value_of, stored, evaluated, first_cell, cell_count, closes, is_leaving, leaves, decided_zero, is_zero, well_nested}
 use Rattle.std.specs.Prelude.{◌+ℤ◌}
 use Rattle.std.proofs.lemmas.Int.{ints}
 use Rattle.dp_tree.specs.declared.Stmt.TheVariants as tree
-use Rattle.dp_semantics.proofs.Setting.{size, Laid, Sound, Accepted, Each, each_map, each_join, all_well}
+use Rattle.dp_semantics.proofs.Setting.{size, Accepted, Each, each_map, each_join, all_well}
 use Rattle.dp_semantics.proofs.Stepping.{event_of, stored-length}
 use Rattle.dp_semantics.proofs.Whole.{Goes, stays, goes, turn_of}
 use Rattle.dp_semantics.proofs.Turns.{decided_is}

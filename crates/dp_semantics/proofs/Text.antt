@@ -1,14 +1,12 @@
 -- A pair of sites that passes the test is far: the laws' premises from the text.
-use Rattle.dp_semantics.proofs.Names.{◌≡◌, ◌⊎◌, inl, inr, refl, sym, ap, ◌∙◌, subst, ℕ, zero, suc, ◌+◌, ◌<◌, ◌≤◌, ◌==◌, Bool, true, false, ◌&&◌, ◌||◌, not, if◌then◌else◌, List, [], ◌∷◌, ◌++◌, ℤ, pos, negsuc, length, Option, Some, None, list_all, list_any, list_all-append, flat_map, flat_map-append, append-nil, and_parts, and_from, arith, eqb-true, eq-eqb, both_ways, cases_Bool, not-true, sum_by-cons, Expr, Stmt, out-Stmt, Stmt-F, Assign, Store, Print, If, While, Region, Break, Call, site_of, Program, Plan, Config, StandsInMain, Access, accesses, stores_var, is_same_variable, is_body_local, cell_count, well_nested, start, iteration}
-use Rattle.std.proofs.Common.{cond, count_by}
-use Rattle.std.proofs.lemmas.List.Sums.{sum_by-append}
+use Rattle.dp_semantics.proofs.Names.{◌≡◌, refl, sym, ap, ◌∙◌, subst, ℕ, ◌<◌, Bool, true, List, [], ◌∷◌, ◌++◌, ℤ, Option, Some, None, list_all, list_all-append, flat_map-append, and_parts, and_from, Stmt, out-Stmt, Stmt-F, If, While, Region, Call, Program, Plan, Access, accesses, cell_count, well_nested}
+use Rattle.std.proofs.Common.{cond}
 use Rattle.dp_semantics.proofs.Followed.{Joins, Parts, all_joins}
-use Rattle.dp_semantics.proofs.Setting.{Accepted, Sound, Each, each_map, each_split, each_both, each_join, accesses_all, accesses_at, accesses_out, head_access, head_stores, all_well, well_at, well_out}
+use Rattle.dp_semantics.proofs.Setting.{Accepted, Sound, Each, each_split, accesses_all, accesses_at, accesses_out, all_well, well_at, well_out}
 use Rattle.dp_semantics.proofs.Stepping.{well_parts, each_joins, each_parts, head_fact}
-use Rattle.dp_semantics.proofs.Whole.{sound_parts}
-use Rattle.dp_plan.specs.Touch.{Touch, reads, head_reads, stride_of}
+use Rattle.dp_plan.specs.Touch.{stride_of}
 use Rattle.dp_semantics.proofs.Far.{Both}
-use Rattle.dp_plan.specs.IsFar.{SiteTouch, Stored, Halves, halves, halves_by, behind_of, touches, touch_passes, front_touches, back_touches, region_body, region_condition}
+use Rattle.dp_plan.specs.IsFar.{SiteTouch, Stored, Halves, halves, halves_by, behind_of, touches, touch_passes}
 use Rattle.dp_semantics.proofs.Touches.{touches_all, touches_at, touches_out, head_touch}
 use Rattle.dp_semantics.proofs.Even.{Facts, Still}
 use Rattle.dp_semantics.proofs.Passing.{Passed, both_there}

@@ -1,11 +1,11 @@
 -- Within an iteration a site that stands before another in the text, in no loop with it, isn't reached after it.
-use Rattle.dp_semantics.proofs.Names.{opened_statement, ◌≡◌, ◌⊎◌, inl, inr, refl, sym, ap, ◌∙◌, subst, ℕ, suc, ◌<◌, ◌≤◌, ◌==◌, Bool, true, false, ◌&&◌, ◌||◌, not, if◌then◌else◌, List, [], ◌∷◌, ◌++◌, ℤ, Ok, arith, both_ways, cases_Bool, cases_eq, eqb-true, eq-eqb, ne_eqb, not-true, list_any, list_all, flat_map, flat_map-append, append-nil, append_assoc, and_parts, or_parts, is_zero, Stmt, out-Stmt, outs-If, roll-Stmt, roll-out-Stmt, hidden-the_row-Stmt-0, rolls-Assign, rolls-Store, rolls-Print, rolls-If, rolls-While, rolls-Region, rolls-Break, rolls-Call, Stmt-F, Assign, Store, Print, If, While, Region, Break, Call, site_of, Program, Plan, WithLoads, Event, Past, pushed, followed, choose, behind_region, value_of, stored, evaluated, Access, accesses, region_in, well_nested}
+use Rattle.dp_semantics.proofs.Names.{opened_statement, ◌≡◌, ◌⊎◌, inl, inr, refl, sym, ap, ◌∙◌, subst, ℕ, suc, ◌<◌, ◌==◌, Bool, true, false, ◌&&◌, not, if◌then◌else◌, List, [], ◌∷◌, ◌++◌, ℤ, arith, both_ways, cases_Bool, cases_eq, eq-eqb, ne_eqb, not-true, list_any, flat_map, flat_map-append, append-nil, append_assoc, and_parts, is_zero, Stmt, out-Stmt, outs-If, roll-Stmt, roll-out-Stmt, hidden-the_row-Stmt-0, rolls-Assign, rolls-Store, rolls-Print, rolls-If, rolls-While, rolls-Region, rolls-Break, rolls-Call, Stmt-F, Assign, Store, Print, If, While, Region, Break, Call, site_of, Program, Plan, Event, Past, followed, behind_region, value_of, Access, accesses, region_in, well_nested}
 use Rattle.dp_tree.specs.declared.Stmt.TheVariants as tree
 use Rattle.dp_semantics.proofs.Followed.{Joins, Parts, followed_has, all_joins}
 use Rattle.dp_semantics.proofs.Heads.{accesses_roll}
 use Rattle.dp_semantics.proofs.Setting.{Accepted, Each, each_map, each_split, each_join, none_of, accesses_all, accesses_at, accesses_out, head_access, inside, all_well, well_at, well_out, turn_of}
 use Rattle.dp_semantics.proofs.Ways.{Goes, stays, goes, Before, fresh_start, went_on, Here}
-use Rattle.dp_semantics.proofs.Stepping.{event_of, well_parts, each_joins, each_parts}
+use Rattle.dp_semantics.proofs.Stepping.{well_parts, each_joins, each_parts}
 use Rattle.dp_semantics.proofs.Projected.{well_left}
 use Rattle.dp_semantics.proofs.Whole.{turn_well}
 use Rattle.dp_semantics.proofs.Unmet.{pushed_each}

@@ -1,11 +1,8 @@
 -- The touches of a statement by its head, and the numbers of strides.
-use Rattle.dp_semantics.proofs.Names.{opened_statement, ◌≡◌, sym, ap, ◌∙◌, ℕ, zero, suc, ◌+◌, ◌≤◌, ◌==◌, Bool, true, false, ◌&&◌, ◌||◌, not, List, [], ◌∷◌, ◌++◌, ℤ, pos, negsuc, Option, Some, None, flat_map, SiteId, Expr, Stmt, out-Stmt, roll-Stmt, roll-out-Stmt, hidden-the_row-Stmt-0, rolls-Assign, rolls-Store, rolls-Print, rolls-If, rolls-While, rolls-Region, rolls-Break, rolls-Call, Stmt-F, Assign, Store, Print, If, While, Region, Break, Call, site_of, arith, lt-ltb, eq-eqb, nat_lt}
-use Rattle.std.specs.Prelude.{◌+ℤ◌, ◌-ℤ◌, ◌%◌, ◌*◌}
-use Rattle.std.proofs.lemmas.Int.{ints}
-use Rattle.dp_plan.specs.Touch.{Touch, head_reads, head_store}
+use Rattle.dp_semantics.proofs.Names.{opened_statement, ◌≡◌, sym, ap, ◌∙◌, List, [], ◌∷◌, ◌++◌, flat_map, Stmt, out-Stmt, roll-Stmt, roll-out-Stmt, hidden-the_row-Stmt-0, rolls-Assign, rolls-Store, rolls-Print, rolls-If, rolls-While, rolls-Region, rolls-Break, rolls-Call, Stmt-F, Assign, Store, Print, If, While, Region, Break, Call, site_of}
+use Rattle.dp_plan.specs.Touch.{head_reads, head_store}
 use Rattle.dp_tree.proofs.Asked.{asked_hidden}
-use Rattle.dp_plan.specs.IsFar.{SiteTouch, touch_at, touches, touches_in, is_strides}
-use Rattle.dp_semantics.proofs.Far.{times}
+use Rattle.dp_plan.specs.IsFar.{SiteTouch, touch_at, touches, touches_in}
 
 abbrev pub touches_all : List Stmt → List SiteTouch
 touches_all statements = flat_map touches statements

@@ -1,5 +1,5 @@
 -- A turn's bound of steps never decides: each step adds a word of the plan's number, or takes one of the lists.
-use Rattle.dp_semantics.proofs.Names.{◌≡◌, refl, sym, ap, ◌∙◌, arith, length-append, ℕ, zero, suc, ◌+◌, ◌-◌, ◌<◌, ◌≤◌, ◌==◌, ◌++◌, if◌then◌else◌, true, false, List, [], ◌∷◌, length, ℤ, Ok, Err, Result, nat_le, leb-true, sum_by, slice_set, cases_lt, inl, inr, cases_Bool, Word, Stmt, Stmt-F, out-Stmt, Program, Plan, WithLoads, Evaluated, Event, Effect, site_of, evaluated, words_of, Full, Taken, taken_from, Void, Turn, TurnEnd, turned, turn_at, turn_begin, turn_by, turn_step, own_step, consumed, consumed_step, stage_at, stage_run, words_left}
+use Rattle.dp_semantics.proofs.Names.{◌≡◌, refl, sym, ap, ◌∙◌, arith, length-append, ℕ, zero, suc, ◌+◌, ◌-◌, ◌<◌, ◌≤◌, ◌==◌, ◌++◌, List, [], ◌∷◌, length, ℤ, Ok, Err, Result, nat_le, leb-true, sum_by, slice_set, cases_lt, inl, inr, cases_Bool, Word, Stmt, Stmt-F, out-Stmt, Program, Plan, Evaluated, Event, Effect, site_of, evaluated, words_of, Full, Taken, taken_from, Void, Turn, TurnEnd, turned, turn_at, turn_begin, turn_by, turn_step, own_step, consumed, consumed_step, stage_at, words_left}
 unfoldable use Rattle.dp_semantics.proofs.Names.{turn_from}
 use Rattle.dp_semantics.specs.TurnBound.{BoundNeverDecides}
 use Rattle.dp_semantics.proofs.Shorter.{lists_shorter, some_word, taken_shorter}

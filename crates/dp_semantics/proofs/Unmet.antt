@@ -1,16 +1,15 @@
 -- What a site loads is no cell into which a site that lies apart from it stored.
-use Rattle.dp_semantics.proofs.Names.{◌||◌, ◌≡◌, ◌⊎◌, inl, inr, refl, sym, ap, ◌∙◌, subst, ℕ, zero, suc, ◌+◌, ◌-◌, ◌<◌, ◌≤◌, ◌==◌, Bool, true, false, ◌&&◌, not, List, [], ◌∷◌, ◌++◌, ℤ, pos, length, get_or, Option, Some, None, Ok, arith, both_ways, cases_eq, cases_Bool, list_all, list_any, and_parts, Stmt-F, Stmt, out-Stmt, Expr, Program, Plan, WithLoads, Load, Effect, Stored, Event, Past, pushed, closes, first_cell, cell_count, evaluated, clear_locals, start_cells, is_body_local, is_local_at, site_of}
+use Rattle.dp_semantics.proofs.Names.{◌≡◌, inl, inr, refl, sym, ap, ◌∙◌, subst, ℕ, suc, ◌-◌, ◌<◌, ◌≤◌, true, false, ◌&&◌, List, [], ◌∷◌, ℤ, pos, get_or, Option, Some, None, Ok, arith, cases_eq, and_parts, Stmt-F, Stmt, out-Stmt, Expr, Program, Plan, WithLoads, Load, Effect, Stored, Event, Past, pushed, first_cell, cell_count, evaluated, clear_locals, is_body_local, site_of}
 use Rattle.std.specs.Prelude.{◌+ℤ◌}
 use Rattle.std.proofs.lemmas.Int.{ints}
-use Rattle.dp_semantics.proofs.Setting.{Accepted, Each, each_map, InVar, ClearSame, Clear, head_loads, turn_of, event_of}
-use Rattle.dp_semantics.proofs.Ways.{Goes, Before, fresh_start, went_on, Here}
+use Rattle.dp_semantics.proofs.Setting.{Accepted, Each, each_map, InVar, ClearSame, Clear, head_loads, turn_of}
+use Rattle.dp_semantics.proofs.Ways.{Before, fresh_start, went_on, Here}
 use Rattle.dp_semantics.proofs.Whole.{clear-other}
 use Rattle.dp_plan.specs.Touch.{Touch, offset, head_reads}
 use Rattle.dp_semantics.proofs.Far.{times, Lies, Both}
 use Rattle.dp_semantics.proofs.Reading.{Loaded, Passes, head_loaded}
 use Rattle.dp_semantics.proofs.Offsets.{held, load_lands, store_lands}
-use Rattle.dp_semantics.proofs.Even.{AtEvent}
-use Rattle.dp_semantics.proofs.Strides.{Moving, holds, Placed, Next, turn_steps}
+use Rattle.dp_semantics.proofs.Strides.{Moving, Placed, Next, turn_steps}
 use Rattle.dp_semantics.proofs.Passing.{pair_all}
 use Rattle.dp_semantics.proofs.Indices.{is_among, all_among, among_each, index_passes, head_fine, offset_passes}
 

@@ -94,6 +94,58 @@ regions_alone p inlined r low high = by (sought inlined r)
     by (absent none out) = absurd (out (omega (arith, low)) (omega (arith, high)))
     by (present entry from at q least most) = alone inlined r entry at q
 
+-- A plan fits where each site has one of its stages, the condition the first, each condition comes in time, and the kinds fit.
+module _ {p : Program} (inlined : IsInlined p) (plan : Plan) (entry : RegionInfo) (at : slice_get p.regions (plan.region - 1) ≡ Some entry) (q : RegionAt plan.region p.main entry) where
+  abbrev pub Staged : Access → Type 0
+  Staged a = (0 < stage_of p plan a.site) × (stage_of p plan a.site ≤ length plan.stages)
+
+  pub parts : accesses q.statement ≡ accesses_at (Region plan.region q.site q.cond q.body)
+  parts = accesses_out q.statement ∙ ap accesses_at q.is
+
+  ascends : Ascends entry.first.0 (q.site.0 ∷ map site_in (accesses_all q.body))
+  ascends = subst (λ (xs : List Access). Ascends entry.first.0 (map site_in xs)) parts q.sites
+
+  pub first_here : first_site p plan ≡ q.site.0
+  first_here = ap first_site_of at ∙ sym ascends.0
+
+  inner : list_all (is_inner p plan) (accesses_all q.body) ≡ true
+  inner = all_make (is_inner p plan) (accesses_all q.body) (each_map _ (λ a. is_inner p plan a ≡ true)
+      (λ a b. ap not (ne_eqb a.site (first_site p plan) (λ e. omega (arith, e, b.0, ap first_site_of at)))) (accesses_all q.body)
+      (each_of_map (Between (suc entry.first.0) (length (map site_in (accesses_all q.body)))) site_in (accesses_all q.body) (ascends_between (suc entry.first.0) (map site_in (accesses_all q.body)) ascends.1)))
+
+  -- the statement is inlined
+  bare : has_call_in (hidden-the_row-Stmt-0 q.body) ≡ false
+  bare = sym (ap has_call q.made ∙ call_made plan.region q.site q.cond q.body)
+      ∙ (subst (λ (xs : List Stmt). Each (λ x. has_call x ≡ false) xs) q.only (kept (λ x. has_call x ≡ false) (is_region_at plan.region) p.main (none_of has_call p.main inlined.calls))).0
+
+  named : Each (Within (length p.vars)) (accesses q.statement)
+  named = sites_within (length p.vars) q.statement
+      (subst (λ (xs : List Stmt). Each (λ x. stmt_within (length p.vars) x ≡ true) xs) q.only
+      (kept (λ x. stmt_within (length p.vars) x ≡ true) (is_region_at plan.region) p.main (all_of (stmt_within (length p.vars)) p.main inlined.named))).0
+
+  stores_at : (o : Option ℕ) → ((x : ℕ) → o ≡ Some x → x < length p.vars) → stores_known p o ≡ true
+  stores_at None h = refl
+  stores_at (Some x) h = cells_at 0 x p.vars inlined.cells (h x refl)
+
+  known_at : (a : Access) → Within (length p.vars) a × Staged a → access_known p plan a ≡ true
+  known_at a h =
+      and_from (list_all (has_cell p) a.loads) _ (all_make (has_cell p) a.loads (each_map (λ x. x < length p.vars) (λ x. has_cell p x ≡ true) (λ x low. cells_at 0 x p.vars inlined.cells low) a.loads h.0.0))
+      (and_from (stores_known p a.stores) _ (stores_at a.stores h.0.1) (and_from _ _ (lt-ltb 0 (stage_of p plan a.site) h.1.0) (le-leb (stage_of p plan a.site) (length plan.stages) h.1.1)))
+
+  pub fits_so : Each Staged (accesses q.statement) → (stage_of p plan (first_site p plan) == 1) ≡ true → Each (InTime p plan) (inner_whiles q.statement) → Each (Ruled p plan) (ifs q.statement) → kinds_fit plan ≡ true → fits_plan p plan ≡ true
+  fits_so staged first whiles told kinds =
+      let known : list_all (access_known p plan) (region_accesses p plan) ≡ true =
+      ap (list_all (access_known p plan)) (accesses_are inlined plan.region entry at q)
+      ∙ all_make (access_known p plan) (accesses q.statement) (each_map _ (λ a. access_known p plan a ≡ true) known_at (accesses q.statement) (each_both _ _ (accesses q.statement) named staged)) in
+      let well : list_all (well_nested p plan) q.body ≡ true =
+      sym (well_hidden p plan q.body) ∙ well_inner_in p plan (hidden-the_row-Stmt-0 q.body) q.plain bare
+      (subst (λ (es : List Enclosing). Each (InTime p plan) es) (ap inner_whiles q.made ∙ whiles_made plan.region q.site q.cond q.body) whiles)
+      (subst (λ (es : List Enclosing). Each (Ruled p plan) es) (ap ifs q.made ∙ ifs_made plan.region q.site q.cond q.body) told) in
+      let one : one_region p plan (region_in p plan.region) ≡ true =
+      ap (one_region p plan) q.only ∙ ap (region_fits p plan) q.is
+      ∙ and_from (plan.region == plan.region) _ (eq-eqb plan.region plan.region refl) (and_from _ _ (eq-eqb _ _ first_here) (and_from _ _ first (and_from _ _ well inner))) in
+      and_from _ _ (laid plan.region 0 p.vars inlined.cells) (and_from _ _ known (and_from _ _ one (and_from _ _ (all_alone plan.region 1 p.main inlined.regions) kinds)))
+
 module _ {p : Program} (inlined : IsInlined p) (v : Bool) (w : WrittenPlan) (written : WrittenAs p w (plan_of p v w)) where
   abbrev plan : Plan
   plan = plan_of p v w
@@ -128,75 +180,33 @@ module _ {p : Program} (inlined : IsInlined p) (v : Bool) (w : WrittenPlan) (wri
     stages_are : (site : ℕ) → stage_of p plan site ≡ written_stage w site
     stages_are = same_stage p w plan refl order (none_foreign p w valid)
 
-    parts : accesses q.statement ≡ accesses_at (Region w.region q.site q.cond q.body)
-    parts = accesses_out q.statement ∙ ap accesses_at q.is
-
-    ascends : Ascends entry.first.0 (q.site.0 ∷ map site_in (accesses_all q.body))
-    ascends = subst (λ (xs : List Access). Ascends entry.first.0 (map site_in xs)) parts q.sites
-
-    first_here : first_site p plan ≡ q.site.0
-    first_here = first_is ∙ sym ascends.0
-
     first_stage : (stage_of p plan (first_site p plan) == 1) ≡ true
-    first_stage = ap (λ (n : ℕ). stage_of p plan n == 1) first_here ∙ ap (λ (n : ℕ). n == 1) (stages_are q.site.0)
-        ∙ ap (λ (ns : List ℕ). written_stage w (first_in ns) == 1) (sym (sites_are ∙ ap (map site_in) parts)) ∙ condition_first p w valid
-
-    inner : list_all (is_inner p plan) (accesses_all q.body) ≡ true
-    inner = all_make (is_inner p plan) (accesses_all q.body) (each_map _ (λ a. is_inner p plan a ≡ true)
-        (λ a b. ap not (ne_eqb a.site (first_site p plan) (λ e. omega (arith, e, b.0, first_is)))) (accesses_all q.body)
-        (each_of_map (Between (suc entry.first.0) (length (map site_in (accesses_all q.body)))) site_in (accesses_all q.body) (ascends_between (suc entry.first.0) (map site_in (accesses_all q.body)) ascends.1)))
-
-    -- the statement is inlined
-    bare : has_call_in (hidden-the_row-Stmt-0 q.body) ≡ false
-    bare = sym (ap has_call q.made ∙ call_made w.region q.site q.cond q.body)
-        ∙ (subst (λ (xs : List Stmt). Each (λ x. has_call x ≡ false) xs) q.only (kept (λ x. has_call x ≡ false) (is_region_at w.region) p.main (none_of has_call p.main inlined.calls))).0
-
-    named : Each (Within (length p.vars)) (accesses q.statement)
-    named = sites_within (length p.vars) q.statement
-        (subst (λ (xs : List Stmt). Each (λ x. stmt_within (length p.vars) x ≡ true) xs) q.only
-        (kept (λ x. stmt_within (length p.vars) x ≡ true) (is_region_at w.region) p.main (all_of (stmt_within (length p.vars)) p.main inlined.named))).0
+    first_stage = ap (λ (n : ℕ). stage_of p plan n == 1) (first_here inlined plan entry at q) ∙ ap (λ (n : ℕ). n == 1) (stages_are q.site.0)
+        ∙ ap (λ (ns : List ℕ). written_stage w (first_in ns) == 1) (sym (sites_are ∙ ap (map site_in) (parts inlined plan entry at q))) ∙ condition_first p w valid
 
     -- each of its sites is listed
     has_stage : Each (λ a. has a.site (listed w) ≡ true) (accesses q.statement)
     has_stage = each_of_map (λ site. has site (listed w) ≡ true) site_in (accesses q.statement) (subst (λ (ns : List ℕ). Each (λ site. has site (listed w) ≡ true) ns) sites_are (all_listed p w valid))
 
-    stores_at : (o : Option ℕ) → ((x : ℕ) → o ≡ Some x → x < length p.vars) → stores_known p o ≡ true
-    stores_at None h = refl
-    stores_at (Some x) h = cells_at 0 x p.vars inlined.cells (h x refl)
-
-    known_at : (a : Access) → Within (length p.vars) a × (has a.site (listed w) ≡ true) → access_known p plan a ≡ true
-    known_at a h =
-        let bounds = stage_listed 1 w.stages a.site h.1 in
-        let many = length-map w.stages kind_in in
-        and_from (list_all (has_cell p) a.loads) _ (all_make (has_cell p) a.loads (each_map (λ x. x < length p.vars) (λ x. has_cell p x ≡ true) (λ x low. cells_at 0 x p.vars inlined.cells low) a.loads h.0.0))
-        (and_from (stores_known p a.stores) _ (stores_at a.stores h.0.1) (and_from _ _ (lt-ltb 0 (stage_of p plan a.site) (omega (arith, bounds.0, stages_are a.site))) (le-leb (stage_of p plan a.site) (length plan.stages) (omega (arith, bounds.1, stages_are a.site, many)))))
-
-    known : list_all (access_known p plan) (region_accesses p plan) ≡ true
-    known = ap (list_all (access_known p plan)) (accesses_are inlined w.region entry at q)
-        ∙ all_make (access_known p plan) (accesses q.statement) (each_map _ (λ a. access_known p plan a ≡ true) known_at (accesses q.statement) (each_both _ _ (accesses q.statement) named has_stage))
+    staged : (a : Access) → has a.site (listed w) ≡ true → Staged inlined plan entry at q a
+    staged a is =
+        let bounds = stage_listed 1 w.stages a.site is in
+        (omega (arith, bounds.0, stages_are a.site), omega (arith, bounds.1, stages_are a.site, length-map w.stages kind_in))
 
     -- its conditions come in time
-    whiles : Each (InTime p plan) (inner_whiles_in (hidden-the_row-Stmt-0 q.body))
-    whiles = subst (λ (es : List Enclosing). Each (InTime p plan) es) (ap (flat_map inner_whiles) q.only ∙ append-nil (inner_whiles q.statement) ∙ ap inner_whiles q.made ∙ whiles_made w.region q.site q.cond q.body)
+    whiles : Each (InTime p plan) (inner_whiles q.statement)
+    whiles = subst (λ (es : List Enclosing). Each (InTime p plan) es) (ap (flat_map inner_whiles) q.only ∙ append-nil (inner_whiles q.statement))
         (each_map (λ e. comes_late w e ≡ false) (InTime p plan) (λ e late. in_time p w plan refl order (none_foreign p w valid) e late) (region_inner_whiles p w.region) (whiles_in_time p w valid))
 
     ifs_are : region_ifs p w.region ≡ ifs q.statement
     ifs_are = ap (flat_map ifs) q.only ∙ append-nil (ifs q.statement)
 
-    told : Each (Ruled p plan) (ifs_in (hidden-the_row-Stmt-0 q.body))
-    told = subst (λ (es : List Enclosing). Each (Ruled p plan) es) (ap ifs q.made ∙ ifs_made w.region q.site q.cond q.body)
-        (each_map _ (Ruled p plan) (λ e h. ruled p w plan refl order (none_foreign p w valid) refl e h.0 h.1) (ifs q.statement)
+    told : Each (Ruled p plan) (ifs q.statement)
+    told = each_map _ (Ruled p plan) (λ e h. ruled p w plan refl order (none_foreign p w valid) refl e h.0 h.1) (ifs q.statement)
         (each_both (λ e. has e.site (region_sites p w.region) ≡ true) (λ e. is_late_unassumed w e ≡ false) (ifs q.statement)
         (ifs_at (λ n. has n (region_sites p w.region) ≡ true) q.statement
         (each_map (λ a. has a.site (listed w) ≡ true) (λ a. has a.site (region_sites p w.region) ≡ true) (λ a h. has_fact (λ n. has n (region_sites p w.region) ≡ true) (listed w) a.site (none_foreign p w valid) h) (accesses q.statement) has_stage))
-        (subst (λ (es : List Enclosing). Each (λ e. is_late_unassumed w e ≡ false) es) ifs_are (ifs_in_time p w valid))))
-
-    well : list_all (well_nested p plan) q.body ≡ true
-    well = sym (well_hidden p plan q.body) ∙ well_inner_in p plan (hidden-the_row-Stmt-0 q.body) q.plain bare whiles told
-
-    one : one_region p plan (region_in p w.region) ≡ true
-    one = ap (one_region p plan) q.only ∙ ap (region_fits p plan) q.is
-        ∙ and_from (w.region == w.region) _ (eq-eqb w.region w.region refl) (and_from _ _ (eq-eqb _ _ first_here) (and_from _ _ first_stage (and_from _ _ well inner)))
+        (subst (λ (es : List Enclosing). Each (λ e. is_late_unassumed w e ≡ false) es) ifs_are (ifs_in_time p w valid)))
 
     apart : (s : ℕ) → 1 ≤ s → kinds_apart plan s ≡ true
     apart zero low = absurd (omega (arith, low))
@@ -208,7 +218,7 @@ module _ {p : Program} (inlined : IsInlined p) (v : Bool) (w : WrittenPlan) (wri
     kinds = and_from _ _ (ap not (first_kind w.stages (sequential_first p w valid))) (count_all (kinds_apart plan) (length plan.stages) 1 (λ s low high. apart s low))
 
     fits : fits_plan p plan ≡ true
-    fits = and_from _ _ (laid w.region 0 p.vars inlined.cells) (and_from _ _ known (and_from _ _ one (and_from _ _ (all_alone w.region 1 p.main inlined.regions) kinds)))
+    fits = fits_so inlined plan entry at q (each_map _ (Staged inlined plan entry at q) staged (accesses q.statement) has_stage) first_stage whiles told kinds
 
   fits_here : fits_plan p plan ≡ true
   fits_here = by (sought inlined w.region)

@@ -1,5 +1,5 @@
 -- The source's way from an epoch's start: through whole iterations and then into one.
-use Rattle.dp_semantics.proofs.Names.{◌≡◌, refl, sym, ap, ◌∙◌, subst, ℕ, suc, ◌||◌, false, true, List, [], ◌∷◌, ◌++◌, ℤ, pos, length, get_or, Ok, Stmt, out-Stmt, Stmt-F, Program, WithLoads, Event, Effect, Stored, Load, followed, site_of, value_of, stored, evaluated, clear_locals, closes, start_cells, Past, pushed, Access, stores_var}
+use Rattle.dp_semantics.proofs.Names.{◌≡◌, refl, sym, ap, ◌∙◌, subst, ℕ, suc, ◌||◌, false, true, List, [], ◌∷◌, ◌++◌, ℤ, length, Ok, Stmt, out-Stmt, Stmt-F, Program, WithLoads, Event, Effect, followed, site_of, value_of, stored, evaluated, clear_locals, closes, start_cells, Past, pushed}
 use Rattle.dp_plan.specs.IsFar.{is_far, is_far_within}
 use Rattle.dp_plan.specs.Checked.{comes_before}
 

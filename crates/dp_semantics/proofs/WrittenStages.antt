@@ -1,5 +1,5 @@
 -- The stages of a written plan, where its lines are in order.
-use Rattle.dp_semantics.proofs.Names.{◌≡◌, refl, sym, ap, ◌∙◌, ℕ, zero, suc, ◌+◌, ◌<◌, ◌≤◌, ◌==◌, Bool, true, false, not, ◌&&◌, ◌||◌, if◌then◌else◌, List, [], ◌∷◌, map, length, filter, Option, Some, None, slice_get, nat_lt, arith, list_any-append, list_all, flat_map, Program, Seq, Par, StageKind, is_par, and_parts, or_parts, inl, inr, and-false, cases_Bool, not-true}
+use Rattle.dp_semantics.proofs.Names.{◌≡◌, refl, sym, ap, ◌∙◌, ℕ, zero, suc, ◌+◌, ◌<◌, ◌≤◌, ◌==◌, Bool, true, false, ◌&&◌, ◌||◌, if◌then◌else◌, List, [], ◌∷◌, map, length, Some, None, slice_get, nat_lt, arith, list_any-append, list_all, flat_map, Seq, Par, StageKind, is_par, and_parts, or_parts, inl, inr, and-false, cases_Bool, not-true}
 use Rattle.dp_plan.specs.Rules.{is_replicated_kind, least, least_site_in, second_neighbour, begins_sequential}
 use Rattle.dp_plan.specs.declared.WrittenStage.{WrittenStage}
 use Rattle.dp_plan.specs.Written.{has, kind_in, sites_in, stage_from}

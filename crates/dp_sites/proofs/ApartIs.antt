@@ -1,6 +1,8 @@
 -- In a region that stands once and whose sites go up one by one, the table of its sites tells which stores lie apart from what is loaded.
-use Rattle.std.proofs.Common.{◌≡◌, refl, sym, ap, ◌∙◌, subst, ℕ, zero, suc, ◌+◌, ◌-◌, ◌≤◌, ◌==◌, true, List, [], ◌∷◌, map, length, append-nil, Option, Some, None, slice_get, inl, inr, arith, eqb-true}
+use Rattle.std.proofs.Common.{◌≡◌, refl, sym, ap, ◌∙◌, subst, ℕ, suc, ◌+◌, ◌-◌, ◌==◌, true, List, [], ◌∷◌, map, length, append-nil, Option, Some, None, slice_get, inl, inr, arith, eqb-true}
 use Rattle.std.proofs.lemmas.Bool.{cases_Bool}
+use Rattle.std.proofs.lemmas.Option.{slice_get-map}
+use Rattle.std.specs.Option.{option_map}
 use Rattle.std.specs.List.{list_any, flat_map}
 use Rattle.dp_base.specs.declared.SiteId.{SiteId}
 use Rattle.dp_tree.specs.declared.Expr.{Expr}
@@ -13,7 +15,7 @@ use Rattle.dp_plan.specs.Access.{accesses, region_in}
 use Rattle.dp_sites.specs.Apart.{TellsApart, bare_plan, loaded_at, passes_or, stored_at, tells}
 use Rattle.dp_plan.specs.Written.{has, region_sites, site_in}
 use Rattle.dp_plan.specs.Touch.{Touch}
-use Rattle.dp_plan.specs.IsFar.{SiteTouch, body_of, passes_with, touches}
+use Rattle.dp_plan.specs.IsFar.{body_of, passes_with, touches}
 use Rattle.dp_sites.specs.Place.{test_of}
 use Rattle.dp_sites.specs.declared.place.Gap.{Gap}
 use Rattle.dp_sites.specs.declared.place.Gap.TheVariants as gap
@@ -21,13 +23,11 @@ use Rattle.dp_sites.specs.declared.part.Part.{Part}
 use Rattle.dp_sites.specs.declared.touched.Touched.{Touched}
 use Rattle.dp_sites.specs.steps.Parts.{part_list, parts, touched, touched_in}
 use Rattle.dp_sites.specs.Storings.{body_at, goes_up_from, storing_at, storing_of}
-use Rattle.dp_sites.proofs.Aligned.{Aligned, aligned}
+use Rattle.dp_sites.proofs.Aligned.{aligned}
 use Rattle.dp_sites.proofs.OuterLoops.{Rises}
-use Rattle.dp_sites.proofs.FarFind.{TouchesRise, find}
 use Rattle.dp_sites.proofs.FarTest.{far_is, far_none}
 use Rattle.dp_plan.proofs.Found.{past_other}
-use Rattle.dp_sites.proofs.PartTable.{Seat, located, part_site, seat, sites_same}
-use Rattle.dp_plan.proofs.EachLemmas.{each_at}
+use Rattle.dp_sites.proofs.PartTable.{found_at, part_site, seat_at, sites_same, touches_rise}
 use Rattle.dp_sites.proofs.TableMade.{opened_region, passes, risen_up}
 
 -- where a site of the list stands
@@ -45,53 +45,32 @@ sited k (u ∷ us) n h e = elim (cases_Bool (u.site == n)) [
   | inr f ↦ let r = sited (suc k) us n h.1 (past_other u.site n (map part_site us) f e) in record { place = suc r.place; part = r.part; at = r.at; site = r.site; number = omega (arith, r.number) }
 ]
 
--- the entry of a map
-mapped : {X Y : Type 0} (f : X → Y) (xs : List X) (i : ℕ) (x : X) → slice_get xs i ≡ Some x → slice_get (map f xs) i ≡ Some (f x)
-mapped f [] i x e = absurd (cc e)
-mapped f (y ∷ xs) zero x e = let same : y ≡ x = cc e in ap (λ z. Some (f z)) same
-mapped f (y ∷ xs) (suc i) x e = mapped f xs i x e
-
 module _ (p : Program) (plan : Plan) (s : Stmt) (only : region_in p plan.region ≡ s ∷ []) (r : ℕ) (site : SiteId) (condition : Expr) (body : List Stmt) (is : out-Stmt s ≡ Region r site condition body)
     (k : ℕ) (goes_up : Rises k (map part_site (parts None s))) (proved : plan.proved ≡ true) where
   abbrev us : List Part
   us = parts None s
 
-  lined : Aligned (accesses s) (touches s) (parts None s)
-  lined = aligned None s
-
-  rises_t : TouchesRise k (touches s)
-  rises_t = subst (λ (ns : List ℕ). Rises k ns) (sym (sites_same (accesses s) (touches s) us lined).1) goes_up
-
-  module _ (j : ℕ) (u : Part) (at : slice_get (parts None s) j ≡ Some u) where
-    here : Seat (accesses s) (touches s) j u
-    here = seat (accesses s) (touches s) us lined j u at
-
-    found_here : find u.site (touches s) ≡ Some here.t
-    found_here =
-        ap (λ (n : ℕ). find n (touches s)) (ap (λ (x : Part). x.site) here.same.part_is)
-        ∙ (each_at (λ (t : SiteTouch). (k ≤ t.site) × (find t.site (touches s) ≡ Some t)) (touches s) (located k (touches s) rises_t) j here.t here.touch).1
-
   -- two of its parts
   module _ (test : Gap) (j : ℕ) (u : Part) (at : slice_get (parts None s) j ≡ Some u) (i : ℕ) (d : Part) (there : slice_get (parts None s) i ≡ Some d) where
     far_at : list_any (passes_with (test_of test) p plan.region d.site u.site) (numbers_from 0 (length p.vars)) ≡ passes_or test u (storing_at p plan us body d)
-    far_at = by (here i d there).t.store refl
+    far_at = by (seat_at s k goes_up i d there).t.store refl
       where
-        stores_is : d.stores ≡ touched_in (here i d there).t.store
-        stores_is = ap (λ (q : Part). q.stores) (here i d there).same.part_is
+        stores_is : d.stores ≡ touched_in (seat_at s k goes_up i d there).t.store
+        stores_is = ap (λ (q : Part). q.stores) (seat_at s k goes_up i d there).same.part_is
 
-        loads_is : u.loads ≡ map touched (here j u at).t.reads
-        loads_is = ap (λ (x : Part). x.loads) (here j u at).same.part_is
+        loads_is : u.loads ≡ map touched (seat_at s k goes_up j u at).t.reads
+        loads_is = ap (λ (x : Part). x.loads) (seat_at s k goes_up j u at).same.part_is
 
-        by : (o : Option Touch) → (here i d there).t.store ≡ o → list_any (passes_with (test_of test) p plan.region d.site u.site) (numbers_from 0 (length p.vars)) ≡ passes_or test u (storing_at p plan us body d)
+        by : (o : Option Touch) → (seat_at s k goes_up i d there).t.store ≡ o → list_any (passes_with (test_of test) p plan.region d.site u.site) (numbers_from 0 (length p.vars)) ≡ passes_or test u (storing_at p plan us body d)
         by None e =
-            far_none p plan s only r site condition body is k rises_t us lined test d u (here i d there).t (here j u at).t (found_here i d there) (found_here j u at) e
+            far_none p plan s only r site condition body is k (touches_rise s k goes_up) us (aligned None s) test d u (seat_at s k goes_up i d there).t (seat_at s k goes_up j u at).t (found_at s k goes_up i d there) (found_at s k goes_up j u at) e
             ∙ sym (ap (λ (o : Option Touched). passes_or test u (storing_of p plan us body d.site o)) (stores_is ∙ ap touched_in e))
         by (Some t) e =
-            far_is p plan s only r site condition body is k rises_t us lined test d u (here i d there).t (here j u at).t (found_here i d there) (found_here j u at) loads_is t.variable t.index e proved
+            far_is p plan s only r site condition body is k (touches_rise s k goes_up) us (aligned None s) test d u (seat_at s k goes_up i d there).t (seat_at s k goes_up j u at).t (found_at s k goes_up i d there) (found_at s k goes_up j u at) loads_is t.variable t.index e proved
             ∙ sym (ap (λ (o : Option Touched). passes_or test u (storing_of p plan us body d.site o)) (stores_is ∙ ap touched_in e))
 
   sites_here : region_sites p plan.region ≡ map part_site (parts None s)
-  sites_here = ap (λ (xs : List Stmt). map site_in (flat_map accesses xs)) only ∙ ap (map site_in) (append-nil (accesses s)) ∙ (sites_same (accesses s) (touches s) us lined).0
+  sites_here = ap (λ (xs : List Stmt). map site_in (flat_map accesses xs)) only ∙ ap (map site_in) (append-nil (accesses s)) ∙ (sites_same (accesses s) (touches s) us (aligned None s)).0
 
   told : (test : Gap) (d u : ℕ) → has d (region_sites p plan.region) ≡ true → has u (region_sites p plan.region) ≡ true
       → tells test (record { first = k; parts = parts None s; stores = map (storing_at p plan (parts None s) body) (parts None s) }) d u ≡ list_any (passes_with (test_of test) p plan.region d u) (numbers_from 0 (length p.vars))
@@ -103,7 +82,7 @@ module _ (p : Program) (plan : Plan) (s : Stmt) (only : region_in p plan.region 
       ap (λ (n : ℕ). loaded_at test (slice_get us n) (slice_get (map (storing_at p plan us body) us) (d - k))) placeU
       ∙ ap (λ (o : Option Part). loaded_at test o (slice_get (map (storing_at p plan us body) us) (d - k))) atU.at
       ∙ ap (λ (n : ℕ). stored_at test atU.part (slice_get (map (storing_at p plan us body) us) n)) placeD
-      ∙ ap (stored_at test atU.part) (mapped (storing_at p plan us body) us atD.place atD.part atD.at)
+      ∙ ap (stored_at test atU.part) (slice_get-map (storing_at p plan us body) us atD.place ∙ ap (option_map (storing_at p plan us body)) atD.at)
       ∙ sym (far_at test atU.place atU.part atU.at atD.place atD.part atD.at)
       ∙ ap (λ (n : ℕ). list_any (passes_with (test_of test) p plan.region n atU.part.site) (numbers_from 0 (length p.vars))) atD.site
       ∙ ap (λ (n : ℕ). list_any (passes_with (test_of test) p plan.region d n) (numbers_from 0 (length p.vars))) atU.site

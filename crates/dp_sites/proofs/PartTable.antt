@@ -2,15 +2,17 @@
 use Rattle.std.proofs.Common.{◌≡◌, inl, inr, refl, sym, ap, ◌∙◌, subst, ℕ, zero, suc, ◌+◌, ◌<◌, ◌≤◌, ◌==◌, Bool, true, false, if◌then◌else◌, not, ◌&&◌, ◌||◌, nat_lt, nat_le, List, [], ◌∷◌, map, Option, Some, None, slice_get, arith, eq-eqb, ne_eqb, lt-ltb, le-ltb, le-leb}
 use Rattle.std.proofs.lemmas.Bool.{cases_lt, lt-leb}
 use Rattle.std.specs.List.{cons_option, list_any}
-use Rattle.dp_plan.specs.Access.{Access}
+use Rattle.dp_tree.specs.declared.Stmt.{Stmt}
+use Rattle.dp_plan.specs.Access.{Access, accesses}
 use Rattle.dp_plan.specs.Written.{site_in}
-use Rattle.dp_plan.specs.IsFar.{SiteTouch}
+use Rattle.dp_plan.specs.IsFar.{SiteTouch, touches}
 use Rattle.dp_plan.specs.Checked.{has_site}
 use Rattle.dp_sites.specs.declared.moving.Storing.{Storing}
 use Rattle.dp_sites.specs.declared.part.Part.{Part}
+use Rattle.dp_sites.specs.steps.Parts.{parts}
 use Rattle.dp_plan.specs.Each.{Each}
-use Rattle.dp_plan.proofs.EachLemmas.{each_map}
-use Rattle.dp_sites.proofs.Aligned.{Aligned, Same}
+use Rattle.dp_plan.proofs.EachLemmas.{each_at, each_map}
+use Rattle.dp_sites.proofs.Aligned.{Aligned, Same, aligned}
 use Rattle.dp_sites.proofs.OuterLoops.{Rises}
 use Rattle.dp_sites.proofs.FarFind.{TouchesRise, find, touch_site}
 use Rattle.std.proofs.Math.Bool.{or-false}
@@ -156,3 +158,19 @@ passed_by test (Some storing) = test storing
 pub any_storing : (test : Storing → Bool) (o : Option Storing) (rest : List Storing) → (passed_by test o || list_any test rest) ≡ list_any test (cons_option o rest)
 any_storing test None rest = refl
 any_storing test (Some storing) rest = refl
+
+-- ---- a statement whose sites go up one by one
+
+module _ (s : Stmt) (k : ℕ) (goes_up : Rises k (map part_site (parts None s))) where
+  pub touches_rise : TouchesRise k (touches s)
+  touches_rise = subst (λ (ns : List ℕ). Rises k ns) (sym (sites_same (accesses s) (touches s) (parts None s) (aligned None s)).1) goes_up
+
+  -- one part, and what stands at its place
+  module _ (j : ℕ) (u : Part) (at : slice_get (parts None s) j ≡ Some u) where
+    pub seat_at : Seat (accesses s) (touches s) j u
+    seat_at = seat (accesses s) (touches s) (parts None s) (aligned None s) j u at
+
+    pub found_at : find u.site (touches s) ≡ Some seat_at.t
+    found_at =
+        ap (λ (n : ℕ). find n (touches s)) (ap (λ (x : Part). x.site) seat_at.same.part_is)
+        ∙ (each_at (λ (t : SiteTouch). (k ≤ t.site) × (find t.site (touches s) ≡ Some t)) (touches s) (located k (touches s) touches_rise) j seat_at.t seat_at.touch).1

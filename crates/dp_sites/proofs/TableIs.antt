@@ -1,5 +1,5 @@
 -- In a region that stands once and whose sites go up one by one, the code answers of each site what the definition says.
-use Rattle.std.proofs.Common.{◌≡◌, ◌⊎◌, inl, inr, refl, sym, ap, ◌∙◌, subst, ℕ, zero, suc, ◌+◌, ◌<◌, ◌≤◌, ◌==◌, Bool, true, false, if◌then◌else◌, not, ◌&&◌, ◌||◌, nat_lt, nat_le, List, [], ◌∷◌, ◌++◌, map, filter_map, length, append-nil, Option, Some, None, slice_get, arith, eq-eqb, eqb-true, ne_eqb, lt-ltb, le-ltb, le-leb}
+use Rattle.std.proofs.Common.{◌≡◌, inl, inr, refl, sym, ap, ◌∙◌, subst, ℕ, suc, ◌+◌, ◌==◌, Bool, true, false, if◌then◌else◌, not, ◌&&◌, ◌||◌, nat_lt, nat_le, List, [], ◌∷◌, map, filter_map, append-nil, Option, Some, None, slice_get, arith, eq-eqb, ne_eqb}
 use Rattle.std.proofs.lemmas.Bool.{cases_eq}
 use Rattle.std.specs.List.{list_any, flat_map}
 use Rattle.dp_base.specs.declared.SiteId.{SiteId}
@@ -19,14 +19,13 @@ use Rattle.dp_sites.specs.declared.moving.Storing.{Storing}
 use Rattle.dp_sites.specs.declared.part.Part.{Part}
 use Rattle.dp_sites.specs.declared.touched.Touched.{Touched}
 use Rattle.dp_sites.specs.steps.Parts.{index_in, parts, touched, touched_in}
-use Rattle.dp_sites.specs.Storings.{checked_or, differs_by, end_of, is_ahead, lies_apart, moving_of, part_checked, passes_by, sees_otherwise, storing_at, storing_of, storings, stores_otherwise}
+use Rattle.dp_sites.specs.Storings.{checked_or, differs_by, end_of, is_ahead, moving_of, part_checked, passes_by, sees_otherwise, storing_at, storing_of, storings, stores_otherwise}
 use Rattle.dp_sites.proofs.Aligned.{Aligned, Same, aligned, variable_in}
 use Rattle.dp_sites.proofs.OuterLoops.{Rises, SitesRise, reaches, shared}
-use Rattle.dp_sites.proofs.FarFind.{TouchesRise, find}
+use Rattle.dp_sites.proofs.FarFind.{find}
 use Rattle.dp_sites.proofs.FarTest.{far_is}
 use Rattle.dp_sites.proofs.TextNumbers.{before_is, risen_ascend}
-use Rattle.dp_sites.proofs.PartTable.{Seat, any_at, any_storing, by_order, and_under, code_by, either_any, has_any, located, no_seat, part_site, passed_by, picked, risen, seat, seen_by, sites_same, stored_so, unstored}
-use Rattle.dp_plan.proofs.EachLemmas.{each_at}
+use Rattle.dp_sites.proofs.PartTable.{Seat, found_at, seat_at, touches_rise, any_at, any_storing, by_order, and_under, code_by, either_any, has_any, no_seat, part_site, passed_by, picked, risen, seen_by, sites_same, stored_so, unstored}
 
 module _ (p : Program) (plan : Plan) (s : Stmt) (only : region_in p plan.region ≡ s ∷ []) (r : ℕ) (site : SiteId) (condition : Expr) (body : List Stmt) (is : out-Stmt s ≡ Region r site condition body)
     (k : ℕ) (goes_up : Rises k (map part_site (parts None s))) where
@@ -45,24 +44,19 @@ module _ (p : Program) (plan : Plan) (s : Stmt) (only : region_in p plan.region 
   rises_x : SitesRise k (accesses s)
   rises_x = subst (λ (ns : List ℕ). Rises k ns) (sym (sites_same xs ts us lined).0) goes_up
 
-  rises_t : TouchesRise k (touches s)
-  rises_t = subst (λ (ns : List ℕ). Rises k ns) (sym (sites_same xs ts us lined).1) goes_up
-
   accesses_here : region_accesses p plan ≡ accesses s
   accesses_here = ap (flat_map accesses) only ∙ append-nil (accesses s)
 
   -- one part, and what stands at its place
   module _ (j : ℕ) (u : Part) (at : slice_get (parts None s) j ≡ Some u) where
-    here : Seat (accesses s) (touches s) j u
-    here = seat xs ts us lined j u at
+    abbrev here : Seat (accesses s) (touches s) j u
+    here = seat_at s k goes_up j u at
 
     number : u.site ≡ k + j
     number = risen k us goes_up j u at
 
     found_here : find u.site (touches s) ≡ Some here.t
-    found_here =
-        ap (λ (n : ℕ). find n ts) (ap (λ (x : Part). x.site) here.same.part_is)
-        ∙ (each_at (λ (t : SiteTouch). (k ≤ t.site) × (find t.site ts ≡ Some t)) ts (located k ts rises_t) j here.t here.touch).1
+    found_here = found_at s k goes_up j u at
 
     access_has : has_site u.site (accesses s) ≡ true
     access_has =
@@ -105,10 +99,10 @@ module _ (p : Program) (plan : Plan) (s : Stmt) (only : region_in p plan.region 
       loads_here = ap (λ (x : Part). x.loads) (here j u at).same.part_is
 
       far_here : plan.proved ≡ true → is_far p plan.region d.site u.site ≡ strides
-      far_here proved = far_is p plan s only r site condition body is k rises_t us lined gap.Strides d u td (here j u at).t (found_here i d there) (found_here j u at) loads_here array index stores proved
+      far_here proved = far_is p plan s only r site condition body is k (touches_rise s k goes_up) us lined gap.Strides d u td (here j u at).t (found_here i d there) (found_here j u at) loads_here array index stores proved
 
       far_within_here : plan.proved ≡ true → is_far_within p plan.region d.site u.site ≡ wholly
-      far_within_here proved = far_is p plan s only r site condition body is k rises_t us lined gap.Whole d u td (here j u at).t (found_here i d there) (found_here j u at) loads_here array index stores proved
+      far_within_here proved = far_is p plan s only r site condition body is k (touches_rise s k goes_up) us lined gap.Whole d u td (here j u at).t (found_here i d there) (found_here j u at) loads_here array index stores proved
 
       -- in version 1 nothing moves
       still : plan.proved ≡ false → strides ≡ false

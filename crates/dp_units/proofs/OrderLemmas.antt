@@ -16,7 +16,7 @@ use Rattle.dp_units.proofs.LoopLemmas.{item_at}
 use Rattle.dp_units.proofs.FreeLemmas.{has_first}
 use Rattle.dp_units.proofs.RowLemmas.{in_row}
 use Rattle.dp_units.proofs.TakeLemmas.{edge_within}
-use Rattle.dp_units.proofs.StepLemmas.{counted, taken, fewer, has_room}
+use Rattle.dp_units.proofs.StepLemmas.{counted, taken, fewer}
 
 -- the items of a vector are written anew, as many as there were
 pub whole_written : {X : Type 0} (now was : List X) (n : ℕ) → length now ≡ length was → n ≡ length was → take n (now ++ drop (length now) was) ≡ now

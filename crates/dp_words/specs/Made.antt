@@ -1,5 +1,5 @@
 -- The run of the made program that values name.
-use Rattle.std.specs.Prelude.{◌≡◌, ◌<◌, ◌≤◌, Some, codes}
+use Rattle.std.specs.Prelude.{◌≡◌, ◌≤◌, Some, codes}
 use Rattle.std.specs.Option.{option_map}
 use Rattle.dp_base.specs.declared.limits.TheConstants.{FUEL, INPUT_WORDS, LANE, SEED}
 use Rattle.dp_words.specs.declared.task.GenWords.{GenWords}

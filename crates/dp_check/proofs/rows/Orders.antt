@@ -3,6 +3,7 @@ use Rattle.std.proofs.Common.{◌≡◌, ◌≢◌, refl, ℕ, zero, suc, false,
 use Rattle.dp_base.specs.declared.Quantity.TheVariants.{Functions, Cells}
 use Rattle.dp_base.specs.declared.UnOp.TheVariants as unary
 use Rattle.dp_base.specs.declared.BinOp.TheVariants as op
+use Rattle.dp_base.specs.Counts.{reported}
 use Rattle.dp_tree.specs.declared.Program.{Program}
 use Rattle.dp_tree.specs.declared.raw.RawExpr.{RawExpr}
 use Rattle.dp_tree.specs.declared.raw.RawExpr.TheVariants as expr
@@ -15,7 +16,6 @@ use Rattle.dp_check.specs.declared.fail.CheckFail.TheVariants.{Unknown, Twice, A
 use Rattle.dp_check.specs.Offence.{Token}
 use Rattle.dp_check.specs.Tokens.{expr_tokens, tokens_all}
 use Rattle.dp_check.specs.Answer.{Gives}
-use Rattle.dp_check.specs.Limits.{reported}
 use Rattle.dp_check.specs.CheckAnswer.{check_answer}
 use Rattle.dp_check.proofs.rows.Build.{on, var, num, add, declare, set, say, names_opened}
 

@@ -22,7 +22,7 @@ use Rattle.dp_drive.specs.Plans.{ReadsPlans, TooLong, NotPlans, Broken, Taken}
 use Rattle.dp_drive.specs.steps.Carried.{Names, LoadsTexts, Loaded as LoadedTexts}
 use Rattle.dp_drive.specs.declared.load.Loaded.{Loaded}
 use Rattle.dp_drive.specs.declared.load.Loaded.TheVariants.{Text, Refused, Failed}
-use Rattle.dp_drive.specs.Loading.{IfText, Loads, LoadsPlans, LoadsProgram}
+use Rattle.dp_drive.specs.Loading.{IfText, Loads, LoadsPlans, LoadsProgram, ReadsProgram}
 use Rattle.dp_drive.proofs.TextsLemmas.{Source, source_of}
 use Rattle.dp_drive.proofs.accepted.Accepted.{inlined_read}
 
@@ -83,8 +83,8 @@ words_given contents run faults after failed fails q numbers plans (LoadedTexts 
 
 -- what is run for a program's text is an inlined program
 module _ (contents : Contents) (name : List ℕ) (q : Program) (h : LoadsProgram contents name (Ok q)) where
-  s : Source contents name q
-  s = source_of contents name q h
+  s : Source (ReadsProgram contents name) q
+  s = source_of (ReadsProgram contents name) q h
 
   pub loaded_inlined : IsInlined q
   loaded_inlined = subst IsInlined (sym s.is) (inlined_read s.reads.text s.source s.reads.reads)

@@ -98,16 +98,7 @@ pub asks_once : (words : List Text) (a b : Asked) → Asks words a → Asks word
 asks_once words a b h k = of_verb words a b (sym (asks_verb words a h) ∙ asks_verb words b k) h k
 
 -- words that ask for something else ask for no run
-no_run : (words : List Text) (other : Asked) → run_fuel other ≡ None → Asks words other → (asked : Asked) (fuel : ℕ) → Asks words asked → run_fuel asked ≡ Some fuel → ⊥
+pub no_run : (words : List Text) (other : Asked) → run_fuel other ≡ None → Asks words other → (asked : Asked) (fuel : ℕ) → Asks words asked → run_fuel asked ≡ Some fuel → ⊥
 no_run words other none h asked fuel k some =
     let clash : None ≡ Some fuel = sym none ∙ ap run_fuel (asks_once words other asked h k) ∙ some in
     absurd (cc clash)
-
-pub no_run_and_plans : {words : List Text} {planning : Planning} → AsksBy (codes "plan") plan_app ShowsPlanning words planning → (asked : Asked) (fuel : ℕ) → Asks words asked → run_fuel asked ≡ Some fuel → ⊥
-no_run_and_plans {words = words} {planning = planning} h asked fuel k some = no_run words (ToPlan planning) refl h asked fuel k some
-
-pub no_run_and_sites : {words : List Text} {program : List ℕ} → AsksBy (codes "check") check_app ShowsSites words program → (asked : Asked) (fuel : ℕ) → Asks words asked → run_fuel asked ≡ Some fuel → ⊥
-no_run_and_sites {words = words} {program = program} h asked fuel k some = no_run words (ToList program) refl h asked fuel k some
-
-pub no_run_and_profile : {words : List Text} {profiling : Profiling} → AsksBy (codes "profile") profile_app ShowsProfiling words profiling → (asked : Asked) (fuel : ℕ) → Asks words asked → run_fuel asked ≡ Some fuel → ⊥
-no_run_and_profile {words = words} {profiling = profiling} h asked fuel k some = no_run words (ToProfile profiling) refl h asked fuel k some

@@ -1,6 +1,7 @@
 -- Input texts read word by word.
-use Rattle.std.proofs.Common.{◌≡◌, refl, ℕ, List, [], ◌∷◌, ℤ, pos, negsuc, ◌++◌, Some, None, Result, Ok, Err, codes}
-use Rattle.dp_edge.specs.Digits.{digit_after, magnitude_of}
+use Rattle.std.proofs.Common.{◌≡◌, refl, ℕ, ◌-◌, ◌^◌, List, [], ◌∷◌, ℤ, pos, negsuc, ◌++◌, Some, None, Result, Ok, Err, codes}
+use Rattle.dp_base.specs.Digits.{digit_after}
+use Rattle.dp_edge.specs.Digits.{magnitude_of}
 use Rattle.dp_edge.specs.Input.{words, number_of, numbers_of, AnswersInput}
 use Rattle.dp_edge.specs.declared.input.InputFail.{InputFail}
 use Rattle.dp_edge.specs.declared.input.InputFail.TheVariants.{TooMany, Refused}
@@ -43,10 +44,10 @@ refused : (word : ℕ) (wanted : Result (List ℤ) InputFail) → AnswersInput (
 refused word wanted e = e
 
 -- the digits of a number without a sign
-twelve : digit_after 1 50 ≡ Some 12
+twelve : digit_after (2 ^ 64 - 1) 1 50 ≡ Some 12
 twelve = refl
 
-last_digit : (digit_after 1844674407370955161 53 ≡ Some 18446744073709551615) × (digit_after 1844674407370955161 54 ≡ None)
+last_digit : (digit_after (2 ^ 64 - 1) 1844674407370955161 53 ≡ Some 18446744073709551615) × (digit_after (2 ^ 64 - 1) 1844674407370955161 54 ≡ None)
 last_digit = (refl, refl)
 
 greatest_without_a_sign : (magnitude_of (codes "18446744073709551615") ≡ Some 18446744073709551615) × (magnitude_of (codes "18446744073709551616") ≡ None)

@@ -1,6 +1,7 @@
 -- The sizes of expanded programs, and the limits on them.
 use Rattle.std.proofs.Common.{◌≡◌, ◌≢◌, refl, ℕ, zero, suc, List, [], ◌∷◌, ◌++◌, map, replicate, Option, Some, None, Result, Ok, Err}
 use Rattle.dp_base.specs.declared.Quantity.TheVariants.{InlinedSize, RegionSites}
+use Rattle.dp_base.specs.Counts.{reported}
 use Rattle.dp_tree.specs.declared.Function.{Function}
 use Rattle.dp_tree.specs.declared.Stmt.{Stmt}
 use Rattle.dp_tree.specs.declared.Stmt.TheVariants as stmt
@@ -9,7 +10,7 @@ use Rattle.dp_tree.proofs.Build.{num, set, set_at, say, loop, region, call, func
 use Rattle.dp_inline.specs.declared.fail.InlineFail.{InlineFail}
 use Rattle.dp_inline.specs.declared.fail.InlineFail.TheVariants.{Limit, NoMemory}
 use Rattle.dp_inline.specs.Size.{inlined_size, site_total, region_size}
-use Rattle.dp_inline.specs.InlineAnswer.{reported, Gives, too_large, first_large_region, inline_answer}
+use Rattle.dp_inline.specs.InlineAnswer.{Gives, too_large, first_large_region, inline_answer}
 
 abbrev with_main : List Function → List Stmt → Program
 with_main functions main = with_functions functions (program [] [] [] main)

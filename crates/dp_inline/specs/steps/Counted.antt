@@ -1,11 +1,11 @@
 -- The sizes of functions as the code counts them: each once, in order, none above what is reported.
 use Rattle.std.specs.Prelude.{ℕ, List, [], ◌∷◌, ◌++◌, Option, Some, None, slice_get, nat_lt, if◌then◌else◌}
 use Rattle.dp_base.specs.declared.limits.TheConstants.{REGION_SITES}
+use Rattle.dp_base.specs.Counts.{reported}
 use Rattle.dp_tree.specs.declared.Function.{Function}
 use Rattle.dp_tree.specs.declared.Stmt.{Stmt}
 use Rattle.dp_tree.specs.Numbering.{is_marked}
 use Rattle.dp_inline.specs.Size.{size_one, size_list, counts_if}
-use Rattle.dp_inline.specs.InlineAnswer.{reported}
 
 -- the number, if there is one
 abbrev pub number_in : Option ℕ → ℕ

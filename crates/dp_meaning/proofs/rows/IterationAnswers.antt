@@ -1,6 +1,6 @@
 -- A call of `iterate` has one answer: the machine before it settles the machine after it, the prints and the end.
 use Rattle.dp_meaning.proofs.Names.{◌≡◌, refl, sym, ◌∙◌, ap, subst, ◌⊎◌, inl, inr, Option, None, Some, ℕ, ◌<◌, ◌≤◌, Bool, true, false, ◌||◌, List, [], ◌∷◌, ◌++◌, length, ℤ, arith, All-head, Config, Event, Run, decides_zero, is_leaving, list_any, Part, MachineState, part_of, rest_of_run, IterationRun, IterationStops, HeadsOnce, Awaits, GoesOn, StartsAgain, has_closed, upto_closing, current_after}
-use Rattle.std.proofs.lemmas.List.Folds.{list_any-append}
+use Rattle.dp_tree.proofs.Leaving.{any_more}
 use Rattle.std.proofs.lemmas.Bool.{cases_order}
 use Rattle.dp_meaning.specs.declared.ends.Part.TheVariants as part
 use Rattle.dp_meaning.specs.declared.ends.IterEnd.{IterEnd}
@@ -19,18 +19,14 @@ plain_behind region (Some r) cs more c h some = All-head IsPlain c more (behind_
 plain_behind region None [] more c h some = let none : 0 < 0 = some refl in absurd (omega (arith, none))
 plain_behind region None (d ∷ cs) more c h some = All-head IsPlain c more (behind_all IsPlain cs (c ∷ more) h.1)
 
--- events that have left the region did so with others behind them, and at the same one
-any_front : (es more : List Event) → list_any is_leaving es ≡ true → list_any is_leaving (es ++ more) ≡ true
-any_front es more h = list_any-append is_leaving es more ∙ ap (λ (b : Bool). b || list_any is_leaving more) h
-
 closed_front : (current : Option ℕ) (es more : List Event) → has_closed current es ≡ true → has_closed current (es ++ more) ≡ true
-closed_front (Some r) es more h = any_front es more h
+closed_front (Some r) es more h = any_more es more h
 closed_front None [] more h = absurd (cc)
 closed_front None (e ∷ es) more h = by (decides_zero e.effect) h
   where
     by : (b : Bool) → (b || list_any is_leaving (e ∷ es)) ≡ true → (b || list_any is_leaving (e ∷ es ++ more)) ≡ true
     by true k = refl
-    by false k = any_front (e ∷ es) more k
+    by false k = any_more (e ∷ es) more k
 
 closing_front : (current : Option ℕ) (es more : List Event) → has_closed current es ≡ true → upto_closing current es ≡ es → upto_closing current (es ++ more) ≡ es
 closing_front (Some r) es more c h = upto_front es more c ∙ h

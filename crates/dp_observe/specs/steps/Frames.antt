@@ -1,6 +1,7 @@
 -- Where a run stands in a region, and from where a load's value came.
-use Rattle.std.specs.Prelude.{ℕ, ◌+◌, ◌-◌, ◌*◌, ◌==◌, if◌then◌else◌, ◌&&◌, Bool, true, false, not, nat_le, List, [], count_by, Option, Some, None}
+use Rattle.std.specs.Prelude.{ℕ, ◌+◌, ◌-◌, ◌*◌, ◌==◌, if◌then◌else◌, ◌&&◌, Bool, false, not, nat_le, List, [], count_by, Option, Some, None}
 use Rattle.dp_base.specs.Arithmetic.{is_zero}
+use Rattle.dp_base.specs.Counts.{one_if}
 use Rattle.dp_meaning.specs.declared.sight.Effect.{Effect}
 use Rattle.dp_meaning.specs.declared.sight.Effect.TheVariants.{Stored, Printed, Decided, Tried}
 use Rattle.dp_profile.specs.declared.SiteCount.{SiteCount}
@@ -13,11 +14,6 @@ use Rattle.dp_observe.specs.Sparse.{at}
 -- nobody has stored
 abbrev pub nobody : Writer
 nobody = record { site = record { 0 = 0 }; after = 0 }
-
--- the number of a choice
-abbrev pub one_if : Bool → ℕ
-one_if true = 1
-one_if false = 0
 
 -- a number that is kept where the evaluation before was one of the region's
 abbrev pub kept : Frame → ℕ → ℕ → ℕ

@@ -1,5 +1,6 @@
 -- What the counters stand for, after some events, the latest first.
 use Rattle.std.specs.Prelude.{◌≡◌, ◌≢◌, ℕ, suc, ◌+◌, ◌*◌, ◌≤◌, ◌==◌, if◌then◌else◌, Bool, List, [], ◌∷◌, length, Some, slice_get}
+use Rattle.dp_base.specs.Counts.{one_if}
 use Rattle.dp_tree.specs.declared.Program.{Program}
 use Rattle.dp_tree.specs.Step.{Event}
 use Rattle.dp_profile.specs.declared.sites.RegionSite.{RegionSite}
@@ -11,7 +12,7 @@ use Rattle.dp_observe.specs.declared.counter.Counter.{Counter}
 use Rattle.dp_observe.specs.declared.frame.Frame.{Frame}
 use Rattle.dp_observe.specs.declared.frame.Writer.{Writer}
 use Rattle.dp_observe.specs.declared.tally.Tally.{Tally}
-use Rattle.dp_observe.specs.steps.Frames.{nobody, one_if}
+use Rattle.dp_observe.specs.steps.Frames.{nobody}
 use Rattle.dp_observe.specs.steps.Columns.{at_column}
 use Rattle.dp_observe.specs.Sparse.{at}
 

@@ -4,12 +4,13 @@ use Rattle.dp_base.specs.declared.RegionReport.{RegionReport}
 use Rattle.dp_base.specs.declared.FaultKind.TheVariants.{Overflow, Divide, Index}
 use Rattle.dp_base.specs.declared.Cause.TheVariants as cause
 use Rattle.dp_base.specs.declared.End.TheVariants.{Done, Fault, Fuel}
+use Rattle.dp_base.specs.Labels.{labelled}
 use Rattle.dp_tree.specs.declared.Program.{Program}
 use Rattle.dp_tree.specs.declared.VarInfo.{VarInfo}
 use Rattle.dp_tree.specs.declared.VarScope.TheVariants.{Global, Outer, Body}
 use Rattle.dp_tree.specs.declared.SiteKind.TheVariants.{Assign, Print, If, While, Break}
 use Rattle.dp_tree.proofs.Build.{scalar, array, site, program}
-use Rattle.dp_report.specs.Lines.{labelled, labelled_signed}
+use Rattle.dp_report.specs.Lines.{labelled_signed}
 use Rattle.dp_report.specs.Faults.{fault_words}
 use Rattle.dp_report.specs.CauseText.{cause_words}
 use Rattle.dp_report.specs.PrintsText.{prints_bytes}

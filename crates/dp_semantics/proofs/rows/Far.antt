@@ -1,5 +1,5 @@
 -- Accesses that move evenly with a variable: which pairs are far, which sites are checked, and what is executed again, computed.
-use Rattle.std.proofs.Common.{◌≡◌, refl, ℕ, Bool, true, false, List, [], ◌∷◌, ℤ, pos, map}
+use Rattle.std.proofs.Common.{◌≡◌, refl, true, false, [], ◌∷◌, pos, map}
 use Rattle.dp_base.specs.declared.BinOp.TheVariants as op
 use Rattle.dp_tree.specs.declared.SiteKind.TheVariants.{Assign, While}
 use Rattle.dp_tree.specs.declared.VarScope.TheVariants.{Global, Outer, Body}
@@ -11,7 +11,7 @@ use Rattle.dp_plan.specs.declared.Plan.{Plan}
 use Rattle.dp_plan.specs.declared.StageKind.TheVariants.{Seq, Par}
 use Rattle.dp_plan.proofs.Plans.{plan, proved, unchecked}
 use Rattle.dp_plan.specs.IsFar.{is_far, is_far_within}
-use Rattle.dp_plan.specs.Checked.{is_checked, comes_before}
+use Rattle.dp_plan.specs.Checked.{is_checked}
 use Rattle.dp_semantics.specs.Recovery.{recovered}
 use Rattle.dp_semantics.specs.Fits.{fits_plan}
 use Rattle.dp_semantics.specs.Verdict.{source_run}

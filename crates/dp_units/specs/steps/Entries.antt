@@ -1,5 +1,6 @@
 -- Entries of lists: where they stand, and how often.
-use Rattle.std.specs.Prelude.{ℕ, ◌≡◌, ◌<◌, ◌+◌, ◌==◌, Bool, true, false, List, [], ◌∷◌, Some, slice_get}
+use Rattle.std.specs.Prelude.{ℕ, ◌≡◌, ◌<◌, ◌+◌, ◌==◌, List, [], ◌∷◌, Some, slice_get}
+use Rattle.dp_base.specs.Counts.{one_if}
 
 -- the entry at this place of the list
 abbrev pub At : {X : Type 0} → List X → ℕ → X → Type 0
@@ -12,11 +13,6 @@ Has {X} xs x = (i : ℕ) × At xs i x
 -- each is above those before it
 abbrev pub Rises : List ℕ → Type 0
 Rises xs = (i j a b : ℕ) → i < j → At xs i a → At xs j b → a < b
-
--- 1 or 0
-abbrev pub one_if : Bool → ℕ
-one_if true = 1
-one_if false = 0
 
 -- how often this number stands in the list
 abbrev pub times : List ℕ → ℕ → ℕ

@@ -1,5 +1,6 @@
 use Rattle.std.proofs.Common.{◌≡◌, ◌+◌, ◌≤◌, min, drop}
-use Rattle.dp_check.specs.Limits.{reported, global_cells}
+use Rattle.dp_base.specs.Counts.{reported}
+use Rattle.dp_check.specs.Limits.{global_cells}
 use Rattle.dp_check.proofs.limits.cell_count.Given as goal
 
 abbrev pub invariant-loop-item : goal.invariant-loop-item

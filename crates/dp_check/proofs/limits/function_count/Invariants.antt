@@ -1,5 +1,6 @@
 use Rattle.std.proofs.Common.{◌≡◌, ◌+◌, ◌≤◌, min, drop}
-use Rattle.dp_check.specs.Limits.{reported, function_count}
+use Rattle.dp_base.specs.Counts.{reported}
+use Rattle.dp_check.specs.Limits.{function_count}
 use Rattle.dp_check.proofs.limits.function_count.Given as goal
 
 abbrev pub invariant-loop-item : goal.invariant-loop-item

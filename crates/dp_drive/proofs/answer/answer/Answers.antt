@@ -1,8 +1,9 @@
 use Rattle.std.proofs.Common.{◌∙◌, ap, refl, Some}
+use Rattle.dp_words.specs.Words.{ToList, ToPlan, ToProfile}
 use Rattle.dp_drive.specs.declared.refusal.Refusal.TheVariants.{Words}
 use Rattle.dp_drive.proofs.AnswerLemmas.{carry_not_taken}
 use Rattle.dp_drive.proofs.CountLemmas.{no_run_counts, refused_counts}
-use Rattle.dp_drive.proofs.definite.AsksOnce.{no_run_and_plans, no_run_and_profile, no_run_and_sites}
+use Rattle.dp_drive.proofs.definite.AsksOnce.{no_run}
 use Rattle.dp_drive.proofs.answer.answer.Goals as goal
 
 pub returns-in-None-clause-carried : goal.returns-in-None-clause-carried
@@ -24,10 +25,10 @@ pub returns-in-Some-Run-clause-counted : goal.returns-in-Some-Run-clause-counted
 returns-in-Some-Run-clause-counted g c = c.answer_run.ensures.counted _ (rw (c.in-Some-Run.is ∙ ap Some c.in-Some-Run.field-0-is) at c.in_ok-run.ensures.some)
 
 pub returns-in-Some-Plan-clause-counted : goal.returns-in-Some-Plan-clause-counted
-returns-in-Some-Plan-clause-counted g c = no_run_counts _ _ _ _ _ (no_run_and_plans (rw (c.in-Some-Plan.is ∙ ap Some c.in-Some-Plan.field-0-is) at c.in_ok-run.ensures.some))
+returns-in-Some-Plan-clause-counted g c = no_run_counts _ _ _ _ _ (no_run _ (ToPlan _) refl (rw (c.in-Some-Plan.is ∙ ap Some c.in-Some-Plan.field-0-is) at c.in_ok-run.ensures.some))
 
 pub returns-in-Some-Check-clause-counted : goal.returns-in-Some-Check-clause-counted
-returns-in-Some-Check-clause-counted g c = no_run_counts _ _ _ _ _ (no_run_and_sites (rw (c.in-Some-Check.is ∙ ap Some c.in-Some-Check.field-0-is) at c.in_ok-run.ensures.some))
+returns-in-Some-Check-clause-counted g c = no_run_counts _ _ _ _ _ (no_run _ (ToList _) refl (rw (c.in-Some-Check.is ∙ ap Some c.in-Some-Check.field-0-is) at c.in_ok-run.ensures.some))
 
 pub returns-in-Some-Gen-clause-carried : goal.returns-in-Some-Gen-clause-carried
 returns-in-Some-Gen-clause-carried g c = c.answer_gen.ensures.carried _ _ _ _ (rw (c.in-Some-Gen.is ∙ ap Some c.in-Some-Gen.field-0-is) at c.in_ok-run.ensures.some)
@@ -39,4 +40,4 @@ pub returns-in-Some-Profile-clause-carried : goal.returns-in-Some-Profile-clause
 returns-in-Some-Profile-clause-carried g c = c.answer_profile.ensures.carried _ (rw (c.in-Some-Profile.is ∙ ap Some c.in-Some-Profile.field-0-is) at c.in_ok-run.ensures.some)
 
 pub returns-in-Some-Profile-clause-counted : goal.returns-in-Some-Profile-clause-counted
-returns-in-Some-Profile-clause-counted g c = no_run_counts _ _ _ _ _ (no_run_and_profile (rw (c.in-Some-Profile.is ∙ ap Some c.in-Some-Profile.field-0-is) at c.in_ok-run.ensures.some))
+returns-in-Some-Profile-clause-counted g c = no_run_counts _ _ _ _ _ (no_run _ (ToProfile _) refl (rw (c.in-Some-Profile.is ∙ ap Some c.in-Some-Profile.field-0-is) at c.in_ok-run.ensures.some))

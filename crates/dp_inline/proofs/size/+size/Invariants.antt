@@ -1,5 +1,5 @@
 use Rattle.std.proofs.Common.{◌≡◌, ◌+◌, ◌≤◌, min, drop}
-use Rattle.dp_inline.specs.InlineAnswer.{reported}
+use Rattle.dp_base.specs.Counts.{reported}
 use Rattle.dp_inline.specs.steps.Counted.{counted_list}
 use Rattle.dp_inline.proofs.size.+size.Given as goal
 

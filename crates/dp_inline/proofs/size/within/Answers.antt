@@ -1,5 +1,6 @@
 use Rattle.std.proofs.Common.{◌≡◌, sym, ap, ◌∙◌, Ok}
-use Rattle.dp_inline.specs.InlineAnswer.{reported, unless, first_large_region}
+use Rattle.dp_base.specs.Counts.{reported}
+use Rattle.dp_inline.specs.InlineAnswer.{unless, first_large_region}
 use Rattle.dp_inline.specs.steps.Counted.{counted_list, first_large}
 use Rattle.dp_inline.proofs.SizeForms.{all_sizes}
 use Rattle.dp_inline.proofs.LimitLemmas.{is_large, is_small, limit_of, large_regions, answers}
