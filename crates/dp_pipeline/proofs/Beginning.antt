@@ -1,10 +1,10 @@
 -- Where an epoch begins, its units stand at its first item.
-use Rattle.std.proofs.Common.{arith, ◌≡◌, ◌<◌, ◌≤◌, ◌^◌, ℕ, zero, suc, ◌+◌, ◌-◌, Bool, false, List, [], ◌∷◌, ◌++◌, ℤ, length, replicate, Option, Some, None, sym, ap, ◌∙◌, subst, refl}
+use Rattle.std.proofs.Common.{arith, ◌≡◌, ◌≤◌, ◌^◌, ℕ, zero, suc, ◌+◌, ◌-◌, false, List, [], ◌∷◌, ◌++◌, ℤ, length, replicate, Some, None, sym, ap, ◌∙◌, subst, refl}
 use Rattle.dp_tree.specs.declared.Program.{Program}
 use Rattle.dp_plan.specs.declared.Plan.{Plan}
 use Rattle.dp_plan.specs.Each.{Each}
 use Rattle.dp_semantics.specs.EpochKey.{EpochKey, epoch_of}
-use Rattle.dp_lane.specs.declared.rule.View.TheVariants.{Sender, Taker}
+use Rattle.dp_lane.specs.declared.rule.View.TheVariants.{Sender}
 use Rattle.dp_lane.specs.Ends.{End, new_end}
 use Rattle.dp_ring.specs.declared.view.Standing.{Standing}
 use Rattle.dp_ring.specs.declared.view.Phase.TheVariants.{Putting, Resting, Collecting}

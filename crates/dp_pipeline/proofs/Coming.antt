@@ -1,5 +1,5 @@
 -- What comes to a unit is the next packet of its epoch.
-use Rattle.std.proofs.Common.{arith, ◌≡◌, ◌<◌, ◌≤◌, inl, inr, ℕ, ◌+◌, ◌-◌, ◌^◌, ◌⊎◌, min, Bool, false, List, [], Option, Some, None, sym, ap, ◌∙◌, subst, refl, zero}
+use Rattle.std.proofs.Common.{◌≡◌, ℕ, ◌+◌, sym, ap, subst, refl}
 use Rattle.dp_semantics.specs.EpochKey.{EpochKey}
 use Rattle.dp_lane.specs.declared.rule.View.{View}
 use Rattle.dp_lane.specs.declared.rule.View.TheVariants.{Fresh, Sender, Taker, Spent}
@@ -9,7 +9,7 @@ use Rattle.dp_pipeline.specs.declared.carried.Carried.{Carried}
 use Rattle.dp_pipeline.specs.declared.judged.Judged.{Judged}
 use Rattle.dp_pipeline.specs.Carried.{IsCarried, IsJudged, is_last_carried, is_last_judged}
 use Rattle.dp_pipeline.specs.Keys.{key_of}
-use Rattle.dp_pipeline.specs.Standing.{TakesFrom, SendsTo, taken_by, sent_by, ended_by}
+use Rattle.dp_pipeline.specs.Standing.{TakesFrom, SendsTo, taken_by, ended_by}
 
 -- an item was taken from a lane
 pub lane_gave : (old new : View LaneKey) (x : Carried)

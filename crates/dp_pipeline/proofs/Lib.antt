@@ -9,3 +9,4 @@ pub mod Turned
 pub mod VerdictsCome
 pub mod ProgramLists
 pub mod UnitCounts
+pub mod rows

@@ -1,5 +1,5 @@
 -- The ends of a unit, before and behind an item.
-use Rattle.std.proofs.Common.{◌≡◌, ℕ, ◌+◌, ◌-◌, Option, Some, None, sym, ap, ◌∙◌, subst, refl}
+use Rattle.std.proofs.Common.{◌≡◌, ℕ, ◌+◌, ◌-◌, Option, sym, ap, subst, refl}
 use Rattle.dp_semantics.specs.EpochKey.{EpochKey}
 use Rattle.dp_lane.specs.Ends.{End}
 use Rattle.dp_pipeline.specs.declared.keys.LaneKey.{LaneKey}

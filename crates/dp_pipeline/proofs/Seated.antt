@@ -1,9 +1,9 @@
 -- What comes out of a ring is the next packet of its epoch, and what goes in is.
-use Rattle.std.proofs.Common.{arith, ◌≡◌, ◌<◌, ◌≤◌, inl, ℕ, ◌+◌, ◌-◌, ◌^◌, Option, Some, None, IfSome, sym, ap, ◌∙◌, subst, refl}
+use Rattle.std.proofs.Common.{arith, ◌≡◌, ◌<◌, ◌≤◌, inl, ℕ, ◌+◌, ◌-◌, ◌^◌, Option, IfSome, sym, ap, ◌∙◌, subst, refl}
 use Rattle.dp_semantics.specs.EpochKey.{EpochKey}
 use Rattle.dp_ring.specs.declared.view.Standing.{Standing}
 use Rattle.dp_ring.specs.declared.view.View.{View}
-use Rattle.dp_ring.specs.Views.{looked, awaited_word, after_put, after_collect}
+use Rattle.dp_ring.specs.Views.{after_put, after_collect}
 use Rattle.dp_ring.specs.Calls.{served, IsBusy}
 use Rattle.dp_pipeline.specs.declared.keys.LaneKey.{LaneKey}
 use Rattle.dp_pipeline.specs.declared.carried.Carried.{Carried}

@@ -4,8 +4,7 @@ use Rattle.dp_plan.specs.declared.Plan.{Plan}
 use Rattle.dp_plan.specs.Access.{is_replicated}
 use Rattle.dp_semantics.specs.Packets as packets
 use Rattle.dp_semantics.specs.EpochKey.{EpochKey, epoch_of}
-use Rattle.dp_semantics.specs.EpochVerdicts as verdicts
-use Rattle.dp_semantics.specs.Items.{SentPacket, IsSent, IsVerdict, OrWanting, is_last_packet, is_last_verdict, packet_goes_on, verdict_goes_on}
+use Rattle.dp_semantics.specs.Items.{OrWanting, packet_goes_on, verdict_goes_on}
 use Rattle.dp_packet.specs.declared.Packet.{Packet}
 use Rattle.dp_packet.specs.declared.PacketStatus.{PacketStatus}
 use Rattle.dp_packet.specs.declared.PacketStatus.TheVariants.{Going, Closing, Void, NoMemory}
@@ -22,13 +21,11 @@ use Rattle.dp_commit.specs.declared.verdict.Verdict.TheVariants as verdict
 use Rattle.dp_commit.specs.Standing.{Judges, JudgesNext, Gives}
 use Rattle.dp_commit.specs.Told.{decided}
 use Rattle.dp_pipeline.specs.declared.carried.Carried.{Carried}
-use Rattle.dp_pipeline.specs.declared.judged.Judged.{Judged}
 use Rattle.dp_pipeline.specs.declared.staged.Staged.{Staged}
-use Rattle.dp_pipeline.specs.declared.judge.Judge.{Judge}
-use Rattle.dp_pipeline.specs.Carried.{IsCarried, IsJudged, is_last_carried, is_last_judged, sent_packet, sent_of}
+use Rattle.dp_pipeline.specs.Carried.{IsCarried, IsJudged, is_last_carried, is_last_judged, sent_packet}
 use Rattle.dp_pipeline.specs.steps.Ending.{ends_with}
 use Rattle.dp_pipeline.specs.Places.{At, behind}
-use Rattle.dp_pipeline.specs.Staging.{StandsFor, RunsAt, JudgesFor, JudgesAt}
+use Rattle.dp_pipeline.specs.Staging.{StandsFor, RunsAt, JudgesAt}
 
 pub twice_not : (b : Bool) → b ≡ not (not b)
 twice_not true = refl
@@ -121,7 +118,6 @@ staged_makes m new number fuel x sent same iteration wants run key s place n w a
       record {
         sent = record { iteration = iteration ∙ came.sent.iteration; packet = ran.0 };
         within = subst (λ (i : ℕ). i ≤ key.fuel) (sym iteration) came.within;
-        plan = came.plan;
       },
       ap (λ (f : ℕ). ends_with f sent.status sent.iteration) w.fuel ∙ last_carried key (record { packet = sent; plan = x.plan }),
       λ e. record { stage = same ∙ w.stage; fuel = w.fuel; stands = ran.1 e },
@@ -146,7 +142,7 @@ judge_makes t new x i v is judges key s None n w at came = absurd w.stands
 judge_makes t new x i v is judges key s (Some m) n w at came =
     let gives = judges key n (subst (λ (k : ℕ). Judges t key k) (sym at) w.stands)
     (subst (λ (k : ℕ). OrWanting (packets.passed (epoch_of key) k n).packet (sent_packet x.packet.status x.packet)) w.before came.sent.packet) in (
-      record { verdict = record { iteration = is ∙ came.sent.iteration; verdict = gives.0 }; plan = came.plan },
+      record { verdict = record { iteration = is ∙ came.sent.iteration; verdict = gives.0 } },
       refl,
       λ e. record { before = w.before; stands = judges_next v new key n gives.1 e },
     )

@@ -1,9 +1,8 @@
 -- A worker draws tickets, and takes and gives the packet of each.
-use Rattle.std.proofs.Common.{arith, ◌≡◌, ◌<◌, ◌≤◌, ℕ, ◌+◌, ◌-◌, ◌^◌, Bool, true, false, Option, Some, None, IfSome, sym, ap, ◌∙◌, subst, refl}
+use Rattle.std.proofs.Common.{arith, ◌≡◌, ◌<◌, ◌≤◌, ℕ, ◌+◌, ◌-◌, ◌^◌, Bool, true, false, Option, IfSome, sym, ap, ◌∙◌, subst, refl}
 use Rattle.dp_semantics.specs.EpochKey.{EpochKey}
 use Rattle.dp_ring.specs.declared.view.Standing.{Standing}
 use Rattle.dp_ring.specs.declared.view.View.{View}
-use Rattle.dp_ring.specs.declared.view.Phase.{Phase}
 use Rattle.dp_ring.specs.declared.view.Phase.TheVariants.{Resting, Taking, Giving}
 use Rattle.dp_ring.specs.Views.{after_draw, after_take, after_give}
 use Rattle.dp_ring.specs.Calls.{served, IsBusy}
@@ -13,7 +12,7 @@ use Rattle.dp_pipeline.specs.declared.tickets.Tickets.{Tickets}
 use Rattle.dp_pipeline.specs.Carried.{IsCarried, is_last_carried}
 use Rattle.dp_pipeline.specs.Keys.{key_of}
 use Rattle.dp_pipeline.specs.Places.{At, behind}
-use Rattle.dp_pipeline.specs.Seats.{SitsAt, IsFreeBy, MayTake, HasTaken}
+use Rattle.dp_pipeline.specs.Seats.{IsFreeBy, MayTake, HasTaken}
 use Rattle.dp_pipeline.proofs.Seated.{known, known_back, sits_on, to_epoch, to_ring, within_fuel}
 
 -- by whether it has a ticket

@@ -1,5 +1,5 @@
 -- What a packet and a verdict are in their epoch.
-use Rattle.std.specs.Prelude.{◌≡◌, ◌≤◌, ℕ, Bool, Option, Some, None}
+use Rattle.std.specs.Prelude.{◌≤◌, ℕ, Bool, Option, Some, None}
 use Rattle.dp_semantics.specs.EpochKey.{EpochKey}
 use Rattle.dp_semantics.specs.Packets as packets
 use Rattle.dp_semantics.specs.Items.{SentPacket, SentVerdict, IsSent, IsVerdict, is_last_packet, is_last_verdict}
@@ -25,7 +25,6 @@ sent_of x = record { iteration = x.packet.iteration; packet = sent_packet x.pack
 pub record IsCarried (key : EpochKey) (s k : ℕ) (x : Carried) : Type 0 where
   pub sent : IsSent key s k (sent_of x)
   pub within : x.packet.iteration ≤ key.fuel
-  pub plan : x.plan.now ≡ key.plan
 
 abbrev pub is_last_carried : EpochKey → Carried → Bool
 is_last_carried key x = is_last_packet key (sent_of x)
@@ -36,7 +35,6 @@ verdict_of x = record { iteration = x.iteration; verdict = decided x.verdict }
 -- It is the verdict on the epoch's k-th iteration.
 pub record IsJudged (key : EpochKey) (k : ℕ) (x : Judged) : Type 0 where
   pub verdict : IsVerdict key k (verdict_of x)
-  pub plan : x.plan.now ≡ key.plan
 
 abbrev pub is_last_judged : EpochKey → Judged → Bool
 is_last_judged key x = is_last_verdict key (verdict_of x)

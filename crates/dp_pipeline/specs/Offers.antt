@@ -1,5 +1,5 @@
 -- What the two halves of a poll do.
-use Rattle.std.specs.Prelude.{◌≡◌, ◌⊎◌, ℕ, ◌+◌, Bool, false, Option, Some, None}
+use Rattle.std.specs.Prelude.{◌≡◌, ◌⊎◌, ℕ, ◌+◌, Bool, Option, Some, None}
 use Rattle.dp_semantics.specs.EpochKey.{EpochKey}
 use Rattle.dp_pipeline.specs.declared.stage.Made.{Made}
 use Rattle.dp_pipeline.specs.declared.polled.Polled.{Polled}

@@ -4,7 +4,7 @@ use Rattle.dp_stop.specs.Flag.{Looks}
 use Rattle.dp_pipeline.specs.Facts.{Facts}
 use Rattle.dp_pipeline.specs.Offers.{Advances}
 use Rattle.dp_pipeline.specs.declared.polled.Polled.{Polled}
-use Rattle.dp_pipeline.specs.declared.polled.Polled.TheVariants.{Moved, Idle, Ended}
+use Rattle.dp_pipeline.specs.declared.polled.Polled.TheVariants.{Ended}
 use Rattle.dp_pipeline.specs.declared.polled.EndedWhy.{EndedWhy}
 use Rattle.dp_pipeline.specs.declared.polled.EndedWhy.TheVariants.{Last, Stopped}
 

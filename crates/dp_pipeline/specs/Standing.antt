@@ -33,10 +33,8 @@ pub record SendsTo (view : View LaneKey) (key : EpochKey) (s n : ℕ) : Type 0 w
 
 -- what starts the epoch's iterations, n of which were started
 pub record Starts (x : First) (key : EpochKey) (s n : ℕ) : Type 0 where
-  pub first : x.first ≡ key.first
   pub next : x.next ≡ key.first + n
   pub fuel : x.fuel ≡ key.fuel
-  pub plan : x.plan.now ≡ key.plan
   pub stage : s ≡ 0
 
 -- what stage s sends in the epoch comes from here, and n items came

@@ -85,23 +85,18 @@ fn add_replicated<'p>(
 {
     let stage = staged(alloc, setting, key)?;
     key.stage += 1;
-    let (producer, seats, consumer) = Ring::new::<Carried>(
-        alloc,
-        key,
-        setting.lane,
-        setting.workers,
-    )?;
+    let (input, seats, output) = Ring::new::<Carried>(alloc, key, setting.lane, setting.workers)?;
     let unit = stage_unit(
         alloc,
         stage,
         source,
-        Target::Ring(producer),
+        Target::Ring(input),
         stop,
         setter.seat(stop),
     )?;
     units.push(unit)?;
     add_workers(alloc, setting, key, seats, units, stop, setter)?;
-    Ok(Source::Ring(consumer))
+    Ok(Source::Ring(output))
 }
 
 /// The try-commit unit, and where its verdicts come.

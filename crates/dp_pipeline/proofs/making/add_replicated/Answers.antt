@@ -15,7 +15,7 @@ stage_unit-requires-clause-start c =
       c.args.key.now.stage,
       c.in_ok-stage.ensures,
       c.requires.source.0,
-      (puts_first c.in_ok-producer.producer c.in_ok-producer.consumer.ring c.args.setting.lane lane c.args.key.now.stage c.in_ok-producer.ensures.producer refl c.requires.fuel).0,
+      (puts_first c.in_ok-input.input c.in_ok-input.output.ring c.args.setting.lane lane c.args.key.now.stage c.in_ok-input.ensures.producer refl c.requires.fuel).0,
     )
 
 pub add_workers-requires-clause-replicated : goal.add_workers-requires-clause-replicated
@@ -26,10 +26,10 @@ add_workers-requires-clause-replicated c =
 pub add_workers-requires-clause-seats : goal.add_workers-requires-clause-seats
 add_workers-requires-clause-seats c =
     let lane : LaneKey = record { epoch = c.args.key.now.epoch; stage = c.args.key.now.stage + 1 } in
-    subst (λ (seats : List (Standing LaneKey)). Each (IsUnused lane) seats) (sym c.in_ok-producer.ensures.workers)
-    (all_unused c.args.setting.workers c.in_ok-producer.consumer.ring c.args.setting.lane lane)
+    subst (λ (seats : List (Standing LaneKey)). Each (IsUnused lane) seats) (sym c.in_ok-input.ensures.workers)
+    (all_unused c.args.setting.workers c.in_ok-input.output.ring c.args.setting.lane lane)
 
 pub returns-clause-next : goal.returns-clause-next
 returns-clause-next c =
     let lane : LaneKey = record { epoch = c.args.key.now.epoch; stage = c.args.key.now.stage + 1 } in
-    collects_first c.in_ok-producer.consumer c.in_ok-producer.consumer.ring c.args.setting.lane (2 ^ 62 - c.args.setting.workers * 2 ^ 32) lane c.in_ok-producer.ensures.consumer
+    collects_first c.in_ok-input.output c.in_ok-input.output.ring c.args.setting.lane (2 ^ 62 - c.args.setting.workers * 2 ^ 32) lane c.in_ok-input.ensures.consumer

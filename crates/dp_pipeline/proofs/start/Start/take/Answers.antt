@@ -1,4 +1,4 @@
-use Rattle.std.proofs.Common.{◌≡◌, ◌≤◌, ℕ, [], None, arith, sym, subst, ◌∙◌}
+use Rattle.std.proofs.Common.{◌≤◌, ℕ, arith, sym, subst, ◌∙◌}
 use Rattle.dp_semantics.specs.EpochKey.{epoch_of}
 use Rattle.dp_semantics.specs.Items.{OrWanting}
 use Rattle.dp_semantics.specs.Packets.{passed}
@@ -16,7 +16,6 @@ returns-in-Some-clause-took g c = λ key s n at.
           packet = subst (λ (t : ℕ). OrWanting (passed (epoch_of key) t n).packet (sent_packet p.status p)) (sym at.stage) (goes_by p.status p _ c.in-Some.ensures.said);
         };
         within = subst (λ (i : ℕ). i ≤ key.fuel) (sym c.in-Some.ensures.number) (subst (λ (f : ℕ). c.args.self.now.next ≤ f) at.fuel c.in-Some.ensures.within);
-        plan = at.plan;
       },
-      record { first = at.first; next = omega (arith, next); fuel = at.fuel; plan = at.plan; stage = at.stage },
+      record { next = omega (arith, next); fuel = at.fuel; stage = at.stage },
     )
