@@ -1,4 +1,4 @@
--- Counts.
+-- What is counted, and how far a count is reported.
 use Rattle.std.specs.Prelude.{ℕ, min, Bool, true, false}
 use Rattle.dp_base.specs.declared.limits.TheConstants.{COUNTED}
 

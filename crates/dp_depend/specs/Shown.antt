@@ -7,12 +7,8 @@ use Rattle.dp_profile.specs.declared.Profile.{Profile}
 use Rattle.dp_profile.specs.declared.RegionProfile.{RegionProfile}
 use Rattle.dp_profile.specs.declared.SiteCount.{SiteCount}
 use Rattle.dp_profile.specs.declared.Flow.{Flow}
-use Rattle.dp_profile.specs.Observed.{same_kind}
+use Rattle.dp_profile.specs.Observed.{nothing_shown, same_kind}
 use Rattle.dp_depend.specs.Node.{Node}
-
--- where nothing was counted
-abbrev pub nothing_shown : RegionProfile
-nothing_shown = record { sites = []; flows = [] }
 
 abbrev pub or_nothing : Option RegionProfile → RegionProfile
 or_nothing None = nothing_shown

@@ -5,7 +5,8 @@ use Rattle.std.proofs.lemmas.List.{length-drop}
 use Rattle.std.proofs.lemmas.List.Sums.{prefix_len-le-length}
 use Rattle.std.proofs.Math.ListN.{drop_of_length-le}
 use Rattle.dp_edge.specs.Digits.{is_full}
-use Rattle.dp_edge.specs.Input.{is_blank, onto_first, pieces, words}
+use Rattle.dp_base.specs.Pieces.{onto_first, pieces}
+use Rattle.dp_edge.specs.Input.{is_blank, words}
 use Rattle.dp_base.proofs.PositionLemmas.{position_some, position_none}
 
 -- how many blanks stand before the first word, and how many bytes before the first blank
@@ -37,16 +38,16 @@ words-drop-blanks (byte ∷ text) = blanks_case byte text (is_blank byte) refl (
 -- the pieces after the first, where the rest of the text begins with its blank
 abbrev later_pieces : List ℕ → List (List ℕ)
 later_pieces [] = []
-later_pieces (byte ∷ text) = pieces text
+later_pieces (byte ∷ text) = pieces is_blank text
 
-pieces_case : (byte : ℕ) (text : List ℕ) (blank : Bool) → is_blank byte ≡ blank → pieces text ≡ take (word_len text) text ∷ later_pieces (drop (word_len text) text)
-    → pieces (byte ∷ text) ≡ take (word_len (byte ∷ text)) (byte ∷ text) ∷ later_pieces (drop (word_len (byte ∷ text)) (byte ∷ text))
+pieces_case : (byte : ℕ) (text : List ℕ) (blank : Bool) → is_blank byte ≡ blank → pieces is_blank text ≡ take (word_len text) text ∷ later_pieces (drop (word_len text) text)
+    → pieces is_blank (byte ∷ text) ≡ take (word_len (byte ∷ text)) (byte ∷ text) ∷ later_pieces (drop (word_len (byte ∷ text)) (byte ∷ text))
 pieces_case byte text true e more = rw e refl
 pieces_case byte text false e more =
     rw e (ap (onto_first byte) more ∙ sym (ap (λ piece. piece ∷ later_pieces (drop (1 + word_len text) (byte ∷ text))) (take_next (word_len text) byte text) ∙ ap (λ rest. (byte ∷ take (word_len text) text) ∷ later_pieces rest) (drop_next (word_len text) byte text)))
 
 -- the first piece goes up to the first blank
-pieces_split : (text : List ℕ) → pieces text ≡ take (word_len text) text ∷ later_pieces (drop (word_len text) text)
+pieces_split : (text : List ℕ) → pieces is_blank text ≡ take (word_len text) text ∷ later_pieces (drop (word_len text) text)
 pieces_split [] = refl
 pieces_split (byte ∷ text) = pieces_case byte text (is_blank byte) refl (pieces_split text)
 

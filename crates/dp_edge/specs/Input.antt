@@ -2,6 +2,7 @@
 use Rattle.std.specs.Prelude.{◌≡◌, ℕ, ◌+◌, min, Bool, ◌&&◌, ◌||◌, if◌then◌else◌, nat_le, ◌==◌, List, [], ◌∷◌, length, Option, Some, None, Result, Ok, Err, ℤ, pos, neg_ℤ}
 use Rattle.std.specs.List.{filter}
 use Rattle.dp_base.specs.Arithmetic.{fits}
+use Rattle.dp_base.specs.Pieces.{pieces}
 use Rattle.dp_base.specs.declared.limits.TheConstants.{COUNTED, INPUT_WORDS}
 use Rattle.dp_edge.specs.Digits.{is_full, are_digits, value_of}
 use Rattle.dp_edge.specs.declared.input.InputFail.{InputFail}
@@ -11,19 +12,9 @@ use Rattle.dp_edge.specs.declared.input.InputFail.TheVariants.{TooMany, Refused,
 abbrev pub is_blank : ℕ → Bool
 is_blank byte = byte == 32 || byte == 9 || byte == 13 || byte == 10
 
--- the byte at the front of the first piece
-abbrev pub onto_first : ℕ → List (List ℕ) → List (List ℕ)
-onto_first byte [] = (byte ∷ []) ∷ []
-onto_first byte (piece ∷ pieces) = (byte ∷ piece) ∷ pieces
-
--- what stands before, between and after the blanks of a text, some of it empty
-abbrev pub pieces : List ℕ → List (List ℕ)
-pieces [] = [] ∷ []
-pieces (byte ∷ text) = if is_blank byte then [] ∷ pieces text else onto_first byte (pieces text)
-
--- the words of a text: its pieces that have a byte, in order
+-- the words of a text: its pieces between blanks that have a byte, in order
 abbrev pub words : List ℕ → List (List ℕ)
-words text = filter is_full (pieces text)
+words text = filter is_full (pieces is_blank text)
 
 -- the number that one or more digits write, with a sign, where it lies in 64 bits
 abbrev pub signed_number : (ℕ → ℤ) → List ℕ → Option ℤ

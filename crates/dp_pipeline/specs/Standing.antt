@@ -4,6 +4,7 @@ use Rattle.dp_semantics.specs.EpochKey.{EpochKey}
 use Rattle.dp_lane.specs.declared.rule.View.{View}
 use Rattle.dp_lane.specs.declared.rule.View.TheVariants.{Sender, Taker}
 use Rattle.dp_lane.specs.Ends.{End}
+use Rattle.dp_lane.specs.Views.{sent_by}
 use Rattle.dp_pipeline.specs.declared.keys.LaneKey.{LaneKey}
 use Rattle.dp_pipeline.specs.declared.start.Start.{Start as First}
 use Rattle.dp_pipeline.specs.declared.source.Source.{Source}
@@ -52,10 +53,6 @@ module _ {K : Type 0} where
   abbrev pub taken_by : View K → ℕ
   taken_by (Taker key taken) = taken
   taken_by _ = 0
-
-  abbrev pub sent_by : View K → ℕ
-  sent_by (Sender key sent ended) = sent
-  sent_by _ = 0
 
   abbrev pub ended_by : View K → Bool
   ended_by (Sender key sent ended) = ended

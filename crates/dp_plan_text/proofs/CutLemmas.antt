@@ -1,7 +1,8 @@
 -- A text that is cut after each LF.
 use Rattle.std.proofs.Common.{◌≡◌, ℕ, suc, ◌+◌, ◌<◌, ◌≤◌, ◌==◌, Bool, true, false, not, cond, List, [], ◌∷◌, ◌++◌, length, take, drop, Some, refl, sym, ap, ◌∙◌, rules, arith}
 use Rattle.std.specs.List.{position}
-use Rattle.dp_plan_text.specs.PlanText.{onto_first, lines_of}
+use Rattle.dp_base.specs.Pieces.{onto_first}
+use Rattle.dp_plan_text.specs.PlanText.{lines_of}
 use Rattle.dp_plan_text.proofs.WordLemmas.{first_end, next_is}
 use Rattle.dp_base.proofs.PositionLemmas.{position_some}
 

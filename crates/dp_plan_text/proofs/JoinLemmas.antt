@@ -3,7 +3,8 @@ use Rattle.std.proofs.Common.{◌≡◌, ℕ, ◌<◌, ◌≤◌, ◌^◌, ◌==
 use Rattle.std.specs.List.{list_all}
 use Rattle.dp_base.specs.Digits.{is_digit}
 use Rattle.dp_plan.specs.Each.{Each}
-use Rattle.dp_plan_text.specs.PlanText.{joined, onto_first}
+use Rattle.dp_base.specs.Pieces.{onto_first}
+use Rattle.dp_plan_text.specs.PlanText.{joined}
 use Rattle.dp_plan_text.specs.Words.{words}
 use Rattle.dp_plan_text.proofs.NumberText.{digits-decimal}
 use Rattle.dp_plan_text.proofs.WordLemmas.{some_word}

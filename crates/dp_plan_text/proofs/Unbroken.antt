@@ -3,7 +3,8 @@ use Rattle.std.proofs.Common.{◌≡◌, refl, ap, ℕ, ◌<◌, ◌≤◌, ◌^
 use Rattle.std.specs.List.{list_all, flat_map}
 use Rattle.dp_base.specs.Digits.{is_digit}
 use Rattle.dp_plan.specs.Each.{Each, AscendAbove}
-use Rattle.dp_plan_text.specs.PlanText.{joined, onto_first, lines_of, kind_word, outcome_number, version_number, words_of, line_bytes}
+use Rattle.dp_base.specs.Pieces.{onto_first}
+use Rattle.dp_plan_text.specs.PlanText.{joined, lines_of, kind_word, outcome_number, version_number, words_of, line_bytes}
 use Rattle.dp_plan_text.proofs.NumberText.{digits-decimal}
 use Rattle.dp_plan.specs.declared.StageKind.{StageKind}
 use Rattle.dp_plan.specs.declared.StageKind.TheVariants.{Seq, Par}

@@ -1,6 +1,7 @@
 -- The text of plans: its lines in order, the words of each, and what the numbers have to be.
 use Rattle.std.specs.Prelude.{◌≡◌, ℕ, Bool, true, false, ◌==◌, if◌then◌else◌, List, [], ◌∷◌, ◌++◌, map, length, codes, decimal}
 use Rattle.std.specs.List.{flat_map}
+use Rattle.dp_base.specs.Pieces.{onto_first}
 use Rattle.dp_tree.specs.declared.Program.{Program}
 use Rattle.dp_tree.specs.Numbering.{numbers_from}
 use Rattle.dp_plan.specs.declared.StageKind.{StageKind}
@@ -59,11 +60,6 @@ pub record PlanLines (p : Program) (lines : List (List ℕ)) (proved : Bool) (pl
   pub lines_are : lines ≡ map line_bytes (plan_lines proved plans)
   pub regions : map region_number plans ≡ numbers_from 1 (length p.regions)
   pub fit : Each PlanFits plans
-
--- the byte at the front of the first line
-abbrev pub onto_first : ℕ → List (List ℕ) → List (List ℕ)
-onto_first byte [] = (byte ∷ []) ∷ []
-onto_first byte (first ∷ rest) = (byte ∷ first) ∷ rest
 
 -- a text is cut after each LF; what follows the last one is a line too, which no text of the grammar has
 abbrev pub lines_of : List ℕ → List (List ℕ)

@@ -1,12 +1,11 @@
 -- The words between the spaces of a line, and the number that a word writes.
 use Rattle.std.specs.Prelude.{ℕ, ◌==◌, if◌then◌else◌, Bool, true, false, not, List, [], ◌∷◌, Option, Some, None}
 use Rattle.dp_base.specs.Digits.{value_upto}
-use Rattle.dp_plan_text.specs.PlanText.{onto_first}
+use Rattle.dp_base.specs.Pieces.{pieces}
 
 -- what stands before, between and after the spaces, some of it empty
 abbrev pub words : List ℕ → List (List ℕ)
-words [] = [] ∷ []
-words (byte ∷ text) = if byte == 32 then [] ∷ words text else onto_first byte (words text)
+words = pieces (λ byte. byte == 32)
 
 -- the words of what follows a space, if one was there
 abbrev pub words_behind : Option (List ℕ) → List (List ℕ)

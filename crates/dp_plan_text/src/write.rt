@@ -1,17 +1,16 @@
 //! Plans as a text.
 
 ghost use Rattle.std.specs.Prelude.{◌≡◌, ◌++◌, OnOk, IfOk};
-ghost use Rattle.dp_base.specs.Labels.{labelled, spaced};
+ghost use Rattle.dp_base.specs.Labels.{spaced};
 ghost use Rattle.dp_plan_text.specs.declared.line.Line.TheVariants as line;
 ghost use Rattle.dp_plan_text.specs.PlanText as plan_text;
 ghost use Rattle.dp_plan.specs.GivenPlans.{version_of};
 ghost use Rattle.dp_plan_text.specs.WrittenText as text;
 
-use dp_base::{NoMemory, Row, SiteId};
+use dp_base::{NoMemory, Row, SiteId, put_labelled};
 use dp_plan::{Plan, StageKind};
 use dp_sites::sites_of;
 use dp_tree::{Assume, Program};
-use itoa::Buffer;
 use std::alloc::Global;
 
 /// The text of plans of one version. What it writes of valid plans, one for each region in order, is read back as these plans.
@@ -44,20 +43,10 @@ fn put_head(out: &mut Row<u8>, proved: bool) -> Result<(), NoMemory>
     out.push(b'\n')
 }
 
-fn version_number(proved: bool) -> u32
+fn version_number(proved: bool) -> u64
     ensures { result ≡ plan_text.version_number proved }
 {
     if proved { 2 } else { 1 }
-}
-
-/// A label, and a number right after it.
-#[tactic(auto, unfolding(dp_base::specs::Labels::labelled))]
-fn put_labelled(out: &mut Row<u8>, label: &[u8], n: u32) -> Result<(), NoMemory>
-    ensures { OnOk result (out.new ≡ out.old ++ labelled label.now n) }
-{
-    let mut digits = Buffer::new();
-    out.extend_from_slice(label)?;
-    out.extend_from_slice(digits.format(n).as_bytes())
 }
 
 fn put_plan(alloc: Global, out: &mut Row<u8>, plan: &Plan, p: &Program) -> Result<(), NoMemory>
@@ -73,8 +62,8 @@ fn put_plan(alloc: Global, out: &mut Row<u8>, plan: &Plan, p: &Program) -> Resul
 fn put_region(out: &mut Row<u8>, region: u32, words: u32) -> Result<(), NoMemory>
     ensures { OnOk result (out.new ≡ out.old ++ text.line_text (line.Region region words)) }
 {
-    put_labelled(out, b"region ", region)?;
-    put_labelled(out, b" words ", words)?;
+    put_labelled(out, b"region ", u64::from(region))?;
+    put_labelled(out, b" words ", u64::from(words))?;
     out.push(b'\n')
 }
 
@@ -124,7 +113,7 @@ fn put_sites(
 {
     for site in sites {
         if plan.stage(p, SiteId(*site)) as u64 == stage {
-            put_labelled(out, b" ", *site)?;
+            put_labelled(out, b" ", u64::from(*site))?;
         }
     }
     Ok(())
@@ -142,12 +131,12 @@ fn put_assumed(out: &mut Row<u8>, assumed: &[Assume]) -> Result<(), NoMemory>
 fn put_assume(out: &mut Row<u8>, assume: Assume) -> Result<(), NoMemory>
     ensures { OnOk result (out.new ≡ out.old ++ text.line_text (line.Assume assume)) }
 {
-    put_labelled(out, b"assume ", assume.site.0)?;
+    put_labelled(out, b"assume ", u64::from(assume.site.0))?;
     put_labelled(out, b" ", outcome_number(assume.taken))?;
     out.push(b'\n')
 }
 
-fn outcome_number(taken: bool) -> u32
+fn outcome_number(taken: bool) -> u64
     ensures { result ≡ plan_text.outcome_number taken }
 {
     if taken { 1 } else { 0 }

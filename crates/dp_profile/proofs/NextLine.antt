@@ -5,8 +5,9 @@ use Rattle.dp_profile.specs.declared.line.Line.{Line}
 use Rattle.dp_profile.specs.declared.line.Line.TheVariants as line
 use Rattle.dp_profile.specs.declared.reader.Reader.{Reader}
 use Rattle.dp_profile.specs.declared.reader.Phase.TheVariants as phase
+use Rattle.dp_profile.specs.Observed.{nothing_shown}
 use Rattle.dp_profile.specs.Sites.{RegionSite}
-use Rattle.dp_profile.specs.steps.Reading.{begun, state, opened, region_next, next}
+use Rattle.dp_profile.specs.steps.Reading.{begun, state, region_next, next}
 use Rattle.dp_profile.proofs.LineComplete.{LineFits}
 use Rattle.dp_profile.proofs.RunComplete.{within, over}
 use Rattle.dp_profile.proofs.TestLemmas.{Both, both, taken}
@@ -14,36 +15,36 @@ use Rattle.dp_profile.proofs.RunSound.{Reads, at_start, headed, in_region, at_en
 
 start_after : (all : List (List RegionSite)) (l : Line) (s : Reader) → next all begun l ≡ Some s → Reads all s (l ∷ [])
 unfolding next
-start_after all line.Head s h = let is : state phase.Headed [] opened ≡ s = cc h in rw (← is) headed
+start_after all line.Head s h = let is : state phase.Headed [] nothing_shown ≡ s = cc h in rw (← is) headed
 start_after all (line.Region r) s h = absurd (cc h)
 start_after all (line.Runs site c) s h = absurd (cc h)
 start_after all (line.Flow f) s h = absurd (cc h)
 start_after all line.End s h = absurd (cc h)
 
-first_region : (all : List (List RegionSite)) (r : ℕ) (s : Reader) → next all (state phase.Headed [] opened) (line.Region r) ≡ Some s → Reads all s (line.Head ∷ line.Region r ∷ [])
+first_region : (all : List (List RegionSite)) (r : ℕ) (s : Reader) → next all (state phase.Headed [] nothing_shown) (line.Region r) ≡ Some s → Reads all s (line.Head ∷ line.Region r ∷ [])
 unfolding next
 first_region [] r s h =
-    let t = taken (region_next [] (state phase.Headed [] opened) r) (within [] opened) s h in
+    let t = taken (region_next [] (state phase.Headed [] nothing_shown) r) (within [] nothing_shown) s h in
     let c : Both (nat_lt 0 r) (nat_le r 0 && (0 == r - 1)) = both _ _ t.0 in let d : Both (nat_le r 0) (0 == r - 1) = both _ _ c.second in
     let some : 0 < r = let lt : nat_lt 0 r ≡ true = c.first in search rules in
     let low : r ≤ 0 = let le : nat_le r 0 ≡ true = d.first in search rules in
     absurd (omega (arith, some, low))
 first_region (sites ∷ later) r s h =
-    let t = taken (region_next (sites ∷ later) (state phase.Headed [] opened) r) (within [] opened) s h in
+    let t = taken (region_next (sites ∷ later) (state phase.Headed [] nothing_shown) r) (within [] nothing_shown) s h in
     let c : Both (nat_lt 0 r) (nat_le r (suc (length later)) && (0 == r - 1)) = both _ _ t.0 in let d : Both (nat_le r (suc (length later))) (0 == r - 1) = both _ _ c.second in
     let some : 0 < r = let lt : nat_lt 0 r ≡ true = c.first in search rules in
     let same : 0 ≡ r - 1 = eqb-true _ _ d.second in
     let one : 1 ≡ r = omega (arith, some, same) in
     subst (λ (q : Reader). Reads (sites ∷ later) q (line.Head ∷ line.Region r ∷ [])) t.1
-    (subst (λ (n : ℕ). Reads (sites ∷ later) (within [] opened) (line.Head ∷ line.Region n ∷ [])) one
+    (subst (λ (n : ℕ). Reads (sites ∷ later) (within [] nothing_shown) (line.Head ∷ line.Region n ∷ [])) one
     (in_region [] later [] sites [] [] [] refl tt tt tt tt (inr refl)))
 
-no_region : (all : List (List RegionSite)) (s : Reader) → next all (state phase.Headed [] opened) line.End ≡ Some s → Reads all s (line.Head ∷ line.End ∷ [])
+no_region : (all : List (List RegionSite)) (s : Reader) → next all (state phase.Headed [] nothing_shown) line.End ≡ Some s → Reads all s (line.Head ∷ line.End ∷ [])
 unfolding next
 no_region [] s h = let is : over [] ≡ s = cc h in rw (← is) (at_end [] tt)
 no_region (sites ∷ later) s h = let same : 0 ≡ suc (length later) = eqb-true _ _ (taken _ _ s h).0 in absurd (cc same)
 
-headed_after : (all : List (List RegionSite)) (l : Line) (s : Reader) → next all (state phase.Headed [] opened) l ≡ Some s → Reads all s (line.Head ∷ l ∷ [])
+headed_after : (all : List (List RegionSite)) (l : Line) (s : Reader) → next all (state phase.Headed [] nothing_shown) l ≡ Some s → Reads all s (line.Head ∷ l ∷ [])
 unfolding next
 headed_after all line.Head s h = absurd (cc h)
 headed_after all (line.Region r) s h = first_region all r s h

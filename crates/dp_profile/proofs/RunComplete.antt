@@ -8,9 +8,10 @@ use Rattle.dp_profile.specs.declared.line.Line.{Line}
 use Rattle.dp_profile.specs.declared.line.Line.TheVariants as line
 use Rattle.dp_profile.specs.declared.reader.Reader.{Reader}
 use Rattle.dp_profile.specs.declared.reader.Phase.TheVariants as phase
+use Rattle.dp_profile.specs.Observed.{nothing_shown}
 use Rattle.dp_profile.specs.Sites.{RegionSite}
 use Rattle.dp_profile.specs.ProfileText.{CountFits, CountsFit, FlowFits, Ascend, RegionFits, RegionsFit, has_site, runs_lines, region_lines, regions_lines}
-use Rattle.dp_profile.specs.steps.Reading.{begun, state, opened, sites_or_none, last_sites, is_counted, is_between, closed, counts_at, is_behind, last_flow, next}
+use Rattle.dp_profile.specs.steps.Reading.{begun, state, sites_or_none, last_sites, is_counted, is_between, closed, counts_at, is_behind, last_flow, next}
 use Rattle.dp_profile.proofs.Fitting.{seam, counts_many}
 use Rattle.dp_profile.proofs.Runs.{run}
 
@@ -21,7 +22,7 @@ abbrev pub within : List RegionProfile → RegionProfile → Reader
 within done last = state phase.Region done last
 
 abbrev pub over : List RegionProfile → Reader
-over done = state phase.Over done opened
+over done = state phase.Over done nothing_shown
 
 module _ (before : List (List RegionSite)) (sites : List RegionSite) (later : List (List RegionSite)) (done : List RegionProfile) (many : length done ≡ length before) where
   abbrev table : List (List RegionSite)
@@ -99,14 +100,14 @@ module _ (before : List (List RegionSite)) (sites : List RegionSite) (later : Li
 
   -- the lines of the region behind its first one
   pub region_run : (shown : RegionProfile) (more : List Line) → RegionFits sites shown
-      → run (before ++ sites ∷ later) (Some (within done opened)) ((runs_lines sites shown.sites ++ map line.Flow shown.flows) ++ more) ≡ run (before ++ sites ∷ later) (Some (within done shown)) more
+      → run (before ++ sites ∷ later) (Some (within done nothing_shown)) ((runs_lines sites shown.sites ++ map line.Flow shown.flows) ++ more) ≡ run (before ++ sites ∷ later) (Some (within done shown)) more
   region_run shown more fit =
-      ap (run table (Some (within done opened))) (append_assoc (runs_lines sites shown.sites) (map line.Flow shown.flows) more)
+      ap (run table (Some (within done nothing_shown))) (append_assoc (runs_lines sites shown.sites) (map line.Flow shown.flows) more)
       ∙ runs_run [] sites [] shown.sites (map line.Flow shown.flows ++ more) refl refl fit.counts
       ∙ flows_run shown.sites [] shown.flows more (counts_many sites shown.sites fit.counts) fit.flows (follow_on shown.flows fit.ascend)
 
 -- the line of the next region
-pub region_next_some : (all : List (List RegionSite)) (s : Reader) (r : ℕ) → is_between all s ≡ true → r ≡ 1 + length (closed s) → r ≤ length all → next all s (line.Region r) ≡ Some (within (closed s) opened)
+pub region_next_some : (all : List (List RegionSite)) (s : Reader) (r : ℕ) → is_between all s ≡ true → r ≡ 1 + length (closed s) → r ≤ length all → next all s (line.Region r) ≡ Some (within (closed s) nothing_shown)
 unfolding next
 region_next_some all s r between is upto =
     let low : nat_lt 0 r ≡ true = let lt : 0 < r = omega (arith, is) in search rules in
@@ -142,7 +143,7 @@ regions_run before (sites ∷ later) s (one ∷ shown) between many fit =
     ∙ regions_run (before ++ sites ∷ []) later (within (closed s) one) shown (ap (λ (l : List (List RegionSite)). is_between l (within (closed s) one)) (sym wide) ∙ next_between) next_many fit.1
     ∙ ap (λ (l : List RegionProfile). Some (over l)) (append_assoc (closed s) (one ∷ []) shown)
 
-head_next : (all : List (List RegionSite)) → next all begun line.Head ≡ Some (state phase.Headed [] opened)
+head_next : (all : List (List RegionSite)) → next all begun line.Head ≡ Some (state phase.Headed [] nothing_shown)
 unfolding next
 head_next _ = refl
 
@@ -150,4 +151,4 @@ head_next _ = refl
 pub lines_run : (all : List (List RegionSite)) (shown : List RegionProfile) → RegionsFit all shown → run all (Some begun) (line.Head ∷ (regions_lines 1 all shown ++ line.End ∷ [])) ≡ Some (over shown)
 lines_run all shown fit =
     ap (λ o. run all o (regions_lines 1 all shown ++ line.End ∷ [])) (head_next all)
-    ∙ regions_run [] all (state phase.Headed [] opened) shown refl refl fit
+    ∙ regions_run [] all (state phase.Headed [] nothing_shown) shown refl refl fit

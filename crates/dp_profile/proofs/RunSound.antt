@@ -11,9 +11,10 @@ use Rattle.dp_profile.specs.declared.line.Line.{Line}
 use Rattle.dp_profile.specs.declared.line.Line.TheVariants as line
 use Rattle.dp_profile.specs.declared.reader.Reader.{Reader}
 use Rattle.dp_profile.specs.declared.reader.Phase.TheVariants as phase
+use Rattle.dp_profile.specs.Observed.{nothing_shown}
 use Rattle.dp_profile.specs.Sites.{RegionSite}
 use Rattle.dp_profile.specs.ProfileText.{CountsFit, FlowFits, Ascend, RegionFits, RegionsFit, has_site, runs_lines, region_lines, regions_lines}
-use Rattle.dp_profile.specs.steps.Reading.{begun, state, opened, last_sites, is_counted, is_between, closed, region_next, counts_at, is_behind, last_flow, flows_next, next}
+use Rattle.dp_profile.specs.steps.Reading.{begun, state, last_sites, is_counted, is_between, closed, region_next, counts_at, is_behind, last_flow, flows_next, next}
 use Rattle.dp_profile.proofs.Fitting.{seam, past, counts_many, counts_more, runs_more, regions_many, regions_fit_more, regions_one, ascend_more}
 use Rattle.dp_profile.proofs.LineComplete.{LineFits}
 use Rattle.dp_profile.proofs.RunComplete.{counted, within, over, sites_here}
@@ -22,7 +23,7 @@ use Rattle.dp_profile.proofs.TestLemmas.{Both, both, taken, FitsAt, fits_at}
 -- the state behind lines that may begin a text for these regions
 pub data Reads (all : List (List RegionSite)) : Reader → List Line → Type 0 where
   at_start : Reads all begun []
-  headed : Reads all (state phase.Headed [] opened) (line.Head ∷ [])
+  headed : Reads all (state phase.Headed [] nothing_shown) (line.Head ∷ [])
   in_region : (before later : List (List RegionSite)) (had left : List RegionSite) (done : List RegionProfile) (counts : List SiteCount) (flows : List Flow)
       → all ≡ before ++ (had ++ left) ∷ later → RegionsFit before done → CountsFit had counts → Each (FlowFits (had ++ left)) flows → Ascend flows → (left ≡ []) ⊎ (flows ≡ [])
       → Reads all (within done (counted counts flows)) (line.Head ∷ (regions_lines 1 before done ++ region_lines (1 + length before) had (counted counts flows)))
@@ -75,7 +76,7 @@ module _ (all before later : List (List RegionSite)) (had left : List RegionSite
   unfolding next
   region_after r s h = next_one later (all_here none) low
     where
-      t : ((is_between all (within done (counted counts flows)) && region_next all (within done (counted counts flows)) r) ≡ true) × (within (done ++ last ∷ []) opened ≡ s)
+      t : ((is_between all (within done (counted counts flows)) && region_next all (within done (counted counts flows)) r) ≡ true) × (within (done ++ last ∷ []) nothing_shown ≡ s)
       t = taken _ _ s h
 
       b : Both (is_between all (within done last)) (region_next all (within done last) r)
@@ -103,12 +104,12 @@ module _ (all before later : List (List RegionSite)) (had left : List RegionSite
       next_one [] is le = absurd (omega (arith, le, number, ap length (is ∙ append-nil (before ++ had ∷ []))))
       next_one (sites ∷ rest) is le =
           subst (λ (q : Reader). Reads all q (so_far ++ line.Region r ∷ [])) t.1
-          (subst (λ (ls : List Line). Reads all (within (done ++ last ∷ []) opened) ls) lines
+          (subst (λ (ls : List Line). Reads all (within (done ++ last ∷ []) nothing_shown) ls) lines
           (in_region (before ++ had ∷ []) rest [] sites (done ++ last ∷ []) [] [] is (closed_fit none) tt tt tt (inr refl)))
         where
-          lines : line.Head ∷ (regions_lines 1 (before ++ had ∷ []) (done ++ last ∷ []) ++ region_lines (1 + length (before ++ had ∷ [])) [] opened) ≡ so_far ++ line.Region r ∷ []
+          lines : line.Head ∷ (regions_lines 1 (before ++ had ∷ []) (done ++ last ∷ []) ++ region_lines (1 + length (before ++ had ∷ [])) [] nothing_shown) ≡ so_far ++ line.Region r ∷ []
           lines =
-              ap (λ (ls : List Line). line.Head ∷ (ls ++ region_lines (1 + length (before ++ had ∷ [])) [] opened)) lines_closed
+              ap (λ (ls : List Line). line.Head ∷ (ls ++ region_lines (1 + length (before ++ had ∷ [])) [] nothing_shown)) lines_closed
               ∙ ap (λ (n : ℕ). so_far ++ line.Region n ∷ []) (sym number)
 
   pub runs_after : (site : SiteId) (c : SiteCount) (s : Reader) → LineFits (line.Runs site c) → next all (within done (counted counts flows)) (line.Runs site c) ≡ Some s → Reads all s (so_far ++ line.Runs site c ∷ [])

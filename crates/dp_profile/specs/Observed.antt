@@ -13,6 +13,10 @@ use Rattle.dp_profile.specs.Sites.{RegionSite, regions}
 use Rattle.dp_profile.specs.ProfileText.{has_site}
 pub use Rattle.dp_profile.specs.declared.Observed.{Observed}
 
+-- a region of which nothing is shown
+abbrev pub nothing_shown : RegionProfile
+nothing_shown = record { sites = []; flows = [] }
+
 -- a condition that gave another value than 0, an early exit's too
 abbrev pub gives_nonzero : Effect → Bool
 gives_nonzero (Decided value) = not (is_zero value)

@@ -1,16 +1,14 @@
 //! A profile as a text.
 
 ghost use Rattle.std.specs.Prelude.{◌≡◌, ◌<◌, ◌++◌, length, OnOk, OnErr, IfOk};
-ghost use Rattle.dp_base.specs.Labels.{labelled};
 ghost use Rattle.dp_profile.specs.declared.line.Line.TheVariants as line;
 ghost use Rattle.dp_profile.specs.ProfileText as profile_text;
 ghost use Rattle.dp_profile.specs.WrittenText as text;
 
 use crate::sites::{RegionSite, regions_of};
 use crate::{Flow, Profile, RegionProfile, SiteCount};
-use dp_base::{NoMemory, Row, SiteId};
+use dp_base::{NoMemory, Row, SiteId, put_labelled};
 use dp_tree::Program;
-use itoa::Buffer;
 use std::alloc::Global;
 
 /// The text of a profile. What it writes of an observed profile is read back as this profile.
@@ -51,16 +49,6 @@ fn put_region(
     put_counts(out, sites, shown.sites.as_slice())?;
     put_flows(out, shown.flows.as_slice())?;
     Ok(())
-}
-
-/// A label, and a number right after it.
-#[tactic(auto, unfolding(dp_base::specs::Labels::labelled))]
-fn put_labelled(out: &mut Row<u8>, label: &[u8], n: u64) -> Result<(), NoMemory>
-    ensures { OnOk result (out.new ≡ out.old ++ labelled label.now n) }
-{
-    let mut digits = Buffer::new();
-    out.extend_from_slice(label)?;
-    out.extend_from_slice(digits.format(n).as_bytes())
 }
 
 fn put_head(out: &mut Row<u8>, number: u64) -> Result<(), NoMemory>

@@ -3,9 +3,9 @@
 ghost use Rattle.std.specs.Prelude.{◌≡◌, ◌++◌, OnOk};
 ghost use Rattle.dp_report.specs.CauseText.{cause_line, cause_words, causes_bytes};
 
-use crate::decimal::{put_labelled, put_labelled_signed};
+use crate::decimal::put_labelled_signed;
 use crate::fault::put_fault;
-use dp_base::{Cause, NoMemory, Row};
+use dp_base::{Cause, NoMemory, Row, put_labelled};
 
 /// A line for each of these iterations, with its cause.
 pub fn put_causes(out: &mut Row<u8>, iterations: &[u64], causes: &[Cause]) -> Result<(), NoMemory>

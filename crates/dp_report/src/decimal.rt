@@ -1,34 +1,18 @@
 //! Numbers at the end of a text.
 
-ghost use Rattle.std.specs.Prelude.{◌≡◌, ◌++◌, OnOk, decimal};
+ghost use Rattle.std.specs.Prelude.{◌≡◌, ◌++◌, OnOk};
 ghost use Rattle.std.specs.Fmt.{signed_decimal};
-ghost use Rattle.dp_base.specs.Labels.{labelled, spaced};
+ghost use Rattle.dp_base.specs.Labels.{spaced};
 ghost use Rattle.dp_report.specs.Lines.{labelled_signed, spaced_signed};
 
-use dp_base::{NoMemory, Row};
+use dp_base::{NoMemory, Row, put_labelled};
 use itoa::Buffer;
-
-pub fn put_decimal(out: &mut Row<u8>, n: u64) -> Result<(), NoMemory>
-    ensures { OnOk result (out.new ≡ out.old ++ decimal n) }
-{
-    let mut digits = Buffer::new();
-    out.extend_from_slice(digits.format(n).as_bytes())
-}
 
 pub fn put_signed(out: &mut Row<u8>, n: i64) -> Result<(), NoMemory>
     ensures { OnOk result (out.new ≡ out.old ++ signed_decimal n) }
 {
     let mut text = Buffer::new();
     out.extend_from_slice(text.format(n).as_bytes())
-}
-
-/// A label, and a number right after it.
-#[tactic(auto, unfolding(dp_base::specs::Labels::labelled))]
-pub fn put_labelled(out: &mut Row<u8>, label: &[u8], n: u64) -> Result<(), NoMemory>
-    ensures { OnOk result (out.new ≡ out.old ++ labelled label.now n) }
-{
-    out.extend_from_slice(label)?;
-    put_decimal(out, n)
 }
 
 /// A label, and a number right after it that may have a sign.

@@ -3,8 +3,7 @@
 ghost use Rattle.std.specs.Prelude.{◌≡◌, ◌++◌, OnOk};
 ghost use Rattle.dp_report.specs.Faults.{fault_name, fault_words};
 
-use crate::decimal::put_labelled;
-use dp_base::{Fault, FaultKind, NoMemory, Row};
+use dp_base::{Fault, FaultKind, NoMemory, Row, put_labelled};
 
 /// A fault's name and line.
 #[tactic(auto, unfolding(crate::specs::Faults::fault_words))]

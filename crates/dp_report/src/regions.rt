@@ -4,8 +4,8 @@ ghost use Rattle.std.specs.Prelude.{◌≡◌, ◌++◌, OnOk};
 ghost use Rattle.dp_report.specs.RegionText.{listed, counts_line, causes_if, report_lines, regions_bytes};
 
 use crate::causes::put_causes;
-use crate::decimal::{put_labelled, put_spaced};
-use dp_base::{NoMemory, RegionReport, Row};
+use crate::decimal::put_spaced;
+use dp_base::{NoMemory, RegionReport, Row, put_labelled};
 
 /// A line for each region with a begun iteration, and behind it the causes, where they are wanted.
 pub fn put_regions(out: &mut Row<u8>, reports: &[RegionReport], why: bool) -> Result<(), NoMemory>

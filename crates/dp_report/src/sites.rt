@@ -4,8 +4,7 @@ ghost use Rattle.std.specs.Prelude.{◌≡◌, ◌++◌, OnOk, IfOk};
 ghost use Rattle.dp_report.specs.Lines.{numbered};
 ghost use Rattle.dp_report.specs.SiteText.{kind_name, region_sites_line, site_line, site_bytes};
 
-use crate::decimal::put_labelled;
-use dp_base::{NoMemory, Row};
+use dp_base::{NoMemory, Row, put_labelled};
 use dp_tree::{Program, RegionInfo, SiteInfo, SiteKind};
 use std::alloc::Global;
 

@@ -9,19 +9,16 @@ use Rattle.dp_profile.specs.declared.line.Line.TheVariants as line
 use Rattle.dp_profile.specs.declared.reader.Reader.{Reader}
 use Rattle.dp_profile.specs.declared.reader.Phase.{Phase}
 use Rattle.dp_profile.specs.declared.reader.Phase.TheVariants as phase
+use Rattle.dp_profile.specs.Observed.{nothing_shown}
 use Rattle.dp_profile.specs.Sites.{RegionSite}
 use Rattle.dp_profile.specs.ProfileText.{has_site, is_before}
-
--- a region without a line but the first
-abbrev pub opened : RegionProfile
-opened = record { sites = []; flows = [] }
 
 abbrev pub state : Phase → List RegionProfile → RegionProfile → Reader
 state at done last = record { phase = at; done = done; last = last }
 
 -- no line yet
 abbrev pub begun : Reader
-begun = state phase.Start [] opened
+begun = state phase.Start [] nothing_shown
 
 abbrev pub is_start : Phase → Bool
 is_start phase.Start = true
@@ -91,11 +88,11 @@ with_flow s f = state s.phase s.done (record { sites = s.last.sites; flows = s.l
 -- where these lines were read one more may be read, in a text for regions with these sites
 unfoldable pub next : List (List RegionSite) → Reader → Line → Option Reader
 next all s line.Head = if is_start s.phase then Some (state phase.Headed s.done s.last) else None
-next all s (line.Region r) = if is_between all s && region_next all s r then Some (state phase.Region (closed s) opened) else None
+next all s (line.Region r) = if is_between all s && region_next all s r then Some (state phase.Region (closed s) nothing_shown) else None
 next all s (line.Runs site c) =
     if in_region s.phase && counts_at site c (slice_get (last_sites all s) (length s.last.sites)) then Some (with_count s c) else None
 next all s (line.Flow f) = if is_counted all s && flows_next all s f then Some (with_flow s f) else None
-next all s line.End = if is_between all s && (length (closed s) == length all) then Some (state phase.Over (closed s) opened) else None
+next all s line.End = if is_between all s && (length (closed s) == length all) then Some (state phase.Over (closed s) nothing_shown) else None
 
 -- the same of a line's words, if they are one
 unfoldable pub next_by : List (List RegionSite) → Reader → Option Line → Option Reader
