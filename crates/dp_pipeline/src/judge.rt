@@ -14,16 +14,18 @@ pub struct Judge<'p> {
 }
 
 impl<'p> Judge<'p> {
-    ghost use Rattle.std.specs.Prelude.{ℕ, length};
+    ghost use Rattle.std.specs.Prelude.{◌≡◌, ℕ, length};
     ghost use Rattle.dp_semantics.specs.EpochKey.{EpochKey, epoch_of};
     ghost use Rattle.dp_semantics.specs.Items.{OrWanting};
     ghost use Rattle.dp_semantics.specs.Packets.{passed};
-    ghost use Rattle.dp_commit.specs.Standing.{Judges, Gives};
+    ghost use Rattle.dp_packet.specs.declared.PacketStatus.TheVariants.{NoMemory};
+    ghost use Rattle.dp_commit.specs.Standing.{Judges, Gives, EndsUnlessClean};
     ghost use Rattle.dp_pipeline.specs.Carried.{sent_packet};
 
     /// The verdict by a packet, if memory wasn't wanting for it.
     fn decide(&mut self, packet: &Packet) -> Verdict
-        ensures { (key : EpochKey) (n : ℕ) → Judges self.old.court key n → OrWanting (passed (epoch_of key) (length key.plan.stages) n).packet (sent_packet packet.now.status packet.now) → Gives self.new.court key n result }
+        ensures gives { (key : EpochKey) (n : ℕ) → Judges self.old.court key n → OrWanting (passed (epoch_of key) (length key.plan.stages) n).packet (sent_packet packet.now.status packet.now) → Gives self.new.court key n result }
+        ensures ends { (packet.now.status ≡ NoMemory → ⊥) → EndsUnlessClean self.new.court result }
     {
         match packet.status {
             PacketStatus::Going => self.court.judge(packet),

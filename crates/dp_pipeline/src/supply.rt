@@ -3,6 +3,7 @@ ghost use Rattle.std.specs.Prelude.{◌≡◌, ◌≤◌, ◌<◌, ◌⊎◌, No
 ghost use Rattle.dp_semantics.specs.Packets as packets;
 ghost use Rattle.dp_packet.specs.declared.PacketStatus.TheVariants as state;
 ghost use Rattle.dp_packet.specs.Packet.{packet_of, IsUnless};
+ghost use Rattle.dp_lane.specs.Ends.{refused_once};
 
 use crate::spare::Spare;
 use dp_base::{Boxed, NoMemory};
@@ -48,6 +49,7 @@ impl Supply {
         ensures kept { IfNone result (self.new.last ≡ self.old.last) }
         ensures spent { IfSome result (λ packet. (packet.status ≡ state.NoMemory) ⊎ (self.new.last ≡ self.old.last)) }
         ensures said { IfSome result (λ packet. IsUnless packet.status (packet_of packet) (record { lists = []; status = packets.Going; version = None })) }
+        ensures no_spare { IfSome result (λ packet. packet.status ≡ state.NoMemory → self.new.spares ≡ refused_once self.old.spares) }
     {
         if iteration > fuel {
             return None;
@@ -65,6 +67,7 @@ impl Supply {
     fn wanting(&mut self, iteration: u64) -> Option<Boxed<Packet>>
         ensures none { IfNone result (self.old.last ≡ None) }
         ensures kept { IfNone result (self.new.last ≡ self.old.last) }
+        ensures spares { self.new.spares ≡ self.old.spares }
         ensures wanting { IfSome result (λ packet. packet.status ≡ state.NoMemory) }
         ensures number { IfSome result (λ packet. packet.iteration ≡ iteration) }
         ensures said { IfSome result (λ packet. IsUnless packet.status (packet_of packet) (record { lists = []; status = packets.Going; version = None })) }
@@ -81,6 +84,7 @@ impl Supply {
 fn renewed(packet: Boxed<Packet>, iteration: u64) -> Boxed<Packet>
     ensures number { result.iteration ≡ iteration }
     ensures said { packet_of result ≡ record { lists = []; status = packets.Going; version = None } }
+    ensures status { result.status ≡ state.Going }
 {
     let mut packet = packet;
     packet.get_mut().renew(iteration);
