@@ -1,6 +1,7 @@
 #!/usr/bin/env bash
-# Runs all checks of this folder, one after the other, and ends with a line for each: its last line and its status. They
-# are what the gate, .ci/run, doesn't run. Needs gcc and python3. Ends with 1 where one fails; its output stands above then.
+# Runs the checks of this folder, one after the other, and ends with a line for each: its last line and its status. They
+# are what the gate, .ci/run, doesn't run; but changed_definitions.py, which takes a crate, is called by itself. Needs gcc
+# and python3. Ends with 1 where one fails; its output stands above then.
 set -u
 cd "$(dirname "$0")/.."
 ./dswp --prove || exit
@@ -8,7 +9,7 @@ work=$(mktemp -d)
 trap 'rm -rf "$work"' EXIT
 failed=0
 for check in checks/*; do
-  case $check in checks/all.sh | checks/definitions.py | *.c) continue ;; esac
+  case $check in checks/all.sh | checks/definitions.py | checks/chang*.py | checks/crate_copy.py | *.c) continue ;; esac
   "$check" >"$work/log" 2>&1
   status=$?
   if [ $status != 0 ]; then

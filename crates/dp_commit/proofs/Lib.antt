@@ -19,3 +19,4 @@ pub mod MovesLeft
 pub mod EpochLemmas
 pub mod StageNumbers
 pub mod GivenStages
+pub mod rows

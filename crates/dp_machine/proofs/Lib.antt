@@ -3,3 +3,4 @@ pub mod Goes
 pub mod OpLemmas
 pub mod SendLemmas
 pub mod TurnLemmas
+pub mod rows

@@ -1,5 +1,5 @@
 -- What stands where memory was wanting, and behind a call.
-use Rattle.dp_meaning.proofs.Names.{◌≡◌, refl, sym, ◌∙◌, ap, subst, true, false, ℕ, ◌+◌, ◌<◌, Option, None, Some, List, [], ◌∷◌, ◌++◌, append_assoc, drop, length, ℤ, arith, filter_map-append, Config, Event, prints, printed_by, PartEnd, MachineState, rest_of_run, part_of, part_at, next_part, from_region, Spoiled, PartRun, IterationRun, HeadsOnce, Awaits}
+use Rattle.dp_meaning.proofs.Names.{◌≡◌, refl, sym, ◌∙◌, ap, subst, true, false, ℕ, ◌+◌, ◌<◌, Option, None, Some, List, [], ◌∷◌, ◌++◌, append_assoc, drop, length, ℤ, arith, filter_map-append, Config, Event, prints, printed_by, PartEnd, MachineState, rest_of_run, part_of, part_at, next_part, from_region, Spoiled, PartRun, IterationRun, HeadsOnce, Awaits, Ends, End}
 use Rattle.dp_meaning.specs.declared.ends.Part.TheVariants as part
 use Rattle.dp_meaning.specs.declared.ends.PartEnd.TheVariants as part_end
 use Rattle.dp_meaning.specs.declared.ends.IterEnd.TheVariants as iter_end
@@ -71,3 +71,7 @@ nothing_left = refl
 
 under_way : part_at (Some 3) [] ≡ part.Region 3
 under_way = refl
+
+-- a call that makes no step, where the run has ended, changes nothing of the machine
+ended_stays : (how : End) (old new : MachineState) → Ends how old new → new ≡ old
+ended_stays how old new ends = ends.same

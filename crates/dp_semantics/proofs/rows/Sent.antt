@@ -11,9 +11,9 @@ use Rattle.dp_plan.specs.declared.Plan.{Plan}
 use Rattle.dp_plan.proofs.Plans.{stale_read_plan, skip_negative_plan, histogram_plan, stale_step_plan}
 use Rattle.dp_tree.specs.Numbering.{numbers_from}
 use Rattle.dp_semantics.specs.Clean.{int_eq}
-use Rattle.dp_semantics.specs.Packets.{Broken, Closing, Packet, Status, passed}
+use Rattle.dp_semantics.specs.Packets.{Broken, Closing, Going, Packet, Status, passed, status_of}
 use Rattle.dp_semantics.specs.Recovery.{epoch}
-use Rattle.dp_semantics.specs.Words.{Astray, is_load, is_done}
+use Rattle.dp_semantics.specs.Words.{Astray, Void, is_load, is_done}
 use Rattle.dp_semantics.specs.StageRun.{turn_from}
 use Rattle.dp_semantics.specs.Verdict.{source_run, epoch_at, packet_at, words_at_stage}
 
@@ -97,3 +97,12 @@ first_version = refl
 no_later_version : (version_from 2 ≡ None) × (version_from 3 ≡ None)
 unfolding tree_opened turn_from
 no_later_version = (refl, refl)
+
+-- what comes to stage 1 has no words, and the epoch's base before and after it
+comes_to_stage_one : (input base : List ℤ) (n : ℕ) → passed (record { program = histogram; plan = histogram_plan; input = input; base = base }) 0 n
+    ≡ record { packet = record { lists = []; status = Going; version = None }; before = base; after = base }
+comes_to_stage_one input base n = refl
+
+-- a void packet is void after a turn too, whether the turn closes or not
+stays_void : (s : ℕ) (why : Void) (closing : Bool) → status_of (Broken s why) closing ≡ Broken s why
+stays_void s why closing = refl
