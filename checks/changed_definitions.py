@@ -1,6 +1,6 @@
 #!/usr/bin/env python3
-"""Changes each definition of a crate once, in a copy, and says which lemma or row of the crate notices. Ends with 1 where
-none does; a function's clause may then, or one of a crate above.
+"""Changes each definition of a crate once, in a copy, where a change is found that keeps its type, and says which lemma, row
+or other definition of the crate notices. Ends with 1 where none does; a function's clause may then, or a crate above.
 
   checks/changed_definitions.py CRATE [NAMES..]     all definitions where none is named
 
@@ -12,6 +12,7 @@ import sys
 import tempfile
 from functools import cache
 from pathlib import Path
+from types import MappingProxyType
 
 sys.dont_write_bytecode = True
 from changes import Scope, changes
@@ -43,7 +44,7 @@ class Changed:
             yield at
             at += 1
 
-    def text_lines(self, edit={}):
+    def text_lines(self, edit=MappingProxyType({})):
         """Its lines, some of them changed."""
         lines = (edit.get(at, self.source.lines[at]) for at in self.numbers)
         return "\n".join(line for line in lines if line is not None).split("\n")
@@ -170,14 +171,15 @@ class Seen:
 
 
 def noticed(copy, items, seen, chosen):
-    """The lemmas that notice the change of each of these definitions, where one sees that one alone."""
-    write(copy, items, chosen)
+    """What notices the change of each of these definitions: a lemma, or a definition, that sees that one alone."""
+    owners = write(copy, items, chosen)
     found = {}
     for path, line, text in copy.errors("reads_lemmas"):
-        lemma = seen.lemma_at(path, line) if path.startswith("proofs/") else None
-        sees = [item for item in chosen if lemma and item in seen.of(lemma)]
+        owner = owner_of(owners, path, line)
+        at = owner.definition if owner else seen.lemma_at(path, line)
+        sees = [item for item in chosen if at and item is not owner and item in seen.of(at)]
         if len(sees) == 1:
-            found.setdefault(sees[0], f"{path}:{line} {lemma.name}")
+            found.setdefault(sees[0], f"{path}:{line} {at.name}")
     return found
 
 

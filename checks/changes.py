@@ -66,11 +66,11 @@ def other_parts(text, is_type):
             yield "++ turned round", f"({two[1]}) ++ ({two[0]})"
         elif two and not (sign == "→" and re.match(r"\(\w[^)]* : ", two[0])) and (sign == "∷") != is_type:
             yield f"without what stands before {sign}", two[1]
-    for front, equation in ([("", text)] if "→" not in text else [(x + " → ", y) for x, y in [text.rsplit(" → ", 1)]]):
-        two = split_at(equation, "≡")
-        if two and "×" not in equation and equation.count("(") == equation.count(")"):
-            for longer in ("suc ({0})", "not ({0})", "{0} ++ {0}"):
-                yield "≡ " + longer.format(".."), f"{front}{two[0]} ≡ " + longer.format(f"({two[1]})")
+    front, arrow, equation = text.rpartition(" → ")
+    two = split_at(equation, "≡")
+    if two and "×" not in equation and equation.count("(") == equation.count(")"):
+        for longer in ("suc ({0})", "not ({0})", "{0} ++ {0}"):
+            yield "≡ " + longer.format(".."), f"{front}{arrow}{two[0]} ≡ " + longer.format(f"({two[1]})")
     for call in re.finditer(r"([A-Za-z_][\w'.-]*) \(([^()]*)\)", text):
         yield f"without {call[1]}", text[:call.start()] + f"({call[2]})" + text[call.end():]
     if not is_type:
