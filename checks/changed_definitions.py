@@ -4,7 +4,8 @@ or other definition of the crate notices. Ends with 1 where none does; a functio
 
   checks/changed_definitions.py CRATE [NAMES..]     all definitions where none is named
 
-Needs the libraries of the crates below, which `rt ci --anew` leaves in crates/*/out. Takes one minute to half an hour.
+Takes one minute to half an hour, and longer where the crates below have no libraries, which `rt ci --anew` leaves in
+crates/*/out.
 Definitions each of which some lemma sees alone are changed together.
 """
 import re

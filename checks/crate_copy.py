@@ -1,5 +1,5 @@
 """A copy of a crate in which the prover reads all lemmas, or the definitions alone, and proves no function. Its libraries
-are those of the checkout."""
+are those of the checkout, or their sources."""
 import re
 import shutil
 import subprocess
@@ -68,15 +68,20 @@ class Copy:
 
     @cache
     def words(self):
-        """The words of a check."""
+        """The words of a check. The crates below are read from their sources where one of them has no library."""
         kit = Path(subprocess.run(["rt", "doc"], capture_output=True, text=True, check=True).stdout.split()[0]).parent
         listed = crates()
+        lower = below(self.crate, listed)
+        built = all((CRATES / name / "out/rlib").exists() for name in lower)
+        named = ["std", *listed[self.crate]] if built else ["core", "std", *(x for name in [self.crate, *lower] for x in listed[name])]
         words = [kit / "bin/rattle", "check", "--crate-name", self.crate, "src/lib.rt", "-L", f"dependency={kit}/rlibs"]
-        for name in ["std", *listed[self.crate]]:
-            library = CRATES / name / "out/rlib" if name in listed else kit / "rlibs"
-            words += ["--extern", f"{name}={library}/{name}.rlib"]
-        for name in below(self.crate, listed):
-            words += ["-L", f"dependency={CRATES}/{name}/out/rlib"]
+        for name in dict.fromkeys(named):
+            if built or name not in listed:
+                library = CRATES / name / "out/rlib" if name in listed else kit / "rlibs"
+                words += ["--extern", f"{name}={library}/{name}.rlib"]
+        for name in lower:
+            words += ["-L", f"dependency={CRATES}/{name}/out/rlib"] if built else \
+                ["--lib", f"{name}:{','.join(['core', 'std', *listed[name]])}={CRATES}/{name}/src/lib.rt"]
         return words + ["--antt-project", kit / "rattle/logic/antt-project.json", "--logic-built", kit / "logic_built", "--jobs", "1"]
 
     def errors(self, reader, kept=None):
