@@ -1,6 +1,9 @@
 -- What `position` tells.
-use Rattle.std.proofs.Common.{◌≡◌, ℕ, ◌<◌, ◌≤◌, Bool, true, false, cond, nat_lt, List, length, Some, None, refl, rules}
+use Rattle.std.proofs.Common.{◌≡◌, ℕ, suc, ◌+◌, ◌<◌, ◌≤◌, Bool, true, false, cond, nat_lt, List, length, Some, None, refl, rules, arith}
 use Rattle.std.specs.List.{position, position_or_len}
+
+pub next_is : (n : ℕ) → 1 + n ≡ suc n
+next_is n = omega arith
 
 some_case : (n len k : ℕ) (found : Bool) → nat_lt n len ≡ found → cond found (Some n) None ≡ Some k → (k ≡ n) × (n < len)
 some_case n len k true e h = (cc h, search rules)

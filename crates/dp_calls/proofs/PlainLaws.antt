@@ -9,20 +9,14 @@ use Rattle.dp_tree.specs.declared.Stmt.TheVariants as stmt
 use Rattle.dp_tree.specs.declared.Function.{Function}
 use Rattle.dp_tree.specs.declared.Program.{Program}
 use Rattle.dp_tree.specs.Functions.{body_in, params_in}
-use Rattle.dp_tree.specs.Numbering.{is_plain, is_plain_at, is_plain_in, is_inner, is_inner_in, top_fits, next_region, regions_in_order}
+use Rattle.dp_tree.specs.Numbering.{is_plain, is_plain_in, is_inner, is_inner_in, top_fits, next_region, regions_in_order}
 use Rattle.dp_tree.specs.Checked.{IsChecked, is_plain_function}
-use Rattle.dp_tree.proofs.Heads.{everywhere_hidden, opened_statement, and_true, and_make}
-use Rattle.dp_tree.proofs.Inner.{hidden_inner, inner_hidden, inner_plain, inner_join}
+use Rattle.dp_tree.proofs.Heads.{opened_statement, and_true, and_make}
+use Rattle.dp_tree.proofs.Inner.{hidden_inner, hidden_plain, inner_hidden, inner_plain, inner_join, plain_hidden}
 use Rattle.dp_calls.specs.Renaming.{Renamed, named_in, renamed}
 use Rattle.dp_calls.specs.Tables.{Tables, first_tables, with_source_site, next_site}
 use Rattle.dp_calls.specs.Expand.{Piece, Calls, expand, bindings, declared_by, is_known, expand_one, expand_rows, expand_list, calls_within}
 use Rattle.dp_tree.proofs.PlainLists.{plain_front}
-
-abbrev hidden_plain : List Stmt → Bool
-hidden_plain xs = is_plain_in (Rattle.dp_tree.specs.declared.Stmt.TheBlock.hidden-the_row-Stmt-0 xs)
-
-plain_hidden : (xs : List Stmt) → hidden_plain xs ≡ list_all is_plain xs
-plain_hidden xs = everywhere_hidden is_plain_at xs
 
 plain-If : (site : SiteId) (cond : Expr) (a b : List Stmt) → list_all is_plain a ≡ true → list_all is_plain b ≡ true → is_plain (stmt.If site cond a b) ≡ true
 unfolding opened_statement

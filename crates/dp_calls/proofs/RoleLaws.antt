@@ -19,6 +19,7 @@ use Rattle.dp_tree.specs.Checked.{IsChecked}
 use Rattle.dp_calls.specs.Renaming.{Renamed, named_in, renamed}
 use Rattle.dp_calls.specs.Tables.{Tables, first_tables, with_local, with_site, with_source_site, site_in, next_site}
 use Rattle.dp_calls.specs.Expand.{Piece, Calls, expand, bindings, is_known, expand_one, expand_rows, expand_list, calls_within}
+use Rattle.dp_calls.proofs.CheckedTexts.{numbers_in_functions}
 use Rattle.dp_calls.proofs.SiteLaws.{declared_sites}
 use Rattle.dp_tree.proofs.SiteForms.{roles-If, roles-While, roles-Region, roles_both}
 
@@ -145,9 +146,6 @@ module _ (p : Program) where
         let parts = entries_parts (site_numbers s) (site_numbers_all rest) (site_roles 0 s) (site_roles_all 0 rest) (as_many 0 s) h in
         let one = expand_one p calls r s names t in
         told_joined r t one (expand_list p calls r rest one.names one.tables) (told_one r 0 s names t parts.0) (told_list r rest one.names one.tables parts.1)
-
-  abbrev numbers_in_functions : List Function → List ℕ
-  numbers_in_functions fs = flat_map (λ (f : Function). site_numbers_all f.body) fs
 
   abbrev roles_in_functions : List Function → Roles
   roles_in_functions fs = flat_map (λ (f : Function). site_roles_all 0 f.body) fs

@@ -10,14 +10,6 @@ use dp_base::{CellId, Cells, SiteId, Word, WordKind};
 use dp_plan::Plan;
 use dp_tree::{Assume, Program};
 
-/// The numbers are equal.
-#[inline(always)]
-pub fn same(x: i64, y: i64) -> bool
-    ensures { result ≡ clean.int_eq x y }
-{
-    x <= y && y <= x
-}
-
 /// The number is 0.
 #[inline(always)]
 #[tactic(auto, unfolding(dp_base::specs::Arithmetic::is_zero))]

@@ -7,7 +7,7 @@ ghost use Rattle.dp_semantics.specs.Clean.{as_assumed};
 ghost use Rattle.dp_semantics.specs.Words.{words_of};
 ghost use Rattle.dp_cause.specs.Watching.{seen_otherwise, reported_if, HasForm, Looks, noted};
 
-use crate::assuming::{goes_as_assumed, is_load, same, stays_late, value_at};
+use crate::assuming::{goes_as_assumed, is_load, stays_late, value_at};
 use crate::views::{add, count, show, view};
 use crate::watched::{Form, Ground, Step, Watched};
 use dp_base::{Cause, CellId, NoMemory, SiteId, Word};
@@ -22,7 +22,7 @@ fn load_cause(view: &[i64], site: SiteId, word: Word) -> Option<Cause>
         return None;
     }
     let seen = value_at(view, word.index);
-    if same(seen, word.value) {
+    if seen == word.value {
         return None;
     }
     Some(Cause::Load {

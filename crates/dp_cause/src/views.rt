@@ -1,13 +1,12 @@
 //! The memories that stages see, and the numbers of their words.
 ghost use Rattle.std.specs.Prelude.{◌≡◌, ◌≤◌, ◌+◌, ◌^◌, OnErr, OnOk, IfOk, map};
-ghost use Rattle.dp_tree.specs.Step.{is_local_of};
 ghost use Rattle.dp_semantics.specs.CauseWalk.{view_of, count_of};
 ghost use Rattle.dp_cause.specs.Views as definition;
 
 use crate::assuming::put;
 use crate::replaced::Replaced;
 use dp_base::{CellId, Cells, NoMemory, Row, StoreOf};
-use dp_tree::{VarInfo, VarScope};
+use dp_tree::VarInfo;
 use std::alloc::Global;
 
 /// The memory of a stage; stages count from 1.
@@ -64,22 +63,13 @@ pub fn show(views: &mut [Cells], stage: u32, cell: u32, value: i64)
     }
 }
 
-fn is_local(region: u32, scope: VarScope) -> bool
-    ensures { result ≡ is_local_of region scope }
-{
-    match scope {
-        VarScope::Body(r) => r == region,
-        VarScope::Global | VarScope::Outer => false,
-    }
-}
-
 /// The cells of the region's body locals.
 pub fn local_cells(alloc: Global, region: u32, vars: &[VarInfo]) -> Result<Row<CellId>, NoMemory>
     ensures { IfOk result (λ cells. cells ≡ definition.local_cells region vars.now) }
 {
     let mut cells = Row::new(alloc);
     for info in vars {
-        if is_local(region, info.scope) {
+        if info.scope.is_local_of(region) {
             cells.push(info.first)?;
         }
     }

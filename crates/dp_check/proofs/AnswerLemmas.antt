@@ -106,10 +106,6 @@ module _ {P A X : Type 0} (F : P → List A → Result (List X) CheckFail) (one 
   pub loop_refused : (a : A) → i < length xs → a ≡ get_or xs i a → (e : CheckFail) → one p a ≡ Err e → whole ≡ Err e
   loop_refused a below is e err = turn a below is ∙ ap (λ r. and_then r (λ y. onto (done ++ y ∷ []) (F (step p a) (drop (i + 1) xs)))) err
 
-  -- all items are done
-  pub loop_end : length xs ≤ i → F p [] ≡ Ok [] → whole ≡ Ok done
-  loop_end over none = so_far ∙ ap (onto done) (at_drop_all (F p) xs i over ∙ none) ∙ onto-none done
-
 -- the same where one item answers with several
 module _ {P A X : Type 0} (F : P → List A → Result (List X) CheckFail) (one : P → A → Result (List X) CheckFail) (step : P → A → P)
     (more : (p : P) (a : A) (rest : List A) → F p (a ∷ rest) ≡ and_then (one p a) (λ x. and_then (F (step p a) rest) (λ xs. Ok (x ++ xs))))
@@ -127,5 +123,6 @@ module _ {P A X : Type 0} (F : P → List A → Result (List X) CheckFail) (one 
   pub further_refused : (a : A) → i < length xs → a ≡ get_or xs i a → (e : CheckFail) → onto done (one p a) ≡ Err e → whole ≡ Err e
   further_refused a below is e err = turns a below is ∙ ap (λ r. and_then r (λ y. onto y (F (step p a) (drop (i + 1) xs)))) err
 
-  pub further_end : length xs ≤ i → F p [] ≡ Ok [] → whole ≡ Ok done
-  further_end over none = so_far ∙ ap (onto done) (at_drop_all (F p) xs i over ∙ none) ∙ onto-none done
+-- all items are done
+pub loop_end : {P A X : Type 0} (F : P → List A → Result (List X) CheckFail) (xs : List A) (i : ℕ) (p : P) (done : List X) {whole : Result (List X) CheckFail} → whole ≡ onto done (F p (drop i xs)) → length xs ≤ i → F p [] ≡ Ok [] → whole ≡ Ok done
+loop_end F xs i p done so_far over none = so_far ∙ ap (onto done) (at_drop_all (F p) xs i over ∙ none) ∙ onto-none done

@@ -14,6 +14,7 @@ use Rattle.dp_tree.specs.Functions.{params_in}
 use Rattle.dp_tree.specs.declared.Stmt.{Stmt}
 use Rattle.dp_tree.specs.declared.Stmt.TheVariants as code
 use Rattle.dp_tree.specs.Scoping.{sees, knows, seen_behind}
+use Rattle.dp_tree.proofs.EvalLemmas.{opened}
 use Rattle.dp_check.specs.declared.names.Meaning.{Meaning}
 use Rattle.dp_check.specs.declared.names.Meaning.TheVariants.{Scalar, Array, Input, InputLen, Function}
 use Rattle.dp_check.specs.Names.{Named, named, same_name}
@@ -96,35 +97,29 @@ pub known_append : (p : Program) (n : ℕ) (visible : List ℕ) (names : List Na
 known_append p n visible names text m h here =
     all_of_both (λ (e : Named). is_known p n visible e.meaning) names (record { name = text; meaning = m } ∷ []) h (both_true here refl)
 
--- what opens where an expression is made
-unfoldable pub expr_opened : Unit {0}
-unfolding
-    Rattle.dp_tree.specs.declared.Expr.TheBlock.shape-the_row-Expr-0 Rattle.dp_tree.specs.declared.Expr.TheBlock.hidden-the_row-Expr-0 denote.Hole.Carrier.hidden
-expr_opened = tt
-
 module _ (visible : List ℕ) where
   knows-Element : (x : VarId) (e : Expr) → knows visible (tree.Element x e) ≡ (sees visible x && knows visible e)
-  unfolding expr_opened
+  unfolding opened
   knows-Element x e = refl
 
   knows-Input : (e : Expr) → knows visible (tree.Input e) ≡ knows visible e
-  unfolding expr_opened
+  unfolding opened
   knows-Input e = refl
 
   knows-Unary : (op : UnOp) (a : Expr) → knows visible (tree.Unary op a) ≡ knows visible a
-  unfolding expr_opened
+  unfolding opened
   knows-Unary op a = refl
 
   knows-Binary : (op : BinOp) (a b : Expr) → knows visible (tree.Binary op a b) ≡ (knows visible a && knows visible b)
-  unfolding expr_opened
+  unfolding opened
   knows-Binary op a b = refl
 
   knows-And : (a b : Expr) → knows visible (tree.And a b) ≡ (knows visible a && knows visible b)
-  unfolding expr_opened
+  unfolding opened
   knows-And a b = refl
 
   knows-Or : (a b : Expr) → knows visible (tree.Or a b) ≡ (knows visible a && knows visible b)
-  unfolding expr_opened
+  unfolding opened
   knows-Or a b = refl
 
 module _ (p : Program) (n : ℕ) (visible : List ℕ) where

@@ -21,7 +21,7 @@ use Rattle.dp_check.specs.Place.{Part, Site, Local, parts, parts_all, local_coun
 use Rattle.dp_check.specs.Tokens.{expr_tokens, tokens, tokens_all}
 use Rattle.dp_check.specs.Resolved.{resolved, resolved_all, resolved_expr, stepped_region, resolved_top, resolved_main, next_site, region_at, is_region}
 use Rattle.dp_check.specs.Tables.{laid, locals_of, loop_parts, outside_at, within_at, outside, within, top_locals, after_top, main_locals}
-use Rattle.dp_check.proofs.NumberLemmas.{stmt_opened}
+use Rattle.dp_tree.proofs.SitesOf.{opened_statement}
 use Rattle.dp_check.proofs.PlaceLemmas.{opened, local_count-append, after_variable, after_all_variable, after-While, after-For}
 use Rattle.dp_check.proofs.StatementLemmas.{tokens_hidden}
 use Rattle.dp_check.proofs.RegionLemmas.{tokens_For}
@@ -34,11 +34,11 @@ use Rattle.dp_check.proofs.ScopeLemmas.{Here, here_both, here_one, scoped_both, 
 
 scope-Region : (p : Program) (r n : ℕ) (visible : List ℕ) (k : ℕ) (site : SiteId) (cond : Expr) (a : List Stmt)
     → in_scope p r n visible (code.Region k site cond a) ≡ (knows visible cond && all_in_scope p k n visible a)
-unfolding stmt_opened
+unfolding opened_statement
 scope-Region p r n visible k site cond a = λ i. knows visible cond && rows_hidden p k n visible a i
 
 behind-Region : (visible : List ℕ) (k : ℕ) (site : SiteId) (cond : Expr) (a : List Stmt) → seen_behind visible (code.Region k site cond a) ≡ visible
-unfolding stmt_opened
+unfolding opened_statement
 behind-Region visible k site cond a = refl
 
 tokens-While : (q : Place) (line : ℕ) (marked : Bool) (cond : RawExpr) (body : List RawStmt) → tokens q (raw.While line marked cond body) ≡ expr_tokens q.names cond ++ tokens_all (sited q) body

@@ -1,7 +1,6 @@
 -- The sites of a checked program are numbered in text order.
 use Rattle.std.proofs.Common.{◌≡◌, refl, sym, ap, ◌∙◌, ℕ, suc, ◌+◌, true, if◌then◌else◌, List, [], ◌∷◌, ◌++◌, map, length, length-append, append-nil, arith}
 use Rattle.std.specs.List.{flat_map}
-use Rattle.dp_tree.specs.declared.Stmt.{Stmt}
 use Rattle.dp_tree.specs.declared.Stmt.TheVariants as code
 use Rattle.dp_tree.specs.declared.SiteKind.TheVariants as kind
 use Rattle.dp_tree.specs.declared.raw.Name.{Name}
@@ -27,10 +26,6 @@ use Rattle.dp_check.proofs.ItemLemmas.{after_params_site}
 use Rattle.dp_check.proofs.TableLemmas.{length-sites_of, length-top_sites, parts-While, parts-For}
 use Rattle.dp_tree.proofs.NumberLists.{numbers_from-append}
 use Rattle.dp_tree.proofs.SiteForms.{numbers-If, numbers-While, numbers-Region, numbers_both}
-
-unfoldable pub stmt_opened : Unit {0}
-unfolding Rattle.dp_tree.specs.declared.Stmt.TheBlock.shape-the_row-Stmt-0 Rattle.dp_tree.specs.declared.Stmt.TheBlock.hidden-the_row-Stmt-0 denote.Hole.Carrier.hidden
-stmt_opened = tt
 
 -- two pieces of a text, one behind the other
 numbers_joined : (k a b : ℕ) {xs ys : List ℕ} {m : ℕ} → m ≡ k + a → xs ≡ numbers_from k a → ys ≡ numbers_from m b → xs ++ ys ≡ numbers_from k (a + b)

@@ -19,7 +19,7 @@ use Rattle.dp_check.specs.Resolved.{next_site, resolved, resolved_in, resolved_a
 use Rattle.dp_check.specs.Items.{items_functions, after_item}
 use Rattle.dp_tree.specs.Numbering.{is_plain, is_plain_at, is_plain_in, is_inner, is_inner_in, top_fits, next_region, regions_in_order}
 use Rattle.dp_tree.proofs.SitesOf.{everywhere_hidden}
-use Rattle.dp_check.proofs.NumberLemmas.{stmt_opened}
+use Rattle.dp_tree.proofs.SitesOf.{opened_statement}
 use Rattle.dp_check.specs.Checked.{is_unbroken, is_unbroken_in, may_leave, fits_at, breaks_fit_at_top, is_unbroken_item}
 use Rattle.dp_check.proofs.BoolLemmas.{both_true, halves, same_number, all_of_both, all_weaker}
 use Rattle.dp_tree.proofs.PlainLists.{plain_front}
@@ -28,24 +28,24 @@ plain_hidden : (xs : List Stmt) → is_plain_in (Rattle.dp_tree.specs.declared.S
 plain_hidden xs = everywhere_hidden is_plain_at xs
 
 plain-If : (site : SiteId) (cond : Expr) (a b : List Stmt) → is_plain (code.If site cond a b) ≡ (list_all is_plain a && list_all is_plain b)
-unfolding stmt_opened
+unfolding opened_statement
 plain-If site cond a b = λ i. plain_hidden a i && plain_hidden b i
 
 plain-While : (site : SiteId) (cond : Expr) (a : List Stmt) → is_plain (code.While site cond a) ≡ list_all is_plain a
-unfolding stmt_opened
+unfolding opened_statement
 plain-While site cond a = plain_hidden a
 
 inner_hidden : (xs : List Stmt) → is_inner_in (Rattle.dp_tree.specs.declared.Stmt.TheBlock.hidden-the_row-Stmt-0 xs) ≡ list_all is_inner xs
-unfolding stmt_opened
+unfolding opened_statement
 inner_hidden [] = refl
 inner_hidden (x ∷ xs) = ap (λ b. is_inner x && b) (inner_hidden xs)
 
 fits-Region : (r : ℕ) (site : SiteId) (cond : Expr) (a : List Stmt) → top_fits r (code.Region r site cond a) ≡ ((r == r) && list_all is_inner a)
-unfolding stmt_opened
+unfolding opened_statement
 fits-Region r site cond a = ap (λ b. (r == r) && b) (inner_hidden a)
 
 next-Region : (r : ℕ) (site : SiteId) (cond : Expr) (a : List Stmt) → next_region r (code.Region r site cond a) ≡ r + 1
-unfolding stmt_opened
+unfolding opened_statement
 next-Region r site cond a = refl
 
 mutual

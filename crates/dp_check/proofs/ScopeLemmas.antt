@@ -18,7 +18,7 @@ use Rattle.dp_check.specs.Place.{Site, parts, parts_in, parts_all, local_count, 
 use Rattle.dp_check.specs.Tokens.{token, expr_tokens, args_tokens, tokens, tokens_in, tokens_all}
 use Rattle.dp_check.specs.Resolved.{variable_of, function_of, resolved_expr, next_site, next_variable, resolved, resolved_in, resolved_all}
 use Rattle.dp_check.proofs.PlaceLemmas.{after_variable, after_in_variable, local_count-append}
-use Rattle.dp_check.proofs.NumberLemmas.{stmt_opened}
+use Rattle.dp_tree.proofs.SitesOf.{opened_statement}
 use Rattle.dp_check.proofs.BoolLemmas.{both_true, halves}
 use Rattle.dp_check.proofs.DeclaredLemmas.{Declared, declared_front, declared_back}
 use Rattle.dp_check.proofs.KnownLemmas.{seen_behind_all, known_behind, found, knows_expr, knows_args}
@@ -28,25 +28,25 @@ use Rattle.dp_check.proofs.Visible.{At, assigned, at_declared, at_passed, below_
 
 module _ (p : Program) (r n : ℕ) where
   pub rows_hidden : (visible : List ℕ) (xs : List Stmt) → rows_in_scope p r n visible (Rattle.dp_tree.specs.declared.Stmt.TheBlock.hidden-the_row-Stmt-0 xs) ≡ all_in_scope p r n visible xs
-  unfolding stmt_opened
+  unfolding opened_statement
   rows_hidden visible [] = refl
   rows_hidden visible (x ∷ xs) = ap (λ b. in_scope p r n visible x && b) (rows_hidden (seen_behind visible x) xs)
 
   scope-If : (visible : List ℕ) (site : SiteId) (cond : Expr) (a b : List Stmt) → in_scope p r n visible (code.If site cond a b)
       ≡ (knows visible cond && (all_in_scope p r n visible a && all_in_scope p r n visible b))
-  unfolding stmt_opened
+  unfolding opened_statement
   scope-If visible site cond a b = λ i. knows visible cond && (rows_hidden visible a i && rows_hidden visible b i)
 
   scope-While : (visible : List ℕ) (site : SiteId) (cond : Expr) (a : List Stmt) → in_scope p r n visible (code.While site cond a) ≡ (knows visible cond && all_in_scope p r n visible a)
-  unfolding stmt_opened
+  unfolding opened_statement
   scope-While visible site cond a = λ i. knows visible cond && rows_hidden visible a i
 
 behind-If : (visible : List ℕ) (site : SiteId) (cond : Expr) (a b : List Stmt) → seen_behind visible (code.If site cond a b) ≡ visible
-unfolding stmt_opened
+unfolding opened_statement
 behind-If visible site cond a b = refl
 
 behind-While : (visible : List ℕ) (site : SiteId) (cond : Expr) (a : List Stmt) → seen_behind visible (code.While site cond a) ≡ visible
-unfolding stmt_opened
+unfolding opened_statement
 behind-While visible site cond a = refl
 
 -- Statements are in scope, and so is what stands behind them.

@@ -4,7 +4,7 @@ ghost use Rattle.dp_semantics.specs.Judge as judge;
 ghost use Rattle.dp_semantics.specs.Words.{after_loads_of};
 
 use dp_base::{Row, SiteId, Word};
-use dp_cause::{is_load, same, value_at};
+use dp_cause::{is_load, value_at};
 
 /// The place behind the site's loads from a place on, where each of them gave what the memory holds.
 #[inline(always)]
@@ -17,7 +17,7 @@ pub fn behind_loads(cells: &[i64], words: &[Word], from: usize, site: SiteId) ->
         if !is_load(word, site) {
             break 'words;
         }
-        if !same(value_at(cells, word.index), word.value) {
+        if value_at(cells, word.index) != word.value {
             return None;
         }
         i += 1;

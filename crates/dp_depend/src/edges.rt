@@ -14,7 +14,7 @@ use crate::nodes::Node;
 use crate::{Edge, EdgeKind};
 use dp_base::{NoMemory, Row};
 use dp_sites::Apart;
-use dp_tree::{Assume, Program, VarScope};
+use dp_tree::{Assume, Program};
 use std::alloc::Global;
 
 /// What the edges of a region are read off.
@@ -70,7 +70,7 @@ fn is_local(p: &Program, region: u32, variable: u32) -> bool
     ensures { result ≡ stages.is_local region (slice_get p.now.vars variable) }
 {
     match p.vars.get(variable as usize) {
-        Some(info) => matches!(info.scope, VarScope::Body(of) if of == region),
+        Some(info) => info.scope.is_local_of(region),
         None => false,
     }
 }

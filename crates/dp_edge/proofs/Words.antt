@@ -7,7 +7,7 @@ use Rattle.std.proofs.Math.ListN.{drop_of_length-le}
 use Rattle.dp_edge.specs.Digits.{is_full}
 use Rattle.dp_base.specs.Pieces.{onto_first, pieces}
 use Rattle.dp_edge.specs.Input.{is_blank, words}
-use Rattle.dp_base.proofs.PositionLemmas.{position_some, position_none}
+use Rattle.dp_base.proofs.PositionLemmas.{next_is, position_some, position_none}
 
 -- how many blanks stand before the first word, and how many bytes before the first blank
 abbrev pub blanks : List ℕ → ℕ
@@ -15,9 +15,6 @@ blanks = position_or_len (λ byte. not (is_blank byte))
 
 abbrev pub word_len : List ℕ → ℕ
 word_len = position_or_len is_blank
-
-next_is : (n : ℕ) → 1 + n ≡ suc n
-next_is n = omega arith
 
 drop_next : (n byte : ℕ) (text : List ℕ) → drop (1 + n) (byte ∷ text) ≡ drop n text
 drop_next n byte text = ap (λ k. drop k (byte ∷ text)) (next_is n)

@@ -8,21 +8,12 @@ use crate::sending::with_status;
 use crate::{Frame, Memory, Sent};
 use dp_base::NoMemory;
 use dp_packet::PacketStatus;
-use dp_tree::{VarInfo, VarScope};
-
-fn is_local(region: u32, scope: VarScope) -> bool
-    ensures { result ≡ is_local_of region scope }
-{
-    match scope {
-        VarScope::Body(r) => r == region,
-        VarScope::Global | VarScope::Outer => false,
-    }
-}
+use dp_tree::VarInfo;
 
 fn clear_one<M: Memory + Drop>(region: u32, info: &VarInfo, memory: &mut M) -> Result<(), NoMemory>
     ensures { OnOk result (M.cells memory.new ≡ (if is_local_of region info.now.scope then slice_set (M.cells memory.old) info.now.first.0 (pos 0) else M.cells memory.old)) }
 {
-    if is_local(region, info.scope) {
+    if info.scope.is_local_of(region) {
         memory.store(info.first.0, 0)?;
     }
     Ok(())

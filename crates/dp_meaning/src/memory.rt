@@ -5,24 +5,15 @@ ghost use Rattle.dp_tree.specs.Step as definition;
 ghost use Rattle.dp_tree.specs.Trace as definition_of_runs;
 
 use dp_base::{Cells, NoMemory, StoreOf};
-use dp_tree::{VarInfo, VarScope};
+use dp_tree::VarInfo;
 use std::alloc::Global;
-
-fn is_local_of(region: u32, scope: VarScope) -> bool
-    ensures { result ≡ definition.is_local_of region scope }
-{
-    match scope {
-        VarScope::Body(of) => of == region,
-        VarScope::Global | VarScope::Outer => false,
-    }
-}
 
 #[inline(always)]
 #[tactic(auto, using(crate::proofs::MemoryLemmas::stores))]
 fn clear_local(region: u32, info: &VarInfo, cells: &mut Cells)
     ensures { cells.new ≡ (if definition.is_local_of region info.now.scope then slice_set cells.old info.now.first.0 (pos 0) else cells.old) }
 {
-    if is_local_of(region, info.scope) && (info.first.0 as usize) < cells.len() {
+    if info.scope.is_local_of(region) && (info.first.0 as usize) < cells.len() {
         cells.set(info.first, 0);
     }
 }

@@ -1,22 +1,12 @@
 //! The cells of a region's body locals.
 ghost use Rattle.std.specs.Prelude.{◌≡◌, ℕ, ◌+◌, ◌||◌, ◌&&◌, nat_le, nat_lt, IfOk, OnOk};
-ghost use Rattle.dp_tree.specs.Step as definition;
 ghost use Rattle.dp_profile.specs.Observed.{is_local_cell};
 ghost use Rattle.dp_observe.specs.Sparse.{at};
 
 use crate::sparse::Sparse;
 use dp_base::NoMemory;
-use dp_tree::{Program, VarScope};
+use dp_tree::Program;
 use std::alloc::Global;
-
-fn is_local_of(region: u32, scope: VarScope) -> bool
-    ensures { result ≡ definition.is_local_of region scope }
-{
-    match scope {
-        VarScope::Body(of) => of == region,
-        VarScope::Global | VarScope::Outer => false,
-    }
-}
 
 /// Marks so many cells, from the first on.
 #[tactic(auto, using(crate::proofs::LocalLemmas::marks))]
@@ -40,7 +30,7 @@ pub(crate) fn locals_of(
 {
     let mut locals = Sparse::new(alloc, false);
     for info in program.vars.as_slice() {
-        if is_local_of(region, info.scope) {
+        if info.scope.is_local_of(region) {
             mark(&mut locals, info.first.0, info.length)?;
         }
     }

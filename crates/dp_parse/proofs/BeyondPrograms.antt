@@ -15,7 +15,7 @@ use Rattle.dp_parse.specs.Programs as derives
 use Rattle.dp_parse.specs.Rules.{Part, Word, Of, Block, Item, Items, Tops, Ending, Body, Program}
 use Rattle.dp_parse.specs.Begins.{Begins}
 use Rattle.dp_parse.specs.Rules as rule
-use Rattle.dp_tokens.specs.Steps.{Parser, ◌>>=◌, pure, expect, eat, sees, after, many}
+use Rattle.dp_tokens.specs.Steps.{Parser, ◌>>=◌, pure, eat, sees, after, many}
 use Rattle.dp_tokens.specs.Numbers as numbers
 use Rattle.dp_parse.specs.steps.Programs as read
 use Rattle.dp_parse.proofs.StepLemmas.{eats, stays, after-le}
@@ -25,7 +25,7 @@ use Rattle.dp_parse.proofs.StatementReads.{goes}
 use Rattle.dp_parse.proofs.ProgramSteps.{program_item}
 use Rattle.dp_parse.proofs.ProgramSound.{inside, DerivesPart, sound_part}
 use Rattle.dp_parse.proofs.ProgramComplete.{part_int, part_void, ends_return, reads_tops, return_closes, reads_returned, reads_item}
-use Rattle.dp_parse.proofs.StuckPrograms.{returned_sound, returned_stuck, part_stuck, an_item, a_body}
+use Rattle.dp_parse.proofs.StuckPrograms.{semicolon, returned_sound, returned_stuck, part_stuck, an_item, a_body}
 use Rattle.dp_parse.proofs.Going.{Goes, GoesParts, by, last, token, last_zero, next_zero, within, past, normal, OrNone, word_first}
 use Rattle.dp_parse.proofs.Beyond.{Beyond, Shrinks, shrinks_if, shrinks_as, begins_shorter, further, same_beyond, and_on, number_shrinks, Reading, Inner, part_and, word_and, ends, mapped_and, many_shrinks}
 use Rattle.dp_parse.proofs.BeyondCalls.{word_splits}
@@ -33,9 +33,6 @@ use Rattle.dp_parse.proofs.BeyondItems.{function_read, plain_read, started_read,
 use Rattle.dp_parse.proofs.BeyondTops.{top_shrinks, tops_go}
 
 -- ---- the end of `main`
-
-abbrev semicolon : Parser (Unit {0})
-semicolon = expect Semicolon >>= (λ _. pure tt)
 
 semicolon_read : (n : ℕ) → Reading semicolon n (Word Semicolon ∷ [])
 semicolon_read n = word_and Semicolon n [] _ (λ _. ends)

@@ -1,11 +1,10 @@
 -- What the grammar derives as an assignment, a declaration or the head of a `for`, the descent reads.
-use Rattle.std.proofs.Common.{◌≡◌, refl, ap, ◌∙◌, sym, Bool, List, [], ◌∷◌, None, Ok}
+use Rattle.std.proofs.Common.{◌≡◌, refl, ap, ◌∙◌, sym, Bool, List, ◌∷◌, None, Ok}
 use Rattle.dp_lex.specs.Token.{Lexeme}
 use Rattle.dp_tree.specs.declared.raw.Name.{Name as TreeName}
 use Rattle.dp_tree.specs.declared.raw.RawExpr.{RawExpr}
 use Rattle.dp_tree.specs.declared.raw.RawStmt.{RawStmt}
 use Rattle.dp_tree.specs.declared.raw.RawStmt.TheVariants as tree
-use Rattle.dp_parse.specs.declared.head.Header.{Header}
 use Rattle.dp_tokens.specs.declared.symbol.Symbol.{Symbol}
 use Rattle.dp_tokens.specs.declared.symbol.Symbol.TheVariants.{Name, Int, Assign, OpenParen, CloseParen, OpenBracket, CloseBracket, Semicolon}
 use Rattle.dp_parse.specs.declared.level.Level.TheVariants.{Or}
@@ -20,6 +19,7 @@ use Rattle.dp_parse.specs.steps.Heads as read
 use Rattle.dp_parse.specs.steps.Statements as statements
 use Rattle.dp_parse.proofs.StepLemmas.{is_same, expects, sees_other}
 use Rattle.dp_parse.proofs.LeafLemmas.{reads_name}
+use Rattle.dp_parse.proofs.HeadSound.{as_head}
 use Rattle.dp_parse.proofs.ExpressionComplete.{whole_read}
 use Rattle.dp_parse.specs.Rules as rule
 use Rattle.dp_parse.proofs.Going.{Goes, by, word_first, goes_whole}
@@ -95,9 +95,6 @@ pub reads_first : {from to : List Lexeme} {s : RawStmt} → DerivesFirst from to
 unfolding symbol_at
 reads_first (declared {int} {name} {equals} {from} {to} {e} i n q d) h = first_int (int ∷ name ∷ equals ∷ from) i ∙ reads_declare int name equals from to e i n q d h
 reads_first (simple {from} d) h = first_other from (λ e. let clash : Name ≡ Int = sym (simple_first (goes_whole rule.Simple refl (_, d))) ∙ e in cc clash) ∙ reads_simple d h
-
-abbrev pub as_head : RawStmt → RawExpr → RawStmt → Header
-as_head first cond step = record { first = first ∷ []; cond = cond; step = step ∷ [] }
 
 pub reads_head : {from to : List Lexeme} {first step : RawStmt} {e : RawExpr} → DerivesHead from to first e step → read.head from ≡ Ok (as_head first e step, to)
 unfolding read.head symbol_at

@@ -95,7 +95,7 @@ pub record Heads (from to : List Lexeme) (h : Header) : Type 0 where
   pub derives : DerivesHead from to first cond step
   pub made : h ≡ record { first = first ∷ []; cond = cond; step = step ∷ [] }
 
-abbrev as_head : RawStmt → RawExpr → RawStmt → Header
+abbrev pub as_head : RawStmt → RawExpr → RawStmt → Header
 as_head first cond step = record { first = first ∷ []; cond = cond; step = step ∷ [] }
 
 -- its parts along the places where they split

@@ -18,7 +18,7 @@ use Rattle.dp_parse.specs.Statements.{DerivesStatement, DerivesCondition}
 use Rattle.dp_parse.specs.Heads.{DerivesHead}
 use Rattle.dp_parse.specs.Programs.{more, void, DerivesItem, scalar, started, below_zero, array, function, DerivesTops, region, for_region, DerivesReturn, DerivesMain, main, main_void, DerivesItems, Derives}
 use Rattle.dp_parse.specs.Programs as programs
-use Rattle.dp_tokens.specs.Steps.{Parser, ◌>>=◌, pure, expect, eat, rest, sees, after, many}
+use Rattle.dp_tokens.specs.Steps.{◌>>=◌, pure, expect, eat, rest, sees, after, many}
 use Rattle.dp_tokens.specs.Steps as step
 use Rattle.dp_parse.specs.steps.Programs as read
 use Rattle.dp_parse.proofs.StepLemmas.{pair, is_same, expects, eats, stays, sees_other, same_pair, unlike}
@@ -31,6 +31,7 @@ use Rattle.dp_parse.specs.Regions.{DerivesLoop}
 use Rattle.dp_parse.proofs.StatementComplete.{reads_statement}
 use Rattle.dp_parse.proofs.RegionComplete.{reads_marked, reads_marked_for}
 use Rattle.dp_parse.proofs.ItemSteps.{ends_some}
+use Rattle.dp_parse.proofs.ProgramSound.{inside, whole}
 use Rattle.dp_parse.proofs.ProgramSteps.{program_item, program_main}
 use Rattle.dp_parse.proofs.ItemComplete.{reads_plain, reads_below, reads_variable, reads_array, reads_function}
 use Rattle.std.proofs.Math.Bool.{or-true}
@@ -132,9 +133,6 @@ unfolding read.end read.returned
 reads_end from left closing d c =
     goes (λ _. expect CloseBrace >>= (λ _. pure tt)) (reads_returned d closing left refl c) ∙ goes (λ _. pure tt) (expects CloseBrace closing left c)
 
-abbrev inside : Parser (List RawStmt)
-inside = expect CloseParen >>= (λ _. expect OpenBrace >>= (λ _. (λ ts. many read.ends read.top (length ts) [] ts) >>= (λ body. read.end >>= (λ _. pure body))))
-
 reads_inside : (paren brace closing : Lexeme) (from behind to : List Lexeme) (body : List RawStmt) → Is CloseParen paren → Is OpenBrace brace → DerivesTops from behind body → DerivesReturn behind (closing ∷ to) → Is CloseBrace closing →
     inside (paren ∷ brace ∷ from) ≡ Ok (body, to)
 reads_inside paren brace closing from behind to body p b d r c =
@@ -194,9 +192,6 @@ reads_main (main_void {int} {name} {opening} {void = word} {paren} {brace} {clos
     (reads_main_void opening word (paren ∷ brace ∷ from) to body o v (reads_inside paren brace closing from behind to body p b d r c))
 
 -- ---- whole programs
-
-abbrev whole : List RawItem → List RawStmt → RawProgram
-whole items body = record { items = items; main = body }
 
 reads_items : {from middle : List Lexeme} {items : List RawItem} → DerivesItems from middle items → (body : List RawStmt) → DerivesMain middle [] body → (found : List RawItem) (k : ℕ) → length from ≤ k →
     read.program_from k found from ≡ Ok (whole (found ++ items) body, [])

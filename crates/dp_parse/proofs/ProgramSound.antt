@@ -185,7 +185,7 @@ record Rest (from to : List Lexeme) (found : List RawItem) (p : RawProgram) : Ty
   over : to ≡ []
 
 -- a program of these parts
-abbrev whole : List RawItem → List RawStmt → RawProgram
+abbrev pub whole : List RawItem → List RawStmt → RawProgram
 whole items body = record { items = items; main = body }
 
 finished_at : (found : List RawItem) (body : List RawStmt) (from middle to : List Lexeme) (p : RawProgram) → DerivesMain from middle body → read.finished found body middle ≡ Ok (p, to) → Rest from to found p

@@ -1,7 +1,6 @@
 -- What the grammar derives as a statement, the descent reads.
 use Rattle.std.proofs.Common.{◌≡◌, refl, ap, ◌∙◌, sym, ℕ, suc, ◌-◌, ◌≤◌, Bool, false, List, [], ◌∷◌, ◌++◌, length, arith, Ok}
 use Rattle.dp_lex.specs.Token.{Lexeme}
-use Rattle.dp_tree.specs.declared.raw.Name.{Name as TreeName}
 use Rattle.dp_tree.specs.declared.raw.RawExpr.{RawExpr}
 use Rattle.dp_tree.specs.declared.raw.RawStmt.{RawStmt}
 use Rattle.dp_tree.specs.declared.raw.RawStmt.TheVariants as tree
@@ -21,6 +20,7 @@ use Rattle.dp_parse.proofs.LeafLemmas.{reads_name}
 use Rattle.dp_parse.proofs.Lists.{many_more, many_closed}
 use Rattle.dp_parse.specs.Rules as rule
 use Rattle.dp_parse.proofs.Spans.{shorter}
+use Rattle.dp_parse.proofs.StatementForms.{behind_name}
 use Rattle.dp_parse.proofs.StatementSteps.{statement_opens}
 use Rattle.dp_parse.proofs.HeadReads.{ends_at, reads_ended, reads_declare, reads_scalar, reads_element, reads_head}
 use Rattle.dp_parse.proofs.StatementReads.{goes, reads_call, reads_print, reads_repeated, reads_if, choice_first, block_begins, begins_not, statements_not}
@@ -33,9 +33,6 @@ reads_declaration : (int name equals end : Lexeme) (from to : List Lexeme) (e : 
 unfolding read.declaration symbol_at
 reads_declaration int name equals end from to e i n q d h =
     reads_ended heads.declare (int ∷ name ∷ equals ∷ from) end to (tree.Declare int.line (name_of name) e) (reads_declare int name equals from (end ∷ to) e i n q d (ends_at Semicolon (end ∷ to) h refl (λ e. cc e))) h
-
-abbrev behind_name : TreeName → Parser RawStmt
-behind_name name = λ ts. read.named_by name (sees OpenParen ts) ts
 
 reads_named : (name end : Lexeme) (from to : List Lexeme) (s : RawStmt) → Is Name name → (symbol_at from ≡ OpenParen → ⊥) → heads.assign (name_of name) from ≡ Ok (s, end ∷ to) → Is Semicolon end → read.named (name ∷ from) ≡ Ok (s, to)
 unfolding read.named

@@ -75,7 +75,7 @@ named_at name false from to s is h =
     let c = closed (declares.assign (name_of name)) Semicolon (λ s. s) s from to h in
     moved DerivesStatement refl refl c.made (with_end (simple (sound_assign name from (c.closing ∷ to) c.value is c.first)) c.is)
 
-abbrev behind_name : TreeName → Parser RawStmt
+abbrev pub behind_name : TreeName → Parser RawStmt
 behind_name name = λ ts. read.named_by name (sees OpenParen ts) ts
 
 pub sound_named : Sound read.named DerivesStatement

@@ -61,7 +61,7 @@ tops : Reader (λ ts. many read.ends read.top (length ts) [] ts) (Of Tops)
 tops = reader Tops (λ ts. many read.ends read.top (length ts) [] ts)
     (λ from to a e. let m = many_tops (length from) from to [] a e in (m.0, m.2)) (λ from to e. many_stuck Tops read.top top_stuck read.ends top_passes (length from) [] from to e)
 
-abbrev semicolon : Parser (Unit {0})
+abbrev pub semicolon : Parser (Unit {0})
 semicolon = expect Semicolon >>= (λ _. pure tt)
 
 number_at : (from to : List Lexeme) (o : Outcome ℤ) → numbers.sees_zero from ≡ true → numbers.number from ≡ o → and_then o (λ _. semicolon) ≡ Err to → BeginsParts (Zero ∷ Word Semicolon ∷ []) from to

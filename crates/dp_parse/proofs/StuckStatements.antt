@@ -16,7 +16,7 @@ use Rattle.dp_tokens.specs.Steps as step
 use Rattle.dp_parse.specs.steps.Statements as read
 use Rattle.dp_parse.proofs.StepLemmas.{Sound, saw}
 use Rattle.dp_parse.proofs.LeafLemmas.{read_name}
-use Rattle.dp_parse.proofs.StatementForms.{sound_condition, sound_arguments}
+use Rattle.dp_parse.proofs.StatementForms.{behind_name, sound_condition, sound_arguments}
 use Rattle.dp_parse.proofs.StatementSound.{many_statements, sound_block, sound_statement}
 use Rattle.dp_parse.proofs.Stuck.{Fails, Reader, seq, done, word, name_stuck, reader, cases, FailsOr, seq_or, Eaten, passed, stayed, eaten, refused, many_stuck}
 use Rattle.dp_parse.proofs.StuckExpressions.{expr, list_stuck}
@@ -58,9 +58,6 @@ assigned name from to is (element b) = by rule.store (token is b)
 named_at : (name : Lexeme) (b : Bool) (from to : List Lexeme) → Is Name name → read.named_by (name_of name) b from ≡ Err to → Begins Statement (name ∷ from) to
 named_at name true from to is h = by rule.call (token is (call_fails (name_of name) from to h))
 named_at name false from to is h = assigned name from to is (assign_then (Word Semicolon ∷ []) (name_of name) _ semicolon from to h)
-
-abbrev behind_name : TreeName → Parser RawStmt
-behind_name name = λ ts. read.named_by name (sees OpenParen ts) ts
 
 named_stuck : (from to : List Lexeme) → read.named from ≡ Err to → Begins Statement from to
 unfolding read.named

@@ -1,7 +1,8 @@
 -- Whether two sites of a region are far from each other, read off the text.
-use Rattle.std.specs.Prelude.{ℕ, suc, ◌==◌, if◌then◌else◌, Bool, false, not, ◌&&◌, ◌||◌, List, [], ◌∷◌, ◌++◌, length, ℤ, pos, negsuc, ◌+ℤ◌, ◌-ℤ◌, Option, Some, None, ◌%◌, nat_lt, slice_get, count_by, int_le}
+use Rattle.std.specs.Prelude.{ℕ, suc, ◌==◌, if◌then◌else◌, Bool, false, not, ◌&&◌, ◌||◌, List, [], ◌∷◌, ◌++◌, length, ℤ, pos, negsuc, ◌+ℤ◌, ◌-ℤ◌, Option, Some, None, ◌%◌, nat_lt, slice_get, count_by}
 use Rattle.std.specs.List.{list_all, list_any, flat_map}
 use Rattle.std.specs.Option.{option_or}
+use Rattle.std.specs.Ordering.{int_eq}
 use Rattle.dp_tree.specs.declared.Expr.{Expr}
 use Rattle.dp_tree.specs.declared.Stmt.{Stmt, Row_of-Stmt, out-Stmt}
 use Rattle.dp_tree.specs.declared.Stmt.TheVariants.{Assign, Store, Print, If', While', Region', Break, Call}
@@ -13,10 +14,6 @@ use Rattle.dp_tree.specs.Numbering.{numbers_from}
 use Rattle.dp_plan.specs.Stage.{is_local}
 use Rattle.dp_plan.specs.Access.{accesses, region_in, stores_var}
 use Rattle.dp_plan.specs.Touch.{Touch, reads, offset, stride_of}
-
--- the numbers are equal
-abbrev pub int_eq : ℤ → ℤ → Bool
-int_eq x y = int_le x y && int_le y x
 
 -- a site with what it reads and what it stores
 pub record SiteTouch : Type 0 where

@@ -6,7 +6,7 @@ ghost use Rattle.dp_plan.specs.Walks.{is_region_of};
 
 use crate::{Plan, StageKind};
 use dp_base::{SiteId, VarId};
-use dp_tree::{Program, Stmt, VarScope};
+use dp_tree::{Program, Stmt};
 
 /// The statement is the region of this number.
 #[tactic(auto, using(crate::proofs::WalkLemmas::region_forms))]
@@ -76,7 +76,7 @@ impl Plan {
         ensures { result ≡ stages.is_body_local p.now self.now var.0 }
     {
         match p.vars.get(var.0 as usize) {
-            Some(info) => matches!(info.scope, VarScope::Body(region) if region == self.region),
+            Some(info) => info.scope.is_local_of(self.region),
             None => false,
         }
     }

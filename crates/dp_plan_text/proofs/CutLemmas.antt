@@ -3,8 +3,8 @@ use Rattle.std.proofs.Common.{◌≡◌, ℕ, suc, ◌+◌, ◌<◌, ◌≤◌, 
 use Rattle.std.specs.List.{position}
 use Rattle.dp_base.specs.Pieces.{onto_first}
 use Rattle.dp_plan_text.specs.PlanText.{lines_of}
-use Rattle.dp_plan_text.proofs.WordLemmas.{first_end, next_is}
-use Rattle.dp_base.proofs.PositionLemmas.{position_some}
+use Rattle.dp_plan_text.proofs.WordLemmas.{first_end}
+use Rattle.dp_base.proofs.PositionLemmas.{next_is, position_some}
 
 lines_case : (byte : ℕ) (text : List ℕ) (is : Bool) → (byte == 10) ≡ is → (n : ℕ)
     → (n < length text → lines_of text ≡ (take n text ++ 10 ∷ []) ∷ lines_of (drop (n + 1) text)) → cond (not (byte == 10)) (1 + n) 0 < length (byte ∷ text)

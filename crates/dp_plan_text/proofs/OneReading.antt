@@ -27,17 +27,17 @@ module _ (p : Program) (small : length p.regions < 2 ^ 32) (bytes : List ℕ) wh
   one_version : (v w : Bool) (plans others : List WrittenPlan) → PlanText p bytes v plans → PlanText p bytes w others → v ≡ w
   one_version v w plans others s t = ap (λ (r : Reader). r.proved) (one_end v w plans others s t)
 
-  one_list : (v w : Bool) (plans others : List WrittenPlan) → PlanText p bytes v plans → PlanText p bytes w others → plans ≡ others
+  pub one_list : (v w : Bool) (plans others : List WrittenPlan) → PlanText p bytes v plans → PlanText p bytes w others → plans ≡ others
   one_list v w plans others s t = ap (λ (r : Reader). r.plans) (one_end v w plans others s t)
 
-  one_meaning : (plans others : List Plan) → StandsFor p bytes plans → StandsFor p bytes others → others ≡ plans
+  pub one_meaning : (plans others : List Plan) → StandsFor p bytes plans → StandsFor p bytes others → others ≡ plans
   one_meaning plans others s t =
       t.4 ∙ sym (ap (λ (v : Bool). map (plan_of p v) t.1) (one_version s.0 t.0 s.1 t.1 s.2 t.2)) ∙ sym (ap (λ (ws : List WrittenPlan). map (plan_of p s.0) ws) (one_list s.0 t.0 s.1 t.1 s.2 t.2)) ∙ sym s.4
 
   text_begins : (v : Bool) (plans : List WrittenPlan) (line : ℕ) → PlanText p bytes v plans → Begins p (take line (lines_of bytes))
   text_begins v plans line t = (drop line (lines_of bytes), v, plans, subst (λ (ls : List (List ℕ)). PlanLines p ls v plans) (sym (take-append-drop line (lines_of bytes))) t)
 
-  unrefused : (v : Bool) (plans : List WrittenPlan) (line : ℕ) → PlanText p bytes v plans → IsRefused p bytes line → ⊥
+  pub unrefused : (v : Bool) (plans : List WrittenPlan) (line : ℕ) → PlanText p bytes v plans → IsRefused p bytes line → ⊥
   unrefused v plans _ t (at_line line low high before here) = here (text_begins v plans line t)
   unrefused v plans _ t (at_end line is before none) = none v plans t
 

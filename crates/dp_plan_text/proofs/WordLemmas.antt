@@ -5,14 +5,11 @@ use Rattle.dp_base.specs.Pieces.{onto_first}
 use Rattle.dp_plan_text.specs.declared.line.Line.{Line}
 use Rattle.dp_plan_text.specs.Words.{words}
 use Rattle.dp_plan_text.specs.steps.LineWords.{region_line, assume_line, head_line, end_line}
-use Rattle.dp_base.proofs.PositionLemmas.{position_some, position_none}
+use Rattle.dp_base.proofs.PositionLemmas.{next_is, position_some, position_none}
 
 -- how many bytes stand before the first of this kind
 abbrev pub first_end : ℕ → List ℕ → ℕ
 first_end byte = position_or_len (λ b. b == byte)
-
-pub next_is : (n : ℕ) → 1 + n ≡ suc n
-next_is n = omega arith
 
 words_case : (byte : ℕ) (text : List ℕ) (is : Bool) → (byte == 32) ≡ is → (n : ℕ)
     → (n < length text → words text ≡ take n text ∷ words (drop (n + 1) text)) → cond (not (byte == 32)) (1 + n) 0 < length (byte ∷ text)

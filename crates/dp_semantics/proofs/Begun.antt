@@ -30,18 +30,13 @@ module _ (r : ℕ) where
       left_of statement tail after before rest front more (and_parts (is_free r y) (all_free r front) w).1
 
   -- what such a configuration has to do: statements without the region before it, or none with the region
-  pub record Reaching (statement : Stmt) (tail to_do : List Stmt) : Type 0 where
-    pub inner : List Stmt
-    pub is : to_do ≡ inner ++ statement ∷ tail
-    pub free : all_free r inner ≡ true
-
   pub reach : {p : Program} {c : Config} (statement : Stmt) (tail front : List Stmt) → p.main ≡ front ++ statement ∷ tail → all_free r front ≡ true → all_free r tail ≡ true → (s : StandsInMain p c) →
-      Reaching statement tail (s.inner ++ s.behind) ⊎ (all_free r (s.inner ++ s.behind) ≡ true)
+      Ahead statement tail (s.inner ++ s.behind) ⊎ (all_free r (s.inner ++ s.behind) ≡ true)
   reach statement tail front main before after s = by (left_of statement tail after s.before s.behind front (sym s.main_is ∙ main) before)
     where
-      by : Ahead statement tail s.behind ⊎ (all_free r s.behind ≡ true) → Reaching statement tail (s.inner ++ s.behind) ⊎ (all_free r (s.inner ++ s.behind) ≡ true)
+      by : Ahead statement tail s.behind ⊎ (all_free r s.behind ≡ true) → Ahead statement tail (s.inner ++ s.behind) ⊎ (all_free r (s.inner ++ s.behind) ≡ true)
       by (inl q) = inl (record {
-        inner = s.inner ++ q.between;
+        between = s.inner ++ q.between;
         is = ap (λ (ys : List Stmt). s.inner ++ ys) q.is ∙ sym (append_assoc s.inner q.between (statement ∷ tail));
         free = free_join s.inner q.between (free_plain_all s.inner s.plain) q.free;
       })

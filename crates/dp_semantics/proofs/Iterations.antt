@@ -43,7 +43,7 @@ module _ {p : Program} {plan : Plan} (a : Accepted p plan) (input : List ℤ) (f
     pub next : start run r (suc i) ≡ next_start a input k left cells
 
   spot : Spot r (behind a) (within.inner ++ within.behind)
-  spot = elim (reach r a.statement a.tail a.front a.main_is a.front_free a.tail_free within) [ inl q ↦ before_it q.inner q.is q.free | inr w ↦ beyond w ]
+  spot = elim (reach r a.statement a.tail a.front a.main_is a.front_free a.tail_free within) [ inl q ↦ before_it q.between q.is q.free | inr w ↦ beyond w ]
 
   spotted : Each (Spotted a input) run.configs
   spotted = subst (λ (c : Config). Each (Spotted a input) (run_of p input fuel c).configs) (sym within.config_is)

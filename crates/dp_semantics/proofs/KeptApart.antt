@@ -1,14 +1,13 @@
 -- What a site loads is no cell into which a site that lies apart from it stored.
-use Rattle.dp_semantics.proofs.Names.{◌≡◌, inl, inr, refl, sym, ap, ◌∙◌, subst, ℕ, ◌-◌, ◌≤◌, ◌==◌, Bool, true, false, ◌&&◌, ◌||◌, not, List, [], ◌∷◌, ◌++◌, ℤ, pos, length, Option, Some, None, Ok, is_some, arith, both_ways, cases_Bool, cases_eq, eqb-true, eq-eqb, not-true, and-false, list_all, list_any, flat_map, flat_map-append, append-nil, slice_get, and_parts, Stmt-F, Assign, Region, Stmt, out-Stmt, site_of, Program, Plan, WithLoads, Load, Stored, Past, Access, accesses, region_in, region_accesses, stores_var, is_same_variable, is_local, evaluated}
+use Rattle.dp_semantics.proofs.Names.{Decides-int_eq, int_eq, ◌≡◌, inl, inr, refl, sym, ap, ◌∙◌, subst, ℕ, ◌-◌, ◌≤◌, ◌==◌, Bool, true, false, ◌&&◌, ◌||◌, not, List, [], ◌∷◌, ◌++◌, ℤ, pos, length, Option, Some, None, Ok, is_some, arith, both_ways, cases_Bool, cases_eq, eqb-true, eq-eqb, not-true, and-false, list_all, list_any, flat_map, flat_map-append, append-nil, slice_get, and_parts, Stmt-F, Assign, Region, Stmt, out-Stmt, site_of, Program, Plan, WithLoads, Load, Stored, Past, Access, accesses, region_in, region_accesses, stores_var, is_same_variable, is_local, evaluated}
 use Rattle.std.specs.Prelude.{◌+ℤ◌}
 use Rattle.std.proofs.lemmas.Int.{ints}
 use Rattle.std.proofs.Common.{count_by}
 use Rattle.dp_tree.specs.Numbering.{numbers_from}
-use Rattle.dp_semantics.proofs.Integers.{int_eq-self}
 use Rattle.dp_semantics.proofs.Setting.{Accepted, Each, each_map, each_split, each_join, each_both, all_of, none_make, accesses_all, accesses_at, accesses_out, head_access, Clear, ClearSame, NotInto, NeverMet, turn_of}
 use Rattle.dp_semantics.proofs.Ways.{Here}
 use Rattle.dp_plan.specs.Touch.{Touch, stride_of}
-use Rattle.dp_plan.specs.IsFar.{SiteTouch, touch_passes, touches, is_stored, stored_at, passes_with, halves_pass, halves, region_condition, region_body, moves_alone, scalar_in, apart_by, by_place, is_far, is_far_within, int_eq, front_touches, back_touches}
+use Rattle.dp_plan.specs.IsFar.{SiteTouch, touch_passes, touches, is_stored, stored_at, passes_with, halves_pass, halves, region_condition, region_body, moves_alone, scalar_in, apart_by, by_place, is_far, is_far_within, front_touches, back_touches}
 use Rattle.dp_plan.specs.Checked.{comes_before}
 use Rattle.dp_semantics.proofs.Far.{times}
 use Rattle.dp_semantics.proofs.Touches.{touches_all, touches_at, touches_out}
@@ -185,7 +184,7 @@ module _ {p : Program} {plan : Plan} (a : Accepted p plan) (input : List ℤ) (i
         (λ order k stored o stride passed s.
         let none : i - past.iteration ≡ 0 = omega (arith, now) in
         let equal : stored ≡ o = s ∙ ap (λ (n : ℕ). o +ℤ times n k) none ∙ omega (arith, ints) in
-        both_ways (int_eq stored o) (not-true (int_eq stored o) passed) (ap (λ (y : ℤ). int_eq y o) equal ∙ int_eq-self o)) z stores) earlier es) w.loads (unlike by_place d t)
+        both_ways (int_eq stored o) (not-true (int_eq stored o) passed) (ap (λ (y : ℤ). int_eq y o) equal ∙ (Decides-int_eq o o).1 refl)) z stores) earlier es) w.loads (unlike by_place d t)
     | inr f ↦ nowhere _ (λ l past at far now z stores. both_ways (is_far_within p reg d u) f far)
   ]
 

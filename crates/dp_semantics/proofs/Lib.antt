@@ -8,7 +8,6 @@ pub mod Ways
 pub mod Setting
 pub mod Seeing
 pub mod Projected
-pub mod Integers
 pub mod Taking
 pub mod Shorter
 pub mod TurnEnds

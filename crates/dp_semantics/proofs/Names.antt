@@ -3,6 +3,8 @@ pub use Rattle.std.proofs.Common.{le_antisymm, ◌&&◌, ◌+◌, ◌++◌, ◌-
 pub use Rattle.std.specs.List.{cons_option, flat_map, list_all, list_any}
 pub use Rattle.std.proofs.Math.Bool.{and-false, and-true, and_self, or-false, or-true}
 pub use Rattle.std.proofs.lemmas.Bool.{and_from, and_parts, or_from, or_parts, both_ways, cases_Bool, cases_eq, cases_lt, cases_order, lt-leb, not-true}
+pub use Rattle.std.proofs.lemmas.Bool.Decides.{Decides-int_eq}
+pub use Rattle.std.specs.Ordering.{int_eq}
 pub use Rattle.std.proofs.lemmas.List.{append_cancel_left, append-nil, get_or-replicate, get_or-set_other, get_or_append_left, get_or_past, length-map, length-replicate, length-set, map-append}
 pub use Rattle.std.proofs.lemmas.Grind.{flat_map-append, get_or-set_at}
 pub use Rattle.std.proofs.lemmas.Option.{slice_get-get_or, slice_get_past, slice_get_within, unwrap_or-slice_get}
@@ -29,7 +31,7 @@ pub use Rattle.dp_tree.specs.declared.Stmt.TheViews.{rolls-Assign, rolls-Break, 
 pub use Rattle.dp_plan.specs.Access.{Access, accesses, first_site_of, accesses_in, first_site, is_body_local, is_local, is_par, is_region_at, is_replicated, is_same_variable, is_stored_after, is_stored_beside, loaded_by, region_accesses, region_in, region_statement, stage_of, stores_var}
 pub use Rattle.dp_plan.specs.Checked.{is_checked, is_checked_access, may_differ, is_apart, is_apart_between, comes_before}
 pub use Rattle.dp_tree.specs.Numbering.{numbers_from}
-pub use Rattle.dp_semantics.specs.Clean.{all_agree, as_assumed, event_agrees, event_as_assumed, event_words, events_since, fits_words, goes_as, stays_late, int_eq, is_clean, loads_agree, pushed, went, word_count, words_at}
+pub use Rattle.dp_semantics.specs.Clean.{all_agree, as_assumed, event_agrees, event_as_assumed, event_words, events_since, fits_words, goes_as, stays_late, is_clean, loads_agree, pushed, went, word_count, words_at}
 pub use Rattle.dp_semantics.specs.Fits.{access_known, fits_plan, has_cell, is_inner, is_numbered, is_single, kinds_apart, kinds_fit, lies_between, cells_in_order, one_region, region_alone, region_fits, stands_alone, stores_known}
 pub use Rattle.dp_semantics.specs.Judge.{Agreed, Clean, judge, judge_at, judge_by, judge_lists, judge_spent, judge_status, judge_step, judged, Judgement, Judging, last, loads_hold, Unclean}
 unfoldable pub use Rattle.dp_semantics.specs.Judge.{judge_from}

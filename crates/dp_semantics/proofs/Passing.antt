@@ -1,15 +1,13 @@
 -- From the tests of the text to what the laws ask.
-use Rattle.dp_semantics.proofs.Names.{◌≡◌, refl, sym, ap, ◌∙◌, ℕ, zero, suc, ◌-◌, ◌<◌, ◌≤◌, ◌==◌, Bool, true, false, ◌&&◌, ◌||◌, not, List, [], ◌∷◌, ◌++◌, ℤ, pos, negsuc, Option, Some, None, list_all, list_all-append, and_parts, and_from, arith, lt-ltb, ltb-true, eq-eqb, eqb-true, nat_lt, Expr, end_of-Expr, more_of-Expr, Stmt, Stmt-F, Assign, Store, Print, If, While, Region, Break, Call, site_of, Program, loaded_by, cell_count}
+use Rattle.dp_semantics.proofs.Names.{Decides-int_eq, int_eq, ◌≡◌, refl, sym, ap, ◌∙◌, ℕ, zero, suc, ◌-◌, ◌<◌, ◌≤◌, ◌==◌, Bool, true, false, ◌&&◌, ◌||◌, not, List, [], ◌∷◌, ◌++◌, ℤ, pos, negsuc, Option, Some, None, list_all, list_all-append, and_parts, and_from, arith, lt-ltb, ltb-true, eq-eqb, eqb-true, nat_lt, Expr, end_of-Expr, more_of-Expr, Stmt, Stmt-F, Assign, Store, Print, If, While, Region, Break, Call, site_of, Program, loaded_by, cell_count}
 use Rattle.std.specs.Prelude.{◌+ℤ◌, ◌-ℤ◌, neg_ℤ, ◌%◌, ◌*◌}
 use Rattle.std.proofs.Math.Nat.{mul-mod_left, mul-suc, suc-mul}
 use Rattle.std.proofs.lemmas.Int.{ints}
 use Rattle.dp_tree.specs.declared.Expr.TheVariants as tree
-use Rattle.dp_semantics.proofs.Integers.{int_same}
 use Rattle.dp_semantics.proofs.Each.{Each, each_split}
 use Rattle.dp_semantics.proofs.Evaluation.{head_loads}
 use Rattle.dp_plan.specs.Touch.{Touch, reads, head_reads, head_store, offset}
 use Rattle.dp_semantics.proofs.Far.{times, Lies, Both}
-use Rattle.dp_plan.specs.IsFar.{int_eq}
 use Rattle.dp_plan.specs.IsFar.{Stored, stored_at, stored_by, is_stored, is_strides, apart_by, place_of, shifted, read_passes, far_between, touch_passes}
 use Rattle.dp_semantics.proofs.Touches.{head_touch}
 
@@ -107,7 +105,7 @@ module _ (p : Program) (test : ℤ → ℤ → Bool) (v d u : ℕ) (s : Stored) 
       by (Some n) q e =
           let both = and_parts (t.variable == s.array) (int_eq n s.place) e in
           let array = eqb-true t.variable s.array both.0 in
-          let same : n ≡ s.place = int_same n s.place both.1 in
+          let same : n ≡ s.place = (Decides-int_eq n s.place).0 both.1 in
           (t.index, ap (λ (x : ℕ). Some (record { variable = x; index = t.index })) array, placed t.index s.place (q ∙ ap (λ (m : ℤ). Some m) same))
 
   reads_there : (t : Touch) → read_passes test v s.array s.place shift t ≡ true → t.variable ≡ s.array → (place : ℤ) × Lies p v d u s.array s.place Passed shift t.index place × Passed place

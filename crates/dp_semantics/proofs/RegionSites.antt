@@ -40,7 +40,7 @@ module _ {p : Program} {r : ℕ} {Q : Access → Type 0} (l : Lone p r Q) (input
     f = run_from p input q.front fuel begins q.found q.behind q.is
 
     around : Around Q r (behind l input) (begun.inner ++ begun.behind)
-    around = elim (reach r l.statement l.tail l.front l.main l.front_free l.tail_free begun) [ inl t ↦ ahead t.inner t.is t.free | inr w ↦ beyond w ]
+    around = elim (reach r l.statement l.tail l.front l.main l.front_free l.tail_free begun) [ inl t ↦ ahead t.between t.is t.free | inr w ↦ beyond w ]
 
     spotted : Each (Spotted l input) run.configs
     spotted = subst (λ (c : Config). Each (Spotted l input) (run_of p input fuel c).configs) (sym begun.config_is)

@@ -6,7 +6,6 @@ pub use Rattle.dp_semantics.proofs.Heads.{accesses_all, all_well, well_at, proje
 pub use Rattle.dp_semantics.proofs.Ways.{Goes, stays, goes, event_of, Before, fresh_start, went_on, Here, here_next, Apart}
 use Rattle.dp_tree.specs.declared.Stmt.TheVariants as tree
 use Rattle.dp_plan.specs.IsFar.{is_far}
-pub use Rattle.dp_semantics.proofs.Integers.{int_same, int_eq-self}
 pub use Rattle.dp_semantics.proofs.Followed.{Joins, Parts, followed_has, all_joins}
 
 -- what no access of the region passes, this one doesn't

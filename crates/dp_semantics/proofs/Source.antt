@@ -1,8 +1,8 @@
 -- The source within an iteration: its rest, its memory and the events so far.
-use Rattle.dp_semantics.proofs.Names.{both_ways, is_same_variable, stores_var, ◌≡◌, refl, sym, ap, ◌∙◌, subst, ℕ, ◌<◌, true, false, List, ◌∷◌, ℤ, pos, length, get_or, arith, eq-eqb, Ok, Stmt, out-Stmt, Stmt-F, Assign, Store, If, While, Region, Call, Program, Plan, Load, WithLoads, cell_count, Effect, Stored, followed, site_of, value_of, stored, evaluated, Access, accesses, stage_of, may_differ, is_checked_access, is_checked, Past, seen, int_eq, event_agrees, well_nested, Epoch, last, and_parts, flat_map-append, inl, inr, Some, cases_Bool}
+use Rattle.dp_semantics.proofs.Names.{Decides-int_eq, both_ways, is_same_variable, stores_var, ◌≡◌, refl, sym, ap, ◌∙◌, subst, ℕ, ◌<◌, true, false, List, ◌∷◌, ℤ, pos, length, get_or, arith, eq-eqb, Ok, Stmt, out-Stmt, Stmt-F, Assign, Store, If, While, Region, Call, Program, Plan, Load, WithLoads, cell_count, Effect, Stored, followed, site_of, value_of, stored, evaluated, Access, accesses, stage_of, may_differ, is_checked_access, is_checked, Past, seen, int_eq, event_agrees, well_nested, Epoch, last, and_parts, flat_map-append, inl, inr, Some, cases_Bool}
 use Rattle.dp_plan.specs.IsFar.{is_far}
 pub use Rattle.dp_semantics.proofs.Setting.{event_of}
-use Rattle.dp_semantics.proofs.Setting.{turn_of, Here, here_next, Clear, NotInto, ClearSame, each_both, head_stores, size, Sound, Fit, StoredBy, Known, Each, each_split, each_join, each_map, none_of, all_of, all_make, InVar, Form, Readable, Holds, IsHeld, head_loads, head_stores, Tracked, evaluated_tracks, accesses_all, all_well, head_access, inside, accesses_at, accesses_out, well_at, well_out, Joins, Parts, followed_has, all_joins, int_same, int_eq-self}
+use Rattle.dp_semantics.proofs.Setting.{turn_of, Here, here_next, Clear, NotInto, ClearSame, each_both, head_stores, size, Sound, Fit, StoredBy, Known, Each, each_split, each_join, each_map, none_of, all_of, all_make, InVar, Form, Readable, Holds, IsHeld, head_loads, head_stores, Tracked, evaluated_tracks, accesses_all, all_well, head_access, inside, accesses_at, accesses_out, well_at, well_out, Joins, Parts, followed_has, all_joins}
 use Rattle.dp_semantics.proofs.Seeing.{seen_same, Sees, sees_stored, stored-length}
 
 abbrev pub past_of : ℕ → Stmt → WithLoads Effect → Past
@@ -149,7 +149,7 @@ module _ {k : Epoch} (ok : Fit k) {i : ℕ} {x : Stmt} {rest : List Stmt} {earli
     -- where the source's event agrees, the stage does the same
     pub stage_does : (v : WithLoads Effect) → Gives k cells x v → event_agrees program plan base i earlier (event_of h v) ≡ true → Gives k other x v
     stage_does v e agrees = elim (cases_Bool (is_checked program plan (site_of h).0)) [
-      | inl u ↦ checked cells other v e (each_map (λ l. int_eq (seen program plan base (stage_for k x) i earlier l.cell) l.value ≡ true) (IsHeld other) (λ l q. sees l.cell ∙ int_same _ l.value q) v.loads
+      | inl u ↦ checked cells other v e (each_map (λ l. int_eq (seen program plan base (stage_for k x) i earlier l.cell) l.value ≡ true) (IsHeld other) (λ l q. sees l.cell ∙ (Decides-int_eq _ l.value).0 q) v.loads
           (all_of (λ l. int_eq (seen program plan base (stage_for k x) i earlier l.cell) l.value) v.loads (rw u at agrees)))
       | inr u ↦ checked cells other v e (each_map _ (IsHeld other) (λ l q. q.1 ∙ q.0) v.loads (loads_same cells (λ w c inside free clear. refl) u v e))
     ]
@@ -166,6 +166,6 @@ module _ {k : Epoch} (ok : Fit k) {i : ℕ} {x : Stmt} {rest : List Stmt} {earli
     event_sees v e = elim (cases_Bool (is_checked program plan (site_of h).0)) [
       | inl u ↦ rw u (all_make (λ l. int_eq (seen program plan base (stage_for k x) i earlier l.cell) l.value) v.loads
           (each_map (IsHeld other) (λ l. int_eq (seen program plan base (stage_for k x) i earlier l.cell) l.value ≡ true)
-          (λ l q. ap (λ (z : ℤ). int_eq z l.value) (sym (sees l.cell) ∙ q) ∙ int_eq-self l.value) v.loads (own_loads other v e)))
+          (λ l q. ap (λ (z : ℤ). int_eq z l.value) (sym (sees l.cell) ∙ q) ∙ (Decides-int_eq l.value l.value).1 refl) v.loads (own_loads other v e)))
       | inr u ↦ rw u
     ]

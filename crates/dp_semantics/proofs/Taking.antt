@@ -1,6 +1,6 @@
 -- The words of an event at the front of a list: what is taken for them, and what is left.
-use Rattle.dp_semantics.proofs.Names.{Break, Tried, ◌≡◌, refl, sym, ap, ◌∙◌, append_assoc, ℕ, zero, suc, ◌+◌, ◌-◌, ◌<◌, Bool, true, false, ◌&&◌, if◌then◌else◌, List, [], ◌∷◌, ◌++◌, ℤ, pos, length, get_or, Option, Some, None, unwrap_or, slice_get, slice_set, nat_le, nat_lt, ◌==◌, arith, eq-eqb, ne_eqb, le-leb, lt-ltb, Ok, unwrap_or-slice_get, get_or-set_other, get_or-set_at, Word, Stmt, Stmt-F, Assign, Store, Print, If, While, Region, Program, Plan, Load, first_cell, cell_count, Event, Effect, Stored, Printed, Decided, site_of, stage_of, is_checked, int_eq, load_word, load_words, done_word, words_of, is_load_of, after_loads_of, is_cell_of, effect_by, taken_from, words_in, word_list, loads_hold, and_parts, and_from, inl, inr, cases_Bool}
-use Rattle.dp_semantics.proofs.Setting.{InVar, Form, Holds, int_same, int_eq-self}
+use Rattle.dp_semantics.proofs.Names.{Decides-int_eq, Break, Tried, ◌≡◌, refl, sym, ap, ◌∙◌, append_assoc, ℕ, zero, suc, ◌+◌, ◌-◌, ◌<◌, Bool, true, false, ◌&&◌, if◌then◌else◌, List, [], ◌∷◌, ◌++◌, ℤ, pos, length, get_or, Option, Some, None, unwrap_or, slice_get, slice_set, nat_le, nat_lt, ◌==◌, arith, eq-eqb, ne_eqb, le-leb, lt-ltb, Ok, unwrap_or-slice_get, get_or-set_other, get_or-set_at, Word, Stmt, Stmt-F, Assign, Store, Print, If, While, Region, Program, Plan, Load, first_cell, cell_count, Event, Effect, Stored, Printed, Decided, site_of, stage_of, is_checked, int_eq, load_word, load_words, done_word, words_of, is_load_of, after_loads_of, is_cell_of, effect_by, taken_from, words_in, word_list, loads_hold, and_parts, and_from, inl, inr, cases_Bool}
+use Rattle.dp_semantics.proofs.Setting.{InVar, Form, Holds}
 
 -- Lists of stages, from 1.
 words_in_is : (o : Option (List Word)) → words_in o ≡ unwrap_or o []
@@ -50,13 +50,13 @@ loads_compared : (site : ℕ) (cells : List ℤ) (loads : List Load) (w : Word) 
 loads_compared site cells [] w rest e h = ap (λ (b : Bool). if b then int_eq (get_or cells w.index (pos 0)) w.value && loads_hold site cells rest else true) e
 loads_compared site cells (l ∷ loads) w rest e h =
     compared_is site cells l (load_words site loads ++ w ∷ rest)
-    ∙ and_from (int_eq (get_or cells l.cell (pos 0)) l.value) (loads_hold site cells (load_words site loads ++ w ∷ rest)) (ap (λ (z : ℤ). int_eq z l.value) h.0 ∙ int_eq-self l.value) (loads_compared site cells loads w rest e h.1)
+    ∙ and_from (int_eq (get_or cells l.cell (pos 0)) l.value) (loads_hold site cells (load_words site loads ++ w ∷ rest)) (ap (λ (z : ℤ). int_eq z l.value) h.0 ∙ (Decides-int_eq l.value l.value).1 refl) (loads_compared site cells loads w rest e h.1)
 
 loads_held : (site : ℕ) (cells : List ℤ) (loads : List Load) (w : Word) (rest : List Word) → loads_hold site cells (load_words site loads ++ w ∷ rest) ≡ true → Holds cells loads
 loads_held site cells [] w rest e = tt
 loads_held site cells (l ∷ loads) w rest e =
     let parts = and_parts (int_eq (get_or cells l.cell (pos 0)) l.value) (loads_hold site cells (load_words site loads ++ w ∷ rest)) (sym (compared_is site cells l (load_words site loads ++ w ∷ rest)) ∙ e) in
-    (int_same (get_or cells l.cell (pos 0)) l.value parts.0, loads_held site cells loads w rest parts.1)
+    ((Decides-int_eq (get_or cells l.cell (pos 0)) l.value).0 parts.0, loads_held site cells loads w rest parts.1)
 
 store_is : (p : Program) (x c : ℕ) (value : ℤ) → InVar p x c → (if is_cell_of p (record { 0 = x }) c then Some (Stored c value) else None) ≡ Some (Stored c value)
 store_is p x c value h = ap (λ (b : Bool). if b then Some (Stored c value) else None) (and_from (nat_le (first_cell p (record { 0 = x })) c) (nat_lt c (first_cell p (record { 0 = x }) + cell_count p (record { 0 = x })))

@@ -1,5 +1,6 @@
 -- Why an iteration is executed again: its first failure in the source's order.
 use Rattle.std.specs.Prelude.{ℕ, if◌then◌else◌, List, [], ◌∷◌, ℤ, Option, Some, None, nat_le}
+use Rattle.std.specs.Ordering.{int_eq}
 use Rattle.dp_base.specs.declared.Fault.{Fault as FaultAt}
 use Rattle.dp_base.specs.declared.End.{End}
 use Rattle.dp_base.specs.declared.End.TheVariants as run_end
@@ -13,7 +14,7 @@ use Rattle.dp_tree.specs.Iteration.{iteration, memory_after}
 use Rattle.dp_plan.specs.Access.{stage_of}
 use Rattle.dp_plan.specs.Checked.{is_checked}
 use Rattle.dp_semantics.specs.Seen.{Past, seen}
-use Rattle.dp_semantics.specs.Clean.{int_eq, event_as_assumed, word_count, events_since}
+use Rattle.dp_semantics.specs.Clean.{event_as_assumed, word_count, events_since}
 use Rattle.dp_semantics.specs.Recovery.{epoch}
 
 -- a checked load that its stage sees otherwise, a broken assumption, a stage with too many words, a fault, or spent fuel

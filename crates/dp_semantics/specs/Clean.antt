@@ -1,6 +1,7 @@
 -- The iterations that a pipeline under a plan runs as the source does, judged on the source's own trace.
 use Rattle.std.specs.Prelude.{ℕ, if◌then◌else◌, zero, suc, ◌+◌, ◌==◌, Bool, true, not, ◌&&◌, ◌||◌, List, [], ◌∷◌, length, ℤ, nat_le, sum_by}
 use Rattle.std.specs.List.{list_all}
+use Rattle.std.specs.Ordering.{int_eq}
 use Rattle.dp_base.specs.Arithmetic.{is_zero}
 use Rattle.dp_tree.specs.declared.Program.{Program}
 use Rattle.dp_tree.specs.declared.Assume.{Assume}
@@ -12,7 +13,6 @@ use Rattle.dp_tree.specs.Numbering.{numbers_from}
 use Rattle.dp_tree.specs.Iteration.{leaves, iteration, memory_after, has_ended}
 use Rattle.dp_plan.specs.Access.{stage_of}
 use Rattle.dp_plan.specs.Checked.{is_checked}
-pub use Rattle.dp_plan.specs.IsFar.{int_eq}
 use Rattle.dp_semantics.specs.Seen.{Past, seen}
 
 -- stage s in iteration i sees the values that the source loaded

@@ -1,12 +1,13 @@
 -- The judgement on a packet: all stages' words are followed in the source's committed memory, as the stage after the last one would.
 use Rattle.std.specs.Prelude.{ℕ, if◌then◌else◌, zero, suc, Bool, true, ◌&&◌, List, [], ◌∷◌, ◌++◌, length, ℤ, pos, Option, Some, None, Result, Ok, Err, get_or}
+use Rattle.std.specs.Ordering.{int_eq}
 use Rattle.dp_base.specs.declared.Word.{Word}
 use Rattle.dp_tree.specs.declared.Stmt.{Stmt, out-Stmt}
 use Rattle.dp_tree.specs.declared.Stmt.TheOpen.{Stmt-F}
 use Rattle.dp_tree.specs.declared.Program.{Program}
 use Rattle.dp_plan.specs.declared.Plan.{Plan}
 use Rattle.dp_tree.specs.Step.{Effect, site_of}
-use Rattle.dp_semantics.specs.Clean.{int_eq, as_assumed}
+use Rattle.dp_semantics.specs.Clean.{as_assumed}
 use Rattle.dp_semantics.specs.Words.{Taken, Void, is_load_of, taken_from}
 use Rattle.dp_semantics.specs.StageRun.{Turn, consumed, words_left, turn_begin}
 use Rattle.dp_semantics.specs.Packets.{Status, Going, Closing, Broken, Packet}

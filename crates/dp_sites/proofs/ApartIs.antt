@@ -24,7 +24,7 @@ use Rattle.dp_sites.specs.declared.touched.Touched.{Touched}
 use Rattle.dp_sites.specs.steps.Parts.{part_list, parts, touched, touched_in}
 use Rattle.dp_sites.specs.Storings.{body_at, goes_up_from, storing_at, storing_of}
 use Rattle.dp_sites.proofs.Aligned.{aligned}
-use Rattle.dp_sites.proofs.OuterLoops.{Rises}
+use Rattle.dp_plan.proofs.Ascent.{Ascends}
 use Rattle.dp_sites.proofs.FarTest.{far_is, far_none}
 use Rattle.dp_plan.proofs.Found.{past_other}
 use Rattle.dp_sites.proofs.PartTable.{found_at, part_site, seat_at, sites_same, touches_rise}
@@ -38,7 +38,7 @@ record Sited (k : ℕ) (us : List Part) (n : ℕ) : Type 0 where
   site : part.site ≡ n
   number : n ≡ k + place
 
-sited : (k : ℕ) (us : List Part) (n : ℕ) → Rises k (map part_site us) → has n (map part_site us) ≡ true → Sited k us n
+sited : (k : ℕ) (us : List Part) (n : ℕ) → Ascends k (map part_site us) → has n (map part_site us) ≡ true → Sited k us n
 sited k [] n h e = absurd (cc e)
 sited k (u ∷ us) n h e = elim (cases_Bool (u.site == n)) [
   | inl t ↦ let same = eqb-true u.site n t in record { place = 0; part = u; at = refl; site = same; number = omega (arith, same, h.0) }
@@ -46,7 +46,7 @@ sited k (u ∷ us) n h e = elim (cases_Bool (u.site == n)) [
 ]
 
 module _ (p : Program) (plan : Plan) (s : Stmt) (only : region_in p plan.region ≡ s ∷ []) (r : ℕ) (site : SiteId) (condition : Expr) (body : List Stmt) (is : out-Stmt s ≡ Region r site condition body)
-    (k : ℕ) (goes_up : Rises k (map part_site (parts None s))) (proved : plan.proved ≡ true) where
+    (k : ℕ) (goes_up : Ascends k (map part_site (parts None s))) (proved : plan.proved ≡ true) where
   abbrev us : List Part
   us = parts None s
 

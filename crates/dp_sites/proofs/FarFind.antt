@@ -2,13 +2,13 @@
 use Rattle.std.proofs.Common.{◌≡◌, refl, sym, ap, ◌∙◌, subst, ℕ, suc, ◌+◌, ◌<◌, ◌≤◌, ◌==◌, Bool, true, false, if◌then◌else◌, ◌&&◌, ◌||◌, not, List, [], ◌∷◌, ◌++◌, map, length, ℤ, Option, Some, None, arith, eqb-true, ne_eqb}
 use Rattle.std.specs.List.{list_all}
 use Rattle.dp_plan.specs.IsFar.{SiteTouch, Stored, is_stored, read_passes, store_of, stored_at, touch_passes}
-use Rattle.dp_sites.proofs.OuterLoops.{Rises}
+use Rattle.dp_plan.proofs.Ascent.{Ascends}
 
 abbrev pub touch_site : SiteTouch → ℕ
 touch_site t = t.site
 
 abbrev pub TouchesRise : ℕ → List SiteTouch → Type 0
-TouchesRise k ts = Rises k (map touch_site ts)
+TouchesRise k ts = Ascends k (map touch_site ts)
 
 -- the first site of this number
 abbrev pub find : ℕ → List SiteTouch → Option SiteTouch

@@ -1,9 +1,10 @@
 -- The test of two sites by one variable that moves: what one stores against all that the other reads of it.
-use Rattle.std.proofs.Common.{◌≡◌, refl, sym, ap, ◌∙◌, ℕ, ◌+◌, Bool, true, false, if◌then◌else◌, ◌&&◌, List, ◌++◌, length, ℤ, pos, negsuc, Option, Some, None, arith, eq-eqb, le-leb}
+use Rattle.std.proofs.Common.{◌≡◌, refl, sym, ap, ◌∙◌, ℕ, ◌+◌, Bool, true, false, if◌then◌else◌, ◌&&◌, List, ◌++◌, length, ℤ, pos, Option, Some, None, eq-eqb}
 use Rattle.std.proofs.lemmas.Bool.{and_from}
+use Rattle.std.proofs.lemmas.Bool.Decides.{Decides-int_eq}
 use Rattle.std.specs.List.{list_all}
 use Rattle.std.specs.Option.{option_or}
-use Rattle.dp_plan.specs.IsFar.{SiteTouch, Stored, Halves, all_pass, back_touches, front_touches, halves_pass, int_eq, is_stored, read_passes, store_of, stored_at}
+use Rattle.dp_plan.specs.IsFar.{SiteTouch, Stored, Halves, all_pass, back_touches, front_touches, halves_pass, is_stored, read_passes, store_of, stored_at}
 use Rattle.dp_sites.proofs.FarFind.{Among, TouchesRise, all_found, find, found_first, found_second, reads_pass, store_found, stored_in, stores_it}
 
 abbrev pub shift_by : ℤ → Bool → ℤ
@@ -14,10 +15,6 @@ shift_by k false = pos 0
 abbrev pub passes_stored : (ℤ → ℤ → Bool) → ℕ → ℤ → SiteTouch → Option Stored → Bool
 passes_stored test v shift t None = false
 passes_stored test v shift t (Some s) = list_all (read_passes test v s.array s.place shift) t.reads
-
-int_self : (x : ℤ) → int_eq x x ≡ true
-int_self (pos a) = and_from _ _ (le-leb a a (omega arith)) (le-leb a a (omega arith))
-int_self (negsuc a) = and_from _ _ (le-leb a a (omega arith)) (le-leb a a (omega arith))
 
 or_stored_none : (o : Option Stored) → option_or o None ≡ o
 or_stored_none None = refl
@@ -74,7 +71,7 @@ module _ (test : ℤ → ℤ → ℤ → Bool) (v d u k : ℕ) (condition : List
     t = test h.stride
 
     itself : is_stored s (stored_at v (shift_by h.stride lateD) td.store) ≡ true
-    itself = ap (is_stored s) is ∙ and_from _ _ (eq-eqb s.array s.array refl) (int_self s.place)
+    itself = ap (is_stored s) is ∙ and_from _ _ (eq-eqb s.array s.array refl) ((Decides-int_eq s.place s.place).1 refl)
 
     -- the tests in both pieces, of d and of u
     same_store : (late : Bool) → lateD ≡ late → (stores_it t v s (pos 0) (if late then None else Some td) ≡ (if late then true else is_stored s (stored_at v (shift_by h.stride lateD) td.store))) × (stores_it t v s h.stride (if late then Some td else None) ≡ (if late then is_stored s (stored_at v (shift_by h.stride lateD) td.store) else true))

@@ -118,7 +118,7 @@ module _ (p : Program) (plan : Plan) (s : Stmt) (only : region_in p plan.region 
     split_is =
         let first = (touches_split k fs (back_touches h) rises_here).0 in
         let second = (touches_split k ahead (touches h.mover) first).1 in
-        let mover_at : m ≡ k + length ahead = (subst (λ (ns : List ℕ). Rattle.dp_sites.proofs.OuterLoops.Rises (k + length ahead) ns) mover_site second).0 in
+        let mover_at : m ≡ k + length ahead = (subst (λ (ns : List ℕ). Rattle.dp_plan.proofs.Ascent.Ascends (k + length ahead) ns) mover_site second).0 in
         let long : length (ahead ++ touches h.mover) ≡ length ahead + length (touches h.mover) = length-append ahead (touches h.mover) in
         omega (arith, mover_at, long, one_touch)
 

@@ -4,7 +4,7 @@ use Rattle.std.proofs.lemmas.Bool.{cases_eq, cases_lt, and_parts, lt-leb, or_rig
 use Rattle.std.specs.List.{list_any}
 use Rattle.dp_tree.specs.declared.Stmt.{Stmt, Row_of-Stmt, end_of-Stmt, more_of-Stmt}
 use Rattle.dp_tree.specs.declared.Stmt.TheVariants as tree
-use Rattle.std.proofs.lemmas.List.{length-map}
+use Rattle.std.proofs.lemmas.List.{length-map, map-append}
 use Rattle.dp_plan.specs.Access.{Access, accesses, accesses_in, loaded_by}
 use Rattle.dp_plan.specs.Touch.{reads}
 use Rattle.dp_plan.specs.Written.{site_in}
@@ -12,21 +12,17 @@ use Rattle.dp_plan.specs.Checked.{has_both, has_site, loops, loops_in}
 use Rattle.dp_sites.specs.declared.part.Part.{Part}
 use Rattle.dp_sites.specs.steps.Parts.{part_of, parts, parts_in, until_in}
 use Rattle.dp_sites.specs.Storings.{end_of}
+use Rattle.dp_plan.proofs.Ascent.{Ascends, ascends_split}
 use Rattle.dp_plan.proofs.LoadLemmas.{list_any-append}
 
 -- the sites go up one by one from k
-abbrev pub Rises : ℕ → List ℕ → Type 0
-Rises k [] = Unit {0}
-Rises k (n ∷ rest) = (n ≡ k) × Rises (suc k) rest
-
 abbrev pub SitesRise : ℕ → List Access → Type 0
-SitesRise k xs = Rises k (map site_in xs)
+SitesRise k xs = Ascends k (map site_in xs)
 
 pub rises_split : (k : ℕ) (xs bs : List Access) → SitesRise k (xs ++ bs) → SitesRise k xs × SitesRise (k + length xs) bs
-rises_split k [] bs h = let e : k ≡ k + 0 = omega arith in (tt, subst (λ (i : ℕ). SitesRise i bs) e h)
-rises_split k (a ∷ xs) bs h =
-    let r = rises_split (suc k) xs bs h.1 in
-    let e : suc k + length xs ≡ k + suc (length xs) = omega arith in ((h.0, r.0), subst (λ (i : ℕ). SitesRise i bs) e r.1)
+rises_split k xs bs h =
+    let r = ascends_split k (map site_in xs) (map site_in bs) (subst (λ (ns : List ℕ). Ascends k ns) (map-append site_in xs bs) h) in
+    (r.0, subst (λ (n : ℕ). SitesRise (k + n) bs) (length-map xs site_in) r.1)
 
 -- a site that is found stands among the numbers, and one among them is found
 pub has_bounds : (m k : ℕ) (xs : List Access) → SitesRise k xs → has_site m xs ≡ true → (k ≤ m) × (m < k + length xs)
@@ -52,7 +48,7 @@ has_risen m k (a ∷ xs) h low = elim (cases_eq a.site m) [
       | inr g ↦ omega (arith, low, g)
     ]
 
-last_risen : (k : ℕ) (ns : List ℕ) → Rises k ns → 0 < length ns → slice_get ns (length ns - 1) ≡ Some (k + (length ns - 1))
+last_risen : (k : ℕ) (ns : List ℕ) → Ascends k ns → 0 < length ns → slice_get ns (length ns - 1) ≡ Some (k + (length ns - 1))
 last_risen k [] h some = absurd (omega (arith, some))
 last_risen k (n ∷ []) h some = let e : n ≡ k + (1 - 1) = omega (arith, h.0) in ap (λ (i : ℕ). Some i) e
 last_risen k (n ∷ m ∷ rest) h some =

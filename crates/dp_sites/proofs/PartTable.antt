@@ -13,7 +13,7 @@ use Rattle.dp_sites.specs.steps.Parts.{parts}
 use Rattle.dp_plan.specs.Each.{Each}
 use Rattle.dp_plan.proofs.EachLemmas.{each_at, each_map}
 use Rattle.dp_sites.proofs.Aligned.{Aligned, Same, aligned}
-use Rattle.dp_sites.proofs.OuterLoops.{Rises}
+use Rattle.dp_plan.proofs.Ascent.{Ascends}
 use Rattle.dp_sites.proofs.FarFind.{TouchesRise, find, touch_site}
 use Rattle.std.proofs.Math.Bool.{or-false}
 
@@ -39,7 +39,7 @@ sites_same (a ∷ xs) (t ∷ ts) (u ∷ us) h =
     )
 
 -- the sites go up one by one
-pub risen : (k : ℕ) (ws : List Part) → Rises k (map part_site ws) → (j : ℕ) (u : Part) → slice_get ws j ≡ Some u → u.site ≡ k + j
+pub risen : (k : ℕ) (ws : List Part) → Ascends k (map part_site ws) → (j : ℕ) (u : Part) → slice_get ws j ≡ Some u → u.site ≡ k + j
 risen k [] h j u e = absurd (cc e)
 risen k (w ∷ ws) h zero u e = let same : w ≡ u = cc e in omega (arith, ap part_site same, h.0)
 risen k (w ∷ ws) h (suc j) u e = let later = risen (suc k) ws h.1 j u e in omega (arith, later)
@@ -78,12 +78,12 @@ module _ {X : Type 0} (number : X → ℕ) where
   picked f None = false
   picked f (Some x) = f x
 
-  none_lower : (f : X → Bool) (n k : ℕ) (xs : List X) → Rises k (map number xs) → n < k → list_any (λ (x : X). (number x == n) && f x) xs ≡ false
+  none_lower : (f : X → Bool) (n k : ℕ) (xs : List X) → Ascends k (map number xs) → n < k → list_any (λ (x : X). (number x == n) && f x) xs ≡ false
   none_lower f n k [] h low = refl
   none_lower f n k (x ∷ xs) h low =
       ap (λ (b : Bool). (b && f x) || list_any (λ (y : X). (number y == n) && f y) xs) (ne_eqb (number x) n (λ e. omega (arith, e, h.0, low))) ∙ none_lower f n (suc k) xs h.1 (omega (arith, low))
 
-  pub any_at : (f : X → Bool) (k : ℕ) (xs : List X) → Rises k (map number xs) → (j : ℕ) → list_any (λ (x : X). (number x == k + j) && f x) xs ≡ picked f (slice_get xs j)
+  pub any_at : (f : X → Bool) (k : ℕ) (xs : List X) → Ascends k (map number xs) → (j : ℕ) → list_any (λ (x : X). (number x == k + j) && f x) xs ≡ picked f (slice_get xs j)
   any_at f k [] h j = refl
   any_at f k (x ∷ xs) h zero =
       let here : k + 0 ≡ number x = omega (arith, h.0) in
@@ -161,9 +161,9 @@ any_storing test (Some storing) rest = refl
 
 -- ---- a statement whose sites go up one by one
 
-module _ (s : Stmt) (k : ℕ) (goes_up : Rises k (map part_site (parts None s))) where
+module _ (s : Stmt) (k : ℕ) (goes_up : Ascends k (map part_site (parts None s))) where
   pub touches_rise : TouchesRise k (touches s)
-  touches_rise = subst (λ (ns : List ℕ). Rises k ns) (sym (sites_same (accesses s) (touches s) (parts None s) (aligned None s)).1) goes_up
+  touches_rise = subst (λ (ns : List ℕ). Ascends k ns) (sym (sites_same (accesses s) (touches s) (parts None s) (aligned None s)).1) goes_up
 
   -- one part, and what stands at its place
   module _ (j : ℕ) (u : Part) (at : slice_get (parts None s) j ≡ Some u) where

@@ -21,14 +21,15 @@ use Rattle.dp_sites.specs.declared.touched.Touched.{Touched}
 use Rattle.dp_sites.specs.steps.Parts.{index_in, parts, touched, touched_in}
 use Rattle.dp_sites.specs.Storings.{checked_or, differs_by, end_of, is_ahead, moving_of, part_checked, passes_by, sees_otherwise, storing_at, storing_of, storings, stores_otherwise}
 use Rattle.dp_sites.proofs.Aligned.{Aligned, Same, aligned, variable_in}
-use Rattle.dp_sites.proofs.OuterLoops.{Rises, SitesRise, reaches, shared}
+use Rattle.dp_plan.proofs.Ascent.{Ascends}
+use Rattle.dp_sites.proofs.OuterLoops.{SitesRise, reaches, shared}
 use Rattle.dp_sites.proofs.FarFind.{find}
 use Rattle.dp_sites.proofs.FarTest.{far_is}
 use Rattle.dp_sites.proofs.TextNumbers.{before_is, risen_ascend}
 use Rattle.dp_sites.proofs.PartTable.{Seat, found_at, seat_at, touches_rise, any_at, any_storing, by_order, and_under, code_by, either_any, has_any, no_seat, part_site, passed_by, picked, risen, seen_by, sites_same, stored_so, unstored}
 
 module _ (p : Program) (plan : Plan) (s : Stmt) (only : region_in p plan.region ≡ s ∷ []) (r : ℕ) (site : SiteId) (condition : Expr) (body : List Stmt) (is : out-Stmt s ≡ Region r site condition body)
-    (k : ℕ) (goes_up : Rises k (map part_site (parts None s))) where
+    (k : ℕ) (goes_up : Ascends k (map part_site (parts None s))) where
   abbrev us : List Part
   us = parts None s
 
@@ -42,7 +43,7 @@ module _ (p : Program) (plan : Plan) (s : Stmt) (only : region_in p plan.region 
   lined = aligned None s
 
   rises_x : SitesRise k (accesses s)
-  rises_x = subst (λ (ns : List ℕ). Rises k ns) (sym (sites_same xs ts us lined).0) goes_up
+  rises_x = subst (λ (ns : List ℕ). Ascends k ns) (sym (sites_same xs ts us lined).0) goes_up
 
   accesses_here : region_accesses p plan ≡ accesses s
   accesses_here = ap (flat_map accesses) only ∙ append-nil (accesses s)

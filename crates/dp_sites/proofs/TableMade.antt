@@ -16,11 +16,11 @@ use Rattle.dp_plan.specs.Checked.{is_checked}
 use Rattle.dp_plan.specs.CheckedTable.{checked_table}
 use Rattle.dp_sites.specs.steps.Parts.{part_list, parts}
 use Rattle.dp_sites.specs.Storings.{answer_at, body_at, goes_up_from}
-use Rattle.dp_sites.proofs.OuterLoops.{Rises}
+use Rattle.dp_plan.proofs.Ascent.{Ascends}
 use Rattle.dp_sites.proofs.PartTable.{part_site}
 use Rattle.dp_sites.proofs.TableIs.{checked_is}
 
-pub risen_up : (k : ℕ) (us : List Part) → goes_up_from k us ≡ true → Rises k (map part_site us)
+pub risen_up : (k : ℕ) (us : List Part) → goes_up_from k us ≡ true → Ascends k (map part_site us)
 risen_up k [] e = tt
 risen_up k (u ∷ us) e =
     let both = and_parts (u.site == k) (goes_up_from (k + 1) us) e in

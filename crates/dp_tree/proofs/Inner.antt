@@ -10,13 +10,13 @@ use Rattle.dp_tree.specs.Step.{choose, followed, behind_region, behind_one, regi
 use Rattle.dp_tree.specs.Numbering.{is_plain, is_plain_at, is_plain_in, is_inner, is_inner_in, top_fits, next_region, regions_in_order}
 use Rattle.dp_tree.proofs.Heads.{everywhere_hidden, opened_statement, and_true, and_make, taken}
 
-abbrev hidden_plain : List Stmt → Bool
+abbrev pub hidden_plain : List Stmt → Bool
 hidden_plain xs = is_plain_in (Rattle.dp_tree.specs.declared.Stmt.TheBlock.hidden-the_row-Stmt-0 xs)
 
 abbrev pub plain_all : List Stmt → Bool
 plain_all xs = list_all is_plain xs
 
-plain_hidden : (xs : List Stmt) → hidden_plain xs ≡ plain_all xs
+pub plain_hidden : (xs : List Stmt) → hidden_plain xs ≡ plain_all xs
 plain_hidden xs = everywhere_hidden is_plain_at xs
 
 abbrev pub plain_at : Stmt-F Stmt → Bool

@@ -17,4 +17,5 @@ pub mod InsideRegion
 pub mod RegionLaws
 pub mod Build
 pub mod Programs
+pub mod RegionPrograms
 pub mod rows

@@ -3,6 +3,8 @@
 //! `specs/` has the meaning, in the order in which `specs/Lib.antt` lists its files: evaluation, steps, traces and the
 //! iterations of a region.
 #![tactic(auto)]
+ghost use Rattle.std.specs.Prelude.{◌≡◌};
+ghost use Rattle.dp_tree.specs.Step.{is_local_of};
 
 use dp_base::{BinOp, Boxed, CellId, Row, SiteId, UnOp, VarId};
 
@@ -90,6 +92,19 @@ pub enum VarScope {
     Global,
     Outer,
     Body(u32),
+}
+
+impl VarScope {
+    /// It is the body of the region with this number.
+    #[inline(always)]
+    pub fn is_local_of(self, region: u32) -> bool
+        ensures { result ≡ is_local_of region self }
+    {
+        match self {
+            VarScope::Body(of) => of == region,
+            VarScope::Global | VarScope::Outer => false,
+        }
+    }
 }
 
 /// A variable. Its cells are `length` many from `first` on; a scalar has one.

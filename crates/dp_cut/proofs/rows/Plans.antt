@@ -6,7 +6,8 @@ use Rattle.dp_plan.specs.declared.StageKind.TheVariants.{Seq, Par}
 use Rattle.dp_plan.specs.Valid.{is_valid_plan}
 use Rattle.dp_depend.specs.Edges.{edges_of}
 use Rattle.dp_depend.proofs.rows.Graphs.{edges_opened}
-use Rattle.dp_depend.proofs.rows.Programs.{early_exit, generated, inner_loops, inner_loops_shown, skip_negative_shown}
+use Rattle.dp_tree.proofs.RegionPrograms.{early_exit}
+use Rattle.dp_depend.proofs.rows.Programs.{generated, inner_loops, inner_loops_shown, skip_negative_shown}
 use Rattle.dp_cut.specs.Automatic.{node_pairs, weights_of}
 use Rattle.dp_cut.specs.LeastPlan.{unit_weights, carried_pairs, plan_before_table, plan_of_cut}
 use Rattle.dp_cut.proofs.rows.Cuts.{seq, par}

@@ -6,7 +6,8 @@ use Rattle.dp_depend.specs.declared.Edge.{Edge}
 use Rattle.dp_depend.specs.declared.EdgeKind.{EdgeKind}
 use Rattle.dp_depend.specs.declared.EdgeKind.TheVariants.{Control, Intra, Carried}
 use Rattle.dp_depend.specs.Edges.{edges_of, edges_among, edges_from, edges_between}
-use Rattle.dp_depend.proofs.rows.Programs.{early_exit, near_reads, generated, inner_loops, inner_loops_shown, ahead, sum_loop_shown, skip_negative_shown}
+use Rattle.dp_tree.proofs.RegionPrograms.{early_exit, near_reads}
+use Rattle.dp_depend.proofs.rows.Programs.{generated, inner_loops, inner_loops_shown, ahead, sum_loop_shown, skip_negative_shown}
 
 abbrev edge_to : ℕ → EdgeKind → ℕ → Edge
 edge_to from kind to = record { from = record { 0 = from }; to = record { 0 = to }; kind = kind }

@@ -1,18 +1,27 @@
 -- A profile's text is read in one way only: as one profile, or with one refusal.
-use Rattle.std.proofs.Common.{◌≡◌, refl, sym, ap, ◌∙◌, inl, inr, ℕ, ◌≤◌, ◌<◌, List, length, Result, Ok, Err, arith}
-use Rattle.std.proofs.lemmas.Bool.{cases_lt}
+use Rattle.std.proofs.Common.{◌≡◌, refl, sym, ap, ◌∙◌, inl, inr, ℕ, ◌≤◌, ◌<◌, List, length, take, Result, Ok, Err, arith}
+use Rattle.std.proofs.lemmas.Bool.{cases_order}
 use Rattle.dp_base.specs.declared.Quantity.TheVariants.{ProfileBytes}
 use Rattle.dp_tree.specs.declared.Program.{Program}
 use Rattle.dp_tree.specs.Inlined.{IsInlined}
 use Rattle.dp_profile.specs.declared.Profile.{Profile}
 use Rattle.dp_profile.specs.declared.ProfileFail.TheVariants as fail
 use Rattle.dp_profile.specs.ProfileText.{ProfileText}
-use Rattle.dp_profile.specs.Refused.{IsRefused, at_line, at_end}
+use Rattle.dp_plan_text.specs.PlanText.{lines_of}
+use Rattle.dp_profile.specs.Refused.{Begins, IsRefused, at_line, at_end}
 use Rattle.dp_profile.proofs.KnownSites.{few_regions, small_sites}
 use Rattle.dp_profile.proofs.ReadBack.{read_only}
 use Rattle.dp_drive.specs.declared.refusal.Refusal.{Refusal}
 use Rattle.dp_drive.specs.declared.refusal.Refusal.TheVariants.{Limit, ProfileLine}
 use Rattle.dp_drive.specs.Profiles.{ReadsProfile, TooLong, NoProfile, Taken}
+
+-- there is one first number of which something isn't so
+pub one_first : (So : ℕ → Type 0) {n m : ℕ} → ((k : ℕ) → k < n → So k) → ¬ So n → ((k : ℕ) → k < m → So k) → ¬ So m → n ≡ m
+one_first So {n} {m} before here before2 here2 = elim (cases_order n m) [
+  | inl less ↦ absurd (here (before2 n less))
+  | inr (inl same) ↦ same
+  | inr (inr more) ↦ absurd (here2 (before m more))
+]
 
 module _ (p : Program) (inlined : IsInlined p) (text : List ℕ) where
   one_profile : (profile other : Profile) → ProfileText p text profile → ProfileText p text other → profile ≡ other
@@ -28,13 +37,7 @@ module _ (p : Program) (inlined : IsInlined p) (text : List ℕ) where
   ]
 
   one_line : {line other : ℕ} → IsRefused p text line → IsRefused p text other → line ≡ other
-  one_line (at_line line low high before here) (at_line other low2 high2 before2 here2) = elim (cases_lt line other) [
-    | inl less ↦ absurd (here (before2 line less))
-    | inr most ↦ elim (cases_lt other line) [
-      | inl more ↦ absurd (here2 (before other more))
-      | inr least ↦ omega (arith, most, least)
-    ]
-  ]
+  one_line (at_line line low high before here) (at_line other low2 high2 before2 here2) = one_first (λ n. Begins p (take n (lines_of text))) before here before2 here2
   one_line (at_line line low high before here) (at_end other is before2 none) = absurd (here (before2 line (omega (arith, high, is))))
   one_line (at_end line is before none) (at_line other low high before2 here) = absurd (here (before other (omega (arith, high, is))))
   one_line (at_end line is before none) (at_end other is2 before2 none2) = is ∙ sym is2

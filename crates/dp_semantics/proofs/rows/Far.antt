@@ -7,6 +7,7 @@ use Rattle.dp_tree.specs.declared.Program.{Program}
 use Rattle.dp_tree.specs.Iteration.{begun_count, memory_after}
 use Rattle.dp_tree.proofs.Build.{array, at, bin, num, one_region, program, region, scalar, set, set_at, site, tree_opened, var, loop}
 use Rattle.dp_tree.proofs.Programs.{add}
+use Rattle.dp_tree.proofs.RegionPrograms.{far_reads, near_reads}
 use Rattle.dp_plan.specs.declared.Plan.{Plan}
 use Rattle.dp_plan.specs.declared.StageKind.TheVariants.{Seq, Par}
 use Rattle.dp_plan.proofs.Plans.{plan, proved, unchecked}
@@ -15,37 +16,6 @@ use Rattle.dp_plan.specs.Checked.{is_checked}
 use Rattle.dp_semantics.specs.Recovery.{recovered}
 use Rattle.dp_semantics.specs.Fits.{fits_plan}
 use Rattle.dp_semantics.specs.Verdict.{source_run}
-
--- 1  int a[9];
--- 2  int s;
--- 4    int i = 0;
--- 5    a[3] = 7;
--- 7    while (i < 8) {
--- 8      s = s + a[i + 1];   four times
--- 12     a[i] = i + 1;
--- 13     i = i + 1;
-abbrev ahead : Program
-ahead = program
-    (array 0 9 ∷ scalar 9 (pos 0) Global ∷ scalar 10 (pos 0) Outer ∷ [])
-    (site 4 Assign 0 ∷ site 5 Assign 0 ∷ site 7 While 1 ∷ site 8 Assign 1 ∷ site 9 Assign 1 ∷ site 10 Assign 1 ∷ site 11 Assign 1 ∷ site 12 Assign 1 ∷ site 13 Assign 1 ∷ [])
-    (one_region 7 3 9)
-    (set 1 2 (num 0) ∷ set_at 2 0 (num 3) (num 7) ∷ region 1 3 (bin op.Lt (var 2) (num 8))
-    (set 4 1 (add (var 1) (at 0 (add (var 2) (num 1)))) ∷ set 5 1 (add (var 1) (at 0 (add (var 2) (num 1)))) ∷ set 6 1 (add (var 1) (at 0 (add (var 2) (num 1)))) ∷ set 7 1 (add (var 1) (at 0 (add (var 2) (num 1))))
-    ∷ set_at 8 0 (var 2) (add (var 2) (num 1)) ∷ set 9 2 (add (var 2) (num 1)) ∷ []) ∷ [])
-
--- 1  int a[5];
--- 2  int s;
--- 4    int i = 0;
--- 6    while (i < 4) {
--- 7      s = s + a[i];
--- 8      i = i + 1;
--- 9      a[i] = 7;
-abbrev behind : Program
-behind = program
-    (array 0 5 ∷ scalar 5 (pos 0) Global ∷ scalar 6 (pos 0) Outer ∷ [])
-    (site 4 Assign 0 ∷ site 6 While 1 ∷ site 7 Assign 1 ∷ site 8 Assign 1 ∷ site 9 Assign 1 ∷ [])
-    (one_region 6 2 5)
-    (set 1 2 (num 0) ∷ region 1 2 (bin op.Lt (var 2) (num 4)) (set 3 1 (add (var 1) (at 0 (var 2))) ∷ set 4 2 (add (var 2) (num 1)) ∷ set_at 5 0 (var 2) (num 7) ∷ []) ∷ [])
 
 -- the array's store in stage 2, in version 1 and in version 2
 abbrev ahead_first : Plan
@@ -57,45 +27,45 @@ ahead_second = proved (unchecked 7 (plan 16 (Seq ∷ Seq ∷ []) (1 ∷ 1 ∷ 1 
 abbrev behind_second : Plan
 behind_second = proved (unchecked 4 (plan 4096 (Seq ∷ Seq ∷ []) (1 ∷ 1 ∷ 1 ∷ 2 ∷ []) []))
 
-loads_ahead : (is_far ahead 1 8 4 ≡ true) × (is_far_within ahead 1 8 7 ≡ true)
+loads_ahead : (is_far far_reads 1 8 4 ≡ true) × (is_far_within far_reads 1 8 7 ≡ true)
 unfolding tree_opened
 loads_ahead = (refl, refl)
 
 -- the store stands behind the step, so it is one iteration ahead of the load
-store_ahead : (is_far behind 1 5 3 ≡ false) × (is_far_within behind 1 5 3 ≡ true)
+store_ahead : (is_far near_reads 1 5 3 ≡ false) × (is_far_within near_reads 1 5 3 ≡ true)
 unfolding tree_opened
 store_ahead = (refl, refl)
 
-ahead_first_checked : map (is_checked ahead ahead_first) (3 ∷ 4 ∷ 5 ∷ 6 ∷ 7 ∷ 8 ∷ 9 ∷ []) ≡ false ∷ true ∷ true ∷ true ∷ true ∷ false ∷ false ∷ []
+ahead_first_checked : map (is_checked far_reads ahead_first) (3 ∷ 4 ∷ 5 ∷ 6 ∷ 7 ∷ 8 ∷ 9 ∷ []) ≡ false ∷ true ∷ true ∷ true ∷ true ∷ false ∷ false ∷ []
 unfolding tree_opened
 ahead_first_checked = refl
 
-ahead_second_checked : map (is_checked ahead ahead_second) (3 ∷ 4 ∷ 5 ∷ 6 ∷ 7 ∷ 8 ∷ 9 ∷ []) ≡ false ∷ false ∷ false ∷ false ∷ false ∷ false ∷ false ∷ []
+ahead_second_checked : map (is_checked far_reads ahead_second) (3 ∷ 4 ∷ 5 ∷ 6 ∷ 7 ∷ 8 ∷ 9 ∷ []) ≡ false ∷ false ∷ false ∷ false ∷ false ∷ false ∷ false ∷ []
 unfolding tree_opened
 ahead_second_checked = refl
 
-behind_second_checked : map (is_checked behind behind_second) (2 ∷ 3 ∷ 4 ∷ 5 ∷ []) ≡ false ∷ true ∷ false ∷ false ∷ []
+behind_second_checked : map (is_checked near_reads behind_second) (2 ∷ 3 ∷ 4 ∷ 5 ∷ []) ≡ false ∷ true ∷ false ∷ false ∷ []
 unfolding tree_opened
 behind_second_checked = refl
 
-second_fit : (fits_plan ahead ahead_second ≡ true) × (fits_plan behind behind_second ≡ true)
+second_fit : (fits_plan far_reads ahead_second ≡ true) × (fits_plan near_reads behind_second ≡ true)
 unfolding tree_opened
 second_fit = (refl, refl)
 
-ahead_again : (recovered ahead ahead_first (source_run ahead [] 10000) ≡ 0 ∷ 1 ∷ 2 ∷ 3 ∷ 4 ∷ 5 ∷ 6 ∷ 7 ∷ []) × (recovered ahead ahead_second (source_run ahead [] 10000) ≡ [])
+ahead_again : (recovered far_reads ahead_first (source_run far_reads [] 10000) ≡ 0 ∷ 1 ∷ 2 ∷ 3 ∷ 4 ∷ 5 ∷ 6 ∷ 7 ∷ []) × (recovered far_reads ahead_second (source_run far_reads [] 10000) ≡ [])
 unfolding tree_opened
 ahead_again = (refl, refl)
 
-ahead_memory : (begun_count (source_run ahead [] 10000) 1 ≡ 9)
-    × (memory_after (source_run ahead [] 10000) 1 9 ≡ pos 1 ∷ pos 2 ∷ pos 3 ∷ pos 4 ∷ pos 5 ∷ pos 6 ∷ pos 7 ∷ pos 8 ∷ pos 0 ∷ pos 28 ∷ pos 8 ∷ [])
+ahead_memory : (begun_count (source_run far_reads [] 10000) 1 ≡ 9)
+    × (memory_after (source_run far_reads [] 10000) 1 9 ≡ pos 1 ∷ pos 2 ∷ pos 3 ∷ pos 4 ∷ pos 5 ∷ pos 6 ∷ pos 7 ∷ pos 8 ∷ pos 0 ∷ pos 28 ∷ pos 8 ∷ [])
 unfolding tree_opened
 ahead_memory = (refl, refl)
 
-behind_again : recovered behind behind_second (source_run behind [] 10000) ≡ 1 ∷ 3 ∷ []
+behind_again : recovered near_reads behind_second (source_run near_reads [] 10000) ≡ 1 ∷ 3 ∷ []
 unfolding tree_opened
 behind_again = refl
 
-behind_memory : (begun_count (source_run behind [] 10000) 1 ≡ 5) × (memory_after (source_run behind [] 10000) 1 5 ≡ pos 0 ∷ pos 7 ∷ pos 7 ∷ pos 7 ∷ pos 7 ∷ pos 21 ∷ pos 4 ∷ [])
+behind_memory : (begun_count (source_run near_reads [] 10000) 1 ≡ 5) × (memory_after (source_run near_reads [] 10000) 1 5 ≡ pos 0 ∷ pos 7 ∷ pos 7 ∷ pos 7 ∷ pos 7 ∷ pos 21 ∷ pos 4 ∷ [])
 unfolding tree_opened
 behind_memory = (refl, refl)
 

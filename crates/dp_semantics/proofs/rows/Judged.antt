@@ -1,5 +1,6 @@
 -- Judgements, computed: Clean exactly at the clean iterations, with what the source did.
 use Rattle.std.proofs.Common.{◌≡◌, refl, ℕ, ◌==◌, Bool, true, false, not, ◌&&◌, ◌||◌, if◌then◌else◌, List, [], ◌∷◌, ℤ, pos, negsuc, map, Option, Some, None}
+use Rattle.std.specs.Ordering.{int_eq}
 use Rattle.dp_tree.specs.declared.Program.{Program}
 use Rattle.dp_tree.specs.Step.{Effect, Stored, Printed, Decided}
 use Rattle.dp_tree.specs.Trace.{Run}
@@ -13,7 +14,7 @@ use Rattle.dp_plan.specs.declared.Plan.{Plan}
 use Rattle.dp_plan.specs.declared.StageKind.TheVariants.{Seq, Par}
 use Rattle.dp_plan.proofs.Plans.{plan, stale_read_plan, skip_negative_plan, histogram_plan, two_stores_plan, stale_step_plan, stale_divisor_plan}
 use Rattle.dp_tree.specs.Numbering.{numbers_from}
-use Rattle.dp_semantics.specs.Clean.{int_eq, is_clean}
+use Rattle.dp_semantics.specs.Clean.{is_clean}
 use Rattle.dp_semantics.specs.Recovery.{epoch}
 use Rattle.dp_semantics.specs.StageRun.{turn_from}
 use Rattle.dp_semantics.specs.Judge.{Judgement, Clean, Unclean, Agreed, judge, judge_from}

@@ -1,5 +1,6 @@
 -- Packets against the source's own events, computed: their words agree exactly at the clean iterations.
 use Rattle.std.proofs.Common.{◌≡◌, refl, ℕ, ◌==◌, Bool, true, false, ◌&&◌, ◌||◌, List, [], ◌∷◌, ℤ, pos, negsuc, length, map, Option, Some, None}
+use Rattle.std.specs.Ordering.{int_eq}
 use Rattle.dp_base.specs.declared.Word.{Word}
 use Rattle.dp_base.specs.declared.WordKind.TheVariants as word
 use Rattle.dp_tree.specs.declared.Program.{Program}
@@ -10,7 +11,6 @@ use Rattle.dp_tree.proofs.Programs.{stale_read, same_value_store, skip_negative,
 use Rattle.dp_plan.specs.declared.Plan.{Plan}
 use Rattle.dp_plan.proofs.Plans.{stale_read_plan, skip_negative_plan, histogram_plan, stale_step_plan}
 use Rattle.dp_tree.specs.Numbering.{numbers_from}
-use Rattle.dp_semantics.specs.Clean.{int_eq}
 use Rattle.dp_semantics.specs.Packets.{Broken, Closing, Going, Packet, Status, passed, status_of}
 use Rattle.dp_semantics.specs.Recovery.{epoch}
 use Rattle.dp_semantics.specs.Words.{Astray, Void, is_load, is_done}

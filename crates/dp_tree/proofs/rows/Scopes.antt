@@ -14,7 +14,7 @@ table_is_checked : IsChecked word_table
 unfolding tree_opened
 table_is_checked = record { globals = refl; cells = refl; sites = refl; roles = refl; regions = refl; functions = refl; scoped = refl }
 
-expanded_table_is_inlined : IsInlined word_table_expanded
+pub expanded_table_is_inlined : IsInlined word_table_expanded
 unfolding tree_opened
 expanded_table_is_inlined =
     record { globals = refl; cells = refl; named = refl; functions = refl; calls = refl; sites = refl; roles = refl; regions = refl; table = refl; few = omega arith; few_each = refl }

@@ -23,4 +23,4 @@ loop-e-preserved c =
 
 pub returns : goal.returns
 returns c =
-    loop_end args_answer expr_answer (λ p a. p) args_answer-more c.args.all.now c.loop-e.e-index c.args.names.now c.loop-e.done _ c.loop-e.invariant (omega arith) (args_answer-none c.args.names.now)
+    loop_end args_answer c.args.all.now c.loop-e.e-index c.args.names.now c.loop-e.done c.loop-e.invariant (omega arith) (args_answer-none c.args.names.now)

@@ -32,7 +32,7 @@ loop-name-preserved c =
 
 pub returns-clause-value : goal.returns-clause-value
 returns-clause-value c =
-    loop_end params_answer param_answer with_scalar params_answer-more c.args.all.now c.loop-name.name-index c.loop-name.place c.loop-name.done _ c.loop-name.invariant.0 (omega arith) (params_answer-none c.loop-name.place)
+    loop_end params_answer c.args.all.now c.loop-name.name-index c.loop-name.place c.loop-name.done c.loop-name.invariant.0 (omega arith) (params_answer-none c.loop-name.place)
 
 pub returns-clause-place : goal.returns-clause-place
 returns-clause-place c = sym (c.loop-name.invariant.1 ∙ at_drop_all (after_params c.loop-name.place) c.args.all.now c.loop-name.name-index (omega arith))

@@ -1,7 +1,7 @@
 use Rattle.std.proofs.Common.{◌++◌, ◌∷◌, [], ◌+◌, ◌<◌, drop, length, sym, ap, ◌∙◌, rules, arith}
 use Rattle.std.proofs.lemmas.Grind.{common_steps}
 use Rattle.dp_check.specs.Answer.{main_answer, onto}
-use Rattle.dp_check.proofs.AnswerLemmas.{onto-all, further, further_refused, further_end}
+use Rattle.dp_check.proofs.AnswerLemmas.{onto-all, further, further_refused, loop_end}
 use Rattle.dp_check.proofs.RegionLemmas.{MainPlace, main_rest, main_one, main_step, main_answer-none, main_answer-more}
 use Rattle.dp_check.proofs.region.main_statements.Goals as goal
 
@@ -12,7 +12,7 @@ loop-s-init c =
 
 pub returns : goal.returns
 returns c =
-    further_end main_rest main_one main_step main_answer-more c.args.all.now c.loop-s.s-index (record { place = c.loop-s.place; region = c.loop-s.number }) c.loop-s.done _ c.loop-s.invariant
+    loop_end main_rest c.args.all.now c.loop-s.s-index (record { place = c.loop-s.place; region = c.loop-s.number }) c.loop-s.done c.loop-s.invariant
     (omega arith) (main_answer-none (record { place = c.loop-s.place; region = c.loop-s.number }))
 
 pub loop-s-preserved : goal.loop-s-preserved

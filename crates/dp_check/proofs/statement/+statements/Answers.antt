@@ -9,7 +9,7 @@ use Rattle.dp_check.specs.declared.place.Place.{Place}
 use Rattle.dp_check.specs.Place.{after, after_all, parts_all, passed, sited}
 use Rattle.dp_check.specs.Resolved.{next_site}
 use Rattle.dp_check.specs.Answer.{Gives, onto, with_last, expr_answer, statement_answer, block_answer, loop_answer}
-use Rattle.dp_check.proofs.AnswerLemmas.{onto-all, gives_behind, further, further_refused, further_end}
+use Rattle.dp_check.proofs.AnswerLemmas.{onto-all, gives_behind, further, further_refused, loop_end}
 use Rattle.dp_check.proofs.PlaceLemmas.{passed-append, for_left, after-If, after-While, after-For}
 use Rattle.dp_check.proofs.Weight.{weight, weight_all, weight-If, weight-While, weight-For, weight_item}
 use Rattle.dp_check.proofs.StatementLemmas.{block_answer-none, block_answer-more}
@@ -184,7 +184,7 @@ statements-loop-s-preserved t c =
 
 pub statements-returns-clause-value : goal.statements-returns-clause-value
 statements-returns-clause-value t c =
-    further_end block_answer statement_answer after block_answer-more c.args.all.now c.loop-s.s-index c.loop-s.place c.loop-s.done _ c.loop-s.invariant.0 (omega arith) (block_answer-none c.loop-s.place)
+    loop_end block_answer c.args.all.now c.loop-s.s-index c.loop-s.place c.loop-s.done c.loop-s.invariant.0 (omega arith) (block_answer-none c.loop-s.place)
 
 pub block-returns-in_err-statements-clause-value : goal.block-returns-in_err-statements-clause-value
 block-returns-in_err-statements-clause-value t c =
