@@ -1,7 +1,10 @@
 -- What stands at a place of a list.
 use Rattle.std.proofs.Common.{◌≡◌, ◌⊎◌, inl, inr, refl, sym, ap, ◌∙◌, ℕ, zero, suc, ◌+◌, ◌<◌, List, [], ◌∷◌, ◌++◌, length, drop, set, get_or, add-one, drop-cons, Some, slice_get, arith}
-use Rattle.std.proofs.lemmas.List.{get_or-set_same, length-set}
+use Rattle.std.proofs.lemmas.List.{get_or-set_same, length-set, set_past}
 use Rattle.std.proofs.lemmas.Option.{slice_get-get_or}
+
+-- a store past the end changes nothing
+pub ruleset stores = (set_past)
 
 pub at_index : {X : Type 0} (xs : List X) (k : ℕ) → k < length xs → (x : X) × (slice_get xs k ≡ Some x)
 at_index [] k h = absurd (omega (arith, h))

@@ -48,12 +48,16 @@ impl Cells {
         self.values[cell.0 as usize]
     }
 
-    /// Puts a number into a cell. It takes no memory.
+    /// Puts a number into a cell, if there is one. It takes no memory.
+    #[inline(always)]
+    #[tactic(auto, using(crate::proofs::ListLemmas::stores))]
     pub fn set(&mut self, cell: CellId, value: i64)
-        requires { cell.0 < length self.old }
         ensures { self.new ≡ slice_set self.old cell.0 value }
     {
-        self.values[cell.0 as usize] = value;
+        let place = cell.0 as usize;
+        if place < self.values.len() {
+            self.values[place] = value;
+        }
     }
 
     /// Another memory with the same numbers, from the same allocator.

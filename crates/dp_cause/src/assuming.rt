@@ -1,12 +1,12 @@
-//! What a plan assumes of a condition's outcome, and the cells that a judgement compares and puts; `dp_commit` judges by the same.
-ghost use Rattle.std.specs.Prelude.{◌≡◌, get_or, pos, slice_set};
+//! What a plan assumes of a condition's outcome, and the cells that a judgement compares; `dp_commit` judges by the same.
+ghost use Rattle.std.specs.Prelude.{◌≡◌, get_or, pos};
 ghost use Rattle.std.specs.List.{list_all};
 ghost use Rattle.dp_base.specs.Arithmetic.{is_zero};
 ghost use Rattle.dp_tree.specs.Event as effect;
 ghost use Rattle.dp_semantics.specs.Clean as clean;
 ghost use Rattle.dp_semantics.specs.Words.{is_load_of};
 
-use dp_base::{CellId, Cells, SiteId, Word, WordKind};
+use dp_base::{SiteId, Word, WordKind};
 use dp_plan::Plan;
 use dp_tree::{Assume, Program};
 
@@ -73,12 +73,3 @@ pub fn is_load(word: Word, site: SiteId) -> bool
     word.site.0 == site.0 && word.kind == WordKind::Load
 }
 
-/// Puts a number into a cell, if there is one.
-#[inline(always)]
-pub fn put(cells: &mut Cells, cell: u32, value: i64)
-    ensures { cells.new ≡ slice_set cells.old cell value }
-{
-    if (cell as usize) < cells.len() {
-        cells.set(CellId(cell), value);
-    }
-}

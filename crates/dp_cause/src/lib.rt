@@ -10,6 +10,6 @@ mod stepping;
 mod views;
 mod watched;
 
-pub use assuming::{goes_as_assumed, is_load, put, stays_late, value_at, zero};
+pub use assuming::{goes_as_assumed, is_load, stays_late, value_at, zero};
 pub use kept::Kept;
 pub use replaced::Replaced;

@@ -3,7 +3,6 @@ ghost use Rattle.std.specs.Prelude.{◌≡◌, ◌≤◌, ◌+◌, ◌^◌, OnEr
 ghost use Rattle.dp_semantics.specs.CauseWalk.{view_of, count_of};
 ghost use Rattle.dp_cause.specs.Views as definition;
 
-use crate::assuming::put;
 use crate::replaced::Replaced;
 use dp_base::{CellId, Cells, NoMemory, Row, StoreOf};
 use dp_tree::VarInfo;
@@ -58,7 +57,7 @@ pub fn show(views: &mut [Cells], stage: u32, cell: u32, value: i64)
 {
     let mut place = (stage as usize).saturating_sub(1);
     while place < views.len() {
-        put(&mut views[place], cell, value);
+        views[place].set(CellId(cell), value);
         place += 1;
     }
 }
@@ -81,7 +80,7 @@ pub fn clear(locals: &[CellId], cells: &mut Cells)
     ensures { cells.new ≡ definition.clear_cells locals.now cells.old }
 {
     for cell in locals {
-        put(cells, cell.0, 0);
+        cells.set(*cell, 0);
     }
 }
 
@@ -91,7 +90,7 @@ fn show_upto(view: &mut Cells, stage: usize, stores: &[StoreOf], replaced: &[Rep
 {
     for (store, was) in stores.iter().zip(replaced.iter()) {
         if was.stage as usize <= stage {
-            put(view, store.cell.0, store.value);
+            view.set(store.cell, store.value);
         }
     }
 }

@@ -8,7 +8,6 @@ ghost use Rattle.dp_commit.specs.Judging.{IsCourt, Judged, WantsIn};
 
 use crate::court::{Answer, Court, Pace, Rows, Walk};
 use dp_base::{Cells, NoMemory, Row};
-use dp_cause::put;
 use dp_packet::Lists;
 use std::alloc::Global;
 use std::mem;
@@ -93,7 +92,7 @@ pub fn before<'p>(walk: Walk<'p>) -> Cells
         ..
     } = walk;
     while let Some(was) = replaced.pop() {
-        put(&mut cells, was.cell.0, was.value);
+        cells.set(was.cell, was.value);
     }
     cells
 }

@@ -10,7 +10,7 @@ use crate::assuming::closes;
 use crate::court::{Answer, Court, Pace, Walk};
 use crate::taking::word_at;
 use dp_base::{CellId, NoMemory, Row, SiteId, StoreOf, Word};
-use dp_cause::{Replaced, put, value_at, zero};
+use dp_cause::{Replaced, value_at, zero};
 
 /// The store that a word tells.
 #[inline(always)]
@@ -90,7 +90,7 @@ impl<'p> Walk<'p> {
         };
         match note_store(&mut self.stores, &mut self.replaced, store, was) {
             Ok(()) => {
-                put(&mut self.cells, word.index, word.value);
+                self.cells.set(CellId(word.index), word.value);
                 pace.pass(at, closes(court, opens, site, word.value), next);
                 Answer::Goes
             }

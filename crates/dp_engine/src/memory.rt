@@ -30,19 +30,8 @@ impl Memory for Cells {
 
     #[inline(always)]
     fn store(&mut self, cell: u32, value: i64) -> Result<(), NoMemory> {
-        put(self, cell, value);
+        self.set(CellId(cell), value);
         Ok(())
-    }
-}
-
-/// Puts a number into a cell, if there is one.
-#[inline(always)]
-#[tactic(auto, using(crate::proofs::MemoryLemmas::set_past))]
-fn put(cells: &mut Cells, cell: u32, value: i64)
-    ensures { cells.new ≡ slice_set cells.old cell value }
-{
-    if (cell as usize) < cells.len() {
-        cells.set(CellId(cell), value);
     }
 }
 
@@ -139,7 +128,7 @@ impl Versioned {
             return Ok(());
         }
         put_version(&mut self.version, cell, value)?;
-        put(&mut self.cells, cell, value);
+        self.cells.set(CellId(cell), value);
         Ok(())
     }
 

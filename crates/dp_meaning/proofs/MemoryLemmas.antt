@@ -1,13 +1,7 @@
 -- Stores and clearing.
-use Rattle.dp_meaning.proofs.Names.{◌≡◌, refl, ◌∙◌, ap, ℕ, ◌+◌, ◌<◌, ◌≤◌, List, [], ◌∷◌, ◌++◌, replicate, drop, get_or, length, slice_set, if◌then◌else◌, Option, Some, None, ℤ, pos, length-set, set_out, StoreOf, Stmt, out-Stmt, Program, VarInfo, start_cells, is_local_of, clear_locals, region_number, clear_one, cleared_leaving, with_stores, first_of, first_region}
+use Rattle.dp_meaning.proofs.Names.{◌≡◌, refl, ◌∙◌, ap, ℕ, ◌+◌, ◌<◌, List, [], ◌∷◌, ◌++◌, replicate, drop, get_or, length, slice_set, if◌then◌else◌, Option, Some, None, ℤ, pos, length-set, StoreOf, Stmt, out-Stmt, Program, VarInfo, start_cells, is_local_of, clear_locals, region_number, clear_one, cleared_leaving, with_stores, first_of, first_region}
 use Rattle.dp_base.proofs.ListLemmas.{next_of}
 use Rattle.dp_tree.proofs.InMain.{cleared_length}
-
--- a store past the end changes nothing
-pub store_out : (cells : List ℤ) (c : ℕ) (v : ℤ) → length cells ≤ c → slice_set cells c v ≡ cells
-store_out cells c v h = set_out cells c v h
-
-pub ruleset stores = (store_out)
 
 -- one variable more is cleared
 pub clear_next : (r : ℕ) (vars : List VarInfo) (i : ℕ) (x : VarInfo) (cells : List ℤ) → i < length vars → x ≡ get_or vars i x →

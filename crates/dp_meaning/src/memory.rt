@@ -9,11 +9,10 @@ use dp_tree::VarInfo;
 use std::alloc::Global;
 
 #[inline(always)]
-#[tactic(auto, using(crate::proofs::MemoryLemmas::stores))]
 fn clear_local(region: u32, info: &VarInfo, cells: &mut Cells)
     ensures { cells.new ≡ (if definition.is_local_of region info.now.scope then slice_set cells.old info.now.first.0 (pos 0) else cells.old) }
 {
-    if info.scope.is_local_of(region) && (info.first.0 as usize) < cells.len() {
+    if info.scope.is_local_of(region) {
         cells.set(info.first, 0);
     }
 }
@@ -29,24 +28,13 @@ pub(crate) fn clear_locals(region: u32, vars: &[VarInfo], cells: &mut Cells)
     }
 }
 
-/// One store. A cell that isn't there stays so.
-#[inline(always)]
-#[tactic(auto, using(crate::proofs::MemoryLemmas::stores))]
-fn make_store(store: StoreOf, cells: &mut Cells)
-    ensures { cells.new ≡ slice_set cells.old store.cell.0 store.value }
-{
-    if (store.cell.0 as usize) < cells.len() {
-        cells.set(store.cell, store.value);
-    }
-}
-
 /// These stores, one after the other.
 #[tactic(auto, using(crate::proofs::MemoryLemmas::makes))]
 pub(crate) fn make_stores(stores: &[StoreOf], cells: &mut Cells)
     ensures { cells.new ≡ with_stores stores.now cells.old }
 {
     for store in stores {
-        make_store(*store, cells);
+        cells.set(store.cell, store.value);
     }
 }
 

@@ -14,10 +14,10 @@ loop-place-preserved c =
     let same : to_z w64 (of_z w64 c.args.value) ≡ c.args.value = search rules in
     let inv : c.loop-place.views ≡ shown_some c.loop-place.place c.args.stage c.args.cell c.args.value 1 c.args.views.now =
     subst (λ (z : ℤ). c.loop-place.views ≡ shown_some c.loop-place.place c.args.stage c.args.cell z 1 c.args.views.now) same c.loop-place.invariant.0 in
-    let done = show_step _ c.args.stage c.args.cell c.args.value c.loop-place.views c.args.views.now _ c.put.new.cells c.index-views-place.result inv (omega (arith, c.loop-place-test.true)) refl
-    (subst (λ (z : ℤ). c.put.new.cells ≡ slice_set (get_or c.loop-place.views c.loop-place.place c.index-views-place.result) c.args.cell z) same c.put.ensures) c.loop-place.invariant.1 in
+    let done = show_step _ c.args.stage c.args.cell c.args.value c.loop-place.views c.args.views.now _ c.set.new.self c.index-views-place.result inv (omega (arith, c.loop-place-test.true)) refl
+    (subst (λ (z : ℤ). c.set.new.self ≡ slice_set (get_or c.loop-place.views c.loop-place.place c.index-views-place.result) c.args.cell z) same c.set.ensures) c.loop-place.invariant.1 in
     let low = c.loop-place.invariant.1 in (
-      subst (λ (z : ℤ). slice_set c.loop-place.views c.loop-place.place c.put.new.cells ≡ shown_some (c.loop-place.place + 1) c.args.stage c.args.cell z 1 c.args.views.now) (sym same) done,
+      subst (λ (z : ℤ). slice_set c.loop-place.views c.loop-place.place c.set.new.self ≡ shown_some (c.loop-place.place + 1) c.args.stage c.args.cell z 1 c.args.views.now) (sym same) done,
       omega arith,
     )
 

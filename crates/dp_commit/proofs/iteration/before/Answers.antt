@@ -8,5 +8,5 @@ pub loop-was-preserved : goal.loop-was-preserved
 loop-was-preserved c =
     let was = c.in-Some.was in
     let same : to_z w64 (of_z w64 was.value) ≡ was.value = search rules in
-    let put : c.put.new.cells ≡ slice_set c.loop-was.cells was.cell.0 was.value = subst (λ (z : ℤ). c.put.new.cells ≡ slice_set c.loop-was.cells was.cell.0 z) same c.put.ensures in
-    ap (undone c.pop.new.self) put ∙ sym (undone_more c.pop.new.self was c.loop-was.cells) ∙ ap (λ (xs : List Replaced). undone xs c.loop-was.cells) (sym c.in-Some.ensures) ∙ c.loop-was.invariant
+    let done : c.set.new.self ≡ slice_set c.loop-was.cells was.cell.0 was.value = subst (λ (z : ℤ). c.set.new.self ≡ slice_set c.loop-was.cells was.cell.0 z) same c.set.ensures in
+    ap (undone c.pop.new.self) done ∙ sym (undone_more c.pop.new.self was c.loop-was.cells) ∙ ap (λ (xs : List Replaced). undone xs c.loop-was.cells) (sym c.in-Some.ensures) ∙ c.loop-was.invariant

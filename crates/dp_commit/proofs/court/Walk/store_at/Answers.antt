@@ -29,11 +29,11 @@ returns-in-Ok-clause-does c =
     subst (λ (z : ℤ). c.closes.result ≡ closes_at (first_site c.args.court.program.now c.args.court.plan.now) c.args.site.0 (Decided z)) same
     (c.closes.ensures ∙ ap (λ (n : ℕ). closes_at n c.args.site.0 (Decided (to_z w64 (of_z w64 word.value)))) c.requires.first) in
     store_goes c.args.court _ c.args.pace.now c.args.self.now c.args.site c.args.at c.args.next word refl c.requires.at c.requires.there c.requires.found c.word_at-word.ensures
-    c.closes.result closes c.args.first.0 c.args.count _ c.put.new.cells c.note_store.new.stores c.note_store.new.replaced (omega (arith, c.if-word-first.false)) (omega (arith, c.if-word-first.false, c.if-word-first-2.false))
-    (subst (λ (z : ℤ). c.put.new.cells ≡ slice_set c.args.self.now.cells word.index z) same c.put.ensures)
+    c.closes.result closes c.args.first.0 c.args.count _ c.set.new.self c.note_store.new.stores c.note_store.new.replaced (omega (arith, c.if-word-first.false)) (omega (arith, c.if-word-first.false, c.if-word-first-2.false))
+    (subst (λ (z : ℤ). c.set.new.self ≡ slice_set c.args.self.now.cells word.index z) same c.set.ensures)
     (c.in-Ok.ensures.stores ∙ ap (λ (s : StoreOf). c.args.self.now.stores ++ s ∷ []) c.store_of-store.ensures)
     c.in-Ok.ensures.replaced c.requires.there
-    ∙ sym (ap (λ pace. On (state_at pace (record c.args.self.now { cells = c.put.new.cells; stores = c.note_store.new.stores; replaced = c.note_store.new.replaced }))) c.pass.ensures)
+    ∙ sym (ap (λ pace. On (state_at pace (record c.args.self.now { cells = c.set.new.self; stores = c.note_store.new.stores; replaced = c.note_store.new.replaced }))) c.pass.ensures)
 
 pub returns-in-Err-clause-does : goal.returns-in-Err-clause-does
 returns-in-Err-clause-does c =
@@ -49,6 +49,6 @@ returns-in-Ok-clause-before c =
     let word = c.word_at-word.result in
     let same : to_z w64 (of_z w64 word.value) ≡ word.value = search rules in
     let was : to_z w64 (of_z w64 c.value_at.result) ≡ c.value_at.result = search rules in
-    store_undone c.args.self.now.replaced c.note_store.new.replaced _ c.args.self.now.cells c.put.new.cells word.value c.in-Ok.ensures.replaced
+    store_undone c.args.self.now.replaced c.note_store.new.replaced _ c.args.self.now.cells c.set.new.self word.value c.in-Ok.ensures.replaced
     (was ∙ c.value_at.ensures ∙ ap (λ (cells : List ℤ). get_or cells word.index (pos 0)) c.as_slice.ensures)
-    (subst (λ (z : ℤ). c.put.new.cells ≡ slice_set c.args.self.now.cells word.index z) same c.put.ensures)
+    (subst (λ (z : ℤ). c.set.new.self ≡ slice_set c.args.self.now.cells word.index z) same c.set.ensures)
