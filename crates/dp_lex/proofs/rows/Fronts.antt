@@ -1,9 +1,10 @@
--- What stands at the front of short texts, and the lines of their places.
-use Rattle.std.proofs.Common.{◌≡◌, refl, [], ◌∷◌, length, map, Some, None, codes}
+-- What stands at the front of short texts, the lines of their places, and which answers are a lexer's last.
+use Rattle.std.proofs.Common.{◌≡◌, refl, [], ◌∷◌, length, map, Some, None, Ok, Err, codes}
+use Rattle.dp_lex.specs.declared.LexRefused.{LexRefused}
 use Rattle.dp_lex.specs.declared.TokenKind.TheVariants.{Name, Reserved, Number, Mark, Sign}
 use Rattle.dp_lex.specs.Spelling.{signs}
 use Rattle.dp_lex.specs.Scan.{is_one_of, opens_comment, closing, skipped, word, fits, number, is_pragma, is_named, mark, sign, front}
-use Rattle.dp_lex.specs.Tokens.{line_at}
+use Rattle.dp_lex.specs.Tokens.{line_at, IsLastAnswer}
 
 white_space : map skipped (codes " x" ∷ codes "\tx" ∷ codes "\rx" ∷ codes "\n\n" ∷ (11 ∷ []) ∷ (12 ∷ []) ∷ codes "x " ∷ [] ∷ []) ≡ 1 ∷ 1 ∷ 1 ∷ 1 ∷ 0 ∷ 0 ∷ 0 ∷ 0 ∷ []
 unfolding skipped opens_comment
@@ -63,3 +64,7 @@ no_tokens = refl
 -- lines count from 1, and each LF before a place ends one
 lines : map (line_at (codes "a\n\r\nb\rc\n")) (0 ∷ 1 ∷ 2 ∷ 3 ∷ 4 ∷ 6 ∷ 8 ∷ []) ≡ 1 ∷ 1 ∷ 2 ∷ 2 ∷ 3 ∷ 3 ∷ 4 ∷ []
 lines = refl
+
+-- the law of last answers speaks of the end and of each refusal
+last_answers : IsLastAnswer (Ok None) × ((refused : LexRefused) → IsLastAnswer (Err refused))
+last_answers = (tt, λ refused. tt)
