@@ -1,5 +1,5 @@
 -- A program with all numbers that its names stand for.
-use Rattle.std.proofs.Common.{◌≡◌, refl, ℕ, true, false, List, [], ◌∷◌, ℤ, pos, negsuc, codes}
+use Rattle.std.proofs.Common.{◌≡◌, refl, ℕ, true, false, List, [], ◌∷◌, ℤ, pos, negsuc, inl, inr, arith, codes}
 use Rattle.dp_base.specs.declared.UnOp.TheVariants as unary
 use Rattle.dp_base.specs.declared.BinOp.TheVariants as op
 use Rattle.dp_tree.specs.declared.Expr.TheVariants as tree
@@ -16,6 +16,7 @@ use Rattle.dp_tree.specs.declared.raw.RawItem.TheVariants as item
 use Rattle.dp_tree.specs.declared.raw.RawProgram.{RawProgram}
 use Rattle.dp_tree.proofs.Build as numbered
 use Rattle.dp_check.specs.declared.names.Meaning.TheVariants.{Scalar}
+use Rattle.dp_check.specs.Place.{IsPastNumbers}
 use Rattle.dp_check.specs.Resolved.{resolved_expr}
 use Rattle.dp_check.specs.CheckAnswer.{resolved}
 use Rattle.dp_check.proofs.rows.Build.{on, var, num, declare, set, say, names_opened}
@@ -108,3 +109,8 @@ inner_mark : (resolved (record { items = []; main = stmt.If 1 (num 1) (stmt.Whil
     ≡ numbered.when 1 (numbered.num 1) (numbered.loop 2 (numbered.num 2) [] ∷ []) ∷ []
 unfolding names_opened
 inner_mark = refl
+
+-- the last number of 32 bits isn't past them
+last_numbers : ¬ IsPastNumbers (record { names = []; variable = 4294967295; site = 4294967295 })
+last_numbers (inl past) = omega (arith, past)
+last_numbers (inr past) = omega (arith, past)
