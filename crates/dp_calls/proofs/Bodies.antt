@@ -17,7 +17,7 @@ use Rattle.dp_calls.specs.Renaming.{Renamed, renamed}
 use Rattle.dp_calls.specs.Tables.{Tables, with_source_site, next_site}
 use Rattle.dp_calls.specs.Expand.{Piece, nothing, alone, Calls, expand_one, expand_rows, behind}
 use Rattle.dp_tree.proofs.Heads.{and_true, and_make}
-use Rattle.dp_calls.proofs.InnerTexts.{texts}
+use Rattle.dp_tree.specs.Statements.{listed}
 use Rattle.dp_calls.proofs.Relation.{PlaceOf, file_count, One, Inside, stays, exits, Body, finished, onward}
 use Rattle.dp_calls.proofs.Tabled.{grows_not, grows_on, grows_source_site, Lies, moved}
 use Rattle.dp_calls.proofs.Named.{NamesOk, steps_not, steps_on, Seen, seen_steps}
@@ -26,10 +26,10 @@ use Rattle.dp_calls.proofs.Declared.{lies_sited, names_sited, final_renamed}
 use Rattle.dp_calls.proofs.PlainLaws.{Plain, inner_rows}
 use Rattle.dp_calls.proofs.Pieces.{all_parts, Called, one_made}
 
-inner_texts : {n : _} (rows : Row_of-Stmt n) → is_inner_in rows ≡ true → list_all is_inner (texts rows) ≡ true
+inner_texts : {n : _} (rows : Row_of-Stmt n) → is_inner_in rows ≡ true → list_all is_inner (listed rows) ≡ true
 inner_texts end_of-Stmt w = refl
 inner_texts (more_of-Stmt s rest) w =
-    let both = and_true (is_inner s) (is_inner_in rest) w in and_make (is_inner s) (list_all is_inner (texts rest)) both.0 (inner_texts rest both.1)
+    let both = and_true (is_inner s) (is_inner_in rest) w in and_make (is_inner s) (list_all is_inner (listed rest)) both.0 (inner_texts rest both.1)
 
 module _ (p q : Program) (places : (x : ℕ) (info : VarInfo) → slice_get p.vars x ≡ Some info → PlaceOf (file_count p) (global_count p) x info) (there : file_count p ≤ length p.vars)
     (linked : Option VarInfo → Option VarInfo → Type 0) (low n scope r : ℕ) (link : (info : VarInfo) (cell : ℕ) → is_scope_in scope info.scope ≡ true → linked (Some info) (Some (moved info cell r)))
@@ -78,7 +78,7 @@ module _ (p q : Program) (places : (x : ℕ) (info : VarInfo) → slice_get p.va
   inner_made s w = plain_made s w
 
   pub body_made : {m : _} (rows : Row_of-Stmt m) (visible : List ℕ) (names : List Renamed) (t : Tables) → rows_in_scope p scope n visible rows ≡ true → is_inner_in rows ≡ true → list_all (is_listed p) (site_numbers_in rows) ≡ true →
-      NamesOk p linked low names t → Lies p t → Seen p visible names → BodyMade visible names t (texts rows) (expand_rows p calls r rows names t)
+      NamesOk p linked low names t → Lies p t → Seen p visible names → BodyMade visible names t (listed rows) (expand_rows p calls r rows names t)
   body_made end_of-Stmt visible names t scoped inner listed ok lies seen =
       record { grows = grows_not t; lies = lies; named = ok; steps = steps_not names (length t.vars); seen = seen; becomes = λ e closes. finished }
   body_made (more_of-Stmt s rest) visible names t scoped inner listed ok lies seen =

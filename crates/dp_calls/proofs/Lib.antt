@@ -2,7 +2,6 @@
 pub mod ExpandLaws
 pub mod KeptGlobals
 -- frames against the expanded program: the relation, values and stores
-pub mod InnerTexts
 pub mod Relation
 pub mod SameValues
 pub mod Visible

@@ -23,7 +23,8 @@ use Rattle.dp_calls.specs.Renaming.{Renamed, renamed}
 use Rattle.dp_calls.specs.Tables.{Tables, scope_in, with_source_site, next_site}
 use Rattle.dp_calls.specs.Expand.{Piece, behind, as_region, Calls, expand_one, expand_rows, expand_list, calls_within}
 use Rattle.dp_tree.proofs.Heads.{and_true}
-use Rattle.dp_calls.proofs.InnerTexts.{texts, shown_texts}
+use Rattle.dp_tree.specs.Statements.{listed}
+use Rattle.dp_tree.proofs.InnerTexts.{shown_listed}
 use Rattle.dp_calls.proofs.Relation.{Env, PlaceOf, file_count, is_quiet, Quiet, One, act, Block, Body as BodyOf, marks}
 use Rattle.dp_calls.proofs.SameValues.{sees_one}
 use Rattle.dp_calls.proofs.Tabled.{grows_on, grows_source_site, grows_region, Lies, moved}
@@ -104,7 +105,7 @@ module _ (p q : Program) (places : (x : ℕ) (info : VarInfo) → slice_get p.va
 
   region_by : (k : ℕ) (site : SiteId) (v : Expr) (m : _) (body : Row_of-Stmt _) (visible : List ℕ) (names : List Renamed) (t : Tables) (a : Piece) → knows visible v ≡ true → is_listed p site.0 ≡ true →
       NamesOk p Linked (file_count p) names t → Seen p visible names → TopSeen p visible →
-      Made p q Linked (file_count p) most names (with_source_site p k site t) visible a (λ e. BodyOf p q e visible (texts body) a.code) →
+      Made p q Linked (file_count p) most names (with_source_site p k site t) visible a (λ e. BodyOf p q e visible (listed body) a.code) →
       TopMade visible names t visible (stmt.Region' k site v m body) (as_region (line_of p site) k (next_site t) (renamed names v) a)
   region_by k site v m body visible names t a known_v listed ok seen top made = record {
     grows = grows_on (grows_source_site p k site t) (grows_on made.grows (grows_region (line_of p site) (next_site t) a.tables));
@@ -116,7 +117,7 @@ module _ (p q : Program) (places : (x : ℕ) (info : VarInfo) → slice_get p.va
         (let middle = closes_before p q (file_count p) most e (grows_region (line_of p site) (next_site t) a.tables) (steps_not a.names (length a.tables.vars)) closes in
         let begin = closes_before p q (file_count p) most e made.grows made.steps middle in
         let here = closes_before p q (file_count p) most e (grows_source_site p k site t) (steps_not names (length t.vars)) begin in
-        act (marks (outs-Region' k site v m body ∙ ap (λ (x : List Stmt). Region k site v x) (shown_texts m body))
+        act (marks (outs-Region' k site v m body ∙ ap (λ (x : List Stmt). Region k site v x) (shown_listed m body))
         (outs-Region k (next_site t) (renamed names v) a.code ∙ ap (λ (w : Expr). Region k (next_site t) w a.code) (final_renamed p q places there Linked (file_count p) most k k (linked_moved k) visible names t e ok seen here v known_v))
         (source_line p q k site t listed begin.into) known_v (made.becomes e middle) (quiet_top k visible names t e ok seen top here) closes.may_call));
   }

@@ -6,14 +6,8 @@ unfoldable use Rattle.dp_meaning.proofs.Names.{rests_of, rests_in, table_of, tab
 use Rattle.dp_tree.specs.declared.Stmt.TheBlock.{shown-the_row-Stmt-0}
 use Rattle.dp_tree.specs.declared.Stmt.TheVariants.{Assign, Store, Print, If', While', Region', Break, Call}
 use Rattle.dp_meaning.specs.Places.{place}
+use Rattle.dp_tree.proofs.InnerTexts.{shown_listed}
 use Rattle.dp_meaning.proofs.FollowedLemmas.{no_region_at}
-
-items_listed : {n : _} (rows : Row_of-Stmt n) → items-the_row-Stmt _ rows ≡ listed rows
-items_listed end_of-Stmt = refl
-items_listed (more_of-Stmt s rest) = ap (λ (xs : List Stmt). s ∷ xs) (items_listed rest)
-
-shown_listed : (shape : _) (rows : Row_of-Stmt _) → shown-the_row-Stmt-0 shape rows ≡ listed rows
-shown_listed shape rows = items_shown-the_row-Stmt-0 shape rows ∙ items_listed rows
 
 -- the entry of two lists
 pub entry-append : (xs behind : List Stmt) (end : ℕ) → entry (xs ++ behind) end ≡ entry xs (entry behind end)

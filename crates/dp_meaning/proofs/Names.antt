@@ -41,7 +41,8 @@ pub use Rattle.dp_meaning.specs.MachineState.{IsAnyRegion, MachineState, from_re
 pub use Rattle.dp_meaning.specs.Moved.{FaultsNext, HasSpentFuel, Moved, Spoiled}
 pub use Rattle.dp_meaning.specs.NextIteration.{NextIteration, end_of}
 pub use Rattle.dp_meaning.specs.PartRun.{PartRun, PartStops}
-pub use Rattle.dp_meaning.specs.Places.{LeadsAt, Leaves, NodeAt, PositionAt, config_at, entry, first_of, first_region, led_to, listed, node, number_of, rests, table, table_for}
+pub use Rattle.dp_tree.specs.Statements.{listed}
+pub use Rattle.dp_meaning.specs.Places.{LeadsAt, Leaves, NodeAt, PositionAt, config_at, entry, first_of, first_region, led_to, node, number_of, rests, table, table_for}
 unfoldable pub use Rattle.dp_meaning.specs.Places.{rest_at, rests_in, rests_of, table_in, table_of}
 pub use Rattle.dp_meaning.specs.steps.PlainSteps.{Follows, LedTo, PlainStep, PlainSteps, Ran, more, none}
 pub use Rattle.dp_meaning.specs.Sound.{IsOrdered, IsSound, UnderWay}

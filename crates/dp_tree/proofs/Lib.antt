@@ -5,6 +5,7 @@ pub mod InMain
 pub mod SitesOf
 pub mod Heads
 pub mod Inner
+pub mod InnerTexts
 pub mod Asked
 pub mod NumberLists
 pub mod SiteForms

@@ -1,5 +1,5 @@
 -- What is asked of each statement of a text: the two walks that such questions share, one that finds and one that tests.
-use Rattle.std.specs.Prelude.{Bool, true, ◌&&◌, List, [], ◌++◌}
+use Rattle.std.specs.Prelude.{Bool, true, ◌&&◌, List, [], ◌∷◌, ◌++◌}
 use Rattle.dp_tree.specs.declared.Stmt.{Stmt, Row_of-Stmt, end_of-Stmt, more_of-Stmt}
 use Rattle.dp_tree.specs.declared.Stmt.TheVariants.{If', While', Region'}
 
@@ -28,3 +28,8 @@ abbrev mutual
   pub everywhere_in : {n : _} → (Stmt → Bool) → Row_of-Stmt n → Bool
   everywhere_in test end_of-Stmt = true
   everywhere_in test (more_of-Stmt s rest) = everywhere test s && everywhere_in test rest
+
+-- the statements of a row
+abbrev pub listed : {n : _} → Row_of-Stmt n → List Stmt
+listed end_of-Stmt = []
+listed (more_of-Stmt s rest) = s ∷ listed rest
