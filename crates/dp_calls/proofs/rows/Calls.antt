@@ -5,6 +5,7 @@ use Rattle.dp_base.specs.declared.FaultKind.TheVariants.{Divide}
 use Rattle.dp_base.specs.declared.BinOp.TheVariants as op
 use Rattle.dp_tree.specs.declared.VarScope.TheVariants.{Global, Outer, Body}
 use Rattle.dp_tree.specs.declared.SiteKind.TheVariants.{Assign, Print, While}
+use Rattle.dp_tree.specs.declared.Expr.TheVariants as tree
 use Rattle.dp_tree.specs.declared.Function.{Function}
 use Rattle.dp_tree.specs.declared.Program.{Program}
 use Rattle.dp_tree.specs.Trace.{Run, run_of, begin, prints}
@@ -144,7 +145,7 @@ unfolding tree_opened
 table_steps = refl
 
 -- what is erased of a text: the numbers of its sites and variables, and nothing else
-erased_text : erased (region 1 4 (var 3) (loop 5 (bin op.Lt (var 2) (num 7)) (when 6 (var 1) (set 7 2 (at 1 (num 9)) ∷ []) ∷ say 8 (num 3) ∷ []) ∷ []))
-    ≡ region 1 0 (var 0) (loop 0 (bin op.Lt (var 0) (num 7)) (when 0 (var 0) (set 0 0 (at 0 (num 9)) ∷ []) ∷ say 0 (num 3) ∷ []) ∷ [])
+erased_text : erased (region 1 4 (var 3) (loop 5 (bin op.Lt (var 2) (num 7)) (when 6 (var 1) (set 7 2 (at 1 (num 9)) ∷ []) ∷ say 8 tree.InputLen ∷ []) ∷ []))
+    ≡ region 1 0 (var 0) (loop 0 (bin op.Lt (var 0) (num 7)) (when 0 (var 0) (set 0 0 (at 0 (num 9)) ∷ []) ∷ say 0 tree.InputLen ∷ []) ∷ [])
 unfolding tree_opened
 erased_text = refl
