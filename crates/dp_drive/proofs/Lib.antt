@@ -9,3 +9,4 @@ pub mod MadeLemmas
 pub mod ProfilingLemmas
 pub mod definite
 pub mod ZeroMemory
+pub mod rows
