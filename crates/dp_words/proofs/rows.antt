@@ -1,2 +1,3 @@
 mod Lists
 mod Refused
+mod Within
