@@ -18,7 +18,7 @@ use Rattle.dp_calls.specs.Renaming.{Renamed, target_of, renamed}
 use Rattle.dp_calls.specs.Tables.{Tables, with_source_site, next_site}
 use Rattle.dp_calls.specs.Expand.{Piece, nothing, alone, followed_by, Calls, bindings, back_to, expand_one, expand_rows, expand_list, behind}
 use Rattle.dp_tree.proofs.Heads.{and_true, and_make}
-use Rattle.dp_tree.specs.Statements.{listed}
+use Rattle.dp_tree.specs.Statements.{listed as texts}
 use Rattle.dp_tree.proofs.InnerTexts.{shown_listed}
 use Rattle.dp_calls.proofs.Relation.{Env, PlaceOf, file_count, IsEnv, Nested, One, act, call, Block, done, more, stores, prints, branches, loops, Binds}
 use Rattle.dp_calls.proofs.SameValues.{numbers_below}
@@ -91,7 +91,7 @@ module _ (p q : Program) (places : (x : ℕ) (info : VarInfo) → slice_get p.va
         simple_made (stmt.Print site v) (stmt.Print (next_site t) (renamed names v)) (λ e closes.
         act (prints (outs-Print site v) (outs-Print (next_site t) (renamed names v) ∙ ap (λ (a : Expr). Print (next_site t) a) (final e closes v known_v)) (source_line p q r site t listed closes.into) known_v))
 
-    pub branch_made : (v : Expr) (m : _) (one : Row_of-Stmt _) (k : _) (other : Row_of-Stmt _) (a b : Piece) → knows visible v ≡ true → BlockMade visible names sited (listed one) a → BlockMade visible a.names a.tables (listed other) b →
+    pub branch_made : (v : Expr) (m : _) (one : Row_of-Stmt _) (k : _) (other : Row_of-Stmt _) (a b : Piece) → knows visible v ≡ true → BlockMade visible names sited (texts one) a → BlockMade visible a.names a.tables (texts other) b →
         OneMade visible names t visible (stmt.If' site v m one k other) (alone (stmt.If (next_site t) (renamed names v) a.code b.code) b)
     branch_made v m one k other a b known_v first second = record {
       grows = grows_on (grows_source_site p r site t) (grows_on first.grows second.grows);
@@ -107,7 +107,7 @@ module _ (p q : Program) (places : (x : ℕ) (info : VarInfo) → slice_get p.va
           (source_line p q r site t listed begin.into) known_v (first.becomes e middle) (second.becomes e closes)));
     }
 
-    pub loop_made : (v : Expr) (m : _) (body : Row_of-Stmt _) (a : Piece) → knows visible v ≡ true → BlockMade visible names sited (listed body) a →
+    pub loop_made : (v : Expr) (m : _) (body : Row_of-Stmt _) (a : Piece) → knows visible v ≡ true → BlockMade visible names sited (texts body) a →
         OneMade visible names t visible (stmt.While' site v m body) (alone (stmt.While (next_site t) (renamed names v) a.code) a)
     loop_made v m body a known_v first = record {
       grows = grows_on (grows_source_site p r site t) first.grows;
@@ -222,7 +222,7 @@ module _ (p q : Program) (places : (x : ℕ) (info : VarInfo) → slice_get p.va
     one_made _ visible names t scoped plain listed ok lies seen = absurd (cc plain)
 
     pub rows_made : {m : _} (rows : Row_of-Stmt m) (visible : List ℕ) (names : List Renamed) (t : Tables) → rows_in_scope p scope n visible rows ≡ true → is_plain_in rows ≡ true → list_all (is_listed p) (site_numbers_in rows) ≡ true →
-        NamesOk p linked low names t → Lies p t → Seen p visible names → BlockMade visible names t (listed rows) (expand_rows p calls r rows names t)
+        NamesOk p linked low names t → Lies p t → Seen p visible names → BlockMade visible names t (texts rows) (expand_rows p calls r rows names t)
     rows_made end_of-Stmt visible names t scoped plain listed ok lies seen = none_made visible names t ok lies seen
     rows_made (more_of-Stmt s rest) visible names t scoped plain listed ok lies seen =
         let both = and_true (in_scope p scope n visible s) (rows_in_scope p scope n (seen_behind visible s) rest) scoped in
@@ -230,7 +230,7 @@ module _ (p q : Program) (places : (x : ℕ) (info : VarInfo) → slice_get p.va
         let parts = all_parts (is_listed p) (site_numbers s) (site_numbers_in rest) listed in
         let a : Piece = expand_one p calls r s names t in let first = one_made s visible names t both.0 plainly.0 parts.0 ok lies seen in
         let second = rows_made rest (seen_behind visible s) a.names a.tables both.1 plainly.1 parts.1 first.named first.lies first.seen in
-        both_made visible names t s (listed rest) a (expand_rows p calls r rest a.names a.tables) seen first second
+        both_made visible names t s (texts rest) a (expand_rows p calls r rest a.names a.tables) seen first second
 
   pub list_made : (statements : List Stmt) (visible : List ℕ) (names : List Renamed) (t : Tables) → all_in_scope p scope n visible statements ≡ true → list_all is_plain statements ≡ true → list_all (is_listed p) (site_numbers_all statements) ≡ true →
       NamesOk p linked low names t → Lies p t → Seen p visible names → BlockMade visible names t statements (expand_list p calls r statements names t)

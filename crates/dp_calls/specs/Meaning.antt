@@ -16,6 +16,10 @@ outcome_of_run q run = record {
   end = run.end;
 }
 
--- The program with call frames and the expanded one do the same, for every input and fuel.
+-- For every input and fuel q has the prints, the steps, the end and the file-scope values of p with call frames.
+abbrev pub DoesTheSame : Program → Program → Type 0
+DoesTheSame p q = (input : List ℤ) (fuel : ℕ) → outcome p input fuel ≡ outcome_of_run q (run_of q input fuel (begin q))
+
+-- The program with call frames and the expanded one do the same.
 abbrev pub SameMeaning : Program → Type 0
-SameMeaning p = (input : List ℤ) (fuel : ℕ) → outcome p input fuel ≡ outcome_of_run (expand p) (run_of (expand p) input fuel (begin (expand p)))
+SameMeaning p = DoesTheSame p (expand p)

@@ -7,7 +7,7 @@ use Rattle.dp_calls.specs.Expand.{expand}
 use Rattle.dp_calls.proofs.SameMeanings.{same_meaning}
 use Rattle.dp_inline.specs.declared.fail.InlineFail.{InlineFail}
 use Rattle.dp_inline.specs.InlineAnswer.{Gives, unless, too_large, first_large_region, inline_answer}
-use Rattle.dp_inline.specs.Same.{DoesTheSame}
+use Rattle.dp_calls.specs.Meaning.{DoesTheSame}
 use Rattle.dp_inline.proofs.FewSites.{given_is_inlined}
 
 -- what is given is the expansion

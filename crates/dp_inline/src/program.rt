@@ -6,7 +6,7 @@ ghost use Rattle.dp_calls.specs.Tables.{first_tables};
 ghost use Rattle.dp_tree.specs.Checked.{IsChecked};
 ghost use Rattle.dp_tree.specs.Inlined.{IsInlined};
 ghost use Rattle.dp_inline.specs.InlineAnswer.{Gives, inline_answer};
-ghost use Rattle.dp_inline.specs.Same.{DoesTheSame};
+ghost use Rattle.dp_calls.specs.Meaning.{DoesTheSame};
 ghost use Rattle.dp_inline.specs.steps.Written.{written};
 
 use crate::InlineFail;

@@ -1,5 +1,5 @@
 -- Each entry of the table leads to what follows its statement.
-use Rattle.dp_meaning.proofs.Names.{and_make, and_true, ◌≡◌, refl, sym, ap, ◌∙◌, subst, ℕ, Bool, true, false, if◌then◌else◌, List, [], ◌∷◌, ◌++◌, ℤ, Option, Some, None, ◌==◌, ◌⊎◌, inl, inr, slice_get, zero, suc, list_any, is_zero, Stmt, out-Stmt, Row_of-Stmt, end_of-Stmt, more_of-Stmt, items-the_row-Stmt, items_shown-the_row-Stmt-0, outs-Assign, outs-Store, outs-Print, outs-If', outs-While', outs-Region', outs-Break, Program, Stmt-F, choose, followed, behind_region, behind_one, region_number, is_plain, is_plain_in, is_inner, is_inner_in, inner_all, inner_left, top_fits, next_region, regions_in_order, has_call, has_call_in, Leaves, listed, entry, rests, NodeAt, node, table, first_of, first_region}
+use Rattle.dp_meaning.proofs.Names.{and_make, and_true, ◌≡◌, refl, sym, ap, ◌∙◌, subst, ℕ, Bool, true, false, if◌then◌else◌, List, [], ◌∷◌, ◌++◌, ℤ, Option, Some, None, ◌==◌, ◌⊎◌, inl, inr, slice_get, zero, suc, list_any, is_zero, Stmt, out-Stmt, Row_of-Stmt, end_of-Stmt, more_of-Stmt, outs-Assign, outs-Store, outs-Print, outs-If', outs-While', outs-Region', outs-Break, Program, Stmt-F, choose, followed, behind_region, behind_one, region_number, is_plain, is_plain_in, is_inner, is_inner_in, inner_all, inner_left, top_fits, next_region, regions_in_order, has_call, has_call_in, Leaves, listed, entry, rests, NodeAt, node, table, first_of, first_region}
 use Rattle.std.proofs.lemmas.Bool.{or_parts}
 use Rattle.dp_tree.specs.declared.Stmt.TheOpen as layer
 unfoldable use Rattle.dp_meaning.proofs.Names.{rests_of, rests_in, table_of, table_in}

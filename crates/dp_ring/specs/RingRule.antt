@@ -4,7 +4,7 @@ use mathlib.Core.Option.{some, none}
 use lib.ListN.{get_elem?}
 use Rattle.atomic_table.specs.Table.{State}
 use Rattle.dp_ring.specs.declared.view.View.{View}
-use Rattle.dp_ring.specs.declared.view.Phase.TheVariants.{Putting, Taking, Giving, Collecting, Spent}
+use Rattle.dp_ring.specs.declared.view.Phase.TheVariants.{Putting, Taking, Giving, Collecting}
 use Rattle.dp_ring.specs.Views.{Side, base, place, awaited_word, awaited_number}
 use Rattle.dp_ring.specs.Turns.{IsHeldBy, InTurn, item_of}
 
@@ -43,8 +43,8 @@ module _ {T Key : Type 0} (is_put is_given : Key → ℕ → T → Type 0) (key 
     -- what was found stands, the slot is lent, and no other seat has it
     pub found : (j : ℕ) (v : View Key) → IsSeat j v → v.found ≡ true → (slice_index_or s.words (awaited_word n v) 0 ≡ awaited_number n v) × (get_elem? s.homes (place n v) ≡ some none)
     pub found_alone : (i j : ℕ) (u v : View Key) → IsSeat i u → IsSeat j v → u.found ≡ true → v.found ≡ true → place n u ≡ place n v → i ≡ j
-    -- each seat that isn't joined into another knows the ring's key
-    pub keyed : (j : ℕ) (v : View Key) → IsSeat j v → (v.phase ≡ Spent) ⊎ (v.key ≡ Some key)
+    -- each seat knows the ring's key
+    pub keyed : (j : ℕ) (v : View Key) → IsSeat j v → v.key ≡ Some key
     -- a slot at home is full exactly where its word is odd
     pub at_home : (d : Side) (k : ℕ) (y : Option T) → k < n → get_elem? s.homes (base n d + k) ≡ some (some y)
         → (r : ℕ) × (((slice_index_or s.words (base n d + k + 1) 0 ≡ 2 * r) × (y ≡ None)) ⊎ ((slice_index_or s.words (base n d + k + 1) 0 ≡ 2 * r + 1) × ((x : T) × (y ≡ Some x) × item_of is_put is_given key d (r * n + k) x)))
