@@ -1,8 +1,9 @@
 #!/usr/bin/env python3
-"""Changes each definition of a crate once, in a copy, where a change is found that keeps its type, and says which lemma, row
-or other definition of the crate notices. Ends with 1 where none does; a function's clause may then, or a crate above.
+"""Changes each definition of a crate once, or several times on different lines, in a copy, where a change is found that keeps
+its type, and says which lemma, row or other definition of the crate notices. Ends with 1 where none does; a function's clause
+may then, or a crate above.
 
-  checks/changed_definitions.py CRATE [NAMES..]     all definitions where none is named
+  checks/changed_definitions.py CRATE [COUNT] [NAMES..]     all definitions where none is named; one change where no COUNT is
 
 Takes one minute to half an hour, and longer where the crates below have no libraries, which `rt ci --anew` leaves in
 crates/*/out.
@@ -199,6 +200,7 @@ def groups(items, seen):
 
 def main():
     crate, names = sys.argv[1], sys.argv[2:]
+    rounds = int(names.pop(0)) if names and names[0].isdigit() else 1
     with tempfile.TemporaryDirectory() as folder:
         copy = Copy(crate, Path(folder))
         if copy.errors("reads_lemmas", copy.kept):
@@ -210,19 +212,31 @@ def main():
                 items += [Changed(x, scope) for x in antt(path).all if not names or x.name in names]
         keep_typed_beside(copy, items)
         keep_typed(copy, items)
-        seen = Seen(crate, items)
-        changed = [item for item in items if item.left]
-        found = {}
-        for group in groups([item for item in changed if seen.by[item]], seen):
-            found |= noticed(copy, items, seen, group)
-            for item in group:
-                if item not in found and len(group) > 1:
-                    found |= noticed(copy, items, seen, [item])
+        bare = [item for item in items if not item.left]
         for item in items:
-            change = item.left[0][0] if item.left else "none that keeps its type"
-            print(f"{item.path}: {item.definition.name}: {change}: {found.get(item, 'noticed by no lemma' if item.left else '-')}")
-    print(f"{crate}: {len(items)} definitions, {len(changed)} changed, {len(found)} noticed by a lemma or a row")
-    sys.exit(len(found) < len(changed))
+            if not item.can_stand_beside():
+                item.left = item.left[:1]
+        seen = Seen(crate, items)
+        tried = unnoticed = 0
+        for _ in range(rounds):
+            for group in groups([item for item in items if item.left and seen.by[item]], seen):
+                found = noticed(copy, items, seen, group)
+                for item in group:
+                    if item not in found and len(group) > 1:
+                        found |= noticed(copy, items, seen, [item])
+                    print(f"{item.path}: {item.definition.name}: {item.left[0][0]}: {found.get(item, 'noticed by no lemma')}", flush=True)
+                tried += len(group)
+                unnoticed += sum(item not in found for item in group)
+            for item in items:
+                if item.left and not seen.by[item]:
+                    print(f"{item.path}: {item.definition.name}: seen by no lemma", flush=True)
+                    unnoticed += 1
+                elsewhere = [change for change in item.left if set(change[1]) != set(item.left[0][1])]
+                item.left = elsewhere if seen.by[item] else []
+    for item in bare:
+        print(f"{item.path}: {item.definition.name}: none that keeps its type")
+    print(f"{crate}: {len(items)} definitions, {tried} changes, {unnoticed} noticed by no lemma or row")
+    sys.exit(unnoticed > 0)
 
 
 if __name__ == "__main__":

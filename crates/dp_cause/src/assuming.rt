@@ -72,4 +72,3 @@ pub fn is_load(word: Word, site: SiteId) -> bool
 {
     word.site.0 == site.0 && word.kind == WordKind::Load
 }
-

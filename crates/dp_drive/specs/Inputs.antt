@@ -8,7 +8,7 @@ use Rattle.dp_edge.specs.Input.{numbers_of}
 use Rattle.dp_drive.specs.declared.refusal.Refusal.{Refusal}
 use Rattle.dp_drive.specs.declared.refusal.Refusal.TheVariants.{Words, InputWord, Limit}
 
--- the refusal of an input's text
+-- the refusal of an input's text; want of memory is no refusal, and no run shows what stands for it here
 abbrev pub refusal_of : InputFail → Refusal
 refusal_of (TooMany count) = Limit InputWords count
 refusal_of (Refused word) = InputWord word

@@ -18,7 +18,8 @@ use Rattle.dp_drive.specs.declared.refusal.Offence.TheVariants as offence
 use Rattle.dp_drive.specs.declared.refusal.Refusal.{Refusal}
 use Rattle.dp_drive.specs.declared.refusal.Refusal.TheVariants.{Byte, Syntax, Name, Limit}
 
--- the refusal of a tree whose names offend, or that has too many functions or cells
+-- the refusal of a tree whose names offend, or that has too many functions or cells; want of memory is none, and no run shows
+-- what stands for it here
 abbrev pub refusal_of : CheckFail → Refusal
 refusal_of (check.Unknown line) = Name offence.Unknown line
 refusal_of (check.Twice line) = Name offence.Twice line
@@ -29,7 +30,7 @@ refusal_of (check.ReadOnly line) = Name offence.ReadOnly line
 refusal_of (check.Limit quantity count) = Limit quantity count
 refusal_of check.NoMemory = Syntax 0
 
--- the refusal of a program that is too large with its calls expanded
+-- the refusal of a program that is too large with its calls expanded; of memory, as above
 abbrev pub size_refusal : InlineFail → Refusal
 size_refusal (inline.Limit quantity count) = Limit quantity count
 size_refusal inline.NoMemory = Syntax 0

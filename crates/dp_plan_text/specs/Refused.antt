@@ -22,7 +22,7 @@ pub data IsRefused (p : Program) (bytes : List ℕ) : ℕ → Type 0 where
   at_end : (line : ℕ) → line ≡ length (lines_of bytes) + 1 → ((k : ℕ) → k < line → Begins p (take k (lines_of bytes)))
       → ((proved : Bool) (plans : List WrittenPlan) → ¬ PlanText p bytes proved plans) → IsRefused p bytes line
 
--- the text is in the grammar, and its plans break this rule first
+-- the text is in the grammar, and its plans break this rule first, or none
 abbrev pub IsBroken : Program → List ℕ → Option BrokenRule → Type 0
 IsBroken p bytes fault = (proved : Bool) × (plans : List WrittenPlan) × PlanText p bytes proved plans × (first_fault p plans ≡ fault)
 

@@ -200,31 +200,31 @@ module _ (p : Program) (plan : Plan) (s : Stmt) (only : region_in p plan.region 
         ∙ ap (λ (b : Bool). passed (storing_at p plan us body w) || b) (any_is ys qs ws (suc n) (λ m d e. ap (slice_get us) (sym (more m)) ∙ f (suc m) d e) (λ m b e. ap (slice_get xs) (sym (more m)) ∙ g (suc m) b e) h.1)
         ∙ any_storing (stores_otherwise p plan u x) (storing_at p plan us body w) (filter_map (storing_at p plan us body) ws)
 
-    seen_is : may_differ p plan (stage_of p plan u.site) u.site x.0 ≡ list_any (stores_otherwise p plan u x) (storings p plan us body us)
+    seen_is : may_differ p plan (stage_of p plan u.site) u.site x.0 ≡ list_any (stores_otherwise p plan u x) (storings p plan us body)
     seen_is =
         either_any (λ (d : Access). is_stored_after p plan (stage_of p plan u.site) x.0 d && not (is_apart p plan u.site d.site)) (λ (d : Access). is_stored_beside p plan (stage_of p plan u.site) x.0 d && not (is_apart_between p plan u.site d.site)) (region_accesses p plan)
         ∙ ap (list_any test) accesses_here
         ∙ any_is xs ts us 0 (λ m d e. let n : 0 + m ≡ m = omega arith in ap (slice_get us) n ∙ e) (λ m a e. let n : 0 + m ≡ m = omega arith in ap (slice_get xs) n ∙ e) lined
 
-  loads_any : (j : ℕ) (u : Part) → slice_get (parts None s) j ≡ Some u → (reads : List Touch) → list_any (λ (t : Touch). may_differ p plan (stage_of p plan u.site) u.site t.variable) reads ≡ list_any (sees_otherwise p plan (storings p plan us body us) u) (map touched reads)
+  loads_any : (j : ℕ) (u : Part) → slice_get (parts None s) j ≡ Some u → (reads : List Touch) → list_any (λ (t : Touch). may_differ p plan (stage_of p plan u.site) u.site t.variable) reads ≡ list_any (sees_otherwise p plan (storings p plan us body) u) (map touched reads)
   loads_any j u at [] = refl
   loads_any j u at (t ∷ rest) =
       ap (λ (b : Bool). b || list_any (λ (q : Touch). may_differ p plan (stage_of p plan u.site) u.site q.variable) rest) (seen_is j u at (record { 0 = t.variable }))
-      ∙ ap (λ (b : Bool). sees_otherwise p plan (storings p plan us body us) u (touched t) || b) (loads_any j u at rest)
+      ∙ ap (λ (b : Bool). sees_otherwise p plan (storings p plan us body) u (touched t) || b) (loads_any j u at rest)
 
-  part_is : (j : ℕ) (u : Part) (at : slice_get (parts None s) j ≡ Some u) → list_any (may_differ p plan (stage_of p plan u.site) u.site) (here j u at).a.loads ≡ part_checked p plan (storings p plan us body us) u
+  part_is : (j : ℕ) (u : Part) (at : slice_get (parts None s) j ≡ Some u) → list_any (may_differ p plan (stage_of p plan u.site) u.site) (here j u at).a.loads ≡ part_checked p plan (storings p plan us body) u
   part_is j u at =
       (here j u at).same.loads (may_differ p plan (stage_of p plan u.site) u.site) ∙ loads_any j u at (here j u at).t.reads
-      ∙ ap (list_any (sees_otherwise p plan (storings p plan us body us) u)) (sym (ap (λ (q : Part). q.loads) (here j u at).same.part_is))
+      ∙ ap (list_any (sees_otherwise p plan (storings p plan us body) u)) (sym (ap (λ (q : Part). q.loads) (here j u at).same.part_is))
 
   -- The code's answer at a place is the definition's for the site there.
-  pub checked_is : (j : ℕ) → is_checked p plan (k + j) ≡ checked_or p plan (storings p plan us body us) (slice_get (parts None s) j)
+  pub checked_is : (j : ℕ) → is_checked p plan (k + j) ≡ checked_or p plan (storings p plan us body) (slice_get (parts None s) j)
   checked_is j =
       ap (list_any (is_checked_access p plan (k + j))) accesses_here
       ∙ any_at (λ (a : Access). a.site) (λ (a : Access). list_any (may_differ p plan (stage_of p plan (k + j)) (k + j)) a.loads) k xs rises_x j
       ∙ by (slice_get (parts None s) j) refl
     where
-      by : (o : Option Part) → slice_get (parts None s) j ≡ o → picked (λ (a : Access). a.site) (λ (a : Access). list_any (may_differ p plan (stage_of p plan (k + j)) (k + j)) a.loads) (slice_get (accesses s) j) ≡ checked_or p plan (storings p plan us body us) o
+      by : (o : Option Part) → slice_get (parts None s) j ≡ o → picked (λ (a : Access). a.site) (λ (a : Access). list_any (may_differ p plan (stage_of p plan (k + j)) (k + j)) a.loads) (slice_get (accesses s) j) ≡ checked_or p plan (storings p plan us body) o
       by None e = ap (picked (λ (a : Access). a.site) (λ (a : Access). list_any (may_differ p plan (stage_of p plan (k + j)) (k + j)) a.loads)) (no_seat xs ts us lined j e)
       by (Some u) e =
           ap (picked (λ (a : Access). a.site) (λ (a : Access). list_any (may_differ p plan (stage_of p plan (k + j)) (k + j)) a.loads)) (here j u e).access

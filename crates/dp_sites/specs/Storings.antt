@@ -66,8 +66,8 @@ abbrev pub storing_at : Program → Plan → List Part → List Stmt → Part �
 storing_at p plan all body u = storing_of p plan all body u.site u.stores
 
 -- the sites that store
-abbrev pub storings : Program → Plan → List Part → List Stmt → List Part → List Storing
-storings p plan all body some = filter_map (storing_at p plan all body) some
+abbrev pub storings : Program → Plan → List Part → List Stmt → List Storing
+storings p plan all body = filter_map (storing_at p plan all body) all
 
 abbrev pub place_passes : Gap → ℕ → Moving → Option Place → Bool
 place_passes test site m None = false
@@ -128,4 +128,4 @@ body_at s = body_of (out-Stmt s)
 
 -- what the code answers at a place
 abbrev pub answer_at : Program → Plan → List Part → List Stmt → ℕ → Bool
-answer_at p plan all body place = checked_or p plan (storings p plan all body all) (slice_get all place)
+answer_at p plan all body place = checked_or p plan (storings p plan all body) (slice_get all place)

@@ -166,7 +166,7 @@ pub fn storings(
     all: &[Part],
     body: &[Stmt],
 ) -> Result<Row<Storing>, NoMemory>
-    ensures { IfOk result (λ found. found ≡ spec.storings p.now plan.now all.now body.now all.now) }
+    ensures { IfOk result (λ found. found ≡ spec.storings p.now plan.now all.now body.now) }
 {
     let mut found = Row::new(alloc);
     for part in all {

@@ -1,5 +1,5 @@
 -- The statements inside a statement, as a list.
-use Rattle.std.proofs.Common.{◌≡◌, refl, ap, ◌∙◌, List, [], ◌∷◌}
+use Rattle.std.proofs.Common.{◌≡◌, refl, ap, ◌∙◌, List, ◌∷◌}
 use Rattle.dp_tree.specs.declared.Stmt.{Stmt, Row_of-Stmt, end_of-Stmt, more_of-Stmt, items-the_row-Stmt, items_shown-the_row-Stmt-0}
 use Rattle.dp_tree.specs.Statements.{listed}
 use Rattle.dp_tree.specs.declared.Stmt.TheBlock.{shown-the_row-Stmt-0}

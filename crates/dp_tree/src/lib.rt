@@ -3,6 +3,7 @@
 //! `specs/` has the meaning, in the order in which `specs/Lib.antt` lists its files: evaluation, steps, traces and the
 //! iterations of a region.
 #![tactic(auto)]
+
 ghost use Rattle.std.specs.Prelude.{◌≡◌};
 ghost use Rattle.dp_tree.specs.Step.{is_local_of};
 

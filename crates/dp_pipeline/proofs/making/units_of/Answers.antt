@@ -1,7 +1,7 @@
-use Rattle.std.proofs.Common.{rules, ◌≡◌, ◌+◌, ◌<◌, ◌≤◌, ℕ, suc, true, false, [], ◌∷◌, length, length-append, sym, ap, ◌∙◌, subst, arith}
+use Rattle.std.proofs.Common.{rules, ◌≡◌, ◌+◌, ◌≤◌, ℕ, suc, true, false, [], ◌∷◌, length, length-append, sym, ap, ◌∙◌, subst, arith}
 use Rattle.dp_plan.specs.Access.{is_replicated}
 use Rattle.dp_pipeline.specs.declared.keys.LaneKey.{LaneKey}
-use Rattle.dp_pipeline.proofs.UnitCounts.{Staffed, all_staffed, first_sequential, stage_more, workers_more, behind_replicated}
+use Rattle.dp_pipeline.proofs.UnitCounts.{Staffed, all_staffed, stage_more, workers_more, behind_replicated}
 use Rattle.dp_pipeline.proofs.making.units_of.Goals as goal
 use Rattle.dp_pipeline.proofs.making.units_of.Goals.{then-next_is_replicated+in_ok-source, else-next_is_replicated+in_ok-source-2}
 

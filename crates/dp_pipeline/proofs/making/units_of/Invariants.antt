@@ -1,4 +1,4 @@
-use Rattle.std.proofs.Common.{◌+◌, ◌-◌, ◌≡◌, ◌<◌, ◌≤◌, length, ℕ, false}
+use Rattle.std.proofs.Common.{◌+◌, ◌-◌, ◌≡◌, ◌<◌, ◌≤◌, length, false}
 use Rattle.dp_pipeline.specs.Keys.{key_of}
 use Rattle.dp_plan.specs.Access.{is_replicated}
 use Rattle.dp_pipeline.specs.Standing.{Gives, source_facts}

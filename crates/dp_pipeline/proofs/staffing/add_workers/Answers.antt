@@ -1,4 +1,4 @@
-use Rattle.std.proofs.Common.{◌≡◌, List, [], ◌∷◌, length, length-append, ◌∙◌, ap, subst, arith}
+use Rattle.std.proofs.Common.{List, [], ◌∷◌, length, length-append, ◌∙◌, ap, subst, arith}
 use Rattle.dp_plan.specs.Each.{Each}
 use Rattle.dp_ring.specs.declared.view.Standing.{Standing}
 use Rattle.dp_pipeline.specs.declared.keys.LaneKey.{LaneKey}

@@ -1,4 +1,4 @@
-use Rattle.std.proofs.Common.{◌≡◌, ℕ, ◌+◌, length}
+use Rattle.std.proofs.Common.{◌≡◌, ◌+◌, length}
 use Rattle.dp_plan.specs.Each.{Each}
 use Rattle.dp_pipeline.specs.Seats.{IsUnused}
 use Rattle.dp_pipeline.proofs.staffing.add_workers.Given as goal

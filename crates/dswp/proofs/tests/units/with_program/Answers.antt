@@ -1,4 +1,4 @@
-use Rattle.std.proofs.Common.{◌≡◌, ◌∙◌, sym, ap, List, slice_get, Ok}
+use Rattle.std.proofs.Common.{◌∙◌, sym, ap, List, slice_get, Ok}
 use Rattle.dp_plan.specs.declared.Plan.{Plan}
 use Rattle.dp_plan.specs.GivenPlans.{IsPlan, ArePlans}
 use Rattle.dp_plan.proofs.EachLemmas.{each_at}
