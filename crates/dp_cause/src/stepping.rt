@@ -5,7 +5,6 @@ ghost use Rattle.dp_tree.specs.Step.{Effect, evaluated, decided, tried};
 ghost use Rattle.dp_tree.specs.declared.Stmt.TheOpen as head;
 ghost use Rattle.dp_code.specs.Alone.{EvaluatesTo};
 ghost use Rattle.dp_code.specs.Order.{in_order};
-ghost use Rattle.dp_cause.specs.declared.watched.Form.TheVariants as form;
 ghost use Rattle.dp_cause.specs.declared.watched.Step.TheVariants as step;
 ghost use Rattle.dp_cause.specs.Watching.{HasForm, Steps, IsGround};
 

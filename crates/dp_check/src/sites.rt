@@ -2,7 +2,6 @@
 
 ghost use Rattle.std.specs.Prelude.{◌≡◌, ◌-◌, ◌∷◌, ◌++◌, [], OnOk};
 ghost use Rattle.std.specs.List.{flat_map};
-ghost use Rattle.dp_tree.specs.declared.raw.RawStmt.{out-RawStmt};
 ghost use Rattle.dp_tree.specs.declared.SiteKind.TheVariants as kind;
 ghost use Rattle.dp_check.specs.Place.{Site, parts, parts_all};
 ghost use Rattle.dp_check.specs.Tables as spec;

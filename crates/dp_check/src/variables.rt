@@ -1,6 +1,6 @@
 //! The table of a program's variables.
 
-ghost use Rattle.std.specs.Prelude.{◌≡◌, ◌≤◌, ◌^◌, ◌∷◌, [], pos, map, IfOk, OnErr, OnOk};
+ghost use Rattle.std.specs.Prelude.{◌≡◌, ◌≤◌, ◌^◌, ◌∷◌, [], map, IfOk, OnErr, OnOk};
 ghost use Rattle.std.specs.List.{flat_map};
 ghost use Rattle.dp_tree.specs.declared.VarScope.TheVariants.{Outer};
 ghost use Rattle.dp_check.specs.Place.{Local, parts, parts_all};

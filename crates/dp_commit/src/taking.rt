@@ -1,6 +1,6 @@
 //! The word of what a site did.
-ghost use Rattle.std.specs.Prelude.{◌≡◌, ◌∷◌, ◌+◌, ◌-◌, ◌<◌, ℕ, true, false, drop, get_or, length, slice_set, OnSome, Some};
-ghost use Rattle.dp_plan.specs.Access.{first_site, stage_of};
+ghost use Rattle.std.specs.Prelude.{◌≡◌, ◌∷◌, ◌+◌, ◌-◌, ◌<◌, true, false, drop, get_or, length, slice_set, OnSome, Some};
+ghost use Rattle.dp_plan.specs.Access.{stage_of};
 ghost use Rattle.dp_semantics.specs.Words.{is_done_of};
 ghost use Rattle.dp_commit.specs.steps.Held.{IsAt, state_at};
 ghost use Rattle.dp_commit.specs.Judging.{DoneAt, Finds, StandsBehind};

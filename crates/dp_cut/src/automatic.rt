@@ -6,11 +6,11 @@ ghost use Rattle.dp_plan.specs.GivenPlans.{ArePlans};
 ghost use Rattle.dp_units.specs.Graph.{AreWithin};
 ghost use Rattle.dp_cut.specs.Automatic as spec;
 
-use crate::plan::{cut, first_of};
+use crate::plan::cut;
 use crate::site_weights::{is_light, weights_of};
 use dp_base::{NoMemory, Row};
 use dp_depend::{Edge, Graph, nodes_of};
-use dp_plan::Plan;
+use dp_plan::{Plan, first_of};
 use dp_profile::Profile;
 use dp_tree::Program;
 use dp_units::units;

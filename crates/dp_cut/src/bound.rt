@@ -1,5 +1,5 @@
 //! The least bottleneck.
-ghost use Rattle.std.specs.Prelude.{◌≡◌, ◌<◌, ◌≤◌, ◌^◌, ℕ, List, true, length, sum, IfOk};
+ghost use Rattle.std.specs.Prelude.{◌≡◌, ◌<◌, ◌^◌, ℕ, List, true, sum, IfOk};
 ghost use Rattle.dp_cut.specs.steps.Fits.{Fits};
 ghost use Rattle.dp_cut.specs.steps.Best.{AreCosts, AreLimits};
 

@@ -1,5 +1,5 @@
 //! The least places of the cuts.
-ghost use Rattle.std.specs.Prelude.{◌≡◌, ◌<◌, ◌≤◌, ◌+◌, ◌^◌, ℕ, List, Bool, true, false, length, sum, All, IfOk, IfSome, IfNone, if◌then◌else◌, slice_index};
+ghost use Rattle.std.specs.Prelude.{◌≡◌, ◌<◌, ◌≤◌, ◌+◌, ◌^◌, ℕ, List, Bool, true, false, length, sum, IfOk, IfSome, IfNone, if◌then◌else◌, slice_index};
 ghost use Rattle.dp_cut.specs.LeastCut.{IsLeastCut};
 ghost use Rattle.dp_cut.specs.Allowed.{weight_between};
 ghost use Rattle.dp_cut.specs.steps.Fits.{Fits, TellsNeed};

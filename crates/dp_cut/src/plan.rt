@@ -1,8 +1,5 @@
 //! The least cut as a plan.
 ghost use Rattle.std.specs.Prelude.{◌≡◌, ◌<◌, ◌^◌, length, map, filter, sum, IfOk};
-ghost use Rattle.dp_plan.specs.Written as written;
-ghost use Rattle.dp_plan.specs.CheckedTable.{with_table};
-ghost use Rattle.dp_depend.specs.Node.{region_nodes};
 ghost use Rattle.dp_depend.specs.Edges.{first_of};
 ghost use Rattle.dp_cut.specs.LeastPlan as spec;
 
@@ -12,22 +9,11 @@ use crate::sums::{at_site, carried_pairs, unit_weights};
 use dp_base::limits::MOST_WORDS;
 use dp_base::{NoMemory, Row};
 use dp_depend::{Graph, Node, nodes_of};
-use dp_plan::{Plan, StageKind};
+use dp_plan::{Plan, StageKind, first_of};
 use dp_sites::tabled;
 use dp_tree::{Assume, Program};
 use dp_units::Units;
 use std::alloc::Global;
-
-/// The number of the region's first site.
-pub fn first_of(p: &Program, region: u32) -> u32
-    ensures { result ≡ first_of p.now region }
-{
-    let place = (region as usize).saturating_sub(1);
-    match p.regions.get(place) {
-        Some(info) => info.first.0,
-        None => 0,
-    }
-}
 
 fn kind_of(stretch: Stretch) -> StageKind
     ensures { result ≡ spec.kind_of stretch }
@@ -78,23 +64,11 @@ fn stages_of(alloc: Global, cut: &[Stretch], places: &[u32]) -> Result<Row<u32>,
     Ok(stages)
 }
 
-/// Whether the number is among these.
-fn has(numbers: &[u32], number: u32) -> bool
-    ensures { result ≡ written.has number numbers.now }
-{
-    for other in numbers {
-        if *other == number {
-            return true;
-        }
-    }
-    false
-}
-
 /// The node stands inside the statement of this condition, and is in an earlier stage.
 fn comes_late(stages: &[u32], first: u32, site: u32, node: &Node) -> bool
     ensures { result ≡ spec.comes_late stages.now first site node.now }
 {
-    has(node.around.as_slice(), site)
+    node.around.as_slice().contains(&site)
         && at_site(stages, first, node.site.0) < at_site(stages, first, site)
 }
 

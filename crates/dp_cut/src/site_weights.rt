@@ -1,5 +1,5 @@
 //! The weights of a region's sites.
-ghost use Rattle.std.specs.Prelude.{◌≡◌, ◌<◌, ◌≤◌, ◌+◌, ◌^◌, IfOk, map, sum, true, false, Some};
+ghost use Rattle.std.specs.Prelude.{◌≡◌, ◌<◌, ◌≤◌, ◌^◌, IfOk, map, sum, true, false, Some};
 ghost use Rattle.std.specs.Option.{option_copied};
 ghost use Rattle.dp_depend.specs.Shown as shown;
 ghost use Rattle.dp_cut.specs.Automatic as spec;

@@ -1,5 +1,5 @@
 //! The units of a graph with their weights, and the pairs of them that carried edges join.
-ghost use Rattle.std.specs.Prelude.{◌≡◌, ◌≤◌, ◌<◌, ◌==◌, if◌then◌else◌, ◌^◌, ◌++◌, length, sum, IfOk, OnOk};
+ghost use Rattle.std.specs.Prelude.{◌≡◌, ◌<◌, ◌==◌, if◌then◌else◌, ◌^◌, ◌++◌, length, sum, IfOk, OnOk};
 ghost use Rattle.dp_cut.specs.LeastPlan as spec;
 
 use dp_base::{NoMemory, Row};

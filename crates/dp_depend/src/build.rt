@@ -1,8 +1,7 @@
 //! The graph of a region.
-ghost use Rattle.std.specs.Prelude.{◌≡◌, ◌-◌, IfOk, slice_get};
+ghost use Rattle.std.specs.Prelude.{◌≡◌, ◌-◌, IfOk};
 ghost use Rattle.std.specs.Option.{option_copied};
-ghost use Rattle.dp_plan.specs.Stage as stages;
-ghost use Rattle.dp_depend.specs.Edges.{edges_of, chosen_of, first_of, edges_among};
+ghost use Rattle.dp_depend.specs.Edges.{edges_of, chosen_of, edges_among};
 ghost use Rattle.dp_depend.specs.Shown as counted;
 ghost use Rattle.dp_depend.specs.Node.{region_nodes};
 
@@ -12,21 +11,11 @@ use crate::edges::Basis;
 use crate::kept::{Shown, region_profile};
 use crate::nodes::nodes_of;
 use dp_base::NoMemory;
+use dp_plan::first_of;
 use dp_profile::{Profile, RegionProfile};
 use dp_sites::Apart;
 use dp_tree::Program;
 use std::alloc::Global;
-
-/// The number of the region's first site.
-fn first_of(p: &Program, region: u32) -> u32
-    ensures { result ≡ first_of p.now region }
-{
-    let place = (region as usize).saturating_sub(1);
-    match p.regions.get(place) {
-        Some(info) => info.first.0,
-        None => 0,
-    }
-}
 
 /// What was counted of the region.
 fn shown_of<'a>(found: Option<&'a RegionProfile>, first: u32, rate: u32) -> Shown<'a>

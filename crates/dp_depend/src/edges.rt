@@ -3,7 +3,6 @@ ghost use Rattle.std.specs.Prelude.{◌≡◌, ◌++◌, IfOk, OnOk, Option, Som
 ghost use Rattle.dp_plan.specs.Stage as stages;
 ghost use Rattle.dp_sites.specs.Apart.{TellsApart};
 ghost use Rattle.dp_plan.specs.IsFar.{is_far, is_far_within};
-ghost use Rattle.dp_plan.specs.Written as written;
 ghost use Rattle.dp_plan.specs.Written.{has, region_sites};
 ghost use Rattle.dp_depend.specs.Edges as spec;
 ghost use Rattle.dp_depend.specs.steps.Frequent.{AreFrequent};
@@ -29,23 +28,11 @@ pub struct Basis<'a> {
     pub apart: &'a Apart,
 }
 
-/// Whether the number is among these.
-fn has(numbers: &[u32], number: u32) -> bool
-    ensures { result ≡ written.has number numbers.now }
-{
-    for other in numbers {
-        if *other == number {
-            return true;
-        }
-    }
-    false
-}
-
 fn has_flow(d: &Node, u: &Node) -> bool
     ensures { result ≡ spec.has_flow d.now u.now }
 {
     match d.stores {
-        Some(variable) => has(u.loads.as_slice(), variable),
+        Some(variable) => u.loads.as_slice().contains(&variable),
         None => false,
     }
 }
@@ -87,7 +74,7 @@ fn is_local_variable(p: &Program, region: u32, variable: Option<u32>) -> bool
 fn is_control(assumed: bool, d: &Node, u: &Node) -> bool
     ensures { result ≡ spec.is_control assumed d.now u.now }
 {
-    !assumed && has(u.around.as_slice(), d.site.0)
+    !assumed && u.around.as_slice().contains(&d.site.0)
 }
 
 /// Appends the edge where the test holds.

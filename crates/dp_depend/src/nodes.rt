@@ -1,6 +1,5 @@
 //! The sites of a region, each with what it loads and stores and what stands around it.
 ghost use Rattle.std.specs.Prelude.{◌≡◌, ◌++◌, ◌∷◌, [], OnOk, IfOk, Option, Some, None};
-ghost use Rattle.std.specs.Option.{option_copied};
 ghost use Rattle.dp_depend.specs.Node as spec;
 ghost use Rattle.dp_depend.specs.Lists as lists;
 

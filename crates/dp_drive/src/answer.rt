@@ -1,5 +1,5 @@
 //! The whole program: from its words to what is written and the exit status.
-ghost use Rattle.std.specs.Prelude.{◌≡◌, ◌<◌, ◌≤◌, ◌-◌, ◌^◌, ℕ, List, map, string_bytes, IfOk};
+ghost use Rattle.std.specs.Prelude.{◌≡◌, ◌<◌, ◌-◌, ◌^◌, ℕ, List, map, string_bytes, IfOk};
 ghost use Rattle.dp_report.specs.SiteText.{site_bytes};
 ghost use Rattle.dp_crew.specs.Fail.{FaultsAfter};
 ghost use Rattle.dp_words.specs.Words.{Asks, ToList, ToRun};

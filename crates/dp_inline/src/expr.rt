@@ -1,7 +1,6 @@
 //! Expressions in the names of an expanded call.
 
 ghost use Rattle.std.specs.Prelude.{◌≡◌, IfOk};
-ghost use Rattle.dp_calls.specs.Renaming.{renamed};
 ghost use Rattle.dp_inline.specs.steps.Written.{expr_in};
 
 use crate::names::Names;

@@ -1,5 +1,5 @@
 //! The rule of a lane's queue: what it holds, and what its two passes know.
-ghost use Rattle.std.specs.Prelude.{◌≡◌, ◌≤◌, List, Option, Some, None, length};
+ghost use Rattle.std.specs.Prelude.{◌≡◌, ◌≤◌, Option, None, length};
 ghost use Rattle.dp_lane.specs.Views.{after_send, sent_by, Takes};
 
 use crate::item::LaneItem;

@@ -1,6 +1,6 @@
 //! The tokens of a text, one after another.
 
-ghost use Rattle.std.specs.Prelude.{◌≡◌, ◌≤◌, [], length, drop, count_by};
+ghost use Rattle.std.specs.Prelude.{◌≡◌, ◌≤◌, [], length, drop};
 ghost use Rattle.dp_base.specs.declared.limits.TheConstants.{PROGRAM_BYTES};
 ghost use Rattle.dp_lex.specs.Characters.{line_ends};
 ghost use Rattle.dp_lex.specs.Tokens.{Reads, IsNext};

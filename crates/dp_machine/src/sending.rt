@@ -1,5 +1,5 @@
 //! What a stage sends for a packet that goes on.
-ghost use Rattle.std.specs.Prelude.{◌≡◌, ℕ, ℤ, List, None, ◌⊎◌, suc, ◌++◌, ◌∷◌, []};
+ghost use Rattle.std.specs.Prelude.{◌≡◌, ℤ, List, None, ◌⊎◌, ◌++◌, ◌∷◌, []};
 ghost use Rattle.dp_plan.specs.Access.{first_site};
 ghost use Rattle.dp_semantics.specs.StageRun.{TurnEnd};
 ghost use Rattle.dp_semantics.specs.Packets as packets;

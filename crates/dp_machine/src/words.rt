@@ -1,7 +1,7 @@
 //! The words of a site, made and found.
-ghost use Rattle.std.specs.Prelude.{◌≡◌, ◌≤◌, ◌+◌, ◌++◌, ◌∷◌, [], length, drop, slice_get, true, false};
+ghost use Rattle.std.specs.Prelude.{◌≡◌, ◌≤◌, ◌+◌, length, drop, slice_get, true, false};
 ghost use Rattle.dp_machine.specs.Engine.{tells, words_at, Added, Took};
-ghost use Rattle.dp_semantics.specs.Words.{word_list, after_loads_of};
+ghost use Rattle.dp_semantics.specs.Words.{after_loads_of};
 
 use crate::{Answer, Teller};
 use dp_base::{NoMemory, Row, SiteId, Word, WordKind};

@@ -1,5 +1,5 @@
 //! What is left of the stages' words.
-ghost use Rattle.std.specs.Prelude.{◌≡◌, ◌<◌, ◌≤◌, ◌-◌, [], drop, length, slice_set, get_or, IfOk};
+ghost use Rattle.std.specs.Prelude.{◌≡◌, ◌<◌, ◌≤◌, ◌-◌, drop, length, slice_set, IfOk};
 ghost use Rattle.dp_semantics.specs.Words.{word_list};
 
 use crate::lists::Lists;

@@ -1,5 +1,5 @@
 //! Parts of a row of words.
-ghost use Rattle.std.specs.Prelude.{◌≡◌, ◌≤◌, length, map};
+ghost use Rattle.std.specs.Prelude.{◌≡◌, length, map};
 ghost use Rattle.std.specs.List.{All};
 ghost use Rattle.dp_semantics.specs.Words.{word_list};
 ghost use Rattle.dp_packet.specs.Spans.{IsWithin, piece};

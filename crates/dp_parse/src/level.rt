@@ -1,6 +1,6 @@
 //! The levels of an expression, and the operators of each.
 
-ghost use Rattle.std.specs.Prelude.{◌≡◌, ◌≢◌, true, false};
+ghost use Rattle.std.specs.Prelude.{◌≡◌};
 ghost use Rattle.dp_parse.specs.Levels as spec;
 ghost use Rattle.dp_parse.specs.steps.Operators as operators;
 

@@ -1,5 +1,4 @@
 //! The ends of the try-commit unit.
-ghost use Rattle.std.specs.Prelude.{◌≡◌};
 
 use crate::carried::Carried;
 use crate::ends::{Ends, Refused};

@@ -1,5 +1,4 @@
 //! The ends of a stage that takes its packets in order.
-ghost use Rattle.std.specs.Prelude.{◌≡◌};
 
 use crate::carried::Carried;
 use crate::ends::{Ends, Refused};

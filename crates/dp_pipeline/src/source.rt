@@ -1,5 +1,5 @@
 //! What a unit takes from.
-ghost use Rattle.std.specs.Prelude.{◌≡◌, ◌+◌, ℕ, IfOk, OnErr};
+ghost use Rattle.std.specs.Prelude.{◌+◌, ℕ, IfOk, OnErr};
 
 use crate::carried::Carried;
 use crate::polled::IdleWhy;

@@ -10,7 +10,7 @@ mod checked;
 mod stage;
 
 pub use checked::tables_are_right;
-pub use stage::is_region;
+pub use stage::{first_of, is_region};
 
 /// Whether one unit runs a stage's iterations in order, or several take different ones.
 ///

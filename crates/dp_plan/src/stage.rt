@@ -1,6 +1,6 @@
 //! The stages of a plan: which one a site is of, and which are replicated.
 
-ghost use Rattle.std.specs.Prelude.{◌≡◌, slice_index};
+ghost use Rattle.std.specs.Prelude.{◌≡◌, ◌-◌, slice_get, slice_index};
 ghost use Rattle.dp_plan.specs.Stage as stages;
 ghost use Rattle.dp_plan.specs.Walks.{is_region_of};
 
@@ -25,6 +25,17 @@ pub fn is_region(region: u32, statement: &Stmt) -> bool
     }
 }
 
+/// The number of the region's first site, and 0 where there is no such region.
+pub fn first_of(p: &Program, region: u32) -> u32
+    ensures { result ≡ stages.first_site_of (slice_get p.now.regions (region - 1)) }
+{
+    let place = (region as usize).saturating_sub(1);
+    match p.regions.get(place) {
+        Some(info) => info.first.0,
+        None => 0,
+    }
+}
+
 impl Plan {
     /// The stage of a site, and 0 for a site before the region.
     pub fn stage(&self, p: &Program, site: SiteId) -> u32
@@ -42,11 +53,7 @@ impl Plan {
     pub fn first_site(&self, p: &Program) -> u32
         ensures { result ≡ stages.first_site p.now self.now }
     {
-        let place = (self.region as usize).saturating_sub(1);
-        match p.regions.get(place) {
-            Some(info) => info.first.0,
-            None => 0,
-        }
+        first_of(p, self.region)
     }
 
     fn stage_at(&self, place: usize) -> u32

@@ -1,6 +1,6 @@
 //! Numbers in ascending order, and the least of some numbers.
 
-ghost use Rattle.std.specs.Prelude.{◌≡◌, not, filter, IsPermutation};
+ghost use Rattle.std.specs.Prelude.{◌≡◌, filter, IsPermutation};
 ghost use Rattle.std.specs.List.Sorted.{IsNonDecreasing};
 ghost use Rattle.dp_plan.specs.Written as written;
 ghost use Rattle.dp_plan.specs.Rules as rules;

@@ -1,6 +1,6 @@
 //! The plans that a text stands for.
 
-ghost use Rattle.std.specs.Prelude.{◌≡◌, ◌≤◌, ◌^◌, IfOk, IfSome, MatchResult, map, filter_map};
+ghost use Rattle.std.specs.Prelude.{◌≡◌, ◌≤◌, ◌^◌, IfOk, MatchResult, map, filter_map};
 ghost use Rattle.dp_plan.specs.Written as written;
 ghost use Rattle.dp_plan_text.specs.Refused.{ReadsAs};
 

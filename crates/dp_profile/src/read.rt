@@ -1,6 +1,5 @@
 //! The profile that a text stands for.
 
-ghost use Rattle.std.specs.Prelude.{◌≡◌, IfOk, MatchResult};
 ghost use Rattle.dp_tree.specs.Inlined.{IsInlined};
 ghost use Rattle.dp_profile.specs.Sites.{regions};
 ghost use Rattle.dp_profile.specs.Refused.{ReadsAs};

@@ -1,6 +1,6 @@
 //! The sites of regions in text order.
 
-ghost use Rattle.std.specs.Prelude.{◌≡◌, ◌<◌, ◌∷◌, [], ◌++◌, length, OnOk, OnErr, IfOk, Bool, map, filter};
+ghost use Rattle.std.specs.Prelude.{◌≡◌, ◌<◌, ◌∷◌, [], ◌++◌, length, OnOk, OnErr, IfOk};
 ghost use Rattle.dp_tree.specs.Numbering as numbering;
 ghost use Rattle.dp_profile.specs.Sites.{region_site, regions, site_at, sites};
 

@@ -1,6 +1,6 @@
 //! Which stores of a region are known to lie apart from what its sites load.
 
-ghost use Rattle.std.specs.Prelude.{◌≡◌, ◌-◌, [], IfOk, map, slice_get};
+ghost use Rattle.std.specs.Prelude.{◌≡◌, ◌-◌, IfOk, map};
 ghost use Rattle.std.specs.Option.{option_copied};
 ghost use Rattle.dp_sites.specs.Apart as spec;
 ghost use Rattle.dp_sites.specs.Storings as stored;

@@ -1,6 +1,6 @@
 //! Where an index lies by a variable, and by how much a statement moves one.
 
-ghost use Rattle.std.specs.Prelude.{◌≡◌, ◌<◌, ◌==◌, ◌%◌, ◌&&◌, ◌-ℤ◌, ◌+ℤ◌, nat_lt};
+ghost use Rattle.std.specs.Prelude.{◌≡◌, ◌<◌, ◌==◌, ◌%◌, ◌&&◌, ◌-ℤ◌, ◌+ℤ◌};
 ghost use Rattle.dp_plan.specs.IsFar.{is_strides};
 ghost use Rattle.dp_sites.specs.Place as spec;
 ghost use Rattle.dp_plan.specs.Touch as touch;

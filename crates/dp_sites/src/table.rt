@@ -1,10 +1,9 @@
 //! The table of the sites that a plan has checked.
 
 ghost use Rattle.std.specs.Prelude.{◌≡◌, ◌≢◌, ◌∷◌, [], IfOk, OnErr, count_by, filter, length, map, slice_get, true};
-ghost use Rattle.std.specs.List.{list_all};
 ghost use Rattle.std.specs.Option.{option_copied};
 ghost use Rattle.dp_tree.specs.Numbering.{numbers_from};
-ghost use Rattle.dp_plan.specs.Access.{is_region_at, region_accesses, region_in};
+ghost use Rattle.dp_plan.specs.Access.{is_region_at, region_in};
 ghost use Rattle.dp_plan.specs.Checked.{is_checked};
 ghost use Rattle.dp_plan.specs.CheckedTable as table;
 ghost use Rattle.dp_sites.specs.Storings as spec;

@@ -1,6 +1,6 @@
 //! Names and numbers.
 
-ghost use Rattle.std.specs.Prelude.{◌≡◌, ◌≢◌, IfOk, Err};
+ghost use Rattle.std.specs.Prelude.{◌≡◌, ◌≢◌, Err};
 ghost use Rattle.dp_base.specs.Arithmetic.{is_zero};
 ghost use Rattle.dp_tokens.specs.declared.fail.PartFail.TheVariants as fail;
 ghost use Rattle.dp_tokens.specs.Steps as steps;

@@ -1,6 +1,0 @@
-use Rattle.std.proofs.Common.{◌≡◌, drop}
-use Rattle.dp_plan.specs.Written as written
-use Rattle.dp_depend.proofs.edges.has.Given as goal
-
-abbrev pub invariant-loop-other : goal.invariant-loop-other
-invariant-loop-other l = written.has l.number (drop l.other-index l.numbers) ≡ written.has l.number l.numbers
