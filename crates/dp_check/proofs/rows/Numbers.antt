@@ -18,6 +18,7 @@ use Rattle.dp_tree.proofs.Build as numbered
 use Rattle.dp_check.specs.declared.names.Meaning.TheVariants.{Scalar}
 use Rattle.dp_check.specs.Place.{IsPastNumbers}
 use Rattle.dp_check.specs.Resolved.{resolved_expr}
+use Rattle.dp_check.specs.Checked.{breaks_fit}
 use Rattle.dp_check.specs.CheckAnswer.{resolved}
 use Rattle.dp_check.proofs.rows.Build.{on, var, num, declare, set, say, names_opened}
 
@@ -109,6 +110,11 @@ inner_mark : (resolved (record { items = []; main = stmt.If 1 (num 1) (stmt.Whil
     ≡ numbered.when 1 (numbered.num 1) (numbered.loop 2 (numbered.num 2) [] ∷ []) ∷ []
 unfolding names_opened
 inner_mark = refl
+
+-- no break stands in it
+unbroken : breaks_fit raw ≡ true
+unfolding names_opened
+unbroken = refl
 
 -- the last number of 32 bits isn't past them
 last_numbers : ¬ IsPastNumbers (record { names = []; variable = 4294967295; site = 4294967295 })
