@@ -1,5 +1,5 @@
 -- What each answer of `parse` says of the text, written out.
-use Rattle.std.proofs.Common.{◌≡◌, ℕ, List, Some, None, Ok, Err}
+use Rattle.std.proofs.Common.{◌≡◌, ◌<◌, ℕ, List, length, Some, None, Ok, Err, arith}
 use Rattle.dp_base.specs.declared.Quantity.{Quantity}
 use Rattle.dp_lex.specs.Characters.{Text}
 use Rattle.dp_lex.specs.Token.{Lexeme}
@@ -22,3 +22,7 @@ module _ (text : Text) (p : RawProgram) where
 
   no_program : (token : ℕ) → Parses text (Err (Refused token)) → (tokens : List Lexeme) × Tokens text tokens × (depth_fault tokens ≡ None) × ((q : RawProgram) → ¬ Derives tokens q) × LeavesAt tokens token
   no_program token is = (is.tokens, is.of_text, is.shallow, is.none, is.place)
+
+-- no text is left behind its end
+in_the_text : (tokens : List Lexeme) (token : ℕ) → LeavesAt tokens token → ¬ (length tokens < token)
+in_the_text tokens token leaves past = let size = leaves.within in omega (arith, size, past)
