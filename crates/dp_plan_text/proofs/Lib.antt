@@ -4,13 +4,13 @@ pub mod CutLemmas
 pub mod NumberText
 pub mod JoinLemmas
 pub mod LineComplete
-pub mod LineSound
 pub mod Runs
+pub mod LineSound
 pub mod RunComplete
 pub mod RunSound
 pub mod RunEnds
-pub mod TextLemmas
 pub mod SoFar
+pub mod TextLemmas
 pub mod ConditionForms
 pub mod MemberLemmas
 pub mod OrderLemmas

@@ -2,7 +2,6 @@
 use Rattle.std.proofs.Common.{◌≡◌, ℕ, ◌<◌, ◌≤◌, ◌==◌, Bool, true, false, ◌&&◌, nat_lt, nat_le, List, [], ◌∷◌, map, Option, Some, None, codes, decimal, refl, sym, ap, ◌∙◌, rules, arith, tests}
 use Rattle.std.specs.Prelude.{if◌then◌else◌}
 use Rattle.std.specs.Str.{bytes_eq}
-use Rattle.std.proofs.lemmas.Slice.Eq.{bytes_eq-Decides}
 use Rattle.std.proofs.lemmas.Fmt.{decimal_digit}
 use Rattle.dp_plan.specs.declared.StageKind.{StageKind}
 use Rattle.dp_plan.specs.declared.StageKind.TheVariants.{Seq, Par}
@@ -14,10 +13,10 @@ use Rattle.dp_plan_text.specs.Words.{number_of}
 use Rattle.dp_plan_text.specs.steps.LineWords.{above, onto_sites, site_before, sites_above, stage_line, region_of, region_line, outcome, assume_of, assume_line, head_line, end_line, line_of}
 use Rattle.dp_plan_text.proofs.NumberText.{Writes, number-sound}
 use Rattle.dp_plan_text.proofs.LineComplete.{LineFits}
+use Rattle.dp_plan_text.proofs.Runs.{WordsOf, same_word, choice}
 
-pub record IsLine (ws : List (List ℕ)) (l : Line) : Type 0 where
-  pub are : ws ≡ words_of l
-  pub fits : LineFits l
+abbrev pub IsLine : List (List ℕ) → Line → Type 0
+IsLine = WordsOf words_of LineFits
 
 -- ---- sites
 
@@ -81,10 +80,6 @@ region_case : (a b : List ℕ) (r w : Option ℕ) (l : Line) → number_of a ≡
 region_case a b (Some r) (Some w) l p q h = within_case a b r w l (nat_le 16 w) (nat_le w 4096) p q refl refl h
 region_case a b _ _ l p q h = absurd (cc h)
 
--- a test of a word
-pub same_word : (a b : List ℕ) → bytes_eq a b ≡ true → a ≡ b
-same_word a b h = (bytes_eq-Decides a b).0 h
-
 label_case : (a b label : List ℕ) (is : Bool) (l : Line) → bytes_eq label (codes "words") ≡ is → (if is then region_of (number_of a) (number_of b) else None) ≡ Some l
     → IsLine (codes "region" ∷ a ∷ label ∷ b ∷ []) l
 label_case a b label true l e h = rw (same_word label (codes "words") e) (region_case a b (number_of a) (number_of b) l refl refl h)
@@ -137,19 +132,13 @@ end_sound : (ws : List (List ℕ)) (l : Line) → end_line ws ≡ Some l → IsL
 end_sound [] l h = let is : line.End ≡ l = cc h in rw (← is) (record { are = refl; fits = tt })
 end_sound (a ∷ rest) l h = absurd (cc h)
 
--- one test of the first word: the line that follows it, or the other tests
-choice : (label word : List ℕ) (ws : List (List ℕ)) (l : Line) (is : Bool) (this other : Option Line) → bytes_eq label word ≡ is
-    → (this ≡ Some l → IsLine (word ∷ ws) l) → (other ≡ Some l → IsLine (label ∷ ws) l) → (if is then this else other) ≡ Some l → IsLine (label ∷ ws) l
-choice label word ws l true this other e here there h = rw (same_word label word e) (here h)
-choice label word ws l false this other e here there h = there h
-
 pub line_sound : (ws : List (List ℕ)) (l : Line) → line_of ws ≡ Some l → IsLine ws l
 unfolding line_of
 line_sound [] l h = absurd (cc h)
 line_sound (label ∷ ws) l h =
-    choice label (codes "seq") ws l (bytes_eq label (codes "seq")) _ _ refl (stage_case Seq ws (sites_above 0 ws) l refl)
-    (choice label (codes "par") ws l (bytes_eq label (codes "par")) _ _ refl (stage_case Par ws (sites_above 0 ws) l refl)
-    (choice label (codes "assume") ws l (bytes_eq label (codes "assume")) _ _ refl (assume_sound ws l)
-    (choice label (codes "region") ws l (bytes_eq label (codes "region")) _ _ refl (region_sound ws l)
-    (choice label (codes "plan") ws l (bytes_eq label (codes "plan")) _ _ refl (head_sound ws l)
-    (choice label (codes "end") ws l (bytes_eq label (codes "end")) _ None refl (end_sound ws l) (λ none. absurd (cc none))))))) h
+    choice IsLine label (codes "seq") ws l (bytes_eq label (codes "seq")) _ _ refl (stage_case Seq ws (sites_above 0 ws) l refl)
+    (choice IsLine label (codes "par") ws l (bytes_eq label (codes "par")) _ _ refl (stage_case Par ws (sites_above 0 ws) l refl)
+    (choice IsLine label (codes "assume") ws l (bytes_eq label (codes "assume")) _ _ refl (assume_sound ws l)
+    (choice IsLine label (codes "region") ws l (bytes_eq label (codes "region")) _ _ refl (region_sound ws l)
+    (choice IsLine label (codes "plan") ws l (bytes_eq label (codes "plan")) _ _ refl (head_sound ws l)
+    (choice IsLine label (codes "end") ws l (bytes_eq label (codes "end")) _ None refl (end_sound ws l) (λ none. absurd (cc none))))))) h

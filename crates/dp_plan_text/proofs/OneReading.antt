@@ -1,6 +1,5 @@
 -- A text is that of one list of plans, so what is written of plans is read back as these and nothing else.
-use Rattle.std.proofs.Common.{◌≡◌, inl, inr, refl, sym, ap, subst, ◌∙◌, ℕ, ◌<◌, ◌^◌, Bool, List, map, length, take, drop, Ok, Err}
-use Rattle.std.proofs.lemmas.List.{take-append-drop}
+use Rattle.std.proofs.Common.{◌≡◌, inl, inr, refl, sym, ap, ◌∙◌, ℕ, ◌<◌, ◌^◌, Bool, List, map, length, Ok, Err}
 use Rattle.dp_tree.specs.declared.Program.{Program}
 use Rattle.dp_tree.specs.Inlined.{IsInlined}
 use Rattle.dp_plan.specs.declared.Plan.{Plan}
@@ -9,15 +8,16 @@ use Rattle.dp_plan_text.specs.declared.reader.Reader.{Reader}
 use Rattle.dp_plan.specs.Written.{plan_of}
 use Rattle.dp_plan.specs.declared.WrittenPlan.{WrittenPlan}
 use Rattle.dp_plan.specs.Valid.{first_fault}
-use Rattle.dp_plan_text.specs.PlanText.{PlanLines, PlanText, lines_of}
-use Rattle.dp_plan_text.specs.Refused.{Begins, IsRefused, StandsFor, at_line, at_end}
+use Rattle.dp_plan_text.specs.PlanText.{PlanText, lines_of}
+use Rattle.dp_plan_text.specs.Refused.{IsRefused, StandsFor, at_line, at_end}
 use Rattle.dp_plan_text.specs.WrittenText.{plans_text}
 use Rattle.dp_plan.specs.GivenPlans.{ArePlans}
 use Rattle.dp_plan_text.specs.Refused.{ReadsOnly}
 use Rattle.dp_plan_text.proofs.ReadBack.{read_back}
 use Rattle.dp_plan.proofs.RegionFacts.{few_regions}
 use Rattle.dp_plan_text.proofs.RunComplete.{over}
-use Rattle.dp_plan_text.proofs.TextLemmas.{text_runs}
+use Rattle.dp_plan_text.proofs.SoFar.{text_begins}
+use Rattle.dp_plan_text.proofs.TextLemmas.{text_runs, plan_texts}
 
 module _ (p : Program) (small : length p.regions < 2 ^ 32) (bytes : List ℕ) where
   -- a text has one version and one list of plans
@@ -34,11 +34,8 @@ module _ (p : Program) (small : length p.regions < 2 ^ 32) (bytes : List ℕ) wh
   one_meaning plans others s t =
       t.4 ∙ sym (ap (λ (v : Bool). map (plan_of p v) t.1) (one_version s.0 t.0 s.1 t.1 s.2 t.2)) ∙ sym (ap (λ (ws : List WrittenPlan). map (plan_of p s.0) ws) (one_list s.0 t.0 s.1 t.1 s.2 t.2)) ∙ sym s.4
 
-  text_begins : (v : Bool) (plans : List WrittenPlan) (line : ℕ) → PlanText p bytes v plans → Begins p (take line (lines_of bytes))
-  text_begins v plans line t = (drop line (lines_of bytes), v, plans, subst (λ (ls : List (List ℕ)). PlanLines p ls v plans) (sym (take-append-drop line (lines_of bytes))) t)
-
   pub unrefused : (v : Bool) (plans : List WrittenPlan) (line : ℕ) → PlanText p bytes v plans → IsRefused p bytes line → ⊥
-  unrefused v plans _ t (at_line line low high before here) = here (text_begins v plans line t)
+  unrefused v plans _ t (at_line line low high before here) = here (text_begins (plan_texts p small) line (lines_of bytes) (v, plans, t))
   unrefused v plans _ t (at_end line is before none) = none v plans t
 
   pub read_only : (plans : List Plan) → StandsFor p bytes plans → ReadsOnly p bytes plans

@@ -8,7 +8,7 @@ use Rattle.dp_plan.specs.Written.{plan_of, written_of}
 use Rattle.dp_plan.specs.Valid.{first_fault, or_later}
 use Rattle.dp_plan.specs.Each.{Each}
 use Rattle.dp_plan.specs.PlanFits.{PlanFits}
-use Rattle.dp_plan_text.specs.PlanText.{PlanText, plan_lines, region_number}
+use Rattle.dp_plan_text.specs.PlanText.{PlanText, plan_lines, region_number, words_of}
 use Rattle.dp_plan_text.specs.Refused.{StandsFor}
 use Rattle.dp_plan_text.specs.WrittenText.{plans_text}
 use Rattle.dp_plan.specs.GivenPlans.{version_of}
@@ -17,7 +17,7 @@ use Rattle.dp_plan.proofs.PlanBack.{plan_back, plan_fits}
 use Rattle.dp_plan.proofs.RegionFacts.{InOrder, few_regions, in_order}
 use Rattle.dp_plan.proofs.RulesHold.{valid_unbroken}
 use Rattle.dp_plan_text.proofs.RunEnds.{all_lines_fit}
-use Rattle.dp_plan_text.proofs.Unbroken.{lines_whole}
+use Rattle.dp_plan_text.proofs.Unbroken.{lines_whole, unbroken-line}
 
 -- a plan that fits, with its region's sites in order
 record Ready (p : Program) (plan : Plan) : Type 0 where
@@ -61,7 +61,7 @@ module _ (p : Program) (inlined : IsInlined p) where
       let numbers : map region_number (map (written_of p) plans) ≡ numbers_from 1 (length p.regions) = numbers_same p plans ∙ are.regions in
       let fit = all_fit p plans ready in
       let text : PlanText p (plans_text p plans) (version_of plans) (map (written_of p) plans) = record {
-        lines_are = lines_whole (plan_lines (version_of plans) ws) (all_lines_fit (version_of plans) ws (length p.regions) numbers (few_regions p inlined) fit);
+        lines_are = lines_whole words_of unbroken-line (plan_lines (version_of plans) ws) (all_lines_fit (version_of plans) ws (length p.regions) numbers (few_regions p inlined) fit);
         regions = numbers;
         fit = fit;
       } in

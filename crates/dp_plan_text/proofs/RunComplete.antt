@@ -1,5 +1,5 @@
 -- The lines of plans that fit are read to their end.
-use Rattle.std.proofs.Common.{◌≡◌, ℕ, zero, suc, ◌+◌, ◌<◌, ◌≤◌, ◌==◌, Bool, true, false, nat_lt, List, [], ◌∷◌, ◌++◌, map, length, Some, refl, sym, ap, ◌∙◌, append_assoc, append-nil, length-append, rules, arith, tests}
+use Rattle.std.proofs.Common.{◌≡◌, ℕ, zero, suc, ◌+◌, ◌<◌, ◌≤◌, ◌==◌, Bool, true, false, nat_lt, List, [], ◌∷◌, ◌++◌, map, length, Option, Some, refl, sym, ap, ◌∙◌, append_assoc, append-nil, length-append, rules, arith, tests}
 use Rattle.std.specs.List.{flat_map}
 use Rattle.dp_tree.specs.declared.Assume.{Assume}
 use Rattle.dp_tree.specs.Numbering.{numbers_from}
@@ -13,8 +13,11 @@ use Rattle.dp_plan.specs.Each.{Each}
 use Rattle.dp_plan.specs.PlanFits.{PlanFits}
 use Rattle.dp_plan_text.specs.PlanText.{region_number, region_lines, plan_lines}
 use Rattle.dp_plan_text.specs.steps.Reading.{begun, is_between, closed, next}
-use Rattle.dp_plan_text.proofs.Runs.{run}
+use Rattle.dp_plan_text.proofs.Runs.{run_by}
 use Rattle.std.proofs.lemmas.Bool.{or_right}
+
+abbrev pub run : ℕ → Option Reader → List Line → Option Reader
+run n = run_by (next n)
 
 abbrev pub part : ℕ → ℕ → List WrittenStage → List Assume → WrittenPlan
 part r words stages assumed = record { region = r; words = words; stages = stages; assume = assumed }

@@ -13,10 +13,9 @@ use Rattle.dp_plan.specs.declared.WrittenPlan.{WrittenPlan}
 use Rattle.dp_plan.specs.Each.{Each}
 use Rattle.dp_plan.specs.PlanFits.{StageFits, AssumeFits, PlanFits}
 use Rattle.dp_plan_text.specs.PlanText.{region_number, region_lines, plan_lines}
-use Rattle.dp_plan_text.specs.steps.Reading.{begun, is_between, closed, next}
+use Rattle.dp_plan_text.specs.steps.Reading.{begun, is_between, closed, next, next_by}
 use Rattle.dp_plan_text.proofs.LineComplete.{LineFits}
-use Rattle.dp_plan_text.proofs.Runs.{run}
-use Rattle.dp_plan_text.proofs.RunComplete.{part, inside, over, stage_next, between_regions, plans_run, lines_run}
+use Rattle.dp_plan_text.proofs.RunComplete.{run, part, inside, over, stage_next, between_regions, plans_run, lines_run}
 use Rattle.dp_plan.proofs.EachLemmas.{each-lists, each_made}
 use Rattle.dp_plan_text.proofs.RunSound.{Reads, at_start, headed, in_region, at_end, reads_next}
 
@@ -113,6 +112,7 @@ run-none n (l ∷ ls) = run-none n ls
 
 more_case : (n : ℕ) (o : Reader) (ls : List Line) (l : Line) (rest : List Line) (s : Reader) (p : Option Reader) → next n o l ≡ p → Reads n o ls → LineFits l → run n p rest ≡ Some s
     → ((q : Reader) → Reads n q (ls ++ l ∷ []) → run n (Some q) rest ≡ Some s → Reads n s ((ls ++ l ∷ []) ++ rest)) → Reads n s ((ls ++ l ∷ []) ++ rest)
+unfolding next_by
 more_case n o ls l rest s None e reads fits h more = absurd (cc (sym (run-none n rest) ∙ h))
 more_case n o ls l rest s (Some q) e reads fits h more = more q (reads_next n o ls l q reads fits e) h
 

@@ -15,7 +15,7 @@ use Rattle.dp_plan.specs.declared.WrittenPlan.{WrittenPlan}
 use Rattle.dp_plan.specs.Each.{Each}
 use Rattle.dp_plan.specs.PlanFits.{StageFits, AssumeFits, PlanFits}
 use Rattle.dp_plan_text.specs.PlanText.{region_number, region_lines, plan_lines}
-use Rattle.dp_plan_text.specs.steps.Reading.{begun, is_between, closed, next}
+use Rattle.dp_plan_text.specs.steps.Reading.{begun, is_between, closed, next, next_by}
 use Rattle.dp_plan_text.proofs.LineComplete.{LineFits}
 use Rattle.dp_plan_text.proofs.RunComplete.{part, inside, over, not_zero, closed_last}
 
@@ -208,7 +208,8 @@ unfolding next
 over_after n v plans (line.Head other) s h = cc h
 over_after n v plans _ s h = cc h
 
-pub reads_next : (n : ℕ) (o : Reader) (ls : List Line) (l : Line) (s : Reader) → Reads n o ls → LineFits l → next n o l ≡ Some s → Reads n s (ls ++ l ∷ [])
+pub reads_next : (n : ℕ) (o : Reader) (ls : List Line) (l : Line) (s : Reader) → Reads n o ls → LineFits l → next_by n o (Some l) ≡ Some s → Reads n s (ls ++ l ∷ [])
+unfolding next_by
 reads_next n _ _ l s at_start fits h = start_after n l s h
 reads_next n _ _ l s (headed v) fits h = headed_after v n l s fits h
 reads_next n _ _ (line.Head other) s (in_region v plans w some upto numbers fit last) fits h = head_after n v plans w some upto numbers fit last other s h

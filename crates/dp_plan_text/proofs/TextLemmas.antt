@@ -1,92 +1,87 @@
--- What a text that is read line by line is read as.
-use Rattle.std.proofs.Common.{◌≡◌, ℕ, ◌<◌, ◌≤◌, ◌^◌, List, [], ◌∷◌, ◌++◌, map, length, take, drop, Option, Some, None, refl, sym, ap, subst, ◌∙◌, append_assoc, Bool}
-use Rattle.std.proofs.lemmas.List.{take-append-le, take-append-drop}
+-- What a text of plans that is read line by line is read as.
+use Rattle.std.proofs.Common.{◌≡◌, ℕ, ◌+◌, ◌<◌, ◌^◌, ◌==◌, Bool, List, ◌++◌, map, length, Some, None, Result, Ok, Err, refl, sym, ap, subst, ◌∙◌}
+use Rattle.std.specs.List.{position}
 use Rattle.dp_tree.specs.declared.Program.{Program}
+use Rattle.dp_plan.specs.declared.WrittenPlan.{WrittenPlan}
+use Rattle.dp_plan_text.specs.declared.WrittenPlans.{WrittenPlans}
+use Rattle.dp_plan_text.specs.declared.PlanFail.{PlanFail}
+use Rattle.dp_plan_text.specs.declared.PlanFail.TheVariants.{Refused}
 use Rattle.dp_plan_text.specs.declared.line.Line.{Line}
 use Rattle.dp_plan_text.specs.declared.reader.Reader.{Reader}
 use Rattle.dp_plan_text.specs.declared.reader.Phase.TheVariants as phase
-use Rattle.dp_plan.specs.declared.WrittenPlan.{WrittenPlan}
-use Rattle.dp_plan.specs.Each.{Each}
-use Rattle.dp_plan_text.specs.PlanText.{PlanLines, line_bytes, plan_lines}
-use Rattle.dp_plan_text.specs.Refused.{Begins}
-use Rattle.dp_plan_text.specs.steps.Reading.{begun, next, next_by}
-use Rattle.dp_plan_text.proofs.LineComplete.{LineFits}
-use Rattle.dp_plan_text.proofs.Runs.{read_bytes, IsBytes, read_bytes-sound, run_bytes, run_bytes-none, run_bytes-append, run_bytes-lines}
+use Rattle.dp_plan_text.specs.PlanText.{PlanLines, PlanText, line_bytes, plan_lines, words_of}
+use Rattle.dp_plan_text.specs.Refused.{Begins, IsRefused, at_line, at_end}
+use Rattle.dp_plan_text.specs.steps.Ending.{IfEnds, ReadsText}
+use Rattle.dp_plan_text.specs.steps.LineWords.{line_of}
+use Rattle.dp_plan_text.specs.steps.Reading.{begun, next_by}
+use Rattle.dp_plan_text.proofs.LineComplete.{LineFits, line-words, words-line}
+use Rattle.dp_plan_text.proofs.LineSound.{line_sound}
+use Rattle.dp_plan_text.proofs.Runs.{Grammar, run_bytes, run_bytes-lines}
 use Rattle.dp_plan_text.proofs.RunComplete.{over, lines_run}
 use Rattle.dp_plan_text.proofs.RunSound.{Reads, reads_next}
-use Rattle.std.proofs.lemmas.List.{map-append}
-use Rattle.dp_plan.proofs.EachLemmas.{each-append}
 use Rattle.dp_plan_text.proofs.RunSound as sound
 use Rattle.dp_plan_text.proofs.RunEnds.{Ends, IsText, all_lines_fit, reads_end, reads_more, reads_over}
+use Rattle.dp_plan_text.proofs.SoFar.{SoFar, Texts, reached_end, refused_rest}
 
--- the state behind the lines with these bytes
-pub record Reached (n : ℕ) (s : Reader) (done : List (List ℕ)) : Type 0 where
-  pub lines : List Line
-  pub are : done ≡ map line_bytes lines
-  pub fit : Each LineFits lines
-  pub reads : Reads n s lines
-  pub runs : run_bytes n (Some begun) done ≡ Some s
-
-pub reached_start : (n : ℕ) → Reached n begun []
-reached_start n = record { lines = []; are = refl; fit = tt; reads = sound.at_start; runs = refl }
-
-next_case : (n : ℕ) (o s : Reader) (l : Option Line) → next_by n o l ≡ Some s → (line : Line) × (l ≡ Some line) × (next n o line ≡ Some s)
+pub no_line : (n : ℕ) (s : Reader) → next_by n s None ≡ None
 unfolding next_by
-next_case n o s None h = absurd (cc h)
-next_case n o s (Some line) h = (line, refl, h)
+no_line n s = refl
 
-pub reached_next : (n : ℕ) (o s : Reader) (done : List (List ℕ)) (bytes : List ℕ) → Reached n o done → next_by n o (read_bytes bytes) ≡ Some s → Reached n s (done ++ bytes ∷ [])
-reached_next n o s done bytes r h =
-    let c = next_case n o s (read_bytes bytes) h in let b : IsBytes bytes c.0 = read_bytes-sound bytes c.0 c.1 in
-    record {
-      lines = r.lines ++ c.0 ∷ [];
-      are = ap (λ d. d ++ bytes ∷ []) r.are ∙ ap (λ x. map line_bytes r.lines ++ x ∷ []) b.are ∙ sym (map-append line_bytes r.lines (c.0 ∷ []));
-      fit = each-append LineFits r.lines c.0 r.fit b.fits;
-      reads = reads_next n o r.lines c.0 s r.reads b.fits c.2;
-      runs = run_bytes-append n (Some begun) done (bytes ∷ []) ∙ ap (λ p. run_bytes n p (bytes ∷ [])) r.runs ∙ h;
-    }
+-- the lines of plans for so many regions
+abbrev pub plan_grammar : ℕ → Grammar Line Reader
+plan_grammar n = record {
+  words_of = words_of;
+  Fits = LineFits;
+  line_of = line_of;
+  words_back = words-line;
+  line_back = line-words;
+  sound = line_sound;
+  begun = begun;
+  next_by = next_by n;
+  no_line = no_line n;
+  Reads = Reads n;
+  reads_start = sound.at_start;
+  reads_next = reads_next n;
+}
+
+-- these are the lines of a text of plans
+abbrev pub IsPlanText : Program → List (List ℕ) → Type 0
+IsPlanText p lines = (proved : Bool) × (plans : List WrittenPlan) × PlanLines p lines proved plans
 
 module _ (p : Program) (small : length p.regions < 2 ^ 32) where
   -- the lines of a text of the grammar are read to their end
-  pub text_runs : (lines : List (List ℕ)) (v : Bool) (plans : List WrittenPlan) → PlanLines p lines v plans → run_bytes (length p.regions) (Some begun) lines ≡ Some (over v plans)
+  pub text_runs : (lines : List (List ℕ)) (v : Bool) (plans : List WrittenPlan) → PlanLines p lines v plans → run_bytes (plan_grammar (length p.regions)) (Some begun) lines ≡ Some (over v plans)
+  unfolding next_by
   text_runs lines v plans t =
-      ap (run_bytes (length p.regions) (Some begun)) t.lines_are
-      ∙ run_bytes-lines (length p.regions) (Some begun) (plan_lines v plans) (all_lines_fit v plans (length p.regions) t.regions small t.fit)
+      let g = plan_grammar (length p.regions) in
+      ap (run_bytes g (Some begun)) t.lines_are
+      ∙ run_bytes-lines g (Some begun) (plan_lines v plans) (all_lines_fit v plans (length p.regions) t.regions small t.fit)
       ∙ lines_run (length p.regions) v plans t.regions t.fit
 
-  pub is_text : (s : Reader) (done : List (List ℕ)) → Reached (length p.regions) s done → s.phase ≡ phase.Over → PlanLines p done s.proved s.plans
-  is_text s done r h =
-      let t : IsText (length p.regions) s.proved s.plans r.lines = reads_over (length p.regions) s r.lines r.reads h in
-      record { lines_are = r.are ∙ ap (map line_bytes) t.are; regions = t.numbers; fit = t.fit }
+  reads_on : (s : Reader) (ls : List Line) → Reads (length p.regions) s ls → (more : List Line) × IsPlanText p (map line_bytes (ls ++ more))
+  reads_on s ls r =
+      let n = length p.regions in let e : Ends (length p.regions) s = reads_end n s ls small r in
+      let t : IsText (length p.regions) e.proved e.plans (ls ++ e.more) = reads_over n (over e.proved e.plans) (ls ++ e.more) (reads_more n e.more s (over e.proved e.plans) ls r e.fit e.runs) refl in
+      (e.more, (e.proved, e.plans, record { lines_are = ap (map line_bytes) t.are; regions = t.numbers; fit = t.fit }))
 
-  pub begins : (s : Reader) (done : List (List ℕ)) → Reached (length p.regions) s done → Begins p done
-  begins s done r =
-      let n = length p.regions in let e : Ends (length p.regions) s = reads_end n s r.lines small r.reads in
-      let t : IsText (length p.regions) e.proved e.plans (r.lines ++ e.more) = reads_over n (over e.proved e.plans) (r.lines ++ e.more) (reads_more n e.more s (over e.proved e.plans) r.lines r.reads e.fit e.runs) refl in (
-        map line_bytes e.more,
-        e.proved,
-        e.plans,
-        record {
-          lines_are = ap (λ d. d ++ map line_bytes e.more) r.are ∙ sym (map-append line_bytes r.lines e.more) ∙ ap (map line_bytes) t.are;
-          regions = t.numbers;
-          fit = t.fit;
-        },
-      )
+  pub plan_texts : Texts (plan_grammar (length p.regions)) (IsPlanText p) (Begins p) (λ s. s.phase ≡ phase.Over) (IsRefused p)
+  plan_texts = record {
+    begins = λ xs more t. (more, t.0, t.1, t.2);
+    whole = λ xs b. (b.0, (b.1, b.2, b.3));
+    runs_over = λ ls t. (over t.0 t.1, text_runs ls t.0 t.1 t.2, refl);
+    reads_on = reads_on;
+    at_line = λ bytes line low high before here. at_line line low high before here;
+    at_end = λ bytes line is before none. at_end line is before (λ v plans t. none (v, plans, t));
+  }
 
-  begins_front : (xs ys : List (List ℕ)) → Begins p (xs ++ ys) → Begins p xs
-  begins_front xs ys b = (ys ++ b.0, b.1, b.2, subst (λ (ls : List (List ℕ)). PlanLines p ls b.1 b.2) (append_assoc xs ys b.0) b.3)
-
-  pub fronts : (done rest : List (List ℕ)) (k : ℕ) → Begins p done → k ≤ length done → Begins p (take k (done ++ rest))
-  fronts done rest k b le =
-      subst (λ (ls : List (List ℕ)). Begins p ls) (sym (take-append-le k done rest le))
-      (begins_front (take k done) (drop k done) (subst (λ (ls : List (List ℕ)). Begins p ls) (sym (take-append-drop k done)) b))
-
-  pub not_begun : (s : Reader) (done : List (List ℕ)) (bytes : List ℕ) → Reached (length p.regions) s done → next_by (length p.regions) s (read_bytes bytes) ≡ None → ¬ Begins p (done ++ bytes ∷ [])
-  not_begun s done bytes r h b =
-      let n = length p.regions in
-      let some : run_bytes (length p.regions) (Some begun) ((done ++ bytes ∷ []) ++ b.0) ≡ Some (over b.1 b.2) = text_runs ((done ++ bytes ∷ []) ++ b.0) b.1 b.2 b.3 in
-      let none : run_bytes (length p.regions) (Some begun) ((done ++ bytes ∷ []) ++ b.0) ≡ None =
-      run_bytes-append n (Some begun) (done ++ bytes ∷ []) b.0
-      ∙ ap (λ o. run_bytes n o b.0) (run_bytes-append n (Some begun) done (bytes ∷ []) ∙ ap (λ o. run_bytes n o (bytes ∷ [])) r.runs ∙ h)
-      ∙ run_bytes-none n b.0 in
-      cc (sym none ∙ some)
+  -- how the reading of what has no LF ends
+  pub ended : (bytes : List ℕ) (s : Reader) (rest : List ℕ) (count : ℕ) (r : Result WrittenPlans PlanFail) → SoFar (plan_grammar (length p.regions)) bytes s rest count → position (λ b. b == 10) rest ≡ None
+      → IfEnds s rest (count + 1) r → ReadsText p bytes r
+  ended bytes s rest count (Ok text) f none e =
+      let g = plan_grammar (length p.regions) in
+      let end = reached_end g bytes s count (subst (λ (t : List ℕ). SoFar g bytes s t count) e.0 f) in
+      let t : IsText (length p.regions) s.proved s.plans end.lines = reads_over (length p.regions) s end.lines end.reads e.1 in
+      let here : PlanText p bytes s.proved s.plans = record { lines_are = end.are ∙ ap (map line_bytes) t.are; regions = t.numbers; fit = t.fit } in
+      subst (λ (v : Bool). PlanText p bytes v text.plans) (sym e.3) (subst (λ (ws : List WrittenPlan). PlanText p bytes s.proved ws) (sym e.2) here)
+  ended bytes s rest count (Err (Refused line)) f none e = subst (λ (l : ℕ). IsRefused p bytes l) (sym e.0) (refused_rest plan_texts bytes s rest count f none e.1)
+  ended bytes s rest count _ f none e = absurd e

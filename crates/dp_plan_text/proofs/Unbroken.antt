@@ -4,7 +4,7 @@ use Rattle.std.specs.List.{list_all, flat_map}
 use Rattle.dp_base.specs.Digits.{is_digit}
 use Rattle.dp_plan.specs.Each.{Each, AscendAbove}
 use Rattle.dp_base.specs.Pieces.{onto_first}
-use Rattle.dp_plan_text.specs.PlanText.{joined, lines_of, kind_word, outcome_number, version_number, words_of, line_bytes}
+use Rattle.dp_plan_text.specs.PlanText.{joined, lines_of, kind_word, outcome_number, version_number, words_of}
 use Rattle.dp_plan_text.proofs.NumberText.{digits-decimal}
 use Rattle.dp_plan.specs.declared.StageKind.{StageKind}
 use Rattle.dp_plan.specs.declared.StageKind.TheVariants.{Seq, Par}
@@ -29,6 +29,13 @@ cut_case byte text more false e h go = rw e (ap (onto_first byte) (go h))
 pub cut_line : (text more : List ℕ) → Unbroken text → lines_of ((text ++ 10 ∷ []) ++ more) ≡ (text ++ 10 ∷ []) ∷ lines_of more
 cut_line [] more h = refl
 cut_line (byte ∷ text) more h = cut_case byte text more (byte == 10) refl h (cut_line text more)
+
+-- lines whose words have none are cut apart
+pub lines_whole : {Line : Type 0} (words_of : Line → List (List ℕ)) {Fits : Line → Type 0} → ((l : Line) → Fits l → Unbroken (joined (words_of l))) → (ls : List Line) → Each Fits ls
+    → lines_of (flat_map (λ l. joined (words_of l) ++ 10 ∷ []) ls) ≡ map (λ l. joined (words_of l) ++ 10 ∷ []) ls
+lines_whole words_of whole [] fit = refl
+lines_whole words_of whole (l ∷ ls) fit =
+    cut_line (joined (words_of l)) (flat_map (λ k. joined (words_of k) ++ 10 ∷ []) ls) (whole l fit.0) ∙ ap (λ (rest : List (List ℕ)). (joined (words_of l) ++ 10 ∷ []) ∷ rest) (lines_whole words_of whole ls fit.1)
 
 -- ---- words have no LF
 
@@ -74,7 +81,7 @@ unbroken-version : (proved : Bool) → Unbroken (decimal (version_number proved)
 unbroken-version true = unbroken-decimal 2 (omega arith)
 unbroken-version false = unbroken-decimal 1 (omega arith)
 
-unbroken-line : (l : Line) → LineFits l → Unbroken (joined (words_of l))
+pub unbroken-line : (l : Line) → LineFits l → Unbroken (joined (words_of l))
 unbroken-line (line.Head proved) fits = unbroken-joined (codes "plan") (decimal (version_number proved) ∷ []) refl (unbroken-version proved, tt)
 unbroken-line (line.Region r w) fits =
     unbroken-joined (codes "region") (decimal r ∷ codes "words" ∷ decimal w ∷ []) refl (unbroken-decimal r (omega (arith, fits.0)), (refl, (unbroken-decimal w (omega (arith, fits.2)), tt)))
@@ -82,7 +89,3 @@ unbroken-line (line.Stage stage) fits = unbroken-joined (kind_word stage.kind) (
 unbroken-line (line.Assume a) fits =
     unbroken-joined (codes "assume") (decimal a.site.0 ∷ decimal (outcome_number a.taken) ∷ []) refl (unbroken-decimal a.site.0 (omega (arith, fits.1)), (unbroken-outcome a.taken, tt))
 unbroken-line line.End fits = refl
-
-pub lines_whole : (ls : List Line) → Each LineFits ls → lines_of (flat_map line_bytes ls) ≡ map line_bytes ls
-lines_whole [] fit = refl
-lines_whole (l ∷ ls) fit = cut_line (joined (words_of l)) (flat_map line_bytes ls) (unbroken-line l fit.0) ∙ ap (λ (rest : List (List ℕ)). line_bytes l ∷ rest) (lines_whole ls fit.1)

@@ -37,8 +37,6 @@ pub words_one : (text : List ℕ) → length text ≤ first_end 32 text → word
 words_one [] le = refl
 words_one (byte ∷ text) le = one_case byte text (byte == 32) refl (first_end 32 text) (words_one text) le
 
--- ---- what `position` tells
-
 -- ---- the first word of a line
 
 pub no_space : (text : List ℕ) → position (λ b. b == 32) text ≡ None → words text ≡ text ∷ []
@@ -63,17 +61,18 @@ pub some_word : (P : List (List ℕ) → Type 0) → ((word : List ℕ) (rest : 
 some_word P full [] = full [] []
 some_word P full (byte ∷ text) = space_case P byte text (byte == 32) refl full
 
-abbrev is_no_line : Option Line → Type 0
-is_no_line l = l ≡ None
+-- words that are no line with one more aren't one with several
+pub no_more : {Line : Type 0} (f : List (List ℕ) → Option Line) → ((word : List ℕ) (rest : List (List ℕ)) → f (word ∷ rest) ≡ None) → (text : List ℕ) → f (words text) ≡ None
+no_more f none = some_word (λ ws. f ws ≡ None) none
 
 pub end_more : (text : List ℕ) → end_line (words text) ≡ None
-end_more = some_word (λ ws. is_no_line (end_line ws)) (λ _ _. refl)
+end_more = no_more end_line (λ _ _. refl)
 
 pub head_more : (a : List ℕ) (text : List ℕ) → head_line (a ∷ words text) ≡ None
-head_more a = some_word (λ ws. is_no_line (head_line (a ∷ ws))) (λ _ _. refl)
+head_more a = no_more (λ ws. head_line (a ∷ ws)) (λ _ _. refl)
 
 pub assume_more : (a b : List ℕ) (text : List ℕ) → assume_line (a ∷ b ∷ words text) ≡ None
-assume_more a b = some_word (λ ws. is_no_line (assume_line (a ∷ b ∷ ws))) (λ _ _. refl)
+assume_more a b = no_more (λ ws. assume_line (a ∷ b ∷ ws)) (λ _ _. refl)
 
 pub region_more : (a b c : List ℕ) (text : List ℕ) → region_line (a ∷ b ∷ c ∷ words text) ≡ None
-region_more a b c = some_word (λ ws. is_no_line (region_line (a ∷ b ∷ c ∷ ws))) (λ _ _. refl)
+region_more a b c = no_more (λ ws. region_line (a ∷ b ∷ c ∷ ws)) (λ _ _. refl)

@@ -3,7 +3,6 @@ pub mod WordLemmas
 pub mod WriteLemmas
 pub mod LineComplete
 pub mod LineSound
-pub mod Runs
 pub mod Fitting
 pub mod RunComplete
 pub mod TestLemmas
@@ -11,7 +10,6 @@ pub mod RunSound
 pub mod NextLine
 pub mod RunEnds
 pub mod TextLemmas
-pub mod SoFar
 pub mod KnownSites
 pub mod WholeLines
 pub mod ReadBack

@@ -9,11 +9,10 @@ use Rattle.dp_profile.specs.declared.line.Line.TheVariants as line
 use Rattle.dp_profile.specs.ProfileText.{most_count, kind_word, words_of}
 use Rattle.dp_profile.specs.steps.LineWords.{count, kind, region_of, region_line, runs_of, runs_line, flow_of, flow_line, head_line, end_line, line_of}
 use Rattle.dp_profile.proofs.LineComplete.{LineFits, top}
-use Rattle.dp_plan_text.proofs.LineSound.{same_word}
+use Rattle.dp_plan_text.proofs.Runs.{WordsOf, same_word, choice}
 
-pub record IsLine (ws : List (List ℕ)) (l : Line) : Type 0 where
-  pub are : ws ≡ words_of l
-  pub fits : LineFits l
+abbrev pub IsLine : List (List ℕ) → Line → Type 0
+IsLine = WordsOf words_of LineFits
 
 short_sound : (word : List ℕ) (n : ℕ) → number_of word ≡ Some n → Writes top word n
 short_sound word n h = number-sound top (omega arith) word n h
@@ -113,18 +112,12 @@ end_sound : (ws : List (List ℕ)) (l : Line) → end_line ws ≡ Some l → IsL
 end_sound [] l h = let is : line.End ≡ l = cc h in rw (← is) (record { are = refl; fits = tt })
 end_sound (a ∷ rest) l h = absurd (cc h)
 
--- one test of the first word: the line that follows it, or the other tests
-choice : (label word : List ℕ) (ws : List (List ℕ)) (l : Line) (is : Bool) (this other : Option Line) → bytes_eq label word ≡ is
-    → (this ≡ Some l → IsLine (word ∷ ws) l) → (other ≡ Some l → IsLine (label ∷ ws) l) → (if is then this else other) ≡ Some l → IsLine (label ∷ ws) l
-choice label word ws l true this other e here there h = rw (same_word label word e) (here h)
-choice label word ws l false this other e here there h = there h
-
 pub line_sound : (ws : List (List ℕ)) (l : Line) → line_of ws ≡ Some l → IsLine ws l
 unfolding line_of
 line_sound [] l h = absurd (cc h)
 line_sound (label ∷ ws) l h =
-    choice label (codes "flow") ws l (bytes_eq label (codes "flow")) _ _ refl (flow_sound ws l)
-    (choice label (codes "runs") ws l (bytes_eq label (codes "runs")) _ _ refl (runs_sound ws l)
-    (choice label (codes "region") ws l (bytes_eq label (codes "region")) _ _ refl (region_sound ws l)
-    (choice label (codes "profile") ws l (bytes_eq label (codes "profile")) _ _ refl (head_sound ws l)
-    (choice label (codes "end") ws l (bytes_eq label (codes "end")) _ None refl (end_sound ws l) (λ none. absurd (cc none)))))) h
+    choice IsLine label (codes "flow") ws l (bytes_eq label (codes "flow")) _ _ refl (flow_sound ws l)
+    (choice IsLine label (codes "runs") ws l (bytes_eq label (codes "runs")) _ _ refl (runs_sound ws l)
+    (choice IsLine label (codes "region") ws l (bytes_eq label (codes "region")) _ _ refl (region_sound ws l)
+    (choice IsLine label (codes "profile") ws l (bytes_eq label (codes "profile")) _ _ refl (head_sound ws l)
+    (choice IsLine label (codes "end") ws l (bytes_eq label (codes "end")) _ None refl (end_sound ws l) (λ none. absurd (cc none)))))) h

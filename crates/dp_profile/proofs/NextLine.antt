@@ -7,7 +7,7 @@ use Rattle.dp_profile.specs.declared.reader.Reader.{Reader}
 use Rattle.dp_profile.specs.declared.reader.Phase.TheVariants as phase
 use Rattle.dp_profile.specs.Observed.{nothing_shown}
 use Rattle.dp_profile.specs.Sites.{RegionSite}
-use Rattle.dp_profile.specs.steps.Reading.{begun, state, region_next, next}
+use Rattle.dp_profile.specs.steps.Reading.{begun, state, region_next, next, next_by}
 use Rattle.dp_profile.proofs.LineComplete.{LineFits}
 use Rattle.dp_profile.proofs.RunComplete.{within, over}
 use Rattle.dp_profile.proofs.TestLemmas.{Both, both, taken}
@@ -60,7 +60,8 @@ over_after all done (line.Runs site c) s h = cc h
 over_after all done (line.Flow f) s h = cc h
 over_after all done line.End s h = cc h
 
-pub reads_next : (all : List (List RegionSite)) (o : Reader) (ls : List Line) (l : Line) (s : Reader) → Reads all o ls → LineFits l → next all o l ≡ Some s → Reads all s (ls ++ l ∷ [])
+pub reads_next : (all : List (List RegionSite)) (o : Reader) (ls : List Line) (l : Line) (s : Reader) → Reads all o ls → LineFits l → next_by all o (Some l) ≡ Some s → Reads all s (ls ++ l ∷ [])
+unfolding next_by
 reads_next all _ _ l s at_start fits h = start_after all l s h
 reads_next all _ _ l s headed fits h = headed_after all l s h
 reads_next all _ _ line.Head s (in_region before later had left done counts flows is d c f u e) fits h = head_after all before later had left done counts flows is d c f u e s h

@@ -1,6 +1,5 @@
 -- A text is that of one profile, so what is written of a profile that fits is read back as this one and nothing else.
-use Rattle.std.proofs.Common.{◌≡◌, inl, inr, refl, sym, ap, subst, ◌∙◌, ℕ, ◌≤◌, List, length, take, drop, Some, Ok, Err}
-use Rattle.std.proofs.lemmas.List.{take-append-drop}
+use Rattle.std.proofs.Common.{◌≡◌, inl, inr, refl, sym, ap, ◌∙◌, ℕ, ◌≤◌, List, length, Some, Ok, Err}
 use Rattle.dp_tree.specs.declared.Program.{Program}
 use Rattle.dp_tree.specs.Inlined.{IsInlined}
 use Rattle.dp_plan.specs.Each.{Each}
@@ -9,15 +8,17 @@ use Rattle.dp_profile.specs.declared.Profile.{Profile}
 use Rattle.dp_profile.specs.declared.ProfileFail.TheVariants.{Refused, NoMemory}
 use Rattle.dp_profile.specs.declared.reader.Reader.{Reader}
 use Rattle.dp_profile.specs.Sites.{regions}
-use Rattle.dp_profile.specs.ProfileText.{ProfileFits, ProfileLines, ProfileText, profile_lines}
-use Rattle.dp_profile.specs.Refused.{Begins, IsRefused, ReadsOnly, at_line, at_end}
+use Rattle.dp_profile.specs.ProfileText.{ProfileFits, ProfileText, profile_lines, words_of}
+use Rattle.dp_profile.specs.Refused.{IsRefused, ReadsOnly, at_line, at_end}
 use Rattle.dp_profile.specs.WrittenText.{profile_text}
 use Rattle.dp_profile.proofs.KnownSites.{few_regions, small_sites}
 use Rattle.dp_profile.proofs.LineComplete.{top}
 use Rattle.dp_profile.proofs.RunComplete.{over}
 use Rattle.dp_profile.proofs.RunEnds.{SmallSite, whole_fits}
-use Rattle.dp_profile.proofs.TextLemmas.{text_runs}
-use Rattle.dp_profile.proofs.WholeLines.{lines_whole}
+use Rattle.dp_plan_text.proofs.SoFar.{text_begins}
+use Rattle.dp_profile.proofs.TextLemmas.{text_runs, profile_texts}
+use Rattle.dp_plan_text.proofs.Unbroken.{lines_whole}
+use Rattle.dp_profile.proofs.WholeLines.{unbroken-line}
 
 module _ (p : Program) (few : length (regions p) ≤ top) (small : Each (Each SmallSite) (regions p)) (bytes : List ℕ) where
   one_profile : (profile other : Profile) → ProfileText p bytes profile → ProfileText p bytes other → other ≡ profile
@@ -26,11 +27,8 @@ module _ (p : Program) (few : length (regions p) ≤ top) (small : Each (Each Sm
       let ends : over profile.regions ≡ over other.regions = cc same in
       sym (ap (λ (r : Reader). record { regions = r.done }) ends)
 
-  text_begins : (profile : Profile) (line : ℕ) → ProfileText p bytes profile → Begins p (take line (lines_of bytes))
-  text_begins profile line t = (drop line (lines_of bytes), profile, subst (λ (ls : List (List ℕ)). ProfileLines p ls profile) (sym (take-append-drop line (lines_of bytes))) t)
-
   unrefused : (profile : Profile) (line : ℕ) → ProfileText p bytes profile → IsRefused p bytes line → ⊥
-  unrefused profile _ t (at_line line low high before here) = here (text_begins profile line t)
+  unrefused profile _ t (at_line line low high before here) = here (text_begins (profile_texts p few small) line (lines_of bytes) (profile, t))
   unrefused profile _ t (at_end line is before none) = none profile t
 
   pub read_only : (profile : Profile) → ProfileText p bytes profile → ReadsOnly p bytes profile
@@ -41,7 +39,7 @@ module _ (p : Program) (few : length (regions p) ≤ top) (small : Each (Each Sm
 module _ (p : Program) (inlined : IsInlined p) where
   pub read_back : (profile : Profile) → ProfileFits p profile → ProfileText p (profile_text p profile) profile
   read_back profile fits = record {
-    lines_are = lines_whole (profile_lines p profile) (whole_fits (regions p) profile.regions (few_regions p inlined) (small_sites p inlined) fits);
+    lines_are = lines_whole words_of unbroken-line (profile_lines p profile) (whole_fits (regions p) profile.regions (few_regions p inlined) (small_sites p inlined) fits);
     fits = fits;
   }
 

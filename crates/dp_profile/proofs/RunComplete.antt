@@ -1,5 +1,5 @@
 -- The lines of a profile that fits are read to their end.
-use Rattle.std.proofs.Common.{◌≡◌, ℕ, ◌+◌, ◌-◌, ◌<◌, ◌≤◌, ◌==◌, Bool, true, false, ◌||◌, nat_le, nat_lt, List, [], ◌∷◌, ◌++◌, map, length, Some, slice_get, refl, sym, ap, ◌∙◌, append_assoc, append-nil, length-append, rules, arith, tests}
+use Rattle.std.proofs.Common.{◌≡◌, ℕ, ◌+◌, ◌-◌, ◌<◌, ◌≤◌, ◌==◌, Bool, true, false, ◌||◌, nat_le, nat_lt, List, [], ◌∷◌, ◌++◌, map, length, Option, Some, slice_get, refl, sym, ap, ◌∙◌, append_assoc, append-nil, length-append, rules, arith, tests}
 use Rattle.dp_plan.specs.Each.{Each}
 use Rattle.dp_profile.specs.declared.RegionProfile.{RegionProfile}
 use Rattle.dp_profile.specs.declared.SiteCount.{SiteCount}
@@ -13,7 +13,10 @@ use Rattle.dp_profile.specs.Sites.{RegionSite}
 use Rattle.dp_profile.specs.ProfileText.{CountFits, CountsFit, FlowFits, Ascend, RegionFits, RegionsFit, has_site, runs_lines, region_lines, regions_lines}
 use Rattle.dp_profile.specs.steps.Reading.{begun, state, sites_or_none, last_sites, is_counted, is_between, closed, counts_at, is_behind, last_flow, next}
 use Rattle.dp_profile.proofs.Fitting.{seam, counts_many}
-use Rattle.dp_profile.proofs.Runs.{run}
+use Rattle.dp_plan_text.proofs.Runs.{run_by}
+
+abbrev pub run : List (List RegionSite) → Option Reader → List Line → Option Reader
+run all = run_by (next all)
 
 abbrev pub counted : List SiteCount → List Flow → RegionProfile
 counted counts flows = record { sites = counts; flows = flows }
