@@ -1,17 +1,17 @@
 -- Each line that fits is read from its words.
-use Rattle.std.proofs.Common.{◌≡◌, ℕ, ◌^◌, ◌<◌, ◌≤◌, Bool, true, false, nat_lt, nat_le, List, [], ◌∷◌, map, length, Option, Some, codes, decimal, refl, ap, ◌∙◌, rules, arith}
+use Rattle.std.proofs.Common.{◌≡◌, ℕ, ◌^◌, ◌<◌, ◌≤◌, Bool, true, false, nat_lt, nat_le, List, [], ◌∷◌, map, length, Option, Some, decimal, refl, ap, ◌∙◌, rules, arith}
 use Rattle.std.proofs.lemmas.Fmt.{decimal_digit}
 use Rattle.dp_plan.specs.declared.StageKind.{StageKind}
 use Rattle.dp_plan.specs.declared.StageKind.TheVariants.{Seq, Par}
 use Rattle.dp_plan_text.specs.declared.line.Line.{Line}
 use Rattle.dp_plan_text.specs.declared.line.Line.TheVariants as line
 use Rattle.dp_plan.specs.Each.{Each, AscendAbove}
-use Rattle.dp_plan_text.specs.PlanText.{kind_word, outcome_number, version_number, words_of, joined}
+use Rattle.dp_plan_text.specs.PlanText.{kind_word, outcome_number, version_number, words_of}
 use Rattle.dp_plan.specs.PlanFits.{StageFits, AssumeFits}
-use Rattle.dp_plan_text.specs.Words.{words, number_of}
+use Rattle.dp_plan_text.specs.Words.{number_of}
 use Rattle.dp_plan_text.specs.steps.LineWords.{above, onto_sites, site_before, sites_above, stage_line, region_of, outcome, assume_of, line_of}
 use Rattle.dp_plan_text.proofs.NumberText.{number_of-decimal}
-use Rattle.dp_plan_text.proofs.JoinLemmas.{IsWord, words-joined, decimal_word}
+use Rattle.dp_plan_text.proofs.JoinLemmas.{IsWord, AreWords, decimal_word}
 
 -- the numbers of a line fit
 abbrev pub LineFits : Line → Type 0
@@ -64,8 +64,8 @@ line-words line.End fits = refl
 -- ---- the words of the line's text
 
 kind_is_word : (kind : StageKind) → IsWord (kind_word kind)
-kind_is_word Seq = refl
-kind_is_word Par = refl
+kind_is_word Seq = (refl, refl)
+kind_is_word Par = (refl, refl)
 
 sites_are_words : (low : ℕ) (sites : List ℕ) → AscendAbove low sites → Each IsWord (map decimal sites)
 sites_are_words low [] h = tt
@@ -79,11 +79,9 @@ version_is_word : (proved : Bool) → IsWord (decimal (version_number proved))
 version_is_word true = decimal_word 2 (omega arith)
 version_is_word false = decimal_word 1 (omega arith)
 
-pub words-line : (l : Line) → LineFits l → words (joined (words_of l)) ≡ words_of l
-words-line (line.Head proved) fits = words-joined (codes "plan") (decimal (version_number proved) ∷ []) refl (version_is_word proved, tt)
-words-line (line.Region r w) fits =
-    words-joined (codes "region") (decimal r ∷ codes "words" ∷ decimal w ∷ []) refl (decimal_word r (omega (arith, fits.0)), (refl, (decimal_word w (omega (arith, fits.2)), tt)))
-words-line (line.Stage stage) fits = words-joined (kind_word stage.kind) (map decimal stage.sites) (kind_is_word stage.kind) (sites_are_words 0 stage.sites fits.1)
-words-line (line.Assume a) fits =
-    words-joined (codes "assume") (decimal a.site.0 ∷ decimal (outcome_number a.taken) ∷ []) refl (decimal_word a.site.0 (omega (arith, fits.1)), (outcome_is_word a.taken, tt))
-words-line line.End fits = words-joined (codes "end") [] refl tt
+pub are_words : (l : Line) → LineFits l → AreWords (words_of l)
+are_words (line.Head proved) fits = ((refl, refl), (version_is_word proved, tt))
+are_words (line.Region r w) fits = ((refl, refl), (decimal_word r (omega (arith, fits.0)), ((refl, refl), (decimal_word w (omega (arith, fits.2)), tt))))
+are_words (line.Stage stage) fits = (kind_is_word stage.kind, sites_are_words 0 stage.sites fits.1)
+are_words (line.Assume a) fits = ((refl, refl), (decimal_word a.site.0 (omega (arith, fits.1)), (outcome_is_word a.taken, tt)))
+are_words line.End fits = ((refl, refl), tt)

@@ -17,7 +17,8 @@ use Rattle.dp_plan.proofs.PlanBack.{plan_back, plan_fits}
 use Rattle.dp_plan.proofs.RegionFacts.{InOrder, few_regions, in_order}
 use Rattle.dp_plan.proofs.RulesHold.{valid_unbroken}
 use Rattle.dp_plan_text.proofs.RunEnds.{all_lines_fit}
-use Rattle.dp_plan_text.proofs.Unbroken.{lines_whole, unbroken-line}
+use Rattle.dp_plan_text.proofs.LineComplete.{are_words}
+use Rattle.dp_plan_text.proofs.Unbroken.{lines_whole}
 
 -- a plan that fits, with its region's sites in order
 record Ready (p : Program) (plan : Plan) : Type 0 where
@@ -61,7 +62,7 @@ module _ (p : Program) (inlined : IsInlined p) where
       let numbers : map region_number (map (written_of p) plans) ≡ numbers_from 1 (length p.regions) = numbers_same p plans ∙ are.regions in
       let fit = all_fit p plans ready in
       let text : PlanText p (plans_text p plans) (version_of plans) (map (written_of p) plans) = record {
-        lines_are = lines_whole words_of unbroken-line (plan_lines (version_of plans) ws) (all_lines_fit (version_of plans) ws (length p.regions) numbers (few_regions p inlined) fit);
+        lines_are = lines_whole words_of are_words (plan_lines (version_of plans) ws) (all_lines_fit (version_of plans) ws (length p.regions) numbers (few_regions p inlined) fit);
         regions = numbers;
         fit = fit;
       } in

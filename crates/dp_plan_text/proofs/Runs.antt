@@ -7,7 +7,7 @@ use Rattle.dp_plan.specs.Each.{Each}
 use Rattle.dp_plan_text.specs.PlanText.{joined}
 use Rattle.dp_plan_text.specs.Words.{words}
 use Rattle.dp_plan_text.proofs.WordLemmas.{first_end}
-use Rattle.dp_plan_text.proofs.JoinLemmas.{joined-words}
+use Rattle.dp_plan_text.proofs.JoinLemmas.{AreWords, words-joined, joined-words}
 
 -- ---- lines as bytes
 
@@ -80,7 +80,7 @@ pub record Grammar (Line Reader : Type 0) : Type 1 where
   pub words_of : Line → List (List ℕ)
   pub Fits : Line → Type 0
   pub line_of : List (List ℕ) → Option Line
-  pub words_back : (l : Line) → Fits l → words (joined (words_of l)) ≡ words_of l
+  pub are_words : (l : Line) → Fits l → AreWords (words_of l)
   pub line_back : (l : Line) → Fits l → line_of (words_of l) ≡ Some l
   pub sound : (ws : List (List ℕ)) (l : Line) → line_of ws ≡ Some l → WordsOf words_of Fits ws l
   pub begun : Reader
@@ -91,7 +91,7 @@ pub record Grammar (Line Reader : Type 0) : Type 1 where
   pub reads_next : (o : Reader) (ls : List Line) (l : Line) (s : Reader) → Reads o ls → Fits l → next_by o (Some l) ≡ Some s → Reads s (ls ++ l ∷ [])
 
 module _ {Line Reader : Type 0} (g : Grammar Line Reader) where
-  open g use {words_of, Fits, line_of, words_back, line_back, sound, next_by}
+  open g use {words_of, Fits, line_of, are_words, line_back, sound, next_by}
 
   abbrev pub line_bytes : Line → List ℕ
   line_bytes l = joined (words_of l) ++ 10 ∷ []
@@ -108,7 +108,7 @@ module _ {Line Reader : Type 0} (g : Grammar Line Reader) where
   read_bytes bytes = read_text (chomped bytes)
 
   pub read_bytes-line : (l : Line) → Fits l → read_bytes (line_bytes l) ≡ Some l
-  read_bytes-line l fits = ap read_text (chomped-line (joined (words_of l))) ∙ ap line_of (words_back l fits) ∙ line_back l fits
+  read_bytes-line l fits = ap read_text (chomped-line (joined (words_of l))) ∙ ap line_of (words-joined (words_of l) (are_words l fits)) ∙ line_back l fits
 
   pub record IsBytes (bytes : List ℕ) (l : Line) : Type 0 where
     pub are : bytes ≡ line_bytes l

@@ -14,7 +14,7 @@ use Rattle.dp_plan_text.specs.Refused.{Begins, IsRefused, at_line, at_end}
 use Rattle.dp_plan_text.specs.steps.Ending.{IfEnds, ReadsText}
 use Rattle.dp_plan_text.specs.steps.LineWords.{line_of}
 use Rattle.dp_plan_text.specs.steps.Reading.{begun, next_by}
-use Rattle.dp_plan_text.proofs.LineComplete.{LineFits, line-words, words-line}
+use Rattle.dp_plan_text.proofs.LineComplete.{LineFits, line-words, are_words}
 use Rattle.dp_plan_text.proofs.LineSound.{line_sound}
 use Rattle.dp_plan_text.proofs.Runs.{Grammar, run_bytes, run_bytes-lines}
 use Rattle.dp_plan_text.proofs.RunComplete.{over, lines_run}
@@ -33,7 +33,7 @@ plan_grammar n = record {
   words_of = words_of;
   Fits = LineFits;
   line_of = line_of;
-  words_back = words-line;
+  are_words = are_words;
   line_back = line-words;
   sound = line_sound;
   begun = begun;

@@ -11,5 +11,4 @@ pub mod NextLine
 pub mod RunEnds
 pub mod TextLemmas
 pub mod KnownSites
-pub mod WholeLines
 pub mod ReadBack

@@ -1,8 +1,7 @@
 -- Each line that fits is read from its words.
-use Rattle.std.proofs.Common.{◌≡◌, ℕ, ◌<◌, ◌≤◌, Bool, true, false, nat_lt, nat_le, [], ◌∷◌, Option, Some, codes, decimal, refl, ap, ◌∙◌, rules, arith}
-use Rattle.dp_plan_text.specs.PlanText.{joined}
-use Rattle.dp_plan_text.specs.Words.{words, number_of}
-use Rattle.dp_plan_text.proofs.JoinLemmas.{IsWord, words-joined, decimal_word}
+use Rattle.std.proofs.Common.{◌≡◌, ℕ, ◌<◌, ◌≤◌, Bool, true, false, nat_lt, nat_le, Option, Some, decimal, refl, ap, ◌∙◌, rules, arith}
+use Rattle.dp_plan_text.specs.Words.{number_of}
+use Rattle.dp_plan_text.proofs.JoinLemmas.{IsWord, AreWords, decimal_word}
 use Rattle.dp_plan_text.proofs.NumberText.{number-decimal, number_of-decimal}
 use Rattle.dp_profile.specs.declared.SiteCount.{SiteCount}
 use Rattle.dp_profile.specs.declared.Flow.{Flow}
@@ -56,16 +55,13 @@ line-words line.End fits = refl
 -- ---- the words of the line's text
 
 kind_is_word : (carried : Bool) → IsWord (kind_word carried)
-kind_is_word true = refl
-kind_is_word false = refl
+kind_is_word true = (refl, refl)
+kind_is_word false = (refl, refl)
 
-pub words-line : (l : Line) → LineFits l → words (joined (words_of l)) ≡ words_of l
-words-line line.Head fits = refl
-words-line (line.Region r) fits = words-joined (codes "region") (decimal r ∷ []) refl (decimal_word r (omega (arith, fits)), tt)
-words-line (line.Runs site c) fits =
-    words-joined (codes "runs") (decimal site.0 ∷ decimal c.runs ∷ decimal c.nonzero ∷ []) refl
-    (decimal_word site.0 (omega (arith, fits.0)), (decimal_word c.runs (omega (arith, fits.1)), (decimal_word c.nonzero (omega (arith, fits.1, fits.2)), tt)))
-words-line (line.Flow f) fits =
-    words-joined (codes "flow") (decimal f.from.0 ∷ decimal f.to.0 ∷ kind_word f.carried ∷ decimal f.shown ∷ []) refl
-    (decimal_word f.from.0 (omega (arith, fits.0)), (decimal_word f.to.0 (omega (arith, fits.1)), (kind_is_word f.carried, (decimal_word f.shown (omega (arith, fits.3)), tt))))
-words-line line.End fits = refl
+pub are_words : (l : Line) → LineFits l → AreWords (words_of l)
+are_words line.Head fits = ((refl, refl), ((refl, refl), tt))
+are_words (line.Region r) fits = ((refl, refl), (decimal_word r (omega (arith, fits)), tt))
+are_words (line.Runs site c) fits = ((refl, refl), (decimal_word site.0 (omega (arith, fits.0)), (decimal_word c.runs (omega (arith, fits.1)), (decimal_word c.nonzero (omega (arith, fits.1, fits.2)), tt))))
+are_words (line.Flow f) fits =
+    ((refl, refl), (decimal_word f.from.0 (omega (arith, fits.0)), (decimal_word f.to.0 (omega (arith, fits.1)), (kind_is_word f.carried, (decimal_word f.shown (omega (arith, fits.3)), tt)))))
+are_words line.End fits = ((refl, refl), tt)

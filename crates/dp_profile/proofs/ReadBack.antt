@@ -12,13 +12,12 @@ use Rattle.dp_profile.specs.ProfileText.{ProfileFits, ProfileText, profile_lines
 use Rattle.dp_profile.specs.Refused.{IsRefused, ReadsOnly, at_line, at_end}
 use Rattle.dp_profile.specs.WrittenText.{profile_text}
 use Rattle.dp_profile.proofs.KnownSites.{few_regions, small_sites}
-use Rattle.dp_profile.proofs.LineComplete.{top}
+use Rattle.dp_profile.proofs.LineComplete.{top, are_words}
 use Rattle.dp_profile.proofs.RunComplete.{over}
 use Rattle.dp_profile.proofs.RunEnds.{SmallSite, whole_fits}
 use Rattle.dp_plan_text.proofs.SoFar.{text_begins}
 use Rattle.dp_profile.proofs.TextLemmas.{text_runs, profile_texts}
 use Rattle.dp_plan_text.proofs.Unbroken.{lines_whole}
-use Rattle.dp_profile.proofs.WholeLines.{unbroken-line}
 
 module _ (p : Program) (few : length (regions p) ≤ top) (small : Each (Each SmallSite) (regions p)) (bytes : List ℕ) where
   one_profile : (profile other : Profile) → ProfileText p bytes profile → ProfileText p bytes other → other ≡ profile
@@ -39,7 +38,7 @@ module _ (p : Program) (few : length (regions p) ≤ top) (small : Each (Each Sm
 module _ (p : Program) (inlined : IsInlined p) where
   pub read_back : (profile : Profile) → ProfileFits p profile → ProfileText p (profile_text p profile) profile
   read_back profile fits = record {
-    lines_are = lines_whole words_of unbroken-line (profile_lines p profile) (whole_fits (regions p) profile.regions (few_regions p inlined) (small_sites p inlined) fits);
+    lines_are = lines_whole words_of are_words (profile_lines p profile) (whole_fits (regions p) profile.regions (few_regions p inlined) (small_sites p inlined) fits);
     fits = fits;
   }
 

@@ -18,7 +18,7 @@ use Rattle.dp_profile.specs.Refused.{Begins, IsRefused, ReadsAs, at_line, at_end
 use Rattle.dp_profile.specs.steps.Ending.{IfEnds}
 use Rattle.dp_profile.specs.steps.LineWords.{line_of}
 use Rattle.dp_profile.specs.steps.Reading.{begun, next_by}
-use Rattle.dp_profile.proofs.LineComplete.{LineFits, top, line-words, words-line}
+use Rattle.dp_profile.proofs.LineComplete.{LineFits, top, line-words, are_words}
 use Rattle.dp_profile.proofs.LineSound.{line_sound}
 use Rattle.dp_profile.proofs.NextLine.{reads_next}
 use Rattle.dp_profile.proofs.RunComplete.{over, lines_run}
@@ -36,7 +36,7 @@ profile_grammar all = record {
   words_of = words_of;
   Fits = LineFits;
   line_of = line_of;
-  words_back = words-line;
+  are_words = are_words;
   line_back = line-words;
   sound = line_sound;
   begun = begun;
