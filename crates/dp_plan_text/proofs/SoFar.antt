@@ -82,7 +82,7 @@ module _ {Line Reader : Type 0} {g : Grammar Line Reader} {Text Begins : List (L
   pub text_begins : (k : ℕ) (ls : List (List ℕ)) → Text ls → Begins (take k ls)
   text_begins k ls x = begins (take k ls) (drop k ls) (subst Text (sym (take-append-drop k ls)) x)
 
-  -- and so does one that begins with more
+  -- one begins with the first of the lines that have been read
   fronts : (s : Reader) (done rest : List (List ℕ)) (k : ℕ) → Reached g s done → k ≤ length done → Begins (take k (done ++ rest))
   fronts s done rest k r le =
       let on = reads_on s r.lines r.reads in
@@ -90,6 +90,7 @@ module _ {Line Reader : Type 0} {g : Grammar Line Reader} {Text Begins : List (L
       let all : Text (done ++ map (line_bytes g) on.0) = subst Text (map-append (line_bytes g) r.lines on.0 ∙ ap (λ d. d ++ ends) (sym r.are)) on.1 in
       subst Begins (take-append-le k done ends le ∙ sym (take-append-le k done rest le)) (text_begins k (done ++ ends) all)
 
+  -- none begins with these and a line that can't stand
   not_begun : (s : Reader) (done : List (List ℕ)) (bytes : List ℕ) → Reached g s done → next_by s (read_bytes g bytes) ≡ None → ¬ Begins (done ++ bytes ∷ [])
   not_begun s done bytes r h b =
       let w = whole (done ++ bytes ∷ []) b in let over = runs_over ((done ++ bytes ∷ []) ++ w.0) w.1 in
