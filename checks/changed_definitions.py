@@ -24,6 +24,7 @@ from uncited import brought, in_full, lemma_files
 
 TOGETHER = 8
 MOST = 60
+ROUNDS = 12
 PRELUDE = {"not": "not", "||": "◌||◌", "&&": "◌&&◌", "nat_lt": "nat_lt", "nat_le": "nat_le", "<": "◌<◌", "≤": "◌≤◌", "suc": "suc",
            "+": "◌+◌", "true": "true", "false": "false", "++": "◌++◌", "⊎": "◌⊎◌", "take": "take", "drop": "drop"}
 
@@ -124,14 +125,19 @@ def keep_typed_beside(copy, items):
 
 
 def keep_typed(copy, items):
-    """Leaves of each definition the changes from the first on that has its type."""
-    refused = {None}
-    while refused:
-        owners = write(copy, items, [item for item in items if item.left])
-        refused = {owner_of(owners, path, line) for path, line, _ in copy.errors("reads_definitions")} - {None}
+    """Leaves of each family the changes from the first on that has its type; of one for which none is found in some rounds,
+    none."""
+    families = [item for item in items if item.left and not item.can_stand_beside()]
+    for last in [False] * ROUNDS + [True]:
+        owners = write(copy, items, [item for item in families if item.left])
+        refused = {owner_of(owners, path, line) for path, line, _ in copy.errors("reads_definitions")}.intersection(families)
         refused = {item for item in refused if item.left}
+        if not refused:
+            break
         for item in refused:
-            item.left.pop(0)
+            item.left = [] if last else item.left[1:]
+    for item in families:
+        item.left = item.left[:1]
 
 
 class Seen:
@@ -212,10 +218,9 @@ def main():
                 items += [Changed(x, scope) for x in antt(path).all if not names or x.name in names]
         keep_typed_beside(copy, items)
         keep_typed(copy, items)
-        bare = [item for item in items if not item.left]
         for item in items:
-            if not item.can_stand_beside():
-                item.left = item.left[:1]
+            if not item.left:
+                print(f"{item.path}: {item.definition.name}: none that keeps its type", flush=True)
         seen = Seen(crate, items)
         tried = unnoticed = 0
         for _ in range(rounds):
@@ -233,8 +238,6 @@ def main():
                     unnoticed += 1
                 elsewhere = [change for change in item.left if set(change[1]) != set(item.left[0][1])]
                 item.left = elsewhere if seen.by[item] else []
-    for item in bare:
-        print(f"{item.path}: {item.definition.name}: none that keeps its type")
     print(f"{crate}: {len(items)} definitions, {tried} changes, {unnoticed} noticed by no lemma or row")
     sys.exit(unnoticed > 0)
 

@@ -18,8 +18,8 @@ use Rattle.dp_drive.specs.Profiles.{ReadsProfile, TooLong, NoProfile, Taken}
 -- there is one first number of which something isn't so
 pub one_first : (So : ℕ → Type 0) {n m : ℕ} → ((k : ℕ) → k < n → So k) → ¬ So n → ((k : ℕ) → k < m → So k) → ¬ So m → n ≡ m
 one_first So {n} {m} before here before2 here2 = elim (cases_order n m) [
-  | inl less ↦ absurd (here (before2 n less))
-  | inr (inl same) ↦ same
+  | inl same ↦ same
+  | inr (inl less) ↦ absurd (here (before2 n less))
   | inr (inr more) ↦ absurd (here2 (before m more))
 ]
 
