@@ -3,12 +3,14 @@
 its type, and says which lemma, row or other definition of the crate notices. Ends with 1 where none does; a function's clause
 may then, or a crate above.
 
-  checks/changed_definitions.py CRATE [COUNT] [NAMES..]     all definitions where none is named; one change where no COUNT is
+  checks/changed_definitions.py CRATE [COUNT] [NAMES..]     all definitions where none is named; so many changes of each, on
+                                                            different lines, and one where no count is given
 
 Takes one minute to half an hour, and longer where the crates below have no libraries, which `rt ci --anew` leaves in
 crates/*/out.
 Definitions each of which some lemma sees alone are changed together.
 """
+import itertools
 import re
 import sys
 import tempfile
@@ -128,14 +130,14 @@ def keep_typed(copy, items):
     """Leaves of each family the changes from the first on that has its type; of one for which none is found in some rounds,
     none."""
     families = [item for item in items if item.left and not item.can_stand_beside()]
-    for last in [False] * ROUNDS + [True]:
+    for number in itertools.count():
         owners = write(copy, items, [item for item in families if item.left])
         refused = {owner_of(owners, path, line) for path, line, _ in copy.errors("reads_definitions")}.intersection(families)
         refused = {item for item in refused if item.left}
         if not refused:
             break
         for item in refused:
-            item.left = [] if last else item.left[1:]
+            item.left = item.left[1:] if number < ROUNDS else []
     for item in families:
         item.left = item.left[:1]
 

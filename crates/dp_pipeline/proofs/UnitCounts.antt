@@ -59,11 +59,8 @@ module _ (workers : ℕ) (plan : Plan) where
   all_staffed stage count is was =
       let none = ap (unit_count_all workers) (drop_of_length-le plan.stages {i = stage - 1} (omega (arith, is))) in omega (arith, none, was)
 
--- no replicated stage is the first, or stands behind another
+-- no replicated stage stands behind another
 module _ (p : Program) (plan : Plan) (fits : fits_plan p plan ≡ true) where
-  pub first_sequential : is_replicated plan 1 ≡ false
-  first_sequential = (accepted p plan fits).sequential
-
   pub behind_replicated : (s : ℕ) → is_replicated plan (suc s) ≡ true → is_replicated plan (s + 1 + 1) ≡ false
   behind_replicated s par = by (is_replicated plan (s + 1 + 1)) refl
     where

@@ -9,6 +9,7 @@ pub mod LineSound
 pub mod RunComplete
 pub mod RunSound
 pub mod RunEnds
+pub mod RefusedOnce
 pub mod SoFar
 pub mod TextLemmas
 pub mod ConditionForms

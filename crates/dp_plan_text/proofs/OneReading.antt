@@ -9,15 +9,14 @@ use Rattle.dp_plan.specs.Written.{plan_of}
 use Rattle.dp_plan.specs.declared.WrittenPlan.{WrittenPlan}
 use Rattle.dp_plan.specs.Valid.{first_fault}
 use Rattle.dp_plan_text.specs.PlanText.{PlanText, lines_of}
-use Rattle.dp_plan_text.specs.Refused.{IsRefused, StandsFor, at_line, at_end}
+use Rattle.dp_plan_text.specs.Refused.{IsPlanText, ReadsOnly, StandsFor}
 use Rattle.dp_plan_text.specs.WrittenText.{plans_text}
 use Rattle.dp_plan.specs.GivenPlans.{ArePlans}
-use Rattle.dp_plan_text.specs.Refused.{ReadsOnly}
 use Rattle.dp_plan_text.proofs.ReadBack.{read_back}
 use Rattle.dp_plan.proofs.RegionFacts.{few_regions}
 use Rattle.dp_plan_text.proofs.RunComplete.{over}
-use Rattle.dp_plan_text.proofs.SoFar.{text_begins}
-use Rattle.dp_plan_text.proofs.TextLemmas.{text_runs, plan_texts}
+use Rattle.dp_plan_text.proofs.RefusedOnce.{unrefused}
+use Rattle.dp_plan_text.proofs.TextLemmas.{text_runs}
 
 module _ (p : Program) (small : length p.regions < 2 ^ 32) (bytes : List ℕ) where
   -- a text has one version and one list of plans
@@ -34,13 +33,9 @@ module _ (p : Program) (small : length p.regions < 2 ^ 32) (bytes : List ℕ) wh
   one_meaning plans others s t =
       t.4 ∙ sym (ap (λ (v : Bool). map (plan_of p v) t.1) (one_version s.0 t.0 s.1 t.1 s.2 t.2)) ∙ sym (ap (λ (ws : List WrittenPlan). map (plan_of p s.0) ws) (one_list s.0 t.0 s.1 t.1 s.2 t.2)) ∙ sym s.4
 
-  pub unrefused : (v : Bool) (plans : List WrittenPlan) (line : ℕ) → PlanText p bytes v plans → IsRefused p bytes line → ⊥
-  unrefused v plans _ t (at_line line low high before here) = here (text_begins (plan_texts p small) line (lines_of bytes) (v, plans, t))
-  unrefused v plans _ t (at_end line is before none) = none v plans t
-
   pub read_only : (plans : List Plan) → StandsFor p bytes plans → ReadsOnly p bytes plans
   read_only plans s (Ok others) t = inl (ap (λ (qs : List Plan). Ok qs) (one_meaning plans others s t))
-  read_only plans s (Err (Refused line)) t = absurd (unrefused s.0 s.1 line s.2 t)
+  read_only plans s (Err (Refused line)) t = absurd (unrefused (IsPlanText p) (lines_of bytes) line (s.0, s.1, s.2) t)
   read_only plans s (Err (Invalid rule site)) t = absurd (cc (sym s.3 ∙ ap (first_fault p) (one_list s.0 t.0 s.1 t.1 s.2 t.2) ∙ t.3))
   read_only plans s (Err NoMemory) t = inr refl
 

@@ -1,13 +1,15 @@
 -- A text that is read up to a place, and how its reading ends there, whatever lines it has.
-use Rattle.std.proofs.Common.{◌≡◌, ℕ, ◌+◌, ◌<◌, ◌≤◌, ◌==◌, List, [], ◌∷◌, ◌++◌, map, length, take, drop, Option, Some, None, refl, sym, ap, subst, ◌∙◌, append_assoc, append-nil, length-append, arith}
+use Rattle.std.proofs.Common.{◌≡◌, ℕ, ◌+◌, ◌≤◌, ◌==◌, List, [], ◌∷◌, ◌++◌, map, length, take, Option, Some, None, refl, sym, ap, subst, ◌∙◌, append_assoc, append-nil, length-append, arith}
 use Rattle.std.specs.List.{position}
 use Rattle.std.proofs.Math.Seq.{take-append_seam}
-use Rattle.std.proofs.lemmas.List.{map-append, take-append-le, take-append-drop}
+use Rattle.std.proofs.lemmas.List.{map-append, take-append-le}
 use Rattle.dp_plan.specs.Each.{Each}
 use Rattle.dp_plan.proofs.EachLemmas.{each-append}
 use Rattle.dp_plan_text.specs.PlanText.{lines_of}
+use Rattle.dp_plan_text.specs.Refused.{Begins, IsRefusedAt, at_line, at_end}
 use Rattle.dp_plan_text.specs.Words.{words}
 use Rattle.dp_plan_text.proofs.CutLemmas.{lines_one}
+use Rattle.dp_plan_text.proofs.RefusedOnce.{text_begins}
 use Rattle.dp_plan_text.proofs.Runs.{Grammar, IsBytes, chomped-line, chomped-none, line_bytes, read_text, read_bytes, read_bytes-sound, run_bytes, run_bytes-none, run_bytes-append}
 use Rattle.dp_base.proofs.PositionLemmas.{position_none}
 
@@ -63,47 +65,37 @@ module _ {Line Reader : Type 0} (g : Grammar Line Reader) where
   pub reached_end : (bytes : List ℕ) (s : Reader) (count : ℕ) → SoFar bytes s [] count → Reached s (lines_of bytes)
   reached_end bytes s count f = subst (λ (ls : List (List ℕ)). Reached s ls) (sym (f.split ∙ append-nil f.done)) f.reached
 
--- the texts of a grammar, by their lines: each is read to its end, and what has been read begins one; and their refusals
-pub record Texts {Line Reader : Type 0} (g : Grammar Line Reader) (Text : List (List ℕ) → Type 0) (Begins : List (List ℕ) → Type 0) (Over : Reader → Type 0) (Refused : List ℕ → ℕ → Type 0) : Type 0 where
-  pub begins : (xs more : List (List ℕ)) → Text (xs ++ more) → Begins xs
-  pub whole : (xs : List (List ℕ)) → Begins xs → (more : List (List ℕ)) × Text (xs ++ more)
+-- the texts of a grammar, by their lines: each is read to its end, and what has been read begins one
+pub record Texts {Line Reader : Type 0} (g : Grammar Line Reader) (Text : List (List ℕ) → Type 0) (Over : Reader → Type 0) : Type 0 where
   pub runs_over : (ls : List (List ℕ)) → Text ls → (s : Reader) × (run_bytes g (Some g.begun) ls ≡ Some s) × Over s
   pub reads_on : (s : Reader) (ls : List Line) → g.Reads s ls → (more : List Line) × Text (map (line_bytes g) (ls ++ more))
-  pub at_line : (bytes : List ℕ) (line : ℕ) → 1 ≤ line → line ≤ length (lines_of bytes) → ((k : ℕ) → k < line → Begins (take k (lines_of bytes)))
-      → ¬ Begins (take line (lines_of bytes)) → Refused bytes line
-  pub at_end : (bytes : List ℕ) (line : ℕ) → line ≡ length (lines_of bytes) + 1 → ((k : ℕ) → k < line → Begins (take k (lines_of bytes)))
-      → ¬ Text (lines_of bytes) → Refused bytes line
 
-module _ {Line Reader : Type 0} {g : Grammar Line Reader} {Text Begins : List (List ℕ) → Type 0} {Over : Reader → Type 0} {Refused : List ℕ → ℕ → Type 0} (t : Texts g Text Begins Over Refused) where
+module _ {Line Reader : Type 0} {g : Grammar Line Reader} {Text : List (List ℕ) → Type 0} {Over : Reader → Type 0} (t : Texts g Text Over) where
   open g use {line_of, begun, next_by, no_line}
-  open t use {begins, whole, runs_over, reads_on, at_line, at_end}
-
-  -- a text of the grammar begins with its first lines
-  pub text_begins : (k : ℕ) (ls : List (List ℕ)) → Text ls → Begins (take k ls)
-  text_begins k ls x = begins (take k ls) (drop k ls) (subst Text (sym (take-append-drop k ls)) x)
+  open t use {runs_over, reads_on}
 
   -- one begins with the first of the lines that have been read
-  fronts : (s : Reader) (done rest : List (List ℕ)) (k : ℕ) → Reached g s done → k ≤ length done → Begins (take k (done ++ rest))
+  fronts : (s : Reader) (done rest : List (List ℕ)) (k : ℕ) → Reached g s done → k ≤ length done → Begins Text (take k (done ++ rest))
   fronts s done rest k r le =
       let on = reads_on s r.lines r.reads in
       let ends = map (line_bytes g) on.0 in
       let all : Text (done ++ map (line_bytes g) on.0) = subst Text (map-append (line_bytes g) r.lines on.0 ∙ ap (λ d. d ++ ends) (sym r.are)) on.1 in
-      subst Begins (take-append-le k done ends le ∙ sym (take-append-le k done rest le)) (text_begins k (done ++ ends) all)
+      subst (Begins Text) (take-append-le k done ends le ∙ sym (take-append-le k done rest le)) (text_begins Text k (done ++ ends) all)
 
   -- none begins with these and a line that can't stand
-  not_begun : (s : Reader) (done : List (List ℕ)) (bytes : List ℕ) → Reached g s done → next_by s (read_bytes g bytes) ≡ None → ¬ Begins (done ++ bytes ∷ [])
+  not_begun : (s : Reader) (done : List (List ℕ)) (bytes : List ℕ) → Reached g s done → next_by s (read_bytes g bytes) ≡ None → ¬ Begins Text (done ++ bytes ∷ [])
   not_begun s done bytes r h b =
-      let w = whole (done ++ bytes ∷ []) b in let over = runs_over ((done ++ bytes ∷ []) ++ w.0) w.1 in
-      let none : run_bytes g (Some begun) ((done ++ bytes ∷ []) ++ w.0) ≡ None =
-      run_bytes-append g (Some begun) (done ++ bytes ∷ []) w.0
-      ∙ ap (λ o. run_bytes g o w.0) (run_bytes-append g (Some begun) done (bytes ∷ []) ∙ ap (λ o. run_bytes g o (bytes ∷ [])) r.runs ∙ h)
-      ∙ run_bytes-none g w.0 in
+      let over = runs_over ((done ++ bytes ∷ []) ++ b.0) b.1 in
+      let none : run_bytes g (Some begun) ((done ++ bytes ∷ []) ++ b.0) ≡ None =
+      run_bytes-append g (Some begun) (done ++ bytes ∷ []) b.0
+      ∙ ap (λ o. run_bytes g o b.0) (run_bytes-append g (Some begun) done (bytes ∷ []) ∙ ap (λ o. run_bytes g o (bytes ∷ [])) r.runs ∙ h)
+      ∙ run_bytes-none g b.0 in
       cc (sym none ∙ over.1)
 
   module _ (bytes : List ℕ) where
     -- the next line can't stand
     refused_at : (s : Reader) (rest piece : List ℕ) (later : List (List ℕ)) (count : ℕ) → SoFar g bytes s rest count → lines_of rest ≡ piece ∷ later
-        → next_by s (read_bytes g piece) ≡ None → Refused bytes (count + 1)
+        → next_by s (read_bytes g piece) ≡ None → IsRefusedAt Text (lines_of bytes) (count + 1)
     refused_at s rest piece later count f cut h =
         let all : lines_of bytes ≡ (f.done ++ piece ∷ []) ++ later = f.split ∙ ap (λ r. f.done ++ r) cut ∙ sym (append_assoc f.done (piece ∷ []) later) in
         let all_first : lines_of bytes ≡ f.done ++ piece ∷ later = f.split ∙ ap (λ r. f.done ++ r) cut in
@@ -112,27 +104,27 @@ module _ {Line Reader : Type 0} {g : Grammar Line Reader} {Text Begins : List (L
         let full : length (lines_of bytes) ≡ length (f.done ++ piece ∷ []) + length later = ap length all ∙ length-append (f.done ++ piece ∷ []) later in
         let front : take (count + 1) (lines_of bytes) ≡ f.done ++ piece ∷ [] =
         ap (λ k. take k (lines_of bytes)) count_is ∙ ap (take (length (f.done ++ piece ∷ []))) all ∙ take-append_seam (f.done ++ piece ∷ []) later in
-        at_line bytes (count + 1) (omega arith) (omega (arith, full, count_is))
-        (λ k lt. subst (λ (ls : List (List ℕ)). Begins (take k ls)) (sym all_first) (fronts s f.done (piece ∷ later) k f.reached (omega (arith, lt, f.counted))))
-        (subst (λ (ls : List (List ℕ)). ¬ Begins ls) (sym front) (not_begun s f.done piece f.reached h))
+        at_line (count + 1) (omega arith) (omega (arith, full, count_is))
+        (λ k lt. subst (λ (ls : List (List ℕ)). Begins Text (take k ls)) (sym all_first) (fronts s f.done (piece ∷ later) k f.reached (omega (arith, lt, f.counted))))
+        (subst (λ (ls : List (List ℕ)). ¬ Begins Text ls) (sym front) (not_begun s f.done piece f.reached h))
 
     pub refused_line : (s : Reader) (rest text more : List ℕ) (count : ℕ) → SoFar g bytes s rest count → lines_of rest ≡ (text ++ 10 ∷ []) ∷ lines_of more
-        → next_by s (line_of (words text)) ≡ None → Refused bytes (count + 1)
+        → next_by s (line_of (words text)) ≡ None → IsRefusedAt Text (lines_of bytes) (count + 1)
     refused_line s rest text more count f cut h = refused_at s rest (text ++ 10 ∷ []) (lines_of more) count f cut (ap (next_by s) (read_line-bytes g text) ∙ h)
 
     -- the text ends there, and isn't over
-    refused_end : (s : Reader) (count : ℕ) → SoFar g bytes s [] count → ¬ Over s → Refused bytes (count + 1)
+    refused_end : (s : Reader) (count : ℕ) → SoFar g bytes s [] count → ¬ Over s → IsRefusedAt Text (lines_of bytes) (count + 1)
     refused_end s count f other =
         let all : lines_of bytes ≡ f.done = f.split ∙ append-nil f.done in
-        at_end bytes (count + 1) (omega (arith, ap length all, f.counted))
-        (λ k lt. subst (λ (ls : List (List ℕ)). Begins (take k ls)) (sym f.split) (fronts s f.done [] k f.reached (omega (arith, lt, f.counted))))
+        at_end (count + 1) (omega (arith, ap length all, f.counted))
+        (λ k lt. subst (λ (ls : List (List ℕ)). Begins Text (take k ls)) (sym f.split) (fronts s f.done [] k f.reached (omega (arith, lt, f.counted))))
         (λ x.
         let over = runs_over (lines_of bytes) x in
         let same : over.0 ≡ s = cc (sym over.1 ∙ (reached_end g bytes s count f).runs) in
         other (subst Over same over.2))
 
     -- what follows has no LF: either it is a piece that is no line, or the text ends there
-    pub refused_rest : (s : Reader) (rest : List ℕ) (count : ℕ) → SoFar g bytes s rest count → position (λ b. b == 10) rest ≡ None → (rest ≡ [] → ¬ Over s) → Refused bytes (count + 1)
+    pub refused_rest : (s : Reader) (rest : List ℕ) (count : ℕ) → SoFar g bytes s rest count → position (λ b. b == 10) rest ≡ None → (rest ≡ [] → ¬ Over s) → IsRefusedAt Text (lines_of bytes) (count + 1)
     refused_rest s [] count f none other = refused_end s count f (other refl)
     refused_rest s (byte ∷ rest) count f none other =
         let long = position_none (λ b. b == 10) (byte ∷ rest) none in

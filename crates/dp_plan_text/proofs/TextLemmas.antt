@@ -10,7 +10,7 @@ use Rattle.dp_plan_text.specs.declared.line.Line.{Line}
 use Rattle.dp_plan_text.specs.declared.reader.Reader.{Reader}
 use Rattle.dp_plan_text.specs.declared.reader.Phase.TheVariants as phase
 use Rattle.dp_plan_text.specs.PlanText.{PlanLines, PlanText, line_bytes, plan_lines, words_of}
-use Rattle.dp_plan_text.specs.Refused.{Begins, IsRefused, at_line, at_end}
+use Rattle.dp_plan_text.specs.Refused.{IsPlanText, IsRefused}
 use Rattle.dp_plan_text.specs.steps.Ending.{IfEnds, ReadsText}
 use Rattle.dp_plan_text.specs.steps.LineWords.{line_of}
 use Rattle.dp_plan_text.specs.steps.Reading.{begun, next_by}
@@ -44,10 +44,6 @@ plan_grammar n = record {
   reads_next = reads_next n;
 }
 
--- these are the lines of a text of plans
-abbrev pub IsPlanText : Program → List (List ℕ) → Type 0
-IsPlanText p lines = (proved : Bool) × (plans : List WrittenPlan) × PlanLines p lines proved plans
-
 module _ (p : Program) (small : length p.regions < 2 ^ 32) where
   -- the lines of a text of the grammar are read to their end
   pub text_runs : (lines : List (List ℕ)) (v : Bool) (plans : List WrittenPlan) → PlanLines p lines v plans → run_bytes (plan_grammar (length p.regions)) (Some begun) lines ≡ Some (over v plans)
@@ -64,14 +60,10 @@ module _ (p : Program) (small : length p.regions < 2 ^ 32) where
       let t : IsText (length p.regions) e.proved e.plans (ls ++ e.more) = reads_over n (over e.proved e.plans) (ls ++ e.more) (reads_more n e.more s (over e.proved e.plans) ls r e.fit e.runs) refl in
       (e.more, (e.proved, e.plans, record { lines_are = ap (map line_bytes) t.are; regions = t.numbers; fit = t.fit }))
 
-  pub plan_texts : Texts (plan_grammar (length p.regions)) (IsPlanText p) (Begins p) (λ s. s.phase ≡ phase.Over) (IsRefused p)
+  pub plan_texts : Texts (plan_grammar (length p.regions)) (IsPlanText p) (λ s. s.phase ≡ phase.Over)
   plan_texts = record {
-    begins = λ xs more t. (more, t.0, t.1, t.2);
-    whole = λ xs b. (b.0, (b.1, b.2, b.3));
     runs_over = λ ls t. (over t.0 t.1, text_runs ls t.0 t.1 t.2, refl);
     reads_on = reads_on;
-    at_line = λ bytes line low high before here. at_line line low high before here;
-    at_end = λ bytes line is before none. at_end line is before (λ v plans t. none (v, plans, t));
   }
 
   -- how the reading of what has no LF ends

@@ -10,17 +10,23 @@ use Rattle.dp_plan.specs.Valid.{first_fault}
 use Rattle.dp_plan.specs.declared.BrokenRule.{BrokenRule}
 use Rattle.dp_plan_text.specs.PlanText.{PlanLines, PlanText, lines_of}
 
--- a text of the grammar begins with these lines
-abbrev pub Begins : Program → List (List ℕ) → Type 0
-Begins p lines = (more : List (List ℕ)) × (proved : Bool) × (plans : List WrittenPlan) × PlanLines p (lines ++ more) proved plans
+-- a text of a grammar begins with these lines
+abbrev pub Begins : (List (List ℕ) → Type 0) → List (List ℕ) → Type 0
+Begins IsText lines = (more : List (List ℕ)) × IsText (lines ++ more)
 
--- The least line, from 1, up to which no text of the grammar begins so. Where one begins with all lines, but isn't
+-- The least line, from 1, up to which no text of a grammar begins so. Where one begins with all lines, but isn't
 -- these, it is the number after the last line.
-pub data IsRefused (p : Program) (bytes : List ℕ) : ℕ → Type 0 where
-  at_line : (line : ℕ) → 1 ≤ line → line ≤ length (lines_of bytes) → ((k : ℕ) → k < line → Begins p (take k (lines_of bytes)))
-      → ¬ Begins p (take line (lines_of bytes)) → IsRefused p bytes line
-  at_end : (line : ℕ) → line ≡ length (lines_of bytes) + 1 → ((k : ℕ) → k < line → Begins p (take k (lines_of bytes)))
-      → ((proved : Bool) (plans : List WrittenPlan) → ¬ PlanText p bytes proved plans) → IsRefused p bytes line
+pub data IsRefusedAt (IsText : List (List ℕ) → Type 0) (lines : List (List ℕ)) : ℕ → Type 0 where
+  at_line : (line : ℕ) → 1 ≤ line → line ≤ length lines → ((k : ℕ) → k < line → Begins IsText (take k lines)) → ¬ Begins IsText (take line lines) → IsRefusedAt IsText lines line
+  at_end : (line : ℕ) → line ≡ length lines + 1 → ((k : ℕ) → k < line → Begins IsText (take k lines)) → ¬ IsText lines → IsRefusedAt IsText lines line
+
+-- these are the lines of a text of plans
+abbrev pub IsPlanText : Program → List (List ℕ) → Type 0
+IsPlanText p lines = (proved : Bool) × (plans : List WrittenPlan) × PlanLines p lines proved plans
+
+-- the text isn't in the grammar, from this line on
+abbrev pub IsRefused : Program → List ℕ → ℕ → Type 0
+IsRefused p bytes line = IsRefusedAt (IsPlanText p) (lines_of bytes) line
 
 -- the text is in the grammar, and its plans break this rule first, or none
 abbrev pub IsBroken : Program → List ℕ → Option BrokenRule → Type 0

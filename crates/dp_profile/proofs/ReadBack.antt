@@ -9,14 +9,14 @@ use Rattle.dp_profile.specs.declared.ProfileFail.TheVariants.{Refused, NoMemory}
 use Rattle.dp_profile.specs.declared.reader.Reader.{Reader}
 use Rattle.dp_profile.specs.Sites.{regions}
 use Rattle.dp_profile.specs.ProfileText.{ProfileFits, ProfileText, profile_lines, words_of}
-use Rattle.dp_profile.specs.Refused.{IsRefused, ReadsOnly, at_line, at_end}
+use Rattle.dp_profile.specs.Refused.{IsProfileText, ReadsOnly}
 use Rattle.dp_profile.specs.WrittenText.{profile_text}
 use Rattle.dp_profile.proofs.KnownSites.{few_regions, small_sites}
 use Rattle.dp_profile.proofs.LineComplete.{top, are_words}
 use Rattle.dp_profile.proofs.RunComplete.{over}
 use Rattle.dp_profile.proofs.RunEnds.{SmallSite, whole_fits}
-use Rattle.dp_plan_text.proofs.SoFar.{text_begins}
-use Rattle.dp_profile.proofs.TextLemmas.{text_runs, profile_texts}
+use Rattle.dp_profile.proofs.TextLemmas.{text_runs}
+use Rattle.dp_plan_text.proofs.RefusedOnce.{unrefused}
 use Rattle.dp_plan_text.proofs.Unbroken.{lines_whole}
 
 module _ (p : Program) (few : length (regions p) ≤ top) (small : Each (Each SmallSite) (regions p)) (bytes : List ℕ) where
@@ -26,13 +26,9 @@ module _ (p : Program) (few : length (regions p) ≤ top) (small : Each (Each Sm
       let ends : over profile.regions ≡ over other.regions = cc same in
       sym (ap (λ (r : Reader). record { regions = r.done }) ends)
 
-  unrefused : (profile : Profile) (line : ℕ) → ProfileText p bytes profile → IsRefused p bytes line → ⊥
-  unrefused profile _ t (at_line line low high before here) = here (text_begins (profile_texts p few small) line (lines_of bytes) (profile, t))
-  unrefused profile _ t (at_end line is before none) = none profile t
-
   pub read_only : (profile : Profile) → ProfileText p bytes profile → ReadsOnly p bytes profile
   read_only profile s (Ok other) t = inl (ap (λ (q : Profile). Ok q) (one_profile profile other s t))
-  read_only profile s (Err (Refused line)) t = absurd (unrefused profile line s t)
+  read_only profile s (Err (Refused line)) t = absurd (unrefused (IsProfileText p) (lines_of bytes) line (profile, s) t)
   read_only profile s (Err NoMemory) t = inr refl
 
 module _ (p : Program) (inlined : IsInlined p) where

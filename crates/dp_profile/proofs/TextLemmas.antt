@@ -14,7 +14,7 @@ use Rattle.dp_profile.specs.declared.reader.Reader.{Reader}
 use Rattle.dp_profile.specs.declared.reader.Phase.TheVariants as phase
 use Rattle.dp_profile.specs.Sites.{RegionSite, regions}
 use Rattle.dp_profile.specs.ProfileText.{ProfileLines, ProfileText, line_bytes, profile_lines, words_of}
-use Rattle.dp_profile.specs.Refused.{Begins, IsRefused, ReadsAs, at_line, at_end}
+use Rattle.dp_profile.specs.Refused.{IsProfileText, IsRefused, ReadsAs}
 use Rattle.dp_profile.specs.steps.Ending.{IfEnds}
 use Rattle.dp_profile.specs.steps.LineWords.{line_of}
 use Rattle.dp_profile.specs.steps.Reading.{begun, next_by}
@@ -47,10 +47,6 @@ profile_grammar all = record {
   reads_next = reads_next all;
 }
 
--- these are the lines of a text of a profile
-abbrev pub IsProfileText : Program → List (List ℕ) → Type 0
-IsProfileText p lines = (profile : Profile) × ProfileLines p lines profile
-
 module _ (p : Program) (few : length (regions p) ≤ top) (small : Each (Each SmallSite) (regions p)) where
   -- the lines of a text of the grammar are read to their end
   pub text_runs : (lines : List (List ℕ)) (profile : Profile) → ProfileLines p lines profile → run_bytes (profile_grammar (regions p)) (Some begun) lines ≡ Some (over profile.regions)
@@ -66,14 +62,10 @@ module _ (p : Program) (few : length (regions p) ≤ top) (small : Each (Each Sm
       let e : Ends (regions p) ls = reads_end (regions p) s ls r in
       (e.more, (record { regions = e.shown }, record { lines_are = ap (map line_bytes) e.whole; fits = e.fit }))
 
-  pub profile_texts : Texts (profile_grammar (regions p)) (IsProfileText p) (Begins p) (λ s. s.phase ≡ phase.Over) (IsRefused p)
+  pub profile_texts : Texts (profile_grammar (regions p)) (IsProfileText p) (λ s. s.phase ≡ phase.Over)
   profile_texts = record {
-    begins = λ xs more t. (more, t.0, t.1);
-    whole = λ xs b. (b.0, (b.1, b.2));
     runs_over = λ ls t. (over t.0.regions, text_runs ls t.0 t.1, refl);
     reads_on = reads_on;
-    at_line = λ bytes line low high before here. at_line line low high before here;
-    at_end = λ bytes line is before none. at_end line is before (λ profile t. none (profile, t));
   }
 
   -- how the reading of what has no LF ends

@@ -1,14 +1,15 @@
 -- A text of plans is read in one way only: as one list of plans, or with one refusal.
-use Rattle.std.proofs.Common.{◌≡◌, refl, sym, ap, ◌∙◌, ℕ, ◌≤◌, ◌<◌, ◌^◌, List, length, take, Option, Some, None, Result, Ok, Err, arith}
+use Rattle.std.proofs.Common.{◌≡◌, refl, sym, ap, ◌∙◌, ℕ, ◌≤◌, ◌<◌, ◌^◌, Bool, List, length, Option, Some, None, Result, Ok, Err, arith}
 use Rattle.dp_base.specs.declared.Quantity.TheVariants.{PlanBytes}
 use Rattle.dp_tree.specs.declared.Program.{Program}
 use Rattle.dp_plan.specs.declared.Plan.{Plan}
 use Rattle.dp_plan.specs.Valid.{first_fault}
 use Rattle.dp_plan.specs.declared.BrokenRule.{BrokenRule}
-use Rattle.dp_plan_text.specs.PlanText.{lines_of}
-use Rattle.dp_plan_text.specs.Refused.{Begins, IsBroken, IsRefused, StandsFor, at_line, at_end}
-use Rattle.dp_plan_text.proofs.OneReading.{one_list, one_meaning, unrefused}
-use Rattle.dp_drive.proofs.definite.ProfilesOnce.{one_first}
+use Rattle.dp_plan.specs.declared.WrittenPlan.{WrittenPlan}
+use Rattle.dp_plan_text.specs.PlanText.{PlanText, lines_of}
+use Rattle.dp_plan_text.specs.Refused.{IsBroken, IsPlanText, IsRefused, StandsFor}
+use Rattle.dp_plan_text.proofs.OneReading.{one_list, one_meaning}
+use Rattle.dp_plan_text.proofs.RefusedOnce.{one_line, unrefused}
 use Rattle.dp_drive.specs.declared.refusal.Refusal.{Refusal}
 use Rattle.dp_drive.specs.declared.refusal.Refusal.TheVariants.{Limit, PlanLine, PlanRule}
 use Rattle.dp_drive.specs.Plans.{ReadsPlans, TooLong, NotPlans, Broken, Taken}
@@ -17,11 +18,8 @@ module _ (p : Program) (small : length p.regions < 2 ^ 32) (text : List ℕ) whe
   one_fault : (fault other : Option BrokenRule) → IsBroken p text fault → IsBroken p text other → fault ≡ other
   one_fault fault other s t = sym s.3 ∙ ap (first_fault p) (one_list p small text s.0 t.0 s.1 t.1 s.2 t.2) ∙ t.3
 
-  one_line : {line other : ℕ} → IsRefused p text line → IsRefused p text other → line ≡ other
-  one_line (at_line line low high before here) (at_line other low2 high2 before2 here2) = one_first (λ n. Begins p (take n (lines_of text))) before here before2 here2
-  one_line (at_line line low high before here) (at_end other is before2 none) = absurd (here (before2 line (omega (arith, high, is))))
-  one_line (at_end line is before none) (at_line other low high before2 here) = absurd (here (before other (omega (arith, high, is))))
-  one_line (at_end line is before none) (at_end other is2 before2 none2) = is ∙ sym is2
+  none_refused : {A : Type 0} {proved : Bool} {plans : List WrittenPlan} {line : ℕ} → PlanText p text proved plans → IsRefused p text line → A
+  none_refused {A} {proved} {plans} {line} t r = absurd (unrefused (IsPlanText p) (lines_of text) line (proved, plans, t) r)
 
   from_long : {b : Result (List Plan) Refusal} → 1048576 < length text → ReadsPlans p text b → Err (Limit PlanBytes 1048577) ≡ b
   from_long h (TooLong k) = refl
@@ -31,9 +29,9 @@ module _ (p : Program) (small : length p.regions < 2 ^ 32) (text : List ℕ) whe
 
   from_line : {b : Result (List Plan) Refusal} (line : ℕ) → length text ≤ 1048576 → IsRefused p text line → ReadsPlans p text b → Err (PlanLine line) ≡ b
   from_line line h r (TooLong k) = absurd (omega (arith, h, k))
-  from_line line h r (NotPlans other k s) = ap (λ (n : ℕ). Err (PlanLine n)) (one_line r s)
-  from_line line h r (Broken rule site k s) = absurd (unrefused p small text s.0 s.1 line s.2 r)
-  from_line line h r (Taken plans k s) = absurd (unrefused p small text s.0 s.1 line s.2 r)
+  from_line line h r (NotPlans other k s) = ap (λ (n : ℕ). Err (PlanLine n)) (one_line (IsPlanText p) (lines_of text) r s)
+  from_line line h r (Broken rule site k s) = none_refused s.2 r
+  from_line line h r (Taken plans k s) = none_refused s.2 r
 
   -- the refusal of a broken rule
   abbrev refusal_of : Option BrokenRule → Result (List Plan) Refusal
@@ -42,13 +40,13 @@ module _ (p : Program) (small : length p.regions < 2 ^ 32) (text : List ℕ) whe
 
   from_rule : {b : Result (List Plan) Refusal} (rule site : ℕ) → length text ≤ 1048576 → IsBroken p text (Some (record { rule = rule; site = site })) → ReadsPlans p text b → Err (PlanRule rule site) ≡ b
   from_rule rule site h r (TooLong k) = absurd (omega (arith, h, k))
-  from_rule rule site h r (NotPlans line k s) = absurd (unrefused p small text r.0 r.1 line r.2 s)
+  from_rule rule site h r (NotPlans line k s) = none_refused r.2 s
   from_rule rule site h r (Broken other place k s) = ap refusal_of (one_fault _ _ r s)
   from_rule rule site h r (Taken plans k s) = let clash = one_fault _ None r (s.0, s.1, s.2, s.3) in absurd (cc clash)
 
   from_plans : {b : Result (List Plan) Refusal} (plans : List Plan) → length text ≤ 1048576 → StandsFor p text plans → ReadsPlans p text b → Ok plans ≡ b
   from_plans plans h r (TooLong k) = absurd (omega (arith, h, k))
-  from_plans plans h r (NotPlans line k s) = absurd (unrefused p small text r.0 r.1 line r.2 s)
+  from_plans plans h r (NotPlans line k s) = none_refused r.2 s
   from_plans plans h r (Broken rule site k s) = let clash = one_fault None _ (r.0, r.1, r.2, r.3) s in absurd (cc clash)
   from_plans plans h r (Taken others k s) = ap (λ (ps : List Plan). Ok ps) (one_meaning p small text others plans s r)
 

@@ -1,6 +1,5 @@
 -- A profile's text is read in one way only: as one profile, or with one refusal.
-use Rattle.std.proofs.Common.{◌≡◌, refl, sym, ap, ◌∙◌, inl, inr, ℕ, ◌≤◌, ◌<◌, List, length, take, Result, Ok, Err, arith}
-use Rattle.std.proofs.lemmas.Bool.{cases_order}
+use Rattle.std.proofs.Common.{◌≡◌, refl, sym, ap, inl, inr, ℕ, ◌≤◌, ◌<◌, List, length, Result, Ok, Err, arith}
 use Rattle.dp_base.specs.declared.Quantity.TheVariants.{ProfileBytes}
 use Rattle.dp_tree.specs.declared.Program.{Program}
 use Rattle.dp_tree.specs.Inlined.{IsInlined}
@@ -8,20 +7,13 @@ use Rattle.dp_profile.specs.declared.Profile.{Profile}
 use Rattle.dp_profile.specs.declared.ProfileFail.TheVariants as fail
 use Rattle.dp_profile.specs.ProfileText.{ProfileText}
 use Rattle.dp_plan_text.specs.PlanText.{lines_of}
-use Rattle.dp_profile.specs.Refused.{Begins, IsRefused, at_line, at_end}
+use Rattle.dp_profile.specs.Refused.{IsProfileText, IsRefused}
 use Rattle.dp_profile.proofs.KnownSites.{few_regions, small_sites}
 use Rattle.dp_profile.proofs.ReadBack.{read_only}
+use Rattle.dp_plan_text.proofs.RefusedOnce.{one_line, unrefused}
 use Rattle.dp_drive.specs.declared.refusal.Refusal.{Refusal}
 use Rattle.dp_drive.specs.declared.refusal.Refusal.TheVariants.{Limit, ProfileLine}
 use Rattle.dp_drive.specs.Profiles.{ReadsProfile, TooLong, NoProfile, Taken}
-
--- there is one first number of which something isn't so
-pub one_first : (So : ℕ → Type 0) {n m : ℕ} → ((k : ℕ) → k < n → So k) → ¬ So n → ((k : ℕ) → k < m → So k) → ¬ So m → n ≡ m
-one_first So {n} {m} before here before2 here2 = elim (cases_order n m) [
-  | inl same ↦ same
-  | inr (inl less) ↦ absurd (here (before2 n less))
-  | inr (inr more) ↦ absurd (here2 (before m more))
-]
 
 module _ (p : Program) (inlined : IsInlined p) (text : List ℕ) where
   one_profile : (profile other : Profile) → ProfileText p text profile → ProfileText p text other → profile ≡ other
@@ -30,17 +22,8 @@ module _ (p : Program) (inlined : IsInlined p) (text : List ℕ) where
     | inr clash ↦ absurd (cc clash)
   ]
 
-  unrefused : {A : Type 0} (profile : Profile) (line : ℕ) → ProfileText p text profile → IsRefused p text line → A
-  unrefused profile line s r = elim (read_only p (few_regions p inlined) (small_sites p inlined) text profile s (Err (fail.Refused line)) r) [
-    | inl clash ↦ absurd (cc clash)
-    | inr clash ↦ absurd (cc clash)
-  ]
-
-  one_line : {line other : ℕ} → IsRefused p text line → IsRefused p text other → line ≡ other
-  one_line (at_line line low high before here) (at_line other low2 high2 before2 here2) = one_first (λ n. Begins p (take n (lines_of text))) before here before2 here2
-  one_line (at_line line low high before here) (at_end other is before2 none) = absurd (here (before2 line (omega (arith, high, is))))
-  one_line (at_end line is before none) (at_line other low high before2 here) = absurd (here (before other (omega (arith, high, is))))
-  one_line (at_end line is before none) (at_end other is2 before2 none2) = is ∙ sym is2
+  none_refused : {A : Type 0} {profile : Profile} {line : ℕ} → ProfileText p text profile → IsRefused p text line → A
+  none_refused {A} {profile} {line} t r = absurd (unrefused (IsProfileText p) (lines_of text) line (profile, t) r)
 
   from_long : {b : Result Profile Refusal} → 67108864 < length text → ReadsProfile p text b → Err (Limit ProfileBytes 67108865) ≡ b
   from_long h (TooLong k) = refl
@@ -49,12 +32,12 @@ module _ (p : Program) (inlined : IsInlined p) (text : List ℕ) where
 
   from_line : {b : Result Profile Refusal} (line : ℕ) → length text ≤ 67108864 → IsRefused p text line → ReadsProfile p text b → Err (ProfileLine line) ≡ b
   from_line line h r (TooLong k) = absurd (omega (arith, h, k))
-  from_line line h r (NoProfile other k s) = ap (λ (n : ℕ). Err (ProfileLine n)) (one_line r s)
-  from_line line h r (Taken profile k t) = unrefused profile line t r
+  from_line line h r (NoProfile other k s) = ap (λ (n : ℕ). Err (ProfileLine n)) (one_line (IsProfileText p) (lines_of text) r s)
+  from_line line h r (Taken profile k t) = none_refused t r
 
   from_profile : {b : Result Profile Refusal} (profile : Profile) → length text ≤ 67108864 → ProfileText p text profile → ReadsProfile p text b → Ok profile ≡ b
   from_profile profile h t (TooLong k) = absurd (omega (arith, h, k))
-  from_profile profile h t (NoProfile line k r) = unrefused profile line t r
+  from_profile profile h t (NoProfile line k r) = none_refused t r
   from_profile profile h t (Taken other k s) = ap (λ (x : Profile). Ok x) (one_profile profile other t s)
 
   pub profiles_once : {a b : Result Profile Refusal} → ReadsProfile p text a → ReadsProfile p text b → a ≡ b
