@@ -47,7 +47,7 @@ count n ns = count_by (λ m. m == n) ns
 pub count-append : (n : ℕ) (xs ys : List ℕ) → count n (xs ++ ys) ≡ count n xs + count n ys
 count-append n xs ys = sum_by-append (λ m. cond (m == n) 1 0) xs ys
 
-count_next : (n m : ℕ) (ms : List ℕ) → count n (m ∷ ms) ≡ cond (m == n) 1 0 + count n ms
+pub count_next : (n m : ℕ) (ms : List ℕ) → count n (m ∷ ms) ≡ cond (m == n) 1 0 + count n ms
 count_next n m ms = sum_by-cons (λ i. cond (i == n) 1 0) m ms
 
 pub count_some : (n : ℕ) (ns : List ℕ) → has n ns ≡ true → 1 ≤ count n ns

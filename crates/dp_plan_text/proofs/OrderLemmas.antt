@@ -1,16 +1,15 @@
 -- Numbers in ascending order: which are among them, and the first that stands there again.
-use Rattle.std.proofs.Common.{◌≡◌, inl, inr, refl, sym, ◌∙◌, ap, arith, ℕ, suc, ◌+◌, ◌<◌, ◌≤◌, ◌==◌, if◌then◌else◌, nat_lt, Bool, true, false, ◌||◌, List, [], ◌∷◌, filter, cond, length, drop, get_or, Option, Some, None}
-use Rattle.std.specs.Prelude.{count_by}
+use Rattle.std.proofs.Common.{◌≡◌, inl, inr, refl, sym, ◌∙◌, ap, arith, ℕ, suc, ◌+◌, ◌<◌, ◌≤◌, ◌==◌, if◌then◌else◌, nat_lt, Bool, true, false, List, [], ◌∷◌, filter, cond, length, drop, get_or, Option, Some, None}
 use Rattle.std.specs.List.Sorted.{IsNonDecreasing}
 use Rattle.std.proofs.lemmas.Bool.{cases_Bool, and_parts, eqb-true, eqb-false, eq-eqb, ne_eqb, le-ltb, lt-ltb}
 use Rattle.std.proofs.lemmas.List.{get_or_default}
 use Rattle.std.proofs.lemmas.List.Folds.{Any-from_list_any}
-use Rattle.std.proofs.lemmas.List.Sums.{sum_by-cons, count_by-le-length}
+use Rattle.std.proofs.lemmas.List.Sums.{count_by-le-length}
 use Rattle.dp_plan.specs.Written.{has}
 use Rattle.dp_plan.specs.Rules.{least, occurs_again}
 use Rattle.dp_plan_text.proofs.MemberLemmas.{least_first, clash, has_later, has_cases, has_passing}
 use Rattle.dp_plan_text.proofs.StageLemmas.{first_pair, pair_here, no_pair}
-use Rattle.dp_plan.proofs.SameNumbers.{has_head}
+use Rattle.dp_plan.proofs.SameNumbers.{has_head, count, count_next, count_none}
 
 -- none of the others is below the first, and so on
 abbrev Rises : List ℕ → Type 0
@@ -31,24 +30,11 @@ first_again = first_pair (λ x y. x == y)
 
 -- ---- how often a number stands there
 
-abbrev times : ℕ → List ℕ → ℕ
-times n xs = count_by (λ m. m == n) xs
+count_same : (x : ℕ) (xs : List ℕ) → count x (x ∷ xs) ≡ 1 + count x xs
+count_same x xs = count_next x x xs ∙ ap (λ b. cond b 1 0 + count x xs) (eq-eqb x x refl)
 
-times_more : (n x : ℕ) (xs : List ℕ) → times n (x ∷ xs) ≡ cond (x == n) 1 0 + times n xs
-times_more n x xs = sum_by-cons (λ m. cond (m == n) 1 0) x xs
-
-times_same : (x : ℕ) (xs : List ℕ) → times x (x ∷ xs) ≡ 1 + times x xs
-times_same x xs = times_more x x xs ∙ ap (λ b. cond b 1 0 + times x xs) (eq-eqb x x refl)
-
-times_other : (n x : ℕ) (xs : List ℕ) → (x == n) ≡ false → times n (x ∷ xs) ≡ times n xs
-times_other n x xs e = times_more n x xs ∙ ap (λ b. cond b 1 0 + times n xs) e ∙ omega arith
-
-times_none : (n : ℕ) (xs : List ℕ) → has n xs ≡ false → times n xs ≡ 0
-times_none n [] e = refl
-times_none n (x ∷ xs) e = elim (cases_Bool (x == n)) [
-  | inl t ↦ clash (ap (λ b. b || has n xs) t) e
-  | inr f ↦ times_other n x xs f ∙ times_none n xs (sym (ap (λ b. b || has n xs) f) ∙ e)
-]
+count_other : (n x : ℕ) (xs : List ℕ) → (x == n) ≡ false → count n (x ∷ xs) ≡ count n xs
+count_other n x xs e = count_next n x xs ∙ ap (λ b. cond b 1 0 + count n xs) e ∙ omega arith
 
 -- the test needs to agree on the members alone
 filter_members : (test other : ℕ → Bool) (xs : List ℕ) → ((n : ℕ) → has n xs ≡ true → test n ≡ other n) → filter test xs ≡ filter other xs
@@ -65,7 +51,7 @@ repeated_more x y rest up ih =
       | inl e ↦
           let same : (y == x) ≡ true = eq-eqb y x (sym (eqb-true x y e)) in
           let twice : occurs_again (x ∷ y ∷ rest) x ≡ true =
-          lt-ltb 1 (times x (x ∷ y ∷ rest)) (omega (arith, times_same x (y ∷ rest), times_more x y rest ∙ ap (λ b. cond b 1 0 + times x rest) same)) in
+          lt-ltb 1 (count x (x ∷ y ∷ rest)) (omega (arith, count_same x (y ∷ rest), count_next x y rest ∙ ap (λ b. cond b 1 0 + count x rest) same)) in
           ap (λ b. least (if b then x ∷ later else later)) twice
           ∙ least_first x later (λ n t. up.0 n (and_parts (occurs_again (x ∷ y ∷ rest) n) (has n (y ∷ rest)) (sym (has_passing (occurs_again (x ∷ y ∷ rest)) n (y ∷ rest)) ∙ t)).1)
           ∙ ap Some (eqb-true x y e) ∙ sym (ap (λ b. if b then Some y else first_again (y ∷ rest)) e)
@@ -75,9 +61,9 @@ repeated_more x y rest up ih =
             | inl t ↦ elim (has_cases x y rest t) [ inl same ↦ absurd (apart (sym same)) | inr deeper ↦ absurd (apart (omega (arith, below, up.1.0 x deeper))) ]
             | inr f ↦ f
           ] in
-          let once : occurs_again (x ∷ y ∷ rest) x ≡ false = le-ltb 1 (times x (x ∷ y ∷ rest)) (omega (arith, times_same x (y ∷ rest), times_none x (y ∷ rest) gone)) in
+          let once : occurs_again (x ∷ y ∷ rest) x ≡ false = le-ltb 1 (count x (x ∷ y ∷ rest)) (omega (arith, count_same x (y ∷ rest), count_none x (y ∷ rest) gone)) in
           let agree : (n : ℕ) → has n (y ∷ rest) ≡ true → occurs_again (x ∷ y ∷ rest) n ≡ occurs_again (y ∷ rest) n =
-          λ n t. ap (nat_lt 1) (times_other n x (y ∷ rest) (ne_eqb x n (λ same. clash (ap (λ m. has m (y ∷ rest)) same ∙ t) gone))) in
+          λ n t. ap (nat_lt 1) (count_other n x (y ∷ rest) (ne_eqb x n (λ same. clash (ap (λ m. has m (y ∷ rest)) same ∙ t) gone))) in
           ap (λ b. least (if b then x ∷ later else later)) once
           ∙ ap least (filter_members (occurs_again (x ∷ y ∷ rest)) (occurs_again (y ∷ rest)) (y ∷ rest) agree)
           ∙ ih ∙ sym (ap (λ b. if b then Some y else first_again (y ∷ rest)) e)
@@ -87,7 +73,7 @@ repeated_more x y rest up ih =
 pub repeated : (xs : List ℕ) → Rises xs → least (filter (occurs_again xs) xs) ≡ first_again xs
 repeated [] up = refl
 repeated (x ∷ []) up =
-    let once : occurs_again (x ∷ []) x ≡ false = le-ltb 1 (times x (x ∷ [])) (omega (arith, times_same x [], count_by-le-length (λ m. m == x) (x ∷ []))) in
+    let once : occurs_again (x ∷ []) x ≡ false = le-ltb 1 (count x (x ∷ [])) (omega (arith, count_same x [], count_by-le-length (λ m. m == x) (x ∷ []))) in
     ap (λ b. least (if b then x ∷ [] else [])) once
 repeated (x ∷ y ∷ rest) up = repeated_more x y rest up (repeated (y ∷ rest) up.1)
 
