@@ -1,7 +1,7 @@
 #!/usr/bin/env bash
 # Runs the checks of this folder, one after the other, and ends with a line for each: its last line and its status. They
-# are what the gate, .ci/run, doesn't run; but changed_definitions.py, which takes a crate, is called by itself. Needs gcc
-# and python3. Ends with 1 where one fails; its output stands above then.
+# are what the gate, .ci/run, doesn't run; but changed_bodies.py and changed_definitions.py, which take a crate, are called
+# by themselves. Needs gcc and python3. Ends with 1 where one fails; its output stands above then.
 set -u
 cd "$(dirname "$0")/.."
 ./dswp --prove || exit
