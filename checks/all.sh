@@ -9,7 +9,8 @@ work=$(mktemp -d)
 trap 'rm -rf "$work"' EXIT
 failed=0
 for check in checks/*; do
-  case $check in checks/all.sh | checks/definitions.py | checks/chang*.py | checks/crate_copy.py | *.c) continue ;; esac
+  case $check in checks/all.sh | checks/changed_*) continue ;; esac
+  [ -x "$check" ] || continue
   "$check" >"$work/log" 2>&1
   status=$?
   if [ $status != 0 ]; then

@@ -11,7 +11,8 @@ It follows names from definition to definition, and not whole files. Those of th
 import sys
 
 sys.dont_write_bytecode = True
-from definitions import CRATES, TOP, Definition, antt, cites, rt, rust_items
+from citations import cites
+from definitions import CRATES, TOP, Definition, antt, rt, rust_items
 
 # lines of definitions in a part; comments are counted apart, and attributes of types are left out
 LIMIT = 1500

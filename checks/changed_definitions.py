@@ -20,8 +20,9 @@ from types import MappingProxyType
 
 sys.dont_write_bytecode = True
 from changes import Scope, changes
+from citations import cites
 from crate_copy import Copy
-from definitions import CRATES, antt, cites
+from definitions import CRATES, antt
 from uncited import brought, in_full, lemma_files
 
 TOGETHER = 8

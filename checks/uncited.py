@@ -12,7 +12,8 @@ import sys
 from functools import cache
 
 sys.dont_write_bytecode = True
-from definitions import CRATES, antt, cites, file_of, found_in, resolved, rt
+from citations import cites, file_of, found_in, resolved
+from definitions import CRATES, antt, rt
 
 LIMIT = 60
 
