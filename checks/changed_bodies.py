@@ -78,7 +78,9 @@ def changes_of(function):
             continue
         for old, new in TURNED:
             for place in re.finditer(old, line):
-                yield Change(function, at, line[:place.start()] + place.expand(new) + line[place.end():])
+                changed = line[:place.start()] + place.expand(new) + line[place.end():]
+                if changed != line:
+                    yield Change(function, at, changed)
         whole = line.count("(") == line.count(")") and line.endswith(";")
         if whole and not re.match(r" *(let|return|break|continue|use|\})", line):
             yield Change(function, at, None)
