@@ -33,7 +33,8 @@ TURNED = [
 
 
 class Function(NamedTuple):
-    """A function with the numbers of its body's lines, from 0, the last one left out."""
+    """A function with the numbers of its body's lines, from 0, the last one left out. A method is named by its type alone,
+    which may stand in another file."""
     path: Path
     name: str
     begin: int
@@ -61,7 +62,7 @@ def functions_of(path, module):
         named = re.match(r"( *)(?:pub(?:\(crate\))? )?fn (\w+)", line)
         if named:
             indent, begin = named[1], None
-            head = "::".join(filter(None, [module, owner if indent else None, named[2]]))
+            head = f"{owner}::{named[2]}" if owner and indent else f"{module}::{named[2]}"
         elif head and line == indent + "{":
             begin = at + 1
         elif head and line == indent + "}" and begin is not None:
@@ -117,7 +118,7 @@ def judged(copy, change):
         if len(kept) > 1:
             text, taken = told_of(copy, change.function)
     except subprocess.TimeoutExpired:
-        return "refused", f"no answer in {SECONDS} seconds"
+        return "not judged", f"no answer in {SECONDS} seconds"
     finally:
         for path, was in kept.items():
             path.write_text(was)
@@ -125,8 +126,10 @@ def judged(copy, change):
         return "taken", ""
     if re.search(r"^(\./)?src/\S+: error", text, re.M):
         return "without a type", ""
-    first = re.search(r"^(?:note: )?(?:\./)?((?:src|proofs)/\S+:\d+:\d+: .*)$", text, re.M)
-    return "by a name" if "` has no `" in text else "refused", first[1] if first else text[-200:]
+    first = re.search(r"^(?:note: )?(?:\./)?((?:src|proofs)/\S+:\d+:\d+: (?!note: ).*)$", text, re.M)
+    if not first or re.search(r"^rattle: error", text, re.M):
+        return "not judged", text[-200:]
+    return "by a name" if "` has no `" in text else "refused", first[1]
 
 
 def main():
