@@ -1,13 +1,14 @@
 #!/usr/bin/env python3
-"""Changes bodies of a crate's functions in a copy, one place at a time (a comparison, a sign, a number, a branch turned
-round, a statement left out), and has the prover judge each function so changed. Says of each change that has its type
-what refuses it, and ends with 1 where the prover takes one: it may mean the same, take only more time, or be wrong.
+"""Changes bodies of a crate's functions in a copy, one place of each (a comparison, a sign, a number, a branch turned
+round, a statement left out), and has the prover judge the changed functions: several at once, none of which calls another.
+Says of each change that has its type what refuses it, and ends with 1 where the prover takes one: it may mean the same,
+take only more time, or be wrong.
 
   checks/changed_bodies.py CRATE [COUNT] [FUNCTIONS..]      all functions where none is named; so many changes that have
                                                             their type, picked at random, and all where no count is given
 
-A change takes ten seconds to some minutes, and longer where the crates below have no libraries, which `rt ci --anew` leaves
-in crates/*/out.
+A change takes some seconds to a minute, and longer where the crates below have no libraries, which `rt ci --anew` leaves in
+crates/*/out.
 """
 import difflib
 import random
@@ -16,13 +17,17 @@ import subprocess
 import sys
 import tempfile
 from collections import Counter
+from contextlib import ExitStack, contextmanager
 from pathlib import Path
 from typing import NamedTuple
 
 sys.dont_write_bytecode = True
+from bodies import Function, functions, reached
 from crate_copy import Copy
 
-SECONDS = 900
+SECONDS = 1500
+AT_ONCE = 12
+TRIES = 3
 TURNED = [
     (r" < ", " <= "), (r" <= ", " < "), (r" > ", " >= "), (r" >= ", " > "), (r" == ", " != "), (r" != ", " == "),
     (r" && ", " || "), (r" \|\| ", " && "), (r" \+ ", " - "), (r" - ", " + "), (r"\b0\b", "1"), (r"\b1\b", "0"), (r"\b1\b", "2"),
@@ -32,42 +37,22 @@ TURNED = [
 ]
 
 
-class Function(NamedTuple):
-    """A function with the numbers of its body's lines, from 0, the last one left out. A method is named by its type alone,
-    which may stand in another file."""
-    path: Path
-    name: str
-    begin: int
-    end: int
-
-
 class Change(NamedTuple):
-    """A line of a function, from 0, and what stands there in its place, if anything does."""
+    """A line of a function, from 0, and what stands there in its place; nothing does where a statement is left out."""
     function: Function
     at: int
-    line: str | None
+    line: str
+
+    def shown(self, folder):
+        old = self.function.path.read_text().split("\n")[self.at].strip()
+        place = f"{self.function.path.relative_to(folder)}:{self.at + 1} {self.function.name}"
+        return f"{place}: {old} -> {self.line.strip() or 'nothing'}"
 
 
-def type_of(line):
-    """The type whose functions a line begins."""
-    head = re.match(r"impl(?:<[^{]*?>)? (?:.* for )?(\w+)", line)
-    return head and head[1]
-
-
-def functions_of(path, module):
-    """The functions of a file."""
-    lines, owner, head = path.read_text().split("\n"), None, None
-    for at, line in enumerate(lines):
-        owner = type_of(line) or (None if line == "}" else owner)
-        named = re.match(r"( *)(?:pub(?:\(crate\))? )?fn (\w+)", line)
-        if named:
-            indent, begin = named[1], None
-            head = f"{owner}::{named[2]}" if owner and indent else f"{module}::{named[2]}"
-        elif head and line == indent + "{":
-            begin = at + 1
-        elif head and line == indent + "}" and begin is not None:
-            yield Function(path, head, begin, at)
-            head = None
+class End(NamedTuple):
+    """How a change ends, and what is told of it."""
+    kind: str
+    why: str = ""
 
 
 def changes_of(function):
@@ -84,74 +69,145 @@ def changes_of(function):
                     yield Change(function, at, changed)
         whole = line.count("(") == line.count(")") and line.endswith(";")
         if whole and not re.match(r" *(let|return|break|continue|use|\})", line):
-            yield Change(function, at, None)
+            yield Change(function, at, "")
 
 
-def told_of(copy, function):
-    """What the prover tells of a function, and whether it takes it."""
-    told = subprocess.run([*copy.words(), "--only", function.name], cwd=copy.folder, capture_output=True, text=True, timeout=SECONDS)
-    return told.stdout + told.stderr, told.returncode == 0
-
-
-def moved_names(folder, text):
-    """The answers to goals whose names have moved with a changed line, under the names that they have now."""
-    for path, name in re.findall(r"^(?:\./)?(proofs/\S+):\d+:\d+: error: .*: module `\S*Goals` has no `([\w'-]+)`", text, re.M):
-        answers = folder / path
-        asked = re.findall(r"`([\w'-]+)`", "".join(re.findall(rf"`{name}`; rattle asks for (.*)", text)))
-        near = difflib.get_close_matches(name, [x for x in asked if x not in answers.read_text()], 1)
-        if near:
-            yield answers, re.sub(rf"(?<![\w'-]){name}(?![\w'-])", near[0], answers.read_text())
-
-
-def judged(copy, change):
-    """What the prover says of a change: how it ends, and the first line that it tells."""
-    source = change.function.path
-    kept = {source: source.read_text()}
-    lines = kept[source].split("\n")
-    lines[change.at:change.at + 1] = [] if change.line is None else [change.line]
-    source.write_text("\n".join(lines))
+@contextmanager
+def restored(texts):
+    """Writes texts to their files, and gives these back what they held."""
+    kept = {path: path.read_text() for path in texts}
     try:
-        text, taken = told_of(copy, change.function)
-        for answers, renamed in moved_names(copy.folder, text):
-            kept.setdefault(answers, answers.read_text())
-            answers.write_text(renamed)
-        if len(kept) > 1:
-            text, taken = told_of(copy, change.function)
-    except subprocess.TimeoutExpired:
-        return "not judged", f"no answer in {SECONDS} seconds"
+        for path, text in texts.items():
+            path.write_text(text)
+        yield
     finally:
-        for path, was in kept.items():
-            path.write_text(was)
-    if taken:
-        return "taken", ""
-    if re.search(r"^(\./)?src/\S+: error", text, re.M):
-        return "without a type", ""
-    first = re.search(r"^(?:note: )?(?:\./)?((?:src|proofs)/\S+:\d+:\d+: (?!note: ).*)$", text, re.M)
-    if not first or re.search(r"^rattle: error", text, re.M):
-        return "not judged", text[-200:]
-    return "by a name" if "` has no `" in text else "refused", first[1]
+        for path, text in kept.items():
+            path.write_text(text)
+
+
+def changed_texts(changes):
+    """The files with the changes made."""
+    texts = {}
+    for change in changes:
+        path = change.function.path
+        lines = texts.setdefault(path, path.read_text().split("\n"))
+        lines[change.at] = change.line
+    return {path: "\n".join(lines) for path, lines in texts.items()}
+
+
+def mended(folder, text):
+    """The answers to goals whose names have changed with a line, under the names that they have now. An answer that names
+    what is gone is left out, so that the prover searches for another."""
+    texts = {}
+    found = r"^(?:\./)?(proofs/\S+/Answers\.antt):\d+:\d+: error: `([\w'-]+)`: .*(module|record) `\S*` has no "
+    for path, name, kind in re.findall(found, text, re.M):
+        answers = texts.get(folder / path, (folder / path).read_text())
+        asked = re.findall(r"`([\w'-]+)`", "".join(re.findall(rf"`{name}`; rattle asks for (.*)", text)))
+        near = difflib.get_close_matches(name, [x for x in asked if x not in answers], 1) if kind == "module" else []
+        if near:
+            texts[folder / path] = re.sub(rf"(?<![\w'-]){name}(?![\w'-])", near[0], answers)
+        else:
+            texts[folder / path] = "\n\n".join(x for x in answers.split("\n\n") if not re.search(rf"^(pub )?{name} :", x, re.M))
+    return texts
+
+
+class Attack:
+    """A copy of a crate, its functions, and whom each of them may call."""
+
+    def __init__(self, copy):
+        self.copy = copy
+        self.functions = list(functions(copy))
+        self.reached = reached(self.functions)
+
+    def together(self, pending):
+        """Functions with changes of which none calls another, those with most of them first."""
+        chosen = []
+        for function in sorted((f for f in pending if pending[f]), key=lambda f: (-len(pending[f]), random.random())):
+            apart = all(function not in self.reached[x] and x not in self.reached[function] for x in chosen)
+            if apart and len(chosen) < AT_ONCE:
+                chosen.append(function)
+        return chosen
+
+    def told(self, changes):
+        """What a check tells of the changed functions."""
+        words = [word for change in changes for word in ("--only", change.function.name)]
+        told = subprocess.run([*self.copy.words(), *words], cwd=self.copy.folder, capture_output=True, text=True, timeout=SECONDS)
+        return told.stdout + told.stderr
+
+    def owner(self, path, line):
+        """The function in which a line of a file stands."""
+        near = [f for f in self.functions if f.path == self.copy.folder / path and f.end >= int(line) - 1]
+        return min(near, key=lambda f: f.end, default=None)
+
+    def without_a_type(self, text):
+        """The functions in which a check finds an error before it judges any."""
+        judged = re.search(r"^fn ", text, re.M)
+        places = re.findall(r"^(?:\./)?(src/\S+?):(\d+):\d+: error", text, re.M)
+        return set() if judged else {self.owner(*place) for place in places}
+
+    def ending(self, function, text):
+        """How the change of one function ends, by what a check tells."""
+        name = function.name.split("::")
+        named = re.search(rf"^fn (?:\S+::)?{re.escape('::'.join(name[-2:]))}: (.*)$", text, re.M)
+        if not named:
+            return End("not judged", text[-200:])
+        if named[1].startswith("proved"):
+            return End("taken")
+        places = re.findall(r"^note: (?:\./)?(src/\S+?):(\d+):\d+: (.*)$", text, re.M)
+        own = [f"{path}:{line}: {why}" for path, line, why in places if self.owner(path, line) == function]
+        errors = re.findall(r"^(?:\./)?(proofs/\S+)/\w+\.antt:\d+:\d+: error: (.*)$", text, re.M)
+        errors = [why for path, why in errors if path.split("/")[-2:] == name[-2:] or path == "/".join(["proofs", *name[1:]])]
+        told = own + [why for why in errors if not re.search(r"` has no (field )?`", why)]
+        if told:
+            return End("refused", told[0])
+        if errors:
+            return End("by a name", errors[0])
+        return End("behind another" if "it calls `" in named[1] else "refused", named[1])
+
+    def judged(self, changes):
+        """How each of the changes ends, all of them made at once."""
+        if not changes:
+            return {}
+        with ExitStack() as stack:
+            stack.enter_context(restored(changed_texts(changes)))
+            try:
+                text = self.told(changes)
+                untyped = self.without_a_type(text)
+                for _ in range(0 if untyped else TRIES):
+                    answers = mended(self.copy.folder, text)
+                    if not answers:
+                        break
+                    stack.enter_context(restored(answers))
+                    text = self.told(changes)
+            except subprocess.TimeoutExpired:
+                return {change: End("not judged", f"no answer in {SECONDS} seconds") for change in changes}
+        if not untyped:
+            return {change: self.ending(change.function, text) for change in changes}
+        ends = {change: End("without a type") for change in changes if change.function in untyped}
+        if not ends:
+            return {change: End("not judged", text[-200:]) for change in changes}
+        return ends | self.judged([change for change in changes if change not in ends])
 
 
 def main():
     crate, names = sys.argv[1], sys.argv[2:]
     count = int(names.pop(0)) if names and names[0].isdigit() else None
-    ends = Counter()
+    ends, tries = Counter(), Counter()
     with tempfile.TemporaryDirectory() as folder:
-        copy = Copy(crate, Path(folder))
-        sources = [x for x in sorted(copy.folder.glob("src/**/*.rt")) if "tests" not in x.parts and x.stem not in ("lib", "reads_lemmas", "reads_definitions")]
-        functions = [f for x in sources for f in functions_of(x, "::".join([crate, *x.relative_to(copy.folder / "src").with_suffix("").parts]))]
-        found = [x for f in functions if not names or f.name.split("::")[-1] in names for x in changes_of(f)]
-        random.shuffle(found)
-        for change in found:
-            if sum(ends.values()) - ends["without a type"] == count:
-                break
-            old = change.function.path.read_text().split("\n")[change.at].strip()
-            end, why = judged(copy, change)
-            ends[end] += 1
-            if end != "without a type":
-                place = f"{change.function.path.relative_to(copy.folder)}:{change.at + 1} {change.function.name}"
-                print(f"{end}: {place}: {old} -> {(change.line or 'nothing').strip()}{why and ': '}{why}", flush=True)
-    print(f"{crate}: {len(functions)} functions, {len(found)} changes, {', '.join(f'{number} {end}' for end, number in ends.items())}")
+        attack = Attack(Copy(crate, Path(folder)))
+        chosen = [f for f in attack.functions if not names or f.name.split("::")[-1] in names]
+        pending = {f: random.sample(found, len(found)) for f in chosen for found in [list(changes_of(f))]}
+        found = sum(map(len, pending.values()))
+        while any(pending.values()) and (count is None or ends.total() - ends["without a type"] < count):
+            for change, end in attack.judged([pending[f].pop() for f in attack.together(pending)]).items():
+                tries[change] += 1
+                if end.kind == "behind another" and tries[change] < TRIES:
+                    pending[change.function].append(change)
+                    continue
+                ends[end.kind] += 1
+                if end.kind != "without a type":
+                    print(f"{end.kind}: {change.shown(attack.copy.folder)}{end.why and ': '}{end.why}", flush=True)
+    print(f"{crate}: {len(attack.functions)} functions, {found} changes, {', '.join(f'{number} {kind}' for kind, number in ends.items())}")
     sys.exit(ends["taken"] > 0)
 
 

@@ -61,8 +61,9 @@ fn write_all<W: Write>(out: &mut W, bytes: &[u8]) -> Result<(), Stuck>
     let mut rest = bytes;
     'turns: while !rest.is_empty() {
         match out.write(rest) {
-            Ok(n) if n > 0 => rest = &rest[n..],
-            _ => return Err(Stuck),
+            Ok(0) => return Err(Stuck),
+            Ok(n) => rest = &rest[n..],
+            Err(_) => return Err(Stuck),
         }
     }
     Ok(())

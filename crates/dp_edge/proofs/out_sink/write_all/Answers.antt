@@ -13,12 +13,12 @@ turns-preserved g c =
     let (done, split, appended) = c.turns.invariant in
     (done ++ take c.in-Ok.n c.turns.rest.now, moves_front _ done c.turns.rest.now c.in-Ok.n split, Appends-trans _ _ _ _ _ appended c.in-Ok.ensures.bytes)
 
-pub returns-in_default-clause-err : goal.returns-in_default-clause-err
-returns-in_default-clause-err g c =
+pub returns-in-Ok-eq0-clause-err : goal.returns-in-Ok-eq0-clause-err
+returns-in-Ok-eq0-clause-err g c =
     let (done, split, appended) = c.turns.invariant in
-    front_and_more _ _ _ _ done c.turns.rest.now c.in-Ok.n split appended c.in-Ok.ensures.bytes
+    front_and_more _ _ _ _ done c.turns.rest.now _ split appended c.in-Ok-eq0.ensures.bytes
 
-pub returns-in_default-2-clause-err : goal.returns-in_default-2-clause-err
-returns-in_default-2-clause-err g c =
+pub returns-in-Err-clause-err : goal.returns-in-Err-clause-err
+returns-in-Err-clause-err g c =
     let (done, split, appended) = c.turns.invariant in
-    front_alone _ _ _ _ done c.turns.rest.now split appended c.in_default.ensures.bytes
+    front_alone _ _ _ _ done c.turns.rest.now split appended c.in-Err.ensures.bytes
