@@ -4,8 +4,8 @@ round, a statement left out), and has the prover judge the changed functions: se
 Says of each change that has its type what refuses it, and ends with 1 where the prover takes one: it may mean the same,
 take only more time, or be wrong.
 
-  checks/changed_bodies.py CRATE [COUNT] [FUNCTIONS..]      all functions where none is named; so many changes that have
-                                                            their type, picked at random, and all where no count is given
+  checks/changed_bodies.py CRATE [COUNT] [FUNCTIONS..]      all functions where none is named; at least so many changes that
+                                                            have their type, picked at random, and all where no count is given
 
 A change takes some seconds to a minute, and longer where the crates below have no libraries, which `rt ci --anew` leaves in
 crates/*/out.
