@@ -31,7 +31,7 @@ TRIES = 3
 TURNED = [
     (r" < ", " <= "), (r" <= ", " < "), (r" > ", " >= "), (r" >= ", " > "), (r" == ", " != "), (r" != ", " == "),
     (r" && ", " || "), (r" \|\| ", " && "), (r" \+ ", " - "), (r" - ", " + "), (r"\b0\b", "1"), (r"\b1\b", "0"), (r"\b1\b", "2"),
-    (r"\btrue\b", "false"), (r"\bfalse\b", "true"), (r"\bif (?!let |!)(.*) \{$", r"if !(\1) {"), (r"!(?=[\w(])", ""),
+    (r"\btrue\b", "false"), (r"\bfalse\b", "true"), (r"\bif (?!let |!)(.*) \{$", r"if !(\1) {"), (r"(?<!\w)!(?=[\w(])", ""),
     (r"\bbreak;", "continue;"), (r"\bcontinue;", "break;"), (r"\bSome\(\w+\)$", "None"), (r"\((\w+), (\w+)\)", r"(\2, \1)"),
     (r"\.rev\(\)", ""), (r"\.min\(", ".max("), (r"\.max\(", ".min("), (r"\bfirst\b", "last"), (r"\blast\b", "first"),
 ]
