@@ -6,8 +6,8 @@ from typing import NamedTuple
 
 
 class Function(NamedTuple):
-    """A function with the numbers of its body's lines, from 0, the last one left out. A method is named by its type alone,
-    which may stand in another file."""
+    """A function with the numbers of its body's lines, from 0, the last one left out. A method is named by its type, which may
+    stand in another file, and by its trait, if it has one."""
     path: Path
     name: str
     begin: int

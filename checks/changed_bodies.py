@@ -27,7 +27,7 @@ from crate_copy import Copy
 
 SECONDS = 1500
 AT_ONCE = 12
-TRIES = 3
+TRIES = 3   # how often answers are mended, and how often a change is made that stood behind another
 TURNED = [
     (r" < ", " <= "), (r" <= ", " < "), (r" > ", " >= "), (r" >= ", " > "), (r" == ", " != "), (r" != ", " == "),
     (r" && ", " || "), (r" \|\| ", " && "), (r" \+ ", " - "), (r" - ", " + "), (r"\b0\b", "1"), (r"\b1\b", "0"), (r"\b1\b", "2"),
@@ -146,7 +146,8 @@ class Attack:
         return set() if judged else {self.owner(*place) for place in places}
 
     def ending(self, function, text):
-        """How the change of one function ends, by what a check tells."""
+        """How the change of one function ends, by what a check tells. It is refused by a goal or an answer of its own; without
+        one, something else that changed stands in its way."""
         name = function.name.split("::")
         named = re.search(rf"^fn (?:\S+::)?{re.escape('::'.join(name[-2:]))}: (.*)$", text, re.M)
         if not named:
@@ -162,7 +163,7 @@ class Attack:
             return End("refused", told[0])
         if errors:
             return End("by a name", errors[0])
-        return End("behind another" if "it calls `" in named[1] else "refused", named[1])
+        return End("behind another", named[1])
 
     def judged(self, changes):
         """How each of the changes ends, all of them made at once."""
@@ -196,8 +197,10 @@ def main():
     with tempfile.TemporaryDirectory() as folder:
         attack = Attack(Copy(crate, Path(folder)))
         chosen = [f for f in attack.functions if not names or f.name.split("::")[-1] in names]
-        pending = {f: random.sample(found, len(found)) for f in chosen for found in [list(changes_of(f))]}
+        pending = {function: list(changes_of(function)) for function in chosen}
         found = sum(map(len, pending.values()))
+        for changes in pending.values():
+            random.shuffle(changes)
         while any(pending.values()) and (count is None or ends.total() - ends["without a type"] < count):
             for change, end in attack.judged([pending[f].pop() for f in attack.together(pending)]).items():
                 tries[change] += 1
