@@ -6,7 +6,7 @@ use std::alloc::Global;
 use std::marker::Model;
 
 /// A program's memory: one number of 64 bits for each cell. Contracts see it as the list of these numbers.
-#[derive(Debug, Drop)]
+#[derive(Drop)]
 pub struct Cells {
     alloc: Global,
     values: Vec<i64>,
@@ -50,7 +50,7 @@ impl Cells {
 
     /// Puts a number into a cell, if there is one. It takes no memory.
     #[inline(always)]
-    #[tactic(auto, using(crate::proofs::ListLemmas::stores))]
+    #[tactic(auto, using(dp_room::proofs::ListLemmas::stores))]
     pub fn set(&mut self, cell: CellId, value: i64)
         ensures { self.new ≡ slice_set self.old cell.0 value }
     {

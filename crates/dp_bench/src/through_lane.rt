@@ -5,7 +5,7 @@ ghost use Rattle.dp_lane.specs.declared.rule.View.TheVariants.{Sender, Taker};
 use crate::PLACES;
 use crate::item::Item;
 use crossbeam_utils::Backoff;
-use dp_base::NoMemory;
+use dp_room::NoMemory;
 use dp_lane::{SendEnd, TakeEnd, lane};
 use std::alloc::Global;
 use std::sync::Wait;

@@ -6,7 +6,7 @@ ghost use Rattle.dp_ring.specs.Tested.{IsSame, IsKeyed, IsFirst, IsIdle};
 use crate::PLACES;
 use crate::item::Item;
 use crossbeam_utils::Backoff;
-use dp_base::NoMemory;
+use dp_room::NoMemory;
 use dp_ring::{ConsumerSeat, ProducerSeat, PutBusy, Ring, WorkerSeat};
 use std::alloc::Global;
 use std::sync::Wait;

@@ -15,7 +15,7 @@ use Rattle.dp_calls.proofs.Relation.{PlaceOf, file, own, file_count}
 use Rattle.dp_calls.proofs.Layouts.{no_files}
 use Rattle.dp_calls.proofs.SameMeanings.{expanded_place, expanded_files}
 use Rattle.std.proofs.lemmas.Bool.{or_right}
-use Rattle.dp_base.proofs.ListLemmas.{get_behind}
+use Rattle.dp_room.proofs.ListLemmas.{get_behind}
 
 -- a local with one cell
 one_cell : (x : VarInfo) → x.length ≡ 1 → has_cells x ≡ true

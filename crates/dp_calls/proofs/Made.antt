@@ -2,7 +2,7 @@
 use Rattle.std.proofs.Common.{◌≡◌, ◌⊎◌, inl, inr, refl, sym, ap, ap₂, ◌∙◌, ℕ, suc, ◌-◌, ◌<◌, ◌≤◌, Bool, true, List, ◌++◌, length, Option, Some, None, slice_get, nat_lt, arith, ltb-true}
 use Rattle.dp_base.specs.declared.SiteId.{SiteId}
 use Rattle.dp_base.specs.declared.VarId.{VarId}
-use Rattle.dp_base.proofs.ListLemmas.{at_index}
+use Rattle.dp_room.proofs.ListLemmas.{at_index}
 use Rattle.dp_tree.specs.declared.Expr.{Expr, end_of-Expr, more_of-Expr}
 use Rattle.dp_tree.specs.declared.Expr.TheVariants as tree
 use Rattle.dp_tree.specs.declared.VarInfo.{VarInfo}

@@ -2,7 +2,7 @@
 use Rattle.std.proofs.Common.{◌≡◌, inl, inr, refl, sym, ap, ◌∙◌, subst, ℕ, zero, suc, ◌+◌, ◌-◌, ◌≤◌, Bool, true, false, if◌then◌else◌, List, [], ◌∷◌, ◌++◌, ℤ, length, length-append, replicate, append-nil, append_assoc, Option, Some, None, slice_get, arith}
 use Rattle.std.proofs.lemmas.List.{length-replicate}
 use Rattle.dp_base.specs.declared.SiteId.{SiteId}
-use Rattle.dp_base.proofs.ListLemmas.{get_before, get_pushed}
+use Rattle.dp_room.proofs.ListLemmas.{get_before, get_pushed}
 use Rattle.dp_tree.specs.declared.VarInfo.{VarInfo}
 use Rattle.dp_tree.specs.declared.SiteInfo.{SiteInfo}
 use Rattle.dp_tree.specs.declared.Program.{Program}

@@ -4,7 +4,7 @@ use Rattle.std.specs.List.{list_all}
 use Rattle.std.proofs.lemmas.Option.{same_Some}
 use Rattle.dp_base.specs.declared.SiteId.{SiteId}
 use Rattle.dp_base.specs.declared.VarId.{VarId}
-use Rattle.dp_base.proofs.ListLemmas.{at_index}
+use Rattle.dp_room.proofs.ListLemmas.{at_index}
 use Rattle.dp_tree.specs.declared.Expr.{Expr}
 use Rattle.dp_tree.specs.declared.Stmt.{Stmt, Row_of-Stmt}
 use Rattle.dp_tree.specs.declared.Stmt.TheViews.{outs-Region, outs-Region'}

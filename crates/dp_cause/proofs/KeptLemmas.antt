@@ -7,7 +7,7 @@ unfoldable use Rattle.dp_plan.specs.Walks.{is_region_of}
 use Rattle.dp_semantics.specs.FindsCauses.{turn_by, turn_in}
 use Rattle.dp_semantics.specs.EpochCauses.{views_from}
 use Rattle.dp_cause.specs.Views.{last_or}
-use Rattle.dp_base.proofs.ListLemmas.{next_of}
+use Rattle.dp_room.proofs.ListLemmas.{next_of}
 
 last_more : (made : List (List ℤ)) (view other : List ℤ) → last_or (made ++ view ∷ []) other ≡ view
 last_more [] view other = refl

@@ -7,7 +7,7 @@ use Rattle.dp_tree.specs.declared.VarScope.TheVariants.{Body}
 use Rattle.dp_tree.specs.Scoping.{is_scope_in, is_declared_in}
 use Rattle.dp_check.specs.Place.{Part, Site, Local, local_count}
 use Rattle.dp_check.specs.Tables.{laid, locals_of}
-use Rattle.dp_base.proofs.ListLemmas.{get_behind}
+use Rattle.dp_room.proofs.ListLemmas.{get_behind}
 
 -- the n variables from k on are declared in region r, or outside all regions where r is 0
 abbrev pub Declared : List VarInfo → ℕ → ℕ → ℕ → Type 0

@@ -5,7 +5,7 @@ use std::alloc::AllocError;
 
 /// Why a tree is no program. A line is that of the offending name; for one name the first of the causes, in this order,
 /// is given.
-#[derive(Clone, Copy, Debug, PartialEq, Eq)]
+#[derive(Clone, Copy)]
 pub enum CheckFail {
     /// A name that is used is no visible variable, or a name that is called no visible function.
     Unknown { line: u32 },

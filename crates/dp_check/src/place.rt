@@ -19,7 +19,7 @@ pub struct Place<'a> {
 }
 
 /// The numbers that come next.
-#[derive(Clone, Copy, Debug)]
+#[derive(Clone, Copy)]
 pub struct Numbers {
     pub variable: u32,
     pub site: u32,

@@ -4,7 +4,7 @@ use Rattle.std.proofs.lemmas.Bool.{cases_Bool, and_parts}
 use Rattle.std.proofs.Math.Seq.{take-append_seam}
 use Rattle.std.specs.List.{list_all}
 use Rattle.dp_tree.specs.Iteration.{places}
-use Rattle.dp_base.proofs.ListLemmas.{get_behind}
+use Rattle.dp_room.proofs.ListLemmas.{get_behind}
 
 -- the item behind the seam
 pub get_at_seam : {X : Type 0} (a b : List X) (n : ℕ) (x : X) (more : List X) → n ≡ length a → b ≡ x ∷ more → slice_get (a ++ b) n ≡ Some x

@@ -7,8 +7,8 @@ use Rattle.dp_base.proofs.BinOp.TheSendSync as bin
 use Rattle.dp_base.proofs.UnOp.TheSendSync as un
 use Rattle.dp_base.proofs.SiteId.TheSendSync as site
 use Rattle.dp_base.proofs.VarId.TheSendSync as var
-use Rattle.dp_base.proofs.boxed.Boxed.TheSendSync as boxed
-use Rattle.dp_base.proofs.row.Row.TheSendSync as row
+use Rattle.dp_room.proofs.boxed.Boxed.TheSendSync as boxed
+use Rattle.dp_room.proofs.row.Row.TheSendSync as row
 use Rattle.dp_tree.proofs.Expr.TheLaws.TheKnot as expr
 use Rattle.dp_tree.proofs.Stmt.TheLaws.TheKnot as stmt
 use Rattle.dp_tree.proofs.RegionInfo.TheSendSync as region_info

@@ -2,7 +2,7 @@
 use dp_base::{Cause, Fault};
 
 /// How a region ends.
-#[derive(Clone, Copy, Debug, PartialEq, Eq)]
+#[derive(Clone, Copy)]
 pub enum RegionEnd {
     /// It was left.
     Closed,
@@ -13,7 +13,7 @@ pub enum RegionEnd {
 }
 
 /// How an epoch ends.
-#[derive(Clone, Copy, Debug, PartialEq, Eq)]
+#[derive(Clone, Copy)]
 pub enum EpochEnd {
     /// The region is closed.
     Closed,

@@ -1,7 +1,7 @@
 //! How large a crew is.
 
 /// How many workers a replicated stage has, and how many items a lane holds.
-#[derive(Clone, Copy, Debug, PartialEq, Eq)]
+#[derive(Clone, Copy)]
 pub struct CrewSize {
     /// From 1 to 8.
     pub workers: u32,

@@ -17,7 +17,7 @@ pub use places::cut_units;
 pub use plan::cut;
 
 /// Neighbouring units that form one stage.
-#[derive(Clone, Copy, Debug, PartialEq, Eq)]
+#[derive(Clone, Copy)]
 pub struct Stretch {
     /// How many there are, at least one.
     pub units: u32,

@@ -19,7 +19,7 @@ pub struct Costs<'a> {
 }
 
 /// How many stages are needed from each unit on.
-#[derive(Debug, Drop)]
+#[derive(Drop)]
 pub struct Needs {
     /// Where the stage before is sequential.
     pub after_seq: Vec<u32>,

@@ -12,7 +12,7 @@ use Rattle.dp_plan.specs.Walks.{is_region_of}
 use Rattle.dp_plan.proofs.LoadLemmas.{opened}
 use Rattle.dp_depend.specs.Node.{nodes, nodes_in, plain_node, if_node, loop_of, region_nodes}
 use Rattle.dp_depend.specs.Lists.{load_list, node_list, node_lists, nodes_in_region}
-use Rattle.dp_base.proofs.ListLemmas.{next_of}
+use Rattle.dp_room.proofs.ListLemmas.{next_of}
 
 nodes_hidden : (around : List ℕ) (loop : Option ℕ) (xs : List Stmt) → nodes_in around loop (Rattle.dp_tree.specs.declared.Stmt.TheBlock.hidden-the_row-Stmt-0 xs) ≡ flat_map (nodes around loop) xs
 unfolding opened

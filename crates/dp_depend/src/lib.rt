@@ -14,7 +14,7 @@ mod nodes;
 pub use nodes::{Node, nodes_of};
 
 /// Why one site depends on another.
-#[derive(Clone, Copy, Debug, PartialEq, Eq)]
+#[derive(Clone, Copy)]
 pub enum EdgeKind {
     /// The first one's condition decides whether the second is evaluated.
     Control,
@@ -25,7 +25,7 @@ pub enum EdgeKind {
 }
 
 /// One site depends on another.
-#[derive(Clone, Copy, Debug, PartialEq, Eq)]
+#[derive(Clone, Copy)]
 pub struct Edge {
     pub from: SiteId,
     pub to: SiteId,

@@ -12,7 +12,7 @@ use Rattle.dp_drive.specs.declared.refusal.Role.{Role}
 use Rattle.dp_drive.specs.declared.refusal.Refusal.{Refusal}
 use Rattle.dp_drive.specs.declared.refusal.Refusal.TheVariants.{Words}
 use Rattle.dp_crew.specs.declared.fail.CrewFail.{CrewFail}
-use Rattle.dp_base.specs.declared.NoMemory.{NoMemory as Wanting}
+use Rattle.dp_room.specs.declared.NoMemory.{NoMemory as Wanting}
 use Rattle.dp_drive.specs.declared.texts.Texts.{Texts}
 use Rattle.dp_drive.specs.declared.texts.Texts.TheVariants as texts
 use Rattle.dp_drive.specs.Refusal.{refusal_line, refusal_status, failed_read_line}

@@ -1,7 +1,7 @@
 -- What the texts of a run give, from what each of them was loaded as.
 use Rattle.std.proofs.Common.{◌≡◌, refl, sym, ◌∙◌, ap, subst, ℕ, ◌<◌, List, Option, Some, None, ℤ, Result, Ok, Err, IfOk}
 use Rattle.std.specs.Option.{option_map}
-use Rattle.dp_base.specs.declared.NoMemory.{NoMemory}
+use Rattle.dp_room.specs.declared.NoMemory.{NoMemory}
 use Rattle.dp_tree.specs.declared.Program.{Program}
 use Rattle.dp_plan.specs.declared.Plan.{Plan}
 use Rattle.dp_plan.specs.GivenPlans.{ArePlans}

@@ -6,7 +6,7 @@ use dp_base::{NoMemory, Quantity};
 use std::alloc::Global;
 
 /// A text that the words name.
-#[derive(Clone, Copy, Debug, PartialEq, Eq)]
+#[derive(Clone, Copy)]
 pub enum Role {
     Program,
     Input,
@@ -15,7 +15,7 @@ pub enum Role {
 }
 
 /// What is wrong with a name of the program.
-#[derive(Clone, Copy, Debug, PartialEq, Eq)]
+#[derive(Clone, Copy)]
 pub enum Offence {
     /// It is no visible variable, or no visible function where it is called.
     Unknown,
@@ -32,7 +32,7 @@ pub enum Offence {
 }
 
 /// Why nothing is run. Each refusal has a status and a line of its own.
-#[derive(Clone, Copy, Debug, PartialEq, Eq)]
+#[derive(Clone, Copy)]
 pub enum Refusal {
     /// The words aren't taken.
     Words,

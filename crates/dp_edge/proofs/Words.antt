@@ -5,9 +5,9 @@ use Rattle.std.proofs.lemmas.List.{length-drop}
 use Rattle.std.proofs.lemmas.List.Sums.{prefix_len-le-length}
 use Rattle.std.proofs.Math.ListN.{drop_of_length-le}
 use Rattle.dp_edge.specs.Digits.{is_full}
-use Rattle.dp_base.specs.Pieces.{onto_first, pieces}
+use Rattle.dp_text.specs.Pieces.{onto_first, pieces}
 use Rattle.dp_edge.specs.Input.{is_blank, words}
-use Rattle.dp_base.proofs.PositionLemmas.{next_is, position_some, position_none}
+use Rattle.dp_text.proofs.PositionLemmas.{next_is, position_some, position_none}
 
 -- how many blanks stand before the first word, and how many bytes before the first blank
 abbrev pub blanks : List ℕ → ℕ

@@ -1,7 +1,7 @@
 -- Decimal digits and the number that they write.
 use Rattle.std.specs.Prelude.{ℕ, ◌-◌, ◌^◌, Bool, true, false, ◌&&◌, if◌then◌else◌, List, [], ◌∷◌, Option, None}
 use Rattle.std.specs.List.{list_all}
-use Rattle.dp_base.specs.Digits.{is_digit, value_after, value_upto}
+use Rattle.dp_text.specs.Digits.{is_digit, value_after, value_upto}
 
 -- there is a byte
 abbrev pub is_full : List ℕ → Bool

@@ -2,7 +2,7 @@
 use Rattle.std.specs.Prelude.{◌≡◌, ℕ, ◌+◌, min, Bool, ◌&&◌, ◌||◌, if◌then◌else◌, nat_le, ◌==◌, List, [], ◌∷◌, length, Option, Some, None, Result, Ok, Err, ℤ, pos, neg_ℤ}
 use Rattle.std.specs.List.{filter}
 use Rattle.dp_base.specs.Arithmetic.{fits}
-use Rattle.dp_base.specs.Pieces.{pieces}
+use Rattle.dp_text.specs.Pieces.{pieces}
 use Rattle.dp_base.specs.declared.limits.TheConstants.{COUNTED, INPUT_WORDS}
 use Rattle.dp_edge.specs.Digits.{is_full, are_digits, value_of}
 use Rattle.dp_edge.specs.declared.input.InputFail.{InputFail}

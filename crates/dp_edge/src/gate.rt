@@ -8,7 +8,7 @@ pub trait Gate: Sync {
 }
 
 /// The gate that lets all through at once.
-#[derive(Clone, Copy, Debug)]
+#[derive(Clone, Copy)]
 pub struct OpenGate;
 
 impl Gate for OpenGate {

@@ -5,11 +5,12 @@ ghost use Rattle.dp_edge.specs.Input.{is_blank, words, number_of, numbers_at, nu
 ghost use Rattle.dp_edge.specs.Digits.{magnitude_of};
 
 use dp_base::limits::{COUNTED, INPUT_WORDS};
-use dp_base::{NoMemory, Row, value_upto};
+use dp_base::{NoMemory, Row};
+use dp_text::value_upto;
 use std::alloc::Global;
 
 /// Why a text is no input.
-#[derive(Clone, Copy, Debug, PartialEq, Eq)]
+#[derive(Clone, Copy)]
 pub enum InputFail {
     /// It has more than `INPUT_WORDS` words. The count stands at `COUNTED` where there are more.
     TooMany { count: u32 },

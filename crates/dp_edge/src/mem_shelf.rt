@@ -9,7 +9,7 @@ use std::alloc::Global;
 use std::marker::Model;
 
 /// One text of a shelf in memory.
-#[derive(Debug, Drop)]
+#[derive(Drop)]
 pub struct Held {
     /// The name that it is read under.
     pub name: Row<u8>,
@@ -18,7 +18,7 @@ pub struct Held {
 }
 
 /// A shelf in memory, some of whose calls fail. It tells what it holds and which reads failed.
-#[derive(Debug, Drop)]
+#[derive(Drop)]
 pub struct MemShelf {
     alloc: Global,
     held: Row<Held>,

@@ -5,7 +5,7 @@ use std::alloc::Global;
 use std::marker::Model;
 
 /// A sink in memory, with room for a stated number of bytes or for any number. It tells its bytes.
-#[derive(Debug, Drop)]
+#[derive(Drop)]
 pub struct MemSink {
     bytes: Row<u8>,
     left: Option<u64>,

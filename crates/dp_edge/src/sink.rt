@@ -6,7 +6,7 @@ use dp_base::NoMemory;
 use std::alloc::AllocError;
 
 /// Why a sink didn't take all bytes.
-#[derive(Clone, Copy, Debug, PartialEq, Eq)]
+#[derive(Clone, Copy, Debug)]
 pub enum PutFail {
     /// Writing failed.
     Failed,

@@ -3,7 +3,7 @@
 use dp_base::{NoMemory, Quantity};
 
 /// Why a program isn't expanded.
-#[derive(Clone, Copy, Debug, PartialEq, Eq)]
+#[derive(Clone, Copy)]
 pub enum InlineFail {
     /// A count is above its limit. One above 1,000,000 is given as 1,000,000.
     Limit { quantity: Quantity, count: u32 },

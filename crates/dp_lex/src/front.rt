@@ -9,7 +9,7 @@ ghost use Rattle.dp_lex.specs.Scan as spec;
 use crate::TokenKind;
 use crate::tables::{is_reserved, is_sign};
 
-#[derive(Clone, Copy, Debug)]
+#[derive(Clone, Copy)]
 enum Class {
     Gap,
     Digit,

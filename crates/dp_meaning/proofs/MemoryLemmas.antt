@@ -1,6 +1,6 @@
 -- Stores and clearing.
 use Rattle.dp_meaning.proofs.Names.{◌≡◌, refl, ◌∙◌, ap, ℕ, ◌+◌, ◌<◌, List, [], ◌∷◌, ◌++◌, replicate, drop, get_or, length, slice_set, if◌then◌else◌, Option, Some, None, ℤ, pos, length-set, StoreOf, Stmt, out-Stmt, Program, VarInfo, start_cells, is_local_of, clear_locals, region_number, clear_one, cleared_leaving, with_stores, first_of, first_region}
-use Rattle.dp_base.proofs.ListLemmas.{next_of}
+use Rattle.dp_room.proofs.ListLemmas.{next_of}
 use Rattle.dp_tree.proofs.InMain.{cleared_length}
 
 -- one variable more is cleared

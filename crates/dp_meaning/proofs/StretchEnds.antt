@@ -1,7 +1,7 @@
 -- What a stretch of steps is of a plain part, and of an iteration.
 use Rattle.dp_meaning.proofs.Names.{IsAnyRegion, Result, Ok, Err, ◌≡◌, refl, sym, ◌∙◌, ap, subst, ℕ, Option, None, Some, List, [], ◌∷◌, length, ℤ, Config, Event, Stmt, Part, PartEnd, MachineState, part_of, part_at, next_part, from_region, Spoiled, PartRun, PartStops, IterationRun, HeadsOnce, Awaits, has_closed, upto_closing, current_after, UnderWay}
 use Rattle.std.specs.Prelude.{MatchResult}
-use Rattle.dp_base.specs.declared.NoMemory.{NoMemory}
+use Rattle.dp_room.specs.declared.NoMemory.{NoMemory}
 use Rattle.dp_meaning.specs.declared.ends.Part.TheVariants as part
 use Rattle.dp_meaning.specs.declared.ends.IterEnd.{IterEnd}
 use Rattle.dp_meaning.specs.declared.ends.IterEnd.TheVariants as end

@@ -5,7 +5,7 @@ ghost use Rattle.dp_meaning.specs.steps.Stretch.{end_of_part};
 use dp_base::Fault;
 
 /// What comes next at the top level of `main`.
-#[derive(Clone, Copy, Debug, PartialEq, Eq)]
+#[derive(Clone, Copy, PartialEq, Eq)]
 pub enum Part {
     /// Statements up to the next region or the end.
     Plain,
@@ -16,7 +16,7 @@ pub enum Part {
 }
 
 /// Why [`crate::Machine::run_part`] stopped.
-#[derive(Clone, Copy, Debug, PartialEq, Eq)]
+#[derive(Clone, Copy)]
 pub enum PartEnd {
     /// No site of the part is left.
     Done,
@@ -29,7 +29,7 @@ pub enum PartEnd {
 }
 
 /// Why [`crate::Machine::iterate`] stopped.
-#[derive(Clone, Copy, Debug, PartialEq, Eq)]
+#[derive(Clone, Copy)]
 pub enum IterEnd {
     /// The iteration has ended, and the region's condition comes next.
     Next,

@@ -4,7 +4,7 @@ use dp_engine::Watch;
 use std::alloc::Global;
 
 /// The cells that an evaluation loads, in order.
-#[derive(Debug, Drop)]
+#[derive(Drop)]
 pub struct Loads {
     pub cells: Row<usize>,
     /// Memory was wanting for one of them.

@@ -2,7 +2,7 @@
 use dp_base::{Fault, SiteId};
 
 /// What the next step does, or why there is none.
-#[derive(Clone, Copy, Debug, PartialEq, Eq)]
+#[derive(Clone, Copy)]
 pub enum Sight {
     /// Nothing is left to do.
     Finished,
@@ -15,7 +15,7 @@ pub enum Sight {
 }
 
 /// What the evaluation of a site does.
-#[derive(Clone, Copy, Debug, PartialEq, Eq)]
+#[derive(Clone, Copy)]
 pub enum Effect {
     /// It stores a value into a cell.
     Stored { cell: usize, value: i64 },

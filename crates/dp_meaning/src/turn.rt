@@ -2,7 +2,7 @@
 use crate::sight::Effect;
 use dp_base::{Fault, SiteId};
 
-#[derive(Clone, Copy, Debug, PartialEq, Eq)]
+#[derive(Clone, Copy)]
 pub(crate) enum Turn {
     /// The site was evaluated, with this effect, and whether that has left a region.
     Made {

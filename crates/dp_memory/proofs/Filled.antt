@@ -3,7 +3,7 @@ use Rattle.std.proofs.Common.{◌≡◌, ℕ, ℤ, ◌+◌, ◌<◌, List, [], �
 use Rattle.std.proofs.Math.ListN.{set}
 use Rattle.std.proofs.lemmas.List.{length-take-le, length-replicate}
 use Rattle.std.proofs.lemmas.Grind.{replicate_next}
-use Rattle.dp_base.proofs.ListLemmas.{at_index}
+use Rattle.dp_room.proofs.ListLemmas.{at_index}
 use Rattle.dp_memory.specs.Pieces.{filled}
 use Rattle.dp_memory.proofs.Pieces.{set_right}
 use Rattle.dp_memory.proofs.Held.{drop_one}

@@ -9,7 +9,7 @@ use Rattle.std.specs.Vec as vec
 use Rattle.std.specs.declared.sync.Arc.{Arc}
 use Rattle.std.specs.declared.vec.Vec.{Vec}
 use Rattle.std.specs.declared.alloc.Global.{Global}
-use Rattle.dp_base.specs.Lends.{with_items}
+use Rattle.dp_room.specs.Lends.{with_items}
 use Rattle.dp_memory.specs.declared.piece.Piece.{Piece}
 use Rattle.dp_memory.specs.declared.table.Table.{Table}
 use Rattle.dp_memory.specs.Piece.{held, items_of, pages_of, groups_of, IsOwnAmong, changed, changed_to, page_over, group_over}

@@ -1,6 +1,6 @@
 -- A list in pieces of one size, of which the last may be shorter.
 use Rattle.std.specs.Prelude.{◌≡◌, ℕ, ℤ, ◌+◌, ◌*◌, ◌/◌, ◌-◌, ◌%◌, ◌<◌, ◌≤◌, List, [], ◌∷◌, ◌++◌, length, take, drop, replicate, slice_get, slice_set, slice_index_or, Some}
-use Rattle.dp_base.specs.Lends.{with_items}
+use Rattle.dp_room.specs.Lends.{with_items}
 
 -- the pieces, one after the other
 unfoldable pub joined : {X : Type 0} → List (List X) → List X

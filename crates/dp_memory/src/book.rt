@@ -8,7 +8,7 @@ use std::alloc::Global;
 
 /// The pages of a version. The last one isn't shared: a program's locals stand there, and nearly every iteration writes
 /// to them.
-#[derive(Debug, Drop)]
+#[derive(Drop)]
 pub(crate) struct Book {
     /// All pages but the last one.
     pub(crate) table: Table,

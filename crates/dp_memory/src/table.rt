@@ -9,7 +9,7 @@ use dp_base::NoMemory;
 use std::alloc::Global;
 
 /// The groups in which the pages stand, sixteen in each but the last.
-#[derive(Debug, Drop)]
+#[derive(Drop)]
 pub(crate) struct Table {
     pub(crate) groups: Piece<Group>,
 }

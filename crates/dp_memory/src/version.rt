@@ -12,7 +12,7 @@ use std::marker::Model;
 
 /// A program's memory, one number of 64 bits for each cell, which shares pages with the versions that it was taken
 /// from or that were taken from it. Contracts see it as the list of these numbers.
-#[derive(Debug, Drop)]
+#[derive(Drop)]
 pub struct Version {
     alloc: Global,
     book: Book,

@@ -1,7 +1,7 @@
 -- What was counted in a whole run is what it shows.
 use Rattle.std.proofs.Common.{◌≡◌, refl, sym, ap, subst, ◌∙◌, ℕ, suc, ◌+◌, ◌*◌, ◌==◌, ◌&&◌, Bool, true, false, List, [], ◌∷◌, ◌++◌, map, count_by, length, Some, slice_get, arith}
 use Rattle.std.specs.List.{flat_map}
-use Rattle.dp_base.specs.Counts.{one_if}
+use Rattle.dp_room.specs.OneIf.{one_if}
 use Rattle.dp_tree.specs.declared.Program.{Program}
 use Rattle.dp_tree.specs.Step.{Event}
 use Rattle.dp_profile.specs.declared.Flow.{Flow}

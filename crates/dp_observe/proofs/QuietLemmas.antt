@@ -10,7 +10,7 @@ use Rattle.dp_tree.specs.declared.Stmt.{Stmt, out-Stmt, roll-Stmt, roll-out-Stmt
 use Rattle.dp_tree.specs.declared.Stmt.TheOpen.{Stmt-F, Assign, Store, Print, If, While, Region, Break, Call}
 use Rattle.dp_tree.specs.declared.Stmt.TheViews.{rolls-If, rolls-While, rolls-Region, rolls-Break}
 use Rattle.dp_base.specs.declared.VarId.{VarId}
-use Rattle.dp_base.proofs.ListLemmas.{get_before}
+use Rattle.dp_room.proofs.ListLemmas.{get_before}
 use Rattle.dp_plan.proofs.EachLemmas.{each_split}
 use Rattle.dp_tree.specs.declared.Expr.{Expr}
 use Rattle.dp_tree.specs.Eval.{WithLoads, Evaluated, and_then, after_loads, just, eval, place, cell_count, first_cell}

@@ -7,7 +7,7 @@ use Rattle.std.specs.List.Sorted.{IsStrictlySortedBy}
 use Rattle.std.specs.Map.{keys_of}
 use Rattle.std.proofs.lemmas.Bool.{cases_Bool}
 use Rattle.std.proofs.lemmas.Bool.Decides.{nat_tests}
-use Rattle.dp_base.proofs.ListLemmas.{at_index}
+use Rattle.dp_room.proofs.ListLemmas.{at_index}
 use Rattle.std.proofs.lemmas.Option.{slice_get_within}
 use Rattle.dp_profile.specs.declared.Flow.{Flow}
 use Rattle.dp_profile.specs.declared.sites.RegionSite.{RegionSite}

@@ -1,6 +1,6 @@
 //! What was counted at one site.
 ghost use Rattle.std.specs.Prelude.{◌≡◌, ℕ, ◌+◌, ◌≤◌, ◌⊎◌, ◌^◌, true, IfOk, OnOk, OnErr};
-ghost use Rattle.dp_base.specs.Counts.{one_if};
+ghost use Rattle.dp_room.specs.OneIf.{one_if};
 ghost use Rattle.dp_observe.specs.steps.Frames as definition;
 ghost use Rattle.dp_observe.specs.steps.Columns.{at_column};
 

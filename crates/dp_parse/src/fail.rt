@@ -6,7 +6,7 @@ ghost use Rattle.dp_parse.specs.declared.fail.ParseFail.TheVariants.{NoMemory as
 use dp_base::{NoMemory, Quantity};
 
 /// Why a text isn't read.
-#[derive(Clone, Copy, Debug, PartialEq, Eq)]
+#[derive(Clone, Copy)]
 pub enum ParseFail {
     /// No token begins at this place of the text, counted in bytes from 0.
     Lex { place: u32 },

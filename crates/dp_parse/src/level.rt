@@ -8,7 +8,7 @@ use dp_base::{BinOp, UnOp};
 use dp_tokens::Symbol;
 
 /// A level of an expression, from the loosest to the tightest (C99, 6.5).
-#[derive(Clone, Copy, Debug, PartialEq, Eq)]
+#[derive(Clone, Copy)]
 pub enum Level {
     Or,
     And,
@@ -21,7 +21,7 @@ pub enum Level {
 }
 
 /// What an infix operator makes of its operands.
-#[derive(Clone, Copy, Debug, PartialEq, Eq)]
+#[derive(Clone, Copy)]
 pub enum Join {
     Or,
     And,

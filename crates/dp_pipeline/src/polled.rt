@@ -1,7 +1,7 @@
 //! What a poll answers.
 
 /// Why a poll moved nothing.
-#[derive(Clone, Copy, Debug, PartialEq, Eq)]
+#[derive(Clone, Copy, PartialEq, Eq)]
 pub enum IdleWhy {
     /// The lane that it takes from was empty.
     Empty,
@@ -12,7 +12,7 @@ pub enum IdleWhy {
 }
 
 /// What a poll did.
-#[derive(Clone, Copy, Debug, PartialEq, Eq)]
+#[derive(Clone, Copy, PartialEq, Eq)]
 pub enum Polled {
     /// An item was sent.
     Moved,
@@ -21,7 +21,7 @@ pub enum Polled {
 }
 
 /// Why a unit has ended.
-#[derive(Clone, Copy, Debug, PartialEq, Eq)]
+#[derive(Clone, Copy)]
 pub enum EndedWhy {
     /// The item that it sent last was an ending one.
     Last,

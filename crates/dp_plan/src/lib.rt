@@ -15,7 +15,7 @@ pub use stage::{first_of, is_region};
 /// Whether one unit runs a stage's iterations in order, or several take different ones.
 ///
 /// Sequential and replicated stages are those of Raman et al., CGO 2008.
-#[derive(Clone, Copy, Debug, PartialEq, Eq)]
+#[derive(Clone, Copy)]
 pub enum StageKind {
     Seq,
     Par,
@@ -65,7 +65,7 @@ pub struct Enclosing {
 }
 
 /// A rule that fails, from 1 to 9, and the site that it names.
-#[derive(Clone, Copy, Debug, PartialEq, Eq)]
+#[derive(Clone, Copy)]
 pub struct BrokenRule {
     pub rule: u32,
     pub site: u32,

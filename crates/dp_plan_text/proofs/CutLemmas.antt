@@ -1,10 +1,10 @@
 -- A text that is cut after each LF.
 use Rattle.std.proofs.Common.{◌≡◌, ℕ, suc, ◌+◌, ◌<◌, ◌≤◌, ◌==◌, Bool, true, false, not, cond, List, [], ◌∷◌, ◌++◌, length, take, drop, Some, refl, sym, ap, ◌∙◌, rules, arith}
 use Rattle.std.specs.List.{position}
-use Rattle.dp_base.specs.Pieces.{onto_first}
+use Rattle.dp_text.specs.Pieces.{onto_first}
 use Rattle.dp_plan_text.specs.PlanText.{lines_of}
 use Rattle.dp_plan_text.proofs.WordLemmas.{first_end}
-use Rattle.dp_base.proofs.PositionLemmas.{next_is, position_some}
+use Rattle.dp_text.proofs.PositionLemmas.{next_is, position_some}
 
 lines_case : (byte : ℕ) (text : List ℕ) (is : Bool) → (byte == 10) ≡ is → (n : ℕ)
     → (n < length text → lines_of text ≡ (take n text ++ 10 ∷ []) ∷ lines_of (drop (n + 1) text)) → cond (not (byte == 10)) (1 + n) 0 < length (byte ∷ text)

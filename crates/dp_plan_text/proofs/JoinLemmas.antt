@@ -1,9 +1,9 @@
 -- Words that are joined by spaces, and the words of a text.
 use Rattle.std.proofs.Common.{◌≡◌, ℕ, ◌<◌, ◌≤◌, ◌^◌, ◌==◌, Bool, true, false, not, ◌&&◌, nat_le, List, [], ◌∷◌, ◌++◌, decimal, refl, sym, ap, ◌∙◌, rules, arith, tests}
 use Rattle.std.specs.List.{list_all}
-use Rattle.dp_base.specs.Digits.{is_digit}
+use Rattle.dp_text.specs.Digits.{is_digit}
 use Rattle.dp_plan.specs.Each.{Each}
-use Rattle.dp_base.specs.Pieces.{onto_first}
+use Rattle.dp_text.specs.Pieces.{onto_first}
 use Rattle.dp_plan_text.specs.PlanText.{joined}
 use Rattle.dp_plan_text.specs.Words.{words}
 use Rattle.dp_plan_text.proofs.NumberText.{digits-decimal}

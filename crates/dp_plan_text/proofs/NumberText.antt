@@ -4,7 +4,7 @@ use Rattle.std.specs.Prelude.{if◌then◌else◌}
 use Rattle.std.specs.List.{list_all}
 use Rattle.std.proofs.lemmas.Str.Parse.{IsNumeralModel, numerals_by_fold}
 use Rattle.std.proofs.lemmas.Fmt.{digits_decimal, digits_value-decimal, decimal_nonempty, first_decimal, decimal-digits_value, decimal_digit}
-use Rattle.dp_base.specs.Digits.{is_digit, value_after, value_upto}
+use Rattle.dp_text.specs.Digits.{is_digit, value_after, value_upto}
 use Rattle.dp_plan_text.specs.Words.{is_plain, number_upto, number_of}
 
 own : IsNumeralModel (λ ds. list_all is_digit ds ≡ true) (value_after 0)

@@ -11,7 +11,7 @@ use Rattle.dp_plan_text.specs.Words.{words}
 use Rattle.dp_plan_text.proofs.CutLemmas.{lines_one}
 use Rattle.dp_plan_text.proofs.RefusedOnce.{text_begins}
 use Rattle.dp_plan_text.proofs.Runs.{Grammar, IsBytes, chomped-line, chomped-none, line_bytes, read_text, read_bytes, read_bytes-sound, run_bytes, run_bytes-none, run_bytes-append}
-use Rattle.dp_base.proofs.PositionLemmas.{position_none}
+use Rattle.dp_text.proofs.PositionLemmas.{position_none}
 
 module _ {Line Reader : Type 0} (g : Grammar Line Reader) where
   open g use {Fits, line_of, begun, next_by, no_line, Reads, reads_start, reads_next}

@@ -2,7 +2,7 @@
 use Rattle.std.proofs.Common.{◌≡◌, refl, ap, ℕ, ◌==◌, Bool, true, false, not, ◌&&◌, List, [], ◌∷◌, ◌++◌, ◌∙◌, map}
 use Rattle.std.specs.List.{flat_map}
 use Rattle.dp_plan.specs.Each.{Each}
-use Rattle.dp_base.specs.Pieces.{onto_first}
+use Rattle.dp_text.specs.Pieces.{onto_first}
 use Rattle.dp_plan_text.specs.PlanText.{joined, lines_of}
 use Rattle.dp_plan_text.proofs.JoinLemmas.{AreWords, lacks}
 

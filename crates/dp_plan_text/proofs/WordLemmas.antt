@@ -1,10 +1,10 @@
 -- The first word of a line and the words behind it.
 use Rattle.std.proofs.Common.{◌≡◌, ℕ, suc, ◌+◌, ◌<◌, ◌≤◌, ◌==◌, Bool, true, false, not, cond, List, [], ◌∷◌, length, take, drop, Option, Some, None, refl, sym, ap, ◌∙◌, arith}
 use Rattle.std.specs.List.{position, position_or_len}
-use Rattle.dp_base.specs.Pieces.{onto_first}
+use Rattle.dp_text.specs.Pieces.{onto_first}
 use Rattle.dp_plan_text.specs.Words.{words}
 use Rattle.dp_plan_text.specs.steps.LineWords.{region_line, assume_line, head_line, end_line}
-use Rattle.dp_base.proofs.PositionLemmas.{next_is, position_some, position_none}
+use Rattle.dp_text.proofs.PositionLemmas.{next_is, position_some, position_none}
 
 -- how many bytes stand before the first of this kind
 abbrev pub first_end : ℕ → List ℕ → ℕ

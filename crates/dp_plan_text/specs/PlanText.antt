@@ -1,7 +1,7 @@
 -- The text of plans: its lines in order, the words of each, and what the numbers have to be.
 use Rattle.std.specs.Prelude.{◌≡◌, ℕ, Bool, true, false, ◌==◌, if◌then◌else◌, List, [], ◌∷◌, ◌++◌, map, length, codes, decimal}
 use Rattle.std.specs.List.{flat_map}
-use Rattle.dp_base.specs.Pieces.{onto_first}
+use Rattle.dp_text.specs.Pieces.{onto_first}
 use Rattle.dp_tree.specs.declared.Program.{Program}
 use Rattle.dp_tree.specs.Numbering.{numbers_from}
 use Rattle.dp_plan.specs.declared.StageKind.{StageKind}

@@ -1,7 +1,7 @@
 -- The words between the spaces of a line, and the number that a word writes.
 use Rattle.std.specs.Prelude.{ℕ, ◌==◌, if◌then◌else◌, Bool, true, false, not, List, [], ◌∷◌, Option, Some, None}
-use Rattle.dp_base.specs.Digits.{value_upto}
-use Rattle.dp_base.specs.Pieces.{pieces}
+use Rattle.dp_text.specs.Digits.{value_upto}
+use Rattle.dp_text.specs.Pieces.{pieces}
 
 -- what stands before, between and after the spaces, some of it empty
 abbrev pub words : List ℕ → List (List ℕ)

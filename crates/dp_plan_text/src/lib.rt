@@ -30,7 +30,7 @@ pub struct WrittenPlans {
 }
 
 /// Why a text gives no plans.
-#[derive(Clone, Copy, Debug, PartialEq, Eq)]
+#[derive(Clone, Copy)]
 pub enum PlanFail {
     /// It isn't in the grammar: the first line, from 1, up to which no text of the grammar begins so.
     Refused { line: u64 },

@@ -12,7 +12,7 @@ use dp_tree::Assume;
 use std::alloc::Global;
 
 /// How far a text has come.
-#[derive(Clone, Copy, Debug, PartialEq, Eq)]
+#[derive(Clone, Copy)]
 pub enum Phase {
     /// Before its first line.
     Start,

@@ -1,13 +1,14 @@
 //! Plans as a text.
 
 ghost use Rattle.std.specs.Prelude.{◌≡◌, ◌++◌, OnOk, IfOk};
-ghost use Rattle.dp_base.specs.Labels.{spaced};
+ghost use Rattle.dp_text.specs.Labels.{spaced};
 ghost use Rattle.dp_plan_text.specs.declared.line.Line.TheVariants as line;
 ghost use Rattle.dp_plan_text.specs.PlanText as plan_text;
 ghost use Rattle.dp_plan.specs.GivenPlans.{version_of};
 ghost use Rattle.dp_plan_text.specs.WrittenText as text;
 
-use dp_base::{NoMemory, Row, SiteId, put_labelled};
+use dp_base::{NoMemory, Row, SiteId};
+use dp_text::put_labelled;
 use dp_plan::{Plan, StageKind};
 use dp_sites::sites_of;
 use dp_tree::{Assume, Program};

@@ -40,7 +40,7 @@ pub struct RegionProfile {
 }
 
 /// How often a site was evaluated without a fault, and how often its condition was other than 0.
-#[derive(Clone, Copy, Debug, PartialEq, Eq)]
+#[derive(Clone, Copy)]
 pub struct SiteCount {
     pub runs: u64,
     /// At most `runs`, and 0 at a site that has no condition.
@@ -48,7 +48,7 @@ pub struct SiteCount {
 }
 
 /// How many loads at one site read a cell that another site had stored last.
-#[derive(Clone, Copy, Debug, PartialEq, Eq)]
+#[derive(Clone, Copy)]
 pub struct Flow {
     /// The site that stored.
     pub from: SiteId,
@@ -61,7 +61,7 @@ pub struct Flow {
 }
 
 /// Why a text gives no profile.
-#[derive(Clone, Copy, Debug, PartialEq, Eq)]
+#[derive(Clone, Copy)]
 pub enum ProfileFail {
     /// It isn't in the grammar: the first line, from 1, up to which no text of the grammar begins so.
     Refused { line: u64 },

@@ -11,7 +11,7 @@ use dp_base::limits::PROFILE_COUNT;
 use dp_plan_text::{next_word, number, number_upto};
 
 /// A line of a text.
-#[derive(Clone, Copy, Debug, PartialEq, Eq)]
+#[derive(Clone, Copy)]
 pub enum Line {
     Head,
     Region(u32),

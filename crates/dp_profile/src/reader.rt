@@ -11,7 +11,7 @@ use dp_base::{NoMemory, Row, SiteId};
 use std::alloc::Global;
 
 /// How far a text has come.
-#[derive(Clone, Copy, Debug, PartialEq, Eq)]
+#[derive(Clone, Copy)]
 pub enum Phase {
     /// Before its first line.
     Start,

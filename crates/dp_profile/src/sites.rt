@@ -10,7 +10,7 @@ use dp_tree::{Program, Stmt};
 use std::alloc::Global;
 
 /// A site of a region, and whether a condition is evaluated there.
-#[derive(Clone, Copy, Debug, PartialEq, Eq)]
+#[derive(Clone, Copy)]
 pub struct RegionSite {
     pub site: SiteId,
     pub condition: bool,

@@ -7,7 +7,8 @@ ghost use Rattle.dp_profile.specs.WrittenText as text;
 
 use crate::sites::{RegionSite, regions_of};
 use crate::{Flow, Profile, RegionProfile, SiteCount};
-use dp_base::{NoMemory, Row, SiteId, put_labelled};
+use dp_base::{NoMemory, Row, SiteId};
+use dp_text::put_labelled;
 use dp_tree::Program;
 use std::alloc::Global;
 

@@ -2,7 +2,7 @@
 use Rattle.std.specs.Prelude.{ℕ, List, [], ◌∷◌, ◌++◌, codes}
 use Rattle.dp_base.specs.declared.Cause.{Cause}
 use Rattle.dp_base.specs.declared.Cause.TheVariants.{Load, Assumed, Words, Fault, Fuel}
-use Rattle.dp_base.specs.Labels.{labelled}
+use Rattle.dp_text.specs.Labels.{labelled}
 use Rattle.dp_report.specs.Lines.{line, labelled_signed}
 use Rattle.dp_report.specs.Faults.{fault_words}
 

@@ -3,7 +3,7 @@ use Rattle.std.specs.Prelude.{ℕ, List, ◌++◌, codes}
 use Rattle.dp_base.specs.declared.Fault.{Fault}
 use Rattle.dp_base.specs.declared.FaultKind.{FaultKind}
 use Rattle.dp_base.specs.declared.FaultKind.TheVariants.{Overflow, Divide, Index}
-use Rattle.dp_base.specs.Labels.{labelled}
+use Rattle.dp_text.specs.Labels.{labelled}
 
 -- a fault's name in the text
 abbrev pub fault_name : FaultKind → List ℕ

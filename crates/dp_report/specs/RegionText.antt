@@ -2,7 +2,7 @@
 use Rattle.std.specs.Prelude.{ℕ, Bool, List, [], ◌++◌, ◌==◌, if◌then◌else◌, codes}
 use Rattle.std.specs.List.{flat_map}
 use Rattle.dp_base.specs.declared.RegionReport.{RegionReport}
-use Rattle.dp_base.specs.Labels.{labelled, spaced}
+use Rattle.dp_text.specs.Labels.{labelled, spaced}
 use Rattle.dp_report.specs.Lines.{line}
 use Rattle.dp_report.specs.CauseText.{causes_bytes}
 

@@ -1,6 +1,6 @@
 -- The list of a program's sites.
 use Rattle.std.specs.Prelude.{ℕ, List, ◌++◌, codes}
-use Rattle.dp_base.specs.Labels.{labelled}
+use Rattle.dp_text.specs.Labels.{labelled}
 use Rattle.dp_tree.specs.declared.SiteKind.{SiteKind}
 use Rattle.dp_tree.specs.declared.SiteKind.TheVariants.{Assign, Print, If, While, Break}
 use Rattle.dp_tree.specs.declared.SiteInfo.{SiteInfo}

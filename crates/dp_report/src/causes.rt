@@ -5,7 +5,8 @@ ghost use Rattle.dp_report.specs.CauseText.{cause_line, cause_words, causes_byte
 
 use crate::decimal::put_labelled_signed;
 use crate::fault::put_fault;
-use dp_base::{Cause, NoMemory, Row, put_labelled};
+use dp_base::{Cause, NoMemory, Row};
+use dp_text::put_labelled;
 
 /// A line for each of these iterations, with its cause.
 pub fn put_causes(out: &mut Row<u8>, iterations: &[u64], causes: &[Cause]) -> Result<(), NoMemory>

@@ -2,10 +2,11 @@
 
 ghost use Rattle.std.specs.Prelude.{◌≡◌, ◌++◌, OnOk};
 ghost use Rattle.std.specs.Fmt.{signed_decimal};
-ghost use Rattle.dp_base.specs.Labels.{spaced};
+ghost use Rattle.dp_text.specs.Labels.{spaced};
 ghost use Rattle.dp_report.specs.Lines.{labelled_signed, spaced_signed};
 
-use dp_base::{NoMemory, Row, put_labelled};
+use dp_base::{NoMemory, Row};
+use dp_text::put_labelled;
 use itoa::Buffer;
 
 pub fn put_signed(out: &mut Row<u8>, n: i64) -> Result<(), NoMemory>

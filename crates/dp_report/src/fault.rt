@@ -3,7 +3,8 @@
 ghost use Rattle.std.specs.Prelude.{◌≡◌, ◌++◌, OnOk};
 ghost use Rattle.dp_report.specs.Faults.{fault_name, fault_words};
 
-use dp_base::{Fault, FaultKind, NoMemory, Row, put_labelled};
+use dp_base::{Fault, FaultKind, NoMemory, Row};
+use dp_text::put_labelled;
 
 /// A fault's name and line.
 #[tactic(auto, unfolding(crate::specs::Faults::fault_words))]

@@ -5,7 +5,8 @@ ghost use Rattle.dp_report.specs.RegionText.{listed, counts_line, causes_if, rep
 
 use crate::causes::put_causes;
 use crate::decimal::put_spaced;
-use dp_base::{NoMemory, RegionReport, Row, put_labelled};
+use dp_base::{NoMemory, RegionReport, Row};
+use dp_text::put_labelled;
 
 /// A line for each region with a begun iteration, and behind it the causes, where they are wanted.
 pub fn put_regions(out: &mut Row<u8>, reports: &[RegionReport], why: bool) -> Result<(), NoMemory>

@@ -4,7 +4,8 @@ ghost use Rattle.std.specs.Prelude.{◌≡◌, ◌++◌, OnOk, IfOk};
 ghost use Rattle.dp_report.specs.Lines.{numbered};
 ghost use Rattle.dp_report.specs.SiteText.{kind_name, region_sites_line, site_line, site_bytes};
 
-use dp_base::{NoMemory, Row, put_labelled};
+use dp_base::{NoMemory, Row};
+use dp_text::put_labelled;
 use dp_tree::{Program, RegionInfo, SiteInfo, SiteKind};
 use std::alloc::Global;
 

@@ -21,7 +21,7 @@ use Rattle.dp_run.proofs.RegionsLeft.{off_plain, nothing_left}
 use Rattle.dp_meaning.proofs.ContinuesLemmas.{continues_none, continues_join}
 use Rattle.dp_meaning.proofs.MovedLemmas.{prints-append}
 use Rattle.dp_commit.proofs.Lists.{places_behind}
-use Rattle.dp_base.proofs.ListLemmas.{get_behind}
+use Rattle.dp_room.proofs.ListLemmas.{get_behind}
 
 -- Where region r is at the head of none of a piece's configurations, its starts are those behind the piece.
 pub starts_behind : (run rest : Run) (r : ℕ) (events : List Event) (configs : List Config) → Continues run events configs rest → list_all (λ c. not (stands_at_head r c)) configs ≡ true →

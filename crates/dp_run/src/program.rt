@@ -21,7 +21,7 @@ use std::thread::Threads;
 use std::time::Clock;
 
 /// How a program is run.
-#[derive(Clone, Copy, Debug, PartialEq, Eq)]
+#[derive(Clone, Copy)]
 pub struct RunOptions {
     /// The greatest number of steps.
     pub fuel: u64,

@@ -11,7 +11,7 @@ use Rattle.dp_plan.specs.Walks.{is_region_of}
 use Rattle.dp_plan.specs.Written.{site_in, region_sites}
 use Rattle.dp_plan.proofs.TopStatements.{sites_are}
 use Rattle.dp_sites.specs.Lists.{asked_in_region, site_list, site_lists}
-use Rattle.dp_base.proofs.ListLemmas.{next_of}
+use Rattle.dp_room.proofs.ListLemmas.{next_of}
 
 module _ {X : Type 0} where
   -- a statement's own answers join the end, and then those of what is inside it

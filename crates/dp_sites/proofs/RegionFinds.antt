@@ -4,7 +4,7 @@ use Rattle.std.proofs.lemmas.List.Sums.{length-filter}
 use Rattle.dp_tree.specs.declared.Stmt.{Stmt}
 use Rattle.dp_plan.specs.Access.{is_region_at}
 use Rattle.dp_plan.specs.Walks.{is_region_of}
-use Rattle.dp_base.proofs.ListLemmas.{next_of}
+use Rattle.dp_room.proofs.ListLemmas.{next_of}
 
 module _ (r : ℕ) (all : List Stmt) (i : ℕ) (s : Stmt) (low : i < length all) (is : s ≡ get_or all i s) where
   pub first_here : is_region_of r s ≡ true → slice_get (filter (is_region_at r) (drop i all)) 0 ≡ Some s

@@ -6,7 +6,7 @@ ghost use Rattle.dp_tokens.specs.declared.fail.PartFail.TheVariants.{NoMemory as
 use dp_base::NoMemory;
 
 /// Why a part of a program isn't read from the front of the tokens.
-#[derive(Clone, Copy, Debug, PartialEq, Eq)]
+#[derive(Clone, Copy)]
 pub enum PartFail {
     /// The next token fits nowhere.
     Refused,

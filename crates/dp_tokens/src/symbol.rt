@@ -8,7 +8,7 @@ ghost use Rattle.dp_tokens.specs.Steps as steps;
 use dp_lex::{Token, TokenKind, spelling};
 
 /// A terminal symbol: what a token is to the grammar.
-#[derive(Clone, Copy, Debug, PartialEq, Eq)]
+#[derive(Clone, Copy)]
 pub enum Symbol {
     Name,
     Number,

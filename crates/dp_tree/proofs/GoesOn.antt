@@ -10,7 +10,7 @@ use Rattle.dp_tree.specs.Iteration.{stands_at_head, places, starts, start, is_wi
 use Rattle.dp_tree.specs.GoesOn.{moved, GoesOnAs, starts_before, GoesOn, GoesOnFrom}
 use Rattle.dp_tree.proofs.RunLaws.{runs_by_step}
 use Rattle.dp_tree.proofs.MovedLists.{at_drop, count_above, count_below, count_moved, count_to, moved_map, places_moved, places_split, range_moved, same_test}
-use Rattle.dp_base.proofs.ListLemmas.{get_behind}
+use Rattle.dp_room.proofs.ListLemmas.{get_behind}
 
 module _ (p : Program) (input : List ℤ) where
   -- behind its first k steps the run is the one from d

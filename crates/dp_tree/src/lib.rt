@@ -88,7 +88,7 @@ pub enum Stmt {
 /// Where a variable is declared: at file scope, in the body of a region, or elsewhere.
 ///
 /// A parameter or local of a call that is expanded in a region's body is of that body too.
-#[derive(Clone, Copy, Debug, PartialEq, Eq)]
+#[derive(Clone, Copy, PartialEq, Eq)]
 pub enum VarScope {
     Global,
     Outer,
@@ -121,7 +121,7 @@ pub struct VarInfo {
 }
 
 /// What is evaluated at a site; initialisers and bindings are assignments.
-#[derive(Clone, Copy, Debug, PartialEq, Eq)]
+#[derive(Clone, Copy)]
 pub enum SiteKind {
     Assign,
     Print,
@@ -131,7 +131,7 @@ pub enum SiteKind {
 }
 
 /// A site: the line of its statement's first token, from 1, and its region, or 0 outside all regions.
-#[derive(Clone, Copy, Debug, PartialEq, Eq)]
+#[derive(Clone, Copy)]
 pub struct SiteInfo {
     pub line: u32,
     pub kind: SiteKind,
@@ -139,7 +139,7 @@ pub struct SiteInfo {
 }
 
 /// A region: the line of its `while`, and its first and last site. The first site is its condition.
-#[derive(Clone, Copy, Debug, PartialEq, Eq)]
+#[derive(Clone, Copy)]
 pub struct RegionInfo {
     pub line: u32,
     pub first: SiteId,
@@ -166,7 +166,7 @@ pub struct Program {
 }
 
 /// The outcome that is assumed of an `if`: whether its condition is other than 0.
-#[derive(Clone, Copy, Debug, PartialEq, Eq)]
+#[derive(Clone, Copy)]
 pub struct Assume {
     pub site: SiteId,
     pub taken: bool,

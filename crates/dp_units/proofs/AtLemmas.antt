@@ -7,7 +7,7 @@ use Rattle.std.proofs.lemmas.Option.{same_Some, slice_get-map, slice_get-get_or,
 use Rattle.dp_units.specs.steps.Entries.{At, Has}
 pub use Rattle.std.proofs.lemmas.Option.{slice_get_within as at_within}
 use Rattle.std.specs.Option.{option_map}
-use Rattle.dp_base.proofs.ListLemmas.{get_set_same}
+use Rattle.dp_room.proofs.ListLemmas.{get_set_same}
 
 pub some_at : {X : Type 0} (xs : List X) (i : ℕ) → i < length xs → (x : X) × At xs i x
 some_at [] i h = absurd (omega (arith, h))

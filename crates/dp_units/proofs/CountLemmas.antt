@@ -1,7 +1,7 @@
 -- Counts of nodes without a place, and of edges from them.
 use Rattle.std.proofs.Common.{◌≡◌, ◌≢◌, ◌⊎◌, inl, inr, refl, sym, subst, ◌∙◌, ap, arith, ℕ, zero, suc, ◌<◌, ◌≤◌, ◌+◌, ◌==◌, ◌&&◌, if◌then◌else◌, Bool, true, false, List, [], ◌∷◌, length, replicate, slice_index}
 use Rattle.std.proofs.lemmas.Bool.{cases_eq, eq-eqb, ne_eqb, and_from}
-use Rattle.dp_base.specs.Counts.{one_if}
+use Rattle.dp_room.specs.OneIf.{one_if}
 use Rattle.dp_units.specs.steps.Entries.{times}
 use Rattle.dp_units.specs.Graph.{HasEdge}
 use Rattle.dp_units.specs.steps.Rows.{targets, waits_for}

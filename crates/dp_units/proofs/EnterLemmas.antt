@@ -8,7 +8,7 @@ use Rattle.dp_units.specs.Graph.{Walk, HasEdge}
 use Rattle.dp_units.specs.steps.Search.{IsPath, IsSearch, IsSettled, IsUnseen}
 use Rattle.dp_units.proofs.AtLemmas.{at_within, at_one, at_push, at_last, at_kept, at_append, at_map, at_mapped, at_set, at_unset, has_kept, has_added, has_append, has_push}
 use Rattle.dp_units.proofs.PathLemmas.{longer, joined}
-use Rattle.dp_base.proofs.ListLemmas.{get_set_same}
+use Rattle.dp_room.proofs.ListLemmas.{get_set_same}
 
 pub unseen_on_path : (i : ℕ) → Unseen ≡ OnPath i → ⊥
 unseen_on_path i e = cc e

@@ -9,7 +9,7 @@ use Rattle.std.proofs.lemmas.Map.Lookups.{exact_unsigned}
 use Rattle.std.proofs.lemmas.Bool.{cases_eq, eq-eqb, ne_eqb}
 use Rattle.std.proofs.lemmas.List.{take_more, get_or-set_same, get_or-set_other}
 use Rattle.std.proofs.lemmas.Option.{same_Some}
-use Rattle.dp_base.specs.Counts.{one_if}
+use Rattle.dp_room.specs.OneIf.{one_if}
 use Rattle.dp_units.specs.steps.Entries.{Has, times}
 use Rattle.dp_units.proofs.AtLemmas.{at_none}
 

@@ -20,7 +20,7 @@ use Rattle.dp_units.proofs.EnterLemmas.{entered, unseen_before, regrouped, grown
 use Rattle.dp_units.proofs.CloseLemmas.{closed_group, unseen_still, closing_of, least_of, member_of}
 use Rattle.dp_units.proofs.TakeLemmas.{edge_within}
 use Rattle.dp_units.proofs.RowLemmas.{in_row, edge_in_row, rows_fewer, rows_no_more}
-use Rattle.dp_base.proofs.ListLemmas.{get_set_same}
+use Rattle.dp_room.proofs.ListLemmas.{get_set_same}
 
 module _ (edges : List (ℕ × ℕ)) (rows : List (Vec ℕ Global)) (graph : IsGraph edges rows) (s : Search) (is : IsGoing edges rows s) where
   -- the search is that of these lists

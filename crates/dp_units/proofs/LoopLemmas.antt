@@ -12,7 +12,7 @@ use Rattle.dp_units.specs.Graph.{AreWithin}
 use Rattle.dp_units.specs.steps.Rows.{targets, IsGraph}
 use Rattle.dp_units.specs.steps.Search.{IsMarked}
 use Rattle.dp_units.proofs.AtLemmas.{at_one, at_push, at_last, at_kept, at_set, at_unset, has_kept}
-use Rattle.dp_base.proofs.ListLemmas.{get_set_same}
+use Rattle.dp_room.proofs.ListLemmas.{get_set_same}
 
 pub item_at : {X : Type 0} (xs : List X) (i : ℕ) (d : X) → i < length xs → At xs i (slice_index_or xs i d)
 item_at xs i d h = slice_get-get_or xs i d h

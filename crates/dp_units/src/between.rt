@@ -4,7 +4,7 @@ ghost use Rattle.dp_units.specs.Graph.{AreWithin};
 ghost use Rattle.dp_units.specs.steps.Leaders.{AreBetween};
 ghost use Rattle.dp_units.specs.steps.Rows.{waits_for};
 
-use dp_base::NoMemory;
+use dp_room::NoMemory;
 use std::alloc::Global;
 
 /// The edges that lead from one unit to another, each from leader to leader.

@@ -9,7 +9,7 @@ use crate::classes::Units;
 use crate::free::{first_free, release};
 use crate::graph::{Graph, rows};
 use crate::leaders::leaders;
-use dp_base::{NoMemory, Row};
+use dp_room::{NoMemory, Row};
 use std::alloc::Global;
 
 /// The classes of nodes below `count` that reach each other along the edges, ordered by taking again and again, among

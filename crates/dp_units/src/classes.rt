@@ -1,10 +1,10 @@
 //! What is known of a graph's units.
 ghost use Rattle.std.specs.Prelude.{◌≡◌, ◌<◌, length, slice_index};
 
-use dp_base::Row;
+use dp_room::Row;
 
 /// The units of a graph in their order, and for each node the place of its unit.
-#[derive(Debug, Drop)]
+#[derive(Drop)]
 pub struct Units {
     pub(crate) place_of: Row<u32>,
     pub(crate) order: Row<u32>,

@@ -2,7 +2,7 @@
 ghost use Rattle.std.specs.Prelude.{◌≡◌, ◌≢◌, ◌⊎◌, ◌+◌, ◌<◌, ◌≤◌, ℕ, length, slice_index, IfOk, OnOk};
 ghost use Rattle.dp_units.specs.steps.Entries.{At, Has, times};
 
-use dp_base::NoMemory;
+use dp_room::NoMemory;
 use std::alloc::Global;
 use std::collections::BTreeSet;
 

@@ -3,7 +3,7 @@ ghost use Rattle.std.specs.Prelude.{◌≡◌, ◌++◌, [], ◌∷◌, length, 
 ghost use Rattle.dp_units.specs.Graph.{AreWithin};
 ghost use Rattle.dp_units.specs.steps.Rows.{IsGraph};
 
-use dp_base::NoMemory;
+use dp_room::NoMemory;
 use std::alloc::Global;
 
 /// A graph: its edges, and for each node what its edges lead to.

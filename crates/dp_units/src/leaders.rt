@@ -11,7 +11,7 @@ ghost use Rattle.dp_units.specs.steps.Steps.{IsGoing};
 use crate::graph::Graph;
 use crate::mark::Mark;
 use crate::search::Search;
-use dp_base::NoMemory;
+use dp_room::NoMemory;
 use std::alloc::Global;
 
 /// The least node of each node's unit.

@@ -14,7 +14,7 @@ ghost use Rattle.dp_units.specs.steps.Steps.{edges_from, IsGoing, IsLastGroup, L
 
 use crate::graph::Graph;
 use crate::mark::Mark;
-use dp_base::NoMemory;
+use dp_room::NoMemory;
 use std::alloc::Global;
 
 /// What a search knows.

@@ -1,7 +1,7 @@
 //! What may be asked for.
 
 /// How automatic plans are made.
-#[derive(Clone, Copy, Debug, PartialEq, Eq)]
+#[derive(Clone, Copy)]
 pub struct PlanOptions {
     /// Up to how many loads in a thousand runs are rare, up to 1,000.
     pub rate: u32,
@@ -12,7 +12,7 @@ pub struct PlanOptions {
 }
 
 /// Where a run's plans come from.
-#[derive(Clone, Copy, Debug, PartialEq, Eq)]
+#[derive(Clone, Copy)]
 pub enum PlanSource<'w> {
     /// The text of this name.
     Named(&'w str),
@@ -21,7 +21,7 @@ pub enum PlanSource<'w> {
 }
 
 /// A run that was asked for. Each option that wasn't given has its default.
-#[derive(Clone, Copy, Debug, PartialEq, Eq)]
+#[derive(Clone, Copy)]
 pub struct RunWords<'w> {
     /// The name of the program's text.
     pub program: &'w str,
@@ -39,7 +39,7 @@ pub struct RunWords<'w> {
 }
 
 /// The automatic plans that were asked for.
-#[derive(Clone, Copy, Debug, PartialEq, Eq)]
+#[derive(Clone, Copy)]
 pub struct PlanWords<'w> {
     /// The name of the program's text.
     pub program: &'w str,
@@ -49,7 +49,7 @@ pub struct PlanWords<'w> {
 }
 
 /// A profile that was asked for.
-#[derive(Clone, Copy, Debug, PartialEq, Eq)]
+#[derive(Clone, Copy)]
 pub struct ProfileWords<'w> {
     /// The name of the program's text.
     pub program: &'w str,
@@ -60,7 +60,7 @@ pub struct ProfileWords<'w> {
 }
 
 /// A run of the made program that was asked for.
-#[derive(Clone, Copy, Debug, PartialEq, Eq)]
+#[derive(Clone, Copy)]
 pub struct GenWords {
     /// The number that the words of its input come from, below 2,147,483,648.
     pub seed: u32,
@@ -75,7 +75,7 @@ pub struct GenWords {
 }
 
 /// What the program is asked to do.
-#[derive(Clone, Copy, Debug, PartialEq, Eq)]
+#[derive(Clone, Copy)]
 pub enum Task<'w> {
     Run(RunWords<'w>),
     /// To write the program's automatic plans.

@@ -1,7 +1,7 @@
 -- What is loaded for a run is what a run asks for.
 use Rattle.std.proofs.Common.{◌≡◌, refl, sym, ap, ◌∙◌, subst, ℕ, ◌≤◌, Bool, true, false, if◌then◌else◌, nat_lt, nat_le, min, suc, ◌+◌, List, [], ◌∷◌, length, ℤ, Option, Some, None, Result, Ok, Err, IfOk, arith}
 use Rattle.std.proofs.lemmas.Bool.{leb-true}
-use Rattle.dp_base.specs.declared.NoMemory.{NoMemory}
+use Rattle.dp_room.specs.declared.NoMemory.{NoMemory}
 use Rattle.dp_base.specs.declared.Quantity.TheVariants.{InputBytes}
 use Rattle.dp_edge.specs.declared.input.InputFail.{InputFail}
 use Rattle.dp_edge.specs.declared.input.InputFail.TheVariants.{TooMany}

@@ -1,6 +1,6 @@
 -- Input texts read word by word.
 use Rattle.std.proofs.Common.{◌≡◌, refl, ℕ, ◌-◌, ◌^◌, List, [], ◌∷◌, ℤ, pos, negsuc, ◌++◌, Some, None, Result, Ok, Err, codes}
-use Rattle.dp_base.specs.Digits.{digit_after}
+use Rattle.dp_text.specs.Digits.{digit_after}
 use Rattle.dp_edge.specs.Digits.{magnitude_of}
 use Rattle.dp_edge.specs.Input.{words, number_of, numbers_of, AnswersInput}
 use Rattle.dp_edge.specs.declared.input.InputFail.{InputFail}

@@ -1,7 +1,7 @@
 -- Where a run stands in a region, and from where a load's value came.
 use Rattle.std.specs.Prelude.{ℕ, ◌+◌, ◌-◌, ◌*◌, ◌==◌, if◌then◌else◌, ◌&&◌, Bool, false, not, nat_le, List, [], count_by, Option, Some, None}
 use Rattle.dp_base.specs.Arithmetic.{is_zero}
-use Rattle.dp_base.specs.Counts.{one_if}
+use Rattle.dp_room.specs.OneIf.{one_if}
 use Rattle.dp_meaning.specs.declared.sight.Effect.{Effect}
 use Rattle.dp_meaning.specs.declared.sight.Effect.TheVariants.{Stored, Printed, Decided, Tried}
 use Rattle.dp_profile.specs.declared.SiteCount.{SiteCount}

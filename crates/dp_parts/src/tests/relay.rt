@@ -14,7 +14,7 @@ use std::thread::Threads;
 const COUNT: u64 = 100_000;
 
 /// The items are the numbers from 0 on, and each is given doubled.
-#[derive(Debug, Drop, PartialEq, Eq)]
+#[derive(Drop)]
 struct Number(u64);
 
 impl RingItem for Number {

@@ -4,7 +4,7 @@ use Rattle.dp_base.specs.declared.RegionReport.{RegionReport}
 use Rattle.dp_base.specs.declared.FaultKind.TheVariants.{Overflow, Divide, Index}
 use Rattle.dp_base.specs.declared.Cause.TheVariants as cause
 use Rattle.dp_base.specs.declared.End.TheVariants.{Done, Fault, Fuel}
-use Rattle.dp_base.specs.Labels.{labelled}
+use Rattle.dp_text.specs.Labels.{labelled}
 use Rattle.dp_tree.specs.declared.Program.{Program}
 use Rattle.dp_tree.specs.declared.VarInfo.{VarInfo}
 use Rattle.dp_tree.specs.declared.VarScope.TheVariants.{Global, Outer, Body}

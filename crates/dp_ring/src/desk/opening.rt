@@ -12,7 +12,7 @@ use crate::item::RingItem;
 use crate::plays::{Hires, Opens};
 use crate::view::View;
 use atomic_table::{Split, Table};
-use dp_base::NoMemory;
+use dp_room::NoMemory;
 use std::alloc::Global;
 use std::sync::Arc;
 

@@ -1,6 +1,6 @@
 -- Entries of lists: where they stand, and how often.
 use Rattle.std.specs.Prelude.{ℕ, ◌≡◌, ◌<◌, ◌+◌, ◌==◌, List, [], ◌∷◌, Some, slice_get}
-use Rattle.dp_base.specs.Counts.{one_if}
+use Rattle.dp_room.specs.OneIf.{one_if}
 
 -- the entry at this place of the list
 abbrev pub At : {X : Type 0} → List X → ℕ → X → Type 0

@@ -1,7 +1,7 @@
 -- The edges of a graph, by the node that they lead from, and counted by the node that they lead to.
 use Rattle.std.specs.Prelude.{ℕ, ◌≡◌, ◌+◌, ◌&&◌, ◌==◌, if◌then◌else◌, List, [], ◌∷◌, length, slice_index, Vec}
 use Rattle.std.specs.declared.alloc.Global.{Global}
-use Rattle.dp_base.specs.Counts.{one_if}
+use Rattle.dp_room.specs.OneIf.{one_if}
 use Rattle.dp_units.specs.Graph.{AreWithin}
 use Rattle.dp_units.specs.steps.Entries.{At}
 

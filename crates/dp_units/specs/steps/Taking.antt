@@ -1,6 +1,6 @@
 -- Taking the units one by one, each by its leader.
 use Rattle.std.specs.Prelude.{ℕ, ◌≡◌, ◌≢◌, ◌<◌, ◌≤◌, ◌+◌, ◌==◌, List, [], ◌∷◌, length, take, slice_index}
-use Rattle.dp_base.specs.Counts.{one_if}
+use Rattle.dp_room.specs.OneIf.{one_if}
 use Rattle.dp_units.specs.steps.Entries.{Has}
 use Rattle.dp_units.specs.Order.{IsNext}
 use Rattle.dp_units.specs.steps.Rows.{waits_for}

@@ -181,7 +181,7 @@ fn each_row<R: Abort + Wait + Clock>(
         Polled::Idle(IdleWhy::Busy { word: 1 }),
     ];
     let answers = first_answers(rt, alloc, p, plan)?;
-    assert_eq!(rt; answers.as_slice(), expected.as_slice());
+    assert!(rt; answers.as_slice() == expected.as_slice());
     for order in [Order::Forwards, Order::Backwards, Order::Mixed] {
         assert!(rt; is_clean_in(rt, alloc, p, plan, order)?);
     }

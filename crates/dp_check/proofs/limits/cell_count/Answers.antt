@@ -4,7 +4,7 @@ use Rattle.dp_check.specs.Tables.{global_of}
 use Rattle.dp_check.specs.Limits.{cell_sum, global_cells}
 use Rattle.dp_check.proofs.LimitLemmas as limits
 use Rattle.dp_check.proofs.limits.cell_count.Goals as goal
-use Rattle.dp_base.proofs.LoopLemmas.{fold_more, fold_end}
+use Rattle.dp_room.proofs.LoopLemmas.{fold_more, fold_end}
 
 pub loop-item-preserved : goal.loop-item-preserved
 loop-item-preserved c =

@@ -2,7 +2,7 @@ use Rattle.std.proofs.Common.{◌+◌, ◌<◌, min, length, ap, ◌∙◌, arit
 use Rattle.dp_check.specs.Limits.{functions_in, function_count}
 use Rattle.dp_check.proofs.LimitLemmas as limits
 use Rattle.dp_check.proofs.limits.function_count.Goals as goal
-use Rattle.dp_base.proofs.LoopLemmas.{fold_more, fold_end}
+use Rattle.dp_room.proofs.LoopLemmas.{fold_more, fold_end}
 
 pub loop-item-preserved : goal.loop-item-preserved
 loop-item-preserved c =

@@ -2,7 +2,7 @@ use Rattle.std.proofs.Common.{◌+◌, ◌<◌, length, arith}
 use Rattle.dp_check.specs.Tables.{globals, global_of}
 use Rattle.dp_check.proofs.LimitLemmas as limits
 use Rattle.dp_check.proofs.limits.global_count.Goals as goal
-use Rattle.dp_base.proofs.LoopLemmas.{fold_more, fold_end}
+use Rattle.dp_room.proofs.LoopLemmas.{fold_more, fold_end}
 
 pub loop-item-preserved : goal.loop-item-preserved
 loop-item-preserved c =

@@ -4,8 +4,8 @@ use Rattle.dp_check.specs.declared.place.Place.{Place}
 use Rattle.dp_check.specs.Place.{Site, IsPastNumbers, passed, sited, parts, parts_all}
 use Rattle.dp_check.proofs.PlaceLemmas.{passed_more, passed-none, past_by, after-If, after-While, pass-For, pass-For-first, pass-For-site}
 use Rattle.dp_check.proofs.numbers.+numbers.Goals as goal
-use Rattle.dp_base.proofs.LoopLemmas.{fold_more, fold_end}
-use Rattle.dp_base.proofs.ResultLemmas.{on_err}
+use Rattle.dp_room.proofs.LoopLemmas.{fold_more, fold_end}
+use Rattle.dp_room.proofs.ResultLemmas.{on_err}
 
 pub pass_all-loop-s-preserved : goal.pass_all-loop-s-preserved
 pass_all-loop-s-preserved t c =

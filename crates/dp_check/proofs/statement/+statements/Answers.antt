@@ -15,7 +15,7 @@ use Rattle.dp_check.proofs.Weight.{weight, weight_all, weight-If, weight-While, 
 use Rattle.dp_check.proofs.StatementLemmas.{block_answer-none, block_answer-more}
 use Rattle.dp_check.proofs.StatementLemmas as steps
 use Rattle.dp_check.proofs.statement.+statements.Goals as goal
-use Rattle.dp_base.proofs.LoopLemmas.{fold_more}
+use Rattle.dp_room.proofs.LoopLemmas.{fold_more}
 
 -- ---- statements without a block
 

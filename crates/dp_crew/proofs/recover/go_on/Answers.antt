@@ -5,7 +5,7 @@ use Rattle.dp_crew.specs.Output.{Emits, WritesFront}
 use Rattle.dp_crew.specs.Remade.{some}
 use Rattle.dp_crew.proofs.RemadeLemmas.{recovers_for}
 use Rattle.dp_crew.proofs.recover.go_on.Goals as goal
-use Rattle.dp_base.proofs.ResultLemmas.{on_err}
+use Rattle.dp_room.proofs.ResultLemmas.{on_err}
 
 pub returns-clause-ok : goal.returns-clause-ok
 returns-clause-ok g c =

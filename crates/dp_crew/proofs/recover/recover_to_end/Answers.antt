@@ -4,7 +4,7 @@ use Rattle.dp_meaning.specs.declared.ends.IterEnd.TheVariants as iter_end
 use Rattle.dp_crew.specs.Remade.{Remade}
 use Rattle.dp_crew.proofs.RemadeLemmas.{emits_both, front_both, may_print, remade, remade_going, remade_falls}
 use Rattle.dp_crew.proofs.recover.recover_to_end.Goals as goal
-use Rattle.dp_base.proofs.ResultLemmas.{on_err}
+use Rattle.dp_room.proofs.ResultLemmas.{on_err}
 
 pub returns-in_err-go_on-clause-err : goal.returns-in_err-go_on-clause-err
 returns-in_err-go_on-clause-err g c =

@@ -2,7 +2,7 @@ use Rattle.std.proofs.Common.{[], refl, ◌∙◌}
 use Rattle.dp_crew.proofs.WriteLemmas.{front_nothing}
 use Rattle.dp_crew.proofs.WholeRegion.{none_yet, region_begins, region_flush_front, region_front, region_ran, region_reported, region_written}
 use Rattle.dp_crew.proofs.region.run_region.Goals as goal
-use Rattle.dp_base.proofs.ResultLemmas.{on_err}
+use Rattle.dp_room.proofs.ResultLemmas.{on_err}
 
 pub run_epochs-requires-clause-start : goal.run_epochs-requires-clause-start
 run_epochs-requires-clause-start g c lifetimes within = (

@@ -4,7 +4,7 @@ use Rattle.dp_inline.specs.steps.Written.{written, after_one, after_list}
 use Rattle.dp_inline.proofs.Work.{work_one, work_list, work_within, work-If, work-While, work-Region, work-Call, work_item, work_called}
 use Rattle.dp_inline.proofs.FormLemmas.{after_list-none, after_list-more, after-Call-none}
 use Rattle.dp_inline.proofs.EndLemmas.{if_ends, while_ends, region_ends, call_ends-zero, call_ends-more}
-use Rattle.dp_base.proofs.LoopLemmas.{fold_more, fold_end}
+use Rattle.dp_room.proofs.LoopLemmas.{fold_more, fold_end}
 use Rattle.dp_inline.proofs.statement.+expand.Goals.{call-then-depth-gt0+in_ok-statements, call-else-depth-gt0}
 use Rattle.dp_inline.proofs.statement.+expand.Goals as goal
 

@@ -4,7 +4,7 @@ use Rattle.std.proofs.lemmas.List.{length-map}
 use Rattle.dp_memory.specs.Piece.{items_of}
 use Rattle.dp_memory.proofs.Held.{own_items, on_ok}
 use Rattle.dp_memory.proofs.group.own_page.Goals as goal
-use Rattle.dp_base.proofs.ListLemmas.{get_set_same}
+use Rattle.dp_room.proofs.ListLemmas.{get_set_same}
 
 pub index_mut-page-requires : goal.index_mut-page-requires
 index_mut-page-requires c =

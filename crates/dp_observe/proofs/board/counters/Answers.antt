@@ -1,5 +1,5 @@
 use Rattle.std.proofs.Common.{rules, ◌≡◌, refl, sym, ap, subst, ◌∙◌, ℕ, ◌+◌, ◌<◌, ◌++◌, [], ◌∷◌, List, length, length-append, Some, slice_get, inl, inr, arith}
-use Rattle.dp_base.proofs.ListLemmas.{get_pushed}
+use Rattle.dp_room.proofs.ListLemmas.{get_pushed}
 use Rattle.std.proofs.lemmas.Option.{slice_get_read}
 use Rattle.dp_profile.specs.declared.sites.RegionSite.{RegionSite}
 use Rattle.dp_observe.specs.declared.counter.Counter.{Counter}

@@ -1,5 +1,5 @@
 use Rattle.std.proofs.Common.{◌≡◌, ◌++◌, drop}
-use Rattle.dp_base.specs.Labels.{spaced}
+use Rattle.dp_text.specs.Labels.{spaced}
 use Rattle.dp_plan_text.specs.WrittenText.{sites_at}
 use Rattle.dp_plan_text.proofs.write.put_sites.Given as goal
 

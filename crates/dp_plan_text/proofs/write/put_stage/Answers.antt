@@ -1,6 +1,6 @@
 use Rattle.std.proofs.Common.{◌≡◌, [], ◌∷◌, ◌++◌, List, ℕ, ap, ◌∙◌}
 use Rattle.std.proofs.lemmas.Result.{on_ok_weaker}
-use Rattle.dp_base.specs.Labels.{spaced}
+use Rattle.dp_text.specs.Labels.{spaced}
 use Rattle.dp_plan_text.specs.PlanText.{kind_word}
 use Rattle.dp_plan_text.specs.WrittenText.{stage_at}
 use Rattle.dp_plan_text.proofs.WriteLemmas.{grew, stage_line}

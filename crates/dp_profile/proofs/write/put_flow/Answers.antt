@@ -1,6 +1,6 @@
 use Rattle.std.proofs.Common.{◌≡◌, ◌++◌, List, ℕ, ap, ◌∙◌, codes}
 use Rattle.std.proofs.lemmas.Result.{on_ok_weaker}
-use Rattle.dp_base.specs.Labels.{labelled}
+use Rattle.dp_text.specs.Labels.{labelled}
 use Rattle.dp_profile.specs.ProfileText.{kind_word}
 use Rattle.dp_profile.proofs.WriteLemmas.{flow_grew, flow_line}
 use Rattle.dp_profile.proofs.write.put_flow.Goals as goal

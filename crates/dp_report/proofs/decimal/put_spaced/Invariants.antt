@@ -1,5 +1,5 @@
 use Rattle.std.proofs.Common.{◌≡◌, ◌++◌, drop}
-use Rattle.dp_base.specs.Labels.{spaced}
+use Rattle.dp_text.specs.Labels.{spaced}
 use Rattle.dp_report.proofs.decimal.put_spaced.Given as goal
 
 abbrev pub invariant-loop-n : goal.invariant-loop-n

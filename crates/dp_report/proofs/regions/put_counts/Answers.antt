@@ -1,6 +1,6 @@
 use Rattle.std.proofs.Common.{◌≡◌, ◌++◌, codes}
 use Rattle.std.proofs.lemmas.Result.{on_ok_weaker}
-use Rattle.dp_base.specs.Labels.{labelled}
+use Rattle.dp_text.specs.Labels.{labelled}
 use Rattle.dp_report.specs.RegionText.{listed}
 use Rattle.dp_report.proofs.Parts.{four_parts_and_end}
 use Rattle.dp_report.proofs.regions.put_counts.Goals as goal

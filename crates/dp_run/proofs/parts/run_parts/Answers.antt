@@ -4,7 +4,7 @@ use Rattle.dp_run.proofs.Counting.{counted_none, planned}
 use Rattle.dp_run.proofs.PlanByPlan.{counts_next, finished_all, finished_here, goes_on, leads_next, room_here, starts_next}
 use Rattle.dp_crew.proofs.StreamLemmas.{emits_front, emits_on}
 use Rattle.dp_run.proofs.parts.run_parts.Goals as goal
-use Rattle.dp_base.proofs.ResultLemmas.{on_err}
+use Rattle.dp_room.proofs.ResultLemmas.{on_err}
 
 pub returns-in-Some-clause-ok : goal.returns-in-Some-clause-ok
 returns-in-Some-clause-ok g c =

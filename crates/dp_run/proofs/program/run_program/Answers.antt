@@ -3,7 +3,7 @@ use Rattle.dp_meaning.specs.MachineState.{MachineState}
 use Rattle.dp_run.specs.steps.Stretches.{Finished}
 use Rattle.dp_run.proofs.Whole.{all_explained, all_listed, all_written, begins, end_is, front_at_end, front_of_run, tally_all}
 use Rattle.dp_run.proofs.program.run_program.Goals as goal
-use Rattle.dp_base.proofs.ResultLemmas.{on_err}
+use Rattle.dp_room.proofs.ResultLemmas.{on_err}
 
 pub run_parts-requires-clause-start : goal.run_parts-requires-clause-start
 run_parts-requires-clause-start g c κs within = begins c.args.program.now c.args.plans.now c.args.input.now c.args.options.fuel c.args.options.why c.requires.given c.in_ok-machine.machine c.in_ok-machine.ensures

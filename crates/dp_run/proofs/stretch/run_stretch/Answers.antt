@@ -8,7 +8,7 @@ use Rattle.dp_run.proofs.Regions.{after_region, region_start}
 use Rattle.dp_run.proofs.RegionCalls.{ran_emits, report_of_run, stopped_front, tally_whole}
 use Rattle.dp_run.proofs.stretch.run_stretch.Goals as goal
 use Rattle.dp_crew.proofs.Answering.{on_ok}
-use Rattle.dp_base.proofs.ResultLemmas.{on_err}
+use Rattle.dp_room.proofs.ResultLemmas.{on_err}
 
 pub run_region-requires-clause-start : goal.run_region-requires-clause-start
 run_region-requires-clause-start g c κs within =

@@ -5,7 +5,7 @@ use Rattle.dp_cause.specs.Watching.{Told, Leads, walk_from}
 use Rattle.dp_cause.proofs.InnerLemmas.{inner_past, inner_turns}
 use Rattle.dp_cause.proofs.StepLemmas as steps
 use Rattle.dp_cause.proofs.watched.Watched.+text.Goals as goal
-use Rattle.dp_base.proofs.ListLemmas.{next_of}
+use Rattle.dp_room.proofs.ListLemmas.{next_of}
 
 pub statement-returns-then-zero : goal.statement-returns-then-zero
 statement-returns-then-zero t c =

@@ -6,7 +6,7 @@ use Rattle.dp_check.specs.Tables.{sites_of}
 use Rattle.dp_check.specs.steps.Growing.{with_sites}
 use Rattle.dp_check.proofs.TableLemmas as tables
 use Rattle.dp_check.proofs.sites.Sites.+sites.Goals as goal
-use Rattle.dp_base.proofs.LoopLemmas.{fold_more, fold_end}
+use Rattle.dp_room.proofs.LoopLemmas.{fold_more, fold_end}
 
 pub statements-loop-s-preserved : goal.statements-loop-s-preserved
 statements-loop-s-preserved t c =

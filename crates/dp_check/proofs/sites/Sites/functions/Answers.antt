@@ -4,7 +4,7 @@ use Rattle.dp_check.specs.Tables.{sites_of, item_parts}
 use Rattle.dp_check.specs.steps.Growing.{with_sites}
 use Rattle.dp_check.proofs.TableLemmas as tables
 use Rattle.dp_check.proofs.sites.Sites.functions.Goals as goal
-use Rattle.dp_base.proofs.LoopLemmas.{fold_more, fold_end}
+use Rattle.dp_room.proofs.LoopLemmas.{fold_more, fold_end}
 
 pub loop-item-preserved : goal.loop-item-preserved
 loop-item-preserved c =

@@ -1,7 +1,7 @@
 use Rattle.std.proofs.Common.{◌<◌, length, sym, ◌∙◌, arith}
 use Rattle.dp_check.proofs.TableLemmas as tables
 use Rattle.dp_check.proofs.sites.Sites.main.Goals as goal
-use Rattle.dp_base.proofs.LoopLemmas.{fold_more, fold_end}
+use Rattle.dp_room.proofs.LoopLemmas.{fold_more, fold_end}
 
 pub loop-s-preserved : goal.loop-s-preserved
 loop-s-preserved c =

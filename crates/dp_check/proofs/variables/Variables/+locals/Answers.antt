@@ -4,7 +4,7 @@ use Rattle.dp_check.specs.Tables.{locals_of}
 use Rattle.dp_check.specs.steps.Growing.{with_variables}
 use Rattle.dp_check.proofs.TableLemmas as tables
 use Rattle.dp_check.proofs.variables.Variables.+locals.Goals as goal
-use Rattle.dp_base.proofs.LoopLemmas.{fold_more, fold_end}
+use Rattle.dp_room.proofs.LoopLemmas.{fold_more, fold_end}
 
 pub locals-loop-s-preserved : goal.locals-loop-s-preserved
 locals-loop-s-preserved t c =

@@ -3,7 +3,7 @@ use Rattle.dp_check.specs.Tables.{globals, global_of}
 use Rattle.dp_check.specs.steps.Growing.{with_variables}
 use Rattle.dp_check.proofs.TableLemmas as tables
 use Rattle.dp_check.proofs.variables.Variables.globals.Goals as goal
-use Rattle.dp_base.proofs.LoopLemmas.{fold_more, fold_end}
+use Rattle.dp_room.proofs.LoopLemmas.{fold_more, fold_end}
 
 pub loop-item-preserved : goal.loop-item-preserved
 loop-item-preserved c =

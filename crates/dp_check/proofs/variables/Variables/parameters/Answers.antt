@@ -5,7 +5,7 @@ use Rattle.dp_check.specs.Tables.{locals_of, scalar_info}
 use Rattle.dp_check.specs.steps.Growing.{with_variables}
 use Rattle.dp_check.proofs.TableLemmas as tables
 use Rattle.dp_check.proofs.variables.Variables.parameters.Goals as goal
-use Rattle.dp_base.proofs.LoopLemmas.{fold_more, fold_end}
+use Rattle.dp_room.proofs.LoopLemmas.{fold_more, fold_end}
 
 pub loop-name-preserved : goal.loop-name-preserved
 loop-name-preserved c =

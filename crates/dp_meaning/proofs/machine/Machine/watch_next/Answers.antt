@@ -5,7 +5,7 @@ use Rattle.dp_meaning.specs.declared.ends.Part.TheVariants.{Finished}
 use Rattle.dp_meaning.proofs.StretchLemmas.{step_left}
 use Rattle.dp_meaning.proofs.WatchedLemmas.{nothing_left, ends_fuel, faulted_so, stepped_so, step_printed, step_unmade, step_untold}
 use Rattle.dp_meaning.proofs.machine.Machine.watch_next.Goals as goal
-use Rattle.dp_base.proofs.ResultLemmas.{on_err}
+use Rattle.dp_room.proofs.ResultLemmas.{on_err}
 
 pub returns-then-eq-clause-ok : goal.returns-then-eq-clause-ok
 returns-then-eq-clause-ok c =

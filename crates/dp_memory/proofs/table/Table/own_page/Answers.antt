@@ -4,7 +4,7 @@ use Rattle.dp_memory.specs.Piece.{items_of}
 use Rattle.dp_memory.proofs.Unshared.{group_in, page_in_group, still_shown}
 use Rattle.dp_memory.proofs.Held.{on_ok}
 use Rattle.dp_memory.proofs.table.Table.own_page.Goals as goal
-use Rattle.dp_base.proofs.ListLemmas.{get_set_same}
+use Rattle.dp_room.proofs.ListLemmas.{get_set_same}
 
 pub index_mut-group-requires : goal.index_mut-group-requires
 index_mut-group-requires c =

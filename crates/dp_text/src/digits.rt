@@ -1,6 +1,6 @@
 //! Numbers that decimal digits write.
 ghost use Rattle.std.specs.Prelude.{◌≡◌, ◌≤◌, IfSome};
-ghost use Rattle.dp_base.specs.Digits as spec;
+ghost use Rattle.dp_text.specs.Digits as spec;
 
 /// The number with one digit more, where it is at most `most`.
 fn with_digit(most: u64, number: u64, digit: u8) -> Option<u64>

@@ -4,7 +4,7 @@ use Rattle.std.specs.Prelude.{if◌then◌else◌}
 use Rattle.std.specs.List.{list_all}
 use Rattle.std.specs.declared.option.Option.{Option}
 use Rattle.std.proofs.lemmas.List.{at_drop_more, at_drop_all}
-use Rattle.dp_base.specs.Digits.{is_digit, value_after, digit_after, value_upto}
+use Rattle.dp_text.specs.Digits.{is_digit, value_after, digit_after, value_upto}
 
 module _ (most : ℕ) where
   -- the number after these digits too, unless it was lost already

@@ -1,8 +1,8 @@
 //! Numbers in texts that are written.
 ghost use Rattle.std.specs.Prelude.{◌≡◌, ◌++◌, OnOk};
-ghost use Rattle.dp_base.specs.Labels.{labelled};
+ghost use Rattle.dp_text.specs.Labels.{labelled};
 
-use crate::{NoMemory, Row};
+use dp_room::{NoMemory, Row};
 use itoa::Buffer;
 
 /// A label, and a number right after it, in decimal.

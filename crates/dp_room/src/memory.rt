@@ -5,7 +5,7 @@ use crate::NoMemory;
 use std::alloc::{AllocError, AllocFailed};
 
 impl From<AllocError> for NoMemory {
-    ghost use Rattle.dp_base.specs.Memory.{no_memory};
+    ghost use Rattle.dp_room.specs.Memory.{no_memory};
 
     ghost from_gives = { λ _ e. e ≡ no_memory };
 
@@ -16,7 +16,7 @@ impl From<AllocError> for NoMemory {
 
 /// The value that found no room is dropped.
 impl<T: Drop> From<AllocFailed<T>> for NoMemory {
-    ghost use Rattle.dp_base.specs.Memory.{no_memory};
+    ghost use Rattle.dp_room.specs.Memory.{no_memory};
 
     ghost from_gives = { λ _ e. e ≡ no_memory };
 

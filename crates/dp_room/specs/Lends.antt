@@ -1,8 +1,8 @@
 -- What a row ends as, where a `&mut` to its items is returned.
 use Rattle.std.specs.Prelude.{ℕ, List, ◌++◌, length, take, drop, Option, slice_set}
 use Rattle.std.specs.Borrow.{Lends, LendsIf, Fml, RattleType, MutBor, Array}
-use Rattle.dp_base.specs.contracts.row.Row.{the_row}
-use Rattle.dp_base.specs.contracts.boxed.Boxed as boxed
+use Rattle.dp_room.specs.contracts.row.Row.{the_row}
+use Rattle.dp_room.specs.contracts.boxed.Boxed as boxed
 
 -- the items with others written over them from the front
 abbrev pub with_items : {X : Type 0} → List X → List X → List X

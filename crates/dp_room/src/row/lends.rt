@@ -1,7 +1,7 @@
 //! Items lent for writing.
 ghost use Rattle.std.specs.Prelude.{◌≡◌, ◌<◌, ◌↔◌, length, slice_get, Some, IsSome, IfSome};
 ghost use Rattle.std.specs.Borrow.{sem};
-ghost use Rattle.dp_base.specs.Lends.{lends_slice, lends_item};
+ghost use Rattle.dp_room.specs.Lends.{lends_slice, lends_item};
 
 use super::Row;
 

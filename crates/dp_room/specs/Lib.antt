@@ -1,0 +1,4 @@
+pub mod formers
+pub mod Lends
+pub mod Memory
+pub mod OneIf
