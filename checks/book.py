@@ -1,8 +1,8 @@
 #!/usr/bin/env python3
 """Prints the book: the definitions that the headline rests on, in reading order, from the contract of `drive` down. Each
 stands once, under its file, with its line. The first part is what a call answers, given its words, the program that
-its text is read as, the input and the plans; the later parts say how these are read and made. Each part ends with its
-number of lines. Ends with 1 where a part has too many.
+its text is read as, the input, the plans and what is reported of each region; the later parts say what that is, and how
+texts are read and made. Each part ends with its number of lines. Ends with 1 where a part has too many.
 
   checks/book.py [--names] [--counts]     the whole text, the places alone, or the numbers alone
 
@@ -18,6 +18,7 @@ from definitions import CRATES, TOP, Definition, antt, rt, rust_items
 LIMIT = 1500
 # each later part, and the definitions that it begins with
 LATER = [
+    ("What is reported of a region", [("dp_semantics/specs/Reported", "region_report"), ("dp_semantics/specs/Recovery", "recovered")]),
     ("Which texts are programs", [("dp_drive/specs/Program", "Reads")]),
     ("How words, inputs, plans and profiles are read and made", [
         ("dp_words/specs/Words", "Asks"), ("dp_words/specs/Words", "AsksNothing"), ("dp_drive/specs/Inputs", "input_of"),
