@@ -19,10 +19,10 @@ use Rattle.dp_semantics.specs.Fits.{fits_plan, one_region, cells_in_order, acces
 use Rattle.dp_semantics.specs.Recovery.{epoch}
 use Rattle.dp_semantics.specs.EpochKey.{EpochKey, epoch_run, epoch_begin, from_region}
 use Rattle.dp_semantics.specs.EpochCauses.{IsSound}
-use Rattle.dp_semantics.proofs.Memory.{clear-at, clear-still}
-use Rattle.dp_semantics.proofs.Placed.{standing-length}
-use Rattle.dp_semantics.proofs.EpochFound.{cleared_there}
-use Rattle.dp_semantics.proofs.Fitting.{accepted}
+use Rattle.dp_theorem.proofs.Memory.{clear-at, clear-still}
+use Rattle.dp_theorem.proofs.Placed.{standing-length}
+use Rattle.dp_theorem.proofs.EpochFound.{cleared_there}
+use Rattle.dp_theorem.proofs.Fitting.{accepted}
 use Rattle.dp_meaning.specs.MachineState.{MachineState, fuel_left, rest_of_run}
 use Rattle.dp_commit.specs.CommittedState.{CommittedState, region_run, steps_of_first}
 use Rattle.dp_meaning.proofs.NextLemmas.{on_region}

@@ -6,5 +6,3 @@ mod Turns
 mod Sent
 mod Judged
 mod Fitting
-mod ValidPlans
-mod Laws

@@ -1,0 +1,10 @@
+//! The laws of what a pipeline under a plan does with a source: the central theorem, and what stands beside it.
+#![tactic(auto)]
+
+mod law;
+
+pub use law::{
+    a_judgement_tells_all, far_pairs_are_apart, given_plans_fit, judgement_is_the_sources,
+    one_stage_fits, one_stage_is_clean, recovered_ascend, turns_end_by_their_words,
+    unclean_has_a_cause, valid_plans_fit, verdicts_go_on, walks_find_causes,
+};
