@@ -1,5 +1,5 @@
 -- From the test of a program and a plan to what the central theorem asks, and the theorem itself.
-use Rattle.dp_semantics.proofs.Names.{◌≡◌, inl, inr, refl, ap, ℕ, zero, suc, ◌+◌, ◌<◌, ◌≤◌, ◌==◌, Bool, true, false, not, if◌then◌else◌, List, [], ◌∷◌, length, Option, Some, None, nat_lt, nat_le, filter, arith, ltb-true, leb-true, eqb-true, eq-eqb, slice_get_past, cases_eq, cases_lt, both_ways, not-true, list_all, flat_map, Stmt, out-Stmt, Stmt-F, Region, Program, Plan, cell_count, Run, Access, accesses, first_site, stage_of, is_par, is_replicated, is_region_at, region_statement, region_accesses, numbers_from, is_clean, epoch, well_nested, is_free, cells_in_order, has_cell, stores_known, access_known, is_inner, region_fits, one_region, region_alone, kinds_apart, kinds_fit, fits_plan, run_of, ClosingLeaves, CleanSince, JudgesRightly, JudgesEpochs, StoresLead, and_parts, and_from, and-true, cases_Bool}
+use Rattle.dp_semantics.proofs.Names.{◌≡◌, inl, inr, refl, ap, ℕ, zero, suc, ◌<◌, ◌≤◌, ◌==◌, Bool, true, false, if◌then◌else◌, List, [], ◌∷◌, length, Option, Some, None, nat_lt, nat_le, filter, arith, ltb-true, leb-true, eqb-true, eq-eqb, cases_eq, both_ways, not-true, list_all, flat_map, Stmt, out-Stmt, Stmt-F, Region, Program, Plan, cell_count, Run, Access, accesses, first_site, stage_of, is_region_at, region_statement, region_accesses, is_clean, epoch, well_nested, is_free, cells_in_order, has_cell, stores_known, access_known, is_inner, region_fits, one_region, region_alone, kinds_fit, fits_plan, run_of, ClosingLeaves, CleanSince, JudgesRightly, JudgesEpochs, StoresLead, and_parts, and_from, cases_Bool}
 use Rattle.dp_semantics.proofs.Setting.{each_both, RegionIs, Split, Listed, listed_all, Sound, Accepted, Each, each_map, all_of, Roomy, all_free}
 use Rattle.dp_theorem.proofs.InOrder.{laid_of}
 use Rattle.dp_semantics.proofs.StageKinds.{kinds_of}

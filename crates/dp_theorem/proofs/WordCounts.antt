@@ -1,12 +1,12 @@
 -- The number of words of a stage is the number that the plan counts.
-use Rattle.dp_semantics.proofs.Names.{◌≡◌, inl, inr, refl, ap, ℕ, zero, suc, ◌+◌, ◌<◌, ◌≤◌, ◌==◌, true, List, [], ◌∷◌, ◌++◌, length, length-append, nat_le, arith, leb-true, le-leb, sum_by-cons, list_all, Program, Plan, Event, stage_of, words_at, word_count, numbers_from, fits_words, words_of, last, words_at_stage, cases_Bool}
+use Rattle.dp_semantics.proofs.Names.{◌≡◌, inl, inr, refl, ap, ℕ, ◌<◌, ◌≤◌, ◌==◌, true, List, [], ◌∷◌, ◌++◌, length, length-append, nat_le, arith, leb-true, le-leb, sum_by-cons, Program, Plan, Event, stage_of, words_at, word_count, fits_words, words_of, last, words_at_stage, cases_Bool}
 use Rattle.dp_semantics.proofs.Counts.{all_count, count_all, event_words-length}
 use Rattle.dp_theorem.proofs.Stepping.{words_for}
 use Rattle.dp_theorem.proofs.Whole.{words_through}
 
 module _ (p : Program) (plan : Plan) where
   words_for-length : (s : ℕ) (event : Event) → length (words_for p plan s event) ≡ words_at p plan s event
-  words_for-length s event = elim (cases_Bool (stage_of p plan event.site == s)) [ inl e ↦ rw e (event_words-length event) | inr e ↦ rw e ]
+  words_for-length s event = elim (cases_Bool (stage_of p plan event.site == s)) [ inl e ↦ rw e (event_words-length p plan event) | inr e ↦ rw e ]
 
   words_through-length : (s : ℕ) (events : List Event) → length (words_through p plan s events) ≡ word_count p plan events s
   words_through-length s [] = refl
