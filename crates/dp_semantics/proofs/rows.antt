@@ -1,6 +1,7 @@
 mod Breaks
 mod Far
 mod Recovered
+mod Resumed
 mod Causes
 mod Turns
 mod Sent

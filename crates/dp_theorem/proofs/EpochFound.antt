@@ -2,7 +2,7 @@
 use Rattle.dp_semantics.proofs.Names.{◌≡◌, refl, sym, ap, ◌∙◌, subst, ℕ, zero, suc, ◌+◌, ◌-◌, ◌<◌, Bool, true, false, not, if◌then◌else◌, List, [], ◌∷◌, ◌++◌, ℤ, length, map, length-map, length-replicate, replicate, not-true, Option, Some, arith, eq-eqb, and_parts, both_ways, cases_Bool, cases_lt, inl, inr, Stmt, out-Stmt, Program, Plan, Config, Event, stored, stage_of, nat_le, clear_locals, standing, run_of, Run, is_free, is_region, start, iteration, is_closing, has_ended, memory_after, memory_from, cells_in, is_replicated, StageKind, Seq, Par, is_par, slice_get, is_clean, passed, Judgement, Agreed, Clean, Unclean, judge, effect_in, site_in, CleanSince, Judged, Follows, applied, StandsInMain}
 use Rattle.dp_semantics.specs.Cause.{cause_since}
 use Rattle.dp_semantics.specs.Verdict.{judgement_at, done_in}
-use Rattle.dp_semantics.specs.EpochKey.{EpochKey, epoch_run, epoch_begin, from_region}
+use Rattle.dp_semantics.specs.EpochKey.{EpochKey, epoch_run, epoch_begin, statements_from}
 use Rattle.dp_semantics.specs.EpochVerdicts.{JudgeState, state_at, judgement_in, judgement_of, after_judgement, verdict_at, verdict_by, goes_on}
 use Rattle.dp_semantics.specs.CauseWalk.{Watch, shown_from, watched, watched_all, no_words, next_from, next_watch, cause_walk}
 use Rattle.dp_semantics.specs.FindsCauses.{turn_text, watch_before}
@@ -80,11 +80,11 @@ module _ (p : Program) (plan : Plan) where
 
 -- ---- the epoch's own run
 
-from_front : (r : ℕ) (front : List Stmt) (s : Stmt) (tail : List Stmt) → all_free r front ≡ true → is_region r (out-Stmt s) ≡ true → from_region r (front ++ s ∷ tail) ≡ s ∷ tail
-from_front r [] s tail free here = ap (λ (b : Bool). if b then s ∷ tail else from_region r tail) here
+from_front : (r : ℕ) (front : List Stmt) (s : Stmt) (tail : List Stmt) → all_free r front ≡ true → is_region r (out-Stmt s) ≡ true → statements_from r (front ++ s ∷ tail) ≡ s ∷ tail
+from_front r [] s tail free here = ap (λ (b : Bool). if b then s ∷ tail else statements_from r tail) here
 from_front r (x ∷ xs) s tail free here =
     let both = and_parts (is_free r x) (all_free r xs) free in
-    ap (λ (b : Bool). if b then x ∷ (xs ++ s ∷ tail) else from_region r (xs ++ s ∷ tail)) (not_at_head r x both.0) ∙ from_front r xs s tail both.1 here
+    ap (λ (b : Bool). if b then x ∷ (xs ++ s ∷ tail) else statements_from r (xs ++ s ∷ tail)) (not_at_head r x both.0) ∙ from_front r xs s tail both.1 here
 
 module _ (key : EpochKey) (a : Accepted key.program key.plan) (sound : IsSound key) where
   open key use {program, plan, input, base}
@@ -92,14 +92,14 @@ module _ (key : EpochKey) (a : Accepted key.program key.plan) (sound : IsSound k
   abbrev r : ℕ
   r = plan.region
 
-  abbrev own : Run
+  abbrev pub own : Run
   own = epoch_run key
 
   abbrev fuel : ℕ
   fuel = key.fuel - key.steps
 
-  begins_is : from_region r program.main ≡ behind a
-  begins_is = ap (from_region r) a.main_is ∙ from_front r a.front a.statement a.tail a.front_free (ap (is_region r) a.is ∙ eq-eqb r r refl)
+  begins_is : statements_from r program.main ≡ behind a
+  begins_is = ap (statements_from r) a.main_is ∙ from_front r a.front a.statement a.tail a.front_free (ap (is_region r) a.is ∙ eq-eqb r r refl)
 
   begin_is : epoch_begin key ≡ start_at a input base
   begin_is = ap (λ (xs : List Stmt). standing program xs base) begins_is
@@ -114,12 +114,12 @@ module _ (key : EpochKey) (a : Accepted key.program key.plan) (sound : IsSound k
   memory_zero = ap (λ (o : Option ℕ). memory_from own o (start own r (0 - 1))) start_zero ∙ ap cells_in (run_first program input fuel (epoch_begin key)) ∙ ap (λ (c : Config). c.cells) (begin_is ∙ standing_is a input base) ∙ sound.cleared
 
   -- where the n-th iteration starts, all before it being clean
-  record Here (n : ℕ) : Type 0 where
-    k : ℕ
-    starts : start own r n ≡ Some k
-    state : state_at key n ≡ record { cells = memory_after own r n; steps = key.steps + k }
-    clean : CleanSince program plan own 0 n
-    watch : watch_of plan (kept_at key n) ≡ watch_before program plan own 0 n
+  pub record Here (n : ℕ) : Type 0 where
+    pub k : ℕ
+    pub starts : start own r n ≡ Some k
+    pub state : state_at key n ≡ record { cells = memory_after own r n; steps = key.steps + k }
+    pub clean : CleanSince program plan own 0 n
+    pub watch : watch_of plan (kept_at key n) ≡ watch_before program plan own 0 n
 
   here_zero : Here 0
   here_zero = record {
@@ -150,10 +150,10 @@ module _ (key : EpochKey) (a : Accepted key.program key.plan) (sound : IsSound k
     abbrev judging : ℕ → List ℤ → ℕ → Judgement
     judging left from m = judge program plan left (memory_after own r n) (passed (record { program = program; plan = plan; input = input; base = from }) (length plan.stages) m).packet
 
-    judgement_is : judgement_of key n ≡ judgement_at program plan input own 0 n h.k
+    pub judgement_is : judgement_of key n ≡ judgement_at program plan input own 0 n h.k
     judgement_is = ap (judgement_in key n) h.state ∙ ap (λ (left : ℕ). judging left base n) left_is ∙ ap (λ (from : List ℤ). judging (own.fuel - h.k) from n) (sym memory_zero) ∙ ap (judging (own.fuel - h.k) (memory_after own r 0)) place
 
-    judged : Judged program plan input own 0 n h.k
+    pub judged : Judged program plan input own 0 n h.k
     judged = judges_rightly a input fuel (epoch_begin key) stands 0 n h.k (omega arith) h.starts h.clean
 
     unclean_by : judgement_of key n ≡ Unclean → is_clean program plan own 0 n ≡ false
@@ -223,7 +223,7 @@ module _ (key : EpochKey) (a : Accepted key.program key.plan) (sound : IsSound k
     next_by (Clean agreed) is going = here_next agreed is going
     next_by Unclean is going = absurd (cc going)
 
-  here_at : (n : ℕ) → ((m : ℕ) → m < n → goes_on (verdict_at key m) ≡ true) → Here n
+  pub here_at : (n : ℕ) → ((m : ℕ) → m < n → goes_on (verdict_at key m) ≡ true) → Here n
   here_at zero gone = here_zero
   here_at (suc n) gone = next_by n (here_at n (λ m l. gone m (omega (arith, l)))) (judgement_of key n) refl (gone n (omega arith))
 
@@ -231,7 +231,7 @@ pub finds_in_epochs : {p : Program} {plan : Plan} → ((key : EpochKey) → key.
 finds_in_epochs accepts key program_is plan_is sound n gone unclean = let a = accepts key program_is plan_is in found key a sound n (here_at key a sound n gone) unclean
 
 -- where the region's condition comes next, its body locals read 0
-pub cleared_there : {p : Program} {plan : Plan} (a : Accepted p plan) (cells : List ℤ) → (standing p (from_region plan.region p.main) cells).cells ≡ cells → clear_locals plan.region p.vars cells ≡ cells
+pub cleared_there : {p : Program} {plan : Plan} (a : Accepted p plan) (cells : List ℤ) → (standing p (statements_from plan.region p.main) cells).cells ≡ cells → clear_locals plan.region p.vars cells ≡ cells
 cleared_there {p = p} {plan = plan} a cells still =
-    sym (ap (λ (c : Config). c.cells) (ap (λ (xs : List Stmt). standing p xs cells) (ap (from_region plan.region) a.main_is ∙ from_front plan.region a.front a.statement a.tail a.front_free (ap (is_region plan.region) a.is ∙ eq-eqb plan.region plan.region refl)) ∙ standing_is a [] cells))
+    sym (ap (λ (c : Config). c.cells) (ap (λ (xs : List Stmt). standing p xs cells) (ap (statements_from plan.region) a.main_is ∙ from_front plan.region a.front a.statement a.tail a.front_free (ap (is_region plan.region) a.is ∙ eq-eqb plan.region plan.region refl)) ∙ standing_is a [] cells))
     ∙ still

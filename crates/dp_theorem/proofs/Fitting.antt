@@ -1,8 +1,10 @@
 -- From the test of a program and a plan to what the central theorem asks, and the theorem itself.
-use Rattle.dp_semantics.proofs.Names.{◌≡◌, inl, inr, refl, ap, ℕ, zero, suc, ◌<◌, ◌≤◌, ◌==◌, Bool, true, false, if◌then◌else◌, List, [], ◌∷◌, length, Option, Some, None, nat_lt, nat_le, filter, arith, ltb-true, leb-true, eqb-true, eq-eqb, cases_eq, both_ways, not-true, list_all, flat_map, Stmt, out-Stmt, Stmt-F, Region, Program, Plan, cell_count, Run, Access, accesses, first_site, stage_of, is_region_at, region_statement, region_accesses, is_clean, epoch, well_nested, is_free, cells_in_order, has_cell, stores_known, access_known, is_inner, region_fits, one_region, region_alone, kinds_fit, fits_plan, run_of, ClosingLeaves, CleanSince, JudgesRightly, JudgesEpochs, StoresLead, and_parts, and_from, cases_Bool}
+use Rattle.dp_semantics.proofs.Names.{◌≡◌, inl, inr, refl, ap, ℕ, zero, suc, ◌<◌, ◌≤◌, ◌==◌, Bool, true, false, if◌then◌else◌, List, [], ◌∷◌, length, Option, Some, None, nat_lt, nat_le, filter, arith, ltb-true, leb-true, eqb-true, eq-eqb, cases_eq, both_ways, not-true, list_all, flat_map, Stmt, out-Stmt, Stmt-F, Region, Program, Plan, cell_count, Run, Access, accesses, first_site, stage_of, is_region_at, region_statement, region_accesses, is_clean, well_nested, is_free, cells_in_order, has_cell, stores_known, access_known, is_inner, region_fits, one_region, region_alone, kinds_fit, fits_plan, run_of, ClosingLeaves, CleanSince, JudgesRightly, JudgesEpochs, StoresLead, and_parts, and_from, cases_Bool}
 use Rattle.dp_semantics.proofs.Setting.{each_both, RegionIs, Split, Listed, listed_all, Sound, Accepted, Each, each_map, all_of, Roomy, all_free}
 use Rattle.dp_theorem.proofs.InOrder.{laid_of}
 use Rattle.dp_semantics.proofs.StageKinds.{kinds_of}
+use Rattle.dp_semantics.specs.Recovery.{epoch_with, nowhere}
+use Rattle.dp_semantics.specs.Resumed.{JudgesResumed}
 use Rattle.dp_theorem.proofs.Central.{closing_leaves, judges_rightly, stores_lead}
 
 module _ (p : Program) (plan : Plan) where
@@ -121,14 +123,21 @@ module _ (p : Program) (plan : Plan) where
       pub begun : e ≤ i
       pub clean : CleanSince p plan run e i
 
-    next_under : (e i : ℕ) (b : Bool) → is_clean p plan run e i ≡ b → Under e i → Under (if b then e else suc i) (suc i)
-    next_under e i true c u = record { begun = omega (arith, u.begun); clean = λ j low high. elim (cases_eq j i) [ inl q ↦ rw q c | inr q ↦ u.clean j low (omega (arith, high, q)) ] }
-    next_under e i false c u = record { begun = omega arith; clean = λ j low high. absurd (omega (arith, low, high)) }
+    fresh : (i : ℕ) → Under i i
+    fresh i = record { begun = omega arith; clean = λ j low high. absurd (omega (arith, low, high)) }
 
-    under : (i : ℕ) → Under (epoch p plan run i) i
-    under zero = record { begun = omega arith; clean = λ j low high. absurd (omega (arith, high)) }
-    under (suc i) = next_under (epoch p plan run i) i (is_clean p plan run (epoch p plan run i) i) refl (under i)
+    next_under : (e i : ℕ) (f b : Bool) → is_clean p plan run e i ≡ b → Under e i → Under (if f then suc i else (if b then e else suc i)) (suc i)
+    next_under e i true b c u = fresh (suc i)
+    next_under e i false true c u = record { begun = omega (arith, u.begun); clean = λ j low high. elim (cases_eq j i) [ inl q ↦ rw q c | inr q ↦ u.clean j low (omega (arith, high, q)) ] }
+    next_under e i false false c u = fresh (suc i)
+
+    under : (begins : ℕ → Bool) (i : ℕ) → Under (epoch_with begins p plan run i) i
+    under begins zero = fresh 0
+    under begins (suc i) = next_under (epoch_with begins p plan run i) i (begins (suc i)) (is_clean p plan run (epoch_with begins p plan run i) i) refl (under begins i)
+
+  pub fitting_resumed : fits_plan p plan ≡ true → JudgesResumed p plan
+  fitting_resumed e begins input fuel c within i k here =
+      let u = under (run_of p input fuel c) begins i in fitting_judges e input fuel c within (epoch_with begins p plan (run_of p input fuel c) i) i k u.begun here u.clean
 
   pub fitting_epochs : fits_plan p plan ≡ true → JudgesEpochs p plan
-  fitting_epochs e input fuel c within i k here =
-      let u = under (run_of p input fuel c) i in fitting_judges e input fuel c within (epoch p plan (run_of p input fuel c) i) i k u.begun here u.clean
+  fitting_epochs e = fitting_resumed e nowhere

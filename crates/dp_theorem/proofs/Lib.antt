@@ -60,3 +60,6 @@ pub mod Onward
 pub mod WatchInEpoch
 pub mod CauseFound
 pub mod EpochFound
+pub mod Resumed
+pub mod Decides
+pub mod ShortIterations

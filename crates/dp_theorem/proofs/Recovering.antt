@@ -1,5 +1,6 @@
 -- The list of iterations that are executed again: ascending, and no other ones.
-use Rattle.dp_semantics.proofs.Names.{◌≡◌, ◌⊎◌, inl, inr, refl, sym, ap, ◌∙◌, ℕ, zero, suc, ◌+◌, ◌<◌, ◌≤◌, Bool, true, false, if◌then◌else◌, List, ◌∷◌, length, slice_index_or, AllPairs, Contains, filter, arith, cases_eq, AllPairs-cons, AllPairs-filter, Program, Plan, begun_count, numbers_from, is_recovered, RecoversInOrder}
+use Rattle.dp_semantics.proofs.Names.{◌≡◌, ◌⊎◌, inl, inr, refl, sym, ap, ◌∙◌, ℕ, zero, suc, ◌+◌, ◌<◌, ◌≤◌, Bool, true, false, if◌then◌else◌, List, ◌∷◌, length, slice_index_or, AllPairs, Contains, filter, arith, cases_eq, AllPairs-cons, AllPairs-filter, Program, Plan, begun_count, numbers_from, RecoversInOrder}
+use Rattle.dp_semantics.specs.Recovery.{is_recovered_with}
 
 contains_head : (x y : ℕ) (xs : List ℕ) → x ≡ y → Contains (x ∷ xs) y
 contains_head x y xs e = (0, omega arith, e)
@@ -48,8 +49,8 @@ counted zero k = λ i j d l low. absurd (omega (arith, low))
 counted (suc n) k = AllPairs-cons (λ i j. i < j) k (numbers_from (k + 1) n) (λ j d low. above n k (k + 1) d j (omega arith) low) (counted n (k + 1))
 
 pub recovers : (p : Program) (plan : Plan) → RecoversInOrder p plan
-recovers p plan run = record {
-  ascends = AllPairs-filter (λ i j. i < j) (is_recovered p plan run) (numbers_from 0 (begun_count run plan.region)) (counted (begun_count run plan.region) 0);
-  only = λ i c. let r = only_passing (is_recovered p plan run) (begun_count run plan.region) 0 i c in (omega (arith, r.0), r.1);
-  each = λ i low t. each_passing (is_recovered p plan run) (begun_count run plan.region) 0 i (omega arith) (omega (arith, low)) t;
+recovers p plan begins run = record {
+  ascends = AllPairs-filter (λ i j. i < j) (is_recovered_with begins p plan run) (numbers_from 0 (begun_count run plan.region)) (counted (begun_count run plan.region) 0);
+  only = λ i c. let r = only_passing (is_recovered_with begins p plan run) (begun_count run plan.region) 0 i c in (omega (arith, r.0), r.1);
+  each = λ i low t. each_passing (is_recovered_with begins p plan run) (begun_count run plan.region) 0 i (omega arith) (omega (arith, low)) t;
 }

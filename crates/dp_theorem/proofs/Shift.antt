@@ -3,10 +3,10 @@ use Rattle.dp_semantics.proofs.Names.{◌≡◌, inl, inr, refl, sym, ap, ◌∙
 use Rattle.std.proofs.Common.{ap₂}
 use Rattle.dp_tree.specs.GoesOn.{GoesOnAs}
 use Rattle.dp_tree.proofs.GoesOn.{goes_on_from}
-use Rattle.dp_semantics.specs.Recovery.{next_epoch, recovered}
-use Rattle.dp_semantics.specs.Cause.{Cause, by_load, load_cause, checked_load_cause, assumption_cause, words_cause, first_cause, cause_or_end, cause_since, cause}
+use Rattle.dp_semantics.specs.Recovery.{next_epoch, epoch_with, is_recovered_with, recovered_first_with, recovered_with, recovered, nowhere}
+use Rattle.dp_semantics.specs.Cause.{Cause, by_load, load_cause, checked_load_cause, assumption_cause, words_cause, first_cause, cause_or_end, cause_since, cause_with, cause}
 use Rattle.dp_semantics.specs.Verdict.{packet_at, judgement_at}
-use Rattle.dp_semantics.specs.Shift.{SameVerdicts, SameEpochs, VerdictsShift, EpochsShift, RegionRunsAlone}
+use Rattle.dp_semantics.specs.Shift.{from_there, SameVerdicts, SameEpochs, VerdictsShift, EpochsShift, RegionRunsAlone}
 use Rattle.std.proofs.lemmas.List.Elements.{filter-append}
 use Rattle.std.specs.Option.{option_or}
 use Rattle.dp_tree.proofs.NumberLists.{numbers_from-append}
@@ -122,47 +122,58 @@ module _ (p : Program) (plan : Plan) (m k : ℕ) (run rest : Run) (g : GoesOnAs 
   pub same_verdicts : SameVerdicts p plan m k run rest
   same_verdicts = record { clean = clean; packets = packets; judgements = judgements; causes = causes }
 
-  module _ (begins : epoch p plan run m ≡ m) where
-    epochs : (i : ℕ) → epoch p plan run (m + i) ≡ m + epoch p plan rest i
-    epochs zero = let same : m + 0 ≡ m = omega arith in ap (epoch p plan run) same ∙ begins ∙ sym same
+  module _ (begins : ℕ → Bool) (fresh : epoch_with begins p plan run m ≡ m) where
+    -- which of the rest's iterations begin an epoch in any case
+    abbrev there : ℕ → Bool
+    there = from_there m begins
+
+    -- the epoch of the rest's iteration i
+    abbrev own : ℕ → ℕ
+    own = epoch_with there p plan rest
+
+    epochs : (i : ℕ) → epoch_with begins p plan run (m + i) ≡ m + own i
+    epochs zero = let same : m + 0 ≡ m = omega arith in ap (epoch_with begins p plan run) same ∙ fresh ∙ sym same
     epochs (suc i) =
         let next : m + suc i ≡ suc (m + i) = omega arith in
-        ap (epoch p plan run) next ∙ ap (next_epoch p plan run (m + i)) (epochs i)
-        ∙ ap (λ (b : Bool). if b then m + epoch p plan rest i else suc (m + i)) (clean (epoch p plan rest i) i) ∙ by (is_clean p plan rest (epoch p plan rest i) i)
+        ap (epoch_with begins p plan run) next
+        ∙ ap (λ (b : Bool). if b then suc (m + i) else next_epoch p plan run (m + i) (epoch_with begins p plan run (m + i))) (ap begins (sym next))
+        ∙ ap (λ (e : ℕ). if there (suc i) then suc (m + i) else next_epoch p plan run (m + i) e) (epochs i)
+        ∙ ap (λ (b : Bool). if there (suc i) then suc (m + i) else (if b then m + own i else suc (m + i))) (clean (own i) i) ∙ by (there (suc i)) (is_clean p plan rest (own i) i)
       where
-        by : (b : Bool) → (if b then m + epoch p plan rest i else suc (m + i)) ≡ m + (if b then epoch p plan rest i else suc i)
-        by true = refl
-        by false = omega arith
+        by : (f b : Bool) → (if f then suc (m + i) else (if b then m + own i else suc (m + i))) ≡ m + (if f then suc i else (if b then own i else suc i))
+        by true b = omega arith
+        by false true = refl
+        by false false = omega arith
 
-    again : (i : ℕ) → is_recovered p plan run (m + i) ≡ is_recovered p plan rest i
-    again i = ap (λ (e : ℕ). not (is_clean p plan run e (m + i))) (epochs i) ∙ ap not (clean (epoch p plan rest i) i)
+    again : (i : ℕ) → is_recovered_with begins p plan run (m + i) ≡ is_recovered_with there p plan rest i
+    again i = ap (λ (e : ℕ). not (is_clean p plan run e (m + i))) (epochs i) ∙ ap not (clean (own i) i)
 
-    own_cause : (i : ℕ) → cause p plan run (m + i) ≡ cause p plan rest i
-    own_cause i = ap (λ (e : ℕ). cause_since p plan run e (m + i)) (epochs i) ∙ causes (epoch p plan rest i) i
+    own_cause : (i : ℕ) → cause_with begins p plan run (m + i) ≡ cause_with there p plan rest i
+    own_cause i = ap (λ (e : ℕ). cause_since p plan run e (m + i)) (epochs i) ∙ causes (own i) i
 
     -- numbers from m + a on that pass
-    filter_moved : (n a : ℕ) → filter (is_recovered p plan run) (numbers_from (m + a) n) ≡ map (λ i. m + i) (filter (is_recovered p plan rest) (numbers_from a n))
+    filter_moved : (n a : ℕ) → filter (is_recovered_with begins p plan run) (numbers_from (m + a) n) ≡ map (λ i. m + i) (filter (is_recovered_with there p plan rest) (numbers_from a n))
     filter_moved zero a = refl
     filter_moved (suc n) a =
         let next : m + a + 1 ≡ m + (a + 1) = omega arith in
-        let rest_is : filter (is_recovered p plan run) (numbers_from (m + a + 1) n) ≡ map (λ i. m + i) (filter (is_recovered p plan rest) (numbers_from (a + 1) n)) = ap (λ (b : ℕ). filter (is_recovered p plan run) (numbers_from b n)) next ∙ filter_moved n (a + 1) in
-        ap (λ (b : Bool). if b then (m + a) ∷ filter (is_recovered p plan run) (numbers_from (m + a + 1) n) else filter (is_recovered p plan run) (numbers_from (m + a + 1) n)) (again a)
-        ∙ ap (λ (ns : List ℕ). if is_recovered p plan rest a then (m + a) ∷ ns else ns) rest_is ∙ by (is_recovered p plan rest a)
+        let rest_is : filter (is_recovered_with begins p plan run) (numbers_from (m + a + 1) n) ≡ map (λ i. m + i) (filter (is_recovered_with there p plan rest) (numbers_from (a + 1) n)) = ap (λ (b : ℕ). filter (is_recovered_with begins p plan run) (numbers_from b n)) next ∙ filter_moved n (a + 1) in
+        ap (λ (b : Bool). if b then (m + a) ∷ filter (is_recovered_with begins p plan run) (numbers_from (m + a + 1) n) else filter (is_recovered_with begins p plan run) (numbers_from (m + a + 1) n)) (again a)
+        ∙ ap (λ (ns : List ℕ). if is_recovered_with there p plan rest a then (m + a) ∷ ns else ns) rest_is ∙ by (is_recovered_with there p plan rest a)
       where
-        by : (b : Bool) → (if b then (m + a) ∷ map (λ i. m + i) (filter (is_recovered p plan rest) (numbers_from (a + 1) n)) else map (λ i. m + i) (filter (is_recovered p plan rest) (numbers_from (a + 1) n)))
-            ≡ map (λ i. m + i) (if b then a ∷ filter (is_recovered p plan rest) (numbers_from (a + 1) n) else filter (is_recovered p plan rest) (numbers_from (a + 1) n))
+        by : (b : Bool) → (if b then (m + a) ∷ map (λ i. m + i) (filter (is_recovered_with there p plan rest) (numbers_from (a + 1) n)) else map (λ i. m + i) (filter (is_recovered_with there p plan rest) (numbers_from (a + 1) n)))
+            ≡ map (λ i. m + i) (if b then a ∷ filter (is_recovered_with there p plan rest) (numbers_from (a + 1) n) else filter (is_recovered_with there p plan rest) (numbers_from (a + 1) n))
         by true = refl
         by false = refl
 
-    listed : recovered p plan run ≡ filter (is_recovered p plan run) (numbers_from 0 m) ++ map (λ i. m + i) (recovered p plan rest)
+    listed : recovered_with begins p plan run ≡ recovered_first_with begins p plan run m ++ map (λ i. m + i) (recovered_with there p plan rest)
     listed =
         let from : 0 + m ≡ m + 0 = omega arith in
-        ap (λ (n : ℕ). filter (is_recovered p plan run) (numbers_from 0 n)) g.begun_in_all ∙ ap (filter (is_recovered p plan run)) (numbers_from-append 0 m (begun_count rest r))
-        ∙ filter-append (is_recovered p plan run) (numbers_from 0 m) (numbers_from (0 + m) (begun_count rest r))
-        ∙ ap (λ (a : ℕ). filter (is_recovered p plan run) (numbers_from 0 m) ++ filter (is_recovered p plan run) (numbers_from a (begun_count rest r))) from
-        ∙ ap (λ (ns : List ℕ). filter (is_recovered p plan run) (numbers_from 0 m) ++ ns) (filter_moved (begun_count rest r) 0)
+        ap (recovered_first_with begins p plan run) g.begun_in_all ∙ ap (filter (is_recovered_with begins p plan run)) (numbers_from-append 0 m (begun_count rest r))
+        ∙ filter-append (is_recovered_with begins p plan run) (numbers_from 0 m) (numbers_from (0 + m) (begun_count rest r))
+        ∙ ap (λ (a : ℕ). recovered_first_with begins p plan run m ++ filter (is_recovered_with begins p plan run) (numbers_from a (begun_count rest r))) from
+        ∙ ap (λ (ns : List ℕ). recovered_first_with begins p plan run m ++ ns) (filter_moved (begun_count rest r) 0)
 
-    pub same_epochs : SameEpochs p plan m run rest
+    pub same_epochs : SameEpochs begins p plan m run rest
     same_epochs = record { epochs = epochs; again = again; cause = own_cause; listed = listed }
 
 pub verdicts_shift : (p : Program) (plan : Plan) → VerdictsShift p plan
@@ -219,5 +230,5 @@ region_runs_alone p plan input fuel k c d at s = record {
     v : SameVerdicts p plan 0 k (run_of p input fuel c) (run_of p input (fuel - k) d)
     v = same_verdicts p plan 0 k (run_of p input fuel c) (run_of p input (fuel - k) d) both.0 (ap is_some both.1)
 
-    w : SameEpochs p plan 0 (run_of p input fuel c) (run_of p input (fuel - k) d)
-    w = same_epochs p plan 0 k (run_of p input fuel c) (run_of p input (fuel - k) d) both.0 (ap is_some both.1) refl
+    w : SameEpochs nowhere p plan 0 (run_of p input fuel c) (run_of p input (fuel - k) d)
+    w = same_epochs p plan 0 k (run_of p input fuel c) (run_of p input (fuel - k) d) both.0 (ap is_some both.1) nowhere refl

@@ -4,11 +4,13 @@ ghost use Rattle.std.specs.Prelude.{◌≡◌, true};
 ghost use Rattle.dp_tree.specs.Inlined.{IsInlined};
 ghost use Rattle.dp_plan.specs.CheckedTable.{IsTabled};
 ghost use Rattle.dp_plan.specs.GivenPlans.{IsPlan};
+ghost use Rattle.dp_semantics.specs.DecidesRightly.{DecidesRightly};
 ghost use Rattle.dp_semantics.specs.EpochCauses.{FindsInEpochs};
 ghost use Rattle.dp_semantics.specs.FarPairs.{FarNeverCarried, FarNeverWithin};
 ghost use Rattle.dp_semantics.specs.FindsCauses.{FindsCauses};
 ghost use Rattle.dp_semantics.specs.Fits.{fits_plan, stands_alone};
-ghost use Rattle.dp_semantics.specs.Laws.{CleanInOneStage, CleanWithoutCause, RecoversInOrder};
+ghost use Rattle.dp_semantics.specs.Laws.{CleanInOneStage, CleanWithoutCause, LongIsUnclean, RecoversInOrder};
+ghost use Rattle.dp_semantics.specs.Resumed.{BeginsThere, JudgesResumed, LaterChangesNothing, RegionReportsAlone, ReportsGoOn};
 ghost use Rattle.dp_semantics.specs.Shift.{EpochsShift, RegionRunsAlone, VerdictsShift};
 ghost use Rattle.dp_semantics.specs.Told.{StoresAreAll, Tells};
 ghost use Rattle.dp_semantics.specs.TurnBound.{BoundNeverDecides};
@@ -24,6 +26,7 @@ pub fn judgement_is_the_sources(p: &Program, plan: &Plan)
     requires { fits_plan p.now plan.now ≡ true }
     ensures judged { JudgesRightly p.now plan.now }
     ensures in_epochs { JudgesEpochs p.now plan.now }
+    ensures resumed { JudgesResumed p.now plan.now }
     ensures led { StoresLead p.now plan.now }
     ensures left { ClosingLeaves p.now plan.now }
 {}
@@ -103,4 +106,24 @@ pub fn a_judgement_tells_all(plan: &Plan)
 #[tactic(auto, using(crate::proofs::TurnEnds::bound_idle))]
 pub fn turns_end_by_their_words(p: &Program, plan: &Plan)
     ensures { BoundNeverDecides p.now plan.now }
+{}
+
+/// Behind verdicts that go on, an epoch's next verdict is to commit exactly where the iteration is clean in the run that begins with the epoch.
+pub fn verdicts_are_right(p: &Program, plan: &Plan)
+    requires { fits_plan p.now plan.now ≡ true }
+    ensures { DecidesRightly p.now plan.now }
+{}
+
+/// An iteration with more events than all stages together may have words isn't clean, so what it did needn't be known.
+pub fn long_is_unclean(p: &Program, plan: &Plan)
+    requires { fits_plan p.now plan.now ≡ true }
+    ensures { LongIsUnclean p.now plan.now }
+{}
+
+/// A run may be saved before an iteration and gone on with from there: an epoch begins there, nothing before it changes, and its report follows from those of the pieces.
+pub fn reports_go_on(p: &Program, plan: &Plan)
+    ensures begins { BeginsThere p.now plan.now }
+    ensures before { LaterChangesNothing p.now plan.now }
+    ensures alone { RegionReportsAlone p.now plan.now }
+    ensures pieces { ReportsGoOn p.now plan.now }
 {}
