@@ -26,3 +26,4 @@ pub mod FindsCauses
 pub mod EpochCauses
 pub mod Resumed
 pub mod DecidesRightly
+pub mod LoadedCells

@@ -63,3 +63,4 @@ pub mod EpochFound
 pub mod Resumed
 pub mod Decides
 pub mod ShortIterations
+pub mod LoadedCells

@@ -10,6 +10,7 @@ ghost use Rattle.dp_semantics.specs.FarPairs.{FarNeverCarried, FarNeverWithin};
 ghost use Rattle.dp_semantics.specs.FindsCauses.{FindsCauses};
 ghost use Rattle.dp_semantics.specs.Fits.{fits_plan, stands_alone};
 ghost use Rattle.dp_semantics.specs.Laws.{CleanInOneStage, CleanWithoutCause, LongIsUnclean, RecoversInOrder};
+ghost use Rattle.dp_semantics.specs.LoadedCells.{CellsTellLoads};
 ghost use Rattle.dp_semantics.specs.Resumed.{BeginsThere, JudgesResumed, LaterChangesNothing, RegionReportsAlone, ReportsGoOn};
 ghost use Rattle.dp_semantics.specs.Shift.{EpochsShift, RegionRunsAlone, VerdictsShift};
 ghost use Rattle.dp_semantics.specs.Told.{StoresAreAll, Tells};
@@ -126,4 +127,10 @@ pub fn reports_go_on(p: &Program, plan: &Plan)
     ensures before { LaterChangesNothing p.now plan.now }
     ensures alone { RegionReportsAlone p.now plan.now }
     ensures pieces { ReportsGoOn p.now plan.now }
+{}
+
+/// An event's loads follow from their cells and the memory before the step, so it is enough to be told the cells.
+#[tactic(auto, using(crate::proofs::LoadedCells::cells_tell_loads))]
+pub fn cells_tell_the_loads(p: &Program)
+    ensures { CellsTellLoads p.now }
 {}
