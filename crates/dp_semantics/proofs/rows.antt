@@ -2,6 +2,7 @@ mod Breaks
 mod Far
 mod Recovered
 mod Resumed
+mod EpochVerdicts
 mod Causes
 mod Turns
 mod Sent
