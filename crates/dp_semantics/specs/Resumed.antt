@@ -1,5 +1,5 @@
 -- The laws of epochs that some iterations begin in any case, and of the report of a run that is made in several pieces.
-use Rattle.std.specs.Prelude.{◌≡◌, ℕ, ◌-◌, ◌<◌, Bool, true, List, ℤ, Some, is_some, slice_get}
+use Rattle.std.specs.Prelude.{◌≡◌, ℕ, ◌+◌, ◌-◌, ◌<◌, Bool, true, List, ℤ, Some, is_some, slice_get}
 use Rattle.dp_tree.specs.declared.Program.{Program}
 use Rattle.dp_tree.specs.Step.{Config}
 use Rattle.dp_tree.specs.Trace.{Run, run_of}
@@ -42,7 +42,12 @@ abbrev pub RegionReportsAlone : Program → Plan → Type 0
 RegionReportsAlone p plan = (begins : ℕ → Bool) (input : List ℤ) (fuel k : ℕ) (c d : Config) → slice_get (run_of p input fuel c).configs k ≡ Some d → start (run_of p input fuel c) plan.region 0 ≡ Some k →
     SameReport begins p plan (run_of p input fuel c) (run_of p input (fuel - k) d)
 
--- Where an epoch begins at iteration m, the report of the run is that of its first m iterations, gone on with by that of the rest.
+-- The report of the first m iterations is gone on with by that of the rest, after any number of its iterations and in all.
+pub record ReportGoesOn (begins : ℕ → Bool) (p : Program) (plan : Plan) (m : ℕ) (run rest : Run) : Type 0 where
+  pub first : (n : ℕ) → report_first_with begins p plan run (m + n) ≡ gone_on (report_first_with begins p plan run m) (report_first_with (from_there m begins) p plan rest n)
+  pub whole : region_report_with begins p plan run ≡ gone_on (report_first_with begins p plan run m) (region_report_with (from_there m begins) p plan rest)
+
+-- So it is where an epoch begins at iteration m.
 abbrev pub ReportsGoOn : Program → Plan → Type 0
 ReportsGoOn p plan = (begins : ℕ → Bool) (m k : ℕ) (run rest : Run) → GoesOnAs plan.region m k run rest → is_some (start rest plan.region 0) ≡ true → epoch_with begins p plan run m ≡ m →
-    region_report_with begins p plan run ≡ gone_on (report_first_with begins p plan run m) (region_report_with (from_there m begins) p plan rest)
+    ReportGoesOn begins p plan m run rest

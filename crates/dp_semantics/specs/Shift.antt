@@ -27,6 +27,7 @@ pub record SameEpochs (begins : ℕ → Bool) (p : Program) (plan : Plan) (m : �
   pub epochs : (i : ℕ) → epoch_with begins p plan run (m + i) ≡ m + epoch_with (from_there m begins) p plan rest i
   pub again : (i : ℕ) → is_recovered_with begins p plan run (m + i) ≡ is_recovered_with (from_there m begins) p plan rest i
   pub cause : (i : ℕ) → cause_with begins p plan run (m + i) ≡ cause_with (from_there m begins) p plan rest i
+  pub listed_first : (n : ℕ) → recovered_first_with begins p plan run (m + n) ≡ recovered_first_with begins p plan run m ++ map (λ i. m + i) (recovered_first_with (from_there m begins) p plan rest n)
   pub listed : recovered_with begins p plan run ≡ recovered_first_with begins p plan run m ++ map (λ i. m + i) (recovered_with (from_there m begins) p plan rest)
 
 -- So it is for each run that reaches the region and goes on so.

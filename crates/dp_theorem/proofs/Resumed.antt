@@ -6,7 +6,7 @@ use Rattle.dp_base.specs.declared.Cause.{Cause as ReportedCause}
 use Rattle.dp_base.specs.declared.limits.TheConstants.{LISTED}
 use Rattle.dp_tree.specs.GoesOn.{GoesOnAs}
 use Rattle.dp_tree.proofs.GoesOn.{goes_on_from}
-use Rattle.dp_semantics.specs.Recovery.{next_epoch, epoch_with, is_recovered_with, recovered_first_with, recovered_with}
+use Rattle.dp_semantics.specs.Recovery.{next_epoch, epoch_with, is_recovered_with, recovered_first_with}
 use Rattle.dp_semantics.specs.Cause.{cause_since, cause_with}
 use Rattle.dp_semantics.specs.Reported.{reported, report_of, report_first_with, gone_on}
 use Rattle.dp_semantics.specs.Shift.{from_there, SameVerdicts}
@@ -136,8 +136,11 @@ module _ (m : ℕ) (f g : ℕ → ReportedCause) (same : (i : ℕ) → f (m + i)
   report_parts region n again more = λ i. record { region = region; iterations = m + n; recovered_count = counts again more i; recovered = numbers LISTED again more i; causes = whys LISTED again more i }
 
 pub reports_go_on : (p : Program) (plan : Plan) → ReportsGoOn p plan
-reports_go_on p plan begins m k run rest g reached fresh =
-    let w = same_epochs p plan m k run rest g reached begins fresh in
-    let f : ℕ → ReportedCause = λ i. reported (cause_with begins p plan run i) in
-    ap₂ (λ (n : ℕ) (again : List ℕ). report_of plan.region n again f) g.begun_in_all w.listed
-    ∙ report_parts m f (λ i. reported (cause_with (from_there m begins) p plan rest i)) (λ i. ap reported (w.cause i)) plan.region (begun_count rest plan.region) (recovered_first_with begins p plan run m) (recovered_with (from_there m begins) p plan rest)
+reports_go_on p plan begins m k run rest g reached fresh = record { first = first; whole = ap (report_first_with begins p plan run) g.begun_in_all ∙ first (begun_count rest plan.region) }
+  where
+    first : (n : ℕ) → report_first_with begins p plan run (m + n) ≡ gone_on (report_first_with begins p plan run m) (report_first_with (from_there m begins) p plan rest n)
+    first n =
+        let w = same_epochs p plan m k run rest g reached begins fresh in
+        let f : ℕ → ReportedCause = λ i. reported (cause_with begins p plan run i) in
+        ap (λ (again : List ℕ). report_of plan.region (m + n) again f) (w.listed_first n)
+        ∙ report_parts m f (λ i. reported (cause_with (from_there m begins) p plan rest i)) (λ i. ap reported (w.cause i)) plan.region n (recovered_first_with begins p plan run m) (recovered_first_with (from_there m begins) p plan rest n)

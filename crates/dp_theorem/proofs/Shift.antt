@@ -165,16 +165,18 @@ module _ (p : Program) (plan : Plan) (m k : ℕ) (run rest : Run) (g : GoesOnAs 
         by true = refl
         by false = refl
 
-    listed : recovered_with begins p plan run ≡ recovered_first_with begins p plan run m ++ map (λ i. m + i) (recovered_with there p plan rest)
-    listed =
+    listed_first : (n : ℕ) → recovered_first_with begins p plan run (m + n) ≡ recovered_first_with begins p plan run m ++ map (λ i. m + i) (recovered_first_with there p plan rest n)
+    listed_first n =
         let from : 0 + m ≡ m + 0 = omega arith in
-        ap (recovered_first_with begins p plan run) g.begun_in_all ∙ ap (filter (is_recovered_with begins p plan run)) (numbers_from-append 0 m (begun_count rest r))
-        ∙ filter-append (is_recovered_with begins p plan run) (numbers_from 0 m) (numbers_from (0 + m) (begun_count rest r))
-        ∙ ap (λ (a : ℕ). recovered_first_with begins p plan run m ++ filter (is_recovered_with begins p plan run) (numbers_from a (begun_count rest r))) from
-        ∙ ap (λ (ns : List ℕ). recovered_first_with begins p plan run m ++ ns) (filter_moved (begun_count rest r) 0)
+        ap (filter (is_recovered_with begins p plan run)) (numbers_from-append 0 m n) ∙ filter-append (is_recovered_with begins p plan run) (numbers_from 0 m) (numbers_from (0 + m) n)
+        ∙ ap (λ (a : ℕ). recovered_first_with begins p plan run m ++ filter (is_recovered_with begins p plan run) (numbers_from a n)) from
+        ∙ ap (λ (ns : List ℕ). recovered_first_with begins p plan run m ++ ns) (filter_moved n 0)
+
+    listed : recovered_with begins p plan run ≡ recovered_first_with begins p plan run m ++ map (λ i. m + i) (recovered_with there p plan rest)
+    listed = ap (recovered_first_with begins p plan run) g.begun_in_all ∙ listed_first (begun_count rest r)
 
     pub same_epochs : SameEpochs begins p plan m run rest
-    same_epochs = record { epochs = epochs; again = again; cause = own_cause; listed = listed }
+    same_epochs = record { epochs = epochs; again = again; cause = own_cause; listed_first = listed_first; listed = listed }
 
 pub verdicts_shift : (p : Program) (plan : Plan) → VerdictsShift p plan
 verdicts_shift p plan = same_verdicts p plan
