@@ -17,8 +17,8 @@ use Rattle.dp_semantics.specs.Reported.{reported}
 use Rattle.dp_semantics.specs.Verdict.{applied}
 use Rattle.dp_semantics.specs.EpochKey.{EpochKey, epoch_run}
 use Rattle.dp_semantics.specs.EpochVerdicts.{Carried, Again, Commit, JudgeState, goes_on, state_at, judgement_of, after_judgement, verdict_by, verdict_at}
-use Rattle.dp_semantics.proofs.EpochFound.{finds_in_epochs}
-use Rattle.dp_semantics.proofs.Fitting.{accepted}
+use Rattle.dp_theorem.proofs.EpochFound.{finds_in_epochs}
+use Rattle.dp_theorem.proofs.Fitting.{accepted}
 use Rattle.dp_cause.specs.Views.{shown_by, kept_by, clear_cells, local_cells}
 use Rattle.dp_cause.specs.Watching.{reported_if}
 use Rattle.dp_cause.specs.declared.kept.Kept.{Kept}

@@ -9,7 +9,7 @@ use Rattle.dp_plan.proofs.PlanBack.{plan_back}
 use Rattle.dp_plan.proofs.RegionFacts.{in_order}
 use Rattle.dp_commit.specs.Judging.{HasStages}
 use Rattle.dp_commit.proofs.StageNumbers.{written_has_stages}
-use Rattle.dp_semantics.proofs.GivenFits.{region_within}
+use Rattle.dp_theorem.proofs.GivenFits.{region_within}
 
 module _ (p : Program) (inlined : IsInlined p) (plan : Plan) (is : IsPlan p plan) where
   pub given_stages : HasStages p plan

@@ -8,7 +8,7 @@ use Rattle.dp_plan.specs.declared.Plan.{Plan}
 use Rattle.dp_semantics.specs.Verdict.{done_in, effect_in}
 use Rattle.dp_semantics.specs.EpochVerdicts.{Carried, carried}
 use Rattle.dp_semantics.specs.Told.{store_made, stores_of}
-use Rattle.dp_semantics.proofs.Told.{chosen}
+use Rattle.dp_theorem.proofs.Told.{chosen}
 use Rattle.dp_meaning.specs.MachineState.{MachineState, rest_of_run}
 use Rattle.dp_commit.specs.CommittedState.{CommittedState, CarriesNext, region_run}
 use Rattle.dp_crew.specs.Progress.{Progress}

@@ -17,12 +17,12 @@ use Rattle.dp_plan.specs.declared.Plan.{Plan}
 use Rattle.dp_plan.specs.Access.{is_region_at, region_accesses, region_statement}
 use Rattle.dp_semantics.specs.Fits.{fits_plan, one_region, cells_in_order, access_known}
 use Rattle.dp_semantics.specs.Recovery.{epoch}
-use Rattle.dp_semantics.specs.EpochKey.{EpochKey, epoch_run, epoch_begin, from_region}
+use Rattle.dp_semantics.specs.EpochKey.{EpochKey, epoch_run, epoch_begin, statements_from}
 use Rattle.dp_semantics.specs.EpochCauses.{IsSound}
-use Rattle.dp_semantics.proofs.Memory.{clear-at, clear-still}
-use Rattle.dp_semantics.proofs.Placed.{standing-length}
-use Rattle.dp_semantics.proofs.EpochFound.{cleared_there}
-use Rattle.dp_semantics.proofs.Fitting.{accepted}
+use Rattle.dp_theorem.proofs.Memory.{clear-at, clear-still}
+use Rattle.dp_theorem.proofs.Placed.{standing-length}
+use Rattle.dp_theorem.proofs.EpochFound.{cleared_there}
+use Rattle.dp_theorem.proofs.Fitting.{accepted}
 use Rattle.dp_meaning.specs.MachineState.{MachineState, fuel_left, rest_of_run}
 use Rattle.dp_commit.specs.CommittedState.{CommittedState, region_run, steps_of_first}
 use Rattle.dp_meaning.proofs.NextLemmas.{on_region}
@@ -50,7 +50,7 @@ none_before r (x ∷ inner) rest h e =
     let both = and_parts (is_inner x) (list_all is_inner inner) h in absurd (both_ways (is_region_at r x) (inner_no_region r x both.0) e)
 
 -- only one statement passes
-no_other : (r : ℕ) (a b : List Stmt) (s : Stmt) → is_region_at r s ≡ true → length (filter (is_region_at r) (a ++ s ∷ b)) ≡ 1 → from_region r (a ++ s ∷ b) ≡ s ∷ b
+no_other : (r : ℕ) (a b : List Stmt) (s : Stmt) → is_region_at r s ≡ true → length (filter (is_region_at r) (a ++ s ∷ b)) ≡ 1 → statements_from r (a ++ s ∷ b) ≡ s ∷ b
 no_other r [] b s t one = rw t refl
 no_other r (x ∷ a) b s t one = elim (cases_Bool (is_region_at r x)) [
   | inl u ↦ absurd (let two : length (x ∷ filter (is_region_at r) (a ++ s ∷ b)) ≡ 1 = rw u at one in let some = there a in omega (arith, two, some))
@@ -89,19 +89,19 @@ standing_again : (p : Program) (xs : List Stmt) (cells : List ℤ) → standing 
 standing_again p [] cells = refl
 standing_again p (s ∷ rest) cells = ap (λ (held : List ℤ). record { to_do = s ∷ rest; cells = held }) (cleared_twice p 0 (out-Stmt s) cells)
 
-split : (p : Program) (r : ℕ) (before behind : List Stmt) → length (filter (is_region_at r) (before ++ behind)) ≡ 1 → begins_with r behind ≡ true → from_region r (before ++ behind) ≡ behind
+split : (p : Program) (r : ℕ) (before behind : List Stmt) → length (filter (is_region_at r) (before ++ behind)) ≡ 1 → begins_with r behind ≡ true → statements_from r (before ++ behind) ≡ behind
 split p r before [] one e = absurd (cc)
 split p r before (s ∷ rest) one e = no_other r before rest s e one
 
 -- Where the region's condition comes next, the configuration is that of an epoch that begins there.
-begins_there : (p : Program) (plan : Plan) (c : Config) → fits_plan p plan ≡ true → StandsInMain p c → begins_with plan.region c.to_do ≡ true → standing p (from_region plan.region p.main) c.cells ≡ c
+begins_there : (p : Program) (plan : Plan) (c : Config) → fits_plan p plan ≡ true → StandsInMain p c → begins_with plan.region c.to_do ≡ true → standing p (statements_from plan.region p.main) c.cells ≡ c
 begins_there p plan c fits s on =
     let listed : c.to_do ≡ s.inner ++ s.behind = ap (λ (d : Config). d.to_do) s.config_is ∙ standing_to_do p (s.inner ++ s.behind) s.cells in
     let none : s.inner ≡ [] = none_before plan.region s.inner s.behind s.plain (ap (begins_with plan.region) (sym listed) ∙ on) in
     let here : c ≡ standing p s.behind s.cells = s.config_is ∙ ap (λ (xs : List Stmt). standing p (xs ++ s.behind) s.cells) none in
     let head : begins_with plan.region s.behind ≡ true = ap (λ (xs : List Stmt). begins_with plan.region (xs ++ s.behind)) (sym none) ∙ ap (begins_with plan.region) (sym listed) ∙ on in
     let one : length (filter (is_region_at plan.region) (s.before ++ s.behind)) ≡ 1 = ap (λ (xs : List Stmt). length (filter (is_region_at plan.region) xs)) (sym s.main_is) ∙ stands_once p plan fits in
-    let from : from_region plan.region p.main ≡ s.behind = ap (from_region plan.region) s.main_is ∙ split p plan.region s.before s.behind one head in
+    let from : statements_from plan.region p.main ≡ s.behind = ap (statements_from plan.region) s.main_is ∙ split p plan.region s.before s.behind one head in
     ap (λ (xs : List Stmt). standing p xs c.cells) from ∙ ap (λ (d : Config). standing p s.behind d.cells) here ∙ standing_again p s.behind s.cells ∙ sym here
 
 -- the verdicts of an epoch that begins here
@@ -109,7 +109,7 @@ pub begins_epoch : (key : EpochKey) (first : MachineState) (c : CommittedState) 
     key.first ≡ c.count → key.base ≡ c.machine.config.cells → key.steps ≡ c.machine.steps → InEpoch key 0 first c report
 begins_epoch key first c report g k e from base steps =
     let config : epoch_begin key ≡ c.machine.config =
-    ap (λ (p : Program). standing p (from_region key.plan.region p.main) key.base) k.program ∙ ap (standing first.program (from_region key.plan.region first.program.main)) base
+    ap (λ (p : Program). standing p (statements_from key.plan.region p.main) key.base) k.program ∙ ap (standing first.program (statements_from key.plan.region first.program.main)) base
     ∙ begins_there first.program key.plan c.machine.config g.start.fits (stands_there key.plan first g.start c g.holds) (on_region key.plan.region c.machine.config (at_head key.plan first c report g)) in
     let left : key.fuel - key.steps ≡ fuel_left c.machine = omega (arith, k.fuel, steps, g.holds.fuel) in
     let same : rest_of_run c.machine ≡ epoch_run key =

@@ -12,7 +12,7 @@ use Rattle.dp_tree.proofs.InMain.{stays_in_main}
 use Rattle.dp_plan.specs.declared.Plan.{Plan}
 use Rattle.dp_semantics.specs.Recovery.{epoch}
 use Rattle.dp_semantics.specs.Verdict.{Judged, Follows}
-use Rattle.dp_semantics.proofs.Fitting.{fitting_closes, fitting_epochs, fitting_leads}
+use Rattle.dp_theorem.proofs.Fitting.{fitting_closes, fitting_epochs, fitting_leads}
 use Rattle.dp_meaning.specs.declared.ends.Part.TheVariants as part
 use Rattle.dp_meaning.specs.MachineState.{MachineState, fuel_left, rest_of_run, part_from, part_of, from_region}
 use Rattle.dp_commit.specs.CommittedState.{CommittedState, ClosesOnce, Holds, region_run, steps_of_first}
@@ -20,7 +20,7 @@ use Rattle.dp_commit.proofs.Going as going
 use Rattle.dp_commit.proofs.Lists.{get_at_seam}
 use Rattle.dp_commit.proofs.Parts.{run_begins}
 use Rattle.dp_crew.specs.Progress.{Progress, RegionBegins}
-use Rattle.dp_semantics.proofs.Central.{fuel_is}
+use Rattle.dp_theorem.proofs.Central.{fuel_is}
 
 pub rest_fuel : (m : MachineState) → (rest_of_run m).fuel ≡ m.fuel - m.steps
 rest_fuel m = fuel_is m.program m.input (fuel_left m) m.config

@@ -14,13 +14,13 @@ use Rattle.dp_semantics.specs.Verdict.{Judged, judgement_at, done_in}
 use Rattle.dp_semantics.specs.Reported.{reported}
 use Rattle.dp_semantics.specs.EpochKey.{EpochKey, epoch_run}
 use Rattle.dp_semantics.specs.EpochVerdicts.{Carried, carried, Commit, Again, judgement_in, judgement_of, verdict_by, verdict_at}
-use Rattle.dp_semantics.proofs.Shift.{verdicts_shift}
+use Rattle.dp_theorem.proofs.Shift.{verdicts_shift}
 use Rattle.dp_meaning.specs.MachineState.{MachineState, fuel_left}
 use Rattle.dp_commit.specs.CommittedState.{CommittedState, region_run, steps_of_first}
 use Rattle.dp_crew.specs.InEpoch.{InEpoch}
 use Rattle.dp_crew.specs.Progress.{Progress, cause_of}
 use Rattle.dp_crew.proofs.Here.{memory_is, steps_are, judged_here}
-use Rattle.dp_semantics.proofs.Central.{fuel_is}
+use Rattle.dp_theorem.proofs.Central.{fuel_is}
 
 module _ (key : EpochKey) (n : ℕ) (first : MachineState) (c : CommittedState) (report : RegionReport) (e : InEpoch key n first c report) where
   abbrev g : Progress key.plan first c report

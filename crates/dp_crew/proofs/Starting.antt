@@ -9,11 +9,11 @@ use Rattle.dp_plan.proofs.PlanBack.{plan_back, plan_fits}
 use Rattle.dp_plan.proofs.RegionFacts.{in_order}
 use Rattle.dp_plan.proofs.RulesHold.{valid_unbroken}
 use Rattle.dp_semantics.specs.Fits.{fits_plan}
-use Rattle.dp_semantics.proofs.ValidFits.{valid_fits}
+use Rattle.dp_theorem.proofs.ValidFits.{valid_fits}
 use Rattle.dp_meaning.specs.MachineState.{MachineState}
 use Rattle.dp_crew.specs.RegionRun.{IsPlanned, RegionStart}
 use Rattle.dp_crew.specs.Progress.{RegionBegins}
-use Rattle.dp_semantics.proofs.GivenFits.{filled}
+use Rattle.dp_theorem.proofs.GivenFits.{filled}
 
 pub planned_fits : (p : Program) (plan : Plan) → IsPlanned p plan → fits_plan p plan ≡ true
 planned_fits p plan q =

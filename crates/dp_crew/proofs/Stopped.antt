@@ -10,7 +10,7 @@ use Rattle.dp_tree.specs.Step.{Config, Event}
 use Rattle.dp_tree.specs.Trace.{Run, ended}
 use Rattle.dp_tree.specs.Iteration.{stands_at_head, places, starts, start, begun_count, stop_from, events_from, iteration, last_events, closes, is_closing, has_ended}
 use Rattle.dp_tree.specs.IterationLaws.{events_of_first}
-use Rattle.dp_semantics.proofs.Central.{earlier_start}
+use Rattle.dp_theorem.proofs.Central.{earlier_start}
 use Rattle.dp_meaning.specs.declared.ends.Part.TheVariants as part
 use Rattle.dp_meaning.specs.Continues.{Continues}
 use Rattle.dp_meaning.specs.MachineState.{MachineState, fuel_left, rest_of_run, part_of}

@@ -8,7 +8,7 @@ use Rattle.dp_tree.specs.Step.{clear_locals, is_local_of}
 use Rattle.dp_tree.specs.Trace.{begin, start_cells}
 use Rattle.dp_plan.specs.declared.Plan.{Plan}
 use Rattle.dp_semantics.specs.EpochCauses.{IsSound}
-use Rattle.dp_semantics.proofs.Placed.{standing-length}
+use Rattle.dp_theorem.proofs.Placed.{standing-length}
 
 abbrev zeros : ℕ → List ℤ
 zeros n = replicate n (pos 0)

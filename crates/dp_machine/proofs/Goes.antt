@@ -5,7 +5,7 @@ use Rattle.dp_plan.specs.Access.{is_replicated}
 use Rattle.dp_semantics.specs.Fits.{fits_plan}
 use Rattle.dp_semantics.specs.StageRun.{stage_run}
 use Rattle.dp_semantics.specs.Packets as packets
-use Rattle.dp_semantics.proofs.Fitting.{accepted}
+use Rattle.dp_semantics.proofs.StageKinds.{fitting_kinds}
 use Rattle.dp_semantics.proofs.PacketFacts.{live}
 use Rattle.dp_packet.specs.declared.Packet.{Packet}
 use Rattle.dp_packet.specs.declared.PacketStatus.{PacketStatus}
@@ -112,7 +112,7 @@ pub packet_sends : (f : Frame) (s : ℕ) (key : packets.Epoch) (n : ℕ) (cells 
     (None ≡ packets.version_of (key_of f key.base) s cells → IsSent all (packets.run_on (key_of f key.base) s cells (record { lists = packet.lists; status = status_of packet.status; version = None })) sent memory) → Sends f s Nothing key n sent
 packet_sends f s key n cells packet sent memory low fits (is, one) comes going version told =
     let rep = replicated f s key n low is s true one in
-    let kinds = accepted f.program.now f.plan.now fits in
+    let kinds = fitting_kinds f.program.now f.plan.now fits in
     let back : suc (s - 1) ≡ s = omega (arith, low) in
     let apart = kinds.apart (s - 1) (ap (is_replicated f.plan.now) back ∙ one) in
     let second = second_place f.plan.now s (s - 1) back one kinds.sequential in

@@ -9,8 +9,8 @@ use Rattle.dp_tree.specs.declared.Stmt.TheVariants as tree
 use Rattle.dp_tree.proofs.InsideRegion.{quiet, region_out}
 use Rattle.dp_plan.specs.Access.{is_region_at}
 use Rattle.dp_plan.proofs.RegionOrder.{Sought, absent, present}
-use Rattle.dp_semantics.proofs.ValidFits.{sought}
-use Rattle.dp_semantics.proofs.OnceInMain.{regions_once}
+use Rattle.dp_theorem.proofs.ValidFits.{sought}
+use Rattle.dp_theorem.proofs.OnceInMain.{regions_once}
 
 module _ (p : Program) (inlined : IsInlined p) (r : ℕ) (before : List Stmt) (x : Stmt) (behind : List Stmt) (main_is : p.main ≡ before ++ x ∷ behind) (at : is_region r (out-Stmt x) ≡ true) where
   -- a region that stands in `main` is in the table

@@ -1,6 +1,6 @@
 -- The memory after the steps of an iteration.
 use Rattle.dp_meaning.proofs.Names.{inl, ◌≡◌, refl, sym, ap, ◌∙◌, ℕ, Bool, true, false, not, if◌then◌else◌, List, [], ◌∷◌, drop, ℤ, Option, Some, is_zero, Stmt, out-Stmt, Stmt-F, Program, Effect, Stored, Event, value_of, stored, Config, Stepped, step, step_from, standing, stored_by, region_number, clear_one, clear_locals, cleared_leaving, cleared_at, leaves, stepped, not_stepped, next_at, part_from, part_of, stores_of, with_stores, is_any_region, from_region}
-use Rattle.dp_semantics.proofs.Memory.{clear-at, clear-still}
+use Rattle.dp_theorem.proofs.Memory.{clear-at, clear-still}
 use Rattle.dp_meaning.specs.declared.ends.Part.TheVariants as part
 use Rattle.dp_tree.specs.declared.Stmt.TheOpen.{Region, Break}
 use Rattle.dp_tree.proofs.Heads.{taken}

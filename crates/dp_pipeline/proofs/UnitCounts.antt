@@ -7,7 +7,7 @@ use Rattle.dp_plan.specs.declared.StageKind.{StageKind}
 use Rattle.dp_plan.specs.declared.StageKind.TheVariants.{Seq, Par}
 use Rattle.dp_plan.specs.Access.{is_par, is_replicated}
 use Rattle.dp_semantics.specs.Fits.{fits_plan}
-use Rattle.dp_semantics.proofs.Fitting.{accepted}
+use Rattle.dp_theorem.proofs.Fitting.{accepted}
 use Rattle.dp_pipeline.specs.UnitCount.{unit_count_of, unit_count_all}
 
 sequential_at : (kinds : List StageKind) (k : ℕ) → k < length kinds → is_par (slice_get kinds k) ≡ false → slice_get kinds k ≡ Some Seq

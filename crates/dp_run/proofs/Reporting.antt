@@ -11,7 +11,7 @@ use Rattle.dp_semantics.specs.Recovery.{is_recovered, recovered}
 use Rattle.dp_semantics.specs.Cause.{cause}
 use Rattle.dp_semantics.specs.Reported.{reported, report_of, region_report}
 use Rattle.dp_semantics.specs.Shift.{SameRegion}
-use Rattle.dp_semantics.proofs.Shift.{region_runs_alone}
+use Rattle.dp_theorem.proofs.Shift.{region_runs_alone}
 use Rattle.dp_meaning.specs.declared.ends.Part.TheVariants as part
 use Rattle.dp_meaning.specs.MachineState.{MachineState, fuel_left, rest_of_run, part_of}
 use Rattle.dp_crew.specs.RegionRun.{beyond, region_run}
@@ -20,7 +20,7 @@ use Rattle.dp_run.specs.steps.Stretches.{Between}
 use Rattle.dp_run.proofs.Lists.{map_same}
 use Rattle.dp_run.proofs.RegionsLeft.{on_region}
 use Rattle.dp_run.proofs.Leading.{config_here}
-use Rattle.dp_semantics.proofs.Central.{fuel_is}
+use Rattle.dp_theorem.proofs.Central.{fuel_is}
 use Rattle.dp_commit.proofs.Parts.{run_begins}
 use Rattle.dp_tree.proofs.NumberLists.{length-numbers_from}
 

@@ -1,6 +1,6 @@
 -- A packet after a stage: its status, its lists, and what it says of the turn.
 use Rattle.dp_semantics.proofs.Names.{status_when, ◌≡◌, refl, sym, ap, ◌∙◌, ℕ, zero, suc, ◌-◌, ◌<◌, Bool, true, false, List, [], ◌∷◌, ◌++◌, ℤ, length, get_or, Ok, Err, arith, get_or_append_left, both_ways, Word, word_list, TurnEnd, Ended, stage_run, Status, Going, Broken, Packet, Epoch, status_of, passed_by, passed_on, run_on, get_or-append_seam}
-use Rattle.dp_semantics.proofs.Stepping.{word_list_is}
+use Rattle.dp_semantics.proofs.Taking.{word_list_is}
 
 -- not void
 abbrev pub live : Status → Bool

@@ -1,10 +1,10 @@
 mod Breaks
 mod Far
 mod Recovered
+mod Resumed
+mod EpochVerdicts
 mod Causes
 mod Turns
 mod Sent
 mod Judged
 mod Fitting
-mod ValidPlans
-mod Laws

@@ -1,5 +1,5 @@
 -- Why an iteration is executed again: its first failure in the source's order.
-use Rattle.std.specs.Prelude.{ℕ, if◌then◌else◌, List, [], ◌∷◌, ℤ, Option, Some, None, nat_le}
+use Rattle.std.specs.Prelude.{ℕ, Bool, if◌then◌else◌, List, [], ◌∷◌, ℤ, Option, Some, None, nat_le}
 use Rattle.std.specs.Ordering.{int_eq}
 use Rattle.dp_base.specs.declared.Fault.{Fault as FaultAt}
 use Rattle.dp_base.specs.declared.End.{End}
@@ -15,7 +15,7 @@ use Rattle.dp_plan.specs.Access.{stage_of}
 use Rattle.dp_plan.specs.Checked.{is_checked}
 use Rattle.dp_semantics.specs.Seen.{Past, seen}
 use Rattle.dp_semantics.specs.Clean.{event_as_assumed, word_count, events_since}
-use Rattle.dp_semantics.specs.Recovery.{epoch}
+use Rattle.dp_semantics.specs.Recovery.{epoch_with, nowhere}
 
 -- a checked load that its stage sees otherwise, a broken assumption, a stage with too many words, a fault, or spent fuel
 pub data Cause : Type 0 where
@@ -78,6 +78,10 @@ abbrev pub cause_since : Program → Plan → Run → ℕ → ℕ → Cause
 cause_since p plan run e i =
     cause_or_end (first_cause p plan (memory_after run plan.region e) i (events_since run plan.region e i) [] (iteration run plan.region i)) run.end
 
--- the cause of iteration i in its own epoch
+-- the cause of iteration i in its own epoch, where some iterations begin one in any case
+abbrev pub cause_with : (ℕ → Bool) → Program → Plan → Run → ℕ → Cause
+cause_with begins p plan run i = cause_since p plan run (epoch_with begins p plan run i) i
+
+-- .. and where none has to
 abbrev pub cause : Program → Plan → Run → ℕ → Cause
-cause p plan run i = cause_since p plan run (epoch p plan run i) i
+cause p plan run i = cause_with nowhere p plan run i

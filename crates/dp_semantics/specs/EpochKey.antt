@@ -23,13 +23,13 @@ abbrev pub epoch_of : EpochKey → Epoch
 epoch_of key = record { program = key.program; plan = key.plan; input = key.input; base = key.base }
 
 -- the statements from region r on
-abbrev pub from_region : ℕ → List Stmt → List Stmt
-from_region r [] = []
-from_region r (s ∷ rest) = if is_region r (out-Stmt s) then s ∷ rest else from_region r rest
+abbrev pub statements_from : ℕ → List Stmt → List Stmt
+statements_from r [] = []
+statements_from r (s ∷ rest) = if is_region r (out-Stmt s) then s ∷ rest else statements_from r rest
 
 -- where the epoch begins: its region's condition comes next, in the base memory
 abbrev pub epoch_begin : EpochKey → Config
-epoch_begin key = standing key.program (from_region key.plan.region key.program.main) key.base
+epoch_begin key = standing key.program (statements_from key.plan.region key.program.main) key.base
 
 -- the source's run from there, within the fuel that is left; the epoch's iterations are its iterations from 0 on
 abbrev pub epoch_run : EpochKey → Run

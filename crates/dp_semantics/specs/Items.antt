@@ -1,5 +1,5 @@
 -- What the lanes and the rings of an epoch carry, item by item, and which item is the last one.
-use Rattle.std.specs.Prelude.{◌≡◌, ℕ, ◌+◌, ◌==◌, Bool, true, false, not, ◌||◌, zero, suc, Option, Some, None}
+use Rattle.std.specs.Prelude.{◌≡◌, ℕ, ◌+◌, ◌==◌, Bool, true, false, not, ◌||◌, Option, Some, None}
 use Rattle.dp_semantics.specs.Packets.{Status, Going, Closing, Broken, Packet, passed}
 use Rattle.dp_semantics.specs.EpochKey.{EpochKey, epoch_of}
 use Rattle.dp_semantics.specs.EpochVerdicts.{Verdict, verdict_at, goes_on}

@@ -24,3 +24,6 @@ pub mod EpochVerdicts
 pub mod Items
 pub mod FindsCauses
 pub mod EpochCauses
+pub mod Resumed
+pub mod DecidesRightly
+pub mod LoadedCells

@@ -1,10 +1,2 @@
 //! What a pipeline under a plan does with a source, and when its answer is the source's.
 #![tactic(auto)]
-
-mod law;
-
-pub use law::{
-    a_judgement_tells_all, far_pairs_are_apart, given_plans_fit, judgement_is_the_sources,
-    one_stage_fits, one_stage_is_clean, recovered_ascend, turns_end_by_their_words,
-    unclean_has_a_cause, valid_plans_fit, verdicts_go_on, walks_find_causes,
-};

@@ -1,6 +1,6 @@
 use Rattle.std.proofs.Common.{sym, subst}
 use Rattle.dp_pipeline.specs.steps.Setting.{IsSetting}
-use Rattle.dp_semantics.proofs.GivenFits.{given_fits, given_tabled}
+use Rattle.dp_theorem.proofs.GivenFits.{given_fits, given_tabled}
 use Rattle.dp_pipeline.proofs.pipeline.Pipeline.new.Goals as goal
 
 pub units_of-requires-clause-setting : goal.units_of-requires-clause-setting

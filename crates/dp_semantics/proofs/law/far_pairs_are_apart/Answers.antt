@@ -1,6 +1,0 @@
-use Rattle.dp_semantics.proofs.Fitting.{accepted}
-use Rattle.dp_semantics.proofs.Pairs.{far_never_carried, far_never_within}
-use Rattle.dp_semantics.proofs.law.far_pairs_are_apart.Goals as goal
-
-pub returns : goal.returns
-returns c = let a = accepted c.args.p.now c.args.plan.now c.requires in record { carried = far_never_carried a; within = far_never_within a }

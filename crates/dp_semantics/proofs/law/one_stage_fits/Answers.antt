@@ -1,5 +1,0 @@
-use Rattle.dp_semantics.proofs.OneStageFits.{one_fits, one_tabled}
-use Rattle.dp_semantics.proofs.law.one_stage_fits.Goals as goal
-
-pub returns : goal.returns
-returns c = record { fits = one_fits c.args.p.now c.requires; tabled = one_tabled c.args.p.now c.requires }

@@ -1,0 +1,2 @@
+mod ValidPlans
+mod Laws
