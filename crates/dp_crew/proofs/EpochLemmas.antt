@@ -21,7 +21,8 @@ use Rattle.dp_commit.specs.CommittedState.{CommittedState, CarriesNext, IsOpen, 
 use Rattle.dp_commit.proofs.CountLemmas.{some_closed}
 use Rattle.dp_crew.specs.declared.ends.RegionEnd.TheVariants as region_end
 use Rattle.dp_crew.specs.Applied.{Applied, left_of}
-use Rattle.dp_crew.specs.Output.{Emits, WritesFront, prints_from, to_come}
+use Rattle.dp_edge.specs.Writing.{WritesFront}
+use Rattle.dp_crew.specs.Output.{Emits, prints_from, to_come}
 use Rattle.dp_crew.specs.Progress.{Progress, RegionDone}
 use Rattle.dp_crew.specs.InEpoch.{InEpoch, IsUnclean}
 use Rattle.dp_crew.proofs.StreamLemmas.{emits_ahead, front_within}

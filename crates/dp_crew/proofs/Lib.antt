@@ -1,4 +1,3 @@
-pub mod WriteLemmas
 pub mod StreamLemmas
 pub mod Counting
 pub mod Joins

@@ -7,7 +7,8 @@ use Rattle.dp_meaning.specs.MachineState.{MachineState}
 use Rattle.dp_report.specs.PrintsText.{prints_bytes}
 use Rattle.dp_commit.specs.CommittedState.{CommittedState}
 use Rattle.dp_crew.specs.declared.ends.RegionEnd.{RegionEnd}
-use Rattle.dp_crew.specs.Output.{Emits, WritesFront, to_come}
+use Rattle.dp_edge.specs.Writing.{WritesFront}
+use Rattle.dp_crew.specs.Output.{Emits, to_come}
 use Rattle.dp_crew.specs.Progress.{Progress}
 use Rattle.dp_crew.specs.InEpoch.{left_by_recovery}
 use Rattle.dp_crew.specs.Remade.{Remade, MayPrint, iteration_end}

@@ -9,7 +9,8 @@ use Rattle.dp_meaning.specs.declared.ends.IterEnd.TheVariants.{Going}
 use Rattle.dp_meaning.specs.MachineState.{next_part, part_at}
 use Rattle.dp_meaning.specs.IterationRun.{IterationRun}
 use Rattle.dp_commit.specs.CommittedState.{CommittedState, count_after, RecoversFor}
-use Rattle.dp_crew.specs.Output.{Emits, WritesFront}
+use Rattle.dp_edge.specs.Writing.{WritesFront}
+use Rattle.dp_crew.specs.Output.{Emits}
 use Rattle.dp_crew.specs.Remade.{Remade, MayPrint, nothing, some}
 use Rattle.dp_crew.proofs.Joins.{alone, iteration_join, under_way}
 use Rattle.dp_crew.proofs.StreamLemmas.{emits_ahead, emits_front, emits_on}

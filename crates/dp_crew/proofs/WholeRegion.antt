@@ -11,7 +11,8 @@ use Rattle.dp_meaning.specs.declared.ends.Part.TheVariants.{Region}
 use Rattle.dp_meaning.specs.MachineState.{MachineState, next_part}
 use Rattle.dp_commit.specs.CommittedState.{CommittedState, region_run}
 use Rattle.dp_crew.specs.declared.ends.RegionEnd.{RegionEnd}
-use Rattle.dp_crew.specs.Output.{Emits, WritesFront, to_come}
+use Rattle.dp_edge.specs.Writing.{WritesFront}
+use Rattle.dp_crew.specs.Output.{Emits, to_come}
 use Rattle.dp_crew.specs.RegionRun.{IsPlanned, RegionRan, RegionStart, region_prints}
 use Rattle.dp_crew.specs.Progress.{RegionDone}
 use Rattle.dp_crew.specs.InEpoch.{AtEpoch, ToBegin}

@@ -1,6 +1,5 @@
 pub mod RegionRun
 pub mod Output
-pub mod Fail
 pub mod Applied
 pub mod Remade
 pub mod Progress

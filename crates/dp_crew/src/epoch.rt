@@ -6,11 +6,10 @@ ghost use Rattle.dp_crew.specs.EpochRan.{EpochRan};
 ghost use Rattle.dp_crew.specs.InEpoch.{InEpoch};
 
 use crate::ends::EpochEnd;
-use crate::fail::CrewFail;
 use crate::ledger::Ledger;
 use crate::verdicts::Verdicts;
 use dp_commit::{Tally, Verdict};
-use dp_edge::Sink;
+use dp_edge::{Sink, WriteFail};
 use std::alloc::Global;
 use std::sync::Wait;
 use std::time::Clock;
@@ -24,7 +23,7 @@ pub(crate) fn run_epoch<'p, R: Wait + Clock, V: Verdicts, K: Sink>(
     mut ledger: Ledger<'p>,
     sink: &mut K,
     tally: &mut Tally,
-) -> Result<(Ledger<'p>, EpochEnd), CrewFail>
+) -> Result<(Ledger<'p>, EpochEnd), WriteFail>
     requires sink { K.faults sink.old < 2 ^ 64 - 1 }
     requires epoch { (first : MachineState) × InEpoch (V.key verdicts.old) (V.given verdicts.old) first ledger.committed ledger.report }
     requires room { HasRoom tally.old ledger.committed }
@@ -41,7 +40,7 @@ pub(crate) fn run_epoch<'p, R: Wait + Clock, V: Verdicts, K: Sink>(
                 }
             }
             Verdict::Unclean(cause) => return Ok((ledger, EpochEnd::Unclean(cause))),
-            Verdict::NoMemory => return Err(CrewFail::NoMemory),
+            Verdict::NoMemory => return Err(WriteFail::NoMemory),
         }
     }
 }

@@ -4,15 +4,14 @@ ghost use Rattle.dp_meaning.specs.declared.ends.Part.TheVariants as part;
 ghost use Rattle.dp_meaning.specs.MachineState.{IsAnyRegion, next_part};
 ghost use Rattle.dp_commit.specs.CommittedState.{CarriesNext, IsOpen};
 ghost use Rattle.dp_crew.specs.Applied.{Applied};
-ghost use Rattle.dp_crew.specs.Fail.{FaultsAfter};
+ghost use Rattle.dp_edge.specs.Writing.{FaultsAfter};
 ghost use Rattle.dp_crew.specs.Output.{Streams};
 
-use crate::fail::CrewFail;
 use crate::report::nothing_counted;
 use crate::waiting::{flush, flush_if_many, wait};
 use dp_base::{RegionReport, Row};
 use dp_commit::{Clean, Committed, Tally};
-use dp_edge::Sink;
+use dp_edge::{Sink, WriteFail};
 use dp_meaning::Machine;
 use std::alloc::Global;
 
@@ -50,7 +49,7 @@ impl<'p> Ledger<'p> {
         clean: Clean,
         sink: &mut K,
         tally: &mut Tally,
-    ) -> Result<(), CrewFail>
+    ) -> Result<(), WriteFail>
         requires sink { K.faults sink.old < 2 ^ 64 - 1 }
         requires open { IsOpen self.old.committed }
         requires next { CarriesNext self.old.committed clean }
@@ -74,7 +73,7 @@ impl<'p> Ledger<'p> {
         alloc: Global,
         report: &mut RegionReport,
         sink: &mut K,
-    ) -> Result<Machine<'p>, CrewFail>
+    ) -> Result<Machine<'p>, WriteFail>
         requires sink { K.faults sink.old < 2 ^ 64 - 1 }
         ensures faults { FaultsAfter result (K.faults sink.old) (K.faults sink.new) }
         ensures machine { IfOk result (λ machine. machine ≡ self.entry.committed.machine) }

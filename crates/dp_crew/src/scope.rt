@@ -9,14 +9,13 @@ ghost use Rattle.dp_crew.specs.RegionRun.{IsPlanned};
 
 use crate::committing::commit_in_threads;
 use crate::ends::EpochEnd;
-use crate::fail::CrewFail;
 use crate::ledger::Ledger;
 use crate::making::pipeline_here;
 use crate::size::CrewSize;
 use crate::threads::seats_of;
 use dp_code::StageProgram;
 use dp_commit::Tally;
-use dp_edge::{Gate, Sink};
+use dp_edge::{Gate, Sink, WriteFail};
 use dp_pipeline::Pipeline;
 use dp_plan::Plan;
 use dp_stop::Stop;
@@ -39,7 +38,7 @@ pub(crate) fn run_one_epoch<'p, R: Threads + Wait + Clock + Sync, K: Sink, G: Ga
     sink: &mut K,
     gate: &G,
     tally: &mut Tally,
-) -> Result<(Ledger<'p>, EpochEnd), CrewFail>
+) -> Result<(Ledger<'p>, EpochEnd), WriteFail>
     requires planned { IsPlanned p.now plan.now }
     requires programs { ArePrograms p.now plan.now programs.now }
     requires words { length input.now ≤ 65536 }

@@ -1,12 +1,10 @@
 //! Prints that wait to be written.
 ghost use Rattle.std.specs.Prelude.{◌≡◌, ◌<◌, ◌≤◌, ◌-◌, ◌^◌, ◌++◌, [], length, OnErr, OnOk};
 ghost use Rattle.dp_crew.specs.Output.{Streams};
-ghost use Rattle.dp_crew.specs.Fail.{FaultsAfter};
+ghost use Rattle.dp_edge.specs.Writing.{FaultsAfter};
 
-use crate::fail::CrewFail;
-use crate::writing::write;
 use dp_base::{NoMemory, Row};
-use dp_edge::Sink;
+use dp_edge::{Sink, WriteFail, write};
 use dp_report::prints_text;
 use std::alloc::Global;
 
@@ -29,7 +27,7 @@ pub fn flush_if_many<K: Sink>(
     alloc: Global,
     waiting: &mut Row<i64>,
     sink: &mut K,
-) -> Result<(), CrewFail>
+) -> Result<(), WriteFail>
     requires { K.faults sink.old < 2 ^ 64 - 1 }
     ensures faults { FaultsAfter result (K.faults sink.old) (K.faults sink.new) }
     ensures few { OnOk result (length waiting.new < 4096) }
@@ -43,7 +41,7 @@ pub fn flush_if_many<K: Sink>(
 }
 
 /// Writes all prints that wait.
-pub fn flush<K: Sink>(alloc: Global, waiting: &mut Row<i64>, sink: &mut K) -> Result<(), CrewFail>
+pub fn flush<K: Sink>(alloc: Global, waiting: &mut Row<i64>, sink: &mut K) -> Result<(), WriteFail>
     requires { K.faults sink.old < 2 ^ 64 - 1 }
     ensures faults { FaultsAfter result (K.faults sink.old) (K.faults sink.new) }
     ensures ok { OnOk result (waiting.new ≡ []) }

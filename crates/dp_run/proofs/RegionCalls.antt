@@ -11,7 +11,8 @@ use Rattle.dp_edge.specs.Sink.{appended}
 use Rattle.dp_meaning.specs.declared.ends.Part.TheVariants as part
 use Rattle.dp_meaning.specs.MachineState.{MachineState, part_of}
 use Rattle.dp_crew.specs.declared.ends.RegionEnd.{RegionEnd}
-use Rattle.dp_crew.specs.Output.{Emits, WritesFront}
+use Rattle.dp_edge.specs.Writing.{WritesFront}
+use Rattle.dp_crew.specs.Output.{Emits}
 use Rattle.dp_crew.specs.RegionRun.{IsPlanned, RegionRan, region_run, region_prints}
 use Rattle.dp_run.specs.RunText.{source_run, committed_count}
 use Rattle.dp_run.specs.steps.Stretches.{Between, to_come}

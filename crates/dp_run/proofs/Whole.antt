@@ -12,13 +12,14 @@ use Rattle.dp_meaning.specs.MachineState.{MachineState}
 use Rattle.dp_report.specs.PrintsText.{prints_bytes}
 use Rattle.dp_report.specs.RegionText.{report_lines, regions_bytes}
 use Rattle.dp_report.specs.EndText.{end_bytes}
-use Rattle.dp_crew.specs.Output.{Emits, WritesFront}
+use Rattle.dp_edge.specs.Writing.{WritesFront}
+use Rattle.dp_crew.specs.Output.{Emits}
 use Rattle.dp_run.specs.Given.{AreGiven}
 use Rattle.dp_run.specs.RunText.{source_run, region_reports, final_cells, closing_text, trace_text, committed_in_all}
 use Rattle.dp_run.specs.steps.Stretches.{Behind, to_come, Finished}
 use Rattle.dp_run.proofs.Leading.{behind_start}
 use Rattle.dp_run.proofs.Ending.{IsListed, IsExplained, listed_in, explained_in, silent_in, none_in, reports_append, in_all_append, numbers_behind}
-use Rattle.dp_crew.proofs.StreamLemmas.{appended-append, front_behind, front_more}
+use Rattle.dp_edge.proofs.FrontLemmas.{appended-append, front_behind, front_more}
 
 module _ (p : Program) (plans : List Plan) (input : List ℤ) (fuel : ℕ) (why : Bool) (given : AreGiven p plans) where
   abbrev run : Run

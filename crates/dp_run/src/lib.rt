@@ -7,5 +7,5 @@ mod plain;
 mod program;
 mod stretch;
 
-pub use dp_crew::{CrewFail, CrewSize, Tally, write};
+pub use dp_crew::{CrewSize, Tally};
 pub use program::{RunOptions, run_program};

@@ -1,16 +1,16 @@
 //! The parts of `main`, one after the other.
 ghost use Rattle.std.specs.Prelude.{◌≡◌, ◌<◌, ◌≤◌, ◌-◌, ◌^◌, [], length, IfOk, OnErr};
 ghost use Rattle.dp_report.specs.PrintsText.{prints_bytes};
-ghost use Rattle.dp_crew.specs.Fail.{FaultsAfter};
-ghost use Rattle.dp_crew.specs.Output.{Emits, WritesFront};
+ghost use Rattle.dp_edge.specs.Writing.{FaultsAfter, WritesFront};
+ghost use Rattle.dp_crew.specs.Output.{Emits};
 ghost use Rattle.dp_run.specs.Given.{AreGiven};
 ghost use Rattle.dp_run.specs.steps.Stretches.{Behind, Finished, to_come};
 
 use crate::plain::run_plain;
 use crate::stretch::run_stretch;
 use dp_base::{End, RegionReport, Row};
-use dp_crew::{CrewFail, CrewSize, Tally};
-use dp_edge::{Gate, Sink};
+use dp_crew::{CrewSize, Tally};
+use dp_edge::{Gate, Sink, WriteFail};
 use dp_meaning::Machine;
 use dp_plan::Plan;
 use dp_tree::Program;
@@ -32,7 +32,7 @@ pub(crate) fn run_parts<'p, R: Threads + Wait + Clock + Sync, K: Sink, G: Gate>(
     sink: &mut K,
     gate: &G,
     tally: &mut Tally,
-) -> Result<(Machine<'p>, End), CrewFail>
+) -> Result<(Machine<'p>, End), WriteFail>
     requires given { AreGiven program.now plans.now }
     requires start { Behind program.now input.now machine.fuel 0 machine }
     requires words { length input.now ≤ 65536 }

@@ -3,14 +3,14 @@ ghost use Rattle.std.specs.Prelude.{◌≡◌, ◌<◌, ◌-◌, ◌^◌, ◌++�
 ghost use Rattle.dp_tree.specs.declared.Program.{Program as Tree};
 ghost use Rattle.dp_meaning.specs.declared.ends.Part.TheVariants.{Plain};
 ghost use Rattle.dp_meaning.specs.MachineState.{next_part};
-ghost use Rattle.dp_crew.specs.Fail.{FaultsAfter};
+ghost use Rattle.dp_edge.specs.Writing.{FaultsAfter};
 ghost use Rattle.dp_crew.specs.Output.{Streams};
 ghost use Rattle.dp_run.specs.steps.Stretches.{Behind, Leads, to_come};
 ghost use Rattle.dp_run.specs.steps.Calls.{PartSteps};
 
 use dp_base::{End, Row};
-use dp_crew::{CrewFail, flush, flush_if_many};
-use dp_edge::Sink;
+use dp_crew::{flush, flush_if_many};
+use dp_edge::{Sink, WriteFail};
 use dp_meaning::{Machine, Part, PartEnd};
 use std::alloc::Global;
 
@@ -22,7 +22,7 @@ pub(crate) fn run_plain<'p, K: Sink>(
     alloc: Global,
     machine: &mut Machine<'p>,
     sink: &mut K,
-) -> Result<Option<End>, CrewFail>
+) -> Result<Option<End>, WriteFail>
     requires sink { K.faults sink.old < 2 ^ 64 - 1 }
     ensures faults { FaultsAfter result (K.faults sink.old) (K.faults sink.new) }
     ensures ok { IfOk result (λ end. (p : Tree) (input : List ℤ) (fuel n : ℕ) → Behind p input fuel n machine.old → Leads p input fuel n machine.new end) }
@@ -44,7 +44,7 @@ fn finish_plain<'p, K: Sink>(
     machine: &mut Machine<'p>,
     waiting: &mut Row<i64>,
     sink: &mut K,
-) -> Result<Option<End>, CrewFail>
+) -> Result<Option<End>, WriteFail>
     requires sink { K.faults sink.old < 2 ^ 64 - 1 }
     requires part { next_part machine.old ≡ Plain }
     ensures faults { FaultsAfter result (K.faults sink.old) (K.faults sink.new) }
@@ -67,7 +67,7 @@ fn go_on<'p, K: Sink>(
     machine: &mut Machine<'p>,
     waiting: &mut Row<i64>,
     sink: &mut K,
-) -> Result<PartEnd, CrewFail>
+) -> Result<PartEnd, WriteFail>
     requires sink { K.faults sink.old < 2 ^ 64 - 1 }
     requires part { next_part machine.old ≡ Plain }
     ensures faults { FaultsAfter result (K.faults sink.old) (K.faults sink.new) }

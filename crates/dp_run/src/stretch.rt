@@ -4,16 +4,16 @@ ghost use Rattle.dp_tree.specs.declared.Program.{Program as Tree};
 ghost use Rattle.dp_report.specs.PrintsText.{prints_bytes};
 ghost use Rattle.dp_semantics.specs.Reported.{region_report};
 ghost use Rattle.dp_crew.specs.declared.ends.RegionEnd.TheVariants.{Closed};
-ghost use Rattle.dp_crew.specs.Fail.{FaultsAfter};
+ghost use Rattle.dp_edge.specs.Writing.{FaultsAfter, WritesFront};
 ghost use Rattle.dp_crew.specs.RegionRun.{IsPlanned};
-ghost use Rattle.dp_crew.specs.Output.{Emits, WritesFront};
+ghost use Rattle.dp_crew.specs.Output.{Emits};
 ghost use Rattle.dp_run.specs.RunText.{source_run, committed_count};
 ghost use Rattle.dp_run.specs.steps.Stretches.{AfterRegion, Between, Leads, to_come};
 
 use crate::plain::run_plain;
 use dp_base::{End, RegionReport, Row};
-use dp_crew::{CrewFail, CrewSize, RegionEnd, Tally, nothing_counted, run_region};
-use dp_edge::{Gate, Sink};
+use dp_crew::{CrewSize, RegionEnd, Tally, nothing_counted, run_region};
+use dp_edge::{Gate, Sink, WriteFail};
 use dp_meaning::Machine;
 use dp_plan::Plan;
 use dp_tree::Program;
@@ -35,7 +35,7 @@ pub(crate) fn run_stretch<'p, R: Threads + Wait + Clock + Sync, K: Sink, G: Gate
     sink: &mut K,
     gate: &G,
     tally: &mut Tally,
-) -> Result<(Machine<'p>, Option<End>), CrewFail>
+) -> Result<(Machine<'p>, Option<End>), WriteFail>
     requires planned { IsPlanned program.now plan.now }
     requires between { (n : ℕ) × (plan.now.region ≡ suc n) × Between program.now input.now machine.fuel n machine }
     requires words { length input.now ≤ 65536 }
@@ -65,7 +65,7 @@ fn finish_stretch<'p, K: Sink>(
     machine: Machine<'p>,
     end: RegionEnd,
     sink: &mut K,
-) -> Result<(Machine<'p>, Option<End>), CrewFail>
+) -> Result<(Machine<'p>, Option<End>), WriteFail>
     requires sink { K.faults sink.old < 2 ^ 64 - 1 }
     ensures faults { FaultsAfter result (K.faults sink.old) (K.faults sink.new) }
     ensures ok { IfOk result (λ ran. (p : Tree) (input : List ℤ) (fuel n : ℕ) → AfterRegion p input fuel n machine.entry end → Leads p input fuel n ran.0 ran.1) }

@@ -1,6 +1,6 @@
 -- What was written of a text of which a front was.
 use Rattle.std.proofs.Common.{◌≡◌, sym, ap, ◌∙◌, append_assoc, ℕ, List, ◌++◌, Option, Some, None}
-use Rattle.dp_crew.specs.Output.{WritesFront}
+use Rattle.dp_edge.specs.Writing.{WritesFront}
 
 -- nothing but the text's own bytes stands behind what was told before
 the_rest_of_the_text_completes_it : (text told tells : List ℕ) → WritesFront text (Some told) (Some tells) → (rest : List ℕ) × (told ++ text ≡ tells ++ rest)
