@@ -18,7 +18,7 @@ use Rattle.dp_edge.specs.Sink.{appended}
 use Rattle.dp_edge.specs.Writing.{WritesFront}
 use Rattle.dp_crew.specs.Output.{Emits}
 use Rattle.dp_crew.specs.RegionRun.{region_run, region_prints}
-use Rattle.dp_run.specs.steps.Stretches.{to_come}
+use Rattle.dp_run.specs.Stretches.{to_come}
 use Rattle.dp_run.proofs.RegionsLeft.{on_region}
 use Rattle.dp_run.proofs.Passing.{prints_on}
 use Rattle.dp_meaning.proofs.MovedLemmas.{prints-append}

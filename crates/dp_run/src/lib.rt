@@ -8,4 +8,7 @@ mod program;
 mod stretch;
 
 pub use dp_crew::{CrewSize, Tally};
+pub use parts::run_parts;
+pub use plain::run_plain;
 pub use program::{RunOptions, run_program};
+pub use stretch::run_stretch;

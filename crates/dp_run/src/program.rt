@@ -5,6 +5,7 @@ ghost use Rattle.dp_report.specs.EndText.{end_bytes};
 ghost use Rattle.dp_edge.specs.Writing.{FaultsAfter, WritesFront};
 ghost use Rattle.dp_run.specs.Given.{AreGiven};
 ghost use Rattle.dp_run.specs.RunText.{committed_in_all, source_run, trace_text};
+ghost use Rattle.dp_run.specs.Stretches.{ended_by};
 
 use crate::parts::run_parts;
 use dp_base::{Cells, End, RegionReport, Row};
@@ -62,9 +63,20 @@ pub fn run_program<R: Threads + Wait + Clock + Sync, K: Sink, G: Gate>(
     let (machine, end) = run_parts(
         rt, alloc, program, plans, input, machine, crew, &mut told, sink, gate, tally,
     )?;
+    let end = end_of(end);
     let cells = machine.cells();
     write_end(alloc, program, cells, &told, end, why, sink)?;
     Ok(end)
+}
+
+/// How a run ended that went by all regions of its program, or to this end.
+fn end_of(end: Option<End>) -> End
+    ensures { result ≡ ended_by end }
+{
+    match end {
+        Some(end) => end,
+        None => End::Done,
+    }
 }
 
 /// Writes what follows the prints: the variables, the regions and the end.
