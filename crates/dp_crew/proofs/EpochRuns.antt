@@ -6,15 +6,15 @@ use Rattle.dp_plan.specs.declared.Plan.{Plan}
 use Rattle.dp_report.specs.PrintsText.{prints_bytes}
 use Rattle.dp_meaning.specs.MachineState.{MachineState}
 use Rattle.dp_pipeline.specs.Coming.{Coming}
-use Rattle.dp_crew.specs.declared.ends.EpochEnd.{EpochEnd}
+use Rattle.dp_epoch.specs.declared.ends.EpochEnd.{EpochEnd}
 use Rattle.dp_edge.specs.declared.writing.WriteFail.{WriteFail}
 use Rattle.dp_edge.specs.declared.writing.WriteFail.TheVariants.{Write, NoMemory}
-use Rattle.dp_crew.specs.declared.ledger.Ledger.{Ledger}
-use Rattle.dp_crew.specs.Applied.{HasRoom}
+use Rattle.dp_epoch.specs.declared.ledger.Ledger.{Ledger}
+use Rattle.dp_epoch.specs.Applied.{HasRoom}
 use Rattle.dp_crew.specs.EpochRan.{EpochRan, MayBegin}
 use Rattle.dp_edge.specs.Writing.{FaultsAfter, WritesFront}
-use Rattle.dp_crew.specs.InEpoch.{ToBegin, key_here}
-use Rattle.dp_crew.specs.Output.{to_come}
+use Rattle.dp_epoch.specs.InEpoch.{ToBegin, key_here}
+use Rattle.dp_epoch.specs.Prints.{to_come}
 use Rattle.dp_edge.proofs.FrontLemmas.{front_nothing}
 
 module _ (plan : Plan) (ledger : Ledger) (faults faults_now : ℕ) (told tells : Option (List ℕ)) (tally tally_now : ℕ) where

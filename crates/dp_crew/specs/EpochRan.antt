@@ -3,13 +3,14 @@ use Rattle.std.specs.Prelude.{◌≡◌, ℕ, ◌+◌, ◌-◌, ◌^◌, ◌<◌
 use Rattle.dp_plan.specs.declared.Plan.{Plan}
 use Rattle.dp_semantics.specs.EpochKey.{EpochKey}
 use Rattle.dp_meaning.specs.MachineState.{MachineState}
-use Rattle.dp_crew.specs.declared.ends.EpochEnd.{EpochEnd}
+use Rattle.dp_epoch.specs.declared.ends.EpochEnd.{EpochEnd}
 use Rattle.dp_edge.specs.declared.writing.WriteFail.{WriteFail}
-use Rattle.dp_crew.specs.declared.ledger.Ledger.{Ledger}
-use Rattle.dp_crew.specs.Applied.{HasRoom, left_of}
+use Rattle.dp_epoch.specs.declared.ledger.Ledger.{Ledger}
+use Rattle.dp_epoch.specs.Applied.{HasRoom, left_of}
 use Rattle.dp_edge.specs.Writing.{FaultsAfter}
-use Rattle.dp_crew.specs.InEpoch.{BeginsAt, EpochEnds, ToBegin, left_by_epoch}
-use Rattle.dp_crew.specs.Output.{Streams, to_come}
+use Rattle.dp_epoch.specs.InEpoch.{BeginsAt, EpochEnds, ToBegin, left_by_epoch}
+use Rattle.dp_epoch.specs.Prints.{to_come}
+use Rattle.dp_crew.specs.Output.{Streams}
 
 -- An epoch with these verdicts begins behind the ledger, and one more fault and each verdict that is left can be counted.
 pub record MayBegin (key : EpochKey) (given : ℕ) (ledger : Ledger) (faults tally : ℕ) : Type 0 where

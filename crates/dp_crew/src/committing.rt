@@ -1,14 +1,13 @@
 //! An epoch whose units run in threads, and the caller as its commit unit.
 ghost use Rattle.std.specs.Prelude.{◌≡◌};
 ghost use Rattle.dp_crew.specs.EpochRan.{EpochRan, MayBegin};
-ghost use Rattle.dp_crew.specs.InEpoch.{ToBegin};
+ghost use Rattle.dp_epoch.specs.InEpoch.{ToBegin};
 
-use crate::ends::EpochEnd;
-use crate::ledger::Ledger;
 use crate::started::commit_started;
 use crate::threads::{Slot, Started, end_all, start};
 use dp_commit::Tally;
 use dp_edge::{Gate, Sink, WriteFail};
+use dp_epoch::{EpochEnd, Ledger};
 use dp_pipeline::{Bell, LaneVerdicts, Pause};
 use dp_stop::{Stop, StopSetter};
 use std::alloc::Global;

@@ -5,13 +5,13 @@ ghost use Rattle.dp_meaning.specs.MachineState.{next_part};
 ghost use Rattle.dp_report.specs.PrintsText.{prints_bytes};
 ghost use Rattle.dp_edge.specs.Writing.{FaultsAfter, WritesFront};
 ghost use Rattle.dp_crew.specs.Output.{Emits};
-ghost use Rattle.dp_crew.specs.Remade.{MayPrint, Remade, iteration_end};
+ghost use Rattle.dp_epoch.specs.Remade.{MayPrint, Remade, iteration_end};
 
-use crate::ends::RegionEnd;
 use crate::waiting::flush_if_many;
 use dp_base::Row;
 use dp_commit::Committed;
 use dp_edge::{Sink, WriteFail};
+use dp_epoch::RegionEnd;
 use dp_meaning::IterEnd;
 use std::alloc::Global;
 

@@ -2,15 +2,13 @@
 ghost use Rattle.std.specs.Prelude.{◌≡◌, Err, OnErr};
 ghost use Rattle.dp_edge.specs.declared.writing.WriteFail.TheVariants as stopped;
 ghost use Rattle.dp_crew.specs.EpochRan.{EpochRan, MayBegin};
-ghost use Rattle.dp_crew.specs.InEpoch.{ToBegin};
+ghost use Rattle.dp_epoch.specs.InEpoch.{ToBegin};
 
-use crate::ends::EpochEnd;
 use crate::epoch::run_epoch;
-use crate::ledger::Ledger;
-use crate::verdicts::Verdicts;
 use dp_base::NoMemory;
 use dp_commit::Tally;
 use dp_edge::{Sink, WriteFail};
+use dp_epoch::{EpochEnd, Ledger, Verdicts};
 use std::alloc::Global;
 use std::sync::Wait;
 use std::time::Clock;

@@ -9,7 +9,7 @@ use Rattle.dp_plan.specs.declared.Plan.{Plan}
 use Rattle.dp_plan.specs.Each.{Each}
 use Rattle.dp_plan.specs.GivenPlans.{IsPlan, region_of}
 use Rattle.dp_semantics.specs.Reported.{region_report}
-use Rattle.dp_crew.specs.RegionRun.{IsPlanned}
+use Rattle.dp_epoch.specs.RegionRun.{IsPlanned}
 use Rattle.dp_run.specs.Given.{AreGiven, AreNext}
 use Rattle.dp_run.specs.RunText.{region_reports, committed_count, committed_in_all}
 use Rattle.dp_run.specs.Stretches.{Counted}

@@ -17,7 +17,7 @@ use Rattle.dp_meaning.specs.declared.ends.PartEnd.{PartEnd}
 use Rattle.dp_meaning.specs.declared.ends.PartEnd.TheVariants as part_end
 use Rattle.dp_meaning.specs.MachineState.{MachineState, fuel_left, rest_of_run, part_of, part_at, next_part}
 use Rattle.dp_meaning.specs.PartRun.{PartRun}
-use Rattle.dp_crew.specs.RegionRun.{beyond}
+use Rattle.dp_epoch.specs.RegionRun.{beyond}
 use Rattle.dp_run.specs.RunText.{source_run}
 use Rattle.dp_run.specs.Regions.{regions_left}
 use Rattle.dp_run.specs.Stretches.{Passed, Behind, Between, Over, Leads}

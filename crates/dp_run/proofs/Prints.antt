@@ -17,7 +17,7 @@ use Rattle.dp_meaning.specs.PartRun.{PartRun}
 use Rattle.dp_edge.specs.Sink.{appended}
 use Rattle.dp_edge.specs.Writing.{WritesFront}
 use Rattle.dp_crew.specs.Output.{Emits}
-use Rattle.dp_crew.specs.RegionRun.{region_run, region_prints}
+use Rattle.dp_epoch.specs.RegionRun.{region_run, region_prints}
 use Rattle.dp_run.specs.Stretches.{to_come}
 use Rattle.dp_run.proofs.RegionsLeft.{on_region}
 use Rattle.dp_run.proofs.Passing.{prints_on}

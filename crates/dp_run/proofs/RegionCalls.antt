@@ -11,10 +11,10 @@ use Rattle.dp_report.specs.PrintsText.{prints_bytes}
 use Rattle.dp_edge.specs.Sink.{appended}
 use Rattle.dp_meaning.specs.declared.ends.Part.TheVariants as part
 use Rattle.dp_meaning.specs.MachineState.{MachineState, part_of}
-use Rattle.dp_crew.specs.declared.ends.RegionEnd.{RegionEnd}
+use Rattle.dp_epoch.specs.declared.ends.RegionEnd.{RegionEnd}
 use Rattle.dp_edge.specs.Writing.{WritesFront}
 use Rattle.dp_crew.specs.Output.{Emits}
-use Rattle.dp_crew.specs.RegionRun.{IsPlanned, RegionRan, region_run, region_prints}
+use Rattle.dp_epoch.specs.RegionRun.{IsPlanned, RegionRan, region_run, region_prints}
 use Rattle.dp_run.specs.RunText.{committed_count}
 use Rattle.dp_run.specs.Stretches.{Between, to_come}
 use Rattle.dp_run.proofs.Prints.{region_emits, region_front}

@@ -10,9 +10,9 @@ use Rattle.dp_tree.specs.IterationLaws.{events_of_first}
 use Rattle.dp_plan.specs.declared.Plan.{Plan}
 use Rattle.dp_meaning.specs.declared.ends.Part.TheVariants as part
 use Rattle.dp_meaning.specs.MachineState.{MachineState, fuel_left, rest_of_run, part_of}
-use Rattle.dp_crew.specs.declared.ends.RegionEnd.{RegionEnd}
-use Rattle.dp_crew.specs.declared.ends.RegionEnd.TheVariants.{Closed, Fault, Fuel}
-use Rattle.dp_crew.specs.RegionRun.{IsPlanned, RegionStart, RegionRan, RegionMade, RegionStops, beyond, region_run}
+use Rattle.dp_epoch.specs.declared.ends.RegionEnd.{RegionEnd}
+use Rattle.dp_epoch.specs.declared.ends.RegionEnd.TheVariants.{Closed, Fault, Fuel}
+use Rattle.dp_epoch.specs.RegionRun.{IsPlanned, RegionStart, RegionRan, RegionMade, RegionStops, beyond, region_run}
 use Rattle.dp_run.specs.Regions.{regions_left}
 use Rattle.dp_run.specs.Stretches.{Between, Over, AfterRegion}
 use Rattle.dp_run.proofs.RegionsLeft.{left_at_region}

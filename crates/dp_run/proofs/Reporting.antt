@@ -14,7 +14,7 @@ use Rattle.dp_semantics.specs.Shift.{SameRegion}
 use Rattle.dp_semantics.proofs.Shift.{region_runs_alone}
 use Rattle.dp_meaning.specs.declared.ends.Part.TheVariants as part
 use Rattle.dp_meaning.specs.MachineState.{MachineState, fuel_left, rest_of_run, part_of}
-use Rattle.dp_crew.specs.RegionRun.{beyond, region_run}
+use Rattle.dp_epoch.specs.RegionRun.{beyond, region_run}
 use Rattle.dp_run.specs.RunText.{committed_count}
 use Rattle.dp_run.specs.Stretches.{Between, RunsFrom}
 use Rattle.dp_run.proofs.Lists.{map_same}

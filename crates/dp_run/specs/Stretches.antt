@@ -13,9 +13,9 @@ use Rattle.dp_plan.specs.declared.Plan.{Plan}
 use Rattle.dp_meaning.specs.declared.ends.Part.TheVariants.{Plain}
 use Rattle.dp_meaning.specs.Continues.{Continues}
 use Rattle.dp_meaning.specs.MachineState.{MachineState, next_part, rest_of_run}
-use Rattle.dp_crew.specs.declared.ends.RegionEnd.{RegionEnd}
-use Rattle.dp_crew.specs.declared.ends.RegionEnd.TheVariants.{Closed, Fault, Fuel}
-use Rattle.dp_crew.specs.RegionRun.{beyond}
+use Rattle.dp_epoch.specs.declared.ends.RegionEnd.{RegionEnd}
+use Rattle.dp_epoch.specs.declared.ends.RegionEnd.TheVariants.{Closed, Fault, Fuel}
+use Rattle.dp_epoch.specs.RegionRun.{beyond}
 use Rattle.dp_run.specs.Given.{AreNext}
 use Rattle.dp_run.specs.RunText.{region_reports, committed_in_all}
 use Rattle.dp_run.specs.Regions.{regions_left}

@@ -9,8 +9,9 @@ ghost use Rattle.dp_run.specs.Stretches.{ended_by};
 
 use crate::parts::run_parts;
 use dp_base::{Cells, End, RegionReport, Row};
-use dp_crew::{CrewSize, Tally};
+use dp_commit::Tally;
 use dp_edge::{Gate, Sink, WriteFail, write};
+use dp_epoch::CrewSize;
 use dp_meaning::Machine;
 use dp_plan::Plan;
 use dp_report::end_text;
