@@ -1,6 +1,5 @@
 -- What is written while an iteration is executed again.
-use Rattle.std.proofs.Common.{◌≡◌, refl, sym, ap, ◌∙◌, subst, append_assoc, ℕ, List, ◌++◌, Option, Some, None, ℤ}
-use Rattle.std.proofs.lemmas.List.{append-nil}
+use Rattle.std.proofs.Common.{sym, ap, ◌∙◌, subst, append_assoc, ℕ, List, ◌++◌, Option, ℤ}
 use Rattle.dp_base.specs.declared.RegionReport.{RegionReport}
 use Rattle.dp_plan.specs.declared.Plan.{Plan}
 use Rattle.dp_meaning.specs.MachineState.{MachineState}

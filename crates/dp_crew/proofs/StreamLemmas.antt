@@ -1,5 +1,5 @@
 -- Prints that are written bit by bit.
-use Rattle.std.proofs.Common.{◌≡◌, refl, sym, ap, ◌∙◌, subst, ℕ, List, [], ◌++◌, append_assoc, ℤ, Option, Some, None, Result, Ok, Err}
+use Rattle.std.proofs.Common.{◌≡◌, refl, sym, ap, ◌∙◌, subst, ℕ, List, [], ◌++◌, append_assoc, ℤ, Option, Result, Ok, Err}
 use Rattle.std.proofs.lemmas.Grind.{flat_map-append}
 use Rattle.dp_edge.specs.Sink.{appended}
 use Rattle.dp_report.specs.PrintsText.{print_line, prints_bytes}

@@ -1,5 +1,5 @@
 -- What waits while an iteration is executed again, and what is to come behind it.
-use Rattle.std.proofs.Common.{◌≡◌, refl, sym, ap, ◌∙◌, append_assoc, ℕ, List, ◌++◌, Option, Some, None, ℤ}
+use Rattle.std.proofs.Common.{◌≡◌, refl, sym, ap, ◌∙◌, append_assoc, List, ◌++◌, Option, Some, None, ℤ}
 use Rattle.std.proofs.lemmas.List.{append-nil}
 use Rattle.dp_base.specs.declared.RegionReport.{RegionReport}
 use Rattle.dp_plan.specs.declared.Plan.{Plan}

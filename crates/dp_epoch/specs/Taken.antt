@@ -1,5 +1,5 @@
 -- One verdict of an epoch, and what it led to.
-use Rattle.std.specs.Prelude.{◌≡◌, ℕ, ◌+◌, ◌-◌, ◌^◌, ◌<◌, ◌≤◌, List, [], ◌++◌, ℤ}
+use Rattle.std.specs.Prelude.{◌≡◌, ℕ, ◌+◌, ◌<◌, ◌≤◌, List, [], ◌++◌, ℤ}
 use Rattle.dp_base.specs.declared.Cause.{Cause}
 use Rattle.dp_base.specs.declared.RegionReport.{RegionReport}
 use Rattle.dp_plan.specs.declared.Plan.{Plan}

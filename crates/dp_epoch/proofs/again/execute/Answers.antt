@@ -1,5 +1,5 @@
 -- Call by call: what was made and printed so far.
-use Rattle.std.proofs.Common.{◌≡◌, refl, subst, ◌++◌, append-nil, sym, inl, arith}
+use Rattle.std.proofs.Common.{subst, ◌++◌, arith}
 use Rattle.dp_tree.specs.Trace.{prints}
 use Rattle.dp_meaning.specs.declared.ends.IterEnd.{IterEnd}
 use Rattle.dp_meaning.specs.declared.ends.IterEnd.TheVariants as iter_end

@@ -1,5 +1,5 @@
 -- The iteration is counted where it was begun.
-use Rattle.std.proofs.Common.{◌∙◌, sym, ap, refl, ℕ, ◌+◌, ◌<◌, ◌≤◌, List, [], ◌∷◌, ◌++◌, rules, arith}
+use Rattle.std.proofs.Common.{◌∙◌, sym, ap, refl, ℕ, ◌+◌, ◌<◌, ◌≤◌, [], ◌∷◌, ◌++◌, rules, arith}
 use Rattle.dp_base.specs.declared.RegionReport.{RegionReport}
 use Rattle.dp_semantics.specs.Recovery.{is_recovered}
 use Rattle.dp_semantics.specs.Reported.{report_of}
