@@ -6,20 +6,20 @@ use Rattle.dp_plan.specs.declared.Plan.{Plan}
 use Rattle.dp_report.specs.PrintsText.{prints_bytes}
 use Rattle.dp_meaning.specs.MachineState.{MachineState}
 use Rattle.dp_pipeline.specs.Coming.{Coming}
-use Rattle.dp_crew.specs.declared.ends.EpochEnd.{EpochEnd}
-use Rattle.dp_crew.specs.declared.fail.CrewFail.{CrewFail}
-use Rattle.dp_crew.specs.declared.fail.CrewFail.TheVariants.{Write, NoMemory}
-use Rattle.dp_crew.specs.declared.ledger.Ledger.{Ledger}
-use Rattle.dp_crew.specs.Applied.{HasRoom}
+use Rattle.dp_epoch.specs.declared.ends.EpochEnd.{EpochEnd}
+use Rattle.dp_edge.specs.declared.writing.WriteFail.{WriteFail}
+use Rattle.dp_edge.specs.declared.writing.WriteFail.TheVariants.{Write, NoMemory}
+use Rattle.dp_epoch.specs.declared.ledger.Ledger.{Ledger}
+use Rattle.dp_epoch.specs.Applied.{HasRoom}
 use Rattle.dp_crew.specs.EpochRan.{EpochRan, MayBegin}
-use Rattle.dp_crew.specs.Fail.{FaultsAfter}
-use Rattle.dp_crew.specs.InEpoch.{ToBegin, key_here}
-use Rattle.dp_crew.specs.Output.{WritesFront, to_come}
-use Rattle.dp_crew.proofs.WriteLemmas.{front_nothing}
+use Rattle.dp_edge.specs.Writing.{FaultsAfter, WritesFront}
+use Rattle.dp_epoch.specs.InEpoch.{ToBegin, key_here}
+use Rattle.dp_epoch.specs.Prints.{to_come}
+use Rattle.dp_edge.proofs.FrontLemmas.{front_nothing}
 
 module _ (plan : Plan) (ledger : Ledger) (faults faults_now : ℕ) (told tells : Option (List ℕ)) (tally tally_now : ℕ) where
   -- What holds in each run of which the one holds, holds in each of which the other does.
-  pub ran_for : (begun others : MachineState → Type 0) (r : Result (Ledger × EpochEnd) CrewFail) → ((first : MachineState) → others first → begun first) → EpochRan begun plan ledger r faults faults_now told tells tally tally_now →
+  pub ran_for : (begun others : MachineState → Type 0) (r : Result (Ledger × EpochEnd) WriteFail) → ((first : MachineState) → others first → begun first) → EpochRan begun plan ledger r faults faults_now told tells tally tally_now →
       EpochRan others plan ledger r faults faults_now told tells tally tally_now
   ran_for begun others (Ok x) gives ran = record {
     faults_are = ran.faults_are;
@@ -33,22 +33,22 @@ module _ (plan : Plan) (ledger : Ledger) (faults faults_now : ℕ) (told tells :
   ran_for begun others (Err fail) gives ran = record { faults_are = ran.faults_are; ends = tt; streams = λ first b. ran.streams first (gives first b); report = tt; counted = tt; room = tt; left = tt }
 
   -- Something stopped it, and this was written.
-  pub stopped : (begun : MachineState → Type 0) (r : Result (Ledger × EpochEnd) CrewFail) → IsErr r → FaultsAfter r faults faults_now →
+  pub stopped : (begun : MachineState → Type 0) (r : Result (Ledger × EpochEnd) WriteFail) → IsErr r → FaultsAfter r faults faults_now →
       ((first : MachineState) → begun first → WritesFront (prints_bytes (to_come plan first ledger.waiting ledger.committed.count)) told tells) → EpochRan begun plan ledger r faults faults_now told tells tally tally_now
   stopped begun (Ok x) is failed written = absurd (cc)
   stopped begun (Err fail) is failed written = record { faults_are = failed; ends = tt; streams = written; report = tt; counted = tt; room = tt; left = tt }
 
 -- What fails hands on why, and the sink's count of faults with it.
-pub failed_so : {X : Type 0} (r : Result X CrewFail) (fail : CrewFail) (old mid now : ℕ) → IsErrAnd r (λ (e : CrewFail). e ≡ fail) → FaultsAfter {X = X} (Err fail) mid now → mid ≡ old → FaultsAfter r old now
+pub failed_so : {X : Type 0} (r : Result X WriteFail) (fail : WriteFail) (old mid now : ℕ) → IsErrAnd r (λ (e : WriteFail). e ≡ fail) → FaultsAfter {X = X} (Err fail) mid now → mid ≡ old → FaultsAfter r old now
 failed_so {X = X} (Ok x) fail old mid now is f e = absurd is
-failed_so {X = X} (Err why) fail old mid now is f e = subst (λ (y : CrewFail). FaultsAfter {X = X} (Err y) old now) (sym is) (from fail f)
+failed_so {X = X} (Err why) fail old mid now is f e = subst (λ (y : WriteFail). FaultsAfter {X = X} (Err y) old now) (sym is) (from fail f)
   where
-    from : (y : CrewFail) → FaultsAfter {X = X} (Err y) mid now → FaultsAfter {X = X} (Err y) old now
+    from : (y : WriteFail) → FaultsAfter {X = X} (Err y) mid now → FaultsAfter {X = X} (Err y) old now
     from Write h = subst (λ (n : ℕ). n < now) e h
     from NoMemory h = h ∙ e
 
 -- Memory was wanting before anything was done.
-pub unbegun : (begun : MachineState → Type 0) (plan : Plan) (ledger : Ledger) (r : Result (Ledger × EpochEnd) CrewFail) (faults : ℕ) (told : Option (List ℕ)) (tally : ℕ) → IsErrAnd r (λ (e : CrewFail). e ≡ NoMemory) → EpochRan begun plan ledger r faults faults told told tally tally
+pub unbegun : (begun : MachineState → Type 0) (plan : Plan) (ledger : Ledger) (r : Result (Ledger × EpochEnd) WriteFail) (faults : ℕ) (told : Option (List ℕ)) (tally : ℕ) → IsErrAnd r (λ (e : WriteFail). e ≡ NoMemory) → EpochRan begun plan ledger r faults faults told told tally tally
 unbegun begun plan ledger (Ok x) faults told tally is = absurd is
 unbegun begun plan ledger (Err fail) faults told tally is = record {
   faults_are = failed_so {X = Ledger × EpochEnd} (Err fail) NoMemory faults faults faults is refl refl;

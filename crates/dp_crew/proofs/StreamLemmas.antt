@@ -1,32 +1,15 @@
 -- Prints that are written bit by bit.
-use Rattle.std.proofs.Common.{◌≡◌, refl, sym, ap, ◌∙◌, subst, ℕ, List, [], ◌++◌, append_assoc, ℤ, Option, Some, None, Result, Ok, Err}
+use Rattle.std.proofs.Common.{◌≡◌, refl, sym, ap, ◌∙◌, subst, ℕ, List, [], ◌++◌, append_assoc, ℤ, Option, Result, Ok, Err}
 use Rattle.std.proofs.lemmas.Grind.{flat_map-append}
 use Rattle.dp_edge.specs.Sink.{appended}
 use Rattle.dp_report.specs.PrintsText.{print_line, prints_bytes}
-use Rattle.dp_crew.specs.Output.{Emits, WritesFront, Streams}
+use Rattle.dp_edge.specs.Writing.{WritesFront}
+use Rattle.dp_crew.specs.Output.{Emits, Streams}
 use Rattle.std.specs.Result.{IsErr}
-use Rattle.dp_crew.proofs.WriteLemmas.{appended-nil}
-use Rattle.dp_crew.specs.declared.fail.CrewFail.{CrewFail}
-
-pub appended-append : (a b : List ℕ) (told : Option (List ℕ)) → appended b (appended a told) ≡ appended (a ++ b) told
-appended-append a b None = refl
-appended-append a b (Some written) = ap Some (append_assoc written a b)
+use Rattle.dp_edge.proofs.FrontLemmas.{appended-append, appended-nil, front_behind, front_more}
 
 pub prints-split : (a b : List ℤ) → prints_bytes (a ++ b) ≡ prints_bytes a ++ prints_bytes b
 prints-split a b = flat_map-append print_line a b
-
--- a front of what follows a text that was written
-pub front_behind : (text a b : List ℕ) (told mid tells : Option (List ℕ)) → text ≡ a ++ b → mid ≡ appended a told → WritesFront b mid tells → WritesFront text told tells
-front_behind text a b told mid tells e m w = record {
-  front = a ++ w.front;
-  rest = w.rest;
-  splits = e ∙ ap (λ (x : List ℕ). a ++ x) w.splits ∙ sym (append_assoc a w.front w.rest);
-  sink = w.sink ∙ ap (appended w.front) m ∙ appended-append a w.front told;
-}
-
--- a front of a text is one of each longer text
-pub front_more : (a b : List ℕ) (told tells : Option (List ℕ)) → WritesFront a told tells → WritesFront (a ++ b) told tells
-front_more a b told tells w = record { front = w.front; rest = w.rest ++ b; splits = ap (λ (x : List ℕ). x ++ b) w.splits ∙ append_assoc w.front w.rest b; sink = w.sink }
 
 -- first these, then those
 pub emits_on : (a b d : List ℤ) (told mid tells : Option (List ℕ)) → Emits a b told mid → Emits b d mid tells → Emits a d told tells
@@ -61,7 +44,7 @@ pub front_within : (a b : List ℤ) (told tells : Option (List ℕ)) → ((more 
 front_within a b told tells h w = subst (λ (all : List ℤ). WritesFront (prints_bytes all) told tells) (sym h.1) (front_ahead a h.0 told tells w)
 
 -- Something stopped, and this was written.
-pub streams_stopped : {X : Type 0} (r : Result X CrewFail) (prints : List ℤ) (left : X → List ℤ) (told tells : Option (List ℕ)) → IsErr r → WritesFront (prints_bytes prints) told tells → Streams r prints left told tells
+pub streams_stopped : {X E : Type 0} (r : Result X E) (prints : List ℤ) (left : X → List ℤ) (told tells : Option (List ℕ)) → IsErr r → WritesFront (prints_bytes prints) told tells → Streams r prints left told tells
 streams_stopped (Ok x) prints left told tells h w = absurd (cc)
 streams_stopped (Err stop) prints left told tells h w = w
 

@@ -3,13 +3,14 @@ use Rattle.std.specs.Prelude.{◌≡◌, ℕ, ◌+◌, ◌-◌, ◌^◌, ◌<◌
 use Rattle.dp_plan.specs.declared.Plan.{Plan}
 use Rattle.dp_semantics.specs.EpochKey.{EpochKey}
 use Rattle.dp_meaning.specs.MachineState.{MachineState}
-use Rattle.dp_crew.specs.declared.ends.EpochEnd.{EpochEnd}
-use Rattle.dp_crew.specs.declared.fail.CrewFail.{CrewFail}
-use Rattle.dp_crew.specs.declared.ledger.Ledger.{Ledger}
-use Rattle.dp_crew.specs.Applied.{HasRoom, left_of}
-use Rattle.dp_crew.specs.Fail.{FaultsAfter}
-use Rattle.dp_crew.specs.InEpoch.{BeginsAt, EpochEnds, ToBegin, left_by_epoch}
-use Rattle.dp_crew.specs.Output.{Streams, to_come}
+use Rattle.dp_epoch.specs.declared.ends.EpochEnd.{EpochEnd}
+use Rattle.dp_edge.specs.declared.writing.WriteFail.{WriteFail}
+use Rattle.dp_epoch.specs.declared.ledger.Ledger.{Ledger}
+use Rattle.dp_epoch.specs.Applied.{HasRoom, left_of}
+use Rattle.dp_edge.specs.Writing.{FaultsAfter}
+use Rattle.dp_epoch.specs.InEpoch.{BeginsAt, EpochEnds, ToBegin, left_by_epoch}
+use Rattle.dp_epoch.specs.Prints.{to_come}
+use Rattle.dp_crew.specs.Output.{Streams}
 
 -- An epoch with these verdicts begins behind the ledger, and one more fault and each verdict that is left can be counted.
 pub record MayBegin (key : EpochKey) (given : ℕ) (ledger : Ledger) (faults tally : ℕ) : Type 0 where
@@ -20,7 +21,7 @@ pub record MayBegin (key : EpochKey) (given : ℕ) (ledger : Ledger) (faults tal
   pub room : HasRoom tally ledger.committed
 
 -- What an epoch did that this ledger was handed to, in each run of which `begun` holds: how it ended, what was written, what is reported, and what is counted.
-pub record EpochRan (begun : MachineState → Type 0) (plan : Plan) (ledger : Ledger) (result : Result (Ledger × EpochEnd) CrewFail) (faults faults_now : ℕ) (told tells : Option (List ℕ)) (tally tally_now : ℕ) : Type 0 where
+pub record EpochRan (begun : MachineState → Type 0) (plan : Plan) (ledger : Ledger) (result : Result (Ledger × EpochEnd) WriteFail) (faults faults_now : ℕ) (told tells : Option (List ℕ)) (tally tally_now : ℕ) : Type 0 where
   pub faults_are : FaultsAfter result faults faults_now
   pub ends : IfOk result (λ (r : Ledger × EpochEnd). (first : MachineState) → begun first → EpochEnds plan first r.0.committed r.0.report r.1)
   pub streams : (first : MachineState) → begun first → Streams result (to_come plan first ledger.waiting ledger.committed.count) (λ (r : Ledger × EpochEnd). left_by_epoch plan first r.0.waiting r.0.committed.count r.1) told tells

@@ -1,8 +1,2 @@
-pub mod RegionRun
 pub mod Output
-pub mod Fail
-pub mod Applied
-pub mod Remade
-pub mod Progress
-pub mod InEpoch
 pub mod EpochRan

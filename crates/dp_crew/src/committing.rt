@@ -1,15 +1,13 @@
 //! An epoch whose units run in threads, and the caller as its commit unit.
 ghost use Rattle.std.specs.Prelude.{◌≡◌};
 ghost use Rattle.dp_crew.specs.EpochRan.{EpochRan, MayBegin};
-ghost use Rattle.dp_crew.specs.InEpoch.{ToBegin};
+ghost use Rattle.dp_epoch.specs.InEpoch.{ToBegin};
 
-use crate::ends::EpochEnd;
-use crate::fail::CrewFail;
-use crate::ledger::Ledger;
 use crate::started::commit_started;
 use crate::threads::{Slot, Started, end_all, start};
 use dp_commit::Tally;
-use dp_edge::{Gate, Sink};
+use dp_edge::{Gate, Sink, WriteFail};
+use dp_epoch::{EpochEnd, Ledger};
 use dp_pipeline::{Bell, LaneVerdicts, Pause};
 use dp_stop::{Stop, StopSetter};
 use std::alloc::Global;
@@ -33,7 +31,7 @@ pub(crate) fn commit_in_threads<'p, 'u, R: Threads + Wait + Clock + Sync, K: Sin
     sink: &mut K,
     gate: &G,
     tally: &mut Tally,
-) -> Result<(Ledger<'p>, EpochEnd), CrewFail>
+) -> Result<(Ledger<'p>, EpochEnd), WriteFail>
     requires setter { setter.flag ≡ stop.now }
     requires begins { MayBegin verdicts.key verdicts.given ledger (K.faults sink.old) tally.old }
     ensures ran { EpochRan (λ first. ToBegin verdicts.entry.key.program verdicts.entry.key.plan verdicts.entry.key.input first ledger.entry.committed ledger.entry.report) verdicts.entry.key.plan ledger.entry result (K.faults sink.old) (K.faults sink.new) (K.written sink.old) (K.written sink.new) tally.old tally.new }
@@ -43,7 +41,11 @@ pub(crate) fn commit_in_threads<'p, 'u, R: Threads + Wait + Clock + Sync, K: Sin
     let (sink_back, tally_back, end) = thread::scope(
         thread::scope_env(),
         rt,
-        move |scope| -> (&mut K, &mut Tally, Result<(Ledger<'_>, EpochEnd), CrewFail>)
+        move |scope| -> (
+            &mut K,
+            &mut Tally,
+            Result<(Ledger<'_>, EpochEnd), WriteFail>,
+        )
             requires begins { (setter.flag ≡ stop.now) × MayBegin verdicts.key verdicts.given ledger (K.faults lent_sink.now) lent_tally.now }
             ensures sink { result.0.ghost_name ≡ lent_sink.entry.ghost_name }
             ensures tallies { result.1.ghost_name ≡ lent_tally.entry.ghost_name }

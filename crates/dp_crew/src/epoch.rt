@@ -1,16 +1,14 @@
 //! One epoch: verdicts are taken, and clean iterations are committed in order.
 ghost use Rattle.std.specs.Prelude.{◌≡◌, ◌<◌, ◌-◌, ◌^◌};
 ghost use Rattle.dp_meaning.specs.MachineState.{MachineState};
-ghost use Rattle.dp_crew.specs.Applied.{HasRoom};
+ghost use Rattle.dp_epoch.specs.Applied.{HasRoom};
 ghost use Rattle.dp_crew.specs.EpochRan.{EpochRan};
-ghost use Rattle.dp_crew.specs.InEpoch.{InEpoch};
+ghost use Rattle.dp_epoch.specs.InEpoch.{InEpoch};
 
-use crate::ends::EpochEnd;
-use crate::fail::CrewFail;
-use crate::ledger::Ledger;
-use crate::verdicts::Verdicts;
-use dp_commit::{Tally, Verdict};
-use dp_edge::Sink;
+use crate::waiting::flush_if_many;
+use dp_commit::Tally;
+use dp_edge::{Sink, WriteFail};
+use dp_epoch::{EpochEnd, Ledger, Taken, Verdicts, take};
 use std::alloc::Global;
 use std::sync::Wait;
 use std::time::Clock;
@@ -24,7 +22,7 @@ pub(crate) fn run_epoch<'p, R: Wait + Clock, V: Verdicts, K: Sink>(
     mut ledger: Ledger<'p>,
     sink: &mut K,
     tally: &mut Tally,
-) -> Result<(Ledger<'p>, EpochEnd), CrewFail>
+) -> Result<(Ledger<'p>, EpochEnd), WriteFail>
     requires sink { K.faults sink.old < 2 ^ 64 - 1 }
     requires epoch { (first : MachineState) × InEpoch (V.key verdicts.old) (V.given verdicts.old) first ledger.committed ledger.report }
     requires room { HasRoom tally.old ledger.committed }
@@ -32,16 +30,12 @@ pub(crate) fn run_epoch<'p, R: Wait + Clock, V: Verdicts, K: Sink>(
     ensures key { V.key verdicts.new ≡ V.key verdicts.old }
 {
     'verdicts: loop {
-        match verdicts.next(rt) {
-            Verdict::Clean(clean) => {
-                let closing = clean.closing();
-                ledger.commit(alloc, clean, sink, tally)?;
-                if closing {
-                    return Ok((ledger, EpochEnd::Closed));
-                }
-            }
-            Verdict::Unclean(cause) => return Ok((ledger, EpochEnd::Unclean(cause))),
-            Verdict::NoMemory => return Err(CrewFail::NoMemory),
+        let taken = take(rt, verdicts, &mut ledger, tally)?;
+        flush_if_many(alloc, &mut ledger.waiting, sink)?;
+        match taken {
+            Taken::Committed => {}
+            Taken::Closed => return Ok((ledger, EpochEnd::Closed)),
+            Taken::Unclean(cause) => return Ok((ledger, EpochEnd::Unclean(cause))),
         }
     }
 }

@@ -3,24 +3,21 @@ ghost use Rattle.std.specs.Prelude.{◌≡◌, ◌<◌, ◌≤◌, ◌+◌, ◌-
 ghost use Rattle.dp_plan.specs.declared.Plan.{Plan};
 ghost use Rattle.dp_meaning.specs.MachineState.{MachineState};
 ghost use Rattle.dp_pipeline.specs.Programs.{ArePrograms};
-ghost use Rattle.dp_crew.specs.Applied.{HasRoom, left_of};
-ghost use Rattle.dp_crew.specs.Fail.{FaultsAfter};
-ghost use Rattle.dp_crew.specs.InEpoch.{AfterRecovery, EpochEnds, IsUnclean, ToBegin, left_by_epoch, left_by_recovery};
-ghost use Rattle.dp_crew.specs.Output.{Streams, to_come};
-ghost use Rattle.dp_crew.specs.Progress.{RegionDone};
-ghost use Rattle.dp_crew.specs.RegionRun.{IsPlanned};
+ghost use Rattle.dp_epoch.specs.Applied.{HasRoom, left_of};
+ghost use Rattle.dp_edge.specs.Writing.{FaultsAfter};
+ghost use Rattle.dp_epoch.specs.InEpoch.{AfterRecovery, EpochEnds, IsUnclean, ToBegin, left_by_epoch, left_by_recovery};
+ghost use Rattle.dp_epoch.specs.Prints.{to_come};
+ghost use Rattle.dp_crew.specs.Output.{Streams};
+ghost use Rattle.dp_epoch.specs.Progress.{RegionDone};
+ghost use Rattle.dp_epoch.specs.RegionRun.{IsPlanned};
 
-use crate::ends::{EpochEnd, RegionEnd};
-use crate::fail::CrewFail;
-use crate::ledger::Ledger;
 use crate::recover::recover_to_end;
-use crate::report::count_recovered;
 use crate::scope::run_one_epoch;
-use crate::size::CrewSize;
 use dp_base::{Cause, RegionReport, Row};
 use dp_code::StageProgram;
 use dp_commit::{Committed, Tally};
-use dp_edge::{Gate, Sink};
+use dp_edge::{Gate, Sink, WriteFail};
+use dp_epoch::{CrewSize, EpochEnd, Ledger, RegionEnd, count_recovered};
 use dp_plan::Plan;
 use dp_tree::Program;
 use std::alloc::Global;
@@ -41,7 +38,7 @@ pub(crate) fn run_epochs<'p, R: Threads + Wait + Clock + Sync, K: Sink, G: Gate>
     sink: &mut K,
     gate: &G,
     tally: &mut Tally,
-) -> Result<(Ledger<'p>, RegionEnd), CrewFail>
+) -> Result<(Ledger<'p>, RegionEnd), WriteFail>
     requires planned { IsPlanned p.now plan.now }
     requires programs { ArePrograms p.now plan.now programs.now }
     requires words { length input.now ≤ 65536 }
@@ -74,7 +71,7 @@ fn recover<'p, K: Sink>(
     ledger: Ledger<'p>,
     end: EpochEnd,
     sink: &mut K,
-) -> Result<(Ledger<'p>, Option<RegionEnd>), CrewFail>
+) -> Result<(Ledger<'p>, Option<RegionEnd>), WriteFail>
     requires sink { K.faults sink.old < 2 ^ 64 - 1 }
     requires ended { (plan : Plan) × (first : MachineState) × EpochEnds plan first ledger.committed ledger.report end }
     ensures faults { FaultsAfter result (K.faults sink.old) (K.faults sink.new) }
@@ -96,7 +93,7 @@ fn recover_unclean<'p, K: Sink>(
     ledger: Ledger<'p>,
     cause: Cause,
     sink: &mut K,
-) -> Result<(Ledger<'p>, Option<RegionEnd>), CrewFail>
+) -> Result<(Ledger<'p>, Option<RegionEnd>), WriteFail>
     requires sink { K.faults sink.old < 2 ^ 64 - 1 }
     requires unclean { (plan : Plan) × (first : MachineState) × IsUnclean plan first ledger.committed ledger.report cause }
     ensures faults { FaultsAfter result (K.faults sink.old) (K.faults sink.new) }
@@ -139,7 +136,7 @@ pub(crate) fn recover_iteration<'p, K: Sink>(
     cause: Cause,
     waiting: &mut Row<i64>,
     sink: &mut K,
-) -> Result<Option<RegionEnd>, CrewFail>
+) -> Result<Option<RegionEnd>, WriteFail>
     requires sink { K.faults sink.old < 2 ^ 64 - 1 }
     requires unclean { (plan : Plan) × (first : MachineState) × IsUnclean plan first committed.old report.old cause }
     ensures faults { FaultsAfter result (K.faults sink.old) (K.faults sink.new) }

@@ -1,30 +1,16 @@
-//! A region from start to end: its epochs, one after the other, and its report.
+//! A region from start to end: its epochs, one after the other, in threads, and its prints written.
 #![tactic(auto)]
 
 mod committing;
-mod ends;
 mod epoch;
 mod epochs;
-mod fail;
-mod ledger;
-mod making;
 mod recover;
 mod region;
-mod report;
 mod scope;
-mod size;
+mod settling;
 mod started;
 mod threads;
-mod verdicts;
 mod waiting;
-mod writing;
 
-pub use dp_commit::Tally;
-pub use ends::{EpochEnd, RegionEnd};
-pub use fail::CrewFail;
 pub use region::run_region;
-pub use report::nothing_counted;
-pub use size::CrewSize;
-pub use verdicts::Verdicts;
 pub use waiting::{flush, flush_if_many};
-pub use writing::write;

@@ -3,16 +3,15 @@ ghost use Rattle.std.specs.Prelude.{◌≡◌, ◌<◌, ◌-◌, ◌^◌, ◌++�
 ghost use Rattle.dp_meaning.specs.declared.ends.Part.TheVariants.{Region};
 ghost use Rattle.dp_meaning.specs.MachineState.{next_part};
 ghost use Rattle.dp_report.specs.PrintsText.{prints_bytes};
-ghost use Rattle.dp_crew.specs.Fail.{FaultsAfter};
-ghost use Rattle.dp_crew.specs.Output.{Emits, WritesFront};
-ghost use Rattle.dp_crew.specs.Remade.{MayPrint, Remade, iteration_end};
+ghost use Rattle.dp_edge.specs.Writing.{FaultsAfter, WritesFront};
+ghost use Rattle.dp_crew.specs.Output.{Emits};
+ghost use Rattle.dp_epoch.specs.Remade.{MayPrint, Remade, iteration_end};
 
-use crate::ends::RegionEnd;
-use crate::fail::CrewFail;
 use crate::waiting::flush_if_many;
 use dp_base::Row;
 use dp_commit::Committed;
-use dp_edge::Sink;
+use dp_edge::{Sink, WriteFail};
+use dp_epoch::RegionEnd;
 use dp_meaning::IterEnd;
 use std::alloc::Global;
 
@@ -25,7 +24,7 @@ pub(crate) fn recover_to_end<'p, K: Sink>(
     committed: &mut Committed<'p>,
     waiting: &mut Row<i64>,
     sink: &mut K,
-) -> Result<Option<RegionEnd>, CrewFail>
+) -> Result<Option<RegionEnd>, WriteFail>
     requires sink { K.faults sink.old < 2 ^ 64 - 1 }
     requires next { next_part committed.old.machine ≡ Region committed.old.region }
     ensures faults { FaultsAfter result (K.faults sink.old) (K.faults sink.new) }
@@ -49,7 +48,7 @@ fn go_on<'p, K: Sink>(
     committed: &mut Committed<'p>,
     waiting: &mut Row<i64>,
     sink: &mut K,
-) -> Result<IterEnd, CrewFail>
+) -> Result<IterEnd, WriteFail>
     requires sink { K.faults sink.old < 2 ^ 64 - 1 }
     requires next { next_part committed.old.machine ≡ Region committed.old.region }
     ensures faults { FaultsAfter result (K.faults sink.old) (K.faults sink.new) }

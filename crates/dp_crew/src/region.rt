@@ -3,18 +3,15 @@ ghost use Rattle.std.specs.Prelude.{◌≡◌, ◌<◌, ◌≤◌, ◌+◌, ◌-
 ghost use Rattle.dp_edge.specs.Sink.{appended};
 ghost use Rattle.dp_report.specs.PrintsText.{prints_bytes};
 ghost use Rattle.dp_semantics.specs.Reported.{region_report};
-ghost use Rattle.dp_crew.specs.Fail.{FaultsAfter};
-ghost use Rattle.dp_crew.specs.Output.{WritesFront};
-ghost use Rattle.dp_crew.specs.RegionRun.{IsPlanned, RegionRan, RegionStart, region_prints, region_run};
+ghost use Rattle.dp_edge.specs.Writing.{FaultsAfter, WritesFront};
+ghost use Rattle.dp_epoch.specs.RegionRun.{IsPlanned, RegionRan, RegionStart, region_prints, region_run};
 
-use crate::ends::RegionEnd;
 use crate::epochs::run_epochs;
-use crate::fail::CrewFail;
-use crate::ledger::Ledger;
-use crate::size::CrewSize;
+use crate::settling::settle;
 use dp_base::RegionReport;
 use dp_commit::Tally;
-use dp_edge::{Gate, Sink};
+use dp_edge::{Gate, Sink, WriteFail};
+use dp_epoch::{CrewSize, Ledger, RegionEnd};
 use dp_meaning::Machine;
 use dp_pipeline::stage_programs;
 use dp_plan::Plan;
@@ -37,7 +34,7 @@ pub fn run_region<'p, R: Threads + Wait + Clock + Sync, K: Sink, G: Gate>(
     sink: &mut K,
     gate: &G,
     tally: &mut Tally,
-) -> Result<(Machine<'p>, RegionEnd), CrewFail>
+) -> Result<(Machine<'p>, RegionEnd), WriteFail>
     requires planned { IsPlanned p.now plan.now }
     requires start { RegionStart p.now plan.now input.now machine }
     requires words { length input.now ≤ 65536 }
@@ -59,6 +56,6 @@ pub fn run_region<'p, R: Threads + Wait + Clock + Sync, K: Sink, G: Gate>(
     let (ledger, end) = run_epochs(
         rt, alloc, p, plan, input, programs, crew, begun, sink, gate, tally,
     )?;
-    let machine = ledger.settle(alloc, report, sink)?;
+    let machine = settle(ledger, alloc, report, sink)?;
     Ok((machine, end))
 }

@@ -2,21 +2,17 @@
 ghost use Rattle.std.specs.Prelude.{◌<◌, ◌≤◌, ◌-◌, ◌^◌, length};
 ghost use Rattle.dp_meaning.specs.MachineState.{MachineState};
 ghost use Rattle.dp_pipeline.specs.Programs.{ArePrograms};
-ghost use Rattle.dp_crew.specs.Applied.{HasRoom};
+ghost use Rattle.dp_epoch.specs.Applied.{HasRoom};
 ghost use Rattle.dp_crew.specs.EpochRan.{EpochRan};
-ghost use Rattle.dp_crew.specs.InEpoch.{ToBegin};
-ghost use Rattle.dp_crew.specs.RegionRun.{IsPlanned};
+ghost use Rattle.dp_epoch.specs.InEpoch.{ToBegin};
+ghost use Rattle.dp_epoch.specs.RegionRun.{IsPlanned};
 
 use crate::committing::commit_in_threads;
-use crate::ends::EpochEnd;
-use crate::fail::CrewFail;
-use crate::ledger::Ledger;
-use crate::making::pipeline_here;
-use crate::size::CrewSize;
 use crate::threads::seats_of;
 use dp_code::StageProgram;
 use dp_commit::Tally;
-use dp_edge::{Gate, Sink};
+use dp_edge::{Gate, Sink, WriteFail};
+use dp_epoch::{CrewSize, EpochEnd, Ledger, pipeline_here};
 use dp_pipeline::Pipeline;
 use dp_plan::Plan;
 use dp_stop::Stop;
@@ -39,7 +35,7 @@ pub(crate) fn run_one_epoch<'p, R: Threads + Wait + Clock + Sync, K: Sink, G: Ga
     sink: &mut K,
     gate: &G,
     tally: &mut Tally,
-) -> Result<(Ledger<'p>, EpochEnd), CrewFail>
+) -> Result<(Ledger<'p>, EpochEnd), WriteFail>
     requires planned { IsPlanned p.now plan.now }
     requires programs { ArePrograms p.now plan.now programs.now }
     requires words { length input.now ≤ 65536 }

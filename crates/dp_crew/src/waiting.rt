@@ -1,35 +1,22 @@
 //! Prints that wait to be written.
-ghost use Rattle.std.specs.Prelude.{◌≡◌, ◌<◌, ◌≤◌, ◌-◌, ◌^◌, ◌++◌, [], length, OnErr, OnOk};
+ghost use Rattle.std.specs.Prelude.{◌≡◌, ◌<◌, ◌≤◌, ◌-◌, ◌^◌, [], length, OnErr, OnOk};
 ghost use Rattle.dp_crew.specs.Output.{Streams};
-ghost use Rattle.dp_crew.specs.Fail.{FaultsAfter};
+ghost use Rattle.dp_edge.specs.Writing.{FaultsAfter};
 
-use crate::fail::CrewFail;
-use crate::writing::write;
-use dp_base::{NoMemory, Row};
-use dp_edge::Sink;
+use dp_base::Row;
+use dp_edge::{Sink, WriteFail, write};
 use dp_report::prints_text;
 use std::alloc::Global;
 
 /// So many prints don't wait any longer.
 const MANY: usize = 4096;
 
-/// Lets more prints wait.
-pub(crate) fn wait(waiting: &mut Row<i64>, prints: &[i64]) -> Result<(), NoMemory>
-    ensures ok { OnOk result (waiting.new ≡ waiting.old ++ prints.now) }
-    ensures wanting { OnErr result (0 < length prints.now) }
-{
-    for print in prints {
-        waiting.push(*print)?;
-    }
-    Ok(())
-}
-
 /// Writes the prints that wait where they are many.
 pub fn flush_if_many<K: Sink>(
     alloc: Global,
     waiting: &mut Row<i64>,
     sink: &mut K,
-) -> Result<(), CrewFail>
+) -> Result<(), WriteFail>
     requires { K.faults sink.old < 2 ^ 64 - 1 }
     ensures faults { FaultsAfter result (K.faults sink.old) (K.faults sink.new) }
     ensures few { OnOk result (length waiting.new < 4096) }
@@ -43,7 +30,7 @@ pub fn flush_if_many<K: Sink>(
 }
 
 /// Writes all prints that wait.
-pub fn flush<K: Sink>(alloc: Global, waiting: &mut Row<i64>, sink: &mut K) -> Result<(), CrewFail>
+pub fn flush<K: Sink>(alloc: Global, waiting: &mut Row<i64>, sink: &mut K) -> Result<(), WriteFail>
     requires { K.faults sink.old < 2 ^ 64 - 1 }
     ensures faults { FaultsAfter result (K.faults sink.old) (K.faults sink.new) }
     ensures ok { OnOk result (waiting.new ≡ []) }

@@ -11,7 +11,7 @@ use Rattle.dp_drive.proofs.accepted.SameText.{same_end, same_text}
 use Rattle.dp_drive.specs.declared.refusal.Role.{Role}
 use Rattle.dp_drive.specs.declared.refusal.Refusal.{Refusal}
 use Rattle.dp_drive.specs.declared.refusal.Refusal.TheVariants.{Words}
-use Rattle.dp_crew.specs.declared.fail.CrewFail.{CrewFail}
+use Rattle.dp_edge.specs.declared.writing.WriteFail.{WriteFail}
 use Rattle.dp_room.specs.declared.NoMemory.{NoMemory as Wanting}
 use Rattle.dp_drive.specs.declared.texts.Texts.{Texts}
 use Rattle.dp_drive.specs.declared.texts.Texts.TheVariants as texts
@@ -55,11 +55,11 @@ pub loaded : (contents : Contents) (run : Run) (faults after : ℕ) (failed fail
 loaded contents run faults after failed fails r x e h = rw e at h
 
 -- the same status and the same bytes
-pub finishes_as : (s t : ℕ) (a b : List ℕ) (told tells : Option (List ℕ)) (result : Result ℕ CrewFail) → s ≡ t → a ≡ b → Finishes s a told tells result → Finishes t b told tells result
+pub finishes_as : (s t : ℕ) (a b : List ℕ) (told tells : Option (List ℕ)) (result : Result ℕ WriteFail) → s ≡ t → a ≡ b → Finishes s a told tells result → Finishes t b told tells result
 finishes_as s t a b told tells result e f h = subst (λ (x : List ℕ). Finishes t x told tells result) f (subst (λ (n : ℕ). Finishes n a told tells result) e h)
 
 -- What the run of the expanded program finishes, behind a line, is what the source's run is to be answered with.
-pub finishes_source : (p q : Program) → q ≡ expand p → IsChecked p → IsInlined (expand p) → (plans : List Plan) (numbers : List ℤ) (fuel : ℕ) (why : Bool) (line : List ℕ) (told tells : Option (List ℕ)) (result : Result ℕ CrewFail) →
+pub finishes_source : (p q : Program) → q ≡ expand p → IsChecked p → IsInlined (expand p) → (plans : List Plan) (numbers : List ℤ) (fuel : ℕ) (why : Bool) (line : List ℕ) (told tells : Option (List ℕ)) (result : Result ℕ WriteFail) →
     Finishes (status_of (source_run q numbers fuel).end) (line ++ trace_text q plans (source_run q numbers fuel) why) told tells result → Finishes (status_of (outcome p numbers fuel).end) (line ++ run_text p plans numbers fuel why) told tells result
 finishes_source p q is checked inlined plans numbers fuel why line told tells result h =
     let same = same_meaning p checked in
@@ -68,11 +68,11 @@ finishes_source p q is checked inlined plans numbers fuel why line told tells re
     (ap (λ (x : Program). line ++ trace_text x plans (source_run x numbers fuel) why) is ∙ ap (λ (text : List ℕ). line ++ text) (sym (same_text p inlined same plans numbers fuel why))) h
 
 module _ (words : List (List ℕ)) (contents : Contents) (faults after : ℕ) (failed fails : Names) (told tells : Option (List ℕ)) where
-  pub carry_not_taken : (result : Result ℕ CrewFail) → AsksNothing words → after ≡ faults → fails ≡ failed → Finishes (refusal_status Words) (refusal_line Words) told tells result →
+  pub carry_not_taken : (result : Result ℕ WriteFail) → AsksNothing words → after ≡ faults → fails ≡ failed → Finishes (refusal_status Words) (refusal_line Words) told tells result →
       Carried words contents faults after failed fails told tells result
   carry_not_taken result none e f finishes = carried.OfAnswer _ _ (NotTaken none) e f finishes
 
-  pub carry_run : (run : Run) (q : Program) (numbers : List ℤ) (plans : List Plan) (result : Result ℕ CrewFail) → Asks words (ToRun run) → LoadsTexts contents run faults after failed fails (texts.Run q numbers plans) →
+  pub carry_run : (run : Run) (q : Program) (numbers : List ℤ) (plans : List Plan) (result : Result ℕ WriteFail) → Asks words (ToRun run) → LoadsTexts contents run faults after failed fails (texts.Run q numbers plans) →
       Finishes (status_of (source_run q numbers run.fuel).end) (trace_text q plans (source_run q numbers run.fuel) run.why) told tells result → Carried words contents faults after failed fails told tells result
   carry_run run q numbers plans result asks (carried.Loaded p x others given is h k l fit e f) finishes =
       carried.OfAnswer _ _ (Done (ToRun run) p numbers plans asks (run_texts contents run p q numbers plans h k is l)) e f
@@ -87,13 +87,13 @@ module _ (words : List (List ℕ)) (contents : Contents) (faults after : ℕ) (f
     tally ∙ ap (λ (y : Program). before + committed_in_all y plans (source_run y numbers run.fuel)) is,
   )
 
-  pub carry_refused : (run : Run) (refusal : Refusal) (result : Result ℕ CrewFail) → Asks words (ToRun run) → LoadsTexts contents run faults after failed fails (texts.Refused refusal) →
+  pub carry_refused : (run : Run) (refusal : Refusal) (result : Result ℕ WriteFail) → Asks words (ToRun run) → LoadsTexts contents run faults after failed fails (texts.Refused refusal) →
       Finishes (refusal_status refusal) (refusal_line refusal) told tells result → Carried words contents faults after failed fails told tells result
   carry_refused run refusal result asks (carried.ProgramRefused other h e f) finishes = carried.OfAnswer _ _ (answers.Refused (ToRun run) refusal asks (ByProgram refusal (named_program h))) e f finishes
   carry_refused run refusal result asks (carried.InputRefused other p h k e f) finishes = carried.OfAnswer _ _ (answers.Refused (ToRun run) refusal asks (ByInput p refusal (named_program h) k)) e f finishes
   carry_refused run refusal result asks (carried.PlansRefused other p numbers h k l e f) finishes = carried.OfAnswer _ _ (answers.Refused (ToRun run) refusal asks (ByPlans p numbers refusal (named_program h) k (SomePlans run.source run.options (Err refusal) l))) e f finishes
 
-  pub carry_failed : (run : Run) (which : Role) (result : Result ℕ CrewFail) → Asks words (ToRun run) → LoadsTexts contents run faults after failed fails (texts.Failed which) →
+  pub carry_failed : (run : Run) (which : Role) (result : Result ℕ WriteFail) → Asks words (ToRun run) → LoadsTexts contents run faults after failed fails (texts.Failed which) →
       Finishes 5 (failed_read_line which) told tells result → Carried words contents faults after failed fails told tells result
   carry_failed run which result asks (carried.ProgramFailed less e) finishes = carried.OfFailedRead _ _ (OfProgram (ToRun run) run.program asks refl) less e finishes
   carry_failed run which result asks (carried.InputFailed p name h named less e) finishes = carried.OfFailedRead _ _ (OfInput (ToRun run) p name asks (named_program h) named) less e finishes
@@ -102,7 +102,7 @@ module _ (words : List (List ℕ)) (contents : Contents) (faults after : ℕ) (f
   abbrev ProgramGives : List ℕ → Loaded Program → Type 0
   ProgramGives name = Gives (LoadsProgram contents name) (Some name) faults after failed fails
 
-  pub carry_sites : (name : List ℕ) (q : Program) (result : Result ℕ CrewFail) → Asks words (ToList name) → ProgramGives name (Text q) → Finishes 0 (site_bytes q) told tells result → Carried words contents faults after failed fails told tells result
+  pub carry_sites : (name : List ℕ) (q : Program) (result : Result ℕ WriteFail) → Asks words (ToList name) → ProgramGives name (Text q) → Finishes 0 (site_bytes q) told tells result → Carried words contents faults after failed fails told tells result
   carry_sites name q result asks g finishes =
       let s = source_of (ReadsProgram contents name) q g.0 in
       carried.OfAnswer _ _ (Done (ToList name) s.source [] [] asks (record { program = named_program s.reads; input = Unnamed; planned = NoPlans })) g.1 g.2
@@ -115,36 +115,36 @@ module _ (words : List (List ℕ)) (contents : Contents) (faults after : ℕ) (f
     abbrev LeastOf : Program → Result (List Plan) Refusal → Type 0
     LeastOf x made = Plans contents x planning.options (Least planning.profile) made
 
-    pub carry_plans : (plans : List Plan) (result : Result ℕ CrewFail) → LeastGives (Text plans) → Finishes 0 (plans_text q plans) told tells result → Carried words contents faults after failed fails told tells result
+    pub carry_plans : (plans : List Plan) (result : Result ℕ WriteFail) → LeastGives (Text plans) → Finishes 0 (plans_text q plans) told tells result → Carried words contents faults after failed fails told tells result
     carry_plans plans result g finishes =
         let s = source_of (ReadsProgram contents planning.program) q read in
         carried.OfAnswer _ _ (Done (ToPlan planning) s.source [] plans asks (record { program = named_program s.reads; input = Unnamed; planned = SomePlans (Least planning.profile) planning.options (Ok plans) (subst (λ (x : Program). LeastOf x (Ok plans)) s.is g.0) })) g.1 g.2
         (finishes_as 0 0 (plans_text q plans) (plans_text (expand s.source) plans) told tells result refl (ap (λ (x : Program). plans_text x plans) s.is) finishes)
 
-    pub carry_least_refused : (refusal : Refusal) (result : Result ℕ CrewFail) → LeastGives (Refused refusal) → Finishes (refusal_status refusal) (refusal_line refusal) told tells result →
+    pub carry_least_refused : (refusal : Refusal) (result : Result ℕ WriteFail) → LeastGives (Refused refusal) → Finishes (refusal_status refusal) (refusal_line refusal) told tells result →
         Carried words contents faults after failed fails told tells result
     carry_least_refused refusal result g finishes =
         let s = source_of (ReadsProgram contents planning.program) q read in
         carried.OfAnswer _ _ (answers.Refused (ToPlan planning) refusal asks (ByPlans s.source [] refusal (named_program s.reads) Unnamed (SomePlans (Least planning.profile) planning.options (Err refusal) (subst (λ (x : Program). LeastOf x (Err refusal)) s.is g.0)))) g.1 g.2 finishes
 
-    pub carry_least_failed : (result : Result ℕ CrewFail) → LeastGives Failed → Finishes 5 (failed_read_line role.Profile) told tells result → Carried words contents faults after failed fails told tells result
+    pub carry_least_failed : (result : Result ℕ WriteFail) → LeastGives Failed → Finishes 5 (failed_read_line role.Profile) told tells result → Carried words contents faults after failed fails told tells result
     carry_least_failed result g finishes =
         let s = source_of (ReadsProgram contents planning.program) q read in
         carried.OfFailedRead _ _ (OfPlans (ToPlan planning) s.source [] (Least planning.profile) planning.options g.0 asks (named_program s.reads) Unnamed refl g.1) g.2 g.3 finishes
 
   -- a program alone that is refused, or that can't be read
-  pub carry_program_refused : (asked : Asked) (name : List ℕ) (refusal : Refusal) (result : Result ℕ CrewFail) → Asks words asked → program_in asked ≡ Some name →
+  pub carry_program_refused : (asked : Asked) (name : List ℕ) (refusal : Refusal) (result : Result ℕ WriteFail) → Asks words asked → program_in asked ≡ Some name →
       ProgramGives name (Refused refusal) → Finishes (refusal_status refusal) (refusal_line refusal) told tells result → Carried words contents faults after failed fails told tells result
   carry_program_refused asked name refusal result asks is g finishes =
       let read = named_program (refusal_read (ReadsProgram contents name) refusal g.0) in
       carried.OfAnswer _ _ (answers.Refused asked refusal asks (ByProgram refusal (subst (λ (o : Option (List ℕ)). ProgramOf contents o (Err refusal)) (sym is) read))) g.1 g.2 finishes
 
-  pub carry_program_failed : (asked : Asked) (name : List ℕ) (result : Result ℕ CrewFail) → Asks words asked → program_in asked ≡ Some name → ProgramGives name Failed → Finishes 5 (failed_read_line role.Program) told tells result →
+  pub carry_program_failed : (asked : Asked) (name : List ℕ) (result : Result ℕ WriteFail) → Asks words asked → program_in asked ≡ Some name → ProgramGives name Failed → Finishes 5 (failed_read_line role.Program) told tells result →
       Carried words contents faults after failed fails told tells result
   carry_program_failed asked name result asks is g finishes =
       let same : name ≡ g.0 = cc g.1 in
       carried.OfFailedRead _ _ (OfProgram asked name asks is) g.2 (g.3 ∙ ap (λ (n : List ℕ). option_map (λ (names : List (List ℕ)). names ++ n ∷ []) failed) (sym same)) finishes
 
   -- .. on the way behind a text that was read
-  pub carry_on : (begin : ℕ) (began : Names) (result : Result ℕ CrewFail) → faults ≡ begin → failed ≡ began → Carried words contents faults after failed fails told tells result → Carried words contents begin after began fails told tells result
+  pub carry_on : (begin : ℕ) (began : Names) (result : Result ℕ WriteFail) → faults ≡ begin → failed ≡ began → Carried words contents faults after failed fails told tells result → Carried words contents begin after began fails told tells result
   carry_on begin began result e f h = subst (λ (n : ℕ). Carried words contents n after began fails told tells result) e (subst (λ (names : Names). Carried words contents faults after names fails told tells result) f h)

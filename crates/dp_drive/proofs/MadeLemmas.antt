@@ -5,9 +5,9 @@ use Rattle.dp_tree.specs.declared.Program.{Program}
 use Rattle.dp_tree.specs.Inlined.{IsInlined}
 use Rattle.dp_calls.specs.Expand.{expand}
 use Rattle.dp_edge.specs.Sink.{appended}
-use Rattle.dp_crew.specs.declared.fail.CrewFail.{CrewFail}
-use Rattle.dp_crew.specs.Output.{WritesFront}
-use Rattle.dp_crew.proofs.StreamLemmas.{appended-append, front_behind, front_more}
+use Rattle.dp_edge.specs.declared.writing.WriteFail.{WriteFail}
+use Rattle.dp_edge.specs.Writing.{WritesFront}
+use Rattle.dp_edge.proofs.FrontLemmas.{appended-append, front_behind, front_more}
 use Rattle.dp_report.specs.Generator.{made_text, next_number, words_after}
 use Rattle.dp_plan.specs.declared.Plan.{Plan}
 use Rattle.dp_run.specs.RunText.{source_run, trace_text, committed_in_all}
@@ -48,18 +48,18 @@ pub few_words : (made : GenWords) (numbers : List ℤ) → numbers ≡ made_word
 few_words made numbers e within = let size = ap length e ∙ so_many_words made.seed made.size in let few = within.few_words in omega (arith, size, few)
 
 -- a text behind a line that was written
-pub finishes_behind : (line text : List ℕ) (status : ℕ) (told mid tells : Option (List ℕ)) (result : Result ℕ CrewFail) → mid ≡ appended line told → Finishes status text mid tells result →
+pub finishes_behind : (line text : List ℕ) (status : ℕ) (told mid tells : Option (List ℕ)) (result : Result ℕ WriteFail) → mid ≡ appended line told → Finishes status text mid tells result →
     Finishes status (line ++ text) told tells result
 finishes_behind line text status told mid tells (Ok answered) m h = (h.0, h.1 ∙ ap (appended text) m ∙ appended-append line text told)
 finishes_behind line text status told mid tells (Err fail) m h = front_behind (line ++ text) line text told mid tells refl m h
 
 -- .. and where the line wasn't written as a whole
-pub finishes_stopped : (line text : List ℕ) (status : ℕ) (told tells : Option (List ℕ)) (result : Result ℕ CrewFail) → IsErr result → WritesFront line told tells → Finishes status (line ++ text) told tells result
+pub finishes_stopped : (line text : List ℕ) (status : ℕ) (told tells : Option (List ℕ)) (result : Result ℕ WriteFail) → IsErr result → WritesFront line told tells → Finishes status (line ++ text) told tells result
 finishes_stopped line text status told tells (Ok answered) h w = absurd (cc)
 finishes_stopped line text status told tells (Err fail) h w = front_more line text told tells w
 
 -- what stopped says nothing of the tally
-pub stopped_counts : (result : Result ℕ CrewFail) (P : Type 0) → IsErr result → OnOk result P
+pub stopped_counts : (result : Result ℕ WriteFail) (P : Type 0) → IsErr result → OnOk result P
 stopped_counts (Ok answered) P h = absurd (cc)
 stopped_counts (Err fail) P h = tt
 
@@ -86,7 +86,7 @@ module _ (q : Program) (h : ReadsAs made_text (Ok q)) where
   read_given plans fit = record { inlined = read_inlined; plans_are = fit }
 
 module _ (words : List (List ℕ)) (contents : Contents) (made : GenWords) (asks : Asks words (ToMake made)) where
-  module _ (faults : ℕ) (failed : Names) (told tells : Option (List ℕ)) (result : Result ℕ CrewFail) where
+  module _ (faults : ℕ) (failed : Names) (told tells : Option (List ℕ)) (result : Result ℕ WriteFail) where
     pub carry_refused : (refusal : Refusal) → ReadsAs made_text (Err refusal) → Finishes (refusal_status refusal) (refusal_line refusal) told tells result → Carried words contents faults faults failed failed told tells result
     carry_refused refusal read finishes = carried.OfAnswer _ _ (answers.Refused (ToMake made) refusal asks (ByProgram refusal (MadeProgram (Err refusal) (refusal_read (Reads made_text) refusal read)))) refl refl finishes
 
@@ -100,7 +100,7 @@ module _ (words : List (List ℕ)) (contents : Contents) (made : GenWords) (asks
         (finishes_source s.source q s.is (read_checked made_text s.source s.reads) (inlined_read made_text s.source s.reads) plans (made_words made) made.fuel false (made_line made) told tells result here)
 
   -- where the run ended, the tally grew by what was committed of it
-  pub run_counts : (q : Program) (plans : List Plan) (numbers : List ℤ) (before now : ℕ) (result : Result ℕ CrewFail) → numbers ≡ made_words made → ReadsAs made_text (Ok q) → MakesPlans q made.options None plans →
+  pub run_counts : (q : Program) (plans : List Plan) (numbers : List ℤ) (before now : ℕ) (result : Result ℕ WriteFail) → numbers ≡ made_words made → ReadsAs made_text (Ok q) → MakesPlans q made.options None plans →
       OnOk result (now ≡ before + committed_in_all q plans (source_run q numbers made.fuel)) → IfOk result (IsCounted words contents before now)
   run_counts q plans numbers before now (Ok status) e read plans_made h =
       let s = source_of (Reads made_text) q read in

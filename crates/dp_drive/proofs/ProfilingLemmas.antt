@@ -6,7 +6,7 @@ use Rattle.dp_calls.specs.Frames.{outcome}
 use Rattle.dp_calls.proofs.SameMeanings.{same_meaning}
 use Rattle.dp_profile.specs.Observed.{observed}
 use Rattle.dp_profile.specs.WrittenText.{profile_text}
-use Rattle.dp_crew.specs.declared.fail.CrewFail.{CrewFail}
+use Rattle.dp_edge.specs.declared.writing.WriteFail.{WriteFail}
 use Rattle.dp_run.specs.RunText.{source_run}
 use Rattle.dp_words.specs.Words.{Asks, ToProfile}
 use Rattle.dp_words.specs.Profiling.{Profiling}
@@ -27,7 +27,7 @@ use Rattle.dp_drive.proofs.AnswerLemmas.{finishes_as}
 use Rattle.dp_drive.proofs.accepted.Accepted.{read_checked, inlined_read}
 use Rattle.dp_drive.proofs.accepted.SameText.{same_end}
 
-module _ (words : List (List ℕ)) (contents : Contents) (faults after : ℕ) (failed fails : Names) (told tells : Option (List ℕ)) (result : Result ℕ CrewFail) where
+module _ (words : List (List ℕ)) (contents : Contents) (faults after : ℕ) (failed fails : Names) (told tells : Option (List ℕ)) (result : Result ℕ WriteFail) where
   module _ (profiling : Profiling) (asks : Asks words (ToProfile profiling)) (q : Program) (read : LoadsProgram contents profiling.program (Ok q)) where
     s : Source (ReadsProgram contents profiling.program) q
     s = source_of (ReadsProgram contents profiling.program) q read

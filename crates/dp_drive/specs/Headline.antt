@@ -4,7 +4,7 @@ use Rattle.std.specs.Option.{option_map}
 use Rattle.dp_edge.specs.Sink.{appended}
 use Rattle.dp_drive.specs.declared.refusal.Role.{Role}
 use Rattle.dp_drive.specs.Refusal.{failed_read_line}
-use Rattle.dp_crew.specs.Output.{WritesFront}
+use Rattle.dp_edge.specs.Writing.{WritesFront}
 use Rattle.dp_words.specs.Words.{Asked, Asks}
 use Rattle.dp_drive.specs.Roles.{Contents}
 use Rattle.dp_drive.specs.Answer.{Answer, Commits, IsRead, run_fuel}

@@ -1,7 +1,7 @@
 //! The whole program: from its words to what is written and the exit status.
 ghost use Rattle.std.specs.Prelude.{◌≡◌, ◌<◌, ◌-◌, ◌^◌, ℕ, List, map, string_bytes, IfOk};
 ghost use Rattle.dp_report.specs.SiteText.{site_bytes};
-ghost use Rattle.dp_crew.specs.Fail.{FaultsAfter};
+ghost use Rattle.dp_edge.specs.Writing.{FaultsAfter};
 ghost use Rattle.dp_words.specs.Words.{Asks, ToList, ToRun};
 ghost use Rattle.dp_words.specs.Run.{RunWithin, shown};
 ghost use Rattle.dp_drive.specs.Headline.{Drives, IsCounted};
@@ -16,9 +16,9 @@ use crate::refusal::{Refusal, Role};
 use crate::running::{load, run_to_end};
 use crate::texts::Texts;
 use crate::writing::{fail_read, refuse};
-use dp_edge::{Gate, Shelf, Sink};
+use dp_edge::{Gate, Shelf, Sink, WriteFail, write};
 use dp_report::site_text;
-use dp_run::{CrewFail, CrewSize, RunOptions, Tally, write};
+use dp_run::{CrewSize, RunOptions, Tally};
 use dp_tree::Program;
 use dp_words::{RunWords, Task, asked};
 use std::alloc::Global;
@@ -57,13 +57,13 @@ pub fn drive<R: Threads + Wait + Clock + Sync, S: Shelf, K: Sink, G: Gate>(
 }
 
 /// The exit status of what was finished or stopped.
-fn final_status(answered: Result<u8, CrewFail>) -> u8
+fn final_status(answered: Result<u8, WriteFail>) -> u8
     ensures { result ≡ status_after answered }
 {
     match answered {
         Ok(status) => status,
-        Err(CrewFail::Write) => 6,
-        Err(CrewFail::NoMemory) => 7,
+        Err(WriteFail::Write) => 6,
+        Err(WriteFail::NoMemory) => 7,
     }
 }
 
@@ -76,7 +76,7 @@ fn answer<R: Threads + Wait + Clock + Sync, S: Shelf, K: Sink, G: Gate>(
     sink: &mut K,
     gate: &G,
     tally: &mut Tally,
-) -> Result<u8, CrewFail>
+) -> Result<u8, WriteFail>
     requires shelf { S.faults shelf.old < 2 ^ 64 - 1 }
     requires sink { K.faults sink.old < 2 ^ 64 - 1 }
     requires tally { tally.old < 2 ^ 63 }
@@ -105,7 +105,7 @@ fn answer_run<R: Threads + Wait + Clock + Sync, S: Shelf, K: Sink, G: Gate>(
     sink: &mut K,
     gate: &G,
     tally: &mut Tally,
-) -> Result<u8, CrewFail>
+) -> Result<u8, WriteFail>
     requires run { RunWithin (shown run) }
     requires shelf { S.faults shelf.old < 2 ^ 64 - 1 }
     requires sink { K.faults sink.old < 2 ^ 64 - 1 }
@@ -141,7 +141,7 @@ fn answer_check<S: Shelf, K: Sink>(
     name: &str,
     shelf: &mut S,
     sink: &mut K,
-) -> Result<u8, CrewFail>
+) -> Result<u8, WriteFail>
     requires shelf { S.faults shelf.old < 2 ^ 64 - 1 }
     requires sink { K.faults sink.old < 2 ^ 64 - 1 }
     ensures contents { S.contents shelf.new ≡ S.contents shelf.old }
@@ -157,7 +157,7 @@ fn answer_check<S: Shelf, K: Sink>(
 }
 
 /// Writes the list of the program's sites.
-fn list_sites<K: Sink>(alloc: Global, program: &Program, sink: &mut K) -> Result<u8, CrewFail>
+fn list_sites<K: Sink>(alloc: Global, program: &Program, sink: &mut K) -> Result<u8, WriteFail>
     requires { K.faults sink.old < 2 ^ 64 - 1 }
     ensures faults { FaultsAfter result (K.faults sink.old) (K.faults sink.new) }
     ensures finishes { Finishes 0 (site_bytes program.now) (K.written sink.old) (K.written sink.new) result }

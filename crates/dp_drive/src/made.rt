@@ -1,8 +1,7 @@
 //! The run of the made program.
 ghost use Rattle.std.specs.Prelude.{◌≡◌, ◌<◌, ◌≤◌, ◌-◌, ◌^◌, ℕ, List, false, length, string_bytes, IfOk, OnErr, OnOk};
 ghost use Rattle.dp_edge.specs.Sink.{appended};
-ghost use Rattle.dp_crew.specs.Fail.{FaultsAfter};
-ghost use Rattle.dp_crew.specs.Output.{WritesFront};
+ghost use Rattle.dp_edge.specs.Writing.{FaultsAfter, WritesFront};
 ghost use Rattle.dp_run.specs.Given.{AreGiven};
 ghost use Rattle.dp_words.specs.Words.{Asks, ToMake};
 ghost use Rattle.dp_words.specs.Made.{MadeWithin};
@@ -17,10 +16,10 @@ use crate::program::read_program;
 use crate::running::run_to_end;
 use crate::writing::refuse;
 use dp_base::{NoMemory, Row};
-use dp_edge::{Gate, Sink};
+use dp_edge::{Gate, Sink, WriteFail, write};
 use dp_plan::Plan;
 use dp_report::make_program;
-use dp_run::{CrewFail, CrewSize, RunOptions, Tally, write};
+use dp_run::{CrewSize, RunOptions, Tally};
 use dp_tree::Program;
 use dp_words::GenWords;
 use std::alloc::Global;
@@ -36,7 +35,7 @@ pub fn answer_gen<R: Threads + Wait + Clock + Sync, K: Sink, G: Gate>(
     sink: &mut K,
     gate: &G,
     tally: &mut Tally,
-) -> Result<u8, CrewFail>
+) -> Result<u8, WriteFail>
     requires within { MadeWithin words }
     requires sink { K.faults sink.old < 2 ^ 64 - 1 }
     requires tally { tally.old < 2 ^ 63 }
@@ -76,7 +75,7 @@ fn run_made<R: Threads + Wait + Clock + Sync, K: Sink, G: Gate>(
     sink: &mut K,
     gate: &G,
     tally: &mut Tally,
-) -> Result<u8, CrewFail>
+) -> Result<u8, WriteFail>
     requires given { AreGiven program.now plans.now }
     requires words { length input.now ≤ 65536 }
     requires within { MadeWithin words }
@@ -98,7 +97,7 @@ fn run_made<R: Threads + Wait + Clock + Sync, K: Sink, G: Gate>(
 }
 
 /// Writes the line of the words.
-fn write_line<K: Sink>(alloc: Global, words: GenWords, sink: &mut K) -> Result<(), CrewFail>
+fn write_line<K: Sink>(alloc: Global, words: GenWords, sink: &mut K) -> Result<(), WriteFail>
     requires { K.faults sink.old < 2 ^ 64 - 1 }
     ensures faults { FaultsAfter result (K.faults sink.old) (K.faults sink.new) }
     ensures ok { OnOk result (K.written sink.new ≡ appended (made_line words) (K.written sink.old)) }

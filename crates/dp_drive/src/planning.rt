@@ -4,7 +4,7 @@ ghost use Rattle.std.specs.Option.{option_copied, option_map};
 ghost use Rattle.dp_tree.specs.Inlined.{IsInlined};
 ghost use Rattle.dp_plan.specs.GivenPlans.{ArePlans};
 ghost use Rattle.dp_plan_text.specs.WrittenText.{plans_text};
-ghost use Rattle.dp_crew.specs.Fail.{FaultsAfter};
+ghost use Rattle.dp_edge.specs.Writing.{FaultsAfter};
 ghost use Rattle.dp_words.specs.Words.{Asks, ToPlan};
 ghost use Rattle.dp_words.specs.Values.{OptionsWithin};
 ghost use Rattle.dp_words.specs.Run.{Least};
@@ -19,11 +19,10 @@ use crate::refusal::Role;
 use crate::writing::{fail_read, refuse};
 use dp_base::{NoMemory, Row};
 use dp_cut::{Wishes, least_plans};
-use dp_edge::{Shelf, Sink};
+use dp_edge::{Shelf, Sink, WriteFail, write};
 use dp_plan::Plan;
 use dp_plan_text::write_plans;
 use dp_profile::Profile;
-use dp_run::{CrewFail, write};
 use dp_tree::Program;
 use dp_words::{PlanOptions, PlanWords};
 use std::alloc::Global;
@@ -120,7 +119,7 @@ pub fn answer_plan<S: Shelf, K: Sink>(
     plan: PlanWords,
     shelf: &mut S,
     sink: &mut K,
-) -> Result<u8, CrewFail>
+) -> Result<u8, WriteFail>
     requires options { OptionsWithin plan.options }
     requires shelf { S.faults shelf.old < 2 ^ 64 - 1 }
     requires sink { K.faults sink.old < 2 ^ 64 - 1 }
@@ -143,7 +142,7 @@ fn answer_least<S: Shelf, K: Sink>(
     program: &Program,
     shelf: &mut S,
     sink: &mut K,
-) -> Result<u8, CrewFail>
+) -> Result<u8, WriteFail>
     requires inlined { IsInlined program.now }
     requires options { OptionsWithin plan.options }
     requires shelf { S.faults shelf.old < 2 ^ 64 - 1 }
@@ -166,7 +165,7 @@ fn list_plans<K: Sink>(
     plans: &Row<Plan>,
     program: &Program,
     sink: &mut K,
-) -> Result<u8, CrewFail>
+) -> Result<u8, WriteFail>
     requires { K.faults sink.old < 2 ^ 64 - 1 }
     ensures faults { FaultsAfter result (K.faults sink.old) (K.faults sink.new) }
     ensures finishes { Finishes 0 (plans_text program.now plans.now) (K.written sink.old) (K.written sink.new) result }

@@ -3,7 +3,7 @@ ghost use Rattle.std.specs.Prelude.{◌≡◌, ◌<◌, ◌-◌, ◌^◌, ℕ, L
 ghost use Rattle.dp_tree.specs.Inlined.{IsInlined};
 ghost use Rattle.dp_profile.specs.Observed.{observed};
 ghost use Rattle.dp_profile.specs.WrittenText.{profile_text};
-ghost use Rattle.dp_crew.specs.Fail.{FaultsAfter};
+ghost use Rattle.dp_edge.specs.Writing.{FaultsAfter};
 ghost use Rattle.dp_words.specs.Words.{Asks, ToProfile};
 ghost use Rattle.dp_words.specs.Profiling.{shown_profiling};
 ghost use Rattle.dp_drive.specs.steps.Carried.{Carried, Finishes};
@@ -15,10 +15,9 @@ use crate::refusal::Role;
 use crate::running::{end_status, load_words};
 use crate::writing::{fail_read, refuse};
 use dp_base::Row;
-use dp_edge::{Shelf, Sink};
+use dp_edge::{Shelf, Sink, WriteFail, write};
 use dp_observe::observe;
 use dp_profile::write_profile;
-use dp_run::{CrewFail, write};
 use dp_tree::Program;
 use dp_words::ProfileWords;
 use std::alloc::Global;
@@ -29,7 +28,7 @@ pub fn answer_profile<S: Shelf, K: Sink>(
     profile: ProfileWords,
     shelf: &mut S,
     sink: &mut K,
-) -> Result<u8, CrewFail>
+) -> Result<u8, WriteFail>
     requires shelf { S.faults shelf.old < 2 ^ 64 - 1 }
     requires sink { K.faults sink.old < 2 ^ 64 - 1 }
     ensures contents { S.contents shelf.new ≡ S.contents shelf.old }
@@ -51,7 +50,7 @@ fn answer_input<S: Shelf, K: Sink>(
     program: &Program,
     shelf: &mut S,
     sink: &mut K,
-) -> Result<u8, CrewFail>
+) -> Result<u8, WriteFail>
     requires inlined { IsInlined program.now }
     requires shelf { S.faults shelf.old < 2 ^ 64 - 1 }
     requires sink { K.faults sink.old < 2 ^ 64 - 1 }
@@ -74,7 +73,7 @@ fn show_run<K: Sink>(
     input: &Row<i64>,
     fuel: u64,
     sink: &mut K,
-) -> Result<u8, CrewFail>
+) -> Result<u8, WriteFail>
     requires inlined { IsInlined program.now }
     requires sink { K.faults sink.old < 2 ^ 64 - 1 }
     ensures faults { FaultsAfter result (K.faults sink.old) (K.faults sink.new) }

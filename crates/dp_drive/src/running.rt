@@ -1,7 +1,7 @@
 //! A run: the texts that it names, and then the program from start to end.
 ghost use Rattle.std.specs.Prelude.{◌≡◌, ◌<◌, ◌≤◌, ◌-◌, ◌^◌, [], length, IfOk, OnErr};
 ghost use Rattle.dp_tree.specs.Inlined.{IsInlined};
-ghost use Rattle.dp_crew.specs.Fail.{FaultsAfter};
+ghost use Rattle.dp_edge.specs.Writing.{FaultsAfter};
 ghost use Rattle.dp_run.specs.Given.{AreGiven};
 ghost use Rattle.dp_plan.specs.GivenPlans.{ArePlans};
 ghost use Rattle.dp_words.specs.Values.{OptionsWithin};
@@ -19,9 +19,9 @@ use crate::planning::load_least;
 use crate::refusal::Role;
 use crate::texts::Texts;
 use dp_base::{End, NoMemory, Row};
-use dp_edge::{Gate, Shelf, Sink};
+use dp_edge::{Gate, Shelf, Sink, WriteFail};
 use dp_plan::Plan;
-use dp_run::{CrewFail, RunOptions, Tally, run_program};
+use dp_run::{RunOptions, Tally, run_program};
 use dp_tree::Program;
 use dp_words::{PlanOptions, PlanSource, RunWords};
 use std::alloc::Global;
@@ -114,7 +114,7 @@ pub fn run_to_end<R: Threads + Wait + Clock + Sync, K: Sink, G: Gate>(
     sink: &mut K,
     gate: &G,
     tally: &mut Tally,
-) -> Result<u8, CrewFail>
+) -> Result<u8, WriteFail>
     requires given { AreGiven program.now plans.now }
     requires words { length input.now ≤ 65536 }
     requires fuel { options.fuel ≤ 1000000000 }

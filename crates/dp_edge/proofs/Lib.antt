@@ -1,3 +1,4 @@
+pub mod FrontLemmas
 pub mod Inputs
 pub mod KnownBytes
 pub mod Words

@@ -1,3 +1,4 @@
+pub mod Fronts
 pub mod Inputs
 pub mod Shelves
 pub mod Sinks

@@ -5,3 +5,4 @@ pub mod MemShelf
 pub mod MemSink
 pub mod Shelf
 pub mod Sink
+pub mod Writing

@@ -11,6 +11,7 @@ mod mem_sink;
 mod out_sink;
 mod shelf;
 mod sink;
+mod writing;
 
 pub use file_shelf::FileShelf;
 pub use gate::{Gate, OpenGate};
@@ -21,3 +22,4 @@ pub use mem_sink::MemSink;
 pub use out_sink::OutSink;
 pub use shelf::{Shelf, ShelfFail};
 pub use sink::{PutFail, Sink};
+pub use writing::{WriteFail, write};

@@ -40,7 +40,7 @@ module _ (p : Program) (P : List Stmt → Type 0) (end : ℕ) where
   each_front [] ys h = tt
   each_front (x ∷ xs) ys h = (h.0, each_front xs ys h.1)
 
-  each_back : (xs ys : List (List Stmt)) → Each (xs ++ ys) → Each ys
+  pub each_back : (xs ys : List (List Stmt)) → Each (xs ++ ys) → Each ys
   each_back [] ys h = h
   each_back (x ∷ xs) ys h = each_back xs ys h.1
 

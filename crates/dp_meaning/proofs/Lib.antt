@@ -9,6 +9,7 @@ pub mod ContinuesLemmas
 pub mod StopLemmas
 pub mod ShapeLemmas
 pub mod PlaceLemmas
+pub mod RegionPlaces
 pub mod StepLemmas
 pub mod TurnLemmas
 pub mod PlainLemmas

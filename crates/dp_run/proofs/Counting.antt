@@ -1,17 +1,18 @@
 -- The plans one after the other: their regions' numbers, their reports, and how many iterations were committed.
-use Rattle.std.proofs.Common.{◌≡◌, sym, ap, ◌∙◌, ℕ, zero, suc, ◌+◌, ◌*◌, ◌<◌, ◌≤◌, ◌^◌, List, [], ◌∷◌, ◌++◌, ℤ, length, map, take, Some, slice_get, arith}
-use Rattle.std.proofs.lemmas.List.{length-take, map-append, length-map}
+use Rattle.std.proofs.Common.{◌≡◌, sym, ap, ◌∙◌, ℕ, zero, suc, ◌+◌, ◌*◌, ◌<◌, ◌≤◌, ◌^◌, List, [], ◌∷◌, ◌++◌, append_assoc, length, map, take, Some, slice_get, arith}
+use Rattle.std.proofs.lemmas.List.{append-nil, length-take, map-append, length-map}
 use Rattle.dp_base.specs.declared.RegionReport.{RegionReport}
 use Rattle.dp_tree.specs.declared.Program.{Program}
 use Rattle.dp_tree.specs.Numbering.{numbers_from}
+use Rattle.dp_tree.specs.Trace.{Run}
 use Rattle.dp_plan.specs.declared.Plan.{Plan}
 use Rattle.dp_plan.specs.Each.{Each}
 use Rattle.dp_plan.specs.GivenPlans.{IsPlan, region_of}
 use Rattle.dp_semantics.specs.Reported.{region_report}
-use Rattle.dp_crew.specs.RegionRun.{IsPlanned}
-use Rattle.dp_run.specs.Given.{AreGiven}
-use Rattle.dp_run.specs.RunText.{source_run, region_reports, committed_count, committed_in_all}
-use Rattle.dp_run.specs.steps.Stretches.{Counted}
+use Rattle.dp_epoch.specs.RegionRun.{IsPlanned}
+use Rattle.dp_run.specs.Given.{AreGiven, AreNext}
+use Rattle.dp_run.specs.RunText.{region_reports, committed_count, committed_in_all}
+use Rattle.dp_run.specs.Stretches.{Counted}
 use Rattle.dp_run.proofs.Reporting.{committed_few}
 use Rattle.dp_run.proofs.Ending.{in_all_append}
 use Rattle.std.proofs.Math.Seq.{take-suc}
@@ -36,45 +37,50 @@ each_at p (x ∷ plans) k (suc n) (suc count) plan each numbers is =
     let h = each_at p plans (k + 1) n count plan each.1 rest is in
     (h.0, omega (arith, h.1), omega (arith, h.2))
 
-module _ (p : Program) (plans : List Plan) (given : AreGiven p plans) where
-  pub as_many : length plans ≡ length p.regions
-  as_many = sym (length-map plans region_of) ∙ ap (λ (ns : List ℕ). length ns) given.plans_are.regions ∙ length-numbers_from 1 (length p.regions)
+module _ (p : Program) (n : ℕ) (plans : List Plan) (given : AreNext p n plans) (k : ℕ) (plan : Plan) (is : slice_get plans k ≡ Some plan) where
+  found : IsPlan p plan × (plan.region ≡ suc n + k) × (k < length plans)
+  found = each_at p plans (suc n) k (length plans) plan given.each given.regions is
 
-  module _ (n : ℕ) (plan : Plan) (is : slice_get plans n ≡ Some plan) where
-    found : IsPlan p plan × (plan.region ≡ 1 + n) × (n < length p.regions)
-    found = each_at p plans 1 n (length p.regions) plan given.plans_are.each given.plans_are.regions is
+  pub number_is : plan.region ≡ suc (n + k)
+  number_is = omega (arith, found.1)
 
-    pub number_is : plan.region ≡ suc n
-    number_is = omega (arith, found.1)
+  pub planned : IsPlanned p plan
+  planned = record { inlined = given.inlined; is_plan = found.0; counted = omega (arith, found.1); known = omega (arith, found.1, found.2, given.within) }
 
-    pub planned : IsPlanned p plan
-    planned = record { inlined = given.inlined; is_plan = found.0; counted = omega (arith, found.1); known = omega (arith, found.1, found.2) }
+-- plans for all regions are those behind none
+pub all_next : (p : Program) (plans : List Plan) → AreGiven p plans → AreNext p 0 plans
+all_next p plans given =
+    let many : length plans ≡ length p.regions = sym (length-map plans region_of) ∙ ap (λ (ns : List ℕ). length ns) given.plans_are.regions ∙ length-numbers_from 1 (length p.regions) in
+    record { inlined = given.inlined; regions = given.plans_are.regions ∙ ap (numbers_from 1) (sym many); within = omega (arith, many); each = given.plans_are.each }
+
+pub as_many : (p : Program) (plans : List Plan) → AreGiven p plans → length plans ≡ length p.regions
+as_many p plans given = sym (length-map plans region_of) ∙ ap (λ (ns : List ℕ). length ns) given.plans_are.regions ∙ length-numbers_from 1 (length p.regions)
 
 take_next : {X : Type 0} (xs : List X) (n : ℕ) (x : X) → slice_get xs n ≡ Some x → take (suc n) xs ≡ take n xs ++ x ∷ []
 take_next xs n x e = take-suc xs n x (slice_get_within xs n x e) ∙ ap (λ (y : _). take n xs ++ y ∷ []) (get_or_from_slice_get xs n x x e)
 
-in_all_few : (p : Program) (input : List ℤ) (fuel : ℕ) → fuel ≤ 1000000000 → (xs : List Plan) → committed_in_all p xs (source_run p input fuel) ≤ length xs * 1000000000
-in_all_few p input fuel h [] = omega arith
-in_all_few p input fuel h (x ∷ xs) = let go = in_all_few p input fuel h xs in let one = committed_few p x input fuel in omega (arith, go, one, h)
+in_all_few : (p : Program) (run : Run) → run.fuel ≤ 1000000000 → (xs : List Plan) → committed_in_all p xs run ≤ length xs * 1000000000
+in_all_few p run h [] = omega arith
+in_all_few p run h (x ∷ xs) = let go = in_all_few p run h xs in let one = committed_few p x run in omega (arith, go, one, h)
 
 take_few : {X : Type 0} (n : ℕ) (xs : List X) → length (take n xs) ≤ n
 take_few n xs = let e = length-take n xs in omega (arith, e)
 
-module _ (p : Program) (plans : List Plan) (input : List ℤ) (fuel : ℕ) where
-  pub counted_none : (reports : List RegionReport) → reports ≡ [] → (before : ℕ) → Counted p plans input fuel 0 reports before before
-  counted_none reports e before = record { reports_are = e; tally_is = omega arith }
+module _ (p : Program) (plans : List Plan) (run : Run) where
+  pub counted_none : (told : List RegionReport) (before : ℕ) → Counted p plans run 0 told told before before
+  counted_none told before = record { reports_are = sym (append-nil told); tally_is = omega arith }
 
   -- one region more
-  pub counted_next : (n : ℕ) (plan : Plan) → slice_get plans n ≡ Some plan → (reports more : List RegionReport) (before mid now : ℕ) → Counted p plans input fuel n reports before mid →
-      more ≡ reports ++ region_report p plan (source_run p input fuel) ∷ [] → now ≡ mid + committed_count p plan (source_run p input fuel) → Counted p plans input fuel (suc n) more before now
-  counted_next n plan is reports more before mid now c e f = record {
-    reports_are = e ∙ ap (λ (rs : List RegionReport). rs ++ region_report p plan (source_run p input fuel) ∷ []) c.reports_are
-        ∙ sym (map-append (λ x. region_report p x (source_run p input fuel)) (take n plans) (plan ∷ [])) ∙ ap (λ (xs : List Plan). region_reports p xs (source_run p input fuel)) (sym (take_next plans n plan is));
-    tally_is = let one = in_all_append p (source_run p input fuel) (take n plans) (plan ∷ []) in
-        let all = ap (λ (xs : List Plan). committed_in_all p xs (source_run p input fuel)) (take_next plans n plan is) in omega (arith, f, c.tally_is, one, all);
+  pub counted_next : (n : ℕ) (plan : Plan) → slice_get plans n ≡ Some plan → (told reports more : List RegionReport) (before mid now : ℕ) → Counted p plans run n told reports before mid →
+      more ≡ reports ++ region_report p plan run ∷ [] → now ≡ mid + committed_count p plan run → Counted p plans run (suc n) told more before now
+  counted_next n plan is told reports more before mid now c e f = record {
+    reports_are = e ∙ ap (λ (rs : List RegionReport). rs ++ region_report p plan run ∷ []) c.reports_are ∙ append_assoc told (region_reports p (take n plans) run) (region_report p plan run ∷ [])
+        ∙ ap (λ (rs : List RegionReport). told ++ rs) (sym (map-append (λ x. region_report p x run) (take n plans) (plan ∷ [])) ∙ ap (λ (xs : List Plan). region_reports p xs run) (sym (take_next plans n plan is)));
+    tally_is = let one = in_all_append p run (take n plans) (plan ∷ []) in
+        let all = ap (λ (xs : List Plan). committed_in_all p xs run) (take_next plans n plan is) in omega (arith, f, c.tally_is, one, all);
   }
 
   -- there is room for a verdict for each step
-  pub room : fuel ≤ 1000000000 → (n : ℕ) → n < 2 ^ 32 → (reports : List RegionReport) (before now left : ℕ) → before < 2 ^ 63 → left ≤ fuel → Counted p plans input fuel n reports before now → now + left < 2 ^ 64
-  room h n few reports before now left start most c =
-      let all = in_all_few p input fuel h (take n plans) in let size = take_few n plans in omega (arith, all, size, few, start, most, h, c.tally_is)
+  pub room : run.fuel ≤ 1000000000 → (n : ℕ) → n < 2 ^ 32 → (told reports : List RegionReport) (before now left : ℕ) → before < 2 ^ 63 → left ≤ 1000000000 → Counted p plans run n told reports before now → now + left < 2 ^ 64
+  room h n few told reports before now left start most c =
+      let all = in_all_few p run h (take n plans) in let size = take_few n plans in omega (arith, all, size, few, start, most, h, c.tally_is)

@@ -17,10 +17,10 @@ use Rattle.dp_meaning.specs.declared.ends.PartEnd.{PartEnd}
 use Rattle.dp_meaning.specs.declared.ends.PartEnd.TheVariants as part_end
 use Rattle.dp_meaning.specs.MachineState.{MachineState, fuel_left, rest_of_run, part_of, part_at, next_part}
 use Rattle.dp_meaning.specs.PartRun.{PartRun}
-use Rattle.dp_crew.specs.RegionRun.{beyond}
+use Rattle.dp_epoch.specs.RegionRun.{beyond}
 use Rattle.dp_run.specs.RunText.{source_run}
-use Rattle.dp_run.specs.steps.Regions.{regions_left}
-use Rattle.dp_run.specs.steps.Stretches.{Passed, Behind, Between, Over, Leads}
+use Rattle.dp_run.specs.Regions.{regions_left}
+use Rattle.dp_run.specs.Stretches.{Passed, Behind, Between, Over, Leads}
 use Rattle.dp_run.proofs.RegionsLeft.{left_from_region, left_finished, left_at_region, Next, next_of, region, nothing, off_plain, off_finished}
 use Rattle.dp_run.proofs.Tops.{regions_numbered}
 use Rattle.dp_run.proofs.Passing.{passed_none, passed_on, starts_behind, off_plain_part, cells_at_end, run_over, config_at, no_start}
@@ -28,27 +28,26 @@ use Rattle.dp_commit.proofs.Parts.{run_begins}
 use Rattle.dp_tree.proofs.Heads.{standing_to_do}
 
 module _ (p : Program) (input : List ℤ) (fuel : ℕ) where
-  abbrev run : Run
-  run = source_run p input fuel
-
   -- the machine at the start of the program
-  pub behind_start : IsInlined p → (m : MachineState) → m ≡ record { program = p; input = input; config = begin p; steps = 0; fuel = fuel; current = None; spoiled = false } → Behind p input fuel 0 m
-  behind_start h m is = subst (Behind p input fuel 0) (sym is) (record {
+  pub behind_start : IsInlined p → (m : MachineState) → m ≡ record { program = p; input = input; config = begin p; steps = 0; fuel = fuel; current = None; spoiled = false } → Behind p input fuel (source_run p input fuel) 0 m
+  behind_start h m is = subst (Behind p input fuel (source_run p input fuel) 0) (sym is) (record {
+    begins = record { from = begin p; steps = fuel; stands = begins_in_main p; within = omega arith; run_is = refl };
     program_is = refl;
     input_is = refl;
     fuel_is = refl;
-    passed = subst (λ (rest : Run). Passed run rest 1) (sym all) (passed_none run 1);
+    passed = subst (λ (rest : Run). Passed (source_run p input fuel) rest 1) (sym all) (passed_none (source_run p input fuel) 1);
     left = let none : length p.regions - 0 ≡ length p.regions = omega arith in
         ap regions_left (standing_to_do p p.main (start_cells p.vars)) ∙ regions_numbered p h ∙ ap (numbers_from 1) (sym none);
     between = refl;
     sound = refl;
   })
     where
-      all : run_of p input (fuel - 0) (begin p) ≡ run
+      all : run_of p input (fuel - 0) (begin p) ≡ source_run p input fuel
       all = let e : fuel - 0 ≡ fuel = omega arith in ap (λ (n : ℕ). run_of p input n (begin p)) e
 
+module _ (p : Program) (input : List ℤ) (fuel : ℕ) (run : Run) where
   -- The run is over where the machine stands.
-  pub over_at : (n left k : ℕ) (m : MachineState) (why : End) → Passed run (rest_of_run m) k → rest_of_run m ≡ ended left m.config why → ((r : ℕ) → n < r → starts run r ≡ []) → Over p input fuel n m why
+  pub over_at : (n left k : ℕ) (m : MachineState) (why : End) → Passed run (rest_of_run m) k → rest_of_run m ≡ ended left m.config why → ((r : ℕ) → n < r → starts run r ≡ []) → Over run n m why
   over_at n left k m why a e none = record {
     end_is = a.piece.end ∙ ap (λ (u : Run). u.end) e;
     no_step = ap (λ (u : Run). u.trace) e;
@@ -57,18 +56,19 @@ module _ (p : Program) (input : List ℤ) (fuel : ℕ) where
   }
 
   -- .. in a plain part or behind the last statement
-  over_plain : (n left : ℕ) (m : MachineState) (why : End) → Behind p input fuel n m → rest_of_run m ≡ ended left m.config why → ((r : ℕ) → not (stands_at_head r m.config) ≡ true) → Over p input fuel n m why
+  over_plain : (n left : ℕ) (m : MachineState) (why : End) → Behind p input fuel run n m → rest_of_run m ≡ ended left m.config why → ((r : ℕ) → not (stands_at_head r m.config) ≡ true) → Over run n m why
   over_plain n left m why b e off = over_at n left (suc n) m why b.passed e
       (λ r h. b.passed.ahead r h ∙ ap (map (beyond (length b.passed.events))) (no_start (rest_of_run m) r left m.config why e (off r)))
 
   -- Nothing is left to do.
-  pub over_done : (n : ℕ) (m : MachineState) → Behind p input fuel n m → part_of m.config.to_do ≡ part.Finished → Over p input fuel n m how.Done
+  pub over_done : (n : ℕ) (m : MachineState) → Behind p input fuel run n m → part_of m.config.to_do ≡ part.Finished → Over run n m how.Done
   over_done n m b e = over_plain n (fuel_left m) m how.Done b (run_over m.program m.input (fuel_left m) m.config e) (λ r. off_finished r m.config e)
 
-  module _ (n turns : ℕ) (old new : MachineState) (before after : List ℤ) (b : Behind p input fuel n old) where
+  module _ (n turns : ℕ) (old new : MachineState) (before after : List ℤ) (b : Behind p input fuel run n old) where
     -- A call runs a plain part, whatever its end.
-    pub part_behind : (end : PartEnd) → PartRun turns old new before after end → Behind p input fuel n new
+    pub part_behind : (end : PartEnd) → PartRun turns old new before after end → Behind p input fuel run n new
     part_behind end call = record {
+      begins = b.begins;
       program_is = call.moved.program ∙ b.program_is;
       input_is = call.moved.input ∙ b.input_is;
       fuel_is = call.moved.fuel ∙ b.fuel_is;
@@ -82,17 +82,17 @@ module _ (p : Program) (input : List ℤ) (fuel : ℕ) where
     plain_at : (end : PartEnd) (call : PartRun turns old new before after end) → next_part new ≡ part.Plain → part_of new.config.to_do ≡ part.Plain
     plain_at end call e = ap (λ (o : Option ℕ). part_at o new.config.to_do) (sym (call.current ∙ b.between)) ∙ e
 
-    pub part_done : PartRun turns old new before after part_end.Done → Leads p input fuel n new None
+    pub part_done : PartRun turns old new before after part_end.Done → Leads p input fuel run n new None
     part_done call = record { behind = part_behind part_end.Done call; over = call.stops.part }
 
-    pub part_fault : (fault : FaultAt) → PartRun turns old new before after (part_end.Fault fault) → Leads p input fuel n new (Some (how.Fault fault))
+    pub part_fault : (fault : FaultAt) → PartRun turns old new before after (part_end.Fault fault) → Leads p input fuel run n new (Some (how.Fault fault))
     part_fault fault call = over_plain n (fuel_left new) new (how.Fault fault) (part_behind (part_end.Fault fault) call) call.stops.2.ends
         (λ r. off_plain r new.config (plain_at (part_end.Fault fault) call call.stops.0))
 
-    pub part_fuel : PartRun turns old new before after part_end.Fuel → Leads p input fuel n new (Some how.Fuel)
+    pub part_fuel : PartRun turns old new before after part_end.Fuel → Leads p input fuel run n new (Some how.Fuel)
     part_fuel call = over_plain n 0 new how.Fuel (part_behind part_end.Fuel call) call.stops.1.ends (λ r. off_plain r new.config (plain_at part_end.Fuel call call.stops.0))
 
-  module _ (n : ℕ) (m : MachineState) (b : Between p input fuel n m) where
+  module _ (n : ℕ) (m : MachineState) (b : Between p input fuel run n m) where
     part_here : next_part m ≡ part_of m.config.to_do
     part_here = ap (λ (o : Option ℕ). part_at o m.config.to_do) b.behind.between
 
@@ -131,4 +131,6 @@ module _ (p : Program) (input : List ℤ) (fuel : ℕ) where
         config_at run (rest_of_run m) b.behind.passed.events b.behind.passed.configs b.behind.passed.piece 0 ∙ ap (λ (cs : List Config). slice_get cs 0) begins.1
 
     pub stands_here : IsInlined p → StandsInMain p m.config
-    stands_here h = stays_in_main p input h.regions fuel (length b.behind.passed.events + 0) (begin p) m.config (begins_in_main p) config_here
+    stands_here h =
+        let start = b.behind.begins in
+        stays_in_main p input h.regions start.steps (length b.behind.passed.events + 0) start.from m.config start.stands (subst (λ (u : Run). slice_get u.configs (length b.behind.passed.events + 0) ≡ Some m.config) start.run_is config_here)

@@ -3,7 +3,7 @@ use Rattle.std.proofs.Common.{◌≡◌, refl, ap, ◌∙◌, ℕ, suc, ◌+◌,
 use Rattle.std.proofs.lemmas.Bool.{and_parts}
 use Rattle.std.specs.List.{list_all}
 use Rattle.dp_tree.specs.Iteration.{places}
-use Rattle.dp_crew.specs.RegionRun.{beyond}
+use Rattle.dp_epoch.specs.RegionRun.{beyond}
 use Rattle.std.proofs.lemmas.Simd.{map-map}
 
 pub map_same : {X Y : Type 0} (f g : X → Y) → ((x : X) → f x ≡ g x) → (xs : List X) → map f xs ≡ map g xs

@@ -3,27 +3,28 @@ use Rattle.std.proofs.Common.{◌≡◌, ℕ, List, ℤ, None, Some}
 use Rattle.dp_base.specs.declared.Fault.{Fault as FaultAt}
 use Rattle.dp_base.specs.declared.End.TheVariants as how
 use Rattle.dp_tree.specs.declared.Program.{Program}
+use Rattle.dp_tree.specs.Trace.{Run}
 use Rattle.dp_meaning.specs.declared.ends.Part.TheVariants.{Plain}
 use Rattle.dp_meaning.specs.declared.ends.PartEnd.TheVariants.{Done, Fault, Fuel, Going}
 use Rattle.dp_meaning.specs.MachineState.{MachineState, next_part}
 use Rattle.dp_run.specs.steps.Calls.{PartSteps}
-use Rattle.dp_run.specs.steps.Stretches.{Behind, Leads}
+use Rattle.dp_run.specs.Stretches.{Behind, Leads}
 use Rattle.dp_run.proofs.Leading.{part_behind, part_done, part_fault, part_fuel}
 
 -- The part has begun and isn't over.
 pub record PartSoFar (old now : MachineState) : Type 0 where
   pub plain : next_part now ≡ Plain
-  pub behind : (p : Program) (input : List ℤ) (fuel n : ℕ) → Behind p input fuel n old → Behind p input fuel n now
+  pub behind : (p : Program) (input : List ℤ) (fuel : ℕ) (run : Run) (n : ℕ) → Behind p input fuel run n old → Behind p input fuel run n now
 
 module _ (old mid new : MachineState) (h : PartSoFar old mid) where
   pub part_going : PartSteps mid new Going → PartSoFar old new
-  part_going s = record { plain = s.call.stops.0; behind = λ p input fuel n b. part_behind p input fuel n s.turns mid new s.before s.after (h.behind p input fuel n b) Going s.call }
+  part_going s = record { plain = s.call.stops.0; behind = λ p input fuel run n b. part_behind p input fuel run n s.turns mid new s.before s.after (h.behind p input fuel run n b) Going s.call }
 
-  pub part_ends : PartSteps mid new Done → (p : Program) (input : List ℤ) (fuel n : ℕ) → Behind p input fuel n old → Leads p input fuel n new None
-  part_ends s p input fuel n b = part_done p input fuel n s.turns mid new s.before s.after (h.behind p input fuel n b) s.call
+  pub part_ends : PartSteps mid new Done → (p : Program) (input : List ℤ) (fuel : ℕ) (run : Run) (n : ℕ) → Behind p input fuel run n old → Leads p input fuel run n new None
+  part_ends s p input fuel run n b = part_done p input fuel run n s.turns mid new s.before s.after (h.behind p input fuel run n b) s.call
 
-  pub part_faults : (fault : FaultAt) → PartSteps mid new (Fault fault) → (p : Program) (input : List ℤ) (fuel n : ℕ) → Behind p input fuel n old → Leads p input fuel n new (Some (how.Fault fault))
-  part_faults fault s p input fuel n b = part_fault p input fuel n s.turns mid new s.before s.after (h.behind p input fuel n b) fault s.call
+  pub part_faults : (fault : FaultAt) → PartSteps mid new (Fault fault) → (p : Program) (input : List ℤ) (fuel : ℕ) (run : Run) (n : ℕ) → Behind p input fuel run n old → Leads p input fuel run n new (Some (how.Fault fault))
+  part_faults fault s p input fuel run n b = part_fault p input fuel run n s.turns mid new s.before s.after (h.behind p input fuel run n b) fault s.call
 
-  pub part_spent : PartSteps mid new Fuel → (p : Program) (input : List ℤ) (fuel n : ℕ) → Behind p input fuel n old → Leads p input fuel n new (Some how.Fuel)
-  part_spent s p input fuel n b = part_fuel p input fuel n s.turns mid new s.before s.after (h.behind p input fuel n b) s.call
+  pub part_spent : PartSteps mid new Fuel → (p : Program) (input : List ℤ) (fuel : ℕ) (run : Run) (n : ℕ) → Behind p input fuel run n old → Leads p input fuel run n new (Some how.Fuel)
+  part_spent s p input fuel run n b = part_fuel p input fuel run n s.turns mid new s.before s.after (h.behind p input fuel run n b) s.call

@@ -14,8 +14,8 @@ use Rattle.dp_tree.specs.Iteration.{starts, places, stands_at_head, cells_in, ce
 use Rattle.dp_meaning.specs.declared.ends.Part.TheVariants as part
 use Rattle.dp_meaning.specs.Continues.{Continues}
 use Rattle.dp_meaning.specs.MachineState.{part_of}
-use Rattle.dp_crew.specs.RegionRun.{beyond}
-use Rattle.dp_run.specs.steps.Stretches.{Passed}
+use Rattle.dp_epoch.specs.RegionRun.{beyond}
+use Rattle.dp_run.specs.Stretches.{Passed}
 use Rattle.dp_run.proofs.Lists.{beyond_none, beyond_twice, places_moved, no_places}
 use Rattle.dp_run.proofs.RegionsLeft.{off_plain, nothing_left}
 use Rattle.dp_meaning.proofs.ContinuesLemmas.{continues_none, continues_join}

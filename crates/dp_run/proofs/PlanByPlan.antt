@@ -1,66 +1,68 @@
 -- The run after each plan's region, and where it ends.
 use Rattle.std.proofs.Common.{◌≡◌, sym, ap, subst, ◌∙◌, ℕ, suc, ◌+◌, ◌-◌, ◌<◌, ◌≤◌, ◌^◌, List, [], ◌∷◌, ◌++◌, ℤ, length, slice_get, Option, Some, None, arith}
 use Rattle.dp_base.specs.declared.End.{End}
-use Rattle.dp_base.specs.declared.End.TheVariants as how
 use Rattle.dp_base.specs.declared.RegionReport.{RegionReport}
 use Rattle.dp_tree.specs.declared.Program.{Program}
+use Rattle.dp_tree.specs.Trace.{Run}
 use Rattle.dp_plan.specs.declared.Plan.{Plan}
 use Rattle.dp_plan.proofs.RegionFacts.{few_regions}
 use Rattle.dp_semantics.specs.Reported.{region_report}
+use Rattle.dp_semantics.proofs.Central.{fuel_is}
 use Rattle.dp_meaning.specs.MachineState.{MachineState}
-use Rattle.dp_run.specs.Given.{AreGiven}
-use Rattle.dp_run.specs.RunText.{source_run, committed_count}
-use Rattle.dp_run.specs.steps.Stretches.{Between, Counted, Finished, Leads}
-use Rattle.dp_run.proofs.Counting.{as_many, counted_next, number_is, room}
-use Rattle.dp_run.proofs.Leading.{finished_next, over_done}
+use Rattle.dp_run.specs.Given.{AreNext}
+use Rattle.dp_run.specs.RunText.{committed_count}
+use Rattle.dp_run.specs.Stretches.{Between, Counted, Leads, RunsFrom, Went}
+use Rattle.dp_run.proofs.Counting.{counted_next, number_is, room}
 
-module _ (p : Program) (plans : List Plan) (input : List ℤ) (fuel n : ℕ) where
+-- the run makes no more steps than the fuel allows
+run_few : (p : Program) (input : List ℤ) (fuel : ℕ) (run : Run) → RunsFrom p input fuel run → fuel ≤ 1000000000 → run.fuel ≤ 1000000000
+run_few p input fuel run b few = let all : run.fuel ≡ b.steps = ap (λ (u : Run). u.fuel) b.run_is ∙ fuel_is p input b.steps b.from in omega (arith, all, b.within, few)
+
+module _ (p : Program) (plans : List Plan) (input : List ℤ) (fuel : ℕ) (run : Run) (n : ℕ) where
   -- The next part comes.
-  pub goes_on : (m : MachineState) (o : Option End) → o ≡ None → Leads p input fuel n m o → Between p input fuel n m
-  goes_on m o is leads = subst (Leads p input fuel n m) is leads
+  pub goes_on : (k : ℕ) (m : MachineState) (o : Option End) → o ≡ None → Leads p input fuel run k m o → Between p input fuel run k m
+  goes_on k m o is leads = subst (Leads p input fuel run k m) is leads
 
-  module _ (m : MachineState) (reports : List RegionReport) (before now : ℕ) (counted : Counted p plans input fuel n reports before now) where
+  module _ (k : ℕ) (m : MachineState) (told reports : List RegionReport) (before now : ℕ) (counted : Counted p plans run k told reports before now) where
     -- The run has ended.
-    pub finished_here : n ≤ length plans → (o : Option End) (end : End) → o ≡ Some end → Leads p input fuel n m o → Finished p plans input fuel m end reports before now
-    finished_here within o end is leads = record { count = n; within = within; over = subst (Leads p input fuel n m) is leads; counted = counted }
+    pub ended_here : k ≤ length plans → (o : Option End) (end : End) → o ≡ Some end → Leads p input fuel run (n + k) m o → Went p plans input fuel run n m (Some end) told reports before now
+    ended_here within o end is leads = record { count = k; within = within; all = λ e. absurd (cc e); leads = subst (Leads p input fuel run (n + k) m) is leads; counted = counted }
 
-    -- No plan is left, so that no region is, and the run is over.
-    pub finished_all : AreGiven p plans → n ≡ length plans → Between p input fuel n m → Finished p plans input fuel m how.Done reports before now
-    finished_all given all b =
-        let none : length p.regions - n ≡ 0 = omega (arith, all, as_many p plans given) in
-        record { count = n; within = omega (arith, all); over = over_done p input fuel n m b.behind (finished_next p input fuel n m b none); counted = counted }
+    -- The regions of all plans are left behind.
+    pub went_by_all : k ≡ length plans → Between p input fuel run (n + k) m → Went p plans input fuel run n m None told reports before now
+    went_by_all all b = record { count = k; within = omega (arith, all); all = λ e. all; leads = b; counted = counted }
 
     -- there is room to count a verdict for each step that is left
-    pub room_here : AreGiven p plans → n < length plans → fuel ≤ 1000000000 → before < 2 ^ 63 → Between p input fuel n m → now + (m.fuel - m.steps) < 2 ^ 64
+    pub room_here : AreNext p n plans → k < length plans → fuel ≤ 1000000000 → before < 2 ^ 63 → Between p input fuel run (n + k) m → now + (m.fuel - m.steps) < 2 ^ 64
     room_here given more few start b =
         let regions = few_regions p given.inlined in
-        let most : m.fuel - m.steps ≤ fuel = omega (arith, b.behind.fuel_is) in
-        room p plans input fuel few n (omega (arith, regions, as_many p plans given, more)) reports before now (m.fuel - m.steps) start most counted
+        let most : m.fuel - m.steps ≤ 1000000000 = omega (arith, b.behind.fuel_is, few) in
+        room p plans run (run_few p input fuel run b.behind.begins few) k (omega (arith, regions, given.within, more)) told reports before now (m.fuel - m.steps) start most counted
 
 -- The next plan's region is run.
-module _ (p : Program) (plans : List Plan) (input : List ℤ) (fuel n : ℕ) (given : AreGiven p plans) (plan : Plan) (is : slice_get plans n ≡ Some plan) (m : MachineState) (b : Between p input fuel n m) where
-  number : plan.region ≡ suc n
-  number = number_is p plans given n plan is
+module _ (p : Program) (plans : List Plan) (input : List ℤ) (fuel : ℕ) (run : Run) (n k : ℕ) (given : AreNext p n plans) (plan : Plan) (is : slice_get plans k ≡ Some plan) (m : MachineState) (b : Between p input fuel run (n + k) m) where
+  number : plan.region ≡ suc (n + k)
+  number = number_is p n plans given k plan is
 
-  at_own : Between p input m.fuel n m
-  at_own = subst (λ (k : ℕ). Between p input k n m) (sym b.behind.fuel_is) b
+  at_own : Between p input m.fuel run (n + k) m
+  at_own = subst (λ (f : ℕ). Between p input f run (n + k) m) (sym b.behind.fuel_is) b
 
-  one_more : suc n ≡ n + 1
+  one_more : suc (n + k) ≡ n + (k + 1)
   one_more = omega arith
 
-  pub starts_next : (k : ℕ) × (plan.region ≡ suc k) × Between p input m.fuel k m
-  starts_next = (n, number, at_own)
+  pub starts_next : (u : Run) × (j : ℕ) × (plan.region ≡ suc j) × Between p input m.fuel u j m
+  starts_next = (run, n + k, number, at_own)
 
   -- where it leads
-  pub leads_next : (last : MachineState) (o : Option End) → ((k : ℕ) → plan.region ≡ suc k → Between p input m.fuel k m → Leads p input m.fuel (suc k) last o) → Leads p input fuel (n + 1) last o
+  pub leads_next : (last : MachineState) (o : Option End) → ((u : Run) (j : ℕ) → plan.region ≡ suc j → Between p input m.fuel u j m → Leads p input m.fuel u (suc j) last o) → Leads p input fuel run (n + (k + 1)) last o
   leads_next last o ran =
-      subst (λ (k : ℕ). Leads p input k (n + 1) last o) b.behind.fuel_is (subst (λ (k : ℕ). Leads p input m.fuel k last o) one_more (ran n number at_own))
+      subst (λ (f : ℕ). Leads p input f run (n + (k + 1)) last o) b.behind.fuel_is (subst (λ (j : ℕ). Leads p input m.fuel run j last o) one_more (ran run (n + k) number at_own))
 
   -- its report, and how many of its iterations are counted
-  pub counts_next : (reports more : List RegionReport) (before mid now : ℕ) → Counted p plans input fuel n reports before mid → more ≡ reports ++ region_report p plan (source_run p input m.fuel) ∷ [] →
-      now ≡ mid + committed_count p plan (source_run p input m.fuel) → Counted p plans input fuel (n + 1) more before now
-  counts_next reports more before mid now counted reported tally =
-      subst (λ (k : ℕ). Counted p plans input fuel k more before now) one_more
-      (counted_next p plans input fuel n plan is reports more before mid now counted
-      (reported ∙ ap (λ (k : ℕ). reports ++ region_report p plan (source_run p input k) ∷ []) b.behind.fuel_is)
-      (tally ∙ ap (λ (k : ℕ). mid + committed_count p plan (source_run p input k)) b.behind.fuel_is))
+  pub counts_next : (told reports more : List RegionReport) (before mid now : ℕ) → Counted p plans run k told reports before mid →
+      ((u : Run) (j : ℕ) → plan.region ≡ suc j → Between p input m.fuel u j m → more ≡ reports ++ region_report p plan u ∷ []) →
+      ((u : Run) (j : ℕ) → plan.region ≡ suc j → Between p input m.fuel u j m → now ≡ mid + committed_count p plan u) → Counted p plans run (k + 1) told more before now
+  counts_next told reports more before mid now counted reported tally =
+      let next : suc k ≡ k + 1 = omega arith in
+      subst (λ (j : ℕ). Counted p plans run j told more before now) next
+      (counted_next p plans run k plan is told reports more before mid now counted (reported run (n + k) number at_own) (tally run (n + k) number at_own))

@@ -15,13 +15,15 @@ use Rattle.dp_meaning.specs.MachineState.{MachineState, fuel_left, rest_of_run, 
 use Rattle.dp_meaning.specs.Continues.{Continues}
 use Rattle.dp_meaning.specs.PartRun.{PartRun}
 use Rattle.dp_edge.specs.Sink.{appended}
-use Rattle.dp_crew.specs.Output.{Emits, WritesFront}
-use Rattle.dp_crew.specs.RegionRun.{region_run, region_prints}
-use Rattle.dp_run.specs.steps.Stretches.{to_come}
+use Rattle.dp_edge.specs.Writing.{WritesFront}
+use Rattle.dp_crew.specs.Output.{Emits}
+use Rattle.dp_epoch.specs.RegionRun.{region_run, region_prints}
+use Rattle.dp_run.specs.Stretches.{to_come}
 use Rattle.dp_run.proofs.RegionsLeft.{on_region}
 use Rattle.dp_run.proofs.Passing.{prints_on}
 use Rattle.dp_meaning.proofs.MovedLemmas.{prints-append}
-use Rattle.dp_crew.proofs.StreamLemmas.{emits_ahead, front_ahead, front_more, prints-split}
+use Rattle.dp_edge.proofs.FrontLemmas.{front_more}
+use Rattle.dp_crew.proofs.StreamLemmas.{emits_ahead, front_ahead, prints-split}
 use Rattle.dp_commit.proofs.Parts.{run_begins}
 
 -- The steps of a call print what was to come.

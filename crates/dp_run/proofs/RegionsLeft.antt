@@ -10,7 +10,7 @@ use Rattle.dp_meaning.specs.declared.ends.Part.TheVariants as part
 use Rattle.dp_meaning.specs.MachineState.{part_from, part_of, is_any_region, from_region}
 use Rattle.dp_commit.proofs.Parts.{head_part}
 use Rattle.dp_tree.specs.Step.{region_number}
-use Rattle.dp_run.specs.steps.Regions.{number_of, regions_left}
+use Rattle.dp_run.specs.Regions.{number_of, regions_left}
 pub use Rattle.dp_meaning.proofs.WatchedLemmas.{part_finished as nothing_left}
 pub use Rattle.dp_meaning.proofs.NextLemmas.{on_region}
 

@@ -1,9 +1,9 @@
 -- What is reported of a region's own run is what is reported of it in the whole run.
-use Rattle.std.proofs.Common.{◌≡◌, refl, sym, ap, ◌∙◌, ℕ, suc, ◌+◌, ◌-◌, ◌<◌, ◌≤◌, Bool, true, false, if◌then◌else◌, cond, List, [], ◌∷◌, ℤ, length, map, take, count_by, nat_lt, Some, slice_get, arith, rules}
+use Rattle.std.proofs.Common.{◌≡◌, refl, sym, ap, subst, ◌∙◌, ℕ, suc, ◌+◌, ◌-◌, ◌<◌, ◌≤◌, Bool, true, false, if◌then◌else◌, cond, List, [], ◌∷◌, ℤ, length, map, take, count_by, nat_lt, Some, slice_get, arith, rules}
 use Rattle.std.proofs.lemmas.List.Sums.{sum_by-cons, count_by-le-length, length-filter}
 use Rattle.dp_base.specs.declared.Cause.{Cause as ReportedCause}
 use Rattle.dp_tree.specs.declared.Program.{Program}
-use Rattle.dp_tree.specs.Trace.{Run, run_of, begin}
+use Rattle.dp_tree.specs.Trace.{Run, run_of}
 use Rattle.dp_tree.specs.Iteration.{starts, start, places, begun_count, stands_at_head}
 use Rattle.dp_plan.specs.declared.Plan.{Plan}
 use Rattle.dp_tree.specs.Numbering.{numbers_from}
@@ -14,9 +14,9 @@ use Rattle.dp_semantics.specs.Shift.{SameRegion}
 use Rattle.dp_theorem.proofs.Shift.{region_runs_alone}
 use Rattle.dp_meaning.specs.declared.ends.Part.TheVariants as part
 use Rattle.dp_meaning.specs.MachineState.{MachineState, fuel_left, rest_of_run, part_of}
-use Rattle.dp_crew.specs.RegionRun.{beyond, region_run}
-use Rattle.dp_run.specs.RunText.{source_run, committed_count}
-use Rattle.dp_run.specs.steps.Stretches.{Between}
+use Rattle.dp_epoch.specs.RegionRun.{beyond, region_run}
+use Rattle.dp_run.specs.RunText.{committed_count}
+use Rattle.dp_run.specs.Stretches.{Between, RunsFrom}
 use Rattle.dp_run.proofs.Lists.{map_same}
 use Rattle.dp_run.proofs.RegionsLeft.{on_region}
 use Rattle.dp_run.proofs.Leading.{config_here}
@@ -24,9 +24,9 @@ use Rattle.dp_theorem.proofs.Central.{fuel_is}
 use Rattle.dp_commit.proofs.Parts.{run_begins}
 use Rattle.dp_tree.proofs.NumberLists.{length-numbers_from}
 
-module _ (p : Program) (plan : Plan) (input : List ℤ) (fuel n : ℕ) (m : MachineState) (number : plan.region ≡ suc n) (b : Between p input fuel n m) (here : part_of m.config.to_do ≡ part.Region (suc n)) where
-  abbrev run : Run
-  run = source_run p input fuel
+module _ (p : Program) (plan : Plan) (input : List ℤ) (fuel : ℕ) (run : Run) (n : ℕ) (m : MachineState) (number : plan.region ≡ suc n) (b : Between p input fuel run n m) (here : part_of m.config.to_do ≡ part.Region (suc n)) where
+  abbrev start_is : RunsFrom p input fuel run
+  start_is = b.behind.begins
 
   abbrev made : ℕ
   made = length b.behind.passed.events
@@ -40,22 +40,25 @@ module _ (p : Program) (plan : Plan) (input : List ℤ) (fuel n : ℕ) (m : Mach
       ap (places (stands_at_head (suc n)) 0) begins.1 ∙ ap (λ (t : Bool). if t then 0 ∷ more else more) (on_region (suc n) m.config here) in
       ap (λ (r : ℕ). start run r 0) number ∙ ap (λ (ks : List ℕ). slice_get ks 0) (b.behind.passed.ahead (suc n) (omega arith) ∙ ap (map (beyond made)) rest_starts)
 
-  left_is : fuel - (made + 0) ≡ fuel_left m
+  left_is : start_is.steps - (made + 0) ≡ fuel_left m
   left_is =
-      let all = fuel_is p input fuel (begin p) in
+      let all : run.fuel ≡ start_is.steps = ap (λ (u : Run). u.fuel) start_is.run_is ∙ fuel_is p input start_is.steps start_is.from in
       let rest = fuel_is m.program m.input (fuel_left m) m.config in
       omega (arith, all, rest, b.behind.passed.piece.fuel)
 
-  own_is : run_of p input (fuel - (made + 0)) m.config ≡ region_run m
+  own_is : run_of p input (start_is.steps - (made + 0)) m.config ≡ region_run m
   own_is =
       ap (λ (k : ℕ). run_of p input k m.config) left_is ∙ ap (λ (q : Program). run_of q input (fuel_left m) m.config) (sym b.behind.program_is)
       ∙ ap (λ (zs : List ℤ). run_of m.program zs (fuel_left m) m.config) (sym b.behind.input_is)
 
-  same : SameRegion p plan (made + 0) run (run_of p input (fuel - (made + 0)) m.config)
-  same = region_runs_alone p plan input fuel (made + 0) (begin p) m.config (config_here p input fuel n m b) first_start
-
   abbrev own : Run
-  own = run_of p input (fuel - (made + 0)) m.config
+  own = run_of p input (start_is.steps - (made + 0)) m.config
+
+  same : SameRegion p plan (made + 0) run (run_of p input (start_is.steps - (made + 0)) m.config)
+  same = subst (λ (u : Run). SameRegion p plan (made + 0) u own) (sym start_is.run_is)
+      (region_runs_alone p plan input start_is.steps (made + 0) start_is.from m.config
+      (subst (λ (u : Run). slice_get u.configs (made + 0) ≡ Some m.config) start_is.run_is (config_here p input fuel run n m b))
+      (subst (λ (u : Run). start u plan.region 0 ≡ Some (made + 0)) start_is.run_is first_start))
 
   report_own : region_report p plan run ≡ region_report p plan own
   report_own =
@@ -86,6 +89,5 @@ places_few test k n (x ∷ xs) = by (test x) (places_few test (suc k) n xs)
 pub begun_few : (run : Run) (r : ℕ) → begun_count run r ≤ run.fuel
 begun_few u r = let few = places_few (stands_at_head r) 0 u.fuel u.configs in omega (arith, few)
 
-pub committed_few : (p : Program) (plan : Plan) (input : List ℤ) (fuel : ℕ) → committed_count p plan (source_run p input fuel) ≤ fuel
-committed_few p plan input fuel =
-    let few = begun_few (source_run p input fuel) plan.region in let all = fuel_is p input fuel (begin p) in omega (arith, few, all)
+pub committed_few : (p : Program) (plan : Plan) (run : Run) → committed_count p plan run ≤ run.fuel
+committed_few p plan run = let few = begun_few run plan.region in omega (arith, few)

@@ -1,7 +1,8 @@
 -- Prints that are written bit by bit: what is left where nothing waits.
 use Rattle.std.proofs.Common.{◌≡◌, ap, subst, ℕ, List, [], ◌++◌, ℤ, Option}
 use Rattle.dp_report.specs.PrintsText.{prints_bytes}
-use Rattle.dp_crew.specs.Output.{Emits, WritesFront}
+use Rattle.dp_edge.specs.Writing.{WritesFront}
+use Rattle.dp_crew.specs.Output.{Emits}
 use Rattle.dp_crew.proofs.StreamLemmas.{emits_ahead, emits_front, emits_on, front_ahead}
 
 -- What was to come behind nothing that waits, and what waits, was written up to nothing that waits.

@@ -11,7 +11,7 @@ use Rattle.dp_tree.specs.Numbering.{is_marked, is_inner_in, listed_first, has_nu
 use Rattle.dp_tree.specs.Inlined.{IsInlined}
 use Rattle.dp_tree.specs.Step.{region_number}
 use Rattle.dp_plan.proofs.TopStatements.{Top, marked, unmarked, top}
-use Rattle.dp_run.specs.steps.Regions.{number_of, regions_left}
+use Rattle.dp_run.specs.Regions.{number_of, regions_left}
 use Rattle.dp_run.proofs.RegionsLeft.{left_cons}
 
 -- a statement that is no region has no number

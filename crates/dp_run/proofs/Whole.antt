@@ -1,9 +1,10 @@
 -- The whole run's text is written, or a front of it.
-use Rattle.std.proofs.Common.{◌≡◌, refl, sym, ap, ◌∙◌, subst, ℕ, ◌+◌, ◌-◌, Bool, false, List, [], ◌++◌, append-nil, length, take, drop, All, ℤ, Option, None, arith}
+use Rattle.std.proofs.Common.{◌≡◌, refl, sym, ap, ◌∙◌, subst, ℕ, ◌+◌, ◌-◌, ◌≤◌, Bool, false, List, [], ◌++◌, append-nil, length, take, drop, All, ℤ, Option, Some, None, arith}
 use Rattle.std.proofs.lemmas.Grind.{flat_map-append}
 use Rattle.std.proofs.lemmas.List.{take-append-drop}
 use Rattle.dp_base.specs.declared.RegionReport.{RegionReport}
 use Rattle.dp_base.specs.declared.End.{End}
+use Rattle.dp_base.specs.declared.End.TheVariants.{Done}
 use Rattle.dp_tree.specs.declared.Program.{Program}
 use Rattle.dp_tree.specs.Trace.{Run, run_of, begin, prints}
 use Rattle.dp_edge.specs.Sink.{appended}
@@ -12,13 +13,22 @@ use Rattle.dp_meaning.specs.MachineState.{MachineState}
 use Rattle.dp_report.specs.PrintsText.{prints_bytes}
 use Rattle.dp_report.specs.RegionText.{report_lines, regions_bytes}
 use Rattle.dp_report.specs.EndText.{end_bytes}
-use Rattle.dp_crew.specs.Output.{Emits, WritesFront}
+use Rattle.dp_edge.specs.Writing.{WritesFront}
+use Rattle.dp_crew.specs.Output.{Emits}
 use Rattle.dp_run.specs.Given.{AreGiven}
 use Rattle.dp_run.specs.RunText.{source_run, region_reports, final_cells, closing_text, trace_text, committed_in_all}
-use Rattle.dp_run.specs.steps.Stretches.{Behind, to_come, Finished}
-use Rattle.dp_run.proofs.Leading.{behind_start}
+use Rattle.dp_run.specs.Stretches.{Ahead, Behind, Counted, Over, Went, ended_by, to_come}
+use Rattle.dp_run.proofs.Counting.{all_next, as_many}
+use Rattle.dp_run.proofs.Leading.{behind_start, finished_next, over_done}
 use Rattle.dp_run.proofs.Ending.{IsListed, IsExplained, listed_in, explained_in, silent_in, none_in, reports_append, in_all_append, numbers_behind}
-use Rattle.dp_crew.proofs.StreamLemmas.{appended-append, front_behind, front_more}
+use Rattle.dp_edge.proofs.FrontLemmas.{appended-append, front_behind, front_more}
+
+-- The run has ended behind the first of the plans' regions, whose reports are there.
+pub record Finished (p : Program) (plans : List Plan) (input : List ℤ) (fuel : ℕ) (m : MachineState) (end : End) (reports : List RegionReport) (before now : ℕ) : Type 0 where
+  pub count : ℕ
+  pub within : count ≤ length plans
+  pub over : Over (source_run p input fuel) count m end
+  pub counted : Counted p plans (source_run p input fuel) count [] reports before now
 
 module _ (p : Program) (plans : List Plan) (input : List ℤ) (fuel : ℕ) (why : Bool) (given : AreGiven p plans) where
   abbrev run : Run
@@ -27,8 +37,34 @@ module _ (p : Program) (plans : List Plan) (input : List ℤ) (fuel : ℕ) (why 
   abbrev Start : MachineState → Type 0
   Start m = m ≡ record { program = p; input = input; config = begin p; steps = 0; fuel = fuel; current = None; spoiled = false }
 
-  pub begins : (m : MachineState) → Start m → Behind p input m.fuel 0 m
-  begins m e = let f : m.fuel ≡ fuel = ap (λ (x : MachineState). x.fuel) e in subst (λ (k : ℕ). Behind p input k 0 m) (sym f) (behind_start p input fuel given.inlined m e)
+  begins : (m : MachineState) → Start m → Behind p input m.fuel run 0 m
+  begins m e = let f : m.fuel ≡ fuel = ap (λ (x : MachineState). x.fuel) e in subst (λ (k : ℕ). Behind p input k run 0 m) (sym f) (behind_start p input fuel given.inlined m e)
+
+  -- all regions are ahead
+  pub ahead : (m : MachineState) → Start m → Ahead p plans input m.fuel run 0 m
+  ahead m e = record { next = all_next p plans given; behind = begins m e }
+
+  -- Where it went by all regions it has ended, too.
+  pub finished : (m last : MachineState) → Start m → (o : Option End) (end : End) (told reports : List RegionReport) (before now : ℕ) → told ≡ [] → end ≡ ended_by o → Went p plans input m.fuel run 0 last o told reports before now →
+      Finished p plans input fuel last end reports before now
+  finished m last start None end told reports before now none is w =
+      let count : 0 + w.count ≡ w.count = omega arith in
+      let left : length p.regions - (0 + w.count) ≡ 0 = let many = as_many p plans given in let all = w.all refl in omega (arith, many, all) in
+      let over : Over run (0 + w.count) last Done = over_done p input m.fuel run (0 + w.count) last w.leads.behind (finished_next p input m.fuel run (0 + w.count) last w.leads left) in
+      record {
+        count = w.count;
+        within = w.within;
+        over = subst (λ (k : ℕ). Over run k last end) count (subst (Over run (0 + w.count) last) (sym is) over);
+        counted = subst (λ (rs : List RegionReport). Counted p plans run w.count rs reports before now) none w.counted;
+      }
+  finished m last start (Some how) end told reports before now none is w =
+      let count : 0 + w.count ≡ w.count = omega arith in
+      record {
+        count = w.count;
+        within = w.within;
+        over = subst (λ (k : ℕ). Over run k last end) count (subst (Over run (0 + w.count) last) (sym is) w.leads);
+        counted = subst (λ (rs : List RegionReport). Counted p plans run w.count rs reports before now) none w.counted;
+      }
 
   prints_at : (m : MachineState) → Start m → to_come m ≡ prints run.trace
   prints_at m e =

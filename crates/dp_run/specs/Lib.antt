@@ -1,3 +1,5 @@
 pub mod RunText
 pub mod Given
+pub mod Regions
+pub mod Stretches
 pub mod steps

@@ -7,5 +7,9 @@ mod plain;
 mod program;
 mod stretch;
 
-pub use dp_crew::{CrewFail, CrewSize, Tally, write};
+pub use dp_commit::Tally;
+pub use dp_epoch::CrewSize;
+pub use parts::run_parts;
+pub use plain::run_plain;
 pub use program::{RunOptions, run_program};
+pub use stretch::run_stretch;

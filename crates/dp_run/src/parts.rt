@@ -1,16 +1,17 @@
 //! The parts of `main`, one after the other.
-ghost use Rattle.std.specs.Prelude.{◌≡◌, ◌<◌, ◌≤◌, ◌-◌, ◌^◌, [], length, IfOk, OnErr};
+ghost use Rattle.std.specs.Prelude.{◌≡◌, ◌<◌, ◌≤◌, ◌-◌, ◌^◌, ℕ, length, IfOk, OnErr};
+ghost use Rattle.dp_tree.specs.Trace.{Run};
 ghost use Rattle.dp_report.specs.PrintsText.{prints_bytes};
-ghost use Rattle.dp_crew.specs.Fail.{FaultsAfter};
-ghost use Rattle.dp_crew.specs.Output.{Emits, WritesFront};
-ghost use Rattle.dp_run.specs.Given.{AreGiven};
-ghost use Rattle.dp_run.specs.steps.Stretches.{Behind, Finished, to_come};
+ghost use Rattle.dp_edge.specs.Writing.{FaultsAfter, WritesFront};
+ghost use Rattle.dp_crew.specs.Output.{Emits};
+ghost use Rattle.dp_run.specs.Stretches.{Ahead, Went, to_come};
 
 use crate::plain::run_plain;
 use crate::stretch::run_stretch;
 use dp_base::{End, RegionReport, Row};
-use dp_crew::{CrewFail, CrewSize, Tally};
-use dp_edge::{Gate, Sink};
+use dp_commit::Tally;
+use dp_edge::{Gate, Sink, WriteFail};
+use dp_epoch::CrewSize;
 use dp_meaning::Machine;
 use dp_plan::Plan;
 use dp_tree::Program;
@@ -19,8 +20,10 @@ use std::sync::Wait;
 use std::thread::Threads;
 use std::time::Clock;
 
-/// Runs all parts, up to the run's end. The reports are those of the regions that are reached.
-pub(crate) fn run_parts<'p, R: Threads + Wait + Clock + Sync, K: Sink, G: Gate>(
+/// Runs the plain part that comes next, if one does, and then the region of each plan with the plain part behind it, up to
+/// the run's end. Reports of the regions that are reached are appended. Without an end the run stands behind all of them: at
+/// the end of `main`, or before the next region.
+pub fn run_parts<'p, R: Threads + Wait + Clock + Sync, K: Sink, G: Gate>(
     rt: &R,
     alloc: Global,
     program: &'p Program,
@@ -32,22 +35,21 @@ pub(crate) fn run_parts<'p, R: Threads + Wait + Clock + Sync, K: Sink, G: Gate>(
     sink: &mut K,
     gate: &G,
     tally: &mut Tally,
-) -> Result<(Machine<'p>, End), CrewFail>
-    requires given { AreGiven program.now plans.now }
-    requires start { Behind program.now input.now machine.fuel 0 machine }
+) -> Result<(Machine<'p>, Option<End>), WriteFail>
+    requires ahead { (run : Run) × (n : ℕ) × Ahead program.now plans.now input.now machine.fuel run n machine }
     requires words { length input.now ≤ 65536 }
     requires fuel { machine.fuel ≤ 1000000000 }
     requires crew { (1 ≤ crew.workers) × (crew.workers ≤ 8) × (1 ≤ crew.lane) × (crew.lane ≤ 64) }
     requires sink { K.faults sink.old < 2 ^ 64 - 1 }
     requires room { tally.old < 2 ^ 63 }
-    requires empty { reports.old ≡ [] }
     ensures faults { FaultsAfter result (K.faults sink.old) (K.faults sink.new) }
-    ensures ok { IfOk result (λ ran. Finished program.now plans.now input.now machine.entry.fuel ran.0 ran.1 reports.new tally.old tally.new) }
+    ensures ok { IfOk result (λ ran. (run : Run) (n : ℕ) → Ahead program.now plans.now input.now machine.entry.fuel run n machine.entry →
+        Went program.now plans.now input.now machine.entry.fuel run n ran.0 ran.1 reports.old reports.new tally.old tally.new) }
     ensures written { IfOk result (λ ran. Emits (to_come machine.entry) (to_come ran.0) (K.written sink.old) (K.written sink.new)) }
     ensures front { OnErr result (WritesFront (prints_bytes (to_come machine.entry)) (K.written sink.old) (K.written sink.new)) }
 {
     if let Some(end) = run_plain(alloc, &mut machine, sink)? {
-        return Ok((machine, end));
+        return Ok((machine, Some(end)));
     }
     for plan in plans {
         let (next, end) = run_stretch(
@@ -55,8 +57,8 @@ pub(crate) fn run_parts<'p, R: Threads + Wait + Clock + Sync, K: Sink, G: Gate>(
         )?;
         machine = next;
         if let Some(end) = end {
-            return Ok((machine, end));
+            return Ok((machine, Some(end)));
         }
     }
-    Ok((machine, End::Done))
+    Ok((machine, None))
 }

@@ -1,16 +1,17 @@
 //! A plain part of `main`: its statements up to the next region or the end.
 ghost use Rattle.std.specs.Prelude.{◌≡◌, ◌<◌, ◌-◌, ◌^◌, ◌++◌, List, ℤ, ℕ, length, IfOk, OnErr, OnOk};
 ghost use Rattle.dp_tree.specs.declared.Program.{Program as Tree};
+ghost use Rattle.dp_tree.specs.Trace.{Run};
 ghost use Rattle.dp_meaning.specs.declared.ends.Part.TheVariants.{Plain};
 ghost use Rattle.dp_meaning.specs.MachineState.{next_part};
-ghost use Rattle.dp_crew.specs.Fail.{FaultsAfter};
+ghost use Rattle.dp_edge.specs.Writing.{FaultsAfter};
 ghost use Rattle.dp_crew.specs.Output.{Streams};
-ghost use Rattle.dp_run.specs.steps.Stretches.{Behind, Leads, to_come};
+ghost use Rattle.dp_run.specs.Stretches.{Behind, Leads, to_come};
 ghost use Rattle.dp_run.specs.steps.Calls.{PartSteps};
 
 use dp_base::{End, Row};
-use dp_crew::{CrewFail, flush, flush_if_many};
-use dp_edge::Sink;
+use dp_crew::{flush, flush_if_many};
+use dp_edge::{Sink, WriteFail};
 use dp_meaning::{Machine, Part, PartEnd};
 use std::alloc::Global;
 
@@ -18,14 +19,14 @@ use std::alloc::Global;
 const TURNS: u32 = 65536;
 
 /// Runs the plain part that comes next, if one does, and answers the run's end if that comes in it.
-pub(crate) fn run_plain<'p, K: Sink>(
+pub fn run_plain<'p, K: Sink>(
     alloc: Global,
     machine: &mut Machine<'p>,
     sink: &mut K,
-) -> Result<Option<End>, CrewFail>
+) -> Result<Option<End>, WriteFail>
     requires sink { K.faults sink.old < 2 ^ 64 - 1 }
     ensures faults { FaultsAfter result (K.faults sink.old) (K.faults sink.new) }
-    ensures ok { IfOk result (λ end. (p : Tree) (input : List ℤ) (fuel n : ℕ) → Behind p input fuel n machine.old → Leads p input fuel n machine.new end) }
+    ensures ok { IfOk result (λ end. (p : Tree) (input : List ℤ) (fuel : ℕ) (run : Run) (n : ℕ) → Behind p input fuel run n machine.old → Leads p input fuel run n machine.new end) }
     ensures plain { OnErr result (next_part machine.old ≡ Plain) }
     ensures streams { Streams result (to_come machine.old) (λ _. to_come machine.new) (K.written sink.old) (K.written sink.new) }
 {
@@ -44,11 +45,11 @@ fn finish_plain<'p, K: Sink>(
     machine: &mut Machine<'p>,
     waiting: &mut Row<i64>,
     sink: &mut K,
-) -> Result<Option<End>, CrewFail>
+) -> Result<Option<End>, WriteFail>
     requires sink { K.faults sink.old < 2 ^ 64 - 1 }
     requires part { next_part machine.old ≡ Plain }
     ensures faults { FaultsAfter result (K.faults sink.old) (K.faults sink.new) }
-    ensures ok { IfOk result (λ end. (p : Tree) (input : List ℤ) (fuel n : ℕ) → Behind p input fuel n machine.old → Leads p input fuel n machine.new end) }
+    ensures ok { IfOk result (λ end. (p : Tree) (input : List ℤ) (fuel : ℕ) (run : Run) (n : ℕ) → Behind p input fuel run n machine.old → Leads p input fuel run n machine.new end) }
     ensures streams { Streams result (waiting.old ++ to_come machine.old) (λ _. waiting.new ++ to_come machine.new) (K.written sink.old) (K.written sink.new) }
 {
     'calls: loop {
@@ -67,7 +68,7 @@ fn go_on<'p, K: Sink>(
     machine: &mut Machine<'p>,
     waiting: &mut Row<i64>,
     sink: &mut K,
-) -> Result<PartEnd, CrewFail>
+) -> Result<PartEnd, WriteFail>
     requires sink { K.faults sink.old < 2 ^ 64 - 1 }
     requires part { next_part machine.old ≡ Plain }
     ensures faults { FaultsAfter result (K.faults sink.old) (K.faults sink.new) }

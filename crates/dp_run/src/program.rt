@@ -2,15 +2,16 @@
 ghost use Rattle.std.specs.Prelude.{◌≡◌, ◌<◌, ◌≤◌, ◌-◌, ◌+◌, ◌^◌, true, length, min, All, IfOk, OnOk, OnErr};
 ghost use Rattle.dp_edge.specs.Sink.{appended};
 ghost use Rattle.dp_report.specs.EndText.{end_bytes};
-ghost use Rattle.dp_crew.specs.Fail.{FaultsAfter};
-ghost use Rattle.dp_crew.specs.Output.{WritesFront};
+ghost use Rattle.dp_edge.specs.Writing.{FaultsAfter, WritesFront};
 ghost use Rattle.dp_run.specs.Given.{AreGiven};
 ghost use Rattle.dp_run.specs.RunText.{committed_in_all, source_run, trace_text};
+ghost use Rattle.dp_run.specs.Stretches.{ended_by};
 
 use crate::parts::run_parts;
 use dp_base::{Cells, End, RegionReport, Row};
-use dp_crew::{CrewFail, CrewSize, Tally, write};
-use dp_edge::{Gate, Sink};
+use dp_commit::Tally;
+use dp_edge::{Gate, Sink, WriteFail, write};
+use dp_epoch::CrewSize;
 use dp_meaning::Machine;
 use dp_plan::Plan;
 use dp_report::end_text;
@@ -44,7 +45,7 @@ pub fn run_program<R: Threads + Wait + Clock + Sync, K: Sink, G: Gate>(
     sink: &mut K,
     gate: &G,
     tally: &mut Tally,
-) -> Result<End, CrewFail>
+) -> Result<End, WriteFail>
     requires given { AreGiven program.now plans.now }
     requires words { length input.now ≤ 65536 }
     requires fuel { options.fuel ≤ 1000000000 }
@@ -63,9 +64,20 @@ pub fn run_program<R: Threads + Wait + Clock + Sync, K: Sink, G: Gate>(
     let (machine, end) = run_parts(
         rt, alloc, program, plans, input, machine, crew, &mut told, sink, gate, tally,
     )?;
+    let end = end_of(end);
     let cells = machine.cells();
     write_end(alloc, program, cells, &told, end, why, sink)?;
     Ok(end)
+}
+
+/// How a run ended that went by all regions of its program, or to this end.
+fn end_of(end: Option<End>) -> End
+    ensures { result ≡ ended_by end }
+{
+    match end {
+        Some(end) => end,
+        None => End::Done,
+    }
 }
 
 /// Writes what follows the prints: the variables, the regions and the end.
@@ -77,7 +89,7 @@ fn write_end<K: Sink>(
     end: End,
     why: bool,
     sink: &mut K,
-) -> Result<(), CrewFail>
+) -> Result<(), WriteFail>
     requires sink { K.faults sink.old < 2 ^ 64 - 1 }
     requires listed { All (λ report. length report.recovered ≡ min report.recovered_count 1000) reports.now }
     requires explained { why ≡ true → All (λ report. length report.causes ≡ length report.recovered) reports.now }

@@ -1,19 +1,22 @@
 //! A region and the plain part behind it.
 ghost use Rattle.std.specs.Prelude.{◌≡◌, ◌<◌, ◌≤◌, ◌-◌, ◌+◌, ◌^◌, ◌++◌, ◌∷◌, [], ℕ, ℤ, List, suc, length, IfOk, OnOk, OnErr};
 ghost use Rattle.dp_tree.specs.declared.Program.{Program as Tree};
+ghost use Rattle.dp_tree.specs.Trace.{Run};
 ghost use Rattle.dp_report.specs.PrintsText.{prints_bytes};
 ghost use Rattle.dp_semantics.specs.Reported.{region_report};
-ghost use Rattle.dp_crew.specs.declared.ends.RegionEnd.TheVariants.{Closed};
-ghost use Rattle.dp_crew.specs.Fail.{FaultsAfter};
-ghost use Rattle.dp_crew.specs.RegionRun.{IsPlanned};
-ghost use Rattle.dp_crew.specs.Output.{Emits, WritesFront};
-ghost use Rattle.dp_run.specs.RunText.{source_run, committed_count};
-ghost use Rattle.dp_run.specs.steps.Stretches.{AfterRegion, Between, Leads, to_come};
+ghost use Rattle.dp_epoch.specs.declared.ends.RegionEnd.TheVariants.{Closed};
+ghost use Rattle.dp_edge.specs.Writing.{FaultsAfter, WritesFront};
+ghost use Rattle.dp_epoch.specs.RegionRun.{IsPlanned};
+ghost use Rattle.dp_crew.specs.Output.{Emits};
+ghost use Rattle.dp_run.specs.RunText.{committed_count};
+ghost use Rattle.dp_run.specs.Stretches.{AfterRegion, Between, Leads, to_come};
 
 use crate::plain::run_plain;
 use dp_base::{End, RegionReport, Row};
-use dp_crew::{CrewFail, CrewSize, RegionEnd, Tally, nothing_counted, run_region};
-use dp_edge::{Gate, Sink};
+use dp_commit::Tally;
+use dp_crew::run_region;
+use dp_edge::{Gate, Sink, WriteFail};
+use dp_epoch::{CrewSize, RegionEnd, nothing_counted};
 use dp_meaning::Machine;
 use dp_plan::Plan;
 use dp_tree::Program;
@@ -23,7 +26,7 @@ use std::thread::Threads;
 use std::time::Clock;
 
 /// Runs the plan's region, which comes next, and the plain part behind it. Answers the run's end if that comes in them.
-pub(crate) fn run_stretch<'p, R: Threads + Wait + Clock + Sync, K: Sink, G: Gate>(
+pub fn run_stretch<'p, R: Threads + Wait + Clock + Sync, K: Sink, G: Gate>(
     rt: &R,
     alloc: Global,
     program: &'p Program,
@@ -35,21 +38,23 @@ pub(crate) fn run_stretch<'p, R: Threads + Wait + Clock + Sync, K: Sink, G: Gate
     sink: &mut K,
     gate: &G,
     tally: &mut Tally,
-) -> Result<(Machine<'p>, Option<End>), CrewFail>
+) -> Result<(Machine<'p>, Option<End>), WriteFail>
     requires planned { IsPlanned program.now plan.now }
-    requires between { (n : ℕ) × (plan.now.region ≡ suc n) × Between program.now input.now machine.fuel n machine }
+    requires between { (run : Run) × (n : ℕ) × (plan.now.region ≡ suc n) × Between program.now input.now machine.fuel run n machine }
     requires words { length input.now ≤ 65536 }
     requires fuel { machine.fuel ≤ 1000000000 }
     requires crew { (1 ≤ crew.workers) × (crew.workers ≤ 8) × (1 ≤ crew.lane) × (crew.lane ≤ 64) }
     requires sink { K.faults sink.old < 2 ^ 64 - 1 }
     requires room { tally.old + (machine.fuel - machine.steps) < 2 ^ 64 }
     ensures faults { FaultsAfter result (K.faults sink.old) (K.faults sink.new) }
-    ensures ok { IfOk result (λ ran. (n : ℕ) → plan.now.region ≡ suc n → Between program.now input.now machine.entry.fuel n machine.entry →
-        Leads program.now input.now machine.entry.fuel (suc n) ran.0 ran.1) }
-    ensures report { OnOk result (reports.new ≡ reports.old ++ region_report program.now plan.now (source_run program.now input.now machine.entry.fuel) ∷ []) }
+    ensures ok { IfOk result (λ ran. (run : Run) (n : ℕ) → plan.now.region ≡ suc n → Between program.now input.now machine.entry.fuel run n machine.entry →
+        Leads program.now input.now machine.entry.fuel run (suc n) ran.0 ran.1) }
+    ensures report { OnOk result ((run : Run) (n : ℕ) → plan.now.region ≡ suc n → Between program.now input.now machine.entry.fuel run n machine.entry →
+        reports.new ≡ reports.old ++ region_report program.now plan.now run ∷ []) }
     ensures written { IfOk result (λ ran. Emits (to_come machine.entry) (to_come ran.0) (K.written sink.old) (K.written sink.new)) }
     ensures front { OnErr result (WritesFront (prints_bytes (to_come machine.entry)) (K.written sink.old) (K.written sink.new)) }
-    ensures tally { OnOk result (tally.new ≡ tally.old + committed_count program.now plan.now (source_run program.now input.now machine.entry.fuel)) }
+    ensures tally { OnOk result ((run : Run) (n : ℕ) → plan.now.region ≡ suc n → Between program.now input.now machine.entry.fuel run n machine.entry →
+        tally.new ≡ tally.old + committed_count program.now plan.now run) }
 {
     let mut told = nothing_counted(alloc, plan.region);
     let (next, end) = run_region(
@@ -65,10 +70,10 @@ fn finish_stretch<'p, K: Sink>(
     machine: Machine<'p>,
     end: RegionEnd,
     sink: &mut K,
-) -> Result<(Machine<'p>, Option<End>), CrewFail>
+) -> Result<(Machine<'p>, Option<End>), WriteFail>
     requires sink { K.faults sink.old < 2 ^ 64 - 1 }
     ensures faults { FaultsAfter result (K.faults sink.old) (K.faults sink.new) }
-    ensures ok { IfOk result (λ ran. (p : Tree) (input : List ℤ) (fuel n : ℕ) → AfterRegion p input fuel n machine.entry end → Leads p input fuel n ran.0 ran.1) }
+    ensures ok { IfOk result (λ ran. (p : Tree) (input : List ℤ) (fuel : ℕ) (run : Run) (n : ℕ) → AfterRegion p input fuel run n machine.entry end → Leads p input fuel run n ran.0 ran.1) }
     ensures closed { OnErr result (end ≡ Closed) }
     ensures written { IfOk result (λ ran. Emits (to_come machine.entry) (to_come ran.0) (K.written sink.old) (K.written sink.new)) }
     ensures front { OnErr result (WritesFront (prints_bytes (to_come machine.entry)) (K.written sink.old) (K.written sink.new)) }

@@ -7,15 +7,15 @@ use Rattle.dp_edge.specs.Sink.{appended}
 use Rattle.dp_drive.specs.declared.refusal.Role.{Role}
 use Rattle.dp_drive.specs.declared.refusal.Role.TheVariants as role
 use Rattle.dp_drive.specs.declared.refusal.Refusal.{Refusal}
-use Rattle.dp_crew.specs.declared.fail.CrewFail.{CrewFail}
-use Rattle.dp_crew.specs.declared.fail.CrewFail.TheVariants.{NoMemory}
+use Rattle.dp_edge.specs.declared.writing.WriteFail.{WriteFail}
+use Rattle.dp_edge.specs.declared.writing.WriteFail.TheVariants.{NoMemory}
 use Rattle.dp_drive.specs.declared.texts.Texts.{Texts}
 use Rattle.dp_drive.specs.declared.texts.Texts.TheVariants as texts
 use Rattle.dp_drive.specs.Refusal.{failed_read_line}
 use Rattle.dp_words.specs.Run.{Run}
 use Rattle.dp_plan.specs.declared.Plan.{Plan}
 use Rattle.dp_plan.specs.GivenPlans.{ArePlans}
-use Rattle.dp_crew.specs.Output.{WritesFront}
+use Rattle.dp_edge.specs.Writing.{WritesFront}
 use Rattle.dp_drive.specs.Roles.{Contents, Input, Plans}
 use Rattle.dp_drive.specs.Answer.{Answer, IsRead, named_in, role_of}
 use Rattle.dp_drive.specs.Loading.{ReadsProgram}
@@ -28,7 +28,7 @@ abbrev pub with_name : List ℕ → Names → Names
 with_name name = option_map (λ names. names ++ name ∷ [])
 
 -- The bytes were written and the status is answered, or a front of them was written.
-abbrev pub Finishes : ℕ → List ℕ → Option (List ℕ) → Option (List ℕ) → Result ℕ CrewFail → Type 0
+abbrev pub Finishes : ℕ → List ℕ → Option (List ℕ) → Option (List ℕ) → Result ℕ WriteFail → Type 0
 Finishes status bytes told tells (Ok answered) = (answered ≡ status) × (tells ≡ appended bytes told)
 Finishes status bytes told tells (Err fail) = WritesFront bytes told tells
 
@@ -49,7 +49,7 @@ pub data LoadsTexts (contents : Contents) (run : Run) (faults after : ℕ) (fail
       LoadsTexts contents run faults after failed fails (texts.Failed (role_of run.source))
 
 -- One call of the program: it finished an answer, or the line on a failed read, or found no memory before anything was written.
-pub data Carried (words : List (List ℕ)) (contents : Contents) (faults after : ℕ) (failed fails : Names) (told tells : Option (List ℕ)) (result : Result ℕ CrewFail) : Type 0 where
+pub data Carried (words : List (List ℕ)) (contents : Contents) (faults after : ℕ) (failed fails : Names) (told tells : Option (List ℕ)) (result : Result ℕ WriteFail) : Type 0 where
   OfAnswer : (status : ℕ) (bytes : List ℕ) → Answer words contents status bytes → after ≡ faults → fails ≡ failed → Finishes status bytes told tells result →
       Carried words contents faults after failed fails told tells result
   OfFailedRead : (which : Role) (name : List ℕ) → IsRead words contents which name → faults < after → fails ≡ with_name name failed → Finishes 5 (failed_read_line which) told tells result →

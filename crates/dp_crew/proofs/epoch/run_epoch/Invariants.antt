@@ -1,8 +1,9 @@
 use Rattle.std.proofs.Common.{◌≡◌, ◌≤◌, ◌+◌}
 use Rattle.dp_meaning.specs.MachineState.{MachineState}
-use Rattle.dp_crew.specs.Applied.{HasRoom, left_of}
-use Rattle.dp_crew.specs.InEpoch.{InEpoch}
-use Rattle.dp_crew.specs.Output.{Emits, to_come}
+use Rattle.dp_epoch.specs.Applied.{HasRoom, left_of}
+use Rattle.dp_epoch.specs.InEpoch.{InEpoch}
+use Rattle.dp_epoch.specs.Prints.{to_come}
+use Rattle.dp_crew.specs.Output.{Emits}
 use Rattle.dp_crew.proofs.epoch.run_epoch.Given as goal
 
 abbrev pub invariant-verdicts : goal.invariant-verdicts

@@ -1,10 +1,10 @@
 use Rattle.std.proofs.Common.{sym, subst, Option}
 use Rattle.dp_plan.specs.declared.Plan.{Plan}
 use Rattle.dp_meaning.specs.MachineState.{MachineState}
-use Rattle.dp_crew.specs.declared.ends.EpochEnd.{EpochEnd}
-use Rattle.dp_crew.specs.declared.ends.RegionEnd.{RegionEnd}
-use Rattle.dp_crew.specs.declared.ledger.Ledger.{Ledger}
-use Rattle.dp_crew.specs.InEpoch.{AfterRecovery, EpochEnds, IsUnclean, left_by_epoch}
+use Rattle.dp_epoch.specs.declared.ends.EpochEnd.{EpochEnd}
+use Rattle.dp_epoch.specs.declared.ends.RegionEnd.{RegionEnd}
+use Rattle.dp_epoch.specs.declared.ledger.Ledger.{Ledger}
+use Rattle.dp_epoch.specs.InEpoch.{AfterRecovery, EpochEnds, IsUnclean, left_by_epoch}
 use Rattle.dp_crew.specs.Output.{Emits}
 use Rattle.dp_crew.proofs.Answering.{if_ok}
 use Rattle.dp_crew.proofs.StreamLemmas.{emits_nothing}

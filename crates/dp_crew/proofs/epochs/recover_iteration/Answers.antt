@@ -3,10 +3,10 @@ use Rattle.dp_base.specs.declared.RegionReport.{RegionReport}
 use Rattle.dp_semantics.specs.Recovery.{is_recovered}
 use Rattle.dp_semantics.specs.Reported.{report_of}
 use Rattle.dp_commit.specs.CommittedState.{region_run}
-use Rattle.dp_crew.specs.Progress.{again_before, cause_of}
-use Rattle.dp_crew.proofs.Counting.{again_few}
+use Rattle.dp_epoch.specs.Progress.{again_before, cause_of}
+use Rattle.dp_epoch.proofs.Counting.{again_few}
 use Rattle.dp_crew.proofs.StreamLemmas.{streams_stopped}
-use Rattle.dp_crew.proofs.Recovering.{CountedRecovered, recovered, recovered_left}
+use Rattle.dp_epoch.proofs.Recovering.{CountedRecovered, recovered, recovered_left}
 use Rattle.dp_crew.proofs.Recovered.{recovery_front, recovery_emits, recovery_stopped}
 use Rattle.dp_crew.proofs.epochs.recover_iteration.Goals as goal
 

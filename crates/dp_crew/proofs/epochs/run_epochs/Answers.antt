@@ -1,7 +1,7 @@
 use Rattle.std.proofs.Common.{◌∙◌, refl, ap, subst, Option, arith}
 use Rattle.dp_base.specs.declared.RegionReport.{RegionReport}
-use Rattle.dp_crew.specs.declared.ends.RegionEnd.{RegionEnd}
-use Rattle.dp_crew.specs.InEpoch.{AfterRecovery, left_by_epoch, left_by_recovery}
+use Rattle.dp_epoch.specs.declared.ends.RegionEnd.{RegionEnd}
+use Rattle.dp_epoch.specs.InEpoch.{AfterRecovery, left_by_epoch, left_by_recovery}
 use Rattle.dp_crew.specs.Output.{Emits}
 use Rattle.dp_crew.proofs.StreamLemmas.{streams_stopped, emits_front, emits_nothing, emits_on}
 use Rattle.dp_crew.proofs.EpochRuns.{failed_so}

@@ -1,8 +1,9 @@
 use Rattle.std.proofs.Common.{◌≡◌, ◌+◌}
 use Rattle.dp_meaning.specs.MachineState.{MachineState}
-use Rattle.dp_crew.specs.Applied.{HasRoom, left_of}
-use Rattle.dp_crew.specs.InEpoch.{ToBegin}
-use Rattle.dp_crew.specs.Output.{Emits, to_come}
+use Rattle.dp_epoch.specs.Applied.{HasRoom, left_of}
+use Rattle.dp_epoch.specs.InEpoch.{ToBegin}
+use Rattle.dp_epoch.specs.Prints.{to_come}
+use Rattle.dp_crew.specs.Output.{Emits}
 use Rattle.dp_crew.proofs.epochs.run_epochs.Given as goal
 
 abbrev pub invariant-epochs : goal.invariant-epochs

@@ -1,9 +1,10 @@
 use Rattle.std.proofs.Common.{List, ℤ, subst, arith}
 use Rattle.dp_report.specs.PrintsText.{prints_bytes}
 use Rattle.dp_tree.specs.Trace.{prints}
-use Rattle.dp_crew.specs.Output.{Emits, WritesFront}
-use Rattle.dp_crew.specs.Remade.{some}
-use Rattle.dp_crew.proofs.RemadeLemmas.{recovers_for}
+use Rattle.dp_edge.specs.Writing.{WritesFront}
+use Rattle.dp_crew.specs.Output.{Emits}
+use Rattle.dp_epoch.specs.Remade.{some}
+use Rattle.dp_epoch.proofs.RemadeLemmas.{recovers_for}
 use Rattle.dp_crew.proofs.recover.go_on.Goals as goal
 use Rattle.dp_room.proofs.ResultLemmas.{on_err}
 

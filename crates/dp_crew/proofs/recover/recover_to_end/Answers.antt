@@ -1,8 +1,9 @@
 use Rattle.std.proofs.Common.{◌∙◌, ◌++◌, subst}
 use Rattle.dp_meaning.specs.declared.ends.IterEnd.{IterEnd}
 use Rattle.dp_meaning.specs.declared.ends.IterEnd.TheVariants as iter_end
-use Rattle.dp_crew.specs.Remade.{Remade}
-use Rattle.dp_crew.proofs.RemadeLemmas.{emits_both, front_both, may_print, remade, remade_going, remade_falls}
+use Rattle.dp_epoch.specs.Remade.{Remade}
+use Rattle.dp_epoch.proofs.RemadeLemmas.{may_print, remade, remade_going, remade_falls}
+use Rattle.dp_crew.proofs.CallPrints.{emits_both, front_both}
 use Rattle.dp_crew.proofs.recover.recover_to_end.Goals as goal
 use Rattle.dp_room.proofs.ResultLemmas.{on_err}
 

@@ -1,6 +1,6 @@
 use Rattle.std.proofs.Common.{◌≡◌, ◌-◌, ◌++◌, List, ℤ}
 use Rattle.dp_crew.specs.Output.{Emits}
-use Rattle.dp_crew.proofs.RemadeLemmas.{SoFar}
+use Rattle.dp_epoch.proofs.RemadeLemmas.{SoFar}
 use Rattle.dp_crew.proofs.recover.recover_to_end.Given as goal
 
 abbrev pub invariant-calls : goal.invariant-calls

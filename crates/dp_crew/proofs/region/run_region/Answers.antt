@@ -1,6 +1,7 @@
 use Rattle.std.proofs.Common.{[], refl, ◌∙◌}
-use Rattle.dp_crew.proofs.WriteLemmas.{front_nothing}
-use Rattle.dp_crew.proofs.WholeRegion.{none_yet, region_begins, region_flush_front, region_front, region_ran, region_reported, region_written}
+use Rattle.dp_edge.proofs.FrontLemmas.{front_nothing}
+use Rattle.dp_epoch.proofs.RegionLemmas.{none_yet, region_begins, region_ran, region_reported}
+use Rattle.dp_crew.proofs.WholeRegion.{region_flush_front, region_front, region_written}
 use Rattle.dp_crew.proofs.region.run_region.Goals as goal
 use Rattle.dp_room.proofs.ResultLemmas.{on_err}
 

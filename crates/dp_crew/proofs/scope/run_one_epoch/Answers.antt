@@ -1,4 +1,4 @@
-use Rattle.dp_crew.proofs.EpochBegins.{sound_here}
+use Rattle.dp_epoch.proofs.EpochBegins.{sound_here}
 use Rattle.dp_crew.proofs.EpochRuns.{may_begin, unbegun}
 use Rattle.dp_crew.proofs.scope.run_one_epoch.Goals as goal
 

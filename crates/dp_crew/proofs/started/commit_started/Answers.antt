@@ -1,5 +1,5 @@
 use Rattle.std.proofs.Common.{refl}
-use Rattle.dp_crew.proofs.EpochBegins.{epoch_here}
+use Rattle.dp_epoch.proofs.EpochBegins.{epoch_here}
 use Rattle.dp_crew.proofs.EpochRuns.{ran_for, unbegun}
 use Rattle.dp_crew.proofs.started.commit_started.Goals as goal
 

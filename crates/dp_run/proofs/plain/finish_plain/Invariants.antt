@@ -1,6 +1,6 @@
 use Rattle.std.proofs.Common.{◌≡◌, ◌-◌, ◌++◌}
 use Rattle.dp_crew.specs.Output.{Emits}
-use Rattle.dp_run.specs.steps.Stretches.{to_come}
+use Rattle.dp_run.specs.Stretches.{to_come}
 use Rattle.dp_run.proofs.PartLemmas.{PartSoFar}
 use Rattle.dp_run.proofs.plain.finish_plain.Given as goal
 

@@ -1,5 +1,5 @@
 use Rattle.std.proofs.Common.{◌++◌}
-use Rattle.dp_run.specs.steps.Stretches.{to_come}
+use Rattle.dp_run.specs.Stretches.{to_come}
 use Rattle.dp_crew.proofs.StreamLemmas.{streams_stopped}
 use Rattle.dp_run.proofs.Prints.{part_to_come, emits_called, front_called}
 use Rattle.dp_run.proofs.plain.go_on.Goals as goal

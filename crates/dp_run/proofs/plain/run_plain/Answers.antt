@@ -1,4 +1,4 @@
-use Rattle.dp_run.specs.steps.Stretches.{to_come}
+use Rattle.dp_run.specs.Stretches.{to_come}
 use Rattle.dp_crew.proofs.StreamLemmas.{streams_stopped}
 use Rattle.dp_run.proofs.StreamLemmas.{emits_flushed, front_flushed}
 use Rattle.dp_run.proofs.plain.run_plain.Goals as goal

@@ -1,8 +1,6 @@
 use Rattle.std.proofs.Common.{◌≡◌, subst, suc, ◌++◌, ◌∷◌, []}
 use Rattle.std.proofs.lemmas.Result.{IfOk-weaker, on_err_weaker}
 use Rattle.dp_base.specs.declared.RegionReport.{RegionReport}
-use Rattle.dp_semantics.specs.Reported.{region_report}
-use Rattle.dp_run.specs.RunText.{source_run}
 use Rattle.dp_crew.proofs.StreamLemmas.{emits_front, emits_on, emits_stopped}
 use Rattle.dp_run.proofs.Regions.{after_region, region_start}
 use Rattle.dp_run.proofs.RegionCalls.{ran_emits, report_of_run, stopped_front, tally_whole}
@@ -12,12 +10,12 @@ use Rattle.dp_room.proofs.ResultLemmas.{on_err}
 
 pub run_region-requires-clause-start : goal.run_region-requires-clause-start
 run_region-requires-clause-start g c κs within =
-    let b = c.requires.between in region_start c.args.program.now c.args.plan.now c.args.input.now c.args.machine.fuel b.0 c.args.machine c.requires.planned b.1 b.2
+    let b = c.requires.between in region_start c.args.program.now c.args.plan.now c.args.input.now c.args.machine.fuel b.0 b.1 c.args.machine c.requires.planned b.2 b.3
 
 pub returns-in_err-next-clause-front : goal.returns-in_err-next-clause-front
 returns-in_err-next-clause-front g c =
     let b = c.requires.between in
-    on_err c.from_residual.result _ (stopped_front c.args.program.now c.args.plan.now c.args.input.now c.args.machine.fuel b.0 c.args.machine c.requires.planned b.1 b.2 _ _ c.in_err-next.ensures.front)
+    on_err c.from_residual.result _ (stopped_front c.args.program.now c.args.plan.now c.args.input.now c.args.machine.fuel b.0 b.1 c.args.machine c.requires.planned b.2 b.3 _ _ c.in_err-next.ensures.front)
 
 pub returns-in_err-push-clause-front : goal.returns-in_err-push-clause-front
 returns-in_err-push-clause-front g c =
@@ -27,9 +25,9 @@ returns-in_err-push-clause-front g c =
 pub returns-clause-ok : goal.returns-clause-ok
 returns-clause-ok g c =
     IfOk-weaker c.finish_stretch.result _ _
-    (λ ran h n number between.
-    h c.args.program.now c.args.input.now c.args.machine.fuel (suc n)
-    (after_region c.args.program.now c.args.plan.now c.args.input.now c.args.machine.fuel n c.args.machine c.requires.planned number between c.in_ok-next.next c.in_ok-next.end c.in_ok-next.ensures.ran))
+    (λ ran h run n number between.
+    h c.args.program.now c.args.input.now c.args.machine.fuel run (suc n)
+    (after_region c.args.program.now c.args.plan.now c.args.input.now c.args.machine.fuel run n c.args.machine c.requires.planned number between c.in_ok-next.next c.in_ok-next.end c.in_ok-next.ensures.ran))
     c.finish_stretch.ensures.ok
 
 pub returns-clause-written : goal.returns-clause-written
@@ -46,13 +44,11 @@ returns-clause-front g c =
 
 pub returns-clause-report : goal.returns-clause-report
 returns-clause-report g c =
-    let b = c.requires.between in
-    let whole : c.run_region.new.report ≡ region_report c.args.program.now c.args.plan.now (source_run c.args.program.now c.args.input.now c.args.machine.fuel) =
-    report_of_run c.args.program.now c.args.plan.now c.args.input.now c.args.machine.fuel b.0 c.args.machine c.requires.planned b.1 b.2 c.run_region.new.report c.in_ok-next.ensures.report in
-    on_ok c.finish_stretch.result _ (subst (λ (x : RegionReport). c.push.new.self ≡ c.args.reports.now ++ x ∷ []) whole c.in_ok-push.ensures.ok)
+    on_ok c.finish_stretch.result _ (λ run n number between.
+    subst (λ (x : RegionReport). c.push.new.self ≡ c.args.reports.now ++ x ∷ [])
+    (report_of_run c.args.program.now c.args.plan.now c.args.input.now c.args.machine.fuel run n c.args.machine c.requires.planned number between c.run_region.new.report c.in_ok-next.ensures.report) c.in_ok-push.ensures.ok)
 
 pub returns-clause-tally : goal.returns-clause-tally
 returns-clause-tally g c =
-    let b = c.requires.between in
-    on_ok c.finish_stretch.result _
-    (tally_whole c.args.program.now c.args.plan.now c.args.input.now c.args.machine.fuel b.0 c.args.machine c.requires.planned b.1 b.2 c.run_region.new.report _ _ c.in_ok-next.ensures.report c.in_ok-next.ensures.tally)
+    on_ok c.finish_stretch.result _ (λ run n number between.
+    tally_whole c.args.program.now c.args.plan.now c.args.input.now c.args.machine.fuel run n c.args.machine c.requires.planned number between c.run_region.new.report _ _ c.in_ok-next.ensures.report c.in_ok-next.ensures.tally)

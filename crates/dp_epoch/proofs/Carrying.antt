@@ -1,0 +1,46 @@
+-- A verdict that carries what the source does in iteration `count` carries the iteration that comes next.
+use Rattle.std.proofs.Common.{◌≡◌, sym, ap, ◌∙◌, subst, ℕ, ◌+◌, true, length, arith}
+use Rattle.std.proofs.lemmas.List.{length-map}
+use Rattle.dp_base.specs.declared.RegionReport.{RegionReport}
+use Rattle.dp_tree.specs.Trace.{Run, prints, printed_by}
+use Rattle.dp_tree.specs.Iteration.{iteration, is_closing, has_ended}
+use Rattle.dp_plan.specs.declared.Plan.{Plan}
+use Rattle.dp_semantics.specs.Verdict.{done_in, effect_in}
+use Rattle.dp_semantics.specs.EpochVerdicts.{Carried, carried}
+use Rattle.dp_semantics.specs.Told.{store_made, stores_of}
+use Rattle.dp_theorem.proofs.Told.{chosen}
+use Rattle.dp_meaning.specs.MachineState.{MachineState, rest_of_run}
+use Rattle.dp_commit.specs.CommittedState.{CommittedState, CarriesNext, region_run}
+use Rattle.dp_epoch.specs.Progress.{Progress}
+use Rattle.dp_epoch.proofs.Here.{goes_here}
+
+module _ (plan : Plan) (first : MachineState) (c : CommittedState) (report : RegionReport) (g : Progress plan first c report) where
+  abbrev run : Run
+  run = region_run first
+
+  -- iteration `count` is the first one of the rest
+  pub iteration_same : iteration run plan.region c.count ≡ iteration (rest_of_run c.machine) plan.region 0
+  iteration_same = (let e : c.count ≡ c.count + 0 = omega arith in ap (iteration run plan.region) e) ∙ (goes_here plan first c report g).iterations 0
+
+  pub ended_same : has_ended run plan.region c.count ≡ has_ended (rest_of_run c.machine) plan.region 0
+  ended_same = (let e : c.count ≡ c.count + 0 = omega arith in ap (has_ended run plan.region) e) ∙ (goes_here plan first c report g).ended 0
+
+  pub closing_same : is_closing run plan.region c.count ≡ is_closing (rest_of_run c.machine) plan.region 0
+  closing_same = (let e : c.count ≡ c.count + 0 = omega arith in ap (is_closing run plan.region) e) ∙ (goes_here plan first c report g).closing 0
+
+  carries : has_ended run plan.region c.count ≡ true → CarriesNext (record { machine = c.machine; region = plan.region; count = c.count }) (carried (done_in plan run c.count))
+  carries ended = record {
+    iteration_is = record {
+      ended = sym ended_same ∙ ended;
+      stores_are = chosen store_made (iteration run plan.region c.count) ∙ ap stores_of iteration_same;
+      steps_are = length-map (iteration run plan.region c.count) effect_in ∙ ap length iteration_same;
+      closing_is = closing_same;
+    };
+    prints_are = chosen printed_by (iteration run plan.region c.count) ∙ ap prints iteration_same;
+  }
+
+  pub carries_next : (v : Carried) → v ≡ carried (done_in plan run c.count) → has_ended run plan.region c.count ≡ true → CarriesNext c v
+  carries_next v e ended = subst (CarriesNext c) (sym e) (subst (λ (r : ℕ). CarriesNext (record { machine = c.machine; region = r; count = c.count }) (carried (done_in plan run c.count))) (sym g.region) (carries ended))
+
+  pub iteration_prints : prints (iteration run plan.region c.count) ≡ (carried (done_in plan run c.count)).prints
+  iteration_prints = sym (chosen printed_by (iteration run plan.region c.count))

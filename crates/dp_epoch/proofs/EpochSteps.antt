@@ -1,0 +1,122 @@
+-- An epoch goes on over one more verdict.
+use Rattle.std.proofs.Common.{◌≡◌, ◌⊎◌, inl, inr, refl, sym, ap, ◌∙◌, ℕ, suc, ◌+◌, ◌<◌, Bool, true, false, not, ◌&&◌, ◌≤◌, if◌then◌else◌, List, map, length, ℤ, arith}
+use Rattle.std.proofs.lemmas.List.{length-map}
+use Rattle.std.proofs.lemmas.Bool.{cases_lt}
+use Rattle.dp_base.specs.declared.RegionReport.{RegionReport}
+use Rattle.dp_tree.specs.declared.Program.{Program}
+use Rattle.dp_plan.specs.declared.Plan.{Plan}
+use Rattle.dp_tree.specs.Step.{Effect, clear_locals}
+use Rattle.dp_tree.specs.Trace.{Run}
+use Rattle.dp_tree.specs.Iteration.{iteration, is_closing, has_ended, memory_after}
+use Rattle.dp_semantics.specs.Recovery.{epoch, is_recovered}
+use Rattle.dp_semantics.specs.Judge.{Clean}
+use Rattle.dp_semantics.specs.Verdict.{applied, done_in, effect_in}
+use Rattle.dp_semantics.specs.Reported.{report_of}
+use Rattle.dp_semantics.specs.EpochKey.{EpochKey}
+use Rattle.dp_semantics.specs.EpochVerdicts.{Carried, JudgeState, after_judgement, goes_on, state_at, verdict_at, verdict_by}
+use Rattle.dp_meaning.specs.declared.ends.IterEnd.TheVariants as iter_end
+use Rattle.dp_meaning.specs.MachineState.{MachineState}
+use Rattle.dp_meaning.specs.IterationRun.{IterationRun}
+use Rattle.dp_commit.specs.CommittedState.{CommittedState, CarriesNext, region_run}
+use Rattle.dp_commit.proofs.Committing.{held_next}
+use Rattle.dp_epoch.specs.Progress.{again_before, report_before, cause_of}
+use Rattle.dp_epoch.specs.InEpoch.{InEpoch}
+use Rattle.dp_epoch.proofs.Here.{memory_is, leads_here}
+use Rattle.dp_epoch.proofs.Judged.{IsClean}
+use Rattle.dp_epoch.proofs.Carrying.{carries_next}
+use Rattle.dp_epoch.proofs.Counting.{again_clean}
+use Rattle.dp_epoch.proofs.Advancing.{advanced, one_more}
+
+-- a clean iteration has ended
+pub ended_of : (a b d e : Bool) → (a && b && d && e) ≡ true → a ≡ true
+ended_of true b d e h = refl
+ended_of false b d e h = h
+
+module _ (key : EpochKey) (n : ℕ) (first : MachineState) (c : CommittedState) (report : RegionReport) (e : InEpoch key n first c report) (v : Carried) (q : IsClean key n first c report e v) where
+  abbrev run : Run
+  run = region_run first
+
+  abbrev p : Program
+  p = first.program
+
+  abbrev plan : Plan
+  plan = key.plan
+
+  abbrev i : ℕ
+  i = c.count
+
+  pub ended_here : has_ended run plan.region i ≡ true
+  ended_here = ended_of (has_ended run plan.region i) _ _ _ q.clean
+
+  pub closing_is : v.closing ≡ is_closing run plan.region i
+  closing_is = ap (λ (x : Carried). x.closing) q.carried_is
+
+  -- What is carried is the next iteration.
+  pub carries : CarriesNext c v
+  carries = carries_next plan first c report e.progress v q.carried_is ended_here
+
+  not_again : is_recovered p plan run i ≡ false
+  not_again = ap not q.clean
+
+  -- the report of the iteration that was committed
+  pub report_next : (more : RegionReport) → more ≡ record report { iterations = i + 1 } → more ≡ report_before plan first (i + 1)
+  report_next more is =
+      let next : suc i ≡ i + 1 = omega arith in
+      is ∙ ap (λ (x : RegionReport). record x { iterations = i + 1 }) e.progress.report_is
+      ∙ ap (λ (again : List ℕ). report_of plan.region (i + 1) again (cause_of plan first)) (sym (again_clean plan first i not_again) ∙ ap (again_before plan first) next)
+
+  module _ (turns : ℕ) (before after : List ℤ) (m : MachineState) (call : IterationRun c.region turns c.machine m before after iter_end.Next) (open_yet : v.closing ≡ false) where
+    going : is_closing run plan.region i ≡ false
+    going = sym closing_is ∙ open_yet
+
+    abbrev effects : List Effect
+    effects = map effect_in (iteration run plan.region i)
+
+    events_are : iteration run plan.region i ≡ call.events
+    events_are = ap (λ (r : ℕ). iteration run r i) (sym e.progress.region) ∙ (held_next first c e.progress.holds e.progress.is_open m turns before after call).iteration_is
+
+    cells_next : clear_locals plan.region key.program.vars (applied effects c.machine.config.cells) ≡ m.config.cells
+    cells_next =
+        let lead = leads_here plan first c report e.progress ended_here going in
+        let held = (held_next first c e.progress.holds e.progress.is_open m turns before after call).held in
+        let next : suc i ≡ i + 1 = omega arith in
+        ap (λ (x : Program). clear_locals plan.region x.vars (applied effects c.machine.config.cells)) e.key_is.program
+        ∙ ap (λ (cells : List ℤ). clear_locals plan.region p.vars (applied effects cells)) (memory_is plan first c report e.progress)
+        ∙ sym lead.memory ∙ ap (memory_after run plan.region) next ∙ ap (λ (r : ℕ). memory_after run r (i + 1)) (sym e.progress.region) ∙ sym held.memory
+
+    steps_next : c.machine.steps + length effects ≡ m.steps
+    steps_next = let size = length-map (iteration run plan.region i) effect_in in let events = ap length events_are in omega (arith, size, events, call.moved.steps)
+
+    state_next : state_at key (n + 1) ≡ record { cells = m.config.cells; steps = m.steps }
+    state_next =
+        let next : n + 1 ≡ suc n = omega arith in
+        ap (state_at key) next ∙ ap (after_judgement key (state_at key n)) q.judged_so ∙ ap (λ (s : JudgeState). after_judgement key s (Clean (done_in plan run i))) e.state
+        ∙ ap (λ (cells : List ℤ). record { cells = cells; steps = c.machine.steps + length effects }) cells_next ∙ ap (λ (k : ℕ). record { cells = m.config.cells; steps = k }) steps_next
+
+    gone_next : (j : ℕ) → j < n + 1 → goes_on (verdict_at key j) ≡ true
+    gone_next j h = by (cases_lt j n)
+      where
+        by : (j < n) ⊎ (n ≤ j) → goes_on (verdict_at key j) ≡ true
+        by (inl low) = e.gone j low
+        by (inr high) =
+            let same : j ≡ n = omega (arith, h, high) in
+            ap (λ (k : ℕ). goes_on (verdict_at key k)) same ∙ ap (λ j. goes_on (verdict_by key n j)) q.judged_so ∙ ap not going
+
+    epoch_next : epoch p plan run (i + 1) ≡ key.first
+    epoch_next =
+        let next : i + 1 ≡ suc i = omega arith in
+        ap (epoch p plan run) next ∙ ap (λ (b : Bool). if b then epoch p plan run i else suc i) q.clean ∙ e.epoch_is
+
+    -- The epoch goes on.
+    pub epoch_on : (more : RegionReport) → more ≡ record report { iterations = i + 1 } → InEpoch key (n + 1) first (one_more plan first c report e.progress turns before after m) more
+    epoch_on more is = record {
+      progress = advanced plan first c report e.progress turns before after m call more (report_next more is);
+      key_is = e.key_is;
+      base = e.base;
+      own = e.own;
+      at_once = e.at_once;
+      place = omega (arith, e.place);
+      epoch_is = epoch_next;
+      state = state_next;
+      gone = gone_next;
+    }

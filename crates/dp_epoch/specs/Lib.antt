@@ -1,0 +1,7 @@
+pub mod RegionRun
+pub mod Prints
+pub mod Applied
+pub mod Remade
+pub mod Progress
+pub mod InEpoch
+pub mod Taken

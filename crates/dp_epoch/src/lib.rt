@@ -1,0 +1,21 @@
+//! One iteration of a region after the other, without threads and without a sink: an epoch's pipeline, its verdicts, what they
+//! commit, and the region's report.
+#![tactic(auto)]
+
+mod again;
+mod ends;
+mod ledger;
+mod making;
+mod report;
+mod size;
+mod taken;
+mod verdicts;
+
+pub use again::execute_again;
+pub use ends::{EpochEnd, RegionEnd};
+pub use ledger::Ledger;
+pub use making::pipeline_here;
+pub use report::{count_recovered, nothing_counted};
+pub use size::CrewSize;
+pub use taken::{Taken, take};
+pub use verdicts::Verdicts;

@@ -1,0 +1,51 @@
+//! A verdict of an epoch is taken.
+ghost use Rattle.std.specs.Prelude.{◌≡◌, ◌+◌, IfOk};
+ghost use Rattle.dp_meaning.specs.MachineState.{MachineState};
+ghost use Rattle.dp_epoch.specs.Applied.{HasRoom};
+ghost use Rattle.dp_epoch.specs.InEpoch.{InEpoch};
+ghost use Rattle.dp_epoch.specs.Taken.{Takes};
+
+use crate::ledger::Ledger;
+use crate::verdicts::Verdicts;
+use dp_base::{Cause, NoMemory};
+use dp_commit::{Tally, Verdict};
+use std::sync::Wait;
+use std::time::Clock;
+
+/// What a verdict led to.
+#[derive(Clone, Copy)]
+pub enum Taken {
+    /// The iteration is committed, and the next one comes.
+    Committed,
+    /// The iteration is committed, and closed the region.
+    Closed,
+    /// The iteration isn't clean, for this cause, and is to be executed again.
+    Unclean(Cause),
+}
+
+/// Takes the verdict on the epoch's next iteration, and commits the iteration where it is clean.
+pub fn take<'p, R: Wait + Clock, V: Verdicts>(
+    rt: &R,
+    verdicts: &mut V,
+    ledger: &mut Ledger<'p>,
+    tally: &mut Tally,
+) -> Result<Taken, NoMemory>
+    requires epoch { (first : MachineState) × InEpoch (V.key verdicts.old) (V.given verdicts.old) first ledger.old.committed ledger.old.report }
+    requires room { HasRoom tally.old ledger.old.committed }
+    ensures key { V.key verdicts.new ≡ V.key verdicts.old }
+    ensures given { V.given verdicts.new ≡ V.given verdicts.old + 1 }
+    ensures taken { IfOk result (λ taken. Takes (V.key verdicts.old) (V.given verdicts.old) ledger.old ledger.new taken tally.old tally.new) }
+{
+    match verdicts.next(rt) {
+        Verdict::Clean(clean) => {
+            let closing = clean.closing();
+            ledger.commit(clean, tally)?;
+            if closing {
+                return Ok(Taken::Closed);
+            }
+            Ok(Taken::Committed)
+        }
+        Verdict::Unclean(cause) => Ok(Taken::Unclean(cause)),
+        Verdict::NoMemory => Err(NoMemory),
+    }
+}
