@@ -2,7 +2,7 @@
 ghost use Rattle.std.specs.Prelude.{◌≡◌, ◌<◌, ◌-◌, ◌^◌, ℕ, List, Ok};
 ghost use Rattle.dp_tree.specs.Inlined.{IsInlined};
 ghost use Rattle.dp_profile.specs.Observed.{observed};
-ghost use Rattle.dp_profile.specs.WrittenText.{profile_text};
+ghost use Rattle.dp_profile_text.specs.WrittenText.{profile_text};
 ghost use Rattle.dp_crew.specs.Fail.{FaultsAfter};
 ghost use Rattle.dp_words.specs.Words.{Asks, ToProfile};
 ghost use Rattle.dp_words.specs.Profiling.{shown_profiling};
@@ -17,7 +17,7 @@ use crate::writing::{fail_read, refuse};
 use dp_base::Row;
 use dp_edge::{Shelf, Sink};
 use dp_observe::observe;
-use dp_profile::write_profile;
+use dp_profile_text::write_profile;
 use dp_run::{CrewFail, write};
 use dp_tree::Program;
 use dp_words::ProfileWords;
