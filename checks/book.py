@@ -24,7 +24,7 @@ LATER = [
         ("dp_words/specs/Words", "Asks"), ("dp_words/specs/Words", "AsksNothing"), ("dp_drive/specs/Inputs", "input_of"),
         ("dp_drive/specs/Plans", "ReadsPlans"), ("dp_drive/specs/Plans", "MakesPlans"), ("dp_drive/specs/Profiles", "ReadsProfile"),
         ("dp_profile/specs/Observed", "observed"), ("dp_plan_text/specs/WrittenText", "plans_text"),
-        ("dp_profile/specs/WrittenText", "profile_text"), ("dp_report/specs/SiteText", "site_bytes"), ("dp_drive/specs/Refusal", "refusal_line"),
+        ("dp_profile_text/specs/WrittenText", "profile_text"), ("dp_report/specs/SiteText", "site_bytes"), ("dp_drive/specs/Refusal", "refusal_line"),
     ]),
 ]
 

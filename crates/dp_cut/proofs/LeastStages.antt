@@ -16,7 +16,7 @@ use Rattle.dp_units.specs.Graph.{Walk}
 use Rattle.dp_units.specs.Graph.Walk.{along, stay}
 use Rattle.dp_units.specs.Order.{ArePlaces, IsOrder}
 use Rattle.dp_units.proofs.PlaceLaws.{along_walks}
-use Rattle.dp_cut.specs.declared.Stretch.{Stretch}
+use Rattle.dp_least_cut.specs.declared.Stretch.{Stretch}
 use Rattle.dp_cut.specs.Automatic.{node_pairs}
 use Rattle.dp_cut.specs.LeastPlan.{at_site, comes_late, is_needed, stage_at, stages_of}
 use Rattle.dp_cut.proofs.ChosenIfs.{kept_site}

@@ -26,8 +26,8 @@ use Rattle.dp_depend.specs.Shown.{region_profile}
 use Rattle.dp_depend.proofs.NodeSites.{node_sites}
 use Rattle.dp_units.specs.Order.{ArePlaces, IsOrder}
 use Rattle.dp_units.proofs.PlaceLaws.{first_of_all, place_of_leader}
-use Rattle.dp_cut.specs.declared.Stretch.{Stretch}
-use Rattle.dp_cut.specs.Allowed.{AreStages}
+use Rattle.dp_least_cut.specs.declared.Stretch.{Stretch}
+use Rattle.dp_least_cut.specs.Allowed.{AreStages}
 use Rattle.dp_cut.specs.Automatic.{IsAutomatic, node_pairs, weights_of}
 use Rattle.dp_cut.specs.LeastPlan.{at_site, carried_pairs, is_needed, kind_of, plan_of_cut, stage_at, stages_of, unit_weights}
 use Rattle.dp_cut.proofs.ChosenIfs.{chosen_each, chosen_up, kept_each, kept_left, kept_up}

@@ -9,12 +9,12 @@ use Rattle.dp_depend.specs.Edges.{chosen_of, edges_of}
 use Rattle.dp_depend.specs.Node.{region_nodes}
 use Rattle.dp_units.specs.Order.{ArePlaces}
 use Rattle.dp_units.proofs.OrderOnce.{one_order, same_places}
-use Rattle.dp_cut.specs.declared.Stretch.{Stretch}
+use Rattle.dp_least_cut.specs.declared.Stretch.{Stretch}
 use Rattle.dp_cut.specs.Automatic.{AreAutomatic, IsAutomatic, node_pairs, weights_of}
-use Rattle.dp_cut.specs.LeastCut.{IsLeastCut}
+use Rattle.dp_least_cut.specs.LeastCut.{IsLeastCut}
 use Rattle.dp_cut.specs.LeastPlan.{IsLeastPlan, plan_of_cut}
-use Rattle.dp_cut.specs.Order.{IsBefore, IsKindBefore, IsListBefore, kinds, places_from}
-use Rattle.dp_cut.specs.Order.IsBefore.{by_bottleneck, by_places, by_count, by_kinds}
+use Rattle.dp_least_cut.specs.Order.{IsBefore, IsKindBefore, IsListBefore, kinds, places_from}
+use Rattle.dp_least_cut.specs.Order.IsBefore.{by_bottleneck, by_places, by_count, by_kinds}
 
 -- no list comes before another and behind it
 list_once : {X : Type 0} (before : X → X → Type 0) → ((x y : X) → before x y → before y x → ⊥) → (xs ys : List X) → IsListBefore before xs ys → IsListBefore before ys xs → ⊥

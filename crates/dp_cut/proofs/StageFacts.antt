@@ -1,8 +1,8 @@
 -- The stages of the units of a cut: they rise from stage to stage, and each stage has a unit.
 use Rattle.std.proofs.Common.{◌≡◌, ◌∙◌, ap, inl, inr, refl, arith, ℕ, ◌+◌, ◌-◌, ◌<◌, ◌≤◌, nat_lt, Bool, true, false, List, [], ◌∷◌, length}
 use Rattle.std.proofs.lemmas.Bool.{cases_Bool, cases_eq, ltb-true, ltb-false, lt-ltb, le-ltb, true≢false}
-use Rattle.dp_cut.specs.declared.Stretch.{Stretch}
-use Rattle.dp_cut.specs.Allowed.{AreStages}
+use Rattle.dp_least_cut.specs.declared.Stretch.{Stretch}
+use Rattle.dp_least_cut.specs.Allowed.{AreStages}
 use Rattle.dp_cut.specs.LeastPlan.{stage_at}
 
 pub stage_least : (k : ℕ) (cut : List Stretch) (a : ℕ) → k ≤ stage_at k cut a

@@ -14,8 +14,8 @@ use Rattle.dp_plan.specs.Written.{has, lines_from, region_sites, sites_in}
 use Rattle.dp_plan.proofs.Ascent.{above-filter}
 use Rattle.dp_plan.proofs.Found.{has-filter, kept}
 use Rattle.dp_plan.proofs.SameNumbers.{ascending_once, count, count-append, count_none}
-use Rattle.dp_cut.specs.declared.Stretch.{Stretch}
-use Rattle.dp_cut.specs.Allowed.{AreStages}
+use Rattle.dp_least_cut.specs.declared.Stretch.{Stretch}
+use Rattle.dp_least_cut.specs.Allowed.{AreStages}
 use Rattle.dp_cut.specs.LeastPlan.{kind_of}
 use Rattle.dp_cut.proofs.StageFacts.{first_sequential}
 

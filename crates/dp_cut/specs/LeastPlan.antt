@@ -16,8 +16,8 @@ use Rattle.dp_depend.specs.declared.EdgeKind.TheVariants.{Control, Intra, Carrie
 use Rattle.dp_depend.specs.declared.nodes.Node.{Node}
 use Rattle.dp_depend.specs.Node.{region_nodes}
 use Rattle.dp_depend.specs.Edges.{first_of}
-use Rattle.dp_cut.specs.declared.Stretch.{Stretch}
-use Rattle.dp_cut.specs.LeastCut.{IsLeastCut}
+use Rattle.dp_least_cut.specs.declared.Stretch.{Stretch}
+use Rattle.dp_least_cut.specs.LeastCut.{IsLeastCut}
 
 -- the sum of the weights of the sites whose unit has this place
 abbrev pub unit_weight : List ℕ → List ℕ → ℕ → ℕ

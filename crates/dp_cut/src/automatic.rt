@@ -1,9 +1,11 @@
 //! The automatic plans of a program.
-ghost use Rattle.std.specs.Prelude.{◌≡◌, ◌≤◌, ◌<◌, ◌-◌, ◌⊎◌, ◌^◌, IfOk, OnErr, length, map, true, false};
+ghost use Rattle.std.specs.Prelude.{◌≡◌, ◌≤◌, ◌<◌, ◌-◌, ◌⊎◌, ◌^◌, IfOk, OnErr, length, map, sum, true, false};
 ghost use Rattle.std.specs.Option.{option_copied};
 ghost use Rattle.dp_tree.specs.Inlined.{IsInlined};
 ghost use Rattle.dp_plan.specs.GivenPlans.{ArePlans};
+ghost use Rattle.dp_depend.specs.Edges.{first_of as first_site};
 ghost use Rattle.dp_units.specs.Graph.{AreWithin};
+ghost use Rattle.dp_units.specs.Order.{ArePlaces, IsOrder};
 ghost use Rattle.dp_cut.specs.Automatic as spec;
 
 use crate::plan::cut;
@@ -13,7 +15,7 @@ use dp_depend::{Edge, Graph, nodes_of};
 use dp_plan::{Plan, first_of};
 use dp_profile::Profile;
 use dp_tree::Program;
-use dp_units::units;
+use dp_units::{Units, units};
 use std::alloc::Global;
 
 /// How an automatic plan is made.
@@ -76,6 +78,46 @@ fn are_few(order: &[u32]) -> bool
     order.len() < 1 << 32
 }
 
+/// The weights of a region's sites. Where the numbers don't hold their sum, it answers want of memory.
+fn light_weights(
+    alloc: Global,
+    p: &Program,
+    region: u32,
+    profile: Option<&Profile>,
+) -> Result<Row<u64>, NoMemory>
+    ensures value { IfOk result (λ weights. weights ≡ spec.weights_of p.now region (option_copied profile.entry)) }
+    ensures light { IfOk result (λ weights. sum weights < 2 ^ 63) }
+{
+    let nodes = nodes_of(alloc, p, region)?;
+    let first = first_of(p, region);
+    let weights = weights_of(alloc, profile, region, first, nodes.as_slice())?;
+    if !is_light(weights.as_slice()) {
+        return Err(NoMemory);
+    }
+    Ok(weights)
+}
+
+/// The units of a region with so many sites.
+fn units_of(
+    alloc: Global,
+    p: &Program,
+    region: u32,
+    graph: &Graph,
+    count: u32,
+) -> Result<Units, NoMemory>
+    ensures order { IfOk result (λ units. IsOrder count (map (spec.node_pair (first_site p.now region)) graph.now.edges) units.order) }
+    ensures places { IfOk result (λ units. ArePlaces count (map (spec.node_pair (first_site p.now region)) graph.now.edges) units.order units.place_of) }
+    ensures few { IfOk result (λ units. length units.order < 2 ^ 32) }
+{
+    let first = first_of(p, region);
+    let pairs = pairs_of(alloc, first, count, graph.edges())?;
+    let units = units(alloc, count, pairs.as_slice())?;
+    if !are_few(units.order()) {
+        return Err(NoMemory);
+    }
+    Ok(units)
+}
+
 /// The least plan of a region.
 ///
 /// A region with more sites, or larger weights, than the numbers hold answers want of memory.
@@ -86,21 +128,11 @@ fn least_plan(alloc: Global, p: &Program, region: u32, wishes: Wishes<'_>) -> Re
     requires few_workers { wishes.workers < 9 }
     ensures { IfOk result (λ plan. spec.IsAutomatic p.now region (option_copied wishes.entry.profile) wishes.entry.rate wishes.entry.stages wishes.entry.workers plan) }
 {
-    let graph = Graph::build(alloc, p, region, wishes.profile, wishes.rate)?;
-    let nodes = nodes_of(alloc, p, region)?;
-    let sites = nodes.as_slice();
-    let first = first_of(p, region);
-    let count = few(sites.len())?;
-    let weights = weights_of(alloc, wishes.profile, region, first, sites)?;
-    let edges = graph.edges();
-    let pairs = pairs_of(alloc, first, count, edges)?;
-    let ends = pairs.as_slice();
-    let units = units(alloc, count, ends)?;
-    let order = units.order();
+    let weights = light_weights(alloc, p, region, wishes.profile)?;
     let loads = weights.as_slice();
-    if !is_light(loads) || !are_few(order) {
-        return Err(NoMemory);
-    }
+    let count = few(loads.len())?;
+    let graph = Graph::build(alloc, p, region, wishes.profile, wishes.rate)?;
+    let units = units_of(alloc, p, region, &graph, count)?;
     let plan = cut(
         alloc,
         p,

@@ -3,12 +3,11 @@ ghost use Rattle.std.specs.Prelude.{◌≡◌, ◌<◌, ◌^◌, length, map, fi
 ghost use Rattle.dp_depend.specs.Edges.{first_of};
 ghost use Rattle.dp_cut.specs.LeastPlan as spec;
 
-use crate::Stretch;
-use crate::places::cut_units;
 use crate::sums::{at_site, carried_pairs, unit_weights};
 use dp_base::limits::MOST_WORDS;
 use dp_base::{NoMemory, Row};
 use dp_depend::{Graph, Node, nodes_of};
+use dp_least_cut::{Stretch, cut_units};
 use dp_plan::{Plan, StageKind, first_of};
 use dp_sites::tabled;
 use dp_tree::{Assume, Program};

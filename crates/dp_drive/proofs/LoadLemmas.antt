@@ -24,8 +24,8 @@ use Rattle.dp_drive.proofs.accepted.Lengths.{lengths}
 use Rattle.dp_drive.proofs.accepted.Exits.{exits}
 use Rattle.dp_base.specs.declared.Quantity.TheVariants.{PlanBytes, ProfileBytes}
 use Rattle.dp_profile.specs.declared.Profile.{Profile}
-use Rattle.dp_profile.specs.ProfileText.{ProfileText}
-use Rattle.dp_profile.specs.Refused.{IsRefused as IsRefusedProfile}
+use Rattle.dp_profile_text.specs.ProfileText.{ProfileText}
+use Rattle.dp_profile_text.specs.Refused.{IsRefused as IsRefusedProfile}
 use Rattle.dp_plan.specs.declared.Plan.{Plan}
 use Rattle.dp_plan_text.specs.Refused.{IsRefused, IsBroken, StandsFor}
 use Rattle.dp_drive.specs.declared.refusal.Refusal.TheVariants.{PlanLine, PlanRule, ProfileLine}

@@ -5,8 +5,8 @@ use Rattle.dp_calls.specs.Expand.{expand}
 use Rattle.dp_calls.specs.Frames.{outcome}
 use Rattle.dp_calls.proofs.SameMeanings.{same_meaning}
 use Rattle.dp_profile.specs.Observed.{observed}
-use Rattle.dp_profile.specs.WrittenText.{profile_text}
 use Rattle.dp_edge.specs.declared.writing.WriteFail.{WriteFail}
+use Rattle.dp_profile_text.specs.WrittenText.{profile_text}
 use Rattle.dp_run.specs.RunText.{source_run}
 use Rattle.dp_words.specs.Words.{Asks, ToProfile}
 use Rattle.dp_words.specs.Profiling.{Profiling}

@@ -12,7 +12,7 @@ use Rattle.dp_run.specs.RunText.{source_run, committed_in_all}
 use Rattle.dp_plan.specs.declared.Plan.{Plan}
 use Rattle.dp_plan_text.specs.WrittenText.{plans_text}
 use Rattle.dp_profile.specs.Observed.{observed}
-use Rattle.dp_profile.specs.WrittenText.{profile_text}
+use Rattle.dp_profile_text.specs.WrittenText.{profile_text}
 use Rattle.dp_drive.specs.declared.refusal.Role.{Role}
 use Rattle.dp_drive.specs.declared.refusal.Role.TheVariants as role
 use Rattle.dp_drive.specs.declared.refusal.Refusal.{Refusal}

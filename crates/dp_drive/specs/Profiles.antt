@@ -4,8 +4,8 @@ use Rattle.dp_base.specs.declared.Quantity.TheVariants.{ProfileBytes}
 use Rattle.dp_base.specs.declared.limits.TheConstants.{PROFILE_BYTES}
 use Rattle.dp_tree.specs.declared.Program.{Program}
 use Rattle.dp_profile.specs.declared.Profile.{Profile}
-use Rattle.dp_profile.specs.ProfileText.{ProfileText}
-use Rattle.dp_profile.specs.Refused.{IsRefused}
+use Rattle.dp_profile_text.specs.ProfileText.{ProfileText}
+use Rattle.dp_profile_text.specs.Refused.{IsRefused}
 use Rattle.dp_drive.specs.declared.refusal.Refusal.{Refusal}
 use Rattle.dp_drive.specs.declared.refusal.Refusal.TheVariants.{Limit, ProfileLine}
 

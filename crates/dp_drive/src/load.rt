@@ -15,7 +15,8 @@ use dp_base::{NoMemory, Quantity, Row};
 use dp_edge::{InputFail, Shelf, ShelfFail, read_input};
 use dp_plan::Plan;
 use dp_plan_text::{PlanFail, read_plans};
-use dp_profile::{Profile, ProfileFail, read_profile};
+use dp_profile::Profile;
+use dp_profile_text::{ProfileFail, read_profile};
 use dp_tree::Program;
 use std::alloc::Global;
 

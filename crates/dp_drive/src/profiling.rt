@@ -2,8 +2,8 @@
 ghost use Rattle.std.specs.Prelude.{◌≡◌, ◌<◌, ◌-◌, ◌^◌, ℕ, List, Ok};
 ghost use Rattle.dp_tree.specs.Inlined.{IsInlined};
 ghost use Rattle.dp_profile.specs.Observed.{observed};
-ghost use Rattle.dp_profile.specs.WrittenText.{profile_text};
 ghost use Rattle.dp_edge.specs.Writing.{FaultsAfter};
+ghost use Rattle.dp_profile_text.specs.WrittenText.{profile_text};
 ghost use Rattle.dp_words.specs.Words.{Asks, ToProfile};
 ghost use Rattle.dp_words.specs.Profiling.{shown_profiling};
 ghost use Rattle.dp_drive.specs.steps.Carried.{Carried, Finishes};
@@ -17,7 +17,7 @@ use crate::writing::{fail_read, refuse};
 use dp_base::Row;
 use dp_edge::{Shelf, Sink, WriteFail, write};
 use dp_observe::observe;
-use dp_profile::write_profile;
+use dp_profile_text::write_profile;
 use dp_tree::Program;
 use dp_words::ProfileWords;
 use std::alloc::Global;

@@ -8,8 +8,7 @@ use Rattle.dp_tree.specs.Inlined.{IsInlined}
 use Rattle.dp_tree.specs.Numbering.{is_marked, site_numbers, site_numbers_all}
 use Rattle.dp_plan.proofs.Ascent.{Ascends, ascends_split, ascends-numbers_from}
 use Rattle.dp_profile.specs.declared.sites.RegionSite.{RegionSite}
-use Rattle.dp_profile.specs.Sites.{sites, regions}
-use Rattle.dp_profile.specs.ProfileText.{has_site}
+use Rattle.dp_profile.specs.Sites.{sites, regions, has_site}
 use Rattle.dp_profile.proofs.KnownSites.{number, numbers_are}
 use Rattle.dp_observe.specs.steps.Owners.{owner_after}
 use Rattle.dp_observe.specs.steps.Starting.{first_of}

@@ -12,8 +12,8 @@ use Rattle.dp_tree.specs.Trace.{run_of, run_by, begin}
 use Rattle.dp_plan.specs.Each.{Each}
 use Rattle.dp_profile.specs.declared.Flow.{Flow}
 use Rattle.dp_profile.specs.declared.sites.RegionSite.{RegionSite}
-use Rattle.dp_profile.specs.Sites.{regions}
-use Rattle.dp_profile.specs.ProfileText.{most_count, has_site, is_before, CountFits, CountsFit, FlowFits, Ascend, RegionFits, RegionsFit, ProfileFits}
+use Rattle.dp_profile.specs.Sites.{regions, has_site}
+use Rattle.dp_profile.specs.ProfileFits.{most_count, is_before, CountFits, CountsFit, FlowFits, Ascend, RegionFits, RegionsFit, ProfileFits}
 use Rattle.dp_profile.specs.Observed.{gives_nonzero, site_count, begins_iteration, last_store, is_local_cell, is_from, shown_by, shown_back, backward, flow_of, flows_between, flows_seen, region_seen, regions_seen, observed}
 use Rattle.dp_observe.specs.Loads.{loads_made}
 use Rattle.dp_observe.specs.steps.Tracking.{InOrder}

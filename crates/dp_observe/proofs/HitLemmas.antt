@@ -8,7 +8,7 @@ use Rattle.dp_tree.specs.Eval.{Load}
 use Rattle.dp_tree.specs.Step.{Event}
 use Rattle.dp_meaning.specs.Watched.{cells_of}
 use Rattle.dp_profile.specs.declared.sites.RegionSite.{RegionSite}
-use Rattle.dp_profile.specs.ProfileText.{has_site}
+use Rattle.dp_profile.specs.Sites.{has_site}
 use Rattle.dp_profile.specs.Observed.{begins_iteration, last_store, is_from, is_local_cell, same_kind, shown_by}
 use Rattle.dp_observe.specs.declared.frame.Frame.{Frame}
 use Rattle.dp_observe.specs.declared.frame.Writer.{Writer}

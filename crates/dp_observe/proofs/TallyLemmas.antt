@@ -6,7 +6,7 @@ use Rattle.dp_tree.specs.Step.{Event, Effect, Stored, Printed, Decided, Tried}
 use Rattle.dp_meaning.specs.Watched.{cells_of, effect_seen}
 use Rattle.dp_profile.specs.declared.SiteCount.{SiteCount}
 use Rattle.dp_profile.specs.declared.sites.RegionSite.{RegionSite}
-use Rattle.dp_profile.specs.ProfileText.{has_site}
+use Rattle.dp_profile.specs.Sites.{has_site}
 use Rattle.dp_profile.specs.Observed.{gives_nonzero, site_count, is_local_cell, shown_by, shown_back}
 use Rattle.dp_observe.specs.declared.frame.Frame.{Frame}
 use Rattle.dp_observe.specs.declared.frame.Writer.{Writer}

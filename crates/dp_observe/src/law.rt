@@ -3,7 +3,7 @@ ghost use Rattle.std.specs.Prelude.{ℕ, List, ℤ, ◌≤◌};
 ghost use Rattle.dp_tree.specs.Inlined.{IsInlined};
 ghost use Rattle.dp_tree.specs.Trace.{run_of, begin};
 ghost use Rattle.dp_profile.specs.Observed.{observed};
-ghost use Rattle.dp_profile.specs.ProfileText.{ProfileFits, most_count};
+ghost use Rattle.dp_profile.specs.ProfileFits.{ProfileFits, most_count};
 ghost use Rattle.dp_observe.specs.Loads.{loads_made};
 
 use dp_tree::Program;

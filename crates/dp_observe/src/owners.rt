@@ -1,6 +1,6 @@
 //! The regions of sites.
 ghost use Rattle.std.specs.Prelude.{◌≡◌, ℕ, ◌^◌, ◌-◌, if◌then◌else◌, IfOk, OnOk};
-ghost use Rattle.dp_profile.specs.ProfileText.{has_site};
+ghost use Rattle.dp_profile.specs.Sites.{has_site};
 ghost use Rattle.dp_observe.specs.Sparse.{at};
 ghost use Rattle.dp_observe.specs.steps.Owners.{owner_after};
 

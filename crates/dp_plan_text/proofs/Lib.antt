@@ -1,16 +1,10 @@
 pub mod rows
 pub mod WordLemmas
-pub mod CutLemmas
-pub mod NumberText
-pub mod JoinLemmas
 pub mod LineComplete
-pub mod Runs
 pub mod LineSound
 pub mod RunComplete
 pub mod RunSound
 pub mod RunEnds
-pub mod RefusedOnce
-pub mod SoFar
 pub mod TextLemmas
 pub mod ConditionForms
 pub mod MemberLemmas
@@ -18,7 +12,6 @@ pub mod OrderLemmas
 pub mod StageLemmas
 pub mod RuleLemmas
 pub mod WriteLemmas
-pub mod Unbroken
 pub mod ReadBack
 pub mod OneReading
 pub mod LinesBack

@@ -8,10 +8,10 @@ use Rattle.dp_plan_text.specs.declared.line.Line.TheVariants as line
 use Rattle.dp_plan.specs.Each.{Each, AscendAbove}
 use Rattle.dp_plan_text.specs.PlanText.{kind_word, outcome_number, version_number, words_of}
 use Rattle.dp_plan.specs.PlanFits.{StageFits, AssumeFits}
-use Rattle.dp_plan_text.specs.Words.{number_of}
+use Rattle.dp_text.specs.Words.{number_of}
 use Rattle.dp_plan_text.specs.steps.LineWords.{above, onto_sites, site_before, sites_above, stage_line, region_of, outcome, assume_of, line_of}
-use Rattle.dp_plan_text.proofs.NumberText.{number_of-decimal}
-use Rattle.dp_plan_text.proofs.JoinLemmas.{IsWord, AreWords, decimal_word}
+use Rattle.dp_text.proofs.NumberText.{number_of-decimal}
+use Rattle.dp_text.proofs.JoinLemmas.{IsWord, AreWords, decimal_word}
 
 -- the numbers of a line fit
 abbrev pub LineFits : Line → Type 0

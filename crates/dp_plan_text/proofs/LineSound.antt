@@ -9,11 +9,11 @@ use Rattle.dp_plan_text.specs.declared.line.Line.{Line}
 use Rattle.dp_plan_text.specs.declared.line.Line.TheVariants as line
 use Rattle.dp_plan_text.specs.PlanText.{kind_word, outcome_number, words_of}
 use Rattle.dp_plan.specs.Each.{AscendAbove}
-use Rattle.dp_plan_text.specs.Words.{number_of}
+use Rattle.dp_text.specs.Words.{number_of}
 use Rattle.dp_plan_text.specs.steps.LineWords.{above, onto_sites, site_before, sites_above, stage_line, region_of, region_line, outcome, assume_of, assume_line, head_line, end_line, line_of}
-use Rattle.dp_plan_text.proofs.NumberText.{Writes, number-sound}
+use Rattle.dp_text.proofs.NumberText.{Writes, number-sound}
 use Rattle.dp_plan_text.proofs.LineComplete.{LineFits}
-use Rattle.dp_plan_text.proofs.Runs.{WordsOf, same_word, choice}
+use Rattle.dp_text.proofs.Runs.{WordsOf, same_word, choice}
 
 abbrev pub IsLine : List (List ℕ) → Line → Type 0
 IsLine = WordsOf words_of LineFits

@@ -8,14 +8,15 @@ use Rattle.dp_plan_text.specs.declared.reader.Reader.{Reader}
 use Rattle.dp_plan.specs.Written.{plan_of}
 use Rattle.dp_plan.specs.declared.WrittenPlan.{WrittenPlan}
 use Rattle.dp_plan.specs.Valid.{first_fault}
-use Rattle.dp_plan_text.specs.PlanText.{PlanText, lines_of}
+use Rattle.dp_plan_text.specs.PlanText.{PlanText}
+use Rattle.dp_text.specs.Lines.{lines_of}
 use Rattle.dp_plan_text.specs.Refused.{IsPlanText, ReadsOnly, StandsFor}
 use Rattle.dp_plan_text.specs.WrittenText.{plans_text}
 use Rattle.dp_plan.specs.GivenPlans.{ArePlans}
 use Rattle.dp_plan_text.proofs.ReadBack.{read_back}
 use Rattle.dp_plan.proofs.RegionFacts.{few_regions}
 use Rattle.dp_plan_text.proofs.RunComplete.{over}
-use Rattle.dp_plan_text.proofs.RefusedOnce.{unrefused}
+use Rattle.dp_text.proofs.RefusedOnce.{unrefused}
 use Rattle.dp_plan_text.proofs.TextLemmas.{text_runs}
 
 module _ (p : Program) (small : length p.regions < 2 ^ 32) (bytes : List ℕ) where

@@ -11,14 +11,13 @@ use Rattle.dp_plan.specs.PlanFits.{PlanFits}
 use Rattle.dp_plan_text.specs.PlanText.{PlanText, plan_lines, region_number, words_of}
 use Rattle.dp_plan_text.specs.Refused.{StandsFor}
 use Rattle.dp_plan_text.specs.WrittenText.{plans_text}
-use Rattle.dp_plan.specs.GivenPlans.{version_of}
-use Rattle.dp_plan.specs.GivenPlans.{ArePlans, HasVersion, IsPlan, region_of}
+use Rattle.dp_plan.specs.GivenPlans.{version_of, ArePlans, HasVersion, IsPlan, region_of}
 use Rattle.dp_plan.proofs.PlanBack.{plan_back, plan_fits}
 use Rattle.dp_plan.proofs.RegionFacts.{InOrder, few_regions, in_order}
 use Rattle.dp_plan.proofs.RulesHold.{valid_unbroken}
 use Rattle.dp_plan_text.proofs.RunEnds.{all_lines_fit}
 use Rattle.dp_plan_text.proofs.LineComplete.{are_words}
-use Rattle.dp_plan_text.proofs.Unbroken.{lines_whole}
+use Rattle.dp_text.proofs.Unbroken.{lines_whole}
 
 -- a plan that fits, with its region's sites in order
 record Ready (p : Program) (plan : Plan) : Type 0 where

@@ -13,7 +13,7 @@ use Rattle.dp_plan.specs.Each.{Each}
 use Rattle.dp_plan.specs.PlanFits.{PlanFits}
 use Rattle.dp_plan_text.specs.PlanText.{region_number, region_lines, plan_lines}
 use Rattle.dp_plan_text.specs.steps.Reading.{begun, is_between, closed, next}
-use Rattle.dp_plan_text.proofs.Runs.{run_by}
+use Rattle.dp_text.proofs.Runs.{run_by}
 use Rattle.std.proofs.lemmas.Bool.{or_right}
 
 abbrev pub run : ℕ → Option Reader → List Line → Option Reader

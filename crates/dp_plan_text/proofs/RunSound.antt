@@ -1,10 +1,10 @@
 -- Lines that are read one after the other are the lines of plans that fit.
-use Rattle.std.proofs.Common.{◌≡◌, ℕ, zero, suc, ◌+◌, ◌<◌, ◌≤◌, ◌==◌, Bool, true, false, ◌&&◌, nat_lt, List, [], ◌∷◌, ◌++◌, map, length, Some, None, refl, sym, ap, subst, ◌∙◌, append_assoc, append-nil, length-append, rules, arith, tests}
-use Rattle.std.specs.Prelude.{if◌then◌else◌}
+use Rattle.std.proofs.Common.{◌≡◌, ℕ, zero, suc, ◌+◌, ◌<◌, ◌≤◌, ◌==◌, Bool, true, nat_lt, List, [], ◌∷◌, ◌++◌, map, length, Some, refl, sym, ap, subst, ◌∙◌, append_assoc, append-nil, length-append, rules, arith, tests}
 use Rattle.std.specs.List.{flat_map}
 use Rattle.std.proofs.lemmas.List.{map-append, nil_from_length}
 use Rattle.std.proofs.lemmas.Grind.{flat_map-append}
 use Rattle.dp_plan.proofs.EachLemmas.{each-append}
+use Rattle.dp_text.proofs.Tests.{both, taken}
 use Rattle.dp_tree.specs.declared.Assume.{Assume}
 use Rattle.dp_tree.specs.Numbering.{numbers_from}
 use Rattle.dp_plan_text.specs.declared.line.Line.{Line}
@@ -46,20 +46,6 @@ numbers-next zero first = ap (λ m. m ∷ []) (omega arith)
 numbers-next (suc k) first =
     let same : first + suc k ≡ (first + 1) + k = omega arith in
     ap (λ r. first ∷ r) (ap (λ m. numbers_from (first + 1) k ++ m ∷ []) same ∙ numbers-next k (first + 1))
-
--- ---- what a test tells
-
-pub record Both (a b : Bool) : Type 0 where
-  pub first : a ≡ true
-  pub second : b ≡ true
-
-pub taken : {X : Type 0} (t : Bool) (x y : X) → (if t then Some x else None) ≡ Some y → (t ≡ true) × (x ≡ y)
-taken true x y h = (refl, cc h)
-taken false x y h = absurd (cc h)
-
-pub both : (a b : Bool) → (a && b) ≡ true → Both a b
-both true b h = record { first = refl; second = h }
-both false b h = absurd (cc h)
 
 -- ---- the plan of the last region
 

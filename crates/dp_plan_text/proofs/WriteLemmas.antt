@@ -10,19 +10,10 @@ use Rattle.dp_plan.specs.declared.Plan.{Plan}
 use Rattle.dp_plan_text.specs.declared.line.Line.TheVariants as line
 use Rattle.dp_plan.specs.Written.{region_sites, lines_from, written_of}
 use Rattle.dp_plan.specs.declared.WrittenStage.{WrittenStage}
-use Rattle.dp_plan_text.specs.PlanText.{kind_word, outcome_number, version_number, joined, line_bytes, region_lines}
+use Rattle.dp_plan_text.specs.PlanText.{kind_word, outcome_number, version_number, line_bytes, region_lines}
+use Rattle.dp_text.specs.Words.{joined}
 use Rattle.dp_plan_text.specs.WrittenText.{plans_text, line_text, plan_text, plan_texts, stage_at, stage_texts, assume_texts}
 use Rattle.dp_plan.specs.GivenPlans.{version_of}
-
--- a text that grew by three parts
-pub grew : (out one two three a b c : List ℕ) → one ≡ out ++ a → two ≡ one ++ b → three ≡ two ++ c → three ≡ out ++ (a ++ (b ++ c))
-grew out one two three a b c p q r = r ∙ rw (q, p) (simp append_assoc)
-
--- two numbers, each behind its label, and LF
-pub two_numbers : (out one two three label more : List ℕ) (n m : ℕ) → one ≡ out ++ labelled label n → two ≡ one ++ labelled more m → three ≡ two ++ 10 ∷ []
-    → three ≡ out ++ (label ++ (decimal n ++ (more ++ (decimal m ++ 10 ∷ []))))
-unfolding labelled
-two_numbers out one two three label more n m p q r = r ∙ rw (q, p) (simp append_assoc)
 
 pub region_line : (r w : ℕ) → codes "region " ++ (decimal r ++ (codes " words " ++ (decimal w ++ 10 ∷ []))) ≡ line_text (line.Region r w)
 unfolding line_text
@@ -31,11 +22,6 @@ region_line r w = ap (λ (l : List ℕ). codes "region " ++ l) (sym (append_asso
 pub head_line : (v : Bool) → codes "plan " ++ (decimal (version_number v) ++ 10 ∷ []) ≡ line_text (line.Head v)
 unfolding line_text
 head_line v = refl
-
--- a number behind its label, and LF
-pub one_number : (out one two label : List ℕ) (n : ℕ) → one ≡ out ++ labelled label n → two ≡ one ++ 10 ∷ [] → two ≡ out ++ (label ++ (decimal n ++ 10 ∷ []))
-unfolding labelled
-one_number out one two label n p q = q ∙ rw p (simp append_assoc)
 
 pub assume_line : (a : Assume) → codes "assume " ++ (decimal a.site.0 ++ (codes " " ++ (decimal (outcome_number a.taken) ++ 10 ∷ []))) ≡ line_text (line.Assume a)
 unfolding line_text

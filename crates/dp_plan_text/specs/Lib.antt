@@ -1,5 +1,4 @@
 pub mod PlanText
 pub mod Refused
-pub mod Words
 pub mod WrittenText
 pub mod steps

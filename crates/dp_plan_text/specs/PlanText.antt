@@ -1,7 +1,8 @@
 -- The text of plans: its lines in order, the words of each, and what the numbers have to be.
-use Rattle.std.specs.Prelude.{◌≡◌, ℕ, Bool, true, false, ◌==◌, if◌then◌else◌, List, [], ◌∷◌, ◌++◌, map, length, codes, decimal}
+use Rattle.std.specs.Prelude.{◌≡◌, ℕ, Bool, true, false, List, [], ◌∷◌, ◌++◌, map, length, codes, decimal}
 use Rattle.std.specs.List.{flat_map}
-use Rattle.dp_text.specs.Pieces.{onto_first}
+use Rattle.dp_text.specs.Lines.{lines_of}
+use Rattle.dp_text.specs.Words.{joined}
 use Rattle.dp_tree.specs.declared.Program.{Program}
 use Rattle.dp_tree.specs.Numbering.{numbers_from}
 use Rattle.dp_plan.specs.declared.StageKind.{StageKind}
@@ -34,13 +35,7 @@ words_of (line.Stage stage) = kind_word stage.kind ∷ map decimal stage.sites
 words_of (line.Assume a) = codes "assume" ∷ decimal a.site.0 ∷ decimal (outcome_number a.taken) ∷ []
 words_of line.End = codes "end" ∷ []
 
--- words with single spaces between
-abbrev pub joined : List (List ℕ) → List ℕ
-joined [] = []
-joined (word ∷ []) = word
-joined (word ∷ next ∷ rest) = word ++ 32 ∷ joined (next ∷ rest)
-
--- the line's bytes: its words, and LF
+-- the line's bytes: its words with single spaces between, and LF
 abbrev pub line_bytes : Line → List ℕ
 line_bytes l = joined (words_of l) ++ 10 ∷ []
 
@@ -60,11 +55,6 @@ pub record PlanLines (p : Program) (lines : List (List ℕ)) (proved : Bool) (pl
   pub lines_are : lines ≡ map line_bytes (plan_lines proved plans)
   pub regions : map region_number plans ≡ numbers_from 1 (length p.regions)
   pub fit : Each PlanFits plans
-
--- a text is cut after each LF; what follows the last one is a line too, which no text of the grammar has
-abbrev pub lines_of : List ℕ → List (List ℕ)
-lines_of [] = []
-lines_of (byte ∷ rest) = if byte == 10 then (byte ∷ []) ∷ lines_of rest else onto_first byte (lines_of rest)
 
 -- the text is that of these plans
 abbrev pub PlanText : Program → List ℕ → Bool → List WrittenPlan → Type 0

@@ -1,5 +1,6 @@
 -- Texts that aren't in the grammar, with the line at which they are refused; and what a text is read as.
-use Rattle.std.specs.Prelude.{◌≡◌, ◌⊎◌, ℕ, ◌+◌, ◌<◌, ◌≤◌, Bool, List, ◌++◌, map, length, take, Option, Some, None, Result, Ok, Err}
+use Rattle.std.specs.Prelude.{◌≡◌, ◌⊎◌, ℕ, Bool, List, map, Option, Some, None, Result, Ok, Err}
+use Rattle.dp_text.specs.Refused.{IsRefusedAt}
 use Rattle.dp_tree.specs.declared.Program.{Program}
 use Rattle.dp_plan.specs.declared.Plan.{Plan}
 use Rattle.dp_plan_text.specs.declared.PlanFail.{PlanFail}
@@ -8,17 +9,8 @@ use Rattle.dp_plan.specs.Written.{plan_of}
 use Rattle.dp_plan.specs.declared.WrittenPlan.{WrittenPlan}
 use Rattle.dp_plan.specs.Valid.{first_fault}
 use Rattle.dp_plan.specs.declared.BrokenRule.{BrokenRule}
-use Rattle.dp_plan_text.specs.PlanText.{PlanLines, PlanText, lines_of}
-
--- a text of a grammar begins with these lines
-abbrev pub Begins : (List (List ℕ) → Type 0) → List (List ℕ) → Type 0
-Begins IsText lines = (more : List (List ℕ)) × IsText (lines ++ more)
-
--- The least line, from 1, up to which no text of a grammar begins so. Where one begins with all lines, but isn't
--- these, it is the number after the last line.
-pub data IsRefusedAt (IsText : List (List ℕ) → Type 0) (lines : List (List ℕ)) : ℕ → Type 0 where
-  at_line : (line : ℕ) → 1 ≤ line → line ≤ length lines → ((k : ℕ) → k < line → Begins IsText (take k lines)) → ¬ Begins IsText (take line lines) → IsRefusedAt IsText lines line
-  at_end : (line : ℕ) → line ≡ length lines + 1 → ((k : ℕ) → k < line → Begins IsText (take k lines)) → ¬ IsText lines → IsRefusedAt IsText lines line
+use Rattle.dp_plan_text.specs.PlanText.{PlanLines, PlanText}
+use Rattle.dp_text.specs.Lines.{lines_of}
 
 -- these are the lines of a text of plans
 abbrev pub IsPlanText : Program → List (List ℕ) → Type 0

@@ -12,13 +12,10 @@ mod read;
 mod reader;
 mod rules;
 mod text;
-mod words;
 mod write;
 
 pub use law::{read_plans_are_plans, written_plans_are_read};
 pub use read::read_plans;
-pub use text::next_line;
-pub use words::{next_word, number, number_upto};
 pub use write::write_plans;
 
 /// The plans of a text, which need not fit the program.

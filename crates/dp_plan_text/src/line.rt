@@ -2,13 +2,13 @@
 
 ghost use Rattle.std.specs.Prelude.{◌≡◌, IfOk};
 ghost use Rattle.std.specs.Option.{option_copied};
-ghost use Rattle.dp_plan_text.specs.Words.{words, words_behind, number_of};
+ghost use Rattle.dp_text.specs.Words.{words, words_behind, number_of};
 ghost use Rattle.dp_plan_text.specs.steps.LineWords as spec;
 
-use crate::words::{next_word, number};
 use dp_base::limits::{LEAST_WORDS, MOST_WORDS};
 use dp_base::{NoMemory, Row, SiteId};
 use dp_plan::{StageKind, WrittenStage};
+use dp_text::{next_word, number};
 use dp_tree::Assume;
 use std::alloc::Global;
 

@@ -1,10 +1,8 @@
 //! What the lines of a text say so far, and what each line adds.
 
 ghost use Rattle.std.specs.Prelude.{◌≡◌, [], IfOk};
-ghost use Rattle.dp_plan_text.specs.Words.{words};
-ghost use Rattle.dp_plan_text.specs.steps.LineWords.{line_of};
 
-use crate::line::{Line, read_line};
+use crate::line::Line;
 use dp_base::limits::STAGES;
 use dp_base::{NoMemory, Row};
 use dp_plan::{WrittenPlan, WrittenStage};
@@ -176,7 +174,7 @@ impl Reader {
 
     /// What is known after one more line, if it may stand here.
     #[tactic(auto, unfolding(crate::specs::steps::Reading::next_by))]
-    fn after(
+    pub(crate) fn after(
         self,
         alloc: Global,
         regions: u32,
@@ -192,18 +190,5 @@ impl Reader {
             Some(Line::Assume(assume)) => self.assume(regions, assume),
             Some(Line::End) => self.end(alloc, regions),
         }
-    }
-
-    /// The same of a line's text.
-    pub(crate) fn after_text(
-        self,
-        alloc: Global,
-        regions: u32,
-        text: &[u8],
-    ) -> Result<Option<Reader>, NoMemory>
-        ensures { IfOk result (λ reader. reader ≡ spec.next_by regions self (line_of (words text.now))) }
-    {
-        let line = read_line(alloc, text)?;
-        self.after(alloc, regions, line)
     }
 }

@@ -1,46 +1,50 @@
-//! The lines of a text, one after the other.
+//! The plans of a text, before any rule on plans is tested.
 
-ghost use Rattle.std.specs.Prelude.{◌≡◌, ◌<◌, ◌≤◌, ◌^◌, ◌∷◌, ◌++◌, ◌==◌, [], IfSome, MatchOption, MatchResult, length};
-ghost use Rattle.std.specs.List.{position};
-ghost use Rattle.dp_plan_text.specs.PlanText.{lines_of};
-ghost use Rattle.dp_plan_text.specs.steps.Ending.{IfEnds, ReadsText};
+ghost use Rattle.std.specs.Prelude.{◌≡◌, ◌<◌, ◌≤◌, ◌^◌, MatchResult, length};
+ghost use Rattle.dp_text.specs.Words.{words};
+ghost use Rattle.dp_plan_text.specs.steps.Ending.{ReadsText, finished as plans_of};
+ghost use Rattle.dp_plan_text.specs.steps.LineWords.{line_of};
+ghost use Rattle.dp_plan_text.specs.steps.Reading.{is_over, next_by};
 
+use crate::line::read_line;
 use crate::reader::{Phase, Reader};
 use crate::{PlanFail, WrittenPlans};
 use dp_base::NoMemory;
+use dp_text::{LineGrammar, Reading, read_lines};
 use dp_tree::Program;
 use std::alloc::Global;
 
-fn first_end(text: &[u8]) -> Option<usize>
-    ensures { result ≡ position (λ byte. byte == 10) text.now }
-{
-    text.iter().position(|byte| *byte == b'\n')
+/// The lines of plans for so many regions.
+#[derive(Clone, Copy)]
+struct PlanGrammar {
+    regions: u32,
 }
 
-/// The first line without its LF, and what follows it.
-pub fn next_line(text: &[u8]) -> Option<(&[u8], &[u8])>
-    ensures lines { MatchOption result (position (λ byte. byte == 10) text.now ≡ None) (λ next. lines_of text.now ≡ (next.0.now ++ 10 ∷ []) ∷ lines_of next.1.now) }
-    ensures shorter { IfSome result (λ next. length next.1.now < length text.now) }
-{
-    let len = first_end(text)?;
-    let (line, _) = text.split_at(len);
-    let (_, rest) = text.split_at(len + 1);
-    Some((line, rest))
+impl LineGrammar<Reader> for PlanGrammar {
+    ghost next = { λ grammar reader line. next_by grammar.regions reader (line_of (words line)) };
+
+    ghost over = { λ reader. is_over reader.phase };
+
+    fn after(&self, alloc: Global, state: Reader, line: &[u8]) -> Result<Option<Reader>, NoMemory> {
+        let line = read_line(alloc, line)?;
+        state.after(alloc, self.regions, line)
+    }
+
+    fn is_over(&self, state: &Reader) -> bool {
+        matches!(state.phase, Phase::Over)
+    }
 }
 
-/// The plans of a text whose lines have been read up to what has no LF.
-fn finished(reader: Reader, rest: &[u8], line: u64) -> Result<WrittenPlans, PlanFail>
-    ensures { IfEnds reader rest.now line result }
+/// The plans of a text that has been read.
+fn finished(reading: Reading<Reader>) -> Result<WrittenPlans, PlanFail>
+    ensures { result ≡ plans_of reading }
 {
-    let Reader {
-        phase,
-        proved,
-        plans,
-        ..
-    } = reader;
-    match phase {
-        Phase::Over if rest.is_empty() => Ok(WrittenPlans { proved, plans }),
-        _ => Err(PlanFail::Refused { line }),
+    match reading {
+        Reading::Over(reader) => {
+            let Reader { proved, plans, .. } = reader;
+            Ok(WrittenPlans { proved, plans })
+        }
+        Reading::Refused { line } => Err(PlanFail::Refused { line }),
     }
 }
 
@@ -62,27 +66,6 @@ pub(crate) fn read_text(alloc: Global, bytes: &[u8], p: &Program) -> Result<Writ
     ensures { ReadsText p.now bytes.now result }
 {
     let regions = region_count(p)?;
-    let mut reader = Reader::new(alloc);
-    let mut rest = bytes;
-    let mut count: usize = 0;
-    'lines: loop {
-        match next_line(rest) {
-            None => return finished(reader, rest, count as u64 + 1),
-            Some((text, more)) => {
-                let next = reader.after_text(alloc, regions, text)?;
-                match next {
-                    None => {
-                        return Err(PlanFail::Refused {
-                            line: count as u64 + 1,
-                        });
-                    }
-                    Some(after) => {
-                        reader = after;
-                        rest = more;
-                        count += 1;
-                    }
-                }
-            }
-        }
-    }
+    let reading = read_lines(alloc, &PlanGrammar { regions }, Reader::new(alloc), bytes)?;
+    finished(reading)
 }

@@ -8,9 +8,9 @@ ghost use Rattle.dp_plan.specs.GivenPlans.{version_of};
 ghost use Rattle.dp_plan_text.specs.WrittenText as text;
 
 use dp_base::{NoMemory, Row, SiteId};
-use dp_text::put_labelled;
 use dp_plan::{Plan, StageKind};
 use dp_sites::sites_of;
+use dp_text::put_labelled;
 use dp_tree::{Assume, Program};
 use std::alloc::Global;
 

@@ -12,8 +12,13 @@ use Rattle.dp_plan.specs.Each.{Each}
 use Rattle.dp_plan.proofs.RegionFacts.{many}
 use Rattle.dp_plan.proofs.Ascent.{Ascends, ascends_split, ascends-numbers_from}
 use Rattle.dp_profile.specs.Sites.{RegionSite, site_at, sites, regions}
-use Rattle.dp_profile.proofs.LineComplete.{top}
-use Rattle.dp_profile.proofs.RunEnds.{SmallSite}
+
+-- the largest number of 32 bits
+abbrev pub top : ℕ
+top = 4294967295
+
+abbrev pub SmallSite : RegionSite → Type 0
+SmallSite s = s.site.0 ≤ top
 
 abbrev pub number : RegionSite → ℕ
 number s = s.site.0

@@ -1,4 +1,3 @@
 pub mod Profiles
 pub mod Observations
-pub mod Texts
 pub mod Fitting

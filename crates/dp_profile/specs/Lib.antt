@@ -1,6 +1,3 @@
 pub mod Sites
-pub mod ProfileText
-pub mod Refused
-pub mod WrittenText
+pub mod ProfileFits
 pub mod Observed
-pub mod steps

@@ -9,8 +9,7 @@ use Rattle.dp_tree.specs.Trace.{Run, run_of, begin}
 use Rattle.dp_profile.specs.declared.RegionProfile.{RegionProfile}
 use Rattle.dp_profile.specs.declared.SiteCount.{SiteCount}
 use Rattle.dp_profile.specs.declared.Flow.{Flow}
-use Rattle.dp_profile.specs.Sites.{RegionSite, regions}
-use Rattle.dp_profile.specs.ProfileText.{has_site}
+use Rattle.dp_profile.specs.Sites.{RegionSite, regions, has_site}
 pub use Rattle.dp_profile.specs.declared.Observed.{Observed}
 
 -- a region of which nothing is shown

@@ -1,5 +1,6 @@
 -- The sites of a program's regions in text order, each with whether a condition is evaluated there.
-use Rattle.std.specs.Prelude.{Bool, true, false, List, [], ◌∷◌, map, filter}
+use Rattle.std.specs.Prelude.{ℕ, ◌==◌, Bool, true, false, List, [], ◌∷◌, map, filter}
+use Rattle.std.specs.List.{list_any}
 use Rattle.dp_base.specs.declared.SiteId.{SiteId}
 use Rattle.dp_tree.specs.declared.Stmt.{Stmt}
 use Rattle.dp_tree.specs.declared.Stmt.TheVariants.{Assign, Store, Print, If', While', Region', Break, Call}
@@ -21,6 +22,10 @@ site_at (While' site cond _ body) = region_site site true ∷ []
 site_at (Region' r site cond _ body) = region_site site true ∷ []
 site_at (Break site cond) = region_site site true ∷ []
 site_at (Call f line args) = []
+
+-- the number is that of one of the sites
+abbrev pub has_site : ℕ → List RegionSite → Bool
+has_site n sites = list_any (λ s. s.site.0 == n) sites
 
 -- the sites of a statement
 abbrev pub sites : Stmt → List RegionSite

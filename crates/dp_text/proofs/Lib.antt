@@ -1,2 +1,13 @@
 pub mod DigitLemmas
 pub mod PositionLemmas
+pub mod WordLemmas
+pub mod CutLemmas
+pub mod NumberText
+pub mod JoinLemmas
+pub mod Unbroken
+pub mod Runs
+pub mod RefusedOnce
+pub mod TurnLemmas
+pub mod SoFar
+pub mod Tests
+pub mod Grown

@@ -10,7 +10,7 @@ use Rattle.dp_tree.proofs.RegionPrograms.{early_exit}
 use Rattle.dp_depend.proofs.rows.Programs.{generated, inner_loops, inner_loops_shown, skip_negative_shown}
 use Rattle.dp_cut.specs.Automatic.{node_pairs, weights_of}
 use Rattle.dp_cut.specs.LeastPlan.{unit_weights, carried_pairs, plan_before_table, plan_of_cut}
-use Rattle.dp_cut.proofs.rows.Cuts.{seq, par}
+use Rattle.dp_least_cut.proofs.rows.Cuts.{seq, par}
 
 -- sites 2 and 5 are one unit, and 3 and 4 one each
 units_of_sum_loop : unit_weights 3 (0 ∷ 1 ∷ 2 ∷ 0 ∷ []) (1 ∷ 1 ∷ 1 ∷ 1 ∷ []) ≡ 2 ∷ 1 ∷ 1 ∷ []

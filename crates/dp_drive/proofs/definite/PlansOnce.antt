@@ -6,10 +6,11 @@ use Rattle.dp_plan.specs.declared.Plan.{Plan}
 use Rattle.dp_plan.specs.Valid.{first_fault}
 use Rattle.dp_plan.specs.declared.BrokenRule.{BrokenRule}
 use Rattle.dp_plan.specs.declared.WrittenPlan.{WrittenPlan}
-use Rattle.dp_plan_text.specs.PlanText.{PlanText, lines_of}
+use Rattle.dp_plan_text.specs.PlanText.{PlanText}
+use Rattle.dp_text.specs.Lines.{lines_of}
 use Rattle.dp_plan_text.specs.Refused.{IsBroken, IsPlanText, IsRefused, StandsFor}
 use Rattle.dp_plan_text.proofs.OneReading.{one_list, one_meaning}
-use Rattle.dp_plan_text.proofs.RefusedOnce.{one_line, unrefused}
+use Rattle.dp_text.proofs.RefusedOnce.{one_line, unrefused}
 use Rattle.dp_drive.specs.declared.refusal.Refusal.{Refusal}
 use Rattle.dp_drive.specs.declared.refusal.Refusal.TheVariants.{Limit, PlanLine, PlanRule}
 use Rattle.dp_drive.specs.Plans.{ReadsPlans, TooLong, NotPlans, Broken, Taken}

@@ -4,13 +4,13 @@ use Rattle.dp_base.specs.declared.Quantity.TheVariants.{ProfileBytes}
 use Rattle.dp_tree.specs.declared.Program.{Program}
 use Rattle.dp_tree.specs.Inlined.{IsInlined}
 use Rattle.dp_profile.specs.declared.Profile.{Profile}
-use Rattle.dp_profile.specs.declared.ProfileFail.TheVariants as fail
-use Rattle.dp_profile.specs.ProfileText.{ProfileText}
-use Rattle.dp_plan_text.specs.PlanText.{lines_of}
-use Rattle.dp_profile.specs.Refused.{IsProfileText, IsRefused}
+use Rattle.dp_profile_text.specs.declared.ProfileFail.TheVariants as fail
+use Rattle.dp_profile_text.specs.ProfileText.{ProfileText}
+use Rattle.dp_text.specs.Lines.{lines_of}
+use Rattle.dp_profile_text.specs.Refused.{IsProfileText, IsRefused}
 use Rattle.dp_profile.proofs.KnownSites.{few_regions, small_sites}
-use Rattle.dp_profile.proofs.ReadBack.{read_only}
-use Rattle.dp_plan_text.proofs.RefusedOnce.{one_line, unrefused}
+use Rattle.dp_profile_text.proofs.ReadBack.{read_only}
+use Rattle.dp_text.proofs.RefusedOnce.{one_line, unrefused}
 use Rattle.dp_drive.specs.declared.refusal.Refusal.{Refusal}
 use Rattle.dp_drive.specs.declared.refusal.Refusal.TheVariants.{Limit, ProfileLine}
 use Rattle.dp_drive.specs.Profiles.{ReadsProfile, TooLong, NoProfile, Taken}

@@ -1,7 +1,8 @@
 -- Texts of plans of the test programs, and texts cut into lines.
 use Rattle.std.proofs.Common.{◌≡◌, refl, true, false, [], ◌∷◌, codes, arith}
 use Rattle.dp_tree.proofs.Programs.{empty_program, skip_negative, histogram}
-use Rattle.dp_plan_text.specs.PlanText.{PlanText, lines_of}
+use Rattle.dp_plan_text.specs.PlanText.{PlanText}
+use Rattle.dp_text.specs.Lines.{lines_of}
 use Rattle.dp_plan.proofs.Plans.{skip_negative_written, histogram_written}
 
 -- what follows the last LF is a line too, and nothing is none

@@ -6,7 +6,7 @@ use Rattle.dp_plan.specs.declared.StageKind.{StageKind}
 use Rattle.dp_plan.specs.declared.StageKind.TheVariants.{Seq, Par}
 use Rattle.dp_plan_text.specs.declared.line.Line.{Line}
 use Rattle.dp_plan_text.specs.declared.line.Line.TheVariants as line
-use Rattle.dp_plan_text.specs.Words.{number_of}
+use Rattle.dp_text.specs.Words.{number_of}
 
 -- a site that a word writes, where it is above another
 abbrev pub above : ℕ → Option ℕ → Option ℕ

@@ -24,6 +24,11 @@ is_inside phase.Start = false
 is_inside phase.Inside = true
 is_inside phase.Over = false
 
+abbrev pub is_over : Phase → Bool
+is_over phase.Start = false
+is_over phase.Inside = false
+is_over phase.Over = true
+
 -- a region's line has been read
 abbrev pub has_region : Reader → Bool
 has_region s = is_inside s.phase && not (s.last.region == 0)

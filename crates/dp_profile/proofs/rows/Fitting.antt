@@ -3,7 +3,7 @@ use Rattle.std.proofs.Common.{◌≡◌, refl, arith, ℕ, true, false, [], ◌�
 use Rattle.dp_tree.specs.declared.Stmt.TheVariants as stmt
 use Rattle.dp_tree.proofs.Build.{num, set, set_at, say, loop, region, tree_opened}
 use Rattle.dp_profile.specs.Sites.{RegionSite, region_site, sites}
-use Rattle.dp_profile.specs.ProfileText.{CountFits, CountsFit, FlowFits, RegionsFit, is_before}
+use Rattle.dp_profile.specs.ProfileFits.{CountFits, CountsFit, FlowFits, RegionsFit, is_before}
 use Rattle.dp_profile.proofs.rows.Profiles.{count, flow}
 
 abbrev plain : ℕ → RegionSite

@@ -1,5 +1,5 @@
 use Rattle.std.proofs.Common.{◌≡◌, ℕ, if◌then◌else◌, drop}
-use Rattle.dp_profile.specs.ProfileText.{has_site}
+use Rattle.dp_profile.specs.Sites.{has_site}
 use Rattle.dp_observe.specs.Sparse.{at}
 use Rattle.dp_observe.proofs.owners.give.Given as goal
 

@@ -1,6 +1,6 @@
 use Rattle.std.proofs.Common.{◌≡◌}
 use Rattle.std.specs.Option.{option_copied}
-use Rattle.dp_plan_text.specs.Words.{words_behind}
+use Rattle.dp_text.specs.Words.{words_behind}
 use Rattle.dp_plan_text.specs.steps.LineWords.{sites_above}
 use Rattle.dp_plan_text.proofs.StageLemmas.{behind_sites, length_behind}
 use Rattle.dp_plan_text.proofs.line.sites.Given as goal

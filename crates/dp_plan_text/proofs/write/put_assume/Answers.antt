@@ -2,7 +2,8 @@ use Rattle.std.proofs.Common.{◌≡◌, ◌++◌, List, ℕ, ap, ◌∙◌, cod
 use Rattle.std.proofs.lemmas.Result.{on_ok_weaker}
 use Rattle.dp_text.specs.Labels.{labelled}
 use Rattle.dp_plan_text.specs.PlanText.{outcome_number}
-use Rattle.dp_plan_text.proofs.WriteLemmas.{two_numbers, assume_line}
+use Rattle.dp_text.proofs.Grown.{two_numbers}
+use Rattle.dp_plan_text.proofs.WriteLemmas.{assume_line}
 use Rattle.dp_plan_text.proofs.write.put_assume.Goals as goal
 
 pub returns : goal.returns

@@ -2,7 +2,8 @@ use Rattle.std.proofs.Common.{◌≡◌, ◌++◌, List, ℕ, ap, ◌∙◌, cod
 use Rattle.std.proofs.lemmas.Result.{on_ok_weaker}
 use Rattle.dp_text.specs.Labels.{labelled}
 use Rattle.dp_plan_text.specs.PlanText.{version_number}
-use Rattle.dp_plan_text.proofs.WriteLemmas.{one_number, head_line}
+use Rattle.dp_text.proofs.Grown.{one_number}
+use Rattle.dp_plan_text.proofs.WriteLemmas.{head_line}
 use Rattle.dp_plan_text.proofs.write.put_head.Goals as goal
 
 pub returns : goal.returns

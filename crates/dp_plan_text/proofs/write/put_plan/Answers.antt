@@ -3,7 +3,8 @@ use Rattle.dp_tree.specs.declared.Assume.{Assume}
 use Rattle.dp_plan_text.specs.declared.line.Line.TheVariants as line
 use Rattle.dp_plan.specs.Written.{region_sites}
 use Rattle.dp_plan_text.specs.WrittenText.{line_text, stage_texts, assume_texts}
-use Rattle.dp_plan_text.proofs.WriteLemmas.{grew, plan_parts}
+use Rattle.dp_text.proofs.Grown.{grew}
+use Rattle.dp_plan_text.proofs.WriteLemmas.{plan_parts}
 use Rattle.dp_plan_text.proofs.write.put_plan.Goals as goal
 
 pub returns : goal.returns

@@ -1,7 +1,8 @@
 use Rattle.std.proofs.Common.{◌≡◌, ◌++◌, List, ℕ, ap, ◌∙◌, codes}
 use Rattle.std.proofs.lemmas.Result.{on_ok_weaker}
 use Rattle.dp_text.specs.Labels.{labelled}
-use Rattle.dp_plan_text.proofs.WriteLemmas.{two_numbers, region_line}
+use Rattle.dp_text.proofs.Grown.{two_numbers}
+use Rattle.dp_plan_text.proofs.WriteLemmas.{region_line}
 use Rattle.dp_plan_text.proofs.write.put_region.Goals as goal
 
 pub returns : goal.returns

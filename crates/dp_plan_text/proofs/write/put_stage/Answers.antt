@@ -3,7 +3,8 @@ use Rattle.std.proofs.lemmas.Result.{on_ok_weaker}
 use Rattle.dp_text.specs.Labels.{spaced}
 use Rattle.dp_plan_text.specs.PlanText.{kind_word}
 use Rattle.dp_plan_text.specs.WrittenText.{stage_at}
-use Rattle.dp_plan_text.proofs.WriteLemmas.{grew, stage_line}
+use Rattle.dp_text.proofs.Grown.{grew}
+use Rattle.dp_plan_text.proofs.WriteLemmas.{stage_line}
 use Rattle.dp_plan_text.proofs.write.put_stage.Goals as goal
 
 pub returns : goal.returns

@@ -4,7 +4,8 @@ use Rattle.dp_plan_text.specs.declared.line.Line.TheVariants as line
 use Rattle.dp_plan_text.specs.WrittenText.{line_text, plan_texts}
 use Rattle.dp_plan.specs.GivenPlans.{version_of}
 use Rattle.dp_plan.proofs.Joins.{joins_all}
-use Rattle.dp_plan_text.proofs.WriteLemmas.{grew, text_parts}
+use Rattle.dp_text.proofs.Grown.{grew}
+use Rattle.dp_plan_text.proofs.WriteLemmas.{text_parts}
 use Rattle.dp_plan_text.proofs.write.write_plans.Goals as goal
 
 pub returns : goal.returns

@@ -1,0 +1,4 @@
+pub mod Allowed
+pub mod LeastCut
+pub mod Order
+pub mod steps

@@ -1,6 +1,0 @@
-use Rattle.std.proofs.Common.{◌≡◌, ◌++◌, drop}
-use Rattle.dp_profile.specs.WrittenText.{flows_text}
-use Rattle.dp_profile.proofs.write.put_flows.Given as goal
-
-abbrev pub invariant-loop-flow : goal.invariant-loop-flow
-invariant-loop-flow l = l.out ++ flows_text (drop l.flow-index l.flows) ≡ l.initial.out ++ flows_text l.flows

@@ -1,0 +1,13 @@
+pub mod rows
+pub mod WordLemmas
+pub mod WriteLemmas
+pub mod LineComplete
+pub mod LineSound
+pub mod Fitting
+pub mod RunComplete
+pub mod TestLemmas
+pub mod RunSound
+pub mod NextLine
+pub mod RunEnds
+pub mod TextLemmas
+pub mod ReadBack

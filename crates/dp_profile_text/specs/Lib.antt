@@ -1,0 +1,4 @@
+pub mod ProfileText
+pub mod Refused
+pub mod WrittenText
+pub mod steps
