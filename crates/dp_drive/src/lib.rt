@@ -10,4 +10,4 @@ mod running;
 mod writing;
 
 pub use answer::drive;
-pub use law::words_have_one_answer;
+pub use law::{run_texts_agree, words_have_one_answer};
