@@ -19,12 +19,12 @@ LIMIT = 1500
 # each later part, and the definitions that it begins with
 LATER = [
     ("What is reported of a region", [("dp_semantics/specs/Reported", "region_report"), ("dp_semantics/specs/Recovery", "recovered")]),
-    ("Which texts are programs", [("dp_drive/specs/Program", "Reads")]),
+    ("Which texts are programs", [("dp_load/specs/Program", "Reads")]),
     ("How words, inputs, plans and profiles are read and made", [
-        ("dp_words/specs/Words", "Asks"), ("dp_words/specs/Words", "AsksNothing"), ("dp_drive/specs/Inputs", "input_of"),
-        ("dp_drive/specs/Plans", "ReadsPlans"), ("dp_drive/specs/Plans", "MakesPlans"), ("dp_drive/specs/Profiles", "ReadsProfile"),
+        ("dp_words/specs/Words", "Asks"), ("dp_words/specs/Words", "AsksNothing"), ("dp_load/specs/Inputs", "input_of"),
+        ("dp_load/specs/Plans", "ReadsPlans"), ("dp_load/specs/Plans", "MakesPlans"), ("dp_load/specs/Profiles", "ReadsProfile"),
         ("dp_profile/specs/Observed", "observed"), ("dp_plan_text/specs/WrittenText", "plans_text"),
-        ("dp_profile_text/specs/WrittenText", "profile_text"), ("dp_report/specs/SiteText", "site_bytes"), ("dp_drive/specs/Refusal", "refusal_line"),
+        ("dp_profile_text/specs/WrittenText", "profile_text"), ("dp_report/specs/SiteText", "site_bytes"), ("dp_refusal/specs/Refusal", "refusal_line"),
     ]),
 ]
 

@@ -6,35 +6,41 @@ use Rattle.dp_tree.specs.Inlined.{IsInlined}
 use Rattle.dp_calls.specs.Frames.{outcome}
 use Rattle.dp_calls.specs.Expand.{expand}
 use Rattle.dp_calls.proofs.SameMeanings.{same_meaning}
-use Rattle.dp_drive.proofs.accepted.Accepted.{read_checked, inlined_read}
+use Rattle.dp_load.proofs.accepted.Accepted.{read_checked, inlined_read}
 use Rattle.dp_drive.proofs.accepted.SameText.{same_end, same_text}
-use Rattle.dp_drive.specs.declared.refusal.Role.{Role}
-use Rattle.dp_drive.specs.declared.refusal.Refusal.{Refusal}
-use Rattle.dp_drive.specs.declared.refusal.Refusal.TheVariants.{Words}
 use Rattle.dp_edge.specs.declared.writing.WriteFail.{WriteFail}
+use Rattle.dp_refusal.specs.declared.role.Role.{Role}
+use Rattle.dp_refusal.specs.declared.refusal.Refusal.{Refusal}
+use Rattle.dp_refusal.specs.declared.refusal.Refusal.TheVariants.{Words}
 use Rattle.dp_room.specs.declared.NoMemory.{NoMemory as Wanting}
-use Rattle.dp_drive.specs.declared.texts.Texts.{Texts}
-use Rattle.dp_drive.specs.declared.texts.Texts.TheVariants as texts
-use Rattle.dp_drive.specs.Refusal.{refusal_line, refusal_status, failed_read_line}
+use Rattle.dp_load.specs.declared.texts.Texts.{Texts}
+use Rattle.dp_load.specs.declared.texts.Texts.TheVariants as texts
+use Rattle.dp_refusal.specs.Refusal.{refusal_line, refusal_status, failed_read_line}
 use Rattle.dp_report.specs.SiteText.{site_bytes}
 use Rattle.dp_plan_text.specs.WrittenText.{plans_text}
-use Rattle.dp_drive.specs.declared.refusal.Role.TheVariants as role
-use Rattle.dp_drive.specs.declared.load.Loaded.{Loaded}
-use Rattle.dp_drive.specs.declared.load.Loaded.TheVariants.{Text, Refused, Failed}
-use Rattle.dp_drive.specs.Loading.{Gives, LoadsProgram, ReadsProgram}
-use Rattle.dp_drive.proofs.TextsLemmas.{source_of, refusal_read}
+use Rattle.dp_refusal.specs.declared.role.Role.TheVariants as role
+use Rattle.dp_load.specs.declared.load.Loaded.{Loaded}
+use Rattle.dp_load.specs.declared.load.Loaded.TheVariants.{Text, Refused, Failed}
+use Rattle.dp_load.specs.Loading.{Gives, LoadsProgram, ReadsProgram}
+use Rattle.dp_load.specs.Order.{ReadsAll}
+use Rattle.dp_load.proofs.OrderLemmas.{all_read, ends_at_input, ends_at_plans, ends_at_program, with_inputs}
+use Rattle.dp_load.proofs.TextsLemmas.{source_of, refusal_read}
 use Rattle.dp_words.specs.Words.{Asked, Asks, AsksNothing, ToList, ToPlan, ToRun}
 use Rattle.dp_words.specs.Run.{Run, Least}
 use Rattle.dp_words.specs.Planning.{Planning}
 use Rattle.dp_plan.specs.declared.Plan.{Plan}
+use Rattle.dp_run.specs.Given.{AreGiven}
 use Rattle.dp_run.specs.RunText.{source_run, trace_text, committed_in_all}
-use Rattle.dp_drive.specs.RunText.{run_text, status_of}
-use Rattle.dp_drive.specs.Roles.{ByInput, ByPlans, ByProgram, Contents, Input, NamedProgram, NoPlans, Plans, ProgramOf, SomePlans, TextsGive, Unnamed, program_in}
+use Rattle.dp_drive.specs.RunText.{run_text}
+use Rattle.dp_refusal.specs.Refusal.{status_of}
+use Rattle.dp_load.specs.Roles.{Contents, Input, NamedProgram, NoPlans, Plans, ProgramOf, SomePlans, Unnamed, program_in}
 use Rattle.dp_drive.specs.Answer.{NotTaken, Done, OfProgram, OfInput, OfPlans, OfRun}
 use Rattle.dp_drive.specs.Answer as answers
 use Rattle.dp_drive.specs.Headline.{IsCounted}
-use Rattle.dp_drive.specs.steps.Carried.{Names, Finishes, LoadsTexts, Carried}
+use Rattle.dp_load.specs.Texts.{Names, LoadsTexts}
+use Rattle.dp_drive.specs.steps.Carried.{Finishes, Carried}
 use Rattle.dp_drive.specs.steps.Carried as carried
+use Rattle.dp_load.specs.Texts as loads
 
 -- a program under a name
 named_program : {contents : Contents} {name : List ℕ} {read : Result Program Refusal} → ReadsProgram contents name read → ProgramOf contents (Some name) read
@@ -42,17 +48,21 @@ named_program {name = name} {read = read} h = NamedProgram name h.text read h.he
 
 -- the texts of a run
 run_texts : (contents : Contents) (run : Run) (p q : Program) (numbers : List ℤ) (plans : List Plan) → ReadsProgram contents run.program (Ok p) → Input contents run.input (Ok numbers) → q ≡ expand p →
-    Plans contents q run.options run.source (Ok plans) → TextsGive contents (ToRun run) p numbers plans
-run_texts contents run p q numbers plans h k is l = record {
-  program = named_program h;
-  input = k;
-  planned = SomePlans run.source run.options (Ok plans) (subst (λ (y : Program). Plans contents y run.options run.source (Ok plans)) is l);
-}
+    Plans contents q run.options run.source (Ok plans) → ReadsAll contents (ToRun run) (Ok ((((p, numbers), []), plans), []))
+run_texts contents run p q numbers plans h k is l =
+    all_read contents (ToRun run) p (named_program h) numbers k plans (SomePlans run.source run.options (Ok plans) (subst (λ (y : Program). Plans contents y run.options run.source (Ok plans)) is l))
 
 -- what the texts give, where they were loaded
 pub loaded : (contents : Contents) (run : Run) (faults after : ℕ) (failed fails : Names) (r : Result Texts Wanting) (x : Texts) → r ≡ Ok x → IfOk r (LoadsTexts contents run faults after failed fails) →
     LoadsTexts contents run faults after failed fails x
 loaded contents run faults after failed fails r x e h = rw e at h
+
+-- they are what a run asks for
+pub given : (contents : Contents) (run : Run) (faults after : ℕ) (failed fails : Names) (q : Program) (numbers : List ℤ) (plans : List Plan) → LoadsTexts contents run faults after failed fails (texts.Run q numbers plans) → AreGiven q plans
+given contents run faults after failed fails q numbers plans (loads.Loaded p x others more is h k l fit e f) = record {
+  inlined = subst IsInlined (sym is) (inlined_read h.text p h.reads);
+  plans_are = fit;
+}
 
 -- the same status and the same bytes
 pub finishes_as : (s t : ℕ) (a b : List ℕ) (told tells : Option (List ℕ)) (result : Result ℕ WriteFail) → s ≡ t → a ≡ b → Finishes s a told tells result → Finishes t b told tells result
@@ -74,30 +84,30 @@ module _ (words : List (List ℕ)) (contents : Contents) (faults after : ℕ) (f
 
   pub carry_run : (run : Run) (q : Program) (numbers : List ℤ) (plans : List Plan) (result : Result ℕ WriteFail) → Asks words (ToRun run) → LoadsTexts contents run faults after failed fails (texts.Run q numbers plans) →
       Finishes (status_of (source_run q numbers run.fuel).end) (trace_text q plans (source_run q numbers run.fuel) run.why) told tells result → Carried words contents faults after failed fails told tells result
-  carry_run run q numbers plans result asks (carried.Loaded p x others given is h k l fit e f) finishes =
-      carried.OfAnswer _ _ (Done (ToRun run) p numbers plans asks (run_texts contents run p q numbers plans h k is l)) e f
+  carry_run run q numbers plans result asks (loads.Loaded p x others given is h k l fit e f) finishes =
+      carried.OfAnswer _ _ (Done (ToRun run) ((((p, numbers), []), plans), []) asks (run_texts contents run p q numbers plans h k is l)) e f
       (finishes_source p q is (read_checked h.text p h.reads) (inlined_read h.text p h.reads) plans numbers run.fuel run.why [] told tells result finishes)
 
   -- .. and the tally grew by what was committed of it
   pub count_run : (run : Run) (q : Program) (numbers : List ℤ) (plans : List Plan) (before now status : ℕ) → Asks words (ToRun run) → LoadsTexts contents run faults after failed fails (texts.Run q numbers plans) →
       now ≡ before + committed_in_all q plans (source_run q numbers run.fuel) → IsCounted words contents before now status
-  count_run run q numbers plans before now status asks (carried.Loaded p x others given is h k l fit e f) tally = λ other spent asked some end. (
+  count_run run q numbers plans before now status asks (loads.Loaded p x others given is h k l fit e f) tally = λ other spent asked some end. (
     committed_in_all (expand p) plans (source_run (expand p) numbers run.fuel),
-    OfRun (ToRun run) p numbers plans run.fuel asks (run_texts contents run p q numbers plans h k is l) refl,
+    OfRun (ToRun run) ((((p, numbers), []), plans), []) run.fuel asks (run_texts contents run p q numbers plans h k is l) refl,
     tally ∙ ap (λ (y : Program). before + committed_in_all y plans (source_run y numbers run.fuel)) is,
   )
 
   pub carry_refused : (run : Run) (refusal : Refusal) (result : Result ℕ WriteFail) → Asks words (ToRun run) → LoadsTexts contents run faults after failed fails (texts.Refused refusal) →
       Finishes (refusal_status refusal) (refusal_line refusal) told tells result → Carried words contents faults after failed fails told tells result
-  carry_refused run refusal result asks (carried.ProgramRefused other h e f) finishes = carried.OfAnswer _ _ (answers.Refused (ToRun run) refusal asks (ByProgram refusal (named_program h))) e f finishes
-  carry_refused run refusal result asks (carried.InputRefused other p h k e f) finishes = carried.OfAnswer _ _ (answers.Refused (ToRun run) refusal asks (ByInput p refusal (named_program h) k)) e f finishes
-  carry_refused run refusal result asks (carried.PlansRefused other p numbers h k l e f) finishes = carried.OfAnswer _ _ (answers.Refused (ToRun run) refusal asks (ByPlans p numbers refusal (named_program h) k (SomePlans run.source run.options (Err refusal) l))) e f finishes
+  carry_refused run refusal result asks (loads.ProgramRefused other h e f) finishes = carried.OfAnswer _ _ (answers.Refused (ToRun run) refusal asks (ends_at_program contents (ToRun run) refusal (named_program h))) e f finishes
+  carry_refused run refusal result asks (loads.InputRefused other p h k e f) finishes = carried.OfAnswer _ _ (answers.Refused (ToRun run) refusal asks (ends_at_input contents (ToRun run) p (named_program h) refusal k)) e f finishes
+  carry_refused run refusal result asks (loads.PlansRefused other p numbers h k l e f) finishes = carried.OfAnswer _ _ (answers.Refused (ToRun run) refusal asks (ends_at_plans contents (ToRun run) p (named_program h) numbers k refusal (SomePlans run.source run.options (Err refusal) l))) e f finishes
 
   pub carry_failed : (run : Run) (which : Role) (result : Result ℕ WriteFail) → Asks words (ToRun run) → LoadsTexts contents run faults after failed fails (texts.Failed which) →
       Finishes 5 (failed_read_line which) told tells result → Carried words contents faults after failed fails told tells result
-  carry_failed run which result asks (carried.ProgramFailed less e) finishes = carried.OfFailedRead _ _ (OfProgram (ToRun run) run.program asks refl) less e finishes
-  carry_failed run which result asks (carried.InputFailed p name h named less e) finishes = carried.OfFailedRead _ _ (OfInput (ToRun run) p name asks (named_program h) named) less e finishes
-  carry_failed run which result asks (carried.PlansFailed p numbers name h k named less e) finishes = carried.OfFailedRead _ _ (OfPlans (ToRun run) p numbers run.source run.options name asks (named_program h) k refl named) less e finishes
+  carry_failed run which result asks (loads.ProgramFailed less e) finishes = carried.OfFailedRead _ _ (OfProgram (ToRun run) run.program asks refl) less e finishes
+  carry_failed run which result asks (loads.InputFailed p name h named less e) finishes = carried.OfFailedRead _ _ (OfInput (ToRun run) p name asks (named_program h) named) less e finishes
+  carry_failed run which result asks (loads.PlansFailed p numbers name h k named less e) finishes = carried.OfFailedRead _ _ (OfPlans (ToRun run) ((p, numbers), []) run.source run.options name asks (with_inputs contents (ToRun run) p (named_program h) numbers k) refl named) less e finishes
 
   abbrev ProgramGives : List ℕ → Loaded Program → Type 0
   ProgramGives name = Gives (LoadsProgram contents name) (Some name) faults after failed fails
@@ -105,7 +115,7 @@ module _ (words : List (List ℕ)) (contents : Contents) (faults after : ℕ) (f
   pub carry_sites : (name : List ℕ) (q : Program) (result : Result ℕ WriteFail) → Asks words (ToList name) → ProgramGives name (Text q) → Finishes 0 (site_bytes q) told tells result → Carried words contents faults after failed fails told tells result
   carry_sites name q result asks g finishes =
       let s = source_of (ReadsProgram contents name) q g.0 in
-      carried.OfAnswer _ _ (Done (ToList name) s.source [] [] asks (record { program = named_program s.reads; input = Unnamed; planned = NoPlans })) g.1 g.2
+      carried.OfAnswer _ _ (Done (ToList name) ((((s.source, []), []), []), []) asks (all_read contents (ToList name) s.source (named_program s.reads) [] Unnamed [] NoPlans)) g.1 g.2
       (finishes_as 0 0 (site_bytes q) (site_bytes (expand s.source)) told tells result refl (ap site_bytes s.is) finishes)
 
   module _ (planning : Planning) (asks : Asks words (ToPlan planning)) (q : Program) (read : LoadsProgram contents planning.program (Ok q)) where
@@ -118,26 +128,26 @@ module _ (words : List (List ℕ)) (contents : Contents) (faults after : ℕ) (f
     pub carry_plans : (plans : List Plan) (result : Result ℕ WriteFail) → LeastGives (Text plans) → Finishes 0 (plans_text q plans) told tells result → Carried words contents faults after failed fails told tells result
     carry_plans plans result g finishes =
         let s = source_of (ReadsProgram contents planning.program) q read in
-        carried.OfAnswer _ _ (Done (ToPlan planning) s.source [] plans asks (record { program = named_program s.reads; input = Unnamed; planned = SomePlans (Least planning.profile) planning.options (Ok plans) (subst (λ (x : Program). LeastOf x (Ok plans)) s.is g.0) })) g.1 g.2
+        carried.OfAnswer _ _ (Done (ToPlan planning) ((((s.source, []), []), plans), []) asks (all_read contents (ToPlan planning) s.source (named_program s.reads) [] Unnamed plans (SomePlans (Least planning.profile) planning.options (Ok plans) (subst (λ (x : Program). LeastOf x (Ok plans)) s.is g.0)))) g.1 g.2
         (finishes_as 0 0 (plans_text q plans) (plans_text (expand s.source) plans) told tells result refl (ap (λ (x : Program). plans_text x plans) s.is) finishes)
 
     pub carry_least_refused : (refusal : Refusal) (result : Result ℕ WriteFail) → LeastGives (Refused refusal) → Finishes (refusal_status refusal) (refusal_line refusal) told tells result →
         Carried words contents faults after failed fails told tells result
     carry_least_refused refusal result g finishes =
         let s = source_of (ReadsProgram contents planning.program) q read in
-        carried.OfAnswer _ _ (answers.Refused (ToPlan planning) refusal asks (ByPlans s.source [] refusal (named_program s.reads) Unnamed (SomePlans (Least planning.profile) planning.options (Err refusal) (subst (λ (x : Program). LeastOf x (Err refusal)) s.is g.0)))) g.1 g.2 finishes
+        carried.OfAnswer _ _ (answers.Refused (ToPlan planning) refusal asks (ends_at_plans contents (ToPlan planning) s.source (named_program s.reads) [] Unnamed refusal (SomePlans (Least planning.profile) planning.options (Err refusal) (subst (λ (x : Program). LeastOf x (Err refusal)) s.is g.0)))) g.1 g.2 finishes
 
     pub carry_least_failed : (result : Result ℕ WriteFail) → LeastGives Failed → Finishes 5 (failed_read_line role.Profile) told tells result → Carried words contents faults after failed fails told tells result
     carry_least_failed result g finishes =
         let s = source_of (ReadsProgram contents planning.program) q read in
-        carried.OfFailedRead _ _ (OfPlans (ToPlan planning) s.source [] (Least planning.profile) planning.options g.0 asks (named_program s.reads) Unnamed refl g.1) g.2 g.3 finishes
+        carried.OfFailedRead _ _ (OfPlans (ToPlan planning) ((s.source, []), []) (Least planning.profile) planning.options g.0 asks (with_inputs contents (ToPlan planning) s.source (named_program s.reads) [] Unnamed) refl g.1) g.2 g.3 finishes
 
   -- a program alone that is refused, or that can't be read
   pub carry_program_refused : (asked : Asked) (name : List ℕ) (refusal : Refusal) (result : Result ℕ WriteFail) → Asks words asked → program_in asked ≡ Some name →
       ProgramGives name (Refused refusal) → Finishes (refusal_status refusal) (refusal_line refusal) told tells result → Carried words contents faults after failed fails told tells result
   carry_program_refused asked name refusal result asks is g finishes =
       let read = named_program (refusal_read (ReadsProgram contents name) refusal g.0) in
-      carried.OfAnswer _ _ (answers.Refused asked refusal asks (ByProgram refusal (subst (λ (o : Option (List ℕ)). ProgramOf contents o (Err refusal)) (sym is) read))) g.1 g.2 finishes
+      carried.OfAnswer _ _ (answers.Refused asked refusal asks (ends_at_program contents asked refusal (subst (λ (o : Option (List ℕ)). ProgramOf contents o (Err refusal)) (sym is) read))) g.1 g.2 finishes
 
   pub carry_program_failed : (asked : Asked) (name : List ℕ) (result : Result ℕ WriteFail) → Asks words asked → program_in asked ≡ Some name → ProgramGives name Failed → Finishes 5 (failed_read_line role.Program) told tells result →
       Carried words contents faults after failed fails told tells result

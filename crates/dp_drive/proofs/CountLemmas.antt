@@ -1,22 +1,23 @@
 -- What is counted of a run, and that other answers count nothing.
 use Rattle.std.proofs.Common.{◌≡◌, arith, inl, inr, Some, ℕ, ◌<◌, List, Option, ℤ, Result, Ok, Err, IfOk, OnOk, None, ◌≢◌, ◌+◌}
 use Rattle.dp_tree.specs.declared.Program.{Program}
-use Rattle.dp_drive.specs.declared.refusal.Role.{Role}
-use Rattle.dp_drive.specs.declared.refusal.Refusal.{Refusal}
-use Rattle.dp_drive.specs.declared.refusal.Refusal.TheVariants.{Words, Byte, Syntax, Name, InputWord, PlanLine, PlanRule, ProfileLine, Limit}
 use Rattle.dp_edge.specs.declared.writing.WriteFail.{WriteFail}
 use Rattle.dp_edge.specs.declared.writing.WriteFail.TheVariants.{Write, NoMemory}
-use Rattle.dp_drive.specs.declared.texts.Texts.TheVariants as texts
-use Rattle.dp_drive.specs.Refusal.{refusal_line, refusal_status, failed_read_line}
+use Rattle.dp_refusal.specs.declared.role.Role.{Role}
+use Rattle.dp_refusal.specs.declared.refusal.Refusal.{Refusal}
+use Rattle.dp_refusal.specs.declared.refusal.Refusal.TheVariants.{Words, Byte, Syntax, Name, InputWord, ListLine, BatchWord, PlanLine, PlanRule, ProfileLine, CheckpointLine, Limit}
+use Rattle.dp_load.specs.declared.texts.Texts.TheVariants as texts
+use Rattle.dp_refusal.specs.Refusal.{refusal_line, refusal_status, failed_read_line}
 use Rattle.dp_words.specs.Words.{Asked, Asks, ToRun}
 use Rattle.dp_words.specs.Run.{Run}
 use Rattle.dp_plan.specs.declared.Plan.{Plan}
 use Rattle.dp_run.specs.RunText.{source_run, committed_in_all}
 use Rattle.dp_drive.specs.steps.Status.{status_after}
-use Rattle.dp_drive.specs.Roles.{Contents}
+use Rattle.dp_load.specs.Roles.{Contents}
 use Rattle.dp_drive.specs.Answer.{run_fuel}
 use Rattle.dp_drive.specs.Headline.{IsCounted, IsEnd}
-use Rattle.dp_drive.specs.steps.Carried.{Names, Finishes, LoadsTexts}
+use Rattle.dp_load.specs.Texts.{Names, LoadsTexts}
+use Rattle.dp_drive.specs.steps.Carried.{Finishes}
 use Rattle.dp_drive.proofs.AnswerLemmas.{count_run}
 
 -- other statuses than a run's
@@ -31,9 +32,12 @@ refusal_is_no_end (Byte place) h = no_end_by 3 (omega arith) (λ e. omega (arith
 refusal_is_no_end (Syntax token) h = no_end_by 3 (omega arith) (λ e. omega (arith, e)) h
 refusal_is_no_end (Name offence line) h = no_end_by 3 (omega arith) (λ e. omega (arith, e)) h
 refusal_is_no_end (InputWord word) h = no_end_by 4 (omega arith) (λ e. omega (arith, e)) h
+refusal_is_no_end (ListLine line) h = no_end_by 4 (omega arith) (λ e. omega (arith, e)) h
+refusal_is_no_end (BatchWord input word) h = no_end_by 4 (omega arith) (λ e. omega (arith, e)) h
 refusal_is_no_end (PlanLine line) h = no_end_by 4 (omega arith) (λ e. omega (arith, e)) h
 refusal_is_no_end (PlanRule rule site) h = no_end_by 4 (omega arith) (λ e. omega (arith, e)) h
 refusal_is_no_end (ProfileLine line) h = no_end_by 4 (omega arith) (λ e. omega (arith, e)) h
+refusal_is_no_end (CheckpointLine line) h = no_end_by 4 (omega arith) (λ e. omega (arith, e)) h
 refusal_is_no_end (Limit quantity count) h = no_end_by 9 (omega arith) (λ e. omega (arith, e)) h
 
 -- a result whose status is this one

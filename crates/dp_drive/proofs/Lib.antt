@@ -1,12 +1,8 @@
 pub mod accepted
-pub mod ReadPlans
-pub mod LoadLemmas
-pub mod TextsLemmas
 pub mod AnswerLemmas
 pub mod HeadlineLemmas
 pub mod CountLemmas
 pub mod MadeLemmas
 pub mod ProfilingLemmas
 pub mod definite
-pub mod ZeroMemory
 pub mod rows

@@ -17,21 +17,24 @@ use Rattle.dp_words.specs.Run.{Least}
 use Rattle.dp_words.specs.Made.{MadeWithin}
 use Rattle.dp_plan.specs.GivenPlans.{ArePlans}
 use Rattle.dp_run.specs.Given.{AreGiven}
-use Rattle.dp_drive.specs.declared.refusal.Refusal.{Refusal}
-use Rattle.dp_drive.specs.Refusal.{refusal_line, refusal_status}
-use Rattle.dp_drive.specs.Program.{Reads, ReadsAs}
-use Rattle.dp_drive.specs.Plans.{MakesPlans}
+use Rattle.dp_refusal.specs.declared.refusal.Refusal.{Refusal}
+use Rattle.dp_refusal.specs.Refusal.{refusal_line, refusal_status}
+use Rattle.dp_load.specs.Program.{Reads, ReadsAs}
+use Rattle.dp_load.specs.Plans.{MakesPlans}
 use Rattle.dp_drive.specs.Made.{made_line, made_words}
-use Rattle.dp_drive.specs.RunText.{status_of}
-use Rattle.dp_drive.specs.Roles.{Automatic, ByProgram, Contents, MadeProgram, NotNamed, SomePlans, TextsGive, Unnamed}
+use Rattle.dp_refusal.specs.Refusal.{status_of}
+use Rattle.dp_load.specs.Roles.{Automatic, Contents, MadeProgram, NotNamed, SomePlans, Unnamed}
 use Rattle.dp_drive.specs.Answer.{Done, OfRun}
 use Rattle.dp_drive.specs.Answer as answers
 use Rattle.dp_drive.specs.Headline.{IsCounted}
-use Rattle.dp_drive.specs.steps.Carried.{Names, Finishes, Carried}
+use Rattle.dp_load.specs.Texts.{Names}
+use Rattle.dp_drive.specs.steps.Carried.{Finishes, Carried}
 use Rattle.dp_drive.specs.steps.Carried as carried
-use Rattle.dp_drive.proofs.accepted.Accepted.{read_checked, inlined_read}
+use Rattle.dp_load.proofs.accepted.Accepted.{read_checked, inlined_read}
 use Rattle.dp_drive.proofs.AnswerLemmas.{finishes_source}
-use Rattle.dp_drive.proofs.TextsLemmas.{Source, source_of, refusal_read}
+use Rattle.dp_load.specs.Order.{ReadsAll}
+use Rattle.dp_load.proofs.OrderLemmas.{all_read, ends_at_program}
+use Rattle.dp_load.proofs.TextsLemmas.{Source, source_of, refusal_read}
 
 text_size : length made_text ≡ 319
 unfolding made_text
@@ -68,12 +71,10 @@ pub read_made : (slice text : List ℕ) (o read : Result Program Refusal) → sl
 read_made slice text o read e f is h = subst (λ (t : List ℕ). ReadsAs t read) (e ∙ f) (subst (λ (x : Result Program Refusal). ReadsAs slice x) is h)
 
 -- the texts of its run
-made_texts : (contents : Contents) (made : GenWords) (q : Program) (plans : List Plan) (s : Source (Reads made_text) q) → MakesPlans q made.options None plans → TextsGive contents (ToMake made) s.source [] plans
-made_texts contents made q plans s plans_made = record {
-  program = MadeProgram (Ok s.source) s.reads;
-  input = Unnamed;
-  planned = SomePlans (Least None) made.options (Ok plans) (Automatic None None plans NotNamed (subst (λ (x : Program). MakesPlans x made.options None plans) s.is plans_made));
-}
+made_texts : (contents : Contents) (made : GenWords) (q : Program) (plans : List Plan) (s : Source (Reads made_text) q) → MakesPlans q made.options None plans → ReadsAll contents (ToMake made) (Ok ((((s.source, []), []), plans), []))
+made_texts contents made q plans s plans_made =
+    all_read contents (ToMake made) s.source (MadeProgram (Ok s.source) s.reads) [] Unnamed plans
+    (SomePlans (Least None) made.options (Ok plans) (Automatic None None plans NotNamed (subst (λ (x : Program). MakesPlans x made.options None plans) s.is plans_made)))
 
 module _ (q : Program) (h : ReadsAs made_text (Ok q)) where
   s : Source (Reads made_text) q
@@ -88,7 +89,7 @@ module _ (q : Program) (h : ReadsAs made_text (Ok q)) where
 module _ (words : List (List ℕ)) (contents : Contents) (made : GenWords) (asks : Asks words (ToMake made)) where
   module _ (faults : ℕ) (failed : Names) (told tells : Option (List ℕ)) (result : Result ℕ WriteFail) where
     pub carry_refused : (refusal : Refusal) → ReadsAs made_text (Err refusal) → Finishes (refusal_status refusal) (refusal_line refusal) told tells result → Carried words contents faults faults failed failed told tells result
-    carry_refused refusal read finishes = carried.OfAnswer _ _ (answers.Refused (ToMake made) refusal asks (ByProgram refusal (MadeProgram (Err refusal) (refusal_read (Reads made_text) refusal read)))) refl refl finishes
+    carry_refused refusal read finishes = carried.OfAnswer _ _ (answers.Refused (ToMake made) refusal asks (ends_at_program contents (ToMake made) refusal (MadeProgram (Err refusal) (refusal_read (Reads made_text) refusal read)))) refl refl finishes
 
     pub carry_run : (q : Program) (plans : List Plan) (numbers : List ℤ) → numbers ≡ made_words made → ReadsAs made_text (Ok q) → MakesPlans q made.options None plans →
         Finishes (status_of (source_run q numbers made.fuel).end) (made_line made ++ trace_text q plans (source_run q numbers made.fuel) false) told tells result →
@@ -96,7 +97,7 @@ module _ (words : List (List ℕ)) (contents : Contents) (made : GenWords) (asks
     carry_run q plans numbers e read plans_made finishes =
         let s = source_of (Reads made_text) q read in
         let here = subst (λ (zs : List ℤ). Finishes (status_of (source_run q zs made.fuel).end) (made_line made ++ trace_text q plans (source_run q zs made.fuel) false) told tells result) e finishes in
-        carried.OfAnswer _ _ (Done (ToMake made) s.source [] plans asks (made_texts contents made q plans s plans_made)) refl refl
+        carried.OfAnswer _ _ (Done (ToMake made) ((((s.source, []), []), plans), []) asks (made_texts contents made q plans s plans_made)) refl refl
         (finishes_source s.source q s.is (read_checked made_text s.source s.reads) (inlined_read made_text s.source s.reads) plans (made_words made) made.fuel false (made_line made) told tells result here)
 
   -- where the run ended, the tally grew by what was committed of it
@@ -106,7 +107,7 @@ module _ (words : List (List ℕ)) (contents : Contents) (made : GenWords) (asks
       let s = source_of (Reads made_text) q read in
       λ other spent asked some end. (
         committed_in_all (expand s.source) plans (source_run (expand s.source) (made_words made) made.fuel),
-        OfRun (ToMake made) s.source [] plans made.fuel asks (made_texts contents made q plans s plans_made) refl,
+        OfRun (ToMake made) ((((s.source, []), []), plans), []) made.fuel asks (made_texts contents made q plans s plans_made) refl,
         h ∙ ap (λ (zs : List ℤ). before + committed_in_all q plans (source_run q zs made.fuel)) e ∙ ap (λ (y : Program). before + committed_in_all y plans (source_run y (made_words made) made.fuel)) s.is,
       )
   run_counts q plans numbers before now (Err fail) e read plans_made h = tt

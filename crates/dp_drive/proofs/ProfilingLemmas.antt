@@ -10,21 +10,23 @@ use Rattle.dp_profile_text.specs.WrittenText.{profile_text}
 use Rattle.dp_run.specs.RunText.{source_run}
 use Rattle.dp_words.specs.Words.{Asks, ToProfile}
 use Rattle.dp_words.specs.Profiling.{Profiling}
-use Rattle.dp_drive.specs.declared.load.Loaded.{Loaded}
-use Rattle.dp_drive.specs.declared.load.Loaded.TheVariants.{Text, Refused, Failed}
-use Rattle.dp_drive.specs.declared.refusal.Refusal.{Refusal}
-use Rattle.dp_drive.specs.declared.refusal.Role.TheVariants as role
-use Rattle.dp_drive.specs.Refusal.{refusal_line, refusal_status, failed_read_line}
-use Rattle.dp_drive.specs.Loading.{Gives, LoadsProgram, ReadsProgram}
-use Rattle.dp_drive.specs.RunText.{status_of}
-use Rattle.dp_drive.specs.Roles.{ByInput, Contents, Input, NamedProgram, NoPlans, ProgramOf}
+use Rattle.dp_load.specs.declared.load.Loaded.{Loaded}
+use Rattle.dp_load.specs.declared.load.Loaded.TheVariants.{Text, Refused, Failed}
+use Rattle.dp_refusal.specs.declared.refusal.Refusal.{Refusal}
+use Rattle.dp_refusal.specs.declared.role.Role.TheVariants as role
+use Rattle.dp_refusal.specs.Refusal.{refusal_line, refusal_status, failed_read_line}
+use Rattle.dp_load.specs.Loading.{Gives, LoadsProgram, ReadsProgram}
+use Rattle.dp_refusal.specs.Refusal.{status_of}
+use Rattle.dp_load.specs.Roles.{Contents, Input, NamedProgram, NoPlans, ProgramOf}
 use Rattle.dp_drive.specs.Answer.{Done, OfInput}
 use Rattle.dp_drive.specs.Answer as answers
-use Rattle.dp_drive.specs.steps.Carried.{Names, Finishes, Carried}
+use Rattle.dp_load.specs.Texts.{Names}
+use Rattle.dp_drive.specs.steps.Carried.{Finishes, Carried}
 use Rattle.dp_drive.specs.steps.Carried as carried
-use Rattle.dp_drive.proofs.TextsLemmas.{Source, source_of}
+use Rattle.dp_load.proofs.OrderLemmas.{all_read, ends_at_input}
+use Rattle.dp_load.proofs.TextsLemmas.{Source, source_of}
 use Rattle.dp_drive.proofs.AnswerLemmas.{finishes_as}
-use Rattle.dp_drive.proofs.accepted.Accepted.{read_checked, inlined_read}
+use Rattle.dp_load.proofs.accepted.Accepted.{read_checked, inlined_read}
 use Rattle.dp_drive.proofs.accepted.SameText.{same_end}
 
 module _ (words : List (List ℕ)) (contents : Contents) (faults after : ℕ) (failed fails : Names) (told tells : Option (List ℕ)) (result : Result ℕ WriteFail) where
@@ -47,12 +49,12 @@ module _ (words : List (List ℕ)) (contents : Contents) (faults after : ℕ) (f
     pub carry_profile : (numbers : List ℤ) → InputGives (Text numbers) → Finishes (status_of (observed q numbers profiling.fuel).end) (profile_text q (observed q numbers profiling.fuel).profile) told tells result →
         Carried words contents faults after failed fails told tells result
     carry_profile numbers g finishes =
-        carried.OfAnswer _ _ (Done (ToProfile profiling) s.source numbers [] asks (record { program = program; input = g.0; planned = NoPlans })) g.1 g.2
+        carried.OfAnswer _ _ (Done (ToProfile profiling) ((((s.source, numbers), []), []), []) asks (all_read contents (ToProfile profiling) s.source program numbers g.0 [] NoPlans)) g.1 g.2
         (finishes_as _ _ (profile_text q (observed q numbers profiling.fuel).profile) (profile_text (expand s.source) (observed (expand s.source) numbers profiling.fuel).profile) told tells result
         (ap status_of (end_is numbers)) (ap (λ (x : Program). profile_text x (observed x numbers profiling.fuel).profile) s.is) finishes)
 
     pub carry_input_refused : (refusal : Refusal) → InputGives (Refused refusal) → Finishes (refusal_status refusal) (refusal_line refusal) told tells result → Carried words contents faults after failed fails told tells result
-    carry_input_refused refusal g finishes = carried.OfAnswer _ _ (answers.Refused (ToProfile profiling) refusal asks (ByInput s.source refusal program g.0)) g.1 g.2 finishes
+    carry_input_refused refusal g finishes = carried.OfAnswer _ _ (answers.Refused (ToProfile profiling) refusal asks (ends_at_input contents (ToProfile profiling) s.source program refusal g.0)) g.1 g.2 finishes
 
     pub carry_input_failed : InputGives Failed → Finishes 5 (failed_read_line role.Input) told tells result → Carried words contents faults after failed fails told tells result
     carry_input_failed g finishes = carried.OfFailedRead _ _ (OfInput (ToProfile profiling) s.source g.0 asks program g.1) g.2 g.3 finishes

@@ -1,65 +1,63 @@
 -- What is answered to the words and to the texts that they name: a status, and the bytes that are written.
-use Rattle.std.specs.Prelude.{◌≡◌, ℕ, false, List, ◌++◌, ℤ, Option, Some, None, Ok}
+use Rattle.std.specs.Prelude.{◌≡◌, ℕ, false, List, ◌++◌, ℤ, Option, Some, None, Ok, Err}
 use Rattle.dp_tree.specs.declared.Program.{Program}
 use Rattle.dp_calls.specs.Expand.{expand}
 use Rattle.dp_calls.specs.Frames.{outcome}
 use Rattle.dp_report.specs.SiteText.{site_bytes}
 use Rattle.dp_words.specs.declared.task.PlanOptions.{PlanOptions}
 use Rattle.dp_words.specs.Words.{Asked, Asks, AsksNothing, ToRun, ToPlan, ToList, ToProfile, ToMake}
-use Rattle.dp_words.specs.Run as source
-use Rattle.dp_words.specs.Run.{Source, Least}
+use Rattle.dp_words.specs.Run.{Source}
 use Rattle.dp_run.specs.RunText.{source_run, committed_in_all}
 use Rattle.dp_plan.specs.declared.Plan.{Plan}
 use Rattle.dp_plan_text.specs.WrittenText.{plans_text}
 use Rattle.dp_profile.specs.Observed.{observed}
 use Rattle.dp_profile_text.specs.WrittenText.{profile_text}
-use Rattle.dp_drive.specs.declared.refusal.Role.{Role}
-use Rattle.dp_drive.specs.declared.refusal.Role.TheVariants as role
-use Rattle.dp_drive.specs.declared.refusal.Refusal.{Refusal}
-use Rattle.dp_drive.specs.declared.refusal.Refusal.TheVariants.{Words}
-use Rattle.dp_drive.specs.Refusal.{refusal_line, refusal_status}
-use Rattle.dp_drive.specs.Roles.{Contents, Input, ProgramOf, TextsGive, TextsRefuse, input_in, plans_in, program_in}
+use Rattle.dp_refusal.specs.declared.role.Role.{Role}
+use Rattle.dp_refusal.specs.declared.role.Role.TheVariants as role
+use Rattle.dp_refusal.specs.declared.refusal.Refusal.{Refusal}
+use Rattle.dp_refusal.specs.declared.refusal.Refusal.TheVariants.{Words}
+use Rattle.dp_refusal.specs.Refusal.{refusal_line, refusal_status, role_of, status_of}
+use Rattle.dp_load.specs.Roles.{Contents, ProgramOf, input_in, named_in, plans_in, program_in}
+use Rattle.dp_load.specs.Last.{Last, last_name, last_role}
+use Rattle.dp_load.specs.Lists.{IsNextListed}
+use Rattle.dp_load.specs.Order.{Given, ReadsAll, WithInput, WithInputs, WithPlans, given_by, last_in, list_in}
 use Rattle.dp_drive.specs.Made.{made_line, made_words}
-use Rattle.dp_drive.specs.RunText.{run_text, status_of}
+use Rattle.dp_drive.specs.RunText.{run_text}
 
 -- the status where all texts were read: that of the run's end, if there is a run
-abbrev pub status_for : Asked → Program → List ℤ → ℕ
-status_for (ToRun run) p numbers = status_of (outcome p numbers run.fuel).end
-status_for (ToPlan planning) p numbers = 0
-status_for (ToList program) p numbers = 0
-status_for (ToProfile profiling) p numbers = status_of (outcome p numbers profiling.fuel).end
-status_for (ToMake made) p numbers = status_of (outcome p (made_words made) made.fuel).end
+abbrev pub status_for : Asked → Given → ℕ
+status_for (ToRun run) texts = status_of (outcome texts.program texts.numbers run.fuel).end
+status_for (ToPlan planning) texts = 0
+status_for (ToList program) texts = 0
+status_for (ToProfile profiling) texts = status_of (outcome texts.program texts.numbers profiling.fuel).end
+status_for (ToMake made) texts = status_of (outcome texts.program (made_words made) made.fuel).end
 
 -- .. and the bytes
-abbrev pub bytes_for : Asked → Program → List ℤ → List Plan → List ℕ
-bytes_for (ToRun run) p numbers plans = run_text p plans numbers run.fuel run.why
-bytes_for (ToPlan planning) p numbers plans = plans_text (expand p) plans
-bytes_for (ToList program) p numbers plans = site_bytes (expand p)
-bytes_for (ToProfile profiling) p numbers plans = profile_text (expand p) (observed (expand p) numbers profiling.fuel).profile
-bytes_for (ToMake made) p numbers plans = made_line made ++ run_text p plans (made_words made) made.fuel false
+abbrev pub bytes_for : Asked → Given → List ℕ
+bytes_for (ToRun run) texts = run_text texts.program texts.plans texts.numbers run.fuel run.why
+bytes_for (ToPlan planning) texts = plans_text (expand texts.program) texts.plans
+bytes_for (ToList program) texts = site_bytes (expand texts.program)
+bytes_for (ToProfile profiling) texts = profile_text (expand texts.program) (observed (expand texts.program) texts.numbers profiling.fuel).profile
+bytes_for (ToMake made) texts = made_line made ++ run_text texts.program texts.plans (made_words made) made.fuel false
 
 -- The answer: the words ask for nothing, or a text is refused, or what they ask for is done.
 pub data Answer (words : List (List ℕ)) (contents : Contents) : ℕ → List ℕ → Type 0 where
   NotTaken : AsksNothing words → Answer words contents (refusal_status Words) (refusal_line Words)
-  Refused : (asked : Asked) (refusal : Refusal) → Asks words asked → TextsRefuse contents asked refusal → Answer words contents (refusal_status refusal) (refusal_line refusal)
-  Done : (asked : Asked) (p : Program) (numbers : List ℤ) (plans : List Plan) → Asks words asked → TextsGive contents asked p numbers plans →
-      Answer words contents (status_for asked p numbers) (bytes_for asked p numbers plans)
-
--- the name of the text that plans rest on, if there is one, and its role
-abbrev pub named_in : Source → Option (List ℕ)
-named_in (source.Named name) = Some name
-named_in (Least profile) = profile
-
-abbrev pub role_of : Source → Role
-role_of (source.Named name) = role.Plan
-role_of (Least profile) = role.Profile
+  Refused : (asked : Asked) (refusal : Refusal) → Asks words asked → ReadsAll contents asked (Err refusal) → Answer words contents (refusal_status refusal) (refusal_line refusal)
+  Done : (asked : Asked) (read : (((Program × List ℤ) × List (List ℤ)) × List Plan) × List ℕ) → Asks words asked → ReadsAll contents asked (Ok read) →
+      Answer words contents (status_for asked (given_by read)) (bytes_for asked (given_by read))
 
 -- The text of this role is to be read under this name: no refusal comes before.
 pub data IsRead (words : List (List ℕ)) (contents : Contents) : Role → List ℕ → Type 0 where
   OfProgram : (asked : Asked) (name : List ℕ) → Asks words asked → program_in asked ≡ Some name → IsRead words contents role.Program name
   OfInput : (asked : Asked) (p : Program) (name : List ℕ) → Asks words asked → ProgramOf contents (program_in asked) (Ok p) → input_in asked ≡ Some name → IsRead words contents role.Input name
-  OfPlans : (asked : Asked) (p : Program) (numbers : List ℤ) (source : Source) (options : PlanOptions) (name : List ℕ) → Asks words asked → ProgramOf contents (program_in asked) (Ok p) →
-      Input contents (input_in asked) (Ok numbers) → plans_in asked ≡ Some (source, options) → named_in source ≡ Some name → IsRead words contents (role_of source) name
+  OfList : (asked : Asked) (read : Program × List ℤ) (name : List ℕ) → Asks words asked → WithInput contents asked (Ok read) → list_in asked ≡ Some name → IsRead words contents role.List name
+  OfListed : (asked : Asked) (read : Program × List ℤ) (list name : List ℕ) → Asks words asked → WithInput contents asked (Ok read) → list_in asked ≡ Some list → IsNextListed contents list name →
+      IsRead words contents role.Input name
+  OfPlans : (asked : Asked) (read : (Program × List ℤ) × List (List ℤ)) (source : Source) (options : PlanOptions) (name : List ℕ) → Asks words asked → WithInputs contents asked (Ok read) →
+      plans_in asked ≡ Some (source, options) → named_in source ≡ Some name → IsRead words contents (role_of source) name
+  OfLast : (asked : Asked) (read : ((Program × List ℤ) × List (List ℤ)) × List Plan) (last : Last) → Asks words asked → WithPlans contents asked (Ok read) → last_in asked ≡ Some last →
+      IsRead words contents (last_role last) (last_name last)
 
 -- the numbers of a run: the made ones, or those of the input
 abbrev pub numbers_for : Asked → List ℤ → List ℤ
@@ -72,7 +70,11 @@ run_fuel (ToRun run) = Some run.fuel
 run_fuel (ToMake made) = Some made.fuel
 run_fuel _ = None
 
--- the iterations that were committed from the pipeline, of the run that the words ask for
+-- how many iterations of this expanded program's run are committed from the pipeline
+abbrev pub committed_of : Program → List Plan → List ℤ → ℕ → ℕ
+committed_of p plans numbers fuel = committed_in_all p plans (source_run p numbers fuel)
+
+-- .. of the run that the words ask for
 pub data Commits (words : List (List ℕ)) (contents : Contents) : ℕ → Type 0 where
-  OfRun : (asked : Asked) (p : Program) (numbers : List ℤ) (plans : List Plan) (fuel : ℕ) → Asks words asked → TextsGive contents asked p numbers plans → run_fuel asked ≡ Some fuel →
-      Commits words contents (committed_in_all (expand p) plans (source_run (expand p) (numbers_for asked numbers) fuel))
+  OfRun : (asked : Asked) (read : (((Program × List ℤ) × List (List ℤ)) × List Plan) × List ℕ) (fuel : ℕ) → Asks words asked → ReadsAll contents asked (Ok read) → run_fuel asked ≡ Some fuel →
+      Commits words contents (committed_of (expand (given_by read).program) (given_by read).plans (numbers_for asked (given_by read).numbers) fuel)

@@ -2,11 +2,11 @@
 use Rattle.std.specs.Prelude.{◌≡◌, ◌⊎◌, ◌<◌, ◌≤◌, ◌+◌, ℕ, List, [], ◌∷◌, ◌++◌, Option, Some}
 use Rattle.std.specs.Option.{option_map}
 use Rattle.dp_edge.specs.Sink.{appended}
-use Rattle.dp_drive.specs.declared.refusal.Role.{Role}
-use Rattle.dp_drive.specs.Refusal.{failed_read_line}
 use Rattle.dp_edge.specs.Writing.{WritesFront}
+use Rattle.dp_refusal.specs.declared.role.Role.{Role}
+use Rattle.dp_refusal.specs.Refusal.{failed_read_line}
 use Rattle.dp_words.specs.Words.{Asked, Asks}
-use Rattle.dp_drive.specs.Roles.{Contents}
+use Rattle.dp_load.specs.Roles.{Contents}
 use Rattle.dp_drive.specs.Answer.{Answer, Commits, IsRead, run_fuel}
 
 -- The outside at one moment: what the shelf holds, how many reads failed, and under which names, what was written, and

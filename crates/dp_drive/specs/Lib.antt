@@ -1,13 +1,5 @@
 pub mod Headline
 pub mod Answer
-pub mod Roles
-pub mod Program
-pub mod Inputs
-pub mod Plans
-pub mod Profiles
-pub mod ReadPlans
 pub mod RunText
 pub mod Made
-pub mod Refusal
-pub mod Loading
 pub mod steps

@@ -8,15 +8,14 @@ ghost use Rattle.dp_drive.specs.Headline.{Drives, IsCounted};
 ghost use Rattle.dp_drive.specs.steps.Carried.{Carried, Finishes};
 ghost use Rattle.dp_drive.specs.steps.Status.{status_after};
 
-use crate::load::{Loaded, load_program};
 use crate::made::answer_gen;
 use crate::planning::answer_plan;
 use crate::profiling::answer_profile;
-use crate::refusal::{Refusal, Role};
-use crate::running::{load, run_to_end};
-use crate::texts::Texts;
+use crate::running::run_to_end;
 use crate::writing::{fail_read, refuse};
 use dp_edge::{Gate, Shelf, Sink, WriteFail, write};
+use dp_load::{Loaded, Texts, load_program, load_texts};
+use dp_refusal::{Refusal, Role};
 use dp_report::site_text;
 use dp_run::{CrewSize, RunOptions, Tally};
 use dp_tree::Program;
@@ -116,7 +115,7 @@ fn answer_run<R: Threads + Wait + Clock + Sync, S: Shelf, K: Sink, G: Gate>(
         (S.failed_names shelf.old) (S.failed_names shelf.new) (K.written sink.old) (K.written sink.new) result }
     ensures counted { (words : List (List ℕ)) → Asks words (ToRun (shown run.entry)) → IfOk result (IsCounted words (S.contents shelf.old) tally.old tally.new) }
 {
-    match load(alloc, run, shelf)? {
+    match load_texts(alloc, run, shelf)? {
         Texts::Run(program, input, plans) => {
             let options = RunOptions {
                 fuel: run.fuel,

@@ -1,8 +1,11 @@
 //! Laws of the definitions, as functions whose contracts state them.
-ghost use Rattle.std.specs.Prelude.{◌≡◌, ℕ, List, Option, Some};
+ghost use Rattle.std.specs.Prelude.{◌≡◌, ℕ, ℤ, Bool, List, Option, Some};
+ghost use Rattle.dp_tree.specs.Checked.{IsChecked};
 ghost use Rattle.dp_tree.specs.Inlined.{IsInlined};
+ghost use Rattle.dp_calls.specs.Expand.{expand};
+ghost use Rattle.dp_plan.specs.declared.Plan.{Plan};
 ghost use Rattle.dp_drive.specs.Answer.{Answer};
-ghost use Rattle.dp_drive.specs.ReadPlans.{ReadPlansAreReady};
+ghost use Rattle.dp_drive.specs.RunText.{TextsAgree};
 
 use dp_tree::Program;
 
@@ -12,9 +15,10 @@ pub fn words_have_one_answer()
         Answer words (Some held) status bytes → Answer words (Some held) other more → (status ≡ other) × (bytes ≡ more) }
 {}
 
-/// What `read_plans` answers for an inlined program fits it, so that its stage programs are projections and the central
-/// theorem speaks of it.
-pub fn read_plans_are_ready(p: &Program)
-    requires { IsInlined p.now }
-    ensures { ReadPlansAreReady p.now }
+/// What is written of a run, which is said by the source with a frame for each call, may be said over the trace of the
+/// program with its calls expanded: so a run that goes on from within can be told.
+pub fn run_texts_agree(p: &Program)
+    requires checked { IsChecked p.now }
+    requires inlined { IsInlined (expand p.now) }
+    ensures { (plans : List Plan) (input : List ℤ) (fuel : ℕ) (why : Bool) → TextsAgree p.now plans input fuel why }
 {}

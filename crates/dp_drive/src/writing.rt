@@ -2,10 +2,10 @@
 ghost use Rattle.std.specs.Prelude.{◌<◌, ◌-◌, ◌^◌};
 ghost use Rattle.dp_edge.specs.Writing.{FaultsAfter};
 ghost use Rattle.dp_drive.specs.steps.Carried.{Finishes};
-ghost use Rattle.dp_drive.specs.Refusal.{refusal_line, refusal_status, failed_read_line};
+ghost use Rattle.dp_refusal.specs.Refusal.{refusal_line, refusal_status, failed_read_line};
 
-use crate::refusal::{Refusal, Role};
 use dp_edge::{Sink, WriteFail, write};
+use dp_refusal::{Refusal, Role};
 use std::alloc::Global;
 
 /// Writes a refusal's line.

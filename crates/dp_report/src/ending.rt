@@ -32,7 +32,8 @@ pub fn end_text(
     Ok(out)
 }
 
-fn put_end(out: &mut Row<u8>, end: End) -> Result<(), NoMemory>
+/// The last line of a text alone: how the run ended. It goes behind what `out` has.
+pub fn put_end(out: &mut Row<u8>, end: End) -> Result<(), NoMemory>
     ensures { OnOk result (out.new ≡ out.old ++ end_line end) }
 {
     match end {

@@ -11,7 +11,7 @@ mod regions;
 mod sites;
 mod state;
 
-pub use ending::end_text;
+pub use ending::{end_text, put_end};
 pub use generator::{Made, make_program};
 pub use prints::prints_text;
 pub use sites::site_text;

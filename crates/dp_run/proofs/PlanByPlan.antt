@@ -7,7 +7,7 @@ use Rattle.dp_tree.specs.Trace.{Run}
 use Rattle.dp_plan.specs.declared.Plan.{Plan}
 use Rattle.dp_plan.proofs.RegionFacts.{few_regions}
 use Rattle.dp_semantics.specs.Reported.{region_report}
-use Rattle.dp_semantics.proofs.Central.{fuel_is}
+use Rattle.dp_theorem.proofs.Central.{fuel_is}
 use Rattle.dp_meaning.specs.MachineState.{MachineState}
 use Rattle.dp_run.specs.Given.{AreNext}
 use Rattle.dp_run.specs.RunText.{committed_count}

@@ -34,6 +34,10 @@ module _ (p : Program) (inlined : IsInlined (expand p)) (same : SameMeaning p) (
   pub same_end : (outcome p input fuel).end ≡ run.end
   same_end = ap (λ (o : Outcome). o.end) (same input fuel)
 
+  -- the file-scope variables at the end
+  pub same_state_text : state_bytes p.vars (outcome p input fuel).globals ≡ state_bytes q.vars (final_cells run)
+  same_state_text = ap (λ (o : Outcome). state_bytes p.vars o.globals) (same input fuel) ∙ state_is
+
   pub same_text : run_text p plans input fuel why ≡ trace_text q plans run why
   same_text =
       ap (λ (o : Outcome). prints_bytes o.prints ++ end_bytes p o.globals reports o.end why) (same input fuel)

@@ -3,7 +3,7 @@ use Rattle.std.proofs.Common.{refl, inl, inr}
 use Rattle.dp_base.specs.declared.End.{End}
 use Rattle.dp_base.specs.declared.End.TheVariants.{Done, Fault, Fuel}
 use Rattle.dp_drive.specs.Headline.{IsEnd}
-use Rattle.dp_drive.specs.RunText.{status_of}
+use Rattle.dp_refusal.specs.Refusal.{status_of}
 
 -- each run's end is one
 each_end : (end : End) → IsEnd (status_of end)

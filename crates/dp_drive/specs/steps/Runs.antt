@@ -5,7 +5,7 @@ use Rattle.dp_plan.specs.declared.Plan.{Plan}
 use Rattle.dp_edge.specs.declared.writing.WriteFail.{WriteFail}
 use Rattle.dp_run.specs.RunText.{committed_in_all, source_run, trace_text}
 use Rattle.dp_drive.specs.steps.Carried.{Finishes}
-use Rattle.dp_drive.specs.RunText.{status_of}
+use Rattle.dp_refusal.specs.Refusal.{status_of}
 
 -- The line and the text of the expanded program's run were written, or a front of both, and the status is that of its end. Where it ended, the
 -- tally grew by the iterations that were committed from a pipeline.

@@ -2,7 +2,7 @@
 use Rattle.std.proofs.Common.{eqb-true}
 use Rattle.dp_meaning.proofs.Names.{◌≡◌, refl, sym, ap, ◌∙◌, ℕ, Bool, true, false, if◌then◌else◌, List, [], ◌∷◌, None, Stmt, Stmt-F, out-Stmt, standing, is_region, MachineState, rest_of_run, next_part, part_from, part_of}
 use Rattle.dp_tree.specs.declared.Stmt.TheOpen.{Region}
-use Rattle.dp_semantics.specs.EpochKey.{EpochKey, epoch_run, from_region}
+use Rattle.dp_semantics.specs.EpochKey.{EpochKey, epoch_run, statements_from}
 use Rattle.dp_meaning.specs.declared.ends.Part.TheVariants as part
 
 abbrev made_there : EpochKey → MachineState

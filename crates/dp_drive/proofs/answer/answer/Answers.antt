@@ -1,6 +1,6 @@
 use Rattle.std.proofs.Common.{◌∙◌, ap, refl, Some}
 use Rattle.dp_words.specs.Words.{ToList, ToPlan, ToProfile}
-use Rattle.dp_drive.specs.declared.refusal.Refusal.TheVariants.{Words}
+use Rattle.dp_refusal.specs.declared.refusal.Refusal.TheVariants.{Words}
 use Rattle.dp_drive.proofs.AnswerLemmas.{carry_not_taken}
 use Rattle.dp_drive.proofs.CountLemmas.{no_run_counts, refused_counts}
 use Rattle.dp_drive.proofs.definite.AsksOnce.{no_run}

@@ -1,5 +1,5 @@
 use Rattle.std.proofs.Common.{◌∙◌, ap, refl, Ok}
-use Rattle.dp_drive.proofs.TextsLemmas.{given, program_gives}
+use Rattle.dp_load.proofs.TextsLemmas.{given, program_gives}
 use Rattle.dp_drive.proofs.AnswerLemmas.{carry_sites, carry_program_refused, carry_program_failed}
 use Rattle.dp_words.specs.Words.{ToList}
 use Rattle.dp_drive.proofs.answer.answer_check.Goals as goal

@@ -1,6 +1,6 @@
 use Rattle.std.proofs.Common.{◌∙◌, ap, Ok}
 use Rattle.dp_words.specs.Planning.{shown_planning}
-use Rattle.dp_drive.proofs.TextsLemmas.{given}
+use Rattle.dp_load.proofs.TextsLemmas.{given}
 use Rattle.dp_drive.proofs.AnswerLemmas.{carry_plans, carry_least_refused, carry_least_failed}
 use Rattle.dp_drive.proofs.planning.answer_least.Goals as goal
 

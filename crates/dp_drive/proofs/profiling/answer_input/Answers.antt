@@ -1,6 +1,6 @@
 use Rattle.std.proofs.Common.{◌∙◌, ap, Ok}
 use Rattle.dp_words.specs.Profiling.{shown_profiling}
-use Rattle.dp_drive.proofs.TextsLemmas.{given}
+use Rattle.dp_load.proofs.TextsLemmas.{given}
 use Rattle.dp_drive.proofs.ProfilingLemmas.{carry_profile, carry_input_refused, carry_input_failed}
 use Rattle.dp_drive.proofs.profiling.answer_input.Goals as goal
 

@@ -1,9 +1,9 @@
 use Rattle.std.proofs.Common.{◌∙◌, ap, refl, Ok}
 use Rattle.dp_words.specs.Profiling.{shown_profiling}
 use Rattle.dp_words.specs.Words.{ToProfile}
-use Rattle.dp_drive.proofs.TextsLemmas.{given, program_gives}
+use Rattle.dp_load.proofs.TextsLemmas.{given, program_gives}
 use Rattle.dp_drive.proofs.AnswerLemmas.{carry_on, carry_program_refused, carry_program_failed}
-use Rattle.dp_drive.proofs.accepted.Given.{loaded_inlined}
+use Rattle.dp_load.proofs.accepted.Given.{loaded_inlined}
 use Rattle.dp_drive.proofs.profiling.answer_profile.Goals as goal
 
 pub answer_input-requires-clause-inlined : goal.answer_input-requires-clause-inlined

@@ -2,7 +2,7 @@ use Rattle.std.proofs.Common.{◌≡◌, ◌∙◌, ap, ◌+◌, List, ℤ}
 use Rattle.dp_edge.specs.Sink.{appended}
 use Rattle.dp_plan.specs.declared.Plan.{Plan}
 use Rattle.dp_run.specs.RunText.{committed_in_all, source_run, trace_text}
-use Rattle.dp_drive.specs.RunText.{status_of}
+use Rattle.dp_refusal.specs.Refusal.{status_of}
 use Rattle.dp_drive.proofs.running.run_to_end.Goals as goal
 
 pub returns-clause-runs : goal.returns-clause-runs

@@ -2,7 +2,7 @@ use Rattle.std.proofs.Common.{rules, ◌≡◌, ◌∙◌, sym, ap, subst, lengt
 use Rattle.dp_semantics.specs.EpochCauses.{IsSound}
 use Rattle.dp_tree.specs.Trace.{begin}
 use Rattle.dp_meaning.specs.MachineState.{MachineState}
-use Rattle.dp_drive.proofs.ZeroMemory.{zeros_are_sound}
+use Rattle.dswp.proofs.ZeroMemory.{zeros_are_sound}
 use Rattle.dswp.proofs.tests.units.pipeline_of.Goals as goal
 
 pub new-requires-in-Ok-2-clause-sound : goal.new-requires-in-Ok-2-clause-sound

@@ -2,8 +2,8 @@ use Rattle.std.proofs.Common.{◌∙◌, sym, ap, List, slice_get, Ok}
 use Rattle.dp_plan.specs.declared.Plan.{Plan}
 use Rattle.dp_plan.specs.GivenPlans.{IsPlan, ArePlans}
 use Rattle.dp_plan.proofs.EachLemmas.{each_at}
-use Rattle.dp_drive.proofs.TextsLemmas.{given}
-use Rattle.dp_drive.proofs.accepted.Given.{read_plans_fit}
+use Rattle.dp_load.proofs.TextsLemmas.{given}
+use Rattle.dp_load.proofs.accepted.Given.{read_plans_fit}
 use Rattle.dswp.proofs.tests.units.with_program.Goals as goal
 
 pub each_row-requires-clause-plan : goal.each_row-requires-clause-plan

@@ -1,6 +1,6 @@
 use Rattle.std.proofs.Common.{◌∙◌, ap, Ok}
-use Rattle.dp_drive.proofs.TextsLemmas.{given, program_gives}
-use Rattle.dp_drive.proofs.accepted.Given.{loaded_inlined}
+use Rattle.dp_load.proofs.TextsLemmas.{given, program_gives}
+use Rattle.dp_load.proofs.accepted.Given.{loaded_inlined}
 use Rattle.dswp.proofs.tests.units.with_texts.Goals as goal
 
 pub with_program-requires-clause-inlined : goal.with_program-requires-clause-inlined

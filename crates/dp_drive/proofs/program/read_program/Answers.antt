@@ -1,9 +1,0 @@
-use Rattle.dp_drive.proofs.accepted.Lengths.{lengths}
-use Rattle.dp_drive.proofs.accepted.Exits.{exits}
-use Rattle.dp_drive.proofs.program.read_program.Goals as goal
-
-pub check_tree-requires-clause-lengths : goal.check_tree-requires-clause-lengths
-check_tree-requires-clause-lengths c = lengths _ _ c.in-Ok.ensures
-
-pub check_tree-requires-clause-exits : goal.check_tree-requires-clause-exits
-check_tree-requires-clause-exits c = exits _ _ c.in-Ok.ensures

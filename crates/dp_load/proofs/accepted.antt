@@ -1,0 +1,4 @@
+pub mod Lengths
+pub mod Exits
+pub mod Accepted
+pub mod Given

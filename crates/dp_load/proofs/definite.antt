@@ -1,0 +1,5 @@
+pub mod ReadsOnce
+pub mod PlansOnce
+pub mod ProfilesOnce
+pub mod ThenOnce
+pub mod TextsOnce

@@ -1,0 +1,12 @@
+pub mod Order
+pub mod Roles
+pub mod Lists
+pub mod Last
+pub mod Then
+pub mod Program
+pub mod Inputs
+pub mod Plans
+pub mod Profiles
+pub mod ReadPlans
+pub mod Loading
+pub mod Texts

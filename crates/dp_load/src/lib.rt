@@ -1,0 +1,14 @@
+//! What is run: the program, the input and the plans, from the texts that the words name.
+#![tactic(auto)]
+
+mod law;
+mod load;
+mod planning;
+mod program;
+mod texts;
+
+pub use law::read_plans_are_ready;
+pub use load::{Loaded, load_plans, load_program};
+pub use planning::{automatic_plans, load_least};
+pub use program::read_program;
+pub use texts::{Texts, load_texts, load_words};
