@@ -9,7 +9,7 @@ abbrev made_there : EpochKey → MachineState
 made_there key = record {
   program = key.program;
   input = key.input;
-  config = standing key.program (from_region key.plan.region key.program.main) key.base;
+  config = standing key.program (statements_from key.plan.region key.program.main) key.base;
   steps = key.steps;
   fuel = key.fuel;
   current = None;
@@ -19,11 +19,11 @@ made_there key = record {
 its_run_is_that_of_an_epoch_that_begins_there : (key : EpochKey) → rest_of_run (made_there key) ≡ epoch_run key
 its_run_is_that_of_an_epoch_that_begins_there key = refl
 
-found : (r : ℕ) (xs : List Stmt) (s : Stmt) (rest : List Stmt) → from_region r xs ≡ s ∷ rest → is_region r (out-Stmt s) ≡ true
+found : (r : ℕ) (xs : List Stmt) (s : Stmt) (rest : List Stmt) → statements_from r xs ≡ s ∷ rest → is_region r (out-Stmt s) ≡ true
 found r [] s rest e = absurd (cc e)
 found r (x ∷ xs) s rest e = by (is_region r (out-Stmt x)) refl (found r xs s rest) e
   where
-    by : (b : Bool) → is_region r (out-Stmt x) ≡ b → (from_region r xs ≡ s ∷ rest → is_region r (out-Stmt s) ≡ true) → (if b then x ∷ xs else from_region r xs) ≡ s ∷ rest → is_region r (out-Stmt s) ≡ true
+    by : (b : Bool) → is_region r (out-Stmt x) ≡ b → (statements_from r xs ≡ s ∷ rest → is_region r (out-Stmt s) ≡ true) → (if b then x ∷ xs else statements_from r xs) ≡ s ∷ rest → is_region r (out-Stmt s) ≡ true
     by true is go h = let same : x ≡ s = cc h in ap (λ (t : Stmt). is_region r (out-Stmt t)) (sym same) ∙ is
     by false is go h = go h
 
@@ -32,6 +32,6 @@ numbered (Region q site cond body) r e = ap part.Region (eqb-true q r e)
 numbered _ r e = absurd (cc e)
 
 -- where the program has the region
-the_region_is_next : (key : EpochKey) (s : Stmt) (rest : List Stmt) → from_region key.plan.region key.program.main ≡ s ∷ rest → next_part (made_there key) ≡ part.Region key.plan.region
+the_region_is_next : (key : EpochKey) (s : Stmt) (rest : List Stmt) → statements_from key.plan.region key.program.main ≡ s ∷ rest → next_part (made_there key) ≡ part.Region key.plan.region
 the_region_is_next key s rest e =
     ap (λ (xs : List Stmt). part_of (standing key.program xs key.base).to_do) e ∙ numbered (out-Stmt s) key.plan.region (found key.plan.region key.program.main s rest e)
