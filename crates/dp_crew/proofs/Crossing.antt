@@ -39,7 +39,7 @@ use Rattle.dp_pipeline.proofs.carried.Carried.TheSendSync as carried
 use Rattle.dp_pipeline.proofs.judged.Judged.TheSendSync as judged
 use Rattle.dp_pipeline.proofs.passage.Passage.TheSendSync as passage
 use Rattle.dp_pipeline.proofs.judging.Judging.TheSendSync as judging
-use Rattle.dp_pipeline.proofs.relay.Relay.TheSendSync as relay
+use Rattle.dp_relay.proofs.relay.Relay.TheSendSync as relay
 use Rattle.dp_pipeline.proofs.tickets.Tickets.TheSendSync as tickets
 
 ruleset plain = (bin.the_field_sync, bin.the_sync, bin.the_field_send, bin.the_send, un.the_field_sync, un.the_sync, un.the_field_send, un.the_send, site.the_field_sync, site.the_sync, site.the_field_send, site.the_send, var.the_field_sync, var.the_sync, var.the_field_send, var.the_send, region_info.the_field_sync, region_info.the_sync, region_info.the_field_send, region_info.the_send, site_info.the_field_sync, site_info.the_sync, site_info.the_field_send, site_info.the_send, site_kind.the_field_sync, site_kind.the_sync, site_kind.the_field_send, site_kind.the_send, var_info.the_field_sync, var_info.the_sync, var_info.the_field_send, var_info.the_send, var_scope.the_field_sync, var_scope.the_sync, var_scope.the_field_send, var_scope.the_send, heap.the_field_sync, heap.the_sync, heap.the_field_send, heap.the_send, crossing.crosses, expr.crosses, stmt.crosses, sendable)

@@ -24,7 +24,7 @@ use Rattle.dp_pipeline.specs.declared.carried.Carried.{Carried}
 use Rattle.dp_pipeline.specs.declared.staged.Staged.{Staged}
 use Rattle.dp_pipeline.specs.Carried.{IsCarried, IsJudged, is_last_carried, is_last_judged, sent_packet}
 use Rattle.dp_pipeline.specs.steps.Ending.{ends_with}
-use Rattle.dp_pipeline.specs.Places.{At, behind}
+use Rattle.dp_relay.specs.Places.{At, behind}
 use Rattle.dp_pipeline.specs.Staging.{StandsFor, RunsAt, JudgesAt}
 
 pub twice_not : (b : Bool) → b ≡ not (not b)

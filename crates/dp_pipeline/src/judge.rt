@@ -2,10 +2,10 @@
 use crate::carried::Carried;
 use crate::ending::is_last_verdict;
 use crate::judged::Judged;
-use crate::stage::{Made, Stage};
 use dp_commit::{TryCommit, Verdict};
 use dp_edge::Gate;
 use dp_packet::{Packet, PacketStatus};
+use dp_relay::{Made, Stage};
 
 /// What judges the packets of the last stage.
 #[derive(Drop)]

@@ -1,7 +1,5 @@
 //! The verdicts of an epoch as they come out of their lane.
 use crate::judged::Judged;
-use crate::pause::Pause;
-use crate::polled::Polled;
 use crate::spare::Back;
 use crate::unit::Unit;
 use dp_base::{Boxed, Row};
@@ -9,6 +7,8 @@ use dp_commit::Verdict;
 use dp_edge::OpenGate;
 use dp_lane::TakeEnd;
 use dp_packet::Packet;
+use dp_relay::Polled;
+use dp_waiting::Pause;
 use std::alloc::Global;
 use std::marker::Model;
 use std::sync::Wait;

@@ -1,7 +1,7 @@
 //! The sending half of a poll.
 ghost use Rattle.std.specs.Prelude.{ℕ, Option};
 ghost use Rattle.dp_semantics.specs.EpochKey.{EpochKey};
-ghost use Rattle.dp_pipeline.specs.Offers.{Offers};
+ghost use Rattle.dp_relay.specs.Offers.{Offers};
 
 use crate::ends::{Ends, Refused};
 use crate::item::Item;

@@ -1,5 +1,5 @@
 use Rattle.std.specs.Prelude.{length, ◌-◌, ◌≤◌}
-use Rattle.dp_pipeline.proofs.beside.after.Given as goal
+use Rattle.dp_waiting.proofs.beside.after.Given as goal
 
 abbrev pub invariant-loop-to : goal.invariant-loop-to
 invariant-loop-to l = (l.start ≤ l.to) × (l.to ≤ length l.bells)

@@ -1,7 +1,7 @@
 //! What a unit does with each item.
 ghost use Rattle.std.specs.Prelude.{◌≡◌, ◌-◌, ℕ, false, Option};
 ghost use Rattle.dp_semantics.specs.EpochKey.{EpochKey};
-ghost use Rattle.dp_pipeline.specs.Places.{At, behind};
+ghost use Rattle.dp_relay.specs.Places.{At, behind};
 
 use crate::item::Item;
 use dp_edge::Gate;

@@ -1,8 +1,8 @@
 //! One turn of a unit that goes on.
 ghost use Rattle.std.specs.Prelude.{◌≡◌, false, None, IfOk, IfErr};
-ghost use Rattle.dp_pipeline.specs.Facts.{RefusesTake, Stays};
-ghost use Rattle.dp_pipeline.specs.Offers.{Advances};
-ghost use Rattle.dp_pipeline.specs.Works.{HasMade, HasSentAll, IsAtWork};
+ghost use Rattle.dp_relay.specs.Facts.{RefusesTake, Stays};
+ghost use Rattle.dp_relay.specs.Offers.{Advances};
+ghost use Rattle.dp_relay.specs.Works.{HasMade, HasSentAll, IsAtWork};
 
 use crate::ends::Ends;
 use crate::item::Item;

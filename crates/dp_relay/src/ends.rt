@@ -1,8 +1,8 @@
 //! Where a unit takes items, and where it sends them.
 ghost use Rattle.std.specs.Prelude.{◌≡◌, ◌-◌, ℕ, Bool, Option, IfOk, IfErr, OnOk, OnErr};
 ghost use Rattle.dp_semantics.specs.EpochKey.{EpochKey};
-ghost use Rattle.dp_pipeline.specs.Places.{At, behind};
-ghost use Rattle.dp_pipeline.specs.Facts.{Facts, Stays, Takes, Sends};
+ghost use Rattle.dp_relay.specs.Places.{At, behind};
+ghost use Rattle.dp_relay.specs.Facts.{Facts, Stays, Takes, Sends};
 
 use crate::item::Item;
 use crate::polled::IdleWhy;

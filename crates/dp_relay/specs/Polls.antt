@@ -1,12 +1,12 @@
 -- What a clause sees of a unit, and what a poll does.
 use Rattle.std.specs.Prelude.{◌≡◌, ◌⊎◌, ℕ, ◌+◌, Bool, true, Option, Some, None, if◌then◌else◌}
 use Rattle.dp_stop.specs.Flag.{Looks}
-use Rattle.dp_pipeline.specs.Facts.{Facts}
-use Rattle.dp_pipeline.specs.Offers.{Advances}
-use Rattle.dp_pipeline.specs.declared.polled.Polled.{Polled}
-use Rattle.dp_pipeline.specs.declared.polled.Polled.TheVariants.{Ended}
-use Rattle.dp_pipeline.specs.declared.polled.EndedWhy.{EndedWhy}
-use Rattle.dp_pipeline.specs.declared.polled.EndedWhy.TheVariants.{Last, Stopped}
+use Rattle.dp_relay.specs.Facts.{Facts}
+use Rattle.dp_relay.specs.Offers.{Advances}
+use Rattle.dp_relay.specs.declared.polled.Polled.{Polled}
+use Rattle.dp_relay.specs.declared.polled.Polled.TheVariants.{Ended}
+use Rattle.dp_relay.specs.declared.polled.EndedWhy.{EndedWhy}
+use Rattle.dp_relay.specs.declared.polled.EndedWhy.TheVariants.{Last, Stopped}
 
 -- what is known of the end that it takes from and of the one that it sends on, whether an ending item was sent last, how often the stop
 -- flag was looked at, and whether it was seen set

@@ -1,8 +1,8 @@
 //! A unit of one kind: its stage between its ends.
 ghost use Rattle.std.specs.Prelude.{◌≡◌, false};
-ghost use Rattle.dp_pipeline.specs.declared.polled.Polled.TheVariants.{Ended};
-ghost use Rattle.dp_pipeline.specs.Polls.{Polls, HasEnded, LooksOnce, counts_of, why_ended};
-ghost use Rattle.dp_pipeline.specs.Works.{HasSentAll};
+ghost use Rattle.dp_relay.specs.declared.polled.Polled.TheVariants.{Ended};
+ghost use Rattle.dp_relay.specs.Polls.{Polls, HasEnded, LooksOnce, counts_of, why_ended};
+ghost use Rattle.dp_relay.specs.Works.{HasSentAll};
 
 use crate::advance::advance;
 use crate::ends::Ends;
@@ -32,8 +32,8 @@ pub struct Relay<'p, I: Item, O: Item, E: Ends<I, O>, S: Stage<I, O>> {
 
 impl<'p, I: Item, O: Item, E: Ends<I, O>, S: Stage<I, O>> Model for Relay<'p, I, O, E, S> {
     ghost use Rattle.std.specs.Prelude.{◌≡◌};
-    ghost use Rattle.dp_pipeline.specs.Polls.{Counts, counts_of};
-    ghost use Rattle.dp_pipeline.specs.Works.{IsAtWork};
+    ghost use Rattle.dp_relay.specs.Polls.{Counts, counts_of};
+    ghost use Rattle.dp_relay.specs.Works.{IsAtWork};
 
     ghost Value = { Counts };
 

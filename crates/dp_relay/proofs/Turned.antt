@@ -1,15 +1,15 @@
 -- A turn of a unit leaves it at work.
 use Rattle.std.proofs.Common.{arith, ◌≡◌, ◌≤◌, inl, inr, ℕ, ◌+◌, ◌-◌, Bool, false, Option, Some, None, sym, ap, ◌∙◌, subst, refl}
 use Rattle.dp_semantics.specs.EpochKey.{EpochKey}
-use Rattle.dp_pipeline.specs.declared.stage.Made.{Made}
-use Rattle.dp_pipeline.specs.declared.polled.Polled.{Polled}
-use Rattle.dp_pipeline.specs.declared.polled.Polled.TheVariants.{Moved, Idle, Ended}
-use Rattle.dp_pipeline.specs.declared.polled.IdleWhy.{IdleWhy}
-use Rattle.dp_pipeline.specs.declared.polled.IdleWhy.TheVariants.{Empty, Full, Busy}
-use Rattle.dp_pipeline.specs.Facts.{Facts, Rose, Stays, RefusesTake, RefusesSend}
-use Rattle.dp_pipeline.specs.Places.{At, behind}
-use Rattle.dp_pipeline.specs.Works.{HasMade, HasSentAll, IsAtWork}
-use Rattle.dp_pipeline.specs.Offers.{Offers, Advances}
+use Rattle.dp_relay.specs.declared.stage.Made.{Made}
+use Rattle.dp_relay.specs.declared.polled.Polled.{Polled}
+use Rattle.dp_relay.specs.declared.polled.Polled.TheVariants.{Moved, Idle, Ended}
+use Rattle.dp_relay.specs.declared.polled.IdleWhy.{IdleWhy}
+use Rattle.dp_relay.specs.declared.polled.IdleWhy.TheVariants.{Empty, Full, Busy}
+use Rattle.dp_relay.specs.Facts.{Facts, Rose, Stays, RefusesTake, RefusesSend}
+use Rattle.dp_relay.specs.Places.{At, behind}
+use Rattle.dp_relay.specs.Works.{HasMade, HasSentAll, IsAtWork}
+use Rattle.dp_relay.specs.Offers.{Offers, Advances}
 
 pub take_keeps : (why : IdleWhy) (old new : Facts) → RefusesTake why old new → new.count ≡ old.count
 take_keeps Empty old new r = r.1

@@ -1,11 +1,11 @@
 -- What the two halves of a poll do.
 use Rattle.std.specs.Prelude.{◌≡◌, ◌⊎◌, ℕ, ◌+◌, Bool, Option, Some, None}
 use Rattle.dp_semantics.specs.EpochKey.{EpochKey}
-use Rattle.dp_pipeline.specs.declared.stage.Made.{Made}
-use Rattle.dp_pipeline.specs.declared.polled.Polled.{Polled}
-use Rattle.dp_pipeline.specs.declared.polled.Polled.TheVariants.{Moved, Idle, Ended}
-use Rattle.dp_pipeline.specs.Facts.{Facts, Stays, RefusesTake, RefusesSend}
-use Rattle.dp_pipeline.specs.Places.{behind}
+use Rattle.dp_relay.specs.declared.stage.Made.{Made}
+use Rattle.dp_relay.specs.declared.polled.Polled.{Polled}
+use Rattle.dp_relay.specs.declared.polled.Polled.TheVariants.{Moved, Idle, Ended}
+use Rattle.dp_relay.specs.Facts.{Facts, Stays, RefusesTake, RefusesSend}
+use Rattle.dp_relay.specs.Places.{behind}
 
 module _ {E O : Type 0} (ready : E → EpochKey → ℕ → Option ℕ → Type 0) (holds : E → EpochKey → ℕ → Option ℕ → ℕ → Type 0) (taking sending : E → Facts) (ended : E → Bool)
     (is_sent : EpochKey → ℕ → ℕ → O → Type 0) (is_last : EpochKey → O → Bool) (made : Made O) (old new : E) (last after : Bool) (held : Option (Made O)) where

@@ -1,5 +1,5 @@
 use Rattle.std.specs.Prelude.{length, ◌≤◌}
-use Rattle.dp_pipeline.proofs.beside.before.Given as goal
+use Rattle.dp_waiting.proofs.beside.before.Given as goal
 
 abbrev pub invariant-loop-from : goal.invariant-loop-from
 invariant-loop-from l = (l.from ≤ l.end) × (l.end ≤ length l.bells)

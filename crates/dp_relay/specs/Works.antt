@@ -1,9 +1,9 @@
 -- What holds of a unit between two polls.
 use Rattle.std.specs.Prelude.{◌≡◌, ℕ, ◌+◌, Bool, false, Option, Some, None}
 use Rattle.dp_semantics.specs.EpochKey.{EpochKey}
-use Rattle.dp_pipeline.specs.declared.stage.Made.{Made}
-use Rattle.dp_pipeline.specs.Facts.{Facts}
-use Rattle.dp_pipeline.specs.Places.{behind}
+use Rattle.dp_relay.specs.declared.stage.Made.{Made}
+use Rattle.dp_relay.specs.Facts.{Facts}
+use Rattle.dp_relay.specs.Places.{behind}
 
 module _ {E S O : Type 0} (ready : E → EpochKey → ℕ → Option ℕ → Type 0) (holds : E → EpochKey → ℕ → Option ℕ → ℕ → Type 0) (taking sending : E → Facts) (ended : E → Bool)
     (stands : S → EpochKey → ℕ → Option ℕ → Type 0) (is_sent : EpochKey → ℕ → ℕ → O → Type 0) (is_last : EpochKey → O → Bool) where

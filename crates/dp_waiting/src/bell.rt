@@ -1,9 +1,6 @@
-//! What wakes the threads of an epoch.
-ghost use Rattle.std.specs.Prelude.{◌≡◌, suc, length, IfOk};
+//! What wakes a thread.
+ghost use Rattle.std.specs.Prelude.{◌≡◌};
 
-use crate::unit::Unit;
-use dp_base::NoMemory;
-use std::alloc::Global;
 use std::sync::Wait;
 use std::sync::atomic::{AtomicBool, Ordering};
 use std::thread::Parker;
@@ -23,7 +20,7 @@ pub struct Bell {
 
 impl Bell {
     /// A bell that nobody awaits.
-    fn new(is_workers: bool) -> Bell {
+    pub fn new(is_workers: bool) -> Bell {
         Bell {
             is_workers,
             is_awaited: AtomicBool::new(false),
@@ -58,16 +55,4 @@ impl Bell {
     pub(crate) fn sleep<R: Wait>(&self, rt: &R) {
         self.parker.park_timeout(rt, Duration::from_millis(SLEEP));
     }
-}
-
-/// A bell for the thread of each of these units, in their order, and one for the caller behind them.
-pub fn bells_of(alloc: Global, units: &[Unit<'_>]) -> Result<Vec<Bell>, NoMemory>
-    ensures { IfOk result (λ bells. length bells.items ≡ suc (length units.now)) }
-{
-    let mut bells = Vec::with_capacity(alloc, units.len())?;
-    for unit in units {
-        bells.push(Bell::new(unit.is_worker()))?;
-    }
-    bells.push(Bell::new(false))?;
-    Ok(bells)
 }

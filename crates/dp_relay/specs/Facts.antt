@@ -1,8 +1,8 @@
 -- What a clause sees of the end that a unit takes from, or sends on.
 use Rattle.std.specs.Prelude.{◌≡◌, ◌⊎◌, Bool, true, false, ℕ, ◌+◌, ◌-◌, ◌^◌, ◌<◌, ◌≤◌, Result, Ok, Err}
-use Rattle.dp_pipeline.specs.declared.polled.IdleWhy.{IdleWhy}
-use Rattle.dp_pipeline.specs.declared.polled.IdleWhy.TheVariants.{Empty, Full, Busy}
-use Rattle.dp_pipeline.specs.declared.ends.Refused.{Refused}
+use Rattle.dp_relay.specs.declared.polled.IdleWhy.{IdleWhy}
+use Rattle.dp_relay.specs.declared.polled.IdleWhy.TheVariants.{Empty, Full, Busy}
+use Rattle.dp_relay.specs.declared.ends.Refused.{Refused}
 
 -- how many items it took or sent, how many tries were refused or words were loaded, the word that was loaded last, and whether it is at a
 -- ring, whose words it loads

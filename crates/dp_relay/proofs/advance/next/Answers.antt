@@ -1,6 +1,6 @@
 use Rattle.std.proofs.Common.{rules}
-use Rattle.dp_pipeline.proofs.Turned.{none_held, has_run}
-use Rattle.dp_pipeline.proofs.advance.next.Goals as goal
+use Rattle.dp_relay.proofs.Turned.{none_held, has_run}
+use Rattle.dp_relay.proofs.advance.next.Goals as goal
 
 pub returns-in-Ok-clause-made : goal.returns-in-Ok-clause-made
 returns-in-Ok-clause-made g c =

@@ -1,16 +1,10 @@
--- What the answer of a poll says, and what is so of a plan's programs and units, written out.
-use Rattle.std.proofs.Common.{arith, ◌≡◌, ◌<◌, ◌⊎◌, inl, inr, refl, ℕ, ◌+◌, ◌-◌, ◌^◌, true, false, List, [], ◌∷◌, length}
-use Rattle.dp_tree.specs.declared.Program.{Program}
-use Rattle.dp_plan.specs.declared.Plan.{Plan}
-use Rattle.dp_plan.specs.declared.StageKind.TheVariants.{Seq, Par}
-use Rattle.dp_code.specs.declared.StageProgram.{StageProgram}
-use Rattle.dp_pipeline.specs.declared.polled.Polled.{Polled}
-use Rattle.dp_pipeline.specs.declared.polled.Polled.TheVariants.{Moved, Idle, Ended}
-use Rattle.dp_pipeline.specs.declared.polled.IdleWhy.TheVariants.{Empty, Full, Busy}
-use Rattle.dp_pipeline.specs.Facts.{Rose}
-use Rattle.dp_pipeline.specs.Polls.{Counts, HasEnded, Polls, LooksOnce}
-use Rattle.dp_pipeline.specs.Programs.{ArePrograms}
-use Rattle.dp_pipeline.specs.UnitCount.{unit_count}
+-- What the answer of a poll says, written out.
+use Rattle.std.proofs.Common.{arith, ◌≡◌, ◌<◌, ◌⊎◌, inl, inr, ℕ, ◌+◌, ◌-◌, ◌^◌, true, false}
+use Rattle.dp_relay.specs.declared.polled.Polled.{Polled}
+use Rattle.dp_relay.specs.declared.polled.Polled.TheVariants.{Moved, Idle, Ended}
+use Rattle.dp_relay.specs.declared.polled.IdleWhy.TheVariants.{Empty, Full, Busy}
+use Rattle.dp_relay.specs.Facts.{Rose}
+use Rattle.dp_relay.specs.Polls.{Counts, HasEnded, Polls, LooksOnce}
 
 -- a number of tries that stays hasn't risen
 stays_low : (n : ℕ) → n < 2 ^ 64 - 1 → Rose n n → ⊥
@@ -37,11 +31,3 @@ module _ (old new : Counts) where
 
   else_it_looks_once : (answer : Polled) → LooksOnce old answer new → ¬ HasEnded old → (new.loads ≡ old.loads + 1) × (new.stopped ≡ true → answer ≡ Ended)
   else_it_looks_once answer looks on = looks.1 on
-
--- a program a stage, and the judge's
-one_more_than_stages : (p : Program) (plan : Plan) (programs : List StageProgram) → ArePrograms p plan programs → length programs ≡ length plan.stages + 1
-one_more_than_stages p plan programs are = are.count
-
--- a unit a stage, or its workers, and the judge's
-units_of_four_stages : unit_count 4 (record { region = 1; words = 64; stages = Seq ∷ Par ∷ Seq ∷ Par ∷ []; stage_of = []; assume = []; proved = false; checked_at = [] }) ≡ 11
-units_of_four_stages = refl
