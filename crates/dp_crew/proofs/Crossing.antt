@@ -24,11 +24,11 @@ use Rattle.dp_machine.proofs.Kept.TheSendSync as kept
 use Rattle.dp_machine.proofs.Ready.TheSendSync as ready
 use Rattle.dp_machine.proofs.turning.Rows.TheSendSync as rows
 use Rattle.dp_cause.proofs.kept.Kept.TheSendSync as views
-use Rattle.dp_commit.proofs.court.Entry.TheSendSync as entry
-use Rattle.dp_commit.proofs.court.Rows.TheSendSync as judging_rows
+use Rattle.dp_judge.proofs.court.Entry.TheSendSync as entry
+use Rattle.dp_judge.proofs.court.Rows.TheSendSync as judging_rows
 use Rattle.dp_machine.specs.contracts.Frame as Frame
 use Rattle.dp_machine.specs.contracts.stage.StageMachine as StageMachine
-use Rattle.dp_commit.specs.contracts.trying.TryCommit as TryCommit
+use Rattle.dp_judge.specs.contracts.trying.TryCommit as TryCommit
 use Rattle.dp_pipeline.specs.contracts.staged.Staged as Staged
 use Rattle.dp_pipeline.specs.contracts.judge.Judge as Judge
 use Rattle.dp_pipeline.specs.contracts.unit.Kind as Kind

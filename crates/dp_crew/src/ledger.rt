@@ -11,8 +11,9 @@ use crate::fail::CrewFail;
 use crate::report::nothing_counted;
 use crate::waiting::{flush, flush_if_many, wait};
 use dp_base::{RegionReport, Row};
-use dp_commit::{Clean, Committed, Tally};
+use dp_commit::{Committed, Tally};
 use dp_edge::Sink;
+use dp_judge::Clean;
 use dp_meaning::Machine;
 use std::alloc::Global;
 

@@ -11,8 +11,8 @@ use Rattle.dp_ring.specs.declared.view.Phase.TheVariants.{Putting, Resting, Coll
 use Rattle.dp_ring.specs.Calls.{at_start}
 use Rattle.dp_machine.specs.declared.stage.StageMachine.{StageMachine}
 use Rattle.dp_machine.specs.Machine.{Stands}
-use Rattle.dp_commit.specs.declared.trying.TryCommit.{TryCommit}
-use Rattle.dp_commit.specs.Standing.{Judges}
+use Rattle.dp_judge.specs.declared.trying.TryCommit.{TryCommit}
+use Rattle.dp_judge.specs.Standing.{Judges}
 use Rattle.dp_pipeline.specs.declared.keys.EpochKey.{EpochKey as Held}
 use Rattle.dp_pipeline.specs.declared.keys.LaneKey.{LaneKey}
 use Rattle.dp_pipeline.specs.declared.setting.Setting.{Setting}

@@ -15,11 +15,11 @@ use Rattle.dp_machine.specs.declared.Kept.TheVariants.{Cells, Versioned, Nothing
 use Rattle.dp_machine.specs.declared.stage.StageMachine.{StageMachine}
 use Rattle.dp_machine.specs.Standing.{StandsAt, StandsNext}
 use Rattle.dp_machine.specs.Machine.{Stands, Passes}
-use Rattle.dp_commit.specs.declared.trying.TryCommit.{TryCommit}
-use Rattle.dp_commit.specs.declared.verdict.Verdict.{Verdict}
-use Rattle.dp_commit.specs.declared.verdict.Verdict.TheVariants as verdict
-use Rattle.dp_commit.specs.Standing.{Judges, JudgesNext, Gives}
-use Rattle.dp_commit.specs.Told.{decided}
+use Rattle.dp_judge.specs.declared.trying.TryCommit.{TryCommit}
+use Rattle.dp_judge.specs.declared.verdict.Verdict.{Verdict}
+use Rattle.dp_judge.specs.declared.verdict.Verdict.TheVariants as verdict
+use Rattle.dp_judge.specs.Standing.{Judges, JudgesNext, Gives}
+use Rattle.dp_judge.specs.Told.{decided}
 use Rattle.dp_pipeline.specs.declared.carried.Carried.{Carried}
 use Rattle.dp_pipeline.specs.declared.staged.Staged.{Staged}
 use Rattle.dp_pipeline.specs.Carried.{IsCarried, IsJudged, is_last_carried, is_last_judged, sent_packet}

@@ -4,7 +4,7 @@ ghost use Rattle.dp_pipeline.specs.Keys.{key_of};
 
 use crate::keys::LaneKey;
 use dp_base::Boxed;
-use dp_commit::Verdict;
+use dp_judge::Verdict;
 use dp_lane::LaneItem;
 use dp_packet::Packet;
 use dp_plan::Plan;

@@ -20,7 +20,7 @@ use crate::start::Start;
 use crate::target::Target;
 use crate::unit::{Kind, Unit};
 use dp_base::{Boxed, NoMemory, Row};
-use dp_commit::TryCommit;
+use dp_judge::TryCommit;
 use dp_lane::{TakeEnd, lane};
 use dp_relay::Relay;
 use dp_ring::Ring;

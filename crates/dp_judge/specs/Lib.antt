@@ -1,0 +1,6 @@
+pub mod Told
+pub mod FlatJudge
+pub mod Entries
+pub mod Judging
+pub mod Standing
+pub mod steps
