@@ -21,12 +21,12 @@ use Rattle.dp_base.proofs.cells.Cells.TheSendSync as cells
 use Rattle.dp_plan.proofs.Plan.TheSendSync as plan
 use Rattle.dp_code.proofs.Op.TheSendSync as op
 use Rattle.dp_machine.proofs.Kept.TheSendSync as kept
-use Rattle.dp_machine.proofs.Ready.TheSendSync as ready
-use Rattle.dp_machine.proofs.turning.Rows.TheSendSync as rows
+use Rattle.dp_turn.proofs.Ready.TheSendSync as ready
+use Rattle.dp_turn.proofs.turning.Rows.TheSendSync as rows
 use Rattle.dp_cause.proofs.kept.Kept.TheSendSync as views
 use Rattle.dp_judge.proofs.court.Entry.TheSendSync as entry
 use Rattle.dp_judge.proofs.court.Rows.TheSendSync as judging_rows
-use Rattle.dp_machine.specs.contracts.Frame as Frame
+use Rattle.dp_turn.specs.contracts.Frame as Frame
 use Rattle.dp_machine.specs.contracts.stage.StageMachine as StageMachine
 use Rattle.dp_judge.specs.contracts.trying.TryCommit as TryCommit
 use Rattle.dp_pipeline.specs.contracts.staged.Staged as Staged

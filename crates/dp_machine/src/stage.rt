@@ -4,18 +4,17 @@ ghost use Rattle.dp_plan.specs.Access.{first_site};
 ghost use Rattle.dp_semantics.specs.Fits.{fits_plan};
 ghost use Rattle.dp_code.specs.Code.{stage_code};
 ghost use Rattle.dp_plan.specs.CheckedTable.{IsTabled};
-ghost use Rattle.dp_machine.specs.Engine.{notes_of, known};
+ghost use Rattle.dp_turn.specs.Engine.{notes_of, known};
 ghost use Rattle.dp_packet.specs.Packet.{packet_of};
 
+use crate::Kept;
 use crate::going::{from_cells, from_packet, from_versioned, kept_at_base};
-use crate::making::make_ready;
-use crate::turning::Rows;
-use crate::{Frame, Kept, Ready};
 use dp_base::{Boxed, Cells, NoMemory};
 use dp_code::StageProgram;
 use dp_packet::{Packet, PacketStatus};
 use dp_plan::Plan;
 use dp_tree::Program;
+use dp_turn::{Frame, Ready, Rows, make_ready};
 use std::alloc::Global;
 use std::mem;
 
