@@ -19,7 +19,6 @@ use std::alloc::Global;
 use std::mem;
 
 /// A stage's machine. It runs the stage's code on one packet after the other.
-#[derive(Drop)]
 pub struct StageMachine<'p> {
     frame: Frame<'p>,
     ready: Ready<'p>,
@@ -34,6 +33,19 @@ pub struct StageMachine<'p> {
     ghost code: { frame.code.now ≡ stage_code frame.program.now frame.plan.now stage },
     ghost fits: { fits_plan frame.program.now frame.plan.now ≡ true },
     ghost numbered: { 0 < stage },
+}
+
+// By hand, so that a crate above doesn't prove again how all that a machine holds is dropped.
+impl<'p> Drop for StageMachine<'p> {
+    fn drop(self) {
+        let StageMachine {
+            frame: _,
+            ready: _,
+            stage: _,
+            kept: _,
+            rows: _,
+        } = self;
+    }
 }
 
 /// The first site of the plan's region.
