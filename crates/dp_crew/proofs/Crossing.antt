@@ -24,8 +24,8 @@ use Rattle.dp_machine.proofs.Kept.TheSendSync as kept
 use Rattle.dp_turn.proofs.Ready.TheSendSync as ready
 use Rattle.dp_turn.proofs.turning.Rows.TheSendSync as rows
 use Rattle.dp_cause.proofs.kept.Kept.TheSendSync as views
-use Rattle.dp_judge.proofs.court.Entry.TheSendSync as entry
-use Rattle.dp_judge.proofs.court.Rows.TheSendSync as judging_rows
+use Rattle.dp_finding.proofs.court.Entry.TheSendSync as entry
+use Rattle.dp_finding.proofs.court.Rows.TheSendSync as judging_rows
 use Rattle.dp_turn.specs.contracts.Frame as Frame
 use Rattle.dp_machine.specs.contracts.stage.StageMachine as StageMachine
 use Rattle.dp_judge.specs.contracts.trying.TryCommit as TryCommit

@@ -23,7 +23,7 @@ use Rattle.dp_cause.specs.Views.{shown_by, kept_by, clear_cells, local_cells}
 use Rattle.dp_cause.specs.Watching.{reported_if}
 use Rattle.dp_cause.specs.declared.kept.Kept.{Kept}
 use Rattle.dp_cause.proofs.ViewLemmas.{shown_store, shown_none, clear_local_cells}
-use Rattle.dp_judge.specs.FlatJudge.{WalkState}
+use Rattle.dp_finding.specs.FlatJudge.{WalkState}
 use Rattle.dp_judge.specs.declared.trying.TryCommit.{TryCommit}
 use Rattle.dp_judge.specs.declared.verdict.Verdict.{Verdict}
 use Rattle.dp_judge.specs.declared.verdict.Verdict.TheVariants.{Clean, Unclean}

@@ -17,7 +17,7 @@ use Rattle.dp_code.specs.declared.Op.TheVariants as op
 use Rattle.dp_code.specs.Code.{by_stage, test_code, branch, either, repetition, leaving, list_code, stage_code}
 unfoldable use Rattle.dp_code.specs.Code.{stmt_code, row_code}
 use Rattle.dp_code.proofs.Running.{From, later, op_here}
-use Rattle.dp_judge.specs.declared.court.Court.{Court}
+use Rattle.dp_finding.specs.declared.court.Court.{Court}
 use Rattle.dp_judge.specs.Judging.{HasStages, IsCourt}
 use Rattle.dp_judge.specs.steps.Moves.{Settles, is_jump}
 use Rattle.dp_judge.proofs.BreakPlaces.{consumes, branches}

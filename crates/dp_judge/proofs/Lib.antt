@@ -1,5 +1,3 @@
-pub mod Undoing
-pub mod FindLemmas
 pub mod WalkLemmas
 pub mod EntryLemmas
 pub mod Following

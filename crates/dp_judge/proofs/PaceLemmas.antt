@@ -1,62 +1,27 @@
 -- The judging's state, by its pace and what it works on.
-use Rattle.std.proofs.Common.{◌≡◌, refl, sym, ap, ◌∙◌, arith, ℕ, zero, suc, ◌+◌, ◌-◌, ◌<◌, ◌≤◌, Bool, true, false, ◌||◌, ◌&&◌, ◌==◌, ◌⊎◌, if◌then◌else◌, List, [], ◌∷◌, ◌++◌, length, ℤ, get_or, slice_set, drop, Some}
+use Rattle.std.proofs.Common.{◌≡◌, refl, sym, ap, ◌∙◌, ℕ, ◌+◌, ◌-◌, ◌<◌, ◌≤◌, Bool, true, false, ◌||◌, ◌&&◌, ◌==◌, ◌⊎◌, if◌then◌else◌, List, [], ◌∷◌, ◌++◌, ℤ, slice_set, drop, Some}
 use Rattle.dp_base.specs.Arithmetic.{is_zero}
 use Rattle.dp_base.specs.declared.SiteId.{SiteId}
 use Rattle.dp_base.specs.declared.StoreOf.{StoreOf}
 use Rattle.dp_base.specs.declared.Word.{Word}
-use Rattle.dp_tree.specs.declared.Program.{Program}
 use Rattle.dp_tree.specs.Step.{Decided, Tried}
-use Rattle.dp_plan.specs.declared.Plan.{Plan}
 use Rattle.dp_plan.specs.Access.{stage_of, first_site}
 use Rattle.dp_semantics.specs.Clean.{as_assumed}
-use Rattle.dp_semantics.specs.Judge.{loads_hold}
-use Rattle.dp_semantics.specs.Words.{after_loads_of, is_done_of, word_list}
 use Rattle.dp_semantics.specs.StageRun.{closes_at}
 use Rattle.dp_code.specs.FlatRun.{by_zero, decided_by, printed_by, stored_by}
 use Rattle.dp_cause.specs.declared.replaced.Replaced.{Replaced}
 use Rattle.dp_cause.specs.Views.{stages_of}
-use Rattle.dp_judge.specs.declared.court.Court.{Court}
-use Rattle.dp_judge.specs.declared.court.Pace.{Pace}
-use Rattle.dp_judge.specs.declared.court.Walk.{Walk}
-use Rattle.dp_judge.specs.FlatJudge.{WalkState, On, Refused, tried_by, words_at}
-use Rattle.dp_judge.specs.steps.Held.{IsAt, rests, state_at}
-use Rattle.dp_judge.specs.Judging.{DoneAt, Finds, Lets, StandsBehind, walking_in}
-use Rattle.dp_judge.proofs.FindLemmas.{front_behind, front_holds, other_word}
-use Rattle.dp_judge.proofs.Undoing.{left_behind, left_there, stages_more}
+use Rattle.dp_finding.specs.declared.court.Court.{Court}
+use Rattle.dp_finding.specs.declared.court.Pace.{Pace}
+use Rattle.dp_finding.specs.declared.court.Walk.{Walk}
+use Rattle.dp_finding.specs.FlatJudge.{WalkState, On, Refused, tried_by}
+use Rattle.dp_finding.specs.Held.{IsAt, rests, state_at}
+use Rattle.dp_judge.specs.Judging.{Lets}
+use Rattle.dp_finding.specs.Finding.{Finds, walking_in}
+use Rattle.dp_finding.proofs.Undoing.{left_behind, stages_more}
 use Rattle.dp_judge.proofs.WalkLemmas.{passed, store_taken, store_astray, print_taken, chosen, not_let, left_early, stayed}
 
--- ---- words at a place
-
-word_there : (words : List Word) (at : ℕ) (d : Word) → at < length words → drop at words ≡ get_or words at d ∷ drop (at + 1) words
-word_there [] at d less = absurd (omega (arith, less))
-word_there (w ∷ words) zero d less = refl
-word_there (w ∷ words) (suc at) d less =
-    let next : suc at + 1 ≡ suc (at + 1) = omega arith in word_there words at d (omega (arith, less)) ∙ ap (λ (k : ℕ). get_or words at d ∷ drop k (w ∷ words)) (sym next)
-
-same_first : (words rest : List Word) (v w : Word) → words ≡ v ∷ rest → words ≡ w ∷ rest → v ≡ w
-same_first words rest v w e h = let same : v ∷ rest ≡ w ∷ rest = sym e ∙ h in cc same
-
-pub done_there : (site : ℕ) (words : List Word) (at : ℕ) (w : Word) → at < length words → drop at words ≡ w ∷ drop (at + 1) words → (r : Bool) → r ≡ is_done_of site w → DoneAt site words at r
-done_there site words at w less front true e = (less, λ v there. ap (is_done_of site) (same_first (drop at words) (drop (at + 1) words) v w there front) ∙ sym e)
-done_there site words at w less front false e = other_word site (drop at words) w (drop (at + 1) words) front (sym e)
-
--- the site's word stands at the front of what is left
-pub at_front : (site : ℕ) (cells : List ℤ) (words : List Word) (at : ℕ) (d : Word) → DoneAt site words at true → StandsBehind site cells (drop at words) words (Some at)
-at_front site cells words at d done =
-    let front = word_there words at d done.0 in
-    let is = done.1 (get_or words at d) front in (
-      ap (loads_hold site cells) front ∙ front_holds site (get_or words at d) (drop (at + 1) words) is cells,
-      ap (after_loads_of site) front ∙ front_behind site (get_or words at d) (drop (at + 1) words) is ∙ sym front,
-      done,
-    )
-
 -- ---- the pace
-
--- of its stage so many words are left
-pub here : (p : Program) (plan : Plan) (pace : Pace) (w : Walk) (site : SiteId) → IsAt pace w → pace.stage ≡ stage_of p plan site.0 → words_at p plan (state_at pace w) site ≡ drop pace.taken pace.words.now
-here p plan pace w site is stage_is =
-    ap (word_list (rests (slice_set w.taken (pace.stage - 1) pace.taken) w.lists.now)) (sym stage_is)
-    ∙ left_there w.taken w.lists.now pace.stage is.0 pace.taken is.2 ∙ ap (drop pace.taken) (sym is.1)
 
 -- behind a word at a place of the stage's words
 abbrev pub onward : Pace → ℕ → Bool → ℕ → Pace

@@ -1,5 +1,4 @@
 pub mod Told
-pub mod FlatJudge
 pub mod Entries
 pub mod Judging
 pub mod Standing

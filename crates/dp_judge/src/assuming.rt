@@ -4,12 +4,12 @@ ghost use Rattle.dp_plan.specs.Access.{first_site, stage_of};
 ghost use Rattle.dp_tree.specs.Event as effect;
 ghost use Rattle.dp_semantics.specs.Clean as clean;
 ghost use Rattle.dp_semantics.specs.StageRun.{closes_at};
-ghost use Rattle.dp_judge.specs.FlatJudge as walk;
+ghost use Rattle.dp_finding.specs.FlatJudge as walk;
 
-use crate::court::Court;
 use dp_base::SiteId;
 use dp_cause::{goes_as_assumed, stays_late};
 use dp_code::Op;
+use dp_finding::Court;
 
 /// An `if`'s or a loop's value goes as the plan assumes.
 #[inline]

@@ -1,13 +1,14 @@
-//! The judging of one iteration's words: where it begins, and the memory before it.
+//! The judging of one iteration's words, from where it begins.
 ghost use Rattle.std.specs.Prelude.{◌≡◌, IfOk, replicate, []};
 ghost use Rattle.dp_semantics.specs.Judge.{judge_lists};
-ghost use Rattle.dp_judge.specs.FlatJudge.{walk_begin};
-ghost use Rattle.dp_judge.specs.steps.Held.{IsAt, memory_before, state_of};
-ghost use Rattle.dp_judge.specs.declared.court.Answer.TheVariants as answer;
+ghost use Rattle.dp_finding.specs.FlatJudge.{walk_begin};
+ghost use Rattle.dp_finding.specs.Held.{IsAt, memory_before, state_of};
+ghost use Rattle.dp_finding.specs.declared.court.Answer.TheVariants as answer;
 ghost use Rattle.dp_judge.specs.Judging.{IsCourt, Judged, WantsIn};
 
-use crate::court::{Answer, Court, Pace, Rows, Walk};
+use crate::rounds::run;
 use dp_base::{Cells, NoMemory, Row};
+use dp_finding::{Answer, Court, Pace, Rows, Walk};
 use dp_packet::Lists;
 use std::alloc::Global;
 use std::mem;
@@ -78,21 +79,6 @@ pub fn judged<'c, 'p>(
     ensures before { IfOk result (λ r. memory_before r.0 ≡ cells) }
 {
     let mut walk = begin(alloc, rows, cells, lists)?;
-    let answer = walk.run(court);
+    let answer = run(&mut walk, court);
     Ok((walk, answer))
-}
-
-/// The memory before the stores of the iteration.
-pub fn before<'p>(walk: Walk<'p>) -> Cells
-    ensures { result ≡ memory_before walk.entry }
-{
-    let Walk {
-        mut cells,
-        mut replaced,
-        ..
-    } = walk;
-    while let Some(was) = replaced.pop() {
-        cells.set(was.cell, was.value);
-    }
-    cells
 }

@@ -4,14 +4,11 @@
 
 mod assuming;
 mod clean;
-mod court;
 mod entries;
 mod finding;
-mod holding;
 mod iteration;
 mod judging;
 mod rounds;
-mod taking;
 mod trying;
 mod verdict;
 mod walking;

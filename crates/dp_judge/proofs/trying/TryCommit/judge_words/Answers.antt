@@ -1,7 +1,7 @@
 use Rattle.std.proofs.Common.{refl, ◌∙◌, subst, Some, None}
 use Rattle.dp_semantics.specs.Judge.{Judgement, judge_lists}
-use Rattle.dp_judge.specs.declared.court.Answer.{Answer}
-use Rattle.dp_judge.specs.steps.Held.{state_of}
+use Rattle.dp_finding.specs.declared.court.Answer.{Answer}
+use Rattle.dp_finding.specs.Held.{state_of}
 use Rattle.dp_judge.specs.Judging.{Judged, Tells}
 use Rattle.dp_judge.specs.Standing.{IsSame}
 use Rattle.dp_judge.proofs.EpochLemmas.{agreed_gives, knows_same}
