@@ -11,9 +11,9 @@ ghost use Rattle.dp_cause.specs.Watching.{HasForm, Steps, IsGround};
 use crate::watched::{Form, Ground, Step, Watched};
 use dp_base::{Cause, Cells, NoMemory, SiteId, VarId};
 use dp_code::{StageProgram, assign_program, print_program, store_program, test_program};
-use dp_machine::{Frame, Turned, turn_over};
 use dp_packet::{Lists, VoidWhy};
 use dp_tree::Expr;
+use dp_turn::{Frame, Turned, turn_over};
 use std::mem;
 
 impl Watched {

@@ -81,10 +81,15 @@ pub record Holds (first : MachineState) (c : CommittedState) : Type 0 where
 abbrev pub ClosesOnce : MachineState → ℕ → Type 0
 ClosesOnce first r = (i k : ℕ) → start (region_run first) r i ≡ Some k → is_closing (region_run first) r i ≡ true → start (region_run first) r (i + 1) ≡ None
 
--- it is so where the iteration has ended
-abbrev pub WhereEnded : Type 0 → IterEnd → Type 0
-WhereEnded P Next = P
-WhereEnded P Closed = P
-WhereEnded P (Fault fault) = Unit {0}
-WhereEnded P Fuel = Unit {0}
-WhereEnded P Going = Unit {0}
+-- The region's run has ended within its last iteration: the memory is that at the trace's end, as after one iteration more, and no further one starts.
+pub record BrokeOff (first : MachineState) (c : CommittedState) : Type 0 where
+  pub memory : c.machine.config.cells ≡ memory_after (region_run first) c.region (c.count + 1)
+  pub last : start (region_run first) c.region (c.count + 1) ≡ None
+
+-- the first is so where the iteration has ended, and the second where the run has ended within it
+abbrev pub WhereEnded : Type 0 → Type 0 → IterEnd → Type 0
+WhereEnded P Q Next = P
+WhereEnded P Q Closed = P
+WhereEnded P Q (Fault fault) = Q
+WhereEnded P Q Fuel = Q
+WhereEnded P Q Going = Unit {0}

@@ -1,7 +1,1 @@
 pub mod CommittedState
-pub mod Told
-pub mod FlatJudge
-pub mod Entries
-pub mod Judging
-pub mod Standing
-pub mod steps

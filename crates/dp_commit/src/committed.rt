@@ -5,11 +5,11 @@ ghost use Rattle.dp_meaning.specs.MachineState.{MachineState, next_part, IsAnyRe
 ghost use Rattle.dp_meaning.specs.Moved.{Spoiled};
 ghost use Rattle.dp_meaning.specs.IterationRun.{IterationRun};
 ghost use Rattle.dp_meaning.specs.NextIteration.{end_of};
-ghost use Rattle.dp_commit.specs.CommittedState.{CarriesNext, ClosesOnce, CountsSteps, Holds, IsOpen, RecoversFor, WhereEnded, count_after};
+ghost use Rattle.dp_commit.specs.CommittedState.{BrokeOff, CarriesNext, ClosesOnce, CountsSteps, Holds, IsOpen, RecoversFor, WhereEnded, count_after};
 
-use crate::clean::Clean;
 use crate::tally::Tally;
 use dp_base::{Cells, NoMemory, Row};
+use dp_judge::Clean;
 use dp_meaning::{IterEnd, Machine, Part};
 use std::marker::Model;
 
@@ -123,7 +123,7 @@ impl<'p> Committed<'p> {
         ensures runs { MatchResult result (RecoversFor turns self.old self.new out.old out.new) (λ _. Spoiled turns self.old.machine self.new.machine out.old out.new) }
         ensures wanting { OnErr result (self.new ≡ record self.old { machine = self.new.machine }) }
         ensures spoiled { IsTrue self.old.machine.spoiled → IsErr result × (self.new ≡ self.old) × (out.new ≡ out.old) }
-        ensures holds { (first : MachineState) → ClosesOnce first self.old.region → IsOpen self.old → Holds first self.old → IfOk result (WhereEnded (Holds first self.new)) }
+        ensures holds { (first : MachineState) → ClosesOnce first self.old.region → IsOpen self.old → Holds first self.old → IfOk result (WhereEnded (Holds first self.new) (BrokeOff first self.new)) }
     {
         let end = self.machine.iterate(turns, out)?;
         let _made = self.machine.steps();

@@ -21,14 +21,14 @@ use Rattle.dp_base.proofs.cells.Cells.TheSendSync as cells
 use Rattle.dp_plan.proofs.Plan.TheSendSync as plan
 use Rattle.dp_code.proofs.Op.TheSendSync as op
 use Rattle.dp_machine.proofs.Kept.TheSendSync as kept
-use Rattle.dp_machine.proofs.Ready.TheSendSync as ready
-use Rattle.dp_machine.proofs.turning.Rows.TheSendSync as rows
+use Rattle.dp_turn.proofs.Ready.TheSendSync as ready
+use Rattle.dp_turn.proofs.turning.Rows.TheSendSync as rows
 use Rattle.dp_cause.proofs.kept.Kept.TheSendSync as views
-use Rattle.dp_commit.proofs.court.Entry.TheSendSync as entry
-use Rattle.dp_commit.proofs.court.Rows.TheSendSync as judging_rows
-use Rattle.dp_machine.specs.contracts.Frame as Frame
+use Rattle.dp_finding.proofs.court.Entry.TheSendSync as entry
+use Rattle.dp_finding.proofs.court.Rows.TheSendSync as judging_rows
+use Rattle.dp_turn.specs.contracts.Frame as Frame
 use Rattle.dp_machine.specs.contracts.stage.StageMachine as StageMachine
-use Rattle.dp_commit.specs.contracts.trying.TryCommit as TryCommit
+use Rattle.dp_judge.specs.contracts.trying.TryCommit as TryCommit
 use Rattle.dp_pipeline.specs.contracts.staged.Staged as Staged
 use Rattle.dp_pipeline.specs.contracts.judge.Judge as Judge
 use Rattle.dp_pipeline.specs.contracts.unit.Kind as Kind
@@ -39,7 +39,7 @@ use Rattle.dp_pipeline.proofs.carried.Carried.TheSendSync as carried
 use Rattle.dp_pipeline.proofs.judged.Judged.TheSendSync as judged
 use Rattle.dp_pipeline.proofs.passage.Passage.TheSendSync as passage
 use Rattle.dp_pipeline.proofs.judging.Judging.TheSendSync as judging
-use Rattle.dp_pipeline.proofs.relay.Relay.TheSendSync as relay
+use Rattle.dp_relay.proofs.relay.Relay.TheSendSync as relay
 use Rattle.dp_pipeline.proofs.tickets.Tickets.TheSendSync as tickets
 
 ruleset plain = (bin.the_field_sync, bin.the_sync, bin.the_field_send, bin.the_send, un.the_field_sync, un.the_sync, un.the_field_send, un.the_send, site.the_field_sync, site.the_sync, site.the_field_send, site.the_send, var.the_field_sync, var.the_sync, var.the_field_send, var.the_send, region_info.the_field_sync, region_info.the_sync, region_info.the_field_send, region_info.the_send, site_info.the_field_sync, site_info.the_sync, site_info.the_field_send, site_info.the_send, site_kind.the_field_sync, site_kind.the_sync, site_kind.the_field_send, site_kind.the_send, var_info.the_field_sync, var_info.the_sync, var_info.the_field_send, var_info.the_send, var_scope.the_field_sync, var_scope.the_sync, var_scope.the_field_send, var_scope.the_send, heap.the_field_sync, heap.the_sync, heap.the_field_send, heap.the_send, crossing.crosses, expr.crosses, stmt.crosses, sendable)

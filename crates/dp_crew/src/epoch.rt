@@ -9,6 +9,7 @@ use crate::waiting::flush_if_many;
 use dp_commit::Tally;
 use dp_edge::{Sink, WriteFail};
 use dp_epoch::{EpochEnd, Ledger, Taken, Verdicts, take};
+use dp_judge::Verdict;
 use std::alloc::Global;
 use std::sync::Wait;
 use std::time::Clock;

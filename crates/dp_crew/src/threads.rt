@@ -3,8 +3,10 @@ ghost use Rattle.std.specs.Prelude.{◌≡◌, true};
 
 use dp_base::{NoMemory, Row};
 use dp_edge::Gate;
-use dp_pipeline::{Bell, Pause, Polled, Unit, bells_of, ring_all};
+use dp_pipeline::{Unit, bells_of};
+use dp_relay::Polled;
 use dp_stop::{Stop, StopSetter};
+use dp_waiting::{Bell, Pause, ring_all};
 use std::alloc::Global;
 use std::sync::{Mutex, Wait};
 use std::thread::{JoinHandle, Scope, Threads};

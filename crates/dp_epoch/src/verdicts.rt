@@ -3,9 +3,9 @@ ghost use Rattle.std.specs.Prelude.{◌≡◌, ◌+◌, ◌<◌, ℕ, true};
 ghost use Rattle.dp_semantics.specs.EpochKey.{EpochKey};
 ghost use Rattle.dp_semantics.specs.EpochVerdicts.{goes_on, verdict_at};
 ghost use Rattle.dp_semantics.specs.Items.{OrWanting};
-ghost use Rattle.dp_commit.specs.Told.{decided};
+ghost use Rattle.dp_judge.specs.Told.{decided};
 
-use dp_commit::Verdict;
+use dp_judge::Verdict;
 use dp_pipeline::LaneVerdicts;
 use std::sync::Wait;
 use std::time::Clock;

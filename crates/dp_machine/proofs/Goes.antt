@@ -12,7 +12,7 @@ use Rattle.dp_packet.specs.declared.PacketStatus.{PacketStatus}
 use Rattle.dp_packet.specs.declared.VoidWhy.{VoidWhy}
 use Rattle.dp_packet.specs.declared.PacketStatus.TheVariants as state
 use Rattle.dp_packet.specs.Packet.{packet_of, status_of, IsUnless}
-use Rattle.dp_machine.specs.declared.Frame.{Frame}
+use Rattle.dp_turn.specs.declared.Frame.{Frame}
 use Rattle.dp_machine.specs.declared.Kept.{Kept}
 use Rattle.dp_machine.specs.declared.Kept.TheVariants.{Cells, Versioned, Nothing}
 use Rattle.dp_machine.specs.Sending.{IsSent, CellsAre, onward, key_of}

@@ -1,20 +1,11 @@
 -- What a stage sends after a turn, and the memory that it has then.
-use Rattle.std.specs.Prelude.{◌≡◌, List, ℤ, Option, Some, None, Ok, Err}
-use Rattle.dp_semantics.specs.StageRun.{TurnEnd}
+use Rattle.std.specs.Prelude.{◌≡◌, List, ℤ, Option, Some, None}
 use Rattle.dp_semantics.specs.Packets as packets
 use Rattle.dp_packet.specs.declared.Packet.{Packet}
 use Rattle.dp_packet.specs.declared.PacketStatus.{PacketStatus}
 use Rattle.dp_packet.specs.declared.PacketStatus.TheVariants.{Going, Closing, Void, NoMemory}
-use Rattle.dp_packet.specs.Packet.{why_of, packet_of, IsUnless}
-use Rattle.dp_machine.specs.declared.Frame.{Frame}
-use Rattle.dp_machine.specs.declared.Turned.{Turned}
-use Rattle.dp_machine.specs.declared.Turned.TheVariants as turned
-
--- a turn's end, unless memory was wanting
-abbrev pub AsTurned : {M : Type 0} → (M → List ℤ) → TurnEnd → Turned M → Type 0
-AsTurned cells end (turned.Done own memory closing) = end ≡ Ok (record { own = own; cells = cells memory; closing = closing })
-AsTurned cells end (turned.Void why) = end ≡ Err (why_of why)
-AsTurned cells end turned.NoMemory = Unit {0}
+use Rattle.dp_packet.specs.Packet.{packet_of, IsUnless}
+use Rattle.dp_turn.specs.declared.Frame.{Frame}
 
 -- the epoch of a machine, from a base
 abbrev pub key_of : Frame → List ℤ → packets.Epoch

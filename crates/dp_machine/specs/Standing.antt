@@ -7,7 +7,7 @@ use Rattle.dp_packet.specs.declared.Packet.{Packet}
 use Rattle.dp_packet.specs.declared.PacketStatus.{PacketStatus}
 use Rattle.dp_packet.specs.declared.PacketStatus.TheVariants.{Going, Closing, Void, NoMemory}
 use Rattle.dp_packet.specs.Packet.{packet_of, IsUnless}
-use Rattle.dp_machine.specs.declared.Frame.{Frame}
+use Rattle.dp_turn.specs.declared.Frame.{Frame}
 use Rattle.dp_machine.specs.declared.Kept.{Kept}
 use Rattle.dp_machine.specs.declared.Kept.TheVariants.{Cells, Versioned, Nothing}
 

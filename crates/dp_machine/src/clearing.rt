@@ -4,11 +4,13 @@ ghost use Rattle.dp_tree.specs.Step.{clear_locals, is_local_of};
 ghost use Rattle.dp_semantics.specs.Packets as packets;
 ghost use Rattle.dp_machine.specs.Sending.{IsSent, key_of, onward};
 
+use crate::Sent;
 use crate::sending::with_status;
-use crate::{Frame, Memory, Sent};
 use dp_base::NoMemory;
+use dp_engine::Memory;
 use dp_packet::PacketStatus;
 use dp_tree::VarInfo;
+use dp_turn::Frame;
 
 fn clear_one<M: Memory + Drop>(region: u32, info: &VarInfo, memory: &mut M) -> Result<(), NoMemory>
     ensures { OnOk result (M.cells memory.new ≡ (if is_local_of region info.now.scope then slice_set (M.cells memory.old) info.now.first.0 (pos 0) else M.cells memory.old)) }

@@ -7,17 +7,18 @@ ghost use Rattle.dp_code.specs.Code.{stage_code};
 ghost use Rattle.dp_packet.specs.declared.PacketStatus.TheVariants as state;
 ghost use Rattle.dp_machine.specs.declared.Kept.TheVariants as kept;
 ghost use Rattle.dp_packet.specs.Packet.{packet_of};
-ghost use Rattle.dp_machine.specs.Engine.{IsReady};
+ghost use Rattle.dp_turn.specs.Engine.{IsReady};
 ghost use Rattle.dp_machine.specs.Standing.{StandsAt, Comes, Sends, Keeps, cells_kept, versioned_kept};
 
+use crate::Kept;
 use crate::clearing::cleared;
 use crate::sending::{send, with_status};
-use crate::turning::Rows;
-use crate::{Frame, Kept, Ready, Versioned};
 use dp_base::{Boxed, Cells, NoMemory};
+use dp_engine::Versioned;
 use dp_memory::{Version, VersionRoom};
 use dp_packet::{Packet, PacketStatus};
 use dp_plan::{Plan, StageKind};
+use dp_turn::{Frame, Ready, Rows};
 use std::alloc::Global;
 
 /// Whether a stage is replicated; stages count from 1.

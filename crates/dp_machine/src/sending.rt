@@ -6,14 +6,15 @@ ghost use Rattle.dp_semantics.specs.Packets as packets;
 ghost use Rattle.dp_code.specs.Correct.{IsStageCode};
 ghost use Rattle.dp_packet.specs.Packet.{packet_of, status_of, IsUnless};
 ghost use Rattle.dp_packet.specs.declared.PacketStatus.TheVariants as state;
-ghost use Rattle.dp_machine.specs.Engine.{IsReady};
-ghost use Rattle.dp_machine.specs.Sending.{AsTurned, IsSent, key_of};
+ghost use Rattle.dp_machine.specs.Sending.{IsSent, key_of};
+ghost use Rattle.dp_turn.specs.Engine.{AsTurned, IsReady};
 
-use crate::turning::{Rows, stage_turn};
-use crate::{Frame, Memory, Ready, Sent, Turned};
+use crate::Sent;
 use dp_base::{Boxed, Word};
+use dp_engine::Memory;
 use dp_memory::Version;
 use dp_packet::{Packet, PacketStatus};
+use dp_turn::{Frame, Ready, Rows, Turned, stage_turn};
 
 /// The status of a packet that goes on after a turn.
 fn status_after(status: PacketStatus, closing: bool) -> PacketStatus

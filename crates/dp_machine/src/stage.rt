@@ -4,23 +4,21 @@ ghost use Rattle.dp_plan.specs.Access.{first_site};
 ghost use Rattle.dp_semantics.specs.Fits.{fits_plan};
 ghost use Rattle.dp_code.specs.Code.{stage_code};
 ghost use Rattle.dp_plan.specs.CheckedTable.{IsTabled};
-ghost use Rattle.dp_machine.specs.Engine.{notes_of, known};
+ghost use Rattle.dp_turn.specs.Engine.{notes_of, known};
 ghost use Rattle.dp_packet.specs.Packet.{packet_of};
 
+use crate::Kept;
 use crate::going::{from_cells, from_packet, from_versioned, kept_at_base};
-use crate::making::make_ready;
-use crate::turning::Rows;
-use crate::{Frame, Kept, Ready};
 use dp_base::{Boxed, Cells, NoMemory};
 use dp_code::StageProgram;
 use dp_packet::{Packet, PacketStatus};
 use dp_plan::Plan;
 use dp_tree::Program;
+use dp_turn::{Frame, Ready, Rows, make_ready};
 use std::alloc::Global;
 use std::mem;
 
 /// A stage's machine. It runs the stage's code on one packet after the other.
-#[derive(Drop)]
 pub struct StageMachine<'p> {
     frame: Frame<'p>,
     ready: Ready<'p>,
@@ -35,6 +33,19 @@ pub struct StageMachine<'p> {
     ghost code: { frame.code.now ≡ stage_code frame.program.now frame.plan.now stage },
     ghost fits: { fits_plan frame.program.now frame.plan.now ≡ true },
     ghost numbered: { 0 < stage },
+}
+
+// By hand, so that a crate above doesn't prove again how all that a machine holds is dropped.
+impl<'p> Drop for StageMachine<'p> {
+    fn drop(self) {
+        let StageMachine {
+            frame: _,
+            ready: _,
+            stage: _,
+            kept: _,
+            rows: _,
+        } = self;
+    }
 }
 
 /// The first site of the plan's region.

@@ -11,8 +11,8 @@ use Rattle.dp_ring.specs.declared.view.Phase.TheVariants.{Putting, Resting, Coll
 use Rattle.dp_ring.specs.Calls.{at_start}
 use Rattle.dp_machine.specs.declared.stage.StageMachine.{StageMachine}
 use Rattle.dp_machine.specs.Machine.{Stands}
-use Rattle.dp_commit.specs.declared.trying.TryCommit.{TryCommit}
-use Rattle.dp_commit.specs.Standing.{Judges}
+use Rattle.dp_judge.specs.declared.trying.TryCommit.{TryCommit}
+use Rattle.dp_judge.specs.Standing.{Judges}
 use Rattle.dp_pipeline.specs.declared.keys.EpochKey.{EpochKey as Held}
 use Rattle.dp_pipeline.specs.declared.keys.LaneKey.{LaneKey}
 use Rattle.dp_pipeline.specs.declared.setting.Setting.{Setting}
@@ -30,7 +30,7 @@ use Rattle.dp_pipeline.specs.Staging.{RunsAt, JudgesAt}
 use Rattle.dp_pipeline.specs.Seats.{CollectsFrom, PutsTo, IsUnused, MayTake, HasTaken, seat_facts, taking_facts, giving_facts}
 use Rattle.dp_lane.specs.Views.{sent_by}
 use Rattle.dp_pipeline.specs.Standing.{Gives, Gets, SendsTo, IsReady, IsHolding, MayJudge, HasJudged, source_facts, target_facts, target_ended, sent_facts, ended_by}
-use Rattle.dp_pipeline.specs.Works.{HasSentAll}
+use Rattle.dp_relay.specs.Works.{HasSentAll}
 
 -- a machine of the setting stands where the key's epoch begins
 pub stands_in : (m : StageMachine) (x : Setting) (key : Held) → IsKeyIn x key

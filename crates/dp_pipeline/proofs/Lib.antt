@@ -5,7 +5,6 @@ pub mod Seated
 pub mod Staging
 pub mod Supplied
 pub mod Ticketed
-pub mod Turned
 pub mod VerdictsCome
 pub mod ProgramLists
 pub mod UnitCounts

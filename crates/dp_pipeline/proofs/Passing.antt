@@ -7,7 +7,7 @@ use Rattle.dp_pipeline.specs.declared.carried.Carried.{Carried}
 use Rattle.dp_pipeline.specs.declared.source.Source.{Source}
 use Rattle.dp_pipeline.specs.declared.target.Target.{Target}
 use Rattle.dp_pipeline.specs.Carried.{IsCarried, is_last_carried}
-use Rattle.dp_pipeline.specs.Places.{At, behind}
+use Rattle.dp_relay.specs.Places.{At, behind}
 use Rattle.dp_pipeline.specs.Standing.{Gives, Gets, target_ended, IsReady, IsHolding, MayJudge, HasJudged}
 
 module _ (from next : Source) (to : Target) where

@@ -8,7 +8,7 @@ use Rattle.dp_ring.specs.Calls.{served, IsBusy}
 use Rattle.dp_pipeline.specs.declared.keys.LaneKey.{LaneKey}
 use Rattle.dp_pipeline.specs.declared.carried.Carried.{Carried}
 use Rattle.dp_pipeline.specs.Carried.{IsCarried, is_last_carried}
-use Rattle.dp_pipeline.specs.Facts.{SawWord}
+use Rattle.dp_relay.specs.Facts.{SawWord}
 use Rattle.dp_pipeline.specs.Keys.{key_of}
 use Rattle.dp_pipeline.specs.Seats.{SitsAt, CollectsFrom, PutsTo, seat_facts, taking_facts, giving_facts}
 

@@ -9,22 +9,22 @@ use Rattle.dp_packet.specs.declared.Packet.{Packet}
 use Rattle.dp_packet.specs.declared.PacketStatus.{PacketStatus}
 use Rattle.dp_packet.specs.declared.PacketStatus.TheVariants.{Going, Closing, Void, NoMemory}
 use Rattle.dp_packet.specs.Packet.{packet_of, status_of, IsUnless}
-use Rattle.dp_machine.specs.declared.Frame.{Frame}
+use Rattle.dp_turn.specs.declared.Frame.{Frame}
 use Rattle.dp_machine.specs.declared.Kept.{Kept}
 use Rattle.dp_machine.specs.declared.Kept.TheVariants.{Cells, Versioned, Nothing}
 use Rattle.dp_machine.specs.declared.stage.StageMachine.{StageMachine}
 use Rattle.dp_machine.specs.Standing.{StandsAt, StandsNext}
 use Rattle.dp_machine.specs.Machine.{Stands, Passes}
-use Rattle.dp_commit.specs.declared.trying.TryCommit.{TryCommit}
-use Rattle.dp_commit.specs.declared.verdict.Verdict.{Verdict}
-use Rattle.dp_commit.specs.declared.verdict.Verdict.TheVariants as verdict
-use Rattle.dp_commit.specs.Standing.{Judges, JudgesNext, Gives}
-use Rattle.dp_commit.specs.Told.{decided}
+use Rattle.dp_judge.specs.declared.trying.TryCommit.{TryCommit}
+use Rattle.dp_judge.specs.declared.verdict.Verdict.{Verdict}
+use Rattle.dp_judge.specs.declared.verdict.Verdict.TheVariants as verdict
+use Rattle.dp_judge.specs.Standing.{Judges, JudgesNext, Gives}
+use Rattle.dp_judge.specs.Told.{decided}
 use Rattle.dp_pipeline.specs.declared.carried.Carried.{Carried}
 use Rattle.dp_pipeline.specs.declared.staged.Staged.{Staged}
 use Rattle.dp_pipeline.specs.Carried.{IsCarried, IsJudged, is_last_carried, is_last_judged, sent_packet}
 use Rattle.dp_pipeline.specs.steps.Ending.{ends_with}
-use Rattle.dp_pipeline.specs.Places.{At, behind}
+use Rattle.dp_relay.specs.Places.{At, behind}
 use Rattle.dp_pipeline.specs.Staging.{StandsFor, RunsAt, JudgesAt}
 
 pub twice_not : (b : Bool) → b ≡ not (not b)

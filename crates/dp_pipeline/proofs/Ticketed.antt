@@ -11,7 +11,7 @@ use Rattle.dp_pipeline.specs.declared.carried.Carried.{Carried}
 use Rattle.dp_pipeline.specs.declared.tickets.Tickets.{Tickets}
 use Rattle.dp_pipeline.specs.Carried.{IsCarried, is_last_carried}
 use Rattle.dp_pipeline.specs.Keys.{key_of}
-use Rattle.dp_pipeline.specs.Places.{At, behind}
+use Rattle.dp_relay.specs.Places.{At, behind}
 use Rattle.dp_pipeline.specs.Seats.{IsFreeBy, MayTake, HasTaken}
 use Rattle.dp_pipeline.proofs.Seated.{known, known_back, sits_on, to_epoch, to_ring, within_fuel}
 

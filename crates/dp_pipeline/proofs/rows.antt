@@ -1,1 +1,1 @@
-pub mod Polls
+pub mod Numbers

@@ -7,7 +7,7 @@ use Rattle.dp_packet.specs.declared.Packet.{Packet}
 use Rattle.dp_packet.specs.declared.PacketStatus.{PacketStatus}
 use Rattle.dp_packet.specs.declared.PacketStatus.TheVariants.{Going, Closing, Void, NoMemory}
 use Rattle.dp_packet.specs.Packet.{packet_of}
-use Rattle.dp_commit.specs.Told.{decided}
+use Rattle.dp_judge.specs.Told.{decided}
 use Rattle.dp_pipeline.specs.declared.carried.Carried.{Carried}
 use Rattle.dp_pipeline.specs.declared.judged.Judged.{Judged}
 

@@ -3,8 +3,8 @@ use Rattle.std.specs.Prelude.{◌≡◌, ℕ, ◌+◌, false, []}
 use Rattle.dp_semantics.specs.EpochKey.{EpochKey}
 use Rattle.dp_semantics.specs.EpochVerdicts.{verdict_at}
 use Rattle.dp_semantics.specs.Items.{OrWanting}
-use Rattle.dp_commit.specs.declared.verdict.Verdict.{Verdict}
-use Rattle.dp_commit.specs.Told.{decided}
+use Rattle.dp_judge.specs.declared.verdict.Verdict.{Verdict}
+use Rattle.dp_judge.specs.Told.{decided}
 use Rattle.dp_lane.specs.declared.rule.View.{View}
 use Rattle.dp_lane.specs.declared.rule.View.TheVariants.{Taker}
 use Rattle.dp_pipeline.specs.declared.keys.LaneKey.{LaneKey}

@@ -1,8 +1,3 @@
-pub mod Places
-pub mod Facts
-pub mod Works
-pub mod Offers
-pub mod Polls
 pub mod Keys
 pub mod Carried
 pub mod Seats

@@ -7,7 +7,7 @@ use Rattle.dp_ring.specs.declared.view.Phase.TheVariants.{Resting, Taking, Givin
 use Rattle.dp_ring.specs.Calls.{at_start}
 use Rattle.dp_pipeline.specs.declared.keys.LaneKey.{LaneKey}
 use Rattle.dp_pipeline.specs.declared.tickets.Tickets.{Tickets}
-use Rattle.dp_pipeline.specs.Facts.{Facts}
+use Rattle.dp_relay.specs.Facts.{Facts}
 use Rattle.dp_pipeline.specs.Keys.{key_of}
 
 -- the seat is at a ring around stage s of the epoch

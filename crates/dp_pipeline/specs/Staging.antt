@@ -5,8 +5,8 @@ use Rattle.dp_semantics.specs.Packets.{Epoch}
 use Rattle.dp_semantics.specs.EpochKey.{EpochKey, epoch_of}
 use Rattle.dp_machine.specs.declared.stage.StageMachine.{StageMachine}
 use Rattle.dp_machine.specs.Machine.{Stands}
-use Rattle.dp_commit.specs.declared.trying.TryCommit.{TryCommit}
-use Rattle.dp_commit.specs.Standing.{Judges}
+use Rattle.dp_judge.specs.declared.trying.TryCommit.{TryCommit}
+use Rattle.dp_judge.specs.Standing.{Judges}
 use Rattle.dp_pipeline.specs.declared.staged.Staged.{Staged}
 use Rattle.dp_pipeline.specs.declared.judge.Judge.{Judge}
 

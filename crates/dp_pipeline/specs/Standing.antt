@@ -13,7 +13,7 @@ use Rattle.dp_pipeline.specs.declared.target.Target.{Target}
 use Rattle.dp_pipeline.specs.declared.target.Target.TheVariants as target
 use Rattle.dp_pipeline.specs.declared.passage.Passage.{Passage}
 use Rattle.dp_pipeline.specs.declared.judging.Judging.{Judging}
-use Rattle.dp_pipeline.specs.Facts.{Facts}
+use Rattle.dp_relay.specs.Facts.{Facts}
 use Rattle.dp_pipeline.specs.Keys.{key_of}
 use Rattle.dp_pipeline.specs.Seats.{CollectsFrom, PutsTo, seat_facts}
 

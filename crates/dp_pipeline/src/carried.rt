@@ -3,12 +3,12 @@ ghost use Rattle.std.specs.Prelude.{◌-◌};
 ghost use Rattle.dp_pipeline.specs.Carried.{IsCarried, is_last_carried};
 ghost use Rattle.dp_pipeline.specs.Keys.{key_of};
 
-use crate::item::Item;
 use crate::keys::LaneKey;
 use dp_base::Boxed;
 use dp_lane::LaneItem;
 use dp_packet::Packet;
 use dp_plan::Plan;
+use dp_relay::Item;
 use dp_ring::RingItem;
 
 /// A packet of an epoch.

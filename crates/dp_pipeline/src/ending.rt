@@ -1,10 +1,10 @@
 //! Which packets and verdicts are the last of their epoch.
 ghost use Rattle.std.specs.Prelude.{◌≡◌, not};
 ghost use Rattle.dp_semantics.specs.Items.{verdict_goes_on};
-ghost use Rattle.dp_commit.specs.Told.{decided};
+ghost use Rattle.dp_judge.specs.Told.{decided};
 ghost use Rattle.dp_pipeline.specs.steps.Ending.{ends_with};
 
-use dp_commit::Verdict;
+use dp_judge::Verdict;
 use dp_packet::{Packet, PacketStatus};
 
 /// No packet follows this one.

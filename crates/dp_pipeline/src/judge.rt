@@ -2,10 +2,10 @@
 use crate::carried::Carried;
 use crate::ending::is_last_verdict;
 use crate::judged::Judged;
-use crate::stage::{Made, Stage};
-use dp_commit::{TryCommit, Verdict};
 use dp_edge::Gate;
+use dp_judge::{TryCommit, Verdict};
 use dp_packet::{Packet, PacketStatus};
+use dp_relay::{Made, Stage};
 
 /// What judges the packets of the last stage.
 #[derive(Drop)]
@@ -19,7 +19,7 @@ impl<'p> Judge<'p> {
     ghost use Rattle.dp_semantics.specs.Items.{OrWanting};
     ghost use Rattle.dp_semantics.specs.Packets.{passed};
     ghost use Rattle.dp_packet.specs.declared.PacketStatus.TheVariants.{NoMemory};
-    ghost use Rattle.dp_commit.specs.Standing.{Judges, Gives, EndsUnlessClean};
+    ghost use Rattle.dp_judge.specs.Standing.{Judges, Gives, EndsUnlessClean};
     ghost use Rattle.dp_pipeline.specs.Carried.{sent_packet};
 
     /// The verdict by a packet, if memory wasn't wanting for it.

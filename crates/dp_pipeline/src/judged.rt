@@ -2,13 +2,13 @@
 ghost use Rattle.dp_pipeline.specs.Carried.{IsJudged, is_last_judged};
 ghost use Rattle.dp_pipeline.specs.Keys.{key_of};
 
-use crate::item::Item;
 use crate::keys::LaneKey;
 use dp_base::Boxed;
-use dp_commit::Verdict;
+use dp_judge::Verdict;
 use dp_lane::LaneItem;
 use dp_packet::Packet;
 use dp_plan::Plan;
+use dp_relay::Item;
 
 /// The verdict on an iteration.
 #[derive(Drop)]

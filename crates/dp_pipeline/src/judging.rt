@@ -1,11 +1,10 @@
 //! The ends of the try-commit unit.
 
 use crate::carried::Carried;
-use crate::ends::{Ends, Refused};
 use crate::judged::Judged;
-use crate::polled::IdleWhy;
 use crate::source::Source;
 use dp_lane::SendEnd;
+use dp_relay::{Ends, IdleWhy, Refused};
 use std::sync::Wait;
 
 /// Packets come from a source, and verdicts go to the commit unit.

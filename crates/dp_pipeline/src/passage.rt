@@ -1,10 +1,9 @@
 //! The ends of a stage that takes its packets in order.
 
 use crate::carried::Carried;
-use crate::ends::{Ends, Refused};
-use crate::polled::IdleWhy;
 use crate::source::Source;
 use crate::target::Target;
+use dp_relay::{Ends, IdleWhy, Refused};
 use std::sync::Wait;
 
 /// Packets come from a source, and go on in order.

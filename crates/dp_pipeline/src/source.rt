@@ -2,9 +2,9 @@
 ghost use Rattle.std.specs.Prelude.{◌+◌, ℕ, IfOk, OnErr};
 
 use crate::carried::Carried;
-use crate::polled::IdleWhy;
 use crate::start::Start;
 use dp_lane::TakeEnd;
+use dp_relay::IdleWhy;
 use dp_ring::{Busy, ConsumerSeat};
 use std::sync::Wait;
 
@@ -21,7 +21,7 @@ pub enum Source<'p> {
 impl<'p> Source<'p> {
     ghost use Rattle.dp_semantics.specs.EpochKey.{EpochKey};
     ghost use Rattle.dp_pipeline.specs.Carried.{IsCarried};
-    ghost use Rattle.dp_pipeline.specs.Facts.{Takes};
+    ghost use Rattle.dp_relay.specs.Facts.{Takes};
     ghost use Rattle.dp_pipeline.specs.Standing.{Gives, source_facts};
 
     /// Takes the next packet.

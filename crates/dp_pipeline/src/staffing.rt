@@ -12,7 +12,6 @@ ghost use Rattle.dp_pipeline.specs.Standing.{Gives, Gets, source_facts, target_f
 use crate::carried::Carried;
 use crate::keys::LaneKey;
 use crate::passage::Passage;
-use crate::relay::Relay;
 use crate::setting::Setting;
 use crate::source::Source;
 use crate::staged::Staged;
@@ -22,6 +21,7 @@ use crate::unit::{Kind, Unit};
 use dp_base::{Boxed, NoMemory, Row};
 use dp_machine::StageMachine;
 use dp_plan::{Plan, StageKind};
+use dp_relay::Relay;
 use dp_ring::WorkerSeat;
 use dp_stop::{Stop, StopSeat, StopSetter};
 use std::alloc::Global;

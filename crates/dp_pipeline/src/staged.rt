@@ -1,9 +1,9 @@
 //! A stage's machine as a unit's stage.
 use crate::carried::Carried;
 use crate::ending::is_last_packet;
-use crate::stage::{Made, Stage};
 use dp_edge::Gate;
 use dp_machine::StageMachine;
+use dp_relay::{Made, Stage};
 
 /// A stage's machine, and the fuel's number, behind which no packet follows.
 #[derive(Drop)]

@@ -2,9 +2,9 @@
 ghost use Rattle.std.specs.Prelude.{◌≡◌, ◌<◌, ◌≤◌, ◌-◌, ◌+◌, ◌^◌, ◌⊎◌, ℕ, None, IfOk, OnErr};
 
 use crate::carried::Carried;
-use crate::polled::IdleWhy;
 use crate::supply::Supply;
 use dp_plan::Plan;
+use dp_relay::IdleWhy;
 use std::sync::Wait;
 
 /// Gives each iteration of an epoch an empty packet, up to the one with the fuel's number.
@@ -23,7 +23,7 @@ impl<'p> Start<'p> {
     ghost use Rattle.dp_packet.specs.declared.PacketStatus.TheVariants as state;
     ghost use Rattle.dp_semantics.specs.EpochKey.{EpochKey};
     ghost use Rattle.dp_pipeline.specs.Carried.{IsCarried};
-    ghost use Rattle.dp_pipeline.specs.Facts.{Takes};
+    ghost use Rattle.dp_relay.specs.Facts.{Takes};
     ghost use Rattle.dp_pipeline.specs.Standing.{Starts, source_facts};
     ghost use Rattle.dp_pipeline.specs.declared.source.Source.TheVariants as source;
 

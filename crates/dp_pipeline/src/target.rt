@@ -2,9 +2,8 @@
 ghost use Rattle.std.specs.Prelude.{◌≡◌, ◌+◌, ℕ, IfErr, OnOk, OnErr};
 
 use crate::carried::Carried;
-use crate::ends::Refused;
-use crate::polled::IdleWhy;
 use dp_lane::SendEnd;
+use dp_relay::{IdleWhy, Refused};
 use dp_ring::{ProducerSeat, PutBusy};
 use std::sync::Wait;
 
@@ -19,7 +18,7 @@ pub enum Target<'p> {
 impl<'p> Target<'p> {
     ghost use Rattle.dp_semantics.specs.EpochKey.{EpochKey};
     ghost use Rattle.dp_pipeline.specs.Carried.{IsCarried, is_last_carried};
-    ghost use Rattle.dp_pipeline.specs.Facts.{Sends};
+    ghost use Rattle.dp_relay.specs.Facts.{Sends};
     ghost use Rattle.dp_pipeline.specs.Standing.{Gets, target_facts, target_ended};
 
     /// Sends the next packet, or gives it back.

@@ -2,8 +2,7 @@
 ghost use Rattle.std.specs.Prelude.{◌≡◌, ℕ, true, Option};
 
 use crate::carried::Carried;
-use crate::ends::{Ends, Refused};
-use crate::polled::IdleWhy;
+use dp_relay::{Ends, IdleWhy, Refused};
 use dp_ring::{Busy, PutBusy, WorkerSeat};
 use std::sync::Wait;
 

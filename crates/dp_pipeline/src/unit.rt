@@ -4,12 +4,11 @@ use crate::judge::Judge;
 use crate::judged::Judged;
 use crate::judging::Judging;
 use crate::passage::Passage;
-use crate::polled::{EndedWhy, Polled};
-use crate::relay::Relay;
 use crate::staged::Staged;
 use crate::tickets::Tickets;
 use dp_base::Boxed;
 use dp_edge::Gate;
+use dp_relay::{EndedWhy, Polled, Relay};
 use std::marker::Model;
 use std::sync::Wait;
 
@@ -35,7 +34,7 @@ impl<'p> Drop for Unit<'p> {
 }
 
 impl<'p> Model for Unit<'p> {
-    ghost use Rattle.dp_pipeline.specs.Polls.{Counts};
+    ghost use Rattle.dp_relay.specs.Polls.{Counts};
     ghost use Rattle.dp_pipeline.specs.declared.unit.Kind.TheVariants.{Stage, Worker, TryCommit};
 
     ghost Value = { Counts };
@@ -45,8 +44,8 @@ impl<'p> Model for Unit<'p> {
 
 impl<'p> Unit<'p> {
     ghost use Rattle.std.specs.Prelude.{◌≡◌};
-    ghost use Rattle.dp_pipeline.specs.declared.polled.Polled.TheVariants.{Ended};
-    ghost use Rattle.dp_pipeline.specs.Polls.{Polls, HasEnded, LooksOnce, why_ended};
+    ghost use Rattle.dp_relay.specs.declared.polled.Polled.TheVariants.{Ended};
+    ghost use Rattle.dp_relay.specs.Polls.{Polls, HasEnded, LooksOnce, why_ended};
 
     /// Takes, makes and sends at most one item, and waits neither for an item nor for a place.
     pub fn poll<R: Wait, G: Gate>(&mut self, rt: &R, gate: &G) -> Polled

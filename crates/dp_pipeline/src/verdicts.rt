@@ -1,14 +1,14 @@
 //! The verdicts of an epoch as they come out of their lane.
 use crate::judged::Judged;
-use crate::pause::Pause;
-use crate::polled::Polled;
 use crate::spare::Back;
 use crate::unit::Unit;
 use dp_base::{Boxed, Row};
-use dp_commit::Verdict;
 use dp_edge::OpenGate;
+use dp_judge::Verdict;
 use dp_lane::TakeEnd;
 use dp_packet::Packet;
+use dp_relay::Polled;
+use dp_waiting::Pause;
 use std::alloc::Global;
 use std::marker::Model;
 use std::sync::Wait;
@@ -52,7 +52,7 @@ impl<'u> LaneVerdicts<'u> {
     ghost use Rattle.std.specs.Prelude.{◌≡◌, ◌+◌, ◌<◌, ℕ, true, MatchOption};
     ghost use Rattle.dp_semantics.specs.EpochVerdicts.{goes_on, verdict_at};
     ghost use Rattle.dp_semantics.specs.Items.{OrWanting};
-    ghost use Rattle.dp_commit.specs.Told.{decided};
+    ghost use Rattle.dp_judge.specs.Told.{decided};
     ghost use Rattle.dp_pipeline.specs.Coming.{Comes, coming_on};
 
     /// Verdicts that come on this end, and no units.

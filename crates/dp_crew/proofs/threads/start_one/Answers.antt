@@ -1,7 +1,7 @@
 use denote.Param.Send.{sendable}
 use Rattle.std.proofs.sync.Mutex.TheSendSync as mutex
 use Rattle.std.proofs.option.Option.TheSendSync as option
-use Rattle.dp_pipeline.proofs.bell.Bell.TheSendSync as bell
+use Rattle.dp_waiting.proofs.bell.Bell.TheSendSync as bell
 use Rattle.dp_crew.proofs.Crossing.{unit_send}
 use Rattle.dp_crew.proofs.threads.start_one.Goals as goal
 

@@ -4,7 +4,8 @@ use Rattle.dp_semantics.specs.StageRun.{stage_run}
 use Rattle.dp_semantics.specs.Packets as packets
 use Rattle.dp_packet.specs.declared.Packet.{Packet}
 use Rattle.dp_packet.specs.Packet.{packet_of}
-use Rattle.dp_machine.specs.Sending.{AsTurned, IsSent, key_of}
+use Rattle.dp_machine.specs.Sending.{IsSent, key_of}
+use Rattle.dp_turn.specs.Engine.{AsTurned}
 use Rattle.dp_machine.proofs.SendLemmas.{runs_on}
 use Rattle.dp_machine.proofs.sending.send.Goals as goal
 

@@ -1,0 +1,3 @@
+pub mod FlatJudge
+pub mod Finding
+pub mod Held

@@ -1,0 +1,13 @@
+pub mod WalkLemmas
+pub mod EntryLemmas
+pub mod Following
+pub mod PaceLemmas
+pub mod EffectsMore
+pub mod BreakPlaces
+pub mod CodeJudges
+pub mod JumpPlaces
+pub mod MovesLeft
+pub mod EpochLemmas
+pub mod StageNumbers
+pub mod GivenStages
+pub mod rows

@@ -1,0 +1,5 @@
+pub mod Told
+pub mod Entries
+pub mod Judging
+pub mod Standing
+pub mod steps

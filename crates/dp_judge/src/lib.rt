@@ -1,0 +1,18 @@
+//! The judgement on the packets of an epoch: whether an iteration is clean, what a verdict carries of one that is, and why
+//! another isn't.
+#![tactic(auto)]
+
+mod assuming;
+mod clean;
+mod entries;
+mod finding;
+mod iteration;
+mod judging;
+mod rounds;
+mod trying;
+mod verdict;
+mod walking;
+
+pub use clean::Clean;
+pub use trying::TryCommit;
+pub use verdict::Verdict;

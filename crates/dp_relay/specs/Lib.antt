@@ -1,0 +1,5 @@
+pub mod Places
+pub mod Facts
+pub mod Works
+pub mod Offers
+pub mod Polls

@@ -1,0 +1,3 @@
+pub mod OpLemmas
+pub mod TurnLemmas
+pub mod rows
