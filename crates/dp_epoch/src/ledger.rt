@@ -7,7 +7,8 @@ ghost use Rattle.dp_epoch.specs.Applied.{Applied};
 
 use crate::report::nothing_counted;
 use dp_base::{NoMemory, RegionReport, Row};
-use dp_commit::{Clean, Committed, Tally};
+use dp_commit::{Committed, Tally};
+use dp_judge::Clean;
 use dp_meaning::Machine;
 use std::alloc::Global;
 

@@ -8,7 +8,8 @@ ghost use Rattle.dp_epoch.specs.Taken.{Takes};
 use crate::ledger::Ledger;
 use crate::verdicts::Verdicts;
 use dp_base::{Cause, NoMemory};
-use dp_commit::{Tally, Verdict};
+use dp_commit::Tally;
+use dp_judge::Verdict;
 use std::sync::Wait;
 use std::time::Clock;
 
