@@ -1,4 +1,3 @@
 pub mod Inputs
-pub mod KnownBytes
 pub mod Words
 pub mod rows
