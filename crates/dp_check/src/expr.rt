@@ -7,7 +7,7 @@ ghost use Rattle.dp_check.specs.Answer.{Gives, expr_answer, args_answer};
 
 use crate::names::Names;
 use crate::{CheckFail, uses};
-use dp_base::{Boxed, NoMemory, Row, VarId};
+use dp_base::{NoMemory, Row, VarId};
 use dp_tree::{Expr, RawExpr};
 use std::alloc::Global;
 
@@ -15,11 +15,10 @@ use std::alloc::Global;
 fn element(alloc: Global, array: Option<VarId>, index: Expr) -> Result<Expr, NoMemory>
     ensures { IfOk result (λ e. e ≡ element_expr array index) }
 {
-    let index = Boxed::new(alloc, index)?;
-    Ok(match array {
-        Some(var) => Expr::Element(var, index),
-        None => Expr::Input(index),
-    })
+    match array {
+        Some(var) => Expr::element(alloc, var, index),
+        None => Expr::input(alloc, index),
+    }
 }
 
 /// The number itself.
@@ -43,22 +42,22 @@ pub fn resolve(alloc: Global, names: &Names<'_>, e: &RawExpr) -> Result<Expr, Ch
         }
         RawExpr::Unary(op, a) => {
             let a = resolve(alloc, names, a.get())?;
-            Ok(Expr::Unary(*op, Boxed::new(alloc, a)?))
+            Ok(Expr::unary(alloc, *op, a)?)
         }
         RawExpr::Binary(op, a, b) => {
             let a = resolve(alloc, names, a.get())?;
             let b = resolve(alloc, names, b.get())?;
-            Ok(Expr::Binary(*op, Boxed::new(alloc, a)?, Boxed::new(alloc, b)?))
+            Ok(Expr::binary(alloc, *op, a, b)?)
         }
         RawExpr::And(a, b) => {
             let a = resolve(alloc, names, a.get())?;
             let b = resolve(alloc, names, b.get())?;
-            Ok(Expr::And(Boxed::new(alloc, a)?, Boxed::new(alloc, b)?))
+            Ok(Expr::and(alloc, a, b)?)
         }
         RawExpr::Or(a, b) => {
             let a = resolve(alloc, names, a.get())?;
             let b = resolve(alloc, names, b.get())?;
-            Ok(Expr::Or(Boxed::new(alloc, a)?, Boxed::new(alloc, b)?))
+            Ok(Expr::or(alloc, a, b)?)
         }
     }
 }

@@ -2,6 +2,7 @@
 //! offending name.
 #![tactic(auto)]
 
+mod evaluation;
 mod expr;
 mod fail;
 mod items;

@@ -21,9 +21,14 @@ pub enum Meaning {
 
 /// The visible names in the order of their declarations. A block's names stand last, so they are given up at its end by
 /// their number.
-#[derive(Drop)]
 pub struct Names<'a> {
     meanings: IndexMap<&'a [u8], Meaning>,
+}
+
+impl Drop for Names<'_> {
+    fn drop(self) {
+        let Names { meanings: _ } = self;
+    }
 }
 
 impl<'a> Model for Names<'a> {

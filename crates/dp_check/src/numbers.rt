@@ -47,13 +47,11 @@ fn pass(place: &mut Place<'_>, s: &RawStmt) -> Result<(), NoMemory>
         } => {
             place.take_site()?;
             pass_all(place, then_part.as_slice())?;
-            pass_all(place, else_part.as_slice())?;
-            Ok(())
+            pass_all(place, else_part.as_slice())
         }
         RawStmt::While { body, .. } => {
             place.take_site()?;
-            pass_all(place, body.as_slice())?;
-            Ok(())
+            pass_all(place, body.as_slice())
         }
         RawStmt::For {
             first,
@@ -64,8 +62,7 @@ fn pass(place: &mut Place<'_>, s: &RawStmt) -> Result<(), NoMemory>
             pass_all(place, first.as_slice())?;
             place.take_site()?;
             pass_all(place, body.as_slice())?;
-            pass_all(place, step.as_slice())?;
-            Ok(())
+            pass_all(place, step.as_slice())
         }
     }
 }

@@ -6,9 +6,10 @@ ghost use Rattle.dp_check.specs.Place.{after, passed, parts_all, sited};
 ghost use Rattle.dp_check.specs.Resolved as spec;
 ghost use Rattle.dp_check.specs.Answer.{Gives, onto, with_last, stepped_answer, top_answer, main_answer};
 
+use crate::CheckFail;
+use crate::evaluation::evaluation;
 use crate::place::{Place, next};
 use crate::statement::{block, looped, statement, statements};
-use crate::{CheckFail, expr};
 use dp_base::{NoMemory, Row};
 use dp_tree::{RawExpr, RawStmt, Stmt};
 use std::alloc::Global;
@@ -35,8 +36,7 @@ fn region<'a>(
     ensures value { (line : ℕ) → Gives (top_answer place.old region (tree.While line true cond.now body.now)) (with_last [] result) }
     ensures place { OnOk result (place.new ≡ passed (sited place.old) (parts_all body.now)) }
 {
-    let cond = expr::resolve(alloc, &place.names, cond)?;
-    let site = place.take_site()?;
+    let (site, cond) = evaluation(alloc, place, cond)?;
     let body = block(alloc, place, body)?;
     Ok(Stmt::Region {
         region,
@@ -59,8 +59,7 @@ fn stepped_region<'a>(
     ensures value { Gives (stepped_answer place.old region cond.now step.now body.now) result }
     ensures place { OnOk result (place.new ≡ passed (sited place.old) (parts_all body.now ++ parts_all step.now)) }
 {
-    let cond = expr::resolve(alloc, &place.names, cond)?;
-    let site = place.take_site()?;
+    let (site, cond) = evaluation(alloc, place, cond)?;
     let body = looped(alloc, place, step, body)?;
     Ok(Stmt::Region {
         region,

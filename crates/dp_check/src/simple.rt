@@ -5,6 +5,7 @@ ghost use Rattle.dp_tree.specs.declared.raw.RawStmt.TheVariants as tree;
 ghost use Rattle.dp_check.specs.Place.{sited, with_scalar};
 ghost use Rattle.dp_check.specs.Answer.{Gives, with_last, statement_answer};
 
+use crate::evaluation::evaluation;
 use crate::place::Place;
 use crate::{CheckFail, expr, uses};
 use dp_tree::{Name, RawExpr, Stmt};
@@ -21,8 +22,7 @@ pub fn declare<'a>(
     ensures place { OnOk result (place.new ≡ with_scalar (sited place.old) name.now) }
 {
     uses::undeclared(&place.names, name)?;
-    let value = expr::resolve(alloc, &place.names, value)?;
-    let site = place.take_site()?;
+    let (site, value) = evaluation(alloc, place, value)?;
     let var = place.declare_scalar(name)?;
     Ok(Stmt::Assign { site, var, value })
 }
@@ -38,8 +38,7 @@ pub fn assign(
     ensures place { OnOk result (place.new ≡ sited place.old) }
 {
     let var = uses::assigned(&place.names, name)?;
-    let value = expr::resolve(alloc, &place.names, value)?;
-    let site = place.take_site()?;
+    let (site, value) = evaluation(alloc, place, value)?;
     Ok(Stmt::Assign { site, var, value })
 }
 
@@ -56,8 +55,7 @@ pub fn store(
 {
     let var = uses::assigned_element(&place.names, name)?;
     let index = expr::resolve(alloc, &place.names, index)?;
-    let value = expr::resolve(alloc, &place.names, value)?;
-    let site = place.take_site()?;
+    let (site, value) = evaluation(alloc, place, value)?;
     Ok(Stmt::Store {
         site,
         var,
@@ -89,8 +87,7 @@ pub fn print(alloc: Global, place: &mut Place<'_>, value: &RawExpr) -> Result<St
     ensures value { (line : ℕ) → Gives (statement_answer place.old (tree.Print line value.now)) (with_last [] result) }
     ensures place { OnOk result (place.new ≡ sited place.old) }
 {
-    let value = expr::resolve(alloc, &place.names, value)?;
-    let site = place.take_site()?;
+    let (site, value) = evaluation(alloc, place, value)?;
     Ok(Stmt::Print { site, value })
 }
 
@@ -99,7 +96,6 @@ pub fn exit(alloc: Global, place: &mut Place<'_>, cond: &RawExpr) -> Result<Stmt
     ensures value { (line : ℕ) → Gives (statement_answer place.old (tree.Break line cond.now)) (with_last [] result) }
     ensures place { OnOk result (place.new ≡ sited place.old) }
 {
-    let cond = expr::resolve(alloc, &place.names, cond)?;
-    let site = place.take_site()?;
+    let (site, cond) = evaluation(alloc, place, cond)?;
     Ok(Stmt::Break { site, cond })
 }

@@ -63,8 +63,7 @@ impl Sites {
             } => {
                 self.site(*line, SiteKind::If, region)?;
                 self.statements(region, then_part.as_slice())?;
-                self.statements(region, else_part.as_slice())?;
-                Ok(())
+                self.statements(region, else_part.as_slice())
             }
             RawStmt::While { line, body, .. } => self.turns(region, *line, body.as_slice()),
             RawStmt::For {
@@ -76,8 +75,7 @@ impl Sites {
             } => {
                 self.statements(region, first.as_slice())?;
                 self.turns(region, *line, body.as_slice())?;
-                self.statements(region, step.as_slice())?;
-                Ok(())
+                self.statements(region, step.as_slice())
             }
         }
     }

@@ -5,10 +5,11 @@ ghost use Rattle.dp_tree.specs.declared.raw.RawStmt.TheVariants as tree;
 ghost use Rattle.dp_check.specs.Place.{after, after_all, passed, parts_all, sited};
 ghost use Rattle.dp_check.specs.Answer.{Gives, onto, with_last, with_all, statement_answer, block_answer, loop_answer};
 
+use crate::CheckFail;
+use crate::evaluation::evaluation;
 use crate::numbers::pass_all;
 use crate::place::Place;
 use crate::simple::{assign, call, declare, exit, print, store};
-use crate::{CheckFail, expr};
 use dp_base::Row;
 use dp_tree::{RawExpr, RawStmt, Stmt};
 use std::alloc::Global;
@@ -26,8 +27,7 @@ fn conditional<'a>(
     ensures value { (line : ℕ) → Gives (statement_answer place.old (tree.If line cond.now then_part.now else_part.now)) (with_last [] result) }
     ensures place { OnOk result (place.new ≡ passed (passed (sited place.old) (parts_all then_part.now)) (parts_all else_part.now)) }
 {
-    let cond = expr::resolve(alloc, &place.names, cond)?;
-    let site = place.take_site()?;
+    let (site, cond) = evaluation(alloc, place, cond)?;
     let then_part = block(alloc, place, then_part)?;
     let else_part = block(alloc, place, else_part)?;
     Ok(Stmt::If {
@@ -50,8 +50,7 @@ fn repeated<'a>(
     ensures value { (line : ℕ) (marked : Bool) → Gives (statement_answer place.old (tree.While line marked cond.now body.now)) (with_last [] result) }
     ensures place { OnOk result (place.new ≡ passed (sited place.old) (parts_all body.now)) }
 {
-    let cond = expr::resolve(alloc, &place.names, cond)?;
-    let site = place.take_site()?;
+    let (site, cond) = evaluation(alloc, place, cond)?;
     let body = block(alloc, place, body)?;
     Ok(Stmt::While { site, cond, body })
 }
@@ -91,8 +90,7 @@ fn counted<'a>(
 {
     let count = place.names.len();
     statements(alloc, place, first, done)?;
-    let cond = expr::resolve(alloc, &place.names, cond)?;
-    let site = place.take_site()?;
+    let (site, cond) = evaluation(alloc, place, cond)?;
     let body = looped(alloc, place, step, body)?;
     place.names.keep(count);
     Ok(Stmt::While { site, cond, body })

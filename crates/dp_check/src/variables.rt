@@ -113,13 +113,9 @@ impl Variables {
                 ..
             } => {
                 self.locals(scope, then_part.as_slice())?;
-                self.locals(scope, else_part.as_slice())?;
-                Ok(())
+                self.locals(scope, else_part.as_slice())
             }
-            RawStmt::While { body, .. } => {
-                self.locals(scope, body.as_slice())?;
-                Ok(())
-            }
+            RawStmt::While { body, .. } => self.locals(scope, body.as_slice()),
             RawStmt::For {
                 first,
                 step,
@@ -128,8 +124,7 @@ impl Variables {
             } => {
                 self.locals(scope, first.as_slice())?;
                 self.locals(scope, body.as_slice())?;
-                self.locals(scope, step.as_slice())?;
-                Ok(())
+                self.locals(scope, step.as_slice())
             }
             RawStmt::Assign { .. }
             | RawStmt::Store { .. }

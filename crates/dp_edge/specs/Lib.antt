@@ -1,5 +1,4 @@
 pub mod Digits
-pub mod FileShelf
 pub mod Input
 pub mod MemShelf
 pub mod MemSink

@@ -4,7 +4,7 @@ ghost use Rattle.std.specs.Prelude.{◌≡◌, IfOk};
 ghost use Rattle.dp_inline.specs.steps.Written.{expr_in};
 
 use crate::names::Names;
-use dp_base::{Boxed, NoMemory};
+use dp_base::NoMemory;
 use dp_tree::Expr;
 use std::alloc::Global;
 
@@ -17,32 +17,32 @@ pub fn rename(alloc: Global, names: &Names, e: &Expr) -> Result<Expr, NoMemory>
         Expr::Number(n) => Ok(Expr::Number(*n)),
         Expr::Input(e) => {
             let e = rename(alloc, names, e.get())?;
-            Ok(Expr::Input(Boxed::new(alloc, e)?))
+            Ok(Expr::input(alloc, e)?)
         }
         Expr::InputLen => Ok(Expr::InputLen),
         Expr::Scalar(var) => Ok(Expr::Scalar(names.target(*var))),
         Expr::Element(var, e) => {
             let e = rename(alloc, names, e.get())?;
-            Ok(Expr::Element(names.target(*var), Boxed::new(alloc, e)?))
+            Ok(Expr::element(alloc, names.target(*var), e)?)
         }
         Expr::Unary(op, a) => {
             let a = rename(alloc, names, a.get())?;
-            Ok(Expr::Unary(*op, Boxed::new(alloc, a)?))
+            Ok(Expr::unary(alloc, *op, a)?)
         }
         Expr::Binary(op, a, b) => {
             let a = rename(alloc, names, a.get())?;
             let b = rename(alloc, names, b.get())?;
-            Ok(Expr::Binary(*op, Boxed::new(alloc, a)?, Boxed::new(alloc, b)?))
+            Ok(Expr::binary(alloc, *op, a, b)?)
         }
         Expr::And(a, b) => {
             let a = rename(alloc, names, a.get())?;
             let b = rename(alloc, names, b.get())?;
-            Ok(Expr::And(Boxed::new(alloc, a)?, Boxed::new(alloc, b)?))
+            Ok(Expr::and(alloc, a, b)?)
         }
         Expr::Or(a, b) => {
             let a = rename(alloc, names, a.get())?;
             let b = rename(alloc, names, b.get())?;
-            Ok(Expr::Or(Boxed::new(alloc, a)?, Boxed::new(alloc, b)?))
+            Ok(Expr::or(alloc, a, b)?)
         }
     }
 }

@@ -81,11 +81,37 @@ fn only(alloc: Global, statement: RawStmt) -> Result<Row<RawStmt>, NoMemory>
 }
 
 /// What a `for` has in its parentheses: the initialiser and the step have one statement each.
-#[derive(Drop)]
 pub struct Header {
     pub first: Row<RawStmt>,
     pub cond: RawExpr,
     pub step: Row<RawStmt>,
+}
+
+impl Drop for Header {
+    fn drop(self) {
+        let Header {
+            first: _,
+            cond: _,
+            step: _,
+        } = self;
+    }
+}
+
+impl Header {
+    /// The `for` with this body.
+    pub fn with_body(self, line: u32, marked: bool, body: Row<RawStmt>) -> RawStmt
+        ensures { result ≡ RawStmt.For line marked self.first self.cond self.step body }
+    {
+        let Header { first, cond, step } = self;
+        RawStmt::For {
+            line,
+            marked,
+            first,
+            cond,
+            step,
+            body,
+        }
+    }
 }
 
 #[tactic(auto, unfolding(crate::specs::steps::Heads::head))]

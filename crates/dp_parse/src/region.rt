@@ -142,14 +142,7 @@ fn counted(alloc: Global, tokens: &mut Tokens<'_, '_>, depth: usize) -> Result<R
     let line = tokens.expect(Symbol::For)?.line;
     let head = head(alloc, tokens)?;
     let body = body(alloc, tokens, depth)?;
-    Ok(RawStmt::For {
-        line,
-        marked: true,
-        first: head.first,
-        cond: head.cond,
-        step: head.step,
-        body,
-    })
+    Ok(head.with_body(line, true, body))
 }
 
 /// A region, from behind its mark on.

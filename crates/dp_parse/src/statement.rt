@@ -124,14 +124,7 @@ fn counted(alloc: Global, tokens: &mut Tokens<'_, '_>, depth: usize) -> Result<R
     let line = tokens.expect(Symbol::For)?.line;
     let head = head(alloc, tokens)?;
     let body = block(alloc, tokens, depth)?;
-    Ok(RawStmt::For {
-        line,
-        marked: false,
-        first: head.first,
-        cond: head.cond,
-        step: head.step,
-        body,
-    })
+    Ok(head.with_body(line, false, body))
 }
 
 #[cycle(statement)]

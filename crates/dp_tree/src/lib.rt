@@ -4,13 +4,12 @@
 //! iterations of a region.
 #![tactic(auto)]
 
-ghost use Rattle.std.specs.Prelude.{◌≡◌};
-ghost use Rattle.dp_tree.specs.Step.{is_local_of};
-
 use dp_base::{BinOp, Boxed, CellId, Row, SiteId, UnOp, VarId};
 
+mod boxing;
 mod law;
 mod raw;
+mod scope;
 
 pub use law::{
     a_region_is_its_iterations, a_run_goes_by_steps, a_run_goes_on, iterations_adjoin,
@@ -19,7 +18,6 @@ pub use law::{
 pub use raw::{Name, RawExpr, RawItem, RawProgram, RawStmt};
 
 /// An expression. Nested boxes hold the operands, the left one first.
-#[derive(Drop)]
 pub enum Expr {
     Number(i64),
     /// The input word at an index.
@@ -34,8 +32,17 @@ pub enum Expr {
     Or(Boxed<Expr>, Boxed<Expr>),
 }
 
+impl Drop for Expr {
+    fn drop(self) {
+        match self {
+            Expr::Number(_) | Expr::Input(_) | Expr::InputLen | Expr::Scalar(_) => {}
+            Expr::Element(_, _) | Expr::Unary(_, _) | Expr::Binary(_, _, _) => {}
+            Expr::And(_, _) | Expr::Or(_, _) => {}
+        }
+    }
+}
+
 /// A statement. Each but a call has a site, and `check` numbers sites from 1 in text order, those of `main` first.
-#[derive(Drop)]
 pub enum Stmt {
     /// An assignment to a scalar, an initialiser, or a binding of an argument to a parameter.
     Assign {
@@ -85,6 +92,48 @@ pub enum Stmt {
     },
 }
 
+impl Drop for Stmt {
+    fn drop(self) {
+        match self {
+            Stmt::Assign {
+                site: _,
+                var: _,
+                value: _,
+            } => {}
+            Stmt::Store {
+                site: _,
+                var: _,
+                index: _,
+                value: _,
+            } => {}
+            Stmt::Print { site: _, value: _ } => {}
+            Stmt::If {
+                site: _,
+                cond: _,
+                then_part: _,
+                else_part: _,
+            } => {}
+            Stmt::While {
+                site: _,
+                cond: _,
+                body: _,
+            } => {}
+            Stmt::Region {
+                region: _,
+                site: _,
+                cond: _,
+                body: _,
+            } => {}
+            Stmt::Break { site: _, cond: _ } => {}
+            Stmt::Call {
+                function: _,
+                line: _,
+                args: _,
+            } => {}
+        }
+    }
+}
+
 /// Where a variable is declared: at file scope, in the body of a region, or elsewhere.
 ///
 /// A parameter or local of a call that is expanded in a region's body is of that body too.
@@ -95,21 +144,7 @@ pub enum VarScope {
     Body(u32),
 }
 
-impl VarScope {
-    /// It is the body of the region with this number.
-    #[inline(always)]
-    pub fn is_local_of(self, region: u32) -> bool
-        ensures { result ≡ is_local_of region self }
-    {
-        match self {
-            VarScope::Body(of) => of == region,
-            VarScope::Global | VarScope::Outer => false,
-        }
-    }
-}
-
 /// A variable. Its cells are `length` many from `first` on; a scalar has one.
-#[derive(Drop)]
 pub struct VarInfo {
     pub name: Row<u8>,
     pub first: CellId,
@@ -118,6 +153,19 @@ pub struct VarInfo {
     /// The start value of a file-scope scalar, and 0 for every other variable.
     pub start: i64,
     pub scope: VarScope,
+}
+
+impl Drop for VarInfo {
+    fn drop(self) {
+        let VarInfo {
+            name: _,
+            first: _,
+            length: _,
+            array: _,
+            start: _,
+            scope: _,
+        } = self;
+    }
 }
 
 /// What is evaluated at a site; initialisers and bindings are assignments.
@@ -147,22 +195,38 @@ pub struct RegionInfo {
 }
 
 /// A function other than `main`.
-#[derive(Drop)]
 pub struct Function {
     pub params: Row<VarId>,
     pub body: Row<Stmt>,
 }
 
+impl Drop for Function {
+    fn drop(self) {
+        let Function { params: _, body: _ } = self;
+    }
+}
+
 /// A program whose names are numbers: a `VarId` is a place in `vars`, from 0, a `SiteId` one in `sites`, from 1.
 ///
 /// In an expanded program `functions` is empty and no call stands.
-#[derive(Drop)]
 pub struct Program {
     pub vars: Row<VarInfo>,
     pub sites: Row<SiteInfo>,
     pub regions: Row<RegionInfo>,
     pub functions: Row<Function>,
     pub main: Row<Stmt>,
+}
+
+impl Drop for Program {
+    fn drop(self) {
+        let Program {
+            vars: _,
+            sites: _,
+            regions: _,
+            functions: _,
+            main: _,
+        } = self;
+    }
 }
 
 /// The outcome that is assumed of an `if`: whether its condition is other than 0.

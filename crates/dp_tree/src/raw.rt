@@ -1,14 +1,18 @@
 use dp_base::{BinOp, Boxed, Row, UnOp};
 
 /// A name as the source writes it, with its line.
-#[derive(Drop)]
 pub struct Name {
     pub text: Row<u8>,
     pub line: u32,
 }
 
+impl Drop for Name {
+    fn drop(self) {
+        let Name { text: _, line: _ } = self;
+    }
+}
+
 /// An expression whose variables are names.
-#[derive(Drop)]
 pub enum RawExpr {
     Number(i64),
     Scalar(Name),
@@ -19,8 +23,17 @@ pub enum RawExpr {
     Or(Boxed<RawExpr>, Boxed<RawExpr>),
 }
 
+impl Drop for RawExpr {
+    fn drop(self) {
+        match self {
+            RawExpr::Number(_) | RawExpr::Scalar(_) | RawExpr::Element(_, _) => {}
+            RawExpr::Unary(_, _) | RawExpr::Binary(_, _, _) => {}
+            RawExpr::And(_, _) | RawExpr::Or(_, _) => {}
+        }
+    }
+}
+
 /// A statement whose variables and functions are names.
-#[derive(Drop)]
 pub enum RawStmt {
     Declare {
         line: u32,
@@ -72,8 +85,48 @@ pub enum RawStmt {
     },
 }
 
+impl Drop for RawStmt {
+    fn drop(self) {
+        match self {
+            RawStmt::Declare {
+                line: _,
+                name: _,
+                value: _,
+            } => {}
+            RawStmt::Assign { name: _, value: _ } => {}
+            RawStmt::Store {
+                name: _,
+                index: _,
+                value: _,
+            } => {}
+            RawStmt::Call { name: _, args: _ } => {}
+            RawStmt::Print { line: _, value: _ } => {}
+            RawStmt::If {
+                line: _,
+                cond: _,
+                then_part: _,
+                else_part: _,
+            } => {}
+            RawStmt::While {
+                line: _,
+                marked: _,
+                cond: _,
+                body: _,
+            } => {}
+            RawStmt::For {
+                line: _,
+                marked: _,
+                first: _,
+                cond: _,
+                step: _,
+                body: _,
+            } => {}
+            RawStmt::Break { line: _, cond: _ } => {}
+        }
+    }
+}
+
 /// A declaration at file scope.
-#[derive(Drop)]
 pub enum RawItem {
     Scalar {
         name: Name,
@@ -90,9 +143,28 @@ pub enum RawItem {
     },
 }
 
+impl Drop for RawItem {
+    fn drop(self) {
+        match self {
+            RawItem::Scalar { name: _, start: _ } => {}
+            RawItem::Array { name: _, length: _ } => {}
+            RawItem::Function {
+                name: _,
+                params: _,
+                body: _,
+            } => {}
+        }
+    }
+}
+
 /// A program as it was read.
-#[derive(Drop)]
 pub struct RawProgram {
     pub items: Row<RawItem>,
     pub main: Row<RawStmt>,
+}
+
+impl Drop for RawProgram {
+    fn drop(self) {
+        let RawProgram { items: _, main: _ } = self;
+    }
 }

@@ -6,8 +6,9 @@
 mod tests;
 
 use dp_drive::drive;
-use dp_edge::{FileShelf, OpenGate, OutSink};
+use dp_edge::OpenGate;
 use dp_run::Tally;
+use dp_system::{FileShelf, OutSink};
 use std::io::ErrorKind;
 use std::process::ExitCode;
 use std::{env, io};

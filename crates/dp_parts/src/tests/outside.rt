@@ -1,5 +1,6 @@
 //! Real files, and the real output.
-use dp_edge::{FileShelf, OutSink, Shelf, ShelfFail, Sink};
+use dp_edge::{Shelf, ShelfFail, Sink};
+use dp_system::{FileShelf, OutSink};
 use std::alloc::{AllocError, Global};
 use std::test::Fail;
 use std::{env, fs};

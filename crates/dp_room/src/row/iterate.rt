@@ -20,7 +20,8 @@ impl<T: Drop> IntoIterator for Row<T> {
         × EveryRun (into_iter_steps {X = T} {Z = Global}) (λ run. ItemsAre run (into_iter_items run.from)) };
 
     fn into_iter(self) -> IntoIter<T> {
-        self.items.into_iter()
+        let Row { items } = self;
+        items.into_iter()
     }
 }
 

@@ -1,4 +1,4 @@
-use Rattle.std.proofs.Common.{◌<◌, ◌+◌, ◌∷◌, ◌++◌, drop, length, inl, refl, sym, ap, subst, ◌∙◌, arith}
+use Rattle.std.proofs.Common.{◌≡◌, ◌<◌, ◌+◌, ◌∷◌, ◌++◌, drop, length, inl, refl, sym, ap, subst, ◌∙◌, OnErr, OnOk, arith}
 use Rattle.dp_tree.specs.declared.SiteKind.TheVariants as kind
 use Rattle.dp_check.specs.declared.place.Place.{Place}
 use Rattle.dp_check.specs.Place.{Site, IsPastNumbers, passed, sited, parts, parts_all}
@@ -16,29 +16,6 @@ pub pass_all-returns-clause-place : goal.pass_all-returns-clause-place
 pass_all-returns-clause-place t c =
     sym (fold_end (λ p all. passed p (parts_all all)) (λ p s. passed p (parts s)) passed_more c.args.all.now c.loop-s.s-index c.loop-s.place _ c.loop-s.invariant (omega arith) ∙ passed-none c.loop-s.place)
 
-pub pass-returns-in_ok-pass_all-in-If-2-clause-place : goal.pass-returns-in_ok-pass_all-in-If-2-clause-place
-pass-returns-in_ok-pass_all-in-If-2-clause-place t c =
-    let then_end = c.in_ok-pass_all-in-If.ensures.place ∙ (λ i. passed (c.in_ok-take_site-in-If.ensures.place i) (parts_all (c.as_slice.ensures i))) in
-    rw c.in-If.is
-    (c.in_ok-pass_all-in-If-2.ensures.place ∙ (λ i. passed (then_end i) (parts_all (c.as_slice-in-If.ensures i)))
-    ∙ sym (after-If c.args.place.now c.in-If.line c.in-If.cond c.in-If.then_part c.in-If.else_part))
-
-pub pass-returns-in_ok-pass_all-in-While-clause-place : goal.pass-returns-in_ok-pass_all-in-While-clause-place
-pass-returns-in_ok-pass_all-in-While-clause-place t c =
-    rw c.in-While.is
-    (c.in_ok-pass_all-in-While.ensures.place ∙ (λ i. passed (c.in_ok-take_site-in-While.ensures.place i) (parts_all (c.as_slice-in-While.ensures i)))
-    ∙ sym (after-While c.args.place.now c.in-While.line c.in-While.marked c.in-While.cond c.in-While.body))
-
-pub pass-returns-in_ok-pass_all-in-For-3-clause-place : goal.pass-returns-in_ok-pass_all-in-For-3-clause-place
-pass-returns-in_ok-pass_all-in-For-3-clause-place t c =
-    let f = c.in-For in
-    let first_end = c.in_ok-pass_all-in-For.ensures.place ∙ (λ i. passed c.args.place.now (parts_all (c.as_slice-in-For.ensures i))) in
-    let behind = c.in_ok-take_site-in-For.ensures.place ∙ (λ i. sited (first_end i)) in
-    let body_end = c.in_ok-pass_all-in-For-2.ensures.place ∙ (λ i. passed (behind i) (parts_all (c.as_slice-in-For-2.ensures i))) in
-    rw f.is
-    (c.in_ok-pass_all-in-For-3.ensures.place ∙ (λ i. passed (body_end i) (parts_all (c.as_slice-in-For-3.ensures i)))
-    ∙ sym (pass-For c.args.place.now f.line f.marked f.first f.cond f.step f.body))
-
 pub pass_all-returns-in_err-pass-clause-full : goal.pass_all-returns-in_err-pass-clause-full
 pass_all-returns-in_err-pass-clause-full t c =
     let below : c.loop-s.s-index < length c.args.all.now = omega arith in
@@ -52,19 +29,6 @@ pass-returns-in_err-pass_all-in-If-clause-full t c =
     on_err c.from_residual-in_err-pass_all-in-If.result _
     (past_by (passed (sited p) (parts_all f.then_part)) _ (parts_all f.else_part) (ap (λ s. passed p (parts s)) f.is ∙ after-If p f.line f.cond f.then_part f.else_part)
     (subst IsPastNumbers (λ i. passed (c.in_ok-take_site-in-If.ensures.place i) (parts_all (c.as_slice.ensures i))) c.in_err-pass_all-in-If.ensures.full))
-
-pub pass-returns-in_err-pass_all-in-If-2-clause-full : goal.pass-returns-in_err-pass_all-in-If-2-clause-full
-pass-returns-in_err-pass_all-in-If-2-clause-full t c =
-    let f = c.in-If in let p = c.args.place.now in
-    let then_end = c.in_ok-pass_all-in-If.ensures.place ∙ (λ i. passed (c.in_ok-take_site-in-If.ensures.place i) (parts_all (c.as_slice.ensures i))) in
-    on_err c.from_residual-in_err-pass_all-in-If-2.result _
-    (subst IsPastNumbers ((λ i. passed (then_end i) (parts_all (c.as_slice-in-If.ensures i))) ∙ sym (ap (λ s. passed p (parts s)) f.is ∙ after-If p f.line f.cond f.then_part f.else_part)) c.in_err-pass_all-in-If-2.ensures.full)
-
-pub pass-returns-in_err-pass_all-in-While-clause-full : goal.pass-returns-in_err-pass_all-in-While-clause-full
-pass-returns-in_err-pass_all-in-While-clause-full t c =
-    let f = c.in-While in let p = c.args.place.now in
-    on_err c.from_residual-in_err-pass_all-in-While.result _
-    (subst IsPastNumbers ((λ i. passed (c.in_ok-take_site-in-While.ensures.place i) (parts_all (c.as_slice-in-While.ensures i))) ∙ sym (ap (λ s. passed p (parts s)) f.is ∙ after-While p f.line f.marked f.cond f.body)) c.in_err-pass_all-in-While.ensures.full)
 
 pub pass-returns-in_err-pass_all-in-For-clause-full : goal.pass-returns-in_err-pass_all-in-For-clause-full
 pass-returns-in_err-pass_all-in-For-clause-full t c =
@@ -90,11 +54,52 @@ pass-returns-in_err-pass_all-in-For-2-clause-full t c =
     (past_by (passed (sited (passed p (parts_all f.first))) (parts_all f.body)) _ (parts_all f.step) (ap (λ s. passed p (parts s)) f.is ∙ pass-For p f.line f.marked f.first f.cond f.step f.body)
     (subst IsPastNumbers (λ i. passed (behind i) (parts_all (c.as_slice-in-For-2.ensures i))) c.in_err-pass_all-in-For-2.ensures.full))
 
-pub pass-returns-in_err-pass_all-in-For-3-clause-full : goal.pass-returns-in_err-pass_all-in-For-3-clause-full
-pass-returns-in_err-pass_all-in-For-3-clause-full t c =
+pub pass-returns-in_ok-pass_all-in-If-clause-place : goal.pass-returns-in_ok-pass_all-in-If-clause-place
+pass-returns-in_ok-pass_all-in-If-clause-place t c =
+    let f = c.in-If in let p = c.args.place.now in
+    let then_end = c.in_ok-pass_all-in-If.ensures.place ∙ (λ i. passed (c.in_ok-take_site-in-If.ensures.place i) (parts_all (c.as_slice.ensures i))) in
+    subst (λ (q : Place). OnOk c.pass_all-in-If.result (c.pass_all-in-If.new.place ≡ q))
+    ((λ i. passed (then_end i) (parts_all (c.as_slice-in-If.ensures i))) ∙ sym (ap (λ s. passed p (parts s)) f.is ∙ after-If p f.line f.cond f.then_part f.else_part))
+    c.pass_all-in-If.ensures.place
+
+pub pass-returns-in_ok-pass_all-in-If-clause-full : goal.pass-returns-in_ok-pass_all-in-If-clause-full
+pass-returns-in_ok-pass_all-in-If-clause-full t c =
+    let f = c.in-If in let p = c.args.place.now in
+    let then_end = c.in_ok-pass_all-in-If.ensures.place ∙ (λ i. passed (c.in_ok-take_site-in-If.ensures.place i) (parts_all (c.as_slice.ensures i))) in
+    subst (λ (q : Place). OnErr c.pass_all-in-If.result (IsPastNumbers q))
+    ((λ i. passed (then_end i) (parts_all (c.as_slice-in-If.ensures i))) ∙ sym (ap (λ s. passed p (parts s)) f.is ∙ after-If p f.line f.cond f.then_part f.else_part))
+    c.pass_all-in-If.ensures.full
+
+pub pass-returns-in_ok-take_site-in-While-clause-place : goal.pass-returns-in_ok-take_site-in-While-clause-place
+pass-returns-in_ok-take_site-in-While-clause-place t c =
+    let f = c.in-While in let p = c.args.place.now in
+    subst (λ (q : Place). OnOk c.pass_all-in-While.result (c.pass_all-in-While.new.place ≡ q))
+    ((λ i. passed (c.in_ok-take_site-in-While.ensures.place i) (parts_all (c.as_slice-in-While.ensures i))) ∙ sym (ap (λ s. passed p (parts s)) f.is ∙ after-While p f.line f.marked f.cond f.body))
+    c.pass_all-in-While.ensures.place
+
+pub pass-returns-in_ok-take_site-in-While-clause-full : goal.pass-returns-in_ok-take_site-in-While-clause-full
+pass-returns-in_ok-take_site-in-While-clause-full t c =
+    let f = c.in-While in let p = c.args.place.now in
+    subst (λ (q : Place). OnErr c.pass_all-in-While.result (IsPastNumbers q))
+    ((λ i. passed (c.in_ok-take_site-in-While.ensures.place i) (parts_all (c.as_slice-in-While.ensures i))) ∙ sym (ap (λ s. passed p (parts s)) f.is ∙ after-While p f.line f.marked f.cond f.body))
+    c.pass_all-in-While.ensures.full
+
+pub pass-returns-in_ok-pass_all-in-For-2-clause-place : goal.pass-returns-in_ok-pass_all-in-For-2-clause-place
+pass-returns-in_ok-pass_all-in-For-2-clause-place t c =
     let f = c.in-For in let p = c.args.place.now in
     let first_end = c.in_ok-pass_all-in-For.ensures.place ∙ (λ i. passed p (parts_all (c.as_slice-in-For.ensures i))) in
     let behind = c.in_ok-take_site-in-For.ensures.place ∙ (λ i. sited (first_end i)) in
     let body_end = c.in_ok-pass_all-in-For-2.ensures.place ∙ (λ i. passed (behind i) (parts_all (c.as_slice-in-For-2.ensures i))) in
-    on_err c.from_residual-in_err-pass_all-in-For-3.result _
-    (subst IsPastNumbers ((λ i. passed (body_end i) (parts_all (c.as_slice-in-For-3.ensures i))) ∙ sym (ap (λ s. passed p (parts s)) f.is ∙ pass-For p f.line f.marked f.first f.cond f.step f.body)) c.in_err-pass_all-in-For-3.ensures.full)
+    subst (λ (q : Place). OnOk c.pass_all-in-For-3.result (c.pass_all-in-For-3.new.place ≡ q))
+    ((λ i. passed (body_end i) (parts_all (c.as_slice-in-For-3.ensures i))) ∙ sym (ap (λ s. passed p (parts s)) f.is ∙ pass-For p f.line f.marked f.first f.cond f.step f.body))
+    c.pass_all-in-For-3.ensures.place
+
+pub pass-returns-in_ok-pass_all-in-For-2-clause-full : goal.pass-returns-in_ok-pass_all-in-For-2-clause-full
+pass-returns-in_ok-pass_all-in-For-2-clause-full t c =
+    let f = c.in-For in let p = c.args.place.now in
+    let first_end = c.in_ok-pass_all-in-For.ensures.place ∙ (λ i. passed p (parts_all (c.as_slice-in-For.ensures i))) in
+    let behind = c.in_ok-take_site-in-For.ensures.place ∙ (λ i. sited (first_end i)) in
+    let body_end = c.in_ok-pass_all-in-For-2.ensures.place ∙ (λ i. passed (behind i) (parts_all (c.as_slice-in-For-2.ensures i))) in
+    subst (λ (q : Place). OnErr c.pass_all-in-For-3.result (IsPastNumbers q))
+    ((λ i. passed (body_end i) (parts_all (c.as_slice-in-For-3.ensures i))) ∙ sym (ap (λ s. passed p (parts s)) f.is ∙ pass-For p f.line f.marked f.first f.cond f.step f.body))
+    c.pass_all-in-For-3.ensures.full

@@ -112,8 +112,8 @@ counted-returns-in_err-statements-clause-value t c = λ line marked.
     steps.for_refused_at_first p done line marked first cond step body e h in
     first_of (search rules, grind (arith, common_steps))
 
-pub counted-returns-in_err-cond-clause-value : goal.counted-returns-in_err-cond-clause-value
-counted-returns-in_err-cond-clause-value t c = λ line marked.
+pub counted-returns-in_err-site-clause-value : goal.counted-returns-in_err-site-clause-value
+counted-returns-in_err-site-clause-value t c = λ line marked.
     let p = c.args.place.now in let done = c.args.done.now in let first = c.args.first.now in let cond = c.args.cond.now in let step = c.args.step.now in let body = c.args.body.now in
     let start = c.in_ok-statements.ensures.place in
     let refused : (e : CheckFail) → expr_answer c.statements.new.place.names cond ≡ Err e → onto done (statement_answer p (raw.For line marked first cond step body)) ≡ Err e = λ e h.
@@ -124,22 +124,22 @@ pub counted-returns-in_err-body-clause-value : goal.counted-returns-in_err-body-
 counted-returns-in_err-body-clause-value t c = λ line marked.
     let p = c.args.place.now in let done = c.args.done.now in let first = c.args.first.now in let cond = c.args.cond.now in let step = c.args.step.now in let body = c.args.body.now in
     let start = c.in_ok-statements.ensures.place in
-    let tested = (λ i. expr_answer (sym start i).names cond) ∙ c.in_ok-cond.ensures in
+    let tested = (λ i. expr_answer (sym start i).names cond) ∙ c.in_ok-site.ensures.expr in
     let behind = c.in_ok-site.ensures.place ∙ (λ i. sited (start i)) in
-    let refused : (e : CheckFail) → loop_answer c.take_site.new.self step body ≡ Err e → onto done (statement_answer p (raw.For line marked first cond step body)) ≡ Err e = λ e h.
-    steps.for_refused_at_body p done line marked first cond step body _ c.in_ok-statements.ensures.value c.in_ok-cond.cond tested e ((λ i. loop_answer (sym behind i) step body) ∙ h) in
+    let refused : (e : CheckFail) → loop_answer c.evaluation.new.place step body ≡ Err e → onto done (statement_answer p (raw.For line marked first cond step body)) ≡ Err e = λ e h.
+    steps.for_refused_at_body p done line marked first cond step body _ c.in_ok-statements.ensures.value c.in_ok-site.cond tested e ((λ i. loop_answer (sym behind i) step body) ∙ h) in
     first_of (search rules, grind (arith, common_steps))
 
 pub counted-returns-clause-value : goal.counted-returns-clause-value
 counted-returns-clause-value t c = λ line marked.
     let p = c.args.place.now in let done = c.args.done.now in let first = c.args.first.now in let cond = c.args.cond.now in let step = c.args.step.now in let body = c.args.body.now in
     let start = c.in_ok-statements.ensures.place in
-    let tested = (λ i. expr_answer (sym start i).names cond) ∙ c.in_ok-cond.ensures in
+    let tested = (λ i. expr_answer (sym start i).names cond) ∙ c.in_ok-site.ensures.expr in
     let behind = c.in_ok-site.ensures.place ∙ (λ i. sited (start i)) in
     let inside = (λ i. loop_answer (sym behind i) step body) ∙ c.in_ok-body.ensures.value in
     let site = c.in_ok-site.ensures.site ∙ (λ i. next_site (start i)) in
-    steps.for_given p done line marked first cond step body _ c.in_ok-statements.ensures.value c.in_ok-cond.cond tested c.in_ok-body.body inside
-    ∙ (λ i. Rattle.std.proofs.Common.Ok (c.statements.new.done ++ code.While (sym site i) c.in_ok-cond.cond c.in_ok-body.body ∷ []))
+    steps.for_given p done line marked first cond step body _ c.in_ok-statements.ensures.value c.in_ok-site.cond tested c.in_ok-body.body inside
+    ∙ (λ i. Rattle.std.proofs.Common.Ok (c.statements.new.done ++ code.While (sym site i) c.in_ok-site.cond c.in_ok-body.body ∷ []))
 
 pub counted-returns-clause-place : goal.counted-returns-clause-place
 counted-returns-clause-place t c = λ line marked.

@@ -1,4 +1,4 @@
-use Rattle.std.proofs.Common.{rules, sym, ◌∙◌}
+use Rattle.std.proofs.Common.{rules}
 use denote.Enum.Bare.{same_true}
 use Rattle.dp_tokens.specs.contracts.symbol.Symbol.{the_type}
 use Rattle.dp_tokens.specs.Steps.{same_symbol}
@@ -9,4 +9,4 @@ unfolding same_symbol
 returns-clause-value c = search rules
 
 pub returns-clause-same : goal.returns-clause-same
-returns-clause-same c is = same_true the_type (search rules) _ _ (sym c.eq.ensures ∙ is)
+returns-clause-same c is = same_true the_type (search rules) _ _ is

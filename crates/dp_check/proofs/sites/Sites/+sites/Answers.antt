@@ -17,13 +17,13 @@ pub statements-returns : goal.statements-returns
 statements-returns t c =
     sym (fold_end (λ t all. with_sites t (sites_of c.args.region (parts_all all))) (λ t s. with_sites t (sites_of c.args.region (parts s))) (tables.sites_more c.args.region) c.args.all.now c.loop-s.s-index c.loop-s.self _ c.loop-s.invariant (omega arith) ∙ tables.with_sites-none c.loop-s.self)
 
-pub statement-returns-in_ok-statements-in-If-2 : goal.statement-returns-in_ok-statements-in-If-2
-statement-returns-in_ok-statements-in-If-2 t c =
-    let r = c.args.region in
+pub statement-returns-in_ok-statements-in-If : goal.statement-returns-in_ok-statements-in-If
+statement-returns-in_ok-statements-in-If t c =
+    let r = c.args.region in let f = c.in-If in let old = c.args.self.now in
     let then_end = c.in_ok-statements-in-If.ensures ∙ (λ i. with_sites (c.in_ok-site-in-If.ensures i) (sites_of r (parts_all (c.as_slice.ensures i)))) in
-    rw c.in-If.is
-    (c.in_ok-statements-in-If-2.ensures ∙ (λ i. with_sites (then_end i) (sites_of r (parts_all (c.as_slice-in-If.ensures i))))
-    ∙ sym (tables.site-If c.args.self.now r c.in-If.line c.in-If.cond c.in-If.then_part c.in-If.else_part))
+    subst (λ (grown : Sites). OnOk c.statements-in-If.result (c.statements-in-If.new.self ≡ grown))
+    ((λ i. with_sites (then_end i) (sites_of r (parts_all (c.as_slice-in-If.ensures i)))) ∙ sym (ap (λ s. with_sites old (sites_of r (parts s))) f.is ∙ tables.site-If old r f.line f.cond f.then_part f.else_part))
+    c.statements-in-If.ensures
 
 pub statement-returns-in-While : goal.statement-returns-in-While
 statement-returns-in-While t c =
@@ -32,14 +32,14 @@ statement-returns-in-While t c =
     ((λ i. with_sites old (sites_of r (Site w.line kind.While ∷ parts_all (c.as_slice-in-While.ensures i)))) ∙ sym (tables.site-While old r w.line w.marked w.cond w.body) ∙ ap (λ s. with_sites old (sites_of r (parts s))) (sym w.is))
     c.turns.ensures
 
-pub statement-returns-in_ok-statements-in-For-2 : goal.statement-returns-in_ok-statements-in-For-2
-statement-returns-in_ok-statements-in-For-2 t c =
-    let r = c.args.region in let f = c.in-For in
-    let first_end = c.in_ok-statements-in-For.ensures ∙ (λ i. with_sites c.args.self.now (sites_of r (parts_all (c.as_slice-in-For.ensures i)))) in
+pub statement-returns-in_ok-turns-in-For : goal.statement-returns-in_ok-turns-in-For
+statement-returns-in_ok-turns-in-For t c =
+    let r = c.args.region in let f = c.in-For in let old = c.args.self.now in
+    let first_end = c.in_ok-statements-in-For.ensures ∙ (λ i. with_sites old (sites_of r (parts_all (c.as_slice-in-For.ensures i)))) in
     let body_end = c.in_ok-turns-in-For.ensures ∙ (λ i. with_sites (first_end i) (sites_of r (Site f.line kind.While ∷ parts_all (c.as_slice-in-For-2.ensures i)))) in
-    rw f.is
-    (c.in_ok-statements-in-For-2.ensures ∙ (λ i. with_sites (body_end i) (sites_of r (parts_all (c.as_slice-in-For-3.ensures i))))
-    ∙ sym (tables.site-For c.args.self.now r f.line f.marked f.first f.cond f.step f.body))
+    subst (λ (grown : Sites). OnOk c.statements-in-For-2.result (c.statements-in-For-2.new.self ≡ grown))
+    ((λ i. with_sites (body_end i) (sites_of r (parts_all (c.as_slice-in-For-3.ensures i)))) ∙ sym (ap (λ s. with_sites old (sites_of r (parts s))) f.is ∙ tables.site-For old r f.line f.marked f.first f.cond f.step f.body))
+    c.statements-in-For-2.ensures
 
 pub turns-returns : goal.turns-returns
 turns-returns t c =

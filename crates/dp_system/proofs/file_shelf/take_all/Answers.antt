@@ -1,7 +1,7 @@
 use Rattle.std.proofs.Common.{sym, subst, rules}
 use Rattle.std.specs.Io.KnownBytes.{Consumes}
 use Rattle.std.proofs.KnownBytes.{Consumes-trans, starts_with_rest}
-use Rattle.dp_edge.proofs.file_shelf.take_all.Goals as goal
+use Rattle.dp_system.proofs.file_shelf.take_all.Goals as goal
 
 pub turns-preserved : goal.turns-preserved
 turns-preserved g c =

@@ -2,7 +2,7 @@
 ghost use Rattle.std.specs.Prelude.{ℕ, take, OnOk, OnErr};
 ghost use Rattle.std.specs.Io.KnownBytes.{Appends};
 
-use crate::sink::{PutFail, Sink};
+use dp_edge::{PutFail, Sink};
 use std::io::{self, Write};
 use std::marker::Model;
 

@@ -4,7 +4,7 @@ ghost use Rattle.std.specs.Io.{StartsWith, appended_bytes};
 ghost use Rattle.std.specs.Io.KnownBytes.{Consumes, IsAtEnd};
 ghost use Rattle.dp_edge.specs.Shelf.{OnTooLong};
 
-use crate::shelf::{Shelf, ShelfFail};
+use dp_edge::{Shelf, ShelfFail};
 use std::alloc::Global;
 use std::fs;
 use std::io::{self, Read};
@@ -23,7 +23,7 @@ pub struct FileShelf<'a, R: Files> {
 }
 
 impl<'a, R: Files> Model for FileShelf<'a, R> {
-    ghost use Rattle.dp_edge.specs.FileShelf.{Counts};
+    ghost use Rattle.dp_system.specs.FileShelf.{Counts};
 
     ghost Value = { Counts };
 
@@ -32,7 +32,7 @@ impl<'a, R: Files> Model for FileShelf<'a, R> {
 
 impl<'a, R: Files> FileShelf<'a, R> {
     ghost use Rattle.std.specs.Prelude.{◌≡◌};
-    ghost use Rattle.dp_edge.specs.FileShelf.{Counts};
+    ghost use Rattle.dp_system.specs.FileShelf.{Counts};
 
     /// The files, with no fault met and no byte taken.
     pub fn new(rt: &'a R) -> FileShelf<'a, R>

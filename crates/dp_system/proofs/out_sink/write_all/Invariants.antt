@@ -1,7 +1,7 @@
 -- Each turn takes bytes off the front of the rest and appends them.
 use Rattle.std.proofs.Common.{◌≡◌, List, ℕ, ◌++◌, length}
 use Rattle.std.specs.Io.KnownBytes.{Appends}
-use Rattle.dp_edge.proofs.out_sink.write_all.Given as goal
+use Rattle.dp_system.proofs.out_sink.write_all.Given as goal
 
 abbrev pub invariant-turns : goal.invariant-turns
 invariant-turns g l =

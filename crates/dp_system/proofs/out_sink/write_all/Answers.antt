@@ -1,8 +1,8 @@
 use Rattle.std.proofs.Common.{◌≡◌, ℕ, ◌-◌, List, ◌++◌, length, take, drop, sym, ap, ◌∙◌, append_assoc, take-append-drop}
 use Rattle.std.proofs.lemmas.List.{take_rest}
 use Rattle.std.proofs.KnownBytes.{Appends-trans}
-use Rattle.dp_edge.proofs.KnownBytes.{front_and_more, front_alone}
-use Rattle.dp_edge.proofs.out_sink.write_all.Goals as goal
+use Rattle.dp_system.proofs.KnownBytes.{front_and_more, front_alone}
+use Rattle.dp_system.proofs.out_sink.write_all.Goals as goal
 
 moves_front : (all done rest : List ℕ) (n : ℕ) → all ≡ done ++ rest → all ≡ (done ++ take n rest) ++ take (length rest - n) (drop n rest)
 moves_front all done rest n e =

@@ -1,7 +1,7 @@
 -- Each turn appends what the file loses.
 use Rattle.std.proofs.Common.{◌≤◌, ◌-◌, vec_len}
 use Rattle.std.specs.Io.KnownBytes.{Consumes}
-use Rattle.dp_edge.proofs.file_shelf.take_all.Given as goal
+use Rattle.dp_system.proofs.file_shelf.take_all.Given as goal
 
 abbrev pub invariant-turns : goal.invariant-turns
 invariant-turns g l =

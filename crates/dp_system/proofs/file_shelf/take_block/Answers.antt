@@ -1,7 +1,7 @@
 use Rattle.std.proofs.Common.{◌≡◌, length, take, sym, ap, ◌∙◌, subst, rules}
 use Rattle.std.specs.Io.KnownBytes.{Consumes}
-use Rattle.dp_edge.proofs.KnownBytes.{appended_cut, written_whole}
-use Rattle.dp_edge.proofs.file_shelf.take_block.Goals as goal
+use Rattle.dp_system.proofs.KnownBytes.{appended_cut, written_whole}
+use Rattle.dp_system.proofs.file_shelf.take_block.Goals as goal
 
 pub returns-in-Ok-clause-bytes : goal.returns-in-Ok-clause-bytes
 returns-in-Ok-clause-bytes g c =

@@ -1,0 +1,8 @@
+//! The outside as the system has it: files as a shelf, and standard output as a sink.
+#![tactic(auto)]
+
+mod file_shelf;
+mod out_sink;
+
+pub use file_shelf::FileShelf;
+pub use out_sink::OutSink;
