@@ -15,7 +15,7 @@ use Rattle.dp_words.proofs.VerbLemmas.{apart}
 use Rattle.dp_words.specs.Commands.{IsTaken, gen_app, plan_app, profile_app, run_app, value_in}
 use Rattle.dp_words.specs.steps.Reading.{HoldsMade, HoldsOptions, HoldsProfiling, HoldsRun, values_of}
 use Rattle.dp_words.specs.Words.{Names}
-use Rattle.dp_words.specs.Values.{Values, default_fuel, default_rate, default_stages, number_in, number_or, options_in}
+use Rattle.dp_words.specs.Values.{Values, default_fuel, default_rate, default_stages, is_set, number_in, number_or, options_in}
 use Rattle.dp_words.specs.Run.{Run, ShowsRun, source_of}
 use Rattle.dp_words.specs.Planning.{Planning, ShowsPlanning}
 use Rattle.dp_words.specs.Sites.{ShowsSites}
@@ -81,7 +81,7 @@ moved_run value other same run h = record {
   options = h.options ∙ same_options value other same;
   lane = h.lane ∙ ap (number_or 16) (same (codes "lane"));
   fuel = h.fuel ∙ ap (number_or default_fuel) (same (codes "fuel"));
-  why = sym (same (codes "why")) ∙ h.why;
+  why = h.why ∙ ap is_set (same (codes "why"));
 }
 
 pub moved_planning : (value other : Values) → SameValues value other → (planning : Planning) → ShowsPlanning value planning → ShowsPlanning other planning

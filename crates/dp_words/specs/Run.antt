@@ -1,5 +1,5 @@
 -- The run that values name.
-use Rattle.std.specs.Prelude.{◌≡◌, ℕ, ◌≤◌, if◌then◌else◌, Bool, List, Option, Some, None, codes}
+use Rattle.std.specs.Prelude.{◌≡◌, ℕ, ◌≤◌, Bool, List, Option, Some, None, codes}
 use Rattle.std.specs.Option.{option_map}
 use Rattle.clap.specs.Words.{Text}
 use Rattle.dp_base.specs.declared.limits.TheConstants.{FUEL, LANE}
@@ -7,7 +7,7 @@ use Rattle.dp_words.specs.declared.task.PlanOptions.{PlanOptions}
 use Rattle.dp_words.specs.declared.task.PlanSource.{PlanSource}
 use Rattle.dp_words.specs.declared.task.PlanSource.TheVariants as source
 use Rattle.dp_words.specs.declared.task.RunWords.{RunWords}
-use Rattle.dp_words.specs.Values.{OptionsWithin, Values, fuel_in, lane_in, options_in}
+use Rattle.dp_words.specs.Values.{OptionsWithin, Values, fuel_in, is_set, lane_in, options_in}
 
 -- where plans come from: the text of this name, or they are the least ones, by the profile of this name if there is one
 pub data Source : Type 0 where
@@ -39,7 +39,7 @@ pub record ShowsRun (value : Values) (run : Run) : Type 0 where
   pub options : run.options ≡ options_in value
   pub lane : run.lane ≡ lane_in value
   pub fuel : run.fuel ≡ fuel_in value
-  pub why : value (codes "why") ≡ Some (if run.why then codes "true" else codes "false")
+  pub why : run.why ≡ is_set (value (codes "why"))
 
 -- where plans come from, by the program's own record
 abbrev pub shown_source : PlanSource → Source

@@ -1,5 +1,6 @@
 -- What the values of names and options stand for.
-use Rattle.std.specs.Prelude.{ℕ, ◌≤◌, Option, Some, None, codes}
+use Rattle.std.specs.Prelude.{ℕ, ◌≤◌, Bool, false, Option, Some, None, codes}
+use Rattle.std.specs.Str.{bytes_eq}
 use Rattle.std.specs.Str.Parse.{digits_value, without_leading_plus}
 use Rattle.clap.specs.Words.{Text}
 use Rattle.dp_base.specs.declared.limits.TheConstants.{RATE, STAGES, WORKERS}
@@ -12,10 +13,15 @@ Values = Text → Option Text
 abbrev pub number_in : Text → ℕ
 number_in text = digits_value 10 (without_leading_plus text)
 
--- the number that an option gives, or its default
+-- the number that an option gives; its default, where the option isn't given or the command doesn't have it
 abbrev pub number_or : ℕ → Option Text → ℕ
 number_or default None = default
 number_or default (Some text) = number_in text
+
+-- an option that stands alone is set; one that the command doesn't have isn't
+abbrev pub is_set : Option Text → Bool
+is_set None = false
+is_set (Some text) = bytes_eq text (codes "true")
 
 -- the rate, the stages and the fuel that no option gives
 abbrev pub default_rate : ℕ

@@ -1,6 +1,7 @@
 //! What the matches of a verb's words show.
-ghost use Rattle.std.specs.Prelude.{◌≡◌, Bool, Some, codes, if◌then◌else◌, IfSome, IfNone};
+ghost use Rattle.std.specs.Prelude.{◌≡◌, Some, IfSome, IfNone};
 ghost use Rattle.std.specs.Option.{option_map};
+ghost use Rattle.dp_words.specs.Values as spec;
 ghost use Rattle.dp_words.specs.Values.{OptionsWithin, number_in, number_or, options_in};
 ghost use Rattle.dp_words.specs.Run.{Run, RunWithin, ShowsRun, shown, shown_source, source_of};
 ghost use Rattle.dp_words.specs.Planning.{Planning, ShowsPlanning, shown_planning};
@@ -34,7 +35,7 @@ pub fn run_words<'w>(matches: &ArgMatches<'w>) -> Option<RunWords<'w>>
     let options = plan_options(matches)?;
     let lane = small_number(matches.get_str("lane"), DEFAULT_LANE)?;
     let fuel = number(matches.get_str("fuel"), DEFAULT_FUEL)?;
-    let why = truth(matches.get_str("why")?)?;
+    let why = is_set(matches.get_str("why"));
     Some(RunWords {
         program,
         input: matches.get_str("input"),
@@ -157,10 +158,12 @@ fn given_number(text: Option<&str>) -> Option<u32>
     small_number(Some(text?), 0)
 }
 
-/// What `true` and `false` say.
-fn truth(text: &str) -> Option<bool>
-    ensures some { IfSome result (λ why. text.now ≡ (if why then codes "true" else codes "false")) }
-    ensures none { IfNone result ((why : Bool) → ¬ (text.now ≡ (if why then codes "true" else codes "false"))) }
+/// Whether an option that stands alone is given.
+fn is_set(text: Option<&str>) -> bool
+    ensures { result ≡ spec.is_set (option_map (λ t. t.now) text.entry) }
 {
-    text.parse::<bool>().ok()
+    match text {
+        Some(text) => text == "true",
+        None => false,
+    }
 }

@@ -1,22 +1,17 @@
 -- Words ask for one thing only.
-use Rattle.std.proofs.Common.{◌≡◌, refl, sym, ap, ap₂, ◌∙◌, ℕ, ◌==◌, Bool, true, false, if◌then◌else◌, List, length, Option, Some, None, codes}
-use Rattle.std.specs.Option.{option_map_or}
+use Rattle.std.proofs.Common.{◌≡◌, refl, sym, ap, ap₂, ◌∙◌, ℕ, List, Some, None, codes}
 use Rattle.clap.specs.Words.{App, Text}
 use Rattle.dp_words.proofs.VerbLemmas.{apart, asks_verb, behind, named_behind, verb_of}
 use Rattle.dp_words.specs.Commands.{check_app, gen_app, plan_app, profile_app, run_app, value_in}
 use Rattle.dp_words.specs.declared.task.GenWords.{GenWords}
 use Rattle.dp_words.specs.Words.{Asked, Asks, AsksBy, ToList, ToMake, ToPlan, ToProfile, ToRun}
-use Rattle.dp_words.specs.Values.{Values, default_fuel, default_rate, default_stages, fuel_in, lane_in, options_in, workers_in}
+use Rattle.dp_words.specs.Values.{Values, default_fuel, default_rate, default_stages, fuel_in, is_set, lane_in, options_in, workers_in}
 use Rattle.dp_words.specs.Run.{Run, Source, ShowsRun}
 use Rattle.dp_words.specs.Planning.{Planning, ShowsPlanning}
 use Rattle.dp_words.specs.Sites.{ShowsSites}
 use Rattle.dp_words.specs.Profiling.{Profiling, ShowsProfiling}
 use Rattle.dp_words.specs.Made.{ShowsMade}
 use Rattle.dp_drive.specs.Answer.{run_fuel}
-
--- whether a flag was given, by the number of letters of its value
-abbrev why_of : Option Text → Bool
-why_of value = option_map_or (λ text. length text == 4) value false
 
 -- the run that values stand for
 abbrev run_from : Values → Text → Source → Run
@@ -27,15 +22,11 @@ run_from value program plans = record {
   options = options_in value;
   lane = lane_in value;
   fuel = fuel_in value;
-  why = why_of (value (codes "why"));
+  why = is_set (value (codes "why"));
 }
 
-why_is : (b : Bool) → why_of (Some (if b then codes "true" else codes "false")) ≡ b
-why_is true = refl
-why_is false = refl
-
 run_is : (value : Values) (run : Run) → ShowsRun value run → run_from value run.program run.source ≡ run
-run_is value run h = rw (h.input, ← h.options, ← h.lane, ← h.fuel, h.why, why_is run.why) refl
+run_is value run h = rw (h.input, ← h.options, ← h.lane, ← h.fuel, ← h.why) refl
 
 runs_once : (value : Values) (run other : Run) → ShowsRun value run → ShowsRun value other → run ≡ other
 runs_once value run other a b =
