@@ -2,8 +2,8 @@
 use Rattle.std.specs.Prelude.{◌≡◌, ℕ, ◌+◌, ◌≤◌, ◌<◌, List, [], ◌∷◌, ◌++◌, map, length, All, ℤ, Option, Some, None, Result, Ok, Err, IsUtf8, Contains}
 use Rattle.dp_base.specs.declared.Quantity.TheVariants.{ListBytes}
 use Rattle.dp_base.specs.declared.limits.TheConstants.{LIST_BYTES}
-use Rattle.dp_plan_text.specs.PlanText.{lines_of}
-use Rattle.dp_plan_text.specs.Refused.{IsRefusedAt}
+use Rattle.dp_text.specs.Lines.{lines_of}
+use Rattle.dp_text.specs.Refused.{IsRefusedAt}
 use Rattle.dp_refusal.specs.declared.refusal.Refusal.{Refusal}
 use Rattle.dp_refusal.specs.declared.refusal.Refusal.TheVariants.{BatchWord, InputWord, Limit, ListLine}
 use Rattle.dp_load.specs.Roles.{Contents, Holds, ReadsInput}

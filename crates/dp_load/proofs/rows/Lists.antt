@@ -2,7 +2,7 @@
 use Rattle.std.proofs.Common.{◌≡◌, refl, ◌<◌, arith, ℕ, List, [], ◌∷◌, ◌++◌, map, length, pos, Ok, Err}
 use Rattle.std.specs.Prelude.{codes}
 use Rattle.dp_base.specs.declared.Quantity.TheVariants.{InputWords}
-use Rattle.dp_plan_text.specs.PlanText.{lines_of}
+use Rattle.dp_text.specs.Lines.{lines_of}
 use Rattle.dp_refusal.specs.declared.refusal.Refusal.TheVariants.{BatchWord, InputWord, Limit}
 use Rattle.dp_load.specs.Lists.{IsList, in_list}
 
