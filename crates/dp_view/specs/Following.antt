@@ -1,0 +1,41 @@
+-- What is kept of a run's iterations tells which of them are clean.
+use Rattle.std.specs.Prelude.{◌≡◌, ℕ, suc, ◌-◌, ◌≤◌, ◌&&◌, true, false, is_none, List, ℤ, None, Some, if◌then◌else◌}
+use Rattle.dp_tree.specs.declared.Program.{Program}
+use Rattle.dp_tree.specs.Step.{Config}
+use Rattle.dp_tree.specs.Trace.{Run, run_of}
+use Rattle.dp_tree.specs.InMain.{StandsInMain}
+use Rattle.dp_tree.specs.Iteration.{start, iteration, has_ended, is_closing, memory_after}
+use Rattle.dp_plan.specs.declared.Plan.{Plan}
+use Rattle.dp_semantics.specs.Clean.{is_clean}
+use Rattle.dp_semantics.specs.Recovery.{epoch}
+use Rattle.dp_semantics.specs.FindsCauses.{watch_before}
+use Rattle.dp_semantics.specs.Verdict.{CleanSince, memory_of}
+use Rattle.dp_view.specs.Viewed.{Viewed, after_all, settled, onward, anew}
+
+-- This is kept where iteration i of the run begins, in the epoch that began at e.
+pub record KeptBefore (p : Program) (plan : Plan) (run : Run) (e i : ℕ) (v : Viewed) : Type 0 where
+  pub program : v.program ≡ p
+  pub plan_is : v.plan ≡ plan
+  pub watch : v.watch ≡ watch_before p plan run e (i - e)
+  pub source : v.source ≡ memory_after run plan.region i
+  pub before : v.before ≡ memory_after run plan.region i
+  pub found : v.found ≡ None
+  pub since : e ≤ i
+  pub epoch : epoch p plan run i ≡ e
+  pub clean : CleanSince p plan run e i
+
+-- the epoch of the next iteration, and what is kept where that begins
+abbrev pub KeptNext : Program → Plan → Run → ℕ → ℕ → Viewed → Type 0
+KeptNext p plan run e i v = KeptBefore p plan run (if is_none v.found then e else suc i) (suc i) (if is_none v.found then onward (settled v) else anew (settled v))
+
+-- Behind the iteration's events it is known whether it is clean, and where the next one begins that is kept of it.
+pub record Tells (p : Program) (plan : Plan) (run : Run) (e i : ℕ) (v : Viewed) : Type 0 where
+  pub clean : is_clean p plan run e i ≡ (has_ended run plan.region i && is_none v.found)
+  pub source : v.source ≡ memory_of run plan.region i
+  pub before : v.before ≡ memory_after run plan.region i
+  pub next : has_ended run plan.region i ≡ true → is_closing run plan.region i ≡ false → KeptNext p plan run e i v
+
+-- So it is in each run that begins within `main`, at each iteration that starts.
+abbrev pub ViewsTell : Program → Plan → Type 0
+ViewsTell p plan = (input : List ℤ) (fuel : ℕ) (c : Config) → StandsInMain p c → (e i k : ℕ) → start (run_of p input fuel c) plan.region i ≡ Some k → (v : Viewed) → KeptBefore p plan (run_of p input fuel c) e i v →
+    Tells p plan (run_of p input fuel c) e i (after_all (iteration (run_of p input fuel c) plan.region i) v)

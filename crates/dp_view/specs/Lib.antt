@@ -1,0 +1,6 @@
+pub mod Viewed
+pub mod Marked
+pub mod Memories
+pub mod Kept
+pub mod Changed
+pub mod Following
