@@ -1,0 +1,34 @@
+use Rattle.std.proofs.Common.{◌∙◌, sym, ap, subst, List, [], ℤ, length, true}
+use Rattle.dp_audit.specs.declared.group.Group.{Group}
+use Rattle.dp_audit.specs.declared.runner.Runner.{Runner}
+use Rattle.dp_audit.specs.Copy.{changes_but}
+use Rattle.dp_audit.specs.Groups.{Makes}
+use Rattle.dp_audit.proofs.CleanLemmas.{judged_closed, judged_size, may_be}
+use Rattle.dp_audit.proofs.runner.Runner.close.Goals as goal
+
+pub commit-requires-clause-next : goal.commit-requires-clause-next
+commit-requires-clause-next c = let j = c.requires.judged in may_be j.0 j.1 j.2 j.3 c.args.self.now j.4 c.args.clean j.5
+
+pub changes-requires-clause-size : goal.changes-requires-clause-size
+changes-requires-clause-size c =
+    let j = c.requires.judged in
+    let done = c.in_ok-commit.ensures in
+    judged_size j.0 j.1 j.2 j.3 c.args.self.now j.4 c.args.clean j.5 c.commit.new.ledger.committed done.ok c.commit.new.ledger.report done.report true c.requires.closing
+    ∙ ap (λ (xs : List ℤ). length xs) (sym c.cells-cells.ensures)
+
+pub returns : goal.returns
+returns c = record {
+  made = λ p plan input first v j.
+      let old = c.args.self.now in
+      let done = c.in_ok-commit.ensures in
+      let next : Runner = record {
+        epochs = old.epochs;
+        ledger = record { committed = c.commit.new.ledger.committed; report = c.commit.new.ledger.report; waiting = [] };
+        known = c.changes.new.self;
+        verdicts = old.verdicts;
+      } in
+      subst (λ (x : Runner). Makes p plan input first old.ledger.committed x c.group.result) (sym c.group.ensures.kept)
+      (subst (λ (x : Group). Makes p plan input first old.ledger.committed next x) (sym c.group.ensures.group)
+      (judged_closed p plan input first old v c.args.clean j c.commit.new.ledger.committed done.ok c.commit.new.ledger.report done.report c.commit.new.ledger.waiting done.waiting c.changes.new.self
+      c.count-number.result c.count-number.ensures.value c.in_ok-sets.sets (c.in_ok-sets.ensures.sets ∙ ap (changes_but old.known.locals old.known.cells) c.cells-cells.ensures) c.requires.closing old.verdicts));
+}

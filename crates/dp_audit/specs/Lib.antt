@@ -1,0 +1,4 @@
+pub mod Copy
+pub mod Stored
+pub mod Runs
+pub mod Groups

@@ -1,0 +1,6 @@
+mod PourLemmas
+mod LineLemmas
+mod GroupLines
+mod SameLines
+mod PartLemmas
+mod WholeLog

@@ -1,0 +1,4 @@
+pub mod Pouring
+pub mod Lines
+pub mod Logged
+pub mod Parts
