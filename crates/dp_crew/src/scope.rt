@@ -51,7 +51,7 @@ pub(crate) fn run_one_epoch<'p, R: Threads + Wait + Clock + Sync, K: Sink, G: Ga
     let Pipeline { units, verdicts } = pipeline_here(
         alloc, p, plan, input, programs, crew, begun, &flag, lent,
     )?;
-    let (slots, made, started) = seats_of(alloc, units)?;
+    let (slots, made, started) = seats_of(alloc, units, crew.threads)?;
     let bells = made.as_slice();
     commit_in_threads(
         rt, alloc, slots, started, verdicts, bells, &flag, setter, ledger, sink, gate, tally,

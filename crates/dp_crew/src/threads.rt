@@ -22,11 +22,16 @@ pub(crate) struct Started<'u> {
     pub(crate) own: Row<Unit<'u>>,
 }
 
-/// A slot for each unit, with the unit in it, a bell for each, and room for as many threads.
+/// A slot for each unit, with the unit in it, a bell for each, and room for as many threads; or none of these, where the
+/// units are to be the caller's own.
 pub(crate) fn seats_of<'u>(
     alloc: Global,
     units: Row<Unit<'u>>,
+    threads: bool,
 ) -> Result<(Vec<Slot<'u>>, Vec<Bell>, Started<'u>), NoMemory> {
+    if !threads {
+        return Ok((Vec::new(alloc), Vec::new(alloc), all_own(alloc, units)));
+    }
     let bells = bells_of(alloc, units.as_slice())?;
     let started = none_started(alloc, units.len())?;
     let slots = slots_of(alloc, units)?;
@@ -39,6 +44,14 @@ fn none_started<'u>(alloc: Global, count: usize) -> Result<Started<'u>, NoMemory
         threads: Vec::with_capacity(alloc, count)?,
         own: Row::with_capacity(alloc, count)?,
     })
+}
+
+/// No threads, and these units as the caller's own.
+fn all_own<'u>(alloc: Global, units: Row<Unit<'u>>) -> Started<'u> {
+    Started {
+        threads: Vec::new(alloc),
+        own: units,
+    }
 }
 
 /// Lays each unit into a slot of its own.

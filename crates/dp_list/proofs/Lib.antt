@@ -1,0 +1,5 @@
+mod OneLine
+mod NameLemmas
+mod Listing
+mod ReadOn
+pub mod rows

@@ -1,0 +1,3 @@
+pub mod ListText
+pub mod Refused
+pub mod steps

@@ -1,0 +1,13 @@
+-- Texts that are no list, with the line at which they are refused; and what a text is read as.
+use Rattle.std.specs.Prelude.{ℕ, List, Result, Ok, Err}
+use Rattle.dp_text.specs.Lines.{lines_of}
+use Rattle.dp_text.specs.Refused.{IsRefusedAt}
+use Rattle.dp_list.specs.declared.ListFail.{ListFail}
+use Rattle.dp_list.specs.declared.ListFail.TheVariants.{Refused, NoMemory}
+use Rattle.dp_list.specs.ListText.{IsList, ListLines}
+
+-- what a text is read as: the names that its lines list, or the line at which it is refused; want of memory may come at any place
+abbrev pub ReadsAs : List ℕ → Result (List (List ℕ)) ListFail → Type 0
+ReadsAs bytes (Ok names) = ListLines (lines_of bytes) names
+ReadsAs bytes (Err (Refused line)) = IsRefusedAt IsList (lines_of bytes) line
+ReadsAs bytes (Err NoMemory) = Unit {0}
