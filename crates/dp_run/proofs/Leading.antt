@@ -124,13 +124,40 @@ module _ (p : Program) (input : List ℤ) (fuel : ℕ) (run : Run) where
     pub next_is : (q : Part) → part_of m.config.to_do ≡ q → next_part m ≡ q
     next_is q e = part_here ∙ e
 
+  module _ (n : ℕ) (m : MachineState) (b : Behind p input fuel run n m) where
     -- the configuration is one of the run's
-    pub config_here : slice_get run.configs (length b.behind.passed.events + 0) ≡ Some m.config
-    config_here =
+    config_there : slice_get run.configs (length b.passed.events + 0) ≡ Some m.config
+    config_there =
         let begins = run_begins m.program m.input (fuel_left m) m.config in
-        config_at run (rest_of_run m) b.behind.passed.events b.behind.passed.configs b.behind.passed.piece 0 ∙ ap (λ (cs : List Config). slice_get cs 0) begins.1
+        config_at run (rest_of_run m) b.passed.events b.passed.configs b.passed.piece 0 ∙ ap (λ (cs : List Config). slice_get cs 0) begins.1
+
+    stands_there : IsInlined p → StandsInMain p m.config
+    stands_there h =
+        let start = b.begins in
+        stays_in_main p input h.regions start.steps (length b.passed.events + 0) start.from m.config start.stands (subst (λ (u : Run). slice_get u.configs (length b.passed.events + 0) ≡ Some m.config) start.run_is config_there)
+
+    -- .. and it stands so in the run that begins with it
+    pub behind_own : IsInlined p → Behind p input fuel (rest_of_run m) n m
+    behind_own h = record {
+      begins = record {
+        from = m.config;
+        steps = fuel_left m;
+        stands = stands_there h;
+        within = omega (arith, b.fuel_is);
+        run_is = ap (λ (q : Program). run_of q m.input (fuel_left m) m.config) b.program_is ∙ ap (λ (xs : List ℤ). run_of p xs (fuel_left m) m.config) b.input_is;
+      };
+      program_is = b.program_is;
+      input_is = b.input_is;
+      fuel_is = b.fuel_is;
+      passed = passed_none (rest_of_run m) (suc n);
+      left = b.left;
+      between = b.between;
+      sound = b.sound;
+    }
+
+  module _ (n : ℕ) (m : MachineState) (b : Between p input fuel run n m) where
+    pub config_here : slice_get run.configs (length b.behind.passed.events + 0) ≡ Some m.config
+    config_here = config_there n m b.behind
 
     pub stands_here : IsInlined p → StandsInMain p m.config
-    stands_here h =
-        let start = b.behind.begins in
-        stays_in_main p input h.regions start.steps (length b.behind.passed.events + 0) start.from m.config start.stands (subst (λ (u : Run). slice_get u.configs (length b.behind.passed.events + 0) ≡ Some m.config) start.run_is config_here)
+    stands_here h = stands_there n m b.behind h

@@ -1,15 +1,19 @@
-mod Lists
-mod StreamLemmas
-mod RegionsLeft
-mod Tops
-mod Passing
-mod Leading
-mod PartLemmas
-mod Reporting
-mod Regions
-mod Counting
-mod Prints
-mod RegionCalls
-mod Ending
-mod PlanByPlan
-mod Whole
+pub mod Lists
+pub mod StreamLemmas
+pub mod RegionsLeft
+pub mod Tops
+pub mod Passing
+pub mod Leading
+pub mod PartLemmas
+pub mod HeadPlaces
+pub mod InOrder
+pub mod Reporting
+pub mod Regions
+pub mod Counting
+pub mod Prints
+pub mod Before
+pub mod RegionFirst
+pub mod RegionCalls
+pub mod Ending
+pub mod PlanByPlan
+pub mod Whole

@@ -8,10 +8,13 @@ use Rattle.dp_plan.specs.declared.Plan.{Plan}
 use Rattle.dp_plan.proofs.RegionFacts.{few_regions}
 use Rattle.dp_semantics.specs.Reported.{region_report}
 use Rattle.dp_theorem.proofs.Central.{fuel_is}
-use Rattle.dp_meaning.specs.MachineState.{MachineState}
+use Rattle.dp_meaning.specs.MachineState.{MachineState, rest_of_run}
+use Rattle.dp_crew.specs.Output.{Emits}
 use Rattle.dp_run.specs.Given.{AreNext}
 use Rattle.dp_run.specs.RunText.{committed_count}
-use Rattle.dp_run.specs.Stretches.{Between, Counted, Leads, RunsFrom, Went}
+use Rattle.dp_run.specs.Stretches.{Ahead, Between, Counted, FrontBefore, Leads, RunsFrom, Went, to_come}
+use Rattle.dp_run.proofs.Before.{before_less, before_on}
+use Rattle.dp_run.proofs.Leading.{behind_own}
 use Rattle.dp_run.proofs.Counting.{counted_next, number_is, room}
 
 -- the run makes no more steps than the fuel allows
@@ -66,3 +69,13 @@ module _ (p : Program) (plans : List Plan) (input : List ℤ) (fuel : ℕ) (run 
       let next : suc k ≡ k + 1 = omega arith in
       subst (λ (j : ℕ). Counted p plans run j told more before now) next
       (counted_next p plans run k plan is told reports more before mid now counted (reported run (n + k) number at_own) (tally run (n + k) number at_own))
+
+-- It stopped in the next plan's region, or in the plain part behind it: so before each region behind those of all plans.
+pub front_next : (p : Program) (plans : List Plan) (input : List ℤ) (fuel : ℕ) (run : Run) (n : ℕ) (first : MachineState) → Ahead p plans input fuel run n first → (k : ℕ) → k < length plans → (plan : Plan) → slice_get plans k ≡ Some plan →
+    (m : MachineState) → (Ahead p plans input fuel (rest_of_run first) n first → Between p input fuel (rest_of_run first) (n + k) m) → (told mid tells : Option (List ℕ)) → Emits (to_come first) (to_come m) told mid →
+    FrontBefore (suc plan.region) [] m mid tells → FrontBefore (suc (n + length plans)) [] first told tells
+front_next p plans input fuel run n first a k below plan is m there told mid tells e f =
+    let b = there (record { next = a.next; behind = behind_own p input fuel run n first a.behind a.next.inlined }) in
+    let number = number_is p n plans a.next k plan is in
+    before_on first m (suc (n + k)) b.behind.passed [] [] told mid tells e (suc (n + length plans)) (omega (arith, below))
+    (before_less [] m mid tells (suc plan.region) (suc (n + length plans)) (omega (arith, number, below)) f)

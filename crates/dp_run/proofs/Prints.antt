@@ -1,5 +1,5 @@
 -- What is to be printed, and what was written of it.
-use Rattle.std.proofs.Common.{◌≡◌, refl, sym, ap, ◌∙◌, append_assoc, ℕ, zero, suc, ◌+◌, ◌-◌, ◌≤◌, if◌then◌else◌, Bool, List, ◌∷◌, ◌++◌, ℤ, take, drop, nat_lt, Option, Some, slice_get, arith}
+use Rattle.std.proofs.Common.{◌≡◌, refl, sym, ap, ◌∙◌, append_assoc, ℕ, zero, suc, ◌-◌, ◌≤◌, if◌then◌else◌, Bool, List, ◌∷◌, ◌++◌, ℤ, take, drop, nat_lt, Option, Some, slice_get, arith}
 use Rattle.std.proofs.lemmas.List.{take-append-drop}
 use Rattle.std.proofs.lemmas.List.Sums.{count_by-le-length}
 use Rattle.dp_room.proofs.ListLemmas.{at_index}
@@ -64,7 +64,7 @@ module _ (m : MachineState) (r : ℕ) (here : part_of m.config.to_do ≡ part.Re
   adjacent = iterations_adjoin m.program m.input (fuel_left m) m.config r
 
   -- the first iteration starts at once
-  first_here : start run r 0 ≡ Some 0
+  pub first_here : start (rest_of_run m) r 0 ≡ Some 0
   first_here =
       let begins = run_begins m.program m.input (fuel_left m) m.config in
       let more = places (stands_at_head r) 1 begins.0 in

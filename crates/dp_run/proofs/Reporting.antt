@@ -46,7 +46,8 @@ module _ (p : Program) (plan : Plan) (input : List ℤ) (fuel : ℕ) (run : Run)
       let rest = fuel_is m.program m.input (fuel_left m) m.config in
       omega (arith, all, rest, b.behind.passed.piece.fuel)
 
-  own_is : run_of p input (start_is.steps - (made + 0)) m.config ≡ region_run m
+  -- the region's own run
+  pub own_is : run_of p input (start_is.steps - (made + 0)) m.config ≡ region_run m
   own_is =
       ap (λ (k : ℕ). run_of p input k m.config) left_is ∙ ap (λ (q : Program). run_of q input (fuel_left m) m.config) (sym b.behind.program_is)
       ∙ ap (λ (zs : List ℤ). run_of m.program zs (fuel_left m) m.config) (sym b.behind.input_is)
@@ -54,7 +55,8 @@ module _ (p : Program) (plan : Plan) (input : List ℤ) (fuel : ℕ) (run : Run)
   abbrev own : Run
   own = run_of p input (start_is.steps - (made + 0)) m.config
 
-  same : SameRegion p plan (made + 0) run (run_of p input (start_is.steps - (made + 0)) m.config)
+  -- .. has all that is said of the region's iterations
+  pub same : SameRegion p plan (made + 0) run (run_of p input (start_is.steps - (made + 0)) m.config)
   same = subst (λ (u : Run). SameRegion p plan (made + 0) u own) (sym start_is.run_is)
       (region_runs_alone p plan input start_is.steps (made + 0) start_is.from m.config
       (subst (λ (u : Run). slice_get u.configs (made + 0) ≡ Some m.config) start_is.run_is (config_here p input fuel run n m b))

@@ -106,7 +106,7 @@ module _ (p : Program) (plans : List Plan) (input : List ℤ) (fuel : ℕ) (why 
         let all = ap (λ (xs : List Plan). committed_in_all p xs run) split in
         omega (arith, d.counted.tally_is, rest, both, all)
 
-    closing_is : end_bytes p last.config.cells reports end why ≡ closing_text p plans run why
+    pub closing_is : end_bytes p last.config.cells reports end why ≡ closing_text p plans run why
     closing_is =
         ap (λ (cells : List ℤ). end_bytes p cells reports end why) (sym d.over.cells_are)
         ∙ ap (λ (how : End). end_bytes p (final_cells run) reports how why) end_is

@@ -8,11 +8,13 @@ use Rattle.dp_tree.specs.Numbering.{numbers_from}
 use Rattle.dp_tree.specs.Step.{Config, Event}
 use Rattle.dp_tree.specs.InMain.{StandsInMain}
 use Rattle.dp_tree.specs.Trace.{Run, run_of, prints}
-use Rattle.dp_tree.specs.Iteration.{starts, cells_after}
+use Rattle.dp_tree.specs.Iteration.{start, starts, cells_after}
 use Rattle.dp_plan.specs.declared.Plan.{Plan}
 use Rattle.dp_meaning.specs.declared.ends.Part.TheVariants.{Plain}
 use Rattle.dp_meaning.specs.Continues.{Continues}
 use Rattle.dp_meaning.specs.MachineState.{MachineState, next_part, rest_of_run}
+use Rattle.dp_report.specs.PrintsText.{prints_bytes}
+use Rattle.dp_edge.specs.Writing.{WritesFront}
 use Rattle.dp_epoch.specs.declared.ends.RegionEnd.{RegionEnd}
 use Rattle.dp_epoch.specs.declared.ends.RegionEnd.TheVariants.{Closed, Fault, Fuel}
 use Rattle.dp_epoch.specs.RegionRun.{beyond}
@@ -66,6 +68,11 @@ Leads p input fuel run n m (Some end) = Over run n m end
 -- what is still to be printed
 abbrev pub to_come : MachineState → List ℤ
 to_come m = prints (rest_of_run m).trace
+
+-- Prints wait, and others are to come. Of none was written that comes behind a start of an iteration of a region from number k on:
+-- a front of the text of those before it was.
+pub record FrontBefore (k : ℕ) (waiting : List ℤ) (m : MachineState) (told tells : Option (List ℕ)) : Type 0 where
+  pub front : (r i j : ℕ) → k ≤ r → start (rest_of_run m) r i ≡ Some j → WritesFront (prints_bytes (waiting ++ prints (take j (rest_of_run m).trace))) told tells
 
 -- The first n of these plans' regions have these reports, behind those of before, and so many of their iterations were counted.
 pub record Counted (p : Program) (plans : List Plan) (run : Run) (n : ℕ) (told reports : List RegionReport) (before now : ℕ) : Type 0 where

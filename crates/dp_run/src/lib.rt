@@ -11,5 +11,5 @@ pub use dp_commit::Tally;
 pub use dp_epoch::CrewSize;
 pub use parts::run_parts;
 pub use plain::run_plain;
-pub use program::{RunOptions, run_program};
+pub use program::{RunOptions, end_of, run_program, write_end};
 pub use stretch::run_stretch;

@@ -1,10 +1,10 @@
 //! The parts of `main`, one after the other.
-ghost use Rattle.std.specs.Prelude.{◌≡◌, ◌<◌, ◌≤◌, ◌-◌, ◌^◌, ℕ, length, IfOk, OnErr};
+ghost use Rattle.std.specs.Prelude.{◌≡◌, ◌<◌, ◌≤◌, ◌-◌, ◌+◌, ◌^◌, [], ℕ, suc, length, IfOk, OnErr};
 ghost use Rattle.dp_tree.specs.Trace.{Run};
 ghost use Rattle.dp_report.specs.PrintsText.{prints_bytes};
 ghost use Rattle.dp_edge.specs.Writing.{FaultsAfter, WritesFront};
 ghost use Rattle.dp_crew.specs.Output.{Emits};
-ghost use Rattle.dp_run.specs.Stretches.{Ahead, Went, to_come};
+ghost use Rattle.dp_run.specs.Stretches.{Ahead, FrontBefore, Went, to_come};
 
 use crate::plain::run_plain;
 use crate::stretch::run_stretch;
@@ -47,6 +47,8 @@ pub fn run_parts<'p, R: Threads + Wait + Clock + Sync, K: Sink, G: Gate>(
         Went program.now plans.now input.now machine.entry.fuel run n ran.0 ran.1 reports.old reports.new tally.old tally.new) }
     ensures written { IfOk result (λ ran. Emits (to_come machine.entry) (to_come ran.0) (K.written sink.old) (K.written sink.new)) }
     ensures front { OnErr result (WritesFront (prints_bytes (to_come machine.entry)) (K.written sink.old) (K.written sink.new)) }
+    ensures before { OnErr result ((run : Run) (n : ℕ) → Ahead program.now plans.now input.now machine.entry.fuel run n machine.entry →
+        FrontBefore (suc (n + length plans.now)) [] machine.entry (K.written sink.old) (K.written sink.new)) }
 {
     if let Some(end) = run_plain(alloc, &mut machine, sink)? {
         return Ok((machine, Some(end)));

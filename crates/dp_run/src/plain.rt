@@ -1,12 +1,12 @@
 //! A plain part of `main`: its statements up to the next region or the end.
-ghost use Rattle.std.specs.Prelude.{◌≡◌, ◌<◌, ◌-◌, ◌^◌, ◌++◌, List, ℤ, ℕ, length, IfOk, OnErr, OnOk};
+ghost use Rattle.std.specs.Prelude.{◌≡◌, ◌<◌, ◌-◌, ◌^◌, ◌++◌, [], List, ℤ, ℕ, length, IfOk, OnErr, OnOk};
 ghost use Rattle.dp_tree.specs.declared.Program.{Program as Tree};
 ghost use Rattle.dp_tree.specs.Trace.{Run};
 ghost use Rattle.dp_meaning.specs.declared.ends.Part.TheVariants.{Plain};
-ghost use Rattle.dp_meaning.specs.MachineState.{next_part};
+ghost use Rattle.dp_meaning.specs.MachineState.{next_part, rest_of_run};
 ghost use Rattle.dp_edge.specs.Writing.{FaultsAfter};
 ghost use Rattle.dp_crew.specs.Output.{Streams};
-ghost use Rattle.dp_run.specs.Stretches.{Behind, Leads, to_come};
+ghost use Rattle.dp_run.specs.Stretches.{Behind, FrontBefore, Leads, Passed, to_come};
 ghost use Rattle.dp_run.specs.steps.Calls.{PartSteps};
 
 use dp_base::{End, Row};
@@ -29,6 +29,7 @@ pub fn run_plain<'p, K: Sink>(
     ensures ok { IfOk result (λ end. (p : Tree) (input : List ℤ) (fuel : ℕ) (run : Run) (n : ℕ) → Behind p input fuel run n machine.old → Leads p input fuel run n machine.new end) }
     ensures plain { OnErr result (next_part machine.old ≡ Plain) }
     ensures streams { Streams result (to_come machine.old) (λ _. to_come machine.new) (K.written sink.old) (K.written sink.new) }
+    ensures before { OnErr result (FrontBefore 0 [] machine.old (K.written sink.old) (K.written sink.new)) }
 {
     let Part::Plain = machine.part() else {
         return Ok(None);
@@ -51,6 +52,8 @@ fn finish_plain<'p, K: Sink>(
     ensures faults { FaultsAfter result (K.faults sink.old) (K.faults sink.new) }
     ensures ok { IfOk result (λ end. (p : Tree) (input : List ℤ) (fuel : ℕ) (run : Run) (n : ℕ) → Behind p input fuel run n machine.old → Leads p input fuel run n machine.new end) }
     ensures streams { Streams result (waiting.old ++ to_come machine.old) (λ _. waiting.new ++ to_come machine.new) (K.written sink.old) (K.written sink.new) }
+    ensures before { OnErr result (FrontBefore 0 waiting.old machine.old (K.written sink.old) (K.written sink.new)) }
+    ensures passes { OnOk result (Passed (rest_of_run machine.old) (rest_of_run machine.new) 0) }
 {
     'calls: loop {
         match go_on(alloc, machine, waiting, sink)? {
@@ -75,6 +78,7 @@ fn go_on<'p, K: Sink>(
     ensures ok { IfOk result (λ end. PartSteps machine.old machine.new end) }
     ensures few { OnOk result (length waiting.new < 4096) }
     ensures streams { Streams result (waiting.old ++ to_come machine.old) (λ _. waiting.new ++ to_come machine.new) (K.written sink.old) (K.written sink.new) }
+    ensures before { OnErr result (FrontBefore 0 waiting.old machine.old (K.written sink.old) (K.written sink.new)) }
 {
     let end = machine.run_part(TURNS, waiting)?;
     flush_if_many(alloc, waiting, sink)?;

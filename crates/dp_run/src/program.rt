@@ -71,7 +71,7 @@ pub fn run_program<R: Threads + Wait + Clock + Sync, K: Sink, G: Gate>(
 }
 
 /// How a run ended that went by all regions of its program, or to this end.
-fn end_of(end: Option<End>) -> End
+pub fn end_of(end: Option<End>) -> End
     ensures { result ≡ ended_by end }
 {
     match end {
@@ -81,7 +81,7 @@ fn end_of(end: Option<End>) -> End
 }
 
 /// Writes what follows the prints: the variables, the regions and the end.
-fn write_end<K: Sink>(
+pub fn write_end<K: Sink>(
     alloc: Global,
     program: &Program,
     cells: &Cells,

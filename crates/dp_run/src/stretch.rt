@@ -9,7 +9,7 @@ ghost use Rattle.dp_edge.specs.Writing.{FaultsAfter, WritesFront};
 ghost use Rattle.dp_epoch.specs.RegionRun.{IsPlanned};
 ghost use Rattle.dp_crew.specs.Output.{Emits};
 ghost use Rattle.dp_run.specs.RunText.{committed_count};
-ghost use Rattle.dp_run.specs.Stretches.{AfterRegion, Between, Leads, to_come};
+ghost use Rattle.dp_run.specs.Stretches.{AfterRegion, Between, FrontBefore, Leads, to_come};
 
 use crate::plain::run_plain;
 use dp_base::{End, RegionReport, Row};
@@ -53,6 +53,7 @@ pub fn run_stretch<'p, R: Threads + Wait + Clock + Sync, K: Sink, G: Gate>(
         reports.new ≡ reports.old ++ region_report program.now plan.now run ∷ []) }
     ensures written { IfOk result (λ ran. Emits (to_come machine.entry) (to_come ran.0) (K.written sink.old) (K.written sink.new)) }
     ensures front { OnErr result (WritesFront (prints_bytes (to_come machine.entry)) (K.written sink.old) (K.written sink.new)) }
+    ensures before { OnErr result (FrontBefore (suc plan.now.region) [] machine.entry (K.written sink.old) (K.written sink.new)) }
     ensures tally { OnOk result ((run : Run) (n : ℕ) → plan.now.region ≡ suc n → Between program.now input.now machine.entry.fuel run n machine.entry →
         tally.new ≡ tally.old + committed_count program.now plan.now run) }
 {
@@ -77,6 +78,7 @@ fn finish_stretch<'p, K: Sink>(
     ensures closed { OnErr result (end ≡ Closed) }
     ensures written { IfOk result (λ ran. Emits (to_come machine.entry) (to_come ran.0) (K.written sink.old) (K.written sink.new)) }
     ensures front { OnErr result (WritesFront (prints_bytes (to_come machine.entry)) (K.written sink.old) (K.written sink.new)) }
+    ensures before { OnErr result (FrontBefore 0 [] machine.entry (K.written sink.old) (K.written sink.new)) }
 {
     let mut machine = machine;
     let end = match end {

@@ -1,9 +1,10 @@
-use Rattle.std.proofs.Common.{◌≡◌, ◌∙◌, refl, subst, ℕ, ◌+◌, ◌<◌, ◌≤◌, length, arith}
+use Rattle.std.proofs.Common.{◌≡◌, ◌∙◌, refl, subst, [], ℕ, suc, ◌+◌, ◌<◌, ◌≤◌, length, arith}
 use Rattle.std.proofs.lemmas.Option.{slice_get_read}
 use Rattle.dp_run.specs.Stretches.{Between, Leads}
 use Rattle.dp_run.proofs.Counting.{counted_none, planned}
-use Rattle.dp_run.proofs.PlanByPlan.{counts_next, ended_here, goes_on, leads_next, room_here, starts_next, went_by_all}
+use Rattle.dp_run.proofs.PlanByPlan.{counts_next, ended_here, front_next, goes_on, leads_next, room_here, starts_next, went_by_all}
 use Rattle.dp_crew.proofs.StreamLemmas.{emits_front, emits_on}
+use Rattle.dp_run.proofs.Before.{before_less}
 use Rattle.dp_run.proofs.parts.run_parts.Goals as goal
 use Rattle.dp_room.proofs.ResultLemmas.{on_err}
 
@@ -86,3 +87,13 @@ pub returns-clause-ok : goal.returns-clause-ok
 returns-clause-ok g c run n a =
     let all : c.loop-plan.plan-index ≡ length c.args.plans.now = omega arith in
     went_by_all c.args.program.now c.args.plans.now c.args.input.now c.args.machine.fuel run n c.loop-plan.plan-index c.loop-plan.machine c.args.reports.now c.loop-plan.reports c.args.tally.now c.loop-plan.tally (c.loop-plan.invariant.counted run n a) all (c.loop-plan.invariant.between run n a)
+
+pub returns-in_err-end-clause-before : goal.returns-in_err-end-clause-before
+returns-in_err-end-clause-before g c = on_err c.from_residual.result _ (λ run n a. before_less [] c.args.machine _ _ 0 (suc (n + length c.args.plans.now)) (omega arith) c.in_err-end.ensures.before)
+
+pub returns-in_err-next-clause-before : goal.returns-in_err-next-clause-before
+returns-in_err-next-clause-before g c =
+    on_err c.from_residual-in_err-next.result _ (λ run n a.
+    let below : c.loop-plan.plan-index < length c.args.plans.now = omega arith in
+    let at = slice_get_read c.args.plans.now (length c.args.plans.now) c.loop-plan.plan-index c.plan-item.result refl below c.plan-item.is in
+    front_next c.args.program.now c.args.plans.now c.args.input.now c.args.machine.fuel run n c.args.machine a c.loop-plan.plan-index below c.plan-item.result at c.loop-plan.machine (c.loop-plan.invariant.between _ n) _ _ _ c.loop-plan.invariant.emits c.in_err-next.ensures.before)

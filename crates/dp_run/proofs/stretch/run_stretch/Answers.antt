@@ -1,9 +1,9 @@
-use Rattle.std.proofs.Common.{◌≡◌, subst, suc, ◌++◌, ◌∷◌, []}
+use Rattle.std.proofs.Common.{◌≡◌, refl, subst, suc, ◌++◌, ◌∷◌, []}
 use Rattle.std.proofs.lemmas.Result.{IfOk-weaker, on_err_weaker}
 use Rattle.dp_base.specs.declared.RegionReport.{RegionReport}
 use Rattle.dp_crew.proofs.StreamLemmas.{emits_front, emits_on, emits_stopped}
 use Rattle.dp_run.proofs.Regions.{after_region, region_start}
-use Rattle.dp_run.proofs.RegionCalls.{ran_emits, report_of_run, stopped_front, tally_whole}
+use Rattle.dp_run.proofs.RegionCalls.{ran_before, ran_before_nothing, ran_emits, report_of_run, stopped_before, stopped_front, tally_whole}
 use Rattle.dp_run.proofs.stretch.run_stretch.Goals as goal
 use Rattle.dp_crew.proofs.Answering.{on_ok}
 use Rattle.dp_room.proofs.ResultLemmas.{on_err}
@@ -52,3 +52,19 @@ pub returns-clause-tally : goal.returns-clause-tally
 returns-clause-tally g c =
     on_ok c.finish_stretch.result _ (λ run n number between.
     tally_whole c.args.program.now c.args.plan.now c.args.input.now c.args.machine.fuel run n c.args.machine c.requires.planned number between c.run_region.new.report _ _ c.in_ok-next.ensures.report c.in_ok-next.ensures.tally)
+
+pub returns-in_err-next-clause-before : goal.returns-in_err-next-clause-before
+returns-in_err-next-clause-before g c =
+    let b = c.requires.between in
+    on_err c.from_residual.result _ (stopped_before c.args.program.now c.args.plan.now c.args.input.now c.args.machine.fuel b.0 b.1 c.args.machine c.requires.planned b.2 b.3 _ _ c.in_err-next.ensures.front)
+
+pub returns-in_err-push-clause-before : goal.returns-in_err-push-clause-before
+returns-in_err-push-clause-before g c =
+    on_err c.from_residual-in_err-push.result _
+    (ran_before_nothing c.args.program.now c.args.plan.now c.args.machine c.in_ok-next.next c.in_ok-next.end _ _ _ c.in_ok-next.ensures.ran c.in_ok-next.ensures.written refl)
+
+pub returns-clause-before : goal.returns-clause-before
+returns-clause-before g c =
+    on_err_weaker c.finish_stretch.result
+    (λ f. ran_before c.args.program.now c.args.plan.now c.args.machine c.in_ok-next.next c.in_ok-next.end _ _ _ c.in_ok-next.ensures.ran c.in_ok-next.ensures.written f)
+    c.finish_stretch.ensures.before

@@ -1,0 +1,15 @@
+pub mod Order
+pub mod Reached
+pub mod Reports
+pub mod Found
+pub mod TextGoesOn
+pub mod MergeLemmas
+pub mod Whole
+pub mod Calls
+pub mod ReachLemmas
+pub mod Fronts
+pub mod SaveLemmas
+pub mod RestLemmas
+pub mod SaveCalls
+pub mod SaveWhole
+pub mod SaveFronts

@@ -1,0 +1,4 @@
+pub mod Saved
+pub mod Resumed
+pub mod Laws
+pub mod steps

@@ -1,0 +1,12 @@
+pub mod WordLemmas
+pub mod LoopLemmas
+pub mod ColonLemmas
+pub mod ValueLemmas
+pub mod ReportLemmas
+pub mod LineLemmas
+pub mod FitLemmas
+pub mod RunSound
+pub mod RunComplete
+pub mod TextLemmas
+pub mod ReadBack
+pub mod WriteLemmas

@@ -1,0 +1,5 @@
+pub mod Fits
+pub mod CheckpointText
+pub mod Refused
+pub mod WrittenText
+pub mod steps

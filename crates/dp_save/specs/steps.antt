@@ -1,0 +1,3 @@
+pub mod LineWords
+pub mod Reading
+pub mod Ending
