@@ -23,7 +23,8 @@ use Rattle.dp_load.specs.declared.load.Loaded.{Loaded}
 use Rattle.dp_load.specs.declared.load.Loaded.TheVariants.{Text, Refused, Failed}
 use Rattle.dp_load.specs.Loading.{Gives, LoadsProgram, ReadsProgram}
 use Rattle.dp_load.specs.Order.{ReadsAll}
-use Rattle.dp_load.proofs.OrderLemmas.{all_read, ends_at_input, ends_at_plans, ends_at_program, with_inputs}
+use Rattle.dp_load.specs.Last.{Nothing}
+use Rattle.dp_load.proofs.OrderLemmas.{all_read, ends_at_plans, ends_at_program, with_inputs}
 use Rattle.dp_load.proofs.TextsLemmas.{source_of, refusal_read}
 use Rattle.dp_words.specs.Words.{Asked, Asks, AsksNothing, ToList, ToPlan, ToRun}
 use Rattle.dp_words.specs.Run.{Run, Least}
@@ -34,7 +35,7 @@ use Rattle.dp_run.specs.RunText.{source_run, trace_text, committed_in_all}
 use Rattle.dp_drive.specs.RunText.{run_text}
 use Rattle.dp_refusal.specs.Refusal.{status_of}
 use Rattle.dp_load.specs.Roles.{Contents, Input, NamedProgram, NoPlans, Plans, ProgramOf, SomePlans, Unnamed, program_in}
-use Rattle.dp_drive.specs.Answer.{NotTaken, Done, OfProgram, OfInput, OfPlans, OfRun}
+use Rattle.dp_drive.specs.Answer.{NotTaken, Done, OfProgram, OfPlans, OfRun}
 use Rattle.dp_drive.specs.Answer as answers
 use Rattle.dp_drive.specs.Headline.{IsCounted}
 use Rattle.dp_load.specs.Texts.{Names, LoadsTexts}
@@ -43,14 +44,14 @@ use Rattle.dp_drive.specs.steps.Carried as carried
 use Rattle.dp_load.specs.Texts as loads
 
 -- a program under a name
-named_program : {contents : Contents} {name : List ℕ} {read : Result Program Refusal} → ReadsProgram contents name read → ProgramOf contents (Some name) read
+pub named_program : {contents : Contents} {name : List ℕ} {read : Result Program Refusal} → ReadsProgram contents name read → ProgramOf contents (Some name) read
 named_program {name = name} {read = read} h = NamedProgram name h.text read h.held h.reads
 
 -- the texts of a run
 run_texts : (contents : Contents) (run : Run) (p q : Program) (numbers : List ℤ) (plans : List Plan) → ReadsProgram contents run.program (Ok p) → Input contents run.input (Ok numbers) → q ≡ expand p →
-    Plans contents q run.options run.source (Ok plans) → ReadsAll contents (ToRun run) (Ok ((((p, numbers), []), plans), []))
+    Plans contents q run.options run.source (Ok plans) → ReadsAll contents (ToRun run) (Ok ((((p, numbers), []), plans), Nothing))
 run_texts contents run p q numbers plans h k is l =
-    all_read contents (ToRun run) p (named_program h) numbers k plans (SomePlans run.source run.options (Ok plans) (subst (λ (y : Program). Plans contents y run.options run.source (Ok plans)) is l))
+    all_read contents (ToRun run) p (named_program h) numbers k refl plans (SomePlans run.source run.options (Ok plans) (subst (λ (y : Program). Plans contents y run.options run.source (Ok plans)) is l)) refl
 
 -- what the texts give, where they were loaded
 pub loaded : (contents : Contents) (run : Run) (faults after : ℕ) (failed fails : Names) (r : Result Texts Wanting) (x : Texts) → r ≡ Ok x → IfOk r (LoadsTexts contents run faults after failed fails) →
@@ -85,7 +86,7 @@ module _ (words : List (List ℕ)) (contents : Contents) (faults after : ℕ) (f
   pub carry_run : (run : Run) (q : Program) (numbers : List ℤ) (plans : List Plan) (result : Result ℕ WriteFail) → Asks words (ToRun run) → LoadsTexts contents run faults after failed fails (texts.Run q numbers plans) →
       Finishes (status_of (source_run q numbers run.fuel).end) (trace_text q plans (source_run q numbers run.fuel) run.why) told tells result → Carried words contents faults after failed fails told tells result
   carry_run run q numbers plans result asks (loads.Loaded p x others given is h k l fit e f) finishes =
-      carried.OfAnswer _ _ (Done (ToRun run) ((((p, numbers), []), plans), []) asks (run_texts contents run p q numbers plans h k is l)) e f
+      carried.OfAnswer _ _ (Done (ToRun run) ((((p, numbers), []), plans), Nothing) asks (run_texts contents run p q numbers plans h k is l)) e f
       (finishes_source p q is (read_checked h.text p h.reads) (inlined_read h.text p h.reads) plans numbers run.fuel run.why [] told tells result finishes)
 
   -- .. and the tally grew by what was committed of it
@@ -93,21 +94,9 @@ module _ (words : List (List ℕ)) (contents : Contents) (faults after : ℕ) (f
       now ≡ before + committed_in_all q plans (source_run q numbers run.fuel) → IsCounted words contents before now status
   count_run run q numbers plans before now status asks (loads.Loaded p x others given is h k l fit e f) tally = λ other spent asked some end. (
     committed_in_all (expand p) plans (source_run (expand p) numbers run.fuel),
-    OfRun (ToRun run) ((((p, numbers), []), plans), []) run.fuel asks (run_texts contents run p q numbers plans h k is l) refl,
+    OfRun (ToRun run) ((((p, numbers), []), plans), Nothing) run.fuel asks (run_texts contents run p q numbers plans h k is l) refl,
     tally ∙ ap (λ (y : Program). before + committed_in_all y plans (source_run y numbers run.fuel)) is,
   )
-
-  pub carry_refused : (run : Run) (refusal : Refusal) (result : Result ℕ WriteFail) → Asks words (ToRun run) → LoadsTexts contents run faults after failed fails (texts.Refused refusal) →
-      Finishes (refusal_status refusal) (refusal_line refusal) told tells result → Carried words contents faults after failed fails told tells result
-  carry_refused run refusal result asks (loads.ProgramRefused other h e f) finishes = carried.OfAnswer _ _ (answers.Refused (ToRun run) refusal asks (ends_at_program contents (ToRun run) refusal (named_program h))) e f finishes
-  carry_refused run refusal result asks (loads.InputRefused other p h k e f) finishes = carried.OfAnswer _ _ (answers.Refused (ToRun run) refusal asks (ends_at_input contents (ToRun run) p (named_program h) refusal k)) e f finishes
-  carry_refused run refusal result asks (loads.PlansRefused other p numbers h k l e f) finishes = carried.OfAnswer _ _ (answers.Refused (ToRun run) refusal asks (ends_at_plans contents (ToRun run) p (named_program h) numbers k refusal (SomePlans run.source run.options (Err refusal) l))) e f finishes
-
-  pub carry_failed : (run : Run) (which : Role) (result : Result ℕ WriteFail) → Asks words (ToRun run) → LoadsTexts contents run faults after failed fails (texts.Failed which) →
-      Finishes 5 (failed_read_line which) told tells result → Carried words contents faults after failed fails told tells result
-  carry_failed run which result asks (loads.ProgramFailed less e) finishes = carried.OfFailedRead _ _ (OfProgram (ToRun run) run.program asks refl) less e finishes
-  carry_failed run which result asks (loads.InputFailed p name h named less e) finishes = carried.OfFailedRead _ _ (OfInput (ToRun run) p name asks (named_program h) named) less e finishes
-  carry_failed run which result asks (loads.PlansFailed p numbers name h k named less e) finishes = carried.OfFailedRead _ _ (OfPlans (ToRun run) ((p, numbers), []) run.source run.options name asks (with_inputs contents (ToRun run) p (named_program h) numbers k) refl named) less e finishes
 
   abbrev ProgramGives : List ℕ → Loaded Program → Type 0
   ProgramGives name = Gives (LoadsProgram contents name) (Some name) faults after failed fails
@@ -115,7 +104,7 @@ module _ (words : List (List ℕ)) (contents : Contents) (faults after : ℕ) (f
   pub carry_sites : (name : List ℕ) (q : Program) (result : Result ℕ WriteFail) → Asks words (ToList name) → ProgramGives name (Text q) → Finishes 0 (site_bytes q) told tells result → Carried words contents faults after failed fails told tells result
   carry_sites name q result asks g finishes =
       let s = source_of (ReadsProgram contents name) q g.0 in
-      carried.OfAnswer _ _ (Done (ToList name) ((((s.source, []), []), []), []) asks (all_read contents (ToList name) s.source (named_program s.reads) [] Unnamed [] NoPlans)) g.1 g.2
+      carried.OfAnswer _ _ (Done (ToList name) ((((s.source, []), []), []), Nothing) asks (all_read contents (ToList name) s.source (named_program s.reads) [] Unnamed refl [] NoPlans refl)) g.1 g.2
       (finishes_as 0 0 (site_bytes q) (site_bytes (expand s.source)) told tells result refl (ap site_bytes s.is) finishes)
 
   module _ (planning : Planning) (asks : Asks words (ToPlan planning)) (q : Program) (read : LoadsProgram contents planning.program (Ok q)) where
@@ -128,19 +117,19 @@ module _ (words : List (List ℕ)) (contents : Contents) (faults after : ℕ) (f
     pub carry_plans : (plans : List Plan) (result : Result ℕ WriteFail) → LeastGives (Text plans) → Finishes 0 (plans_text q plans) told tells result → Carried words contents faults after failed fails told tells result
     carry_plans plans result g finishes =
         let s = source_of (ReadsProgram contents planning.program) q read in
-        carried.OfAnswer _ _ (Done (ToPlan planning) ((((s.source, []), []), plans), []) asks (all_read contents (ToPlan planning) s.source (named_program s.reads) [] Unnamed plans (SomePlans (Least planning.profile) planning.options (Ok plans) (subst (λ (x : Program). LeastOf x (Ok plans)) s.is g.0)))) g.1 g.2
+        carried.OfAnswer _ _ (Done (ToPlan planning) ((((s.source, []), []), plans), Nothing) asks (all_read contents (ToPlan planning) s.source (named_program s.reads) [] Unnamed refl plans (SomePlans (Least planning.profile) planning.options (Ok plans) (subst (λ (x : Program). LeastOf x (Ok plans)) s.is g.0)) refl)) g.1 g.2
         (finishes_as 0 0 (plans_text q plans) (plans_text (expand s.source) plans) told tells result refl (ap (λ (x : Program). plans_text x plans) s.is) finishes)
 
     pub carry_least_refused : (refusal : Refusal) (result : Result ℕ WriteFail) → LeastGives (Refused refusal) → Finishes (refusal_status refusal) (refusal_line refusal) told tells result →
         Carried words contents faults after failed fails told tells result
     carry_least_refused refusal result g finishes =
         let s = source_of (ReadsProgram contents planning.program) q read in
-        carried.OfAnswer _ _ (answers.Refused (ToPlan planning) refusal asks (ends_at_plans contents (ToPlan planning) s.source (named_program s.reads) [] Unnamed refusal (SomePlans (Least planning.profile) planning.options (Err refusal) (subst (λ (x : Program). LeastOf x (Err refusal)) s.is g.0)))) g.1 g.2 finishes
+        carried.OfAnswer _ _ (answers.Refused (ToPlan planning) refusal asks (ends_at_plans contents (ToPlan planning) s.source (named_program s.reads) [] Unnamed refl refusal (SomePlans (Least planning.profile) planning.options (Err refusal) (subst (λ (x : Program). LeastOf x (Err refusal)) s.is g.0)))) g.1 g.2 finishes
 
     pub carry_least_failed : (result : Result ℕ WriteFail) → LeastGives Failed → Finishes 5 (failed_read_line role.Profile) told tells result → Carried words contents faults after failed fails told tells result
     carry_least_failed result g finishes =
         let s = source_of (ReadsProgram contents planning.program) q read in
-        carried.OfFailedRead _ _ (OfPlans (ToPlan planning) ((s.source, []), []) (Least planning.profile) planning.options g.0 asks (with_inputs contents (ToPlan planning) s.source (named_program s.reads) [] Unnamed) refl g.1) g.2 g.3 finishes
+        carried.OfFailedRead _ _ (OfPlans (ToPlan planning) ((s.source, []), []) (Least planning.profile) planning.options g.0 asks (with_inputs contents (ToPlan planning) s.source (named_program s.reads) [] Unnamed refl) refl g.1) g.2 g.3 finishes
 
   -- a program alone that is refused, or that can't be read
   pub carry_program_refused : (asked : Asked) (name : List ℕ) (refusal : Refusal) (result : Result ℕ WriteFail) → Asks words asked → program_in asked ≡ Some name →

@@ -1,5 +1,10 @@
 pub mod accepted
 pub mod AnswerLemmas
+pub mod RunLemmas
+pub mod VerbLemmas
+pub mod AuditLemmas
+pub mod CarryLemmas
+pub mod BatchLemmas
 pub mod HeadlineLemmas
 pub mod CountLemmas
 pub mod MadeLemmas

@@ -33,6 +33,7 @@ use Rattle.dp_drive.specs.steps.Carried as carried
 use Rattle.dp_load.proofs.accepted.Accepted.{read_checked, inlined_read}
 use Rattle.dp_drive.proofs.AnswerLemmas.{finishes_source}
 use Rattle.dp_load.specs.Order.{ReadsAll}
+use Rattle.dp_load.specs.Last.{Nothing}
 use Rattle.dp_load.proofs.OrderLemmas.{all_read, ends_at_program}
 use Rattle.dp_load.proofs.TextsLemmas.{Source, source_of, refusal_read}
 
@@ -71,10 +72,10 @@ pub read_made : (slice text : List ℕ) (o read : Result Program Refusal) → sl
 read_made slice text o read e f is h = subst (λ (t : List ℕ). ReadsAs t read) (e ∙ f) (subst (λ (x : Result Program Refusal). ReadsAs slice x) is h)
 
 -- the texts of its run
-made_texts : (contents : Contents) (made : GenWords) (q : Program) (plans : List Plan) (s : Source (Reads made_text) q) → MakesPlans q made.options None plans → ReadsAll contents (ToMake made) (Ok ((((s.source, []), []), plans), []))
+made_texts : (contents : Contents) (made : GenWords) (q : Program) (plans : List Plan) (s : Source (Reads made_text) q) → MakesPlans q made.options None plans → ReadsAll contents (ToMake made) (Ok ((((s.source, []), []), plans), Nothing))
 made_texts contents made q plans s plans_made =
-    all_read contents (ToMake made) s.source (MadeProgram (Ok s.source) s.reads) [] Unnamed plans
-    (SomePlans (Least None) made.options (Ok plans) (Automatic None None plans NotNamed (subst (λ (x : Program). MakesPlans x made.options None plans) s.is plans_made)))
+    all_read contents (ToMake made) s.source (MadeProgram (Ok s.source) s.reads) [] Unnamed refl plans
+    (SomePlans (Least None) made.options (Ok plans) (Automatic None None plans NotNamed (subst (λ (x : Program). MakesPlans x made.options None plans) s.is plans_made))) refl
 
 module _ (q : Program) (h : ReadsAs made_text (Ok q)) where
   s : Source (Reads made_text) q
@@ -97,7 +98,7 @@ module _ (words : List (List ℕ)) (contents : Contents) (made : GenWords) (asks
     carry_run q plans numbers e read plans_made finishes =
         let s = source_of (Reads made_text) q read in
         let here = subst (λ (zs : List ℤ). Finishes (status_of (source_run q zs made.fuel).end) (made_line made ++ trace_text q plans (source_run q zs made.fuel) false) told tells result) e finishes in
-        carried.OfAnswer _ _ (Done (ToMake made) ((((s.source, []), []), plans), []) asks (made_texts contents made q plans s plans_made)) refl refl
+        carried.OfAnswer _ _ (Done (ToMake made) ((((s.source, []), []), plans), Nothing) asks (made_texts contents made q plans s plans_made)) refl refl
         (finishes_source s.source q s.is (read_checked made_text s.source s.reads) (inlined_read made_text s.source s.reads) plans (made_words made) made.fuel false (made_line made) told tells result here)
 
   -- where the run ended, the tally grew by what was committed of it
@@ -107,7 +108,7 @@ module _ (words : List (List ℕ)) (contents : Contents) (made : GenWords) (asks
       let s = source_of (Reads made_text) q read in
       λ other spent asked some end. (
         committed_in_all (expand s.source) plans (source_run (expand s.source) (made_words made) made.fuel),
-        OfRun (ToMake made) ((((s.source, []), []), plans), []) made.fuel asks (made_texts contents made q plans s plans_made) refl,
+        OfRun (ToMake made) ((((s.source, []), []), plans), Nothing) made.fuel asks (made_texts contents made q plans s plans_made) refl,
         h ∙ ap (λ (zs : List ℤ). before + committed_in_all q plans (source_run q zs made.fuel)) e ∙ ap (λ (y : Program). before + committed_in_all y plans (source_run y (made_words made) made.fuel)) s.is,
       )
   run_counts q plans numbers before now (Err fail) e read plans_made h = tt

@@ -1,5 +1,5 @@
 -- What a profile's texts give is what its words are answered with.
-use Rattle.std.proofs.Common.{◌≡◌, sym, ◌∙◌, ap, false, ℕ, List, [], ℤ, Option, Some, Result, Ok}
+use Rattle.std.proofs.Common.{◌≡◌, refl, sym, ◌∙◌, ap, false, ℕ, List, [], ℤ, Option, Some, Result, Ok}
 use Rattle.dp_tree.specs.declared.Program.{Program}
 use Rattle.dp_calls.specs.Expand.{expand}
 use Rattle.dp_calls.specs.Frames.{outcome}
@@ -23,6 +23,7 @@ use Rattle.dp_drive.specs.Answer as answers
 use Rattle.dp_load.specs.Texts.{Names}
 use Rattle.dp_drive.specs.steps.Carried.{Finishes, Carried}
 use Rattle.dp_drive.specs.steps.Carried as carried
+use Rattle.dp_load.specs.Last.{Nothing}
 use Rattle.dp_load.proofs.OrderLemmas.{all_read, ends_at_input}
 use Rattle.dp_load.proofs.TextsLemmas.{Source, source_of}
 use Rattle.dp_drive.proofs.AnswerLemmas.{finishes_as}
@@ -49,7 +50,7 @@ module _ (words : List (List ℕ)) (contents : Contents) (faults after : ℕ) (f
     pub carry_profile : (numbers : List ℤ) → InputGives (Text numbers) → Finishes (status_of (observed q numbers profiling.fuel).end) (profile_text q (observed q numbers profiling.fuel).profile) told tells result →
         Carried words contents faults after failed fails told tells result
     carry_profile numbers g finishes =
-        carried.OfAnswer _ _ (Done (ToProfile profiling) ((((s.source, numbers), []), []), []) asks (all_read contents (ToProfile profiling) s.source program numbers g.0 [] NoPlans)) g.1 g.2
+        carried.OfAnswer _ _ (Done (ToProfile profiling) ((((s.source, numbers), []), []), Nothing) asks (all_read contents (ToProfile profiling) s.source program numbers g.0 refl [] NoPlans refl)) g.1 g.2
         (finishes_as _ _ (profile_text q (observed q numbers profiling.fuel).profile) (profile_text (expand s.source) (observed (expand s.source) numbers profiling.fuel).profile) told tells result
         (ap status_of (end_is numbers)) (ap (λ (x : Program). profile_text x (observed x numbers profiling.fuel).profile) s.is) finishes)
 

@@ -5,7 +5,7 @@ use Rattle.dp_calls.specs.Expand.{expand}
 use Rattle.dp_calls.specs.Frames.{outcome}
 use Rattle.dp_report.specs.SiteText.{site_bytes}
 use Rattle.dp_words.specs.declared.task.PlanOptions.{PlanOptions}
-use Rattle.dp_words.specs.Words.{Asked, Asks, AsksNothing, ToRun, ToPlan, ToList, ToProfile, ToMake}
+use Rattle.dp_words.specs.Words.{Asked, Asks, AsksNothing, ToRun, ToPlan, ToList, ToProfile, ToMake, ToLog, ToAudit, ToSave, ToResume, ToBatch}
 use Rattle.dp_words.specs.Run.{Source}
 use Rattle.dp_run.specs.RunText.{source_run, committed_in_all}
 use Rattle.dp_plan.specs.declared.Plan.{Plan}
@@ -18,19 +18,27 @@ use Rattle.dp_refusal.specs.declared.refusal.Refusal.{Refusal}
 use Rattle.dp_refusal.specs.declared.refusal.Refusal.TheVariants.{Words}
 use Rattle.dp_refusal.specs.Refusal.{refusal_line, refusal_status, role_of, status_of}
 use Rattle.dp_load.specs.Roles.{Contents, ProgramOf, input_in, named_in, plans_in, program_in}
-use Rattle.dp_load.specs.Last.{Last, last_name, last_role}
+use Rattle.dp_load.specs.Last.{Behind, Last, last_name, last_role}
 use Rattle.dp_load.specs.Lists.{IsNextListed}
 use Rattle.dp_load.specs.Order.{Given, ReadsAll, WithInput, WithInputs, WithPlans, given_by, last_in, list_in}
+use Rattle.dp_batch.specs.BatchText.{texts_from}
 use Rattle.dp_drive.specs.Made.{made_line, made_words}
 use Rattle.dp_drive.specs.RunText.{run_text}
+use Rattle.dp_drive.specs.Audit.{audit_line, audit_status, log_in, log_of, first_difference}
+use Rattle.dp_drive.specs.Pieces.{checkpoint_in, resumed_end, resumed_text, saved_status, saved_text}
 
--- the status where all texts were read: that of the run's end, if there is a run
+-- the status where all texts were read: that of the run's end, if there is one run, whether the log is that of the run, or 0
 abbrev pub status_for : Asked → Given → ℕ
 status_for (ToRun run) texts = status_of (outcome texts.program texts.numbers run.fuel).end
 status_for (ToPlan planning) texts = 0
 status_for (ToList program) texts = 0
 status_for (ToProfile profiling) texts = status_of (outcome texts.program texts.numbers profiling.fuel).end
 status_for (ToMake made) texts = status_of (outcome texts.program (made_words made) made.fuel).end
+status_for (ToLog run) texts = status_of (outcome texts.program texts.numbers run.fuel).end
+status_for (ToAudit run log) texts = audit_status (first_difference (log_in texts.last) (log_of texts.program texts.plans texts.numbers run.fuel))
+status_for (ToSave run place) texts = saved_status texts.program texts.numbers run.fuel place
+status_for (ToResume run checkpoint) texts = status_of (resumed_end texts.program texts.numbers (checkpoint_in texts.last))
+status_for (ToBatch run list) texts = 0
 
 -- .. and the bytes
 abbrev pub bytes_for : Asked → Given → List ℕ
@@ -39,12 +47,17 @@ bytes_for (ToPlan planning) texts = plans_text (expand texts.program) texts.plan
 bytes_for (ToList program) texts = site_bytes (expand texts.program)
 bytes_for (ToProfile profiling) texts = profile_text (expand texts.program) (observed (expand texts.program) texts.numbers profiling.fuel).profile
 bytes_for (ToMake made) texts = made_line made ++ run_text texts.program texts.plans (made_words made) made.fuel false
+bytes_for (ToLog run) texts = log_of texts.program texts.plans texts.numbers run.fuel
+bytes_for (ToAudit run log) texts = audit_line (first_difference (log_in texts.last) (log_of texts.program texts.plans texts.numbers run.fuel))
+bytes_for (ToSave run place) texts = saved_text texts.program texts.plans texts.numbers run.fuel place
+bytes_for (ToResume run checkpoint) texts = resumed_text texts.program texts.plans texts.numbers (checkpoint_in texts.last)
+bytes_for (ToBatch run list) texts = texts_from (λ input. run_text texts.program texts.plans input run.fuel false) 1 texts.listed
 
 -- The answer: the words ask for nothing, or a text is refused, or what they ask for is done.
 pub data Answer (words : List (List ℕ)) (contents : Contents) : ℕ → List ℕ → Type 0 where
   NotTaken : AsksNothing words → Answer words contents (refusal_status Words) (refusal_line Words)
   Refused : (asked : Asked) (refusal : Refusal) → Asks words asked → ReadsAll contents asked (Err refusal) → Answer words contents (refusal_status refusal) (refusal_line refusal)
-  Done : (asked : Asked) (read : (((Program × List ℤ) × List (List ℤ)) × List Plan) × List ℕ) → Asks words asked → ReadsAll contents asked (Ok read) →
+  Done : (asked : Asked) (read : (((Program × List ℤ) × List (List ℤ)) × List Plan) × Behind) → Asks words asked → ReadsAll contents asked (Ok read) →
       Answer words contents (status_for asked (given_by read)) (bytes_for asked (given_by read))
 
 -- The text of this role is to be read under this name: no refusal comes before.
@@ -76,5 +89,5 @@ committed_of p plans numbers fuel = committed_in_all p plans (source_run p numbe
 
 -- .. of the run that the words ask for
 pub data Commits (words : List (List ℕ)) (contents : Contents) : ℕ → Type 0 where
-  OfRun : (asked : Asked) (read : (((Program × List ℤ) × List (List ℤ)) × List Plan) × List ℕ) (fuel : ℕ) → Asks words asked → ReadsAll contents asked (Ok read) → run_fuel asked ≡ Some fuel →
+  OfRun : (asked : Asked) (read : (((Program × List ℤ) × List (List ℤ)) × List Plan) × Behind) (fuel : ℕ) → Asks words asked → ReadsAll contents asked (Ok read) → run_fuel asked ≡ Some fuel →
       Commits words contents (committed_of (expand (given_by read).program) (given_by read).plans (numbers_for asked (given_by read).numbers) fuel)

@@ -2,4 +2,6 @@ pub mod Headline
 pub mod Answer
 pub mod RunText
 pub mod Made
+pub mod Audit
+pub mod Pieces
 pub mod steps

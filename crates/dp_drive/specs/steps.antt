@@ -1,3 +1,5 @@
 pub mod Carried
 pub mod Runs
 pub mod Status
+pub mod Given
+pub mod Saved

@@ -8,16 +8,20 @@ ghost use Rattle.dp_drive.specs.Headline.{Drives, IsCounted};
 ghost use Rattle.dp_drive.specs.steps.Carried.{Carried, Finishes};
 ghost use Rattle.dp_drive.specs.steps.Status.{status_after};
 
+use crate::auditing::answer_audit;
+use crate::batching::answer_batch;
+use crate::logging::{answer_log, crew_of};
 use crate::made::answer_gen;
 use crate::planning::answer_plan;
 use crate::profiling::answer_profile;
 use crate::running::run_to_end;
+use crate::saving::{answer_resume, answer_save};
 use crate::writing::{fail_read, refuse};
 use dp_edge::{Gate, Shelf, Sink, WriteFail, write};
 use dp_load::{Loaded, Texts, load_program, load_texts};
 use dp_refusal::{Refusal, Role};
 use dp_report::site_text;
-use dp_run::{CrewSize, RunOptions, Tally};
+use dp_run::{RunOptions, Tally};
 use dp_tree::Program;
 use dp_words::{RunWords, Task, asked};
 use std::alloc::Global;
@@ -91,6 +95,11 @@ fn answer<R: Threads + Wait + Clock + Sync, S: Shelf, K: Sink, G: Gate>(
         Some(Task::Check(program)) => answer_check(alloc, program, shelf, sink),
         Some(Task::Profile(profile)) => answer_profile(alloc, profile, shelf, sink),
         Some(Task::Gen(words)) => answer_gen(rt, alloc, words, sink, gate, tally),
+        Some(Task::Log(run)) => answer_log(rt, alloc, run, shelf, sink),
+        Some(Task::Audit(run, log)) => answer_audit(alloc, run, log, shelf, sink),
+        Some(Task::Save(run, place)) => answer_save(rt, alloc, run, place, shelf, sink, gate),
+        Some(Task::Resume(run, name)) => answer_resume(rt, alloc, run, name, shelf, sink, gate),
+        Some(Task::Batch(run, list)) => answer_batch(rt, alloc, run, list, shelf, sink),
         None => refuse(alloc, Refusal::Words, sink),
     }
 }
@@ -119,10 +128,7 @@ fn answer_run<R: Threads + Wait + Clock + Sync, S: Shelf, K: Sink, G: Gate>(
         Texts::Run(program, input, plans) => {
             let options = RunOptions {
                 fuel: run.fuel,
-                crew: CrewSize {
-                    workers: run.options.workers,
-                    lane: run.lane,
-                },
+                crew: crew_of(run),
                 why: run.why,
             };
             run_to_end(

@@ -2,11 +2,16 @@
 #![tactic(auto)]
 
 mod answer;
+mod auditing;
+mod batching;
 mod law;
+mod logging;
 mod made;
 mod planning;
 mod profiling;
 mod running;
+mod saving;
+mod texts;
 mod writing;
 
 pub use answer::drive;

@@ -90,6 +90,7 @@ fn run_made<R: Threads + Wait + Clock + Sync, K: Sink, G: Gate>(
         crew: CrewSize {
             workers: words.options.workers,
             lane: words.lane,
+            threads: true,
         },
         why: false,
     };

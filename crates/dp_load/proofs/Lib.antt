@@ -1,6 +1,9 @@
 pub mod accepted
 pub mod ReadPlans
 pub mod LoadLemmas
+pub mod BehindLemmas
+pub mod EachLemmas
+pub mod BatchLemmas
 pub mod TextsLemmas
 pub mod OrderLemmas
 pub mod rows

@@ -61,14 +61,14 @@ expansion p q h = ap Ok (expands p q h) ∙ sym (ap (λ (v : Result Program Inli
 pub ruleset expansions = (expansion)
 
 -- a text that the shelf holds, so far as it tells, and that is longer than the room
-abbrev LongText : Contents → List ℕ → ℕ → Type 0
+abbrev pub LongText : Contents → List ℕ → ℕ → Type 0
 LongText contents name most = (text : List ℕ) × (Holds contents name text × (most < length text))
 
 long_held : (held : List ℕ → Option (List ℕ)) (name : List ℕ) (most : ℕ) (at : Option (List ℕ)) → held name ≡ at → IsSomeAnd at (λ content. most < length content) → LongText (Some held) name most
 long_held held name most None e h = absurd h
 long_held held name most (Some text) e h = (text, (e, h))
 
-long_text : (contents : Contents) (name : List ℕ) (most : ℕ) → IfSome contents (λ held. IsSomeAnd (held name) (λ content. most < length content)) → LongText contents name most
+pub long_text : (contents : Contents) (name : List ℕ) (most : ℕ) → IfSome contents (λ held. IsSomeAnd (held name) (λ content. most < length content)) → LongText contents name most
 long_text None name most h = let zero : ℕ = 0 in (replicate (most + 1) zero, (tt, omega (arith, length-replicate (most + 1) zero)))
 long_text (Some held) name most h = long_held held name most (held name) refl h
 

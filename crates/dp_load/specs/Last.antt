@@ -1,12 +1,15 @@
 -- The text that is read behind the plans: a log, or a checkpoint.
-use Rattle.std.specs.Prelude.{ℕ, ◌+◌, ◌<◌, ◌≤◌, List, [], length, Option, Some, None, Result, Ok, Err}
-use Rattle.dp_base.specs.declared.Quantity.{Quantity}
+use Rattle.std.specs.Prelude.{ℕ, ◌+◌, ◌<◌, ◌≤◌, List, length, Option, Some, None, Result, Ok, Err}
 use Rattle.dp_base.specs.declared.Quantity.TheVariants.{LogBytes, CheckpointBytes}
 use Rattle.dp_base.specs.declared.limits.TheConstants.{LOG_BYTES, CHECKPOINT_BYTES}
+use Rattle.dp_tree.specs.declared.Program.{Program}
+use Rattle.dp_save.specs.declared.Checkpoint.{Checkpoint as Point}
+use Rattle.dp_save.specs.CheckpointText.{CheckpointText}
+use Rattle.dp_save.specs.Refused.{IsRefused}
 use Rattle.dp_refusal.specs.declared.role.Role.{Role}
 use Rattle.dp_refusal.specs.declared.role.Role.TheVariants as role
 use Rattle.dp_refusal.specs.declared.refusal.Refusal.{Refusal}
-use Rattle.dp_refusal.specs.declared.refusal.Refusal.TheVariants.{Limit}
+use Rattle.dp_refusal.specs.declared.refusal.Refusal.TheVariants.{CheckpointLine, Limit}
 use Rattle.dp_load.specs.Roles.{Contents, Holds}
 
 -- the text under this name
@@ -22,17 +25,33 @@ abbrev pub last_role : Last → Role
 last_role (Log name) = role.Log
 last_role (Checkpoint name) = role.Checkpoint
 
--- how many bytes it may have, and the limit's name
-abbrev pub last_room : Last → ℕ
-last_room (Log name) = LOG_BYTES
-last_room (Checkpoint name) = CHECKPOINT_BYTES
+-- The text of a log is taken as it is, unless it has too many bytes.
+pub data ReadsLog (text : List ℕ) : Result (List ℕ) Refusal → Type 0 where
+  LogTooLong : LOG_BYTES < length text → ReadsLog text (Err (Limit LogBytes (LOG_BYTES + 1)))
+  LogTaken : length text ≤ LOG_BYTES → ReadsLog text (Ok text)
 
-abbrev pub last_limit : Last → Quantity
-last_limit (Log name) = LogBytes
-last_limit (Checkpoint name) = CheckpointBytes
+-- The text is read as this checkpoint of the expanded program, or refused for the first of the causes that stands: its length, its lines.
+pub data ReadsCheckpoint (p : Program) (text : List ℕ) : Result Point Refusal → Type 0 where
+  CheckpointTooLong : CHECKPOINT_BYTES < length text → ReadsCheckpoint p text (Err (Limit CheckpointBytes (CHECKPOINT_BYTES + 1)))
+  NoCheckpoint : (line : ℕ) → length text ≤ CHECKPOINT_BYTES → IsRefused p text line → ReadsCheckpoint p text (Err (CheckpointLine line))
+  CheckpointTaken : (c : Point) → length text ≤ CHECKPOINT_BYTES → CheckpointText p text c → ReadsCheckpoint p text (Ok c)
 
--- its bytes, unless they are too many: none where there is no such text
-pub data LastOf (contents : Contents) : Option Last → Result (List ℕ) Refusal → Type 0 where
-  NoLast : LastOf contents None (Ok [])
-  LastTooLong : (last : Last) (text : List ℕ) → Holds contents (last_name last) text → last_room last < length text → LastOf contents (Some last) (Err (Limit (last_limit last) (last_room last + 1)))
-  LastTaken : (last : Last) (text : List ℕ) → Holds contents (last_name last) text → length text ≤ last_room last → LastOf contents (Some last) (Ok text)
+-- what it gives: nothing, where there is no such text, the bytes of a log, or a checkpoint
+pub data Behind : Type 0 where
+  Nothing : Behind
+  Logged : List ℕ → Behind
+  SavedAt : Point → Behind
+
+abbrev pub logged : Result (List ℕ) Refusal → Result Behind Refusal
+logged (Ok text) = Ok (Logged text)
+logged (Err refusal) = Err refusal
+
+abbrev pub saved_at : Result Point Refusal → Result Behind Refusal
+saved_at (Ok c) = Ok (SavedAt c)
+saved_at (Err refusal) = Err refusal
+
+-- what the text under the name is read as, for this expanded program
+pub data LastOf (contents : Contents) (p : Program) : Option Last → Result Behind Refusal → Type 0 where
+  NoLast : LastOf contents p None (Ok Nothing)
+  LastLog : (name text : List ℕ) (read : Result (List ℕ) Refusal) → Holds contents name text → ReadsLog text read → LastOf contents p (Some (Log name)) (logged read)
+  LastCheckpoint : (name text : List ℕ) (read : Result Point Refusal) → Holds contents name text → ReadsCheckpoint p text read → LastOf contents p (Some (Checkpoint name)) (saved_at read)

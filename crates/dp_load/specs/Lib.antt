@@ -10,3 +10,5 @@ pub mod Profiles
 pub mod ReadPlans
 pub mod Loading
 pub mod Texts
+pub mod Batches
+pub mod steps

@@ -1,37 +1,26 @@
 -- A list of the names of inputs, and what these are read as.
-use Rattle.std.specs.Prelude.{◌≡◌, ℕ, ◌+◌, ◌≤◌, ◌<◌, List, [], ◌∷◌, ◌++◌, map, length, All, ℤ, Option, Some, None, Result, Ok, Err, IsUtf8, Contains}
+use Rattle.std.specs.Prelude.{◌≡◌, ℕ, ◌+◌, ◌≤◌, ◌<◌, List, [], ◌∷◌, ◌++◌, length, ℤ, Option, Some, None, Result, Ok, Err}
 use Rattle.dp_base.specs.declared.Quantity.TheVariants.{ListBytes}
 use Rattle.dp_base.specs.declared.limits.TheConstants.{LIST_BYTES}
 use Rattle.dp_text.specs.Lines.{lines_of}
 use Rattle.dp_text.specs.Refused.{IsRefusedAt}
+use Rattle.dp_list.specs.ListText.{IsList, ListLines}
 use Rattle.dp_refusal.specs.declared.refusal.Refusal.{Refusal}
 use Rattle.dp_refusal.specs.declared.refusal.Refusal.TheVariants.{BatchWord, InputWord, Limit, ListLine}
 use Rattle.dp_load.specs.Roles.{Contents, Holds, ReadsInput}
 use Rattle.dp_load.specs.Then.{InTurn}
-
--- a name of a list: 1 to 255 bytes in UTF-8, none of which ends a line
-pub record IsListed (name : List ℕ) : Type 0 where
-  pub some_byte : 1 ≤ length name
-  pub few_bytes : length name ≤ 255
-  pub text : IsUtf8 name
-  pub one_line : ¬ Contains name 10
-
--- these are the lines of a list of these names: 1 to 64, each on a line of its own
-pub record ListLines (lines : List (List ℕ)) (names : List (List ℕ)) : Type 0 where
-  pub written : lines ≡ map (λ name. name ++ 10 ∷ []) names
-  pub some_name : 1 ≤ length names
-  pub few_names : length names ≤ 64
-  pub listed : All IsListed names
-
--- these are the lines of a list
-abbrev pub IsList : List (List ℕ) → Type 0
-IsList lines = (names : List (List ℕ)) × ListLines lines names
 
 -- The text is read as the list of these names, or refused for the first of the causes that stands: its length, its lines.
 pub data ReadsList (text : List ℕ) : Result (List (List ℕ)) Refusal → Type 0 where
   TooLong : LIST_BYTES < length text → ReadsList text (Err (Limit ListBytes (LIST_BYTES + 1)))
   NoList : (line : ℕ) → length text ≤ LIST_BYTES → IsRefusedAt IsList (lines_of text) line → ReadsList text (Err (ListLine line))
   Taken : (names : List (List ℕ)) → length text ≤ LIST_BYTES → ListLines (lines_of text) names → ReadsList text (Ok names)
+
+-- what a list's text under the name is read as
+pub record LoadsList (contents : Contents) (name : List ℕ) (read : Result (List (List ℕ)) Refusal) : Type 0 where
+  pub text : List ℕ
+  pub held : Holds contents name text
+  pub reads : ReadsList text read
 
 -- the refusal of an input with its number in the list, where a word of it is refused
 abbrev pub in_list : ℕ → Result (List ℤ) Refusal → Result (List ℤ) Refusal

@@ -11,6 +11,8 @@ use Rattle.dp_plan.specs.declared.Plan.{Plan}
 use Rattle.dp_load.specs.Plans.{ReadsPlans}
 use Rattle.dp_profile.specs.declared.Profile.{Profile}
 use Rattle.dp_load.specs.Profiles.{ReadsProfile}
+use Rattle.dp_save.specs.declared.Checkpoint.{Checkpoint}
+use Rattle.dp_load.specs.Last.{ReadsCheckpoint, ReadsLog}
 
 -- what a program's text under the name is read as
 pub record ReadsProgram (contents : Contents) (name : List ℕ) (read : Result Tree Refusal) : Type 0 where
@@ -33,6 +35,18 @@ pub record LoadsProfile (contents : Contents) (p : Tree) (name : List ℕ) (read
   pub text : List ℕ
   pub held : Holds contents name text
   pub reads : ReadsProfile p text read
+
+-- what a log's text under the name is read as
+pub record LoadsLog (contents : Contents) (name : List ℕ) (read : Result (List ℕ) Refusal) : Type 0 where
+  pub text : List ℕ
+  pub held : Holds contents name text
+  pub reads : ReadsLog text read
+
+-- what a checkpoint's text under the name is read as
+pub record LoadsCheckpoint (contents : Contents) (p : Tree) (name : List ℕ) (read : Result Checkpoint Refusal) : Type 0 where
+  pub text : List ℕ
+  pub held : Holds contents name text
+  pub reads : ReadsCheckpoint p text read
 
 -- What one text was loaded as: what it stands for, or its refusal; or its reading failed.
 abbrev pub Loads : {X : Type 0} → (Result X Refusal → Type 0) → Loaded X → Type 0

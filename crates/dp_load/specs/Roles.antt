@@ -5,7 +5,7 @@ use Rattle.dp_report.specs.Generator.{made_text}
 use Rattle.dp_words.specs.declared.task.PlanOptions.{PlanOptions}
 use Rattle.dp_words.specs.Run as source
 use Rattle.dp_words.specs.Run.{Source, Least}
-use Rattle.dp_words.specs.Words.{Asked, ToRun, ToPlan, ToList, ToProfile, ToMake}
+use Rattle.dp_words.specs.Words.{Asked, ToRun, ToPlan, ToList, ToProfile, ToMake, ToLog, ToAudit, ToSave, ToResume, ToBatch}
 use Rattle.dp_plan.specs.declared.Plan.{Plan}
 use Rattle.dp_profile.specs.declared.Profile.{Profile}
 use Rattle.dp_refusal.specs.declared.refusal.Refusal.{Refusal}
@@ -31,6 +31,11 @@ program_in (ToPlan planning) = Some planning.program
 program_in (ToList program) = Some program
 program_in (ToProfile profiling) = Some profiling.program
 program_in (ToMake made) = None
+program_in (ToLog run) = Some run.program
+program_in (ToAudit run log) = Some run.program
+program_in (ToSave run place) = Some run.program
+program_in (ToResume run checkpoint) = Some run.program
+program_in (ToBatch run list) = Some run.program
 
 -- what the program's text is read as: that under the name, or the made one
 pub data ProgramOf (contents : Contents) : Option (List ℕ) → Result Program Refusal → Type 0 where
@@ -46,6 +51,11 @@ input_in (ToPlan planning) = None
 input_in (ToList program) = None
 input_in (ToProfile profiling) = profiling.input
 input_in (ToMake made) = None
+input_in (ToLog run) = run.input
+input_in (ToAudit run log) = run.input
+input_in (ToSave run place) = run.input
+input_in (ToResume run checkpoint) = run.input
+input_in (ToBatch run list) = None
 
 -- what an input's text under the name is read as
 pub record ReadsInput (contents : Contents) (name : List ℕ) (read : Result (List ℤ) Refusal) : Type 0 where
@@ -67,6 +77,11 @@ plans_in (ToPlan planning) = Some (Least planning.profile, planning.options)
 plans_in (ToList program) = None
 plans_in (ToProfile profiling) = None
 plans_in (ToMake made) = Some (Least None, made.options)
+plans_in (ToLog run) = Some (run.source, run.options)
+plans_in (ToAudit run log) = Some (run.source, run.options)
+plans_in (ToSave run place) = Some (run.source, run.options)
+plans_in (ToResume run checkpoint) = Some (run.source, run.options)
+plans_in (ToBatch run list) = Some (run.source, run.options)
 
 -- the name of the text that plans rest on, if there is one
 abbrev pub named_in : Source → Option (List ℕ)

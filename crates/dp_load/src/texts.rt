@@ -73,7 +73,7 @@ pub fn load_words<S: Shelf>(
 }
 
 /// The plans under a name, or the least ones.
-fn load_given<S: Shelf>(
+pub fn load_given<S: Shelf>(
     alloc: Global,
     shelf: &mut S,
     source: PlanSource<'_>,

@@ -1,5 +1,9 @@
 mod PassLemmas
-mod RunLemmas
-mod SimpleRows
+mod RangeLemmas
+mod TakenNumbers
+mod OwnWord
 pub mod VerbLemmas
+mod AnswerLemmas
+mod FormLemmas
+mod TableLemmas
 mod rows

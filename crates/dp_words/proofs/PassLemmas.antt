@@ -11,7 +11,7 @@ use Rattle.clap.proofs.WalkLemmas.{both}
 use Rattle.clap.specs.Facts.{Entry, EntryPasses, ValuesPass, PassesArg, parser_of_value}
 use Rattle.clap.specs.Built.{IsAuto}
 use Rattle.clap.specs.Walk.{is_empty, is_simple_arg}
-use Rattle.clap.specs.Words.{Accepts, App, IsParsedFrom, Rule, SameRules, Text, app_of, args_of, first_value, found_of, groups_of, matched_of, parser_of, rule_of}
+use Rattle.clap.specs.Words.{Accepts, IsParsedFrom, Rule, SameRules, Text, app_of, args_of, first_value, found_of, groups_of, matched_of, parser_of, rule_of}
 use Rattle.clap.specs.declared.builder.arg.Arg.{Arg}
 use Rattle.clap.specs.declared.builder.command.Command.{Command}
 use Rattle.clap.specs.declared.builder.command.Command.TheViews.{out-Command}
@@ -111,13 +111,10 @@ first_passes built f id t without named values value = go (matched_of f id) refl
         entry_values built got.0 x id t without named got.1 ((bytes_eq-Decides got.0.0.now id).0 got.2) got.3 (rw e at h)
 
 -- the value of an argument with a parser, of a command that is simple
-pub value_passes : (old : Command) (m : ArgMatches) (app : App) → app_of old ≡ app → app.top.is_plain ≡ true → list_all (λ r. r.is_simple) app.top.rules ≡ true
-    → (id : Text) (q : ValueParser) → Each (HasParser id q) app.top.rules → (id ≡ [] → ⊥) → (id ≡ codes "help" → ⊥) → (id ≡ codes "version" → ⊥)
-    → IsParsedFrom old m → (t : Text) → first_value (found_of m) id ≡ Some t → Accepts false q t
-value_passes old m app is plain simple id q rules named help version p t value =
-    let own_plain : (app_of old).top.is_plain ≡ true = ap (λ (a : App). a.top.is_plain) is ∙ plain in
-    let own_simple : list_all (λ r. r.is_simple) (app_of old).top.rules ≡ true = ap (λ (a : App). list_all (λ r. r.is_simple) a.top.rules) is ∙ simple in
-    let own_rules : Each (HasParser id q) (app_of old).top.rules = subst (λ (a : App). Each (HasParser id q) a.top.rules) (sym is) rules in
-    let parsed = p.parsed (p.from.globals ∙ no_globals old own_plain) in
-    let without : groups_of p.built ≡ [] = (p.from.same_groups (no_group_args (args_of old) own_simple)).1 ∙ no_groups old own_plain in
-    passes_given old m p id q own_rules help version t (first_passes p.built (found_of m) id t without named parsed.values value)
+pub value_passes : (old : Command) (m : ArgMatches) → IsParsedFrom old m → (app_of old).top.is_plain ≡ true → list_all (λ r. r.is_simple) (app_of old).top.rules ≡ true
+    → (id : Text) (q : ValueParser) → Each (HasParser id q) (app_of old).top.rules → (id ≡ [] → ⊥) → (id ≡ codes "help" → ⊥) → (id ≡ codes "version" → ⊥)
+    → (t : Text) → first_value (found_of m) id ≡ Some t → Accepts false q t
+value_passes old m p plain simple id q rules named help version t value =
+    let parsed = p.parsed (p.from.globals ∙ no_globals old plain) in
+    let without : groups_of p.built ≡ [] = (p.from.same_groups (no_group_args (args_of old) simple)).1 ∙ no_groups old plain in
+    passes_given old m p id q rules help version t (first_passes p.built (found_of m) id t without named parsed.values value)

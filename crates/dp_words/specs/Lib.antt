@@ -6,4 +6,5 @@ pub mod Planning
 pub mod Sites
 pub mod Profiling
 pub mod Made
+pub mod Saving
 pub mod steps

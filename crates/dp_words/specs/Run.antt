@@ -41,6 +41,11 @@ pub record ShowsRun (value : Values) (run : Run) : Type 0 where
   pub fuel : run.fuel ≡ fuel_in value
   pub why : run.why ≡ is_set (value (codes "why"))
 
+-- the values are those of this run, and of a further text with this name, under this id
+pub record ShowsNamed (id : Text) (value : Values) (named : Run × List ℕ) : Type 0 where
+  pub run : ShowsRun value named.0
+  pub name : value id ≡ Some named.1
+
 -- where plans come from, by the program's own record
 abbrev pub shown_source : PlanSource → Source
 shown_source (source.Named name) = Named name.now

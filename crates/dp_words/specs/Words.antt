@@ -2,15 +2,17 @@
 use Rattle.std.specs.Prelude.{ℕ, List, ◌∷◌, codes}
 use Rattle.clap.specs.Words.{App, Text}
 use Rattle.dp_words.specs.declared.task.GenWords.{GenWords}
+use Rattle.dp_words.specs.declared.task.Place.{Place}
 use Rattle.dp_words.specs.declared.task.Task.{Task}
 use Rattle.dp_words.specs.declared.task.Task.TheVariants as task
-use Rattle.dp_words.specs.Commands.{IsTaken, check_app, gen_app, plan_app, profile_app, run_app, value_in}
+use Rattle.dp_words.specs.Commands.{IsTaken, audit_app, batch_app, check_app, gen_app, log_app, plan_app, profile_app, resume_app, run_app, save_app, value_in}
 use Rattle.dp_words.specs.Values.{OptionsWithin, Values}
-use Rattle.dp_words.specs.Run.{Run, RunWithin, ShowsRun, shown}
+use Rattle.dp_words.specs.Run.{Run, RunWithin, ShowsNamed, ShowsRun, shown}
 use Rattle.dp_words.specs.Planning.{Planning, ShowsPlanning, shown_planning}
 use Rattle.dp_words.specs.Sites.{ShowsSites}
 use Rattle.dp_words.specs.Profiling.{Profiling, ProfilingWithin, ShowsProfiling, shown_profiling}
 use Rattle.dp_words.specs.Made.{MadeWithin, ShowsMade}
+use Rattle.dp_words.specs.Saving.{PlaceWithin, ShowsSaving}
 
 -- the command takes the words, and they give it the values of this
 pub record Names {X : Type 0} (app : App) (Shows : Values → X → Type 0) (words : List Text) (x : X) : Type 0 where
@@ -21,13 +23,19 @@ pub record Names {X : Type 0} (app : App) (Shows : Values → X → Type 0) (wor
 pub data AsksBy {X : Type 0} (verb : Text) (app : App) (Shows : Values → X → Type 0) : List Text → X → Type 0 where
   Behind : (words : List Text) (x : X) → Names app Shows words x → AsksBy verb app Shows (verb ∷ words) x
 
--- what words may ask for: a run, least plans, the list of this program's sites, a profile, or a run of the made program
+-- What words may ask for: a run, least plans, the list of this program's sites, a profile, or a run of the made program; the log of a run, whether the
+-- log of this name is a run's, a run up to this place, a run from the checkpoint of this name on, or a run of each input that the list of this name has.
 pub data Asked : Type 0 where
   ToRun : Run → Asked
   ToPlan : Planning → Asked
   ToList : List ℕ → Asked
   ToProfile : Profiling → Asked
   ToMake : GenWords → Asked
+  ToLog : Run → Asked
+  ToAudit : Run → List ℕ → Asked
+  ToSave : Run → Place → Asked
+  ToResume : Run → List ℕ → Asked
+  ToBatch : Run → List ℕ → Asked
 
 -- the words ask for it
 abbrev pub Asks : List Text → Asked → Type 0
@@ -36,6 +44,11 @@ Asks words (ToPlan planning) = AsksBy (codes "plan") plan_app ShowsPlanning word
 Asks words (ToList program) = AsksBy (codes "check") check_app ShowsSites words program
 Asks words (ToProfile profiling) = AsksBy (codes "profile") profile_app ShowsProfiling words profiling
 Asks words (ToMake made) = AsksBy (codes "gen") gen_app ShowsMade words made
+Asks words (ToLog run) = AsksBy (codes "log") log_app ShowsRun words run
+Asks words (ToAudit run log) = AsksBy (codes "audit") audit_app (ShowsNamed (codes "log")) words (run, log)
+Asks words (ToSave run place) = AsksBy (codes "save") save_app ShowsSaving words (run, place)
+Asks words (ToResume run checkpoint) = AsksBy (codes "resume") resume_app (ShowsNamed (codes "checkpoint")) words (run, checkpoint)
+Asks words (ToBatch run list) = AsksBy (codes "batch") batch_app (ShowsNamed (codes "list")) words (run, list)
 
 -- they ask for nothing that the program does
 abbrev pub AsksNothing : List Text → Type 0
@@ -48,6 +61,11 @@ asked_in (task.Plan plan) = ToPlan (shown_planning plan)
 asked_in (task.Check program) = ToList program.now
 asked_in (task.Profile profile) = ToProfile (shown_profiling profile)
 asked_in (task.Gen made) = ToMake made
+asked_in (task.Log run) = ToLog (shown run)
+asked_in (task.Audit run log) = ToAudit (shown run) log.now
+asked_in (task.Save run place) = ToSave (shown run) place
+asked_in (task.Resume run checkpoint) = ToResume (shown run) checkpoint.now
+asked_in (task.Batch run list) = ToBatch (shown run) list.now
 
 -- its numbers are within their limits
 abbrev pub IsWithin : Task → Type 0
@@ -56,3 +74,8 @@ IsWithin (task.Plan plan) = OptionsWithin plan.options
 IsWithin (task.Check program) = Unit {0}
 IsWithin (task.Profile profile) = ProfilingWithin (shown_profiling profile)
 IsWithin (task.Gen made) = MadeWithin made
+IsWithin (task.Log run) = RunWithin (shown run)
+IsWithin (task.Audit run log) = RunWithin (shown run)
+IsWithin (task.Save run place) = RunWithin (shown run) × PlaceWithin place
+IsWithin (task.Resume run checkpoint) = RunWithin (shown run)
+IsWithin (task.Batch run list) = RunWithin (shown run)

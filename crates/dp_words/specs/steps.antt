@@ -1,1 +1,4 @@
 pub mod Reading
+pub mod Numbers
+pub mod Verbs
+pub mod Table

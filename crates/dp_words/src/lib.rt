@@ -1,11 +1,15 @@
 //! What the words after the program's name ask for.
 #![tactic(auto)]
 
+mod arguments;
 mod commands;
+mod numbers;
 mod parsing;
 mod reading;
 mod task;
+mod tasks;
+mod verb;
 mod verbs;
 
-pub use task::{GenWords, PlanOptions, PlanSource, PlanWords, ProfileWords, RunWords, Task};
+pub use task::{GenWords, Place, PlanOptions, PlanSource, PlanWords, ProfileWords, RunWords, Task};
 pub use verbs::asked;

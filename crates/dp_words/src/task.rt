@@ -74,6 +74,18 @@ pub struct GenWords {
     pub fuel: u64,
 }
 
+/// The largest number of a region.
+pub const REGION: u32 = 4_294_967_295;
+
+/// Where a run is to be saved.
+#[derive(Clone, Copy)]
+pub struct Place {
+    /// The number of a region, from 1.
+    pub region: u32,
+    /// How many of its iterations come before, up to 1,000,000,000.
+    pub after: u64,
+}
+
 /// What the program is asked to do.
 #[derive(Clone, Copy)]
 pub enum Task<'w> {
@@ -86,4 +98,14 @@ pub enum Task<'w> {
     Profile(ProfileWords<'w>),
     /// To make a program with its input, and to run it.
     Gen(GenWords),
+    /// To write the log of a run.
+    Log(RunWords<'w>),
+    /// To tell whether the log with this name is that of the run.
+    Audit(RunWords<'w>, &'w str),
+    /// To run up to this place, and to save the run there.
+    Save(RunWords<'w>, Place),
+    /// To go on from the checkpoint with this name. The fuel is the checkpoint's, and that of the words has no meaning.
+    Resume(RunWords<'w>, &'w str),
+    /// To run the program on each input that the list with this name has.
+    Batch(RunWords<'w>, &'w str),
 }

@@ -6,6 +6,7 @@
 //! for the numbers from 0 on and `^` for those from 1 on. The exit status is that of the text's last line.
 mod arithmetic;
 mod automatic;
+mod batches;
 mod bytes;
 mod calls;
 mod cases;
@@ -16,6 +17,7 @@ mod hostile;
 mod inputs;
 mod library;
 mod limits;
+mod logs;
 mod loops;
 mod made;
 mod names;
@@ -25,6 +27,7 @@ mod pipelines;
 mod plan_rules;
 mod plan_texts;
 mod profiles;
+mod saved;
 mod sites;
 mod syntax;
 mod units;
@@ -48,7 +51,7 @@ use std::time::Clock;
 type Named<'t> = (&'t str, &'t [u8]);
 
 /// What an exit status goes with: how the last line begins. With every other one it is 0.
-const STATUSES: [(&str, u8); 7] = [
+const STATUSES: [(&str, u8); 8] = [
     ("end fault", 1),
     ("refused words", 2),
     ("refused program", 3),
@@ -56,6 +59,7 @@ const STATUSES: [(&str, u8); 7] = [
     ("failed read", 5),
     ("end fuel", 8),
     ("limit", 9),
+    ("audit differs", 10),
 ];
 
 /// Workers and lanes that give the same text.
@@ -141,8 +145,11 @@ fn answer_at<R: Abort + Threads + Wait + Clock + Sync, G: Gate>(
     })
 }
 
-/// The exit status that goes with a text.
+/// The exit status that goes with a text. A batch's is 0 however its runs end.
 fn status_of(text: &str) -> u8 {
+    if text.starts_with("input ") {
+        return 0;
+    }
     let last = match text.trim_end().rsplit_once('\n') {
         Some((_, last)) => last,
         None => text,

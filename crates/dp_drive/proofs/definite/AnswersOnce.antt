@@ -6,6 +6,7 @@ use Rattle.dp_words.specs.Words.{Asked, Asks, AsksNothing}
 use Rattle.dp_refusal.specs.declared.refusal.Refusal.{Refusal}
 use Rattle.dp_refusal.specs.declared.refusal.Refusal.TheVariants.{Words}
 use Rattle.dp_refusal.specs.Refusal.{refusal_line, refusal_status}
+use Rattle.dp_load.specs.Last.{Behind}
 use Rattle.dp_load.specs.Order.{ReadsAll, given_by}
 use Rattle.dp_load.proofs.definite.TextsOnce.{all_once}
 use Rattle.dp_drive.specs.Answer.{Answer, Done, NotTaken, Refused, bytes_for, status_for}
@@ -16,7 +17,7 @@ abbrev refused : Refusal → ℕ × List ℕ
 refused refusal = (refusal_status refusal, refusal_line refusal)
 
 abbrev Read : Type 0
-Read = Result ((((Program × List ℤ) × List (List ℤ)) × List Plan) × List ℕ) Refusal
+Read = Result ((((Program × List ℤ) × List (List ℤ)) × List Plan) × Behind) Refusal
 
 -- what is answered, by what the texts are read as
 abbrev given : Asked → Read → ℕ × List ℕ

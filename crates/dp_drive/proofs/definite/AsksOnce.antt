@@ -1,12 +1,15 @@
 -- Words ask for one thing only.
 use Rattle.std.proofs.Common.{◌≡◌, refl, sym, ap, ap₂, ◌∙◌, ℕ, List, Some, None, codes}
+use Rattle.std.specs.Option.{option_map}
 use Rattle.clap.specs.Words.{App, Text}
 use Rattle.dp_words.proofs.VerbLemmas.{apart, asks_verb, behind, named_behind, verb_of}
-use Rattle.dp_words.specs.Commands.{check_app, gen_app, plan_app, profile_app, run_app, value_in}
+use Rattle.dp_words.specs.Commands.{audit_app, batch_app, check_app, gen_app, log_app, plan_app, profile_app, resume_app, run_app, save_app, value_in}
 use Rattle.dp_words.specs.declared.task.GenWords.{GenWords}
-use Rattle.dp_words.specs.Words.{Asked, Asks, AsksBy, ToList, ToMake, ToPlan, ToProfile, ToRun}
+use Rattle.dp_words.specs.declared.task.Place.{Place}
+use Rattle.dp_words.specs.Words.{Asked, Asks, AsksBy, ToAudit, ToBatch, ToList, ToLog, ToMake, ToPlan, ToProfile, ToResume, ToRun, ToSave}
 use Rattle.dp_words.specs.Values.{Values, default_fuel, default_rate, default_stages, fuel_in, is_set, lane_in, options_in, workers_in}
-use Rattle.dp_words.specs.Run.{Run, Source, ShowsRun}
+use Rattle.dp_words.specs.Run.{Run, Source, ShowsNamed, ShowsRun}
+use Rattle.dp_words.specs.Saving.{ShowsSaving}
 use Rattle.dp_words.specs.Planning.{Planning, ShowsPlanning}
 use Rattle.dp_words.specs.Sites.{ShowsSites}
 use Rattle.dp_words.specs.Profiling.{Profiling, ShowsProfiling}
@@ -71,6 +74,24 @@ mades_once value made other a b =
     let size : Some made.size ≡ Some other.size = sym a.size ∙ b.size in
     sym (made_is value made a) ∙ ap₂ (made_from value) (cc seed) (cc size) ∙ made_is value other b
 
+-- a run with the name of a further text, and one with a place
+named_once : (id : Text) (value : Values) (a b : Run × List ℕ) → ShowsNamed id value a → ShowsNamed id value b → a ≡ b
+named_once id value (run, name) (other, called) h k =
+    let same : Some name ≡ Some called = sym h.name ∙ k.name in
+    ap₂ (λ (r : Run) (n : List ℕ). (r, n)) (runs_once value run other h.run k.run) (cc same)
+
+abbrev place_from : ℕ → ℕ → Place
+place_from region after = record { region = region; after = after }
+
+savings_once : (value : Values) (a b : Run × Place) → ShowsSaving value a → ShowsSaving value b → a ≡ b
+savings_once value (run, place) (other, there) h k =
+    let region : Some place.region ≡ Some there.region = sym h.region ∙ k.region in
+    let after : Some place.after ≡ Some there.after = sym h.after ∙ k.after in
+    ap₂ (λ (r : Run) (at : Place). (r, at)) (runs_once value run other h.run k.run) (ap₂ place_from (cc region) (cc after))
+
+abbrev named_asked : (Run → List ℕ → Asked) → Run × List ℕ → Asked
+named_asked to x = to x.0 x.1
+
 -- the words of one verb
 once_by : {X : Type 0} (verb : Text) (app : App) (Shows : Values → X → Type 0) → ((value : Values) (x y : X) → Shows value x → Shows value y → x ≡ y) → {words : List Text} {x y : X} →
     AsksBy verb app Shows words x → AsksBy verb app Shows words y → x ≡ y
@@ -83,6 +104,11 @@ of_verb words (ToPlan a) (ToPlan b) e h k = ap ToPlan (once_by (codes "plan") pl
 of_verb words (ToList a) (ToList b) e h k = ap ToList (once_by (codes "check") check_app ShowsSites programs_once h k)
 of_verb words (ToProfile a) (ToProfile b) e h k = ap ToProfile (once_by (codes "profile") profile_app ShowsProfiling profilings_once h k)
 of_verb words (ToMake a) (ToMake b) e h k = ap ToMake (once_by (codes "gen") gen_app ShowsMade mades_once h k)
+of_verb words (ToLog a) (ToLog b) e h k = ap ToLog (once_by (codes "log") log_app ShowsRun runs_once h k)
+of_verb words (ToAudit a x) (ToAudit b y) e h k = ap (named_asked ToAudit) (once_by (codes "audit") audit_app (ShowsNamed (codes "log")) (named_once (codes "log")) h k)
+of_verb words (ToSave a x) (ToSave b y) e h k = ap (λ (z : Run × Place). ToSave z.0 z.1) (once_by (codes "save") save_app ShowsSaving savings_once h k)
+of_verb words (ToResume a x) (ToResume b y) e h k = ap (named_asked ToResume) (once_by (codes "resume") resume_app (ShowsNamed (codes "checkpoint")) (named_once (codes "checkpoint")) h k)
+of_verb words (ToBatch a x) (ToBatch b y) e h k = ap (named_asked ToBatch) (once_by (codes "batch") batch_app (ShowsNamed (codes "list")) (named_once (codes "list")) h k)
 of_verb words a b e h k = absurd (apart (verb_of a) (verb_of b) refl e)
 
 pub asks_once : (words : List Text) (a b : Asked) → Asks words a → Asks words b → a ≡ b

@@ -59,7 +59,7 @@ numbers_few text zs is numbers same = by (nat_le (length (words text)) 65536) re
     by false many e = absurd (cc e)
 
 -- the numbers of an input are few
-few_words : {contents : Contents} {name : Option (List ℕ)} {o : Result (List ℤ) Refusal} (numbers : List ℤ) → Input contents name o → o ≡ Ok numbers → length numbers ≤ 65536
+pub few_words : {contents : Contents} {name : Option (List ℕ)} {o : Result (List ℤ) Refusal} (numbers : List ℤ) → Input contents name o → o ≡ Ok numbers → length numbers ≤ 65536
 few_words numbers Unnamed e = let same : [] ≡ numbers = cc e in let size = ap length (sym same) in omega (arith, size)
 few_words numbers (Named name read r) e = by (nat_lt 2097152 (length r.text)) refl (sym r.reads ∙ e)
   where

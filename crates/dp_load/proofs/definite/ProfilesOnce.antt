@@ -4,7 +4,6 @@ use Rattle.dp_base.specs.declared.Quantity.TheVariants.{ProfileBytes}
 use Rattle.dp_tree.specs.declared.Program.{Program}
 use Rattle.dp_tree.specs.Inlined.{IsInlined}
 use Rattle.dp_profile.specs.declared.Profile.{Profile}
-use Rattle.dp_profile_text.specs.declared.ProfileFail.TheVariants as fail
 use Rattle.dp_profile_text.specs.ProfileText.{ProfileText}
 use Rattle.dp_text.specs.Lines.{lines_of}
 use Rattle.dp_profile_text.specs.Refused.{IsProfileText, IsRefused}

@@ -14,10 +14,11 @@ use Rattle.dp_load.specs.Profiles.{ReadsProfile}
 use Rattle.dp_load.specs.Program.{Reads}
 use Rattle.dp_load.specs.Inputs.{input_of}
 use Rattle.dp_load.specs.Roles.{some_read, ReadsInput, Input, Unnamed, Named, Profiled, NotNamed, NamedProfile, Plans, Automatic, ProfileRefused, Planned, PlansOf, NoPlans, SomePlans, ProgramOf, MadeProgram, NamedProgram, program_in}
-use Rattle.dp_load.specs.Last.{Last, LastOf, NoLast, LastTooLong, LastTaken}
-use Rattle.dp_load.specs.Lists.{Inputs, Unlisted, ListRefused, Listed}
+use Rattle.dp_save.specs.declared.Checkpoint.{Checkpoint as Point}
+use Rattle.dp_load.specs.Last.{Behind, Checkpoint, Last, LastCheckpoint, LastLog, LastOf, Log, NoLast, Nothing, ReadsCheckpoint, ReadsLog, logged, saved_at}
+use Rattle.dp_load.specs.Lists.{Inputs, ListRefused, Listed, ReadsList, ReadsListed, Unlisted, in_list}
 use Rattle.dp_load.specs.Order.{ReadsAll, WithInputs}
-use Rattle.dp_load.specs.Then.{Both}
+use Rattle.dp_load.specs.Then.{Both, InTurn}
 use Rattle.dp_load.proofs.definite.ThenOnce.{Once, then_once}
 use Rattle.dp_report.specs.Generator.{made_text}
 use Rattle.dp_words.specs.Words.{Asked}
@@ -25,6 +26,8 @@ use Rattle.dp_load.proofs.accepted.Accepted.{few_regions_read, inlined_read}
 use Rattle.dp_load.proofs.definite.ReadsOnce.{reads_once}
 use Rattle.dp_load.proofs.definite.PlansOnce.{plans_once}
 use Rattle.dp_load.proofs.definite.ProfilesOnce.{profiles_once}
+use Rattle.dp_load.proofs.definite.ListsOnce.{in_turn_once, lists_once}
+use Rattle.dp_load.proofs.definite.LastOnce.{checkpoints_once, logs_once}
 
 module _ (held : List ℕ → Option (List ℕ)) where
   one_text : {name other text more : List ℕ} → name ≡ other → held name ≡ Some text → held other ≡ Some more → text ≡ more
@@ -135,16 +138,74 @@ module _ (held : List ℕ → Option (List ℕ)) where
   each_plans_once p (MadeProgram read r) e h k = plans_of p made_text (subst (Reads made_text) e r) refl h k
   each_plans_once p (NamedProgram name text read held_text r) e h k = plans_of p text (subst (Reads text) e r) refl h k
 
-  -- where there is no list, and nothing behind the plans
-  unlisted : {o : Option (List ℕ)} {a : Result (List (List ℤ)) Refusal} → o ≡ None → Inputs (Some held) o a → Ok [] ≡ a
-  unlisted e Unlisted = refl
-  unlisted e (ListRefused name text refusal h r) = absurd (cc e)
-  unlisted e (Listed name text names read h r k) = absurd (cc e)
+  -- the inputs of a list
+  listed_once : (number : ℕ) (name : List ℕ) → Once (ReadsListed (Some held) number name)
+  listed_once number name a b r s =
+      let same : r.alone ≡ s.alone = r.reads.reads ∙ ap input_of (one_text refl r.reads.held s.reads.held) ∙ sym s.reads.reads in
+      r.is ∙ ap (in_list number) same ∙ sym s.is
 
-  no_last : {o : Option Last} {a : Result (List ℕ) Refusal} → o ≡ None → LastOf (Some held) o a → Ok [] ≡ a
-  no_last e NoLast = refl
-  no_last e (LastTooLong last text h long) = absurd (cc e)
-  no_last e (LastTaken last text h short) = absurd (cc e)
+  from_unlisted : {o : Option (List ℕ)} {b : Result (List (List ℤ)) Refusal} → None ≡ o → Inputs (Some held) o b → Ok [] ≡ b
+  from_unlisted e Unlisted = refl
+  from_unlisted e (ListRefused name text refusal h r) = absurd (cc e)
+  from_unlisted e (Listed name text names read h r k) = absurd (cc e)
+
+  names_by : {name other text more : List ℕ} {a b : Result (List (List ℕ)) Refusal} → name ≡ other → held name ≡ Some text → held other ≡ Some more → ReadsList text a → ReadsList more b → a ≡ b
+  names_by {text = text} {b = b} e h k r s = lists_once text r (subst (λ (x : List ℕ). ReadsList x b) (sym (one_text e h k)) s)
+
+  from_refused_list : {o : Option (List ℕ)} {b : Result (List (List ℤ)) Refusal} (name text : List ℕ) (refusal : Refusal) → Some name ≡ o → held name ≡ Some text → ReadsList text (Err refusal) → Inputs (Some held) o b → Err refusal ≡ b
+  from_refused_list name text refusal e h r Unlisted = absurd (cc e)
+  from_refused_list name text refusal e h r (ListRefused other more another k s) =
+      let same : name ≡ other = cc e in
+      let one : Err refusal ≡ Err another = names_by same h k r s in
+      let refusals : refusal ≡ another = cc one in
+      ap (λ (x : Refusal). Err x) refusals
+  from_refused_list name text refusal e h r (Listed other more names read k s l) =
+      let same : name ≡ other = cc e in
+      let clash : Err refusal ≡ Ok names = names_by same h k r s in
+      absurd (cc clash)
+
+  from_listed : {o : Option (List ℕ)} {a b : Result (List (List ℤ)) Refusal} (name text : List ℕ) (names : List (List ℕ)) → Some name ≡ o → held name ≡ Some text → ReadsList text (Ok names) → InTurn (ReadsListed (Some held)) 1 names a → Inputs (Some held) o b → a ≡ b
+  from_listed name text names e h r l Unlisted = absurd (cc e)
+  from_listed name text names e h r l (ListRefused other more refusal k s) =
+      let same : name ≡ other = cc e in
+      let clash : Ok names ≡ Err refusal = names_by same h k r s in
+      absurd (cc clash)
+  from_listed name text names e h r l (Listed other more others read k s m) =
+      let same : name ≡ other = cc e in
+      let one : Ok names ≡ Ok others = names_by same h k r s in
+      let lists : names ≡ others = cc one in
+      in_turn_once listed_once l read (subst (λ (ns : List (List ℕ)). InTurn (ReadsListed (Some held)) 1 ns read) (sym lists) m)
+
+  inputs_by : {o q : Option (List ℕ)} {a b : Result (List (List ℤ)) Refusal} → o ≡ q → Inputs (Some held) o a → Inputs (Some held) q b → a ≡ b
+  inputs_by e Unlisted k = from_unlisted e k
+  inputs_by e (ListRefused name text refusal h r) k = from_refused_list name text refusal e h r k
+  inputs_by e (Listed name text names read h r l) k = from_listed name text names e h r l k
+
+  -- what stands behind the plans
+  module _ (p : Program) where
+    from_nothing : {o : Option Last} {b : Result Behind Refusal} → None ≡ o → LastOf (Some held) p o b → Ok Nothing ≡ b
+    from_nothing e NoLast = refl
+    from_nothing e (LastLog name text read h r) = absurd (cc e)
+    from_nothing e (LastCheckpoint name text read h r) = absurd (cc e)
+
+    from_log : {o : Option Last} {b : Result Behind Refusal} (name text : List ℕ) (a : Result (List ℕ) Refusal) → Some (Log name) ≡ o → held name ≡ Some text → ReadsLog text a → LastOf (Some held) p o b → logged a ≡ b
+    from_log name text a e h r NoLast = absurd (cc e)
+    from_log name text a e h r (LastLog other more read k s) =
+        let same : name ≡ other = cc e in
+        ap logged (logs_once text r (subst (λ (x : List ℕ). ReadsLog x read) (sym (one_text same h k)) s))
+    from_log name text a e h r (LastCheckpoint other more read k s) = absurd (cc e)
+
+    from_saved : {o : Option Last} {b : Result Behind Refusal} (name text : List ℕ) (a : Result Point Refusal) → Some (Checkpoint name) ≡ o → held name ≡ Some text → ReadsCheckpoint p text a → LastOf (Some held) p o b → saved_at a ≡ b
+    from_saved name text a e h r NoLast = absurd (cc e)
+    from_saved name text a e h r (LastLog other more read k s) = absurd (cc e)
+    from_saved name text a e h r (LastCheckpoint other more read k s) =
+        let same : name ≡ other = cc e in
+        ap saved_at (checkpoints_once p text r (subst (λ (x : List ℕ). ReadsCheckpoint p x read) (sym (one_text same h k)) s))
+
+    last_by : {o q : Option Last} {a b : Result Behind Refusal} → o ≡ q → LastOf (Some held) p o a → LastOf (Some held) p q b → a ≡ b
+    last_by e NoLast k = from_nothing e k
+    last_by e (LastLog name text read h r) k = from_log name text read e h r k
+    last_by e (LastCheckpoint name text read h r) k = from_saved name text read e h r k
 
   program_in_inputs : (asked : Asked) (read : (Program × List ℤ) × List (List ℤ)) → WithInputs (Some held) asked (Ok read) → ProgramOf (Some held) (program_in asked) (Ok read.0.0)
   program_in_inputs asked read (Both x y (Both p numbers h i) k) = h
@@ -154,6 +215,6 @@ module _ (held : List ℕ → Option (List ℕ)) where
   all_once asked =
       let program : Once (ProgramOf (Some held) (program_in asked)) = λ a b h k. program_by refl h k in
       let input = then_once program (λ p h a b i j. input_by refl i j) in
-      let inputs = then_once input (λ read h a b i j. sym (unlisted refl i) ∙ unlisted refl j) in
+      let inputs = then_once input (λ read h a b i j. inputs_by refl i j) in
       let plans = then_once inputs (λ read h a b i j. each_plans_once read.0.0 (program_in_inputs asked read h) refl i j) in
-      then_once plans (λ read h a b i j. sym (no_last refl i) ∙ no_last refl j)
+      then_once plans (λ read h a b i j. last_by (expand read.0.0.0) refl i j)

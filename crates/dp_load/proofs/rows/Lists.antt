@@ -4,7 +4,8 @@ use Rattle.std.specs.Prelude.{codes}
 use Rattle.dp_base.specs.declared.Quantity.TheVariants.{InputWords}
 use Rattle.dp_text.specs.Lines.{lines_of}
 use Rattle.dp_refusal.specs.declared.refusal.Refusal.TheVariants.{BatchWord, InputWord, Limit}
-use Rattle.dp_load.specs.Lists.{IsList, in_list}
+use Rattle.dp_list.specs.ListText.{IsList}
+use Rattle.dp_load.specs.Lists.{in_list}
 
 -- a refused word is told with its input's number, and a limit as it is
 word_in_list : in_list 2 (Err (InputWord 13)) ≡ Err (BatchWord 2 13)

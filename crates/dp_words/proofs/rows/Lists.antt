@@ -2,13 +2,14 @@
 use Rattle.std.proofs.Common.{◌≡◌, refl, List, [], ◌∷◌, Some, None, true, false, codes}
 use Rattle.clap.specs.Words.{Text}
 use Rattle.clap.proofs.OnLiterals.{clap_on_literals}
-use Rattle.dp_words.specs.Commands.{IsTaken, check_app, gen_app, plan_app, profile_app, run_app, value_in}
+use Rattle.dp_words.specs.Commands.{IsTaken, audit_app, batch_app, check_app, gen_app, log_app, plan_app, profile_app, resume_app, run_app, save_app, value_in}
 use Rattle.dp_words.specs.Words.{Names}
-use Rattle.dp_words.specs.Run.{Least, Named, ShowsRun, source_of}
+use Rattle.dp_words.specs.Run.{Least, Named, ShowsNamed, ShowsRun, source_of}
 use Rattle.dp_words.specs.Planning.{ShowsPlanning}
 use Rattle.dp_words.specs.Sites.{ShowsSites}
 use Rattle.dp_words.specs.Profiling.{ShowsProfiling}
 use Rattle.dp_words.specs.Made.{ShowsMade}
+use Rattle.dp_words.specs.Saving.{ShowsSaving}
 
 -- ---- the names alone
 
@@ -96,3 +97,42 @@ most_words = codes "--lane=64" ∷ codes "2147483647" ∷ codes "--workers" ∷ 
 most_made : Names gen_app ShowsMade most_words (record { seed = 2147483647; size = 65536; options = record { rate = 10; stages = 4; workers = 8 }; lane = 64; fuel = 10000000 })
 unfolding clap_on_literals
 most_made = record { taken = refl; shows = record { seed = refl; size = refl; options = refl; lane = refl; fuel = refl } }
+
+-- ---- the log of a run, and the audit of one: by the options of a run without `--why`
+
+short_log : Names log_app ShowsRun short_words (record { program = codes "p"; input = None; source = Least None; options = record { rate = 10; stages = 4; workers = 2 }; lane = 16; fuel = 10000000; why = false })
+unfolding clap_on_literals
+short_log = record { taken = refl; shows = record { program = refl; input = refl; source = refl; options = refl; lane = refl; fuel = refl; why = refl } }
+
+abbrev audit_words : List Text
+audit_words =
+    codes "p" ∷ codes "l" ∷ codes "i" ∷ codes "--plan" ∷ codes "f" ∷ codes "--workers" ∷ codes "8" ∷ codes "--lane" ∷ codes "1" ∷ codes "--fuel" ∷ codes "0" ∷ codes "--rate" ∷ codes "0" ∷ codes "--stages" ∷ codes "1" ∷ []
+
+full_audit : Names audit_app (ShowsNamed (codes "log")) audit_words ((record { program = codes "p"; input = Some (codes "i"); source = Named (codes "f"); options = record { rate = 0; stages = 1; workers = 8 }; lane = 1; fuel = 0; why = false }), codes "l")
+unfolding clap_on_literals
+full_audit = record { taken = refl; shows = record { run = record { program = refl; input = refl; source = refl; options = refl; lane = refl; fuel = refl; why = refl }; name = refl } }
+
+-- ---- a run that is saved, and one that goes on: its fuel is the default, whatever the checkpoint says
+
+abbrev save_words : List Text
+save_words = codes "--after" ∷ codes "1000000000" ∷ codes "p" ∷ codes "--profile=g" ∷ codes "i" ∷ codes "--region=4294967295" ∷ codes "--fuel" ∷ codes "7" ∷ []
+
+full_save : Names save_app ShowsSaving save_words ((record { program = codes "p"; input = Some (codes "i"); source = Least (Some (codes "g")); options = record { rate = 10; stages = 4; workers = 2 }; lane = 16; fuel = 7; why = false }), record { region = 4294967295; after = 1000000000 })
+unfolding clap_on_literals
+full_save = record { taken = refl; shows = record { run = record { program = refl; input = refl; source = refl; options = refl; lane = refl; fuel = refl; why = refl }; region = refl; after = refl } }
+
+abbrev resume_words : List Text
+resume_words = codes "p" ∷ codes "c" ∷ codes "--lane" ∷ codes "3" ∷ []
+
+short_resume : Names resume_app (ShowsNamed (codes "checkpoint")) resume_words ((record { program = codes "p"; input = None; source = Least None; options = record { rate = 10; stages = 4; workers = 2 }; lane = 3; fuel = 10000000; why = false }), codes "c")
+unfolding clap_on_literals
+short_resume = record { taken = refl; shows = record { run = record { program = refl; input = refl; source = refl; options = refl; lane = refl; fuel = refl; why = refl }; name = refl } }
+
+-- ---- a run for each input of a list
+
+abbrev batch_words : List Text
+batch_words = codes "p" ∷ codes "l" ∷ codes "--stages" ∷ codes "3" ∷ []
+
+short_batch : Names batch_app (ShowsNamed (codes "list")) batch_words ((record { program = codes "p"; input = None; source = Least None; options = record { rate = 10; stages = 3; workers = 2 }; lane = 16; fuel = 10000000; why = false }), codes "l")
+unfolding clap_on_literals
+short_batch = record { taken = refl; shows = record { run = record { program = refl; input = refl; source = refl; options = refl; lane = refl; fuel = refl; why = refl }; name = refl } }

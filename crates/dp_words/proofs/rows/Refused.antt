@@ -3,7 +3,7 @@ use Rattle.std.proofs.Common.{◌≡◌, refl, List, [], ◌∷◌, codes}
 use Rattle.clap.specs.Words.{Text, fault_of}
 use Rattle.clap.specs.declared.error.kind.ErrorKind.TheVariants as kind
 use Rattle.clap.proofs.OnLiterals.{clap_on_literals}
-use Rattle.dp_words.specs.Commands.{check_app, gen_app, plan_app, profile_app, run_app}
+use Rattle.dp_words.specs.Commands.{audit_app, batch_app, check_app, gen_app, log_app, plan_app, profile_app, resume_app, run_app, save_app}
 
 abbrev option_of : Text → Text → List Text
 option_of name value = codes "p" ∷ name ∷ value ∷ []
@@ -115,3 +115,59 @@ large_seed = refl
 made_with_stages : fault_of gen_app (codes "1" ∷ codes "1" ∷ codes "--stages" ∷ codes "1" ∷ []) ≡ kind.UnknownArgument ∷ []
 unfolding clap_on_literals
 made_with_stages = refl
+
+logged_with_why : fault_of log_app (codes "p" ∷ codes "--why" ∷ []) ≡ kind.UnknownArgument ∷ []
+unfolding clap_on_literals
+logged_with_why = refl
+
+audit_of_no_log : fault_of audit_app (codes "p" ∷ []) ≡ kind.MissingRequiredArgument ∷ []
+unfolding clap_on_literals
+audit_of_no_log = refl
+
+audit_of_two_inputs : fault_of audit_app (codes "p" ∷ codes "l" ∷ codes "i" ∷ codes "j" ∷ []) ≡ kind.UnknownArgument ∷ []
+unfolding clap_on_literals
+audit_of_two_inputs = refl
+
+saved_in_no_region : fault_of save_app (codes "p" ∷ codes "--after" ∷ codes "1" ∷ []) ≡ kind.MissingRequiredArgument ∷ []
+unfolding clap_on_literals
+saved_in_no_region = refl
+
+saved_after_nothing : fault_of save_app (codes "p" ∷ codes "--region" ∷ codes "1" ∷ []) ≡ kind.MissingRequiredArgument ∷ []
+unfolding clap_on_literals
+saved_after_nothing = refl
+
+region_zero : fault_of save_app (codes "p" ∷ codes "--after" ∷ codes "1" ∷ codes "--region" ∷ codes "0" ∷ []) ≡ kind.ValueValidation ∷ []
+unfolding clap_on_literals
+region_zero = refl
+
+large_region : fault_of save_app (codes "p" ∷ codes "--after" ∷ codes "1" ∷ codes "--region" ∷ codes "4294967296" ∷ []) ≡ kind.ValueValidation ∷ []
+unfolding clap_on_literals
+large_region = refl
+
+large_after : fault_of save_app (codes "p" ∷ codes "--region" ∷ codes "1" ∷ codes "--after" ∷ codes "1000000001" ∷ []) ≡ kind.ValueValidation ∷ []
+unfolding clap_on_literals
+large_after = refl
+
+saved_with_why : fault_of save_app (codes "p" ∷ codes "--region" ∷ codes "1" ∷ codes "--after" ∷ codes "1" ∷ codes "--why" ∷ []) ≡ kind.UnknownArgument ∷ []
+unfolding clap_on_literals
+saved_with_why = refl
+
+run_to_a_region : fault_of run_app (option_of (codes "--region") (codes "1")) ≡ kind.UnknownArgument ∷ []
+unfolding clap_on_literals
+run_to_a_region = refl
+
+resumed_with_fuel : fault_of resume_app (codes "p" ∷ codes "c" ∷ codes "--fuel" ∷ codes "1" ∷ []) ≡ kind.UnknownArgument ∷ []
+unfolding clap_on_literals
+resumed_with_fuel = refl
+
+resumed_from_nothing : fault_of resume_app (codes "p" ∷ []) ≡ kind.MissingRequiredArgument ∷ []
+unfolding clap_on_literals
+resumed_from_nothing = refl
+
+batch_of_no_list : fault_of batch_app (codes "p" ∷ []) ≡ kind.MissingRequiredArgument ∷ []
+unfolding clap_on_literals
+batch_of_no_list = refl
+
+batch_with_input : fault_of batch_app (codes "p" ∷ codes "l" ∷ codes "i" ∷ []) ≡ kind.UnknownArgument ∷ []
+unfolding clap_on_literals
+batch_with_input = refl

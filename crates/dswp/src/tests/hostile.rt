@@ -1,6 +1,8 @@
 //! Texts that are cut or spoiled, reads that fail, and sinks without room.
 use super::cases::{cut, repeated};
-use super::library::{SKIP_PLAN, SKIP_PROFILE, STALE_PLAN, SUM_LOOP, SUM_PROFILE, WORD_TABLE};
+use super::library::{
+    SKIP_PLAN, SKIP_PROFILE, STALE_CHECKPOINT, STALE_PLAN, SUM_LOOP, SUM_PROFILE, WORD_TABLE,
+};
 use super::{answer_to, expect, status_of};
 use dp_base::{NoMemory, Row};
 use std::alloc::Global;
@@ -35,53 +37,61 @@ fn a_program_that_is_cut_is_refused(rt: HostRuntime) -> Result<(), Fail> {
     Ok(())
 }
 
-/// The plan or the profile of this program is refused at this line.
+/// The text beside a program is refused at this line.
 fn expect_line_at<R: Abort + Threads + Wait + Clock + Sync>(
     rt: &R,
     alloc: Global,
     kind: &str,
-    program: &str,
+    words: &str,
     side: &[u8],
     line: u64,
 ) -> Result<(), NoMemory> {
-    let words = format!(in alloc; "run {program} --{kind} side.txt")?;
-    let answered = answer_to(rt, alloc, &words, &[("side.txt", side)], &[], None)?;
+    let answered = answer_to(rt, alloc, words, &[("side.txt", side)], &[], None)?;
     let text = format!(in alloc; "refused {kind} line {line}\n")?;
-    expect(rt, &answered, text.as_bytes(), 4, &words, "");
+    expect(rt, &answered, text.as_bytes(), 4, words, "");
     Ok(())
 }
 
-/// Plans and profiles of programs.
-const SIDES: [(&str, &str, &[u8]); 4] = [
-    ("plan", "stale_read.c", STALE_PLAN),
-    ("plan", "skip_negative.c", SKIP_PLAN),
-    ("profile", "sum_loop.c", SUM_PROFILE),
-    ("profile", "skip_negative.c", SKIP_PROFILE),
+/// Plans, profiles and a checkpoint, each with the words that read it.
+const SIDES: [(&str, &str, &[u8]); 5] = [
+    ("plan", "run stale_read.c --plan side.txt", STALE_PLAN),
+    ("plan", "run skip_negative.c --plan side.txt", SKIP_PLAN),
+    ("profile", "run sum_loop.c --profile side.txt", SUM_PROFILE),
+    (
+        "profile",
+        "run skip_negative.c --profile side.txt",
+        SKIP_PROFILE,
+    ),
+    (
+        "checkpoint",
+        "resume stale_read.c side.txt",
+        STALE_CHECKPOINT,
+    ),
 ];
 
 #[test]
 fn a_side_text_that_is_cut_is_refused_at_its_end(rt: HostRuntime) -> Result<(), Fail> {
-    for (kind, program, side) in SIDES {
+    for (kind, words, side) in SIDES {
         for place in 0..side.len() {
             let (front, _) = side.split_at(place);
             let line = line_at(side, place);
-            expect_line_at(&rt, rt.alloc(), kind, program, front, line)?;
+            expect_line_at(&rt, rt.alloc(), kind, words, front, line)?;
         }
     }
     Ok(())
 }
 
-// No word or number of a plan or a profile has an `x`.
+// No word or number of these texts has an `x`.
 #[test]
 fn a_spoiled_byte_is_refused_at_its_line(rt: HostRuntime) -> Result<(), Fail> {
-    for (kind, program, side) in SIDES {
+    for (kind, words, side) in SIDES {
         for place in 0..side.len() {
             let mut spoiled = Row::from_slice(rt.alloc(), side)?;
             if place < spoiled.len() {
                 spoiled.set(place, b'x');
             }
             let line = line_at(side, place);
-            expect_line_at(&rt, rt.alloc(), kind, program, spoiled.as_slice(), line)?;
+            expect_line_at(&rt, rt.alloc(), kind, words, spoiled.as_slice(), line)?;
         }
     }
     Ok(())
@@ -110,6 +120,13 @@ const WRITTEN: &[&str] = &[
     "profile sum_loop.c => profile 1\nregion 1\nruns 2 4 3\nruns 3 3 0\nruns 4 3 0\nruns 5 3 0\nflow 3 3 carried 2\nflow 3 4 intra 3\nflow 5 2 carried 3\nflow 5 3 carried 2\nflow 5 5 carried 2\nend\n",
     "check sum_loop.c => ok\nregion 1 line 5 sites 2 to 5\nsite 1 line 3 assign\nsite 2 line 5 while\nsite 3 line 6 assign\nsite 4 line 7 print\nsite 5 line 8 assign\n",
     "gen 1 1 => gen 1 1\nstate\nhist 0 0 0 0 0 0 0 0 0 0 1 0 0 0 0 0\nsum 10\nregion 1 iterations 2 recovered 0\nend done\n",
+    "log sum_loop.c --fuel 10 => log 1\nregion 1\ncommit 0\nset 1 1\nprint 0\ncommit 1\nset 0 1\nset 1 2\nprint 1\nagain 2\nend fuel\n",
+    "audit sum_loop.c sum_loop.log => audit ok\n",
+    "audit sum_loop.c sum_loop.log --fuel 10 => audit differs line 10\n",
+    "save sum_loop.c --region 1 --after 2 => 0\n1\ncheckpoint 1\nregion 1 after 2 steps 9 fuel 10000000\ncells 1 2\nreport 1 iterations 2 recovered 0\nend\n",
+    "save sum_loop.c --region 1 --after 9 => 0\n1\n3\nstate\ns 3\nregion 1 iterations 4 recovered 0\nend done\n",
+    "resume stale_read.c stale.check --plan stale.plan => state\na 0 0 1 2 3 4 5 6\ns 10\nregion 1 iterations 7 recovered 1: 2\nend done\n",
+    "batch skip_negative.c two.list --plan skip.plan => input 1\nstate\nn 12\nregion 1 iterations 4 recovered 1: 1\nend done\ninput 2\nstate\nn 2\nregion 1 iterations 3 recovered 1: 0\nend done\n",
     "run none.c => failed read program\n",
     "check bad.c => refused program syntax token 1\n",
     "walk sum_loop.c => refused words\n",
@@ -167,6 +184,16 @@ const READS: &[&str] = &[
     "1 profile skip_negative.c in.txt => failed read program\n",
     "2 profile skip_negative.c in.txt => failed read input\n",
     "1 check sum_loop.c => failed read program\n",
+    "4 audit sum_loop.c sum_loop.log in.txt --plan x => failed read plan\n",
+    "3 audit skip_negative.c sum_loop.log in.txt => failed read log\n",
+    "2 audit skip_negative.c none in.txt => failed read input\n",
+    "4 audit skip_negative.c sum_loop.log in.txt --plan skip.plan => failed read log\n",
+    "2 resume stale_read.c stale.check => failed read checkpoint\n",
+    "3 resume stale_read.c stale.check --plan stale.plan => failed read checkpoint\n",
+    "2 batch skip_negative.c two.list => failed read list\n",
+    "3 batch skip_negative.c two.list => failed read input\n",
+    "4 batch skip_negative.c two.list => failed read input\n",
+    "5 batch skip_negative.c two.list --plan skip.plan => failed read plan\n",
     "1 gen 1 1 => gen 1 1\nstate\nhist 0 0 0 0 0 0 0 0 0 0 1 0 0 0 0 0\nsum 10\nregion 1 iterations 2 recovered 0\nend done\n",
 ];
 

@@ -170,6 +170,28 @@ pub const SUM_PROFILE: &[u8] =
 pub const SKIP_PROFILE: &[u8] =
     b"profile 1\nregion 1\nruns 2 4 3\nruns 3 3 0\nruns 4 3 0\nruns 5 0 0\nruns 6 3 0\nruns 7 3 0\nflow 3 4 intra 3\nflow 3 7 intra 3\nflow 6 2 carried 3\nflow 6 3 carried 2\nflow 6 6 carried 2\nflow 7 7 carried 2\nend\n";
 
+/// Two regions with prints in each stage, and before, between and behind them.
+const TWO_REGIONS: &[u8] = b"int i; int n; int main() { print(7);
+#pragma dswp
+while (i < 2) { print(i); i = i + 1; int t = i * 2; print(t); } print(8);
+#pragma dswp
+while (n < 2) { int t = n; n = t + 1; n = n; } print(9); }
+";
+
+/// Stores of the value that is there, and body locals.
+const LOCALS: &[u8] = b"int a[2]; int main() { int k = 0;
+#pragma dswp
+while (k < 3) { int t = k * 5; a[k % 2] = t; a[0] = a[0]; k = k + 1; print(t); print(-k); } }
+";
+
+/// What a whole run commits.
+pub const SUM_LOG: &[u8] =
+    b"log 1\nregion 1\ncommit 0\nset 1 1\nprint 0\ncommit 1\nset 0 1\nset 1 2\nprint 1\ncommit 2\nset 0 3\nset 1 3\nprint 3\ncommit 3\nclosed 1\nend done\n";
+
+/// Where a run stands before iteration 4.
+pub const STALE_CHECKPOINT: &[u8] =
+    b"checkpoint 1\nregion 1 after 4 steps 17 fuel 10000000\ncells 0 0 1 2 3 4 0 0 3 4\nreport 1 iterations 4 recovered 1: 2\nend\n";
+
 pub const LIBRARY: &[Named] = &[
     ("sum_loop.c", SUM_LOOP),
     ("zero_divisor.c", ZERO_DIVISOR),
@@ -187,6 +209,30 @@ pub const LIBRARY: &[Named] = &[
     ("far_reads.c", FAR_READS),
     ("near_reads.c", NEAR_READS),
     ("word_table.c", WORD_TABLE),
+    ("skip.in", b"5 -1 7 8"),
+    ("other.in", b"-1 5 3"),
+    ("bad.in", b"1 x"),
+    ("one.in", b"1"),
+    ("zeros.in", b"5 0"),
+    ("two.list", b"skip.in\nother.in\n"),
+    ("sum_loop.log", SUM_LOG),
+    ("stale.check", STALE_CHECKPOINT),
+    ("two_regions.c", TWO_REGIONS),
+    (
+        "two_regions.plan",
+        b"plan 1\nregion 1 words 4096\nseq 2 3 4\nseq 5 6\nregion 2 words 16\nseq 8 9 10\nseq 11\nend\n",
+    ),
+    ("locals.c", LOCALS),
+    ("plain.c", b"int x; int main() { x = 1; print(x); }"),
+    ("exit.in", b"5 -1 7"),
+    (
+        "exit_in_front.plan",
+        b"plan 1\nregion 1 words 4096\nseq 2 3 4 6\nseq 5\nend\n",
+    ),
+    (
+        "exit_behind.plan",
+        b"plan 1\nregion 1 words 4096\nseq 2 6\nseq 3 4 5\nend\n",
+    ),
     ("skip.plan", SKIP_PLAN),
     ("stale.plan", STALE_PLAN),
     ("sum_loop.prof", SUM_PROFILE),

@@ -1,5 +1,5 @@
 use Rattle.std.proofs.Common.{◌∙◌, ap, refl, Some}
-use Rattle.dp_words.specs.Words.{ToList, ToPlan, ToProfile}
+use Rattle.dp_words.specs.Words.{ToAudit, ToBatch, ToList, ToLog, ToPlan, ToProfile, ToResume, ToSave}
 use Rattle.dp_refusal.specs.declared.refusal.Refusal.TheVariants.{Words}
 use Rattle.dp_drive.proofs.AnswerLemmas.{carry_not_taken}
 use Rattle.dp_drive.proofs.CountLemmas.{no_run_counts, refused_counts}
@@ -41,3 +41,33 @@ returns-in-Some-Profile-clause-carried g c = c.answer_profile.ensures.carried _ 
 
 pub returns-in-Some-Profile-clause-counted : goal.returns-in-Some-Profile-clause-counted
 returns-in-Some-Profile-clause-counted g c = no_run_counts _ _ _ _ _ (no_run _ (ToProfile _) refl (rw (c.in-Some-Profile.is ∙ ap Some c.in-Some-Profile.field-0-is) at c.in_ok-run.ensures.some))
+
+pub returns-in-Some-Log-clause-carried : goal.returns-in-Some-Log-clause-carried
+returns-in-Some-Log-clause-carried g c = c.answer_log.ensures.carried _ (rw (c.in-Some-Log.is ∙ ap Some c.in-Some-Log.field-0-is) at c.in_ok-run.ensures.some)
+
+pub returns-in-Some-Log-clause-counted : goal.returns-in-Some-Log-clause-counted
+returns-in-Some-Log-clause-counted g c = no_run_counts _ _ _ _ _ (no_run _ (ToLog _) refl (rw (c.in-Some-Log.is ∙ ap Some c.in-Some-Log.field-0-is) at c.in_ok-run.ensures.some))
+
+pub returns-in-Some-Audit-clause-carried : goal.returns-in-Some-Audit-clause-carried
+returns-in-Some-Audit-clause-carried g c = c.answer_audit.ensures.carried _ (rw (c.in-Some-Audit.is ∙ ap Some c.in-Some-Audit.field-0-is) at c.in_ok-run.ensures.some)
+
+pub returns-in-Some-Audit-clause-counted : goal.returns-in-Some-Audit-clause-counted
+returns-in-Some-Audit-clause-counted g c = no_run_counts _ _ _ _ _ (no_run _ (ToAudit _ _) refl (rw (c.in-Some-Audit.is ∙ ap Some c.in-Some-Audit.field-0-is) at c.in_ok-run.ensures.some))
+
+pub returns-in-Some-Save-clause-carried : goal.returns-in-Some-Save-clause-carried
+returns-in-Some-Save-clause-carried g c = c.answer_save.ensures.carried _ (rw (c.in-Some-Save.is ∙ ap Some c.in-Some-Save.field-0-is) at c.in_ok-run.ensures.some)
+
+pub returns-in-Some-Save-clause-counted : goal.returns-in-Some-Save-clause-counted
+returns-in-Some-Save-clause-counted g c = no_run_counts _ _ _ _ _ (no_run _ (ToSave _ _) refl (rw (c.in-Some-Save.is ∙ ap Some c.in-Some-Save.field-0-is) at c.in_ok-run.ensures.some))
+
+pub returns-in-Some-Resume-clause-carried : goal.returns-in-Some-Resume-clause-carried
+returns-in-Some-Resume-clause-carried g c = c.answer_resume.ensures.carried _ (rw (c.in-Some-Resume.is ∙ ap Some c.in-Some-Resume.field-0-is) at c.in_ok-run.ensures.some)
+
+pub returns-in-Some-Resume-clause-counted : goal.returns-in-Some-Resume-clause-counted
+returns-in-Some-Resume-clause-counted g c = no_run_counts _ _ _ _ _ (no_run _ (ToResume _ _) refl (rw (c.in-Some-Resume.is ∙ ap Some c.in-Some-Resume.field-0-is) at c.in_ok-run.ensures.some))
+
+pub returns-in-Some-Batch-clause-carried : goal.returns-in-Some-Batch-clause-carried
+returns-in-Some-Batch-clause-carried g c = c.answer_batch.ensures.carried _ (rw (c.in-Some-Batch.is ∙ ap Some c.in-Some-Batch.field-0-is) at c.in_ok-run.ensures.some)
+
+pub returns-in-Some-Batch-clause-counted : goal.returns-in-Some-Batch-clause-counted
+returns-in-Some-Batch-clause-counted g c = no_run_counts _ _ _ _ _ (no_run _ (ToBatch _ _) refl (rw (c.in-Some-Batch.is ∙ ap Some c.in-Some-Batch.field-0-is) at c.in_ok-run.ensures.some))

@@ -1,5 +1,9 @@
 use Rattle.std.proofs.Common.{◌∙◌, ap, Ok}
-use Rattle.dp_drive.proofs.AnswerLemmas.{loaded, given, carry_run, carry_refused, carry_failed}
+use Rattle.dp_words.specs.Run.{shown}
+use Rattle.dp_words.specs.Words.{ToRun}
+use Rattle.dp_drive.proofs.AnswerLemmas.{loaded, given, carry_run}
+use Rattle.dp_drive.proofs.CarryLemmas.{for_run}
+use Rattle.dp_drive.proofs.RunLemmas.{carry_failed, carry_refused}
 use Rattle.dp_drive.proofs.CountLemmas.{run_counts, refused_counts, failed_counts}
 use Rattle.dp_load.proofs.accepted.Given.{words_given}
 use Rattle.dp_drive.proofs.answer.answer_run.Goals as goal
@@ -11,11 +15,11 @@ returns-in-Run-clause-carried g c words asks =
 
 pub returns-in-Refused-clause-carried : goal.returns-in-Refused-clause-carried
 returns-in-Refused-clause-carried g c words asks =
-    let texts = loaded _ _ _ _ _ _ _ _ (c.in_ok-program.was ∙ ap Ok c.in-Refused.is) c.load_texts.ensures.loads in carry_refused _ _ _ _ _ _ _ _ _ _ _ asks texts c.refuse.ensures.finishes
+    let texts = loaded _ _ _ _ _ _ _ _ (c.in_ok-program.was ∙ ap Ok c.in-Refused.is) c.load_texts.ensures.loads in carry_refused _ (ToRun (shown c.args.run)) _ (for_run (shown c.args.run)) _ asks _ _ _ _ _ _ _ _ texts c.refuse.ensures.finishes
 
 pub returns-in-Failed-clause-carried : goal.returns-in-Failed-clause-carried
 returns-in-Failed-clause-carried g c words asks =
-    let texts = loaded _ _ _ _ _ _ _ _ (c.in_ok-program.was ∙ ap Ok c.in-Failed.is) c.load_texts.ensures.loads in carry_failed _ _ _ _ _ _ _ _ _ _ _ asks texts c.fail_read.ensures.finishes
+    let texts = loaded _ _ _ _ _ _ _ _ (c.in_ok-program.was ∙ ap Ok c.in-Failed.is) c.load_texts.ensures.loads in carry_failed _ (ToRun (shown c.args.run)) _ (for_run (shown c.args.run)) _ asks _ _ _ _ _ _ _ _ texts c.fail_read.ensures.finishes
 
 pub returns-in-Run-clause-counted : goal.returns-in-Run-clause-counted
 returns-in-Run-clause-counted g c words asks =
