@@ -33,3 +33,26 @@ words() { awk -v n="$1" -v m="$2" 'BEGIN { x = 7; for (k = 0; k < n; k++) { x = 
 
 # What the times were seen on.
 machine() { echo "$(nproc) processors, $(sed -n 's/^model name[^:]*: *//p' /proc/cpuinfo | head -n 1), load $(cut -d ' ' -f 1 /proc/loadavg)"; }
+
+# The program that `gen` makes.
+generators_loop() {
+  cat <<'C'
+int hist[16];
+int sum;
+int main() {
+  int i = 0;
+  #pragma dswp
+  while (i < input_len) {
+    int x = input[i];
+    i = i + 1;
+    int a = x % 16;
+    int b = (a * 5 + 3) % 16;
+    int c = (b * 5 + 3) % 16;
+    int d = (c * 5 + 3) % 16;
+    int y = (d * 5 + 3) % 16;
+    hist[y] = hist[y] + 1;
+    sum = sum + y;
+  }
+}
+C
+}

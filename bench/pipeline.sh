@@ -20,25 +20,7 @@ machine
 nothing=$(least "$dswp" run empty.c)
 
 words 65536 65536 >words.in
-cat >digits.c <<'C'
-int hist[16];
-int sum;
-int main() {
-  int i = 0;
-  #pragma dswp
-  while (i < input_len) {
-    int x = input[i];
-    i = i + 1;
-    int a = x % 16;
-    int b = (a * 5 + 3) % 16;
-    int c = (b * 5 + 3) % 16;
-    int d = (c * 5 + 3) % 16;
-    int y = (d * 5 + 3) % 16;
-    hist[y] = hist[y] + 1;
-    sum = sum + y;
-  }
-}
-C
+generators_loop >digits.c
 plan 'seq 2 4' 'seq 3 5' 'par 6 7 8 9' 'seq 10 11' >digits.plan
 ours=$(net "$(least "$dswp" run digits.c words.in --plan digits.plan --workers 2 --lane 64)" "$nothing")
 tbb=$(net "$(least "$work/tbb" words.in 2 64)" "$(least "$work/tbb" empty.in 2 64)")

@@ -19,10 +19,16 @@ LIMIT = 1500
 # each later part, and the definitions that it begins with
 LATER = [
     ("What is reported of a region", [("dp_semantics/specs/Reported", "region_report"), ("dp_semantics/specs/Recovery", "recovered")]),
+    ("What is written of logs, saved runs and batches", [
+        ("dp_drive/specs/Audit", "log_of"), ("dp_drive/specs/Audit", "first_difference"), ("dp_drive/specs/Pieces", "saved_text"),
+        ("dp_drive/specs/Pieces", "saved_status"), ("dp_drive/specs/Pieces", "resumed_text"), ("dp_drive/specs/Pieces", "resumed_end"),
+        ("dp_batch/specs/BatchText", "texts_from"),
+    ]),
     ("Which texts are programs", [("dp_load/specs/Program", "Reads")]),
     ("How words, inputs, plans and profiles are read and made", [
         ("dp_words/specs/Words", "Asks"), ("dp_words/specs/Words", "AsksNothing"), ("dp_load/specs/Inputs", "input_of"),
         ("dp_load/specs/Plans", "ReadsPlans"), ("dp_load/specs/Plans", "MakesPlans"), ("dp_load/specs/Profiles", "ReadsProfile"),
+        ("dp_load/specs/Last", "LastOf"), ("dp_load/specs/Lists", "Inputs"), ("dp_load/specs/Lists", "IsNextListed"),
         ("dp_profile/specs/Observed", "observed"), ("dp_plan_text/specs/WrittenText", "plans_text"),
         ("dp_profile_text/specs/WrittenText", "profile_text"), ("dp_report/specs/SiteText", "site_bytes"), ("dp_refusal/specs/Refusal", "refusal_line"),
     ]),

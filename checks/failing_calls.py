@@ -30,6 +30,10 @@ WORDS = [
     "plan skip_negative.c --profile skip_negative.prof", "profile skip_negative.c in.txt", "gen 7 20",
     "run stale_read.c --plan stale.plan --why", "run skip_negative.c in.txt --plan skip.plan --why",
     "run histogram.c bins.txt --plan bins.plan --workers 8 --lane 1",
+    "log stale_read.c --plan stale.plan", "log skip_negative.c in.txt --plan skip.plan", "audit sum_loop.c sum_loop.log",
+    "audit stale_read.c sum_loop.log --plan stale.plan", "save stale_read.c --plan stale.plan --region 1 --after 4",
+    "save sum_loop.c --region 1 --after 9", "resume stale_read.c stale.check --plan stale.plan",
+    "batch skip_negative.c two.list --plan skip.plan",
     "run word_table.c words.txt --plan table.plan", "run word_table.c words.txt --plan table.plan --workers 8 --lane 64",
 ]
 

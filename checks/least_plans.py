@@ -45,7 +45,7 @@ def edges_of(program, profile, rate, chosen):
             continue
         loops = [set(site.around) | {number} for number, site in ((start, store), (to, load))]
         one_loop = any(program.sites[cond].kind == "while" for cond in loops[0] & loops[1])
-        later, within = program.apart(start, to) if store.stores == "g" else (False, False)
+        later, within = program.apart(start, to)
         kinds = ["intra"] if (start < to or one_loop) and not within else []
         kinds += [] if store.stores in program.locals or later else ["carried"]
         for kind in kinds:
@@ -132,4 +132,5 @@ def main():
     print("%d plans, 0 differ" % compared)
 
 
-main()
+if __name__ == "__main__":
+    main()

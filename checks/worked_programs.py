@@ -6,6 +6,7 @@ compares text and status with the table's. Ends with 1 where one differs, and st
                                                  causes, automatic and exits where none is named
 """
 import itertools
+import os
 import re
 import subprocess
 import sys
@@ -30,7 +31,8 @@ def library():
     """The texts that each case may name."""
     source = (TESTS / "library.rt").read_text()
     held = {m[1]: unescaped(m[2]) for m in re.finditer(r"const (\w+): &\[u8\] =\s*b" + STRING, source, re.S)}
-    return {m[1]: held[m[2]] for m in re.finditer(r'\("([\w.]+)", (\w+)\)', source)}
+    named = {m[1]: held[m[2]] for m in re.finditer(r'\("([\w.]+)", (\w+)\)', source)}
+    return named | {m[1]: unescaped(m[2]) for m in re.finditer(r'\("([\w.]+)", b' + STRING + r"\)", source)}
 
 
 def tables(name):
@@ -59,6 +61,23 @@ def filled(text, parts):
     return re.sub(r"`([^`]*)`", repeated, text, flags=re.S)
 
 
+def cases(names):
+    """Each row of the tables: its text, its words, what p.c, in.txt and plan.txt hold, and what it writes."""
+    for pattern, rows in itertools.chain.from_iterable(map(tables, names)):
+        front, text = cut(pattern, " => ")
+        fields = (front.split(" | ") + ["", "", ""])[:4]
+        for row in rows:
+            parts, ends = cut(row, " => ")
+            words, *held = (filled(field, parts) for field in fields)
+            yield row, words.split(), held, filled(text, ends)
+
+
+def place(held):
+    """Writes what a case's files hold into the current folder."""
+    for name, content in zip(("p.c", "in.txt", "plan.txt"), held):
+        Path(name).write_text(content)
+
+
 def status_of(text):
     last = text.rstrip().rsplit("\n", 1)[-1]
     return next((status for front, status in STATUSES if last.startswith(front)), 0)
@@ -74,37 +93,32 @@ def options(words, workers, lane):
     return added
 
 
-def answers(folder, words, count):
+def answers(words, count):
     """What so many runs answer."""
     for workers, lane in itertools.islice(itertools.cycle(CREWS), count):
         run = [*words, *options(words, workers, lane)]
-        done = subprocess.run([DSWP, *run], cwd=folder, capture_output=True, timeout=60)
+        done = subprocess.run([DSWP, *run], capture_output=True, timeout=60)
         yield " ".join(run), done.stdout.decode(), done.returncode
 
 
 def main():
     count = int(sys.argv[1]) if len(sys.argv) > 1 else len(CREWS)
     names = sys.argv[2:] or ["pipelines", "causes", "automatic", "exits"]
-    total = differ = cases = 0
+    total = differ = worked = 0
     with tempfile.TemporaryDirectory() as folder:
         for name, text in library().items():
             Path(folder, name).write_text(text)
-        for pattern, rows in itertools.chain.from_iterable(map(tables, names)):
-            front, text = cut(pattern, " => ")
-            fields = (front.split(" | ") + ["", "", ""])[:4]
-            for row in rows:
-                parts, ends = cut(row, " => ")
-                words, *held = (filled(field, parts) for field in fields)
-                for name, content in zip(("p.c", "in.txt", "plan.txt"), held):
-                    Path(folder, name).write_text(content)
-                wanted = filled(text, ends)
-                cases += 1
-                for run, got, status in answers(folder, words.split(), count):
-                    total += 1
-                    if (got, status) != (wanted, status_of(wanted)):
-                        differ += 1
-                        print(f"differs: {run}, of {row!r}: {status} {got!r}")
-    print(f"{total} runs of {cases} cases, {differ} differ")
+        os.chdir(folder)
+        for row, words, held, wanted in cases(names):
+            place(held)
+            worked += 1
+            for run, got, status in answers(words, count):
+                total += 1
+                if (got, status) != (wanted, status_of(wanted)):
+                    differ += 1
+                    print(f"differs: {run}, of {row!r}: {status} {got!r}")
+        os.chdir(TOP)
+    print(f"{total} runs of {worked} cases, {differ} differ")
     sys.exit(differ > 0)
 
 
