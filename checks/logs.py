@@ -1,15 +1,14 @@
 #!/usr/bin/env python3
-"""Compares logs and runs of random programs with those of log_model.py, byte for byte, and audits each log: as it is, and with a
-byte changed, with a line dropped, doubled or swapped with the next, and with its end cut off.
+"""Compares logs and runs of the tests' tables and of random programs with those of log_model.py, byte for byte, and audits each
+log: as it is, and with a byte changed, with a line dropped, doubled or swapped with the next, and with its end cut off.
 
-  checks/logs.py [COUNT [SEED]]    COUNT programs, 3000 where it isn't given
+  checks/logs.py [COUNT [SEED]]    COUNT random programs, 3000 where it isn't given
 
-A fifth of the programs run under their least plan, the others under a random one. Shows each difference; ends with 1 where
+A fifth of the random programs run under their least plan, the others under a random one. Shows each difference; ends with 1 where
 there is one.
 """
 import os
 import random
-import subprocess
 import sys
 import tempfile
 from pathlib import Path
@@ -18,13 +17,8 @@ sys.dont_write_bytecode = True
 from log_model import Run, differing_line
 from model_plans import read_plans
 from random_runs import RandomRun
-from worked_programs import DSWP
-
-
-def dswp(*words):
-    """What is written, and the status."""
-    done = subprocess.run([DSWP, *map(str, words)], stdout=subprocess.PIPE, timeout=60)
-    return done.stdout.decode("latin-1"), done.returncode
+from small_c import Program
+from worked_runs import dswp, worked
 
 
 def changed(rng, text):
@@ -55,19 +49,28 @@ class Compared:
             self.differ += 1
             print("differs: %s" % what, "got", *got, "wanted", *wanted, sep="\n")
 
-    def program(self, rng):
+    def random_program(self, rng):
         it, options = RandomRun(rng), ["--workers", rng.randint(1, 8)]
-        Path("p.c").write_text(it.text)
-        Path("in.txt").write_text(" ".join(map(str, it.numbers)))
         if rng.random() < 0.2:
+            Path("p.c").write_text(it.text)
             options += ["--stages", rng.randint(1, 8)]
             it.plan = dswp("plan", "p.c", *options)[0]
         else:
             Path("plan.txt").write_text(it.plan)
             options += ["--plan", "plan.txt"]
-        options += ["--fuel", it.fuel, "--lane", rng.choice((1, 2, 16, 64))]
+        self.program(rng, it, options + ["--lane", rng.choice((1, 2, 16, 64))])
+
+    def worked_program(self, rng, case):
+        Path("plan.txt").write_text(case.plan)
+        for workers in (1, 2, 8):
+            self.program(rng, case, ["--plan", "plan.txt", "--workers", workers, "--lane", rng.choice((1, 2, 16, 64))])
+
+    def program(self, rng, it, options):
+        Path("p.c").write_text(it.text)
+        Path("in.txt").write_text(" ".join(map(str, it.numbers)))
+        options += ["--fuel", it.fuel]
         shown = "\n".join([it.text, it.plan, "input %s, %s" % (it.numbers, options)])
-        run = Run(it.program, read_plans(it.plan), it.numbers, it.fuel)
+        run = Run(Program(it.text), read_plans(it.plan), it.numbers, it.fuel)
         self.compare("log of\n" + shown, dswp("log", "p.c", "in.txt", *options), (run.log(), run.status()))
         self.compare("run of\n" + shown, dswp("run", "p.c", "in.txt", "--why", *options), (run.text(why=True), run.status()))
         self.logs += 1
@@ -87,10 +90,13 @@ def main():
     rng, compared = random.Random(int(sys.argv[2]) if len(sys.argv) > 2 else 1), Compared()
     with tempfile.TemporaryDirectory() as folder:
         os.chdir(folder)
+        for case in worked():
+            compared.worked_program(rng, case)
+        of_tables = compared.logs
         for _ in range(count):
-            compared.program(rng)
+            compared.random_program(rng)
         os.chdir("/")
-    print("%d logs, %d changed, %d differ" % (compared.logs, compared.changed, compared.differ))
+    print("%d logs of tables, %d of random programs, %d changed, %d differ" % (of_tables, compared.logs - of_tables, compared.changed, compared.differ))
     sys.exit(compared.differ > 0)
 
 

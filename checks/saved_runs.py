@@ -15,45 +15,18 @@ import random
 import re
 import sys
 import tempfile
-from collections import Counter, namedtuple
+from collections import Counter
 from pathlib import Path
 
 sys.dont_write_bytecode = True
 from log_model import Checkpoint, Run, resumed, saved
-from logs import dswp
 from model_plans import read_plans
 from random_runs import RandomRun
 from small_c import Program
-from small_c_walk import Walk
-from worked_programs import TESTS, TOP, cases, library
+from worked_programs import TOP
+from worked_runs import Case, dswp, worked
 
 WORKERS = (1, 2, 8)
-MOST_STEPS = 100_000
-Case = namedtuple("Case", "text plan numbers fuel")
-
-
-def option(words, name, default):
-    return words[words.index(name) + 1] if name in words else default
-
-
-def worked():
-    """The tests' rows that run a region under a plan or a least plan, but for those that take a profile or many steps."""
-    files = library()
-    for _, words, held, wanted in cases(sorted(path.stem for path in TESTS.glob("*.rt"))):
-        files.update(zip(("p.c", "in.txt", "plan.txt"), held))
-        if not re.search("^region ", wanted, re.M) or "--profile" in words:
-            continue
-        text, numbers = files[words[1]], [int(it) for it in (files["in.txt"] if "in.txt" in words else "").split()]
-        fuel = int(option(words, "--fuel", 10_000_000))
-        if fuel <= MOST_STEPS or Walk(Program(text), numbers, MOST_STEPS).end != "fuel":
-            plan = files[option(words, "--plan", "")] if "--plan" in words else least_plan(text, words[2:])
-            yield Case(text, plan, numbers, fuel)
-
-
-def least_plan(text, words):
-    Path("p.c").write_text(text)
-    named = [(name, option(words, name, "")) for name in ("--stages", "--workers", "--rate") if name in words]
-    return dswp("plan", "p.c", *itertools.chain(*named))[0]
 
 
 def made(rng, count):
