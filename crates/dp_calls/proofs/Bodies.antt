@@ -35,7 +35,7 @@ module _ (p q : Program) (places : (x : ℕ) (info : VarInfo) → slice_get p.va
     (linked : Option VarInfo → Option VarInfo → Type 0) (low n scope r : ℕ) (link : (info : VarInfo) (cell : ℕ) → is_scope_in scope info.scope ≡ true → linked (Some info) (Some (moved info cell r)))
     (calls : Calls) (limit : n ≤ length p.functions) (params_scoped : (f : ℕ) → params_in_scope p (global_numbers p) (params_in (slice_get p.functions f)) ≡ true)
     (called : (f : ℕ) → f < n → Called p q calls r f) (plain_called : (f k : ℕ) (names : List Renamed) (t : Tables) → Plain t (calls f k names t)) where
-  abbrev InsideMade : List ℕ → List Renamed → Tables → List ℕ → Stmt → Piece → Type 0
+  abbrev pub InsideMade : List ℕ → List Renamed → Tables → List ℕ → Stmt → Piece → Type 0
   InsideMade visible names t behind s a = Made p q linked low n names t behind a (λ e. Inside p q e visible behind s a.code)
 
   abbrev pub BodyMade : List ℕ → List Renamed → Tables → List Stmt → Piece → Type 0
@@ -65,14 +65,14 @@ module _ (p q : Program) (places : (x : ℕ) (info : VarInfo) → slice_get p.va
   stays_made : {visible behind : List ℕ} {names : List Renamed} {t : Tables} {s : Stmt} {a : Piece} → Made p q linked low n names t behind a (λ e. One p q e visible behind s a.code) → InsideMade visible names t behind s a
   stays_made made = record { grows = made.grows; lies = made.lies; named = made.named; steps = made.steps; seen = made.seen; becomes = λ e closes. stays (made.becomes e closes) }
 
-  abbrev InsideOf : Stmt → Type 0
+  abbrev pub InsideOf : Stmt → Type 0
   InsideOf s = (visible : List ℕ) (names : List Renamed) (t : Tables) → in_scope p scope n visible s ≡ true → list_all (is_listed p) (site_numbers s) ≡ true → NamesOk p linked low names t → Lies p t → Seen p visible names →
       InsideMade visible names t (seen_behind visible s) s (expand_one p calls r s names t)
 
   plain_made : (s : Stmt) → is_plain s ≡ true → InsideOf s
   plain_made s plain visible names t scoped listed ok lies seen = stays_made (one_made p q places there linked low n scope r link calls limit params_scoped called s visible names t scoped plain listed ok lies seen)
 
-  inner_made : (s : Stmt) → is_inner s ≡ true → InsideOf s
+  pub inner_made : (s : Stmt) → is_inner s ≡ true → InsideOf s
   inner_made (stmt.Break site v) w = λ visible names t scoped listed ok lies seen. break_made site v visible names t scoped (and_true (is_listed p site.0) true listed).0 ok lies seen
   inner_made (stmt.Region' k site v m body) w = absurd (cc w)
   inner_made s w = plain_made s w

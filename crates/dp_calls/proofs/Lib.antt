@@ -37,4 +37,12 @@ pub mod SiteLaws
 pub mod RegionTableLaws
 pub mod RoleLaws
 pub mod InlinedLaws
+-- what it stores into
+pub mod Everywhere
+pub mod Homes
+pub mod HomeLaws
+-- its numbers
+pub mod SmallNumbers
+-- how its locals start
+pub mod StartLaws
 pub mod rows

@@ -1,5 +1,5 @@
 -- The bindings of a call's arguments in the expanded text.
-use Rattle.std.proofs.Common.{◌≡◌, inl, inr, refl, sym, ap, ap₂, ◌∙◌, subst, ℕ, zero, suc, ◌≤◌, Bool, true, false, not, ◌&&◌, List, [], ◌∷◌, length, Option, Some, None, slice_get, arith}
+use Rattle.std.proofs.Common.{◌≡◌, inl, inr, refl, sym, ap, ap₂, ◌∙◌, subst, ℕ, zero, suc, ◌≤◌, Bool, true, false, not, ◌&&◌, List, [], ◌∷◌, length, Option, Some, None, slice_get, arith, eq-eqb}
 use Rattle.std.specs.List.{list_all}
 use Rattle.dp_base.specs.declared.SiteId.{SiteId}
 use Rattle.dp_base.specs.declared.VarId.{VarId}
@@ -18,12 +18,13 @@ use Rattle.dp_tree.specs.Globals.{is_global_scope}
 use Rattle.dp_tree.specs.Scoping.{sees, knows, is_scope_in, is_declared_in, params_in_scope, seen_behind_params}
 use Rattle.dp_calls.specs.Frame.{global_count}
 use Rattle.dp_calls.specs.Renaming.{Renamed, named_in, target_or, target_of, renamed}
-use Rattle.dp_calls.specs.Tables.{Tables, with_local, with_site, next_site}
+use Rattle.dp_calls.specs.AtHome.{is_home, is_home_at}
+use Rattle.dp_calls.specs.Tables.{Tables, scope_in, with_local, with_site, next_site}
 use Rattle.dp_calls.specs.Expand.{bindings}
 use Rattle.dp_tree.proofs.Heads.{and_true}
 use Rattle.dp_calls.proofs.Relation.{Env, PlaceOf, file, own, file_count, Binds, bound, binds}
 use Rattle.dp_calls.proofs.SameValues.{sees_one, sees_new, sees_more}
-use Rattle.dp_calls.proofs.Tabled.{Grows, grows_not, grows_on, grows_site, grows_local, Lies, lies_local}
+use Rattle.dp_calls.proofs.Tabled.{Grows, grows_not, grows_on, grows_site, grows_local, Lies, lies_local, moved}
 use Rattle.dp_calls.proofs.Named.{NamesOk, names_grow, names_local, names_as, named_cons, named_new, Steps, steps_not, steps_on, steps_one, Seen, seen_steps}
 use Rattle.dp_calls.proofs.Made.{closes_before, Made, binding_line}
 
@@ -54,9 +55,16 @@ module _ (p : Program) (places : (x : ℕ) (info : VarInfo) → slice_get p.vars
   pub local_of : (r x : ℕ) → is_declared_in r (slice_get p.vars x) ≡ true → Local r x
   local_of r x is = local_by r x (slice_get p.vars x) refl is
 
--- every two entries
-abbrev pub Any : Option VarInfo → Option VarInfo → Type 0
-Any source target = Unit {0}
+-- what a call's variable stands for is at home where the call stands
+abbrev pub Homely : ℕ → Option VarInfo → Option VarInfo → Type 0
+Homely r source target = is_home_at r target ≡ true
+
+home_scope : (r : ℕ) → is_home r (scope_in r) ≡ true
+home_scope zero = refl
+home_scope (suc r) = eq-eqb (suc r) (suc r) refl
+
+pub home_moved : (r : ℕ) (info : VarInfo) (cell : ℕ) → Homely r (Some info) (Some (moved info cell r))
+home_moved r info cell = home_scope r
 
 not_true : (b : Bool) → not b ≡ true → b ≡ true → {A : Type 0} → A
 not_true true e h = absurd (cc e)
@@ -81,11 +89,11 @@ module _ (p q : Program) (places : (x : ℕ) (info : VarInfo) → slice_get p.va
   -- one binding, and those behind it
   one_passed : (x : VarId) (a : Expr) (params : List VarId) (args : List Expr) (visible : List ℕ) (names : List Renamed) (t : Tables) (info : VarInfo) →
       slice_get p.vars x.0 ≡ Some info → knows known a ≡ true →
-      NamesOk p Any low names t → Lies p t → named_in names x.0 ≡ None → Local p places 0 x.0 →
-      Made p q Any low calls (names_as x.0 (length t.vars) ∷ names) (with_local p r x.0 (with_site info_of t)) (seen_behind_params (x.0 ∷ visible) params)
+      NamesOk p (Homely r) low names t → Lies p t → named_in names x.0 ≡ None → Local p places 0 x.0 →
+      Made p q (Homely r) low calls (names_as x.0 (length t.vars) ∷ names) (with_local p r x.0 (with_site info_of t)) (seen_behind_params (x.0 ∷ visible) params)
       (bindings p r line caller params args (names_as x.0 (length t.vars) ∷ names) (with_local p r x.0 (with_site info_of t)))
       (Passes params args (bindings p r line caller params args (names_as x.0 (length t.vars) ∷ names) (with_local p r x.0 (with_site info_of t))).code) →
-      Made p q Any low calls names t (seen_behind_params visible (x ∷ params)) (bindings p r line caller (x ∷ params) (a ∷ args) names t)
+      Made p q (Homely r) low calls names t (seen_behind_params visible (x ∷ params)) (bindings p r line caller (x ∷ params) (a ∷ args) names t)
       (Passes (x ∷ params) (a ∷ args) (bindings p r line caller (x ∷ params) (a ∷ args) names t).code)
   one_passed x a params args visible names t info at is_known ok lies free declared made =
       let t' : Tables = with_local p r x.0 (with_site info_of t) in let now : List Renamed = names_as x.0 (length t.vars) ∷ names in
@@ -109,9 +117,9 @@ module _ (p q : Program) (places : (x : ℕ) (info : VarInfo) → slice_get p.va
       }
 
   pub passed : (params : List VarId) (args : List Expr) (visible : List ℕ) (names : List Renamed) (t : Tables) →
-      params_in_scope p visible params ≡ true → length args ≡ length params → list_all (knows known) args ≡ true → NamesOk p Any low names t → Lies p t → Seen p visible names →
+      params_in_scope p visible params ≡ true → length args ≡ length params → list_all (knows known) args ≡ true → NamesOk p (Homely r) low names t → Lies p t → Seen p visible names →
       ((w : VarId) (y : ℕ) → named_in names w.0 ≡ Some y → sees visible w ≡ true) →
-      Made p q Any low calls names t (seen_behind_params visible params) (bindings p r line caller params args names t) (Passes params args (bindings p r line caller params args names t).code)
+      Made p q (Homely r) low calls names t (seen_behind_params visible params) (bindings p r line caller params args names t) (Passes params args (bindings p r line caller params args names t).code)
   passed [] [] visible names t scoped long known_all ok lies seen only =
       record { grows = grows_not t; lies = lies; named = ok; steps = steps_not names (length t.vars); seen = seen; becomes = λ g closes e final. bound }
   passed (x ∷ params) (a ∷ args) visible names t scoped long known_all ok lies seen only =
@@ -122,11 +130,11 @@ module _ (p q : Program) (places : (x : ℕ) (info : VarInfo) → slice_get p.va
       let now : List Renamed = names_as x.0 (length t.vars) ∷ names in
       let stepped : Steps names (length t.vars) now = steps_one names x.0 (length t.vars) free in
       let less : length args ≡ length params = omega (arith, long) in
-      let sited : NamesOk p Any low names (with_site info_of t) = names_grow p Any low (grows_site info_of t) ok in
+      let sited : NamesOk p (Homely r) low names (with_site info_of t) = names_grow p (Homely r) low (grows_site info_of t) ok in
       let level : Lies p (with_site info_of t) = record { place = lies.place; cells = lies.cells; above = lies.above; own = lies.own; start = lies.start; room = lies.room } in
       one_passed x a params args visible names t declared.info declared.at both.0 ok lies free declared
       (passed params args (x.0 ∷ visible) now (with_local p r x.0 (with_site info_of t)) outer.1 less both.1
-      (names_local p Any low r x.0 names (with_site info_of t) declared.info declared.at declared.behind tt free sited)
+      (names_local p (Homely r) low r x.0 names (with_site info_of t) declared.info declared.at declared.behind (home_moved r declared.info t.cells) free sited)
       (lies_local p r x.0 (with_site info_of t) declared.info declared.at declared.one level)
       (λ w at. elim (sees_one x.0 visible w at) [
         | inl is ↦ inr (length t.vars, subst (λ (n : ℕ). named_in now n ≡ Some (length t.vars)) is (named_new x.0 (length t.vars) names))

@@ -25,7 +25,7 @@ use Rattle.dp_calls.proofs.SameValues.{numbers_below}
 use Rattle.dp_calls.proofs.Tabled.{Grows, grows_not, grows_on, grows_source_site, Lies, moved}
 use Rattle.dp_calls.proofs.Named.{NamesOk, names_grow, names_none, steps_not, steps_on, Seen, seen_steps}
 use Rattle.dp_calls.proofs.Made.{Closes, closes_before, Made, same_target, source_line, is_listed}
-use Rattle.dp_calls.proofs.Passed.{Any, passed}
+use Rattle.dp_calls.proofs.Passed.{Homely, passed}
 use Rattle.dp_calls.proofs.Declared.{lies_sited, names_sited, final_renamed, assigned_made}
 
 pub all_parts : {X : Type 0} (f : X → Bool) (xs ys : List X) → list_all f (xs ++ ys) ≡ true → (list_all f xs ≡ true) × (list_all f ys ≡ true)
@@ -40,8 +40,8 @@ seen_in p f = seen_behind_params (global_numbers p) (params_in (slice_get p.func
 
 -- what the call of function f becomes, behind its bindings
 abbrev pub Called : Program → Program → Calls → ℕ → ℕ → Type 0
-Called p q calls r f = (low : ℕ) (names : List Renamed) (t : Tables) → file_count p ≤ low → NamesOk p Any low names t → Lies p t → Seen p (seen_in p f) names →
-    Made p q Any low f names t (seen_in p f) (calls f r names t) (λ g. Block p q g (seen_in p f) (body_in (slice_get p.functions f)) (calls f r names t).code)
+Called p q calls r f = (low : ℕ) (names : List Renamed) (t : Tables) → file_count p ≤ low → NamesOk p (Homely r) low names t → Lies p t → Seen p (seen_in p f) names →
+    Made p q (Homely r) low f names t (seen_in p f) (calls f r names t) (λ g. Block p q g (seen_in p f) (body_in (slice_get p.functions f)) (calls f r names t).code)
 
 module _ (p q : Program) (places : (x : ℕ) (info : VarInfo) → slice_get p.vars x ≡ Some info → PlaceOf (file_count p) (global_count p) x info) (there : file_count p ≤ length p.vars)
     (linked : Option VarInfo → Option VarInfo → Type 0) (low n scope r : ℕ) (link : (info : VarInfo) (cell : ℕ) → is_scope_in scope info.scope ≡ true → linked (Some info) (Some (moved info cell r)))
@@ -124,8 +124,8 @@ module _ (p q : Program) (places : (x : ℕ) (info : VarInfo) → slice_get p.va
 
   module _ (visible : List ℕ) (names : List Renamed) (t : Tables) (ok : NamesOk p linked low names t) (lies : Lies p t) (seen : Seen p visible names) where
     call_by : (f line : ℕ) (args : List Expr) (a b : Piece) → f < n →
-        Made p q Any (length t.vars) f [] t (seen_in p f) a (λ g. (e : Env) → ((v : Expr) → knows visible v ≡ true → renamed names v ≡ renamed e.names v) → Binds p q e g visible line (params_in (slice_get p.functions f)) args a.code) →
-        Made p q Any (length t.vars) f a.names a.tables (seen_in p f) b (λ g. Block p q g (seen_in p f) (body_in (slice_get p.functions f)) b.code) →
+        Made p q (Homely r) (length t.vars) f [] t (seen_in p f) a (λ g. (e : Env) → ((v : Expr) → knows visible v ≡ true → renamed names v ≡ renamed e.names v) → Binds p q e g visible line (params_in (slice_get p.functions f)) args a.code) →
+        Made p q (Homely r) (length t.vars) f a.names a.tables (seen_in p f) b (λ g. Block p q g (seen_in p f) (body_in (slice_get p.functions f)) b.code) →
         OneMade visible names t visible (stmt.Call f line args) (back_to names (behind a b))
     call_by f line args a b less first second =
         let g : Env = record { low = length t.vars; high = length b.tables.vars; names = b.names; calls = f } in
@@ -169,7 +169,7 @@ module _ (p q : Program) (places : (x : ℕ) (info : VarInfo) → slice_get p.va
         OneMade visible names t visible (stmt.Call f line args) (back_to names (followed_by (bindings p r line names (params_in (slice_get p.functions f)) args [] t) (calls f r)))
     call_made f line args less known_all long =
         let first = passed p q places (length t.vars) f r line names visible (params_in (slice_get p.functions f)) args (global_numbers p) [] t (params_scoped f) long known_all
-        (names_none p Any (length t.vars) t (omega arith)) lies
+        (names_none p (Homely r) (length t.vars) t (omega arith)) lies
         (λ x at. inl (let below : x.0 < 0 + file_count p = numbers_below 0 (file_count p) x at in omega (arith, below))) (λ w y at. absurd (cc at)) in
         let a : Piece = bindings p r line names (params_in (slice_get p.functions f)) args [] t in
         call_by f line args a (calls f r a.names a.tables) less first (called f less (length t.vars) a.names a.tables lies.above first.named first.lies first.seen)

@@ -30,16 +30,16 @@ use Rattle.dp_calls.proofs.CheckedTexts.{main_listed, main_scoped, text_of}
 use Rattle.dp_calls.proofs.Whole.{Linked, MainMade, main_made}
 
 module _ (p : Program) (checked : IsChecked p) where
-  abbrev places : (x : ℕ) (info : VarInfo) → slice_get p.vars x ≡ Some info → PlaceOf (file_count p) (global_count p) x info
+  abbrev pub places : (x : ℕ) (info : VarInfo) → slice_get p.vars x ≡ Some info → PlaceOf (file_count p) (global_count p) x info
   places = places_of p checked.globals checked.cells
 
-  abbrev there : file_count p ≤ length p.vars
+  abbrev pub there : file_count p ≤ length p.vars
   there = files_within p checked.globals checked.cells
 
-  abbrev whole : Piece
+  abbrev pub whole : Piece
   whole = expand_list p (calls_within p (length p.functions)) 0 p.main [] (first_tables p)
 
-  first_lies : Lies p (first_tables p)
+  pub first_lies : Lies p (first_tables p)
   first_lies = record {
     place = λ k info at.
         (let less : k < file_count p = slice_get_within (globals_in p.vars) k info at in places k info (sym (file_before p checked.globals checked.cells k less) ∙ at));
@@ -58,10 +58,10 @@ module _ (p : Program) (checked : IsChecked p) where
       main_made p (expand p) places there (text_of p checked) 1 p.main (global_numbers p) [] (first_tables p) (main_scoped p checked) checked.regions (main_listed p checked)
       (names_none p Linked (file_count p) (first_tables p) (omega arith), first_lies, (λ x at. inl (files_below x at)), (λ x at. inl (files_below x at)))
 
-  abbrev main_env : Env
+  abbrev pub main_env : Env
   main_env = record { low = file_count p; high = length whole.tables.vars; names = whole.names; calls = length p.functions }
 
-  ends_there : Closes p (expand p) (file_count p) (length p.functions) whole.names whole.tables main_env
+  pub ends_there : Closes p (expand p) (file_count p) (length p.functions) whole.names whole.tables main_env
   ends_there = record {
     begins = refl;
     may_call = refl;

@@ -30,7 +30,7 @@ use Rattle.dp_calls.proofs.SameValues.{sees_one}
 use Rattle.dp_calls.proofs.Tabled.{grows_on, grows_source_site, grows_region, Lies, moved}
 use Rattle.dp_calls.proofs.Named.{NamesOk, names_grow, Seen, steps_not}
 use Rattle.dp_calls.proofs.Made.{Closes, closes_before, Made, source_line, is_listed}
-use Rattle.dp_calls.proofs.Passed.{Any}
+use Rattle.dp_calls.proofs.Passed.{Homely, home_moved}
 use Rattle.dp_calls.proofs.Declared.{lies_sited, names_sited, final_renamed}
 use Rattle.dp_calls.proofs.Pieces.{all_parts, seen_in, Called, one_made, list_made, both_made, none_made}
 use Rattle.dp_calls.proofs.PlainLaws.{Plain, plain_list}
@@ -38,7 +38,7 @@ use Rattle.dp_calls.proofs.Bodies.{body_made}
 use Rattle.dp_calls.proofs.CheckedTexts.{TextOf}
 
 -- a scope of region r
-scope_is : (r : ℕ) (scope : VarScope) → is_scope_in r scope ≡ true → scope ≡ scope_in r
+pub scope_is : (r : ℕ) (scope : VarScope) → is_scope_in r scope ≡ true → scope ≡ scope_in r
 scope_is zero Outer e = refl
 scope_is (suc r) (Body k) e = ap Body (eqb-true k (suc r) e)
 scope_is _ _ e = absurd (cc e)
@@ -47,7 +47,7 @@ scope_is _ _ e = absurd (cc e)
 abbrev pub Linked : Option VarInfo → Option VarInfo → Type 0
 Linked source target = (k : ℕ) → is_quiet k target ≡ is_quiet k source
 
-linked_moved : (r : ℕ) (info : VarInfo) (cell : ℕ) → is_scope_in r info.scope ≡ true → Linked (Some info) (Some (moved info cell r))
+pub linked_moved : (r : ℕ) (info : VarInfo) (cell : ℕ) → is_scope_in r info.scope ≡ true → Linked (Some info) (Some (moved info cell r))
 linked_moved r info cell is k = ap (is_local_of k) (sym (scope_is r info.scope is))
 
 -- the variables that are visible at the top of `main` are of no region
@@ -65,25 +65,25 @@ module _ (p q : Program) (places : (x : ℕ) (info : VarInfo) → slice_get p.va
   calls_made zero within f less r low names t above ok lies seen = absurd (omega (arith, less))
   calls_made (suc depth) within f less r low names t above ok lies seen =
       let text = text_of f in
-      list_made p q places there Any low f 0 r (λ info cell is. tt) (calls_within p depth) (omega (arith, less, within)) (λ g. (text_of g).params)
+      list_made p q places there (Homely r) low f 0 r (λ info cell is. home_moved r info cell) (calls_within p depth) (omega (arith, less, within)) (λ g. (text_of g).params)
       (λ g below. (let deeper : g < depth = omega (arith, below, less) in let shallow : depth ≤ length p.functions = omega (arith, within) in calls_made depth shallow g deeper r))
       (body_in (slice_get p.functions f)) (seen_in p f) names t text.scoped text.plain text.listed ok lies seen
 
-  abbrev most : ℕ
+  abbrev pub most : ℕ
   most = length p.functions
 
-  abbrev calls : Calls
+  abbrev pub calls : Calls
   calls = calls_within p most
 
-  called : (r f : ℕ) → f < most → Called p q calls r f
+  pub called : (r f : ℕ) → f < most → Called p q calls r f
   called r f less = calls_made most (omega arith) f less r
 
-  plain_calls : (depth f r : ℕ) (names : List Renamed) (t : Tables) → Plain t (calls_within p depth f r names t)
+  pub plain_calls : (depth f r : ℕ) (names : List Renamed) (t : Tables) → Plain t (calls_within p depth f r names t)
   plain_calls zero f r names t = (refl, refl)
   plain_calls (suc depth) f r names t = plain_list p (calls_within p depth) (plain_calls depth) r (body_in (slice_get p.functions f)) names t (text_of f).plain
 
   -- what a statement at the top, and what several become
-  abbrev TopMade : List ℕ → List Renamed → Tables → List ℕ → Stmt → Piece → Type 0
+  abbrev pub TopMade : List ℕ → List Renamed → Tables → List ℕ → Stmt → Piece → Type 0
   TopMade visible names t behind s a = Made p q Linked (file_count p) most names t behind a (λ e. One p q e visible behind s a.code)
 
   abbrev pub MainMade : List ℕ → List Renamed → Tables → List Stmt → Piece → Type 0
@@ -122,7 +122,7 @@ module _ (p q : Program) (places : (x : ℕ) (info : VarInfo) → slice_get p.va
         (source_line p q k site t listed begin.into) known_v (made.becomes e middle) (quiet_top k visible names t e ok seen top here) closes.may_call));
   }
 
-  abbrev Ready : List ℕ → List Renamed → Tables → Type 0
+  abbrev pub Ready : List ℕ → List Renamed → Tables → Type 0
   Ready visible names t = NamesOk p Linked (file_count p) names t × Lies p t × Seen p visible names × TopSeen p visible
 
   plain_top : (s : Stmt) (visible : List ℕ) (names : List Renamed) (t : Tables) → in_scope p 0 most visible s ≡ true → is_plain s ≡ true → list_all (is_listed p) (site_numbers s) ≡ true → Ready visible names t →
@@ -130,7 +130,7 @@ module _ (p q : Program) (places : (x : ℕ) (info : VarInfo) → slice_get p.va
   plain_top s visible names t scoped plain listed ready =
       one_made p q places there Linked (file_count p) most 0 0 (linked_moved 0) calls (omega arith) (λ g. (text_of g).params) (called 0) s visible names t scoped plain listed ready.0 ready.1 ready.2
 
-  top_made : (k : ℕ) (s : Stmt) (visible : List ℕ) (names : List Renamed) (t : Tables) → in_scope p 0 most visible s ≡ true → top_fits k s ≡ true → list_all (is_listed p) (site_numbers s) ≡ true → Ready visible names t →
+  pub top_made : (k : ℕ) (s : Stmt) (visible : List ℕ) (names : List Renamed) (t : Tables) → in_scope p 0 most visible s ≡ true → top_fits k s ≡ true → list_all (is_listed p) (site_numbers s) ≡ true → Ready visible names t →
       TopMade visible names t (seen_behind visible s) s (expand_one p calls 0 s names t)
   top_made k (stmt.Region' r site v m body) visible names t scoped fits listed ready =
       let both = and_true (knows visible v) (rows_in_scope p r most visible body) scoped in
@@ -149,7 +149,7 @@ module _ (p q : Program) (places : (x : ℕ) (info : VarInfo) → slice_get p.va
     | inr before ↦ top w before
   ]
 
-  top_behind : (visible : List ℕ) (s : Stmt) → in_scope p 0 most visible s ≡ true → TopSeen p visible → TopSeen p (seen_behind visible s)
+  pub top_behind : (visible : List ℕ) (s : Stmt) → in_scope p 0 most visible s ≡ true → TopSeen p visible → TopSeen p (seen_behind visible s)
   top_behind visible (stmt.Assign site x v) scoped top =
       top_assigned (sees visible x) visible x refl (and_true (knows visible v) (sees visible x || is_declared_in 0 (slice_get p.vars x.0)) scoped).1 top
   top_behind visible _ scoped top = top

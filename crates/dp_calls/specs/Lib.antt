@@ -5,5 +5,7 @@ pub mod Renaming
 pub mod Tables
 pub mod Piece
 pub mod Expand
+pub mod AtHome
+pub mod Starts
 pub mod ExpandLaws
 pub mod Meaning

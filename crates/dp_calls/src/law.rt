@@ -4,9 +4,11 @@ ghost use Rattle.dp_base.specs.declared.limits.TheConstants.{INLINED_SIZE};
 ghost use Rattle.dp_tree.specs.Checked.{IsChecked};
 ghost use Rattle.dp_tree.specs.Inlined.{IsInlined};
 ghost use Rattle.dp_tree.specs.Numbering.{is_small_region};
+ghost use Rattle.dp_calls.specs.AtHome.{stores_at_home, KeepsNumbersSmall};
 ghost use Rattle.dp_calls.specs.Expand.{expand};
 ghost use Rattle.dp_calls.specs.ExpandLaws.{KeepsText, LeavesNoCall};
 ghost use Rattle.dp_calls.specs.Meaning.{SameMeaning};
+ghost use Rattle.dp_calls.specs.Starts.{locals_start_clear};
 
 use dp_tree::Program;
 
@@ -31,4 +33,22 @@ pub fn expansion_is_inlined(p: &Program)
     requires sites { length (expand p.now).sites ≤ INLINED_SIZE }
     requires regions { list_all is_small_region (expand p.now).regions ≡ true }
     ensures inlined { IsInlined (expand p.now) }
+{}
+
+/// The expansion of a checked program stores into the locals of a region's body inside that region alone.
+pub fn expansion_stores_at_home(p: &Program)
+    requires checked { IsChecked p.now }
+    ensures home { stores_at_home (expand p.now) ≡ true }
+{}
+
+/// Where the numbers of a program fit 64 bits, so do those of its expansion.
+pub fn expansion_keeps_numbers_small(p: &Program)
+    ensures numbers { KeepsNumbersSmall p.now }
+{}
+
+/// The locals of an expanded program start at 0 where those of the checked program do.
+pub fn expansion_keeps_starts(p: &Program)
+    requires checked { IsChecked p.now }
+    requires starts { locals_start_clear p.now ≡ true }
+    ensures starts { locals_start_clear (expand p.now) ≡ true }
 {}

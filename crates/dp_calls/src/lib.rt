@@ -5,4 +5,7 @@
 
 mod law;
 
-pub use law::{expansion_is_inlined, expansion_keeps_the_meaning, expansion_leaves_no_call};
+pub use law::{
+    expansion_is_inlined, expansion_keeps_numbers_small, expansion_keeps_starts,
+    expansion_keeps_the_meaning, expansion_leaves_no_call, expansion_stores_at_home,
+};
