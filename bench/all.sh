@@ -4,7 +4,7 @@
 set -u
 cd "$(dirname "$0")"
 failed=0
-for script in examples straight_loop pipeline batch lanes; do
+for script in examples straight_loop pipeline epochs batch lanes; do
   echo "== bench/$script.sh"
   "./$script.sh" || { failed=1; echo "bench/$script.sh failed"; }
 done

@@ -4,14 +4,14 @@
 # gate_cost.py, which looks at a gate, are called by themselves. Needs gcc and python3. Ends with 1 where one fails; its
 # output stands above then.
 set -u
-cd "$(dirname "$0")/.."
+cd "$(dirname "$0")/.." || exit 1
 ./dswp --prove || exit
 work=$(mktemp -d)
 trap 'rm -rf "$work"' EXIT
 failed=0
 for check in checks/*; do
   case $check in checks/all.sh | checks/changed_* | checks/gate_cost.py) continue ;; esac
-  [ -x "$check" ] || continue
+  if ! [ -f "$check" ] || ! [ -x "$check" ]; then continue; fi
   "$check" >"$work/log" 2>&1
   status=$?
   if [ $status != 0 ]; then

@@ -1,9 +1,10 @@
 #!/usr/bin/env python3
 """Runs programs with each of their allocations failing in turn, and with an output that fails at each of its bytes.
 
-Where an allocation fails, a run has to write its whole text with its status, or a front of it with status 7. Where the
-output fails behind so many bytes, it has to have written just those, and to end with status 6. Among the runs are some
-with iterations that are executed again, some with a replicated stage, and a table of words.
+Where an allocation fails, a run has to write its whole text with its status, or a front of it with status 7; and on
+standard error its whole message, a front of it, or nothing. Where the output fails behind so many bytes, it has to have
+written just those, and to end with status 6. Among the runs are some that are refused, some with iterations that are
+executed again, some with a replicated stage, and a table of words.
 
   checks/failing_calls.py [WORDS]   WORDS input words of the table of words, 60 where it isn't given
 
@@ -26,7 +27,8 @@ end
 """
 BINS_PLAN = "plan 1\nregion 1 words 4096\nseq 2 3 4\npar 5\nseq 6\nend\n"
 WORDS = [
-    "run sum_loop.c", "run sum_loop.c --fuel 10", "run none.c", "check word_table.c", "plan word_table.c",
+    "run", "run sum_loop.c --workers 9", "walk", "run semicolon.c", "run unknown.c", "run deep.c", "run sum_loop.c bad.txt",
+    "run stale_read.c --plan bad.plan", "run stale_read.c --plan rule.plan", "run sum_loop.c", "run sum_loop.c --fuel 10", "run none.c", "check word_table.c", "plan word_table.c",
     "plan skip_negative.c --profile skip_negative.prof", "profile skip_negative.c in.txt", "gen 7 20",
     "run stale_read.c --plan stale.plan --why", "run skip_negative.c in.txt --plan skip.plan --why",
     "run histogram.c bins.txt --plan bins.plan --workers 8 --lane 1",
@@ -37,10 +39,16 @@ WORDS = [
     "run word_table.c words.txt --plan table.plan", "run word_table.c words.txt --plan table.plan --workers 8 --lane 64",
 ]
 
+REFUSED = {
+    "semicolon.c": "int main() { int x = 1 print(x); }", "unknown.c": "int total; int main() { totl = 1; }",
+    "deep.c": "int main() { print(" + "!" * 65 + "1); }", "bad.txt": "1 x", "bad.plan": "plan 3\n",
+    "rule.plan": "plan 1\nregion 1 words 4096\nseq 2\nend\n",
+}
+
 
 def commands(folder, count):
     """The words of each run; the texts that they name lie in the folder or are examples."""
-    texts = {**library(), "in.txt": "5 -1 7 8", "bins.txt": "0 1 2 3 4 5 6", "bins.plan": BINS_PLAN, "table.plan": TABLE_PLAN,
+    texts = {**library(), **REFUSED, "in.txt": "5 -1 7 8", "bins.txt": "0 1 2 3 4 5 6", "bins.plan": BINS_PLAN, "table.plan": TABLE_PLAN,
              "words.txt": " ".join(str(k % 10) for k in range(count))}
     for name, text in texts.items():
         Path(folder, name).write_text(text)
@@ -51,6 +59,12 @@ def commands(folder, count):
         plan = program.with_suffix(".plan")
         if plan.exists():
             yield ["run", str(program), str(program.with_suffix(".in")), "--plan", str(plan)]
+
+
+def told(it):
+    """The message of a run, and how many allocations it made: the last line."""
+    lines = it.stderr.splitlines(keepends=True)
+    return b"".join(lines[:-1]), int(lines[-1])
 
 
 class Runs:
@@ -71,11 +85,12 @@ class Runs:
             print(f"{' '.join(words)}: {what}: status {it.returncode}, {len(it.stdout)} bytes", flush=True)
 
     def each_allocation(self, words, whole):
-        for number in range(1, int(whole.stderr) + 1):
+        message, count = told(whole)
+        for number in range(1, count + 1):
             it = self.run(words, FAILING_ALLOCATION=str(number))
             same = (it.returncode, it.stdout) == (whole.returncode, whole.stdout)
             front = it.returncode == 7 and whole.stdout.startswith(it.stdout)
-            self.expect(same or front, words, f"allocation {number}", it)
+            self.expect((same or front) and message.startswith(told(it)[0]), words, f"allocation {number}", it)
 
     def each_byte(self, words, whole):
         for room in range(len(whole.stdout)):

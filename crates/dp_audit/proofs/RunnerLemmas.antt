@@ -26,7 +26,7 @@ use Rattle.dp_audit.specs.declared.epochs.Epochs.{Epochs}
 use Rattle.dp_audit.specs.declared.known.Known.{Known}
 use Rattle.dp_audit.specs.declared.runner.Runner.{Runner}
 use Rattle.dp_audit.specs.Copy.{IsCopy}
-use Rattle.dp_audit.specs.Runs.{CanBegin, IsKept, Stands, UnderWay}
+use Rattle.dp_audit.specs.Runs.{IsKept, Stands, UnderWay}
 
 -- A place in `main` has as many cells as the program.
 pub stands_size : (p : Program) (c : Config) → StandsInMain p c → length c.cells ≡ length (start_cells p.vars)
@@ -40,7 +40,6 @@ module _ (p : Program) (plan : Plan) (input : List ℤ) (first : MachineState) w
     pub kept_next : (ledger : Ledger) (known : Known) (verdicts : Option Coming) → ledger.waiting ≡ [] → known.locals ≡ r.known.locals → IsCopy known ledger.committed.machine.config.cells →
         IsKept p plan input first (record { epochs = r.epochs; ledger = ledger; known = known; verdicts = verdicts })
     kept_next ledger known verdicts none locals copy = record {
-      can_begin = k.can_begin;
       own_program = k.own_program;
       own_plan = k.own_plan;
       own_input = k.own_input;
@@ -56,38 +55,37 @@ module _ (p : Program) (plan : Plan) (input : List ℤ) (first : MachineState) w
     pub few_steps : Progress plan first r.ledger.committed r.ledger.report → r.ledger.committed.machine.fuel ≤ 1000000000
     few_steps g = omega (arith, g.holds.fuel, k.few)
 
-    to_begin : AtEpoch plan first r.ledger.committed r.ledger.report → ToBegin r.epochs.p.now r.epochs.plan.now r.epochs.input.now first r.ledger.committed r.ledger.report
+    to_begin : AtEpoch plan first r.ledger.committed r.ledger.report → ToBegin r.epochs.region.now.program r.epochs.region.now.plan r.epochs.input.now first r.ledger.committed r.ledger.report
     to_begin a = record {
       at_epoch = subst (λ (x : Plan). AtEpoch x first r.ledger.committed r.ledger.report) (sym k.own_plan) a;
       program_is = k.program_is ∙ sym k.own_program;
       input_is = k.input_is ∙ sym k.own_input;
     }
 
-    pub sound : AtEpoch plan first r.ledger.committed r.ledger.report → IsSound (key_here r.epochs.p.now r.epochs.plan.now r.epochs.input.now r.ledger.committed)
-    sound a = sound_here r.epochs.p.now r.epochs.plan.now r.epochs.input.now first r.ledger.committed r.ledger.report (to_begin a)
+    pub sound : AtEpoch plan first r.ledger.committed r.ledger.report → IsSound (key_here r.epochs.region.now.program r.epochs.region.now.plan r.epochs.input.now r.ledger.committed)
+    sound a = sound_here r.epochs.region.now.program r.epochs.region.now.plan r.epochs.input.now first r.ledger.committed r.ledger.report (to_begin a)
 
     -- the epoch that begins
-    pub begun : AtEpoch plan first r.ledger.committed r.ledger.report → (v : Coming) → v ≡ record { key = key_here r.epochs.p.now r.epochs.plan.now r.epochs.input.now r.ledger.committed; given = 0 } → UnderWay plan first r.ledger v
+    pub begun : AtEpoch plan first r.ledger.committed r.ledger.report → (v : Coming) → v ≡ record { key = key_here r.epochs.region.now.program r.epochs.region.now.plan r.epochs.input.now r.ledger.committed; given = 0 } → UnderWay plan first r.ledger v
     begun a v is = subst (UnderWay plan first r.ledger) (sym is) (record {
       plan_is = k.own_plan;
-      epoch = epoch_here (key_here r.epochs.p.now r.epochs.plan.now r.epochs.input.now r.ledger.committed) 0 first r.ledger.committed r.ledger.report
+      epoch = epoch_here (key_here r.epochs.region.now.program r.epochs.region.now.plan r.epochs.input.now r.ledger.committed) 0 first r.ledger.committed r.ledger.report
           (record { first = refl; base = refl; steps = refl; fuel = refl; none = refl }) (to_begin a);
     })
 
   -- The region begins: nothing is committed, and the copy is that of the memory.
   pub stands_begun : (s : RegionStart p plan input first) (q : IsPlanned p plan) → first.fuel ≤ 1000000000 → (epochs : Epochs) (ledger : Ledger) (known : Known) →
-      CanBegin epochs → epochs.p.now ≡ p → epochs.plan.now ≡ plan → epochs.input.now ≡ input →
+      epochs.region.now.program ≡ p → epochs.region.now.plan ≡ plan → epochs.input.now ≡ input →
       ((region : ℕ) → next_part first ≡ Region region → ledger.committed ≡ record { machine = first; region = region; count = 0 }) →
       ledger.report ≡ record { region = plan.region; iterations = 0; recovered_count = 0; recovered = []; causes = [] } → ledger.waiting ≡ [] →
       IsNonDecreasing known.locals → ((c : ℕ) → has c known.locals ≡ is_local_at p plan c) → known.cells ≡ first.config.cells →
       Stands p plan input first 0 (record { epochs = epochs; ledger = ledger; known = known; verdicts = None })
-  stands_begun s q few epochs ledger known can own_p own_plan own_input committed report waiting ascending locals cells =
+  stands_begun s q few epochs ledger known own_p own_plan own_input committed report waiting ascending locals cells =
       let b = region_begins p plan input first s q ledger.committed committed ledger.report report in
       let is = committed plan.region s.next in
       let same : known.cells ≡ ledger.committed.machine.config.cells = cells ∙ ap (λ (x : CommittedState). x.machine.config.cells) (sym is) in
       record {
         kept = record {
-          can_begin = can;
           own_program = own_p;
           own_plan = own_plan;
           own_input = own_input;
@@ -103,3 +101,15 @@ module _ (p : Program) (plan : Plan) (input : List ℤ) (first : MachineState) w
         count = ap (λ (x : CommittedState). x.count) is;
         epoch = b.at_epoch;
       }
+
+  -- .. where the region's number and its locals were told of this plan and this program
+  pub stands_told : (s : RegionStart p plan input first) (q : IsPlanned p plan) → first.fuel ≤ 1000000000 → (same : Plan) → same ≡ plan → (own : Program) → own ≡ p → (epochs : Epochs) (ledger : Ledger) (known : Known) →
+      epochs.region.now.program ≡ p → epochs.region.now.plan ≡ plan → epochs.input.now ≡ input →
+      ((region : ℕ) → next_part first ≡ Region region → ledger.committed ≡ record { machine = first; region = region; count = 0 }) →
+      ledger.report ≡ record { region = same.region; iterations = 0; recovered_count = 0; recovered = []; causes = [] } → ledger.waiting ≡ [] →
+      IsNonDecreasing known.locals → ((c : ℕ) → has c known.locals ≡ is_local_at own same c) → known.cells ≡ first.config.cells →
+      Stands p plan input first 0 (record { epochs = epochs; ledger = ledger; known = known; verdicts = None })
+  stands_told s q few same is own own_is epochs ledger known own_p own_plan own_input committed report waiting ascending locals cells =
+      stands_begun s q few epochs ledger known own_p own_plan own_input committed
+      (report ∙ ap (λ (x : Plan). record { region = x.region; iterations = 0; recovered_count = 0; recovered = []; causes = [] }) is) waiting ascending
+      (λ c. locals c ∙ ap (λ (x : Plan). is_local_at own x c) is ∙ ap (λ (x : Program). is_local_at x plan c) own_is) cells

@@ -1,5 +1,5 @@
 -- How far a region was brought, iteration by iteration, and what is kept of it in between.
-use Rattle.std.specs.Prelude.{◌≡◌, ℕ, ◌+◌, ◌≤◌, List, [], ℤ, length, Option, Some, None}
+use Rattle.std.specs.Prelude.{◌≡◌, ℕ, ◌+◌, ◌≤◌, List, [], ℤ, Option, Some, None}
 use Rattle.std.specs.List.Sorted.{IsNonDecreasing}
 use Rattle.dp_base.specs.declared.Cause.{Cause}
 use Rattle.dp_tree.specs.declared.Program.{Program}
@@ -9,28 +9,16 @@ use Rattle.dp_semantics.specs.Seen.{is_local_at}
 use Rattle.dp_semantics.specs.EpochVerdicts.{Carried, Commit, verdict_at}
 use Rattle.dp_meaning.specs.MachineState.{MachineState}
 use Rattle.dp_pipeline.specs.Coming.{Coming}
-use Rattle.dp_pipeline.specs.Programs.{ArePrograms}
 use Rattle.dp_epoch.specs.declared.ledger.Ledger.{Ledger}
 use Rattle.dp_epoch.specs.InEpoch.{AtEpoch, InEpoch, IsUnclean}
 use Rattle.dp_epoch.specs.Progress.{Progress}
-use Rattle.dp_epoch.specs.RegionRun.{IsPlanned}
-use Rattle.dp_audit.specs.declared.epochs.Epochs.{Epochs}
 use Rattle.dp_audit.specs.declared.runner.Runner.{Runner}
 use Rattle.dp_audit.specs.Copy.{IsCopy}
 
--- An epoch of the region can be made of this.
-pub record CanBegin (e : Epochs) : Type 0 where
-  pub planned : IsPlanned e.p.now e.plan.now
-  pub programs : ArePrograms e.p.now e.plan.now e.programs.now
-  pub words : length e.input.now ≤ 65536
-  pub crew : (1 ≤ e.crew.workers) × (e.crew.workers ≤ 8) × (1 ≤ e.crew.lane) × (e.crew.lane ≤ 64)
-  pub setter : e.setter.flag ≡ e.stop.now
-
 -- What is kept besides the verdicts: it is of a region of this program that began with this machine, no prints wait, and the copy is that of the committed memory.
 pub record IsKept (p : Program) (plan : Plan) (input : List ℤ) (first : MachineState) (r : Runner) : Type 0 where
-  pub can_begin : CanBegin r.epochs
-  pub own_program : r.epochs.p.now ≡ p
-  pub own_plan : r.epochs.plan.now ≡ plan
+  pub own_program : r.epochs.region.now.program ≡ p
+  pub own_plan : r.epochs.region.now.plan ≡ plan
   pub own_input : r.epochs.input.now ≡ input
   pub program_is : first.program ≡ p
   pub input_is : first.input ≡ input

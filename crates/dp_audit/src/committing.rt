@@ -5,7 +5,7 @@ ghost use Rattle.dp_epoch.specs.Applied.{Applied};
 ghost use Rattle.dp_audit.specs.Stored.{cell_of};
 
 use dp_base::{NoMemory, Row, StoreOf};
-use dp_commit::Tally;
+use dp_commit::{Tally, Unwatched};
 use dp_epoch::Ledger;
 use dp_judge::Clean;
 use std::alloc::Global;
@@ -18,7 +18,7 @@ pub(crate) fn commit(ledger: &mut Ledger<'_>, clean: Clean) -> Result<(), NoMemo
     ensures report { OnOk result (ledger.new.report ≡ record ledger.old.report { iterations = ledger.new.committed.count }) }
     ensures waiting { OnOk result (ledger.new.waiting ≡ ledger.old.waiting ++ clean.prints) }
 {
-    let mut tally = Tally::new();
+    let mut tally = Tally::new(Unwatched);
     ledger.waiting.extend_from_slice(clean.prints())?;
     ledger.committed.apply(clean, &mut tally);
     ledger.report.iterations = ledger.committed.count();

@@ -1,12 +1,11 @@
 //! A region, one iteration after the other.
-ghost use Rattle.std.specs.Prelude.{◌≡◌, ◌<◌, ◌≤◌, List, ℤ, ℕ, length, Some, IfOk};
+ghost use Rattle.std.specs.Prelude.{◌≡◌, ◌<◌, ◌≤◌, List, ℤ, ℕ, Some, IfOk};
 ghost use Rattle.dp_tree.specs.declared.Program.{Program as Tree};
 ghost use Rattle.dp_plan.specs.declared.Plan.{Plan as PlanValue};
 ghost use Rattle.dp_meaning.specs.declared.ends.IterEnd.TheVariants.{Next};
 ghost use Rattle.dp_meaning.specs.MachineState.{MachineState};
-ghost use Rattle.dp_pipeline.specs.Programs.{ArePrograms};
 ghost use Rattle.dp_epoch.specs.Applied.{left_of};
-ghost use Rattle.dp_epoch.specs.RegionRun.{IsPlanned, RegionStart};
+ghost use Rattle.dp_epoch.specs.RegionRun.{RegionStart};
 ghost use Rattle.dp_audit.specs.declared.group.Group.{Group as Told};
 ghost use Rattle.dp_audit.specs.Runs.{Stands};
 ghost use Rattle.dp_audit.specs.Groups.{Gives};
@@ -17,20 +16,18 @@ use crate::epochs::Epochs;
 use crate::group::Group;
 use crate::known::Known;
 use dp_base::{NoMemory, RegionReport};
-use dp_code::StageProgram;
 use dp_epoch::{CrewSize, Ledger};
 use dp_meaning::{IterEnd, Machine};
 use dp_pipeline::LaneVerdicts;
-use dp_plan::Plan;
-use dp_stop::{Stop, StopSetter};
-use dp_tree::Program;
+use dp_prepared::PreparedRegion;
+use dp_stop::StopSetter;
 use std::alloc::Global;
 use std::sync::Wait;
 use std::time::Clock;
 
 /// A region that is brought forward one iteration at a time, as its pipeline does, but on the calling thread.
-pub struct Runner<'s, 'p> {
-    pub(crate) epochs: Epochs<'s>,
+pub struct Runner<'s, 'q, 'p> {
+    pub(crate) epochs: Epochs<'s, 'q>,
     pub(crate) ledger: Ledger<'p>,
     pub(crate) known: Known,
     /// Those of the epoch under way. Where there are none, an epoch begins behind what is committed.
@@ -38,7 +35,7 @@ pub struct Runner<'s, 'p> {
 }
 
 // By hand, so that a crate above doesn't prove again how all that it holds is dropped.
-impl<'s, 'p> Drop for Runner<'s, 'p> {
+impl<'s, 'q, 'p> Drop for Runner<'s, 'q, 'p> {
     fn drop(self) {
         let Runner {
             epochs: _,
@@ -49,41 +46,31 @@ impl<'s, 'p> Drop for Runner<'s, 'p> {
     }
 }
 
-impl<'s, 'p> Runner<'s, 'p>
+impl<'s, 'q, 'p> Runner<'s, 'q, 'p>
 where
     'p: 's,
 {
-    /// The plan's region, which comes next for the machine. The setter's flag isn't set yet, and the runner doesn't set it.
+    /// The prepared region, which comes next for the machine.
     pub fn begin(
         alloc: Global,
-        p: &'p Program,
-        plan: &'s Plan,
-        programs: &'s [StageProgram],
+        region: &'s PreparedRegion<'q>,
         input: &'p [i64],
         machine: Machine<'p>,
-        crew: CrewSize,
-        stop: &'s Stop,
-        setter: StopSetter,
-    ) -> Result<Runner<'s, 'p>, NoMemory>
-        requires planned { IsPlanned p.now plan.now }
-        requires programs { ArePrograms p.now plan.now programs.now }
-        requires start { RegionStart p.now plan.now input.now machine }
-        requires words { length input.now ≤ 65536 }
+        size: CrewSize,
+    ) -> Result<Runner<'s, 'q, 'p>, NoMemory>
+        requires start { RegionStart region.now.program region.now.plan input.now machine }
         requires fuel { machine.fuel ≤ 1000000000 }
-        requires crew { (1 ≤ crew.workers) × (crew.workers ≤ 8) × (1 ≤ crew.lane) × (crew.lane ≤ 64) }
-        requires setter { setter.flag ≡ stop.now }
-        ensures { IfOk result (λ runner. Stands p.now plan.now input.now machine.entry 0 runner) }
+        ensures { IfOk result (λ runner. Stands region.now.program region.now.plan input.now machine.entry 0 runner) }
     {
-        let known = Known::begin(alloc, p, plan.region, machine.cells())?;
-        let ledger = Ledger::begin(alloc, machine, plan.region);
+        let setter = StopSetter::new(alloc)?;
+        let number = region.plan().region;
+        let known = Known::begin(alloc, region.program(), number, machine.cells())?;
+        let ledger = Ledger::begin(alloc, machine, number);
         let epochs = Epochs {
             alloc,
-            p,
-            plan,
-            programs,
+            region,
             input,
-            crew,
-            stop,
+            size,
             setter,
         };
         Ok(Runner {

@@ -1,2 +1,3 @@
+mod Crossing
 mod TextLemmas
 pub mod rows

@@ -1,6 +1,5 @@
 //! The runs of all inputs, several at once.
 ghost use Rattle.std.specs.Prelude.{◌≡◌, ◌≤◌, ◌<◌, ℤ, List, All, length, slice_index_or, IfOk};
-ghost use Rattle.dp_run.specs.Given.{AreGiven};
 ghost use Rattle.dp_batch.specs.BatchText.{AreTexts, batch_bytes, run_text};
 
 use crate::joining::{Text, joined};
@@ -8,9 +7,7 @@ use crate::seats::Seats;
 use crate::sharing::{processors, share};
 use crate::single::one;
 use dp_base::{NoMemory, Row};
-use dp_plan::Plan;
-use dp_run::CrewSize;
-use dp_tree::Program;
+use dp_run::{CrewSize, PreparedProgram};
 use std::alloc::Global;
 use std::sync::Wait;
 use std::thread::{Threads, for_each_mut};
@@ -25,19 +22,16 @@ const THREADS: usize = 64;
 pub fn batch<R: Threads + Wait + Clock + Sync>(
     rt: &R,
     alloc: Global,
-    p: &Program,
-    plans: &[Plan],
+    prepared: &PreparedProgram<'_>,
     inputs: &[Row<i64>],
     fuel: u64,
-    crew: CrewSize,
+    size: CrewSize,
 ) -> Result<Row<u8>, NoMemory>
-    requires given { AreGiven p.now plans.now }
     requires words { All (λ input. length input ≤ 65536) inputs.now }
     requires fuel { fuel ≤ 1000000000 }
-    requires crew { (1 ≤ crew.workers) × (crew.workers ≤ 8) × (1 ≤ crew.lane) × (crew.lane ≤ 64) }
-    ensures { IfOk result (λ bytes. bytes ≡ batch_bytes p.now plans.now fuel inputs.now) }
+    ensures { IfOk result (λ bytes. bytes ≡ batch_bytes prepared.now.program prepared.now.plans fuel inputs.now) }
 {
-    let texts = texts_of(rt, alloc, p, plans, inputs, fuel, crew)?;
+    let texts = texts_of(rt, alloc, prepared, inputs, fuel, size)?;
     joined(alloc, texts.as_slice())
 }
 
@@ -45,20 +39,17 @@ pub fn batch<R: Threads + Wait + Clock + Sync>(
 fn texts_of<R: Threads + Wait + Clock + Sync>(
     rt: &R,
     alloc: Global,
-    p: &Program,
-    plans: &[Plan],
+    prepared: &PreparedProgram<'_>,
     inputs: &[Row<i64>],
     fuel: u64,
-    crew: CrewSize,
+    size: CrewSize,
 ) -> Result<Vec<Text>, NoMemory>
-    requires given { AreGiven p.now plans.now }
     requires words { All (λ input. length input ≤ 65536) inputs.now }
     requires fuel { fuel ≤ 1000000000 }
-    requires crew { (1 ≤ crew.workers) × (crew.workers ≤ 8) × (1 ≤ crew.lane) × (crew.lane ≤ 64) }
-    ensures { IfOk result (λ texts. AreTexts (run_text p.now plans.now fuel) inputs.now texts.items) }
+    ensures { IfOk result (λ texts. AreTexts (run_text prepared.now.program prepared.now.plans fuel) inputs.now texts.items) }
 {
-    let sharing = share(processors(rt), inputs.len(), plans, crew);
-    let (made, crew) = (Seats::new(sharing.at_once), sharing.crew);
+    let sharing = share(processors(rt), inputs.len(), prepared.regions(), size);
+    let (made, size) = (Seats::new(sharing.at_once), sharing.size);
     let seats = &made;
     let mut texts = no_texts(alloc, inputs.len())?;
     for_each_mut(
@@ -66,10 +57,9 @@ fn texts_of<R: Threads + Wait + Clock + Sync>(
         texts.as_mut_slice(),
         THREADS,
         &|place: usize, text: &mut Text|
-            requires { (place < length inputs.now) × AreGiven p.now plans.now × All (λ input. length input ≤ 65536) inputs.now × (fuel ≤ 1000000000)
-                × (1 ≤ crew.workers) × (crew.workers ≤ 8) × (1 ≤ crew.lane) × (crew.lane ≤ 64) }
-            ensures { (d : List ℤ) → IfOk text.exit.now (λ bytes. bytes ≡ run_text p.entry.now plans.entry.now fuel (slice_index_or inputs.entry.now place d)) }
-        { *text = text_at(rt, alloc, p, plans, inputs, place, fuel, crew, seats) },
+            requires { (place < length inputs.now) × All (λ input. length input ≤ 65536) inputs.now × (fuel ≤ 1000000000) }
+            ensures { (d : List ℤ) → IfOk text.exit.now (λ bytes. bytes ≡ run_text prepared.entry.now.program prepared.entry.now.plans fuel (slice_index_or inputs.entry.now place d)) }
+        { *text = text_at(rt, alloc, prepared, inputs, place, fuel, size, seats) },
     );
     Ok(texts)
 }
@@ -89,23 +79,20 @@ fn no_texts(alloc: Global, count: usize) -> Result<Vec<Text>, NoMemory>
 fn text_at<R: Threads + Wait + Clock + Sync>(
     rt: &R,
     alloc: Global,
-    p: &Program,
-    plans: &[Plan],
+    prepared: &PreparedProgram<'_>,
     inputs: &[Row<i64>],
     place: usize,
     fuel: u64,
-    crew: CrewSize,
+    size: CrewSize,
     seats: &Seats,
 ) -> Text
     requires place { place < length inputs.now }
-    requires given { AreGiven p.now plans.now }
     requires words { All (λ input. length input ≤ 65536) inputs.now }
     requires fuel { fuel ≤ 1000000000 }
-    requires crew { (1 ≤ crew.workers) × (crew.workers ≤ 8) × (1 ≤ crew.lane) × (crew.lane ≤ 64) }
-    ensures { (d : List ℤ) → IfOk result (λ bytes. bytes ≡ run_text p.now plans.now fuel (slice_index_or inputs.now place d)) }
+    ensures { (d : List ℤ) → IfOk result (λ bytes. bytes ≡ run_text prepared.now.program prepared.now.plans fuel (slice_index_or inputs.now place d)) }
 {
     seats.take(rt);
-    let text = one(rt, alloc, p, plans, inputs[place].as_slice(), fuel, crew);
+    let text = one(rt, alloc, prepared, inputs[place].as_slice(), fuel, size);
     seats.give_back(rt);
     text
 }

@@ -2,6 +2,7 @@
 ghost use Rattle.std.specs.Prelude.{◌≡◌, ◌≤◌, nat_lt};
 
 use dp_plan::{Plan, StageKind};
+use dp_prepared::PreparedRegion;
 use dp_run::CrewSize;
 use std::thread::{Threads, available_parallelism};
 
@@ -15,7 +16,7 @@ const OTHERS: usize = 2;
 #[derive(Clone, Copy)]
 pub(crate) struct Sharing {
     pub(crate) at_once: usize,
-    pub(crate) crew: CrewSize,
+    pub(crate) size: CrewSize,
 }
 
 /// How many processors there are.
@@ -33,35 +34,40 @@ pub(crate) fn processors<R: Threads>(rt: &R) -> usize
 /// Where there is a run for each processor, each keeps to one thread: so none waits for another, and nothing is sent from
 /// one processor to the next. Where there are fewer, runs have threads for their units, and as many go on at once as there
 /// are processors for.
-pub(crate) fn share(processors: usize, runs: usize, plans: &[Plan], crew: CrewSize) -> Sharing
+pub(crate) fn share(
+    processors: usize,
+    runs: usize,
+    regions: &[PreparedRegion<'_>],
+    size: CrewSize,
+) -> Sharing
     requires { 1 ≤ processors }
     ensures some { 1 ≤ result.at_once }
     ensures many { processors ≤ runs → result.at_once ≡ processors }
-    ensures threads { result.crew.threads ≡ nat_lt runs processors }
-    ensures crew { (result.crew.workers ≡ crew.workers) × (result.crew.lane ≡ crew.lane) }
+    ensures threads { result.size.threads ≡ nat_lt runs processors }
+    ensures size { (result.size.workers ≡ size.workers) × (result.size.lane ≡ size.lane) }
 {
     let threads = runs < processors;
     let at_once = if threads {
-        (processors / most_threads(plans, crew.workers)).max(1)
+        (processors / most_threads(regions, size.workers)).max(1)
     } else {
         processors
     };
-    let (workers, lane) = (crew.workers, crew.lane);
-    let crew = CrewSize {
+    let CrewSize { workers, lane, .. } = size;
+    let size = CrewSize {
         workers,
         lane,
         threads,
     };
-    Sharing { at_once, crew }
+    Sharing { at_once, size }
 }
 
 /// The most threads that a run has at once.
-fn most_threads(plans: &[Plan], workers: u32) -> usize
+fn most_threads(regions: &[PreparedRegion<'_>], workers: u32) -> usize
     ensures { 1 ≤ result }
 {
     let mut most = OTHERS;
-    for plan in plans {
-        most = most.max(threads_of(plan, workers));
+    for region in regions {
+        most = most.max(threads_of(region.plan(), workers));
     }
     most
 }

@@ -8,6 +8,7 @@ ghost use Rattle.dp_meaning.specs.NextIteration.{end_of};
 ghost use Rattle.dp_commit.specs.CommittedState.{BrokeOff, CarriesNext, ClosesOnce, CountsSteps, Holds, IsOpen, RecoversFor, WhereEnded, count_after};
 
 use crate::tally::Tally;
+use crate::watch::Watch;
 use dp_base::{Cells, NoMemory, Row};
 use dp_judge::Clean;
 use dp_meaning::{IterEnd, Machine, Part};
@@ -100,7 +101,7 @@ impl<'p> Committed<'p> {
     }
 
     /// Commits the next iteration from the pipeline. It takes no memory.
-    pub fn apply(&mut self, clean: Clean, tally: &mut Tally)
+    pub fn apply<W: Watch>(&mut self, clean: Clean, tally: &mut Tally<W>)
         requires open { IsOpen self.old }
         requires next { CarriesNext self.old clean }
         requires tally { tally.old < 2 ^ 64 - 1 }
@@ -111,9 +112,9 @@ impl<'p> Committed<'p> {
     {
         self.machine
             .skip(clean.stores(), clean.steps(), clean.closing());
-        let _made = self.machine.steps();
+        let made = self.machine.steps();
         self.count += 1;
-        tally.raise();
+        tally.raise(made);
     }
 
     /// Executes the current iteration sequentially, at most `turns` steps of it, and appends what they print.

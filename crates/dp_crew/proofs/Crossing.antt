@@ -27,6 +27,7 @@ use Rattle.dp_cause.proofs.kept.Kept.TheSendSync as views
 use Rattle.dp_finding.proofs.court.Entry.TheSendSync as entry
 use Rattle.dp_finding.proofs.court.Rows.TheSendSync as judging_rows
 use Rattle.dp_turn.specs.contracts.Frame as Frame
+use Rattle.dp_finding.specs.contracts.court.Court as Court
 use Rattle.dp_machine.specs.contracts.stage.StageMachine as StageMachine
 use Rattle.dp_judge.specs.contracts.trying.TryCommit as TryCommit
 use Rattle.dp_pipeline.specs.contracts.staged.Staged as Staged
@@ -63,7 +64,7 @@ pub frame_send : (a : NamedLft) → IsSend (Frame.the_row a)
 frame_send a = recorded_send (Frame.the_field a).row _ _ (Frame.the_type a).to_one (frame_field_send a)
 
 pub stage_machine_field_send : (a : NamedLft) → IsSend (StageMachine.the_field a).row
-stage_machine_field_send a = let f = frame_send a in let g = frame_field_send a in search (kept.the_field_send, ready.the_field_send, rows.the_field_send, rows.the_send, heap.the_field_send, sendable) depth 60 fits 20000
+stage_machine_field_send a = let f = frame_send a in let g = frame_field_send a in search (kept.the_field_send, ready.the_field_send, rows.the_field_send, sendable) depth 60 fits 20000
 
 pub stage_machine_send : (a : NamedLft) → IsSend (StageMachine.the_row a)
 stage_machine_send a = recorded_send (StageMachine.the_field a).row _ _ (StageMachine.the_type a).to_one (stage_machine_field_send a)
@@ -74,8 +75,14 @@ staged_field_send a = let f = stage_machine_send a in let g = stage_machine_fiel
 pub staged_send : (a : NamedLft) → IsSend (Staged.the_row a)
 staged_send a = recorded_send (Staged.the_field a).row _ _ (Staged.the_type a).to_one (staged_field_send a)
 
+pub court_field_send : (a : NamedLft) → IsSend (Court.the_field a).row
+court_field_send a = let p = program_sync in let q = program_field_sync in search (plan.the_sync, op.the_sync, entry.the_sync, sendable) depth 60 fits 20000
+
+pub court_send : (a : NamedLft) → IsSend (Court.the_row a)
+court_send a = recorded_send (Court.the_field a).row _ _ (Court.the_type a).to_one (court_field_send a)
+
 pub try_commit_field_send : (a : NamedLft) → IsSend (TryCommit.the_field a).row
-try_commit_field_send a = let p = program_sync in let q = program_field_sync in search (plan.the_sync, op.the_sync, heap.the_field_send, cells.the_send, views.the_field_send, judging_rows.the_field_send, judging_rows.the_send, entry.the_field_send, entry.the_send, row.the_send, sendable) depth 60 fits 20000
+try_commit_field_send a = let c = court_send a in let d = court_field_send a in search (heap.the_field_send, cells.the_send, views.the_field_send, judging_rows.the_field_send, sendable) depth 60 fits 20000
 
 pub try_commit_send : (a : NamedLft) → IsSend (TryCommit.the_row a)
 try_commit_send a = recorded_send (TryCommit.the_field a).row _ _ (TryCommit.the_type a).to_one (try_commit_field_send a)

@@ -5,32 +5,35 @@ ghost use Rattle.dp_epoch.specs.Applied.{HasRoom};
 ghost use Rattle.dp_crew.specs.EpochRan.{EpochRan};
 ghost use Rattle.dp_epoch.specs.InEpoch.{InEpoch};
 
+use crate::crew::Crew;
 use crate::waiting::flush_if_many;
-use dp_commit::Tally;
-use dp_edge::{Sink, WriteFail};
-use dp_epoch::{EpochEnd, Ledger, Taken, Verdicts, take};
-use dp_judge::Verdict;
+use dp_commit::{Tally, Watch};
+use dp_edge::{Gate, Sink, WriteFail};
+use dp_epoch::{EpochEnd, Ledger, Taken, take};
+use dp_pipeline::LaneVerdicts;
 use std::alloc::Global;
 use std::sync::Wait;
 use std::time::Clock;
 
 /// Commits the iterations of an epoch as their verdicts come, and lets their prints wait or writes them, up to the region's
 /// end or the first iteration that isn't clean.
-pub(crate) fn run_epoch<'p, R: Wait + Clock, V: Verdicts, K: Sink>(
-    rt: &R,
+pub(crate) fn run_epoch<'p, 'u, E, R: Wait + Clock + Sync, K: Sink, G: Gate, W: Watch>(
+    crew: &mut Crew<'_, 'u, E, R, G>,
     alloc: Global,
-    verdicts: &mut V,
+    verdicts: &mut LaneVerdicts<'u>,
     mut ledger: Ledger<'p>,
     sink: &mut K,
-    tally: &mut Tally,
+    tally: &mut Tally<W>,
 ) -> Result<(Ledger<'p>, EpochEnd), WriteFail>
     requires sink { K.faults sink.old < 2 ^ 64 - 1 }
-    requires epoch { (first : MachineState) × InEpoch (V.key verdicts.old) (V.given verdicts.old) first ledger.committed ledger.report }
+    requires epoch { (first : MachineState) × InEpoch verdicts.old.key verdicts.old.given first ledger.committed ledger.report }
     requires room { HasRoom tally.old ledger.committed }
-    ensures ran { EpochRan (λ first. InEpoch (V.key verdicts.old) (V.given verdicts.old) first ledger.entry.committed ledger.entry.report) (V.key verdicts.old).plan ledger.entry result (K.faults sink.old) (K.faults sink.new) (K.written sink.old) (K.written sink.new) tally.old tally.new }
-    ensures key { V.key verdicts.new ≡ V.key verdicts.old }
+    ensures ran { EpochRan (λ first. InEpoch verdicts.old.key verdicts.old.given first ledger.entry.committed ledger.entry.report) verdicts.old.key.plan ledger.entry result (K.faults sink.old) (K.faults sink.new) (K.written sink.old) (K.written sink.new) tally.old tally.new }
+    ensures key { verdicts.new.key ≡ verdicts.old.key }
 {
+    let rt = crew.rt();
     'verdicts: loop {
+        crew.await_one(verdicts);
         let taken = take(rt, verdicts, &mut ledger, tally)?;
         flush_if_many(alloc, &mut ledger.waiting, sink)?;
         match taken {

@@ -9,7 +9,6 @@ use Rattle.dp_calls.proofs.SameMeanings.{same_meaning}
 use Rattle.dp_load.proofs.accepted.Accepted.{read_checked, inlined_read}
 use Rattle.dp_drive.proofs.accepted.SameText.{same_end, same_text}
 use Rattle.dp_edge.specs.declared.writing.WriteFail.{WriteFail}
-use Rattle.dp_refusal.specs.declared.role.Role.{Role}
 use Rattle.dp_refusal.specs.declared.refusal.Refusal.{Refusal}
 use Rattle.dp_refusal.specs.declared.refusal.Refusal.TheVariants.{Words}
 use Rattle.dp_room.specs.declared.NoMemory.{NoMemory as Wanting}

@@ -1,9 +1,8 @@
 -- The line that an audit names is the first that isn't the same in both texts.
-use Rattle.std.proofs.Common.{◌≡◌, ◌≢◌, refl, sym, ◌∙◌, ap, arith, zero, ℕ, ◌+◌, ◌-◌, ◌<◌, ◌≤◌, suc, Bool, true, false, if◌then◌else◌, List, [], ◌∷◌, subst, ℤ, Option, Some, None, Result, Ok, IfOk, slice_get}
+use Rattle.std.proofs.Common.{◌≡◌, ◌≢◌, refl, sym, ◌∙◌, ap, arith, zero, ℕ, ◌+◌, ◌-◌, ◌<◌, suc, Bool, true, false, if◌then◌else◌, List, [], ◌∷◌, subst, ℤ, Some, None, Result, Ok, IfOk, slice_get}
 use Rattle.std.specs.Str.{bytes_eq}
 use Rattle.std.proofs.lemmas.Slice.Eq.{bytes_eq-Decides}
 use Rattle.dp_text.specs.Lines.{lines_of}
-use Rattle.dp_log.specs.Compared.{DifferFirst}
 use Rattle.dp_auditor.specs.Answered.{Answers}
 use Rattle.dp_auditor.specs.declared.AuditEnd.{AuditEnd}
 use Rattle.dp_auditor.specs.declared.AuditEnd.TheVariants.{Same, Differs}

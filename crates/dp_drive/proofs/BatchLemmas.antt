@@ -1,8 +1,7 @@
 -- What the texts of a batch give is what its words are answered with.
-use Rattle.std.proofs.Common.{◌≡◌, refl, sym, ◌∙◌, ap, subst, ℕ, List, [], ◌∷◌, ◌++◌, All, ℤ, Option, Some, None, Result, Ok, Err, IfOk}
+use Rattle.std.proofs.Common.{◌≡◌, refl, sym, subst, ℕ, List, [], All, ℤ, Option, Result, Ok, Err, IfOk}
 use Rattle.dp_tree.specs.declared.Program.{Program}
 use Rattle.dp_tree.specs.Inlined.{IsInlined}
-use Rattle.dp_calls.specs.Expand.{expand}
 use Rattle.dp_plan.specs.declared.Plan.{Plan}
 use Rattle.dp_run.specs.Given.{AreGiven}
 use Rattle.dp_edge.specs.declared.writing.WriteFail.{WriteFail}
@@ -18,10 +17,7 @@ use Rattle.dp_load.specs.declared.batch.BatchTexts.TheVariants as texts
 use Rattle.dp_load.specs.Batches.{LoadsBatch}
 use Rattle.dp_load.specs.Batches as loads
 use Rattle.dp_load.specs.Last.{Nothing}
-use Rattle.dp_load.specs.Lists.{Inputs}
-use Rattle.dp_load.specs.Loading.{ReadsProgram}
-use Rattle.dp_load.specs.Order.{ReadsAll, WithInput, WithInputs}
-use Rattle.dp_load.specs.Roles.{Contents, Plans, ProgramOf, SomePlans, Unnamed}
+use Rattle.dp_load.specs.Roles.{Contents, Plans, SomePlans, Unnamed}
 use Rattle.dp_load.specs.Texts.{Names}
 use Rattle.dp_load.proofs.OrderLemmas.{all_listed, ends_at_list, ends_at_program, listed_ends_at_plans, with_input, with_listed}
 use Rattle.dp_load.proofs.accepted.Accepted.{inlined_read, read_checked}

@@ -1,29 +1,25 @@
 -- What each verb that runs a program carries out, where its texts were read.
-use Rattle.std.proofs.Common.{◌≡◌, refl, sym, ◌∙◌, ap, subst, ℕ, List, [], ◌∷◌, ◌++◌, ℤ, Option, Some, None, Result, Ok, Err, IfOk}
+use Rattle.std.proofs.Common.{◌≡◌, refl, subst, ℕ, List, [], ℤ, Option, Some, Result, Ok, Err, IfOk}
 use Rattle.dp_tree.specs.declared.Program.{Program}
-use Rattle.dp_tree.specs.Inlined.{IsInlined}
 use Rattle.dp_calls.specs.Expand.{expand}
 use Rattle.dp_plan.specs.declared.Plan.{Plan}
-use Rattle.dp_run.specs.Given.{AreGiven}
 use Rattle.dp_run.specs.RunText.{source_run}
 use Rattle.dp_edge.specs.declared.writing.WriteFail.{WriteFail}
 use Rattle.dp_log.specs.LogText.{log_bytes}
-use Rattle.dp_batch.specs.BatchText.{batch_bytes}
 use Rattle.dp_save.specs.declared.Checkpoint.{Checkpoint as Point}
 use Rattle.dp_save.specs.Fits.{Fits}
 use Rattle.dp_resume.specs.Saved.{saved_bytes, saved_end}
 use Rattle.dp_resume.specs.Resumed.{resumed_bytes, resumed_run}
 use Rattle.dp_words.specs.declared.task.Place.{Place}
 use Rattle.dp_words.specs.Run.{Run}
-use Rattle.dp_words.specs.Words.{Asked, Asks, ToAudit, ToBatch, ToLog, ToResume, ToRun, ToSave}
-use Rattle.dp_refusal.specs.declared.role.Role.{Role}
+use Rattle.dp_words.specs.Words.{Asked, Asks, ToAudit, ToLog, ToResume, ToRun, ToSave}
 use Rattle.dp_refusal.specs.declared.role.Role.TheVariants as role
 use Rattle.dp_refusal.specs.declared.refusal.Refusal.{Refusal}
 use Rattle.dp_refusal.specs.Refusal.{refusal_line, refusal_status, failed_read_line, status_of}
 use Rattle.dp_load.specs.declared.load.Loaded.{Loaded}
 use Rattle.dp_load.specs.declared.load.Loaded.TheVariants.{Text, Refused, Failed}
 use Rattle.dp_load.specs.declared.texts.Texts.TheVariants as texts
-use Rattle.dp_load.specs.Last.{Behind, Checkpoint, CheckpointTaken, CheckpointTooLong, LastCheckpoint, LastLog, LastOf, Log, Logged, NoCheckpoint, Nothing, ReadsCheckpoint, SavedAt, logged, saved_at}
+use Rattle.dp_load.specs.Last.{Checkpoint, CheckpointTaken, CheckpointTooLong, LastCheckpoint, LastLog, LastOf, Log, Logged, NoCheckpoint, Nothing, ReadsCheckpoint, SavedAt, logged, saved_at}
 use Rattle.dp_load.specs.Loading.{FaultsAfterLoad, Gives, LoadsCheckpoint, LoadsLog, names_after}
 use Rattle.dp_load.specs.Loading.{Loads as Loads_}
 use Rattle.dp_load.proofs.TextsLemmas.{gives}

@@ -1,9 +1,11 @@
 pub mod accepted
 pub mod AnswerLemmas
+pub mod Stopping
 pub mod RunLemmas
 pub mod VerbLemmas
 pub mod AuditLemmas
 pub mod CarryLemmas
+pub mod SavedLemmas
 pub mod BatchLemmas
 pub mod HeadlineLemmas
 pub mod CountLemmas

@@ -1,5 +1,5 @@
 -- What the texts of a run give is what the words of each verb that runs one are answered with.
-use Rattle.std.proofs.Common.{◌≡◌, refl, sym, ◌∙◌, ap, subst, ℕ, List, [], ◌++◌, ℤ, Option, Some, None, Result, Ok, Err}
+use Rattle.std.proofs.Common.{◌≡◌, refl, sym, ◌∙◌, subst, ℕ, List, [], ℤ, Option, Some, None, Result, Ok, Err}
 use Rattle.dp_tree.specs.declared.Program.{Program}
 use Rattle.dp_calls.specs.Expand.{expand}
 use Rattle.dp_plan.specs.declared.Plan.{Plan}
@@ -11,7 +11,7 @@ use Rattle.dp_refusal.specs.declared.role.Role.{Role}
 use Rattle.dp_refusal.specs.declared.refusal.Refusal.{Refusal}
 use Rattle.dp_refusal.specs.Refusal.{refusal_line, refusal_status, failed_read_line}
 use Rattle.dp_load.specs.declared.texts.Texts.TheVariants as texts
-use Rattle.dp_load.specs.Last.{Behind, Last, LastOf, Nothing}
+use Rattle.dp_load.specs.Last.{Behind, LastOf, Nothing}
 use Rattle.dp_load.specs.Loading.{ReadsProgram}
 use Rattle.dp_load.specs.Order.{ReadsAll, WithPlans, given_by, last_in, list_in}
 use Rattle.dp_load.specs.Roles.{Contents, Input, Plans, PlansOf, ProgramOf, SomePlans, input_in, plans_in, program_in}
@@ -19,7 +19,7 @@ use Rattle.dp_load.specs.Texts.{LoadsTexts, Names}
 use Rattle.dp_load.specs.Texts as loads
 use Rattle.dp_load.proofs.OrderLemmas.{all_read_behind, ends_at_input, ends_at_last, ends_at_plans, ends_at_program, nothing_behind, with_inputs, with_plans}
 use Rattle.dp_load.proofs.accepted.Given.{words_given}
-use Rattle.dp_drive.specs.Answer.{OfInput, OfLast, OfPlans, OfProgram}
+use Rattle.dp_drive.specs.Answer.{OfInput, OfPlans, OfProgram}
 use Rattle.dp_drive.specs.Answer as answers
 use Rattle.dp_drive.specs.steps.Carried.{Carried, Finishes}
 use Rattle.dp_drive.specs.steps.Carried as carried

@@ -1,6 +1,5 @@
 -- What each verb that runs a program finishes is what its words are to be answered with.
-use Rattle.std.proofs.Common.{◌≡◌, refl, sym, ◌∙◌, ap, subst, false, ℕ, ◌+◌, suc, List, [], ◌∷◌, ◌++◌, length, All, ℤ, Option, Some, None, Result, Ok, Err}
-use Rattle.dp_base.specs.declared.End.{End}
+use Rattle.std.proofs.Common.{◌≡◌, refl, sym, ◌∙◌, ap, subst, false, ℕ, ◌+◌, List, [], ◌∷◌, ◌++◌, ℤ, Option, Some, None, Result}
 use Rattle.dp_tree.specs.declared.Program.{Program}
 use Rattle.dp_tree.specs.Checked.{IsChecked}
 use Rattle.dp_tree.specs.Inlined.{IsInlined}
@@ -20,7 +19,6 @@ use Rattle.dp_resume.specs.Saved as saved
 use Rattle.dp_resume.specs.Resumed.{resumed_bytes, resumed_run}
 use Rattle.dp_words.specs.declared.task.Place.{Place}
 use Rattle.dp_refusal.specs.Refusal.{status_of}
-use Rattle.dp_load.proofs.accepted.Accepted.{read_checked, inlined_read}
 use Rattle.dp_drive.specs.Audit.{audit_line, audit_status, first_difference, log_of}
 use Rattle.dp_drive.specs.Pieces.{resumed_text, saved_from, saved_status, saved_text, status_unless}
 use Rattle.dp_drive.specs.Pieces as pieces

@@ -4,4 +4,5 @@ pub mod RunText
 pub mod Made
 pub mod Audit
 pub mod Pieces
+pub mod SavedText
 pub mod steps

@@ -10,7 +10,7 @@ ghost use Rattle.dp_drive.specs.steps.Status.{status_after};
 
 use crate::auditing::answer_audit;
 use crate::batching::answer_batch;
-use crate::logging::{answer_log, crew_of};
+use crate::logging::{answer_log, size_of};
 use crate::made::answer_gen;
 use crate::planning::answer_plan;
 use crate::profiling::answer_profile;
@@ -21,7 +21,7 @@ use dp_edge::{Gate, Shelf, Sink, WriteFail, write};
 use dp_load::{Loaded, Texts, load_program, load_texts};
 use dp_refusal::{Refusal, Role};
 use dp_report::site_text;
-use dp_run::{RunOptions, Tally};
+use dp_run::{RunOptions, Tally, Watch};
 use dp_tree::Program;
 use dp_words::{RunWords, Task, asked};
 use std::alloc::Global;
@@ -34,14 +34,14 @@ use std::time::Clock;
 /// The words are those after the program's name. Texts are read from the shelf, and everything is written to the sink;
 /// the gate is passed by the stages that run in threads. The tally counts the iterations that are committed from a
 /// pipeline.
-pub fn drive<R: Threads + Wait + Clock + Sync, S: Shelf, K: Sink, G: Gate>(
+pub fn drive<R: Threads + Wait + Clock + Sync, S: Shelf, K: Sink, G: Gate, W: Watch>(
     rt: &R,
     alloc: Global,
     words: &[String],
     shelf: &mut S,
     sink: &mut K,
     gate: &G,
-    tally: &mut Tally,
+    tally: &mut Tally<W>,
 ) -> u8
     requires shelf { S.faults shelf.old < 2 ^ 64 - 1 }
     requires sink { K.faults sink.old < 2 ^ 64 - 1 }
@@ -71,14 +71,14 @@ fn final_status(answered: Result<u8, WriteFail>) -> u8
 }
 
 /// The exit status, where all that it goes with was written.
-fn answer<R: Threads + Wait + Clock + Sync, S: Shelf, K: Sink, G: Gate>(
+fn answer<R: Threads + Wait + Clock + Sync, S: Shelf, K: Sink, G: Gate, W: Watch>(
     rt: &R,
     alloc: Global,
     words: &[String],
     shelf: &mut S,
     sink: &mut K,
     gate: &G,
-    tally: &mut Tally,
+    tally: &mut Tally<W>,
 ) -> Result<u8, WriteFail>
     requires shelf { S.faults shelf.old < 2 ^ 64 - 1 }
     requires sink { K.faults sink.old < 2 ^ 64 - 1 }
@@ -105,14 +105,14 @@ fn answer<R: Threads + Wait + Clock + Sync, S: Shelf, K: Sink, G: Gate>(
 }
 
 /// The exit status of a run.
-fn answer_run<R: Threads + Wait + Clock + Sync, S: Shelf, K: Sink, G: Gate>(
+fn answer_run<R: Threads + Wait + Clock + Sync, S: Shelf, K: Sink, G: Gate, W: Watch>(
     rt: &R,
     alloc: Global,
     run: RunWords,
     shelf: &mut S,
     sink: &mut K,
     gate: &G,
-    tally: &mut Tally,
+    tally: &mut Tally<W>,
 ) -> Result<u8, WriteFail>
     requires run { RunWithin (shown run) }
     requires shelf { S.faults shelf.old < 2 ^ 64 - 1 }
@@ -128,7 +128,7 @@ fn answer_run<R: Threads + Wait + Clock + Sync, S: Shelf, K: Sink, G: Gate>(
         Texts::Run(program, input, plans) => {
             let options = RunOptions {
                 fuel: run.fuel,
-                crew: crew_of(run),
+                size: size_of(run),
                 why: run.why,
             };
             run_to_end(

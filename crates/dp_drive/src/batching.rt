@@ -7,13 +7,14 @@ ghost use Rattle.dp_words.specs.Words.{Asks, ToBatch};
 ghost use Rattle.dp_words.specs.Run.{RunWithin, shown};
 ghost use Rattle.dp_drive.specs.steps.Carried.{Carried, Finishes};
 
-use crate::logging::crew_of;
+use crate::logging::size_of;
 use crate::writing::{fail_read, refuse};
 use dp_base::Row;
 use dp_batch::batch;
 use dp_edge::{Shelf, Sink, WriteFail, write};
 use dp_load::{BatchTexts, load_batch};
 use dp_plan::Plan;
+use dp_run::PreparedProgram;
 use dp_tree::Program;
 use dp_words::RunWords;
 use std::alloc::Global;
@@ -66,7 +67,8 @@ fn run_each<R: Threads + Wait + Clock + Sync, K: Sink>(
 {
     let plans = plans.as_slice();
     let inputs = inputs.as_slice();
-    let text = batch(rt, alloc, program, plans, inputs, run.fuel, crew_of(run))?;
+    let prepared = PreparedProgram::new(alloc, program, plans)?;
+    let text = batch(rt, alloc, &prepared, inputs, run.fuel, size_of(run))?;
     write(text.as_slice(), sink)?;
     Ok(0)
 }

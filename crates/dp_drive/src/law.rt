@@ -6,6 +6,8 @@ ghost use Rattle.dp_calls.specs.Expand.{expand};
 ghost use Rattle.dp_plan.specs.declared.Plan.{Plan};
 ghost use Rattle.dp_drive.specs.Answer.{Answer};
 ghost use Rattle.dp_drive.specs.RunText.{TextsAgree};
+ghost use Rattle.dp_drive.specs.SavedText.{SavedTextsAreRead};
+ghost use Rattle.dp_load.specs.Roles.{Contents};
 
 use dp_tree::Program;
 
@@ -21,4 +23,10 @@ pub fn run_texts_agree(p: &Program)
     requires checked { IsChecked p.now }
     requires inlined { IsInlined (expand p.now) }
     ensures { (plans : List Plan) (input : List ℤ) (fuel : ℕ) (why : Bool) → TextsAgree p.now plans input fuel why }
+{}
+
+/// Where the place at which a run is to be saved is reached, what is written ends with the checkpoint there, and this is read
+/// back as that checkpoint and nothing else.
+pub fn saved_texts_are_read()
+    ensures { (contents : Contents) → SavedTextsAreRead contents }
 {}

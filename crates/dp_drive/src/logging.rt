@@ -15,7 +15,7 @@ use dp_edge::{Shelf, Sink, WriteFail};
 use dp_load::{Texts, load_texts};
 use dp_logging::{LogOptions, log_program};
 use dp_refusal::end_status;
-use dp_run::CrewSize;
+use dp_run::{CrewSize, PreparedProgram};
 use dp_words::RunWords;
 use std::alloc::Global;
 use std::sync::Wait;
@@ -67,21 +67,19 @@ fn write_log<R: Wait + Clock, K: Sink>(
 {
     let options = LogOptions {
         fuel: texts.run.fuel,
-        crew: crew_of(texts.run),
+        size: size_of(texts.run),
     };
     let plans = texts.plans.as_slice();
     let input = texts.input.as_slice();
-    let end = log_program(rt, alloc, texts.program, plans, input, options, sink)?;
+    let prepared = PreparedProgram::new(alloc, texts.program, plans)?;
+    let end = log_program(rt, alloc, &prepared, input, options, sink)?;
     Ok(end_status(end))
 }
 
 /// The workers of a replicated stage, and the places of a lane.
-pub fn crew_of(run: RunWords) -> CrewSize
-    ensures { result ≡ record { workers = run.entry.options.workers; lane = run.entry.lane; threads = true } }
+pub fn size_of(run: RunWords) -> CrewSize
+    requires { RunWithin (shown run) }
+    ensures { (result.workers ≡ run.entry.options.workers) × (result.lane ≡ run.entry.lane) × (result.threads ≡ true) }
 {
-    CrewSize {
-        workers: run.options.workers,
-        lane: run.lane,
-        threads: true,
-    }
+    CrewSize::new(run.options.workers, run.lane, true)
 }

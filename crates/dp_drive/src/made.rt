@@ -19,7 +19,7 @@ use dp_edge::{Gate, Sink, WriteFail, write};
 use dp_load::{automatic_plans, read_program};
 use dp_plan::Plan;
 use dp_report::make_program;
-use dp_run::{CrewSize, RunOptions, Tally};
+use dp_run::{CrewSize, RunOptions, Tally, Watch};
 use dp_tree::Program;
 use dp_words::GenWords;
 use std::alloc::Global;
@@ -28,13 +28,13 @@ use std::thread::Threads;
 use std::time::Clock;
 
 /// The exit status of a run of the made program. No text is read for it.
-pub fn answer_gen<R: Threads + Wait + Clock + Sync, K: Sink, G: Gate>(
+pub fn answer_gen<R: Threads + Wait + Clock + Sync, K: Sink, G: Gate, W: Watch>(
     rt: &R,
     alloc: Global,
     words: GenWords,
     sink: &mut K,
     gate: &G,
-    tally: &mut Tally,
+    tally: &mut Tally<W>,
 ) -> Result<u8, WriteFail>
     requires within { MadeWithin words }
     requires sink { K.faults sink.old < 2 ^ 64 - 1 }
@@ -65,7 +65,7 @@ pub fn answer_gen<R: Threads + Wait + Clock + Sync, K: Sink, G: Gate>(
 }
 
 /// Writes the line of the words, and runs the program.
-fn run_made<R: Threads + Wait + Clock + Sync, K: Sink, G: Gate>(
+fn run_made<R: Threads + Wait + Clock + Sync, K: Sink, G: Gate, W: Watch>(
     rt: &R,
     alloc: Global,
     program: &Program,
@@ -74,7 +74,7 @@ fn run_made<R: Threads + Wait + Clock + Sync, K: Sink, G: Gate>(
     words: GenWords,
     sink: &mut K,
     gate: &G,
-    tally: &mut Tally,
+    tally: &mut Tally<W>,
 ) -> Result<u8, WriteFail>
     requires given { AreGiven program.now plans.now }
     requires words { length input.now ≤ 65536 }
@@ -87,11 +87,7 @@ fn run_made<R: Threads + Wait + Clock + Sync, K: Sink, G: Gate>(
     write_line(alloc, words, sink)?;
     let options = RunOptions {
         fuel: words.fuel,
-        crew: CrewSize {
-            workers: words.options.workers,
-            lane: words.lane,
-            threads: true,
-        },
+        size: CrewSize::new(words.options.workers, words.lane, true),
         why: false,
     };
     run_to_end(rt, alloc, program, plans, input, options, sink, gate, tally)

@@ -8,7 +8,7 @@ use dp_base::Row;
 use dp_edge::{Gate, Sink, WriteFail};
 use dp_plan::Plan;
 use dp_refusal::end_status;
-use dp_run::{RunOptions, Tally, run_program};
+use dp_run::{PreparedProgram, RunOptions, Tally, Watch, run_program};
 use dp_tree::Program;
 use std::alloc::Global;
 use std::sync::Wait;
@@ -16,7 +16,7 @@ use std::thread::Threads;
 use std::time::Clock;
 
 /// Runs the program to its end, and gives the status of that.
-pub fn run_to_end<R: Threads + Wait + Clock + Sync, K: Sink, G: Gate>(
+pub fn run_to_end<R: Threads + Wait + Clock + Sync, K: Sink, G: Gate, W: Watch>(
     rt: &R,
     alloc: Global,
     program: &Program,
@@ -25,22 +25,21 @@ pub fn run_to_end<R: Threads + Wait + Clock + Sync, K: Sink, G: Gate>(
     options: RunOptions,
     sink: &mut K,
     gate: &G,
-    tally: &mut Tally,
+    tally: &mut Tally<W>,
 ) -> Result<u8, WriteFail>
     requires given { AreGiven program.now plans.now }
     requires words { length input.now ≤ 65536 }
     requires fuel { options.fuel ≤ 1000000000 }
-    requires crew { (1 ≤ options.crew.workers) × (options.crew.workers ≤ 8) × (1 ≤ options.crew.lane) × (options.crew.lane ≤ 64) }
     requires sink { K.faults sink.old < 2 ^ 64 - 1 }
     requires tally { tally.old < 2 ^ 63 }
     ensures faults { FaultsAfter result (K.faults sink.old) (K.faults sink.new) }
     ensures runs { Runs [] program.now plans.now input.now options.fuel options.why (K.written sink.old) (K.written sink.new) tally.old tally.new result }
 {
+    let prepared = PreparedProgram::new(alloc, program, plans.as_slice())?;
     let end = run_program(
         rt,
         alloc,
-        program,
-        plans.as_slice(),
+        &prepared,
         input.as_slice(),
         options,
         sink,

@@ -12,14 +12,14 @@ ghost use Rattle.dp_drive.specs.steps.Given.{MayRun, WereLoaded};
 ghost use Rattle.dp_drive.specs.steps.Saved.{status_at};
 ghost use Rattle.dp_refusal.specs.Refusal.{status_of};
 
-use crate::logging::crew_of;
+use crate::logging::size_of;
 use crate::texts::RunTexts;
 use crate::writing::{fail_read, refuse};
 use dp_edge::{Gate, Shelf, Sink, WriteFail};
 use dp_load::{Loaded, Texts, load_checkpoint, load_texts};
 use dp_refusal::{Role, end_status};
 use dp_resume::{SaveEnd, SavePlace, resume_program, save_program};
-use dp_run::Tally;
+use dp_run::{PreparedProgram, Tally, Unwatched};
 use dp_save::Checkpoint;
 use dp_words::{Place, RunWords};
 use std::alloc::Global;
@@ -81,14 +81,14 @@ fn save_at<R: Threads + Wait + Clock + Sync, K: Sink, G: Gate>(
         region: place.region,
         after: place.after,
     };
+    let prepared = PreparedProgram::new(alloc, texts.program, texts.plans.as_slice())?;
     let end = save_program(
         rt,
         alloc,
-        texts.program,
-        texts.plans.as_slice(),
+        &prepared,
         texts.input.as_slice(),
         texts.run.fuel,
-        crew_of(texts.run),
+        size_of(texts.run),
         place,
         sink,
         gate,
@@ -174,14 +174,14 @@ fn resume_at<R: Threads + Wait + Clock + Sync, K: Sink, G: Gate>(
     ensures finishes { Finishes (status_of (resumed_run texts.entry.program.now texts.entry.input.now checkpoint).end)
         (resumed_bytes texts.entry.program.now texts.entry.plans.now texts.entry.input.now checkpoint) (K.written sink.old) (K.written sink.new) result }
 {
-    let mut tally = Tally::new();
+    let prepared = PreparedProgram::new(alloc, texts.program, texts.plans.as_slice())?;
+    let mut tally = Tally::new(Unwatched);
     let end = resume_program(
         rt,
         alloc,
-        texts.program,
-        texts.plans.as_slice(),
+        &prepared,
         texts.input.as_slice(),
-        crew_of(texts.run),
+        size_of(texts.run),
         checkpoint,
         sink,
         gate,

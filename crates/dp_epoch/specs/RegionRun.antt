@@ -1,32 +1,24 @@
 -- A region from start to end: where it may begin, and where the machine stands when it has ended.
-use Rattle.std.specs.Prelude.{◌≡◌, ◌≢◌, ℕ, suc, ◌+◌, ◌<◌, ◌≤◌, true, false, List, [], ℤ, drop, length, map, None}
+use Rattle.std.specs.Prelude.{◌≡◌, ◌≢◌, ℕ, suc, ◌+◌, ◌<◌, true, false, List, [], ℤ, drop, length, map, None}
 use Rattle.dp_tree.specs.declared.Program.{Program}
-use Rattle.dp_tree.specs.Inlined.{IsInlined}
 use Rattle.dp_tree.specs.InMain.{StandsInMain}
 use Rattle.dp_tree.specs.Step.{Config}
 use Rattle.dp_tree.specs.Trace.{Run, prints}
 use Rattle.dp_tree.specs.Iteration.{starts, begun_count, is_closing, has_ended}
 use Rattle.dp_tree.specs.IterationLaws.{events_of_first}
 use Rattle.dp_plan.specs.declared.Plan.{Plan}
-use Rattle.dp_plan.specs.GivenPlans.{IsPlan}
 use Rattle.dp_meaning.specs.declared.ends.Part.TheVariants.{Region}
 use Rattle.dp_meaning.specs.Continues.{Continues}
 use Rattle.dp_meaning.specs.MachineState.{MachineState, next_part, rest_of_run}
 use Rattle.dp_meaning.specs.Moved.{FaultsNext, HasSpentFuel}
 pub use Rattle.dp_commit.specs.CommittedState.{region_run}
+pub use Rattle.dp_prepared.specs.Planned.{IsPlanned}
 use Rattle.dp_epoch.specs.declared.ends.RegionEnd.{RegionEnd}
 use Rattle.dp_epoch.specs.declared.ends.RegionEnd.TheVariants.{Closed, Fault, Fuel}
 
 -- what the begun iterations of region r print, one iteration after the other
 abbrev pub region_prints : Run → ℕ → List ℤ
 region_prints run r = prints (events_of_first run r (begun_count run r))
-
--- an inlined program, and a plan that is given for one of its regions
-pub record IsPlanned (p : Program) (plan : Plan) : Type 0 where
-  pub inlined : IsInlined p
-  pub is_plan : IsPlan p plan
-  pub counted : 1 ≤ plan.region
-  pub known : plan.region ≤ length p.regions
 
 -- The machine is one of the program and the input, the plan's region comes next, and no step was made in it.
 pub record RegionStart (p : Program) (plan : Plan) (input : List ℤ) (first : MachineState) : Type 0 where

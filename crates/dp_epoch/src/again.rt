@@ -12,27 +12,33 @@ use crate::ends::RegionEnd;
 use crate::ledger::Ledger;
 use crate::report::count_recovered;
 use dp_base::{Cause, NoMemory, Row};
-use dp_commit::Committed;
+use dp_commit::{Committed, Tally, Watch};
 use dp_meaning::IterEnd;
 
 /// The greatest number of steps of one call.
 const TURNS: u32 = 65536;
 
-/// Executes the iteration again that isn't clean, and lets its prints wait. A begun one is counted and listed. With `None`
-/// a new epoch is to begin.
-pub fn execute_again(ledger: &mut Ledger<'_>, cause: Cause) -> Result<Option<RegionEnd>, NoMemory>
+/// Executes the iteration again that isn't clean, and lets its prints wait. A begun one is counted, listed and told. With
+/// `None` a new epoch is to begin.
+pub fn execute_again<W: Watch>(
+    ledger: &mut Ledger<'_>,
+    cause: Cause,
+    tally: &mut Tally<W>,
+) -> Result<Option<RegionEnd>, NoMemory>
     requires unclean { (plan : Plan) × (first : MachineState) × IsUnclean plan first ledger.old.committed ledger.old.report cause }
     ensures ok { IfOk result (λ end. (plan : Plan) (first : MachineState) → IsUnclean plan first ledger.old.committed ledger.old.report cause → AfterRecovery plan first ledger.new.committed ledger.new.report end) }
     ensures prints { IfOk result (λ end. (printed : List ℤ) × Remade ledger.old.committed ledger.new.committed printed (iteration_end end) × (ledger.new.waiting ≡ ledger.old.waiting ++ printed)) }
     ensures ahead { IfOk result (λ end. (plan : Plan) (first : MachineState) → IsUnclean plan first ledger.old.committed ledger.old.report cause →
         to_come plan first ledger.old.waiting ledger.old.committed.count ≡ left_by_recovery plan first ledger.new.waiting ledger.new.committed.count end) }
     ensures left { IfOk result (λ end. end ≡ None → left_of ledger.new.committed < left_of ledger.old.committed) }
+    ensures tally { tally.new ≡ tally.old }
 {
     let number = ledger.committed.count();
     let begun = ledger.committed.steps() < ledger.committed.fuel();
     let end = execute(&mut ledger.committed, &mut ledger.waiting)?;
     if begun {
         count_recovered(&mut ledger.report, number, cause)?;
+        tally.again(ledger.committed.steps());
     }
     Ok(end)
 }

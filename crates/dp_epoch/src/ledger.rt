@@ -7,7 +7,7 @@ ghost use Rattle.dp_epoch.specs.Applied.{Applied};
 
 use crate::report::nothing_counted;
 use dp_base::{NoMemory, RegionReport, Row};
-use dp_commit::{Committed, Tally};
+use dp_commit::{Committed, Tally, Watch};
 use dp_judge::Clean;
 use dp_meaning::Machine;
 use std::alloc::Global;
@@ -40,7 +40,11 @@ impl<'p> Ledger<'p> {
     }
 
     /// Commits a clean iteration, and lets its prints wait.
-    pub(crate) fn commit(&mut self, clean: Clean, tally: &mut Tally) -> Result<(), NoMemory>
+    pub(crate) fn commit<W: Watch>(
+        &mut self,
+        clean: Clean,
+        tally: &mut Tally<W>,
+    ) -> Result<(), NoMemory>
         requires open { IsOpen self.old.committed }
         requires next { CarriesNext self.old.committed clean }
         requires tally { tally.old < 2 ^ 64 - 1 }

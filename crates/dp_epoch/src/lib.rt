@@ -7,15 +7,14 @@ mod ends;
 mod ledger;
 mod making;
 mod report;
-mod size;
 mod taken;
 mod verdicts;
 
 pub use again::execute_again;
+pub use dp_pipeline::CrewSize;
 pub use ends::{EpochEnd, RegionEnd};
 pub use ledger::Ledger;
 pub use making::pipeline_here;
 pub use report::{count_recovered, nothing_counted};
-pub use size::CrewSize;
 pub use taken::{Taken, take};
 pub use verdicts::Verdicts;

@@ -1,55 +1,34 @@
 //! The pipeline of the epoch that begins behind what is committed.
-ghost use Rattle.std.specs.Prelude.{◌≡◌, ◌≤◌, length, IfOk};
-ghost use Rattle.dp_pipeline.specs.Programs.{ArePrograms};
+ghost use Rattle.std.specs.Prelude.{◌≡◌, ◌≤◌, IfOk};
 ghost use Rattle.dp_semantics.specs.EpochCauses.{IsSound};
 ghost use Rattle.dp_epoch.specs.InEpoch.{key_here};
-ghost use Rattle.dp_epoch.specs.RegionRun.{IsPlanned};
 
-use crate::size::CrewSize;
 use dp_base::NoMemory;
-use dp_code::StageProgram;
 use dp_commit::Committed;
-use dp_pipeline::Pipeline;
-use dp_plan::Plan;
-use dp_stop::{Stop, StopSetter};
-use dp_tree::Program;
+use dp_pipeline::{Begin, CrewSize, Pipeline};
+use dp_prepared::PreparedRegion;
+use dp_stop::StopSetter;
 use std::alloc::Global;
 
-/// Makes the pipeline of the epoch that begins behind what is committed.
-pub fn pipeline_here<'u>(
+/// Makes the pipeline of the epoch that begins behind what is committed. Its units look at the flag of the setter.
+pub fn pipeline_here<'u, 'p>(
     alloc: Global,
-    p: &'u Program,
-    plan: &'u Plan,
+    region: &'u PreparedRegion<'p>,
     input: &'u [i64],
-    programs: &'u [StageProgram],
-    crew: CrewSize,
+    size: CrewSize,
     committed: &Committed<'_>,
-    stop: &'u Stop,
     setter: &mut StopSetter,
 ) -> Result<Pipeline<'u>, NoMemory>
-    requires planned { IsPlanned p.now plan.now }
-    requires programs { ArePrograms p.now plan.now programs.now }
-    requires sound { IsSound (key_here p.now plan.now input.now committed.now) }
-    requires words { length input.now ≤ 65536 }
+    requires sound { IsSound (key_here region.now.program region.now.plan input.now committed.now) }
     requires fuel { committed.now.machine.fuel ≤ 1000000000 }
-    requires crew { (1 ≤ crew.workers) × (crew.workers ≤ 8) × (1 ≤ crew.lane) × (crew.lane ≤ 64) }
-    requires setter { setter.old.flag ≡ stop.now }
     ensures setter { setter.new ≡ setter.old }
-    ensures verdicts { IfOk result (λ made. made.verdicts ≡ record { key = key_here p.now plan.now input.now committed.now; given = 0 }) }
+    ensures verdicts { IfOk result (λ made. made.verdicts ≡ record { key = key_here region.now.program region.now.plan input.now committed.now; given = 0 }) }
 {
-    Pipeline::new(
-        alloc,
-        p,
-        plan,
-        input,
-        programs,
-        committed.count(),
-        committed.cells(),
-        committed.steps(),
-        committed.fuel(),
-        crew.workers,
-        crew.lane,
-        stop,
-        setter,
-    )
+    let begin = Begin {
+        first: committed.count(),
+        base: committed.cells(),
+        steps: committed.steps(),
+        fuel: committed.fuel(),
+    };
+    Pipeline::new(alloc, region, input, begin, size, setter)
 }

@@ -8,7 +8,7 @@ ghost use Rattle.dp_epoch.specs.Taken.{Takes};
 use crate::ledger::Ledger;
 use crate::verdicts::Verdicts;
 use dp_base::{Cause, NoMemory};
-use dp_commit::Tally;
+use dp_commit::{Tally, Watch};
 use dp_judge::Verdict;
 use std::sync::Wait;
 use std::time::Clock;
@@ -25,11 +25,11 @@ pub enum Taken {
 }
 
 /// Takes the verdict on the epoch's next iteration, and commits the iteration where it is clean.
-pub fn take<'p, R: Wait + Clock, V: Verdicts>(
+pub fn take<'p, R: Wait + Clock, V: Verdicts, W: Watch>(
     rt: &R,
     verdicts: &mut V,
     ledger: &mut Ledger<'p>,
-    tally: &mut Tally,
+    tally: &mut Tally<W>,
 ) -> Result<Taken, NoMemory>
     requires epoch { (first : MachineState) × InEpoch (V.key verdicts.old) (V.given verdicts.old) first ledger.old.committed ledger.old.report }
     requires room { HasRoom tally.old ledger.old.committed }

@@ -57,7 +57,7 @@ abbrev pub kept_behind : WalkState → Kept → Kept
 kept_behind walk kept = record { views = map (clear_cells kept.locals) (kept_by walk.stages walk.stores kept.views); locals = kept.locals }
 
 -- what was known is known, whatever memory is held, and with which rows the judging works
-pub knows_same : (key : EpochKey) (n : ℕ) (t u : TryCommit) → Knows t key n → IsSame u t → u.left ≡ t.left → u.kept ≡ t.kept → Knows u key n
+pub knows_same : (key : EpochKey) (n : ℕ) (t u : TryCommit) → Knows t key n → IsSame u t → u.court.limit ≡ t.court.limit → u.kept ≡ t.kept → Knows u key n
 knows_same key n t u at same left_is kept_is = record {
   program = same.program ∙ at.program;
   plan = same.plan ∙ at.plan;
@@ -69,8 +69,8 @@ knows_same key n t u at same left_is kept_is = record {
 }
 
 pub agreed_gives : (key : EpochKey) (n : ℕ) (t u : TryCommit) (cells : List ℤ) (judgement : Judgement) (walk : WalkState) (verdict : Verdict) → Knows t key n → cells ≡ (state_at key n).cells →
-    judgement_of key n ≡ judgement → Tells t.program.now t.plan.now cells judgement (Some walk) → verdict ≡ Clean (walk_carries walk) →
-    u.cells ≡ Some (clear_cells t.kept.locals walk.cells) → u.left ≡ t.left - walk.steps → u.kept ≡ kept_behind walk t.kept → IsSame u t → Gives u key n verdict
+    judgement_of key n ≡ judgement → Tells t.court.program.now t.court.plan.now cells judgement (Some walk) → verdict ≡ Clean (walk_carries walk) →
+    u.cells ≡ Some (clear_cells t.kept.locals walk.cells) → u.court.limit ≡ t.court.limit - walk.steps → u.kept ≡ kept_behind walk t.kept → IsSame u t → Gives u key n verdict
 agreed_gives key n t u cells judgement walk verdict at here same (agreed, is, carries, memory, stages) verdict_is cells_are left_is kept_is kept =
     let state = state_at key n in
     let told = same ∙ is in
@@ -78,11 +78,11 @@ agreed_gives key n t u cells judgement walk verdict at here same (agreed, is, ca
     let after = memory ∙ ap (applied agreed.effects) here in
     let steps : walk.steps ≡ length agreed.effects = ap (λ (c : Carried). c.steps) carries in
     let stores : walk.stores ≡ stores_by agreed.effects = ap (λ (c : Carried). c.stores) carries in
-    let left : u.left ≡ key.fuel - (state.steps + length agreed.effects) = omega (arith, left_is, steps, at.left) in
+    let left : u.court.limit ≡ key.fuel - (state.steps + length agreed.effects) = omega (arith, left_is, steps, at.left) in
     let vars = key.program.vars in
     let r = key.plan.region in
     let views = (λ i. map (clear_cells (at.kept i).locals) (kept_by (stages i) (stores i) (at.kept i).views))
-    ∙ map_cleared r vars (kept_by (store_stages t.program.now t.plan.now agreed.sites agreed.effects) (stores_by agreed.effects) (kept_at key n))
+    ∙ map_cleared r vars (kept_by (store_stages t.court.program.now t.court.plan.now agreed.sites agreed.effects) (stores_by agreed.effects) (kept_at key n))
     ∙ ap (map (clear_locals r vars)) ((λ i. kept_by (store_stages (at.program i) (at.plan i) agreed.sites agreed.effects) (stores_by agreed.effects) (kept_at key n)) ∙ kept_same key.program key.plan agreed.sites agreed.effects (kept_at key n))
     ∙ ap (λ (j : Judgement). next_kept key.program key.plan j (kept_at key n)) (sym told) in
     let knows : walk.closing ≡ false → Knows u key (suc n) = λ going. record {
@@ -108,10 +108,10 @@ agreed_gives key n t u cells judgement walk verdict at here same (agreed, is, ca
     subst (λ (v : Verdict). Gives u key n v) (sym verdict_is) given
 
 -- an iteration that isn't clean is executed again for its cause
-pub refused_gives : (key : EpochKey) (n : ℕ) (t u : TryCommit) (cells : List ℤ) (told : ReportedCause) (verdict : Verdict) → fits_plan t.program.now t.plan.now ≡ true → Knows t key n → cells ≡ (state_at key n).cells → judgement_of key n ≡ UncleanJudgement →
-    Some told ≡ reported_if (cause_walk t.program.now t.plan.now t.input.now t.left (watch_of t.plan.now t.kept.views) (turn_text t.program.now t.plan.now) cells) → verdict ≡ Unclean told → Gives u key n verdict
+pub refused_gives : (key : EpochKey) (n : ℕ) (t u : TryCommit) (cells : List ℤ) (told : ReportedCause) (verdict : Verdict) → fits_plan t.court.program.now t.court.plan.now ≡ true → Knows t key n → cells ≡ (state_at key n).cells → judgement_of key n ≡ UncleanJudgement →
+    Some told ≡ reported_if (cause_walk t.court.program.now t.court.plan.now t.input.now t.court.limit (watch_of t.court.plan.now t.kept.views) (turn_text t.court.program.now t.court.plan.now) cells) → verdict ≡ Unclean told → Gives u key n verdict
 refused_gives key n t u cells told verdict fits at here unclean told_is verdict_is =
-    let same : cause_walk t.program.now t.plan.now t.input.now t.left (watch_of t.plan.now t.kept.views) (turn_text t.program.now t.plan.now) cells ≡ found_in key n =
+    let same : cause_walk t.court.program.now t.court.plan.now t.input.now t.court.limit (watch_of t.court.plan.now t.kept.views) (turn_text t.court.program.now t.court.plan.now) cells ≡ found_in key n =
     (λ i. cause_walk (at.program i) (at.plan i) (at.input i) (at.left i) (watch_of (at.plan i) (at.kept i).views) (turn_text (at.program i) (at.plan i)) (here i)) in
     let law = finds_in_epochs {p = key.program} {plan = key.plan} (λ k program_is plan_is. accepted k.program k.plan ((λ i. fits_plan (program_is i) (plan_is i)) ∙ (λ i. fits_plan (sym at.program i) (sym at.plan i)) ∙ fits)) key refl refl at.sound n at.gone unclean in
     let reported_is : told ≡ reported (cause_since key.program key.plan (epoch_run key) 0 n) = same_Some told _ (told_is ∙ ap reported_if (same ∙ law)) in

@@ -13,10 +13,10 @@ use Rattle.dp_judge.specs.declared.verdict.Verdict.TheVariants.{Clean, Unclean, 
 
 -- The epoch's n-th iteration comes next, and all before it go on: the steps, and what is kept, are those after the iterations before it.
 pub record Knows (t : TryCommit) (key : EpochKey) (n : ℕ) : Type 0 where
-  pub program : t.program.now ≡ key.program
-  pub plan : t.plan.now ≡ key.plan
+  pub program : t.court.program.now ≡ key.program
+  pub plan : t.court.plan.now ≡ key.plan
   pub input : t.input.now ≡ key.input
-  pub left : t.left ≡ key.fuel - (state_at key n).steps
+  pub left : t.court.limit ≡ key.fuel - (state_at key n).steps
   pub kept : t.kept ≡ record { views = kept_at key n; locals = local_cells key.plan.region key.program.vars }
   pub sound : IsSound key
   pub gone : (m : ℕ) → m < n → goes_on (verdict_at key m) ≡ true
@@ -49,6 +49,6 @@ Gives t key n verdict = OrWanting (verdict_at key n) (decided verdict) × Judges
 
 -- the same program, plan and input
 pub record IsSame (t u : TryCommit) : Type 0 where
-  pub program : t.program.now ≡ u.program.now
-  pub plan : t.plan.now ≡ u.plan.now
+  pub program : t.court.program.now ≡ u.court.program.now
+  pub plan : t.court.plan.now ≡ u.court.plan.now
   pub input : t.input.now ≡ u.input.now

@@ -14,5 +14,6 @@ mod verdict;
 mod walking;
 
 pub use clean::Clean;
+pub use entries::make_entries;
 pub use trying::TryCommit;
 pub use verdict::Verdict;

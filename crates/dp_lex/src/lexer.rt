@@ -65,6 +65,14 @@ impl<'t> Lexer<'t> {
         Ok(Some(token))
     }
 
+    /// The place behind the last token, counted in bytes.
+    pub fn place(&self) -> usize
+        ensures value { result ≡ self.now.place }
+        ensures within { result ≤ length self.now.text }
+    {
+        self.place
+    }
+
     /// Goes past white space and comments.
     fn skip(&mut self)
         ensures text { self.new.text ≡ self.old.text }

@@ -1,5 +1,9 @@
 pub mod Lengths
 pub mod Exits
 pub mod Accepted
+pub mod ReadStarts
 pub mod Given
 pub mod FewWords
+pub mod RawNumbers
+pub mod ResolvedNumbers
+pub mod AtHome

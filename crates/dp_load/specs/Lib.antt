@@ -8,6 +8,7 @@ pub mod Inputs
 pub mod Plans
 pub mod Profiles
 pub mod ReadPlans
+pub mod AtHome
 pub mod Loading
 pub mod Texts
 pub mod Batches

@@ -12,7 +12,9 @@ mod texts;
 
 pub use batch::{BatchTexts, Listed, load_batch, load_inputs};
 pub use last::{load_checkpoint, load_log};
-pub use law::read_plans_are_ready;
+pub use law::{
+    read_numbers_fit, read_plans_are_ready, read_programs_are_at_home, read_programs_start_clear,
+};
 pub use load::{Loaded, load_plans, load_program};
 pub use planning::{automatic_plans, load_least};
 pub use program::read_program;

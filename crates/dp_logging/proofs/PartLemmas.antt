@@ -9,9 +9,12 @@ use Rattle.dp_plan.specs.declared.Plan.{Plan}
 use Rattle.dp_plan.specs.GivenPlans.{region_of}
 use Rattle.dp_meaning.specs.MachineState.{MachineState}
 use Rattle.dp_log.specs.LogText.{closed_line, iterations_bytes, region_bytes, region_line, regions_bytes, was_left}
+use Rattle.dp_prepared.specs.Planned.{Prepared}
 use Rattle.dp_run.specs.Given.{AreNext}
+use Rattle.dp_run.specs.Prepared.{AreOf}
 use Rattle.dp_run.specs.Stretches.{Between, Leads, Over}
 use Rattle.dp_run.proofs.Ending.{numbers_behind}
+use Rattle.dp_run.proofs.PlansIn.{of_at}
 use Rattle.dp_logging.specs.Parts.{WentBy}
 
 module _ (p : Program) (run : Run) where
@@ -55,3 +58,8 @@ module _ (p : Program) (plans : List Plan) (input : List ℤ) (fuel : ℕ) (run 
   -- .. within the machine's own fuel
   pub at_own : (k : ℕ) (m : MachineState) → Between p input fuel run k m → Between p input m.fuel run k m
   at_own k m b = subst (λ (f : ℕ). Between p input f run k m) (sym b.behind.fuel_is) b
+
+-- what is so of the lines of a region of the program's is so of the program's lines
+pub lines_there : (P : List ℕ → Type 0) (p : Program) (regions : List Prepared) (k : ℕ) (r : Prepared) → AreOf p regions → slice_get regions k ≡ Some r → (input : List ℤ) (m : MachineState) →
+    ((run : Run) (n : ℕ) → r.plan.region ≡ suc n → Between r.program input m.fuel run n m → P (region_bytes r.program r.plan run)) → (run : Run) (n : ℕ) → r.plan.region ≡ suc n → Between p input m.fuel run n m → P (region_bytes p r.plan run)
+lines_there P p regions k r are is input m = subst (λ (q : Program). (run : Run) (n : ℕ) → r.plan.region ≡ suc n → Between q input m.fuel run n m → P (region_bytes q r.plan run)) (of_at p regions k r are is)

@@ -1,8 +1,9 @@
 //! The parts of `main`, one after the other.
-ghost use Rattle.std.specs.Prelude.{◌≡◌, ◌<◌, ◌≤◌, ◌-◌, ◌^◌, ◌++◌, ℕ, length, IfOk};
+ghost use Rattle.std.specs.Prelude.{◌<◌, ◌≤◌, ◌-◌, ◌^◌, ◌++◌, ℕ, IfOk};
 ghost use Rattle.dp_tree.specs.Trace.{Run};
 ghost use Rattle.dp_log.specs.LogText.{regions_bytes};
 ghost use Rattle.dp_edge.specs.Writing.{FaultsAfter};
+ghost use Rattle.dp_run.specs.Prepared.{AreOf, plans_in};
 ghost use Rattle.dp_run.specs.Stretches.{Ahead};
 ghost use Rattle.dp_logging.specs.Parts.{WentBy};
 ghost use Rattle.dp_logging.specs.Pouring.{Streams};
@@ -13,8 +14,7 @@ use dp_base::{End, Row};
 use dp_edge::{Sink, WriteFail};
 use dp_epoch::CrewSize;
 use dp_meaning::Machine;
-use dp_plan::Plan;
-use dp_tree::Program;
+use dp_prepared::PreparedRegion;
 use std::alloc::Global;
 use std::sync::Wait;
 use std::time::Clock;
@@ -24,30 +24,28 @@ use std::time::Clock;
 pub(crate) fn log_parts<'p, R: Wait + Clock, K: Sink>(
     rt: &R,
     alloc: Global,
-    program: &'p Program,
-    plans: &[Plan],
+    regions: &[PreparedRegion<'_>],
     input: &'p [i64],
     mut machine: Machine<'p>,
-    crew: CrewSize,
+    size: CrewSize,
     out: &mut Row<u8>,
     sink: &mut K,
 ) -> Result<(Machine<'p>, Option<End>), WriteFail>
-    requires ahead { (run : Run) × (n : ℕ) × Ahead program.now plans.now input.now machine.fuel run n machine }
-    requires words { length input.now ≤ 65536 }
+    requires ahead { (run : Run) × (n : ℕ) × Ahead machine.program (plans_in regions.now) input.now machine.fuel run n machine }
+    requires regions { AreOf machine.program regions.now }
     requires fuel { machine.fuel ≤ 1000000000 }
-    requires crew { (1 ≤ crew.workers) × (crew.workers ≤ 8) × (1 ≤ crew.lane) × (crew.lane ≤ 64) }
     requires sink { K.faults sink.old < 2 ^ 64 - 1 }
     ensures faults { FaultsAfter result (K.faults sink.old) (K.faults sink.new) }
-    ensures ok { IfOk result (λ ran. (run : Run) (n : ℕ) → Ahead program.now plans.now input.now machine.entry.fuel run n machine.entry →
-        WentBy program.now plans.now input.now machine.entry.fuel run n ran.0 ran.1) }
-    ensures streams { (run : Run) (n : ℕ) → Ahead program.now plans.now input.now machine.entry.fuel run n machine.entry →
-        Streams result (out.old ++ regions_bytes program.now plans.now run) (λ _. out.new) (K.written sink.old) (K.written sink.new) }
+    ensures ok { IfOk result (λ ran. (run : Run) (n : ℕ) → Ahead machine.entry.program (plans_in regions.now) input.now machine.entry.fuel run n machine.entry →
+        WentBy machine.entry.program (plans_in regions.now) input.now machine.entry.fuel run n ran.0 ran.1) }
+    ensures streams { (run : Run) (n : ℕ) → Ahead machine.entry.program (plans_in regions.now) input.now machine.entry.fuel run n machine.entry →
+        Streams result (out.old ++ regions_bytes machine.entry.program (plans_in regions.now) run) (λ _. out.new) (K.written sink.old) (K.written sink.new) }
 {
     if let Some(end) = skip_plain(alloc, &mut machine)? {
         return Ok((machine, Some(end)));
     }
-    for plan in plans {
-        let (next, end) = log_stretch(rt, alloc, program, plan, input, machine, crew, out, sink)?;
+    for region in regions {
+        let (next, end) = log_stretch(rt, alloc, region, input, machine, size, out, sink)?;
         machine = next;
         if let Some(end) = end {
             return Ok((machine, Some(end)));

@@ -1,9 +1,8 @@
 //! A whole run with its log.
-ghost use Rattle.std.specs.Prelude.{◌≡◌, ◌<◌, ◌≤◌, ◌-◌, ◌^◌, length, IfOk, OnErr};
+ghost use Rattle.std.specs.Prelude.{◌≡◌, ◌<◌, ◌≤◌, ◌-◌, ◌^◌, IfOk, OnErr};
 ghost use Rattle.dp_edge.specs.Sink.{appended};
 ghost use Rattle.dp_edge.specs.Writing.{FaultsAfter, WritesFront};
 ghost use Rattle.dp_log.specs.LogText.{log_bytes};
-ghost use Rattle.dp_run.specs.Given.{AreGiven};
 ghost use Rattle.dp_run.specs.RunText.{source_run};
 
 use crate::parts::log_parts;
@@ -13,10 +12,8 @@ use dp_edge::{Sink, WriteFail};
 use dp_epoch::CrewSize;
 use dp_log::put_first;
 use dp_meaning::Machine;
-use dp_plan::Plan;
 use dp_report::put_end;
-use dp_run::end_of;
-use dp_tree::Program;
+use dp_run::{PreparedProgram, end_of};
 use std::alloc::Global;
 use std::sync::Wait;
 use std::time::Clock;
@@ -27,7 +24,7 @@ pub struct LogOptions {
     /// The greatest number of steps.
     pub fuel: u64,
     /// The workers of a replicated stage, and the places of a lane.
-    pub crew: CrewSize,
+    pub size: CrewSize,
 }
 
 /// Runs the program to its end or to the end of its fuel, each region under its plan, and writes the log of the run.
@@ -36,33 +33,28 @@ pub struct LogOptions {
 pub fn log_program<R: Wait + Clock, K: Sink>(
     rt: &R,
     alloc: Global,
-    program: &Program,
-    plans: &[Plan],
+    prepared: &PreparedProgram<'_>,
     input: &[i64],
     options: LogOptions,
     sink: &mut K,
 ) -> Result<End, WriteFail>
-    requires given { AreGiven program.now plans.now }
-    requires words { length input.now ≤ 65536 }
     requires fuel { options.fuel ≤ 1000000000 }
-    requires crew { (1 ≤ options.crew.workers) × (options.crew.workers ≤ 8) × (1 ≤ options.crew.lane) × (options.crew.lane ≤ 64) }
     requires sink { K.faults sink.old < 2 ^ 64 - 1 }
     ensures faults { FaultsAfter result (K.faults sink.old) (K.faults sink.new) }
-    ensures ok { let run = source_run program.now input.now options.fuel in
-        IfOk result (λ end. (end ≡ run.end) × (K.written sink.new ≡ appended (log_bytes program.now plans.now run) (K.written sink.old))) }
-    ensures err { OnErr result (WritesFront (log_bytes program.now plans.now (source_run program.now input.now options.fuel)) (K.written sink.old) (K.written sink.new)) }
+    ensures ok { let run = source_run prepared.now.program input.now options.fuel in
+        IfOk result (λ end. (end ≡ run.end) × (K.written sink.new ≡ appended (log_bytes prepared.now.program prepared.now.plans run) (K.written sink.old))) }
+    ensures err { OnErr result (WritesFront (log_bytes prepared.now.program prepared.now.plans (source_run prepared.now.program input.now options.fuel)) (K.written sink.old) (K.written sink.new)) }
 {
     let mut out = Row::new(alloc);
     put_first(&mut out)?;
-    let machine = Machine::new(alloc, program, input, options.fuel)?;
+    let machine = Machine::new(alloc, prepared.program(), input, options.fuel)?;
     let (_machine, end) = log_parts(
         rt,
         alloc,
-        program,
-        plans,
+        prepared.regions(),
         input,
         machine,
-        options.crew,
+        options.size,
         &mut out,
         sink,
     )?;

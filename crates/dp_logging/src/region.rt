@@ -1,12 +1,12 @@
 //! The log of a region.
-ghost use Rattle.std.specs.Prelude.{◌≡◌, ◌<◌, ◌≤◌, ◌-◌, ◌^◌, ◌++◌, List, ℤ, ℕ, length, None, IfOk};
+ghost use Rattle.std.specs.Prelude.{◌≡◌, ◌<◌, ◌-◌, ◌^◌, ◌++◌, List, ℤ, ℕ, None, IfOk};
 ghost use Rattle.dp_tree.specs.declared.Program.{Program as Tree};
 ghost use Rattle.dp_plan.specs.declared.Plan.{Plan as PlanValue};
 ghost use Rattle.dp_log.specs.LogText.{region_bytes};
 ghost use Rattle.dp_meaning.specs.MachineState.{MachineState};
 ghost use Rattle.dp_edge.specs.Writing.{FaultsAfter};
 ghost use Rattle.dp_epoch.specs.Applied.{left_of};
-ghost use Rattle.dp_epoch.specs.RegionRun.{IsPlanned, RegionRan, RegionStart, region_run};
+ghost use Rattle.dp_epoch.specs.RegionRun.{RegionRan, region_run};
 ghost use Rattle.dp_audit.specs.Runs.{Stands};
 ghost use Rattle.dp_logging.specs.Lines.{left_lines, left_then};
 ghost use Rattle.dp_logging.specs.Logged.{Logged};
@@ -17,51 +17,15 @@ use crate::pouring::pour_if_many;
 use dp_audit::Runner;
 use dp_base::Row;
 use dp_edge::{Sink, WriteFail};
-use dp_epoch::{CrewSize, RegionEnd};
+use dp_epoch::RegionEnd;
 use dp_meaning::Machine;
-use dp_pipeline::stage_programs;
-use dp_plan::Plan;
-use dp_stop::Stop;
-use dp_tree::Program;
-use std::alloc::Global;
 use std::sync::Wait;
 use std::time::Clock;
 
-/// Runs the plan's region, which comes next, and lets its lines wait or writes them.
-pub(crate) fn log_region<'p, R: Wait + Clock, K: Sink>(
+/// Brings the region to its end, and lets its lines wait or writes them.
+pub(crate) fn log_runner<'s, 'q, 'p, R: Wait + Clock, K: Sink>(
     rt: &R,
-    alloc: Global,
-    p: &'p Program,
-    plan: &Plan,
-    input: &'p [i64],
-    machine: Machine<'p>,
-    crew: CrewSize,
-    out: &mut Row<u8>,
-    sink: &mut K,
-) -> Result<(Machine<'p>, RegionEnd), WriteFail>
-    requires planned { IsPlanned p.now plan.now }
-    requires start { RegionStart p.now plan.now input.now machine }
-    requires words { length input.now ≤ 65536 }
-    requires fuel { machine.fuel ≤ 1000000000 }
-    requires crew { (1 ≤ crew.workers) × (crew.workers ≤ 8) × (1 ≤ crew.lane) × (crew.lane ≤ 64) }
-    requires sink { K.faults sink.old < 2 ^ 64 - 1 }
-    ensures faults { FaultsAfter result (K.faults sink.old) (K.faults sink.new) }
-    ensures ran { IfOk result (λ ran. RegionRan p.now plan.now machine.entry ran.0 ran.1) }
-    ensures streams { Streams result (out.old ++ region_bytes p.now plan.now (region_run machine.entry)) (λ _. out.new) (K.written sink.old) (K.written sink.new) }
-{
-    let (flag, setter) = Stop::new(alloc)?;
-    let made = stage_programs(alloc, p, plan)?;
-    let programs = made.as_slice();
-    let runner = Runner::begin(
-        alloc, p, plan, programs, input, machine, crew, &flag, setter,
-    )?;
-    log_runner(rt, runner, plan.region, out, sink)
-}
-
-/// Brings the region to its end.
-fn log_runner<'s, 'p, R: Wait + Clock, K: Sink>(
-    rt: &R,
-    mut runner: Runner<'s, 'p>,
+    mut runner: Runner<'s, 'q, 'p>,
     region: u32,
     out: &mut Row<u8>,
     sink: &mut K,
@@ -85,9 +49,9 @@ where
 }
 
 /// Makes the next iteration. Answers the region's end if it comes with it.
-fn log_next<'s, 'p, R: Wait + Clock, K: Sink>(
+fn log_next<'s, 'q, 'p, R: Wait + Clock, K: Sink>(
     rt: &R,
-    runner: &mut Runner<'s, 'p>,
+    runner: &mut Runner<'s, 'q, 'p>,
     region: u32,
     out: &mut Row<u8>,
     sink: &mut K,

@@ -3,18 +3,15 @@ ghost use Rattle.std.specs.Prelude.{◌≡◌, ◌<◌, ◌⊎◌, ℕ, IfOk, ma
 ghost use Rattle.dp_plan.specs.Access.{first_site};
 ghost use Rattle.dp_semantics.specs.Fits.{fits_plan};
 ghost use Rattle.dp_code.specs.Code.{stage_code};
-ghost use Rattle.dp_plan.specs.CheckedTable.{IsTabled};
 ghost use Rattle.dp_turn.specs.Engine.{notes_of, known};
+ghost use Rattle.dp_turn.specs.Prepared.{IsStaged};
 ghost use Rattle.dp_packet.specs.Packet.{packet_of};
 
 use crate::Kept;
 use crate::going::{from_cells, from_packet, from_versioned, kept_at_base};
 use dp_base::{Boxed, Cells, NoMemory};
-use dp_code::StageProgram;
 use dp_packet::{Packet, PacketStatus};
-use dp_plan::Plan;
-use dp_tree::Program;
-use dp_turn::{Frame, Ready, Rows, make_ready};
+use dp_turn::{Frame, Ready, Rows};
 use std::alloc::Global;
 use std::mem;
 
@@ -28,7 +25,7 @@ pub struct StageMachine<'p> {
     rows: Rows,
     ghost ops: { ready.code.ops.now ≡ frame.code.now },
     ghost input: { ready.code.input.now ≡ frame.input.now },
-    ghost notes: { map known ready.notes ≡ notes_of frame.program.now frame.plan.now frame.code.now },
+    ghost notes: { map known ready.notes.now ≡ notes_of frame.program.now frame.plan.now frame.code.now },
     ghost first: { frame.first ≡ first_site frame.program.now frame.plan.now },
     ghost code: { frame.code.now ≡ stage_code frame.program.now frame.plan.now stage },
     ghost fits: { fits_plan frame.program.now frame.plan.now ≡ true },
@@ -48,17 +45,6 @@ impl<'p> Drop for StageMachine<'p> {
     }
 }
 
-/// The first site of the plan's region.
-fn first_site_of(p: &Program, plan: &Plan) -> u32
-    ensures { result ≡ first_site p.now plan.now }
-{
-    let place = (plan.region as usize).saturating_sub(1);
-    match p.regions.get(place) {
-        Some(info) => info.first.0,
-        None => 0,
-    }
-}
-
 impl<'p> StageMachine<'p> {
     ghost use Rattle.dp_semantics.specs.Packets as packets;
     ghost use Rattle.dp_packet.specs.declared.PacketStatus.TheVariants as state;
@@ -66,32 +52,20 @@ impl<'p> StageMachine<'p> {
     ghost use Rattle.dp_packet.specs.declared.VoidWhy.{VoidWhy};
     ghost use Rattle.dp_machine.specs.Machine.{Stands, Passes};
 
-    /// The machine of a stage where an epoch begins.
+    /// The machine of a stage where an epoch begins, over its code, which is ready.
     pub fn new(
         alloc: Global,
-        p: &'p Program,
-        plan: &'p Plan,
-        code: &'p StageProgram,
+        frame: Frame<'p>,
+        ready: Ready<'p>,
         stage: u32,
         base: &Cells,
-        input: &'p [i64],
     ) -> Result<StageMachine<'p>, NoMemory>
-        requires tabled { IsTabled p.now plan.now }
-        requires fits { fits_plan p.now plan.now ≡ true }
-        requires code { code.now.ops ≡ stage_code p.now plan.now stage }
+        requires staged { IsStaged frame ready stage }
         requires numbered { 0 < stage }
-        ensures begins { IfOk result (λ m. Stands m (record { program = p.now; plan = plan.now; input = input.now; base = base.now }) 0) }
+        ensures begins { IfOk result (λ m. Stands m (record { program = frame.entry.program.now; plan = frame.entry.plan.now; input = frame.entry.input.now; base = base.now }) 0) }
         ensures stage { IfOk result (λ m. m.stage ≡ stage) }
     {
-        let kept = kept_at_base(alloc, plan, stage, base)?;
-        let frame = Frame {
-            program: p,
-            plan,
-            input,
-            code: code.ops.as_slice(),
-            first: first_site_of(p, plan),
-        };
-        let ready = make_ready(alloc, frame)?;
+        let kept = kept_at_base(alloc, frame.plan, stage, base)?;
         Ok(StageMachine {
             frame,
             ready,

@@ -1,5 +1,5 @@
 -- Where an epoch begins, its units stand at its first item.
-use Rattle.std.proofs.Common.{arith, ◌≡◌, ◌≤◌, ◌^◌, ℕ, zero, suc, ◌+◌, ◌-◌, false, List, [], ◌∷◌, ◌++◌, ℤ, length, replicate, Some, None, sym, ap, ◌∙◌, subst, refl}
+use Rattle.std.proofs.Common.{arith, ◌≡◌, ◌≤◌, ◌^◌, ℕ, zero, suc, ◌+◌, ◌-◌, false, List, [], ◌∷◌, ◌++◌, ℤ, length, replicate, Some, None, Result, IfOk, sym, ap, ◌∙◌, subst, refl}
 use Rattle.dp_tree.specs.declared.Program.{Program}
 use Rattle.dp_plan.specs.declared.Plan.{Plan}
 use Rattle.dp_plan.specs.Each.{Each}
@@ -15,8 +15,6 @@ use Rattle.dp_judge.specs.declared.trying.TryCommit.{TryCommit}
 use Rattle.dp_judge.specs.Standing.{Judges}
 use Rattle.dp_pipeline.specs.declared.keys.EpochKey.{EpochKey as Held}
 use Rattle.dp_pipeline.specs.declared.keys.LaneKey.{LaneKey}
-use Rattle.dp_pipeline.specs.declared.setting.Setting.{Setting}
-use Rattle.dp_pipeline.specs.steps.Setting.{IsKeyIn}
 use Rattle.dp_pipeline.specs.declared.passage.Passage.{Passage}
 use Rattle.dp_pipeline.specs.declared.judged.Judged.{Judged}
 use Rattle.dp_pipeline.specs.declared.judging.Judging.{Judging}
@@ -32,15 +30,15 @@ use Rattle.dp_lane.specs.Views.{sent_by}
 use Rattle.dp_pipeline.specs.Standing.{Gives, Gets, SendsTo, IsReady, IsHolding, MayJudge, HasJudged, source_facts, target_facts, target_ended, sent_facts, ended_by}
 use Rattle.dp_relay.specs.Works.{HasSentAll}
 
--- a machine of the setting stands where the key's epoch begins
-pub stands_in : (m : StageMachine) (x : Setting) (key : Held) → IsKeyIn x key
-    → Stands m (record { program = x.p.now; plan = x.plan.now; input = x.input.now; base = key.base }) 0 → Stands m (epoch_of (key_of key)) 0
-stands_in m x key k w =
-    subst (λ (e : Program × Plan × List ℤ). Stands m (record { program = e.0; plan = e.1; input = e.2; base = key.base }) 0) (λ i. (sym k.program i, sym k.plan i, sym k.input i)) w
+-- a machine of the epoch's program, plan and input stands where the epoch begins
+pub stands_in : {E : Type 0} (made : Result StageMachine E) (p : Program) (plan : Plan) (input : List ℤ) (key : Held) → key.p.now ≡ p → key.plan.now ≡ plan → key.input.now ≡ input
+    → IfOk made (λ (m : StageMachine). Stands m (record { program = p; plan = plan; input = input; base = key.base }) 0) → IfOk made (λ (m : StageMachine). Stands m (epoch_of (key_of key)) 0)
+stands_in made p plan input key program_is plan_is input_is w =
+    subst (λ (e : Program × Plan × List ℤ). IfOk made (λ (m : StageMachine). Stands m (record { program = e.0; plan = e.1; input = e.2; base = key.base }) 0)) (λ i. (sym program_is i, sym plan_is i, sym input_is i)) w
 
 -- the number of the stage before the judging's
-pub stages_before : (x : Setting) (key : Held) (stage : ℕ) → IsKeyIn x key → stage ≡ length x.plan.now.stages + 1 → stage - 1 ≡ length key.plan.now.stages
-stages_before x key stage k is = let e : stage - 1 ≡ length x.plan.now.stages = omega (arith, is) in e ∙ ap (λ (plan : Plan). length plan.stages) (sym k.plan)
+pub stages_before : (plan : Plan) (key : Held) (stage : ℕ) → key.plan.now ≡ plan → stage ≡ length plan.stages + 1 → stage - 1 ≡ length key.plan.now.stages
+stages_before plan key stage same is = let e : stage - 1 ≡ length plan.stages = omega (arith, is) in e ∙ ap (λ (x : Plan). length x.stages) (sym same)
 
 -- a unit that takes its packets in order begins with the first
 pub passage_begins : (stage : Staged) (source : Source) (target : Target) (key : EpochKey) (s : ℕ) → RunsAt stage key s (Some 0)

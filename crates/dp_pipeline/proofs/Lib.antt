@@ -2,10 +2,10 @@ pub mod Beginning
 pub mod Coming
 pub mod Passing
 pub mod Seated
+pub mod Settings
 pub mod Staging
 pub mod Supplied
 pub mod Ticketed
 pub mod VerdictsCome
-pub mod ProgramLists
 pub mod UnitCounts
 pub mod rows

@@ -33,6 +33,11 @@ abbrev pub Staffed : ℕ → Plan → ℕ → ℕ → Type 0
 Staffed workers plan stage count = count + unit_count_all workers (drop (stage - 1) plan.stages) ≡ unit_count_all workers plan.stages
 
 module _ (workers : ℕ) (plan : Plan) where
+  -- none yet, before the first stage
+  pub none_staffed : (s count : ℕ) → s ≡ 1 → count ≡ 0 → Staffed workers plan s count
+  none_staffed s count is none =
+      let all : unit_count_all workers (drop (s - 1) plan.stages) ≡ unit_count_all workers plan.stages = ap (λ (j : ℕ). unit_count_all workers (drop (j - 1) plan.stages)) is in omega (arith, all, none)
+
   -- a unit more, that of a stage which isn't replicated
   pub stage_more : (s count : ℕ) → 0 < s → s ≤ length plan.stages → is_replicated plan s ≡ false → Staffed workers plan s count → Staffed workers plan (s + 1) (count + 1)
   stage_more zero count low high e was = absurd (omega (arith, low))

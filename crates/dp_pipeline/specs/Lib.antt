@@ -1,9 +1,9 @@
 pub mod Keys
+pub mod Begin
 pub mod Carried
 pub mod Seats
 pub mod Standing
 pub mod Staging
-pub mod Programs
 pub mod UnitCount
 pub mod Coming
 pub mod steps

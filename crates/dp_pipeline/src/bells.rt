@@ -1,19 +1,44 @@
-//! What wakes the threads of an epoch.
-ghost use Rattle.std.specs.Prelude.{◌≡◌, suc, length, IfOk};
+//! What wakes the threads of an epoch's units.
+ghost use Rattle.std.specs.Prelude.{◌≡◌, ◌+◌, suc, length, IfOk, OnOk};
+ghost use Rattle.dp_pipeline.specs.UnitCount.{unit_count, unit_count_of};
 
-use crate::unit::Unit;
+use crate::size::CrewSize;
 use dp_base::NoMemory;
+use dp_plan::{Plan, StageKind};
 use dp_waiting::Bell;
 use std::alloc::Global;
 
-/// A bell for the thread of each of these units, in their order, and one for the caller behind them.
-pub fn bells_of(alloc: Global, units: &[Unit<'_>]) -> Result<Vec<Bell>, NoMemory>
-    ensures { IfOk result (λ bells. length bells.items ≡ suc (length units.now)) }
+/// A bell for the thread of each unit that an epoch of the plan has, in the order of the units, and one for the caller behind
+/// them.
+pub fn bells_for(alloc: Global, plan: &Plan, size: CrewSize) -> Result<Vec<Bell>, NoMemory>
+    ensures { IfOk result (λ bells. length bells.items ≡ suc (unit_count size.workers plan.now)) }
 {
-    let mut bells = Vec::with_capacity(alloc, units.len())?;
-    for unit in units {
-        bells.push(Bell::new(unit.is_worker()))?;
+    let mut bells = Vec::new(alloc);
+    for kind in plan.stages.as_slice() {
+        add_bells(&mut bells, *kind, size.workers)?;
     }
     bells.push(Bell::new(false))?;
+    bells.push(Bell::new(false))?;
     Ok(bells)
+}
+
+/// Adds the bells of a stage's units.
+fn add_bells(bells: &mut Vec<Bell>, kind: StageKind, workers: u32) -> Result<(), NoMemory>
+    ensures { OnOk result (length bells.new.items ≡ length bells.old.items + unit_count_of workers kind) }
+{
+    match kind {
+        StageKind::Seq => bells.push(Bell::new(false))?,
+        StageKind::Par => add_workers_bells(bells, workers)?,
+    }
+    Ok(())
+}
+
+/// Adds the bells of so many workers.
+fn add_workers_bells(bells: &mut Vec<Bell>, workers: u32) -> Result<(), NoMemory>
+    ensures { OnOk result (length bells.new.items ≡ length bells.old.items + workers) }
+{
+    for _ in 0..workers {
+        bells.push(Bell::new(true))?;
+    }
+    Ok(())
 }

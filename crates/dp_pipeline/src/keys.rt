@@ -1,12 +1,27 @@
 //! What the packets and the verdicts of an epoch depend on.
 ghost use Rattle.std.specs.Prelude.{◌≡◌, IfOk};
+ghost use Rattle.dp_prepared.specs.Planned.{IsPlanned};
+ghost use Rattle.dp_pipeline.specs.Begin.{key_at};
+ghost use Rattle.dp_pipeline.specs.Keys.{key_of};
 
 use dp_base::{Cells, NoMemory};
 use dp_plan::Plan;
+use dp_prepared::PreparedRegion;
 use dp_tree::Program;
 
+/// Where an epoch of a region begins.
+#[derive(Clone, Copy)]
+pub struct Begin<'b> {
+    /// Its first iteration.
+    pub first: u64,
+    /// The memory before it.
+    pub base: &'b Cells,
+    /// The steps made by then.
+    pub steps: u64,
+    pub fuel: u64,
+}
+
 /// An epoch: its first iteration, the memory in which it begins, the steps made by then, and the fuel.
-#[derive(Drop)]
 pub struct EpochKey<'p> {
     pub p: &'p Program,
     pub plan: &'p Plan,
@@ -17,35 +32,55 @@ pub struct EpochKey<'p> {
     pub fuel: u64,
 }
 
-impl<'p> EpochKey<'p> {
-    /// The key of the epoch that begins so, with a memory of its own.
-    pub(crate) fn copied(
-        p: &'p Program,
-        plan: &'p Plan,
-        input: &'p [i64],
-        first: u64,
-        base: &Cells,
-        steps: u64,
-        fuel: u64,
-    ) -> Result<EpochKey<'p>, NoMemory>
-        ensures { IfOk result (λ key. key ≡ record { p = p.entry; plan = plan.entry; input = input.entry; first = first; base = base.now; steps = steps; fuel = fuel }) }
+// By hand, so that what holds a key doesn't prove again how all of it is dropped.
+impl<'p> Drop for EpochKey<'p> {
+    fn drop(self) {
+        let EpochKey {
+            p: _,
+            plan: _,
+            input: _,
+            first: _,
+            base: _,
+            steps: _,
+            fuel: _,
+        } = self;
+    }
+}
+
+impl<'u> EpochKey<'u> {
+    /// The key of the region's epoch that begins so, with a memory of its own.
+    pub(crate) fn copied<'p>(
+        region: &'u PreparedRegion<'p>,
+        input: &'u [i64],
+        begin: Begin<'_>,
+    ) -> Result<EpochKey<'u>, NoMemory>
+        ensures planned { IsPlanned region.now.program region.now.plan }
+        ensures program { IfOk result (λ key. key.p.now ≡ region.now.program) }
+        ensures plan { IfOk result (λ key. key.plan.now ≡ region.now.plan) }
+        ensures key { IfOk result (λ key. key_of key ≡ key_at region.now input.now begin.entry) }
     {
         Ok(EpochKey {
-            p,
-            plan,
+            p: region.program(),
+            plan: region.plan(),
             input,
-            first,
-            base: base.copy()?,
-            steps,
-            fuel,
+            first: begin.first,
+            base: begin.base.copy()?,
+            steps: begin.steps,
+            fuel: begin.fuel,
         })
     }
 }
 
 /// What the stage of this number sends in an epoch. A lane or a ring is made for it.
-#[derive(Drop)]
 pub struct LaneKey<'p> {
     pub epoch: EpochKey<'p>,
     /// From 1. The try-commit unit has the number after the last stage.
     pub stage: u32,
+}
+
+// By hand, as above.
+impl<'p> Drop for LaneKey<'p> {
+    fn drop(self) {
+        let LaneKey { epoch: _, stage: _ } = self;
+    }
 }

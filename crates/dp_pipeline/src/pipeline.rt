@@ -1,21 +1,18 @@
 //! The pipeline of an epoch.
 ghost use Rattle.std.specs.Prelude.{◌≡◌, ◌≤◌, length, IfOk};
-ghost use Rattle.dp_tree.specs.Inlined.{IsInlined};
-ghost use Rattle.dp_plan.specs.GivenPlans.{IsPlan};
 ghost use Rattle.dp_semantics.specs.EpochCauses.{IsSound};
-ghost use Rattle.dp_pipeline.specs.Programs.{ArePrograms};
+ghost use Rattle.dp_pipeline.specs.Begin.{key_at};
 ghost use Rattle.dp_pipeline.specs.UnitCount.{unit_count};
 
-use crate::keys::EpochKey;
-use crate::making::units_of;
+use crate::keys::{Begin, EpochKey, LaneKey};
+use crate::making::pipeline_of;
 use crate::setting::Setting;
+use crate::size::CrewSize;
 use crate::unit::Unit;
 use crate::verdicts::LaneVerdicts;
-use dp_base::{Cells, NoMemory, Row};
-use dp_code::StageProgram;
-use dp_plan::Plan;
-use dp_stop::{Stop, StopSetter};
-use dp_tree::Program;
+use dp_base::{NoMemory, Row};
+use dp_prepared::PreparedRegion;
+use dp_stop::StopSetter;
 use std::alloc::Global;
 
 /// The units of an epoch, none of which was polled, and the end on which their verdicts come.
@@ -26,41 +23,25 @@ pub struct Pipeline<'u> {
 }
 
 impl<'u> Pipeline<'u> {
-    /// Makes the pipeline of an epoch: where it begins, in which memory, after how many steps of the fuel,
-    /// how many units run a replicated stage, and how many items a lane or a side of a ring holds.
-    pub fn new(
+    /// Makes the pipeline of a region's epoch. Its units look at the flag of the setter.
+    pub fn new<'p>(
         alloc: Global,
-        p: &'u Program,
-        plan: &'u Plan,
+        region: &'u PreparedRegion<'p>,
         input: &'u [i64],
-        programs: &'u [StageProgram],
-        first: u64,
-        base: &Cells,
-        steps: u64,
-        fuel: u64,
-        workers: u32,
-        lane: u32,
-        stop: &'u Stop,
+        begin: Begin<'_>,
+        size: CrewSize,
         setter: &mut StopSetter,
     ) -> Result<Pipeline<'u>, NoMemory>
-        requires inlined { IsInlined p.now }
-        requires plan { IsPlan p.now plan.now }
-        requires programs { ArePrograms p.now plan.now programs.now }
-        requires words { length input.now ≤ 65536 }
-        requires sound { IsSound (record { program = p.now; plan = plan.now; input = input.now; first = first; base = base.now; steps = steps; fuel = fuel }) }
-        requires steps { steps ≤ fuel }
-        requires fuel { fuel ≤ 1000000000 }
-        requires workers { (1 ≤ workers) × (workers ≤ 8) }
-        requires lane { (1 ≤ lane) × (lane ≤ 64) }
-        requires setter { setter.old.flag ≡ stop.now }
-        ensures units { IfOk result (λ made. length made.units ≡ unit_count workers plan.now) }
+        requires sound { IsSound (key_at region.now input.now begin) }
+        requires steps { begin.steps ≤ begin.fuel }
+        requires fuel { begin.fuel ≤ 1000000000 }
+        ensures units { IfOk result (λ made. length made.units ≡ unit_count size.workers region.now.plan) }
         ensures setter { setter.new ≡ setter.old }
-        ensures verdicts { IfOk result (λ made. made.verdicts ≡ record { key = record { program = p.now; plan = plan.now; input = input.now; first = first; base = base.now; steps = steps; fuel = fuel }; given = 0 }) }
+        ensures verdicts { IfOk result (λ made. made.verdicts ≡ record { key = key_at region.now input.now begin.entry; given = 0 }) }
     {
-        let setting = Setting::new(p, plan, programs, input, workers, lane);
-        let epoch = EpochKey::copied(p, plan, input, first, base, steps, fuel)?;
-        let (units, end, back) = units_of(alloc, setting, epoch, stop, setter)?;
-        let verdicts = LaneVerdicts::new(alloc, end).returning(back);
-        Ok(Pipeline { units, verdicts })
+        let epoch = EpochKey::copied(region, input, begin)?;
+        let key = LaneKey { epoch, stage: 1 };
+        let setting = Setting { region, size, key };
+        pipeline_of(alloc, setting, setter)
     }
 }

@@ -1,16 +1,16 @@
 //! How the units that run one stage are made.
-ghost use Rattle.std.specs.Prelude.{◌≡◌, ◌≤◌, ◌<◌, ◌-◌, ℕ, suc, true, false, Some, length, IfOk, OnOk, ◌+◌};
+ghost use Rattle.std.specs.Prelude.{◌≡◌, ◌<◌, ◌-◌, suc, true, false, Some, length, IfOk, OnOk, ◌+◌};
 ghost use Rattle.dp_plan.specs.Access.{is_replicated};
 ghost use Rattle.dp_plan.specs.Each.{Each};
-ghost use Rattle.dp_semantics.specs.EpochKey.{EpochKey};
+ghost use Rattle.dp_semantics.specs.EpochKey.{epoch_of};
+ghost use Rattle.dp_machine.specs.Machine.{Stands};
 ghost use Rattle.dp_pipeline.specs.Keys.{key_of};
 ghost use Rattle.dp_pipeline.specs.Seats.{IsUnused};
-ghost use Rattle.dp_pipeline.specs.steps.Setting.{IsSetting, IsKeyIn};
+ghost use Rattle.dp_pipeline.specs.steps.Setting.{IsSetting};
 ghost use Rattle.dp_pipeline.specs.Staging.{RunsAt};
 ghost use Rattle.dp_pipeline.specs.Standing.{Gives, Gets, source_facts, target_facts, target_ended};
 
 use crate::carried::Carried;
-use crate::keys::LaneKey;
 use crate::passage::Passage;
 use crate::setting::Setting;
 use crate::source::Source;
@@ -23,7 +23,7 @@ use dp_machine::StageMachine;
 use dp_plan::{Plan, StageKind};
 use dp_relay::Relay;
 use dp_ring::WorkerSeat;
-use dp_stop::{Stop, StopSeat, StopSetter};
+use dp_stop::{StopSeat, StopSetter};
 use std::alloc::Global;
 
 /// Whether the stage behind the one of this number is replicated.
@@ -37,104 +37,103 @@ pub(crate) fn next_is_replicated(plan: &Plan, stage: u32) -> bool
     }
 }
 
-/// What runs the stage that the key names, from the epoch's beginning on.
-pub(crate) fn staged<'p>(
+/// The machine of the stage with this number, where the epoch begins.
+fn machine_of<'u, 'p>(
     alloc: Global,
-    setting: Setting<'p>,
-    key: &LaneKey<'p>,
-) -> Result<Staged<'p>, NoMemory>
-    requires setting { IsSetting setting }
-    requires key { IsKeyIn setting key.now.epoch }
-    requires stage { 0 < key.now.stage }
-    ensures { IfOk result (λ made. RunsAt made (key_of key.now.epoch) key.now.stage (Some 0)) }
+    setting: &Setting<'u, 'p>,
+    stage: u32,
+) -> Result<StageMachine<'u>, NoMemory>
+    requires setting { IsSetting setting.now }
+    requires numbered { 0 < stage }
+    ensures stands { IfOk result (λ machine. Stands machine (epoch_of (key_of setting.now.key.epoch)) 0) }
+    ensures stage { IfOk result (λ machine. machine.stage ≡ stage) }
 {
-    let place = key.stage as usize - 1;
-    let Some(code) = setting.programs.get(place) else {
-        return Err(NoMemory);
-    };
-    let machine = StageMachine::new(
-        alloc,
-        setting.p,
-        setting.plan,
-        code,
-        key.stage,
-        &key.epoch.base,
-        setting.input,
-    )?;
+    let epoch = &setting.key.epoch;
+    match setting.region.stage(stage, epoch.input) {
+        Some((frame, ready)) => StageMachine::new(alloc, frame, ready, stage, &epoch.base),
+        None => Err(NoMemory),
+    }
+}
+
+/// What runs the stage with this number, from the epoch's beginning on.
+fn staged<'u, 'p>(
+    alloc: Global,
+    setting: &Setting<'u, 'p>,
+    stage: u32,
+) -> Result<Staged<'u>, NoMemory>
+    requires setting { IsSetting setting.now }
+    requires numbered { 0 < stage }
+    ensures { IfOk result (λ made. RunsAt made (key_of setting.now.key.epoch) stage (Some 0)) }
+{
+    let machine = machine_of(alloc, setting, stage)?;
     Ok(Staged {
         machine,
-        stage: key.stage,
-        fuel: key.epoch.fuel,
+        stage,
+        fuel: setting.key.epoch.fuel,
     })
 }
 
-/// The one unit of a stage that takes its packets in order.
-pub(crate) fn stage_unit<'p>(
+/// Adds the one unit of the stage with this number, which takes its packets in order.
+pub(crate) fn add_unit<'u, 'p>(
     alloc: Global,
-    stage: Staged<'p>,
-    source: Source<'p>,
-    target: Target<'p>,
-    stop: &'p Stop,
-    seat: StopSeat,
-) -> Result<Unit<'p>, NoMemory>
-    requires start { (key : EpochKey) × (s : ℕ) × RunsAt stage key s (Some 0) × Gives source key (s - 1) 0 × Gets target key s 0 }
+    setting: &Setting<'u, 'p>,
+    stage: u32,
+    source: Source<'u>,
+    target: Target<'u>,
+    units: &mut Row<Unit<'u>>,
+    setter: &mut StopSetter,
+) -> Result<(), NoMemory>
+    requires setting { IsSetting setting.now }
+    requires numbered { 0 < stage }
+    requires start { Gives source (key_of setting.now.key.epoch) (stage - 1) 0 × Gets target (key_of setting.now.key.epoch) stage 0 }
     requires counts { ((source_facts source).count ≡ 0) × ((target_facts target).count ≡ 0) × (target_ended target ≡ false) }
-    requires seat { (seat.flag ≡ stop.now) × (seat.seen ≡ false) }
+    ensures count { OnOk result (length units.new ≡ length units.old + 1) }
+    ensures setter { setter.new ≡ setter.old }
 {
-    let unit = Relay::new(stage, Passage { source, target }, stop, seat);
+    let stage = staged(alloc, setting, stage)?;
+    let unit = Relay::new(stage, Passage { source, target }, setter.seat()?);
     let kind = Boxed::new(alloc, Kind::Stage(unit))?;
-    Ok(Unit { kind })
+    units.push(Unit { kind })
 }
 
-/// A worker of the stage that the key names, at a seat of its ring.
-fn worker<'p>(
+/// A worker of the setting's stage, at a seat of its ring.
+fn worker<'u, 'p>(
     alloc: Global,
-    setting: Setting<'p>,
-    key: &LaneKey<'p>,
-    at: WorkerSeat<Carried<'p>>,
-    stop: &'p Stop,
+    setting: &Setting<'u, 'p>,
+    at: WorkerSeat<Carried<'u>>,
     seat: StopSeat,
-) -> Result<Unit<'p>, NoMemory>
-    requires setting { IsSetting setting }
-    requires key { IsKeyIn setting key.now.epoch }
-    requires stage { 0 < key.now.stage }
-    requires fuel { key.now.epoch.fuel ≤ 1000000000 }
-    requires replicated { is_replicated setting.plan.now key.now.stage ≡ true }
-    requires at { IsUnused key.now at }
-    requires seat { (seat.flag ≡ stop.now) × (seat.seen ≡ false) }
+) -> Result<Unit<'u>, NoMemory>
+    requires setting { IsSetting setting.now }
+    requires replicated { is_replicated setting.now.region.now.plan setting.now.key.stage ≡ true }
+    requires at { IsUnused setting.now.key at }
+    requires seat { seat.seen ≡ false }
 {
-    let stage = staged(alloc, setting, key)?;
+    let stage = staged(alloc, setting, setting.key.stage)?;
     let ends = Tickets {
         seat: at,
         has_ticket: false,
     };
-    let unit = Relay::new(stage, ends, stop, seat);
+    let unit = Relay::new(stage, ends, seat);
     let kind = Boxed::new(alloc, Kind::Worker(unit))?;
     Ok(Unit { kind })
 }
 
-/// Adds a worker for each of these seats at the ring of the stage that the key names.
-pub(crate) fn add_workers<'p>(
+/// Adds a worker for each of these seats at the ring of the setting's stage.
+pub(crate) fn add_workers<'u, 'p>(
     alloc: Global,
-    setting: Setting<'p>,
-    key: &LaneKey<'p>,
-    mut seats: Row<WorkerSeat<Carried<'p>>>,
-    units: &mut Row<Unit<'p>>,
-    stop: &'p Stop,
+    setting: &Setting<'u, 'p>,
+    mut seats: Row<WorkerSeat<Carried<'u>>>,
+    units: &mut Row<Unit<'u>>,
     setter: &mut StopSetter,
 ) -> Result<(), NoMemory>
-    requires setting { IsSetting setting }
-    requires key { IsKeyIn setting key.now.epoch }
-    requires stage { 0 < key.now.stage }
-    requires fuel { key.now.epoch.fuel ≤ 1000000000 }
-    requires replicated { is_replicated setting.plan.now key.now.stage ≡ true }
-    requires seats { Each (IsUnused key.now) seats }
-    requires setter { setter.old.flag ≡ stop.now }
+    requires setting { IsSetting setting.now }
+    requires replicated { is_replicated setting.now.region.now.plan setting.now.key.stage ≡ true }
+    requires seats { Each (IsUnused setting.now.key) seats }
     ensures count { OnOk result (length units.new ≡ length units.old + length seats.entry) }
     ensures setter { setter.new ≡ setter.old }
 {
     while let Some(at) = seats.pop() {
-        let unit = worker(alloc, setting, key, at, stop, setter.seat(stop))?;
+        let unit = worker(alloc, setting, at, setter.seat()?)?;
         units.push(unit)?;
     }
     Ok(())

@@ -15,9 +15,9 @@ use std::sync::Wait;
 /// What a unit does.
 #[derive(Drop)]
 pub(crate) enum Kind<'p> {
-    Stage(Relay<'p, Carried<'p>, Carried<'p>, Passage<'p>, Staged<'p>>),
-    Worker(Relay<'p, Carried<'p>, Carried<'p>, Tickets<'p>, Staged<'p>>),
-    TryCommit(Relay<'p, Carried<'p>, Judged<'p>, Judging<'p>, Judge<'p>>),
+    Stage(Relay<Carried<'p>, Carried<'p>, Passage<'p>, Staged<'p>>),
+    Worker(Relay<Carried<'p>, Carried<'p>, Tickets<'p>, Staged<'p>>),
+    TryCommit(Relay<Carried<'p>, Judged<'p>, Judging<'p>, Judge<'p>>),
 }
 
 /// A stage, a worker of a replicated one, or the try-commit unit of an epoch.
@@ -57,15 +57,6 @@ impl<'p> Unit<'p> {
             Kind::Stage(unit) => unit.poll(rt, gate),
             Kind::Worker(unit) => unit.poll(rt, gate),
             Kind::TryCommit(unit) => unit.poll(rt, gate),
-        }
-    }
-
-    /// Whether it runs a replicated stage, beside other workers.
-    pub(crate) fn is_worker(&self) -> bool {
-        match self.kind.get() {
-            Kind::Stage(_) => false,
-            Kind::Worker(_) => true,
-            Kind::TryCommit(_) => false,
         }
     }
 

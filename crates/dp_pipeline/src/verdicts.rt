@@ -2,11 +2,10 @@
 use crate::judged::Judged;
 use crate::spare::Back;
 use crate::unit::Unit;
-use dp_base::{Boxed, Row};
+use dp_base::Row;
 use dp_edge::OpenGate;
 use dp_judge::Verdict;
 use dp_lane::TakeEnd;
-use dp_packet::Packet;
 use dp_relay::Polled;
 use dp_waiting::Pause;
 use std::alloc::Global;
@@ -20,7 +19,7 @@ pub struct LaneVerdicts<'u> {
     own: Row<Unit<'u>>,
     pause: Pause<'u>,
     /// Where the packets that were judged are sent back.
-    back: Option<Back>,
+    back: Back,
 }
 
 // By hand, so that a crate above doesn't prove again how all that they hold is dropped.
@@ -55,45 +54,26 @@ impl<'u> LaneVerdicts<'u> {
     ghost use Rattle.dp_judge.specs.Told.{decided};
     ghost use Rattle.dp_pipeline.specs.Coming.{Comes, coming_on};
 
-    /// Verdicts that come on this end, and no units.
-    pub fn new(alloc: Global, end: TakeEnd<Judged<'u>>) -> LaneVerdicts<'u>
+    /// Verdicts that come on this end, and no units. Packets that were judged are sent back.
+    pub(crate) fn new(alloc: Global, end: TakeEnd<Judged<'u>>, back: Back) -> LaneVerdicts<'u>
         ensures { result ≡ coming_on end.entry.view }
     {
         LaneVerdicts {
             end,
             own: Row::new(alloc),
             pause: Pause::at(&[], 0),
-            back: None,
+            back,
         }
     }
 
-    /// The same, which sends back the packets that were judged.
-    pub(crate) fn returning(self, back: Back) -> LaneVerdicts<'u>
-        ensures { result ≡ self.entry }
-    {
-        let LaneVerdicts {
-            end,
-            own,
-            pause,
-            back: _,
-        } = self;
-        LaneVerdicts {
-            end,
-            own,
-            pause,
-            back: Some(back),
-        }
-    }
-
-    /// The same, with the units for which there is no thread: they are polled where no verdict is there. It waits by a pause
-    /// for those that have threads.
-    pub fn polling(self, units: Row<Unit<'u>>, pause: Pause<'u>) -> LaneVerdicts<'u>
+    /// The same, with units that no thread runs: they are polled where no verdict is there.
+    pub fn polling(self, units: Row<Unit<'u>>) -> LaneVerdicts<'u>
         ensures { result ≡ self.entry }
     {
         let LaneVerdicts {
             end,
             own: _,
-            pause: _,
+            pause,
             back,
         } = self;
         LaneVerdicts {
@@ -102,6 +82,25 @@ impl<'u> LaneVerdicts<'u> {
             pause,
             back,
         }
+    }
+
+    /// From now on it waits by this pause, for units that threads run.
+    pub fn wait_by(&mut self, pause: Pause<'u>)
+        ensures { self.new ≡ self.old }
+    {
+        self.pause = pause;
+    }
+
+    /// How many units it polls.
+    pub fn units(&self) -> usize {
+        self.own.len()
+    }
+
+    /// The last of the units that it polls, which it polls no longer.
+    pub fn pop_unit(&mut self) -> Option<Unit<'u>>
+        ensures { self.new ≡ self.old }
+    {
+        self.own.pop()
     }
 
     /// The verdict on the next iteration. There is none after one that isn't Clean or that closes the region.
@@ -134,19 +133,10 @@ impl<'u> LaneVerdicts<'u> {
                 },
             ) => {
                 self.pause.moved();
-                self.give_back(rt, packet);
+                self.back.send(rt, packet);
                 Some(verdict)
             }
             None => None,
-        }
-    }
-
-    /// Sends a judged packet back.
-    fn give_back<R: Wait>(&mut self, rt: &R, packet: Boxed<Packet>)
-        ensures { self.new ≡ self.old }
-    {
-        if let Some(back) = &mut self.back {
-            back.send(rt, packet);
         }
     }
 

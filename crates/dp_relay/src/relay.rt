@@ -10,27 +10,40 @@ use crate::item::Item;
 use crate::polled::{EndedWhy, Polled};
 use crate::stage::{Made, Stage};
 use dp_edge::Gate;
-use dp_stop::{Stop, StopSeat};
+use dp_stop::StopSeat;
 use std::marker::{Model, PhantomData};
 use std::sync::Wait;
 
 /// A stage between its ends, with a seat at the stop flag.
-#[derive(Drop)]
-pub struct Relay<'p, I: Item, O: Item, E: Ends<I, O>, S: Stage<I, O>> {
+pub struct Relay<I: Item, O: Item, E: Ends<I, O>, S: Stage<I, O>> {
     stage: S,
     ends: E,
     /// What was made and isn't sent yet.
     held: Option<Made<O>>,
     /// The item sent last was an ending one.
     ended: bool,
-    stop: &'p Stop,
     seat: StopSeat,
     /// The seat saw the flag set.
     stopped: bool,
     taken: PhantomData<I>,
 }
 
-impl<'p, I: Item, O: Item, E: Ends<I, O>, S: Stage<I, O>> Model for Relay<'p, I, O, E, S> {
+// By hand, so that a crate above doesn't prove again how all that it holds is dropped.
+impl<I: Item, O: Item, E: Ends<I, O>, S: Stage<I, O>> Drop for Relay<I, O, E, S> {
+    fn drop(self) {
+        let Relay {
+            stage: _,
+            ends: _,
+            held: _,
+            ended: _,
+            seat: _,
+            stopped: _,
+            taken: _,
+        } = self;
+    }
+}
+
+impl<I: Item, O: Item, E: Ends<I, O>, S: Stage<I, O>> Model for Relay<I, O, E, S> {
     ghost use Rattle.std.specs.Prelude.{◌≡◌};
     ghost use Rattle.dp_relay.specs.Polls.{Counts, counts_of};
     ghost use Rattle.dp_relay.specs.Works.{IsAtWork};
@@ -39,14 +52,14 @@ impl<'p, I: Item, O: Item, E: Ends<I, O>, S: Stage<I, O>> Model for Relay<'p, I,
 
     ghost view = { λ s. counts_of (E.taking s.ends) (E.sending s.ends) (E.ended s.ends) s.seat };
 
-    ghost invariant = { λ s. IsAtWork E.ready E.holds E.taking E.sending E.ended S.stands O.is_sent O.is_last s.stage s.ends s.ended s.held × (s.seat.flag ≡ s.stop.now) × (s.seat.seen ≡ s.stopped) };
+    ghost invariant = { λ s. IsAtWork E.ready E.holds E.taking E.sending E.ended S.stands O.is_sent O.is_last s.stage s.ends s.ended s.held × (s.seat.seen ≡ s.stopped) };
 }
 
-impl<'p, I: Item, O: Item, E: Ends<I, O>, S: Stage<I, O>> Relay<'p, I, O, E, S> {
+impl<I: Item, O: Item, E: Ends<I, O>, S: Stage<I, O>> Relay<I, O, E, S> {
     /// A unit that has taken and sent nothing, with a seat of the flag that hasn't seen it set.
-    pub fn new(stage: S, ends: E, stop: &'p Stop, seat: StopSeat) -> Relay<'p, I, O, E, S>
+    pub fn new(stage: S, ends: E, seat: StopSeat) -> Relay<I, O, E, S>
         requires start { HasSentAll E.ready E.holds E.taking E.sending E.ended S.stands O.is_sent O.is_last stage ends false }
-        requires seat { (seat.flag ≡ stop.now) × (seat.seen ≡ false) }
+        requires seat { seat.seen ≡ false }
         ensures { result ≡ counts_of (E.taking ends) (E.sending ends) (E.ended ends) seat }
     {
         Relay {
@@ -54,7 +67,6 @@ impl<'p, I: Item, O: Item, E: Ends<I, O>, S: Stage<I, O>> Relay<'p, I, O, E, S> 
             ends,
             held: None,
             ended: false,
-            stop,
             seat,
             stopped: false,
             taken: PhantomData,
@@ -70,7 +82,7 @@ impl<'p, I: Item, O: Item, E: Ends<I, O>, S: Stage<I, O>> Relay<'p, I, O, E, S> 
         if self.ended || self.stopped {
             return Polled::Ended;
         }
-        if self.seat.is_set(rt, self.stop) {
+        if self.seat.is_set(rt) {
             self.stopped = true;
             return Polled::Ended;
         }

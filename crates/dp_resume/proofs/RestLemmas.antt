@@ -45,7 +45,7 @@ module _ (p : Program) (plans : List Plan) (given : AreGiven p plans) (input : L
     pub reports_are : reports ≡ region_reports p (take count plans) (source_run p input fuel)
 
   -- the regions behind the first so many are ahead
-  pub ahead_behind : (region : ℕ) (m : MachineState) → region ≤ length plans → Behind p input fuel (source_run p input fuel) region m → Ahead p (drop region plans) input fuel (source_run p input fuel) region m
+  ahead_behind : (region : ℕ) (m : MachineState) → region ≤ length plans → Behind p input fuel (source_run p input fuel) region m → Ahead p (drop region plans) input fuel (source_run p input fuel) region m
   ahead_behind region m few b =
       let many = as_many p plans given in
       let left : length (drop region plans) ≡ length p.regions - region = omega (arith, length-drop region plans, many) in
@@ -61,7 +61,7 @@ module _ (p : Program) (plans : List Plan) (given : AreGiven p plans) (input : L
       }
 
   -- it went on from there to its end
-  pub ended_behind : (region : ℕ) → region ≤ length plans → (last : MachineState) (o : Option End) (end : End) (told reports : List RegionReport) (before now : ℕ) → told ≡ region_reports p (take region plans) (source_run p input fuel) → end ≡ ended_by o →
+  ended_behind : (region : ℕ) → region ≤ length plans → (last : MachineState) (o : Option End) (end : End) (told reports : List RegionReport) (before now : ℕ) → told ≡ region_reports p (take region plans) (source_run p input fuel) → end ≡ ended_by o →
       Went p (drop region plans) input fuel (source_run p input fuel) region last o told reports before now → Ended last end reports
   ended_behind region few last o end told reports before now is end_is w = by o end_is w
     where
@@ -93,11 +93,19 @@ module _ (p : Program) (plans : List Plan) (given : AreGiven p plans) (input : L
         reports_are = reports_so w.count w.counted.reports_are;
       }
 
-  -- .. by the plans that are left
-  pub ended_called : (region : ℕ) → region ≤ length plans → (left : List Plan) → left ≡ drop region plans → (last : MachineState) (o : Option End) (end : End) (told reports : List RegionReport) (before now : ℕ) →
-      told ≡ region_reports p (take region plans) (source_run p input fuel) → end ≡ ended_by o → Went p left input fuel (source_run p input fuel) region last o told reports before now → Ended last end reports
-  ended_called region few left is last o end told reports before now same end_is w =
-      ended_behind region few last o end told reports before now same end_is (subst (λ (ps : List Plan). Went p ps input fuel (source_run p input fuel) region last o told reports before now) is w)
+  -- .. by a call with the plans that are left
+  module _ (region : ℕ) (few : region ≤ length plans) (left : List Plan) (is : left ≡ drop region plans) (m : MachineState) (b : Behind p input fuel (source_run p input fuel) region m) where
+    pub ahead_called : Ahead m.program left input fuel (source_run p input fuel) region m
+    ahead_called =
+        subst (λ (q : Program). Ahead q left input fuel (source_run p input fuel) region m) (sym b.program_is)
+        (subst (λ (ps : List Plan). Ahead p ps input fuel (source_run p input fuel) region m) (sym is) (ahead_behind region m few b))
+
+    pub ended_called : (last : MachineState) (o : Option End) (end : End) (told reports : List RegionReport) (before now : ℕ) → told ≡ region_reports p (take region plans) (source_run p input fuel) → end ≡ ended_by o →
+        ((u : Run) (k : ℕ) → Ahead m.program left input fuel u k m → Went m.program left input fuel u k last o told reports before now) → Ended last end reports
+    ended_called last o end told reports before now same end_is went =
+        ended_behind region few last o end told reports before now same end_is
+        (subst (λ (ps : List Plan). Went p ps input fuel (source_run p input fuel) region last o told reports before now) is
+        (subst (λ (q : Program). Went q left input fuel (source_run p input fuel) region last o told reports before now) b.program_is (went (source_run p input fuel) region ahead_called)))
 
   module _ (last : MachineState) (end : End) (reports : List RegionReport) (d : Ended last end reports) where
     finished : whole.Finished p plans input fuel last end reports 0 (0 + committed_in_all p (take d.count plans) (source_run p input fuel))
@@ -119,19 +127,23 @@ module _ (p : Program) (plans : List Plan) (given : AreGiven p plans) (input : L
       text_is : prints_bytes (to_come m) ++ end_bytes p last.config.cells reports end false ≡ ending_from p plans input m
       text_is = ap (λ (t : List ℕ). prints_bytes (to_come m) ++ t) (closing_here ∙ ap (λ (f : ℕ). closing_text p plans (source_run p input f) false) (sym fuel_is))
 
-      -- the last text is written
-      pub ended_ok : (r : Result SaveEnd WriteFail) (tells : Option (List ℕ)) → IfOk r (λ ended. (ended ≡ Ran end) × (tells ≡ appended (end_bytes p last.config.cells reports end false) mid)) →
-          IfOk r (λ ended. (ended ≡ Ran (source_run p input m.fuel).end) × (tells ≡ appended (ending_from p plans input m) told))
-      ended_ok r tells h =
-          IfOk-weaker r (λ ended. (ended ≡ Ran end) × (tells ≡ appended (end_bytes p last.config.cells reports end false) mid)) (λ ended. (ended ≡ Ran (source_run p input m.fuel).end) × (tells ≡ appended (ending_from p plans input m) told))
-          (λ ended s. (
-            s.0 ∙ ap Ran (sym d.over.end_is ∙ ap (λ (f : ℕ). (source_run p input f).end) (sym fuel_is)),
-            s.1 ∙ ap (appended (end_bytes p last.config.cells reports end false)) prints_written ∙ appended-append (prints_bytes (to_come m)) (end_bytes p last.config.cells reports end false) told ∙ ap (λ (t : List ℕ). appended t told) text_is,
-          )) h
+      -- the last text is written, by a call with the program that is lent
+      module _ (lent : Program) (same : lent ≡ p) where
+        pub ended_ok : (r : Result SaveEnd WriteFail) (tells : Option (List ℕ)) → IfOk r (λ ended. (ended ≡ Ran end) × (tells ≡ appended (end_bytes lent last.config.cells reports end false) mid)) →
+            IfOk r (λ ended. (ended ≡ Ran (source_run p input m.fuel).end) × (tells ≡ appended (ending_from p plans input m) told))
+        ended_ok r tells h =
+            IfOk-weaker r (λ ended. (ended ≡ Ran end) × (tells ≡ appended (end_bytes lent last.config.cells reports end false) mid)) (λ ended. (ended ≡ Ran (source_run p input m.fuel).end) × (tells ≡ appended (ending_from p plans input m) told))
+            (λ ended s. (
+              s.0 ∙ ap Ran (sym d.over.end_is ∙ ap (λ (f : ℕ). (source_run p input f).end) (sym fuel_is)),
+              s.1 ∙ ap (λ (q : Program). appended (end_bytes q last.config.cells reports end false) mid) same
+                  ∙ ap (appended (end_bytes p last.config.cells reports end false)) prints_written ∙ appended-append (prints_bytes (to_come m)) (end_bytes p last.config.cells reports end false) told ∙ ap (λ (t : List ℕ). appended t told) text_is,
+            )) h
 
-      -- .. or a front of it
-      pub ended_err : (r : Result SaveEnd WriteFail) (tells : Option (List ℕ)) → OnErr r (WritesFront (end_bytes p last.config.cells reports end false) mid tells) → OnErr r (WritesFront (ending_from p plans input m) told tells)
-      ended_err r tells h = on_err_weaker r (λ w. front_behind (ending_from p plans input m) (prints_bytes (to_come m)) (end_bytes p last.config.cells reports end false) told mid tells (sym text_is) prints_written w) h
+        -- .. or a front of it
+        pub ended_err : (r : Result SaveEnd WriteFail) (tells : Option (List ℕ)) → OnErr r (WritesFront (end_bytes lent last.config.cells reports end false) mid tells) → OnErr r (WritesFront (ending_from p plans input m) told tells)
+        ended_err r tells h =
+            on_err_weaker r (λ w. front_behind (ending_from p plans input m) (prints_bytes (to_come m)) (end_bytes p last.config.cells reports end false) told mid tells (sym text_is) prints_written
+            (subst (λ (q : Program). WritesFront (end_bytes q last.config.cells reports end false) mid tells) same w)) h
 
 -- a front of the prints is one of the text
 pub front_ending : (p : Program) (plans : List Plan) (input : List ℤ) (m : MachineState) (told tells : Option (List ℕ)) → WritesFront (prints_bytes (to_come m)) told tells → WritesFront (ending_from p plans input m) told tells

@@ -33,6 +33,11 @@ use Rattle.dp_resume.specs.steps.Saving.{ending_from, left_from, made_by}
 use Rattle.dp_resume.proofs.RestLemmas.{front_ending}
 use Rattle.dp_resume.proofs.SaveLemmas.{behind_it, made_is, report_whole, saved_so, started, starts_there, steps, take_next, text_there, unreached, written_there}
 
+-- what a call on the region's own program tells
+pub stops_own : (q p : Program) → q ≡ p → (plan : Plan) (first : MachineState) (n : ℕ) (last : MachineState) (report : RegionReport) (o end : Option RegionEnd) → o ≡ end → Stops q plan first n last report o → Stops p plan first n last report end
+stops_own q p own plan first n last report o end is s =
+    subst (λ (x : Option RegionEnd). Stops p plan first n last report x) is (subst (λ (x : Program). Stops x plan first n last report o) own s)
+
 -- the region r is that of the plan at place n
 module _ (p : Program) (plans : List Plan) (given : AreGiven p plans) (input : List ℤ) (r n after : ℕ) (up : r ≡ suc n) (plan : Plan) (at : slice_get plans n ≡ Some plan) (first : MachineState) (b : Between p input first.fuel (source_run p input first.fuel) n first) where
   abbrev run : Run
@@ -41,11 +46,11 @@ module _ (p : Program) (plans : List Plan) (given : AreGiven p plans) (input : L
   number : plan.region ≡ suc n
   number = let is = number_is p 0 plans (all_next p plans given) n plan at in omega (arith, is)
 
-  pub is_planned : IsPlanned p plan
+  is_planned : IsPlanned p plan
   is_planned = planned p 0 plans (all_next p plans given) n plan at
 
-  pub begins : RegionStart p plan input first
-  begins = region_start p plan input first.fuel (source_run p input first.fuel) n first is_planned number b
+  pub begins : (q : Program) → q ≡ p → RegionStart q plan input first
+  begins q own = subst (λ (x : Program). RegionStart x plan input first) (sym own) (region_start p plan input first.fuel (source_run p input first.fuel) n first is_planned number b)
 
   here : start (source_run p input first.fuel) r after ≡ start (source_run p input first.fuel) plan.region after
   here = ap (λ (k : ℕ). start run k after) (up ∙ sym number)

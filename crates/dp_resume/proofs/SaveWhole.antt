@@ -89,6 +89,9 @@ module _ (p : Program) (plans : List Plan) (given : AreGiven p plans) (input : L
     pub fuel_here : m.fuel ≡ fuel
     fuel_here = ap (λ (x : MachineState). x.fuel) is
 
+    pub program_here : m.program ≡ p
+    program_here = ap (λ (x : MachineState). x.program) is
+
     prints_here : to_come m ≡ prints (source_run p input fuel).trace
     prints_here = ap (λ (u : Run). prints u.trace) run_here
 
@@ -107,29 +110,31 @@ module _ (p : Program) (plans : List Plan) (given : AreGiven p plans) (input : L
       }
 
       -- the plans before the region come first
-      pub ahead_first : Ahead p before input m.fuel (source_run p input fuel) 0 m
+      pub ahead_first : Ahead m.program before input m.fuel (source_run p input fuel) 0 m
       ahead_first =
-          subst (λ (k : ℕ). Ahead p before input k (source_run p input fuel) 0 m) (sym fuel_here)
-          (subst (λ (ps : List Plan). Ahead p ps input fuel (source_run p input fuel) 0 m) (sym before_is) (record { next = next; behind = behind_start p input fuel given.inlined m is }))
+          subst (λ (q : Program). Ahead q before input m.fuel (source_run p input fuel) 0 m) (sym program_here)
+          (subst (λ (k : ℕ). Ahead p before input k (source_run p input fuel) 0 m) (sym fuel_here)
+          (subst (λ (ps : List Plan). Ahead p ps input fuel (source_run p input fuel) 0 m) (sym before_is) (record { next = next; behind = behind_start p input fuel given.inlined m is })))
 
       pub long : length (take (r - 1) plans) ≡ r - 1
       long = let e = length-take (r - 1) plans in omega (arith, e, high, low)
 
       module _ (last : MachineState) (told reports : List RegionReport) (none : told ≡ []) (tally now : ℕ) where
-        went_so : (o : Option End) → Went p before input m.fuel (source_run p input fuel) 0 last o told reports tally now → Went p (take (r - 1) plans) input fuel (source_run p input fuel) 0 last o [] reports tally now
+        went_so : (o : Option End) → Went m.program before input m.fuel (source_run p input fuel) 0 last o told reports tally now → Went p (take (r - 1) plans) input fuel (source_run p input fuel) 0 last o [] reports tally now
         went_so o w =
             subst (λ (rs : List RegionReport). Went p (take (r - 1) plans) input fuel (source_run p input fuel) 0 last o rs reports tally now) none
             (subst (λ (ps : List Plan). Went p ps input fuel (source_run p input fuel) 0 last o told reports tally now) before_is
-            (subst (λ (k : ℕ). Went p before input k (source_run p input fuel) 0 last o told reports tally now) fuel_here w))
+            (subst (λ (k : ℕ). Went p before input k (source_run p input fuel) 0 last o told reports tally now) fuel_here
+            (subst (λ (q : Program). Went q before input m.fuel (source_run p input fuel) 0 last o told reports tally now) program_here w)))
 
-        pub went_some : (end : End) (o : Option End) → o ≡ Some end → Went p before input m.fuel (source_run p input fuel) 0 last o told reports tally now → Went p before input m.fuel (source_run p input fuel) 0 last (Some end) told reports tally now
-        went_some end o e w = subst (λ (x : Option End). Went p before input m.fuel (source_run p input fuel) 0 last x told reports tally now) e w
+        pub went_some : (end : End) (o : Option End) → o ≡ Some end → Went m.program before input m.fuel (source_run p input fuel) 0 last o told reports tally now → Went m.program before input m.fuel (source_run p input fuel) 0 last (Some end) told reports tally now
+        went_some end o e w = subst (λ (x : Option End). Went m.program before input m.fuel (source_run p input fuel) 0 last x told reports tally now) e w
 
-        pub went_none : (o : Option End) → o ≡ None → Went p before input m.fuel (source_run p input fuel) 0 last o told reports tally now → Went p before input m.fuel (source_run p input fuel) 0 last None told reports tally now
-        went_none o e w = subst (λ (x : Option End). Went p before input m.fuel (source_run p input fuel) 0 last x told reports tally now) e w
+        pub went_none : (o : Option End) → o ≡ None → Went m.program before input m.fuel (source_run p input fuel) 0 last o told reports tally now → Went m.program before input m.fuel (source_run p input fuel) 0 last None told reports tally now
+        went_none o e w = subst (λ (x : Option End). Went m.program before input m.fuel (source_run p input fuel) 0 last x told reports tally now) e w
 
         -- the run ended before the region
-        pub over_before : (end : End) → Went p before input m.fuel (source_run p input fuel) 0 last (Some end) told reports tally now → Ended p plans given input fuel last end reports
+        pub over_before : (end : End) → Went m.program before input m.fuel (source_run p input fuel) 0 last (Some end) told reports tally now → Ended p plans given input fuel last end reports
         over_before end w0 =
             let w = went_so (Some end) w0 in
             record {
@@ -139,48 +144,48 @@ module _ (p : Program) (plans : List Plan) (given : AreGiven p plans) (input : L
               reports_are = w.counted.reports_are ∙ ap (λ (xs : List Plan). region_reports p xs run) (take-take w.count (r - 1) plans (omega (arith, w.within, long)));
             }
 
-        unreached_before : (end : End) → Went p before input m.fuel (source_run p input fuel) 0 last (Some end) told reports tally now → start (source_run p input fuel) r after ≡ None
+        unreached_before : (end : End) → Went m.program before input m.fuel (source_run p input fuel) 0 last (Some end) told reports tally now → start (source_run p input fuel) r after ≡ None
         unreached_before end w0 =
             let w = went_so (Some end) w0 in
             ap (λ (ks : List ℕ). slice_get ks after) (w.leads.unreached r (omega (arith, w.within, long, low)))
 
         -- .. and its text is written
-        pub over_ok : (end : End) (w : Went p before input m.fuel (source_run p input fuel) 0 last (Some end) told reports tally now) (old mid : Option (List ℕ)) → Emits (to_come m) (to_come last) old mid →
-            (ended : Result SaveEnd WriteFail) (tells : Option (List ℕ)) → IfOk ended (λ how. (how ≡ Ran end) × (tells ≡ appended (end_bytes p last.config.cells reports end false) mid)) →
+        pub over_ok : (end : End) (w : Went m.program before input m.fuel (source_run p input fuel) 0 last (Some end) told reports tally now) (old mid : Option (List ℕ)) → Emits (to_come m) (to_come last) old mid → (lent : Program) → lent ≡ p →
+            (ended : Result SaveEnd WriteFail) (tells : Option (List ℕ)) → IfOk ended (λ how. (how ≡ Ran end) × (tells ≡ appended (end_bytes lent last.config.cells reports end false) mid)) →
             IfOk ended (λ how. (how ≡ saved_end p input fuel r after) × (tells ≡ appended (saved_bytes p plans input fuel r after) old))
-        over_ok end w old mid e ended tells h =
+        over_ok end w old mid e lent same ended tells h =
             IfOk-weaker ended (λ how. (how ≡ Ran (source_run p input m.fuel).end) × (tells ≡ appended (ending_from p plans input m) old)) (λ how. (how ≡ saved_end p input fuel r after) × (tells ≡ appended (saved_bytes p plans input fuel r after) old))
             (λ how q. (
               q.0 ∙ ap (λ (k : ℕ). Ran (source_run p input k).end) fuel_here ∙ sym (ap (end_from (source_run p input fuel)) (unreached_before end w)),
               q.1 ∙ ap (λ (t : List ℕ). appended t old) (ending_is ∙ sym (ap (saved_from p plans input fuel r after) (unreached_before end w))),
             ))
-            (ended_ok p plans given input fuel last end reports (over_before end w) m fuel_here old mid e ended tells h)
+            (ended_ok p plans given input fuel last end reports (over_before end w) m fuel_here old mid e lent same ended tells h)
 
-        pub over_err : (end : End) (w : Went p before input m.fuel (source_run p input fuel) 0 last (Some end) told reports tally now) (old mid : Option (List ℕ)) → Emits (to_come m) (to_come last) old mid →
-            (ended : Result SaveEnd WriteFail) (tells : Option (List ℕ)) → OnErr ended (WritesFront (end_bytes p last.config.cells reports end false) mid tells) →
+        pub over_err : (end : End) (w : Went m.program before input m.fuel (source_run p input fuel) 0 last (Some end) told reports tally now) (old mid : Option (List ℕ)) → Emits (to_come m) (to_come last) old mid → (lent : Program) → lent ≡ p →
+            (ended : Result SaveEnd WriteFail) (tells : Option (List ℕ)) → OnErr ended (WritesFront (end_bytes lent last.config.cells reports end false) mid tells) →
             OnErr ended (WritesFront (saved_bytes p plans input fuel r after) old tells)
-        over_err end w old mid e ended tells h =
+        over_err end w old mid e lent same ended tells h =
             on_err_weaker ended (λ front. subst (λ (t : List ℕ). WritesFront t old tells) (ending_is ∙ sym (ap (saved_from p plans input fuel r after) (unreached_before end w))) front)
-            (ended_err p plans given input fuel last end reports (over_before end w) m fuel_here old mid e ended tells h)
+            (ended_err p plans given input fuel last end reports (over_before end w) m fuel_here old mid e lent same ended tells h)
 
         -- the region comes next
-        pub between_next : Went p before input m.fuel (source_run p input fuel) 0 last None told reports tally now → Between p input fuel (source_run p input fuel) (r - 1) last
+        pub between_next : Went m.program before input m.fuel (source_run p input fuel) 0 last None told reports tally now → Between p input fuel (source_run p input fuel) (r - 1) last
         between_next w0 =
             let w = went_so None w0 in
             let all : 0 + w.count ≡ r - 1 = let all = w.all refl in omega (arith, all, long) in subst (λ (k : ℕ). Between p input fuel (source_run p input fuel) k last) all w.leads
 
-        reports_next : Went p before input m.fuel (source_run p input fuel) 0 last None told reports tally now → reports ≡ region_reports p (take (r - 1) plans) (source_run p input fuel)
+        reports_next : Went m.program before input m.fuel (source_run p input fuel) 0 last None told reports tally now → reports ≡ region_reports p (take (r - 1) plans) (source_run p input fuel)
         reports_next w0 =
             let w = went_so None w0 in
             w.counted.reports_are ∙ ap (λ (xs : List Plan). region_reports p xs run) (let all = w.all refl in take_all w.count (take (r - 1) plans) (omega (arith, all)))
 
-        pub fuel_there : Went p before input m.fuel (source_run p input fuel) 0 last None told reports tally now → last.fuel ≡ fuel
+        pub fuel_there : Went m.program before input m.fuel (source_run p input fuel) 0 last None told reports tally now → last.fuel ≡ fuel
         fuel_there w = (between_next w).behind.fuel_is
 
-        pub between_there : Went p before input m.fuel (source_run p input fuel) 0 last None told reports tally now → Between p input last.fuel (source_run p input last.fuel) (r - 1) last
+        pub between_there : Went m.program before input m.fuel (source_run p input fuel) 0 last None told reports tally now → Between p input last.fuel (source_run p input last.fuel) (r - 1) last
         between_there w = subst (λ (k : ℕ). Between p input k (source_run p input k) (r - 1) last) (sym (fuel_there w)) (between_next w)
 
-        pub reports_there : Went p before input m.fuel (source_run p input fuel) 0 last None told reports tally now → reports ≡ region_reports p (take (r - 1) plans) (source_run p input last.fuel)
+        pub reports_there : Went m.program before input m.fuel (source_run p input fuel) 0 last None told reports tally now → reports ≡ region_reports p (take (r - 1) plans) (source_run p input last.fuel)
         reports_there w = reports_next w ∙ ap (λ (k : ℕ). region_reports p (take (r - 1) plans) (source_run p input k)) (sym (fuel_there w))
 
       -- ---- from the region on

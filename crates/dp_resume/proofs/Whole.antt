@@ -205,10 +205,11 @@ module _ (p : Program) (plans : List Plan) (given : AreGiven p plans) (input : L
         closing_seen : end_bytes p cells reports end false ≡ resumed_closing p plans input c
         closing_seen = ap (λ (zs : List ℤ). end_bytes p zs reports end false) seen ∙ ap (λ (rs : List RegionReport). end_bytes p last.config.cells rs end false) are ∙ closing_is
 
-        pub front_at_end : (tells : Option (List ℕ)) → WritesFront (end_bytes p cells reports end false) mid tells → WritesFront (resumed_bytes p plans input c) before tells
-        front_at_end tells w = front_behind (resumed_bytes p plans input c) (prints_bytes (prints run.trace)) (end_bytes p cells reports end false) before mid tells
-            (ap (λ (x : List ℕ). prints_bytes (prints run.trace) ++ x) (sym closing_seen)) prints_written w
+        pub front_at_end : (lent : Program) → lent ≡ p → (tells : Option (List ℕ)) → WritesFront (end_bytes lent cells reports end false) mid tells → WritesFront (resumed_bytes p plans input c) before tells
+        front_at_end lent same tells w = front_behind (resumed_bytes p plans input c) (prints_bytes (prints run.trace)) (end_bytes p cells reports end false) before mid tells
+            (ap (λ (x : List ℕ). prints_bytes (prints run.trace) ++ x) (sym closing_seen)) prints_written (subst (λ (q : Program). WritesFront (end_bytes q cells reports end false) mid tells) same w)
 
-        pub all_written : (tells : Option (List ℕ)) → tells ≡ appended (end_bytes p cells reports end false) mid → tells ≡ appended (resumed_bytes p plans input c) before
-        all_written tells w = w ∙ ap (appended (end_bytes p cells reports end false)) prints_written ∙ appended-append (prints_bytes (prints run.trace)) (end_bytes p cells reports end false) before
+        pub all_written : (lent : Program) → lent ≡ p → (tells : Option (List ℕ)) → tells ≡ appended (end_bytes lent cells reports end false) mid → tells ≡ appended (resumed_bytes p plans input c) before
+        all_written lent same tells w = w ∙ ap (λ (q : Program). appended (end_bytes q cells reports end false) mid) same
+            ∙ ap (appended (end_bytes p cells reports end false)) prints_written ∙ appended-append (prints_bytes (prints run.trace)) (end_bytes p cells reports end false) before
             ∙ ap (λ (x : List ℕ). appended (prints_bytes (prints run.trace) ++ x) before) closing_seen

@@ -1,5 +1,5 @@
 //! A region that is brought up to an iteration.
-ghost use Rattle.std.specs.Prelude.{◌≡◌, ◌<◌, ◌≤◌, ◌-◌, ◌^◌, ◌++◌, List, ℤ, ℕ, length, IfOk, OnErr};
+ghost use Rattle.std.specs.Prelude.{◌≡◌, ◌<◌, ◌≤◌, ◌-◌, ◌^◌, ◌++◌, List, ℤ, ℕ, IfOk, OnErr};
 ghost use Rattle.dp_tree.specs.declared.Program.{Program as Tree};
 ghost use Rattle.dp_tree.specs.Trace.{prints};
 ghost use Rattle.dp_tree.specs.Iteration.{iteration, start};
@@ -8,7 +8,7 @@ ghost use Rattle.dp_meaning.specs.MachineState.{MachineState};
 ghost use Rattle.dp_edge.specs.Writing.{FaultsAfter, WritesFront};
 ghost use Rattle.dp_report.specs.PrintsText.{prints_bytes};
 ghost use Rattle.dp_crew.specs.Output.{Emits};
-ghost use Rattle.dp_epoch.specs.RegionRun.{IsPlanned, RegionStart, region_run};
+ghost use Rattle.dp_epoch.specs.RegionRun.{RegionStart, region_run};
 ghost use Rattle.dp_audit.specs.Runs.{Stands};
 ghost use Rattle.dp_run.specs.Stretches.{to_come};
 ghost use Rattle.dp_resume.specs.steps.Reaching as spec;
@@ -19,10 +19,7 @@ use dp_crew::{flush, flush_if_many};
 use dp_edge::{Sink, WriteFail};
 use dp_epoch::{CrewSize, RegionEnd};
 use dp_meaning::{IterEnd, Machine};
-use dp_pipeline::stage_programs;
-use dp_plan::Plan;
-use dp_stop::Stop;
-use dp_tree::Program;
+use dp_prepared::PreparedRegion;
 use std::alloc::Global;
 use std::sync::Wait;
 use std::time::Clock;
@@ -41,10 +38,10 @@ fn ended_so(end: IterEnd) -> Option<RegionEnd>
 
 /// Makes the next iteration. Its prints wait behind the others, and are written where many wait. Answers how the region
 /// ended, if it did.
-fn step<'s, 'p, R: Wait + Clock, K: Sink>(
+fn step<'s, 'q, 'p, R: Wait + Clock, K: Sink>(
     rt: &R,
     alloc: Global,
-    runner: &mut Runner<'s, 'p>,
+    runner: &mut Runner<'s, 'q, 'p>,
     waiting: &mut Row<i64>,
     sink: &mut K,
 ) -> Result<Option<RegionEnd>, WriteFail>
@@ -70,10 +67,10 @@ where
 }
 
 /// Makes iterations up to so many, or up to the region's end, and writes their prints.
-fn make<'s, 'p, R: Wait + Clock, K: Sink>(
+fn make<'s, 'q, 'p, R: Wait + Clock, K: Sink>(
     rt: &R,
     alloc: Global,
-    runner: &mut Runner<'s, 'p>,
+    runner: &mut Runner<'s, 'q, 'p>,
     after: u64,
     sink: &mut K,
 ) -> Result<Option<RegionEnd>, WriteFail>
@@ -104,38 +101,22 @@ where
 pub(crate) fn reach<'p, R: Wait + Clock, K: Sink>(
     rt: &R,
     alloc: Global,
-    program: &'p Program,
-    plan: &Plan,
+    region: &PreparedRegion<'_>,
     input: &'p [i64],
     machine: Machine<'p>,
-    crew: CrewSize,
+    size: CrewSize,
     after: u64,
     sink: &mut K,
 ) -> Result<(Machine<'p>, RegionReport, Option<RegionEnd>), WriteFail>
-    requires planned { IsPlanned program.now plan.now }
-    requires start { RegionStart program.now plan.now input.now machine }
-    requires words { length input.now ≤ 65536 }
+    requires start { RegionStart region.now.program region.now.plan input.now machine }
     requires fuel { machine.fuel ≤ 1000000000 }
-    requires crew { (1 ≤ crew.workers) × (crew.workers ≤ 8) × (1 ≤ crew.lane) × (crew.lane ≤ 64) }
     requires sink { K.faults sink.old < 2 ^ 64 - 1 }
     ensures faults { FaultsAfter result (K.faults sink.old) (K.faults sink.new) }
-    ensures stops { IfOk result (λ ran. spec.Stops program.now plan.now machine.entry after ran.0 ran.1 ran.2) }
+    ensures stops { IfOk result (λ ran. spec.Stops region.now.program region.now.plan machine.entry after ran.0 ran.1 ran.2) }
     ensures written { IfOk result (λ ran. Emits (to_come machine.entry) (to_come ran.0) (K.written sink.old) (K.written sink.new)) }
-    ensures front { OnErr result (WritesFront (prints_bytes (spec.prints_until (region_run machine.entry) (start (region_run machine.entry) plan.now.region after))) (K.written sink.old) (K.written sink.new)) }
+    ensures front { OnErr result (WritesFront (prints_bytes (spec.prints_until (region_run machine.entry) (start (region_run machine.entry) region.now.plan.region after))) (K.written sink.old) (K.written sink.new)) }
 {
-    let programs = stage_programs(alloc, program, plan)?;
-    let (stop, setter) = Stop::new(alloc)?;
-    let mut runner = Runner::begin(
-        alloc,
-        program,
-        plan,
-        programs.as_slice(),
-        input,
-        machine,
-        crew,
-        &stop,
-        setter,
-    )?;
+    let mut runner = Runner::begin(alloc, region, input, machine, size)?;
     let end = make(rt, alloc, &mut runner, after, sink)?;
     let (machine, report) = runner.settle();
     Ok((machine, report, end))

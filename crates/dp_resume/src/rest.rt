@@ -1,35 +1,26 @@
 //! The rest of a run that was to be saved, behind the region.
-ghost use Rattle.std.specs.Prelude.{◌≡◌, ◌<◌, ◌≤◌, ◌-◌, ◌^◌, take, drop, false, length, min, All, IfOk, OnErr};
+ghost use Rattle.std.specs.Prelude.{◌≡◌, ◌<◌, ◌≤◌, ◌-◌, ◌^◌, take, false, length, min, All, IfOk, OnErr};
 ghost use Rattle.dp_edge.specs.Sink.{appended};
 ghost use Rattle.dp_edge.specs.Writing.{FaultsAfter, WritesFront};
 ghost use Rattle.dp_report.specs.EndText.{end_bytes};
-ghost use Rattle.dp_run.specs.Given.{AreGiven};
 ghost use Rattle.dp_run.specs.RunText.{region_reports, source_run};
 ghost use Rattle.dp_run.specs.Stretches.{AfterRegion, Behind};
 ghost use Rattle.dp_resume.specs.steps.Saving.{ending_from};
 ghost use Rattle.dp_resume.specs.declared.save.SaveEnd.TheVariants.{Ran as HasRun};
 
+use crate::regions::regions_behind;
 use crate::save::SaveEnd;
 use dp_base::{End, RegionReport, Row};
-use dp_commit::Tally;
+use dp_commit::{Tally, Unwatched};
 use dp_edge::{Gate, Sink, WriteFail};
 use dp_epoch::{CrewSize, RegionEnd};
 use dp_meaning::Machine;
-use dp_plan::Plan;
-use dp_run::{end_of, run_parts, write_end};
+use dp_run::{PreparedProgram, end_of, run_parts, write_end};
 use dp_tree::Program;
 use std::alloc::Global;
 use std::sync::Wait;
 use std::thread::Threads;
 use std::time::Clock;
-
-/// The plans of the regions behind the first so many.
-fn plans_behind(plans: &[Plan], count: u32) -> &[Plan]
-    requires { count ≤ length plans.now }
-    ensures { result.now ≡ drop count plans.now }
-{
-    &plans[count as usize..]
-}
 
 /// Writes what follows the prints of a run that ended so.
 pub(crate) fn finish<K: Sink>(
@@ -55,33 +46,31 @@ pub(crate) fn finish<K: Sink>(
 fn run_behind<'p, R: Threads + Wait + Clock + Sync, K: Sink, G: Gate>(
     rt: &R,
     alloc: Global,
-    program: &'p Program,
-    plans: &[Plan],
+    prepared: &PreparedProgram<'_>,
     input: &'p [i64],
     machine: Machine<'p>,
-    crew: CrewSize,
+    size: CrewSize,
     region: u32,
     reports: Row<RegionReport>,
     sink: &mut K,
     gate: &G,
 ) -> Result<SaveEnd, WriteFail>
-    requires given { AreGiven program.now plans.now }
-    requires region { region ≤ length plans.now }
-    requires behind { Behind program.now input.now machine.fuel (source_run program.now input.now machine.fuel) region machine }
-    requires reports { reports ≡ region_reports program.now (take region plans.now) (source_run program.now input.now machine.fuel) }
+    requires region { region ≤ length prepared.now.plans }
+    requires behind { Behind prepared.now.program input.now machine.fuel (source_run prepared.now.program input.now machine.fuel) region machine }
+    requires reports { reports ≡ region_reports prepared.now.program (take region prepared.now.plans) (source_run prepared.now.program input.now machine.fuel) }
     requires words { length input.now ≤ 65536 }
     requires fuel { machine.fuel ≤ 1000000000 }
-    requires crew { (1 ≤ crew.workers) × (crew.workers ≤ 8) × (1 ≤ crew.lane) × (crew.lane ≤ 64) }
     requires sink { K.faults sink.old < 2 ^ 64 - 1 }
     ensures faults { FaultsAfter result (K.faults sink.old) (K.faults sink.new) }
-    ensures ok { IfOk result (λ ended. (ended ≡ HasRun (source_run program.now input.now machine.entry.fuel).end)
-        × (K.written sink.new ≡ appended (ending_from program.now plans.now input.now machine.entry) (K.written sink.old))) }
-    ensures err { OnErr result (WritesFront (ending_from program.now plans.now input.now machine.entry) (K.written sink.old) (K.written sink.new)) }
+    ensures ok { IfOk result (λ ended. (ended ≡ HasRun (source_run prepared.now.program input.now machine.entry.fuel).end)
+        × (K.written sink.new ≡ appended (ending_from prepared.now.program prepared.now.plans input.now machine.entry) (K.written sink.old))) }
+    ensures err { OnErr result (WritesFront (ending_from prepared.now.program prepared.now.plans input.now machine.entry) (K.written sink.old) (K.written sink.new)) }
 {
-    let left = plans_behind(plans, region);
-    let (mut told, mut tally) = (reports, Tally::new());
+    let program = prepared.program();
+    let left = regions_behind(prepared, region);
+    let (mut told, mut tally) = (reports, Tally::new(Unwatched));
     let (machine, end) = run_parts(
-        rt, alloc, program, left, input, machine, crew, &mut told, sink, gate, &mut tally,
+        rt, alloc, left, input, machine, size, &mut told, sink, gate, &mut tally,
     )?;
     finish(alloc, program, machine, told, end_of(end), sink)
 }
@@ -90,42 +79,35 @@ fn run_behind<'p, R: Threads + Wait + Clock + Sync, K: Sink, G: Gate>(
 pub(crate) fn run_on<'p, R: Threads + Wait + Clock + Sync, K: Sink, G: Gate>(
     rt: &R,
     alloc: Global,
-    program: &'p Program,
-    plans: &[Plan],
+    prepared: &PreparedProgram<'_>,
     input: &'p [i64],
     machine: Machine<'p>,
-    crew: CrewSize,
+    size: CrewSize,
     region: u32,
     end: RegionEnd,
     reports: Row<RegionReport>,
     sink: &mut K,
     gate: &G,
 ) -> Result<SaveEnd, WriteFail>
-    requires given { AreGiven program.now plans.now }
-    requires region { region ≤ length plans.now }
-    requires after { AfterRegion program.now input.now machine.fuel (source_run program.now input.now machine.fuel) region machine end }
-    requires reports { reports ≡ region_reports program.now (take region plans.now) (source_run program.now input.now machine.fuel) }
+    requires region { region ≤ length prepared.now.plans }
+    requires after { AfterRegion prepared.now.program input.now machine.fuel (source_run prepared.now.program input.now machine.fuel) region machine end }
+    requires reports { reports ≡ region_reports prepared.now.program (take region prepared.now.plans) (source_run prepared.now.program input.now machine.fuel) }
     requires words { length input.now ≤ 65536 }
     requires fuel { machine.fuel ≤ 1000000000 }
-    requires crew { (1 ≤ crew.workers) × (crew.workers ≤ 8) × (1 ≤ crew.lane) × (crew.lane ≤ 64) }
     requires sink { K.faults sink.old < 2 ^ 64 - 1 }
     ensures faults { FaultsAfter result (K.faults sink.old) (K.faults sink.new) }
-    ensures ok { IfOk result (λ ended. (ended ≡ HasRun (source_run program.now input.now machine.entry.fuel).end)
-        × (K.written sink.new ≡ appended (ending_from program.now plans.now input.now machine.entry) (K.written sink.old))) }
-    ensures err { OnErr result (WritesFront (ending_from program.now plans.now input.now machine.entry) (K.written sink.old) (K.written sink.new)) }
+    ensures ok { IfOk result (λ ended. (ended ≡ HasRun (source_run prepared.now.program input.now machine.entry.fuel).end)
+        × (K.written sink.new ≡ appended (ending_from prepared.now.program prepared.now.plans input.now machine.entry) (K.written sink.old))) }
+    ensures err { OnErr result (WritesFront (ending_from prepared.now.program prepared.now.plans input.now machine.entry) (K.written sink.old) (K.written sink.new)) }
 {
+    let program = prepared.program();
     match end {
         RegionEnd::Closed => run_behind(
-            rt, alloc, program, plans, input, machine, crew, region, reports, sink, gate,
+            rt, alloc, prepared, input, machine, size, region, reports, sink, gate,
         ),
-        RegionEnd::Fault(fault) => finish(
-            alloc,
-            program,
-            machine,
-            reports,
-            End::Fault(fault),
-            sink,
-        ),
+        RegionEnd::Fault(fault) => {
+            finish(alloc, program, machine, reports, End::Fault(fault), sink)
+        }
         RegionEnd::Fuel => finish(alloc, program, machine, reports, End::Fuel, sink),
     }
 }

@@ -1,8 +1,7 @@
 //! A run that is saved before an iteration of a region.
-ghost use Rattle.std.specs.Prelude.{◌≡◌, ◌<◌, ◌≤◌, ◌-◌, ◌^◌, take, false, length, slice_get, Some, IfOk, OnErr};
+ghost use Rattle.std.specs.Prelude.{◌≡◌, ◌<◌, ◌≤◌, ◌-◌, ◌^◌, take, false, length, IfOk, OnErr};
 ghost use Rattle.dp_edge.specs.Sink.{appended};
 ghost use Rattle.dp_edge.specs.Writing.{FaultsAfter, WritesFront};
-ghost use Rattle.dp_run.specs.Given.{AreGiven};
 ghost use Rattle.dp_run.specs.RunText.{region_reports, source_run, trace_text};
 ghost use Rattle.dp_run.specs.Stretches.{Between};
 ghost use Rattle.dp_save.specs.WrittenText.{checkpoint_bytes};
@@ -12,14 +11,14 @@ ghost use Rattle.dp_resume.specs.steps.Saving.{left_from};
 ghost use Rattle.dp_resume.specs.declared.save.SaveEnd.TheVariants.{Saved as WasSaved, Ran as HasRun};
 
 use crate::reach::reach;
+use crate::regions::{region_count, region_of, regions_before};
 use crate::rest::{finish, run_on};
 use dp_base::{End, RegionReport, Row};
-use dp_commit::Tally;
+use dp_commit::{Tally, Unwatched};
 use dp_edge::{Gate, Sink, WriteFail, write};
 use dp_epoch::CrewSize;
 use dp_meaning::Machine;
-use dp_plan::Plan;
-use dp_run::{RunOptions, run_parts, run_program};
+use dp_run::{PreparedProgram, RunOptions, run_parts, run_program};
 use dp_save::{Checkpoint, write_checkpoint};
 use dp_tree::Program;
 use std::alloc::Global;
@@ -73,78 +72,40 @@ fn write_saved<K: Sink>(
     Ok(SaveEnd::Saved)
 }
 
-/// The plan of the region.
-fn plan_of(plans: &[Plan], region: u32) -> &Plan
-    requires { (1 ≤ region) × (region ≤ length plans.now) }
-    ensures { slice_get plans.now (region - 1) ≡ Some result.now }
-{
-    &plans[region as usize - 1]
-}
-
-/// The plans of the first so many regions.
-fn plans_before(plans: &[Plan], count: u32) -> &[Plan]
-    requires { count ≤ length plans.now }
-    ensures { result.now ≡ take count plans.now }
-{
-    &plans[..count as usize]
-}
-
 /// Brings the region that comes next up to its iteration, and saves the run there, or runs on to its end.
 fn save_in<'p, R: Threads + Wait + Clock + Sync, K: Sink, G: Gate>(
     rt: &R,
     alloc: Global,
-    program: &'p Program,
-    plans: &[Plan],
+    prepared: &PreparedProgram<'_>,
     input: &'p [i64],
     machine: Machine<'p>,
-    crew: CrewSize,
+    size: CrewSize,
     place: SavePlace,
     reports: Row<RegionReport>,
     sink: &mut K,
     gate: &G,
 ) -> Result<SaveEnd, WriteFail>
-    requires given { AreGiven program.now plans.now }
-    requires region { (1 ≤ place.region) × (place.region ≤ length plans.now) }
-    requires between { Between program.now input.now machine.fuel (source_run program.now input.now machine.fuel) (place.region - 1) machine }
-    requires reports { reports ≡ region_reports program.now (take (place.region - 1) plans.now) (source_run program.now input.now machine.fuel) }
+    requires region { (1 ≤ place.region) × (place.region ≤ length prepared.now.plans) }
+    requires between { Between prepared.now.program input.now machine.fuel (source_run prepared.now.program input.now machine.fuel) (place.region - 1) machine }
+    requires reports { reports ≡ region_reports prepared.now.program (take (place.region - 1) prepared.now.plans) (source_run prepared.now.program input.now machine.fuel) }
     requires words { length input.now ≤ 65536 }
     requires fuel { machine.fuel ≤ 1000000000 }
-    requires crew { (1 ≤ crew.workers) × (crew.workers ≤ 8) × (1 ≤ crew.lane) × (crew.lane ≤ 64) }
     requires sink { K.faults sink.old < 2 ^ 64 - 1 }
     ensures faults { FaultsAfter result (K.faults sink.old) (K.faults sink.new) }
-    ensures ok { IfOk result (λ ended. (ended ≡ saved_end program.now input.now machine.entry.fuel place.region place.after)
-        × (K.written sink.new ≡ appended (left_from program.now plans.now input.now place.region place.after machine.entry (start (source_run program.now input.now machine.entry.fuel) place.region place.after)) (K.written sink.old))) }
-    ensures err { OnErr result (WritesFront (left_from program.now plans.now input.now place.region place.after machine.entry (start (source_run program.now input.now machine.entry.fuel) place.region place.after)) (K.written sink.old) (K.written sink.new)) }
+    ensures ok { IfOk result (λ ended. (ended ≡ saved_end prepared.now.program input.now machine.entry.fuel place.region place.after)
+        × (K.written sink.new ≡ appended (left_from prepared.now.program prepared.now.plans input.now place.region place.after machine.entry (start (source_run prepared.now.program input.now machine.entry.fuel) place.region place.after)) (K.written sink.old))) }
+    ensures err { OnErr result (WritesFront (left_from prepared.now.program prepared.now.plans input.now place.region place.after machine.entry (start (source_run prepared.now.program input.now machine.entry.fuel) place.region place.after)) (K.written sink.old) (K.written sink.new)) }
 {
-    let plan = plan_of(plans, place.region);
-    let (machine, report, end) = reach(
-        rt,
-        alloc,
-        program,
-        plan,
-        input,
-        machine,
-        crew,
-        place.after,
-        sink,
-    )?;
+    let program = prepared.program();
+    let number = place.region;
+    let region = region_of(prepared, number);
+    let (machine, report, end) = reach(rt, alloc, region, input, machine, size, place.after, sink)?;
     let mut told = reports;
     told.push(report)?;
     match end {
         None => write_saved(alloc, program, place, machine, told, sink),
         Some(end) => run_on(
-            rt,
-            alloc,
-            program,
-            plans,
-            input,
-            machine,
-            crew,
-            place.region,
-            end,
-            told,
-            sink,
-            gate,
+            rt, alloc, prepared, input, machine, size, number, end, told, sink, gate,
         ),
     }
 }
@@ -153,33 +114,28 @@ fn save_in<'p, R: Threads + Wait + Clock + Sync, K: Sink, G: Gate>(
 fn run_whole<R: Threads + Wait + Clock + Sync, K: Sink, G: Gate>(
     rt: &R,
     alloc: Global,
-    program: &Program,
-    plans: &[Plan],
+    prepared: &PreparedProgram<'_>,
     input: &[i64],
     fuel: u64,
-    crew: CrewSize,
+    size: CrewSize,
     sink: &mut K,
     gate: &G,
 ) -> Result<SaveEnd, WriteFail>
-    requires given { AreGiven program.now plans.now }
     requires words { length input.now ≤ 65536 }
     requires fuel { fuel ≤ 1000000000 }
-    requires crew { (1 ≤ crew.workers) × (crew.workers ≤ 8) × (1 ≤ crew.lane) × (crew.lane ≤ 64) }
     requires sink { K.faults sink.old < 2 ^ 64 - 1 }
     ensures faults { FaultsAfter result (K.faults sink.old) (K.faults sink.new) }
-    ensures ok { IfOk result (λ ended. (ended ≡ HasRun (source_run program.now input.now fuel).end)
-        × (K.written sink.new ≡ appended (trace_text program.now plans.now (source_run program.now input.now fuel) false) (K.written sink.old))) }
-    ensures err { OnErr result (WritesFront (trace_text program.now plans.now (source_run program.now input.now fuel) false) (K.written sink.old) (K.written sink.new)) }
+    ensures ok { IfOk result (λ ended. (ended ≡ HasRun (source_run prepared.now.program input.now fuel).end)
+        × (K.written sink.new ≡ appended (trace_text prepared.now.program prepared.now.plans (source_run prepared.now.program input.now fuel) false) (K.written sink.old))) }
+    ensures err { OnErr result (WritesFront (trace_text prepared.now.program prepared.now.plans (source_run prepared.now.program input.now fuel) false) (K.written sink.old) (K.written sink.new)) }
 {
     let options = RunOptions {
         fuel,
-        crew,
+        size,
         why: false,
     };
-    let mut tally = Tally::new();
-    let end = run_program(
-        rt, alloc, program, plans, input, options, sink, gate, &mut tally,
-    )?;
+    let mut tally = Tally::new(Unwatched);
+    let end = run_program(rt, alloc, prepared, input, options, sink, gate, &mut tally)?;
     Ok(SaveEnd::Ran(end))
 }
 
@@ -188,40 +144,38 @@ fn run_whole<R: Threads + Wait + Clock + Sync, K: Sink, G: Gate>(
 pub fn save_program<R: Threads + Wait + Clock + Sync, K: Sink, G: Gate>(
     rt: &R,
     alloc: Global,
-    program: &Program,
-    plans: &[Plan],
+    prepared: &PreparedProgram<'_>,
     input: &[i64],
     fuel: u64,
-    crew: CrewSize,
+    size: CrewSize,
     place: SavePlace,
     sink: &mut K,
     gate: &G,
 ) -> Result<SaveEnd, WriteFail>
-    requires given { AreGiven program.now plans.now }
     requires words { length input.now ≤ 65536 }
     requires fuel { fuel ≤ 1000000000 }
-    requires crew { (1 ≤ crew.workers) × (crew.workers ≤ 8) × (1 ≤ crew.lane) × (crew.lane ≤ 64) }
     requires region { 1 ≤ place.region }
     requires sink { K.faults sink.old < 2 ^ 64 - 1 }
     ensures faults { FaultsAfter result (K.faults sink.old) (K.faults sink.new) }
-    ensures ok { IfOk result (λ end. (end ≡ saved_end program.now input.now fuel place.region place.after)
-        × (K.written sink.new ≡ appended (saved_bytes program.now plans.now input.now fuel place.region place.after) (K.written sink.old))) }
-    ensures err { OnErr result (WritesFront (saved_bytes program.now plans.now input.now fuel place.region place.after) (K.written sink.old) (K.written sink.new)) }
+    ensures ok { IfOk result (λ end. (end ≡ saved_end prepared.now.program input.now fuel place.region place.after)
+        × (K.written sink.new ≡ appended (saved_bytes prepared.now.program prepared.now.plans input.now fuel place.region place.after) (K.written sink.old))) }
+    ensures err { OnErr result (WritesFront (saved_bytes prepared.now.program prepared.now.plans input.now fuel place.region place.after) (K.written sink.old) (K.written sink.new)) }
 {
-    if place.region as usize > plans.len() {
-        return run_whole(rt, alloc, program, plans, input, fuel, crew, sink, gate);
+    let program = prepared.program();
+    if place.region as usize > region_count(prepared) {
+        return run_whole(rt, alloc, prepared, input, fuel, size, sink, gate);
     }
-    let before = plans_before(plans, place.region - 1);
+    let before = regions_before(prepared, place.region - 1);
     let machine = Machine::new(alloc, program, input, fuel)?;
     let mut told = Row::new(alloc);
-    let mut tally = Tally::new();
+    let mut tally = Tally::new(Unwatched);
     let (machine, end) = run_parts(
-        rt, alloc, program, before, input, machine, crew, &mut told, sink, gate, &mut tally,
+        rt, alloc, before, input, machine, size, &mut told, sink, gate, &mut tally,
     )?;
     match end {
         Some(end) => finish(alloc, program, machine, told, end, sink),
         None => save_in(
-            rt, alloc, program, plans, input, machine, crew, place, told, sink, gate,
+            rt, alloc, prepared, input, machine, size, place, told, sink, gate,
         ),
     }
 }

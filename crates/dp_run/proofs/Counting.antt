@@ -67,8 +67,8 @@ take_few : {X : Type 0} (n : ℕ) (xs : List X) → length (take n xs) ≤ n
 take_few n xs = let e = length-take n xs in omega (arith, e)
 
 module _ (p : Program) (plans : List Plan) (run : Run) where
-  pub counted_none : (told : List RegionReport) (before : ℕ) → Counted p plans run 0 told told before before
-  counted_none told before = record { reports_are = sym (append-nil told); tally_is = omega arith }
+  pub counted_none : (told : List RegionReport) (before now : ℕ) → now ≡ before → Counted p plans run 0 told told before now
+  counted_none told before now same = record { reports_are = sym (append-nil told); tally_is = omega (arith, same) }
 
   -- one region more
   pub counted_next : (n : ℕ) (plan : Plan) → slice_get plans n ≡ Some plan → (told reports more : List RegionReport) (before mid now : ℕ) → Counted p plans run n told reports before mid →

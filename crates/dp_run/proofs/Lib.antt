@@ -1,3 +1,4 @@
+pub mod PlansIn
 pub mod Lists
 pub mod StreamLemmas
 pub mod RegionsLeft
@@ -16,4 +17,6 @@ pub mod RegionFirst
 pub mod RegionCalls
 pub mod Ending
 pub mod PlanByPlan
+pub mod RegionByRegion
 pub mod Whole
+pub mod WholePrepared

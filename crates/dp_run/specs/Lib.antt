@@ -1,4 +1,5 @@
 pub mod RunText
+pub mod Prepared
 pub mod Given
 pub mod Regions
 pub mod Stretches

@@ -4,12 +4,14 @@
 
 mod parts;
 mod plain;
+mod prepared;
 mod program;
 mod stretch;
 
-pub use dp_commit::Tally;
+pub use dp_commit::{Progress, Tally, Unwatched, Watch};
 pub use dp_epoch::CrewSize;
 pub use parts::run_parts;
 pub use plain::run_plain;
+pub use prepared::PreparedProgram;
 pub use program::{RunOptions, end_of, run_program, write_end};
 pub use stretch::run_stretch;

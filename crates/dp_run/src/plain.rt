@@ -10,6 +10,7 @@ ghost use Rattle.dp_run.specs.Stretches.{Behind, FrontBefore, Leads, Passed, to_
 ghost use Rattle.dp_run.specs.steps.Calls.{PartSteps};
 
 use dp_base::{End, Row};
+use dp_commit::{Tally, Watch};
 use dp_crew::{flush, flush_if_many};
 use dp_edge::{Sink, WriteFail};
 use dp_meaning::{Machine, Part, PartEnd};
@@ -19,13 +20,15 @@ use std::alloc::Global;
 const TURNS: u32 = 65536;
 
 /// Runs the plain part that comes next, if one does, and answers the run's end if that comes in it.
-pub fn run_plain<'p, K: Sink>(
+pub fn run_plain<'p, K: Sink, W: Watch>(
     alloc: Global,
     machine: &mut Machine<'p>,
     sink: &mut K,
+    tally: &mut Tally<W>,
 ) -> Result<Option<End>, WriteFail>
     requires sink { K.faults sink.old < 2 ^ 64 - 1 }
     ensures faults { FaultsAfter result (K.faults sink.old) (K.faults sink.new) }
+    ensures tally { tally.new ≡ tally.old }
     ensures ok { IfOk result (λ end. (p : Tree) (input : List ℤ) (fuel : ℕ) (run : Run) (n : ℕ) → Behind p input fuel run n machine.old → Leads p input fuel run n machine.new end) }
     ensures plain { OnErr result (next_part machine.old ≡ Plain) }
     ensures streams { Streams result (to_come machine.old) (λ _. to_come machine.new) (K.written sink.old) (K.written sink.new) }
@@ -35,28 +38,30 @@ pub fn run_plain<'p, K: Sink>(
         return Ok(None);
     };
     let mut waiting = Row::new(alloc);
-    let end = finish_plain(alloc, machine, &mut waiting, sink)?;
+    let end = finish_plain(alloc, machine, &mut waiting, sink, tally)?;
     flush(alloc, &mut waiting, sink)?;
     Ok(end)
 }
 
 /// Runs it to its end, or to the run's.
-fn finish_plain<'p, K: Sink>(
+fn finish_plain<'p, K: Sink, W: Watch>(
     alloc: Global,
     machine: &mut Machine<'p>,
     waiting: &mut Row<i64>,
     sink: &mut K,
+    tally: &mut Tally<W>,
 ) -> Result<Option<End>, WriteFail>
     requires sink { K.faults sink.old < 2 ^ 64 - 1 }
     requires part { next_part machine.old ≡ Plain }
     ensures faults { FaultsAfter result (K.faults sink.old) (K.faults sink.new) }
+    ensures tally { tally.new ≡ tally.old }
     ensures ok { IfOk result (λ end. (p : Tree) (input : List ℤ) (fuel : ℕ) (run : Run) (n : ℕ) → Behind p input fuel run n machine.old → Leads p input fuel run n machine.new end) }
     ensures streams { Streams result (waiting.old ++ to_come machine.old) (λ _. waiting.new ++ to_come machine.new) (K.written sink.old) (K.written sink.new) }
     ensures before { OnErr result (FrontBefore 0 waiting.old machine.old (K.written sink.old) (K.written sink.new)) }
     ensures passes { OnOk result (Passed (rest_of_run machine.old) (rest_of_run machine.new) 0) }
 {
     'calls: loop {
-        match go_on(alloc, machine, waiting, sink)? {
+        match go_on(alloc, machine, waiting, sink, tally)? {
             PartEnd::Going => {}
             PartEnd::Done => return Ok(None),
             PartEnd::Fault(fault) => return Ok(Some(End::Fault(fault))),
@@ -66,21 +71,24 @@ fn finish_plain<'p, K: Sink>(
 }
 
 /// Makes some steps of it. Then prints are written where many wait.
-fn go_on<'p, K: Sink>(
+fn go_on<'p, K: Sink, W: Watch>(
     alloc: Global,
     machine: &mut Machine<'p>,
     waiting: &mut Row<i64>,
     sink: &mut K,
+    tally: &mut Tally<W>,
 ) -> Result<PartEnd, WriteFail>
     requires sink { K.faults sink.old < 2 ^ 64 - 1 }
     requires part { next_part machine.old ≡ Plain }
     ensures faults { FaultsAfter result (K.faults sink.old) (K.faults sink.new) }
+    ensures tally { tally.new ≡ tally.old }
     ensures ok { IfOk result (λ end. PartSteps machine.old machine.new end) }
     ensures few { OnOk result (length waiting.new < 4096) }
     ensures streams { Streams result (waiting.old ++ to_come machine.old) (λ _. waiting.new ++ to_come machine.new) (K.written sink.old) (K.written sink.new) }
     ensures before { OnErr result (FrontBefore 0 waiting.old machine.old (K.written sink.old) (K.written sink.new)) }
 {
     let end = machine.run_part(TURNS, waiting)?;
+    tally.made(machine.steps());
     flush_if_many(alloc, waiting, sink)?;
     Ok(end)
 }

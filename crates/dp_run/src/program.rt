@@ -3,17 +3,16 @@ ghost use Rattle.std.specs.Prelude.{◌≡◌, ◌<◌, ◌≤◌, ◌-◌, ◌+
 ghost use Rattle.dp_edge.specs.Sink.{appended};
 ghost use Rattle.dp_report.specs.EndText.{end_bytes};
 ghost use Rattle.dp_edge.specs.Writing.{FaultsAfter, WritesFront};
-ghost use Rattle.dp_run.specs.Given.{AreGiven};
 ghost use Rattle.dp_run.specs.RunText.{committed_in_all, source_run, trace_text};
 ghost use Rattle.dp_run.specs.Stretches.{ended_by};
 
 use crate::parts::run_parts;
+use crate::prepared::PreparedProgram;
 use dp_base::{Cells, End, RegionReport, Row};
-use dp_commit::Tally;
+use dp_commit::{Tally, Watch};
 use dp_edge::{Gate, Sink, WriteFail, write};
 use dp_epoch::CrewSize;
 use dp_meaning::Machine;
-use dp_plan::Plan;
 use dp_report::end_text;
 use dp_tree::Program;
 use std::alloc::Global;
@@ -27,7 +26,7 @@ pub struct RunOptions {
     /// The greatest number of steps.
     pub fuel: u64,
     /// The workers of a replicated stage, and the places of a lane.
-    pub crew: CrewSize,
+    pub size: CrewSize,
     /// Whether the text says why iterations were executed again.
     pub why: bool,
 }
@@ -35,38 +34,44 @@ pub struct RunOptions {
 /// Runs the program to its end or to the end of its fuel, each region under its plan, and writes the text of the run.
 ///
 /// Prints are written as the run goes on, so that memory doesn't grow with them.
-pub fn run_program<R: Threads + Wait + Clock + Sync, K: Sink, G: Gate>(
+pub fn run_program<R: Threads + Wait + Clock + Sync, K: Sink, G: Gate, W: Watch>(
     rt: &R,
     alloc: Global,
-    program: &Program,
-    plans: &[Plan],
+    prepared: &PreparedProgram<'_>,
     input: &[i64],
     options: RunOptions,
     sink: &mut K,
     gate: &G,
-    tally: &mut Tally,
+    tally: &mut Tally<W>,
 ) -> Result<End, WriteFail>
-    requires given { AreGiven program.now plans.now }
     requires words { length input.now ≤ 65536 }
     requires fuel { options.fuel ≤ 1000000000 }
-    requires crew { (1 ≤ options.crew.workers) × (options.crew.workers ≤ 8) × (1 ≤ options.crew.lane) × (options.crew.lane ≤ 64) }
     requires sink { K.faults sink.old < 2 ^ 64 - 1 }
     requires room { tally.old < 2 ^ 63 }
     ensures faults { FaultsAfter result (K.faults sink.old) (K.faults sink.new) }
-    ensures ok { let run = source_run program.now input.now options.fuel in
-        IfOk result (λ end. (end ≡ run.end) × (K.written sink.new ≡ appended (trace_text program.now plans.now run options.why) (K.written sink.old))) }
-    ensures err { OnErr result (WritesFront (trace_text program.now plans.now (source_run program.now input.now options.fuel) options.why) (K.written sink.old) (K.written sink.new)) }
-    ensures tally { OnOk result (tally.new ≡ tally.old + committed_in_all program.now plans.now (source_run program.now input.now options.fuel)) }
+    ensures ok { let run = source_run prepared.now.program input.now options.fuel in
+        IfOk result (λ end. (end ≡ run.end) × (K.written sink.new ≡ appended (trace_text prepared.now.program prepared.now.plans run options.why) (K.written sink.old))) }
+    ensures err { OnErr result (WritesFront (trace_text prepared.now.program prepared.now.plans (source_run prepared.now.program input.now options.fuel) options.why) (K.written sink.old) (K.written sink.new)) }
+    ensures tally { OnOk result (tally.new ≡ tally.old + committed_in_all prepared.now.program prepared.now.plans (source_run prepared.now.program input.now options.fuel)) }
 {
-    let (crew, why) = (options.crew, options.why);
+    let program = prepared.program();
     let machine = Machine::new(alloc, program, input, options.fuel)?;
     let mut told = Row::new(alloc);
     let (machine, end) = run_parts(
-        rt, alloc, program, plans, input, machine, crew, &mut told, sink, gate, tally,
+        rt,
+        alloc,
+        prepared.regions(),
+        input,
+        machine,
+        options.size,
+        &mut told,
+        sink,
+        gate,
+        tally,
     )?;
     let end = end_of(end);
     let cells = machine.cells();
-    write_end(alloc, program, cells, &told, end, why, sink)?;
+    write_end(alloc, program, cells, &told, end, options.why, sink)?;
     Ok(end)
 }
 

@@ -1,3 +1,4 @@
 pub mod Ends
 pub mod Engine
+pub mod Prepared
 pub mod Asking

@@ -15,18 +15,19 @@ mod ends;
 mod faults;
 mod making;
 mod ops;
+mod prepared;
 mod producing;
 mod turning;
 
-pub use making::make_ready;
+pub use prepared::{PreparedCode, Tables};
 pub use turning::{Rows, stage_turn, turn_over};
 
 /// A code that is ready to be run.
-#[derive(Drop)]
+#[derive(Clone, Copy)]
 pub struct Ready<'p> {
     pub code: Code<'p>,
     /// One for each place.
-    pub notes: Row<Note>,
+    pub notes: &'p [Note],
 }
 
 /// What a turn is run on.

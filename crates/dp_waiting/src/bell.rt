@@ -10,12 +10,25 @@ use std::time::Duration;
 const SLEEP: u64 = 1;
 
 /// One thread sleeps by it, and others ring it where there may be something to do for that thread.
-#[derive(Drop)]
 pub struct Bell {
     /// The thread's unit is a worker of a replicated stage.
     is_workers: bool,
     is_awaited: AtomicBool,
+    /// Nothing more comes for the thread.
+    is_over: AtomicBool,
     parker: Parker,
+}
+
+// By hand, so that a crate above doesn't prove again how all that it holds is dropped.
+impl Drop for Bell {
+    fn drop(self) {
+        let Bell {
+            is_workers: _,
+            is_awaited: _,
+            is_over: _,
+            parker: _,
+        } = self;
+    }
 }
 
 impl Bell {
@@ -24,6 +37,7 @@ impl Bell {
         Bell {
             is_workers,
             is_awaited: AtomicBool::new(false),
+            is_over: AtomicBool::new(false),
             parker: Parker::new(),
         }
     }
@@ -41,6 +55,17 @@ impl Bell {
         }
     }
 
+    /// Tells the thread that nothing more comes for it, and wakes it.
+    pub fn close(&self) {
+        self.is_over.store(true, Ordering::SeqCst);
+        self.ring();
+    }
+
+    /// Whether nothing more comes. What was done in front of the closing is seen by who has seen this.
+    pub fn is_over(&self) -> bool {
+        self.is_over.load(Ordering::SeqCst)
+    }
+
     /// From now on a ring ends the thread's next sleep.
     pub(crate) fn await_ring(&self) {
         self.is_awaited.store(true, Ordering::SeqCst);
@@ -51,8 +76,27 @@ impl Bell {
         self.is_awaited.store(false, Ordering::SeqCst);
     }
 
+    /// Sleeps until it rings.
+    pub(crate) fn rest<R: Wait>(&self, rt: &R) {
+        self.parker.park(rt);
+    }
+
     /// Sleeps until it rings, and a millisecond at most.
     pub(crate) fn sleep<R: Wait>(&self, rt: &R) {
         self.parker.park_timeout(rt, Duration::from_millis(SLEEP));
+    }
+}
+
+/// Wakes the threads of these bells.
+pub fn ring_all(bells: &[Bell]) {
+    for bell in bells {
+        bell.ring();
+    }
+}
+
+/// Wakes the thread of the bell at this place.
+pub fn ring_at(bells: &[Bell], place: usize) {
+    if let Some(bell) = bells.get(place) {
+        bell.ring();
     }
 }

@@ -6,5 +6,5 @@ mod beside;
 mod patience;
 mod pause;
 
-pub use bell::Bell;
-pub use pause::{Pause, ring_all};
+pub use bell::{Bell, ring_all, ring_at};
+pub use pause::Pause;

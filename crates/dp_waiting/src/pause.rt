@@ -1,7 +1,7 @@
 //! How a thread waits for the threads beside it.
 ghost use Rattle.std.specs.Prelude.{◌≡◌, ◌<◌, ◌⊎◌};
 
-use crate::bell::Bell;
+use crate::bell::{Bell, ring_all};
 use crate::beside::{after, before};
 use crate::patience::Patience;
 use crossbeam_utils::Backoff;
@@ -79,10 +79,28 @@ impl<'b> Pause<'b> {
         ensures most { self.new.most ≡ self.old.most }
     {
         self.tell();
-        match self.own {
-            Some(bell) => self.wait_by(rt, bell),
-            None => self.backoff.snooze(),
+        if let Some(bell) = self.idle(rt) {
+            bell.sleep(rt);
+            self.wake();
         }
+    }
+
+    /// Nothing is there to poll. It waits as above, but sleeps until it is rung: nothing comes to the thread without a ring.
+    pub fn rest<R: Wait + Clock>(&mut self, rt: &R)
+        ensures { (self.new.items ≡ self.old.items) × (self.new.most ≡ self.old.most) }
+    {
+        if let Some(bell) = self.idle(rt) {
+            bell.rest(rt);
+            self.wake();
+        }
+    }
+
+    /// There is something to poll again.
+    pub fn begin(&mut self)
+        ensures pauses { self.new.pauses ≡ 0 }
+        ensures items { (self.new.items ≡ self.old.items) × (self.new.most ≡ self.old.most) }
+    {
+        self.wake();
     }
 
     /// Wakes the threads beside.
@@ -105,28 +123,27 @@ impl<'b> Pause<'b> {
         }
     }
 
-    fn wait_by<R: Wait + Clock>(&mut self, rt: &R, bell: &Bell)
+    /// One turn without work: it spins, or lets others run, or awaits its bell. The bell that it sleeps by, where it did all that.
+    fn idle<C: Clock>(&mut self, clock: &C) -> Option<&'b Bell>
         ensures { (self.new.items ≡ self.old.items) × (self.new.most ≡ self.old.most) }
     {
+        let Some(bell) = self.own else {
+            self.backoff.snooze();
+            return None;
+        };
         if self.pauses < SPINS {
             self.pauses += 1;
             self.backoff.spin();
-        } else if !self.patience.give_way(rt) {
-            self.sleep_by(rt, bell);
-        }
-    }
-
-    /// The first time the bell is awaited, and then it is slept by.
-    fn sleep_by<R: Wait>(&mut self, rt: &R, bell: &Bell)
-        ensures { (self.new.items ≡ self.old.items) × (self.new.most ≡ self.old.most) }
-    {
-        if self.is_awaiting {
-            bell.sleep(rt);
-            self.wake();
+            None
+        } else if self.patience.give_way(clock) {
+            None
+        } else if self.is_awaiting {
+            Some(bell)
         } else {
             self.is_awaiting = true;
             self.patience.rest();
             bell.await_ring();
+            None
         }
     }
 
@@ -159,12 +176,5 @@ fn most_of(own: Option<&Bell>) -> u32 {
             }
         }
         None => ITEMS,
-    }
-}
-
-/// Wakes the threads of these bells.
-pub fn ring_all(bells: &[Bell]) {
-    for bell in bells {
-        bell.ring();
     }
 }

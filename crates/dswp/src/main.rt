@@ -7,9 +7,10 @@ mod tests;
 
 use dp_drive::drive;
 use dp_edge::OpenGate;
+use dp_messages::{Kept, Line, Shown, tell};
 use dp_run::Tally;
 use dp_system::{FileShelf, OutSink};
-use std::io::ErrorKind;
+use std::io::{ErrorKind, IsTerminal};
 use std::process::ExitCode;
 use std::{env, io};
 
@@ -25,8 +26,11 @@ fn main(rt: HostRuntime) -> ExitCode {
         Err(_) => Vec::new(rt.alloc()),
     };
     let mut files = FileShelf::new(&rt);
-    let mut output = OutSink::new(&rt);
-    let mut tally = Tally::new();
+    let stderr = rt.stderr();
+    let shown = Shown::new(&stderr);
+    let mut output = Kept::new(rt.alloc(), OutSink::new(&rt), &shown);
+    let progress = Line::new(rt.alloc(), &rt, &shown, is_watched(&rt));
+    let mut tally = Tally::new(progress);
     let status = drive(
         &rt,
         rt.alloc(),
@@ -36,7 +40,22 @@ fn main(rt: HostRuntime) -> ExitCode {
         &OpenGate,
         &mut tally,
     );
+    shown.wipe();
+    tell_people(&rt, words.as_slice(), status, output.tail());
     ExitCode::from(status)
+}
+
+/// Whether somebody watches a terminal, and hasn't asked for plain text.
+fn is_watched(rt: &HostRuntime) -> bool {
+    rt.stderr().is_terminal() && env::var(rt, "NO_COLOR").is_err()
+}
+
+/// Writes what people are told to standard error. What fails there changes no answer.
+fn tell_people(rt: &HostRuntime, words: &[String], status: u8, tail: &[u8]) {
+    let stderr = rt.stderr();
+    let mut files = FileShelf::new(rt);
+    let mut errors = OutSink::new(&stderr);
+    let _ = tell(rt.alloc(), words, &mut files, status, tail, &mut errors);
 }
 
 /// The words after the program's name.

@@ -12,6 +12,7 @@ use super::Runner;
 use crate::committing::{cells_of, commit};
 use crate::group::Group;
 use dp_base::{Cause, NoMemory, Row};
+use dp_commit::{Tally, Unwatched};
 use dp_epoch::{RegionEnd, execute_again};
 use dp_judge::{Clean, Verdict};
 use dp_log::SetOf;
@@ -21,7 +22,7 @@ use std::mem;
 use std::sync::Wait;
 use std::time::Clock;
 
-impl<'s, 'p> Runner<'s, 'p>
+impl<'s, 'q, 'p> Runner<'s, 'q, 'p>
 where
     'p: 's,
 {
@@ -105,7 +106,7 @@ where
             Unclean p plan input first self.old cause → Makes p plan input first self.old.ledger.committed self.new group) }
     {
         let number = self.ledger.committed.count();
-        let end = execute_again(&mut self.ledger, cause)?;
+        let end = execute_again(&mut self.ledger, cause, &mut Tally::new(Unwatched))?;
         let cells = self.ledger.committed.cells();
         let sets = self.known.changes(self.epochs.alloc, cells)?;
         Ok(self.group(number, true, sets, ended_so(end)))

@@ -1,6 +1,5 @@
 -- Words ask for one thing only.
 use Rattle.std.proofs.Common.{◌≡◌, refl, sym, ap, ap₂, ◌∙◌, ℕ, List, Some, None, codes}
-use Rattle.std.specs.Option.{option_map}
 use Rattle.clap.specs.Words.{App, Text}
 use Rattle.dp_words.proofs.VerbLemmas.{apart, asks_verb, behind, named_behind, verb_of}
 use Rattle.dp_words.specs.Commands.{audit_app, batch_app, check_app, gen_app, log_app, plan_app, profile_app, resume_app, run_app, save_app, value_in}

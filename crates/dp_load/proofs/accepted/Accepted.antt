@@ -20,7 +20,7 @@ use Rattle.dp_load.proofs.accepted.Lengths.{lengths}
 use Rattle.dp_load.proofs.accepted.Exits.{exits}
 
 -- A program that isn't too large is the one that was checked.
-kept : (q p : Program) (v : Result Program InlineFail) → sized q v ≡ Ok p → q ≡ p
+pub kept : (q p : Program) (v : Result Program InlineFail) → sized q v ≡ Ok p → q ≡ p
 kept q p (Ok x) e = cc
 kept q p (Err fail) e = absurd (cc)
 

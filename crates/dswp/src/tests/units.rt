@@ -1,20 +1,17 @@
 //! The units of one epoch, polled by hand: what a poll answers, and that no order of polls changes a verdict.
-ghost use Rattle.std.specs.Prelude.{◌≡◌, ◌≤◌, ◌<◌, ◌^◌, ◌-◌, IfOk};
+ghost use Rattle.std.specs.Prelude.{◌≡◌, ◌<◌, ◌^◌, ◌-◌, IfOk};
 ghost use Rattle.dp_tree.specs.Inlined.{IsInlined};
-ghost use Rattle.dp_plan.specs.GivenPlans.{IsPlan};
-ghost use Rattle.dp_pipeline.specs.Programs.{ArePrograms};
 
 use super::shelf_of;
 use dp_base::{Cells, NoMemory, Row};
-use dp_code::StageProgram;
 use dp_edge::{OpenGate, Shelf};
 use dp_judge::Verdict;
 use dp_load::{Loaded, load_plans, load_program};
 use dp_meaning::Machine;
-use dp_pipeline::{LaneVerdicts, Pipeline, stage_programs};
-use dp_plan::Plan;
+use dp_pipeline::{Begin, CrewSize, LaneVerdicts, Pipeline};
+use dp_prepared::PreparedRegion;
 use dp_relay::{IdleWhy, Polled};
-use dp_stop::{Stop, StopSetter};
+use dp_stop::StopSetter;
 use dp_tree::Program;
 use std::alloc::Global;
 use std::process::Abort;
@@ -53,29 +50,23 @@ impl Order {
 /// The pipeline of an epoch that begins with the first iteration, in a memory of zeros.
 fn pipeline_of<'u>(
     alloc: Global,
-    p: &'u Program,
-    plan: &'u Plan,
-    programs: &'u [StageProgram],
-    workers: u32,
-    lane: u32,
-    stop: &'u Stop,
+    region: &'u PreparedRegion<'_>,
+    size: CrewSize,
     setter: &mut StopSetter,
 ) -> Result<Pipeline<'u>, NoMemory>
-    requires inlined { IsInlined p.now }
-    requires plan { IsPlan p.now plan.now }
-    requires programs { ArePrograms p.now plan.now programs.now }
-    requires workers { (1 ≤ workers) × (workers ≤ 8) }
-    requires lane { (1 ≤ lane) × (lane ≤ 64) }
-    requires setter { setter.old.flag ≡ stop.now }
     ensures { IfOk result (λ made. made.verdicts.given ≡ 0) }
 {
-    let machine = Machine::new(alloc, p, &WORDS, 1_000)?;
+    let machine = Machine::new(alloc, region.program(), &WORDS, 1_000)?;
     match u32::try_from(machine.cells().len()) {
         Ok(count) => {
             let base = Cells::new(alloc, count)?;
-            Pipeline::new(
-                alloc, p, plan, &WORDS, programs, 0, &base, 0, 1_000, workers, lane, stop, setter,
-            )
+            let begin = Begin {
+                first: 0,
+                base: &base,
+                steps: 0,
+                fuel: 1_000,
+            };
+            Pipeline::new(alloc, region, &WORDS, begin, size, setter)
         }
         Err(_) => Err(NoMemory),
     }
@@ -102,28 +93,15 @@ fn all_clean<R: Wait + Clock>(rt: &R, verdicts: &mut LaneVerdicts<'_>, count: u3
 fn is_clean_in<R: Wait + Clock>(
     rt: &R,
     alloc: Global,
-    p: &Program,
-    plan: &Plan,
+    region: &PreparedRegion<'_>,
     order: Order,
-) -> Result<bool, NoMemory>
-    requires inlined { IsInlined p.now }
-    requires plan { IsPlan p.now plan.now }
-{
-    let programs = stage_programs(alloc, p, plan)?;
-    let (stop, mut setter) = Stop::new(alloc)?;
+) -> Result<bool, NoMemory> {
+    let mut setter = StopSetter::new(alloc)?;
+    let size = CrewSize::new(2, 16, true);
     let Pipeline {
         mut units,
         mut verdicts,
-    } = pipeline_of(
-        alloc,
-        p,
-        plan,
-        programs.as_slice(),
-        2,
-        16,
-        &stop,
-        &mut setter,
-    )?;
+    } = pipeline_of(alloc, region, size, &mut setter)?;
     let mut number: u64 = 1;
     for turn in 0..POLLS {
         number = number.wrapping_mul(1_103_515_245).wrapping_add(12_345) % 2_147_483_648;
@@ -139,24 +117,11 @@ fn is_clean_in<R: Wait + Clock>(
 fn first_answers<R: Wait + Clock>(
     rt: &R,
     alloc: Global,
-    p: &Program,
-    plan: &Plan,
-) -> Result<Row<Polled>, NoMemory>
-    requires inlined { IsInlined p.now }
-    requires plan { IsPlan p.now plan.now }
-{
-    let programs = stage_programs(alloc, p, plan)?;
-    let (stop, mut setter) = Stop::new(alloc)?;
-    let Pipeline { mut units, .. } = pipeline_of(
-        alloc,
-        p,
-        plan,
-        programs.as_slice(),
-        1,
-        1,
-        &stop,
-        &mut setter,
-    )?;
+    region: &PreparedRegion<'_>,
+) -> Result<Row<Polled>, NoMemory> {
+    let mut setter = StopSetter::new(alloc)?;
+    let size = CrewSize::new(1, 1, true);
+    let Pipeline { mut units, .. } = pipeline_of(alloc, region, size, &mut setter)?;
     let mut answers = Row::new(alloc);
     for place in [3, 0, 0] {
         if let Some(unit) = units.as_mut_slice().get_mut(place) {
@@ -166,25 +131,21 @@ fn first_answers<R: Wait + Clock>(
     Ok(answers)
 }
 
-/// The rows for one plan.
+/// The rows for one region.
 fn each_row<R: Abort + Wait + Clock>(
     rt: &R,
     alloc: Global,
-    p: &Program,
-    plan: &Plan,
-) -> Result<(), NoMemory>
-    requires inlined { IsInlined p.now }
-    requires plan { IsPlan p.now plan.now }
-{
+    region: &PreparedRegion<'_>,
+) -> Result<(), NoMemory> {
     let expected = [
         Polled::Idle(IdleWhy::Empty),
         Polled::Moved,
         Polled::Idle(IdleWhy::Busy { word: 1 }),
     ];
-    let answers = first_answers(rt, alloc, p, plan)?;
+    let answers = first_answers(rt, alloc, region)?;
     assert!(rt; answers.as_slice() == expected.as_slice());
     for order in [Order::Forwards, Order::Backwards, Order::Mixed] {
-        assert!(rt; is_clean_in(rt, alloc, p, plan, order)?);
+        assert!(rt; is_clean_in(rt, alloc, region, order)?);
     }
     Ok(())
 }
@@ -201,7 +162,10 @@ fn with_program<R: Abort + Wait + Clock, S: Shelf>(
 {
     match load_plans(alloc, shelf, "plan.txt", program)? {
         Loaded::Text(plans) => match plans.as_slice().first() {
-            Some(plan) => each_row(rt, alloc, program, plan)?,
+            Some(plan) => {
+                let region = PreparedRegion::new(alloc, program, plan)?;
+                each_row(rt, alloc, &region)?
+            }
             None => assert!(rt; false, "no plan"),
         },
         Loaded::Refused(_) | Loaded::Failed => assert!(rt; false, "a refused plan"),

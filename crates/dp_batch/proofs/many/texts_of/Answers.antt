@@ -1,12 +1,22 @@
+use denote.Param.Send.{sendable}
 use Rattle.std.proofs.Common.{rules, ◌≡◌, sym, ap, subst, ◌∙◌, ℕ, List, Result, IfOk, length, get_or}
+use Rattle.std.proofs.Crossing as crossing
 use Rattle.dp_room.specs.declared.NoMemory.{NoMemory}
+use Rattle.dp_room.proofs.row.Row.TheSendSync as row
+use Rattle.dp_batch.proofs.seats.Seats.TheSendSync as seats
 use Rattle.dp_batch.specs.BatchText.{AreTexts, run_text}
+use Rattle.dp_batch.proofs.Crossing.{prepared_sync}
 use Rattle.dp_batch.proofs.TextLemmas.{each_beside, written_back}
 use Rattle.dp_batch.proofs.many.texts_of.Goals as goal
 
+pub for_each_mut-requires-sync-F : goal.for_each_mut-requires-sync-F
+for_each_mut-requires-sync-F g c κs within =
+    let r = c.type_bounds.sync-R in
+    search (prepared_sync, row.the_sync, seats.the_sync, crossing.crosses, sendable) depth 60 fits 20000
+
 pub returns : goal.returns
 returns g c =
-    let p = c.args.p.now in let plans = c.args.plans.now in let fuel = c.args.fuel in
+    let p = c.args.prepared.now.program in let plans = c.args.prepared.now.plans in let fuel = c.args.fuel in
     let many : length c.in_ok-texts.texts.items ≡ length c.args.inputs.now = c.in_ok-texts.ensures in
     let kept : length c.for_each_mut.new.s ≡ length c.in_ok-texts.texts.items = c.for_each_mut.auto.s ∙ ap length c.as_mut_slice.ensures.value in
     let all : length c.in_ok-texts.texts.items ≡ c.in_ok-texts.texts.len = sym c.in_ok-texts.texts.ok.0 in

@@ -1,6 +1,7 @@
-use Rattle.std.proofs.Common.{◌∙◌, refl, sym, ap, subst, arith}
+use Rattle.std.proofs.Common.{◌∙◌, ◌+◌, refl, sym, ap, subst, arith}
 use Rattle.dp_base.specs.declared.RegionReport.{RegionReport}
 use Rattle.dp_semantics.specs.EpochKey.{EpochKey}
+use Rattle.dp_pipeline.specs.Coming.{Coming}
 use Rattle.dp_epoch.specs.declared.taken.Taken.{Taken}
 use Rattle.dp_epoch.specs.InEpoch.{InEpoch}
 use Rattle.dp_epoch.specs.Taken.{Takes}
@@ -12,8 +13,11 @@ use Rattle.dp_crew.proofs.epoch.run_epoch.Goals as goal
 
 pub take-requires-clause-epoch : goal.take-requires-clause-epoch
 take-requires-clause-epoch g c =
-    let first = c.requires.epoch.0 in
-    (first, subst (λ (k : EpochKey). InEpoch k (g.V.Verdicts.given c.verdicts.verdicts) first c.verdicts.ledger.committed c.verdicts.ledger.report) (sym c.verdicts.invariant.key) (c.verdicts.invariant.epoch first c.requires.epoch.1))
+    let first = c.requires.epoch.0 in (
+      first,
+      subst (λ (v : Coming). InEpoch v.key v.given first c.verdicts.ledger.committed c.verdicts.ledger.report) (sym c.await_one.ensures)
+          (subst (λ (k : EpochKey). InEpoch k c.verdicts.verdicts.given first c.verdicts.ledger.committed c.verdicts.ledger.report) (sym c.verdicts.invariant.key) (c.verdicts.invariant.epoch first c.requires.epoch.1)),
+    )
 
 pub returns-in_err-taken-clause-ran : goal.returns-in_err-taken-clause-ran
 returns-in_err-taken-clause-ran g c =
@@ -23,7 +27,7 @@ returns-in_err-taken-clause-ran g c =
 
 pub returns-in_err-flush_if_many-clause-ran : goal.returns-in_err-flush_if_many-clause-ran
 returns-in_err-flush_if_many-clause-ran g c =
-    let t = subst (λ (k : EpochKey). Takes k (g.V.Verdicts.given c.verdicts.verdicts) c.verdicts.ledger c.take.new.ledger c.in_ok-taken.taken c.verdicts.tally c.take.new.tally) c.verdicts.invariant.key c.in_ok-taken.ensures.taken in
+    let t = subst (λ (k : EpochKey). Takes k c.verdicts.verdicts.given c.verdicts.ledger c.take.new.ledger c.in_ok-taken.taken c.verdicts.tally c.take.new.tally) c.verdicts.invariant.key (subst (λ (v : Coming). Takes v.key v.given c.verdicts.ledger c.take.new.ledger c.in_ok-taken.taken c.verdicts.tally c.take.new.tally) c.await_one.ensures c.in_ok-taken.ensures.taken) in
     stopped _ _ _ _ _ _ _ _ _ _ c.from_residual-in_err-flush_if_many.ensures.0
     (failed_so c.from_residual-in_err-flush_if_many.result _ _ _ _ c.from_residual-in_err-flush_if_many.ensures.1 c.in_err-flush_if_many.ensures.faults c.verdicts.invariant.faults)
     (λ first e. emits_front _ _ _ _ _ (c.verdicts.invariant.emits first e)
@@ -34,15 +38,15 @@ verdicts-smaller g c = c.in_ok-taken.ensures.taken.falls c.in-Committed.is
 
 pub verdicts-preserved : goal.verdicts-preserved
 verdicts-preserved g c =
-    let t = subst (λ (x : Taken). Takes (g.V.Verdicts.key c.args.verdicts.now) (g.V.Verdicts.given c.verdicts.verdicts) c.verdicts.ledger c.take.new.ledger x c.verdicts.tally c.take.new.tally) c.in-Committed.is
-    (subst (λ (k : EpochKey). Takes k (g.V.Verdicts.given c.verdicts.verdicts) c.verdicts.ledger c.take.new.ledger c.in_ok-taken.taken c.verdicts.tally c.take.new.tally) c.verdicts.invariant.key c.in_ok-taken.ensures.taken) in
+    let t = subst (λ (x : Taken). Takes c.args.verdicts.now.key c.verdicts.verdicts.given c.verdicts.ledger c.take.new.ledger x c.verdicts.tally c.take.new.tally) c.in-Committed.is
+    (subst (λ (k : EpochKey). Takes k c.verdicts.verdicts.given c.verdicts.ledger c.take.new.ledger c.in_ok-taken.taken c.verdicts.tally c.take.new.tally) c.verdicts.invariant.key (subst (λ (v : Coming). Takes v.key v.given c.verdicts.ledger c.take.new.ledger c.in_ok-taken.taken c.verdicts.tally c.take.new.tally) c.await_one.ensures c.in_ok-taken.ensures.taken)) in
     let balance = c.verdicts.invariant.tally in
     let left = c.verdicts.invariant.left in
     let counted = t.counted in
     let less = t.left in
     record {
-      epoch = λ first e. subst (λ n. InEpoch (g.V.Verdicts.key c.args.verdicts.now) n first c.take.new.ledger.committed c.take.new.ledger.report) (sym c.in_ok-taken.ensures.given) (t.stands first (c.verdicts.invariant.epoch first e));
-      key = c.in_ok-taken.ensures.key ∙ c.verdicts.invariant.key;
+      epoch = λ first e. subst (λ n. InEpoch c.args.verdicts.now.key n first c.take.new.ledger.committed c.take.new.ledger.report) (sym (c.in_ok-taken.ensures.given ∙ ap (λ (v : Coming). v.given + 1) c.await_one.ensures)) (t.stands first (c.verdicts.invariant.epoch first e));
+      key = c.in_ok-taken.ensures.key ∙ ap (λ (v : Coming). v.key) c.await_one.ensures ∙ c.verdicts.invariant.key;
       tally = omega (arith, counted, balance);
       left = omega (arith, less, left);
       room = t.room;
@@ -54,8 +58,8 @@ verdicts-preserved g c =
 
 pub returns-in-Closed-clause-ran : goal.returns-in-Closed-clause-ran
 returns-in-Closed-clause-ran g c =
-    let t = subst (λ (x : Taken). Takes (g.V.Verdicts.key c.args.verdicts.now) (g.V.Verdicts.given c.verdicts.verdicts) c.verdicts.ledger c.take.new.ledger x c.verdicts.tally c.take.new.tally) c.in-Closed.is
-    (subst (λ (k : EpochKey). Takes k (g.V.Verdicts.given c.verdicts.verdicts) c.verdicts.ledger c.take.new.ledger c.in_ok-taken.taken c.verdicts.tally c.take.new.tally) c.verdicts.invariant.key c.in_ok-taken.ensures.taken) in
+    let t = subst (λ (x : Taken). Takes c.args.verdicts.now.key c.verdicts.verdicts.given c.verdicts.ledger c.take.new.ledger x c.verdicts.tally c.take.new.tally) c.in-Closed.is
+    (subst (λ (k : EpochKey). Takes k c.verdicts.verdicts.given c.verdicts.ledger c.take.new.ledger c.in_ok-taken.taken c.verdicts.tally c.take.new.tally) c.verdicts.invariant.key (subst (λ (v : Coming). Takes v.key v.given c.verdicts.ledger c.take.new.ledger c.in_ok-taken.taken c.verdicts.tally c.take.new.tally) c.await_one.ensures c.in_ok-taken.ensures.taken)) in
     let balance = c.verdicts.invariant.tally in
     let left = c.verdicts.invariant.left in
     let counted = t.counted in
@@ -73,8 +77,8 @@ returns-in-Closed-clause-ran g c =
 
 pub returns-in-Unclean-clause-ran : goal.returns-in-Unclean-clause-ran
 returns-in-Unclean-clause-ran g c =
-    let t = subst (λ (x : Taken). Takes (g.V.Verdicts.key c.args.verdicts.now) (g.V.Verdicts.given c.verdicts.verdicts) c.verdicts.ledger c.take.new.ledger x c.verdicts.tally c.take.new.tally) c.in-Unclean.is
-    (subst (λ (k : EpochKey). Takes k (g.V.Verdicts.given c.verdicts.verdicts) c.verdicts.ledger c.take.new.ledger c.in_ok-taken.taken c.verdicts.tally c.take.new.tally) c.verdicts.invariant.key c.in_ok-taken.ensures.taken) in
+    let t = subst (λ (x : Taken). Takes c.args.verdicts.now.key c.verdicts.verdicts.given c.verdicts.ledger c.take.new.ledger x c.verdicts.tally c.take.new.tally) c.in-Unclean.is
+    (subst (λ (k : EpochKey). Takes k c.verdicts.verdicts.given c.verdicts.ledger c.take.new.ledger c.in_ok-taken.taken c.verdicts.tally c.take.new.tally) c.verdicts.invariant.key (subst (λ (v : Coming). Takes v.key v.given c.verdicts.ledger c.take.new.ledger c.in_ok-taken.taken c.verdicts.tally c.take.new.tally) c.await_one.ensures c.in_ok-taken.ensures.taken)) in
     let balance = c.verdicts.invariant.tally in
     let left = c.verdicts.invariant.left in
     let counted = t.counted in

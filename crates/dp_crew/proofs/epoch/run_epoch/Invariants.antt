@@ -8,15 +8,15 @@ use Rattle.dp_crew.proofs.epoch.run_epoch.Given as goal
 
 abbrev pub invariant-verdicts : goal.invariant-verdicts
 invariant-verdicts g l = record {
-  epoch : (first : MachineState) → InEpoch (g.V.Verdicts.key l.fn.verdicts) (g.V.Verdicts.given l.fn.verdicts) first l.fn.ledger.committed l.fn.ledger.report →
-      InEpoch (g.V.Verdicts.key l.fn.verdicts) (g.V.Verdicts.given l.verdicts) first l.ledger.committed l.ledger.report;
-  key : g.V.Verdicts.key l.verdicts ≡ g.V.Verdicts.key l.fn.verdicts;
+  epoch : (first : MachineState) → InEpoch l.fn.verdicts.key l.fn.verdicts.given first l.fn.ledger.committed l.fn.ledger.report →
+      InEpoch l.fn.verdicts.key l.verdicts.given first l.ledger.committed l.ledger.report;
+  key : l.verdicts.key ≡ l.fn.verdicts.key;
   tally : l.tally + l.fn.ledger.committed.count ≡ l.fn.tally + l.ledger.committed.count;
   left : left_of l.ledger.committed ≤ left_of l.fn.ledger.committed;
   room : HasRoom l.tally l.ledger.committed;
   report : l.ledger.report ≡ record l.fn.ledger.report { iterations = l.ledger.committed.count };
-  emits : (first : MachineState) → InEpoch (g.V.Verdicts.key l.fn.verdicts) (g.V.Verdicts.given l.fn.verdicts) first l.fn.ledger.committed l.fn.ledger.report →
-      Emits (to_come (g.V.Verdicts.key l.fn.verdicts).plan first l.fn.ledger.waiting l.fn.ledger.committed.count) (to_come (g.V.Verdicts.key l.fn.verdicts).plan first l.ledger.waiting l.ledger.committed.count)
+  emits : (first : MachineState) → InEpoch l.fn.verdicts.key l.fn.verdicts.given first l.fn.ledger.committed l.fn.ledger.report →
+      Emits (to_come l.fn.verdicts.key.plan first l.fn.ledger.waiting l.fn.ledger.committed.count) (to_come l.fn.verdicts.key.plan first l.ledger.waiting l.ledger.committed.count)
       (g.K.Sink.written l.fn.sink) (g.K.Sink.written l.sink);
   faults : g.K.Sink.faults l.sink ≡ g.K.Sink.faults l.fn.sink;
 }

@@ -13,12 +13,12 @@ use Rattle.dp_crew.proofs.epochs.recover_iteration.Goals as goal
 pub returns-in_err-end-clause-streams : goal.returns-in_err-end-clause-streams
 returns-in_err-end-clause-streams g c plan first u =
     let s = c.in_err-end.ensures.err in
-    streams_stopped _ _ _ _ _ c.from_residual.ensures.0 (recovery_front plan first c.args.committed.now c.args.report.now u.progress c.args.waiting.now s.0 _ _ s.1 s.2)
+    streams_stopped _ _ _ _ _ c.from_residual.ensures.0 (recovery_front plan first c.args.ledger.now.committed c.args.ledger.now.report u.progress c.args.ledger.now.waiting s.0 _ _ s.1 s.2)
 
 pub count_recovered-requires-clause-again : goal.count_recovered-requires-clause-again
 count_recovered-requires-clause-again g c =
     let u = c.requires.unclean in
-    let few = again_few (is_recovered u.1.program u.0 (region_run u.1)) 0 c.args.committed.now.count in
+    let few = again_few (is_recovered u.1.program u.0 (region_run u.1)) 0 c.args.ledger.now.committed.count in
     let size = ap (λ (x : RegionReport). x.recovered_count) u.2.progress.report_is in
     let low = c.count-number.ensures.steps u.2.progress.is_open.sound in
     let begun : c.steps.result < c.fuel.result = search rules in
@@ -30,7 +30,7 @@ pub returns-in_err-count_recovered-clause-streams : goal.returns-in_err-count_re
 returns-in_err-count_recovered-clause-streams g c plan first u =
     let s = c.in_ok-end.ensures.ok in
     streams_stopped _ _ _ _ _ c.from_residual-in_err-count_recovered.ensures.0
-    (recovery_stopped plan first c.args.committed.now c.args.report.now u.progress c.args.waiting.now s.0 _ _ c.recover_to_end.new.committed c.in_ok-end.end s.1 c.recover_to_end.new.waiting s.2)
+    (recovery_stopped plan first c.args.ledger.now.committed c.args.ledger.now.report u.progress c.args.ledger.now.waiting s.0 _ _ c.recover_to_end.new.committed c.in_ok-end.end s.1 c.recover_to_end.new.waiting s.2)
 
 pub returns-in_ok-count_recovered-clause-ok : goal.returns-in_ok-count_recovered-clause-ok
 returns-in_ok-count_recovered-clause-ok g c plan first u =
@@ -38,22 +38,22 @@ returns-in_ok-count_recovered-clause-ok g c plan first u =
     let begun : c.steps.result < c.fuel.result = search rules in
     let steps = c.steps.ensures.value in
     let fuel = c.fuel.ensures in
-    let counted : CountedRecovered c.args.committed.now c.args.report.now c.count_recovered.new.report c.args.cause = record {
+    let counted : CountedRecovered c.args.ledger.now.committed c.args.ledger.now.report c.count_recovered.new.report c.args.cause = record {
       begun = λ h r n again f e w. c.in_ok-count_recovered.ensures.counted r n again f e (w ∙ ap f (sym c.count-number.ensures.value)) ∙ ap (λ (k : ℕ). report_of r (k + 1) (again ++ k ∷ []) f) c.count-number.ensures.value;
       unbegun = λ h. absurd (omega (arith, h, begun, steps, fuel));
     } in
-    recovered plan first c.args.committed.now c.args.report.now u.progress c.count_recovered.new.report c.args.cause u.again u.cause_is counted c.recover_to_end.new.committed s.0 c.in_ok-end.end s.1
+    recovered plan first c.args.ledger.now.committed c.args.ledger.now.report u.progress c.count_recovered.new.report c.args.cause u.again u.cause_is counted c.recover_to_end.new.committed s.0 c.in_ok-end.end s.1
 
 pub returns-in_ok-count_recovered-clause-streams : goal.returns-in_ok-count_recovered-clause-streams
 returns-in_ok-count_recovered-clause-streams g c plan first u =
     let s = c.in_ok-end.ensures.ok in
-    recovery_emits plan first c.args.committed.now c.args.report.now u.progress c.args.waiting.now s.0 _ _ c.recover_to_end.new.committed c.in_ok-end.end s.1 c.recover_to_end.new.waiting s.2
+    recovery_emits plan first c.args.ledger.now.committed c.args.ledger.now.report u.progress c.args.ledger.now.waiting s.0 _ _ c.recover_to_end.new.committed c.in_ok-end.end s.1 c.recover_to_end.new.waiting s.2
 
 pub returns-in_ok-count_recovered-clause-counts : goal.returns-in_ok-count_recovered-clause-counts
 returns-in_ok-count_recovered-clause-counts g c =
     let u = c.requires.unclean in
-    let again : List ℕ = again_before u.0 u.1 c.args.committed.now.count in
-    let is = c.in_ok-count_recovered.ensures.counted u.0.region c.args.committed.now.count again (cause_of u.0 u.1) u.2.progress.report_is (u.2.cause_is ∙ ap (cause_of u.0 u.1) (sym c.count-number.ensures.value)) in
+    let again : List ℕ = again_before u.0 u.1 c.args.ledger.now.committed.count in
+    let is = c.in_ok-count_recovered.ensures.counted u.0.region c.args.ledger.now.committed.count again (cause_of u.0 u.1) u.2.progress.report_is (u.2.cause_is ∙ ap (cause_of u.0 u.1) (sym c.count-number.ensures.value)) in
     let iterations = ap (λ (x : RegionReport). x.iterations) is in
     let more = ap (λ (x : RegionReport). x.recovered_count) is ∙ length-append again (c.count-number.result ∷ []) in
     let before = ap (λ (x : RegionReport). x.iterations) u.2.progress.report_is in
@@ -68,11 +68,11 @@ returns-in_ok-count_recovered-clause-left g c none =
     let begun : c.steps.result < c.fuel.result = search rules in
     let steps = c.steps.ensures.value in
     let fuel = c.fuel.ensures in
-    let counted : CountedRecovered c.args.committed.now c.args.report.now c.count_recovered.new.report c.args.cause = record {
+    let counted : CountedRecovered c.args.ledger.now.committed c.args.ledger.now.report c.count_recovered.new.report c.args.cause = record {
       begun = λ h r n again f e w. c.in_ok-count_recovered.ensures.counted r n again f e (w ∙ ap f (sym c.count-number.ensures.value)) ∙ ap (λ (k : ℕ). report_of r (k + 1) (again ++ k ∷ []) f) c.count-number.ensures.value;
       unbegun = λ h. absurd (omega (arith, h, begun, steps, fuel));
     } in
-    recovered_left u.0 u.1 c.args.committed.now c.args.report.now u.2.progress c.count_recovered.new.report c.args.cause u.2.again u.2.cause_is counted c.recover_to_end.new.committed s.0 c.in_ok-end.end s.1 none
+    recovered_left u.0 u.1 c.args.ledger.now.committed c.args.ledger.now.report u.2.progress c.count_recovered.new.report c.args.cause u.2.again u.2.cause_is counted c.recover_to_end.new.committed s.0 c.in_ok-end.end s.1 none
 
 pub returns-else-begun-clause-ok : goal.returns-else-begun-clause-ok
 returns-else-begun-clause-ok g c plan first u =
@@ -80,16 +80,16 @@ returns-else-begun-clause-ok g c plan first u =
     let unbegun : c.fuel.result ≤ c.steps.result = search rules in
     let steps = c.steps.ensures.value in
     let fuel = c.fuel.ensures in
-    let counted : CountedRecovered c.args.committed.now c.args.report.now c.args.report.now c.args.cause = record {
+    let counted : CountedRecovered c.args.ledger.now.committed c.args.ledger.now.report c.args.ledger.now.report c.args.cause = record {
       begun = λ h r n again f e w. absurd (omega (arith, h, unbegun, steps, fuel));
       unbegun = λ h. refl;
     } in
-    recovered plan first c.args.committed.now c.args.report.now u.progress c.args.report.now c.args.cause u.again u.cause_is counted c.recover_to_end.new.committed s.0 c.in_ok-end.end s.1
+    recovered plan first c.args.ledger.now.committed c.args.ledger.now.report u.progress c.args.ledger.now.report c.args.cause u.again u.cause_is counted c.recover_to_end.new.committed s.0 c.in_ok-end.end s.1
 
 pub returns-else-begun-clause-streams : goal.returns-else-begun-clause-streams
 returns-else-begun-clause-streams g c plan first u =
     let s = c.in_ok-end.ensures.ok in
-    recovery_emits plan first c.args.committed.now c.args.report.now u.progress c.args.waiting.now s.0 _ _ c.recover_to_end.new.committed c.in_ok-end.end s.1 c.recover_to_end.new.waiting s.2
+    recovery_emits plan first c.args.ledger.now.committed c.args.ledger.now.report u.progress c.args.ledger.now.waiting s.0 _ _ c.recover_to_end.new.committed c.in_ok-end.end s.1 c.recover_to_end.new.waiting s.2
 
 pub returns-else-begun-clause-left : goal.returns-else-begun-clause-left
 returns-else-begun-clause-left g c none =
@@ -98,8 +98,8 @@ returns-else-begun-clause-left g c none =
     let unbegun : c.fuel.result ≤ c.steps.result = search rules in
     let steps = c.steps.ensures.value in
     let fuel = c.fuel.ensures in
-    let counted : CountedRecovered c.args.committed.now c.args.report.now c.args.report.now c.args.cause = record {
+    let counted : CountedRecovered c.args.ledger.now.committed c.args.ledger.now.report c.args.ledger.now.report c.args.cause = record {
       begun = λ h r n again f e w. absurd (omega (arith, h, unbegun, steps, fuel));
       unbegun = λ h. refl;
     } in
-    recovered_left u.0 u.1 c.args.committed.now c.args.report.now u.2.progress c.args.report.now c.args.cause u.2.again u.2.cause_is counted c.recover_to_end.new.committed s.0 c.in_ok-end.end s.1 none
+    recovered_left u.0 u.1 c.args.ledger.now.committed c.args.ledger.now.report u.2.progress c.args.ledger.now.report c.args.cause u.2.again u.2.cause_is counted c.recover_to_end.new.committed s.0 c.in_ok-end.end s.1 none

@@ -11,7 +11,7 @@ pub epochs-init : goal.epochs-init
 epochs-init g c = record { begins = λ first b. b; tally = omega arith; room = c.requires.room; emits = λ first b. emits_nothing _ _; faults = refl }
 
 pub recover-requires-clause-ended : goal.recover-requires-clause-ended
-recover-requires-clause-ended g c = (c.args.plan.now, c.requires.start.0, c.in_ok-after.ensures.ran.ends c.requires.start.0 (c.epochs.invariant.begins c.requires.start.0 c.requires.start.1))
+recover-requires-clause-ended g c = (c.args.work.region.now.plan, c.requires.start.0, c.in_ok-after.ensures.ran.ends c.requires.start.0 (c.epochs.invariant.begins c.requires.start.0 c.requires.start.1))
 
 pub recover-requires-clause-sink : goal.recover-requires-clause-sink
 recover-requires-clause-sink g c =
@@ -51,20 +51,20 @@ returns-in_err-next-clause-streams g c first b =
     let ran = c.in_ok-after.ensures.ran in
     let here = c.epochs.invariant.begins first b in
     streams_stopped _ _ _ _ _ c.from_residual-in_err-next.ensures.0
-    (emits_front _ _ _ _ _ (emits_on _ _ _ _ _ _ (c.epochs.invariant.emits first b) (ran.streams first here)) (c.in_err-next.ensures.streams c.args.plan.now first (ran.ends first here)))
+    (emits_front _ _ _ _ _ (emits_on _ _ _ _ _ _ (c.epochs.invariant.emits first b) (ran.streams first here)) (c.in_err-next.ensures.streams c.args.work.region.now.plan first (ran.ends first here)))
 
 pub returns-in-Some-clause-ok : goal.returns-in-Some-clause-ok
 returns-in-Some-clause-ok g c first b =
-    subst (λ (x : Option RegionEnd). AfterRecovery c.args.plan.now first c.in_ok-next.next.committed c.in_ok-next.next.report x) c.in-Some.is
-    (c.in_ok-next.ensures.ok c.args.plan.now first (c.in_ok-after.ensures.ran.ends first (c.epochs.invariant.begins first b)))
+    subst (λ (x : Option RegionEnd). AfterRecovery c.args.work.region.now.plan first c.in_ok-next.next.committed c.in_ok-next.next.report x) c.in-Some.is
+    (c.in_ok-next.ensures.ok c.args.work.region.now.plan first (c.in_ok-after.ensures.ran.ends first (c.epochs.invariant.begins first b)))
 
 pub returns-in-Some-clause-streams : goal.returns-in-Some-clause-streams
 returns-in-Some-clause-streams g c first b =
     let ran = c.in_ok-after.ensures.ran in
     let here = c.epochs.invariant.begins first b in
     emits_on _ _ _ _ _ _ (emits_on _ _ _ _ _ _ (c.epochs.invariant.emits first b) (ran.streams first here))
-    (subst (λ (x : Option RegionEnd). Emits (left_by_epoch c.args.plan.now first c.in_ok-after.after.waiting c.in_ok-after.after.committed.count c.in_ok-after.end) (left_by_recovery c.args.plan.now first c.in_ok-next.next.waiting c.in_ok-next.next.committed.count x) (g.K.Sink.written c.run_one_epoch.new.sink) (g.K.Sink.written c.recover.new.sink))
-    c.in-Some.is (c.in_ok-next.ensures.streams c.args.plan.now first (ran.ends first here)))
+    (subst (λ (x : Option RegionEnd). Emits (left_by_epoch c.args.work.region.now.plan first c.in_ok-after.after.waiting c.in_ok-after.after.committed.count c.in_ok-after.end) (left_by_recovery c.args.work.region.now.plan first c.in_ok-next.next.waiting c.in_ok-next.next.committed.count x) (g.K.Sink.written c.run_one_epoch.new.sink) (g.K.Sink.written c.recover.new.sink))
+    c.in-Some.is (c.in_ok-next.ensures.streams c.args.work.region.now.plan first (ran.ends first here)))
 
 pub epochs-preserved : goal.epochs-preserved
 epochs-preserved g c =
@@ -80,16 +80,16 @@ epochs-preserved g c =
     let room = ran.room in
     record {
       begins = λ first b. record {
-        at_epoch = subst (λ (x : Option RegionEnd). AfterRecovery c.args.plan.now first c.in_ok-next.next.committed c.in_ok-next.next.report x) c.in-None.is
-            (c.in_ok-next.ensures.ok c.args.plan.now first (ran.ends first (c.epochs.invariant.begins first b)));
+        at_epoch = subst (λ (x : Option RegionEnd). AfterRecovery c.args.work.region.now.plan first c.in_ok-next.next.committed c.in_ok-next.next.report x) c.in-None.is
+            (c.in_ok-next.ensures.ok c.args.work.region.now.plan first (ran.ends first (c.epochs.invariant.begins first b)));
         program_is = b.program_is;
         input_is = b.input_is;
       };
       tally = omega (arith, here, iterations, same, raised, balance, counts);
       room = omega (arith, less, room);
       emits = λ first b. emits_on _ _ _ _ _ _ (emits_on _ _ _ _ _ _ (c.epochs.invariant.emits first b) (ran.streams first (c.epochs.invariant.begins first b)))
-          (subst (λ (x : Option RegionEnd). Emits (left_by_epoch c.args.plan.now first c.in_ok-after.after.waiting c.in_ok-after.after.committed.count c.in_ok-after.end) (left_by_recovery c.args.plan.now first c.in_ok-next.next.waiting c.in_ok-next.next.committed.count x) (g.K.Sink.written c.run_one_epoch.new.sink) (g.K.Sink.written c.recover.new.sink))
-          c.in-None.is (c.in_ok-next.ensures.streams c.args.plan.now first (ran.ends first (c.epochs.invariant.begins first b))));
+          (subst (λ (x : Option RegionEnd). Emits (left_by_epoch c.args.work.region.now.plan first c.in_ok-after.after.waiting c.in_ok-after.after.committed.count c.in_ok-after.end) (left_by_recovery c.args.work.region.now.plan first c.in_ok-next.next.waiting c.in_ok-next.next.committed.count x) (g.K.Sink.written c.run_one_epoch.new.sink) (g.K.Sink.written c.recover.new.sink))
+          c.in-None.is (c.in_ok-next.ensures.streams c.args.work.region.now.plan first (ran.ends first (c.epochs.invariant.begins first b))));
       faults = c.in_ok-next.ensures.faults ∙ ran.faults_are ∙ c.epochs.invariant.faults;
     }
 

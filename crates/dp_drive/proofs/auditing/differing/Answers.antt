@@ -1,7 +1,4 @@
-use Rattle.std.proofs.Common.{◌≡◌, ◌∙◌, ap, refl, subst, Ok, List, ℤ}
-use Rattle.dp_plan.specs.declared.Plan.{Plan}
-use Rattle.dp_log.specs.LogText.{log_bytes}
-use Rattle.dp_run.specs.RunText.{source_run}
+use Rattle.std.proofs.Common.{◌∙◌, ap, Ok}
 use Rattle.dp_drive.proofs.AuditLemmas.{answered_at, differs_as, same_as}
 use Rattle.dp_drive.proofs.auditing.differing.Goals as goal
 

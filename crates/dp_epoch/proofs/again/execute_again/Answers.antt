@@ -10,7 +10,7 @@ use Rattle.dp_epoch.proofs.Reexecuted.{recovered_ahead}
 use Rattle.dp_epoch.proofs.again.execute_again.Goals as goal
 
 pub count_recovered-requires-clause-again : goal.count_recovered-requires-clause-again
-count_recovered-requires-clause-again c =
+count_recovered-requires-clause-again g c =
     let u = c.requires.unclean in
     let few = again_few (is_recovered u.1.program u.0 (region_run u.1)) 0 c.args.ledger.now.committed.count in
     let size = ap (λ (x : RegionReport). x.recovered_count) u.2.progress.report_is in
@@ -21,7 +21,7 @@ count_recovered-requires-clause-again c =
     omega (arith, few, size, low, begun, steps, fits)
 
 pub returns-in_ok-count_recovered-clause-ok : goal.returns-in_ok-count_recovered-clause-ok
-returns-in_ok-count_recovered-clause-ok c plan first u =
+returns-in_ok-count_recovered-clause-ok g c plan first u =
     let s = c.in_ok-end.ensures in
     let begun : c.steps.result < c.fuel.result = search rules in
     let steps = c.steps.ensures.value in
@@ -33,12 +33,12 @@ returns-in_ok-count_recovered-clause-ok c plan first u =
     recovered plan first c.args.ledger.now.committed c.args.ledger.now.report u.progress c.count_recovered.new.report c.args.cause u.again u.cause_is counted c.execute.new.committed s.0 c.in_ok-end.end s.1
 
 pub returns-in_ok-count_recovered-clause-ahead : goal.returns-in_ok-count_recovered-clause-ahead
-returns-in_ok-count_recovered-clause-ahead c plan first u =
+returns-in_ok-count_recovered-clause-ahead g c plan first u =
     let s = c.in_ok-end.ensures in
     recovered_ahead plan first c.args.ledger.now.committed c.args.ledger.now.report u.progress c.args.ledger.now.waiting s.0 c.execute.new.committed c.in_ok-end.end s.1 c.execute.new.waiting s.2
 
 pub returns-in_ok-count_recovered-clause-left : goal.returns-in_ok-count_recovered-clause-left
-returns-in_ok-count_recovered-clause-left c none =
+returns-in_ok-count_recovered-clause-left g c none =
     let u = c.requires.unclean in
     let s = c.in_ok-end.ensures in
     let begun : c.steps.result < c.fuel.result = search rules in
@@ -51,7 +51,7 @@ returns-in_ok-count_recovered-clause-left c none =
     recovered_left u.0 u.1 c.args.ledger.now.committed c.args.ledger.now.report u.2.progress c.count_recovered.new.report c.args.cause u.2.again u.2.cause_is counted c.execute.new.committed s.0 c.in_ok-end.end s.1 none
 
 pub returns-else-begun-clause-ok : goal.returns-else-begun-clause-ok
-returns-else-begun-clause-ok c plan first u =
+returns-else-begun-clause-ok g c plan first u =
     let s = c.in_ok-end.ensures in
     let unbegun : c.fuel.result ≤ c.steps.result = search rules in
     let steps = c.steps.ensures.value in
@@ -63,12 +63,12 @@ returns-else-begun-clause-ok c plan first u =
     recovered plan first c.args.ledger.now.committed c.args.ledger.now.report u.progress c.args.ledger.now.report c.args.cause u.again u.cause_is counted c.execute.new.committed s.0 c.in_ok-end.end s.1
 
 pub returns-else-begun-clause-ahead : goal.returns-else-begun-clause-ahead
-returns-else-begun-clause-ahead c plan first u =
+returns-else-begun-clause-ahead g c plan first u =
     let s = c.in_ok-end.ensures in
     recovered_ahead plan first c.args.ledger.now.committed c.args.ledger.now.report u.progress c.args.ledger.now.waiting s.0 c.execute.new.committed c.in_ok-end.end s.1 c.execute.new.waiting s.2
 
 pub returns-else-begun-clause-left : goal.returns-else-begun-clause-left
-returns-else-begun-clause-left c none =
+returns-else-begun-clause-left g c none =
     let u = c.requires.unclean in
     let s = c.in_ok-end.ensures in
     let unbegun : c.fuel.result ≤ c.steps.result = search rules in

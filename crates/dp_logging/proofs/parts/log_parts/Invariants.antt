@@ -1,14 +1,15 @@
 use Rattle.std.proofs.Common.{◌≡◌, ℕ, ◌+◌, ◌++◌, drop}
 use Rattle.dp_tree.specs.Trace.{Run}
 use Rattle.dp_log.specs.LogText.{regions_bytes}
+use Rattle.dp_run.specs.Prepared.{plans_in}
 use Rattle.dp_run.specs.Stretches.{Ahead, Between}
 use Rattle.dp_logging.specs.Pouring.{Pours}
 use Rattle.dp_logging.proofs.parts.log_parts.Given as goal
 
-abbrev pub invariant-loop-plan : goal.invariant-loop-plan
-invariant-loop-plan g l = record {
-  between : (run : Run) (n : ℕ) → Ahead l.program l.plans l.input l.fn.machine.fuel run n l.fn.machine → Between l.program l.input l.fn.machine.fuel run (n + l.plan-index) l.machine;
-  pours : (run : Run) (n : ℕ) → Ahead l.program l.plans l.input l.fn.machine.fuel run n l.fn.machine →
-      Pours (l.fn.out ++ regions_bytes l.program l.plans run) (l.out ++ regions_bytes l.program (drop l.plan-index l.plans) run) (g.K.Sink.written l.fn.sink) (g.K.Sink.written l.sink);
+abbrev pub invariant-loop-region : goal.invariant-loop-region
+invariant-loop-region g l = record {
+  between : (run : Run) (n : ℕ) → Ahead l.fn.machine.program (plans_in l.regions) l.input l.fn.machine.fuel run n l.fn.machine → Between l.fn.machine.program l.input l.fn.machine.fuel run (n + l.region-index) l.machine;
+  pours : (run : Run) (n : ℕ) → Ahead l.fn.machine.program (plans_in l.regions) l.input l.fn.machine.fuel run n l.fn.machine →
+      Pours (l.fn.out ++ regions_bytes l.fn.machine.program (plans_in l.regions) run) (l.out ++ regions_bytes l.fn.machine.program (drop l.region-index (plans_in l.regions)) run) (g.K.Sink.written l.fn.sink) (g.K.Sink.written l.sink);
   faults : g.K.Sink.faults l.sink ≡ g.K.Sink.faults l.fn.sink;
 }

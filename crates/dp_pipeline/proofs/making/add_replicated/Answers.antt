@@ -3,33 +3,29 @@ use Rattle.dp_plan.specs.Access.{is_replicated}
 use Rattle.dp_plan.specs.Each.{Each}
 use Rattle.dp_ring.specs.declared.view.Standing.{Standing}
 use Rattle.dp_pipeline.specs.declared.keys.LaneKey.{LaneKey}
-use Rattle.dp_pipeline.specs.Keys.{key_of}
 use Rattle.dp_pipeline.specs.Seats.{IsUnused}
 use Rattle.dp_pipeline.proofs.Beginning.{puts_first, collects_first, all_unused}
 use Rattle.dp_pipeline.proofs.making.add_replicated.Goals as goal
 
-pub stage_unit-requires-clause-start : goal.stage_unit-requires-clause-start
-stage_unit-requires-clause-start c =
-    let lane : LaneKey = record { epoch = c.args.key.now.epoch; stage = c.args.key.now.stage + 1 } in (
-      key_of c.args.key.now.epoch,
-      c.args.key.now.stage,
-      c.in_ok-stage.ensures,
+pub add_unit-requires-clause-start : goal.add_unit-requires-clause-start
+add_unit-requires-clause-start c =
+    let lane : LaneKey = record { epoch = c.args.setting.now.key.epoch; stage = c.args.setting.now.key.stage + 1 } in (
       c.requires.source.0,
-      (puts_first c.in_ok-input.input c.in_ok-input.output.ring c.args.setting.lane lane c.args.key.now.stage c.in_ok-input.ensures.producer refl c.requires.fuel).0,
+      (puts_first c.in_ok-input.input c.in_ok-input.output.ring c.args.setting.now.size.lane lane c.args.setting.now.key.stage c.in_ok-input.ensures.producer refl c.requires.setting.fuel).0,
     )
 
 pub add_workers-requires-clause-replicated : goal.add_workers-requires-clause-replicated
 add_workers-requires-clause-replicated c =
-    let behind : c.args.key.now.stage + 1 ≡ suc c.args.key.now.stage = omega (arith) in
-    ap (λ (s : ℕ). is_replicated c.args.setting.plan.now s) behind ∙ c.requires.replicated
+    let behind : c.args.setting.now.key.stage + 1 ≡ suc c.args.setting.now.key.stage = omega (arith) in
+    ap (λ (s : ℕ). is_replicated c.args.setting.now.region.now.plan s) behind ∙ c.requires.replicated
 
 pub add_workers-requires-clause-seats : goal.add_workers-requires-clause-seats
 add_workers-requires-clause-seats c =
-    let lane : LaneKey = record { epoch = c.args.key.now.epoch; stage = c.args.key.now.stage + 1 } in
+    let lane : LaneKey = record { epoch = c.args.setting.now.key.epoch; stage = c.args.setting.now.key.stage + 1 } in
     subst (λ (seats : List (Standing LaneKey)). Each (IsUnused lane) seats) (sym c.in_ok-input.ensures.workers)
-    (all_unused c.args.setting.workers c.in_ok-input.output.ring c.args.setting.lane lane)
+    (all_unused c.args.setting.now.size.workers c.in_ok-input.output.ring c.args.setting.now.size.lane lane)
 
 pub returns-clause-next : goal.returns-clause-next
 returns-clause-next c =
-    let lane : LaneKey = record { epoch = c.args.key.now.epoch; stage = c.args.key.now.stage + 1 } in
-    collects_first c.in_ok-input.output c.in_ok-input.output.ring c.args.setting.lane (2 ^ 62 - c.args.setting.workers * 2 ^ 32) lane c.in_ok-input.ensures.consumer
+    let lane : LaneKey = record { epoch = c.args.setting.now.key.epoch; stage = c.args.setting.now.key.stage + 1 } in
+    collects_first c.in_ok-input.output c.in_ok-input.output.ring c.args.setting.now.size.lane (2 ^ 62 - c.args.setting.now.size.workers * 2 ^ 32) lane c.in_ok-input.ensures.consumer

@@ -8,7 +8,7 @@ use Rattle.dp_pipeline.proofs.staffing.worker.Goals as goal
 
 pub new-unit-requires-clause-start : goal.new-unit-requires-clause-start
 new-unit-requires-clause-start c =
-    worker_begins c.in_ok-stage.stage c.args.at c.args.key.now
-    (runs_anywhere c.in_ok-stage.stage (key_of c.args.key.now.epoch) c.args.key.now.stage
-    (ap (λ (plan : Plan). is_replicated plan c.args.key.now.stage) c.requires.key.plan ∙ c.requires.replicated) c.in_ok-stage.ensures)
-    c.requires.at c.requires.fuel
+    let x = c.args.setting.now in let is = c.requires.setting in
+    worker_begins c.in_ok-stage.stage c.args.at x.key
+    (runs_anywhere c.in_ok-stage.stage (key_of x.key.epoch) x.key.stage (ap (λ (plan : Plan). is_replicated plan x.key.stage) is.plan ∙ c.requires.replicated) c.in_ok-stage.ensures)
+    c.requires.at is.fuel

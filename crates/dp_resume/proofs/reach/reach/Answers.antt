@@ -6,15 +6,15 @@ use Rattle.dp_meaning.specs.MachineState.{MachineState}
 use Rattle.dp_resume.specs.steps.Reaching.{Stops, machine_of}
 use Rattle.dp_resume.proofs.reach.reach.Goals as goal
 
-pub returns-in_err-programs-clause-front : goal.returns-in_err-programs-clause-front
-returns-in_err-programs-clause-front g c = on_err c.from_residual.result _ (front_nothing _ _ _ refl)
+pub returns-in_err-runner-clause-front : goal.returns-in_err-runner-clause-front
+returns-in_err-runner-clause-front g c = on_err c.from_residual.result _ (front_nothing _ _ _ refl)
 
 pub returns-in_err-end-clause-front : goal.returns-in_err-end-clause-front
-returns-in_err-end-clause-front g c = on_err c.from_residual-in_err-end.result _ (c.in_err-end.ensures.front c.args.program.now c.args.plan.now c.args.input.now c.args.machine c.in_ok-runner.ensures)
+returns-in_err-end-clause-front g c = on_err c.from_residual-in_err-end.result _ (c.in_err-end.ensures.front c.args.region.now.program c.args.region.now.plan c.args.input.now c.args.machine c.in_ok-runner.ensures)
 
 pub returns-clause-stops : goal.returns-clause-stops
 returns-clause-stops g c =
-    let p = c.args.program.now in let plan = c.args.plan.now in let first = c.args.machine in let after = c.args.after in
+    let p = c.args.region.now.program in let plan = c.args.region.now.plan in let first = c.args.machine in let after = c.args.after in
     subst (λ (m : MachineState). Stops p plan first after m c.settle-machine.result.1 c.in_ok-end.end) (sym c.settle-machine.ensures.machine)
     (subst (λ (r : RegionReport). Stops p plan first after (machine_of c.make.new.runner) r c.in_ok-end.end) (sym c.settle-machine.ensures.report)
-    (c.in_ok-end.ensures.stops c.args.program.now c.args.plan.now c.args.input.now c.args.machine c.in_ok-runner.ensures))
+    (c.in_ok-end.ensures.stops c.args.region.now.program c.args.region.now.plan c.args.input.now c.args.machine c.in_ok-runner.ensures))

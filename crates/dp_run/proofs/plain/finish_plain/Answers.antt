@@ -16,6 +16,7 @@ calls-preserved g c =
       so_far = part_going _ _ _ c.calls.invariant.so_far s;
       emits = emits_on _ _ _ _ _ _ c.calls.invariant.emits c.in_ok-go_on.ensures.streams;
       faults = c.in_ok-go_on.ensures.faults ∙ c.calls.invariant.faults;
+      tally = c.in_ok-go_on.ensures.tally ∙ c.calls.invariant.tally;
     }
 
 pub returns-in-Done-clause-ok : goal.returns-in-Done-clause-ok
@@ -44,6 +45,7 @@ calls-init g c = record {
   so_far = record { plain = c.requires.part; passed = passed_none (rest_of_run c.args.machine.now) 0; behind = λ p input fuel run n b. b };
   emits = emits_nothing _ _;
   faults = refl;
+  tally = refl;
 }
 
 pub returns-in_err-go_on-clause-before : goal.returns-in_err-go_on-clause-before

@@ -9,6 +9,7 @@ invariant-calls g l = record {
   so_far : PartSoFar l.fn.machine l.machine;
   emits : Emits (l.fn.waiting ++ to_come l.fn.machine) (l.waiting ++ to_come l.machine) (g.K.Sink.written l.fn.sink) (g.K.Sink.written l.sink);
   faults : g.K.Sink.faults l.sink ≡ g.K.Sink.faults l.fn.sink;
+  tally : l.tally ≡ l.fn.tally;
 }
 
 abbrev pub decreases-calls : goal.decreases-calls

@@ -1,0 +1,39 @@
+//! What a crew works at.
+ghost use Rattle.std.specs.Prelude.{◌≡◌};
+
+use dp_epoch::CrewSize;
+use dp_prepared::PreparedRegion;
+use dp_waiting::Bell;
+use std::alloc::Global;
+
+/// A region that is run on an input, how large its crew is, and what wakes the threads.
+#[derive(Clone, Copy)]
+pub(crate) struct Work<'u, 'p> {
+    pub(crate) alloc: Global,
+    pub(crate) region: &'u PreparedRegion<'p>,
+    pub(crate) input: &'u [i64],
+    pub(crate) size: CrewSize,
+    /// One for each unit's thread and one for the caller behind them, or none where the caller is alone.
+    pub(crate) bells: &'u [Bell],
+}
+
+impl<'u, 'p> Work<'u, 'p> {
+    pub(crate) fn new(
+        alloc: Global,
+        region: &'u PreparedRegion<'p>,
+        input: &'u [i64],
+        size: CrewSize,
+        bells: &'u [Bell],
+    ) -> Work<'u, 'p>
+        ensures region { result.region.now ≡ region.entry.now }
+        ensures input { result.input.now ≡ input.entry.now }
+    {
+        Work {
+            alloc,
+            region,
+            input,
+            size,
+            bells,
+        }
+    }
+}

@@ -1,0 +1,6 @@
+use Rattle.std.proofs.Common.{refl}
+use Rattle.dp_drive.proofs.Stopping.{stopped_before}
+use Rattle.dp_drive.proofs.saving.resume_at.Goals as goal
+
+pub returns-in_err-prepared-clause-finishes : goal.returns-in_err-prepared-clause-finishes
+returns-in_err-prepared-clause-finishes g c = stopped_before _ _ _ _ _ c.from_residual.ensures.0 refl

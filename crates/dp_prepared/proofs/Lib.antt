@@ -1,0 +1,3 @@
+pub mod CodeLists
+pub mod Plans
+pub mod Holding

@@ -1,0 +1,72 @@
+//! A program that is ready to be run.
+ghost use Rattle.std.specs.Prelude.{◌≡◌, map, IfOk};
+ghost use Rattle.dp_prepared.specs.Planned.{prepared_of};
+ghost use Rattle.dp_run.specs.Given.{AreGiven};
+
+use dp_base::{NoMemory, Row};
+use dp_plan::Plan;
+use dp_prepared::{PreparedRegion, prepare};
+use dp_tree::Program;
+use std::alloc::Global;
+use std::marker::Model;
+
+/// A program and its regions, each ready to be run under its plan. It is made once, for all runs.
+pub struct PreparedProgram<'p> {
+    program: &'p Program,
+    regions: Row<PreparedRegion<'p>>,
+}
+
+// By hand, so that a crate above doesn't prove again how all that it holds is dropped.
+impl<'p> Drop for PreparedProgram<'p> {
+    fn drop(self) {
+        let PreparedProgram {
+            program: _,
+            regions: _,
+        } = self;
+    }
+}
+
+impl<'p> Model for PreparedProgram<'p> {
+    ghost use Rattle.dp_tree.specs.contracts.Expr as expr;
+    ghost use Rattle.dp_tree.specs.contracts.Stmt as stmt;
+    ghost use Rattle.std.specs.Coded.{codes};
+    ghost use Rattle.dp_run.specs.Given.{AreGiven};
+    ghost use Rattle.dp_run.specs.Prepared.{AreOf, PlannedProgram, plans_in};
+
+    ghost Value = { PlannedProgram };
+
+    ghost coded = { Prim.hlevel (codes, expr.the_row.coded, stmt.the_row.coded) };
+
+    ghost view = { λ s. record { program = s.program.now; plans = plans_in s.regions } };
+
+    ghost invariant = { λ s. AreGiven s.program.now (plans_in s.regions) × AreOf s.program.now s.regions };
+}
+
+impl<'p> PreparedProgram<'p> {
+    /// The program with these plans, one for each of its regions.
+    pub fn new(
+        alloc: Global,
+        program: &'p Program,
+        plans: &'p [Plan],
+    ) -> Result<PreparedProgram<'p>, NoMemory>
+        requires { AreGiven program.now plans.now }
+        ensures { IfOk result (λ made. made ≡ record { program = program.now; plans = plans.now }) }
+    {
+        let regions = prepare(alloc, program, plans)?;
+        Ok(PreparedProgram { program, regions })
+    }
+
+    pub fn program(&self) -> &'p Program
+        ensures program { result.now ≡ self.now.program }
+        ensures given { AreGiven self.now.program self.now.plans }
+    {
+        self.program
+    }
+
+    /// The regions, in order.
+    pub fn regions(&self) -> &[PreparedRegion<'p>]
+        ensures { result.now ≡ map (prepared_of self.now.program) self.now.plans }
+    {
+        self.regions.as_slice()
+    }
+}
