@@ -12,7 +12,7 @@ least() {
   local best= start end
   for _ in 1 2 3 4 5 6 7 8 9; do
     start=$(date +%s%N)
-    "$@" >/dev/null
+    "$@" >/dev/null 2>&1
     end=$(date +%s%N)
     if [ -z "$best" ] || [ $((end - start)) -lt "$best" ]; then best=$((end - start)); fi
   done

@@ -1,5 +1,6 @@
 /* Makes one allocation fail: the one whose number, from 1, is in FAILING_ALLOCATION. At the end it writes how many were
-   asked for, on standard error. Threads share the count, so a number may stand for another allocation in each run.
+   asked for, on a line of its own on standard error. Threads share the count, so a number may stand for another
+   allocation in each run.
    Where OUTPUT_ROOM is set, standard output takes so many bytes and then fails. Loaded before the C library. */
 #define _GNU_SOURCE
 #include <dlfcn.h>
@@ -18,7 +19,7 @@ static long failing(void) {
 
 static int fails(void) { return atomic_fetch_add(&made, 1) + 1 == failing(); }
 
-__attribute__((destructor)) static void tell(void) { dprintf(2, "%ld\n", atomic_load(&made)); }
+__attribute__((destructor)) static void tell(void) { dprintf(2, "\n%ld\n", atomic_load(&made)); }
 
 _Noreturn void _exit(int status) {
   tell();

@@ -62,9 +62,9 @@ def commands(folder, count):
 
 
 def told(it):
-    """The message of a run, and how many allocations it made: the last line."""
-    lines = it.stderr.splitlines(keepends=True)
-    return b"".join(lines[:-1]), int(lines[-1])
+    """The message of a run, and how many allocations it made: a line of its own behind it."""
+    message, _, count = it.stderr.removesuffix(b"\n").rpartition(b"\n")
+    return message, int(count)
 
 
 class Runs:
