@@ -1,10 +1,12 @@
 /* Makes one allocation fail: the one whose number, from 1, is in FAILING_ALLOCATION. At the end it writes how many were
    asked for, on a line of its own on standard error. Threads share the count, so a number may stand for another
    allocation in each run.
-   Where OUTPUT_ROOM is set, standard output takes so many bytes and then fails. Loaded before the C library. */
+   Where OUTPUT_ROOM is set, standard output takes so many bytes and then fails. Where FAILING_THREAD is set, no thread from
+   that number on, from 1, can be started. Loaded before the C library. */
 #define _GNU_SOURCE
 #include <dlfcn.h>
 #include <errno.h>
+#include <pthread.h>
 #include <stdatomic.h>
 #include <stdio.h>
 #include <stdlib.h>
@@ -38,6 +40,16 @@ void *realloc(void *old, size_t size) {
   static void *(*next)(void *, size_t);
   if (!next) next = (void *(*)(void *, size_t))dlsym(RTLD_NEXT, "realloc");
   return fails() ? NULL : next(old, size);
+}
+
+/* Only the thread that runs a region calls it. */
+int pthread_create(pthread_t *thread, const pthread_attr_t *how, void *(*run)(void *), void *with) {
+  static int (*next)(pthread_t *, const pthread_attr_t *, void *(*)(void *), void *);
+  static long started;
+  if (!next) next = (int (*)(pthread_t *, const pthread_attr_t *, void *(*)(void *), void *))dlsym(RTLD_NEXT, "pthread_create");
+  const char *number = getenv("FAILING_THREAD");
+  if (number && ++started >= atol(number)) return EAGAIN;
+  return next(thread, how, run, with);
 }
 
 /* Only the thread that writes the answer calls it. */

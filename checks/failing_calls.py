@@ -1,9 +1,11 @@
 #!/usr/bin/env python3
-"""Runs programs with each of their allocations failing in turn, and with an output that fails at each of its bytes.
+"""Runs programs with each of their allocations failing in turn, with an output that fails at each of its bytes, and with
+threads that can't be started.
 
 Where an allocation fails, a run has to write its whole text with its status, or a front of it with status 7; and on
 standard error its whole message, a front of it, or nothing. Where the output fails behind so many bytes, it has to have
-written just those, and to end with status 6. Among the runs are some that are refused, some with iterations that are
+written just those, and to end with status 6. Where a region's threads can't be started from one on, its text and status
+have to be the same. Among the runs are some that are refused, some with iterations that are
 executed again, some with a replicated stage, and a table of words.
 
   checks/failing_calls.py [WORDS]   WORDS input words of the table of words, 60 where it isn't given
@@ -39,6 +41,11 @@ WORDS = [
     "run word_table.c words.txt --plan table.plan", "run word_table.c words.txt --plan table.plan --workers 8 --lane 64",
 ]
 
+# Runs whose epochs give so many verdicts that their units are handed to threads, with crews of at most so many threads.
+LONG = ["gen 7 400", "run histogram.c long.txt --plan bins.plan", "run word_table.c long.txt --plan table.plan"]
+CREWS = ["--workers 1 --lane 1", "--workers 2 --lane 16", "--workers 8 --lane 64"]
+THREADS = 14
+
 REFUSED = {
     "semicolon.c": "int main() { int x = 1 print(x); }", "unknown.c": "int total; int main() { totl = 1; }",
     "deep.c": "int main() { print(" + "!" * 65 + "1); }", "bad.txt": "1 x", "bad.plan": "plan 3\n",
@@ -49,7 +56,7 @@ REFUSED = {
 def commands(folder, count):
     """The words of each run; the texts that they name lie in the folder or are examples."""
     texts = {**library(), **REFUSED, "in.txt": "5 -1 7 8", "bins.txt": "0 1 2 3 4 5 6", "bins.plan": BINS_PLAN, "table.plan": TABLE_PLAN,
-             "words.txt": " ".join(str(k % 10) for k in range(count))}
+             "words.txt": " ".join(str(k % 10) for k in range(count)), "long.txt": " ".join(str(k % 10) for k in range(400))}
     for name, text in texts.items():
         Path(folder, name).write_text(text)
     yield from (words.split() for words in WORDS)
@@ -98,6 +105,13 @@ class Runs:
             self.expect((it.returncode, it.stdout) == (6, whole.stdout[:room]), words, f"room for {room} bytes", it)
 
 
+    def each_thread(self, words):
+        whole = self.run(words)
+        for number in range(1, THREADS + 1):
+            it = self.run(words, FAILING_THREAD=str(number))
+            self.expect((it.returncode, it.stdout) == (whole.returncode, whole.stdout), words, f"thread {number}", it)
+
+
 def main():
     with tempfile.TemporaryDirectory() as folder:
         runs = Runs(folder)
@@ -105,6 +119,9 @@ def main():
             whole = runs.run(words)
             runs.each_allocation(words, whole)
             runs.each_byte(words, whole)
+        for words in LONG:
+            for crew in CREWS:
+                runs.each_thread([*words.split(), *crew.split()])
         print(f"{runs.made - runs.wrong} of {runs.made} runs as promised")
         sys.exit(runs.wrong > 0 or not runs.made)
 
