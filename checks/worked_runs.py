@@ -14,8 +14,8 @@ Case = namedtuple("Case", "text plan numbers fuel")
 
 
 def dswp(*words):
-    """What is written, and the status."""
-    done = subprocess.run([DSWP, *map(str, words)], stdout=subprocess.PIPE, timeout=60)
+    """What is answered, and the status."""
+    done = subprocess.run([DSWP, *map(str, words)], stdout=subprocess.PIPE, stderr=subprocess.DEVNULL, timeout=60)
     return done.stdout.decode("latin-1"), done.returncode
 
 
