@@ -1,7 +1,8 @@
 #!/usr/bin/env bash
-# Runs each example, under its least plan and its own, and each planned program of the documents many times, with 1, 2 and 8
-# workers and lanes of 1, 2 and 64 places, and compares every text and status with the first. Ends with 1 where one differs,
-# and stops a run after a minute.
+# Runs each example, under its least plan and its own, each planned program of the documents, and a loop of which each fiftieth
+# iteration is executed again, so that epochs are handed to threads and break off, many times, with 1, 2 and 8 workers and lanes
+# of 1, 2 and 64 places, and compares every text and status with the first. Ends with 1 where one differs, and stops a run after
+# a minute.
 #
 #   checks/many_runs.sh [COUNT]    COUNT runs of each, 1000 where it isn't given
 set -eu
@@ -45,5 +46,27 @@ done
 for plan in docs/transcripts/*.plan; do
   [ -f "${plan%.plan}.c" ] && repeat "${plan%.plan}.c" --plan "$plan" --why
 done
+cat >"$work/fiftieth.c" <<'C'
+int table[100];
+int hits;
+int sum;
+int main() {
+  int i = 0;
+  #pragma dswp
+  while (i < input_len) {
+    int x = input[i];
+    i = i + 1;
+    int y = (x * 7 + 3) % 90;
+    sum = sum + hits + y;
+    table[y] = table[y] + 1;
+    if (i % 50 == 0) {
+      hits = hits + 1;
+    }
+  }
+}
+C
+printf 'plan 2\nregion 1 words 4096\nseq 2 3 4\npar 5\nseq 6\nseq 7 8 9\nend\n' >"$work/fiftieth.plan"
+seq 1500 >"$work/fiftieth.in"
+repeat "$work/fiftieth.c" "$work/fiftieth.in" --plan "$work/fiftieth.plan" --why
 echo "$runs runs, $differ differ"
 [ "$differ" = 0 ]
