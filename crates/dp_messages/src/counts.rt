@@ -5,15 +5,12 @@ use crate::files::Files;
 use crate::input::{count_words, tell_many};
 use crate::limits::{tell_file, tell_limit};
 use crate::page::Page;
-use crate::reading::{name_on, source_of, text_of};
+use crate::reading::{LISTED_INPUTS, name_on, source_of, text_of};
 use dp_base::limits::{INPUT_BYTES, INPUT_WORDS, LIST_BYTES, PROGRAM_BYTES};
 use dp_base::{NoMemory, Quantity};
 use dp_edge::Shelf;
 use dp_refusal::Role;
 use std::alloc::Global;
-
-/// A list has at most so many inputs.
-const LISTED: u32 = 64;
 
 /// Tells of a count that is above its limit.
 pub fn tell_count<S: Shelf>(
@@ -116,7 +113,7 @@ fn tell_large_from<S: Shelf>(
     requires { S.faults shelf.old < 2 ^ 64 - 1 }
     ensures { S.contents shelf.new ≡ S.contents shelf.old }
 {
-    for number in 1..LISTED + 1 {
+    for number in 1..LISTED_INPUTS + 1 {
         let name = name_on(names, number);
         let Some(text) = text_of(alloc, shelf, name, INPUT_BYTES)? else {
             tell_file(page, name.unwrap_or(""), quantity, count);

@@ -6,6 +6,9 @@ use dp_base::{NoMemory, Row};
 use dp_edge::{Shelf, ShelfFail};
 use std::alloc::Global;
 
+/// A list has at most so many inputs.
+pub const LISTED_INPUTS: u32 = 64;
+
 /// The text under a name, if it can be read and isn't longer than there is room for.
 pub fn text_of<S: Shelf>(
     alloc: Global,

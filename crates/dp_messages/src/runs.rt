@@ -15,9 +15,6 @@ use dp_tree::Program;
 use dp_words::Task;
 use std::alloc::Global;
 
-/// So many causes are told.
-const TOLD: u64 = 10;
-
 /// Tells how a task's run ended, by the last bytes of its text, and why iterations were executed again.
 pub fn tell_run<S: Shelf>(
     alloc: Global,
@@ -110,7 +107,7 @@ fn put_again(page: &mut Page, name: &str, again: u64, may_ask: bool) {
     });
 }
 
-/// Puts each listed cause with its line of the program, up to ten of them.
+/// Puts each listed cause that the tail holds, with its line of the program.
 fn put_causes(
     alloc: Global,
     page: &mut Page,
@@ -122,16 +119,12 @@ fn put_causes(
     let Ok(program) = read_program(alloc, source.text)? else {
         return Ok(());
     };
-    let mut told: u64 = 0;
     let mut from = 0;
     for (at, byte) in tail.iter().enumerate() {
         if *byte == b'\n' {
             let line = piece(tail, from, at);
             if matches!(word_at(line, 0), b"cause") {
-                told = told.saturating_add(1);
-                if told <= TOLD {
-                    put_cause(page, source, &program, line);
-                }
+                put_cause(page, source, &program, line);
             }
             from = at.saturating_add(1);
         }

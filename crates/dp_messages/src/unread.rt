@@ -3,16 +3,13 @@ ghost use Rattle.std.specs.Prelude.{◌≡◌, ◌<◌, ◌-◌, ◌^◌};
 
 use crate::files::Files;
 use crate::page::Page;
-use crate::reading::{name_on, text_of};
+use crate::reading::{LISTED_INPUTS, name_on, text_of};
 use crate::reason::{Finding, why};
 use dp_base::NoMemory;
 use dp_base::limits::{INPUT_BYTES, LIST_BYTES};
 use dp_edge::Shelf;
 use dp_refusal::Role;
 use std::alloc::Global;
-
-/// A list has at most so many inputs.
-const LISTED: u32 = 64;
 
 /// Tells which of the files that the words name couldn't be read.
 pub fn tell_unread<S: Shelf>(
@@ -59,7 +56,7 @@ fn find_unread<S: Shelf>(
     requires { S.faults shelf.old < 2 ^ 64 - 1 }
     ensures { S.contents shelf.new ≡ S.contents shelf.old }
 {
-    for number in 1..LISTED + 1 {
+    for number in 1..LISTED_INPUTS + 1 {
         let name = name_on(names, number);
         if text_of(alloc, shelf, name, INPUT_BYTES)?.is_none() {
             put_unread(page, name, Role::Input);
