@@ -12,7 +12,7 @@ trap 'rm -rf "$work"' EXIT
 total=0 differ=0
 for picture in docs/pictures/*.dot; do
   name=$(basename "$picture" .dot)
-  docs/picture.py "examples/$name.c" >"$work/$name.dot"
+  tools/explain.py "examples/$name.c" --dot >"$work/$name.dot"
   total=$((total + 1))
   if [ "${1-}" = --write ]; then
     cp "$work/$name.dot" "$picture"

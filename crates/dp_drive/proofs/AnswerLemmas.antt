@@ -15,8 +15,6 @@ use Rattle.dp_room.specs.declared.NoMemory.{NoMemory as Wanting}
 use Rattle.dp_load.specs.declared.texts.Texts.{Texts}
 use Rattle.dp_load.specs.declared.texts.Texts.TheVariants as texts
 use Rattle.dp_refusal.specs.Refusal.{refusal_line, refusal_status, failed_read_line}
-use Rattle.dp_report.specs.SiteText.{site_bytes}
-use Rattle.dp_plan_text.specs.WrittenText.{plans_text}
 use Rattle.dp_refusal.specs.declared.role.Role.TheVariants as role
 use Rattle.dp_load.specs.declared.load.Loaded.{Loaded}
 use Rattle.dp_load.specs.declared.load.Loaded.TheVariants.{Text, Refused, Failed}
@@ -25,7 +23,7 @@ use Rattle.dp_load.specs.Order.{ReadsAll}
 use Rattle.dp_load.specs.Last.{Nothing}
 use Rattle.dp_load.proofs.OrderLemmas.{all_read, ends_at_plans, ends_at_program, with_inputs}
 use Rattle.dp_load.proofs.TextsLemmas.{source_of, refusal_read}
-use Rattle.dp_words.specs.Words.{Asked, Asks, AsksNothing, ToList, ToPlan, ToRun}
+use Rattle.dp_words.specs.Words.{Asked, Asks, AsksNothing, ToRun}
 use Rattle.dp_words.specs.Run.{Run, Least}
 use Rattle.dp_words.specs.Planning.{Planning}
 use Rattle.dp_plan.specs.declared.Plan.{Plan}
@@ -99,36 +97,6 @@ module _ (words : List (List ℕ)) (contents : Contents) (faults after : ℕ) (f
 
   abbrev ProgramGives : List ℕ → Loaded Program → Type 0
   ProgramGives name = Gives (LoadsProgram contents name) (Some name) faults after failed fails
-
-  pub carry_sites : (name : List ℕ) (q : Program) (result : Result ℕ WriteFail) → Asks words (ToList name) → ProgramGives name (Text q) → Finishes 0 (site_bytes q) told tells result → Carried words contents faults after failed fails told tells result
-  carry_sites name q result asks g finishes =
-      let s = source_of (ReadsProgram contents name) q g.0 in
-      carried.OfAnswer _ _ (Done (ToList name) ((((s.source, []), []), []), Nothing) asks (all_read contents (ToList name) s.source (named_program s.reads) [] Unnamed refl [] NoPlans refl)) g.1 g.2
-      (finishes_as 0 0 (site_bytes q) (site_bytes (expand s.source)) told tells result refl (ap site_bytes s.is) finishes)
-
-  module _ (planning : Planning) (asks : Asks words (ToPlan planning)) (q : Program) (read : LoadsProgram contents planning.program (Ok q)) where
-    abbrev LeastGives : Loaded (List Plan) → Type 0
-    LeastGives = Gives (Plans contents q planning.options (Least planning.profile)) planning.profile faults after failed fails
-
-    abbrev LeastOf : Program → Result (List Plan) Refusal → Type 0
-    LeastOf x made = Plans contents x planning.options (Least planning.profile) made
-
-    pub carry_plans : (plans : List Plan) (result : Result ℕ WriteFail) → LeastGives (Text plans) → Finishes 0 (plans_text q plans) told tells result → Carried words contents faults after failed fails told tells result
-    carry_plans plans result g finishes =
-        let s = source_of (ReadsProgram contents planning.program) q read in
-        carried.OfAnswer _ _ (Done (ToPlan planning) ((((s.source, []), []), plans), Nothing) asks (all_read contents (ToPlan planning) s.source (named_program s.reads) [] Unnamed refl plans (SomePlans (Least planning.profile) planning.options (Ok plans) (subst (λ (x : Program). LeastOf x (Ok plans)) s.is g.0)) refl)) g.1 g.2
-        (finishes_as 0 0 (plans_text q plans) (plans_text (expand s.source) plans) told tells result refl (ap (λ (x : Program). plans_text x plans) s.is) finishes)
-
-    pub carry_least_refused : (refusal : Refusal) (result : Result ℕ WriteFail) → LeastGives (Refused refusal) → Finishes (refusal_status refusal) (refusal_line refusal) told tells result →
-        Carried words contents faults after failed fails told tells result
-    carry_least_refused refusal result g finishes =
-        let s = source_of (ReadsProgram contents planning.program) q read in
-        carried.OfAnswer _ _ (answers.Refused (ToPlan planning) refusal asks (ends_at_plans contents (ToPlan planning) s.source (named_program s.reads) [] Unnamed refl refusal (SomePlans (Least planning.profile) planning.options (Err refusal) (subst (λ (x : Program). LeastOf x (Err refusal)) s.is g.0)))) g.1 g.2 finishes
-
-    pub carry_least_failed : (result : Result ℕ WriteFail) → LeastGives Failed → Finishes 5 (failed_read_line role.Profile) told tells result → Carried words contents faults after failed fails told tells result
-    carry_least_failed result g finishes =
-        let s = source_of (ReadsProgram contents planning.program) q read in
-        carried.OfFailedRead _ _ (OfPlans (ToPlan planning) ((s.source, []), []) (Least planning.profile) planning.options g.0 asks (with_inputs contents (ToPlan planning) s.source (named_program s.reads) [] Unnamed refl) refl g.1) g.2 g.3 finishes
 
   -- a program alone that is refused, or that can't be read
   pub carry_program_refused : (asked : Asked) (name : List ℕ) (refusal : Refusal) (result : Result ℕ WriteFail) → Asks words asked → program_in asked ≡ Some name →

@@ -1,5 +1,6 @@
 pub mod accepted
 pub mod AnswerLemmas
+pub mod ListingLemmas
 pub mod Stopping
 pub mod RunLemmas
 pub mod VerbLemmas

@@ -4,8 +4,10 @@ use Rattle.dp_tree.specs.declared.Program.{Program}
 use Rattle.dp_calls.specs.Expand.{expand}
 use Rattle.dp_calls.specs.Frames.{outcome}
 use Rattle.dp_report.specs.SiteText.{site_bytes}
+use Rattle.dp_tree_text.specs.TreeText.{tree_bytes}
+use Rattle.dp_explain.specs.Explanation.{explanation}
 use Rattle.dp_words.specs.declared.task.PlanOptions.{PlanOptions}
-use Rattle.dp_words.specs.Words.{Asked, Asks, AsksNothing, ToRun, ToPlan, ToList, ToProfile, ToMake, ToLog, ToAudit, ToSave, ToResume, ToBatch}
+use Rattle.dp_words.specs.Words.{Asked, Asks, AsksNothing, ToRun, ToPlan, ToExplain, ToList, ToTree, ToProfile, ToMake, ToLog, ToAudit, ToSave, ToResume, ToBatch}
 use Rattle.dp_words.specs.Run.{Source}
 use Rattle.dp_run.specs.RunText.{source_run, committed_in_all}
 use Rattle.dp_plan.specs.declared.Plan.{Plan}
@@ -31,7 +33,9 @@ use Rattle.dp_drive.specs.Pieces.{checkpoint_in, resumed_end, resumed_text, save
 abbrev pub status_for : Asked → Given → ℕ
 status_for (ToRun run) texts = status_of (outcome texts.program texts.numbers run.fuel).end
 status_for (ToPlan planning) texts = 0
+status_for (ToExplain planning) texts = 0
 status_for (ToList program) texts = 0
+status_for (ToTree program) texts = 0
 status_for (ToProfile profiling) texts = status_of (outcome texts.program texts.numbers profiling.fuel).end
 status_for (ToMake made) texts = status_of (outcome texts.program (made_words made) made.fuel).end
 status_for (ToLog run) texts = status_of (outcome texts.program texts.numbers run.fuel).end
@@ -44,7 +48,9 @@ status_for (ToBatch run list) texts = 0
 abbrev pub bytes_for : Asked → Given → List ℕ
 bytes_for (ToRun run) texts = run_text texts.program texts.plans texts.numbers run.fuel run.why
 bytes_for (ToPlan planning) texts = plans_text (expand texts.program) texts.plans
+bytes_for (ToExplain planning) texts = explanation (expand texts.program) texts.plans
 bytes_for (ToList program) texts = site_bytes (expand texts.program)
+bytes_for (ToTree program) texts = tree_bytes (expand texts.program)
 bytes_for (ToProfile profiling) texts = profile_text (expand texts.program) (observed (expand texts.program) texts.numbers profiling.fuel).profile
 bytes_for (ToMake made) texts = made_line made ++ run_text texts.program texts.plans (made_words made) made.fuel false
 bytes_for (ToLog run) texts = log_of texts.program texts.plans texts.numbers run.fuel

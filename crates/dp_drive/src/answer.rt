@@ -1,28 +1,26 @@
 //! The whole program: from its words to what is written and the exit status.
 ghost use Rattle.std.specs.Prelude.{◌≡◌, ◌<◌, ◌-◌, ◌^◌, ℕ, List, map, string_bytes, IfOk};
-ghost use Rattle.dp_report.specs.SiteText.{site_bytes};
 ghost use Rattle.dp_edge.specs.Writing.{FaultsAfter};
-ghost use Rattle.dp_words.specs.Words.{Asks, ToList, ToRun};
+ghost use Rattle.dp_words.specs.Words.{Asks, ToRun};
 ghost use Rattle.dp_words.specs.Run.{RunWithin, shown};
 ghost use Rattle.dp_drive.specs.Headline.{Drives, IsCounted};
-ghost use Rattle.dp_drive.specs.steps.Carried.{Carried, Finishes};
+ghost use Rattle.dp_drive.specs.steps.Carried.{Carried};
 ghost use Rattle.dp_drive.specs.steps.Status.{status_after};
 
 use crate::auditing::answer_audit;
 use crate::batching::answer_batch;
+use crate::listing::{Listing, answer_program};
 use crate::logging::{answer_log, size_of};
 use crate::made::answer_gen;
-use crate::planning::answer_plan;
+use crate::planning::{PlansText, answer_plan};
 use crate::profiling::answer_profile;
 use crate::running::run_to_end;
 use crate::saving::{answer_resume, answer_save};
 use crate::writing::{fail_read, refuse};
-use dp_edge::{Gate, Shelf, Sink, WriteFail, write};
-use dp_load::{Loaded, Texts, load_program, load_texts};
-use dp_refusal::{Refusal, Role};
-use dp_report::site_text;
+use dp_edge::{Gate, Shelf, Sink, WriteFail};
+use dp_load::{Texts, load_texts};
+use dp_refusal::Refusal;
 use dp_run::{RunOptions, Tally, Watch};
-use dp_tree::Program;
 use dp_words::{RunWords, Task, asked};
 use std::alloc::Global;
 use std::sync::Wait;
@@ -91,8 +89,10 @@ fn answer<R: Threads + Wait + Clock + Sync, S: Shelf, K: Sink, G: Gate, W: Watch
 {
     match asked(alloc, words)? {
         Some(Task::Run(run)) => answer_run(rt, alloc, run, shelf, sink, gate, tally),
-        Some(Task::Plan(plan)) => answer_plan(alloc, plan, shelf, sink),
-        Some(Task::Check(program)) => answer_check(alloc, program, shelf, sink),
+        Some(Task::Plan(plan)) => answer_plan(alloc, plan, PlansText::Bare, shelf, sink),
+        Some(Task::Explain(plan)) => answer_plan(alloc, plan, PlansText::Explained, shelf, sink),
+        Some(Task::Check(program)) => answer_program(alloc, program, Listing::Sites, shelf, sink),
+        Some(Task::Tree(program)) => answer_program(alloc, program, Listing::Tree, shelf, sink),
         Some(Task::Profile(profile)) => answer_profile(alloc, profile, shelf, sink),
         Some(Task::Gen(words)) => answer_gen(rt, alloc, words, sink, gate, tally),
         Some(Task::Log(run)) => answer_log(rt, alloc, run, shelf, sink),
@@ -138,36 +138,4 @@ fn answer_run<R: Threads + Wait + Clock + Sync, S: Shelf, K: Sink, G: Gate, W: W
         Texts::Refused(refusal) => refuse(alloc, refusal, sink),
         Texts::Failed(role) => fail_read(alloc, role, sink),
     }
-}
-
-/// The exit status of a list of sites.
-fn answer_check<S: Shelf, K: Sink>(
-    alloc: Global,
-    name: &str,
-    shelf: &mut S,
-    sink: &mut K,
-) -> Result<u8, WriteFail>
-    requires shelf { S.faults shelf.old < 2 ^ 64 - 1 }
-    requires sink { K.faults sink.old < 2 ^ 64 - 1 }
-    ensures contents { S.contents shelf.new ≡ S.contents shelf.old }
-    ensures faults { FaultsAfter result (K.faults sink.old) (K.faults sink.new) }
-    ensures carried { (words : List (List ℕ)) → Asks words (ToList name.now) → Carried words (S.contents shelf.old) (S.faults shelf.old) (S.faults shelf.new)
-        (S.failed_names shelf.old) (S.failed_names shelf.new) (K.written sink.old) (K.written sink.new) result }
-{
-    match load_program(alloc, shelf, name)? {
-        Loaded::Text(program) => list_sites(alloc, &program, sink),
-        Loaded::Refused(refusal) => refuse(alloc, refusal, sink),
-        Loaded::Failed => fail_read(alloc, Role::Program, sink),
-    }
-}
-
-/// Writes the list of the program's sites.
-fn list_sites<K: Sink>(alloc: Global, program: &Program, sink: &mut K) -> Result<u8, WriteFail>
-    requires { K.faults sink.old < 2 ^ 64 - 1 }
-    ensures faults { FaultsAfter result (K.faults sink.old) (K.faults sink.new) }
-    ensures finishes { Finishes 0 (site_bytes program.now) (K.written sink.old) (K.written sink.new) result }
-{
-    let text = site_text(alloc, program)?;
-    write(text.as_slice(), sink)?;
-    Ok(0)
 }

@@ -5,6 +5,7 @@ mod answer;
 mod auditing;
 mod batching;
 mod law;
+mod listing;
 mod logging;
 mod made;
 mod planning;

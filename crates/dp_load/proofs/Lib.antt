@@ -6,5 +6,6 @@ pub mod EachLemmas
 pub mod BatchLemmas
 pub mod TextsLemmas
 pub mod OrderLemmas
+pub mod AloneLemmas
 pub mod rows
 pub mod definite

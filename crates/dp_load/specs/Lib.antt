@@ -1,4 +1,5 @@
 pub mod Order
+pub mod Alone
 pub mod Roles
 pub mod Lists
 pub mod Last

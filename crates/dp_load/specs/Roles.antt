@@ -5,7 +5,7 @@ use Rattle.dp_report.specs.Generator.{made_text}
 use Rattle.dp_words.specs.declared.task.PlanOptions.{PlanOptions}
 use Rattle.dp_words.specs.Run as source
 use Rattle.dp_words.specs.Run.{Source, Least}
-use Rattle.dp_words.specs.Words.{Asked, ToRun, ToPlan, ToList, ToProfile, ToMake, ToLog, ToAudit, ToSave, ToResume, ToBatch}
+use Rattle.dp_words.specs.Words.{Asked, ToRun, ToPlan, ToExplain, ToList, ToTree, ToProfile, ToMake, ToLog, ToAudit, ToSave, ToResume, ToBatch}
 use Rattle.dp_plan.specs.declared.Plan.{Plan}
 use Rattle.dp_profile.specs.declared.Profile.{Profile}
 use Rattle.dp_refusal.specs.declared.refusal.Refusal.{Refusal}
@@ -28,7 +28,9 @@ Holds contents name text = IfSome contents (λ held. held name ≡ Some text)
 abbrev pub program_in : Asked → Option (List ℕ)
 program_in (ToRun run) = Some run.program
 program_in (ToPlan planning) = Some planning.program
+program_in (ToExplain planning) = Some planning.program
 program_in (ToList program) = Some program
+program_in (ToTree program) = Some program
 program_in (ToProfile profiling) = Some profiling.program
 program_in (ToMake made) = None
 program_in (ToLog run) = Some run.program
@@ -48,7 +50,9 @@ pub data ProgramOf (contents : Contents) : Option (List ℕ) → Result Program 
 abbrev pub input_in : Asked → Option (List ℕ)
 input_in (ToRun run) = run.input
 input_in (ToPlan planning) = None
+input_in (ToExplain planning) = None
 input_in (ToList program) = None
+input_in (ToTree program) = None
 input_in (ToProfile profiling) = profiling.input
 input_in (ToMake made) = None
 input_in (ToLog run) = run.input
@@ -74,7 +78,9 @@ pub data Input (contents : Contents) : Option (List ℕ) → Result (List ℤ) R
 abbrev pub plans_in : Asked → Option (Source × PlanOptions)
 plans_in (ToRun run) = Some (run.source, run.options)
 plans_in (ToPlan planning) = Some (Least planning.profile, planning.options)
+plans_in (ToExplain planning) = Some (Least planning.profile, planning.options)
 plans_in (ToList program) = None
+plans_in (ToTree program) = None
 plans_in (ToProfile profiling) = None
 plans_in (ToMake made) = Some (Least None, made.options)
 plans_in (ToLog run) = Some (run.source, run.options)

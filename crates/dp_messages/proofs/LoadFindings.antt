@@ -7,7 +7,7 @@ use Rattle.dp_save.specs.declared.Checkpoint.{Checkpoint as Point}
 use Rattle.dp_words.specs.Run.{Least, Run}
 use Rattle.dp_words.specs.Planning.{Planning}
 use Rattle.dp_words.specs.Profiling.{Profiling}
-use Rattle.dp_words.specs.Words.{Asked, Asks, ToAudit, ToBatch, ToList, ToPlan, ToProfile, ToResume}
+use Rattle.dp_words.specs.Words.{Asked, Asks, ToAudit, ToBatch, ToProfile, ToResume}
 use Rattle.dp_refusal.specs.declared.role.Role.{Role}
 use Rattle.dp_refusal.specs.declared.role.Role.TheVariants as role
 use Rattle.dp_refusal.specs.declared.refusal.Refusal.{Refusal}
@@ -17,6 +17,7 @@ use Rattle.dp_load.specs.declared.texts.Texts.{Texts}
 use Rattle.dp_load.specs.declared.texts.Texts.TheVariants as texts
 use Rattle.dp_load.specs.declared.batch.BatchTexts.{BatchTexts}
 use Rattle.dp_load.specs.declared.batch.BatchTexts.TheVariants as batch
+use Rattle.dp_load.specs.Alone.{ReadsLeastPlans, ReadsProgramAlone}
 use Rattle.dp_load.specs.Batches.{LoadsBatch}
 use Rattle.dp_load.specs.Last.{Checkpoint, LastCheckpoint, LastLog, LastOf, Nothing, SavedAt, Logged, saved_at}
 use Rattle.dp_room.specs.declared.NoMemory.{NoMemory as Wanting}
@@ -24,7 +25,8 @@ use Rattle.dp_load.specs.Loading.{FaultsAfterLoad, Gives, Loads, LoadsCheckpoint
 use Rattle.dp_load.specs.Roles.{Contents, Input, NoPlans, Plans, ProgramOf, SomePlans, Unnamed, program_in}
 use Rattle.dp_load.specs.Texts.{LoadsTexts, Names}
 use Rattle.dp_load.specs.Texts as loads
-use Rattle.dp_load.proofs.OrderLemmas.{all_read, ends_at_input, ends_at_plans, ends_at_program}
+use Rattle.dp_load.proofs.AloneLemmas as alone
+use Rattle.dp_load.proofs.OrderLemmas.{all_read, ends_at_input, ends_at_program}
 use Rattle.dp_load.proofs.TextsLemmas.{refusal_read, source_of}
 use Rattle.dp_messages.specs.Finding.{Finds, IsRead, IsRefused, IsUnread}
 use Rattle.dp_messages.specs.declared.reason.Finding.TheVariants as finding
@@ -90,15 +92,15 @@ program_refused contents asked name words faults after refusal asks is h e =
     let read = named (refusal_read (ReadsProgram contents name) refusal h) in
     IsRefused asked refusal asks (ends_at_program contents asked refusal (subst (λ (o : Option (List ℕ)). ProgramOf contents o (Err refusal)) (sym is) read)) e
 
--- the list of a program's sites
-pub sites_read : (contents : Contents) (name : List ℕ) (words : List (List ℕ)) (faults after : ℕ) (q : Program) → Asks words (ToList name) → LoadsProgram contents name (Ok q) → after ≡ faults → Finds words contents faults after finding.Nothing
-sites_read contents name words faults after q asks h e =
+-- .. and one that is read
+pub program_read : (contents : Contents) (asked : Asked) (name : List ℕ) → ReadsProgramAlone asked name → (words : List (List ℕ)) (faults after : ℕ) (q : Program) → Asks words asked → LoadsProgram contents name (Ok q) → after ≡ faults → Finds words contents faults after finding.Nothing
+program_read contents asked name of words faults after q asks h e =
     let s = source_of (ReadsProgram contents name) q h in
-    IsRead (ToList name) ((((s.source, []), []), []), Nothing) asks (all_read contents (ToList name) s.source (named s.reads) [] Unnamed refl [] NoPlans refl) e
+    IsRead asked ((((s.source, []), []), []), Nothing) asks (alone.program_alone contents asked name of s.source s.reads) e
 
 -- behind a program that was read
 module _ (contents : Contents) (words : List (List ℕ)) (faults mid after : ℕ) (failed fails : Names) (q : Program) (same : mid ≡ faults) where
-  module _ (planning : Planning) (asks : Asks words (ToPlan planning)) (h : LoadsProgram contents planning.program (Ok q)) where
+  module _ (asked : Asked) (planning : Planning) (of : ReadsLeastPlans asked planning) (asks : Asks words asked) (h : LoadsProgram contents planning.program (Ok q)) where
     abbrev LeastOf : Program → Result (List Plan) Refusal → Type 0
     LeastOf x made = Plans contents x planning.options (Least planning.profile) made
 
@@ -108,14 +110,12 @@ module _ (contents : Contents) (words : List (List ℕ)) (faults mid after : ℕ
     pub least_refused : (refusal : Refusal) → LeastGives (loaded.Refused refusal) → Finds words contents faults after (finding.Refused refusal)
     least_refused refusal g =
         let s = source_of (ReadsProgram contents planning.program) q h in
-        IsRefused (ToPlan planning) refusal asks
-        (ends_at_plans contents (ToPlan planning) s.source (named s.reads) [] Unnamed refl refusal (SomePlans (Least planning.profile) planning.options (Err refusal) (subst (λ (x : Program). LeastOf x (Err refusal)) s.is g.0))) (g.1 ∙ same)
+        IsRefused asked refusal asks (alone.least_refused contents asked planning of s.source s.reads refusal (subst (λ (x : Program). LeastOf x (Err refusal)) s.is g.0)) (g.1 ∙ same)
 
     pub least_read : (plans : List Plan) → LeastGives (loaded.Text plans) → Finds words contents faults after finding.Nothing
     least_read plans g =
         let s = source_of (ReadsProgram contents planning.program) q h in
-        IsRead (ToPlan planning) ((((s.source, []), []), plans), Nothing) asks
-        (all_read contents (ToPlan planning) s.source (named s.reads) [] Unnamed refl plans (SomePlans (Least planning.profile) planning.options (Ok plans) (subst (λ (x : Program). LeastOf x (Ok plans)) s.is g.0)) refl) (g.1 ∙ same)
+        IsRead asked ((((s.source, []), []), plans), Nothing) asks (alone.least_read contents asked planning of s.source s.reads plans (subst (λ (x : Program). LeastOf x (Ok plans)) s.is g.0)) (g.1 ∙ same)
 
     pub least_unread : (which : Role) → LeastGives loaded.Failed → Finds words contents faults after (finding.Unread which)
     least_unread which g = let less = g.2 in IsUnread which (omega (arith, less, same))
@@ -137,13 +137,13 @@ module _ (contents : Contents) (words : List (List ℕ)) (faults mid after : ℕ
     pub input_unread : (which : Role) → InputGives loaded.Failed → Finds words contents faults after (finding.Unread which)
     input_unread which g = let less = g.2 in IsUnread which (omega (arith, less, same))
 
--- what is found of a program's sites
-pub check_finds : (contents : Contents) (name : List ℕ) (words : List (List ℕ)) (faults after : ℕ) (r : Result (Loaded Program) Wanting) (l : Loaded Program) → r ≡ Ok l → Asks words (ToList name) → IfOk r (Loads (LoadsProgram contents name)) → FaultsAfterLoad r faults after →
+-- what is found of a program alone
+pub program_finds : (contents : Contents) (asked : Asked) (name : List ℕ) → ReadsProgramAlone asked name → (words : List (List ℕ)) (faults after : ℕ) (r : Result (Loaded Program) Wanting) (l : Loaded Program) → r ≡ Ok l → Asks words asked → IfOk r (Loads (LoadsProgram contents name)) → FaultsAfterLoad r faults after →
     Finds words contents faults after (found_in role.Program l)
-check_finds contents name words faults after r (loaded.Text q) is asks h e = sites_read contents name words faults after q asks (read_text (LoadsProgram contents name) r q is h) (same_text r q faults after is e)
-check_finds contents name words faults after r (loaded.Refused refusal) is asks h e =
-    program_refused contents (ToList name) name words faults after refusal asks refl (read_refused (LoadsProgram contents name) r refusal is h) (same_refused r refusal faults after is e)
-check_finds contents name words faults after r loaded.Failed is asks h e = IsUnread role.Program (more_failed r faults after is e)
+program_finds contents asked name of words faults after r (loaded.Text q) is asks h e = program_read contents asked name of words faults after q asks (read_text (LoadsProgram contents name) r q is h) (same_text r q faults after is e)
+program_finds contents asked name of words faults after r (loaded.Refused refusal) is asks h e =
+    program_refused contents asked name words faults after refusal asks of.program (read_refused (LoadsProgram contents name) r refusal is h) (same_refused r refusal faults after is e)
+program_finds contents asked name of words faults after r loaded.Failed is asks h e = IsUnread role.Program (more_failed r faults after is e)
 
 -- .. of the texts of a run alone
 pub run_finds : (contents : Contents) (asked : Asked) (run : Run) → ReadsRunAlone asked run → (words : List (List ℕ)) → Asks words asked → (faults after : ℕ) (failed fails : Names) (r : Result Texts Wanting) (l : Texts) → r ≡ Ok l → IfOk r (LoadsTexts contents run faults after failed fails) →
@@ -179,11 +179,11 @@ module _ (contents : Contents) (run : Run) (name : List ℕ) (words : List (List
 
 -- .. and behind a program
 module _ (contents : Contents) (words : List (List ℕ)) (faults mid after : ℕ) (failed fails : Names) (q : Program) (same : mid ≡ faults) where
-  pub least_finds : (planning : Planning) → Asks words (ToPlan planning) → LoadsProgram contents planning.program (Ok q) → (l : Loaded (List Plan)) →
+  pub least_finds : (asked : Asked) (planning : Planning) → ReadsLeastPlans asked planning → Asks words asked → LoadsProgram contents planning.program (Ok q) → (l : Loaded (List Plan)) →
       Gives (Plans contents q planning.options (Least planning.profile)) planning.profile mid after failed fails l → Finds words contents faults after (found_in role.Profile l)
-  least_finds planning asks h (loaded.Text plans) g = least_read contents words faults mid after failed fails q same planning asks h plans g
-  least_finds planning asks h (loaded.Refused refusal) g = least_refused contents words faults mid after failed fails q same planning asks h refusal g
-  least_finds planning asks h loaded.Failed g = least_unread contents words faults mid after failed fails q same planning asks h role.Profile g
+  least_finds asked planning of asks h (loaded.Text plans) g = least_read contents words faults mid after failed fails q same asked planning of asks h plans g
+  least_finds asked planning of asks h (loaded.Refused refusal) g = least_refused contents words faults mid after failed fails q same asked planning of asks h refusal g
+  least_finds asked planning of asks h loaded.Failed g = least_unread contents words faults mid after failed fails q same asked planning of asks h role.Profile g
 
   pub input_finds : (profiling : Profiling) → Asks words (ToProfile profiling) → LoadsProgram contents profiling.program (Ok q) → (l : Loaded (List ℤ)) →
       Gives (Input contents profiling.input) profiling.input mid after failed fails l → Finds words contents faults after (found_in role.Input l)

@@ -33,11 +33,11 @@ impl<'w> Files<'w> {
 pub fn files_of<'w>(task: &Task<'w>) -> Files<'w> {
     match task {
         Task::Run(run) => run_files(*run),
-        Task::Plan(plan) => Files {
+        Task::Plan(plan) | Task::Explain(plan) => Files {
             profile: plan.profile,
             ..program_file(plan.program)
         },
-        Task::Check(program) => program_file(program),
+        Task::Check(program) | Task::Tree(program) => program_file(program),
         Task::Profile(profile) => Files {
             input: profile.input,
             ..program_file(profile.program)
@@ -68,7 +68,9 @@ pub fn fuel_of(task: &Task<'_>) -> Option<u64> {
         Task::Save(run, _) => Some(run.fuel),
         Task::Profile(profile) => Some(profile.fuel),
         Task::Plan(_)
+        | Task::Explain(_)
         | Task::Check(_)
+        | Task::Tree(_)
         | Task::Gen(_)
         | Task::Audit(_, _)
         | Task::Resume(_, _)

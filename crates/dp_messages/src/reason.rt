@@ -1,10 +1,11 @@
 //! Why words were refused, found anew by the texts that they name.
 ghost use Rattle.std.specs.Prelude.{◌≡◌, ◌<◌, ◌-◌, ◌^◌, ℕ, List, map, string_bytes, IfOk};
-ghost use Rattle.dp_words.specs.Words.{Asked, Asks, ToAudit, ToBatch, ToList, ToPlan, ToProfile, ToResume};
+ghost use Rattle.dp_words.specs.Words.{Asked, Asks, ToAudit, ToBatch, ToProfile, ToResume};
 ghost use Rattle.dp_words.specs.Run.{RunWithin, shown};
 ghost use Rattle.dp_words.specs.Planning.{shown_planning};
 ghost use Rattle.dp_words.specs.Profiling.{shown_profiling};
 ghost use Rattle.dp_words.specs.Values.{OptionsWithin};
+ghost use Rattle.dp_load.specs.Alone.{ReadsLeastPlans, ReadsProgramAlone};
 ghost use Rattle.dp_load.specs.Roles.{Contents};
 ghost use Rattle.dp_messages.specs.Finding.{Finds};
 ghost use Rattle.dp_messages.specs.steps.Found as definition;
@@ -46,7 +47,9 @@ pub fn why<S: Shelf>(alloc: Global, words: &[String], shelf: &mut S) -> Result<F
         Some(Task::Resume(run, checkpoint)) => why_resume(alloc, run, checkpoint, shelf),
         Some(Task::Batch(run, list)) => why_batch(alloc, run, list, shelf),
         Some(Task::Plan(plan)) => why_plan(alloc, plan, shelf),
-        Some(Task::Check(program)) => why_check(alloc, program, shelf),
+        Some(Task::Explain(plan)) => why_plan(alloc, plan, shelf),
+        Some(Task::Check(program)) => why_program(alloc, program, shelf),
+        Some(Task::Tree(program)) => why_program(alloc, program, shelf),
         Some(Task::Profile(profile)) => why_profile(alloc, profile, shelf),
         Some(Task::Gen(_)) => Ok(Finding::Nothing),
     }
@@ -122,7 +125,7 @@ fn why_plan<S: Shelf>(alloc: Global, plan: PlanWords, shelf: &mut S) -> Result<F
     requires options { OptionsWithin plan.options }
     requires shelf { S.faults shelf.old < 2 ^ 64 - 1 }
     ensures contents { S.contents shelf.new ≡ S.contents shelf.old }
-    ensures finds { (words : List (List ℕ)) → Asks words (ToPlan (shown_planning plan.entry)) → IfOk result (Finds words (S.contents shelf.old) (S.faults shelf.old) (S.faults shelf.new)) }
+    ensures finds { (words : List (List ℕ)) (asked : Asked) → ReadsLeastPlans asked (shown_planning plan.entry) → Asks words asked → IfOk result (Finds words (S.contents shelf.old) (S.faults shelf.old) (S.faults shelf.new)) }
 {
     let program = match load_program(alloc, shelf, plan.program)? {
         Loaded::Text(program) => program,
@@ -133,10 +136,10 @@ fn why_plan<S: Shelf>(alloc: Global, plan: PlanWords, shelf: &mut S) -> Result<F
     Ok(found_in(&plans, Role::Profile))
 }
 
-fn why_check<S: Shelf>(alloc: Global, name: &str, shelf: &mut S) -> Result<Finding, NoMemory>
+fn why_program<S: Shelf>(alloc: Global, name: &str, shelf: &mut S) -> Result<Finding, NoMemory>
     requires { S.faults shelf.old < 2 ^ 64 - 1 }
     ensures contents { S.contents shelf.new ≡ S.contents shelf.old }
-    ensures finds { (words : List (List ℕ)) → Asks words (ToList name.now) → IfOk result (Finds words (S.contents shelf.old) (S.faults shelf.old) (S.faults shelf.new)) }
+    ensures finds { (words : List (List ℕ)) (asked : Asked) → ReadsProgramAlone asked name.now → Asks words asked → IfOk result (Finds words (S.contents shelf.old) (S.faults shelf.old) (S.faults shelf.new)) }
 {
     let program = load_program(alloc, shelf, name)?;
     Ok(found_in(&program, Role::Program))

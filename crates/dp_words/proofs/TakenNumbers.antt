@@ -1,7 +1,7 @@
 -- Each verb's command is simple, and its numbers have their ranges.
 use Rattle.std.proofs.Common.{refl}
 use Rattle.clap.proofs.OnLiterals.{clap_on_literals}
-use Rattle.dp_words.specs.Commands.{audit_app, batch_app, check_app, gen_app, log_app, plan_app, profile_app, resume_app, run_app, save_app}
+use Rattle.dp_words.specs.Commands.{audit_app, batch_app, check_app, explain_app, gen_app, log_app, plan_app, profile_app, resume_app, run_app, save_app, tree_app}
 use Rattle.dp_words.specs.declared.verb.Verb.{Verb}
 use Rattle.dp_words.specs.declared.verb.Verb.TheVariants as verb
 use Rattle.dp_words.specs.steps.Numbers.{TakesNumbers}
@@ -15,9 +15,17 @@ plan_takes : TakesNumbers plan_app
 unfolding clap_on_literals
 plan_takes = record { simple = refl; rate = refl; stages = refl; workers = refl; lane = refl; fuel = refl; seed = refl; size = refl; region = refl; after = refl }
 
+explain_takes : TakesNumbers explain_app
+unfolding clap_on_literals
+explain_takes = record { simple = refl; rate = refl; stages = refl; workers = refl; lane = refl; fuel = refl; seed = refl; size = refl; region = refl; after = refl }
+
 check_takes : TakesNumbers check_app
 unfolding clap_on_literals
 check_takes = record { simple = refl; rate = refl; stages = refl; workers = refl; lane = refl; fuel = refl; seed = refl; size = refl; region = refl; after = refl }
+
+tree_takes : TakesNumbers tree_app
+unfolding clap_on_literals
+tree_takes = record { simple = refl; rate = refl; stages = refl; workers = refl; lane = refl; fuel = refl; seed = refl; size = refl; region = refl; after = refl }
 
 profile_takes : TakesNumbers profile_app
 unfolding clap_on_literals
@@ -50,7 +58,9 @@ batch_takes = record { simple = refl; rate = refl; stages = refl; workers = refl
 pub takes_numbers : (v : Verb) → TakesNumbers (app_by v)
 takes_numbers verb.Run = run_takes
 takes_numbers verb.Plan = plan_takes
+takes_numbers verb.Explain = explain_takes
 takes_numbers verb.Check = check_takes
+takes_numbers verb.Tree = tree_takes
 takes_numbers verb.Profile = profile_takes
 takes_numbers verb.Gen = gen_takes
 takes_numbers verb.Log = log_takes

@@ -3,8 +3,8 @@ use Rattle.std.proofs.Common.{◌≡◌, ◌∙◌, sym, false, true, List, [], 
 use Rattle.std.specs.Str.{bytes_eq}
 use Rattle.std.proofs.lemmas.Slice.Eq.{bytes_eq-Decides}
 use Rattle.clap.specs.Words.{App, Text}
-use Rattle.dp_words.specs.Commands.{audit_app, batch_app, check_app, gen_app, log_app, plan_app, profile_app, resume_app, run_app, save_app}
-use Rattle.dp_words.specs.Words.{Asked, Asks, AsksBy, Behind, Names, ToAudit, ToBatch, ToList, ToLog, ToMake, ToPlan, ToProfile, ToResume, ToRun, ToSave}
+use Rattle.dp_words.specs.Commands.{audit_app, batch_app, check_app, explain_app, gen_app, log_app, plan_app, profile_app, resume_app, run_app, save_app, tree_app}
+use Rattle.dp_words.specs.Words.{Asked, Asks, AsksBy, Behind, Names, ToAudit, ToBatch, ToExplain, ToList, ToLog, ToMake, ToPlan, ToProfile, ToResume, ToRun, ToSave, ToTree}
 use Rattle.dp_words.specs.Values.{Values}
 use Rattle.dp_words.specs.Run.{ShowsNamed, ShowsRun}
 use Rattle.dp_words.specs.Planning.{ShowsPlanning}
@@ -47,7 +47,9 @@ NamesOf words asked = Names (app_by (verb_for asked)) Shows words asked
 pub asks_verb : (words : List Text) (asked : Asked) → Asks words asked → first_word words ≡ verb_of asked
 asks_verb words (ToRun run) h = verb_is (codes "run") run_app ShowsRun h
 asks_verb words (ToPlan planning) h = verb_is (codes "plan") plan_app ShowsPlanning h
+asks_verb words (ToExplain planning) h = verb_is (codes "explain") explain_app ShowsPlanning h
 asks_verb words (ToList program) h = verb_is (codes "check") check_app ShowsSites h
+asks_verb words (ToTree program) h = verb_is (codes "tree") tree_app ShowsSites h
 asks_verb words (ToProfile profiling) h = verb_is (codes "profile") profile_app ShowsProfiling h
 asks_verb words (ToMake made) h = verb_is (codes "gen") gen_app ShowsMade h
 asks_verb words (ToLog run) h = verb_is (codes "log") log_app ShowsRun h
@@ -63,6 +65,8 @@ same_names asked weaker h = record { taken = h.taken; shows = weaker _ h.shows }
 pub asks_names : (words : List Text) (asked : Asked) → Asks words asked → NamesOf (behind words) asked
 asks_names words (ToRun run) h = same_names (ToRun run) (λ value k. k) (named_behind (codes "run") run_app ShowsRun h)
 asks_names words (ToPlan planning) h = same_names (ToPlan planning) (λ value k. k) (named_behind (codes "plan") plan_app ShowsPlanning h)
+asks_names words (ToExplain planning) h = same_names (ToExplain planning) (λ value k. k) (named_behind (codes "explain") explain_app ShowsPlanning h)
+asks_names words (ToTree program) h = same_names (ToTree program) (λ value k. k) (named_behind (codes "tree") tree_app ShowsSites h)
 asks_names words (ToList program) h = same_names (ToList program) (λ value k. k) (named_behind (codes "check") check_app ShowsSites h)
 asks_names words (ToProfile profiling) h = same_names (ToProfile profiling) (λ value k. k) (named_behind (codes "profile") profile_app ShowsProfiling h)
 asks_names words (ToMake made) h = same_names (ToMake made) (λ value k. k) (named_behind (codes "gen") gen_app ShowsMade h)
@@ -75,7 +79,9 @@ asks_names words (ToBatch run list) h = same_names (ToBatch run list) (λ value 
 pub asks : (words : List Text) (asked : Asked) → NamesOf words asked → Asks (verb_of asked ∷ words) asked
 asks words (ToRun run) h = Behind words run (record { taken = h.taken; shows = h.shows })
 asks words (ToPlan planning) h = Behind words planning (record { taken = h.taken; shows = h.shows })
+asks words (ToExplain planning) h = Behind words planning (record { taken = h.taken; shows = h.shows })
 asks words (ToList program) h = Behind words program (record { taken = h.taken; shows = h.shows })
+asks words (ToTree program) h = Behind words program (record { taken = h.taken; shows = h.shows })
 asks words (ToProfile profiling) h = Behind words profiling (record { taken = h.taken; shows = h.shows })
 asks words (ToMake made) h = Behind words made (record { taken = h.taken; shows = h.shows })
 asks words (ToLog run) h = Behind words run (record { taken = h.taken; shows = h.shows })

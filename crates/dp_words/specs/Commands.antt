@@ -70,8 +70,14 @@ run_app = with_rule (with_rule (with_run_options (with_input (of_program (codes 
 abbrev pub plan_app : App
 plan_app = with_plan_options (of_program (codes "plan"))
 
+abbrev pub explain_app : App
+explain_app = with_plan_options (of_program (codes "explain"))
+
 abbrev pub check_app : App
 check_app = of_program (codes "check")
+
+abbrev pub tree_app : App
+tree_app = of_program (codes "tree")
 
 abbrev pub profile_app : App
 profile_app = with_rule (with_input (of_program (codes "profile"))) fuel_option

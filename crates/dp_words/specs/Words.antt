@@ -5,7 +5,7 @@ use Rattle.dp_words.specs.declared.task.GenWords.{GenWords}
 use Rattle.dp_words.specs.declared.task.Place.{Place}
 use Rattle.dp_words.specs.declared.task.Task.{Task}
 use Rattle.dp_words.specs.declared.task.Task.TheVariants as task
-use Rattle.dp_words.specs.Commands.{IsTaken, audit_app, batch_app, check_app, gen_app, log_app, plan_app, profile_app, resume_app, run_app, save_app, value_in}
+use Rattle.dp_words.specs.Commands.{IsTaken, audit_app, batch_app, check_app, explain_app, gen_app, log_app, plan_app, profile_app, resume_app, run_app, save_app, tree_app, value_in}
 use Rattle.dp_words.specs.Values.{OptionsWithin, Values}
 use Rattle.dp_words.specs.Run.{Run, RunWithin, ShowsNamed, ShowsRun, shown}
 use Rattle.dp_words.specs.Planning.{Planning, ShowsPlanning, shown_planning}
@@ -23,12 +23,14 @@ pub record Names {X : Type 0} (app : App) (Shows : Values → X → Type 0) (wor
 pub data AsksBy {X : Type 0} (verb : Text) (app : App) (Shows : Values → X → Type 0) : List Text → X → Type 0 where
   Behind : (words : List Text) (x : X) → Names app Shows words x → AsksBy verb app Shows (verb ∷ words) x
 
--- What words may ask for: a run, least plans, the list of this program's sites, a profile, or a run of the made program; the log of a run, whether the
--- log of this name is a run's, a run up to this place, a run from the checkpoint of this name on, or a run of each input that the list of this name has.
+-- What words may ask for: a run, least plans, what they rest on, the list of this program's sites, this program as a tree, a profile, or a run of the made program; the log of a run,
+-- whether the log of this name is a run's, a run up to this place, a run from the checkpoint of this name on, or a run of each input that the list of this name has.
 pub data Asked : Type 0 where
   ToRun : Run → Asked
   ToPlan : Planning → Asked
+  ToExplain : Planning → Asked
   ToList : List ℕ → Asked
+  ToTree : List ℕ → Asked
   ToProfile : Profiling → Asked
   ToMake : GenWords → Asked
   ToLog : Run → Asked
@@ -41,7 +43,9 @@ pub data Asked : Type 0 where
 abbrev pub Asks : List Text → Asked → Type 0
 Asks words (ToRun run) = AsksBy (codes "run") run_app ShowsRun words run
 Asks words (ToPlan planning) = AsksBy (codes "plan") plan_app ShowsPlanning words planning
+Asks words (ToExplain planning) = AsksBy (codes "explain") explain_app ShowsPlanning words planning
 Asks words (ToList program) = AsksBy (codes "check") check_app ShowsSites words program
+Asks words (ToTree program) = AsksBy (codes "tree") tree_app ShowsSites words program
 Asks words (ToProfile profiling) = AsksBy (codes "profile") profile_app ShowsProfiling words profiling
 Asks words (ToMake made) = AsksBy (codes "gen") gen_app ShowsMade words made
 Asks words (ToLog run) = AsksBy (codes "log") log_app ShowsRun words run
@@ -58,7 +62,9 @@ AsksNothing words = (asked : Asked) → ¬ Asks words asked
 abbrev pub asked_in : Task → Asked
 asked_in (task.Run run) = ToRun (shown run)
 asked_in (task.Plan plan) = ToPlan (shown_planning plan)
+asked_in (task.Explain plan) = ToExplain (shown_planning plan)
 asked_in (task.Check program) = ToList program.now
+asked_in (task.Tree program) = ToTree program.now
 asked_in (task.Profile profile) = ToProfile (shown_profiling profile)
 asked_in (task.Gen made) = ToMake made
 asked_in (task.Log run) = ToLog (shown run)
@@ -71,7 +77,9 @@ asked_in (task.Batch run list) = ToBatch (shown run) list.now
 abbrev pub IsWithin : Task → Type 0
 IsWithin (task.Run run) = RunWithin (shown run)
 IsWithin (task.Plan plan) = OptionsWithin plan.options
+IsWithin (task.Explain plan) = OptionsWithin plan.options
 IsWithin (task.Check program) = Unit {0}
+IsWithin (task.Tree program) = Unit {0}
 IsWithin (task.Profile profile) = ProfilingWithin (shown_profiling profile)
 IsWithin (task.Gen made) = MadeWithin made
 IsWithin (task.Log run) = RunWithin (shown run)

@@ -92,8 +92,12 @@ pub enum Task<'w> {
     Run(RunWords<'w>),
     /// To write the program's automatic plans.
     Plan(PlanWords<'w>),
+    /// To tell why the program's automatic plans are as they are.
+    Explain(PlanWords<'w>),
     /// To list the sites of the program with this name.
     Check(&'w str),
+    /// To write the program with this name as a tree.
+    Tree(&'w str),
     /// To write what a run shows.
     Profile(ProfileWords<'w>),
     /// To make a program with its input, and to run it.

@@ -15,7 +15,9 @@ pub fn task_in<'w>(verb: Verb, matches: &ArgMatches<'w>) -> Option<Task<'w>>
     match verb {
         Verb::Run => run_words(matches).map(Task::Run),
         Verb::Plan => plan_words(matches).map(Task::Plan),
+        Verb::Explain => plan_words(matches).map(Task::Explain),
         Verb::Check => matches.get_str("program").map(Task::Check),
+        Verb::Tree => matches.get_str("program").map(Task::Tree),
         Verb::Profile => profile_words(matches).map(Task::Profile),
         Verb::Gen => made(matches),
         Verb::Log => run_words(matches).map(Task::Log),

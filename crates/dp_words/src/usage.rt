@@ -8,13 +8,18 @@ use dp_base::NoMemory;
 use std::alloc::Global;
 
 /// The word of each verb, with what is done by it.
-pub const VERBS: [(&str, &str); 10] = [
+pub const VERBS: [(&str, &str); 12] = [
     (
         "run",
         "Run a program on an input's numbers, and write its answer",
     ),
     ("plan", "Write the least plan of each region of a program"),
+    (
+        "explain",
+        "Write the least plan of each region, and what it rests on",
+    ),
     ("check", "List the regions and the sites of a program"),
+    ("tree", "Write a program as a tree"),
     (
         "profile",
         "Run a program, and write what that shows of its regions",

@@ -13,7 +13,9 @@ use crate::arguments::{
 pub enum Verb {
     Run,
     Plan,
+    Explain,
     Check,
+    Tree,
     Profile,
     Gen,
     Log,
@@ -33,7 +35,7 @@ pub struct Line {
     pub further: &'static [Argument],
 }
 
-const LINES: [Line; 10] = [
+const LINES: [Line; 12] = [
     Line {
         verb: Verb::Run,
         word: "run",
@@ -49,8 +51,22 @@ const LINES: [Line; 10] = [
         further: &[],
     },
     Line {
+        verb: Verb::Explain,
+        word: "explain",
+        names: &[PROGRAM],
+        options: &PLAN_OPTIONS,
+        further: &[],
+    },
+    Line {
         verb: Verb::Check,
         word: "check",
+        names: &[PROGRAM],
+        options: &[],
+        further: &[],
+    },
+    Line {
+        verb: Verb::Tree,
+        word: "tree",
         names: &[PROGRAM],
         options: &[],
         further: &[],

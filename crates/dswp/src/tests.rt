@@ -13,6 +13,7 @@ mod cases;
 mod causes;
 mod examples;
 mod exits;
+mod explained;
 mod hostile;
 mod inputs;
 mod library;

@@ -2,10 +2,10 @@
 use Rattle.std.proofs.Common.{◌≡◌, refl, sym, ap, ap₂, ◌∙◌, ℕ, List, Some, None, codes}
 use Rattle.clap.specs.Words.{App, Text}
 use Rattle.dp_words.proofs.VerbLemmas.{apart, asks_verb, behind, named_behind, verb_of}
-use Rattle.dp_words.specs.Commands.{audit_app, batch_app, check_app, gen_app, log_app, plan_app, profile_app, resume_app, run_app, save_app, value_in}
+use Rattle.dp_words.specs.Commands.{audit_app, batch_app, check_app, explain_app, gen_app, log_app, plan_app, profile_app, resume_app, run_app, save_app, tree_app, value_in}
 use Rattle.dp_words.specs.declared.task.GenWords.{GenWords}
 use Rattle.dp_words.specs.declared.task.Place.{Place}
-use Rattle.dp_words.specs.Words.{Asked, Asks, AsksBy, ToAudit, ToBatch, ToList, ToLog, ToMake, ToPlan, ToProfile, ToResume, ToRun, ToSave}
+use Rattle.dp_words.specs.Words.{Asked, Asks, AsksBy, ToAudit, ToBatch, ToExplain, ToList, ToLog, ToMake, ToPlan, ToProfile, ToResume, ToRun, ToSave, ToTree}
 use Rattle.dp_words.specs.Values.{Values, default_fuel, default_rate, default_stages, fuel_in, is_set, lane_in, options_in, workers_in}
 use Rattle.dp_words.specs.Run.{Run, Source, ShowsNamed, ShowsRun}
 use Rattle.dp_words.specs.Saving.{ShowsSaving}
@@ -100,7 +100,9 @@ once_by verb app Shows once {words = words} {x = x} {y = y} a b = once (value_in
 of_verb : (words : List Text) (a b : Asked) → verb_of a ≡ verb_of b → Asks words a → Asks words b → a ≡ b
 of_verb words (ToRun a) (ToRun b) e h k = ap ToRun (once_by (codes "run") run_app ShowsRun runs_once h k)
 of_verb words (ToPlan a) (ToPlan b) e h k = ap ToPlan (once_by (codes "plan") plan_app ShowsPlanning plannings_once h k)
+of_verb words (ToExplain a) (ToExplain b) e h k = ap ToExplain (once_by (codes "explain") explain_app ShowsPlanning plannings_once h k)
 of_verb words (ToList a) (ToList b) e h k = ap ToList (once_by (codes "check") check_app ShowsSites programs_once h k)
+of_verb words (ToTree a) (ToTree b) e h k = ap ToTree (once_by (codes "tree") tree_app ShowsSites programs_once h k)
 of_verb words (ToProfile a) (ToProfile b) e h k = ap ToProfile (once_by (codes "profile") profile_app ShowsProfiling profilings_once h k)
 of_verb words (ToMake a) (ToMake b) e h k = ap ToMake (once_by (codes "gen") gen_app ShowsMade mades_once h k)
 of_verb words (ToLog a) (ToLog b) e h k = ap ToLog (once_by (codes "log") log_app ShowsRun runs_once h k)

@@ -2,7 +2,7 @@
 use Rattle.std.proofs.Common.{◌≡◌, refl, List, [], ◌∷◌, Some, None, true, false, codes}
 use Rattle.clap.specs.Words.{Text}
 use Rattle.clap.proofs.OnLiterals.{clap_on_literals}
-use Rattle.dp_words.specs.Commands.{IsTaken, audit_app, batch_app, check_app, gen_app, log_app, plan_app, profile_app, resume_app, run_app, save_app, value_in}
+use Rattle.dp_words.specs.Commands.{IsTaken, audit_app, batch_app, check_app, explain_app, gen_app, log_app, plan_app, profile_app, resume_app, run_app, save_app, tree_app, value_in}
 use Rattle.dp_words.specs.Words.{Names}
 use Rattle.dp_words.specs.Run.{Least, Named, ShowsNamed, ShowsRun, source_of}
 use Rattle.dp_words.specs.Planning.{ShowsPlanning}
@@ -68,6 +68,16 @@ full_plan = record { taken = refl; shows = record { program = refl; profile = re
 one_program : Names check_app ShowsSites short_words (codes "p")
 unfolding clap_on_literals
 one_program = record { taken = refl; shows = refl }
+
+-- ---- what the plans rest on, and a program as a tree
+
+full_explanation : Names explain_app ShowsPlanning plan_words (record { program = codes "p"; profile = Some (codes "f"); options = record { rate = 1000; stages = 8; workers = 3 } })
+unfolding clap_on_literals
+full_explanation = record { taken = refl; shows = record { program = refl; profile = refl; options = refl } }
+
+one_tree : Names tree_app ShowsSites short_words (codes "p")
+unfolding clap_on_literals
+one_tree = record { taken = refl; shows = refl }
 
 -- ---- a profile
 

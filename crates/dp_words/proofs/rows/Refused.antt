@@ -3,7 +3,7 @@ use Rattle.std.proofs.Common.{◌≡◌, refl, List, [], ◌∷◌, codes}
 use Rattle.clap.specs.Words.{Text, fault_of}
 use Rattle.clap.specs.declared.error.kind.ErrorKind.TheVariants as kind
 use Rattle.clap.proofs.OnLiterals.{clap_on_literals}
-use Rattle.dp_words.specs.Commands.{audit_app, batch_app, check_app, gen_app, log_app, plan_app, profile_app, resume_app, run_app, save_app}
+use Rattle.dp_words.specs.Commands.{audit_app, batch_app, check_app, explain_app, gen_app, log_app, plan_app, profile_app, resume_app, run_app, save_app, tree_app}
 
 abbrev option_of : Text → Text → List Text
 option_of name value = codes "p" ∷ name ∷ value ∷ []
@@ -59,6 +59,14 @@ large_rate = refl
 planned_with_input : fault_of plan_app (codes "p" ∷ codes "i" ∷ []) ≡ kind.UnknownArgument ∷ []
 unfolding clap_on_literals
 planned_with_input = refl
+
+explained_by_plans : fault_of explain_app (option_of (codes "--plan") (codes "f")) ≡ kind.UnknownArgument ∷ []
+unfolding clap_on_literals
+explained_by_plans = refl
+
+tree_of_none : fault_of tree_app [] ≡ kind.MissingRequiredArgument ∷ []
+unfolding clap_on_literals
+tree_of_none = refl
 
 no_number : fault_of run_app (option_of (codes "--fuel") (codes "1e3")) ≡ kind.ValueValidation ∷ []
 unfolding clap_on_literals

@@ -4,8 +4,8 @@ use Rattle.clap.specs.Words.{App, Text}
 use Rattle.dp_words.specs.declared.task.Task.{Task}
 use Rattle.dp_words.specs.declared.verb.Verb.{Verb}
 use Rattle.dp_words.specs.declared.verb.Verb.TheVariants as verb
-use Rattle.dp_words.specs.Commands.{audit_app, batch_app, check_app, gen_app, log_app, plan_app, profile_app, resume_app, run_app, save_app}
-use Rattle.dp_words.specs.Words.{Asked, Asks, AsksNothing, IsWithin, ToAudit, ToBatch, ToList, ToLog, ToMake, ToPlan, ToProfile, ToResume, ToRun, ToSave, asked_in}
+use Rattle.dp_words.specs.Commands.{audit_app, batch_app, check_app, explain_app, gen_app, log_app, plan_app, profile_app, resume_app, run_app, save_app, tree_app}
+use Rattle.dp_words.specs.Words.{Asked, Asks, AsksNothing, IsWithin, ToAudit, ToBatch, ToExplain, ToList, ToLog, ToMake, ToPlan, ToProfile, ToResume, ToRun, ToSave, ToTree, asked_in}
 use Rattle.dp_words.specs.Values.{Values}
 use Rattle.dp_words.specs.Run.{ShowsNamed, ShowsRun}
 use Rattle.dp_words.specs.Planning.{ShowsPlanning}
@@ -18,7 +18,9 @@ use Rattle.dp_words.specs.Saving.{ShowsSaving}
 abbrev pub verb_name : Verb → Text
 verb_name verb.Run = codes "run"
 verb_name verb.Plan = codes "plan"
+verb_name verb.Explain = codes "explain"
 verb_name verb.Check = codes "check"
+verb_name verb.Tree = codes "tree"
 verb_name verb.Profile = codes "profile"
 verb_name verb.Gen = codes "gen"
 verb_name verb.Log = codes "log"
@@ -31,7 +33,9 @@ verb_name verb.Batch = codes "batch"
 abbrev pub app_by : Verb → App
 app_by verb.Run = run_app
 app_by verb.Plan = plan_app
+app_by verb.Explain = explain_app
 app_by verb.Check = check_app
+app_by verb.Tree = tree_app
 app_by verb.Profile = profile_app
 app_by verb.Gen = gen_app
 app_by verb.Log = log_app
@@ -44,7 +48,9 @@ app_by verb.Batch = batch_app
 abbrev pub verb_for : Asked → Verb
 verb_for (ToRun run) = verb.Run
 verb_for (ToPlan planning) = verb.Plan
+verb_for (ToExplain planning) = verb.Explain
 verb_for (ToList program) = verb.Check
+verb_for (ToTree program) = verb.Tree
 verb_for (ToProfile profiling) = verb.Profile
 verb_for (ToMake made) = verb.Gen
 verb_for (ToLog run) = verb.Log
@@ -57,7 +63,9 @@ verb_for (ToBatch run list) = verb.Batch
 abbrev pub Shows : Values → Asked → Type 0
 Shows value (ToRun run) = ShowsRun value run
 Shows value (ToPlan planning) = ShowsPlanning value planning
+Shows value (ToExplain planning) = ShowsPlanning value planning
 Shows value (ToList program) = ShowsSites value program
+Shows value (ToTree program) = ShowsSites value program
 Shows value (ToProfile profiling) = ShowsProfiling value profiling
 Shows value (ToMake made) = ShowsMade value made
 Shows value (ToLog run) = ShowsRun value run

@@ -1,7 +1,8 @@
 use Rattle.std.proofs.Common.{◌∙◌, ap, refl, Some}
-use Rattle.dp_words.specs.Words.{ToAudit, ToBatch, ToList, ToLog, ToPlan, ToProfile, ToResume, ToSave}
+use Rattle.dp_words.specs.Words.{ToAudit, ToBatch, ToExplain, ToList, ToLog, ToPlan, ToProfile, ToResume, ToSave, ToTree}
 use Rattle.dp_refusal.specs.declared.refusal.Refusal.TheVariants.{Words}
 use Rattle.dp_drive.proofs.AnswerLemmas.{carry_not_taken}
+use Rattle.dp_drive.proofs.ListingLemmas.{lists_explained, lists_plans, lists_sites, lists_tree}
 use Rattle.dp_drive.proofs.CountLemmas.{no_run_counts, refused_counts}
 use Rattle.dp_drive.proofs.definite.AsksOnce.{no_run}
 use Rattle.dp_drive.proofs.answer.answer.Goals as goal
@@ -13,10 +14,10 @@ pub returns-in-Some-Run-clause-carried : goal.returns-in-Some-Run-clause-carried
 returns-in-Some-Run-clause-carried g c = c.answer_run.ensures.carried _ (rw (c.in-Some-Run.is ∙ ap Some c.in-Some-Run.field-0-is) at c.in_ok-run.ensures.some)
 
 pub returns-in-Some-Plan-clause-carried : goal.returns-in-Some-Plan-clause-carried
-returns-in-Some-Plan-clause-carried g c = c.answer_plan.ensures.carried _ (rw (c.in-Some-Plan.is ∙ ap Some c.in-Some-Plan.field-0-is) at c.in_ok-run.ensures.some)
+returns-in-Some-Plan-clause-carried g c = c.answer_plan.ensures.carried _ _ (lists_plans _) (rw (c.in-Some-Plan.is ∙ ap Some c.in-Some-Plan.field-0-is) at c.in_ok-run.ensures.some)
 
 pub returns-in-Some-Check-clause-carried : goal.returns-in-Some-Check-clause-carried
-returns-in-Some-Check-clause-carried g c = c.answer_check.ensures.carried _ (rw (c.in-Some-Check.is ∙ ap Some c.in-Some-Check.field-0-is) at c.in_ok-run.ensures.some)
+returns-in-Some-Check-clause-carried g c = c.answer_program.ensures.carried _ _ (lists_sites _) (rw (c.in-Some-Check.is ∙ ap Some c.in-Some-Check.field-0-is) at c.in_ok-run.ensures.some)
 
 pub returns-in-None-clause-counted : goal.returns-in-None-clause-counted
 returns-in-None-clause-counted g c = refused_counts _ _ _ _ _ _ _ Words c.refuse.ensures.finishes
@@ -71,3 +72,15 @@ returns-in-Some-Batch-clause-carried g c = c.answer_batch.ensures.carried _ (rw 
 
 pub returns-in-Some-Batch-clause-counted : goal.returns-in-Some-Batch-clause-counted
 returns-in-Some-Batch-clause-counted g c = no_run_counts _ _ _ _ _ (no_run _ (ToBatch _ _) refl (rw (c.in-Some-Batch.is ∙ ap Some c.in-Some-Batch.field-0-is) at c.in_ok-run.ensures.some))
+
+pub returns-in-Some-Explain-clause-carried : goal.returns-in-Some-Explain-clause-carried
+returns-in-Some-Explain-clause-carried g c = c.answer_plan-in-Some-Explain.ensures.carried _ _ (lists_explained _) (rw (c.in-Some-Explain.is ∙ ap Some c.in-Some-Explain.field-0-is) at c.in_ok-run.ensures.some)
+
+pub returns-in-Some-Explain-clause-counted : goal.returns-in-Some-Explain-clause-counted
+returns-in-Some-Explain-clause-counted g c = no_run_counts _ _ _ _ _ (no_run _ (ToExplain _) refl (rw (c.in-Some-Explain.is ∙ ap Some c.in-Some-Explain.field-0-is) at c.in_ok-run.ensures.some))
+
+pub returns-in-Some-Tree-clause-carried : goal.returns-in-Some-Tree-clause-carried
+returns-in-Some-Tree-clause-carried g c = c.answer_program-in-Some-Tree.ensures.carried _ _ (lists_tree _) (rw (c.in-Some-Tree.is ∙ ap Some c.in-Some-Tree.field-0-is) at c.in_ok-run.ensures.some)
+
+pub returns-in-Some-Tree-clause-counted : goal.returns-in-Some-Tree-clause-counted
+returns-in-Some-Tree-clause-counted g c = no_run_counts _ _ _ _ _ (no_run _ (ToTree _) refl (rw (c.in-Some-Tree.is ∙ ap Some c.in-Some-Tree.field-0-is) at c.in_ok-run.ensures.some))

@@ -1,0 +1,81 @@
+-- From the texts of a program and of its least plans to the headline.
+use Rattle.std.proofs.Common.{◌≡◌, refl, sym, ap, ◌∙◌, subst, ℕ, List, [], Option, Result, Ok, Err, Some}
+use Rattle.dp_tree.specs.declared.Program.{Program}
+use Rattle.dp_calls.specs.Expand.{expand}
+use Rattle.dp_plan.specs.declared.Plan.{Plan}
+use Rattle.dp_edge.specs.declared.writing.WriteFail.{WriteFail}
+use Rattle.dp_refusal.specs.declared.refusal.Refusal.{Refusal}
+use Rattle.dp_refusal.specs.declared.role.Role.TheVariants as role
+use Rattle.dp_refusal.specs.Refusal.{failed_read_line, refusal_line, refusal_status}
+use Rattle.dp_words.specs.Planning.{Planning}
+use Rattle.dp_words.specs.Run.{Least}
+use Rattle.dp_words.specs.Words.{Asked, Asks, ToExplain, ToList, ToPlan, ToTree}
+use Rattle.dp_load.specs.declared.load.Loaded.{Loaded}
+use Rattle.dp_load.specs.declared.load.Loaded.TheVariants.{Text, Refused, Failed}
+use Rattle.dp_load.specs.Last.{Nothing}
+use Rattle.dp_load.specs.Loading.{Gives, LoadsProgram, ReadsProgram}
+use Rattle.dp_load.specs.Order.{given_by}
+use Rattle.dp_load.specs.Roles.{Contents, Plans}
+use Rattle.dp_load.specs.Texts.{Names}
+use Rattle.dp_load.proofs.AloneLemmas.{least_inputs, least_read, least_refused, program_alone}
+use Rattle.dp_load.proofs.TextsLemmas.{source_of}
+use Rattle.dp_drive.specs.declared.listing.Listing.{Listing}
+use Rattle.dp_drive.specs.declared.listing.Listing.TheVariants.{Sites, Tree}
+use Rattle.dp_drive.specs.declared.planning.PlansText.{PlansText}
+use Rattle.dp_drive.specs.declared.planning.PlansText.TheVariants.{Bare, Explained}
+use Rattle.dp_drive.specs.Answer.{Done, OfPlans}
+use Rattle.dp_drive.specs.Answer as answers
+use Rattle.dp_drive.specs.steps.Carried.{Carried, Finishes}
+use Rattle.dp_drive.specs.steps.Carried as carried
+use Rattle.dp_drive.specs.steps.Listed.{ListsPlans, ListsProgram, listing_text, planning_text}
+use Rattle.dp_drive.proofs.AnswerLemmas.{finishes_as}
+
+-- ---- what is asked for
+
+pub lists_sites : (name : List ℕ) → ListsProgram Sites (ToList name) name
+lists_sites name = record { reads = record { program = refl; input = refl; unlisted = refl; plans = refl; alone = refl }; status = λ texts. refl; bytes = λ texts. refl }
+
+pub lists_tree : (name : List ℕ) → ListsProgram Tree (ToTree name) name
+lists_tree name = record { reads = record { program = refl; input = refl; unlisted = refl; plans = refl; alone = refl }; status = λ texts. refl; bytes = λ texts. refl }
+
+pub lists_plans : (planning : Planning) → ListsPlans Bare (ToPlan planning) planning
+lists_plans planning = record { reads = record { program = refl; input = refl; unlisted = refl; plans = refl; alone = refl }; status = λ texts. refl; bytes = λ texts. refl }
+
+pub lists_explained : (planning : Planning) → ListsPlans Explained (ToExplain planning) planning
+lists_explained planning = record { reads = record { program = refl; input = refl; unlisted = refl; plans = refl; alone = refl }; status = λ texts. refl; bytes = λ texts. refl }
+
+-- ---- what is answered
+
+module _ (words : List (List ℕ)) (contents : Contents) (faults after : ℕ) (failed fails : Names) (told tells : Option (List ℕ)) (asked : Asked) (asks : Asks words asked) where
+  pub carry_listing : (listing : Listing) (name : List ℕ) (q : Program) (result : Result ℕ WriteFail) → ListsProgram listing asked name → Gives (LoadsProgram contents name) (Some name) faults after failed fails (Text q) → Finishes 0 (listing_text listing q) told tells result →
+      Carried words contents faults after failed fails told tells result
+  carry_listing listing name q result of g finishes =
+      let s = source_of (ReadsProgram contents name) q g.0 in
+      let read = ((((s.source, []), []), []), Nothing) in
+      carried.OfAnswer _ _ (Done asked ((((s.source, []), []), []), Nothing) asks (program_alone contents asked name of.reads s.source s.reads)) g.1 g.2
+      (finishes_as 0 _ (listing_text listing q) _ told tells result (sym (of.status (given_by read))) (ap (listing_text listing) s.is ∙ sym (of.bytes (given_by read))) finishes)
+
+  module _ (text : PlansText) (planning : Planning) (of : ListsPlans text asked planning) (q : Program) (read : LoadsProgram contents planning.program (Ok q)) where
+    abbrev LeastOf : Program → Result (List Plan) Refusal → Type 0
+    LeastOf x made = Plans contents x planning.options (Least planning.profile) made
+
+    abbrev LeastGives : Loaded (List Plan) → Type 0
+    LeastGives = Gives (LeastOf q) planning.profile faults after failed fails
+
+    pub carry_plans : (plans : List Plan) (result : Result ℕ WriteFail) → LeastGives (Text plans) → Finishes 0 (planning_text text q plans) told tells result → Carried words contents faults after failed fails told tells result
+    carry_plans plans result g finishes =
+        let s = source_of (ReadsProgram contents planning.program) q read in
+        let all = ((((s.source, []), []), plans), Nothing) in
+        carried.OfAnswer _ _ (Done asked ((((s.source, []), []), plans), Nothing) asks (least_read contents asked planning of.reads s.source s.reads plans (subst (λ (x : Program). LeastOf x (Ok plans)) s.is g.0))) g.1 g.2
+        (finishes_as 0 _ (planning_text text q plans) _ told tells result (sym (of.status (given_by all))) (ap (λ (x : Program). planning_text text x plans) s.is ∙ sym (of.bytes (given_by all))) finishes)
+
+    pub carry_least_refused : (refusal : Refusal) (result : Result ℕ WriteFail) → LeastGives (Refused refusal) → Finishes (refusal_status refusal) (refusal_line refusal) told tells result →
+        Carried words contents faults after failed fails told tells result
+    carry_least_refused refusal result g finishes =
+        let s = source_of (ReadsProgram contents planning.program) q read in
+        carried.OfAnswer _ _ (answers.Refused asked refusal asks (least_refused contents asked planning of.reads s.source s.reads refusal (subst (λ (x : Program). LeastOf x (Err refusal)) s.is g.0))) g.1 g.2 finishes
+
+    pub carry_least_failed : (result : Result ℕ WriteFail) → LeastGives Failed → Finishes 5 (failed_read_line role.Profile) told tells result → Carried words contents faults after failed fails told tells result
+    carry_least_failed result g finishes =
+        let s = source_of (ReadsProgram contents planning.program) q read in
+        carried.OfFailedRead _ _ (OfPlans asked ((s.source, []), []) (Least planning.profile) planning.options g.0 asks (least_inputs contents asked planning of.reads s.source s.reads) of.reads.plans g.1) g.2 g.3 finishes

@@ -1,0 +1,42 @@
+-- The lines of dependences.
+use Rattle.std.specs.Prelude.{ℕ, ◌-◌, List, [], ◌++◌, codes, Option, Some, None, slice_get}
+use Rattle.std.specs.List.{flat_map}
+use Rattle.dp_text.specs.Labels.{labelled}
+use Rattle.dp_tree.specs.declared.VarInfo.{VarInfo}
+use Rattle.dp_tree.specs.declared.Program.{Program}
+use Rattle.dp_depend.specs.declared.Edge.{Edge}
+use Rattle.dp_depend.specs.declared.EdgeKind.{EdgeKind}
+use Rattle.dp_depend.specs.declared.EdgeKind.TheVariants.{Control, Intra, Carried}
+use Rattle.dp_depend.specs.declared.nodes.Node.{Node}
+
+-- what a site stores, where these are the sites from the first one on
+abbrev pub stored_by : Option Node → Option ℕ
+stored_by None = None
+stored_by (Some n) = n.stores
+
+abbrev pub stored_at : ℕ → List Node → ℕ → Option ℕ
+stored_at first nodes site = stored_by (slice_get nodes (site - first))
+
+-- a variable's name
+abbrev pub name_text : Option VarInfo → List ℕ
+name_text None = []
+name_text (Some info) = codes " " ++ info.name
+
+-- a variable's number and name
+abbrev pub variable_text : Program → Option ℕ → List ℕ
+variable_text p None = []
+variable_text p (Some x) = labelled (codes " ") x ++ name_text (slice_get p.vars x)
+
+-- By the first site's condition, or by what it stores: in the same iteration, or in an earlier one.
+abbrev pub kind_text : Program → EdgeKind → Option ℕ → List ℕ
+kind_text p Control stored = codes " control"
+kind_text p Intra stored = codes " intra" ++ variable_text p stored
+kind_text p Carried stored = codes " carried" ++ variable_text p stored
+
+-- the second site depends on the first
+abbrev pub edge_line : Program → ℕ → List Node → Edge → List ℕ
+edge_line p first nodes e = labelled (codes "edge ") e.from.0 ++ (labelled (codes " ") e.to.0 ++ (kind_text p e.kind (stored_at first nodes e.from.0) ++ codes "\n"))
+
+-- the lines of edges
+abbrev pub edge_lines : Program → ℕ → List Node → List Edge → List ℕ
+edge_lines p first nodes edges = flat_map (edge_line p first nodes) edges

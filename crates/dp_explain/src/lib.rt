@@ -1,0 +1,7 @@
+//! What plans rest on, as a text: the dependences of each region, and which sites are checked.
+#![tactic(auto)]
+
+mod edges;
+mod explain;
+
+pub use explain::explain;

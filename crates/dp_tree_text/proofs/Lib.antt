@@ -1,0 +1,4 @@
+pub mod Opened
+pub mod ExprForms
+pub mod StatementForms
+pub mod rows

@@ -1,0 +1,4 @@
+pub mod TreeText
+pub mod VariableText
+pub mod StatementText
+pub mod ExprText

@@ -1,0 +1,1 @@
+"""What `dswp tree`, `dswp explain` and `dswp run --why` write, read and shown to people."""

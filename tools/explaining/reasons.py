@@ -1,0 +1,80 @@
+"""Why a plan is as it is: what goes forward, what keeps a stage sequential, and which loads are checked."""
+import collections
+
+
+def ways(edges, start):
+    """The edges by which each site is reached from one, on a shortest walk."""
+    after = collections.defaultdict(list)
+    for edge in edges:
+        after[edge.start].append(edge)
+    found, waiting = {start: None}, collections.deque([start])
+    while waiting:
+        for edge in after[waiting.popleft()]:
+            if edge.end not in found:
+                found[edge.end] = edge
+                waiting.append(edge.end)
+    return found
+
+
+def walk(edges, start, end):
+    """A shortest walk between two sites, or None."""
+    found = ways(edges, start)
+    if end not in found:
+        return None
+    steps, site = [], end
+    while site != start:
+        steps.append(found[site])
+        site = found[site].start
+    return steps[::-1]
+
+
+def shortest_cycle(planned, stage):
+    """The shortest cycle of a stage with an edge that an earlier iteration begins, or else such an edge alone."""
+    inside = [edge for edge in planned.minded() if edge.start in stage.sites and edge.end in stage.sites]
+    carried = [edge for edge in inside if edge.kind == "carried"]
+    cycles = [[edge, *back] for edge in carried if (back := walk(inside, edge.end, edge.start)) is not None]
+    if cycles:
+        return min(cycles, key=len)
+    return carried[:1]
+
+
+def units(planned):
+    """The classes of sites that reach each other, as sorted lists."""
+    edges = planned.minded()
+    sites = sorted(site for stage in planned.plan.stages for site in stage.sites)
+    reached = {site: set(ways(edges, site)) for site in sites}
+    classes = {}
+    for site in sites:
+        least = min(other for other in reached[site] if site in reached[other])
+        classes.setdefault(least, []).append(site)
+    return list(classes.values())
+
+
+def forward(planned, number):
+    """What stages up to this one tell later ones: edges by the variable that they pass on, or by a condition's site."""
+    plan, passed = planned.plan, collections.defaultdict(list)
+    for edge in planned.minded():
+        if plan.stage_of(edge.start) <= number < plan.stage_of(edge.end):
+            passed[("condition", edge.start) if edge.kind == "control" else ("variable", edge.variable)].append(edge)
+    return dict(passed)
+
+
+def checks(planned, tree):
+    """The loads that are compared with the source's: pairs of a site and one that stores what it loads."""
+    plan, found = planned.plan, []
+    near = {(edge.start, edge.end, edge.kind) for edge in plan.edges}
+    sites = [tree.sites[site] for stage in plan.stages for site in stage.sites]
+    for load in sites:
+        for store in sites:
+            if store.stores in load.loads and is_checked(plan, tree, near, load, store):
+                found.append((load.number, store.number))
+    return sorted(found)
+
+
+def is_checked(plan, tree, near, load, store):
+    here, there = plan.stage_of(load.number), plan.stage_of(store.number)
+    is_local = tree.variables[store.stores].region == plan.region
+    carried = (store.number, load.number, "carried") in near
+    if there > here:
+        return plan.version == 1 or is_local or carried or (store.number, load.number, "intra") in near
+    return there == here and plan.stages[here - 1].kind == "par" and not is_local and (plan.version == 1 or carried)
