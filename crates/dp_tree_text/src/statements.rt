@@ -8,12 +8,7 @@ use dp_text::put_labelled;
 use dp_tree::{Expr, Stmt};
 
 /// A word, a site and what is evaluated there.
-fn put_evaluated(
-    out: &mut Row<u8>,
-    word: &[u8],
-    site: SiteId,
-    value: &Expr,
-) -> Result<(), NoMemory>
+fn put_evaluated(out: &mut Row<u8>, word: &[u8], site: SiteId, value: &Expr) -> Result<(), NoMemory>
     ensures { OnOk result (out.new ≡ out.old ++ spec.evaluated word.now site value.now) }
 {
     put_labelled(out, word, u64::from(site.0))?;
@@ -46,12 +41,7 @@ fn put_store(
     out.push(b'\n')
 }
 
-fn put_region(
-    out: &mut Row<u8>,
-    region: u32,
-    site: SiteId,
-    cond: &Expr,
-) -> Result<(), NoMemory>
+fn put_region(out: &mut Row<u8>, region: u32, site: SiteId, cond: &Expr) -> Result<(), NoMemory>
     ensures { OnOk result (out.new ≡ out.old ++ spec.region_text region site cond.now) }
 {
     put_labelled(out, b"region ", u64::from(region))?;

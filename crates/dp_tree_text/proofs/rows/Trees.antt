@@ -1,9 +1,8 @@
 -- Texts of expressions, of statements and of a whole program.
-use Rattle.std.proofs.Common.{◌≡◌, refl, true, List, [], ◌∷◌, ◌++◌, pos, negsuc, codes}
+use Rattle.std.proofs.Common.{◌≡◌, refl, [], ◌∷◌, pos, negsuc, codes}
 use Rattle.dp_base.specs.declared.BinOp.TheVariants.{Mul, Div, Rem, Add, Sub, Lt, Le, Gt, Ge, Eq, Ne}
 use Rattle.dp_base.specs.declared.UnOp.TheVariants.{Neg, Not}
 use Rattle.dp_text.specs.Labels.{labelled}
-use Rattle.dp_tree.specs.declared.Expr.{Expr}
 use Rattle.dp_tree.specs.declared.Expr.TheVariants as tree
 use Rattle.dp_tree.specs.declared.Stmt.TheVariants as stmt
 use Rattle.dp_tree.specs.declared.SiteKind.TheVariants as kind

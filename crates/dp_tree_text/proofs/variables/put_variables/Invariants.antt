@@ -1,4 +1,4 @@
-use Rattle.std.proofs.Common.{◌≡◌, ◌+◌, ◌++◌, drop}
+use Rattle.std.proofs.Common.{◌≡◌, ◌++◌, drop}
 use Rattle.dp_report.specs.Lines.{numbered}
 use Rattle.dp_tree_text.specs.VariableText.{variable_line}
 use Rattle.dp_tree_text.proofs.variables.put_variables.Given as goal
