@@ -1,7 +1,7 @@
 #!/bin/sh
-# Runs what the documents show with ./dswp, and compares. Prints each difference; ends with 1 where there is one.
+# Runs what the documents show with ./dswp and tools/, and compares. Prints each difference; ends with 1 where there is one.
 #
-# A transcript is a line `$ ./dswp ..` of a fenced block, the output, and a line `[status N]`. Each row under a head
+# A transcript is a line `$ ./dswp ..` or `$ tools/..` of a fenced block, the output, and a line `[status N]`. Each row under a head
 # `| Text | Output |` is a program's text and what `run` writes for it, with ` / ` between its lines. Each program of
 # examples/ writes its NAME.out for its NAME.in, and the same but for the lines of its regions under its NAME.plan.
 set -u
@@ -15,7 +15,7 @@ cat README.md docs/*.md examples/README.md >"$work/documents"
 awk -v work="$work" '
   function part(end) { return work "/" sprintf("%04d", count) "." end }
   /^```/ { fenced = !fenced; shown = ""; next }
-  fenced && /^\$ \.\/dswp/ { count++; shown = part("shown"); print substr($0, 3) >part("command"); printf "" >shown; next }
+  fenced && /^\$ (\.\/dswp|tools\/)/ { count++; shown = part("shown"); print substr($0, 3) >part("command"); printf "" >shown; next }
   fenced && shown { print >shown; if (/^\[status [0-9]+\]$/) { close(shown); shown = "" }; next }
   fenced { next }
   /^\| Text \| Output \|$/ { table = 1; next }

@@ -68,4 +68,5 @@ def main():
         print("\n".join(terminal.text(source, all_planned, program, teller, causes)))
 
 
-main()
+if __name__ == "__main__":
+    main()

@@ -1,6 +1,5 @@
 """An explanation as one page of HTML without outside parts and without scripts."""
 import html
-import re
 import subprocess
 
 from . import picture, reasons, terminal
@@ -17,16 +16,16 @@ body { margin: 0; padding: 1.5rem 2rem 4rem; background: var(--paper); color: va
 h1, h2, h3 { font-weight: 600; line-height: 1.25 } h1 { font-size: 1.5rem; margin: 0 0 1rem } h2 { font-size: 1.2rem; margin: 2rem 0 .5rem } h3 { font-size: 1rem; margin: 1.2rem 0 .3rem }
 .both { display: grid; grid-template-columns: minmax(30rem, 3fr) minmax(18rem, 2fr); gap: 1.5rem; align-items: start }
 .source { border: 1px solid var(--rule); border-radius: 6px; padding: .5rem 0; overflow-x: auto; font: 13px/1.55 ui-monospace, monospace }
-.line { display: grid; grid-template-columns: 5.5rem 3rem 4rem 1fr; padding: 0 .8rem; white-space: pre; outline-offset: -2px; border-left: .3rem solid transparent }
+.line { display: grid; grid-template-columns: 5.5rem 2.5rem auto 1fr; padding: 0 .8rem; white-space: pre; outline-offset: -2px; border-left: .3rem solid transparent }
 .line.par { border-left: .3rem double var(--ink) }
 .line:hover, .line:focus { outline: 2px solid var(--faint) }
-.number, .again { color: var(--faint); text-align: right; padding-right: .8rem } .again { font-weight: 600 }
+.number, .again { color: var(--faint); text-align: right; padding-right: .8rem } .again { font-weight: 600 } .again:not(:empty)::after { content: "×" } .with-causes .again { min-width: 4rem }
 .why { display: none; position: fixed; right: 2rem; bottom: 1.5rem; width: 30rem; max-width: 45vw; max-height: 60vh; overflow: auto; white-space: normal;
   background: var(--panel); color: var(--ink); border: 1px solid var(--rule); border-radius: 6px; padding: .8rem 1rem; font: 14px/1.45 system-ui, sans-serif; box-shadow: 0 4px 20px #0004 }
 .line:hover .why, .line:focus .why { display: block } .line:hover .why { z-index: 2 }
 .why ul, ul { margin: .2rem 0; padding-left: 1.2rem } .key span { padding: .1rem .6rem; border-radius: 4px; margin-right: .4rem }
 .graph { overflow-x: auto } svg { max-width: 100%; height: auto }
-svg text { fill: var(--ink); stroke: none } svg polygon, svg path { stroke: var(--ink) } svg polygon { fill: none }
+svg text { fill: var(--ink) } svg polygon, svg path { stroke: var(--ink); fill: none } svg .graph > polygon { stroke: none } svg .edge polygon { fill: var(--ink) }
 code { font: 13px ui-monospace, monospace }
 @media (max-width: 60rem) { .both { display: block } }
 """
@@ -47,7 +46,7 @@ def listed(sentences):
 
 
 def style():
-    rules = [f".s{number} {{ background: var(--s{number}) }} svg .stage{number} polygon {{ fill: var(--s{number}) }}" for number in range(1, COLOURS + 1)]
+    rules = [f".s{number} {{ background: var(--s{number}) }} svg .stage{number} polygon:first-of-type {{ fill: var(--s{number}) }}" for number in range(1, COLOURS + 1)]
     return STYLE + "\n".join(rules)
 
 
@@ -59,14 +58,14 @@ def edges_of_line(number, all_planned, tree, teller):
             if number in (teller.line(edge.start), teller.line(edge.end)):
                 rare = " (rare by the profile)" if planned.is_rare(edge) else ""
                 found.append(teller.edge(edge) + rare)
-        found += [teller.check(load, store) for load, store in reasons.checks(planned, tree) if teller.line(load) == number]
+        found += [teller.check(planned, load, store) for load, store in reasons.checks(planned, tree) if teller.line(load) == number]
     return list(dict.fromkeys(found))
 
 
 def line_row(number, text, marks, sentences, causes):
     stages, kinds = marks
     again = sum(count for _, count in causes.of_line(number)) if causes else 0
-    told = sentences + [f"{count} times executed again: {why}" for why, count in (causes.of_line(number) if causes else [])]
+    told = sentences + [f"executed again {'once' if count == 1 else f'{count} times'}: {why}" for why, count in (causes.of_line(number) if causes else [])]
     classes = " ".join(["line", *([f"s{min(stages)}"] if stages else []), *(["par"] if "par" in kinds else [])])
     why = f'<div class="why"><b>line {number}</b>{listed(told)}</div>' if told else ""
     focus = ' tabindex="0"' if told else ""
@@ -92,8 +91,7 @@ def graph(all_planned, tree):
         drawn = subprocess.run(["dot", "-Tsvg"], input=text, stdout=subprocess.PIPE, text=True, check=True).stdout
     except (OSError, subprocess.CalledProcessError):
         return "<p>Graphviz's <code>dot</code> isn't here, so there is no picture.</p>"
-    drawn = drawn[drawn.index("<svg"):]
-    return re.sub(r' (?:fill|stroke|font-family|font-size)="(?:black|white|none|monospace|[0-9.]+)"', "", drawn.replace('fill="white" stroke="transparent"', ""))
+    return drawn[drawn.index("<svg"):]
 
 
 def region_part(planned, tree, teller):
@@ -105,7 +103,7 @@ def region_part(planned, tree, teller):
         if stage.kind == "seq":
             yield "<div>Kept so:</div>" + listed(teller.kept(planned, number))
         if number < len(plan.stages):
-            yield f"<div>Goes forward to stage {number + 1}:</div>" + listed(teller.boundary(planned, number) or ["nothing but that the iteration goes on"])
+            yield f"<div>Goes forward to stage {number + 1}:</div>" + listed(teller.boundary(planned, number))
 
 
 def page(name, source, all_planned, tree, teller, causes):
@@ -114,7 +112,7 @@ def page(name, source, all_planned, tree, teller, causes):
 <html lang="en"><head><meta charset="utf-8"><meta name="viewport" content="width=device-width">
 <meta http-equiv="Content-Security-Policy" content="default-src 'none'; style-src 'unsafe-inline'">
 <title>The plan of {safe(name)}</title><style>{style()}</style></head><body>
-<h1>The plan of {safe(name)}</h1><div class="both"><div class="source">"""
+<h1>The plan of {safe(name)}</h1><div class="both"><div class="source{' with-causes' if causes else ''}">"""
     for number, text in enumerate(source, 1):
         yield line_row(number, text, marks.get(number, (set(), set())), edges_of_line(number, all_planned, tree, teller) if number in marks else [], causes)
     yield "</div><div>"

@@ -13,9 +13,9 @@ def names(planned, tree, number):
 
 
 def early(planned, tree, here, behind):
-    """The variables that a stage loads before one behind it has stored them."""
+    """The variables that a stage may load before one behind it has stored them."""
     plan = planned.plan
-    return sorted({tree.variables[tree.sites[store].stores].name for load, store in reasons.checks(planned, tree) if plan.stage_of(load) == here and plan.stage_of(store) == behind})
+    return sorted({tree.variables[tree.sites[store].stores].name for load, store in reasons.stale(planned, tree) if plan.stage_of(load) == here and plan.stage_of(store) == behind})
 
 
 def region_lines(planned, tree):
@@ -41,7 +41,7 @@ def region_lines(planned, tree):
 
 def dot(all_planned, tree):
     yield "digraph plan {"
-    yield "  rankdir=LR"
+    yield "  rankdir=LR fontname=\"monospace\" fontsize=11"
     yield '  node [shape=box fontname="monospace" fontsize=11]'
     yield '  edge [fontname="monospace" fontsize=11]'
     for planned in all_planned:

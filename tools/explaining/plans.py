@@ -23,6 +23,7 @@ class Plan:
     stages: list
     assumed: dict
     edges: list = dataclasses.field(default_factory=list)
+    checked: set = dataclasses.field(default_factory=set)
 
     def stage_of(self, site):
         """The number of a site's stage, from 1."""
@@ -67,6 +68,8 @@ def read_explanation(text):
         elif head == "edge":
             variable = int(words[3]) if len(words) > 3 else None
             plan.edges.append(Edge(int(words[0]), int(words[1]), words[2], variable))
+        elif head == "checked":
+            plan.checked.add(int(words[0]))
     return plans
 
 

@@ -71,6 +71,12 @@ def checks(planned, tree):
     return sorted(found)
 
 
+def stale(planned, tree):
+    """Those of them by which an iteration may be executed again: the store may come first in the source."""
+    near = {(edge.start, edge.end) for edge in planned.plan.edges if edge.kind != "control"}
+    return [(load, store) for load, store in checks(planned, tree) if (store, load) in near]
+
+
 def is_checked(plan, tree, near, load, store):
     here, there = plan.stage_of(load.number), plan.stage_of(store.number)
     is_local = tree.variables[store.stores].region == plan.region

@@ -13,12 +13,16 @@ class Teller:
     def line(self, site):
         return self.tree.sites[site].line
 
+    def target(self, site):
+        """What a site stores to, as the program has it."""
+        return f"`{self.tree.sites[site].text.split(' = ')[0]}`"
+
     def edge(self, edge):
         """Why the second site waits for the first."""
         start, end = self.line(edge.start), self.line(edge.end)
         if edge.kind == "control":
             return f"the condition of line {start} decides whether line {end} is reached"
-        name = f"`{self.tree.variables[edge.variable].name}`"
+        name = self.target(edge.start)
         if edge.kind == "intra":
             return f"{name} of line {start} is loaded in line {end} of the same iteration"
         if edge.start == edge.end:
@@ -29,12 +33,15 @@ class Teller:
         """What one variable or condition tells later stages."""
         kind, number = key
         starts, ends = ({self.line(getattr(edge, end)) for edge in edges} for end in ("start", "end"))
+        if kind == "condition" and number == self.tree.regions[self.tree.sites[number].region][1]:
+            return "that the iteration goes on"
         if kind == "condition":
             return f"how the condition of {lines(starts)} goes, for {lines(ends)}"
         return f"`{self.tree.variables[number].name}` of {lines(starts)}, for {lines(ends)}"
 
     def boundary(self, planned, number):
-        return [self.passed(key, edges) for key, edges in sorted(reasons.forward(planned, number).items(), key=str)]
+        passed = reasons.forward(planned, number)
+        return [self.passed(key, passed[key]) for key in sorted(passed, key=str)]
 
     def kept(self, planned, number):
         """What keeps a stage sequential."""
@@ -49,10 +56,11 @@ class Teller:
             return ["no iteration needs one before it here, but a stage beside it has several workers"]
         return ["no iteration needs one before it here, and more workers would cost no less"]
 
-    def check(self, load, store):
+    def check(self, planned, load, store):
         loaded, stored = self.tree.sites[load], self.tree.sites[store]
         name = self.tree.variables[stored.stores].name
-        return f"what line {loaded.line} loads of `{name}` is compared with the source's, since line {stored.line} stores it in the same stage or a later one"
+        where = "another worker of its stage may store" if planned.plan.stage_of(load) == planned.plan.stage_of(store) else "a later stage stores"
+        return f"what line {loaded.line} loads of `{name}` is compared with the source's, since {where} it in line {stored.line}"
 
 
 def lines(numbers):

@@ -23,6 +23,7 @@ def shown(text):
 
 
 def listing(source, planned, tree):
+    yield f"{'stage':>9} |line"
     stages = stages_of_lines(planned, tree)
     first, last = min(stages), max(stages)
     for number, line in enumerate(source, 1):
@@ -52,9 +53,9 @@ def region_text(source, planned, tree, teller):
         yield from stage_text(planned, tree, teller, number)
         if number < len(plan.stages):
             yield f"goes forward from stage {number} to {number + 1}:"
-            yield from (f"    {sentence}" for sentence in teller.boundary(planned, number) or ["nothing but that the iteration goes on"])
+            yield from (f"    {sentence}" for sentence in teller.boundary(planned, number) )
     yield from titled("assumed:", [f"the condition of line {teller.line(site)} is {'other than 0' if value else '0'}" for site, value in plan.assumed.items()])
-    yield from titled("checked:", [teller.check(load, store) for load, store in reasons.checks(planned, tree)])
+    yield from titled("checked:", [teller.check(planned, load, store) for load, store in reasons.checks(planned, tree)])
     yield from titled("rare by the profile:", [f"{teller.edge(edge)}: {planned.shown(edge)} times in {planned.runs(edge.end)} runs" for edge in plan.edges if planned.is_rare(edge) and edge.kind != "control"])
 
 
@@ -66,17 +67,19 @@ def titled(title, sentences):
 
 
 def causes_text(causes):
-    yield f"executed again: {causes.total} iterations"
+    yield f"executed again: {causes.total} iteration{'s' * (causes.total != 1)}"
     for line in causes.lines():
         for why, count in causes.of_line(line):
-            yield f"    {count:>6} times in line {line}: {why}" if line else f"    {count:>6} times: {why}"
+            often = "once" if count == 1 else f"{count} times"
+            yield f"    {often} in line {line}: {why}" if line else f"    {often}: {why}"
 
 
 def text(source, all_planned, tree, teller, causes):
-    for planned in all_planned:
+    for place, planned in enumerate(all_planned):
+        yield from [""] * (place > 0)
         yield from region_text(source, planned, tree, teller)
-        yield ""
     if not all_planned:
         yield "no loop is marked"
     if causes:
+        yield ""
         yield from causes_text(causes)
