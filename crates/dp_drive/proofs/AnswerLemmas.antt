@@ -17,22 +17,21 @@ use Rattle.dp_load.specs.declared.texts.Texts.TheVariants as texts
 use Rattle.dp_refusal.specs.Refusal.{refusal_line, refusal_status, failed_read_line}
 use Rattle.dp_refusal.specs.declared.role.Role.TheVariants as role
 use Rattle.dp_load.specs.declared.load.Loaded.{Loaded}
-use Rattle.dp_load.specs.declared.load.Loaded.TheVariants.{Text, Refused, Failed}
+use Rattle.dp_load.specs.declared.load.Loaded.TheVariants.{Refused, Failed}
 use Rattle.dp_load.specs.Loading.{Gives, LoadsProgram, ReadsProgram}
 use Rattle.dp_load.specs.Order.{ReadsAll}
 use Rattle.dp_load.specs.Last.{Nothing}
-use Rattle.dp_load.proofs.OrderLemmas.{all_read, ends_at_plans, ends_at_program, with_inputs}
-use Rattle.dp_load.proofs.TextsLemmas.{source_of, refusal_read}
+use Rattle.dp_load.proofs.OrderLemmas.{all_read, ends_at_program}
+use Rattle.dp_load.proofs.TextsLemmas.{refusal_read}
 use Rattle.dp_words.specs.Words.{Asked, Asks, AsksNothing, ToRun}
-use Rattle.dp_words.specs.Run.{Run, Least}
-use Rattle.dp_words.specs.Planning.{Planning}
+use Rattle.dp_words.specs.Run.{Run}
 use Rattle.dp_plan.specs.declared.Plan.{Plan}
 use Rattle.dp_run.specs.Given.{AreGiven}
 use Rattle.dp_run.specs.RunText.{source_run, trace_text, committed_in_all}
 use Rattle.dp_drive.specs.RunText.{run_text}
 use Rattle.dp_refusal.specs.Refusal.{status_of}
-use Rattle.dp_load.specs.Roles.{Contents, Input, NamedProgram, NoPlans, Plans, ProgramOf, SomePlans, Unnamed, program_in}
-use Rattle.dp_drive.specs.Answer.{NotTaken, Done, OfProgram, OfPlans, OfRun}
+use Rattle.dp_load.specs.Roles.{Contents, Input, NamedProgram, Plans, ProgramOf, SomePlans, program_in}
+use Rattle.dp_drive.specs.Answer.{NotTaken, Done, OfProgram, OfRun}
 use Rattle.dp_drive.specs.Answer as answers
 use Rattle.dp_drive.specs.Headline.{IsCounted}
 use Rattle.dp_load.specs.Texts.{Names, LoadsTexts}

@@ -1,7 +1,6 @@
 -- From the texts of a program and of its least plans to the headline.
-use Rattle.std.proofs.Common.{◌≡◌, refl, sym, ap, ◌∙◌, subst, ℕ, List, [], Option, Result, Ok, Err, Some}
+use Rattle.std.proofs.Common.{refl, sym, ap, ◌∙◌, subst, ℕ, List, [], Option, Result, Ok, Err, Some}
 use Rattle.dp_tree.specs.declared.Program.{Program}
-use Rattle.dp_calls.specs.Expand.{expand}
 use Rattle.dp_plan.specs.declared.Plan.{Plan}
 use Rattle.dp_edge.specs.declared.writing.WriteFail.{WriteFail}
 use Rattle.dp_refusal.specs.declared.refusal.Refusal.{Refusal}

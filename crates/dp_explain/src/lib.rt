@@ -2,6 +2,6 @@
 #![tactic(auto)]
 
 mod edges;
-mod explain;
+mod reasons;
 
-pub use explain::explain;
+pub use reasons::explain;

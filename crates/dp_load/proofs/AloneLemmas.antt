@@ -1,5 +1,5 @@
 -- What is read where a program is read alone, or with its least plans.
-use Rattle.std.proofs.Common.{◌≡◌, sym, subst, ℕ, List, [], ℤ, Option, Some, None, Result, Ok, Err}
+use Rattle.std.proofs.Common.{◌≡◌, sym, subst, ℕ, List, [], Option, Some, None, Result, Ok, Err}
 use Rattle.dp_tree.specs.declared.Program.{Program}
 use Rattle.dp_calls.specs.Expand.{expand}
 use Rattle.dp_plan.specs.declared.Plan.{Plan}

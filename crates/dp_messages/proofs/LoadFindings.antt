@@ -22,7 +22,7 @@ use Rattle.dp_load.specs.Batches.{LoadsBatch}
 use Rattle.dp_load.specs.Last.{Checkpoint, LastCheckpoint, LastLog, LastOf, Nothing, SavedAt, Logged, saved_at}
 use Rattle.dp_room.specs.declared.NoMemory.{NoMemory as Wanting}
 use Rattle.dp_load.specs.Loading.{FaultsAfterLoad, Gives, Loads, LoadsCheckpoint, LoadsLog, LoadsProgram, ReadsProgram}
-use Rattle.dp_load.specs.Roles.{Contents, Input, NoPlans, Plans, ProgramOf, SomePlans, Unnamed, program_in}
+use Rattle.dp_load.specs.Roles.{Contents, Input, NoPlans, Plans, ProgramOf, program_in}
 use Rattle.dp_load.specs.Texts.{LoadsTexts, Names}
 use Rattle.dp_load.specs.Texts as loads
 use Rattle.dp_load.proofs.AloneLemmas as alone

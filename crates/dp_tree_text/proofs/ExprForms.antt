@@ -1,5 +1,5 @@
 -- The words of an expression by its form.
-use Rattle.std.proofs.Common.{◌≡◌, refl, ℤ, ◌++◌, append_assoc, append-nil, codes}
+use Rattle.std.proofs.Common.{◌≡◌, refl, ℤ, ◌++◌, append_assoc, codes}
 use Rattle.dp_base.specs.declared.VarId.{VarId}
 use Rattle.dp_base.specs.declared.UnOp.{UnOp}
 use Rattle.dp_base.specs.declared.BinOp.{BinOp}

@@ -1,4 +1,4 @@
-use Rattle.std.proofs.Common.{◌∙◌, ap, refl, Ok}
+use Rattle.std.proofs.Common.{◌∙◌, ap, Ok}
 use Rattle.dp_load.proofs.TextsLemmas.{given, program_gives}
 use Rattle.dp_drive.proofs.AnswerLemmas.{carry_on, carry_program_refused, carry_program_failed}
 use Rattle.dp_load.proofs.accepted.Given.{loaded_inlined}

@@ -1,4 +1,4 @@
-use Rattle.std.proofs.Common.{◌∙◌, ap, refl, Ok}
+use Rattle.std.proofs.Common.{◌∙◌, ap, Ok}
 use Rattle.dp_words.specs.Planning.{shown_planning}
 use Rattle.dp_load.specs.Loading.{LoadsProgram}
 use Rattle.dp_load.proofs.TextsLemmas.{given}
