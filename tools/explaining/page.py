@@ -13,19 +13,26 @@ STYLE = """
   --s1: #1f3a5f; --s2: #1f4a2a; --s3: #5a4213; --s4: #4d2550; --s5: #174a50; --s6: #5c2a20; --s7: #4a4716; --s8: #37336b; } }
 * { box-sizing: border-box }
 body { margin: 0; padding: 1.5rem 2rem 4rem; background: var(--paper); color: var(--ink); font: 15px/1.5 system-ui, sans-serif }
-h1, h2, h3 { font-weight: 600; line-height: 1.25 } h1 { font-size: 1.5rem; margin: 0 0 1rem } h2 { font-size: 1.2rem; margin: 2rem 0 .5rem } h3 { font-size: 1rem; margin: 1.2rem 0 .3rem }
+h1, h2, h3 { font-weight: 600; line-height: 1.25 }
+h1 { font-size: 1.5rem; margin: 0 0 1rem } h2 { font-size: 1.2rem; margin: 2rem 0 .5rem } h3 { font-size: 1rem; margin: 1.2rem 0 .3rem }
 .both { display: grid; grid-template-columns: minmax(30rem, 3fr) minmax(18rem, 2fr); gap: 1.5rem; align-items: start }
 .source { border: 1px solid var(--rule); border-radius: 6px; padding: .5rem 0; overflow-x: auto; font: 13px/1.55 ui-monospace, monospace }
-.line { display: grid; grid-template-columns: 5.5rem 2.5rem auto 1fr; padding: 0 .8rem; white-space: pre; outline-offset: -2px; border-left: .3rem solid transparent }
+.line { display: grid; grid-template-columns: 5.5rem 2.5rem auto 1fr; padding: 0 .8rem; white-space: pre; outline-offset: -2px;
+  border-left: .3rem solid transparent }
 .line.par { border-left: .3rem double var(--ink) }
 .line:hover, .line:focus { outline: 2px solid var(--faint) }
-.number, .again { color: var(--faint); text-align: right; padding-right: .8rem } .again { font-weight: 600 } .again:not(:empty)::after { content: "×" } .with-causes .again { min-width: 4rem }
-.why { display: none; position: fixed; right: 2rem; bottom: 1.5rem; width: 30rem; max-width: 45vw; max-height: 60vh; overflow: auto; white-space: normal;
-  background: var(--panel); color: var(--ink); border: 1px solid var(--rule); border-radius: 6px; padding: .8rem 1rem; font: 14px/1.45 system-ui, sans-serif; box-shadow: 0 4px 20px #0004 }
-.line:hover .why, .line:focus .why { display: block } .line:hover .why { z-index: 2 }
+.number, .again { color: var(--faint); text-align: right; padding-right: .8rem }
+.again { font-weight: 600 } .again:not(:empty)::after { content: "×" } .with-causes .again { min-width: 4rem }
+.why { display: none; position: fixed; right: 2rem; bottom: 1.5rem; width: 30rem; max-width: 45vw; max-height: 60vh;
+  overflow: auto; white-space: normal;
+  background: var(--panel); color: var(--ink); border: 1px solid var(--rule); border-radius: 6px; padding: .8rem 1rem;
+  font: 14px/1.45 system-ui, sans-serif; box-shadow: 0 4px 20px #0004 }
+.line:hover .why, .line:focus .why { display: block }
+.line:hover .why { z-index: 2 }
 .why ul, ul { margin: .2rem 0; padding-left: 1.2rem } .key span { padding: .1rem .6rem; border-radius: 4px; margin-right: .4rem }
 .graph { overflow-x: auto } svg { max-width: 100%; height: auto }
-svg text { fill: var(--ink) } svg polygon, svg path { stroke: var(--ink); fill: none } svg .graph > polygon { stroke: none } svg .edge polygon { fill: var(--ink) }
+svg text { fill: var(--ink) }
+svg polygon, svg path { stroke: var(--ink); fill: none } svg .graph > polygon { stroke: none } svg .edge polygon { fill: var(--ink) }
 code { font: 13px ui-monospace, monospace }
 @media (max-width: 60rem) { .both { display: block } }
 """
@@ -46,8 +53,8 @@ def listed(sentences):
 
 
 def style():
-    rules = [f".s{number} {{ background: var(--s{number}) }} svg .stage{number} polygon:first-of-type {{ fill: var(--s{number}) }}" for number in range(1, COLOURS + 1)]
-    return STYLE + "\n".join(rules)
+    rule = ".s{0} {{ background: var(--s{0}) }} svg .stage{0} polygon:first-of-type {{ fill: var(--s{0}) }}"
+    return STYLE + "\n".join(rule.format(number) for number in range(1, COLOURS + 1))
 
 
 def edges_of_line(number, all_planned, tree, teller):
@@ -70,7 +77,8 @@ def line_row(number, text, marks, sentences, causes):
     why = f'<div class="why"><b>line {number}</b>{listed(told)}</div>' if told else ""
     focus = ' tabindex="0"' if told else ""
     stage = ("stage " + ",".join(map(str, sorted(stages)))) if stages else ""
-    return f'<div class="{classes}"{focus}><span>{stage}</span><span class="number">{number}</span><span class="again">{again or ""}</span><span>{safe(terminal.shown(text))}</span>{why}</div>'
+    cells = f'<span>{stage}</span><span class="number">{number}</span><span class="again">{again or ""}</span>'
+    return f'<div class="{classes}"{focus}>{cells}<span>{safe(terminal.shown(text))}</span>{why}</div>'
 
 
 def marks_of_lines(all_planned, tree):

@@ -15,7 +15,8 @@ def names(planned, tree, number):
 def early(planned, tree, here, behind):
     """The variables that a stage may load before one behind it has stored them."""
     plan = planned.plan
-    return sorted({tree.variables[tree.sites[store].stores].name for load, store in reasons.stale(planned, tree) if plan.stage_of(load) == here and plan.stage_of(store) == behind})
+    stores = [store for load, store in reasons.stale(planned, tree) if (plan.stage_of(load), plan.stage_of(store)) == (here, behind)]
+    return sorted({tree.variables[tree.sites[store].stores].name for store in stores})
 
 
 def region_lines(planned, tree):

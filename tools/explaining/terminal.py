@@ -56,7 +56,8 @@ def region_text(source, planned, tree, teller):
             yield from (f"    {sentence}" for sentence in teller.boundary(planned, number) )
     yield from titled("assumed:", [f"the condition of line {teller.line(site)} is {'other than 0' if value else '0'}" for site, value in plan.assumed.items()])
     yield from titled("checked:", [teller.check(planned, load, store) for load, store in reasons.checks(planned, tree)])
-    yield from titled("rare by the profile:", [f"{teller.edge(edge)}: {planned.shown(edge)} times in {planned.runs(edge.end)} runs" for edge in plan.edges if planned.is_rare(edge) and edge.kind != "control"])
+    rare = [edge for edge in plan.edges if planned.is_rare(edge) and edge.kind != "control"]
+    yield from titled("rare by the profile:", [f"{teller.edge(edge)}: {planned.shown(edge)} times in {planned.runs(edge.end)} runs" for edge in rare])
 
 
 def titled(title, sentences):

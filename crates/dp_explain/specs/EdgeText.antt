@@ -35,7 +35,8 @@ kind_text p Carried stored = codes " carried" ++ variable_text p stored
 
 -- the second site depends on the first
 abbrev pub edge_line : Program → ℕ → List Node → Edge → List ℕ
-edge_line p first nodes e = labelled (codes "edge ") e.from.0 ++ (labelled (codes " ") e.to.0 ++ (kind_text p e.kind (stored_at first nodes e.from.0) ++ codes "\n"))
+edge_line p first nodes e =
+    labelled (codes "edge ") e.from.0 ++ (labelled (codes " ") e.to.0 ++ (kind_text p e.kind (stored_at first nodes e.from.0) ++ codes "\n"))
 
 -- the lines of edges
 abbrev pub edge_lines : Program → ℕ → List Node → List Edge → List ℕ

@@ -24,7 +24,9 @@ check_lines p plan nodes = flat_map (λ (n : Node). check_line (table_says p pla
 -- What a plan rests on: its region's number, all dependences that the text of the region has, whatever a profile shows, and the sites that are checked.
 abbrev pub reason_text : Program → Plan → List ℕ
 reason_text p plan =
-    labelled (codes "region ") plan.region ++ (codes "\n" ++ (edge_lines p (first_of p plan.region) (region_nodes p plan.region) (edges_of p plan.region None 0) ++ check_lines p plan (region_nodes p plan.region)))
+    labelled (codes "region ") plan.region
+    ++ (codes "\n" ++ (edge_lines p (first_of p plan.region) (region_nodes p plan.region) (edges_of p plan.region None 0)
+    ++ check_lines p plan (region_nodes p plan.region)))
 
 abbrev pub reason_texts : Program → List Plan → List ℕ
 reason_texts p plans = flat_map (reason_text p) plans

@@ -44,7 +44,13 @@ fn put_reason(alloc: Global, out: &mut Row<u8>, plan: &Plan, p: &Program) -> Res
     let graph = Graph::build(alloc, p, plan.region, None, 0)?;
     put_labelled(out, b"region ", u64::from(plan.region))?;
     out.push(b'\n')?;
-    put_edges(out, p, first_of(p, plan.region), nodes.as_slice(), graph.edges())?;
+    put_edges(
+        out,
+        p,
+        first_of(p, plan.region),
+        nodes.as_slice(),
+        graph.edges(),
+    )?;
     put_checks(out, p, plan, nodes.as_slice())
 }
 

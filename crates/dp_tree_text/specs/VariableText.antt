@@ -25,4 +25,5 @@ scope_text (Body region) = labelled (codes " body ") region
 -- a variable's number and name, whether it is an array, its first cell, the number of its cells, its start value and its scope
 abbrev pub variable_line : ℕ → VarInfo → List ℕ
 variable_line n x =
-    line (labelled (codes "var ") n ++ codes " " ++ x.name ++ form_name x.array ++ labelled (codes " first ") x.first.0 ++ labelled (codes " length ") x.length ++ start_text x.start ++ scope_text x.scope)
+    line (labelled (codes "var ") n ++ codes " " ++ x.name ++ form_name x.array ++ labelled (codes " first ") x.first.0
+    ++ labelled (codes " length ") x.length ++ start_text x.start ++ scope_text x.scope)
