@@ -159,8 +159,8 @@ def square_free(draw, size):
 
 
 def neural_layer(draw, size):
-    network = [[draw.below(41) - 20] + [draw.below(256) - 128 for _ in range(8)] for _ in range(6)]
-    return network + [[draw.below(256) - 128 for _ in range(8)] for _ in range(size)]
+    network = [[draw.below(41) - 20] + [draw.below(256) - 128 for _ in range(16)] for _ in range(6)]
+    return network + [[draw.below(256) - 128 for _ in range(16)] for _ in range(size)]
 
 
 def insertion_sort(draw, size):
@@ -188,7 +188,7 @@ SIZES = {
     keywords: (240, 65536),
     word_distances: (8, 2000),
     square_free: (10, 512),
-    neural_layer: (8, 8185),
+    neural_layer: (8, 4089),
     insertion_sort: (12, 256),
     base_sixty_four: (26, 65536),
 }
