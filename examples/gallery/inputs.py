@@ -114,8 +114,8 @@ def queens(draw, size):
         free = [it for it in range(1, 9) if all(it != q and abs(it - q) != len(board) - k for k, q in enumerate(board))]
         return [it for column in free for it in boards(board + [column], rows - 1)]
 
-    given = [boards([], 3), boards([], 4)]
-    drawn = [draw.one_of(draw.one_of(given)) for _ in range(size)]
+    given = boards([], 4)
+    drawn = [draw.one_of(given) for _ in range(size)]
     return [[int("".join(map(str, it))) for it in drawn[at : at + 8]] for at in range(0, size, 8)]
 
 
