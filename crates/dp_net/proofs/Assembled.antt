@@ -10,71 +10,37 @@ use Rattle.dp_plan.proofs.RegionOrder.{RegionAt, Sought, absent, present, find_r
 use Rattle.dp_tree.specs.Inlined.{IsInlined}
 use Rattle.dp_semantics.specs.Fits.{stores_known}
 use Rattle.dp_semantics.specs.EpochKey.{EpochKey, epoch_of}
-use Rattle.dp_semantics.specs.EpochVerdicts.{verdict_at, state_at}
-use Rattle.dp_semantics.specs.EpochCauses.{kept_at}
 use Rattle.dp_semantics.proofs.Each.{Each, each_map, each_split, each_join, each_both, all_of, all_make}
 use Rattle.dp_semantics.proofs.Evaluation.{Roomy}
 use Rattle.dp_semantics.proofs.Setting.{Laid, Sound, Accepted, head_access}
 use Rattle.dp_theorem.proofs.Fitting.{accepted}
 use Rattle.dp_net.specs.Quiet.{is_quiet}
-use Rattle.dp_net.specs.Net.{Marks}
-use Rattle.dp_net.specs.NetEpochs.{NetIsRight, SaysTheSame, net_verdict_at, net_state_at, net_kept_at}
-use Rattle.dp_net.specs.BlockText.{own_site, own_stage, is_hushed, run, goes_on, if_pays, block_from, run_behind, site_past, sought_inside, sought}
-use Rattle.dp_net.specs.Hidden.{at_home, is_private, is_hidden, is_nil, block_in, marks_of}
+use Rattle.dp_net.specs.NetItems.{begins, Marks}
+use Rattle.dp_net.specs.NetVerdicts.{NetIsRight, NetAgrees, GoesOnTo, net_verdict_at}
+use Rattle.dp_net.specs.BlockText.{own_site, own_stage, is_quiet_own, run, joins_run, if_pays, block_from, run_behind, site_past, sought_inside, sought}
+use Rattle.dp_net.specs.Hidden.{at_home, is_private, is_hidden, block_in, marks_of}
+use Rattle.dp_net.specs.NetItems.{is_nil}
 use Rattle.dp_net.proofs.Silent.{AllQuiet}
 use Rattle.dp_net.proofs.Groups.{Marked}
 use Rattle.dp_net.proofs.Texts.{Text, ends, text_join}
 use Rattle.dp_net.proofs.BlockPlaces.{run_quiet}
 use Rattle.dp_net.proofs.BlockTexts.{stmt_text}
 use Rattle.dp_net.proofs.HiddenCells.{is_sound, is_clear, sound_at, all_sound, sound_head, sound_roll, hidden_local, ready_all}
+use Rattle.dp_net.specs.NetItems.{item_list}
+use Rattle.dp_net.specs.Batches.{BatchesAreRight, BatchesEnd, EndsStay, batch_begin, batch_size, ends_batch}
+use Rattle.dp_semantics.specs.EpochVerdicts.{goes_on}
+use Rattle.dp_net.proofs.BatchVerdicts.{batch_right}
+use Rattle.dp_net.proofs.BatchEnds.{ends_there}
+use Rattle.dp_net.proofs.NetSent.{ends_stay}
+use Rattle.dp_net.specs.NetPackets.{net_passed}
+use Rattle.dp_net.specs.Follows.{Follows, ItemsFollow, is_void}
+use Rattle.dp_net.proofs.PacketsFollow.{packet_follows}
 use Rattle.dp_net.proofs.Sent.{Quieted}
+use Rattle.dp_net.proofs.StrictEpochs.{clean_to}
 use Rattle.dp_net.proofs.EpochsAlike.{states_alike, all_kept_alike, verdicts_alike}
+use Rattle.dp_net.proofs.TextSound.{projected_sound}
 
 module _ (p : Program) (plan : Plan) where
-  -- The text of each stage is sound where the region's sites are.
-  module _ (s : ℕ) where
-    reach_sound : (site : ℕ) (a b : List Stmt) → list_all (all_sound p plan) a ≡ true → list_all (all_sound p plan) b ≡ true → list_all (all_sound p plan) (where_reached p plan s site a b) ≡ true
-    reach_sound site a b h k = by (nat_le (stage_of p plan site) s)
-      where
-        by : (c : Bool) → list_all (all_sound p plan) (if c then a else b) ≡ true
-        by true = h
-        by false = k
-
-    branch_sound : (o : Option Bool) (a b : List Stmt) → list_all (all_sound p plan) a ≡ true → list_all (all_sound p plan) b ≡ true → list_all (all_sound p plan) (branch_of o a b) ≡ true
-    branch_sound None a b h k = refl
-    branch_sound (Some true) a b h k = h
-    branch_sound (Some false) a b h k = k
-
-    one_sound : (b : Bool) → b ≡ true → (b && true) ≡ true
-    one_sound b e = rw e refl
-
-    if_sound : (site : _) (cond : _) (a b : List Stmt) → is_sound p plan (head_access (If site cond a b)) ≡ true → list_all (all_sound p plan) a ≡ true → list_all (all_sound p plan) b ≡ true → all_sound p plan (tree.If site cond a b) ≡ true
-    if_sound site cond a b own h k = ap (all_sound p plan) (sym (rolls-If site cond a b)) ∙ sound_roll p plan (If site cond a b) ∙ rw (own, h, k) refl
-
-    while_sound : (site : _) (cond : _) (a : List Stmt) → is_sound p plan (head_access (While site cond a)) ≡ true → list_all (all_sound p plan) a ≡ true → all_sound p plan (tree.While site cond a) ≡ true
-    while_sound site cond a own h = ap (all_sound p plan) (sym (rolls-While site cond a)) ∙ sound_roll p plan (While site cond a) ∙ rw (own, h) refl
-
-    mutual
-      projected_sound : (x : Stmt) → Each (λ a. is_sound p plan a ≡ true) (accesses x) → list_all (all_sound p plan) (project p plan s x) ≡ true
-      projected_sound (tree.Assign site x e) h = reach_sound site.0 _ [] (rw (h.0) refl) refl
-      projected_sound (tree.Store site x index e) h = reach_sound site.0 _ [] (rw (h.0) refl) refl
-      projected_sound (tree.Print site e) h = reach_sound site.0 _ [] (rw (h.0) refl) refl
-      projected_sound (tree.Break site cond) h = reach_sound site.0 _ [] (rw (h.0) refl) refl
-      projected_sound (tree.If' site cond _ a _ b) h =
-          let parts = each_split (λ (i : Access). is_sound p plan i ≡ true) (accesses_in a) (accesses_in b) h.1 in
-          let one = projected_row a parts.0 in
-          let two = projected_row b parts.1 in
-          reach_sound site.0 _ _ (rw (if_sound site cond (project_in p plan s a) (project_in p plan s b) h.0 one two) refl) (branch_sound (assumed_in plan.assume site.0) _ _ one two)
-      projected_sound (tree.While' site cond _ a) h = reach_sound site.0 _ [] (rw (while_sound site cond (project_in p plan s a) h.0 (projected_row a h.1)) refl) refl
-      projected_sound (tree.Region' r site cond _ a) h = rw (if_sound site cond (project_in p plan s a) [] h.0 (projected_row a h.1) refl) refl
-      projected_sound (tree.Call f line args) h = refl
-
-      projected_row : {n : _} (row : Row_of-Stmt n) → Each (λ a. is_sound p plan a ≡ true) (accesses_in row) → list_all (all_sound p plan) (project_in p plan s row) ≡ true
-      projected_row end_of-Stmt h = refl
-      projected_row (more_of-Stmt x rest) h =
-          let parts = each_split (λ (i : Access). is_sound p plan i ≡ true) (accesses x) (accesses_in rest) h in
-          list_all-append (all_sound p plan) (project p plan s x) (project_in p plan s rest) ∙ and_from _ _ (projected_sound x parts.0) (projected_row rest parts.1)
-
   -- What is sought is a quiet block of its first site.
   module _ (pays : List Stmt → Bool) (f : ℕ) where
     -- these statements, if there are any, are a block of this site
@@ -87,15 +53,15 @@ module _ (p : Program) (plan : Plan) where
     choose_block false c d h k = k refl
 
     from_block : (before : Option ℕ) (x : Stmt) (rest : List Stmt) → own_site p plan x ≡ f → IsBlock (block_from p plan pays before x rest)
-    from_block before x rest at = choose_block (is_hushed p plan x) _ [] (λ q. choose_block (goes_on p plan (own_stage p plan x) before) [] _ (λ g. tt) (λ g. choose_block (pays (x ∷ run p plan (own_stage p plan x) rest)) _ [] (λ w. (quiet q, at)) (λ w. tt))) (λ q. tt)
+    from_block before x rest at = choose_block (is_quiet_own p plan x) _ [] (λ q. choose_block (joins_run p plan (own_stage p plan x) before) [] _ (λ g. tt) (λ g. choose_block (pays (x ∷ run p plan (own_stage p plan x) rest)) _ [] (λ w. (quiet q, at)) (λ w. tt))) (λ q. tt)
       where
-        quiet : is_hushed p plan x ≡ true → AllQuiet p plan (stage_of p plan f) (x ∷ run p plan (own_stage p plan x) rest)
+        quiet : is_quiet_own p plan x ≡ true → AllQuiet p plan (stage_of p plan f) (x ∷ run p plan (own_stage p plan x) rest)
         quiet q = subst (λ (n : ℕ). AllQuiet p plan (stage_of p plan n) (x ∷ run p plan (own_stage p plan x) rest)) at (rw q (run_quiet p plan (own_stage p plan x) rest))
 
     both_block : (x : Stmt) → IsBlock (sought_inside p plan pays f x) → (before : Option ℕ) (rest later : List Stmt) → IsBlock later →
-        IsBlock (if nat_lt f (site_past p plan x) then (if f == own_site p plan x then block_from p plan pays before x rest else (if is_hushed p plan x then [] else sought_inside p plan pays f x)) else later)
+        IsBlock (if nat_lt f (site_past p plan x) then (if f == own_site p plan x then block_from p plan pays before x rest else (if is_quiet_own p plan x then [] else sought_inside p plan pays f x)) else later)
     both_block x within before rest later h = choose_block (nat_lt f (site_past p plan x)) _ later
-        (λ e. choose_block (f == own_site p plan x) _ _ (λ q. from_block before x rest (sym (eqb-true f (own_site p plan x) q))) (λ q. choose_block (is_hushed p plan x) [] _ (λ u. tt) (λ u. within))) (λ e. h)
+        (λ e. choose_block (f == own_site p plan x) _ _ (λ q. from_block before x rest (sym (eqb-true f (own_site p plan x) q))) (λ q. choose_block (is_quiet_own p plan x) [] _ (λ u. tt) (λ u. within))) (λ e. h)
 
     mutual
       inside_block : (x : Stmt) → IsBlock (sought_inside p plan pays f x)
@@ -119,7 +85,7 @@ module _ (p : Program) (plan : Plan) where
   marked_of pays input = record {
     quiet = λ f x b e. (is_block pays f (x ∷ b) e).0;
     named = λ f x b e. (is_block pays f (x ∷ b) e).1;
-    within = λ f x b e. ap (λ (xs : List Stmt). not (is_nil p plan xs)) e;
+    within = λ f x b e. ap (λ (xs : List Stmt). not (is_nil xs)) e;
   }
 
   -- Where the plan fits and the region's sites go up one by one, its blocks have all that is asked of them.
@@ -170,11 +136,11 @@ module _ (p : Program) (plan : Plan) where
 
     steady_text : (s : ℕ) → list_all (all_sound p plan) (project_all p plan s (region_statement p plan)) ≡ true
     steady_text s = ap (λ (xs : List Stmt). list_all (all_sound p plan) (project_all p plan s xs)) ok.region ∙ ap (list_all (all_sound p plan)) (append-nil (project p plan s ok.statement))
-        ∙ projected_sound s ok.statement (subst (λ (l : List Access). Each (λ a. is_sound p plan a ≡ true) l) accesses_are region_sound)
+        ∙ projected_sound p plan s ok.statement (subst (λ (l : List Access). Each (λ a. is_sound p plan a ≡ true) l) accesses_are region_sound)
 
     module _ (pays : List Stmt → Bool) (k : ℕ) (up : Ascends k (map site_in (region_accesses p plan))) where
-      out_of : (f : ℕ) → (marks_of p plan pays).block_at f ≡ [] → (marks_of p plan pays).inside f ≡ false
-      out_of f e = ap (λ (xs : List Stmt). not (is_nil p plan xs)) e
+      out_of : (f : ℕ) → (marks_of p plan pays).block_at f ≡ [] → begins (marks_of p plan pays) f ≡ false
+      out_of f e = ap (λ (xs : List Stmt). not (is_nil xs)) e
 
       up_there : Ascends k (map site_in (accesses ok.statement))
       up_there = subst (λ (l : List Access). Ascends k (map site_in l)) accesses_are up
@@ -208,10 +174,13 @@ quieted key fits k up pays =
 
 -- In each epoch of a program and a plan that fits it, and whichever runs are taken for blocks, the verdicts by items say what the definition's verdicts say,
 -- and the judging and the search for causes stand where the definition's do.
-pub net_is_right : (key : EpochKey) → fits_plan key.program key.plan ≡ true → (k : ℕ) → Ascends k (map site_in (region_accesses key.program key.plan)) → (pays : List Stmt → Bool) → (n : ℕ) →
-    SaysTheSame (marks_of key.program key.plan pays) key (verdict_at key n) (net_verdict_at (marks_of key.program key.plan pays) key n)
-    × (net_state_at (marks_of key.program key.plan pays) key n ≡ state_at key n) × (net_kept_at (marks_of key.program key.plan pays) key n ≡ kept_at key n)
-net_is_right key fits k up pays n = let q = quieted key fits k up pays in (verdicts_alike key q n, states_alike key q n, all_kept_alike key q n)
+pub net_is_right : (key : EpochKey) → fits_plan key.program key.plan ≡ true → (k : ℕ) → Ascends k (map site_in (region_accesses key.program key.plan)) → (pays : List Stmt → Bool) → (n : ℕ) → GoesOnTo key n →
+    NetAgrees (marks_of key.program key.plan pays) key n
+net_is_right key fits k up pays n goes =
+    let ok = accepted key.program key.plan fits in
+    let q = quieted key fits k up pays in
+    let c = clean_to key ok n goes in
+    record { verdict = verdicts_alike key ok q n c; state = states_alike key ok q n c; kept = all_kept_alike key ok q n c }
 
 -- An inlined program's sites go up one by one.
 numbered : (p : Program) (plan : Plan) → IsInlined p → Accepted p plan → (k : ℕ) × Ascends k (map site_in (region_accesses p plan))
@@ -222,14 +191,48 @@ numbered p plan inlined ok = by (find_region p.main 1 1 p.regions inlined.region
     by (present entry low at region first beyond) = (entry.first.0, subst (λ (l : List Access). Ascends entry.first.0 (map site_in l)) (sym (append-nil (accesses region.statement)) ∙ ap (λ (xs : List Stmt). flat_map accesses xs) (sym region.only)) region.sites)
 
 pub net_right : (p : Program) (plan : Plan) → IsInlined p → fits_plan p plan ≡ true → NetIsRight p plan
-net_right p plan inlined fits key same_program same_plan pays n =
+net_right p plan inlined fits key same_program same_plan pays n goes =
     let ok = accepted p plan fits in
     let up = numbered p plan inlined ok in
-    by key same_program same_plan up.0 up.1
+    by key same_program same_plan goes up.0 up.1
   where
-    by : (key : EpochKey) → key.program ≡ p → key.plan ≡ plan → (k : ℕ) → Ascends k (map site_in (region_accesses p plan)) →
-        SaysTheSame (marks_of p plan pays) key (verdict_at key n) (net_verdict_at (marks_of p plan pays) key n) × (net_state_at (marks_of p plan pays) key n ≡ state_at key n) × (net_kept_at (marks_of p plan pays) key n ≡ kept_at key n)
+    by : (key : EpochKey) → key.program ≡ p → key.plan ≡ plan → GoesOnTo key n → (k : ℕ) → Ascends k (map site_in (region_accesses p plan)) → NetAgrees (marks_of p plan pays) key n
+    by key e f goes k up =
+        subst (λ (q : Program). NetAgrees (marks_of q plan pays) key n) e (subst (λ (r : Plan). NetAgrees (marks_of key.program r pays) key n) f (net_is_right key (rw (e, f) fits) k (rw (e, f) up) pays n goes))
+
+pub items_follow : (p : Program) (plan : Plan) → IsInlined p → fits_plan p plan ≡ true → ItemsFollow p plan
+items_follow p plan inlined fits key same_program same_plan pays s n low = by key same_program same_plan up.0 up.1
+  where
+    up : (k : ℕ) × Ascends k (map site_in (region_accesses p plan))
+    up = numbered p plan inlined (accepted p plan fits)
+
+    Goal : Program → Plan → EpochKey → Type 0
+    Goal p plan key = is_void (net_passed (marks_of p plan pays) (epoch_of key) s n).packet.status ≡ false →
+        Follows p plan (marks_of p plan pays) (project_all p plan s (region_statement p plan)) (item_list (net_passed (marks_of p plan pays) (epoch_of key) s n).packet.lists)
+
+    by : (key : EpochKey) → key.program ≡ p → key.plan ≡ plan → (k : ℕ) → Ascends k (map site_in (region_accesses p plan)) → Goal p plan key
     by key e f k up =
-        subst (λ (q : Program). SaysTheSame (marks_of q plan pays) key (verdict_at key n) (net_verdict_at (marks_of q plan pays) key n) × (net_state_at (marks_of q plan pays) key n ≡ state_at key n) × (net_kept_at (marks_of q plan pays) key n ≡ kept_at key n)) e
-        (subst (λ (r : Plan). SaysTheSame (marks_of key.program r pays) key (verdict_at key n) (net_verdict_at (marks_of key.program r pays) key n) × (net_state_at (marks_of key.program r pays) key n ≡ state_at key n) × (net_kept_at (marks_of key.program r pays) key n ≡ kept_at key n)) f
-        (net_is_right key (rw (e, f) fits) k (rw (e, f) up) pays n))
+        subst (λ (q : Program). Goal q plan key) e (subst (λ (r : Plan). Goal key.program r key) f
+        (packet_follows (quieted key (rw (e, f) fits) k (rw (e, f) up) pays) (accepted key.program key.plan (rw (e, f) fits)) s n low))
+
+pub batches_right : (p : Program) (plan : Plan) → IsInlined p → fits_plan p plan ≡ true → BatchesAreRight p plan
+batches_right p plan inlined fits key same_program same_plan pays cap b goes =
+    batch_right key (marks_of p plan pays) (λ n. net_right p plan inlined fits key same_program same_plan pays n) (batch_size key cap b) (batch_begin key cap b) goes
+
+pub batches_end : (p : Program) (plan : Plan) → IsInlined p → fits_plan p plan ≡ true → BatchesEnd p plan
+batches_end p plan inlined fits key same_program same_plan pays n goes = by key same_program same_plan goes up.0 up.1
+  where
+    up : (k : ℕ) × Ascends k (map site_in (region_accesses p plan))
+    up = numbered p plan inlined (accepted p plan fits)
+
+    Goal : Program → Plan → EpochKey → Type 0
+    Goal p plan key = ends_batch (net_passed (marks_of p plan pays) (epoch_of key) (length plan.stages) n).packet ≡ true → goes_on (net_verdict_at (marks_of p plan pays) key n) ≡ false
+
+    by : (key : EpochKey) → key.program ≡ p → key.plan ≡ plan → GoesOnTo key n → (k : ℕ) → Ascends k (map site_in (region_accesses p plan)) → Goal p plan key
+    by key e f goes k up =
+        let ok = accepted key.program key.plan (rw (e, f) fits) in
+        subst (λ (q : Program). Goal q plan key) e (subst (λ (r : Plan). Goal key.program r key) f
+        (ends_there key ok (quieted key (rw (e, f) fits) k (rw (e, f) up) pays) n (clean_to key ok n goes)))
+
+pub ends_stay_so : EndsStay
+ends_stay_so m key s n off = ends_stay m (epoch_of key) s n off

@@ -9,9 +9,9 @@ use Rattle.dp_plan.specs.Written.{site_in}
 use Rattle.dp_plan.proofs.Ascent.{Ascends, ascends_split}
 use Rattle.dp_theorem.proofs.Projected.{not_reached, reached}
 use Rattle.dp_net.specs.Quiet.{quiet_at, is_quiet, is_quiet_site}
-use Rattle.dp_net.specs.Net.{Marks}
-use Rattle.dp_net.specs.BlockText.{own_site, own_stage, is_hushed, run, past_run, goes_on, if_pays, block_from, run_behind, site_past, sought_inside, sought}
-use Rattle.dp_net.proofs.Silent.{all_quiet, AllQuiet, quiet_head, quiet_out, Hushed, hushed}
+use Rattle.dp_net.specs.NetItems.{Marks}
+use Rattle.dp_net.specs.BlockText.{own_site, own_stage, is_quiet_own, run, past_run, joins_run, if_pays, block_from, run_behind, site_past, sought_inside, sought}
+use Rattle.dp_net.proofs.Silent.{all_quiet, AllQuiet, quiet_head, quiet_out, QuietHead, known_quiet}
 use Rattle.dp_net.proofs.Texts.{site_at, IsLeaf, Plain, Text, ends, leaf, choice, loop, block, text_join}
 
 rolled_if : (site : SiteId) (cond : Expr) (h : _) (a : Row_of-Stmt _) (k : _) (b : Row_of-Stmt _) → tree.If site cond (listed a) (listed b) ≡ tree.If' site cond h a k b
@@ -30,7 +30,7 @@ module _ (p : Program) (plan : Plan) where
 
   -- the stage of a quiet statement is its own site's
   pub quiet_stage : (t : ℕ) (x : Stmt) → is_quiet p plan t x ≡ true → stage_of p plan (site_at x) ≡ t
-  quiet_stage t x q = (hushed p plan t (out-Stmt x) (sym (quiet_out p plan t x) ∙ q)).stage
+  quiet_stage t x q = (known_quiet p plan t (out-Stmt x) (sym (quiet_out p plan t x) ∙ q)).stage
 
   -- A quiet statement stands as it is in the text of its stage and of those behind it, and in no other.
   module _ (t s : ℕ) where

@@ -7,8 +7,8 @@ use Rattle.dp_tree.specs.Statements.{listed}
 use Rattle.dp_plan.specs.Written.{site_in}
 use Rattle.dp_plan.proofs.Ascent.{Ascends, ascends_split}
 use Rattle.dp_net.specs.Quiet.{is_quiet}
-use Rattle.dp_net.specs.Net.{Marks}
-use Rattle.dp_net.specs.BlockText.{own_site, own_stage, is_hushed, run, past_run, goes_on, if_pays, block_from, run_behind, site_past, sought_inside, sought}
+use Rattle.dp_net.specs.NetItems.{begins, Marks}
+use Rattle.dp_net.specs.BlockText.{own_site, own_stage, is_quiet_own, run, past_run, joins_run, if_pays, block_from, run_behind, site_past, sought_inside, sought}
 use Rattle.dp_net.proofs.Silent.{AllQuiet}
 use Rattle.dp_net.proofs.Texts.{site_at, IsLeaf, Plain, Text, ends, leaf, choice, loop, block, text_join}
 use Rattle.dp_net.proofs.BlockPlaces.{quiet_stage, kept, gone, project_join, project_listed, run_split, run_quiet, run_kept, run_gone}
@@ -25,7 +25,7 @@ sites_split k a b h =
     length_sites [] = refl
     length_sites (x ∷ xs) = ap suc (length_sites xs)
 
-module _ (p : Program) (plan : Plan) (m : Marks) (s : ℕ) (out : (f : ℕ) → m.block_at f ≡ [] → m.inside f ≡ false) where
+module _ (p : Program) (plan : Plan) (m : Marks) (s : ℕ) (out : (f : ℕ) → m.block_at f ≡ [] → begins m f ≡ false) where
   -- no block begins at the n sites from k on
   abbrev NoneFrom : ℕ → ℕ → Type 0
   NoneFrom k n = (f : ℕ) → k ≤ f → f < k + n → m.block_at f ≡ []
@@ -85,7 +85,7 @@ module _ (p : Program) (plan : Plan) (m : Marks) (s : ℕ) (out : (f : ℕ) → 
   -- a statement with sites has the first of them; a call has none
   data Sited (x : Stmt) (k : ℕ) : Type 0 where
     sited : own_site p plan x ≡ k → 0 < length (accesses x) → Sited x k
-    siteless : accesses x ≡ [] → own_site p plan x ≡ 0 → is_hushed p plan x ≡ false → Sited x k
+    siteless : accesses x ≡ [] → own_site p plan x ≡ 0 → is_quiet_own p plan x ≡ false → Sited x k
 
   site_is : (x : Stmt) (h : Stmt-F Stmt) → out-Stmt x ≡ h → own_site p plan x ≡ (site_of h).0
   site_is x h is = ap (λ (g : Stmt-F Stmt). (site_of g).0) is
@@ -117,7 +117,7 @@ module _ (p : Program) (plan : Plan) (m : Marks) (s : ℕ) (out : (f : ℕ) → 
 
       -- behind the statement
       later : Answers (run_behind p plan x) rest (k + length (accesses x))
-      later f low high = answers f (omega (arith, low)) (omega (arith, high, sum)) ∙ ap (λ (c : Bool). if c then (if f == own_site p plan x then block_from p plan pays before x (listed rest) else (if is_hushed p plan x then [] else sought_inside p plan pays f x)) else sought p plan pays f (run_behind p plan x) rest) (past (is_sited x k parts.0))
+      later f low high = answers f (omega (arith, low)) (omega (arith, high, sum)) ∙ ap (λ (c : Bool). if c then (if f == own_site p plan x then block_from p plan pays before x (listed rest) else (if is_quiet_own p plan x then [] else sought_inside p plan pays f x)) else sought p plan pays f (run_behind p plan x) rest) (past (is_sited x k parts.0))
         where
           past : Sited x k → nat_lt f (site_past p plan x) ≡ false
           past (sited at some) = le-ltb f (site_past p plan x) (omega (arith, at, low))
@@ -128,11 +128,11 @@ module _ (p : Program) (plan : Plan) (m : Marks) (s : ℕ) (out : (f : ℕ) → 
       first at some = answers k (omega arith) (omega (arith, some, sum)) ∙ rw (lt-ltb k (site_past p plan x) (omega (arith, at, some)), eq-eqb k (own_site p plan x) (sym at)) refl
 
       -- inside of it
-      within : own_site p plan x ≡ k → (f : ℕ) → k < f → f < k + length (accesses x) → m.block_at f ≡ (if is_hushed p plan x then [] else sought_inside p plan pays f x)
+      within : own_site p plan x ≡ k → (f : ℕ) → k < f → f < k + length (accesses x) → m.block_at f ≡ (if is_quiet_own p plan x then [] else sought_inside p plan pays f x)
       within at f low high = answers f (omega (arith, low)) (omega (arith, high, sum)) ∙ rw (lt-ltb f (site_past p plan x) (omega (arith, at, high)), ne_eqb f (own_site p plan x) (λ e. omega (arith, e, at, low))) refl
 
       -- a quiet statement that begins no block
-      no_block : is_hushed p plan x ≡ true → m.block_at k ≡ [] → own_site p plan x ≡ k → Text m (project p plan s x)
+      no_block : is_quiet_own p plan x ≡ true → m.block_at k ≡ [] → own_site p plan x ≡ k → Text m (project p plan s x)
       no_block q none at = plain_text x k parts.0 (λ f low high. elim (cases_eq f k) [
         | inl e ↦ ap m.block_at e ∙ none
         | inr e ↦ within at f (omega (arith, low, e)) high ∙ ap (λ (c : Bool). if c then [] else sought_inside p plan pays f x) q
@@ -150,16 +150,16 @@ module _ (p : Program) (plan : Plan) (m : Marks) (s : ℕ) (out : (f : ℕ) → 
           behind = project_listed p plan s rest ∙ ap (project_all p plan s) (run_split p plan t (listed rest)) ∙ project_join p plan s (run p plan t (listed rest)) (past_run p plan t (listed rest))
 
       -- the statement and those behind it, from what is so of each
-      at_more : (is_hushed p plan x ≡ false → Text m (project p plan s x)) → ((b : Option ℕ) → Answers b rest (k + length (accesses x)) → Text m (project_in p plan s rest)) →
+      at_more : (is_quiet_own p plan x ≡ false → Text m (project p plan s x)) → ((b : Option ℕ) → Answers b rest (k + length (accesses x)) → Text m (project_in p plan s rest)) →
           ((t : ℕ) → Answers (Some t) rest (k + length (accesses x)) → Text m (project_all p plan s (past_run p plan t (listed rest)))) → Text m (project p plan s x ++ project_in p plan s rest)
-      at_more inner rest_text after_text = elim (cases_Bool (is_hushed p plan x)) [
+      at_more inner rest_text after_text = elim (cases_Bool (is_quiet_own p plan x)) [
         | inr q ↦ text_join m (inner q) (rest_text (run_behind p plan x) later)
-        | inl q ↦ hushed_text q (is_sited x k parts.0)
+        | inl q ↦ quiet_text q (is_sited x k parts.0)
       ]
         where
-          hushed_text : is_hushed p plan x ≡ true → Sited x k → Text m (project p plan s x ++ project_in p plan s rest)
-          hushed_text q (siteless none at quiet) = let clash : true ≡ false = sym q ∙ quiet in absurd (cc clash)
-          hushed_text q (sited at some) = by (goes_on p plan (own_stage p plan x) before) (pays (x ∷ run p plan (own_stage p plan x) (listed rest))) (first at some ∙ rw q refl)
+          quiet_text : is_quiet_own p plan x ≡ true → Sited x k → Text m (project p plan s x ++ project_in p plan s rest)
+          quiet_text q (siteless none at quiet) = let clash : true ≡ false = sym q ∙ quiet in absurd (cc clash)
+          quiet_text q (sited at some) = by (joins_run p plan (own_stage p plan x) before) (pays (x ∷ run p plan (own_stage p plan x) (listed rest))) (first at some ∙ rw q refl)
             where
               alone_text : m.block_at k ≡ [] → Text m (project p plan s x ++ project_in p plan s rest)
               alone_text none = text_join m (no_block q none at) (rest_text (run_behind p plan x) later)
@@ -169,11 +169,11 @@ module _ (p : Program) (plan : Plan) (m : Marks) (s : ℕ) (out : (f : ℕ) → 
               by false false e = alone_text e
               by false true e = block_here (own_stage p plan x) refl q e at (after_text (own_stage p plan x) (subst (λ (o : Option ℕ). Answers o rest (k + length (accesses x))) (ap (λ (c : Bool). if c then Some (own_stage p plan x) else None) q) later))
 
-      own_none : is_hushed p plan x ≡ false → Sited x k → 0 < length (accesses x) → m.block_at k ≡ []
+      own_none : is_quiet_own p plan x ≡ false → Sited x k → 0 < length (accesses x) → m.block_at k ≡ []
       own_none q (sited at some) has = first at has ∙ rw q refl
       own_none q (siteless none at quiet) has = let e = ap length none in absurd (omega (arith, has, e))
 
-      own_within : is_hushed p plan x ≡ false → Sited x k → (f : ℕ) → k < f → f < k + length (accesses x) → m.block_at f ≡ sought_inside p plan pays f x
+      own_within : is_quiet_own p plan x ≡ false → Sited x k → (f : ℕ) → k < f → f < k + length (accesses x) → m.block_at f ≡ sought_inside p plan pays f x
       own_within q (sited at some) f low high = within at f low high ∙ rw q refl
       own_within q (siteless none at quiet) f low high = let e = ap length none in absurd (omega (arith, low, high, e))
 
@@ -182,7 +182,7 @@ module _ (p : Program) (plan : Plan) (m : Marks) (s : ℕ) (out : (f : ℕ) → 
     past_more x rest t k h answers here behind = elim (cases_Bool (is_quiet p plan t x)) [
       | inl q ↦
           let stage : own_stage p plan x ≡ t = quiet_stage p plan t x q in
-          let hush : is_hushed p plan x ≡ true = ap (λ (u : ℕ). is_quiet p plan u x) stage ∙ q in
+          let hush : is_quiet_own p plan x ≡ true = ap (λ (u : ℕ). is_quiet p plan u x) stage ∙ q in
           let same : run_behind p plan x ≡ Some t = ap (λ (c : Bool). if c then Some (own_stage p plan x) else None) hush ∙ ap (λ (u : ℕ). Some u) stage in
           rw q (behind (subst (λ (o : Option ℕ). Answers o rest (k + length (accesses x))) same (later x rest (Some t) k h answers)))
       | inr q ↦ rw q (subst (λ (ys : List Stmt). Text m (project p plan s x ++ ys)) (project_listed p plan s rest) here)

@@ -8,13 +8,17 @@ use Rattle.dp_semantics.specs.Reported.{reported}
 use Rattle.dp_semantics.specs.EpochKey.{EpochKey, epoch_of, epoch_run}
 use Rattle.dp_semantics.specs.EpochVerdicts.{JudgeState, Carried, Verdict, Commit, Again, judgement_in, after_judgement, state_at, judgement_of, carried, verdict_by, verdict_at}
 use Rattle.dp_semantics.specs.EpochCauses.{first_kept, kept_after, next_kept, kept_at}
-use Rattle.dp_net.specs.Net.{Marks}
-use Rattle.dp_net.specs.NetPackets.{NetAgreed, NetPacket, net_passed, net_judge, net_judge_lists, net_judge_status}
-unfoldable use Rattle.dp_net.specs.NetPackets.{net_judge_from}
-use Rattle.dp_net.specs.NetEpochs.{net_judgement_in, net_after_judgement, net_state_at, net_judgement_of, net_carried, net_verdict_by, net_verdict_at, net_next_kept, net_kept_at, SaysTheSame}
+use Rattle.dp_net.specs.NetItems.{Marks}
+use Rattle.dp_net.specs.NetJudge.{NetAgreed, net_judge, net_judge_lists, net_judge_status}
+use Rattle.dp_net.specs.NetPackets.{NetStatus, NetPacket, net_passed}
+unfoldable use Rattle.dp_net.specs.NetJudge.{net_judge_from}
+use Rattle.dp_net.specs.NetVerdicts.{net_judgement_in, net_after_judgement, net_state_at, net_judgement_of, net_carried, net_verdict_by, net_verdict_at, net_next_kept, net_kept_at, SaysTheSame}
+use Rattle.dp_semantics.proofs.Setting.{Accepted}
+use Rattle.dp_net.proofs.StrictEpochs.{CleanTo, clean_less, strict_judgement, judged_same}
 use Rattle.dp_net.proofs.Memories.{Open, Agrees, agrees_self, agree_after, last_of}
 use Rattle.dp_net.proofs.Groups.{all_flats, all_items}
-use Rattle.dp_net.proofs.NetVerdicts.{seen_by, Told, VerdictsAlike, SameVerdict, judge_alike}
+use Rattle.dp_net.proofs.ToldAlike.{seen_by, Told}
+use Rattle.dp_net.proofs.NetVerdicts.{VerdictsAlike, SameVerdict, judge_alike}
 use Rattle.dp_net.proofs.Sent.{Quieted, SameStatus, both_going, both_closing, both_broken, SamePacket, sent_alike, cleared_same}
 
 stores_all : StoresAreAll
@@ -45,7 +49,7 @@ module _ (p : Program) (plan : Plan) where
   kept_is (site ∷ sites) [] views e = absurd (omega (arith, e))
   kept_is (site ∷ sites) (effect ∷ effects) views e = kept_is sites effects _ (omega (arith, e)) ∙ one_shown 1 site effect sites effects views
 
-module _ (key : EpochKey) {m : Marks} {test : Stmt → Bool} (q : Quieted (epoch_of key) m test) where
+module _ (key : EpochKey) (ok : Accepted key.program key.plan) {m : Marks} {test : Stmt → Bool} (q : Quieted (epoch_of key) m test) where
   open key use {program, plan}
 
   abbrev clear : List ℤ → List ℤ
@@ -59,10 +63,10 @@ module _ (key : EpochKey) {m : Marks} {test : Stmt → Bool} (q : Quieted (epoch
           (record { text = q.texts (last plan); steady = q.steady (last plan); agrees = agrees_self m (last plan) cells; good = same.good; made_good = tt; fits = omega arith })
           (record { steps_are = refl; prints = refl; lasts = λ c o. refl; views = λ s c o. refl; sized = refl; net_sized = refl }))
 
-      by : (u w : Status) → SameStatus u w → SameVerdict program plan m (judge_status (judge_lists program plan left cells a.lists) u) (net_judge_status program plan (net_judge_lists program plan m left cells b.lists) w)
+      by : (u : Status) (w : NetStatus) → SameStatus u w → SameVerdict program plan m (judge_status (judge_lists program plan left cells a.lists) u) (net_judge_status program plan (net_judge_lists program plan m left cells b.lists) w)
       by u w both_going = lists
       by u w both_closing = lists
-      by u w (both_broken s why other) = tt
+      by u w (both_broken s why) = tt
 
   -- behind both the memory is the same, and so are the memories that the stages see
   cells_alike : (a : Agreed) (b : NetAgreed) → VerdictsAlike program plan m a b → (cells : List ℤ) → clear (applied b.effects cells) ≡ clear (applied a.effects cells)
@@ -79,7 +83,7 @@ module _ (key : EpochKey) {m : Marks} {test : Stmt → Bool} (q : Quieted (epoch
   kept_alike a b v kept = ap (map clear) (kept_is program plan b.sites b.effects kept v.told.net_sized) ∙ views_alike a b v 1 kept ∙ ap (map clear) (sym (kept_is program plan a.sites a.effects kept v.told.sized))
 
   -- the judgements from the same state
-  from_state : (n : ℕ) (s : JudgeState) → SameVerdict program plan m (judgement_in key n s) (net_judgement_in m key n s)
+  from_state : (n : ℕ) (s : JudgeState) → SameVerdict program plan m (strict_judgement key ok n s) (net_judgement_in m key n s)
   from_state n s = judged_alike (key.fuel - s.steps) s.cells _ _ (sent_alike q (length plan.stages) n).packet
 
   state_by : (s : JudgeState) (j : Judgement) (o : Option NetAgreed) → SameVerdict program plan m j o → net_after_judgement m key s o ≡ after_judgement key s j
@@ -94,25 +98,32 @@ module _ (key : EpochKey) {m : Marks} {test : Stmt → Bool} (q : Quieted (epoch
   kept_by kept (Clean a) None v = absurd v
   kept_by kept Unclean (Some b) v = absurd v
 
-  -- The judging stands where the definition's does, iteration after iteration.
-  pub states_alike : (n : ℕ) → net_state_at m key n ≡ state_at key n
-  states_alike zero = refl
-  states_alike (suc n) = rw (states_alike n) (state_by (state_at key n) _ _ (from_state n (state_at key n)))
+  -- .. behind clean ones
+  judged_at : (n : ℕ) → CleanTo key ok n → SameVerdict program plan m (judgement_of key n) (net_judgement_in m key n (state_at key n))
+  judged_at n c = subst (λ (j : Judgement). SameVerdict program plan m j (net_judgement_in m key n (state_at key n))) (judged_same key ok n c) (from_state n (state_at key n))
 
-  judgements_alike : (n : ℕ) → SameVerdict program plan m (judgement_of key n) (net_judgement_of m key n)
-  judgements_alike n = rw (states_alike n) (from_state n (state_at key n))
+  before : (n : ℕ) → CleanTo key ok (suc n) → CleanTo key ok n
+  before n c = clean_less key ok n (suc n) (omega arith) c
+
+  -- The judging stands where the definition's does, iteration after iteration.
+  pub states_alike : (n : ℕ) → CleanTo key ok n → net_state_at m key n ≡ state_at key n
+  states_alike zero c = refl
+  states_alike (suc n) c = rw (states_alike n (before n c)) (state_by (state_at key n) _ _ (judged_at n (before n c)))
+
+  pub judgements_alike : (n : ℕ) → CleanTo key ok n → SameVerdict program plan m (judgement_of key n) (net_judgement_of m key n)
+  judgements_alike n c = rw (states_alike n c) (judged_at n c)
 
   -- .. and what is kept for a search of causes is the same
-  pub all_kept_alike : (n : ℕ) → net_kept_at m key n ≡ kept_at key n
-  all_kept_alike zero = refl
-  all_kept_alike (suc n) = rw (all_kept_alike n) (kept_by (kept_at key n) _ _ (judgements_alike n))
+  pub all_kept_alike : (n : ℕ) → CleanTo key ok n → net_kept_at m key n ≡ kept_at key n
+  all_kept_alike zero c = refl
+  all_kept_alike (suc n) c = rw (all_kept_alike n (before n c)) (kept_by (kept_at key n) _ _ (judgements_alike n (before n c)))
 
-  verdict_alike : (n : ℕ) (j : Judgement) (o : Option NetAgreed) → SameVerdict program plan m j o → SaysTheSame m key (verdict_by key n j) (net_verdict_by m key n o)
+  verdict_alike : (n : ℕ) (j : Judgement) (o : Option NetAgreed) → SameVerdict program plan m j o → SaysTheSame key (verdict_by key n j) (net_verdict_by m key n o)
   verdict_alike n (Clean a) (Some b) v = (sym v.told.prints, sym v.told.steps_are, v.closing, λ cells. ap clear (sym (stores_all b.effects cells)) ∙ cells_alike a b v cells ∙ ap clear (stores_all a.effects cells))
   verdict_alike n Unclean None v = refl
   verdict_alike n (Clean a) None v = absurd v
   verdict_alike n Unclean (Some b) v = absurd v
 
   -- The verdict on each iteration says the same.
-  pub verdicts_alike : (n : ℕ) → SaysTheSame m key (verdict_at key n) (net_verdict_at m key n)
-  verdicts_alike n = verdict_alike n _ _ (judgements_alike n)
+  pub verdicts_alike : (n : ℕ) → CleanTo key ok n → SaysTheSame key (verdict_at key n) (net_verdict_at m key n)
+  verdicts_alike n c = verdict_alike n _ _ (judgements_alike n c)

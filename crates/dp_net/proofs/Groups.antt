@@ -4,7 +4,8 @@ use Rattle.dp_semantics.specs.Words.{Astray, done_from, taken_by, is_load}
 use Rattle.dp_semantics.proofs.Each.{Each, each_join}
 use Rattle.dp_semantics.proofs.Ways.{Goes, stays, goes, event_of}
 use Rattle.dp_semantics.proofs.Taking.{word_list_is}
-use Rattle.dp_net.specs.Net.{Marks, net_of, Item, Said, Net, weight, weights, items_in, item_list, behind_loads, NetTaken, net_taken_by, net_done_from, net_taken_from, said_all, NetTurn, net_met}
+use Rattle.dp_net.specs.NetItems.{begins, Marks, net_of, Item, Said, Net, weight, weights, items_in, item_list, behind_loads, NetTaken, net_taken_by, net_done_from, net_taken_from, said_all}
+use Rattle.dp_net.specs.NetRun.{NetTurn, net_met}
 use Rattle.dp_net.proofs.Silent.{AllQuiet}
 use Rattle.dp_net.proofs.Blocks.{said, said_length, effects_of}
 
@@ -90,7 +91,7 @@ module _ (p : Program) (plan : Plan) (m : Marks) where
     pub record Marked : Type 0 where
       pub quiet : (f : ℕ) (x : Stmt) (b : List Stmt) → m.block_at f ≡ x ∷ b → AllQuiet p plan (stage_of p plan f) (x ∷ b)
       pub named : (f : ℕ) (x : Stmt) (b : List Stmt) → m.block_at f ≡ x ∷ b → (site_of (out-Stmt x)).0 ≡ f
-      pub within : (f : ℕ) (x : Stmt) (b : List Stmt) → m.block_at f ≡ x ∷ b → m.inside f ≡ true
+      pub within : (f : ℕ) (x : Stmt) (b : List Stmt) → m.block_at f ≡ x ∷ b → begins m f ≡ true
 
     -- these are the events of the whole block
     pub record Whole (f : ℕ) (events : List Event) : Type 0 where
@@ -102,7 +103,7 @@ module _ (p : Program) (plan : Plan) (m : Marks) where
       pub path : Goes p input (x ∷ b) cells events [] after
 
     abbrev pub Good : Group → Type 0
-    Good (One w) = (m.inside w.site.0 ≡ false) × (is_load w.kind ≡ true → (u : ℕ) → m.hides u w.index ≡ false)
+    Good (One w) = (begins m w.site.0 ≡ false) × (is_load w.kind ≡ true → (u : ℕ) → m.hides u w.index ≡ false)
     Good (Block f events) = Whole f events
 
     record First (x : Stmt) (events : List Event) : Type 0 where
@@ -123,7 +124,7 @@ module _ (p : Program) (plan : Plan) (m : Marks) where
       pub first_word : (f : ℕ) (events : List Event) → Whole f events → (event : Event) × (more : List Event) × (events ≡ event ∷ more) × (event.site ≡ f)
       first_word f events w = let r = first_event w.path w.x w.b refl refl in (r.event, r.more, r.is, r.site ∙ marked.named f w.x w.b w.at)
 
-      pub is_within : (f : ℕ) (events : List Event) → Whole f events → m.inside f ≡ true
+      pub is_within : (f : ℕ) (events : List Event) → Whole f events → begins m f ≡ true
       is_within f events w = marked.within f w.x w.b w.at
 
       -- past the loads at the front
@@ -158,7 +159,7 @@ module _ (p : Program) (plan : Plan) (m : Marks) where
       by_effect site w gs g None = none (Astray site (Some w))
       by_effect site w gs g (Some effect) = both effect gs g
 
-      done_alike : (head : Stmt-F Stmt) → m.inside (site_of head).0 ≡ false → (gs : List Group) → Each Good gs → Alike (done_from p head (flats gs)) (net_done_from p head (items gs))
+      done_alike : (head : Stmt-F Stmt) → begins m (site_of head).0 ≡ false → (gs : List Group) → Each Good gs → Alike (done_from p head (flats gs)) (net_done_from p head (items gs))
       done_alike head out [] g = none (Astray (site_of head).0 None)
       done_alike head out (One w ∷ gs) g = by (is_done_of (site_of head).0 w)
         where
@@ -167,13 +168,13 @@ module _ (p : Program) (plan : Plan) (m : Marks) where
           by false = none (Astray (site_of head).0 (Some w))
       done_alike head out (Block f events ∷ gs) g =
           let r = first_word f events g.0 in
-          let apart : (r.0.site == (site_of head).0) ≡ false = ne_eqb r.0.site (site_of head).0 (λ e. differ (sym (is_within f events g.0) ∙ ap m.inside (sym r.3 ∙ e) ∙ out)) in
+          let apart : (r.0.site == (site_of head).0) ≡ false = ne_eqb r.0.site (site_of head).0 (λ e. differ (sym (is_within f events g.0) ∙ ap (begins m) (sym r.3 ∙ e) ∙ out)) in
           subst (λ (u : Result Taken Void). Alike u None) (sym (ap (λ (es : List Event). done_from p head (said es ++ flats gs)) r.2 ∙ rw apart refl)) (none (Astray (site_of head).0 (Some (done_word r.0.site r.0.effect))))
         where
           differ : true ≡ false → ⊥
           differ e = absurd (cc e)
 
-      pub taken_alike : (head : Stmt-F Stmt) → m.inside (site_of head).0 ≡ false → (gs : List Group) → Each Good gs → Alike (taken_from p head (flats gs)) (net_taken_from p head (items gs))
+      pub taken_alike : (head : Stmt-F Stmt) → begins m (site_of head).0 ≡ false → (gs : List Group) → Each Good gs → Alike (taken_from p head (flats gs)) (net_taken_from p head (items gs))
       taken_alike head out gs g =
           subst (λ (ws : List Word). Alike (done_from p head ws) (net_taken_from p head (items gs))) (sym (skip_words (site_of head).0 gs g))
           (subst (λ (is : List Item). Alike (done_from p head (flats (skip (site_of head).0 gs))) (net_done_from p head is)) (sym (skip_items (site_of head).0 gs)) (done_alike head out (skip (site_of head).0 gs) (skip_good (site_of head).0 gs g)))
@@ -195,10 +196,10 @@ module _ (p : Program) (plan : Plan) (m : Marks) where
         other : ((head : Stmt-F Stmt) → (site_of head).0 ≡ f → (why : Void) × (taken_from p head (flats gs) ≡ Err why)) →
             Missing f (items gs) → Meets f gs
 
-      pub meets : (f : ℕ) → m.inside f ≡ true → (gs : List Group) → Each Good gs → Meets f gs
+      pub meets : (f : ℕ) → begins m f ≡ true → (gs : List Group) → Each Good gs → Meets f gs
       meets f in_f [] g = other (λ head at. (_, refl)) tt
       meets f in_f (One w ∷ gs) g =
-          let apart : (w.site.0 == f) ≡ false = ne_eqb w.site.0 f (λ e. differ (sym in_f ∙ ap m.inside (sym e) ∙ g.0.0)) in
+          let apart : (w.site.0 == f) ≡ false = ne_eqb w.site.0 f (λ e. differ (sym in_f ∙ ap (begins m) (sym e) ∙ g.0.0)) in
           other (λ head at. (Astray (site_of head).0 (Some w), rw (at, apart) (rw (at, apart) refl))) tt
         where
           differ : true ≡ false → ⊥

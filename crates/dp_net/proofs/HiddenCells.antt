@@ -11,14 +11,15 @@ use Rattle.dp_semantics.proofs.Setting.{Laid, Sound, head_access}
 use Rattle.dp_semantics.proofs.Evaluation.{InVar, Roomy, head_loads, head_stores}
 use Rattle.dp_semantics.proofs.Followed.{Parts}
 use Rattle.dp_net.specs.Quiet.{is_quiet}
-use Rattle.dp_net.specs.Net.{Marks}
-use Rattle.dp_net.specs.BlockText.{own_site, own_stage, is_hushed, run, goes_on, if_pays, block_from, run_behind, site_past, sought_inside, sought}
-use Rattle.dp_net.specs.Hidden.{loads_var, touches, home, at_home, is_private, is_hidden_by, is_hidden, is_nil, block_in, marks_of}
+use Rattle.dp_net.specs.NetItems.{Marks}
+use Rattle.dp_net.specs.BlockText.{own_site, own_stage, is_quiet_own, run, joins_run, if_pays, block_from, run_behind, site_past, sought_inside, sought}
+use Rattle.dp_net.specs.Hidden.{loads_var, home, at_home, is_private, is_hidden_by, is_hidden, block_in, marks_of}
+use Rattle.dp_net.specs.NetItems.{is_nil}
 use Rattle.dp_net.proofs.Silent.{AllQuiet}
 use Rattle.dp_net.proofs.Memories.{Open}
 use Rattle.dp_net.proofs.Groups.{Marked}
 use Rattle.dp_net.proofs.BlockPlaces.{run_quiet}
-use Rattle.dp_net.proofs.NetRuns.{Ready}
+use Rattle.dp_net.proofs.Ready.{Ready}
 
 module _ (p : Program) (plan : Plan) where
   numbers : List ℕ
@@ -122,10 +123,9 @@ module _ (p : Program) (plan : Plan) where
           let k = hidden_by u c (ap (λ (f : ℕ → ℕ → Bool). f u c) (sym hides_is) ∙ e) in
           let same : k.x ≡ y = laid.apart k.x y c k.inside in_y in
           let at = either (is_private p plan k.x) (at_home p plan k.x (head_access h)) (k.among (is_clear (head_access h)) rest_of.1) k.private_ in
-          let both = and_parts _ _ at in
           let loads : loads_var p plan k.x (head_access h) ≡ true = ap (λ (n : ℕ). list_any (λ z. z == n) (head_loads h)) same ∙ loaded in
-          let touched : touches p plan k.x (head_access h) ≡ true = ap (λ (b : Bool). b || stores_var k.x (head_access h)) loads in
-          (eqb-true _ _ (either (touches p plan k.x (head_access h)) _ both.0 touched) ∙ k.stage, is_not (is_checked p plan (site_of h).0) (either (loads_var p plan k.x (head_access h)) _ both.1 loads))
+          let both = and_parts (stage_of p plan (site_of h).0 == home p plan k.x) (not (is_checked p plan (site_of h).0)) (either (loads_var p plan k.x (head_access h)) _ at loads) in
+          (eqb-true _ _ both.0 ∙ k.stage, is_not (is_checked p plan (site_of h).0) both.1)
         where
           is_not : (b : Bool) → not b ≡ true → b ≡ false
           is_not true e = absurd (cc)

@@ -1,7 +1,7 @@
 -- Memories that agree but for cells that other stages hide, and what net stores make of them.
 use Rattle.dp_semantics.proofs.Names.{◌≡◌, ◌⊎◌, inl, inr, refl, sym, ap, ◌∙◌, subst, ℕ, zero, suc, ◌+◌, ◌-◌, ◌<◌, ◌≤◌, ◌==◌, Bool, true, false, not, ◌&&◌, ◌||◌, if◌then◌else◌, List, [], ◌∷◌, ◌++◌, ℤ, pos, length, length-set, Option, Some, None, unwrap_or, arith, eq-eqb, eqb-true, ne_eqb, slice_set, get_or, get_or_past, get_or-set_other, get_or-set_at, list_any, cases_Bool, cases_eq, cases_lt, or_parts, Effect, Stored, Printed, Decided, Tried, stored, applied}
 use Rattle.std.specs.Option.{option_or}
-use Rattle.dp_net.specs.Net.{Marks, stores_into, put, told_after, net_behind, net_of}
+use Rattle.dp_net.specs.NetItems.{Marks, stores_into, put, told_after, net_behind, net_of}
 
 -- the effects stored as many cells
 pub stored_size : (e : Effect) (cells : List ℤ) → length (stored e cells) ≡ length cells

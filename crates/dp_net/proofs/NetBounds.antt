@@ -1,10 +1,12 @@
 -- The bound of a turn's steps over items never decides, whatever the lists are: each step adds weight, or takes some.
+use Rattle.dp_semantics.specs.Clean.{event_as_assumed}
 use Rattle.dp_semantics.proofs.Names.{◌≡◌, inl, inr, refl, sym, ap, ◌∙◌, arith, length-append, ℕ, zero, suc, ◌+◌, ◌-◌, ◌<◌, ◌≤◌, ◌==◌, ◌++◌, ◌&&◌, Bool, true, false, if◌then◌else◌, List, [], ◌∷◌, length, drop, map, ℤ, Option, Some, None, Ok, Err, nat_le, nat_lt, leb-true, ltb-true, sum_by, sum_by-cons, sum_by-set, slice_set, get_or, get_or_past, cases_lt, cases_Bool, and_parts, Stmt, Stmt-F, out-Stmt, Program, Plan, Word, Evaluated, evaluated, Event, Effect, site_of, value_of, stored, followed, stage_of, words_of, effect_by, is_load_of, is_done_of, applied}
 use Rattle.dp_semantics.proofs.Shorter.{some_word}
 use Rattle.dp_net.specs.Quiet.{Outcome, Through, Broke, with_event, quiet_by}
 unfoldable use Rattle.dp_net.specs.Quiet.{quiet_from}
-use Rattle.dp_net.specs.Net.{Marks, Item, Said, Net, weight, weights, net_of, item_list, behind_loads, NetTaken, net_taken_by, net_done_from, net_taken_from, NetTurn, NetEnded, said_all, net_turned, net_produced, net_own_step, net_consumed, net_consumed_step, items_left, net_past, net_made, net_met, word_step, block_step, net_by, net_at, net_step, net_step_by, net_begin, net_run}
-unfoldable use Rattle.dp_net.specs.Net.{net_from}
+use Rattle.dp_net.specs.NetItems.{Marks, Item, Said, Net, weight, weights, net_of, item_list, behind_loads, NetTaken, net_taken_by, net_done_from, net_taken_from, said_all}
+use Rattle.dp_net.specs.NetRun.{NetTurn, NetEnded, net_turned, net_produced, net_own_step, net_consumed, net_consumed_step, items_left, net_past, net_made, net_met, word_step, block_step, net_by, net_at, net_step, net_step_by, net_begin, net_run}
+unfoldable use Rattle.dp_net.specs.NetRun.{net_from}
 use Rattle.dp_net.proofs.Groups.{item_list_is}
 
 weights_join : (a b : List Item) → weights (a ++ b) ≡ weights a + weights b
@@ -62,7 +64,7 @@ module _ (p : Program) (plan : Plan) (m : Marks) where
       left : plan.words + sum_by weights c.lists < n + weights c.own
 
     -- a block that comes to its end has made a step, and no more than it may
-    made_some : (n : ℕ) (x : Stmt) (rest : List Stmt) (cells : List ℤ) (events : List Event) (after : List ℤ) → quiet_from p input n (x ∷ rest) cells ≡ Through events after → 0 < length events
+    pub made_some : (n : ℕ) (x : Stmt) (rest : List Stmt) (cells : List ℤ) (events : List Event) (after : List ℤ) → quiet_from p input n (x ∷ rest) cells ≡ Through events after → 0 < length events
     unfolding quiet_from
     made_some zero x rest cells events after e = absurd (cc e)
     made_some (suc n) x rest cells events after e = by (evaluated p input cells (out-Stmt x)) e
@@ -81,25 +83,29 @@ module _ (p : Program) (plan : Plan) (m : Marks) where
     module _ (n : ℕ) (c : NetTurn) (enough : Enough (suc n) c) (x : Stmt) (rest : List Stmt) where
       own_left : (d : NetTurn) (r : Evaluated Effect) → net_own_step p plan c x rest (out-Stmt x) r ≡ Some d → Enough n d
       own_left d (Err kind) e = absurd (cc e)
-      own_left d (Ok v) e = elim (cases_Bool (nat_le (weights c.own + length ws) plan.words)) [
-        | inl q ↦
-            let is : net_turned p plan c x rest (out-Stmt x) v.value (c.own ++ said_all ws) c.lists ≡ d = cc (rw q at e) in
-            let low = leb-true (weights c.own + length ws) plan.words q in
-            let own_is : weights (c.own ++ said_all ws) ≡ weights d.own = ap (λ (t : NetTurn). weights t.own) is in
-            let lists_are : sum_by weights c.lists ≡ sum_by weights d.lists = ap (λ (t : NetTurn). sum_by weights t.lists) is in
-            let join = weights_join c.own (said_all ws) in
-            let said = weights_said ws in
-            let some = some_word p plan event in
-            let left = enough.left in
-            record { fits = omega (arith, low, own_is, join, said); left = omega (arith, left, own_is, join, said, some, lists_are) }
-        | inr q ↦ let clash : None ≡ Some d = rw q at e in absurd (cc clash)
-      ]
+      own_left d (Ok v) e = by (event_as_assumed p plan event && nat_le (weights c.own + length ws) plan.words) refl e
         where
           event : Event
           event = record { site = (site_of (out-Stmt x)).0; loads = v.loads; effect = v.value }
 
           ws : List Word
           ws = words_of p plan event
+
+          then_items : NetTurn
+          then_items = net_turned p plan c x rest (out-Stmt x) v.value (c.own ++ said_all ws) c.lists
+
+          by : (b : Bool) → (event_as_assumed p plan event && nat_le (weights c.own + length ws) plan.words) ≡ b → (if b then Some then_items else None) ≡ Some d → Enough n d
+          by true q e =
+              let is : then_items ≡ d = cc e in
+              let low = leb-true (weights c.own + length ws) plan.words (and_parts (event_as_assumed p plan event) (nat_le (weights c.own + length ws) plan.words) q).1 in
+              let own_is : weights (c.own ++ said_all ws) ≡ weights d.own = ap (λ (t : NetTurn). weights t.own) is in
+              let lists_are : sum_by weights c.lists ≡ sum_by weights d.lists = ap (λ (t : NetTurn). sum_by weights t.lists) is in
+              let join = weights_join c.own (said_all ws) in
+              let said = weights_said ws in
+              let some = some_word p plan event in
+              let left = enough.left in
+              record { fits = omega (arith, low, own_is, join, said); left = omega (arith, left, own_is, join, said, some, lists_are) }
+          by false q e = absurd (cc e)
 
       taken_left : (d : NetTurn) (r : Option NetTaken) → net_taken_from p (out-Stmt x) (items_left p plan c (site_of (out-Stmt x)).0) ≡ r → net_consumed_step p plan c x rest (out-Stmt x) r ≡ Some d → Enough n d
       taken_left d None is e = absurd (cc e)

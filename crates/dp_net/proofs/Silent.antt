@@ -42,7 +42,7 @@ module _ (p : Program) (plan : Plan) (t : ℕ) where
   AllQuiet xs = all_quiet xs ≡ true
 
   -- what is known of a quiet head
-  pub record Hushed (h : Stmt-F Stmt) : Type 0 where
+  pub record QuietHead (h : Stmt-F Stmt) : Type 0 where
     pub stage : stage_of p plan (site_of h).0 ≡ t
     pub unchecked : is_checked p plan (site_of h).0 ≡ false
     pub inner : ((site_of h).0 == first_site p plan) ≡ false
@@ -58,8 +58,8 @@ module _ (p : Program) (plan : Plan) (t : ℕ) where
   is_not true e = absurd (cc)
   is_not false e = refl
 
-  hushed_by : (h : Stmt-F Stmt) → quiet_own h ≡ true → Parts AllQuiet h → ((z : ℤ) → taken h z ≡ false) → ((z : ℤ) → Form p h (Tried z) → ⊥) → ((z : ℤ) → Form p h (Printed z) → ⊥) → Hushed h
-  hushed_by h q parts onward tries mute =
+  known_quiet_by : (h : Stmt-F Stmt) → quiet_own h ≡ true → Parts AllQuiet h → ((z : ℤ) → taken h z ≡ false) → ((z : ℤ) → Form p h (Tried z) → ⊥) → ((z : ℤ) → Form p h (Printed z) → ⊥) → QuietHead h
+  known_quiet_by h q parts onward tries mute =
       let both = and_parts (is_quiet_site p plan t (site_of h).0) (list_all (has_cell p) (head_loads h) && stores_known p (head_stores h)) q in
       let one = and_parts (stage_of p plan (site_of h).0 == t) (not (is_checked p plan (site_of h).0) && (not ((site_of h).0 == first_site p plan) && not (list_any (is_assumed_at (site_of h).0) plan.assume))) both.0 in
       let two = and_parts (not (is_checked p plan (site_of h).0)) (not ((site_of h).0 == first_site p plan) && not (list_any (is_assumed_at (site_of h).0) plan.assume)) one.1 in
@@ -78,18 +78,18 @@ module _ (p : Program) (plan : Plan) (t : ℕ) where
         mute = mute;
       }
 
-  pub hushed : (h : Stmt-F Stmt) → quiet_head h ≡ true → Hushed h
-  hushed (Assign site x e) q = hushed_by (Assign site x e) q tt (λ z. refl) (λ z f. f) (λ z f. f)
-  hushed (Store site x index e) q = hushed_by (Store site x index e) q tt (λ z. refl) (λ z f. f) (λ z f. f)
-  hushed (If site cond a b) q =
+  pub known_quiet : (h : Stmt-F Stmt) → quiet_head h ≡ true → QuietHead h
+  known_quiet (Assign site x e) q = known_quiet_by (Assign site x e) q tt (λ z. refl) (λ z f. f) (λ z f. f)
+  known_quiet (Store site x index e) q = known_quiet_by (Store site x index e) q tt (λ z. refl) (λ z f. f) (λ z f. f)
+  known_quiet (If site cond a b) q =
       let both = and_parts (quiet_own (If site cond a b)) (all_quiet a && all_quiet b) q in
-      hushed_by (If site cond a b) both.0 (and_parts (all_quiet a) (all_quiet b) both.1) (λ z. refl) (λ z f. f) (λ z f. f)
-  hushed (While site cond a) q =
+      known_quiet_by (If site cond a b) both.0 (and_parts (all_quiet a) (all_quiet b) both.1) (λ z. refl) (λ z f. f) (λ z f. f)
+  known_quiet (While site cond a) q =
       let both = and_parts (quiet_own (While site cond a)) (all_quiet a) q in
-      hushed_by (While site cond a) both.0 both.1 (λ z. refl) (λ z f. f) (λ z f. f)
-  hushed _ q = absurd (cc)
+      known_quiet_by (While site cond a) both.0 both.1 (λ z. refl) (λ z f. f) (λ z f. f)
+  known_quiet _ q = absurd (cc)
 
-  module _ (h : Stmt-F Stmt) (q : Hushed h) where
+  module _ (h : Stmt-F Stmt) (q : QuietHead h) where
     room : (o : Option ℕ) → stores_known p o ≡ true → Roomy p o
     room None e = tt
     room (Some x) e = ltb-true 0 _ e

@@ -1,7 +1,7 @@
 -- The text of a stage with its blocks, and what follows a head that isn't of a block.
 use Rattle.dp_semantics.proofs.Names.{◌≡◌, ◌⊎◌, inl, inr, refl, sym, ap, ◌∙◌, subst, append_assoc, ℕ, Bool, true, false, not, if◌then◌else◌, List, [], ◌∷◌, ◌++◌, ℤ, length, Option, Some, None, is_zero, cases_Bool, and_parts, Expr, SiteId, Stmt, out-Stmt, Stmt-F, Assign, Store, Print, If, While, Region, Break, Call, Program, Plan, site_of, followed, choose, behind_region, behind_one, region_number, stage_of}
 use Rattle.dp_net.specs.Quiet.{is_quiet}
-use Rattle.dp_net.specs.Net.{Marks}
+use Rattle.dp_net.specs.NetItems.{begins, Marks}
 use Rattle.dp_net.proofs.Silent.{all_quiet, AllQuiet, quiet_head, quiet_out}
 use Rattle.dp_net.proofs.Groups.{Marked}
 
@@ -19,7 +19,7 @@ IsLeaf _ = ⊥
 module _ (m : Marks) where
   -- no block begins with the statement, and it stands in none
   abbrev pub Plain : Stmt → Type 0
-  Plain x = (m.block_at (site_at x) ≡ []) × (m.inside (site_at x) ≡ false)
+  Plain x = (m.block_at (site_at x) ≡ []) × (begins m (site_at x) ≡ false)
 
   -- statements one by one, each whole block standing together
   pub data Text : List Stmt → Type 0 where

@@ -10,15 +10,17 @@ use Rattle.dp_plan.specs.Access.{stage_of, accesses, accesses_in}
 use Rattle.dp_net.specs.Quiet.{is_quiet}
 
 module _ (p : Program) (plan : Plan) where
+  -- the statement's own site
   abbrev pub own_site : Stmt → ℕ
   own_site x = (site_of (out-Stmt x)).0
 
+  -- .. and the stage of it
   abbrev pub own_stage : Stmt → ℕ
   own_stage x = stage_of p plan (own_site x)
 
   -- quiet in the stage of its own site
-  abbrev pub is_hushed : Stmt → Bool
-  is_hushed x = is_quiet p plan (own_stage x) x
+  abbrev pub is_quiet_own : Stmt → Bool
+  is_quiet_own x = is_quiet p plan (own_stage x) x
 
   -- the front that is quiet in stage t
   abbrev pub run : ℕ → List Stmt → List Stmt
@@ -32,23 +34,27 @@ module _ (p : Program) (plan : Plan) where
 
   -- the stage of the run that the statement is of
   abbrev pub run_behind : Stmt → Option ℕ
-  run_behind x = if is_hushed x then Some (own_stage x) else None
+  run_behind x = if is_quiet_own x then Some (own_stage x) else None
 
   -- the first site behind the statement
   abbrev pub site_past : Stmt → ℕ
   site_past x = own_site x + length (accesses x)
 
-  abbrev pub goes_on : ℕ → Option ℕ → Bool
-  goes_on t None = false
-  goes_on t (Some u) = t == u
+  -- a statement that is quiet in stage t joins the run in front of it, if that is of the same stage
+  abbrev pub joins_run : ℕ → Option ℕ → Bool
+  joins_run t None = false
+  joins_run t (Some u) = t == u
 
 module _ (p : Program) (plan : Plan) (pays : List Stmt → Bool) where
+  -- the run, where it pays to tell it as a block
   abbrev pub if_pays : List Stmt → List Stmt
   if_pays block = if pays block then block else []
 
   -- the block that begins with the statement, behind one of a run of this stage
   abbrev pub block_from : Option ℕ → Stmt → List Stmt → List Stmt
-  block_from before x rest = if is_hushed p plan x then (if goes_on p plan (own_stage p plan x) before then [] else if_pays (x ∷ run p plan (own_stage p plan x) rest)) else []
+  block_from before x rest =
+      if is_quiet_own p plan x then (if joins_run p plan (own_stage p plan x) before then [] else if_pays (x ∷ run p plan (own_stage p plan x) rest))
+      else []
 
   module _ (f : ℕ) where
     abbrev mutual
@@ -63,5 +69,6 @@ module _ (p : Program) (plan : Plan) (pays : List Stmt → Bool) where
       pub sought : {n : _} → Option ℕ → Row_of-Stmt n → List Stmt
       sought before end_of-Stmt = []
       sought before (more_of-Stmt x rest) =
-          if nat_lt f (site_past p plan x) then (if f == own_site p plan x then block_from before x (listed rest) else (if is_hushed p plan x then [] else sought_inside x))
+          if nat_lt f (site_past p plan x)
+          then (if f == own_site p plan x then block_from before x (listed rest) else (if is_quiet_own p plan x then [] else sought_inside x))
           else sought (run_behind p plan x) rest

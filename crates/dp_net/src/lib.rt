@@ -1,20 +1,12 @@
-//! Scratch: what a pipeline may send where blocks of quiet statements are told by their net stores alone.
+//! What a pipeline may send where stages tell blocks of quiet statements by their net stores, and iterations go in batches.
 //!
-//! `specs/` has the definitions: which statements are quiet, where their blocks stand, what stages send and how it is judged.
-//! The law is that nothing changes of what is decided.
+//! `specs/` has the definitions: which statements are quiet, where their blocks stand, what the stages send, and how it is judged, one iteration or several at a time.
+//! The laws are that what is decided stays, and that each list of a packet is what following the text asks for.
 #![tactic(auto)]
 
-ghost use Rattle.std.specs.Prelude.{◌≡◌, true};
-ghost use Rattle.dp_tree.specs.Inlined.{IsInlined};
-ghost use Rattle.dp_semantics.specs.Fits.{fits_plan};
-ghost use Rattle.dp_net.specs.NetEpochs.{NetIsRight};
+mod law;
 
-use dp_plan::Plan;
-use dp_tree::Program;
-
-/// The verdicts by net stores say what the definition's verdicts say.
-pub fn net_verdicts_are_the_definitions(p: &Program, plan: &Plan)
-    requires inlined { IsInlined p.now }
-    requires fits { fits_plan p.now plan.now ≡ true }
-    ensures { NetIsRight p.now plan.now }
-{}
+pub use law::{
+    batch_verdicts_are_the_definitions, net_items_follow_the_text,
+    net_verdicts_are_the_definitions,
+};

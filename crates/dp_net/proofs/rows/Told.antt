@@ -14,9 +14,11 @@ use Rattle.dp_semantics.specs.Packets.{Epoch}
 use Rattle.dp_semantics.specs.EpochKey.{EpochKey}
 use Rattle.dp_semantics.specs.EpochVerdicts.{Verdict, Commit, Again}
 use Rattle.dp_net.specs.Quiet.{quiet_from}
-use Rattle.dp_net.specs.Net.{Item, Said, Net, net_from}
-use Rattle.dp_net.specs.NetPackets.{net_passed, net_judge_from}
-use Rattle.dp_net.specs.NetEpochs.{net_verdict_at}
+use Rattle.dp_net.specs.NetItems.{Item, Said, Net}
+use Rattle.dp_net.specs.NetRun.{net_from}
+use Rattle.dp_net.specs.NetPackets.{net_passed}
+use Rattle.dp_net.specs.NetJudge.{net_judge_from}
+use Rattle.dp_net.specs.NetVerdicts.{net_verdict_at}
 use Rattle.dp_net.specs.Hidden.{marks_of}
 
 -- the stores to a[0] in stage 2
