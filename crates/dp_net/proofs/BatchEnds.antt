@@ -1,11 +1,11 @@
 -- The last packet of a batch that ends early isn't judged to go on.
-use Rattle.dp_semantics.proofs.Names.{◌≡◌, refl, sym, ap, ◌∙◌, ℕ, Bool, true, false, not, length, Option, Some, None, Stmt, Program, Plan, Judgement, Agreed, Clean, Unclean, Status, Going, Closing, Broken}
+use Rattle.dp_semantics.proofs.Names.{◌≡◌, refl, sym, ap, ◌∙◌, ℕ, Bool, true, false, not, length, Option, Some, None, Stmt, Judgement, Clean, Unclean, Status, Closing}
 use Rattle.dp_semantics.specs.EpochKey.{EpochKey, epoch_of}
 use Rattle.dp_semantics.specs.EpochVerdicts.{goes_on, judgement_of}
 use Rattle.dp_semantics.proofs.Setting.{Accepted}
 use Rattle.dp_net.specs.NetItems.{Marks}
 use Rattle.dp_net.specs.NetPackets.{NetStatus, NetGoing, NetClosing, NetVoid, NetPacket, net_passed}
-use Rattle.dp_net.specs.NetJudge.{NetAgreed, net_judge_lists, net_judge_status}
+use Rattle.dp_net.specs.NetJudge.{NetAgreed, net_judge_status}
 use Rattle.dp_net.specs.NetVerdicts.{net_verdict_at, net_verdict_by, net_judgement_of}
 use Rattle.dp_net.specs.Batches.{is_onward, ends_batch}
 use Rattle.dp_net.proofs.Strict.{strict_passed}

@@ -1,10 +1,10 @@
 -- What is decided of a batch follows from the verdicts on its iterations.
-use Rattle.dp_semantics.proofs.Names.{◌≡◌, inl, inr, refl, sym, ap, ◌∙◌, subst, append_assoc, ℕ, zero, suc, ◌+◌, ◌-◌, ◌<◌, ◌≤◌, Bool, true, false, not, if◌then◌else◌, List, [], ◌∷◌, ◌++◌, ℤ, pos, length, length-set, length-append, map, filter_map, arith, get_or, slice_set, get_or-set_at, get_or-set_other, list_any, cases_Bool, cases_eq, cases_lt, VarInfo, Program, Plan, Effect, clear_locals, is_local_cell, numbers_from, applied, Judgement, Agreed, Clean, Unclean}
+use Rattle.dp_semantics.proofs.Names.{◌≡◌, inl, inr, refl, sym, ap, ◌∙◌, ℕ, zero, suc, ◌+◌, ◌≤◌, Bool, true, false, not, if◌then◌else◌, List, [], ◌∷◌, ◌++◌, ℤ, pos, length, length-set, map, arith, get_or, slice_set, get_or-set_at, get_or-set_other, list_any, cases_Bool, cases_eq, cases_lt, clear_locals, is_local_cell, numbers_from, Judgement, Clean, Unclean}
 use Rattle.std.proofs.lemmas.List.{ext_get_or}
 use Rattle.dp_base.specs.declared.StoreOf.{StoreOf}
-use Rattle.dp_semantics.specs.Told.{store_made, with_stores}
+use Rattle.dp_semantics.specs.Told.{with_stores}
 use Rattle.dp_semantics.specs.EpochKey.{EpochKey}
-use Rattle.dp_semantics.specs.EpochVerdicts.{JudgeState, Carried, Verdict, Commit, Again, after_judgement, carried, goes_on, judgement_of, state_at, verdict_at, verdict_by}
+use Rattle.dp_semantics.specs.EpochVerdicts.{Carried, Verdict, Commit, Again, after_judgement, carried, goes_on, judgement_of, state_at, verdict_at, verdict_by}
 use Rattle.dp_theorem.proofs.Memory.{clear-at, clear-other}
 use Rattle.dp_theorem.proofs.Told.{stores_are_all}
 use Rattle.dp_net.specs.NetItems.{Marks}
@@ -123,9 +123,10 @@ module _ (key : EpochKey) where
       by : (j : Judgement) → judgement_of key k ≡ j → verdict_by key k j ≡ Commit v → ((state_at key (suc k)).cells ≡ left_behind key v.stores (state_at key k).cells) × ((state_at key (suc k)).steps ≡ (state_at key k).steps + v.steps)
       by Unclean is e = absurd (cc e)
       by (Clean a) is e =
-          let same : carried a ≡ v = cc e in
-          (ap (λ (j : Judgement). (after_judgement key (state_at key k) j).cells) is ∙ ap clear (stores_are_all a.effects (state_at key k).cells) ∙ ap (λ (c : Carried). left_behind key c.stores (state_at key k).cells) same,
-          ap (λ (j : Judgement). (after_judgement key (state_at key k) j).steps) is ∙ ap (λ (c : Carried). (state_at key k).steps + c.steps) same)
+          let same : carried a ≡ v = cc e in (
+            ap (λ (j : Judgement). (after_judgement key (state_at key k) j).cells) is ∙ ap clear (stores_are_all a.effects (state_at key k).cells) ∙ ap (λ (c : Carried). left_behind key c.stores (state_at key k).cells) same,
+            ap (λ (j : Judgement). (after_judgement key (state_at key k) j).steps) is ∙ ap (λ (c : Carried). (state_at key k).steps + c.steps) same,
+          )
 
   nothing_leads : (k : ℕ) (ends : BatchEnd) → BatchLeads key k (nothing_but ends)
   nothing_leads k ends = let none : k + 0 ≡ k = omega arith in record { cells = ap (λ (n : ℕ). left_behind key [] (state_at key n).cells) none; steps = ap (λ (n : ℕ). (state_at key n).steps) none ∙ omega arith }

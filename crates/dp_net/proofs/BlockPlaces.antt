@@ -1,18 +1,15 @@
 -- Each stage's text has the blocks of the region whole.
 use Rattle.dp_semantics.proofs.Names.{◌≡◌, ◌⊎◌, inl, inr, refl, sym, ap, ◌∙◌, subst, append_assoc, append-nil, ℕ, zero, suc, ◌+◌, ◌-◌, ◌<◌, ◌≤◌, ◌==◌, Bool, true, false, not, ◌&&◌, if◌then◌else◌, List, [], ◌∷◌, ◌++◌, ℤ, length, length-append, map, list_all, Option, Some, None, arith, nat_lt, nat_le, lt-ltb, le-ltb, eq-eqb, eqb-true, ne_eqb, and_parts, and_from, cases_Bool, cases_eq, cases_lt, flat_map, SiteId, Expr, Stmt, Row_of-Stmt, end_of-Stmt, more_of-Stmt, out-Stmt, roll-Stmt, roll-out-Stmt, out-roll-Stmt, rolls-If, rolls-While, outs-If, Stmt-F, Assign, Store, Print, If, While, Region, Break, Call, Program, Plan, site_of, stage_of, Access, accesses, accesses_in, assumed_in, branch_of, where_reached, project, project_in, project_all}
 use Rattle.dp_tree.specs.declared.Stmt.TheVariants as tree
-use Rattle.dp_tree.specs.declared.Stmt.TheViews.{outs-Assign, outs-Store, outs-Print, outs-Break, outs-If', outs-While', outs-Region', outs-Call}
-use Rattle.dp_tree.specs.Statements.{listed, everywhere, everywhere_in}
+use Rattle.dp_tree.specs.declared.Stmt.TheViews.{outs-If', outs-While'}
+use Rattle.dp_tree.specs.Statements.{listed, everywhere_in}
 use Rattle.dp_tree.proofs.InnerTexts.{shown_listed}
 use Rattle.dp_tree.specs.declared.Stmt.TheBlock.{shown-the_row-Stmt-0}
-use Rattle.dp_plan.specs.Written.{site_in}
-use Rattle.dp_plan.proofs.Ascent.{Ascends, ascends_split}
 use Rattle.dp_theorem.proofs.Projected.{not_reached, reached}
 use Rattle.dp_net.specs.Quiet.{quiet_at, is_quiet, is_quiet_site}
-use Rattle.dp_net.specs.NetItems.{Marks}
-use Rattle.dp_net.specs.BlockText.{own_site, own_stage, is_quiet_own, run, past_run, joins_run, if_pays, block_from, run_behind, site_past, sought_inside, sought}
-use Rattle.dp_net.proofs.Silent.{all_quiet, AllQuiet, quiet_head, quiet_out, QuietHead, known_quiet}
-use Rattle.dp_net.proofs.Texts.{site_at, IsLeaf, Plain, Text, ends, leaf, choice, loop, block, text_join}
+use Rattle.dp_net.specs.BlockText.{run, past_run}
+use Rattle.dp_net.proofs.Silent.{all_quiet, AllQuiet, quiet_out, known_quiet}
+use Rattle.dp_net.proofs.Texts.{site_at}
 
 rolled_if : (site : SiteId) (cond : Expr) (h : _) (a : Row_of-Stmt _) (k : _) (b : Row_of-Stmt _) → tree.If site cond (listed a) (listed b) ≡ tree.If' site cond h a k b
 rolled_if site cond h a k b =

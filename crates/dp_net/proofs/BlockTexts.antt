@@ -1,5 +1,5 @@
 -- The text of each stage has the blocks that are sought in the region whole.
-use Rattle.dp_semantics.proofs.Names.{◌≡◌, ◌⊎◌, inl, inr, refl, sym, ap, ◌∙◌, subst, append_assoc, append-nil, ℕ, zero, suc, ◌+◌, ◌-◌, ◌<◌, ◌≤◌, ◌==◌, Bool, true, false, not, ◌&&◌, if◌then◌else◌, List, [], ◌∷◌, ◌++◌, length, length-append, length-map, map, map-append, list_all, Option, Some, None, arith, nat_lt, nat_le, lt-ltb, le-ltb, eq-eqb, eqb-true, ne_eqb, cases_Bool, cases_eq, cases_lt, SiteId, Expr, Stmt, Row_of-Stmt, end_of-Stmt, more_of-Stmt, out-Stmt, outs-If, Stmt-F, Assign, Store, Print, If, While, Region, Break, Call, Program, Plan, site_of, stage_of, Access, accesses, accesses_in, assumed_in, branch_of, where_reached, project, project_in, project_all}
+use Rattle.dp_semantics.proofs.Names.{◌≡◌, inl, inr, refl, sym, ap, ◌∙◌, subst, ℕ, suc, ◌+◌, ◌<◌, ◌≤◌, ◌==◌, Bool, true, false, if◌then◌else◌, List, [], ◌∷◌, ◌++◌, length, length-append, map, map-append, Option, Some, None, arith, nat_lt, nat_le, lt-ltb, le-ltb, eq-eqb, ne_eqb, cases_Bool, cases_eq, cases_lt, SiteId, Expr, Stmt, Row_of-Stmt, end_of-Stmt, more_of-Stmt, out-Stmt, outs-If, Stmt-F, If, While, Program, Plan, site_of, stage_of, Access, accesses, accesses_in, assumed_in, branch_of, where_reached, project, project_in, project_all}
 use Rattle.dp_tree.specs.declared.Stmt.TheVariants as tree
 use Rattle.dp_tree.specs.declared.Stmt.TheVariants.{outs-While}
 use Rattle.dp_tree.specs.declared.Stmt.TheViews.{outs-Assign, outs-Store, outs-Print, outs-Break, outs-If', outs-While', outs-Region', outs-Call}
@@ -8,8 +8,7 @@ use Rattle.dp_plan.specs.Written.{site_in}
 use Rattle.dp_plan.proofs.Ascent.{Ascends, ascends_split}
 use Rattle.dp_net.specs.Quiet.{is_quiet}
 use Rattle.dp_net.specs.NetItems.{begins, Marks}
-use Rattle.dp_net.specs.BlockText.{own_site, own_stage, is_quiet_own, run, past_run, joins_run, if_pays, block_from, run_behind, site_past, sought_inside, sought}
-use Rattle.dp_net.proofs.Silent.{AllQuiet}
+use Rattle.dp_net.specs.BlockText.{own_site, own_stage, is_quiet_own, run, past_run, joins_run, block_from, run_behind, site_past, sought_inside, sought}
 use Rattle.dp_net.proofs.Texts.{site_at, IsLeaf, Plain, Text, ends, leaf, choice, loop, block, text_join}
 use Rattle.dp_net.proofs.BlockPlaces.{quiet_stage, kept, gone, project_join, project_listed, run_split, run_quiet, run_kept, run_gone}
 

@@ -1,20 +1,16 @@
 -- What a quiet block's own stage makes of it, what a later stage does with its words, and what the judgement does.
-use Rattle.dp_semantics.proofs.Names.{has_cell, stores_known, list_any, ◌≡◌, ◌⊎◌, inl, inr, refl, sym, ap, ◌∙◌, subst, append_assoc, append-nil, ℕ, zero, suc, ◌+◌, ◌-◌, ◌<◌, ◌≤◌, ◌==◌, Bool, true, false, not, ◌&&◌, ◌||◌, if◌then◌else◌, List, [], ◌∷◌, ◌++◌, ℤ, length, length-append, length-set, map, Option, Some, None, Ok, Err, Result, nat_le, nat_lt, arith, le-leb, lt-leb, ltb-true, eq-eqb, eqb-true, ne_eqb, slice_set, get_or, list_all, and_parts, and_from, not-true, or-false, cases_Bool, cases_lt, FaultKind, Stmt, out-Stmt, roll-Stmt, roll-out-Stmt, opened_statement, rolls-Assign, rolls-Store, rolls-Print, rolls-If, rolls-While, rolls-Region, rolls-Break, rolls-Call, Stmt-F, Assign, Store, Print, If, While, Region, Break, Call, Program, Plan, Assume, Word, Evaluated, evaluated, WithLoads, Event, Effect, Stored, Printed, Decided, Tried, site_of, value_of, stored, followed, followed-append, taken, leaves, stage_of, first_site, is_checked, goes_as, stays_late, as_assumed, went, done_word, words_of, word_list, Full, Void, Taken, taken_from, Turn, TurnEnd, turned, turn_at, turn_by, turn_step, own_step, stage_at, consumed, consumed_step, words_left, closes_at, is_zero_at, Judging, Judgement, Clean, Unclean, judged, judge_step, judge_by, judge_at, loads_hold, applied}
+use Rattle.dp_semantics.proofs.Names.{◌≡◌, refl, sym, ap, ◌∙◌, subst, ℕ, zero, suc, ◌-◌, ◌<◌, ◌≤◌, Bool, true, false, List, [], ◌∷◌, ◌++◌, ℤ, length, map, Ok, Err, arith, le-leb, lt-leb, eq-eqb, ne_eqb, slice_set, get_or, and_parts, or-false, FaultKind, Stmt, out-Stmt, Stmt-F, Program, Plan, Word, Evaluated, evaluated, WithLoads, Event, Effect, site_of, value_of, stored, followed, followed-append, stage_of, done_word, word_list, Full, taken_from, Turn, turned, loads_hold}
 unfoldable use Rattle.dp_semantics.proofs.Names.{judge_from}
-use Rattle.dp_net.proofs.Strict.{strict_step, strict_own_step}
 unfoldable use Rattle.dp_net.proofs.Strict.{strict_from}
 use Rattle.dp_semantics.specs.Words.{Faults}
-use Rattle.dp_semantics.specs.StageRun.{produced}
 use Rattle.dp_semantics.proofs.Evaluation.{Form}
 use Rattle.dp_semantics.proofs.Ways.{Goes, stays, goes, event_of}
-use Rattle.dp_semantics.proofs.Taking.{effect_of_word, taken_event, event_passes, word_list_is, word_list_same}
-use Rattle.dp_semantics.proofs.Followed.{Parts, followed_has, all_joins}
-use Rattle.std.proofs.lemmas.List.{set-set}
+use Rattle.dp_semantics.proofs.Taking.{effect_of_word, taken_event, event_passes}
+use Rattle.dp_semantics.proofs.Followed.{followed_has, all_joins}
 use Rattle.dp_tree.specs.Step.{line_of}
-use Rattle.dp_semantics.specs.Judge.{judged_by}
-use Rattle.dp_net.specs.Quiet.{is_quiet, Outcome, Through, Broke, event_by, with_event, quiet_by, quiet_step, quiet_spent}
+use Rattle.dp_net.specs.Quiet.{is_quiet, Outcome, Through, Broke, with_event, quiet_by}
 unfoldable use Rattle.dp_net.specs.Quiet.{quiet_from}
-use Rattle.dp_net.proofs.Silent.{all_quiet, AllQuiet, quiet_out, QuietHead, known_quiet, form_is, stays_in, closes_not, words_are, goes_assumed}
+use Rattle.dp_net.proofs.Silent.{all_quiet, AllQuiet, quiet_out, QuietHead, known_quiet, form_is, closes_not, words_are, goes_assumed}
 
 -- the words of quiet events
 abbrev pub said : List Event → List Word

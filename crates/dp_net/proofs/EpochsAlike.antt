@@ -1,23 +1,20 @@
 -- The verdicts by items are the definition's.
-use Rattle.dp_semantics.proofs.Names.{◌≡◌, ◌⊎◌, inl, inr, refl, sym, ap, ◌∙◌, subst, ℕ, zero, suc, ◌+◌, ◌-◌, ◌<◌, ◌≤◌, Bool, true, false, if◌then◌else◌, List, [], ◌∷◌, ◌++◌, ℤ, pos, length, map, filter_map, list_all, Option, Some, None, arith, nat_le, Stmt, Program, Plan, Effect, Event, stored, clear_locals, project_all, region_statement, stage_of, Status, Going, Closing, Broken, Epoch, cleared, passed, applied, last, Judgement, Agreed, Clean, Unclean, judge, judge_lists, judge_status}
+use Rattle.dp_semantics.proofs.Names.{◌≡◌, refl, sym, ap, ◌∙◌, subst, ℕ, zero, suc, ◌+◌, ◌-◌, Bool, true, false, if◌then◌else◌, List, [], ◌∷◌, ℤ, length, map, Option, Some, None, arith, nat_le, Stmt, Program, Plan, Effect, stored, clear_locals, project_all, region_statement, stage_of, Status, applied, last, Judgement, Agreed, Clean, Unclean, judge, judge_lists, judge_status}
 unfoldable use Rattle.dp_semantics.proofs.Names.{judge_from}
-use Rattle.dp_semantics.specs.Cause.{cause_since}
 use Rattle.dp_semantics.specs.CauseWalk.{shown_from}
-use Rattle.dp_semantics.specs.Told.{store_made, with_stores, StoresAreAll}
-use Rattle.dp_semantics.specs.Reported.{reported}
-use Rattle.dp_semantics.specs.EpochKey.{EpochKey, epoch_of, epoch_run}
-use Rattle.dp_semantics.specs.EpochVerdicts.{JudgeState, Carried, Verdict, Commit, Again, judgement_in, after_judgement, state_at, judgement_of, carried, verdict_by, verdict_at}
-use Rattle.dp_semantics.specs.EpochCauses.{first_kept, kept_after, next_kept, kept_at}
+use Rattle.dp_semantics.specs.Told.{StoresAreAll}
+use Rattle.dp_semantics.specs.EpochKey.{EpochKey, epoch_of}
+use Rattle.dp_semantics.specs.EpochVerdicts.{JudgeState, after_judgement, state_at, judgement_of, verdict_by, verdict_at}
+use Rattle.dp_semantics.specs.EpochCauses.{kept_after, next_kept, kept_at}
 use Rattle.dp_net.specs.NetItems.{Marks}
 use Rattle.dp_net.specs.NetJudge.{NetAgreed, net_judge, net_judge_lists, net_judge_status}
-use Rattle.dp_net.specs.NetPackets.{NetStatus, NetPacket, net_passed}
+use Rattle.dp_net.specs.NetPackets.{NetStatus, NetPacket}
 unfoldable use Rattle.dp_net.specs.NetJudge.{net_judge_from}
-use Rattle.dp_net.specs.NetVerdicts.{net_judgement_in, net_after_judgement, net_state_at, net_judgement_of, net_carried, net_verdict_by, net_verdict_at, net_next_kept, net_kept_at, SaysTheSame}
+use Rattle.dp_net.specs.NetVerdicts.{net_judgement_in, net_after_judgement, net_state_at, net_judgement_of, net_verdict_by, net_verdict_at, net_next_kept, net_kept_at, SaysTheSame}
 use Rattle.dp_semantics.proofs.Setting.{Accepted}
 use Rattle.dp_net.proofs.StrictEpochs.{CleanTo, clean_less, strict_judgement, judged_same}
-use Rattle.dp_net.proofs.Memories.{Open, Agrees, agrees_self, agree_after, last_of}
-use Rattle.dp_net.proofs.Groups.{all_flats, all_items}
-use Rattle.dp_net.proofs.ToldAlike.{seen_by, Told}
+use Rattle.dp_net.proofs.Memories.{agrees_self, agree_after}
+use Rattle.dp_net.proofs.ToldAlike.{seen_by}
 use Rattle.dp_net.proofs.NetVerdicts.{VerdictsAlike, SameVerdict, judge_alike}
 use Rattle.dp_net.proofs.Sent.{Quieted, SameStatus, both_going, both_closing, both_broken, SamePacket, sent_alike, cleared_same}
 

@@ -1,10 +1,10 @@
 -- Words in groups: a list of words and a list of items that stand for the same groups.
-use Rattle.dp_semantics.proofs.Names.{◌≡◌, ◌⊎◌, inl, inr, refl, sym, ap, ◌∙◌, subst, append_assoc, append-nil, ℕ, zero, suc, ◌+◌, ◌-◌, ◌<◌, ◌≤◌, ◌==◌, Bool, true, false, not, ◌&&◌, ◌||◌, if◌then◌else◌, List, [], ◌∷◌, ◌++◌, ℤ, length, length-append, length-map, map, flat_map, Option, Some, None, unwrap_or, Ok, Err, Result, arith, eq-eqb, ne_eqb, slice_get, slice_set, nat_lt, get_or, sum_by, sum_by-cons, unwrap_or-slice_get, and-false, cases_Bool, cases_eq, Stmt, out-Stmt, Stmt-F, Program, Plan, Word, Event, Effect, WithLoads, site_of, value_of, evaluated, stage_of, effect_by, done_word, is_load_of, is_done_of, after_loads_of, Taken, taken_from, Void, word_list}
+use Rattle.dp_semantics.proofs.Names.{◌≡◌, inl, inr, refl, sym, ap, ◌∙◌, subst, append_assoc, ℕ, zero, suc, ◌-◌, ◌<◌, ◌==◌, Bool, true, false, ◌&&◌, if◌then◌else◌, List, [], ◌∷◌, ◌++◌, ℤ, length, length-append, map, Option, Some, None, unwrap_or, Ok, Err, Result, arith, ne_eqb, slice_get, nat_lt, get_or, sum_by, sum_by-cons, unwrap_or-slice_get, and-false, cases_Bool, cases_eq, Stmt, out-Stmt, Stmt-F, Program, Plan, Word, Event, Effect, site_of, stage_of, effect_by, done_word, is_load_of, is_done_of, after_loads_of, Taken, taken_from, Void, word_list}
 use Rattle.dp_semantics.specs.Words.{Astray, done_from, taken_by, is_load}
-use Rattle.dp_semantics.proofs.Each.{Each, each_join}
+use Rattle.dp_semantics.proofs.Each.{Each}
 use Rattle.dp_semantics.proofs.Ways.{Goes, stays, goes, event_of}
 use Rattle.dp_semantics.proofs.Taking.{word_list_is}
-use Rattle.dp_net.specs.NetItems.{begins, Marks, net_of, Item, Said, Net, weight, weights, items_in, item_list, behind_loads, NetTaken, net_taken_by, net_done_from, net_taken_from, said_all}
+use Rattle.dp_net.specs.NetItems.{begins, Marks, net_of, Item, Said, Net, weight, weights, items_in, item_list, behind_loads, NetTaken, net_taken_by, net_done_from, net_taken_from}
 use Rattle.dp_net.specs.NetRun.{NetTurn, net_met}
 use Rattle.dp_net.proofs.Silent.{AllQuiet}
 use Rattle.dp_net.proofs.Blocks.{said, said_length, effects_of}

@@ -1,19 +1,8 @@
 -- A turn only adds words of its own.
-use Rattle.dp_semantics.proofs.Names.{◌≡◌, ◌⊎◌, inl, inr, refl, sym, ap, ◌∙◌, subst, append_assoc, append-nil, append_cancel_left, ℕ, zero, suc, ◌+◌, ◌-◌, ◌<◌, ◌≤◌, ◌==◌, Bool, true, false, ◌&&◌, ◌||◌, if◌then◌else◌, List, [], ◌∷◌, ◌++◌, ℤ, length, length-set, Option, Some, None, Ok, Err, Result, nat_le, arith, eq-eqb, slice_set, and_parts, list_all, cases_Bool, cases_eq, cases_order, FaultKind, Stmt, out-Stmt, Stmt-F, Program, Plan, Word, Evaluated, evaluated, WithLoads, Event, Effect, site_of, value_of, stored, followed, stage_of, first_site, as_assumed, closes_at, words_of, word_list, Full, Void, Taken, taken_from, Turn, TurnEnd, Ended, turned, turn_by, turn_at, turn_step, own_step, consumed_step, stage_at, words_left, Judging, Agreed, Clean, Unclean, last, project_all, Access, accesses, well_nested}
+use Rattle.dp_semantics.proofs.Names.{◌≡◌, refl, sym, ap, ◌∙◌, append_assoc, append-nil, ℕ, zero, suc, ◌-◌, ◌==◌, Bool, true, false, if◌then◌else◌, List, [], ◌∷◌, ◌++◌, ℤ, length, Ok, Err, Result, nat_le, slice_set, Stmt, out-Stmt, Stmt-F, Program, Plan, Word, Evaluated, evaluated, Event, Effect, words_of, Full, Void, Taken, taken_from, Turn, Ended, turned, turn_by, turn_at, turn_step, own_step, consumed_step, stage_at, words_left}
 unfoldable use Rattle.dp_semantics.proofs.Names.{turn_from, judge_from}
-use Rattle.dp_semantics.specs.StageRun.{produced}
-use Rattle.dp_semantics.proofs.Each.{Each, each_map, each_split}
-use Rattle.dp_semantics.proofs.Evaluation.{Form, head_loads, head_stores, Readable, Roomy, evaluated_tracks}
-use Rattle.dp_semantics.proofs.Heads.{accesses_all, accesses_at, accesses_out, head_access, all_well, well_at, well_out, project_out}
-use Rattle.dp_semantics.proofs.Setting.{Sound}
 use Rattle.dp_semantics.proofs.Ways.{event_of}
-use Rattle.dp_semantics.proofs.Followed.{followed_has, all_joins}
-use Rattle.dp_semantics.proofs.Taking.{taken_event, effect_of_word, word_list_same, word_list_other}
-use Rattle.dp_theorem.proofs.Judging.{judge_ends}
-use Rattle.dp_theorem.proofs.Projected.{unseen, assumed_of}
-use Rattle.dp_theorem.proofs.Source.{well_parts, each_joins, each_parts, head_fact}
 unfoldable use Rattle.dp_net.proofs.Strict.{strict_from}
-use Rattle.dp_net.proofs.Blocks.{at_turn}
 
 module _ (p : Program) (plan : Plan) (input : List ℤ) (s : ℕ) where
   abbrev pub Grown : Turn → List Word → Type 0

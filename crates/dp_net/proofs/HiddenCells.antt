@@ -1,24 +1,17 @@
 -- What a plan's blocks are, and what a site loads isn't hidden from it.
-use Rattle.dp_semantics.proofs.Names.{◌≡◌, ◌⊎◌, inl, inr, refl, sym, ap, ◌∙◌, subst, ℕ, zero, suc, ◌+◌, ◌-◌, ◌<◌, ◌≤◌, ◌==◌, Bool, true, false, not, ◌&&◌, ◌||◌, if◌then◌else◌, List, [], ◌∷◌, ◌++◌, length, map, list_all, list_any, list_all-append, Option, Some, None, arith, nat_lt, eq-eqb, eqb-true, ne_eqb, ltb-true, and_parts, and_from, or-true, cases_Bool, cases_eq, VarInfo, Stmt, Row_of-Stmt, end_of-Stmt, more_of-Stmt, out-Stmt, roll-Stmt, roll-out-Stmt, opened_statement, rolls-Assign, rolls-Store, rolls-Print, rolls-If, rolls-While, rolls-Region, rolls-Break, rolls-Call, Stmt-F, Assign, Store, Print, If, While, Region, Break, Call, Program, Plan, site_of, stage_of, cell_count, first_cell, Access, accesses, accesses_in, region_accesses, region_statement, is_body_local, is_local_at, is_checked, has_cell, last, assumed_in, branch_of, where_reached, project, project_in, project_all, nat_le, stores_var}
+use Rattle.dp_semantics.proofs.Names.{◌≡◌, inl, inr, refl, sym, ap, ◌∙◌, ℕ, ◌<◌, ◌==◌, Bool, true, false, not, ◌&&◌, ◌||◌, List, [], ◌∷◌, length, list_all, list_any, Option, Some, None, arith, nat_lt, eq-eqb, eqb-true, ltb-true, and_parts, or-true, cases_Bool, Stmt, out-Stmt, roll-Stmt, roll-out-Stmt, opened_statement, rolls-Assign, rolls-Store, rolls-Print, rolls-If, rolls-While, rolls-Region, rolls-Break, rolls-Call, Stmt-F, Assign, Store, Print, If, While, Region, Break, Call, Program, Plan, site_of, stage_of, cell_count, first_cell, Access, region_accesses, is_body_local, is_local_at, is_checked, has_cell, last}
 use Rattle.dp_tree.specs.declared.Stmt.TheVariants as tree
 use Rattle.dp_tree.specs.Numbering.{numbers_from}
-use Rattle.dp_tree.specs.Statements.{listed, everywhere, everywhere_in}
+use Rattle.dp_tree.specs.Statements.{everywhere}
 use Rattle.dp_tree.proofs.SitesOf.{everywhere_hidden}
 use Rattle.dp_plan.specs.Access.{access_at}
 use Rattle.dp_semantics.specs.Fits.{stores_known}
-use Rattle.dp_semantics.proofs.Each.{Each, each_map, all_of, all_make, each_both}
-use Rattle.dp_semantics.proofs.Setting.{Laid, Sound, head_access}
+use Rattle.dp_semantics.proofs.Each.{Each, each_map, all_of, each_both}
+use Rattle.dp_semantics.proofs.Setting.{Laid, head_access}
 use Rattle.dp_semantics.proofs.Evaluation.{InVar, Roomy, head_loads, head_stores}
 use Rattle.dp_semantics.proofs.Followed.{Parts}
-use Rattle.dp_net.specs.Quiet.{is_quiet}
 use Rattle.dp_net.specs.NetItems.{Marks}
-use Rattle.dp_net.specs.BlockText.{own_site, own_stage, is_quiet_own, run, joins_run, if_pays, block_from, run_behind, site_past, sought_inside, sought}
-use Rattle.dp_net.specs.Hidden.{loads_var, home, at_home, is_private, is_hidden_by, is_hidden, block_in, marks_of}
-use Rattle.dp_net.specs.NetItems.{is_nil}
-use Rattle.dp_net.proofs.Silent.{AllQuiet}
-use Rattle.dp_net.proofs.Memories.{Open}
-use Rattle.dp_net.proofs.Groups.{Marked}
-use Rattle.dp_net.proofs.BlockPlaces.{run_quiet}
+use Rattle.dp_net.specs.Hidden.{loads_var, home, at_home, is_private, is_hidden_by, is_hidden}
 use Rattle.dp_net.proofs.Ready.{Ready}
 
 module _ (p : Program) (plan : Plan) where

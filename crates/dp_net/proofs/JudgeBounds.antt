@@ -1,5 +1,5 @@
 -- The judging's own bound never decides: each of its steps is one of the limit's, or several.
-use Rattle.dp_semantics.proofs.Names.{◌≡◌, inl, inr, refl, sym, ap, ◌∙◌, arith, ℕ, zero, suc, ◌+◌, ◌<◌, ◌≤◌, ◌==◌, ◌&&◌, Bool, true, false, if◌then◌else◌, List, [], ◌∷◌, length, drop, ℤ, Option, Some, None, nat_le, nat_lt, leb-true, ltb-true, cases_lt, cases_Bool, and_parts, Stmt, Stmt-F, out-Stmt, Program, Plan, Effect, site_of, stage_of, as_assumed, last}
+use Rattle.dp_semantics.proofs.Names.{◌≡◌, inl, inr, refl, sym, ap, ◌∙◌, arith, ℕ, zero, suc, ◌+◌, ◌<◌, ◌≤◌, ◌==◌, ◌&&◌, Bool, true, false, if◌then◌else◌, List, [], ◌∷◌, length, drop, ℤ, Option, Some, None, nat_le, nat_lt, leb-true, ltb-true, cases_lt, cases_Bool, and_parts, Stmt, out-Stmt, Program, Plan, site_of, as_assumed, last}
 use Rattle.dp_net.specs.NetItems.{Marks, Item, Said, Net, NetTaken, net_taken_from}
 use Rattle.dp_net.specs.NetRun.{items_left, net_begin}
 use Rattle.dp_net.specs.NetJudge.{NetJudging, NetAgreed, net_loads_hold, net_judged, net_judged_by, word_judged, block_judged, net_judge_step, net_judge_step_by, net_judge_by, net_judge_at, net_judge_lists}

@@ -1,11 +1,11 @@
 -- The bound of a turn's steps over items never decides, whatever the lists are: each step adds weight, or takes some.
 use Rattle.dp_semantics.specs.Clean.{event_as_assumed}
-use Rattle.dp_semantics.proofs.Names.{◌≡◌, inl, inr, refl, sym, ap, ◌∙◌, arith, length-append, ℕ, zero, suc, ◌+◌, ◌-◌, ◌<◌, ◌≤◌, ◌==◌, ◌++◌, ◌&&◌, Bool, true, false, if◌then◌else◌, List, [], ◌∷◌, length, drop, map, ℤ, Option, Some, None, Ok, Err, nat_le, nat_lt, leb-true, ltb-true, sum_by, sum_by-cons, sum_by-set, slice_set, get_or, get_or_past, cases_lt, cases_Bool, and_parts, Stmt, Stmt-F, out-Stmt, Program, Plan, Word, Evaluated, evaluated, Event, Effect, site_of, value_of, stored, followed, stage_of, words_of, effect_by, is_load_of, is_done_of, applied}
+use Rattle.dp_semantics.proofs.Names.{◌≡◌, inl, inr, refl, sym, ap, ◌∙◌, arith, ℕ, zero, suc, ◌+◌, ◌-◌, ◌<◌, ◌≤◌, ◌==◌, ◌++◌, ◌&&◌, Bool, true, false, if◌then◌else◌, List, [], ◌∷◌, length, drop, map, ℤ, Option, Some, None, Ok, Err, nat_le, nat_lt, leb-true, ltb-true, sum_by, sum_by-cons, sum_by-set, slice_set, get_or, get_or_past, cases_lt, cases_Bool, and_parts, Stmt, Stmt-F, out-Stmt, Program, Plan, Word, Evaluated, evaluated, Event, Effect, site_of, value_of, stored, followed, stage_of, words_of, effect_by, is_load_of, is_done_of, applied}
 use Rattle.dp_semantics.proofs.Shorter.{some_word}
 use Rattle.dp_net.specs.Quiet.{Outcome, Through, Broke, with_event, quiet_by}
 unfoldable use Rattle.dp_net.specs.Quiet.{quiet_from}
 use Rattle.dp_net.specs.NetItems.{Marks, Item, Said, Net, weight, weights, net_of, item_list, behind_loads, NetTaken, net_taken_by, net_done_from, net_taken_from, said_all}
-use Rattle.dp_net.specs.NetRun.{NetTurn, NetEnded, net_turned, net_produced, net_own_step, net_consumed, net_consumed_step, items_left, net_past, net_made, net_met, word_step, block_step, net_by, net_at, net_step, net_step_by, net_begin, net_run}
+use Rattle.dp_net.specs.NetRun.{NetTurn, NetEnded, net_turned, net_own_step, net_consumed, net_consumed_step, items_left, net_past, net_made, net_met, net_by, net_at, net_step, net_step_by, net_begin, net_run}
 unfoldable use Rattle.dp_net.specs.NetRun.{net_from}
 use Rattle.dp_net.proofs.Groups.{item_list_is}
 

@@ -3,28 +3,23 @@ use Rattle.dp_semantics.proofs.Names.{◌≡◌, ◌⊎◌, inl, inr, refl, sym,
 unfoldable use Rattle.dp_semantics.proofs.Names.{judge_from}
 use Rattle.dp_semantics.specs.Judge.{judged_by}
 use Rattle.dp_semantics.specs.Words.{is_load}
-use Rattle.dp_tree.specs.Trace.{printed_by}
-use Rattle.std.specs.Option.{option_or}
-use Rattle.std.specs.List.{cons_option}
 use Rattle.std.proofs.lemmas.List.{map-set}
-use Rattle.std.proofs.lemmas.List.Elements.{filter_map-append}
-use Rattle.dp_semantics.proofs.Each.{Each, each_map, each_join}
-use Rattle.dp_theorem.proofs.Judging.{judge_ends}
+use Rattle.dp_semantics.proofs.Each.{Each}
 use Rattle.dp_semantics.proofs.Ways.{Goes}
-use Rattle.dp_semantics.proofs.Taking.{word_list_is, word_list_same}
-use Rattle.dp_semantics.proofs.Followed.{Parts, followed_has, all_joins}
-use Rattle.dp_net.specs.NetItems.{Marks, Item, Said, Net, put, told_after, net_behind, net_of, item_list, NetTaken, net_taken_from}
-use Rattle.dp_net.specs.NetRun.{NetTurn, net_past}
-use Rattle.dp_net.specs.NetJudge.{NetJudging, NetAgreed, net_agreed, net_loads_hold, sites_for, net_judged, net_judged_by, word_judged, block_judged, net_judge_step, net_judge_step_by, net_judge_by, net_judge_at}
+use Rattle.dp_semantics.proofs.Taking.{word_list_is}
+use Rattle.dp_semantics.proofs.Followed.{Parts}
+use Rattle.dp_net.specs.NetItems.{Marks, Item, Said, Net, net_of, item_list, NetTaken}
+use Rattle.dp_net.specs.NetRun.{net_past}
+use Rattle.dp_net.specs.NetJudge.{NetJudging, NetAgreed, net_loads_hold, sites_for, net_judged, net_judged_by, block_judged, net_judge_step, net_judge_by}
 unfoldable use Rattle.dp_net.specs.NetJudge.{net_judge_from}
 use Rattle.dp_net.proofs.Silent.{AllQuiet}
-use Rattle.dp_net.proofs.Blocks.{said, said_length, effects_of, sites_of, at_turn}
-use Rattle.dp_net.proofs.BlockTurns.{judge_block, judge_short, IsOf, all_of_stage}
-use Rattle.dp_net.proofs.Memories.{Open, Agrees, agree_stored, agree_net, stored_at, last_of, net_last}
-use Rattle.dp_net.proofs.Groups.{Group, One, Block, flats, items, all_flats, all_items, group_list, words_of_groups, items_of_groups, Marked, Whole, Good, Alike, both, none, taken_alike, Meets, whole, other, meets, Missing, first_word}
-use Rattle.dp_net.proofs.Texts.{site_at, Plain, Text, Headed, alone, joined, headed}
-use Rattle.dp_net.proofs.Ready.{Ready, Steady, steady_head, steady_next, steady_split, each_set, each_get}
-use Rattle.dp_net.proofs.SiteRuns.{AllGood, Held, word_turn, item_turn}
+use Rattle.dp_net.proofs.Blocks.{said, effects_of, sites_of, at_turn}
+use Rattle.dp_net.proofs.BlockTurns.{judge_block, judge_short, all_of_stage}
+use Rattle.dp_net.proofs.Memories.{Agrees, agree_stored, agree_net}
+use Rattle.dp_net.proofs.Groups.{Group, One, Block, flats, items, all_flats, all_items, group_list, words_of_groups, items_of_groups, Marked, Good, Alike, both, none, taken_alike, Meets, whole, other, meets, Missing, first_word}
+use Rattle.dp_net.proofs.Texts.{site_at, Plain, Text, alone, joined, headed}
+use Rattle.dp_net.proofs.Ready.{Ready, steady_head, steady_next, steady_split, each_set, each_get}
+use Rattle.dp_net.proofs.SiteRuns.{Held, word_turn, item_turn}
 use Rattle.dp_net.proofs.ToldAlike.{Told, told_more, told_one, told_block}
 
 pub record VerdictsAlike (p : Program) (plan : Plan) (m : Marks) (a : Agreed) (b : NetAgreed) : Type 0 where

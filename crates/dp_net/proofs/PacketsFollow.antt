@@ -1,10 +1,10 @@
 -- In a packet that isn't void each list is what following its stage's text asks for.
-use Rattle.dp_semantics.proofs.Names.{◌≡◌, ◌⊎◌, refl, sym, ap, ◌∙◌, subst, ℕ, zero, suc, ◌+◌, ◌<◌, ◌≤◌, ◌==◌, Bool, true, false, if◌then◌else◌, List, [], ◌∷◌, ◌++◌, ℤ, length, length-append, Option, Some, None, arith, slice_get, sum_by, cases_eq, cases_lt, inl, inr, Stmt, Program, Plan, project_all, region_statement, StageKind, Par, Seq, Epoch, cleared}
+use Rattle.dp_semantics.proofs.Names.{◌≡◌, ◌⊎◌, refl, sym, ap, ◌∙◌, subst, ℕ, zero, suc, ◌+◌, ◌<◌, ◌≤◌, Bool, true, false, List, [], ◌∷◌, ◌++◌, ℤ, length, length-append, Option, Some, None, arith, slice_get, sum_by, cases_eq, cases_lt, inl, inr, Stmt, project_all, region_statement, Epoch}
 use Rattle.dp_semantics.proofs.Setting.{Accepted}
 use Rattle.dp_net.specs.NetItems.{Marks, Item, weights, item_list}
 use Rattle.dp_net.specs.NetRun.{NetEnded, net_run}
 unfoldable use Rattle.dp_net.specs.NetRun.{net_from}
-use Rattle.dp_net.specs.NetPackets.{NetStatus, NetGoing, NetClosing, NetVoid, NetPacket, NetPassed, net_status_of, net_passed, net_passed_on, net_run_on, net_at_kind, net_at_sequential}
+use Rattle.dp_net.specs.NetPackets.{NetStatus, NetGoing, NetClosing, NetVoid, NetPacket, NetPassed, net_passed, net_passed_on, net_run_on}
 use Rattle.dp_net.specs.Follows.{Follows, ended, is_void}
 use Rattle.dp_net.proofs.Projections.{text_well, text_sites, earlier_part}
 use Rattle.dp_net.proofs.Reading.{follows_same}

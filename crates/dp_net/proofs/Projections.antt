@@ -1,12 +1,12 @@
 -- The text of a stage: its sites are those of the text up to the stage, it is well nested, and an earlier stage has the same part of it as of the whole text.
-use Rattle.dp_semantics.proofs.Names.{◌≡◌, refl, sym, ap, ◌∙◌, subst, append-nil, ℕ, suc, ◌<◌, ◌≤◌, Bool, true, false, ◌&&◌, ◌||◌, if◌then◌else◌, List, [], ◌∷◌, ◌++◌, Option, Some, None, is_some, nat_le, arith, leb-true, le-leb, lt-leb, list_all, list_all-append, flat_map-append, and_parts, and_from, or-true, cases_Bool, cases_lt, inl, inr, SiteId, Expr, Stmt, Row_of-Stmt, end_of-Stmt, more_of-Stmt, out-Stmt, outs-If, Stmt-F, If, While, Region, Program, Plan, site_of, stage_of, Access, accesses, accesses_in, assumed_in, branch_of, where_reached, project, project_in, project_all, region_statement, none_earlier, well_nested, well_nested_in}
+use Rattle.dp_semantics.proofs.Names.{◌≡◌, refl, sym, ap, ◌∙◌, subst, append-nil, ℕ, ◌<◌, ◌≤◌, Bool, true, false, ◌&&◌, ◌||◌, if◌then◌else◌, List, [], ◌∷◌, ◌++◌, Option, Some, None, is_some, nat_le, arith, leb-true, list_all-append, flat_map-append, and_parts, and_from, cases_Bool, cases_lt, inl, inr, SiteId, Expr, Stmt, Row_of-Stmt, end_of-Stmt, more_of-Stmt, outs-If, If, While, Program, Plan, stage_of, Access, accesses, accesses_in, assumed_in, branch_of, where_reached, project, project_in, project_all, region_statement, none_earlier, well_nested, well_nested_in}
 use Rattle.dp_tree.specs.declared.Stmt.TheVariants as tree
 use Rattle.dp_tree.specs.declared.Stmt.TheVariants.{outs-While}
-use Rattle.dp_semantics.proofs.Each.{Each, each_map, each_split, each_join, each_both, all_of, all_make}
+use Rattle.dp_semantics.proofs.Each.{Each, each_map, each_split, each_join, all_of, all_make}
 use Rattle.dp_semantics.proofs.Heads.{accesses_all, accesses_at, accesses_out, all_well, well_at, well_out, if_rule, project_at, project_out}
 use Rattle.dp_semantics.proofs.Setting.{Accepted, Sound, turn_of}
 use Rattle.dp_theorem.proofs.Projected.{not_reached, reached}
-use Rattle.dp_theorem.proofs.Whole.{turn_well, turn_sound, sound_parts}
+use Rattle.dp_theorem.proofs.Whole.{turn_well, turn_sound}
 
 module _ (p : Program) (plan : Plan) where
   -- either way, by whether the stage has the site

@@ -1,11 +1,11 @@
 -- A reader of a later stage's text, where the lists follow what an earlier stage has of it: what it finds at each statement.
-use Rattle.dp_semantics.proofs.Names.{◌≡◌, ◌⊎◌, inl, inr, refl, sym, ap, ◌∙◌, subst, append_assoc, append_cancel_left, ℕ, zero, suc, ◌+◌, ◌-◌, ◌<◌, ◌≤◌, ◌==◌, Bool, true, false, ◌&&◌, if◌then◌else◌, List, [], ◌∷◌, ◌++◌, ℤ, length, Option, Some, None, arith, eq-eqb, ne_eqb, get_or, slice_set, get_or-set_at, get_or-set_other, cases_Bool, cases_eq, Stmt, out-Stmt, roll-Stmt, out-roll-Stmt, Stmt-F, If, While, Program, Plan, Word, Load, Event, Effect, site_of, value_of, followed, stage_of, is_checked, as_assumed, event_as_assumed, load_words, done_word, words_of, is_load_of, effect_by, project, project_all}
+use Rattle.dp_semantics.proofs.Names.{◌≡◌, refl, sym, ap, ◌∙◌, subst, append_assoc, append_cancel_left, ℕ, ◌<◌, ◌≤◌, Bool, true, false, if◌then◌else◌, List, [], ◌∷◌, ◌++◌, Some, eq-eqb, Stmt, out-Stmt, roll-Stmt, out-roll-Stmt, Stmt-F, If, While, Program, Plan, Word, Load, Event, Effect, site_of, value_of, followed, stage_of, is_checked, as_assumed, load_words, done_word, words_of, is_load_of, effect_by, project_all}
 use Rattle.dp_semantics.proofs.Evaluation.{Form}
 use Rattle.dp_semantics.proofs.Heads.{all_well, well_at, project_out}
 use Rattle.dp_semantics.proofs.Taking.{load_here, done_no_load}
-use Rattle.dp_theorem.proofs.Projected.{proj_head, stays_there, kept_followed, unseen, assumed_of}
+use Rattle.dp_theorem.proofs.Projected.{proj_head, unseen, assumed_of}
 use Rattle.dp_theorem.proofs.Stepping.{site_proj}
-use Rattle.dp_net.specs.NetItems.{Marks, Item, Said, Net, said_all, behind_loads, NetTaken, net_done_from, net_taken_from}
+use Rattle.dp_net.specs.NetItems.{Marks, Item, Said, Net, said_all, behind_loads, net_done_from, net_taken_from}
 use Rattle.dp_net.specs.Follows.{Says, Others, Follows, ended, told, met}
 use Rattle.dp_net.proofs.Texts.{site_at}
 use Rattle.dp_net.proofs.Silent.{AllQuiet}

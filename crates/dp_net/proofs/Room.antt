@@ -1,10 +1,10 @@
 -- The item of a block that pays, with its net stores, takes no more room than its words.
-use Rattle.dp_semantics.proofs.Names.{list_any, inl, inr, ◌≡◌, refl, sym, ap, ◌∙◌, subst, ℕ, suc, ◌+◌, ◌<◌, ◌≤◌, Bool, true, false, ◌||◌, if◌then◌else◌, List, [], ◌∷◌, ◌++◌, ℤ, length, map, Ok, Err, Result, arith, cases_Bool, and_parts, Stmt, out-Stmt, Stmt-F, Assign, Store, Print, If, While, Region, Break, Call, Program, Plan, Evaluated, evaluated, eval, WithLoads, just, and_then, first_cell, FaultKind, Event, Effect, Stored, Printed, Decided, Tried, followed, site_of, value_of, stored, stage_of}
+use Rattle.dp_semantics.proofs.Names.{list_any, inl, inr, ◌≡◌, refl, sym, ap, ◌∙◌, ℕ, suc, ◌+◌, ◌<◌, ◌≤◌, Bool, true, false, ◌||◌, if◌then◌else◌, List, [], ◌∷◌, ◌++◌, ℤ, length, Ok, Err, arith, cases_Bool, and_parts, Stmt, out-Stmt, Stmt-F, Assign, Store, If, While, Program, Plan, Evaluated, evaluated, eval, WithLoads, just, and_then, first_cell, Event, Effect, Stored, Printed, Decided, Tried, followed, value_of}
 use Rattle.dp_semantics.proofs.Evaluation.{Form}
-use Rattle.dp_semantics.proofs.Ways.{Goes, stays, goes, event_of}
+use Rattle.dp_semantics.proofs.Ways.{Goes, stays, goes}
 use Rattle.dp_net.specs.Quiet.{is_quiet}
 use Rattle.dp_net.specs.NetItems.{stores_into, put, told_after, net_behind, net_of}
-use Rattle.dp_net.specs.Hidden.{gains_at, gains, pays_off, is_hidden}
+use Rattle.dp_net.specs.Hidden.{gains_at, gains}
 use Rattle.dp_net.proofs.Silent.{AllQuiet, QuietHead, form_is, quiet_head, quiet_out}
 use Rattle.dp_net.proofs.Blocks.{effects_of, onward, head_of}
 

@@ -1,20 +1,19 @@
 -- The packets of items stand for those of turns that break off where an own site goes against an assumption.
-use Rattle.dp_semantics.proofs.Names.{◌≡◌, ◌⊎◌, inl, inr, refl, sym, ap, ◌∙◌, subst, ℕ, zero, suc, ◌+◌, ◌<◌, ◌≤◌, ◌==◌, Bool, true, false, List, [], ◌∷◌, ◌++◌, ℤ, pos, length, length-set, map, map-append, list_all, list_any, Option, Some, None, Ok, Err, arith, get_or, sum_by, slice_get, cases_Bool, VarInfo, Stmt, out-Stmt, Program, Plan, Word, is_local_of, clear_locals, is_local_at, is_local_cell, project_all, region_statement, TurnEnd, Ended, turn_begin, StageKind, Par, Seq, Status, Going, Closing, Broken, Packet, Passed, passed_by, passed_on, Epoch, cleared, status_of, Void}
-use Rattle.dp_semantics.specs.Packets.{version_of}
+use Rattle.dp_semantics.proofs.Names.{◌≡◌, inl, inr, refl, sym, ◌∙◌, subst, ℕ, zero, suc, ◌+◌, Bool, true, false, List, [], ◌∷◌, ◌++◌, ℤ, pos, length, length-set, map-append, list_all, list_any, Option, Some, None, Ok, Err, arith, sum_by, slice_get, cases_Bool, VarInfo, Stmt, out-Stmt, is_local_of, clear_locals, is_local_at, is_local_cell, project_all, region_statement, TurnEnd, StageKind, Par, Seq, Status, Going, Closing, Broken, Packet, Passed, passed_by, passed_on, Epoch, cleared, status_of, Void}
 use Rattle.dp_net.proofs.Strict.{strict_run, strict_run_on, strict_sequential, strict_kind, strict_passed}
 use Rattle.std.proofs.lemmas.List.{ext_get_or}
 use Rattle.dp_theorem.proofs.Memory.{clear-at, clear-other}
 use Rattle.dp_semantics.proofs.Each.{Each, each_join}
 use Rattle.dp_semantics.proofs.Followed.{Parts}
-use Rattle.dp_net.specs.NetItems.{Marks, Item, weights}
+use Rattle.dp_net.specs.NetItems.{Marks, weights}
 use Rattle.dp_net.specs.NetRun.{NetEnded, net_run}
 unfoldable use Rattle.dp_net.specs.NetRun.{net_from}
 use Rattle.dp_net.specs.NetPackets.{NetStatus, NetGoing, NetClosing, NetVoid, net_status_of, NetPacket, NetPassed, net_passed, net_passed_by, net_passed_on, net_run_on, net_at_kind, net_at_sequential}
-use Rattle.dp_net.proofs.Memories.{Open, Agrees, agrees_self}
+use Rattle.dp_net.proofs.Memories.{Agrees, agrees_self}
 use Rattle.dp_net.proofs.Groups.{Group, flats, items, all_flats, all_items, sums_are, Marked, Good}
 use Rattle.dp_net.proofs.Texts.{Text}
 use Rattle.dp_net.proofs.Ready.{Ready}
-use Rattle.dp_net.proofs.SiteRuns.{AllGood, EndsAlike, SameEnd}
+use Rattle.dp_net.proofs.SiteRuns.{AllGood, SameEnd}
 use Rattle.dp_net.proofs.NetRuns.{alike}
 
 pub clear_size : (r : ℕ) (vars : List VarInfo) (cells : List ℤ) → length (clear_locals r vars cells) ≡ length cells

@@ -1,15 +1,14 @@
 -- One step at a statement of the source's text: of a stage's turn, of the one that breaks off where it goes against an assumption, and of the judgement.
-use Rattle.dp_semantics.proofs.Names.{◌≡◌, inl, inr, refl, sym, ap, ◌∙◌, subst, append-nil, ℕ, zero, suc, ◌+◌, ◌-◌, ◌<◌, ◌≤◌, ◌==◌, Bool, true, false, ◌&&◌, ◌||◌, if◌then◌else◌, List, [], ◌∷◌, ◌++◌, ℤ, length, Option, Some, None, Ok, Err, Result, nat_le, nat_lt, leb-true, ltb-true, eq-eqb, ne_eqb, slice_set, and_parts, cases_Bool, FaultKind, SiteId, Stmt, out-Stmt, roll-Stmt, out-roll-Stmt, Stmt-F, Assign, Store, Print, If, While, Region, Break, Call, Program, Plan, Word, Evaluated, evaluated, WithLoads, Event, Effect, Stored, Printed, Decided, Tried, site_of, value_of, stored, followed, project, stage_of, first_site, as_assumed, event_as_assumed, closes_at, effect_by, is_done_of, after_loads_of, words_of, word_list, first_cell, cell_count, Full, Void, Taken, taken_from, Turn, TurnEnd, Ended, turned, turn_by, turn_at, turn_step, own_step, consumed_step, Judging, Judgement, Agreed, Clean, Unclean, judged, judge_step, judge_by, judge_at, loads_hold, last, project_all}
+use Rattle.dp_semantics.proofs.Names.{◌≡◌, inl, inr, refl, sym, ap, ◌∙◌, subst, ℕ, suc, ◌+◌, ◌-◌, ◌≤◌, Bool, true, false, ◌&&◌, ◌||◌, if◌then◌else◌, List, [], ◌∷◌, ◌++◌, ℤ, length, Option, Some, None, Ok, Err, Result, nat_le, nat_lt, leb-true, ltb-true, eq-eqb, ne_eqb, slice_set, and_parts, cases_Bool, FaultKind, SiteId, Stmt, out-Stmt, roll-Stmt, out-roll-Stmt, Stmt-F, Assign, Store, Print, If, While, Region, Break, Call, Program, Plan, Word, evaluated, WithLoads, Effect, Stored, Printed, Decided, Tried, site_of, value_of, stored, followed, project, stage_of, first_site, as_assumed, closes_at, effect_by, is_done_of, after_loads_of, words_of, word_list, first_cell, cell_count, Full, Void, Taken, taken_from, Turn, TurnEnd, turned, turn_by, turn_step, own_step, consumed_step, Judging, Agreed, Clean, Unclean, judged, judge_step, judge_by, loads_hold, last, project_all}
 unfoldable use Rattle.dp_semantics.proofs.Names.{turn_from, judge_from}
 use Rattle.dp_semantics.specs.Words.{Astray, is_cell_of, done_from, taken_by}
-use Rattle.dp_semantics.specs.StageRun.{produced}
 use Rattle.dp_semantics.specs.Judge.{judged_by}
 use Rattle.dp_semantics.proofs.Evaluation.{Form}
 use Rattle.dp_semantics.proofs.Heads.{all_well, well_at}
 use Rattle.dp_semantics.proofs.Ways.{event_of}
 use Rattle.dp_theorem.proofs.Projected.{proj_head, stays_there, kept_followed}
 use Rattle.dp_theorem.proofs.Stepping.{site_proj, evaluated_proj}
-use Rattle.dp_net.proofs.Strict.{strict_step, strict_own_step, strict_produced}
+use Rattle.dp_net.proofs.Strict.{strict_step, strict_own_step}
 unfoldable use Rattle.dp_net.proofs.Strict.{strict_from}
 use Rattle.dp_net.proofs.Blocks.{at_turn}
 

@@ -1,16 +1,12 @@
 -- Behind clean judgements the packets of turns that break off at a wrong assumption are the definition's, and so is the next judgement.
-use Rattle.dp_semantics.proofs.Names.{◌≡◌, ◌⊎◌, inl, inr, refl, sym, ap, ◌∙◌, subst, append_assoc, append-nil, ℕ, zero, suc, ◌+◌, ◌-◌, ◌<◌, ◌≤◌, ◌==◌, Bool, true, false, ◌&&◌, if◌then◌else◌, List, [], ◌∷◌, ◌++◌, ℤ, length, length-append, get_or, get_or_append_left, get_or-append_seam, Option, Some, None, Ok, Err, Result, arith, nat_le, slice_get, sum_by, cases_Bool, cases_eq, Stmt, out-Stmt, Stmt-F, Program, Plan, Word, Evaluated, evaluated, Event, event_as_assumed, words_of, word_list, Full, Void, Taken, taken_from, Turn, TurnEnd, Ended, turned, turn_by, turn_at, turn_step, own_step, consumed_step, stage_at, words_left, stage_run, StageKind, Par, Seq, Status, Going, Closing, Broken, Packet, Passed, passed, passed_by, passed_on, run_on, at_kind, at_sequential, Epoch, cleared, status_of, Judgement, Agreed, Clean, Unclean, judge, judge_lists, judge_status, last, project_all, region_statement}
+use Rattle.dp_semantics.proofs.Names.{◌≡◌, ◌⊎◌, inl, inr, refl, sym, ap, ◌∙◌, subst, ℕ, zero, suc, ◌-◌, ◌<◌, ◌≤◌, true, false, List, ℤ, length, Option, Some, None, arith, slice_get, cases_eq, TurnEnd, stage_run, StageKind, Par, Seq, Status, Going, Closing, Broken, Packet, Passed, passed, passed_by, passed_on, run_on, at_kind, at_sequential, Epoch, cleared, Judgement, Agreed, Clean, Unclean, judge}
 unfoldable use Rattle.dp_semantics.proofs.Names.{turn_from, judge_from}
 use Rattle.dp_semantics.specs.EpochKey.{EpochKey, epoch_of}
-use Rattle.dp_semantics.specs.EpochVerdicts.{JudgeState, verdict_at, verdict_by, goes_on, state_at, judgement_of, judgement_in}
-use Rattle.dp_semantics.proofs.PacketFacts.{live, Left, left_live}
-use Rattle.dp_semantics.proofs.Setting.{Accepted, turn_of}
-use Rattle.dp_semantics.proofs.Taking.{word_list_is}
-use Rattle.dp_theorem.proofs.Whole.{turn_well, turn_sound}
-use Rattle.dp_net.proofs.Strict.{strict_run, strict_step, strict_own_step, strict_at, strict_run_on, strict_sequential, strict_kind, strict_passed}
+use Rattle.dp_semantics.specs.EpochVerdicts.{JudgeState, verdict_at, verdict_by, goes_on, state_at, judgement_of}
+use Rattle.dp_semantics.proofs.PacketFacts.{live}
+use Rattle.dp_semantics.proofs.Setting.{Accepted}
+use Rattle.dp_net.proofs.Strict.{strict_run, strict_run_on, strict_sequential, strict_kind, strict_passed}
 unfoldable use Rattle.dp_net.proofs.Strict.{strict_from}
-use Rattle.dp_net.proofs.Projections.{turn_text}
-use Rattle.dp_net.proofs.Unassumed.{kept_in, Facing, Sourced}
 use Rattle.dp_net.proofs.StrictTurns.{SameOrOff, same_or_off}
 use Rattle.dp_net.proofs.CleanPackets.{not_live, turn_kept, closing_left}
 

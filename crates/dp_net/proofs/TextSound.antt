@@ -1,35 +1,9 @@
 -- The text of each stage is sound where the region's sites are.
-use Rattle.dp_semantics.proofs.Names.{◌≡◌, ◌⊎◌, inl, inr, refl, sym, ap, ◌∙◌, subst, append-nil, ℕ, zero, suc, ◌+◌, ◌-◌, ◌<◌, ◌≤◌, ◌==◌, Bool, true, false, not, ◌&&◌, ◌||◌, if◌then◌else◌, List, [], ◌∷◌, ◌++◌, ℤ, length, map, list_all, list_any, list_all-append, flat_map, Option, Some, None, arith, nat_lt, nat_le, lt-ltb, eq-eqb, eqb-true, ne_eqb, ltb-true, and_parts, and_from, cases_Bool, cases_eq, Stmt, Row_of-Stmt, end_of-Stmt, more_of-Stmt, out-Stmt, roll-Stmt, out-roll-Stmt, rolls-If, rolls-While, Stmt-F, If, While, Region, Program, Plan, site_of, stage_of, Access, accesses, accesses_in, region_accesses, region_statement, is_checked, has_cell, last, assumed_in, branch_of, where_reached, project, project_in, project_all, fits_plan, stores_var, Epoch}
+use Rattle.dp_semantics.proofs.Names.{◌≡◌, refl, sym, ap, ◌∙◌, ℕ, Bool, true, false, ◌&&◌, if◌then◌else◌, List, [], list_all, list_all-append, Option, Some, None, nat_le, and_from, Stmt, Row_of-Stmt, end_of-Stmt, more_of-Stmt, rolls-If, rolls-While, If, While, Program, Plan, stage_of, Access, accesses, accesses_in, assumed_in, branch_of, where_reached, project, project_in}
 use Rattle.dp_tree.specs.declared.Stmt.TheVariants as tree
-use Rattle.dp_tree.specs.Numbering.{numbers_from}
-use Rattle.dp_tree.specs.Statements.{listed, everywhere, everywhere_in}
-use Rattle.dp_plan.specs.Access.{access_at}
-use Rattle.dp_plan.specs.Written.{site_in}
-use Rattle.dp_plan.proofs.Ascent.{Ascends, ascends-numbers_from}
-use Rattle.dp_plan.proofs.RegionOrder.{RegionAt, Sought, absent, present, find_region}
-use Rattle.dp_tree.specs.Inlined.{IsInlined}
-use Rattle.dp_semantics.specs.Fits.{stores_known}
-use Rattle.dp_semantics.specs.EpochKey.{EpochKey, epoch_of}
-use Rattle.dp_semantics.proofs.Each.{Each, each_map, each_split, each_join, each_both, all_of, all_make}
-use Rattle.dp_semantics.proofs.Evaluation.{Roomy}
-use Rattle.dp_semantics.proofs.Setting.{Laid, Sound, Accepted, head_access}
-use Rattle.dp_theorem.proofs.Fitting.{accepted}
-use Rattle.dp_net.specs.Quiet.{is_quiet}
-use Rattle.dp_net.specs.NetItems.{begins, Marks}
-use Rattle.dp_net.specs.NetVerdicts.{NetIsRight, NetAgrees, GoesOnTo, net_verdict_at}
-use Rattle.dp_net.specs.BlockText.{own_site, own_stage, is_quiet_own, run, joins_run, if_pays, block_from, run_behind, site_past, sought_inside, sought}
-use Rattle.dp_net.specs.Hidden.{at_home, is_private, is_hidden, block_in, marks_of}
-use Rattle.dp_net.specs.NetItems.{is_nil}
-use Rattle.dp_net.proofs.Silent.{AllQuiet}
-use Rattle.dp_net.proofs.Groups.{Marked}
-use Rattle.dp_net.proofs.Texts.{Text, ends, text_join}
-use Rattle.dp_net.proofs.BlockPlaces.{run_quiet}
-use Rattle.dp_net.proofs.HiddenCells.{is_sound, is_clear, sound_at, all_sound, sound_head, sound_roll, hidden_local, ready_all}
-use Rattle.dp_net.specs.NetItems.{item_list}
-use Rattle.dp_net.specs.Batches.{BatchesAreRight, BatchesEnd, batch_begin, batch_size, ends_batch}
-use Rattle.dp_semantics.specs.EpochVerdicts.{goes_on}
-use Rattle.dp_net.specs.NetPackets.{net_passed}
-use Rattle.dp_net.specs.Follows.{Follows, ItemsFollow, is_void}
+use Rattle.dp_semantics.proofs.Each.{Each, each_split}
+use Rattle.dp_semantics.proofs.Setting.{head_access}
+use Rattle.dp_net.proofs.HiddenCells.{is_sound, all_sound, sound_roll}
 
 module _ (p : Program) (plan : Plan) where
   -- The text of each stage is sound where the region's sites are.

@@ -1,28 +1,16 @@
 -- What a judgement tells of a block by its net stores is what it tells by its words: the same prints, steps and last values, to each stage that sees them.
-use Rattle.dp_semantics.proofs.Names.{◌≡◌, ◌⊎◌, inl, inr, refl, sym, ap, ◌∙◌, subst, append_assoc, append-nil, ℕ, zero, suc, ◌+◌, ◌-◌, ◌<◌, ◌≤◌, ◌==◌, Bool, true, false, not, ◌&&◌, ◌||◌, if◌then◌else◌, List, [], ◌∷◌, ◌++◌, drop, ℤ, pos, length, length-append, length-map, length-set, map, filter_map, list_all, Option, Some, None, Ok, Err, Result, nat_le, nat_lt, lt-ltb, arith, leb-true, le-leb, lt-leb, eq-eqb, eqb-true, ne_eqb, slice_set, get_or, get_or_past, sum_by, sum_by-set, list_all-append, and_parts, and_from, cases_Bool, cases_eq, cases_lt, drop-append_seam, int_eq, Stmt, out-Stmt, Stmt-F, Program, Plan, Word, Event, Effect, Stored, Printed, Decided, Tried, site_of, value_of, stored, followed, stage_of, first_site, is_load_of, as_assumed, word_list, Void, Taken, taken_from, Turn, turned, consumed, stage_at, words_left, closes_at, applied, Judging, Judgement, Agreed, Clean, Unclean, loads_hold, judged, judge_step, judge_by, judge_at, judge_spent, last}
+use Rattle.dp_semantics.proofs.Names.{◌≡◌, inl, inr, refl, sym, ap, ◌∙◌, ℕ, suc, ◌+◌, Bool, true, false, if◌then◌else◌, List, [], ◌∷◌, ◌++◌, ℤ, length, length-append, filter_map, Option, Some, None, nat_le, arith, cases_Bool, Program, Plan, Event, Effect, Stored, Printed, Decided, Tried, stage_of, last}
 unfoldable use Rattle.dp_semantics.proofs.Names.{judge_from}
-use Rattle.dp_semantics.specs.Judge.{judged_by}
-use Rattle.dp_semantics.specs.Words.{is_load}
 use Rattle.dp_tree.specs.Trace.{printed_by}
 use Rattle.std.specs.Option.{option_or}
 use Rattle.std.specs.List.{cons_option}
-use Rattle.std.proofs.lemmas.List.{map-set}
 use Rattle.std.proofs.lemmas.List.Elements.{filter_map-append}
-use Rattle.dp_semantics.proofs.Each.{Each, each_map, each_join}
-use Rattle.dp_theorem.proofs.Judging.{judge_ends}
-use Rattle.dp_semantics.proofs.Ways.{Goes}
-use Rattle.dp_semantics.proofs.Taking.{word_list_is, word_list_same}
-use Rattle.dp_semantics.proofs.Followed.{Parts, followed_has, all_joins}
+use Rattle.dp_semantics.proofs.Each.{Each}
 use Rattle.dp_net.specs.NetItems.{Marks, Item, Said, Net, put, told_after, net_behind, net_of, item_list, NetTaken, net_taken_from}
-use Rattle.dp_net.specs.NetRun.{NetTurn, net_past}
-use Rattle.dp_net.specs.NetJudge.{NetJudging, NetAgreed, net_agreed, net_loads_hold, sites_for, net_judged, net_judged_by, word_judged, block_judged, net_judge_step, net_judge_step_by, net_judge_by, net_judge_at}
+use Rattle.dp_net.specs.NetJudge.{sites_for}
 unfoldable use Rattle.dp_net.specs.NetJudge.{net_judge_from}
-use Rattle.dp_net.proofs.Silent.{AllQuiet}
-use Rattle.dp_net.proofs.Blocks.{said, said_length, effects_of, sites_of, at_turn}
-use Rattle.dp_net.proofs.BlockTurns.{judge_block, judge_short, IsOf, all_of_stage}
-use Rattle.dp_net.proofs.Memories.{Open, Agrees, agree_stored, agree_net, stored_at, last_of, net_last}
-use Rattle.dp_net.proofs.Groups.{Group, One, Block, flats, items, all_flats, all_items, group_list, words_of_groups, items_of_groups, Marked, Whole, Good, Alike, both, none, taken_alike, Meets, whole, other, meets, Missing, first_word}
-use Rattle.dp_net.proofs.Texts.{site_at, Plain, Text, Headed, alone, joined, headed}
+use Rattle.dp_net.proofs.Blocks.{effects_of, sites_of}
+use Rattle.dp_net.proofs.Memories.{Open, stored_at, last_of, net_last}
 
 -- the effects that stage s or an earlier one made, and so stage s sees
 abbrev pub seen_by : Program → Plan → ℕ → List ℕ → List Effect → List Effect

@@ -1,5 +1,5 @@
 -- Iterations in batches: which ones go together, what a stage sends of them, and what is decided of them.
-use Rattle.std.specs.Prelude.{◌≡◌, ℕ, zero, suc, ◌+◌, ◌-◌, ◌<◌, min, max, if◌then◌else◌, Bool, true, false, not, List, [], ◌∷◌, ◌++◌, ℤ, length, map}
+use Rattle.std.specs.Prelude.{◌≡◌, ℕ, zero, suc, ◌+◌, ◌-◌, min, max, if◌then◌else◌, Bool, true, false, not, List, [], ◌∷◌, ◌++◌, ℤ, length, map}
 use Rattle.dp_base.specs.declared.StoreOf.{StoreOf}
 use Rattle.dp_base.specs.declared.Cause.{Cause as ReportedCause}
 use Rattle.dp_tree.specs.declared.Stmt.{Stmt}

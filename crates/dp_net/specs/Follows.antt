@@ -12,7 +12,7 @@ use Rattle.dp_semantics.specs.Words.{words_of, done_word, effect_by}
 use Rattle.dp_semantics.specs.EpochKey.{EpochKey, epoch_of}
 use Rattle.dp_net.specs.NetItems.{Marks, Item, Net, said_all, item_list}
 use Rattle.dp_net.specs.Hidden.{marks_of}
-use Rattle.dp_net.specs.NetPackets.{NetStatus, NetVoid, NetPacket, net_passed}
+use Rattle.dp_net.specs.NetPackets.{NetStatus, NetVoid, net_passed}
 
 -- The words of an event at the statement's site stand in front: what it did is the statement's to do, and goes as assumed.
 pub record Says (p : Program) (plan : Plan) (head : Stmt-F Stmt) (event : Event) (items rest : List Item) : Type 0 where

@@ -62,7 +62,7 @@ module _ (p : Program) (plan : Plan) where
   word_judged limit c x rest head =
       if nat_le (c.steps + 1) limit
       then net_judged_by c x rest head (net_loads_hold (site_of head).0 c.turn.cells (items_left p plan c.turn (site_of head).0))
-        (net_taken_from p head (items_left p plan c.turn (site_of head).0))
+      (net_taken_from p head (items_left p plan c.turn (site_of head).0))
       else None
 
   -- the judging after a block's item

@@ -14,7 +14,7 @@ use Rattle.dp_semantics.specs.StageRun.{closes_at}
 use Rattle.dp_semantics.specs.Verdict.{applied, effect_in}
 use Rattle.dp_net.specs.Quiet.{Outcome, Through, Broke}
 unfoldable use Rattle.dp_net.specs.Quiet.{quiet_from}
-use Rattle.dp_net.specs.NetItems.{Marks, Item, Said, Net, net_of, weights, said_all, item_list, NetTaken, net_taken_from}
+use Rattle.dp_net.specs.NetItems.{Marks, Item, Net, net_of, weights, said_all, item_list, NetTaken, net_taken_from}
 
 -- the statements still to do, the memory, the items left of each earlier stage, the stage's own items, and whether the region is left
 pub record NetTurn : Type 0 where

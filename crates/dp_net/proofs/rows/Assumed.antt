@@ -1,5 +1,5 @@
 -- A turn that goes against an assumption breaks off, and the others go on, computed.
-use Rattle.std.proofs.Common.{◌≡◌, refl, ℕ, Bool, true, List, [], ◌∷◌, ℤ, pos, negsuc, length, map}
+use Rattle.std.proofs.Common.{◌≡◌, refl, ℕ, true, List, [], ◌∷◌, pos, negsuc, length, map}
 use Rattle.dp_tree.specs.declared.Stmt.{Stmt}
 use Rattle.dp_tree.proofs.Build.{tree_opened}
 use Rattle.dp_tree.proofs.Programs.{skip_negative}
@@ -8,7 +8,7 @@ use Rattle.dp_plan.proofs.Plans.{skip_negative_plan}
 use Rattle.dp_semantics.specs.Packets.{Epoch}
 use Rattle.dp_net.specs.Quiet.{quiet_from}
 use Rattle.dp_net.specs.NetRun.{net_from}
-use Rattle.dp_net.specs.NetPackets.{NetStatus, NetGoing, NetClosing, NetVoid, NetPacket, net_passed}
+use Rattle.dp_net.specs.NetPackets.{NetGoing, NetClosing, NetVoid, NetPacket, net_passed}
 use Rattle.dp_net.specs.Hidden.{marks_of}
 
 -- The `if` of stage 2, which is assumed not to be taken, is taken in iteration 1.

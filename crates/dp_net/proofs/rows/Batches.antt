@@ -1,13 +1,13 @@
 -- Which iterations go together, and what verdicts come to together, computed.
-use Rattle.std.proofs.Common.{◌≡◌, refl, ℕ, ◌==◌, Bool, true, false, List, [], ◌∷◌, ℤ, pos, map}
+use Rattle.std.proofs.Common.{◌≡◌, refl, ℕ, ◌==◌, true, false, List, [], ◌∷◌, ℤ, pos, map}
 use Rattle.dp_base.specs.declared.StoreOf.{StoreOf}
 use Rattle.dp_base.specs.declared.Cause.{Cause as ReportedCause}
 use Rattle.dp_tree.specs.declared.Program.{Program}
 use Rattle.dp_tree.specs.Numbering.{numbers_from}
 use Rattle.dp_plan.specs.declared.Plan.{Plan}
 use Rattle.dp_semantics.specs.EpochKey.{EpochKey}
-use Rattle.dp_semantics.specs.EpochVerdicts.{Carried, Verdict, Commit, Again}
-use Rattle.dp_net.specs.Batches.{up_to, batch_begin, batch_size, together, BatchVerdict, BatchGoesOn, BatchCloses, BatchRecovers}
+use Rattle.dp_semantics.specs.EpochVerdicts.{Carried, Commit, Again}
+use Rattle.dp_net.specs.Batches.{up_to, batch_begin, batch_size, together, BatchGoesOn, BatchCloses, BatchRecovers}
 
 module _ (p : Program) (plan : Plan) (cause : ReportedCause) where
   abbrev epoch : ℕ → ℕ → EpochKey

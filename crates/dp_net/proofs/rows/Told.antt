@@ -1,20 +1,18 @@
 -- What is sent, computed: two stores to one element in stage 2 are one net store.
-use Rattle.std.proofs.Common.{◌≡◌, refl, ℕ, Bool, true, false, List, [], ◌∷◌, ℤ, pos, Option, Some, None}
-use Rattle.dp_base.specs.declared.Word.{Word}
+use Rattle.std.proofs.Common.{◌≡◌, refl, ℕ, Bool, true, false, List, [], ◌∷◌, pos, Option, Some, None}
 use Rattle.dp_base.specs.declared.WordKind.TheVariants as word
-use Rattle.dp_tree.specs.declared.Program.{Program}
 use Rattle.dp_tree.specs.declared.Stmt.{Stmt}
-use Rattle.dp_tree.specs.Step.{Effect, Stored, Printed, Decided, Tried}
+use Rattle.dp_tree.specs.Step.{Stored}
 use Rattle.dp_tree.proofs.Build.{tree_opened}
 use Rattle.dp_tree.proofs.Programs.{two_stores}
 use Rattle.dp_plan.specs.declared.Plan.{Plan}
-use Rattle.dp_plan.specs.declared.StageKind.TheVariants.{Seq, Par}
+use Rattle.dp_plan.specs.declared.StageKind.TheVariants.{Seq}
 use Rattle.dp_plan.proofs.Plans.{plan, unchecked}
 use Rattle.dp_semantics.specs.Packets.{Epoch}
 use Rattle.dp_semantics.specs.EpochKey.{EpochKey}
 use Rattle.dp_semantics.specs.EpochVerdicts.{Verdict, Commit, Again}
 use Rattle.dp_net.specs.Quiet.{quiet_from}
-use Rattle.dp_net.specs.NetItems.{Item, Said, Net}
+use Rattle.dp_net.specs.NetItems.{Said, Net}
 use Rattle.dp_net.specs.NetRun.{net_from}
 use Rattle.dp_net.specs.NetPackets.{net_passed}
 use Rattle.dp_net.specs.NetJudge.{net_judge_from}
