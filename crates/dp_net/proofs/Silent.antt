@@ -55,7 +55,8 @@ module _ (p : Program) (plan : Plan) (t : ℕ) where
   is_not true e = absurd (cc)
   is_not false e = refl
 
-  known_quiet_by : (h : Stmt-F Stmt) → quiet_own h ≡ true → Parts AllQuiet h → ((z : ℤ) → taken h z ≡ false) → ((z : ℤ) → Form p h (Tried z) → ⊥) → ((z : ℤ) → Form p h (Printed z) → ⊥) → QuietHead h
+  known_quiet_by : (h : Stmt-F Stmt) → quiet_own h ≡ true → Parts AllQuiet h → ((z : ℤ) → taken h z ≡ false) → ((z : ℤ) → Form p h (Tried z) → ⊥) →
+      ((z : ℤ) → Form p h (Printed z) → ⊥) → QuietHead h
   known_quiet_by h q parts onward tries mute =
       let both = and_parts (is_quiet_site p plan t (site_of h).0) (list_all (has_cell p) (head_loads h) && stores_known p (head_stores h)) q in
       let one = and_parts (stage_of p plan (site_of h).0 == t) (not (is_checked p plan (site_of h).0) && (not ((site_of h).0 == first_site p plan) && not (list_any (is_assumed_at (site_of h).0) plan.assume))) both.0 in
@@ -107,10 +108,12 @@ module _ (p : Program) (plan : Plan) (t : ℕ) where
     pub closes_not : (effect : Effect) → Form p h effect → closes_at (first_site p plan) (site_of h).0 effect ≡ false
     closes_not effect f = rw (q.inner, stays_in effect f)
 
-    pub words_are : (loads : List Rattle.dp_tree.specs.Eval.Load) (effect : Effect) → words_of p plan (record { site = (site_of h).0; loads = loads; effect = effect }) ≡ done_word (site_of h).0 effect ∷ []
+    pub words_are : (loads : List Rattle.dp_tree.specs.Eval.Load) (effect : Effect) →
+        words_of p plan (record { site = (site_of h).0; loads = loads; effect = effect }) ≡ done_word (site_of h).0 effect ∷ []
     words_are loads effect = rw q.unchecked
 
-    nothing_assumed : (effect : Effect) (all : List Assume) → list_any (is_assumed_at (site_of h).0) all ≡ false → list_all (goes_as (site_of h).0 effect) all ≡ true
+    nothing_assumed : (effect : Effect) (all : List Assume) → list_any (is_assumed_at (site_of h).0) all ≡ false →
+        list_all (goes_as (site_of h).0 effect) all ≡ true
     nothing_assumed effect [] e = refl
     nothing_assumed effect (a ∷ all) e =
         let n = none_of (is_assumed_at (site_of h).0) (a ∷ all) e in
