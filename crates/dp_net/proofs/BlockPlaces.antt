@@ -1,5 +1,5 @@
 -- Each stage's text has the blocks of the region whole.
-use Rattle.dp_semantics.proofs.Names.{◌≡◌, ◌⊎◌, inl, inr, refl, sym, ap, ◌∙◌, subst, append_assoc, append-nil, ℕ, zero, suc, ◌+◌, ◌-◌, ◌<◌, ◌≤◌, ◌==◌, Bool, true, false, not, ◌&&◌, if◌then◌else◌, List, [], ◌∷◌, ◌++◌, ℤ, length, length-append, map, list_all, Option, Some, None, arith, nat_lt, nat_le, lt-ltb, le-ltb, eq-eqb, eqb-true, ne_eqb, and_parts, and_from, cases_Bool, cases_eq, cases_lt, flat_map, SiteId, Expr, Stmt, Row_of-Stmt, end_of-Stmt, more_of-Stmt, out-Stmt, roll-Stmt, roll-out-Stmt, out-roll-Stmt, rolls-If, rolls-While, outs-If, Stmt-F, Assign, Store, Print, If, While, Region, Break, Call, Program, Plan, site_of, stage_of, Access, accesses, accesses_in, assumed_in, branch_of, where_reached, project, project_in, project_all}
+use Rattle.dp_semantics.proofs.Names.{◌≡◌, inl, inr, refl, sym, ap, ◌∙◌, ℕ, ◌+◌, ◌-◌, ◌<◌, ◌≤◌, ◌==◌, Bool, true, false, ◌&&◌, if◌then◌else◌, List, [], ◌∷◌, ◌++◌, Option, Some, None, arith, eqb-true, and_parts, cases_Bool, SiteId, Expr, Stmt, Row_of-Stmt, end_of-Stmt, more_of-Stmt, out-Stmt, roll-Stmt, roll-out-Stmt, rolls-If, rolls-While, Assign, Store, Print, If, While, Break, Call, Program, Plan, stage_of, assumed_in, branch_of, project, project_in, project_all}
 use Rattle.dp_tree.specs.declared.Stmt.TheVariants as tree
 use Rattle.dp_tree.specs.declared.Stmt.TheViews.{outs-If', outs-While'}
 use Rattle.dp_tree.specs.Statements.{listed, everywhere_in}

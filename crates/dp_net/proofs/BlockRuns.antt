@@ -1,5 +1,5 @@
 -- A turn over items against the one over the words that they stand for, at a block: both go through it, or both break off.
-use Rattle.dp_semantics.proofs.Names.{◌≡◌, ◌⊎◌, inl, inr, refl, sym, ap, ◌∙◌, subst, append_assoc, append-nil, ℕ, zero, suc, ◌+◌, ◌-◌, ◌<◌, ◌≤◌, ◌==◌, Bool, true, false, not, ◌&&◌, ◌||◌, if◌then◌else◌, List, [], ◌∷◌, ◌++◌, drop, ℤ, pos, length, length-append, length-set, map, list_all, Option, Some, None, Ok, Err, Result, nat_le, nat_lt, lt-ltb, arith, leb-true, le-leb, lt-leb, eq-eqb, eqb-true, ne_eqb, slice_set, get_or, get_or_past, sum_by, sum_by-set, list_all-append, and_parts, and_from, cases_Bool, cases_eq, cases_lt, FaultKind, SiteId, Stmt, out-Stmt, Stmt-F, Program, Plan, Word, Load, Evaluated, evaluated, WithLoads, Event, Effect, site_of, value_of, stored, followed, stage_of, first_site, is_checked, cell_count, load_word, load_words, done_word, words_of, word_list, Full, Void, Taken, taken_from, Turn, TurnEnd, Ended, turned, turn_by, turn_step, own_step, consumed, consumed_step, stage_at, words_left, closes_at, applied, last}
+use Rattle.dp_semantics.proofs.Names.{◌≡◌, inl, inr, refl, sym, ap, ◌∙◌, subst, append-nil, ℕ, zero, suc, ◌+◌, ◌-◌, ◌<◌, ◌≤◌, Bool, true, List, [], ◌∷◌, ◌++◌, drop, ℤ, length, length-append, list_all, Some, None, Err, lt-ltb, arith, eq-eqb, ne_eqb, slice_set, get_or, get_or_past, sum_by, sum_by-set, cases_eq, cases_lt, Stmt, out-Stmt, Program, Plan, Word, Event, stage_of, word_list, Void, taken_from, Turn, applied}
 unfoldable use Rattle.dp_net.proofs.Strict.{strict_from}
 use Rattle.std.proofs.lemmas.List.{map-set}
 use Rattle.dp_semantics.proofs.Each.{Each, each_join}
@@ -9,13 +9,12 @@ use Rattle.dp_semantics.proofs.Followed.{Parts}
 use Rattle.dp_net.specs.Quiet.{Outcome, Through, Broke}
 unfoldable use Rattle.dp_net.specs.Quiet.{quiet_from}
 use Rattle.dp_net.specs.NetItems.{Marks, Item, weights, net_of}
-use Rattle.dp_net.specs.NetRun.{NetTurn, NetEnded, net_turned, net_own_step, net_consumed_step, net_past, net_made, net_met, net_by, net_step, net_step_by}
-unfoldable use Rattle.dp_net.specs.NetRun.{net_from}
+use Rattle.dp_net.specs.NetRun.{NetTurn, net_past, net_made, net_met, net_step}
 use Rattle.dp_net.proofs.Silent.{AllQuiet}
 use Rattle.dp_net.proofs.Blocks.{said, said_length, effects_of, at_turn, through}
 use Rattle.dp_net.proofs.BlockTurns.{breaks, produce, consume}
 use Rattle.dp_net.proofs.Memories.{agree_net}
-use Rattle.dp_net.proofs.Groups.{Group, One, Block, flats, flats_join, item, items, items_join, weights_are, all_flats, all_items, sums_are, group_list, words_of_groups, items_of_groups, Marked, Whole, Good, Alike, both, none, taken_alike, Meets, whole, other, meets, is_within, Missing, met_none}
+use Rattle.dp_net.proofs.Groups.{Group, Block, flats, flats_join, items, items_join, weights_are, all_flats, all_items, group_list, words_of_groups, items_of_groups, Marked, Whole, Good, Meets, whole, other, meets, met_none}
 use Rattle.dp_net.proofs.Texts.{site_at, Text}
 use Rattle.dp_net.proofs.Ready.{Ready, each_set, each_get, SameOutcome, same_through, same_broke, Steady, steady_head, steady_split, outcome_same}
 use Rattle.dp_net.proofs.SiteRuns.{word_turn, item_turn, left_of, Enough, Held}

@@ -1,6 +1,5 @@
 -- The verdicts by items are the definition's.
 use Rattle.dp_semantics.proofs.Names.{◌≡◌, refl, sym, ap, ◌∙◌, subst, ℕ, zero, suc, ◌+◌, ◌-◌, Bool, true, false, if◌then◌else◌, List, [], ◌∷◌, ℤ, length, map, Option, Some, None, arith, nat_le, Stmt, Program, Plan, Effect, stored, clear_locals, project_all, region_statement, stage_of, Status, applied, last, Judgement, Agreed, Clean, Unclean, judge, judge_lists, judge_status}
-unfoldable use Rattle.dp_semantics.proofs.Names.{judge_from}
 use Rattle.dp_semantics.specs.CauseWalk.{shown_from}
 use Rattle.dp_semantics.specs.Told.{StoresAreAll}
 use Rattle.dp_semantics.specs.EpochKey.{EpochKey, epoch_of}
@@ -9,7 +8,6 @@ use Rattle.dp_semantics.specs.EpochCauses.{kept_after, next_kept, kept_at}
 use Rattle.dp_net.specs.NetItems.{Marks}
 use Rattle.dp_net.specs.NetJudge.{NetAgreed, net_judge, net_judge_lists, net_judge_status}
 use Rattle.dp_net.specs.NetPackets.{NetStatus, NetPacket}
-unfoldable use Rattle.dp_net.specs.NetJudge.{net_judge_from}
 use Rattle.dp_net.specs.NetVerdicts.{net_judgement_in, net_after_judgement, net_state_at, net_judgement_of, net_verdict_by, net_verdict_at, net_next_kept, net_kept_at, SaysTheSame}
 use Rattle.dp_semantics.proofs.Setting.{Accepted}
 use Rattle.dp_net.proofs.StrictEpochs.{CleanTo, clean_less, strict_judgement, judged_same}

@@ -1,6 +1,5 @@
 -- A turn over lists that follow the earlier stages' text tells what its own asks for.
 use Rattle.dp_semantics.proofs.Names.{◌≡◌, inl, inr, refl, sym, ap, ◌∙◌, subst, append-nil, ℕ, zero, suc, List, [], ◌∷◌, ℤ, Some, cases_eq, Stmt, Program, Plan}
-unfoldable use Rattle.dp_net.specs.Quiet.{quiet_from}
 use Rattle.dp_net.specs.NetItems.{Marks, item_list}
 use Rattle.dp_net.specs.NetRun.{NetEnded}
 unfoldable use Rattle.dp_net.specs.NetRun.{net_from}

@@ -8,7 +8,6 @@ use Rattle.dp_semantics.proofs.Ways.{event_of}
 use Rattle.dp_semantics.proofs.Followed.{followed_has, all_joins}
 use Rattle.dp_semantics.proofs.Taking.{effect_of_word}
 use Rattle.dp_theorem.proofs.Source.{well_parts, each_joins, each_parts, head_fact}
-unfoldable use Rattle.dp_net.specs.Quiet.{quiet_from}
 use Rattle.dp_net.specs.NetItems.{Marks, Item, weights, said_all, item_list, NetTaken, net_taken_from}
 use Rattle.dp_net.specs.NetRun.{NetTurn, NetEnded, net_turned, net_own_step, net_consumed_step, net_by}
 unfoldable use Rattle.dp_net.specs.NetRun.{net_from}

@@ -1,8 +1,7 @@
 -- A turn only adds words of its own.
 use Rattle.dp_semantics.proofs.Names.{◌≡◌, refl, sym, ap, ◌∙◌, append_assoc, append-nil, ℕ, zero, suc, ◌-◌, ◌==◌, Bool, true, false, if◌then◌else◌, List, [], ◌∷◌, ◌++◌, ℤ, length, Ok, Err, Result, nat_le, slice_set, Stmt, out-Stmt, Stmt-F, Program, Plan, Word, Evaluated, evaluated, Event, Effect, words_of, Full, Void, Taken, taken_from, Turn, Ended, turned, turn_by, turn_at, turn_step, own_step, consumed_step, stage_at, words_left}
-unfoldable use Rattle.dp_semantics.proofs.Names.{turn_from, judge_from}
+unfoldable use Rattle.dp_semantics.proofs.Names.{turn_from}
 use Rattle.dp_semantics.proofs.Ways.{event_of}
-unfoldable use Rattle.dp_net.proofs.Strict.{strict_from}
 
 module _ (p : Program) (plan : Plan) (input : List ℤ) (s : ℕ) where
   abbrev pub Grown : Turn → List Word → Type 0

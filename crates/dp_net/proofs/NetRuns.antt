@@ -2,7 +2,6 @@
 use Rattle.dp_semantics.proofs.Names.{◌≡◌, refl, sym, subst, ℕ, zero, suc, ◌+◌, ◌-◌, Bool, true, List, [], ◌∷◌, ◌++◌, ℤ, list_all, arith, Stmt, out-Stmt, Program, Plan, followed, TurnEnd}
 unfoldable use Rattle.dp_net.proofs.Strict.{strict_from}
 use Rattle.dp_semantics.proofs.Followed.{Parts}
-unfoldable use Rattle.dp_net.specs.Quiet.{quiet_from}
 use Rattle.dp_net.specs.NetItems.{Marks}
 use Rattle.dp_net.specs.NetRun.{net_by, net_step}
 unfoldable use Rattle.dp_net.specs.NetRun.{net_from}

@@ -1,5 +1,5 @@
 -- The judgement of items is the definition's judgement of the words that they stand for.
-use Rattle.dp_semantics.proofs.Names.{◌≡◌, ◌⊎◌, inl, inr, refl, sym, ap, ◌∙◌, subst, append_assoc, append-nil, ℕ, zero, suc, ◌+◌, ◌-◌, ◌<◌, ◌≤◌, ◌==◌, Bool, true, false, not, ◌&&◌, ◌||◌, if◌then◌else◌, List, [], ◌∷◌, ◌++◌, drop, ℤ, pos, length, length-append, length-map, length-set, map, filter_map, list_all, Option, Some, None, Ok, Err, Result, nat_le, nat_lt, lt-ltb, arith, leb-true, le-leb, lt-leb, eq-eqb, eqb-true, ne_eqb, slice_set, get_or, get_or_past, sum_by, sum_by-set, list_all-append, and_parts, and_from, cases_Bool, cases_eq, cases_lt, drop-append_seam, int_eq, Stmt, out-Stmt, Stmt-F, Program, Plan, Word, Event, Effect, Stored, Printed, Decided, Tried, site_of, value_of, stored, followed, stage_of, first_site, is_load_of, as_assumed, word_list, Void, Taken, taken_from, Turn, turned, consumed, stage_at, words_left, closes_at, applied, Judging, Judgement, Agreed, Clean, Unclean, loads_hold, judged, judge_step, judge_by, judge_at, judge_spent, last}
+use Rattle.dp_semantics.proofs.Names.{◌≡◌, inl, inr, refl, sym, ap, ◌∙◌, subst, ℕ, zero, suc, ◌+◌, ◌-◌, ◌<◌, ◌≤◌, ◌==◌, Bool, true, false, ◌&&◌, ◌||◌, if◌then◌else◌, List, [], ◌∷◌, ◌++◌, ℤ, length, list_all, Option, Some, None, Err, Result, nat_le, lt-ltb, arith, le-leb, lt-leb, eq-eqb, slice_set, get_or_past, and_parts, cases_Bool, cases_lt, drop-append_seam, Stmt, out-Stmt, Stmt-F, Program, Plan, Word, Event, Effect, site_of, value_of, stored, followed, stage_of, first_site, is_load_of, as_assumed, word_list, Void, Taken, taken_from, closes_at, applied, Judging, Unclean, loads_hold, judged, judge_by, last}
 unfoldable use Rattle.dp_semantics.proofs.Names.{judge_from}
 use Rattle.dp_semantics.specs.Judge.{judged_by}
 use Rattle.dp_semantics.specs.Words.{is_load}

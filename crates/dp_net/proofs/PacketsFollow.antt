@@ -3,7 +3,6 @@ use Rattle.dp_semantics.proofs.Names.{◌≡◌, ◌⊎◌, refl, sym, ap, ◌�
 use Rattle.dp_semantics.proofs.Setting.{Accepted}
 use Rattle.dp_net.specs.NetItems.{Marks, Item, weights, item_list}
 use Rattle.dp_net.specs.NetRun.{NetEnded, net_run}
-unfoldable use Rattle.dp_net.specs.NetRun.{net_from}
 use Rattle.dp_net.specs.NetPackets.{NetStatus, NetGoing, NetClosing, NetVoid, NetPacket, NetPassed, net_passed, net_passed_on, net_run_on}
 use Rattle.dp_net.specs.Follows.{PacketFollows, Follows, ended, is_void}
 use Rattle.dp_net.proofs.Projections.{text_well, text_sites, earlier_part}

@@ -1,6 +1,5 @@
 -- What is asked of the sites of a text, so that memories which agree give each stage the same.
 use Rattle.dp_semantics.proofs.Names.{◌≡◌, refl, sym, ◌∙◌, subst, ℕ, zero, suc, ◌<◌, Bool, true, false, List, [], ◌∷◌, ◌++◌, ℤ, list_all, Ok, Err, slice_set, get_or, list_all-append, and_parts, FaultKind, Stmt, out-Stmt, Stmt-F, Program, Plan, Evaluated, evaluated, WithLoads, Event, Effect, site_of, value_of, stored, followed, stage_of, is_checked, cell_count, last}
-unfoldable use Rattle.dp_net.proofs.Strict.{strict_from}
 use Rattle.dp_semantics.proofs.Each.{Each, each_map}
 use Rattle.dp_semantics.proofs.Evaluation.{InVar, IsHeld, Readable, Roomy, head_loads, head_stores, evaluated_tracks}
 use Rattle.dp_semantics.proofs.Ways.{event_of}
@@ -8,7 +7,6 @@ use Rattle.dp_semantics.proofs.Followed.{Parts, followed_has, all_joins}
 use Rattle.dp_net.specs.Quiet.{Outcome, Through, Broke, with_event, quiet_by}
 unfoldable use Rattle.dp_net.specs.Quiet.{quiet_from}
 use Rattle.dp_net.specs.NetItems.{Marks}
-unfoldable use Rattle.dp_net.specs.NetRun.{net_from}
 use Rattle.dp_net.proofs.Silent.{AllQuiet}
 use Rattle.dp_net.proofs.Blocks.{onward, head_of}
 use Rattle.dp_net.proofs.Memories.{Open, Agrees, agree_stored}

@@ -5,7 +5,7 @@ use Rattle.dp_semantics.proofs.Ways.{Goes, stays, goes}
 use Rattle.dp_net.specs.Quiet.{is_quiet}
 use Rattle.dp_net.specs.NetItems.{stores_into, put, told_after, net_behind, net_of}
 use Rattle.dp_net.specs.Hidden.{gains_at, gains}
-use Rattle.dp_net.proofs.Silent.{AllQuiet, QuietHead, form_is, quiet_head, quiet_out}
+use Rattle.dp_net.proofs.Silent.{AllQuiet, form_is, quiet_head, quiet_out}
 use Rattle.dp_net.proofs.Blocks.{effects_of, onward, head_of}
 
 put_size : (c : ℕ) (z : ℤ) (es : List Effect) → length (put c z es) ≤ suc (length es)

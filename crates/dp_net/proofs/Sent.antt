@@ -7,7 +7,6 @@ use Rattle.dp_semantics.proofs.Each.{Each, each_join}
 use Rattle.dp_semantics.proofs.Followed.{Parts}
 use Rattle.dp_net.specs.NetItems.{Marks, weights}
 use Rattle.dp_net.specs.NetRun.{NetEnded, net_run}
-unfoldable use Rattle.dp_net.specs.NetRun.{net_from}
 use Rattle.dp_net.specs.NetPackets.{NetStatus, NetGoing, NetClosing, NetVoid, net_status_of, NetPacket, NetPassed, net_passed, net_passed_by, net_passed_on, net_run_on, net_at_kind, net_at_sequential}
 use Rattle.dp_net.proofs.Memories.{Agrees, agrees_self}
 use Rattle.dp_net.proofs.Groups.{Group, flats, items, all_flats, all_items, sums_are, Marked, Good}

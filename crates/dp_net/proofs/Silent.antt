@@ -1,11 +1,10 @@
 -- Quiet statements against a stage's turn and the judgement: what the stage itself makes of them, and how a later one takes their words.
-use Rattle.dp_semantics.proofs.Names.{has_cell, stores_known, list_any, ◌≡◌, ◌⊎◌, inl, inr, refl, sym, ap, ◌∙◌, subst, append_assoc, append-nil, ℕ, zero, suc, ◌+◌, ◌-◌, ◌<◌, ◌≤◌, ◌==◌, Bool, true, false, not, ◌&&◌, ◌||◌, if◌then◌else◌, List, [], ◌∷◌, ◌++◌, ℤ, length, length-append, length-set, map, Option, Some, None, Ok, Err, Result, nat_le, nat_lt, arith, le-leb, lt-leb, ltb-true, eq-eqb, eqb-true, ne_eqb, slice_set, get_or, list_all, and_parts, and_from, not-true, or-false, cases_Bool, cases_lt, FaultKind, Stmt, out-Stmt, roll-Stmt, roll-out-Stmt, opened_statement, rolls-Assign, rolls-Store, rolls-Print, rolls-If, rolls-While, rolls-Region, rolls-Break, rolls-Call, Stmt-F, Assign, Store, Print, If, While, Region, Break, Call, Program, Plan, Assume, Word, Evaluated, evaluated, WithLoads, Event, Effect, Stored, Printed, Decided, Tried, site_of, value_of, stored, followed, followed-append, taken, leaves, stage_of, first_site, is_checked, goes_as, stays_late, as_assumed, went, done_word, words_of, word_list, Full, Void, Taken, taken_from, Turn, TurnEnd, turned, turn_at, turn_by, turn_step, turn_from, own_step, stage_at, consumed, consumed_step, words_left, closes_at, is_zero_at, Judging, Judgement, Clean, Unclean, judged, judge_step, judge_by, judge_at, judge_from, loads_hold, applied}
+use Rattle.dp_semantics.proofs.Names.{has_cell, stores_known, list_any, ◌≡◌, refl, sym, ap, ◌∙◌, ℕ, ◌-◌, ◌==◌, Bool, true, false, not, ◌&&◌, ◌||◌, List, [], ◌∷◌, ℤ, Option, Some, None, Ok, nat_le, ltb-true, eqb-true, list_all, and_parts, and_from, Stmt, out-Stmt, roll-Stmt, roll-out-Stmt, opened_statement, rolls-Assign, rolls-Store, rolls-Print, rolls-If, rolls-While, rolls-Region, rolls-Break, rolls-Call, Stmt-F, Assign, Store, Print, If, While, Region, Break, Call, Program, Plan, Assume, evaluated, WithLoads, Effect, Stored, Printed, Decided, Tried, site_of, taken, leaves, stage_of, first_site, is_checked, goes_as, stays_late, as_assumed, went, done_word, words_of, closes_at}
 use Rattle.dp_tree.proofs.SitesOf.{everywhere_hidden}
 use Rattle.dp_semantics.proofs.Evaluation.{Form, head_loads, head_stores, Readable, Roomy, evaluated_tracks}
 use Rattle.dp_semantics.proofs.Each.{Each, all_of, each_map, none_of}
 use Rattle.dp_semantics.proofs.Followed.{Parts}
 use Rattle.dp_net.specs.Quiet.{is_assumed_at, is_quiet_site, is_quiet_access, quiet_at, is_quiet}
-unfoldable use Rattle.dp_net.specs.Quiet.{quiet_from}
 
 module _ (p : Program) (plan : Plan) (t : ℕ) where
   abbrev pub all_quiet : List Stmt → Bool

@@ -1,18 +1,15 @@
 -- A turn over items against the one over the words that they stand for: what holds between them, and a site outside of the blocks.
 use Rattle.dp_semantics.proofs.Names.{◌≡◌, inl, inr, refl, sym, ap, ◌∙◌, subst, ℕ, ◌+◌, ◌-◌, ◌<◌, ◌≤◌, ◌==◌, Bool, true, false, ◌&&◌, ◌||◌, if◌then◌else◌, List, [], ◌∷◌, ◌++◌, ℤ, length, length-append, list_all, Option, Some, None, Ok, Err, Result, nat_le, arith, leb-true, eqb-true, slice_set, sum_by, and_parts, cases_Bool, Stmt, out-Stmt, Stmt-F, Program, Plan, Word, Load, Evaluated, evaluated, WithLoads, Effect, site_of, value_of, stored, followed, stage_of, first_site, is_checked, cell_count, load_words, done_word, words_of, word_list, Full, Void, Taken, taken_from, Turn, TurnEnd, Ended, turned, turn_by, consumed_step, closes_at}
 use Rattle.dp_net.proofs.Strict.{strict_own_step, strict_step}
-unfoldable use Rattle.dp_net.proofs.Strict.{strict_from}
 use Rattle.std.proofs.lemmas.List.{map-set}
-use Rattle.dp_semantics.proofs.Each.{Each, each_map, each_join, all_of}
+use Rattle.dp_semantics.proofs.Each.{Each, each_map, each_join}
 use Rattle.dp_semantics.specs.Clean.{event_as_assumed}
 use Rattle.dp_semantics.proofs.Evaluation.{InVar, Readable, head_loads, evaluated_tracks}
 use Rattle.dp_semantics.proofs.Ways.{event_of}
 use Rattle.dp_semantics.proofs.Shorter.{some_word, taken_shorter, lists_shorter}
 use Rattle.dp_semantics.proofs.Followed.{Parts}
-unfoldable use Rattle.dp_net.specs.Quiet.{quiet_from}
 use Rattle.dp_net.specs.NetItems.{Marks, Item, Said, weights, item_list, NetTaken, net_taken_from, said_all}
 use Rattle.dp_net.specs.NetRun.{NetTurn, NetEnded, net_turned, net_own_step, net_consumed_step, net_by, net_step}
-unfoldable use Rattle.dp_net.specs.NetRun.{net_from}
 use Rattle.dp_net.proofs.Blocks.{at_turn}
 use Rattle.dp_net.proofs.Memories.{Open, Agrees, agree_stored}
 use Rattle.dp_net.proofs.Groups.{Group, One, flats, flats_join, items, items_join, weights_are, all_flats, all_items, group_list, words_of_groups, items_of_groups, Marked, Good, Alike, both, none, taken_alike}

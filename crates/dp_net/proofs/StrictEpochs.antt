@@ -1,12 +1,10 @@
 -- Behind clean judgements the packets of turns that break off at a wrong assumption are the definition's, and so is the next judgement.
 use Rattle.dp_semantics.proofs.Names.{◌≡◌, ◌⊎◌, inl, inr, refl, sym, ap, ◌∙◌, subst, ℕ, zero, suc, ◌-◌, ◌<◌, ◌≤◌, true, false, List, ℤ, length, Option, Some, None, arith, slice_get, cases_eq, TurnEnd, stage_run, StageKind, Par, Seq, Status, Going, Closing, Broken, Packet, Passed, passed, passed_by, passed_on, run_on, at_kind, at_sequential, Epoch, cleared, Judgement, Agreed, Clean, Unclean, judge}
-unfoldable use Rattle.dp_semantics.proofs.Names.{turn_from, judge_from}
 use Rattle.dp_semantics.specs.EpochKey.{EpochKey, epoch_of}
 use Rattle.dp_semantics.specs.EpochVerdicts.{JudgeState, verdict_at, verdict_by, goes_on, state_at, judgement_of}
 use Rattle.dp_semantics.proofs.PacketFacts.{live}
 use Rattle.dp_semantics.proofs.Setting.{Accepted}
 use Rattle.dp_net.proofs.Strict.{strict_run, strict_run_on, strict_sequential, strict_kind, strict_passed}
-unfoldable use Rattle.dp_net.proofs.Strict.{strict_from}
 use Rattle.dp_net.proofs.StrictTurns.{SameOrOff, same_or_off}
 use Rattle.dp_net.proofs.CleanPackets.{not_live, turn_kept, closing_left}
 

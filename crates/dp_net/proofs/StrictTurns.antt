@@ -1,6 +1,6 @@
 -- A turn that breaks off at a wrong assumption goes on as the other, or breaks off.
 use Rattle.dp_semantics.proofs.Names.{◌≡◌, ◌⊎◌, inl, inr, refl, ℕ, zero, suc, ◌==◌, Bool, true, false, ◌&&◌, if◌then◌else◌, List, [], ◌∷◌, ◌++◌, ℤ, length, Ok, Err, Result, nat_le, Stmt, out-Stmt, Stmt-F, Program, Plan, Evaluated, evaluated, Event, Effect, event_as_assumed, words_of, Full, Void, Taken, taken_from, Turn, TurnEnd, turned, turn_by, turn_at, own_step, consumed_step, stage_at, words_left}
-unfoldable use Rattle.dp_semantics.proofs.Names.{turn_from, judge_from}
+unfoldable use Rattle.dp_semantics.proofs.Names.{turn_from}
 use Rattle.dp_net.proofs.Strict.{strict_own_step, strict_at}
 unfoldable use Rattle.dp_net.proofs.Strict.{strict_from}
 

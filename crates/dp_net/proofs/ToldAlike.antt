@@ -1,14 +1,12 @@
 -- What a judgement tells of a block by its net stores is what it tells by its words: the same prints, steps and last values, to each stage that sees them.
 use Rattle.dp_semantics.proofs.Names.{◌≡◌, inl, inr, refl, sym, ap, ◌∙◌, ℕ, suc, ◌+◌, Bool, true, false, if◌then◌else◌, List, [], ◌∷◌, ◌++◌, ℤ, length, length-append, filter_map, Option, Some, None, nat_le, arith, cases_Bool, Program, Plan, Event, Effect, Stored, Printed, Decided, Tried, stage_of, last, Judgement, Agreed, Clean, Unclean}
-unfoldable use Rattle.dp_semantics.proofs.Names.{judge_from}
 use Rattle.dp_tree.specs.Trace.{printed_by}
 use Rattle.std.specs.Option.{option_or}
 use Rattle.std.specs.List.{cons_option}
 use Rattle.std.proofs.lemmas.List.Elements.{filter_map-append}
 use Rattle.dp_semantics.proofs.Each.{Each}
-use Rattle.dp_net.specs.NetItems.{Marks, Item, Said, Net, put, told_after, net_behind, net_of, item_list, NetTaken, net_taken_from}
+use Rattle.dp_net.specs.NetItems.{Marks, put, told_after, net_behind, net_of}
 use Rattle.dp_net.specs.NetJudge.{sites_for, NetAgreed}
-unfoldable use Rattle.dp_net.specs.NetJudge.{net_judge_from}
 use Rattle.dp_net.proofs.Blocks.{effects_of, sites_of}
 use Rattle.dp_net.proofs.Memories.{Open, stored_at, last_of, net_last}
 
