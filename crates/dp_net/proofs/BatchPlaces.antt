@@ -24,10 +24,12 @@ numbers_count (suc n) k = ap suc (numbers_count n (k + 1))
 pub batches_whole : BatchesAreWhole
 batches_whole m key cap s b all =
     let rows : List NetPacket = map (λ (k : ℕ). (net_passed m (epoch_of key) s k).packet) (batch_places key cap b) in
-    ap length (up_to_all ends_batch rows all) ∙ length-map (batch_places key cap b) (λ (k : ℕ). (net_passed m (epoch_of key) s k).packet) ∙ numbers_count (batch_size key cap b) (batch_begin key cap b)
+    ap length (up_to_all ends_batch rows all) ∙ length-map (batch_places key cap b) (λ (k : ℕ). (net_passed m (epoch_of key) s k).packet)
+    ∙ numbers_count (batch_size key cap b) (batch_begin key cap b)
 
 pub next_has_some : NextHasSome
-next_has_some key cap b left = le-min {k = 1} {a = suc key.fuel - (key.first + place)} {b = max 1 (min cap place)} (omega (arith, within)) (le-max_left 1 (min cap place))
+next_has_some key cap b left = le-min {k = 1} {a = suc key.fuel - (key.first + place)} {b = max 1 (min cap place)} (omega (arith, within))
+    (le-max_left 1 (min cap place))
   where
     place : ℕ
     place = batch_begin key cap (suc b)

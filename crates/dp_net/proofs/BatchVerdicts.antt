@@ -66,7 +66,8 @@ module _ (key : EpochKey) where
 
   -- body locals may be cleared between two iterations, or not
   clear_between : (stores : List StoreOf) (cells : List ℤ) → left_behind key stores (clear cells) ≡ left_behind key stores cells
-  clear_between stores cells = even_clear (with_stores stores (clear cells)) (with_stores stores cells) (even_stores stores (clear cells) cells (cleared_even cells))
+  clear_between stores cells = even_clear (with_stores stores (clear cells)) (with_stores stores cells)
+      (even_stores stores (clear cells) cells (cleared_even cells))
 
   left_join : (a b : List StoreOf) (cells : List ℤ) → left_behind key (a ++ b) cells ≡ left_behind key b (left_behind key a cells)
   left_join a b cells = ap clear (stores_join a b cells) ∙ sym (clear_between b (with_stores a cells))
@@ -100,7 +101,8 @@ module _ (key : EpochKey) where
     pub together_agrees : (n k : ℕ) → GoesOnTo key k →
         BatchAgrees key (together (map (verdict_at key) (numbers_from k n))) (together (map (net_verdict_at m key) (numbers_from k n)))
     together_agrees zero k goes = nothing_agrees BatchGoesOn BatchGoesOn refl
-    together_agrees (suc n) k goes = by (verdict_at key k) (net_verdict_at m key k) refl (let r = agrees k goes in r.verdict) (λ on. together_agrees n (k + 1) (goes_further k goes on))
+    together_agrees (suc n) k goes = by (verdict_at key k) (net_verdict_at m key k) refl (let r = agrees k goes in r.verdict)
+        (λ on. together_agrees n (k + 1) (goes_further k goes on))
       where
         rest : List Verdict
         rest = map (verdict_at key) (numbers_from (k + 1) n)
