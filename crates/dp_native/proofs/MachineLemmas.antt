@@ -12,21 +12,6 @@ use Rattle.dp_meaning.specs.steps.PlainSteps.{PlainSteps}
 use Rattle.dp_meaning.proofs.StopLemmas.{plain_idle}
 use Rattle.dp_native.specs.Reaches.{Reaches}
 
--- no step was made of one turn where memory was wanting
-pub spoiled_moved : (old new : MachineState) (x y : List ℤ) → next_part old ≡ Plain → Spoiled 1 old new x y → PartMoved old new x y
-spoiled_moved old new x y plain s = record {
-  events = s.events;
-  configs = s.configs;
-  moved = s.moved;
-  plain = none s.configs (let size = s.moved.run.paired in let few = s.within in omega (arith, size, few));
-  behind = s.behind;
-  current = plain_idle new.current new.config.to_do (s.part ∙ plain) ∙ sym (plain_idle old.current old.config.to_do plain);
-}
-  where
-    none : (cs : List Config) → length cs ≡ 0 → All (λ c. part_of c.to_do ≡ Plain) cs
-    none [] e = All-nil (λ (c : Config). part_of c.to_do ≡ Plain)
-    none (c ∷ cs) e = absurd (omega (arith, e))
-
 -- what native code reached, as steps of the machine
 pub reached_steps : (m : MachineState) (input cells made back out out' : List ℤ) (place fuel left to : ℕ) → input ≡ m.input → rest_at m.program place ≡ m.config.to_do → cells ≡ m.config.cells → back ≡ made →
     Reaches m.program input fuel out (config_at m.program (record { place = place; cells = cells })) left out' (standing m.program (rest_at m.program to) made) →
