@@ -90,7 +90,7 @@ module _ (key : EpochKey) where
   nothing_agrees : (a b : BatchEnd) → b ≡ a → BatchAgrees key (nothing_but a) (nothing_but b)
   nothing_agrees a b e = record { iterations = refl; prints = refl; steps = refl; ends = e; stores = λ cells. refl }
 
-  goes_further : (n : ℕ) → GoesOnTo key n → goes_on (verdict_at key n) ≡ true → GoesOnTo key (n + 1)
+  pub goes_further : (n : ℕ) → GoesOnTo key n → goes_on (verdict_at key n) ≡ true → GoesOnTo key (n + 1)
   goes_further n goes here i low = elim (cases_eq i n) [
     | inl same ↦ ap (λ (k : ℕ). goes_on (verdict_at key k)) same ∙ here
     | inr less ↦ goes i (omega (arith, low, less))
