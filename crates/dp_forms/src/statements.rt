@@ -1,0 +1,377 @@
+//! Code that executes statements, and the forms of those without a condition.
+
+ghost use Rattle.std.specs.Prelude.{◌≡◌, ◌≤◌, ◌<◌, ◌^◌, ◌++◌, [], List, ℕ, IsTrue, length};
+ghost use Rattle.std.specs.Option.{MatchOption};
+ghost use Rattle.dp_tree.specs.declared.Program.{Program};
+ghost use Rattle.dp_tree.specs.declared.Stmt.{Stmt};
+ghost use Rattle.dp_forms.specs.Codes.{Runs, Enters, OfSet, OfPut, OfSay, OfThen, OfNothing, OfOther, Stores};
+
+use super::home::{is_array, is_register, site_of};
+use super::memory::put;
+use super::state::State;
+use super::values::Value;
+use dp_base::Row;
+use dp_native::say;
+use dp_tree::{Program, Stmt};
+use std::marker::PhantomData;
+
+/// Some statements over N registers and the memory's cells.
+pub trait Code<const N: usize> {
+    /// Whether the code is that of these statements, where the registers have these home cells and the memory has this size.
+    ghost is_of: { Program → List ℕ → ℕ → List Stmt → Type 0 };
+
+    /// Answers true only where it is.
+    fn is(program: &Program, homes: &[u32], size: u32, statements: &[Stmt]) -> bool
+        ensures { IsTrue result → is_of program.now homes.now size statements.now };
+
+    /// Executes the statements, as far as it goes.
+    fn run(input: &[i64], memory: &mut [i64], out: &mut Row<i64>, state: State<N>) -> State<N>
+        requires { state.at ≡ 0 }
+        ensures less { result.fuel ≤ state.fuel }
+        ensures small { result.at < 2 ^ 32 }
+        ensures runs { Runs is_of input.now state.fuel state.registers memory.old out.old result.at result.fuel result.registers memory.new out.new };
+
+    /// Goes on at a site, where the code can begin there.
+    fn enter(
+        site: u32,
+        input: &[i64],
+        memory: &mut [i64],
+        out: &mut Row<i64>,
+        state: State<N>,
+    ) -> Option<State<N>>
+        requires { state.at ≡ 0 }
+        ensures { MatchOption result ((memory.new ≡ memory.old) × (out.new ≡ out.old)) (λ to. (to.at < 2 ^ 32) × Enters is_of site input.now state.fuel state.registers memory.old out.old to.at to.fuel to.registers memory.new out.new) };
+}
+
+/// An assignment to the scalar in register K.
+pub struct Set<const S: u32, const K: usize, V> {
+    of: PhantomData<V>,
+}
+
+impl<const N: usize, const S: u32, const K: usize, V: Value<N>> Code<N> for Set<S, K, V> {
+    ghost is_of = { OfSet S K V.is_of };
+
+    fn is(program: &Program, homes: &[u32], size: u32, statements: &[Stmt]) -> bool {
+        match statements {
+            [Stmt::Assign { site, var, value }] => {
+                site.0 == S
+                    && S != 0
+                    && is_register(program, homes, size, K, *var)
+                    && V::is(program, homes, size, value)
+            }
+            _ => false,
+        }
+    }
+
+    #[inline(always)]
+    fn run(
+        input: &[i64],
+        memory: &mut [i64],
+        out: &mut Row<i64>,
+        state: State<N>,
+    ) -> State<N>
+        requires { state.at ≡ 0 }
+        ensures less { result.fuel ≤ state.fuel }
+        ensures small { result.at < 2 ^ 32 }
+        ensures runs { Runs (OfSet S K V.is_of) input.now state.fuel state.registers memory.old out.old result.at result.fuel result.registers memory.new out.new }
+    {
+        if state.fuel < 1 || K >= N {
+            return state.left_at(S);
+        }
+        match V::value(input, memory, &state.registers) {
+            Some(value) => state.holding(K, value),
+            None => state.left_at(S),
+        }
+    }
+
+    fn enter(
+        site: u32,
+        input: &[i64],
+        memory: &mut [i64],
+        out: &mut Row<i64>,
+        state: State<N>,
+    ) -> Option<State<N>>
+        requires { state.at ≡ 0 }
+        ensures { MatchOption result ((memory.new ≡ memory.old) × (out.new ≡ out.old)) (λ to. (to.at < 2 ^ 32) × Enters (OfSet S K V.is_of) site input.now state.fuel state.registers memory.old out.old to.at to.fuel to.registers memory.new out.new) }
+    {
+        None
+    }
+}
+
+/// An assignment to an element of the array that has C cells from cell F on.
+pub struct Put<const S: u32, const F: u32, const C: u32, I, V> {
+    of: PhantomData<(I, V)>,
+}
+
+impl<const N: usize, const S: u32, const F: u32, const C: u32, I: Value<N>, V: Value<N>> Code<N>
+    for Put<S, F, C, I, V>
+{
+    ghost is_of = { OfPut S F C I.is_of V.is_of };
+
+    fn is(program: &Program, homes: &[u32], size: u32, statements: &[Stmt]) -> bool {
+        match statements {
+            [
+                Stmt::Store {
+                    site,
+                    var,
+                    index,
+                    value,
+                },
+            ] => {
+                site.0 == S
+                    && S != 0
+                    && is_array(program, homes, size, F, C, *var)
+                    && I::is(program, homes, size, index)
+                    && V::is(program, homes, size, value)
+            }
+            _ => false,
+        }
+    }
+
+    #[inline(always)]
+    fn run(
+        input: &[i64],
+        memory: &mut [i64],
+        out: &mut Row<i64>,
+        state: State<N>,
+    ) -> State<N>
+        requires { state.at ≡ 0 }
+        ensures less { result.fuel ≤ state.fuel }
+        ensures small { result.at < 2 ^ 32 }
+        ensures runs { Runs (OfPut S F C I.is_of V.is_of) input.now state.fuel state.registers memory.old out.old result.at result.fuel result.registers memory.new out.new }
+    {
+        if state.fuel < 1 {
+            return state.left_at(S);
+        }
+        match stored::<N, F, C, I, V>(input, memory, &state.registers) {
+            Some(()) => state.stepped(),
+            None => state.left_at(S),
+        }
+    }
+
+    fn enter(
+        site: u32,
+        input: &[i64],
+        memory: &mut [i64],
+        out: &mut Row<i64>,
+        state: State<N>,
+    ) -> Option<State<N>>
+        requires { state.at ≡ 0 }
+        ensures { MatchOption result ((memory.new ≡ memory.old) × (out.new ≡ out.old)) (λ to. (to.at < 2 ^ 32) × Enters (OfPut S F C I.is_of V.is_of) site input.now state.fuel state.registers memory.old out.old to.at to.fuel to.registers memory.new out.new) }
+    {
+        None
+    }
+}
+
+/// Stores the value at the index, if neither faults and there is such an element.
+#[inline(always)]
+fn stored<const N: usize, const F: u32, const C: u32, I: Value<N>, V: Value<N>>(
+    input: &[i64],
+    memory: &mut [i64],
+    registers: &[i64; N],
+) -> Option<()>
+    ensures { MatchOption result (memory.new ≡ memory.old) (λ _. Stores I.is_of V.is_of F C input.now registers.now memory.old memory.new) }
+{
+    let index = I::value(input, memory, registers)?;
+    let value = V::value(input, memory, registers)?;
+    put(memory, F, C, index, value)
+}
+
+/// A print.
+pub struct Say<const S: u32, V> {
+    of: PhantomData<V>,
+}
+
+impl<const N: usize, const S: u32, V: Value<N>> Code<N> for Say<S, V> {
+    ghost is_of = { OfSay S V.is_of };
+
+    fn is(program: &Program, homes: &[u32], size: u32, statements: &[Stmt]) -> bool {
+        match statements {
+            [Stmt::Print { site, value }] => {
+                site.0 == S && S != 0 && V::is(program, homes, size, value)
+            }
+            _ => false,
+        }
+    }
+
+    #[inline(always)]
+    fn run(
+        input: &[i64],
+        memory: &mut [i64],
+        out: &mut Row<i64>,
+        state: State<N>,
+    ) -> State<N>
+        requires { state.at ≡ 0 }
+        ensures less { result.fuel ≤ state.fuel }
+        ensures small { result.at < 2 ^ 32 }
+        ensures runs { Runs (OfSay S V.is_of) input.now state.fuel state.registers memory.old out.old result.at result.fuel result.registers memory.new out.new }
+    {
+        if state.fuel < 1 {
+            return state.left_at(S);
+        }
+        match V::value(input, memory, &state.registers) {
+            Some(value) => match say(out, value) {
+                Some(()) => state.stepped(),
+                None => state.left_at(S),
+            },
+            None => state.left_at(S),
+        }
+    }
+
+    fn enter(
+        site: u32,
+        input: &[i64],
+        memory: &mut [i64],
+        out: &mut Row<i64>,
+        state: State<N>,
+    ) -> Option<State<N>>
+        requires { state.at ≡ 0 }
+        ensures { MatchOption result ((memory.new ≡ memory.old) × (out.new ≡ out.old)) (λ to. (to.at < 2 ^ 32) × Enters (OfSay S V.is_of) site input.now state.fuel state.registers memory.old out.old to.at to.fuel to.registers memory.new out.new) }
+    {
+        None
+    }
+}
+
+/// The L statements of A, and then those of B.
+pub struct Then<const L: usize, A, B> {
+    of: PhantomData<(A, B)>,
+}
+
+impl<const N: usize, const L: usize, A: Code<N>, B: Code<N>> Code<N> for Then<L, A, B> {
+    ghost is_of = { OfThen A.is_of B.is_of };
+
+    fn is(program: &Program, homes: &[u32], size: u32, statements: &[Stmt]) -> bool {
+        if L > statements.len() {
+            return false;
+        }
+        let (front, back) = statements.split_at(L);
+        A::is(program, homes, size, front) && B::is(program, homes, size, back)
+    }
+
+    #[inline(always)]
+    fn run(
+        input: &[i64],
+        memory: &mut [i64],
+        out: &mut Row<i64>,
+        state: State<N>,
+    ) -> State<N>
+        requires { state.at ≡ 0 }
+        ensures less { result.fuel ≤ state.fuel }
+        ensures small { result.at < 2 ^ 32 }
+        ensures runs { Runs (OfThen A.is_of B.is_of) input.now state.fuel state.registers memory.old out.old result.at result.fuel result.registers memory.new out.new }
+    {
+        let between = A::run(input, memory, out, state);
+        if between.at == 0 {
+            B::run(input, memory, out, between)
+        } else {
+            between
+        }
+    }
+
+    fn enter(
+        site: u32,
+        input: &[i64],
+        memory: &mut [i64],
+        out: &mut Row<i64>,
+        state: State<N>,
+    ) -> Option<State<N>>
+        requires { state.at ≡ 0 }
+        ensures { MatchOption result ((memory.new ≡ memory.old) × (out.new ≡ out.old)) (λ to. (to.at < 2 ^ 32) × Enters (OfThen A.is_of B.is_of) site input.now state.fuel state.registers memory.old out.old to.at to.fuel to.registers memory.new out.new) }
+    {
+        match A::enter(site, input, memory, out, state) {
+            Some(between) => {
+                if between.at == 0 {
+                    let to = B::run(input, memory, out, between);
+                    Some(to)
+                } else {
+                    Some(between)
+                }
+            }
+            None => B::enter(site, input, memory, out, state),
+        }
+    }
+}
+
+/// No statement.
+pub struct Nothing {}
+
+impl<const N: usize> Code<N> for Nothing {
+    ghost is_of = { OfNothing };
+
+    fn is(_program: &Program, _homes: &[u32], _size: u32, statements: &[Stmt]) -> bool {
+        match statements {
+            [] => true,
+            _ => false,
+        }
+    }
+
+    #[inline(always)]
+    fn run(
+        input: &[i64],
+        memory: &mut [i64],
+        out: &mut Row<i64>,
+        state: State<N>,
+    ) -> State<N>
+        requires { state.at ≡ 0 }
+        ensures less { result.fuel ≤ state.fuel }
+        ensures small { result.at < 2 ^ 32 }
+        ensures runs { Runs (OfNothing) input.now state.fuel state.registers memory.old out.old result.at result.fuel result.registers memory.new out.new }
+    {
+        state
+    }
+
+    fn enter(
+        site: u32,
+        input: &[i64],
+        memory: &mut [i64],
+        out: &mut Row<i64>,
+        state: State<N>,
+    ) -> Option<State<N>>
+        requires { state.at ≡ 0 }
+        ensures { MatchOption result ((memory.new ≡ memory.old) × (out.new ≡ out.old)) (λ to. (to.at < 2 ^ 32) × Enters (OfNothing) site input.now state.fuel state.registers memory.old out.old to.at to.fuel to.registers memory.new out.new) }
+    {
+        None
+    }
+}
+
+/// Any one statement, which is left to the machine.
+pub struct Other<const S: u32> {}
+
+impl<const N: usize, const S: u32> Code<N> for Other<S> {
+    ghost is_of = { OfOther S };
+
+    fn is(_program: &Program, _homes: &[u32], _size: u32, statements: &[Stmt]) -> bool {
+        match statements {
+            [statement] => site_of(statement) == S && S != 0,
+            _ => false,
+        }
+    }
+
+    #[inline(always)]
+    fn run(
+        input: &[i64],
+        memory: &mut [i64],
+        out: &mut Row<i64>,
+        state: State<N>,
+    ) -> State<N>
+        requires { state.at ≡ 0 }
+        ensures less { result.fuel ≤ state.fuel }
+        ensures small { result.at < 2 ^ 32 }
+        ensures runs { Runs (OfOther S) input.now state.fuel state.registers memory.old out.old result.at result.fuel result.registers memory.new out.new }
+    {
+        state.left_at(S)
+    }
+
+    fn enter(
+        site: u32,
+        input: &[i64],
+        memory: &mut [i64],
+        out: &mut Row<i64>,
+        state: State<N>,
+    ) -> Option<State<N>>
+        requires { state.at ≡ 0 }
+        ensures { MatchOption result ((memory.new ≡ memory.old) × (out.new ≡ out.old)) (λ to. (to.at < 2 ^ 32) × Enters (OfOther S) site input.now state.fuel state.registers memory.old out.old to.at to.fuel to.registers memory.new out.new) }
+    {
+        None
+    }
+}
