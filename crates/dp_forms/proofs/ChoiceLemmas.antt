@@ -9,9 +9,10 @@ use Rattle.dp_tree.specs.Step.{Config, standing}
 use Rattle.dp_native.specs.Reaches.{Reaches}
 use Rattle.dp_native.proofs.ReachLemmas.{reaches_none, reaches_on}
 use Rattle.dp_forms.specs.Registers.{merged}
-use Rattle.dp_forms.specs.Values.{Evaluates}
-use Rattle.dp_forms.specs.Codes.{Stands, Goes, Entered, Runs, Enters, Kept, IsLeft, IsWhile, ValueRelation, CodeRelation, OfIf, OfWhile, OfThen}
-use Rattle.dp_forms.proofs.StepLemmas.{step_then, step_else, step_turn, step_past, statement_opened}
+use Rattle.dp_forms.specs.Values.{Evaluates, ValueRelation}
+use Rattle.dp_forms.specs.Codes.{Stands, Goes, Entered, Runs, Enters, Kept, IsLeft, IsWhile, CodeRelation, OfIf, OfWhile, OfThen}
+use Rattle.dp_forms.proofs.StepLemmas.{step_then, step_else, step_turn, step_past}
+unfoldable use Rattle.dp_forms.proofs.StepLemmas.{statement_opened}
 use Rattle.dp_forms.proofs.SiteLemmas.{left_own, left_in_front, left_in_back, left_in_body, left_in_then, left_in_else}
 use Rattle.dp_forms.proofs.GoesLemmas.{stays, stepped}
 
@@ -26,14 +27,14 @@ module _ {input registers memory out registers' memory' out' registers'' memory'
   gone_on {p} {homes} {here} {front} {back} {behind} zero first second =
       record {
         to_do = second.to_do;
-        stands = wider refl (left_in_back {front} {back} {behind}) second.stands;
+        stands = wider refl (left_in_back front back) second.stands;
         reaches = reaches_on p input (subst (λ (l : List Stmt). Reaches p input fuel out (standing p here (merged homes registers memory)) fuel' out' (standing p l (merged homes registers' memory'))) (first.stands.done zero) first.reaches) second.reaches;
       }
 
   left_there : {p : Program} {homes : List ℕ} {here front back behind : List Stmt} → at ≢ 0 → Goes p homes front (back ++ behind) here input fuel registers memory out at fuel' registers' memory' out' →
       Goes p homes (front ++ back) behind here input fuel registers memory out at fuel' registers' memory' out'
   left_there {p} {homes} {here} {front} {back} {behind} some first =
-      record { to_do = first.to_do; stands = record { done = λ z. absurd (some z); left = λ n. left_in_front {front} {back} {behind} (first.stands.left n) }; reaches = first.reaches }
+      record { to_do = first.to_do; stands = record { done = λ z. absurd (some z); left = λ n. left_in_front front back (first.stands.left n) }; reaches = first.reaches }
 
   pub then_runs : at ≡ 0 → length memory' ≡ length memory → Runs A input fuel registers memory out at fuel' registers' memory' out' → Runs B input fuel' registers' memory' out' at' fuel'' registers'' memory'' out'' →
       Runs (OfThen A B) input fuel registers memory out at' fuel'' registers'' memory'' out''
@@ -55,13 +56,13 @@ module _ {input registers memory out registers' memory' out' registers'' memory'
       let second_is : B p homes (length memory') is.back = subst (λ (n : ℕ). B p homes n is.back) (sym long) is.second_is in
       let entered = first p homes is.front (is.back ++ behind) is.first_is in
       subst (λ (l : List Stmt). Entered p homes l behind site input fuel registers memory out at' fuel'' registers'' memory'' out'') (sym is.is)
-      (record { here = entered.here; is_here = left_in_front {is.front} {is.back} {behind} entered.is_here; plain = entered.plain; goes = gone_on zero entered.goes (second p homes is.back behind second_is) })
+      (record { here = entered.here; is_here = left_in_front is.front is.back entered.is_here; plain = entered.plain; goes = gone_on zero entered.goes (second p homes is.back behind second_is) })
 
   pub then_entered : {site : ℕ} → at ≢ 0 → Enters A site input fuel registers memory out at fuel' registers' memory' out' → Enters (OfThen A B) site input fuel registers memory out at fuel' registers' memory' out'
   then_entered {site} some first p homes stmts behind is =
       let entered = first p homes is.front (is.back ++ behind) is.first_is in
       subst (λ (l : List Stmt). Entered p homes l behind site input fuel registers memory out at fuel' registers' memory' out') (sym is.is)
-      (record { here = entered.here; is_here = left_in_front {is.front} {is.back} {behind} entered.is_here; plain = entered.plain; goes = left_there some entered.goes })
+      (record { here = entered.here; is_here = left_in_front is.front is.back entered.is_here; plain = entered.plain; goes = left_there some entered.goes })
 
   pub then_behind : {site : ℕ} → Enters B site input fuel registers memory out at fuel' registers' memory' out' → Enters (OfThen A B) site input fuel registers memory out at fuel' registers' memory' out'
   then_behind {site} second p homes stmts behind is =
@@ -69,9 +70,9 @@ module _ {input registers memory out registers' memory' out' registers'' memory'
       subst (λ (l : List Stmt). Entered p homes l behind site input fuel registers memory out at fuel' registers' memory' out') (sym is.is)
       (record {
         here = entered.here;
-        is_here = left_in_back {is.front} {is.back} {behind} entered.is_here;
+        is_here = left_in_back is.front is.back entered.is_here;
         plain = entered.plain;
-        goes = record { to_do = entered.goes.to_do; stands = wider refl (left_in_back {is.front} {is.back} {behind}) entered.goes.stands; reaches = entered.goes.reaches };
+        goes = record { to_do = entered.goes.to_do; stands = wider refl (left_in_back is.front is.back) entered.goes.stands; reaches = entered.goes.reaches };
       })
 
 module _ {input registers memory out registers' memory' out' : List ℤ} {fuel fuel' at : ℕ} (Condition : ValueRelation) (A B : CodeRelation) (S : ℕ) where
@@ -84,14 +85,14 @@ module _ {input registers memory out registers' memory' out' : List ℤ} {fuel f
       let step = step_then p input (merged homes registers memory) out behind (record { 0 = S }) is.condition v (gives p homes is.condition is.condition_is) is.then_part is.else_part test in
       let goes = runs p homes is.then_part behind is.then_is in
       subst (λ (l : List Stmt). Goes p homes l behind (l ++ behind) input fuel registers memory out at fuel' registers' memory' out') (sym is.is)
-      (record { to_do = goes.to_do; stands = wider refl (left_in_then (record { 0 = S }) is.condition) goes.stands; reaches = reaches_on p input (stepped some step) goes.reaches })
+      (record { to_do = goes.to_do; stands = wider refl (left_in_then (record { 0 = S }) is.condition is.then_part is.else_part) goes.stands; reaches = reaches_on p input (stepped some step) goes.reaches })
 
   pub if_else : (v : ℤ) → 1 ≤ fuel → is_zero v ≡ true → Evaluates Condition input memory registers v → Runs B input (fuel - 1) registers memory out at fuel' registers' memory' out' → Runs (OfIf S Condition A B) input fuel registers memory out at fuel' registers' memory' out'
   if_else v some test gives runs p homes stmts behind is =
       let step = step_else p input (merged homes registers memory) out behind (record { 0 = S }) is.condition v (gives p homes is.condition is.condition_is) is.then_part is.else_part test in
       let goes = runs p homes is.else_part behind is.else_is in
       subst (λ (l : List Stmt). Goes p homes l behind (l ++ behind) input fuel registers memory out at fuel' registers' memory' out') (sym is.is)
-      (record { to_do = goes.to_do; stands = wider refl (left_in_else (record { 0 = S }) is.condition) goes.stands; reaches = reaches_on p input (stepped some step) goes.reaches })
+      (record { to_do = goes.to_do; stands = wider refl (left_in_else (record { 0 = S }) is.condition is.then_part is.else_part) goes.stands; reaches = reaches_on p input (stepped some step) goes.reaches })
 
 module _ {input registers memory out registers' memory' out' : List ℤ} {fuel fuel' : ℕ} (Condition : ValueRelation) (A : CodeRelation) (S : ℕ) where
   pub kept_none : Kept (OfWhile S Condition A) input fuel registers memory out fuel registers memory out
@@ -162,9 +163,9 @@ module _ {input registers memory out registers' memory' out' registers'' memory'
       subst (λ (l : List Stmt). Entered p homes l behind site input fuel registers memory out at fuel' registers' memory' out') (sym is.is)
       (record {
         here = entered.here;
-        is_here = left_in_then own is.condition entered.is_here;
+        is_here = left_in_then own is.condition is.then_part is.else_part entered.is_here;
         plain = entered.plain;
-        goes = record { to_do = entered.goes.to_do; stands = wider refl (left_in_then own is.condition) entered.goes.stands; reaches = entered.goes.reaches };
+        goes = record { to_do = entered.goes.to_do; stands = wider refl (left_in_then own is.condition is.then_part is.else_part) entered.goes.stands; reaches = entered.goes.reaches };
       })
 
   pub if_enters_else : Enters B site input fuel registers memory out at fuel' registers' memory' out' → Enters (OfIf S Condition A B) site input fuel registers memory out at fuel' registers' memory' out'
@@ -174,9 +175,9 @@ module _ {input registers memory out registers' memory' out' registers'' memory'
       subst (λ (l : List Stmt). Entered p homes l behind site input fuel registers memory out at fuel' registers' memory' out') (sym is.is)
       (record {
         here = entered.here;
-        is_here = left_in_else own is.condition entered.is_here;
+        is_here = left_in_else own is.condition is.then_part is.else_part entered.is_here;
         plain = entered.plain;
-        goes = record { to_do = entered.goes.to_do; stands = wider refl (left_in_else own is.condition) entered.goes.stands; reaches = entered.goes.reaches };
+        goes = record { to_do = entered.goes.to_do; stands = wider refl (left_in_else own is.condition is.then_part is.else_part) entered.goes.stands; reaches = entered.goes.reaches };
       })
 
   -- the body was entered and ended, and the loop goes on
@@ -209,3 +210,9 @@ module _ {input registers memory out registers' memory' out' registers'' memory'
         plain = entered.plain;
         goes = record { to_do = entered.goes.to_do; stands = record { done = λ z. absurd (n z); left = λ m. left_in_body own is.condition (entered.goes.stands.left m) }; reaches = entered.goes.reaches };
       })
+
+-- the second of two was entered, where the first changed nothing
+pub entered_at : (Is : CodeRelation) {input registers memory out memory0 out0 registers' memory' out' : List ℤ} {fuel fuel' at site : ℕ} → memory ≡ memory0 → out ≡ out0 → Enters Is site input fuel registers memory out at fuel' registers' memory' out' →
+    Enters Is site input fuel registers memory0 out0 at fuel' registers' memory' out'
+entered_at Is {input} {registers} {memory} {out} {memory0} {out0} {registers'} {memory'} {out'} {fuel} {fuel'} {at} {site} e f enters =
+    subst (λ (xs : List ℤ). Enters Is site input fuel registers xs out0 at fuel' registers' memory' out') e (subst (λ (xs : List ℤ). Enters Is site input fuel registers memory xs at fuel' registers' memory' out') f enters)

@@ -12,7 +12,7 @@ unfoldable use Rattle.dp_tree.specs.Eval.{eval}
 use Rattle.dp_forms.specs.Values.{Gives}
 
 -- what opens where the value of a form is computed
-unfoldable expression_opened : Unit {0}
+unfoldable pub expression_opened : Unit {0}
 unfolding Rattle.dp_tree.specs.Eval.eval denote.Hole.Carrier.out denote.Hole.Carrier.hidden denote.Hole.Carrier.shown
     Rattle.dp_tree.specs.declared.Expr.TheBlock.shape-the_row-Expr-0 Rattle.dp_tree.specs.declared.Expr.TheBlock.hidden-the_row-Expr-0
 expression_opened = tt

@@ -13,11 +13,13 @@ use Rattle.dp_meaning.specs.Places.{number_of}
 use Rattle.dp_meaning.specs.steps.PlainSteps.{PlainStep}
 use Rattle.dp_native.specs.Reaches.{Reaches}
 use Rattle.dp_native.proofs.ReachLemmas.{one, reaches_none, reaches_on}
-use Rattle.dp_forms.specs.Registers.{merged, index_of}
-use Rattle.dp_forms.specs.Values.{Gives, Evaluates}
-use Rattle.dp_forms.specs.Codes.{Stands, Goes, Entered, Runs, Enters, IsLeft, IsSet, IsPut, IsSay, IsIf, IsWhile, IsThen, IsOther, Stores, ValueRelation, OfSet, OfPut, OfSay, OfNothing, OfOther}
+use Rattle.dp_forms.specs.Registers.{merged}
+use Rattle.dp_native.specs.Element.{index_of}
+use Rattle.dp_forms.specs.Values.{Gives, Evaluates, ValueRelation}
+use Rattle.dp_forms.specs.Codes.{Stands, Goes, Entered, Runs, Enters, IsLeft, IsSet, IsPut, IsSay, IsIf, IsWhile, IsThen, IsOther, Stores, CodeRelation, OfSet, OfPut, OfSay, OfNothing, OfOther}
 use Rattle.dp_forms.proofs.RegisterLemmas.{length_merged, set_register, set_apart}
-use Rattle.dp_forms.proofs.StepLemmas.{step_set, step_put, step_say, step_then, step_else, step_turn, step_past, statement_opened}
+use Rattle.dp_forms.proofs.StepLemmas.{step_set, step_put, step_say, step_then, step_else, step_turn, step_past}
+unfoldable use Rattle.dp_forms.proofs.StepLemmas.{statement_opened}
 use Rattle.dp_forms.proofs.SiteLemmas.{left_own, left_in_front, left_in_back, left_in_body, left_in_then, left_in_else}
 
 -- a step costs one of the fuel
@@ -81,6 +83,21 @@ module _ {input registers memory out : List ℤ} {fuel : ℕ} (Index Value : Val
 
 pub other_stays : {input registers memory out : List ℤ} {fuel : ℕ} (S : ℕ) → Runs (OfOther S) input fuel registers memory out S fuel registers memory out
 other_stays S p homes stmts behind is = stays stmts behind is.statement is.is is.site_is is.numbered
+
+-- the same, at equal values
+pub moved : (Is : CodeRelation) {input registers memory out registers' memory' out' registers'' memory'' out'' : List ℤ} {fuel fuel' fuel'' at at' : ℕ} →
+    Runs Is input fuel registers memory out at fuel' registers' memory' out' → at' ≡ at → fuel'' ≡ fuel' → registers'' ≡ registers' → memory'' ≡ memory' → out'' ≡ out' → Runs Is input fuel registers memory out at' fuel'' registers'' memory'' out''
+moved Is {input} {registers} {memory} {out} {registers'} {memory'} {out'} {registers''} {memory''} {out''} {fuel} {fuel'} {fuel''} {at} {at'} runs e f g h k =
+    subst (λ (n : ℕ). Runs Is input fuel registers memory out n fuel'' registers'' memory'' out'') (sym e)
+    (subst (λ (n : ℕ). Runs Is input fuel registers memory out at n registers'' memory'' out'') (sym f)
+    (subst (λ (xs : List ℤ). Runs Is input fuel registers memory out at fuel' xs memory'' out'') (sym g)
+    (subst (λ (xs : List ℤ). Runs Is input fuel registers memory out at fuel' registers' xs out'') (sym h)
+    (subst (λ (xs : List ℤ). Runs Is input fuel registers memory out at fuel' registers' memory' xs) (sym k) runs))))
+
+pub begun : (Is : CodeRelation) {input registers memory out registers' memory' out' next : List ℤ} {fuel fuel' at left : ℕ} → left ≡ fuel → next ≡ registers →
+    Runs Is input left next memory out at fuel' registers' memory' out' → Runs Is input fuel registers memory out at fuel' registers' memory' out'
+begun Is {input} {registers} {memory} {out} {registers'} {memory'} {out'} {next} {fuel} {fuel'} {at} {left} e f runs =
+    subst (λ (n : ℕ). Runs Is input n registers memory out at fuel' registers' memory' out') e (subst (λ (xs : List ℤ). Runs Is input left xs memory out at fuel' registers' memory' out') f runs)
 
 pub nothing_goes : {input registers memory out : List ℤ} {fuel : ℕ} → Runs OfNothing input fuel registers memory out 0 fuel registers memory out
 nothing_goes {input} {registers} {memory} {out} {fuel} p homes stmts behind is =

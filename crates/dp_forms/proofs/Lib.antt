@@ -5,3 +5,4 @@ pub mod SiteLemmas
 pub mod GoesLemmas
 pub mod ChoiceLemmas
 pub mod WholeLemmas
+pub mod ValueLemmas

@@ -12,14 +12,25 @@ use Rattle.dp_tree.specs.Eval.{place, just, first_cell, cell_count}
 use Rattle.dp_tree.specs.Step.{standing, step, Stored, Printed, Decided}
 use Rattle.dp_meaning.specs.steps.PlainSteps.{PlainStep}
 use Rattle.dp_forms.specs.Values.{Gives}
-use Rattle.dp_forms.proofs.EvalLemmas.{expression_opened}
+use Rattle.dp_tree.specs.Statements.{listed}
+use Rattle.dp_tree.proofs.InnerTexts.{shown_listed}
+use Rattle.dp_tree.specs.declared.Stmt.TheBlock.{shape-the_row-Stmt-0, hidden-the_row-Stmt-0, shown-the_row-Stmt-0}
 
 -- what opens where a step is computed at a form
-unfoldable statement_opened : Unit {0}
+unfoldable pub statement_opened : Unit {0}
 unfolding denote.Hole.Carrier.out denote.Hole.Carrier.hidden denote.Hole.Carrier.shown Rattle.dp_tree.specs.declared.Stmt.TheViews.out-Stmt
     Rattle.dp_tree.specs.declared.Expr.TheBlock.shape-the_row-Expr-0 Rattle.dp_tree.specs.declared.Expr.TheBlock.hidden-the_row-Expr-0
     Rattle.dp_tree.specs.declared.Stmt.TheBlock.shape-the_row-Stmt-0 Rattle.dp_tree.specs.declared.Stmt.TheBlock.hidden-the_row-Stmt-0 Rattle.dp_tree.specs.declared.Stmt.TheBlock.shown-the_row-Stmt-0
 statement_opened = tt
+
+pub listed_hidden : (xs : List Stmt) → listed (hidden-the_row-Stmt-0 xs) ≡ xs
+unfolding statement_opened
+listed_hidden [] = refl
+listed_hidden (x ∷ xs) = ap (λ (ys : List Stmt). x ∷ ys) (listed_hidden xs)
+
+-- statements that are put into a row are shown as they are
+shown : (xs : List Stmt) → shown-the_row-Stmt-0 (shape-the_row-Stmt-0 xs) (hidden-the_row-Stmt-0 xs) ≡ xs
+shown xs = shown_listed (shape-the_row-Stmt-0 xs) (hidden-the_row-Stmt-0 xs) ∙ listed_hidden xs
 
 module _ (p : Program) (input cells out : List ℤ) (behind : List Stmt) where
   pub step_set : (site : SiteId) (x : VarId) (e : Expr) (v : ℤ) → Gives p input cells e v →
@@ -40,16 +51,16 @@ module _ (p : Program) (input cells out : List ℤ) (behind : List Stmt) where
   module _ (site : SiteId) (c : Expr) (v : ℤ) (g : Gives p input cells c v) where
     pub step_then : (a b : List Stmt) → is_zero v ≡ false → PlainStep p input (standing p (stmt.If site c a b ∷ behind) cells) (standing p (a ++ behind) cells) out out
     unfolding statement_opened
-    step_then a b t = record { event = record { site = site.0; loads = g.loads ++ []; effect = Decided v }; stepped = simp (g.is, t); printed = sym (append-nil out); plain = refl; stays = refl }
+    step_then a b t = record { event = record { site = site.0; loads = g.loads ++ []; effect = Decided v }; stepped = simp (shown a, g.is, t); printed = sym (append-nil out); plain = refl; stays = refl }
 
     pub step_else : (a b : List Stmt) → is_zero v ≡ true → PlainStep p input (standing p (stmt.If site c a b ∷ behind) cells) (standing p (b ++ behind) cells) out out
     unfolding statement_opened
-    step_else a b t = record { event = record { site = site.0; loads = g.loads ++ []; effect = Decided v }; stepped = simp (g.is, t); printed = sym (append-nil out); plain = refl; stays = refl }
+    step_else a b t = record { event = record { site = site.0; loads = g.loads ++ []; effect = Decided v }; stepped = simp (shown b, g.is, t); printed = sym (append-nil out); plain = refl; stays = refl }
 
     pub step_turn : (a : List Stmt) → is_zero v ≡ false → PlainStep p input (standing p (stmt.While site c a ∷ behind) cells) (standing p (a ++ (stmt.While site c a ∷ behind)) cells) out out
     unfolding statement_opened
-    step_turn a t = record { event = record { site = site.0; loads = g.loads ++ []; effect = Decided v }; stepped = simp (g.is, t); printed = sym (append-nil out); plain = refl; stays = refl }
+    step_turn a t = record { event = record { site = site.0; loads = g.loads ++ []; effect = Decided v }; stepped = simp (shown a, g.is, t); printed = sym (append-nil out); plain = refl; stays = refl }
 
     pub step_past : (a : List Stmt) → is_zero v ≡ true → PlainStep p input (standing p (stmt.While site c a ∷ behind) cells) (standing p behind cells) out out
     unfolding statement_opened
-    step_past a t = record { event = record { site = site.0; loads = g.loads ++ []; effect = Decided v }; stepped = simp (g.is, t); printed = sym (append-nil out); plain = refl; stays = refl }
+    step_past a t = record { event = record { site = site.0; loads = g.loads ++ []; effect = Decided v }; stepped = simp (shown a, g.is, t); printed = sym (append-nil out); plain = refl; stays = refl }

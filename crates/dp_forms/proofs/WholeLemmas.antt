@@ -1,7 +1,6 @@
 -- The code of a whole program, between two places of the machine.
 use Rattle.std.proofs.Common.{◌≡◌, ◌≢◌, refl, sym, ap, ◌∙◌, subst, ℕ, zero, suc, ◌+◌, ◌-◌, ◌<◌, ◌≤◌, List, [], ◌∷◌, ◌++◌, append-nil, map, ℤ, pos, length, get_or, set, ◌⊎◌, inl, inr, arith}
-use Rattle.std.proofs.lemmas.List.{set-get_or, length-map}
-use Rattle.std.proofs.lemmas.Grind.{get_or_past}
+use Rattle.std.proofs.lemmas.List.{set-get_or, length-map, get_or_past}
 use Rattle.dp_tree.specs.declared.Stmt.{Stmt}
 use Rattle.dp_tree.specs.declared.Program.{Program}
 use Rattle.dp_tree.specs.Inlined.{IsInlined}
@@ -19,21 +18,21 @@ record At (n : ℕ) (x : List Stmt) (xs : List (List Stmt)) : Type 0 where
   from : n ≤ first_number x
   is : get_or xs (first_number x - n) [] ≡ x
 
-heads : {x : List Stmt} {xs : List (List Stmt)} {n : ℕ} {ns : List ℕ} → first_number x ∷ map first_number xs ≡ n ∷ ns → first_number x ≡ n
-heads e = cc
+heads : (m n : ℕ) (ms ns : List ℕ) → m ∷ ms ≡ n ∷ ns → m ≡ n
+heads m n ms ns e = cc
 
-tails : {x : List Stmt} {xs : List (List Stmt)} {n : ℕ} {ns : List ℕ} → first_number x ∷ map first_number xs ≡ n ∷ ns → map first_number xs ≡ ns
-tails e = cc
+tails : (m n : ℕ) (ms ns : List ℕ) → m ∷ ms ≡ n ∷ ns → ms ≡ ns
+tails m n ms ns e = cc
 
 at_number : {x : List Stmt} {xs : List (List Stmt)} (n count : ℕ) → map first_number xs ≡ numbers_from n count → Among x xs → At n x xs
 at_number n zero e here = absurd (cc e)
 at_number n zero e (later a) = absurd (cc e)
-at_number {x} n (suc count) e here =
-    let own : first_number x ≡ n = heads e in
+at_number {x} n (suc count) e (here {xs = rest}) =
+    let own : first_number x ≡ n = heads (first_number x) n (map first_number rest) (numbers_from (n + 1) count) e in
     let none : first_number x - n ≡ 0 = omega (arith, own) in
     record { from = omega (arith, own); is = rw none refl }
-at_number {x} n (suc count) e (later {xs = rest} a) =
-    let more : At (n + 1) x rest = at_number (n + 1) count (tails e) a in
+at_number {x} n (suc count) e (later {y = y} {xs = rest} a) =
+    let more : At (n + 1) x rest = at_number (n + 1) count (tails (first_number y) n (map first_number rest) (numbers_from (n + 1) count) e) a in
     let next : first_number x - n ≡ suc (first_number x - (n + 1)) = omega (arith, more.from) in
     record { from = omega (arith, more.from); is = rw next more.is }
 
@@ -53,7 +52,7 @@ module _ (p : Program) (inlined : IsInlined p) where
   pub end_is : rest_at p (length p.sites) ≡ []
   unfolding rest_at
   end_is =
-      let count : length (rests p.main []) ≡ length p.sites = sym (length-map first_number (rests p.main [])) ∙ ap (λ (ns : List ℕ). length ns) numbered ∙ length_numbers 1 (length p.sites) in
+      let count : length (rests p.main []) ≡ length p.sites = sym (length-map (rests p.main []) first_number) ∙ ap (λ (ns : List ℕ). length ns) numbered ∙ length_numbers 1 (length p.sites) in
       get_or_past (rests p.main []) (length p.sites) [] (omega (arith, count))
 
 -- registers that hold what stands in their home cells
@@ -67,11 +66,11 @@ merged_same (home ∷ homes) (value ∷ values) cells same long =
     ap (λ (xs : List ℤ). set xs home value) rest ∙ ap (λ (v : ℤ). set cells home v) first ∙ set-get_or cells home (pos 0)
 
 -- the code was entered at a place, and went on from there
-pub gone : {Main : CodeRelation} {input registers memory out registers' memory' out' cells' : List ℤ} {homes : List ℕ} {fuel fuel' at size sites place place' : ℕ} →
+pub gone : {Main : CodeRelation} {input registers memory out registers' memory' out' cells' : List ℤ} {homes : List ℕ} {fuel fuel' at size sites : ℕ} (place place' : ℕ) →
     Enters Main (place + 1) input fuel registers memory out at fuel' registers' memory' out' → length memory ≡ size → merged homes registers memory ≡ memory → cells' ≡ merged homes registers' memory' →
     (at ≡ 0 → place' ≡ sites) → (at ≢ 0 → place' ≡ at - 1) → (at ≡ 0) ⊎ (at ≢ 0) →
     (p : Program) → IsInlined p → IsWhole Main homes size sites p → Reaches p input fuel out (config_at p (record { place = place; cells = memory })) fuel' out' (standing p (rest_at p place') cells')
-gone {Main} {input} {registers} {memory} {out} {registers'} {memory'} {out'} {cells'} {homes} {fuel} {fuel'} {at} {size} {sites} {place} {place'} enters long same back ends leaves which p inlined whole =
+gone {Main} {input} {registers} {memory} {out} {registers'} {memory'} {out'} {cells'} {homes} {fuel} {fuel'} {at} {size} {sites} place place' enters long same back ends leaves which p inlined whole =
     let is : Main p homes (length memory) p.main = subst (λ (n : ℕ). Main p homes n p.main) (sym long) whole.main_is in
     let entered = enters p homes p.main [] is in
     let own : place + 1 - 1 ≡ place = omega arith in

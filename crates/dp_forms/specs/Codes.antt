@@ -9,7 +9,7 @@ use Rattle.dp_tree.specs.Step.{standing}
 use Rattle.dp_meaning.specs.Places.{rests, number_of}
 use Rattle.dp_native.specs.Reaches.{Reaches}
 use Rattle.dp_forms.specs.Registers.{merged, IsPut as IsPutAt}
-use Rattle.dp_forms.specs.Values.{IsRegister, IsArray, Evaluates}
+use Rattle.dp_forms.specs.Values.{IsRegister, IsArray, Evaluates, ValueRelation}
 
 -- the site of the first statement, or 0 where there is none
 abbrev pub first_number : List Stmt → ℕ
@@ -93,10 +93,7 @@ pub record IsOther (site : ℕ) (stmts : List Stmt) : Type 0 where
   pub numbered : site ≢ 0
   pub site_is : number_of statement ≡ site
 
--- what makes of code that of an expression, or of statements: by the program, the registers' homes and the memory's size
-abbrev pub ValueRelation : Type 1
-ValueRelation = Program → List ℕ → ℕ → Expr → Type 0
-
+-- what makes of code that of statements: by the program, the registers' homes and the memory's size
 abbrev pub CodeRelation : Type 1
 CodeRelation = Program → List ℕ → ℕ → List Stmt → Type 0
 

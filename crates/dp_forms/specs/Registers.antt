@@ -1,6 +1,7 @@
 -- Some cells of the memory are held in registers.
 use Rattle.std.specs.Prelude.{◌≡◌, ◌<◌, ℕ, zero, suc, ◌+◌, ◌-◌, ◌==◌, if◌then◌else◌, Bool, true, false, List, [], ◌∷◌, ℤ, pos, negsuc, get_or, slice_set, nat_lt}
 use Rattle.dp_tree.specs.Eval.{place, just}
+use Rattle.dp_native.specs.Element.{index_of}
 
 -- the memory, where each register's home cell holds the register's value
 unfoldable pub merged : List ℕ → List ℤ → List ℤ → List ℤ
@@ -17,11 +18,6 @@ is_home (home ∷ homes) register cell = if home == cell then register == 0 else
 abbrev pub is_apart : List ℕ → ℕ → ℕ → Bool
 is_apart [] first count = true
 is_apart (home ∷ homes) first count = if nat_lt home first then is_apart homes first count else (if nat_lt home (first + count) then false else is_apart homes first count)
-
--- a list's index as a number; one below 0 is none
-abbrev pub index_of : ℤ → ℕ
-index_of (pos n) = n
-index_of (negsuc n) = 0
 
 -- the array that has so many cells from the first one on holds this value at an index
 pub record IsCell (cells : List ℤ) (first count : ℕ) (index value : ℤ) : Type 0 where

@@ -72,3 +72,34 @@ pub record IsOr (Left Right : Expr → Type 0) (e : Expr) : Type 0 where
 -- Code that this relation says to be an expression's has found this value of it.
 abbrev pub Evaluates : (Program → List ℕ → ℕ → Expr → Type 0) → List ℤ → List ℤ → List ℤ → ℤ → Type 0
 Evaluates Is input memory registers value = (p : Program) (homes : List ℕ) (e : Expr) → Is p homes (length memory) e → Gives p input (merged homes registers memory) e value
+
+-- what makes of code that of an expression: by the program, the registers' homes and the memory's size
+abbrev pub ValueRelation : Type 1
+ValueRelation = Program → List ℕ → ℕ → Expr → Type 0
+
+abbrev pub OfNumber : ℤ → ValueRelation
+OfNumber z = λ p homes size e. e ≡ tree.Number z
+
+abbrev pub OfLength : ValueRelation
+OfLength = λ p homes size e. e ≡ tree.InputLen
+
+abbrev pub OfScalar : ℕ → ValueRelation
+OfScalar register = λ p homes size e. IsScalar p homes size register e
+
+abbrev pub OfWord : ValueRelation → ValueRelation
+OfWord Index = λ p homes size e. IsWord (Index p homes size) e
+
+abbrev pub OfElement : ℕ → ℕ → ValueRelation → ValueRelation
+OfElement first count Index = λ p homes size e. IsElementOf p homes size first count (Index p homes size) e
+
+abbrev pub OfUnary : UnOp → ValueRelation → ValueRelation
+OfUnary op Operand = λ p homes size e. IsUnary op (Operand p homes size) e
+
+abbrev pub OfBinary : BinOp → ValueRelation → ValueRelation → ValueRelation
+OfBinary op Left Right = λ p homes size e. IsBinary op (Left p homes size) (Right p homes size) e
+
+abbrev pub OfAnd : ValueRelation → ValueRelation → ValueRelation
+OfAnd Left Right = λ p homes size e. IsAnd (Left p homes size) (Right p homes size) e
+
+abbrev pub OfOr : ValueRelation → ValueRelation → ValueRelation
+OfOr Left Right = λ p homes size e. IsOr (Left p homes size) (Right p homes size) e

@@ -7,7 +7,7 @@ ghost use Rattle.dp_base.specs.declared.BinOp.{BinOp};
 ghost use Rattle.dp_base.specs.declared.BinOp.TheVariants as op;
 ghost use Rattle.dp_base.specs.declared.UnOp.{UnOp};
 ghost use Rattle.dp_base.specs.declared.UnOp.TheVariants as prefix;
-ghost use Rattle.dp_forms.specs.Values.{Evaluates, IsBinary, IsUnary};
+ghost use Rattle.dp_forms.specs.Values.{Evaluates, OfBinary, OfUnary};
 
 use super::values::Value;
 use dp_base::{BinOp, UnOp};
@@ -18,8 +18,8 @@ use std::marker::PhantomData;
 pub trait Operator {
     ghost operator: { BinOp };
 
-    fn is(operator: BinOp) -> bool
-        ensures { IsTrue result → operator ≡ Self.operator };
+    fn is(given: BinOp) -> bool
+        ensures { IsTrue result → given ≡ operator };
 
     /// The operation's value; None stands for a fault.
     fn apply(a: i64, b: i64) -> Option<i64>
@@ -30,8 +30,8 @@ pub trait Operator {
 pub trait Prefix {
     ghost operator: { UnOp };
 
-    fn is(operator: UnOp) -> bool
-        ensures { IsTrue result → operator ≡ Self.operator };
+    fn is(given: UnOp) -> bool
+        ensures { IsTrue result → given ≡ operator };
 
     fn apply(a: i64) -> Option<i64>
         ensures { IfSome result (λ v. unary_result operator a ≡ Ok v) };
@@ -43,7 +43,7 @@ pub struct Binary<O, A, B> {
 }
 
 impl<const N: usize, O: Operator, A: Value<N>, B: Value<N>> Value<N> for Binary<O, A, B> {
-    ghost is_of = { λ program homes size expression. IsBinary O.operator (A.is_of program homes size) (B.is_of program homes size) expression };
+    ghost is_of = { OfBinary O.operator A.is_of B.is_of };
 
     fn is(program: &Program, homes: &[u32], size: u32, expression: &Expr) -> bool {
         match expression {
@@ -70,7 +70,7 @@ pub struct Unary<O, A> {
 }
 
 impl<const N: usize, O: Prefix, A: Value<N>> Value<N> for Unary<O, A> {
-    ghost is_of = { λ program homes size expression. IsUnary O.operator (A.is_of program homes size) expression };
+    ghost is_of = { OfUnary O.operator A.is_of };
 
     fn is(program: &Program, homes: &[u32], size: u32, expression: &Expr) -> bool {
         match expression {

@@ -3,7 +3,7 @@
 ghost use Rattle.std.specs.Prelude.{◌≡◌, ◌≤◌, ◌<◌, ◌^◌, IsTrue, length, not};
 ghost use Rattle.std.specs.Option.{IfSome, MatchOption};
 ghost use Rattle.dp_base.specs.Arithmetic.{number_of, is_zero};
-ghost use Rattle.dp_forms.specs.Values.{Evaluates, IsAnd, IsOr};
+ghost use Rattle.dp_forms.specs.Values.{Evaluates, OfAnd, OfOr};
 ghost use Rattle.dp_forms.specs.Codes.{Runs, Enters, OfIf, OfWhile};
 
 use super::state::State;
@@ -20,7 +20,7 @@ pub struct And<A, B> {
 }
 
 impl<const N: usize, A: Value<N>, B: Value<N>> Value<N> for And<A, B> {
-    ghost is_of = { λ program homes size expression. IsAnd (A.is_of program homes size) (B.is_of program homes size) expression };
+    ghost is_of = { OfAnd A.is_of B.is_of };
 
     fn is(program: &Program, homes: &[u32], size: u32, expression: &Expr) -> bool {
         match expression {
@@ -50,7 +50,7 @@ pub struct Or<A, B> {
 }
 
 impl<const N: usize, A: Value<N>, B: Value<N>> Value<N> for Or<A, B> {
-    ghost is_of = { λ program homes size expression. IsOr (A.is_of program homes size) (B.is_of program homes size) expression };
+    ghost is_of = { OfOr A.is_of B.is_of };
 
     fn is(program: &Program, homes: &[u32], size: u32, expression: &Expr) -> bool {
         match expression {
@@ -112,23 +112,27 @@ impl<const N: usize, const S: u32, C: Value<N>, A: Code<N>, B: Code<N>> Code<N>
         state: State<N>,
     ) -> State<N>
         requires { state.at ≡ 0 }
-        ensures less { result.fuel ≤ state.fuel }
+        ensures less { result.fuel ≤ state.entry.fuel }
         ensures small { result.at < 2 ^ 32 }
-        ensures runs { Runs (OfIf S C.is_of A.is_of B.is_of) input.now state.fuel state.registers memory.old out.old result.at result.fuel result.registers memory.new out.new }
+        ensures runs { Runs (OfIf S C.is_of A.is_of B.is_of) input.now state.entry.fuel state.entry.registers memory.old out.old result.at result.fuel result.registers memory.new out.new }
     {
+        let left = state.left_at(S);
         if state.fuel < 1 {
-            return state.left_at(S);
+            return left;
         }
+        let next = state.stepped();
         match C::value(input, memory, &state.registers) {
             Some(test) => {
                 let yes = holds(test);
                 if yes {
-                    A::run(input, memory, out, state.stepped())
+                    let then_to = A::run(input, memory, out, next);
+                    then_to
                 } else {
-                    B::run(input, memory, out, state.stepped())
+                    let else_to = B::run(input, memory, out, next);
+                    else_to
                 }
             }
-            None => state.left_at(S),
+            None => left,
         }
     }
 
@@ -137,14 +141,17 @@ impl<const N: usize, const S: u32, C: Value<N>, A: Code<N>, B: Code<N>> Code<N>
         input: &[i64],
         memory: &mut [i64],
         out: &mut Row<i64>,
-        state: State<N>,
+        state: &State<N>,
     ) -> Option<State<N>>
-        requires { state.at ≡ 0 }
-        ensures { MatchOption result ((memory.new ≡ memory.old) × (out.new ≡ out.old)) (λ to. (to.at < 2 ^ 32) × Enters (OfIf S C.is_of A.is_of B.is_of) site input.now state.fuel state.registers memory.old out.old to.at to.fuel to.registers memory.new out.new) }
+        requires { state.now.at ≡ 0 }
+        ensures { MatchOption result ((memory.new ≡ memory.old) × (out.new ≡ out.old)) (λ to. (to.at < 2 ^ 32) × Enters (OfIf S C.is_of A.is_of B.is_of) site input.now state.now.fuel state.now.registers memory.old out.old to.at to.fuel to.registers memory.new out.new) }
     {
         match A::enter(site, input, memory, out, state) {
             Some(to) => Some(to),
-            None => B::enter(site, input, memory, out, state),
+            None => match B::enter(site, input, memory, out, state) {
+                Some(to) => Some(to),
+                None => None,
+            },
         }
     }
 }
@@ -179,31 +186,33 @@ impl<const N: usize, const S: u32, const M: u64, const P: usize, C: Value<N>, A:
         state: State<N>,
     ) -> State<N>
         requires { state.at ≡ 0 }
-        ensures less { result.fuel ≤ state.fuel }
+        ensures less { result.fuel ≤ state.entry.fuel }
         ensures small { result.at < 2 ^ 32 }
-        ensures runs { Runs (OfWhile S C.is_of A.is_of) input.now state.fuel state.registers memory.old out.old result.at result.fuel result.registers memory.new out.new }
+        ensures runs { Runs (OfWhile S C.is_of A.is_of) input.now state.entry.fuel state.entry.registers memory.old out.old result.at result.fuel result.registers memory.new out.new }
     {
         let mut state = state;
         'turns: while state.fuel > M {
-            if P > 0 && out.len() >= P {
+            if is_full(out, P) {
                 break;
             }
             match C::value(input, memory, &state.registers) {
                 Some(test) => {
                     let yes = holds(test);
+                    let next = state.stepped();
                     if yes {
-                        state = A::run(input, memory, out, state.stepped());
+                        state = A::run(input, memory, out, next);
                         if state.at != 0 {
                             return state;
                         }
                     } else {
-                        return state.stepped();
+                        return next;
                     }
                 }
                 None => break,
             }
         }
-        state.left_at(S)
+        let left = state.left_at(S);
+        left
     }
 
     #[inline(never)]
@@ -212,13 +221,13 @@ impl<const N: usize, const S: u32, const M: u64, const P: usize, C: Value<N>, A:
         input: &[i64],
         memory: &mut [i64],
         out: &mut Row<i64>,
-        state: State<N>,
+        state: &State<N>,
     ) -> Option<State<N>>
-        requires { state.at ≡ 0 }
-        ensures { MatchOption result ((memory.new ≡ memory.old) × (out.new ≡ out.old)) (λ to. (to.at < 2 ^ 32) × Enters (OfWhile S C.is_of A.is_of) site input.now state.fuel state.registers memory.old out.old to.at to.fuel to.registers memory.new out.new) }
+        requires { state.now.at ≡ 0 }
+        ensures { MatchOption result ((memory.new ≡ memory.old) × (out.new ≡ out.old)) (λ to. (to.at < 2 ^ 32) × Enters (OfWhile S C.is_of A.is_of) site input.now state.now.fuel state.now.registers memory.old out.old to.at to.fuel to.registers memory.new out.new) }
     {
         if site == S {
-            let to = Self::run(input, memory, out, state);
+            let to = Self::run(input, memory, out, *state);
             return Some(to);
         }
         match A::enter(site, input, memory, out, state) {
@@ -232,6 +241,12 @@ impl<const N: usize, const S: u32, const M: u64, const P: usize, C: Value<N>, A:
             None => None,
         }
     }
+}
+
+/// Whether so many prints wait, where that isn't 0.
+#[inline(always)]
+fn is_full(out: &Row<i64>, most: usize) -> bool {
+    most > 0 && out.len() >= most
 }
 
 /// 1 for a value that isn't 0, and 0 for 0.

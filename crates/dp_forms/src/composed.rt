@@ -52,7 +52,7 @@ impl<const N: usize, M: Code<N>> Composed<N, M> {
             fuel,
             registers: loaded(&self.homes, cells),
         };
-        match M::enter(place + 1, input, cells, out, state) {
+        match M::enter(place + 1, input, cells, out, &state) {
             Some(to) => {
                 put_back(&self.homes, &to.registers, cells);
                 (place_of(to.at, self.sites), to.fuel)

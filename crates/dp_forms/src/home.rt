@@ -1,6 +1,6 @@
 //! Where a program's variables are, beside the registers.
 
-ghost use Rattle.std.specs.Prelude.{◌≡◌, IsTrue};
+ghost use Rattle.std.specs.Prelude.{◌≡◌, ◌<◌, ◌+◌, ◌^◌, IsTrue};
 ghost use Rattle.dp_forms.specs.Registers.{is_home, is_apart};
 ghost use Rattle.dp_meaning.specs.Places.{number_of};
 ghost use Rattle.dp_forms.specs.Values.{IsRegister, IsArray};

@@ -2,8 +2,7 @@
 
 ghost use Rattle.std.specs.Prelude.{◌≡◌, IsTrue, length, pos};
 ghost use Rattle.std.specs.Option.{IfSome};
-ghost use Rattle.dp_tree.specs.declared.Expr.TheVariants as tree;
-ghost use Rattle.dp_forms.specs.Values.{Evaluates, IsScalar, IsElementOf, IsWord};
+ghost use Rattle.dp_forms.specs.Values.{Evaluates, OfNumber, OfLength, OfScalar, OfElement, OfWord};
 
 use super::home::{is_array, is_register};
 use super::memory::cell;
@@ -16,7 +15,7 @@ use std::marker::PhantomData;
 pub struct Number<const V: i64> {}
 
 impl<const N: usize, const V: i64> Value<N> for Number<V> {
-    ghost is_of = { λ program homes size expression. expression ≡ tree.Number V };
+    ghost is_of = { OfNumber V };
 
     fn is(_program: &Program, _homes: &[u32], _size: u32, expression: &Expr) -> bool {
         match expression {
@@ -35,7 +34,7 @@ impl<const N: usize, const V: i64> Value<N> for Number<V> {
 pub struct InputLen {}
 
 impl<const N: usize> Value<N> for InputLen {
-    ghost is_of = { λ program homes size expression. expression ≡ tree.InputLen };
+    ghost is_of = { OfLength };
 
     fn is(_program: &Program, _homes: &[u32], _size: u32, expression: &Expr) -> bool {
         match expression {
@@ -54,7 +53,7 @@ impl<const N: usize> Value<N> for InputLen {
 pub struct Scalar<const K: usize> {}
 
 impl<const N: usize, const K: usize> Value<N> for Scalar<K> {
-    ghost is_of = { λ program homes size expression. IsScalar program homes size K expression };
+    ghost is_of = { OfScalar K };
 
     fn is(program: &Program, homes: &[u32], size: u32, expression: &Expr) -> bool {
         match expression {
@@ -79,7 +78,7 @@ pub struct Word<I> {
 }
 
 impl<const N: usize, I: Value<N>> Value<N> for Word<I> {
-    ghost is_of = { λ program homes size expression. IsWord (I.is_of program homes size) expression };
+    ghost is_of = { OfWord I.is_of };
 
     fn is(program: &Program, homes: &[u32], size: u32, expression: &Expr) -> bool {
         match expression {
@@ -101,7 +100,7 @@ pub struct Element<const F: u32, const C: u32, I> {
 }
 
 impl<const N: usize, const F: u32, const C: u32, I: Value<N>> Value<N> for Element<F, C, I> {
-    ghost is_of = { λ program homes size expression. IsElementOf program homes size F C (I.is_of program homes size) expression };
+    ghost is_of = { OfElement F C I.is_of };
 
     fn is(program: &Program, homes: &[u32], size: u32, expression: &Expr) -> bool {
         match expression {

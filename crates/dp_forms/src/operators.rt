@@ -15,8 +15,8 @@ pub struct Add {}
 impl Operator for Add {
     ghost operator = { op.Add };
 
-    fn is(operator: BinOp) -> bool {
-        match operator {
+    fn is(given: BinOp) -> bool {
+        match given {
             BinOp::Add => true,
             _ => false,
         }
@@ -34,8 +34,8 @@ pub struct Sub {}
 impl Operator for Sub {
     ghost operator = { op.Sub };
 
-    fn is(operator: BinOp) -> bool {
-        match operator {
+    fn is(given: BinOp) -> bool {
+        match given {
             BinOp::Sub => true,
             _ => false,
         }
@@ -53,8 +53,8 @@ pub struct Mul {}
 impl Operator for Mul {
     ghost operator = { op.Mul };
 
-    fn is(operator: BinOp) -> bool {
-        match operator {
+    fn is(given: BinOp) -> bool {
+        match given {
             BinOp::Mul => true,
             _ => false,
         }
@@ -72,8 +72,8 @@ pub struct Div {}
 impl Operator for Div {
     ghost operator = { op.Div };
 
-    fn is(operator: BinOp) -> bool {
-        match operator {
+    fn is(given: BinOp) -> bool {
+        match given {
             BinOp::Div => true,
             _ => false,
         }
@@ -91,8 +91,8 @@ pub struct Rem {}
 impl Operator for Rem {
     ghost operator = { op.Rem };
 
-    fn is(operator: BinOp) -> bool {
-        match operator {
+    fn is(given: BinOp) -> bool {
+        match given {
             BinOp::Rem => true,
             _ => false,
         }
@@ -110,8 +110,8 @@ pub struct Lt {}
 impl Operator for Lt {
     ghost operator = { op.Lt };
 
-    fn is(operator: BinOp) -> bool {
-        match operator {
+    fn is(given: BinOp) -> bool {
+        match given {
             BinOp::Lt => true,
             _ => false,
         }
@@ -129,8 +129,8 @@ pub struct Le {}
 impl Operator for Le {
     ghost operator = { op.Le };
 
-    fn is(operator: BinOp) -> bool {
-        match operator {
+    fn is(given: BinOp) -> bool {
+        match given {
             BinOp::Le => true,
             _ => false,
         }
@@ -148,8 +148,8 @@ pub struct Gt {}
 impl Operator for Gt {
     ghost operator = { op.Gt };
 
-    fn is(operator: BinOp) -> bool {
-        match operator {
+    fn is(given: BinOp) -> bool {
+        match given {
             BinOp::Gt => true,
             _ => false,
         }
@@ -167,8 +167,8 @@ pub struct Ge {}
 impl Operator for Ge {
     ghost operator = { op.Ge };
 
-    fn is(operator: BinOp) -> bool {
-        match operator {
+    fn is(given: BinOp) -> bool {
+        match given {
             BinOp::Ge => true,
             _ => false,
         }
@@ -186,8 +186,8 @@ pub struct Eq {}
 impl Operator for Eq {
     ghost operator = { op.Eq };
 
-    fn is(operator: BinOp) -> bool {
-        match operator {
+    fn is(given: BinOp) -> bool {
+        match given {
             BinOp::Eq => true,
             _ => false,
         }
@@ -205,8 +205,8 @@ pub struct Ne {}
 impl Operator for Ne {
     ghost operator = { op.Ne };
 
-    fn is(operator: BinOp) -> bool {
-        match operator {
+    fn is(given: BinOp) -> bool {
+        match given {
             BinOp::Ne => true,
             _ => false,
         }
@@ -224,8 +224,8 @@ pub struct Neg {}
 impl Prefix for Neg {
     ghost operator = { prefix.Neg };
 
-    fn is(operator: UnOp) -> bool {
-        match operator {
+    fn is(given: UnOp) -> bool {
+        match given {
             UnOp::Neg => true,
             _ => false,
         }
@@ -243,8 +243,8 @@ pub struct Not {}
 impl Prefix for Not {
     ghost operator = { prefix.Not };
 
-    fn is(operator: UnOp) -> bool {
-        match operator {
+    fn is(given: UnOp) -> bool {
+        match given {
             UnOp::Not => true,
             _ => false,
         }

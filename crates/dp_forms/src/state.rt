@@ -15,7 +15,9 @@ impl<const N: usize> State<N> {
     /// The same state, at a site that isn't executed.
     #[inline(always)]
     pub fn left_at(self, site: u32) -> State<N>
-        ensures { result ≡ record self { at = site } }
+        ensures at { result.at ≡ site }
+        ensures fuel { result.fuel ≡ self.entry.fuel }
+        ensures registers { result.registers ≡ self.entry.registers }
     {
         State {
             at: site as u64,
@@ -27,7 +29,9 @@ impl<const N: usize> State<N> {
     #[inline(always)]
     pub fn stepped(self) -> State<N>
         requires { 1 ≤ self.fuel }
-        ensures { result ≡ record self { fuel = self.fuel - 1 } }
+        ensures at { result.at ≡ self.entry.at }
+        ensures fuel { result.fuel ≡ self.entry.fuel - 1 }
+        ensures registers { result.registers ≡ self.entry.registers }
     {
         State {
             fuel: self.fuel - 1,
@@ -40,7 +44,9 @@ impl<const N: usize> State<N> {
     pub fn holding(self, register: usize, value: i64) -> State<N>
         requires fuel { 1 ≤ self.fuel }
         requires register { register < N }
-        ensures { result ≡ record self { fuel = self.fuel - 1; registers = slice_set self.registers register value } }
+        ensures at { result.at ≡ self.entry.at }
+        ensures fuel { result.fuel ≡ self.entry.fuel - 1 }
+        ensures registers { result.registers ≡ slice_set self.entry.registers register value }
     {
         let mut state = self.stepped();
         state.registers[register] = value;

@@ -27,9 +27,9 @@ pub trait Code<const N: usize> {
     /// Executes the statements, as far as it goes.
     fn run(input: &[i64], memory: &mut [i64], out: &mut Row<i64>, state: State<N>) -> State<N>
         requires { state.at ≡ 0 }
-        ensures less { result.fuel ≤ state.fuel }
+        ensures less { result.fuel ≤ state.entry.fuel }
         ensures small { result.at < 2 ^ 32 }
-        ensures runs { Runs is_of input.now state.fuel state.registers memory.old out.old result.at result.fuel result.registers memory.new out.new };
+        ensures runs { Runs is_of input.now state.entry.fuel state.entry.registers memory.old out.old result.at result.fuel result.registers memory.new out.new };
 
     /// Goes on at a site, where the code can begin there.
     fn enter(
@@ -37,10 +37,10 @@ pub trait Code<const N: usize> {
         input: &[i64],
         memory: &mut [i64],
         out: &mut Row<i64>,
-        state: State<N>,
+        state: &State<N>,
     ) -> Option<State<N>>
-        requires { state.at ≡ 0 }
-        ensures { MatchOption result ((memory.new ≡ memory.old) × (out.new ≡ out.old)) (λ to. (to.at < 2 ^ 32) × Enters is_of site input.now state.fuel state.registers memory.old out.old to.at to.fuel to.registers memory.new out.new) };
+        requires { state.now.at ≡ 0 }
+        ensures { MatchOption result ((memory.new ≡ memory.old) × (out.new ≡ out.old)) (λ to. (to.at < 2 ^ 32) × Enters is_of site input.now state.now.fuel state.now.registers memory.old out.old to.at to.fuel to.registers memory.new out.new) };
 }
 
 /// An assignment to the scalar in register K.
@@ -71,16 +71,23 @@ impl<const N: usize, const S: u32, const K: usize, V: Value<N>> Code<N> for Set<
         state: State<N>,
     ) -> State<N>
         requires { state.at ≡ 0 }
-        ensures less { result.fuel ≤ state.fuel }
+        ensures less { result.fuel ≤ state.entry.fuel }
         ensures small { result.at < 2 ^ 32 }
-        ensures runs { Runs (OfSet S K V.is_of) input.now state.fuel state.registers memory.old out.old result.at result.fuel result.registers memory.new out.new }
+        ensures runs { Runs (OfSet S K V.is_of) input.now state.entry.fuel state.entry.registers memory.old out.old result.at result.fuel result.registers memory.new out.new }
     {
-        if state.fuel < 1 || K >= N {
-            return state.left_at(S);
+        let left = state.left_at(S);
+        if state.fuel < 1 {
+            return left;
+        }
+        if K >= N {
+            return left;
         }
         match V::value(input, memory, &state.registers) {
-            Some(value) => state.holding(K, value),
-            None => state.left_at(S),
+            Some(value) => {
+                let held = state.holding(K, value);
+                held
+            }
+            None => left,
         }
     }
 
@@ -89,10 +96,10 @@ impl<const N: usize, const S: u32, const K: usize, V: Value<N>> Code<N> for Set<
         input: &[i64],
         memory: &mut [i64],
         out: &mut Row<i64>,
-        state: State<N>,
+        state: &State<N>,
     ) -> Option<State<N>>
-        requires { state.at ≡ 0 }
-        ensures { MatchOption result ((memory.new ≡ memory.old) × (out.new ≡ out.old)) (λ to. (to.at < 2 ^ 32) × Enters (OfSet S K V.is_of) site input.now state.fuel state.registers memory.old out.old to.at to.fuel to.registers memory.new out.new) }
+        requires { state.now.at ≡ 0 }
+        ensures { MatchOption result ((memory.new ≡ memory.old) × (out.new ≡ out.old)) (λ to. (to.at < 2 ^ 32) × Enters (OfSet S K V.is_of) site input.now state.now.fuel state.now.registers memory.old out.old to.at to.fuel to.registers memory.new out.new) }
     {
         None
     }
@@ -136,16 +143,18 @@ impl<const N: usize, const S: u32, const F: u32, const C: u32, I: Value<N>, V: V
         state: State<N>,
     ) -> State<N>
         requires { state.at ≡ 0 }
-        ensures less { result.fuel ≤ state.fuel }
+        ensures less { result.fuel ≤ state.entry.fuel }
         ensures small { result.at < 2 ^ 32 }
-        ensures runs { Runs (OfPut S F C I.is_of V.is_of) input.now state.fuel state.registers memory.old out.old result.at result.fuel result.registers memory.new out.new }
+        ensures runs { Runs (OfPut S F C I.is_of V.is_of) input.now state.entry.fuel state.entry.registers memory.old out.old result.at result.fuel result.registers memory.new out.new }
     {
+        let left = state.left_at(S);
         if state.fuel < 1 {
-            return state.left_at(S);
+            return left;
         }
+        let next = state.stepped();
         match stored::<N, F, C, I, V>(input, memory, &state.registers) {
-            Some(()) => state.stepped(),
-            None => state.left_at(S),
+            Some(()) => next,
+            None => left,
         }
     }
 
@@ -154,10 +163,10 @@ impl<const N: usize, const S: u32, const F: u32, const C: u32, I: Value<N>, V: V
         input: &[i64],
         memory: &mut [i64],
         out: &mut Row<i64>,
-        state: State<N>,
+        state: &State<N>,
     ) -> Option<State<N>>
-        requires { state.at ≡ 0 }
-        ensures { MatchOption result ((memory.new ≡ memory.old) × (out.new ≡ out.old)) (λ to. (to.at < 2 ^ 32) × Enters (OfPut S F C I.is_of V.is_of) site input.now state.fuel state.registers memory.old out.old to.at to.fuel to.registers memory.new out.new) }
+        requires { state.now.at ≡ 0 }
+        ensures { MatchOption result ((memory.new ≡ memory.old) × (out.new ≡ out.old)) (λ to. (to.at < 2 ^ 32) × Enters (OfPut S F C I.is_of V.is_of) site input.now state.now.fuel state.now.registers memory.old out.old to.at to.fuel to.registers memory.new out.new) }
     {
         None
     }
@@ -202,19 +211,21 @@ impl<const N: usize, const S: u32, V: Value<N>> Code<N> for Say<S, V> {
         state: State<N>,
     ) -> State<N>
         requires { state.at ≡ 0 }
-        ensures less { result.fuel ≤ state.fuel }
+        ensures less { result.fuel ≤ state.entry.fuel }
         ensures small { result.at < 2 ^ 32 }
-        ensures runs { Runs (OfSay S V.is_of) input.now state.fuel state.registers memory.old out.old result.at result.fuel result.registers memory.new out.new }
+        ensures runs { Runs (OfSay S V.is_of) input.now state.entry.fuel state.entry.registers memory.old out.old result.at result.fuel result.registers memory.new out.new }
     {
+        let left = state.left_at(S);
         if state.fuel < 1 {
-            return state.left_at(S);
+            return left;
         }
+        let next = state.stepped();
         match V::value(input, memory, &state.registers) {
             Some(value) => match say(out, value) {
-                Some(()) => state.stepped(),
-                None => state.left_at(S),
+                Some(()) => next,
+                None => left,
             },
-            None => state.left_at(S),
+            None => left,
         }
     }
 
@@ -223,10 +234,10 @@ impl<const N: usize, const S: u32, V: Value<N>> Code<N> for Say<S, V> {
         input: &[i64],
         memory: &mut [i64],
         out: &mut Row<i64>,
-        state: State<N>,
+        state: &State<N>,
     ) -> Option<State<N>>
-        requires { state.at ≡ 0 }
-        ensures { MatchOption result ((memory.new ≡ memory.old) × (out.new ≡ out.old)) (λ to. (to.at < 2 ^ 32) × Enters (OfSay S V.is_of) site input.now state.fuel state.registers memory.old out.old to.at to.fuel to.registers memory.new out.new) }
+        requires { state.now.at ≡ 0 }
+        ensures { MatchOption result ((memory.new ≡ memory.old) × (out.new ≡ out.old)) (λ to. (to.at < 2 ^ 32) × Enters (OfSay S V.is_of) site input.now state.now.fuel state.now.registers memory.old out.old to.at to.fuel to.registers memory.new out.new) }
     {
         None
     }
@@ -256,13 +267,14 @@ impl<const N: usize, const L: usize, A: Code<N>, B: Code<N>> Code<N> for Then<L,
         state: State<N>,
     ) -> State<N>
         requires { state.at ≡ 0 }
-        ensures less { result.fuel ≤ state.fuel }
+        ensures less { result.fuel ≤ state.entry.fuel }
         ensures small { result.at < 2 ^ 32 }
-        ensures runs { Runs (OfThen A.is_of B.is_of) input.now state.fuel state.registers memory.old out.old result.at result.fuel result.registers memory.new out.new }
+        ensures runs { Runs (OfThen A.is_of B.is_of) input.now state.entry.fuel state.entry.registers memory.old out.old result.at result.fuel result.registers memory.new out.new }
     {
         let between = A::run(input, memory, out, state);
         if between.at == 0 {
-            B::run(input, memory, out, between)
+            let to = B::run(input, memory, out, between);
+            to
         } else {
             between
         }
@@ -273,10 +285,10 @@ impl<const N: usize, const L: usize, A: Code<N>, B: Code<N>> Code<N> for Then<L,
         input: &[i64],
         memory: &mut [i64],
         out: &mut Row<i64>,
-        state: State<N>,
+        state: &State<N>,
     ) -> Option<State<N>>
-        requires { state.at ≡ 0 }
-        ensures { MatchOption result ((memory.new ≡ memory.old) × (out.new ≡ out.old)) (λ to. (to.at < 2 ^ 32) × Enters (OfThen A.is_of B.is_of) site input.now state.fuel state.registers memory.old out.old to.at to.fuel to.registers memory.new out.new) }
+        requires { state.now.at ≡ 0 }
+        ensures { MatchOption result ((memory.new ≡ memory.old) × (out.new ≡ out.old)) (λ to. (to.at < 2 ^ 32) × Enters (OfThen A.is_of B.is_of) site input.now state.now.fuel state.now.registers memory.old out.old to.at to.fuel to.registers memory.new out.new) }
     {
         match A::enter(site, input, memory, out, state) {
             Some(between) => {
@@ -287,7 +299,10 @@ impl<const N: usize, const L: usize, A: Code<N>, B: Code<N>> Code<N> for Then<L,
                     Some(between)
                 }
             }
-            None => B::enter(site, input, memory, out, state),
+            None => match B::enter(site, input, memory, out, state) {
+                Some(to) => Some(to),
+                None => None,
+            },
         }
     }
 }
@@ -313,9 +328,9 @@ impl<const N: usize> Code<N> for Nothing {
         state: State<N>,
     ) -> State<N>
         requires { state.at ≡ 0 }
-        ensures less { result.fuel ≤ state.fuel }
+        ensures less { result.fuel ≤ state.entry.fuel }
         ensures small { result.at < 2 ^ 32 }
-        ensures runs { Runs (OfNothing) input.now state.fuel state.registers memory.old out.old result.at result.fuel result.registers memory.new out.new }
+        ensures runs { Runs (OfNothing) input.now state.entry.fuel state.entry.registers memory.old out.old result.at result.fuel result.registers memory.new out.new }
     {
         state
     }
@@ -325,10 +340,10 @@ impl<const N: usize> Code<N> for Nothing {
         input: &[i64],
         memory: &mut [i64],
         out: &mut Row<i64>,
-        state: State<N>,
+        state: &State<N>,
     ) -> Option<State<N>>
-        requires { state.at ≡ 0 }
-        ensures { MatchOption result ((memory.new ≡ memory.old) × (out.new ≡ out.old)) (λ to. (to.at < 2 ^ 32) × Enters (OfNothing) site input.now state.fuel state.registers memory.old out.old to.at to.fuel to.registers memory.new out.new) }
+        requires { state.now.at ≡ 0 }
+        ensures { MatchOption result ((memory.new ≡ memory.old) × (out.new ≡ out.old)) (λ to. (to.at < 2 ^ 32) × Enters (OfNothing) site input.now state.now.fuel state.now.registers memory.old out.old to.at to.fuel to.registers memory.new out.new) }
     {
         None
     }
@@ -355,9 +370,9 @@ impl<const N: usize, const S: u32> Code<N> for Other<S> {
         state: State<N>,
     ) -> State<N>
         requires { state.at ≡ 0 }
-        ensures less { result.fuel ≤ state.fuel }
+        ensures less { result.fuel ≤ state.entry.fuel }
         ensures small { result.at < 2 ^ 32 }
-        ensures runs { Runs (OfOther S) input.now state.fuel state.registers memory.old out.old result.at result.fuel result.registers memory.new out.new }
+        ensures runs { Runs (OfOther S) input.now state.entry.fuel state.entry.registers memory.old out.old result.at result.fuel result.registers memory.new out.new }
     {
         state.left_at(S)
     }
@@ -367,10 +382,10 @@ impl<const N: usize, const S: u32> Code<N> for Other<S> {
         input: &[i64],
         memory: &mut [i64],
         out: &mut Row<i64>,
-        state: State<N>,
+        state: &State<N>,
     ) -> Option<State<N>>
-        requires { state.at ≡ 0 }
-        ensures { MatchOption result ((memory.new ≡ memory.old) × (out.new ≡ out.old)) (λ to. (to.at < 2 ^ 32) × Enters (OfOther S) site input.now state.fuel state.registers memory.old out.old to.at to.fuel to.registers memory.new out.new) }
+        requires { state.now.at ≡ 0 }
+        ensures { MatchOption result ((memory.new ≡ memory.old) × (out.new ≡ out.old)) (λ to. (to.at < 2 ^ 32) × Enters (OfOther S) site input.now state.now.fuel state.now.registers memory.old out.old to.at to.fuel to.registers memory.new out.new) }
     {
         None
     }

@@ -1,0 +1,9 @@
+use Rattle.std.proofs.Common.{◌≡◌, ◌≢◌, arith}
+use Rattle.dp_forms.proofs.ChoiceLemmas.{then_enters, then_entered, then_behind}
+use Rattle.dp_forms.proofs.statements.ThenCode.enter.Goals as goal
+
+pub returns-then-between-eq0 : goal.returns-then-between-eq0
+returns-then-between-eq0 g c = let zero : c.in-Some.between.at ≡ 0 = omega (arith, c.if-between-eq0.true) in (c.run-to.ensures.small, then_enters g.A.Code.is_of g.B.Code.is_of zero c.enter.auto.memory c.in-Some.ensures.1 c.run-to.ensures.runs)
+
+pub returns-else-between-eq0 : goal.returns-else-between-eq0
+returns-else-between-eq0 g c = let some : c.in-Some.between.at ≢ 0 = λ (e : c.in-Some.between.at ≡ 0). absurd (omega (arith, c.if-between-eq0.false, e)) in (c.in-Some.ensures.0, then_entered g.A.Code.is_of g.B.Code.is_of some c.in-Some.ensures.1)
