@@ -14,14 +14,6 @@ from tree_text import Program
 TOP = Path(__file__).resolve().parent.parent
 BASE_SECONDS, SITE_SECONDS = 60, 2
 
-LAUNCHER = """#!/bin/sh
-# A program that `dswp build` made: its words are those of `dswp run` behind the program.
-exec "$(dirname -- "$0")/NAME.native" run /dev/fd/3 "$@" 3<<'END OF THE PROGRAM'
-TEXT
-END OF THE PROGRAM
-"""
-
-
 def say(text):
     print("dswp: " + text, file=sys.stderr, flush=True)
 
@@ -71,13 +63,6 @@ def prove(place, name):
     return None if program.exists() and "logic=proved" in done.stdout else done.stdout
 
 
-def install(program, text, target):
-    shutil.copy(program, str(target) + ".native")
-    launcher = LAUNCHER.replace("NAME", target.name).replace("TEXT", text.rstrip("\n"))
-    target.write_text(launcher)
-    target.chmod(0o755)
-
-
 def unproved_parts(log, forms):
     """The parts of the code whose proofs failed, each with the lines of its statements."""
     for name, lines in forms.lines.items():
@@ -91,11 +76,11 @@ def main():
     program = Program(tree)
     forms = Forms(program)
     key = sources_sum()
-    kept = cache_folder() / ("program-" + sum_of(key.encode(), tree.encode()))
+    kept = cache_folder() / ("program-" + sum_of(key.encode(), tree.encode(), text.encode()))
     if not kept.exists():
         place = workspace(key)
         name = crate_name(tree)
-        write_crate(place, name, program, forms)
+        write_crate(place, name, program, forms, Path(source).name, text)
         say("proving and building the code of %d sites; this takes about %d s" % (
             program.site_count, BASE_SECONDS + SITE_SECONDS * program.site_count))
         log = prove(place, name)
@@ -108,8 +93,8 @@ def main():
         shutil.copy(place / "crates" / name / "out" / name, str(kept) + ".new")
         os.rename(str(kept) + ".new", kept)
         shutil.rmtree(place / "crates" / name)
-    install(kept, text, Path(target))
-    say("made %s and %s.native" % (target, target))
+    shutil.copy(kept, target)
+    say("made %s" % target)
     return 0
 
 

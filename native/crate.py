@@ -1,49 +1,10 @@
 """The crate of a program: its code as types, and the `main` that runs it."""
-
 import hashlib
+from pathlib import Path
 
-ALL = """Add And Binary Code Div Element Eq Ge Gt If InputLen Le Lt Mul Ne Neg Not Nothing Number Or Other Put Rem Say Scalar Set
-State Sub Then Unary While Word""".split()
-
-PART = """
-/// A part of the program's code.
-pub struct NAME {}
-
-impl Code<COUNT> for NAME {
-    ghost is_of = { ⟦<TYPE as Code<COUNT>>⟧.is_of };
-
-    fn is(program: &Program, homes: &[u32], size: u32, statements: &[Stmt]) -> bool {
-        <TYPE as Code<COUNT>>::is(program, homes, size, statements)
-    }
-
-    #[inline(always)]
-    fn run(input: &[i64], memory: &mut [i64], out: &mut Row<i64>, state: State<COUNT>) -> State<COUNT> {
-        <TYPE as Code<COUNT>>::run(input, memory, out, state)
-    }
-
-    fn enter(
-        site: u32,
-        input: &[i64],
-        memory: &mut [i64],
-        out: &mut Row<i64>,
-        state: State<COUNT>,
-    ) -> Option<State<COUNT>> {
-        <TYPE as Code<COUNT>>::enter(site, input, memory, out, state)
-    }
-}
-"""
-
-
-def parts_text(forms):
-    count = str(max(1, len(forms.homes)))
-    text = ""
-    for name, code in forms.named:
-        text += PART.replace("NAME", name).replace("TYPE", code).replace("COUNT", count)
-    return text
-
-
-def used_names(text):
-    return [name for name in ALL if any(name + end in text for end in "<>, ;")]
+HERE = Path(__file__).resolve().parent
+FORMS = """Add And Binary Code Composed Div Element Eq Ge Gt If InputLen Le Lt Mul Ne Neg Not Nothing Number Or Other Put Rem Say
+Scalar Set State Sub Then Unary While Word""".split()
 
 
 def crate_name(tree):
@@ -51,12 +12,45 @@ def crate_name(tree):
     return "program_" + hashlib.sha256(tree.encode()).hexdigest()[:12]
 
 
-def main_text(top, program, forms):
-    """The program's `main`: that of dswp, with the code in the place of none."""
+def filled(template, values):
+    """A template with each `@NAME@` replaced."""
+    for name, value in values.items():
+        template = template.replace("@%s@" % name, str(value))
+    return template
+
+
+def parts_text(forms, count):
+    part = (HERE / "part.template").read_text()
+    return "".join(filled(part, {"NAME": name, "TYPE": code, "COUNT": count}) for name, code in forms.named)
+
+
+def used_forms(text):
+    """The names of forms that the text takes from dp_forms."""
+    words = set("".join(c if c.isalnum() else " " for c in text).split())
+    return ", ".join(name for name in FORMS if name in words)
+
+
+def main_text(program, forms, name, text):
+    """The program's `main`: that of dswp, with native code and a text of its own."""
     homes = [program.variables[v].first for v in forms.homes] or [0]
-    code = CODE.replace("COUNT", str(len(homes))).replace("WHOLE", forms.whole.text)
-    code = code.replace("HOMES", ", ".join(map(str, homes))).replace("SIZE", str(program.cell_count()))
-    code = code.replace("SITES", str(program.site_count))
-    parts = parts_text(forms)
-    text = (top / "crates" / "dswp" / "src" / "main.rt").read_text()
-    return text, code + parts
+    heads = sorted(forms.heads)
+    values = {
+        "PARTS": parts_text(forms, len(homes)), "COUNT": len(homes), "WHOLE": forms.whole.text, "NAME": name,
+        "HOMES": ", ".join(map(str, homes)), "SIZE": program.cell_count(), "SITES": program.site_count,
+        "HEADS": ", ".join(str(site - 1) for site in heads), "HEAD_COUNT": len(heads),
+        "BYTES": ", ".join(map(str, text.encode())), "BYTE_COUNT": len(text.encode()),
+    }
+    body = filled((HERE / "main.template").read_text(), values)
+    return body.replace("@FORMS@", used_forms(body))
+
+
+def write_crate(place, name, program, forms, source_name, text):
+    """Puts the crate beside those of dswp."""
+    folder = place / "crates" / name
+    (folder / "src").mkdir(parents=True, exist_ok=True)
+    (folder / "src" / "main.rt").write_text(main_text(program, forms, source_name, text))
+    listed = place / "crates.txt"
+    lines = listed.read_text().splitlines()
+    deps = next(line for line in lines if line.startswith("dswp ")).split(": ", 1)[1]
+    line = "%s may_wait=1: %s dp_forms dp_native" % (name, deps)
+    listed.write_text("\n".join([each for each in lines if not each.startswith(name)] + [line]) + "\n")

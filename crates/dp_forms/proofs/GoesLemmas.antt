@@ -48,7 +48,7 @@ module _ {input registers memory out : List ℤ} {fuel : ℕ} (Value : ValueRela
   pub set_goes : (K : ℕ) (v : ℤ) → K < length registers → 1 ≤ fuel → Evaluates Value input memory registers v →
       Runs (OfSet S K Value) input fuel registers memory out 0 (fuel - 1) (set registers K v) memory out
   set_goes K v within some gives p homes stmts behind is =
-      let step = step_set p input (merged homes registers memory) out behind (record { 0 = S }) is.variable is.value v (gives p homes is.value is.value_is) in
+      let step = step_set p input (merged homes registers memory) out behind (record { 0 = S }) is.variable is.value v (gives.gives p homes is.value is.value_is) in
       let stored : set (merged homes registers memory) (first_cell p is.variable) v ≡ merged homes (set registers K v) memory = set_register homes registers memory K (first_cell p is.variable) v is.register_is.home within in
       subst (λ (l : List Stmt). Goes p homes l behind (l ++ behind) input fuel registers memory out 0 (fuel - 1) (set registers K v) memory out) (sym is.is)
       (record { to_do = behind; stands = ended; reaches = subst (λ (xs : List ℤ). Reaches p input fuel out (standing p (stmt.Assign (record { 0 = S }) is.variable is.value ∷ behind) (merged homes registers memory)) (fuel - 1) out (standing p behind xs)) stored (stepped some step) })
@@ -59,7 +59,7 @@ module _ {input registers memory out : List ℤ} {fuel : ℕ} (Value : ValueRela
 
   pub say_goes : (v : ℤ) → 1 ≤ fuel → Evaluates Value input memory registers v → Runs (OfSay S Value) input fuel registers memory out 0 (fuel - 1) registers memory (out ++ (v ∷ []))
   say_goes v some gives p homes stmts behind is =
-      let step = step_say p input (merged homes registers memory) out behind (record { 0 = S }) is.value v (gives p homes is.value is.value_is) in
+      let step = step_say p input (merged homes registers memory) out behind (record { 0 = S }) is.value v (gives.gives p homes is.value is.value_is) in
       subst (λ (l : List Stmt). Goes p homes l behind (l ++ behind) input fuel registers memory out 0 (fuel - 1) registers memory (out ++ (v ∷ []))) (sym is.is)
       (record { to_do = behind; stands = ended; reaches = stepped some step })
 
@@ -75,7 +75,7 @@ module _ {input registers memory out : List ℤ} {fuel : ℕ} (Index Value : Val
       let x = is.variable in
       let s = stmt.Store (record { 0 = S }) x is.index is.value in
       let placed : place i (cell_count p x) ≡ just k = subst (λ (n : ℕ). place i n ≡ just k) (sym is.array.count_is) put.placed in
-      let step = step_put p input (merged homes registers memory) out behind (record { 0 = S }) x is.index is.value i v k (stored.2 p homes is.index is.index_is) (stored.3 p homes is.value is.value_is) placed in
+      let step = step_put p input (merged homes registers memory) out behind (record { 0 = S }) x is.index is.value i v k (stored.2.gives p homes is.index is.index_is) (stored.3.gives p homes is.value is.value_is) placed in
       let there : set (merged homes registers memory) (first_cell p x + k) v ≡ merged homes registers memory' =
           ap (λ (n : ℕ). set (merged homes registers memory) (n + k) v) is.array.first_is ∙ set_apart homes registers memory F C k v is.array.apart put.below ∙ ap (λ (xs : List ℤ). merged homes registers xs) (sym put.is) in
       subst (λ (l : List Stmt). Goes p homes l behind (l ++ behind) input fuel registers memory out 0 (fuel - 1) registers memory' out) (sym is.is)

@@ -145,10 +145,9 @@ Stores Index Value first count input registers memory memory' =
     (at value : ℤ) × Evaluates Index input memory registers at × Evaluates Value input memory registers value × IsPutAt memory first count at value memory'
 
 -- The loop that this relation says the code to be has come from its head to its head again.
-abbrev pub Kept : CodeRelation → List ℤ → ℕ → List ℤ → List ℤ → List ℤ → ℕ → List ℤ → List ℤ → List ℤ → Type 0
-Kept Is input fuel registers memory out fuel' registers' memory' out' =
-    (p : Program) (homes : List ℕ) (stmts behind : List Stmt) → Is p homes (length memory) stmts →
-    Reaches p input fuel out (standing p (stmts ++ behind) (merged homes registers memory)) fuel' out' (standing p (stmts ++ behind) (merged homes registers' memory'))
+pub record Kept (Is : CodeRelation) (input : List ℤ) (fuel : ℕ) (registers memory out : List ℤ) (fuel' : ℕ) (registers' memory' out' : List ℤ) : Type 0 where
+  pub reaches : (p : Program) (homes : List ℕ) (stmts behind : List Stmt) → Is p homes (length memory) stmts →
+      Reaches p input fuel out (standing p (stmts ++ behind) (merged homes registers memory)) fuel' out' (standing p (stmts ++ behind) (merged homes registers' memory'))
 
 -- The code is that of the whole program.
 pub record IsWhole (Main : CodeRelation) (homes : List ℕ) (size sites : ℕ) (p : Program) : Type 0 where

@@ -70,8 +70,8 @@ pub record IsOr (Left Right : Expr → Type 0) (e : Expr) : Type 0 where
   pub right_is : Right right
 
 -- Code that this relation says to be an expression's has found this value of it.
-abbrev pub Evaluates : (Program → List ℕ → ℕ → Expr → Type 0) → List ℤ → List ℤ → List ℤ → ℤ → Type 0
-Evaluates Is input memory registers value = (p : Program) (homes : List ℕ) (e : Expr) → Is p homes (length memory) e → Gives p input (merged homes registers memory) e value
+pub record Evaluates (Is : Program → List ℕ → ℕ → Expr → Type 0) (input memory registers : List ℤ) (value : ℤ) : Type 0 where
+  pub gives : (p : Program) (homes : List ℕ) (e : Expr) → Is p homes (length memory) e → Gives p input (merged homes registers memory) e value
 
 -- what makes of code that of an expression: by the program, the registers' homes and the memory's size
 abbrev pub ValueRelation : Type 1

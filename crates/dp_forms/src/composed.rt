@@ -1,9 +1,11 @@
 //! A program's code with its registers: what it begins from and what it leaves are the memory's cells.
 
-ghost use Rattle.std.specs.Prelude.{◌≡◌, ◌≢◌, ◌<◌, ◌-◌, ◌^◌, IsTrue, length};
+ghost use Rattle.std.specs.Prelude.{◌≡◌, ◌≢◌, ◌<◌, ◌≤◌, ◌+◌, ◌-◌, ◌^◌, IsTrue, length, get_or, pos};
 ghost use Rattle.dp_tree.specs.declared.Program.{Program};
 ghost use Rattle.dp_tree.specs.Inlined.{IsInlined};
 ghost use Rattle.dp_tree.specs.Step.{standing};
+ghost use Rattle.dp_meaning.specs.declared.ends.Part.TheVariants.{Plain};
+ghost use Rattle.dp_meaning.specs.MachineState.{part_of};
 ghost use Rattle.dp_meaning.specs.Places.{config_at, rest_at};
 ghost use Rattle.dp_native.specs.Reaches.{Reaches};
 ghost use Rattle.dp_forms.specs.Registers.{merged};
@@ -32,6 +34,13 @@ impl<const N: usize, M: Code<N>> Composed<N, M> {
             && M::is(program, &self.homes, self.size, program.main.as_slice())
     }
 
+    /// Whether the memory is as long as the code takes it to be, and neither the place nor the registers are too many.
+    fn is_ready(&self, place: u32, cells: &[i64]) -> bool
+        ensures { IsTrue result → (length cells.now ≡ self.now.size) × (place + 1 < 2 ^ 32) × (N ≤ 65536) }
+    {
+        cells.len() == self.size as usize && place < u32::MAX && N <= 65536
+    }
+
     /// Goes on from a place as far as it likes: the place that is next then, and the fuel that is left.
     pub fn run(
         &self,
@@ -42,9 +51,11 @@ impl<const N: usize, M: Code<N>> Composed<N, M> {
         out: &mut Row<i64>,
     ) -> (u32, u64)
         ensures { (p : Program) → IsInlined p → IsWhole M.is_of self.now.homes self.now.size self.now.sites p →
+            part_of (rest_at p place) ≡ Plain →
             Reaches p input.now fuel out.old (config_at p (record { place = place; cells = cells.old })) result.1 out.new (standing p (rest_at p result.0) cells.new) }
     {
-        if cells.len() != self.size as usize || place == u32::MAX {
+        let ready = self.is_ready(place, cells);
+        if !ready {
             return (place, fuel);
         }
         let state = State {
@@ -55,7 +66,8 @@ impl<const N: usize, M: Code<N>> Composed<N, M> {
         match M::enter(place + 1, input, cells, out, &state) {
             Some(to) => {
                 put_back(&self.homes, &to.registers, cells);
-                (place_of(to.at, self.sites), to.fuel)
+                let next = place_of(to.at, self.sites);
+                (next, to.fuel)
             }
             None => (place, fuel),
         }
@@ -77,12 +89,18 @@ fn loaded<const N: usize>(homes: &[u32; N], cells: &[i64]) -> [i64; N]
 {
     let mut registers = [0i64; N];
     for k in 0..N {
-        let home = homes[k] as usize;
-        if home < cells.len() {
-            registers[k] = cells[home];
-        }
+        let value = value_at(cells, homes[k]);
+        registers[k] = value;
     }
     registers
+}
+
+/// What the cell holds, or 0 where there is none.
+fn value_at(cells: &[i64], cell: u32) -> i64
+    ensures { result ≡ get_or cells.now cell (pos 0) }
+{
+    let place = cell as usize;
+    if place < cells.len() { cells[place] } else { 0 }
 }
 
 /// Puts the registers into their home cells.
