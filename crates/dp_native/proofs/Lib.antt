@@ -1,2 +1,2 @@
 pub mod ReachLemmas
-pub mod LayoutLemmas
+pub mod MachineLemmas

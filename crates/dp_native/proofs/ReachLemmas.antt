@@ -1,14 +1,9 @@
 -- Pieces of native code, one after the other.
-use Rattle.std.proofs.Common.{◌≡◌, refl, sym, ap, ◌∙◌, subst, ℕ, zero, suc, ◌+◌, Bool, true, false, List, [], ◌∷◌, ◌++◌, ℤ, Option, Some, None, append_assoc, append-nil, arith}
+use Rattle.std.proofs.Common.{◌≡◌, subst, ℕ, suc, ◌+◌, List, ℤ, arith}
 use Rattle.dp_tree.specs.declared.Program.{Program}
-use Rattle.dp_tree.specs.Iteration.{leaves}
-use Rattle.dp_tree.specs.Step.{Config, Event, Step, Finished, Faulted, Stepped, step}
-use Rattle.dp_tree.specs.Trace.{printed_by, prints}
-use Rattle.dp_meaning.specs.declared.ends.Part.{Part}
-use Rattle.dp_meaning.specs.declared.ends.Part.TheVariants.{Plain}
-use Rattle.dp_meaning.specs.MachineState.{part_of}
+use Rattle.dp_tree.specs.Step.{Config}
 use Rattle.dp_meaning.specs.steps.PlainSteps.{PlainStep, PlainSteps, none, more}
-use Rattle.dp_native.specs.Reaches.{Reaches, Behind, listed, printing, unless, advanced, where_plain, advance, Moves}
+use Rattle.dp_native.specs.Reaches.{Reaches}
 
 module _ (p : Program) (input : List ℤ) where
   joined : {c d : Config} {x y : List ℤ} {m : ℕ} {e : Config} {z : List ℤ} {n : ℕ} → PlainSteps p input c x d y m → PlainSteps p input d y e z n → PlainSteps p input c x e z (m + n)
@@ -21,6 +16,6 @@ module _ (p : Program) (input : List ℤ) where
   pub reaches_on : {l m n : ℕ} {xs ys zs : List ℤ} {c d e : Config} → Reaches p input l xs c m ys d → Reaches p input m ys d n zs e → Reaches p input l xs c n zs e
   reaches_on {l} {m} {n} a b = record { made = a.made + b.made; spent = (let f = a.spent in let g = b.spent in omega (arith, f, g)); steps = joined a.steps b.steps }
 
-  -- the same of one step, by the step itself
+  -- by one step
   pub one : {m : ℕ} {out out' : List ℤ} {c d : Config} → PlainStep p input c d out out' → Reaches p input (suc m) out c m out' d
   one {m} step = record { made = 0 + 1; spent = omega arith; steps = more none step }

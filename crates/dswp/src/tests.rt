@@ -40,7 +40,7 @@ use cases::{cut, filled};
 use dp_base::{NoMemory, Row};
 use dp_drive::drive;
 use dp_edge::{Gate, Held, MemShelf, MemSink, OpenGate};
-use dp_run::{Tally, Unwatched};
+use dp_run::{NoNativeCode, Tally, Unwatched};
 use library::LIBRARY;
 use std::alloc::Global;
 use std::process::Abort;
@@ -137,7 +137,16 @@ fn answer_at<R: Abort + Threads + Wait + Clock + Sync, G: Gate>(
     let mut sink = MemSink::new(alloc, room);
     let mut tally = Tally::new(Unwatched);
     let words = list.as_slice();
-    let status = drive(rt, alloc, words, &mut shelf, &mut sink, gate, &mut tally);
+    let status = drive(
+        rt,
+        alloc,
+        &NoNativeCode,
+        words,
+        &mut shelf,
+        &mut sink,
+        gate,
+        &mut tally,
+    );
     let committed = tally.count();
     Ok(Answered {
         status,
