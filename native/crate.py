@@ -33,11 +33,9 @@ def used_forms(text):
 def main_text(program, forms, name, text):
     """The program's `main`: that of dswp, with native code and a text of its own."""
     homes = [program.variables[v].first for v in forms.homes] or [0]
-    heads = sorted(forms.heads)
     values = {
         "PARTS": parts_text(forms, len(homes)), "COUNT": len(homes), "WHOLE": forms.whole.text, "NAME": name,
         "HOMES": ", ".join(map(str, homes)), "SIZE": program.cell_count(), "SITES": program.site_count,
-        "HEADS": ", ".join(str(site - 1) for site in heads), "HEAD_COUNT": len(heads),
         "BYTES": ", ".join(map(str, text.encode())), "BYTE_COUNT": len(text.encode()),
     }
     body = filled((HERE / "main.template").read_text(), values)
