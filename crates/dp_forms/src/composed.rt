@@ -14,10 +14,12 @@ ghost use Rattle.dp_forms.specs.Codes.{IsWhole};
 use super::state::State;
 use super::statements::Code;
 use dp_base::Row;
+use dp_native::NativeProgram;
 use dp_tree::Program;
 use std::marker::PhantomData;
 
 /// The code M with its N registers: their home cells, the memory's size, and how many sites the program has.
+#[derive(Drop)]
 pub struct Composed<const N: usize, M> {
     pub homes: [u32; N],
     pub size: u32,
@@ -26,23 +28,25 @@ pub struct Composed<const N: usize, M> {
 }
 
 impl<const N: usize, M: Code<N>> Composed<N, M> {
-    /// Whether the code is this program's.
-    pub fn is(&self, program: &Program) -> bool
-        ensures { IsTrue result → IsWhole M.is_of self.now.homes self.now.size self.now.sites program.now }
-    {
-        program.sites.len() == self.sites as usize
-            && M::is(program, &self.homes, self.size, program.main.as_slice())
-    }
-
     /// Whether the memory is as long as the code takes it to be, and neither the place nor the registers are too many.
     fn is_ready(&self, place: u32, cells: &[i64]) -> bool
         ensures { IsTrue result → (length cells.now ≡ self.now.size) × (place + 1 < 2 ^ 32) × (N ≤ 65536) }
     {
         cells.len() == self.size as usize && place < u32::MAX && N <= 65536
     }
+}
 
-    /// Goes on from a place as far as it likes: the place that is next then, and the fuel that is left.
-    pub fn run(
+impl<const N: usize, M: Code<N>> NativeProgram for Composed<N, M> {
+    ghost suits = { λ composed program. IsWhole M.is_of composed.homes composed.size composed.sites program };
+
+    fn is(&self, program: &Program) -> bool
+        ensures { IsTrue result → IsWhole M.is_of self.now.homes self.now.size self.now.sites program.now }
+    {
+        program.sites.len() == self.sites as usize
+            && M::is(program, &self.homes, self.size, program.main.as_slice())
+    }
+
+    fn run(
         &self,
         place: u32,
         input: &[i64],

@@ -3,7 +3,7 @@ use Rattle.dp_tree.specs.Step.{standing}
 use Rattle.dp_meaning.specs.Places.{config_at, rest_at}
 use Rattle.dp_native.specs.Reaches.{Reaches}
 use Rattle.dp_forms.proofs.WholeLemmas.{idle, gone}
-use Rattle.dp_forms.proofs.composed.Composed.run.Goals as goal
+use Rattle.dp_forms.proofs.composed.ComposedNativeProgram.run.Goals as goal
 
 pub returns-then-not-ready : goal.returns-then-not-ready
 returns-then-not-ready g c = λ p inlined whole plain. idle p c.args.place c.args.cells.now plain
