@@ -32,7 +32,7 @@ def used_forms(text):
 
 def main_text(program, forms, name, text):
     """The program's `main`: that of dswp, with native code and a text of its own."""
-    homes = [program.variables[v].first for v in forms.homes] or [0]
+    homes = [program.variables[v].first for v in forms.homes]
     values = {
         "PARTS": parts_text(forms, len(homes)), "COUNT": len(homes), "WHOLE": forms.whole.text, "NAME": name,
         "HOMES": ", ".join(map(str, homes)), "SIZE": program.cell_count(), "SITES": program.site_count,

@@ -11,7 +11,8 @@ use Rattle.dp_native.specs.Reaches.{Reaches}
 use Rattle.dp_native.proofs.ReachLemmas.{reaches_none, reaches_on}
 use Rattle.dp_forms.specs.Registers.{merged}
 use Rattle.dp_forms.specs.Values.{Evaluates, ValueRelation}
-use Rattle.dp_forms.specs.Codes.{Stands, Goes, Entered, Runs, Enters, Kept, IsLeft, IsWhile, CodeRelation, OfIf, OfWhile, OfThen}
+use Rattle.dp_meaning.specs.Places.{number_of}
+use Rattle.dp_forms.specs.Codes.{Stands, Goes, Entered, Runs, Enters, Kept, IsLeft, IsWhile, CodeRelation, OfSet, OfPut, OfSay, OfIf, OfWhile, OfThen}
 use Rattle.dp_forms.proofs.StepLemmas.{step_then, step_else, step_turn, step_past}
 unfoldable use Rattle.dp_forms.proofs.StepLemmas.{statement_opened}
 use Rattle.dp_forms.proofs.SiteLemmas.{left_own, left_in_front, left_in_back, left_in_body, left_in_then, left_in_else}
@@ -221,3 +222,38 @@ pub entered_at : (Is : CodeRelation) {input registers memory out memory0 out0 re
     Enters Is site input fuel registers memory0 out0 at fuel' registers' memory' out'
 entered_at Is {input} {registers} {memory} {out} {memory0} {out0} {registers'} {memory'} {out'} {fuel} {fuel'} {at} {site} e f enters =
     subst (λ (xs : List ℤ). Enters Is site input fuel registers xs out0 at fuel' registers' memory' out') e (subst (λ (xs : List ℤ). Enters Is site input fuel registers memory xs at fuel' registers' memory' out') f enters)
+
+-- one statement, at whose own site code can be entered
+record Own (stmts : List Stmt) (site : ℕ) : Type 0 where
+  statement : Stmt
+  is : stmts ≡ statement ∷ []
+  number : number_of statement ≡ site
+  some : site ≢ 0
+  plain : (p : Program) (behind : List Stmt) (xs : List ℤ) → standing p (statement ∷ behind) xs ≡ record { to_do = statement ∷ behind; cells = xs }
+
+pub own_enters : (Is : CodeRelation) (S : ℕ) → ((p : Program) (homes : List ℕ) (size : ℕ) (stmts : List Stmt) → Is p homes size stmts → Own stmts S) → {input registers memory out registers' memory' out' : List ℤ} {fuel fuel' at : ℕ} →
+    Runs Is input fuel registers memory out at fuel' registers' memory' out' → Enters Is S input fuel registers memory out at fuel' registers' memory' out'
+own_enters Is S own {memory = memory} runs p homes stmts behind is =
+    let o = own p homes (length memory) stmts is in
+    record {
+      here = stmts ++ behind;
+      is_here = subst (λ (l : List Stmt). IsLeft l behind S (l ++ behind)) (sym o.is) (left_own o.statement behind S o.number o.some);
+      plain = λ xs. subst (λ (l : List Stmt). standing p (l ++ behind) xs ≡ record { to_do = l ++ behind; cells = xs }) (sym o.is) (o.plain p behind xs);
+      goes = runs p homes stmts behind is;
+    }
+
+pub own_set : (S K : ℕ) (Value : ValueRelation) (p : Program) (homes : List ℕ) (size : ℕ) (stmts : List Stmt) → OfSet S K Value p homes size stmts → Own stmts S
+unfolding statement_opened
+own_set S K Value p homes size stmts is = record { statement = stmt.Assign (record { 0 = S }) is.variable is.value; is = is.is; number = refl; some = is.numbered; plain = λ q behind xs. refl }
+
+pub own_put : (S F C : ℕ) (Index Value : ValueRelation) (p : Program) (homes : List ℕ) (size : ℕ) (stmts : List Stmt) → OfPut S F C Index Value p homes size stmts → Own stmts S
+unfolding statement_opened
+own_put S F C Index Value p homes size stmts is = record { statement = stmt.Store (record { 0 = S }) is.variable is.index is.value; is = is.is; number = refl; some = is.numbered; plain = λ q behind xs. refl }
+
+pub own_say : (S : ℕ) (Value : ValueRelation) (p : Program) (homes : List ℕ) (size : ℕ) (stmts : List Stmt) → OfSay S Value p homes size stmts → Own stmts S
+unfolding statement_opened
+own_say S Value p homes size stmts is = record { statement = stmt.Print (record { 0 = S }) is.value; is = is.is; number = refl; some = is.numbered; plain = λ q behind xs. refl }
+
+pub own_if : (S : ℕ) (Condition : ValueRelation) (A B : CodeRelation) (p : Program) (homes : List ℕ) (size : ℕ) (stmts : List Stmt) → OfIf S Condition A B p homes size stmts → Own stmts S
+unfolding statement_opened
+own_if S Condition A B p homes size stmts is = record { statement = stmt.If (record { 0 = S }) is.condition is.then_part is.else_part; is = is.is; number = refl; some = is.numbered; plain = λ q behind xs. refl }

@@ -146,6 +146,10 @@ impl<const N: usize, const S: u32, C: Value<N>, A: Code<N>, B: Code<N>> Code<N>
         requires { state.now.at ≡ 0 }
         ensures { MatchOption result ((memory.new ≡ memory.old) × (out.new ≡ out.old)) (λ to. (to.at < 2 ^ 32) × Enters (OfIf S C.is_of A.is_of B.is_of) site input.now state.now.fuel state.now.registers memory.old out.old to.at to.fuel to.registers memory.new out.new) }
     {
+        if site == S {
+            let to = Self::run(input, memory, out, *state);
+            return Some(to);
+        }
         match A::enter(site, input, memory, out, state) {
             Some(to) => Some(to),
             None => match B::enter(site, input, memory, out, state) {

@@ -101,6 +101,10 @@ impl<const N: usize, const S: u32, const K: usize, V: Value<N>> Code<N> for Set<
         requires { state.now.at ≡ 0 }
         ensures { MatchOption result ((memory.new ≡ memory.old) × (out.new ≡ out.old)) (λ to. (to.at < 2 ^ 32) × Enters (OfSet S K V.is_of) site input.now state.now.fuel state.now.registers memory.old out.old to.at to.fuel to.registers memory.new out.new) }
     {
+        if site == S {
+            let to = Self::run(input, memory, out, *state);
+            return Some(to);
+        }
         None
     }
 }
@@ -168,6 +172,10 @@ impl<const N: usize, const S: u32, const F: u32, const C: u32, I: Value<N>, V: V
         requires { state.now.at ≡ 0 }
         ensures { MatchOption result ((memory.new ≡ memory.old) × (out.new ≡ out.old)) (λ to. (to.at < 2 ^ 32) × Enters (OfPut S F C I.is_of V.is_of) site input.now state.now.fuel state.now.registers memory.old out.old to.at to.fuel to.registers memory.new out.new) }
     {
+        if site == S {
+            let to = Self::run(input, memory, out, *state);
+            return Some(to);
+        }
         None
     }
 }
@@ -239,6 +247,10 @@ impl<const N: usize, const S: u32, V: Value<N>> Code<N> for Say<S, V> {
         requires { state.now.at ≡ 0 }
         ensures { MatchOption result ((memory.new ≡ memory.old) × (out.new ≡ out.old)) (λ to. (to.at < 2 ^ 32) × Enters (OfSay S V.is_of) site input.now state.now.fuel state.now.registers memory.old out.old to.at to.fuel to.registers memory.new out.new) }
     {
+        if site == S {
+            let to = Self::run(input, memory, out, *state);
+            return Some(to);
+        }
         None
     }
 }
