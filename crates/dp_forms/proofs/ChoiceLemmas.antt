@@ -133,13 +133,15 @@ module _ {input registers memory out registers' memory' out' : List ℤ} {fuel f
             record { to_do = goes.to_do; stands = goes.stands; reaches = reaches_on p input (stepped some step) goes.reaches }
 
         pub kept_more : at ≡ 0 → Kept (OfWhile S Condition A) input fuel registers memory out fuel'' registers'' memory'' out''
-        kept_more zero = record { reaches = λ p homes stmts behind is.
-            let goes = turn p homes stmts behind is in
-            let s = stmt.While (record { 0 = S }) is.condition is.body in
-            let there : goes.to_do ≡ s ∷ behind = goes.stands.done zero in
-            let last = subst (λ (l : List Stmt). Reaches p input fuel' out' (standing p (s ∷ behind) (merged homes registers' memory')) fuel'' out'' (standing p l (merged homes registers'' memory''))) there goes.reaches in
-            reaches_on p input (kept.reaches p homes stmts behind is)
-            (subst (λ (l : List Stmt). Reaches p input fuel' out' (standing p (l ++ behind) (merged homes registers' memory')) fuel'' out'' (standing p (l ++ behind) (merged homes registers'' memory''))) (sym is.is) last) }
+        kept_more zero = record {
+          reaches = λ p homes stmts behind is.
+              let goes = turn p homes stmts behind is in
+              let s = stmt.While (record { 0 = S }) is.condition is.body in
+              let there : goes.to_do ≡ s ∷ behind = goes.stands.done zero in
+              let last = subst (λ (l : List Stmt). Reaches p input fuel' out' (standing p (s ∷ behind) (merged homes registers' memory')) fuel'' out'' (standing p l (merged homes registers'' memory''))) there goes.reaches in
+              reaches_on p input (kept.reaches p homes stmts behind is)
+              (subst (λ (l : List Stmt). Reaches p input fuel' out' (standing p (l ++ behind) (merged homes registers' memory')) fuel'' out'' (standing p (l ++ behind) (merged homes registers'' memory''))) (sym is.is) last);
+        }
 
         pub while_left : at ≢ 0 → Runs (OfWhile S Condition A) input fuel registers memory out at fuel'' registers'' memory'' out''
         while_left n p homes stmts behind is =
@@ -224,12 +226,12 @@ entered_at Is {input} {registers} {memory} {out} {memory0} {out0} {registers'} {
     subst (λ (xs : List ℤ). Enters Is site input fuel registers xs out0 at fuel' registers' memory' out') e (subst (λ (xs : List ℤ). Enters Is site input fuel registers memory xs at fuel' registers' memory' out') f enters)
 
 -- one statement, at whose own site code can be entered
-record Own (stmts : List Stmt) (site : ℕ) : Type 0 where
-  statement : Stmt
-  is : stmts ≡ statement ∷ []
-  number : number_of statement ≡ site
-  some : site ≢ 0
-  plain : (p : Program) (behind : List Stmt) (xs : List ℤ) → standing p (statement ∷ behind) xs ≡ record { to_do = statement ∷ behind; cells = xs }
+pub record Own (stmts : List Stmt) (site : ℕ) : Type 0 where
+  pub statement : Stmt
+  pub is : stmts ≡ statement ∷ []
+  pub number : number_of statement ≡ site
+  pub some : site ≢ 0
+  pub plain : (p : Program) (behind : List Stmt) (xs : List ℤ) → standing p (statement ∷ behind) xs ≡ record { to_do = statement ∷ behind; cells = xs }
 
 pub own_enters : (Is : CodeRelation) (S : ℕ) → ((p : Program) (homes : List ℕ) (size : ℕ) (stmts : List Stmt) → Is p homes size stmts → Own stmts S) → {input registers memory out registers' memory' out' : List ℤ} {fuel fuel' at : ℕ} →
     Runs Is input fuel registers memory out at fuel' registers' memory' out' → Enters Is S input fuel registers memory out at fuel' registers' memory' out'

@@ -77,7 +77,7 @@ module _ {input registers memory out : List ℤ} {fuel : ℕ} (Index Value : Val
       let placed : place i (cell_count p x) ≡ just k = subst (λ (n : ℕ). place i n ≡ just k) (sym is.array.count_is) put.placed in
       let step = step_put p input (merged homes registers memory) out behind (record { 0 = S }) x is.index is.value i v k (stored.2.gives p homes is.index is.index_is) (stored.3.gives p homes is.value is.value_is) placed in
       let there : set (merged homes registers memory) (first_cell p x + k) v ≡ merged homes registers memory' =
-          ap (λ (n : ℕ). set (merged homes registers memory) (n + k) v) is.array.first_is ∙ set_apart homes registers memory F C k v is.array.apart put.below ∙ ap (λ (xs : List ℤ). merged homes registers xs) (sym put.is) in
+      ap (λ (n : ℕ). set (merged homes registers memory) (n + k) v) is.array.first_is ∙ set_apart homes registers memory F C k v is.array.apart put.below ∙ ap (λ (xs : List ℤ). merged homes registers xs) (sym put.is) in
       subst (λ (l : List Stmt). Goes p homes l behind (l ++ behind) input fuel registers memory out 0 (fuel - 1) registers memory' out) (sym is.is)
       (record { to_do = behind; stands = ended; reaches = subst (λ (xs : List ℤ). Reaches p input fuel out (standing p (s ∷ behind) (merged homes registers memory)) (fuel - 1) out (standing p behind xs)) there (stepped some step) })
 

@@ -80,8 +80,8 @@ pub loaded_more : (homes : List ℕ) (registers cells : List ℤ) (k : ℕ) (v :
 loaded_more homes registers cells k v before within is j below = elim (cases_lt j k) [
   | inl less ↦ get_or-set_other registers k j v (pos 0) (λ (e : j ≡ k). absurd (omega (arith, less, e))) ∙ before j less
   | inr more ↦
-    let same : j ≡ k = omega (arith, below, more) in
-    subst (λ (i : ℕ). get_or (set registers k v) i (pos 0) ≡ get_or cells (get_or homes i 0) (pos 0)) (sym same) (get_or-set_same registers k v (pos 0) within ∙ is)
+      let same : j ≡ k = omega (arith, below, more) in
+      subst (λ (i : ℕ). get_or (set registers k v) i (pos 0) ≡ get_or cells (get_or homes i 0) (pos 0)) (sym same) (get_or-set_same registers k v (pos 0) within ∙ is)
 ]
 
 -- the registers are put into their home cells from the last one on

@@ -25,8 +25,7 @@ impl<const N: usize, A: Value<N>, B: Value<N>> Value<N> for And<A, B> {
     fn is(program: &Program, homes: &[u32], size: u32, expression: &Expr) -> bool {
         match expression {
             Expr::And(left, right) => {
-                A::is(program, homes, size, left.get())
-                    && B::is(program, homes, size, right.get())
+                A::is(program, homes, size, left.get()) && B::is(program, homes, size, right.get())
             }
             _ => false,
         }
@@ -55,8 +54,7 @@ impl<const N: usize, A: Value<N>, B: Value<N>> Value<N> for Or<A, B> {
     fn is(program: &Program, homes: &[u32], size: u32, expression: &Expr) -> bool {
         match expression {
             Expr::Or(left, right) => {
-                A::is(program, homes, size, left.get())
-                    && B::is(program, homes, size, right.get())
+                A::is(program, homes, size, left.get()) && B::is(program, homes, size, right.get())
             }
             _ => false,
         }
@@ -79,9 +77,7 @@ pub struct If<const S: u32, C, A, B> {
     of: PhantomData<(C, A, B)>,
 }
 
-impl<const N: usize, const S: u32, C: Value<N>, A: Code<N>, B: Code<N>> Code<N>
-    for If<S, C, A, B>
-{
+impl<const N: usize, const S: u32, C: Value<N>, A: Code<N>, B: Code<N>> Code<N> for If<S, C, A, B> {
     ghost is_of = { OfIf S C.is_of A.is_of B.is_of };
 
     fn is(program: &Program, homes: &[u32], size: u32, statements: &[Stmt]) -> bool {
@@ -105,12 +101,7 @@ impl<const N: usize, const S: u32, C: Value<N>, A: Code<N>, B: Code<N>> Code<N>
     }
 
     #[inline(always)]
-    fn run(
-        input: &[i64],
-        memory: &mut [i64],
-        out: &mut Row<i64>,
-        state: State<N>,
-    ) -> State<N>
+    fn run(input: &[i64], memory: &mut [i64], out: &mut Row<i64>, state: State<N>) -> State<N>
         requires { state.at ≡ 0 }
         ensures less { result.fuel ≤ state.entry.fuel }
         ensures small { result.at < 2 ^ 32 }
@@ -166,8 +157,7 @@ pub struct While<const S: u32, const M: u64, const P: usize, C, A> {
 }
 
 impl<const N: usize, const S: u32, const M: u64, const P: usize, C: Value<N>, A: Code<N>> Code<N>
-    for While<S, M, P, C, A>
-{
+    for While<S, M, P, C, A> {
     ghost is_of = { OfWhile S C.is_of A.is_of };
 
     fn is(program: &Program, homes: &[u32], size: u32, statements: &[Stmt]) -> bool {
@@ -183,12 +173,7 @@ impl<const N: usize, const S: u32, const M: u64, const P: usize, C: Value<N>, A:
     }
 
     #[inline(always)]
-    fn run(
-        input: &[i64],
-        memory: &mut [i64],
-        out: &mut Row<i64>,
-        state: State<N>,
-    ) -> State<N>
+    fn run(input: &[i64], memory: &mut [i64], out: &mut Row<i64>, state: State<N>) -> State<N>
         requires { state.at ≡ 0 }
         ensures less { result.fuel ≤ state.entry.fuel }
         ensures small { result.at < 2 ^ 32 }

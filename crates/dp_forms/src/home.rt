@@ -32,8 +32,7 @@ fn are_apart(homes: &[u32], first: u64, count: u64) -> bool
 {
     for home in homes {
         let home = *home as u64;
-        if home < first {
-        } else if home < first + count {
+        if home < first {} else if home < first + count {
             return false;
         }
     }

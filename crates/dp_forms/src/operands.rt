@@ -64,11 +64,7 @@ impl<const N: usize, const K: usize> Value<N> for Scalar<K> {
 
     #[inline(always)]
     fn value(_input: &[i64], _memory: &[i64], registers: &[i64; N]) -> Option<i64> {
-        if K < N {
-            Some(registers[K])
-        } else {
-            None
-        }
+        if K < N { Some(registers[K]) } else { None }
     }
 }
 

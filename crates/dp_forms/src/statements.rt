@@ -64,12 +64,7 @@ impl<const N: usize, const S: u32, const K: usize, V: Value<N>> Code<N> for Set<
     }
 
     #[inline(always)]
-    fn run(
-        input: &[i64],
-        memory: &mut [i64],
-        out: &mut Row<i64>,
-        state: State<N>,
-    ) -> State<N>
+    fn run(input: &[i64], memory: &mut [i64], out: &mut Row<i64>, state: State<N>) -> State<N>
         requires { state.at ≡ 0 }
         ensures less { result.fuel ≤ state.entry.fuel }
         ensures small { result.at < 2 ^ 32 }
@@ -115,8 +110,7 @@ pub struct Put<const S: u32, const F: u32, const C: u32, I, V> {
 }
 
 impl<const N: usize, const S: u32, const F: u32, const C: u32, I: Value<N>, V: Value<N>> Code<N>
-    for Put<S, F, C, I, V>
-{
+    for Put<S, F, C, I, V> {
     ghost is_of = { OfPut S F C I.is_of V.is_of };
 
     fn is(program: &Program, homes: &[u32], size: u32, statements: &[Stmt]) -> bool {
@@ -140,12 +134,7 @@ impl<const N: usize, const S: u32, const F: u32, const C: u32, I: Value<N>, V: V
     }
 
     #[inline(always)]
-    fn run(
-        input: &[i64],
-        memory: &mut [i64],
-        out: &mut Row<i64>,
-        state: State<N>,
-    ) -> State<N>
+    fn run(input: &[i64], memory: &mut [i64], out: &mut Row<i64>, state: State<N>) -> State<N>
         requires { state.at ≡ 0 }
         ensures less { result.fuel ≤ state.entry.fuel }
         ensures small { result.at < 2 ^ 32 }
@@ -212,12 +201,7 @@ impl<const N: usize, const S: u32, V: Value<N>> Code<N> for Say<S, V> {
     }
 
     #[inline(always)]
-    fn run(
-        input: &[i64],
-        memory: &mut [i64],
-        out: &mut Row<i64>,
-        state: State<N>,
-    ) -> State<N>
+    fn run(input: &[i64], memory: &mut [i64], out: &mut Row<i64>, state: State<N>) -> State<N>
         requires { state.at ≡ 0 }
         ensures less { result.fuel ≤ state.entry.fuel }
         ensures small { result.at < 2 ^ 32 }
@@ -272,12 +256,7 @@ impl<const N: usize, const L: usize, A: Code<N>, B: Code<N>> Code<N> for Then<L,
     }
 
     #[inline(always)]
-    fn run(
-        input: &[i64],
-        memory: &mut [i64],
-        out: &mut Row<i64>,
-        state: State<N>,
-    ) -> State<N>
+    fn run(input: &[i64], memory: &mut [i64], out: &mut Row<i64>, state: State<N>) -> State<N>
         requires { state.at ≡ 0 }
         ensures less { result.fuel ≤ state.entry.fuel }
         ensures small { result.at < 2 ^ 32 }
@@ -333,12 +312,7 @@ impl<const N: usize> Code<N> for Nothing {
     }
 
     #[inline(always)]
-    fn run(
-        input: &[i64],
-        memory: &mut [i64],
-        out: &mut Row<i64>,
-        state: State<N>,
-    ) -> State<N>
+    fn run(input: &[i64], memory: &mut [i64], out: &mut Row<i64>, state: State<N>) -> State<N>
         requires { state.at ≡ 0 }
         ensures less { result.fuel ≤ state.entry.fuel }
         ensures small { result.at < 2 ^ 32 }
@@ -375,12 +349,7 @@ impl<const N: usize, const S: u32> Code<N> for Other<S> {
     }
 
     #[inline(always)]
-    fn run(
-        input: &[i64],
-        memory: &mut [i64],
-        out: &mut Row<i64>,
-        state: State<N>,
-    ) -> State<N>
+    fn run(input: &[i64], memory: &mut [i64], out: &mut Row<i64>, state: State<N>) -> State<N>
         requires { state.at ≡ 0 }
         ensures less { result.fuel ≤ state.entry.fuel }
         ensures small { result.at < 2 ^ 32 }

@@ -22,4 +22,3 @@ returns-else-yes-clause-runs g c =
     let some : 1 ≤ c.args.state.fuel = omega (arith, c.if-state-lt1.false) in
     let test : is_zero c.in-Some.test ≡ true = search rules in
     if_else g.C.Value.is_of g.A.Code.is_of g.B.Code.is_of g.row.S c.in-Some.test some test c.in-Some.ensures (begun g.B.Code.is_of c.stepped-next.ensures.fuel c.stepped-next.ensures.registers c.run-else_to.ensures.runs)
-
