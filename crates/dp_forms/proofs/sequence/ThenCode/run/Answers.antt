@@ -1,6 +1,6 @@
 use Rattle.std.proofs.Common.{◌≡◌, ◌≢◌, arith}
 use Rattle.dp_forms.proofs.ChoiceLemmas.{then_runs, then_left}
-use Rattle.dp_forms.proofs.statements.ThenCode.run.Goals as goal
+use Rattle.dp_forms.proofs.sequence.ThenCode.run.Goals as goal
 
 pub returns-then-between-eq0-clause-runs : goal.returns-then-between-eq0-clause-runs
 returns-then-between-eq0-clause-runs g c = let zero : c.run-between.result.at ≡ 0 = omega (arith, c.if-between-eq0.true) in then_runs g.A.Code.is_of g.B.Code.is_of zero c.run-between.auto.memory c.run-between.ensures.runs c.run-to.ensures.runs

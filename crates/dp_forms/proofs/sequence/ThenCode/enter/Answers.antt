@@ -1,7 +1,7 @@
 use Rattle.dp_forms.specs.Codes.{OfThen}
 use Rattle.std.proofs.Common.{◌≡◌, ◌≢◌, arith}
 use Rattle.dp_forms.proofs.ChoiceLemmas.{then_enters, then_entered, then_behind, entered_at}
-use Rattle.dp_forms.proofs.statements.ThenCode.enter.Goals as goal
+use Rattle.dp_forms.proofs.sequence.ThenCode.enter.Goals as goal
 
 pub returns-then-between-eq0 : goal.returns-then-between-eq0
 returns-then-between-eq0 g c = let zero : c.in-Some.between.at ≡ 0 = omega (arith, c.if-between-eq0.true) in (c.run-to.ensures.small, then_enters g.A.Code.is_of g.B.Code.is_of zero c.enter.auto.memory c.in-Some.ensures.1 c.run-to.ensures.runs)
