@@ -7,10 +7,10 @@ trap 'rm -rf "$work"' EXIT
 # Proves and builds the program where it isn't built, and calls it $dswp.
 need_dswp() { "$top/dswp" --prove && dswp="$top/crates/dswp/out/dswp"; }
 
-# The least time of nine runs of a command, in nanoseconds.
+# The least time of nine runs of a command, or of as many as $runs says, in nanoseconds.
 least() {
   local best= start end
-  for _ in 1 2 3 4 5 6 7 8 9; do
+  for _ in $(seq "${runs:-9}"); do
     start=$(date +%s%N)
     "$@" >/dev/null 2>&1
     end=$(date +%s%N)

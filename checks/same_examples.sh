@@ -1,6 +1,6 @@
 #!/usr/bin/env bash
-# Compares the texts of crates/dswp/src/tests/examples.rt with the files of examples/, byte by byte, so that what is tested
-# is what is shown. Ends with 1 where a text differs or has no file.
+# Compares the texts of crates/dswp/src/tests/examples.rt with the files of examples/ and examples/gallery/, byte by byte, so
+# that what is tested is what is shown. Ends with 1 where a text differs or has no file.
 set -eu
 cd "$(dirname "$0")/.."
 python3 - crates/dswp/src/tests/examples.rt examples <<'PY'
@@ -14,7 +14,7 @@ tested = {}
 for name, *texts in re.findall(rf'"(\w+)",{text}{text}{text}', source):
     for end, it in zip((".c", ".in", ".out"), texts):
         tested[name + end] = re.sub(r"\\(.)", lambda found: escapes[found[1]], it)
-shown = {it.name: it.read_bytes().decode() for it in folder.iterdir() if it.suffix in (".c", ".in", ".out")}
+shown = {it.name: it.read_bytes().decode() for it in folder.rglob("*") if it.suffix in (".c", ".in", ".out")}
 
 differ = sorted(name for name in tested if tested[name] != shown.get(name))
 for name in differ:

@@ -3,7 +3,8 @@
 #
 # A transcript is a line `$ ./dswp ..` or `$ tools/..` of a fenced block, the output, and a line `[status N]`. Each row under a head
 # `| Text | Output |` is a program's text and what `run` writes for it, with ` / ` between its lines. Each program of
-# examples/ writes its NAME.out for its NAME.in, and the same but for the lines of its regions under its NAME.plan.
+# examples/ and examples/gallery/ writes its NAME.out for its NAME.in, and the same but for the lines of its regions under its
+# NAME.plan.
 set -u
 cd "$(dirname "$0")/.." || exit 1
 work=$(mktemp -d) || exit 1
@@ -42,7 +43,7 @@ for command in "$work"/*.command; do
   { sh "$command" 2>/dev/null; echo "[status $?]"; } >"$work/got"
   compare "${command%.command}.shown" "$work/got" "\$ $(cat "$command")"
 done
-for program in examples/*.c; do
+for program in examples/*.c examples/gallery/*.c; do
   name=${program%.c}
   ./dswp run "$program" "$name.in" >"$work/got" 2>/dev/null
   compare "$name.out" "$work/got" "$program"

@@ -54,7 +54,7 @@ def without_regions(text):
 
 
 def tried_examples():
-    for program in sorted((TOP / "examples").glob("*.c")):
+    for program in sorted((TOP / "examples").rglob("*.c")):
         words, wanted = ["run", str(program), str(program.with_suffix(".in"))], program.with_suffix(".out").read_text()
         yield program.name, wanted, answer(words_of(words))[0]
         plan = program.with_suffix(".plan")

@@ -5,7 +5,8 @@
 #
 # What it relies on: each file-scope variable begins its line, there is one region, its mark and its `while` or
 # `for` stand on two lines, no iteration has more than 4,096 steps, and the one `break` is an early exit that the least
-# plan has behind its first stage. So the iteration that takes it is executed again, and no other one.
+# plan has behind its first stage. So the iteration that takes it is executed again, and no other one. Each number gets
+# the suffix LL, since in C the product of two small numbers has 32 bits.
 set -eu
 cat <<'C'
 #include <stdio.h>
@@ -19,7 +20,7 @@ static void show(const char *name, const long long *values, unsigned long count)
 #define int long long
 #define main program
 C
-sed -e '/#pragma dswp/{N;s/#pragma dswp\n *while (/while (iterations++, /;s/#pragma dswp\n *for (\([^;]*;\) /for (\1 iterations++, /}' \
+sed -e 's/\b[0-9]\{1,\}\b/&LL/g' -e '/#pragma dswp/{N;s/#pragma dswp\n *while (/while (iterations++, /;s/#pragma dswp\n *for (\([^;]*;\) /for (\1 iterations++, /}' \
   -e 's/ break;/ { left_early = 1; break; }/' "$1"
 cat <<'C'
 #undef main
