@@ -1,31 +1,8 @@
--- The memory before an iteration's stores, and what is left of its words.
-use Rattle.std.proofs.Common.{◌≡◌, refl, sym, ap, ◌∙◌, arith, ℕ, zero, suc, ◌-◌, ◌<◌, List, [], ◌∷◌, ◌++◌, length, ℤ, pos, slice_set, get_or, drop, replicate}
+-- What is left of a packet's words.
+use Rattle.std.proofs.Common.{◌≡◌, refl, sym, ap, ◌∙◌, arith, ℕ, zero, suc, ◌-◌, ◌<◌, List, [], ◌∷◌, length, slice_set, drop, replicate}
 use Rattle.dp_base.specs.declared.Word.{Word}
 use Rattle.dp_semantics.specs.Words.{word_list}
-use Rattle.dp_cause.specs.declared.replaced.Replaced.{Replaced}
-use Rattle.dp_cause.specs.Views.{stages_of}
-use Rattle.dp_finding.specs.Held.{rests, undone}
-
-pub undone_more : (xs : List Replaced) (was : Replaced) (cells : List ℤ) → undone (xs ++ was ∷ []) cells ≡ undone xs (slice_set cells was.cell.0 was.value)
-undone_more [] was cells = refl
-undone_more (x ∷ xs) was cells = ap (λ (ys : List ℤ). slice_set ys x.cell.0 x.value) (undone_more xs was cells)
-
-set_back : (cells : List ℤ) (k : ℕ) (v : ℤ) → slice_set (slice_set cells k v) k (get_or cells k (pos 0)) ≡ cells
-set_back [] k v = refl
-set_back (c ∷ cells) zero v = refl
-set_back (c ∷ cells) (suc k) v = ap (λ (ys : List ℤ). c ∷ ys) (set_back cells k v)
-
--- a store is undone by what it replaced
-pub store_undone : (xs new : List Replaced) (was : Replaced) (cells next : List ℤ) (v : ℤ) → new ≡ xs ++ was ∷ [] → was.value ≡ get_or cells was.cell.0 (pos 0) → next ≡ slice_set cells was.cell.0 v → undone new next ≡ undone xs cells
-store_undone xs new was cells next v new_is value_is next_is =
-    (λ i. undone (new_is i) (next_is i)) ∙ undone_more xs was (slice_set cells was.cell.0 v)
-    ∙ ap (λ (z : ℤ). undone xs (slice_set (slice_set cells was.cell.0 v) was.cell.0 z)) value_is ∙ ap (undone xs) (set_back cells was.cell.0 v)
-
-pub stages_more : (xs : List Replaced) (was : Replaced) → stages_of (xs ++ was ∷ []) ≡ stages_of xs ++ was.stage ∷ []
-stages_more [] was = refl
-stages_more (x ∷ xs) was = ap (λ (ys : List ℕ). x.stage ∷ ys) (stages_more xs was)
-
--- ---- what is left of the words
+use Rattle.dp_finding.specs.Held.{rests}
 
 none_dropped : (n : ℕ) (words : List Word) → words ≡ [] → drop n words ≡ words
 none_dropped zero words e = refl
