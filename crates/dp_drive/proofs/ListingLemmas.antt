@@ -1,5 +1,5 @@
 -- From the texts of a program and of its least plans to the headline.
-use Rattle.std.proofs.Common.{refl, sym, ap, ◌∙◌, subst, ℕ, List, [], Option, Result, Ok, Err, Some}
+use Rattle.std.proofs.Common.{refl, sym, ap, ◌∙◌, subst, ℕ, ℤ, List, [], Option, Result, Ok, Err, Some}
 use Rattle.dp_tree.specs.declared.Program.{Program}
 use Rattle.dp_plan.specs.declared.Plan.{Plan}
 use Rattle.dp_edge.specs.declared.writing.WriteFail.{WriteFail}
@@ -11,7 +11,7 @@ use Rattle.dp_words.specs.Run.{Least}
 use Rattle.dp_words.specs.Words.{Asked, Asks, ToExplain, ToList, ToPlan, ToTree}
 use Rattle.dp_load.specs.declared.load.Loaded.{Loaded}
 use Rattle.dp_load.specs.declared.load.Loaded.TheVariants.{Text, Refused, Failed}
-use Rattle.dp_load.specs.Last.{Nothing}
+use Rattle.dp_load.specs.Last.{Behind, Nothing}
 use Rattle.dp_load.specs.Loading.{Gives, LoadsProgram, ReadsProgram}
 use Rattle.dp_load.specs.Order.{given_by}
 use Rattle.dp_load.specs.Roles.{Contents, Plans}
@@ -45,12 +45,15 @@ lists_explained planning = record { reads = record { program = refl; input = ref
 
 -- ---- what is answered
 
+abbrev Read : Type 0
+Read = (((Program × List ℤ) × List (List ℤ)) × List Plan) × Behind
+
 module _ (words : List (List ℕ)) (contents : Contents) (faults after : ℕ) (failed fails : Names) (told tells : Option (List ℕ)) (asked : Asked) (asks : Asks words asked) where
   pub carry_listing : (listing : Listing) (name : List ℕ) (q : Program) (result : Result ℕ WriteFail) → ListsProgram listing asked name → Gives (LoadsProgram contents name) (Some name) faults after failed fails (Text q) → Finishes 0 (listing_text listing q) told tells result →
       Carried words contents faults after failed fails told tells result
   carry_listing listing name q result of g finishes =
       let s = source_of (ReadsProgram contents name) q g.0 in
-      let read = ((((s.source, []), []), []), Nothing) in
+      let read : Read = ((((s.source, []), []), []), Nothing) in
       carried.OfAnswer _ _ (Done asked ((((s.source, []), []), []), Nothing) asks (program_alone contents asked name of.reads s.source s.reads)) g.1 g.2
       (finishes_as 0 _ (listing_text listing q) _ told tells result (sym (of.status (given_by read))) (ap (listing_text listing) s.is ∙ sym (of.bytes (given_by read))) finishes)
 
@@ -64,7 +67,7 @@ module _ (words : List (List ℕ)) (contents : Contents) (faults after : ℕ) (f
     pub carry_plans : (plans : List Plan) (result : Result ℕ WriteFail) → LeastGives (Text plans) → Finishes 0 (planning_text text q plans) told tells result → Carried words contents faults after failed fails told tells result
     carry_plans plans result g finishes =
         let s = source_of (ReadsProgram contents planning.program) q read in
-        let all = ((((s.source, []), []), plans), Nothing) in
+        let all : Read = ((((s.source, []), []), plans), Nothing) in
         carried.OfAnswer _ _ (Done asked ((((s.source, []), []), plans), Nothing) asks (least_read contents asked planning of.reads s.source s.reads plans (subst (λ (x : Program). LeastOf x (Ok plans)) s.is g.0))) g.1 g.2
         (finishes_as 0 _ (planning_text text q plans) _ told tells result (sym (of.status (given_by all))) (ap (λ (x : Program). planning_text text x plans) s.is ∙ sym (of.bytes (given_by all))) finishes)
 
