@@ -1,5 +1,5 @@
 #!/usr/bin/env bash
-# Runs all measurements of this folder, one after the other, and prints their tables. It takes half an hour, and needs what
+# Runs all measurements of this folder, one after the other, and prints their tables. It takes tens of minutes, and needs what
 # each of them names at its head. Ends with 1 where one fails.
 set -u
 cd "$(dirname "$0")"

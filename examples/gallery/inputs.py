@@ -9,11 +9,13 @@ of its own, so that it is the same every time.
 """
 import sys
 
+# The words of the texts, of which those in front come more often.
 VOCABULARY = """a all and are as at bank be boat by call come day did do down each find first flow for from get go had has have
 he her him his how if in into is it its like line long look made make many may more my no not now number of oil on one or other
 out part people river said see she so some stage than that the their them then there these they this time to two up use was
 water way we were what when which who will with word would write you your""".split()
 
+# The lines of the programs that keywords.c reads.
 C_LINES = """int total;|int next = total + 1;|if (next > limit) {|return next;|while (next < 4096) {|next = next * 3 + 1;|}|
 for (int k = 0; k < 16; k = k + 1) {|print(row[k]);|} else {|total = total + row[k] / 2;|int main() {""".replace("\n", "").split("|")
 
@@ -114,8 +116,8 @@ def queens(draw, size):
         free = [it for it in range(1, 9) if all(it != q and abs(it - q) != len(board) - k for k, q in enumerate(board))]
         return [it for column in free for it in boards(board + [column], rows - 1)]
 
-    given = [boards([], 3), boards([], 4)]
-    drawn = [draw.one_of(draw.one_of(given)) for _ in range(size)]
+    given = boards([], 4)
+    drawn = [draw.one_of(given) for _ in range(size)]
     return [[int("".join(map(str, it))) for it in drawn[at : at + 8]] for at in range(0, size, 8)]
 
 

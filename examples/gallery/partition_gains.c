@@ -27,11 +27,7 @@ void swap_best_pair() {
   swapped[best_second] = 1;
   for (int node = 0; node < nodes; node = node + 1) {
     int change = 2 * (input[1 + node * nodes + best_first] - input[1 + node * nodes + best_second]);
-    if (node < nodes / 2) {
-      difference[node] = difference[node] + change;
-    } else {
-      difference[node] = difference[node] - change;
-    }
+    difference[node] = difference[node] + change * (1 - 2 * (node >= nodes / 2));
   }
   gain_so_far = gain_so_far + best_gain;
   if (gain_so_far > best_so_far) {
