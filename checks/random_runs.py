@@ -1,6 +1,6 @@
 """Random programs with one or two marked loops, and for each a plan, an input and a fuel. Stages are spread at random, so that
 many iterations are executed again; and there are early exits, calls, prints, body locals, strides, faults and spent fuel."""
-from random_programs import Program as OneLoop
+from random_programs import OneLoop
 from small_c import Program
 
 ARRAYS = {"h": 5, "g": 18}

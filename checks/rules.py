@@ -1,6 +1,7 @@
 #!/usr/bin/env python3
-"""Looks for each place that docs/RULES.md names: the page has the rule's words, and each file has the name or the piece of
-text that stands behind it. Ends with 1 where one is missing, or where a table has fewer than ten rules.
+"""Looks for each place that docs/RULES.md names: the page has the rule's words, each file has the name or the piece of text
+that stands behind it, and the code is reached from `main`, as far as reached.py can tell. Ends with 1 where one is missing or
+isn't reached, or where a table has fewer than ten rules.
 
   checks/rules.py
 """
@@ -8,8 +9,12 @@ import re
 import sys
 from pathlib import Path
 
+sys.dont_write_bytecode = True
+from reached import is_reached
+
 TOP = Path(__file__).resolve().parent.parent
-FOLDERS = [TOP / "crates", TOP / "crates", TOP / "crates/dswp/src/tests"]
+SPECIFICATIONS, CODE, ROWS = TOP / "crates", TOP / "crates/.", TOP / "crates/dswp/src/tests"
+FOLDERS = [SPECIFICATIONS, CODE, ROWS]
 PLACE = re.compile(r"`([^`]*)`: `(.*)`")
 
 
@@ -41,6 +46,8 @@ def missing(page, row):
         file = folder / path
         if not file.exists() or not stands(name, file.read_text()):
             yield f"{path}: {name}"
+        elif folder is CODE and not is_reached(file, name):
+            yield f"{path}: {name} isn't reached from main"
     if edit:
         crate, name = PLACE.fullmatch(edit).groups()
         if not (TOP / "crates" / crate / "must-fail" / f"{name}.edit").exists():
