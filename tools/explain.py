@@ -14,6 +14,7 @@ import subprocess
 import sys
 from pathlib import Path
 
+sys.dont_write_bytecode = True
 from explaining import page, picture, plans, sentences, terminal, tree
 
 DSWP = Path(__file__).resolve().parent.parent / "dswp"
