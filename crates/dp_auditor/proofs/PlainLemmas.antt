@@ -50,10 +50,10 @@ part_begins m e = record { plain = e; same = record { program_is = refl; input_i
 module _ (turns : ℕ) (old mid new : MachineState) (before after : List ℤ) (h : PartSoFar old mid) where
   module _ (end : PartEnd) (call : PartRun turns mid new before after end) where
     same_call : SameRun mid new
-    same_call = record { program_is = call.moved.program; input_is = call.moved.input; fuel_is = call.moved.fuel }
+    same_call = record { program_is = call.went.moved.program; input_is = call.went.moved.input; fuel_is = call.went.moved.fuel }
 
-    passed : (plan : Plan) → IsPassed call.configs plan
-    passed plan = All-weaker (λ c. part_of c.to_do ≡ Plain) (λ c. stands_at_head plan.region c ≡ false) (off_plain plan.region) call.configs call.plain
+    passed : (plan : Plan) → IsPassed call.went.configs plan
+    passed plan = All-weaker (λ c. part_of c.to_do ≡ Plain) (λ c. stands_at_head plan.region c ≡ false) (off_plain plan.region) call.went.configs call.went.plain
 
     leads_on : (p : Program) (plans : List Plan) → Standing p plans old → Leads p plans old new
     leads_on p plans s =
@@ -62,12 +62,12 @@ module _ (turns : ℕ) (old mid new : MachineState) (before after : List ℤ) (h
         record {
           standing = record {
             inlined = m.inlined;
-            program_is = call.moved.program ∙ m.program_is;
-            stands = stands_there mid new same_call call.events call.configs call.moved.run p m.inlined m.program_is m.stands;
-            left = sym (left_from_region new.config.to_do) ∙ ap Rattle.dp_auditor.specs.Regions.regions_left call.behind ∙ left_from_region mid.config.to_do ∙ m.left;
-            between = call.current ∙ m.between;
+            program_is = call.went.moved.program ∙ m.program_is;
+            stands = stands_there mid new same_call call.went.events call.went.configs call.went.moved.run p m.inlined m.program_is m.stands;
+            left = sym (left_from_region new.config.to_do) ∙ ap Rattle.dp_auditor.specs.Regions.regions_left call.went.behind ∙ left_from_region mid.config.to_do ∙ m.left;
+            between = call.went.current ∙ m.between;
           };
-          text = l.text ∙ plans_text p mid new same_call call.events call.configs call.moved.run plans (each_so (IsPassed call.configs) passed plans);
+          text = l.text ∙ plans_text p mid new same_call call.went.events call.went.configs call.went.moved.run plans (each_so (IsPassed call.went.configs) passed plans);
         }
 
     part_at_head : (p : Program) (plans : List Plan) → Standing p plans old → next_part new ≡ Plain → part_of new.config.to_do ≡ Plain
@@ -78,13 +78,13 @@ module _ (turns : ℕ) (old mid new : MachineState) (before after : List ℤ) (h
     over n why e plain p plans s =
         let none : (plan : Plan) → begun_count (rest_of_run new) plan.region ≡ 0 =
         λ plan. ap (λ (run : Run). begun_count run plan.region) e ∙ over_silent n new.config why plan.region (off_plain plan.region new.config (part_at_head p plans s plain)) in
-        ((leads_on p plans s).text ∙ all_silent p plans (rest_of_run new) (each_so (λ plan. begun_count (rest_of_run new) plan.region ≡ 0) none plans), h.end ∙ call.moved.run.end ∙ ap (λ (run : Run). run.end) e)
+        ((leads_on p plans s).text ∙ all_silent p plans (rest_of_run new) (each_so (λ plan. begun_count (rest_of_run new) plan.region ≡ 0) none plans), h.end ∙ call.went.moved.run.end ∙ ap (λ (run : Run). run.end) e)
 
   pub part_going : PartRun turns mid new before after Going → PartSoFar old new
-  part_going call = record { plain = call.stops.0; same = same_run old mid new h.same (same_call Going call); end = h.end ∙ call.moved.run.end; leads = leads_on Going call }
+  part_going call = record { plain = call.stops.0; same = same_run old mid new h.same (same_call Going call); end = h.end ∙ call.went.moved.run.end; leads = leads_on Going call }
 
   pub part_done : PartRun turns mid new before after Done → (p : Program) (plans : List Plan) → Standing p plans old → PlainLeads p plans old new None
-  part_done call p plans s = let l = leads_on Done call p plans s in (l.standing, same_run old mid new h.same (same_call Done call), call.stops.part, l.text, h.end ∙ call.moved.run.end)
+  part_done call p plans s = let l = leads_on Done call p plans s in (l.standing, same_run old mid new h.same (same_call Done call), call.stops.part, l.text, h.end ∙ call.went.moved.run.end)
 
   pub part_faults : (fault : FaultAt) → PartRun turns mid new before after (Fault fault) → (p : Program) (plans : List Plan) → Standing p plans old → PlainLeads p plans old new (Some (how.Fault fault))
   part_faults fault call p plans s = over (Fault fault) call (fuel_left new) (how.Fault fault) call.stops.2.ends call.stops.0 p plans s

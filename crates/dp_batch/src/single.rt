@@ -4,7 +4,7 @@ ghost use Rattle.dp_batch.specs.BatchText.{run_text};
 
 use dp_base::{NoMemory, Row};
 use dp_edge::{MemSink, OpenGate};
-use dp_run::{CrewSize, PreparedProgram, RunOptions, Tally, Unwatched, run_program};
+use dp_run::{CrewSize, NoNativeCode, PreparedProgram, RunOptions, Tally, Unwatched, run_program};
 use std::alloc::Global;
 use std::sync::Wait;
 use std::thread::Threads;
@@ -28,7 +28,15 @@ pub fn one<R: Threads + Wait + Clock + Sync>(
     let why = false;
     let options = RunOptions { fuel, size, why };
     match run_program(
-        rt, alloc, prepared, input, options, &mut sink, &OpenGate, &mut tally,
+        rt,
+        alloc,
+        &NoNativeCode,
+        prepared,
+        input,
+        options,
+        &mut sink,
+        &OpenGate,
+        &mut tally,
     ) {
         Ok(_) => Row::from_slice(alloc, sink.bytes()),
         Err(_) => Err(NoMemory),

@@ -20,7 +20,7 @@ use crate::writing::{fail_read, refuse};
 use dp_edge::{Gate, Shelf, Sink, WriteFail};
 use dp_load::{Texts, load_texts};
 use dp_refusal::Refusal;
-use dp_run::{RunOptions, Tally, Watch};
+use dp_run::{NativeCode, RunOptions, Tally, Watch};
 use dp_words::{RunWords, Task, asked};
 use std::alloc::Global;
 use std::sync::Wait;
@@ -31,10 +31,11 @@ use std::time::Clock;
 ///
 /// The words are those after the program's name. Texts are read from the shelf, and everything is written to the sink;
 /// the gate is passed by the stages that run in threads. The tally counts the iterations that are committed from a
-/// pipeline.
-pub fn drive<R: Threads + Wait + Clock + Sync, S: Shelf, K: Sink, G: Gate, W: Watch>(
+/// pipeline. Native code goes on with the plain parts of a run; the answer is the same with any.
+pub fn drive<R: Threads + Wait + Clock + Sync, N: NativeCode, S: Shelf, K: Sink, G: Gate, W: Watch>(
     rt: &R,
     alloc: Global,
+    native: &N,
     words: &[String],
     shelf: &mut S,
     sink: &mut K,
@@ -54,7 +55,7 @@ pub fn drive<R: Threads + Wait + Clock + Sync, S: Shelf, K: Sink, G: Gate, W: Wa
     // A run that was answered: the tally grew by the iterations that regions began, less those that were executed again.
     ensures counted { IsCounted (map string_bytes words.now) (S.contents shelf.old) tally.old tally.new result }
 {
-    final_status(answer(rt, alloc, words, shelf, sink, gate, tally))
+    final_status(answer(rt, alloc, native, words, shelf, sink, gate, tally))
 }
 
 /// The exit status of what was finished or stopped.
@@ -69,9 +70,10 @@ fn final_status(answered: Result<u8, WriteFail>) -> u8
 }
 
 /// The exit status, where all that it goes with was written.
-fn answer<R: Threads + Wait + Clock + Sync, S: Shelf, K: Sink, G: Gate, W: Watch>(
+fn answer<R: Threads + Wait + Clock + Sync, N: NativeCode, S: Shelf, K: Sink, G: Gate, W: Watch>(
     rt: &R,
     alloc: Global,
+    native: &N,
     words: &[String],
     shelf: &mut S,
     sink: &mut K,
@@ -88,7 +90,7 @@ fn answer<R: Threads + Wait + Clock + Sync, S: Shelf, K: Sink, G: Gate, W: Watch
     ensures counted { IfOk result (IsCounted (map string_bytes words.now) (S.contents shelf.old) tally.old tally.new) }
 {
     match asked(alloc, words)? {
-        Some(Task::Run(run)) => answer_run(rt, alloc, run, shelf, sink, gate, tally),
+        Some(Task::Run(run)) => answer_run(rt, alloc, native, run, shelf, sink, gate, tally),
         Some(Task::Plan(plan)) => answer_plan(alloc, plan, PlansText::Bare, shelf, sink),
         Some(Task::Explain(plan)) => answer_plan(alloc, plan, PlansText::Explained, shelf, sink),
         Some(Task::Check(program)) => answer_program(alloc, program, Listing::Sites, shelf, sink),
@@ -105,9 +107,17 @@ fn answer<R: Threads + Wait + Clock + Sync, S: Shelf, K: Sink, G: Gate, W: Watch
 }
 
 /// The exit status of a run.
-fn answer_run<R: Threads + Wait + Clock + Sync, S: Shelf, K: Sink, G: Gate, W: Watch>(
+fn answer_run<
+    R: Threads + Wait + Clock + Sync,
+    N: NativeCode,
+    S: Shelf,
+    K: Sink,
+    G: Gate,
+    W: Watch,
+>(
     rt: &R,
     alloc: Global,
+    native: &N,
     run: RunWords,
     shelf: &mut S,
     sink: &mut K,
@@ -132,7 +142,7 @@ fn answer_run<R: Threads + Wait + Clock + Sync, S: Shelf, K: Sink, G: Gate, W: W
                 why: run.why,
             };
             run_to_end(
-                rt, alloc, &program, &plans, &input, options, sink, gate, tally,
+                rt, alloc, native, &program, &plans, &input, options, sink, gate, tally,
             )
         }
         Texts::Refused(refusal) => refuse(alloc, refusal, sink),

@@ -19,7 +19,7 @@ use dp_edge::{Gate, Sink, WriteFail, write};
 use dp_load::{automatic_plans, read_program};
 use dp_plan::Plan;
 use dp_report::make_program;
-use dp_run::{CrewSize, RunOptions, Tally, Watch};
+use dp_run::{CrewSize, NoNativeCode, RunOptions, Tally, Watch};
 use dp_tree::Program;
 use dp_words::GenWords;
 use std::alloc::Global;
@@ -90,7 +90,18 @@ fn run_made<R: Threads + Wait + Clock + Sync, K: Sink, G: Gate, W: Watch>(
         size: CrewSize::new(words.options.workers, words.lane, true),
         why: false,
     };
-    run_to_end(rt, alloc, program, plans, input, options, sink, gate, tally)
+    run_to_end(
+        rt,
+        alloc,
+        &NoNativeCode,
+        program,
+        plans,
+        input,
+        options,
+        sink,
+        gate,
+        tally,
+    )
 }
 
 /// Writes the line of the words.

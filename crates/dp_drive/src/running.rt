@@ -8,7 +8,7 @@ use dp_base::Row;
 use dp_edge::{Gate, Sink, WriteFail};
 use dp_plan::Plan;
 use dp_refusal::end_status;
-use dp_run::{PreparedProgram, RunOptions, Tally, Watch, run_program};
+use dp_run::{NativeCode, PreparedProgram, RunOptions, Tally, Watch, run_program};
 use dp_tree::Program;
 use std::alloc::Global;
 use std::sync::Wait;
@@ -16,9 +16,10 @@ use std::thread::Threads;
 use std::time::Clock;
 
 /// Runs the program to its end, and gives the status of that.
-pub fn run_to_end<R: Threads + Wait + Clock + Sync, K: Sink, G: Gate, W: Watch>(
+pub fn run_to_end<R: Threads + Wait + Clock + Sync, N: NativeCode, K: Sink, G: Gate, W: Watch>(
     rt: &R,
     alloc: Global,
+    native: &N,
     program: &Program,
     plans: &Row<Plan>,
     input: &Row<i64>,
@@ -39,6 +40,7 @@ pub fn run_to_end<R: Threads + Wait + Clock + Sync, K: Sink, G: Gate, W: Watch>(
     let end = run_program(
         rt,
         alloc,
+        native,
         &prepared,
         input.as_slice(),
         options,

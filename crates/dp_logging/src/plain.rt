@@ -7,7 +7,7 @@ ghost use Rattle.dp_run.specs.Stretches.{Behind, Leads};
 use crate::nowhere::Nowhere;
 use dp_base::{End, NoMemory};
 use dp_meaning::Machine;
-use dp_run::{Tally, Unwatched, run_plain};
+use dp_run::{NoNativeCode, Tally, Unwatched, run_plain};
 use std::alloc::Global;
 
 /// Runs the plain part that comes next, if one does, and drops what it prints. Answers the run's end if that comes in it.
@@ -16,7 +16,7 @@ pub(crate) fn skip_plain(alloc: Global, machine: &mut Machine<'_>) -> Result<Opt
 {
     let mut nowhere = Nowhere;
     let mut tally = Tally::new(Unwatched);
-    match run_plain(alloc, machine, &mut nowhere, &mut tally) {
+    match run_plain(alloc, &NoNativeCode, machine, &mut nowhere, &mut tally) {
         Ok(end) => Ok(end),
         Err(_) => Err(NoMemory),
     }

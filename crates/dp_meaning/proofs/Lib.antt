@@ -14,6 +14,7 @@ pub mod StepLemmas
 pub mod TurnLemmas
 pub mod PlainLemmas
 pub mod MovedLemmas
+pub mod PartLemmas
 pub mod WatchedLemmas
 pub mod StretchLemmas
 pub mod StretchEnds

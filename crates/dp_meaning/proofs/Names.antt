@@ -40,7 +40,7 @@ pub use Rattle.dp_meaning.specs.IterationRun.{Awaits, GoesOn, HeadsOnce, Iterati
 pub use Rattle.dp_meaning.specs.MachineState.{IsAnyRegion, MachineState, from_region, fuel_left, is_any_region, next_part, part_at, part_from, part_of, rest_of_run}
 pub use Rattle.dp_meaning.specs.Moved.{FaultsNext, HasSpentFuel, Moved, Spoiled}
 pub use Rattle.dp_meaning.specs.NextIteration.{NextIteration, end_of}
-pub use Rattle.dp_meaning.specs.PartRun.{PartRun, PartStops}
+pub use Rattle.dp_meaning.specs.PartRun.{PartMoved, PartRun, PartStops}
 pub use Rattle.dp_tree.specs.Statements.{listed}
 pub use Rattle.dp_meaning.specs.Places.{LeadsAt, Leaves, NodeAt, PositionAt, config_at, entry, first_of, first_region, led_to, node, number_of, rests, table, table_for}
 unfoldable pub use Rattle.dp_meaning.specs.Places.{rest_at, rests_in, rests_of, table_in, table_of}

@@ -25,14 +25,16 @@ module _ (turns : ℕ) (old new : MachineState) (x z : List ℤ) (next : next_pa
 
   run_with : (how : IterEnd) (s : Stretch turns old new x z how) (stop : PartEnd) → from_region new.config.to_do ≡ from_region old.config.to_do → new.current ≡ None → PartStops turns (length s.events) old new stop → PartRun turns old new x z stop
   run_with how s stop behind current stops = record {
-    events = s.events;
-    configs = s.configs;
-    moved = s.moved;
-    plain = all_plain old.config s.configs (sym (part_idle old idle) ∙ next) s.heads;
+    went = record {
+      events = s.events;
+      configs = s.configs;
+      moved = s.moved;
+      plain = all_plain old.config s.configs (sym (part_idle old idle) ∙ next) s.heads;
+      behind = behind;
+      current = current ∙ sym idle;
+    };
     within = s.within;
-    behind = behind;
     stops = stops;
-    current = current ∙ sym idle;
     spoiled = s.spoiled;
   }
 

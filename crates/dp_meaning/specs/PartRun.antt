@@ -1,4 +1,4 @@
--- What one call of `run_part` does.
+-- What the steps of a plain part do, and one call of `run_part`.
 use Rattle.std.specs.Prelude.{◌≡◌, ◌≢◌, ℕ, ◌<◌, ◌≤◌, List, length, All, ℤ}
 use Rattle.dp_tree.specs.Step.{Config, Event}
 use Rattle.dp_meaning.specs.declared.ends.Part.TheVariants.{Plain}
@@ -19,15 +19,18 @@ PartStops turns made old new (Fault fault) = (next_part new ≡ Plain) × (made 
 PartStops turns made old new Fuel = (next_part new ≡ Plain) × HasSpentFuel new
 PartStops turns made old new Going = (next_part new ≡ Plain) × (new.steps < new.fuel) × (made ≡ turns)
 
--- The call makes the steps of the part, at most so many, and answers why it stops.
--- The events are those of its steps, and the configurations those before each of them.
-pub record PartRun (turns : ℕ) (old new : MachineState) (before after : List ℤ) (end : PartEnd) : Type 0 where
+-- Some steps of the part were made, or none. The events are those of the steps, and the configurations those before each of them.
+pub record PartMoved (old new : MachineState) (before after : List ℤ) : Type 0 where
   pub events : List Event
   pub configs : List Config
   pub moved : Moved old new before after events configs
   pub plain : All (λ c. part_of c.to_do ≡ Plain) configs
-  pub within : length events ≤ turns
   pub behind : from_region new.config.to_do ≡ from_region old.config.to_do
-  pub stops : PartStops turns (length events) old new end
   pub current : new.current ≡ old.current
+
+-- The call makes the steps of the part, at most so many, and answers why it stops.
+pub record PartRun (turns : ℕ) (old new : MachineState) (before after : List ℤ) (end : PartEnd) : Type 0 where
+  pub went : PartMoved old new before after
+  pub within : length went.events ≤ turns
+  pub stops : PartStops turns (length went.events) old new end
   pub spoiled : new.spoiled ≡ old.spoiled

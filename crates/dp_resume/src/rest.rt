@@ -15,7 +15,7 @@ use dp_commit::{Tally, Unwatched};
 use dp_edge::{Gate, Sink, WriteFail};
 use dp_epoch::{CrewSize, RegionEnd};
 use dp_meaning::Machine;
-use dp_run::{PreparedProgram, end_of, run_parts, write_end};
+use dp_run::{NoNativeCode, PreparedProgram, end_of, run_parts, write_end};
 use dp_tree::Program;
 use std::alloc::Global;
 use std::sync::Wait;
@@ -70,7 +70,17 @@ fn run_behind<'p, R: Threads + Wait + Clock + Sync, K: Sink, G: Gate>(
     let left = regions_behind(prepared, region);
     let (mut told, mut tally) = (reports, Tally::new(Unwatched));
     let (machine, end) = run_parts(
-        rt, alloc, left, input, machine, size, &mut told, sink, gate, &mut tally,
+        rt,
+        alloc,
+        &NoNativeCode,
+        left,
+        input,
+        machine,
+        size,
+        &mut told,
+        sink,
+        gate,
+        &mut tally,
     )?;
     finish(alloc, program, machine, told, end_of(end), sink)
 }

@@ -12,7 +12,7 @@ use dp_commit::{Tally, Watch};
 use dp_edge::{Gate, Sink, WriteFail};
 use dp_epoch::CrewSize;
 use dp_meaning::Machine;
-use dp_run::{PreparedProgram, end_of, run_parts, write_end};
+use dp_run::{NoNativeCode, PreparedProgram, end_of, run_parts, write_end};
 use dp_save::Checkpoint;
 use std::alloc::Global;
 use std::sync::Wait;
@@ -48,7 +48,17 @@ pub fn resume_program<R: Threads + Wait + Clock + Sync, K: Sink, G: Gate, W: Wat
     let machine = Machine::at_region(alloc, program, input, fuel, region, cells, steps)?;
     let mut told = Row::new(alloc);
     let (machine, end) = run_parts(
-        rt, alloc, left, input, machine, size, &mut told, sink, gate, tally,
+        rt,
+        alloc,
+        &NoNativeCode,
+        left,
+        input,
+        machine,
+        size,
+        &mut told,
+        sink,
+        gate,
+        tally,
     )?;
     let end = end_of(end);
     let reports = merged(saved, told)?;

@@ -18,7 +18,7 @@ use dp_commit::{Tally, Unwatched};
 use dp_edge::{Gate, Sink, WriteFail, write};
 use dp_epoch::CrewSize;
 use dp_meaning::Machine;
-use dp_run::{PreparedProgram, RunOptions, run_parts, run_program};
+use dp_run::{NoNativeCode, PreparedProgram, RunOptions, run_parts, run_program};
 use dp_save::{Checkpoint, write_checkpoint};
 use dp_tree::Program;
 use std::alloc::Global;
@@ -135,7 +135,17 @@ fn run_whole<R: Threads + Wait + Clock + Sync, K: Sink, G: Gate>(
         why: false,
     };
     let mut tally = Tally::new(Unwatched);
-    let end = run_program(rt, alloc, prepared, input, options, sink, gate, &mut tally)?;
+    let end = run_program(
+        rt,
+        alloc,
+        &NoNativeCode,
+        prepared,
+        input,
+        options,
+        sink,
+        gate,
+        &mut tally,
+    )?;
     Ok(SaveEnd::Ran(end))
 }
 
@@ -170,7 +180,17 @@ pub fn save_program<R: Threads + Wait + Clock + Sync, K: Sink, G: Gate>(
     let mut told = Row::new(alloc);
     let mut tally = Tally::new(Unwatched);
     let (machine, end) = run_parts(
-        rt, alloc, before, input, machine, size, &mut told, sink, gate, &mut tally,
+        rt,
+        alloc,
+        &NoNativeCode,
+        before,
+        input,
+        machine,
+        size,
+        &mut told,
+        sink,
+        gate,
+        &mut tally,
     )?;
     match end {
         Some(end) => finish(alloc, program, machine, told, end, sink),

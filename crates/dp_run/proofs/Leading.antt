@@ -69,18 +69,18 @@ module _ (p : Program) (input : List ℤ) (fuel : ℕ) (run : Run) where
     pub part_behind : (end : PartEnd) → PartRun turns old new before after end → Behind p input fuel run n new
     part_behind end call = record {
       begins = b.begins;
-      program_is = call.moved.program ∙ b.program_is;
-      input_is = call.moved.input ∙ b.input_is;
-      fuel_is = call.moved.fuel ∙ b.fuel_is;
-      passed = passed_on run (rest_of_run old) (rest_of_run new) (suc n) (suc n) (omega arith) b.passed call.events call.configs call.moved.run
-          (λ r h. starts_behind (rest_of_run old) (rest_of_run new) r call.events call.configs call.moved.run (off_plain_part r call.configs call.plain));
-      left = sym (left_from_region new.config.to_do) ∙ ap regions_left call.behind ∙ left_from_region old.config.to_do ∙ b.left;
-      between = call.current ∙ b.between;
+      program_is = call.went.moved.program ∙ b.program_is;
+      input_is = call.went.moved.input ∙ b.input_is;
+      fuel_is = call.went.moved.fuel ∙ b.fuel_is;
+      passed = passed_on run (rest_of_run old) (rest_of_run new) (suc n) (suc n) (omega arith) b.passed call.went.events call.went.configs call.went.moved.run
+          (λ r h. starts_behind (rest_of_run old) (rest_of_run new) r call.went.events call.went.configs call.went.moved.run (off_plain_part r call.went.configs call.went.plain));
+      left = sym (left_from_region new.config.to_do) ∙ ap regions_left call.went.behind ∙ left_from_region old.config.to_do ∙ b.left;
+      between = call.went.current ∙ b.between;
       sound = call.spoiled ∙ b.sound;
     }
 
     plain_at : (end : PartEnd) (call : PartRun turns old new before after end) → next_part new ≡ part.Plain → part_of new.config.to_do ≡ part.Plain
-    plain_at end call e = ap (λ (o : Option ℕ). part_at o new.config.to_do) (sym (call.current ∙ b.between)) ∙ e
+    plain_at end call e = ap (λ (o : Option ℕ). part_at o new.config.to_do) (sym (call.went.current ∙ b.between)) ∙ e
 
     pub part_done : PartRun turns old new before after part_end.Done → Leads p input fuel run n new None
     part_done call = record { behind = part_behind part_end.Done call; over = call.stops.part }

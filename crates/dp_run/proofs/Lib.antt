@@ -6,6 +6,7 @@ pub mod Tops
 pub mod Passing
 pub mod Leading
 pub mod PartLemmas
+pub mod NativeLemmas
 pub mod HeadPlaces
 pub mod InOrder
 pub mod Reporting

@@ -29,9 +29,9 @@ use Rattle.dp_commit.proofs.Parts.{run_begins}
 -- The steps of a call print what was to come.
 pub part_to_come : (turns : ℕ) (old new : MachineState) (before after : List ℤ) (end : PartEnd) → PartRun turns old new before after end → before ++ to_come old ≡ after ++ to_come new
 part_to_come turns old new before after end call =
-    ap (λ (zs : List ℤ). before ++ zs) (prints_on (rest_of_run old) (rest_of_run new) call.events call.configs call.moved.run)
-    ∙ sym (append_assoc before (prints call.events) (to_come new))
-    ∙ ap (λ (zs : List ℤ). zs ++ to_come new) (sym call.moved.prints)
+    ap (λ (zs : List ℤ). before ++ zs) (prints_on (rest_of_run old) (rest_of_run new) call.went.events call.went.configs call.went.moved.run)
+    ∙ sym (append_assoc before (prints call.went.events) (to_come new))
+    ∙ ap (λ (zs : List ℤ). zs ++ to_come new) (sym call.went.moved.prints)
 
 -- Then some of what waits was written.
 module _ (old new : MachineState) (before after left : List ℤ) (told tells : Option (List ℕ)) (same : before ++ to_come old ≡ after ++ to_come new) where

@@ -10,6 +10,7 @@ mod stretch;
 
 pub use dp_commit::{Progress, Tally, Unwatched, Watch};
 pub use dp_epoch::CrewSize;
+pub use dp_meaning::{NativeCode, NoNativeCode};
 pub use parts::run_parts;
 pub use plain::run_plain;
 pub use prepared::PreparedProgram;

@@ -13,7 +13,7 @@ use dp_base::{End, RegionReport, Row};
 use dp_commit::{Tally, Watch};
 use dp_edge::{Gate, Sink, WriteFail};
 use dp_epoch::CrewSize;
-use dp_meaning::Machine;
+use dp_meaning::{Machine, NativeCode};
 use dp_prepared::PreparedRegion;
 use std::alloc::Global;
 use std::sync::Wait;
@@ -23,9 +23,10 @@ use std::time::Clock;
 /// Runs the plain part that comes next, if one does, and then the region of each plan with the plain part behind it, up to
 /// the run's end. Reports of the regions that are reached are appended. Without an end the run stands behind all of them: at
 /// the end of `main`, or before the next region.
-pub fn run_parts<'p, R: Threads + Wait + Clock + Sync, K: Sink, G: Gate, W: Watch>(
+pub fn run_parts<'p, R: Threads + Wait + Clock + Sync, N: NativeCode, K: Sink, G: Gate, W: Watch>(
     rt: &R,
     alloc: Global,
+    native: &N,
     regions: &[PreparedRegion<'_>],
     input: &'p [i64],
     mut machine: Machine<'p>,
@@ -49,12 +50,12 @@ pub fn run_parts<'p, R: Threads + Wait + Clock + Sync, K: Sink, G: Gate, W: Watc
     ensures before { OnErr result ((run : Run) (n : ℕ) → Ahead machine.entry.program (plans_in regions.now) input.now machine.entry.fuel run n machine.entry →
         FrontBefore (suc (n + length regions.now)) [] machine.entry (K.written sink.old) (K.written sink.new)) }
 {
-    if let Some(end) = run_plain(alloc, &mut machine, sink, tally)? {
+    if let Some(end) = run_plain(alloc, native, &mut machine, sink, tally)? {
         return Ok((machine, Some(end)));
     }
     for region in regions {
         let (next, end) = run_stretch(
-            rt, alloc, region, input, machine, size, reports, sink, gate, tally,
+            rt, alloc, native, region, input, machine, size, reports, sink, gate, tally,
         )?;
         machine = next;
         if let Some(end) = end {

@@ -12,7 +12,7 @@ use dp_base::{Cells, End, RegionReport, Row};
 use dp_commit::{Tally, Watch};
 use dp_edge::{Gate, Sink, WriteFail, write};
 use dp_epoch::CrewSize;
-use dp_meaning::Machine;
+use dp_meaning::{Machine, NativeCode};
 use dp_report::end_text;
 use dp_tree::Program;
 use std::alloc::Global;
@@ -34,9 +34,10 @@ pub struct RunOptions {
 /// Runs the program to its end or to the end of its fuel, each region under its plan, and writes the text of the run.
 ///
 /// Prints are written as the run goes on, so that memory doesn't grow with them.
-pub fn run_program<R: Threads + Wait + Clock + Sync, K: Sink, G: Gate, W: Watch>(
+pub fn run_program<R: Threads + Wait + Clock + Sync, N: NativeCode, K: Sink, G: Gate, W: Watch>(
     rt: &R,
     alloc: Global,
+    native: &N,
     prepared: &PreparedProgram<'_>,
     input: &[i64],
     options: RunOptions,
@@ -60,6 +61,7 @@ pub fn run_program<R: Threads + Wait + Clock + Sync, K: Sink, G: Gate, W: Watch>
     let (machine, end) = run_parts(
         rt,
         alloc,
+        native,
         prepared.regions(),
         input,
         machine,

@@ -16,7 +16,7 @@ use dp_commit::{Tally, Watch};
 use dp_crew::run_region;
 use dp_edge::{Gate, Sink, WriteFail};
 use dp_epoch::{CrewSize, RegionEnd, nothing_counted};
-use dp_meaning::Machine;
+use dp_meaning::{Machine, NativeCode};
 use dp_prepared::PreparedRegion;
 use std::alloc::Global;
 use std::sync::Wait;
@@ -24,9 +24,10 @@ use std::thread::Threads;
 use std::time::Clock;
 
 /// Runs the plan's region, which comes next, and the plain part behind it. Answers the run's end if that comes in them.
-pub fn run_stretch<'p, R: Threads + Wait + Clock + Sync, K: Sink, G: Gate, W: Watch>(
+pub fn run_stretch<'p, R: Threads + Wait + Clock + Sync, N: NativeCode, K: Sink, G: Gate, W: Watch>(
     rt: &R,
     alloc: Global,
+    native: &N,
     region: &PreparedRegion<'_>,
     input: &'p [i64],
     machine: Machine<'p>,
@@ -57,12 +58,13 @@ pub fn run_stretch<'p, R: Threads + Wait + Clock + Sync, K: Sink, G: Gate, W: Wa
         rt, alloc, region, input, machine, size, &mut told, sink, gate, tally,
     )?;
     reports.push(told)?;
-    finish_stretch(alloc, next, end, sink, tally)
+    finish_stretch(alloc, native, next, end, sink, tally)
 }
 
 /// Runs the plain part behind a region that ended so.
-fn finish_stretch<'p, K: Sink, W: Watch>(
+fn finish_stretch<'p, N: NativeCode, K: Sink, W: Watch>(
     alloc: Global,
+    native: &N,
     machine: Machine<'p>,
     end: RegionEnd,
     sink: &mut K,
@@ -79,7 +81,7 @@ fn finish_stretch<'p, K: Sink, W: Watch>(
 {
     let mut machine = machine;
     let end = match end {
-        RegionEnd::Closed => run_plain(alloc, &mut machine, sink, tally)?,
+        RegionEnd::Closed => run_plain(alloc, native, &mut machine, sink, tally)?,
         RegionEnd::Fault(fault) => Some(End::Fault(fault)),
         RegionEnd::Fuel => Some(End::Fuel),
     };

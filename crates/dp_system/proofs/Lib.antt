@@ -1,1 +1,2 @@
+pub mod OwnTexts
 pub mod KnownBytes

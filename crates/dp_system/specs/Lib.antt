@@ -1,1 +1,2 @@
 pub mod FileShelf
+pub mod OwnText

@@ -3,6 +3,8 @@
 
 mod file_shelf;
 mod out_sink;
+mod own_text;
 
 pub use file_shelf::FileShelf;
 pub use out_sink::OutSink;
+pub use own_text::OwnText;

@@ -8,7 +8,7 @@ mod tests;
 use dp_drive::drive;
 use dp_edge::OpenGate;
 use dp_messages::{Kept, Line, Shown, tell};
-use dp_run::Tally;
+use dp_run::{NoNativeCode, Tally};
 use dp_system::{FileShelf, OutSink};
 use std::io::{ErrorKind, IsTerminal};
 use std::process::ExitCode;
@@ -34,6 +34,7 @@ fn main(rt: HostRuntime) -> ExitCode {
     let status = drive(
         &rt,
         rt.alloc(),
+        &NoNativeCode,
         words.as_slice(),
         &mut files,
         &mut output,

@@ -138,7 +138,16 @@ fn answer_at<R: Abort + Threads + Wait + Clock + Sync, G: Gate>(
     let mut sink = MemSink::new(alloc, room);
     let mut tally = Tally::new(Unwatched);
     let words = list.as_slice();
-    let status = drive(rt, alloc, words, &mut shelf, &mut sink, gate, &mut tally);
+    let status = drive(
+        rt,
+        alloc,
+        &NoNativeCode,
+        words,
+        &mut shelf,
+        &mut sink,
+        gate,
+        &mut tally,
+    );
     let committed = tally.count();
     Ok(Answered {
         status,

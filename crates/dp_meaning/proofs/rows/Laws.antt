@@ -38,13 +38,13 @@ module _ (turns : ℕ) (old new : MachineState) (before after : List ℤ) where
   done_stands_at_the_next_region run = run.stops.rest
 
   parts_pass_no_region : (end : PartEnd) → PartRun turns old new before after end → from_region new.config.to_do ≡ from_region old.config.to_do
-  parts_pass_no_region end run = run.behind
+  parts_pass_no_region end run = run.went.behind
 
   parts_lead_to_the_runs_end : (end : PartEnd) → PartRun turns old new before after end → (rest_of_run old).end ≡ (rest_of_run new).end
-  parts_lead_to_the_runs_end end run = run.moved.run.end
+  parts_lead_to_the_runs_end end run = run.went.moved.run.end
 
-  parts_spend_fuel : (end : PartEnd) → (run : PartRun turns old new before after end) → (rest_of_run old).fuel ≡ length run.events + (rest_of_run new).fuel
-  parts_spend_fuel end run = run.moved.run.fuel
+  parts_spend_fuel : (end : PartEnd) → (run : PartRun turns old new before after end) → (rest_of_run old).fuel ≡ length run.went.events + (rest_of_run new).fuel
+  parts_spend_fuel end run = run.went.moved.run.fuel
 
   module _ (region : ℕ) where
     next_stands_at_the_region : IterationRun region turns old new before after iter_end.Next → new.config.to_do ≡ from_region old.config.to_do

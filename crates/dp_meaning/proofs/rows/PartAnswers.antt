@@ -18,12 +18,12 @@ module _ (turns : ℕ) (old : MachineState) (idle : old.current ≡ None) (befor
   no_step a made Fuel s none plain few some = no_event (rest_of_run a) _ a.config _ s.1.ends some
   no_step a made Going s none plain few some = let all = s.2 in absurd (omega (arith, few, all))
 
-  no_further : (a b : MachineState) (y z : List ℤ) (end how : PartEnd) (r : PartRun turns old a before y end) (s : PartRun turns old b before z how) → length r.events < length s.events → ⊥
+  no_further : (a b : MachineState) (y z : List ℤ) (end how : PartEnd) (r : PartRun turns old a before y end) (s : PartRun turns old b before z how) → length r.went.events < length s.went.events → ⊥
   no_further a b y z end how r s h =
-      let k = further old a b before y z r.events s.events r.configs s.configs r.moved s.moved h in
-      let plain = All-head IsPlain a.config k.configs (behind_all IsPlain r.configs (a.config ∷ k.configs) (subst (All IsPlain) k.configs_are s.plain)) in
+      let k = further old a b before y z r.went.events s.went.events r.went.configs s.went.configs r.went.moved s.went.moved h in
+      let plain = All-head IsPlain a.config k.configs (behind_all IsPlain r.went.configs (a.config ∷ k.configs) (subst (All IsPlain) k.configs_are s.went.plain)) in
       let w = s.within in
-      no_step a (length r.events) end r.stops (r.current ∙ idle) plain (omega (arith, h, w)) k.some
+      no_step a (length r.went.events) end r.stops (r.went.current ∙ idle) plain (omega (arith, h, w)) k.some
 
   same_end : (m : MachineState) (made : ℕ) (end how : PartEnd) → PartStops turns made old m end → PartStops turns made old m how → end ≡ how
   same_end m made Done Done r s = refl
@@ -46,20 +46,20 @@ module _ (turns : ℕ) (old : MachineState) (idle : old.current ≡ None) (befor
       prints : z ≡ y
       ends : end ≡ how
 
-    as_long : length r.events ≡ length s.events → OneAnswer
+    as_long : length r.went.events ≡ length s.went.events → OneAnswer
     as_long e =
-        let k = alike old a b before y z r.events s.events r.configs s.configs r.moved s.moved e in
-        let but = same_but old a b before y z r.events s.events r.configs s.configs r.moved s.moved k in
-        let same = same_machine a b but (r.current ∙ sym s.current) (r.spoiled ∙ sym s.spoiled) in
+        let k = alike old a b before y z r.went.events s.went.events r.went.configs s.went.configs r.went.moved s.went.moved e in
+        let but = same_but old a b before y z r.went.events s.went.events r.went.configs s.went.configs r.went.moved s.went.moved k in
+        let same = same_machine a b but (r.went.current ∙ sym s.went.current) (r.spoiled ∙ sym s.spoiled) in
         record {
           machine = same;
-          prints = same_prints old a b before y z r.events s.events r.configs s.configs r.moved s.moved k;
-          ends = same_end b (length r.events) end how (subst (λ (m : MachineState). PartStops turns (length r.events) old m end) same r.stops)
+          prints = same_prints old a b before y z r.went.events s.went.events r.went.configs s.went.configs r.went.moved s.went.moved k;
+          ends = same_end b (length r.went.events) end how (subst (λ (m : MachineState). PartStops turns (length r.went.events) old m end) same r.stops)
               (subst (λ (n : ℕ). PartStops turns n old b how) (sym e) s.stops);
         }
 
     one_answer : OneAnswer
-    one_answer = elim (cases_order (length r.events) (length s.events)) [
+    one_answer = elim (cases_order (length r.went.events) (length s.went.events)) [
       | inl e ↦ as_long e
       | inr (inl h) ↦ absurd (no_further a b y z end how r s h)
       | inr (inr h) ↦ absurd (no_further b a z y how end s r h)

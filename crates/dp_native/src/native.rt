@@ -1,0 +1,90 @@
+//! Native code of a program in the place of its machine.
+ghost use Rattle.std.specs.Prelude.{◌≡◌, OnOk};
+ghost use Rattle.dp_tree.specs.Inlined.{IsInlined};
+ghost use Rattle.dp_meaning.specs.declared.ends.Part.TheVariants.{Plain};
+ghost use Rattle.dp_meaning.specs.MachineState.{next_part};
+ghost use Rattle.dp_meaning.specs.PartRun.{PartMoved};
+
+use crate::program::{Entry, NativeProgram};
+use dp_base::{Cells, NoMemory, Row};
+use dp_meaning::{Machine, NativeCode, PartEnd};
+use std::alloc::Global;
+
+/// The most steps that the machine makes one by one up to a place where native code goes on.
+const NEAR: u32 = 4096;
+
+/// A program's native code, which goes on with the plain parts of its runs. Other programs are left to the machine.
+#[derive(Drop)]
+pub struct Native<P> {
+    program: P,
+}
+
+impl<P: NativeProgram> Native<P> {
+    pub fn new(program: P) -> Native<P>
+        ensures { result ≡ record { program = program } }
+    {
+        Native { program }
+    }
+}
+
+impl<P: NativeProgram> NativeCode for Native<P> {
+    fn go_on(
+        &self,
+        alloc: Global,
+        machine: &mut Machine<'_>,
+        out: &mut Row<i64>,
+    ) -> Result<(), NoMemory> {
+        if self.program.is(machine.program()) {
+            approach(&self.program, alloc, machine, out)
+        } else {
+            Ok(())
+        }
+    }
+}
+
+/// Lets the machine step up to where native code goes on, and goes on there.
+fn approach<P: NativeProgram>(
+    program: &P,
+    alloc: Global,
+    machine: &mut Machine<'_>,
+    out: &mut Row<i64>,
+) -> Result<(), NoMemory>
+    requires part { next_part machine.old ≡ Plain }
+    requires inlined { IsInlined machine.old.program }
+    requires suits { P.suits program.now machine.old.program }
+    ensures moved { PartMoved machine.old machine.new out.old out.new }
+    ensures spoiled { OnOk result (machine.new.spoiled ≡ machine.old.spoiled) }
+{
+    'steps: for _step in 0..NEAR {
+        match program.entry(machine.place()) {
+            Entry::Here => {
+                leap(program, alloc, machine, out);
+                return Ok(());
+            }
+            Entry::Near => {}
+            Entry::Far => return Ok(()),
+        }
+        match machine.run_part(1, out)? {
+            PartEnd::Going => {}
+            _ => return Ok(()),
+        }
+    }
+    Ok(())
+}
+
+/// Goes on in native code from where the machine stands. Where memory is wanting for that, nothing is done.
+fn leap<P: NativeProgram>(program: &P, alloc: Global, machine: &mut Machine<'_>, out: &mut Row<i64>)
+    requires part { next_part machine.old ≡ Plain }
+    requires inlined { IsInlined machine.old.program }
+    requires suits { P.suits program.now machine.old.program }
+    ensures moved { PartMoved machine.old machine.new out.old out.new }
+    ensures spoiled { machine.new.spoiled ≡ machine.old.spoiled }
+{
+    let Ok(mut cells) = Vec::from_slice(alloc, machine.cells().as_slice()) else {
+        return;
+    };
+    let fuel = machine.fuel() - machine.steps();
+    let input = machine.input();
+    let (place, left) = program.run(machine.place(), input, cells.as_mut_slice(), fuel, out);
+    machine.stand(place, Cells::from_values(alloc, cells), fuel - left);
+}
