@@ -15,6 +15,7 @@ pub mod TurnLemmas
 pub mod PlainLemmas
 pub mod MovedLemmas
 pub mod WatchedLemmas
+pub mod WatchedIteration
 pub mod StretchLemmas
 pub mod StretchEnds
 pub mod SkipLemmas
