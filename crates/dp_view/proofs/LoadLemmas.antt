@@ -10,7 +10,7 @@ use Rattle.dp_semantics.specs.LoadedCells.{load_from, loaded_cells}
 use Rattle.dp_semantics.proofs.Setting.{Goes, event_of, goes, stays}
 use Rattle.dp_theorem.proofs.LoadedCells.{cells_tell_loads}
 use Rattle.dp_theorem.proofs.Runs.{is_step, run_first, run_step, step_on}
-use Rattle.dp_auditor.specs.Heard.{LoadsFrom}
+use Rattle.dp_view.specs.Heard.{LoadsFrom}
 
 module _ (p : Program) (input : List ℤ) where
   no_call : (cells : List ℤ) (h : Stmt-F Stmt) (v : WithLoads Effect) → evaluated p input cells h ≡ Ok v → is_step h ≡ true

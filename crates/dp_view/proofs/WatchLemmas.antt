@@ -9,7 +9,7 @@ use Rattle.dp_meaning.specs.MachineState.{MachineState, rest_of_run}
 use Rattle.dp_meaning.specs.Watched.{Watches, effect_seen}
 use Rattle.dp_meaning.specs.declared.sight.Effect.{Effect}
 use Rattle.dp_view.specs.Viewed.{Viewed, after_all, after_event, effect_of, event_told, noticed}
-use Rattle.dp_auditor.specs.Heard.{Comes, LoadsFrom}
+use Rattle.dp_view.specs.Heard.{Comes, LoadsFrom}
 
 effect_back : (e : event.Effect) → effect_of (effect_seen e) ≡ e
 effect_back (event.Stored cell value) = refl
