@@ -1,15 +1,10 @@
 -- Native code in the machine's place.
-use Rattle.std.proofs.Common.{◌≡◌, sym, ap, ◌∙◌, subst, ℕ, ◌-◌, List, [], ◌∷◌, ◌++◌, append-nil, drop, take, take_all, length, ℤ, All, arith}
-use Rattle.std.proofs.lemmas.List.Elements.{All-nil}
+use Rattle.std.proofs.Common.{◌≡◌, sym, ap, ◌∙◌, subst, ℕ, ◌-◌, List, ◌++◌, append-nil, drop, take, take_all, length, ℤ, arith}
 use Rattle.std.proofs.lemmas.List.{drop_all}
 use Rattle.dp_tree.specs.Step.{Config, standing}
-use Rattle.dp_meaning.specs.declared.ends.Part.TheVariants.{Plain}
-use Rattle.dp_meaning.specs.MachineState.{MachineState, next_part, part_of}
-use Rattle.dp_meaning.specs.Moved.{Spoiled}
-use Rattle.dp_meaning.specs.PartRun.{PartMoved}
+use Rattle.dp_meaning.specs.MachineState.{MachineState}
 use Rattle.dp_meaning.specs.Places.{config_at, rest_at}
 use Rattle.dp_meaning.specs.steps.PlainSteps.{PlainSteps}
-use Rattle.dp_meaning.proofs.StopLemmas.{plain_idle}
 use Rattle.dp_native.specs.Reaches.{Reaches}
 
 -- what native code reached, as steps of the machine

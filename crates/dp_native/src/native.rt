@@ -28,6 +28,7 @@ impl<P: NativeProgram> Native<P> {
 }
 
 impl<P: NativeProgram> NativeCode for Native<P> {
+    #[tactic(auto, using(dp_meaning::proofs::PartLemmas::part_unmoved))]
     fn go_on(
         &self,
         alloc: Global,

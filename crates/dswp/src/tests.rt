@@ -41,7 +41,7 @@ use cases::{cut, filled};
 use dp_base::{NoMemory, Row};
 use dp_drive::drive;
 use dp_edge::{Gate, Held, MemShelf, MemSink, OpenGate};
-use dp_run::{Tally, Unwatched};
+use dp_run::{NoNativeCode, Tally, Unwatched};
 use library::LIBRARY;
 use std::alloc::Global;
 use std::process::Abort;
