@@ -70,7 +70,7 @@ fn run_behind<'p, R: Threads + Wait + Clock + Sync, K: Sink, G: Gate>(
     let left = regions_behind(prepared, region);
     let (mut told, mut tally) = (reports, Tally::new(Unwatched));
     let (machine, end) = run_parts(
-        rt, alloc, left, input, machine, size, &mut told, sink, gate, &mut tally,
+        rt, alloc, left, input, machine, size, false, &mut told, sink, gate, &mut tally,
     )?;
     finish(alloc, program, machine, told, end_of(end), sink)
 }

@@ -48,7 +48,7 @@ pub fn resume_program<R: Threads + Wait + Clock + Sync, K: Sink, G: Gate, W: Wat
     let machine = Machine::at_region(alloc, program, input, fuel, region, cells, steps)?;
     let mut told = Row::new(alloc);
     let (machine, end) = run_parts(
-        rt, alloc, left, input, machine, size, &mut told, sink, gate, tally,
+        rt, alloc, left, input, machine, size, false, &mut told, sink, gate, tally,
     )?;
     let end = end_of(end);
     let reports = merged(saved, told)?;

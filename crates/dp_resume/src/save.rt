@@ -170,7 +170,7 @@ pub fn save_program<R: Threads + Wait + Clock + Sync, K: Sink, G: Gate>(
     let mut told = Row::new(alloc);
     let mut tally = Tally::new(Unwatched);
     let (machine, end) = run_parts(
-        rt, alloc, before, input, machine, size, &mut told, sink, gate, &mut tally,
+        rt, alloc, before, input, machine, size, false, &mut told, sink, gate, &mut tally,
     )?;
     match end {
         Some(end) => finish(alloc, program, machine, told, end, sink),

@@ -21,7 +21,7 @@ use std::thread::Threads;
 use std::time::Clock;
 
 /// Runs the plain part that comes next, if one does, and then the region of each plan with the plain part behind it, up to
-/// the run's end. Reports of the regions that are reached are appended. Without an end the run stands behind all of them: at
+/// the run's end. Reports of the regions that are reached are appended, with causes where `why` asks for them. Without an end the run stands behind all of them: at
 /// the end of `main`, or before the next region.
 pub fn run_parts<'p, R: Threads + Wait + Clock + Sync, K: Sink, G: Gate, W: Watch>(
     rt: &R,
@@ -30,6 +30,7 @@ pub fn run_parts<'p, R: Threads + Wait + Clock + Sync, K: Sink, G: Gate, W: Watc
     input: &'p [i64],
     mut machine: Machine<'p>,
     size: CrewSize,
+    why: bool,
     reports: &mut Row<RegionReport>,
     sink: &mut K,
     gate: &G,
@@ -43,7 +44,7 @@ pub fn run_parts<'p, R: Threads + Wait + Clock + Sync, K: Sink, G: Gate, W: Watc
     requires room { tally.old < 2 ^ 63 }
     ensures faults { FaultsAfter result (K.faults sink.old) (K.faults sink.new) }
     ensures ok { IfOk result (λ ran. (run : Run) (n : ℕ) → Ahead machine.entry.program (plans_in regions.now) input.now machine.entry.fuel run n machine.entry →
-        Went machine.entry.program (plans_in regions.now) input.now machine.entry.fuel run n ran.0 ran.1 reports.old reports.new tally.old tally.new) }
+        Went why machine.entry.program (plans_in regions.now) input.now machine.entry.fuel run n ran.0 ran.1 reports.old reports.new tally.old tally.new) }
     ensures written { IfOk result (λ ran. Emits (to_come machine.entry) (to_come ran.0) (K.written sink.old) (K.written sink.new)) }
     ensures front { OnErr result (WritesFront (prints_bytes (to_come machine.entry)) (K.written sink.old) (K.written sink.new)) }
     ensures before { OnErr result ((run : Run) (n : ℕ) → Ahead machine.entry.program (plans_in regions.now) input.now machine.entry.fuel run n machine.entry →
@@ -54,7 +55,7 @@ pub fn run_parts<'p, R: Threads + Wait + Clock + Sync, K: Sink, G: Gate, W: Watc
     }
     for region in regions {
         let (next, end) = run_stretch(
-            rt, alloc, region, input, machine, size, reports, sink, gate, tally,
+            rt, alloc, region, input, machine, size, why, reports, sink, gate, tally,
         )?;
         machine = next;
         if let Some(end) = end {

@@ -64,6 +64,7 @@ pub fn run_program<R: Threads + Wait + Clock + Sync, K: Sink, G: Gate, W: Watch>
         input,
         machine,
         options.size,
+        options.why,
         &mut told,
         sink,
         gate,
