@@ -77,6 +77,7 @@ fn run_behind<'p, R: Threads + Wait + Clock + Sync, K: Sink, G: Gate>(
         input,
         machine,
         size,
+        false,
         &mut told,
         sink,
         gate,

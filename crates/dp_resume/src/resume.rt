@@ -55,6 +55,7 @@ pub fn resume_program<R: Threads + Wait + Clock + Sync, K: Sink, G: Gate, W: Wat
         input,
         machine,
         size,
+        false,
         &mut told,
         sink,
         gate,

@@ -187,6 +187,7 @@ pub fn save_program<R: Threads + Wait + Clock + Sync, K: Sink, G: Gate>(
         input,
         machine,
         size,
+        false,
         &mut told,
         sink,
         gate,

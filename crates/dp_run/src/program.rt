@@ -66,6 +66,7 @@ pub fn run_program<R: Threads + Wait + Clock + Sync, N: NativeCode, K: Sink, G: 
         input,
         machine,
         options.size,
+        options.why,
         &mut told,
         sink,
         gate,

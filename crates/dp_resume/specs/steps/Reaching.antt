@@ -43,7 +43,7 @@ pub record EndsBefore (p : Program) (plan : Plan) (first last : MachineState) (n
 -- where the next iteration behind n of them leads
 abbrev pub Steps : Program → Plan → List ℤ → MachineState → ℕ → Runner → Option RegionEnd → Type 0
 Steps p plan input first n r None = Stands p plan input first (n + 1) r
-Steps p plan input first n r (Some end) = EndsBefore p plan first (machine_of r) (n + 1) r.ledger.report end
+Steps p plan input first n r (Some end) = EndsBefore p plan first (machine_of r) (n + 1) r.ledger.account.report end
 
 -- The first n iterations were made, and the machine stands before the next one.
 pub record StandsBefore (plan : Plan) (first last : MachineState) (n : ℕ) (report : RegionReport) : Type 0 where

@@ -65,6 +65,7 @@ fn pipeline_of<'u>(
                 base: &base,
                 steps: 0,
                 fuel: 1_000,
+                tells_stages: false,
             };
             Pipeline::new(alloc, region, &WORDS, begin, size, setter)
         }
@@ -83,7 +84,7 @@ fn all_clean<R: Wait + Clock>(rt: &R, verdicts: &mut LaneVerdicts<'_>, count: u3
                     return place + 1 == count;
                 }
             }
-            Verdict::Unclean(_) | Verdict::NoMemory => return false,
+            Verdict::Unclean | Verdict::NoMemory => return false,
         }
     }
     false

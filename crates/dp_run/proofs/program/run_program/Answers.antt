@@ -37,7 +37,7 @@ write_end-requires-clause-explained g c why_asked =
     let p = c.args.prepared.now.program in let plans = c.args.prepared.now.plans in let input = c.args.input.now in let fuel = c.args.options.fuel in let why = c.args.options.why in let given = c.program-program.ensures.given in
     let last = c.in_ok-machine-2.machine in let end = c.end_of-end.result in let reports = c.run_parts.new.reports in let before = c.args.tally.now in let now = c.run_parts.new.tally in
     let done = finished_there p plans input fuel why given c.program-program.result.now c.program-program.ensures.program c.in_ok-machine.machine c.in_ok-machine.ensures c.regions.result.now c.regions.ensures last c.in_ok-machine-2.end end c.new-told.result reports before now c.new-told.ensures c.end_of-end.ensures c.in_ok-machine-2.ensures.ok in
-    all_explained p plans input fuel why given last end reports before now done
+    all_explained p plans input fuel why given last end reports before now done why_asked
 
 pub returns-in_err-write_end-clause-err : goal.returns-in_err-write_end-clause-err
 returns-in_err-write_end-clause-err g c =
