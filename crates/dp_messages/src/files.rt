@@ -1,6 +1,6 @@
 //! The files that words name.
 use dp_refusal::Role;
-use dp_words::{PlanSource, RunWords, Task};
+use dp_words::{PlanSource, PlanWords, RunWords, Task};
 
 /// The names of a task's files, where it has them.
 #[derive(Clone, Copy)]
@@ -33,11 +33,10 @@ impl<'w> Files<'w> {
 pub fn files_of<'w>(task: &Task<'w>) -> Files<'w> {
     match task {
         Task::Run(run) => run_files(*run),
-        Task::Plan(plan) | Task::Explain(plan) => Files {
-            profile: plan.profile,
-            ..program_file(plan.program)
-        },
-        Task::Check(program) | Task::Tree(program) => program_file(program),
+        Task::Plan(plan) => plan_files(*plan),
+        Task::Explain(plan) => plan_files(*plan),
+        Task::Check(program) => program_file(program),
+        Task::Tree(program) => program_file(program),
         Task::Profile(profile) => Files {
             input: profile.input,
             ..program_file(profile.program)
@@ -100,6 +99,13 @@ fn program_file(program: &str) -> Files<'_> {
     Files {
         program: Some(program),
         ..NO_FILES
+    }
+}
+
+fn plan_files(plan: PlanWords<'_>) -> Files<'_> {
+    Files {
+        profile: plan.profile,
+        ..program_file(plan.program)
     }
 }
 
