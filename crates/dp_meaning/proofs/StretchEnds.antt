@@ -32,10 +32,10 @@ module _ (turns : ℕ) (old new : MachineState) (x z : List ℤ) (next : next_pa
       plain = all_plain old.config s.configs (sym (part_idle old idle) ∙ next) s.heads;
       behind = behind;
       current = current ∙ sym idle;
+      spoiled = s.spoiled;
     };
     within = s.within;
     stops = stops;
-    spoiled = s.spoiled;
   }
 
   still_idle : next_part new ≡ next_part old → new.current ≡ None

@@ -27,10 +27,10 @@ pub record PartMoved (old new : MachineState) (before after : List ℤ) : Type 0
   pub plain : All (λ c. part_of c.to_do ≡ Plain) configs
   pub behind : from_region new.config.to_do ≡ from_region old.config.to_do
   pub current : new.current ≡ old.current
+  pub spoiled : new.spoiled ≡ old.spoiled
 
 -- The call makes the steps of the part, at most so many, and answers why it stops.
 pub record PartRun (turns : ℕ) (old new : MachineState) (before after : List ℤ) (end : PartEnd) : Type 0 where
   pub went : PartMoved old new before after
   pub within : length went.events ≤ turns
   pub stops : PartStops turns (length went.events) old new end
-  pub spoiled : new.spoiled ≡ old.spoiled

@@ -50,7 +50,7 @@ module _ (turns : ℕ) (old : MachineState) (idle : old.current ≡ None) (befor
     as_long e =
         let k = alike old a b before y z r.went.events s.went.events r.went.configs s.went.configs r.went.moved s.went.moved e in
         let but = same_but old a b before y z r.went.events s.went.events r.went.configs s.went.configs r.went.moved s.went.moved k in
-        let same = same_machine a b but (r.went.current ∙ sym s.went.current) (r.spoiled ∙ sym s.spoiled) in
+        let same = same_machine a b but (r.went.current ∙ sym s.went.current) (r.went.spoiled ∙ sym s.went.spoiled) in
         record {
           machine = same;
           prints = same_prints old a b before y z r.went.events s.went.events r.went.configs s.went.configs r.went.moved s.went.moved k;
