@@ -24,14 +24,14 @@ use Rattle.dp_net.proofs.Texts.{Text}
 use Rattle.dp_net.proofs.BlockPlaces.{run_quiet}
 use Rattle.dp_net.proofs.BlockTexts.{stmt_text}
 use Rattle.dp_net.proofs.HiddenCells.{is_sound, is_clear, all_sound, hidden_local, ready_all}
-use Rattle.dp_net.specs.NetItems.{item_list}
 use Rattle.dp_net.specs.Batches.{BatchesAreRight, BatchesEnd, EndsStay, batch_begin, batch_size, ends_batch}
 use Rattle.dp_semantics.specs.EpochVerdicts.{goes_on}
 use Rattle.dp_net.proofs.BatchVerdicts.{batch_right}
 use Rattle.dp_net.proofs.BatchEnds.{ends_there}
 use Rattle.dp_net.proofs.NetSent.{ends_stay}
 use Rattle.dp_net.specs.NetPackets.{net_passed}
-use Rattle.dp_net.specs.Follows.{Follows, ItemsFollow, is_void}
+use Rattle.dp_net.specs.Follows.{PacketFollows, ItemsFollow, TextsNest, is_void}
+use Rattle.dp_net.proofs.Projections.{earlier_part}
 use Rattle.dp_net.proofs.PacketsFollow.{packet_follows}
 use Rattle.dp_net.proofs.Sent.{Quieted}
 use Rattle.dp_net.proofs.StrictEpochs.{clean_to}
@@ -133,7 +133,8 @@ module _ (p : Program) (plan : Plan) where
     accesses_are = ap (λ (xs : List Stmt). flat_map accesses xs) ok.region ∙ append-nil (accesses ok.statement)
 
     steady_text : (s : ℕ) → list_all (all_sound p plan) (project_all p plan s (region_statement p plan)) ≡ true
-    steady_text s = ap (λ (xs : List Stmt). list_all (all_sound p plan) (project_all p plan s xs)) ok.region ∙ ap (list_all (all_sound p plan)) (append-nil (project p plan s ok.statement))
+    steady_text s = ap (λ (xs : List Stmt). list_all (all_sound p plan) (project_all p plan s xs)) ok.region
+        ∙ ap (list_all (all_sound p plan)) (append-nil (project p plan s ok.statement))
         ∙ projected_sound p plan s ok.statement (subst (λ (l : List Access). Each (λ a. is_sound p plan a ≡ true) l) accesses_are region_sound)
 
     module _ (pays : List Stmt → Bool) (k : ℕ) (up : Ascends k (map site_in (region_accesses p plan))) where
@@ -155,11 +156,14 @@ module _ (p : Program) (plan : Plan) where
       whole_text : (s : ℕ) → Text (marks_of p plan pays) (project_all p plan s (region_statement p plan))
       whole_text s = subst (λ (xs : List Stmt). Text (marks_of p plan pays) (project_all p plan s xs)) (sym ok.region) (subst (Text (marks_of p plan pays)) (sym (append-nil (project p plan s ok.statement)))
           (stmt_text p plan (marks_of p plan pays) s out_of pays ok.statement k up_there
-          (λ some. at_region k ∙ ap (λ (b : Bool). if b then [] else sought_inside p plan pays k ok.statement) (eq-eqb k (own_site p plan ok.statement) (sym first_is)))
-          (λ f low high. at_region f ∙ ap (λ (b : Bool). if b then [] else sought_inside p plan pays f ok.statement) (ne_eqb f (own_site p plan ok.statement) (λ e. omega (arith, e, first_is, low))))))
+          (λ some. at_region k
+          ∙ ap (λ (b : Bool). if b then [] else sought_inside p plan pays k ok.statement) (eq-eqb k (own_site p plan ok.statement) (sym first_is)))
+          (λ f low high. at_region f
+          ∙ ap (λ (b : Bool). if b then [] else sought_inside p plan pays f ok.statement) (ne_eqb f (own_site p plan ok.statement) (λ e. omega (arith, e, first_is, low))))))
 
 -- So it is in each epoch.
-pub quieted : (key : EpochKey) → fits_plan key.program key.plan ≡ true → (k : ℕ) → Ascends k (map site_in (region_accesses key.program key.plan)) → (pays : List Stmt → Bool) → Quieted (epoch_of key) (marks_of key.program key.plan pays) (all_sound key.program key.plan)
+pub quieted : (key : EpochKey) → fits_plan key.program key.plan ≡ true → (k : ℕ) → Ascends k (map site_in (region_accesses key.program key.plan)) →
+    (pays : List Stmt → Bool) → Quieted (epoch_of key) (marks_of key.program key.plan pays) (all_sound key.program key.plan)
 quieted key fits k up pays =
     let ok = accepted key.program key.plan fits in
     record {
@@ -172,7 +176,8 @@ quieted key fits k up pays =
 
 -- In each epoch of a program and a plan that fits it, and whichever runs are taken for blocks, the verdicts by items say what the definition's verdicts say,
 -- and the judging and the search for causes stand where the definition's do.
-pub net_is_right : (key : EpochKey) → fits_plan key.program key.plan ≡ true → (k : ℕ) → Ascends k (map site_in (region_accesses key.program key.plan)) → (pays : List Stmt → Bool) → (n : ℕ) → GoesOnTo key n →
+pub net_is_right : (key : EpochKey) → fits_plan key.program key.plan ≡ true → (k : ℕ) →
+    Ascends k (map site_in (region_accesses key.program key.plan)) → (pays : List Stmt → Bool) → (n : ℕ) → GoesOnTo key n →
     NetAgrees (marks_of key.program key.plan pays) key n
 net_is_right key fits k up pays n goes =
     let ok = accepted key.program key.plan fits in
@@ -194,7 +199,8 @@ net_right p plan inlined fits key same_program same_plan pays n goes =
     let up = numbered p plan inlined ok in
     by key same_program same_plan goes up.0 up.1
   where
-    by : (key : EpochKey) → key.program ≡ p → key.plan ≡ plan → GoesOnTo key n → (k : ℕ) → Ascends k (map site_in (region_accesses p plan)) → NetAgrees (marks_of p plan pays) key n
+    by : (key : EpochKey) → key.program ≡ p → key.plan ≡ plan → GoesOnTo key n → (k : ℕ) → Ascends k (map site_in (region_accesses p plan)) →
+        NetAgrees (marks_of p plan pays) key n
     by key e f goes k up =
         subst (λ (q : Program). NetAgrees (marks_of q plan pays) key n) e (subst (λ (r : Plan). NetAgrees (marks_of key.program r pays) key n) f (net_is_right key (rw (e, f) fits) k (rw (e, f) up) pays n goes))
 
@@ -206,12 +212,15 @@ items_follow p plan inlined fits key same_program same_plan pays s n low = by ke
 
     Goal : Program → Plan → EpochKey → Type 0
     Goal p plan key = is_void (net_passed (marks_of p plan pays) (epoch_of key) s n).packet.status ≡ false →
-        Follows p plan (marks_of p plan pays) (project_all p plan s (region_statement p plan)) (item_list (net_passed (marks_of p plan pays) (epoch_of key) s n).packet.lists)
+        PacketFollows p plan (marks_of p plan pays) s (net_passed (marks_of p plan pays) (epoch_of key) s n).packet
 
     by : (key : EpochKey) → key.program ≡ p → key.plan ≡ plan → (k : ℕ) → Ascends k (map site_in (region_accesses p plan)) → Goal p plan key
     by key e f k up =
         subst (λ (q : Program). Goal q plan key) e (subst (λ (r : Plan). Goal key.program r key) f
         (packet_follows (quieted key (rw (e, f) fits) k (rw (e, f) up) pays) (accepted key.program key.plan (rw (e, f) fits)) s n low))
+
+pub texts_nest : (p : Program) (plan : Plan) → fits_plan p plan ≡ true → TextsNest p plan
+texts_nest p plan fits s t low early = earlier_part (accepted p plan fits) s t low early
 
 pub batches_right : (p : Program) (plan : Plan) → IsInlined p → fits_plan p plan ≡ true → BatchesAreRight p plan
 batches_right p plan inlined fits key same_program same_plan pays cap b goes =
@@ -224,7 +233,8 @@ batches_end p plan inlined fits key same_program same_plan pays n goes = by key 
     up = numbered p plan inlined (accepted p plan fits)
 
     Goal : Program → Plan → EpochKey → Type 0
-    Goal p plan key = ends_batch (net_passed (marks_of p plan pays) (epoch_of key) (length plan.stages) n).packet ≡ true → goes_on (net_verdict_at (marks_of p plan pays) key n) ≡ false
+    Goal p plan key = ends_batch (net_passed (marks_of p plan pays) (epoch_of key) (length plan.stages) n).packet ≡ true →
+        goes_on (net_verdict_at (marks_of p plan pays) key n) ≡ false
 
     by : (key : EpochKey) → key.program ≡ p → key.plan ≡ plan → GoesOnTo key n → (k : ℕ) → Ascends k (map site_in (region_accesses p plan)) → Goal p plan key
     by key e f goes k up =

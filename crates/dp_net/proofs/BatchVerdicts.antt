@@ -35,7 +35,8 @@ module _ (key : EpochKey) where
     size = length-set a i z ∙ ab.size ∙ sym (length-set b i z);
     same = λ c outer. elim (cases_eq i c) [
       | inl here ↦ elim (cases_lt i (length a)) [
-        | inl within ↦ get_or-set_at a i c z (pos 0) (sym here) within ∙ sym (get_or-set_at b i c z (pos 0) (sym here) (let e = ab.size in omega (arith, e, within)))
+        | inl within ↦ get_or-set_at a i c z (pos 0) (sym here) within
+            ∙ sym (get_or-set_at b i c z (pos 0) (sym here) (let e = ab.size in omega (arith, e, within)))
         | inr past ↦ beyond a i z c past ∙ ab.same c outer ∙ sym (beyond b i z c (let e = ab.size in omega (arith, e, past)))
       ]
       | inr other ↦ get_or-set_other a i c z (pos 0) (λ e. other (sym e)) ∙ ab.same c outer ∙ sym (get_or-set_other b i c z (pos 0) (λ e. other (sym e)))
@@ -70,11 +71,13 @@ module _ (key : EpochKey) where
   left_join : (a b : List StoreOf) (cells : List ℤ) → left_behind key (a ++ b) cells ≡ left_behind key b (left_behind key a cells)
   left_join a b cells = ap clear (stores_join a b cells) ∙ sym (clear_between b (with_stores a cells))
 
-  left_alike : (a b c d : List StoreOf) → ((cells : List ℤ) → left_behind key c cells ≡ left_behind key a cells) → ((cells : List ℤ) → left_behind key d cells ≡ left_behind key b cells) →
+  left_alike : (a b c d : List StoreOf) → ((cells : List ℤ) → left_behind key c cells ≡ left_behind key a cells) →
+      ((cells : List ℤ) → left_behind key d cells ≡ left_behind key b cells) →
       (cells : List ℤ) → left_behind key (c ++ d) cells ≡ left_behind key (a ++ b) cells
   left_alike a b c d one two cells = left_join c d cells ∙ ap (left_behind key d) (one cells) ∙ two (left_behind key a cells) ∙ sym (left_join a b cells)
 
-  front_agrees : (v w : Carried) (a b : BatchVerdict) → SaysTheSame key (Commit v) (Commit w) → BatchAgrees key a b → BatchAgrees key (with_front v a) (with_front w b)
+  front_agrees : (v w : Carried) (a b : BatchVerdict) → SaysTheSame key (Commit v) (Commit w) → BatchAgrees key a b →
+      BatchAgrees key (with_front v a) (with_front w b)
   front_agrees v w a b same rest = record {
     iterations = ap suc rest.iterations;
     prints = ap (λ (zs : List ℤ). zs ++ b.prints) same.0 ∙ ap (λ (zs : List ℤ). v.prints ++ zs) rest.prints;
@@ -94,7 +97,8 @@ module _ (key : EpochKey) where
 
   module _ (m : Marks) (agrees : (n : ℕ) → GoesOnTo key n → NetAgrees m key n) where
     -- The verdicts on several iterations come to the same together.
-    pub together_agrees : (n k : ℕ) → GoesOnTo key k → BatchAgrees key (together (map (verdict_at key) (numbers_from k n))) (together (map (net_verdict_at m key) (numbers_from k n)))
+    pub together_agrees : (n k : ℕ) → GoesOnTo key k →
+        BatchAgrees key (together (map (verdict_at key) (numbers_from k n))) (together (map (net_verdict_at m key) (numbers_from k n)))
     together_agrees zero k goes = nothing_agrees BatchGoesOn BatchGoesOn refl
     together_agrees (suc n) k goes = by (verdict_at key k) (net_verdict_at m key k) refl (let r = agrees k goes in r.verdict) (λ on. together_agrees n (k + 1) (goes_further k goes on))
       where
@@ -104,12 +108,15 @@ module _ (key : EpochKey) where
         rest_net : List Verdict
         rest_net = map (net_verdict_at m key) (numbers_from (k + 1) n)
 
-        by_closing : (v w : Carried) → SaysTheSame key (Commit v) (Commit w) → (c : Bool) → v.closing ≡ c → (c ≡ false → BatchAgrees key (together rest) (together rest_net)) →
+        by_closing : (v w : Carried) → SaysTheSame key (Commit v) (Commit w) → (c : Bool) → v.closing ≡ c →
+            (c ≡ false → BatchAgrees key (together rest) (together rest_net)) →
             BatchAgrees key (if c then nothing_but BatchCloses else together rest) (if w.closing then nothing_but BatchCloses else together rest_net)
         by_closing v w same true e go = rw (same.2, e) (nothing_agrees BatchCloses BatchCloses refl)
         by_closing v w same false e go = rw (same.2, e) (go refl)
 
-        by : (v w : Verdict) → verdict_at key k ≡ v → SaysTheSame key v w → (goes_on (verdict_at key k) ≡ true → BatchAgrees key (together rest) (together rest_net)) → BatchAgrees key (together (v ∷ rest)) (together (w ∷ rest_net))
+        by : (v w : Verdict) → verdict_at key k ≡ v → SaysTheSame key v w →
+            (goes_on (verdict_at key k) ≡ true → BatchAgrees key (together rest) (together rest_net)) →
+            BatchAgrees key (together (v ∷ rest)) (together (w ∷ rest_net))
         by (Commit v) (Commit w) is same go =
             front_agrees v w _ _ same (by_closing v w same v.closing refl (λ still. go (ap goes_on is ∙ ap not still)))
         by (Again cause) (Again other) is same go = nothing_agrees (BatchRecovers cause) (BatchRecovers other) (ap BatchRecovers same)
@@ -117,14 +124,17 @@ module _ (key : EpochKey) where
         by (Again cause) (Commit w) is same go = absurd same
 
   -- a verdict to commit leads from where the judging stands to where it stands next
-  commit_leads : (k : ℕ) (v : Carried) → verdict_at key k ≡ Commit v → ((state_at key (suc k)).cells ≡ left_behind key v.stores (state_at key k).cells) × ((state_at key (suc k)).steps ≡ (state_at key k).steps + v.steps)
+  commit_leads : (k : ℕ) (v : Carried) → verdict_at key k ≡ Commit v →
+      ((state_at key (suc k)).cells ≡ left_behind key v.stores (state_at key k).cells) × ((state_at key (suc k)).steps ≡ (state_at key k).steps + v.steps)
   commit_leads k v e = by (judgement_of key k) refl e
     where
-      by : (j : Judgement) → judgement_of key k ≡ j → verdict_by key k j ≡ Commit v → ((state_at key (suc k)).cells ≡ left_behind key v.stores (state_at key k).cells) × ((state_at key (suc k)).steps ≡ (state_at key k).steps + v.steps)
+      by : (j : Judgement) → judgement_of key k ≡ j → verdict_by key k j ≡ Commit v →
+          ((state_at key (suc k)).cells ≡ left_behind key v.stores (state_at key k).cells) × ((state_at key (suc k)).steps ≡ (state_at key k).steps + v.steps)
       by Unclean is e = absurd (cc e)
       by (Clean a) is e =
           let same : carried a ≡ v = cc e in (
-            ap (λ (j : Judgement). (after_judgement key (state_at key k) j).cells) is ∙ ap clear (stores_are_all a.effects (state_at key k).cells) ∙ ap (λ (c : Carried). left_behind key c.stores (state_at key k).cells) same,
+            ap (λ (j : Judgement). (after_judgement key (state_at key k) j).cells) is ∙ ap clear (stores_are_all a.effects (state_at key k).cells)
+                ∙ ap (λ (c : Carried). left_behind key c.stores (state_at key k).cells) same,
             ap (λ (j : Judgement). (after_judgement key (state_at key k) j).steps) is ∙ ap (λ (c : Carried). (state_at key k).steps + c.steps) same,
           )
 
@@ -139,7 +149,9 @@ module _ (key : EpochKey) where
       let stepped : (state_at key (k + 1)).steps ≡ (state_at key k).steps + v.steps = ap (λ (n : ℕ). (state_at key n).steps) next ∙ one.1 in
       let all = rest.steps in
       record {
-        cells = ap (λ (n : ℕ). left_behind key [] (state_at key n).cells) places ∙ rest.cells ∙ ap (λ (n : ℕ). left_behind key w.stores (state_at key n).cells) next ∙ ap (left_behind key w.stores) one.0 ∙ sym (left_join v.stores w.stores (state_at key k).cells);
+        cells = ap (λ (n : ℕ). left_behind key [] (state_at key n).cells) places ∙ rest.cells
+            ∙ ap (λ (n : ℕ). left_behind key w.stores (state_at key n).cells) next ∙ ap (left_behind key w.stores) one.0
+            ∙ sym (left_join v.stores w.stores (state_at key k).cells);
         steps = ap (λ (n : ℕ). (state_at key n).steps) places ∙ all ∙ ap (λ (n : ℕ). n + w.steps) stepped ∙ omega arith;
       }
 
@@ -166,6 +178,7 @@ module _ (key : EpochKey) where
   }
 
   module _ (m : Marks) (agrees : (n : ℕ) → GoesOnTo key n → NetAgrees m key n) where
-    pub batch_right : (n k : ℕ) → GoesOnTo key k → BatchAgrees key (together (map (verdict_at key) (numbers_from k n))) (together (map (net_verdict_at m key) (numbers_from k n)))
+    pub batch_right : (n k : ℕ) → GoesOnTo key k →
+        BatchAgrees key (together (map (verdict_at key) (numbers_from k n))) (together (map (net_verdict_at m key) (numbers_from k n)))
         × BatchLeads key k (together (map (net_verdict_at m key) (numbers_from k n)))
     batch_right n k goes = let same = together_agrees m agrees n k goes in (same, leads_alike k _ _ same (together_leads n k))

@@ -1,5 +1,5 @@
 -- Each stage's text has the blocks of the region whole.
-use Rattle.dp_semantics.proofs.Names.{◌≡◌, ◌⊎◌, inl, inr, refl, sym, ap, ◌∙◌, subst, append_assoc, append-nil, ℕ, zero, suc, ◌+◌, ◌-◌, ◌<◌, ◌≤◌, ◌==◌, Bool, true, false, not, ◌&&◌, if◌then◌else◌, List, [], ◌∷◌, ◌++◌, ℤ, length, length-append, map, list_all, Option, Some, None, arith, nat_lt, nat_le, lt-ltb, le-ltb, eq-eqb, eqb-true, ne_eqb, and_parts, and_from, cases_Bool, cases_eq, cases_lt, flat_map, SiteId, Expr, Stmt, Row_of-Stmt, end_of-Stmt, more_of-Stmt, out-Stmt, roll-Stmt, roll-out-Stmt, out-roll-Stmt, rolls-If, rolls-While, outs-If, Stmt-F, Assign, Store, Print, If, While, Region, Break, Call, Program, Plan, site_of, stage_of, Access, accesses, accesses_in, assumed_in, branch_of, where_reached, project, project_in, project_all}
+use Rattle.dp_semantics.proofs.Names.{◌≡◌, inl, inr, refl, sym, ap, ◌∙◌, ℕ, ◌+◌, ◌-◌, ◌<◌, ◌≤◌, ◌==◌, Bool, true, false, ◌&&◌, if◌then◌else◌, List, [], ◌∷◌, ◌++◌, Option, Some, None, arith, eqb-true, and_parts, cases_Bool, SiteId, Expr, Stmt, Row_of-Stmt, end_of-Stmt, more_of-Stmt, out-Stmt, roll-Stmt, roll-out-Stmt, rolls-If, rolls-While, Assign, Store, Print, If, While, Break, Call, Program, Plan, stage_of, assumed_in, branch_of, project, project_in, project_all}
 use Rattle.dp_tree.specs.declared.Stmt.TheVariants as tree
 use Rattle.dp_tree.specs.declared.Stmt.TheViews.{outs-If', outs-While'}
 use Rattle.dp_tree.specs.Statements.{listed, everywhere_in}
@@ -11,14 +11,17 @@ use Rattle.dp_net.specs.BlockText.{run, past_run}
 use Rattle.dp_net.proofs.Silent.{all_quiet, AllQuiet, quiet_out, known_quiet}
 use Rattle.dp_net.proofs.Texts.{site_at}
 
-rolled_if : (site : SiteId) (cond : Expr) (h : _) (a : Row_of-Stmt _) (k : _) (b : Row_of-Stmt _) → tree.If site cond (listed a) (listed b) ≡ tree.If' site cond h a k b
+rolled_if : (site : SiteId) (cond : Expr) (h : _) (a : Row_of-Stmt _) (k : _) (b : Row_of-Stmt _) →
+    tree.If site cond (listed a) (listed b) ≡ tree.If' site cond h a k b
 rolled_if site cond h a k b =
-    sym (rolls-If site cond (listed a) (listed b)) ∙ ap (λ (xs : List Stmt). roll-Stmt (If site cond xs (listed b))) (sym (shown_listed h a)) ∙ ap (λ (xs : List Stmt). roll-Stmt (If site cond (shown-the_row-Stmt-0 h a) xs)) (sym (shown_listed k b))
+    sym (rolls-If site cond (listed a) (listed b)) ∙ ap (λ (xs : List Stmt). roll-Stmt (If site cond xs (listed b))) (sym (shown_listed h a))
+    ∙ ap (λ (xs : List Stmt). roll-Stmt (If site cond (shown-the_row-Stmt-0 h a) xs)) (sym (shown_listed k b))
     ∙ ap roll-Stmt (sym (outs-If' site cond h a k b)) ∙ roll-out-Stmt (tree.If' site cond h a k b)
 
 rolled_while : (site : SiteId) (cond : Expr) (h : _) (a : Row_of-Stmt _) → tree.While site cond (listed a) ≡ tree.While' site cond h a
 rolled_while site cond h a =
-    sym (rolls-While site cond (listed a)) ∙ ap (λ (xs : List Stmt). roll-Stmt (While site cond xs)) (sym (shown_listed h a)) ∙ ap roll-Stmt (sym (outs-While' site cond h a)) ∙ roll-out-Stmt (tree.While' site cond h a)
+    sym (rolls-While site cond (listed a)) ∙ ap (λ (xs : List Stmt). roll-Stmt (While site cond xs)) (sym (shown_listed h a))
+    ∙ ap roll-Stmt (sym (outs-While' site cond h a)) ∙ roll-out-Stmt (tree.While' site cond h a)
 
 module _ (p : Program) (plan : Plan) where
   -- a quiet site's stage
@@ -41,7 +44,8 @@ module _ (p : Program) (plan : Plan) where
             let both = and_parts (quiet_at p plan t (tree.If' site cond h a k b)) (everywhere_in (quiet_at p plan t) a && everywhere_in (quiet_at p plan t) b) q in
             let inner = and_parts (everywhere_in (quiet_at p plan t) a) (everywhere_in (quiet_at p plan t) b) both.1 in
             reached p plan s site.0 _ _ (let h = site_stage t site.0 _ both.0 in omega (arith, h, late))
-            ∙ ap (λ (xs : List Stmt). tree.If site cond xs (project_in p plan s b) ∷ []) (kept_in a inner.0) ∙ ap (λ (xs : List Stmt). tree.If site cond (listed a) xs ∷ []) (kept_in b inner.1)
+            ∙ ap (λ (xs : List Stmt). tree.If site cond xs (project_in p plan s b) ∷ []) (kept_in a inner.0)
+            ∙ ap (λ (xs : List Stmt). tree.If site cond (listed a) xs ∷ []) (kept_in b inner.1)
             ∙ ap (λ (y : Stmt). y ∷ []) (rolled_if site cond h a k b)
         kept (tree.While' site cond h a) q =
             let both = and_parts (quiet_at p plan t (tree.While' site cond h a)) (everywhere_in (quiet_at p plan t) a) q in
@@ -71,7 +75,8 @@ module _ (p : Program) (plan : Plan) where
         gone (tree.If' site cond h a k b) q =
             let both = and_parts (quiet_at p plan t (tree.If' site cond h a k b)) (everywhere_in (quiet_at p plan t) a && everywhere_in (quiet_at p plan t) b) q in
             let inner = and_parts (everywhere_in (quiet_at p plan t) a) (everywhere_in (quiet_at p plan t) b) both.1 in
-            not_reached p plan s site.0 _ _ (let h = site_stage t site.0 _ both.0 in omega (arith, h, early)) ∙ no_branch (assumed_in plan.assume site.0) _ _ (gone_in a inner.0) (gone_in b inner.1)
+            not_reached p plan s site.0 _ _ (let h = site_stage t site.0 _ both.0 in omega (arith, h, early))
+            ∙ no_branch (assumed_in plan.assume site.0) _ _ (gone_in a inner.0) (gone_in b inner.1)
         gone (tree.While' site cond h a) q =
             let both = and_parts (quiet_at p plan t (tree.While' site cond h a)) (everywhere_in (quiet_at p plan t) a) q in
             not_reached p plan s site.0 _ [] (let h = site_stage t site.0 _ both.0 in omega (arith, h, early))

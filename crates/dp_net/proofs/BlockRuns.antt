@@ -1,5 +1,5 @@
 -- A turn over items against the one over the words that they stand for, at a block: both go through it, or both break off.
-use Rattle.dp_semantics.proofs.Names.{◌≡◌, ◌⊎◌, inl, inr, refl, sym, ap, ◌∙◌, subst, append_assoc, append-nil, ℕ, zero, suc, ◌+◌, ◌-◌, ◌<◌, ◌≤◌, ◌==◌, Bool, true, false, not, ◌&&◌, ◌||◌, if◌then◌else◌, List, [], ◌∷◌, ◌++◌, drop, ℤ, pos, length, length-append, length-set, map, list_all, Option, Some, None, Ok, Err, Result, nat_le, nat_lt, lt-ltb, arith, leb-true, le-leb, lt-leb, eq-eqb, eqb-true, ne_eqb, slice_set, get_or, get_or_past, sum_by, sum_by-set, list_all-append, and_parts, and_from, cases_Bool, cases_eq, cases_lt, FaultKind, SiteId, Stmt, out-Stmt, Stmt-F, Program, Plan, Word, Load, Evaluated, evaluated, WithLoads, Event, Effect, site_of, value_of, stored, followed, stage_of, first_site, is_checked, cell_count, load_word, load_words, done_word, words_of, word_list, Full, Void, Taken, taken_from, Turn, TurnEnd, Ended, turned, turn_by, turn_step, own_step, consumed, consumed_step, stage_at, words_left, closes_at, applied, last}
+use Rattle.dp_semantics.proofs.Names.{◌≡◌, inl, inr, refl, sym, ap, ◌∙◌, subst, append-nil, ℕ, zero, suc, ◌+◌, ◌-◌, ◌<◌, ◌≤◌, Bool, true, List, [], ◌∷◌, ◌++◌, drop, ℤ, length, length-append, list_all, Some, None, Err, lt-ltb, arith, eq-eqb, ne_eqb, slice_set, get_or, get_or_past, sum_by, sum_by-set, cases_eq, cases_lt, Stmt, out-Stmt, Program, Plan, Word, Event, stage_of, word_list, Void, taken_from, Turn, applied}
 unfoldable use Rattle.dp_net.proofs.Strict.{strict_from}
 use Rattle.std.proofs.lemmas.List.{map-set}
 use Rattle.dp_semantics.proofs.Each.{Each, each_join}
@@ -9,13 +9,12 @@ use Rattle.dp_semantics.proofs.Followed.{Parts}
 use Rattle.dp_net.specs.Quiet.{Outcome, Through, Broke}
 unfoldable use Rattle.dp_net.specs.Quiet.{quiet_from}
 use Rattle.dp_net.specs.NetItems.{Marks, Item, weights, net_of}
-use Rattle.dp_net.specs.NetRun.{NetTurn, NetEnded, net_turned, net_own_step, net_consumed_step, net_past, net_made, net_met, net_by, net_step, net_step_by}
-unfoldable use Rattle.dp_net.specs.NetRun.{net_from}
+use Rattle.dp_net.specs.NetRun.{NetTurn, net_past, net_made, net_met, net_step}
 use Rattle.dp_net.proofs.Silent.{AllQuiet}
 use Rattle.dp_net.proofs.Blocks.{said, said_length, effects_of, at_turn, through}
 use Rattle.dp_net.proofs.BlockTurns.{breaks, produce, consume}
 use Rattle.dp_net.proofs.Memories.{agree_net}
-use Rattle.dp_net.proofs.Groups.{Group, One, Block, flats, flats_join, item, items, items_join, weights_are, all_flats, all_items, sums_are, group_list, words_of_groups, items_of_groups, Marked, Whole, Good, Alike, both, none, taken_alike, Meets, whole, other, meets, is_within, Missing, met_none}
+use Rattle.dp_net.proofs.Groups.{Group, Block, flats, flats_join, items, items_join, weights_are, all_flats, all_items, group_list, words_of_groups, items_of_groups, Marked, Whole, Good, Meets, whole, other, meets, met_none}
 use Rattle.dp_net.proofs.Texts.{site_at, Text}
 use Rattle.dp_net.proofs.Ready.{Ready, each_set, each_get, SameOutcome, same_through, same_broke, Steady, steady_head, steady_split, outcome_same}
 use Rattle.dp_net.proofs.SiteRuns.{word_turn, item_turn, left_of, Enough, Held}
@@ -60,7 +59,8 @@ module _ (p : Program) (plan : Plan) (m : Marks) (input : List ℤ) (marked : Ma
         pub groups_then : List (List Group)
         pub made_then : List Group
         pub held_then : Held p plan m input marked test ready s more cells_then mem_then groups_then made_then
-        pub runs : (k n : ℕ) → k ≡ steps + n → strict_from p plan input s k before_words ≡ strict_from p plan input s n (word_turn p plan m input marked test ready s more cells_then groups_then made_then closing)
+        pub runs : (k n : ℕ) → k ≡ steps + n →
+            strict_from p plan input s k before_words ≡ strict_from p plan input s n (word_turn p plan m input marked test ready s more cells_then groups_then made_then closing)
         pub made_is : net_step p plan m input s before_items x (b ++ more) ≡ Some (item_turn p plan m input marked test ready s more mem_then groups_then made_then closing)
         pub some : 0 < steps
         pub paid : steps + length (flats made) + left_of p plan m input marked test ready s groups_then ≤ length (flats made_then) + left_of p plan m input marked test ready s groups
@@ -68,7 +68,9 @@ module _ (p : Program) (plan : Plan) (m : Marks) (input : List ℤ) (marked : Ma
       -- both go through the block, or both break off
       pub data Through_it : Type 0 where
         gone : Past → Through_it
-        broken : net_step p plan m input s before_items x (b ++ more) ≡ None → ((n : ℕ) → Enough p plan m input marked test ready s n groups made → (why : Void) × (strict_from p plan input s n before_words ≡ Err why)) → Through_it
+        broken : net_step p plan m input s before_items x (b ++ more) ≡ None →
+            ((n : ℕ) → Enough p plan m input marked test ready s n groups made →
+            (why : Void) × (strict_from p plan input s n before_words ≡ Err why)) → Through_it
 
       some_steps : {events : List Event} → Whole p plan m input f events → 0 < length events
       some_steps {events} w = let r = Rattle.dp_net.proofs.Groups.first_word p plan m input marked f events w in subst (λ (es : List Event). 0 < length es) (sym r.2) (omega arith)
@@ -84,7 +86,8 @@ module _ (p : Program) (plan : Plan) (m : Marks) (input : List ℤ) (marked : Ma
         room_is : room + length (flats made) ≡ plan.words
         room_is = let a = weights_are p plan m made in let b = held.fits in omega (arith, a, b)
 
-        net_is : (o : Outcome) → quiet_from p input room (x ∷ b) mem ≡ o → net_step p plan m input s before_items x (b ++ more) ≡ net_made p plan m f before_items more o
+        net_is : (o : Outcome) → quiet_from p input room (x ∷ b) mem ≡ o →
+            net_step p plan m input s before_items x (b ++ more) ≡ net_made p plan m f before_items more o
         net_is o e = step_is ∙ rw (eq-eqb u s here, e) refl
 
         own_block : (o n : Outcome) → SameOutcome m s o n → quiet_from p input room (x ∷ b) cells ≡ o → quiet_from p input room (x ∷ b) mem ≡ n → Through_it
@@ -106,7 +109,8 @@ module _ (p : Program) (plan : Plan) (m : Marks) (input : List ℤ) (marked : Ma
           };
           runs = λ k n q. produce p plan s input went.0 quiet_here more (all_flats p plan m groups) (flats made) closing k n q (omega (arith, room_is, went.1))
               ∙ ap (λ (all : List Word). strict_from p plan input s n (at_turn more c (all_flats p plan m groups) all closing)) (sym flats_then);
-          made_is = net_is (Through events d) g ∙ ap (λ (all : List Item). Some (net_past p plan before_items more d (all_items p plan m groups) all)) (sym (items_join p plan m made (Block f events ∷ [])));
+          made_is = net_is (Through events d) g
+              ∙ ap (λ (all : List Item). Some (net_past p plan before_items more d (all_items p plan m groups) all)) (sym (items_join p plan m made (Block f events ∷ [])));
           some = some_steps w;
           paid = omega (arith, grown);
         })
@@ -137,16 +141,19 @@ module _ (p : Program) (plan : Plan) (m : Marks) (input : List ℤ) (marked : Ma
         wide_by : (w : Word) (ws : List Word) → word_list (all_flats p plan m groups) u ≡ w ∷ ws → u < suc (length (all_flats p plan m groups))
         wide_by w ws e = elim (cases_lt (u - 1) (length (all_flats p plan m groups))) [
           | inl within ↦ omega (arith, within, low)
-          | inr past ↦ let clash : [] ≡ w ∷ ws = sym (word_list_is (all_flats p plan m groups) u low ∙ get_or_past (all_flats p plan m groups) (u - 1) [] past) ∙ e in absurd (cc clash)
+          | inr past ↦ let clash : [] ≡ w ∷ ws = sym (word_list_is (all_flats p plan m groups) u low
+              ∙ get_or_past (all_flats p plan m groups) (u - 1) [] past) ∙ e in absurd (cc clash)
         ]
 
-        stuck : (why : Void) × (taken_from p (out-Stmt x) (flats (group_list p plan m groups u)) ≡ Err why) → (n : ℕ) → Enough p plan m input marked test ready s n groups made → (why : Void) × (strict_from p plan input s n before_words ≡ Err why)
+        stuck : (why : Void) × (taken_from p (out-Stmt x) (flats (group_list p plan m groups u)) ≡ Err why) → (n : ℕ) →
+            Enough p plan m input marked test ready s n groups made → (why : Void) × (strict_from p plan input s n before_words ≡ Err why)
         unfolding strict_from
         stuck r zero enough = let room = held.fits in absurd (omega (arith, enough, room))
         stuck r (suc n) enough = (r.0, rw (ne_eqb u s there, words_then, r.1) refl)
 
         met_block : Meets p plan m input marked f (group_list p plan m groups u) → Through_it
-        met_block (other words no_item) = broken (met_is ∙ met_none p plan m input marked f (items p plan m (group_list p plan m groups u)) no_item before_items more) (stuck (words (out-Stmt x) refl))
+        met_block (other words no_item) = broken (met_is
+            ∙ met_none p plan m input marked f (items p plan m (group_list p plan m groups u)) no_item before_items more) (stuck (words (out-Stmt x) refl))
         met_block (whole events gs is w good) = gone (record {
           steps = length events;
           cells_then = applied (effects_of events) cells;
@@ -163,7 +170,8 @@ module _ (p : Program) (plan : Plan) (m : Marks) (input : List ℤ) (marked : Ma
           };
           runs = λ k n q. consume p plan u input path quiet s there low more cells (all_flats p plan m groups) (flats made) closing (flats gs) wide front k n q
               ∙ ap (λ (ls : List (List Word)). strict_from p plan input s n (at_turn more (applied (effects_of events) cells) ls (flats made) closing)) (sym (map-set flats groups (u - 1) gs));
-          made_is = met_is ∙ ap (λ (all : List Group). net_met p plan f before_items more (items p plan m all)) is ∙ rw (eq-eqb f f refl, lt-ltb 0 (length events) (some_steps w)) refl
+          made_is = met_is ∙ ap (λ (all : List Group). net_met p plan f before_items more (items p plan m all)) is
+              ∙ rw (eq-eqb f f refl, lt-ltb 0 (length events) (some_steps w)) refl
               ∙ ap (λ (ls : List (List Item)). Some (net_past p plan before_items more (applied (net_of (m.hides u) (effects_of events)) mem) ls (items p plan m made))) (sym (map-set (items p plan m) groups (u - 1) gs));
           some = some_steps w;
           paid = omega (arith, sums, sizes, gone_is, set_is);
@@ -176,13 +184,15 @@ module _ (p : Program) (plan : Plan) (m : Marks) (input : List ℤ) (marked : Ma
             front = words_then ∙ ap flats is
 
             wide : u < suc (length (all_flats p plan m groups))
-            wide = let r = Rattle.dp_net.proofs.Groups.first_word p plan m input marked f events w in wide_by _ _ (front ∙ ap (λ (es : List Event). said es ++ flats gs) r.2)
+            wide = let r = Rattle.dp_net.proofs.Groups.first_word p plan m input marked f events w in wide_by _ _ (front
+                ∙ ap (λ (es : List Event). said es ++ flats gs) r.2)
 
             sums : sum_by length (slice_set (all_flats p plan m groups) (u - 1) (flats gs)) + length (get_or (all_flats p plan m groups) (u - 1) []) ≡ left_of p plan m input marked test ready s groups + length (flats gs)
             sums = sum_by-set length (all_flats p plan m groups) (u - 1) (flats gs) [] (omega (arith, wide, low))
 
             sizes : length (get_or (all_flats p plan m groups) (u - 1) []) ≡ length events + length (flats gs)
-            sizes = ap length (sym (word_list_is (all_flats p plan m groups) u low) ∙ front) ∙ length-append (said events) (flats gs) ∙ ap (λ (n : ℕ). n + length (flats gs)) (said_length events)
+            sizes = ap length (sym (word_list_is (all_flats p plan m groups) u low) ∙ front) ∙ length-append (said events) (flats gs)
+                ∙ ap (λ (n : ℕ). n + length (flats gs)) (said_length events)
 
             gone_is : 0 < length events
             gone_is = some_steps w

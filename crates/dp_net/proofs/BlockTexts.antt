@@ -47,10 +47,12 @@ module _ (p : Program) (plan : Plan) (m : Marks) (s : ℕ) (out : (f : ℕ) → 
   branch_text (Some true) a b t u = t
   branch_text (Some false) a b t u = u
 
-  if_text : (site : SiteId) (cond : Expr) (a b : List Stmt) → m.block_at site.0 ≡ [] → Text m a → Text m b → Text m (where_reached p plan s site.0 (tree.If site cond a b ∷ []) (branch_of (assumed_in plan.assume site.0) a b))
+  if_text : (site : SiteId) (cond : Expr) (a b : List Stmt) → m.block_at site.0 ≡ [] → Text m a → Text m b →
+      Text m (where_reached p plan s site.0 (tree.If site cond a b ∷ []) (branch_of (assumed_in plan.assume site.0) a b))
   if_text site cond a b none t u = reach_text site.0 _ _ (choice (plain_at (tree.If site cond a b) (If site cond a b) (outs-If site cond a b) none) (outs-If site cond a b) t u ends) (branch_text (assumed_in plan.assume site.0) a b t u)
 
-  while_text : (site : SiteId) (cond : Expr) (a : List Stmt) → m.block_at site.0 ≡ [] → Text m a → Text m (where_reached p plan s site.0 (tree.While site cond a ∷ []) [])
+  while_text : (site : SiteId) (cond : Expr) (a : List Stmt) → m.block_at site.0 ≡ [] → Text m a →
+      Text m (where_reached p plan s site.0 (tree.While site cond a ∷ []) [])
   while_text site cond a none t = reach_text site.0 _ _ (loop (plain_at (tree.While site cond a) (While site cond a) (outs-While site cond a) none) (outs-While site cond a) t ends) ends
 
   region_text : (site : SiteId) (cond : Expr) (a : List Stmt) → m.block_at site.0 ≡ [] → Text m a → Text m (tree.If site cond a [] ∷ [])
@@ -74,7 +76,8 @@ module _ (p : Program) (plan : Plan) (m : Marks) (s : ℕ) (out : (f : ℕ) → 
         region_text site cond _ (none site.0 (omega (arith, h.0)) (omega (arith, h.0))) (plain_row a (suc k) h.1 (λ f low high. none f (omega (arith, low)) (omega (arith, high))))
     plain_text (tree.Call g line args) k h none = ends
 
-    plain_row : {n : _} (row : Row_of-Stmt n) (k : ℕ) → Ascends k (sites_of (accesses_in row)) → NoneFrom k (length (accesses_in row)) → Text m (project_in p plan s row)
+    plain_row : {n : _} (row : Row_of-Stmt n) (k : ℕ) → Ascends k (sites_of (accesses_in row)) → NoneFrom k (length (accesses_in row)) →
+        Text m (project_in p plan s row)
     plain_row end_of-Stmt k h none = ends
     plain_row (more_of-Stmt x rest) k h none =
         let parts = sites_split k (accesses x) (accesses_in rest) h in
@@ -116,7 +119,8 @@ module _ (p : Program) (plan : Plan) (m : Marks) (s : ℕ) (out : (f : ℕ) → 
 
       -- behind the statement
       later : Answers (run_behind p plan x) rest (k + length (accesses x))
-      later f low high = answers f (omega (arith, low)) (omega (arith, high, sum)) ∙ ap (λ (c : Bool). if c then (if f == own_site p plan x then block_from p plan pays before x (listed rest) else (if is_quiet_own p plan x then [] else sought_inside p plan pays f x)) else sought p plan pays f (run_behind p plan x) rest) (past (is_sited x k parts.0))
+      later f low high = answers f (omega (arith, low)) (omega (arith, high, sum))
+          ∙ ap (λ (c : Bool). if c then (if f == own_site p plan x then block_from p plan pays before x (listed rest) else (if is_quiet_own p plan x then [] else sought_inside p plan pays f x)) else sought p plan pays f (run_behind p plan x) rest) (past (is_sited x k parts.0))
         where
           past : Sited x k → nat_lt f (site_past p plan x) ≡ false
           past (sited at some) = le-ltb f (site_past p plan x) (omega (arith, at, low))
@@ -124,11 +128,14 @@ module _ (p : Program) (plan : Plan) (m : Marks) (s : ℕ) (out : (f : ℕ) → 
 
       -- the statement's own site
       first : own_site p plan x ≡ k → 0 < length (accesses x) → m.block_at k ≡ block_from p plan pays before x (listed rest)
-      first at some = answers k (omega arith) (omega (arith, some, sum)) ∙ rw (lt-ltb k (site_past p plan x) (omega (arith, at, some)), eq-eqb k (own_site p plan x) (sym at)) refl
+      first at some = answers k (omega arith) (omega (arith, some, sum))
+          ∙ rw (lt-ltb k (site_past p plan x) (omega (arith, at, some)), eq-eqb k (own_site p plan x) (sym at)) refl
 
       -- inside of it
-      within : own_site p plan x ≡ k → (f : ℕ) → k < f → f < k + length (accesses x) → m.block_at f ≡ (if is_quiet_own p plan x then [] else sought_inside p plan pays f x)
-      within at f low high = answers f (omega (arith, low)) (omega (arith, high, sum)) ∙ rw (lt-ltb f (site_past p plan x) (omega (arith, at, high)), ne_eqb f (own_site p plan x) (λ e. omega (arith, e, at, low))) refl
+      within : own_site p plan x ≡ k → (f : ℕ) → k < f → f < k + length (accesses x) →
+          m.block_at f ≡ (if is_quiet_own p plan x then [] else sought_inside p plan pays f x)
+      within at f low high = answers f (omega (arith, low)) (omega (arith, high, sum))
+          ∙ rw (lt-ltb f (site_past p plan x) (omega (arith, at, high)), ne_eqb f (own_site p plan x) (λ e. omega (arith, e, at, low))) refl
 
       -- a quiet statement that begins no block
       no_block : is_quiet_own p plan x ≡ true → m.block_at k ≡ [] → own_site p plan x ≡ k → Text m (project p plan s x)
@@ -138,7 +145,9 @@ module _ (p : Program) (plan : Plan) (m : Marks) (s : ℕ) (out : (f : ℕ) → 
       ])
 
       -- a block that begins with it
-      block_here : (t : ℕ) → own_stage p plan x ≡ t → is_quiet p plan t x ≡ true → m.block_at k ≡ x ∷ run p plan t (listed rest) → own_site p plan x ≡ k → Text m (project_all p plan s (past_run p plan t (listed rest))) → Text m (project p plan s x ++ project_in p plan s rest)
+      block_here : (t : ℕ) → own_stage p plan x ≡ t → is_quiet p plan t x ≡ true → m.block_at k ≡ x ∷ run p plan t (listed rest) →
+          own_site p plan x ≡ k → Text m (project_all p plan s (past_run p plan t (listed rest))) →
+          Text m (project p plan s x ++ project_in p plan s rest)
       block_here t stage q is at after = elim (cases_lt s t) [
         | inl early ↦ subst (Text m) (sym (rw (gone p plan t s early x q) (behind ∙ ap (λ (ys : List Stmt). ys ++ project_all p plan s (past_run p plan t (listed rest))) (run_gone p plan t s early (run p plan t (listed rest)) (run_quiet p plan t (listed rest)))))) after
         | inr late ↦ subst (Text m) (sym (rw (kept p plan t s late x q) (ap (λ (ys : List Stmt). x ∷ ys) (behind ∙ ap (λ (ys : List Stmt). ys ++ project_all p plan s (past_run p plan t (listed rest))) (run_kept p plan t s late (run p plan t (listed rest)) (run_quiet p plan t (listed rest)))))))
@@ -146,11 +155,14 @@ module _ (p : Program) (plan : Plan) (m : Marks) (s : ℕ) (out : (f : ℕ) → 
       ]
         where
           behind : project_in p plan s rest ≡ project_all p plan s (run p plan t (listed rest)) ++ project_all p plan s (past_run p plan t (listed rest))
-          behind = project_listed p plan s rest ∙ ap (project_all p plan s) (run_split p plan t (listed rest)) ∙ project_join p plan s (run p plan t (listed rest)) (past_run p plan t (listed rest))
+          behind = project_listed p plan s rest ∙ ap (project_all p plan s) (run_split p plan t (listed rest))
+              ∙ project_join p plan s (run p plan t (listed rest)) (past_run p plan t (listed rest))
 
       -- the statement and those behind it, from what is so of each
-      at_more : (is_quiet_own p plan x ≡ false → Text m (project p plan s x)) → ((b : Option ℕ) → Answers b rest (k + length (accesses x)) → Text m (project_in p plan s rest)) →
-          ((t : ℕ) → Answers (Some t) rest (k + length (accesses x)) → Text m (project_all p plan s (past_run p plan t (listed rest)))) → Text m (project p plan s x ++ project_in p plan s rest)
+      at_more : (is_quiet_own p plan x ≡ false → Text m (project p plan s x)) →
+          ((b : Option ℕ) → Answers b rest (k + length (accesses x)) → Text m (project_in p plan s rest)) →
+          ((t : ℕ) → Answers (Some t) rest (k + length (accesses x)) → Text m (project_all p plan s (past_run p plan t (listed rest)))) →
+          Text m (project p plan s x ++ project_in p plan s rest)
       at_more inner rest_text after_text = elim (cases_Bool (is_quiet_own p plan x)) [
         | inr q ↦ text_join m (inner q) (rest_text (run_behind p plan x) later)
         | inl q ↦ quiet_text q (is_sited x k parts.0)
@@ -163,7 +175,8 @@ module _ (p : Program) (plan : Plan) (m : Marks) (s : ℕ) (out : (f : ℕ) → 
               alone_text : m.block_at k ≡ [] → Text m (project p plan s x ++ project_in p plan s rest)
               alone_text none = text_join m (no_block q none at) (rest_text (run_behind p plan x) later)
 
-              by : (c d : Bool) → m.block_at k ≡ (if c then [] else (if d then x ∷ run p plan (own_stage p plan x) (listed rest) else [])) → Text m (project p plan s x ++ project_in p plan s rest)
+              by : (c d : Bool) → m.block_at k ≡ (if c then [] else (if d then x ∷ run p plan (own_stage p plan x) (listed rest) else [])) →
+                  Text m (project p plan s x ++ project_in p plan s rest)
               by true d e = alone_text e
               by false false e = alone_text e
               by false true e = block_here (own_stage p plan x) refl q e at (after_text (own_stage p plan x) (subst (λ (o : Option ℕ). Answers o rest (k + length (accesses x))) (ap (λ (c : Bool). if c then Some (own_stage p plan x) else None) q) later))
@@ -177,7 +190,8 @@ module _ (p : Program) (plan : Plan) (m : Marks) (s : ℕ) (out : (f : ℕ) → 
       own_within q (siteless none at quiet) f low high = let e = ap length none in absurd (omega (arith, low, high, e))
 
     past_more : {n : _} (x : Stmt) (rest : Row_of-Stmt n) (t k : ℕ) (h : Ascends k (sites_of (accesses x ++ accesses_in rest))) (answers : Answers (Some t) (more_of-Stmt x rest) k) → Text m (project p plan s x ++ project_in p plan s rest) →
-        (Answers (Some t) rest (k + length (accesses x)) → Text m (project_all p plan s (past_run p plan t (listed rest)))) → Text m (project_all p plan s (past_run p plan t (x ∷ listed rest)))
+        (Answers (Some t) rest (k + length (accesses x)) → Text m (project_all p plan s (past_run p plan t (listed rest)))) →
+        Text m (project_all p plan s (past_run p plan t (x ∷ listed rest)))
     past_more x rest t k h answers here behind = elim (cases_Bool (is_quiet p plan t x)) [
       | inl q ↦
           let stage : own_stage p plan x ≡ t = quiet_stage p plan t x q in
@@ -189,7 +203,8 @@ module _ (p : Program) (plan : Plan) (m : Marks) (s : ℕ) (out : (f : ℕ) → 
 
     mutual
       -- a statement that isn't quiet
-      pub stmt_text : (x : Stmt) (k : ℕ) → Ascends k (sites_of (accesses x)) → (0 < length (accesses x) → m.block_at k ≡ []) → ((f : ℕ) → k < f → f < k + length (accesses x) → m.block_at f ≡ sought_inside p plan pays f x) → Text m (project p plan s x)
+      pub stmt_text : (x : Stmt) (k : ℕ) → Ascends k (sites_of (accesses x)) → (0 < length (accesses x) → m.block_at k ≡ []) →
+          ((f : ℕ) → k < f → f < k + length (accesses x) → m.block_at f ≡ sought_inside p plan pays f x) → Text m (project p plan s x)
       stmt_text (tree.Assign site x e) k h none answers = reach_text site.0 _ _ (leaf_at (tree.Assign site x e) _ (outs-Assign site x e) tt (ap m.block_at h.0 ∙ none (omega arith))) ends
       stmt_text (tree.Store site x index e) k h none answers = reach_text site.0 _ _ (leaf_at (tree.Store site x index e) _ (outs-Store site x index e) tt (ap m.block_at h.0 ∙ none (omega arith))) ends
       stmt_text (tree.Print site e) k h none answers = reach_text site.0 _ _ (leaf_at (tree.Print site e) _ (outs-Print site e) tt (ap m.block_at h.0 ∙ none (omega arith))) ends
@@ -201,13 +216,16 @@ module _ (p : Program) (plan : Plan) (m : Marks) (s : ℕ) (out : (f : ℕ) → 
           (row_text a None (suc k) parts.0 (λ f low high. answers f (omega (arith, low)) (omega (arith, high, sum)) ∙ ap (λ (c : Bool). if c then sought p plan pays f None a else sought p plan pays f None b) (lt-ltb f (site.0 + 1 + length (accesses_in a)) (omega (arith, high, h.0)))))
           (row_text b None (suc k + length (accesses_in a)) parts.1 (λ f low high. answers f (omega (arith, low)) (omega (arith, high, sum)) ∙ ap (λ (c : Bool). if c then sought p plan pays f None a else sought p plan pays f None b) (le-ltb f (site.0 + 1 + length (accesses_in a)) (omega (arith, low, h.0)))))
       stmt_text (tree.While' site cond i a) k h none answers =
-          while_text site cond _ (ap m.block_at h.0 ∙ none (omega arith)) (row_text a None (suc k) h.1 (λ f low high. answers f (omega (arith, low)) (omega (arith, high))))
+          while_text site cond _ (ap m.block_at h.0
+          ∙ none (omega arith)) (row_text a None (suc k) h.1 (λ f low high. answers f (omega (arith, low)) (omega (arith, high))))
       stmt_text (tree.Region' r site cond i a) k h none answers =
-          region_text site cond _ (ap m.block_at h.0 ∙ none (omega arith)) (row_text a None (suc k) h.1 (λ f low high. answers f (omega (arith, low)) (omega (arith, high))))
+          region_text site cond _ (ap m.block_at h.0
+          ∙ none (omega arith)) (row_text a None (suc k) h.1 (λ f low high. answers f (omega (arith, low)) (omega (arith, high))))
       stmt_text (tree.Call g line args) k h none answers = ends
 
       -- statements from the first on
-      row_text : {n : _} (row : Row_of-Stmt n) (before : Option ℕ) (k : ℕ) → Ascends k (sites_of (accesses_in row)) → Answers before row k → Text m (project_in p plan s row)
+      row_text : {n : _} (row : Row_of-Stmt n) (before : Option ℕ) (k : ℕ) → Ascends k (sites_of (accesses_in row)) → Answers before row k →
+          Text m (project_in p plan s row)
       row_text end_of-Stmt before k h answers = ends
       row_text (more_of-Stmt x rest) before k h answers =
           let split = sites_split k (accesses x) (accesses_in rest) h in
@@ -215,7 +233,8 @@ module _ (p : Program) (plan : Plan) (m : Marks) (s : ℕ) (out : (f : ℕ) → 
           (λ b a. row_text rest b (k + length (accesses x)) split.1 a) (λ t a. past_text rest t (k + length (accesses x)) split.1 a)
 
       -- .. and from behind a run of stage t on
-      past_text : {n : _} (row : Row_of-Stmt n) (t k : ℕ) → Ascends k (sites_of (accesses_in row)) → Answers (Some t) row k → Text m (project_all p plan s (past_run p plan t (listed row)))
+      past_text : {n : _} (row : Row_of-Stmt n) (t k : ℕ) → Ascends k (sites_of (accesses_in row)) → Answers (Some t) row k →
+          Text m (project_all p plan s (past_run p plan t (listed row)))
       past_text end_of-Stmt t k h answers = ends
       past_text (more_of-Stmt x rest) t k h answers =
           let split = sites_split k (accesses x) (accesses_in rest) h in

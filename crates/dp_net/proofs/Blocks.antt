@@ -41,7 +41,8 @@ module _ (p : Program) (plan : Plan) (t : ℕ) where
 
   module _ (input : List ℤ) where
     -- The steps of the block are the source's.
-    pub through : (n : ℕ) (to_do : List Stmt) (cells : List ℤ) (events : List Event) (after : List ℤ) → quiet_from p input n to_do cells ≡ Through events after → Goes p input to_do cells events [] after × (length events ≤ n)
+    pub through : (n : ℕ) (to_do : List Stmt) (cells : List ℤ) (events : List Event) (after : List ℤ) →
+        quiet_from p input n to_do cells ≡ Through events after → Goes p input to_do cells events [] after × (length events ≤ n)
     unfolding quiet_from
     through zero [] cells events after e = by events after e
       where
@@ -56,13 +57,18 @@ module _ (p : Program) (plan : Plan) (t : ℕ) where
         by (event ∷ rest) after e = absurd (cc e)
     through (suc n) (x ∷ rest) cells events after e = by (evaluated p input cells (out-Stmt x)) refl e (λ v more last r. through n (followed x rest (out-Stmt x) (value_of v.value)) (stored v.value cells) more last r)
       where
-        by : (u : Evaluated Effect) → evaluated p input cells (out-Stmt x) ≡ u → quiet_by (quiet_from p input n) x rest cells (out-Stmt x) u ≡ Through events after →
-            ((v : WithLoads Effect) (more : List Event) (last : List ℤ) → quiet_from p input n (followed x rest (out-Stmt x) (value_of v.value)) (stored v.value cells) ≡ Through more last →
-            Goes p input (followed x rest (out-Stmt x) (value_of v.value)) (stored v.value cells) more [] last × (length more ≤ n)) → Goes p input (x ∷ rest) cells events [] after × (length events ≤ suc n)
+        by : (u : Evaluated Effect) → evaluated p input cells (out-Stmt x) ≡ u →
+            quiet_by (quiet_from p input n) x rest cells (out-Stmt x) u ≡ Through events after →
+            ((v : WithLoads Effect) (more : List Event) (last : List ℤ) →
+            quiet_from p input n (followed x rest (out-Stmt x) (value_of v.value)) (stored v.value cells) ≡ Through more last →
+            Goes p input (followed x rest (out-Stmt x) (value_of v.value)) (stored v.value cells) more [] last × (length more ≤ n)) →
+            Goes p input (x ∷ rest) cells events [] after × (length events ≤ suc n)
         by (Err kind) gave e go = absurd (cc e)
         by (Ok v) gave e go = later (quiet_from p input n (followed x rest (out-Stmt x) (value_of v.value)) (stored v.value cells)) refl e
           where
-            later : (o : Outcome) → quiet_from p input n (followed x rest (out-Stmt x) (value_of v.value)) (stored v.value cells) ≡ o → with_event (event_of (out-Stmt x) v) o ≡ Through events after → Goes p input (x ∷ rest) cells events [] after × (length events ≤ suc n)
+            later : (o : Outcome) → quiet_from p input n (followed x rest (out-Stmt x) (value_of v.value)) (stored v.value cells) ≡ o →
+                with_event (event_of (out-Stmt x) v) o ≡ Through events after →
+                Goes p input (x ∷ rest) cells events [] after × (length events ≤ suc n)
             later Broke is e = absurd (cc e)
             later (Through more last) is e =
                 let r = go v more last is in
@@ -90,7 +96,8 @@ module _ (p : Program) (plan : Plan) (t : ℕ) where
 
       module _ (cells : List ℤ) where
         -- the block's own stage: an evaluation that faults
-        pub own_fault : (n : ℕ) (kind : FaultKind) → evaluated p input cells h ≡ Err kind → strict_from p plan input t (suc n) (at_turn (x ∷ (rest ++ behind)) cells lists own closing) ≡ Err (Faults (record { kind = kind; line = line_of p (site_of h) }))
+        pub own_fault : (n : ℕ) (kind : FaultKind) → evaluated p input cells h ≡ Err kind →
+            strict_from p plan input t (suc n) (at_turn (x ∷ (rest ++ behind)) cells lists own closing) ≡ Err (Faults (record { kind = kind; line = line_of p (site_of h) }))
         unfolding strict_from
         own_fault n kind e = rw (eq-eqb (stage_of p plan (site_of h).0) t q.stage, e)
 
@@ -108,7 +115,8 @@ module _ (p : Program) (plan : Plan) (t : ℕ) where
           own_fits n fits = rw (eq-eqb (stage_of p plan (site_of h).0) t q.stage, gave, goes_assumed p plan t h q v.value form, words_are p plan t h q v.loads v.value, le-leb _ _ fits, turned_is cells v.value form (own ++ w ∷ []) lists)
 
           -- .. and one that doesn't
-          pub own_full : (n : ℕ) → plan.words < length (own ++ w ∷ []) → strict_from p plan input t (suc n) (at_turn (x ∷ (rest ++ behind)) cells lists own closing) ≡ Err Full
+          pub own_full : (n : ℕ) → plan.words < length (own ++ w ∷ []) →
+              strict_from p plan input t (suc n) (at_turn (x ∷ (rest ++ behind)) cells lists own closing) ≡ Err Full
           unfolding strict_from
           own_full n less = rw (eq-eqb (stage_of p plan (site_of h).0) t q.stage, gave, goes_assumed p plan t h q v.value form, words_are p plan t h q v.loads v.value, lt-leb _ _ less)
 
@@ -120,7 +128,8 @@ module _ (p : Program) (plan : Plan) (t : ℕ) where
 
         taken_is : taken_from p h (word_list lists (stage_of p plan (site_of h).0)) ≡ Ok (record { effect = effect; rest = more })
         taken_is =
-            ap (λ (u : ℕ). taken_from p h (word_list lists u)) q.stage ∙ ap (taken_from p h) front ∙ ap (λ (ws : List Word). taken_from p h (ws ++ more)) (sym (words_are p plan t h q loads effect))
+            ap (λ (u : ℕ). taken_from p h (word_list lists u)) q.stage ∙ ap (taken_from p h) front
+            ∙ ap (λ (ws : List Word). taken_from p h (ws ++ more)) (sym (words_are p plan t h q loads effect))
             ∙ taken_event p plan event more h refl (effect_of_word p h (site_of h).0 effect f)
 
         pub taken_step : (s : ℕ) → (t ≡ s → ⊥) → (n : ℕ) → strict_from p plan input s (suc n) (at_turn (x ∷ (rest ++ behind)) mem lists own closing)
@@ -131,13 +140,15 @@ module _ (p : Program) (plan : Plan) (t : ℕ) where
         -- .. and so does the judgement
         held_is : loads_hold (site_of h).0 mem (word_list lists (stage_of p plan (site_of h).0)) ≡ true
         held_is =
-            ap (λ (u : ℕ). loads_hold (site_of h).0 mem (word_list lists u)) q.stage ∙ ap (loads_hold (site_of h).0 mem) front ∙ ap (λ (ws : List Word). loads_hold (site_of h).0 mem (ws ++ more)) (sym (words_are p plan t h q loads effect))
+            ap (λ (u : ℕ). loads_hold (site_of h).0 mem (word_list lists u)) q.stage ∙ ap (loads_hold (site_of h).0 mem) front
+            ∙ ap (λ (ws : List Word). loads_hold (site_of h).0 mem (ws ++ more)) (sym (words_are p plan t h q loads effect))
             ∙ event_passes p plan event more mem (λ c. absurd (both c q.unchecked))
           where
             both : {b : Bool} → b ≡ true → b ≡ false → ⊥
             both c d = absurd (cc (c, d))
 
-        pub judged_step : (n : ℕ) (effects : List Effect) (sites : List ℕ) → judge_from p plan (suc n) (record { turn = at_turn (x ∷ (rest ++ behind)) mem lists own closing; effects = effects; sites = sites })
+        pub judged_step : (n : ℕ) (effects : List Effect) (sites : List ℕ) →
+            judge_from p plan (suc n) (record { turn = at_turn (x ∷ (rest ++ behind)) mem lists own closing; effects = effects; sites = sites })
             ≡ judge_from p plan n (record { turn = at_turn (next_to effect ++ behind) (stored effect mem) (slice_set lists (t - 1) more) own closing; effects = effects ++ effect ∷ []; sites = sites ++ (site_of h).0 ∷ [] })
         unfolding judge_from
         judged_step n effects sites = rw (held_is, taken_is, goes_assumed p plan t h q effect f, q.stage, turned_is mem effect f own (slice_set lists (t - 1) more))

@@ -59,7 +59,8 @@ module _ (k : Epoch) where
       let left = left_at s n run.0 run.1 f.alive in
       record {
         later = left.ended.own ∷ f.later;
-        final = f.final ∙ ap (λ (ls : List (List Word)). ls ++ f.later) (ap (λ (w : Passed). w.packet.lists) run.1 ∙ left.lists) ∙ append_assoc (passed k s n).packet.lists (left.ended.own ∷ []) f.later;
+        final = f.final ∙ ap (λ (ls : List (List Word)). ls ++ f.later) (ap (λ (w : Passed). w.packet.lists) run.1 ∙ left.lists)
+            ∙ append_assoc (passed k s n).packet.lists (left.ended.own ∷ []) f.later;
         alive = left.alive;
       }
 
@@ -103,7 +104,8 @@ module _ (k : Epoch) where
           ap (λ (xs : List Stmt). judge_from program plan left (record { turn = record { to_do = xs; cells = cells; lists = final.lists; own = []; closing = false }; effects = []; sites = [] })) (sym (turn_text ok (last plan) (omega arith)))
           ∙ judged.1
 
-      pub turn_kept : (s : ℕ) → s < length plan.stages → (before : List ℤ) → passed k (suc s) n ≡ run_on k (suc s) before (passed k s n).packet → TurnKept s before (passed k s n).packet v
+      pub turn_kept : (s : ℕ) → s < length plan.stages → (before : List ℤ) → passed k (suc s) n ≡ run_on k (suc s) before (passed k s n).packet →
+          TurnKept s before (passed k s n).packet v
       turn_kept s high before is = record {
         same = ap (λ (turn : TurnEnd). passed_on k (suc s) before came turn came.status) (ap (λ (xs : List Stmt). strict_from program plan input (suc s) bound (begun xs)) (turn_text ok (suc s) (omega arith)) ∙ kept.0 ∙ sym left_here.ends);
         ended = left_here.ended;
@@ -131,22 +133,28 @@ module _ (k : Epoch) where
           lists_before = lists_are s n left_here.alive
 
           final_is : final.lists ≡ came.lists ++ left_here.ended.own ∷ behind.later
-          final_is = behind.final ∙ ap (λ (ls : List (List Word)). ls ++ behind.later) (ap (λ (w : Passed). w.packet.lists) is ∙ left_here.lists) ∙ append_assoc came.lists (left_here.ended.own ∷ []) behind.later
+          final_is = behind.final ∙ ap (λ (ls : List (List Word)). ls ++ behind.later) (ap (λ (w : Passed). w.packet.lists) is ∙ left_here.lists)
+              ∙ append_assoc came.lists (left_here.ended.own ∷ []) behind.later
 
           facing : Facing program plan input (suc s) (omega arith) (omega (arith, high)) came.lists final.lists [] left_here.ended.own
           facing = record {
             wide = omega (arith, lists_before);
             judged_wide = let e = lists_are (length plan.stages) n judged.0 in omega (arith, e);
-            same = λ t low less. sym (ap (λ (ls : List (List Word)). word_list ls t) final_is ∙ list_early came.lists (left_here.ended.own ∷ behind.later) t low (omega (arith, less, lists_before)));
-            made_is = sym (ap (λ (ls : List (List Word)). word_list ls (suc s)) final_is ∙ ap (λ (t : ℕ). word_list (came.lists ++ left_here.ended.own ∷ behind.later) (suc t)) (sym lists_before) ∙ list_next came.lists behind.later left_here.ended.own);
+            same = λ t low less. sym (ap (λ (ls : List (List Word)). word_list ls t) final_is
+                ∙ list_early came.lists (left_here.ended.own ∷ behind.later) t low (omega (arith, less, lists_before)));
+            made_is = sym (ap (λ (ls : List (List Word)). word_list ls (suc s)) final_is
+                ∙ ap (λ (t : ℕ). word_list (came.lists ++ left_here.ended.own ∷ behind.later) (suc t)) (sym lists_before)
+                ∙ list_next came.lists behind.later left_here.ended.own);
           }
 
           kept : (strict_from program plan input (suc s) bound (begun (project_all program plan (suc s) (turn_of ok))) ≡ Ok left_here.ended) × (left_here.ended.closing ≡ true → v.closing ≡ true)
           kept =
               kept_in program plan input (suc s) (omega arith) (omega (arith, high)) left bound (turn_of ok) (record { well = turn_well ok; sound = turn_sound ok }) before came.lists [] false cells final.lists [] false [] [] left_here.ended v facing
-              (ap (λ (xs : List Stmt). turn_from program plan input (suc s) bound (begun xs)) (sym (turn_text ok (suc s) (omega arith))) ∙ left_here.ends) (λ shut. absurd (cc shut)) judged_text
+              (ap (λ (xs : List Stmt). turn_from program plan input (suc s) bound (begun xs)) (sym (turn_text ok (suc s) (omega arith)))
+              ∙ left_here.ends) (λ shut. absurd (cc shut)) judged_text
 
-      status_then : (s : ℕ) (before : List ℤ) (came : Packet) (e : Ended) (status : Status) → live status ≡ true → (passed_on k s before came (Ok e) status).packet.status ≡ status_of came.status e.closing
+      status_then : (s : ℕ) (before : List ℤ) (came : Packet) (e : Ended) (status : Status) → live status ≡ true →
+          (passed_on k s before came (Ok e) status).packet.status ≡ status_of came.status e.closing
       status_then s before came e Going alive = refl
       status_then s before came e Closing alive = refl
       status_then s before came e (Broken t why) alive = absurd (cc alive)
@@ -163,10 +171,13 @@ module _ (k : Epoch) where
           kept = turn_kept s (omega (arith, high)) run.0 run.1
 
           status_is : (passed k (suc s) n).packet.status ≡ status_of (passed k s n).packet.status kept.ended.closing
-          status_is = ap (λ (w : Passed). w.packet.status) run.1 ∙ ap (λ (turn : TurnEnd). (passed_on k (suc s) run.0 (passed k s n).packet turn (passed k s n).packet.status).packet.status) kept.ends
+          status_is = ap (λ (w : Passed). w.packet.status) run.1
+              ∙ ap (λ (turn : TurnEnd). (passed_on k (suc s) run.0 (passed k s n).packet turn (passed k s n).packet.status).packet.status) kept.ends
               ∙ status_then (suc s) run.0 (passed k s n).packet kept.ended (passed k s n).packet.status kept.alive
 
-          by : (status : Status) → (passed k s n).packet.status ≡ status → (c : Bool) → kept.ended.closing ≡ c → status_of (passed k s n).packet.status kept.ended.closing ≡ Closing → ((passed k s n).packet.status ≡ Closing → v.closing ≡ true) → v.closing ≡ true
+          by : (status : Status) → (passed k s n).packet.status ≡ status → (c : Bool) → kept.ended.closing ≡ c →
+              status_of (passed k s n).packet.status kept.ended.closing ≡ Closing → ((passed k s n).packet.status ≡ Closing → v.closing ≡ true) →
+              v.closing ≡ true
           by Closing is c at e before = before is
           by Going is true at e before = kept.closes at
           by Going is false at e before = let clash : Going ≡ Closing = rw (is, at) at e in absurd (cc clash)

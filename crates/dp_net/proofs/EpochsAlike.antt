@@ -1,6 +1,5 @@
 -- The verdicts by items are the definition's.
 use Rattle.dp_semantics.proofs.Names.{◌≡◌, refl, sym, ap, ◌∙◌, subst, ℕ, zero, suc, ◌+◌, ◌-◌, Bool, true, false, if◌then◌else◌, List, [], ◌∷◌, ℤ, length, map, Option, Some, None, arith, nat_le, Stmt, Program, Plan, Effect, stored, clear_locals, project_all, region_statement, stage_of, Status, applied, last, Judgement, Agreed, Clean, Unclean, judge, judge_lists, judge_status}
-unfoldable use Rattle.dp_semantics.proofs.Names.{judge_from}
 use Rattle.dp_semantics.specs.CauseWalk.{shown_from}
 use Rattle.dp_semantics.specs.Told.{StoresAreAll}
 use Rattle.dp_semantics.specs.EpochKey.{EpochKey, epoch_of}
@@ -9,13 +8,12 @@ use Rattle.dp_semantics.specs.EpochCauses.{kept_after, next_kept, kept_at}
 use Rattle.dp_net.specs.NetItems.{Marks}
 use Rattle.dp_net.specs.NetJudge.{NetAgreed, net_judge, net_judge_lists, net_judge_status}
 use Rattle.dp_net.specs.NetPackets.{NetStatus, NetPacket}
-unfoldable use Rattle.dp_net.specs.NetJudge.{net_judge_from}
 use Rattle.dp_net.specs.NetVerdicts.{net_judgement_in, net_after_judgement, net_state_at, net_judgement_of, net_verdict_by, net_verdict_at, net_next_kept, net_kept_at, SaysTheSame}
 use Rattle.dp_semantics.proofs.Setting.{Accepted}
 use Rattle.dp_net.proofs.StrictEpochs.{CleanTo, clean_less, strict_judgement, judged_same}
 use Rattle.dp_net.proofs.Memories.{agrees_self, agree_after}
-use Rattle.dp_net.proofs.ToldAlike.{seen_by}
-use Rattle.dp_net.proofs.NetVerdicts.{VerdictsAlike, SameVerdict, judge_alike}
+use Rattle.dp_net.proofs.ToldAlike.{seen_by, VerdictsAlike, SameVerdict}
+use Rattle.dp_net.proofs.NetVerdicts.{judge_alike}
 use Rattle.dp_net.proofs.Sent.{Quieted, SameStatus, both_going, both_closing, both_broken, SamePacket, sent_alike, cleared_same}
 
 stores_all : StoresAreAll
@@ -31,16 +29,19 @@ module _ (p : Program) (plan : Plan) where
   none_shown s [] = refl
   none_shown s (view ∷ rest) = ap (λ vs. view ∷ vs) (none_shown (suc s) rest)
 
-  one_shown : (s site : ℕ) (effect : Effect) (sites : List ℕ) (effects : List Effect) (views : List (List ℤ)) → shown_all p plan s sites effects (shown_from p plan (record { site = site; loads = []; effect = effect }) s views) ≡ shown_all p plan s (site ∷ sites) (effect ∷ effects) views
+  one_shown : (s site : ℕ) (effect : Effect) (sites : List ℕ) (effects : List Effect) (views : List (List ℤ)) →
+      shown_all p plan s sites effects (shown_from p plan (record { site = site; loads = []; effect = effect }) s views) ≡ shown_all p plan s (site ∷ sites) (effect ∷ effects) views
   one_shown s site effect sites effects [] = refl
   one_shown s site effect sites effects (view ∷ rest) = rw (one_shown (suc s) site effect sites effects rest) (by (nat_le (stage_of p plan site) s))
     where
-      by : (b : Bool) → applied (seen_by p plan s sites effects) (if b then stored effect view else view) ∷ shown_all p plan (suc s) (site ∷ sites) (effect ∷ effects) rest
+      by : (b : Bool) →
+          applied (seen_by p plan s sites effects) (if b then stored effect view else view) ∷ shown_all p plan (suc s) (site ∷ sites) (effect ∷ effects) rest
           ≡ applied (if b then effect ∷ seen_by p plan s sites effects else seen_by p plan s sites effects) view ∷ shown_all p plan (suc s) (site ∷ sites) (effect ∷ effects) rest
       by true = refl
       by false = refl
 
-  kept_is : (sites : List ℕ) (effects : List Effect) (views : List (List ℤ)) → length sites ≡ length effects → kept_after p plan sites effects views ≡ shown_all p plan 1 sites effects views
+  kept_is : (sites : List ℕ) (effects : List Effect) (views : List (List ℤ)) → length sites ≡ length effects →
+      kept_after p plan sites effects views ≡ shown_all p plan 1 sites effects views
   kept_is [] [] views e = none_shown 1 views
   kept_is [] (f ∷ effects) views e = absurd (omega (arith, e))
   kept_is (site ∷ sites) [] views e = absurd (omega (arith, e))
@@ -52,7 +53,8 @@ module _ (key : EpochKey) (ok : Accepted key.program key.plan) {m : Marks} {test
   abbrev clear : List ℤ → List ℤ
   clear cells = clear_locals plan.region program.vars cells
 
-  judged_alike : (left : ℕ) (cells : List ℤ) (a : Rattle.dp_semantics.specs.Packets.Packet) (b : NetPacket) → SamePacket q a b → SameVerdict program plan m (judge program plan left cells a) (net_judge program plan m left cells b)
+  judged_alike : (left : ℕ) (cells : List ℤ) (a : Rattle.dp_semantics.specs.Packets.Packet) (b : NetPacket) → SamePacket q a b →
+      SameVerdict program plan m (judge program plan left cells a) (net_judge program plan m left cells b)
   judged_alike left cells a b same = by a.status b.status same.status
     where
       lists : SameVerdict program plan m (judge_lists program plan left cells a.lists) (net_judge_lists program plan m left cells b.lists)
@@ -60,24 +62,29 @@ module _ (key : EpochKey) (ok : Accepted key.program key.plan) {m : Marks} {test
           (record { text = q.texts (last plan); steady = q.steady (last plan); agrees = agrees_self m (last plan) cells; good = same.good; made_good = tt; fits = omega arith })
           (record { steps_are = refl; prints = refl; lasts = λ c o. refl; views = λ s c o. refl; sized = refl; net_sized = refl }))
 
-      by : (u : Status) (w : NetStatus) → SameStatus u w → SameVerdict program plan m (judge_status (judge_lists program plan left cells a.lists) u) (net_judge_status program plan (net_judge_lists program plan m left cells b.lists) w)
+      by : (u : Status) (w : NetStatus) → SameStatus u w →
+          SameVerdict program plan m (judge_status (judge_lists program plan left cells a.lists) u) (net_judge_status program plan (net_judge_lists program plan m left cells b.lists) w)
       by u w both_going = lists
       by u w both_closing = lists
       by u w (both_broken s why) = tt
 
   -- behind both the memory is the same, and so are the memories that the stages see
-  cells_alike : (a : Agreed) (b : NetAgreed) → VerdictsAlike program plan m a b → (cells : List ℤ) → clear (applied b.effects cells) ≡ clear (applied a.effects cells)
+  cells_alike : (a : Agreed) (b : NetAgreed) → VerdictsAlike program plan m a b → (cells : List ℤ) →
+      clear (applied b.effects cells) ≡ clear (applied a.effects cells)
   cells_alike a b v cells = sym (cleared_same q (last plan) (applied a.effects cells) (applied b.effects cells) (agree_after m (last plan) a.effects b.effects cells cells v.told.lasts (agrees_self m (last plan) cells)))
 
-  views_alike : (a : Agreed) (b : NetAgreed) → VerdictsAlike program plan m a b → (s : ℕ) (views : List (List ℤ)) → map clear (shown_all program plan s b.sites b.effects views) ≡ map clear (shown_all program plan s a.sites a.effects views)
+  views_alike : (a : Agreed) (b : NetAgreed) → VerdictsAlike program plan m a b → (s : ℕ) (views : List (List ℤ)) →
+      map clear (shown_all program plan s b.sites b.effects views) ≡ map clear (shown_all program plan s a.sites a.effects views)
   views_alike a b v s [] = refl
   views_alike a b v s (view ∷ rest) =
       let here = cleared_same q (last plan) (applied (seen_by program plan s a.sites a.effects) view) (applied (seen_by program plan s b.sites b.effects) view)
       (agree_after m (last plan) (seen_by program plan s a.sites a.effects) (seen_by program plan s b.sites b.effects) view view (v.told.views s) (agrees_self m (last plan) view)) in
       rw (views_alike a b v (suc s) rest, here)
 
-  kept_alike : (a : Agreed) (b : NetAgreed) → VerdictsAlike program plan m a b → (kept : List (List ℤ)) → map clear (kept_after program plan b.sites b.effects kept) ≡ map clear (kept_after program plan a.sites a.effects kept)
-  kept_alike a b v kept = ap (map clear) (kept_is program plan b.sites b.effects kept v.told.net_sized) ∙ views_alike a b v 1 kept ∙ ap (map clear) (sym (kept_is program plan a.sites a.effects kept v.told.sized))
+  kept_alike : (a : Agreed) (b : NetAgreed) → VerdictsAlike program plan m a b → (kept : List (List ℤ)) →
+      map clear (kept_after program plan b.sites b.effects kept) ≡ map clear (kept_after program plan a.sites a.effects kept)
+  kept_alike a b v kept = ap (map clear) (kept_is program plan b.sites b.effects kept v.told.net_sized) ∙ views_alike a b v 1 kept
+      ∙ ap (map clear) (sym (kept_is program plan a.sites a.effects kept v.told.sized))
 
   -- the judgements from the same state
   from_state : (n : ℕ) (s : JudgeState) → SameVerdict program plan m (strict_judgement key ok n s) (net_judgement_in m key n s)
@@ -89,7 +96,8 @@ module _ (key : EpochKey) (ok : Accepted key.program key.plan) {m : Marks} {test
   state_by s (Clean a) None v = absurd v
   state_by s Unclean (Some b) v = absurd v
 
-  kept_by : (kept : List (List ℤ)) (j : Judgement) (o : Option NetAgreed) → SameVerdict program plan m j o → net_next_kept m key o kept ≡ next_kept program plan j kept
+  kept_by : (kept : List (List ℤ)) (j : Judgement) (o : Option NetAgreed) → SameVerdict program plan m j o →
+      net_next_kept m key o kept ≡ next_kept program plan j kept
   kept_by kept (Clean a) (Some b) v = kept_alike a b v kept
   kept_by kept Unclean None v = refl
   kept_by kept (Clean a) None v = absurd v
@@ -115,8 +123,15 @@ module _ (key : EpochKey) (ok : Accepted key.program key.plan) {m : Marks} {test
   all_kept_alike zero c = refl
   all_kept_alike (suc n) c = rw (all_kept_alike n (before n c)) (kept_by (kept_at key n) _ _ (judgements_alike n (before n c)))
 
-  verdict_alike : (n : ℕ) (j : Judgement) (o : Option NetAgreed) → SameVerdict program plan m j o → SaysTheSame key (verdict_by key n j) (net_verdict_by m key n o)
-  verdict_alike n (Clean a) (Some b) v = (sym v.told.prints, sym v.told.steps_are, v.closing, λ cells. ap clear (sym (stores_all b.effects cells)) ∙ cells_alike a b v cells ∙ ap clear (stores_all a.effects cells))
+  verdict_alike : (n : ℕ) (j : Judgement) (o : Option NetAgreed) → SameVerdict program plan m j o →
+      SaysTheSame key (verdict_by key n j) (net_verdict_by m key n o)
+  verdict_alike n (Clean a) (Some b) v = (
+    sym v.told.prints,
+    sym v.told.steps_are,
+    v.closing,
+    λ cells. ap clear (sym (stores_all b.effects cells))
+        ∙ cells_alike a b v cells ∙ ap clear (stores_all a.effects cells),
+  )
   verdict_alike n Unclean None v = refl
   verdict_alike n (Clean a) None v = absurd v
   verdict_alike n Unclean (Some b) v = absurd v

@@ -16,6 +16,7 @@ use Rattle.dp_net.proofs.NetBounds.{made_some}
 use Rattle.dp_net.proofs.Projections.{Kept}
 use Rattle.dp_net.proofs.Reading.{follows_same, FoundBlock, read_block, read_past_block}
 use Rattle.dp_net.proofs.Texts.{site_at, Text}
+use Rattle.dp_net.proofs.Stores.{told_stores}
 use Rattle.dp_net.proofs.ItemLists.{list_wide, list_others, with_own, with_here, with_other}
 use Rattle.dp_net.proofs.FollowingSites.{part, Came, ReadableText, Tells, TellsIn, own_site}
 
@@ -60,11 +61,14 @@ module _ (p : Program) (plan : Plan) (m : Marks) (input : List ℤ) (marked : Ma
       came_past : u ≡ stage → Came p plan m input marked s more left
       came_past here = by s refl came
         where
-          by : (t : ℕ) → s ≡ t → Follows p plan m (part p plan m input marked s t (x ∷ (b ++ more))) left → Follows p plan m (part p plan m input marked s t more) left
+          by : (t : ℕ) → s ≡ t → Follows p plan m (part p plan m input marked s t (x ∷ (b ++ more))) left →
+              Follows p plan m (part p plan m input marked s t more) left
           by zero is f = f
           by (suc t) is f = read_past_block p plan m (suc t) u x b more at quiet (omega (arith, here, is)) f
 
-      made_tells : u ≡ stage → (o : Outcome) → quiet_from p input (plan.words - weights own) (x ∷ b) cells ≡ o → net_by p plan m input stage (net_from p plan m input stage n) (net_made p plan m (site_at x) (turn (x ∷ (b ++ more))) more o) ≡ Some e → Tells p plan m input marked s (x ∷ (b ++ more)) left own e
+      made_tells : u ≡ stage → (o : Outcome) → quiet_from p input (plan.words - weights own) (x ∷ b) cells ≡ o →
+          net_by p plan m input stage (net_from p plan m input stage n) (net_made p plan m (site_at x) (turn (x ∷ (b ++ more))) more o) ≡ Some e →
+          Tells p plan m input marked s (x ∷ (b ++ more)) left own e
       made_tells here Broke is q = absurd (cc q)
       made_tells here (Through events after) is q =
           let stores : List Effect = net_of (m.hides u) (effects_of events) in
@@ -73,9 +77,10 @@ module _ (p : Program) (plan : Plan) (m : Marks) (input : List ℤ) (marked : Ma
           record {
             more = item ∷ t.more;
             own_is = t.own_is ∙ append_assoc own (item ∷ []) t.more;
-            follows = met {next = with_own stage t.more left} (length events) stores at refl (made_some p plan m input s (plan.words - weights own) x b cells events after is)
+            follows = met {next = with_own stage t.more left} (length events) stores at refl (made_some p plan m input s (plan.words - weights own) x b cells events after is) (told_stores (m.hides u) (effects_of events))
                 (with_here stage (item ∷ t.more) left u here ∙ ap (λ (is : List Item). item ∷ is) (sym (with_here stage t.more left u here)))
-                (λ y differs. with_other stage t.more left y (λ same. differs (same ∙ sym here)) ∙ sym (with_other stage (item ∷ t.more) left y (λ same. differs (same ∙ sym here)))) t.follows;
+                (λ y differs. with_other stage t.more left y (λ same. differs (same ∙ sym here))
+                ∙ sym (with_other stage (item ∷ t.more) left y (λ same. differs (same ∙ sym here)))) t.follows;
           }
 
       found_block : (u ≡ stage → ⊥) → FoundBlock p plan m s x more left
@@ -88,14 +93,16 @@ module _ (p : Program) (plan : Plan) (m : Marks) (input : List ℤ) (marked : Ma
               not_own : u ≤ stage → u ≤ suc t
               not_own reach = elim (cases_eq u stage) [ inl same ↦ absurd (other same) | inr less ↦ omega (arith, reach, less, is) ]
 
-      met_tells : (other : u ≡ stage → ⊥) → FoundBlock p plan m s x more left → net_by p plan m input stage (net_from p plan m input stage n) (net_met p plan (site_at x) (turn (x ∷ (b ++ more))) more (left u)) ≡ Some e → Tells p plan m input marked s (x ∷ (b ++ more)) left own e
+      met_tells : (other : u ≡ stage → ⊥) → FoundBlock p plan m s x more left →
+          net_by p plan m input stage (net_from p plan m input stage n) (net_met p plan (site_at x) (turn (x ∷ (b ++ more))) more (left u)) ≡ Some e → Tells p plan m input marked s (x ∷ (b ++ more)) left own e
       met_tells other f q = tells
         where
           lists_next : List (List Item)
           lists_next = slice_set lists (u - 1) (f.next u)
 
           met_is : net_met p plan (site_at x) (turn (x ∷ (b ++ more))) more (left u) ≡ Some (net_past p plan (turn (x ∷ (b ++ more))) more (applied f.stores cells) lists_next own)
-          met_is = ap (net_met p plan (site_at x) (turn (x ∷ (b ++ more))) more) f.front ∙ rw (eq-eqb (site_at x) (site_at x) refl, lt-ltb 0 f.count f.some) refl
+          met_is = ap (net_met p plan (site_at x) (turn (x ∷ (b ++ more))) more) f.front
+              ∙ rw (eq-eqb (site_at x) (site_at x) refl, lt-ltb 0 f.count f.some) refl
 
           same : (t : ℕ) → item_list lists_next t ≡ f.next t
           same = list_others p plan m lists u (f.next u) f.next low_block (list_wide p plan m lists u _ _ low_block f.front) refl f.others
@@ -103,7 +110,8 @@ module _ (p : Program) (plan : Plan) (m : Marks) (input : List ℤ) (marked : Ma
           later : Came p plan m input marked s more (item_list lists_next)
           later = by s refl f.later
             where
-              by : (t : ℕ) → s ≡ t → Follows p plan m (project_all p plan t more) f.next → Follows p plan m (part p plan m input marked s t more) (item_list lists_next)
+              by : (t : ℕ) → s ≡ t → Follows p plan m (project_all p plan t more) f.next →
+                  Follows p plan m (part p plan m input marked s t more) (item_list lists_next)
               by zero is k = let reach = block_reach in let real = low_block in absurd (other (omega (arith, reach, real, is)))
               by (suc t) is k = follows_same p plan m k (item_list lists_next) same
 
@@ -114,8 +122,9 @@ module _ (p : Program) (plan : Plan) (m : Marks) (input : List ℤ) (marked : Ma
           tells = record {
             more = t.more;
             own_is = t.own_is;
-            follows = met {next = with_own stage t.more (item_list lists_next)} f.count f.stores at refl f.some
-                (with_other stage t.more left u other ∙ f.front ∙ ap (λ (is : List Item). Net (site_at x) f.count f.stores ∷ is) (sym (with_other stage t.more (item_list lists_next) u other ∙ same u)))
+            follows = met {next = with_own stage t.more (item_list lists_next)} f.count f.stores at refl f.some f.all
+                (with_other stage t.more left u other ∙ f.front
+                ∙ ap (λ (is : List Item). Net (site_at x) f.count f.stores ∷ is) (sym (with_other stage t.more (item_list lists_next) u other ∙ same u)))
                 (λ y differs. ap (λ (is : List Item). if y == stage then t.more else is) (same y ∙ f.others y differs)) t.follows;
           }
 

@@ -8,7 +8,6 @@ use Rattle.dp_semantics.proofs.Ways.{event_of}
 use Rattle.dp_semantics.proofs.Followed.{followed_has, all_joins}
 use Rattle.dp_semantics.proofs.Taking.{effect_of_word}
 use Rattle.dp_theorem.proofs.Source.{well_parts, each_joins, each_parts, head_fact}
-unfoldable use Rattle.dp_net.specs.Quiet.{quiet_from}
 use Rattle.dp_net.specs.NetItems.{Marks, Item, weights, said_all, item_list, NetTaken, net_taken_from}
 use Rattle.dp_net.specs.NetRun.{NetTurn, NetEnded, net_turned, net_own_step, net_consumed_step, net_by}
 unfoldable use Rattle.dp_net.specs.NetRun.{net_from}
@@ -44,8 +43,10 @@ module _ (p : Program) (plan : Plan) (m : Marks) (input : List ℤ) (marked : Ma
     pub follows : Follows p plan m xs (with_own stage more left)
 
   abbrev pub TellsIn : ℕ → Type 0
-  TellsIn n = (xs : List Stmt) → ReadableText xs → (cells : List ℤ) (lists : List (List Item)) (own : List Item) (closing : Bool) (e : NetEnded) → Came xs (item_list lists) →
-      net_from p plan m input stage n (record { to_do = xs; cells = cells; lists = lists; own = own; closing = closing }) ≡ Some e → Tells xs (item_list lists) own e
+  TellsIn n = (xs : List Stmt) → ReadableText xs → (cells : List ℤ) (lists : List (List Item)) (own : List Item) (closing : Bool) (e : NetEnded) →
+      Came xs (item_list lists) →
+      net_from p plan m input stage n (record { to_do = xs; cells = cells; lists = lists; own = own; closing = closing }) ≡ Some e →
+      Tells xs (item_list lists) own e
 
   module _ (n : ℕ) (go : TellsIn n) (x : Stmt) (cells : List ℤ) (lists : List (List Item)) (own : List Item) (closing : Bool) (e : NetEnded) where
     abbrev pub h : Stmt-F Stmt
@@ -92,14 +93,18 @@ module _ (p : Program) (plan : Plan) (m : Marks) (input : List ℤ) (marked : Ma
         next_text : (z : ℤ) → ReadableText (followed x rest h z)
         next_text z = record { well = next_well z; sites = next_sites z; text = texts z }
 
-        own_past : u ≡ stage → (effect : Effect) → Form p h effect → event_as_assumed p plan (record { site = (site_of h).0; loads = []; effect = effect }) ≡ true → Came (followed x rest h (value_of effect)) left
+        own_past : u ≡ stage → (effect : Effect) → Form p h effect →
+            event_as_assumed p plan (record { site = (site_of h).0; loads = []; effect = effect }) ≡ true →
+            Came (followed x rest h (value_of effect)) left
         own_past here effect form assumed = by s refl came
           where
             by : (t : ℕ) → s ≡ t → Follows p plan m (part t (x ∷ rest)) left → Follows p plan m (part t (followed x rest h (value_of effect))) left
             by zero is f = f
             by (suc t) is f = read_past p plan m (suc t) x rest well parts.1 (omega arith) (omega (arith, here, is)) effect form assumed f
 
-        own_tells : u ≡ stage → (o : Evaluated Effect) → evaluated p input cells h ≡ o → net_by p plan m input stage (net_from p plan m input stage n) (net_own_step p plan (turn (x ∷ rest)) x rest h o) ≡ Some e → Tells (x ∷ rest) left own e
+        own_tells : u ≡ stage → (o : Evaluated Effect) → evaluated p input cells h ≡ o →
+            net_by p plan m input stage (net_from p plan m input stage n) (net_own_step p plan (turn (x ∷ rest)) x rest h o) ≡ Some e →
+            Tells (x ∷ rest) left own e
         own_tells here (Err kind) gave q = absurd (cc q)
         own_tells here (Ok v) gave q = by (event_as_assumed p plan event) (nat_le (weights own + length ws) plan.words) refl q
           where
@@ -109,7 +114,8 @@ module _ (p : Program) (plan : Plan) (m : Marks) (input : List ℤ) (marked : Ma
             ws : List Word
             ws = words_of p plan event
 
-            by : (a b : Bool) → event_as_assumed p plan event ≡ a → net_by p plan m input stage (net_from p plan m input stage n) (if a && b then Some (net_turned p plan (turn (x ∷ rest)) x rest h v.value (own ++ said_all ws) lists) else None) ≡ Some e → Tells (x ∷ rest) left own e
+            by : (a b : Bool) → event_as_assumed p plan event ≡ a →
+                net_by p plan m input stage (net_from p plan m input stage n) (if a && b then Some (net_turned p plan (turn (x ∷ rest)) x rest h v.value (own ++ said_all ws) lists) else None) ≡ Some e → Tells (x ∷ rest) left own e
             by false b assumed q = absurd (cc q)
             by true false assumed q = absurd (cc q)
             by true true assumed q =
@@ -120,7 +126,8 @@ module _ (p : Program) (plan : Plan) (m : Marks) (input : List ℤ) (marked : Ma
                   own_is = t.own_is ∙ append_assoc own (said_all ws) t.more;
                   follows = told {next = with_own stage t.more left} event plain.0
                       (record { site = refl; does = effect_of_word p h (site_of h).0 v.value form; assumed = assumed; front = with_here stage (said_all ws ++ t.more) left u here ∙ ap (λ (is : List Item). said_all ws ++ is) (sym (with_here stage t.more left u here)) })
-                      (λ y differs. with_other stage t.more left y (λ same. differs (same ∙ sym here)) ∙ sym (with_other stage (said_all ws ++ t.more) left y (λ same. differs (same ∙ sym here)))) t.follows;
+                      (λ y differs. with_other stage t.more left y (λ same. differs (same ∙ sym here))
+                      ∙ sym (with_other stage (said_all ws ++ t.more) left y (λ same. differs (same ∙ sym here)))) t.follows;
                 }
 
         found : (u ≡ stage → ⊥) → Found p plan m s x rest left
@@ -133,7 +140,9 @@ module _ (p : Program) (plan : Plan) (m : Marks) (input : List ℤ) (marked : Ma
                 not_own : u ≤ stage → u ≤ suc t
                 not_own reach = elim (cases_eq u stage) [ inl same ↦ absurd (other same) | inr less ↦ omega (arith, reach, less, is) ]
 
-        taken_tells : (u ≡ stage → ⊥) → (o : Option NetTaken) → net_taken_from p h (left u) ≡ o → net_by p plan m input stage (net_from p plan m input stage n) (net_consumed_step p plan (turn (x ∷ rest)) x rest h o) ≡ Some e → Tells (x ∷ rest) left own e
+        taken_tells : (u ≡ stage → ⊥) → (o : Option NetTaken) → net_taken_from p h (left u) ≡ o →
+            net_by p plan m input stage (net_from p plan m input stage n) (net_consumed_step p plan (turn (x ∷ rest)) x rest h o) ≡ Some e →
+            Tells (x ∷ rest) left own e
         taken_tells other None is q = absurd (cc q)
         taken_tells other (Some w) is q = with_found (found other)
           where
@@ -155,7 +164,8 @@ module _ (p : Program) (plan : Plan) (m : Marks) (input : List ℤ) (marked : Ma
                         site = f.says.site;
                         does = f.says.does;
                         assumed = f.says.assumed;
-                        front = with_other stage t.more left u other ∙ f.says.front ∙ ap (λ (is : List Item). said_all (words_of p plan f.event) ++ is) (sym (with_other stage t.more (item_list (slice_set lists (u - 1) (f.next u))) u other ∙ lists_next u));
+                        front = with_other stage t.more left u other ∙ f.says.front
+                            ∙ ap (λ (is : List Item). said_all (words_of p plan f.event) ++ is) (sym (with_other stage t.more (item_list (slice_set lists (u - 1) (f.next u))) u other ∙ lists_next u));
                       })
                       (others_with f lists_next t.more) t.follows;
                 }
@@ -167,14 +177,17 @@ module _ (p : Program) (plan : Plan) (m : Marks) (input : List ℤ) (marked : Ma
                     by [] at some = absurd (omega (arith, some))
                     by (i ∷ is) at some = list_wide p plan m lists u i is low at
 
-                later_came : (f : Found p plan m s x rest left) → ((t : ℕ) → item_list (slice_set lists (u - 1) (f.next u)) t ≡ f.next t) → Came (followed x rest h (value_of f.event.effect)) (item_list (slice_set lists (u - 1) (f.next u)))
+                later_came : (f : Found p plan m s x rest left) → ((t : ℕ) → item_list (slice_set lists (u - 1) (f.next u)) t ≡ f.next t) →
+                    Came (followed x rest h (value_of f.event.effect)) (item_list (slice_set lists (u - 1) (f.next u)))
                 later_came f same = by s refl f.later
                   where
-                    by : (t : ℕ) → s ≡ t → Follows p plan m (project_all p plan t (followed x rest h (value_of f.event.effect))) f.next → Follows p plan m (part t (followed x rest h (value_of f.event.effect))) (item_list (slice_set lists (u - 1) (f.next u)))
+                    by : (t : ℕ) → s ≡ t → Follows p plan m (project_all p plan t (followed x rest h (value_of f.event.effect))) f.next →
+                        Follows p plan m (part t (followed x rest h (value_of f.event.effect))) (item_list (slice_set lists (u - 1) (f.next u)))
                     by zero is k = let reach = own_site.1 in let real = low in absurd (other (omega (arith, reach, real, is)))
                     by (suc t) is k = follows_same p plan m k (item_list (slice_set lists (u - 1) (f.next u))) same
 
-                others_with : (f : Found p plan m s x rest left) → ((t : ℕ) → item_list (slice_set lists (u - 1) (f.next u)) t ≡ f.next t) → (more : List Item) → Others u (with_own stage more left) (with_own stage more (item_list (slice_set lists (u - 1) (f.next u))))
+                others_with : (f : Found p plan m s x rest left) → ((t : ℕ) → item_list (slice_set lists (u - 1) (f.next u)) t ≡ f.next t) →
+                    (more : List Item) → Others u (with_own stage more left) (with_own stage more (item_list (slice_set lists (u - 1) (f.next u))))
                 others_with f same more t differs = ap (λ (is : List Item). if t == stage then more else is) (same t ∙ f.others t differs)
 
         pub site_tells : net_from p plan m input stage (suc n) (turn (x ∷ rest)) ≡ Some e → Tells (x ∷ rest) left own e

@@ -45,7 +45,8 @@ module _ (p : Program) (plan : Plan) (m : Marks) where
 
   pub weights_are : (gs : List Group) → weights (items gs) ≡ length (flats gs)
   weights_are [] = refl
-  weights_are (g ∷ gs) = sum_by-cons weight (item g) (items gs) ∙ (let w = weight_is g in let r = weights_are gs in let l = length-append (flat g) (flats gs) in omega (arith, w, r, l))
+  weights_are (g ∷ gs) = sum_by-cons weight (item g) (items gs)
+      ∙ (let w = weight_is g in let r = weights_are gs in let l = length-append (flat g) (flats gs) in omega (arith, w, r, l))
 
   abbrev pub all_flats : List (List Group) → List (List Word)
   all_flats groups = map flats groups
@@ -81,7 +82,8 @@ module _ (p : Program) (plan : Plan) (m : Marks) where
 
   pub item_list_is : (lists : List (List Item)) (t : ℕ) → 0 < t → item_list lists t ≡ get_or lists (t - 1) []
   item_list_is lists zero h = absurd (omega (arith, h))
-  item_list_is lists (suc t) h = let e : t ≡ suc t - 1 = omega arith in items_in_is (slice_get lists t) ∙ unwrap_or-slice_get lists t [] ∙ ap (λ (n : ℕ). get_or lists n []) e
+  item_list_is lists (suc t) h = let e : t ≡ suc t - 1 = omega arith in items_in_is (slice_get lists t) ∙ unwrap_or-slice_get lists t []
+      ∙ ap (λ (n : ℕ). get_or lists n []) e
 
   pub items_of_groups : (groups : List (List Group)) (t : ℕ) → 0 < t → item_list (all_items groups) t ≡ items (group_list groups t)
   items_of_groups groups t low = item_list_is (all_items groups) t low ∙ map_get items groups (t - 1) []
@@ -112,7 +114,8 @@ module _ (p : Program) (plan : Plan) (m : Marks) where
       is : events ≡ event ∷ more
       site : event.site ≡ (site_of (out-Stmt x)).0
 
-    first_event : {to_do after : List Stmt} {cells then_cells : List ℤ} {events : List Event} → Goes p input to_do cells events after then_cells → (x : Stmt) (b : List Stmt) → to_do ≡ x ∷ b → after ≡ [] → First x events
+    first_event : {to_do after : List Stmt} {cells then_cells : List ℤ} {events : List Event} → Goes p input to_do cells events after then_cells →
+        (x : Stmt) (b : List Stmt) → to_do ≡ x ∷ b → after ≡ [] → First x events
     first_event stays x b e n = absurd (clash (sym e ∙ n))
       where
         clash : x ∷ b ≡ [] → ⊥
@@ -142,7 +145,8 @@ module _ (p : Program) (plan : Plan) (m : Marks) where
       skip_words site [] g = refl
       skip_words site (Block f events ∷ gs) g =
           let r = first_word f events g.0 in
-          ap (λ (es : List Event). after_loads_of site (said es ++ flats gs)) r.2 ∙ rw (and-false (r.0.site == site)) refl ∙ ap (λ (es : List Event). said es ++ flats gs) (sym r.2)
+          ap (λ (es : List Event). after_loads_of site (said es ++ flats gs)) r.2 ∙ rw (and-false (r.0.site == site)) refl
+          ∙ ap (λ (es : List Event). said es ++ flats gs) (sym r.2)
       skip_words site (One w ∷ gs) g = elim (cases_Bool (is_load_of site w)) [ inl q ↦ rw q (skip_words site gs g.1) | inr q ↦ rw q refl ]
 
       skip_items : (site : ℕ) (gs : List Group) → behind_loads site (items gs) ≡ items (skip site gs)
@@ -152,18 +156,22 @@ module _ (p : Program) (plan : Plan) (m : Marks) where
 
       -- the same is taken of both, or of neither
       pub data Alike : Result Taken Void → Option NetTaken → Type 0 where
-        both : (effect : Effect) (gs : List Group) → Each Good gs → Alike (Ok (record { effect = effect; rest = flats gs })) (Some (record { effect = effect; rest = items gs }))
+        both : (effect : Effect) (gs : List Group) → Each Good gs →
+            Alike (Ok (record { effect = effect; rest = flats gs })) (Some (record { effect = effect; rest = items gs }))
         none : (why : Void) → Alike (Err why) None
 
-      by_effect : (site : ℕ) (w : Word) (gs : List Group) → Each Good gs → (o : Option Effect) → Alike (taken_by site w (flats gs) o) (net_taken_by (items gs) o)
+      by_effect : (site : ℕ) (w : Word) (gs : List Group) → Each Good gs → (o : Option Effect) →
+          Alike (taken_by site w (flats gs) o) (net_taken_by (items gs) o)
       by_effect site w gs g None = none (Astray site (Some w))
       by_effect site w gs g (Some effect) = both effect gs g
 
-      done_alike : (head : Stmt-F Stmt) → begins m (site_of head).0 ≡ false → (gs : List Group) → Each Good gs → Alike (done_from p head (flats gs)) (net_done_from p head (items gs))
+      done_alike : (head : Stmt-F Stmt) → begins m (site_of head).0 ≡ false → (gs : List Group) → Each Good gs →
+          Alike (done_from p head (flats gs)) (net_done_from p head (items gs))
       done_alike head out [] g = none (Astray (site_of head).0 None)
       done_alike head out (One w ∷ gs) g = by (is_done_of (site_of head).0 w)
         where
-          by : (b : Bool) → Alike (if b then taken_by (site_of head).0 w (flats gs) (effect_by p head w) else Err (Astray (site_of head).0 (Some w))) (if b then net_taken_by (items gs) (effect_by p head w) else None)
+          by : (b : Bool) →
+              Alike (if b then taken_by (site_of head).0 w (flats gs) (effect_by p head w) else Err (Astray (site_of head).0 (Some w))) (if b then net_taken_by (items gs) (effect_by p head w) else None)
           by true = by_effect (site_of head).0 w gs g.1 (effect_by p head w)
           by false = none (Astray (site_of head).0 (Some w))
       done_alike head out (Block f events ∷ gs) g =
@@ -174,7 +182,8 @@ module _ (p : Program) (plan : Plan) (m : Marks) where
           differ : true ≡ false → ⊥
           differ e = absurd (cc e)
 
-      pub taken_alike : (head : Stmt-F Stmt) → begins m (site_of head).0 ≡ false → (gs : List Group) → Each Good gs → Alike (taken_from p head (flats gs)) (net_taken_from p head (items gs))
+      pub taken_alike : (head : Stmt-F Stmt) → begins m (site_of head).0 ≡ false → (gs : List Group) → Each Good gs →
+          Alike (taken_from p head (flats gs)) (net_taken_from p head (items gs))
       taken_alike head out gs g =
           subst (λ (ws : List Word). Alike (done_from p head ws) (net_taken_from p head (items gs))) (sym (skip_words (site_of head).0 gs g))
           (subst (λ (is : List Item). Alike (done_from p head (flats (skip (site_of head).0 gs))) (net_done_from p head is)) (sym (skip_items (site_of head).0 gs)) (done_alike head out (skip (site_of head).0 gs) (skip_good (site_of head).0 gs g)))

@@ -66,7 +66,8 @@ module _ (p : Program) (plan : Plan) where
       stage : home p plan x ≡ u
       inside : InVar p x c
 
-    found_in : (u c : ℕ) (xs : List ℕ) → list_any (is_hidden_by p plan u c) xs ≡ true → (x : ℕ) × ((test : ℕ → Bool) → list_all test xs ≡ true → test x ≡ true) × (is_hidden_by p plan u c x ≡ true)
+    found_in : (u c : ℕ) (xs : List ℕ) → list_any (is_hidden_by p plan u c) xs ≡ true →
+        (x : ℕ) × ((test : ℕ → Bool) → list_all test xs ≡ true → test x ≡ true) × (is_hidden_by p plan u c x ≡ true)
     found_in u c [] e = absurd (cc)
     found_in u c (x ∷ xs) e = elim (cases_Bool (is_hidden_by p plan u c x)) [
       | inl q ↦ (x, λ test all. (and_parts (test x) (list_all test xs) all).0, q)
@@ -111,7 +112,8 @@ module _ (p : Program) (plan : Plan) where
       stages = and_parts _ _ rest_of.0
 
       -- what it loads is at home, if it is hidden at all
-      home_here : (y c : ℕ) → list_any (λ z. z == y) (head_loads h) ≡ true → InVar p y c → (u : ℕ) → m.hides u c ≡ true → (stage_of p plan (site_of h).0 ≡ u) × (is_checked p plan (site_of h).0 ≡ false)
+      home_here : (y c : ℕ) → list_any (λ z. z == y) (head_loads h) ≡ true → InVar p y c → (u : ℕ) → m.hides u c ≡ true →
+          (stage_of p plan (site_of h).0 ≡ u) × (is_checked p plan (site_of h).0 ≡ false)
       home_here y c loaded in_y u e =
           let k = hidden_by u c (ap (λ (f : ℕ → ℕ → Bool). f u c) (sym hides_is) ∙ e) in
           let same : k.x ≡ y = laid.apart k.x y c k.inside in_y in

@@ -1,27 +1,30 @@
 -- Lists of items by their stage: what one is after another was set, or behind others.
 use Rattle.dp_semantics.proofs.Names.{◌≡◌, inl, inr, refl, sym, ap, ◌∙◌, ℕ, zero, suc, ◌-◌, ◌<◌, ◌≤◌, ◌==◌, if◌then◌else◌, List, [], ◌∷◌, ◌++◌, length, arith, eq-eqb, ne_eqb, get_or, get_or_past, get_or-set_at, get_or-set_other, get_or_append_left, get_or-append_seam, slice_set, cases_eq, cases_lt, Program, Plan, Word}
-unfoldable use Rattle.dp_net.specs.Quiet.{quiet_from}
 use Rattle.dp_net.specs.NetItems.{Marks, Item, said_all, item_list}
-unfoldable use Rattle.dp_net.specs.NetRun.{net_from}
 use Rattle.dp_net.specs.Follows.{Others}
 use Rattle.dp_net.proofs.Groups.{item_list_is}
 
 -- lists of items, by their stage
 module _ (p : Program) (plan : Plan) (m : Marks) where
   pub list_same : (lists : List (List Item)) (t : ℕ) (items : List Item) → 0 < t → t < suc (length lists) → item_list (slice_set lists (t - 1) items) t ≡ items
-  list_same lists t items low high = item_list_is p plan m (slice_set lists (t - 1) items) t low ∙ get_or-set_at lists (t - 1) (t - 1) items [] refl (omega (arith, low, high))
+  list_same lists t items low high = item_list_is p plan m (slice_set lists (t - 1) items) t low
+      ∙ get_or-set_at lists (t - 1) (t - 1) items [] refl (omega (arith, low, high))
 
-  pub list_other : (lists : List (List Item)) (t u : ℕ) (items : List Item) → 0 < t → 0 < u → (u ≡ t → ⊥) → item_list (slice_set lists (t - 1) items) u ≡ item_list lists u
+  pub list_other : (lists : List (List Item)) (t u : ℕ) (items : List Item) → 0 < t → 0 < u → (u ≡ t → ⊥) →
+      item_list (slice_set lists (t - 1) items) u ≡ item_list lists u
   list_other lists t u items low real differ =
-      item_list_is p plan m (slice_set lists (t - 1) items) u real ∙ get_or-set_other lists (t - 1) (u - 1) items [] (λ e. differ (omega (arith, e, low, real))) ∙ sym (item_list_is p plan m lists u real)
+      item_list_is p plan m (slice_set lists (t - 1) items) u real
+      ∙ get_or-set_other lists (t - 1) (u - 1) items [] (λ e. differ (omega (arith, e, low, real))) ∙ sym (item_list_is p plan m lists u real)
 
   pub list_early : (lists : List (List Item)) (items : List Item) (t : ℕ) → 0 < t → t ≤ length lists → item_list (lists ++ items ∷ []) t ≡ item_list lists t
-  list_early lists items t low high = item_list_is p plan m (lists ++ items ∷ []) t low ∙ get_or_append_left lists (items ∷ []) [] (t - 1) (omega (arith, low, high)) ∙ sym (item_list_is p plan m lists t low)
+  list_early lists items t low high = item_list_is p plan m (lists ++ items ∷ []) t low
+      ∙ get_or_append_left lists (items ∷ []) [] (t - 1) (omega (arith, low, high)) ∙ sym (item_list_is p plan m lists t low)
 
   pub list_next : (lists : List (List Item)) (items : List Item) → item_list (lists ++ items ∷ []) (suc (length lists)) ≡ items
   list_next lists items =
       let place : suc (length lists) - 1 ≡ length lists = omega arith in
-      item_list_is p plan m (lists ++ items ∷ []) (suc (length lists)) (omega arith) ∙ ap (λ (n : ℕ). get_or (lists ++ items ∷ []) n []) place ∙ get_or-append_seam lists items [] []
+      item_list_is p plan m (lists ++ items ∷ []) (suc (length lists)) (omega arith) ∙ ap (λ (n : ℕ). get_or (lists ++ items ∷ []) n []) place
+      ∙ get_or-append_seam lists items [] []
 
   pub list_past : (lists : List (List Item)) (t : ℕ) → 0 < t → length lists < t → item_list lists t ≡ []
   list_past lists t low high = item_list_is p plan m lists t low ∙ get_or_past lists (t - 1) [] (omega (arith, high))
@@ -33,7 +36,8 @@ module _ (p : Program) (plan : Plan) (m : Marks) where
   ]
 
   -- only one list is another
-  pub list_others : (lists : List (List Item)) (u : ℕ) (items : List Item) (next : ℕ → List Item) → 0 < u → u < suc (length lists) → next u ≡ items → Others u (item_list lists) next → (t : ℕ) → item_list (slice_set lists (u - 1) items) t ≡ next t
+  pub list_others : (lists : List (List Item)) (u : ℕ) (items : List Item) (next : ℕ → List Item) → 0 < u → u < suc (length lists) → next u ≡ items →
+      Others u (item_list lists) next → (t : ℕ) → item_list (slice_set lists (u - 1) items) t ≡ next t
   list_others lists u items next low high here others zero = sym (others zero (λ e. omega (arith, e, low)))
   list_others lists u items next low high here others (suc t) = elim (cases_eq (suc t) u) [
     | inl same ↦ ap (item_list (slice_set lists (u - 1) items)) same ∙ list_same lists u items low high ∙ sym here ∙ ap next (sym same)

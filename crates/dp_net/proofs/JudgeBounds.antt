@@ -50,7 +50,8 @@ module _ (p : Program) (plan : Plan) (m : Marks) (limit : ℕ) where
     step_left d [] e = word_left d e
     step_left d (y ∷ ys) e = block_left d (site_of (out-Stmt x)).0 (drop (length ys) rest) (items_left p plan c.turn (site_of (out-Stmt x)).0) e
 
-  same_on : (n : ℕ) (go more : NetJudging → Option NetAgreed) → ((d : NetJudging) → Enough n d → go d ≡ more d) → (c : NetJudging) → Enough (suc n) c → (xs : List Stmt) → net_judge_at p plan m limit go c xs ≡ net_judge_at p plan m limit more c xs
+  same_on : (n : ℕ) (go more : NetJudging → Option NetAgreed) → ((d : NetJudging) → Enough n d → go d ≡ more d) → (c : NetJudging) →
+      Enough (suc n) c → (xs : List Stmt) → net_judge_at p plan m limit go c xs ≡ net_judge_at p plan m limit more c xs
   same_on n go more same c enough [] = refl
   same_on n go more same c enough (x ∷ rest) = by (net_judge_step p plan m limit c x rest) refl
     where
@@ -64,7 +65,8 @@ module _ (p : Program) (plan : Plan) (m : Marks) (limit : ℕ) where
   one_more (suc n) c enough = same_on n (net_judge_from p plan m limit n) (net_judge_from p plan m limit (suc n)) (one_more n) c enough c.turn.to_do
 
   -- A judging of any more steps comes to the same.
-  pub judge_bound_idle : (n : ℕ) (cells : List ℤ) (lists : List (List Item)) → limit < n → net_judge_from p plan m limit n (record { turn = net_begin p plan (last plan) cells lists; effects = []; sites = []; steps = 0 }) ≡ net_judge_lists p plan m limit cells lists
+  pub judge_bound_idle : (n : ℕ) (cells : List ℤ) (lists : List (List Item)) → limit < n →
+      net_judge_from p plan m limit n (record { turn = net_begin p plan (last plan) cells lists; effects = []; sites = []; steps = 0 }) ≡ net_judge_lists p plan m limit cells lists
   judge_bound_idle zero cells lists many = absurd (omega (arith, many))
   judge_bound_idle (suc n) cells lists many = elim (cases_lt limit n) [
     | inl more ↦ sym (one_more n (record { turn = net_begin p plan (last plan) cells lists; effects = []; sites = []; steps = 0 }) (record { within = omega arith; left = omega (arith, more) })) ∙ judge_bound_idle n cells lists more

@@ -60,15 +60,19 @@ unwrap_both None u z = refl
 pub applied_get : (es : List Effect) (a : List ℤ) (c : ℕ) → c < length a → get_or (applied es a) c (pos 0) ≡ unwrap_or (last_of c es) (get_or a c (pos 0))
 applied_get [] a c within = refl
 applied_get (e ∷ es) a c within =
-    applied_get es (stored e a) c (omega (arith, within, stored_size e a)) ∙ ap (unwrap_or (last_of c es)) (get_stored e a c within) ∙ unwrap_both (last_of c es) (stored_at c e) (get_or a c (pos 0))
+    applied_get es (stored e a) c (omega (arith, within, stored_size e a)) ∙ ap (unwrap_or (last_of c es)) (get_stored e a c within)
+    ∙ unwrap_both (last_of c es) (stored_at c e) (get_or a c (pos 0))
 
 -- The memories after effects that store the same last values agree where those before do.
-pub agree_after : (m : Marks) (s : ℕ) (es fs : List Effect) (a b : List ℤ) → ((c : ℕ) → Open m s c → last_of c es ≡ last_of c fs) → Agrees m s a b → Agrees m s (applied es a) (applied fs b)
+pub agree_after : (m : Marks) (s : ℕ) (es fs : List Effect) (a b : List ℤ) → ((c : ℕ) → Open m s c → last_of c es ≡ last_of c fs) → Agrees m s a b →
+    Agrees m s (applied es a) (applied fs b)
 agree_after m s es fs a b same ab = record {
   size = applied_size es a ∙ ab.size ∙ sym (applied_size fs b);
   same = λ c o. elim (cases_lt c (length a)) [
-    | inl within ↦ applied_get es a c within ∙ ap (λ (u : Option ℤ). unwrap_or u (get_or a c (pos 0))) (same c o) ∙ ap (unwrap_or (last_of c fs)) (ab.same c o) ∙ sym (applied_get fs b c (omega (arith, within, ab.size)))
-    | inr past ↦ get_or_past (applied es a) c (pos 0) (omega (arith, past, applied_size es a)) ∙ sym (get_or_past (applied fs b) c (pos 0) (omega (arith, past, applied_size fs b, ab.size)))
+    | inl within ↦ applied_get es a c within ∙ ap (λ (u : Option ℤ). unwrap_or u (get_or a c (pos 0))) (same c o)
+        ∙ ap (unwrap_or (last_of c fs)) (ab.same c o) ∙ sym (applied_get fs b c (omega (arith, within, ab.size)))
+    | inr past ↦ get_or_past (applied es a) c (pos 0) (omega (arith, past, applied_size es a))
+        ∙ sym (get_or_past (applied fs b) c (pos 0) (omega (arith, past, applied_size fs b, ab.size)))
   ];
 }
 
@@ -146,7 +150,8 @@ after_once hidden told (Printed z) h = h
 after_once hidden told (Decided z) h = h
 after_once hidden told (Tried z) h = h
 
-after_last : (hidden : ℕ → Bool) (c : ℕ) → hidden c ≡ false → (told : List Effect) (e : Effect) → Once told → last_of c (told_after hidden told e) ≡ option_or (stored_at c e) (last_of c told)
+after_last : (hidden : ℕ → Bool) (c : ℕ) → hidden c ≡ false → (told : List Effect) (e : Effect) → Once told →
+    last_of c (told_after hidden told e) ≡ option_or (stored_at c e) (last_of c told)
 after_last hidden c shown told (Printed z) h = refl
 after_last hidden c shown told (Decided z) h = refl
 after_last hidden c shown told (Tried z) h = refl
@@ -163,10 +168,12 @@ option_assoc : {X : Type 0} (a b c : Option X) → option_or (option_or a b) c �
 option_assoc (Some x) b c = refl
 option_assoc None b c = refl
 
-behind_last : (hidden : ℕ → Bool) (c : ℕ) → hidden c ≡ false → (told es : List Effect) → Once told → last_of c (net_behind hidden told es) ≡ option_or (last_of c es) (last_of c told)
+behind_last : (hidden : ℕ → Bool) (c : ℕ) → hidden c ≡ false → (told es : List Effect) → Once told →
+    last_of c (net_behind hidden told es) ≡ option_or (last_of c es) (last_of c told)
 behind_last hidden c shown told [] h = refl
 behind_last hidden c shown told (e ∷ es) h =
-    behind_last hidden c shown (told_after hidden told e) es (after_once hidden told e h) ∙ ap (option_or (last_of c es)) (after_last hidden c shown told e h) ∙ sym (option_assoc (last_of c es) (stored_at c e) (last_of c told))
+    behind_last hidden c shown (told_after hidden told e) es (after_once hidden told e h)
+    ∙ ap (option_or (last_of c es)) (after_last hidden c shown told e h) ∙ sym (option_assoc (last_of c es) (stored_at c e) (last_of c told))
 
 -- The net stores have the last value of each cell that isn't hidden.
 pub net_last : (hidden : ℕ → Bool) (c : ℕ) → hidden c ≡ false → (es : List Effect) → last_of c (net_of hidden es) ≡ last_of c es
@@ -177,5 +184,6 @@ net_last hidden c shown es = behind_last hidden c shown [] es tt ∙ right (last
     right None = refl
 
 -- A later stage's memory after the net stores of another stage's block agrees with that after all its effects.
-pub agree_net : (m : Marks) (s t : ℕ) → (t ≡ s → ⊥) → (es : List Effect) (a b : List ℤ) → Agrees m s a b → Agrees m s (applied es a) (applied (net_of (m.hides t) es) b)
+pub agree_net : (m : Marks) (s t : ℕ) → (t ≡ s → ⊥) → (es : List Effect) (a b : List ℤ) → Agrees m s a b →
+    Agrees m s (applied es a) (applied (net_of (m.hides t) es) b)
 agree_net m s t other es a b ab = agree_after m s es (net_of (m.hides t) es) a b (λ c o. sym (net_last (m.hides t) c (o t other) es)) ab

@@ -44,7 +44,8 @@ taken_lighter p head is t e =
     omega (arith, a, b)
 
 module _ (p : Program) (plan : Plan) (m : Marks) where
-  lists_lighter : (lists : List (List Item)) (t : ℕ) (rest : List Item) → weights rest < weights (item_list lists t) → sum_by weights (slice_set lists (t - 1) rest) < sum_by weights lists
+  lists_lighter : (lists : List (List Item)) (t : ℕ) (rest : List Item) → weights rest < weights (item_list lists t) →
+      sum_by weights (slice_set lists (t - 1) rest) < sum_by weights lists
   lists_lighter lists zero rest h = absurd (omega (arith, h))
   lists_lighter lists (suc t) rest h =
       let e : suc t - 1 ≡ t = omega arith in
@@ -64,7 +65,8 @@ module _ (p : Program) (plan : Plan) (m : Marks) where
       left : plan.words + sum_by weights c.lists < n + weights c.own
 
     -- a block that comes to its end has made a step, and no more than it may
-    pub made_some : (n : ℕ) (x : Stmt) (rest : List Stmt) (cells : List ℤ) (events : List Event) (after : List ℤ) → quiet_from p input n (x ∷ rest) cells ≡ Through events after → 0 < length events
+    pub made_some : (n : ℕ) (x : Stmt) (rest : List Stmt) (cells : List ℤ) (events : List Event) (after : List ℤ) →
+        quiet_from p input n (x ∷ rest) cells ≡ Through events after → 0 < length events
     unfolding quiet_from
     made_some zero x rest cells events after e = absurd (cc e)
     made_some (suc n) x rest cells events after e = by (evaluated p input cells (out-Stmt x)) e
@@ -77,7 +79,8 @@ module _ (p : Program) (plan : Plan) (m : Marks) where
             more Broke e = absurd (cc e)
             more (Through others last) e = let same : Rattle.dp_net.specs.Quiet.event_by (out-Stmt x) v.loads v.value ∷ others ≡ events = cc e in let size = ap length same in omega (arith, size)
 
-    made_few : (n : ℕ) (to_do : List Stmt) (cells : List ℤ) (events : List Event) (after : List ℤ) → quiet_from p input n to_do cells ≡ Through events after → length events ≤ n
+    made_few : (n : ℕ) (to_do : List Stmt) (cells : List ℤ) (events : List Event) (after : List ℤ) →
+        quiet_from p input n to_do cells ≡ Through events after → length events ≤ n
     made_few n to_do cells events after e = (Rattle.dp_net.proofs.Blocks.through p plan s input n to_do cells events after e).1
 
     module _ (n : ℕ) (c : NetTurn) (enough : Enough (suc n) c) (x : Stmt) (rest : List Stmt) where
@@ -94,7 +97,8 @@ module _ (p : Program) (plan : Plan) (m : Marks) where
           then_items : NetTurn
           then_items = net_turned p plan c x rest (out-Stmt x) v.value (c.own ++ said_all ws) c.lists
 
-          by : (b : Bool) → (event_as_assumed p plan event && nat_le (weights c.own + length ws) plan.words) ≡ b → (if b then Some then_items else None) ≡ Some d → Enough n d
+          by : (b : Bool) → (event_as_assumed p plan event && nat_le (weights c.own + length ws) plan.words) ≡ b →
+              (if b then Some then_items else None) ≡ Some d → Enough n d
           by true q e =
               let is : then_items ≡ d = cc e in
               let low = leb-true (weights c.own + length ws) plan.words (and_parts (event_as_assumed p plan event) (nat_le (weights c.own + length ws) plan.words) q).1 in
@@ -107,7 +111,8 @@ module _ (p : Program) (plan : Plan) (m : Marks) where
               record { fits = omega (arith, low, own_is, join, said); left = omega (arith, left, own_is, join, said, some, lists_are) }
           by false q e = absurd (cc e)
 
-      taken_left : (d : NetTurn) (r : Option NetTaken) → net_taken_from p (out-Stmt x) (items_left p plan c (site_of (out-Stmt x)).0) ≡ r → net_consumed_step p plan c x rest (out-Stmt x) r ≡ Some d → Enough n d
+      taken_left : (d : NetTurn) (r : Option NetTaken) → net_taken_from p (out-Stmt x) (items_left p plan c (site_of (out-Stmt x)).0) ≡ r →
+          net_consumed_step p plan c x rest (out-Stmt x) r ≡ Some d → Enough n d
       taken_left d None is e = absurd (cc e)
       taken_left d (Some w) is e =
           let same : net_consumed p plan c x rest (out-Stmt x) w ≡ d = cc e in
@@ -118,7 +123,8 @@ module _ (p : Program) (plan : Plan) (m : Marks) where
           let left = enough.left in
           record { fits = omega (arith, fits, own_is); left = omega (arith, left, fewer, own_is, lists_are) }
 
-      made_left : (site : ℕ) (behind : List Stmt) (y : Stmt) (ys : List Stmt) (d : NetTurn) (o : Outcome) → quiet_from p input (plan.words - weights c.own) (y ∷ ys) c.cells ≡ o → net_made p plan m site c behind o ≡ Some d → Enough n d
+      made_left : (site : ℕ) (behind : List Stmt) (y : Stmt) (ys : List Stmt) (d : NetTurn) (o : Outcome) →
+          quiet_from p input (plan.words - weights c.own) (y ∷ ys) c.cells ≡ o → net_made p plan m site c behind o ≡ Some d → Enough n d
       made_left site behind y ys d Broke is e = absurd (cc e)
       made_left site behind y ys d (Through events after) is e =
           let same : net_past p plan c behind after c.lists (c.own ++ Net site (length events) (net_of (m.hides (stage_of p plan site)) (map (λ (e : Event). e.effect) events)) ∷ []) ≡ d = cc e in
@@ -132,7 +138,8 @@ module _ (p : Program) (plan : Plan) (m : Marks) where
           let left = enough.left in
           record { fits = omega (arith, own_is, join, one, few, fits); left = omega (arith, left, own_is, join, one, some, lists_are) }
 
-      met_left : (site : ℕ) (behind : List Stmt) (d : NetTurn) (is : List Item) → items_left p plan c site ≡ is → net_met p plan site c behind is ≡ Some d → Enough n d
+      met_left : (site : ℕ) (behind : List Stmt) (d : NetTurn) (is : List Item) → items_left p plan c site ≡ is →
+          net_met p plan site c behind is ≡ Some d → Enough n d
       met_left site behind d [] at e = absurd (cc e)
       met_left site behind d (Said w ∷ more) at e = absurd (cc e)
       met_left site behind d (Net f count stores ∷ more) at e = elim (cases_Bool ((f == site) && nat_lt 0 count)) [
@@ -159,7 +166,8 @@ module _ (p : Program) (plan : Plan) (m : Marks) where
         | inr q ↦ met_left (site_of (out-Stmt x)).0 (drop (length ys) rest) d (items_left p plan c (site_of (out-Stmt x)).0) refl (rw q at e)
       ]
 
-    same_on : (n : ℕ) (go more : NetTurn → Option NetEnded) → ((d : NetTurn) → Enough n d → go d ≡ more d) → (c : NetTurn) → Enough (suc n) c → (xs : List Stmt) → net_at p plan m input s go c xs ≡ net_at p plan m input s more c xs
+    same_on : (n : ℕ) (go more : NetTurn → Option NetEnded) → ((d : NetTurn) → Enough n d → go d ≡ more d) → (c : NetTurn) → Enough (suc n) c →
+        (xs : List Stmt) → net_at p plan m input s go c xs ≡ net_at p plan m input s more c xs
     same_on n go more same c enough [] = refl
     same_on n go more same c enough (x ∷ rest) = by (net_step p plan m input s c x rest) refl
       where
@@ -174,9 +182,11 @@ module _ (p : Program) (plan : Plan) (m : Marks) where
     one_more (suc n) c enough = same_on n (net_from p plan m input s n) (net_from p plan m input s (suc n)) (one_more n) c enough c.to_do
 
     -- A turn with any more steps ends the same.
-    pub net_bound_idle : (n : ℕ) (cells : List ℤ) (lists : List (List Item)) → plan.words + sum_by weights lists < n → net_from p plan m input s n (net_begin p plan s cells lists) ≡ net_run p plan m input s cells lists
+    pub net_bound_idle : (n : ℕ) (cells : List ℤ) (lists : List (List Item)) → plan.words + sum_by weights lists < n →
+        net_from p plan m input s n (net_begin p plan s cells lists) ≡ net_run p plan m input s cells lists
     net_bound_idle zero cells lists many = absurd (omega (arith, many))
     net_bound_idle (suc n) cells lists many = elim (cases_lt (plan.words + sum_by weights lists) n) [
-      | inl more ↦ sym (one_more n (net_begin p plan s cells lists) (record { fits = omega arith; left = omega (arith, more) })) ∙ net_bound_idle n cells lists more
+      | inl more ↦ sym (one_more n (net_begin p plan s cells lists) (record { fits = omega arith; left = omega (arith, more) }))
+          ∙ net_bound_idle n cells lists more
       | inr few ↦ let e : suc n ≡ plan.words + sum_by weights lists + 1 = omega (arith, many, few) in ap (λ (k : ℕ). net_from p plan m input s k (net_begin p plan s cells lists)) e
     ]

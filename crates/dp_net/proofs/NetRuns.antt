@@ -2,7 +2,6 @@
 use Rattle.dp_semantics.proofs.Names.{◌≡◌, refl, sym, subst, ℕ, zero, suc, ◌+◌, ◌-◌, Bool, true, List, [], ◌∷◌, ◌++◌, ℤ, list_all, arith, Stmt, out-Stmt, Program, Plan, followed, TurnEnd}
 unfoldable use Rattle.dp_net.proofs.Strict.{strict_from}
 use Rattle.dp_semantics.proofs.Followed.{Parts}
-unfoldable use Rattle.dp_net.specs.Quiet.{quiet_from}
 use Rattle.dp_net.specs.NetItems.{Marks}
 use Rattle.dp_net.specs.NetRun.{net_by, net_step}
 unfoldable use Rattle.dp_net.specs.NetRun.{net_from}
@@ -16,22 +15,29 @@ module _ (p : Program) (plan : Plan) (m : Marks) (input : List ℤ) (marked : Ma
   module _ (ready : (x : Stmt) → test x ≡ true → Ready p plan m (out-Stmt x) × Parts (λ xs. list_all test xs ≡ true) (out-Stmt x)) (s : ℕ) where
     -- with so many steps for the items, whatever more the words have
     abbrev AlikeIn : ℕ → Type 0
-    AlikeIn k = (n : ℕ) (to_do : List Stmt) (cells mem : List ℤ) (groups : List (List Group)) (made : List Group) (closing : Bool) → Held p plan m input marked test ready s to_do cells mem groups made → Enough p plan m input marked test ready s k groups made → Enough p plan m input marked test ready s n groups made →
+    AlikeIn k = (n : ℕ) (to_do : List Stmt) (cells mem : List ℤ) (groups : List (List Group)) (made : List Group) (closing : Bool) →
+        Held p plan m input marked test ready s to_do cells mem groups made → Enough p plan m input marked test ready s k groups made →
+        Enough p plan m input marked test ready s n groups made →
         SameEnd p plan m input marked test ready s (strict_from p plan input s n (word_turn p plan m input marked test ready s to_do cells groups made closing)) (net_from p plan m input s k (item_turn p plan m input marked test ready s to_do mem groups made closing))
 
     module _ (k : ℕ) (go : AlikeIn k) (n : ℕ) (x : Stmt) (cells mem : List ℤ) (groups : List (List Group)) (made : List Group) (closing : Bool) where
-      at_site : (rest : List Stmt) → Held p plan m input marked test ready s (x ∷ rest) cells mem groups made → Enough p plan m input marked test ready s (suc k) groups made → Enough p plan m input marked test ready s (suc n) groups made → Plain m x → ((z : ℤ) → Text m (followed x rest (out-Stmt x) z)) →
+      at_site : (rest : List Stmt) → Held p plan m input marked test ready s (x ∷ rest) cells mem groups made →
+          Enough p plan m input marked test ready s (suc k) groups made → Enough p plan m input marked test ready s (suc n) groups made → Plain m x →
+          ((z : ℤ) → Text m (followed x rest (out-Stmt x) z)) →
           SameEnd p plan m input marked test ready s (strict_from p plan input s (suc n) (word_turn p plan m input marked test ready s (x ∷ rest) cells groups made closing)) (net_from p plan m input s (suc k) (item_turn p plan m input marked test ready s (x ∷ rest) mem groups made closing))
       unfolding strict_from net_from
       at_site rest held many more plain texts = site_case p plan m input marked test ready s x rest cells mem groups made closing held plain texts (strict_from p plan input s n) (net_from p plan m input s k)
           (λ to_do cells' mem' groups' made' closing' held' paid. go n to_do cells' mem' groups' made' closing' held' (omega (arith, many, paid)) (omega (arith, more, paid)))
 
-      at_block : (b rest : List Stmt) → Held p plan m input marked test ready s (x ∷ (b ++ rest)) cells mem groups made → Enough p plan m input marked test ready s (suc k) groups made → Enough p plan m input marked test ready s (suc n) groups made → m.block_at (site_at x) ≡ x ∷ b → Text m rest →
+      at_block : (b rest : List Stmt) → Held p plan m input marked test ready s (x ∷ (b ++ rest)) cells mem groups made →
+          Enough p plan m input marked test ready s (suc k) groups made → Enough p plan m input marked test ready s (suc n) groups made →
+          m.block_at (site_at x) ≡ x ∷ b → Text m rest →
           SameEnd p plan m input marked test ready s (strict_from p plan input s (suc n) (word_turn p plan m input marked test ready s (x ∷ (b ++ rest)) cells groups made closing)) (net_from p plan m input s (suc k) (item_turn p plan m input marked test ready s (x ∷ (b ++ rest)) mem groups made closing))
       unfolding net_from
       at_block b rest held many more at text = by (block_case p plan m input marked test ready s x b rest cells mem groups made closing held at text)
         where
-          by : Through_it p plan m input marked test ready s x b rest cells mem groups made closing held at text → SameEnd p plan m input marked test ready s (strict_from p plan input s (suc n) (word_turn p plan m input marked test ready s (x ∷ (b ++ rest)) cells groups made closing)) (net_by p plan m input s (net_from p plan m input s k) (net_step p plan m input s (item_turn p plan m input marked test ready s (x ∷ (b ++ rest)) mem groups made closing) x (b ++ rest)))
+          by : Through_it p plan m input marked test ready s x b rest cells mem groups made closing held at text →
+              SameEnd p plan m input marked test ready s (strict_from p plan input s (suc n) (word_turn p plan m input marked test ready s (x ∷ (b ++ rest)) cells groups made closing)) (net_by p plan m input s (net_from p plan m input s k) (net_step p plan m input s (item_turn p plan m input marked test ready s (x ∷ (b ++ rest)) mem groups made closing) x (b ++ rest)))
           by (broken nothing stops) = let r = stops (suc n) more in subst (λ (u : TurnEnd). SameEnd p plan m input marked test ready s u (net_by p plan m input s (net_from p plan m input s k) (net_step p plan m input s (item_turn p plan m input marked test ready s (x ∷ (b ++ rest)) mem groups made closing) x (b ++ rest)))) (sym r.1) (rw nothing tt)
           by (gone w) =
               let h = w.held_then in
@@ -49,6 +55,7 @@ module _ (p : Program) (plan : Plan) (m : Marks) (input : List ℤ) (marked : Ma
     alike (suc k) (suc n) (x ∷ rest) cells mem groups made closing held many more = elim (headed m p plan input marked x rest held.text) [
       | alone plain texts ↦ at_site k (alike k) n x cells mem groups made closing rest held many more plain texts
       | joined b behind at is text ↦
-          subst (λ (ys : List Stmt). Held p plan m input marked test ready s (x ∷ ys) cells mem groups made → SameEnd p plan m input marked test ready s (strict_from p plan input s (suc n) (word_turn p plan m input marked test ready s (x ∷ ys) cells groups made closing)) (net_from p plan m input s (suc k) (item_turn p plan m input marked test ready s (x ∷ ys) mem groups made closing))) (sym is)
+          subst (λ (ys : List Stmt). Held p plan m input marked test ready s (x ∷ ys) cells mem groups made →
+          SameEnd p plan m input marked test ready s (strict_from p plan input s (suc n) (word_turn p plan m input marked test ready s (x ∷ ys) cells groups made closing)) (net_from p plan m input s (suc k) (item_turn p plan m input marked test ready s (x ∷ ys) mem groups made closing))) (sym is)
           (λ h. at_block k (alike k) n x cells mem groups made closing b behind h many more at text) held
     ]

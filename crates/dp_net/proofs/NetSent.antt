@@ -7,7 +7,8 @@ use Rattle.dp_net.specs.Batches.{is_onward, ends_batch}
 
 module _ (m : Marks) (k : Epoch) where
   -- a stage runs from some memory on what comes to it
-  pub runs_from : (kind : Option StageKind) (s : ℕ) (came : ℕ → NetPassed) (n : ℕ) → (before : List ℤ) × (net_at_kind m k kind s came n ≡ net_run_on m k s before (came n).packet)
+  pub runs_from : (kind : Option StageKind) (s : ℕ) (came : ℕ → NetPassed) (n : ℕ) →
+      (before : List ℤ) × (net_at_kind m k kind s came n ≡ net_run_on m k s before (came n).packet)
   runs_from (Some Par) s came n = ((came n).before, refl)
   runs_from (Some Seq) s came zero = (k.base, refl)
   runs_from (Some Seq) s came (suc n) = (cleared k (net_at_sequential m k s came n).after, refl)

@@ -1,5 +1,5 @@
 -- The judgement of items is the definition's judgement of the words that they stand for.
-use Rattle.dp_semantics.proofs.Names.{◌≡◌, ◌⊎◌, inl, inr, refl, sym, ap, ◌∙◌, subst, append_assoc, append-nil, ℕ, zero, suc, ◌+◌, ◌-◌, ◌<◌, ◌≤◌, ◌==◌, Bool, true, false, not, ◌&&◌, ◌||◌, if◌then◌else◌, List, [], ◌∷◌, ◌++◌, drop, ℤ, pos, length, length-append, length-map, length-set, map, filter_map, list_all, Option, Some, None, Ok, Err, Result, nat_le, nat_lt, lt-ltb, arith, leb-true, le-leb, lt-leb, eq-eqb, eqb-true, ne_eqb, slice_set, get_or, get_or_past, sum_by, sum_by-set, list_all-append, and_parts, and_from, cases_Bool, cases_eq, cases_lt, drop-append_seam, int_eq, Stmt, out-Stmt, Stmt-F, Program, Plan, Word, Event, Effect, Stored, Printed, Decided, Tried, site_of, value_of, stored, followed, stage_of, first_site, is_load_of, as_assumed, word_list, Void, Taken, taken_from, Turn, turned, consumed, stage_at, words_left, closes_at, applied, Judging, Judgement, Agreed, Clean, Unclean, loads_hold, judged, judge_step, judge_by, judge_at, judge_spent, last}
+use Rattle.dp_semantics.proofs.Names.{◌≡◌, inl, inr, refl, sym, ap, ◌∙◌, subst, ℕ, zero, suc, ◌+◌, ◌-◌, ◌<◌, ◌≤◌, ◌==◌, Bool, true, false, ◌&&◌, ◌||◌, if◌then◌else◌, List, [], ◌∷◌, ◌++◌, ℤ, length, list_all, Option, Some, None, Err, Result, nat_le, lt-ltb, arith, le-leb, lt-leb, eq-eqb, slice_set, get_or_past, and_parts, cases_Bool, cases_lt, drop-append_seam, Stmt, out-Stmt, Stmt-F, Program, Plan, Word, Event, Effect, site_of, value_of, stored, followed, stage_of, first_site, is_load_of, as_assumed, word_list, Void, Taken, taken_from, closes_at, applied, Judging, Unclean, loads_hold, judged, judge_by, last}
 unfoldable use Rattle.dp_semantics.proofs.Names.{judge_from}
 use Rattle.dp_semantics.specs.Judge.{judged_by}
 use Rattle.dp_semantics.specs.Words.{is_load}
@@ -10,7 +10,7 @@ use Rattle.dp_semantics.proofs.Taking.{word_list_is}
 use Rattle.dp_semantics.proofs.Followed.{Parts}
 use Rattle.dp_net.specs.NetItems.{Marks, Item, Said, Net, net_of, item_list, NetTaken}
 use Rattle.dp_net.specs.NetRun.{net_past}
-use Rattle.dp_net.specs.NetJudge.{NetJudging, NetAgreed, net_loads_hold, sites_for, net_judged, net_judged_by, block_judged, net_judge_step, net_judge_by}
+use Rattle.dp_net.specs.NetJudge.{NetJudging, net_loads_hold, sites_for, net_judged, net_judged_by, block_judged, net_judge_step, net_judge_by}
 unfoldable use Rattle.dp_net.specs.NetJudge.{net_judge_from}
 use Rattle.dp_net.proofs.Silent.{AllQuiet}
 use Rattle.dp_net.proofs.Blocks.{said, effects_of, sites_of, at_turn}
@@ -20,18 +20,7 @@ use Rattle.dp_net.proofs.Groups.{Group, One, Block, flats, items, all_flats, all
 use Rattle.dp_net.proofs.Texts.{site_at, Plain, Text, alone, joined, headed}
 use Rattle.dp_net.proofs.Ready.{Ready, steady_head, steady_next, steady_split, each_set, each_get}
 use Rattle.dp_net.proofs.SiteRuns.{Held, word_turn, item_turn}
-use Rattle.dp_net.proofs.ToldAlike.{Told, told_more, told_one, told_block}
-
-pub record VerdictsAlike (p : Program) (plan : Plan) (m : Marks) (a : Agreed) (b : NetAgreed) : Type 0 where
-  pub told : Told p plan m a.sites a.effects b.sites b.effects b.steps
-  pub closing : b.closing ≡ a.closing
-
--- both are clean, and tell the same, or neither is
-abbrev pub SameVerdict : Program → Plan → Marks → Judgement → Option NetAgreed → Type 0
-SameVerdict p plan m (Clean a) (Some b) = VerdictsAlike p plan m a b
-SameVerdict p plan m (Clean a) None = ⊥
-SameVerdict p plan m Unclean (Some b) = ⊥
-SameVerdict p plan m Unclean None = Unit {0}
+use Rattle.dp_net.proofs.ToldAlike.{Told, told_more, told_one, told_block, SameVerdict}
 
 module _ (p : Program) (plan : Plan) (m : Marks) (input : List ℤ) (marked : Marked p plan m input) (test : Stmt → Bool) (ready : (x : Stmt) → test x ≡ true → Ready p plan m (out-Stmt x) × Parts (λ xs. list_all test xs ≡ true) (out-Stmt x)) where
   abbrev at_last : ℕ
@@ -47,7 +36,8 @@ module _ (p : Program) (plan : Plan) (m : Marks) (input : List ℤ) (marked : Ma
   Holds to_do cells mem groups = Held p plan m input marked test ready at_last to_do cells mem groups []
 
   -- the loads are compared alike
-  loads_alike : (site : ℕ) (cells mem : List ℤ) → Agrees m at_last cells mem → (gs : List Group) → Each (Good p plan m input) gs → loads_hold site cells (flats gs) ≡ net_loads_hold site mem (items p plan m gs)
+  loads_alike : (site : ℕ) (cells mem : List ℤ) → Agrees m at_last cells mem → (gs : List Group) → Each (Good p plan m input) gs →
+      loads_hold site cells (flats gs) ≡ net_loads_hold site mem (items p plan m gs)
   loads_alike site cells mem ab [] g = refl
   loads_alike site cells mem ab (Block f events ∷ gs) g =
       let r = first_word p plan m input marked f events g.0 in
@@ -118,7 +108,8 @@ module _ (p : Program) (plan : Plan) (m : Marks) (input : List ℤ) (marked : Ma
               told_then : Told p plan m (sites ++ (site_of h).0 ∷ []) (effects ++ effect ∷ []) (net_sites ++ (site_of h).0 ∷ []) (net_effects ++ effect ∷ []) (steps + 1)
               told_then = told_more p plan m sites effects net_sites net_effects steps _ _ _ _ 1 told (told_one p plan m (site_of h).0 effect)
 
-              by_test : (b : Bool) → SameVerdict p plan m (judge_by (judge_from p plan n) (if b then Some (judged p plan (words_at (x ∷ rest) cells groups closing effects sites) x rest h (record { effect = effect; rest = flats gs })) else None))
+              by_test : (b : Bool) →
+                  SameVerdict p plan m (judge_by (judge_from p plan n) (if b then Some (judged p plan (words_at (x ∷ rest) cells groups closing effects sites) x rest h (record { effect = effect; rest = flats gs })) else None))
                   (net_judge_by p plan (net_judge_from p plan m limit k) (if b then Some (net_judged p plan (items_at (x ∷ rest) mem groups closing net_effects net_sites steps) x rest h (record { effect = effect; rest = items p plan m gs })) else None))
               by_test false = tt
               by_test true = rw (sets, net_sets) (go n (steps + 1) (followed x rest h (value_of effect)) (stored effect cells) (stored effect mem) (slice_set groups (t - 1) gs) (closing || closes_at (first_site p plan) (site_of h).0 effect) _ _ _ _ (omega (arith, within)) (omega (arith, more)) held_then told_then)
@@ -152,7 +143,8 @@ module _ (p : Program) (plan : Plan) (m : Marks) (input : List ℤ) (marked : Ma
           ≡ block_judged p plan limit (items_at (x ∷ (b ++ rest)) mem groups closing net_effects net_sites steps) (site_at x) rest (items p plan m (group_list p plan m groups t))
       step_is = rw (at, drop-append_seam b rest, items_of_groups p plan m groups t low)
 
-      missing : (is : List Item) → Missing p plan m input marked (site_at x) is → block_judged p plan limit (items_at (x ∷ (b ++ rest)) mem groups closing net_effects net_sites steps) (site_at x) rest is ≡ None
+      missing : (is : List Item) → Missing p plan m input marked (site_at x) is →
+          block_judged p plan limit (items_at (x ∷ (b ++ rest)) mem groups closing net_effects net_sites steps) (site_at x) rest is ≡ None
       missing [] e = refl
       missing (Said w ∷ more) e = refl
       missing (Net f count stores ∷ more) e = rw e refl
@@ -160,10 +152,12 @@ module _ (p : Program) (plan : Plan) (m : Marks) (input : List ℤ) (marked : Ma
       wide_by : (w : Word) (ws : List Word) → word_list (all_flats p plan m groups) t ≡ w ∷ ws → t < suc (length (all_flats p plan m groups))
       wide_by w ws e = elim (cases_lt (t - 1) (length (all_flats p plan m groups))) [
         | inl within ↦ omega (arith, within, low)
-        | inr past ↦ let clash : [] ≡ w ∷ ws = sym (word_list_is (all_flats p plan m groups) t low ∙ get_or_past (all_flats p plan m groups) (t - 1) [] past) ∙ e in absurd (cc clash)
+        | inr past ↦ let clash : [] ≡ w ∷ ws = sym (word_list_is (all_flats p plan m groups) t low
+            ∙ get_or_past (all_flats p plan m groups) (t - 1) [] past) ∙ e in absurd (cc clash)
       ]
 
-      refused : (words : (why : Void) × (taken_from p h (flats (group_list p plan m groups t)) ≡ Err why)) (n : ℕ) → judge_from p plan n (words_at (x ∷ (b ++ rest)) cells groups closing effects sites) ≡ Unclean
+      refused : (words : (why : Void) × (taken_from p h (flats (group_list p plan m groups t)) ≡ Err why)) (n : ℕ) →
+          judge_from p plan n (words_at (x ∷ (b ++ rest)) cells groups closing effects sites) ≡ Unclean
       unfolding judge_from
       refused words zero = refl
       refused words (suc n) = rw (list_is, words.1) refl
@@ -188,7 +182,8 @@ module _ (p : Program) (plan : Plan) (m : Marks) (input : List ℤ) (marked : Ma
           next_if u = if u then Some (record { turn = net_past p plan (item_turn p plan m input marked test ready at_last (x ∷ (b ++ rest)) mem groups [] closing) rest (applied (net_of (m.hides t) (effects_of events)) mem) (slice_set (all_items p plan m groups) (t - 1) (items p plan m gs)) []; effects = net_effects ++ net_of (m.hides t) (effects_of events); sites = net_sites ++ sites_for (site_at x) (net_of (m.hides t) (effects_of events)); steps = steps + length events }) else None
 
           met : net_judge_step p plan m limit (items_at (x ∷ (b ++ rest)) mem groups closing net_effects net_sites steps) x (b ++ rest) ≡ next_if (nat_le (steps + length events) limit)
-          met = step_is ∙ ap (λ (all : List Group). block_judged p plan limit (items_at (x ∷ (b ++ rest)) mem groups closing net_effects net_sites steps) (site_at x) rest (items p plan m all)) is ∙ rw (eq-eqb (site_at x) (site_at x) refl, lt-ltb 0 (length events) some) refl
+          met = step_is
+              ∙ ap (λ (all : List Group). block_judged p plan limit (items_at (x ∷ (b ++ rest)) mem groups closing net_effects net_sites steps) (site_at x) rest (items p plan m all)) is ∙ rw (eq-eqb (site_at x) (site_at x) refl, lt-ltb 0 (length events) some) refl
 
           path : Goes p input (x ∷ b) w.cells events [] w.after
           path = let same : w.x ∷ w.b ≡ x ∷ b = sym w.at ∙ at in subst (λ (ys : List Stmt). Goes p input ys w.cells events [] w.after) same w.path
@@ -236,14 +231,16 @@ module _ (p : Program) (plan : Plan) (m : Marks) (input : List ℤ) (marked : Ma
   judge_alike limit (suc k) zero steps (x ∷ rest) cells mem groups closing sites effects net_sites net_effects within more held told = elim (headed m p plan input marked x rest held.text) [
     | alone plain texts ↦ at_spent limit k (judge_alike limit k) steps x cells mem groups closing sites effects net_sites net_effects told rest held (omega (arith, within)) plain
     | joined b behind at is text ↦
-        subst (λ (ys : List Stmt). Holds (x ∷ ys) cells mem groups → SameVerdict p plan m (judge_from p plan zero (words_at (x ∷ ys) cells groups closing effects sites)) (net_judge_from p plan m limit (suc k) (items_at (x ∷ ys) mem groups closing net_effects net_sites steps))) (sym is)
+        subst (λ (ys : List Stmt). Holds (x ∷ ys) cells mem groups →
+        SameVerdict p plan m (judge_from p plan zero (words_at (x ∷ ys) cells groups closing effects sites)) (net_judge_from p plan m limit (suc k) (items_at (x ∷ ys) mem groups closing net_effects net_sites steps))) (sym is)
         (λ hold. at_block limit k (judge_alike limit k) steps x cells mem groups closing sites effects net_sites net_effects told b behind hold at text zero within more
         (meets p plan m input marked (site_at x) (marked.within (site_at x) x b at) _ (list_good limit k (judge_alike limit k) steps x cells mem groups closing sites effects net_sites net_effects told b behind hold at text))) held
   ]
   judge_alike limit (suc k) (suc n) steps (x ∷ rest) cells mem groups closing sites effects net_sites net_effects within more held told = elim (headed m p plan input marked x rest held.text) [
     | alone plain texts ↦ at_site limit k (judge_alike limit k) steps x cells mem groups closing sites effects net_sites net_effects told rest held n within more plain texts
     | joined b behind at is text ↦
-        subst (λ (ys : List Stmt). Holds (x ∷ ys) cells mem groups → SameVerdict p plan m (judge_from p plan (suc n) (words_at (x ∷ ys) cells groups closing effects sites)) (net_judge_from p plan m limit (suc k) (items_at (x ∷ ys) mem groups closing net_effects net_sites steps))) (sym is)
+        subst (λ (ys : List Stmt). Holds (x ∷ ys) cells mem groups →
+        SameVerdict p plan m (judge_from p plan (suc n) (words_at (x ∷ ys) cells groups closing effects sites)) (net_judge_from p plan m limit (suc k) (items_at (x ∷ ys) mem groups closing net_effects net_sites steps))) (sym is)
         (λ hold. at_block limit k (judge_alike limit k) steps x cells mem groups closing sites effects net_sites net_effects told b behind hold at text (suc n) within more
         (meets p plan m input marked (site_at x) (marked.within (site_at x) x b at) _ (list_good limit k (judge_alike limit k) steps x cells mem groups closing sites effects net_sites net_effects told b behind hold at text))) held
   ]

@@ -3,9 +3,8 @@ use Rattle.dp_semantics.proofs.Names.{◌≡◌, ◌⊎◌, refl, sym, ap, ◌�
 use Rattle.dp_semantics.proofs.Setting.{Accepted}
 use Rattle.dp_net.specs.NetItems.{Marks, Item, weights, item_list}
 use Rattle.dp_net.specs.NetRun.{NetEnded, net_run}
-unfoldable use Rattle.dp_net.specs.NetRun.{net_from}
 use Rattle.dp_net.specs.NetPackets.{NetStatus, NetGoing, NetClosing, NetVoid, NetPacket, NetPassed, net_passed, net_passed_on, net_run_on}
-use Rattle.dp_net.specs.Follows.{Follows, ended, is_void}
+use Rattle.dp_net.specs.Follows.{PacketFollows, Follows, ended, is_void}
 use Rattle.dp_net.proofs.Projections.{text_well, text_sites, earlier_part}
 use Rattle.dp_net.proofs.Reading.{follows_same}
 use Rattle.dp_net.proofs.FollowingSites.{ReadableText, Tells}
@@ -24,7 +23,8 @@ module _ {k : Epoch} {m : Marks} {test : Stmt → Bool} (q : Quieted k m test) (
     alive : is_void came.status ≡ false
     lists : left.lists ≡ came.lists ++ ended_as.own ∷ []
 
-  left_as : (s : ℕ) (before : List ℤ) (came : NetPacket) → is_void (net_run_on m k s before came).packet.status ≡ false → Left s before came (net_run_on m k s before came).packet
+  left_as : (s : ℕ) (before : List ℤ) (came : NetPacket) → is_void (net_run_on m k s before came).packet.status ≡ false →
+      Left s before came (net_run_on m k s before came).packet
   left_as s before came = by came.status refl (net_run program plan m input s before came.lists) refl
     where
       by : (status : NetStatus) → came.status ≡ status → (turn : Option NetEnded) → net_run program plan m input s before came.lists ≡ turn →
@@ -63,7 +63,8 @@ module _ {k : Epoch} {m : Marks} {test : Stmt → Bool} (q : Quieted k m test) (
           none_there lists e zero = refl
           none_there lists e (suc t) = list_past program plan m lists (suc t) (omega arith) (omega (arith, e))
 
-          by : (r : ℕ) → s ≡ r → Follows program plan m (Rattle.dp_net.proofs.FollowingSites.part program plan m input q.marked s r (project_all program plan (suc r) (region_statement program plan))) (item_list came.lists)
+          by : (r : ℕ) → s ≡ r →
+              Follows program plan m (Rattle.dp_net.proofs.FollowingSites.part program plan m input q.marked s r (project_all program plan (suc r) (region_statement program plan))) (item_list came.lists)
           by zero e = let size = f.size in ended (none_there came.lists (omega (arith, size, e)))
           by (suc r) e = subst (λ (xs : List Stmt). Follows program plan m xs (item_list came.lists)) (sym (earlier_part ok (suc r) (suc (suc r)) (omega arith) (omega arith))) (subst (λ (t : ℕ). Follows program plan m (project_all program plan t (region_statement program plan)) (item_list came.lists)) e (f.follows r e))
 
@@ -82,17 +83,21 @@ module _ {k : Epoch} {m : Marks} {test : Stmt → Bool} (q : Quieted k m test) (
           by : (t : ℕ) → item_list (came.lists ++ l.ended_as.own ∷ []) t ≡ with_own (suc s) told.more (item_list came.lists) t
           by zero = sym (Rattle.dp_net.proofs.ItemLists.with_other (suc s) told.more (item_list came.lists) zero (λ e. omega (arith, e)))
           by (suc t) = elim (cases_lt t s) [
-            | inl early ↦ list_early program plan m came.lists l.ended_as.own (suc t) (omega arith) (omega (arith, early, size_is)) ∙ sym (Rattle.dp_net.proofs.ItemLists.with_other (suc s) told.more (item_list came.lists) (suc t) (λ e. omega (arith, e, early)))
+            | inl early ↦ list_early program plan m came.lists l.ended_as.own (suc t) (omega arith) (omega (arith, early, size_is))
+                ∙ sym (Rattle.dp_net.proofs.ItemLists.with_other (suc s) told.more (item_list came.lists) (suc t) (λ e. omega (arith, e, early)))
             | inr late ↦ last_or_past late (cases_eq t s)
           ]
             where
-              last_or_past : s ≤ t → (t ≡ s) ⊎ (t ≡ s → ⊥) → item_list (came.lists ++ l.ended_as.own ∷ []) (suc t) ≡ with_own (suc s) told.more (item_list came.lists) (suc t)
+              last_or_past : s ≤ t → (t ≡ s) ⊎ (t ≡ s → ⊥) →
+                  item_list (came.lists ++ l.ended_as.own ∷ []) (suc t) ≡ with_own (suc s) told.more (item_list came.lists) (suc t)
               last_or_past late (inl here) =
-                  ap (λ (n : ℕ). item_list (came.lists ++ l.ended_as.own ∷ []) (suc n)) (here ∙ sym size_is) ∙ list_next program plan m came.lists l.ended_as.own ∙ own_is
+                  ap (λ (n : ℕ). item_list (came.lists ++ l.ended_as.own ∷ []) (suc n)) (here ∙ sym size_is)
+                  ∙ list_next program plan m came.lists l.ended_as.own ∙ own_is
                   ∙ sym (Rattle.dp_net.proofs.ItemLists.with_here (suc s) told.more (item_list came.lists) (suc t) (ap suc here))
               last_or_past late (inr other) =
                   list_past program plan m (came.lists ++ l.ended_as.own ∷ []) (suc t) (omega arith) (let more = length-append came.lists (l.ended_as.own ∷ []) in omega (arith, more, size_is, late, other))
-                  ∙ sym (Rattle.dp_net.proofs.ItemLists.with_other (suc s) told.more (item_list came.lists) (suc t) (λ e. other (omega (arith, e))) ∙ list_past program plan m came.lists (suc t) (omega arith) (omega (arith, size_is, late)))
+                  ∙ sym (Rattle.dp_net.proofs.ItemLists.with_other (suc s) told.more (item_list came.lists) (suc t) (λ e. other (omega (arith, e)))
+                  ∙ list_past program plan m came.lists (suc t) (omega arith) (omega (arith, size_is, late)))
 
   sent_follows : (s n : ℕ) → is_void (net_passed m k s n).packet.status ≡ false → Followed s (net_passed m k s n).packet
   sent_follows zero n alive = record { size = refl; follows = λ t e. absurd (omega (arith, e)) }
@@ -102,6 +107,6 @@ module _ {k : Epoch} {m : Marks} {test : Stmt → Bool} (q : Quieted k m test) (
       subst (λ (w : NetPassed). Followed (suc s) w.packet) (sym run.1)
       (next_follows s run.0 (net_passed m k s n).packet (net_run_on m k (suc s) run.0 (net_passed m k s n).packet).packet (sent_follows s n left.alive) left)
 
-  pub packet_follows : (s n : ℕ) → 0 < s → is_void (net_passed m k s n).packet.status ≡ false → Follows program plan m (project_all program plan s (region_statement program plan)) (item_list (net_passed m k s n).packet.lists)
+  pub packet_follows : (s n : ℕ) → 0 < s → is_void (net_passed m k s n).packet.status ≡ false → PacketFollows program plan m s (net_passed m k s n).packet
   packet_follows zero n low alive = absurd (omega (arith, low))
-  packet_follows (suc s) n low alive = let f = sent_follows (suc s) n alive in f.follows s refl
+  packet_follows (suc s) n low alive = let f = sent_follows (suc s) n alive in record { size = f.size; follows = f.follows s refl }

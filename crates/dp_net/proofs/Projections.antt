@@ -10,7 +10,8 @@ use Rattle.dp_theorem.proofs.Whole.{turn_well, turn_sound}
 
 module _ (p : Program) (plan : Plan) where
   -- either way, by whether the stage has the site
-  abbrev by_reach : (s site : ℕ) (F : List Stmt → Type 0) (kept other : List Stmt) → (stage_of p plan site ≤ s → F kept) → F other → F (where_reached p plan s site kept other)
+  abbrev by_reach : (s site : ℕ) (F : List Stmt → Type 0) (kept other : List Stmt) → (stage_of p plan site ≤ s → F kept) → F other →
+      F (where_reached p plan s site kept other)
   by_reach s site F kept other h k = elim (cases_Bool (nat_le (stage_of p plan site) s)) [
     | inl q ↦ subst F (sym (reached p plan s site kept other (leb-true (stage_of p plan site) s q))) (h (leb-true (stage_of p plan site) s q))
     | inr q ↦ subst F (sym (ap (λ (b : Bool). if b then kept else other) q)) k
@@ -33,11 +34,13 @@ module _ (p : Program) (plan : Plan) where
       kept_one : (y : Stmt) → Each Kept (accesses y) → AllKept (y ∷ [])
       kept_one y h = each_join Kept (accesses y) [] h tt
 
-      kept_if : (site : SiteId) (cond : Expr) (a b : List Stmt) → Kept (Rattle.dp_semantics.proofs.Heads.head_access (If site cond a b)) → AllKept a → AllKept b → AllKept (tree.If site cond a b ∷ [])
+      kept_if : (site : SiteId) (cond : Expr) (a b : List Stmt) → Kept (Rattle.dp_semantics.proofs.Heads.head_access (If site cond a b)) →
+          AllKept a → AllKept b → AllKept (tree.If site cond a b ∷ [])
       kept_if site cond a b own h k = kept_one (tree.If site cond a b)
           (subst (λ (l : List Access). Each Kept l) (sym (accesses_out (tree.If site cond a b) ∙ ap accesses_at (outs-If site cond a b))) (own, each_join Kept (accesses_all a) (accesses_all b) h k))
 
-      kept_while : (site : SiteId) (cond : Expr) (a : List Stmt) → Kept (Rattle.dp_semantics.proofs.Heads.head_access (While site cond a)) → AllKept a → AllKept (tree.While site cond a ∷ [])
+      kept_while : (site : SiteId) (cond : Expr) (a : List Stmt) → Kept (Rattle.dp_semantics.proofs.Heads.head_access (While site cond a)) →
+          AllKept a → AllKept (tree.While site cond a ∷ [])
       kept_while site cond a own h = kept_one (tree.While site cond a)
           (subst (λ (l : List Access). Each Kept l) (sym (accesses_out (tree.While site cond a) ∙ ap accesses_at (outs-While site cond a))) (own, h))
 
@@ -79,24 +82,30 @@ module _ (p : Program) (plan : Plan) where
     one_well : (b : Bool) → b ≡ true → (b && true) ≡ true
     one_well b e = rw e refl
 
-    well_if : (site : SiteId) (cond : Expr) (a b : List Stmt) → if_rule p plan site.0 (accesses_all a ++ accesses_all b) ≡ true → WellAll a → WellAll b → WellAll (tree.If site cond a b ∷ [])
+    well_if : (site : SiteId) (cond : Expr) (a b : List Stmt) → if_rule p plan site.0 (accesses_all a ++ accesses_all b) ≡ true → WellAll a →
+        WellAll b → WellAll (tree.If site cond a b ∷ [])
     well_if site cond a b rule h k = one_well _ (well_out p plan (tree.If site cond a b) ∙ ap (well_at p plan) (outs-If site cond a b)
         ∙ and_from (if_rule p plan site.0 (accesses_all a ++ accesses_all b)) (all_well p plan a && all_well p plan b) rule (and_from (all_well p plan a) (all_well p plan b) h k))
 
-    well_while : (site : SiteId) (cond : Expr) (a : List Stmt) → none_earlier p plan site.0 (accesses_all a) ≡ true → WellAll a → WellAll (tree.While site cond a ∷ [])
-    well_while site cond a rule h = one_well _ (well_out p plan (tree.While site cond a) ∙ ap (well_at p plan) (outs-While site cond a) ∙ and_from (none_earlier p plan site.0 (accesses_all a)) (all_well p plan a) rule h)
+    well_while : (site : SiteId) (cond : Expr) (a : List Stmt) → none_earlier p plan site.0 (accesses_all a) ≡ true → WellAll a →
+        WellAll (tree.While site cond a ∷ [])
+    well_while site cond a rule h = one_well _ (well_out p plan (tree.While site cond a) ∙ ap (well_at p plan) (outs-While site cond a)
+        ∙ and_from (none_earlier p plan site.0 (accesses_all a)) (all_well p plan a) rule h)
 
     ruled : {n k : _} (site : ℕ) (a : Row_of-Stmt n) (b : Row_of-Stmt k) → well_nested_in p plan a ≡ true → well_nested_in p plan b ≡ true →
-        (is_some (assumed_in plan.assume site) || none_earlier p plan site (accesses_in a ++ accesses_in b)) ≡ true → if_rule p plan site (accesses_all (project_in p plan s a) ++ accesses_all (project_in p plan s b)) ≡ true
+        (is_some (assumed_in plan.assume site) || none_earlier p plan site (accesses_in a ++ accesses_in b)) ≡ true →
+        if_rule p plan site (accesses_all (project_in p plan s a) ++ accesses_all (project_in p plan s b)) ≡ true
     ruled site a b one two h = by (is_some (assumed_in plan.assume site)) h
       where
-        none : none_earlier p plan site (accesses_in a ++ accesses_in b) ≡ true → none_earlier p plan site (accesses_all (project_in p plan s a) ++ accesses_all (project_in p plan s b)) ≡ true
+        none : none_earlier p plan site (accesses_in a ++ accesses_in b) ≡ true →
+            none_earlier p plan site (accesses_all (project_in p plan s a) ++ accesses_all (project_in p plan s b)) ≡ true
         none e =
             let parts = each_split (NotBefore site) (accesses_in a) (accesses_in b) (all_of (λ (i : Access). nat_le (stage_of p plan site) (stage_of p plan i.site)) (accesses_in a ++ accesses_in b) e) in
             list_all-append (λ (i : Access). nat_le (stage_of p plan site) (stage_of p plan i.site)) (accesses_all (project_in p plan s a)) (accesses_all (project_in p plan s b))
             ∙ and_from _ _ (still_later site (project_in p plan s a) (kept_row (NotBefore site) a one parts.0)) (still_later site (project_in p plan s b) (kept_row (NotBefore site) b two parts.1))
 
-        by : (t : Bool) → (t || none_earlier p plan site (accesses_in a ++ accesses_in b)) ≡ true → (t || none_earlier p plan site (accesses_all (project_in p plan s a) ++ accesses_all (project_in p plan s b))) ≡ true
+        by : (t : Bool) → (t || none_earlier p plan site (accesses_in a ++ accesses_in b)) ≡ true →
+            (t || none_earlier p plan site (accesses_all (project_in p plan s a) ++ accesses_all (project_in p plan s b))) ≡ true
         by true e = refl
         by false e = none e
 
@@ -146,14 +155,17 @@ module _ (p : Program) (plan : Plan) where
     alone y ys e = append-nil (project p plan s y) ∙ e
 
     -- what stage t hasn't, stage s hasn't
-    twice_reach : (site : ℕ) (y other kept none : List Stmt) → project_all p plan s y ≡ where_reached p plan s site kept none → project_all p plan s other ≡ none →
+    twice_reach : (site : ℕ) (y other kept none : List Stmt) → project_all p plan s y ≡ where_reached p plan s site kept none →
+        project_all p plan s other ≡ none →
         project_all p plan s (where_reached p plan t site y other) ≡ where_reached p plan s site kept none
     twice_reach site y other kept none h k = elim (cases_lt t (stage_of p plan site)) [
-      | inl late ↦ ap (project_all p plan s) (not_reached p plan t site y other late) ∙ k ∙ sym (not_reached p plan s site kept none (omega (arith, early, late)))
+      | inl late ↦ ap (project_all p plan s) (not_reached p plan t site y other late) ∙ k
+          ∙ sym (not_reached p plan s site kept none (omega (arith, early, late)))
       | inr soon ↦ ap (project_all p plan s) (reached p plan t site y other soon) ∙ h
     ]
 
-    twice_branch : (o : Option Bool) (a b c d : List Stmt) → project_all p plan s a ≡ c → project_all p plan s b ≡ d → project_all p plan s (branch_of o a b) ≡ branch_of o c d
+    twice_branch : (o : Option Bool) (a b c d : List Stmt) → project_all p plan s a ≡ c → project_all p plan s b ≡ d →
+        project_all p plan s (branch_of o a b) ≡ branch_of o c d
     twice_branch None a b c d h k = refl
     twice_branch (Some true) a b c d h k = h
     twice_branch (Some false) a b c d h k = k
@@ -170,7 +182,8 @@ module _ (p : Program) (plan : Plan) where
           let two = twice_in b both.1 in
           twice_reach site.0 _ _ _ _
           (alone (tree.If site cond (project_in p plan t a) (project_in p plan t b)) _ (project_out p plan s (tree.If site cond (project_in p plan t a) (project_in p plan t b)) ∙ ap (project_at p plan s) (outs-If site cond (project_in p plan t a) (project_in p plan t b))
-          ∙ ap (λ (ys : List Stmt). project_if ys (project_all p plan s (project_in p plan t b))) one ∙ ap (λ (ys : List Stmt). project_if (project_in p plan s a) ys) two))
+          ∙ ap (λ (ys : List Stmt). project_if ys (project_all p plan s (project_in p plan t b))) one
+          ∙ ap (λ (ys : List Stmt). project_if (project_in p plan s a) ys) two))
           (twice_branch (assumed_in plan.assume site.0) _ _ _ _ one two)
         where
           project_if : List Stmt → List Stmt → List Stmt
@@ -187,13 +200,17 @@ module _ (p : Program) (plan : Plan) where
       twice_in end_of-Stmt well = refl
       twice_in (more_of-Stmt x rest) well =
           let both = and_parts _ _ well in
-          flat_map-append (project p plan s) (project p plan t x) (project_in p plan t rest) ∙ ap (λ (ys : List Stmt). ys ++ project_all p plan s (project_in p plan t rest)) (twice x both.0) ∙ ap (λ (ys : List Stmt). project p plan s x ++ ys) (twice_in rest both.1)
+          flat_map-append (project p plan s) (project p plan t x) (project_in p plan t rest)
+          ∙ ap (λ (ys : List Stmt). ys ++ project_all p plan s (project_in p plan t rest)) (twice x both.0)
+          ∙ ap (λ (ys : List Stmt). project p plan s x ++ ys) (twice_in rest both.1)
 
     pub twice_all : (xs : List Stmt) → all_well p plan xs ≡ true → project_all p plan s (project_all p plan t xs) ≡ project_all p plan s xs
     twice_all [] well = refl
     twice_all (x ∷ xs) well =
         let both = and_parts (well_nested p plan x) (all_well p plan xs) well in
-        flat_map-append (project p plan s) (project p plan t x) (project_all p plan t xs) ∙ ap (λ (ys : List Stmt). ys ++ project_all p plan s (project_all p plan t xs)) (twice x both.0) ∙ ap (λ (ys : List Stmt). project p plan s x ++ ys) (twice_all xs both.1)
+        flat_map-append (project p plan s) (project p plan t x) (project_all p plan t xs)
+        ∙ ap (λ (ys : List Stmt). ys ++ project_all p plan s (project_all p plan t xs)) (twice x both.0)
+        ∙ ap (λ (ys : List Stmt). project p plan s x ++ ys) (twice_all xs both.1)
 
 module _ {p : Program} {plan : Plan} (a : Accepted p plan) where
   region_stage : stage_of p plan a.site.0 ≡ 1
@@ -216,5 +233,7 @@ module _ {p : Program} {plan : Plan} (a : Accepted p plan) where
   text_sites s real = subst (λ (xs : List Stmt). AllKept p plan s (Sound p plan) xs) (sym (turn_text s real)) (kept_sites_all p plan s (Sound p plan) (turn_of a) (turn_well a) (turn_sound a))
 
   -- .. and an earlier stage has the same part of it as of the region
-  pub earlier_part : (s t : ℕ) → 0 < s → s ≤ t → project_all p plan s (project_all p plan t (region_statement p plan)) ≡ project_all p plan s (region_statement p plan)
-  earlier_part s t real early = ap (project_all p plan s) (turn_text t (omega (arith, real, early))) ∙ twice_all p plan s t early (turn_of a) (turn_well a) ∙ sym (turn_text s real)
+  pub earlier_part : (s t : ℕ) → 0 < s → s ≤ t →
+      project_all p plan s (project_all p plan t (region_statement p plan)) ≡ project_all p plan s (region_statement p plan)
+  earlier_part s t real early = ap (project_all p plan s) (turn_text t (omega (arith, real, early)))
+      ∙ twice_all p plan s t early (turn_of a) (turn_well a) ∙ sym (turn_text s real)

@@ -1,6 +1,5 @@
 -- What is asked of the sites of a text, so that memories which agree give each stage the same.
 use Rattle.dp_semantics.proofs.Names.{◌≡◌, refl, sym, ◌∙◌, subst, ℕ, zero, suc, ◌<◌, Bool, true, false, List, [], ◌∷◌, ◌++◌, ℤ, list_all, Ok, Err, slice_set, get_or, list_all-append, and_parts, FaultKind, Stmt, out-Stmt, Stmt-F, Program, Plan, Evaluated, evaluated, WithLoads, Event, Effect, site_of, value_of, stored, followed, stage_of, is_checked, cell_count, last}
-unfoldable use Rattle.dp_net.proofs.Strict.{strict_from}
 use Rattle.dp_semantics.proofs.Each.{Each, each_map}
 use Rattle.dp_semantics.proofs.Evaluation.{InVar, IsHeld, Readable, Roomy, head_loads, head_stores, evaluated_tracks}
 use Rattle.dp_semantics.proofs.Ways.{event_of}
@@ -8,7 +7,6 @@ use Rattle.dp_semantics.proofs.Followed.{Parts, followed_has, all_joins}
 use Rattle.dp_net.specs.Quiet.{Outcome, Through, Broke, with_event, quiet_by}
 unfoldable use Rattle.dp_net.specs.Quiet.{quiet_from}
 use Rattle.dp_net.specs.NetItems.{Marks}
-unfoldable use Rattle.dp_net.specs.NetRun.{net_from}
 use Rattle.dp_net.proofs.Silent.{AllQuiet}
 use Rattle.dp_net.proofs.Blocks.{onward, head_of}
 use Rattle.dp_net.proofs.Memories.{Open, Agrees, agree_stored}
@@ -57,7 +55,8 @@ module _ (p : Program) (plan : Plan) (m : Marks) (input : List ℤ) (marked : Ma
     steady_split a b h = and_parts (list_all test a) (list_all test b) (sym (list_all-append test a b) ∙ h)
 
     -- An own evaluation is the same in memories that agree.
-    pub eval_ok : (h : Stmt-F Stmt) → Ready p plan m h → stage_of p plan (site_of h).0 ≡ s → (a b : List ℤ) → Agrees m s a b → (v : WithLoads Effect) → evaluated p input a h ≡ Ok v → evaluated p input b h ≡ Ok v
+    pub eval_ok : (h : Stmt-F Stmt) → Ready p plan m h → stage_of p plan (site_of h).0 ≡ s → (a b : List ℤ) → Agrees m s a b →
+        (v : WithLoads Effect) → evaluated p input a h ≡ Ok v → evaluated p input b h ≡ Ok v
     eval_ok h r here a b ab v e =
         let known = each_map (λ y. (0 < cell_count p (record { 0 = y })) × ((c : ℕ) → InVar p y c → Open m (stage_of p plan (site_of h).0) c)) (Readable p a (IsHeld b))
         (λ y k. (k.0, λ c i. sym (ab.same c (subst (λ (u : ℕ). Open m u c) here (k.1 c i))))) (head_loads h) r.reads in
@@ -67,7 +66,8 @@ module _ (p : Program) (plan : Plan) (m : Marks) (input : List ℤ) (marked : Ma
     pub turned_round : {a b : List ℤ} → Agrees m s a b → Agrees m s b a
     turned_round ab = record { size = sym ab.size; same = λ c o. sym (ab.same c o) }
 
-    pub eval_same : (h : Stmt-F Stmt) → Ready p plan m h → stage_of p plan (site_of h).0 ≡ s → (a b : List ℤ) → Agrees m s a b → SameEval (evaluated p input a h) (evaluated p input b h)
+    pub eval_same : (h : Stmt-F Stmt) → Ready p plan m h → stage_of p plan (site_of h).0 ≡ s → (a b : List ℤ) → Agrees m s a b →
+        SameEval (evaluated p input a h) (evaluated p input b h)
     eval_same h r here a b ab = by (evaluated p input a h) (evaluated p input b h) refl refl
       where
         by : (u w : Evaluated Effect) → evaluated p input a h ≡ u → evaluated p input b h ≡ w → SameEval u w
@@ -75,7 +75,8 @@ module _ (p : Program) (plan : Plan) (m : Marks) (input : List ℤ) (marked : Ma
         by (Err k) (Ok v) e f = let clash : Err k ≡ Ok v = sym e ∙ eval_ok h r here b a (turned_round ab) v f in absurd (cc clash)
         by (Err k) (Err l) e f = same_fault k l
 
-    pub outcome_same : (n : ℕ) (to_do : List Stmt) (a b : List ℤ) → Steady to_do → AllQuiet p plan s to_do → Agrees m s a b → SameOutcome m s (quiet_from p input n to_do a) (quiet_from p input n to_do b)
+    pub outcome_same : (n : ℕ) (to_do : List Stmt) (a b : List ℤ) → Steady to_do → AllQuiet p plan s to_do → Agrees m s a b →
+        SameOutcome m s (quiet_from p input n to_do a) (quiet_from p input n to_do b)
     unfolding quiet_from
     outcome_same zero [] a b h q ab = same_through [] a b ab
     outcome_same zero (x ∷ rest) a b h q ab = same_broke
@@ -88,7 +89,9 @@ module _ (p : Program) (plan : Plan) (m : Marks) (input : List ℤ) (marked : Ma
         more event o u (same_through events c d cd) = same_through (event ∷ events) c d cd
         more event o u same_broke = same_broke
 
-        by : (u w : Evaluated Effect) → SameEval u w → ((v : WithLoads Effect) → SameOutcome m s (quiet_from p input n (followed x rest (out-Stmt x) (value_of v.value)) (stored v.value a)) (quiet_from p input n (followed x rest (out-Stmt x) (value_of v.value)) (stored v.value b))) →
+        by : (u w : Evaluated Effect) → SameEval u w →
+            ((v : WithLoads Effect) →
+            SameOutcome m s (quiet_from p input n (followed x rest (out-Stmt x) (value_of v.value)) (stored v.value a)) (quiet_from p input n (followed x rest (out-Stmt x) (value_of v.value)) (stored v.value b))) →
             SameOutcome m s (quiet_by (quiet_from p input n) x rest a (out-Stmt x) u) (quiet_by (quiet_from p input n) x rest b (out-Stmt x) w)
         by u w (same_value v) go = more (event_of (out-Stmt x) v) _ _ (go v)
         by u w (same_fault k l) go = same_broke

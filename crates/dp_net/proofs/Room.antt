@@ -5,7 +5,7 @@ use Rattle.dp_semantics.proofs.Ways.{Goes, stays, goes}
 use Rattle.dp_net.specs.Quiet.{is_quiet}
 use Rattle.dp_net.specs.NetItems.{stores_into, put, told_after, net_behind, net_of}
 use Rattle.dp_net.specs.Hidden.{gains_at, gains}
-use Rattle.dp_net.proofs.Silent.{AllQuiet, QuietHead, form_is, quiet_head, quiet_out}
+use Rattle.dp_net.proofs.Silent.{AllQuiet, form_is, quiet_head, quiet_out}
 use Rattle.dp_net.proofs.Blocks.{effects_of, onward, head_of}
 
 put_size : (c : ℕ) (z : ℤ) (es : List Effect) → length (put c z es) ≤ suc (length es)
@@ -42,7 +42,8 @@ stored_first c (Err k) v e = absurd (cc e)
 
 module _ (p : Program) (plan : Plan) (t : ℕ) (input : List ℤ) (hidden : ℕ → Bool) where
   -- a head that gains adds no store
-  nothing_told : (h : Stmt-F Stmt) (cells : List ℤ) (v : WithLoads Effect) → evaluated p input cells h ≡ Ok v → Form p h v.value → gains_at p hidden h ≡ true → (told : List Effect) → told_after hidden told v.value ≡ told
+  nothing_told : (h : Stmt-F Stmt) (cells : List ℤ) (v : WithLoads Effect) → evaluated p input cells h ≡ Ok v → Form p h v.value →
+      gains_at p hidden h ≡ true → (told : List Effect) → told_after hidden told v.value ≡ told
   nothing_told (Assign site x e) cells v gave f g told = let s = stored_first (first_cell p x) (eval p input cells e) v gave in rw (s.1, g) refl
   nothing_told (If site cond a b) cells v gave f g told = by v.value f
     where
@@ -61,14 +62,16 @@ module _ (p : Program) (plan : Plan) (t : ℕ) (input : List ℤ) (hidden : ℕ 
   nothing_told _ cells v gave f g told = absurd (cc g)
 
   -- behind one that doesn't, the others are left
-  others_left : (x : Stmt) (rest : List Stmt) (h : Stmt-F Stmt) (z : ℤ) → quiet_head p plan t h ≡ true → gains_at p hidden h ≡ false → followed x rest h z ≡ rest
+  others_left : (x : Stmt) (rest : List Stmt) (h : Stmt-F Stmt) (z : ℤ) → quiet_head p plan t h ≡ true → gains_at p hidden h ≡ false →
+      followed x rest h z ≡ rest
   others_left x rest (Assign site y e) z q g = refl
   others_left x rest (Store site y index e) z q g = refl
   others_left x rest (If site cond a b) z q g = absurd (cc g)
   others_left x rest (While site cond a) z q g = absurd (cc g)
   others_left x rest _ z q g = absurd (cc q)
 
-  stores_fewer : {to_do : List Stmt} {cells : List ℤ} {events : List Event} {after : List Stmt} {then_cells : List ℤ} → Goes p input to_do cells events after then_cells → after ≡ [] → AllQuiet p plan t to_do → list_any (gains p hidden) to_do ≡ true →
+  stores_fewer : {to_do : List Stmt} {cells : List ℤ} {events : List Event} {after : List Stmt} {then_cells : List ℤ} →
+      Goes p input to_do cells events after then_cells → after ≡ [] → AllQuiet p plan t to_do → list_any (gains p hidden) to_do ≡ true →
       (told : List Effect) → length (net_behind hidden told (effects_of events)) < length told + length events
   stores_fewer (stays {to_do = to_do}) ends quiet some told = let clash : false ≡ true = ap (list_any (gains p hidden)) (sym ends) ∙ some in absurd (cc clash)
   stores_fewer (goes {x = x} {rest = rest} {cells = cells} {v = v} {events = events} gave path) ends quiet some told =
@@ -77,7 +80,9 @@ module _ (p : Program) (plan : Plan) (t : ℕ) (input : List ℤ) (hidden : ℕ 
       head_quiet : quiet_head p plan t (out-Stmt x) ≡ true
       head_quiet = sym (quiet_out p plan t x) ∙ (and_parts (is_quiet p plan t x) (Rattle.dp_net.proofs.Silent.all_quiet p plan t rest) quiet).0
 
-      by : (b : Bool) → gains p hidden x ≡ b → (list_any (gains p hidden) (followed x rest (out-Stmt x) (value_of v.value)) ≡ true → length (net_behind hidden (told_after hidden told v.value) (effects_of events)) < length (told_after hidden told v.value) + length events) →
+      by : (b : Bool) → gains p hidden x ≡ b →
+          (list_any (gains p hidden) (followed x rest (out-Stmt x) (value_of v.value)) ≡ true →
+          length (net_behind hidden (told_after hidden told v.value) (effects_of events)) < length (told_after hidden told v.value) + length events) →
           length (net_behind hidden (told_after hidden told v.value) (effects_of events)) < length told + suc (length events)
       by true g go =
           let same = nothing_told (out-Stmt x) cells v gave (form_is p plan t (out-Stmt x) (head_of p plan t x rest quiet) input cells v gave) g told in
@@ -92,6 +97,7 @@ module _ (p : Program) (plan : Plan) (t : ℕ) (input : List ℤ) (hidden : ℕ 
           omega (arith, a, b)
 
   -- One for the item and one for each net store are no more than the words.
-  pub room_kept : (block : List Stmt) (cells : List ℤ) (events : List Event) (after : List ℤ) → Goes p input block cells events [] after → AllQuiet p plan t block → list_any (gains p hidden) block ≡ true →
+  pub room_kept : (block : List Stmt) (cells : List ℤ) (events : List Event) (after : List ℤ) → Goes p input block cells events [] after →
+      AllQuiet p plan t block → list_any (gains p hidden) block ≡ true →
       1 + length (net_of hidden (effects_of events)) ≤ length events
   room_kept block cells events after path quiet some = let h = stores_fewer path refl quiet some [] in omega (arith, h)

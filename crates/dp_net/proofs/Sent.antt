@@ -7,7 +7,6 @@ use Rattle.dp_semantics.proofs.Each.{Each, each_join}
 use Rattle.dp_semantics.proofs.Followed.{Parts}
 use Rattle.dp_net.specs.NetItems.{Marks, weights}
 use Rattle.dp_net.specs.NetRun.{NetEnded, net_run}
-unfoldable use Rattle.dp_net.specs.NetRun.{net_from}
 use Rattle.dp_net.specs.NetPackets.{NetStatus, NetGoing, NetClosing, NetVoid, net_status_of, NetPacket, NetPassed, net_passed, net_passed_by, net_passed_on, net_run_on, net_at_kind, net_at_sequential}
 use Rattle.dp_net.proofs.Memories.{Agrees, agrees_self}
 use Rattle.dp_net.proofs.Groups.{Group, flats, items, all_flats, all_items, sums_are, Marked, Good}
@@ -43,7 +42,8 @@ module _ {k : Epoch} {m : Marks} {test : Stmt → Bool} (q : Quieted k m test) w
 
   -- memories that agree are the same where the next iteration starts
   pub cleared_same : (s : ℕ) (a b : List ℤ) → Agrees m s a b → cleared k a ≡ cleared k b
-  cleared_same s a b ab = ext_get_or (pos 0) (cleared k a) (cleared k b) (clear_size plan.region program.vars a ∙ ab.size ∙ sym (clear_size plan.region program.vars b))
+  cleared_same s a b ab = ext_get_or (pos 0) (cleared k a) (cleared k b) (clear_size plan.region program.vars a ∙ ab.size
+      ∙ sym (clear_size plan.region program.vars b))
       (λ c within. elim (cases_Bool (list_any (is_local_cell plan.region c) program.vars)) [
         | inl e ↦ clear-at plan.region c program.vars a (inl e) ∙ sym (clear-at plan.region c program.vars b (inl e))
         | inr e ↦ clear-other plan.region c program.vars a e ∙ ab.same c (λ u other. open_by u c e) ∙ sym (clear-other plan.region c program.vars b e)
@@ -85,7 +85,8 @@ module _ {k : Epoch} {m : Marks} {test : Stmt → Bool} (q : Quieted k m test) w
   status_same a b c d both_closing e = both_closing
   status_same a b c d (both_broken s why) e = both_broken s why
 
-  ended_by : (s : ℕ) (before : List ℤ) (a : Packet) (b : NetPacket) → SamePacket a b → (u : TurnEnd) (w : Option NetEnded) → SameEnd program plan m input q.marked test q.ready s u w → SamePassed s (passed_by k s before a u) (net_passed_by m k s before b w)
+  ended_by : (s : ℕ) (before : List ℤ) (a : Packet) (b : NetPacket) → SamePacket a b → (u : TurnEnd) (w : Option NetEnded) →
+      SameEnd program plan m input q.marked test q.ready s u w → SamePassed s (passed_by k s before a u) (net_passed_by m k s before b w)
   ended_by s before a b same (Ok e) (Some f) ends = record {
     packet = record {
       groups = same.groups ++ ends.made ∷ [];
@@ -112,7 +113,8 @@ module _ {k : Epoch} {m : Marks} {test : Stmt → Bool} (q : Quieted k m test) w
       turns : SameEnd program plan m input q.marked test q.ready s (strict_run program plan input s before a.lists) (net_run program plan m input s before b.lists)
       turns = rw (same.words, same.net) (run_alike s before same.groups same.good)
 
-      by : (u : Status) (w : NetStatus) → SameStatus u w → SamePassed s (passed_on k s before a (strict_run program plan input s before a.lists) u) (net_passed_on m k s before b (net_run program plan m input s before b.lists) w)
+      by : (u : Status) (w : NetStatus) → SameStatus u w →
+          SamePassed s (passed_on k s before a (strict_run program plan input s before a.lists) u) (net_passed_on m k s before b (net_run program plan m input s before b.lists) w)
       by u w both_going = ended_by s before a b same _ _ turns
       by u w both_closing = ended_by s before a b same _ _ turns
       by u w (both_broken t why) = record { packet = same; before = refl; after = agrees_self m s before }
@@ -120,13 +122,15 @@ module _ {k : Epoch} {m : Marks} {test : Stmt → Bool} (q : Quieted k m test) w
   at_before : (s : ℕ) (a b : List ℤ) → a ≡ b → (c : Packet) (d : NetPacket) → SamePacket c d → SamePassed s (strict_run_on k s a c) (net_run_on m k s b d)
   at_before s a b e c d same = subst (λ (x : List ℤ). SamePassed s (strict_run_on k s a c) (net_run_on m k s x d)) e (passed_alike s a c d same)
 
-  sequential_alike : (s t : ℕ) (came : ℕ → Passed) (net_came : ℕ → NetPassed) → ((n : ℕ) → SamePassed t (came n) (net_came n)) → (n : ℕ) → SamePassed s (strict_sequential k s came n) (net_at_sequential m k s net_came n)
+  sequential_alike : (s t : ℕ) (came : ℕ → Passed) (net_came : ℕ → NetPassed) → ((n : ℕ) → SamePassed t (came n) (net_came n)) → (n : ℕ) →
+      SamePassed s (strict_sequential k s came n) (net_at_sequential m k s net_came n)
   sequential_alike s t came net_came same zero = passed_alike s k.base (came zero).packet (net_came zero).packet (same zero).packet
   sequential_alike s t came net_came same (suc n) =
       let r = sequential_alike s t came net_came same n in
       at_before s (cleared k (strict_sequential k s came n).after) (cleared k (net_at_sequential m k s net_came n).after) (cleared_same s _ _ r.after) (came (suc n)).packet (net_came (suc n)).packet (same (suc n)).packet
 
-  kind_alike : (kind : Option StageKind) (s t : ℕ) (came : ℕ → Passed) (net_came : ℕ → NetPassed) → ((n : ℕ) → SamePassed t (came n) (net_came n)) → (n : ℕ) → SamePassed s (strict_kind k kind s came n) (net_at_kind m k kind s net_came n)
+  kind_alike : (kind : Option StageKind) (s t : ℕ) (came : ℕ → Passed) (net_came : ℕ → NetPassed) → ((n : ℕ) → SamePassed t (came n) (net_came n)) →
+      (n : ℕ) → SamePassed s (strict_kind k kind s came n) (net_at_kind m k kind s net_came n)
   kind_alike (Some Par) s t came net_came same n = at_before s (came n).before (net_came n).before (same n).before (came n).packet (net_came n).packet (same n).packet
   kind_alike (Some Seq) s t came net_came same n = sequential_alike s t came net_came same n
   kind_alike None s t came net_came same n = sequential_alike s t came net_came same n

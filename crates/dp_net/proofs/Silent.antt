@@ -1,11 +1,10 @@
 -- Quiet statements against a stage's turn and the judgement: what the stage itself makes of them, and how a later one takes their words.
-use Rattle.dp_semantics.proofs.Names.{has_cell, stores_known, list_any, ◌≡◌, ◌⊎◌, inl, inr, refl, sym, ap, ◌∙◌, subst, append_assoc, append-nil, ℕ, zero, suc, ◌+◌, ◌-◌, ◌<◌, ◌≤◌, ◌==◌, Bool, true, false, not, ◌&&◌, ◌||◌, if◌then◌else◌, List, [], ◌∷◌, ◌++◌, ℤ, length, length-append, length-set, map, Option, Some, None, Ok, Err, Result, nat_le, nat_lt, arith, le-leb, lt-leb, ltb-true, eq-eqb, eqb-true, ne_eqb, slice_set, get_or, list_all, and_parts, and_from, not-true, or-false, cases_Bool, cases_lt, FaultKind, Stmt, out-Stmt, roll-Stmt, roll-out-Stmt, opened_statement, rolls-Assign, rolls-Store, rolls-Print, rolls-If, rolls-While, rolls-Region, rolls-Break, rolls-Call, Stmt-F, Assign, Store, Print, If, While, Region, Break, Call, Program, Plan, Assume, Word, Evaluated, evaluated, WithLoads, Event, Effect, Stored, Printed, Decided, Tried, site_of, value_of, stored, followed, followed-append, taken, leaves, stage_of, first_site, is_checked, goes_as, stays_late, as_assumed, went, done_word, words_of, word_list, Full, Void, Taken, taken_from, Turn, TurnEnd, turned, turn_at, turn_by, turn_step, turn_from, own_step, stage_at, consumed, consumed_step, words_left, closes_at, is_zero_at, Judging, Judgement, Clean, Unclean, judged, judge_step, judge_by, judge_at, judge_from, loads_hold, applied}
+use Rattle.dp_semantics.proofs.Names.{has_cell, stores_known, list_any, ◌≡◌, refl, sym, ap, ◌∙◌, ℕ, ◌-◌, ◌==◌, Bool, true, false, not, ◌&&◌, ◌||◌, List, [], ◌∷◌, ℤ, Option, Some, None, Ok, nat_le, ltb-true, eqb-true, list_all, and_parts, and_from, Stmt, out-Stmt, roll-Stmt, roll-out-Stmt, opened_statement, rolls-Assign, rolls-Store, rolls-Print, rolls-If, rolls-While, rolls-Region, rolls-Break, rolls-Call, Stmt-F, Assign, Store, Print, If, While, Region, Break, Call, Program, Plan, Assume, evaluated, WithLoads, Effect, Stored, Printed, Decided, Tried, site_of, taken, leaves, stage_of, first_site, is_checked, goes_as, stays_late, as_assumed, went, done_word, words_of, closes_at}
 use Rattle.dp_tree.proofs.SitesOf.{everywhere_hidden}
 use Rattle.dp_semantics.proofs.Evaluation.{Form, head_loads, head_stores, Readable, Roomy, evaluated_tracks}
 use Rattle.dp_semantics.proofs.Each.{Each, all_of, each_map, none_of}
 use Rattle.dp_semantics.proofs.Followed.{Parts}
 use Rattle.dp_net.specs.Quiet.{is_assumed_at, is_quiet_site, is_quiet_access, quiet_at, is_quiet}
-unfoldable use Rattle.dp_net.specs.Quiet.{quiet_from}
 
 module _ (p : Program) (plan : Plan) (t : ℕ) where
   abbrev pub all_quiet : List Stmt → Bool
@@ -55,7 +54,8 @@ module _ (p : Program) (plan : Plan) (t : ℕ) where
   is_not true e = absurd (cc)
   is_not false e = refl
 
-  known_quiet_by : (h : Stmt-F Stmt) → quiet_own h ≡ true → Parts AllQuiet h → ((z : ℤ) → taken h z ≡ false) → ((z : ℤ) → Form p h (Tried z) → ⊥) → ((z : ℤ) → Form p h (Printed z) → ⊥) → QuietHead h
+  known_quiet_by : (h : Stmt-F Stmt) → quiet_own h ≡ true → Parts AllQuiet h → ((z : ℤ) → taken h z ≡ false) → ((z : ℤ) → Form p h (Tried z) → ⊥) →
+      ((z : ℤ) → Form p h (Printed z) → ⊥) → QuietHead h
   known_quiet_by h q parts onward tries mute =
       let both = and_parts (is_quiet_site p plan t (site_of h).0) (list_all (has_cell p) (head_loads h) && stores_known p (head_stores h)) q in
       let one = and_parts (stage_of p plan (site_of h).0 == t) (not (is_checked p plan (site_of h).0) && (not ((site_of h).0 == first_site p plan) && not (list_any (is_assumed_at (site_of h).0) plan.assume))) both.0 in
@@ -107,10 +107,12 @@ module _ (p : Program) (plan : Plan) (t : ℕ) where
     pub closes_not : (effect : Effect) → Form p h effect → closes_at (first_site p plan) (site_of h).0 effect ≡ false
     closes_not effect f = rw (q.inner, stays_in effect f)
 
-    pub words_are : (loads : List Rattle.dp_tree.specs.Eval.Load) (effect : Effect) → words_of p plan (record { site = (site_of h).0; loads = loads; effect = effect }) ≡ done_word (site_of h).0 effect ∷ []
+    pub words_are : (loads : List Rattle.dp_tree.specs.Eval.Load) (effect : Effect) →
+        words_of p plan (record { site = (site_of h).0; loads = loads; effect = effect }) ≡ done_word (site_of h).0 effect ∷ []
     words_are loads effect = rw q.unchecked
 
-    nothing_assumed : (effect : Effect) (all : List Assume) → list_any (is_assumed_at (site_of h).0) all ≡ false → list_all (goes_as (site_of h).0 effect) all ≡ true
+    nothing_assumed : (effect : Effect) (all : List Assume) → list_any (is_assumed_at (site_of h).0) all ≡ false →
+        list_all (goes_as (site_of h).0 effect) all ≡ true
     nothing_assumed effect [] e = refl
     nothing_assumed effect (a ∷ all) e =
         let n = none_of (is_assumed_at (site_of h).0) (a ∷ all) e in

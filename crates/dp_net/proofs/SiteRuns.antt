@@ -1,18 +1,15 @@
 -- A turn over items against the one over the words that they stand for: what holds between them, and a site outside of the blocks.
 use Rattle.dp_semantics.proofs.Names.{◌≡◌, inl, inr, refl, sym, ap, ◌∙◌, subst, ℕ, ◌+◌, ◌-◌, ◌<◌, ◌≤◌, ◌==◌, Bool, true, false, ◌&&◌, ◌||◌, if◌then◌else◌, List, [], ◌∷◌, ◌++◌, ℤ, length, length-append, list_all, Option, Some, None, Ok, Err, Result, nat_le, arith, leb-true, eqb-true, slice_set, sum_by, and_parts, cases_Bool, Stmt, out-Stmt, Stmt-F, Program, Plan, Word, Load, Evaluated, evaluated, WithLoads, Effect, site_of, value_of, stored, followed, stage_of, first_site, is_checked, cell_count, load_words, done_word, words_of, word_list, Full, Void, Taken, taken_from, Turn, TurnEnd, Ended, turned, turn_by, consumed_step, closes_at}
 use Rattle.dp_net.proofs.Strict.{strict_own_step, strict_step}
-unfoldable use Rattle.dp_net.proofs.Strict.{strict_from}
 use Rattle.std.proofs.lemmas.List.{map-set}
-use Rattle.dp_semantics.proofs.Each.{Each, each_map, each_join, all_of}
+use Rattle.dp_semantics.proofs.Each.{Each, each_map, each_join}
 use Rattle.dp_semantics.specs.Clean.{event_as_assumed}
 use Rattle.dp_semantics.proofs.Evaluation.{InVar, Readable, head_loads, evaluated_tracks}
 use Rattle.dp_semantics.proofs.Ways.{event_of}
 use Rattle.dp_semantics.proofs.Shorter.{some_word, taken_shorter, lists_shorter}
 use Rattle.dp_semantics.proofs.Followed.{Parts}
-unfoldable use Rattle.dp_net.specs.Quiet.{quiet_from}
 use Rattle.dp_net.specs.NetItems.{Marks, Item, Said, weights, item_list, NetTaken, net_taken_from, said_all}
 use Rattle.dp_net.specs.NetRun.{NetTurn, NetEnded, net_turned, net_own_step, net_consumed_step, net_by, net_step}
-unfoldable use Rattle.dp_net.specs.NetRun.{net_from}
 use Rattle.dp_net.proofs.Blocks.{at_turn}
 use Rattle.dp_net.proofs.Memories.{Open, Agrees, agree_stored}
 use Rattle.dp_net.proofs.Groups.{Group, One, flats, flats_join, items, items_join, weights_are, all_flats, all_items, group_list, words_of_groups, items_of_groups, Marked, Good, Alike, both, none, taken_alike}
@@ -63,8 +60,10 @@ module _ (p : Program) (plan : Plan) (m : Marks) (input : List ℤ) (marked : Ma
 
     -- the next of both, where each step adds words or takes some
     abbrev pub Onward : ℕ → (Turn → TurnEnd) → (NetTurn → Option NetEnded) → List (List Group) → List Group → Type 0
-    Onward k go run groups made = (to_do : List Stmt) (cells mem : List ℤ) (groups' : List (List Group)) (made' : List Group) (closing : Bool) → Held to_do cells mem groups' made' →
-        k + length (flats made) + left_of groups' ≤ length (flats made') + left_of groups → SameEnd (go (word_turn to_do cells groups' made' closing)) (run (item_turn to_do mem groups' made' closing))
+    Onward k go run groups made = (to_do : List Stmt) (cells mem : List ℤ) (groups' : List (List Group)) (made' : List Group) (closing : Bool) →
+        Held to_do cells mem groups' made' →
+        k + length (flats made) + left_of groups' ≤ length (flats made') + left_of groups →
+        SameEnd (go (word_turn to_do cells groups' made' closing)) (run (item_turn to_do mem groups' made' closing))
 
     abbrev ones : List Word → List Group
     ones [] = []
@@ -79,7 +78,8 @@ module _ (p : Program) (plan : Plan) (m : Marks) (input : List ℤ) (marked : Ma
     items_ones (w ∷ ws) = ap (λ rest. Said w ∷ rest) (items_ones ws)
 
     module _ (x : Stmt) (rest : List Stmt) (cells mem : List ℤ) (groups : List (List Group)) (made : List Group) (closing : Bool) (held : Held (x ∷ rest) cells mem groups made) (plain : Plain m x)
-        (texts : (z : ℤ) → Text m (followed x rest (out-Stmt x) z)) (go : Turn → TurnEnd) (run : NetTurn → Option NetEnded) (next : Onward 1 go run groups made) where
+        (texts : (z : ℤ) → Text m (followed x rest (out-Stmt x) z)) (go : Turn → TurnEnd) (run : NetTurn →
+        Option NetEnded) (next : Onward 1 go run groups made) where
       abbrev h : Stmt-F Stmt
       h = out-Stmt x
 
@@ -87,7 +87,8 @@ module _ (p : Program) (plan : Plan) (m : Marks) (input : List ℤ) (marked : Ma
       r = steady_head p plan m input marked test ready s x rest held.steady
 
       -- the words of an own site are good
-      loads_good : (loads : List Load) → Each (λ (l : Load). (u : ℕ) → m.hides u l.cell ≡ false) loads → Each (Good p plan m input) (ones (load_words (site_of h).0 loads))
+      loads_good : (loads : List Load) → Each (λ (l : Load). (u : ℕ) → m.hides u l.cell ≡ false) loads →
+          Each (Good p plan m input) (ones (load_words (site_of h).0 loads))
       loads_good [] k = tt
       loads_good (l ∷ loads) k = ((plain.1, λ is. k.0), loads_good loads k.1)
 
@@ -151,7 +152,8 @@ module _ (p : Program) (plan : Plan) (m : Marks) (input : List ℤ) (marked : Ma
               (subst (λ (all : List Item). SameEnd (go (word_turn (followed x rest h (value_of v.value)) (stored v.value cells) groups (made ++ ones ws) closing_then)) (run (record { to_do = followed x rest h (value_of v.value); cells = stored v.value mem; lists = all_items p plan m groups; own = all; closing = closing_then }))) items_then
               (next (followed x rest h (value_of v.value)) (stored v.value cells) (stored v.value mem) groups (made ++ ones ws) closing_then held_then paid))
 
-          by : (a b : Bool) → (assumed && nat_le (length (flats made ++ ws)) plan.words) ≡ a → a ≡ b → SameEnd (turn_by go (if a then Ok then_words else Err Full)) (net_by p plan m input s run (if b then Some then_items else None))
+          by : (a b : Bool) → (assumed && nat_le (length (flats made ++ ws)) plan.words) ≡ a → a ≡ b →
+              SameEnd (turn_by go (if a then Ok then_words else Err Full)) (net_by p plan m input s run (if b then Some then_items else None))
           by true true q same = goes_on (leb-true (length (flats made ++ ws)) plan.words (and_parts assumed (nat_le (length (flats made ++ ws)) plan.words) q).1)
           by false false q same = tt
           by true false q same = absurd (cc same)
@@ -170,7 +172,8 @@ module _ (p : Program) (plan : Plan) (m : Marks) (input : List ℤ) (marked : Ma
       there_good = each_get (Each (Good p plan m input)) groups (t - 1) [] held.good tt
 
       -- another stage's site
-      taken_case : (u : Result Taken Void) (w : Option NetTaken) → Alike p plan m input marked u w → taken_from p h (word_list (all_flats p plan m groups) t) ≡ u →
+      taken_case : (u : Result Taken Void) (w : Option NetTaken) → Alike p plan m input marked u w →
+          taken_from p h (word_list (all_flats p plan m groups) t) ≡ u →
           SameEnd (turn_by go (consumed_step p plan (word_turn (x ∷ rest) cells groups made closing) x rest h u)) (net_by p plan m input s run (net_consumed_step p plan (item_turn (x ∷ rest) mem groups made closing) x rest h w))
       taken_case u w (none why) e = tt
       taken_case u w (both effect gs good) e =

@@ -25,7 +25,8 @@ module _ (p : Program) (plan : Plan) where
       cell_form false c q = absurd (cc q)
   word_form (Store site x index e) well w effect q = cell_form (is_cell_of p x w.index) refl q
     where
-      cell_form : (b : Bool) → is_cell_of p x w.index ≡ b → (if b then Some (Stored w.index w.value) else None) ≡ Some effect → Form p (Store site x index e) effect
+      cell_form : (b : Bool) → is_cell_of p x w.index ≡ b → (if b then Some (Stored w.index w.value) else None) ≡ Some effect →
+          Form p (Store site x index e) effect
       cell_form true c q =
           let both = and_parts (nat_le (first_cell p x) w.index) (nat_lt w.index (first_cell p x + cell_count p x)) c in
           let same : Stored w.index w.value ≡ effect = cc q in
@@ -38,7 +39,8 @@ module _ (p : Program) (plan : Plan) where
   word_form (Region r site cond a) well w effect q = absurd (cc)
   word_form (Call f line args) well w effect q = absurd (cc)
 
-  by_form : (h : Stmt-F Stmt) → well_at p plan h ≡ true → (w : Word) (ws : List Word) (t : Taken) (o : Option Effect) → effect_by p h w ≡ o → taken_by (site_of h).0 w ws o ≡ Ok t → Form p h t.effect
+  by_form : (h : Stmt-F Stmt) → well_at p plan h ≡ true → (w : Word) (ws : List Word) (t : Taken) (o : Option Effect) → effect_by p h w ≡ o →
+      taken_by (site_of h).0 w ws o ≡ Ok t → Form p h t.effect
   by_form h well w ws t None q e = absurd (cc e)
   by_form h well w ws t (Some effect) q e =
       let same : record { effect = effect; rest = ws } ≡ t = cc e in subst (Form p h) (ap (λ (u : Taken). u.effect) same) (word_form h well w effect q)
@@ -98,14 +100,16 @@ module _ (p : Program) (plan : Plan) where
         abbrev opened : Turn
         opened = at_turn (y ∷ onward) cells lists own closing
 
-        turned_is : (effect : Effect) (own' : List Word) (lists' : List (List Word)) → turned p plan opened y onward hs effect own' lists' ≡ turn_after effect own' lists'
+        turned_is : (effect : Effect) (own' : List Word) (lists' : List (List Word)) →
+            turned p plan opened y onward hs effect own' lists' ≡ turn_after effect own' lists'
         turned_is effect own' lists' = rw (next_is (value_of effect), site_proj p plan s h)
 
         turn_opened : (n : ℕ) → turn_from p plan input s (suc n) stage_turn ≡ turn_by (turn_from p plan input s n) (turn_step p plan input s opened y onward hs)
         unfolding turn_from
         turn_opened n = rw text_is (ap (λ (g : Stmt-F Stmt). turn_by (turn_from p plan input s n) (turn_step p plan input s opened y onward g)) (out-roll-Stmt hs))
 
-        strict_opened : (n : ℕ) → strict_from p plan input s (suc n) stage_turn ≡ turn_by (strict_from p plan input s n) (strict_step p plan input s opened y onward hs)
+        strict_opened : (n : ℕ) →
+            strict_from p plan input s (suc n) stage_turn ≡ turn_by (strict_from p plan input s n) (strict_step p plan input s opened y onward hs)
         unfolding strict_from
         strict_opened n = rw text_is (ap (λ (g : Stmt-F Stmt). turn_by (strict_from p plan input s n) (strict_step p plan input s opened y onward g)) (out-roll-Stmt hs))
 
@@ -120,11 +124,15 @@ module _ (p : Program) (plan : Plan) where
           consumed_is : (w : Taken) → consumed_step p plan opened y onward hs (Ok w) ≡ Ok (turn_after w.effect own (slice_set lists (u - 1) w.rest))
           consumed_is w = rw (site_proj p plan s h) (ap (λ (c : Turn). Ok c) (rw (next_is (value_of w.effect)) refl))
 
-          pub turn_takes : (w : Taken) → taken_from p h (word_list lists u) ≡ Ok w → (n : ℕ) → turn_from p plan input s (suc n) stage_turn ≡ turn_from p plan input s n (turn_after w.effect own (slice_set lists (u - 1) w.rest))
-          turn_takes w e n = turn_opened n ∙ ap (turn_by (turn_from p plan input s n)) (step_taken ∙ ap (consumed_step p plan opened y onward hs) e ∙ consumed_is w)
+          pub turn_takes : (w : Taken) → taken_from p h (word_list lists u) ≡ Ok w → (n : ℕ) →
+              turn_from p plan input s (suc n) stage_turn ≡ turn_from p plan input s n (turn_after w.effect own (slice_set lists (u - 1) w.rest))
+          turn_takes w e n = turn_opened n
+              ∙ ap (turn_by (turn_from p plan input s n)) (step_taken ∙ ap (consumed_step p plan opened y onward hs) e ∙ consumed_is w)
 
-          pub strict_takes : (w : Taken) → taken_from p h (word_list lists u) ≡ Ok w → (n : ℕ) → strict_from p plan input s (suc n) stage_turn ≡ strict_from p plan input s n (turn_after w.effect own (slice_set lists (u - 1) w.rest))
-          strict_takes w e n = strict_opened n ∙ ap (turn_by (strict_from p plan input s n)) (strict_taken_step ∙ ap (consumed_step p plan opened y onward hs) e ∙ consumed_is w)
+          pub strict_takes : (w : Taken) → taken_from p h (word_list lists u) ≡ Ok w → (n : ℕ) →
+              strict_from p plan input s (suc n) stage_turn ≡ strict_from p plan input s n (turn_after w.effect own (slice_set lists (u - 1) w.rest))
+          strict_takes w e n = strict_opened n
+              ∙ ap (turn_by (strict_from p plan input s n)) (strict_taken_step ∙ ap (consumed_step p plan opened y onward hs) e ∙ consumed_is w)
 
         -- an own site is evaluated
         module _ (here : u ≡ s) where
@@ -134,7 +142,8 @@ module _ (p : Program) (plan : Plan) where
           strict_own_is : strict_step p plan input s opened y onward hs ≡ strict_own_step p plan opened y onward hs (evaluated p input cells h)
           strict_own_is = rw (site_proj p plan s h, eq-eqb u s here, evaluated_proj p plan s input cells h) refl
 
-          pub turn_faults : (kind : FaultKind) → evaluated p input cells h ≡ Err kind → (n : ℕ) → (why : Void) × (turn_from p plan input s (suc n) stage_turn ≡ Err why)
+          pub turn_faults : (kind : FaultKind) → evaluated p input cells h ≡ Err kind → (n : ℕ) →
+              (why : Void) × (turn_from p plan input s (suc n) stage_turn ≡ Err why)
           turn_faults kind e n = (_, turn_opened n ∙ ap (turn_by (turn_from p plan input s n)) (own_is ∙ ap (own_step p plan opened y onward hs) e))
 
           when_fits : (go : Turn → TurnEnd) (b : Bool) (c : Turn) → turn_by go (if b then Ok c else Err Full) ≡ (if b then go c else Err Full)
@@ -144,13 +153,17 @@ module _ (p : Program) (plan : Plan) where
           pub turn_makes : (v : WithLoads Effect) → evaluated p input cells h ≡ Ok v → (n : ℕ) → turn_from p plan input s (suc n) stage_turn
               ≡ (if nat_le (length (own ++ words_here v)) plan.words then turn_from p plan input s n (turn_after v.value (own ++ words_here v) lists) else Err Full)
           turn_makes v e n =
-              turn_opened n ∙ ap (turn_by (turn_from p plan input s n)) (own_is ∙ ap (own_step p plan opened y onward hs) e ∙ rw (site_proj p plan s h) (rw (next_is (value_of v.value)) refl))
+              turn_opened n
+              ∙ ap (turn_by (turn_from p plan input s n)) (own_is ∙ ap (own_step p plan opened y onward hs) e
+              ∙ rw (site_proj p plan s h) (rw (next_is (value_of v.value)) refl))
               ∙ when_fits (turn_from p plan input s n) (nat_le (length (own ++ words_here v)) plan.words) (turn_after v.value (own ++ words_here v) lists)
 
           pub strict_makes : (v : WithLoads Effect) → evaluated p input cells h ≡ Ok v → (n : ℕ) → strict_from p plan input s (suc n) stage_turn
               ≡ (if as_assumed p plan (site_of h).0 v.value && nat_le (length (own ++ words_here v)) plan.words then strict_from p plan input s n (turn_after v.value (own ++ words_here v) lists) else Err Full)
           strict_makes v e n =
-              strict_opened n ∙ ap (turn_by (strict_from p plan input s n)) (strict_own_is ∙ ap (strict_own_step p plan opened y onward hs) e ∙ rw (site_proj p plan s h) (rw (next_is (value_of v.value)) refl))
+              strict_opened n
+              ∙ ap (turn_by (strict_from p plan input s n)) (strict_own_is ∙ ap (strict_own_step p plan opened y onward hs) e
+              ∙ rw (site_proj p plan s h) (rw (next_is (value_of v.value)) refl))
               ∙ when_fits (strict_from p plan input s n) (as_assumed p plan (site_of h).0 v.value && nat_le (length (own ++ words_here v)) plan.words) (turn_after v.value (own ++ words_here v) lists)
 
         -- The judgement goes on where the words are the site's and go as assumed.
@@ -183,7 +196,8 @@ module _ (p : Program) (plan : Plan) where
           pub judged_on : (n : ℕ) (v : Agreed) → judge_from p plan (suc n) judging ≡ Clean v → JudgedOn n v
           judged_on n v e = by (taken_from p h (word_list lists u)) refl (loads_hold (site_of h).0 cells (word_list lists u)) (sym (judge_opened n ∙ ap (judge_by (judge_from p plan n)) judge_step_is) ∙ e)
             where
-              by : (r : Result Taken Void) → taken_from p h (word_list lists u) ≡ r → (held : Bool) → judge_by (judge_from p plan n) (judged_by p plan judging_here y onward hs held r) ≡ Clean v → JudgedOn n v
+              by : (r : Result Taken Void) → taken_from p h (word_list lists u) ≡ r → (held : Bool) →
+                  judge_by (judge_from p plan n) (judged_by p plan judging_here y onward hs held r) ≡ Clean v → JudgedOn n v
               by (Err why) q held e = absurd (cc e)
               by (Ok w) q held e = by_test (held && as_assumed p plan (site_of hs).0 w.effect) refl e
                 where
@@ -196,7 +210,8 @@ module _ (p : Program) (plan : Plan) where
                   by_test true t e = record {
                     taken = w;
                     taken_is = q;
-                    assumed = ap (λ (site : SiteId). as_assumed p plan site.0 w.effect) (sym (site_proj p plan s h)) ∙ (and_parts held (as_assumed p plan (site_of hs).0 w.effect) t).1;
+                    assumed = ap (λ (site : SiteId). as_assumed p plan site.0 w.effect) (sym (site_proj p plan s h))
+                        ∙ (and_parts held (as_assumed p plan (site_of hs).0 w.effect) t).1;
                     effects = effects ++ w.effect ∷ [];
                     sites = sites ++ (site_of h).0 ∷ [];
                     goes_on = ap (judge_from p plan n) (sym judged_is) ∙ e;

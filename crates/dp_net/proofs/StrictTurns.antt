@@ -1,6 +1,6 @@
 -- A turn that breaks off at a wrong assumption goes on as the other, or breaks off.
 use Rattle.dp_semantics.proofs.Names.{◌≡◌, ◌⊎◌, inl, inr, refl, ℕ, zero, suc, ◌==◌, Bool, true, false, ◌&&◌, if◌then◌else◌, List, [], ◌∷◌, ◌++◌, ℤ, length, Ok, Err, Result, nat_le, Stmt, out-Stmt, Stmt-F, Program, Plan, Evaluated, evaluated, Event, Effect, event_as_assumed, words_of, Full, Void, Taken, taken_from, Turn, TurnEnd, turned, turn_by, turn_at, own_step, consumed_step, stage_at, words_left}
-unfoldable use Rattle.dp_semantics.proofs.Names.{turn_from, judge_from}
+unfoldable use Rattle.dp_semantics.proofs.Names.{turn_from}
 use Rattle.dp_net.proofs.Strict.{strict_own_step, strict_at}
 unfoldable use Rattle.dp_net.proofs.Strict.{strict_from}
 
@@ -28,12 +28,14 @@ module _ (p : Program) (plan : Plan) (input : List ℤ) (s : ℕ) where
           fits event true false = inl refl
           fits event false b = inr (Full, refl)
 
-          own : (r : Evaluated Effect) → SameOrOff (turn_by (strict_from p plan input s n) (strict_own_step p plan c x rest (out-Stmt x) r)) (turn_by (turn_from p plan input s n) (own_step p plan c x rest (out-Stmt x) r))
+          own : (r : Evaluated Effect) →
+              SameOrOff (turn_by (strict_from p plan input s n) (strict_own_step p plan c x rest (out-Stmt x) r)) (turn_by (turn_from p plan input s n) (own_step p plan c x rest (out-Stmt x) r))
           own (Err kind) = inl refl
           own (Ok v) = fits (Rattle.dp_semantics.proofs.Ways.event_of (out-Stmt x) v) (event_as_assumed p plan (Rattle.dp_semantics.proofs.Ways.event_of (out-Stmt x) v))
               (nat_le (length (c.own ++ words_of p plan (Rattle.dp_semantics.proofs.Ways.event_of (out-Stmt x) v))) plan.words)
 
-          taken : (r : Result Taken Void) → SameOrOff (turn_by (strict_from p plan input s n) (consumed_step p plan c x rest (out-Stmt x) r)) (turn_by (turn_from p plan input s n) (consumed_step p plan c x rest (out-Stmt x) r))
+          taken : (r : Result Taken Void) →
+              SameOrOff (turn_by (strict_from p plan input s n) (consumed_step p plan c x rest (out-Stmt x) r)) (turn_by (turn_from p plan input s n) (consumed_step p plan c x rest (out-Stmt x) r))
           taken (Err why) = inl refl
           taken (Ok w) = go (Rattle.dp_semantics.specs.StageRun.consumed p plan c x rest (out-Stmt x) w)
 

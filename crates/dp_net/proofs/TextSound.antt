@@ -8,14 +8,16 @@ use Rattle.dp_net.proofs.HiddenCells.{is_sound, all_sound, sound_roll}
 module _ (p : Program) (plan : Plan) where
   -- The text of each stage is sound where the region's sites are.
   module _ (s : ℕ) where
-    reach_sound : (site : ℕ) (a b : List Stmt) → list_all (all_sound p plan) a ≡ true → list_all (all_sound p plan) b ≡ true → list_all (all_sound p plan) (where_reached p plan s site a b) ≡ true
+    reach_sound : (site : ℕ) (a b : List Stmt) → list_all (all_sound p plan) a ≡ true → list_all (all_sound p plan) b ≡ true →
+        list_all (all_sound p plan) (where_reached p plan s site a b) ≡ true
     reach_sound site a b h k = by (nat_le (stage_of p plan site) s)
       where
         by : (c : Bool) → list_all (all_sound p plan) (if c then a else b) ≡ true
         by true = h
         by false = k
 
-    branch_sound : (o : Option Bool) (a b : List Stmt) → list_all (all_sound p plan) a ≡ true → list_all (all_sound p plan) b ≡ true → list_all (all_sound p plan) (branch_of o a b) ≡ true
+    branch_sound : (o : Option Bool) (a b : List Stmt) → list_all (all_sound p plan) a ≡ true → list_all (all_sound p plan) b ≡ true →
+        list_all (all_sound p plan) (branch_of o a b) ≡ true
     branch_sound None a b h k = refl
     branch_sound (Some true) a b h k = h
     branch_sound (Some false) a b h k = k
@@ -23,10 +25,12 @@ module _ (p : Program) (plan : Plan) where
     one_sound : (b : Bool) → b ≡ true → (b && true) ≡ true
     one_sound b e = rw e refl
 
-    if_sound : (site : _) (cond : _) (a b : List Stmt) → is_sound p plan (head_access (If site cond a b)) ≡ true → list_all (all_sound p plan) a ≡ true → list_all (all_sound p plan) b ≡ true → all_sound p plan (tree.If site cond a b) ≡ true
+    if_sound : (site : _) (cond : _) (a b : List Stmt) → is_sound p plan (head_access (If site cond a b)) ≡ true →
+        list_all (all_sound p plan) a ≡ true → list_all (all_sound p plan) b ≡ true → all_sound p plan (tree.If site cond a b) ≡ true
     if_sound site cond a b own h k = ap (all_sound p plan) (sym (rolls-If site cond a b)) ∙ sound_roll p plan (If site cond a b) ∙ rw (own, h, k) refl
 
-    while_sound : (site : _) (cond : _) (a : List Stmt) → is_sound p plan (head_access (While site cond a)) ≡ true → list_all (all_sound p plan) a ≡ true → all_sound p plan (tree.While site cond a) ≡ true
+    while_sound : (site : _) (cond : _) (a : List Stmt) → is_sound p plan (head_access (While site cond a)) ≡ true →
+        list_all (all_sound p plan) a ≡ true → all_sound p plan (tree.While site cond a) ≡ true
     while_sound site cond a own h = ap (all_sound p plan) (sym (rolls-While site cond a)) ∙ sound_roll p plan (While site cond a) ∙ rw (own, h) refl
 
     mutual
@@ -44,8 +48,10 @@ module _ (p : Program) (plan : Plan) where
       projected_sound (tree.Region' r site cond _ a) h = rw (if_sound site cond (project_in p plan s a) [] h.0 (projected_row a h.1) refl) refl
       projected_sound (tree.Call f line args) h = refl
 
-      pub projected_row : {n : _} (row : Row_of-Stmt n) → Each (λ a. is_sound p plan a ≡ true) (accesses_in row) → list_all (all_sound p plan) (project_in p plan s row) ≡ true
+      pub projected_row : {n : _} (row : Row_of-Stmt n) → Each (λ a. is_sound p plan a ≡ true) (accesses_in row) →
+          list_all (all_sound p plan) (project_in p plan s row) ≡ true
       projected_row end_of-Stmt h = refl
       projected_row (more_of-Stmt x rest) h =
           let parts = each_split (λ (i : Access). is_sound p plan i ≡ true) (accesses x) (accesses_in rest) h in
-          list_all-append (all_sound p plan) (project p plan s x) (project_in p plan s rest) ∙ and_from _ _ (projected_sound x parts.0) (projected_row rest parts.1)
+          list_all-append (all_sound p plan) (project p plan s x) (project_in p plan s rest)
+          ∙ and_from _ _ (projected_sound x parts.0) (projected_row rest parts.1)

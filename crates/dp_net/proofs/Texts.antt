@@ -25,7 +25,8 @@ module _ (m : Marks) where
   pub data Text : List Stmt → Type 0 where
     ends : Text []
     leaf : {x : Stmt} {rest : List Stmt} → Plain x → IsLeaf (out-Stmt x) → Text rest → Text (x ∷ rest)
-    choice : {x : Stmt} {rest a b : List Stmt} {site : SiteId} {cond : Expr} → Plain x → out-Stmt x ≡ If site cond a b → Text a → Text b → Text rest → Text (x ∷ rest)
+    choice : {x : Stmt} {rest a b : List Stmt} {site : SiteId} {cond : Expr} → Plain x → out-Stmt x ≡ If site cond a b → Text a → Text b →
+        Text rest → Text (x ∷ rest)
     loop : {x : Stmt} {rest a : List Stmt} {site : SiteId} {cond : Expr} → Plain x → out-Stmt x ≡ While site cond a → Text a → Text rest → Text (x ∷ rest)
     block : {x : Stmt} {b rest behind : List Stmt} → m.block_at (site_at x) ≡ x ∷ b → behind ≡ b ++ rest → Text rest → Text (x ∷ behind)
 
@@ -57,7 +58,8 @@ module _ (m : Marks) where
     -- no region stands in it
     pub text_left : {xs : List Stmt} → Text xs → behind_region xs ≡ []
     text_left ends = refl
-    text_left (leaf {x = x} {rest = rest} plain is s) = ap (λ (o : Option ℕ). behind_one o rest (behind_region rest)) (leaf_number (out-Stmt x) is) ∙ text_left s
+    text_left (leaf {x = x} {rest = rest} plain is s) = ap (λ (o : Option ℕ). behind_one o rest (behind_region rest)) (leaf_number (out-Stmt x) is)
+        ∙ text_left s
     text_left (choice {x = x} {rest = rest} plain is u v s) = ap (λ (o : Option ℕ). behind_one o rest (behind_region rest)) (ap region_number is) ∙ text_left s
     text_left (loop {x = x} {rest = rest} plain is u s) = ap (λ (o : Option ℕ). behind_one o rest (behind_region rest)) (ap region_number is) ∙ text_left s
     text_left (block {x = x} {b = b} {rest = rest} at is s) =

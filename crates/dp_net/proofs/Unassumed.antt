@@ -74,9 +74,11 @@ module _ (p : Program) (plan : Plan) (input : List ℤ) (s : ℕ) (low : 0 < s) 
 
   -- with so many steps of the judgement
   abbrev KeptIn : ℕ → Type 0
-  KeptIn n = (k : ℕ) (xs : List Stmt) → Sourced xs → (cells : List ℤ) (lists : List (List Word)) (own : List Word) (closing : Bool) (mem : List ℤ) (judged : List (List Word)) (judge_own : List Word) (judge_closing : Bool) (effects : List Effect) (sites : List ℕ)
+  KeptIn n = (k : ℕ) (xs : List Stmt) → Sourced xs →
+      (cells : List ℤ) (lists : List (List Word)) (own : List Word) (closing : Bool) (mem : List ℤ) (judged : List (List Word)) (judge_own : List Word) (judge_closing : Bool) (effects : List Effect) (sites : List ℕ)
       (e : Ended) (v : Agreed) → Facing lists judged own e.own → turn_from p plan input s k (turn_at_text xs cells lists own closing) ≡ Ok e →
-      (closing ≡ true → judge_closing ≡ true) → judge_from p plan n (judging_at_text xs mem judged judge_own judge_closing effects sites) ≡ Clean v → EndsSo k (turn_at_text xs cells lists own closing) e v
+      (closing ≡ true → judge_closing ≡ true) → judge_from p plan n (judging_at_text xs mem judged judge_own judge_closing effects sites) ≡ Clean v →
+      EndsSo k (turn_at_text xs cells lists own closing) e v
 
   module _ (n : ℕ) (go : KeptIn n) (k : ℕ) (x : Stmt) (rest : List Stmt) (source : Sourced (x ∷ rest)) (cells : List ℤ) (lists : List (List Word)) (own : List Word) (closing : Bool) (mem : List ℤ) (judged : List (List Word))
       (judge_own : List Word) (judge_closing : Bool) (effects : List Effect) (sites : List ℕ) (e : Ended) (v : Agreed) (facing : Facing lists judged own e.own) (shut : closing ≡ true → judge_closing ≡ true) where
@@ -107,7 +109,8 @@ module _ (p : Program) (plan : Plan) (input : List ℤ) (s : ℕ) (low : 0 < s) 
     abbrev here_turn : Turn
     here_turn = turn_at_text (x ∷ rest) cells lists own closing
 
-    judged_here : judge_from p plan (suc n) (judging_at_text (x ∷ rest) mem judged judge_own judge_closing effects sites) ≡ Clean v → JudgedOn p plan input x rest well behind (last plan) early mem judged judge_own judge_closing n v
+    judged_here : judge_from p plan (suc n) (judging_at_text (x ∷ rest) mem judged judge_own judge_closing effects sites) ≡ Clean v →
+        JudgedOn p plan input x rest well behind (last plan) early mem judged judge_own judge_closing n v
     judged_here q = judged_on p plan input x rest well behind (last plan) early mem judged judge_own judge_closing refl effects sites n v q
 
     module _ (j : JudgedOn p plan input x rest well behind (last plan) early mem judged judge_own judge_closing n v) where
@@ -149,7 +152,8 @@ module _ (p : Program) (plan : Plan) (input : List ℤ) (s : ℕ) (low : 0 < s) 
           } in
           let ends = go k (followed x rest h (value_of w.effect)) (source_next (value_of w.effect)) (stored w.effect cells) (slice_set lists (u - 1) w.rest) own (closing || closes_at (first_site p plan) (site_of h).0 w.effect)
           (stored w.effect mem) judged_next judge_own (judge_closing || closes_at (first_site p plan) (site_of h).0 w.effect) j.effects j.sites e v next
-          (sym (turn_takes p plan input x rest well behind s reach cells lists own closing other w takes k) ∙ q) (still_left closing judge_closing (closes_at (first_site p plan) (site_of h).0 w.effect) shut) j.goes_on in
+          (sym (turn_takes p plan input x rest well behind s reach cells lists own closing other w takes k)
+          ∙ q) (still_left closing judge_closing (closes_at (first_site p plan) (site_of h).0 w.effect) shut) j.goes_on in
           (strict_takes p plan input x rest well behind s reach cells lists own closing other w takes k ∙ ends.0, ends.1)
 
       -- a later stage's
@@ -165,7 +169,8 @@ module _ (p : Program) (plan : Plan) (input : List ℤ) (s : ℕ) (low : 0 < s) 
           } in
           let ends = go (suc k) (followed x rest h (value_of w.effect)) (source_next (value_of w.effect)) cells lists own closing
           (stored w.effect mem) judged_next judge_own (judge_closing || closes_at (first_site p plan) (site_of h).0 w.effect) j.effects j.sites e v next
-          (ap (λ (xs : List Stmt). turn_from p plan input s (suc k) (at_turn xs cells lists own closing)) (sym same_text) ∙ q) (left_before closing judge_closing (closes_at (first_site p plan) (site_of h).0 w.effect) shut) j.goes_on in
+          (ap (λ (xs : List Stmt). turn_from p plan input s (suc k) (at_turn xs cells lists own closing)) (sym same_text)
+          ∙ q) (left_before closing judge_closing (closes_at (first_site p plan) (site_of h).0 w.effect) shut) j.goes_on in
           (ap (λ (xs : List Stmt). strict_from p plan input s (suc k) (at_turn xs cells lists own closing)) same_text ∙ ends.0, ends.1)
 
       -- the stage's own
@@ -175,21 +180,25 @@ module _ (p : Program) (plan : Plan) (input : List ℤ) (s : ℕ) (low : 0 < s) 
           reach : u ≤ s
           reach = omega (arith, here)
 
-          fits_or : (r : WithLoads Effect) (b : Bool) → nat_le (length (own ++ words_of p plan (event_of h r))) plan.words ≡ b → evaluated p input cells h ≡ Ok r →
+          fits_or : (r : WithLoads Effect) (b : Bool) → nat_le (length (own ++ words_of p plan (event_of h r))) plan.words ≡ b →
+              evaluated p input cells h ≡ Ok r →
               (if b then turn_from p plan input s k (turn_after p plan input x rest well behind s reach cells lists own closing r.value (own ++ words_of p plan (event_of h r)) lists) else Err Full) ≡ Ok e → EndsSo (suc k) here_turn e v
           fits_or r false b gave went = absurd (cc went)
           fits_or r true b gave went =
               let ws : List Word = words_of p plan (event_of h r) in
               let form = form_here r gave in
               let grown = grows p plan input s k _ e went in
-              let front : word_list judged s ≡ ws ++ grown.0 = append_cancel_left own (word_list judged s) (ws ++ grown.0) (sym facing.made_is ∙ grown.1 ∙ append_assoc own ws grown.0) in
+              let front : word_list judged s ≡ ws ++ grown.0 = append_cancel_left own (word_list judged s) (ws ++ grown.0) (sym facing.made_is
+              ∙ grown.1 ∙ append_assoc own ws grown.0) in
               let takes : taken_from p h (word_list judged u) ≡ Ok (record { effect = r.value; rest = grown.0 }) =
-              ap (λ (t : ℕ). taken_from p h (word_list judged t)) here ∙ ap (taken_from p h) front ∙ taken_event p plan (event_of h r) grown.0 h refl (effect_of_word p h (site_of h).0 r.value form) in
+              ap (λ (t : ℕ). taken_from p h (word_list judged t)) here ∙ ap (taken_from p h) front
+              ∙ taken_event p plan (event_of h r) grown.0 h refl (effect_of_word p h (site_of h).0 r.value form) in
               let clash : Ok (record { effect = r.value; rest = grown.0 }) ≡ Ok w = sym takes ∙ j.taken_is in
               let is : record { effect = r.value; rest = grown.0 } ≡ w = cc clash in
               onward r ws grown.0 is b gave went (grown.1)
             where
-              onward : (r : WithLoads Effect) (ws more : List Word) → record { effect = r.value; rest = more } ≡ w → nat_le (length (own ++ words_of p plan (event_of h r))) plan.words ≡ true → evaluated p input cells h ≡ Ok r →
+              onward : (r : WithLoads Effect) (ws more : List Word) → record { effect = r.value; rest = more } ≡ w →
+                  nat_le (length (own ++ words_of p plan (event_of h r))) plan.words ≡ true → evaluated p input cells h ≡ Ok r →
                   turn_from p plan input s k (turn_after p plan input x rest well behind s reach cells lists own closing r.value (own ++ words_of p plan (event_of h r)) lists) ≡ Ok e →
                   e.own ≡ (own ++ words_of p plan (event_of h r)) ++ more → EndsSo (suc k) here_turn e v
               onward r ws more is b gave went grown =
@@ -200,11 +209,14 @@ module _ (p : Program) (plan : Plan) (input : List ℤ) (s : ℕ) (low : 0 < s) 
                     wide = facing.wide;
                     judged_wide = judged_wide_next;
                     same = λ t real less. facing.same t real less ∙ sym (judged_else t real (λ same. omega (arith, same, less, here)));
-                    made_is = grown ∙ ap (λ (ys : List Word). (own ++ words_of p plan (event_of h r)) ++ ys) (rest_is ∙ sym judged_there ∙ ap (word_list judged_next) here);
+                    made_is = grown
+                        ∙ ap (λ (ys : List Word). (own ++ words_of p plan (event_of h r)) ++ ys) (rest_is ∙ sym judged_there
+                        ∙ ap (word_list judged_next) here);
                   } in
                   let ends = go k (followed x rest h (value_of r.value)) (source_next (value_of r.value)) (stored r.value cells) lists (own ++ words_of p plan (event_of h r)) (closing || closes_at (first_site p plan) (site_of h).0 r.value)
                   (stored w.effect mem) judged_next judge_own (judge_closing || closes_at (first_site p plan) (site_of h).0 w.effect) j.effects j.sites e v next went
-                  (λ shuts. ap (λ (effect : Effect). judge_closing || closes_at (first_site p plan) (site_of h).0 effect) (sym effect_is) ∙ still_left closing judge_closing (closes_at (first_site p plan) (site_of h).0 r.value) shut shuts)
+                  (λ shuts. ap (λ (effect : Effect). judge_closing || closes_at (first_site p plan) (site_of h).0 effect) (sym effect_is)
+                  ∙ still_left closing judge_closing (closes_at (first_site p plan) (site_of h).0 r.value) shut shuts)
                   (ap (λ (effect : Effect). judge_from p plan n (judging_at_text (followed x rest h (value_of effect)) (stored w.effect mem) judged_next judge_own (judge_closing || closes_at (first_site p plan) (site_of h).0 w.effect) j.effects j.sites)) effect_is ∙ j.goes_on) in
                   (strict_makes p plan input x rest well behind s reach cells lists own closing here r gave k ∙ rw (assumed, b) ends.0, ends.1)
 

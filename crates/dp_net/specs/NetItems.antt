@@ -29,6 +29,13 @@ stores_into c (Printed value) = false
 stores_into c (Decided value) = false
 stores_into c (Tried value) = false
 
+-- the effect is a store
+abbrev pub is_store : Effect → Bool
+is_store (Stored c value) = true
+is_store (Printed value) = false
+is_store (Decided value) = false
+is_store (Tried value) = false
+
 -- the store takes the place of an earlier one into its cell, or stands behind the others
 abbrev pub put : ℕ → ℤ → List Effect → List Effect
 put c value [] = Stored c value ∷ []

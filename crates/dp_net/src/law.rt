@@ -4,7 +4,7 @@ ghost use Rattle.std.specs.Prelude.{◌≡◌, true};
 ghost use Rattle.dp_tree.specs.Inlined.{IsInlined};
 ghost use Rattle.dp_semantics.specs.Fits.{fits_plan};
 ghost use Rattle.dp_net.specs.Batches.{BatchesAreRight, BatchesEnd, EndsStay};
-ghost use Rattle.dp_net.specs.Follows.{ItemsFollow};
+ghost use Rattle.dp_net.specs.Follows.{ItemsFollow, TextsNest};
 ghost use Rattle.dp_net.specs.NetVerdicts.{NetIsRight};
 
 use dp_plan::Plan;
@@ -22,7 +22,8 @@ pub fn net_verdicts_are_the_definitions(p: &Program, plan: &Plan)
 pub fn net_items_follow_the_text(p: &Program, plan: &Plan)
     requires inlined { IsInlined p.now }
     requires fits { fits_plan p.now plan.now ≡ true }
-    ensures { ItemsFollow p.now plan.now }
+    ensures follow { ItemsFollow p.now plan.now }
+    ensures nest { TextsNest p.now plan.now }
 {}
 
 /// What is decided of a batch is what the definition decides of its iterations, one by one, and leads there; and a batch never ends too early.

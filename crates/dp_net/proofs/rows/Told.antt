@@ -1,5 +1,5 @@
 -- What is sent, computed: two stores to one element in stage 2 are one net store.
-use Rattle.std.proofs.Common.{◌≡◌, refl, ℕ, Bool, true, false, List, [], ◌∷◌, pos, Option, Some, None}
+use Rattle.std.proofs.Common.{length, map, ◌≡◌, refl, ℕ, Bool, true, false, List, [], ◌∷◌, pos, Option, Some, None}
 use Rattle.dp_base.specs.declared.WordKind.TheVariants as word
 use Rattle.dp_tree.specs.declared.Stmt.{Stmt}
 use Rattle.dp_tree.specs.Step.{Stored}
@@ -12,9 +12,10 @@ use Rattle.dp_semantics.specs.Packets.{Epoch}
 use Rattle.dp_semantics.specs.EpochKey.{EpochKey}
 use Rattle.dp_semantics.specs.EpochVerdicts.{Verdict, Commit, Again}
 use Rattle.dp_net.specs.Quiet.{quiet_from}
-use Rattle.dp_net.specs.NetItems.{Said, Net}
+use Rattle.dp_net.specs.Batches.{BatchVerdict, BatchEnd, BatchCloses, batch_at, batch_verdict_at}
+use Rattle.dp_net.specs.NetItems.{Marks, Said, Net}
 use Rattle.dp_net.specs.NetRun.{net_from}
-use Rattle.dp_net.specs.NetPackets.{net_passed}
+use Rattle.dp_net.specs.NetPackets.{NetPacket, NetGoing, NetClosing, net_passed}
 use Rattle.dp_net.specs.NetJudge.{net_judge_from}
 use Rattle.dp_net.specs.NetVerdicts.{net_verdict_at}
 use Rattle.dp_net.specs.Hidden.{marks_of}
@@ -38,9 +39,25 @@ abbrev two_key : EpochKey
 two_key = record { program = two_stores; plan = two_plan; input = []; first = 0; base = pos 0 ∷ pos 0 ∷ []; steps = 1; fuel = 1000 }
 
 abbrev carried_of : Verdict → Option (ℕ × ℕ × Bool)
-carried_of (Commit v) = Some (Rattle.std.specs.Prelude.length v.stores, v.steps, v.closing)
+carried_of (Commit v) = Some (length v.stores, v.steps, v.closing)
 carried_of (Again cause) = None
 
 committed : carried_of (net_verdict_at (marks_of two_stores two_plan any) two_key 1) ≡ Some (2, 4, false)
 unfolding tree_opened net_from quiet_from net_judge_from
 committed = refl
+
+abbrev any_marks : Marks
+any_marks = marks_of two_stores two_plan any
+
+-- the third batch has the third iteration and the closing one
+together_sent : map (λ (packet : NetPacket). packet.status) (batch_at any_marks two_key 64 2 2) ≡ NetGoing ∷ NetClosing ∷ []
+unfolding tree_opened net_from quiet_from
+together_sent = refl
+
+-- .. and is told with both
+abbrev told_of : BatchVerdict → ℕ × ℕ × ℕ × BatchEnd
+told_of v = (v.iterations, length v.stores, v.steps, v.ends)
+
+together_told : told_of (batch_verdict_at any_marks two_key 64 2) ≡ (2, 2, 5, BatchCloses)
+unfolding tree_opened net_from quiet_from net_judge_from
+together_told = refl
