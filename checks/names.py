@@ -1,8 +1,8 @@
 #!/usr/bin/env python3
 """Lists the names of specifications that stand for different things in two crates: two definitions of one name whose texts
 differ. What is passed on by `pub use` or has an alias is no definition, and what stands in specs/steps is a crate's own.
-names.txt has those that may stand, each behind a reason. Ends with 1 where there is another name, or where one of the list
-has gone.
+names.txt has those that may stand, each behind a reason. Ends with 1 where there is another name; tells which of the list stand
+for one thing by now.
 
   checks/names.py [--all]    with --all each name is listed with its places
 """
@@ -59,7 +59,7 @@ def main():
         print(f"{name} stands for one thing alone: take it off the list")
     crates = [len({crate_of(definition) for definition in found}) for found in names.values()]
     print(f"{len(names)} names stand for different things in {sum(crates)} places, {len(new)} of them aren't listed")
-    return 1 if new or gone else 0
+    return 1 if new else 0
 
 
 if __name__ == "__main__":
