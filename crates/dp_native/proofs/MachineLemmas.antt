@@ -5,7 +5,14 @@ use Rattle.dp_tree.specs.Step.{Config, standing}
 use Rattle.dp_meaning.specs.MachineState.{MachineState}
 use Rattle.dp_meaning.specs.Places.{config_at, rest_at}
 use Rattle.dp_meaning.specs.steps.PlainSteps.{PlainSteps}
+use Rattle.dp_meaning.specs.declared.ends.Part.TheVariants.{Plain}
+use Rattle.dp_meaning.specs.MachineState.{next_part, part_of}
+use Rattle.dp_meaning.proofs.StopLemmas.{part_idle, plain_idle}
 use Rattle.dp_native.specs.Reaches.{Reaches}
+
+-- where a plain part is next
+pub plain_here : (m : MachineState) (place : ℕ) → next_part m ≡ Plain → rest_at m.program place ≡ m.config.to_do → part_of (rest_at m.program place) ≡ Plain
+plain_here m place next at = ap part_of at ∙ sym (part_idle m (plain_idle m.current m.config.to_do next)) ∙ next
 
 -- what native code reached, as steps of the machine
 pub reached_steps : (m : MachineState) (input cells made back out out' : List ℤ) (place fuel left to : ℕ) → input ≡ m.input → rest_at m.program place ≡ m.config.to_do → cells ≡ m.config.cells → back ≡ made →

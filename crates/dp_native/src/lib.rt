@@ -10,4 +10,4 @@ pub use operations::{
     add, div, element, eq_value, ge_value, gt_value, holds, le_value, length_of, lt_value, mul,
     ne_value, neg, rem, say, sub,
 };
-pub use program::{Entry, NativeProgram};
+pub use program::NativeProgram;

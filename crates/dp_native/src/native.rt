@@ -1,17 +1,14 @@
 //! Native code of a program in the place of its machine.
-ghost use Rattle.std.specs.Prelude.{◌≡◌, OnOk};
+ghost use Rattle.std.specs.Prelude.{◌≡◌};
 ghost use Rattle.dp_tree.specs.Inlined.{IsInlined};
 ghost use Rattle.dp_meaning.specs.declared.ends.Part.TheVariants.{Plain};
 ghost use Rattle.dp_meaning.specs.MachineState.{next_part};
 ghost use Rattle.dp_meaning.specs.PartRun.{PartMoved};
 
-use crate::program::{Entry, NativeProgram};
-use dp_base::{Cells, NoMemory, Row};
-use dp_meaning::{Machine, NativeCode, PartEnd};
+use crate::program::NativeProgram;
+use dp_base::{Cells, Row};
+use dp_meaning::{Machine, NativeCode};
 use std::alloc::Global;
-
-/// The most steps that the machine makes one by one up to a place where native code goes on.
-const NEAR: u32 = 4096;
 
 /// A program's native code, which goes on with the plain parts of its runs. Other programs are left to the machine.
 #[derive(Drop)]
@@ -29,48 +26,11 @@ impl<P: NativeProgram> Native<P> {
 
 impl<P: NativeProgram> NativeCode for Native<P> {
     #[tactic(auto, using(dp_meaning::proofs::PartLemmas::part_unmoved))]
-    fn go_on(
-        &self,
-        alloc: Global,
-        machine: &mut Machine<'_>,
-        out: &mut Row<i64>,
-    ) -> Result<(), NoMemory> {
+    fn go_on(&self, alloc: Global, machine: &mut Machine<'_>, out: &mut Row<i64>) {
         if self.program.is(machine.program()) {
-            approach(&self.program, alloc, machine, out)
-        } else {
-            Ok(())
+            leap(&self.program, alloc, machine, out);
         }
     }
-}
-
-/// Lets the machine step up to where native code goes on, and goes on there.
-fn approach<P: NativeProgram>(
-    program: &P,
-    alloc: Global,
-    machine: &mut Machine<'_>,
-    out: &mut Row<i64>,
-) -> Result<(), NoMemory>
-    requires part { next_part machine.old ≡ Plain }
-    requires inlined { IsInlined machine.old.program }
-    requires suits { P.suits program.now machine.old.program }
-    ensures moved { PartMoved machine.old machine.new out.old out.new }
-    ensures spoiled { OnOk result (machine.new.spoiled ≡ machine.old.spoiled) }
-{
-    'steps: for _step in 0..NEAR {
-        match program.entry(machine.place()) {
-            Entry::Here => {
-                leap(program, alloc, machine, out);
-                return Ok(());
-            }
-            Entry::Near => {}
-            Entry::Far => return Ok(()),
-        }
-        match machine.run_part(1, out)? {
-            PartEnd::Going => {}
-            _ => return Ok(()),
-        }
-    }
-    Ok(())
 }
 
 /// Goes on in native code from where the machine stands. Where memory is wanting for that, nothing is done.
@@ -78,8 +38,7 @@ fn leap<P: NativeProgram>(program: &P, alloc: Global, machine: &mut Machine<'_>,
     requires part { next_part machine.old ≡ Plain }
     requires inlined { IsInlined machine.old.program }
     requires suits { P.suits program.now machine.old.program }
-    ensures moved { PartMoved machine.old machine.new out.old out.new }
-    ensures spoiled { machine.new.spoiled ≡ machine.old.spoiled }
+    ensures { PartMoved machine.old machine.new out.old out.new }
 {
     let Ok(mut cells) = Vec::from_slice(alloc, machine.cells().as_slice()) else {
         return;

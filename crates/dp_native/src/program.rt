@@ -1,24 +1,15 @@
 //! Native code of one program.
-ghost use Rattle.std.specs.Prelude.{IsTrue};
+ghost use Rattle.std.specs.Prelude.{◌≡◌, IsTrue};
 ghost use Rattle.dp_tree.specs.Inlined.{IsInlined};
 ghost use Rattle.dp_tree.specs.Step.{standing};
 ghost use Rattle.dp_tree.specs.declared.Program.{Program as Tree};
+ghost use Rattle.dp_meaning.specs.declared.ends.Part.TheVariants.{Plain};
+ghost use Rattle.dp_meaning.specs.MachineState.{part_of};
 ghost use Rattle.dp_meaning.specs.Places.{config_at, rest_at};
 ghost use Rattle.dp_native.specs.Reaches.{Reaches};
 
 use dp_base::Row;
 use dp_tree::Program;
-
-/// What native code makes of a place. It is a hint, of which nothing depends but the time that a run takes.
-#[derive(Clone, Copy)]
-pub enum Entry {
-    /// It goes on from there.
-    Here,
-    /// The machine soon comes from there to where it does.
-    Near,
-    /// It doesn't know the place.
-    Far,
-}
 
 /// What is generated for a program.
 pub trait NativeProgram {
@@ -29,11 +20,8 @@ pub trait NativeProgram {
     fn is(&self, program: &Program) -> bool
         ensures { IsTrue result → suits self.now program.now };
 
-    /// Whether it goes on from a place.
-    fn entry(&self, place: u32) -> Entry;
-
     /// Makes steps of a plain part from a place on, as many as it likes, and appends what they print. Answers the place that
-    /// is next then, and the fuel that is left.
+    /// is next then, and the fuel that is left: this place and all of the fuel where it doesn't know the place.
     fn run(
         &self,
         place: u32,
@@ -42,6 +30,6 @@ pub trait NativeProgram {
         fuel: u64,
         out: &mut Row<i64>,
     ) -> (u32, u64)
-        ensures { (p : Tree) → IsInlined p → suits self.now p →
+        ensures { (p : Tree) → IsInlined p → suits self.now p → part_of (rest_at p place) ≡ Plain →
             Reaches p input.now fuel out.old (config_at p (record { place = place; cells = cells.old })) result.1 out.new (standing p (rest_at p result.0) cells.new) };
 }

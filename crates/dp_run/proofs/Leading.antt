@@ -76,7 +76,7 @@ module _ (p : Program) (input : List ℤ) (fuel : ℕ) (run : Run) where
           (λ r h. starts_behind (rest_of_run old) (rest_of_run new) r call.went.events call.went.configs call.went.moved.run (off_plain_part r call.went.configs call.went.plain));
       left = sym (left_from_region new.config.to_do) ∙ ap regions_left call.went.behind ∙ left_from_region old.config.to_do ∙ b.left;
       between = call.went.current ∙ b.between;
-      sound = call.spoiled ∙ b.sound;
+      sound = call.went.spoiled ∙ b.sound;
     }
 
     plain_at : (end : PartEnd) (call : PartRun turns old new before after end) → next_part new ≡ part.Plain → part_of new.config.to_do ≡ part.Plain

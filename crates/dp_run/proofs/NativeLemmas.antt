@@ -1,17 +1,17 @@
 -- Steps of a plain part that native code made, and what the machine makes behind them.
-use Rattle.std.proofs.Common.{◌≡◌, ◌≢◌, refl, sym, ap, ◌∙◌, ℕ, ◌+◌, ◌<◌, List, ◌++◌, length, length-append, ℤ, Result, Ok, Err, IfOk, MatchResult, None, arith}
+use Rattle.std.proofs.Common.{◌≡◌, ◌≢◌, refl, sym, ◌∙◌, ℕ, ◌+◌, ◌<◌, List, ◌++◌, length, length-append, ℤ, Result, Ok, Err, IfOk, MatchResult, None, arith}
 use Rattle.dp_room.specs.declared.NoMemory.{NoMemory}
 use Rattle.dp_meaning.specs.declared.ends.Part.TheVariants.{Plain}
 use Rattle.dp_meaning.specs.declared.ends.PartEnd.{PartEnd}
 use Rattle.dp_meaning.specs.declared.ends.PartEnd.TheVariants.{Done, Fault, Fuel, Going}
-use Rattle.dp_meaning.specs.MachineState.{MachineState, next_part, part_of, from_region}
+use Rattle.dp_meaning.specs.MachineState.{MachineState, next_part}
 use Rattle.dp_meaning.specs.Moved.{Spoiled}
 use Rattle.dp_meaning.specs.PartRun.{PartMoved, PartRun, PartStops}
 use Rattle.dp_meaning.proofs.PartLemmas.{part_joined}
 use Rattle.dp_meaning.proofs.StopLemmas.{from_region-over, part_idle, plain_idle}
 use Rattle.dp_run.specs.steps.Calls.{PartCall}
 
-module _ (old mid : MachineState) (x y : List ℤ) (next : next_part old ≡ Plain) (went : PartMoved old mid x y) (same : mid.spoiled ≡ old.spoiled) where
+module _ (old mid : MachineState) (x y : List ℤ) (next : next_part old ≡ Plain) (went : PartMoved old mid x y) where
   idle : mid.current ≡ None
   idle = went.current ∙ plain_idle old.current old.config.to_do next
 
@@ -24,7 +24,6 @@ module _ (old mid : MachineState) (x y : List ℤ) (next : next_part old ≡ Pla
       went = went;
       within = omega arith;
       stops = record { part = over; rest = sym (from_region-over mid.config.to_do (λ e. over (part_idle mid idle ∙ e))) ∙ went.behind };
-      spoiled = same;
     };
   }
 
@@ -32,7 +31,7 @@ module _ (old mid : MachineState) (x y : List ℤ) (next : next_part old ≡ Pla
   pub going_call : next_part mid ≡ Plain → old.steps < mid.steps → mid.steps < mid.fuel → PartCall old mid x y Going
   going_call plain some left =
       let steps = went.moved.steps in
-      record { turns = length went.events; some = omega (arith, some, steps); call = record { went = went; within = omega arith; stops = (plain, left, refl); spoiled = same } }
+      record { turns = length went.events; some = omega (arith, some, steps); call = record { went = went; within = omega arith; stops = (plain, left, refl) } }
 
   module _ (turns : ℕ) (some : 0 < turns) (new : MachineState) (z : List ℤ) where
     stops_on : (end : PartEnd) (made all : ℕ) → all ≡ length went.events + made → PartStops turns made mid new end → PartStops (length went.events + turns) all old new end
@@ -53,7 +52,6 @@ module _ (old mid : MachineState) (x y : List ℤ) (next : next_part old ≡ Pla
             went = part_joined old mid new x y z went run.went;
             within = omega (arith, sizes, few);
             stops = stops_on end (length run.went.events) (length (went.events ++ run.went.events)) sizes run.stops;
-            spoiled = run.spoiled ∙ same;
           };
         }
 

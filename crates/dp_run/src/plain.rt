@@ -108,7 +108,7 @@ fn make_steps<N: NativeCode>(
     ensures { IfOk result (λ end. PartCall machine.old machine.new waiting.old waiting.new end) }
 {
     let before = machine.steps();
-    native.go_on(alloc, machine, waiting)?;
+    native.go_on(alloc, machine, waiting);
     if machine.part() != Part::Plain {
         return Ok(PartEnd::Done);
     }
