@@ -24,11 +24,10 @@ use Rattle.dp_net.proofs.Texts.{Text}
 use Rattle.dp_net.proofs.BlockPlaces.{run_quiet}
 use Rattle.dp_net.proofs.BlockTexts.{stmt_text}
 use Rattle.dp_net.proofs.HiddenCells.{is_sound, is_clear, all_sound, hidden_local, ready_all}
-use Rattle.dp_net.specs.Batches.{BatchesAreRight, BatchesEnd, EndsStay, batch_begin, batch_size, ends_batch}
+use Rattle.dp_net.specs.Batches.{BatchesAreRight, BatchesEnd, batch_begin, batch_size, ends_batch}
 use Rattle.dp_semantics.specs.EpochVerdicts.{goes_on}
 use Rattle.dp_net.proofs.BatchVerdicts.{batch_right}
 use Rattle.dp_net.proofs.BatchEnds.{ends_there}
-use Rattle.dp_net.proofs.NetSent.{ends_stay}
 use Rattle.dp_net.specs.NetPackets.{net_passed}
 use Rattle.dp_net.specs.Follows.{PacketFollows, ItemsFollow, TextsNest, is_void}
 use Rattle.dp_net.proofs.Projections.{earlier_part}
@@ -241,6 +240,3 @@ batches_end p plan inlined fits key same_program same_plan pays n goes = by key 
         let ok = accepted key.program key.plan (rw (e, f) fits) in
         subst (λ (q : Program). Goal q plan key) e (subst (λ (r : Plan). Goal key.program r key) f
         (ends_there key ok (quieted key (rw (e, f) fits) k (rw (e, f) up) pays) n (clean_to key ok n goes)))
-
-pub ends_stay_so : EndsStay
-ends_stay_so m key s n off = ends_stay m (epoch_of key) s n off

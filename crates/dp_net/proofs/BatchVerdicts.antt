@@ -66,7 +66,8 @@ module _ (key : EpochKey) where
 
   -- body locals may be cleared between two iterations, or not
   clear_between : (stores : List StoreOf) (cells : List ℤ) → left_behind key stores (clear cells) ≡ left_behind key stores cells
-  clear_between stores cells = even_clear (with_stores stores (clear cells)) (with_stores stores cells) (even_stores stores (clear cells) cells (cleared_even cells))
+  clear_between stores cells = even_clear (with_stores stores (clear cells)) (with_stores stores cells)
+      (even_stores stores (clear cells) cells (cleared_even cells))
 
   left_join : (a b : List StoreOf) (cells : List ℤ) → left_behind key (a ++ b) cells ≡ left_behind key b (left_behind key a cells)
   left_join a b cells = ap clear (stores_join a b cells) ∙ sym (clear_between b (with_stores a cells))
@@ -89,7 +90,7 @@ module _ (key : EpochKey) where
   nothing_agrees : (a b : BatchEnd) → b ≡ a → BatchAgrees key (nothing_but a) (nothing_but b)
   nothing_agrees a b e = record { iterations = refl; prints = refl; steps = refl; ends = e; stores = λ cells. refl }
 
-  goes_further : (n : ℕ) → GoesOnTo key n → goes_on (verdict_at key n) ≡ true → GoesOnTo key (n + 1)
+  pub goes_further : (n : ℕ) → GoesOnTo key n → goes_on (verdict_at key n) ≡ true → GoesOnTo key (n + 1)
   goes_further n goes here i low = elim (cases_eq i n) [
     | inl same ↦ ap (λ (k : ℕ). goes_on (verdict_at key k)) same ∙ here
     | inr less ↦ goes i (omega (arith, low, less))
@@ -100,7 +101,8 @@ module _ (key : EpochKey) where
     pub together_agrees : (n k : ℕ) → GoesOnTo key k →
         BatchAgrees key (together (map (verdict_at key) (numbers_from k n))) (together (map (net_verdict_at m key) (numbers_from k n)))
     together_agrees zero k goes = nothing_agrees BatchGoesOn BatchGoesOn refl
-    together_agrees (suc n) k goes = by (verdict_at key k) (net_verdict_at m key k) refl (let r = agrees k goes in r.verdict) (λ on. together_agrees n (k + 1) (goes_further k goes on))
+    together_agrees (suc n) k goes = by (verdict_at key k) (net_verdict_at m key k) refl (let r = agrees k goes in r.verdict)
+        (λ on. together_agrees n (k + 1) (goes_further k goes on))
       where
         rest : List Verdict
         rest = map (verdict_at key) (numbers_from (k + 1) n)

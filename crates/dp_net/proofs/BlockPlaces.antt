@@ -41,7 +41,8 @@ module _ (p : Program) (plan : Plan) where
         kept (tree.Store site x index e) q = reached p plan s site.0 _ [] (let h = site_stage t site.0 _ q in omega (arith, h, late))
         kept (tree.Print site e) q = absurd (cc)
         kept (tree.If' site cond h a k b) q =
-            let both = and_parts (quiet_at p plan t (tree.If' site cond h a k b)) (everywhere_in (quiet_at p plan t) a && everywhere_in (quiet_at p plan t) b) q in
+            let both = and_parts (quiet_at p plan t (tree.If' site cond h a k b))
+            (everywhere_in (quiet_at p plan t) a && everywhere_in (quiet_at p plan t) b) q in
             let inner = and_parts (everywhere_in (quiet_at p plan t) a) (everywhere_in (quiet_at p plan t) b) both.1 in
             reached p plan s site.0 _ _ (let h = site_stage t site.0 _ both.0 in omega (arith, h, late))
             ∙ ap (λ (xs : List Stmt). tree.If site cond xs (project_in p plan s b) ∷ []) (kept_in a inner.0)
@@ -73,7 +74,8 @@ module _ (p : Program) (plan : Plan) where
         gone (tree.Store site x index e) q = not_reached p plan s site.0 _ [] (let h = site_stage t site.0 _ q in omega (arith, h, early))
         gone (tree.Print site e) q = absurd (cc)
         gone (tree.If' site cond h a k b) q =
-            let both = and_parts (quiet_at p plan t (tree.If' site cond h a k b)) (everywhere_in (quiet_at p plan t) a && everywhere_in (quiet_at p plan t) b) q in
+            let both = and_parts (quiet_at p plan t (tree.If' site cond h a k b))
+            (everywhere_in (quiet_at p plan t) a && everywhere_in (quiet_at p plan t) b) q in
             let inner = and_parts (everywhere_in (quiet_at p plan t) a) (everywhere_in (quiet_at p plan t) b) both.1 in
             not_reached p plan s site.0 _ _ (let h = site_stage t site.0 _ both.0 in omega (arith, h, early))
             ∙ no_branch (assumed_in plan.assume site.0) _ _ (gone_in a inner.0) (gone_in b inner.1)

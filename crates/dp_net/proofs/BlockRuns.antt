@@ -73,7 +73,8 @@ module _ (p : Program) (plan : Plan) (m : Marks) (input : List ℤ) (marked : Ma
             (why : Void) × (strict_from p plan input s n before_words ≡ Err why)) → Through_it
 
       some_steps : {events : List Event} → Whole p plan m input f events → 0 < length events
-      some_steps {events} w = let r = Rattle.dp_net.proofs.Groups.first_word p plan m input marked f events w in subst (λ (es : List Event). 0 < length es) (sym r.2) (omega arith)
+      some_steps {events} w = let r = Rattle.dp_net.proofs.Groups.first_word p plan m input marked f events w in subst (λ (es : List Event). 0 < length es)
+          (sym r.2) (omega arith)
 
       -- the stage's own
       module _ (here : u ≡ s) where
@@ -92,7 +93,8 @@ module _ (p : Program) (plan : Plan) (m : Marks) (input : List ℤ) (marked : Ma
 
         own_block : (o n : Outcome) → SameOutcome m s o n → quiet_from p input room (x ∷ b) cells ≡ o → quiet_from p input room (x ∷ b) mem ≡ n → Through_it
         own_block o n same_broke e d = broken (net_is Broke d)
-            (λ k enough. breaks p plan s input room (x ∷ b) cells e quiet_here more (all_flats p plan m groups) (flats made) closing room_is k (omega (arith, enough, room_is)))
+            (λ k enough. breaks p plan s input room (x ∷ b) cells e quiet_here more (all_flats p plan m groups)
+            (flats made) closing room_is k (omega (arith, enough, room_is)))
         own_block o n (same_through events c d agree) e g = gone (record {
           steps = length events;
           cells_then = c;
@@ -110,7 +112,8 @@ module _ (p : Program) (plan : Plan) (m : Marks) (input : List ℤ) (marked : Ma
           runs = λ k n q. produce p plan s input went.0 quiet_here more (all_flats p plan m groups) (flats made) closing k n q (omega (arith, room_is, went.1))
               ∙ ap (λ (all : List Word). strict_from p plan input s n (at_turn more c (all_flats p plan m groups) all closing)) (sym flats_then);
           made_is = net_is (Through events d) g
-              ∙ ap (λ (all : List Item). Some (net_past p plan before_items more d (all_items p plan m groups) all)) (sym (items_join p plan m made (Block f events ∷ [])));
+              ∙ ap (λ (all : List Item). Some (net_past p plan before_items more d (all_items p plan m groups) all))
+              (sym (items_join p plan m made (Block f events ∷ [])));
           some = some_steps w;
           paid = omega (arith, grown);
         })
@@ -169,7 +172,8 @@ module _ (p : Program) (plan : Plan) (m : Marks) (input : List ℤ) (marked : Ma
             fits = held.fits;
           };
           runs = λ k n q. consume p plan u input path quiet s there low more cells (all_flats p plan m groups) (flats made) closing (flats gs) wide front k n q
-              ∙ ap (λ (ls : List (List Word)). strict_from p plan input s n (at_turn more (applied (effects_of events) cells) ls (flats made) closing)) (sym (map-set flats groups (u - 1) gs));
+              ∙ ap (λ (ls : List (List Word)). strict_from p plan input s n (at_turn more (applied (effects_of events) cells) ls (flats made) closing))
+              (sym (map-set flats groups (u - 1) gs));
           made_is = met_is ∙ ap (λ (all : List Group). net_met p plan f before_items more (items p plan m all)) is
               ∙ rw (eq-eqb f f refl, lt-ltb 0 (length events) (some_steps w)) refl
               ∙ ap (λ (ls : List (List Item)). Some (net_past p plan before_items more (applied (net_of (m.hides u) (effects_of events)) mem) ls (items p plan m made))) (sym (map-set (items p plan m) groups (u - 1) gs));
@@ -187,7 +191,8 @@ module _ (p : Program) (plan : Plan) (m : Marks) (input : List ℤ) (marked : Ma
             wide = let r = Rattle.dp_net.proofs.Groups.first_word p plan m input marked f events w in wide_by _ _ (front
                 ∙ ap (λ (es : List Event). said es ++ flats gs) r.2)
 
-            sums : sum_by length (slice_set (all_flats p plan m groups) (u - 1) (flats gs)) + length (get_or (all_flats p plan m groups) (u - 1) []) ≡ left_of p plan m input marked test ready s groups + length (flats gs)
+            sums : sum_by length (slice_set (all_flats p plan m groups) (u - 1) (flats gs)) + length (get_or (all_flats p plan m groups)
+                (u - 1) []) ≡ left_of p plan m input marked test ready s groups + length (flats gs)
             sums = sum_by-set length (all_flats p plan m groups) (u - 1) (flats gs) [] (omega (arith, wide, low))
 
             sizes : length (get_or (all_flats p plan m groups) (u - 1) []) ≡ length events + length (flats gs)
@@ -197,7 +202,8 @@ module _ (p : Program) (plan : Plan) (m : Marks) (input : List ℤ) (marked : Ma
             gone_is : 0 < length events
             gone_is = some_steps w
 
-            set_is : left_of p plan m input marked test ready s (slice_set groups (u - 1) gs) ≡ sum_by length (slice_set (all_flats p plan m groups) (u - 1) (flats gs))
+            set_is : left_of p plan m input marked test ready s (slice_set groups (u - 1) gs) ≡ sum_by length (slice_set (all_flats p plan m groups)
+                (u - 1) (flats gs))
             set_is = ap (sum_by length) (map-set flats groups (u - 1) gs)
 
       pub block_case : Through_it

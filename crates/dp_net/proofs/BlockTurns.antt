@@ -52,7 +52,8 @@ module _ (p : Program) (plan : Plan) (t : ℕ) (input : List ℤ) where
   breaks (suc n) [] cells e quiet behind lists own closing room (suc m) less = absurd (cc e)
   breaks (suc n) (x ∷ rest) cells e quiet behind lists own closing room (suc m) less =
       by (evaluated p input cells (out-Stmt x)) refl e
-      (λ v broke own' room'. breaks n (followed x rest (out-Stmt x) (value_of v.value)) (stored v.value cells) broke (onward p plan t x rest (value_of v.value) quiet) behind lists own' closing room' m (omega (arith, less)))
+      (λ v broke own' room'. breaks n (followed x rest (out-Stmt x) (value_of v.value))
+      (stored v.value cells) broke (onward p plan t x rest (value_of v.value) quiet) behind lists own' closing room' m (omega (arith, less)))
     where
       broke_of : (event : Event) (o : Outcome) → with_event event o ≡ Broke → o ≡ Broke
       broke_of event Broke e = refl
@@ -61,7 +62,8 @@ module _ (p : Program) (plan : Plan) (t : ℕ) (input : List ℤ) where
       by : (u : Evaluated Effect) → evaluated p input cells (out-Stmt x) ≡ u → quiet_by (quiet_from p input n) x rest cells (out-Stmt x) u ≡ Broke →
           ((v : WithLoads Effect) → quiet_from p input n (followed x rest (out-Stmt x) (value_of v.value)) (stored v.value cells) ≡ Broke →
           (own' : List Word) → n + length own' ≡ plan.words →
-          (why : Void) × (strict_from p plan input t m (at_turn (followed x rest (out-Stmt x) (value_of v.value) ++ behind) (stored v.value cells) lists own' closing) ≡ Err why)) →
+          (why : Void) × (strict_from p plan input t m (at_turn (followed x rest (out-Stmt x) (value_of v.value) ++ behind)
+          (stored v.value cells) lists own' closing) ≡ Err why)) →
           (why : Void) × (strict_from p plan input t (suc m) (at_turn (x ∷ (rest ++ behind)) cells lists own closing) ≡ Err why)
       by (Err kind) gave e go = (_, own_fault p plan t input x rest behind quiet lists own closing cells m kind gave)
       by (Ok v) gave e go =
@@ -76,7 +78,8 @@ module _ (p : Program) (plan : Plan) (t : ℕ) (input : List ℤ) where
       Goes p input to_do cells events after then_cells → AllQuiet p plan t to_do → (s : ℕ) → (t ≡ s → ⊥) → 0 < t →
       (behind : List Stmt) (mem : List ℤ) (lists : List (List Word)) (own : List Word) (closing : Bool) (more : List Word) → t < suc (length lists) →
       word_list lists t ≡ said events ++ more → (m n : ℕ) → m ≡ length events + n →
-      strict_from p plan input s m (at_turn (to_do ++ behind) mem lists own closing) ≡ strict_from p plan input s n (at_turn (after ++ behind) (applied (effects_of events) mem) (slice_set lists (t - 1) more) own closing)
+      strict_from p plan input s m (at_turn (to_do ++ behind) mem lists own closing) ≡ strict_from p plan input s n (at_turn (after ++ behind)
+      (applied (effects_of events) mem) (slice_set lists (t - 1) more) own closing)
   consume (stays {to_do = to_do}) quiet s other low behind mem lists own closing more wide front m n e =
       let same : m ≡ n = omega (arith, e) in
       let kept : slice_set lists (t - 1) more ≡ lists = ap (slice_set lists (t - 1)) (sym front ∙ word_list_is lists t low) ∙ set_self lists (t - 1) [] in
@@ -84,12 +87,16 @@ module _ (p : Program) (plan : Plan) (t : ℕ) (input : List ℤ) where
       ∙ ap (λ (ls : List (List Word)). strict_from p plan input s n (at_turn (to_do ++ behind) mem ls own closing)) (sym kept)
   consume (goes {x = x} {rest = rest} {cells = cells} {v = v} {events = events} {after = after} gave path) quiet s other low behind mem lists own closing more wide front m n e =
       let one : m ≡ suc (length events + n) = omega (arith, e) in
-      let f = form_is p plan t (out-Stmt x) (known_quiet p plan t (out-Stmt x) (sym (quiet_out p plan t x) ∙ (and_parts (is_quiet p plan t x) (all_quiet p plan t rest) quiet).0)) input cells v gave in
+      let f = form_is p plan t (out-Stmt x) (known_quiet p plan t (out-Stmt x)
+      (sym (quiet_out p plan t x) ∙ (and_parts (is_quiet p plan t x) (all_quiet p plan t rest) quiet).0)) input cells v gave in
       let wide_then : t < suc (length (slice_set lists (t - 1) (said events ++ more))) = omega (arith, wide, length-set lists (t - 1) (said events ++ more)) in
       ap (λ (u : ℕ). strict_from p plan input s u (at_turn (x ∷ (rest ++ behind)) mem lists own closing)) one
       ∙ taken_step p plan t input x rest behind quiet lists own closing mem v.loads v.value f (said events ++ more) front s other (length events + n)
-      ∙ consume path (onward p plan t x rest (value_of v.value) quiet) s other low behind (stored v.value mem) (slice_set lists (t - 1) (said events ++ more)) own closing more wide_then (word_list_same lists t (said events ++ more) low wide) (length events + n) n refl
-      ∙ ap (λ (ls : List (List Word)). strict_from p plan input s n (at_turn (after ++ behind) (applied (effects_of events) (stored v.value mem)) ls own closing)) (set-set lists (t - 1) (said events ++ more) more)
+      ∙ consume path (onward p plan t x rest (value_of v.value) quiet) s other low behind (stored v.value mem)
+      (slice_set lists (t - 1) (said events ++ more)) own closing more wide_then (word_list_same lists t (said events ++ more) low wide)
+      (length events + n) n refl
+      ∙ ap (λ (ls : List (List Word)). strict_from p plan input s n (at_turn (after ++ behind)
+      (applied (effects_of events) (stored v.value mem)) ls own closing)) (set-set lists (t - 1) (said events ++ more) more)
 
   -- .. and so does the judgement, each word of the block being one step of its fuel
   pub judge_block : {to_do : List Stmt} {cells : List ℤ} {events : List Event} {after : List Stmt} {then_cells : List ℤ} →
@@ -97,20 +104,33 @@ module _ (p : Program) (plan : Plan) (t : ℕ) (input : List ℤ) where
       (behind : List Stmt) (mem : List ℤ) (lists : List (List Word)) (own : List Word) (closing : Bool) (more : List Word) → t < suc (length lists) →
       word_list lists t ≡ said events ++ more → (effects : List Effect) (sites : List ℕ) → (m n : ℕ) → m ≡ length events + n →
       judge_from p plan m (record { turn = at_turn (to_do ++ behind) mem lists own closing; effects = effects; sites = sites })
-      ≡ judge_from p plan n (record { turn = at_turn (after ++ behind) (applied (effects_of events) mem) (slice_set lists (t - 1) more) own closing; effects = effects ++ effects_of events; sites = sites ++ sites_of events })
+      ≡ judge_from p plan n (record {
+        turn = at_turn (after ++ behind) (applied (effects_of events) mem)
+            (slice_set lists (t - 1) more) own closing;
+        effects = effects ++ effects_of events;
+        sites = sites ++ sites_of events;
+      })
   judge_block (stays {to_do = to_do}) quiet low behind mem lists own closing more wide front effects sites m n e =
       let same : m ≡ n = omega (arith, e) in
       let kept : slice_set lists (t - 1) more ≡ lists = ap (slice_set lists (t - 1)) (sym front ∙ word_list_is lists t low) ∙ set_self lists (t - 1) [] in
       rw (same, kept, append-nil effects, append-nil sites)
   judge_block (goes {x = x} {rest = rest} {cells = cells} {v = v} {events = events} {after = after} gave path) quiet low behind mem lists own closing more wide front effects sites m n e =
       let one : m ≡ suc (length events + n) = omega (arith, e) in
-      let f = form_is p plan t (out-Stmt x) (known_quiet p plan t (out-Stmt x) (sym (quiet_out p plan t x) ∙ (and_parts (is_quiet p plan t x) (all_quiet p plan t rest) quiet).0)) input cells v gave in
+      let f = form_is p plan t (out-Stmt x) (known_quiet p plan t (out-Stmt x)
+      (sym (quiet_out p plan t x) ∙ (and_parts (is_quiet p plan t x) (all_quiet p plan t rest) quiet).0)) input cells v gave in
       let wide_then : t < suc (length (slice_set lists (t - 1) (said events ++ more))) = omega (arith, wide, length-set lists (t - 1) (said events ++ more)) in
       let site : ℕ = (site_of (out-Stmt x)).0 in
       ap (λ (u : ℕ). judge_from p plan u (record { turn = at_turn (x ∷ (rest ++ behind)) mem lists own closing; effects = effects; sites = sites })) one
       ∙ judged_step p plan t input x rest behind quiet lists own closing mem v.loads v.value f (said events ++ more) front (length events + n) effects sites
-      ∙ judge_block path (onward p plan t x rest (value_of v.value) quiet) low behind (stored v.value mem) (slice_set lists (t - 1) (said events ++ more)) own closing more wide_then (word_list_same lists t (said events ++ more) low wide) (effects ++ v.value ∷ []) (sites ++ site ∷ []) (length events + n) n refl
-      ∙ rw (set-set lists (t - 1) (said events ++ more) more, append_assoc effects (v.value ∷ []) (effects_of events), append_assoc sites (site ∷ []) (sites_of events))
+      ∙ judge_block path (onward p plan t x rest (value_of v.value) quiet) low behind (stored v.value mem)
+      (slice_set lists (t - 1) (said events ++ more)) own closing more wide_then (word_list_same lists t (said events ++ more) low wide)
+      (effects ++ v.value ∷ []) (sites ++ site ∷ []) (length events + n) n refl
+      ∙ rw (
+        set-set lists (t - 1) (said events ++ more) more,
+        append_assoc effects (v.value ∷ []) (effects_of events),
+        append_assoc sites (site ∷ [])
+            (sites_of events),
+      )
 
   -- Where fewer steps are left than the block has words, nothing is Clean.
   pub judge_short : {to_do : List Stmt} {cells : List ℤ} {events : List Event} {after : List Stmt} {then_cells : List ℤ} →
@@ -122,10 +142,13 @@ module _ (p : Program) (plan : Plan) (t : ℕ) (input : List ℤ) where
   judge_short stays quiet low behind mem lists own closing more wide front effects sites n few = absurd (omega (arith, few))
   judge_short (goes {x = x} {rest = rest} gave path) quiet low behind mem lists own closing more wide front effects sites zero few = refl
   judge_short (goes {x = x} {rest = rest} {cells = cells} {v = v} {events = events} {after = after} gave path) quiet low behind mem lists own closing more wide front effects sites (suc n) few =
-      let f = form_is p plan t (out-Stmt x) (known_quiet p plan t (out-Stmt x) (sym (quiet_out p plan t x) ∙ (and_parts (is_quiet p plan t x) (all_quiet p plan t rest) quiet).0)) input cells v gave in
+      let f = form_is p plan t (out-Stmt x) (known_quiet p plan t (out-Stmt x)
+      (sym (quiet_out p plan t x) ∙ (and_parts (is_quiet p plan t x) (all_quiet p plan t rest) quiet).0)) input cells v gave in
       let wide_then : t < suc (length (slice_set lists (t - 1) (said events ++ more))) = omega (arith, wide, length-set lists (t - 1) (said events ++ more)) in
       judged_step p plan t input x rest behind quiet lists own closing mem v.loads v.value f (said events ++ more) front n effects sites
-      ∙ judge_short path (onward p plan t x rest (value_of v.value) quiet) low behind (stored v.value mem) (slice_set lists (t - 1) (said events ++ more)) own closing more wide_then (word_list_same lists t (said events ++ more) low wide) (effects ++ v.value ∷ []) (sites ++ (site_of (out-Stmt x)).0 ∷ []) n (omega (arith, few))
+      ∙ judge_short path (onward p plan t x rest (value_of v.value) quiet) low behind (stored v.value mem)
+      (slice_set lists (t - 1) (said events ++ more)) own closing more wide_then (word_list_same lists t (said events ++ more) low wide)
+      (effects ++ v.value ∷ []) (sites ++ (site_of (out-Stmt x)).0 ∷ []) n (omega (arith, few))
 
   -- Nothing is printed in a block, and its events are all of its stage.
   abbrev pub IsOf : Event → Type 0

@@ -37,7 +37,8 @@ module _ (p : Program) (plan : Plan) (t : ℕ) where
 
   -- what follows a quiet head is quiet
   pub onward : (x : Stmt) (rest : List Stmt) (z : ℤ) → AllQuiet p plan t (x ∷ rest) → AllQuiet p plan t (followed x rest (out-Stmt x) z)
-  onward x rest z q = followed_has (AllQuiet p plan t) (all_joins (is_quiet p plan t)) x rest (out-Stmt x) z q (and_parts (is_quiet p plan t x) (all_quiet p plan t rest) q).1 (head_of x rest q).parts
+  onward x rest z q = followed_has (AllQuiet p plan t)
+      (all_joins (is_quiet p plan t)) x rest (out-Stmt x) z q (and_parts (is_quiet p plan t x) (all_quiet p plan t rest) q).1 (head_of x rest q).parts
 
   module _ (input : List ℤ) where
     -- The steps of the block are the source's.
@@ -90,7 +91,8 @@ module _ (p : Program) (plan : Plan) (t : ℕ) where
 
       -- what follows the head's effect
       turned_is : (mem : List ℤ) (effect : Effect) → Form p h effect → (own' : List Word) (lists' : List (List Word)) →
-          turned p plan (at_turn (x ∷ (rest ++ behind)) mem lists own closing) x (rest ++ behind) h effect own' lists' ≡ at_turn (next_to effect ++ behind) (stored effect mem) lists' own' closing
+          turned p plan (at_turn (x ∷ (rest ++ behind)) mem lists own closing) x (rest ++ behind) h effect own' lists' ≡ at_turn (next_to effect ++ behind)
+          (stored effect mem) lists' own' closing
       turned_is mem effect f own' lists' =
           rw (closes_not p plan t h q effect f, or-false closing, followed-append x rest behind h (value_of effect) (q.onward (value_of effect)))
 
@@ -149,7 +151,12 @@ module _ (p : Program) (plan : Plan) (t : ℕ) where
 
         pub judged_step : (n : ℕ) (effects : List Effect) (sites : List ℕ) →
             judge_from p plan (suc n) (record { turn = at_turn (x ∷ (rest ++ behind)) mem lists own closing; effects = effects; sites = sites })
-            ≡ judge_from p plan n (record { turn = at_turn (next_to effect ++ behind) (stored effect mem) (slice_set lists (t - 1) more) own closing; effects = effects ++ effect ∷ []; sites = sites ++ (site_of h).0 ∷ [] })
+            ≡ judge_from p plan n (record {
+              turn = at_turn (next_to effect ++ behind) (stored effect mem)
+                  (slice_set lists (t - 1) more) own closing;
+              effects = effects ++ effect ∷ [];
+              sites = sites ++ (site_of h).0 ∷ [];
+            })
         unfolding judge_from
         judged_step n effects sites = rw (held_is, taken_is, goes_assumed p plan t h q effect f, q.stage, turned_is mem effect f own (slice_set lists (t - 1) more))
 

@@ -50,8 +50,10 @@ module _ (k : Epoch) where
     alive : live (passed k s n).packet.status ≡ true
 
   left_at : (s n : ℕ) (before : List ℤ) → passed k (suc s) n ≡ run_on k (suc s) before (passed k s n).packet → live (passed k (suc s) n).packet.status ≡ true →
-      Left k (suc s) before (passed k s n).packet (stage_run program plan input (suc s) before (passed k s n).packet.lists) (run_on k (suc s) before (passed k s n).packet).packet
-  left_at s n before is alive = left_live k (suc s) before (passed k s n).packet (stage_run program plan input (suc s) before (passed k s n).packet.lists) (ap (λ (w : Passed). live w.packet.status) (sym is) ∙ alive)
+      Left k (suc s) before (passed k s n).packet (stage_run program plan input (suc s) before (passed k s n).packet.lists)
+      (run_on k (suc s) before (passed k s n).packet).packet
+  left_at s n before is alive = left_live k (suc s) before (passed k s n).packet (stage_run program plan input (suc s) before (passed k s n).packet.lists)
+      (ap (λ (w : Passed). live w.packet.status) (sym is) ∙ alive)
 
   front_before : (s n : ℕ) → Front (suc s) n → Front s n
   front_before s n f =
@@ -107,7 +109,9 @@ module _ (k : Epoch) where
       pub turn_kept : (s : ℕ) → s < length plan.stages → (before : List ℤ) → passed k (suc s) n ≡ run_on k (suc s) before (passed k s n).packet →
           TurnKept s before (passed k s n).packet v
       turn_kept s high before is = record {
-        same = ap (λ (turn : TurnEnd). passed_on k (suc s) before came turn came.status) (ap (λ (xs : List Stmt). strict_from program plan input (suc s) bound (begun xs)) (turn_text ok (suc s) (omega arith)) ∙ kept.0 ∙ sym left_here.ends);
+        same = ap (λ (turn : TurnEnd). passed_on k (suc s) before came turn came.status)
+            (ap (λ (xs : List Stmt). strict_from program plan input (suc s) bound (begun xs)) (turn_text ok (suc s) (omega arith)) ∙ kept.0
+            ∙ sym left_here.ends);
         ended = left_here.ended;
         ends = left_here.ends;
         alive = left_here.alive;
@@ -149,7 +153,8 @@ module _ (k : Epoch) where
 
           kept : (strict_from program plan input (suc s) bound (begun (project_all program plan (suc s) (turn_of ok))) ≡ Ok left_here.ended) × (left_here.ended.closing ≡ true → v.closing ≡ true)
           kept =
-              kept_in program plan input (suc s) (omega arith) (omega (arith, high)) left bound (turn_of ok) (record { well = turn_well ok; sound = turn_sound ok }) before came.lists [] false cells final.lists [] false [] [] left_here.ended v facing
+              kept_in program plan input (suc s) (omega arith) (omega (arith, high)) left bound (turn_of ok)
+              (record { well = turn_well ok; sound = turn_sound ok }) before came.lists [] false cells final.lists [] false [] [] left_here.ended v facing
               (ap (λ (xs : List Stmt). turn_from program plan input (suc s) bound (begun xs)) (sym (turn_text ok (suc s) (omega arith)))
               ∙ left_here.ends) (λ shut. absurd (cc shut)) judged_text
 

@@ -36,7 +36,8 @@ module _ (p : Program) (plan : Plan) where
     where
       by : (b : Bool) →
           applied (seen_by p plan s sites effects) (if b then stored effect view else view) ∷ shown_all p plan (suc s) (site ∷ sites) (effect ∷ effects) rest
-          ≡ applied (if b then effect ∷ seen_by p plan s sites effects else seen_by p plan s sites effects) view ∷ shown_all p plan (suc s) (site ∷ sites) (effect ∷ effects) rest
+          ≡ applied (if b then effect ∷ seen_by p plan s sites effects else seen_by p plan s sites effects) view ∷ shown_all p plan (suc s) (site ∷ sites)
+          (effect ∷ effects) rest
       by true = refl
       by false = refl
 
@@ -63,7 +64,8 @@ module _ (key : EpochKey) (ok : Accepted key.program key.plan) {m : Marks} {test
           (record { steps_are = refl; prints = refl; lasts = λ c o. refl; views = λ s c o. refl; sized = refl; net_sized = refl }))
 
       by : (u : Status) (w : NetStatus) → SameStatus u w →
-          SameVerdict program plan m (judge_status (judge_lists program plan left cells a.lists) u) (net_judge_status program plan (net_judge_lists program plan m left cells b.lists) w)
+          SameVerdict program plan m (judge_status (judge_lists program plan left cells a.lists) u)
+          (net_judge_status program plan (net_judge_lists program plan m left cells b.lists) w)
       by u w both_going = lists
       by u w both_closing = lists
       by u w (both_broken s why) = tt
@@ -71,14 +73,16 @@ module _ (key : EpochKey) (ok : Accepted key.program key.plan) {m : Marks} {test
   -- behind both the memory is the same, and so are the memories that the stages see
   cells_alike : (a : Agreed) (b : NetAgreed) → VerdictsAlike program plan m a b → (cells : List ℤ) →
       clear (applied b.effects cells) ≡ clear (applied a.effects cells)
-  cells_alike a b v cells = sym (cleared_same q (last plan) (applied a.effects cells) (applied b.effects cells) (agree_after m (last plan) a.effects b.effects cells cells v.told.lasts (agrees_self m (last plan) cells)))
+  cells_alike a b v cells = sym (cleared_same q (last plan) (applied a.effects cells) (applied b.effects cells)
+      (agree_after m (last plan) a.effects b.effects cells cells v.told.lasts (agrees_self m (last plan) cells)))
 
   views_alike : (a : Agreed) (b : NetAgreed) → VerdictsAlike program plan m a b → (s : ℕ) (views : List (List ℤ)) →
       map clear (shown_all program plan s b.sites b.effects views) ≡ map clear (shown_all program plan s a.sites a.effects views)
   views_alike a b v s [] = refl
   views_alike a b v s (view ∷ rest) =
       let here = cleared_same q (last plan) (applied (seen_by program plan s a.sites a.effects) view) (applied (seen_by program plan s b.sites b.effects) view)
-      (agree_after m (last plan) (seen_by program plan s a.sites a.effects) (seen_by program plan s b.sites b.effects) view view (v.told.views s) (agrees_self m (last plan) view)) in
+      (agree_after m (last plan) (seen_by program plan s a.sites a.effects) (seen_by program plan s b.sites b.effects) view view (v.told.views s)
+      (agrees_self m (last plan) view)) in
       rw (views_alike a b v (suc s) rest, here)
 
   kept_alike : (a : Agreed) (b : NetAgreed) → VerdictsAlike program plan m a b → (kept : List (List ℤ)) →
@@ -105,7 +109,8 @@ module _ (key : EpochKey) (ok : Accepted key.program key.plan) {m : Marks} {test
 
   -- .. behind clean ones
   judged_at : (n : ℕ) → CleanTo key ok n → SameVerdict program plan m (judgement_of key n) (net_judgement_in m key n (state_at key n))
-  judged_at n c = subst (λ (j : Judgement). SameVerdict program plan m j (net_judgement_in m key n (state_at key n))) (judged_same key ok n c) (from_state n (state_at key n))
+  judged_at n c = subst (λ (j : Judgement). SameVerdict program plan m j (net_judgement_in m key n (state_at key n))) (judged_same key ok n c)
+      (from_state n (state_at key n))
 
   before : (n : ℕ) → CleanTo key ok (suc n) → CleanTo key ok n
   before n c = clean_less key ok n (suc n) (omega arith) c

@@ -45,7 +45,8 @@ module _ (p : Program) (plan : Plan) (m : Marks) (input : List ℤ) (marked : Ma
       behind : ReadableText p plan m input marked s more
       behind = record {
         well = (and_parts (all_well p plan (x ∷ b)) (all_well p plan more) (sym (list_all-append (well_nested p plan) (x ∷ b) more) ∙ r.well)).1;
-        sites = (each_split (Kept p plan stage (Sound p plan)) (accesses_all (x ∷ b)) (accesses_all more) (subst (λ (l : List Access). Each (Kept p plan stage (Sound p plan)) l) (flat_map-append accesses (x ∷ b) more) r.sites)).1;
+        sites = (each_split (Kept p plan stage (Sound p plan)) (accesses_all (x ∷ b)) (accesses_all more)
+            (subst (λ (l : List Access). Each (Kept p plan stage (Sound p plan)) l) (flat_map-append accesses (x ∷ b) more) r.sites)).1;
         text = text;
       }
 
@@ -55,7 +56,8 @@ module _ (p : Program) (plan : Plan) (m : Marks) (input : List ℤ) (marked : Ma
       block_reach : u ≤ stage
       block_reach = (own_site p plan m input marked s n go x cells lists own closing e (b ++ more) r came).1
 
-      step_is : net_step p plan m input stage (turn (x ∷ (b ++ more))) x (b ++ more) ≡ block_step p plan m input stage (turn (x ∷ (b ++ more))) (site_at x) (x ∷ b) more
+      step_is : net_step p plan m input stage (turn (x ∷ (b ++ more))) x (b ++ more) ≡ block_step p plan m input stage (turn (x ∷ (b ++ more))) (site_at x)
+          (x ∷ b) more
       step_is = rw (at, drop-append_seam b more) refl
 
       came_past : u ≡ stage → Came p plan m input marked s more left
@@ -94,7 +96,8 @@ module _ (p : Program) (plan : Plan) (m : Marks) (input : List ℤ) (marked : Ma
               not_own reach = elim (cases_eq u stage) [ inl same ↦ absurd (other same) | inr less ↦ omega (arith, reach, less, is) ]
 
       met_tells : (other : u ≡ stage → ⊥) → FoundBlock p plan m s x more left →
-          net_by p plan m input stage (net_from p plan m input stage n) (net_met p plan (site_at x) (turn (x ∷ (b ++ more))) more (left u)) ≡ Some e → Tells p plan m input marked s (x ∷ (b ++ more)) left own e
+          net_by p plan m input stage (net_from p plan m input stage n) (net_met p plan (site_at x) (turn (x ∷ (b ++ more))) more (left u)) ≡ Some e →
+          Tells p plan m input marked s (x ∷ (b ++ more)) left own e
       met_tells other f q = tells
         where
           lists_next : List (List Item)
@@ -132,7 +135,9 @@ module _ (p : Program) (plan : Plan) (m : Marks) (input : List ℤ) (marked : Ma
       unfolding net_from
       block_tells q = by (ap (net_by p plan m input stage (net_from p plan m input stage n)) (sym step_is) ∙ q)
         where
-          by : net_by p plan m input stage (net_from p plan m input stage n) (block_step p plan m input stage (turn (x ∷ (b ++ more))) (site_at x) (x ∷ b) more) ≡ Some e → Tells p plan m input marked s (x ∷ (b ++ more)) left own e
+          by : net_by p plan m input stage (net_from p plan m input stage n)
+              (block_step p plan m input stage (turn (x ∷ (b ++ more))) (site_at x) (x ∷ b) more) ≡ Some e →
+              Tells p plan m input marked s (x ∷ (b ++ more)) left own e
           by q = elim (cases_eq u stage) [
             | inl here ↦ made_tells here (quiet_from p input (plan.words - weights own) (x ∷ b) cells) refl (rw (eq-eqb u stage here) at q)
             | inr other ↦ met_tells other (found_block other) (rw (ne_eqb u stage other) at q)

@@ -80,10 +80,12 @@ module _ (p : Program) (plan : Plan) (m : Marks) (input : List ℤ) (marked : Ma
       low = own_site.0.staged
 
       next_well : (z : ℤ) → all_well p plan (followed x rest h z) ≡ true
-      next_well z = followed_has (λ (xs : List Stmt). all_well p plan xs ≡ true) (all_joins (well_nested p plan)) x rest h z r.well parts.1 (well_parts p plan h well)
+      next_well z = followed_has (λ (xs : List Stmt). all_well p plan xs ≡ true)
+          (all_joins (well_nested p plan)) x rest h z r.well parts.1 (well_parts p plan h well)
 
       next_sites : (z : ℤ) → AllKept p plan stage (Sound p plan) (followed x rest h z)
-      next_sites z = followed_has (AllKept p plan stage (Sound p plan)) (each_joins (Kept p plan stage (Sound p plan))) x rest h z r.sites sites.1 (each_parts (Kept p plan stage (Sound p plan)) h sites.0)
+      next_sites z = followed_has (AllKept p plan stage (Sound p plan))
+          (each_joins (Kept p plan stage (Sound p plan))) x rest h z r.sites sites.1 (each_parts (Kept p plan stage (Sound p plan)) h sites.0)
 
       form_here : (v : WithLoads Effect) → evaluated p input cells h ≡ Ok v → Form p h v.value
       form_here v q = (evaluated_tracks p input cells cells (λ l. Unit {0}) h own_site.0.room (each_map (λ y. 0 < Rattle.dp_tree.specs.Eval.cell_count p (record { 0 = y })) (Readable p cells (λ l. Unit {0})) (λ y k. (k, λ c i. tt)) (head_loads h) own_site.0.reads) v q).value
@@ -115,12 +117,15 @@ module _ (p : Program) (plan : Plan) (m : Marks) (input : List ℤ) (marked : Ma
             ws = words_of p plan event
 
             by : (a b : Bool) → event_as_assumed p plan event ≡ a →
-                net_by p plan m input stage (net_from p plan m input stage n) (if a && b then Some (net_turned p plan (turn (x ∷ rest)) x rest h v.value (own ++ said_all ws) lists) else None) ≡ Some e → Tells (x ∷ rest) left own e
+                net_by p plan m input stage (net_from p plan m input stage n)
+                (if a && b then Some (net_turned p plan (turn (x ∷ rest)) x rest h v.value (own ++ said_all ws) lists) else None) ≡ Some e →
+                Tells (x ∷ rest) left own e
             by false b assumed q = absurd (cc q)
             by true false assumed q = absurd (cc q)
             by true true assumed q =
                 let form = form_here v gave in
-                let t = go (followed x rest h (value_of v.value)) (next_text (value_of v.value)) (stored v.value cells) lists (own ++ said_all ws) (closing || closes_at (first_site p plan) (site_of h).0 v.value) e (own_past here v.value form assumed) q in
+                let t = go (followed x rest h (value_of v.value)) (next_text (value_of v.value)) (stored v.value cells) lists (own ++ said_all ws)
+                (closing || closes_at (first_site p plan) (site_of h).0 v.value) e (own_past here v.value form assumed) q in
                 record {
                   more = said_all ws ++ t.more;
                   own_is = t.own_is ∙ append_assoc own (said_all ws) t.more;
@@ -148,13 +153,15 @@ module _ (p : Program) (plan : Plan) (m : Marks) (input : List ℤ) (marked : Ma
           where
             with_found : Found p plan m s x rest left → Tells (x ∷ rest) left own e
             with_found f =
-                let clash : Some (record { effect = f.event.effect; rest = f.next u }) ≡ Some w = sym (said_taken p plan h f.event (left u) (f.next u) f.says) ∙ is in
+                let clash : Some (record { effect = f.event.effect; rest = f.next u }) ≡ Some w = sym (said_taken p plan h f.event (left u)
+                (f.next u) f.says) ∙ is in
                 let same : record { effect = f.event.effect; rest = f.next u } ≡ w = cc clash in
                 let went : net_from p plan m input stage n (record { to_do = followed x rest h (value_of f.event.effect); cells = stored f.event.effect cells; lists = slice_set lists (u - 1) (f.next u); own = own; closing = closing || closes_at (first_site p plan) (site_of h).0 f.event.effect }) ≡ Some e =
                 ap (λ (t : NetTaken). net_from p plan m input stage n (record { to_do = followed x rest h (value_of t.effect); cells = stored t.effect cells; lists = slice_set lists (u - 1) t.rest; own = own; closing = closing || closes_at (first_site p plan) (site_of h).0 t.effect })) same ∙ q in
                 let wide = within f in
                 let lists_next = list_others p plan m lists u (f.next u) f.next low wide refl f.others in
-                let t = go (followed x rest h (value_of f.event.effect)) (next_text (value_of f.event.effect)) (stored f.event.effect cells) (slice_set lists (u - 1) (f.next u)) own (closing || closes_at (first_site p plan) (site_of h).0 f.event.effect) e
+                let t = go (followed x rest h (value_of f.event.effect)) (next_text (value_of f.event.effect)) (stored f.event.effect cells)
+                (slice_set lists (u - 1) (f.next u)) own (closing || closes_at (first_site p plan) (site_of h).0 f.event.effect) e
                 (later_came f lists_next) went in
                 record {
                   more = t.more;
@@ -165,13 +172,15 @@ module _ (p : Program) (plan : Plan) (m : Marks) (input : List ℤ) (marked : Ma
                         does = f.says.does;
                         assumed = f.says.assumed;
                         front = with_other stage t.more left u other ∙ f.says.front
-                            ∙ ap (λ (is : List Item). said_all (words_of p plan f.event) ++ is) (sym (with_other stage t.more (item_list (slice_set lists (u - 1) (f.next u))) u other ∙ lists_next u));
+                            ∙ ap (λ (is : List Item). said_all (words_of p plan f.event) ++ is)
+                            (sym (with_other stage t.more (item_list (slice_set lists (u - 1) (f.next u))) u other ∙ lists_next u));
                       })
                       (others_with f lists_next t.more) t.follows;
                 }
               where
                 within : Found p plan m s x rest left → u < suc (length lists)
-                within f = by (said_all (words_of p plan f.event) ++ f.next u) f.says.front (said_some (words_of p plan f.event) (f.next u) (some_word p plan f.event))
+                within f = by (said_all (words_of p plan f.event) ++ f.next u) f.says.front (said_some (words_of p plan f.event) (f.next u)
+                    (some_word p plan f.event))
                   where
                     by : (is : List Item) → left u ≡ is → 0 < length is → u < suc (length lists)
                     by [] at some = absurd (omega (arith, some))

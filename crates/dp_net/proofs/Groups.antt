@@ -171,13 +171,16 @@ module _ (p : Program) (plan : Plan) (m : Marks) where
       done_alike head out (One w ∷ gs) g = by (is_done_of (site_of head).0 w)
         where
           by : (b : Bool) →
-              Alike (if b then taken_by (site_of head).0 w (flats gs) (effect_by p head w) else Err (Astray (site_of head).0 (Some w))) (if b then net_taken_by (items gs) (effect_by p head w) else None)
+              Alike (if b then taken_by (site_of head).0 w (flats gs) (effect_by p head w) else Err (Astray (site_of head).0 (Some w)))
+              (if b then net_taken_by (items gs) (effect_by p head w) else None)
           by true = by_effect (site_of head).0 w gs g.1 (effect_by p head w)
           by false = none (Astray (site_of head).0 (Some w))
       done_alike head out (Block f events ∷ gs) g =
           let r = first_word f events g.0 in
-          let apart : (r.0.site == (site_of head).0) ≡ false = ne_eqb r.0.site (site_of head).0 (λ e. differ (sym (is_within f events g.0) ∙ ap (begins m) (sym r.3 ∙ e) ∙ out)) in
-          subst (λ (u : Result Taken Void). Alike u None) (sym (ap (λ (es : List Event). done_from p head (said es ++ flats gs)) r.2 ∙ rw apart refl)) (none (Astray (site_of head).0 (Some (done_word r.0.site r.0.effect))))
+          let apart : (r.0.site == (site_of head).0) ≡ false = ne_eqb r.0.site (site_of head).0 (λ e. differ (sym (is_within f events g.0) ∙ ap (begins m)
+          (sym r.3 ∙ e) ∙ out)) in
+          subst (λ (u : Result Taken Void). Alike u None) (sym (ap (λ (es : List Event). done_from p head (said es ++ flats gs)) r.2 ∙ rw apart refl))
+          (none (Astray (site_of head).0 (Some (done_word r.0.site r.0.effect))))
         where
           differ : true ≡ false → ⊥
           differ e = absurd (cc e)
@@ -186,7 +189,8 @@ module _ (p : Program) (plan : Plan) (m : Marks) where
           Alike (taken_from p head (flats gs)) (net_taken_from p head (items gs))
       taken_alike head out gs g =
           subst (λ (ws : List Word). Alike (done_from p head ws) (net_taken_from p head (items gs))) (sym (skip_words (site_of head).0 gs g))
-          (subst (λ (is : List Item). Alike (done_from p head (flats (skip (site_of head).0 gs))) (net_done_from p head is)) (sym (skip_items (site_of head).0 gs)) (done_alike head out (skip (site_of head).0 gs) (skip_good (site_of head).0 gs g)))
+          (subst (λ (is : List Item). Alike (done_from p head (flats (skip (site_of head).0 gs))) (net_done_from p head is))
+          (sym (skip_items (site_of head).0 gs)) (done_alike head out (skip (site_of head).0 gs) (skip_good (site_of head).0 gs g)))
 
       -- no block of this site stands at the front
       abbrev pub Missing : ℕ → List Item → Type 0

@@ -23,7 +23,11 @@ module _ (p : Program) (plan : Plan) (input : List ℤ) (s : ℕ) where
       taken_grows : (r : Result Taken Void) → consumed_step p plan c x rest h r ≡ Ok d → Grown c d.own
       taken_grows (Err why) e = absurd (cc e)
       taken_grows (Ok w) e =
-          let same : turned p plan c x rest h w.effect c.own (slice_set c.lists (stage_at p plan h - 1) w.rest) ≡ d = cc e in ([], ap (λ (t : Turn). t.own) (sym same) ∙ sym (append-nil c.own))
+          let same : turned p plan c x rest h w.effect c.own (slice_set c.lists (stage_at p plan h - 1) w.rest) ≡ d = cc e in (
+            [],
+            ap (λ (t : Turn). t.own)
+                (sym same) ∙ sym (append-nil c.own),
+          )
 
       by : (b : Bool) →
           (if b then own_step p plan c x rest h (evaluated p input c.cells h) else consumed_step p plan c x rest h (taken_from p h (words_left p plan c h))) ≡ Ok d → Grown c d.own

@@ -23,7 +23,8 @@ module _ (p : Program) (plan : Plan) where
   is_clear a x = not (is_private p plan x) || at_home p plan x a
 
   abbrev pub is_sound : Access → Bool
-  is_sound a = (list_all (has_cell p) a.loads && stores_known p a.stores) && ((nat_lt 0 (stage_of p plan a.site) && nat_lt (stage_of p plan a.site) (last plan)) && list_all (is_clear a) (numbers_from 0 (length p.vars)))
+  is_sound a = (list_all (has_cell p) a.loads && stores_known p a.stores) && ((nat_lt 0 (stage_of p plan a.site) && nat_lt (stage_of p plan a.site)
+      (last plan)) && list_all (is_clear a) (numbers_from 0 (length p.vars)))
 
   -- the statement is no call, and its site is sound; a test of all statements inside
   abbrev pub sound_at : Stmt → Bool
@@ -96,7 +97,11 @@ module _ (p : Program) (plan : Plan) where
 
     members : (loads : List ℕ) → Each (λ y. list_any (λ z. z == y) loads ≡ true) loads
     members [] = tt
-    members (y ∷ loads) = (ap (λ (b : Bool). b || list_any (λ z. z == y) loads) (eq-eqb y y refl), each_map _ _ (λ z q. ap (λ (b : Bool). (y == z) || b) q ∙ or-true (y == z)) loads (members loads))
+    members (y ∷ loads) = (
+      ap (λ (b : Bool). b || list_any (λ z. z == y) loads)
+          (eq-eqb y y refl),
+      each_map _ _ (λ z q. ap (λ (b : Bool). (y == z) || b) q ∙ or-true (y == z)) loads (members loads),
+    )
 
     module _ (h : Stmt-F Stmt) (sound : is_sound (head_access h) ≡ true) where
       a : Access
@@ -105,7 +110,8 @@ module _ (p : Program) (plan : Plan) where
       cells_stages : (list_all (has_cell p) (head_loads h) && stores_known p (head_stores h)) ≡ true
       cells_stages = (and_parts _ _ sound).0
 
-      rest_of : ((nat_lt 0 (stage_of p plan (site_of h).0) && nat_lt (stage_of p plan (site_of h).0) (last plan)) ≡ true) × (list_all (is_clear (head_access h)) (numbers_from 0 (length p.vars)) ≡ true)
+      rest_of : ((nat_lt 0 (stage_of p plan (site_of h).0) && nat_lt (stage_of p plan (site_of h).0)
+          (last plan)) ≡ true) × (list_all (is_clear (head_access h)) (numbers_from 0 (length p.vars)) ≡ true)
       rest_of = and_parts _ _ (and_parts _ _ sound).1
 
       stages : (nat_lt 0 (stage_of p plan (site_of h).0) ≡ true) × (nat_lt (stage_of p plan (site_of h).0) (last plan) ≡ true)
@@ -119,7 +125,8 @@ module _ (p : Program) (plan : Plan) where
           let same : k.x ≡ y = laid.apart k.x y c k.inside in_y in
           let at = either (is_private p plan k.x) (at_home p plan k.x (head_access h)) (k.among (is_clear (head_access h)) rest_of.1) k.private_ in
           let loads : loads_var p plan k.x (head_access h) ≡ true = ap (λ (n : ℕ). list_any (λ z. z == n) (head_loads h)) same ∙ loaded in
-          let both = and_parts (stage_of p plan (site_of h).0 == home p plan k.x) (not (is_checked p plan (site_of h).0)) (either (loads_var p plan k.x (head_access h)) _ at loads) in
+          let both = and_parts (stage_of p plan (site_of h).0 == home p plan k.x) (not (is_checked p plan (site_of h).0))
+          (either (loads_var p plan k.x (head_access h)) _ at loads) in
           (eqb-true _ _ both.0 ∙ k.stage, is_not (is_checked p plan (site_of h).0) both.1)
         where
           is_not : (b : Bool) → not b ≡ true → b ≡ false
@@ -141,8 +148,10 @@ module _ (p : Program) (plan : Plan) where
       ready_head =
           let both = and_parts (list_all (has_cell p) (head_loads h)) (stores_known p (head_stores h)) cells_stages in
           record {
-            reads = each_map _ _ (λ y k. (ltb-true 0 _ k.0, λ c i u other. not_hidden u c (λ e. other (sym (home_here y c k.1 i u e).0)))) (head_loads h) (each_both _ _ (head_loads h) (all_of (has_cell p) (head_loads h) both.0) (members (head_loads h)));
-            told = λ checked. each_map _ _ (λ y k c i u. not_hidden u c (λ e. differ (sym checked ∙ (home_here y c k i u e).1))) (head_loads h) (members (head_loads h));
+            reads = each_map _ _ (λ y k. (ltb-true 0 _ k.0, λ c i u other. not_hidden u c (λ e. other (sym (home_here y c k.1 i u e).0)))) (head_loads h)
+                (each_both _ _ (head_loads h) (all_of (has_cell p) (head_loads h) both.0) (members (head_loads h)));
+            told = λ checked. each_map _ _ (λ y k c i u. not_hidden u c (λ e. differ (sym checked ∙ (home_here y c k i u e).1))) (head_loads h)
+                (members (head_loads h));
             room = room_of (head_stores h) both.1;
             staged = ltb-true 0 _ stages.0;
             early = ltb-true _ _ stages.1;
@@ -158,8 +167,15 @@ module _ (p : Program) (plan : Plan) where
         by (Assign site x e) s = (ready_head (Assign site x e) (and_parts _ _ s).0, tt)
         by (Store site x index e) s = (ready_head (Store site x index e) (and_parts _ _ s).0, tt)
         by (Print site e) s = (ready_head (Print site e) (and_parts _ _ s).0, tt)
-        by (If site cond a b) s = let both = and_parts (is_sound (head_access (If site cond a b)) && true) (list_all all_sound a && list_all all_sound b) s in (ready_head (If site cond a b) (and_parts _ _ both.0).0, and_parts (list_all all_sound a) (list_all all_sound b) both.1)
-        by (While site cond a) s = let both = and_parts (is_sound (head_access (While site cond a)) && true) (list_all all_sound a) s in (ready_head (While site cond a) (and_parts _ _ both.0).0, both.1)
-        by (Region r site cond a) s = let both = and_parts (is_sound (head_access (Region r site cond a)) && true) (list_all all_sound a) s in (ready_head (Region r site cond a) (and_parts _ _ both.0).0, both.1)
+        by (If site cond a b) s = let both = and_parts (is_sound (head_access (If site cond a b)) && true)
+            (list_all all_sound a && list_all all_sound b) s in (
+              ready_head (If site cond a b) (and_parts _ _ both.0).0,
+              and_parts (list_all all_sound a)
+                  (list_all all_sound b) both.1,
+            )
+        by (While site cond a) s = let both = and_parts (is_sound (head_access (While site cond a)) && true)
+            (list_all all_sound a) s in (ready_head (While site cond a) (and_parts _ _ both.0).0, both.1)
+        by (Region r site cond a) s = let both = and_parts (is_sound (head_access (Region r site cond a)) && true)
+            (list_all all_sound a) s in (ready_head (Region r site cond a) (and_parts _ _ both.0).0, both.1)
         by (Break site cond) s = (ready_head (Break site cond) (and_parts _ _ s).0, tt)
         by (Call f line args) s = absurd (cc)

@@ -101,7 +101,8 @@ module _ (p : Program) (plan : Plan) (m : Marks) where
               (if b then Some then_items else None) ≡ Some d → Enough n d
           by true q e =
               let is : then_items ≡ d = cc e in
-              let low = leb-true (weights c.own + length ws) plan.words (and_parts (event_as_assumed p plan event) (nat_le (weights c.own + length ws) plan.words) q).1 in
+              let low = leb-true (weights c.own + length ws) plan.words (and_parts (event_as_assumed p plan event)
+              (nat_le (weights c.own + length ws) plan.words) q).1 in
               let own_is : weights (c.own ++ said_all ws) ≡ weights d.own = ap (λ (t : NetTurn). weights t.own) is in
               let lists_are : sum_by weights c.lists ≡ sum_by weights d.lists = ap (λ (t : NetTurn). sum_by weights t.lists) is in
               let join = weights_join c.own (said_all ws) in
@@ -116,7 +117,8 @@ module _ (p : Program) (plan : Plan) (m : Marks) where
       taken_left d None is e = absurd (cc e)
       taken_left d (Some w) is e =
           let same : net_consumed p plan c x rest (out-Stmt x) w ≡ d = cc e in
-          let fewer = lists_lighter c.lists (stage_of p plan (site_of (out-Stmt x)).0) w.rest (taken_lighter p (out-Stmt x) (items_left p plan c (site_of (out-Stmt x)).0) w is) in
+          let fewer = lists_lighter c.lists (stage_of p plan (site_of (out-Stmt x)).0) w.rest (taken_lighter p (out-Stmt x)
+          (items_left p plan c (site_of (out-Stmt x)).0) w is) in
           let own_is : weights c.own ≡ weights d.own = ap (λ (t : NetTurn). weights t.own) same in
           let lists_are : sum_by weights (slice_set c.lists (stage_of p plan (site_of (out-Stmt x)).0 - 1) w.rest) ≡ sum_by weights d.lists = ap (λ (t : NetTurn). sum_by weights t.lists) same in
           let fits = enough.fits in
@@ -127,8 +129,11 @@ module _ (p : Program) (plan : Plan) (m : Marks) where
           quiet_from p input (plan.words - weights c.own) (y ∷ ys) c.cells ≡ o → net_made p plan m site c behind o ≡ Some d → Enough n d
       made_left site behind y ys d Broke is e = absurd (cc e)
       made_left site behind y ys d (Through events after) is e =
-          let same : net_past p plan c behind after c.lists (c.own ++ Net site (length events) (net_of (m.hides (stage_of p plan site)) (map (λ (e : Event). e.effect) events)) ∷ []) ≡ d = cc e in
-          let own_is : weights (c.own ++ Net site (length events) (net_of (m.hides (stage_of p plan site)) (map (λ (e : Event). e.effect) events)) ∷ []) ≡ weights d.own = ap (λ (t : NetTurn). weights t.own) same in
+          let same : net_past p plan c behind after c.lists (c.own ++ Net site (length events)
+          (net_of (m.hides (stage_of p plan site)) (map (λ (e : Event). e.effect) events)) ∷ []) ≡ d = cc e in
+          let own_is : weights (c.own ++ Net site (length events)
+          (net_of (m.hides (stage_of p plan site))
+          (map (λ (e : Event). e.effect) events)) ∷ []) ≡ weights d.own = ap (λ (t : NetTurn). weights t.own) same in
           let lists_are : sum_by weights c.lists ≡ sum_by weights d.lists = ap (λ (t : NetTurn). sum_by weights t.lists) same in
           let join = weights_join c.own (Net site (length events) (net_of (m.hides (stage_of p plan site)) (map (λ (e : Event). e.effect) events)) ∷ []) in
           let one = sum_by-cons weight (Net site (length events) (net_of (m.hides (stage_of p plan site)) (map (λ (e : Event). e.effect) events))) [] in

@@ -24,27 +24,36 @@ module _ (p : Program) (plan : Plan) (m : Marks) (input : List ℤ) (marked : Ma
       at_site : (rest : List Stmt) → Held p plan m input marked test ready s (x ∷ rest) cells mem groups made →
           Enough p plan m input marked test ready s (suc k) groups made → Enough p plan m input marked test ready s (suc n) groups made → Plain m x →
           ((z : ℤ) → Text m (followed x rest (out-Stmt x) z)) →
-          SameEnd p plan m input marked test ready s (strict_from p plan input s (suc n) (word_turn p plan m input marked test ready s (x ∷ rest) cells groups made closing)) (net_from p plan m input s (suc k) (item_turn p plan m input marked test ready s (x ∷ rest) mem groups made closing))
+          SameEnd p plan m input marked test ready s (strict_from p plan input s (suc n)
+          (word_turn p plan m input marked test ready s (x ∷ rest) cells groups made closing))
+          (net_from p plan m input s (suc k) (item_turn p plan m input marked test ready s (x ∷ rest) mem groups made closing))
       unfolding strict_from net_from
       at_site rest held many more plain texts = site_case p plan m input marked test ready s x rest cells mem groups made closing held plain texts (strict_from p plan input s n) (net_from p plan m input s k)
-          (λ to_do cells' mem' groups' made' closing' held' paid. go n to_do cells' mem' groups' made' closing' held' (omega (arith, many, paid)) (omega (arith, more, paid)))
+          (λ to_do cells' mem' groups' made' closing' held' paid. go n to_do cells' mem' groups' made' closing' held' (omega (arith, many, paid))
+          (omega (arith, more, paid)))
 
       at_block : (b rest : List Stmt) → Held p plan m input marked test ready s (x ∷ (b ++ rest)) cells mem groups made →
           Enough p plan m input marked test ready s (suc k) groups made → Enough p plan m input marked test ready s (suc n) groups made →
           m.block_at (site_at x) ≡ x ∷ b → Text m rest →
-          SameEnd p plan m input marked test ready s (strict_from p plan input s (suc n) (word_turn p plan m input marked test ready s (x ∷ (b ++ rest)) cells groups made closing)) (net_from p plan m input s (suc k) (item_turn p plan m input marked test ready s (x ∷ (b ++ rest)) mem groups made closing))
+          SameEnd p plan m input marked test ready s (strict_from p plan input s (suc n)
+          (word_turn p plan m input marked test ready s (x ∷ (b ++ rest)) cells groups made closing))
+          (net_from p plan m input s (suc k) (item_turn p plan m input marked test ready s (x ∷ (b ++ rest)) mem groups made closing))
       unfolding net_from
       at_block b rest held many more at text = by (block_case p plan m input marked test ready s x b rest cells mem groups made closing held at text)
         where
           by : Through_it p plan m input marked test ready s x b rest cells mem groups made closing held at text →
-              SameEnd p plan m input marked test ready s (strict_from p plan input s (suc n) (word_turn p plan m input marked test ready s (x ∷ (b ++ rest)) cells groups made closing)) (net_by p plan m input s (net_from p plan m input s k) (net_step p plan m input s (item_turn p plan m input marked test ready s (x ∷ (b ++ rest)) mem groups made closing) x (b ++ rest)))
+              SameEnd p plan m input marked test ready s (strict_from p plan input s (suc n)
+              (word_turn p plan m input marked test ready s (x ∷ (b ++ rest)) cells groups made closing))
+              (net_by p plan m input s (net_from p plan m input s k)
+              (net_step p plan m input s (item_turn p plan m input marked test ready s (x ∷ (b ++ rest)) mem groups made closing) x (b ++ rest)))
           by (broken nothing stops) = let r = stops (suc n) more in subst (λ (u : TurnEnd). SameEnd p plan m input marked test ready s u (net_by p plan m input s (net_from p plan m input s k) (net_step p plan m input s (item_turn p plan m input marked test ready s (x ∷ (b ++ rest)) mem groups made closing) x (b ++ rest)))) (sym r.1) (rw nothing tt)
           by (gone w) =
               let h = w.held_then in
               let fits = h.fits in
               let left : suc n ≡ w.steps + (suc n - w.steps) = omega (arith, more, w.paid, fits) in
               rw (w.runs (suc n) (suc n - w.steps) left, w.made_is)
-              (go (suc n - w.steps) rest w.cells_then w.mem_then w.groups_then w.made_then closing w.held_then (omega (arith, many, w.paid, w.some)) (omega (arith, more, w.paid, w.some, left)))
+              (go (suc n - w.steps) rest w.cells_then w.mem_then w.groups_then w.made_then closing w.held_then (omega (arith, many, w.paid, w.some))
+              (omega (arith, more, w.paid, w.some, left)))
 
     -- The run over items ends as the definition's turn.
     pub alike : (k : ℕ) → AlikeIn k
@@ -56,6 +65,8 @@ module _ (p : Program) (plan : Plan) (m : Marks) (input : List ℤ) (marked : Ma
       | alone plain texts ↦ at_site k (alike k) n x cells mem groups made closing rest held many more plain texts
       | joined b behind at is text ↦
           subst (λ (ys : List Stmt). Held p plan m input marked test ready s (x ∷ ys) cells mem groups made →
-          SameEnd p plan m input marked test ready s (strict_from p plan input s (suc n) (word_turn p plan m input marked test ready s (x ∷ ys) cells groups made closing)) (net_from p plan m input s (suc k) (item_turn p plan m input marked test ready s (x ∷ ys) mem groups made closing))) (sym is)
+          SameEnd p plan m input marked test ready s (strict_from p plan input s (suc n)
+          (word_turn p plan m input marked test ready s (x ∷ ys) cells groups made closing))
+          (net_from p plan m input s (suc k) (item_turn p plan m input marked test ready s (x ∷ ys) mem groups made closing))) (sym is)
           (λ h. at_block k (alike k) n x cells mem groups made closing b behind h many more at text) held
     ]

@@ -3,6 +3,8 @@ use Rattle.dp_semantics.proofs.Names.{◌≡◌, refl, sym, ap, ◌∙◌, ℕ, 
 use Rattle.dp_net.specs.NetItems.{Marks}
 use Rattle.dp_net.specs.NetRun.{NetEnded, net_run}
 use Rattle.dp_net.specs.NetPackets.{NetStatus, NetGoing, NetClosing, NetVoid, NetPacket, NetPassed, net_passed, net_passed_on, net_run_on, net_at_kind, net_at_sequential}
+use Rattle.dp_semantics.specs.EpochKey.{epoch_of}
+use Rattle.dp_net.specs.BatchItems.{EndsStay}
 use Rattle.dp_net.specs.Batches.{is_onward, ends_batch}
 
 module _ (m : Marks) (k : Epoch) where
@@ -29,3 +31,6 @@ module _ (m : Marks) (k : Epoch) where
   ends_stay s n ends =
       let run = runs_from (slice_get k.plan.stages s) (suc s) (net_passed m k s) n in
       ap (λ (w : NetPassed). ends_batch w.packet) run.1 ∙ run_ends (suc s) run.0 (net_passed m k s n).packet ends
+
+pub ends_stay_so : EndsStay
+ends_stay_so m key s n off = ends_stay m (epoch_of key) s n off

@@ -64,9 +64,13 @@ module _ {k : Epoch} {m : Marks} {test : Stmt → Bool} (q : Quieted k m test) (
           none_there lists e (suc t) = list_past program plan m lists (suc t) (omega arith) (omega (arith, e))
 
           by : (r : ℕ) → s ≡ r →
-              Follows program plan m (Rattle.dp_net.proofs.FollowingSites.part program plan m input q.marked s r (project_all program plan (suc r) (region_statement program plan))) (item_list came.lists)
+              Follows program plan m (Rattle.dp_net.proofs.FollowingSites.part program plan m input q.marked s r (project_all program plan (suc r)
+              (region_statement program plan))) (item_list came.lists)
           by zero e = let size = f.size in ended (none_there came.lists (omega (arith, size, e)))
-          by (suc r) e = subst (λ (xs : List Stmt). Follows program plan m xs (item_list came.lists)) (sym (earlier_part ok (suc r) (suc (suc r)) (omega arith) (omega arith))) (subst (λ (t : ℕ). Follows program plan m (project_all program plan t (region_statement program plan)) (item_list came.lists)) e (f.follows r e))
+          by (suc r) e = subst (λ (xs : List Stmt). Follows program plan m xs (item_list came.lists))
+              (sym (earlier_part ok (suc r) (suc (suc r)) (omega arith) (omega arith)))
+              (subst (λ (t : ℕ). Follows program plan m (project_all program plan t (region_statement program plan))
+              (item_list came.lists)) e (f.follows r e))
 
       told : Tells program plan m input q.marked s text (item_list came.lists) [] l.ended_as
       told = tells program plan m input q.marked s (plan.words + sum_by weights came.lists + 1) text (text_readable s) before came.lists [] false l.ended_as came_is l.ends
@@ -95,7 +99,8 @@ module _ {k : Epoch} {m : Marks} {test : Stmt → Bool} (q : Quieted k m test) (
                   ∙ list_next program plan m came.lists l.ended_as.own ∙ own_is
                   ∙ sym (Rattle.dp_net.proofs.ItemLists.with_here (suc s) told.more (item_list came.lists) (suc t) (ap suc here))
               last_or_past late (inr other) =
-                  list_past program plan m (came.lists ++ l.ended_as.own ∷ []) (suc t) (omega arith) (let more = length-append came.lists (l.ended_as.own ∷ []) in omega (arith, more, size_is, late, other))
+                  list_past program plan m (came.lists ++ l.ended_as.own ∷ []) (suc t) (omega arith)
+                  (let more = length-append came.lists (l.ended_as.own ∷ []) in omega (arith, more, size_is, late, other))
                   ∙ sym (Rattle.dp_net.proofs.ItemLists.with_other (suc s) told.more (item_list came.lists) (suc t) (λ e. other (omega (arith, e)))
                   ∙ list_past program plan m came.lists (suc t) (omega arith) (omega (arith, size_is, late)))
 

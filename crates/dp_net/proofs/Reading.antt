@@ -51,7 +51,8 @@ module _ (p : Program) (plan : Plan) where
       ((t : ℕ) → other t ≡ left t) → Follows p plan m xs other
   follows_same m (ended none) other same = ended (λ t. same t ∙ none t)
   follows_same m (told {x = x} event at says others later) other same =
-      told event at (record { site = says.site; does = says.does; assumed = says.assumed; front = same (stage_of p plan (site_at x)) ∙ says.front }) (λ t differs. others t differs ∙ sym (same t)) later
+      told event at (record { site = says.site; does = says.does; assumed = says.assumed; front = same (stage_of p plan (site_at x)) ∙ says.front })
+      (λ t differs. others t differs ∙ sym (same t)) later
   follows_same m (met {x = x} count stores at is some all front others later) other same =
       met count stores at is some all (same (stage_of p plan (site_at x)) ∙ front) (λ t differs. others t differs ∙ sym (same t)) later
 
@@ -91,7 +92,8 @@ module _ (p : Program) (plan : Plan) where
       -- At a site of an earlier stage, outside of the blocks, its words stand in front.
       pub read_site : (reach : stage_of p plan (site_at x) ≤ s) → m.block_at (site_at x) ≡ [] → {left : ℕ → List Item} →
           Follows p plan m (project_all p plan s (x ∷ rest)) left → Found x rest left
-      read_site reach none {left} f = by (roll-Stmt hs) (project_all p plan s rest) refl refl (subst (λ (ys : List Stmt). Follows p plan m ys left) (text_is p plan [] x rest well behind s reach) f)
+      read_site reach none {left} f = by (roll-Stmt hs)
+          (project_all p plan s rest) refl refl (subst (λ (ys : List Stmt). Follows p plan m ys left) (text_is p plan [] x rest well behind s reach) f)
         where
           hs : Stmt-F Stmt
           hs = proj_head p plan s (out-Stmt x)
@@ -117,7 +119,8 @@ module _ (p : Program) (plan : Plan) where
                 later = subst (λ (ys : List Stmt). Follows p plan m ys next)
                     (ap (λ (h : Stmt-F Stmt). followed y onward h (value_of event.effect)) head
                     ∙ ap (λ (z : Stmt). followed z onward (proj_head p plan s (out-Stmt x)) (value_of event.effect)) y_is
-                    ∙ ap (λ (ys : List Stmt). followed (roll-Stmt (proj_head p plan s (out-Stmt x))) ys (proj_head p plan s (out-Stmt x)) (value_of event.effect)) onward_is ∙ next_is p plan [] x rest well behind s reach (value_of event.effect)) later;
+                    ∙ ap (λ (ys : List Stmt). followed (roll-Stmt (proj_head p plan s (out-Stmt x))) ys (proj_head p plan s (out-Stmt x))
+                    (value_of event.effect)) onward_is ∙ next_is p plan [] x rest well behind s reach (value_of event.effect)) later;
               }
           by y onward y_is onward_is (met count stores at is some all front others later) =
               let head : out-Stmt y ≡ proj_head p plan s (out-Stmt x) = ap out-Stmt y_is ∙ out-roll-Stmt (proj_head p plan s (out-Stmt x)) in
@@ -131,7 +134,8 @@ module _ (p : Program) (plan : Plan) where
           Follows p plan m (project_all p plan s (x ∷ rest)) left →
           Follows p plan m (project_all p plan s (followed x rest (out-Stmt x) (value_of effect))) left
       read_past real late effect form assumed {left} f =
-          subst (λ (ys : List Stmt). Follows p plan m ys left) (unseen p plan s x rest (out-Stmt x) effect well (project_out p plan s x) late form (assumed_of p plan (site_at x) effect assumed) real) f
+          subst (λ (ys : List Stmt). Follows p plan m ys left)
+          (unseen p plan s x rest (out-Stmt x) effect well (project_out p plan s x) late form (assumed_of p plan (site_at x) effect assumed) real) f
 
     module _ (t : ℕ) (x : Stmt) (b rest : List Stmt) (at : m.block_at (site_at x) ≡ x ∷ b) (quiet : AllQuiet p plan t (x ∷ b)) where
       -- At a block of an earlier stage its item stands in front.
@@ -146,7 +150,8 @@ module _ (p : Program) (plan : Plan) where
           by behind is (met {b = c} {rest = after} {next = next} count stores there behind_is some all front others later) =
               let same : x ∷ c ≡ x ∷ b = sym there ∙ at in
               let inner : c ≡ b = cc same in
-              let after_is : after ≡ project_all p plan s rest = append_cancel_left b after (project_all p plan s rest) (ap (λ (ys : List Stmt). ys ++ after) (sym inner) ∙ sym behind_is ∙ is) in
+              let after_is : after ≡ project_all p plan s rest = append_cancel_left b after (project_all p plan s rest)
+              (ap (λ (ys : List Stmt). ys ++ after) (sym inner) ∙ sym behind_is ∙ is) in
               record { count = count; stores = stores; next = next; some = some; all = all; front = front; others = others; later = subst (λ (ys : List Stmt). Follows p plan m ys next) after_is later }
 
       -- A block of a later stage leaves them.

@@ -49,7 +49,8 @@ module _ (p : Program) (plan : Plan) (m : Marks) (input : List ℤ) (marked : Ma
     steady_head x rest h = (ready x (and_parts (test x) (list_all test rest) h).0).0
 
     pub steady_next : (x : Stmt) (rest : List Stmt) (z : ℤ) → Steady (x ∷ rest) → Steady (followed x rest (out-Stmt x) z)
-    steady_next x rest z h = let parts = and_parts (test x) (list_all test rest) h in followed_has Steady (all_joins test) x rest (out-Stmt x) z h parts.1 (ready x parts.0).1
+    steady_next x rest z h = let parts = and_parts (test x)
+        (list_all test rest) h in followed_has Steady (all_joins test) x rest (out-Stmt x) z h parts.1 (ready x parts.0).1
 
     pub steady_split : (a b : List Stmt) → Steady (a ++ b) → Steady a × Steady b
     steady_split a b h = and_parts (list_all test a) (list_all test b) (sym (list_all-append test a b) ∙ h)
@@ -58,7 +59,8 @@ module _ (p : Program) (plan : Plan) (m : Marks) (input : List ℤ) (marked : Ma
     pub eval_ok : (h : Stmt-F Stmt) → Ready p plan m h → stage_of p plan (site_of h).0 ≡ s → (a b : List ℤ) → Agrees m s a b →
         (v : WithLoads Effect) → evaluated p input a h ≡ Ok v → evaluated p input b h ≡ Ok v
     eval_ok h r here a b ab v e =
-        let known = each_map (λ y. (0 < cell_count p (record { 0 = y })) × ((c : ℕ) → InVar p y c → Open m (stage_of p plan (site_of h).0) c)) (Readable p a (IsHeld b))
+        let known = each_map (λ y. (0 < cell_count p (record { 0 = y })) × ((c : ℕ) → InVar p y c → Open m (stage_of p plan (site_of h).0) c))
+        (Readable p a (IsHeld b))
         (λ y k. (k.0, λ c i. sym (ab.same c (subst (λ (u : ℕ). Open m u c) here (k.1 c i))))) (head_loads h) r.reads in
         let t = evaluated_tracks p input a b (IsHeld b) h r.room known v e in
         t.same t.loads
@@ -82,8 +84,10 @@ module _ (p : Program) (plan : Plan) (m : Marks) (input : List ℤ) (marked : Ma
     outcome_same zero (x ∷ rest) a b h q ab = same_broke
     outcome_same (suc n) [] a b h q ab = same_through [] a b ab
     outcome_same (suc n) (x ∷ rest) a b h q ab =
-        by (evaluated p input a (out-Stmt x)) (evaluated p input b (out-Stmt x)) (eval_same (out-Stmt x) (steady_head x rest h) (head_of p plan s x rest q).stage a b ab)
-        (λ v. outcome_same n (followed x rest (out-Stmt x) (value_of v.value)) (stored v.value a) (stored v.value b) (steady_next x rest (value_of v.value) h) (onward p plan s x rest (value_of v.value) q) (agree_stored m s v.value a b ab))
+        by (evaluated p input a (out-Stmt x)) (evaluated p input b (out-Stmt x))
+        (eval_same (out-Stmt x) (steady_head x rest h) (head_of p plan s x rest q).stage a b ab)
+        (λ v. outcome_same n (followed x rest (out-Stmt x) (value_of v.value)) (stored v.value a) (stored v.value b)
+        (steady_next x rest (value_of v.value) h) (onward p plan s x rest (value_of v.value) q) (agree_stored m s v.value a b ab))
       where
         more : (event : Event) (o u : Outcome) → SameOutcome m s o u → SameOutcome m s (with_event event o) (with_event event u)
         more event o u (same_through events c d cd) = same_through (event ∷ events) c d cd
@@ -91,7 +95,8 @@ module _ (p : Program) (plan : Plan) (m : Marks) (input : List ℤ) (marked : Ma
 
         by : (u w : Evaluated Effect) → SameEval u w →
             ((v : WithLoads Effect) →
-            SameOutcome m s (quiet_from p input n (followed x rest (out-Stmt x) (value_of v.value)) (stored v.value a)) (quiet_from p input n (followed x rest (out-Stmt x) (value_of v.value)) (stored v.value b))) →
+            SameOutcome m s (quiet_from p input n (followed x rest (out-Stmt x) (value_of v.value)) (stored v.value a))
+            (quiet_from p input n (followed x rest (out-Stmt x) (value_of v.value)) (stored v.value b))) →
             SameOutcome m s (quiet_by (quiet_from p input n) x rest a (out-Stmt x) u) (quiet_by (quiet_from p input n) x rest b (out-Stmt x) w)
         by u w (same_value v) go = more (event_of (out-Stmt x) v) _ _ (go v)
         by u w (same_fault k l) go = same_broke

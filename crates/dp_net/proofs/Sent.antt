@@ -72,12 +72,15 @@ module _ {k : Epoch} {m : Marks} {test : Stmt → Bool} (q : Quieted k m test) w
 
   -- a stage's turn on such packets
   pub run_alike : (s : ℕ) (cells : List ℤ) (groups : List (List Group)) → AllGood program plan m input q.marked test q.ready 0 groups →
-      SameEnd program plan m input q.marked test q.ready s (strict_run program plan input s cells (all_flats program plan m groups)) (net_run program plan m input s cells (all_items program plan m groups))
+      SameEnd program plan m input q.marked test q.ready s (strict_run program plan input s cells (all_flats program plan m groups))
+      (net_run program plan m input s cells (all_items program plan m groups))
   run_alike s cells groups good =
       let sums = sums_are program plan m groups in
-      alike program plan m input q.marked test q.ready s (plan.words + sum_by weights (all_items program plan m groups) + 1) (plan.words + sum_by length (all_flats program plan m groups) + 1)
+      alike program plan m input q.marked test q.ready s (plan.words + sum_by weights (all_items program plan m groups) + 1)
+      (plan.words + sum_by length (all_flats program plan m groups) + 1)
       (project_all program plan s (region_statement program plan)) cells cells groups [] false
-      (record { text = q.texts s; steady = q.steady s; agrees = agrees_self m s cells; good = good; made_good = tt; fits = omega arith }) (omega (arith, sums)) (omega arith)
+      (record { text = q.texts s; steady = q.steady s; agrees = agrees_self m s cells; good = good; made_good = tt; fits = omega arith })
+      (omega (arith, sums)) (omega arith)
 
   status_same : (a : Status) (b : NetStatus) (c d : Bool) → SameStatus a b → d ≡ c → SameStatus (status_of a c) (net_status_of b d)
   status_same a b true d both_going e = rw e both_closing
@@ -110,11 +113,13 @@ module _ {k : Epoch} {m : Marks} {test : Stmt → Bool} (q : Quieted k m test) w
   passed_alike : (s : ℕ) (before : List ℤ) (a : Packet) (b : NetPacket) → SamePacket a b → SamePassed s (strict_run_on k s before a) (net_run_on m k s before b)
   passed_alike s before a b same = by a.status b.status same.status
     where
-      turns : SameEnd program plan m input q.marked test q.ready s (strict_run program plan input s before a.lists) (net_run program plan m input s before b.lists)
+      turns : SameEnd program plan m input q.marked test q.ready s (strict_run program plan input s before a.lists)
+          (net_run program plan m input s before b.lists)
       turns = rw (same.words, same.net) (run_alike s before same.groups same.good)
 
       by : (u : Status) (w : NetStatus) → SameStatus u w →
-          SamePassed s (passed_on k s before a (strict_run program plan input s before a.lists) u) (net_passed_on m k s before b (net_run program plan m input s before b.lists) w)
+          SamePassed s (passed_on k s before a (strict_run program plan input s before a.lists) u)
+          (net_passed_on m k s before b (net_run program plan m input s before b.lists) w)
       by u w both_going = ended_by s before a b same _ _ turns
       by u w both_closing = ended_by s before a b same _ _ turns
       by u w (both_broken t why) = record { packet = same; before = refl; after = agrees_self m s before }
@@ -127,7 +132,8 @@ module _ {k : Epoch} {m : Marks} {test : Stmt → Bool} (q : Quieted k m test) w
   sequential_alike s t came net_came same zero = passed_alike s k.base (came zero).packet (net_came zero).packet (same zero).packet
   sequential_alike s t came net_came same (suc n) =
       let r = sequential_alike s t came net_came same n in
-      at_before s (cleared k (strict_sequential k s came n).after) (cleared k (net_at_sequential m k s net_came n).after) (cleared_same s _ _ r.after) (came (suc n)).packet (net_came (suc n)).packet (same (suc n)).packet
+      at_before s (cleared k (strict_sequential k s came n).after) (cleared k (net_at_sequential m k s net_came n).after) (cleared_same s _ _ r.after)
+      (came (suc n)).packet (net_came (suc n)).packet (same (suc n)).packet
 
   kind_alike : (kind : Option StageKind) (s t : ℕ) (came : ℕ → Passed) (net_came : ℕ → NetPassed) → ((n : ℕ) → SamePassed t (came n) (net_came n)) →
       (n : ℕ) → SamePassed s (strict_kind k kind s came n) (net_at_kind m k kind s net_came n)

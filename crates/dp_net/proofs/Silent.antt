@@ -58,8 +58,10 @@ module _ (p : Program) (plan : Plan) (t : ℕ) where
       ((z : ℤ) → Form p h (Printed z) → ⊥) → QuietHead h
   known_quiet_by h q parts onward tries mute =
       let both = and_parts (is_quiet_site p plan t (site_of h).0) (list_all (has_cell p) (head_loads h) && stores_known p (head_stores h)) q in
-      let one = and_parts (stage_of p plan (site_of h).0 == t) (not (is_checked p plan (site_of h).0) && (not ((site_of h).0 == first_site p plan) && not (list_any (is_assumed_at (site_of h).0) plan.assume))) both.0 in
-      let two = and_parts (not (is_checked p plan (site_of h).0)) (not ((site_of h).0 == first_site p plan) && not (list_any (is_assumed_at (site_of h).0) plan.assume)) one.1 in
+      let one = and_parts (stage_of p plan (site_of h).0 == t)
+      (not (is_checked p plan (site_of h).0) && (not ((site_of h).0 == first_site p plan) && not (list_any (is_assumed_at (site_of h).0) plan.assume))) both.0 in
+      let two = and_parts (not (is_checked p plan (site_of h).0))
+      (not ((site_of h).0 == first_site p plan) && not (list_any (is_assumed_at (site_of h).0) plan.assume)) one.1 in
       let three = and_parts (not ((site_of h).0 == first_site p plan)) (not (list_any (is_assumed_at (site_of h).0) plan.assume)) two.1 in
       let four = and_parts (list_all (has_cell p) (head_loads h)) (stores_known p (head_stores h)) both.1 in
       record {
@@ -116,11 +118,13 @@ module _ (p : Program) (plan : Plan) (t : ℕ) where
     nothing_assumed effect [] e = refl
     nothing_assumed effect (a ∷ all) e =
         let n = none_of (is_assumed_at (site_of h).0) (a ∷ all) e in
-        and_from (goes_as (site_of h).0 effect a) (list_all (goes_as (site_of h).0 effect) all) (ap (λ (b : Bool). not b || went a.taken effect) n.0) (nothing_assumed effect all (tail_none (is_assumed_at (site_of h).0) a all e))
+        and_from (goes_as (site_of h).0 effect a) (list_all (goes_as (site_of h).0 effect) all) (ap (λ (b : Bool). not b || went a.taken effect) n.0)
+        (nothing_assumed effect all (tail_none (is_assumed_at (site_of h).0) a all e))
       where
         tail_none : (test : Assume → Bool) (a : Assume) (all : List Assume) → list_any test (a ∷ all) ≡ false → list_any test all ≡ false
         tail_none test a all e = (Rattle.dp_semantics.proofs.Names.or_parts (test a) (list_any test all) e).1
 
     pub goes_assumed : (effect : Effect) → Form p h effect → as_assumed p plan (site_of h).0 effect ≡ true
-    goes_assumed effect f = and_from (list_all (goes_as (site_of h).0 effect) plan.assume) (stays_late p plan (site_of h).0 effect) (nothing_assumed effect plan.assume q.free)
+    goes_assumed effect f = and_from (list_all (goes_as (site_of h).0 effect) plan.assume) (stays_late p plan (site_of h).0 effect)
+        (nothing_assumed effect plan.assume q.free)
         (ap (λ (b : Bool). not b || nat_le (stage_of p plan (site_of h).0) 1) (stays_in effect f))

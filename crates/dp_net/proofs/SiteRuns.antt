@@ -105,15 +105,18 @@ module _ (p : Program) (plan : Plan) (m : Marks) (input : List ℤ) (marked : Ma
             let known = each_map (λ (y : ℕ). ((0 < cell_count p (record { 0 = y })) × ((c : ℕ) → InVar p y c → Open m (stage_of p plan (site_of h).0) c)) × ((c : ℕ) → InVar p y c → (u : ℕ) → m.hides u c ≡ false)) (Readable p cells (λ (l : Load). (u : ℕ) → m.hides u l.cell ≡ false))
             (λ y k. (k.0.0, λ c i. k.1 c i)) (head_loads h) (Rattle.dp_semantics.proofs.Each.each_both _ _ (head_loads h) r.reads (r.told q)) in
             let t = evaluated_tracks p input cells cells (λ (l : Load). (u : ℕ) → m.hides u l.cell ≡ false) h r.room known v e in
-            rw (q, ones_join (load_words (site_of h).0 v.loads) (done_word (site_of h).0 v.value ∷ [])) (each_join (Good p plan m input) _ _ (loads_good v.loads t.loads) (done_good v.value))
+            rw (q, ones_join (load_words (site_of h).0 v.loads) (done_word (site_of h).0 v.value ∷ []))
+            (each_join (Good p plan m input) _ _ (loads_good v.loads t.loads) (done_good v.value))
         | inr q ↦ rw q (done_good v.value)
       ]
 
       -- an own site
       own_case : (u w : Evaluated Effect) → SameEval u w → evaluated p input cells h ≡ u →
-          SameEnd (turn_by go (strict_own_step p plan (word_turn (x ∷ rest) cells groups made closing) x rest h u)) (net_by p plan m input s run (net_own_step p plan (item_turn (x ∷ rest) mem groups made closing) x rest h w))
+          SameEnd (turn_by go (strict_own_step p plan (word_turn (x ∷ rest) cells groups made closing) x rest h u))
+          (net_by p plan m input s run (net_own_step p plan (item_turn (x ∷ rest) mem groups made closing) x rest h w))
       own_case u w (same_fault k l) e = tt
-      own_case u w (same_value v) e = by (assumed && nat_le (length (flats made ++ ws)) plan.words) (assumed && nat_le (weights (items p plan m made) + length ws) plan.words) refl
+      own_case u w (same_value v) e = by (assumed && nat_le (length (flats made ++ ws)) plan.words)
+          (assumed && nat_le (weights (items p plan m made) + length ws) plan.words) refl
           (ap (λ (n : ℕ). assumed && nat_le n plan.words) (length-append (flats made) ws ∙ ap (λ (n : ℕ). n + length ws) (sym (weights_are p plan m made))))
         where
           ws : List Word
@@ -126,7 +129,8 @@ module _ (p : Program) (plan : Plan) (m : Marks) (input : List ℤ) (marked : Ma
           then_words = turned p plan (word_turn (x ∷ rest) cells groups made closing) x rest h v.value (flats made ++ ws) (all_flats p plan m groups)
 
           then_items : NetTurn
-          then_items = net_turned p plan (item_turn (x ∷ rest) mem groups made closing) x rest h v.value (items p plan m made ++ said_all ws) (all_items p plan m groups)
+          then_items = net_turned p plan (item_turn (x ∷ rest) mem groups made closing) x rest h v.value (items p plan m made ++ said_all ws)
+              (all_items p plan m groups)
 
           flats_then : flats (made ++ ones ws) ≡ flats made ++ ws
           flats_then = flats_join made (ones ws) ∙ ap (λ more. flats made ++ more) (flats_ones ws)
@@ -174,11 +178,14 @@ module _ (p : Program) (plan : Plan) (m : Marks) (input : List ℤ) (marked : Ma
       -- another stage's site
       taken_case : (u : Result Taken Void) (w : Option NetTaken) → Alike p plan m input marked u w →
           taken_from p h (word_list (all_flats p plan m groups) t) ≡ u →
-          SameEnd (turn_by go (consumed_step p plan (word_turn (x ∷ rest) cells groups made closing) x rest h u)) (net_by p plan m input s run (net_consumed_step p plan (item_turn (x ∷ rest) mem groups made closing) x rest h w))
+          SameEnd (turn_by go (consumed_step p plan (word_turn (x ∷ rest) cells groups made closing) x rest h u))
+          (net_by p plan m input s run (net_consumed_step p plan (item_turn (x ∷ rest) mem groups made closing) x rest h w))
       taken_case u w (none why) e = tt
       taken_case u w (both effect gs good) e =
-          let sets : slice_set (all_flats p plan m groups) (t - 1) (flats gs) ≡ all_flats p plan m (slice_set groups (t - 1) gs) = sym (map-set flats groups (t - 1) gs) in
-          let net_sets : slice_set (all_items p plan m groups) (t - 1) (items p plan m gs) ≡ all_items p plan m (slice_set groups (t - 1) gs) = sym (map-set (items p plan m) groups (t - 1) gs) in
+          let sets : slice_set (all_flats p plan m groups) (t - 1)
+          (flats gs) ≡ all_flats p plan m (slice_set groups (t - 1) gs) = sym (map-set flats groups (t - 1) gs) in
+          let net_sets : slice_set (all_items p plan m groups) (t - 1)
+          (items p plan m gs) ≡ all_items p plan m (slice_set groups (t - 1) gs) = sym (map-set (items p plan m) groups (t - 1) gs) in
           let held_then : Held (followed x rest h (value_of effect)) (stored effect cells) (stored effect mem) (slice_set groups (t - 1) gs) made = record {
             text = texts (value_of effect);
             steady = steady_next p plan m input marked test ready s x rest (value_of effect) held.steady;
@@ -187,16 +194,19 @@ module _ (p : Program) (plan : Plan) (m : Marks) (input : List ℤ) (marked : Ma
             made_good = held.made_good;
             fits = held.fits;
           } in
-          let fewer = lists_shorter (all_flats p plan m groups) t (flats gs) (taken_shorter p h (word_list (all_flats p plan m groups) t) (record { effect = effect; rest = flats gs }) e) in
+          let fewer = lists_shorter (all_flats p plan m groups) t (flats gs)
+          (taken_shorter p h (word_list (all_flats p plan m groups) t) (record { effect = effect; rest = flats gs }) e) in
           let same = ap (sum_by length) sets in
           let paid : 1 + length (flats made) + left_of (slice_set groups (t - 1) gs) ≤ length (flats made) + left_of groups = omega (arith, fewer, same) in
           let closing_then : Bool = closing || closes_at (first_site p plan) (site_of h).0 effect in
-          subst (λ (ls : List (List Word)). SameEnd (go (at_turn (followed x rest h (value_of effect)) (stored effect cells) ls (flats made) closing_then)) (run (record { to_do = followed x rest h (value_of effect); cells = stored effect mem; lists = slice_set (all_items p plan m groups) (t - 1) (items p plan m gs); own = items p plan m made; closing = closing_then }))) (sym sets)
+          subst (λ (ls : List (List Word)). SameEnd (go (at_turn (followed x rest h (value_of effect)) (stored effect cells) ls (flats made) closing_then))
+          (run (record { to_do = followed x rest h (value_of effect); cells = stored effect mem; lists = slice_set (all_items p plan m groups) (t - 1) (items p plan m gs); own = items p plan m made; closing = closing_then }))) (sym sets)
           (subst (λ (ls : List (List Item)). SameEnd (go (word_turn (followed x rest h (value_of effect)) (stored effect cells) (slice_set groups (t - 1) gs) made closing_then)) (run (record { to_do = followed x rest h (value_of effect); cells = stored effect mem; lists = ls; own = items p plan m made; closing = closing_then }))) (sym net_sets)
           (next (followed x rest h (value_of effect)) (stored effect cells) (stored effect mem) (slice_set groups (t - 1) gs) made closing_then held_then paid))
 
       -- one step at a site outside of the blocks
-      pub site_case : SameEnd (turn_by go (strict_step p plan input s (word_turn (x ∷ rest) cells groups made closing) x rest h)) (net_by p plan m input s run (net_step p plan m input s (item_turn (x ∷ rest) mem groups made closing) x rest))
+      pub site_case : SameEnd (turn_by go (strict_step p plan input s (word_turn (x ∷ rest) cells groups made closing) x rest h))
+          (net_by p plan m input s run (net_step p plan m input s (item_turn (x ∷ rest) mem groups made closing) x rest))
       site_case = elim (cases_Bool (t == s)) [
         | inl q ↦ rw (plain.0, q) (own_case (evaluated p input cells h) (evaluated p input mem h) (eval_same p plan m input marked test ready s h r (eqb-true t s q) cells mem held.agrees) refl)
         | inr q ↦ rw (plain.0, q) (taken_case (taken_from p h (word_list (all_flats p plan m groups) t)) (net_taken_from p h (item_list (all_items p plan m groups) t))

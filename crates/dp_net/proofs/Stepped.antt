@@ -95,7 +95,8 @@ module _ (p : Program) (plan : Plan) where
 
         -- behind the statement
         abbrev pub turn_after : Effect → List Word → List (List Word) → Turn
-        turn_after effect own' lists' = at_turn (project_all p plan s (followed x rest h (value_of effect))) (stored effect cells) lists' own' (closing || closes_at (first_site p plan) (site_of h).0 effect)
+        turn_after effect own' lists' = at_turn (project_all p plan s (followed x rest h (value_of effect)))
+            (stored effect cells) lists' own' (closing || closes_at (first_site p plan) (site_of h).0 effect)
 
         abbrev opened : Turn
         opened = at_turn (y ∷ onward) cells lists own closing
@@ -106,12 +107,14 @@ module _ (p : Program) (plan : Plan) where
 
         turn_opened : (n : ℕ) → turn_from p plan input s (suc n) stage_turn ≡ turn_by (turn_from p plan input s n) (turn_step p plan input s opened y onward hs)
         unfolding turn_from
-        turn_opened n = rw text_is (ap (λ (g : Stmt-F Stmt). turn_by (turn_from p plan input s n) (turn_step p plan input s opened y onward g)) (out-roll-Stmt hs))
+        turn_opened n = rw text_is (ap (λ (g : Stmt-F Stmt). turn_by (turn_from p plan input s n) (turn_step p plan input s opened y onward g))
+            (out-roll-Stmt hs))
 
         strict_opened : (n : ℕ) →
             strict_from p plan input s (suc n) stage_turn ≡ turn_by (strict_from p plan input s n) (strict_step p plan input s opened y onward hs)
         unfolding strict_from
-        strict_opened n = rw text_is (ap (λ (g : Stmt-F Stmt). turn_by (strict_from p plan input s n) (strict_step p plan input s opened y onward g)) (out-roll-Stmt hs))
+        strict_opened n = rw text_is (ap (λ (g : Stmt-F Stmt). turn_by (strict_from p plan input s n) (strict_step p plan input s opened y onward g))
+            (out-roll-Stmt hs))
 
         -- words of an earlier stage are taken
         module _ (other : u ≡ s → ⊥) where
@@ -164,7 +167,8 @@ module _ (p : Program) (plan : Plan) where
               strict_opened n
               ∙ ap (turn_by (strict_from p plan input s n)) (strict_own_is ∙ ap (strict_own_step p plan opened y onward hs) e
               ∙ rw (site_proj p plan s h) (rw (next_is (value_of v.value)) refl))
-              ∙ when_fits (strict_from p plan input s n) (as_assumed p plan (site_of h).0 v.value && nat_le (length (own ++ words_here v)) plan.words) (turn_after v.value (own ++ words_here v) lists)
+              ∙ when_fits (strict_from p plan input s n) (as_assumed p plan (site_of h).0 v.value && nat_le (length (own ++ words_here v)) plan.words)
+              (turn_after v.value (own ++ words_here v) lists)
 
         -- The judgement goes on where the words are the site's and go as assumed.
         pub record JudgedOn (n : ℕ) (v : Agreed) : Type 0 where
@@ -194,7 +198,8 @@ module _ (p : Program) (plan : Plan) where
           judge_step_is = rw (taken_proj s h (word_list lists (stage_of p plan (site_of hs).0)), site_proj p plan s h) refl
 
           pub judged_on : (n : ℕ) (v : Agreed) → judge_from p plan (suc n) judging ≡ Clean v → JudgedOn n v
-          judged_on n v e = by (taken_from p h (word_list lists u)) refl (loads_hold (site_of h).0 cells (word_list lists u)) (sym (judge_opened n ∙ ap (judge_by (judge_from p plan n)) judge_step_is) ∙ e)
+          judged_on n v e = by (taken_from p h (word_list lists u)) refl (loads_hold (site_of h).0 cells (word_list lists u))
+              (sym (judge_opened n ∙ ap (judge_by (judge_from p plan n)) judge_step_is) ∙ e)
             where
               by : (r : Result Taken Void) → taken_from p h (word_list lists u) ≡ r → (held : Bool) →
                   judge_by (judge_from p plan n) (judged_by p plan judging_here y onward hs held r) ≡ Clean v → JudgedOn n v

@@ -30,7 +30,8 @@ module _ (key : EpochKey) (ok : Accepted key.program key.plan) where
   kept_at_run : (s n : ℕ) → s < length plan.stages → CleanTo (suc n) → (before : List ℤ) →
       passed k (suc s) n ≡ run_on k (suc s) before (passed k s n).packet →
       strict_run_on k (suc s) before (passed k s n).packet ≡ run_on k (suc s) before (passed k s n).packet
-  kept_at_run s n high c before is = let r = c n (omega arith) in (turn_kept k ok n (key.fuel - (state_at key n).steps) (state_at key n).cells r.0 r.1 s high before is).same
+  kept_at_run s n high c before is = let r = c n (omega arith) in (turn_kept k ok n (key.fuel - (state_at key n).steps)
+      (state_at key n).cells r.0 r.1 s high before is).same
 
   sequential_same : (s : ℕ) → s < length plan.stages → ((n : ℕ) → CleanTo (suc n) → strict_passed k s n ≡ passed k s n) →
       ((n : ℕ) → passed k (suc s) n ≡ at_sequential k (suc s) (passed k s) n) → (n : ℕ) → CleanTo (suc n) →
@@ -44,7 +45,8 @@ module _ (key : EpochKey) (ok : Accepted key.program key.plan) where
   kind_same : (kind : Option StageKind) (s : ℕ) → s < length plan.stages → slice_get plan.stages s ≡ kind →
       ((n : ℕ) → CleanTo (suc n) → strict_passed k s n ≡ passed k s n) → (n : ℕ) → CleanTo (suc n) →
       strict_kind k kind (suc s) (strict_passed k s) n ≡ at_kind kind k (suc s) (passed k s) n
-  kind_same (Some Par) s high is same n c = rw (same n c) (kept_at_run s n high c (passed k s n).before (ap (λ (o : Option StageKind). at_kind o k (suc s) (passed k s) n) is))
+  kind_same (Some Par) s high is same n c = rw (same n c)
+      (kept_at_run s n high c (passed k s n).before (ap (λ (o : Option StageKind). at_kind o k (suc s) (passed k s) n) is))
   kind_same (Some Seq) s high is same n c = sequential_same s high same (λ i. ap (λ (o : Option StageKind). at_kind o k (suc s) (passed k s) i) is) n c
   kind_same None s high is same n c = sequential_same s high same (λ i. ap (λ (o : Option StageKind). at_kind o k (suc s) (passed k s) i) is) n c
 
@@ -61,7 +63,8 @@ module _ (key : EpochKey) (ok : Accepted key.program key.plan) where
     where
       by : SameOrOff program plan input s (strict_run program plan input s before came.lists) (stage_run program plan input s before came.lists) →
           (status : Status) →
-          SameOrVoid (passed_on k s before came (strict_run program plan input s before came.lists) status) (passed_on k s before came (stage_run program plan input s before came.lists) status)
+          SameOrVoid (passed_on k s before came (strict_run program plan input s before came.lists) status)
+          (passed_on k s before came (stage_run program plan input s before came.lists) status)
       by (inl e) status = inl (ap (λ (turn : TurnEnd). passed_on k s before came turn status) e)
       by (inr (why, e)) (Broken t what) = inl refl
       by (inr (why, e)) Going = inr (ap (λ (turn : TurnEnd). live (passed_by k s before came turn).packet.status) e)
@@ -77,7 +80,9 @@ module _ (key : EpochKey) (ok : Accepted key.program key.plan) where
       by Closing is e = absurd (cc e)
 
   from_came : (s : ℕ) (a b : Passed) (x y : List ℤ) → (a ≡ b → x ≡ y) → SameOrVoid a b → SameOrVoid (strict_run_on k s x a.packet) (run_on k s y b.packet)
-  from_came s a b x y same (inl e) = subst (λ (c : Passed). SameOrVoid (strict_run_on k s x a.packet) (run_on k s y c.packet)) e (subst (λ (m : List ℤ). SameOrVoid (strict_run_on k s x a.packet) (run_on k s m a.packet)) (same e) (run_or_void s x a.packet))
+  from_came s a b x y same (inl e) = subst (λ (c : Passed). SameOrVoid (strict_run_on k s x a.packet)
+      (run_on k s y c.packet)) e (subst (λ (m : List ℤ). SameOrVoid (strict_run_on k s x a.packet) (run_on k s m a.packet)) (same e)
+      (run_or_void s x a.packet))
   from_came s a b x y same (inr e) = inr (stays_void s x a.packet e)
 
   sent_or_void : (s : ℕ) → s ≤ length plan.stages → (n : ℕ) → CleanTo n → SameOrVoid (strict_passed k s n) (passed k s n)
@@ -90,11 +95,14 @@ module _ (key : EpochKey) (ok : Accepted key.program key.plan) where
 
       by : (kind : Option StageKind) → slice_get plan.stages s ≡ kind → (n : ℕ) → CleanTo n → SameOrVoid (strict_passed k s n) (passed k s n) →
           SameOrVoid (strict_kind k kind (suc s) (strict_passed k s) n) (at_kind kind k (suc s) (passed k s) n)
-      by (Some Par) is n c came = from_came (suc s) (strict_passed k s n) (passed k s n) (strict_passed k s n).before (passed k s n).before (λ e. ap (λ (w : Passed). w.before) e) came
+      by (Some Par) is n c came = from_came (suc s) (strict_passed k s n) (passed k s n)
+          (strict_passed k s n).before (passed k s n).before (λ e. ap (λ (w : Passed). w.before) e) came
       by (Some Seq) is zero c came = from_came (suc s) (strict_passed k s zero) (passed k s zero) k.base k.base (λ e. refl) came
-      by (Some Seq) is (suc n) c came = from_came (suc s) (strict_passed k s (suc n)) (passed k s (suc n)) _ _ (λ e. ap (λ (w : Passed). cleared k w.after) (before_same (Some Seq) is n c)) came
+      by (Some Seq) is (suc n) c came = from_came (suc s) (strict_passed k s (suc n))
+          (passed k s (suc n)) _ _ (λ e. ap (λ (w : Passed). cleared k w.after) (before_same (Some Seq) is n c)) came
       by None is zero c came = from_came (suc s) (strict_passed k s zero) (passed k s zero) k.base k.base (λ e. refl) came
-      by None is (suc n) c came = from_came (suc s) (strict_passed k s (suc n)) (passed k s (suc n)) _ _ (λ e. ap (λ (w : Passed). cleared k w.after) (before_same None is n c)) came
+      by None is (suc n) c came = from_came (suc s) (strict_passed k s (suc n))
+          (passed k s (suc n)) _ _ (λ e. ap (λ (w : Passed). cleared k w.after) (before_same None is n c)) came
 
   abbrev pub strict_judgement : ℕ → JudgeState → Judgement
   strict_judgement n s = judge program plan (key.fuel - s.steps) s.cells (strict_passed k (length plan.stages) n).packet
@@ -107,7 +115,8 @@ module _ (key : EpochKey) (ok : Accepted key.program key.plan) where
           strict_judgement n (state_at key n) ≡ judgement_of key n
       by j is (inl e) = ap (λ (w : Passed). judge program plan (key.fuel - (state_at key n).steps) (state_at key n).cells w.packet) e
       by Unclean is (inr e) = not_live (strict_passed k (length plan.stages) n).packet.status _ e ∙ sym is
-      by (Clean v) is (inr e) = ap (λ (w : Passed). judge program plan (key.fuel - (state_at key n).steps) (state_at key n).cells w.packet) (packets_same (length plan.stages) (omega arith) n
+      by (Clean v) is (inr e) = ap (λ (w : Passed). judge program plan (key.fuel - (state_at key n).steps) (state_at key n).cells w.packet)
+          (packets_same (length plan.stages) (omega arith) n
           (clean_with n c v is))
 
   -- .. and where it is clean, a packet that closes is judged to leave the region

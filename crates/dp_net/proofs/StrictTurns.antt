@@ -29,18 +29,25 @@ module _ (p : Program) (plan : Plan) (input : List ℤ) (s : ℕ) where
           fits event false b = inr (Full, refl)
 
           own : (r : Evaluated Effect) →
-              SameOrOff (turn_by (strict_from p plan input s n) (strict_own_step p plan c x rest (out-Stmt x) r)) (turn_by (turn_from p plan input s n) (own_step p plan c x rest (out-Stmt x) r))
+              SameOrOff (turn_by (strict_from p plan input s n) (strict_own_step p plan c x rest (out-Stmt x) r))
+              (turn_by (turn_from p plan input s n) (own_step p plan c x rest (out-Stmt x) r))
           own (Err kind) = inl refl
-          own (Ok v) = fits (Rattle.dp_semantics.proofs.Ways.event_of (out-Stmt x) v) (event_as_assumed p plan (Rattle.dp_semantics.proofs.Ways.event_of (out-Stmt x) v))
+          own (Ok v) = fits (Rattle.dp_semantics.proofs.Ways.event_of (out-Stmt x) v)
+              (event_as_assumed p plan (Rattle.dp_semantics.proofs.Ways.event_of (out-Stmt x) v))
               (nat_le (length (c.own ++ words_of p plan (Rattle.dp_semantics.proofs.Ways.event_of (out-Stmt x) v))) plan.words)
 
           taken : (r : Result Taken Void) →
-              SameOrOff (turn_by (strict_from p plan input s n) (consumed_step p plan c x rest (out-Stmt x) r)) (turn_by (turn_from p plan input s n) (consumed_step p plan c x rest (out-Stmt x) r))
+              SameOrOff (turn_by (strict_from p plan input s n) (consumed_step p plan c x rest (out-Stmt x) r))
+              (turn_by (turn_from p plan input s n) (consumed_step p plan c x rest (out-Stmt x) r))
           taken (Err why) = inl refl
           taken (Ok w) = go (Rattle.dp_semantics.specs.StageRun.consumed p plan c x rest (out-Stmt x) w)
 
           by : (b : Bool) → SameOrOff
-              (turn_by (strict_from p plan input s n) (if b then strict_own_step p plan c x rest (out-Stmt x) (evaluated p input c.cells (out-Stmt x)) else consumed_step p plan c x rest (out-Stmt x) (taken_from p (out-Stmt x) (words_left p plan c (out-Stmt x)))))
-              (turn_by (turn_from p plan input s n) (if b then own_step p plan c x rest (out-Stmt x) (evaluated p input c.cells (out-Stmt x)) else consumed_step p plan c x rest (out-Stmt x) (taken_from p (out-Stmt x) (words_left p plan c (out-Stmt x)))))
+              (turn_by (strict_from p plan input s n) (if b then strict_own_step p plan c x rest (out-Stmt x)
+              (evaluated p input c.cells (out-Stmt x)) else consumed_step p plan c x rest (out-Stmt x)
+              (taken_from p (out-Stmt x) (words_left p plan c (out-Stmt x)))))
+              (turn_by (turn_from p plan input s n) (if b then own_step p plan c x rest (out-Stmt x)
+              (evaluated p input c.cells (out-Stmt x)) else consumed_step p plan c x rest (out-Stmt x)
+              (taken_from p (out-Stmt x) (words_left p plan c (out-Stmt x)))))
           by true = own (evaluated p input c.cells (out-Stmt x))
           by false = taken (taken_from p (out-Stmt x) (words_left p plan c (out-Stmt x)))

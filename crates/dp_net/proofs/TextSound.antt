@@ -43,7 +43,8 @@ module _ (p : Program) (plan : Plan) where
           let parts = each_split (λ (i : Access). is_sound p plan i ≡ true) (accesses_in a) (accesses_in b) h.1 in
           let one = projected_row a parts.0 in
           let two = projected_row b parts.1 in
-          reach_sound site.0 _ _ (rw (if_sound site cond (project_in p plan s a) (project_in p plan s b) h.0 one two) refl) (branch_sound (assumed_in plan.assume site.0) _ _ one two)
+          reach_sound site.0 _ _ (rw (if_sound site cond (project_in p plan s a) (project_in p plan s b) h.0 one two) refl)
+          (branch_sound (assumed_in plan.assume site.0) _ _ one two)
       projected_sound (tree.While' site cond _ a) h = reach_sound site.0 _ [] (rw (while_sound site cond (project_in p plan s a) h.0 (projected_row a h.1)) refl) refl
       projected_sound (tree.Region' r site cond _ a) h = rw (if_sound site cond (project_in p plan s a) [] h.0 (projected_row a h.1) refl) refl
       projected_sound (tree.Call f line args) h = refl

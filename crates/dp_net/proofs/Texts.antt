@@ -46,7 +46,8 @@ module _ (m : Marks) where
     quiet_left t [] rest q = refl
     quiet_left t (x ∷ b) rest q =
         let both = and_parts (is_quiet p plan t x) (all_quiet p plan t b) q in
-        ap (λ (o : Option ℕ). behind_one o (b ++ rest) (behind_region (b ++ rest))) (quiet_number t (out-Stmt x) (sym (quiet_out p plan t x) ∙ both.0)) ∙ quiet_left t b rest both.1
+        ap (λ (o : Option ℕ). behind_one o (b ++ rest) (behind_region (b ++ rest))) (quiet_number t (out-Stmt x) (sym (quiet_out p plan t x) ∙ both.0))
+        ∙ quiet_left t b rest both.1
 
     leaf_number : (h : Stmt-F Stmt) → IsLeaf h → region_number h ≡ None
     leaf_number (Assign site x e) is = refl
@@ -87,6 +88,8 @@ module _ (m : Marks) where
 
     pub headed : (x : Stmt) (rest : List Stmt) → Text (x ∷ rest) → Headed x rest
     headed x rest (leaf plain is s) = alone plain (λ z. leaf_text x (out-Stmt x) z is s)
-    headed x rest (choice {a = a} {b = b} plain is u v s) = alone plain (λ z. subst (λ (h : Stmt-F Stmt). Text (followed x rest h z)) (sym is) (text_join (choose_text z u v) s))
-    headed x rest (loop {a = a} plain is u s) = alone plain (λ z. subst (λ (h : Stmt-F Stmt). Text (followed x rest h z)) (sym is) (choose_text z (text_join u (loop plain is u s)) s))
+    headed x rest (choice {a = a} {b = b} plain is u v s) = alone plain (λ z. subst (λ (h : Stmt-F Stmt). Text (followed x rest h z)) (sym is)
+        (text_join (choose_text z u v) s))
+    headed x rest (loop {a = a} plain is u s) = alone plain (λ z. subst (λ (h : Stmt-F Stmt). Text (followed x rest h z)) (sym is)
+        (choose_text z (text_join u (loop plain is u s)) s))
     headed x rest (block {b = b} {rest = more} at is s) = joined b more at is s

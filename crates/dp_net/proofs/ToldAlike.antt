@@ -40,10 +40,12 @@ module _ (p : Program) (plan : Plan) where
   seen_join s [] [] more_sites more e = refl
   seen_join s [] (f ∷ effects) more_sites more e = absurd (omega (arith, e))
   seen_join s (site ∷ sites) [] more_sites more e = absurd (omega (arith, e))
-  seen_join s (site ∷ sites) (f ∷ effects) more_sites more e = by (nat_le (stage_of p plan site) s) (seen_join s sites effects more_sites more (omega (arith, e)))
+  seen_join s (site ∷ sites) (f ∷ effects) more_sites more e = by (nat_le (stage_of p plan site) s)
+      (seen_join s sites effects more_sites more (omega (arith, e)))
     where
       by : (b : Bool) → seen_by p plan s (sites ++ more_sites) (effects ++ more) ≡ seen_by p plan s sites effects ++ seen_by p plan s more_sites more →
-          (if b then f ∷ seen_by p plan s (sites ++ more_sites) (effects ++ more) else seen_by p plan s (sites ++ more_sites) (effects ++ more)) ≡ (if b then f ∷ seen_by p plan s sites effects else seen_by p plan s sites effects) ++ seen_by p plan s more_sites more
+          (if b then f ∷ seen_by p plan s (sites ++ more_sites) (effects ++ more) else seen_by p plan s (sites ++ more_sites)
+          (effects ++ more)) ≡ (if b then f ∷ seen_by p plan s sites effects else seen_by p plan s sites effects) ++ seen_by p plan s more_sites more
       by true same = ap (λ es. f ∷ es) same
       by false same = same
 
@@ -122,7 +124,8 @@ pub record Told (p : Program) (plan : Plan) (m : Marks) (sites : List ℕ) (effe
   pub net_sized : length net_sites ≡ length net_effects
 
 -- it goes on with more of each
-pub told_more : (p : Program) (plan : Plan) (m : Marks) (sites : List ℕ) (effects : List Effect) (net_sites : List ℕ) (net_effects : List Effect) (steps : ℕ) (more_sites : List ℕ) (more : List Effect) (net_more_sites : List ℕ) (net_more : List Effect) (k : ℕ) →
+pub told_more : (p : Program) (plan : Plan) (m : Marks) (sites : List ℕ) (effects : List Effect) (net_sites : List ℕ) (net_effects : List Effect)
+    (steps : ℕ) (more_sites : List ℕ) (more : List Effect) (net_more_sites : List ℕ) (net_more : List Effect) (k : ℕ) →
     Told p plan m sites effects net_sites net_effects steps → Told p plan m more_sites more net_more_sites net_more k →
     Told p plan m (sites ++ more_sites) (effects ++ more) (net_sites ++ net_more_sites) (net_effects ++ net_more) (steps + k)
 told_more p plan m sites effects net_sites net_effects steps more_sites more net_more_sites net_more k t u = record {
@@ -150,7 +153,8 @@ told_one p plan m site effect = record { steps_are = refl; prints = refl; lasts 
 -- a block
 pub told_block : (p : Program) (plan : Plan) (m : Marks) (f : ℕ) (events : List Event) → (stage_of p plan f ≡ last plan → ⊥) →
     Each (λ (e : Event). (stage_of p plan e.site ≡ stage_of p plan f) × (printed_by e.effect ≡ None)) events →
-    Told p plan m (sites_of events) (effects_of events) (sites_for f (net_of (m.hides (stage_of p plan f)) (effects_of events))) (net_of (m.hides (stage_of p plan f)) (effects_of events)) (length events)
+    Told p plan m (sites_of events) (effects_of events) (sites_for f (net_of (m.hides (stage_of p plan f)) (effects_of events)))
+    (net_of (m.hides (stage_of p plan f)) (effects_of events)) (length events)
 told_block p plan m f events early all = record {
   steps_are = effects_size events;
   prints = no_prints p plan (stage_of p plan f) events all ∙ sym (silent (m.hides (stage_of p plan f)) (effects_of events));

@@ -123,8 +123,3 @@ abbrev pub BatchesEnd : Program → Plan → Type 0
 BatchesEnd p plan = (key : EpochKey) → key.program ≡ p → key.plan ≡ plan → (pays : List Stmt → Bool) (n : ℕ) → GoesOnTo key n →
     ends_batch (net_passed (marks_of p plan pays) (epoch_of key) (length plan.stages) n).packet ≡ true →
     goes_on (net_verdict_at (marks_of p plan pays) key n) ≡ false
-
--- A packet that doesn't go on for a stage doesn't for the next one: so a later stage's batch has no more packets than an earlier one's.
-abbrev pub EndsStay : Type 0
-EndsStay = (m : Marks) (key : EpochKey) (s n : ℕ) → ends_batch (net_passed m (epoch_of key) s n).packet ≡ true →
-    ends_batch (net_passed m (epoch_of key) (suc s) n).packet ≡ true

@@ -3,7 +3,9 @@
 ghost use Rattle.std.specs.Prelude.{◌≡◌, true};
 ghost use Rattle.dp_tree.specs.Inlined.{IsInlined};
 ghost use Rattle.dp_semantics.specs.Fits.{fits_plan};
-ghost use Rattle.dp_net.specs.Batches.{BatchesAreRight, BatchesEnd, EndsStay};
+ghost use Rattle.dp_net.specs.Batches.{BatchesAreRight, BatchesEnd};
+ghost use Rattle.dp_net.specs.BatchItems.{BatchesAreWhole, EndsStay, NextHasSome};
+ghost use Rattle.dp_net.specs.BatchMeaning.{BatchesMean};
 ghost use Rattle.dp_net.specs.Follows.{ItemsFollow, TextsNest};
 ghost use Rattle.dp_net.specs.NetVerdicts.{NetIsRight};
 
@@ -32,5 +34,13 @@ pub fn batch_verdicts_are_the_definitions(p: &Program, plan: &Plan)
     requires fits { fits_plan p.now plan.now ≡ true }
     ensures right { BatchesAreRight p.now plan.now }
     ensures ends { BatchesEnd p.now plan.now }
+{}
+
+/// Batches follow each other without a gap: a later stage's batch has no more packets than an earlier one's, one that goes on has all of its iterations,
+/// the next one has an iteration, and behind a batch that goes on all verdicts do.
+pub fn batches_follow_each_other()
     ensures stay { EndsStay }
+    ensures whole { BatchesAreWhole }
+    ensures next { NextHasSome }
+    ensures mean { BatchesMean }
 {}

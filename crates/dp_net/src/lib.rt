@@ -7,5 +7,6 @@
 mod law;
 
 pub use law::{
-    batch_verdicts_are_the_definitions, net_items_follow_the_text, net_verdicts_are_the_definitions,
+    batch_verdicts_are_the_definitions, batches_follow_each_other, net_items_follow_the_text,
+    net_verdicts_are_the_definitions,
 };

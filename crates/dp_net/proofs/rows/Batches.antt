@@ -7,6 +7,7 @@ use Rattle.dp_tree.specs.Numbering.{numbers_from}
 use Rattle.dp_plan.specs.declared.Plan.{Plan}
 use Rattle.dp_semantics.specs.EpochKey.{EpochKey}
 use Rattle.dp_semantics.specs.EpochVerdicts.{Carried, Commit, Again}
+use Rattle.dp_net.specs.BatchItems.{spends_fuel}
 use Rattle.dp_net.specs.Batches.{up_to, batch_begin, batch_size, together, BatchGoesOn, BatchCloses, BatchRecovers}
 
 module _ (p : Program) (plan : Plan) (cause : ReportedCause) where
@@ -24,6 +25,10 @@ module _ (p : Program) (plan : Plan) (cause : ReportedCause) where
   -- the iterations 3 to 12, of which the last has the fuel's number
   sizes : map (batch_size (epoch 3 12) 64) (numbers_from 0 7) ≡ 1 ∷ 1 ∷ 2 ∷ 4 ∷ 2 ∷ 0 ∷ 0 ∷ []
   sizes = refl
+
+  -- so the fifth batch is the last one
+  spent : map (spends_fuel (epoch 3 12) 64) (numbers_from 0 5) ≡ false ∷ false ∷ false ∷ false ∷ true ∷ []
+  spent = refl
 
   last_one : up_to (λ (n : ℕ). n == 2) (1 ∷ 2 ∷ 3 ∷ []) ≡ 1 ∷ 2 ∷ []
   last_one = refl

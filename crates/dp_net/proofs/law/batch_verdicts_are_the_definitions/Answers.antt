@@ -1,4 +1,4 @@
-use Rattle.dp_net.proofs.Assembled.{batches_right, batches_end, ends_stay_so}
+use Rattle.dp_net.proofs.Assembled.{batches_right, batches_end}
 use Rattle.dp_net.proofs.law.batch_verdicts_are_the_definitions.Goals as goal
 
 pub returns-clause-right : goal.returns-clause-right
@@ -6,6 +6,3 @@ returns-clause-right c = batches_right c.args.p.now c.args.plan.now c.requires.i
 
 pub returns-clause-ends : goal.returns-clause-ends
 returns-clause-ends c = batches_end c.args.p.now c.args.plan.now c.requires.inlined c.requires.fits
-
-pub returns-clause-stay : goal.returns-clause-stay
-returns-clause-stay c = ends_stay_so
