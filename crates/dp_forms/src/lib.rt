@@ -1,0 +1,25 @@
+//! The forms of native code. A program is a type that is composed of them, and its code is what the compiler makes of that type.
+//! Each form is proved once, whatever it is composed of.
+#![tactic(auto)]
+
+mod arithmetic;
+mod choices;
+mod composed;
+mod home;
+mod memory;
+mod operands;
+mod operators;
+mod sequence;
+mod state;
+mod statements;
+mod values;
+
+pub use arithmetic::{Binary, Operator, Prefix, Unary};
+pub use choices::{And, If, Or, While};
+pub use composed::Composed;
+pub use operands::{Element, InputLen, Number, Scalar, Word};
+pub use operators::{Add, Div, Eq, Ge, Gt, Le, Lt, Mul, Ne, Neg, Not, Rem, Sub};
+pub use sequence::{Nothing, Other, Then};
+pub use state::State;
+pub use statements::{Code, Put, Say, Set};
+pub use values::Value;
