@@ -42,6 +42,14 @@ def sources_sum():
     return sum_of(version, *(bytes(path.relative_to(TOP)) + b"\\0" + path.read_bytes() for path in sources()))
 
 
+def copy_crates(place):
+    """The crates with what is proved of them: as links, where the folder is on the same disk."""
+    crates = [str(TOP / "crates"), str(place / "crates")]
+    if subprocess.run(["cp", "-al", *crates], stderr=subprocess.DEVNULL).returncode:
+        shutil.rmtree(place / "crates", ignore_errors=True)
+        subprocess.run(["cp", "-a", *crates], check=True)
+
+
 def workspace(key):
     """A copy of the repository's crates with what is proved of them, shared by all programs that are built over it."""
     place = cache_folder() / ("crates-" + key)
@@ -50,7 +58,7 @@ def workspace(key):
         fresh.mkdir(parents=True)
         for name in ("crates.txt", "HANDLES"):
             shutil.copy(TOP / name, fresh / name)
-        subprocess.run(["cp", "-al", str(TOP / "crates"), str(fresh / "crates")], check=True)
+        copy_crates(fresh)
         fresh.rename(place)
     return place
 
