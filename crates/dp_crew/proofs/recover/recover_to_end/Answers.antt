@@ -26,7 +26,7 @@ calls-preserved g c =
         remade_going _ _ f.0 f.1 _ s.0 (subst (λ (end : IterEnd). Remade c.calls.ledger.committed c.go_on.new.ledger.committed s.0 end) c.in-Going.is s.1),
         emits_both _ f.0 _ s.0 _ _ f.2 _ _ s.2,
       );
-      account = kept_both _ _ _ c.calls.invariant.account c.in_ok-go_on.ensures.account;
+      account = kept_both c.args.ledger.now.account c.calls.ledger.account c.go_on.new.ledger.account c.calls.invariant.account c.in_ok-go_on.ensures.account;
       heard = hears_on_join _ _ _ _ _ _ (remade_more _ _ _ _ s.1) c.calls.invariant.heard c.in_ok-go_on.ensures.heard;
       faults = c.in_ok-go_on.ensures.faults ∙ c.calls.invariant.faults;
     }
@@ -60,25 +60,25 @@ returns-in-Fuel-clause-ok g c =
     (f.0 ++ s.0, remade _ _ f.0 f.1 _ s.0 iter_end.Fuel (subst (λ (end : IterEnd). Remade c.calls.ledger.committed c.go_on.new.ledger.committed s.0 end) c.in-Fuel.is s.1), emits_both _ f.0 _ s.0 _ _ f.2 _ _ s.2)
 
 pub returns-in-Next-clause-account : goal.returns-in-Next-clause-account
-returns-in-Next-clause-account g c = kept_both _ _ _ c.calls.invariant.account c.in_ok-go_on.ensures.account
+returns-in-Next-clause-account g c = kept_both c.args.ledger.now.account c.calls.ledger.account c.go_on.new.ledger.account c.calls.invariant.account c.in_ok-go_on.ensures.account
 
 pub returns-in-Next-clause-heard : goal.returns-in-Next-clause-heard
 returns-in-Next-clause-heard g c = hears_on_join _ _ _ _ _ _ (remade_more _ _ _ _ c.in_ok-go_on.ensures.ok.1) c.calls.invariant.heard c.in_ok-go_on.ensures.heard
 
 pub returns-in-Closed-clause-account : goal.returns-in-Closed-clause-account
-returns-in-Closed-clause-account g c = kept_both _ _ _ c.calls.invariant.account c.in_ok-go_on.ensures.account
+returns-in-Closed-clause-account g c = kept_both c.args.ledger.now.account c.calls.ledger.account c.go_on.new.ledger.account c.calls.invariant.account c.in_ok-go_on.ensures.account
 
 pub returns-in-Closed-clause-heard : goal.returns-in-Closed-clause-heard
 returns-in-Closed-clause-heard g c = hears_on_join _ _ _ _ _ _ (remade_more _ _ _ _ c.in_ok-go_on.ensures.ok.1) c.calls.invariant.heard c.in_ok-go_on.ensures.heard
 
 pub returns-in-Fault-clause-account : goal.returns-in-Fault-clause-account
-returns-in-Fault-clause-account g c = kept_both _ _ _ c.calls.invariant.account c.in_ok-go_on.ensures.account
+returns-in-Fault-clause-account g c = kept_both c.args.ledger.now.account c.calls.ledger.account c.go_on.new.ledger.account c.calls.invariant.account c.in_ok-go_on.ensures.account
 
 pub returns-in-Fault-clause-heard : goal.returns-in-Fault-clause-heard
 returns-in-Fault-clause-heard g c = hears_on_join _ _ _ _ _ _ (remade_more _ _ _ _ c.in_ok-go_on.ensures.ok.1) c.calls.invariant.heard c.in_ok-go_on.ensures.heard
 
 pub returns-in-Fuel-clause-account : goal.returns-in-Fuel-clause-account
-returns-in-Fuel-clause-account g c = kept_both _ _ _ c.calls.invariant.account c.in_ok-go_on.ensures.account
+returns-in-Fuel-clause-account g c = kept_both c.args.ledger.now.account c.calls.ledger.account c.go_on.new.ledger.account c.calls.invariant.account c.in_ok-go_on.ensures.account
 
 pub returns-in-Fuel-clause-heard : goal.returns-in-Fuel-clause-heard
 returns-in-Fuel-clause-heard g c = hears_on_join _ _ _ _ _ _ (remade_more _ _ _ _ c.in_ok-go_on.ensures.ok.1) c.calls.invariant.heard c.in_ok-go_on.ensures.heard
