@@ -1,7 +1,6 @@
 //! What is told of a region while its iterations are counted.
-ghost use Rattle.std.specs.Prelude.{◌≡◌, ◌<◌, ◌-◌, ◌^◌, [], true, length, is_some, IfOk, OnErr, OnOk};
+ghost use Rattle.std.specs.Prelude.{◌≡◌, ◌<◌, ◌-◌, ◌^◌, true, length, is_some, IfOk, OnErr, OnOk};
 ghost use Rattle.std.specs.Option.{option_map};
-ghost use Rattle.dp_view.specs.Viewed.{begun};
 ghost use Rattle.dp_prepared.specs.Planned.{IsPlanned};
 ghost use Rattle.dp_epoch.specs.Accounts.{CountsAgain, begun_account, seen_again, seen_clean};
 
