@@ -1,5 +1,5 @@
 -- The region's next iteration comes, with what is reported by then.
-use Rattle.std.proofs.Common.{◌≡◌, ap, ◌∙◌, ℕ, ◌+◌, Option, List, ℤ}
+use Rattle.std.proofs.Common.{ap, ◌∙◌, ℕ, ◌+◌, Option, List, ℤ}
 use Rattle.dp_epoch.specs.declared.account.Account.{Account}
 use Rattle.dp_plan.specs.declared.Plan.{Plan}
 use Rattle.dp_meaning.specs.declared.ends.IterEnd.TheVariants as iter_end

@@ -1,7 +1,5 @@
 -- Steps that the stages see one by one.
-use Rattle.std.proofs.Common.{◌≡◌, refl, sym, ap, ◌∙◌, subst, arith, ℕ, ◌+◌, ◌<◌, ◌≤◌, List, [], ◌++◌, ℤ, Option, Some, None}
-use Rattle.dp_base.specs.declared.Fault.{Fault}
-use Rattle.dp_tree.specs.Step.{Event}
+use Rattle.std.proofs.Common.{◌≡◌, refl, sym, ap, ◌∙◌, subst, arith, ℕ, ◌<◌, ◌≤◌, List, ℤ, Option, Some, None}
 use Rattle.dp_meaning.specs.MachineState.{MachineState}
 use Rattle.dp_meaning.specs.Watched.{WatchedStep}
 use Rattle.dp_meaning.specs.declared.sight.Sight.{Sight}
@@ -22,8 +20,10 @@ hears_none m n v w same still until events later comes within =
 
 -- one
 pub hears_step : (m n : MachineState) (seen : Sight) (cells : List ℕ) (v w : Viewed) → WatchedStep seen cells m n → w ≡ after_sight seen cells v → Hears m n v w
-hears_step m n (sight.Step site effect) cells v w step is until events later comes within =
-    let next = follows_step m n until v w site effect cells step (omega (arith, step.steps, within)) is events later comes in (next.0, next.1, next.2)
+hears_step m n (sight.Step site effect) cells v w step is = λ until events later comes within.
+    (let made = step.steps in
+    let less : m.steps < until = omega (arith, made, within) in
+    follows_step m n until v w site effect cells step less is events later comes)
 hears_step m n sight.Finished cells v w step is = hears_none m n v w step.same is
 hears_step m n sight.Fuel cells v w step is = hears_none m n v w step.same is
 hears_step m n (sight.Fault fault) cells v w step is = hears_none m n v w step.same is

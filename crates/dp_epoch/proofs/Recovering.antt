@@ -1,26 +1,23 @@
--- The iteration that broke an epoch, executed again; and the region's first epoch.
-use Rattle.std.proofs.Common.{◌≡◌, ◌⊎◌, inl, inr, refl, sym, ap, ◌∙◌, subst, append_assoc, ℕ, suc, ◌+◌, ◌-◌, ◌<◌, ◌≤◌, Bool, true, false, cond, if◌then◌else◌, List, [], ◌∷◌, ◌++◌, length, length-append, take, drop, nat_lt, lt-ltb, le-ltb, Option, Some, None, slice_get, ℤ, arith}
+-- The iteration that broke an epoch, executed again.
+use Rattle.std.proofs.Common.{◌≡◌, ◌⊎◌, inl, inr, refl, sym, ap, ◌∙◌, subst, append_assoc, ℕ, suc, ◌+◌, ◌<◌, ◌≤◌, Bool, true, false, cond, if◌then◌else◌, List, [], ◌∷◌, ◌++◌, length, length-append, take, drop, nat_lt, lt-ltb, le-ltb, Option, Some, None, ℤ, arith}
 use Rattle.std.proofs.lemmas.Bool.{cases_lt, not-true}
 use Rattle.std.specs.Option.{option_map}
 use Rattle.std.proofs.lemmas.List.{append-nil, length-take}
-use Rattle.std.proofs.lemmas.List.Elements.{All-nil}
 use Rattle.std.proofs.Math.Seq.{drop-append_seam}
 use Rattle.dp_base.specs.declared.RegionReport.{RegionReport}
 use Rattle.dp_epoch.specs.declared.account.Account.{Account}
 use Rattle.dp_base.specs.declared.End.TheVariants as how
 use Rattle.dp_plan.specs.declared.Plan.{Plan}
-use Rattle.dp_tree.specs.Step.{Config, Event}
+use Rattle.dp_tree.specs.Step.{Event}
 use Rattle.dp_tree.specs.Trace.{Run, prints}
-use Rattle.dp_tree.specs.Iteration.{begun_count, start, places, stands_at_head, memory_from, cells_in}
+use Rattle.dp_tree.specs.Iteration.{begun_count}
 use Rattle.dp_tree.specs.IterationLaws.{events_of_first}
 use Rattle.dp_semantics.specs.Clean.{is_clean}
 use Rattle.dp_semantics.specs.Recovery.{epoch, is_recovered}
 use Rattle.dp_semantics.specs.Reported.{report_of}
 use Rattle.dp_meaning.specs.declared.ends.IterEnd.TheVariants as iter_end
-use Rattle.dp_meaning.specs.MachineState.{MachineState, fuel_left, rest_of_run, part_at}
-use Rattle.dp_commit.specs.CommittedState.{CommittedState, IsInside, region_run, steps_of_first}
-use Rattle.dp_commit.proofs.Parts.{run_begins}
-use Rattle.dp_meaning.proofs.NextLemmas.{on_region}
+use Rattle.dp_meaning.specs.MachineState.{MachineState, fuel_left, rest_of_run}
+use Rattle.dp_commit.specs.CommittedState.{CommittedState, region_run, steps_of_first}
 use Rattle.dp_epoch.specs.declared.ends.RegionEnd.{RegionEnd}
 use Rattle.dp_epoch.specs.declared.ends.RegionEnd.TheVariants as region_end
 use Rattle.dp_epoch.specs.Applied.{left_of}
@@ -28,7 +25,7 @@ use Rattle.dp_epoch.specs.Prints.{prints_from}
 use Rattle.dp_view.specs.Following.{KeptBefore}
 use Rattle.dp_view.specs.Viewed.{Viewed}
 use Rattle.dp_epoch.specs.Accounts.{CountsAgain, Explains, HearsOn, Reports, cause_told, run_end, seen_again, told_when, views_left}
-use Rattle.dp_epoch.specs.Progress.{Progress, RegionBegins, RegionDone, Watching, again_before, cause_of, report_before}
+use Rattle.dp_epoch.specs.Progress.{Progress, RegionDone, Watching, again_before, cause_of, report_before}
 use Rattle.dp_epoch.specs.InEpoch.{AfterRecovery, AtEpoch}
 use Rattle.dp_epoch.specs.Remade.{Remade, MayPrint, nothing, some, iteration_end}
 use Rattle.dp_epoch.proofs.Counting.{again_more, told_begun as told_iterated, told_count, told_listed}
@@ -231,32 +228,3 @@ module _ (plan : Plan) (first : MachineState) (c : CommittedState) (account : Ac
       let made = s.call.stops.some g.is_open.between in
       omega (arith, made, s.call.moved.run.fuel, rest_fuel c.machine, rest_fuel new.machine)
   recovered_left new printed (Some end) s e = absurd (cc)
-
--- nothing is committed yet
-pub region_starts : (plan : Plan) (first : MachineState) → RegionBegins plan first → (account : Account) → Reports account (report_before plan first 0) → Watching plan first 0 account.why account.views → AtEpoch plan first (record { machine = first; region = plan.region; count = 0 }) account
-region_starts plan first s account is watching =
-    let begins = run_begins first.program first.input (fuel_left first) first.config in
-    let there : stands_at_head plan.region first.config ≡ true = on_region plan.region first.config (sym (ap (λ k. part_at k first.config.to_do) s.between) ∙ s.next) in
-    let starts_at : start (region_run first) plan.region 0 ≡ Some 0 = ap (λ (cs : List Config). slice_get (places (stands_at_head plan.region) 0 cs) 0) begins.1 ∙ (rw there) in
-    record {
-      progress = record {
-        start = s;
-        region = refl;
-        is_open = record { next = s.next; between = s.between; sound = s.sound };
-        holds = record {
-          memory = sym (ap (λ (o : Option ℕ). memory_from (region_run first) o (start (region_run first) plan.region (0 - 1))) starts_at ∙ ap (λ (cs : List Config). cells_in (slice_get cs 0)) begins.1);
-          steps = omega arith;
-          configs = [];
-          piece = record { trace = refl; configs = refl; end = refl; fuel = omega arith; paired = refl };
-          inside = All-nil (IsInside plan.region);
-          reached = starts_at ∙ (rw there);
-          program = refl;
-          input = refl;
-          fuel = refl;
-        };
-        left = refl;
-        report_is = is;
-        views_are = watching;
-      };
-      fresh = refl;
-    }

@@ -1,5 +1,5 @@
 -- A region from its start to its end: where it begins, and what its end says of the machine and the report.
-use Rattle.std.proofs.Common.{◌≡◌, refl, sym, ap, ◌∙◌, subst, arith, ℕ, ◌-◌, Bool, true, false, List, [], Option, Some, ℤ, slice_get}
+use Rattle.std.proofs.Common.{◌≡◌, refl, sym, ap, ◌∙◌, subst, arith, ℕ, ◌-◌, Bool, true, false, List, Option, Some, ℤ, slice_get}
 use Rattle.dp_epoch.specs.declared.account.Account.{Account}
 use Rattle.dp_tree.specs.declared.Program.{Program}
 use Rattle.dp_tree.specs.Step.{Config}
@@ -18,8 +18,7 @@ use Rattle.dp_epoch.specs.RegionRun.{IsPlanned, RegionRan, RegionStart}
 use Rattle.dp_epoch.specs.Accounts.{Reports, begun_account, told_when, views_when}
 use Rattle.dp_epoch.specs.Progress.{RegionBegins, RegionDone, Watching, report_before}
 use Rattle.dp_epoch.specs.InEpoch.{AtEpoch, ToBegin}
-use Rattle.dp_epoch.proofs.Recovering.{region_starts}
-use Rattle.dp_epoch.proofs.Starting.{begins_there}
+use Rattle.dp_epoch.proofs.Starting.{begins_there, region_starts}
 
 -- what is told and kept where the region begins
 begun_report : (p : Program) (plan : Plan) (first : MachineState) (why : Bool) → Reports (begun_account p plan first.config.cells why) (report_before plan first 0)

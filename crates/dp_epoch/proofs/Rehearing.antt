@@ -1,14 +1,13 @@
 -- The events of an iteration that is executed again, as the stages see them.
-use Rattle.std.proofs.Common.{◌≡◌, ◌⊎◌, inl, inr, refl, sym, ap, ◌∙◌, subst, ℕ, suc, ◌+◌, ◌≤◌, Bool, true, false, ◌||◌, is_some, length, List, [], ◌∷◌, ℤ, Option, Some, None, arith}
-use Rattle.dp_base.specs.declared.End.{End}
+use Rattle.std.proofs.Common.{◌≡◌, ◌⊎◌, inl, inr, refl, sym, ap, ◌∙◌, subst, ℕ, suc, ◌+◌, Bool, true, false, ◌||◌, is_some, length, List, [], ◌∷◌, ℤ, Option, Some, None, arith}
 use Rattle.dp_base.specs.declared.End.TheVariants as how
 use Rattle.dp_tree.specs.Step.{Event}
 use Rattle.dp_tree.specs.Trace.{Run}
-use Rattle.dp_tree.specs.Iteration.{closes, has_ended, is_closing, iteration, stands_at_head, start}
+use Rattle.dp_tree.specs.Iteration.{closes, has_ended, is_closing, iteration, start}
 use Rattle.dp_plan.specs.declared.Plan.{Plan}
 use Rattle.dp_semantics.specs.Recovery.{epoch}
 use Rattle.dp_meaning.specs.declared.ends.IterEnd.TheVariants as iter_end
-use Rattle.dp_meaning.specs.IterationRun.{IterationRun, has_closed}
+use Rattle.dp_meaning.specs.IterationRun.{has_closed}
 use Rattle.dp_meaning.specs.MachineState.{MachineState, fuel_left, rest_of_run}
 use Rattle.dp_meaning.proofs.NextLemmas.{on_region}
 use Rattle.dp_commit.specs.CommittedState.{CommittedState, region_run, steps_of_first}

@@ -1,6 +1,6 @@
 -- What the stages see where the next iteration begins, and the cause of one that is executed again.
-use Rattle.std.proofs.Common.{◌≡◌, ◌⊎◌, inl, inr, refl, sym, ap, ◌∙◌, subst, ℕ, suc, ◌+◌, Bool, true, false, not, ◌&&◌, if◌then◌else◌, is_none, is_some, List, [], ◌∷◌, filter_map, map, zip, Option, Some, None, arith}
-use Rattle.std.proofs.lemmas.Bool.{and_parts, not-true}
+use Rattle.std.proofs.Common.{◌≡◌, ◌⊎◌, inl, inr, refl, sym, ap, ◌∙◌, subst, ℕ, suc, Bool, true, false, ◌&&◌, if◌then◌else◌, is_none, is_some, List, [], ◌∷◌, map, Option, Some, None}
+use Rattle.std.proofs.lemmas.Bool.{not-true}
 use Rattle.dp_base.specs.declared.Cause.{Cause}
 use Rattle.dp_base.specs.declared.End.{End}
 use Rattle.dp_tree.specs.Event as event

@@ -1,13 +1,12 @@
 //! What is told of a region while its iterations are counted.
-ghost use Rattle.std.specs.Prelude.{◌≡◌, ◌<◌, ◌-◌, ◌^◌, [], true, length, is_some, IfOk, OnErr, OnOk};
+ghost use Rattle.std.specs.Prelude.{◌≡◌, ◌<◌, ◌-◌, ◌^◌, true, length, is_some, IfOk, OnErr, OnOk};
 ghost use Rattle.std.specs.Option.{option_map};
-ghost use Rattle.dp_view.specs.Viewed.{begun};
 ghost use Rattle.dp_prepared.specs.Planned.{IsPlanned};
-ghost use Rattle.dp_epoch.specs.Accounts.{CountsAgain, begun_account, seen_clean};
+ghost use Rattle.dp_epoch.specs.Accounts.{CountsAgain, begun_account, seen_again, seen_clean};
 
 use crate::ends::RegionEnd;
 use crate::report::{LISTED, count_recovered, nothing_counted};
-use crate::seeing::{cause_of, see_again, see_clean, views_for};
+use crate::seeing::{cause_of, views_for};
 use dp_base::{Boxed, Cells, NoMemory, RegionReport};
 use dp_judge::Clean;
 use dp_plan::Plan;
@@ -67,9 +66,16 @@ impl<'v> Account<'v> {
         ensures ok { OnOk result (self.new ≡ record self.old { views = option_map (seen_clean clean.now) self.old.views }) }
         ensures wanting { OnErr result (is_some self.old.views ≡ true) }
     {
-        let views = see_clean(self.views.take(), clean)?;
-        self.views = views;
-        Ok(())
+        match &mut self.views {
+            None => Ok(()),
+            Some(boxed) => {
+                let views = boxed.get_mut();
+                views.store_all(clean.stores(), clean.stages())?;
+                views.settle();
+                views.go_on();
+                Ok(())
+            }
+        }
     }
 
     /// Counts an iteration that was executed again, and whose re-execution ended so. Behind it a new epoch begins; where no
@@ -86,10 +92,25 @@ impl<'v> Account<'v> {
     {
         let cause = cause_of(&self.views, end);
         count_recovered(&mut self.report, number, cause)?;
-        let views = see_again(self.views.take());
         if self.report.recovered.len() < LISTED {
-            self.views = views;
+            self.begin_epoch();
+        } else {
+            self.views = None;
         }
         Ok(())
+    }
+
+    /// A new epoch begins behind an iteration that was executed again.
+    fn begin_epoch(&mut self)
+        ensures { self.new ≡ record self.old { views = option_map seen_again self.old.views } }
+    {
+        match &mut self.views {
+            None => {}
+            Some(boxed) => {
+                let views = boxed.get_mut();
+                views.settle();
+                views.begin_epoch();
+            }
+        }
     }
 }

@@ -81,13 +81,11 @@ impl<'p, 'v> Ledger<'p, 'v> {
         ensures account { OnOk result (self.new.account ≡ record self.old.account { views = self.new.account.views }) }
         ensures heard { OnOk result (HearsOn self.old.committed.machine self.new.committed.machine self.old.account.views self.new.account.views) }
     {
-        match self.account.views.take() {
+        match &mut self.account.views {
             None => self.committed.recover(turns, &mut self.waiting),
-            Some(mut boxed) => {
+            Some(boxed) => {
                 let (committed, waiting) = (&mut self.committed, &mut self.waiting);
-                let end = watch_steps(alloc, committed, boxed.get_mut(), turns, waiting)?;
-                self.account.views = Some(boxed);
-                Ok(end)
+                watch_steps(alloc, committed, boxed.get_mut(), turns, waiting)
             }
         }
     }

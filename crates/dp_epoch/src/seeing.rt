@@ -1,16 +1,14 @@
 //! What the stages of a region see, where causes are asked for.
-ghost use Rattle.std.specs.Prelude.{◌≡◌, true, is_some, IfOk, OnErr};
-ghost use Rattle.std.specs.Option.{option_map};
+ghost use Rattle.std.specs.Prelude.{◌≡◌, true, IfOk, OnErr};
 ghost use Rattle.dp_semantics.specs.Cause as why_not;
 ghost use Rattle.dp_semantics.specs.Reported.{reported};
 ghost use Rattle.dp_view.specs.Following.{found_or_end};
 ghost use Rattle.dp_view.specs.Viewed.{begun};
 ghost use Rattle.dp_prepared.specs.Planned.{IsPlanned};
-ghost use Rattle.dp_epoch.specs.Accounts.{cause_told, run_end, seen_again, seen_clean, views_when};
+ghost use Rattle.dp_epoch.specs.Accounts.{cause_told, run_end, views_when};
 
 use crate::ends::RegionEnd;
 use dp_base::{Boxed, Cause, Cells, NoMemory};
-use dp_judge::Clean;
 use dp_plan::Plan;
 use dp_tree::Program;
 use dp_view::Views;
@@ -34,41 +32,6 @@ pub(crate) fn views_for<'v>(
     let views = Views::begin(alloc, program, plan, cells)?;
     let boxed = Boxed::new(alloc, views)?;
     Ok(Some(boxed))
-}
-
-/// What they see where the iteration behind a clean one begins.
-pub(crate) fn see_clean<'v>(
-    views: Option<Boxed<Views<'v>>>,
-    clean: &Clean,
-) -> Result<Option<Boxed<Views<'v>>>, NoMemory>
-    ensures views { IfOk result (λ after. after ≡ option_map (seen_clean clean.now) views.entry) }
-    ensures wanting { OnErr result (is_some views.entry ≡ true) }
-{
-    match views {
-        None => Ok(None),
-        Some(mut boxed) => {
-            let views = boxed.get_mut();
-            views.store_all(clean.stores(), clean.stages())?;
-            views.settle();
-            views.go_on();
-            Ok(Some(boxed))
-        }
-    }
-}
-
-/// What they see where a new epoch begins behind an iteration that was executed again.
-pub(crate) fn see_again<'v>(views: Option<Boxed<Views<'v>>>) -> Option<Boxed<Views<'v>>>
-    ensures { result ≡ option_map seen_again views.entry }
-{
-    match views {
-        None => None,
-        Some(mut boxed) => {
-            let views = boxed.get_mut();
-            views.settle();
-            views.begin_epoch();
-            Some(boxed)
-        }
-    }
 }
 
 /// Why an iteration was executed again whose re-execution ended so, if what they see is kept.

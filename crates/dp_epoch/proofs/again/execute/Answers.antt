@@ -10,7 +10,7 @@ use Rattle.dp_epoch.proofs.again.execute.Goals as goal
 
 pub calls-init : goal.calls-init
 calls-init c = record {
-  so_far = ([], record { now_at = c.requires; made = inl (refl, refl) }, sym (append-nil c.args.ledger.now.waiting));
+  so_far = ([], record { now_at = c.requires.next; made = inl (refl, refl) }, sym (append-nil c.args.ledger.now.waiting));
   account = refl;
   heard = hears_on_none c.args.ledger.now.committed.machine c.args.ledger.now.account.views;
 }
@@ -22,7 +22,7 @@ calls-preserved c =
     let s : Remade c.calls.ledger.committed c.recover.new.self.committed q.0 iter_end.Going = subst (λ (end : IterEnd). Remade c.calls.ledger.committed c.recover.new.self.committed q.0 end) c.in-Going.is q.1 in
     record {
       so_far = (f.0 ++ q.0, remade_going _ _ f.0 f.1 _ q.0 s, waits c.args.ledger.now.waiting f.0 c.calls.ledger.waiting q.0 c.recover.new.self.waiting f.2 q.2);
-      account = kept_both _ _ _ c.calls.invariant.account c.in_ok-recover.ensures.account;
+      account = kept_both c.args.ledger.now.account c.calls.ledger.account c.recover.new.self.account c.calls.invariant.account c.in_ok-recover.ensures.account;
       heard = hears_on_join _ _ _ _ _ _ (remade_more _ _ _ _ q.1) c.calls.invariant.heard c.in_ok-recover.ensures.heard;
     }
 
@@ -40,7 +40,7 @@ returns-in-Next-clause-ok c =
     (f.0 ++ q.0, remade _ _ f.0 f.1 _ q.0 iter_end.Next s, waits c.args.ledger.now.waiting f.0 c.calls.ledger.waiting q.0 c.recover.new.self.waiting f.2 q.2)
 
 pub returns-in-Next-clause-account : goal.returns-in-Next-clause-account
-returns-in-Next-clause-account c = kept_both _ _ _ c.calls.invariant.account c.in_ok-recover.ensures.account
+returns-in-Next-clause-account c = kept_both c.args.ledger.now.account c.calls.ledger.account c.recover.new.self.account c.calls.invariant.account c.in_ok-recover.ensures.account
 
 pub returns-in-Next-clause-heard : goal.returns-in-Next-clause-heard
 returns-in-Next-clause-heard c =
@@ -54,7 +54,7 @@ returns-in-Closed-clause-ok c =
     (f.0 ++ q.0, remade _ _ f.0 f.1 _ q.0 iter_end.Closed s, waits c.args.ledger.now.waiting f.0 c.calls.ledger.waiting q.0 c.recover.new.self.waiting f.2 q.2)
 
 pub returns-in-Closed-clause-account : goal.returns-in-Closed-clause-account
-returns-in-Closed-clause-account c = kept_both _ _ _ c.calls.invariant.account c.in_ok-recover.ensures.account
+returns-in-Closed-clause-account c = kept_both c.args.ledger.now.account c.calls.ledger.account c.recover.new.self.account c.calls.invariant.account c.in_ok-recover.ensures.account
 
 pub returns-in-Closed-clause-heard : goal.returns-in-Closed-clause-heard
 returns-in-Closed-clause-heard c =
@@ -68,7 +68,7 @@ returns-in-Fault-clause-ok c =
     (f.0 ++ q.0, remade _ _ f.0 f.1 _ q.0 (iter_end.Fault c.in-Fault.fault) s, waits c.args.ledger.now.waiting f.0 c.calls.ledger.waiting q.0 c.recover.new.self.waiting f.2 q.2)
 
 pub returns-in-Fault-clause-account : goal.returns-in-Fault-clause-account
-returns-in-Fault-clause-account c = kept_both _ _ _ c.calls.invariant.account c.in_ok-recover.ensures.account
+returns-in-Fault-clause-account c = kept_both c.args.ledger.now.account c.calls.ledger.account c.recover.new.self.account c.calls.invariant.account c.in_ok-recover.ensures.account
 
 pub returns-in-Fault-clause-heard : goal.returns-in-Fault-clause-heard
 returns-in-Fault-clause-heard c =
@@ -82,7 +82,7 @@ returns-in-Fuel-clause-ok c =
     (f.0 ++ q.0, remade _ _ f.0 f.1 _ q.0 iter_end.Fuel s, waits c.args.ledger.now.waiting f.0 c.calls.ledger.waiting q.0 c.recover.new.self.waiting f.2 q.2)
 
 pub returns-in-Fuel-clause-account : goal.returns-in-Fuel-clause-account
-returns-in-Fuel-clause-account c = kept_both _ _ _ c.calls.invariant.account c.in_ok-recover.ensures.account
+returns-in-Fuel-clause-account c = kept_both c.args.ledger.now.account c.calls.ledger.account c.recover.new.self.account c.calls.invariant.account c.in_ok-recover.ensures.account
 
 pub returns-in-Fuel-clause-heard : goal.returns-in-Fuel-clause-heard
 returns-in-Fuel-clause-heard c =

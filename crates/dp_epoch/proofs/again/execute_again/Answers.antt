@@ -1,5 +1,5 @@
 -- The iteration is counted where it was begun.
-use Rattle.std.proofs.Common.{◌≡◌, ◌∙◌, sym, ap, refl, subst, ℕ, ◌+◌, ◌<◌, ◌≤◌, rules, arith}
+use Rattle.std.proofs.Common.{◌≡◌, ◌∙◌, sym, ap, subst, ◌<◌, ◌≤◌, List, ◌++◌, ℤ, rules, arith}
 use Rattle.dp_base.specs.declared.RegionReport.{RegionReport}
 use Rattle.dp_semantics.specs.Recovery.{is_recovered}
 use Rattle.dp_commit.specs.CommittedState.{region_run}
@@ -8,6 +8,7 @@ use Rattle.dp_epoch.specs.declared.ledger.Ledger.{Ledger}
 use Rattle.dp_epoch.specs.Applied.{left_of}
 use Rattle.dp_epoch.specs.InEpoch.{AfterRecovery, left_by_recovery}
 use Rattle.dp_epoch.specs.Prints.{to_come}
+use Rattle.dp_epoch.specs.Remade.{Remade, iteration_end}
 use Rattle.dp_epoch.proofs.Counting.{again_few, told_count}
 use Rattle.dp_epoch.proofs.Recovering.{CountedRecovered, counts_begun, counts_unbegun, recovered, recovered_left}
 use Rattle.dp_epoch.proofs.Reexecuted.{recovered_ahead}
@@ -36,6 +37,12 @@ returns-in_ok-count_again-clause-ok g c plan first u =
     subst (λ (x : Ledger). AfterRecovery plan first x.committed c.count_again.new.self.account c.in_ok-end.end) (sym c.in_ok-count_again.ensures.rest)
     (recovered plan first c.args.ledger.now.committed c.args.ledger.now.account u.progress u.again c.count_again.new.self.account c.execute.new.ledger.account.views c.execute.new.ledger.committed s.ok.0 c.in_ok-end.end s.ok.1 s.heard counted)
 
+pub returns-in_ok-count_again-clause-prints : goal.returns-in_ok-count_again-clause-prints
+returns-in_ok-count_again-clause-prints g c =
+    let s = c.in_ok-end.ensures.ok in
+    subst (λ (x : Ledger). (printed : List ℤ) × Remade c.args.ledger.now.committed x.committed printed (iteration_end c.in_ok-end.end) × (x.waiting ≡ c.args.ledger.now.waiting ++ printed)) (sym c.in_ok-count_again.ensures.rest)
+    (s.0, s.1, s.2)
+
 pub returns-in_ok-count_again-clause-ahead : goal.returns-in_ok-count_again-clause-ahead
 returns-in_ok-count_again-clause-ahead g c plan first u =
     let s = c.in_ok-end.ensures.ok in
@@ -48,6 +55,9 @@ returns-in_ok-count_again-clause-left g c none =
     let s = c.in_ok-end.ensures.ok in
     subst (λ (x : Ledger). left_of x.committed < left_of c.args.ledger.now.committed) (sym c.in_ok-count_again.ensures.rest)
     (recovered_left u.0 u.1 c.args.ledger.now.committed c.args.ledger.now.account u.2.progress c.execute.new.ledger.committed s.0 c.in_ok-end.end s.1 none)
+
+pub returns-in_ok-count_again-clause-why : goal.returns-in_ok-count_again-clause-why
+returns-in_ok-count_again-clause-why g c = c.in_ok-count_again.ensures.ok.why ∙ ap (λ (x : Account). x.why) c.in_ok-end.ensures.account
 
 pub returns-else-begun-clause-ok : goal.returns-else-begun-clause-ok
 returns-else-begun-clause-ok g c plan first u =
@@ -69,3 +79,6 @@ returns-else-begun-clause-left g c none =
     let u = c.requires.unclean in
     let s = c.in_ok-end.ensures.ok in
     recovered_left u.0 u.1 c.args.ledger.now.committed c.args.ledger.now.account u.2.progress c.execute.new.ledger.committed s.0 c.in_ok-end.end s.1 none
+
+pub returns-else-begun-clause-why : goal.returns-else-begun-clause-why
+returns-else-begun-clause-why g c = ap (λ (x : Account). x.why) c.in_ok-end.ensures.account

@@ -1,4 +1,4 @@
-use Rattle.std.proofs.Common.{sym, ap, ◌∙◌, arith}
+use Rattle.std.proofs.Common.{arith}
 use Rattle.dp_tree.specs.Trace.{prints}
 use Rattle.dp_epoch.proofs.HearingLemmas.{hears_step}
 use Rattle.dp_epoch.proofs.RemadeLemmas.{recovers_for}
