@@ -55,7 +55,7 @@ impl<'v> Account<'v> {
     }
 
     /// Whether the stages of the sites have to be told with a clean iteration's stores.
-    pub fn wants_stages(&self) -> bool
+    pub(crate) fn wants_stages(&self) -> bool
         ensures { result ≡ is_some self.now.views }
     {
         self.views.is_some()
