@@ -1,5 +1,5 @@
 -- The run after each prepared region.
-use Rattle.std.proofs.Common.{◌≡◌, sym, subst, ℕ, suc, ◌+◌, ◌<◌, List, [], ◌∷◌, ◌++◌, ℤ, length, slice_get, Option, Some, arith}
+use Rattle.std.proofs.Common.{◌≡◌, sym, subst, ℕ, suc, ◌+◌, ◌<◌, Bool, List, [], ◌∷◌, ◌++◌, ℤ, length, slice_get, Option, Some, arith}
 use Rattle.std.proofs.lemmas.List.{length-map}
 use Rattle.dp_base.specs.declared.End.{End}
 use Rattle.dp_base.specs.declared.RegionReport.{RegionReport}

@@ -1,5 +1,5 @@
 -- The whole run's text is written, or a front of it.
-use Rattle.std.proofs.Common.{◌≡◌, refl, sym, ap, ◌∙◌, subst, ℕ, ◌+◌, ◌-◌, ◌≤◌, Bool, false, List, [], ◌++◌, append-nil, length, take, drop, All, ℤ, Option, Some, None, arith}
+use Rattle.std.proofs.Common.{◌≡◌, refl, sym, ap, ◌∙◌, subst, ℕ, ◌+◌, ◌-◌, ◌≤◌, Bool, true, false, List, [], ◌++◌, append-nil, length, take, drop, All, ℤ, Option, Some, None, arith}
 use Rattle.std.proofs.lemmas.Grind.{flat_map-append}
 use Rattle.std.proofs.lemmas.List.{take-append-drop}
 use Rattle.dp_base.specs.declared.RegionReport.{RegionReport}
@@ -20,7 +20,7 @@ use Rattle.dp_run.specs.RunText.{source_run, region_reports, final_cells, closin
 use Rattle.dp_run.specs.Stretches.{Ahead, Behind, Counted, Over, Went, ended_by, to_come}
 use Rattle.dp_run.proofs.Counting.{all_next, as_many}
 use Rattle.dp_run.proofs.Leading.{behind_start, finished_next, over_done}
-use Rattle.dp_run.proofs.Ending.{IsListed, IsExplained, listed_in, explained_in, silent_in, none_in, reports_append, in_all_append, numbers_behind}
+use Rattle.dp_run.proofs.Ending.{IsListed, IsExplained, listed_in, explained_in, told_bytes, silent_in, none_in, reports_append, in_all_append, numbers_behind}
 use Rattle.dp_edge.proofs.FrontLemmas.{appended-append, front_behind, front_more}
 
 -- The run has ended behind the first of the plans' regions, whose reports are there.
