@@ -1,26 +1,15 @@
 -- One epoch, from where it begins to its end: the commit unit takes its verdicts.
-use Rattle.std.specs.Prelude.{◌≡◌, Bool, ℕ, ◌+◌, ◌-◌, ◌^◌, ◌<◌, ◌≤◌, List, Option, Result, IfOk}
+use Rattle.std.specs.Prelude.{◌≡◌, ℕ, ◌+◌, ◌≤◌, List, Option, Result, IfOk}
 use Rattle.dp_plan.specs.declared.Plan.{Plan}
-use Rattle.dp_semantics.specs.EpochKey.{EpochKey}
 use Rattle.dp_meaning.specs.MachineState.{MachineState}
 use Rattle.dp_epoch.specs.declared.ends.EpochEnd.{EpochEnd}
 use Rattle.dp_edge.specs.declared.writing.WriteFail.{WriteFail}
 use Rattle.dp_epoch.specs.declared.ledger.Ledger.{Ledger}
-use Rattle.dp_epoch.specs.Accounts.{TellsEnough}
 use Rattle.dp_epoch.specs.Applied.{HasRoom, left_of}
 use Rattle.dp_edge.specs.Writing.{FaultsAfter}
-use Rattle.dp_epoch.specs.InEpoch.{BeginsAt, EpochEnds, ToBegin, left_by_epoch}
+use Rattle.dp_epoch.specs.InEpoch.{EpochEnds, left_by_epoch}
 use Rattle.dp_epoch.specs.Prints.{to_come}
 use Rattle.dp_crew.specs.Output.{Streams}
-
--- An epoch with these verdicts begins behind the ledger, and one more fault and each verdict that is left can be counted.
-pub record MayBegin (key : EpochKey) (tells : Bool) (given : ℕ) (ledger : Ledger) (faults tally : ℕ) : Type 0 where
-  pub verdicts : BeginsAt key given ledger.committed
-  pub first : MachineState
-  pub begins : ToBegin key.program key.plan key.input first ledger.committed ledger.account
-  pub stages : TellsEnough tells ledger.account
-  pub countable : faults < 2 ^ 64 - 1
-  pub room : HasRoom tally ledger.committed
 
 -- What an epoch did that this ledger was handed to, in each run of which `begun` holds: how it ended, what was written, what is reported, and what is counted.
 pub record EpochRan (begun : MachineState → Type 0) (plan : Plan) (ledger : Ledger) (result : Result (Ledger × EpochEnd) WriteFail) (faults faults_now : ℕ) (told tells : Option (List ℕ)) (tally tally_now : ℕ) : Type 0 where

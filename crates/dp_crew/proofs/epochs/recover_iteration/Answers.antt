@@ -1,4 +1,4 @@
-use Rattle.std.proofs.Common.{◌≡◌, ◌∙◌, sym, ap, subst, ℕ, ◌+◌, ◌<◌, ◌≤◌, List, ◌∷◌, [], ◌++◌, length, length-append, rules, arith}
+use Rattle.std.proofs.Common.{◌∙◌, sym, ap, subst, ◌<◌, ◌≤◌, rules, arith}
 use Rattle.dp_base.specs.declared.RegionReport.{RegionReport}
 use Rattle.dp_semantics.specs.Recovery.{is_recovered}
 use Rattle.dp_commit.specs.CommittedState.{region_run}
@@ -7,8 +7,7 @@ use Rattle.dp_epoch.specs.declared.ledger.Ledger.{Ledger}
 use Rattle.dp_epoch.specs.Applied.{left_of}
 use Rattle.dp_epoch.specs.InEpoch.{AfterRecovery, left_by_recovery}
 use Rattle.dp_epoch.specs.Prints.{to_come}
-use Rattle.dp_epoch.specs.Progress.{again_before}
-use Rattle.dp_epoch.proofs.Counting.{again_few, told_begun, told_count}
+use Rattle.dp_epoch.proofs.Counting.{again_few, told_count}
 use Rattle.dp_epoch.proofs.Recovering.{CountedRecovered, counts_begun, counts_unbegun, recovered, recovered_counts, recovered_left}
 use Rattle.dp_crew.specs.Output.{Emits}
 use Rattle.dp_crew.proofs.StreamLemmas.{streams_stopped}
