@@ -13,8 +13,7 @@ import tempfile
 from pathlib import Path
 
 sys.dont_write_bytecode = True
-from least_plans import edges_of
-from model_plans import Accesses, read_plans
+from model_plans import Accesses, LeastPlan, read_plans
 from random_runs import RandomRun
 from small_c import Program, Variable
 from small_c_text import Name
@@ -123,7 +122,7 @@ def reasons(program, plans):
     for region, plan in zip(program.regions, plans):
         yield "region %d" % region.number
         accesses = Accesses(program, region)
-        for start, to, kind in sorted(edges_of(accesses, None, 0, {}), key=lambda it: (it[0], it[1], KINDS.index(it[2]))):
+        for start, to, kind in sorted(LeastPlan(accesses).edges, key=lambda it: (it[0], it[1], KINDS.index(it[2]))):
             stored = accesses.sites[start].stores
             yield "edge %d %d %s%s" % (start, to, kind, "" if kind == "control" else " %d %s" % (program.number(stored), stored.name))
         for site in sorted(accesses.checked(plan)):
