@@ -1,6 +1,15 @@
-"""The crate of a program: its code as types, and the `main` that runs it."""
+#!/usr/bin/env python3
+"""The crate of a program: its code as types, and the `main` that runs it.
+
+  native/crate.py TREE SOURCE PLACE    writes the crate of the program SOURCE, whose text as a tree is TREE (`dswp tree SOURCE`),
+                                       into the clone PLACE of this repository, beside its crates, and prints its name
+"""
 import hashlib
+import sys
 from pathlib import Path
+
+from forms import Forms
+from tree_text import Program
 
 HERE = Path(__file__).resolve().parent
 FORMS = """Add And Binary Code Composed Div Element Eq Ge Gt If InputLen Le Lt Mul Ne Neg Not Nothing Number Or Other Put Rem Say
@@ -52,3 +61,16 @@ def write_crate(place, name, program, forms, source_name, text):
     deps = next(line for line in lines if line.startswith("dswp ")).split(": ", 1)[1]
     line = "%s may_wait=1: %s dp_forms dp_native" % (name, deps)
     listed.write_text("\n".join([each for each in lines if not each.startswith(name)] + [line]) + "\n")
+
+
+def main():
+    tree, source, place = sys.argv[1:4]
+    tree, text = Path(tree).read_text(), Path(source).read_text()
+    program = Program(tree)
+    name = crate_name(tree)
+    write_crate(Path(place), name, program, Forms(program), Path(source).name, text)
+    print(name)
+
+
+if __name__ == "__main__":
+    main()
