@@ -12,6 +12,8 @@ mod operators;
 mod sequence;
 mod state;
 mod statements;
+#[cfg(test)]
+mod tests;
 mod values;
 
 pub use arithmetic::{Binary, Operator, Prefix, Unary};
