@@ -10,7 +10,7 @@ from pathlib import Path
 
 TOP = Path(__file__).resolve().parent.parent
 AUDITING = ("dp_auditor", "dp_view")
-PIPELINE = set("""dp_packet dp_machine dp_commit dp_pipeline dp_crew dp_turn dp_site_words dp_judge dp_finding dp_cause dp_epoch dp_run
+PIPELINE = set("""dp_packet dp_machine dp_commit dp_pipeline dp_crew dp_turn dp_site_words dp_judge dp_finding dp_epoch dp_run
     dp_relay dp_lane dp_ring dp_stop dp_waiting""".split())
 
 

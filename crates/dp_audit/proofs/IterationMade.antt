@@ -4,7 +4,6 @@ use Rattle.std.proofs.lemmas.Bool.{cases_Bool, cases_lt, or_right}
 use Rattle.std.proofs.Math.Seq.{drop-append_seam}
 use Rattle.dp_base.specs.declared.End.{End}
 use Rattle.dp_base.specs.declared.End.TheVariants as how
-use Rattle.dp_base.specs.declared.RegionReport.{RegionReport}
 use Rattle.dp_tree.specs.Step.{Config, Event}
 use Rattle.dp_tree.specs.Trace.{Run, ended, prints}
 use Rattle.dp_tree.specs.Iteration.{begun_count, cells_after, cells_in, closes, has_ended, is_begun, is_closing, is_within, iteration, memory_after, start}
@@ -23,6 +22,7 @@ use Rattle.dp_commit.proofs.BrokenOff.{broke_off}
 use Rattle.dp_commit.proofs.Committing.{held_closed, held_next}
 use Rattle.dp_commit.proofs.Going.{started}
 use Rattle.dp_commit.proofs.Lists.{get_at_seam}
+use Rattle.dp_epoch.specs.declared.account.Account.{Account}
 use Rattle.dp_epoch.specs.declared.ends.RegionEnd.{RegionEnd}
 use Rattle.dp_epoch.specs.declared.ends.RegionEnd.TheVariants as region_end
 use Rattle.dp_epoch.specs.Progress.{Progress}
@@ -38,15 +38,15 @@ cells_at_end run rest events configs c last none are =
     let size : length run.trace ≡ length configs = omega (arith, ap length c.trace, length-append events rest.trace, ap length none, c.paired) in
     ap (λ (cs : List Config). cells_in (slice_get cs (length run.trace))) c.configs ∙ ap cells_in (get_at_seam configs rest.configs (length run.trace) last [] size are)
 
-module _ (plan : Plan) (first : MachineState) (c : CommittedState) (report : RegionReport) (g : Progress plan first c report) where
+module _ (plan : Plan) (first : MachineState) (c : CommittedState) (account : Account) (g : Progress plan first c account) where
   abbrev run : Run
   run = region_run first
 
   -- it is begun where a step is left
   pub begun_where : is_begun (region_run first) plan.region c.count ≡ nat_lt c.machine.steps c.machine.fuel
   begun_where =
-      (let e : c.count ≡ c.count + 0 = omega arith in ap (is_begun run plan.region) e) ∙ (goes_here plan first c report g).begun 0
-      ∙ ap (is_within (rest_of_run c.machine).fuel) (at_once plan first c report g) ∙ by (cases_lt c.machine.steps c.machine.fuel)
+      (let e : c.count ≡ c.count + 0 = omega arith in ap (is_begun run plan.region) e) ∙ (goes_here plan first c account g).begun 0
+      ∙ ap (is_within (rest_of_run c.machine).fuel) (at_once plan first c account g) ∙ by (cases_lt c.machine.steps c.machine.fuel)
     where
       by : (c.machine.steps < c.machine.fuel) ⊎ (c.machine.fuel ≤ c.machine.steps) → nat_lt 0 (rest_of_run c.machine).fuel ≡ nat_lt c.machine.steps c.machine.fuel
       by (inl h) = lt-ltb 0 (rest_of_run c.machine).fuel (omega (arith, h, rest_fuel c.machine)) ∙ sym (lt-ltb c.machine.steps c.machine.fuel h)
@@ -83,7 +83,7 @@ module _ (plan : Plan) (first : MachineState) (c : CommittedState) (report : Reg
 
     closed_made : IterationRun c.region turns c.machine m [] printed iter_end.Closed → IsMade iter_end.Closed
     closed_made call =
-        let h = held_closed first c g.holds g.is_open m turns [] printed (once plan first c report g c.count _ (started first c g.holds g.is_open)) call in
+        let h = held_closed first c g.holds g.is_open m turns [] printed (once plan first c account g c.count _ (started first c g.holds g.is_open)) call in
         let closing : is_closing run plan.region c.count ≡ true =
         ap (λ (r : ℕ). is_closing run r c.count) (sym g.region) ∙ ap closes h.iteration_is ∙ ap (λ (o : Option ℕ). has_closed o call.events) (sym g.is_open.between) ∙ call.stops.closed in
         held_made iter_end.Closed refl (or_right (is_some (start run plan.region (suc c.count))) (is_closing run plan.region c.count) closing) closing call.events call.moved.prints h.iteration_is h.held.memory
@@ -93,10 +93,10 @@ module _ (plan : Plan) (first : MachineState) (c : CommittedState) (report : Reg
       events_are : c.machine.steps < c.machine.fuel → events ≡ iteration (region_run first) plan.region c.count
       events_are h =
           let n : begun_count run plan.region ≡ suc c.count =
-          begun_here plan first c report g m [] printed events configs went heads_once stay sound fuel end ends ∙ ap (λ (b : Bool). c.count + cond b 1 0) (lt-ltb c.machine.steps c.machine.fuel h)
+          begun_here plan first c account g m [] printed events configs went heads_once stay sound fuel end ends ∙ ap (λ (b : Bool). c.count + cond b 1 0) (lt-ltb c.machine.steps c.machine.fuel h)
           ∙ (let e : c.count + 1 ≡ suc c.count = omega arith in e) in
           let all : events_of_first run plan.region c.count ++ events ≡ events_of_first run plan.region c.count ++ iteration run plan.region c.count =
-          events_all plan first c report g m [] printed events configs went heads_once stay sound fuel end ends ∙ ap (events_of_first run plan.region) n in
+          events_all plan first c account g m [] printed events configs went heads_once stay sound fuel end ends ∙ ap (events_of_first run plan.region) n in
           sym (drop-append_seam (events_of_first run plan.region c.count) events) ∙ ap (drop (length (events_of_first run plan.region c.count))) all
           ∙ drop-append_seam (events_of_first run plan.region c.count) (iteration run plan.region c.count)
 
@@ -105,7 +105,7 @@ module _ (plan : Plan) (first : MachineState) (c : CommittedState) (report : Reg
 
       stopped_made : (how_ended : IterEnd) → is_over how_ended ≡ false → is_left how_ended ≡ false → IsMade how_ended
       stopped_made how_ended not_over not_left =
-          let made = stops_made plan first c report g m [] printed events configs went heads_once stay sound fuel end ends in
+          let made = stops_made plan first c account g m [] printed events configs went heads_once stay sound fuel end ends in
           let last : cells_after run (length run.trace) ≡ m.config.cells =
           cells_at_end run (rest_of_run m) (events_of_first run plan.region (begun_count run plan.region)) made.configs made.piece m.config (ap (λ (x : Run). x.trace) ends) (ap (λ (x : Run). x.configs) ends) in
           let off = broke_off first c g.holds g.is_open m [] printed events configs went heads_once stay fuel end ends in
@@ -132,14 +132,14 @@ module _ (plan : Plan) (first : MachineState) (c : CommittedState) (report : Reg
     -- the iterations that are begun, where it is the last one
     pub begun_with : (end : RegionEnd) → IterationRun c.region turns c.machine m [] printed (iteration_end (Some end)) → begun_count (region_run first) plan.region ≡ c.count + cond (nat_lt c.machine.steps c.machine.fuel) 1 0
     begun_with region_end.Closed call =
-        begun_is plan first c report g m turns [] printed call
-        ∙ ap (λ (b : Bool). c.count + cond b 1 0) (sym (lt-ltb c.machine.steps c.machine.fuel (some_step plan first c report g m turns [] printed call)))
-    begun_with (region_end.Fault fault) call = begun_here plan first c report g m [] printed call.events call.configs call.moved call.heads call.stops.0 call.spoiled (fuel_left m) (how.Fault fault) call.stops.2.ends
-    begun_with region_end.Fuel call = begun_here plan first c report g m [] printed call.events call.configs call.moved call.heads call.stops.0 call.spoiled 0 how.Fuel call.stops.1.ends
+        begun_is plan first c account g m turns [] printed call
+        ∙ ap (λ (b : Bool). c.count + cond b 1 0) (sym (lt-ltb c.machine.steps c.machine.fuel (some_step plan first c account g m turns [] printed call)))
+    begun_with (region_end.Fault fault) call = begun_here plan first c account g m [] printed call.events call.configs call.moved call.heads call.stops.0 call.spoiled (fuel_left m) (how.Fault fault) call.stops.2.ends
+    begun_with region_end.Fuel call = begun_here plan first c account g m [] printed call.events call.configs call.moved call.heads call.stops.0 call.spoiled 0 how.Fuel call.stops.1.ends
 
     -- a step was left for it, or the fuel is spent
     pub begun_or_spent : (end : Option RegionEnd) → IterationRun c.region turns c.machine m [] printed (iteration_end end) → (c.machine.steps < c.machine.fuel) ⊎ (iteration_end end ≡ iter_end.Fuel)
     begun_or_spent None call = let made = call.stops.some g.is_open.between in inl (omega (arith, made, call.moved.run.fuel, rest_fuel c.machine))
-    begun_or_spent (Some region_end.Closed) call = inl (some_step plan first c report g m turns [] printed call)
+    begun_or_spent (Some region_end.Closed) call = inl (some_step plan first c account g m turns [] printed call)
     begun_or_spent (Some (region_end.Fault fault)) call = inl (omega (arith, call.stops.2.within, call.moved.steps, call.moved.fuel))
     begun_or_spent (Some region_end.Fuel) call = inr refl

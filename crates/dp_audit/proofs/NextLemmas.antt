@@ -8,12 +8,13 @@ use Rattle.dp_tree.proofs.IterationLaws.{iterations_adjoin}
 use Rattle.dp_plan.specs.declared.Plan.{Plan}
 use Rattle.dp_semantics.specs.Recovery.{is_recovered}
 use Rattle.dp_semantics.specs.EpochKey.{EpochKey}
-use Rattle.dp_semantics.specs.EpochVerdicts.{Again, Carried, Commit, verdict_at}
+use Rattle.dp_semantics.specs.EpochVerdicts.{Again, Commit, verdict_at}
 use Rattle.dp_log.specs.Changes.{changes_of}
 use Rattle.dp_meaning.specs.declared.ends.IterEnd.TheVariants as iter_end
 use Rattle.dp_meaning.specs.MachineState.{MachineState, fuel_left}
 use Rattle.dp_commit.specs.CommittedState.{CommittedState, region_run, steps_of_first}
 use Rattle.dp_pipeline.specs.Coming.{Coming}
+use Rattle.dp_judge.specs.Stages.{Told}
 use Rattle.dp_epoch.specs.Applied.{left_of}
 use Rattle.dp_epoch.specs.declared.ends.RegionEnd.TheVariants as region_end
 use Rattle.dp_epoch.specs.InEpoch.{InEpoch, IsUnclean}
@@ -32,26 +33,26 @@ module _ (p : Program) (plan : Plan) (input : List ℤ) (first : MachineState) w
   taken r = record r { verdicts = None }
 
   kept_taken : (r : Runner) → IsKept p plan input first r → IsKept p plan input first (record r { verdicts = None })
-  kept_taken r k = kept_next p plan input first r k r.ledger r.known None k.none_waits refl k.copy
+  kept_taken r k = kept_next p plan input first r k r.ledger r.known None k.none_waits refl refl k.copy
 
   module _ (r : Runner) (k : IsKept p plan input first r) (now : Runner) (now_is : now ≡ record r { verdicts = None }) (old new : Coming) (u : UnderWay plan first r.ledger old) (key_is : new.key ≡ old.key) (given_is : new.given ≡ old.given + 1) where
-    pub judged : (v : Carried) → Commit v ≡ verdict_at old.key old.given → Judged p plan input first now new v
-    judged v verdict = subst (λ (x : Runner). Judged p plan input first x new v) (sym now_is) (record {
+    pub judged : (clean : Told) → Commit clean.carried ≡ verdict_at old.key old.given → Judged p plan input first now new clean
+    judged clean verdict = subst (λ (x : Runner). Judged p plan input first x new clean) (sym now_is) (record {
       kept = kept_taken r k;
       before = old.given;
       given = given_is;
       under_way = record {
         plan_is = ap (λ (x : EpochKey). x.plan) key_is ∙ u.plan_is;
-        epoch = subst (λ (x : EpochKey). InEpoch x old.given first r.ledger.committed r.ledger.report) (sym key_is) u.epoch;
+        epoch = subst (λ (x : EpochKey). InEpoch x old.given first r.ledger.committed r.ledger.account) (sym key_is) u.epoch;
       };
       verdict = verdict ∙ ap (λ (x : EpochKey). verdict_at x old.given) (sym key_is);
     })
 
-    pub unclean : (cause : Cause) → Again cause ≡ verdict_at old.key old.given → Unclean p plan input first now cause
-    unclean cause verdict = subst (λ (x : Runner). Unclean p plan input first x cause) (sym now_is) (record {
+    pub unclean : (cause : Cause) → Again cause ≡ verdict_at old.key old.given → Unclean p plan input first now
+    unclean cause verdict = subst (λ (x : Runner). Unclean p plan input first x) (sym now_is) (record {
       kept = kept_taken r k;
       no_verdicts = refl;
-      unclean = subst (λ (x : Plan). IsUnclean x first r.ledger.committed r.ledger.report cause) u.plan_is (unclean_here old.key old.given first r.ledger.committed r.ledger.report u.epoch cause verdict);
+      unclean = subst (λ (x : Plan). IsUnclean x first r.ledger.committed r.ledger.account) u.plan_is (unclean_here old.key old.given first r.ledger.committed r.ledger.account u.epoch cause verdict);
     })
 
   module _ (n : ℕ) (r : Runner) (s : Stands p plan input first n r) (next : Runner) (group : Group) (m : Makes p plan input first r.ledger.committed next group) where
@@ -59,7 +60,7 @@ module _ (p : Program) (plan : Plan) (input : List ℤ) (first : MachineState) w
     c = r.ledger.committed
 
     begun_is : is_begun (region_run first) plan.region n ≡ nat_lt c.machine.steps c.machine.fuel
-    begun_is = ap (is_begun (region_run first) plan.region) (sym s.count) ∙ begun_where plan first c r.ledger.report s.progress
+    begun_is = ap (is_begun (region_run first) plan.region) (sym s.count) ∙ begun_where plan first c r.ledger.account s.progress
 
     pub gives_group : c.machine.steps < c.machine.fuel → Gives p plan input first n next (Some group)
     gives_group h =
@@ -98,13 +99,13 @@ module _ (p : Program) (plan : Plan) (input : List ℤ) (first : MachineState) w
         by (inl less) =
             let t : Stands p plan input first (c.count + cond (nat_lt c.machine.steps c.machine.fuel) 1 0) next = subst (StandsBehind p plan input first (c.count + cond (nat_lt c.machine.steps c.machine.fuel) 1 0) next) e m.behind in
             let more : next.ledger.committed.count ≡ suc c.count = t.count ∙ ap (λ (b : Bool). c.count + cond b 1 0) (lt-ltb c.machine.steps c.machine.fuel less) ∙ (let a : c.count + 1 ≡ suc c.count = omega arith in a) in
-            let here = starts_here plan first c r.ledger.report s.progress in
+            let here = starts_here plan first c r.ledger.account s.progress in
             let there : start (region_run first) plan.region (suc c.count) ≡ Some (steps_of_first (region_run first) plan.region (suc c.count)) =
-            subst (λ (i : ℕ). start (region_run first) plan.region i ≡ Some (steps_of_first (region_run first) plan.region i)) more (starts_here plan first next.ledger.committed next.ledger.report t.progress) in
+            subst (λ (i : ℕ). start (region_run first) plan.region i ≡ Some (steps_of_first (region_run first) plan.region i)) more (starts_here plan first next.ledger.committed next.ledger.account t.progress) in
             let up = (iterations_adjoin first.program first.input (fuel_left first) first.config plan.region).ascending c.count _ _ here there in
-            let old_steps = steps_are plan first c r.ledger.report s.progress in
+            let old_steps = steps_are plan first c r.ledger.account s.progress in
             let new_steps : next.ledger.committed.machine.steps ≡ first.steps + steps_of_first (region_run first) plan.region (suc c.count) =
-            steps_are plan first next.ledger.committed next.ledger.report t.progress ∙ ap (λ (i : ℕ). first.steps + steps_of_first (region_run first) plan.region i) more in
+            steps_are plan first next.ledger.committed next.ledger.account t.progress ∙ ap (λ (i : ℕ). first.steps + steps_of_first (region_run first) plan.region i) more in
             let old_fuel = s.progress.holds.fuel in
             let new_fuel = t.progress.holds.fuel in
             omega (arith, up, old_steps, new_steps, old_fuel, new_fuel, less)

@@ -1,7 +1,6 @@
 -- What is kept of a region between two iterations: at its start, where an epoch is to begin, and behind an iteration.
-use Rattle.std.proofs.Common.{◌≡◌, refl, sym, ap, ◌∙◌, subst, ℕ, ◌≤◌, List, [], ◌++◌, ℤ, pos, length, get_or, Option, None, arith}
+use Rattle.std.proofs.Common.{◌≡◌, refl, sym, ap, ◌∙◌, subst, ℕ, ◌≤◌, List, [], ◌++◌, ℤ, pos, length, get_or, Option, None, arith, false, is_some}
 use Rattle.std.specs.List.Sorted.{IsNonDecreasing}
-use Rattle.dp_base.specs.declared.RegionReport.{RegionReport}
 use Rattle.dp_tree.specs.declared.Program.{Program}
 use Rattle.dp_tree.specs.InMain.{StandsInMain}
 use Rattle.dp_tree.specs.Step.{Config}
@@ -15,6 +14,8 @@ use Rattle.dp_meaning.specs.declared.ends.Part.TheVariants.{Region}
 use Rattle.dp_meaning.specs.MachineState.{MachineState, next_part}
 use Rattle.dp_commit.specs.CommittedState.{CommittedState}
 use Rattle.dp_pipeline.specs.Coming.{Coming}
+use Rattle.dp_epoch.specs.declared.account.Account.{Account}
+use Rattle.dp_epoch.specs.Accounts.{begun_account}
 use Rattle.dp_epoch.specs.declared.ledger.Ledger.{Ledger}
 use Rattle.dp_epoch.specs.InEpoch.{AtEpoch, ToBegin, key_here}
 use Rattle.dp_epoch.specs.Progress.{Progress}
@@ -32,44 +33,45 @@ use Rattle.dp_audit.specs.Runs.{IsKept, Stands, UnderWay}
 pub stands_size : (p : Program) (c : Config) → StandsInMain p c → length c.cells ≡ length (start_cells p.vars)
 stands_size p c s = ap (λ (d : Config). length d.cells) s.config_is ∙ standing-length p (s.inner ++ s.behind) s.cells ∙ s.cells_are
 
-pub progress_size : (plan : Plan) (first : MachineState) (c : CommittedState) (report : RegionReport) → Progress plan first c report → length c.machine.config.cells ≡ length (start_cells first.program.vars)
-progress_size plan first c report g = stands_size first.program c.machine.config (stands_there plan first g.start c g.holds)
+pub progress_size : (plan : Plan) (first : MachineState) (c : CommittedState) (account : Account) → Progress plan first c account → length c.machine.config.cells ≡ length (start_cells first.program.vars)
+progress_size plan first c account g = stands_size first.program c.machine.config (stands_there plan first g.start c g.holds)
 
 module _ (p : Program) (plan : Plan) (input : List ℤ) (first : MachineState) where
   module _ (r : Runner) (k : IsKept p plan input first r) where
-    pub kept_next : (ledger : Ledger) (known : Known) (verdicts : Option Coming) → ledger.waiting ≡ [] → known.locals ≡ r.known.locals → IsCopy known ledger.committed.machine.config.cells →
+    pub kept_next : (ledger : Ledger) (known : Known) (verdicts : Option Coming) → ledger.waiting ≡ [] → ledger.account.why ≡ r.ledger.account.why → known.locals ≡ r.known.locals → IsCopy known ledger.committed.machine.config.cells →
         IsKept p plan input first (record { epochs = r.epochs; ledger = ledger; known = known; verdicts = verdicts })
-    kept_next ledger known verdicts none locals copy = record {
+    kept_next ledger known verdicts none asked locals copy = record {
       own_program = k.own_program;
       own_plan = k.own_plan;
       own_input = k.own_input;
       program_is = k.program_is;
       input_is = k.input_is;
       few = k.few;
+      unasked = asked ∙ k.unasked;
       none_waits = none;
       copy = copy;
       ascending = subst IsNonDecreasing (sym locals) k.ascending;
       locals = λ c. ap (has c) locals ∙ k.locals c;
     }
 
-    pub few_steps : Progress plan first r.ledger.committed r.ledger.report → r.ledger.committed.machine.fuel ≤ 1000000000
+    pub few_steps : Progress plan first r.ledger.committed r.ledger.account → r.ledger.committed.machine.fuel ≤ 1000000000
     few_steps g = omega (arith, g.holds.fuel, k.few)
 
-    to_begin : AtEpoch plan first r.ledger.committed r.ledger.report → ToBegin r.epochs.region.now.program r.epochs.region.now.plan r.epochs.input.now first r.ledger.committed r.ledger.report
+    to_begin : AtEpoch plan first r.ledger.committed r.ledger.account → ToBegin r.epochs.region.now.program r.epochs.region.now.plan r.epochs.input.now first r.ledger.committed r.ledger.account
     to_begin a = record {
-      at_epoch = subst (λ (x : Plan). AtEpoch x first r.ledger.committed r.ledger.report) (sym k.own_plan) a;
+      at_epoch = subst (λ (x : Plan). AtEpoch x first r.ledger.committed r.ledger.account) (sym k.own_plan) a;
       program_is = k.program_is ∙ sym k.own_program;
       input_is = k.input_is ∙ sym k.own_input;
     }
 
-    pub sound : AtEpoch plan first r.ledger.committed r.ledger.report → IsSound (key_here r.epochs.region.now.program r.epochs.region.now.plan r.epochs.input.now r.ledger.committed)
-    sound a = sound_here r.epochs.region.now.program r.epochs.region.now.plan r.epochs.input.now first r.ledger.committed r.ledger.report (to_begin a)
+    pub sound : AtEpoch plan first r.ledger.committed r.ledger.account → IsSound (key_here r.epochs.region.now.program r.epochs.region.now.plan r.epochs.input.now r.ledger.committed)
+    sound a = sound_here r.epochs.region.now.program r.epochs.region.now.plan r.epochs.input.now first r.ledger.committed r.ledger.account (to_begin a)
 
     -- the epoch that begins
-    pub begun : AtEpoch plan first r.ledger.committed r.ledger.report → (v : Coming) → v ≡ record { key = key_here r.epochs.region.now.program r.epochs.region.now.plan r.epochs.input.now r.ledger.committed; given = 0 } → UnderWay plan first r.ledger v
+    pub begun : AtEpoch plan first r.ledger.committed r.ledger.account → (v : Coming) → v ≡ record { key = key_here r.epochs.region.now.program r.epochs.region.now.plan r.epochs.input.now r.ledger.committed; tells_stages = is_some r.ledger.account.views; given = 0 } → UnderWay plan first r.ledger v
     begun a v is = subst (UnderWay plan first r.ledger) (sym is) (record {
       plan_is = k.own_plan;
-      epoch = epoch_here (key_here r.epochs.region.now.program r.epochs.region.now.plan r.epochs.input.now r.ledger.committed) 0 first r.ledger.committed r.ledger.report
+      epoch = epoch_here (key_here r.epochs.region.now.program r.epochs.region.now.plan r.epochs.input.now r.ledger.committed) 0 first r.ledger.committed r.ledger.account
           (record { first = refl; base = refl; steps = refl; fuel = refl; none = refl }) (to_begin a);
     })
 
@@ -77,11 +79,11 @@ module _ (p : Program) (plan : Plan) (input : List ℤ) (first : MachineState) w
   pub stands_begun : (s : RegionStart p plan input first) (q : IsPlanned p plan) → first.fuel ≤ 1000000000 → (epochs : Epochs) (ledger : Ledger) (known : Known) →
       epochs.region.now.program ≡ p → epochs.region.now.plan ≡ plan → epochs.input.now ≡ input →
       ((region : ℕ) → next_part first ≡ Region region → ledger.committed ≡ record { machine = first; region = region; count = 0 }) →
-      ledger.report ≡ record { region = plan.region; iterations = 0; recovered_count = 0; recovered = []; causes = [] } → ledger.waiting ≡ [] →
+      ledger.account ≡ begun_account p plan first.config.cells false → ledger.waiting ≡ [] →
       IsNonDecreasing known.locals → ((c : ℕ) → has c known.locals ≡ is_local_at p plan c) → known.cells ≡ first.config.cells →
       Stands p plan input first 0 (record { epochs = epochs; ledger = ledger; known = known; verdicts = None })
-  stands_begun s q few epochs ledger known own_p own_plan own_input committed report waiting ascending locals cells =
-      let b = region_begins p plan input first s q ledger.committed committed ledger.report report in
+  stands_begun s q few epochs ledger known own_p own_plan own_input committed account waiting ascending locals cells =
+      let b = region_begins p plan input first s q ledger.committed committed ledger.account false account in
       let is = committed plan.region s.next in
       let same : known.cells ≡ ledger.committed.machine.config.cells = cells ∙ ap (λ (x : CommittedState). x.machine.config.cells) (sym is) in
       record {
@@ -92,6 +94,7 @@ module _ (p : Program) (plan : Plan) (input : List ℤ) (first : MachineState) w
           program_is = s.program_is;
           input_is = s.input_is;
           few = few;
+          unasked = ap (λ (a : Account). a.why) account;
           none_waits = waiting;
           copy = record { size = ap (λ (xs : List ℤ). length xs) same; same = λ c apart. ap (λ (xs : List ℤ). get_or xs c (pos 0)) same };
           ascending = ascending;
@@ -106,10 +109,10 @@ module _ (p : Program) (plan : Plan) (input : List ℤ) (first : MachineState) w
   pub stands_told : (s : RegionStart p plan input first) (q : IsPlanned p plan) → first.fuel ≤ 1000000000 → (same : Plan) → same ≡ plan → (own : Program) → own ≡ p → (epochs : Epochs) (ledger : Ledger) (known : Known) →
       epochs.region.now.program ≡ p → epochs.region.now.plan ≡ plan → epochs.input.now ≡ input →
       ((region : ℕ) → next_part first ≡ Region region → ledger.committed ≡ record { machine = first; region = region; count = 0 }) →
-      ledger.report ≡ record { region = same.region; iterations = 0; recovered_count = 0; recovered = []; causes = [] } → ledger.waiting ≡ [] →
+      ledger.account ≡ begun_account own same first.config.cells false → ledger.waiting ≡ [] →
       IsNonDecreasing known.locals → ((c : ℕ) → has c known.locals ≡ is_local_at own same c) → known.cells ≡ first.config.cells →
       Stands p plan input first 0 (record { epochs = epochs; ledger = ledger; known = known; verdicts = None })
-  stands_told s q few same is own own_is epochs ledger known own_p own_plan own_input committed report waiting ascending locals cells =
+  stands_told s q few same is own own_is epochs ledger known own_p own_plan own_input committed account waiting ascending locals cells =
       stands_begun s q few epochs ledger known own_p own_plan own_input committed
-      (report ∙ ap (λ (x : Plan). record { region = x.region; iterations = 0; recovered_count = 0; recovered = []; causes = [] }) is) waiting ascending
+      (account ∙ (λ j. begun_account (own_is j) (is j) first.config.cells false)) waiting ascending
       (λ c. locals c ∙ ap (λ (x : Plan). is_local_at own x c) is ∙ ap (λ (x : Program). is_local_at x plan c) own_is) cells

@@ -3,7 +3,6 @@ use Rattle.std.proofs.Common.{◌≡◌, refl, sym, ap, ◌∙◌, ℕ, suc, ◌
 use Rattle.std.proofs.lemmas.Bool.{both_ways, or_parts}
 use Rattle.std.proofs.lemmas.List.{get_or-set_other}
 use Rattle.dp_base.specs.declared.StoreOf.{StoreOf}
-use Rattle.dp_base.specs.declared.RegionReport.{RegionReport}
 use Rattle.dp_tree.specs.Step.{clear_locals}
 use Rattle.dp_plan.specs.Written.{has}
 use Rattle.dp_semantics.specs.Seen.{is_local_at}
@@ -16,6 +15,7 @@ use Rattle.dp_theorem.proofs.Memory.{clear-other}
 use Rattle.dp_theorem.proofs.Told.{stores_are_all}
 use Rattle.dp_meaning.specs.MachineState.{MachineState}
 use Rattle.dp_commit.specs.CommittedState.{CommittedState}
+use Rattle.dp_epoch.specs.declared.account.Account.{Account}
 use Rattle.dp_epoch.specs.InEpoch.{InEpoch}
 use Rattle.dp_audit.specs.Stored.{cell_of}
 
@@ -26,8 +26,8 @@ stores_elsewhere (s ∷ rest) cells c apart =
     stores_elsewhere rest (slice_set cells s.cell.0 s.value) c parts.1
     ∙ get_or-set_other cells s.cell.0 c s.value (pos 0) (λ (e : c ≡ s.cell.0). both_ways (s.cell.0 == c) parts.0 (eq-eqb s.cell.0 c (sym e)))
 
-module _ (key : EpochKey) (n : ℕ) (first : MachineState) (c : CommittedState) (report : RegionReport) (e : InEpoch key n first c report) (v : Carried) (gives : Commit v ≡ verdict_at key n)
-    (new : CommittedState) (more : RegionReport) (f : InEpoch key (n + 1) first new more) where
+module _ (key : EpochKey) (n : ℕ) (first : MachineState) (c : CommittedState) (account : Account) (e : InEpoch key n first c account) (v : Carried) (gives : Commit v ≡ verdict_at key n)
+    (new : CommittedState) (more : Account) (f : InEpoch key (n + 1) first new more) where
   cells_by : (j : Judgement) → judgement_of key n ≡ j → Commit v ≡ verdict_by key n j → new.machine.config.cells ≡ clear_locals key.plan.region key.program.vars (with_stores v.stores c.machine.config.cells)
   cells_by (Clean agreed) is told =
       let same : v ≡ carried agreed = cc told in

@@ -45,7 +45,7 @@ pub record IsGroup (p : Program) (plan : Plan) (run : Run) (n : ℕ) (group : Gr
 
 -- The region has ended so, and n of its iterations were begun.
 pub record HasEnded (plan : Plan) (first : MachineState) (n : ℕ) (r : Runner) (end : RegionEnd) : Type 0 where
-  pub done : RegionDone plan first r.ledger.committed r.ledger.report end
+  pub done : RegionDone plan first r.ledger.committed r.ledger.account end
   pub begun : begun_count (region_run first) plan.region ≡ n
 
 -- where the region stands behind an iteration that ended so, with which n were begun

@@ -1,11 +1,10 @@
 //! The epochs of a region, each polled on the calling thread.
-ghost use Rattle.std.specs.Prelude.{◌≡◌, ◌≤◌, IfOk};
+ghost use Rattle.std.specs.Prelude.{◌≡◌, ◌≤◌, is_some, IfOk};
 ghost use Rattle.dp_semantics.specs.EpochCauses.{IsSound};
 ghost use Rattle.dp_epoch.specs.InEpoch.{key_here};
 
 use dp_base::NoMemory;
-use dp_commit::Committed;
-use dp_epoch::{CrewSize, pipeline_here};
+use dp_epoch::{CrewSize, Ledger, pipeline_here};
 use dp_pipeline::{LaneVerdicts, Pipeline};
 use dp_prepared::PreparedRegion;
 use dp_stop::StopSetter;
@@ -23,18 +22,18 @@ pub(crate) struct Epochs<'s, 'q> {
 
 impl<'s, 'q> Epochs<'s, 'q> {
     /// The verdicts of the epoch that begins behind what is committed. Its units are polled where one is awaited.
-    pub(crate) fn begin(&mut self, committed: &Committed<'_>) -> Result<LaneVerdicts<'s>, NoMemory>
-        requires sound { IsSound (key_here self.old.region.now.program self.old.region.now.plan self.old.input.now committed.now) }
-        requires fuel { committed.now.machine.fuel ≤ 1000000000 }
+    pub(crate) fn begin(&mut self, ledger: &Ledger<'_, '_>) -> Result<LaneVerdicts<'s>, NoMemory>
+        requires sound { IsSound (key_here self.old.region.now.program self.old.region.now.plan self.old.input.now ledger.now.committed) }
+        requires fuel { ledger.now.committed.machine.fuel ≤ 1000000000 }
         ensures kept { self.new ≡ self.old }
-        ensures verdicts { IfOk result (λ verdicts. verdicts ≡ record { key = key_here self.old.region.now.program self.old.region.now.plan self.old.input.now committed.now; given = 0 }) }
+        ensures verdicts { IfOk result (λ verdicts. verdicts ≡ record { key = key_here self.old.region.now.program self.old.region.now.plan self.old.input.now ledger.now.committed; tells_stages = is_some ledger.now.account.views; given = 0 }) }
     {
         let Pipeline { units, verdicts } = pipeline_here(
             self.alloc,
             self.region,
             self.input,
             self.size,
-            committed,
+            ledger,
             &mut self.setter,
         )?;
         Ok(verdicts.polling(units))

@@ -28,7 +28,7 @@ use std::time::Clock;
 /// A region that is brought forward one iteration at a time, as its pipeline does, but on the calling thread.
 pub struct Runner<'s, 'q, 'p> {
     pub(crate) epochs: Epochs<'s, 'q>,
-    pub(crate) ledger: Ledger<'p>,
+    pub(crate) ledger: Ledger<'p, 's>,
     pub(crate) known: Known,
     /// Those of the epoch under way. Where there are none, an epoch begins behind what is committed.
     pub(crate) verdicts: Option<LaneVerdicts<'s>>,
@@ -63,9 +63,9 @@ where
         ensures { IfOk result (λ runner. Stands region.now.program region.now.plan input.now machine.entry 0 runner) }
     {
         let setter = StopSetter::new(alloc)?;
-        let number = region.plan().region;
-        let known = Known::begin(alloc, region.program(), number, machine.cells())?;
-        let ledger = Ledger::begin(alloc, machine, number);
+        let (program, plan) = (region.program(), region.plan());
+        let known = Known::begin(alloc, program, plan.region, machine.cells())?;
+        let ledger = Ledger::begin(alloc, machine, program, plan, false)?;
         let epochs = Epochs {
             alloc,
             region,
@@ -108,7 +108,7 @@ where
     /// The machine, behind the last iteration, and the report of the iterations.
     pub fn settle(self) -> (Machine<'p>, RegionReport)
         ensures machine { result.0 ≡ self.entry.ledger.committed.machine }
-        ensures report { result.1 ≡ self.entry.ledger.report }
+        ensures report { result.1 ≡ self.entry.ledger.account.report }
     {
         let Runner {
             epochs: _,
@@ -118,16 +118,16 @@ where
         } = self;
         let Ledger {
             committed,
-            report,
+            account,
             waiting: _,
         } = ledger;
-        (committed.finish(), report)
+        (committed.finish(), account.into_report())
     }
 
     /// The report of the iterations so far.
     pub fn report(&self) -> &RegionReport
-        ensures { result.now ≡ self.now.ledger.report }
+        ensures { result.now ≡ self.now.ledger.account.report }
     {
-        &self.ledger.report
+        &self.ledger.account.report
     }
 }

@@ -34,11 +34,11 @@ use Rattle.dp_view.proofs.FollowLemmas as follow
 use Rattle.dp_auditor.specs.Comparing.{Compared, Passes}
 use Rattle.dp_auditor.specs.Ending.{begun_next}
 use Rattle.dp_auditor.specs.Gathered.{sets_between}
-use Rattle.dp_auditor.specs.Heard.{Comes, LoadsFrom}
+use Rattle.dp_view.specs.Heard.{Comes, LoadsFrom}
 use Rattle.dp_auditor.specs.Regions.{AtRegion, SameRun}
 use Rattle.dp_auditor.specs.Walking.{IsInside}
 use Rattle.dp_auditor.proofs.HeadLemmas.{goes_so, no_place, stands_there}
-use Rattle.dp_auditor.proofs.LoadLemmas.{goes_loads}
+use Rattle.dp_view.proofs.LoadLemmas.{goes_loads}
 use Rattle.dp_auditor.proofs.PieceLemmas.{passes_join}
 use Rattle.dp_auditor.proofs.PlainLemmas.{same_run}
 use Rattle.dp_auditor.proofs.ReachedLemmas.{Reached}

@@ -4,15 +4,14 @@ pub mod HeadLemmas
 pub mod TextLemmas
 pub mod OrderLemmas
 pub mod PlainLemmas
-pub mod WatchLemmas
 pub mod PartsLemmas
 pub mod ReachedLemmas
 pub mod ChangeLemmas
 pub mod RegionLemmas
-pub mod LoadLemmas
 pub mod SetLemmas
 pub mod IterationLemmas
 pub mod LastLemmas
 pub mod StepLemmas
 pub mod EntryLemmas
 pub mod AuditLemmas
+pub mod TurnLemmas

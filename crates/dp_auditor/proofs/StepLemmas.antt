@@ -17,7 +17,7 @@ use Rattle.dp_view.specs.Viewed.{Viewed, settled}
 use Rattle.dp_auditor.specs.Comparing.{Compared, Compares, Fails, Passes}
 use Rattle.dp_auditor.specs.Ending.{begun_next, last_of, unless_differs}
 use Rattle.dp_auditor.specs.Gathered.{sets_between}
-use Rattle.dp_auditor.specs.Heard.{Comes, Went}
+use Rattle.dp_view.specs.Heard.{Comes, Went}
 use Rattle.dp_auditor.specs.Regions.{AtRegion}
 use Rattle.dp_auditor.specs.Walking.{IterationsCompared}
 use Rattle.dp_auditor.specs.declared.iterations.After.TheVariants as after

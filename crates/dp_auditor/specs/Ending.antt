@@ -21,6 +21,11 @@ abbrev pub unless_differs : Option ℕ → After → After
 unless_differs None after = after
 unless_differs (Some line) after = Differs line
 
+-- .. of an iteration that another one follows
+abbrev pub if_differs : Option ℕ → Option After
+if_differs None = None
+if_differs (Some line) = Some (Differs line)
+
 -- what is kept where the next iteration begins
 abbrev pub begun_next : Bool → Viewed → Viewed
 begun_next again v = if again then anew v else onward v

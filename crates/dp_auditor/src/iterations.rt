@@ -7,6 +7,7 @@ ghost use Rattle.dp_auditor.specs.Comparing.{Compares};
 ghost use Rattle.dp_auditor.specs.Gathered.{sets_between};
 ghost use Rattle.dp_auditor.specs.Ending as definition;
 ghost use Rattle.dp_auditor.specs.Regions.{AtRegion};
+ghost use Rattle.dp_auditor.specs.Turned.{LastCompared, OneCompared};
 ghost use Rattle.dp_auditor.specs.Walking.{IterationsCompared, RegionCompared, Starts};
 
 use crate::comparing::Comparing;
@@ -29,6 +30,14 @@ pub(crate) enum After {
     Ends(End),
     /// A line differs: the first that does.
     Differs(u32),
+}
+
+/// An iteration that was gone through.
+#[derive(Clone, Copy)]
+struct Made<'a> {
+    iteration: u64,
+    end: IterEnd,
+    prints: &'a [i64],
 }
 
 /// Where the next iteration begins.
@@ -63,6 +72,16 @@ fn unless_differs(differs: Option<u32>, after: After) -> After
     }
 }
 
+/// What comes behind lines of an iteration that another one follows, of which this one differs, if one does.
+fn if_differs(differs: Option<u32>) -> Option<After>
+    ensures { result ≡ definition.if_differs differs }
+{
+    match differs {
+        Some(line) => Some(After::Differs(line)),
+        None => None,
+    }
+}
+
 /// Compares the lines of an iteration that another one follows, and what is kept begins there.
 fn compare_next(
     views: &mut Views<'_>,
@@ -83,20 +102,56 @@ fn compare_next(
     Ok(differs)
 }
 
-/// Compares the lines of an iteration that none follows, from the memory behind it.
+/// Compares the lines of an iteration that none follows, and answers what comes behind it.
 fn compare_last(
+    alloc: Global,
+    program: &Program,
+    plan: &Plan,
+    made: Made<'_>,
+    ahead: &Machine<'_>,
     views: &Views<'_>,
-    after: &[i64],
-    iteration: u64,
-    again: bool,
-    prints: &[i64],
     lines: &mut Lines,
     compared: &mut Comparing<'_>,
-) -> Result<Option<u32>, NoMemory>
-    ensures { IfOk result (Compares compared.old compared.new (group_bytes iteration again (sets_between views.now.before after.now) prints.now)) }
+) -> Result<After, NoMemory>
+    ensures { IfOk result (LastCompared program.now plan.now made.entry.end made.entry.iteration made.entry.prints.now ahead.now.config.cells views.now compared.old compared.new) }
 {
-    lines.gather_last(views.before(), after, iteration, again, prints)?;
-    Ok(compared.take(lines.text()))
+    let (after, again) = last_of(made.end, views.found());
+    let memory = without_locals(alloc, program, plan.region, ahead.cells())?;
+    lines.gather_last(
+        views.before(),
+        memory.as_slice(),
+        made.iteration,
+        again,
+        made.prints,
+    )?;
+    Ok(unless_differs(compared.take(lines.text()), after))
+}
+
+/// Compares the lines of an iteration, and what is kept begins where the next one does, if one follows. Where none does, or a
+/// line differs, what comes behind it is answered.
+fn compare_one(
+    alloc: Global,
+    program: &Program,
+    plan: &Plan,
+    made: Made<'_>,
+    ahead: &Machine<'_>,
+    views: &mut Views<'_>,
+    lines: &mut Lines,
+    compared: &mut Comparing<'_>,
+) -> Result<Option<After>, NoMemory>
+    requires before { made.end ≡ IterEnd.Next → Cleared views.old.program views.old.plan views.old.before }
+    ensures { IfOk result (OneCompared program.now plan.now made.entry.end made.entry.iteration made.entry.prints.now ahead.now.config.cells views.old views.new compared.old compared.new) }
+{
+    match made.end {
+        IterEnd::Next => {
+            let differs = compare_next(views, made.iteration, made.prints, lines, compared)?;
+            Ok(if_differs(differs))
+        }
+        _ => {
+            let after = compare_last(alloc, program, plan, made, ahead, views, lines, compared)?;
+            Ok(Some(after))
+        }
+    }
 }
 
 /// Compares the lines of the iterations of the region that comes next for `ahead`, which goes through each of them at once;
@@ -127,32 +182,15 @@ fn compare_iterations(
         prints.clear();
         let end = ahead.iterate(u32::MAX, &mut prints)?;
         follow(behind, ahead.steps(), views, &mut loads, &mut out)?;
-        match end {
-            IterEnd::Next => {
-                if let Some(line) = compare_next(
-                    views,
-                    iteration,
-                    prints.as_slice(),
-                    &mut lines,
-                    compared,
-                )? {
-                    return Ok(After::Differs(line));
-                }
-            }
-            other => {
-                let (after, again) = last_of(other, views.found());
-                let memory = without_locals(alloc, program, plan.region, ahead.cells())?;
-                let differs = compare_last(
-                    views,
-                    memory.as_slice(),
-                    iteration,
-                    again,
-                    prints.as_slice(),
-                    &mut lines,
-                    compared,
-                )?;
-                return Ok(unless_differs(differs, after));
-            }
+        let made = Made {
+            iteration,
+            end,
+            prints: prints.as_slice(),
+        };
+        if let Some(after) = compare_one(
+            alloc, program, plan, made, ahead, views, &mut lines, compared,
+        )? {
+            return Ok(after);
         }
         iteration += 1;
     }

@@ -1,7 +1,7 @@
 //! The source's steps, watched one by one.
 ghost use Rattle.std.specs.Prelude.{List, IfOk};
 ghost use Rattle.dp_tree.specs.Step.{Event};
-ghost use Rattle.dp_auditor.specs.Heard.{Comes, Went};
+ghost use Rattle.dp_view.specs.Heard.{Comes, Went};
 
 use dp_base::{NoMemory, Row};
 use dp_meaning::{Loads, Machine, Sight};

@@ -3,6 +3,7 @@ ghost use Rattle.std.specs.Prelude.{◌≡◌, ◌<◌, ◌≤◌, ◌+◌, ◌-
 ghost use Rattle.dp_meaning.specs.declared.ends.Part.TheVariants as part;
 ghost use Rattle.dp_meaning.specs.MachineState.{MachineState, next_part, IsAnyRegion};
 ghost use Rattle.dp_meaning.specs.Moved.{Spoiled};
+ghost use Rattle.dp_meaning.specs.Watched.{WatchSpoiled, WatchedStep};
 ghost use Rattle.dp_meaning.specs.IterationRun.{IterationRun};
 ghost use Rattle.dp_meaning.specs.NextIteration.{end_of};
 ghost use Rattle.dp_commit.specs.CommittedState.{BrokeOff, CarriesNext, ClosesOnce, CountsSteps, Holds, IsOpen, RecoversFor, WhereEnded, count_after};
@@ -11,7 +12,7 @@ use crate::tally::Tally;
 use crate::watch::Watch;
 use dp_base::{Cells, NoMemory, Row};
 use dp_judge::Clean;
-use dp_meaning::{IterEnd, Machine, Part};
+use dp_meaning::{IterEnd, Loads, Machine, Part, Sight};
 use std::marker::Model;
 
 /// The memory and the steps of a region's committed iterations: a machine that stands behind them.
@@ -103,9 +104,9 @@ impl<'p> Committed<'p> {
     /// Commits the next iteration from the pipeline. It takes no memory.
     pub fn apply<W: Watch>(&mut self, clean: Clean, tally: &mut Tally<W>)
         requires open { IsOpen self.old }
-        requires next { CarriesNext self.old clean }
+        requires next { CarriesNext self.old clean.carried }
         requires tally { tally.old < 2 ^ 64 - 1 }
-        ensures call { (out : List ℤ) → IterationRun self.old.region clean.steps self.old.machine self.new.machine out (out ++ clean.prints) (end_of clean.closing) }
+        ensures call { (out : List ℤ) → IterationRun self.old.region clean.carried.steps self.old.machine self.new.machine out (out ++ clean.carried.prints) (end_of clean.carried.closing) }
         ensures rest { self.new ≡ record self.old { machine = self.new.machine; count = self.old.count + 1 } }
         ensures tally { tally.new ≡ tally.old + 1 }
         ensures holds { (first : MachineState) → ClosesOnce first self.old.region → Holds first self.old → Holds first self.new }
@@ -130,6 +131,26 @@ impl<'p> Committed<'p> {
         let _made = self.machine.steps();
         self.count += committed_by(end);
         Ok(end)
+    }
+
+    /// Makes the next step of the current iteration sequentially, and tells what it does and which cells it loads. It appends
+    /// what the step prints.
+    pub fn watch(
+        &mut self,
+        out: &mut Row<i64>,
+        loads: &mut Loads,
+    ) -> Result<(IterEnd, Sight), NoMemory>
+        requires next { next_part self.old.machine ≡ part.Region self.old.region }
+        ensures runs { IfOk result (λ seen. RecoversFor 1 self.old self.new out.old out.new seen.0) }
+        ensures told { IfOk result (λ seen. WatchedStep seen.1 loads.new.cells self.old.machine self.new.machine) }
+        ensures err { OnErr result (WatchSpoiled self.old.machine self.new.machine out.old out.new) }
+        ensures wanting { OnErr result (self.new ≡ record self.old { machine = self.new.machine }) }
+        ensures spoiled { IsTrue self.old.machine.spoiled → IsErr result × (self.new ≡ self.old) × (out.new ≡ out.old) }
+    {
+        let (end, seen) = self.machine.watch_iteration(out, loads)?;
+        let _made = self.machine.steps();
+        self.count += committed_by(end);
+        Ok((end, seen))
     }
 }
 

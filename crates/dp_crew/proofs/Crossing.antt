@@ -5,6 +5,7 @@ use Rattle.std.proofs.Crossing as crossing
 use Rattle.std.proofs.alloc.Global.TheSendSync as heap
 use Rattle.dp_base.proofs.BinOp.TheSendSync as bin
 use Rattle.dp_base.proofs.UnOp.TheSendSync as un
+use Rattle.dp_base.proofs.CellId.TheSendSync as cell
 use Rattle.dp_base.proofs.SiteId.TheSendSync as site
 use Rattle.dp_base.proofs.VarId.TheSendSync as var
 use Rattle.dp_room.proofs.boxed.Boxed.TheSendSync as boxed
@@ -23,7 +24,6 @@ use Rattle.dp_code.proofs.Op.TheSendSync as op
 use Rattle.dp_machine.proofs.Kept.TheSendSync as kept
 use Rattle.dp_turn.proofs.Ready.TheSendSync as ready
 use Rattle.dp_turn.proofs.turning.Rows.TheSendSync as rows
-use Rattle.dp_cause.proofs.kept.Kept.TheSendSync as views
 use Rattle.dp_finding.proofs.court.Entry.TheSendSync as entry
 use Rattle.dp_finding.proofs.court.Rows.TheSendSync as judging_rows
 use Rattle.dp_turn.specs.contracts.Frame as Frame
@@ -82,7 +82,7 @@ pub court_send : (a : NamedLft) → IsSend (Court.the_row a)
 court_send a = recorded_send (Court.the_field a).row _ _ (Court.the_type a).to_one (court_field_send a)
 
 pub try_commit_field_send : (a : NamedLft) → IsSend (TryCommit.the_field a).row
-try_commit_field_send a = let c = court_send a in let d = court_field_send a in search (heap.the_field_send, cells.the_send, views.the_field_send, judging_rows.the_field_send, sendable) depth 60 fits 20000
+try_commit_field_send a = let c = court_send a in let d = court_field_send a in search (heap.the_field_send, cells.the_send, row.the_send, cell.the_field_send, cell.the_send, judging_rows.the_field_send, sendable) depth 60 fits 20000
 
 pub try_commit_send : (a : NamedLft) → IsSend (TryCommit.the_row a)
 try_commit_send a = recorded_send (TryCommit.the_field a).row _ _ (TryCommit.the_type a).to_one (try_commit_field_send a)

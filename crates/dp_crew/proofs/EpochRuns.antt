@@ -1,5 +1,5 @@
 -- What an epoch did, said of another beginning; and an epoch that stopped early.
-use Rattle.std.proofs.Common.{◌≡◌, ◌∙◌, refl, sym, subst, ℕ, ◌-◌, ◌^◌, ◌<◌, List, ℤ, Option, Result, Ok, Err}
+use Rattle.std.proofs.Common.{◌≡◌, ◌∙◌, refl, sym, subst, ℕ, ◌<◌, List, ℤ, Option, Result, Ok, Err, is_some}
 use Rattle.std.specs.Result.{IsErr, IsErrAnd}
 use Rattle.dp_tree.specs.declared.Program.{Program}
 use Rattle.dp_plan.specs.declared.Plan.{Plan}
@@ -10,10 +10,11 @@ use Rattle.dp_epoch.specs.declared.ends.EpochEnd.{EpochEnd}
 use Rattle.dp_edge.specs.declared.writing.WriteFail.{WriteFail}
 use Rattle.dp_edge.specs.declared.writing.WriteFail.TheVariants.{Write, NoMemory}
 use Rattle.dp_epoch.specs.declared.ledger.Ledger.{Ledger}
-use Rattle.dp_epoch.specs.Applied.{HasRoom}
-use Rattle.dp_crew.specs.EpochRan.{EpochRan, MayBegin}
+use Rattle.dp_epoch.specs.Accounts.{TellsEnough}
+use Rattle.dp_epoch.proofs.EpochBegins.{epoch_here}
+use Rattle.dp_crew.specs.EpochRan.{EpochRan}
 use Rattle.dp_edge.specs.Writing.{FaultsAfter, WritesFront}
-use Rattle.dp_epoch.specs.InEpoch.{ToBegin, key_here}
+use Rattle.dp_epoch.specs.InEpoch.{InEpoch, ToBegin, key_here}
 use Rattle.dp_epoch.specs.Prints.{to_come}
 use Rattle.dp_edge.proofs.FrontLemmas.{front_nothing}
 
@@ -26,17 +27,18 @@ module _ (plan : Plan) (ledger : Ledger) (faults faults_now : ℕ) (told tells :
     ends = λ first b. ran.ends first (gives first b);
     streams = λ first b. ran.streams first (gives first b);
     report = ran.report;
+    why = ran.why;
     counted = ran.counted;
     room = ran.room;
     left = ran.left;
   }
-  ran_for begun others (Err fail) gives ran = record { faults_are = ran.faults_are; ends = tt; streams = λ first b. ran.streams first (gives first b); report = tt; counted = tt; room = tt; left = tt }
+  ran_for begun others (Err fail) gives ran = record { faults_are = ran.faults_are; ends = tt; streams = λ first b. ran.streams first (gives first b); report = tt; why = tt; counted = tt; room = tt; left = tt }
 
   -- Something stopped it, and this was written.
   pub stopped : (begun : MachineState → Type 0) (r : Result (Ledger × EpochEnd) WriteFail) → IsErr r → FaultsAfter r faults faults_now →
       ((first : MachineState) → begun first → WritesFront (prints_bytes (to_come plan first ledger.waiting ledger.committed.count)) told tells) → EpochRan begun plan ledger r faults faults_now told tells tally tally_now
   stopped begun (Ok x) is failed written = absurd (cc)
-  stopped begun (Err fail) is failed written = record { faults_are = failed; ends = tt; streams = written; report = tt; counted = tt; room = tt; left = tt }
+  stopped begun (Err fail) is failed written = record { faults_are = failed; ends = tt; streams = written; report = tt; why = tt; counted = tt; room = tt; left = tt }
 
 -- What fails hands on why, and the sink's count of faults with it.
 pub failed_so : {X : Type 0} (r : Result X WriteFail) (fail : WriteFail) (old mid now : ℕ) → IsErrAnd r (λ (e : WriteFail). e ≡ fail) → FaultsAfter {X = X} (Err fail) mid now → mid ≡ old → FaultsAfter r old now
@@ -55,14 +57,25 @@ unbegun begun plan ledger (Err fail) faults told tally is = record {
   ends = tt;
   streams = λ first b. front_nothing (prints_bytes (to_come plan first ledger.waiting ledger.committed.count)) told told refl;
   report = tt;
+  why = tt;
   counted = tt;
   room = tt;
   left = tt;
 }
 
--- The verdicts are those of the epoch behind the ledger.
-pub may_begin : (p : Program) (plan : Plan) (input : List ℤ) (ledger : Ledger) (faults tally : ℕ) (first : MachineState) (verdicts : Coming) → verdicts ≡ record { key = key_here p plan input ledger.committed; given = 0 } →
-    ToBegin p plan input first ledger.committed ledger.report → faults < 2 ^ 64 - 1 → HasRoom tally ledger.committed → MayBegin verdicts.key verdicts.given ledger faults tally
-may_begin p plan input ledger faults tally first verdicts is begins countable room =
-    subst (λ (v : Coming). MayBegin v.key v.given ledger faults tally) (sym is)
-    (record { verdicts = record { first = refl; base = refl; steps = refl; fuel = refl; none = refl }; first = first; begins = begins; countable = countable; room = room })
+-- These are the verdicts of the epoch that begins behind the ledger.
+module _ (p : Program) (plan : Plan) (input : List ℤ) (ledger : Ledger) (verdicts : Coming) (is : verdicts ≡ record { key = key_here p plan input ledger.committed; tells_stages = is_some ledger.account.views; given = 0 }) where
+  pub begins_here : (first : MachineState) → ToBegin p plan input first ledger.committed ledger.account → InEpoch verdicts.key verdicts.given first ledger.committed ledger.account
+  begins_here first b =
+      subst (λ (v : Coming). InEpoch v.key v.given first ledger.committed ledger.account) (sym is)
+      (epoch_here (key_here p plan input ledger.committed) 0 first ledger.committed ledger.account (record { first = refl; base = refl; steps = refl; fuel = refl; none = refl }) b)
+
+  pub tells_here : TellsEnough verdicts.tells_stages ledger.account
+  tells_here = subst (λ (v : Coming). TellsEnough v.tells_stages ledger.account) (sym is) (λ some. some)
+
+  pub ran_here : (r : Result (Ledger × EpochEnd) WriteFail) (faults faults_now : ℕ) (told tells : Option (List ℕ)) (tally tally_now : ℕ) →
+      EpochRan (λ (first : MachineState). InEpoch verdicts.key verdicts.given first ledger.committed ledger.account) verdicts.key.plan ledger r faults faults_now told tells tally tally_now →
+      EpochRan (λ (first : MachineState). ToBegin p plan input first ledger.committed ledger.account) plan ledger r faults faults_now told tells tally tally_now
+  ran_here r faults faults_now told tells tally tally_now ran =
+      subst (λ (v : Coming). EpochRan (λ (first : MachineState). ToBegin p plan input first ledger.committed ledger.account) v.key.plan ledger r faults faults_now told tells tally tally_now) is
+      (ran_for verdicts.key.plan ledger faults faults_now told tells tally tally_now (λ (first : MachineState). InEpoch verdicts.key verdicts.given first ledger.committed ledger.account) (λ (first : MachineState). ToBegin p plan input first ledger.committed ledger.account) r begins_here ran)

@@ -1,8 +1,8 @@
 -- Where a region begins, and what was written of its prints.
-use Rattle.std.proofs.Common.{◌≡◌, sym, ap, ◌∙◌, subst, ℕ, List, [], ◌++◌, ℤ, Option}
+use Rattle.std.proofs.Common.{◌≡◌, sym, ap, ◌∙◌, subst, ℕ, Bool, List, [], ◌++◌, ℤ, Option}
 use Rattle.std.proofs.lemmas.List.{append-nil}
 use Rattle.dp_edge.specs.Sink.{appended}
-use Rattle.dp_base.specs.declared.RegionReport.{RegionReport}
+use Rattle.dp_tree.specs.declared.Program.{Program}
 use Rattle.dp_plan.specs.declared.Plan.{Plan}
 use Rattle.dp_report.specs.PrintsText.{prints_bytes}
 use Rattle.dp_meaning.specs.declared.ends.Part.TheVariants.{Region}
@@ -13,6 +13,8 @@ use Rattle.dp_epoch.specs.Prints.{to_come}
 use Rattle.dp_crew.specs.Output.{Emits}
 use Rattle.dp_epoch.specs.InEpoch.{ToBegin}
 use Rattle.dp_prepared.specs.Planned.{Prepared}
+use Rattle.dp_epoch.specs.declared.account.Account.{Account}
+use Rattle.dp_epoch.specs.Accounts.{begun_account}
 use Rattle.dp_epoch.specs.declared.ends.RegionEnd.{RegionEnd}
 use Rattle.dp_epoch.specs.Progress.{RegionDone}
 use Rattle.dp_epoch.specs.RegionRun.{IsPlanned, RegionStart, region_prints}
@@ -21,16 +23,16 @@ use Rattle.dp_crew.proofs.StreamLemmas.{emits_front, emits_on}
 
 -- The region is lent on, and so is the input: what is said of these is said of those.
 module _ (w r : Prepared) (e : w ≡ r) where
-  -- nothing is committed and reported of the region, whose number stands in this plan
-  pub begins_so : (i input : List ℤ) → i ≡ input → (first : MachineState) → RegionStart r.program r.plan input first → IsPlanned r.program r.plan → (same : Plan) → same ≡ r.plan →
+  -- nothing is committed and told of the region, whose program and plan these are
+  pub begins_so : (i input : List ℤ) → i ≡ input → (first : MachineState) → RegionStart r.program r.plan input first → IsPlanned r.program r.plan → (p : Program) → p ≡ r.program → (same : Plan) → same ≡ r.plan →
       (c : CommittedState) → ((region : ℕ) → next_part first ≡ Region region → c ≡ record { machine = first; region = region; count = 0 }) →
-      (report : RegionReport) → report ≡ record { region = same.region; iterations = 0; recovered_count = 0; recovered = []; causes = [] } → ToBegin w.program w.plan i first c report
-  begins_so i input is first s q same plan_is c made report told =
-      let here = region_begins r.program r.plan input first s q c made report (told ∙ ap (λ (x : Plan). record { region = x.region; iterations = 0; recovered_count = 0; recovered = []; causes = [] }) plan_is) in
-      subst (λ (x : Prepared). ToBegin x.program x.plan i first c report) (sym e) (subst (λ (xs : List ℤ). ToBegin r.program r.plan xs first c report) (sym is) here)
+      (account : Account) (why : Bool) → account ≡ begun_account p same first.config.cells why → ToBegin w.program w.plan i first c account
+  begins_so i input is first s q p program_is same plan_is c made account why told =
+      let here = region_begins r.program r.plan input first s q c made account why (told ∙ (λ j. begun_account (program_is j) (plan_is j) first.config.cells why)) in
+      subst (λ (x : Prepared). ToBegin x.program x.plan i first c account) (sym e) (subst (λ (xs : List ℤ). ToBegin r.program r.plan xs first c account) (sym is) here)
 
-  pub done_so : (first : MachineState) (c : CommittedState) (report : RegionReport) (end : RegionEnd) → RegionDone w.plan first c report end → RegionDone r.plan first c report end
-  done_so first c report end d = subst (λ (x : Prepared). RegionDone x.plan first c report end) e d
+  pub done_so : (first : MachineState) (c : CommittedState) (account : Account) (end : RegionEnd) → RegionDone w.plan first c account end → RegionDone r.plan first c account end
+  done_so first c account end d = subst (λ (x : Prepared). RegionDone x.plan first c account end) e d
 
   pub front_so : (first : MachineState) (waiting : List ℤ) (n : ℕ) (told tells : Option (List ℕ)) → WritesFront (prints_bytes (to_come w.plan first waiting n)) told tells → WritesFront (prints_bytes (to_come r.plan first waiting n)) told tells
   front_so first waiting n told tells f = subst (λ (x : Prepared). WritesFront (prints_bytes (to_come x.plan first waiting n)) told tells) e f

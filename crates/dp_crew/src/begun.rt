@@ -3,7 +3,7 @@ ghost use Rattle.std.specs.Prelude.{◌<◌, ◌≤◌, ◌-◌, ◌^◌};
 ghost use Rattle.dp_meaning.specs.MachineState.{MachineState};
 ghost use Rattle.dp_epoch.specs.Applied.{HasRoom};
 ghost use Rattle.dp_epoch.specs.InEpoch.{ToBegin};
-ghost use Rattle.dp_crew.specs.EpochRan.{EpochRan, MayBegin};
+ghost use Rattle.dp_crew.specs.EpochRan.{EpochRan};
 
 use crate::crew::Crew;
 use crate::epoch::run_epoch;
@@ -11,28 +11,27 @@ use crate::work::Work;
 use dp_commit::{Tally, Watch};
 use dp_edge::{Gate, Sink, WriteFail};
 use dp_epoch::{EpochEnd, Ledger, pipeline_here};
-use dp_pipeline::{LaneVerdicts, Pipeline};
+use dp_pipeline::Pipeline;
 use dp_stop::StopSetter;
-use std::alloc::Global;
 use std::sync::Wait;
 use std::time::Clock;
 
 /// Runs the epoch that begins behind what is committed.
-pub(crate) fn run_one_epoch<'p, 'u, E, R: Wait + Clock + Sync, K: Sink, G: Gate, W: Watch>(
+pub(crate) fn run_one_epoch<'p, 'v, 'u, E, R: Wait + Clock + Sync, K: Sink, G: Gate, W: Watch>(
     work: Work<'u, '_>,
     crew: &mut Crew<'_, 'u, E, R, G>,
-    ledger: Ledger<'p>,
+    ledger: Ledger<'p, 'v>,
     sink: &mut K,
     tally: &mut Tally<W>,
-) -> Result<(Ledger<'p>, EpochEnd), WriteFail>
+) -> Result<(Ledger<'p, 'v>, EpochEnd), WriteFail>
     requires fuel { ledger.committed.machine.fuel ≤ 1000000000 }
     requires sink { K.faults sink.old < 2 ^ 64 - 1 }
-    requires epoch { (first : MachineState) × ToBegin work.region.now.program work.region.now.plan work.input.now first ledger.committed ledger.report }
+    requires epoch { (first : MachineState) × ToBegin work.region.now.program work.region.now.plan work.input.now first ledger.committed ledger.account }
     requires room { HasRoom tally.old ledger.committed }
-    ensures ran { EpochRan (λ first. ToBegin work.entry.region.now.program work.entry.region.now.plan work.entry.input.now first ledger.entry.committed ledger.entry.report) work.entry.region.now.plan ledger.entry result (K.faults sink.old) (K.faults sink.new) (K.written sink.old) (K.written sink.new) tally.old tally.new }
+    ensures ran { EpochRan (λ first. ToBegin work.entry.region.now.program work.entry.region.now.plan work.entry.input.now first ledger.entry.committed ledger.entry.account) work.entry.region.now.plan ledger.entry result (K.faults sink.old) (K.faults sink.new) (K.written sink.old) (K.written sink.new) tally.old tally.new }
 {
     let mut setter = StopSetter::new(work.alloc)?;
-    let (begun, lent) = (&ledger.committed, &mut setter);
+    let (begun, lent) = (&ledger, &mut setter);
     let Pipeline { units, verdicts } = pipeline_here(
         work.alloc,
         work.region,
@@ -43,22 +42,7 @@ pub(crate) fn run_one_epoch<'p, 'u, E, R: Wait + Clock + Sync, K: Sink, G: Gate,
     )?;
     let mut polled = verdicts.polling(units);
     crew.begin();
-    let end = run_begun(crew, work.alloc, &mut polled, ledger, sink, tally);
+    let end = run_epoch(crew, work.alloc, &mut polled, ledger, sink, tally);
     crew.end(setter);
     end
-}
-
-/// Commits the iterations of the epoch that begins behind the ledger, as the verdicts come.
-fn run_begun<'p, 'u, E, R: Wait + Clock + Sync, K: Sink, G: Gate, W: Watch>(
-    crew: &mut Crew<'_, 'u, E, R, G>,
-    alloc: Global,
-    verdicts: &mut LaneVerdicts<'u>,
-    ledger: Ledger<'p>,
-    sink: &mut K,
-    tally: &mut Tally<W>,
-) -> Result<(Ledger<'p>, EpochEnd), WriteFail>
-    requires begins { MayBegin verdicts.old.key verdicts.old.given ledger (K.faults sink.old) tally.old }
-    ensures ran { EpochRan (λ first. ToBegin verdicts.old.key.program verdicts.old.key.plan verdicts.old.key.input first ledger.entry.committed ledger.entry.report) verdicts.old.key.plan ledger.entry result (K.faults sink.old) (K.faults sink.new) (K.written sink.old) (K.written sink.new) tally.old tally.new }
-{
-    run_epoch(crew, alloc, verdicts, ledger, sink, tally)
 }

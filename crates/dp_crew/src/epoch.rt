@@ -1,6 +1,7 @@
 //! One epoch: verdicts are taken, and clean iterations are committed in order.
 ghost use Rattle.std.specs.Prelude.{◌≡◌, ◌<◌, ◌-◌, ◌^◌};
 ghost use Rattle.dp_meaning.specs.MachineState.{MachineState};
+ghost use Rattle.dp_epoch.specs.Accounts.{TellsEnough};
 ghost use Rattle.dp_epoch.specs.Applied.{HasRoom};
 ghost use Rattle.dp_crew.specs.EpochRan.{EpochRan};
 ghost use Rattle.dp_epoch.specs.InEpoch.{InEpoch};
@@ -17,18 +18,19 @@ use std::time::Clock;
 
 /// Commits the iterations of an epoch as their verdicts come, and lets their prints wait or writes them, up to the region's
 /// end or the first iteration that isn't clean.
-pub(crate) fn run_epoch<'p, 'u, E, R: Wait + Clock + Sync, K: Sink, G: Gate, W: Watch>(
+pub(crate) fn run_epoch<'p, 'v, 'u, E, R: Wait + Clock + Sync, K: Sink, G: Gate, W: Watch>(
     crew: &mut Crew<'_, 'u, E, R, G>,
     alloc: Global,
     verdicts: &mut LaneVerdicts<'u>,
-    mut ledger: Ledger<'p>,
+    mut ledger: Ledger<'p, 'v>,
     sink: &mut K,
     tally: &mut Tally<W>,
-) -> Result<(Ledger<'p>, EpochEnd), WriteFail>
+) -> Result<(Ledger<'p, 'v>, EpochEnd), WriteFail>
     requires sink { K.faults sink.old < 2 ^ 64 - 1 }
-    requires epoch { (first : MachineState) × InEpoch verdicts.old.key verdicts.old.given first ledger.committed ledger.report }
+    requires epoch { (first : MachineState) × InEpoch verdicts.old.key verdicts.old.given first ledger.committed ledger.account }
+    requires stages { TellsEnough verdicts.old.tells_stages ledger.account }
     requires room { HasRoom tally.old ledger.committed }
-    ensures ran { EpochRan (λ first. InEpoch verdicts.old.key verdicts.old.given first ledger.entry.committed ledger.entry.report) verdicts.old.key.plan ledger.entry result (K.faults sink.old) (K.faults sink.new) (K.written sink.old) (K.written sink.new) tally.old tally.new }
+    ensures ran { EpochRan (λ first. InEpoch verdicts.old.key verdicts.old.given first ledger.entry.committed ledger.entry.account) verdicts.old.key.plan ledger.entry result (K.faults sink.old) (K.faults sink.new) (K.written sink.old) (K.written sink.new) tally.old tally.new }
     ensures key { verdicts.new.key ≡ verdicts.old.key }
 {
     let rt = crew.rt();
@@ -39,7 +41,7 @@ pub(crate) fn run_epoch<'p, 'u, E, R: Wait + Clock + Sync, K: Sink, G: Gate, W: 
         match taken {
             Taken::Committed => {}
             Taken::Closed => return Ok((ledger, EpochEnd::Closed)),
-            Taken::Unclean(cause) => return Ok((ledger, EpochEnd::Unclean(cause))),
+            Taken::Unclean => return Ok((ledger, EpochEnd::Unclean)),
         }
     }
 }

@@ -13,31 +13,31 @@ use crate::begun::run_one_epoch;
 use crate::crew::Crew;
 use crate::recover::recover_to_end;
 use crate::work::Work;
-use dp_base::Cause;
 use dp_commit::{Tally, Watch};
 use dp_edge::{Gate, Sink, WriteFail};
-use dp_epoch::{EpochEnd, Ledger, RegionEnd, count_recovered};
+use dp_epoch::{EpochEnd, Ledger, RegionEnd};
 use std::alloc::Global;
 use std::sync::Wait;
 use std::time::Clock;
 
 /// Runs epochs until the region or the run ends.
-pub(crate) fn run_epochs<'p, 'u, E, R: Wait + Clock + Sync, K: Sink, G: Gate, W: Watch>(
+pub(crate) fn run_epochs<'p, 'v, 'u, E, R: Wait + Clock + Sync, K: Sink, G: Gate, W: Watch>(
     work: Work<'u, '_>,
     crew: &mut Crew<'_, 'u, E, R, G>,
-    mut ledger: Ledger<'p>,
+    mut ledger: Ledger<'p, 'v>,
     sink: &mut K,
     tally: &mut Tally<W>,
-) -> Result<(Ledger<'p>, RegionEnd), WriteFail>
+) -> Result<(Ledger<'p, 'v>, RegionEnd), WriteFail>
     requires fuel { ledger.committed.machine.fuel ≤ 1000000000 }
     requires sink { K.faults sink.old < 2 ^ 64 - 1 }
-    requires start { (first : MachineState) × ToBegin work.region.now.program work.region.now.plan work.input.now first ledger.committed ledger.report }
+    requires start { (first : MachineState) × ToBegin work.region.now.program work.region.now.plan work.input.now first ledger.committed ledger.account }
     requires room { HasRoom tally.old ledger.committed }
     ensures faults { FaultsAfter result (K.faults sink.old) (K.faults sink.new) }
-    ensures ok { IfOk result (λ r. (first : MachineState) → ToBegin work.entry.region.now.program work.entry.region.now.plan work.entry.input.now first ledger.entry.committed ledger.entry.report → RegionDone work.entry.region.now.plan first r.0.committed r.0.report r.1) }
-    ensures streams { (first : MachineState) → ToBegin work.entry.region.now.program work.entry.region.now.plan work.entry.input.now first ledger.entry.committed ledger.entry.report →
+    ensures ok { IfOk result (λ r. (first : MachineState) → ToBegin work.entry.region.now.program work.entry.region.now.plan work.entry.input.now first ledger.entry.committed ledger.entry.account → RegionDone work.entry.region.now.plan first r.0.committed r.0.account r.1) }
+    ensures why { IfOk result (λ r. r.0.account.why ≡ ledger.entry.account.why) }
+    ensures streams { (first : MachineState) → ToBegin work.entry.region.now.program work.entry.region.now.plan work.entry.input.now first ledger.entry.committed ledger.entry.account →
         Streams result (to_come work.entry.region.now.plan first ledger.entry.waiting ledger.entry.committed.count) (λ r. r.0.waiting) (K.written sink.old) (K.written sink.new) }
-    ensures tally { IfOk result (λ r. tally.new + r.0.report.recovered_count + ledger.entry.report.iterations ≡ tally.old + r.0.report.iterations + ledger.entry.report.recovered_count) }
+    ensures tally { IfOk result (λ r. tally.new + r.0.account.report.recovered_count + ledger.entry.account.report.iterations ≡ tally.old + r.0.account.report.iterations + ledger.entry.account.report.recovered_count) }
 {
     'epochs: loop {
         let (after, end) = run_one_epoch(work, crew, ledger, sink, tally)?;
@@ -50,74 +50,75 @@ pub(crate) fn run_epochs<'p, 'u, E, R: Wait + Clock + Sync, K: Sink, G: Gate, W:
 }
 
 /// Goes on behind an epoch that ended so: where an iteration isn't clean, it is executed again.
-fn recover<'p, K: Sink, W: Watch>(
+fn recover<'p, 'v, K: Sink, W: Watch>(
     alloc: Global,
-    ledger: Ledger<'p>,
+    ledger: Ledger<'p, 'v>,
     end: EpochEnd,
     sink: &mut K,
     tally: &mut Tally<W>,
-) -> Result<(Ledger<'p>, Option<RegionEnd>), WriteFail>
+) -> Result<(Ledger<'p, 'v>, Option<RegionEnd>), WriteFail>
     requires sink { K.faults sink.old < 2 ^ 64 - 1 }
-    requires ended { (plan : Plan) × (first : MachineState) × EpochEnds plan first ledger.committed ledger.report end }
+    requires ended { (plan : Plan) × (first : MachineState) × EpochEnds plan first ledger.committed ledger.account end }
     ensures faults { FaultsAfter result (K.faults sink.old) (K.faults sink.new) }
-    ensures ok { IfOk result (λ r. (plan : Plan) (first : MachineState) → EpochEnds plan first ledger.entry.committed ledger.entry.report end → AfterRecovery plan first r.0.committed r.0.report r.1) }
-    ensures streams { (plan : Plan) (first : MachineState) → EpochEnds plan first ledger.entry.committed ledger.entry.report end →
+    ensures ok { IfOk result (λ r. (plan : Plan) (first : MachineState) → EpochEnds plan first ledger.entry.committed ledger.entry.account end → AfterRecovery plan first r.0.committed r.0.account r.1) }
+    ensures streams { (plan : Plan) (first : MachineState) → EpochEnds plan first ledger.entry.committed ledger.entry.account end →
         Streams result (left_by_epoch plan first ledger.entry.waiting ledger.entry.committed.count end) (λ r. left_by_recovery plan first r.0.waiting r.0.committed.count r.1) (K.written sink.old) (K.written sink.new) }
-    ensures counts { IfOk result (λ r. r.0.report.iterations + ledger.entry.report.recovered_count ≡ ledger.entry.report.iterations + r.0.report.recovered_count) }
+    ensures counts { IfOk result (λ r. r.0.account.report.iterations + ledger.entry.account.report.recovered_count ≡ ledger.entry.account.report.iterations + r.0.account.report.recovered_count) }
+    ensures why { IfOk result (λ r. r.0.account.why ≡ ledger.entry.account.why) }
     ensures left { IfOk result (λ r. r.1 ≡ None → left_of r.0.committed < left_of ledger.entry.committed) }
     ensures tally { tally.new ≡ tally.old }
 {
     match end {
         EpochEnd::Closed => Ok((ledger, Some(RegionEnd::Closed))),
-        EpochEnd::Unclean(cause) => recover_unclean(alloc, ledger, cause, sink, tally),
+        EpochEnd::Unclean => recover_unclean(alloc, ledger, sink, tally),
     }
 }
 
 /// Executes the iteration again that isn't clean.
-fn recover_unclean<'p, K: Sink, W: Watch>(
+fn recover_unclean<'p, 'v, K: Sink, W: Watch>(
     alloc: Global,
-    mut ledger: Ledger<'p>,
-    cause: Cause,
+    mut ledger: Ledger<'p, 'v>,
     sink: &mut K,
     tally: &mut Tally<W>,
-) -> Result<(Ledger<'p>, Option<RegionEnd>), WriteFail>
+) -> Result<(Ledger<'p, 'v>, Option<RegionEnd>), WriteFail>
     requires sink { K.faults sink.old < 2 ^ 64 - 1 }
-    requires unclean { (plan : Plan) × (first : MachineState) × IsUnclean plan first ledger.committed ledger.report cause }
+    requires unclean { (plan : Plan) × (first : MachineState) × IsUnclean plan first ledger.committed ledger.account }
     ensures faults { FaultsAfter result (K.faults sink.old) (K.faults sink.new) }
-    ensures ok { IfOk result (λ r. (plan : Plan) (first : MachineState) → IsUnclean plan first ledger.entry.committed ledger.entry.report cause → AfterRecovery plan first r.0.committed r.0.report r.1) }
-    ensures streams { (plan : Plan) (first : MachineState) → IsUnclean plan first ledger.entry.committed ledger.entry.report cause →
+    ensures ok { IfOk result (λ r. (plan : Plan) (first : MachineState) → IsUnclean plan first ledger.entry.committed ledger.entry.account → AfterRecovery plan first r.0.committed r.0.account r.1) }
+    ensures streams { (plan : Plan) (first : MachineState) → IsUnclean plan first ledger.entry.committed ledger.entry.account →
         Streams result (to_come plan first ledger.entry.waiting ledger.entry.committed.count) (λ r. left_by_recovery plan first r.0.waiting r.0.committed.count r.1) (K.written sink.old) (K.written sink.new) }
-    ensures counts { IfOk result (λ r. r.0.report.iterations + ledger.entry.report.recovered_count ≡ ledger.entry.report.iterations + r.0.report.recovered_count) }
+    ensures counts { IfOk result (λ r. r.0.account.report.iterations + ledger.entry.account.report.recovered_count ≡ ledger.entry.account.report.iterations + r.0.account.report.recovered_count) }
+    ensures why { IfOk result (λ r. r.0.account.why ≡ ledger.entry.account.why) }
     ensures left { IfOk result (λ r. r.1 ≡ None → left_of r.0.committed < left_of ledger.entry.committed) }
     ensures tally { tally.new ≡ tally.old }
 {
-    let end = recover_iteration(alloc, &mut ledger, cause, sink, tally)?;
+    let end = recover_iteration(alloc, &mut ledger, sink, tally)?;
     Ok((ledger, end))
 }
 
 /// Executes the iteration again that isn't clean. A begun one is counted, listed and told.
 fn recover_iteration<K: Sink, W: Watch>(
     alloc: Global,
-    ledger: &mut Ledger<'_>,
-    cause: Cause,
+    ledger: &mut Ledger<'_, '_>,
     sink: &mut K,
     tally: &mut Tally<W>,
 ) -> Result<Option<RegionEnd>, WriteFail>
     requires sink { K.faults sink.old < 2 ^ 64 - 1 }
-    requires unclean { (plan : Plan) × (first : MachineState) × IsUnclean plan first ledger.old.committed ledger.old.report cause }
+    requires unclean { (plan : Plan) × (first : MachineState) × IsUnclean plan first ledger.old.committed ledger.old.account }
     ensures faults { FaultsAfter result (K.faults sink.old) (K.faults sink.new) }
-    ensures ok { IfOk result (λ end. (plan : Plan) (first : MachineState) → IsUnclean plan first ledger.old.committed ledger.old.report cause → AfterRecovery plan first ledger.new.committed ledger.new.report end) }
-    ensures streams { (plan : Plan) (first : MachineState) → IsUnclean plan first ledger.old.committed ledger.old.report cause →
+    ensures ok { IfOk result (λ end. (plan : Plan) (first : MachineState) → IsUnclean plan first ledger.old.committed ledger.old.account → AfterRecovery plan first ledger.new.committed ledger.new.account end) }
+    ensures streams { (plan : Plan) (first : MachineState) → IsUnclean plan first ledger.old.committed ledger.old.account →
         Streams result (to_come plan first ledger.old.waiting ledger.old.committed.count) (left_by_recovery plan first ledger.new.waiting ledger.new.committed.count) (K.written sink.old) (K.written sink.new) }
-    ensures counts { OnOk result (ledger.new.report.iterations + ledger.old.report.recovered_count ≡ ledger.old.report.iterations + ledger.new.report.recovered_count) }
+    ensures counts { OnOk result (ledger.new.account.report.iterations + ledger.old.account.report.recovered_count ≡ ledger.old.account.report.iterations + ledger.new.account.report.recovered_count) }
+    ensures why { OnOk result (ledger.new.account.why ≡ ledger.old.account.why) }
     ensures left { IfOk result (λ end. end ≡ None → left_of ledger.new.committed < left_of ledger.old.committed) }
     ensures tally { tally.new ≡ tally.old }
 {
     let number = ledger.committed.count();
     let begun = ledger.committed.steps() < ledger.committed.fuel();
-    let end = recover_to_end(alloc, &mut ledger.committed, &mut ledger.waiting, sink)?;
+    let end = recover_to_end(alloc, ledger, sink)?;
     if begun {
-        count_recovered(&mut ledger.report, number, cause)?;
+        ledger.count_again(number, end)?;
         tally.again(ledger.committed.steps());
     }
     Ok(end)

@@ -4,6 +4,7 @@ ghost use Rattle.dp_edge.specs.Sink.{appended};
 ghost use Rattle.dp_report.specs.PrintsText.{prints_bytes};
 ghost use Rattle.dp_semantics.specs.Reported.{region_report};
 ghost use Rattle.dp_edge.specs.Writing.{FaultsAfter, WritesFront};
+ghost use Rattle.dp_epoch.specs.Accounts.{told_when};
 ghost use Rattle.dp_epoch.specs.RegionRun.{RegionRan, RegionStart, region_prints, region_run};
 
 use crate::settling::settle;
@@ -23,7 +24,7 @@ use std::sync::Wait;
 use std::thread::Threads;
 use std::time::Clock;
 
-/// Runs the prepared region, which comes next: writes its prints, and fills its report.
+/// Runs the prepared region, which comes next: writes its prints, and fills its report, with causes where `why` asks for them.
 pub fn run_region<'p, R: Threads + Wait + Clock + Sync, K: Sink, G: Gate, W: Watch>(
     rt: &R,
     alloc: Global,
@@ -31,6 +32,7 @@ pub fn run_region<'p, R: Threads + Wait + Clock + Sync, K: Sink, G: Gate, W: Wat
     input: &'p [i64],
     machine: Machine<'p>,
     size: CrewSize,
+    why: bool,
     report: &mut RegionReport,
     sink: &mut K,
     gate: &G,
@@ -43,16 +45,14 @@ pub fn run_region<'p, R: Threads + Wait + Clock + Sync, K: Sink, G: Gate, W: Wat
     requires room { tally.old + (machine.fuel - machine.steps) < 2 ^ 64 }
     ensures faults { FaultsAfter result (K.faults sink.old) (K.faults sink.new) }
     ensures ran { IfOk result (λ ran. RegionRan region.now.program region.now.plan machine.entry ran.0 ran.1) }
-    ensures report { OnOk result (report.new ≡ region_report region.now.program region.now.plan (region_run machine.entry)) }
+    ensures report { OnOk result (report.new ≡ told_when why (region_report region.now.program region.now.plan (region_run machine.entry))) }
     ensures written { OnOk result (K.written sink.new ≡ appended (prints_bytes (region_prints (region_run machine.entry) region.now.plan.region)) (K.written sink.old)) }
     ensures front { OnErr result (WritesFront (prints_bytes (region_prints (region_run machine.entry) region.now.plan.region)) (K.written sink.old) (K.written sink.new)) }
     ensures tally { OnOk result (tally.new + report.new.recovered_count ≡ tally.old + report.new.iterations) }
 {
-    // It tells besides that the plan is the program's.
-    let _program = region.program();
     let plan = region.plan();
     let made = bells_of(alloc, plan, size)?;
-    let begun = Ledger::begin(alloc, machine, plan.region);
+    let begun = Ledger::begin(alloc, machine, region.program(), plan, why)?;
     let work = Work::new(alloc, region, input, size, made.as_slice());
     let (ledger, end) = run_together(rt, gate, work, begun, sink, tally)?;
     let machine = settle(ledger, alloc, report, sink)?;

@@ -12,7 +12,7 @@ use std::alloc::Global;
 
 /// Writes the prints that wait, hands over the report, and gives the machine back.
 pub(crate) fn settle<'p, K: Sink>(
-    ledger: Ledger<'p>,
+    ledger: Ledger<'p, '_>,
     alloc: Global,
     report: &mut RegionReport,
     sink: &mut K,
@@ -20,15 +20,15 @@ pub(crate) fn settle<'p, K: Sink>(
     requires sink { K.faults sink.old < 2 ^ 64 - 1 }
     ensures faults { FaultsAfter result (K.faults sink.old) (K.faults sink.new) }
     ensures machine { IfOk result (λ machine. machine ≡ ledger.entry.committed.machine) }
-    ensures report { OnOk result (report.new ≡ ledger.entry.report) }
+    ensures report { OnOk result (report.new ≡ ledger.entry.account.report) }
     ensures streams { Streams result ledger.entry.waiting (λ _. []) (K.written sink.old) (K.written sink.new) }
 {
     let Ledger {
         committed,
-        report: counted,
+        account,
         mut waiting,
     } = ledger;
     flush(alloc, &mut waiting, sink)?;
-    *report = counted;
+    *report = account.into_report();
     Ok(committed.finish())
 }

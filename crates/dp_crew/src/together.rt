@@ -21,23 +21,24 @@ use std::thread::Threads;
 use std::time::Clock;
 
 /// Runs epochs until the region or the run ends. Then every thread has ended.
-pub(crate) fn run_together<'p, R: Threads + Wait + Clock + Sync, K: Sink, G: Gate, W: Watch>(
+pub(crate) fn run_together<'p, 'v, R: Threads + Wait + Clock + Sync, K: Sink, G: Gate, W: Watch>(
     rt: &R,
     gate: &G,
     work: Work<'_, '_>,
-    ledger: Ledger<'p>,
+    ledger: Ledger<'p, 'v>,
     sink: &mut K,
     tally: &mut Tally<W>,
-) -> Result<(Ledger<'p>, RegionEnd), WriteFail>
+) -> Result<(Ledger<'p, 'v>, RegionEnd), WriteFail>
     requires fuel { ledger.committed.machine.fuel ≤ 1000000000 }
     requires sink { K.faults sink.old < 2 ^ 64 - 1 }
-    requires start { (first : MachineState) × ToBegin work.region.now.program work.region.now.plan work.input.now first ledger.committed ledger.report }
+    requires start { (first : MachineState) × ToBegin work.region.now.program work.region.now.plan work.input.now first ledger.committed ledger.account }
     requires room { HasRoom tally.old ledger.committed }
     ensures faults { FaultsAfter result (K.faults sink.old) (K.faults sink.new) }
-    ensures ok { IfOk result (λ r. (first : MachineState) → ToBegin work.entry.region.now.program work.entry.region.now.plan work.entry.input.now first ledger.entry.committed ledger.entry.report → RegionDone work.entry.region.now.plan first r.0.committed r.0.report r.1) }
-    ensures streams { (first : MachineState) → ToBegin work.entry.region.now.program work.entry.region.now.plan work.entry.input.now first ledger.entry.committed ledger.entry.report →
+    ensures ok { IfOk result (λ r. (first : MachineState) → ToBegin work.entry.region.now.program work.entry.region.now.plan work.entry.input.now first ledger.entry.committed ledger.entry.account → RegionDone work.entry.region.now.plan first r.0.committed r.0.account r.1) }
+    ensures why { IfOk result (λ r. r.0.account.why ≡ ledger.entry.account.why) }
+    ensures streams { (first : MachineState) → ToBegin work.entry.region.now.program work.entry.region.now.plan work.entry.input.now first ledger.entry.committed ledger.entry.account →
         Streams result (to_come work.entry.region.now.plan first ledger.entry.waiting ledger.entry.committed.count) (λ r. r.0.waiting) (K.written sink.old) (K.written sink.new) }
-    ensures tally { IfOk result (λ r. tally.new + r.0.report.recovered_count + ledger.entry.report.iterations ≡ tally.old + r.0.report.iterations + ledger.entry.report.recovered_count) }
+    ensures tally { IfOk result (λ r. tally.new + r.0.account.report.recovered_count + ledger.entry.account.report.iterations ≡ tally.old + r.0.account.report.iterations + ledger.entry.account.report.recovered_count) }
 {
     let made = trays_for(work.alloc, work.bells.len().saturating_sub(1))?;
     let trays = made.as_slice();
@@ -48,19 +49,20 @@ pub(crate) fn run_together<'p, R: Threads + Wait + Clock + Sync, K: Sink, G: Gat
         move |scope| -> (
             &mut K,
             &mut Tally<W>,
-            Result<(Ledger<'_>, RegionEnd), WriteFail>,
+            Result<(Ledger<'_, '_>, RegionEnd), WriteFail>,
         )
             requires fuel { ledger.committed.machine.fuel ≤ 1000000000 }
             requires sink { K.faults lent_sink.now < 2 ^ 64 - 1 }
-            requires start { (first : MachineState) × ToBegin work.region.now.program work.region.now.plan work.input.now first ledger.committed ledger.report }
+            requires start { (first : MachineState) × ToBegin work.region.now.program work.region.now.plan work.input.now first ledger.committed ledger.account }
             requires room { HasRoom lent_tally.now ledger.committed }
             ensures sink { result.0.ghost_name ≡ lent_sink.entry.ghost_name }
             ensures tallies { result.1.ghost_name ≡ lent_tally.entry.ghost_name }
             ensures faults { FaultsAfter result.2 (K.faults lent_sink.entry.now) (K.faults result.0.now) }
-            ensures ok { IfOk result.2 (λ r. (first : MachineState) → ToBegin work.entry.region.now.program work.entry.region.now.plan work.entry.input.now first ledger.entry.committed ledger.entry.report → RegionDone work.entry.region.now.plan first r.0.committed r.0.report r.1) }
-            ensures streams { (first : MachineState) → ToBegin work.entry.region.now.program work.entry.region.now.plan work.entry.input.now first ledger.entry.committed ledger.entry.report →
+            ensures ok { IfOk result.2 (λ r. (first : MachineState) → ToBegin work.entry.region.now.program work.entry.region.now.plan work.entry.input.now first ledger.entry.committed ledger.entry.account → RegionDone work.entry.region.now.plan first r.0.committed r.0.account r.1) }
+            ensures why { IfOk result.2 (λ r. r.0.account.why ≡ ledger.entry.account.why) }
+            ensures streams { (first : MachineState) → ToBegin work.entry.region.now.program work.entry.region.now.plan work.entry.input.now first ledger.entry.committed ledger.entry.account →
                 Streams result.2 (to_come work.entry.region.now.plan first ledger.entry.waiting ledger.entry.committed.count) (λ r. r.0.waiting) (K.written lent_sink.entry.now) (K.written result.0.now) }
-            ensures tally { IfOk result.2 (λ r. result.1.now + r.0.report.recovered_count + ledger.entry.report.iterations ≡ lent_tally.entry.now + r.0.report.iterations + ledger.entry.report.recovered_count) }
+            ensures tally { IfOk result.2 (λ r. result.1.now + r.0.account.report.recovered_count + ledger.entry.account.report.iterations ≡ lent_tally.entry.now + r.0.account.report.iterations + ledger.entry.account.report.recovered_count) }
         {
             let mut crew = Crew::new(scope, rt, gate, trays, work.bells);
             let end = run_epochs(work, &mut crew, ledger, lent_sink, lent_tally);

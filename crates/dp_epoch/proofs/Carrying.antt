@@ -1,7 +1,7 @@
 -- A verdict that carries what the source does in iteration `count` carries the iteration that comes next.
 use Rattle.std.proofs.Common.{◌≡◌, sym, ap, ◌∙◌, subst, ℕ, ◌+◌, true, length, arith}
 use Rattle.std.proofs.lemmas.List.{length-map}
-use Rattle.dp_base.specs.declared.RegionReport.{RegionReport}
+use Rattle.dp_epoch.specs.declared.account.Account.{Account}
 use Rattle.dp_tree.specs.Trace.{Run, prints, printed_by}
 use Rattle.dp_tree.specs.Iteration.{iteration, is_closing, has_ended}
 use Rattle.dp_plan.specs.declared.Plan.{Plan}
@@ -14,19 +14,19 @@ use Rattle.dp_commit.specs.CommittedState.{CommittedState, CarriesNext, region_r
 use Rattle.dp_epoch.specs.Progress.{Progress}
 use Rattle.dp_epoch.proofs.Here.{goes_here}
 
-module _ (plan : Plan) (first : MachineState) (c : CommittedState) (report : RegionReport) (g : Progress plan first c report) where
+module _ (plan : Plan) (first : MachineState) (c : CommittedState) (account : Account) (g : Progress plan first c account) where
   abbrev run : Run
   run = region_run first
 
   -- iteration `count` is the first one of the rest
   pub iteration_same : iteration run plan.region c.count ≡ iteration (rest_of_run c.machine) plan.region 0
-  iteration_same = (let e : c.count ≡ c.count + 0 = omega arith in ap (iteration run plan.region) e) ∙ (goes_here plan first c report g).iterations 0
+  iteration_same = (let e : c.count ≡ c.count + 0 = omega arith in ap (iteration run plan.region) e) ∙ (goes_here plan first c account g).iterations 0
 
   pub ended_same : has_ended run plan.region c.count ≡ has_ended (rest_of_run c.machine) plan.region 0
-  ended_same = (let e : c.count ≡ c.count + 0 = omega arith in ap (has_ended run plan.region) e) ∙ (goes_here plan first c report g).ended 0
+  ended_same = (let e : c.count ≡ c.count + 0 = omega arith in ap (has_ended run plan.region) e) ∙ (goes_here plan first c account g).ended 0
 
   pub closing_same : is_closing run plan.region c.count ≡ is_closing (rest_of_run c.machine) plan.region 0
-  closing_same = (let e : c.count ≡ c.count + 0 = omega arith in ap (is_closing run plan.region) e) ∙ (goes_here plan first c report g).closing 0
+  closing_same = (let e : c.count ≡ c.count + 0 = omega arith in ap (is_closing run plan.region) e) ∙ (goes_here plan first c account g).closing 0
 
   carries : has_ended run plan.region c.count ≡ true → CarriesNext (record { machine = c.machine; region = plan.region; count = c.count }) (carried (done_in plan run c.count))
   carries ended = record {

@@ -1,5 +1,5 @@
 -- The report of one iteration more, and the count of begun iterations.
-use Rattle.std.proofs.Common.{◌≡◌, refl, sym, ap, ◌∙◌, ℕ, zero, suc, ◌+◌, ◌<◌, ◌≤◌, Bool, true, false, cond, List, [], ◌∷◌, ◌++◌, length, take, filter, map, count_by, take_all, length-append, arith}
+use Rattle.std.proofs.Common.{◌≡◌, refl, sym, ap, ◌∙◌, ℕ, zero, suc, ◌+◌, ◌<◌, ◌≤◌, Bool, true, false, cond, List, [], ◌∷◌, ◌++◌, length, take, filter, map, count_by, take_all, length-append, Option, arith}
 use Rattle.std.proofs.lemmas.List.{append-nil, length-take, take-append-le}
 use Rattle.std.proofs.lemmas.List.Sums.{sum_by-cons}
 use Rattle.dp_base.specs.declared.Cause.{Cause}
@@ -11,6 +11,7 @@ use Rattle.dp_semantics.specs.Reported.{report_of, region_report}
 use Rattle.dp_tree.specs.Iteration.{begun_count}
 use Rattle.dp_meaning.specs.MachineState.{MachineState}
 use Rattle.dp_commit.specs.CommittedState.{region_run}
+use Rattle.dp_epoch.specs.Accounts.{Explains, listed, told_when}
 use Rattle.dp_epoch.specs.Progress.{again_before, report_before}
 
 count_push : (k n : ℕ) → numbers_from k (suc n) ≡ numbers_from k n ++ (k + n) ∷ []
@@ -60,6 +61,54 @@ pub report_counts : (r n : ℕ) (again : List ℕ) (f : ℕ → Cause) (report :
 report_counts r n again f report number e =
     ap (λ (x : RegionReport). record x { iterations = number + 1; recovered_count = x.recovered_count + 1 }) e
     ∙ ap (λ (k : ℕ). record { region = r; iterations = number + 1; recovered_count = k; recovered = take 1000 (again ++ number ∷ []); causes = map f (take 1000 (again ++ number ∷ [])) }) (sym (length-append again (number ∷ [])))
+
+-- the same of what is told, with the causes or without them
+pub told_grows : (why : Bool) (r n : ℕ) (again : List ℕ) (f : ℕ → Cause) (report : RegionReport) (number : ℕ) (told : Option Cause) → report ≡ told_when why (report_of r n again f) → Explains why again told (f number) → length report.recovered < 1000 →
+    record report { recovered = report.recovered ++ number ∷ []; causes = report.causes ++ listed told } ≡ told_when why (record (report_of r n (again ++ number ∷ []) f) { recovered_count = length again })
+told_grows true r n again f report number told e w room =
+    let size = ap (λ (x : RegionReport). length x.recovered) e ∙ length-take 1000 again in
+    let few : length again < 1000 = omega (arith, size, room) in
+    ap (λ (o : Option Cause). record report { recovered = report.recovered ++ number ∷ []; causes = report.causes ++ listed o }) (w few)
+    ∙ list_grows r n again f report number (f number) e refl room
+told_grows false r n again f report number told e w room =
+    let size = ap (λ (x : RegionReport). length x.recovered) e ∙ length-take 1000 again in
+    let few : length again < 1000 = omega (arith, size, room) in
+    ap (λ (o : Option Cause). record report { recovered = report.recovered ++ number ∷ []; causes = report.causes ++ listed o }) w
+    ∙ ap (λ (x : RegionReport). record x { recovered = x.recovered ++ number ∷ []; causes = x.causes ++ [] }) e
+    ∙ ap (λ (ks : List ℕ). record { region = r; iterations = n; recovered_count = length again; recovered = ks; causes = [] }) (sym (kept_more again number few))
+
+pub told_stays : (why : Bool) (r n : ℕ) (again : List ℕ) (f : ℕ → Cause) (report : RegionReport) (number : ℕ) → report ≡ told_when why (report_of r n again f) → 1000 ≤ length report.recovered →
+    report ≡ told_when why (record (report_of r n (again ++ number ∷ []) f) { recovered_count = length again })
+told_stays true r n again f report number e full = list_stays r n again f report number e full
+told_stays false r n again f report number e full =
+    let size = ap (λ (x : RegionReport). length x.recovered) e ∙ length-take 1000 again in
+    let many : 1000 ≤ length again = omega (arith, size, full) in
+    e ∙ ap (λ (ks : List ℕ). record { region = r; iterations = n; recovered_count = length again; recovered = ks; causes = [] }) (sym (take-append-le 1000 again (number ∷ []) many))
+
+pub told_counts : (why : Bool) (r n : ℕ) (again : List ℕ) (f : ℕ → Cause) (report : RegionReport) (number : ℕ) → report ≡ told_when why (record (report_of r n (again ++ number ∷ []) f) { recovered_count = length again }) →
+    record report { iterations = number + 1; recovered_count = report.recovered_count + 1 } ≡ told_when why (report_of r (number + 1) (again ++ number ∷ []) f)
+told_counts true r n again f report number e = report_counts r n again f report number e
+told_counts false r n again f report number e =
+    ap (λ (x : RegionReport). record x { iterations = number + 1; recovered_count = x.recovered_count + 1 }) e
+    ∙ ap (λ (k : ℕ). record { region = r; iterations = number + 1; recovered_count = k; recovered = take 1000 (again ++ number ∷ []); causes = [] }) (sym (length-append again (number ∷ [])))
+
+-- another number of iterations
+pub told_iterations : (why : Bool) (r : RegionReport) (k : ℕ) → record (told_when why r) { iterations = k } ≡ told_when why (record r { iterations = k })
+told_iterations true r k = refl
+told_iterations false r k = refl
+
+-- what is told beside the causes
+pub told_count : (why : Bool) (r : RegionReport) → (told_when why r).recovered_count ≡ r.recovered_count
+told_count true r = refl
+told_count false r = refl
+
+pub told_listed : (why : Bool) (r : RegionReport) → (told_when why r).recovered ≡ r.recovered
+told_listed true r = refl
+told_listed false r = refl
+
+pub told_begun : (why : Bool) (r : RegionReport) → (told_when why r).iterations ≡ r.iterations
+told_begun true r = refl
+told_begun false r = refl
 
 module _ (plan : Plan) (first : MachineState) (i : ℕ) where
   again_next : again_before plan first (suc i) ≡ again_before plan first i ++ cond (is_recovered first.program plan (region_run first) i) (i ∷ []) []

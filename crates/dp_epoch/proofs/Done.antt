@@ -1,6 +1,6 @@
 -- The region has ended: it was left.
 use Rattle.std.proofs.Common.{◌≡◌, refl, sym, ap, ◌∙◌, subst, ℕ, suc, ◌+◌, ◌<◌, Bool, true, false, cond, List, [], ◌∷◌, All, map, drop, length, lt-ltb, Option, Some, None, ℤ, arith}
-use Rattle.dp_base.specs.declared.RegionReport.{RegionReport}
+use Rattle.dp_epoch.specs.declared.account.Account.{Account}
 use Rattle.dp_plan.specs.declared.Plan.{Plan}
 use Rattle.dp_tree.specs.Step.{Config, Event}
 use Rattle.dp_tree.specs.Trace.{Run}
@@ -16,6 +16,7 @@ use Rattle.dp_commit.proofs.Committing.{held_closed}
 use Rattle.dp_tree.specs.InMain.{StandsInMain}
 use Rattle.dp_epoch.specs.declared.ends.RegionEnd.TheVariants as region_end
 use Rattle.dp_epoch.specs.RegionRun.{RegionMade, beyond}
+use Rattle.dp_epoch.specs.Accounts.{Reports, told_when}
 use Rattle.dp_epoch.specs.Progress.{Progress, RegionDone, report_before}
 use Rattle.dp_epoch.proofs.Counting.{whole_report}
 use Rattle.dp_epoch.proofs.Here.{first_there, goes_here, once, rest_fuel, stands_there}
@@ -26,7 +27,7 @@ unmoved : (made : ℕ) (k : Option ℕ) → moved made k ≡ None → k ≡ None
 unmoved made None e = refl
 unmoved made (Some k) e = absurd (cc)
 
-module _ (plan : Plan) (first : MachineState) (c : CommittedState) (report : RegionReport) (g : Progress plan first c report) (m : MachineState) where
+module _ (plan : Plan) (first : MachineState) (c : CommittedState) (account : Account) (g : Progress plan first c account) (m : MachineState) where
   abbrev run : Run
   run = region_run first
 
@@ -54,24 +55,24 @@ module _ (plan : Plan) (first : MachineState) (c : CommittedState) (report : Reg
       }
 
   next_start : start run plan.region (c.count + 1) ≡ moved made (start rest plan.region 1)
-  next_start = (goes_here plan first c report g).started 1
+  next_start = (goes_here plan first c account g).started 1
 
   -- The region was left.
   module _ (turns : ℕ) (before after : List ℤ) (call : IterationRun c.region turns c.machine m before after iter_end.Closed) where
     held : Holds first (record c { machine = m; count = c.count + 1 })
-    held = (held_closed first c g.holds g.is_open m turns before after (once plan first c report g c.count _ (started first c g.holds g.is_open)) call).held
+    held = (held_closed first c g.holds g.is_open m turns before after (once plan first c account g c.count _ (started first c g.holds g.is_open)) call).held
 
-    events_are : iteration run plan.region c.count ≡ call.events
+    pub events_are : iteration run plan.region c.count ≡ call.events
     events_are = ap (λ (r : ℕ). iteration run r c.count) (sym g.region)
-        ∙ (held_closed first c g.holds g.is_open m turns before after (once plan first c report g c.count _ (started first c g.holds g.is_open)) call).iteration_is
+        ∙ (held_closed first c g.holds g.is_open m turns before after (once plan first c account g c.count _ (started first c g.holds g.is_open)) call).iteration_is
 
-    closing_here : is_closing run plan.region c.count ≡ true
+    pub closing_here : is_closing run plan.region c.count ≡ true
     closing_here = ap closes events_are ∙ ap (λ (o : Option ℕ). has_closed o call.events) (sym g.is_open.between) ∙ call.stops.closed
 
     none_left : start rest plan.region 1 ≡ None
     none_left =
         unmoved made (start rest plan.region 1) (sym next_start ∙ ap (λ (r : ℕ). start run r (c.count + 1)) (sym g.region)
-        ∙ once plan first c report g c.count _ (started first c g.holds g.is_open) (ap (λ (r : ℕ). is_closing run r c.count) g.region ∙ closing_here))
+        ∙ once plan first c account g c.count _ (started first c g.holds g.is_open) (ap (λ (r : ℕ). is_closing run r c.count) g.region ∙ closing_here))
 
     pub some_step : c.machine.steps < c.machine.fuel
     some_step = by call.events refl
@@ -83,12 +84,12 @@ module _ (plan : Plan) (first : MachineState) (c : CommittedState) (report : Reg
         by (x ∷ es) e = let size = ap length e in omega (arith, size, call.moved.run.fuel, rest_fuel c.machine)
 
     pub begun_is : begun_count run plan.region ≡ c.count + 1
-    begun_is = last_begun plan first c report g none_left ∙ ap (λ (b : Bool). c.count + cond b 1 0) (lt-ltb c.machine.steps c.machine.fuel some_step)
+    begun_is = last_begun plan first c account g none_left ∙ ap (λ (b : Bool). c.count + cond b 1 0) (lt-ltb c.machine.steps c.machine.fuel some_step)
 
     stands : StandsInMain first.program m.config
     stands = stands_there plan first g.start (record c { machine = m; count = c.count + 1 }) held
 
-    pub closed_done : (more : RegionReport) → more ≡ report_before plan first (c.count + 1) → RegionDone plan first (record c { machine = m; count = c.count + 1 }) more region_end.Closed
+    pub closed_done : (more : Account) → Reports more (report_before plan first (c.count + 1)) → RegionDone plan first (record c { machine = m; count = c.count + 1 }) more region_end.Closed
     closed_done more told = record {
       ran = record {
         made = made_by (events_of_first run c.region (c.count + 1)) held.configs (c.count + 1) begun_is (ap (λ (r : ℕ). events_of_first run r (c.count + 1)) g.region) held.piece
@@ -97,9 +98,9 @@ module _ (plan : Plan) (first : MachineState) (c : CommittedState) (report : Reg
           iteration = c.count;
           is_last = begun_is ∙ (let e : c.count + 1 ≡ suc c.count = omega arith in e);
           closing = closing_here;
-          left = call.stops.rest ∙ ap (drop 1) (first_there plan first c report g);
+          left = call.stops.rest ∙ ap (drop 1) (first_there plan first c account g);
           between = call.stops.current;
         };
       };
-      report_is = told ∙ whole_report plan first (c.count + 1) begun_is;
+      report_is = told ∙ ap (told_when more.why) (whole_report plan first (c.count + 1) begun_is);
     }

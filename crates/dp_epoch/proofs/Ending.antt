@@ -4,7 +4,7 @@ use Rattle.std.proofs.lemmas.Bool.{cases_lt}
 use Rattle.std.proofs.lemmas.List.Elements.{All-weaker, All-cons, All-nil}
 use Rattle.std.proofs.lemmas.List.Sums.{list_all-from_AllPass}
 use Rattle.std.specs.List.{list_all}
-use Rattle.dp_base.specs.declared.RegionReport.{RegionReport}
+use Rattle.dp_epoch.specs.declared.account.Account.{Account}
 use Rattle.dp_plan.specs.declared.Plan.{Plan}
 use Rattle.dp_tree.specs.Step.{Config, Event}
 use Rattle.dp_tree.specs.Trace.{Run}
@@ -65,7 +65,7 @@ no_tail : (ks : List ℕ) → slice_get (0 ∷ ks) 1 ≡ None → ks ≡ []
 no_tail [] e = refl
 no_tail (k ∷ ks) e = absurd (cc)
 
-module _ (plan : Plan) (first : MachineState) (c : CommittedState) (report : RegionReport) (g : Progress plan first c report) where
+module _ (plan : Plan) (first : MachineState) (c : CommittedState) (account : Account) (g : Progress plan first c account) where
   abbrev run : Run
   run = region_run first
 
@@ -79,12 +79,12 @@ module _ (plan : Plan) (first : MachineState) (c : CommittedState) (report : Reg
   begins = run_begins c.machine.program c.machine.input (fuel_left c.machine) c.machine.config
 
   rest_starts : starts rest plan.region ≡ 0 ∷ places (stands_at_head plan.region) 1 begins.0
-  rest_starts = ap (places (stands_at_head plan.region) 0) begins.1 ∙ (rw (on_region plan.region c.machine.config (at_head plan first c report g)))
+  rest_starts = ap (places (stands_at_head plan.region) 0) begins.1 ∙ (rw (on_region plan.region c.machine.config (at_head plan first c account g)))
 
   -- where a step is left, the next iteration is begun
   pub begun_next : 0 < rest.fuel → c.count < begun_count run plan.region
   begun_next h =
-      let all = (goes_here plan first c report g).begun_in_all in
+      let all = (goes_here plan first c account g).begun_in_all in
       let some = one_begun rest.fuel (places (stands_at_head plan.region) 1 begins.0) h in
       let same : begun_count rest plan.region ≡ count_by (λ k. nat_lt k rest.fuel) (0 ∷ places (stands_at_head plan.region) 1 begins.0) = ap (count_by (λ k. nat_lt k rest.fuel)) rest_starts in
       omega (arith, all, some, same)
@@ -95,7 +95,7 @@ module _ (plan : Plan) (first : MachineState) (c : CommittedState) (report : Reg
       let tail : places (stands_at_head plan.region) 1 begins.0 ≡ [] = no_tail (places (stands_at_head plan.region) 1 begins.0) (ap (λ (ks : List ℕ). slice_get ks 1) (sym rest_starts) ∙ none) in
       let one : begun_count rest plan.region ≡ cond (nat_lt 0 rest.fuel) 1 0 = ap (count_by (λ k. nat_lt k rest.fuel)) (rest_starts ∙ ap (λ (ks : List ℕ). 0 ∷ ks) tail) ∙ only_begun rest.fuel in
       let same : nat_lt 0 rest.fuel ≡ nat_lt c.machine.steps c.machine.fuel = same_test in
-      (goes_here plan first c report g).begun_in_all ∙ ap (λ (n : ℕ). c.count + n) (one ∙ ap (λ b. cond b 1 0) same)
+      (goes_here plan first c account g).begun_in_all ∙ ap (λ (n : ℕ). c.count + n) (one ∙ ap (λ b. cond b 1 0) same)
     where
       same_test : nat_lt 0 rest.fuel ≡ nat_lt c.machine.steps c.machine.fuel
       same_test = by (cases_lt c.machine.steps c.machine.fuel)

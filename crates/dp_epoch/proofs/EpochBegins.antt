@@ -2,7 +2,7 @@
 use Rattle.std.proofs.Common.{◌≡◌, refl, sym, ap, ◌∙◌, subst, inl, inr, ℕ, ◌-◌, ◌<◌, true, false, List, [], ◌∷◌, ◌++◌, filter, cond, Some, ℤ, length, arith}
 use Rattle.std.proofs.lemmas.Bool.{cases_Bool, and_parts, both_ways}
 use Rattle.std.specs.List.{list_all}
-use Rattle.dp_base.specs.declared.RegionReport.{RegionReport}
+use Rattle.dp_epoch.specs.declared.account.Account.{Account}
 use Rattle.dp_tree.specs.declared.Stmt.{Stmt, out-Stmt}
 use Rattle.dp_tree.specs.declared.Stmt.TheOpen.{Stmt-F, Assign, Store, Print, If, While, Region, Break, Call}
 use Rattle.dp_tree.specs.declared.Stmt.TheVariants as tree
@@ -105,12 +105,12 @@ begins_there p plan c fits s on =
     ap (λ (xs : List Stmt). standing p xs c.cells) from ∙ ap (λ (d : Config). standing p s.behind d.cells) here ∙ standing_again p s.behind s.cells ∙ sym here
 
 -- the verdicts of an epoch that begins here
-pub begins_epoch : (key : EpochKey) (first : MachineState) (c : CommittedState) (report : RegionReport) → Progress key.plan first c report → IsKeyOf key first → epoch first.program key.plan (region_run first) c.count ≡ c.count →
-    key.first ≡ c.count → key.base ≡ c.machine.config.cells → key.steps ≡ c.machine.steps → InEpoch key 0 first c report
-begins_epoch key first c report g k e from base steps =
+pub begins_epoch : (key : EpochKey) (first : MachineState) (c : CommittedState) (account : Account) → Progress key.plan first c account → IsKeyOf key first → epoch first.program key.plan (region_run first) c.count ≡ c.count →
+    key.first ≡ c.count → key.base ≡ c.machine.config.cells → key.steps ≡ c.machine.steps → InEpoch key 0 first c account
+begins_epoch key first c account g k e from base steps =
     let config : epoch_begin key ≡ c.machine.config =
     ap (λ (p : Program). standing p (statements_from key.plan.region p.main) key.base) k.program ∙ ap (standing first.program (statements_from key.plan.region first.program.main)) base
-    ∙ begins_there first.program key.plan c.machine.config g.start.fits (stands_there key.plan first g.start c g.holds) (on_region key.plan.region c.machine.config (at_head key.plan first c report g)) in
+    ∙ begins_there first.program key.plan c.machine.config g.start.fits (stands_there key.plan first g.start c g.holds) (on_region key.plan.region c.machine.config (at_head key.plan first c account g)) in
     let left : key.fuel - key.steps ≡ fuel_left c.machine = omega (arith, k.fuel, steps, g.holds.fuel) in
     let same : rest_of_run c.machine ≡ epoch_run key =
     sym (ap (λ (p : Program). run_of p key.input (key.fuel - key.steps) (epoch_begin key)) (k.program ∙ sym g.holds.program)
@@ -119,10 +119,10 @@ begins_epoch key first c report g k e from base steps =
     record {
       progress = g;
       key_is = k;
-      base = base ∙ memory_is key.plan first c report g ∙ ap (memory_after (region_run first) key.plan.region) (sym from);
+      base = base ∙ memory_is key.plan first c account g ∙ ap (memory_after (region_run first) key.plan.region) (sym from);
       own = subst (λ (m : ℕ). GoesOnAs key.plan.region m (steps_of_first (region_run first) key.plan.region m) (region_run first) (epoch_run key)) (sym from)
-          (subst (λ (rest : Run). GoesOnAs key.plan.region c.count (steps_of_first (region_run first) key.plan.region c.count) (region_run first) rest) same (goes_here key.plan first c report g));
-      at_once = subst (λ (rest : Run). start rest key.plan.region 0 ≡ Some 0) same (at_once key.plan first c report g);
+          (subst (λ (rest : Run). GoesOnAs key.plan.region c.count (steps_of_first (region_run first) key.plan.region c.count) (region_run first) rest) same (goes_here key.plan first c account g));
+      at_once = subst (λ (rest : Run). start rest key.plan.region 0 ≡ Some 0) same (at_once key.plan first c account g);
       place = omega (arith, from);
       epoch_is = e ∙ sym from;
       state = ap (λ (cells : List ℤ). record { cells = cells; steps = key.steps }) base ∙ ap (λ (n : ℕ). record { cells = c.machine.config.cells; steps = n }) steps;
@@ -130,17 +130,17 @@ begins_epoch key first c report g k e from base steps =
     }
 
 -- The epoch that begins here, with a key of what is committed. No verdict was given.
-pub epoch_here : (key : EpochKey) (given : ℕ) (first : MachineState) (c : CommittedState) (report : RegionReport) → BeginsAt key given c → ToBegin key.program key.plan key.input first c report → InEpoch key given first c report
-epoch_here key given first c report k b =
-    subst (λ (n : ℕ). InEpoch key n first c report) (sym k.none)
-    (begins_epoch key first c report b.at_epoch.progress (record { program = sym b.program_is; input = sym b.input_is; fuel = k.fuel ∙ b.at_epoch.progress.holds.fuel }) b.at_epoch.fresh k.first k.base k.steps)
+pub epoch_here : (key : EpochKey) (given : ℕ) (first : MachineState) (c : CommittedState) (account : Account) → BeginsAt key given c → ToBegin key.program key.plan key.input first c account → InEpoch key given first c account
+epoch_here key given first c account k b =
+    subst (λ (n : ℕ). InEpoch key n first c account) (sym k.none)
+    (begins_epoch key first c account b.at_epoch.progress (record { program = sym b.program_is; input = sym b.input_is; fuel = k.fuel ∙ b.at_epoch.progress.holds.fuel }) b.at_epoch.fresh k.first k.base k.steps)
 
 -- .. in a memory as the program has it
-pub sound_here : (p : Program) (plan : Plan) (input : List ℤ) (first : MachineState) (c : CommittedState) (report : RegionReport) → ToBegin p plan input first c report → IsSound (key_here p plan input c)
-sound_here p plan input first c report b =
+pub sound_here : (p : Program) (plan : Plan) (input : List ℤ) (first : MachineState) (c : CommittedState) (account : Account) → ToBegin p plan input first c account → IsSound (key_here p plan input c)
+sound_here p plan input first c account b =
     let g = b.at_epoch.progress in
     let s = stands_there plan first g.start c g.holds in
-    let there = begins_there first.program plan c.machine.config g.start.fits s (on_region plan.region c.machine.config (at_head plan first c report g)) in
+    let there = begins_there first.program plan c.machine.config g.start.fits s (on_region plan.region c.machine.config (at_head plan first c account g)) in
     let sound : IsSound (key_here first.program plan input c) = record {
       size = ap (λ (d : Config). length d.cells) s.config_is ∙ standing-length first.program (s.inner ++ s.behind) s.cells ∙ s.cells_are;
       cleared = cleared_there (accepted first.program plan g.start.fits) c.machine.config.cells (ap (λ (d : Config). d.cells) there);

@@ -2,9 +2,11 @@
 use Rattle.std.proofs.Common.{◌≡◌, ◌⊎◌, inl, inr, refl, sym, ap, ◌∙◌, subst, append_assoc, ℕ, ◌+◌, ◌<◌, ◌≤◌, Bool, true, false, ◌||◌, if◌then◌else◌, ◌-◌, List, [], ◌∷◌, ◌++◌, length, take, drop, Option, Some, None, is_some, slice_get, slice_range, ℤ, arith}
 use Rattle.std.proofs.lemmas.Bool.{cases_lt, both_ways}
 use Rattle.std.proofs.lemmas.List.{append-nil}
+use Rattle.std.specs.Option.{option_map}
 use Rattle.std.proofs.Math.Seq.{drop-length, drop-nil, take-nil}
 use Rattle.dp_base.specs.declared.Cause.{Cause}
 use Rattle.dp_base.specs.declared.RegionReport.{RegionReport}
+use Rattle.dp_epoch.specs.declared.account.Account.{Account}
 use Rattle.dp_plan.specs.declared.Plan.{Plan}
 use Rattle.dp_tree.specs.declared.Program.{Program}
 use Rattle.dp_tree.specs.Step.{Config, Event}
@@ -12,7 +14,8 @@ use Rattle.dp_tree.specs.Trace.{Run, run_of, prints}
 use Rattle.dp_tree.specs.Iteration.{stands_at_head, places, start, stop_from, events_from, closes, is_closing, has_ended}
 use Rattle.dp_tree.specs.IterationLaws.{events_of_first}
 use Rattle.dp_semantics.specs.EpochKey.{EpochKey}
-use Rattle.dp_semantics.specs.EpochVerdicts.{Carried, Commit, Again, verdict_at}
+use Rattle.dp_semantics.specs.EpochVerdicts.{Carried, Commit, Again, judgement_of, verdict_at}
+use Rattle.dp_semantics.specs.Judge.{Agreed, Clean}
 use Rattle.dp_meaning.specs.MachineState.{MachineState, fuel_left, rest_of_run}
 use Rattle.dp_meaning.specs.IterationRun.{IterationRun}
 use Rattle.dp_meaning.specs.NextIteration.{end_of}
@@ -21,12 +24,15 @@ use Rattle.dp_commit.proofs.CountLemmas.{some_closed}
 use Rattle.dp_epoch.specs.declared.ends.RegionEnd.TheVariants as region_end
 use Rattle.dp_epoch.specs.Applied.{Applied, left_of}
 use Rattle.dp_epoch.specs.Prints.{prints_from, prints_of, to_come}
-use Rattle.dp_epoch.specs.Progress.{Progress, RegionDone}
+use Rattle.dp_judge.specs.Stages.{Told, store_stages}
+use Rattle.dp_epoch.specs.Accounts.{Reports, after_clean, seen_clean}
+use Rattle.dp_epoch.specs.Progress.{Progress, RegionDone, report_before}
 use Rattle.dp_epoch.specs.InEpoch.{InEpoch, IsUnclean}
 use Rattle.dp_epoch.proofs.Here.{rest_fuel}
 use Rattle.dp_epoch.proofs.Judged.{IsClean, clean_case, unclean_case}
 use Rattle.dp_epoch.proofs.Carrying.{ended_same, iteration_prints}
-use Rattle.dp_epoch.proofs.EpochSteps.{carries, ended_here, epoch_on, report_next}
+use Rattle.dp_epoch.proofs.Counting.{told_iterations}
+use Rattle.dp_epoch.proofs.EpochSteps.{carries, ended_here, epoch_on, going, report_next, watching_on}
 use Rattle.dp_epoch.proofs.Done.{closed_done, begun_is}
 use Rattle.dp_epoch.proofs.Printing.{next_prints}
 
@@ -53,8 +59,8 @@ unended r rest c trace configs =
     by true = refl
     by false = refl
 
-some_left : (plan : Plan) (first : MachineState) (c : CommittedState) (report : RegionReport) (g : Progress plan first c report) → has_ended (region_run first) plan.region c.count ≡ true → 0 < left_of c
-some_left plan first c report g h = by (cases_lt 0 (left_of c))
+some_left : (plan : Plan) (first : MachineState) (c : CommittedState) (account : Account) (g : Progress plan first c account) → has_ended (region_run first) plan.region c.count ≡ true → 0 < left_of c
+some_left plan first c account g h = by (cases_lt 0 (left_of c))
   where
     by : (0 < left_of c) ⊎ (left_of c ≤ 0) → 0 < left_of c
     by (inl some) = some
@@ -62,7 +68,15 @@ some_left plan first c report g h = by (cases_lt 0 (left_of c))
         let zero_left : fuel_left c.machine ≡ 0 = omega (arith, none) in
         let same : rest_of_run c.machine ≡ run_of c.machine.program c.machine.input 0 c.machine.config = ap (λ (n : ℕ). run_of c.machine.program c.machine.input n c.machine.config) zero_left in
         let not_yet = unended plan.region (rest_of_run c.machine) c.machine.config (ap (λ (x : Run). x.trace) same ∙ spent_trace c.machine.program c.machine.input c.machine.config) (ap (λ (x : Run). x.configs) same ∙ spent_configs c.machine.program c.machine.input c.machine.config) in
-        absurd (both_ways (has_ended (rest_of_run c.machine) plan.region 0) not_yet (sym (ended_same plan first c report g) ∙ h))
+        absurd (both_ways (has_ended (rest_of_run c.machine) plan.region 0) not_yet (sym (ended_same plan first c account g) ∙ h))
+
+-- what the stages see is kept, or isn't, as before
+map_some : {X Y : Type 0} (f : X → Y) (o : Option X) → is_some (option_map f o) ≡ is_some o
+map_some f None = refl
+map_some f (Some x) = refl
+
+pub still_seen : (clean : Told) (old new : Account) (n : ℕ) → new ≡ after_clean n clean old → is_some new.views ≡ is_some old.views
+still_seen clean old new n is = ap (λ (a : Account). is_some a.views) is ∙ map_some (seen_clean clean) old.views
 
 -- A committed iteration leaves less fuel.
 some_events : (region turns : ℕ) (old new : MachineState) (before after : List ℤ) (closing : Bool) → old.current ≡ None → (call : IterationRun region turns old new before after (end_of closing)) → 0 < length call.events
@@ -74,39 +88,37 @@ left_falls v old new o a =
     let some = some_events old.region v.steps old.machine new.machine [] v.prints v.closing o.between a.call in
     omega (arith, some, a.call.moved.run.fuel, rest_fuel old.machine, rest_fuel new.machine)
 
-module _ (key : EpochKey) (n : ℕ) (first : MachineState) (c : CommittedState) (report : RegionReport) (e : InEpoch key n first c report) where
-  -- the report counts what is committed
-  pub report_here : report ≡ record report { iterations = c.count }
-  report_here = e.progress.report_is ∙ ap (λ (x : RegionReport). record x { iterations = c.count }) (sym e.progress.report_is)
+module _ (key : EpochKey) (n : ℕ) (first : MachineState) (c : CommittedState) (account : Account) (e : InEpoch key n first c account) where
+  -- the account counts what is committed
+  pub report_here : account.report ≡ record account.report { iterations = c.count }
+  report_here = e.progress.report_is ∙ sym (told_iterations account.why (report_before key.plan first c.count) c.count) ∙ ap (λ (x : RegionReport). record x { iterations = c.count }) (sym e.progress.report_is)
 
-  pub unclean_here : (why : Cause) → Again why ≡ verdict_at key n → IsUnclean key.plan first c report why
-  unclean_here why gives =
-      let not_clean = unclean_case key n first c report e why gives in
-      record { progress = e.progress; again = not_clean.again; cause_is = not_clean.cause_is }
+  pub unclean_here : (why : Cause) → Again why ≡ verdict_at key n → IsUnclean key.plan first c account
+  unclean_here why gives = record { progress = e.progress; again = unclean_case key n first c account e why gives }
 
   module _ (v : Carried) (gives : Commit v ≡ verdict_at key n) where
-    q : IsClean key n first c report e v
-    q = clean_case key n first c report e v gives
+    q : IsClean key n first c account e v
+    q = clean_case key n first c account e v gives
 
     pub may_commit : CarriesNext c v
-    may_commit = carries key n first c report e v q
+    may_commit = carries key n first c account e v q
 
     pub left_here : 0 < left_of c
-    left_here = some_left key.plan first c report e.progress (ended_here key n first c report e v q)
+    left_here = some_left key.plan first c account e.progress (ended_here key n first c account e v q)
 
     -- what is to come begins with what the iteration prints
     commit_prints : prints_from key.plan first c.count ≡ v.prints ++ prints_from key.plan first (c.count + 1)
     commit_prints =
         let some : 0 < (rest_of_run c.machine).fuel = omega (arith, left_here, rest_fuel c.machine) in
-        next_prints key.plan first c report e.progress some
-        ∙ ap (λ (xs : List ℤ). xs ++ prints_from key.plan first (c.count + 1)) (iteration_prints key.plan first c report e.progress ∙ sym (ap (λ (x : Carried). x.prints) q.carried_is))
+        next_prints key.plan first c account e.progress some
+        ∙ ap (λ (xs : List ℤ). xs ++ prints_from key.plan first (c.count + 1)) (iteration_prints key.plan first c account e.progress ∙ sym (ap (λ (x : Carried). x.prints) q.carried_is))
 
     is_split : (waiting : List ℤ) → to_come key.plan first waiting c.count ≡ (waiting ++ v.prints) ++ prints_from key.plan first (c.count + 1)
     is_split waiting = ap (λ (xs : List ℤ). waiting ++ xs) commit_prints ∙ sym (append_assoc waiting v.prints (prints_from key.plan first (c.count + 1)))
 
     -- what waits then, with the iteration's prints behind it
     pub waits : (waiting after : List ℤ) → after ≡ waiting ++ v.prints → after ≡ waiting ++ prints_of key.plan first c.count
-    waits waiting after is = is ∙ ap (λ (xs : List ℤ). waiting ++ xs) (sym (iteration_prints key.plan first c report e.progress ∙ sym (ap (λ (x : Carried). x.prints) q.carried_is)))
+    waits waiting after is = is ∙ ap (λ (xs : List ℤ). waiting ++ xs) (sym (iteration_prints key.plan first c account e.progress ∙ sym (ap (λ (x : Carried). x.prints) q.carried_is)))
 
     module _ (new : CommittedState) (a : Applied v c new) where
       new_count : new.count ≡ c.count + 1
@@ -114,7 +126,7 @@ module _ (key : EpochKey) (n : ℕ) (first : MachineState) (c : CommittedState) 
 
       none_behind : v.closing ≡ true → prints_from key.plan first (c.count + 1) ≡ []
       none_behind closing =
-          let all = begun_is key.plan first c report e.progress new.machine v.steps [] v.prints (subst (λ (b : Bool). IterationRun c.region v.steps c.machine new.machine [] v.prints (end_of b)) closing a.call) in
+          let all = begun_is key.plan first c account e.progress new.machine v.steps [] v.prints (subst (λ (b : Bool). IterationRun c.region v.steps c.machine new.machine [] v.prints (end_of b)) closing a.call) in
           ap (λ (k : ℕ). prints (drop (steps_of_first (region_run first) key.plan.region (c.count + 1)) (events_of_first (region_run first) key.plan.region k))) all
           ∙ ap prints (drop-length (events_of_first (region_run first) key.plan.region (c.count + 1)))
 
@@ -128,17 +140,22 @@ module _ (key : EpochKey) (n : ℕ) (first : MachineState) (c : CommittedState) 
         pub closes_ahead : v.closing ≡ true → to_come key.plan first waiting c.count ≡ after
         closes_ahead closing = ahead ∙ ap (λ (xs : List ℤ). after ++ xs) (none_behind closing) ∙ append-nil after
 
-      module _ (more : RegionReport) (told : more ≡ record report { iterations = new.count }) where
-        more_is : more ≡ record report { iterations = c.count + 1 }
-        more_is = told ∙ ap (λ (m : ℕ). record report { iterations = m }) new_count
+      module _ (clean : Told) (same : v ≡ clean.carried) (more : Account) (told : more ≡ after_clean new.count clean account) where
+        more_is : more ≡ after_clean (c.count + 1) clean account
+        more_is = told ∙ ap (λ (m : ℕ). after_clean m clean account) new_count
+
+        reported : Reports more (report_before key.plan first (c.count + 1))
+        reported = report_next key n first c account e v q clean more more_is
 
         pub epoch_closes : v.closing ≡ true → RegionDone key.plan first new more region_end.Closed
         epoch_closes closing =
             subst (λ (s : CommittedState). RegionDone key.plan first s more region_end.Closed) (sym a.rest)
-            (closed_done key.plan first c report e.progress new.machine v.steps [] v.prints (subst (λ (b : Bool). IterationRun c.region v.steps c.machine new.machine [] v.prints (end_of b)) closing a.call) more
-            (report_next key n first c report e v q more more_is))
+            (closed_done key.plan first c account e.progress new.machine v.steps [] v.prints (subst (λ (b : Bool). IterationRun c.region v.steps c.machine new.machine [] v.prints (end_of b)) closing a.call) more reported)
 
-        pub epoch_goes : v.closing ≡ false → InEpoch key (n + 1) first new more
-        epoch_goes going =
+        -- where the stages of its stores are told, if what the stages see is kept
+        pub epoch_goes : (is_some account.views ≡ true → (agreed : Agreed) → judgement_of key n ≡ Clean agreed → clean.stages ≡ store_stages key.program key.plan agreed) → v.closing ≡ false → InEpoch key (n + 1) first new more
+        epoch_goes staged open_yet =
+            let call = subst (λ (b : Bool). IterationRun c.region v.steps c.machine new.machine [] v.prints (end_of b)) open_yet a.call in
             subst (λ (s : CommittedState). InEpoch key (n + 1) first s more) (sym a.rest)
-            (epoch_on key n first c report e v q v.steps [] v.prints new.machine (subst (λ (b : Bool). IterationRun c.region v.steps c.machine new.machine [] v.prints (end_of b)) going a.call) going more more_is)
+            (epoch_on key n first c account e v q v.steps [] v.prints new.machine call open_yet more reported
+            (watching_on key n first c account e v q clean same staged (going key n first c account e v q v.steps [] v.prints new.machine call open_yet) more more_is))

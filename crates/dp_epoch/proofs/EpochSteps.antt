@@ -1,30 +1,39 @@
 -- An epoch goes on over one more verdict.
-use Rattle.std.proofs.Common.{◌≡◌, ◌⊎◌, inl, inr, refl, sym, ap, ◌∙◌, ℕ, suc, ◌+◌, ◌<◌, Bool, true, false, not, ◌&&◌, ◌≤◌, if◌then◌else◌, List, map, length, ℤ, arith}
+use Rattle.std.proofs.Common.{◌≡◌, ◌⊎◌, inl, inr, refl, sym, ap, ◌∙◌, ℕ, suc, ◌+◌, ◌<◌, Bool, true, false, not, ◌&&◌, ◌≤◌, if◌then◌else◌, is_some, List, map, length, Option, Some, None, ℤ, arith, subst}
+use Rattle.std.specs.Option.{option_map}
 use Rattle.std.proofs.lemmas.List.{length-map}
 use Rattle.std.proofs.lemmas.Bool.{cases_lt}
 use Rattle.dp_base.specs.declared.RegionReport.{RegionReport}
+use Rattle.dp_epoch.specs.declared.account.Account.{Account}
 use Rattle.dp_tree.specs.declared.Program.{Program}
 use Rattle.dp_plan.specs.declared.Plan.{Plan}
 use Rattle.dp_tree.specs.Step.{Effect, clear_locals}
 use Rattle.dp_tree.specs.Trace.{Run}
 use Rattle.dp_tree.specs.Iteration.{iteration, is_closing, has_ended, memory_after}
 use Rattle.dp_semantics.specs.Recovery.{epoch, is_recovered}
-use Rattle.dp_semantics.specs.Judge.{Clean}
+use Rattle.dp_semantics.specs.Judge.{Agreed, Clean}
+use Rattle.dp_semantics.specs.Told.{store_made, stores_of}
 use Rattle.dp_semantics.specs.Verdict.{applied, done_in, effect_in}
 use Rattle.dp_semantics.specs.Reported.{report_of}
 use Rattle.dp_semantics.specs.EpochKey.{EpochKey}
-use Rattle.dp_semantics.specs.EpochVerdicts.{Carried, JudgeState, after_judgement, goes_on, state_at, verdict_at, verdict_by}
+use Rattle.dp_semantics.specs.EpochVerdicts.{Carried, JudgeState, after_judgement, goes_on, judgement_of, state_at, verdict_at, verdict_by}
 use Rattle.dp_meaning.specs.declared.ends.IterEnd.TheVariants as iter_end
 use Rattle.dp_meaning.specs.MachineState.{MachineState}
 use Rattle.dp_meaning.specs.IterationRun.{IterationRun}
 use Rattle.dp_commit.specs.CommittedState.{CommittedState, CarriesNext, region_run}
 use Rattle.dp_commit.proofs.Committing.{held_next}
-use Rattle.dp_epoch.specs.Progress.{again_before, report_before, cause_of}
+use Rattle.dp_theorem.proofs.Told.{chosen}
+use Rattle.dp_judge.specs.Stages.{Told, store_stages}
+use Rattle.dp_view.specs.Following.{KeptBefore, stages_of}
+use Rattle.dp_view.specs.Viewed.{Viewed, after_stores, onward, settled}
+use Rattle.dp_epoch.specs.Accounts.{Reports, after_clean, seen_clean, told_when}
+use Rattle.dp_epoch.specs.Progress.{Watching, again_before, report_before, cause_of}
 use Rattle.dp_epoch.specs.InEpoch.{InEpoch}
 use Rattle.dp_epoch.proofs.Here.{memory_is, leads_here}
 use Rattle.dp_epoch.proofs.Judged.{IsClean}
 use Rattle.dp_epoch.proofs.Carrying.{carries_next}
-use Rattle.dp_epoch.proofs.Counting.{again_clean}
+use Rattle.dp_epoch.proofs.Counting.{again_clean, told_iterations}
+use Rattle.dp_epoch.proofs.SeenLemmas.{seen_next, stages_same}
 use Rattle.dp_epoch.proofs.Advancing.{advanced, one_more}
 
 -- a clean iteration has ended
@@ -32,7 +41,7 @@ pub ended_of : (a b d e : Bool) → (a && b && d && e) ≡ true → a ≡ true
 ended_of true b d e h = refl
 ended_of false b d e h = h
 
-module _ (key : EpochKey) (n : ℕ) (first : MachineState) (c : CommittedState) (report : RegionReport) (e : InEpoch key n first c report) (v : Carried) (q : IsClean key n first c report e v) where
+module _ (key : EpochKey) (n : ℕ) (first : MachineState) (c : CommittedState) (account : Account) (e : InEpoch key n first c account) (v : Carried) (q : IsClean key n first c account e v) where
   abbrev run : Run
   run = region_run first
 
@@ -53,20 +62,47 @@ module _ (key : EpochKey) (n : ℕ) (first : MachineState) (c : CommittedState) 
 
   -- What is carried is the next iteration.
   pub carries : CarriesNext c v
-  carries = carries_next plan first c report e.progress v q.carried_is ended_here
+  carries = carries_next plan first c account e.progress v q.carried_is ended_here
 
   not_again : is_recovered p plan run i ≡ false
   not_again = ap not q.clean
 
-  -- the report of the iteration that was committed
-  pub report_next : (more : RegionReport) → more ≡ record report { iterations = i + 1 } → more ≡ report_before plan first (i + 1)
-  report_next more is =
+  -- what is told of the iteration that was committed
+  pub report_next : (clean : Told) (more : Account) → more ≡ after_clean (i + 1) clean account → Reports more (report_before plan first (i + 1))
+  report_next clean more is =
       let next : suc i ≡ i + 1 = omega arith in
-      is ∙ ap (λ (x : RegionReport). record x { iterations = i + 1 }) e.progress.report_is
-      ∙ ap (λ (again : List ℕ). report_of plan.region (i + 1) again (cause_of plan first)) (sym (again_clean plan first i not_again) ∙ ap (again_before plan first) next)
+      ap (λ (a : Account). a.report) is ∙ ap (λ (x : RegionReport). record x { iterations = i + 1 }) e.progress.report_is
+      ∙ told_iterations account.why (report_before plan first i) (i + 1)
+      ∙ ap (λ (again : List ℕ). told_when account.why (report_of plan.region (i + 1) again (cause_of plan first))) (sym (again_clean plan first i not_again) ∙ ap (again_before plan first) next)
+      ∙ ap (λ (w : Bool). told_when w (report_before plan first (i + 1))) (sym (ap (λ (a : Account). a.why) is))
+
+  -- what is kept for causes then, where the stages of its stores are told
+  module _ (clean : Told) (same : v ≡ clean.carried) (staged : is_some account.views ≡ true → (agreed : Agreed) → judgement_of key n ≡ Clean agreed → clean.stages ≡ store_stages key.program key.plan agreed) (going : is_closing (region_run first) key.plan.region c.count ≡ false) where
+    seen_is : (w : Viewed) → is_some account.views ≡ true → seen_clean clean w ≡ onward (settled (after_stores (stores_of (iteration run plan.region i)) (stages_of p plan (iteration run plan.region i)) w))
+    seen_is w some =
+        let stores : clean.carried.stores ≡ stores_of (iteration run plan.region i) = ap (λ (x : Carried). x.stores) (sym same ∙ q.carried_is) ∙ chosen store_made (iteration run plan.region i) in
+        let stages : clean.stages ≡ stages_of p plan (iteration run plan.region i) =
+        staged some (done_in plan run i) q.judged_so ∙ ap (λ (x : Program). store_stages x plan (done_in plan run i)) e.key_is.program ∙ stages_same p plan (iteration run plan.region i) in
+        λ j. onward (settled (after_stores (stores j) (stages j) w))
+
+    watch_on : (why : Bool) (views : Option Viewed) → account.views ≡ views → Watching plan first i why views → Watching plan first (i + 1) why (option_map (seen_clean clean) views)
+    watch_on why None at k =
+        let next : suc i ≡ i + 1 = omega arith in
+        λ asked. (let many = k asked in let same_size = ap length (sym (ap (again_before plan first) next) ∙ again_clean plan first i not_again) in omega (arith, many, same_size))
+    watch_on why (Some w) at k =
+        let next : suc i ≡ i + 1 = omega arith in
+        let kept = seen_next plan first c account e.progress w k.1 q.clean ended_here going in (
+          k.0,
+          subst (λ (m : ℕ). KeptBefore p plan run (epoch p plan run m) m (seen_clean clean w)) next
+              (subst (KeptBefore p plan run (epoch p plan run (suc i)) (suc i)) (sym (seen_is w (ap is_some at))) kept),
+        )
+
+    pub watching_on : (more : Account) → more ≡ after_clean (i + 1) clean account → Watching plan first (i + 1) more.why more.views
+    watching_on more is =
+        subst (λ (a : Account). Watching plan first (i + 1) a.why a.views) (sym is) (watch_on account.why account.views refl e.progress.views_are)
 
   module _ (turns : ℕ) (before after : List ℤ) (m : MachineState) (call : IterationRun c.region turns c.machine m before after iter_end.Next) (open_yet : v.closing ≡ false) where
-    going : is_closing run plan.region i ≡ false
+    pub going : is_closing (region_run first) key.plan.region c.count ≡ false
     going = sym closing_is ∙ open_yet
 
     abbrev effects : List Effect
@@ -77,11 +113,11 @@ module _ (key : EpochKey) (n : ℕ) (first : MachineState) (c : CommittedState) 
 
     cells_next : clear_locals plan.region key.program.vars (applied effects c.machine.config.cells) ≡ m.config.cells
     cells_next =
-        let lead = leads_here plan first c report e.progress ended_here going in
+        let lead = leads_here plan first c account e.progress ended_here going in
         let held = (held_next first c e.progress.holds e.progress.is_open m turns before after call).held in
         let next : suc i ≡ i + 1 = omega arith in
         ap (λ (x : Program). clear_locals plan.region x.vars (applied effects c.machine.config.cells)) e.key_is.program
-        ∙ ap (λ (cells : List ℤ). clear_locals plan.region p.vars (applied effects cells)) (memory_is plan first c report e.progress)
+        ∙ ap (λ (cells : List ℤ). clear_locals plan.region p.vars (applied effects cells)) (memory_is plan first c account e.progress)
         ∙ sym lead.memory ∙ ap (memory_after run plan.region) next ∙ ap (λ (r : ℕ). memory_after run r (i + 1)) (sym e.progress.region) ∙ sym held.memory
 
     steps_next : c.machine.steps + length effects ≡ m.steps
@@ -108,9 +144,9 @@ module _ (key : EpochKey) (n : ℕ) (first : MachineState) (c : CommittedState) 
         ap (epoch p plan run) next ∙ ap (λ (b : Bool). if b then epoch p plan run i else suc i) q.clean ∙ e.epoch_is
 
     -- The epoch goes on.
-    pub epoch_on : (more : RegionReport) → more ≡ record report { iterations = i + 1 } → InEpoch key (n + 1) first (one_more plan first c report e.progress turns before after m) more
-    epoch_on more is = record {
-      progress = advanced plan first c report e.progress turns before after m call more (report_next more is);
+    pub epoch_on : (more : Account) → Reports more (report_before plan first (i + 1)) → Watching plan first (i + 1) more.why more.views → InEpoch key (n + 1) first (one_more plan first c account e.progress turns before after m) more
+    epoch_on more told watching = record {
+      progress = advanced plan first c account e.progress turns before after m call more told watching;
       key_is = e.key_is;
       base = e.base;
       own = e.own;

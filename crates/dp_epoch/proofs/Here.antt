@@ -1,6 +1,6 @@
 -- Where a region stands between two iterations, in its own run.
 use Rattle.std.proofs.Common.{◌≡◌, refl, sym, ap, ◌∙◌, subst, ℕ, suc, ◌+◌, ◌-◌, true, false, List, [], ◌∷◌, Some, slice_get, arith}
-use Rattle.dp_base.specs.declared.RegionReport.{RegionReport}
+use Rattle.dp_epoch.specs.declared.account.Account.{Account}
 use Rattle.dp_tree.specs.declared.Stmt.{Stmt, out-Stmt}
 use Rattle.dp_tree.specs.declared.Stmt.TheOpen.{Stmt-F, Assign, Store, Print, If, While, Region, Break, Call}
 use Rattle.dp_tree.specs.GoesOn.{GoesOnAs}
@@ -55,7 +55,7 @@ stands_there plan first s c h =
     ap (λ (cs : List Config). slice_get cs made) h.piece.configs ∙ get_at_seam h.configs (rest_of_run c.machine).configs made c.machine.config begins.0 (sym h.piece.paired) begins.1 in
     stays_in_main first.program first.input s.tops (fuel_left first) made first.config c.machine.config s.stands here
 
-module _ (plan : Plan) (first : MachineState) (c : CommittedState) (report : RegionReport) (g : Progress plan first c report) where
+module _ (plan : Plan) (first : MachineState) (c : CommittedState) (account : Account) (g : Progress plan first c account) where
   abbrev pub run : Run
   run = region_run first
 

@@ -1,29 +1,26 @@
 -- The verdict on the epoch's next iteration is the one on iteration `count` of the region's own run.
-use Rattle.std.proofs.Common.{◌≡◌, refl, sym, ap, ◌∙◌, ℕ, ◌+◌, ◌-◌, Bool, true, false, not, List, length, is_some, ℤ, arith}
+use Rattle.std.proofs.Common.{◌≡◌, refl, sym, ap, ◌∙◌, ℕ, ◌-◌, Bool, true, false, not, List, length, ℤ, arith}
 use Rattle.dp_base.specs.declared.Cause.{Cause as ReportedCause}
-use Rattle.dp_base.specs.declared.RegionReport.{RegionReport}
+use Rattle.dp_epoch.specs.declared.account.Account.{Account}
 use Rattle.dp_tree.specs.declared.Program.{Program}
 use Rattle.dp_tree.specs.Trace.{Run}
 use Rattle.dp_tree.specs.Iteration.{memory_after}
-use Rattle.dp_semantics.specs.Cause.{cause_since, cause}
 use Rattle.dp_semantics.specs.Clean.{is_clean}
 use Rattle.dp_semantics.specs.Recovery.{epoch, is_recovered}
 use Rattle.dp_semantics.specs.Packets.{passed}
 use Rattle.dp_semantics.specs.Judge.{Judgement, Clean, Unclean, judge}
 use Rattle.dp_semantics.specs.Verdict.{Judged, judgement_at, done_in}
-use Rattle.dp_semantics.specs.Reported.{reported}
-use Rattle.dp_semantics.specs.EpochKey.{EpochKey, epoch_run}
+use Rattle.dp_semantics.specs.EpochKey.{EpochKey}
 use Rattle.dp_semantics.specs.EpochVerdicts.{Carried, carried, Commit, Again, judgement_in, judgement_of, verdict_by, verdict_at}
-use Rattle.dp_theorem.proofs.Shift.{verdicts_shift}
 use Rattle.dp_meaning.specs.MachineState.{MachineState, fuel_left}
 use Rattle.dp_commit.specs.CommittedState.{CommittedState, region_run, steps_of_first}
 use Rattle.dp_theorem.proofs.Central.{fuel_is}
 use Rattle.dp_epoch.specs.InEpoch.{InEpoch}
-use Rattle.dp_epoch.specs.Progress.{Progress, cause_of}
+use Rattle.dp_epoch.specs.Progress.{Progress}
 use Rattle.dp_epoch.proofs.Here.{memory_is, steps_are, judged_here}
 
-module _ (key : EpochKey) (n : ℕ) (first : MachineState) (c : CommittedState) (report : RegionReport) (e : InEpoch key n first c report) where
-  abbrev g : Progress key.plan first c report
+module _ (key : EpochKey) (n : ℕ) (first : MachineState) (c : CommittedState) (account : Account) (e : InEpoch key n first c account) where
+  abbrev g : Progress key.plan first c account
   g = e.progress
 
   abbrev source : Run
@@ -41,18 +38,18 @@ module _ (key : EpochKey) (n : ℕ) (first : MachineState) (c : CommittedState) 
 
   pub judgement_is : judgement_of key n ≡ judgement_at first.program key.plan first.input source began c.count k
   judgement_is =
-      let left : key.fuel - c.machine.steps ≡ source.fuel - k = omega (arith, e.key_is.fuel, steps_are key.plan first c report g, fuel_is first.program first.input (fuel_left first) first.config) in
+      let left : key.fuel - c.machine.steps ≡ source.fuel - k = omega (arith, e.key_is.fuel, steps_are key.plan first c account g, fuel_is first.program first.input (fuel_left first) first.config) in
       let place : n ≡ c.count - began = omega (arith, e.place, e.epoch_is) in
       ap (judgement_in key n) e.state
       ∙ ap (λ (p : Program). judging p key.input (key.fuel - c.machine.steps) c.machine.config.cells key.base n) e.key_is.program
       ∙ ap (λ (input : List ℤ). judging first.program input (key.fuel - c.machine.steps) c.machine.config.cells key.base n) e.key_is.input
       ∙ ap (λ (m : ℕ). judging first.program first.input m c.machine.config.cells key.base n) left
-      ∙ ap (λ (cells : List ℤ). judging first.program first.input (source.fuel - k) cells key.base n) (memory_is key.plan first c report g)
+      ∙ ap (λ (cells : List ℤ). judging first.program first.input (source.fuel - k) cells key.base n) (memory_is key.plan first c account g)
       ∙ ap (λ (base : List ℤ). judging first.program first.input (source.fuel - k) (memory_after source key.plan.region c.count) base n) (e.base ∙ ap (memory_after source key.plan.region) (sym e.epoch_is))
       ∙ ap (judging first.program first.input (source.fuel - k) (memory_after source key.plan.region c.count) (memory_after source key.plan.region began)) place
 
   abbrev judged : Judged first.program key.plan first.input source began c.count k
-  judged = judged_here key.plan first c report g
+  judged = judged_here key.plan first c account g
 
   -- the verdict is to commit: the iteration is clean, and the source's own is carried
   pub record IsClean (v : Carried) : Type 0 where
@@ -73,29 +70,14 @@ module _ (key : EpochKey) (n : ℕ) (first : MachineState) (c : CommittedState) 
   pub clean_case : (v : Carried) → Commit v ≡ verdict_at key n → IsClean v
   clean_case v gives = clean_by v (judgement_of key n) refl gives
 
-  -- the cause is that of iteration `count`
-  cause_here : cause_since key.program key.plan (epoch_run key) 0 n ≡ cause first.program key.plan source c.count
-  cause_here =
-      let same = verdicts_shift first.program key.plan key.first (steps_of_first source key.plan.region key.first) source (epoch_run key) e.own (ap is_some e.at_once) in
-      let from : key.first + 0 ≡ began = omega (arith, e.epoch_is) in
-      let to : key.first + n ≡ c.count = omega (arith, e.place) in
-      ap (λ (p : Program). cause_since p key.plan (epoch_run key) 0 n) e.key_is.program ∙ sym (same.causes 0 n)
-      ∙ ap (λ (i : ℕ). cause_since first.program key.plan source i (key.first + n)) from ∙ ap (cause_since first.program key.plan source began) to
-
-  -- the verdict is to execute it again: the iteration isn't clean, for its own cause
-  pub record IsNot (why : ReportedCause) : Type 0 where
-    pub again : is_recovered first.program key.plan source c.count ≡ true
-    pub cause_is : why ≡ cause_of key.plan first c.count
-
+  -- the verdict is to execute it again: the iteration isn't clean
   not_clean : (b : Bool) → is_clean first.program key.plan source began c.count ≡ b → judgement_of key n ≡ Unclean → not b ≡ true
   not_clean false b is = refl
   not_clean true b is = let clash : Unclean ≡ Clean (done_in key.plan source c.count) = sym is ∙ judgement_is ∙ (judged.sent b).judged in absurd (cc clash)
 
-  unclean_by : (why : ReportedCause) (j : Judgement) → judgement_of key n ≡ j → Again why ≡ verdict_by key n j → IsNot why
+  unclean_by : (why : ReportedCause) (j : Judgement) → judgement_of key n ≡ j → Again why ≡ verdict_by key n j → is_recovered first.program key.plan source c.count ≡ true
   unclean_by why (Clean agreed) is gives = absurd (cc gives)
-  unclean_by why Unclean is gives =
-      let told : why ≡ reported (cause_since key.program key.plan (epoch_run key) 0 n) = cc gives in
-      record { again = not_clean (is_clean first.program key.plan source began c.count) refl is; cause_is = told ∙ ap reported cause_here }
+  unclean_by why Unclean is gives = not_clean (is_clean first.program key.plan source began c.count) refl is
 
-  pub unclean_case : (why : ReportedCause) → Again why ≡ verdict_at key n → IsNot why
+  pub unclean_case : (why : ReportedCause) → Again why ≡ verdict_at key n → is_recovered first.program key.plan source c.count ≡ true
   unclean_case why gives = unclean_by why (judgement_of key n) refl gives

@@ -2,7 +2,7 @@
 use Rattle.std.proofs.Common.{◌≡◌, sym, ap, ◌∙◌, append_assoc, ℕ, zero, suc, ◌+◌, ◌-◌, ◌<◌, List, [], ◌++◌, drop, length, ℤ, arith}
 use Rattle.std.proofs.lemmas.List.{append-nil}
 use Rattle.std.proofs.Math.Seq.{drop-append_seam, drop-length}
-use Rattle.dp_base.specs.declared.RegionReport.{RegionReport}
+use Rattle.dp_epoch.specs.declared.account.Account.{Account}
 use Rattle.dp_plan.specs.declared.Plan.{Plan}
 use Rattle.dp_tree.specs.Step.{Event}
 use Rattle.dp_tree.specs.Trace.{Run, prints}
@@ -41,7 +41,7 @@ from_next run r n all h =
     ap (drop (length (events_of_first run r n))) (is ∙ append_assoc (events_of_first run r n) (iteration run r n) m.0) ∙ drop-append_seam (events_of_first run r n) (iteration run r n ++ m.0)
     ∙ ap (λ (es : List Event). iteration run r n ++ es) (sym left)
 
-module _ (plan : Plan) (first : MachineState) (c : CommittedState) (report : RegionReport) (g : Progress plan first c report) where
+module _ (plan : Plan) (first : MachineState) (c : CommittedState) (account : Account) (g : Progress plan first c account) where
   abbrev run : Run
   run = region_run first
 
@@ -52,7 +52,7 @@ module _ (plan : Plan) (first : MachineState) (c : CommittedState) (report : Reg
   pub next_prints : 0 < rest.fuel → prints_from plan first c.count ≡ prints (iteration run plan.region c.count) ++ prints_from plan first (c.count + 1)
   next_prints h =
       let n : suc c.count ≡ c.count + 1 = omega arith in
-      ap prints (from_next run plan.region c.count (begun_count run plan.region) (begun_next plan first c report g h))
+      ap prints (from_next run plan.region c.count (begun_count run plan.region) (begun_next plan first c account g h))
       ∙ prints-append (iteration run plan.region c.count) (drop (steps_of_first run plan.region (suc c.count)) (events_of_first run plan.region (begun_count run plan.region)))
       ∙ ap (λ (k : ℕ). prints (iteration run plan.region c.count) ++ prints_from plan first k) n
 
@@ -67,8 +67,8 @@ module _ (plan : Plan) (first : MachineState) (c : CommittedState) (report : Reg
 
     pub closing_prints : (call : IterationRun c.region turns c.machine m before after iter_end.Closed) → prints_from plan first c.count ≡ prints call.events
     closing_prints call =
-        let all = begun_is plan first c report g m turns before after call in
-        let held = held_closed first c g.holds g.is_open m turns before after (once plan first c report g c.count _ (started first c g.holds g.is_open)) call in
+        let all = begun_is plan first c account g m turns before after call in
+        let held = held_closed first c g.holds g.is_open m turns before after (once plan first c account g c.count _ (started first c g.holds g.is_open)) call in
         let n : begun_count run plan.region ≡ suc c.count = omega (arith, all) in
         ap prints (from_next run plan.region c.count (begun_count run plan.region) (omega (arith, all))
         ∙ ap (λ (k : ℕ). iteration run plan.region c.count ++ drop (steps_of_first run plan.region (suc c.count)) (events_of_first run plan.region k)) n

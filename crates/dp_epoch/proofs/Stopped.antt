@@ -3,7 +3,7 @@ use Rattle.std.proofs.Common.{◌≡◌, ◌≢◌, ◌⊎◌, inl, inr, refl, s
 use Rattle.std.proofs.lemmas.Bool.{cases_lt, not-true}
 use Rattle.std.proofs.lemmas.List.{append-nil}
 use Rattle.std.proofs.lemmas.List.Elements.{All-append}
-use Rattle.dp_base.specs.declared.RegionReport.{RegionReport}
+use Rattle.dp_epoch.specs.declared.account.Account.{Account}
 use Rattle.dp_base.specs.declared.End.{End}
 use Rattle.dp_plan.specs.declared.Plan.{Plan}
 use Rattle.dp_tree.specs.Step.{Config, Event}
@@ -24,6 +24,7 @@ use Rattle.dp_commit.proofs.Lists.{get_at_seam}
 use Rattle.dp_tree.specs.InMain.{StandsInMain}
 use Rattle.dp_tree.proofs.InMain.{stays_in_main}
 use Rattle.dp_epoch.specs.RegionRun.{RegionMade, RegionStops, beyond}
+use Rattle.dp_epoch.specs.Accounts.{Reports, told_when}
 use Rattle.dp_epoch.specs.Progress.{Progress, report_before}
 use Rattle.dp_epoch.proofs.Counting.{whole_report}
 use Rattle.dp_epoch.proofs.Here.{at_once, starts_here, rest_fuel}
@@ -34,7 +35,7 @@ use Rattle.dp_epoch.proofs.Ending.{inside_off, others_behind, last_begun, inside
 use Rattle.dp_epoch.proofs.Done.{made_by}
 use Rattle.dp_meaning.proofs.NextLemmas.{last_open}
 
-module _ (plan : Plan) (first : MachineState) (c : CommittedState) (report : RegionReport) (g : Progress plan first c report) (m : MachineState) where
+module _ (plan : Plan) (first : MachineState) (c : CommittedState) (account : Account) (g : Progress plan first c account) (m : MachineState) where
   abbrev run : Run
   run = region_run first
 
@@ -82,10 +83,10 @@ module _ (plan : Plan) (first : MachineState) (c : CommittedState) (report : Reg
         by false = refl
     none_by (x ∷ es) e =
         let some : 0 < length events = omega (arith, ap length e) in
-        let s = q plan first c report g m before after events configs went heads_once some stay.not_closed in
+        let s = q plan first c account g m before after events configs went heads_once some stay.not_closed in
         let plain : part_of m.config.to_do ≡ part.Plain = subst (λ (xs : List Event). Awaits plan.region (current_after plan.region None xs) m.config) e awaits_is in
-        heads.start_next plan.region rest (rest_of_run m) events s.first s.inner (piece plan first c report g m before after events configs went heads_once some stay.not_closed)
-        (on plan first c report g m before after events configs went heads_once some stay.not_closed) (off plan first c report g m before after events configs went heads_once some stay.not_closed)
+        heads.start_next plan.region rest (rest_of_run m) events s.first s.inner (piece plan first c account g m before after events configs went heads_once some stay.not_closed)
+        (on plan first c account g m before after events configs went heads_once some stay.not_closed) (off plan first c account g m before after events configs went heads_once some stay.not_closed)
         ∙ ap (λ (cs : List Config). slice_get (places (stands_at_head plan.region) (length events) cs) 0) one_config
         ∙ ap (λ (t : Bool). slice_get (if t then length events ∷ [] else []) 0) (off_plain plan.region m.config plain)
 
@@ -93,13 +94,13 @@ module _ (plan : Plan) (first : MachineState) (c : CommittedState) (report : Reg
     none_next = none_by events refl
 
     at_start : start rest plan.region 0 ≡ Some 0
-    at_start = at_once plan first c report g
+    at_start = at_once plan first c account g
 
     yet_open : closes events ≡ false
     yet_open = ap (λ (o : Option ℕ). has_closed o events) (sym g.is_open.between) ∙ stay.not_closed
 
     -- the iteration is what was made
-    iteration_is : iteration rest plan.region 0 ≡ events
+    pub iteration_is : iteration rest plan.region 0 ≡ events
     iteration_is =
         ap (λ (k : Option ℕ). events_from rest k (start rest plan.region 1)) at_start
         ∙ ap (λ (k : Option ℕ). slice_range rest.trace 0 (stop_from rest 0 k)) none_next
@@ -109,15 +110,15 @@ module _ (plan : Plan) (first : MachineState) (c : CommittedState) (report : Reg
 
     not_ended : has_ended run plan.region c.count ≡ false
     not_ended =
-        ended_same plan first c report g ∙ ap (λ (o : Option ℕ). is_some o || is_closing rest plan.region 0) none_next ∙ ap closes iteration_is ∙ yet_open
+        ended_same plan first c account g ∙ ap (λ (o : Option ℕ). is_some o || is_closing rest plan.region 0) none_next ∙ ap closes iteration_is ∙ yet_open
 
     pub begun_here : begun_count run plan.region ≡ c.count + cond (nat_lt c.machine.steps c.machine.fuel) 1 0
-    begun_here = last_begun plan first c report g none_next
+    begun_here = last_begun plan first c account g none_next
 
     -- the steps of all begun iterations
     all_made : (c.machine.steps < c.machine.fuel) ⊎ (c.machine.fuel ≤ c.machine.steps) → events_of_first run plan.region c.count ++ events ≡ events_of_first run plan.region (c.count + cond (nat_lt c.machine.steps c.machine.fuel) 1 0)
     all_made (inl h) =
-        ap (λ (es : List Event). events_of_first run plan.region c.count ++ es) (sym (iteration_same plan first c report g ∙ iteration_is))
+        ap (λ (es : List Event). events_of_first run plan.region c.count ++ es) (sym (iteration_same plan first c account g ∙ iteration_is))
         ∙ ap (events_of_first run plan.region) (let e : suc c.count ≡ c.count + cond true 1 0 = omega arith in e ∙ ap (λ (b : Bool). c.count + cond b 1 0) (sym (lt-ltb c.machine.steps c.machine.fuel h)))
     all_made (inr h) =
         let none : length events ≡ 0 = omega (arith, h, went.run.fuel, rest_fuel c.machine) in
@@ -136,10 +137,10 @@ module _ (plan : Plan) (first : MachineState) (c : CommittedState) (report : Reg
 
     inside : All (IsInside plan.region) (g.holds.configs ++ configs)
     inside = All-append (IsInside plan.region) g.holds.configs configs (subst (λ (r : ℕ). All (IsInside r) g.holds.configs) g.region g.holds.inside)
-        (inside_call plan first c report g m before after events configs went heads_once)
+        (inside_call plan first c account g m before after events configs went heads_once)
 
     steps_are : m.steps ≡ first.steps + length (events_of_first run plan.region c.count ++ events)
-    steps_are = let size = length-append (events_of_first run plan.region c.count) events in omega (arith, size, went.steps, here.steps_are plan first c report g)
+    steps_are = let size = length-append (events_of_first run plan.region c.count) events in omega (arith, size, went.steps, here.steps_are plan first c account g)
 
     stands_last : StandsInMain first.program m.config
     stands_last =
@@ -149,7 +150,7 @@ module _ (plan : Plan) (first : MachineState) (c : CommittedState) (report : Reg
 
     ended_before : (i : ℕ) → i < c.count → has_ended run plan.region i ≡ true
     ended_before i h =
-        let there = earlier_start (starts run plan.region) c.count (suc i) made (starts_here plan first c report g) (omega (arith, h)) in
+        let there = earlier_start (starts run plan.region) c.count (suc i) made (starts_here plan first c account g) (omega (arith, h)) in
         ap (λ (o : Option ℕ). is_some o || is_closing run plan.region i) there.1
 
     -- no other region was reached
@@ -163,11 +164,11 @@ module _ (plan : Plan) (first : MachineState) (c : CommittedState) (report : Reg
         not_there w = not-true (stands_at_head other m.config) (inside_off plan.region other h m.config w)
 
     pub stops_made : RegionMade first.program plan first m
-    stops_made = made_by plan first c report g m (events_of_first run plan.region c.count ++ events) (g.holds.configs ++ configs) (begun_count run plan.region) refl events_all whole inside steps_are
+    stops_made = made_by plan first c account g m (events_of_first run plan.region c.count ++ events) (g.holds.configs ++ configs) (begun_count run plan.region) refl events_all whole inside steps_are
         (went.program ∙ g.holds.program) (went.input ∙ g.holds.input) (went.fuel ∙ g.holds.fuel) stands_last (sound ∙ g.is_open.sound)
 
     pub stops : RegionStops plan first
     stops = record { iteration = c.count; unended = not_ended; before = ended_before; others = none_reached }
 
-    pub report_whole : (more : RegionReport) → more ≡ report_before plan first (c.count + cond (nat_lt c.machine.steps c.machine.fuel) 1 0) → more ≡ region_report first.program plan run
-    report_whole more told = told ∙ whole_report plan first (c.count + cond (nat_lt c.machine.steps c.machine.fuel) 1 0) begun_here
+    pub report_whole : (more : Account) → Reports more (report_before plan first (c.count + cond (nat_lt c.machine.steps c.machine.fuel) 1 0)) → Reports more (region_report first.program plan run)
+    report_whole more told = told ∙ ap (told_when more.why) (whole_report plan first (c.count + cond (nat_lt c.machine.steps c.machine.fuel) 1 0) begun_here)

@@ -1,7 +1,5 @@
 -- An epoch under way: the verdicts so far were Clean, and their iterations are committed.
 use Rattle.std.specs.Prelude.{◌≡◌, ℕ, ◌+◌, ◌<◌, true, List, ℤ, Option, Some, None}
-use Rattle.dp_base.specs.declared.RegionReport.{RegionReport}
-use Rattle.dp_base.specs.declared.Cause.{Cause as ReportedCause}
 use Rattle.dp_plan.specs.declared.Plan.{Plan}
 use Rattle.dp_tree.specs.declared.Program.{Program}
 use Rattle.dp_tree.specs.GoesOn.{GoesOnAs}
@@ -11,12 +9,13 @@ use Rattle.dp_semantics.specs.EpochKey.{EpochKey, epoch_run}
 use Rattle.dp_semantics.specs.EpochVerdicts.{goes_on, state_at, verdict_at}
 use Rattle.dp_meaning.specs.MachineState.{MachineState}
 use Rattle.dp_commit.specs.CommittedState.{CommittedState, region_run, steps_of_first}
+use Rattle.dp_epoch.specs.declared.account.Account.{Account}
 use Rattle.dp_epoch.specs.declared.ends.EpochEnd.{EpochEnd}
 use Rattle.dp_epoch.specs.declared.ends.EpochEnd.TheVariants.{Closed, Unclean}
 use Rattle.dp_epoch.specs.declared.ends.RegionEnd.{RegionEnd}
 use Rattle.dp_epoch.specs.declared.ends.RegionEnd.TheVariants as region_end
 use Rattle.dp_epoch.specs.Prints.{to_come}
-use Rattle.dp_epoch.specs.Progress.{Progress, RegionDone, cause_of}
+use Rattle.dp_epoch.specs.Progress.{Progress, RegionDone}
 
 -- the key is that of the region's program, input and fuel
 pub record IsKeyOf (key : EpochKey) (first : MachineState) : Type 0 where
@@ -25,8 +24,8 @@ pub record IsKeyOf (key : EpochKey) (first : MachineState) : Type 0 where
   pub fuel : key.fuel ≡ first.fuel
 
 -- n verdicts of the epoch were given, all Clean and none closing. Their iterations were committed, and the judging stands where the memory does.
-pub record InEpoch (key : EpochKey) (n : ℕ) (first : MachineState) (c : CommittedState) (report : RegionReport) : Type 0 where
-  pub progress : Progress key.plan first c report
+pub record InEpoch (key : EpochKey) (n : ℕ) (first : MachineState) (c : CommittedState) (account : Account) : Type 0 where
+  pub progress : Progress key.plan first c account
   pub key_is : IsKeyOf key first
   pub base : key.base ≡ memory_after (region_run first) key.plan.region key.first
   -- the region's own run goes on from the epoch's first iteration as the epoch's own run
@@ -37,30 +36,29 @@ pub record InEpoch (key : EpochKey) (n : ℕ) (first : MachineState) (c : Commit
   pub state : state_at key n ≡ record { cells = c.machine.config.cells; steps = c.machine.steps }
   pub gone : (j : ℕ) → j < n → goes_on (verdict_at key j) ≡ true
 
--- The next iteration is to be executed again, for this cause.
-pub record IsUnclean (plan : Plan) (first : MachineState) (c : CommittedState) (report : RegionReport) (cause : ReportedCause) : Type 0 where
-  pub progress : Progress plan first c report
+-- The next iteration is to be executed again.
+pub record IsUnclean (plan : Plan) (first : MachineState) (c : CommittedState) (account : Account) : Type 0 where
+  pub progress : Progress plan first c account
   pub again : is_recovered first.program plan (region_run first) c.count ≡ true
-  pub cause_is : cause ≡ cause_of plan first c.count
 
 -- how the epoch ends: the region is closed, or the next iteration is to be executed again
-abbrev pub EpochEnds : Plan → MachineState → CommittedState → RegionReport → EpochEnd → Type 0
-EpochEnds plan first c report Closed = RegionDone plan first c report region_end.Closed
-EpochEnds plan first c report (Unclean cause) = IsUnclean plan first c report cause
+abbrev pub EpochEnds : Plan → MachineState → CommittedState → Account → EpochEnd → Type 0
+EpochEnds plan first c account Closed = RegionDone plan first c account region_end.Closed
+EpochEnds plan first c account Unclean = IsUnclean plan first c account
 
 -- what is left to be written at the epoch's end
 abbrev pub left_by_epoch : Plan → MachineState → List ℤ → ℕ → EpochEnd → List ℤ
 left_by_epoch plan first waiting n Closed = waiting
-left_by_epoch plan first waiting n (Unclean cause) = to_come plan first waiting n
+left_by_epoch plan first waiting n Unclean = to_come plan first waiting n
 
 -- A new epoch is to begin: the region goes on, and the next iteration is the first of its epoch.
-pub record AtEpoch (plan : Plan) (first : MachineState) (c : CommittedState) (report : RegionReport) : Type 0 where
-  pub progress : Progress plan first c report
+pub record AtEpoch (plan : Plan) (first : MachineState) (c : CommittedState) (account : Account) : Type 0 where
+  pub progress : Progress plan first c account
   pub fresh : epoch first.program plan (region_run first) c.count ≡ c.count
 
 -- .. in a run of this program on this input
-pub record ToBegin (p : Program) (plan : Plan) (input : List ℤ) (first : MachineState) (c : CommittedState) (report : RegionReport) : Type 0 where
-  pub at_epoch : AtEpoch plan first c report
+pub record ToBegin (p : Program) (plan : Plan) (input : List ℤ) (first : MachineState) (c : CommittedState) (account : Account) : Type 0 where
+  pub at_epoch : AtEpoch plan first c account
   pub program_is : first.program ≡ p
   pub input_is : first.input ≡ input
 
@@ -77,9 +75,9 @@ abbrev pub key_here : Program → Plan → List ℤ → CommittedState → Epoch
 key_here p plan input c = record { program = p; plan = plan; input = input; first = c.count; base = c.machine.config.cells; steps = c.machine.steps; fuel = c.machine.fuel }
 
 -- how the re-execution of the iteration that broke an epoch comes out: a new epoch is to begin, or the region has ended
-abbrev pub AfterRecovery : Plan → MachineState → CommittedState → RegionReport → Option RegionEnd → Type 0
-AfterRecovery plan first c report None = AtEpoch plan first c report
-AfterRecovery plan first c report (Some end) = RegionDone plan first c report end
+abbrev pub AfterRecovery : Plan → MachineState → CommittedState → Account → Option RegionEnd → Type 0
+AfterRecovery plan first c account None = AtEpoch plan first c account
+AfterRecovery plan first c account (Some end) = RegionDone plan first c account end
 
 -- .. and what is left to be written then
 abbrev pub left_by_recovery : Plan → MachineState → List ℤ → ℕ → Option RegionEnd → List ℤ

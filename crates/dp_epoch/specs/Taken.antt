@@ -1,11 +1,10 @@
 -- One verdict of an epoch, and what it led to.
-use Rattle.std.specs.Prelude.{◌≡◌, ℕ, ◌+◌, ◌<◌, ◌≤◌, List, [], ◌++◌, ℤ}
-use Rattle.dp_base.specs.declared.Cause.{Cause}
-use Rattle.dp_base.specs.declared.RegionReport.{RegionReport}
+use Rattle.std.specs.Prelude.{◌≡◌, ℕ, ◌+◌, ◌<◌, ◌≤◌, List, [], ◌++◌, ℤ, is_some}
 use Rattle.dp_plan.specs.declared.Plan.{Plan}
 use Rattle.dp_semantics.specs.EpochKey.{EpochKey}
 use Rattle.dp_meaning.specs.MachineState.{MachineState}
 use Rattle.dp_commit.specs.CommittedState.{CommittedState}
+use Rattle.dp_epoch.specs.declared.account.Account.{Account}
 use Rattle.dp_epoch.specs.declared.ends.RegionEnd.TheVariants as region_end
 use Rattle.dp_epoch.specs.declared.ledger.Ledger.{Ledger}
 use Rattle.dp_epoch.specs.declared.taken.Taken.{Taken}
@@ -16,31 +15,33 @@ use Rattle.dp_epoch.specs.Prints.{prints_of, to_come}
 use Rattle.dp_epoch.specs.Progress.{RegionDone}
 
 -- where the region stands behind the verdict that came after n of its epoch
-abbrev pub StandsBehind : EpochKey → ℕ → MachineState → CommittedState → RegionReport → Taken → Type 0
-StandsBehind key n first c report Committed = InEpoch key (n + 1) first c report
-StandsBehind key n first c report Closed = RegionDone key.plan first c report region_end.Closed
-StandsBehind key n first c report (Unclean cause) = IsUnclean key.plan first c report cause
+abbrev pub StandsBehind : EpochKey → ℕ → MachineState → CommittedState → Account → Taken → Type 0
+StandsBehind key n first c account Committed = InEpoch key (n + 1) first c account
+StandsBehind key n first c account Closed = RegionDone key.plan first c account region_end.Closed
+StandsBehind key n first c account Unclean = IsUnclean key.plan first c account
 
 -- what was committed of the prints of iteration i
 abbrev pub printed_by : Plan → MachineState → ℕ → Taken → List ℤ
 printed_by plan first i Committed = prints_of plan first i
 printed_by plan first i Closed = prints_of plan first i
-printed_by plan first i (Unclean cause) = []
+printed_by plan first i Unclean = []
 
 -- what is still to be written behind it
 abbrev pub left_behind_it : Plan → MachineState → List ℤ → ℕ → Taken → List ℤ
 left_behind_it plan first waiting i Committed = to_come plan first waiting i
 left_behind_it plan first waiting i Closed = waiting
-left_behind_it plan first waiting i (Unclean cause) = to_come plan first waiting i
+left_behind_it plan first waiting i Unclean = to_come plan first waiting i
 
 -- The verdict after n of the epoch was taken: a clean iteration is committed and counted, and its prints wait; any other changes nothing.
 pub record Takes (key : EpochKey) (n : ℕ) (old new : Ledger) (taken : Taken) (tally tally_now : ℕ) : Type 0 where
-  pub stands : (first : MachineState) → InEpoch key n first old.committed old.report → StandsBehind key n first new.committed new.report taken
-  pub prints : (first : MachineState) → InEpoch key n first old.committed old.report → new.waiting ≡ old.waiting ++ printed_by key.plan first old.committed.count taken
-  pub ahead : (first : MachineState) → InEpoch key n first old.committed old.report →
+  pub stands : (first : MachineState) → InEpoch key n first old.committed old.account → StandsBehind key n first new.committed new.account taken
+  pub prints : (first : MachineState) → InEpoch key n first old.committed old.account → new.waiting ≡ old.waiting ++ printed_by key.plan first old.committed.count taken
+  pub ahead : (first : MachineState) → InEpoch key n first old.committed old.account →
       to_come key.plan first old.waiting old.committed.count ≡ left_behind_it key.plan first new.waiting new.committed.count taken
-  pub kept : (why : Cause) → taken ≡ Unclean why → (new ≡ old) × (tally_now ≡ tally)
-  pub report : new.report ≡ record old.report { iterations = new.committed.count }
+  pub kept : taken ≡ Unclean → (new ≡ old) × (tally_now ≡ tally)
+  pub report : new.account.report ≡ record old.account.report { iterations = new.committed.count }
+  pub why : new.account.why ≡ old.account.why
+  pub watched : is_some new.account.views ≡ is_some old.account.views
   pub counted : tally_now + old.committed.count ≡ tally + new.committed.count
   pub room : HasRoom tally_now new.committed
   pub left : left_of new.committed ≤ left_of old.committed

@@ -1,8 +1,9 @@
 //! An iteration that is executed again, sequentially.
-ghost use Rattle.std.specs.Prelude.{◌≡◌, ◌<◌, ◌++◌, List, ℤ, None, IfOk};
+ghost use Rattle.std.specs.Prelude.{◌≡◌, ◌<◌, ◌++◌, List, ℤ, None, IfOk, OnOk};
 ghost use Rattle.dp_plan.specs.declared.Plan.{Plan};
 ghost use Rattle.dp_meaning.specs.declared.ends.Part.TheVariants.{Region};
 ghost use Rattle.dp_meaning.specs.MachineState.{MachineState, next_part};
+ghost use Rattle.dp_epoch.specs.Accounts.{HearsOn};
 ghost use Rattle.dp_epoch.specs.Applied.{left_of};
 ghost use Rattle.dp_epoch.specs.InEpoch.{AfterRecovery, IsUnclean, left_by_recovery};
 ghost use Rattle.dp_epoch.specs.Prints.{to_come};
@@ -10,10 +11,10 @@ ghost use Rattle.dp_epoch.specs.Remade.{Remade, iteration_end};
 
 use crate::ends::RegionEnd;
 use crate::ledger::Ledger;
-use crate::report::count_recovered;
-use dp_base::{Cause, NoMemory, Row};
-use dp_commit::{Committed, Tally, Watch};
+use dp_base::NoMemory;
+use dp_commit::{Tally, Watch};
 use dp_meaning::IterEnd;
+use std::alloc::Global;
 
 /// The greatest number of steps of one call.
 const TURNS: u32 = 65536;
@@ -21,38 +22,38 @@ const TURNS: u32 = 65536;
 /// Executes the iteration again that isn't clean, and lets its prints wait. A begun one is counted, listed and told. With
 /// `None` a new epoch is to begin.
 pub fn execute_again<W: Watch>(
-    ledger: &mut Ledger<'_>,
-    cause: Cause,
+    alloc: Global,
+    ledger: &mut Ledger<'_, '_>,
     tally: &mut Tally<W>,
 ) -> Result<Option<RegionEnd>, NoMemory>
-    requires unclean { (plan : Plan) × (first : MachineState) × IsUnclean plan first ledger.old.committed ledger.old.report cause }
-    ensures ok { IfOk result (λ end. (plan : Plan) (first : MachineState) → IsUnclean plan first ledger.old.committed ledger.old.report cause → AfterRecovery plan first ledger.new.committed ledger.new.report end) }
+    requires unclean { (plan : Plan) × (first : MachineState) × IsUnclean plan first ledger.old.committed ledger.old.account }
+    ensures ok { IfOk result (λ end. (plan : Plan) (first : MachineState) → IsUnclean plan first ledger.old.committed ledger.old.account → AfterRecovery plan first ledger.new.committed ledger.new.account end) }
     ensures prints { IfOk result (λ end. (printed : List ℤ) × Remade ledger.old.committed ledger.new.committed printed (iteration_end end) × (ledger.new.waiting ≡ ledger.old.waiting ++ printed)) }
-    ensures ahead { IfOk result (λ end. (plan : Plan) (first : MachineState) → IsUnclean plan first ledger.old.committed ledger.old.report cause →
+    ensures ahead { IfOk result (λ end. (plan : Plan) (first : MachineState) → IsUnclean plan first ledger.old.committed ledger.old.account →
         to_come plan first ledger.old.waiting ledger.old.committed.count ≡ left_by_recovery plan first ledger.new.waiting ledger.new.committed.count end) }
     ensures left { IfOk result (λ end. end ≡ None → left_of ledger.new.committed < left_of ledger.old.committed) }
+    ensures why { OnOk result (ledger.new.account.why ≡ ledger.old.account.why) }
     ensures tally { tally.new ≡ tally.old }
 {
     let number = ledger.committed.count();
     let begun = ledger.committed.steps() < ledger.committed.fuel();
-    let end = execute(&mut ledger.committed, &mut ledger.waiting)?;
+    let end = execute(alloc, ledger)?;
     if begun {
-        count_recovered(&mut ledger.report, number, cause)?;
+        ledger.count_again(number, end)?;
         tally.again(ledger.committed.steps());
     }
     Ok(end)
 }
 
-/// Executes the current iteration to its end, and appends its prints.
-fn execute(
-    committed: &mut Committed<'_>,
-    waiting: &mut Row<i64>,
-) -> Result<Option<RegionEnd>, NoMemory>
-    requires next { next_part committed.old.machine ≡ Region committed.old.region }
-    ensures { IfOk result (λ end. (printed : List ℤ) × Remade committed.old committed.new printed (iteration_end end) × (waiting.new ≡ waiting.old ++ printed)) }
+/// Executes the current iteration to its end, and lets its prints wait.
+fn execute(alloc: Global, ledger: &mut Ledger<'_, '_>) -> Result<Option<RegionEnd>, NoMemory>
+    requires next { next_part ledger.old.committed.machine ≡ Region ledger.old.committed.region }
+    ensures ok { IfOk result (λ end. (printed : List ℤ) × Remade ledger.old.committed ledger.new.committed printed (iteration_end end) × (ledger.new.waiting ≡ ledger.old.waiting ++ printed)) }
+    ensures account { OnOk result (ledger.new.account ≡ record ledger.old.account { views = ledger.new.account.views }) }
+    ensures heard { OnOk result (HearsOn ledger.old.committed.machine ledger.new.committed.machine ledger.old.account.views ledger.new.account.views) }
 {
     'calls: loop {
-        match committed.recover(TURNS, waiting)? {
+        match ledger.recover(alloc, TURNS)? {
             IterEnd::Going => {}
             IterEnd::Next => return Ok(None),
             IterEnd::Closed => return Ok(Some(RegionEnd::Closed)),

@@ -1,5 +1,5 @@
 //! How a region and an epoch end.
-use dp_base::{Cause, Fault};
+use dp_base::Fault;
 
 /// How a region ends.
 #[derive(Clone, Copy)]
@@ -17,6 +17,6 @@ pub enum RegionEnd {
 pub enum EpochEnd {
     /// The region is closed.
     Closed,
-    /// The next iteration isn't clean, for this cause, and is to be executed again.
-    Unclean(Cause),
+    /// The next iteration isn't clean, and is to be executed again.
+    Unclean,
 }

@@ -2,19 +2,23 @@
 //! commit, and the region's report.
 #![tactic(auto)]
 
+mod account;
 mod again;
 mod ends;
 mod ledger;
 mod making;
 mod report;
+mod seeing;
 mod taken;
 mod verdicts;
+mod watching;
 
+pub use account::Account;
 pub use again::execute_again;
 pub use dp_pipeline::CrewSize;
 pub use ends::{EpochEnd, RegionEnd};
 pub use ledger::Ledger;
 pub use making::pipeline_here;
-pub use report::{count_recovered, nothing_counted};
+pub use report::nothing_counted;
 pub use taken::{Taken, take};
 pub use verdicts::Verdicts;

@@ -1,13 +1,14 @@
 //! A verdict of an epoch is taken.
 ghost use Rattle.std.specs.Prelude.{◌≡◌, ◌+◌, IfOk};
 ghost use Rattle.dp_meaning.specs.MachineState.{MachineState};
+ghost use Rattle.dp_epoch.specs.Accounts.{TellsEnough};
 ghost use Rattle.dp_epoch.specs.Applied.{HasRoom};
 ghost use Rattle.dp_epoch.specs.InEpoch.{InEpoch};
 ghost use Rattle.dp_epoch.specs.Taken.{Takes};
 
 use crate::ledger::Ledger;
 use crate::verdicts::Verdicts;
-use dp_base::{Cause, NoMemory};
+use dp_base::NoMemory;
 use dp_commit::{Tally, Watch};
 use dp_judge::Verdict;
 use std::sync::Wait;
@@ -20,20 +21,22 @@ pub enum Taken {
     Committed,
     /// The iteration is committed, and closed the region.
     Closed,
-    /// The iteration isn't clean, for this cause, and is to be executed again.
-    Unclean(Cause),
+    /// The iteration isn't clean, and is to be executed again.
+    Unclean,
 }
 
 /// Takes the verdict on the epoch's next iteration, and commits the iteration where it is clean.
-pub fn take<'p, R: Wait + Clock, V: Verdicts, W: Watch>(
+pub fn take<R: Wait + Clock, V: Verdicts, W: Watch>(
     rt: &R,
     verdicts: &mut V,
-    ledger: &mut Ledger<'p>,
+    ledger: &mut Ledger<'_, '_>,
     tally: &mut Tally<W>,
 ) -> Result<Taken, NoMemory>
-    requires epoch { (first : MachineState) × InEpoch (V.key verdicts.old) (V.given verdicts.old) first ledger.old.committed ledger.old.report }
+    requires epoch { (first : MachineState) × InEpoch (V.key verdicts.old) (V.given verdicts.old) first ledger.old.committed ledger.old.account }
+    requires stages { TellsEnough (V.tells_stages verdicts.old) ledger.old.account }
     requires room { HasRoom tally.old ledger.old.committed }
     ensures key { V.key verdicts.new ≡ V.key verdicts.old }
+    ensures tells { V.tells_stages verdicts.new ≡ V.tells_stages verdicts.old }
     ensures given { V.given verdicts.new ≡ V.given verdicts.old + 1 }
     ensures taken { IfOk result (λ taken. Takes (V.key verdicts.old) (V.given verdicts.old) ledger.old ledger.new taken tally.old tally.new) }
 {
@@ -46,7 +49,7 @@ pub fn take<'p, R: Wait + Clock, V: Verdicts, W: Watch>(
             }
             Ok(Taken::Committed)
         }
-        Verdict::Unclean(cause) => Ok(Taken::Unclean(cause)),
+        Verdict::Unclean => Ok(Taken::Unclean),
         Verdict::NoMemory => Err(NoMemory),
     }
 }

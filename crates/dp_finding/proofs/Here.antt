@@ -13,7 +13,7 @@ use Rattle.dp_finding.specs.FlatJudge.{words_at}
 use Rattle.dp_finding.specs.Held.{IsAt, rests, state_at}
 use Rattle.dp_finding.specs.Finding.{DoneAt, StandsBehind}
 use Rattle.dp_finding.proofs.FindLemmas.{front_behind, front_holds, other_word}
-use Rattle.dp_finding.proofs.Undoing.{left_there}
+use Rattle.dp_finding.proofs.WordsLeft.{left_there}
 
 word_there : (words : List Word) (at : ℕ) (d : Word) → at < length words → drop at words ≡ get_or words at d ∷ drop (at + 1) words
 word_there [] at d less = absurd (omega (arith, less))

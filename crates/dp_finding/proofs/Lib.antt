@@ -1,3 +1,3 @@
 pub mod FindLemmas
 pub mod Here
-pub mod Undoing
+pub mod WordsLeft

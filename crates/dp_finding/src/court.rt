@@ -2,7 +2,6 @@
 ghost use Rattle.std.specs.Prelude.{◌≡◌, ◌<◌, ◌+◌, ◌-◌, ◌^◌, ◌||◌, [], length};
 
 use dp_base::{CellId, Cells, Row, SiteId, StoreOf, Word};
-use dp_cause::Replaced;
 use dp_code::Op;
 use dp_packet::Lists;
 use dp_plan::Plan;
@@ -103,16 +102,15 @@ pub struct Walk<'p> {
     /// How many of each stage's words are taken; of the pace's stage, how many were when it was left last.
     pub taken: Row<usize>,
     pub stores: Row<StoreOf>,
-    /// What each store replaced.
-    pub replaced: Row<Replaced>,
+    /// The stage of each store's site, where stages are told.
+    pub stages: Option<Row<u32>>,
     pub prints: Row<i64>,
 }
 
-/// The rows that a judging works with, which the next one takes over, and how many stores and prints there were.
+/// What the next judging takes over: a row to work with, and how many stores and prints there were.
 #[derive(Drop)]
 pub struct Rows {
     pub taken: Row<usize>,
-    pub replaced: Row<Replaced>,
     pub stores: usize,
     pub prints: usize,
 }
@@ -120,11 +118,10 @@ pub struct Rows {
 impl Rows {
     /// Rows that nothing has worked with.
     pub fn none(alloc: Global) -> Rows
-        ensures { result ≡ record { taken = []; replaced = []; stores = 0; prints = 0 } }
+        ensures { result ≡ record { taken = []; stores = 0; prints = 0 } }
     {
         Rows {
             taken: Row::new(alloc),
-            replaced: Row::new(alloc),
             stores: 0,
             prints: 0,
         }

@@ -1,10 +1,27 @@
 //! The words of a packet beside the memory: which loads it holds, and how many words are taken.
-ghost use Rattle.std.specs.Prelude.{◌≡◌, false, true, get_or, slice_set, drop, MatchOption};
+ghost use Rattle.std.specs.Prelude.{◌≡◌, false, true, get_or, pos, slice_set, drop, MatchOption};
 ghost use Rattle.dp_semantics.specs.Judge as judge;
-ghost use Rattle.dp_semantics.specs.Words.{after_loads_of};
+ghost use Rattle.dp_semantics.specs.Words.{after_loads_of, is_load_of};
 
-use dp_base::{Row, SiteId, Word};
-use dp_cause::{is_load, value_at};
+use dp_base::{Row, SiteId, Word, WordKind};
+
+/// The number in a cell, and 0 where there is none.
+fn value_at(cells: &[i64], cell: u32) -> i64
+    ensures { result ≡ get_or cells.now cell (pos 0) }
+{
+    match cells.get(cell as usize) {
+        Some(value) => *value,
+        None => 0,
+    }
+}
+
+/// The word tells a load of the site.
+#[inline(always)]
+fn is_load(word: Word, site: SiteId) -> bool
+    ensures { result ≡ is_load_of site.0 word }
+{
+    word.site.0 == site.0 && word.kind == WordKind::Load
+}
 
 /// The place behind the site's loads from a place on, where each of them gave what the memory holds.
 #[inline(always)]

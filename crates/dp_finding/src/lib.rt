@@ -4,9 +4,7 @@
 
 mod court;
 mod holding;
-mod restoring;
 mod taking;
 
 pub use court::{Answer, Court, Entry, Pace, Rows, Walk};
-pub use restoring::before;
 pub use taking::word_at;

@@ -1,3 +1,5 @@
+pub mod Assumed
+pub mod LocalLemmas
 pub mod WalkLemmas
 pub mod EntryLemmas
 pub mod Following

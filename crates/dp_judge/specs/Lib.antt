@@ -1,3 +1,5 @@
+pub mod Stages
+pub mod Locals
 pub mod Told
 pub mod Entries
 pub mod Judging

@@ -1,25 +1,20 @@
 -- Where the judging stands in an epoch, and what it decides.
-use Rattle.std.specs.Prelude.{◌≡◌, ℕ, suc, false, true, ◌<◌, ◌-◌, length, Some, None}
+use Rattle.std.specs.Prelude.{◌≡◌, ℕ, suc, false, ◌-◌, length, Some, None}
 use Rattle.dp_semantics.specs.Packets.{Packet, passed}
 use Rattle.dp_semantics.specs.EpochKey.{EpochKey, epoch_of}
-use Rattle.dp_semantics.specs.EpochVerdicts.{goes_on, state_at, verdict_at}
-use Rattle.dp_semantics.specs.EpochCauses.{IsSound, kept_at}
-use Rattle.dp_semantics.specs.Items.{OrWanting}
-use Rattle.dp_cause.specs.Views.{local_cells}
-use Rattle.dp_judge.specs.Told.{decided}
+use Rattle.dp_semantics.specs.EpochVerdicts.{state_at, verdict_at}
+use Rattle.dp_judge.specs.Locals.{local_cells}
+use Rattle.dp_judge.specs.Told.{Says, TellsStages}
 use Rattle.dp_judge.specs.declared.trying.TryCommit.{TryCommit}
 use Rattle.dp_judge.specs.declared.verdict.Verdict.{Verdict}
 use Rattle.dp_judge.specs.declared.verdict.Verdict.TheVariants.{Clean, Unclean, NoMemory}
 
--- The epoch's n-th iteration comes next, and all before it go on: the steps, and what is kept, are those after the iterations before it.
+-- The epoch's n-th iteration comes next: the steps that are left are those after the iterations before it.
 pub record Knows (t : TryCommit) (key : EpochKey) (n : ℕ) : Type 0 where
   pub program : t.court.program.now ≡ key.program
   pub plan : t.court.plan.now ≡ key.plan
-  pub input : t.input.now ≡ key.input
   pub left : t.court.limit ≡ key.fuel - (state_at key n).steps
-  pub kept : t.kept ≡ record { views = kept_at key n; locals = local_cells key.plan.region key.program.vars }
-  pub sound : IsSound key
-  pub gone : (m : ℕ) → m < n → goes_on (verdict_at key m) ≡ true
+  pub locals : t.locals ≡ local_cells key.plan.region key.program.vars
 
 -- The next packet that is judged is that of the epoch's n-th iteration, in the memory after the iterations before it.
 pub record Judges (t : TryCommit) (key : EpochKey) (n : ℕ) : Type 0 where
@@ -30,7 +25,7 @@ pub record Judges (t : TryCommit) (key : EpochKey) (n : ℕ) : Type 0 where
 -- behind any verdict but a clean one nothing is judged any more
 abbrev pub EndsUnlessClean : TryCommit → Verdict → Type 0
 EndsUnlessClean t (Clean v) = Unit {0}
-EndsUnlessClean t (Unclean cause) = t.cells ≡ None
+EndsUnlessClean t Unclean = t.cells ≡ None
 EndsUnlessClean t NoMemory = t.cells ≡ None
 
 -- a packet is what the last stage sends for that iteration
@@ -40,15 +35,16 @@ IsLast key n packet = packet ≡ (passed (epoch_of key) (length key.plan.stages)
 -- behind a clean iteration that doesn't close the next one is judged
 abbrev pub JudgesNext : TryCommit → EpochKey → ℕ → Verdict → Type 0
 JudgesNext t key n (Clean v) = v.closing ≡ false → Judges t key (suc n)
-JudgesNext t key n (Unclean cause) = Unit {0}
+JudgesNext t key n Unclean = Unit {0}
 JudgesNext t key n NoMemory = Unit {0}
 
 -- The verdict is that on the epoch's n-th iteration, or memory was wanting.
 abbrev pub Gives : TryCommit → EpochKey → ℕ → Verdict → Type 0
-Gives t key n verdict = OrWanting (verdict_at key n) (decided verdict) × JudgesNext t key n verdict
+Gives t key n verdict = Says verdict (verdict_at key n) × TellsStages t.tells_stages key n verdict × JudgesNext t key n verdict
 
--- the same program, plan and input
+-- the same program and plan, and the same is told
 pub record IsSame (t u : TryCommit) : Type 0 where
   pub program : t.court.program.now ≡ u.court.program.now
   pub plan : t.court.plan.now ≡ u.court.plan.now
-  pub input : t.input.now ≡ u.input.now
+  pub locals : t.locals ≡ u.locals
+  pub tells : t.tells_stages ≡ u.tells_stages

@@ -1,5 +1,7 @@
 //! What the outcome of a condition means: whether it is as the plan assumes, and whether it closes the region.
 ghost use Rattle.std.specs.Prelude.{◌≡◌, ◌==◌, slice_get, slice_index, Some};
+ghost use Rattle.std.specs.List.{list_all};
+ghost use Rattle.dp_base.specs.Arithmetic.{is_zero};
 ghost use Rattle.dp_plan.specs.Access.{first_site, stage_of};
 ghost use Rattle.dp_tree.specs.Event as effect;
 ghost use Rattle.dp_semantics.specs.Clean as clean;
@@ -7,9 +9,55 @@ ghost use Rattle.dp_semantics.specs.StageRun.{closes_at};
 ghost use Rattle.dp_finding.specs.FlatJudge as walk;
 
 use dp_base::SiteId;
-use dp_cause::{goes_as_assumed, stays_late};
 use dp_code::Op;
 use dp_finding::Court;
+use dp_plan::Plan;
+use dp_tree::{Assume, Program};
+
+/// The number is 0.
+#[inline(always)]
+#[tactic(auto, unfolding(dp_base::specs::Arithmetic::is_zero))]
+pub fn zero(x: i64) -> bool
+    ensures { result ≡ is_zero x }
+{
+    x == 0
+}
+
+/// The condition went so.
+#[tactic(auto, unfolding(dp_base::specs::Arithmetic::is_zero))]
+fn went(taken: bool, value: i64) -> bool
+    ensures { result ≡ clean.went taken (effect.Decided value) }
+{
+    if value == 0 { !taken } else { taken }
+}
+
+/// The outcome at the site is as the assumption says, if it is about that site.
+fn goes_as(site: SiteId, value: i64, assumed: &Assume) -> bool
+    ensures { result ≡ clean.goes_as site.0 (effect.Decided value) assumed.now }
+{
+    assumed.site.0 != site.0 || went(assumed.taken, value)
+}
+
+/// The outcome at the site is as each assumption of the plan says.
+#[inline]
+fn goes_as_assumed(plan: &Plan, site: SiteId, value: i64) -> bool
+    ensures { result ≡ list_all (clean.goes_as site.0 (effect.Decided value)) plan.now.assume }
+{
+    for assumed in plan.assume.as_slice() {
+        if !goes_as(site, value, assumed) {
+            return false;
+        }
+    }
+    true
+}
+
+/// An early exit isn't taken, or stands in the first stage.
+#[tactic(auto, unfolding(dp_base::specs::Arithmetic::is_zero))]
+fn stays_late(program: &Program, plan: &Plan, site: SiteId, value: i64) -> bool
+    ensures { result ≡ clean.stays_late program.now plan.now site.0 (effect.Tried value) }
+{
+    value == 0 || plan.stage(program, site) <= 1
+}
 
 /// An `if`'s or a loop's value goes as the plan assumes.
 #[inline]

@@ -5,7 +5,7 @@ ghost use Rattle.dp_code.specs.FlatRun as run;
 ghost use Rattle.dp_code.specs.declared.Op.TheVariants as op;
 ghost use Rattle.dp_finding.specs.declared.court.Answer.TheVariants as answer;
 ghost use Rattle.dp_finding.specs.FlatJudge.{tried_by};
-ghost use Rattle.dp_finding.specs.Held.{IsAt, memory_before, state_at};
+ghost use Rattle.dp_finding.specs.Held.{IsAt, state_at};
 ghost use Rattle.dp_judge.specs.Judging.{Does, Lets, op_in};
 ghost use Rattle.dp_finding.specs.Finding.{walking_in};
 
@@ -39,7 +39,6 @@ pub(crate) fn store<'c, 'p>(
     requires stage { stage ≡ stage_of court.program.now court.plan.now site.0 }
     requires behind { next ≡ pace.old.place + 1 }
     ensures does { Does (op_in court.entry (state_at pace.old walk.old) (op.Consume site first count)) (state_at pace.new walk.new) result }
-    ensures before { memory_before walk.new ≡ memory_before walk.old }
     ensures at { IsAt pace.new walk.new }
 {
     match walk.find(pace, court, site, stage) {
@@ -65,7 +64,6 @@ pub(crate) fn print<'c, 'p>(
     requires stage { stage ≡ stage_of court.program.now court.plan.now site.0 }
     requires behind { next ≡ pace.old.place + 1 }
     ensures does { Does (op_in court.entry (state_at pace.old walk.old) (op.ConsumePrint site)) (state_at pace.new walk.new) result }
-    ensures before { memory_before walk.new ≡ memory_before walk.old }
     ensures at { IsAt pace.new walk.new }
 {
     match walk.find(pace, court, site, stage) {
@@ -103,7 +101,6 @@ pub(crate) fn choose<'c, 'p>(
     requires lets { Lets court site at_zero elsewhere }
     ensures does { Does (walking_in court.entry (state_at pace.old walk.old) (λ (z : ℤ). run.by_zero z to next) site run.decided_by) (state_at pace.new walk.new) result }
     ensures asks_none { result ≢ answer.NoMemory }
-    ensures before { memory_before walk.new ≡ memory_before walk.old }
     ensures at { IsAt pace.new walk.new }
 {
     match walk.find(pace, court, site, stage) {
@@ -131,7 +128,6 @@ pub(crate) fn leave<'c, 'p>(
     requires stage { stage ≡ stage_of court.program.now court.plan.now site.0 }
     ensures does { Does (walking_in court.entry (state_at pace.old walk.old) (λ (z : ℤ). run.by_zero z to next) site tried_by) (state_at pace.new walk.new) result }
     ensures asks_none { result ≢ answer.NoMemory }
-    ensures before { memory_before walk.new ≡ memory_before walk.old }
     ensures at { IsAt pace.new walk.new }
 {
     match walk.find(pace, court, site, stage) {

@@ -1,15 +1,15 @@
 //! A site's word, judged where it stands.
-ghost use Rattle.std.specs.Prelude.{◌≡◌, ◌≢◌, ◌-◌, ◌<◌, ◌==◌, ◌||◌, ℤ, OnOk, OnErr, ◌++◌, ◌∷◌, [], Some};
+ghost use Rattle.std.specs.Prelude.{◌≡◌, ◌≢◌, ◌-◌, ◌<◌, ◌==◌, ◌||◌, ℤ, OnOk, ◌++◌, ◌∷◌, [], Some};
 ghost use Rattle.dp_plan.specs.Access.{first_site, stage_of};
 ghost use Rattle.dp_code.specs.FlatRun as run;
 ghost use Rattle.dp_finding.specs.declared.court.Answer.TheVariants as answer;
-ghost use Rattle.dp_finding.specs.Held.{IsAt, memory_before, state_at};
+ghost use Rattle.dp_finding.specs.FlatJudge.{one_stage_more};
+ghost use Rattle.dp_finding.specs.Held.{IsAt, state_at};
 ghost use Rattle.dp_judge.specs.Judging.{Does, Lets};
 ghost use Rattle.dp_finding.specs.Finding.{Finds, walking_in};
 
-use crate::assuming::closes;
+use crate::assuming::{closes, zero};
 use dp_base::{CellId, NoMemory, Row, SiteId, StoreOf, Word};
-use dp_cause::{Replaced, value_at, zero};
 use dp_finding::{Answer, Court, Pace, Walk, word_at};
 
 /// The store that a word tells.
@@ -23,20 +23,22 @@ fn store_of(word: Word) -> StoreOf
     }
 }
 
-/// Appends a store, and what it replaced.
+/// Appends a store, and the stage of its site where stages are told.
 #[inline(always)]
 fn note_store(
     stores: &mut Row<StoreOf>,
-    replaced: &mut Row<Replaced>,
+    stages: &mut Option<Row<u32>>,
     store: StoreOf,
-    was: Replaced,
+    stage: u32,
 ) -> Result<(), NoMemory>
     ensures stores { OnOk result (stores.new ≡ stores.old ++ store ∷ []) }
-    ensures replaced { OnOk result (replaced.new ≡ replaced.old ++ was ∷ []) }
-    ensures still { OnErr result (replaced.new ≡ replaced.old) }
+    ensures stages { OnOk result (stages.new ≡ one_stage_more stages.old stage) }
 {
     stores.push(store)?;
-    replaced.push(was)
+    match stages {
+        Some(stages) => stages.push(stage),
+        None => Ok(()),
+    }
 }
 
 /// A store, whose word stands at a place of the pace's words.
@@ -59,7 +61,6 @@ pub(crate) fn store_at<'c, 'p>(
     requires left { pace.old.steps < court.limit }
     requires opens { opens ≡ (site.0 == court.first) }
     ensures does { Does (walking_in court.entry (state_at pace.old walk.old) (λ (z : ℤ). next) site (run.stored_by first.0 count)) (state_at pace.new walk.new) result }
-    ensures before { memory_before walk.new ≡ memory_before walk.old }
     ensures at { IsAt pace.new walk.new }
 {
     let word = word_at(pace.words, at);
@@ -67,12 +68,7 @@ pub(crate) fn store_at<'c, 'p>(
         return Answer::Refuses;
     }
     let store = store_of(word);
-    let was = Replaced {
-        cell: CellId(word.index),
-        stage: pace.stage,
-        value: value_at(walk.cells.as_slice(), word.index),
-    };
-    match note_store(&mut walk.stores, &mut walk.replaced, store, was) {
+    match note_store(&mut walk.stores, &mut walk.stages, store, pace.stage) {
         Ok(()) => {
             walk.cells.set(CellId(word.index), word.value);
             pace.pass(at, closes(court, opens, site, word.value), next);
@@ -103,7 +99,6 @@ pub(crate) fn choose_at<'c, 'p>(
     requires lets { Lets court site at_zero elsewhere }
     ensures does { Does (walking_in court.entry (state_at pace.old walk.old) (λ (z : ℤ). run.by_zero z to next) site run.decided_by) (state_at pace.new walk.new) result }
     ensures asks_none { result ≢ answer.NoMemory }
-    ensures before { memory_before walk.new ≡ memory_before walk.old }
     ensures at { IsAt pace.new walk.new }
 {
     let word = word_at(pace.words, at);

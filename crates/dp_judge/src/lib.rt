@@ -1,5 +1,4 @@
-//! The judgement on the packets of an epoch: whether an iteration is clean, what a verdict carries of one that is, and why
-//! another isn't.
+//! The judgement on the packets of an epoch: whether an iteration is clean, and what a verdict carries of one that is.
 #![tactic(auto)]
 
 mod assuming;
@@ -8,6 +7,7 @@ mod entries;
 mod finding;
 mod iteration;
 mod judging;
+mod locals;
 mod rounds;
 mod trying;
 mod verdict;

@@ -62,8 +62,8 @@ module _ (p : Program) (plan : Plan) (input : List ℤ) (first : MachineState) (
     begun : n < begun_count (region_run first) plan.region
     begun =
         let less = ltb-true r.ledger.committed.machine.steps r.ledger.committed.machine.fuel
-        (sym (begun_where plan first r.ledger.committed r.ledger.report s.progress) ∙ ap (is_begun run plan.region) s.count ∙ given.0.begun) in
-        let more = begun_next plan first r.ledger.committed r.ledger.report s.progress (omega (arith, less, rest_fuel r.ledger.committed.machine)) in
+        (sym (begun_where plan first r.ledger.committed r.ledger.account s.progress) ∙ ap (is_begun run plan.region) s.count ∙ given.0.begun) in
+        let more = begun_next plan first r.ledger.committed r.ledger.account s.progress (omega (arith, less, rest_fuel r.ledger.committed.machine)) in
         omega (arith, more, s.count)
 
     bytes_are : iteration_bytes p plan (region_run first) n ≡ group_bytes group.iteration group.again group.sets group.prints
@@ -94,7 +94,7 @@ module _ (p : Program) (plan : Plan) (input : List ℤ) (first : MachineState) (
 
     not_closed : (i : ℕ) → n ≡ suc i → is_closing (region_run first) plan.region i ≡ false
     not_closed i e = false_from_ne_true (is_closing run plan.region i) (λ (t : is_closing run plan.region i ≡ true).
-        let here : start run plan.region n ≡ Some (steps_of_first run plan.region n) = subst (λ (k : ℕ). start run plan.region k ≡ Some (steps_of_first run plan.region k)) s.count (starts_here plan first r.ledger.committed r.ledger.report s.progress) in
+        let here : start run plan.region n ≡ Some (steps_of_first run plan.region n) = subst (λ (k : ℕ). start run plan.region k ≡ Some (steps_of_first run plan.region k)) s.count (starts_here plan first r.ledger.committed r.ledger.account s.progress) in
         let there = earlier_start (starts run plan.region) n i (steps_of_first run plan.region n) here (omega (arith, e)) in
         let none : start run plan.region (i + 1) ≡ None = closes_once plan first s.progress.start i there.0 there.1 t in
         let at : n ≡ i + 1 = omega (arith, e) in

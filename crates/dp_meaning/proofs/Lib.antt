@@ -16,6 +16,7 @@ pub mod PlainLemmas
 pub mod MovedLemmas
 pub mod PartLemmas
 pub mod WatchedLemmas
+pub mod WatchedIteration
 pub mod StretchLemmas
 pub mod StretchEnds
 pub mod SkipLemmas

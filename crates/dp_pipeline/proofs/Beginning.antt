@@ -3,7 +3,8 @@ use Rattle.std.proofs.Common.{arith, ◌≡◌, ◌≤◌, ◌^◌, ℕ, zero, s
 use Rattle.dp_tree.specs.declared.Program.{Program}
 use Rattle.dp_plan.specs.declared.Plan.{Plan}
 use Rattle.dp_plan.specs.Each.{Each}
-use Rattle.dp_semantics.specs.EpochKey.{EpochKey, epoch_of}
+use Rattle.dp_semantics.specs.EpochKey.{epoch_of}
+use Rattle.dp_relay.specs.UnitsKey.{UnitsKey}
 use Rattle.dp_lane.specs.declared.rule.View.TheVariants.{Sender}
 use Rattle.dp_lane.specs.Ends.{End, new_end}
 use Rattle.dp_ring.specs.declared.view.Standing.{Standing}
@@ -32,7 +33,7 @@ use Rattle.dp_relay.specs.Works.{HasSentAll}
 
 -- a machine of the epoch's program, plan and input stands where the epoch begins
 pub stands_in : {E : Type 0} (made : Result StageMachine E) (p : Program) (plan : Plan) (input : List ℤ) (key : Held) → key.p.now ≡ p → key.plan.now ≡ plan → key.input.now ≡ input
-    → IfOk made (λ (m : StageMachine). Stands m (record { program = p; plan = plan; input = input; base = key.base }) 0) → IfOk made (λ (m : StageMachine). Stands m (epoch_of (key_of key)) 0)
+    → IfOk made (λ (m : StageMachine). Stands m (record { program = p; plan = plan; input = input; base = key.base }) 0) → IfOk made (λ (m : StageMachine). Stands m (epoch_of (key_of key).epoch) 0)
 stands_in made p plan input key program_is plan_is input_is w =
     subst (λ (e : Program × Plan × List ℤ). IfOk made (λ (m : StageMachine). Stands m (record { program = e.0; plan = e.1; input = e.2; base = key.base }) 0)) (λ i. (sym program_is i, sym plan_is i, sym input_is i)) w
 
@@ -41,7 +42,7 @@ pub stages_before : (plan : Plan) (key : Held) (stage : ℕ) → key.plan.now �
 stages_before plan key stage same is = let e : stage - 1 ≡ length plan.stages = omega (arith, is) in e ∙ ap (λ (x : Plan). length x.stages) (sym same)
 
 -- a unit that takes its packets in order begins with the first
-pub passage_begins : (stage : Staged) (source : Source) (target : Target) (key : EpochKey) (s : ℕ) → RunsAt stage key s (Some 0)
+pub passage_begins : (stage : Staged) (source : Source) (target : Target) (key : UnitsKey) (s : ℕ) → RunsAt stage key s (Some 0)
     → Gives source key (s - 1) 0 → Gets target key s 0 → (source_facts source).count ≡ 0 → (target_facts target).count ≡ 0 → target_ended target ≡ false
     → HasSentAll IsReady IsHolding (λ (ends : Passage). source_facts ends.source) (λ (ends : Passage). target_facts ends.target) (λ (ends : Passage). target_ended ends.target)
     RunsAt IsCarried is_last_carried stage (record { source = source; target = target }) false
@@ -114,16 +115,16 @@ pub sends_first : (lane : LaneKey) (to : End LaneKey) (capacity : ℕ) → to �
 sends_first lane to capacity new = record { lane = lane; ended = false; view_is = ap (λ (e : End LaneKey). e.view) new; epoch = refl; stage = refl }
 
 module _ (lane : LaneKey) (source : Source) (to : End LaneKey) (capacity : ℕ) where
-  pub judging_begins : (t : TryCommit) → Judges t (key_of lane.epoch) 0 → lane.stage - 1 ≡ length lane.epoch.plan.now.stages
+  pub judging_begins : (t : TryCommit) → Judges t (key_of lane.epoch).epoch 0 → t.tells_stages ≡ lane.epoch.tells_stages → lane.stage - 1 ≡ length lane.epoch.plan.now.stages
       → Gives source (key_of lane.epoch) (lane.stage - 1) 0 → (source_facts source).count ≡ 0 → to ≡ new_end (Sender lane 0 false) capacity
       → HasSentAll MayJudge HasJudged (λ (ends : Judging). source_facts ends.source) (λ (ends : Judging). sent_facts ends.verdicts) (λ (ends : Judging). ended_by ends.verdicts.view)
-      JudgesAt (λ (key : EpochKey) (s k : ℕ) (x : Judged). IsJudged key k x) is_last_judged (record { court = t }) (record { source = source; verdicts = to }) false
-  judging_begins t judges before gives count new = record {
+      JudgesAt (λ (key : UnitsKey) (s k : ℕ) (x : Judged). IsJudged key k x) is_last_judged (record { court = t }) (record { source = source; verdicts = to }) false
+  judging_begins t judges tells before gives count new = record {
     key = key_of lane.epoch;
     number = lane.stage;
     place = Some 0;
     free = record { at = 0; place_is = refl; from = gives; to = sends_first lane to capacity new };
-    stands_on = λ _. record { before = before; stands = judges };
+    stands_on = λ _. record { before = before; tells = tells; stands = judges };
     mark = ap (λ (e : End LaneKey). ended_by e.view) new;
     counts = count ∙ sym (ap (λ (e : End LaneKey). sent_by e.view) new);
   }

@@ -1,14 +1,12 @@
 -- What the units of an epoch run on, from stage to stage.
 use Rattle.std.proofs.Common.{◌≡◌, ◌≤◌, ◌<◌, true, false, sym, ap, ◌∙◌, subst}
 use Rattle.dp_plan.specs.Access.{is_replicated}
-use Rattle.dp_semantics.specs.EpochCauses.{IsSound}
 use Rattle.dp_semantics.specs.Fits.{fits_plan}
 use Rattle.dp_theorem.proofs.Fitting.{accepted}
 use Rattle.dp_theorem.proofs.GivenFits.{given_fits}
 use Rattle.dp_prepared.specs.Planned.{IsPlanned, Prepared}
 use Rattle.dp_pipeline.specs.declared.keys.EpochKey.{EpochKey as Held}
 use Rattle.dp_pipeline.specs.declared.setting.Setting.{Setting}
-use Rattle.dp_pipeline.specs.Keys.{key_of}
 use Rattle.dp_pipeline.specs.steps.Setting.{IsSetting}
 
 -- another stage of the same epoch
@@ -17,7 +15,6 @@ setting_on x y is region epoch numbered = record {
   planned = subst (λ (r : Prepared). IsPlanned r.program r.plan) (sym region) is.planned;
   program = ap (λ (k : Held). k.p.now) epoch ∙ is.program ∙ sym (ap (λ (r : Prepared). r.program) region);
   plan = ap (λ (k : Held). k.plan.now) epoch ∙ is.plan ∙ sym (ap (λ (r : Prepared). r.plan) region);
-  sound = subst (λ (k : Held). IsSound (key_of k)) (sym epoch) is.sound;
   steps = subst (λ (k : Held). k.steps ≤ k.fuel) (sym epoch) is.steps;
   fuel = subst (λ (k : Held). k.fuel ≤ 1000000000) (sym epoch) is.fuel;
   numbered = numbered;

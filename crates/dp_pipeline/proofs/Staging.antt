@@ -4,7 +4,8 @@ use Rattle.dp_plan.specs.declared.Plan.{Plan}
 use Rattle.dp_plan.specs.Access.{is_replicated}
 use Rattle.dp_semantics.specs.Packets as packets
 use Rattle.dp_semantics.specs.EpochKey.{EpochKey, epoch_of}
-use Rattle.dp_semantics.specs.Items.{OrWanting, packet_goes_on, verdict_goes_on}
+use Rattle.dp_relay.specs.UnitsKey.{UnitsKey}
+use Rattle.dp_semantics.specs.Items.{OrWanting, packet_goes_on}
 use Rattle.dp_packet.specs.declared.Packet.{Packet}
 use Rattle.dp_packet.specs.declared.PacketStatus.{PacketStatus}
 use Rattle.dp_packet.specs.declared.PacketStatus.TheVariants.{Going, Closing, Void, NoMemory}
@@ -19,7 +20,7 @@ use Rattle.dp_judge.specs.declared.trying.TryCommit.{TryCommit}
 use Rattle.dp_judge.specs.declared.verdict.Verdict.{Verdict}
 use Rattle.dp_judge.specs.declared.verdict.Verdict.TheVariants as verdict
 use Rattle.dp_judge.specs.Standing.{Judges, JudgesNext, Gives}
-use Rattle.dp_judge.specs.Told.{decided}
+use Rattle.dp_judge.specs.Told.{TellsStages, goes_on_behind}
 use Rattle.dp_pipeline.specs.declared.carried.Carried.{Carried}
 use Rattle.dp_pipeline.specs.declared.staged.Staged.{Staged}
 use Rattle.dp_pipeline.specs.Carried.{IsCarried, IsJudged, is_last_carried, is_last_judged, sent_packet}
@@ -53,8 +54,8 @@ last_by Closing fuel p is = subst (λ (st : PacketStatus). true ≡ (not (packet
 last_by (Void stage why) fuel p is = subst (λ (st : PacketStatus). true ≡ (not (packet_goes_on (Some (record { lists = p.lists; status = status_of st; version = p.version }))) || (p.iteration == fuel))) (sym is) refl
 last_by NoMemory fuel p is = refl
 
-pub last_carried : (key : EpochKey) (x : Carried) → ends_with key.fuel x.packet.status x.packet.iteration ≡ is_last_carried key x
-last_carried key x = last_by x.packet.status key.fuel x.packet refl
+pub last_carried : (key : UnitsKey) (x : Carried) → ends_with key.epoch.fuel x.packet.status x.packet.iteration ≡ is_last_carried key x
+last_carried key x = last_by x.packet.status key.epoch.fuel x.packet refl
 
 -- behind a packet that isn't the last the machine stands at the next place
 stands_by : (status : PacketStatus) (f : Frame) (s : ℕ) (kept : Kept) (key : packets.Epoch) (n fuel i : ℕ) → StandsNext status f s kept key n
@@ -79,11 +80,11 @@ stands_for old new key None n stage w next =
     (r, λ j. anywhere_by new.frame new.stage new.kept key (n + 1) j here next)
 
 -- what runs a replicated stage begins anywhere
-pub runs_anywhere : (x : Staged) (key : EpochKey) (s : ℕ) → is_replicated key.plan s ≡ true → RunsAt x key s (Some 0) → RunsAt x key s None
+pub runs_anywhere : (x : Staged) (key : UnitsKey) (s : ℕ) → is_replicated key.epoch.plan s ≡ true → RunsAt x key s (Some 0) → RunsAt x key s None
 runs_anywhere x key s replicated runs =
-    let r : is_replicated key.plan x.machine.stage ≡ true = ap (λ (k : ℕ). is_replicated key.plan k) runs.stage ∙ replicated in
+    let r : is_replicated key.epoch.plan x.machine.stage ≡ true = ap (λ (k : ℕ). is_replicated key.epoch.plan k) runs.stage ∙ replicated in
     let here : is_replicated x.machine.frame.plan.now x.machine.stage ≡ true = ap (λ (plan : Plan). is_replicated plan x.machine.stage) (sym runs.stands.0.1) ∙ r in
-    record { stage = runs.stage; fuel = runs.fuel; stands = (r, λ j. anywhere_by x.machine.frame x.machine.stage x.machine.kept (epoch_of key) 0 j here runs.stands) }
+    record { stage = runs.stage; fuel = runs.fuel; stands = (r, λ j. anywhere_by x.machine.frame x.machine.stage x.machine.kept (epoch_of key.epoch) 0 j here runs.stands) }
 
 stands_here : (m : StageMachine) (key : packets.Epoch) (place : Option ℕ) (n : ℕ) → StandsFor m key place → At place n → Stands m key n
 stands_here m key (Some next) n w at = subst (λ (k : ℕ). Stands m key k) (sym at) w
@@ -109,15 +110,15 @@ runs_by m new x sent fuel key s place n is same wants run w at (inr came) =
 -- a stage makes what it sends of what the stage before it sends
 pub staged_makes : (m new : StageMachine) (number fuel : ℕ) (x : Carried) (sent : Packet) → new.stage ≡ m.stage → sent.iteration ≡ x.packet.iteration → (x.packet.status ≡ NoMemory → sent ≡ x.packet)
     → ((e : packets.Epoch) (k : ℕ) → Stands m e k → packet_of x.packet ≡ (packets.passed e (m.stage - 1) k).packet → Passes new e k sent)
-    → (key : EpochKey) (s : ℕ) (place : Option ℕ) (n : ℕ) → RunsAt (record { machine = m; stage = number; fuel = fuel }) key s place → At place n → IsCarried key (s - 1) n x
+    → (key : UnitsKey) (s : ℕ) (place : Option ℕ) (n : ℕ) → RunsAt (record { machine = m; stage = number; fuel = fuel }) key s place → At place n → IsCarried key (s - 1) n x
     → IsCarried key s n (record { packet = sent; plan = x.plan }) × (ends_with fuel sent.status sent.iteration ≡ is_last_carried key (record { packet = sent; plan = x.plan }))
     × (ends_with fuel sent.status sent.iteration ≡ false → RunsAt (record { machine = new; stage = number; fuel = fuel }) key s (behind place n))
 staged_makes m new number fuel x sent same iteration wants run key s place n w at came =
-    let ran = runs_by m new x.packet sent fuel (epoch_of key) s place n w.stage same wants run w.stands at
-    (came_by x.packet.status x.packet (packets.passed (epoch_of key) (s - 1) n).packet came.sent.packet) in (
+    let ran = runs_by m new x.packet sent fuel (epoch_of key.epoch) s place n w.stage same wants run w.stands at
+    (came_by x.packet.status x.packet (packets.passed (epoch_of key.epoch) (s - 1) n).packet came.sent.packet) in (
       record {
         sent = record { iteration = iteration ∙ came.sent.iteration; packet = ran.0 };
-        within = subst (λ (i : ℕ). i ≤ key.fuel) (sym iteration) came.within;
+        within = subst (λ (i : ℕ). i ≤ key.epoch.fuel) (sym iteration) came.within;
       },
       ap (λ (f : ℕ). ends_with f sent.status sent.iteration) w.fuel ∙ last_carried key (record { packet = sent; plan = x.plan }),
       λ e. record { stage = same ∙ w.stage; fuel = w.fuel; stands = ran.1 e },
@@ -127,22 +128,23 @@ staged_makes m new number fuel x sent same iteration wants run key s place n w a
 pub last_came : (p : Packet) (wanted : packets.Packet) → (p.status ≡ NoMemory → ⊥) → OrWanting wanted (sent_packet p.status p) → packet_of p ≡ wanted
 last_came p wanted not_wanting o = elim (came_by p.status p wanted o) [ inl wanting ↦ absurd (not_wanting wanting) | inr is ↦ is ]
 
-judges_next : (v : Verdict) (t : TryCommit) (key : EpochKey) (n : ℕ) → JudgesNext t key n v → not (verdict_goes_on (decided v)) ≡ false → Judges t key (n + 1)
+judges_next : (v : Verdict) (t : TryCommit) (key : EpochKey) (n : ℕ) → JudgesNext t key n v → not (goes_on_behind v) ≡ false → Judges t key (n + 1)
 judges_next (verdict.Clean v) t key n w e = let one : n + 1 ≡ suc n = omega (arith) in subst (λ (k : ℕ). Judges t key k) (sym one) (w (twice_not v.closing ∙ e))
-judges_next (verdict.Unclean cause) t key n w e = absurd (cc e)
+judges_next verdict.Unclean t key n w e = absurd (cc e)
 judges_next verdict.NoMemory t key n w e = absurd (cc e)
 
 -- the verdict on what came is the one that is to be sent
-pub judge_makes : (t new : TryCommit) (x : Carried) (i : ℕ) (v : Verdict) → i ≡ x.packet.iteration
+pub judge_makes : (t new : TryCommit) (x : Carried) (i : ℕ) (v : Verdict) → i ≡ x.packet.iteration → new.tells_stages ≡ t.tells_stages
     → ((key : EpochKey) (n : ℕ) → Judges t key n → OrWanting (packets.passed (epoch_of key) (length key.plan.stages) n).packet (sent_packet x.packet.status x.packet) → Gives new key n v)
-    → (key : EpochKey) (s : ℕ) (place : Option ℕ) (n : ℕ) → JudgesAt (record { court = t }) key s place → At place n → IsCarried key (s - 1) n x
-    → IsJudged key n (record { iteration = i; verdict = v; plan = x.plan; packet = x.packet }) × (not (verdict_goes_on (decided v)) ≡ is_last_judged key (record { iteration = i; verdict = v; plan = x.plan; packet = x.packet }))
-    × (not (verdict_goes_on (decided v)) ≡ false → JudgesAt (record { court = new }) key s (behind place n))
-judge_makes t new x i v is judges key s None n w at came = absurd w.stands
-judge_makes t new x i v is judges key s (Some m) n w at came =
-    let gives = judges key n (subst (λ (k : ℕ). Judges t key k) (sym at) w.stands)
-    (subst (λ (k : ℕ). OrWanting (packets.passed (epoch_of key) k n).packet (sent_packet x.packet.status x.packet)) w.before came.sent.packet) in (
-      record { verdict = record { iteration = is ∙ came.sent.iteration; verdict = gives.0 } },
+    → (key : UnitsKey) (s : ℕ) (place : Option ℕ) (n : ℕ) → JudgesAt (record { court = t }) key s place → At place n → IsCarried key (s - 1) n x
+    → IsJudged key n (record { iteration = i; verdict = v; plan = x.plan; packet = x.packet }) × (not (goes_on_behind v) ≡ is_last_judged key (record { iteration = i; verdict = v; plan = x.plan; packet = x.packet }))
+    × (not (goes_on_behind v) ≡ false → JudgesAt (record { court = new }) key s (behind place n))
+judge_makes t new x i v is same judges key s None n w at came = absurd w.stands
+judge_makes t new x i v is same judges key s (Some m) n w at came =
+    let tells : new.tells_stages ≡ key.tells_stages = same ∙ w.tells in
+    let gives = judges key.epoch n (subst (λ (k : ℕ). Judges t key.epoch k) (sym at) w.stands)
+    (subst (λ (k : ℕ). OrWanting (packets.passed (epoch_of key.epoch) k n).packet (sent_packet x.packet.status x.packet)) w.before came.sent.packet) in (
+      record { iteration = is ∙ came.sent.iteration; verdict = gives.0; stages = subst (λ (b : Bool). TellsStages b key.epoch n v) tells gives.1 },
       refl,
-      λ e. record { before = w.before; stands = judges_next v new key n gives.1 e },
+      λ e. record { before = w.before; tells = tells; stands = judges_next v new key.epoch n gives.2 e },
     )

@@ -1,6 +1,6 @@
 -- A worker draws tickets, and takes and gives the packet of each.
 use Rattle.std.proofs.Common.{arith, ◌≡◌, ◌<◌, ◌≤◌, ℕ, ◌+◌, ◌-◌, ◌^◌, Bool, true, false, Option, IfSome, sym, ap, ◌∙◌, subst, refl}
-use Rattle.dp_semantics.specs.EpochKey.{EpochKey}
+use Rattle.dp_relay.specs.UnitsKey.{UnitsKey}
 use Rattle.dp_ring.specs.declared.view.Standing.{Standing}
 use Rattle.dp_ring.specs.declared.view.View.{View}
 use Rattle.dp_ring.specs.declared.view.Phase.TheVariants.{Resting, Taking, Giving}
@@ -23,14 +23,14 @@ pub with_ticket : (has : Bool) (view : View LaneKey) (fuel : ℕ) → has ≡ tr
 with_ticket has view fuel is free = subst (λ (b : Bool). IsFreeBy b view fuel) is free
 
 -- a worker without a ticket may draw one
-pub may_draw : (ends : Tickets) (key : EpochKey) (s : ℕ) (place : Option ℕ) → MayTake ends key s place → ends.has_ticket ≡ false
+pub may_draw : (ends : Tickets) (key : UnitsKey) (s : ℕ) (place : Option ℕ) → MayTake ends key s place → ends.has_ticket ≡ false
     → (ends.seat.view.phase ≡ Resting) × (ends.seat.view.drawn < 2 ^ 32)
 may_draw ends key s place may none =
-    let free = without_ticket ends.has_ticket ends.seat.view key.fuel none may.free in let most = free.1 in let few = may.fuel in (free.0, omega (arith, most, few))
+    let free = without_ticket ends.has_ticket ends.seat.view key.epoch.fuel none may.free in let most = free.1 in let few = may.fuel in (free.0, omega (arith, most, few))
 
 -- .. and has drawn it
 pub has_drawn : (old : Tickets) (new : Standing LaneKey) (ticket : ℕ) → new.view ≡ after_draw ticket old.seat.view → old.seat.view.drawn ≤ ticket
-    → (key : EpochKey) (s : ℕ) (place : Option ℕ) → MayTake old key s place → MayTake (record { seat = new; has_ticket = true }) key s place
+    → (key : UnitsKey) (s : ℕ) (place : Option ℕ) → MayTake old key s place → MayTake (record { seat = new; has_ticket = true }) key s place
 has_drawn old new ticket is least key s place may =
     let drawn : new.view.drawn ≡ old.seat.view.drawn + 1 = ap (λ (v : View LaneKey). v.drawn) is in
     let at : new.view.at ≡ ticket = ap (λ (v : View LaneKey). v.at) is in record {
@@ -43,10 +43,10 @@ has_drawn old new ticket is least key s place may =
 -- a worker with a ticket has taken its packet
 pub has_taken : (old : Tickets) (new : Standing LaneKey) (x : Carried) → old.has_ticket ≡ true
     → IfSome old.seat.view.key (λ (k : LaneKey). IsCarried (key_of k.epoch) (k.stage - 1) old.seat.view.at x) → new.view ≡ after_take (served old.seat)
-    → (key : EpochKey) (s : ℕ) (place : Option ℕ) → MayTake old key s place
+    → (key : UnitsKey) (s : ℕ) (place : Option ℕ) → MayTake old key s place
     → (n : ℕ) × At place n × IsCarried key (s - 1) n x × HasTaken (record { seat = new; has_ticket = old.has_ticket }) key s place n
 has_taken old new x has put is key s place may =
-    let free = with_ticket old.has_ticket old.seat.view key.fuel has may.free in
+    let free = with_ticket old.has_ticket old.seat.view key.epoch.fuel has may.free in
     let came : IsCarried key (s - 1) old.seat.view.at x =
     to_epoch old.seat key s (may.sits.ring.stage - 1) (s - 1) old.seat.view.at may.sits x (ap (λ (k : ℕ). k - 1) may.sits.stage) refl
     (known (λ (k : LaneKey). IsCarried (key_of k.epoch) (k.stage - 1) old.seat.view.at x) old.seat key s may.sits put) in
@@ -71,17 +71,17 @@ free_on false old new fuel phase drawn at free = let most = free.1 in (phase ∙
 free_on true old new fuel phase drawn at free = let most = free.1 in (phase ∙ free.0, omega (arith, drawn, at, most))
 
 pub take_waits : (old : Tickets) (new : Standing LaneKey) (word : ℕ) → IsBusy word old.seat new
-    → (key : EpochKey) (s : ℕ) (place : Option ℕ) → MayTake old key s place → MayTake (record { seat = new; has_ticket = old.has_ticket }) key s place
+    → (key : UnitsKey) (s : ℕ) (place : Option ℕ) → MayTake old key s place → MayTake (record { seat = new; has_ticket = old.has_ticket }) key s place
 take_waits old new word busy key s place may = record {
   place_is = may.place_is;
   sits = sits_on old.seat new key s (ap (λ (v : View LaneKey). v.key) busy.1) may.sits;
-  free = free_on old.has_ticket old.seat.view new.view key.fuel (ap (λ (v : View LaneKey). v.phase) busy.1) (ap (λ (v : View LaneKey). v.drawn) busy.1)
+  free = free_on old.has_ticket old.seat.view new.view key.epoch.fuel (ap (λ (v : View LaneKey). v.phase) busy.1) (ap (λ (v : View LaneKey). v.drawn) busy.1)
       (ap (λ (v : View LaneKey). v.at) busy.1) may.free;
   fuel = may.fuel;
 }
 
 -- it may give what it made of the packet
-pub may_give : (ends : Tickets) (x : Carried) (key : EpochKey) (s : ℕ) (place : Option ℕ) (n : ℕ) → HasTaken ends key s place n → IsCarried key s n x
+pub may_give : (ends : Tickets) (x : Carried) (key : UnitsKey) (s : ℕ) (place : Option ℕ) (n : ℕ) → HasTaken ends key s place n → IsCarried key s n x
     → (ends.seat.view.phase ≡ Giving) × IfSome ends.seat.view.key (λ (k : LaneKey). IsCarried (key_of k.epoch) k.stage ends.seat.view.at x)
 may_give ends x key s place n has is = (
   has.phase,
@@ -92,7 +92,7 @@ may_give ends x key s place n has is = (
 -- .. and has given it
 pub has_given : (old : Tickets) (new : Standing LaneKey) (x : Carried)
     → IfSome old.seat.view.key (λ (k : LaneKey). new.view ≡ after_give (is_last_carried (key_of k.epoch) x) (served old.seat))
-    → (key : EpochKey) (s : ℕ) (place : Option ℕ) (n : ℕ) → HasTaken old key s place n
+    → (key : UnitsKey) (s : ℕ) (place : Option ℕ) (n : ℕ) → HasTaken old key s place n
     → MayTake (record { seat = new; has_ticket = false }) key s (behind place n) × (new.view.ended ≡ is_last_carried key x)
     × (new.view.given ≡ old.seat.view.given + 1) × (new.view.taken ≡ old.seat.view.taken) × (new.view.loads ≡ old.seat.view.loads + 1)
 has_given old new x gave key s place n has =
@@ -104,7 +104,7 @@ has_given old new x gave key s place n has =
         free = (ap (λ (v : View LaneKey). v.phase) is, omega (arith, drawn, most, within));
         fuel = has.fuel;
       },
-      ap (λ (v : View LaneKey). v.ended) is ∙ ap (λ (e : EpochKey). is_last_carried e x) has.sits.epoch,
+      ap (λ (v : View LaneKey). v.ended) is ∙ ap (λ (e : UnitsKey). is_last_carried e x) has.sits.epoch,
       ap (λ (v : View LaneKey). v.given) is,
       ap (λ (v : View LaneKey). v.taken) is,
       ap (λ (v : View LaneKey). v.loads) is,
@@ -112,7 +112,7 @@ has_given old new x gave key s place n has =
 
 -- .. or not yet
 pub give_waits : (old : Tickets) (new : Standing LaneKey) (word : ℕ) → IsBusy word old.seat new
-    → (key : EpochKey) (s : ℕ) (place : Option ℕ) (n : ℕ) → HasTaken old key s place n → HasTaken (record { seat = new; has_ticket = old.has_ticket }) key s place n
+    → (key : UnitsKey) (s : ℕ) (place : Option ℕ) (n : ℕ) → HasTaken old key s place n → HasTaken (record { seat = new; has_ticket = old.has_ticket }) key s place n
 give_waits old new word busy key s place n has =
     let drawn : new.view.drawn ≡ old.seat.view.drawn = ap (λ (v : View LaneKey). v.drawn) busy.1 in let most = has.drawn in record {
       place_is = has.place_is;

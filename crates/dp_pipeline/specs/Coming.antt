@@ -1,18 +1,19 @@
 -- What a clause sees of the verdicts of an epoch.
-use Rattle.std.specs.Prelude.{◌≡◌, ℕ, ◌+◌, false, []}
+use Rattle.std.specs.Prelude.{◌≡◌, ℕ, ◌+◌, Bool, false, []}
 use Rattle.dp_semantics.specs.EpochKey.{EpochKey}
 use Rattle.dp_semantics.specs.EpochVerdicts.{verdict_at}
-use Rattle.dp_semantics.specs.Items.{OrWanting}
 use Rattle.dp_judge.specs.declared.verdict.Verdict.{Verdict}
-use Rattle.dp_judge.specs.Told.{decided}
+use Rattle.dp_judge.specs.Told.{Says, TellsStages}
 use Rattle.dp_lane.specs.declared.rule.View.{View}
 use Rattle.dp_lane.specs.declared.rule.View.TheVariants.{Taker}
+use Rattle.dp_pipeline.specs.declared.keys.EpochKey.{EpochKey as Held}
 use Rattle.dp_pipeline.specs.declared.keys.LaneKey.{LaneKey}
 use Rattle.dp_pipeline.specs.Keys.{key_of}
 
--- what the epoch depends on, and how many of its verdicts were given
+-- what the epoch depends on, whether its verdicts tell stages, and how many of them were given
 pub record Coming : Type 0 where
   pub key : EpochKey
+  pub tells_stages : Bool
   pub given : ℕ
 
 -- the key of an end that takes nothing
@@ -27,13 +28,19 @@ no_key = record {
   fuel = 0;
 }
 
+-- what comes of an epoch of which no verdict was given
+abbrev pub coming_of : Held → Coming
+coming_of epoch = record { key = (key_of epoch).epoch; tells_stages = epoch.tells_stages; given = 0 }
+
 -- what comes on the end of a lane
 abbrev pub coming_on : View LaneKey → Coming
-coming_on (Taker lane taken) = record { key = key_of lane.epoch; given = taken }
-coming_on _ = record { key = no_key; given = 0 }
+coming_on (Taker lane taken) = record { key = (key_of lane.epoch).epoch; tells_stages = lane.epoch.tells_stages; given = taken }
+coming_on _ = record { key = no_key; tells_stages = false; given = 0 }
 
 -- the next verdict came
 pub record Comes (verdict : Verdict) (old new : Coming) : Type 0 where
-  pub verdict_is : OrWanting (verdict_at old.key old.given) (decided verdict)
+  pub verdict_is : Says verdict (verdict_at old.key old.given)
+  pub stages_are : TellsStages old.tells_stages old.key old.given verdict
   pub key_is : new.key ≡ old.key
+  pub tells_is : new.tells_stages ≡ old.tells_stages
   pub given_is : new.given ≡ old.given + 1

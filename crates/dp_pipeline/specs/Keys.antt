@@ -1,7 +1,7 @@
 -- What a key stands for.
-use Rattle.dp_semantics.specs.EpochKey.{EpochKey}
 use Rattle.dp_pipeline.specs.declared.keys.EpochKey.{EpochKey as Held}
+use Rattle.dp_relay.specs.UnitsKey.{UnitsKey}
 
--- the epoch that a key names
-abbrev pub key_of : Held → EpochKey
-key_of k = record { program = k.p.now; plan = k.plan.now; input = k.input.now; first = k.first; base = k.base; steps = k.steps; fuel = k.fuel }
+-- the epoch that a key names, and whether its verdicts tell stages
+abbrev pub key_of : Held → UnitsKey
+key_of k = record { epoch = record { program = k.p.now; plan = k.plan.now; input = k.input.now; first = k.first; base = k.base; steps = k.steps; fuel = k.fuel }; tells_stages = k.tells_stages }

@@ -2,7 +2,8 @@
 use Rattle.std.specs.Prelude.{◌≡◌, ℕ, ◌-◌, true, length, Option, Some, None}
 use Rattle.dp_plan.specs.Access.{is_replicated}
 use Rattle.dp_semantics.specs.Packets.{Epoch}
-use Rattle.dp_semantics.specs.EpochKey.{EpochKey, epoch_of}
+use Rattle.dp_semantics.specs.EpochKey.{epoch_of}
+use Rattle.dp_relay.specs.UnitsKey.{UnitsKey}
 use Rattle.dp_machine.specs.declared.stage.StageMachine.{StageMachine}
 use Rattle.dp_machine.specs.Machine.{Stands}
 use Rattle.dp_judge.specs.declared.trying.TryCommit.{TryCommit}
@@ -16,17 +17,18 @@ StandsFor m key (Some n) = Stands m key n
 StandsFor m key None = (is_replicated key.plan m.stage ≡ true) × ((n : ℕ) → Stands m key n)
 
 -- It is stage s of the epoch, and stands at this place.
-pub record RunsAt (x : Staged) (key : EpochKey) (s : ℕ) (place : Option ℕ) : Type 0 where
+pub record RunsAt (x : Staged) (key : UnitsKey) (s : ℕ) (place : Option ℕ) : Type 0 where
   pub stage : x.machine.stage ≡ s
-  pub fuel : x.fuel ≡ key.fuel
-  pub stands : StandsFor x.machine (epoch_of key) place
+  pub fuel : x.fuel ≡ key.epoch.fuel
+  pub stands : StandsFor x.machine (epoch_of key.epoch) place
 
 -- the judging stands at this place
-abbrev pub JudgesFor : TryCommit → EpochKey → Option ℕ → Type 0
-JudgesFor t key (Some n) = Judges t key n
+abbrev pub JudgesFor : TryCommit → UnitsKey → Option ℕ → Type 0
+JudgesFor t key (Some n) = Judges t key.epoch n
 JudgesFor t key None = ⊥
 
 -- It comes after the last stage of the epoch, and stands at this place.
-pub record JudgesAt (x : Judge) (key : EpochKey) (s : ℕ) (place : Option ℕ) : Type 0 where
-  pub before : s - 1 ≡ length key.plan.stages
+pub record JudgesAt (x : Judge) (key : UnitsKey) (s : ℕ) (place : Option ℕ) : Type 0 where
+  pub before : s - 1 ≡ length key.epoch.plan.stages
+  pub tells : x.court.tells_stages ≡ key.tells_stages
   pub stands : JudgesFor x.court key place

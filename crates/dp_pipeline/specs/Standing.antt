@@ -1,6 +1,6 @@
 -- Where the ends of a unit stand in an epoch.
 use Rattle.std.specs.Prelude.{◌≡◌, ℕ, ◌+◌, ◌-◌, Bool, false, Option, Some}
-use Rattle.dp_semantics.specs.EpochKey.{EpochKey}
+use Rattle.dp_relay.specs.UnitsKey.{UnitsKey}
 use Rattle.dp_lane.specs.declared.rule.View.{View}
 use Rattle.dp_lane.specs.declared.rule.View.TheVariants.{Sender, Taker}
 use Rattle.dp_lane.specs.Ends.{End}
@@ -18,14 +18,14 @@ use Rattle.dp_pipeline.specs.Keys.{key_of}
 use Rattle.dp_pipeline.specs.Seats.{CollectsFrom, PutsTo, seat_facts}
 
 -- a lane of what stage s sends in the epoch, from which n items were taken
-pub record TakesFrom (view : View LaneKey) (key : EpochKey) (s n : ℕ) : Type 0 where
+pub record TakesFrom (view : View LaneKey) (key : UnitsKey) (s n : ℕ) : Type 0 where
   pub lane : LaneKey
   pub view_is : view ≡ Taker lane n
   pub epoch : key_of lane.epoch ≡ key
   pub stage : lane.stage ≡ s
 
 -- .. on which n items were sent
-pub record SendsTo (view : View LaneKey) (key : EpochKey) (s n : ℕ) : Type 0 where
+pub record SendsTo (view : View LaneKey) (key : UnitsKey) (s n : ℕ) : Type 0 where
   pub lane : LaneKey
   pub ended : Bool
   pub view_is : view ≡ Sender lane n ended
@@ -33,19 +33,19 @@ pub record SendsTo (view : View LaneKey) (key : EpochKey) (s n : ℕ) : Type 0 w
   pub stage : lane.stage ≡ s
 
 -- what starts the epoch's iterations, n of which were started
-pub record Starts (x : First) (key : EpochKey) (s n : ℕ) : Type 0 where
-  pub next : x.next ≡ key.first + n
-  pub fuel : x.fuel ≡ key.fuel
+pub record Starts (x : First) (key : UnitsKey) (s n : ℕ) : Type 0 where
+  pub next : x.next ≡ key.epoch.first + n
+  pub fuel : x.fuel ≡ key.epoch.fuel
   pub stage : s ≡ 0
 
 -- what stage s sends in the epoch comes from here, and n items came
-abbrev pub Gives : Source → EpochKey → ℕ → ℕ → Type 0
+abbrev pub Gives : Source → UnitsKey → ℕ → ℕ → Type 0
 Gives (source.Start x) key s n = Starts x key s n
 Gives (source.Lane end) key s n = TakesFrom end.view key s n
 Gives (source.Ring seat) key s n = CollectsFrom seat key s n
 
 -- what stage s sends in the epoch goes here, and n items went
-abbrev pub Gets : Target → EpochKey → ℕ → ℕ → Type 0
+abbrev pub Gets : Target → UnitsKey → ℕ → ℕ → Type 0
 Gets (target.Lane end) key s n = SendsTo end.view key s n
 Gets (target.Ring seat) key s n = PutsTo seat key s n
 
@@ -79,27 +79,27 @@ target_ended (target.Lane end) = ended_by end.view
 target_ended (target.Ring seat) = seat.view.ended
 
 -- the ends of stage s: the next item is the n-th
-pub record IsReady (ends : Passage) (key : EpochKey) (s : ℕ) (place : Option ℕ) : Type 0 where
+pub record IsReady (ends : Passage) (key : UnitsKey) (s : ℕ) (place : Option ℕ) : Type 0 where
   pub at : ℕ
   pub place_is : place ≡ Some at
   pub from : Gives ends.source key (s - 1) at
   pub to : Gets ends.target key s at
 
 -- .. and the n-th was taken
-pub record IsHolding (ends : Passage) (key : EpochKey) (s : ℕ) (place : Option ℕ) (at : ℕ) : Type 0 where
+pub record IsHolding (ends : Passage) (key : UnitsKey) (s : ℕ) (place : Option ℕ) (at : ℕ) : Type 0 where
   pub place_is : place ≡ Some at
   pub from : Gives ends.source key (s - 1) (at + 1)
   pub to : Gets ends.target key s at
 
 -- the ends of the try-commit unit: the next item is the n-th
-pub record MayJudge (ends : Judging) (key : EpochKey) (s : ℕ) (place : Option ℕ) : Type 0 where
+pub record MayJudge (ends : Judging) (key : UnitsKey) (s : ℕ) (place : Option ℕ) : Type 0 where
   pub at : ℕ
   pub place_is : place ≡ Some at
   pub from : Gives ends.source key (s - 1) at
   pub to : SendsTo ends.verdicts.view key s at
 
 -- .. and the n-th was taken
-pub record HasJudged (ends : Judging) (key : EpochKey) (s : ℕ) (place : Option ℕ) (at : ℕ) : Type 0 where
+pub record HasJudged (ends : Judging) (key : UnitsKey) (s : ℕ) (place : Option ℕ) (at : ℕ) : Type 0 where
   pub place_is : place ≡ Some at
   pub from : Gives ends.source key (s - 1) (at + 1)
   pub to : SendsTo ends.verdicts.view key s at

@@ -1,7 +1,6 @@
 //! Which packets and verdicts are the last of their epoch.
 ghost use Rattle.std.specs.Prelude.{◌≡◌, not};
-ghost use Rattle.dp_semantics.specs.Items.{verdict_goes_on};
-ghost use Rattle.dp_judge.specs.Told.{decided};
+ghost use Rattle.dp_judge.specs.Told.{goes_on_behind};
 ghost use Rattle.dp_pipeline.specs.steps.Ending.{ends_with};
 
 use dp_judge::Verdict;
@@ -22,11 +21,11 @@ pub(crate) fn is_last_packet(packet: &Packet, fuel: u64) -> bool
 /// No verdict follows this one.
 #[tactic(auto, using(crate::proofs::Staging::twice_not))]
 pub(crate) fn is_last_verdict(verdict: &Verdict) -> bool
-    ensures { result ≡ not (verdict_goes_on (decided verdict.now)) }
+    ensures { result ≡ not (goes_on_behind verdict.now) }
 {
     match verdict {
         Verdict::Clean(clean) => clean.closing(),
-        Verdict::Unclean(_) => true,
+        Verdict::Unclean => true,
         Verdict::NoMemory => true,
     }
 }

@@ -25,6 +25,7 @@ impl<'p> Judge<'p> {
     /// The verdict by a packet, if memory wasn't wanting for it.
     fn decide(&mut self, packet: &Packet) -> Verdict
         ensures gives { (key : EpochKey) (n : ℕ) → Judges self.old.court key n → OrWanting (passed (epoch_of key) (length key.plan.stages) n).packet (sent_packet packet.now.status packet.now) → Gives self.new.court key n result }
+        ensures tells { self.new.court.tells_stages ≡ self.old.court.tells_stages }
         ensures ends { (packet.now.status ≡ NoMemory → ⊥) → EndsUnlessClean self.new.court result }
     {
         match packet.status {

@@ -1,7 +1,7 @@
 //! What the packets and the verdicts of an epoch depend on.
 ghost use Rattle.std.specs.Prelude.{◌≡◌, IfOk};
 ghost use Rattle.dp_prepared.specs.Planned.{IsPlanned};
-ghost use Rattle.dp_pipeline.specs.Begin.{key_at};
+ghost use Rattle.dp_pipeline.specs.Begin.{units_key_at};
 ghost use Rattle.dp_pipeline.specs.Keys.{key_of};
 
 use dp_base::{Cells, NoMemory};
@@ -19,9 +19,12 @@ pub struct Begin<'b> {
     /// The steps made by then.
     pub steps: u64,
     pub fuel: u64,
+    /// Whether a clean iteration tells the stages of its stores.
+    pub tells_stages: bool,
 }
 
-/// An epoch: its first iteration, the memory in which it begins, the steps made by then, and the fuel.
+/// An epoch: its first iteration, the memory in which it begins, the steps made by then, and the fuel; and whether a clean
+/// iteration tells the stages of its stores.
 pub struct EpochKey<'p> {
     pub p: &'p Program,
     pub plan: &'p Plan,
@@ -30,6 +33,7 @@ pub struct EpochKey<'p> {
     pub base: Cells,
     pub steps: u64,
     pub fuel: u64,
+    pub tells_stages: bool,
 }
 
 // By hand, so that what holds a key doesn't prove again how all of it is dropped.
@@ -43,6 +47,7 @@ impl<'p> Drop for EpochKey<'p> {
             base: _,
             steps: _,
             fuel: _,
+            tells_stages: _,
         } = self;
     }
 }
@@ -57,7 +62,7 @@ impl<'u> EpochKey<'u> {
         ensures planned { IsPlanned region.now.program region.now.plan }
         ensures program { IfOk result (λ key. key.p.now ≡ region.now.program) }
         ensures plan { IfOk result (λ key. key.plan.now ≡ region.now.plan) }
-        ensures key { IfOk result (λ key. key_of key ≡ key_at region.now input.now begin.entry) }
+        ensures key { IfOk result (λ key. key_of key ≡ units_key_at region.now input.now begin.entry) }
     {
         Ok(EpochKey {
             p: region.program(),
@@ -67,7 +72,25 @@ impl<'u> EpochKey<'u> {
             base: begin.base.copy()?,
             steps: begin.steps,
             fuel: begin.fuel,
+            tells_stages: begin.tells_stages,
         })
+    }
+
+    /// The memory in which it begins.
+    fn into_base(self) -> Cells
+        ensures { result ≡ self.entry.base }
+    {
+        let EpochKey {
+            p: _,
+            plan: _,
+            input: _,
+            first: _,
+            base,
+            steps: _,
+            fuel: _,
+            tells_stages: _,
+        } = self;
+        base
     }
 }
 
@@ -82,5 +105,15 @@ pub struct LaneKey<'p> {
 impl<'p> Drop for LaneKey<'p> {
     fn drop(self) {
         let LaneKey { epoch: _, stage: _ } = self;
+    }
+}
+
+impl<'p> LaneKey<'p> {
+    /// The memory in which its epoch begins.
+    pub(crate) fn into_base(self) -> Cells
+        ensures { result ≡ self.entry.epoch.base }
+    {
+        let LaneKey { epoch, stage: _ } = self;
+        epoch.into_base()
     }
 }

@@ -1,6 +1,7 @@
 //! How the units of an epoch are made.
 ghost use Rattle.std.specs.Prelude.{◌≡◌, ◌<◌, ◌+◌, ◌-◌, ◌^◌, suc, true, length, IfOk, OnOk};
 ghost use Rattle.dp_plan.specs.Access.{is_replicated};
+ghost use Rattle.dp_pipeline.specs.Coming.{coming_of};
 ghost use Rattle.dp_pipeline.specs.Keys.{key_of};
 ghost use Rattle.dp_pipeline.specs.steps.Setting.{IsSetting};
 ghost use Rattle.dp_pipeline.specs.Standing.{Gives, source_facts};
@@ -112,7 +113,7 @@ pub(crate) fn pipeline_of<'u, 'p>(
     requires setting { IsSetting setting }
     requires stage { setting.key.stage ≡ 1 }
     ensures units { IfOk result (λ made. length made.units ≡ unit_count setting.entry.size.workers setting.entry.region.now.plan) }
-    ensures verdicts { IfOk result (λ made. made.verdicts ≡ record { key = key_of setting.entry.key.epoch; given = 0 }) }
+    ensures verdicts { IfOk result (λ made. made.verdicts ≡ coming_of setting.entry.key.epoch) }
     ensures setter { setter.new ≡ setter.old }
 {
     let plan = setting.region.plan();
@@ -127,7 +128,8 @@ pub(crate) fn pipeline_of<'u, 'p>(
         };
         setting.key.stage += 1;
     }
-    let (unit, verdicts) = judging_unit(alloc, &setting, source, back, setter.seat()?)?;
+    let seat = setter.seat()?;
+    let (unit, verdicts) = judging_unit(alloc, setting, source, back, seat)?;
     units.push(unit)?;
     Ok(Pipeline { units, verdicts })
 }

@@ -1,6 +1,5 @@
 //! The pipeline of an epoch.
 ghost use Rattle.std.specs.Prelude.{◌≡◌, ◌≤◌, length, IfOk};
-ghost use Rattle.dp_semantics.specs.EpochCauses.{IsSound};
 ghost use Rattle.dp_pipeline.specs.Begin.{key_at};
 ghost use Rattle.dp_pipeline.specs.UnitCount.{unit_count};
 
@@ -32,12 +31,11 @@ impl<'u> Pipeline<'u> {
         size: CrewSize,
         setter: &mut StopSetter,
     ) -> Result<Pipeline<'u>, NoMemory>
-        requires sound { IsSound (key_at region.now input.now begin) }
         requires steps { begin.steps ≤ begin.fuel }
         requires fuel { begin.fuel ≤ 1000000000 }
         ensures units { IfOk result (λ made. length made.units ≡ unit_count size.workers region.now.plan) }
         ensures setter { setter.new ≡ setter.old }
-        ensures verdicts { IfOk result (λ made. made.verdicts ≡ record { key = key_at region.now input.now begin.entry; given = 0 }) }
+        ensures verdicts { IfOk result (λ made. made.verdicts ≡ record { key = key_at region.now input.now begin.entry; tells_stages = begin.entry.tells_stages; given = 0 }) }
     {
         let epoch = EpochKey::copied(region, input, begin)?;
         let key = LaneKey { epoch, stage: 1 };

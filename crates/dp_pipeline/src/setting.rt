@@ -1,7 +1,9 @@
 //! What the units of an epoch run on.
+ghost use Rattle.std.specs.Prelude.{◌≡◌};
 
 use crate::keys::LaneKey;
 use crate::size::CrewSize;
+use dp_base::Cells;
 use dp_prepared::PreparedRegion;
 
 /// A prepared region, the size of its crew, and the epoch with the stage whose units are made next.
@@ -19,5 +21,19 @@ impl<'u, 'p> Drop for Setting<'u, 'p> {
             size: _,
             key: _,
         } = self;
+    }
+}
+
+impl<'u, 'p> Setting<'u, 'p> {
+    /// The memory in which the epoch begins.
+    pub(crate) fn into_base(self) -> Cells
+        ensures { result ≡ self.entry.key.epoch.base }
+    {
+        let Setting {
+            region: _,
+            size: _,
+            key,
+        } = self;
+        key.into_base()
     }
 }

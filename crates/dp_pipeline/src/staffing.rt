@@ -45,7 +45,7 @@ fn machine_of<'u, 'p>(
 ) -> Result<StageMachine<'u>, NoMemory>
     requires setting { IsSetting setting.now }
     requires numbered { 0 < stage }
-    ensures stands { IfOk result (λ machine. Stands machine (epoch_of (key_of setting.now.key.epoch)) 0) }
+    ensures stands { IfOk result (λ machine. Stands machine (epoch_of (key_of setting.now.key.epoch).epoch) 0) }
     ensures stage { IfOk result (λ machine. machine.stage ≡ stage) }
 {
     let epoch = &setting.key.epoch;

@@ -21,7 +21,7 @@ pub struct Start<'p> {
 
 impl<'p> Start<'p> {
     ghost use Rattle.dp_packet.specs.declared.PacketStatus.TheVariants as state;
-    ghost use Rattle.dp_semantics.specs.EpochKey.{EpochKey};
+    ghost use Rattle.dp_relay.specs.UnitsKey.{UnitsKey};
     ghost use Rattle.dp_pipeline.specs.Carried.{IsCarried};
     ghost use Rattle.dp_relay.specs.Facts.{Takes};
     ghost use Rattle.dp_pipeline.specs.Standing.{Starts, source_facts};
@@ -46,8 +46,8 @@ impl<'p> Start<'p> {
 
     /// The packet of the next iteration. None comes above the fuel's number, and behind one that says that memory is wanting.
     pub(crate) fn take<R: Wait>(&mut self, rt: &R) -> Result<Carried<'p>, IdleWhy>
-        ensures took { IfOk result (λ item. (key : EpochKey) (s n : ℕ) → Starts self.old key s n → IsCarried key s n item × Starts self.new key s (n + 1)) }
-        ensures idle { OnErr result ((key : EpochKey) (s n : ℕ) → Starts self.old key s n → Starts self.new key s n) }
+        ensures took { IfOk result (λ item. (key : UnitsKey) (s n : ℕ) → Starts self.old key s n → IsCarried key s n item × Starts self.new key s (n + 1)) }
+        ensures idle { OnErr result ((key : UnitsKey) (s n : ℕ) → Starts self.old key s n → Starts self.new key s n) }
         ensures none { OnErr result ((self.old.fuel < self.old.next) ⊎ (self.old.supply.last ≡ None)) }
         ensures kept { OnErr result (self.new.supply.last ≡ self.old.supply.last) }
         ensures spent { IfOk result (λ item. (item.packet.status ≡ state.NoMemory) ⊎ (self.new.supply.last ≡ self.old.supply.last)) }

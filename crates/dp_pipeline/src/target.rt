@@ -16,7 +16,7 @@ pub enum Target<'p> {
 }
 
 impl<'p> Target<'p> {
-    ghost use Rattle.dp_semantics.specs.EpochKey.{EpochKey};
+    ghost use Rattle.dp_relay.specs.UnitsKey.{UnitsKey};
     ghost use Rattle.dp_pipeline.specs.Carried.{IsCarried, is_last_carried};
     ghost use Rattle.dp_relay.specs.Facts.{Sends};
     ghost use Rattle.dp_pipeline.specs.Standing.{Gets, target_facts, target_ended};
@@ -27,9 +27,9 @@ impl<'p> Target<'p> {
         rt: &R,
         item: Carried<'p>,
     ) -> Result<(), Refused<Carried<'p>>>
-        requires { (key : EpochKey) × (s : ℕ) × (n : ℕ) × Gets self.old key s n × IsCarried key s n item }
-        ensures sent { OnOk result ((key : EpochKey) (s n : ℕ) → Gets self.old key s n → IsCarried key s n item.entry → Gets self.new key s (n + 1) × (target_ended self.new ≡ is_last_carried key item.entry)) }
-        ensures held { OnErr result ((key : EpochKey) (s n : ℕ) → Gets self.old key s n → Gets self.new key s n) }
+        requires { (key : UnitsKey) × (s : ℕ) × (n : ℕ) × Gets self.old key s n × IsCarried key s n item }
+        ensures sent { OnOk result ((key : UnitsKey) (s n : ℕ) → Gets self.old key s n → IsCarried key s n item.entry → Gets self.new key s (n + 1) × (target_ended self.new ≡ is_last_carried key item.entry)) }
+        ensures held { OnErr result ((key : UnitsKey) (s n : ℕ) → Gets self.old key s n → Gets self.new key s n) }
         ensures back { IfErr result (λ refused. refused.item ≡ item.entry) }
         ensures ended { OnErr result (target_ended self.new ≡ target_ended self.old) }
         ensures sending { Sends result (target_facts self.old) (target_facts self.new) }

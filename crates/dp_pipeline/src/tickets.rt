@@ -15,13 +15,13 @@ pub struct Tickets<'p> {
 }
 
 impl<'p> Tickets<'p> {
-    ghost use Rattle.dp_semantics.specs.EpochKey.{EpochKey};
+    ghost use Rattle.dp_relay.specs.UnitsKey.{UnitsKey};
     ghost use Rattle.dp_pipeline.specs.Seats.{MayTake, taking_facts, giving_facts};
 
     /// Draws a ticket where it has none.
     fn draw(&mut self)
-        requires { (key : EpochKey) × (s : ℕ) × (place : Option ℕ) × MayTake self.old key s place }
-        ensures ready { (key : EpochKey) (s : ℕ) (place : Option ℕ) → MayTake self.old key s place → MayTake self.new key s place }
+        requires { (key : UnitsKey) × (s : ℕ) × (place : Option ℕ) × MayTake self.old key s place }
+        ensures ready { (key : UnitsKey) (s : ℕ) (place : Option ℕ) → MayTake self.old key s place → MayTake self.new key s place }
         ensures ticket { self.new.has_ticket ≡ true }
         ensures facts { (taking_facts self.new.seat ≡ taking_facts self.old.seat) × (giving_facts self.new.seat ≡ giving_facts self.old.seat) }
         ensures ended { self.new.seat.view.ended ≡ self.old.seat.view.ended }

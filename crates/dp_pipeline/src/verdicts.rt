@@ -50,8 +50,7 @@ impl<'u> Model for LaneVerdicts<'u> {
 impl<'u> LaneVerdicts<'u> {
     ghost use Rattle.std.specs.Prelude.{◌≡◌, ◌+◌, ◌<◌, ℕ, true, MatchOption};
     ghost use Rattle.dp_semantics.specs.EpochVerdicts.{goes_on, verdict_at};
-    ghost use Rattle.dp_semantics.specs.Items.{OrWanting};
-    ghost use Rattle.dp_judge.specs.Told.{decided};
+    ghost use Rattle.dp_judge.specs.Told.{Says, TellsStages};
     ghost use Rattle.dp_pipeline.specs.Coming.{Comes, coming_on};
 
     /// Verdicts that come on this end, and no units. Packets that were judged are sent back.
@@ -106,8 +105,10 @@ impl<'u> LaneVerdicts<'u> {
     /// The verdict on the next iteration. There is none after one that isn't Clean or that closes the region.
     pub fn next<R: Wait + Clock>(&mut self, rt: &R) -> Verdict
         requires { (n : ℕ) → n < self.old.given → goes_on (verdict_at self.old.key n) ≡ true }
-        ensures verdict { OrWanting (verdict_at self.old.key self.old.given) (decided result) }
+        ensures verdict { Says result (verdict_at self.old.key self.old.given) }
+        ensures stages { TellsStages self.old.tells_stages self.old.key self.old.given result }
         ensures key { self.new.key ≡ self.old.key }
+        ensures tells { self.new.tells_stages ≡ self.old.tells_stages }
         ensures given { self.new.given ≡ self.old.given + 1 }
     {
         'turns: for _ in rt.forever() {

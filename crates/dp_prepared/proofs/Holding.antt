@@ -11,7 +11,7 @@ use Rattle.dp_turn.specs.Prepared.{IsPrepared}
 use Rattle.dp_finding.specs.declared.court.Court.{Court}
 use Rattle.dp_finding.specs.declared.court.Entry.{Entry}
 use Rattle.dp_judge.specs.Entries.{entries_of}
-use Rattle.dp_judge.specs.Judging.{IsGiven}
+use Rattle.dp_judge.specs.Judging.{IsCourt}
 use Rattle.dp_judge.proofs.GivenStages.{given_stages}
 use Rattle.dp_prepared.specs.Planned.{IsPlanned}
 use Rattle.dp_prepared.specs.Regions.{IsRegion}
@@ -39,16 +39,12 @@ module _ {p : Program} {plan : Plan} {first : ℕ} {codes : List PreparedCode} {
   pub none_there : (number : ℕ) → 0 < number → slice_get codes (number - 1) ≡ None → length plan.stages < number
   none_there number some none = let past = ended codes (number - 1) none in omega (arith, some, past, r.stages.count)
 
-  pub court_given : (f : Court) → f.program.now ≡ p → f.plan.now ≡ plan → f.code.now ≡ judging → f.entries.now ≡ entries → f.first ≡ first → IsGiven f
+  pub court_given : (f : Court) → f.program.now ≡ p → f.plan.now ≡ plan → f.code.now ≡ judging → f.entries.now ≡ entries → f.first ≡ first → IsCourt f
   court_given f program_is plan_is code_is entries_is first_is =
       let planned = planned_there f.program.now f.plan.now program_is plan_is in
       record {
-        inlined = planned.inlined;
-        plan = planned.is_plan;
-        court = record {
-          code = code_is ∙ r.code ∙ (λ i. stage_code (sym program_is i) (sym plan_is i) (last (sym plan_is i)));
-          table = entries_is ∙ r.table ∙ (λ i. entries_of (sym program_is i) (sym plan_is i) (sym code_is i) 0 (sym code_is i));
-          first = first_is ∙ first_there f.program.now f.plan.now program_is plan_is;
-          stages = given_stages f.program.now planned.inlined f.plan.now planned.is_plan;
-        };
+        code = code_is ∙ r.code ∙ (λ i. stage_code (sym program_is i) (sym plan_is i) (last (sym plan_is i)));
+        table = entries_is ∙ r.table ∙ (λ i. entries_of (sym program_is i) (sym plan_is i) (sym code_is i) 0 (sym code_is i));
+        first = first_is ∙ first_there f.program.now f.plan.now program_is plan_is;
+        stages = given_stages f.program.now planned.inlined f.plan.now planned.is_plan;
       }

@@ -4,7 +4,7 @@ ghost use Rattle.dp_plan.specs.Access.{first_site};
 ghost use Rattle.dp_turn.specs.Prepared.{IsPrepared, IsStaged};
 ghost use Rattle.dp_code.specs.Code.{stage_code};
 ghost use Rattle.dp_judge.specs.Entries.{entries_of};
-ghost use Rattle.dp_judge.specs.Judging.{IsGiven};
+ghost use Rattle.dp_judge.specs.Judging.{IsCourt};
 ghost use Rattle.dp_prepared.specs.Planned.{IsPlanned};
 
 use crate::codes::{code_at, stage_codes};
@@ -193,7 +193,7 @@ impl<'p> PreparedRegion<'p> {
 
     /// What the region's iterations are judged by, where so many steps are left of the fuel.
     pub fn court<'u>(&'u self, limit: u64) -> Court<'u>
-        ensures given { IsGiven result }
+        ensures court { IsCourt result }
         ensures program { result.program.now ≡ self.now.program }
         ensures plan { result.plan.now ≡ self.now.plan }
         ensures limit { result.limit ≡ limit }

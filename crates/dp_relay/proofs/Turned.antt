@@ -1,6 +1,6 @@
 -- A turn of a unit leaves it at work.
 use Rattle.std.proofs.Common.{arith, ◌≡◌, ◌≤◌, inl, inr, ℕ, ◌+◌, ◌-◌, Bool, false, Option, Some, None, sym, ap, ◌∙◌, subst, refl}
-use Rattle.dp_semantics.specs.EpochKey.{EpochKey}
+use Rattle.dp_relay.specs.UnitsKey.{UnitsKey}
 use Rattle.dp_relay.specs.declared.stage.Made.{Made}
 use Rattle.dp_relay.specs.declared.polled.Polled.{Polled}
 use Rattle.dp_relay.specs.declared.polled.Polled.TheVariants.{Moved, Idle, Ended}
@@ -31,8 +31,8 @@ send_from Empty first old new stays r = r
 send_from Full first old new stays r = (rose_from first.tries old.tries new.tries stays.1 r.0, r.1 ∙ stays.0, r.2)
 send_from (Busy word) first old new stays r = (rose_from first.tries old.tries new.tries stays.1 r.0, r.1, r.2 ∙ stays.0, r.3)
 
-module _ {E S I O : Type 0} (ready : E → EpochKey → ℕ → Option ℕ → Type 0) (holds : E → EpochKey → ℕ → Option ℕ → ℕ → Type 0) (taking sending : E → Facts) (ended : E → Bool)
-    (stands : S → EpochKey → ℕ → Option ℕ → Type 0) (is_taken : EpochKey → ℕ → ℕ → I → Type 0) (is_sent : EpochKey → ℕ → ℕ → O → Type 0) (is_last : EpochKey → O → Bool) where
+module _ {E S I O : Type 0} (ready : E → UnitsKey → ℕ → Option ℕ → Type 0) (holds : E → UnitsKey → ℕ → Option ℕ → ℕ → Type 0) (taking sending : E → Facts) (ended : E → Bool)
+    (stands : S → UnitsKey → ℕ → Option ℕ → Type 0) (is_taken : UnitsKey → ℕ → ℕ → I → Type 0) (is_sent : UnitsKey → ℕ → ℕ → O → Type 0) (is_last : UnitsKey → O → Bool) where
   pub none_held : (stage : S) (ends : E) (held : Option (Made O)) → held ≡ None → IsAtWork ready holds taking sending ended stands is_sent is_last stage ends false held
       → HasSentAll ready holds taking sending ended stands is_sent is_last stage ends false
   none_held stage ends held is w = subst (λ (h : Option (Made O)). IsAtWork ready holds taking sending ended stands is_sent is_last stage ends false h) is w
@@ -43,7 +43,7 @@ module _ {E S I O : Type 0} (ready : E → EpochKey → ℕ → Option ℕ → T
 
   -- nothing came
   pub nothing_came : (stage : S) (old new : E) (why : IdleWhy) → HasSentAll ready holds taking sending ended stands is_sent is_last stage old false
-      → ((key : EpochKey) (s : ℕ) (place : Option ℕ) → ready old key s place → ready new key s place)
+      → ((key : UnitsKey) (s : ℕ) (place : Option ℕ) → ready old key s place → ready new key s place)
       → RefusesTake why (taking old) (taking new) → Stays (sending old) (sending new) → ended new ≡ ended old
       → HasSentAll ready holds taking sending ended stands is_sent is_last stage new false
   nothing_came stage old new why w keeps refuses same mark = record {
@@ -58,8 +58,8 @@ module _ {E S I O : Type 0} (ready : E → EpochKey → ℕ → Option ℕ → T
 
   -- an item came, and the stage ran on it
   pub has_run : (stage stage' : S) (old new : E) (item : I) (made : Made O) → HasSentAll ready holds taking sending ended stands is_sent is_last stage old false
-      → ((key : EpochKey) (s : ℕ) (place : Option ℕ) → ready old key s place → (n : ℕ) × At place n × is_taken key (s - 1) n item × holds new key s place n)
-      → ((key : EpochKey) (s : ℕ) (place : Option ℕ) (n : ℕ) → stands stage key s place → At place n → is_taken key (s - 1) n item
+      → ((key : UnitsKey) (s : ℕ) (place : Option ℕ) → ready old key s place → (n : ℕ) × At place n × is_taken key (s - 1) n item × holds new key s place n)
+      → ((key : UnitsKey) (s : ℕ) (place : Option ℕ) (n : ℕ) → stands stage key s place → At place n → is_taken key (s - 1) n item
       → is_sent key s n made.item × (made.last ≡ is_last key made.item) × (made.last ≡ false → stands stage' key s (behind place n)))
       → (taking new).count ≡ (taking old).count + 1 → Stays (sending old) (sending new) → ended new ≡ ended old
       → HasMade ready holds taking sending ended stands is_sent is_last stage' new made

@@ -1,3 +1,4 @@
+pub mod UnitsKey
 pub mod Places
 pub mod Facts
 pub mod Works

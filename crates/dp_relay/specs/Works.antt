@@ -1,15 +1,15 @@
 -- What holds of a unit between two polls.
 use Rattle.std.specs.Prelude.{◌≡◌, ℕ, ◌+◌, Bool, false, Option, Some, None}
-use Rattle.dp_semantics.specs.EpochKey.{EpochKey}
+use Rattle.dp_relay.specs.UnitsKey.{UnitsKey}
 use Rattle.dp_relay.specs.declared.stage.Made.{Made}
 use Rattle.dp_relay.specs.Facts.{Facts}
 use Rattle.dp_relay.specs.Places.{behind}
 
-module _ {E S O : Type 0} (ready : E → EpochKey → ℕ → Option ℕ → Type 0) (holds : E → EpochKey → ℕ → Option ℕ → ℕ → Type 0) (taking sending : E → Facts) (ended : E → Bool)
-    (stands : S → EpochKey → ℕ → Option ℕ → Type 0) (is_sent : EpochKey → ℕ → ℕ → O → Type 0) (is_last : EpochKey → O → Bool) where
+module _ {E S O : Type 0} (ready : E → UnitsKey → ℕ → Option ℕ → Type 0) (holds : E → UnitsKey → ℕ → Option ℕ → ℕ → Type 0) (taking sending : E → Facts) (ended : E → Bool)
+    (stands : S → UnitsKey → ℕ → Option ℕ → Type 0) (is_sent : UnitsKey → ℕ → ℕ → O → Type 0) (is_last : UnitsKey → O → Bool) where
   -- an item was taken. What was made of it is to be sent, and the stage goes on unless this is an ending one
   pub record HasMade (stage : S) (ends : E) (made : Made O) : Type 0 where
-    pub key : EpochKey
+    pub key : UnitsKey
     pub number : ℕ
     pub place : Option ℕ
     pub at : ℕ
@@ -22,7 +22,7 @@ module _ {E S O : Type 0} (ready : E → EpochKey → ℕ → Option ℕ → Typ
 
   -- all that was taken was sent, and the stage goes on unless the last item was an ending one
   pub record HasSentAll (stage : S) (ends : E) (last : Bool) : Type 0 where
-    pub key : EpochKey
+    pub key : UnitsKey
     pub number : ℕ
     pub place : Option ℕ
     pub free : ready ends key number place

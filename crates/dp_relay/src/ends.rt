@@ -1,6 +1,6 @@
 //! Where a unit takes items, and where it sends them.
 ghost use Rattle.std.specs.Prelude.{◌≡◌, ◌-◌, ℕ, Bool, Option, IfOk, IfErr, OnOk, OnErr};
-ghost use Rattle.dp_semantics.specs.EpochKey.{EpochKey};
+ghost use Rattle.dp_relay.specs.UnitsKey.{UnitsKey};
 ghost use Rattle.dp_relay.specs.Places.{At, behind};
 ghost use Rattle.dp_relay.specs.Facts.{Facts, Stays, Takes, Sends};
 
@@ -18,10 +18,10 @@ pub struct Refused<O> {
 /// The ends that a unit takes from and sends on.
 pub trait Ends<I: Item, O: Item>: Drop {
     /// They are those of the stage of this number, and the items at these places may come.
-    ghost ready: { Self → EpochKey → ℕ → Option ℕ → Type 0 };
+    ghost ready: { Self → UnitsKey → ℕ → Option ℕ → Type 0 };
 
     /// The item at the last place was taken, and what is made of it is to be sent.
-    ghost holds: { Self → EpochKey → ℕ → Option ℕ → ℕ → Type 0 };
+    ghost holds: { Self → UnitsKey → ℕ → Option ℕ → ℕ → Type 0 };
 
     ghost taking: { Self → Facts };
 
@@ -31,19 +31,19 @@ pub trait Ends<I: Item, O: Item>: Drop {
     ghost ended: { Self → Bool };
 
     fn take<R: Wait>(&mut self, rt: &R) -> Result<I, IdleWhy>
-        requires { (key : EpochKey) × (s : ℕ) × (place : Option ℕ) × ready self.old key s place }
-        ensures took { IfOk result (λ item. (key : EpochKey) (s : ℕ) (place : Option ℕ) → ready self.old key s place →
+        requires { (key : UnitsKey) × (s : ℕ) × (place : Option ℕ) × ready self.old key s place }
+        ensures took { IfOk result (λ item. (key : UnitsKey) (s : ℕ) (place : Option ℕ) → ready self.old key s place →
             (n : ℕ) × At place n × I.is_sent key (s - 1) n item × holds self.new key s place n) }
-        ensures idle { OnErr result ((key : EpochKey) (s : ℕ) (place : Option ℕ) → ready self.old key s place → ready self.new key s place) }
+        ensures idle { OnErr result ((key : UnitsKey) (s : ℕ) (place : Option ℕ) → ready self.old key s place → ready self.new key s place) }
         ensures taking { Takes result (taking self.old) (taking self.new) }
         ensures sending { Stays (sending self.old) (sending self.new) }
         ensures ended { ended self.new ≡ ended self.old };
 
     fn send<R: Wait>(&mut self, rt: &R, item: O) -> Result<(), Refused<O>>
-        requires { (key : EpochKey) × (s : ℕ) × (place : Option ℕ) × (n : ℕ) × holds self.old key s place n × O.is_sent key s n item }
-        ensures sent { OnOk result ((key : EpochKey) (s : ℕ) (place : Option ℕ) (n : ℕ) → holds self.old key s place n → O.is_sent key s n item →
+        requires { (key : UnitsKey) × (s : ℕ) × (place : Option ℕ) × (n : ℕ) × holds self.old key s place n × O.is_sent key s n item }
+        ensures sent { OnOk result ((key : UnitsKey) (s : ℕ) (place : Option ℕ) (n : ℕ) → holds self.old key s place n → O.is_sent key s n item →
             ready self.new key s (behind place n) × (ended self.new ≡ O.is_last key item)) }
-        ensures held { OnErr result ((key : EpochKey) (s : ℕ) (place : Option ℕ) (n : ℕ) → holds self.old key s place n → holds self.new key s place n) }
+        ensures held { OnErr result ((key : UnitsKey) (s : ℕ) (place : Option ℕ) (n : ℕ) → holds self.old key s place n → holds self.new key s place n) }
         ensures back { IfErr result (λ refused. refused.item ≡ item) }
         ensures ended { OnErr result (ended self.new ≡ ended self.old) }
         ensures taking { Stays (taking self.old) (taking self.new) }

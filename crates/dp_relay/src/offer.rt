@@ -1,6 +1,6 @@
 //! The sending half of a poll.
 ghost use Rattle.std.specs.Prelude.{ℕ, Option};
-ghost use Rattle.dp_semantics.specs.EpochKey.{EpochKey};
+ghost use Rattle.dp_relay.specs.UnitsKey.{UnitsKey};
 ghost use Rattle.dp_relay.specs.Offers.{Offers};
 
 use crate::ends::{Ends, Refused};
@@ -17,7 +17,7 @@ pub(crate) fn offer<I: Item, O: Item, E: Ends<I, O>, R: Wait>(
     ended: &mut bool,
     made: Made<O>,
 ) -> Polled
-    requires { (key : EpochKey) × (s : ℕ) × (place : Option ℕ) × (n : ℕ) × E.holds ends.old key s place n × O.is_sent key s n made.item }
+    requires { (key : UnitsKey) × (s : ℕ) × (place : Option ℕ) × (n : ℕ) × E.holds ends.old key s place n × O.is_sent key s n made.item }
     ensures { Offers E.ready E.holds E.taking E.sending E.ended O.is_sent O.is_last made ends.old ends.new ended.old ended.new held.new result }
 {
     let Made { item, last } = made;

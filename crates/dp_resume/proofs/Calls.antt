@@ -40,11 +40,11 @@ module _ (p : Program) (plans : List Plan) (given : AreGiven p plans) (input : L
 
   -- the run has ended
   pub finished_here : (last : MachineState) (o : Option End) (end : End) (told reports : List RegionReport) (before now : ℕ) → told ≡ [] → end ≡ ended_by o →
-      ((u : Run) (k : ℕ) → Ahead m.program left input m.fuel u k m → Went m.program left input m.fuel u k last o told reports before now) → Finished p plans given input c fits last end reports
+      ((u : Run) (k : ℕ) → Ahead m.program left input m.fuel u k m → Went false m.program left input m.fuel u k last o told reports before now) → Finished p plans given input c fits last end reports
   finished_here last o end told reports before now none is went =
       finished p plans given input c fits last m.fuel o end told reports before now none is
-      (subst (λ (ps : List Plan). Went p ps input m.fuel (resumed_run p input c) (c.region - 1) last o told reports before now) left_is
-      (subst (λ (q : Program). Went q left input m.fuel (resumed_run p input c) (c.region - 1) last o told reports before now) program_here (went (resumed_run p input c) (c.region - 1) ahead_here)))
+      (subst (λ (ps : List Plan). Went false p ps input m.fuel (resumed_run p input c) (c.region - 1) last o told reports before now) left_is
+      (subst (λ (q : Program). Went false q left input m.fuel (resumed_run p input c) (c.region - 1) last o told reports before now) program_here (went (resumed_run p input c) (c.region - 1) ahead_here)))
 
 few_steps : (p : Program) (input : List ℤ) (c : Checkpoint) → Fits p c → (resumed_run p input c).fuel ≤ 1000000000
 few_steps p input c fits = omega (arith, fuel_is p input (c.fuel - c.steps) (standing p (statements_from c.region p.main) c.cells), fits.place.most_fuel)

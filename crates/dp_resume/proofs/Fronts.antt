@@ -76,7 +76,7 @@ module _ (first : MachineState) (r : ℕ) (at_once : start (region_run first) r 
 
 module _ (p : Program) (plan : Plan) (input : List ℤ) (first : MachineState) (start_runner now : Runner) (begun : Stands p plan input first 0 start_runner) where
   at_once : start (region_run first) plan.region 0 ≡ Some 0
-  at_once = subst (λ (m : ℕ). start (region_run first) plan.region m ≡ Some (steps_of_first (region_run first) plan.region m)) begun.count (starts_here plan first start_runner.ledger.committed start_runner.ledger.report begun.progress)
+  at_once = subst (λ (m : ℕ). start (region_run first) plan.region m ≡ Some (steps_of_first (region_run first) plan.region m)) begun.count (starts_here plan first start_runner.ledger.committed start_runner.ledger.account begun.progress)
 
   module _ (made : ℕ) (s : Stands p plan input first made now) (waiting : List ℤ) (told mid : Option (List ℕ)) (e : Emits (to_come (machine_of start_runner)) (waiting ++ to_come (machine_of now)) told mid) where
     piece : (cs : List Config) × Continues (region_run first) (events_of_first (region_run first) plan.region made) cs (rest_of_run (machine_of now))
@@ -101,7 +101,7 @@ module _ (p : Program) (plan : Plan) (input : List ℤ) (first : MachineState) (
         WritesFront (prints_bytes (prints_until (region_run first) (start (region_run first) plan.region after))) told tells
     stopped_in after less tells w =
         let it = prints (iteration (region_run first) plan.region made) in
-        let here = subst (λ (m : ℕ). start (region_run first) plan.region m ≡ Some (steps_of_first (region_run first) plan.region m)) s.count (starts_here plan first now.ledger.committed now.ledger.report s.progress) in
+        let here = subst (λ (m : ℕ). start (region_run first) plan.region m ≡ Some (steps_of_first (region_run first) plan.region m)) s.count (starts_here plan first now.ledger.committed now.ledger.account s.progress) in
         front_until first plan.region at_once made after (steps_of_first (region_run first) plan.region made) here less (start (region_run first) plan.region after) refl told tells
         (subst (λ (zs : List ℤ). WritesFront (prints_bytes zs) told tells) (sym (prints-append (events_of_first (region_run first) plan.region made) (iteration (region_run first) plan.region made)))
         (emits_front (prints (events_of_first (region_run first) plan.region made) ++ it) (waiting ++ it) told mid tells (emits_events it) w))
@@ -109,7 +109,7 @@ module _ (p : Program) (plan : Plan) (input : List ℤ) (first : MachineState) (
     -- .. or behind all that were to be made
     pub stopped_behind : (tells : Option (List ℕ)) → WritesFront (prints_bytes waiting) mid tells → WritesFront (prints_bytes (prints_until (region_run first) (start (region_run first) plan.region made))) told tells
     stopped_behind tells w =
-        let here = subst (λ (m : ℕ). start (region_run first) plan.region m ≡ Some (steps_of_first (region_run first) plan.region m)) s.count (starts_here plan first now.ledger.committed now.ledger.report s.progress) in
+        let here = subst (λ (m : ℕ). start (region_run first) plan.region m ≡ Some (steps_of_first (region_run first) plan.region m)) s.count (starts_here plan first now.ledger.committed now.ledger.account s.progress) in
         let until = events_until first plan.region at_once made (steps_of_first (region_run first) plan.region made) here in
         let all : e.written ++ waiting ≡ prints (take (steps_of_first (region_run first) plan.region made) (region_run first).trace) = printed ∙ ap prints (sym until) in
         subst (λ (o : Option ℕ). WritesFront (prints_bytes (prints_until (region_run first) o)) told tells) (sym here)

@@ -3,6 +3,7 @@ pub mod Reached
 pub mod Reports
 pub mod Found
 pub mod TextGoesOn
+pub mod ToldReports
 pub mod MergeLemmas
 pub mod Whole
 pub mod Calls

@@ -12,7 +12,8 @@ use Rattle.dp_tree.specs.Trace.{Run}
 use Rattle.dp_plan.specs.declared.Plan.{Plan}
 use Rattle.dp_semantics.specs.Reported.{region_report}
 use Rattle.dp_report.specs.RegionText.{report_lines, regions_bytes}
-use Rattle.dp_run.specs.RunText.{region_reports}
+use Rattle.dp_epoch.specs.Accounts.{told_when}
+use Rattle.dp_run.specs.RunText.{region_reports, told_reports}
 use Rattle.dp_run.proofs.Ending.{IsListed}
 use Rattle.dp_run.proofs.Reporting.{begun_few, few_recovered}
 use Rattle.dp_save.specs.Fits.{AscendWithin, ReportFits}
@@ -23,6 +24,7 @@ use Rattle.dp_semantics.specs.Recovery.{is_recovered, recovered}
 use Rattle.dp_resume.specs.Resumed.{resumed_reports}
 use Rattle.dp_resume.specs.Saved.{uncaused}
 use Rattle.dp_resume.specs.steps.Merging.{IsSmall, first_behind, merged, with_behind}
+use Rattle.dp_resume.proofs.ToldReports.{told_alike}
 
 -- ---- the numbers that are listed
 
@@ -94,6 +96,13 @@ resumed_merged p run (r ∷ next ∷ saved) (plan ∷ plans) (suc n) long more =
     let shorter : length (next ∷ saved) ≡ suc n = cc long in
     ap (λ (rs : List RegionReport). uncaused r ∷ rs) (resumed_merged p run (next ∷ saved) plans n shorter (omega (arith, more)))
 
+-- causes of the run's own reports make no difference
+pub merged_alike : (p : Program) (run : Run) (saved : List RegionReport) (plans : List Plan) → map uncaused (merged saved (told_reports false p plans run)) ≡ map uncaused (merged saved (region_reports p plans run))
+merged_alike p run [] plans = told_alike p run plans
+merged_alike p run (last ∷ []) [] = refl
+merged_alike p run (last ∷ []) (plan ∷ plans) = ap (λ (rs : List RegionReport). uncaused (with_behind last (region_report p plan run)) ∷ rs) (told_alike p run plans)
+merged_alike p run (r ∷ next ∷ saved) plans = ap (λ (rs : List RegionReport). uncaused r ∷ rs) (merged_alike p run (next ∷ saved) plans)
+
 -- where the reports behind the first have no line
 pub merged_lines : (saved : List RegionReport) (first : RegionReport) (told more : List RegionReport) → 0 < length saved → regions_bytes false more ≡ [] → regions_bytes false (merged saved (first ∷ told)) ≡ regions_bytes false (merged saved (first ∷ (told ++ more)))
 merged_lines saved first told more some none =
@@ -153,7 +162,7 @@ below_filter test first (suc count) h = by (test first) (below_filter test (firs
     by false more = more
 
 -- .. and those of a run within its fuel
-run_small : (p : Program) (run : Run) (plan : Plan) → run.fuel ≤ 1000000000 → IsSmall (region_report p plan run)
+run_small : (p : Program) (run : Run) (plan : Plan) → run.fuel ≤ 1000000000 → IsSmall (told_when false (region_report p plan run))
 run_small p run plan few =
     let begun = begun_few run plan.region in let again = few_recovered p plan run in
     record {
@@ -163,6 +172,6 @@ run_small p run plan few =
       listed = let le = min-le_left LISTED (length (recovered p plan run)) in omega (arith, length-take LISTED (recovered p plan run), le);
     }
 
-pub told_small : (p : Program) (run : Run) (plans : List Plan) → run.fuel ≤ 1000000000 → All IsSmall (region_reports p plans run)
+pub told_small : (p : Program) (run : Run) (plans : List Plan) → run.fuel ≤ 1000000000 → All IsSmall (told_reports false p plans run)
 told_small p run [] few = All-nil IsSmall
-told_small p run (plan ∷ plans) few = All-cons IsSmall (region_report p plan run) (region_reports p plans run) (run_small p run plan few) (told_small p run plans few)
+told_small p run (plan ∷ plans) few = All-cons IsSmall (told_when false (region_report p plan run)) (told_reports false p plans run) (run_small p run plan few) (told_small p run plans few)

@@ -2,7 +2,6 @@
 use Rattle.std.proofs.Common.{◌≡◌, refl, sym, ap, ◌∙◌, subst, ℕ, zero, suc, ◌+◌, ◌≤◌, Bool, true, false, ◌||◌, List, [], ◌∷◌, ◌++◌, ℤ, length, Option, Some, None, is_some, slice_get, nat_lt, append_assoc, arith, rules}
 use Rattle.std.proofs.lemmas.List.{append_cancel_left}
 use Rattle.std.proofs.lemmas.Option.{slice_get_past}
-use Rattle.dp_base.specs.declared.RegionReport.{RegionReport}
 use Rattle.dp_tree.specs.declared.Program.{Program}
 use Rattle.dp_tree.specs.Step.{Config, Event}
 use Rattle.dp_tree.specs.Trace.{Run, prints}
@@ -19,9 +18,11 @@ use Rattle.dp_meaning.specs.MachineState.{MachineState, fuel_left, rest_of_run}
 use Rattle.dp_meaning.proofs.MovedLemmas.{prints-append}
 use Rattle.dp_commit.specs.CommittedState.{CommittedState, region_run, steps_of_first}
 use Rattle.dp_theorem.proofs.Central.{fuel_is}
+use Rattle.dp_epoch.specs.Accounts.{told_when}
+use Rattle.dp_epoch.specs.declared.account.Account.{Account}
 use Rattle.dp_epoch.specs.declared.ends.RegionEnd.{RegionEnd}
 use Rattle.dp_epoch.specs.declared.ends.RegionEnd.TheVariants as region_end
-use Rattle.dp_epoch.specs.Progress.{Progress}
+use Rattle.dp_epoch.specs.Progress.{Progress, report_before}
 use Rattle.dp_epoch.specs.RegionRun.{RegionRan}
 use Rattle.dp_epoch.proofs.Here.{closes_once, starts_here}
 use Rattle.dp_audit.specs.declared.group.Group.{Group}
@@ -33,6 +34,7 @@ use Rattle.dp_crew.proofs.StreamLemmas.{emits_nothing}
 use Rattle.dp_run.specs.Stretches.{to_come}
 use Rattle.dp_run.proofs.Passing.{prints_on}
 use Rattle.dp_resume.specs.steps.Reaching.{EndsBefore, StandsBefore, Steps, Stops, ended_so, machine_of}
+use Rattle.dp_resume.proofs.ToldReports.{no_causes}
 
 -- ---- an end, or none
 
@@ -99,20 +101,20 @@ module _ (p : Program) (plan : Plan) (input : List ℤ) (first : MachineState) (
   run = region_run first
 
   -- the run goes on from here
-  piece_at : (c : CommittedState) (report : RegionReport) (k : ℕ) → Progress plan first c report → c.count ≡ k → (cs : List Config) × Continues (region_run first) (events_of_first (region_run first) plan.region k) cs (rest_of_run c.machine)
-  piece_at c report k g count = (
+  piece_at : (c : CommittedState) (account : Account) (k : ℕ) → Progress plan first c account → c.count ≡ k → (cs : List Config) × Continues (region_run first) (events_of_first (region_run first) plan.region k) cs (rest_of_run c.machine)
+  piece_at c account k g count = (
     g.holds.configs,
     subst (λ (r : ℕ). Continues (region_run first) (events_of_first (region_run first) r k) g.holds.configs (rest_of_run c.machine)) g.region
         (subst (λ (m : ℕ). Continues (region_run first) (events_of_first (region_run first) c.region m) g.holds.configs (rest_of_run c.machine)) count g.holds.piece),
   )
 
   pub old_piece : (cs : List Config) × Continues (region_run first) (events_of_first (region_run first) plan.region n) cs (rest_of_run (machine_of old))
-  old_piece = piece_at old.ledger.committed old.ledger.report n s.progress s.count
+  old_piece = piece_at old.ledger.committed old.ledger.account n s.progress s.count
 
   started : (k : ℕ) × (start (region_run first) plan.region n ≡ Some k)
   started =
       let k = steps_of_first (region_run first) plan.region old.ledger.committed.count in
-      (steps_of_first (region_run first) plan.region old.ledger.committed.count, subst (λ (m : ℕ). start (region_run first) plan.region m ≡ Some k) s.count (starts_here plan first old.ledger.committed old.ledger.report s.progress))
+      (steps_of_first (region_run first) plan.region old.ledger.committed.count, subst (λ (m : ℕ). start (region_run first) plan.region m ≡ Some k) s.count (starts_here plan first old.ledger.committed old.ledger.account s.progress))
 
   ended_piece : (k : ℕ) (end : RegionEnd) (h : HasEnded plan first k new end) → Continues (region_run first) (events_of_first (region_run first) plan.region k) h.done.ran.made.configs (rest_of_run (machine_of new))
   ended_piece k end h = subst (λ (m : ℕ). Continues (region_run first) (events_of_first (region_run first) plan.region m) h.done.ran.made.configs (rest_of_run (machine_of new))) h.begun h.done.ran.made.piece
@@ -120,10 +122,10 @@ module _ (p : Program) (plan : Plan) (input : List ℤ) (first : MachineState) (
   plus : suc n ≡ n + 1
   plus = omega arith
 
-  ends_before : (k : ℕ) (end : RegionEnd) → HasEnded plan first k new end → start (region_run first) plan.region (suc n) ≡ None → EndsBefore p plan first (machine_of new) (n + 1) new.ledger.report end
+  ends_before : (k : ℕ) (end : RegionEnd) → HasEnded plan first k new end → start (region_run first) plan.region (suc n) ≡ None → EndsBefore p plan first (machine_of new) (n + 1) new.ledger.account.report end
   ends_before k end h none = record {
     ran = subst (λ (q : Program). RegionRan q plan first (machine_of new) end) s.kept.program_is h.done.ran;
-    report_is = h.done.report_is ∙ ap (λ (q : Program). region_report q plan (region_run first)) s.kept.program_is;
+    report_is = ap (told_when false) h.done.report_is ∙ no_causes new.ledger.account.why (region_report first.program plan (region_run first)) ∙ ap (λ (q : Program). told_when false (region_report q plan (region_run first))) s.kept.program_is;
     unreached = ap (start (region_run first) plan.region) (sym plus) ∙ none;
   }
 
@@ -152,7 +154,7 @@ module _ (p : Program) (plan : Plan) (input : List ℤ) (first : MachineState) (
   made group g = leads group.end group refl g.0 g.1
 
   new_piece : (end : IterEnd) → StandsBehind p plan input first (n + 1) new end → (cs : List Config) × Continues (region_run first) (events_of_first (region_run first) plan.region (n + 1)) cs (rest_of_run (machine_of new))
-  new_piece Next behind = piece_at new.ledger.committed new.ledger.report (n + 1) behind.progress behind.count
+  new_piece Next behind = piece_at new.ledger.committed new.ledger.account (n + 1) behind.progress behind.count
   new_piece Closed behind = (behind.done.ran.made.configs, ended_piece (n + 1) region_end.Closed behind)
   new_piece (Fault fault) behind = (behind.done.ran.made.configs, ended_piece (n + 1) (region_end.Fault fault) behind)
   new_piece Fuel behind = (behind.done.ran.made.configs, ended_piece (n + 1) region_end.Fuel behind)
@@ -171,26 +173,35 @@ module _ (p : Program) (plan : Plan) (input : List ℤ) (first : MachineState) (
 -- how far so many iterations lead
 abbrev pub Reached : Program → Plan → List ℤ → MachineState → ℕ → Runner → Option RegionEnd → Type 0
 Reached p plan input first made r None = Stands p plan input first made r
-Reached p plan input first made r (Some end) = EndsBefore p plan first (machine_of r) made r.ledger.report end
+Reached p plan input first made r (Some end) = EndsBefore p plan first (machine_of r) made r.ledger.account.report end
 
 module _ (p : Program) (plan : Plan) (input : List ℤ) (first : MachineState) where
   pub reached_step : (n : ℕ) (r : Runner) (end : Option RegionEnd) → Steps p plan input first n r end → Reached p plan input first (n + 1) r end
   reached_step n r None s = s
   reached_step n r (Some end) s = s
 
-  stands_before : (n : ℕ) (r : Runner) → Stands p plan input first n r → StandsBefore plan first (machine_of r) n r.ledger.report
-  stands_before n r s = record { committed = r.ledger.committed; machine_is = refl; count = s.count; progress = s.progress }
+  stands_before : (n : ℕ) (r : Runner) → Stands p plan input first n r → StandsBefore plan first (machine_of r) n r.ledger.account.report
+  stands_before n r s = record {
+    committed = r.ledger.committed;
+    account = r.ledger.account;
+    machine_is = refl;
+    count = s.count;
+    progress = s.progress;
+    report_is =
+        s.progress.report_is ∙ ap (λ (b : Bool). told_when b (report_before plan first r.ledger.committed.count)) s.kept.unasked
+        ∙ ap (λ (k : ℕ). told_when false (report_before plan first k)) s.count;
+  }
 
   -- all that were to be made, or the region's end
-  pub reached_all : (made after : ℕ) (r : Runner) (end : Option RegionEnd) → Reached p plan input first made r end → made ≤ after → (end ≡ None → after ≤ made) → Stops p plan first after (machine_of r) r.ledger.report end
+  pub reached_all : (made after : ℕ) (r : Runner) (end : Option RegionEnd) → Reached p plan input first made r end → made ≤ after → (end ≡ None → after ≤ made) → Stops p plan first after (machine_of r) r.ledger.account.report end
   reached_all made after r None s low high =
-      let same : made ≡ after = let le = high refl in omega (arith, low, le) in subst (λ (k : ℕ). StandsBefore plan first (machine_of r) k r.ledger.report) same (stands_before made r s)
+      let same : made ≡ after = let le = high refl in omega (arith, low, le) in subst (λ (k : ℕ). StandsBefore plan first (machine_of r) k r.ledger.account.report) same (stands_before made r s)
   reached_all made after r (Some end) s low high = record { ran = s.ran; report_is = s.report_is; unreached = start_later (region_run first) plan.region made after low s.unreached }
 
   -- before the first one nothing was made
   pub begun_prints : (r : Runner) → Stands p plan input first 0 r → to_come (machine_of r) ≡ to_come first
   begun_prints r s =
-      let q = piece_at p plan input first 0 r r s r.ledger.committed r.ledger.report 0 s.progress s.count in sym (prints_on (region_run first) (rest_of_run (machine_of r)) [] q.0 q.1)
+      let q = piece_at p plan input first 0 r r s r.ledger.committed r.ledger.account 0 s.progress s.count in sym (prints_on (region_run first) (rest_of_run (machine_of r)) [] q.0 q.1)
 
 -- ---- what waits
 

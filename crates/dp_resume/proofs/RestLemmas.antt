@@ -1,5 +1,6 @@
 -- The source's run to its end, from a place behind a region on.
-use Rattle.std.proofs.Common.{◌≡◌, refl, sym, ap, ◌∙◌, subst, ℕ, zero, suc, ◌+◌, ◌-◌, ◌≤◌, false, List, [], ◌∷◌, ◌++◌, ℤ, length, take, drop, All, Result, IfOk, OnErr, Option, Some, None, append-nil, length-drop, arith}
+use Rattle.std.proofs.Common.{◌≡◌, refl, sym, ap, ◌∙◌, subst, ℕ, zero, suc, ◌+◌, ◌-◌, ◌≤◌, false, List, [], ◌∷◌, ◌++◌, ℤ, length, map, take, drop, All, Result, IfOk, OnErr, Option, Some, None, append-nil, length-drop, arith}
+use Rattle.std.proofs.lemmas.List.{map-append}
 use Rattle.std.proofs.lemmas.Result.{IfOk-weaker, on_err_weaker}
 use Rattle.dp_base.specs.declared.End.{End}
 use Rattle.dp_base.specs.declared.RegionReport.{RegionReport}
@@ -14,18 +15,22 @@ use Rattle.dp_plan.specs.declared.Plan.{Plan}
 use Rattle.dp_plan.specs.GivenPlans.{IsPlan}
 use Rattle.dp_meaning.specs.MachineState.{MachineState}
 use Rattle.dp_crew.specs.Output.{Emits}
-use Rattle.dp_report.specs.EndText.{end_bytes}
+use Rattle.dp_report.specs.EndText.{end_bytes, end_line}
 use Rattle.dp_report.specs.PrintsText.{prints_bytes}
+use Rattle.dp_report.specs.StateText.{state_bytes}
 use Rattle.dp_run.specs.Given.{AreGiven}
-use Rattle.dp_run.specs.RunText.{closing_text, committed_in_all, region_reports, source_run}
+use Rattle.dp_run.specs.RunText.{closing_text, committed_in_all, source_run, told_reports}
 use Rattle.dp_run.specs.Stretches.{Ahead, Behind, Over, Went, ended_by, to_come}
 use Rattle.dp_run.proofs.Counting.{as_many}
-use Rattle.dp_run.proofs.Ending.{IsListed, numbers_behind, reports_append}
+use Rattle.dp_run.proofs.Ending.{IsListed, numbers_behind}
 use Rattle.dp_run.proofs.Leading.{finished_next, over_done}
 use Rattle.dp_run.proofs.Whole as whole
 use Rattle.dp_resume.specs.declared.save.SaveEnd.{SaveEnd}
 use Rattle.dp_resume.specs.declared.save.SaveEnd.TheVariants.{Ran}
+use Rattle.dp_resume.specs.Saved.{uncaused}
 use Rattle.dp_resume.specs.steps.Saving.{ending_from}
+use Rattle.dp_resume.proofs.TextGoesOn.{lines_uncaused}
+use Rattle.dp_resume.proofs.ToldReports.{listed_uncaused, told_again, told_append}
 use Rattle.dp_resume.proofs.Whole.{each_behind}
 
 take_more : {X : Type 0} (n m : ℕ) (xs : List X) → n ≤ length xs → take (n + m) xs ≡ take n xs ++ take m (drop n xs)
@@ -37,12 +42,12 @@ module _ (p : Program) (plans : List Plan) (given : AreGiven p plans) (input : L
   abbrev run : Run
   run = source_run p input fuel
 
-  -- The run has ended behind the first of the regions, whose reports are there.
+  -- The run has ended behind the first of the regions, whose reports are there, whatever causes they have.
   pub record Ended (m : MachineState) (end : End) (reports : List RegionReport) : Type 0 where
     pub count : ℕ
     pub within : count ≤ length plans
     pub over : Over (source_run p input fuel) count m end
-    pub reports_are : reports ≡ region_reports p (take count plans) (source_run p input fuel)
+    pub reports_are : map uncaused reports ≡ told_reports false p (take count plans) (source_run p input fuel)
 
   -- the regions behind the first so many are ahead
   ahead_behind : (region : ℕ) (m : MachineState) → region ≤ length plans → Behind p input fuel (source_run p input fuel) region m → Ahead p (drop region plans) input fuel (source_run p input fuel) region m
@@ -61,8 +66,8 @@ module _ (p : Program) (plans : List Plan) (given : AreGiven p plans) (input : L
       }
 
   -- it went on from there to its end
-  ended_behind : (region : ℕ) → region ≤ length plans → (last : MachineState) (o : Option End) (end : End) (told reports : List RegionReport) (before now : ℕ) → told ≡ region_reports p (take region plans) (source_run p input fuel) → end ≡ ended_by o →
-      Went p (drop region plans) input fuel (source_run p input fuel) region last o told reports before now → Ended last end reports
+  ended_behind : (region : ℕ) → region ≤ length plans → (last : MachineState) (o : Option End) (end : End) (told reports : List RegionReport) (before now : ℕ) → map uncaused told ≡ told_reports false p (take region plans) (source_run p input fuel) → end ≡ ended_by o →
+      Went false p (drop region plans) input fuel (source_run p input fuel) region last o told reports before now → Ended last end reports
   ended_behind region few last o end told reports before now is end_is w = by o end_is w
     where
       many : length plans ≡ length p.regions
@@ -71,13 +76,15 @@ module _ (p : Program) (plans : List Plan) (given : AreGiven p plans) (input : L
       left : length (drop region plans) ≡ length plans - region
       left = length-drop region plans
 
-      reports_so : (count : ℕ) → reports ≡ told ++ region_reports p (take count (drop region plans)) (source_run p input fuel) → reports ≡ region_reports p (take (region + count) plans) (source_run p input fuel)
+      reports_so : (count : ℕ) → reports ≡ told ++ told_reports false p (take count (drop region plans)) (source_run p input fuel) → map uncaused reports ≡ told_reports false p (take (region + count) plans) (source_run p input fuel)
       reports_so count e =
-          e ∙ ap (λ (rs : List RegionReport). rs ++ region_reports p (take count (drop region plans)) run) is
-          ∙ sym (reports_append p run (take region plans) (take count (drop region plans)))
-          ∙ ap (λ (xs : List Plan). region_reports p xs run) (sym (take_more region count plans few))
+          ap (map uncaused) e ∙ map-append uncaused told (told_reports false p (take count (drop region plans)) run)
+          ∙ ap (λ (rs : List RegionReport). rs ++ map uncaused (told_reports false p (take count (drop region plans)) run)) is
+          ∙ ap (λ (rs : List RegionReport). told_reports false p (take region plans) run ++ rs) (told_again p run (take count (drop region plans)))
+          ∙ sym (told_append p run (take region plans) (take count (drop region plans)))
+          ∙ ap (λ (xs : List Plan). told_reports false p xs run) (sym (take_more region count plans few))
 
-      by : (o : Option End) → end ≡ ended_by o → Went p (drop region plans) input fuel (source_run p input fuel) region last o told reports before now → Ended last end reports
+      by : (o : Option End) → end ≡ ended_by o → Went false p (drop region plans) input fuel (source_run p input fuel) region last o told reports before now → Ended last end reports
       by None e w =
           let none_left : length p.regions - (region + w.count) ≡ 0 = let all = w.all refl in omega (arith, all, left, many) in
           record {
@@ -100,22 +107,24 @@ module _ (p : Program) (plans : List Plan) (given : AreGiven p plans) (input : L
         subst (λ (q : Program). Ahead q left input fuel (source_run p input fuel) region m) (sym b.program_is)
         (subst (λ (ps : List Plan). Ahead p ps input fuel (source_run p input fuel) region m) (sym is) (ahead_behind region m few b))
 
-    pub ended_called : (last : MachineState) (o : Option End) (end : End) (told reports : List RegionReport) (before now : ℕ) → told ≡ region_reports p (take region plans) (source_run p input fuel) → end ≡ ended_by o →
-        ((u : Run) (k : ℕ) → Ahead m.program left input fuel u k m → Went m.program left input fuel u k last o told reports before now) → Ended last end reports
+    pub ended_called : (last : MachineState) (o : Option End) (end : End) (told reports : List RegionReport) (before now : ℕ) → map uncaused told ≡ told_reports false p (take region plans) (source_run p input fuel) → end ≡ ended_by o →
+        ((u : Run) (k : ℕ) → Ahead m.program left input fuel u k m → Went false m.program left input fuel u k last o told reports before now) → Ended last end reports
     ended_called last o end told reports before now same end_is went =
         ended_behind region few last o end told reports before now same end_is
-        (subst (λ (ps : List Plan). Went p ps input fuel (source_run p input fuel) region last o told reports before now) is
-        (subst (λ (q : Program). Went q left input fuel (source_run p input fuel) region last o told reports before now) b.program_is (went (source_run p input fuel) region ahead_called)))
+        (subst (λ (ps : List Plan). Went false p ps input fuel (source_run p input fuel) region last o told reports before now) is
+        (subst (λ (q : Program). Went false q left input fuel (source_run p input fuel) region last o told reports before now) b.program_is (went (source_run p input fuel) region ahead_called)))
 
   module _ (last : MachineState) (end : End) (reports : List RegionReport) (d : Ended last end reports) where
-    finished : whole.Finished p plans input fuel last end reports 0 (0 + committed_in_all p (take d.count plans) (source_run p input fuel))
+    finished : whole.Finished false p plans input fuel last end (map uncaused reports) 0 (0 + committed_in_all p (take d.count plans) (source_run p input fuel))
     finished = record { count = d.count; within = d.within; over = d.over; counted = record { reports_are = d.reports_are; tally_is = refl } }
 
     pub listed_here : All IsListed reports
-    listed_here = whole.all_listed p plans input fuel false given last end reports 0 (0 + committed_in_all p (take d.count plans) run) finished
+    listed_here = listed_uncaused reports (whole.all_listed p plans input fuel false given last end (map uncaused reports) 0 (0 + committed_in_all p (take d.count plans) run) finished)
 
     closing_here : end_bytes p last.config.cells reports end false ≡ closing_text p plans (source_run p input fuel) false
-    closing_here = whole.closing_is p plans input fuel false given last end reports 0 (0 + committed_in_all p (take d.count plans) run) finished
+    closing_here =
+        ap (λ (t : List ℕ). state_bytes p.vars last.config.cells ++ t ++ end_line end) (sym (lines_uncaused reports))
+        ∙ whole.closing_is p plans input fuel false given last end (map uncaused reports) 0 (0 + committed_in_all p (take d.count plans) run) finished
 
     module _ (m : MachineState) (fuel_is : m.fuel ≡ fuel) (told mid : Option (List ℕ)) (e : Emits (to_come m) (to_come last) told mid) where
       prints_written : mid ≡ appended (prints_bytes (to_come m)) told

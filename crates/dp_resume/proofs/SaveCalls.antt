@@ -1,5 +1,5 @@
 -- What the calls of a run that is to be saved say of its region: a checkpoint is written, or the source's run goes on.
-use Rattle.std.proofs.Common.{◌≡◌, refl, sym, ap, ◌∙◌, subst, ℕ, suc, ◌+◌, ◌-◌, ◌≤◌, false, List, [], ◌∷◌, ◌++◌, ℤ, length, take, Result, IfOk, OnErr, Option, Some, None, slice_get, append_assoc, append-nil, arith}
+use Rattle.std.proofs.Common.{◌≡◌, refl, sym, ap, ◌∙◌, subst, ℕ, suc, ◌+◌, ◌-◌, ◌≤◌, false, List, [], ◌∷◌, ◌++◌, ℤ, length, map, take, Result, IfOk, OnErr, Option, Some, None, slice_get, append_assoc, append-nil, arith}
 use Rattle.std.proofs.lemmas.List.{map-append}
 use Rattle.std.proofs.lemmas.Result.{IfOk-weaker, on_err_weaker}
 use Rattle.dp_base.specs.declared.RegionReport.{RegionReport}
@@ -20,18 +20,20 @@ use Rattle.dp_epoch.specs.declared.ends.RegionEnd.{RegionEnd}
 use Rattle.dp_epoch.specs.RegionRun.{IsPlanned, RegionStart, region_run}
 use Rattle.dp_report.specs.PrintsText.{prints_bytes}
 use Rattle.dp_run.specs.Given.{AreGiven}
-use Rattle.dp_run.specs.RunText.{closing_text, region_reports, source_run}
+use Rattle.dp_epoch.specs.Accounts.{told_when}
+use Rattle.dp_run.specs.RunText.{closing_text, source_run, told_reports}
 use Rattle.dp_run.specs.Stretches.{AfterRegion, Between, to_come}
 use Rattle.dp_run.proofs.Counting.{all_next, number_is, planned}
 use Rattle.dp_run.proofs.Regions.{region_start}
 use Rattle.dp_save.specs.WrittenText.{checkpoint_bytes}
 use Rattle.dp_resume.specs.declared.save.SaveEnd.{SaveEnd}
 use Rattle.dp_resume.specs.declared.save.SaveEnd.TheVariants.{Ran, Saved}
-use Rattle.dp_resume.specs.Saved.{checkpoint_at, end_from, saved_end}
+use Rattle.dp_resume.specs.Saved.{checkpoint_at, end_from, saved_end, uncaused}
 use Rattle.dp_resume.specs.steps.Reaching.{EndsBefore, StandsBefore, Stops, prints_until}
 use Rattle.dp_resume.specs.steps.Saving.{ending_from, left_from, made_by}
 use Rattle.dp_resume.proofs.RestLemmas.{front_ending}
 use Rattle.dp_resume.proofs.SaveLemmas.{behind_it, made_is, report_whole, saved_so, started, starts_there, steps, take_next, text_there, unreached, written_there}
+use Rattle.dp_resume.proofs.ToldReports.{told_again}
 
 -- what a call on the region's own program tells
 pub stops_own : (q p : Program) → q ≡ p → (plan : Plan) (first : MachineState) (n : ℕ) (last : MachineState) (report : RegionReport) (o end : Option RegionEnd) → o ≡ end → Stops q plan first n last report o → Stops p plan first n last report end
@@ -83,7 +85,7 @@ module _ (p : Program) (plans : List Plan) (given : AreGiven p plans) (input : L
           (subst (λ (m : ℕ). WritesFront (prints_bytes (prints (take m (rest_of_run first).trace))) old now) (sym count)
           (subst (λ (o : Option ℕ). WritesFront (prints_bytes (prints_until (region_run first) o)) old now) e w)))
 
-  module _ (last : MachineState) (report : RegionReport) (told reports : List RegionReport) (is : told ≡ region_reports p (take n plans) (source_run p input first.fuel)) (pushed : reports ≡ told ++ report ∷ []) where
+  module _ (last : MachineState) (report : RegionReport) (told reports : List RegionReport) (is : told ≡ told_reports false p (take n plans) (source_run p input first.fuel)) (pushed : reports ≡ told ++ report ∷ []) where
     module _ (s : StandsBefore plan first last after report) (old mid : Option (List ℕ)) (e : Emits (to_come first) (to_come last) old mid) where
       abbrev k : ℕ
       k = steps p plan input first.fuel n first is_planned number b after last report s
@@ -143,15 +145,16 @@ module _ (p : Program) (plans : List Plan) (given : AreGiven p plans) (input : L
           subst (λ (m : ℕ). AfterRegion p input m (source_run p input m) r last end) (sym fuel_same)
           (subst (λ (q : ℕ). AfterRegion p input first.fuel (source_run p input first.fuel) q last end) (sym up) (behind_it p plan input first.fuel n first is_planned number b last end after report s))
 
-      pub reports_after : reports ≡ region_reports p (take r plans) (source_run p input last.fuel)
+      pub reports_after : map uncaused reports ≡ told_reports false p (take r plans) (source_run p input last.fuel)
       reports_after =
-          pushed
-          ∙ ap (λ (rs : List RegionReport). rs ++ report ∷ []) is
-          ∙ ap (λ (x : RegionReport). region_reports p (take n plans) run ++ x ∷ []) (s.report_is ∙ report_whole p plan input first.fuel n first is_planned number b)
-          ∙ sym (map-append (λ (x : Plan). region_report p x run) (take n plans) (plan ∷ []))
-          ∙ ap (λ (xs : List Plan). region_reports p xs run) (sym (take_next plans n plan at))
-          ∙ ap (λ (q : ℕ). region_reports p (take q plans) run) (sym up)
-          ∙ ap (λ (m : ℕ). region_reports p (take r plans) (source_run p input m)) (sym fuel_same)
+          ap (map uncaused) (pushed ∙ ap (λ (rs : List RegionReport). rs ++ report ∷ []) is)
+          ∙ map-append uncaused (told_reports false p (take n plans) run) (report ∷ [])
+          ∙ ap (λ (rs : List RegionReport). rs ++ uncaused report ∷ []) (told_again p run (take n plans))
+          ∙ ap (λ (x : RegionReport). told_reports false p (take n plans) run ++ x ∷ []) (s.report_is ∙ ap (told_when false) (report_whole p plan input first.fuel n first is_planned number b))
+          ∙ sym (map-append (λ (x : Plan). told_when false (region_report p x run)) (take n plans) (plan ∷ []))
+          ∙ ap (λ (xs : List Plan). told_reports false p xs run) (sym (take_next plans n plan at))
+          ∙ ap (λ (q : ℕ). told_reports false p (take q plans) run) (sym up)
+          ∙ ap (λ (m : ℕ). told_reports false p (take r plans) (source_run p input m)) (sym fuel_same)
 
       module _ (old mid : Option (List ℕ)) (e : Emits (to_come first) (to_come last) old mid) where
         text_on : prints_bytes e.written ++ ending_from p plans input last ≡ left_from p plans input r after first (start (source_run p input first.fuel) r after)

@@ -1,5 +1,5 @@
 -- Where a region that is to be left before an iteration leads: to a checkpoint of the source's run, or to the region's end.
-use Rattle.std.proofs.Common.{◌≡◌, refl, sym, ap, ◌∙◌, subst, inl, ℕ, zero, suc, ◌+◌, ◌-◌, ◌≤◌, true, List, [], ◌∷◌, ◌++◌, ℤ, length, map, take, Some, None, slice_get, length-append, arith}
+use Rattle.std.proofs.Common.{◌≡◌, refl, sym, ap, ◌∙◌, subst, inl, ℕ, zero, suc, ◌+◌, ◌-◌, ◌≤◌, true, List, [], ◌∷◌, ◌++◌, ℤ, length, map, take, Some, None, false, slice_get, length-append, arith}
 use Rattle.std.specs.Fmt.{signed_decimal}
 use Rattle.std.specs.List.{flat_map}
 use Rattle.std.proofs.lemmas.List.{append_cancel_right, map-append}
@@ -29,7 +29,8 @@ use Rattle.dp_epoch.specs.declared.ends.RegionEnd.{RegionEnd}
 use Rattle.dp_epoch.specs.Progress.{report_before}
 use Rattle.dp_epoch.specs.RegionRun.{IsPlanned}
 use Rattle.dp_epoch.proofs.Here.{starts_here}
-use Rattle.dp_run.specs.RunText.{region_reports, source_run}
+use Rattle.dp_epoch.specs.Accounts.{told_when}
+use Rattle.dp_run.specs.RunText.{region_reports, source_run, told_reports}
 use Rattle.dp_run.specs.Stretches.{AfterRegion, Between, to_come}
 use Rattle.dp_run.proofs.Leading.{config_here}
 use Rattle.dp_run.proofs.Passing.{config_at, prints_on}
@@ -43,6 +44,7 @@ use Rattle.dp_resume.specs.Saved.{checkpoint_at, saved_report, uncaused}
 use Rattle.dp_resume.specs.steps.Reaching.{EndsBefore, StandsBefore}
 use Rattle.dp_resume.specs.steps.Saving.{made_by}
 use Rattle.dp_resume.proofs.TextGoesOn.{if_other, if_same}
+use Rattle.dp_resume.proofs.ToldReports.{told_alike}
 
 -- ---- a checkpoint's text has no causes
 
@@ -158,7 +160,7 @@ module _ (p : Program) (plan : Plan) (input : List ℤ) (fuel n : ℕ) (first : 
     pub starts_there : start (source_run p input fuel) plan.region after ≡ Some steps
     starts_there =
         started after
-        ∙ ap (moved (length es + 0)) (subst (λ (k : ℕ). start (region_run first) plan.region k ≡ Some (steps_of_first (region_run first) plan.region k)) s.count (starts_here plan first s.committed report s.progress))
+        ∙ ap (moved (length es + 0)) (subst (λ (k : ℕ). start (region_run first) plan.region k ≡ Some (steps_of_first (region_run first) plan.region k)) s.count (starts_here plan first s.committed s.account s.progress))
 
     fuel_same : last.fuel ≡ first.fuel
     fuel_same = ap (λ (m : MachineState). m.fuel) (sym s.machine_is) ∙ s.progress.holds.fuel
@@ -187,22 +189,22 @@ module _ (p : Program) (plan : Plan) (input : List ℤ) (fuel n : ℕ) (first : 
     written_there w e =
         append_cancel_right w (prints fs) (to_come last) (sym e ∙ prints_on (region_run first) (rest_of_run last) fs s.progress.holds.configs inner) ∙ ap prints (sym prints_there)
 
-    report_there : report ≡ report_first_with nowhere p plan (source_run p input fuel) after
-    report_there = s.progress.report_is ∙ ap (report_before plan first) s.count ∙ report_first after
+    report_there : report ≡ told_when false (report_first_with nowhere p plan (source_run p input fuel) after)
+    report_there = s.report_is ∙ ap (told_when false) (report_first after)
 
     -- the reports are those of the checkpoint
-    pub reports_there : (plans : List Plan) (count : ℕ) → map region_of plans ≡ numbers_from 1 count → slice_get plans n ≡ Some plan → (told : List RegionReport) → told ≡ region_reports p (take n plans) (source_run p input fuel) →
+    pub reports_there : (plans : List Plan) (count : ℕ) → map region_of plans ≡ numbers_from 1 count → slice_get plans n ≡ Some plan → (told : List RegionReport) → told ≡ told_reports false p (take n plans) (source_run p input fuel) →
         map uncaused (told ++ report ∷ []) ≡ map (saved_report p (source_run p input fuel) (suc n) after) (take (suc n) plans)
     reports_there plans count numbers at told is =
         map-append uncaused told (report ∷ [])
         ∙ ap (λ (rs : List RegionReport). map uncaused rs ++ uncaused report ∷ []) is
-        ∙ ap (λ (rs : List RegionReport). rs ++ uncaused report ∷ []) (before_saved p run (suc n) after 1 count plans n numbers (omega arith))
+        ∙ ap (λ (rs : List RegionReport). rs ++ uncaused report ∷ []) (told_alike p run (take n plans) ∙ before_saved p run (suc n) after 1 count plans n numbers (omega arith))
         ∙ ap (λ (r : RegionReport). map (saved_report p run (suc n) after) (take n plans) ++ r ∷ []) (ap uncaused report_there ∙ sym (ap uncaused (if_same plan.region (suc n) (report_first_with nowhere p plan run after) (region_report p plan run) number)))
         ∙ sym (map-append (saved_report p run (suc n) after) (take n plans) (plan ∷ []))
         ∙ ap (map (saved_report p run (suc n) after)) (sym (take_next plans n plan at))
 
     -- so the text is that of the checkpoint
-    pub text_there : (plans : List Plan) (count : ℕ) → map region_of plans ≡ numbers_from 1 count → slice_get plans n ≡ Some plan → (told : List RegionReport) → told ≡ region_reports p (take n plans) (source_run p input fuel) → last.steps ≤ last.fuel →
+    pub text_there : (plans : List Plan) (count : ℕ) → map region_of plans ≡ numbers_from 1 count → slice_get plans n ≡ Some plan → (told : List RegionReport) → told ≡ told_reports false p (take n plans) (source_run p input fuel) → last.steps ≤ last.fuel →
         checkpoint_bytes (saved_so (suc n) after last.steps last.fuel last.config.cells (told ++ report ∷ [])) ≡ checkpoint_bytes (checkpoint_at p plans input fuel (suc n) after steps)
     text_there plans count numbers at told is within =
         let rs : List RegionReport = map (saved_report p (source_run p input fuel) (suc n) after) (take (suc n) plans) in

@@ -14,7 +14,6 @@ use Rattle.dp_tree.specs.Iteration.{start, starts}
 use Rattle.dp_tree.specs.Numbering.{numbers_from}
 use Rattle.dp_tree.specs.Trace.{Run, begin, prints, run_of}
 use Rattle.dp_plan.specs.declared.Plan.{Plan}
-use Rattle.dp_plan.specs.Each.{Each}
 use Rattle.dp_plan.specs.GivenPlans.{IsPlan, region_of}
 use Rattle.dp_theorem.proofs.Central.{fuel_is}
 use Rattle.dp_meaning.specs.MachineState.{MachineState, fuel_left, rest_of_run}
@@ -25,7 +24,7 @@ use Rattle.dp_epoch.specs.RegionRun.{beyond}
 use Rattle.dp_report.specs.EndText.{end_bytes}
 use Rattle.dp_report.specs.PrintsText.{prints_bytes}
 use Rattle.dp_run.specs.Given.{AreGiven, AreNext}
-use Rattle.dp_run.specs.RunText.{closing_text, region_reports, source_run, trace_text}
+use Rattle.dp_run.specs.RunText.{closing_text, source_run, told_reports, trace_text}
 use Rattle.dp_run.specs.Stretches.{Ahead, Between, Over, Went, to_come}
 use Rattle.dp_run.proofs.Before.{start_mapped}
 use Rattle.dp_run.proofs.Counting.{as_many}
@@ -34,15 +33,12 @@ use Rattle.dp_run.proofs.Passing.{prints_on}
 use Rattle.dp_save.specs.WrittenText.{checkpoint_bytes}
 use Rattle.dp_resume.specs.declared.save.SaveEnd.{SaveEnd}
 use Rattle.dp_resume.specs.declared.save.SaveEnd.TheVariants.{Ran}
-use Rattle.dp_resume.specs.Saved.{checkpoint_at, end_from, saved_bytes, saved_end, saved_from}
+use Rattle.dp_resume.specs.Saved.{checkpoint_at, end_from, saved_bytes, saved_end, saved_from, uncaused}
 use Rattle.dp_resume.specs.steps.Saving.{ending_from, left_from, made_by}
 use Rattle.dp_resume.proofs.Found.{region_within}
 use Rattle.dp_resume.proofs.RestLemmas.{Ended, ended_err, ended_ok}
-
-each_first : {X : Type 0} (P : X → Type 0) (n : ℕ) (xs : List X) → Each P xs → Each P (take n xs)
-each_first P zero xs all = record {}
-each_first P (suc n) [] all = all
-each_first P (suc n) (x ∷ xs) all = (all.0, each_first P n xs all.1)
+use Rattle.dp_resume.proofs.ToldReports.{told_again}
+use Rattle.dp_resume.proofs.Whole.{each_first}
 
 numbers_first : (k first count : ℕ) (plans : List Plan) → map region_of plans ≡ numbers_from first count → map region_of (take k plans) ≡ numbers_from first (length (take k plans))
 numbers_first zero first count plans e = refl
@@ -120,37 +116,39 @@ module _ (p : Program) (plans : List Plan) (given : AreGiven p plans) (input : L
       long = let e = length-take (r - 1) plans in omega (arith, e, high, low)
 
       module _ (last : MachineState) (told reports : List RegionReport) (none : told ≡ []) (tally now : ℕ) where
-        went_so : (o : Option End) → Went m.program before input m.fuel (source_run p input fuel) 0 last o told reports tally now → Went p (take (r - 1) plans) input fuel (source_run p input fuel) 0 last o [] reports tally now
+        went_so : (o : Option End) → Went false m.program before input m.fuel (source_run p input fuel) 0 last o told reports tally now → Went false p (take (r - 1) plans) input fuel (source_run p input fuel) 0 last o [] reports tally now
         went_so o w =
-            subst (λ (rs : List RegionReport). Went p (take (r - 1) plans) input fuel (source_run p input fuel) 0 last o rs reports tally now) none
-            (subst (λ (ps : List Plan). Went p ps input fuel (source_run p input fuel) 0 last o told reports tally now) before_is
-            (subst (λ (k : ℕ). Went p before input k (source_run p input fuel) 0 last o told reports tally now) fuel_here
-            (subst (λ (q : Program). Went q before input m.fuel (source_run p input fuel) 0 last o told reports tally now) program_here w)))
+            subst (λ (rs : List RegionReport). Went false p (take (r - 1) plans) input fuel (source_run p input fuel) 0 last o rs reports tally now) none
+            (subst (λ (ps : List Plan). Went false p ps input fuel (source_run p input fuel) 0 last o told reports tally now) before_is
+            (subst (λ (k : ℕ). Went false p before input k (source_run p input fuel) 0 last o told reports tally now) fuel_here
+            (subst (λ (q : Program). Went false q before input m.fuel (source_run p input fuel) 0 last o told reports tally now) program_here w)))
 
-        pub went_some : (end : End) (o : Option End) → o ≡ Some end → Went m.program before input m.fuel (source_run p input fuel) 0 last o told reports tally now → Went m.program before input m.fuel (source_run p input fuel) 0 last (Some end) told reports tally now
-        went_some end o e w = subst (λ (x : Option End). Went m.program before input m.fuel (source_run p input fuel) 0 last x told reports tally now) e w
+        pub went_some : (end : End) (o : Option End) → o ≡ Some end → Went false m.program before input m.fuel (source_run p input fuel) 0 last o told reports tally now → Went false m.program before input m.fuel (source_run p input fuel) 0 last (Some end) told reports tally now
+        went_some end o e w = subst (λ (x : Option End). Went false m.program before input m.fuel (source_run p input fuel) 0 last x told reports tally now) e w
 
-        pub went_none : (o : Option End) → o ≡ None → Went m.program before input m.fuel (source_run p input fuel) 0 last o told reports tally now → Went m.program before input m.fuel (source_run p input fuel) 0 last None told reports tally now
-        went_none o e w = subst (λ (x : Option End). Went m.program before input m.fuel (source_run p input fuel) 0 last x told reports tally now) e w
+        pub went_none : (o : Option End) → o ≡ None → Went false m.program before input m.fuel (source_run p input fuel) 0 last o told reports tally now → Went false m.program before input m.fuel (source_run p input fuel) 0 last None told reports tally now
+        went_none o e w = subst (λ (x : Option End). Went false m.program before input m.fuel (source_run p input fuel) 0 last x told reports tally now) e w
 
         -- the run ended before the region
-        pub over_before : (end : End) → Went m.program before input m.fuel (source_run p input fuel) 0 last (Some end) told reports tally now → Ended p plans given input fuel last end reports
+        pub over_before : (end : End) → Went false m.program before input m.fuel (source_run p input fuel) 0 last (Some end) told reports tally now → Ended p plans given input fuel last end reports
         over_before end w0 =
             let w = went_so (Some end) w0 in
             record {
               count = w.count;
               within = omega (arith, w.within, long, high);
               over = let none : 0 + w.count ≡ w.count = omega arith in subst (λ (k : ℕ). Over (source_run p input fuel) k last end) none w.leads;
-              reports_are = w.counted.reports_are ∙ ap (λ (xs : List Plan). region_reports p xs run) (take-take w.count (r - 1) plans (omega (arith, w.within, long)));
+              reports_are =
+                  ap (map uncaused) (w.counted.reports_are ∙ ap (λ (xs : List Plan). told_reports false p xs run) (take-take w.count (r - 1) plans (omega (arith, w.within, long))))
+                  ∙ told_again p run (take w.count plans);
             }
 
-        unreached_before : (end : End) → Went m.program before input m.fuel (source_run p input fuel) 0 last (Some end) told reports tally now → start (source_run p input fuel) r after ≡ None
+        unreached_before : (end : End) → Went false m.program before input m.fuel (source_run p input fuel) 0 last (Some end) told reports tally now → start (source_run p input fuel) r after ≡ None
         unreached_before end w0 =
             let w = went_so (Some end) w0 in
             ap (λ (ks : List ℕ). slice_get ks after) (w.leads.unreached r (omega (arith, w.within, long, low)))
 
         -- .. and its text is written
-        pub over_ok : (end : End) (w : Went m.program before input m.fuel (source_run p input fuel) 0 last (Some end) told reports tally now) (old mid : Option (List ℕ)) → Emits (to_come m) (to_come last) old mid → (lent : Program) → lent ≡ p →
+        pub over_ok : (end : End) (w : Went false m.program before input m.fuel (source_run p input fuel) 0 last (Some end) told reports tally now) (old mid : Option (List ℕ)) → Emits (to_come m) (to_come last) old mid → (lent : Program) → lent ≡ p →
             (ended : Result SaveEnd WriteFail) (tells : Option (List ℕ)) → IfOk ended (λ how. (how ≡ Ran end) × (tells ≡ appended (end_bytes lent last.config.cells reports end false) mid)) →
             IfOk ended (λ how. (how ≡ saved_end p input fuel r after) × (tells ≡ appended (saved_bytes p plans input fuel r after) old))
         over_ok end w old mid e lent same ended tells h =
@@ -161,7 +159,7 @@ module _ (p : Program) (plans : List Plan) (given : AreGiven p plans) (input : L
             ))
             (ended_ok p plans given input fuel last end reports (over_before end w) m fuel_here old mid e lent same ended tells h)
 
-        pub over_err : (end : End) (w : Went m.program before input m.fuel (source_run p input fuel) 0 last (Some end) told reports tally now) (old mid : Option (List ℕ)) → Emits (to_come m) (to_come last) old mid → (lent : Program) → lent ≡ p →
+        pub over_err : (end : End) (w : Went false m.program before input m.fuel (source_run p input fuel) 0 last (Some end) told reports tally now) (old mid : Option (List ℕ)) → Emits (to_come m) (to_come last) old mid → (lent : Program) → lent ≡ p →
             (ended : Result SaveEnd WriteFail) (tells : Option (List ℕ)) → OnErr ended (WritesFront (end_bytes lent last.config.cells reports end false) mid tells) →
             OnErr ended (WritesFront (saved_bytes p plans input fuel r after) old tells)
         over_err end w old mid e lent same ended tells h =
@@ -169,24 +167,24 @@ module _ (p : Program) (plans : List Plan) (given : AreGiven p plans) (input : L
             (ended_err p plans given input fuel last end reports (over_before end w) m fuel_here old mid e lent same ended tells h)
 
         -- the region comes next
-        pub between_next : Went m.program before input m.fuel (source_run p input fuel) 0 last None told reports tally now → Between p input fuel (source_run p input fuel) (r - 1) last
+        pub between_next : Went false m.program before input m.fuel (source_run p input fuel) 0 last None told reports tally now → Between p input fuel (source_run p input fuel) (r - 1) last
         between_next w0 =
             let w = went_so None w0 in
             let all : 0 + w.count ≡ r - 1 = let all = w.all refl in omega (arith, all, long) in subst (λ (k : ℕ). Between p input fuel (source_run p input fuel) k last) all w.leads
 
-        reports_next : Went m.program before input m.fuel (source_run p input fuel) 0 last None told reports tally now → reports ≡ region_reports p (take (r - 1) plans) (source_run p input fuel)
+        reports_next : Went false m.program before input m.fuel (source_run p input fuel) 0 last None told reports tally now → reports ≡ told_reports false p (take (r - 1) plans) (source_run p input fuel)
         reports_next w0 =
             let w = went_so None w0 in
-            w.counted.reports_are ∙ ap (λ (xs : List Plan). region_reports p xs run) (let all = w.all refl in take_all w.count (take (r - 1) plans) (omega (arith, all)))
+            w.counted.reports_are ∙ ap (λ (xs : List Plan). told_reports false p xs run) (let all = w.all refl in take_all w.count (take (r - 1) plans) (omega (arith, all)))
 
-        pub fuel_there : Went m.program before input m.fuel (source_run p input fuel) 0 last None told reports tally now → last.fuel ≡ fuel
+        pub fuel_there : Went false m.program before input m.fuel (source_run p input fuel) 0 last None told reports tally now → last.fuel ≡ fuel
         fuel_there w = (between_next w).behind.fuel_is
 
-        pub between_there : Went m.program before input m.fuel (source_run p input fuel) 0 last None told reports tally now → Between p input last.fuel (source_run p input last.fuel) (r - 1) last
+        pub between_there : Went false m.program before input m.fuel (source_run p input fuel) 0 last None told reports tally now → Between p input last.fuel (source_run p input last.fuel) (r - 1) last
         between_there w = subst (λ (k : ℕ). Between p input k (source_run p input k) (r - 1) last) (sym (fuel_there w)) (between_next w)
 
-        pub reports_there : Went m.program before input m.fuel (source_run p input fuel) 0 last None told reports tally now → reports ≡ region_reports p (take (r - 1) plans) (source_run p input last.fuel)
-        reports_there w = reports_next w ∙ ap (λ (k : ℕ). region_reports p (take (r - 1) plans) (source_run p input k)) (sym (fuel_there w))
+        pub reports_there : Went false m.program before input m.fuel (source_run p input fuel) 0 last None told reports tally now → reports ≡ told_reports false p (take (r - 1) plans) (source_run p input last.fuel)
+        reports_there w = reports_next w ∙ ap (λ (k : ℕ). told_reports false p (take (r - 1) plans) (source_run p input k)) (sym (fuel_there w))
 
       -- ---- from the region on
 

@@ -26,7 +26,7 @@ use Rattle.dp_report.specs.RegionText.{regions_bytes}
 use Rattle.dp_report.specs.StateText.{state_bytes}
 use Rattle.dp_run.specs.Given.{AreGiven, AreNext}
 use Rattle.dp_run.specs.Regions.{regions_left}
-use Rattle.dp_run.specs.RunText.{final_cells, region_reports}
+use Rattle.dp_run.specs.RunText.{final_cells, region_reports, told_reports}
 use Rattle.dp_run.specs.Stretches.{Ahead, Behind, Over, Went, ended_by, to_come}
 use Rattle.dp_run.proofs.Counting.{as_many}
 use Rattle.dp_run.proofs.Ending.{IsListed, listed_in, numbers_behind, reports_append, silent_in}
@@ -37,8 +37,13 @@ use Rattle.dp_save.specs.Fits.{Fits}
 use Rattle.dp_resume.specs.Resumed.{resumed_bytes, resumed_closing, resumed_reports, resumed_run}
 use Rattle.dp_resume.specs.steps.Merging.{merged}
 use Rattle.dp_resume.proofs.Found.{left_at, starts_there}
-use Rattle.dp_resume.proofs.MergeLemmas.{listed_merged, listed_saved, merged_lines, resumed_merged}
+use Rattle.dp_resume.proofs.MergeLemmas.{listed_merged, listed_saved, merged_alike, merged_lines, resumed_merged}
 use Rattle.dp_resume.proofs.TextGoesOn.{lines_same}
+
+pub each_first : {X : Type 0} (P : X → Type 0) (n : ℕ) (xs : List X) → Each P xs → Each P (take n xs)
+each_first P zero xs all = record {}
+each_first P (suc n) [] all = all
+each_first P (suc n) (x ∷ xs) all = (all.0, each_first P n xs all.1)
 
 pub each_behind : {X : Type 0} (P : X → Type 0) (n : ℕ) (xs : List X) → Each P xs → Each P (drop n xs)
 each_behind P zero xs all = all
@@ -124,24 +129,24 @@ module _ (p : Program) (plans : List Plan) (given : AreGiven p plans) (input : L
     pub count : ℕ
     pub within : count ≤ length (drop (c.region - 1) plans)
     pub over : Over (resumed_run p input c) ((c.region - 1) + count) m end
-    pub reports_are : reports ≡ region_reports p (take count (drop (c.region - 1) plans)) (resumed_run p input c)
+    pub reports_are : reports ≡ told_reports false p (take count (drop (c.region - 1) plans)) (resumed_run p input c)
 
   -- Where it went by all regions it has ended, too.
   pub finished : (last : MachineState) (fuel : ℕ) (o : Option End) (end : End) (told reports : List RegionReport) (before now : ℕ) → told ≡ [] → end ≡ ended_by o →
-      Went p (drop (c.region - 1) plans) input fuel (resumed_run p input c) (c.region - 1) last o told reports before now → Finished last end reports
+      Went false p (drop (c.region - 1) plans) input fuel (resumed_run p input c) (c.region - 1) last o told reports before now → Finished last end reports
   finished last fuel None end told reports before now none is w =
       let none_left : length p.regions - ((c.region - 1) + w.count) ≡ 0 = let all = w.all refl in omega (arith, many_left, all) in
       record {
         count = w.count;
         within = w.within;
         over = subst (Over run ((c.region - 1) + w.count) last) (sym is) (over_done p input fuel run ((c.region - 1) + w.count) last w.leads.behind (finished_next p input fuel run ((c.region - 1) + w.count) last w.leads none_left));
-        reports_are = w.counted.reports_are ∙ ap (λ (rs : List RegionReport). rs ++ region_reports p (take w.count left) run) none;
+        reports_are = w.counted.reports_are ∙ ap (λ (rs : List RegionReport). rs ++ told_reports false p (take w.count left) run) none;
       }
   finished last fuel (Some how) end told reports before now none is w = record {
     count = w.count;
     within = w.within;
     over = subst (Over run ((c.region - 1) + w.count) last) (sym is) w.leads;
-    reports_are = w.counted.reports_are ∙ ap (λ (rs : List RegionReport). rs ++ region_reports p (take w.count left) run) none;
+    reports_are = w.counted.reports_are ∙ ap (λ (rs : List RegionReport). rs ++ told_reports false p (take w.count left) run) none;
   }
 
   -- the region itself is reached at once
@@ -153,17 +158,26 @@ module _ (p : Program) (plans : List Plan) (given : AreGiven p plans) (input : L
     silent =
         silent_in p run false (d.count + suc (c.region - 1)) (drop d.count left) (λ r h. d.over.unreached r (omega (arith, h))) (length left - d.count) (numbers_behind d.count left (suc (c.region - 1)) (length left) d.within numbered)
 
+    -- the reports that are there, with their causes
+    abbrev causes : List RegionReport
+    causes = region_reports p (take d.count (drop (c.region - 1) plans)) (resumed_run p input c)
+
+    lines_told : regions_bytes false (merged c.reports told) ≡ regions_bytes false (merged c.reports causes)
+    lines_told =
+        ap (λ (rs : List RegionReport). regions_bytes false (merged c.reports rs)) d.reports_are
+        ∙ lines_same (merged c.reports (told_reports false p (take d.count left) run)) (merged c.reports causes) (merged_alike p run c.reports (take d.count left))
+
     -- some of its iterations may be begun, so that it has a report
-    lines_case : (count : ℕ) → d.count ≡ count → regions_bytes false (merged c.reports told) ≡ regions_bytes false (merged c.reports (region_reports p (drop (c.region - 1) plans) (resumed_run p input c)))
+    lines_case : (count : ℕ) → d.count ≡ count → regions_bytes false (merged c.reports causes) ≡ regions_bytes false (merged c.reports (region_reports p (drop (c.region - 1) plans) (resumed_run p input c)))
     lines_case zero none = absurd (reached (d.over.unreached (suc (c.region - 1)) (omega (arith, none))))
     lines_case (suc count) is = lines_by (drop (c.region - 1) plans) refl
       where
-        lines_by : (ps : List Plan) → drop (c.region - 1) plans ≡ ps → regions_bytes false (merged c.reports told) ≡ regions_bytes false (merged c.reports (region_reports p (drop (c.region - 1) plans) (resumed_run p input c)))
+        lines_by : (ps : List Plan) → drop (c.region - 1) plans ≡ ps → regions_bytes false (merged c.reports causes) ≡ regions_bytes false (merged c.reports (region_reports p (drop (c.region - 1) plans) (resumed_run p input c)))
         lines_by [] e = absurd (let few = d.within in omega (arith, is, few, ap length e))
         lines_by (plan ∷ rest) e =
             let some : 0 < length c.reports = omega (arith, fits.all, fits.place.some_region) in
-            let told_is : told ≡ region_report p plan run ∷ region_reports p (take count rest) run =
-            d.reports_are ∙ ap (λ (k : ℕ). region_reports p (take k left) run) is ∙ ap (λ (xs : List Plan). region_reports p (take (suc count) xs) run) e in
+            let told_is : causes ≡ region_report p plan run ∷ region_reports p (take count rest) run =
+            ap (λ (k : ℕ). region_reports p (take k left) run) is ∙ ap (λ (xs : List Plan). region_reports p (take (suc count) xs) run) e in
             let more_is : regions_bytes false (region_reports p (drop count rest) run) ≡ [] =
             sym (ap (λ (k : ℕ). regions_bytes false (region_reports p (drop k left) run)) is ∙ ap (λ (xs : List Plan). regions_bytes false (region_reports p (drop (suc count) xs) run)) e) ∙ silent in
             ap (λ (rs : List RegionReport). regions_bytes false (merged c.reports rs)) told_is
@@ -173,7 +187,8 @@ module _ (p : Program) (plans : List Plan) (given : AreGiven p plans) (input : L
 
     lines_are : regions_bytes false (merged c.reports told) ≡ regions_bytes false (resumed_reports p (resumed_run p input c) c.reports plans)
     lines_are =
-        lines_case d.count refl
+        lines_told
+        ∙ lines_case d.count refl
         ∙ sym (lines_same (resumed_reports p run c.reports plans) (merged c.reports (region_reports p left run))
         (resumed_merged p run c.reports plans (c.region - 1) (fits.all ∙ sym next_is) (omega (arith, many, fits.place.some_region, fits.place.region_exists))))
 
@@ -181,7 +196,7 @@ module _ (p : Program) (plans : List Plan) (given : AreGiven p plans) (input : L
     end_is = sym d.over.end_is
 
     pub listed : All IsListed (merged c.reports told)
-    listed = listed_merged c.reports told (listed_saved c.reports fits.reports.each) (subst (All IsListed) (sym d.reports_are) (listed_in p run (take d.count left)))
+    listed = listed_merged c.reports told (listed_saved c.reports fits.reports.each) (subst (All IsListed) (sym d.reports_are) (listed_in p run false (take d.count left)))
 
     closing_is : end_bytes p last.config.cells (merged c.reports told) end false ≡ resumed_closing p plans input c
     closing_is =

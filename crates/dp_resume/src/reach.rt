@@ -80,7 +80,7 @@ where
     requires sink { K.faults sink.old < 2 ^ 64 - 1 }
     ensures faults { FaultsAfter result (K.faults sink.old) (K.faults sink.new) }
     ensures stops { IfOk result (λ end. (p : Tree) (plan : PlanValue) (input : List ℤ) (first : MachineState) → Stands p plan input first 0 runner.old →
-        spec.Stops p plan first after (spec.machine_of runner.new) runner.new.ledger.report end) }
+        spec.Stops p plan first after (spec.machine_of runner.new) runner.new.ledger.account.report end) }
     ensures emits { IfOk result (λ _. Emits (to_come (spec.machine_of runner.old)) (to_come (spec.machine_of runner.new)) (K.written sink.old) (K.written sink.new)) }
     ensures front { OnErr result ((p : Tree) (plan : PlanValue) (input : List ℤ) (first : MachineState) → Stands p plan input first 0 runner.old →
         WritesFront (prints_bytes (spec.prints_until (region_run first) (start (region_run first) plan.region after))) (K.written sink.old) (K.written sink.new)) }

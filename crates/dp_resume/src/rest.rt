@@ -1,10 +1,11 @@
 //! The rest of a run that was to be saved, behind the region.
-ghost use Rattle.std.specs.Prelude.{◌≡◌, ◌<◌, ◌≤◌, ◌-◌, ◌^◌, take, false, length, min, All, IfOk, OnErr};
+ghost use Rattle.std.specs.Prelude.{◌≡◌, ◌<◌, ◌≤◌, ◌-◌, ◌^◌, map, take, false, length, min, All, IfOk, OnErr};
 ghost use Rattle.dp_edge.specs.Sink.{appended};
 ghost use Rattle.dp_edge.specs.Writing.{FaultsAfter, WritesFront};
 ghost use Rattle.dp_report.specs.EndText.{end_bytes};
-ghost use Rattle.dp_run.specs.RunText.{region_reports, source_run};
+ghost use Rattle.dp_run.specs.RunText.{source_run, told_reports};
 ghost use Rattle.dp_run.specs.Stretches.{AfterRegion, Behind};
+ghost use Rattle.dp_resume.specs.Saved.{uncaused};
 ghost use Rattle.dp_resume.specs.steps.Saving.{ending_from};
 ghost use Rattle.dp_resume.specs.declared.save.SaveEnd.TheVariants.{Ran as HasRun};
 
@@ -57,7 +58,7 @@ fn run_behind<'p, R: Threads + Wait + Clock + Sync, K: Sink, G: Gate>(
 ) -> Result<SaveEnd, WriteFail>
     requires region { region ≤ length prepared.now.plans }
     requires behind { Behind prepared.now.program input.now machine.fuel (source_run prepared.now.program input.now machine.fuel) region machine }
-    requires reports { reports ≡ region_reports prepared.now.program (take region prepared.now.plans) (source_run prepared.now.program input.now machine.fuel) }
+    requires reports { map uncaused reports ≡ told_reports false prepared.now.program (take region prepared.now.plans) (source_run prepared.now.program input.now machine.fuel) }
     requires words { length input.now ≤ 65536 }
     requires fuel { machine.fuel ≤ 1000000000 }
     requires sink { K.faults sink.old < 2 ^ 64 - 1 }
@@ -69,18 +70,9 @@ fn run_behind<'p, R: Threads + Wait + Clock + Sync, K: Sink, G: Gate>(
     let program = prepared.program();
     let left = regions_behind(prepared, region);
     let (mut told, mut tally) = (reports, Tally::new(Unwatched));
+    let native = NoNativeCode;
     let (machine, end) = run_parts(
-        rt,
-        alloc,
-        &NoNativeCode,
-        left,
-        input,
-        machine,
-        size,
-        &mut told,
-        sink,
-        gate,
-        &mut tally,
+        rt, alloc, &native, left, input, machine, size, false, &mut told, sink, gate, &mut tally,
     )?;
     finish(alloc, program, machine, told, end_of(end), sink)
 }
@@ -101,7 +93,7 @@ pub(crate) fn run_on<'p, R: Threads + Wait + Clock + Sync, K: Sink, G: Gate>(
 ) -> Result<SaveEnd, WriteFail>
     requires region { region ≤ length prepared.now.plans }
     requires after { AfterRegion prepared.now.program input.now machine.fuel (source_run prepared.now.program input.now machine.fuel) region machine end }
-    requires reports { reports ≡ region_reports prepared.now.program (take region prepared.now.plans) (source_run prepared.now.program input.now machine.fuel) }
+    requires reports { map uncaused reports ≡ told_reports false prepared.now.program (take region prepared.now.plans) (source_run prepared.now.program input.now machine.fuel) }
     requires words { length input.now ≤ 65536 }
     requires fuel { machine.fuel ≤ 1000000000 }
     requires sink { K.faults sink.old < 2 ^ 64 - 1 }

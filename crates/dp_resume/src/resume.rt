@@ -46,19 +46,10 @@ pub fn resume_program<R: Threads + Wait + Clock + Sync, K: Sink, G: Gate, W: Wat
     let program = prepared.program();
     let left = regions_behind(prepared, region - 1);
     let machine = Machine::at_region(alloc, program, input, fuel, region, cells, steps)?;
+    let native = NoNativeCode;
     let mut told = Row::new(alloc);
     let (machine, end) = run_parts(
-        rt,
-        alloc,
-        &NoNativeCode,
-        left,
-        input,
-        machine,
-        size,
-        &mut told,
-        sink,
-        gate,
-        tally,
+        rt, alloc, &native, left, input, machine, size, false, &mut told, sink, gate, tally,
     )?;
     let end = end_of(end);
     let reports = merged(saved, told)?;

@@ -2,7 +2,7 @@
 ghost use Rattle.std.specs.Prelude.{◌≡◌, ◌<◌, ◌≤◌, ◌-◌, ◌^◌, take, false, length, IfOk, OnErr};
 ghost use Rattle.dp_edge.specs.Sink.{appended};
 ghost use Rattle.dp_edge.specs.Writing.{FaultsAfter, WritesFront};
-ghost use Rattle.dp_run.specs.RunText.{region_reports, source_run, trace_text};
+ghost use Rattle.dp_run.specs.RunText.{source_run, told_reports, trace_text};
 ghost use Rattle.dp_run.specs.Stretches.{Between};
 ghost use Rattle.dp_save.specs.WrittenText.{checkpoint_bytes};
 ghost use Rattle.dp_tree.specs.Iteration.{start};
@@ -87,7 +87,7 @@ fn save_in<'p, R: Threads + Wait + Clock + Sync, K: Sink, G: Gate>(
 ) -> Result<SaveEnd, WriteFail>
     requires region { (1 ≤ place.region) × (place.region ≤ length prepared.now.plans) }
     requires between { Between prepared.now.program input.now machine.fuel (source_run prepared.now.program input.now machine.fuel) (place.region - 1) machine }
-    requires reports { reports ≡ region_reports prepared.now.program (take (place.region - 1) prepared.now.plans) (source_run prepared.now.program input.now machine.fuel) }
+    requires reports { reports ≡ told_reports false prepared.now.program (take (place.region - 1) prepared.now.plans) (source_run prepared.now.program input.now machine.fuel) }
     requires words { length input.now ≤ 65536 }
     requires fuel { machine.fuel ≤ 1000000000 }
     requires sink { K.faults sink.old < 2 ^ 64 - 1 }
@@ -177,20 +177,11 @@ pub fn save_program<R: Threads + Wait + Clock + Sync, K: Sink, G: Gate>(
     }
     let before = regions_before(prepared, place.region - 1);
     let machine = Machine::new(alloc, program, input, fuel)?;
+    let native = NoNativeCode;
     let mut told = Row::new(alloc);
     let mut tally = Tally::new(Unwatched);
     let (machine, end) = run_parts(
-        rt,
-        alloc,
-        &NoNativeCode,
-        before,
-        input,
-        machine,
-        size,
-        &mut told,
-        sink,
-        gate,
-        &mut tally,
+        rt, alloc, &native, before, input, machine, size, false, &mut told, sink, gate, &mut tally,
     )?;
     match end {
         Some(end) => finish(alloc, program, machine, told, end, sink),

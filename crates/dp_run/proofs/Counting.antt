@@ -1,5 +1,5 @@
 -- The plans one after the other: their regions' numbers, their reports, and how many iterations were committed.
-use Rattle.std.proofs.Common.{◌≡◌, sym, ap, ◌∙◌, ℕ, zero, suc, ◌+◌, ◌*◌, ◌<◌, ◌≤◌, ◌^◌, List, [], ◌∷◌, ◌++◌, append_assoc, length, map, take, Some, slice_get, arith}
+use Rattle.std.proofs.Common.{◌≡◌, sym, ap, ◌∙◌, ℕ, zero, suc, ◌+◌, ◌*◌, ◌<◌, ◌≤◌, ◌^◌, Bool, List, [], ◌∷◌, ◌++◌, append_assoc, length, map, take, Some, slice_get, arith}
 use Rattle.std.proofs.lemmas.List.{append-nil, length-take, map-append, length-map}
 use Rattle.dp_base.specs.declared.RegionReport.{RegionReport}
 use Rattle.dp_tree.specs.declared.Program.{Program}
@@ -10,8 +10,9 @@ use Rattle.dp_plan.specs.Each.{Each}
 use Rattle.dp_plan.specs.GivenPlans.{IsPlan, region_of}
 use Rattle.dp_semantics.specs.Reported.{region_report}
 use Rattle.dp_epoch.specs.RegionRun.{IsPlanned}
+use Rattle.dp_epoch.specs.Accounts.{told_when}
 use Rattle.dp_run.specs.Given.{AreGiven, AreNext}
-use Rattle.dp_run.specs.RunText.{region_reports, committed_count, committed_in_all}
+use Rattle.dp_run.specs.RunText.{told_reports, committed_count, committed_in_all}
 use Rattle.dp_run.specs.Stretches.{Counted}
 use Rattle.dp_run.proofs.Reporting.{committed_few}
 use Rattle.dp_run.proofs.Ending.{in_all_append}
@@ -66,21 +67,21 @@ in_all_few p run h (x ∷ xs) = let go = in_all_few p run h xs in let one = comm
 take_few : {X : Type 0} (n : ℕ) (xs : List X) → length (take n xs) ≤ n
 take_few n xs = let e = length-take n xs in omega (arith, e)
 
-module _ (p : Program) (plans : List Plan) (run : Run) where
-  pub counted_none : (told : List RegionReport) (before now : ℕ) → now ≡ before → Counted p plans run 0 told told before now
+module _ {why : Bool} (p : Program) (plans : List Plan) (run : Run) where
+  pub counted_none : (told : List RegionReport) (before now : ℕ) → now ≡ before → Counted why p plans run 0 told told before now
   counted_none told before now same = record { reports_are = sym (append-nil told); tally_is = omega (arith, same) }
 
   -- one region more
-  pub counted_next : (n : ℕ) (plan : Plan) → slice_get plans n ≡ Some plan → (told reports more : List RegionReport) (before mid now : ℕ) → Counted p plans run n told reports before mid →
-      more ≡ reports ++ region_report p plan run ∷ [] → now ≡ mid + committed_count p plan run → Counted p plans run (suc n) told more before now
+  pub counted_next : (n : ℕ) (plan : Plan) → slice_get plans n ≡ Some plan → (told reports more : List RegionReport) (before mid now : ℕ) → Counted why p plans run n told reports before mid →
+      more ≡ reports ++ told_when why (region_report p plan run) ∷ [] → now ≡ mid + committed_count p plan run → Counted why p plans run (suc n) told more before now
   counted_next n plan is told reports more before mid now c e f = record {
-    reports_are = e ∙ ap (λ (rs : List RegionReport). rs ++ region_report p plan run ∷ []) c.reports_are ∙ append_assoc told (region_reports p (take n plans) run) (region_report p plan run ∷ [])
-        ∙ ap (λ (rs : List RegionReport). told ++ rs) (sym (map-append (λ x. region_report p x run) (take n plans) (plan ∷ [])) ∙ ap (λ (xs : List Plan). region_reports p xs run) (sym (take_next plans n plan is)));
+    reports_are = e ∙ ap (λ (rs : List RegionReport). rs ++ told_when why (region_report p plan run) ∷ []) c.reports_are ∙ append_assoc told (told_reports why p (take n plans) run) (told_when why (region_report p plan run) ∷ [])
+        ∙ ap (λ (rs : List RegionReport). told ++ rs) (sym (map-append (λ x. told_when why (region_report p x run)) (take n plans) (plan ∷ [])) ∙ ap (λ (xs : List Plan). told_reports why p xs run) (sym (take_next plans n plan is)));
     tally_is = let one = in_all_append p run (take n plans) (plan ∷ []) in
         let all = ap (λ (xs : List Plan). committed_in_all p xs run) (take_next plans n plan is) in omega (arith, f, c.tally_is, one, all);
   }
 
   -- there is room for a verdict for each step
-  pub room : run.fuel ≤ 1000000000 → (n : ℕ) → n < 2 ^ 32 → (told reports : List RegionReport) (before now left : ℕ) → before < 2 ^ 63 → left ≤ 1000000000 → Counted p plans run n told reports before now → now + left < 2 ^ 64
+  pub room : run.fuel ≤ 1000000000 → (n : ℕ) → n < 2 ^ 32 → (told reports : List RegionReport) (before now left : ℕ) → before < 2 ^ 63 → left ≤ 1000000000 → Counted why p plans run n told reports before now → now + left < 2 ^ 64
   room h n few told reports before now left start most c =
       let all = in_all_few p run h (take n plans) in let size = take_few n plans in omega (arith, all, size, few, start, most, h, c.tally_is)

@@ -1,5 +1,5 @@
 -- From the machine's end to the run's text.
-use Rattle.std.proofs.Common.{◌≡◌, refl, sym, ap, ◌∙◌, ℕ, zero, suc, ◌+◌, ◌-◌, ◌==◌, Bool, ◌≤◌, if◌then◌else◌, List, [], ◌∷◌, ◌++◌, length, map, take, drop, get_or, min, All, arith}
+use Rattle.std.proofs.Common.{◌≡◌, refl, sym, ap, ◌∙◌, ℕ, zero, suc, ◌+◌, ◌-◌, ◌==◌, Bool, true, false, ◌≤◌, if◌then◌else◌, List, [], ◌∷◌, ◌++◌, length, map, take, drop, get_or, min, All, arith}
 use Rattle.std.proofs.lemmas.List.{length-take, length-map, map-append}
 use Rattle.std.proofs.lemmas.List.Elements.{All-map}
 use Rattle.std.proofs.Math.Nat.{min_comm}
@@ -14,7 +14,8 @@ use Rattle.dp_semantics.specs.Cause.{cause}
 use Rattle.dp_semantics.specs.Recovery.{recovered}
 use Rattle.dp_semantics.specs.Reported.{reported, region_report}
 use Rattle.dp_report.specs.RegionText.{counts_line, causes_if, report_lines, regions_bytes}
-use Rattle.dp_run.specs.RunText.{region_reports, committed_count, committed_in_all}
+use Rattle.dp_epoch.specs.Accounts.{told_when}
+use Rattle.dp_run.specs.RunText.{region_reports, told_reports, committed_count, committed_in_all}
 
 all_each : {X : Type 0} (P : X → Type 0) → ((x : X) → P x) → (xs : List X) → All P xs
 all_each P h xs = λ k d lt. h (get_or xs k d)
@@ -26,16 +27,31 @@ abbrev pub IsExplained : RegionReport → Type 0
 IsExplained report = length report.causes ≡ length report.recovered
 
 module _ (p : Program) (run : Run) where
-  -- a report lists no more than 1,000 numbers, each with its cause
-  pub listed_in : (plans : List Plan) → All IsListed (region_reports p plans run)
-  listed_in plans =
-      All-map IsListed (λ plan. region_report p plan run) plans
-      (all_each (λ plan. IsListed (region_report p plan run)) (λ plan. length-take 1000 (recovered p plan run) ∙ min_comm 1000 (length (recovered p plan run))) plans)
+  -- a report lists no more than 1,000 numbers, each with its cause where causes are asked for
+  listed_once : (why : Bool) (plan : Plan) → IsListed (told_when why (region_report p plan run))
+  listed_once true plan = length-take 1000 (recovered p plan run) ∙ min_comm 1000 (length (recovered p plan run))
+  listed_once false plan = length-take 1000 (recovered p plan run) ∙ min_comm 1000 (length (recovered p plan run))
 
-  pub explained_in : (plans : List Plan) → All IsExplained (region_reports p plans run)
-  explained_in plans =
-      All-map IsExplained (λ plan. region_report p plan run) plans
-      (all_each (λ plan. IsExplained (region_report p plan run)) (λ plan. length-map (take 1000 (recovered p plan run)) (λ i. reported (cause p plan run i))) plans)
+  pub listed_in : (why : Bool) (plans : List Plan) → All IsListed (told_reports why p plans run)
+  listed_in why plans = All-map IsListed (λ plan. told_when why (region_report p plan run)) plans (all_each (λ plan. IsListed (told_when why (region_report p plan run))) (listed_once why) plans)
+
+  explained_once : (why : Bool) → why ≡ true → (plan : Plan) → IsExplained (told_when why (region_report p plan run))
+  explained_once true asked plan = length-map (take 1000 (recovered p plan run)) (λ i. reported (cause p plan run i))
+  explained_once false asked plan = absurd (cc asked)
+
+  pub explained_in : (why : Bool) → why ≡ true → (plans : List Plan) → All IsExplained (told_reports why p plans run)
+  explained_in why asked plans = All-map IsExplained (λ plan. told_when why (region_report p plan run)) plans (all_each (λ plan. IsExplained (told_when why (region_report p plan run))) (explained_once why asked) plans)
+
+  -- where causes aren't asked for, the text doesn't look at them
+  told_lines : (why : Bool) (report : RegionReport) → report_lines why (told_when why report) ≡ report_lines why report
+  told_lines true report = refl
+  told_lines false report = refl
+
+  pub told_bytes : (why : Bool) (plans : List Plan) → regions_bytes why (told_reports why p plans run) ≡ regions_bytes why (region_reports p plans run)
+  told_bytes why [] = refl
+  told_bytes why (x ∷ plans) =
+      ap (λ (line : List ℕ). line ++ regions_bytes why (told_reports why p plans run)) (told_lines why (region_report p x run))
+      ∙ ap (λ (rest : List ℕ). report_lines why (region_report p x run) ++ rest) (told_bytes why plans)
 
   none_begun : (plan : Plan) → starts run plan.region ≡ [] → begun_count run plan.region ≡ 0
   none_begun plan e = rw e refl

@@ -1,10 +1,10 @@
 -- Steps of a plain part that native code made, and what the machine makes behind them.
-use Rattle.std.proofs.Common.{◌≡◌, ◌≢◌, refl, sym, ap, ◌∙◌, ℕ, ◌+◌, ◌<◌, List, ◌++◌, length, length-append, ℤ, Result, Ok, Err, IfOk, MatchResult, None, arith}
+use Rattle.std.proofs.Common.{◌≡◌, ◌≢◌, refl, sym, ◌∙◌, ℕ, ◌+◌, ◌<◌, List, ◌++◌, length, length-append, ℤ, Result, Ok, Err, IfOk, MatchResult, None, arith}
 use Rattle.dp_room.specs.declared.NoMemory.{NoMemory}
 use Rattle.dp_meaning.specs.declared.ends.Part.TheVariants.{Plain}
 use Rattle.dp_meaning.specs.declared.ends.PartEnd.{PartEnd}
 use Rattle.dp_meaning.specs.declared.ends.PartEnd.TheVariants.{Done, Fault, Fuel, Going}
-use Rattle.dp_meaning.specs.MachineState.{MachineState, next_part, part_of, from_region}
+use Rattle.dp_meaning.specs.MachineState.{MachineState, next_part}
 use Rattle.dp_meaning.specs.Moved.{Spoiled}
 use Rattle.dp_meaning.specs.PartRun.{PartMoved, PartRun, PartStops}
 use Rattle.dp_meaning.proofs.PartLemmas.{part_joined}

@@ -1,5 +1,5 @@
 -- The run after each plan's region, and where it ends.
-use Rattle.std.proofs.Common.{◌≡◌, sym, ap, subst, ◌∙◌, ℕ, suc, ◌+◌, ◌-◌, ◌<◌, ◌≤◌, ◌^◌, List, [], ◌∷◌, ◌++◌, ℤ, length, slice_get, Option, Some, None, arith}
+use Rattle.std.proofs.Common.{◌≡◌, sym, ap, subst, ◌∙◌, ℕ, suc, ◌+◌, ◌-◌, ◌<◌, ◌≤◌, ◌^◌, Bool, List, [], ◌∷◌, ◌++◌, ℤ, length, slice_get, Option, Some, None, arith}
 use Rattle.dp_base.specs.declared.End.{End}
 use Rattle.dp_base.specs.declared.RegionReport.{RegionReport}
 use Rattle.dp_tree.specs.declared.Program.{Program}
@@ -12,6 +12,7 @@ use Rattle.dp_meaning.specs.MachineState.{MachineState, rest_of_run}
 use Rattle.dp_crew.specs.Output.{Emits}
 use Rattle.dp_run.specs.Given.{AreNext}
 use Rattle.dp_run.specs.RunText.{committed_count}
+use Rattle.dp_epoch.specs.Accounts.{told_when}
 use Rattle.dp_run.specs.Stretches.{Ahead, Between, Counted, FrontBefore, Leads, RunsFrom, Went, to_come}
 use Rattle.dp_run.proofs.Before.{before_less, before_on}
 use Rattle.dp_run.proofs.Leading.{behind_own}
@@ -26,13 +27,13 @@ module _ (p : Program) (plans : List Plan) (input : List ℤ) (fuel : ℕ) (run 
   pub goes_on : (k : ℕ) (m : MachineState) (o : Option End) → o ≡ None → Leads p input fuel run k m o → Between p input fuel run k m
   goes_on k m o is leads = subst (Leads p input fuel run k m) is leads
 
-  module _ (k : ℕ) (m : MachineState) (told reports : List RegionReport) (before now : ℕ) (counted : Counted p plans run k told reports before now) where
+  module _ {why : Bool} (k : ℕ) (m : MachineState) (told reports : List RegionReport) (before now : ℕ) (counted : Counted why p plans run k told reports before now) where
     -- The run has ended.
-    pub ended_here : k ≤ length plans → (o : Option End) (end : End) → o ≡ Some end → Leads p input fuel run (n + k) m o → Went p plans input fuel run n m (Some end) told reports before now
+    pub ended_here : k ≤ length plans → (o : Option End) (end : End) → o ≡ Some end → Leads p input fuel run (n + k) m o → Went why p plans input fuel run n m (Some end) told reports before now
     ended_here within o end is leads = record { count = k; within = within; all = λ e. absurd (cc e); leads = subst (Leads p input fuel run (n + k) m) is leads; counted = counted }
 
     -- The regions of all plans are left behind.
-    pub went_by_all : k ≡ length plans → Between p input fuel run (n + k) m → Went p plans input fuel run n m None told reports before now
+    pub went_by_all : k ≡ length plans → Between p input fuel run (n + k) m → Went why p plans input fuel run n m None told reports before now
     went_by_all all b = record { count = k; within = omega (arith, all); all = λ e. all; leads = b; counted = counted }
 
     -- there is room to count a verdict for each step that is left
@@ -62,12 +63,12 @@ module _ (p : Program) (plans : List Plan) (input : List ℤ) (fuel : ℕ) (run 
       subst (λ (f : ℕ). Leads p input f run (n + (k + 1)) last o) b.behind.fuel_is (subst (λ (j : ℕ). Leads p input m.fuel run j last o) one_more (ran run (n + k) number at_own))
 
   -- its report, and how many of its iterations are counted
-  pub counts_next : (told reports more : List RegionReport) (before mid now : ℕ) → Counted p plans run k told reports before mid →
-      ((u : Run) (j : ℕ) → plan.region ≡ suc j → Between p input m.fuel u j m → more ≡ reports ++ region_report p plan u ∷ []) →
-      ((u : Run) (j : ℕ) → plan.region ≡ suc j → Between p input m.fuel u j m → now ≡ mid + committed_count p plan u) → Counted p plans run (k + 1) told more before now
-  counts_next told reports more before mid now counted reported tally =
+  pub counts_next : {why : Bool} (told reports more : List RegionReport) (before mid now : ℕ) → Counted why p plans run k told reports before mid →
+      ((u : Run) (j : ℕ) → plan.region ≡ suc j → Between p input m.fuel u j m → more ≡ reports ++ told_when why (region_report p plan u) ∷ []) →
+      ((u : Run) (j : ℕ) → plan.region ≡ suc j → Between p input m.fuel u j m → now ≡ mid + committed_count p plan u) → Counted why p plans run (k + 1) told more before now
+  counts_next {why = why} told reports more before mid now counted reported tally =
       let next : suc k ≡ k + 1 = omega arith in
-      subst (λ (j : ℕ). Counted p plans run j told more before now) next
+      subst (λ (j : ℕ). Counted why p plans run j told more before now) next
       (counted_next p plans run k plan is told reports more before mid now counted (reported run (n + k) number at_own) (tally run (n + k) number at_own))
 
 -- It stopped in the next plan's region, or in the plain part behind it: so before each region behind those of all plans.

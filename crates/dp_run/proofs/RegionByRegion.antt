@@ -1,5 +1,5 @@
 -- The run after each prepared region.
-use Rattle.std.proofs.Common.{◌≡◌, sym, subst, ℕ, suc, ◌+◌, ◌<◌, List, [], ◌∷◌, ◌++◌, ℤ, length, slice_get, Option, Some, arith}
+use Rattle.std.proofs.Common.{◌≡◌, sym, subst, ℕ, suc, ◌+◌, ◌<◌, Bool, List, [], ◌∷◌, ◌++◌, ℤ, length, slice_get, Option, Some, arith}
 use Rattle.std.proofs.lemmas.List.{length-map}
 use Rattle.dp_base.specs.declared.End.{End}
 use Rattle.dp_base.specs.declared.RegionReport.{RegionReport}
@@ -12,6 +12,7 @@ use Rattle.dp_crew.specs.Output.{Emits}
 use Rattle.dp_run.specs.Given.{AreNext}
 use Rattle.dp_run.specs.Prepared.{AreOf, plan_in, plans_in}
 use Rattle.dp_run.specs.RunText.{committed_count}
+use Rattle.dp_epoch.specs.Accounts.{told_when}
 use Rattle.dp_run.specs.Stretches.{Ahead, Between, Counted, FrontBefore, Leads, to_come}
 use Rattle.dp_run.proofs.PlanByPlan.{counts_next, front_next, leads_next, starts_next}
 use Rattle.dp_run.proofs.PlansIn.{of_at, plan_at}
@@ -36,12 +37,12 @@ module _ (p : Program) (regions : List Prepared) (input : List ℤ) (fuel : ℕ)
       leads_next p (plans_in regions) input fuel run n k given r.plan found m b last o
       (subst (λ (q : Program). (u : Run) (j : ℕ) → r.plan.region ≡ suc j → Between q input m.fuel u j m → Leads q input m.fuel u (suc j) last o) is_of ran)
 
-  pub region_counts : (told reports more : List RegionReport) (before mid now : ℕ) → Counted p (plans_in regions) run k told reports before mid →
-      ((u : Run) (j : ℕ) → r.plan.region ≡ suc j → Between r.program input m.fuel u j m → more ≡ reports ++ region_report r.program r.plan u ∷ []) →
-      ((u : Run) (j : ℕ) → r.plan.region ≡ suc j → Between r.program input m.fuel u j m → now ≡ mid + committed_count r.program r.plan u) → Counted p (plans_in regions) run (k + 1) told more before now
-  region_counts told reports more before mid now counted reported tally =
+  pub region_counts : {why : Bool} (told reports more : List RegionReport) (before mid now : ℕ) → Counted why p (plans_in regions) run k told reports before mid →
+      ((u : Run) (j : ℕ) → r.plan.region ≡ suc j → Between r.program input m.fuel u j m → more ≡ reports ++ told_when why (region_report r.program r.plan u) ∷ []) →
+      ((u : Run) (j : ℕ) → r.plan.region ≡ suc j → Between r.program input m.fuel u j m → now ≡ mid + committed_count r.program r.plan u) → Counted why p (plans_in regions) run (k + 1) told more before now
+  region_counts {why = why} told reports more before mid now counted reported tally =
       counts_next p (plans_in regions) input fuel run n k given r.plan found m b told reports more before mid now counted
-      (subst (λ (q : Program). (u : Run) (j : ℕ) → r.plan.region ≡ suc j → Between q input m.fuel u j m → more ≡ reports ++ region_report q r.plan u ∷ []) is_of reported)
+      (subst (λ (q : Program). (u : Run) (j : ℕ) → r.plan.region ≡ suc j → Between q input m.fuel u j m → more ≡ reports ++ told_when why (region_report q r.plan u) ∷ []) is_of reported)
       (subst (λ (q : Program). (u : Run) (j : ℕ) → r.plan.region ≡ suc j → Between q input m.fuel u j m → now ≡ mid + committed_count q r.plan u) is_of tally)
 
 -- It stopped in the next region, or in the plain part behind it: so before each region behind all of these.

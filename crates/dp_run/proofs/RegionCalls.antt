@@ -1,5 +1,5 @@
 -- What a call that ran the next region leaves to its caller.
-use Rattle.std.proofs.Common.{◌≡◌, sym, ap, subst, ◌∙◌, ℕ, suc, ◌+◌, ◌≤◌, List, [], ℤ, length, take, nat_lt, Option, arith}
+use Rattle.std.proofs.Common.{◌≡◌, sym, ap, subst, ◌∙◌, ℕ, suc, ◌+◌, ◌≤◌, Bool, List, [], ℤ, length, take, nat_lt, Option, arith}
 use Rattle.std.proofs.lemmas.List.Sums.{count_by-le-length}
 use Rattle.dp_base.specs.declared.RegionReport.{RegionReport}
 use Rattle.dp_tree.specs.declared.Program.{Program}
@@ -18,6 +18,8 @@ use Rattle.dp_meaning.specs.MachineState.{MachineState, part_of, rest_of_run}
 use Rattle.dp_epoch.specs.declared.ends.RegionEnd.{RegionEnd}
 use Rattle.dp_edge.specs.Writing.{WritesFront}
 use Rattle.dp_crew.specs.Output.{Emits}
+use Rattle.dp_epoch.specs.Accounts.{told_when}
+use Rattle.dp_epoch.proofs.Counting.{told_begun, told_count}
 use Rattle.dp_epoch.specs.RegionRun.{IsPlanned, RegionRan, region_run, region_prints}
 use Rattle.dp_run.specs.RunText.{committed_count}
 use Rattle.dp_run.specs.Stretches.{Between, FrontBefore, Passed, to_come}
@@ -82,15 +84,15 @@ module _ (p : Program) (plan : Plan) (input : List ℤ) (fuel : ℕ) (run : Run)
   report_whole : region_report p plan (region_run m) ≡ region_report p plan run
   report_whole = report_is p plan input fuel run n m number b (comes p plan input fuel run n m planned number b)
 
-  pub report_of_run : (report : RegionReport) → report ≡ region_report p plan (region_run m) → report ≡ region_report p plan run
-  report_of_run report is = is ∙ report_whole
+  pub report_of_run : (why : Bool) (report : RegionReport) → report ≡ told_when why (region_report p plan (region_run m)) → report ≡ told_when why (region_report p plan run)
+  report_of_run why report is = is ∙ ap (told_when why) report_whole
 
   -- .. and so is the count of its committed iterations
-  pub tally_whole : (report : RegionReport) (before now : ℕ) → report ≡ region_report p plan (region_run m) → now + report.recovered_count ≡ before + report.iterations →
+  pub tally_whole : (why : Bool) (report : RegionReport) (before now : ℕ) → report ≡ told_when why (region_report p plan (region_run m)) → now + report.recovered_count ≡ before + report.iterations →
       now ≡ before + committed_count p plan run
-  tally_whole report before now is balance =
-      let same = is ∙ report_whole in
-      let again : report.recovered_count ≡ length (recovered p plan run) = ap (λ (x : RegionReport). x.recovered_count) same in
-      let begun : report.iterations ≡ begun_count run plan.region = ap (λ (x : RegionReport). x.iterations) same in
+  tally_whole why report before now is balance =
+      let same = is ∙ ap (told_when why) report_whole in
+      let again : report.recovered_count ≡ length (recovered p plan run) = ap (λ (x : RegionReport). x.recovered_count) same ∙ told_count why (region_report p plan run) in
+      let begun : report.iterations ≡ begun_count run plan.region = ap (λ (x : RegionReport). x.iterations) same ∙ told_begun why (region_report p plan run) in
       let few = few_recovered p plan run in
       omega (arith, balance, again, begun, few)

@@ -1,5 +1,5 @@
 -- The whole run's text is written, or a front of it.
-use Rattle.std.proofs.Common.{◌≡◌, refl, sym, ap, ◌∙◌, subst, ℕ, ◌+◌, ◌-◌, ◌≤◌, Bool, false, List, [], ◌++◌, append-nil, length, take, drop, All, ℤ, Option, Some, None, arith}
+use Rattle.std.proofs.Common.{◌≡◌, refl, sym, ap, ◌∙◌, subst, ℕ, ◌+◌, ◌-◌, ◌≤◌, Bool, true, false, List, [], ◌++◌, append-nil, length, take, drop, All, ℤ, Option, Some, None, arith}
 use Rattle.std.proofs.lemmas.Grind.{flat_map-append}
 use Rattle.std.proofs.lemmas.List.{take-append-drop}
 use Rattle.dp_base.specs.declared.RegionReport.{RegionReport}
@@ -20,15 +20,15 @@ use Rattle.dp_run.specs.RunText.{source_run, region_reports, final_cells, closin
 use Rattle.dp_run.specs.Stretches.{Ahead, Behind, Counted, Over, Went, ended_by, to_come}
 use Rattle.dp_run.proofs.Counting.{all_next, as_many}
 use Rattle.dp_run.proofs.Leading.{behind_start, finished_next, over_done}
-use Rattle.dp_run.proofs.Ending.{IsListed, IsExplained, listed_in, explained_in, silent_in, none_in, reports_append, in_all_append, numbers_behind}
+use Rattle.dp_run.proofs.Ending.{IsListed, IsExplained, listed_in, explained_in, told_bytes, silent_in, none_in, reports_append, in_all_append, numbers_behind}
 use Rattle.dp_edge.proofs.FrontLemmas.{appended-append, front_behind, front_more}
 
 -- The run has ended behind the first of the plans' regions, whose reports are there.
-pub record Finished (p : Program) (plans : List Plan) (input : List ℤ) (fuel : ℕ) (m : MachineState) (end : End) (reports : List RegionReport) (before now : ℕ) : Type 0 where
+pub record Finished (why : Bool) (p : Program) (plans : List Plan) (input : List ℤ) (fuel : ℕ) (m : MachineState) (end : End) (reports : List RegionReport) (before now : ℕ) : Type 0 where
   pub count : ℕ
   pub within : count ≤ length plans
   pub over : Over (source_run p input fuel) count m end
-  pub counted : Counted p plans (source_run p input fuel) count [] reports before now
+  pub counted : Counted why p plans (source_run p input fuel) count [] reports before now
 
 module _ (p : Program) (plans : List Plan) (input : List ℤ) (fuel : ℕ) (why : Bool) (given : AreGiven p plans) where
   abbrev run : Run
@@ -45,8 +45,8 @@ module _ (p : Program) (plans : List Plan) (input : List ℤ) (fuel : ℕ) (why 
   ahead m e = record { next = all_next p plans given; behind = begins m e }
 
   -- Where it went by all regions it has ended, too.
-  pub finished : (m last : MachineState) → Start m → (o : Option End) (end : End) (told reports : List RegionReport) (before now : ℕ) → told ≡ [] → end ≡ ended_by o → Went p plans input m.fuel run 0 last o told reports before now →
-      Finished p plans input fuel last end reports before now
+  pub finished : (m last : MachineState) → Start m → (o : Option End) (end : End) (told reports : List RegionReport) (before now : ℕ) → told ≡ [] → end ≡ ended_by o → Went why p plans input m.fuel run 0 last o told reports before now →
+      Finished why p plans input fuel last end reports before now
   finished m last start None end told reports before now none is w =
       let count : 0 + w.count ≡ w.count = omega arith in
       let left : length p.regions - (0 + w.count) ≡ 0 = let many = as_many p plans given in let all = w.all refl in omega (arith, many, all) in
@@ -55,7 +55,7 @@ module _ (p : Program) (plans : List Plan) (input : List ℤ) (fuel : ℕ) (why 
         count = w.count;
         within = w.within;
         over = subst (λ (k : ℕ). Over run k last end) count (subst (Over run (0 + w.count) last) (sym is) over);
-        counted = subst (λ (rs : List RegionReport). Counted p plans run w.count rs reports before now) none w.counted;
+        counted = subst (λ (rs : List RegionReport). Counted why p plans run w.count rs reports before now) none w.counted;
       }
   finished m last start (Some how) end told reports before now none is w =
       let count : 0 + w.count ≡ w.count = omega arith in
@@ -63,7 +63,7 @@ module _ (p : Program) (plans : List Plan) (input : List ℤ) (fuel : ℕ) (why 
         count = w.count;
         within = w.within;
         over = subst (λ (k : ℕ). Over run k last end) count (subst (Over run (0 + w.count) last) (sym is) w.leads);
-        counted = subst (λ (rs : List RegionReport). Counted p plans run w.count rs reports before now) none w.counted;
+        counted = subst (λ (rs : List RegionReport). Counted why p plans run w.count rs reports before now) none w.counted;
       }
 
   prints_at : (m : MachineState) → Start m → to_come m ≡ prints run.trace
@@ -76,22 +76,22 @@ module _ (p : Program) (plans : List Plan) (input : List ℤ) (fuel : ℕ) (why 
   front_of_run m e told tells w =
       front_more (prints_bytes (prints run.trace)) (closing_text p plans run why) told tells (subst (λ (zs : List ℤ). WritesFront (prints_bytes zs) told tells) (prints_at m e) w)
 
-  module _ (last : MachineState) (end : End) (reports : List RegionReport) (before now : ℕ) (d : Finished p plans input fuel last end reports before now) where
+  module _ (last : MachineState) (end : End) (reports : List RegionReport) (before now : ℕ) (d : Finished why p plans input fuel last end reports before now) where
     split : take d.count plans ++ drop d.count plans ≡ plans
     split = take-append-drop d.count plans
 
     pub all_listed : All IsListed reports
-    all_listed = subst (All IsListed) (sym d.counted.reports_are) (listed_in p run (take d.count plans))
+    all_listed = subst (All IsListed) (sym d.counted.reports_are) (listed_in p run why (take d.count plans))
 
-    pub all_explained : All IsExplained reports
-    all_explained = subst (All IsExplained) (sym d.counted.reports_are) (explained_in p run (take d.count plans))
+    pub all_explained : why ≡ true → All IsExplained reports
+    all_explained asked = subst (All IsExplained) (sym d.counted.reports_are) (explained_in p run why asked (take d.count plans))
 
     pub end_is : end ≡ run.end
     end_is = sym d.over.end_is
 
     regions_are : regions_bytes why reports ≡ regions_bytes why (region_reports p plans run)
     regions_are =
-        ap (regions_bytes why) d.counted.reports_are
+        ap (regions_bytes why) d.counted.reports_are ∙ told_bytes p run why (take d.count plans)
         ∙ sym (append-nil (regions_bytes why (region_reports p (take d.count plans) run)))
         ∙ ap (λ (xs : List ℕ). regions_bytes why (region_reports p (take d.count plans) run) ++ xs)
         (sym (silent_in p run why (d.count + 1) (drop d.count plans) (λ r h. d.over.unreached r (omega (arith, h))) (length p.regions - d.count) (numbers_behind d.count plans 1 (length p.regions) d.within given.plans_are.regions)))

@@ -33,9 +33,9 @@ module _ (p : Program) (plans : List Plan) (input : List ℤ) (fuel : ℕ) (why 
     regions_there = subst (λ (q : Program). AreOf q regions) (sym program_is) (of_program p plans regions are)
 
     pub finished_there : (last : MachineState) (o : Option End) (end : End) (told reports : List RegionReport) (before now : ℕ) → told ≡ [] → end ≡ ended_by o →
-        ((run : Run) (n : ℕ) → Ahead m.program (plans_in regions) input m.fuel run n m → Went m.program (plans_in regions) input m.fuel run n last o told reports before now) → Finished p plans input fuel last end reports before now
+        ((run : Run) (n : ℕ) → Ahead m.program (plans_in regions) input m.fuel run n m → Went why m.program (plans_in regions) input m.fuel run n last o told reports before now) → Finished why p plans input fuel last end reports before now
     finished_there last o end told reports before now none is went =
         let run = source_run p input fuel in
         finished p plans input fuel why given m last start_there o end told reports before now none is
-        (subst (λ (xs : List Plan). Went p xs input m.fuel run 0 last o told reports before now) (plans_are p plans regions are)
-        (subst (λ (q : Program). Went q (plans_in regions) input m.fuel run 0 last o told reports before now) program_is (went run 0 ahead_there)))
+        (subst (λ (xs : List Plan). Went why p xs input m.fuel run 0 last o told reports before now) (plans_are p plans regions are)
+        (subst (λ (q : Program). Went why q (plans_in regions) input m.fuel run 0 last o told reports before now) program_is (went run 0 ahead_there)))

@@ -8,12 +8,17 @@ use Rattle.dp_plan.specs.declared.Plan.{Plan}
 use Rattle.dp_semantics.specs.Recovery.{recovered}
 use Rattle.dp_semantics.specs.Reported.{region_report}
 pub use Rattle.dp_semantics.specs.Verdict.{source_run}
+use Rattle.dp_epoch.specs.Accounts.{told_when}
 use Rattle.dp_report.specs.PrintsText.{prints_bytes}
 use Rattle.dp_report.specs.EndText.{end_bytes}
 
 -- the reports of the plans' regions, in order
 abbrev pub region_reports : Program → List Plan → Run → List RegionReport
 region_reports p plans run = map (λ plan. region_report p plan run) plans
+
+-- what is told of them: with the causes where `why` asks for them
+abbrev pub told_reports : Bool → Program → List Plan → Run → List RegionReport
+told_reports why p plans run = map (λ plan. told_when why (region_report p plan run)) plans
 
 -- the memory where the run ends
 abbrev pub final_cells : Run → List ℤ

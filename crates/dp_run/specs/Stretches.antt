@@ -1,5 +1,5 @@
 -- How far a machine has brought a run of a program: between two parts, or to its end.
-use Rattle.std.specs.Prelude.{◌≡◌, ◌≢◌, ℕ, suc, ◌+◌, ◌-◌, ◌≤◌, ◌<◌, List, [], ◌++◌, ℤ, length, take, map, false, Option, Some, None}
+use Rattle.std.specs.Prelude.{◌≡◌, ◌≢◌, ℕ, suc, ◌+◌, ◌-◌, ◌≤◌, ◌<◌, Bool, List, [], ◌++◌, ℤ, length, take, map, false, Option, Some, None}
 use Rattle.dp_base.specs.declared.End.{End}
 use Rattle.dp_base.specs.declared.End.TheVariants as how
 use Rattle.dp_base.specs.declared.RegionReport.{RegionReport}
@@ -19,7 +19,7 @@ use Rattle.dp_epoch.specs.declared.ends.RegionEnd.{RegionEnd}
 use Rattle.dp_epoch.specs.declared.ends.RegionEnd.TheVariants.{Closed, Fault, Fuel}
 use Rattle.dp_epoch.specs.RegionRun.{beyond}
 use Rattle.dp_run.specs.Given.{AreNext}
-use Rattle.dp_run.specs.RunText.{region_reports, committed_in_all}
+use Rattle.dp_run.specs.RunText.{told_reports, committed_in_all}
 use Rattle.dp_run.specs.Regions.{regions_left}
 
 -- The run begins with some steps and goes on as the rest does; no region from number k on was reached in them.
@@ -74,9 +74,9 @@ to_come m = prints (rest_of_run m).trace
 pub record FrontBefore (k : ℕ) (waiting : List ℤ) (m : MachineState) (told tells : Option (List ℕ)) : Type 0 where
   pub front : (r i j : ℕ) → k ≤ r → start (rest_of_run m) r i ≡ Some j → WritesFront (prints_bytes (waiting ++ prints (take j (rest_of_run m).trace))) told tells
 
--- The first n of these plans' regions have these reports, behind those of before, and so many of their iterations were counted.
-pub record Counted (p : Program) (plans : List Plan) (run : Run) (n : ℕ) (told reports : List RegionReport) (before now : ℕ) : Type 0 where
-  pub reports_are : reports ≡ told ++ region_reports p (take n plans) run
+-- The first n of these plans' regions have these reports, with causes where `why` asks for them, behind those of before, and so many of their iterations were counted.
+pub record Counted (why : Bool) (p : Program) (plans : List Plan) (run : Run) (n : ℕ) (told reports : List RegionReport) (before now : ℕ) : Type 0 where
+  pub reports_are : reports ≡ told ++ told_reports why p (take n plans) run
   pub tally_is : now ≡ before + committed_in_all p (take n plans) run
 
 -- Behind region n the regions of these plans come next, and the machine stands behind region n.
@@ -85,12 +85,12 @@ pub record Ahead (p : Program) (plans : List Plan) (input : List ℤ) (fuel : �
   pub behind : Behind p input fuel run n m
 
 -- The run went on by the first of these plans' regions, which have their reports: by all of them, or to its end.
-pub record Went (p : Program) (plans : List Plan) (input : List ℤ) (fuel : ℕ) (run : Run) (n : ℕ) (m : MachineState) (end : Option End) (told reports : List RegionReport) (before now : ℕ) : Type 0 where
+pub record Went (why : Bool) (p : Program) (plans : List Plan) (input : List ℤ) (fuel : ℕ) (run : Run) (n : ℕ) (m : MachineState) (end : Option End) (told reports : List RegionReport) (before now : ℕ) : Type 0 where
   pub count : ℕ
   pub within : count ≤ length plans
   pub all : end ≡ None → count ≡ length plans
   pub leads : Leads p input fuel run (n + count) m end
-  pub counted : Counted p plans run count told reports before now
+  pub counted : Counted why p plans run count told reports before now
 
 -- the end of a run that went by all regions of its program, or to this end
 abbrev pub ended_by : Option End → End

@@ -21,8 +21,8 @@ use std::thread::Threads;
 use std::time::Clock;
 
 /// Runs the plain part that comes next, if one does, and then the region of each plan with the plain part behind it, up to
-/// the run's end. Reports of the regions that are reached are appended. Without an end the run stands behind all of them: at
-/// the end of `main`, or before the next region.
+/// the run's end. Reports of the regions that are reached are appended, with causes where `why` asks for them. Without an
+/// end the run stands behind all of them: at the end of `main`, or before the next region.
 pub fn run_parts<'p, R: Threads + Wait + Clock + Sync, N: NativeCode, K: Sink, G: Gate, W: Watch>(
     rt: &R,
     alloc: Global,
@@ -31,6 +31,7 @@ pub fn run_parts<'p, R: Threads + Wait + Clock + Sync, N: NativeCode, K: Sink, G
     input: &'p [i64],
     mut machine: Machine<'p>,
     size: CrewSize,
+    why: bool,
     reports: &mut Row<RegionReport>,
     sink: &mut K,
     gate: &G,
@@ -44,7 +45,7 @@ pub fn run_parts<'p, R: Threads + Wait + Clock + Sync, N: NativeCode, K: Sink, G
     requires room { tally.old < 2 ^ 63 }
     ensures faults { FaultsAfter result (K.faults sink.old) (K.faults sink.new) }
     ensures ok { IfOk result (λ ran. (run : Run) (n : ℕ) → Ahead machine.entry.program (plans_in regions.now) input.now machine.entry.fuel run n machine.entry →
-        Went machine.entry.program (plans_in regions.now) input.now machine.entry.fuel run n ran.0 ran.1 reports.old reports.new tally.old tally.new) }
+        Went why machine.entry.program (plans_in regions.now) input.now machine.entry.fuel run n ran.0 ran.1 reports.old reports.new tally.old tally.new) }
     ensures written { IfOk result (λ ran. Emits (to_come machine.entry) (to_come ran.0) (K.written sink.old) (K.written sink.new)) }
     ensures front { OnErr result (WritesFront (prints_bytes (to_come machine.entry)) (K.written sink.old) (K.written sink.new)) }
     ensures before { OnErr result ((run : Run) (n : ℕ) → Ahead machine.entry.program (plans_in regions.now) input.now machine.entry.fuel run n machine.entry →
@@ -55,7 +56,7 @@ pub fn run_parts<'p, R: Threads + Wait + Clock + Sync, N: NativeCode, K: Sink, G
     }
     for region in regions {
         let (next, end) = run_stretch(
-            rt, alloc, native, region, input, machine, size, reports, sink, gate, tally,
+            rt, alloc, native, region, input, machine, size, why, reports, sink, gate, tally,
         )?;
         machine = next;
         if let Some(end) = end {

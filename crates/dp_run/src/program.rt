@@ -55,25 +55,17 @@ pub fn run_program<R: Threads + Wait + Clock + Sync, N: NativeCode, K: Sink, G: 
     ensures err { OnErr result (WritesFront (trace_text prepared.now.program prepared.now.plans (source_run prepared.now.program input.now options.fuel) options.why) (K.written sink.old) (K.written sink.new)) }
     ensures tally { OnOk result (tally.new ≡ tally.old + committed_in_all prepared.now.program prepared.now.plans (source_run prepared.now.program input.now options.fuel)) }
 {
+    let RunOptions { fuel, size, why } = options;
     let program = prepared.program();
-    let machine = Machine::new(alloc, program, input, options.fuel)?;
+    let regions = prepared.regions();
+    let machine = Machine::new(alloc, program, input, fuel)?;
     let mut told = Row::new(alloc);
     let (machine, end) = run_parts(
-        rt,
-        alloc,
-        native,
-        prepared.regions(),
-        input,
-        machine,
-        options.size,
-        &mut told,
-        sink,
-        gate,
-        tally,
+        rt, alloc, native, regions, input, machine, size, why, &mut told, sink, gate, tally,
     )?;
     let end = end_of(end);
     let cells = machine.cells();
-    write_end(alloc, program, cells, &told, end, options.why, sink)?;
+    write_end(alloc, program, cells, &told, end, why, sink)?;
     Ok(end)
 }
 

@@ -4,6 +4,7 @@ ghost use Rattle.dp_tree.specs.declared.Program.{Program as Tree};
 ghost use Rattle.dp_tree.specs.Trace.{Run};
 ghost use Rattle.dp_report.specs.PrintsText.{prints_bytes};
 ghost use Rattle.dp_semantics.specs.Reported.{region_report};
+ghost use Rattle.dp_epoch.specs.Accounts.{told_when};
 ghost use Rattle.dp_epoch.specs.declared.ends.RegionEnd.TheVariants.{Closed};
 ghost use Rattle.dp_edge.specs.Writing.{FaultsAfter, WritesFront};
 ghost use Rattle.dp_crew.specs.Output.{Emits};
@@ -32,6 +33,7 @@ pub fn run_stretch<'p, R: Threads + Wait + Clock + Sync, N: NativeCode, K: Sink,
     input: &'p [i64],
     machine: Machine<'p>,
     size: CrewSize,
+    why: bool,
     reports: &mut Row<RegionReport>,
     sink: &mut K,
     gate: &G,
@@ -46,7 +48,7 @@ pub fn run_stretch<'p, R: Threads + Wait + Clock + Sync, N: NativeCode, K: Sink,
     ensures ok { IfOk result (λ ran. (run : Run) (n : ℕ) → region.now.plan.region ≡ suc n → Between region.now.program input.now machine.entry.fuel run n machine.entry →
         Leads region.now.program input.now machine.entry.fuel run (suc n) ran.0 ran.1) }
     ensures report { OnOk result ((run : Run) (n : ℕ) → region.now.plan.region ≡ suc n → Between region.now.program input.now machine.entry.fuel run n machine.entry →
-        reports.new ≡ reports.old ++ region_report region.now.program region.now.plan run ∷ []) }
+        reports.new ≡ reports.old ++ told_when why (region_report region.now.program region.now.plan run) ∷ []) }
     ensures written { IfOk result (λ ran. Emits (to_come machine.entry) (to_come ran.0) (K.written sink.old) (K.written sink.new)) }
     ensures front { OnErr result (WritesFront (prints_bytes (to_come machine.entry)) (K.written sink.old) (K.written sink.new)) }
     ensures before { OnErr result (FrontBefore (suc region.now.plan.region) [] machine.entry (K.written sink.old) (K.written sink.new)) }
@@ -55,7 +57,7 @@ pub fn run_stretch<'p, R: Threads + Wait + Clock + Sync, N: NativeCode, K: Sink,
 {
     let mut told = nothing_counted(alloc, region.number());
     let (next, end) = run_region(
-        rt, alloc, region, input, machine, size, &mut told, sink, gate, tally,
+        rt, alloc, region, input, machine, size, why, &mut told, sink, gate, tally,
     )?;
     reports.push(told)?;
     finish_stretch(alloc, native, next, end, sink, tally)

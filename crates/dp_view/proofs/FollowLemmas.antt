@@ -3,7 +3,8 @@ use Rattle.dp_semantics.proofs.Names.{◌≡◌, ◌⊎◌, inl, inr, refl, sym,
 use Rattle.std.proofs.Common.{is_none}
 use Rattle.std.specs.Option.{option_map, option_or}
 use Rattle.dp_base.specs.declared.Cause.{Cause}
-use Rattle.dp_semantics.specs.Cause.{Cause as Failure, by_load, load_cause, checked_load_cause, assumption_cause, words_cause, event_cause, first_cause}
+use Rattle.dp_base.specs.declared.End.{End}
+use Rattle.dp_semantics.specs.Cause.{Cause as Failure, by_load, load_cause, checked_load_cause, assumption_cause, words_cause, event_cause, first_cause, cause_or_end, cause_since}
 use Rattle.dp_semantics.specs.CauseWalk.{Watch, load_cause_in, checked_cause_in, words_cause_in, cause_in, counted_from, count_of, view_of, watched, watched_all, next_watch, first_watch}
 use Rattle.dp_semantics.specs.FindsCauses.{watch_before}
 use Rattle.dp_semantics.specs.Recovery.{epoch}
@@ -20,7 +21,7 @@ use Rattle.dp_theorem.proofs.Causes.{clean_without_cause}
 use Rattle.dp_theorem.proofs.Watching.{Watches, Walked, walk_is}
 use Rattle.dp_theorem.proofs.WatchInEpoch.{watch_at, watches_at}
 use Rattle.dp_view.specs.Viewed.{Viewed, noticed, after_event, after_all, settled, onward, anew}
-use Rattle.dp_view.specs.Following.{KeptBefore, KeptNext, Tells, ViewsTell}
+use Rattle.dp_view.specs.Following.{KeptBefore, KeptNext, Tells, ViewsTell, found_or_end}
 
 -- ---- the first failure of several events, by what is watched
 
@@ -124,13 +125,18 @@ all_found (event ∷ rest) v e = by (cause_in v.program v.plan v.watch event) re
           watch = λ none. ap (λ (w : Viewed). (after_all rest w).watch) next ∙ later.watch (sym skip ∙ none);
         }
 
-none_told : (o : Option Failure) → is_none (option_map reported o) ≡ is_none o
+pub none_told : (o : Option Failure) → is_none (option_map reported o) ≡ is_none o
 none_told (Some cause) = refl
 none_told None = refl
 
-none_is : (o : Option Failure) → is_none o ≡ true → o ≡ None
+pub none_is : (o : Option Failure) → is_none o ≡ true → o ≡ None
 none_is None e = refl
 none_is (Some cause) e = absurd (cc)
+
+-- what is told of it is the cause
+told_or_end : (o : Option Failure) (end : End) → found_or_end (option_map reported o) end ≡ reported (cause_or_end o end)
+told_or_end (Some cause) end = refl
+told_or_end None end = refl
 
 -- ---- from iteration to iteration
 
@@ -190,6 +196,11 @@ module _ {p : Program} {plan : Plan} (a : Accepted p plan) (input : List ℤ) (f
     clean_is =
         clean_without_cause a input fuel begins stands e i k here ∙ ap (λ (o : Option Failure). has_ended source r i && is_none o) (first_is ∙ sym same_failure)
         ∙ ap (λ (b : Bool). has_ended source r i && b) (sym (none_told (found_in v.program v.plan v.watch events)) ∙ ap is_none (sym told.found))
+
+    cause_is : found_or_end w.found source.end ≡ reported (cause_since p plan source e i)
+    cause_is =
+        ap (λ (o : Option Cause). found_or_end o source.end) told.found ∙ told_or_end (found_in v.program v.plan v.watch events) source.end
+        ∙ ap (λ (o : Option Failure). reported (cause_or_end o source.end)) (same_failure ∙ sym first_is)
 
     program_is : w.program ≡ p
     program_is = all_still (λ (x : Viewed). x.program) (λ x y one two three. one) events v ∙ kept.program
@@ -252,7 +263,7 @@ module _ {p : Program} {plan : Plan} (a : Accepted p plan) (input : List ℤ) (f
       }
 
     tells_there : Tells p plan source e i w
-    tells_there = record { clean = clean_is; source = source_is; before = before_is; next = λ ended going. next_by ended going (is_none w.found) refl }
+    tells_there = record { clean = clean_is; cause = cause_is; source = source_is; before = before_is; next = λ ended going. next_by ended going (is_none w.found) refl }
 
   pub tells : (e i k : ℕ) → start source plan.region i ≡ Some k → (v : Viewed) → KeptBefore p plan source e i v → Tells p plan source e i (after_all (iteration source plan.region i) v)
   tells e i k here v kept =

@@ -5,3 +5,6 @@ pub mod ChangeLemmas
 pub mod LookLemmas
 pub mod KeptLemmas
 pub mod FollowLemmas
+pub mod WatchLemmas
+pub mod LoadLemmas
+pub mod StoreLemmas

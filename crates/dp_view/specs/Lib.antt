@@ -3,4 +3,5 @@ pub mod Marked
 pub mod Memories
 pub mod Kept
 pub mod Changed
+pub mod Heard
 pub mod Following

@@ -9,9 +9,9 @@ ghost use Rattle.dp_audit.specs.Runs.{Judged, Stands, UnderWay, Unclean};
 ghost use Rattle.dp_audit.specs.Groups.{Makes};
 
 use super::Runner;
-use crate::committing::{cells_of, commit};
 use crate::group::Group;
-use dp_base::{Cause, NoMemory, Row};
+use crate::stored::cells_of;
+use dp_base::{NoMemory, Row};
 use dp_commit::{Tally, Unwatched};
 use dp_epoch::{RegionEnd, execute_again};
 use dp_judge::{Clean, Verdict};
@@ -35,9 +35,9 @@ where
         let mut verdicts = self.current()?;
         match verdicts.next(rt) {
             Verdict::Clean(clean) => self.commit(verdicts, clean),
-            Verdict::Unclean(cause) => {
+            Verdict::Unclean => {
                 drop(verdicts);
-                self.again(cause)
+                self.again()
             }
             Verdict::NoMemory => Err(NoMemory),
         }
@@ -52,7 +52,7 @@ where
     {
         match self.verdicts.take() {
             Some(verdicts) => Ok(verdicts),
-            None => self.epochs.begin(&self.ledger.committed),
+            None => self.epochs.begin(&self.ledger),
         }
     }
 
@@ -72,13 +72,13 @@ where
     /// Commits an iteration behind which the epoch goes on.
     fn go_on(&mut self, verdicts: LaneVerdicts<'s>, clean: Clean) -> Result<Group, NoMemory>
         requires judged { (p : Tree) × (plan : PlanValue) × (input : List ℤ) × (first : MachineState) × Judged p plan input first self.old verdicts clean }
-        requires going { clean.closing ≡ false }
+        requires going { clean.carried.closing ≡ false }
         ensures made { IfOk result (λ group. (p : Tree) (plan : PlanValue) (input : List ℤ) (first : MachineState) →
             Judged p plan input first self.old verdicts.entry clean → Makes p plan input first self.old.ledger.committed self.new group) }
     {
         let number = self.ledger.committed.count();
         let stored = cells_of(self.epochs.alloc, clean.stores())?;
-        commit(&mut self.ledger, clean)?;
+        self.ledger.commit(clean, &mut Tally::new(Unwatched))?;
         let cells = self.ledger.committed.cells();
         let sets = self.known.changes_among(self.epochs.alloc, cells, stored)?;
         self.verdicts = Some(verdicts);
@@ -88,25 +88,29 @@ where
     /// Commits the closing iteration.
     fn close(&mut self, clean: Clean) -> Result<Group, NoMemory>
         requires judged { (p : Tree) × (plan : PlanValue) × (input : List ℤ) × (first : MachineState) × (v : Coming) × Judged p plan input first self.old v clean }
-        requires closing { clean.closing ≡ true }
+        requires closing { clean.carried.closing ≡ true }
         ensures made { IfOk result (λ group. (p : Tree) (plan : PlanValue) (input : List ℤ) (first : MachineState) (v : Coming) →
             Judged p plan input first self.old v clean → Makes p plan input first self.old.ledger.committed self.new group) }
     {
         let number = self.ledger.committed.count();
-        commit(&mut self.ledger, clean)?;
+        self.ledger.commit(clean, &mut Tally::new(Unwatched))?;
         let cells = self.ledger.committed.cells();
         let sets = self.known.changes(self.epochs.alloc, cells)?;
         Ok(self.group(number, false, sets, IterEnd::Closed))
     }
 
     /// Executes the next iteration again.
-    fn again(&mut self, cause: Cause) -> Result<Group, NoMemory>
-        requires unclean { (p : Tree) × (plan : PlanValue) × (input : List ℤ) × (first : MachineState) × Unclean p plan input first self.old cause }
+    fn again(&mut self) -> Result<Group, NoMemory>
+        requires unclean { (p : Tree) × (plan : PlanValue) × (input : List ℤ) × (first : MachineState) × Unclean p plan input first self.old }
         ensures made { IfOk result (λ group. (p : Tree) (plan : PlanValue) (input : List ℤ) (first : MachineState) →
-            Unclean p plan input first self.old cause → Makes p plan input first self.old.ledger.committed self.new group) }
+            Unclean p plan input first self.old → Makes p plan input first self.old.ledger.committed self.new group) }
     {
         let number = self.ledger.committed.count();
-        let end = execute_again(&mut self.ledger, cause, &mut Tally::new(Unwatched))?;
+        let end = execute_again(
+            self.epochs.alloc,
+            &mut self.ledger,
+            &mut Tally::new(Unwatched),
+        )?;
         let cells = self.ledger.committed.cells();
         let sets = self.known.changes(self.epochs.alloc, cells)?;
         Ok(self.group(number, true, sets, ended_so(end)))

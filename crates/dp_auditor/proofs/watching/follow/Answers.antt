@@ -2,7 +2,7 @@ use Rattle.std.proofs.Common.{◌≡◌, ◌<◌, ◌∙◌, ap, subst, List, �
 use Rattle.dp_meaning.specs.Watched.{WatchedStep}
 use Rattle.dp_meaning.specs.declared.sight.Sight.{Sight}
 use Rattle.dp_view.specs.Viewed.{after_event, event_told}
-use Rattle.dp_auditor.proofs.WatchLemmas.{follows_step, nothing_comes}
+use Rattle.dp_view.proofs.WatchLemmas.{follows_step, nothing_comes}
 use Rattle.dp_auditor.proofs.watching.follow.Goals as goal
 
 pub loop-out-preserved : goal.loop-out-preserved

@@ -1,7 +1,7 @@
 use Rattle.std.proofs.Common.{◌≡◌, ◌-◌, List}
 use Rattle.dp_tree.specs.Step.{Event}
 use Rattle.dp_view.specs.Viewed.{after_all}
-use Rattle.dp_auditor.specs.Heard.{Comes}
+use Rattle.dp_view.specs.Heard.{Comes}
 use Rattle.dp_auditor.proofs.watching.follow.Given as goal
 
 abbrev pub invariant-loop-out : goal.invariant-loop-out

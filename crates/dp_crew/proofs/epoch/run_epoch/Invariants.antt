@@ -1,5 +1,6 @@
 use Rattle.std.proofs.Common.{◌≡◌, ◌≤◌, ◌+◌}
 use Rattle.dp_meaning.specs.MachineState.{MachineState}
+use Rattle.dp_epoch.specs.Accounts.{TellsEnough}
 use Rattle.dp_epoch.specs.Applied.{HasRoom, left_of}
 use Rattle.dp_epoch.specs.InEpoch.{InEpoch}
 use Rattle.dp_epoch.specs.Prints.{to_come}
@@ -8,14 +9,16 @@ use Rattle.dp_crew.proofs.epoch.run_epoch.Given as goal
 
 abbrev pub invariant-verdicts : goal.invariant-verdicts
 invariant-verdicts g l = record {
-  epoch : (first : MachineState) → InEpoch l.fn.verdicts.key l.fn.verdicts.given first l.fn.ledger.committed l.fn.ledger.report →
-      InEpoch l.fn.verdicts.key l.verdicts.given first l.ledger.committed l.ledger.report;
+  epoch : (first : MachineState) → InEpoch l.fn.verdicts.key l.fn.verdicts.given first l.fn.ledger.committed l.fn.ledger.account →
+      InEpoch l.fn.verdicts.key l.verdicts.given first l.ledger.committed l.ledger.account;
   key : l.verdicts.key ≡ l.fn.verdicts.key;
   tally : l.tally + l.fn.ledger.committed.count ≡ l.fn.tally + l.ledger.committed.count;
   left : left_of l.ledger.committed ≤ left_of l.fn.ledger.committed;
   room : HasRoom l.tally l.ledger.committed;
-  report : l.ledger.report ≡ record l.fn.ledger.report { iterations = l.ledger.committed.count };
-  emits : (first : MachineState) → InEpoch l.fn.verdicts.key l.fn.verdicts.given first l.fn.ledger.committed l.fn.ledger.report →
+  report : l.ledger.account.report ≡ record l.fn.ledger.account.report { iterations = l.ledger.committed.count };
+  why : l.ledger.account.why ≡ l.fn.ledger.account.why;
+  stages : TellsEnough l.verdicts.tells_stages l.ledger.account;
+  emits : (first : MachineState) → InEpoch l.fn.verdicts.key l.fn.verdicts.given first l.fn.ledger.committed l.fn.ledger.account →
       Emits (to_come l.fn.verdicts.key.plan first l.fn.ledger.waiting l.fn.ledger.committed.count) (to_come l.fn.verdicts.key.plan first l.ledger.waiting l.ledger.committed.count)
       (g.K.Sink.written l.fn.sink) (g.K.Sink.written l.sink);
   faults : g.K.Sink.faults l.sink ≡ g.K.Sink.faults l.fn.sink;

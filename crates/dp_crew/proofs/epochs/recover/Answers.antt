@@ -17,6 +17,6 @@ returns-in-Closed-clause-streams g c plan first h =
 pub returns-in-Unclean-clause-ok : goal.returns-in-Unclean-clause-ok
 returns-in-Unclean-clause-ok g c =
     if_ok c.recover_unclean.result
-    (λ (r : Ledger × Option RegionEnd). (plan : Plan) (first : MachineState) → IsUnclean plan first c.args.ledger.committed c.args.ledger.report c.in-Unclean.cause → AfterRecovery plan first r.0.committed r.0.report r.1)
-    (λ (r : Ledger × Option RegionEnd). (plan : Plan) (first : MachineState) → EpochEnds plan first c.args.ledger.committed c.args.ledger.report c.args.end → AfterRecovery plan first r.0.committed r.0.report r.1)
-    (λ r told plan first h. told plan first (subst (λ (x : EpochEnd). EpochEnds plan first c.args.ledger.committed c.args.ledger.report x) c.in-Unclean.is h)) c.recover_unclean.ensures.ok
+    (λ (r : Ledger × Option RegionEnd). (plan : Plan) (first : MachineState) → IsUnclean plan first c.args.ledger.committed c.args.ledger.account → AfterRecovery plan first r.0.committed r.0.account r.1)
+    (λ (r : Ledger × Option RegionEnd). (plan : Plan) (first : MachineState) → EpochEnds plan first c.args.ledger.committed c.args.ledger.account c.args.end → AfterRecovery plan first r.0.committed r.0.account r.1)
+    (λ r told plan first h. told plan first (subst (λ (x : EpochEnd). EpochEnds plan first c.args.ledger.committed c.args.ledger.account x) c.in-Unclean.is h)) c.recover_unclean.ensures.ok

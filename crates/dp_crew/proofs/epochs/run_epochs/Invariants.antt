@@ -8,10 +8,11 @@ use Rattle.dp_crew.proofs.epochs.run_epochs.Given as goal
 
 abbrev pub invariant-epochs : goal.invariant-epochs
 invariant-epochs g l = record {
-  begins : (first : MachineState) → ToBegin l.fn.work.region.now.program l.fn.work.region.now.plan l.fn.work.input.now first l.fn.ledger.committed l.fn.ledger.report → ToBegin l.fn.work.region.now.program l.fn.work.region.now.plan l.fn.work.input.now first l.ledger.committed l.ledger.report;
-  tally : l.tally + l.ledger.report.recovered_count + l.fn.ledger.report.iterations ≡ l.fn.tally + l.ledger.report.iterations + l.fn.ledger.report.recovered_count;
+  begins : (first : MachineState) → ToBegin l.fn.work.region.now.program l.fn.work.region.now.plan l.fn.work.input.now first l.fn.ledger.committed l.fn.ledger.account → ToBegin l.fn.work.region.now.program l.fn.work.region.now.plan l.fn.work.input.now first l.ledger.committed l.ledger.account;
+  tally : l.tally + l.ledger.account.report.recovered_count + l.fn.ledger.account.report.iterations ≡ l.fn.tally + l.ledger.account.report.iterations + l.fn.ledger.account.report.recovered_count;
+  why : l.ledger.account.why ≡ l.fn.ledger.account.why;
   room : HasRoom l.tally l.ledger.committed;
-  emits : (first : MachineState) → ToBegin l.fn.work.region.now.program l.fn.work.region.now.plan l.fn.work.input.now first l.fn.ledger.committed l.fn.ledger.report →
+  emits : (first : MachineState) → ToBegin l.fn.work.region.now.program l.fn.work.region.now.plan l.fn.work.input.now first l.fn.ledger.committed l.fn.ledger.account →
       Emits (to_come l.fn.work.region.now.plan first l.fn.ledger.waiting l.fn.ledger.committed.count) (to_come l.fn.work.region.now.plan first l.ledger.waiting l.ledger.committed.count) (g.K.Sink.written l.fn.sink) (g.K.Sink.written l.sink);
   faults : g.K.Sink.faults l.sink ≡ g.K.Sink.faults l.fn.sink;
 }

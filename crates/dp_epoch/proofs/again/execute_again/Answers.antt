@@ -1,54 +1,63 @@
 -- The iteration is counted where it was begun.
-use Rattle.std.proofs.Common.{◌∙◌, sym, ap, refl, ℕ, ◌+◌, ◌<◌, ◌≤◌, [], ◌∷◌, ◌++◌, rules, arith}
+use Rattle.std.proofs.Common.{◌≡◌, ◌∙◌, sym, ap, subst, ◌<◌, ◌≤◌, List, ◌++◌, ℤ, rules, arith}
 use Rattle.dp_base.specs.declared.RegionReport.{RegionReport}
 use Rattle.dp_semantics.specs.Recovery.{is_recovered}
-use Rattle.dp_semantics.specs.Reported.{report_of}
 use Rattle.dp_commit.specs.CommittedState.{region_run}
-use Rattle.dp_epoch.proofs.Counting.{again_few}
-use Rattle.dp_epoch.proofs.Recovering.{CountedRecovered, recovered, recovered_left}
+use Rattle.dp_epoch.specs.declared.account.Account.{Account}
+use Rattle.dp_epoch.specs.declared.ledger.Ledger.{Ledger}
+use Rattle.dp_epoch.specs.Applied.{left_of}
+use Rattle.dp_epoch.specs.InEpoch.{AfterRecovery, left_by_recovery}
+use Rattle.dp_epoch.specs.Prints.{to_come}
+use Rattle.dp_epoch.specs.Remade.{Remade, iteration_end}
+use Rattle.dp_epoch.proofs.Counting.{again_few, told_count}
+use Rattle.dp_epoch.proofs.Recovering.{CountedRecovered, counts_begun, counts_unbegun, recovered, recovered_left}
 use Rattle.dp_epoch.proofs.Reexecuted.{recovered_ahead}
 use Rattle.dp_epoch.proofs.again.execute_again.Goals as goal
 
-pub count_recovered-requires-clause-again : goal.count_recovered-requires-clause-again
-count_recovered-requires-clause-again g c =
+pub count_again-requires-clause-again : goal.count_again-requires-clause-again
+count_again-requires-clause-again g c =
     let u = c.requires.unclean in
     let few = again_few (is_recovered u.1.program u.0 (region_run u.1)) 0 c.args.ledger.now.committed.count in
-    let size = ap (λ (x : RegionReport). x.recovered_count) u.2.progress.report_is in
+    let told = ap (λ (x : RegionReport). x.recovered_count) u.2.progress.report_is ∙ told_count c.args.ledger.now.account.why _ in
+    let size = ap (λ (x : Account). x.report.recovered_count) c.in_ok-end.ensures.account ∙ told in
     let low = c.count-number.ensures.steps u.2.progress.is_open.sound in
     let begun : c.steps.result < c.fuel.result = search rules in
     let steps = c.steps.ensures.value in
     let fits = c.fuel.type_inv in
     omega (arith, few, size, low, begun, steps, fits)
 
-pub returns-in_ok-count_recovered-clause-ok : goal.returns-in_ok-count_recovered-clause-ok
-returns-in_ok-count_recovered-clause-ok g c plan first u =
+pub returns-in_ok-count_again-clause-ok : goal.returns-in_ok-count_again-clause-ok
+returns-in_ok-count_again-clause-ok g c plan first u =
     let s = c.in_ok-end.ensures in
     let begun : c.steps.result < c.fuel.result = search rules in
     let steps = c.steps.ensures.value in
     let fuel = c.fuel.ensures in
-    let counted : CountedRecovered c.args.ledger.now.committed c.args.ledger.now.report c.count_recovered.new.report c.args.cause = record {
-      begun = λ h r n again f e w. c.in_ok-count_recovered.ensures.counted r n again f e (w ∙ ap f (sym c.count-number.ensures.value)) ∙ ap (λ (k : ℕ). report_of r (k + 1) (again ++ k ∷ []) f) c.count-number.ensures.value;
-      unbegun = λ h. absurd (omega (arith, h, begun, steps, fuel));
-    } in
-    recovered plan first c.args.ledger.now.committed c.args.ledger.now.report u.progress c.count_recovered.new.report c.args.cause u.again u.cause_is counted c.execute.new.committed s.0 c.in_ok-end.end s.1
+    let counted : CountedRecovered c.args.ledger.now.committed c.args.ledger.now.account c.count_again.new.self.account c.execute.new.ledger.account.views c.in_ok-end.end =
+    counts_begun _ _ _ _ _ _ c.count-number.ensures.value s.account c.in_ok-count_again.ensures.ok (omega (arith, begun, steps, fuel)) in
+    subst (λ (x : Ledger). AfterRecovery plan first x.committed c.count_again.new.self.account c.in_ok-end.end) (sym c.in_ok-count_again.ensures.rest)
+    (recovered plan first c.args.ledger.now.committed c.args.ledger.now.account u.progress u.again c.count_again.new.self.account c.execute.new.ledger.account.views c.execute.new.ledger.committed s.ok.0 c.in_ok-end.end s.ok.1 s.heard counted)
 
-pub returns-in_ok-count_recovered-clause-ahead : goal.returns-in_ok-count_recovered-clause-ahead
-returns-in_ok-count_recovered-clause-ahead g c plan first u =
-    let s = c.in_ok-end.ensures in
-    recovered_ahead plan first c.args.ledger.now.committed c.args.ledger.now.report u.progress c.args.ledger.now.waiting s.0 c.execute.new.committed c.in_ok-end.end s.1 c.execute.new.waiting s.2
+pub returns-in_ok-count_again-clause-prints : goal.returns-in_ok-count_again-clause-prints
+returns-in_ok-count_again-clause-prints g c =
+    let s = c.in_ok-end.ensures.ok in
+    subst (λ (x : Ledger). (printed : List ℤ) × Remade c.args.ledger.now.committed x.committed printed (iteration_end c.in_ok-end.end) × (x.waiting ≡ c.args.ledger.now.waiting ++ printed)) (sym c.in_ok-count_again.ensures.rest)
+    (s.0, s.1, s.2)
 
-pub returns-in_ok-count_recovered-clause-left : goal.returns-in_ok-count_recovered-clause-left
-returns-in_ok-count_recovered-clause-left g c none =
+pub returns-in_ok-count_again-clause-ahead : goal.returns-in_ok-count_again-clause-ahead
+returns-in_ok-count_again-clause-ahead g c plan first u =
+    let s = c.in_ok-end.ensures.ok in
+    subst (λ (x : Ledger). to_come plan first c.args.ledger.now.waiting c.args.ledger.now.committed.count ≡ left_by_recovery plan first x.waiting x.committed.count c.in_ok-end.end) (sym c.in_ok-count_again.ensures.rest)
+    (recovered_ahead plan first c.args.ledger.now.committed c.args.ledger.now.account u.progress c.args.ledger.now.waiting s.0 c.execute.new.ledger.committed c.in_ok-end.end s.1 c.execute.new.ledger.waiting s.2)
+
+pub returns-in_ok-count_again-clause-left : goal.returns-in_ok-count_again-clause-left
+returns-in_ok-count_again-clause-left g c none =
     let u = c.requires.unclean in
-    let s = c.in_ok-end.ensures in
-    let begun : c.steps.result < c.fuel.result = search rules in
-    let steps = c.steps.ensures.value in
-    let fuel = c.fuel.ensures in
-    let counted : CountedRecovered c.args.ledger.now.committed c.args.ledger.now.report c.count_recovered.new.report c.args.cause = record {
-      begun = λ h r n again f e w. c.in_ok-count_recovered.ensures.counted r n again f e (w ∙ ap f (sym c.count-number.ensures.value)) ∙ ap (λ (k : ℕ). report_of r (k + 1) (again ++ k ∷ []) f) c.count-number.ensures.value;
-      unbegun = λ h. absurd (omega (arith, h, begun, steps, fuel));
-    } in
-    recovered_left u.0 u.1 c.args.ledger.now.committed c.args.ledger.now.report u.2.progress c.count_recovered.new.report c.args.cause u.2.again u.2.cause_is counted c.execute.new.committed s.0 c.in_ok-end.end s.1 none
+    let s = c.in_ok-end.ensures.ok in
+    subst (λ (x : Ledger). left_of x.committed < left_of c.args.ledger.now.committed) (sym c.in_ok-count_again.ensures.rest)
+    (recovered_left u.0 u.1 c.args.ledger.now.committed c.args.ledger.now.account u.2.progress c.execute.new.ledger.committed s.0 c.in_ok-end.end s.1 none)
+
+pub returns-in_ok-count_again-clause-why : goal.returns-in_ok-count_again-clause-why
+returns-in_ok-count_again-clause-why g c = c.in_ok-count_again.ensures.ok.why ∙ ap (λ (x : Account). x.why) c.in_ok-end.ensures.account
 
 pub returns-else-begun-clause-ok : goal.returns-else-begun-clause-ok
 returns-else-begun-clause-ok g c plan first u =
@@ -56,26 +65,20 @@ returns-else-begun-clause-ok g c plan first u =
     let unbegun : c.fuel.result ≤ c.steps.result = search rules in
     let steps = c.steps.ensures.value in
     let fuel = c.fuel.ensures in
-    let counted : CountedRecovered c.args.ledger.now.committed c.args.ledger.now.report c.args.ledger.now.report c.args.cause = record {
-      begun = λ h r n again f e w. absurd (omega (arith, h, unbegun, steps, fuel));
-      unbegun = λ h. refl;
-    } in
-    recovered plan first c.args.ledger.now.committed c.args.ledger.now.report u.progress c.args.ledger.now.report c.args.cause u.again u.cause_is counted c.execute.new.committed s.0 c.in_ok-end.end s.1
+    let counted : CountedRecovered c.args.ledger.now.committed c.args.ledger.now.account c.execute.new.ledger.account c.execute.new.ledger.account.views c.in_ok-end.end =
+    counts_unbegun _ _ _ _ s.account (omega (arith, unbegun, steps, fuel)) in
+    recovered plan first c.args.ledger.now.committed c.args.ledger.now.account u.progress u.again c.execute.new.ledger.account c.execute.new.ledger.account.views c.execute.new.ledger.committed s.ok.0 c.in_ok-end.end s.ok.1 s.heard counted
 
 pub returns-else-begun-clause-ahead : goal.returns-else-begun-clause-ahead
 returns-else-begun-clause-ahead g c plan first u =
-    let s = c.in_ok-end.ensures in
-    recovered_ahead plan first c.args.ledger.now.committed c.args.ledger.now.report u.progress c.args.ledger.now.waiting s.0 c.execute.new.committed c.in_ok-end.end s.1 c.execute.new.waiting s.2
+    let s = c.in_ok-end.ensures.ok in
+    recovered_ahead plan first c.args.ledger.now.committed c.args.ledger.now.account u.progress c.args.ledger.now.waiting s.0 c.execute.new.ledger.committed c.in_ok-end.end s.1 c.execute.new.ledger.waiting s.2
 
 pub returns-else-begun-clause-left : goal.returns-else-begun-clause-left
 returns-else-begun-clause-left g c none =
     let u = c.requires.unclean in
-    let s = c.in_ok-end.ensures in
-    let unbegun : c.fuel.result ≤ c.steps.result = search rules in
-    let steps = c.steps.ensures.value in
-    let fuel = c.fuel.ensures in
-    let counted : CountedRecovered c.args.ledger.now.committed c.args.ledger.now.report c.args.ledger.now.report c.args.cause = record {
-      begun = λ h r n again f e w. absurd (omega (arith, h, unbegun, steps, fuel));
-      unbegun = λ h. refl;
-    } in
-    recovered_left u.0 u.1 c.args.ledger.now.committed c.args.ledger.now.report u.2.progress c.args.ledger.now.report c.args.cause u.2.again u.2.cause_is counted c.execute.new.committed s.0 c.in_ok-end.end s.1 none
+    let s = c.in_ok-end.ensures.ok in
+    recovered_left u.0 u.1 c.args.ledger.now.committed c.args.ledger.now.account u.2.progress c.execute.new.ledger.committed s.0 c.in_ok-end.end s.1 none
+
+pub returns-else-begun-clause-why : goal.returns-else-begun-clause-why
+returns-else-begun-clause-why g c = ap (λ (x : Account). x.why) c.in_ok-end.ensures.account

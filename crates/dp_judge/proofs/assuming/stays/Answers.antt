@@ -2,7 +2,7 @@ use Rattle.std.proofs.Common.{rules, ◌≡◌, ◌∙◌, ap, sym, ℤ, to_z, o
 use Rattle.dp_tree.specs.Step.{Tried}
 use Rattle.dp_semantics.specs.Clean.{stays_late}
 use Rattle.dp_judge.proofs.assuming.stays.Goals as goal
-use Rattle.dp_cause.proofs.LookLemmas.{assumed_try}
+use Rattle.dp_judge.proofs.Assumed.{assumed_try}
 
 pub returns : goal.returns
 returns c =

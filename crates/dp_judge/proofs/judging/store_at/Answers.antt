@@ -1,4 +1,4 @@
-use Rattle.std.proofs.Common.{refl, ap, sym, ◌∙◌, ℕ, rules, ℤ, to_z, of_z, w64, ◌≡◌, subst, [], ◌∷◌, ◌++◌, pos, List, slice_set, get_or, inl, inr, arith}
+use Rattle.std.proofs.Common.{refl, ap, sym, ◌∙◌, ℕ, rules, ℤ, to_z, of_z, w64, ◌≡◌, subst, [], ◌∷◌, ◌++◌, slice_set, inl, inr, arith}
 use Rattle.dp_base.specs.declared.StoreOf.{StoreOf}
 use Rattle.dp_tree.specs.Step.{Decided}
 use Rattle.dp_plan.specs.Access.{first_site}
@@ -6,7 +6,6 @@ use Rattle.dp_semantics.specs.StageRun.{closes_at}
 use Rattle.dp_finding.specs.FlatJudge.{On}
 use Rattle.dp_finding.specs.Held.{state_at}
 use Rattle.dp_judge.specs.Judging.{GoesOn}
-use Rattle.dp_finding.proofs.Undoing.{store_undone}
 use Rattle.dp_judge.proofs.PaceLemmas.{store_goes, store_stops}
 use Rattle.dp_judge.proofs.judging.store_at.Goals.{then-word-first-via-then-word-first, then-word-first-via-else-word-first+then-word-first-2}
 use Rattle.dp_judge.proofs.judging.store_at.Goals as goal
@@ -29,26 +28,16 @@ returns-in-Ok-clause-does c =
     subst (λ (z : ℤ). c.closes.result ≡ closes_at (first_site c.args.court.program.now c.args.court.plan.now) c.args.site.0 (Decided z)) same
     (c.closes.ensures ∙ ap (λ (n : ℕ). closes_at n c.args.site.0 (Decided (to_z w64 (of_z w64 word.value)))) c.requires.first) in
     store_goes c.args.court _ c.args.pace.now c.args.walk.now c.args.site c.args.at c.args.next word refl c.requires.at c.requires.there c.requires.found c.word_at-word.ensures
-    c.closes.result closes c.args.first.0 c.args.count _ c.set.new.self c.note_store.new.stores c.note_store.new.replaced (omega (arith, c.if-word-first.false)) (omega (arith, c.if-word-first.false, c.if-word-first-2.false))
+    c.closes.result closes c.args.first.0 c.args.count c.set.new.self c.note_store.new.stores c.note_store.new.stages (omega (arith, c.if-word-first.false)) (omega (arith, c.if-word-first.false, c.if-word-first-2.false))
     (subst (λ (z : ℤ). c.set.new.self ≡ slice_set c.args.walk.now.cells word.index z) same c.set.ensures)
     (c.in-Ok.ensures.stores ∙ ap (λ (s : StoreOf). c.args.walk.now.stores ++ s ∷ []) c.store_of-store.ensures)
-    c.in-Ok.ensures.replaced c.requires.there
-    ∙ sym (ap (λ pace. On (state_at pace (record c.args.walk.now { cells = c.set.new.self; stores = c.note_store.new.stores; replaced = c.note_store.new.replaced }))) c.pass.ensures)
+    c.in-Ok.ensures.stages
+    ∙ sym (ap (λ pace. On (state_at pace (record c.args.walk.now { cells = c.set.new.self; stores = c.note_store.new.stores; stages = c.note_store.new.stages }))) c.pass.ensures)
 
 pub returns-in-Err-clause-does : goal.returns-in-Err-clause-does
 returns-in-Err-clause-does c =
     let word = c.word_at-word.result in
     subst GoesOn
     (sym (store_goes c.args.court _ c.args.pace.now c.args.walk.now c.args.site c.args.at c.args.next word refl c.requires.at c.requires.there c.requires.found c.word_at-word.ensures
-    (closes_at (first_site c.args.court.program.now c.args.court.plan.now) c.args.site.0 (Decided word.value)) refl c.args.first.0 c.args.count
-    (record { cell = record { 0 = word.index }; stage = c.args.pace.now.stage; value = word.value }) _ _ _
-    (omega (arith, c.if-word-first.false)) (omega (arith, c.if-word-first.false, c.if-word-first-2.false)) refl refl refl c.requires.there)) tt
-
-pub returns-in-Ok-clause-before : goal.returns-in-Ok-clause-before
-returns-in-Ok-clause-before c =
-    let word = c.word_at-word.result in
-    let same : to_z w64 (of_z w64 word.value) ≡ word.value = search rules in
-    let was : to_z w64 (of_z w64 c.value_at.result) ≡ c.value_at.result = search rules in
-    store_undone c.args.walk.now.replaced c.note_store.new.replaced _ c.args.walk.now.cells c.set.new.self word.value c.in-Ok.ensures.replaced
-    (was ∙ c.value_at.ensures ∙ ap (λ (cells : List ℤ). get_or cells word.index (pos 0)) c.as_slice.ensures)
-    (subst (λ (z : ℤ). c.set.new.self ≡ slice_set c.args.walk.now.cells word.index z) same c.set.ensures)
+    (closes_at (first_site c.args.court.program.now c.args.court.plan.now) c.args.site.0 (Decided word.value)) refl c.args.first.0 c.args.count _ _ _
+    (omega (arith, c.if-word-first.false)) (omega (arith, c.if-word-first.false, c.if-word-first-2.false)) refl refl refl)) tt

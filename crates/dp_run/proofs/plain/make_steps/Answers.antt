@@ -1,5 +1,5 @@
 -- What native code made, or the machine behind it.
-use Rattle.std.proofs.Common.{◌≡◌, ◌≢◌, ◌<◌, ◌≤◌, arith, rules}
+use Rattle.std.proofs.Common.{◌≡◌, ◌≢◌, arith, rules}
 use Rattle.dp_meaning.specs.declared.ends.Part.TheVariants.{Plain}
 use Rattle.dp_meaning.specs.MachineState.{next_part}
 use Rattle.dp_run.proofs.NativeLemmas.{over_call, going_call, machine_call}

@@ -11,10 +11,10 @@ use Rattle.dp_run.proofs.program.run_program.Goals as goal
 use Rattle.dp_room.proofs.ResultLemmas.{on_err}
 
 pub run_parts-requires-clause-ahead : goal.run_parts-requires-clause-ahead
-run_parts-requires-clause-ahead g c κs within = (source_run c.args.prepared.now.program c.args.input.now c.args.options.fuel, 0, ahead_there c.args.prepared.now.program c.args.prepared.now.plans c.args.input.now c.args.options.fuel c.args.options.why c.program-program.ensures.given c.program-program.result.now c.program-program.ensures.program c.in_ok-machine.machine c.in_ok-machine.ensures c.regions.result.now c.regions.ensures)
+run_parts-requires-clause-ahead g c κs within = (source_run c.args.prepared.now.program c.args.input.now c.args.options.fuel, 0, ahead_there c.args.prepared.now.program c.args.prepared.now.plans c.args.input.now c.args.options.fuel c.args.options.why c.program-program.ensures.given c.program-program.result.now c.program-program.ensures.program c.in_ok-machine.machine c.in_ok-machine.ensures c.regions-regions.result.now c.regions-regions.ensures)
 
 pub run_parts-requires-clause-regions : goal.run_parts-requires-clause-regions
-run_parts-requires-clause-regions g c κs within = regions_there c.args.prepared.now.program c.args.prepared.now.plans c.args.input.now c.args.options.fuel c.args.options.why c.program-program.ensures.given c.program-program.result.now c.program-program.ensures.program c.in_ok-machine.machine c.in_ok-machine.ensures c.regions.result.now c.regions.ensures
+run_parts-requires-clause-regions g c κs within = regions_there c.args.prepared.now.program c.args.prepared.now.plans c.args.input.now c.args.options.fuel c.args.options.why c.program-program.ensures.given c.program-program.result.now c.program-program.ensures.program c.in_ok-machine.machine c.in_ok-machine.ensures c.regions-regions.result.now c.regions-regions.ensures
 
 pub returns-in_err-machine-clause-err : goal.returns-in_err-machine-clause-err
 returns-in_err-machine-clause-err g c = on_err c.from_residual.result _ (front_nothing _ _ _ refl)
@@ -29,21 +29,21 @@ pub write_end-requires-clause-listed : goal.write_end-requires-clause-listed
 write_end-requires-clause-listed g c =
     let p = c.args.prepared.now.program in let plans = c.args.prepared.now.plans in let input = c.args.input.now in let fuel = c.args.options.fuel in let why = c.args.options.why in let given = c.program-program.ensures.given in
     let last = c.in_ok-machine-2.machine in let end = c.end_of-end.result in let reports = c.run_parts.new.reports in let before = c.args.tally.now in let now = c.run_parts.new.tally in
-    let done = finished_there p plans input fuel why given c.program-program.result.now c.program-program.ensures.program c.in_ok-machine.machine c.in_ok-machine.ensures c.regions.result.now c.regions.ensures last c.in_ok-machine-2.end end c.new-told.result reports before now c.new-told.ensures c.end_of-end.ensures c.in_ok-machine-2.ensures.ok in
+    let done = finished_there p plans input fuel why given c.program-program.result.now c.program-program.ensures.program c.in_ok-machine.machine c.in_ok-machine.ensures c.regions-regions.result.now c.regions-regions.ensures last c.in_ok-machine-2.end end c.new-told.result reports before now c.new-told.ensures c.end_of-end.ensures c.in_ok-machine-2.ensures.ok in
     all_listed p plans input fuel why given last end reports before now done
 
 pub write_end-requires-clause-explained : goal.write_end-requires-clause-explained
 write_end-requires-clause-explained g c why_asked =
     let p = c.args.prepared.now.program in let plans = c.args.prepared.now.plans in let input = c.args.input.now in let fuel = c.args.options.fuel in let why = c.args.options.why in let given = c.program-program.ensures.given in
     let last = c.in_ok-machine-2.machine in let end = c.end_of-end.result in let reports = c.run_parts.new.reports in let before = c.args.tally.now in let now = c.run_parts.new.tally in
-    let done = finished_there p plans input fuel why given c.program-program.result.now c.program-program.ensures.program c.in_ok-machine.machine c.in_ok-machine.ensures c.regions.result.now c.regions.ensures last c.in_ok-machine-2.end end c.new-told.result reports before now c.new-told.ensures c.end_of-end.ensures c.in_ok-machine-2.ensures.ok in
-    all_explained p plans input fuel why given last end reports before now done
+    let done = finished_there p plans input fuel why given c.program-program.result.now c.program-program.ensures.program c.in_ok-machine.machine c.in_ok-machine.ensures c.regions-regions.result.now c.regions-regions.ensures last c.in_ok-machine-2.end end c.new-told.result reports before now c.new-told.ensures c.end_of-end.ensures c.in_ok-machine-2.ensures.ok in
+    all_explained p plans input fuel why given last end reports before now done why_asked
 
 pub returns-in_err-write_end-clause-err : goal.returns-in_err-write_end-clause-err
 returns-in_err-write_end-clause-err g c =
     let p = c.args.prepared.now.program in let plans = c.args.prepared.now.plans in let input = c.args.input.now in let fuel = c.args.options.fuel in let why = c.args.options.why in let given = c.program-program.ensures.given in
     let last = c.in_ok-machine-2.machine in let end = c.end_of-end.result in let reports = c.run_parts.new.reports in let before = c.args.tally.now in let now = c.run_parts.new.tally in
-    let done = finished_there p plans input fuel why given c.program-program.result.now c.program-program.ensures.program c.in_ok-machine.machine c.in_ok-machine.ensures c.regions.result.now c.regions.ensures last c.in_ok-machine-2.end end c.new-told.result reports before now c.new-told.ensures c.end_of-end.ensures c.in_ok-machine-2.ensures.ok in
+    let done = finished_there p plans input fuel why given c.program-program.result.now c.program-program.ensures.program c.in_ok-machine.machine c.in_ok-machine.ensures c.regions-regions.result.now c.regions-regions.ensures last c.in_ok-machine-2.end end c.new-told.result reports before now c.new-told.ensures c.end_of-end.ensures c.in_ok-machine-2.ensures.ok in
     let start = start_there p plans input fuel why given c.program-program.result.now c.program-program.ensures.program c.in_ok-machine.machine c.in_ok-machine.ensures in
     let cells = c.cells-cells.result.now in
     on_err c.from_residual-in_err-write_end.result _
@@ -54,7 +54,7 @@ pub returns-clause-ok : goal.returns-clause-ok
 returns-clause-ok g c =
     let p = c.args.prepared.now.program in let plans = c.args.prepared.now.plans in let input = c.args.input.now in let fuel = c.args.options.fuel in let why = c.args.options.why in let given = c.program-program.ensures.given in
     let last = c.in_ok-machine-2.machine in let end = c.end_of-end.result in let reports = c.run_parts.new.reports in let before = c.args.tally.now in let now = c.run_parts.new.tally in
-    let done = finished_there p plans input fuel why given c.program-program.result.now c.program-program.ensures.program c.in_ok-machine.machine c.in_ok-machine.ensures c.regions.result.now c.regions.ensures last c.in_ok-machine-2.end end c.new-told.result reports before now c.new-told.ensures c.end_of-end.ensures c.in_ok-machine-2.ensures.ok in
+    let done = finished_there p plans input fuel why given c.program-program.result.now c.program-program.ensures.program c.in_ok-machine.machine c.in_ok-machine.ensures c.regions-regions.result.now c.regions-regions.ensures last c.in_ok-machine-2.end end c.new-told.result reports before now c.new-told.ensures c.end_of-end.ensures c.in_ok-machine-2.ensures.ok in
     let start = start_there p plans input fuel why given c.program-program.result.now c.program-program.ensures.program c.in_ok-machine.machine c.in_ok-machine.ensures in
     let cells = c.cells-cells.result.now in (
       end_is p plans input fuel why given last end reports before now done,
@@ -66,5 +66,5 @@ pub returns-clause-tally : goal.returns-clause-tally
 returns-clause-tally g c =
     let p = c.args.prepared.now.program in let plans = c.args.prepared.now.plans in let input = c.args.input.now in let fuel = c.args.options.fuel in let why = c.args.options.why in let given = c.program-program.ensures.given in
     let last = c.in_ok-machine-2.machine in let end = c.end_of-end.result in let reports = c.run_parts.new.reports in let before = c.args.tally.now in let now = c.run_parts.new.tally in
-    let done = finished_there p plans input fuel why given c.program-program.result.now c.program-program.ensures.program c.in_ok-machine.machine c.in_ok-machine.ensures c.regions.result.now c.regions.ensures last c.in_ok-machine-2.end end c.new-told.result reports before now c.new-told.ensures c.end_of-end.ensures c.in_ok-machine-2.ensures.ok in
+    let done = finished_there p plans input fuel why given c.program-program.result.now c.program-program.ensures.program c.in_ok-machine.machine c.in_ok-machine.ensures c.regions-regions.result.now c.regions-regions.ensures last c.in_ok-machine-2.end end c.new-told.result reports before now c.new-told.ensures c.end_of-end.ensures c.in_ok-machine-2.ensures.ok in
     tally_all p plans input fuel why given last end reports before now done

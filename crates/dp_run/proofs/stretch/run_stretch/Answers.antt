@@ -46,12 +46,12 @@ pub returns-clause-report : goal.returns-clause-report
 returns-clause-report g c =
     on_ok c.finish_stretch.result _ (λ run n number between.
     subst (λ (x : RegionReport). c.push.new.self ≡ c.args.reports.now ++ x ∷ [])
-    (report_of_run c.args.region.now.program c.args.region.now.plan c.args.input.now c.args.machine.fuel run n c.args.machine c.number.ensures.planned number between c.run_region.new.report c.in_ok-next.ensures.report) c.in_ok-push.ensures.ok)
+    (report_of_run c.args.region.now.program c.args.region.now.plan c.args.input.now c.args.machine.fuel run n c.args.machine c.number.ensures.planned number between c.args.why c.run_region.new.report c.in_ok-next.ensures.report) c.in_ok-push.ensures.ok)
 
 pub returns-clause-tally : goal.returns-clause-tally
 returns-clause-tally g c =
     on_ok c.finish_stretch.result _ (λ run n number between.
-    c.finish_stretch.ensures.tally ∙ tally_whole c.args.region.now.program c.args.region.now.plan c.args.input.now c.args.machine.fuel run n c.args.machine c.number.ensures.planned number between c.run_region.new.report _ _ c.in_ok-next.ensures.report c.in_ok-next.ensures.tally)
+    c.finish_stretch.ensures.tally ∙ tally_whole c.args.region.now.program c.args.region.now.plan c.args.input.now c.args.machine.fuel run n c.args.machine c.number.ensures.planned number between c.args.why c.run_region.new.report _ _ c.in_ok-next.ensures.report c.in_ok-next.ensures.tally)
 
 pub returns-in_err-next-clause-before : goal.returns-in_err-next-clause-before
 returns-in_err-next-clause-before g c =

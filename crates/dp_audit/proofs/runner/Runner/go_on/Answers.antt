@@ -14,14 +14,14 @@ pub changes_among-requires-clause-size : goal.changes_among-requires-clause-size
 changes_among-requires-clause-size c =
     let j = c.requires.judged in
     let done = c.in_ok-commit.ensures in
-    judged_size j.0 j.1 j.2 j.3 c.args.self.now c.args.verdicts c.args.clean j.4 c.commit.new.ledger.committed done.ok c.commit.new.ledger.report done.report false c.requires.going
+    judged_size j.0 j.1 j.2 j.3 c.args.self.now c.args.verdicts c.args.clean j.4 c.commit.new.self.committed done.ok c.commit.new.self.account done.account false c.requires.going
     ∙ ap (λ (xs : List ℤ). length xs) (sym c.cells-cells.ensures)
 
 pub changes_among-requires-clause-among : goal.changes_among-requires-clause-among
 changes_among-requires-clause-among c cell t =
     let j = c.requires.judged in
     let done = c.in_ok-commit.ensures in
-    judged_among j.0 j.1 j.2 j.3 c.args.self.now c.args.verdicts c.args.clean j.4 c.commit.new.ledger.committed done.ok c.commit.new.ledger.report done.report c.requires.going c.in_ok-stored.stored
+    judged_among j.0 j.1 j.2 j.3 c.args.self.now c.args.verdicts c.args.clean j.4 c.commit.new.self.committed done.ok c.commit.new.self.account done.account c.requires.going c.in_ok-stored.stored
     (c.in_ok-stored.ensures ∙ ap (map cell_of) c.stores.ensures) cell
     (subst (λ (cells : List ℤ). changed_but c.args.self.now.known.locals c.args.self.now.known.cells cells cell ≡ true) c.cells-cells.ensures t)
 
@@ -32,13 +32,13 @@ returns c = record {
       let done = c.in_ok-commit.ensures in
       let next : Runner = record {
         epochs = old.epochs;
-        ledger = record { committed = c.commit.new.ledger.committed; report = c.commit.new.ledger.report; waiting = [] };
+        ledger = record { committed = c.commit.new.self.committed; account = c.commit.new.self.account; waiting = [] };
         known = c.changes_among.new.self;
         verdicts = Some c.args.verdicts;
       } in
       subst (λ (x : Runner). Makes p plan input first old.ledger.committed x c.group.result) (sym c.group.ensures.kept)
       (subst (λ (x : Group). Makes p plan input first old.ledger.committed next x) (sym c.group.ensures.group)
-      (judged_next p plan input first old c.args.verdicts c.args.clean j c.commit.new.ledger.committed done.ok c.commit.new.ledger.report done.report c.commit.new.ledger.waiting done.waiting c.changes_among.new.self
+      (judged_next p plan input first old c.args.verdicts c.args.clean j c.commit.new.self.committed done.ok c.commit.new.self.account done.account c.commit.new.self.waiting done.waiting c.changes_among.new.self
       c.count-number.result c.count-number.ensures.value c.in_ok-sets.sets (c.in_ok-sets.ensures.sets ∙ ap (changes_but old.known.locals old.known.cells) c.cells-cells.ensures) c.requires.going
       c.in_ok-sets.ensures.locals (subst (IsCopy c.changes_among.new.self) c.cells-cells.ensures c.in_ok-sets.ensures.copy)));
 }

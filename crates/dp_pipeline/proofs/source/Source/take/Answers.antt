@@ -1,5 +1,5 @@
 use Rattle.std.proofs.Common.{◌+◌, ℕ, IfOk, OnErr, sym, subst}
-use Rattle.dp_semantics.specs.EpochKey.{EpochKey}
+use Rattle.dp_relay.specs.UnitsKey.{UnitsKey}
 use Rattle.dp_pipeline.specs.declared.carried.Carried.{Carried}
 use Rattle.dp_pipeline.specs.declared.source.Source.{Source}
 use Rattle.dp_pipeline.specs.Carried.{IsCarried}
@@ -8,9 +8,9 @@ use Rattle.dp_pipeline.proofs.source.Source.take.Goals as goal
 
 pub returns-in-Start-clause-took : goal.returns-in-Start-clause-took
 returns-in-Start-clause-took g c =
-    subst (λ (x : Source). IfOk c.take.result (λ (item : Carried). (key : EpochKey) (s n : ℕ) → Gives x key s n → IsCarried key s n item × Starts c.take.new.self key s (n + 1)))
+    subst (λ (x : Source). IfOk c.take.result (λ (item : Carried). (key : UnitsKey) (s n : ℕ) → Gives x key s n → IsCarried key s n item × Starts c.take.new.self key s (n + 1)))
     (sym c.in-Start.is) c.take.ensures.took
 
 pub returns-in-Start-clause-idle : goal.returns-in-Start-clause-idle
 returns-in-Start-clause-idle g c =
-    subst (λ (x : Source). OnErr c.take.result ((key : EpochKey) (s n : ℕ) → Gives x key s n → Starts c.take.new.self key s n)) (sym c.in-Start.is) c.take.ensures.idle
+    subst (λ (x : Source). OnErr c.take.result ((key : UnitsKey) (s n : ℕ) → Gives x key s n → Starts c.take.new.self key s n)) (sym c.in-Start.is) c.take.ensures.idle

@@ -13,9 +13,9 @@ returns-in-Some-clause-took g c = λ key s n at.
       record {
         sent = record {
           iteration = c.in-Some.ensures.number ∙ at.next;
-          packet = subst (λ (t : ℕ). OrWanting (passed (epoch_of key) t n).packet (sent_packet p.status p)) (sym at.stage) (goes_by p.status p _ c.in-Some.ensures.said);
+          packet = subst (λ (t : ℕ). OrWanting (passed (epoch_of key.epoch) t n).packet (sent_packet p.status p)) (sym at.stage) (goes_by p.status p _ c.in-Some.ensures.said);
         };
-        within = subst (λ (i : ℕ). i ≤ key.fuel) (sym c.in-Some.ensures.number) (subst (λ (f : ℕ). c.args.self.now.next ≤ f) at.fuel c.in-Some.ensures.within);
+        within = subst (λ (i : ℕ). i ≤ key.epoch.fuel) (sym c.in-Some.ensures.number) (subst (λ (f : ℕ). c.args.self.now.next ≤ f) at.fuel c.in-Some.ensures.within);
       },
       record { next = omega (arith, next); fuel = at.fuel; stage = at.stage },
     )

@@ -4,7 +4,7 @@ use Rattle.dp_pipeline.proofs.tickets.TicketsEndsCarriedCarried.take.Goals as go
 pub take-requires-clause-taking : goal.take-requires-clause-taking
 take-requires-clause-taking g c κs within =
     let may = c.draw.ensures.ready c.requires.0 c.requires.1 c.requires.2 c.requires.3 in
-    (with_ticket c.draw.new.self.has_ticket c.draw.new.self.seat.view c.requires.0.fuel c.draw.ensures.ticket may.free).0
+    (with_ticket c.draw.new.self.has_ticket c.draw.new.self.seat.view c.requires.0.epoch.fuel c.draw.ensures.ticket may.free).0
 
 pub returns-in-Ok-clause-took : goal.returns-in-Ok-clause-took
 returns-in-Ok-clause-took g c =
