@@ -31,7 +31,7 @@ LATER = [
         ("dp_load/specs/Last", "LastOf"), ("dp_load/specs/Lists", "Inputs"), ("dp_load/specs/Lists", "IsNextListed"),
         ("dp_profile/specs/Observed", "observed"), ("dp_plan_text/specs/WrittenText", "plans_text"),
         ("dp_profile_text/specs/WrittenText", "profile_text"), ("dp_report/specs/SiteText", "site_bytes"),
-        ("dp_tree_text/specs/TreeText", "tree_bytes"), ("dp_explain/specs/Explanation", "explanation"), ("dp_refusal/specs/Refusal", "refusal_line"),
+        ("dp_tree_text/specs/TreeText", "tree_bytes"), ("dp_explain/specs/Explanation", "IsExplanation"), ("dp_refusal/specs/Refusal", "refusal_line"),
     ]),
 ]
 

@@ -6,6 +6,7 @@ from docs/LANGUAGE.md, docs/MEANING.md and docs/FORMATS.md alone, byte for byte.
 
 Shows each difference; ends with 1 where there is one.
 """
+import itertools
 import os
 import random
 import sys
@@ -13,6 +14,7 @@ import tempfile
 from pathlib import Path
 
 sys.dont_write_bytecode = True
+from least_plans import Profile
 from model_plans import Accesses, LeastPlan, read_plans
 from random_runs import RandomRun
 from small_c import Program, Variable
@@ -118,15 +120,58 @@ def tree(program):
     yield "end"
 
 
-def reasons(program, plans):
+class Reasons:
+    """What `explain` writes of one region, by the model of least plans."""
+
+    def __init__(self, program, region, plan, profile, rate):
+        self.program, self.region, self.plan, self.profile = program, region, plan, profile
+        self.accesses = Accesses(program, region)
+        self.by_text, self.minded = LeastPlan(self.accesses), LeastPlan(self.accesses, profile, rate)
+
+    def variable(self, site):
+        stored = self.accesses.sites[site].stores
+        return "%d %s" % (self.program.number(stored), stored.name)
+
+    def edges(self, model):
+        """The edges in order, each with the words that tell it."""
+        for start, to, kind in sorted(model.edges, key=lambda it: (it[0], it[1], KINDS.index(it[2]))):
+            yield start, to, "%d %d %s%s" % (start, to, kind, "" if kind == "control" else " " + self.variable(start))
+
+    def compared(self):
+        for to, start in itertools.product(self.accesses.numbers, self.accesses.numbers):
+            loads = [it for it in self.accesses.sites[to].site.loads if it[0] is self.accesses.sites[start].stores]
+            if any(self.accesses.needs_check(self.plan, to, *load, start) for load in loads):
+                yield "compared %d %d %s" % (to, start, self.variable(start))
+
+    def forward(self):
+        stage = self.plan.stage
+        for behind in range(1, len(self.plan.replicated)):
+            for start, to, words in self.edges(self.minded):
+                if stage[start] <= behind < stage[to]:
+                    yield "forward %d %s" % (behind, words)
+
+    def shown(self):
+        if self.profile:
+            yield from ("runs %d %d %d" % (number, *self.profile.runs[number]) for number in self.accesses.numbers)
+            for (start, to, kind), count in sorted(self.profile.flows.items(), key=lambda it: (it[0][0], it[0][1], it[0][2] == "carried")):
+                if start in self.accesses.sites:
+                    yield "flow %d %d %s %d" % (start, to, kind, count)
+
+    def lines(self):
+        yield "region %d" % self.region.number
+        yield from ("edge " + words for _, _, words in self.edges(self.by_text))
+        yield from ("checked %d" % site for site in sorted(self.accesses.checked(self.plan)))
+        yield from ("minded " + words for _, _, words in self.edges(self.minded))
+        for weight, unit in zip(self.minded.weights, self.minded.order):
+            yield " ".join(map(str, ["unit", weight, *sorted(unit)]))
+        yield from self.compared()
+        yield from self.forward()
+        yield from self.shown()
+
+
+def reasons(program, plans, profile, rate):
     for region, plan in zip(program.regions, plans):
-        yield "region %d" % region.number
-        accesses = Accesses(program, region)
-        for start, to, kind in sorted(LeastPlan(accesses).edges, key=lambda it: (it[0], it[1], KINDS.index(it[2]))):
-            stored = accesses.sites[start].stores
-            yield "edge %d %d %s%s" % (start, to, kind, "" if kind == "control" else " %d %s" % (program.number(stored), stored.name))
-        for site in sorted(accesses.checked(plan)):
-            yield "checked %d" % site
+        yield from Reasons(program, region, plan, profile, rate).lines()
     yield "end"
 
 
@@ -141,12 +186,17 @@ class Compared:
             self.differ += 1
             print("differs: %s" % what, "got", *got, "wanted", wanted, sep="\n")
 
-    def program(self, name, stages, workers):
-        """The least plans are dswp's own: checks/least_plans.py compares them."""
+    def program(self, name, stages, workers, rng=None):
+        """With a random profile, where a generator is given. The least plans are dswp's own: checks/least_plans.py compares them."""
         program, options = Written(Path(name).read_text()), ["--stages", stages, "--workers", workers]
         self.compare("tree %s" % name, dswp("tree", name), tree(program))
+        profile, rate = Profile(rng, program) if rng else None, rng.choice((0, 10, 1000)) if rng else 10
+        if profile:
+            Path("p.profile").write_text(profile.text)
+            options += ["--profile", "p.profile", "--rate", rate]
         plan = dswp("plan", name, *options)[0]
-        self.compare("explain %s" % name, dswp("explain", name, *options), [*plan.splitlines(), *reasons(program, read_plans(plan))])
+        lines = reasons(program, read_plans(plan), profile, rate)
+        self.compare("explain %s" % name, dswp("explain", name, *options), [*plan.splitlines(), *lines])
 
 
 def main():
@@ -159,7 +209,7 @@ def main():
         os.chdir(work)
         for _ in range(count):
             Path("p.c").write_text(RandomRun(rng).text)
-            compared.program("p.c", rng.randint(1, 8), rng.randint(1, 8))
+            compared.program("p.c", rng.randint(1, 8), rng.randint(1, 8), rng if rng.random() < 0.5 else None)
     print("%d texts compared, %d differ" % (compared.texts, compared.differ))
     sys.exit(compared.differ > 0)
 

@@ -1,6 +1,6 @@
 #!/usr/bin/env python3
 """Looks at what tools/explain.py makes: that the pages of programs whose comments and names of files are markup have the tags
-of pages of plain programs and no other, and that the checked sites that it finds are those that `explain` writes.
+of pages of plain programs and no other, and that what it works out for plans of files is what `explain` writes of least plans.
 
   checks/pages.py
 
@@ -59,19 +59,23 @@ def is_as_plain():
     return got == wanted
 
 
-def finds_the_checked(program):
+def finds_the_same(program):
+    """What is worked out for a plan of a file, of the least plan, is what `explain` writes of it."""
     read = tree.read_tree(dswp("tree", program)[0])
     for plan in plans.read_explanation(dswp("explain", program)[0]):
-        found = {load for load, _ in reasons.checks(plans.Planned(plan, None, 10, frozenset()), read)}
-        if found != plan.checked:
-            print(f"{program}: found {found}, and checked are {plan.checked}")
+        own = plans.Plan(plan.region, plan.version, plan.stages, plan.assumed)
+        reasons.of_another_plan(own, plan, read)
+        found, wanted = ((it.checked, it.compared, dict(it.forward)) for it in (own, plan))
+        wanted = (*wanted[:2], {number: wanted[2].get(number, []) for number in found[2]})
+        if found != wanted:
+            print(f"{program}: found {found}, and written are {wanted}")
             return False
     return True
 
 
 def main():
     subprocess.run([TOP / "dswp", "--prove"], check=True)
-    results = [is_as_plain()] + [finds_the_checked(program) for program in sorted(TOP.glob("examples/*.c"))]
+    results = [is_as_plain()] + [finds_the_same(program) for program in sorted(TOP.glob("examples/*.c"))]
     print(f"{sum(results)} of {len(results)} as they should be")
     sys.exit(not all(results))
 

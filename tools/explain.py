@@ -15,7 +15,7 @@ import sys
 from pathlib import Path
 
 sys.dont_write_bytecode = True
-from explaining import page, picture, plans, sentences, terminal, tree
+from explaining import page, picture, plans, reasons, sentences, terminal, tree
 
 DSWP = Path(__file__).resolve().parent.parent / "dswp"
 
@@ -38,35 +38,33 @@ def words():
 
 
 def explained(given, program):
-    """Each region's plan, with its edges and what a profile shows."""
+    """Each region's plan, with what it rests on."""
     options = [f"--{option}={value}" for option in ("profile", "rate", "stages", "workers") if (value := getattr(given, option))]
-    all_plans = plans.read_explanation(answer("explain", *options, "--", given.program))
-    if given.plan:
-        edges = {plan.region: plan.edges for plan in all_plans}
-        all_plans = plans.read_plans(Path(given.plan).read_text().splitlines())
-        for plan in all_plans:
-            plan.edges = edges[plan.region]
-    shown = plans.read_profile(Path(given.profile).read_text()) if given.profile else {}
-    ifs = frozenset(site.number for site in program.sites.values() if site.kind == "if")
-    return [plans.Planned(plan, shown.get(plan.region), int(given.rate or 10), ifs) for plan in all_plans]
+    least = plans.read_explanation(answer("explain", *options, "--", given.program))
+    if not given.plan:
+        return least
+    own = plans.read_plans(Path(given.plan).read_text().splitlines())
+    for plan in own:
+        reasons.of_another_plan(plan, next(it for it in least if it.region == plan.region), program)
+    return own
 
 
 def main():
     given = words()
     program = tree.read_tree(answer("tree", "--", given.program))
-    all_planned = explained(given, program)
+    found = explained(given, program)
     source = Path(given.program).read_text(errors="replace").split("\n")
     if source[-1:] == [""]:
         source.pop()
     teller = sentences.Teller(program)
     causes = sentences.Causes(program, Path(given.run).read_text()) if given.run else None
     if given.dot:
-        print("\n".join(picture.dot(all_planned, program)))
+        print("\n".join(picture.dot(found, program)))
     elif given.html:
-        text = "\n".join(page.page(Path(given.program).name, source, all_planned, program, teller, causes))
+        text = "\n".join(page.page(Path(given.program).name, source, found, program, teller, causes))
         Path(given.html).write_text(text + "\n", errors="xmlcharrefreplace")
     else:
-        print("\n".join(terminal.text(source, all_planned, program, teller, causes)))
+        print("\n".join(terminal.text(source, found, program, teller, causes)))
 
 
 if __name__ == "__main__":

@@ -2,7 +2,7 @@
 import html
 import subprocess
 
-from . import picture, reasons, terminal
+from . import picture, terminal
 
 COLOURS = 8
 
@@ -57,15 +57,15 @@ def style():
     return STYLE + "\n".join(rule.format(number) for number in range(1, COLOURS + 1))
 
 
-def edges_of_line(number, all_planned, tree, teller):
+def edges_of_line(number, plans, teller):
     """The sentences on the edges of a line's sites, those that come from it and those that lead to it."""
     found = []
-    for planned in all_planned:
-        for edge in planned.plan.edges:
+    for plan in plans:
+        rare = set(plan.rare())
+        for edge in plan.edges:
             if number in (teller.line(edge.start), teller.line(edge.end)):
-                rare = " (rare by the profile)" if planned.is_rare(edge) else ""
-                found.append(teller.edge(edge) + rare)
-        found += [teller.check(planned, load, store) for load, store in reasons.checks(planned, tree) if teller.line(load) == number]
+                found.append(teller.edge(edge) + (" (rare by the profile)" if edge in rare else ""))
+        found += [teller.check(plan, load, store) for load, store in plan.compared if teller.line(load) == number]
     return list(dict.fromkeys(found))
 
 
@@ -81,20 +81,20 @@ def line_row(number, text, marks, sentences, causes):
     return f'<div class="{classes}"{focus}>{cells}<span>{safe(terminal.shown(text))}</span>{why}</div>'
 
 
-def marks_of_lines(all_planned, tree):
+def marks_of_lines(plans, tree):
     """The stages of each line, with their kinds."""
     found = {}
-    for planned in all_planned:
-        for line, numbers in terminal.stages_of_lines(planned, tree).items():
+    for plan in plans:
+        for line, numbers in terminal.stages_of_lines(plan, tree).items():
             stages, kinds = found.setdefault(line, (set(), set()))
             stages |= numbers
-            kinds |= {planned.plan.stages[number - 1].kind for number in numbers}
+            kinds |= {plan.stages[number - 1].kind for number in numbers}
     return found
 
 
-def graph(all_planned, tree):
+def graph(plans, tree):
     """The picture as SVG, without its first lines; a note where Graphviz is missing."""
-    text = "\n".join(picture.dot(all_planned, tree))
+    text = "\n".join(picture.dot(plans, tree))
     try:
         drawn = subprocess.run(["dot", "-Tsvg"], input=text, stdout=subprocess.PIPE, text=True, check=True).stdout
     except (OSError, subprocess.CalledProcessError):
@@ -102,33 +102,32 @@ def graph(all_planned, tree):
     return drawn[drawn.index("<svg"):]
 
 
-def region_part(planned, tree, teller):
-    plan = planned.plan
+def region_part(plan, tree, teller):
     yield f"<h2>Region {plan.region}, line {tree.regions[plan.region][0]}</h2>"
     for number, stage in enumerate(plan.stages, 1):
         kind = "several workers" if stage.kind == "par" else "one thread"
-        yield f'<h3 class="key"><span class="s{number}">stage {number}</span> {kind}, weight {sum(planned.runs(site) for site in stage.sites)}</h3>'
+        yield f'<h3 class="key"><span class="s{number}">stage {number}</span> {kind}, weight {plan.weight(stage)}</h3>'
         if stage.kind == "seq":
-            yield "<div>Kept so:</div>" + listed(teller.kept(planned, number))
+            yield "<div>Kept so:</div>" + listed(teller.kept(plan, number))
         if number < len(plan.stages):
-            yield f"<div>Goes forward to stage {number + 1}:</div>" + listed(teller.boundary(planned, number))
+            yield f"<div>Goes forward to stage {number + 1}:</div>" + listed(teller.boundary(plan, number))
 
 
-def page(name, source, all_planned, tree, teller, causes):
-    marks = marks_of_lines(all_planned, tree)
+def page(name, source, plans, tree, teller, causes):
+    marks = marks_of_lines(plans, tree)
     yield f"""<!doctype html>
 <html lang="en"><head><meta charset="utf-8"><meta name="viewport" content="width=device-width">
 <meta http-equiv="Content-Security-Policy" content="default-src 'none'; style-src 'unsafe-inline'">
 <title>The plan of {safe(name)}</title><style>{style()}</style></head><body>
 <h1>The plan of {safe(name)}</h1><div class="both"><div class="source{' with-causes' if causes else ''}">"""
     for number, text in enumerate(source, 1):
-        yield line_row(number, text, marks.get(number, (set(), set())), edges_of_line(number, all_planned, tree, teller) if number in marks else [], causes)
+        yield line_row(number, text, marks.get(number, (set(), set())), edges_of_line(number, plans, teller) if number in marks else [], causes)
     yield "</div><div>"
-    for planned in all_planned:
-        yield from region_part(planned, tree, teller)
+    for plan in plans:
+        yield from region_part(plan, tree, teller)
     if causes:
         yield f"<h2>Executed again: {causes.total}</h2>" + listed([it.strip() for it in list(terminal.causes_text(causes))[1:]])
     yield "</div></div>"
-    if all_planned:
-        yield f'<h2>The stages</h2><div class="graph">{graph(all_planned, tree)}</div>'
+    if plans:
+        yield f'<h2>The stages</h2><div class="graph">{graph(plans, tree)}</div>'
     yield "</body></html>"

@@ -7,20 +7,18 @@ def quoted(*lines):
     return '"' + "".join("".join(signs.get(letter, letter) for letter in line) + "\\l" for line in lines) + '"'
 
 
-def names(planned, tree, number):
+def names(plan, tree, number):
     """The variables that go forward behind a stage; outcomes of conditions go with them, and aren't drawn."""
-    return sorted({tree.variables[key].name for kind, key in reasons.forward(planned, number) if kind == "variable"})
+    return sorted({tree.variables[key].name for kind, key in reasons.forward(plan, number) if kind == "variable"})
 
 
-def early(planned, tree, here, behind):
+def early(plan, tree, here, behind):
     """The variables that a stage may load before one behind it has stored them."""
-    plan = planned.plan
-    stores = [store for load, store in reasons.stale(planned, tree) if (plan.stage_of(load), plan.stage_of(store)) == (here, behind)]
+    stores = [store for load, store in reasons.stale(plan) if (plan.stage_of(load), plan.stage_of(store)) == (here, behind)]
     return sorted({tree.variables[tree.sites[store].stores].name for store in stores})
 
 
-def region_lines(planned, tree):
-    plan = planned.plan
+def region_lines(plan, tree):
     number = plan.region
     assumed = [f"assumed: site {site} {value}" for site, value in plan.assumed.items()]
     yield f"  subgraph cluster_{number} {{"
@@ -34,17 +32,17 @@ def region_lines(planned, tree):
     yield "  }"
     for place in range(len(plan.stages)):
         to = f"stage_{number}_{place + 1}" if place + 1 < len(plan.stages) else f"end_{number}"
-        yield f"  stage_{number}_{place} -> {to} [label={quoted(*names(planned, tree, place + 1))}]"
+        yield f"  stage_{number}_{place} -> {to} [label={quoted(*names(plan, tree, place + 1))}]"
         for behind in range(place + 1, len(plan.stages)):
-            if found := early(planned, tree, place + 1, behind + 1):
+            if found := early(plan, tree, place + 1, behind + 1):
                 yield f"  stage_{number}_{behind} -> stage_{number}_{place} [label={quoted(*found)} style=dashed constraint=false]"
 
 
-def dot(all_planned, tree):
+def dot(plans, tree):
     yield "digraph plan {"
     yield "  rankdir=LR fontname=\"monospace\" fontsize=11"
     yield '  node [shape=box fontname="monospace" fontsize=11]'
     yield '  edge [fontname="monospace" fontsize=11]'
-    for planned in all_planned:
-        yield from region_lines(planned, tree)
+    for plan in plans:
+        yield from region_lines(plan, tree)
     yield "}"

@@ -1,4 +1,5 @@
-"""Plans and what they rest on, as `dswp explain` writes it, and profiles."""
+"""Plans and what they rest on, as `dswp explain` writes it."""
+import collections
 import dataclasses
 
 
@@ -23,19 +24,33 @@ class Plan:
     stages: list
     assumed: dict
     edges: list = dataclasses.field(default_factory=list)
+    minded: list = dataclasses.field(default_factory=list)
     checked: set = dataclasses.field(default_factory=set)
+    units: list = dataclasses.field(default_factory=list)  # the weight and the sites of each, in order
+    compared: list = dataclasses.field(default_factory=list)  # pairs of a site that loads and one that stores
+    forward: dict = dataclasses.field(default_factory=lambda: collections.defaultdict(list))  # behind each stage, edges
+    runs: dict = dataclasses.field(default_factory=dict)
+    flows: dict = dataclasses.field(default_factory=dict)
 
     def stage_of(self, site):
         """The number of a site's stage, from 1."""
         return next(number for number, stage in enumerate(self.stages, 1) if site in stage.sites)
 
+    def units_of(self, stage):
+        """The sites of each unit of a stage."""
+        return [sites for _, sites in self.units if sites[0] in stage.sites]
 
-@dataclasses.dataclass
-class Counts:
-    """What a profile has of one region."""
+    def weight(self, stage):
+        return sum(weight for weight, sites in self.units if sites[0] in stage.sites)
 
-    runs: dict = dataclasses.field(default_factory=dict)  # a site's runs, and how many had an outcome other than 0
-    flows: dict = dataclasses.field(default_factory=dict)
+    def shown(self, edge):
+        """How often the profile saw a flow."""
+        return self.flows.get((edge.start, edge.end, edge.kind), 0)
+
+    def rare(self):
+        """The edges that the plan doesn't mind, since the profile saw them rarely."""
+        minded = set(self.minded)
+        return [edge for edge in self.edges if edge not in minded]
 
 
 def read_plans(lines):
@@ -56,63 +71,37 @@ def read_plans(lines):
     return plans
 
 
+def read_edge(words):
+    return Edge(int(words[0]), int(words[1]), words[2], int(words[3]) if len(words) > 3 else None)
+
+
+def read_reason(plan, head, words):
+    """A line of what a plan rests on."""
+    if head in ("edge", "minded"):
+        {"edge": plan.edges, "minded": plan.minded}[head].append(read_edge(words))
+    elif head == "checked":
+        plan.checked.add(int(words[0]))
+    elif head == "unit":
+        weight, *sites = map(int, words)
+        plan.units.append((weight, sites))
+    elif head == "compared":
+        plan.compared.append((int(words[0]), int(words[1])))
+    elif head == "forward":
+        plan.forward[int(words[0])].append(read_edge(words[1:]))
+    elif head == "runs":
+        plan.runs[int(words[0])] = int(words[1])
+    elif head == "flow":
+        plan.flows[int(words[0]), int(words[1]), words[2]] = int(words[3])
+
+
 def read_explanation(text):
-    """The plans of a text that explains them, with the edges of each region."""
+    """The plans of a text that explains them, with what each rests on."""
     lines = iter(text.splitlines())
     plans = read_plans(lines)
     plan = None
-    for line in lines:
-        head, *words = line.split()
+    for head, *words in map(str.split, lines):
         if head == "region":
             plan = next(it for it in plans if it.region == int(words[0]))
-        elif head == "edge":
-            variable = int(words[3]) if len(words) > 3 else None
-            plan.edges.append(Edge(int(words[0]), int(words[1]), words[2], variable))
-        elif head == "checked":
-            plan.checked.add(int(words[0]))
+        else:
+            read_reason(plan, head, words)
     return plans
-
-
-def read_profile(text):
-    regions = {}
-    for line in text.splitlines():
-        head, *words = line.split()
-        if head == "region":
-            counts = regions[int(words[0])] = Counts()
-        elif head == "runs":
-            counts.runs[int(words[0])] = (int(words[1]), int(words[2]))
-        elif head == "flow":
-            counts.flows[int(words[0]), int(words[1]), words[2]] = int(words[3])
-    return regions
-
-
-@dataclasses.dataclass
-class Planned:
-    """A plan, with those of its region's edges that it minds."""
-
-    plan: Plan
-    counts: Counts | None
-    rate: int
-    ifs: frozenset  # the sites that are conditions of an `if`
-
-    def runs(self, site):
-        return self.counts.runs.get(site, (0, 0))[0] if self.counts else 1
-
-    def is_rare(self, edge):
-        """The profile shows so few that the plan doesn't mind it."""
-        if not self.counts:
-            return False
-        if edge.kind == "control":
-            return self.may_be_assumed(edge.start)
-        runs = self.runs(edge.end)
-        return runs > 0 and self.shown(edge) * 1000 <= self.rate * runs
-
-    def shown(self, edge):
-        return self.counts.flows.get((edge.start, edge.end, edge.kind), 0)
-
-    def may_be_assumed(self, site):
-        runs, nonzero = self.counts.runs.get(site, (0, 0))
-        return site in self.ifs and runs > 0 and min(nonzero, runs - nonzero) * 1000 <= self.rate * runs
-
-    def minded(self):
-        return [edge for edge in self.plan.edges if not self.is_rare(edge)]

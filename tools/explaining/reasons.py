@@ -28,9 +28,9 @@ def walk(edges, start, end):
     return steps[::-1]
 
 
-def shortest_cycle(planned, stage):
+def shortest_cycle(plan, stage):
     """The shortest cycle of a stage with an edge that an earlier iteration begins, or else such an edge alone."""
-    inside = [edge for edge in planned.minded() if edge.start in stage.sites and edge.end in stage.sites]
+    inside = [edge for edge in plan.minded if edge.start in stage.sites and edge.end in stage.sites]
     carried = [edge for edge in inside if edge.kind == "carried"]
     cycles = [[edge, *back] for edge in carried if (back := walk(inside, edge.end, edge.start)) is not None]
     if cycles:
@@ -38,46 +38,35 @@ def shortest_cycle(planned, stage):
     return carried[:1]
 
 
-def units(planned):
-    """The classes of sites that reach each other, as sorted lists."""
-    edges = planned.minded()
-    sites = sorted(site for stage in planned.plan.stages for site in stage.sites)
-    reached = {site: set(ways(edges, site)) for site in sites}
-    classes = {}
-    for site in sites:
-        least = min(other for other in reached[site] if site in reached[other])
-        classes.setdefault(least, []).append(site)
-    return list(classes.values())
-
-
-def forward(planned, number):
+def forward(plan, number):
     """What stages up to this one tell later ones: edges by the variable that they pass on, or by a condition's site."""
-    plan, passed = planned.plan, collections.defaultdict(list)
-    for edge in planned.minded():
-        if plan.stage_of(edge.start) <= number < plan.stage_of(edge.end):
-            passed[("condition", edge.start) if edge.kind == "control" else ("variable", edge.variable)].append(edge)
+    passed = collections.defaultdict(list)
+    for edge in plan.forward[number]:
+        passed[("condition", edge.start) if edge.kind == "control" else ("variable", edge.variable)].append(edge)
     return dict(passed)
 
 
-def checks(planned, tree):
-    """The loads that are compared with the source's: pairs of a site and one that stores what it loads."""
-    plan, found = planned.plan, []
+def stale(plan):
+    """The pairs by which an iteration may be executed again: the store may come first in the source."""
+    near = {(edge.start, edge.end) for edge in plan.edges if edge.kind != "control"}
+    return [(load, store) for load, store in plan.compared if (store, load) in near]
+
+
+def of_another_plan(plan, explained, tree):
+    """A plan of a file: what doesn't depend on the plan is that of the least one of its region, and the rest is worked out."""
+    plan.edges, plan.minded, plan.units = explained.edges, explained.minded, explained.units
+    plan.runs, plan.flows = explained.runs, explained.flows
+    for number in range(1, len(plan.stages)):
+        plan.forward[number] = [edge for edge in plan.minded if plan.stage_of(edge.start) <= number < plan.stage_of(edge.end)]
     near = {(edge.start, edge.end, edge.kind) for edge in plan.edges}
-    sites = [tree.sites[site] for stage in plan.stages for site in stage.sites]
-    for load in sites:
-        for store in sites:
-            if store.stores in load.loads and is_checked(plan, tree, near, load, store):
-                found.append((load.number, store.number))
-    return sorted(found)
+    sites = sorted(site for stage in plan.stages for site in stage.sites)
+    plan.compared = [(load, store) for load in sites for store in sites if is_compared(plan, tree, near, tree.sites[load], tree.sites[store])]
+    plan.checked = {load for load, _ in plan.compared}
 
 
-def stale(planned, tree):
-    """Those of them by which an iteration may be executed again: the store may come first in the source."""
-    near = {(edge.start, edge.end) for edge in planned.plan.edges if edge.kind != "control"}
-    return [(load, store) for load, store in checks(planned, tree) if (store, load) in near]
-
-
-def is_checked(plan, tree, near, load, store):
+def is_compared(plan, tree, near, load, store):
+    if store.stores not in load.loads:
+        return False
     here, there = plan.stage_of(load.number), plan.stage_of(store.number)
     is_local = tree.variables[store.stores].region == plan.region
     carried = (store.number, load.number, "carried") in near

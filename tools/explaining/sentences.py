@@ -39,27 +39,27 @@ class Teller:
             return f"how the condition of {lines(starts)} goes, for {lines(ends)}"
         return f"`{self.tree.variables[number].name}` of {lines(starts)}, for {lines(ends)}"
 
-    def boundary(self, planned, number):
-        passed = reasons.forward(planned, number)
+    def boundary(self, plan, number):
+        passed = reasons.forward(plan, number)
         return [self.passed(key, passed[key]) for key in sorted(passed, key=str)]
 
-    def kept(self, planned, number):
+    def kept(self, plan, number):
         """What keeps a stage sequential."""
-        stage = planned.plan.stages[number - 1]
-        cycle = reasons.shortest_cycle(planned, stage)
+        stage = plan.stages[number - 1]
+        cycle = reasons.shortest_cycle(plan, stage)
         if cycle:
             return [self.edge(edge) for edge in cycle]
         if number == 1:
             return ["no iteration needs one before it here, but the first stage is always sequential"]
-        near = [planned.plan.stages[place].kind for place in (number - 2, number) if place < len(planned.plan.stages)]
+        near = [plan.stages[place].kind for place in (number - 2, number) if place < len(plan.stages)]
         if "par" in near:
             return ["no iteration needs one before it here, but a stage beside it has several workers"]
         return ["no iteration needs one before it here, and more workers would cost no less"]
 
-    def check(self, planned, load, store):
+    def check(self, plan, load, store):
         loaded, stored = self.tree.sites[load], self.tree.sites[store]
         name = self.tree.variables[stored.stores].name
-        where = "another worker of its stage may store" if planned.plan.stage_of(load) == planned.plan.stage_of(store) else "a later stage stores"
+        where = "another worker of its stage may store" if plan.stage_of(load) == plan.stage_of(store) else "a later stage stores"
         return f"what line {loaded.line} loads of `{name}` is compared with the source's, since {where} it in line {stored.line}"
 
 

@@ -63,7 +63,8 @@ fn pairs_of(
     Ok(pairs)
 }
 
-fn few(count: usize) -> Result<u32, NoMemory>
+/// The count, where 32 bits hold it.
+pub fn few(count: usize) -> Result<u32, NoMemory>
     ensures value { IfOk result (λ few. few ≡ count) }
     ensures many { OnErr result (2 ^ 32 ≤ count) }
 {
@@ -79,7 +80,7 @@ fn are_few(order: &[u32]) -> bool
 }
 
 /// The weights of a region's sites. Where the numbers don't hold their sum, it answers want of memory.
-fn light_weights(
+pub fn light_weights(
     alloc: Global,
     p: &Program,
     region: u32,
@@ -98,7 +99,7 @@ fn light_weights(
 }
 
 /// The units of a region with so many sites.
-fn units_of(
+pub fn units_of(
     alloc: Global,
     p: &Program,
     region: u32,

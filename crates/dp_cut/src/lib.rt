@@ -7,6 +7,7 @@ mod plan;
 mod site_weights;
 mod sums;
 
-pub use automatic::{Wishes, least_plans};
+pub use automatic::{Wishes, few, least_plans, light_weights, units_of};
 pub use law::{automatic_plans_are_one, least_plans_are_valid};
 pub use plan::cut;
+pub use sums::{at_site, weight_at};

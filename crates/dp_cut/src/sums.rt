@@ -7,7 +7,7 @@ use dp_depend::{Edge, EdgeKind};
 use std::alloc::Global;
 
 /// The sum of the weights of the nodes whose unit has this place.
-fn weight_at(places: &[u32], weights: &[u64], place: u32) -> u64
+pub fn weight_at(places: &[u32], weights: &[u64], place: u32) -> u64
     requires each { length places.now ≡ length weights.now }
     requires total { sum weights.now < 2 ^ 63 }
     ensures { result ≡ spec.unit_weight places.now weights.now place }

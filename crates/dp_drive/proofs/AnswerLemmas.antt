@@ -82,7 +82,7 @@ module _ (words : List (List ℕ)) (contents : Contents) (faults after : ℕ) (f
   pub carry_run : (run : Run) (q : Program) (numbers : List ℤ) (plans : List Plan) (result : Result ℕ WriteFail) → Asks words (ToRun run) → LoadsTexts contents run faults after failed fails (texts.Run q numbers plans) →
       Finishes (status_of (source_run q numbers run.fuel).end) (trace_text q plans (source_run q numbers run.fuel) run.why) told tells result → Carried words contents faults after failed fails told tells result
   carry_run run q numbers plans result asks (loads.Loaded p x others given is h k l fit e f) finishes =
-      carried.OfAnswer _ _ (Done (ToRun run) ((((p, numbers), []), plans), Nothing) asks (run_texts contents run p q numbers plans h k is l)) e f
+      carried.OfAnswer _ _ (Done (ToRun run) ((((p, numbers), []), plans), Nothing) _ asks (run_texts contents run p q numbers plans h k is l) refl) e f
       (finishes_source p q is (read_checked h.text p h.reads) (inlined_read h.text p h.reads) plans numbers run.fuel run.why [] told tells result finishes)
 
   -- .. and the tally grew by what was committed of it

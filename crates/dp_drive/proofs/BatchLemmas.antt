@@ -51,8 +51,8 @@ module _ (words : List (List ℕ)) (contents : Contents) (faults after : ℕ) (f
   pub carry_batch : (q : Program) (inputs : List (List ℤ)) (plans : List Plan) → LoadsBatch contents run list faults after failed fails (texts.Run q inputs plans) → Finishes 0 (batch_bytes q plans run.fuel inputs) told tells result → Carries
   carry_batch q inputs plans (loads.BatchLoaded p x others more is h k l fit e f) finishes =
       carried.OfAnswer _ _
-      (answers.Done asked ((((p, []), inputs), plans), Nothing) asks
-      (all_listed contents asked p (named_program h) [] Unnamed inputs k plans (SomePlans run.source run.options (Ok plans) (subst (λ (y : Program). Plans contents y run.options run.source (Ok plans)) is l)) refl)) e f
+      (answers.Done asked ((((p, []), inputs), plans), Nothing) _ asks
+      (all_listed contents asked p (named_program h) [] Unnamed inputs k plans (SomePlans run.source run.options (Ok plans) (subst (λ (y : Program). Plans contents y run.options run.source (Ok plans)) is l)) refl) refl) e f
       (finishes_batch p q is (read_checked h.text p h.reads) (inlined_read h.text p h.reads) told tells result plans run.fuel inputs finishes)
 
   pub carry_refused : (refusal : Refusal) → LoadsBatch contents run list faults after failed fails (texts.Refused refusal) → Finishes (refusal_status refusal) (refusal_line refusal) told tells result → Carries

@@ -81,16 +81,16 @@ module _ (words : List (List ℕ)) (contents : Contents) (faults after : ℕ) (f
   pub carry_log : Asks words (ToLog run) → Loads → Finishes (status_of (source_run q numbers run.fuel).end) (log_bytes q plans (source_run q numbers run.fuel)) told tells result → Carries
   carry_log asks h finishes =
       let t : WereRead contents (ToLog run) run (for_log run) q numbers plans = texts_read contents (ToLog run) run (for_log run) q numbers plans faults after failed fails h in
-      carry_done contents (ToLog run) run (for_log run) words asks faults after failed fails told tells result ((((t.source, numbers), []), plans), Nothing)
-      (all_alone contents (ToLog run) run (for_log run) q numbers plans t refl) (same_faults h) (same_names h)
+      carry_done contents (ToLog run) run (for_log run) words asks faults after failed fails told tells result ((((t.source, numbers), []), plans), Nothing) _
+      (all_alone contents (ToLog run) run (for_log run) q numbers plans t refl) refl (same_faults h) (same_names h)
       (finishes_log t.source q t.is (read_checked t.reads.text t.source t.reads.reads) (inlined_read t.reads.text t.source t.reads.reads) told tells result plans numbers run.fuel finishes)
 
   pub carry_save : (place : Place) → Asks words (ToSave run place) → Loads →
       Finishes (status_at (saved_end q numbers run.fuel place.region place.after)) (saved_bytes q plans numbers run.fuel place.region place.after) told tells result → Carries
   carry_save place asks h finishes =
       let t : WereRead contents (ToSave run place) run (for_save run place) q numbers plans = texts_read contents (ToSave run place) run (for_save run place) q numbers plans faults after failed fails h in
-      carry_done contents (ToSave run place) run (for_save run place) words asks faults after failed fails told tells result ((((t.source, numbers), []), plans), Nothing)
-      (all_alone contents (ToSave run place) run (for_save run place) q numbers plans t refl) (same_faults h) (same_names h)
+      carry_done contents (ToSave run place) run (for_save run place) words asks faults after failed fails told tells result ((((t.source, numbers), []), plans), Nothing) _
+      (all_alone contents (ToSave run place) run (for_save run place) q numbers plans t refl) refl (same_faults h) (same_names h)
       (finishes_save t.source q t.is (read_checked t.reads.text t.source t.reads.reads) (inlined_read t.reads.text t.source t.reads.reads) told tells result plans numbers run.fuel place finishes)
 
 -- behind the run's texts a log or a checkpoint is read
@@ -116,8 +116,8 @@ module _ (words : List (List ℕ)) (contents : Contents) (faults after : ℕ) (f
         Finishes (audit_status (first_difference text (log_bytes q plans (source_run q numbers run.fuel)))) (audit_line (first_difference text (log_bytes q plans (source_run q numbers run.fuel)))) told tells result → Carried_
     carry_audit text g finishes =
         let t = log_texts in
-        carry_done contents to_audit run (for_audit run name) words asks faults after failed fails told tells result ((((t.source, numbers), []), plans), Logged text)
-        (all_behind contents to_audit run (for_audit run name) q numbers plans t (Logged text) (last_log (Ok text) g.0)) g.1 g.2
+        carry_done contents to_audit run (for_audit run name) words asks faults after failed fails told tells result ((((t.source, numbers), []), plans), Logged text) _
+        (all_behind contents to_audit run (for_audit run name) q numbers plans t (Logged text) (last_log (Ok text) g.0)) refl g.1 g.2
         (finishes_audit t.source q t.is (read_checked t.reads.text t.source t.reads.reads) (inlined_read t.reads.text t.source t.reads.reads) told tells result plans numbers run.fuel text finishes)
 
     pub carry_log_refused : (refusal : Refusal) → LogGives (Refused refusal) → Finishes (refusal_status refusal) (refusal_line refusal) told tells result → Carried_
@@ -145,8 +145,8 @@ module _ (words : List (List ℕ)) (contents : Contents) (faults after : ℕ) (f
     pub carry_resume : (c : Point) → PointGives (Text c) → Finishes (status_of (resumed_run q numbers c).end) (resumed_bytes q plans numbers c) told tells result → Carried_
     carry_resume c g finishes =
         let t = point_texts in
-        carry_done contents to_resume run (for_resume run name) words asks faults after failed fails told tells result ((((t.source, numbers), []), plans), SavedAt c)
-        (all_behind contents to_resume run (for_resume run name) q numbers plans t (SavedAt c) (last_point (Ok c) g.0)) g.1 g.2
+        carry_done contents to_resume run (for_resume run name) words asks faults after failed fails told tells result ((((t.source, numbers), []), plans), SavedAt c) _
+        (all_behind contents to_resume run (for_resume run name) q numbers plans t (SavedAt c) (last_point (Ok c) g.0)) refl g.1 g.2
         (finishes_resume t.source q t.is (read_checked t.reads.text t.source t.reads.reads) (inlined_read t.reads.text t.source t.reads.reads) told tells result plans numbers c finishes)
 
     pub carry_point_refused : (refusal : Refusal) → PointGives (Refused refusal) → Finishes (refusal_status refusal) (refusal_line refusal) told tells result → Carried_

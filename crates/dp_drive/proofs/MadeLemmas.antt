@@ -98,7 +98,7 @@ module _ (words : List (List ℕ)) (contents : Contents) (made : GenWords) (asks
     carry_run q plans numbers e read plans_made finishes =
         let s = source_of (Reads made_text) q read in
         let here = subst (λ (zs : List ℤ). Finishes (status_of (source_run q zs made.fuel).end) (made_line made ++ trace_text q plans (source_run q zs made.fuel) false) told tells result) e finishes in
-        carried.OfAnswer _ _ (Done (ToMake made) ((((s.source, []), []), plans), Nothing) asks (made_texts contents made q plans s plans_made)) refl refl
+        carried.OfAnswer _ _ (Done (ToMake made) ((((s.source, []), []), plans), Nothing) _ asks (made_texts contents made q plans s plans_made) refl) refl refl
         (finishes_source s.source q s.is (read_checked made_text s.source s.reads) (inlined_read made_text s.source s.reads) plans (made_words made) made.fuel false (made_line made) told tells result here)
 
   -- where the run ended, the tally grew by what was committed of it

@@ -50,7 +50,7 @@ module _ (words : List (List ℕ)) (contents : Contents) (faults after : ℕ) (f
     pub carry_profile : (numbers : List ℤ) → InputGives (Text numbers) → Finishes (status_of (observed q numbers profiling.fuel).end) (profile_text q (observed q numbers profiling.fuel).profile) told tells result →
         Carried words contents faults after failed fails told tells result
     carry_profile numbers g finishes =
-        carried.OfAnswer _ _ (Done (ToProfile profiling) ((((s.source, numbers), []), []), Nothing) asks (all_read contents (ToProfile profiling) s.source program numbers g.0 refl [] NoPlans refl)) g.1 g.2
+        carried.OfAnswer _ _ (Done (ToProfile profiling) ((((s.source, numbers), []), []), Nothing) _ asks (all_read contents (ToProfile profiling) s.source program numbers g.0 refl [] NoPlans refl) refl) g.1 g.2
         (finishes_as _ _ (profile_text q (observed q numbers profiling.fuel).profile) (profile_text (expand s.source) (observed (expand s.source) numbers profiling.fuel).profile) told tells result
         (ap status_of (end_is numbers)) (ap (λ (x : Program). profile_text x (observed x numbers profiling.fuel).profile) s.is) finishes)
 

@@ -109,6 +109,6 @@ module _ (contents : Contents) (asked : Asked) (run : Run) (of : ReadsRun asked 
         carried.OfFailedRead _ _ (OfPlans asked ((p, numbers), []) run.source run.options name asks (with_inputs contents asked p (program_read (Ok p) h) numbers (input_read (Ok numbers) k) of.unlisted) of.plans named) less e finishes
 
     -- what is done, where all texts were read
-    pub carry_done : (read : (((Program × List ℤ) × List (List ℤ)) × List Plan) × Behind) → ReadsAll contents asked (Ok read) → after ≡ faults → fails ≡ failed →
-        Finishes (answers.status_for asked (given_by read)) (answers.bytes_for asked (given_by read)) told tells result → Carried words contents faults after failed fails told tells result
-    carry_done read all e f finishes = carried.OfAnswer _ _ (answers.Done asked read asks all) e f finishes
+    pub carry_done : (read : (((Program × List ℤ) × List (List ℤ)) × List Plan) × Behind) (bytes : List ℕ) → ReadsAll contents asked (Ok read) → answers.BytesFor contents asked (given_by read) bytes → after ≡ faults → fails ≡ failed →
+        Finishes (answers.status_for asked (given_by read)) bytes told tells result → Carried words contents faults after failed fails told tells result
+    carry_done read bytes all is e f finishes = carried.OfAnswer _ _ (answers.Done asked read bytes asks all is) e f finishes

@@ -5,13 +5,15 @@ use Rattle.dp_calls.specs.Expand.{expand}
 use Rattle.dp_calls.specs.Frames.{outcome}
 use Rattle.dp_report.specs.SiteText.{site_bytes}
 use Rattle.dp_tree_text.specs.TreeText.{tree_bytes}
-use Rattle.dp_explain.specs.Explanation.{explanation}
+use Rattle.dp_explain.specs.Explanation.{IsExplanation}
 use Rattle.dp_words.specs.declared.task.PlanOptions.{PlanOptions}
 use Rattle.dp_words.specs.Words.{Asked, Asks, AsksNothing, ToRun, ToPlan, ToExplain, ToList, ToTree, ToProfile, ToMake, ToLog, ToAudit, ToSave, ToResume, ToBatch}
+use Rattle.dp_words.specs.Planning.{Planning}
 use Rattle.dp_words.specs.Run.{Source}
 use Rattle.dp_run.specs.RunText.{source_run, committed_in_all}
 use Rattle.dp_plan.specs.declared.Plan.{Plan}
 use Rattle.dp_plan_text.specs.WrittenText.{plans_text}
+use Rattle.dp_profile.specs.declared.Profile.{Profile}
 use Rattle.dp_profile.specs.Observed.{observed}
 use Rattle.dp_profile_text.specs.WrittenText.{profile_text}
 use Rattle.dp_refusal.specs.declared.role.Role.{Role}
@@ -19,7 +21,7 @@ use Rattle.dp_refusal.specs.declared.role.Role.TheVariants as role
 use Rattle.dp_refusal.specs.declared.refusal.Refusal.{Refusal}
 use Rattle.dp_refusal.specs.declared.refusal.Refusal.TheVariants.{Words}
 use Rattle.dp_refusal.specs.Refusal.{refusal_line, refusal_status, role_of, status_of}
-use Rattle.dp_load.specs.Roles.{Contents, ProgramOf, input_in, named_in, plans_in, program_in}
+use Rattle.dp_load.specs.Roles.{Contents, Profiled, ProgramOf, input_in, named_in, plans_in, program_in}
 use Rattle.dp_load.specs.Last.{Behind, Last, last_name, last_role}
 use Rattle.dp_load.specs.Lists.{IsNextListed}
 use Rattle.dp_load.specs.Order.{Given, ReadsAll, WithInput, WithInputs, WithPlans, given_by, last_in, list_in}
@@ -44,27 +46,33 @@ status_for (ToSave run place) texts = saved_status texts.program texts.numbers r
 status_for (ToResume run checkpoint) texts = status_of (resumed_end texts.program texts.numbers (checkpoint_in texts.last))
 status_for (ToBatch run list) texts = 0
 
+-- The bytes explain the least plans of an expanded program: they and their profile give this text.
+pub record ExplainsPlans (contents : Contents) (planning : Planning) (p : Program) (plans : List Plan) (bytes : List ℕ) : Type 0 where
+  pub profile : Option Profile
+  pub counts : Profiled contents p planning.profile (Ok profile)
+  pub text : IsExplanation p profile planning.options.rate plans bytes
+
 -- .. and the bytes
-abbrev pub bytes_for : Asked → Given → List ℕ
-bytes_for (ToRun run) texts = run_text texts.program texts.plans texts.numbers run.fuel run.why
-bytes_for (ToPlan planning) texts = plans_text (expand texts.program) texts.plans
-bytes_for (ToExplain planning) texts = explanation (expand texts.program) texts.plans
-bytes_for (ToList program) texts = site_bytes (expand texts.program)
-bytes_for (ToTree program) texts = tree_bytes (expand texts.program)
-bytes_for (ToProfile profiling) texts = profile_text (expand texts.program) (observed (expand texts.program) texts.numbers profiling.fuel).profile
-bytes_for (ToMake made) texts = made_line made ++ run_text texts.program texts.plans (made_words made) made.fuel false
-bytes_for (ToLog run) texts = log_of texts.program texts.plans texts.numbers run.fuel
-bytes_for (ToAudit run log) texts = audit_line (first_difference (log_in texts.last) (log_of texts.program texts.plans texts.numbers run.fuel))
-bytes_for (ToSave run place) texts = saved_text texts.program texts.plans texts.numbers run.fuel place
-bytes_for (ToResume run checkpoint) texts = resumed_text texts.program texts.plans texts.numbers (checkpoint_in texts.last)
-bytes_for (ToBatch run list) texts = texts_from (λ input. run_text texts.program texts.plans input run.fuel false) 1 texts.listed
+abbrev pub BytesFor : Contents → Asked → Given → List ℕ → Type 0
+BytesFor contents (ToRun run) texts bytes = bytes ≡ run_text texts.program texts.plans texts.numbers run.fuel run.why
+BytesFor contents (ToPlan planning) texts bytes = bytes ≡ plans_text (expand texts.program) texts.plans
+BytesFor contents (ToExplain planning) texts bytes = ExplainsPlans contents planning (expand texts.program) texts.plans bytes
+BytesFor contents (ToList program) texts bytes = bytes ≡ site_bytes (expand texts.program)
+BytesFor contents (ToTree program) texts bytes = bytes ≡ tree_bytes (expand texts.program)
+BytesFor contents (ToProfile profiling) texts bytes = bytes ≡ profile_text (expand texts.program) (observed (expand texts.program) texts.numbers profiling.fuel).profile
+BytesFor contents (ToMake made) texts bytes = bytes ≡ made_line made ++ run_text texts.program texts.plans (made_words made) made.fuel false
+BytesFor contents (ToLog run) texts bytes = bytes ≡ log_of texts.program texts.plans texts.numbers run.fuel
+BytesFor contents (ToAudit run log) texts bytes = bytes ≡ audit_line (first_difference (log_in texts.last) (log_of texts.program texts.plans texts.numbers run.fuel))
+BytesFor contents (ToSave run place) texts bytes = bytes ≡ saved_text texts.program texts.plans texts.numbers run.fuel place
+BytesFor contents (ToResume run checkpoint) texts bytes = bytes ≡ resumed_text texts.program texts.plans texts.numbers (checkpoint_in texts.last)
+BytesFor contents (ToBatch run list) texts bytes = bytes ≡ texts_from (λ input. run_text texts.program texts.plans input run.fuel false) 1 texts.listed
 
 -- The answer: the words ask for nothing, or a text is refused, or what they ask for is done.
 pub data Answer (words : List (List ℕ)) (contents : Contents) : ℕ → List ℕ → Type 0 where
   NotTaken : AsksNothing words → Answer words contents (refusal_status Words) (refusal_line Words)
   Refused : (asked : Asked) (refusal : Refusal) → Asks words asked → ReadsAll contents asked (Err refusal) → Answer words contents (refusal_status refusal) (refusal_line refusal)
-  Done : (asked : Asked) (read : (((Program × List ℤ) × List (List ℤ)) × List Plan) × Behind) → Asks words asked → ReadsAll contents asked (Ok read) →
-      Answer words contents (status_for asked (given_by read)) (bytes_for asked (given_by read))
+  Done : (asked : Asked) (read : (((Program × List ℤ) × List (List ℤ)) × List Plan) × Behind) (bytes : List ℕ) → Asks words asked → ReadsAll contents asked (Ok read) → BytesFor contents asked (given_by read) bytes →
+      Answer words contents (status_for asked (given_by read)) bytes
 
 -- The text of this role is to be read under this name: no refusal comes before.
 pub data IsRead (words : List (List ℕ)) (contents : Contents) : Role → List ℕ → Type 0 where

@@ -1,1 +1,2 @@
+pub mod ExplainedOnce
 pub mod rows

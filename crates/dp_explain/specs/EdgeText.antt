@@ -1,4 +1,4 @@
--- The lines of dependences.
+-- The lines of dependences: all that the text of a region has, and those that its plan minds.
 use Rattle.std.specs.Prelude.{ℕ, ◌-◌, List, [], ◌++◌, codes, Option, Some, None, slice_get}
 use Rattle.std.specs.List.{flat_map}
 use Rattle.dp_text.specs.Labels.{labelled}
@@ -33,11 +33,11 @@ kind_text p Control stored = codes " control"
 kind_text p Intra stored = codes " intra" ++ variable_text p stored
 kind_text p Carried stored = codes " carried" ++ variable_text p stored
 
--- the second site depends on the first
-abbrev pub edge_line : Program → ℕ → List Node → Edge → List ℕ
-edge_line p first nodes e =
-    labelled (codes "edge ") e.from.0 ++ (labelled (codes " ") e.to.0 ++ (kind_text p e.kind (stored_at first nodes e.from.0) ++ codes "\n"))
+-- behind a label, that the second site depends on the first
+abbrev pub edge_text : List ℕ → Program → ℕ → List Node → Edge → List ℕ
+edge_text label p first nodes e =
+    labelled label e.from.0 ++ (labelled (codes " ") e.to.0 ++ (kind_text p e.kind (stored_at first nodes e.from.0) ++ codes "\n"))
 
--- the lines of edges
-abbrev pub edge_lines : Program → ℕ → List Node → List Edge → List ℕ
-edge_lines p first nodes edges = flat_map (edge_line p first nodes) edges
+-- a line for each of these edges
+abbrev pub edge_texts : List ℕ → Program → ℕ → List Node → List Edge → List ℕ
+edge_texts label p first nodes edges = flat_map (edge_text label p first nodes) edges

@@ -11,29 +11,32 @@ use dp_tree::{Program, VarInfo};
 /// Appends a line for each of the edges between these sites, of which the first is given.
 pub fn put_edges(
     out: &mut Row<u8>,
+    label: &[u8],
     p: &Program,
     first: u32,
     nodes: &[Node],
     edges: &[Edge],
 ) -> Result<(), NoMemory>
-    ensures { OnOk result (out.new ≡ out.old ++ spec.edge_lines p.now first nodes.now edges.now) }
+    ensures { OnOk result (out.new ≡ out.old ++ spec.edge_texts label.now p.now first nodes.now edges.now) }
 {
     for edge in edges {
-        put_edge(out, p, first, nodes, edge)?;
+        put_edge(out, label, p, first, nodes, edge)?;
     }
     Ok(())
 }
 
-fn put_edge(
+/// Appends the edge behind a label.
+pub fn put_edge(
     out: &mut Row<u8>,
+    label: &[u8],
     p: &Program,
     first: u32,
     nodes: &[Node],
     edge: &Edge,
 ) -> Result<(), NoMemory>
-    ensures { OnOk result (out.new ≡ out.old ++ spec.edge_line p.now first nodes.now edge.now) }
+    ensures { OnOk result (out.new ≡ out.old ++ spec.edge_text label.now p.now first nodes.now edge.now) }
 {
-    put_labelled(out, b"edge ", u64::from(edge.from.0))?;
+    put_labelled(out, label, u64::from(edge.from.0))?;
     put_labelled(out, b" ", u64::from(edge.to.0))?;
     put_kind(out, p, edge.kind, stored_at(first, nodes, edge.from.0))?;
     out.push(b'\n')
@@ -62,7 +65,7 @@ fn put_kind(
 }
 
 /// Appends the number and the name of a variable.
-fn put_stored(out: &mut Row<u8>, p: &Program, stored: Option<u32>) -> Result<(), NoMemory>
+pub fn put_stored(out: &mut Row<u8>, p: &Program, stored: Option<u32>) -> Result<(), NoMemory>
     ensures { OnOk result (out.new ≡ out.old ++ spec.variable_text p.now stored) }
 {
     match stored {
@@ -87,7 +90,7 @@ fn put_name(out: &mut Row<u8>, info: Option<&VarInfo>) -> Result<(), NoMemory>
 }
 
 /// What a site stores.
-fn stored_at(first: u32, nodes: &[Node], site: u32) -> Option<u32>
+pub fn stored_at(first: u32, nodes: &[Node], site: u32) -> Option<u32>
     ensures { result ≡ spec.stored_at first nodes.now site }
 {
     stored_by(nodes.get(site.saturating_sub(first) as usize))

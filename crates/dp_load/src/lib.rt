@@ -16,6 +16,6 @@ pub use law::{
     read_numbers_fit, read_plans_are_ready, read_programs_are_at_home, read_programs_start_clear,
 };
 pub use load::{Loaded, load_plans, load_program};
-pub use planning::{automatic_plans, load_least};
+pub use planning::{automatic_plans, load_counts, load_least};
 pub use program::read_program;
 pub use texts::{Texts, load_texts, load_words};

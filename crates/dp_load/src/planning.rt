@@ -67,7 +67,7 @@ pub fn load_least<S: Shelf>(
 }
 
 /// The profile under a name, if there is one.
-fn load_counts<S: Shelf>(
+pub fn load_counts<S: Shelf>(
     alloc: Global,
     shelf: &mut S,
     name: Option<&str>,

@@ -2,6 +2,7 @@
 //! a run ended, and how far it is.
 #![tactic(auto)]
 
+mod advice;
 mod answer;
 mod byte;
 mod counts;

@@ -11,7 +11,7 @@ mod write;
 
 pub use law::{read_profiles_fit, written_profiles_are_read};
 pub use read::read_profile;
-pub use write::write_profile;
+pub use write::{put_counts, put_flows, write_profile};
 
 /// Why a text gives no profile.
 #[derive(Clone, Copy)]

@@ -58,7 +58,12 @@ fn put_head(out: &mut Row<u8>, number: u64) -> Result<(), NoMemory>
     out.push(b'\n')
 }
 
-fn put_counts(out: &mut Row<u8>, sites: &[RegionSite], counts: &[SiteCount]) -> Result<(), NoMemory>
+/// Appends the lines of sites with their counts.
+pub fn put_counts(
+    out: &mut Row<u8>,
+    sites: &[RegionSite],
+    counts: &[SiteCount],
+) -> Result<(), NoMemory>
     ensures text { OnOk result (out.new ≡ out.old ++ text.runs_text sites.now counts.now) }
     ensures wanting { OnErr result ((0 < length sites.now) × (0 < length counts.now)) }
 {
@@ -77,7 +82,8 @@ fn put_count(out: &mut Row<u8>, site: SiteId, count: SiteCount) -> Result<(), No
     out.push(b'\n')
 }
 
-fn put_flows(out: &mut Row<u8>, flows: &[Flow]) -> Result<(), NoMemory>
+/// Appends the lines of flows.
+pub fn put_flows(out: &mut Row<u8>, flows: &[Flow]) -> Result<(), NoMemory>
     ensures text { OnOk result (out.new ≡ out.old ++ text.flows_text flows.now) }
     ensures wanting { OnErr result (0 < length flows.now) }
 {

@@ -16,3 +16,5 @@ pub mod TableIs
 pub mod RegionFinds
 pub mod TableMade
 pub mod ApartIs
+pub mod ComparedLaw
+pub mod ComparedIs

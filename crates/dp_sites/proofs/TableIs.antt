@@ -30,7 +30,7 @@ use Rattle.dp_sites.proofs.PartTable.{Seat, found_at, seat_at, touches_rise, any
 
 module _ (p : Program) (plan : Plan) (s : Stmt) (only : region_in p plan.region ≡ s ∷ []) (r : ℕ) (site : SiteId) (condition : Expr) (body : List Stmt) (is : out-Stmt s ≡ Region r site condition body)
     (k : ℕ) (goes_up : Ascends k (map part_site (parts None s))) where
-  abbrev us : List Part
+  abbrev pub us : List Part
   us = parts None s
 
   abbrev xs : List Access
@@ -45,12 +45,12 @@ module _ (p : Program) (plan : Plan) (s : Stmt) (only : region_in p plan.region 
   rises_x : SitesRise k (accesses s)
   rises_x = subst (λ (ns : List ℕ). Ascends k ns) (sym (sites_same xs ts us lined).0) goes_up
 
-  accesses_here : region_accesses p plan ≡ accesses s
+  pub accesses_here : region_accesses p plan ≡ accesses s
   accesses_here = ap (flat_map accesses) only ∙ append-nil (accesses s)
 
   -- one part, and what stands at its place
   module _ (j : ℕ) (u : Part) (at : slice_get (parts None s) j ≡ Some u) where
-    abbrev here : Seat (accesses s) (touches s) j u
+    abbrev pub here : Seat (accesses s) (touches s) j u
     here = seat_at s k goes_up j u at
 
     number : u.site ≡ k + j
@@ -156,13 +156,13 @@ module _ (p : Program) (plan : Plan) (s : Stmt) (only : region_in p plan.region 
 
   -- the definition's test of a store, and the code's, over all that store
   module _ (j : ℕ) (u : Part) (at : slice_get (parts None s) j ≡ Some u) (x : VarId) where
-    abbrev test : Access → Bool
+    abbrev pub test : Access → Bool
     test a = (is_stored_after p plan (stage_of p plan u.site) x.0 a && not (is_apart p plan u.site a.site)) || (is_stored_beside p plan (stage_of p plan u.site) x.0 a && not (is_apart_between p plan u.site a.site))
 
-    abbrev passed : Option Storing → Bool
+    abbrev pub passed : Option Storing → Bool
     passed = passed_by (stores_otherwise p plan u x)
 
-    one_is : (i : ℕ) (d : Part) (there : slice_get (parts None s) i ≡ Some d) → test (here i d there).a ≡ passed (storing_at p plan us body d)
+    pub one_is : (i : ℕ) (d : Part) (there : slice_get (parts None s) i ≡ Some d) → test (here i d there).a ≡ passed (storing_at p plan us body d)
     one_is i d there = by (here i d there).t.store refl
       where
         h : Same (here i d there).a (here i d there).t d

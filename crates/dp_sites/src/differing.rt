@@ -90,7 +90,7 @@ fn differs_by(p: &Program, plan: &Plan, part: &Part, storing: Storing) -> bool
     }
 }
 
-fn stores_otherwise(p: &Program, plan: &Plan, part: &Part, var: VarId, storing: Storing) -> bool
+pub fn stores_otherwise(p: &Program, plan: &Plan, part: &Part, var: VarId, storing: Storing) -> bool
     ensures { result ≡ spec.stores_otherwise p.now plan.now part.now var storing }
 {
     storing.var.0 == var.0 && differs_by(p, plan, part, storing)

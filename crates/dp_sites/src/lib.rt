@@ -2,6 +2,7 @@
 #![tactic(auto)]
 
 mod apart;
+mod compared;
 mod differing;
 mod moving;
 mod part;
@@ -12,6 +13,7 @@ mod touched;
 mod walk;
 
 pub use apart::Apart;
+pub use compared::{Compared, checked_sites_have_stores, compared_stores};
 pub use sites::{put_sites, sites_of};
 pub use table::tabled;
 pub use walk::{Question, ask_each, ask_region};

@@ -210,6 +210,18 @@ module _ (held : List ℕ → Option (List ℕ)) where
   program_in_inputs : (asked : Asked) (read : (Program × List ℤ) × List (List ℤ)) → WithInputs (Some held) asked (Ok read) → ProgramOf (Some held) (program_in asked) (Ok read.0.0)
   program_in_inputs asked read (Both x y (Both p numbers h i) k) = h
 
+  -- the profile of least plans
+  counts_of : {o : Option (List ℕ)} {x : Result Program Refusal} {name : Option (List ℕ)} {a b : Result (Option Profile) Refusal} (options : PlanOptions) (p : Program) → ProgramOf (Some held) o x → x ≡ Ok p →
+      Profiled (Some held) (expand p) name a → Profiled (Some held) (expand p) name b → a ≡ b
+  counts_of options p (MadeProgram read r) e h k = profiled_by p made_text (subst (Reads made_text) e r) options refl h k
+  counts_of options p (NamedProgram name text read held_text r) e h k = profiled_by p text (subst (Reads text) e r) options refl h k
+
+  pub counts_once : (asked : Asked) (options : PlanOptions) (read : (((Program × List ℤ) × List (List ℤ)) × List Plan) × Behind) (name : Option (List ℕ)) (one other : Option Profile) → ReadsAll (Some held) asked (Ok read) →
+      Profiled (Some held) (expand read.0.0.0.0) name (Ok one) → Profiled (Some held) (expand read.0.0.0.0) name (Ok other) → one ≡ other
+  counts_once asked options read name one other (Both x y (Both z w h i) k) m n =
+      let same : Ok one ≡ Ok other = counts_of options z.0.0 (program_in_inputs asked z h) refl m n in
+      cc same
+
   -- all of them
   pub all_once : (asked : Asked) → Once (ReadsAll (Some held) asked)
   all_once asked =
