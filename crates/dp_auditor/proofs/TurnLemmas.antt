@@ -1,5 +1,5 @@
 -- One turn of the comparison of a region's iterations, by what was compared of one.
-use Rattle.std.proofs.Common.{◌≡◌, ◌≢◌, refl, sym, ◌∙◌, subst, arith, ℕ, ◌+◌, ◌<◌, ◌-◌, List, [], ℤ, Option, Some, None, is_some}
+use Rattle.std.proofs.Common.{◌≡◌, ◌≢◌, sym, ◌∙◌, subst, arith, ℕ, ◌+◌, ◌<◌, ◌-◌, List, [], ℤ, Option, Some, None, is_some}
 use Rattle.std.proofs.lemmas.Option.{none-some, same_Some}
 use Rattle.dp_tree.specs.declared.Program.{Program}
 use Rattle.dp_tree.specs.Step.{Event}
@@ -22,15 +22,6 @@ use Rattle.dp_auditor.specs.declared.iterations.After.{After}
 use Rattle.dp_auditor.specs.declared.iterations.After.TheVariants as after
 use Rattle.dp_auditor.proofs.ReachedLemmas.{Reached}
 use Rattle.dp_auditor.proofs.StepLemmas as step
-
--- none follows it
-pub one_last : (p : Program) (plan : Plan) (end : IterEnd) → end ≢ Next → (i : ℕ) (printed cells : List ℤ) (v w : Viewed) (old new : Compared) (comes : After) →
-    LastCompared p plan end i printed cells v old new comes → OneCompared p plan end i printed cells v w old new (Some comes)
-one_last p plan Next off i printed cells v w old new comes is = absurd (off refl)
-one_last p plan Closed off i printed cells v w old new comes is = (comes, refl, is)
-one_last p plan (Fault fault) off i printed cells v w old new comes is = (comes, refl, is)
-one_last p plan Fuel off i printed cells v w old new comes is = (comes, refl, is)
-one_last p plan Going off i printed cells v w old new comes is = (comes, refl, is)
 
 module _ (p : Program) (plan : Plan) (first ahead behind : MachineState) (v : Viewed) (old now : Compared) (i : ℕ) (at : AtRegion p plan first) (h : Reached p plan first ahead behind v old now i) where
   module _ (beyond other : MachineState) (before printed : List ℤ) (clear : before ≡ []) (until : ℕ) (until_is : until ≡ beyond.steps) (w : Viewed)

@@ -218,25 +218,11 @@ pub(crate) fn compare_region<'p>(
         return Ok(After::Differs(line));
     }
     let cells = ahead.cells().copy()?;
-    let mut behind = Machine::at_region(
-        alloc,
-        program,
-        input,
-        ahead.fuel(),
-        plan.region,
-        cells,
-        ahead.steps(),
-    )?;
+    let (fuel, steps) = (ahead.fuel(), ahead.steps());
+    let mut behind = Machine::at_region(alloc, program, input, fuel, plan.region, cells, steps)?;
     let mut views = Views::begin(alloc, program, plan, ahead.cells())?;
-    match compare_iterations(
-        alloc,
-        program,
-        plan,
-        ahead,
-        &mut behind,
-        &mut views,
-        compared,
-    )? {
+    let (behind, views) = (&mut behind, &mut views);
+    match compare_iterations(alloc, program, plan, ahead, behind, views, compared)? {
         After::Left => {}
         After::Ends(end) => return Ok(After::Ends(end)),
         After::Differs(line) => return Ok(After::Differs(line)),

@@ -40,11 +40,11 @@ compare_iterations-requires-clause-starts c =
     let views : c.in_ok-views.views ≡ begun p plan m.config.cells = c.in_ok-views.ensures ∙ ap (begun p plan) c.cells-2.ensures in
     let cells : c.in_ok-cells.cells ≡ m.config.cells = c.in_ok-cells.ensures ∙ c.cells.ensures in
     let config : standing p (statements_from plan.region p.main) c.in_ok-cells.cells ≡ m.config = ap (standing p (statements_from plan.region p.main)) cells ∙ config_is p plan m c.requires.at in
-    let fuel : c.fuel-2.result - c.steps-2.result ≡ fuel_left m = omega (arith, c.fuel-2.ensures, c.steps-2.ensures.value) in
+    let fuel : c.fuel-fuel.result - c.steps-steps.result ≡ fuel_left m = omega (arith, c.fuel-fuel.ensures, c.steps-steps.ensures.value) in
     let trace : (rest_of_run c.in_ok-behind.behind).trace ≡ (rest_of_run m).trace =
     ap (λ (b : MachineState). (rest_of_run b).trace) c.in_ok-behind.ensures
     ∙ (λ i. (run_of (sym c.requires.at.program_is i) (sym c.requires.input i) (fuel i) (config i)).trace) in
-    let steps : c.in_ok-behind.behind.steps ≡ m.steps = ap (λ (b : MachineState). b.steps) c.in_ok-behind.ensures ∙ c.steps-2.ensures.value in
+    let steps : c.in_ok-behind.behind.steps ≡ m.steps = ap (λ (b : MachineState). b.steps) c.in_ok-behind.ensures ∙ c.steps-steps.ensures.value in
     subst (λ (v : Viewed). Starts m c.in_ok-behind.behind v) (sym views) (record { at = c.requires.at; trace = trace; steps = steps; kept = refl })
 
 pub returns-in-Ends : goal.returns-in-Ends
