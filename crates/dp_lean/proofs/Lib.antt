@@ -1,0 +1,26 @@
+mod rows
+pub mod LeanLists
+pub mod LeftTexts
+pub mod LeanHeads
+pub mod Wanted
+pub mod QueueParts
+pub mod Walk
+pub mod OwnBlocks
+pub mod Weights
+pub mod Alongside
+pub mod LeanSites
+pub mod LeanBlocks
+pub mod LeanTurns
+pub mod Once
+pub mod ReadSites
+pub mod Placed
+pub mod TextItems
+pub mod TextTurns
+pub mod Coming
+pub mod LoadQueues
+pub mod Outliving
+pub mod JudgeSteps
+pub mod Spent
+pub mod JudgedSites
+pub mod JudgedBlocks
+pub mod LeanJudges

@@ -1,0 +1,4 @@
+pub mod Mixed
+mod Texts
+mod Turned
+mod Compared

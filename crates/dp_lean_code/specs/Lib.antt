@@ -1,0 +1,4 @@
+pub mod LeanOps
+pub mod LeanFlat
+pub mod LeanCode
+pub mod Laws
