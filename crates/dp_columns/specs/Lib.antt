@@ -1,0 +1,9 @@
+pub mod Paired
+pub mod Columned
+pub mod Telling
+pub mod Left
+pub mod Held
+pub mod Viewed
+pub mod Lent
+pub mod Ahead
+pub mod Marked

@@ -1,0 +1,43 @@
+-- Rows of cells and of values side by side, and their parts, one for each event.
+use Rattle.std.specs.Prelude.{ℕ, List, [], ◌∷◌, ◌++◌, map, take, drop, ℤ}
+use Rattle.std.specs.List.{zip}
+use Rattle.dp_tree.specs.Eval.{Load}
+use Rattle.dp_tree.specs.Step.{Effect, Stored}
+use Rattle.dp_lean.specs.Queues.{Told, Did, DidBlock}
+
+-- a cell and the value beside it, as a load
+abbrev pub load_of : ℕ × ℤ → Load
+load_of pair = record { cell = pair.0; value = pair.1 }
+
+-- .. for each place of the two rows
+abbrev pub pairs_of : List ℕ → List ℤ → List Load
+pairs_of cells values = map load_of (zip cells values)
+
+-- .. as what an element's site did, and as a store
+abbrev pub did : Load → Told
+did l = Did l.cell l.value
+
+abbrev pub stored_by : Load → Effect
+stored_by l = Stored l.cell l.value
+
+-- what a block with these stores tells
+abbrev pub block_told : List Load → Told
+block_told stores = DidBlock (map stored_by stores)
+
+-- parts of these lengths, one behind the other
+abbrev pub split_by : {X : Type 0} → List ℕ → List X → List (List X)
+split_by [] xs = []
+split_by (n ∷ ns) xs = take n xs ∷ split_by ns (drop n xs)
+
+-- what belongs to each event, and what belongs to one that isn't ended
+pub record Grouped : Type 0 where
+  pub ended : List (List Load)
+  pub unfinished : List Load
+
+-- .. where the event that isn't ended has one pair more
+abbrev pub with_pair : Load → Grouped → Grouped
+with_pair l g = record { ended = g.ended; unfinished = g.unfinished ++ l ∷ [] }
+
+-- .. and where it is ended
+abbrev pub event_ended : Grouped → Grouped
+event_ended g = record { ended = g.ended ++ g.unfinished ∷ []; unfinished = [] }
