@@ -20,7 +20,8 @@ use Rattle.dp_lean.proofs.Outliving.{Outlives, outlives_both, outlives_past, blo
 use Rattle.dp_lean.proofs.Walk.{behind, ReadsBlock}
 use Rattle.dp_lean.proofs.Alongside.{of_text_after, Fed, fed_taken, fed_past, fed_same}
 use Rattle.dp_lean.proofs.JudgeSteps.{found_block, taken_block, block_steps, block_is}
-use Rattle.dp_lean.proofs.JudgedSites.{filter_join, Held, FedLoads, Alike, Same, same_step, net_at, lean_judging_at}
+use Rattle.dp_lean.proofs.Outliving.{filter_join}
+use Rattle.dp_lean.proofs.JudgedTurns.{Held, FedLoads, Alike, Same, same_step, net_at, lean_judging_at}
 
 stores_unprinted : (es : List Effect) → list_all is_store es ≡ true → filter_map printed_by es ≡ []
 stores_unprinted [] e = refl
@@ -38,7 +39,7 @@ module _ (p : Program) (plan : Plan) (m : Marks) (input : List ℤ) (marked : Ma
   stage = suc t
 
   abbrev read : ℕ → Bool
-  read = Rattle.dp_lean.proofs.JudgedSites.read p plan m input marked laid judge limit lists0 cells0 more more_loads
+  read = Rattle.dp_lean.proofs.JudgedTurns.read p plan m input marked laid judge limit lists0 cells0 more more_loads
 
   abbrev HeldAt : ℕ → List Stmt → List ℤ → List ℤ → List (List Item) → (ℕ → List Told) → (ℕ → List (List Load)) → List Effect → List Effect → ℕ → Type 0
   HeldAt = Held p plan m input marked laid judge limit lists0 cells0 more more_loads

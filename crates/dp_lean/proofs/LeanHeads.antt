@@ -1,5 +1,5 @@
 -- The head of a text: its statement is left, with what may follow it, or nothing is left of it; or a block begins there.
-use Rattle.dp_semantics.proofs.Names.{◌≡◌, inl, inr, refl, sym, ap, ◌∙◌, subst, ℕ, Bool, true, false, not, ◌||◌, if◌then◌else◌, List, [], ◌∷◌, ◌++◌, ℤ, is_zero, or_parts, cases_Bool, outs-If, rolls-Assign, rolls-Store, rolls-Print, rolls-Break, SiteId, Expr, Stmt, out-Stmt, roll-Stmt, roll-out-Stmt, Stmt-F, Assign, Store, Print, If, While, Break, Program, Plan, Word, evaluated, Printed, Tried, site_of, effect_by, followed, choose, behind_region}
+use Rattle.dp_semantics.proofs.Names.{◌≡◌, inl, inr, refl, sym, ap, ◌∙◌, subst, ℕ, Bool, true, false, not, ◌||◌, if◌then◌else◌, List, [], ◌∷◌, ◌++◌, ℤ, is_zero, or_parts, cases_Bool, outs-If, rolls-Assign, rolls-Store, rolls-Print, rolls-Break, SiteId, Expr, Stmt, out-Stmt, roll-Stmt, roll-out-Stmt, Stmt-F, Assign, Store, Print, If, While, Break, Program, Plan, Word, evaluated, Printed, Tried, site_of, effect_by, followed, choose, behind_region, ◌==◌, ◌&&◌, stage_of, first_site, is_checked, Effect, Stored, Decided, leaves, closes_at}
 use Rattle.dp_tree.specs.declared.Stmt.TheVariants as tree
 use Rattle.dp_tree.specs.declared.Stmt.TheVariants.{outs-While}
 use Rattle.dp_semantics.proofs.Evaluation.{Form, head_stores}
@@ -18,6 +18,24 @@ module _ (p : Program) (plan : Plan) (m : Marks) (s : ℕ) where
     pub undone : does_store p plan s (head_stores h) ≡ false
     pub mute : (z : ℤ) → Form p h (Printed z) → is_judge p plan s ≡ false
     pub inner : (z : ℤ) → Form p h (Tried z) → ⊥
+
+  -- .. it is another stage's, not the region's condition, and has nothing that is compared
+  pub gone_parts : (h : Stmt-F Stmt) → Gone h →
+      ((stage_of p plan (site_of h).0 == s) ≡ false) × (((site_of h).0 == first_site p plan) ≡ false) × ((is_judge p plan s && is_checked p plan (site_of h).0) ≡ false)
+  gone_parts h gone =
+      let both = or_parts (stage_of p plan (site_of h).0 == s) _ gone.other in
+      let two = or_parts ((site_of h).0 == first_site p plan) _ both.1 in
+      (both.0, two.0, two.1)
+
+  gone_stays : (h : Stmt-F Stmt) → Gone h → (effect : Effect) → Form p h effect → leaves effect ≡ false
+  gone_stays h gone (Stored c z) f = refl
+  gone_stays h gone (Printed z) f = refl
+  gone_stays h gone (Decided z) f = refl
+  gone_stays h gone (Tried z) f = absurd (gone.inner z f)
+
+  -- .. so it doesn't leave the region
+  pub gone_open : (h : Stmt-F Stmt) → Gone h → (effect : Effect) → Form p h effect → closes_at (first_site p plan) (site_of h).0 effect ≡ false
+  gone_open h gone effect f = rw ((gone_parts h gone).1, gone_stays h gone effect f) refl
 
   -- y does what x does
   pub record Stands (input : List ℤ) (x y : Stmt) : Type 0 where

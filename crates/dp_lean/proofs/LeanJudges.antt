@@ -25,7 +25,8 @@ use Rattle.dp_lean.proofs.LeanHeads.{Headed, stays, gone, whole, headed}
 use Rattle.dp_lean.proofs.Outliving.{outlives_self, stores_cleared}
 use Rattle.dp_lean.proofs.Walk.{ended}
 use Rattle.dp_lean.proofs.JudgeSteps.{no_steps}
-use Rattle.dp_lean.proofs.JudgedSites.{Held, Alike, Same, EndsSo, same_end, net_at, lean_judging_at, read, gone_case, stays_case}
+use Rattle.dp_lean.proofs.JudgedTurns.{Held, Alike, Same, EndsSo, same_end, net_at, lean_judging_at, read}
+use Rattle.dp_lean.proofs.JudgedSites.{gone_case, stays_case}
 use Rattle.dp_lean.proofs.JudgedBlocks.{block_case}
 use Rattle.dp_lean.proofs.Spent.{spends}
 use Rattle.dp_lean.proofs.Placed.{numbered, some_epoch, text, walkable, brings, of_text}

@@ -16,7 +16,7 @@ use Rattle.dp_lean.specs.LeanTurn.{LeanTurn, lean_step, lean_did, with_queues}
 use Rattle.dp_lean.specs.Laws.{AgreesOn, is_read}
 use Rattle.dp_lean.proofs.LeanLists.{leaned}
 use Rattle.dp_lean.proofs.LeftTexts.{Left}
-use Rattle.dp_lean.proofs.LeanHeads.{Gone, Stands}
+use Rattle.dp_lean.proofs.LeanHeads.{Gone, Stands, gone_parts, gone_open}
 use Rattle.dp_lean.proofs.Wanted.{agree_both, agree_past, form_elsewhere, eval_alike}
 use Rattle.dp_lean.proofs.QueueParts.{did, queue_here, queue_there, effect_here}
 use Rattle.dp_lean.proofs.Walk.{Brings, Walkable, head_well, own_site, low, next, own_past, Reads, reads}
@@ -118,17 +118,11 @@ module _ (p : Program) (plan : Plan) (m : Marks) (input : List ℤ) (marked : Ma
         Same p plan m input stage more (net_by p plan m input stage go (net_step p plan m input stage before x rest)) (lean_turn (leaned p plan m stage (x ∷ rest)) mem queues own closing)
     gone_case unread gone is nexts = goal_of _ _ (taken_is other)
         (subst (λ (c : LeanTurn). Same p plan m input stage more (go (after_taken other)) c) stands
-        (on (followed x rest h (value_of effect)) (stored effect cells) mem (slice_set lists (u - 1) ((found other).next_left u)) queues own
-        (closing || closes_at (first_site p plan) (site_of h).0 effect) (next_held other mem queues agrees fed)))
+        (on (followed x rest h (value_of (found other).event.effect)) (stored (found other).event.effect cells) mem (slice_set lists (u - 1) ((found other).next_left u)) queues own
+        (closing || closes_at (first_site p plan) (site_of h).0 (found other).event.effect) (next_held other mem queues agrees fed)))
       where
-        both : ((u == stage) ≡ false) × ((((site_of h).0 == first_site p plan) || (is_judge p plan stage && is_checked p plan (site_of h).0)) ≡ false)
-        both = or_parts (u == stage) _ gone.other
-
         other : u ≡ stage → ⊥
-        other same = let clash : true ≡ false = sym (eq-eqb u stage same) ∙ both.0 in absurd (cc clash)
-
-        effect : Effect
-        effect = (found other).event.effect
+        other same = let clash : true ≡ false = sym (eq-eqb u stage same) ∙ (gone_parts p plan m stage h gone).0 in absurd (cc clash)
 
         form : Form p h (found other).event.effect
         form = form_of other
@@ -140,14 +134,8 @@ module _ (p : Program) (plan : Plan) (m : Marks) (input : List ℤ) (marked : Ma
         fed = fed_past p plan read more (site_at x) left (found other).next_left queues unread held.fed
             (queue_there p plan h (found other).event left (found other).next_left (found other).says (found other).others)
 
-        not_leaving : (e : Effect) → Form p h e → leaves e ≡ false
-        not_leaving (Stored c z) f = refl
-        not_leaving (Printed z) f = refl
-        not_leaving (Decided z) f = refl
-        not_leaving (Tried z) f = absurd (gone.inner z f)
-
         stays_open : closes_at (first_site p plan) (site_of h).0 (found other).event.effect ≡ false
-        stays_open = rw ((or_parts ((site_of h).0 == first_site p plan) _ both.1).0, not_leaving (found other).event.effect form) refl
+        stays_open = gone_open p plan m stage h gone (found other).event.effect form
 
         stands : lean_turn (leaned p plan m stage (followed x rest h (value_of (found other).event.effect))) mem queues own (closing || closes_at (first_site p plan) (site_of h).0 (found other).event.effect)
             ≡ lean_turn (leaned p plan m stage (x ∷ rest)) mem queues own closing
@@ -175,14 +163,11 @@ module _ (p : Program) (plan : Plan) (m : Marks) (input : List ℤ) (marked : Ma
           Same p plan m input stage more (net_by p plan m input stage go (net_step p plan m input stage before x rest)) lean_before
       taken_case other r = goal_of _ _ (taken_is other)
           (same_step p plan m input stage more (go (after_taken other)) lean_before
-          (lean_turn (leaned p plan m stage (followed x rest h (value_of effect))) (stored effect mem) (with_queue queues (site_at x) behind) own (closing || closes_at (first_site p plan) (site_of h).0 effect))
+          (lean_turn (leaned p plan m stage (followed x rest h (value_of (found other).event.effect))) (stored (found other).event.effect mem) (with_queue queues (site_at x) behind) own (closing || closes_at (first_site p plan) (site_of h).0 (found other).event.effect))
           y ys is step
-          (on (followed x rest h (value_of effect)) (stored effect cells) (stored effect mem) (slice_set lists (u - 1) ((found other).next_left u)) (with_queue queues (site_at x) behind) own
-          (closing || closes_at (first_site p plan) (site_of h).0 effect) (next_held other (stored effect mem) (with_queue queues (site_at x) behind) agrees fed)))
+          (on (followed x rest h (value_of (found other).event.effect)) (stored (found other).event.effect cells) (stored (found other).event.effect mem) (slice_set lists (u - 1) ((found other).next_left u)) (with_queue queues (site_at x) behind) own
+          (closing || closes_at (first_site p plan) (site_of h).0 (found other).event.effect) (next_held other (stored (found other).event.effect mem) (with_queue queues (site_at x) behind) agrees fed)))
         where
-          effect : Effect
-          effect = (found other).event.effect
-
           behind : List Told
           behind = queue_of p plan (found other).next_left (site_at x) ++ more (site_at x)
 
@@ -232,18 +217,12 @@ module _ (p : Program) (plan : Plan) (m : Marks) (input : List ℤ) (marked : Ma
             left = omega (arith, join, said, some, before);
           }
 
-      produced : (v : WithLoads Effect) → Bool → Option NetTurn
-      produced v b = if b then Some (record { to_do = leaned p plan m stage (followed x rest h (value_of v.value)); cells = stored v.value mem; lists = []; own = own ++ said_all (words_of p plan (event_of h v)); closing = closing || closes_at (first_site p plan) (site_of h).0 v.value }) else None
-
       own_case : u ≡ stage → (o w : Evaluated Effect) → SameEval o w → evaluated p input cells h ≡ o → evaluated p input mem h ≡ w →
           Same p plan m input stage more (net_by p plan m input stage go (net_own_step p plan before x rest h o)) lean_before
       own_case here o w (same_fault k l) gave also = same_stop p plan m input stage more lean_before y ys is
           (rw (no_block, eq-eqb (stage_of p plan (site_of (out-Stmt y)).0) stage (stage_is ∙ here), stands.evaluates mem, also) refl)
       own_case here o w (same_value v) gave also = by (event_as_assumed p plan (event_of h v)) (nat_le (weights own + length (words_of p plan (event_of h v))) plan.words) refl refl
         where
-          test : Bool
-          test = event_as_assumed p plan (event_of h v) && nat_le (weights own + length (words_of p plan (event_of h v))) plan.words
-
           step : lean_step p plan m input stage lean_before y ys
               ≡ with_queues queues (if event_as_assumed p plan (event_of h v) && nat_le (weights own + length (words_of p plan (event_of h v))) plan.words then Some (record { to_do = leaned p plan m stage (followed x rest h (value_of v.value)); cells = stored v.value mem; lists = []; own = own ++ said_all (words_of p plan (event_of h v)); closing = closing || closes_at (first_site p plan) (site_of h).0 v.value }) else None)
           step = rw (no_block, eq-eqb (stage_of p plan (site_of (out-Stmt y)).0) stage (stage_is ∙ here), stands.evaluates mem, also)

@@ -12,6 +12,7 @@ pub mod LeanSites
 pub mod LeanBlocks
 pub mod LeanTurns
 pub mod Once
+pub mod Either
 pub mod ReadSites
 pub mod Placed
 pub mod TextItems
@@ -21,6 +22,8 @@ pub mod LoadQueues
 pub mod Outliving
 pub mod JudgeSteps
 pub mod Spent
+pub mod JudgedTurns
 pub mod JudgedSites
 pub mod JudgedBlocks
 pub mod LeanJudges
+pub mod GoingOn

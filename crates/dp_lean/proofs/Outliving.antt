@@ -1,5 +1,5 @@
 -- Memories that differ in body locals alone, and what the judge leaves out of an iteration's stores.
-use Rattle.dp_semantics.proofs.Names.{◌≡◌, inl, inr, refl, sym, ap, ◌∙◌, subst, arith, ℕ, ◌<◌, Bool, true, false, not, ◌||◌, ◌&&◌, if◌then◌else◌, List, [], ◌∷◌, ◌++◌, ℤ, pos, length, Option, Some, None, unwrap_or, get_or, get_or_past, filter_map, list_any, list_all, and_parts, or_parts, ne_eqb, cases_Bool, cases_lt, flat_map, Stmt, Stmt-F, Program, Plan, Effect, Stored, Printed, Decided, Tried, applied, clear_locals, is_local_cell, is_local_at, is_body_local, is_cell_of, Access, accesses}
+use Rattle.dp_semantics.proofs.Names.{◌≡◌, inl, inr, refl, sym, ap, ◌∙◌, subst, arith, ℕ, ◌<◌, Bool, true, false, not, ◌||◌, ◌&&◌, if◌then◌else◌, List, [], ◌∷◌, ◌++◌, ℤ, pos, length, Option, Some, None, unwrap_or, get_or, get_or_past, filter_map, cons_option, list_any, list_all, and_parts, or_parts, ne_eqb, cases_Bool, cases_lt, flat_map, Stmt, Stmt-F, Program, Plan, Effect, Stored, Printed, Decided, Tried, applied, clear_locals, is_local_cell, is_local_at, is_body_local, is_cell_of, Access, accesses}
 use Rattle.std.proofs.lemmas.List.{ext_get_or}
 use Rattle.dp_semantics.specs.Told.{store_made, with_stores}
 use Rattle.dp_semantics.proofs.Evaluation.{InVar, Form, head_stores}
@@ -11,6 +11,14 @@ use Rattle.dp_net.proofs.Sent.{clear_size}
 use Rattle.dp_lean.specs.Needed.{is_judge, wanted, is_done_to, does_store, store_inside}
 use Rattle.dp_lean.specs.Queues.{stores_among}
 use Rattle.dp_lean.proofs.Wanted.{among}
+
+pub filter_join : {X Y : Type 0} (f : X → Option Y) (a b : List X) → filter_map f (a ++ b) ≡ filter_map f a ++ filter_map f b
+filter_join f [] b = refl
+filter_join {Y = Y} f (x ∷ a) b = by (f x) (filter_join f a b)
+  where
+    by : (o : Option Y) → filter_map f (a ++ b) ≡ filter_map f a ++ filter_map f b → cons_option o (filter_map f (a ++ b)) ≡ cons_option o (filter_map f a) ++ filter_map f b
+    by None e = e
+    by (Some y) e = ap (λ ys. y ∷ ys) e
 
 pub applied_join : (a b : List Effect) (cells : List ℤ) → applied (a ++ b) cells ≡ applied b (applied a cells)
 applied_join [] b cells = refl

@@ -15,6 +15,7 @@ use Rattle.dp_lean.specs.LeanText.{kept_when, has_some, lean}
 use Rattle.dp_lean.proofs.LeanLists.{leaned, lean_at, lean_out, lean_alone, lean_block, if_kept}
 use Rattle.dp_lean.proofs.LeftTexts.{Left, ends, leaf, choice, loop, block}
 use Rattle.dp_lean.proofs.LeanHeads.{leaf_test, leaf_is}
+use Rattle.dp_lean.proofs.Either.{true_or, true_left, false_or, or_none, clash, not_true}
 use Rattle.dp_lean.proofs.Once.{Part, Once, once_split, has_join, absent_part, lean_part_all}
 
 module _ (p : Program) (plan : Plan) (m : Marks) (input : List Rattle.dp_semantics.proofs.Names.ℤ) (marked : Marked p plan m input) (s : ℕ) where
@@ -37,25 +38,6 @@ module _ (p : Program) (plan : Plan) (m : Marks) (input : List Rattle.dp_semanti
   -- what is read agrees with what is left of these statements
   abbrev pub Agree : (ℕ → Bool) → List Stmt → Type 0
   Agree read xs = (y : ℕ) → has_site y (sites xs) ≡ true → read y ≡ has_site y (sites (leaned p plan m s xs))
-
-  true_or : (a b : Bool) → b ≡ true → (a || b) ≡ true
-  true_or a b e = ap (λ (c : Bool). a || c) e ∙ or-true a
-
-  true_left : (a b : Bool) → a ≡ true → (a || b) ≡ true
-  true_left a b e = ap (λ (c : Bool). c || b) e
-
-  false_or : (a b : Bool) → a ≡ false → (a || b) ≡ b
-  false_or a b e = ap (λ (c : Bool). c || b) e
-
-  or_none : (a b : Bool) → b ≡ false → (a || b) ≡ a
-  or_none a b e = ap (λ (c : Bool). a || c) e ∙ or-false a
-
-  clash : {b : Bool} → b ≡ true → b ≡ false → ⊥
-  clash e f = let q : true ≡ false = sym e ∙ f in absurd (cc q)
-
-  not_true : (b : Bool) → (b ≡ true → ⊥) → b ≡ false
-  not_true true e = absurd (e refl)
-  not_true false e = refl
 
   module _ (read : ℕ → Bool) (x : Stmt) (rest : List Stmt) (none : m.block_at (site_at x) ≡ []) (agree : Agree read (x ∷ rest)) (once : Once (sites (x ∷ rest))) where
     parts : Once (accesses x) × Once (sites rest) × ((y : ℕ) → has_site y (accesses x) ≡ true → has_site y (sites rest) ≡ false)

@@ -7,7 +7,7 @@ use Rattle.dp_tree.specs.Eval.{Load}
 use Rattle.dp_tree.specs.Step.{clear_locals}
 use Rattle.dp_tree.specs.Trace.{printed_by}
 use Rattle.dp_plan.specs.declared.Plan.{Plan}
-use Rattle.dp_plan.specs.Access.{accesses, region_statement}
+use Rattle.dp_plan.specs.Access.{accesses, is_replicated, region_statement}
 use Rattle.dp_plan.specs.Checked.{is_checked, has_site}
 use Rattle.dp_semantics.specs.Project.{project_all}
 use Rattle.dp_semantics.specs.Words.{is_cell_of}
@@ -96,6 +96,13 @@ module _ (p : Program) (plan : Plan) where
       differs : JudgesAlike limit lists more more_loads cells None Differs
       alike : {a : NetAgreed} {f : LeanJudging} → all_steps lists ≤ limit → JudgedAlike lists more more_loads cells a f →
           JudgesAlike limit lists more more_loads cells (Some a) (Holds f)
+
+-- Memories that agree where a turn ends do so where the next iteration starts.
+-- Those of a stage before a replicated one agree on what its workers want, which begin with them.
+abbrev pub MemoriesGoOn : Program → Plan → Type 0
+MemoriesGoOn p plan = (s : ℕ) (a b : List ℤ) → AgreesOn p plan s a b →
+    AgreesOn p plan s (clear_locals plan.region p.vars a) (clear_locals plan.region p.vars b)
+    × (suc s ≤ length plan.stages → is_replicated plan (suc s) ≡ true → AgreesOn p plan (suc s) a b)
 
 -- What comes to a stage, or to the judge, and isn't void, follows the text.
 abbrev pub PacketsCome : Program → Plan → Type 0

@@ -3,7 +3,7 @@
 ghost use Rattle.std.specs.Prelude.{◌≡◌, true};
 ghost use Rattle.dp_tree.specs.Inlined.{IsInlined};
 ghost use Rattle.dp_semantics.specs.Fits.{fits_plan};
-ghost use Rattle.dp_lean.specs.Laws.{LeanJudgesAreJudges, LeanTurnsAreTurns, PacketsCome};
+ghost use Rattle.dp_lean.specs.Laws.{LeanJudgesAreJudges, LeanTurnsAreTurns, MemoriesGoOn, PacketsCome};
 
 use dp_plan::Plan;
 use dp_tree::Program;
@@ -28,4 +28,10 @@ pub fn lean_judges_are_judges(p: &Program, plan: &Plan)
     requires inlined { IsInlined p.now }
     requires fits { fits_plan p.now plan.now ≡ true }
     ensures { LeanJudgesAreJudges p.now plan.now }
+{}
+
+/// Memories that agree on what a stage wants still do where the next iteration starts, and for the workers that begin with them.
+pub fn memories_go_on(p: &Program, plan: &Plan)
+    requires fits { fits_plan p.now plan.now ≡ true }
+    ensures { MemoriesGoOn p.now plan.now }
 {}

@@ -6,4 +6,4 @@
 
 mod law;
 
-pub use law::{lean_judges_are_judges, lean_turns_are_turns, packets_come};
+pub use law::{lean_judges_are_judges, lean_turns_are_turns, memories_go_on, packets_come};

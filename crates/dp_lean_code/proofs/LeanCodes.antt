@@ -24,7 +24,8 @@ use Rattle.dp_lean_code.specs.LeanCode.{list_code, block_code, no_blocks, lean_c
 use Rattle.dp_lean_code.specs.Laws.{CodeIsRight}
 use Rattle.dp_lean_code.proofs.LeanRunning.{From, later}
 use Rattle.dp_lean_code.proofs.LeanStanding.{Stands, Over, stands_list}
-use Rattle.dp_lean_code.proofs.LeanRuns.{some_block, all_run}
+use Rattle.dp_lean_code.proofs.LeanRuns.{all_run}
+use Rattle.dp_lean_code.proofs.Leaving.{some_block}
 
 module _ (p : Program) (plan : Plan) (s t : ℕ) where
   mutual
@@ -60,7 +61,7 @@ is_lean_code p plan s m marked text input cells queues end comes =
     let ops = list_code p plan s m (block_code p plan s) zero (lean_text p plan m s) 0 in
     let code = lean_code p plan s m in
     let over : From (lean_code p plan s m) (0 + length (list_code p plan s m (block_code p plan s) zero (lean_text p plan m s) 0)) (Plain op.End ∷ []) = later code 0 ops (Plain op.End ∷ []) refl in
-    let some = some_block p plan s m input (marked input) (λ t xs q. quiet_text p plan s t xs q) code (0 + length ops) over in
+    let some = some_block p plan s m in
     all_run p plan s m input (marked input) (λ t xs q. quiet_text p plan s t xs q) code (0 + length ops) over comes.0 0 (lean_text p plan m s)
     (record { cells = cells; queues = queues; own = []; closing = false; block = Rattle.dp_semantics.proofs.Names.None }) end
     (subst (λ (ys : List Stmt). Stands p plan s m (block_code p plan s) some code (0 + length ops) 0 ys) (append-nil (lean_text p plan m s))

@@ -1,7 +1,6 @@
 -- The code of a lean text does what the lean turn does.
 use Rattle.dp_semantics.proofs.Names.{◌≡◌, refl, sym, ap, ◌∙◌, subst, append_assoc, length-append, arith, eq-eqb, eqb-true, ltb-true, lt-ltb, or-false, ◌<◌, ◌≤◌, ℕ, zero, suc, ◌+◌, ◌-◌, ◌==◌, ◌||◌, ◌&&◌, not, if◌then◌else◌, Bool, true, false, List, [], ◌∷◌, ◌++◌, length, drop, drop-append_seam, ℤ, Option, Some, None, Ok, Err, nat_le, nat_lt, and_parts, leb-true, inl, inr, cases_Bool, SiteId, Expr, Stmt, out-Stmt, Stmt-F, Assign, Store, Print, If, While, Region, Break, Call, Program, Plan, Word, Evaluated, evaluated, WithLoads, and_then, after_loads, just, decided, place, eval, Event, Effect, Stored, Printed, Decided, Tried, site_of, value_of, stored, followed, taken, leaves, is_zero, is_zero_at, closes_at, first_site, stage_of, behind_region, behind_one, region_number, effect_by, is_cell_of, event_as_assumed, words_of, applied, sum_by-cons}
 use Rattle.std.proofs.lemmas.List.{length-drop}
-use Rattle.std.proofs.Math.Bool.{or_assoc}
 use Rattle.dp_semantics.proofs.Ways.{event_of}
 use Rattle.dp_code.specs.declared.Op.TheVariants as op
 use Rattle.dp_net.specs.NetItems.{Marks, Item, Net, net_of, weight, weights, said_all}
@@ -24,19 +23,12 @@ use Rattle.dp_lean_code.proofs.LeanRunning.{From, later, next, within, within_op
 use Rattle.dp_lean_code.proofs.LeanStanding.{head_number, stmt_of, code_out, some_code, Stands, Over, Jumps, Here, Whole, stands_list}
 use Rattle.dp_lean_code.proofs.LeanEffects.{between, Does, Evaluates, Takes}
 use Rattle.dp_lean_code.proofs.LeanHeadsAt.{Follows, Onward, Leaves, At, head_at}
-use Rattle.dp_lean_code.proofs.Leaving.{leaves_so, told_leaves, quiet_left}
+use Rattle.dp_lean_code.proofs.Leaving.{leaves_so, told_leaves, quiet_left, closing_so, some_block}
 use Rattle.dp_lean_code.proofs.LeanSilent.{nothing_inside, no_inner, through_with, Comes, silent_runs}
 
 module _ (p : Program) (plan : Plan) (s : ℕ) (m : Marks) (input : List ℤ) (marked : Marked p plan m input) (quiet_text : (t : ℕ) (xs : List Stmt) → AllQuiet p plan t xs → Text (no_blocks p plan s) xs) (code : List LeanOp) (last : ℕ) (end_here : From code last (Plain op.End ∷ [])) where
-  pub some_block : (f : ℕ) (y : Stmt) (ys : List Stmt) → m.block_at f ≡ y ∷ ys → (site : SiteId) (at : ℕ) → 0 < length (block_code p plan s site (y ∷ ys) at)
-  some_block f y ys e site at = by (stage_of p plan site.0 == s)
-    where
-      by : (b : Bool) → 0 < length (if b then Begin site ∷ (silent_code p plan s (y ∷ ys) (at + 1) ++ Finish ∷ []) else Meet site ∷ [])
-      by true = omega arith
-      by false = omega arith
-
   abbrev pub Standing : ℕ → List Stmt → Type 0
-  Standing at xs = Stands p plan s m (block_code p plan s) some_block code last at xs
+  Standing at xs = Stands p plan s m (block_code p plan s) (some_block p plan s m) code last at xs
 
   left : (at : ℕ) (xs : List Stmt) → Standing at xs → behind_region xs ≡ []
   left at _ Over = refl
@@ -49,9 +41,9 @@ module _ (p : Program) (plan : Plan) (s : ℕ) (m : Marks) (input : List ℤ) (m
   stands_within at _ Over = within code last (Plain op.End) [] end_here
   stands_within at _ (Jumps k to xs rest from st) = within code k (Plain (op.Jump to)) rest from
   stands_within at _ (Here k x xs rest none t from st) =
-      within_ops code k (stmt_of p plan s m (block_code p plan s) some_block x k) rest
-      (let a = some_code p plan s m (block_code p plan s) some_block (out-Stmt x) k t in let b = ap length (code_out p plan s m (block_code p plan s) some_block x k) in omega (arith, a, b)) from
-  stands_within at _ (Whole k x b more xs rest is same from st) = within_ops code k (block_code p plan s (site_of (out-Stmt x)) (x ∷ b) k) rest (some_block (site_at x) x b is (site_of (out-Stmt x)) k) from
+      within_ops code k (stmt_of p plan s m (block_code p plan s) (some_block p plan s m) x k) rest
+      (let a = some_code p plan s m (block_code p plan s) (some_block p plan s m) (out-Stmt x) k t in let b = ap length (code_out p plan s m (block_code p plan s) (some_block p plan s m) x k) in omega (arith, a, b)) from
+  stands_within at _ (Whole k x b more xs rest is same from st) = within_ops code k (block_code p plan s (site_of (out-Stmt x)) (x ∷ b) k) rest (some_block p plan s m (site_at x) x b is (site_of (out-Stmt x)) k) from
 
   abbrev pub turn_of : List Stmt → Held → LeanTurn
   turn_of xs h = record { turn = record { to_do = xs; cells = h.cells; lists = []; own = h.own; closing = h.closing }; queues = h.queues }
@@ -66,7 +58,7 @@ module _ (p : Program) (plan : Plan) (s : ℕ) (m : Marks) (input : List ℤ) (m
   abbrev held_so : Held → Bool → Held
   held_so h b = record { cells = h.cells; queues = h.queues; own = h.own; closing = h.closing || b; block = h.block }
 
-  followed_runs : (n : ℕ) → Goes_on n → (at : ℕ) (b : Bool) (xs : List Stmt) (h : Held) (end : LeanEnd) → Follows p plan s m (block_code p plan s) some_block m input code last at b xs → h.block ≡ None → weights h.own ≤ plan.words →
+  followed_runs : (n : ℕ) → Goes_on n → (at : ℕ) (b : Bool) (xs : List Stmt) (h : Held) (end : LeanEnd) → Follows p plan s m (block_code p plan s) (some_block p plan s m) m input code last at b xs → h.block ≡ None → weights h.own ≤ plan.words →
       lean_from p plan m input s n (turn_of xs (held_so h b)) ≡ Some end → Ends_at at h end
   unfolding lean_from
   followed_runs n go at _ _ h end (Onward k xs st) none fits q =
@@ -79,16 +71,11 @@ module _ (p : Program) (plan : Plan) (s : ℕ) (m : Marks) (input : List ℤ) (m
       (moves p plan m input code (between p plan m input code k h) (Plain op.End) rest from
       ∙ ap (λ (c : Bool). Ends (Arrived (turn_of [] (record { cells = h.cells; queues = h.queues; own = h.own; closing = h.closing || c; block = h.block })))) inside ∙ ap Ends same)
 
-  closing_so : (site : ℕ) (closing : Bool) (effect : Effect) (t : Bool) → leaves effect ≡ t →
-      ((closing || is_zero_at (first_site p plan) site (value_of effect)) || t) ≡ (closing || closes_at (first_site p plan) site effect)
-  closing_so site closing effect t e = or_assoc closing (is_zero_at (first_site p plan) site (value_of effect)) t
-      ∙ ap (λ (c : Bool). closing || (is_zero_at (first_site p plan) site (value_of effect) || c)) (sym e)
-
   module _ (n : ℕ) (go : Goes_on n) (end : LeanEnd) where
     broken_is : lean_by p plan m input s (lean_from p plan m input s n) None ≡ Some end → BrokenOff ≡ end
     broken_is q = cc q
 
-    module _ (x : Stmt) (xs : List Stmt) (at : ℕ) (h : Held) (none : h.block ≡ None) (fits : weights h.own ≤ plan.words) (a : At p plan s m (block_code p plan s) some_block m input code last x xs (out-Stmt x) at) where
+    module _ (x : Stmt) (xs : List Stmt) (at : ℕ) (h : Held) (none : h.block ≡ None) (fits : weights h.own ≤ plan.words) (a : At p plan s m (block_code p plan s) (some_block p plan s m) m input code last x xs (out-Stmt x) at) where
       abbrev head : Stmt-F Stmt
       head = out-Stmt x
 
@@ -133,7 +120,7 @@ module _ (p : Program) (plan : Plan) (s : ℕ) (m : Marks) (input : List ℤ) (m
                   (followed_runs n go (a.to (value_of v.value)) (taken head (value_of v.value)) (followed x xs head (value_of v.value)) (held_after p plan m h site.0 v.value (h.own ++ said_all (words_of p plan (event_of head v))) None) end
                   (a.follows (value_of v.value)) refl (grown ew)
                   (ap (λ (b : Bool). lean_from p plan m input s n (record { turn = record { to_do = followed x xs head (value_of v.value); cells = stored v.value h.cells; lists = []; own = h.own ++ said_all (words_of p plan (event_of head v)); closing = b }; queues = h.queues }))
-                  (closing_so site.0 h.closing v.value (taken head (value_of v.value)) (leaves_so p input h.cells head v gave)) ∙ rw (eu, ew) at q))
+                  (closing_so p plan site.0 h.closing v.value (taken head (value_of v.value)) (leaves_so p input h.cells head v gave)) ∙ rw (eu, ew) at q))
               produced c mv true false eu ew q = ends p plan m input code c end (mv ∙ rw (eu, ew) (ap Ends (broken_is (rw (eu, ew) at q))))
               produced c mv false w eu ew q = ends p plan m input code c end (mv ∙ rw eu (ap Ends (broken_is (rw eu at q))))
 
@@ -157,7 +144,7 @@ module _ (p : Program) (plan : Plan) (s : ℕ) (m : Marks) (input : List ℤ) (m
                   (record { cells = stored effect h.cells; queues = with_queue h.queues site.0 more; own = h.own; closing = h.closing || is_zero_at (first_site p plan) site.0 (value_of effect); block = h.block }) end
                   (a.follows (value_of effect)) none fits
                   (ap (λ (b : Bool). lean_from p plan m input s n (record { turn = record { to_do = followed x xs head (value_of effect); cells = stored effect h.cells; lists = []; own = h.own; closing = b }; queues = with_queue h.queues site.0 more }))
-                  (closing_so site.0 h.closing effect (taken head (value_of effect)) (told_leaves p head _ effect is)) ∙ q))
+                  (closing_so p plan site.0 h.closing effect (taken head (value_of effect)) (told_leaves p head _ effect is)) ∙ q))
 
       site_runs : m.block_at (site_at x) ≡ [] → lean_by p plan m input s (lean_from p plan m input s n) (lean_step p plan m input s (turn_of (x ∷ xs) h) x xs) ≡ Some end → Ends_at at h end
       site_runs plain q = by (stage_of p plan site.0 == s) refl a.does (rw plain at q)
@@ -256,9 +243,9 @@ module _ (p : Program) (plan : Plan) (s : ℕ) (m : Marks) (input : List ℤ) (m
       goes p plan m input code (between p plan m input code k h) (between p plan m input code to h) end (moves p plan m input code (between p plan m input code k h) (Plain (op.Jump to)) rest from) (stands_runs n go to xs h end st none fits q)
   stands_runs n go at _ h end (Here k x xs rest plain t from st) none fits q =
       site_runs n go end x xs k h none fits
-      (head_at p plan s m (block_code p plan s) some_block m input code last x xs (out-Stmt x) k rest t (left _ xs st)
-      (subst (λ ops. From code k (ops ++ rest)) (code_out p plan s m (block_code p plan s) some_block x k) from)
-      (subst (λ ops. Standing (k + length ops) xs) (code_out p plan s m (block_code p plan s) some_block x k) st) (Here k x xs rest plain t from st)) plain q
+      (head_at p plan s m (block_code p plan s) (some_block p plan s m) m input code last x xs (out-Stmt x) k rest t (left _ xs st)
+      (subst (λ ops. From code k (ops ++ rest)) (code_out p plan s m (block_code p plan s) (some_block p plan s m) x k) from)
+      (subst (λ ops. Standing (k + length ops) xs) (code_out p plan s m (block_code p plan s) (some_block p plan s m) x k) st) (Here k x xs rest plain t from st)) plain q
   stands_runs n go at _ h end (Whole k x b more xs rest is same from st) none fits q =
       block_runs n go end x b more k rest h none fits is from st
       (subst (λ (ys : List Stmt). lean_by p plan m input s (lean_from p plan m input s n) (lean_step p plan m input s (turn_of (x ∷ ys) h) x ys) ≡ Some end) same q)

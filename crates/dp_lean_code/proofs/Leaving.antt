@@ -1,5 +1,9 @@
--- Which effects leave the region, and what is behind a block.
-use Rattle.dp_semantics.proofs.Names.{◌≡◌, refl, sym, ap, ◌∙◌, subst, not, ℕ, Bool, true, false, if◌then◌else◌, List, [], ◌∷◌, ◌++◌, ℤ, Option, Some, None, Ok, Err, and_parts, is_zero, Stmt, out-Stmt, Stmt-F, Assign, Store, Print, If, While, Region, Break, Call, Program, Plan, Word, Evaluated, evaluated, WithLoads, and_then, after_loads, just, place, eval, Effect, Stored, Printed, Decided, Tried, value_of, taken, leaves, behind_region, behind_one, region_number, effect_by, is_cell_of}
+-- Which effects leave the region, and what is behind a block; and that a block has code.
+use Rattle.dp_semantics.proofs.Names.{◌≡◌, refl, sym, ap, ◌∙◌, subst, not, ℕ, Bool, true, false, if◌then◌else◌, List, [], ◌∷◌, ◌++◌, ℤ, Option, Some, None, Ok, Err, and_parts, is_zero, Stmt, out-Stmt, Stmt-F, Assign, Store, Print, If, While, Region, Break, Call, Program, Plan, Word, Evaluated, evaluated, WithLoads, and_then, after_loads, just, place, eval, Effect, Stored, Printed, Decided, Tried, value_of, taken, leaves, behind_region, behind_one, region_number, effect_by, is_cell_of, arith, ◌<◌, ◌+◌, ◌==◌, ◌||◌, length, SiteId, site_of, stage_of, first_site, is_zero_at, closes_at}
+use Rattle.std.proofs.Math.Bool.{or_assoc}
+use Rattle.dp_net.specs.NetItems.{Marks}
+use Rattle.dp_lean_code.specs.LeanOps.{Begin, Finish, Meet}
+use Rattle.dp_lean_code.specs.LeanCode.{silent_code, block_code}
 use Rattle.dp_net.specs.Quiet.{is_quiet}
 use Rattle.dp_net.proofs.Silent.{all_quiet, AllQuiet, quiet_head, quiet_out}
 
@@ -57,3 +61,18 @@ module _ (p : Program) (plan : Plan) where
   quiet_left t (x ∷ b) rest q =
       let both = and_parts (is_quiet p plan t x) (all_quiet p plan t b) q in
       ap (λ (o : Option ℕ). behind_one o (b ++ rest) (behind_region (b ++ rest))) (quiet_number t (out-Stmt x) (sym (quiet_out p plan t x) ∙ both.0)) ∙ quiet_left t b rest both.1
+
+  -- the region is left at its condition, or by an early exit
+  pub closing_so : (site : ℕ) (closing : Bool) (effect : Effect) (t : Bool) → leaves effect ≡ t →
+      ((closing || is_zero_at (first_site p plan) site (value_of effect)) || t) ≡ (closing || closes_at (first_site p plan) site effect)
+  closing_so site closing effect t e = or_assoc closing (is_zero_at (first_site p plan) site (value_of effect)) t
+      ∙ ap (λ (c : Bool). closing || (is_zero_at (first_site p plan) site (value_of effect) || c)) (sym e)
+
+  module _ (s : ℕ) (m : Marks) where
+    -- no block is without code
+    pub some_block : (f : ℕ) (y : Stmt) (ys : List Stmt) → m.block_at f ≡ y ∷ ys → (site : SiteId) (at : ℕ) → 0 < length (block_code p plan s site (y ∷ ys) at)
+    some_block f y ys e site at = by (stage_of p plan site.0 == s)
+      where
+        by : (b : Bool) → 0 < length (if b then Begin site ∷ (silent_code p plan s (y ∷ ys) (at + 1) ++ Finish ∷ []) else Meet site ∷ [])
+        by true = omega arith
+        by false = omega arith
