@@ -31,6 +31,20 @@ row() { printf '%-46s %9s ms  %s\n' "$1" "$(ratio "$2" 1000000)" "${3-}"; }
 # So many numbers in a row, from 0 up to and without a limit.
 words() { awk -v n="$1" -v m="$2" 'BEGIN { x = 7; for (k = 0; k < n; k++) { x = (x * 1103515245 + 12345) % 2147483648; print int(x / 32768) % m } }'; }
 
+# Words of the kind that the program is for, or else those of the example's own input, again and again.
+many_words() {
+  case $1 in
+    binary_search) words 65536 20 | awk '{ print $1 * $1 }' ;;
+    hash_table) words 65536 16 | awk '{ print $1 * 97 }' ;;
+    partial_sums) echo 16; words 16 100; words 32759 8 | awk '{ print $1, $1 + 8 }' ;;
+    running_filter) awk 'BEGIN { for (k = 0; k < 65536; k++) print 100 + int(k / 4) + (k % 16 == 0) * 60 }' ;;
+    word_histogram) words 65536 13 ;;
+    edit_distance | heap | matrix_powers) words 65536 1000 ;;
+    record_checksums) awk '{ line[n] = $0; size[n++] = NF } END { for (k = 0; total + size[k % n] <= 65536; k++) { print line[k % n]; total += size[k % n] } }' "$top/examples/$1.in" ;;
+    *) tr -s ' \n' '\n\n' <"$top/examples/$1.in" | awk '/./ { word[n++] = $1 } END { for (k = 0; k < 65536; k++) print word[k % n] }' ;;
+  esac
+}
+
 # What the times were seen on.
 machine() { echo "$(nproc) processors, $(sed -n 's/^model name[^:]*: *//p' /proc/cpuinfo | head -n 1), load $(cut -d ' ' -f 1 /proc/loadavg)"; }
 

@@ -11,20 +11,6 @@ need_dswp
 python=$(python3 -c 'import sys; print(sys.executable)')   # not a wrapper, whose own start takes longer than a run
 runners='pipeline unmarked python tcc gcc'
 
-# Words of the kind that the program is for, or else those of the example's own input, again and again.
-many_words() {
-  case $1 in
-    binary_search) words 65536 20 | awk '{ print $1 * $1 }' ;;
-    hash_table) words 65536 16 | awk '{ print $1 * 97 }' ;;
-    partial_sums) echo 16; words 16 100; words 32759 8 | awk '{ print $1, $1 + 8 }' ;;
-    running_filter) awk 'BEGIN { for (k = 0; k < 65536; k++) print 100 + int(k / 4) + (k % 16 == 0) * 60 }' ;;
-    word_histogram) words 65536 13 ;;
-    edit_distance | heap | matrix_powers) words 65536 1000 ;;
-    record_checksums) awk '{ line[n] = $0; size[n++] = NF } END { for (k = 0; total + size[k % n] <= 65536; k++) { print line[k % n]; total += size[k % n] } }' "$top/examples/$1.in" ;;
-    *) tr -s ' \n' '\n\n' <"$top/examples/$1.in" | awk '/./ { word[n++] = $1 } END { for (k = 0; k < 65536; k++) print word[k % n] }' ;;
-  esac
-}
-
 # Makes what each runner takes of a program.
 prepare() {
   cp "$1" "$work/pipeline.c"

@@ -1,8 +1,8 @@
 #!/usr/bin/env python3
-"""The crate of a program: its code as types, and the `main` that runs it.
+"""The crates of a program: its code as types, and the `main` that runs it.
 
-  native/crate.py TREE SOURCE PLACE    writes the crate of the program SOURCE, whose text as a tree is TREE (`dswp tree SOURCE`),
-                                       into the clone PLACE of this repository, beside its crates, and prints its name
+  native/crate.py TREE SOURCE PLACE    writes the crates of the program SOURCE, whose text as a tree is TREE (`dswp tree SOURCE`),
+                                       into the clone PLACE of this repository, beside its crates, and prints their names
 """
 import hashlib
 import sys
@@ -14,11 +14,12 @@ from tree_text import Program
 HERE = Path(__file__).resolve().parent
 FORMS = """Add And Binary Code Composed Div Element Eq Ge Gt If InputLen Le Lt Mul Ne Neg Not Nothing Number Or Other Put Rem Say
 Scalar Set State Sub Then Unary While Word""".split()
+CODE_USES = "dp_base dp_tree dp_native dp_forms"
 
 
-def crate_name(tree):
-    """A name of the crate that no other program's crate has."""
-    return "program_" + hashlib.sha256(tree.encode()).hexdigest()[:12]
+def name_of(kind, text):
+    """A name of a crate that no other text's has."""
+    return kind + "_" + hashlib.sha256(text.encode()).hexdigest()[:12]
 
 
 def filled(template, values):
@@ -28,48 +29,64 @@ def filled(template, values):
     return template
 
 
-def parts_text(forms, count):
-    part = (HERE / "part.template").read_text()
-    return "".join(filled(part, {"NAME": name, "TYPE": code, "COUNT": count}) for name, code in forms.named)
+def template(name):
+    return (HERE / (name + ".template")).read_text()
 
 
-def used_forms(text):
-    """The names of forms that the text takes from dp_forms."""
-    words = set("".join(c if c.isalnum() else " " for c in text).split())
-    return ", ".join(name for name in FORMS if name in words)
+def words_in(text):
+    return set("".join(c if c.isalnum() else " " for c in text).split())
 
 
-def main_text(program, forms, name, text):
-    """The program's `main`: that of dswp, with native code and a text of its own."""
+def code_text(program, forms):
+    """The library with the program's code as a type."""
     homes = [program.variables[v].first for v in forms.homes]
-    values = {
-        "PARTS": parts_text(forms, len(homes)), "COUNT": len(homes), "WHOLE": forms.whole.text, "NAME": name,
+    parts = "".join(filled(template("part"), {"NAME": name, "TYPE": code, "COUNT": len(homes)}) for name, code in forms.named)
+    body = filled(template("code"), {
+        "PARTS": parts, "IMPORTS": template("imports") if parts else "", "COUNT": len(homes), "WHOLE": forms.whole.text,
         "HOMES": ", ".join(map(str, homes)), "SIZE": program.cell_count(), "SITES": program.site_count,
-        "BYTES": ", ".join(map(str, text.encode())), "BYTE_COUNT": len(text.encode()),
-    }
-    body = filled((HERE / "main.template").read_text(), values)
-    return body.replace("@FORMS@", used_forms(body))
+    })
+    used = words_in(body)
+    return body.replace("@FORMS@", ", ".join(name for name in FORMS if name in used))
 
 
-def write_crate(place, name, program, forms, source_name, text):
-    """Puts the crate beside those of dswp."""
-    folder = place / "crates" / name
-    (folder / "src").mkdir(parents=True, exist_ok=True)
-    (folder / "src" / "main.rt").write_text(main_text(program, forms, source_name, text))
+def literal(text):
+    """The text as a byte string of Rust."""
+    plain = {"\n": "\\n", '"': '\\"', "\\": "\\\\"}
+    return "".join(plain.get(chr(b), chr(b) if 32 <= b < 127 else "\\x%02x" % b) for b in text)
+
+
+def program_text(code, source_name, text):
+    """The program's `main`: that of dswp, with native code and a text of its own."""
+    return filled(template("main"), {"CODE": code, "NAME": source_name, "TEXT": literal(text)})
+
+
+def uses_of_program(place):
+    """The libraries that the program names beside its code: those of dswp, and dp_native."""
+    listed = (place / "crates.txt").read_text().splitlines()
+    return next(line for line in listed if line.startswith("dswp ")).split(": ", 1)[1].split() + ["dp_native"]
+
+
+def put_crate(place, name, root, text, uses):
+    """Puts a crate beside those of dswp."""
+    source = place / "crates" / name / "src"
+    source.mkdir(parents=True, exist_ok=True)
+    (source / root).write_text(text)
     listed = place / "crates.txt"
-    lines = listed.read_text().splitlines()
-    deps = next(line for line in lines if line.startswith("dswp ")).split(": ", 1)[1]
-    line = "%s may_wait=1: %s dp_forms dp_native" % (name, deps)
-    listed.write_text("\n".join([each for each in lines if not each.startswith(name)] + [line]) + "\n")
+    lines = [line for line in listed.read_text().splitlines() if line.split(":")[0].split()[:1] != [name]]
+    listed.write_text("\n".join(lines + [uses]) + "\n")
 
 
 def main():
     tree, source, place = sys.argv[1:4]
-    tree, text = Path(tree).read_text(), Path(source).read_text()
+    tree, source, place = Path(tree).read_text(), Path(source), Path(place)
     program = Program(tree)
-    name = crate_name(tree)
-    write_crate(Path(place), name, program, Forms(program), Path(source).name, text)
-    print(name)
+    text = code_text(program, Forms(program))
+    code = name_of("code", text)
+    put_crate(place, code, "lib.rt", text, "%s: %s" % (code, CODE_USES))
+    text = program_text(code, source.name, source.read_bytes())
+    name = name_of("program", text)
+    put_crate(place, name, "main.rt", text, "%s may_wait=1: %s" % (name, " ".join(uses_of_program(place) + [code])))
+    print(code, name)
 
 
 if __name__ == "__main__":

@@ -1,0 +1,57 @@
+#!/usr/bin/env bash
+# Times the examples and loops without marks on 65,536 words: as native programs that `dswp build` makes, as plain C by gcc -O2
+# that traps where the language faults, by tcc, and under dswp's sequential machine; and the geometric means of the quotients.
+# Each time is the least of nine runs, less that of an empty program under the same runner. Ends with 1 where two answers differ.
+#
+#   bench/native.sh          all of them; each that isn't built yet takes some minutes first
+#   bench/native.sh NAME..   those that are named
+#
+# Needs gcc, tcc and python3.
+set -euo pipefail
+. "$(dirname "$0")/common.sh"
+need_dswp
+traps='-fsanitize=signed-integer-overflow,integer-divide-by-zero,bounds -fsanitize-undefined-trap-on-error'
+
+# Makes what each runner takes of a program without marks.
+prepare() {
+  "$top/dswp" build "$work/$1.c" -o "$work/$1.native" 2>"$work/log" || { cat "$work/log"; return 1; }
+  "$top/examples/as_c.sh" "$work/$1.c" | sed '/printf("region/d;/left_early) printf/d;s/printf("\\nend done/printf("end done/' >"$work/$1.plain.c"
+  # shellcheck disable=SC2086
+  gcc -w -O2 $traps -o "$work/$1.gcc" "$work/$1.plain.c"
+  tcc -w -o "$work/$1.tcc" "$work/$1.plain.c"
+}
+
+run() {
+  case $1 in
+    native) "$work/$2.native" "$work/words" --fuel 1000000000 ;;
+    machine) "$dswp" run "$work/$2.c" "$work/words" --fuel 1000000000 ;;
+    *) "$work/$2.$1" <"$work/words" ;;
+  esac
+}
+
+declare -A start
+printf 'int main() { }\n' >"$work/empty.c"
+: >"$work/words"
+prepare empty
+for runner in native gcc tcc machine; do start[$runner]=$(least run $runner empty); done
+
+machine
+printf '%-18s %10s %10s %10s %10s\n' milliseconds native 'gcc -O2' tcc machine
+for program in "$top"/examples/*.c "$top"/bench/loops/*.c; do
+  name=$(basename "$program" .c)
+  grep -q 'break;' "$program" && continue   # an early exit stands in a marked loop alone
+  [ $# -eq 0 ] || [[ " $* " == *" $name "* ]] || continue
+  sed '/#pragma dswp/d' "$program" >"$work/$name.c"
+  many_words "$name" >"$work/words"
+  prepare "$name"
+  line=$name
+  run machine "$name" >"$work/answer"
+  for runner in native gcc tcc machine; do
+    run $runner "$name" | cmp - "$work/answer"
+    line="$line $(net "$(least run $runner "$name")" "${start[$runner]}")"
+  done
+  echo "$line"
+done | tee "$work/times" | awk '{ printf "%-18s %10.2f %10.2f %10.2f %10.2f\n", $1, $2 / 1e6, $3 / 1e6, $4 / 1e6, $5 / 1e6 }'
+awk '{ gcc += log($2 / $3); tcc += log($2 / $4); machine += log($5 / $2); n++ }
+  END { printf "native takes %.2f times gcc, %.2f times tcc; the machine takes %.2f times native", exp(gcc / n), exp(tcc / n), exp(machine / n)
+    printf " (geometric means of %d)\n", n }' "$work/times"
