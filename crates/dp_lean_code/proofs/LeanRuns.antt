@@ -16,7 +16,9 @@ use Rattle.dp_lean.specs.LeanTurn.{LeanTurn, LeanEnd, Arrived, BrokenOff, with_q
 unfoldable use Rattle.dp_lean.specs.LeanTurn.{lean_from}
 use Rattle.dp_lean.proofs.Weights.{weights_join, weights_said}
 use Rattle.dp_lean_code.specs.LeanOps.{LeanOp, Plain, Begin, Finish, Meet}
-use Rattle.dp_lean_code.specs.LeanFlat.{Held, Flat, Goes, Ends, held_after, made_with, taking, taken_by, meeting, lean_move}
+use Rattle.dp_lean_code.specs.LeanHeld.{Held, Flat, Goes, Ends}
+use Rattle.dp_lean_code.specs.LeanMade.{held_after, made_with, taking, taken_by, meeting}
+use Rattle.dp_lean_code.specs.LeanFlat.{lean_move}
 use Rattle.dp_lean_code.specs.LeanCode.{no_blocks, silent_code, block_code}
 unfoldable use Rattle.dp_lean_code.specs.LeanCode.{stmt_code}
 use Rattle.dp_lean_code.proofs.LeanRunning.{From, later, next, within, within_ops, moves, goes, ends, RunEnds, end_by}

@@ -10,7 +10,8 @@ use Rattle.dp_net.proofs.Silent.{AllQuiet, QuietHead}
 use Rattle.dp_net.proofs.Texts.{site_at}
 use Rattle.dp_lean.specs.LeanTurn.{LeanEnd, BrokenOff}
 use Rattle.dp_lean_code.specs.LeanOps.{LeanOp, Plain}
-use Rattle.dp_lean_code.specs.LeanFlat.{Held, Silent, Goes, held_after, one_more}
+use Rattle.dp_lean_code.specs.LeanHeld.{Held, Silent, Goes}
+use Rattle.dp_lean_code.specs.LeanMade.{held_after, one_more}
 use Rattle.dp_lean_code.specs.LeanCode.{no_blocks}
 unfoldable use Rattle.dp_lean_code.specs.LeanCode.{stmt_code}
 use Rattle.dp_lean_code.proofs.LeanRunning.{From, moves, goes, ends, RunEnds, end_by}
