@@ -1,0 +1,21 @@
+mod rows
+pub mod Arriving
+pub mod Memories
+pub mod Stepping
+pub mod StepCounts
+pub mod JudgeStepping
+pub mod Standing
+pub mod OwnWhole
+pub mod OwnItems
+pub mod Filling
+pub mod Extending
+pub mod Queueing
+pub mod Beside
+pub mod BreakingOff
+pub mod WorkerSteps
+pub mod WorkerTurns
+pub mod Workers
+pub mod WorkersOn
+pub mod Midways
+pub mod JudgeMidways
+pub mod Caps

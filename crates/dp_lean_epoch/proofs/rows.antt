@@ -1,0 +1,4 @@
+pub mod Small
+mod Batches
+mod Own
+mod Caps

@@ -1,0 +1,8 @@
+pub mod Own
+pub mod Coming
+pub mod Holding
+pub mod LeanBatch
+pub mod Steps
+pub mod JudgeSteps
+pub mod Laws
+pub mod Midway
