@@ -19,7 +19,7 @@ use Rattle.dp_net.proofs.Texts.{IsLeaf, Text, text_join}
 use Rattle.dp_lean.specs.LeanText.{lean_text}
 use Rattle.dp_lean.proofs.LeftTexts.{lean_texts}
 use Rattle.dp_lean.proofs.Placed.{numbered, some_epoch, walkable}
-use Rattle.dp_lean_code.specs.LeanOps.{Plain}
+use Rattle.dp_lean_code.specs.declared.LeanOp.TheVariants.{Plain}
 use Rattle.dp_lean_code.specs.LeanCode.{list_code, block_code, no_blocks, lean_code, IsLeanCode}
 use Rattle.dp_lean_code.specs.Laws.{CodeIsRight}
 use Rattle.dp_lean_code.proofs.LeanRunning.{From, later}

@@ -3,7 +3,8 @@ use Rattle.dp_semantics.proofs.Names.{◌≡◌, refl, sym, ap, ◌∙◌, subst
 use Rattle.dp_net.specs.NetItems.{Marks}
 use Rattle.dp_code.specs.declared.Op.TheVariants as op
 use Rattle.dp_code.specs.FlatRun.{by_zero}
-use Rattle.dp_lean_code.specs.LeanOps.{LeanOp, Plain}
+use Rattle.dp_lean_code.specs.declared.LeanOp.{LeanOp}
+use Rattle.dp_lean_code.specs.declared.LeanOp.TheVariants.{Plain}
 use Rattle.dp_lean_code.specs.LeanCode.{test_code, branch, exit, choice, repetition, leaving}
 unfoldable use Rattle.dp_lean_code.specs.LeanCode.{stmt_code}
 use Rattle.dp_lean_code.proofs.LeanRunning.{From, later, next}

@@ -15,7 +15,8 @@ use Rattle.dp_lean.specs.Queues.{Told, Did, DidBlock, effect_told, with_queue}
 use Rattle.dp_lean.specs.LeanTurn.{LeanTurn, LeanEnd, Arrived, BrokenOff, with_queues, lean_step, lean_by, lean_word_step, lean_block_step, lean_taken, lean_did, lean_met}
 unfoldable use Rattle.dp_lean.specs.LeanTurn.{lean_from}
 use Rattle.dp_lean.proofs.Weights.{weights_join, weights_said}
-use Rattle.dp_lean_code.specs.LeanOps.{LeanOp, Plain, Begin, Finish, Meet}
+use Rattle.dp_lean_code.specs.declared.LeanOp.{LeanOp}
+use Rattle.dp_lean_code.specs.declared.LeanOp.TheVariants.{Plain, Begin, Finish, Meet}
 use Rattle.dp_lean_code.specs.LeanHeld.{Held, Flat, Goes, Ends}
 use Rattle.dp_lean_code.specs.LeanMade.{held_after, made_with, taking, taken_by, meeting}
 use Rattle.dp_lean_code.specs.LeanFlat.{lean_move}

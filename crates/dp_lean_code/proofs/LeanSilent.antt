@@ -9,7 +9,8 @@ use Rattle.dp_net.proofs.Blocks.{effects_of, head_of, onward}
 use Rattle.dp_net.proofs.Silent.{AllQuiet, QuietHead}
 use Rattle.dp_net.proofs.Texts.{site_at}
 use Rattle.dp_lean.specs.LeanTurn.{LeanEnd, BrokenOff}
-use Rattle.dp_lean_code.specs.LeanOps.{LeanOp, Plain}
+use Rattle.dp_lean_code.specs.declared.LeanOp.{LeanOp}
+use Rattle.dp_lean_code.specs.declared.LeanOp.TheVariants.{Plain}
 use Rattle.dp_lean_code.specs.LeanHeld.{Held, Silent, Goes}
 use Rattle.dp_lean_code.specs.LeanMade.{held_after, one_more}
 use Rattle.dp_lean_code.specs.LeanCode.{no_blocks}

@@ -8,7 +8,8 @@ use Rattle.dp_code.specs.declared.Op.TheVariants as op
 use Rattle.dp_code.specs.FlatRun.{by_zero}
 use Rattle.dp_code.specs.Code.{first_of_var}
 unfoldable use Rattle.dp_code.specs.Code.{expr_code}
-use Rattle.dp_lean_code.specs.LeanOps.{LeanOp, Plain}
+use Rattle.dp_lean_code.specs.declared.LeanOp.{LeanOp}
+use Rattle.dp_lean_code.specs.declared.LeanOp.TheVariants.{Plain}
 use Rattle.dp_lean_code.specs.LeanCode.{behind, ending, either, choice, repetition, leaving, value_code, by_stage, test_code, branch, exit, consume, code_of_head, list_code, row_code}
 unfoldable use Rattle.dp_lean_code.specs.LeanCode.{stmt_code}
 use Rattle.dp_lean_code.proofs.LeanRunning.{From, later, next}
@@ -59,7 +60,7 @@ module _ (p : Program) (plan : Plan) (s : ℕ) (m : Marks) (inner : SiteId → L
   by_head [] x xs at same = ap (λ ops. stmt_of x at ++ ops) (same zero (at + length (stmt_of x at)))
   by_head (y ∷ ys) x xs at same = ap (λ ops. inner (site_of (out-Stmt x)) (y ∷ ys) at ++ ops) (same (length ys) (at + length (inner (site_of (out-Stmt x)) (y ∷ ys) at)))
 
-  row_hidden : (skipped : ℕ) (xs : List Stmt) (at : ℕ) → row_code p plan s m inner skipped (hidden-the_row-Stmt-0 xs) at ≡ list_code p plan s m inner skipped xs at
+  pub row_hidden : (skipped : ℕ) (xs : List Stmt) (at : ℕ) → row_code p plan s m inner skipped (hidden-the_row-Stmt-0 xs) at ≡ list_code p plan s m inner skipped xs at
   unfolding stmt_code opened_statement
   row_hidden skipped [] at = refl
   row_hidden (suc skipped) (x ∷ xs) at = row_hidden skipped xs at
@@ -80,14 +81,14 @@ module _ (p : Program) (plan : Plan) (s : ℕ) (m : Marks) (inner : SiteId → L
   code_out x at = ap (λ y. stmt_of y at) (sym (roll-out-Stmt x)) ∙ code_roll (out-Stmt x) at
 
   -- a statement where no block begins, and a whole block
-  code_alone : (x : Stmt) (xs : List Stmt) (at : ℕ) → m.block_at (site_at x) ≡ [] → code_of (x ∷ xs) at ≡ stmt_of x at ++ code_of xs (at + length (stmt_of x at))
+  pub code_alone : (x : Stmt) (xs : List Stmt) (at : ℕ) → m.block_at (site_at x) ≡ [] → code_of (x ∷ xs) at ≡ stmt_of x at ++ code_of xs (at + length (stmt_of x at))
   code_alone x xs at none = ap (λ (block : List Stmt). code_of_head p plan s m inner block (site_of (out-Stmt x)) (λ k. stmt_of x k) (λ n k. list_code p plan s m inner n xs k) at) none
 
-  code_skips : (b xs : List Stmt) (at : ℕ) → list_code p plan s m inner (length b) (b ++ xs) at ≡ code_of xs at
+  pub code_skips : (b xs : List Stmt) (at : ℕ) → list_code p plan s m inner (length b) (b ++ xs) at ≡ code_of xs at
   code_skips [] xs at = refl
   code_skips (x ∷ b) xs at = code_skips b xs at
 
-  code_block : (x : Stmt) (b xs : List Stmt) (at : ℕ) → m.block_at (site_at x) ≡ x ∷ b →
+  pub code_block : (x : Stmt) (b xs : List Stmt) (at : ℕ) → m.block_at (site_at x) ≡ x ∷ b →
       code_of (x ∷ (b ++ xs)) at ≡ inner (site_of (out-Stmt x)) (x ∷ b) at ++ code_of xs (at + length (inner (site_of (out-Stmt x)) (x ∷ b) at))
   code_block x b xs at is = ap (λ (block : List Stmt). code_of_head p plan s m inner block (site_of (out-Stmt x)) (λ k. stmt_of x k) (λ n k. list_code p plan s m inner n (b ++ xs) k) at) is
       ∙ ap (λ ops. inner (site_of (out-Stmt x)) (x ∷ b) at ++ ops) (code_skips b xs (at + length (inner (site_of (out-Stmt x)) (x ∷ b) at)))

@@ -16,7 +16,8 @@ use Rattle.dp_code.specs.FlatRun as flat
 use Rattle.dp_code.specs.FlatRun.{input_at, element_at}
 use Rattle.dp_code.specs.Code.{first_of_var}
 unfoldable use Rattle.dp_code.specs.Code.{expr_code}
-use Rattle.dp_lean_code.specs.LeanOps.{LeanOp, Plain}
+use Rattle.dp_lean_code.specs.declared.LeanOp.{LeanOp}
+use Rattle.dp_lean_code.specs.declared.LeanOp.TheVariants.{Plain}
 use Rattle.dp_lean_code.specs.LeanHeld.{Held, Flat, Goes, flat_of, moved_as}
 use Rattle.dp_lean_code.specs.LeanFlat.{lean_op_at, lean_move}
 use Rattle.dp_lean_code.proofs.LeanRunning.{From, later, next, moves, goes, ends, RunEnds, Reaches, with_value, reach_then, state}

@@ -2,7 +2,7 @@
 use Rattle.dp_semantics.proofs.Names.{◌≡◌, refl, sym, ap, ◌∙◌, subst, not, ℕ, Bool, true, false, if◌then◌else◌, List, [], ◌∷◌, ◌++◌, ℤ, Option, Some, None, Ok, Err, and_parts, is_zero, Stmt, out-Stmt, Stmt-F, Assign, Store, Print, If, While, Region, Break, Call, Program, Plan, Word, Evaluated, evaluated, WithLoads, and_then, after_loads, just, place, eval, Effect, Stored, Printed, Decided, Tried, value_of, taken, leaves, behind_region, behind_one, region_number, effect_by, is_cell_of, arith, ◌<◌, ◌+◌, ◌==◌, ◌||◌, length, SiteId, site_of, stage_of, first_site, is_zero_at, closes_at}
 use Rattle.std.proofs.Math.Bool.{or_assoc}
 use Rattle.dp_net.specs.NetItems.{Marks}
-use Rattle.dp_lean_code.specs.LeanOps.{Begin, Finish, Meet}
+use Rattle.dp_lean_code.specs.declared.LeanOp.TheVariants.{Begin, Finish, Meet}
 use Rattle.dp_lean_code.specs.LeanCode.{silent_code, block_code}
 use Rattle.dp_net.specs.Quiet.{is_quiet}
 use Rattle.dp_net.proofs.Silent.{all_quiet, AllQuiet, quiet_head, quiet_out}

@@ -1,6 +1,7 @@
-pub mod LeanOps
 pub mod LeanHeld
 pub mod LeanMade
 pub mod LeanFlat
 pub mod LeanCode
+pub mod Known
 pub mod Laws
+pub mod steps

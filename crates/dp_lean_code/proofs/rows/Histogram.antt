@@ -12,7 +12,7 @@ use Rattle.dp_code.specs.declared.Op.TheVariants as op
 use Rattle.dp_code.specs.Code.{expr_code}
 use Rattle.dp_lean.specs.Queues.{Told, Did, DidBlock, with_queue}
 use Rattle.dp_lean.specs.LeanTurn.{LeanEnd, Arrived, BrokenOff}
-use Rattle.dp_lean_code.specs.LeanOps.{Plain, Begin, Finish, Meet}
+use Rattle.dp_lean_code.specs.declared.LeanOp.TheVariants.{Plain, Begin, Finish, Meet}
 use Rattle.dp_lean_code.specs.LeanHeld.{flat_begin}
 use Rattle.dp_lean_code.specs.LeanFlat.{lean_flat}
 use Rattle.dp_lean_code.specs.LeanCode.{stmt_code, lean_code}
