@@ -51,7 +51,7 @@ module _ (p : Program) (plan : Plan) (s t : ℕ) where
     quiet_row (more_of-Stmt x rest) q =
         let both = and_parts (is_quiet p plan t x) (everywhere_in (quiet_at p plan t) rest) q in text_join (no_blocks p plan s) (quiet_one x both.0) (quiet_row rest both.1)
 
-  quiet_text : (xs : List Stmt) → AllQuiet p plan t xs → Text (no_blocks p plan s) xs
+  pub quiet_text : (xs : List Stmt) → AllQuiet p plan t xs → Text (no_blocks p plan s) xs
   quiet_text [] q = texts.ends
   quiet_text (x ∷ xs) q = let both = and_parts (is_quiet p plan t x) (all_quiet p plan t xs) q in text_join (no_blocks p plan s) (quiet_one x both.0) (quiet_text xs both.1)
 

@@ -33,14 +33,14 @@ module _ (p : Program) (plan : Plan) (s : ℕ) (m : Marks) (input : List ℤ) (m
   abbrev pub Standing : ℕ → List Stmt → Type 0
   Standing at xs = Stands p plan s m (block_code p plan s) (some_block p plan s m) code last at xs
 
-  left : (at : ℕ) (xs : List Stmt) → Standing at xs → behind_region xs ≡ []
+  pub left : (at : ℕ) (xs : List Stmt) → Standing at xs → behind_region xs ≡ []
   left at _ Over = refl
   left at _ (Jumps k to xs rest from st) = left to xs st
   left at _ (Here k x xs rest none t from st) = ap (λ (o : Option ℕ). behind_one o xs (behind_region xs)) (head_number m (out-Stmt x) t) ∙ left _ xs st
   left at _ (Whole k x b more xs rest is same from st) =
       ap (λ (ys : List Stmt). behind_region (x ∷ ys)) same ∙ quiet_left p plan (stage_of p plan (site_at x)) (x ∷ b) more (marked.quiet (site_at x) x b is) ∙ left _ more st
 
-  stands_within : (at : ℕ) (xs : List Stmt) → Standing at xs → at < length code
+  pub stands_within : (at : ℕ) (xs : List Stmt) → Standing at xs → at < length code
   stands_within at _ Over = within code last (Plain op.End) [] end_here
   stands_within at _ (Jumps k to xs rest from st) = within code k (Plain (op.Jump to)) rest from
   stands_within at _ (Here k x xs rest none t from st) =

@@ -1,0 +1,4 @@
+pub mod Taking
+pub mod Stepping
+pub mod Leading
+pub mod Making
