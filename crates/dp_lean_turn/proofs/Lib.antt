@@ -1,0 +1,15 @@
+pub mod Growing
+pub mod Puts
+pub mod Entries
+pub mod Added
+pub mod Readers
+pub mod Makes
+pub mod Answering
+pub mod Owns
+pub mod Queues
+pub mod Takes
+pub mod Finishing
+pub mod OwnBlocks
+pub mod Moving
+pub mod Following
+pub mod Evaluations
