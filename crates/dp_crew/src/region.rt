@@ -16,7 +16,6 @@ use dp_edge::{Gate, Sink, WriteFail};
 use dp_epoch::{CrewSize, Ledger, RegionEnd};
 use dp_meaning::Machine;
 use dp_pipeline::bells_for;
-use dp_plan::Plan;
 use dp_prepared::PreparedRegion;
 use dp_waiting::Bell;
 use std::alloc::Global;
@@ -51,7 +50,7 @@ pub fn run_region<'p, R: Threads + Wait + Clock + Sync, K: Sink, G: Gate, W: Wat
     ensures tally { OnOk result (tally.new + report.new.recovered_count ≡ tally.old + report.new.iterations) }
 {
     let plan = region.plan();
-    let made = bells_of(alloc, plan, size)?;
+    let made = bells_of(alloc, region, size)?;
     let begun = Ledger::begin(alloc, machine, region.program(), plan, why)?;
     let work = Work::new(alloc, region, input, size, made.as_slice());
     let (ledger, end) = run_together(rt, gate, work, begun, sink, tally)?;
@@ -60,9 +59,13 @@ pub fn run_region<'p, R: Threads + Wait + Clock + Sync, K: Sink, G: Gate, W: Wat
 }
 
 /// The bells of the threads that an epoch's units may have, if they may, and of the caller.
-fn bells_of(alloc: Global, plan: &Plan, size: CrewSize) -> Result<Vec<Bell>, NoMemory> {
+fn bells_of(
+    alloc: Global,
+    region: &PreparedRegion<'_>,
+    size: CrewSize,
+) -> Result<Vec<Bell>, NoMemory> {
     if !size.threads {
         return Ok(Vec::new(alloc));
     }
-    bells_for(alloc, plan, size)
+    bells_for(alloc, region, size)
 }

@@ -4,11 +4,10 @@ ghost use Rattle.dp_tree.specs.Step.{clear_locals, is_local_of};
 ghost use Rattle.dp_semantics.specs.Packets as packets;
 ghost use Rattle.dp_machine.specs.Sending.{IsSent, key_of, onward};
 
-use crate::Sent;
-use crate::sending::with_status;
+use crate::sending::set_status;
 use dp_base::NoMemory;
 use dp_engine::Memory;
-use dp_packet::PacketStatus;
+use dp_packet::{Packet, PacketStatus};
 use dp_tree::VarInfo;
 use dp_turn::Frame;
 
@@ -31,34 +30,26 @@ fn clear<M: Memory + Drop>(region: u32, vars: &[VarInfo], memory: &mut M) -> Res
     Ok(())
 }
 
-/// The same, with a memory that is ready for the next iteration.
-pub fn cleared<'p, M: Memory + Drop>(frame: Frame<'p>, sent: Sent<M>) -> Sent<M>
-    ensures sent { (base : List ℤ) (passed : packets.Passed) → IsSent M.cells passed sent.packet sent.memory →
-        IsSent M.cells (onward (key_of frame.entry base) passed) result.packet result.memory }
-    ensures number { result.packet.iteration ≡ sent.packet.iteration }
+/// The memory, ready for the next iteration. Where memory is wanting, the packet says so.
+pub fn cleared<'p, M: Memory + Drop>(
+    frame: Frame<'p>,
+    packet: &mut Packet,
+    memory: Option<M>,
+) -> Option<M>
+    ensures sent { (base : List ℤ) (passed : packets.Passed) → IsSent M.cells passed packet.old memory →
+        IsSent M.cells (onward (key_of frame.entry base) passed) packet.new result }
+    ensures number { packet.new.iteration ≡ packet.old.iteration }
 {
-    let Sent { packet, memory } = sent;
-    match memory {
-        Some(memory) => {
-            let mut memory = memory;
-            match clear(
-                frame.plan.region,
-                frame.program.vars.as_slice(),
-                &mut memory,
-            ) {
-                Ok(()) => Sent {
-                    packet,
-                    memory: Some(memory),
-                },
-                Err(_) => Sent {
-                    packet: with_status(packet, PacketStatus::NoMemory),
-                    memory: None,
-                },
-            }
+    let mut memory = memory?;
+    match clear(
+        frame.plan.region,
+        frame.program.vars.as_slice(),
+        &mut memory,
+    ) {
+        Ok(()) => Some(memory),
+        Err(_) => {
+            set_status(packet, PacketStatus::NoMemory);
+            None
         }
-        None => Sent {
-            packet,
-            memory: None,
-        },
     }
 }

@@ -12,8 +12,8 @@ ghost use Rattle.dp_machine.specs.Standing.{StandsAt, Comes, Sends, Keeps, cells
 
 use crate::Kept;
 use crate::clearing::cleared;
-use crate::sending::{send, with_status};
-use dp_base::{Boxed, Cells, NoMemory};
+use crate::sending::{send, set_status};
+use dp_base::{Cells, NoMemory};
 use dp_engine::Versioned;
 use dp_memory::{Version, VersionRoom};
 use dp_packet::{Packet, PacketStatus};
@@ -84,19 +84,19 @@ pub fn from_cells<'p>(
     rows: &mut Rows,
     stage: u32,
     cells: Cells,
-    packet: Boxed<Packet>,
-) -> (Boxed<Packet>, Kept)
+    packet: &mut Packet,
+) -> Kept
     requires first { frame.first ≡ first_site frame.program.now frame.plan.now }
     requires ready { IsReady frame ready.now }
     requires code { frame.code.now ≡ stage_code frame.program.now frame.plan.now stage }
     requires numbered { 0 < stage }
-    requires going { packet.status ≡ state.Going ⊎ packet.status ≡ state.Closing }
-    ensures sent { (key : packets.Epoch) (n : ℕ) → StandsAt frame.entry stage (kept.Cells cells) key n → Comes stage key n packet → Sends frame.entry stage result.1 key n result.0 }
-    ensures number { result.0.iteration ≡ packet.iteration }
+    requires going { packet.old.status ≡ state.Going ⊎ packet.old.status ≡ state.Closing }
+    ensures sent { (key : packets.Epoch) (n : ℕ) → StandsAt frame.entry stage (kept.Cells cells) key n → Comes stage key n packet.old → Sends frame.entry stage result key n packet.new }
+    ensures number { packet.new.iteration ≡ packet.old.iteration }
 {
-    let sent = send(frame, ready, rows, stage, cells, None, packet);
-    let next = cleared(frame, sent);
-    (next.packet, keep_cells(next.memory))
+    let left = send(frame, ready, rows, stage, cells, None, packet);
+    let next = cleared(frame, packet, left);
+    keep_cells(next)
 }
 
 /// By a stage before a replicated one: it sends along the memory as it was before the iteration.
@@ -106,55 +106,55 @@ pub fn from_versioned<'p>(
     rows: &mut Rows,
     stage: u32,
     both: Versioned,
-    packet: Boxed<Packet>,
-) -> (Boxed<Packet>, Kept)
+    packet: &mut Packet,
+) -> Kept
     requires first { frame.first ≡ first_site frame.program.now frame.plan.now }
     requires ready { IsReady frame ready.now }
     requires code { frame.code.now ≡ stage_code frame.program.now frame.plan.now stage }
     requires numbered { 0 < stage }
-    requires going { packet.status ≡ state.Going ⊎ packet.status ≡ state.Closing }
-    ensures sent { (key : packets.Epoch) (n : ℕ) → StandsAt frame.entry stage (kept.Versioned both) key n → Comes stage key n packet → Sends frame.entry stage result.1 key n result.0 }
-    ensures number { result.0.iteration ≡ packet.iteration }
+    requires going { packet.old.status ≡ state.Going ⊎ packet.old.status ≡ state.Closing }
+    ensures sent { (key : packets.Epoch) (n : ℕ) → StandsAt frame.entry stage (kept.Versioned both) key n → Comes stage key n packet.old → Sends frame.entry stage result key n packet.new }
+    ensures number { packet.new.iteration ≡ packet.old.iteration }
 {
     let mut both = both;
-    let mut packet = packet;
-    let room = taken_room(&mut packet);
+    let room = taken_room(packet);
     match both.snapshot(room) {
         Ok(version) => {
-            let sent = send(frame, ready, rows, stage, both, Some(version), packet);
-            let next = cleared(frame, sent);
-            (next.packet, keep_versioned(next.memory))
+            let left = send(frame, ready, rows, stage, both, Some(version), packet);
+            let next = cleared(frame, packet, left);
+            keep_versioned(next)
         }
-        Err(_) => (with_status(packet, PacketStatus::NoMemory), Kept::Nothing),
+        Err(_) => {
+            set_status(packet, PacketStatus::NoMemory);
+            Kept::Nothing
+        }
     }
 }
 
 /// Takes the version out of the packet.
-fn taken_version(packet: &mut Boxed<Packet>) -> Option<Version>
+fn taken_version(packet: &mut Packet) -> Option<Version>
     ensures version { result ≡ packet.old.version }
     ensures left { packet.new ≡ record packet.old { version = None } }
 {
-    packet.get_mut().version.take()
+    packet.version.take()
 }
 
 /// Takes the room for a version out of the packet.
-fn taken_room(packet: &mut Boxed<Packet>) -> Option<VersionRoom>
+fn taken_room(packet: &mut Packet) -> Option<VersionRoom>
     ensures said { packet_of packet.new ≡ packet_of packet.old }
     ensures status { packet.new.status ≡ packet.old.status }
     ensures number { packet.new.iteration ≡ packet.old.iteration }
 {
-    packet.get_mut().room.take()
+    packet.room.take()
 }
 
-/// The packet, with the room of a version that is spent, for the next one.
-fn with_room(packet: Boxed<Packet>, spent: Option<Version>) -> Boxed<Packet>
-    ensures said { packet_of result ≡ packet_of packet }
-    ensures status { result.status ≡ packet.status }
-    ensures number { result.iteration ≡ packet.iteration }
+/// Puts the room of a version that is spent into the packet, for the next one.
+fn keep_room(packet: &mut Packet, spent: Option<Version>)
+    ensures said { packet_of packet.new ≡ packet_of packet.old }
+    ensures status { packet.new.status ≡ packet.old.status }
+    ensures number { packet.new.iteration ≡ packet.old.iteration }
 {
-    let mut packet = packet;
-    packet.get_mut().room = spent.map(Version::into_room);
-    packet
+    packet.room = spent.map(Version::into_room);
 }
 
 /// By a replicated stage, from the version that the packet brings.
@@ -163,23 +163,26 @@ pub fn from_packet<'p>(
     ready: &Ready<'p>,
     rows: &mut Rows,
     stage: u32,
-    packet: Boxed<Packet>,
-) -> (Boxed<Packet>, Kept)
+    packet: &mut Packet,
+) -> Kept
     requires first { frame.first ≡ first_site frame.program.now frame.plan.now }
     requires ready { IsReady frame ready.now }
     requires code { frame.code.now ≡ stage_code frame.program.now frame.plan.now stage }
     requires fits { fits_plan frame.program.now frame.plan.now ≡ true }
     requires numbered { 0 < stage }
-    requires going { packet.status ≡ state.Going ⊎ packet.status ≡ state.Closing }
-    ensures sent { (key : packets.Epoch) (n : ℕ) → StandsAt frame.entry stage kept.Nothing key n → Comes stage key n packet → Sends frame.entry stage result.1 key n result.0 }
-    ensures number { result.0.iteration ≡ packet.iteration }
+    requires going { packet.old.status ≡ state.Going ⊎ packet.old.status ≡ state.Closing }
+    ensures sent { (key : packets.Epoch) (n : ℕ) → StandsAt frame.entry stage kept.Nothing key n → Comes stage key n packet.old → Sends frame.entry stage result key n packet.new }
+    ensures number { packet.new.iteration ≡ packet.old.iteration }
 {
-    let mut packet = packet;
-    match taken_version(&mut packet) {
+    match taken_version(packet) {
         Some(memory) => {
-            let sent = send(frame, ready, rows, stage, memory, None, packet);
-            (with_room(sent.packet, sent.memory), Kept::Nothing)
+            let spent = send(frame, ready, rows, stage, memory, None, packet);
+            keep_room(packet, spent);
+            Kept::Nothing
         }
-        None => (with_status(packet, PacketStatus::NoMemory), Kept::Nothing),
+        None => {
+            set_status(packet, PacketStatus::NoMemory);
+            Kept::Nothing
+        }
     }
 }

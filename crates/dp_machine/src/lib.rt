@@ -2,9 +2,8 @@
 //! turn says.
 #![tactic(auto)]
 
-use dp_base::{Boxed, Cells};
+use dp_base::Cells;
 use dp_engine::Versioned;
-use dp_packet::Packet;
 
 mod clearing;
 mod going;
@@ -12,13 +11,6 @@ mod sending;
 mod stage;
 
 pub use stage::StageMachine;
-
-/// What a stage sends, and its memory afterwards, where it is kept.
-#[derive(Drop)]
-pub struct Sent<M> {
-    pub packet: Boxed<Packet>,
-    pub memory: Option<M>,
-}
 
 /// What a stage keeps between two packets.
 #[derive(Drop)]

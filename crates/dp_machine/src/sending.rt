@@ -9,8 +9,7 @@ ghost use Rattle.dp_packet.specs.declared.PacketStatus.TheVariants as state;
 ghost use Rattle.dp_machine.specs.Sending.{IsSent, key_of};
 ghost use Rattle.dp_turn.specs.Engine.{AsTurned, IsReady};
 
-use crate::Sent;
-use dp_base::{Boxed, Word};
+use dp_base::Word;
 use dp_engine::Memory;
 use dp_memory::Version;
 use dp_packet::{Packet, PacketStatus};
@@ -43,47 +42,28 @@ fn add(packet: &mut Packet, own: &[Word], closing: bool, version: Option<Version
     }
 }
 
-/// The packet after a turn that came to its end.
-fn after_turn(
-    packet: Boxed<Packet>,
-    own: &[Word],
-    closing: bool,
-    version: Option<Version>,
-) -> Boxed<Packet>
-    requires { packet.status ≡ state.Going ⊎ packet.status ≡ state.Closing }
-    ensures sent { IsUnless result.status (packet_of result) (record { lists = packet.lists ++ own.now ∷ []; status = packets.status_of (status_of packet.status) closing; version = version }) }
-    ensures number { result.iteration ≡ packet.iteration }
+/// The packet keeps its lists, and gets this status.
+pub fn set_status(packet: &mut Packet, status: PacketStatus)
+    ensures value { packet_of packet.new ≡ record { lists = packet.old.lists; status = status_of status; version = None } }
+    ensures kept { packet.new.status ≡ status }
+    ensures number { packet.new.iteration ≡ packet.old.iteration }
 {
-    let mut packet = packet;
-    add(packet.get_mut(), own, closing, version);
-    packet
+    packet.status = status;
+    packet.version = None;
 }
 
-/// The packet with its lists and this status.
-pub fn with_status(packet: Boxed<Packet>, status: PacketStatus) -> Boxed<Packet>
-    ensures value { packet_of result ≡ record { lists = packet.lists; status = status_of status; version = None } }
-    ensures kept { result.status ≡ status }
-    ensures number { result.iteration ≡ packet.iteration }
-{
-    let mut packet = packet;
-    let inner = packet.get_mut();
-    inner.status = status;
-    inner.version = None;
-    packet
-}
-
-/// What the turn makes of the packet.
+/// What the turn makes of the packet; and the memory afterwards, where it is kept.
 fn passed<M: Memory + Drop>(
     rows: &mut Rows,
-    packet: Boxed<Packet>,
+    packet: &mut Packet,
     stage: u32,
     version: Option<Version>,
     left: Turned<M>,
-) -> Sent<M>
-    requires { packet.status ≡ state.Going ⊎ packet.status ≡ state.Closing }
+) -> Option<M>
+    requires { packet.old.status ≡ state.Going ⊎ packet.old.status ≡ state.Closing }
     ensures sent { (key : packets.Epoch) (before : List ℤ) (end : TurnEnd) → version ≡ packets.version_of key stage before → AsTurned M.cells end left →
-        IsSent M.cells (packets.passed_by key stage before (packet_of packet) end) result.packet result.memory }
-    ensures number { result.packet.iteration ≡ packet.iteration }
+        IsSent M.cells (packets.passed_by key stage before (packet_of packet.old) end) packet.new result }
+    ensures number { packet.new.iteration ≡ packet.old.iteration }
 {
     match left {
         Turned::Done {
@@ -91,25 +71,23 @@ fn passed<M: Memory + Drop>(
             memory,
             closing,
         } => {
-            let packet = after_turn(packet, own.as_slice(), closing, version);
+            add(packet, own.as_slice(), closing, version);
             rows.reuse(own);
-            Sent {
-                packet,
-                memory: Some(memory),
-            }
+            Some(memory)
         }
-        Turned::Void(why) => Sent {
-            packet: with_status(packet, PacketStatus::Void { stage, why }),
-            memory: None,
-        },
-        Turned::NoMemory => Sent {
-            packet: with_status(packet, PacketStatus::NoMemory),
-            memory: None,
-        },
+        Turned::Void(why) => {
+            set_status(packet, PacketStatus::Void { stage, why });
+            None
+        }
+        Turned::NoMemory => {
+            set_status(packet, PacketStatus::NoMemory);
+            None
+        }
     }
 }
 
-/// What the stage sends, from this memory and with this version, for a packet that goes on.
+/// Makes of a packet that goes on what the stage sends, from this memory and with this version; and answers the memory
+/// afterwards, where it is kept.
 pub fn send<'p, M: Memory + Drop>(
     frame: Frame<'p>,
     ready: &Ready<'p>,
@@ -117,16 +95,16 @@ pub fn send<'p, M: Memory + Drop>(
     stage: u32,
     memory: M,
     version: Option<Version>,
-    packet: Boxed<Packet>,
-) -> Sent<M>
+    packet: &mut Packet,
+) -> Option<M>
     requires first { frame.first ≡ first_site frame.program.now frame.plan.now }
     requires ready { IsReady frame ready.now }
     requires code { IsStageCode frame.program.now frame.plan.now stage frame.code.now }
-    requires going { packet.status ≡ state.Going ⊎ packet.status ≡ state.Closing }
+    requires going { packet.old.status ≡ state.Going ⊎ packet.old.status ≡ state.Closing }
     ensures sent { (base : List ℤ) → version ≡ packets.version_of (key_of frame.entry base) stage (M.cells memory) →
-        IsSent M.cells (packets.run_on (key_of frame.entry base) stage (M.cells memory) (packet_of packet)) result.packet result.memory }
-    ensures number { result.packet.iteration ≡ packet.iteration }
+        IsSent M.cells (packets.run_on (key_of frame.entry base) stage (M.cells memory) (packet_of packet.old)) packet.new result }
+    ensures number { packet.new.iteration ≡ packet.old.iteration }
 {
-    let left = stage_turn(frame, ready, rows, memory, &packet.get().lists);
+    let left = stage_turn(frame, ready, rows, memory, &packet.lists);
     passed(rows, packet, stage, version, left)
 }

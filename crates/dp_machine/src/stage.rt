@@ -9,7 +9,7 @@ ghost use Rattle.dp_packet.specs.Packet.{packet_of};
 
 use crate::Kept;
 use crate::going::{from_cells, from_packet, from_versioned, kept_at_base};
-use dp_base::{Boxed, Cells, NoMemory};
+use dp_base::{Cells, NoMemory};
 use dp_packet::{Packet, PacketStatus};
 use dp_turn::{Frame, Ready, Rows};
 use std::alloc::Global;
@@ -75,31 +75,31 @@ impl<'p> StageMachine<'p> {
         })
     }
 
-    /// What the stage sends for a packet. One that is void, or for which memory was wanting, goes through as it is.
-    pub fn run(&mut self, packet: Boxed<Packet>) -> Boxed<Packet>
-        ensures sent { (key : packets.Epoch) (n : ℕ) → Stands self.old key n → packet_of packet ≡ (packets.passed key (self.old.stage - 1) n).packet → Passes self.new key n result }
+    /// Makes of a packet what the stage sends for it. One that is void, or for which memory was wanting, stays as it is.
+    pub fn run(&mut self, packet: &mut Packet)
+        ensures sent { (key : packets.Epoch) (n : ℕ) → Stands self.old key n → packet_of packet.old ≡ (packets.passed key (self.old.stage - 1) n).packet → Passes self.new key n packet.new }
         ensures stage { self.new.stage ≡ self.old.stage }
-        ensures number { result.iteration ≡ packet.iteration }
-        ensures void { (stage : ℕ) (why : VoidWhy) → packet.status ≡ state.Void stage why → result ≡ packet }
-        ensures wanting { packet.status ≡ state.NoMemory → result ≡ packet }
+        ensures number { packet.new.iteration ≡ packet.old.iteration }
+        ensures void { (stage : ℕ) (why : VoidWhy) → packet.old.status ≡ state.Void stage why → packet.new ≡ packet.old }
+        ensures wanting { packet.old.status ≡ state.NoMemory → packet.new ≡ packet.old }
     {
-        match packet.get().status {
+        match packet.status {
             PacketStatus::Going => self.go(packet),
             PacketStatus::Closing => self.go(packet),
-            PacketStatus::Void { .. } => packet,
-            PacketStatus::NoMemory => packet,
+            PacketStatus::Void { .. } => {}
+            PacketStatus::NoMemory => {}
         }
     }
 
-    /// What the stage sends for a packet that goes on.
-    fn go(&mut self, packet: Boxed<Packet>) -> Boxed<Packet>
-        requires going { packet.status ≡ state.Going ⊎ packet.status ≡ state.Closing }
-        ensures sent { (key : packets.Epoch) (n : ℕ) → Stands self.old key n → packet_of packet ≡ (packets.passed key (self.old.stage - 1) n).packet → Passes self.new key n result }
+    /// Makes of a packet that goes on what the stage sends for it.
+    fn go(&mut self, packet: &mut Packet)
+        requires going { packet.old.status ≡ state.Going ⊎ packet.old.status ≡ state.Closing }
+        ensures sent { (key : packets.Epoch) (n : ℕ) → Stands self.old key n → packet_of packet.old ≡ (packets.passed key (self.old.stage - 1) n).packet → Passes self.new key n packet.new }
         ensures stage { self.new.stage ≡ self.old.stage }
-        ensures number { result.iteration ≡ packet.iteration }
+        ensures number { packet.new.iteration ≡ packet.old.iteration }
     {
         let kept = mem::replace(&mut self.kept, Kept::Nothing);
-        let (sent, next) = match kept {
+        let next = match kept {
             Kept::Cells(cells) => from_cells(
                 self.frame,
                 &self.ready,
@@ -125,6 +125,5 @@ impl<'p> StageMachine<'p> {
             ),
         };
         self.kept = next;
-        sent
     }
 }

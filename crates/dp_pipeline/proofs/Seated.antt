@@ -1,5 +1,5 @@
 -- What comes out of a ring is the next packet of its epoch, and what goes in is.
-use Rattle.std.proofs.Common.{arith, ◌≡◌, ◌<◌, ◌≤◌, inl, ℕ, ◌+◌, ◌-◌, ◌^◌, Option, IfSome, sym, ap, ◌∙◌, subst, refl}
+use Rattle.std.proofs.Common.{arith, ◌≡◌, ◌<◌, inl, ℕ, ◌+◌, ◌-◌, ◌^◌, Option, IfSome, sym, ap, ◌∙◌, subst, refl}
 use Rattle.dp_relay.specs.UnitsKey.{UnitsKey}
 use Rattle.dp_ring.specs.declared.view.Standing.{Standing}
 use Rattle.dp_ring.specs.declared.view.View.{View}
@@ -10,6 +10,7 @@ use Rattle.dp_pipeline.specs.declared.carried.Carried.{Carried}
 use Rattle.dp_pipeline.specs.Carried.{IsCarried, is_last_carried}
 use Rattle.dp_relay.specs.Facts.{SawWord}
 use Rattle.dp_pipeline.specs.Keys.{key_of}
+use Rattle.dp_pipeline.proofs.Growth.{within_fuel}
 use Rattle.dp_pipeline.specs.Seats.{SitsAt, CollectsFrom, PutsTo, seat_facts, taking_facts, giving_facts}
 
 -- the seat knows the ring's key
@@ -33,10 +34,6 @@ pub to_ring : (seat : Standing LaneKey) (key : UnitsKey) (s t u n : ℕ) (at : S
     → IsCarried key u n x → IsCarried (key_of at.ring.epoch) t seat.view.at x
 to_ring seat key s t u n at x stage place is =
     subst (λ (k : ℕ). IsCarried (key_of at.ring.epoch) t k x) (sym place) (subst (λ (k : ℕ). IsCarried (key_of at.ring.epoch) k n x) (sym stage) (subst (λ (e : UnitsKey). IsCarried e u n x) (sym at.epoch) is))
-
--- a packet of the epoch's n-th iteration isn't above the fuel's number
-pub within_fuel : (key : UnitsKey) (s n : ℕ) (x : Carried) → IsCarried key s n x → n ≤ key.epoch.fuel
-within_fuel key s n x is = let number = is.sent.iteration in let least = is.within in omega (arith, number, least)
 
 -- a try was refused
 pub saw_word : (word : ℕ) (old new : Standing LaneKey) → IsBusy word old new

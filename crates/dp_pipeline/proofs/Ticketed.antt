@@ -13,7 +13,8 @@ use Rattle.dp_pipeline.specs.Carried.{IsCarried, is_last_carried}
 use Rattle.dp_pipeline.specs.Keys.{key_of}
 use Rattle.dp_relay.specs.Places.{At, behind}
 use Rattle.dp_pipeline.specs.Seats.{IsFreeBy, MayTake, HasTaken}
-use Rattle.dp_pipeline.proofs.Seated.{known, known_back, sits_on, to_epoch, to_ring, within_fuel}
+use Rattle.dp_pipeline.proofs.Seated.{known, known_back, sits_on, to_epoch, to_ring}
+use Rattle.dp_pipeline.proofs.Growth.{within_fuel}
 
 -- by whether it has a ticket
 pub without_ticket : (has : Bool) (view : View LaneKey) (fuel : ℕ) → has ≡ false → IsFreeBy has view fuel → (view.phase ≡ Resting) × (view.drawn ≤ fuel + 1)

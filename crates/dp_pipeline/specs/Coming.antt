@@ -32,10 +32,10 @@ no_key = record {
 abbrev pub coming_of : Held → Coming
 coming_of epoch = record { key = (key_of epoch).epoch; tells_stages = epoch.tells_stages; given = 0 }
 
--- what comes on the end of a lane
-abbrev pub coming_on : View LaneKey → Coming
-coming_on (Taker lane taken) = record { key = (key_of lane.epoch).epoch; tells_stages = lane.epoch.tells_stages; given = taken }
-coming_on _ = record { key = no_key; tells_stages = false; given = 0 }
+-- what comes on the end of a lane, of whose verdicts so many were given
+abbrev pub coming_on : View LaneKey → ℕ → Coming
+coming_on (Taker lane taken) given = record { key = (key_of lane.epoch).epoch; tells_stages = lane.epoch.tells_stages; given = given }
+coming_on _ given = record { key = no_key; tells_stages = false; given = given }
 
 -- the next verdict came
 pub record Comes (verdict : Verdict) (old new : Coming) : Type 0 where

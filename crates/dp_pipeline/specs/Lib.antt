@@ -1,9 +1,11 @@
 pub mod Keys
 pub mod Begin
+pub mod Sizes
 pub mod Carried
 pub mod Seats
 pub mod Standing
 pub mod Staging
 pub mod UnitCount
 pub mod Coming
+pub mod Left
 pub mod steps

@@ -15,6 +15,7 @@ use Rattle.dp_pipeline.specs.declared.passage.Passage.{Passage}
 use Rattle.dp_pipeline.specs.declared.judging.Judging.{Judging}
 use Rattle.dp_relay.specs.Facts.{Facts}
 use Rattle.dp_pipeline.specs.Keys.{key_of}
+use Rattle.dp_pipeline.specs.Sizes.{begins}
 use Rattle.dp_pipeline.specs.Seats.{CollectsFrom, PutsTo, seat_facts}
 
 -- a lane of what stage s sends in the epoch, from which n items were taken
@@ -32,10 +33,12 @@ pub record SendsTo (view : View LaneKey) (key : UnitsKey) (s n : ℕ) : Type 0 w
   pub epoch : key_of lane.epoch ≡ key
   pub stage : lane.stage ≡ s
 
--- what starts the epoch's iterations, n of which were started
+-- what starts the epoch's iterations, n batches of which were started
 pub record Starts (x : First) (key : UnitsKey) (s n : ℕ) : Type 0 where
-  pub next : x.next ≡ key.epoch.first + n
+  pub first : x.first ≡ key.epoch.first
+  pub next : x.next ≡ key.epoch.first + begins key n
   pub fuel : x.fuel ≡ key.epoch.fuel
+  pub cap : x.cap ≡ key.cap
   pub stage : s ≡ 0
 
 -- what stage s sends in the epoch comes from here, and n items came
@@ -65,7 +68,7 @@ module _ {K : Type 0} where
   sent_facts end = record { count = sent_by end.view; tries = end.refused; word = 0; at_ring = false }
 
 abbrev pub source_facts : Source → Facts
-source_facts (source.Start x) = record { count = x.next - x.first; tries = x.refused; word = 0; at_ring = false }
+source_facts (source.Start x) = record { count = x.taken; tries = x.refused; word = 0; at_ring = false }
 source_facts (source.Lane end) = taken_facts end
 source_facts (source.Ring seat) = seat_facts seat
 

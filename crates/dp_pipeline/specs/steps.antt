@@ -1,2 +1,4 @@
 pub mod Ending
+pub mod Makes
 pub mod Setting
+pub mod Supplying

@@ -1,20 +1,23 @@
-//! A packet that goes from stage to stage.
+//! Packets that go from stage to stage.
 ghost use Rattle.std.specs.Prelude.{◌-◌};
 ghost use Rattle.dp_pipeline.specs.Carried.{IsCarried, is_last_carried};
 ghost use Rattle.dp_pipeline.specs.Keys.{key_of};
 
+use crate::batch::Batch;
 use crate::keys::LaneKey;
-use dp_base::Boxed;
+use dp_base::Row;
+use dp_judge::Verdict;
 use dp_lane::LaneItem;
-use dp_packet::Packet;
 use dp_plan::Plan;
 use dp_relay::Item;
 use dp_ring::RingItem;
 
-/// A packet of an epoch.
+/// A batch of an epoch.
 #[derive(Drop)]
 pub struct Carried<'p> {
-    pub packet: Boxed<Packet>,
+    pub packets: Batch,
+    /// Room for the verdicts: what it holds means nothing.
+    pub told: Row<Verdict>,
     pub plan: &'p Plan,
 }
 

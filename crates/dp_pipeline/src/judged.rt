@@ -1,23 +1,24 @@
-//! A verdict on its way to the commit unit.
+//! Verdicts on their way to the commit unit.
 ghost use Rattle.dp_pipeline.specs.Carried.{IsJudged, is_last_judged};
 ghost use Rattle.dp_pipeline.specs.Keys.{key_of};
 
+use crate::batch::Batch;
 use crate::keys::LaneKey;
-use dp_base::Boxed;
+use dp_base::Row;
 use dp_judge::Verdict;
 use dp_lane::LaneItem;
-use dp_packet::Packet;
 use dp_plan::Plan;
 use dp_relay::Item;
 
-/// The verdict on an iteration.
+/// The verdicts on a batch, up to the first behind which the epoch doesn't go on.
 #[derive(Drop)]
 pub struct Judged<'p> {
-    pub iteration: u64,
-    pub verdict: Verdict,
+    /// Those in front of the last.
+    pub told: Row<Verdict>,
+    pub last: Verdict,
     pub plan: &'p Plan,
-    /// What was judged. The thread that takes the verdict sends it back, since the judge has more to do.
-    pub packet: Boxed<Packet>,
+    /// What was judged. The thread that takes the verdicts sends it back, since the judge has more to do.
+    pub packets: Batch,
 }
 
 impl<'p> Item for Judged<'p> {

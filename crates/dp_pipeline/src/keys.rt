@@ -4,6 +4,7 @@ ghost use Rattle.dp_prepared.specs.Planned.{IsPlanned};
 ghost use Rattle.dp_pipeline.specs.Begin.{units_key_at};
 ghost use Rattle.dp_pipeline.specs.Keys.{key_of};
 
+use crate::growing::cap_of;
 use dp_base::{Cells, NoMemory};
 use dp_plan::Plan;
 use dp_prepared::PreparedRegion;
@@ -23,8 +24,8 @@ pub struct Begin<'b> {
     pub tells_stages: bool,
 }
 
-/// An epoch: its first iteration, the memory in which it begins, the steps made by then, and the fuel; and whether a clean
-/// iteration tells the stages of its stores.
+/// An epoch: its first iteration, the memory in which it begins, the steps made by then, and the fuel; whether a clean
+/// iteration tells the stages of its stores; and how many iterations go together.
 pub struct EpochKey<'p> {
     pub p: &'p Program,
     pub plan: &'p Plan,
@@ -34,6 +35,8 @@ pub struct EpochKey<'p> {
     pub steps: u64,
     pub fuel: u64,
     pub tells_stages: bool,
+    /// How many iterations go together at most.
+    pub cap: u64,
 }
 
 // By hand, so that what holds a key doesn't prove again how all of it is dropped.
@@ -48,6 +51,7 @@ impl<'p> Drop for EpochKey<'p> {
             steps: _,
             fuel: _,
             tells_stages: _,
+            cap: _,
         } = self;
     }
 }
@@ -62,7 +66,7 @@ impl<'u> EpochKey<'u> {
         ensures planned { IsPlanned region.now.program region.now.plan }
         ensures program { IfOk result (λ key. key.p.now ≡ region.now.program) }
         ensures plan { IfOk result (λ key. key.plan.now ≡ region.now.plan) }
-        ensures key { IfOk result (λ key. key_of key ≡ units_key_at region.now input.now begin.entry) }
+        ensures key { IfOk result (λ key. key_of key ≡ units_key_at region.now input.now begin.entry key.cap) }
     {
         Ok(EpochKey {
             p: region.program(),
@@ -73,6 +77,7 @@ impl<'u> EpochKey<'u> {
             steps: begin.steps,
             fuel: begin.fuel,
             tells_stages: begin.tells_stages,
+            cap: cap_of(region),
         })
     }
 
@@ -89,6 +94,7 @@ impl<'u> EpochKey<'u> {
             steps: _,
             fuel: _,
             tells_stages: _,
+            cap: _,
         } = self;
         base
     }

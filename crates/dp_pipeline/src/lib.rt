@@ -2,9 +2,12 @@
 //! thread may make.
 #![tactic(auto)]
 
+mod batch;
 mod bells;
 mod carried;
 mod ending;
+mod fresh;
+mod growing;
 mod judge;
 mod judged;
 mod judging;
@@ -22,10 +25,12 @@ mod start;
 mod supply;
 mod target;
 mod tickets;
+mod told;
 mod trying;
 mod unit;
 mod verdicts;
 
+pub use batch::Batch;
 pub use bells::bells_for;
 pub use carried::Carried;
 pub use judged::Judged;

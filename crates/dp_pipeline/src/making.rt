@@ -99,7 +99,7 @@ fn started<'u, 'p>(alloc: Global, setting: &Setting<'u, 'p>) -> Result<(Back, So
     let epoch = &setting.key.epoch;
     let stages = epoch.plan.stages.len() as u32;
     let (back, supply) = way_back(alloc, stages.saturating_add(2), setting.size.lane)?;
-    let start = Start::new(epoch.plan, epoch.first, epoch.fuel, supply);
+    let start = Start::new(epoch.plan, epoch.first, epoch.fuel, epoch.cap, supply);
     Ok((back, Source::Start(start)))
 }
 

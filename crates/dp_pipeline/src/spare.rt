@@ -1,18 +1,21 @@
-//! Packets on their way back to the first stage.
+//! Batches on their way back to the first stage.
 ghost use Rattle.std.specs.Prelude.{◌≡◌, false, true, is_some, IfOk};
 ghost use Rattle.dp_lane.specs.Ends.{is_sender};
 
+use crate::batch::Batch;
 use crate::supply::Supply;
-use dp_base::{Boxed, NoMemory};
+use dp_base::{NoMemory, Row};
+use dp_judge::Verdict;
 use dp_lane::{LaneItem, SendEnd, lane};
-use dp_packet::Packet;
 use std::alloc::Global;
 use std::sync::Wait;
 
-/// A packet whose room is used again: what it says means nothing.
+/// A batch whose room is used again: what it says means nothing.
 #[derive(Drop)]
 pub struct Spare {
-    pub packet: Boxed<Packet>,
+    pub packets: Batch,
+    /// Room for verdicts.
+    pub told: Row<Verdict>,
 }
 
 impl LaneItem for Spare {
@@ -23,7 +26,7 @@ impl LaneItem for Spare {
     ghost is_ending = { λ _ _. false };
 }
 
-/// Where judged packets are sent back.
+/// Where judged batches are sent back.
 #[derive(Drop)]
 pub struct Back {
     end: SendEnd<Spare>,
@@ -31,14 +34,14 @@ pub struct Back {
 }
 
 impl Back {
-    /// Sends a packet back, or frees it.
-    pub(crate) fn send<R: Wait>(&mut self, rt: &R, packet: Boxed<Packet>) {
-        drop(self.end.send(rt, Spare { packet }));
+    /// Sends a batch back, or frees it.
+    pub(crate) fn send<R: Wait>(&mut self, rt: &R, spare: Spare) {
+        drop(self.end.send(rt, spare));
     }
 }
 
-/// The way back for packets that were judged, and what gives them out again. So many lanes of so many places hold the
-/// packets of an epoch, and all of them may be on their way back at once.
+/// The way back for batches that were judged, and what gives them out again. So many lanes of so many places hold the
+/// batches of an epoch, and all of them may be on their way back at once.
 pub(crate) fn way_back(alloc: Global, lanes: u32, places: u32) -> Result<(Back, Supply), NoMemory>
     ensures { IfOk result (λ made. is_some made.1.last ≡ true) }
 {

@@ -1,14 +1,15 @@
 //! Packets for the iterations of an epoch.
-ghost use Rattle.std.specs.Prelude.{◌≡◌, ◌≤◌, ◌<◌, ◌⊎◌, None, [], true, is_some, IfOk, IfSome, IfNone};
-ghost use Rattle.dp_semantics.specs.Packets as packets;
+ghost use Rattle.std.specs.Prelude.{◌≡◌, ◌≤◌, ◌<◌, ◌+◌, ◌^◌, ◌⊎◌, None, [], true, is_some, length, IfOk, IfSome, IfNone};
 ghost use Rattle.dp_packet.specs.declared.PacketStatus.TheVariants as state;
-ghost use Rattle.dp_packet.specs.Packet.{packet_of, IsUnless};
 ghost use Rattle.dp_lane.specs.Ends.{refused_once};
+ghost use Rattle.dp_pipeline.specs.steps.Supplying.{IsFresh, IsFreshBatch};
 
+use crate::batch::Batch;
+use crate::fresh::{end_with, fill};
 use crate::spare::Spare;
-use dp_base::{Boxed, NoMemory};
+use dp_base::{Boxed, NoMemory, Row};
 use dp_lane::TakeEnd;
-use dp_packet::{Packet, PacketStatus};
+use dp_packet::Packet;
 use std::alloc::Global;
 use std::sync::Wait;
 
@@ -16,7 +17,7 @@ use std::sync::Wait;
 #[derive(Drop)]
 pub struct Supply {
     alloc: Global,
-    /// Where packets come back that were judged.
+    /// Where batches come back that were judged.
     spares: TakeEnd<Spare>,
     /// The one that says that there is no memory for another.
     pub(crate) last: Option<Boxed<Packet>>,
@@ -34,59 +35,68 @@ impl Supply {
         })
     }
 
-    /// The empty packet of this iteration, or one that says that memory is wanting, which is the last. None comes above the
-    /// fuel's number, and behind the one that says so.
-    #[tactic(auto, using(crate::proofs::Supplied::told))]
-    pub(crate) fn packet<R: Wait>(
-        &mut self,
-        rt: &R,
-        iteration: u64,
-        fuel: u64,
-    ) -> Option<Boxed<Packet>>
-        ensures number { IfSome result (λ packet. packet.iteration ≡ iteration) }
-        ensures within { IfSome result (λ packet. iteration ≤ fuel) }
-        ensures none { IfNone result ((fuel < iteration) ⊎ (self.old.last ≡ None)) }
+    /// The empty packets of so many iterations from this one on. One for which memory is wanting says so, and is the last. None
+    /// come behind the batch that says so with nothing in front.
+    pub(crate) fn batch<R: Wait>(&mut self, rt: &R, iteration: u64, size: u64) -> Option<Spare>
+        requires size { (1 ≤ size) × (iteration + size < 2 ^ 64) }
+        ensures fresh { IfSome result (λ spare. IsFreshBatch iteration size spare.packets) }
+        ensures none { IfNone result (self.old.last ≡ None) }
         ensures kept { IfNone result (self.new.last ≡ self.old.last) }
-        ensures spent { IfSome result (λ packet. (packet.status ≡ state.NoMemory) ⊎ (self.new.last ≡ self.old.last)) }
-        ensures said { IfSome result (λ packet. IsUnless packet.status (packet_of packet) (record { lists = []; status = packets.Going; version = None })) }
-        ensures no_spare { IfSome result (λ packet. packet.status ≡ state.NoMemory → self.new.spares ≡ refused_once self.old.spares) }
+        ensures spent { IfSome result (λ spare. (spare.packets.last.status ≡ state.NoMemory) ⊎ (self.new.last ≡ self.old.last)) }
+        ensures no_spare { (self.new.last ≡ self.old.last) ⊎ (self.new.spares ≡ refused_once self.old.spares) }
     {
-        if iteration > fuel {
-            return None;
-        }
-        if let Some(Spare { packet }) = self.spares.take(rt) {
-            return Some(renewed(packet, iteration));
+        if let Some(Spare { packets, told }) = self.spares.take(rt) {
+            let packets = renewed(self.alloc, packets, iteration, size);
+            return Some(Spare { packets, told });
         }
         match Boxed::new(self.alloc, Packet::empty(self.alloc, iteration)) {
-            Ok(packet) => Some(packet),
-            Err(NoMemory) => self.wanting(iteration),
+            Ok(last) => {
+                let none = Batch {
+                    before: Row::new(self.alloc),
+                    last,
+                };
+                let packets = renewed(self.alloc, none, iteration, size);
+                Some(Spare {
+                    packets,
+                    told: Row::new(self.alloc),
+                })
+            }
+            Err(NoMemory) => self.wanting(iteration, size),
         }
     }
 
-    /// The packet that says that memory is wanting.
-    fn wanting(&mut self, iteration: u64) -> Option<Boxed<Packet>>
+    /// The batch of one packet that says that memory is wanting.
+    fn wanting(&mut self, iteration: u64, size: u64) -> Option<Spare>
+        requires { 1 ≤ size }
+        ensures fresh { IfSome result (λ spare. IsFreshBatch iteration size spare.packets) }
         ensures none { IfNone result (self.old.last ≡ None) }
         ensures kept { IfNone result (self.new.last ≡ self.old.last) }
         ensures spares { self.new.spares ≡ self.old.spares }
-        ensures wanting { IfSome result (λ packet. packet.status ≡ state.NoMemory) }
-        ensures number { IfSome result (λ packet. packet.iteration ≡ iteration) }
-        ensures said { IfSome result (λ packet. IsUnless packet.status (packet_of packet) (record { lists = []; status = packets.Going; version = None })) }
+        ensures wanting { IfSome result (λ spare. spare.packets.last.status ≡ state.NoMemory) }
     {
-        let mut packet = self.last.take()?;
-        let inner = packet.get_mut();
-        inner.iteration = iteration;
-        inner.status = PacketStatus::NoMemory;
-        Some(packet)
+        let mut last = self.last.take()?;
+        end_with(last.get_mut(), iteration, false);
+        Some(Spare {
+            packets: Batch {
+                before: Row::new(self.alloc),
+                last,
+            },
+            told: Row::new(self.alloc),
+        })
     }
 }
 
-/// The packet, which becomes that of an iteration.
-fn renewed(packet: Boxed<Packet>, iteration: u64) -> Boxed<Packet>
-    ensures number { result.iteration ≡ iteration }
-    ensures said { packet_of result ≡ record { lists = []; status = packets.Going; version = None } }
-    ensures status { result.status ≡ state.Going }
+/// The batch, which becomes that of so many iterations from this one on.
+fn renewed(alloc: Global, packets: Batch, iteration: u64, size: u64) -> Batch
+    requires size { (1 ≤ size) × (iteration + size < 2 ^ 64) }
+    ensures { IsFreshBatch iteration size result }
 {
-    let mut packet = packet;
-    packet.get_mut().renew(iteration);
-    packet
+    let Batch {
+        mut before,
+        mut last,
+    } = packets;
+    let full = fill(alloc, &mut before, iteration, size as usize - 1);
+    let at = iteration + before.len() as u64;
+    end_with(last.get_mut(), at, full);
+    Batch { before, last }
 }

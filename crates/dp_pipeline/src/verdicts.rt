@@ -1,6 +1,7 @@
 //! The verdicts of an epoch as they come out of their lane.
 use crate::judged::Judged;
 use crate::spare::Back;
+use crate::told::Told;
 use crate::unit::Unit;
 use dp_base::Row;
 use dp_edge::OpenGate;
@@ -18,7 +19,9 @@ pub struct LaneVerdicts<'u> {
     end: TakeEnd<Judged<'u>>,
     own: Row<Unit<'u>>,
     pause: Pause<'u>,
-    /// Where the packets that were judged are sent back.
+    /// What came and isn't given yet.
+    told: Told,
+    /// Where the batches that were judged are sent back.
     back: Back,
 }
 
@@ -29,6 +32,7 @@ impl<'u> Drop for LaneVerdicts<'u> {
             end: _,
             own: _,
             pause: _,
+            told: _,
             back: _,
         } = self;
     }
@@ -39,12 +43,15 @@ impl<'u> Model for LaneVerdicts<'u> {
     ghost use Rattle.dp_tree.specs.contracts.Stmt as stmt;
     ghost use Rattle.std.specs.Coded.{codes};
     ghost use Rattle.dp_pipeline.specs.Coming.{Coming, coming_on};
+    ghost use Rattle.dp_pipeline.specs.Left.{AwaitsOn};
 
     ghost Value = { Coming };
 
     ghost coded = { Prim.hlevel (codes, expr.the_row.coded, stmt.the_row.coded) };
 
-    ghost view = { λ v. coming_on v.end.view };
+    ghost view = { λ v. coming_on v.end.view v.told.given };
+
+    ghost invariant = { λ v. AwaitsOn v.end.view v.told };
 }
 
 impl<'u> LaneVerdicts<'u> {
@@ -52,15 +59,18 @@ impl<'u> LaneVerdicts<'u> {
     ghost use Rattle.dp_semantics.specs.EpochVerdicts.{goes_on, verdict_at};
     ghost use Rattle.dp_judge.specs.Told.{Says, TellsStages};
     ghost use Rattle.dp_pipeline.specs.Coming.{Comes, coming_on};
+    ghost use Rattle.dp_pipeline.specs.Standing.{taken_by};
 
-    /// Verdicts that come on this end, and no units. Packets that were judged are sent back.
+    /// Verdicts that come on this end, from which nothing was taken, and no units. Batches that were judged are sent back.
     pub(crate) fn new(alloc: Global, end: TakeEnd<Judged<'u>>, back: Back) -> LaneVerdicts<'u>
-        ensures { result ≡ coming_on end.entry.view }
+        requires { taken_by end.view ≡ 0 }
+        ensures { result ≡ coming_on end.entry.view 0 }
     {
         LaneVerdicts {
             end,
             own: Row::new(alloc),
             pause: Pause::at(&[], 0),
+            told: Told::none(alloc),
             back,
         }
     }
@@ -73,12 +83,14 @@ impl<'u> LaneVerdicts<'u> {
             end,
             own: _,
             pause,
+            told,
             back,
         } = self;
         LaneVerdicts {
             end,
             own: units,
             pause,
+            told,
             back,
         }
     }
@@ -121,21 +133,21 @@ impl<'u> LaneVerdicts<'u> {
     }
 
     /// The next verdict, if it has come.
-    #[tactic(auto, using(crate::proofs::VerdictsCome::comes))]
     fn take<R: Wait>(&mut self, rt: &R) -> Option<Verdict>
         ensures { MatchOption result (self.new ≡ self.old) (λ verdict. Comes verdict self.old self.new) }
     {
+        if let Some(verdict) = self.told.next() {
+            return Some(verdict);
+        }
+        if self.told.over {
+            return None;
+        }
         match self.end.take(rt) {
-            Some(
-                Judged {
-                    verdict,
-                    packet,
-                    ..
-                },
-            ) => {
+            Some(judged) => {
                 self.pause.moved();
-                self.back.send(rt, packet);
-                Some(verdict)
+                let spare = self.told.refill(judged);
+                self.back.send(rt, spare);
+                self.told.next()
             }
             None => None,
         }

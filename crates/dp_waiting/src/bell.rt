@@ -13,6 +13,8 @@ const SLEEP: u64 = 1;
 pub struct Bell {
     /// The thread's unit is a worker of a replicated stage.
     is_workers: bool,
+    /// So many iterations go together in an item at most.
+    together: u32,
     is_awaited: AtomicBool,
     /// Nothing more comes for the thread.
     is_over: AtomicBool,
@@ -24,6 +26,7 @@ impl Drop for Bell {
     fn drop(self) {
         let Bell {
             is_workers: _,
+            together: _,
             is_awaited: _,
             is_over: _,
             parker: _,
@@ -32,10 +35,11 @@ impl Drop for Bell {
 }
 
 impl Bell {
-    /// A bell that nobody awaits.
-    pub fn new(is_workers: bool) -> Bell {
+    /// A bell that nobody awaits, of a thread whose items are of so many iterations at most.
+    pub fn new(is_workers: bool, together: u32) -> Bell {
         Bell {
             is_workers,
+            together,
             is_awaited: AtomicBool::new(false),
             is_over: AtomicBool::new(false),
             parker: Parker::new(),
@@ -46,6 +50,12 @@ impl Bell {
         ensures { result ≡ self.now.is_workers }
     {
         self.is_workers
+    }
+
+    pub(crate) fn together(&self) -> u32
+        ensures { result ≡ self.now.together }
+    {
+        self.together
     }
 
     /// Wakes the thread, if it sleeps or is about to.

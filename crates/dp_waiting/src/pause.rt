@@ -11,11 +11,11 @@ use std::time::Clock;
 /// So often a thread spins before it lets others run.
 const SPINS: u32 = 4;
 
-/// The threads beside are woken once for so many items.
-const ITEMS: u32 = 32;
+/// The threads beside are woken once for so many iterations.
+const ITERATIONS: u32 = 32;
 
 /// Workers of one stage take from one side of a ring together, so that each wakes the threads beside sooner.
-const WORKERS_ITEMS: u32 = 16;
+const WORKERS_ITERATIONS: u32 = 16;
 
 /// The waiting of one thread between two polls. A thread that waits long sleeps.
 #[derive(Drop)]
@@ -49,7 +49,7 @@ impl<'b> Pause<'b> {
             before: before(bells, place),
             after: after(bells, place),
             backoff: Backoff::new(),
-            patience: Patience::new(),
+            patience: Patience::new(together_in(own)),
             is_awaiting: false,
             pauses: 0,
             items: 0,
@@ -166,15 +166,22 @@ impl<'b> Pause<'b> {
     }
 }
 
-fn most_of(own: Option<&Bell>) -> u32 {
+/// How many iterations go together in an item at most, where that is known.
+fn together_in(own: Option<&Bell>) -> u32 {
     match own {
-        Some(bell) => {
-            if bell.is_workers() {
-                WORKERS_ITEMS
-            } else {
-                ITEMS
-            }
-        }
-        None => ITEMS,
+        Some(bell) => bell.together(),
+        None => 1,
+    }
+}
+
+/// How many items move until the threads beside are woken: one at least.
+fn most_of(own: Option<&Bell>) -> u32 {
+    let iterations = match own {
+        Some(bell) if bell.is_workers() => WORKERS_ITERATIONS,
+        Some(_) | None => ITERATIONS,
+    };
+    match iterations.checked_div(together_in(own)) {
+        Some(items) => items.max(1),
+        None => iterations,
     }
 }

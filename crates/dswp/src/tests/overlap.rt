@@ -6,12 +6,13 @@ use std::test::Fail;
 /// Stage 2 is held here: the units have threads of their own by then.
 const HELD: (u32, u64) = (2, 60);
 
-/// The stage and the iteration that are awaited meanwhile, for how many turns, with how many workers, and whether they come.
+/// The stage and the iteration that are awaited meanwhile, for how many turns, with how many workers, and whether they come. The
+/// iteration is the first of the next batch: a worker that is held has the rest of the batch that it took.
 const AWAITED: [((u32, u64), u64, &str, bool); 4] = [
-    ((1, 61), 1_000_000, "1", true),
-    ((1, 61), 1_000_000, "2", true),
-    ((2, 61), 1_000_000, "2", true),
-    ((2, 61), 1_000, "1", false),
+    ((1, 64), 1_000_000, "1", true),
+    ((1, 64), 1_000_000, "2", true),
+    ((2, 64), 1_000_000, "2", true),
+    ((2, 64), 1_000, "1", false),
 ];
 
 #[test]

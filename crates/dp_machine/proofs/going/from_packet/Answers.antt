@@ -12,18 +12,18 @@ use Rattle.dp_machine.specs.Sending.{IsSent, key_of}
 use Rattle.dp_machine.proofs.Goes.{all, packet_sends, sends_so}
 use Rattle.dp_machine.proofs.going.from_packet.Goals as goal
 
-pub send-sent-requires-clause-code : goal.send-sent-requires-clause-code
-send-sent-requires-clause-code c =
+pub send-spent-requires-clause-code : goal.send-spent-requires-clause-code
+send-spent-requires-clause-code c =
     let p = c.args.frame.program.now in let plan = c.args.frame.plan.now in
     subst (λ (ops : List Op). IsStageCode p plan c.args.stage ops) (sym c.requires.code) (is_stage_code p plan c.args.stage)
 
-pub send-sent-requires-clause-going : goal.send-sent-requires-clause-going
-send-sent-requires-clause-going c =
+pub send-spent-requires-clause-going : goal.send-spent-requires-clause-going
+send-spent-requires-clause-going c =
     subst (λ (st : PacketStatus). (st ≡ state.Going) ⊎ (st ≡ state.Closing)) (sym (ap (λ (p : Packet). p.status) c.taken_version.ensures.left)) c.requires.going
 
 pub returns-in-Some-clause-sent : goal.returns-in-Some-clause-sent
 returns-in-Some-clause-sent c = λ key n stands comes.
     let f = c.args.frame in let s = c.args.stage in
-    let turn = packet_sends f s key n c.in-Some.memory c.args.packet c.send-sent.result.packet c.send-sent.result.memory c.requires.numbered c.requires.fits stands comes c.requires.going (sym c.taken_version.ensures.version ∙ c.in-Some.is)
-    (λ along. subst (λ (p : Packet). IsSent all (packets.run_on (key_of f key.base) s c.in-Some.memory (packet_of p)) c.send-sent.result.packet c.send-sent.result.memory) c.taken_version.ensures.left (c.send-sent.ensures.sent key.base along)) in
-    sends_so f s Nothing key n c.send-sent.result.packet c.with_room.result c.with_room.ensures.status c.with_room.ensures.said turn
+    let turn = packet_sends f s key n c.in-Some.memory c.args.packet.now c.send-spent.new.packet c.send-spent.result c.requires.numbered c.requires.fits stands comes c.requires.going (sym c.taken_version.ensures.version ∙ c.in-Some.is)
+    (λ along. subst (λ (p : Packet). IsSent all (packets.run_on (key_of f key.base) s c.in-Some.memory (packet_of p)) c.send-spent.new.packet c.send-spent.result) c.taken_version.ensures.left (c.send-spent.ensures.sent key.base along)) in
+    sends_so f s Nothing key n c.send-spent.new.packet c.keep_room.new.packet c.keep_room.ensures.status c.keep_room.ensures.said turn

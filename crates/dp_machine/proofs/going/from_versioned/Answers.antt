@@ -13,13 +13,13 @@ use Rattle.dp_machine.specs.Standing.{Sends, StandsAt}
 use Rattle.dp_machine.proofs.Goes.{versioned_sends}
 use Rattle.dp_machine.proofs.going.from_versioned.Goals as goal
 
-pub send-sent-requires-clause-code : goal.send-sent-requires-clause-code
-send-sent-requires-clause-code c =
+pub send-left-requires-clause-code : goal.send-left-requires-clause-code
+send-left-requires-clause-code c =
     let p = c.args.frame.program.now in let plan = c.args.frame.plan.now in
     subst (λ (ops : List Op). IsStageCode p plan c.args.stage ops) (sym c.requires.code) (is_stage_code p plan c.args.stage)
 
-pub send-sent-requires-clause-going : goal.send-sent-requires-clause-going
-send-sent-requires-clause-going c =
+pub send-left-requires-clause-going : goal.send-left-requires-clause-going
+send-left-requires-clause-going c =
     subst (λ (st : PacketStatus). (st ≡ state.Going) ⊎ (st ≡ state.Closing)) (sym c.taken_room-room.ensures.status) c.requires.going
 
 pub returns-in-Ok-clause-sent : goal.returns-in-Ok-clause-sent
@@ -28,7 +28,7 @@ returns-in-Ok-clause-sent c = λ key n stands comes.
     let both = c.snapshot.new.self in
     let came = c.taken_room-room.new.packet in
     let turn = packets.run_on (key_of f key.base) s both (packet_of came) in
-    subst (λ (k : Kept). Sends f s k key n c.cleared-next.result.packet) (sym c.keep_versioned.ensures)
-    (versioned_sends f s key n both came c.cleared-next.result.packet c.cleared-next.result.memory c.requires.numbered
+    subst (λ (k : Kept). Sends f s k key n c.cleared-next.new.packet) (sym c.keep_versioned.ensures)
+    (versioned_sends f s key n both came c.cleared-next.new.packet c.cleared-next.result c.requires.numbered
     (subst (λ (b : List ℤ). StandsAt f s (Versioned b) key n) (sym c.in-Ok.ensures.same) stands) (c.taken_room-room.ensures.said ∙ comes)
-    (λ along. c.cleared-next.ensures.sent key.base turn (c.send-sent.ensures.sent key.base (ap Some (c.in-Ok.ensures.ok ∙ sym c.in-Ok.ensures.same) ∙ along))))
+    (λ along. c.cleared-next.ensures.sent key.base turn (c.send-left.ensures.sent key.base (ap Some (c.in-Ok.ensures.ok ∙ sym c.in-Ok.ensures.same) ∙ along))))

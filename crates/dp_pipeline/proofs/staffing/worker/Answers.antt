@@ -3,7 +3,7 @@ use Rattle.dp_plan.specs.declared.Plan.{Plan}
 use Rattle.dp_plan.specs.Access.{is_replicated}
 use Rattle.dp_pipeline.specs.Keys.{key_of}
 use Rattle.dp_pipeline.proofs.Beginning.{worker_begins}
-use Rattle.dp_pipeline.proofs.Staging.{runs_anywhere}
+use Rattle.dp_pipeline.proofs.Runs.{runs_anywhere}
 use Rattle.dp_pipeline.proofs.staffing.worker.Goals as goal
 
 pub new-unit-requires-clause-start : goal.new-unit-requires-clause-start
