@@ -12,7 +12,7 @@ use std::thread::Scope;
 use std::time::Clock;
 
 /// So many verdicts of an epoch the caller awaits alone: an epoch that breaks early isn't worth waking threads for.
-const ALONE: u32 = 32;
+const ALONE: u32 = 256;
 
 /// A tray and a bell for each thread that a region may have, and the scope of these threads, which are started when units are
 /// handed over for the first time.
