@@ -33,13 +33,13 @@ impl<const N: usize, A: Value<N>, B: Value<N>> Value<N> for And<A, B> {
     }
 
     #[inline(always)]
-    fn value(input: &[i64], memory: &[i64], registers: &[i64; N]) -> Option<i64> {
-        let a = A::value(input, memory, registers)?;
+    fn value<W>(input: &[i64], memory: &[i64], registers: &[i64; N]) -> Option<i64> {
+        let a = A::value::<W>(input, memory, registers)?;
         let holds_first = holds(a);
         if !holds_first {
             return Some(0);
         }
-        let b = B::value(input, memory, registers)?;
+        let b = B::value::<W>(input, memory, registers)?;
         Some(truth(b))
     }
 }
@@ -62,13 +62,13 @@ impl<const N: usize, A: Value<N>, B: Value<N>> Value<N> for Or<A, B> {
     }
 
     #[inline(always)]
-    fn value(input: &[i64], memory: &[i64], registers: &[i64; N]) -> Option<i64> {
-        let a = A::value(input, memory, registers)?;
+    fn value<W>(input: &[i64], memory: &[i64], registers: &[i64; N]) -> Option<i64> {
+        let a = A::value::<W>(input, memory, registers)?;
         let holds_first = holds(a);
         if holds_first {
             return Some(1);
         }
-        let b = B::value(input, memory, registers)?;
+        let b = B::value::<W>(input, memory, registers)?;
         Some(truth(b))
     }
 }
@@ -113,7 +113,7 @@ impl<const N: usize, const S: u32, C: Value<N>, A: Code<N>, B: Code<N>> Code<N> 
             return left;
         }
         let next = state.stepped();
-        match C::value(input, memory, &state.registers) {
+        match C::value::<W>(input, memory, &state.registers) {
             Some(test) => {
                 let yes = holds(test);
                 if yes {

@@ -54,17 +54,25 @@ impl<const N: usize, const S: u32, const M: u64, const P: usize, C: Value<N>, A:
         requires { state.now.at ≡ 0 }
         ensures { MatchOption result ((memory.new ≡ memory.old) × (out.new ≡ out.old)) (λ to. (to.at < 2 ^ 32) × Enters (OfWhile S C.is_of A.is_of) site input.now state.now.fuel state.now.registers memory.old out.old to.at to.fuel to.registers memory.new out.new) }
     {
-        entered::<N, S, M, P, C, A>(site, input, memory, out, state)
+        entered::<N, S, M, P, 0, C, A>(site, input, memory, out, state)
     }
 }
 
-/// The same of a loop that stands inside no other one.
-pub struct Outermost<const S: u32, const M: u64, const P: usize, C, A> {
+/// The same of a loop that stands inside no other one. It is begun only where the memory has L cells at least, so that the
+/// compiler knows which arrays are in it.
+pub struct Outermost<const S: u32, const M: u64, const P: usize, const L: usize, C, A> {
     of: PhantomData<(C, A)>,
 }
 
-impl<const N: usize, const S: u32, const M: u64, const P: usize, C: Value<N>, A: Code<N>> Code<N>
-    for Outermost<S, M, P, C, A> {
+impl<
+    const N: usize,
+    const S: u32,
+    const M: u64,
+    const P: usize,
+    const L: usize,
+    C: Value<N>,
+    A: Code<N>,
+> Code<N> for Outermost<S, M, P, L, C, A> {
     ghost is_of = { OfWhile S C.is_of A.is_of };
 
     fn is(program: &Program, homes: &[u32], size: u32, statements: &[Stmt]) -> bool {
@@ -78,7 +86,7 @@ impl<const N: usize, const S: u32, const M: u64, const P: usize, C: Value<N>, A:
         ensures small { result.at < 2 ^ 32 }
         ensures runs { Runs (OfWhile S C.is_of A.is_of) input.now state.entry.fuel state.entry.registers memory.old out.old result.at result.fuel result.registers memory.new out.new }
     {
-        turns_apart::<N, S, M, P, C, A>(input, memory, out, &state)
+        turns_apart::<N, S, M, P, L, C, A>(input, memory, out, &state)
     }
 
     fn enter(
@@ -91,7 +99,7 @@ impl<const N: usize, const S: u32, const M: u64, const P: usize, C: Value<N>, A:
         requires { state.now.at ≡ 0 }
         ensures { MatchOption result ((memory.new ≡ memory.old) × (out.new ≡ out.old)) (λ to. (to.at < 2 ^ 32) × Enters (OfWhile S C.is_of A.is_of) site input.now state.now.fuel state.now.registers memory.old out.old to.at to.fuel to.registers memory.new out.new) }
     {
-        entered::<N, S, M, P, C, A>(site, input, memory, out, state)
+        entered::<N, S, M, P, L, C, A>(site, input, memory, out, state)
     }
 }
 
@@ -133,7 +141,7 @@ fn turns<const N: usize, const S: u32, const M: u64, const P: usize, C: Value<N>
         if is_full(out, P) {
             break;
         }
-        match C::value(input, memory, &state.registers) {
+        match C::value::<W>(input, memory, &state.registers) {
             Some(test) => {
                 let yes = holds(test);
                 let next = state.stepped();
@@ -153,24 +161,39 @@ fn turns<const N: usize, const S: u32, const M: u64, const P: usize, C: Value<N>
     left
 }
 
-/// .. in the loop's own function.
+/// .. in the loop's own function, where the memory has L cells.
 #[inline(never)]
-fn turns_apart<const N: usize, const S: u32, const M: u64, const P: usize, C: Value<N>, A: Code<N>>(
-    input: &[i64],
-    memory: &mut [i64],
-    out: &mut Row<i64>,
-    state: &State<N>,
-) -> State<N>
+fn turns_apart<
+    const N: usize,
+    const S: u32,
+    const M: u64,
+    const P: usize,
+    const L: usize,
+    C: Value<N>,
+    A: Code<N>,
+>(input: &[i64], memory: &mut [i64], out: &mut Row<i64>, state: &State<N>) -> State<N>
     requires { state.now.at ≡ 0 }
     ensures less { result.fuel ≤ state.now.fuel }
     ensures small { result.at < 2 ^ 32 }
     ensures runs { Runs (OfWhile S C.is_of A.is_of) input.now state.now.fuel state.now.registers memory.old out.old result.at result.fuel result.registers memory.new out.new }
 {
+    if memory.len() < L {
+        let left = state.left_at(S);
+        return left;
+    }
     turns::<N, S, M, P, C, A, Within<S>>(input, memory, out, *state)
 }
 
 /// Goes on at the loop's head or inside, and then with its further turns.
-fn entered<const N: usize, const S: u32, const M: u64, const P: usize, C: Value<N>, A: Code<N>>(
+fn entered<
+    const N: usize,
+    const S: u32,
+    const M: u64,
+    const P: usize,
+    const L: usize,
+    C: Value<N>,
+    A: Code<N>,
+>(
     site: u32,
     input: &[i64],
     memory: &mut [i64],
@@ -181,7 +204,7 @@ fn entered<const N: usize, const S: u32, const M: u64, const P: usize, C: Value<
     ensures { MatchOption result ((memory.new ≡ memory.old) × (out.new ≡ out.old)) (λ to. (to.at < 2 ^ 32) × Enters (OfWhile S C.is_of A.is_of) site input.now state.now.fuel state.now.registers memory.old out.old to.at to.fuel to.registers memory.new out.new) }
 {
     if site == S {
-        let to = turns_apart::<N, S, M, P, C, A>(input, memory, out, state);
+        let to = turns_apart::<N, S, M, P, L, C, A>(input, memory, out, state);
         return Some(to);
     }
     match A::enter(site, input, memory, out, state) {
@@ -189,7 +212,7 @@ fn entered<const N: usize, const S: u32, const M: u64, const P: usize, C: Value<
             if inside.at != 0 {
                 return Some(inside);
             }
-            let behind = turns_apart::<N, S, M, P, C, A>(input, memory, out, &inside);
+            let behind = turns_apart::<N, S, M, P, L, C, A>(input, memory, out, &inside);
             Some(behind)
         }
         None => None,

@@ -49,7 +49,7 @@ impl<const N: usize, const S: u32, const K: usize, V: Value<N>> Code<N> for Set<
         if K >= N {
             return left;
         }
-        match V::value(input, memory, &state.registers) {
+        match V::value::<W>(input, memory, &state.registers) {
             Some(value) => {
                 let held = state.holding(K, value);
                 held
@@ -117,7 +117,7 @@ impl<const N: usize, const S: u32, const F: u32, const C: u32, I: Value<N>, V: V
             return left;
         }
         let next = state.stepped();
-        match stored::<N, F, C, I, V>(input, memory, &state.registers) {
+        match stored::<N, F, C, I, V, W>(input, memory, &state.registers) {
             Some(()) => next,
             None => left,
         }
@@ -143,15 +143,15 @@ impl<const N: usize, const S: u32, const F: u32, const C: u32, I: Value<N>, V: V
 
 /// Stores the value at the index, if neither faults and there is such an element.
 #[inline(always)]
-fn stored<const N: usize, const F: u32, const C: u32, I: Value<N>, V: Value<N>>(
+fn stored<const N: usize, const F: u32, const C: u32, I: Value<N>, V: Value<N>, W>(
     input: &[i64],
     memory: &mut [i64],
     registers: &[i64; N],
 ) -> Option<()>
     ensures { MatchOption result (memory.new ≡ memory.old) (λ _. Stores I.is_of V.is_of F C input.now registers.now memory.old memory.new) }
 {
-    let index = I::value(input, memory, registers)?;
-    let value = V::value(input, memory, registers)?;
+    let index = I::value::<W>(input, memory, registers)?;
+    let value = V::value::<W>(input, memory, registers)?;
     put(memory, F, C, index, value)
 }
 
@@ -184,7 +184,7 @@ impl<const N: usize, const S: u32, V: Value<N>> Code<N> for Say<S, V> {
             return left;
         }
         let next = state.stepped();
-        match V::value(input, memory, &state.registers) {
+        match V::value::<W>(input, memory, &state.registers) {
             Some(value) => match say(out, value) {
                 Some(()) => next,
                 None => left,

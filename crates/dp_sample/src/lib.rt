@@ -39,8 +39,8 @@ impl Value<2> for Expression1 {
     }
 
     #[inline(always)]
-    fn value(input: &[i64], memory: &[i64], registers: &[i64; 2]) -> Option<i64> {
-        <Expression1Form as Value<2>>::value(input, memory, registers)
+    fn value<W>(input: &[i64], memory: &[i64], registers: &[i64; 2]) -> Option<i64> {
+        <Expression1Form as Value<2>>::value::<W>(input, memory, registers)
     }
 }
 
@@ -109,6 +109,7 @@ pub fn code() -> Native<
                 2,
                 4,
                 4096,
+                10,
                 Binary<Lt, Scalar<1>, InputLen>,
                 Then<1, Part1, Set<7, 1, Binary<Add, Scalar<1>, Number<1>>>>,
             >,
