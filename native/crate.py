@@ -12,8 +12,13 @@ from forms import Forms
 from tree_text import Program
 
 HERE = Path(__file__).resolve().parent
-FORMS = """Add And Binary Code Composed Div Element Eq Ge Gt If InputLen Le Lt Mul Ne Neg Not Nothing Number Or Other Put Rem Say
-Scalar Set State Sub Then Unary While Word""".split()
+NAMES = {
+    "dp_base": ["Row"],
+    "dp_forms": """Add And Binary Code Composed Div Element Eq Ge Gt If InputLen Le Lt Mul Ne Neg Not Nothing Number Or Other
+                   Outermost Put Rem Say Scalar Set State Sub Then Unary Value While Word""".split(),
+    "dp_native": ["Native"],
+    "dp_tree": ["Expr", "Program", "Stmt"],
+}
 CODE_USES = "dp_base dp_tree dp_native dp_forms"
 
 
@@ -37,16 +42,25 @@ def words_in(text):
     return set("".join(c if c.isalnum() else " " for c in text).split())
 
 
+def imports(body):
+    """The lines that import what a text names of the libraries."""
+    used = words_in(body)
+    for library, names in NAMES.items():
+        names = [name for name in names if name in used]
+        if names:
+            yield "use %s::%s;\n" % (library, names[0] if len(names) == 1 else "{%s}" % ", ".join(names))
+
+
 def code_text(program, forms):
     """The library with the program's code as a type."""
     homes = [program.variables[v].first for v in forms.homes]
-    parts = "".join(filled(template("part"), {"NAME": name, "TYPE": code, "COUNT": len(homes)}) for name, code in forms.named)
+    kinds = (("expression", forms.expressions), ("part", forms.named))
+    parts = "".join(filled(template(kind), {"NAME": name, "TYPE": code, "COUNT": len(homes)}) for kind, named in kinds for name, code in named)
     body = filled(template("code"), {
-        "PARTS": parts, "IMPORTS": template("imports") if parts else "", "COUNT": len(homes), "WHOLE": forms.whole.text,
+        "PARTS": parts, "GHOSTS": template("ghosts") if forms.named else "", "COUNT": len(homes), "WHOLE": forms.whole.text,
         "HOMES": ", ".join(map(str, homes)), "SIZE": program.cell_count(), "SITES": program.site_count,
     })
-    used = words_in(body)
-    return body.replace("@FORMS@", ", ".join(name for name in FORMS if name in used))
+    return body.replace("@IMPORTS@", "".join(imports(body)))
 
 
 def literal(text):

@@ -8,7 +8,7 @@ int main() {
       a[i % 8] = a[i % 8] + input[i];
       print(s * 3);
     } else {
-      s = s - 1;
+      s = (i % 3) * 5 + (i % 5) * 3 - (i % 7) * 2 + (i % 11) * (i % 13);
     }
     i = i + 1;
   }

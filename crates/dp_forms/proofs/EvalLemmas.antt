@@ -1,5 +1,5 @@
 -- The value of each form of expression, from those of its operands.
-use Rattle.std.proofs.Common.{◌≡◌, refl, sym, ap, ◌∙◌, subst, ℕ, ◌+◌, ◌<◌, not, true, false, List, [], ◌∷◌, ◌++◌, ℤ, pos, Ok, length, get_or, arith}
+use Rattle.std.proofs.Common.{◌≡◌, refl, subst, ℕ, ◌+◌, not, true, false, List, [], ◌∷◌, ◌++◌, ℤ, pos, Ok, length, get_or}
 use Rattle.dp_base.specs.declared.BinOp.{BinOp}
 use Rattle.dp_base.specs.declared.UnOp.{UnOp}
 use Rattle.dp_base.specs.declared.VarId.{VarId}

@@ -1,9 +1,5 @@
 -- How code goes through each form of statement.
-use Rattle.std.proofs.Common.{◌≡◌, ◌≢◌, refl, sym, ap, ◌∙◌, subst, ℕ, suc, ◌+◌, ◌-◌, ◌<◌, ◌≤◌, true, false, List, [], ◌∷◌, ◌++◌, append_assoc, ℤ, pos, length, set, arith}
-use Rattle.dp_base.specs.declared.VarId.{VarId}
-use Rattle.dp_base.specs.declared.SiteId.{SiteId}
-use Rattle.dp_base.specs.Arithmetic.{is_zero}
-use Rattle.dp_tree.specs.declared.Expr.{Expr}
+use Rattle.std.proofs.Common.{◌≡◌, ◌≢◌, refl, sym, ap, ◌∙◌, subst, ℕ, suc, ◌+◌, ◌-◌, ◌<◌, ◌≤◌, List, [], ◌∷◌, ◌++◌, ℤ, length, set, arith}
 use Rattle.dp_tree.specs.declared.Stmt.{Stmt}
 use Rattle.dp_tree.specs.declared.Stmt.TheVariants as stmt
 use Rattle.dp_tree.specs.declared.Program.{Program}
@@ -12,15 +8,15 @@ use Rattle.dp_tree.specs.Step.{Config, standing}
 use Rattle.dp_meaning.specs.Places.{number_of}
 use Rattle.dp_meaning.specs.steps.PlainSteps.{PlainStep}
 use Rattle.dp_native.specs.Reaches.{Reaches}
-use Rattle.dp_native.proofs.ReachLemmas.{one, reaches_none, reaches_on}
+use Rattle.dp_native.proofs.ReachLemmas.{one, reaches_none}
 use Rattle.dp_forms.specs.Registers.{merged}
 use Rattle.dp_native.specs.Element.{index_of}
-use Rattle.dp_forms.specs.Values.{Gives, Evaluates, ValueRelation}
-use Rattle.dp_forms.specs.Codes.{Stands, Goes, Entered, Runs, Enters, IsLeft, IsSet, IsPut, IsSay, IsIf, IsWhile, IsThen, IsOther, Stores, CodeRelation, OfSet, OfPut, OfSay, OfNothing, OfOther}
-use Rattle.dp_forms.proofs.RegisterLemmas.{length_merged, set_register, set_apart}
-use Rattle.dp_forms.proofs.StepLemmas.{step_set, step_put, step_say, step_then, step_else, step_turn, step_past}
+use Rattle.dp_forms.specs.Values.{Evaluates, ValueRelation}
+use Rattle.dp_forms.specs.Codes.{Stands, Goes, Runs, IsLeft, Stores, CodeRelation, OfSet, OfPut, OfSay, OfNothing, OfOther}
+use Rattle.dp_forms.proofs.RegisterLemmas.{set_register, set_apart}
+use Rattle.dp_forms.proofs.StepLemmas.{step_set, step_put, step_say}
 unfoldable use Rattle.dp_forms.proofs.StepLemmas.{statement_opened}
-use Rattle.dp_forms.proofs.SiteLemmas.{left_own, left_in_front, left_in_back, left_in_body, left_in_then, left_in_else}
+use Rattle.dp_forms.proofs.SiteLemmas.{left_own}
 
 -- a step costs one of the fuel
 pub stepped : {p : Program} {input : List ℤ} {fuel : ℕ} {c d : Config} {out out' : List ℤ} → 1 ≤ fuel → PlainStep p input c d out out' → Reaches p input fuel out c (fuel - 1) out' d

@@ -1,14 +1,13 @@
 -- What is left to do at the sites of a form, from those of its parts.
-use Rattle.std.proofs.Common.{◌≡◌, ◌≢◌, refl, sym, ap, ◌∙◌, subst, ℕ, List, [], ◌∷◌, ◌++◌, append_assoc, append-nil}
+use Rattle.std.proofs.Common.{◌≡◌, ◌≢◌, refl, sym, ap, ◌∙◌, subst, ℕ, List, [], ◌∷◌, ◌++◌, append_assoc}
 use Rattle.dp_base.specs.declared.SiteId.{SiteId}
 use Rattle.dp_tree.specs.declared.Expr.{Expr}
 use Rattle.dp_tree.specs.declared.Stmt.{Stmt}
 use Rattle.dp_tree.specs.declared.Stmt.TheVariants.{Assign, Store, Print, If', While', Region', Break, Call}
 use Rattle.dp_tree.specs.declared.Stmt.TheVariants as stmt
-use Rattle.dp_tree.specs.Statements.{listed}
 use Rattle.dp_meaning.specs.Places.{rests, number_of}
 unfoldable use Rattle.dp_meaning.specs.Places.{rests_of, rests_in}
-use Rattle.dp_forms.specs.Codes.{Among, here, later, IsLeft, first_number}
+use Rattle.dp_forms.specs.Codes.{Among, here, later, IsLeft}
 use Rattle.dp_tree.specs.declared.Stmt.TheBlock.{hidden-the_row-Stmt-0}
 unfoldable use Rattle.dp_forms.proofs.StepLemmas.{statement_opened}
 use Rattle.dp_forms.proofs.StepLemmas.{listed_hidden}

@@ -1,5 +1,5 @@
 -- The step at each form of statement.
-use Rattle.std.proofs.Common.{◌≡◌, refl, sym, ap, ◌∙◌, subst, ℕ, ◌+◌, true, false, List, [], ◌∷◌, ◌++◌, ℤ, pos, Ok, length, set, arith}
+use Rattle.std.proofs.Common.{◌≡◌, refl, sym, ap, ◌∙◌, ℕ, ◌+◌, true, false, List, [], ◌∷◌, ◌++◌, ℤ, set}
 use Rattle.std.proofs.lemmas.List.{append-nil}
 use Rattle.dp_base.specs.declared.SiteId.{SiteId}
 use Rattle.dp_base.specs.declared.VarId.{VarId}
@@ -9,7 +9,7 @@ use Rattle.dp_tree.specs.declared.Stmt.{Stmt}
 use Rattle.dp_tree.specs.declared.Stmt.TheVariants as stmt
 use Rattle.dp_tree.specs.declared.Program.{Program}
 use Rattle.dp_tree.specs.Eval.{place, just, first_cell, cell_count}
-use Rattle.dp_tree.specs.Step.{standing, step, Stored, Printed, Decided}
+use Rattle.dp_tree.specs.Step.{standing, Stored, Printed, Decided}
 use Rattle.dp_meaning.specs.steps.PlainSteps.{PlainStep}
 use Rattle.dp_forms.specs.Values.{Gives}
 use Rattle.dp_tree.specs.Statements.{listed}

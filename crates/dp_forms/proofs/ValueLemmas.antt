@@ -1,5 +1,5 @@
 -- The value that code finds of each form of expression.
-use Rattle.std.proofs.Common.{◌≡◌, refl, sym, ap, ◌∙◌, subst, ℕ, ◌+◌, ◌<◌, not, true, false, List, ℤ, pos, Ok, Option, Some, None, IfSome, length, get_or, arith}
+use Rattle.std.proofs.Common.{◌≡◌, sym, ap, ◌∙◌, subst, ℕ, ◌+◌, ◌<◌, not, true, false, List, ℤ, pos, Ok, Option, Some, None, IfSome, length, get_or}
 use Rattle.dp_base.specs.declared.BinOp.{BinOp}
 use Rattle.dp_base.specs.declared.UnOp.{UnOp}
 use Rattle.dp_base.specs.Arithmetic.{binary_result, unary_result, number_of, is_zero}

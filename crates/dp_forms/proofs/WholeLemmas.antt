@@ -1,5 +1,5 @@
 -- The code of a whole program, between two places of the machine.
-use Rattle.std.proofs.Common.{◌≡◌, ◌≢◌, refl, sym, ap, ◌∙◌, subst, ℕ, zero, suc, ◌+◌, ◌-◌, ◌<◌, ◌≤◌, List, [], ◌∷◌, ◌++◌, append-nil, map, drop, take, ℤ, pos, length, get_or, set, ◌⊎◌, inl, inr, arith}
+use Rattle.std.proofs.Common.{◌≡◌, ◌≢◌, refl, sym, ap, ◌∙◌, subst, ℕ, zero, suc, ◌+◌, ◌-◌, ◌<◌, ◌≤◌, List, [], ◌∷◌, map, drop, take, ℤ, pos, length, get_or, set, ◌⊎◌, inl, inr, arith}
 use Rattle.std.proofs.lemmas.List.{set-get_or, length-map, get_or_past, take_all, set_past, get_or-set_same, get_or-set_other}
 use Rattle.std.proofs.lemmas.Bool.{cases_lt}
 use Rattle.dp_tree.specs.declared.Stmt.{Stmt, out-Stmt}
@@ -16,7 +16,7 @@ use Rattle.dp_native.proofs.ReachLemmas.{reaches_none}
 use Rattle.dp_meaning.specs.declared.ends.Part.TheVariants.{Plain}
 use Rattle.dp_meaning.specs.MachineState.{part_of, part_from}
 unfoldable use Rattle.dp_forms.specs.Registers.{merged}
-use Rattle.dp_forms.specs.Codes.{Among, here, later, IsLeft, Stands, Goes, Entered, Enters, CodeRelation, IsWhole, first_number}
+use Rattle.dp_forms.specs.Codes.{Among, here, later, IsLeft, Enters, CodeRelation, IsWhole, first_number}
 
 -- in lists whose heads are numbered in order, one stands at its number
 record At (n : ℕ) (x : List Stmt) (xs : List (List Stmt)) : Type 0 where

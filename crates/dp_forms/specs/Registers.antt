@@ -1,5 +1,5 @@
 -- Some cells of the memory are held in registers.
-use Rattle.std.specs.Prelude.{◌≡◌, ◌<◌, ℕ, zero, suc, ◌+◌, ◌-◌, ◌==◌, if◌then◌else◌, Bool, true, false, List, [], ◌∷◌, ℤ, pos, negsuc, get_or, slice_set, nat_lt}
+use Rattle.std.specs.Prelude.{◌≡◌, ◌<◌, ℕ, ◌+◌, ◌-◌, ◌==◌, if◌then◌else◌, Bool, true, false, List, [], ◌∷◌, ℤ, pos, get_or, slice_set, nat_lt}
 use Rattle.dp_tree.specs.Eval.{place, just}
 use Rattle.dp_native.specs.Element.{index_of}
 

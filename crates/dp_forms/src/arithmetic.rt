@@ -57,9 +57,9 @@ impl<const N: usize, O: Operator, A: Value<N>, B: Value<N>> Value<N> for Binary<
     }
 
     #[inline(always)]
-    fn value(input: &[i64], memory: &[i64], registers: &[i64; N]) -> Option<i64> {
-        let a = A::value(input, memory, registers)?;
-        let b = B::value(input, memory, registers)?;
+    fn value<W>(input: &[i64], memory: &[i64], registers: &[i64; N]) -> Option<i64> {
+        let a = A::value::<W>(input, memory, registers)?;
+        let b = B::value::<W>(input, memory, registers)?;
         O::apply(a, b)
     }
 }
@@ -82,8 +82,8 @@ impl<const N: usize, O: Prefix, A: Value<N>> Value<N> for Unary<O, A> {
     }
 
     #[inline(always)]
-    fn value(input: &[i64], memory: &[i64], registers: &[i64; N]) -> Option<i64> {
-        let a = A::value(input, memory, registers)?;
+    fn value<W>(input: &[i64], memory: &[i64], registers: &[i64; N]) -> Option<i64> {
+        let a = A::value::<W>(input, memory, registers)?;
         O::apply(a)
     }
 }

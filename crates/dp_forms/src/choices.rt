@@ -4,10 +4,11 @@ ghost use Rattle.std.specs.Prelude.{◌≡◌, ◌≤◌, ◌<◌, ◌^◌, IsTr
 ghost use Rattle.std.specs.Option.{IfSome, MatchOption};
 ghost use Rattle.dp_base.specs.Arithmetic.{number_of, is_zero};
 ghost use Rattle.dp_forms.specs.Values.{Evaluates, OfAnd, OfOr};
-ghost use Rattle.dp_forms.specs.Codes.{Runs, Enters, OfIf, OfWhile};
+ghost use Rattle.dp_forms.specs.Codes.{Runs, Enters, OfIf};
 
+use super::codes::Code;
+use super::loops::Apart;
 use super::state::State;
-use super::statements::Code;
 use super::values::Value;
 use dp_base::Row;
 use dp_native::holds;
@@ -32,13 +33,13 @@ impl<const N: usize, A: Value<N>, B: Value<N>> Value<N> for And<A, B> {
     }
 
     #[inline(always)]
-    fn value(input: &[i64], memory: &[i64], registers: &[i64; N]) -> Option<i64> {
-        let a = A::value(input, memory, registers)?;
+    fn value<W>(input: &[i64], memory: &[i64], registers: &[i64; N]) -> Option<i64> {
+        let a = A::value::<W>(input, memory, registers)?;
         let holds_first = holds(a);
         if !holds_first {
             return Some(0);
         }
-        let b = B::value(input, memory, registers)?;
+        let b = B::value::<W>(input, memory, registers)?;
         Some(truth(b))
     }
 }
@@ -61,13 +62,13 @@ impl<const N: usize, A: Value<N>, B: Value<N>> Value<N> for Or<A, B> {
     }
 
     #[inline(always)]
-    fn value(input: &[i64], memory: &[i64], registers: &[i64; N]) -> Option<i64> {
-        let a = A::value(input, memory, registers)?;
+    fn value<W>(input: &[i64], memory: &[i64], registers: &[i64; N]) -> Option<i64> {
+        let a = A::value::<W>(input, memory, registers)?;
         let holds_first = holds(a);
         if holds_first {
             return Some(1);
         }
-        let b = B::value(input, memory, registers)?;
+        let b = B::value::<W>(input, memory, registers)?;
         Some(truth(b))
     }
 }
@@ -101,7 +102,7 @@ impl<const N: usize, const S: u32, C: Value<N>, A: Code<N>, B: Code<N>> Code<N> 
     }
 
     #[inline(always)]
-    fn run(input: &[i64], memory: &mut [i64], out: &mut Row<i64>, state: State<N>) -> State<N>
+    fn run<W>(input: &[i64], memory: &mut [i64], out: &mut Row<i64>, state: State<N>) -> State<N>
         requires { state.at ≡ 0 }
         ensures less { result.fuel ≤ state.entry.fuel }
         ensures small { result.at < 2 ^ 32 }
@@ -112,14 +113,14 @@ impl<const N: usize, const S: u32, C: Value<N>, A: Code<N>, B: Code<N>> Code<N> 
             return left;
         }
         let next = state.stepped();
-        match C::value(input, memory, &state.registers) {
+        match C::value::<W>(input, memory, &state.registers) {
             Some(test) => {
                 let yes = holds(test);
                 if yes {
-                    let then_to = A::run(input, memory, out, next);
+                    let then_to = A::run::<W>(input, memory, out, next);
                     then_to
                 } else {
-                    let else_to = B::run(input, memory, out, next);
+                    let else_to = B::run::<W>(input, memory, out, next);
                     else_to
                 }
             }
@@ -138,7 +139,7 @@ impl<const N: usize, const S: u32, C: Value<N>, A: Code<N>, B: Code<N>> Code<N> 
         ensures { MatchOption result ((memory.new ≡ memory.old) × (out.new ≡ out.old)) (λ to. (to.at < 2 ^ 32) × Enters (OfIf S C.is_of A.is_of B.is_of) site input.now state.now.fuel state.now.registers memory.old out.old to.at to.fuel to.registers memory.new out.new) }
     {
         if site == S {
-            let to = Self::run(input, memory, out, *state);
+            let to = Self::run::<Apart>(input, memory, out, *state);
             return Some(to);
         }
         match A::enter(site, input, memory, out, state) {
@@ -149,93 +150,6 @@ impl<const N: usize, const S: u32, C: Value<N>, A: Code<N>, B: Code<N>> Code<N> 
             },
         }
     }
-}
-
-/// The loop over A. A turn is begun only where more than M steps are left, and, where P isn't 0, fewer than P prints wait.
-pub struct While<const S: u32, const M: u64, const P: usize, C, A> {
-    of: PhantomData<(C, A)>,
-}
-
-impl<const N: usize, const S: u32, const M: u64, const P: usize, C: Value<N>, A: Code<N>> Code<N>
-    for While<S, M, P, C, A> {
-    ghost is_of = { OfWhile S C.is_of A.is_of };
-
-    fn is(program: &Program, homes: &[u32], size: u32, statements: &[Stmt]) -> bool {
-        match statements {
-            [Stmt::While { site, cond, body }] => {
-                site.0 == S
-                    && S != 0
-                    && C::is(program, homes, size, cond)
-                    && A::is(program, homes, size, body.as_slice())
-            }
-            _ => false,
-        }
-    }
-
-    #[inline(always)]
-    fn run(input: &[i64], memory: &mut [i64], out: &mut Row<i64>, state: State<N>) -> State<N>
-        requires { state.at ≡ 0 }
-        ensures less { result.fuel ≤ state.entry.fuel }
-        ensures small { result.at < 2 ^ 32 }
-        ensures runs { Runs (OfWhile S C.is_of A.is_of) input.now state.entry.fuel state.entry.registers memory.old out.old result.at result.fuel result.registers memory.new out.new }
-    {
-        let mut state = state;
-        'turns: while state.fuel > M {
-            if is_full(out, P) {
-                break;
-            }
-            match C::value(input, memory, &state.registers) {
-                Some(test) => {
-                    let yes = holds(test);
-                    let next = state.stepped();
-                    if yes {
-                        state = A::run(input, memory, out, next);
-                        if state.at != 0 {
-                            return state;
-                        }
-                    } else {
-                        return next;
-                    }
-                }
-                None => break,
-            }
-        }
-        let left = state.left_at(S);
-        left
-    }
-
-    #[inline(never)]
-    fn enter(
-        site: u32,
-        input: &[i64],
-        memory: &mut [i64],
-        out: &mut Row<i64>,
-        state: &State<N>,
-    ) -> Option<State<N>>
-        requires { state.now.at ≡ 0 }
-        ensures { MatchOption result ((memory.new ≡ memory.old) × (out.new ≡ out.old)) (λ to. (to.at < 2 ^ 32) × Enters (OfWhile S C.is_of A.is_of) site input.now state.now.fuel state.now.registers memory.old out.old to.at to.fuel to.registers memory.new out.new) }
-    {
-        if site == S {
-            let to = Self::run(input, memory, out, *state);
-            return Some(to);
-        }
-        match A::enter(site, input, memory, out, state) {
-            Some(inside) => {
-                if inside.at != 0 {
-                    return Some(inside);
-                }
-                let behind = Self::run(input, memory, out, inside);
-                Some(behind)
-            }
-            None => None,
-        }
-    }
-}
-
-/// Whether so many prints wait, where that isn't 0.
-#[inline(always)]
-fn is_full(out: &Row<i64>, most: usize) -> bool {
-    most > 0 && out.len() >= most
 }
 
 /// 1 for a value that isn't 0, and 0 for 0.

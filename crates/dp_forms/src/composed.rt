@@ -11,8 +11,8 @@ ghost use Rattle.dp_native.specs.Reaches.{Reaches};
 ghost use Rattle.dp_forms.specs.Registers.{merged};
 ghost use Rattle.dp_forms.specs.Codes.{IsWhole};
 
+use super::codes::Code;
 use super::state::State;
-use super::statements::Code;
 use dp_base::Row;
 use dp_native::NativeProgram;
 use dp_tree::Program;

@@ -4,8 +4,10 @@
 
 mod arithmetic;
 mod choices;
+mod codes;
 mod composed;
 mod home;
+mod loops;
 mod memory;
 mod operands;
 mod operators;
@@ -17,11 +19,13 @@ mod tests;
 mod values;
 
 pub use arithmetic::{Binary, Operator, Prefix, Unary};
-pub use choices::{And, If, Or, While};
+pub use choices::{And, If, Or};
+pub use codes::Code;
 pub use composed::Composed;
+pub use loops::{Outermost, While};
 pub use operands::{Element, InputLen, Number, Scalar, Word};
 pub use operators::{Add, Div, Eq, Ge, Gt, Le, Lt, Mul, Ne, Neg, Not, Rem, Sub};
 pub use sequence::{Nothing, Other, Then};
 pub use state::State;
-pub use statements::{Code, Put, Say, Set};
+pub use statements::{Put, Say, Set};
 pub use values::Value;

@@ -25,7 +25,7 @@ impl<const N: usize, const V: i64> Value<N> for Number<V> {
     }
 
     #[inline(always)]
-    fn value(_input: &[i64], _memory: &[i64], _registers: &[i64; N]) -> Option<i64> {
+    fn value<W>(_input: &[i64], _memory: &[i64], _registers: &[i64; N]) -> Option<i64> {
         Some(V)
     }
 }
@@ -44,7 +44,7 @@ impl<const N: usize> Value<N> for InputLen {
     }
 
     #[inline(always)]
-    fn value(input: &[i64], _memory: &[i64], _registers: &[i64; N]) -> Option<i64> {
+    fn value<W>(input: &[i64], _memory: &[i64], _registers: &[i64; N]) -> Option<i64> {
         Some(length_of(input))
     }
 }
@@ -63,7 +63,7 @@ impl<const N: usize, const K: usize> Value<N> for Scalar<K> {
     }
 
     #[inline(always)]
-    fn value(_input: &[i64], _memory: &[i64], registers: &[i64; N]) -> Option<i64> {
+    fn value<W>(_input: &[i64], _memory: &[i64], registers: &[i64; N]) -> Option<i64> {
         if K < N { Some(registers[K]) } else { None }
     }
 }
@@ -84,8 +84,8 @@ impl<const N: usize, I: Value<N>> Value<N> for Word<I> {
     }
 
     #[inline(always)]
-    fn value(input: &[i64], memory: &[i64], registers: &[i64; N]) -> Option<i64> {
-        let index = I::value(input, memory, registers)?;
+    fn value<W>(input: &[i64], memory: &[i64], registers: &[i64; N]) -> Option<i64> {
+        let index = I::value::<W>(input, memory, registers)?;
         element(input, index)
     }
 }
@@ -109,8 +109,8 @@ impl<const N: usize, const F: u32, const C: u32, I: Value<N>> Value<N> for Eleme
     }
 
     #[inline(always)]
-    fn value(input: &[i64], memory: &[i64], registers: &[i64; N]) -> Option<i64> {
-        let index = I::value(input, memory, registers)?;
+    fn value<W>(input: &[i64], memory: &[i64], registers: &[i64; N]) -> Option<i64> {
+        let index = I::value::<W>(input, memory, registers)?;
         cell(memory, F, C, index)
     }
 }

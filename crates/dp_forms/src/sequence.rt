@@ -6,9 +6,10 @@ ghost use Rattle.dp_tree.specs.declared.Program.{Program};
 ghost use Rattle.dp_tree.specs.declared.Stmt.{Stmt};
 ghost use Rattle.dp_forms.specs.Codes.{Runs, Enters, OfThen, OfNothing, OfOther};
 
+use super::codes::Code;
 use super::home::site_of;
+use super::loops::Apart;
 use super::state::State;
-use super::statements::Code;
 use dp_base::Row;
 use dp_tree::{Program, Stmt};
 use std::marker::PhantomData;
@@ -30,15 +31,15 @@ impl<const N: usize, const L: usize, A: Code<N>, B: Code<N>> Code<N> for Then<L,
     }
 
     #[inline(always)]
-    fn run(input: &[i64], memory: &mut [i64], out: &mut Row<i64>, state: State<N>) -> State<N>
+    fn run<W>(input: &[i64], memory: &mut [i64], out: &mut Row<i64>, state: State<N>) -> State<N>
         requires { state.at ≡ 0 }
         ensures less { result.fuel ≤ state.entry.fuel }
         ensures small { result.at < 2 ^ 32 }
         ensures runs { Runs (OfThen A.is_of B.is_of) input.now state.entry.fuel state.entry.registers memory.old out.old result.at result.fuel result.registers memory.new out.new }
     {
-        let between = A::run(input, memory, out, state);
+        let between = A::run::<W>(input, memory, out, state);
         if between.at == 0 {
-            let to = B::run(input, memory, out, between);
+            let to = B::run::<W>(input, memory, out, between);
             to
         } else {
             between
@@ -58,7 +59,7 @@ impl<const N: usize, const L: usize, A: Code<N>, B: Code<N>> Code<N> for Then<L,
         match A::enter(site, input, memory, out, state) {
             Some(between) => {
                 if between.at == 0 {
-                    let to = B::run(input, memory, out, between);
+                    let to = B::run::<Apart>(input, memory, out, between);
                     Some(to)
                 } else {
                     Some(between)
@@ -86,7 +87,7 @@ impl<const N: usize> Code<N> for Nothing {
     }
 
     #[inline(always)]
-    fn run(input: &[i64], memory: &mut [i64], out: &mut Row<i64>, state: State<N>) -> State<N>
+    fn run<W>(input: &[i64], memory: &mut [i64], out: &mut Row<i64>, state: State<N>) -> State<N>
         requires { state.at ≡ 0 }
         ensures less { result.fuel ≤ state.entry.fuel }
         ensures small { result.at < 2 ^ 32 }
@@ -123,7 +124,7 @@ impl<const N: usize, const S: u32> Code<N> for Other<S> {
     }
 
     #[inline(always)]
-    fn run(input: &[i64], memory: &mut [i64], out: &mut Row<i64>, state: State<N>) -> State<N>
+    fn run<W>(input: &[i64], memory: &mut [i64], out: &mut Row<i64>, state: State<N>) -> State<N>
         requires { state.at ≡ 0 }
         ensures less { result.fuel ≤ state.entry.fuel }
         ensures small { result.at < 2 ^ 32 }

@@ -1,12 +1,12 @@
-//! Code that executes statements, and the forms of those without a condition.
+//! The forms of statements without a condition.
 
-ghost use Rattle.std.specs.Prelude.{◌≡◌, ◌≤◌, ◌<◌, ◌^◌, ◌++◌, [], List, ℕ, IsTrue, length};
+ghost use Rattle.std.specs.Prelude.{◌≡◌, ◌≤◌, ◌<◌, ◌^◌};
 ghost use Rattle.std.specs.Option.{MatchOption};
-ghost use Rattle.dp_tree.specs.declared.Program.{Program};
-ghost use Rattle.dp_tree.specs.declared.Stmt.{Stmt};
 ghost use Rattle.dp_forms.specs.Codes.{Runs, Enters, OfSet, OfPut, OfSay, Stores};
 
+use super::codes::Code;
 use super::home::{is_array, is_register};
+use super::loops::Apart;
 use super::memory::put;
 use super::state::State;
 use super::values::Value;
@@ -14,34 +14,6 @@ use dp_base::Row;
 use dp_native::say;
 use dp_tree::{Program, Stmt};
 use std::marker::PhantomData;
-
-/// Some statements over N registers and the memory's cells.
-pub trait Code<const N: usize> {
-    /// Whether the code is that of these statements, where the registers have these home cells and the memory has this size.
-    ghost is_of: { Program → List ℕ → ℕ → List Stmt → Type 0 };
-
-    /// Answers true only where it is.
-    fn is(program: &Program, homes: &[u32], size: u32, statements: &[Stmt]) -> bool
-        ensures { IsTrue result → is_of program.now homes.now size statements.now };
-
-    /// Executes the statements, as far as it goes.
-    fn run(input: &[i64], memory: &mut [i64], out: &mut Row<i64>, state: State<N>) -> State<N>
-        requires { state.at ≡ 0 }
-        ensures less { result.fuel ≤ state.entry.fuel }
-        ensures small { result.at < 2 ^ 32 }
-        ensures runs { Runs is_of input.now state.entry.fuel state.entry.registers memory.old out.old result.at result.fuel result.registers memory.new out.new };
-
-    /// Goes on at a site, where the code can begin there.
-    fn enter(
-        site: u32,
-        input: &[i64],
-        memory: &mut [i64],
-        out: &mut Row<i64>,
-        state: &State<N>,
-    ) -> Option<State<N>>
-        requires { state.now.at ≡ 0 }
-        ensures { MatchOption result ((memory.new ≡ memory.old) × (out.new ≡ out.old)) (λ to. (to.at < 2 ^ 32) × Enters is_of site input.now state.now.fuel state.now.registers memory.old out.old to.at to.fuel to.registers memory.new out.new) };
-}
 
 /// An assignment to the scalar in register K.
 pub struct Set<const S: u32, const K: usize, V> {
@@ -64,7 +36,7 @@ impl<const N: usize, const S: u32, const K: usize, V: Value<N>> Code<N> for Set<
     }
 
     #[inline(always)]
-    fn run(input: &[i64], memory: &mut [i64], out: &mut Row<i64>, state: State<N>) -> State<N>
+    fn run<W>(input: &[i64], memory: &mut [i64], out: &mut Row<i64>, state: State<N>) -> State<N>
         requires { state.at ≡ 0 }
         ensures less { result.fuel ≤ state.entry.fuel }
         ensures small { result.at < 2 ^ 32 }
@@ -77,7 +49,7 @@ impl<const N: usize, const S: u32, const K: usize, V: Value<N>> Code<N> for Set<
         if K >= N {
             return left;
         }
-        match V::value(input, memory, &state.registers) {
+        match V::value::<W>(input, memory, &state.registers) {
             Some(value) => {
                 let held = state.holding(K, value);
                 held
@@ -97,7 +69,7 @@ impl<const N: usize, const S: u32, const K: usize, V: Value<N>> Code<N> for Set<
         ensures { MatchOption result ((memory.new ≡ memory.old) × (out.new ≡ out.old)) (λ to. (to.at < 2 ^ 32) × Enters (OfSet S K V.is_of) site input.now state.now.fuel state.now.registers memory.old out.old to.at to.fuel to.registers memory.new out.new) }
     {
         if site == S {
-            let to = Self::run(input, memory, out, *state);
+            let to = Self::run::<Apart>(input, memory, out, *state);
             return Some(to);
         }
         None
@@ -134,7 +106,7 @@ impl<const N: usize, const S: u32, const F: u32, const C: u32, I: Value<N>, V: V
     }
 
     #[inline(always)]
-    fn run(input: &[i64], memory: &mut [i64], out: &mut Row<i64>, state: State<N>) -> State<N>
+    fn run<W>(input: &[i64], memory: &mut [i64], out: &mut Row<i64>, state: State<N>) -> State<N>
         requires { state.at ≡ 0 }
         ensures less { result.fuel ≤ state.entry.fuel }
         ensures small { result.at < 2 ^ 32 }
@@ -145,7 +117,7 @@ impl<const N: usize, const S: u32, const F: u32, const C: u32, I: Value<N>, V: V
             return left;
         }
         let next = state.stepped();
-        match stored::<N, F, C, I, V>(input, memory, &state.registers) {
+        match stored::<N, F, C, I, V, W>(input, memory, &state.registers) {
             Some(()) => next,
             None => left,
         }
@@ -162,7 +134,7 @@ impl<const N: usize, const S: u32, const F: u32, const C: u32, I: Value<N>, V: V
         ensures { MatchOption result ((memory.new ≡ memory.old) × (out.new ≡ out.old)) (λ to. (to.at < 2 ^ 32) × Enters (OfPut S F C I.is_of V.is_of) site input.now state.now.fuel state.now.registers memory.old out.old to.at to.fuel to.registers memory.new out.new) }
     {
         if site == S {
-            let to = Self::run(input, memory, out, *state);
+            let to = Self::run::<Apart>(input, memory, out, *state);
             return Some(to);
         }
         None
@@ -171,15 +143,15 @@ impl<const N: usize, const S: u32, const F: u32, const C: u32, I: Value<N>, V: V
 
 /// Stores the value at the index, if neither faults and there is such an element.
 #[inline(always)]
-fn stored<const N: usize, const F: u32, const C: u32, I: Value<N>, V: Value<N>>(
+fn stored<const N: usize, const F: u32, const C: u32, I: Value<N>, V: Value<N>, W>(
     input: &[i64],
     memory: &mut [i64],
     registers: &[i64; N],
 ) -> Option<()>
     ensures { MatchOption result (memory.new ≡ memory.old) (λ _. Stores I.is_of V.is_of F C input.now registers.now memory.old memory.new) }
 {
-    let index = I::value(input, memory, registers)?;
-    let value = V::value(input, memory, registers)?;
+    let index = I::value::<W>(input, memory, registers)?;
+    let value = V::value::<W>(input, memory, registers)?;
     put(memory, F, C, index, value)
 }
 
@@ -201,7 +173,7 @@ impl<const N: usize, const S: u32, V: Value<N>> Code<N> for Say<S, V> {
     }
 
     #[inline(always)]
-    fn run(input: &[i64], memory: &mut [i64], out: &mut Row<i64>, state: State<N>) -> State<N>
+    fn run<W>(input: &[i64], memory: &mut [i64], out: &mut Row<i64>, state: State<N>) -> State<N>
         requires { state.at ≡ 0 }
         ensures less { result.fuel ≤ state.entry.fuel }
         ensures small { result.at < 2 ^ 32 }
@@ -212,7 +184,7 @@ impl<const N: usize, const S: u32, V: Value<N>> Code<N> for Say<S, V> {
             return left;
         }
         let next = state.stepped();
-        match V::value(input, memory, &state.registers) {
+        match V::value::<W>(input, memory, &state.registers) {
             Some(value) => match say(out, value) {
                 Some(()) => next,
                 None => left,
@@ -232,7 +204,7 @@ impl<const N: usize, const S: u32, V: Value<N>> Code<N> for Say<S, V> {
         ensures { MatchOption result ((memory.new ≡ memory.old) × (out.new ≡ out.old)) (λ to. (to.at < 2 ^ 32) × Enters (OfSay S V.is_of) site input.now state.now.fuel state.now.registers memory.old out.old to.at to.fuel to.registers memory.new out.new) }
     {
         if site == S {
-            let to = Self::run(input, memory, out, *state);
+            let to = Self::run::<Apart>(input, memory, out, *state);
             return Some(to);
         }
         None

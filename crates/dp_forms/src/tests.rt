@@ -1,5 +1,5 @@
 //! That code does go on: its promise alone would hold of code that never makes a step.
-use crate::{Add, Binary, Composed, InputLen, Lt, Number, Say, Scalar, Set, Then, While, Word};
+use crate::{Add, Binary, Composed, InputLen, Lt, Number, Outermost, Say, Scalar, Set, Then, Word};
 use dp_base::{BinOp, CellId, NoMemory, Row, SiteId, VarId};
 use dp_native::NativeProgram;
 use dp_tree::{Expr, Program, SiteInfo, SiteKind, Stmt, VarInfo, VarScope};
@@ -23,10 +23,11 @@ use std::test::Fail;
 type Sum = Then<
     1,
     Set<1, 1, Number<0>>,
-    While<
+    Outermost<
         2,
         3,
         4096,
+        2,
         Binary<Lt, Scalar<1>, InputLen>,
         Then<
             1,

@@ -17,7 +17,7 @@ pub trait Value<const N: usize> {
     fn is(program: &Program, homes: &[u32], size: u32, expression: &Expr) -> bool
         ensures { IsTrue result → is_of program.now homes.now size expression.now };
 
-    /// The expression's value; None stands for a fault.
-    fn value(input: &[i64], memory: &[i64], registers: &[i64; N]) -> Option<i64>
+    /// The expression's value; None stands for a fault. W says for whom the code is made, and nothing else.
+    fn value<W>(input: &[i64], memory: &[i64], registers: &[i64; N]) -> Option<i64>
         ensures { IfSome result (λ v. Evaluates is_of input.now memory.now registers.now v) };
 }

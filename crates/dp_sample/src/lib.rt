@@ -7,12 +7,42 @@ ghost use Rattle.dp_forms.specs.Codes.{Runs, Enters};
 
 use dp_base::Row;
 use dp_forms::{
-    Add, And, Binary, Code, Composed, Element, Gt, If, InputLen, Lt, Mul, Number, Put, Rem, Say,
-    Scalar, Set, State, Sub, Then, While, Word,
+    Add, And, Binary, Code, Composed, Element, Gt, If, InputLen, Lt, Mul, Number, Outermost, Put,
+    Rem, Say, Scalar, Set, State, Sub, Then, Value, Word,
 };
 use dp_native::Native;
-use dp_tree::{Program, Stmt};
+use dp_tree::{Expr, Program, Stmt};
 use std::marker::PhantomData;
+
+type Expression1Form = Binary<
+    Add,
+    Binary<
+        Sub,
+        Binary<
+            Add,
+            Binary<Mul, Binary<Rem, Scalar<1>, Number<3>>, Number<5>>,
+            Binary<Mul, Binary<Rem, Scalar<1>, Number<5>>, Number<3>>,
+        >,
+        Binary<Mul, Binary<Rem, Scalar<1>, Number<7>>, Number<2>>,
+    >,
+    Binary<Mul, Binary<Rem, Scalar<1>, Number<11>>, Binary<Rem, Scalar<1>, Number<13>>>,
+>;
+
+/// A part of an expression's code.
+pub struct Expression1 {}
+
+impl Value<2> for Expression1 {
+    ghost is_of = { ⟦<Expression1Form as Value<2>>⟧.is_of };
+
+    fn is(program: &Program, homes: &[u32], size: u32, expression: &Expr) -> bool {
+        <Expression1Form as Value<2>>::is(program, homes, size, expression)
+    }
+
+    #[inline(always)]
+    fn value<W>(input: &[i64], memory: &[i64], registers: &[i64; 2]) -> Option<i64> {
+        <Expression1Form as Value<2>>::value::<W>(input, memory, registers)
+    }
+}
 
 type Part1Form = If<
     3,
@@ -31,7 +61,7 @@ type Part1Form = If<
         >,
         Say<5, Binary<Mul, Scalar<0>, Number<3>>>,
     >,
-    Set<6, 0, Binary<Sub, Scalar<0>, Number<1>>>,
+    Set<6, 0, Expression1>,
 >;
 
 /// A part of the program's code.
@@ -45,13 +75,13 @@ impl Code<2> for Part1 {
     }
 
     #[inline(always)]
-    fn run(input: &[i64], memory: &mut [i64], out: &mut Row<i64>, state: State<2>) -> State<2>
+    fn run<W>(input: &[i64], memory: &mut [i64], out: &mut Row<i64>, state: State<2>) -> State<2>
         requires { state.at ≡ 0 }
         ensures less { result.fuel ≤ state.fuel }
         ensures small { result.at < 2 ^ 32 }
         ensures runs { Runs ⟦<Part1Form as Code<2>>⟧.is_of input.now state.fuel state.registers memory.old out.old result.at result.fuel result.registers memory.new out.new }
     {
-        <Part1Form as Code<2>>::run(input, memory, out, state)
+        <Part1Form as Code<2>>::run::<W>(input, memory, out, state)
     }
 
     fn enter(
@@ -75,10 +105,11 @@ pub fn code() -> Native<
         Then<
             1,
             Set<1, 1, Number<0>>,
-            While<
+            Outermost<
                 2,
                 4,
                 4096,
+                10,
                 Binary<Lt, Scalar<1>, InputLen>,
                 Then<1, Part1, Set<7, 1, Binary<Add, Scalar<1>, Number<1>>>>,
             >,

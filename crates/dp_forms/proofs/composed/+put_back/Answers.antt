@@ -1,4 +1,4 @@
-use Rattle.std.proofs.Common.{◌≡◌, ◌≤◌, ◌∙◌, ap, arith, rules, drop, take, ◌-◌, length, set, get_or, slice_index_or, ℤ, pos, to_z, of_z, w64}
+use Rattle.std.proofs.Common.{◌≡◌, ◌∙◌, ap, arith, rules, drop, take, ◌-◌, length, set, slice_index_or, ℤ, pos, to_z, of_z, w64}
 use Rattle.dp_forms.specs.Registers.{merged}
 use Rattle.dp_forms.proofs.WholeLemmas.{put_no_home, put_no_value, put_more, put_outside}
 use Rattle.dp_forms.proofs.composed.+put_back.Goals as goal

@@ -1,4 +1,4 @@
-use Rattle.std.proofs.Common.{◌≡◌, ◌≤◌, ◌<◌, ◌∙◌, arith, rules, length, refl, ap, to_z, of_z, w64, get_or, pos}
+use Rattle.std.proofs.Common.{◌≤◌, ◌<◌, ◌∙◌, arith, rules, length}
 use Rattle.std.proofs.lemmas.List.{length-set}
 use Rattle.dp_forms.proofs.WholeLemmas.{loaded_more, merged_same}
 use Rattle.dp_forms.proofs.composed.loaded.Goals as goal

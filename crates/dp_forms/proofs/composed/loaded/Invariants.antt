@@ -1,4 +1,4 @@
-use Rattle.std.proofs.Common.{◌≡◌, ◌<◌, ◌+◌, ℕ, pos, get_or, length}
+use Rattle.std.proofs.Common.{◌≡◌, ◌<◌, ℕ, pos, get_or, length}
 use Rattle.dp_forms.proofs.composed.loaded.Given as goal
 
 abbrev pub invariant-loop-k : goal.invariant-loop-k

@@ -1,4 +1,4 @@
-use Rattle.std.proofs.Common.{◌≡◌, ◌≤◌, refl, arith, rules, ◌∙◌, true, false}
+use Rattle.std.proofs.Common.{◌≡◌, ◌≤◌, refl, arith, rules, true, false}
 use Rattle.dp_base.specs.Arithmetic.{is_zero}
 use Rattle.dp_forms.specs.Codes.{OfIf}
 use Rattle.dp_forms.proofs.GoesLemmas.{moved, begun}

@@ -1,4 +1,4 @@
-use Rattle.std.proofs.Common.{◌≡◌, ◌∙◌, sym, subst, rules, arith, List, ℤ, length, true}
+use Rattle.std.proofs.Common.{◌≡◌, sym, subst, rules, List, ℤ, length}
 use Rattle.dp_tree.specs.Step.{standing}
 use Rattle.dp_meaning.specs.Places.{config_at, rest_at}
 use Rattle.dp_native.specs.Reaches.{Reaches}

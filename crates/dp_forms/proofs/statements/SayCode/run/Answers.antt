@@ -1,4 +1,4 @@
-use Rattle.std.proofs.Common.{◌≡◌, ◌≤◌, refl, ap, arith, rules, ◌∙◌, ℤ, List, [], ◌∷◌, ◌++◌, to_z, of_z, w64}
+use Rattle.std.proofs.Common.{◌≡◌, ◌≤◌, refl, ap, arith, rules, ◌∙◌, ℤ, [], ◌∷◌, ◌++◌, to_z, of_z, w64}
 use Rattle.dp_forms.specs.Codes.{OfSay}
 use Rattle.dp_forms.proofs.GoesLemmas.{moved, say_stays, say_goes}
 use Rattle.dp_forms.proofs.statements.SayCode.run.Goals as goal

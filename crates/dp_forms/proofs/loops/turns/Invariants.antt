@@ -1,6 +1,6 @@
 use Rattle.std.proofs.Common.{◌≡◌, ◌≤◌, length}
 use Rattle.dp_forms.specs.Codes.{Kept, OfWhile}
-use Rattle.dp_forms.proofs.choices.WhileCode.run.Given as goal
+use Rattle.dp_forms.proofs.loops.turns.Given as goal
 
 abbrev pub invariant-turns : goal.invariant-turns
 invariant-turns g l = record {

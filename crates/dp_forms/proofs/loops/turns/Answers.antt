@@ -3,7 +3,7 @@ use Rattle.dp_base.specs.Arithmetic.{is_zero}
 use Rattle.dp_forms.specs.Codes.{OfWhile}
 use Rattle.dp_forms.proofs.GoesLemmas.{moved, begun}
 use Rattle.dp_forms.proofs.ChoiceLemmas.{kept_none, kept_more, while_stays, while_past, while_left}
-use Rattle.dp_forms.proofs.choices.WhileCode.run.Goals as goal
+use Rattle.dp_forms.proofs.loops.turns.Goals as goal
 
 pub turns-init : goal.turns-init
 turns-init g c = record { kept = kept_none g.C.Value.is_of g.A.Code.is_of g.row.S; long = refl; zero = c.requires; less = omega arith }
