@@ -6,36 +6,33 @@ same sources is kept, for later calls and for native/build.py.
 """
 import shutil
 import sys
-import tempfile
-from pathlib import Path
 
-from crates import crates_of
-from prover import Failed, Prover
-from telling import Progress, Step, say
+from builder import Builder
+from prover import Failed
+from telling import Step, say
 
-TOP = Path(__file__).resolve().parent.parent
 PROGRAM_SECONDS = 160
 
 
-def keep_log(failed):
-    with tempfile.NamedTemporaryFile("w", prefix="dswp-", suffix=".log", delete=False) as log:
-        log.write(failed.log)
-    sys.stderr.write("".join(failed.log.splitlines(True)[-20:]))
-    say("%s wasn't proved and built; all that the prover wrote is in %s" % (failed.name, log.name))
+def made(builder):
+    """The program, once all of it that isn't is proved and compiled."""
+    dswp = builder.crates["dswp"]
+    if not builder.prover.program(dswp).exists():
+        builder.make_libraries(dswp.below())
+        with Step("proving the program and compiling it", PROGRAM_SECONDS):
+            builder.prover.make_program(dswp)
+    return builder.prover.program(dswp)
 
 
 def main():
-    prover, dswp = Prover(), crates_of(TOP)["dswp"]
+    builder = Builder()
     try:
-        prover.make_libraries(dswp.below(), Progress(prover.lacking(dswp.below())).tell)
-        if not prover.program(dswp).exists():
-            with Step("proving the program and compiling it", PROGRAM_SECONDS):
-                prover.make_program(dswp)
+        shutil.copy(made(builder), sys.argv[1])
     except Failed as failed:
-        keep_log(failed)
+        sys.stderr.write("".join(failed.log.splitlines(True)[-20:]))
+        say("%s wasn't proved; all that the prover wrote of it is in %s" % (failed.name, builder.keep_log(failed)))
         return 125
-    shutil.copy(prover.program(dswp), sys.argv[1])
-    prover.forget_old()
+    builder.prover.forget_old()
     return 0
 
 
