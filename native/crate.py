@@ -15,6 +15,7 @@ HERE = Path(__file__).resolve().parent
 FORMS = """Add And Binary Code Composed Div Element Eq Ge Gt If InputLen Le Lt Mul Ne Neg Not Nothing Number Or Other Put Rem Say
 Scalar Set State Sub Then Unary While Word""".split()
 CODE_USES = "dp_base dp_tree dp_native dp_forms"
+PROGRAM_USES = "dp_built"
 
 
 def name_of(kind, text):
@@ -56,14 +57,8 @@ def literal(text):
 
 
 def program_text(code, source_name, text):
-    """The program's `main`: that of dswp, with native code and a text of its own."""
+    """The program's `main`."""
     return filled(template("main"), {"CODE": code, "NAME": source_name, "TEXT": literal(text)})
-
-
-def uses_of_program(place):
-    """The libraries that the program names beside its code: those of dswp, and dp_native."""
-    listed = (place / "crates.txt").read_text().splitlines()
-    return next(line for line in listed if line.startswith("dswp ")).split(": ", 1)[1].split() + ["dp_native"]
 
 
 def put_crate(place, name, root, text, uses):
@@ -85,7 +80,7 @@ def main():
     put_crate(place, code, "lib.rt", text, "%s: %s" % (code, CODE_USES))
     text = program_text(code, source.name, source.read_bytes())
     name = name_of("program", text)
-    put_crate(place, name, "main.rt", text, "%s may_wait=1: %s" % (name, " ".join(uses_of_program(place) + [code])))
+    put_crate(place, name, "main.rt", text, "%s may_wait=1: %s %s" % (name, PROGRAM_USES, code))
     print(code, name)
 
 

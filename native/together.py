@@ -1,7 +1,6 @@
 """Libraries with the code of several programs, and a program that answers as dswp does with such libraries. They are for checks: the
 `main` of one program takes far longer to prove and to compile than its code, and a third of a library's check is what it loads."""
-from builder import TOP
-from crate import CODE_USES, code_text, filled, template, uses_of_program
+from crate import CODE_USES, code_text, filled, template
 from forms import Forms
 
 ASKS = "#![tactic(auto)]\n"
@@ -23,19 +22,9 @@ def codes_crate(builder, programs):
     return builder.crate("codes", "lib.rt", text, ["dp_meaning", *CODE_USES.split()], parts)
 
 
-def main_text(codes):
-    """The `main` of dswp, with a library of codes."""
-    text = (TOP / "crates" / "dswp" / "src" / "main.rt").read_text()
-    for old, new in (("#[cfg(test)]\nmod tests;\n\n", ""), ("use dp_run::{NoNativeCode, Tally};", "use dp_run::Tally;\nuse %s::Codes;" % codes),
-                     ("&NoNativeCode,", "&Codes,")):
-        assert text.count(old) == 1, old
-        text = text.replace(old, new)
-    return text
-
-
 def main_crate(builder, crates, code):
     """The program of these libraries, in each of which its code has a name such as `code()`."""
     names = [it.name for it in crates]
-    text = chain(["%s::%s" % (name, code) for name in names])
-    library = builder.crate("codes", "lib.rt", text, ["dp_base", "dp_meaning", *names])
-    return builder.crate("together", "main.rt", main_text(library.name), uses_of_program(TOP) + [library.name])
+    library = builder.crate("codes", "lib.rt", chain(["%s::%s" % (name, code) for name in names]), ["dp_base", "dp_meaning", *names])
+    main = filled(template("together"), {"CODES": library.name})
+    return builder.crate("together", "main.rt", main, ["dp_built", "dp_system", library.name])
