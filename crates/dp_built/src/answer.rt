@@ -18,7 +18,7 @@ const OUT_OF_MEMORY: u8 = 7;
 /// Does all that the program of a text does, and answers its exit status.
 ///
 /// It is `drive` over a shelf that has the text under its name, and the files besides: what `dswp run` answers on this text.
-pub fn answer<R, E, N>(rt: &R, errors: &E, native: &N, name: &str, text: &[u8]) -> u8
+pub fn answer_text<R, E, N>(rt: &R, errors: &E, native: &N, name: &str, text: &[u8]) -> u8
 where
     R: Threads + Wait + Clock + Sync + Files + Env + Print + AllocGlobal,
     E: Print + IsTerminal,

@@ -3,4 +3,4 @@
 
 mod answer;
 
-pub use answer::{answer, answer_words};
+pub use answer::{answer_text, answer_words};
