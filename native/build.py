@@ -34,7 +34,7 @@ class Build:
         self.forms = Forms(program)
         self.code = self.builder.code(program, self.forms)
         text = program_text(self.code.name, Path(source).name, Path(source).read_bytes())
-        self.main = self.builder.crate("program", "main.rt", text, [PROGRAM_USES, self.code.name])
+        self.main = self.builder.crate("program", {"main.rt": text}, [PROGRAM_USES, self.code.name])
 
     def made(self):
         """The program, once all of it that isn't is proved and compiled."""

@@ -21,9 +21,8 @@ class Builder:
         """Where a crate is kept."""
         return self.prover.cache / "crates" / name
 
-    def crate(self, kind, root, text, names, others={}):
-        """Writes a crate, of a root and other files, over those that these name."""
-        files = {root: text, **others}
+    def crate(self, kind, files, names):
+        """Writes a crate of these files, over the crates that these name."""
         name = name_of(kind, "".join(files.values()))
         folder = self.folder(name)
         (folder / "src").mkdir(parents=True, exist_ok=True)
@@ -35,7 +34,7 @@ class Builder:
 
     def code(self, program, forms):
         """Writes the library with a program's code."""
-        return self.crate("code", "lib.rt", code_text(program, forms), CODE_USES.split())
+        return self.crate("code", {"lib.rt": code_text(program, forms)}, CODE_USES.split())
 
     def make_libraries(self, crates):
         """Has crates of the checkout proved, and tells how far it is."""

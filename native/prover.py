@@ -96,7 +96,10 @@ class Prover:
         fresh = made.with_suffix(".%d" % os.getpid())
         shutil.rmtree(fresh, ignore_errors=True)
         self.call(crate, *self.words(crate, "lib.rt"), "--statements", "-o", fresh)
-        fresh.rename(made)
+        try:
+            fresh.rename(made)
+        except OSError:  # another call made it meanwhile
+            shutil.rmtree(fresh)
 
     def make_program(self, crate):
         """Has a program proved, compiled and linked, where it isn't."""

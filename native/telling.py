@@ -2,8 +2,8 @@
 import sys
 import time
 
-# What a proof took by the size of its crate's sources, before any is timed: seconds of a processor a megabyte.
-MEGABYTE_SECONDS = 650
+# What a crate's proof takes before any is timed: seconds of a processor, and seconds more for each megabyte of its sources.
+CRATE_SECONDS, MEGABYTE_SECONDS = 10, 580
 
 
 def say(text):
@@ -35,7 +35,7 @@ class Progress:
     def __init__(self, crates):
         self.size, self.done, self.number, self.count, self.began = sum(it.size() for it in crates), 0, 0, len(crates), time.monotonic()
         if crates:
-            seconds = self.size * MEGABYTE_SECONDS / 1e6
+            seconds = self.count * CRATE_SECONDS + self.size * MEGABYTE_SECONDS / 1e6
             say("proving %d libraries, once, in about %s of a processor" % (self.count, duration(seconds)))
 
     def tell(self, crate, seconds):

@@ -19,12 +19,12 @@ def codes_crate(builder, programs):
     names = ["program_%d" % number for number in range(len(programs))]
     parts = {name + ".rt": code_text(it, Forms(it)).replace(ASKS, "") for name, it in zip(names, programs)}
     text = chain([name + "::code()" for name in names], "".join("mod %s;\n" % name for name in names))
-    return builder.crate("codes", "lib.rt", text, ["dp_meaning", *CODE_USES.split()], parts)
+    return builder.crate("codes", {"lib.rt": text, **parts}, ["dp_meaning", *CODE_USES.split()])
 
 
 def main_crate(builder, crates, code):
     """The program of these libraries, in each of which its code has a name such as `code()`."""
     names = [it.name for it in crates]
-    library = builder.crate("codes", "lib.rt", chain(["%s::%s" % (name, code) for name in names]), ["dp_base", "dp_meaning", *names])
+    library = builder.crate("codes", {"lib.rt": chain(["%s::%s" % (name, code) for name in names])}, ["dp_base", "dp_meaning", *names])
     main = filled(template("together"), {"CODES": library.name})
-    return builder.crate("together", "main.rt", main, ["dp_built", "dp_system", library.name])
+    return builder.crate("together", {"main.rt": main}, ["dp_built", "dp_system", library.name])
