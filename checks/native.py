@@ -1,9 +1,12 @@
 #!/usr/bin/env python3
-"""Builds native programs, and compares what they answer with `dswp run`: on inputs, on inputs that fault, and on fuel that is
-spent at each tenth of the run. Tells the share that was built at once. Each build takes some minutes of a processor.
+"""Builds native programs, and compares what they answer with `dswp run`: on their own inputs, on inputs of 65,536 words and on
+inputs that fault, each with fuel that is spent at each tenth of the run; and the same of a text of which one digit is another,
+which no native code is of. Tells the share whose code was proved at once. The code of ten programs takes some minutes of a
+processor, and the `main` over all of them three more.
 
     native.py                   the examples and the loops of bench/loops, as they are and without marks
     native.py NAME..            those of them
+    native.py --apart NAME..    each built by `dswp build`, with a `main` of its own
     native.py --random N SEED   so many random programs, as they are and without marks"""
 import random
 import re
@@ -15,7 +18,15 @@ from pathlib import Path
 from random_runs import Text
 
 TOP = Path(__file__).resolve().parent.parent
-MOST_FUEL = 10**9
+sys.dont_write_bytecode = True
+sys.path.insert(0, str(TOP / "native"))
+from builder import Builder
+from prover import Failed
+from together import codes_crate, main_crate
+from tree_text import Program
+
+MOST_FUEL = 10**8
+TEN = 10  # so many programs have their code in one library
 
 
 def run(*words):
@@ -26,6 +37,12 @@ def run(*words):
 def unmarked(text):
     """The text as a sequential program; None where a marked loop has an early exit, which no other loop may have."""
     return None if "break" in text else re.sub(r"#pragma[ \t]+dswp", "", text)
+
+
+def other_by_a_digit(text):
+    """The text with one digit of its `main` changed, where there is one."""
+    start = text.index("int main")
+    return text[:start] + re.sub(r"\b[1-8]\b", lambda found: str(int(found[0]) + 1), text[start:], count=1)
 
 
 def examples(names):
@@ -47,12 +64,24 @@ def both(texts):
             yield stem + "_unmarked", unmarked(text)
 
 
-def inputs(rng):
+def long_input(stem):
+    """65,536 words of the kind that a program is for."""
+    if (TOP / "examples" / "gallery" / (stem + ".c")).exists():
+        return run(sys.executable, TOP / "examples" / "gallery" / "inputs.py", stem, "long")[0]
+    return run("bash", "-c", '. "$1/bench/common.sh"; many_words "$2"', TOP / "bench" / "native.sh", TOP, stem)[0]
+
+
+def inputs(stem):
+    """Inputs of a program: four that are made up, and two of the kind that it is for."""
+    rng, stem = random.Random(stem), stem.removesuffix("_unmarked")
     yield ""
-    yield "7"
     yield "9223372036854775807 -9223372036854775808 0 1"
     yield " ".join(str(rng.randrange(-9, 100)) for _ in range(200))
     yield " ".join(str(rng.randrange(0, 1000)) for _ in range(65536))
+    if not stem.startswith("random"):
+        own = next(TOP.glob("examples/**/%s.in" % stem), None)
+        yield from [own.read_text()] if own else []
+        yield long_input(stem)
 
 
 def spent(program, words):
@@ -60,7 +89,7 @@ def spent(program, words):
     low, high = 0, MOST_FUEL
     while low < high:
         middle = (low + high) // 2
-        if run(program, words, "--fuel", middle)[0].endswith("end fuel\n"):
+        if run(*program, words, "--fuel", middle)[0].endswith("end fuel\n"):
             low = middle + 1
         else:
             high = middle
@@ -71,35 +100,88 @@ def fuels(steps):
     return sorted({0, 1, 2, 3, steps, *(max(steps * tenth // 10 - 1, 0) for tenth in range(1, 11))})
 
 
-def differences(folder, program, source):
-    """The words at which the native program answers other than `dswp run`."""
-    for number, text in enumerate(inputs(random.Random(source.name))):
+def differences(folder, stem, program, source):
+    """How many runs were compared, and the words at which the native program answers other than `dswp run`."""
+    compared, wrong = 0, []
+    for number, text in enumerate(inputs(stem)):
         words = folder / ("input_%d" % number)
         words.write_text(text)
         for fuel in fuels(spent(program, words)):
-            if run(program, words, "--fuel", fuel) != run(TOP / "dswp", "run", source, words, "--fuel", fuel):
-                yield "%s --fuel %d" % (text[:40], fuel)
+            compared += 1
+            if run(*program, words, "--fuel", fuel) != run(TOP / "dswp", "run", source, words, "--fuel", fuel):
+                wrong.append("%s: input %d, --fuel %d" % (source.stem, number, fuel))
+    return compared, wrong
+
+
+def built_apart(folder, sources):
+    """Each program with the words that run it, or None where it isn't built."""
+    for source in sources:
+        program = folder / source.stem
+        yield source, [program] if run(TOP / "dswp", "build", source, "-o", program)[1] == 0 else None
+
+
+def proved(builder, sources):
+    """Libraries of the code of these programs, which are proved, and what of them isn't."""
+    programs = [Program(run(TOP / "dswp", "tree", it)[0]) for it in sources]
+    crate = codes_crate(builder, programs)
+    try:
+        builder.make_libraries(crate.below())
+        builder.prover.make_library(crate)
+        return [crate], []
+    except Failed as failed:
+        if len(sources) == 1:
+            print("not proved: %s, see %s" % (sources[0].stem, builder.keep_log(failed)), flush=True)
+            return [], sources
+        halves = [proved(builder, half) for half in (sources[:len(sources) // 2], sources[len(sources) // 2:])]
+        return [it for crates, _ in halves for it in crates], [it for _, lost in halves for it in lost]
+
+
+def built_together(sources):
+    """The same, of programs that have one `main`."""
+    builder, crates, lost = Builder(), [], []
+    for start in range(0, len(sources), TEN):
+        some, others = proved(builder, sources[start:start + TEN])
+        crates, lost = crates + some, lost + others
+    main = main_crate(builder, crates, "Codes")
+    builder.make_libraries([it for it in main.below() if it not in crates])
+    builder.prover.make_program(main)
+    for source in sources:
+        yield source, None if source in lost else [builder.prover.program(main), "run", source]
+
+
+def compare(folder, built, are_together):
+    """Compares all that was built; tells of each program, and answers how many weren't built, and what differs."""
+    missing, wrong = 0, []
+    for source, program in built:
+        if program is None:
+            print("not built: " + source.stem, flush=True)
+            missing += 1
+            continue
+        runs, found = differences(folder, source.stem, program, source)
+        if are_together:
+            other = source.with_name("other.c")
+            other.write_text(other_by_a_digit(source.read_text()))
+            more, others = differences(folder, source.stem, [*program[:-1], other], other)
+            runs, found = runs + more, found + ["%s by a digit: %s" % (source.stem, it) for it in others]
+        print("%s: %d runs, %d differ" % (source.stem, runs, len(found)), flush=True)
+        wrong += found
+    return missing, wrong
 
 
 def main():
     words = sys.argv[1:]
-    texts = random_texts(int(words[1]), words[2]) if words[:1] == ["--random"] else examples(words)
-    tried = built = 0
-    wrong = []
+    apart = words[:1] == ["--apart"]
+    texts = random_texts(int(words[1]), words[2]) if words[:1] == ["--random"] else examples(words[apart:])
     with tempfile.TemporaryDirectory() as name:
         folder = Path(name)
+        sources = []
         for stem, text in both(texts):
-            source, program = folder / (stem + ".c"), folder / stem
-            source.write_text(text)
-            tried += 1
-            if run(TOP / "dswp", "build", source, "-o", program)[1] != 0:
-                print("not built: " + stem)
-                continue
-            built += 1
-            wrong += ["%s: %s" % (stem, each) for each in differences(folder, program, source)]
+            sources.append(folder / (stem + ".c"))
+            sources[-1].write_text(text)
+        missing, wrong = compare(folder, built_apart(folder, sources) if apart else built_together(sources), not apart)
     print("".join("other answers: %s\n" % each for each in wrong), end="")
-    print("%d of %d programs were built and proved at once, %d other answers" % (built, tried, len(wrong)))
-    return 1 if wrong or built < tried else 0
+    print("%d of %d programs were built and proved at once, %d other answers" % (len(sources) - missing, len(sources), len(wrong)))
+    return 1 if wrong or missing else 0
 
 
 if __name__ == "__main__":

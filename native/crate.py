@@ -20,6 +20,7 @@ NAMES = {
     "dp_tree": ["Expr", "Program", "Stmt"],
 }
 CODE_USES = "dp_base dp_tree dp_native dp_forms"
+PROGRAM_USES = "dp_built"
 
 
 def name_of(kind, text):
@@ -70,14 +71,8 @@ def literal(text):
 
 
 def program_text(code, source_name, text):
-    """The program's `main`: that of dswp, with native code and a text of its own."""
+    """The program's `main`."""
     return filled(template("main"), {"CODE": code, "NAME": source_name, "TEXT": literal(text)})
-
-
-def uses_of_program(place):
-    """The libraries that the program names beside its code: those of dswp, and dp_native."""
-    listed = (place / "crates.txt").read_text().splitlines()
-    return next(line for line in listed if line.startswith("dswp ")).split(": ", 1)[1].split() + ["dp_native"]
 
 
 def put_crate(place, name, root, text, uses):
@@ -99,7 +94,7 @@ def main():
     put_crate(place, code, "lib.rt", text, "%s: %s" % (code, CODE_USES))
     text = program_text(code, source.name, source.read_bytes())
     name = name_of("program", text)
-    put_crate(place, name, "main.rt", text, "%s may_wait=1: %s" % (name, " ".join(uses_of_program(place) + [code])))
+    put_crate(place, name, "main.rt", text, "%s may_wait=1: %s %s" % (name, PROGRAM_USES, code))
     print(code, name)
 
 
