@@ -34,7 +34,14 @@ where
     let mut files = OwnText { name, text, others };
     let others = FileShelf::new(rt);
     let mut files_again = OwnText { name, text, others };
-    answer_words(rt, errors, native, words.as_slice(), &mut files, &mut files_again)
+    answer_words(
+        rt,
+        errors,
+        native,
+        words.as_slice(),
+        &mut files,
+        &mut files_again,
+    )
 }
 
 /// Does what the words ask for, and answers the exit status. What people are told comes from a second shelf.
@@ -71,7 +78,14 @@ where
     shown.wipe();
     let mut told = OutSink::new(errors);
     // what fails there changes no answer
-    let _ = tell(rt.alloc(), words, files_again, status, output.tail(), &mut told);
+    let _ = tell(
+        rt.alloc(),
+        words,
+        files_again,
+        status,
+        output.tail(),
+        &mut told,
+    );
     status
 }
 
