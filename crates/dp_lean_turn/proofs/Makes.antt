@@ -81,15 +81,20 @@ module _ (f : Frame) (m : Marks) (before : Columned) (old : Teller) (n : Note) (
 
       pub tells_event : (there : old.loads.wanting ≡ false) → event_as_assumed p plan event ≡ true → nat_le (old.used + (words + 1)) plan.words ≡ true → (mid new : Teller) → mid ≡ record old { used = old.used + (words + 1); steps = old.steps + 1 } →
           IsPut n cell value mid new → Adds f m before h event new answer.Goes
-      tells_event there assumed fits mid new counted put_in = (h.own ++ said_all (words_of p plan event), None, record {
-        columns = ap (λ (w : Teller). w.own) whole ∙ put_is there old.own ∙ ap (put_own p plan f.kinds.own.now (said_all (words_of p plan event))) is.tells.columns
-            ∙ sym (puts_then (first_site p plan) _ (is_checked p plan) h.own (said_all (words_of p plan event)) before);
-        used = ap (λ (w : Teller). w.used) whole ∙ omega (arith, is.tells.used, no_steps, words_are there, weights_more h.own (words_of p plan event));
-        steps = ap (λ (w : Teller). w.steps) whole ∙ omega (arith, is.tells.steps, no_steps, steps_more p plan f.kinds.own.now event h.own);
-        log = ap (λ (w : Teller). w.log.running) whole ∙ not_running;
-        settled = is.tells.settled;
-        hidden = is.tells.hidden;
-      }, λ below next. ap (made_with p plan m h below next event) none ∙ rw (assumed, fits_as there true fits) refl)
+      tells_event there assumed fits mid new counted put_in = (
+        h.own ++ said_all (words_of p plan event),
+        None,
+        record {
+          columns = ap (λ (w : Teller). w.own) whole ∙ put_is there old.own ∙ ap (put_own p plan f.kinds.own.now (said_all (words_of p plan event))) is.tells.columns
+              ∙ sym (puts_then (first_site p plan) _ (is_checked p plan) h.own (said_all (words_of p plan event)) before);
+          used = ap (λ (w : Teller). w.used) whole ∙ omega (arith, is.tells.used, no_steps, words_are there, weights_more h.own (words_of p plan event));
+          steps = ap (λ (w : Teller). w.steps) whole ∙ omega (arith, is.tells.steps, no_steps, steps_more p plan f.kinds.own.now event h.own);
+          log = ap (λ (w : Teller). w.log.running) whole ∙ not_running;
+          settled = is.tells.settled;
+          hidden = is.tells.hidden;
+        },
+        λ below next. ap (made_with p plan m h below next event) none ∙ rw (assumed, fits_as there true fits) refl,
+      )
         where
           whole : new ≡ record old { own = event_put n.checked n.kind n.place (map load_of old.loads.entries) cell value old.own; used = old.used + (words + 1); steps = old.steps + 1 }
           whole = put_in ∙ ap (λ (w : Teller). record w { own = event_put n.checked n.kind n.place (map load_of w.loads.entries) cell value w.own }) counted
@@ -121,18 +126,26 @@ module _ (f : Frame) (m : Marks) (before : Columned) (old : Teller) (n : Note) (
     -- one step more, with these net stores
     pub block_event : nat_le (old.used + (0 + 1)) plan.words ≡ true → (mid new : Teller) → mid ≡ record old { used = old.used + (0 + 1); steps = old.steps + 1 } → new ≡ record mid { log = record mid.log { stores = new.log.stores } } →
         map stored_by new.log.stores ≡ told_after (m.hides (stage_of p plan b.site)) b.told event.effect → Adds f m before h event new answer.Goes
-    block_event fits mid new counted stays stores = (h.own, Some (one_more p plan m b event.effect), record {
-      columns = ap (λ (w : Teller). w.own) whole ∙ is.tells.columns;
-      used = ap (λ (w : Teller). w.used) whole ∙ omega (arith, is.tells.used, steps_are);
-      steps = ap (λ (w : Teller). w.steps) whole ∙ omega (arith, is.tells.steps, steps_are);
-      log = (ap (λ (w : Teller). w.log.running) whole ∙ in_block.0, record {
-        stores = stores;
-        place = ap (λ (w : Teller). w.log.place) whole ∙ in_block.1.place;
-        hides = in_block.1.hides;
-      });
-      settled = is.tells.settled;
-      hidden = is.tells.hidden;
-    }, λ below next. ap (made_with p plan m h below next event) some ∙ rw (block_fits true fits) refl)
+    block_event fits mid new counted stays stores = (
+      h.own,
+      Some (one_more p plan m b event.effect),
+      record {
+        columns = ap (λ (w : Teller). w.own) whole ∙ is.tells.columns;
+        used = ap (λ (w : Teller). w.used) whole ∙ omega (arith, is.tells.used, steps_are);
+        steps = ap (λ (w : Teller). w.steps) whole ∙ omega (arith, is.tells.steps, steps_are);
+        log = (
+          ap (λ (w : Teller). w.log.running) whole ∙ in_block.0,
+          record {
+            stores = stores;
+            place = ap (λ (w : Teller). w.log.place) whole ∙ in_block.1.place;
+            hides = in_block.1.hides;
+          },
+        );
+        settled = is.tells.settled;
+        hidden = is.tells.hidden;
+      },
+      λ below next. ap (made_with p plan m h below next event) some ∙ rw (block_fits true fits) refl,
+    )
       where
         whole : new ≡ record old { used = old.used + (0 + 1); steps = old.steps + 1; log = record old.log { stores = new.log.stores } }
         whole = stays ∙ ap (λ (w : Teller). record w { log = record w.log { stores = new.log.stores } }) counted

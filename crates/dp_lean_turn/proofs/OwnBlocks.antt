@@ -118,28 +118,32 @@ module _ {M : Type 0} (cells : M → List ℤ) (f : Frame) (m : Marks) (before :
     (kind_is : n.kind ≡ kind_at t.teller.own.kinds t.teller.log.place) (own_kind : n.kind ≡ kind_at f.kinds.own.now t.teller.log.place) (w : Teller) (put : IsBlockPut n.kind t.teller w) (next : ℕ) (behind : next ≡ t.place + 1) where
   by_block : (o : Option Silent) → Tells f m before t.teller c.held.own o → Does f m before cells (finished f.program.now f.plan.now m c o) (record t { teller = w; place = next }) answer.Goes
   by_block None tells = let clash : false ≡ true = sym tells.log ∙ runs in absurd (cc clash)
-  by_block (Some b) tells = (_, refl, record {
-    place = ap (λ (k : ℕ). k + 1) stands.place ∙ sym behind;
-    stack = stands.stack;
-    loads = stands.loads;
-    held = record {
-      memory = stands.held.memory;
-      queues = stands.held.queues;
-      closing = stands.held.closing;
-      own = record {
-        columns = item_put f m before t.teller c.held.own b tells n.kind kind_is own_kind w put;
-        used =
-            let all = sum_by-append weight c.held.own (Net b.site b.count b.told ∷ []) in
-            ap (λ (x : Teller). x.used) put ∙ omega (arith, tells.used, all, one_weight b);
-        steps =
-            let all = sum_by-append steps_in c.held.own (Net b.site b.count b.told ∷ []) in
-            ap (λ (x : Teller). x.steps) put ∙ omega (arith, tells.steps, all, one_step b);
-        log = ap (λ (x : Teller). x.log.running) put;
-        settled = tells.settled;
-        hidden = tells.hidden;
+  by_block (Some b) tells = (
+    _,
+    refl,
+    record {
+      place = ap (λ (k : ℕ). k + 1) stands.place ∙ sym behind;
+      stack = stands.stack;
+      loads = stands.loads;
+      held = record {
+        memory = stands.held.memory;
+        queues = stands.held.queues;
+        closing = stands.held.closing;
+        own = record {
+          columns = item_put f m before t.teller c.held.own b tells n.kind kind_is own_kind w put;
+          used =
+              let all = sum_by-append weight c.held.own (Net b.site b.count b.told ∷ []) in
+              ap (λ (x : Teller). x.used) put ∙ omega (arith, tells.used, all, one_weight b);
+          steps =
+              let all = sum_by-append steps_in c.held.own (Net b.site b.count b.told ∷ []) in
+              ap (λ (x : Teller). x.steps) put ∙ omega (arith, tells.steps, all, one_step b);
+          log = ap (λ (x : Teller). x.log.running) put;
+          settled = tells.settled;
+          hidden = tells.hidden;
+        };
       };
-    };
-  })
+    },
+  )
     where
       one_weight : (b : Silent) → sum_by weight (Net b.site b.count b.told ∷ []) ≡ b.count
       one_weight b = omega (arith, sum_by-cons weight (Net b.site b.count b.told) [])

@@ -24,7 +24,7 @@ loop-entry-preserved c =
     let rest = ap (λ (es : List Entry). with_stores c.args.place (map stored_by es) l.own) (rest_from entries l.entry-index (record { cell = 0; value = pos 0 }) c.loop-entry-test.true) in (
       ap (with_stores c.args.place (map stored_by (drop (l.entry-index + 1) entries))) put ∙ sym rest ∙ l.invariant.0,
       grown_then c.args.own.now l.own c.put_store.new.self l.invariant.1
-      (grown_by c.put_store.result l.own c.put_store.new.self _ c.put_store.ensures.ok c.put_store.ensures.err (store_more c.args.place _ l.own)),
+          (grown_by c.put_store.result l.own c.put_store.new.self _ c.put_store.ensures.ok c.put_store.ensures.err (store_more c.args.place _ l.own)),
     )
 
 pub returns-clause-grown : goal.returns-clause-grown

@@ -16,7 +16,7 @@ loop-entry-preserved c =
     let rest = ap (λ (es : List Entry). with_loads c.args.place (map load_of es) l.own) (rest_from entries l.entry-index (record { cell = 0; value = pos 0 }) c.loop-entry-test.true) in (
       ap (with_loads c.args.place (map load_of (drop (l.entry-index + 1) entries))) put ∙ sym rest ∙ l.invariant.0,
       grown_then c.args.own.now l.own c.put_load.new.self l.invariant.1
-      (grown_by c.put_load.result l.own c.put_load.new.self _ c.put_load.ensures.ok c.put_load.ensures.err (load_more c.args.place _ l.own)),
+          (grown_by c.put_load.result l.own c.put_load.new.self _ c.put_load.ensures.ok c.put_load.ensures.err (load_more c.args.place _ l.own)),
     )
 
 pub returns-clause-grown : goal.returns-clause-grown
