@@ -33,10 +33,10 @@ use Rattle.dp_lean_code.proofs.WalkedRight.{region_one, text_one}
 use Rattle.dp_lean_code.proofs.WholeTexts.{first_text, whole_all}
 
 module _ (p : Program) (plan : Plan) (inlined : IsInlined p) (fits : fits_plan p plan ≡ true) where
-  abbrev m : Marks
+  abbrev pub m : Marks
   m = paying_marks p plan
 
-  ok : Accepted p plan
+  pub ok : Accepted p plan
   ok = accepted p plan fits
 
   up : (k : ℕ) × Ascends k (map site_in (region_accesses p plan))
@@ -49,7 +49,7 @@ module _ (p : Program) (plan : Plan) (inlined : IsInlined p) (fits : fits_plan p
   first_is : first_site p plan ≡ up.0
   first_is = ok.first ∙ (subst (λ (all : List Access). Ascends up.0 (map site_in all)) these up.1).0
 
-  ascends : Ascends (first_site p plan) (map site_in (region_accesses p plan))
+  pub ascends : Ascends (first_site p plan) (map site_in (region_accesses p plan))
   ascends = subst (λ (k : ℕ). Ascends k (map site_in (region_accesses p plan))) (sym first_is) up.1
 
   counted : (f : ℕ) → (if nat_le (first_site p plan) f then slice_index (map (λ (a : Access). length (m.block_at a.site)) (region_accesses p plan)) (f - first_site p plan) else 0) ≡ length (m.block_at f)
@@ -57,13 +57,13 @@ module _ (p : Program) (plan : Plan) (inlined : IsInlined p) (fits : fits_plan p
       (λ low. ap length (block_none p plan (pays_off p plan) f (region_statement p plan) (none_below (first_site p plan) f (region_accesses p plan) ascends low)))
       (λ high. ap length (block_none p plan (pays_off p plan) f (region_statement p plan) (none_past (first_site p plan) f (region_accesses p plan) ascends high)))
 
-  own_none : m.block_at (site_of (out-Stmt ok.statement)).0 ≡ []
+  pub own_none : m.block_at (site_of (out-Stmt ok.statement)).0 ≡ []
   own_none =
       let f = own_site p plan ok.statement in
       ap (Rattle.dp_net.specs.Hidden.block_in p plan (pays_off p plan) f) ok.region
       ∙ ap (λ (c : Bool). if c then [] else sought_inside p plan (pays_off p plan) f ok.statement) (eq-eqb f f refl)
 
-  sound_body : Each (Sound p plan) (accesses_all ok.body)
+  pub sound_body : Each (Sound p plan) (accesses_all ok.body)
   sound_body = (subst (λ (all : List Access). Each (Sound p plan) all) these ok.sound).1
 
   whole_body : project_all p plan (last plan) ok.body ≡ ok.body
@@ -78,17 +78,17 @@ module _ (p : Program) (plan : Plan) (inlined : IsInlined p) (fits : fits_plan p
   turn_is : project_all p plan (last plan) (region_statement p plan) ≡ turn (project_all p plan (last plan) ok.body) ∷ []
   turn_is = ap (project_all p plan (last plan)) ok.region ∙ append-nil (project p plan (last plan) ok.statement) ∙ project_out p plan (last plan) ok.statement ∙ ap (project_at p plan (last plan)) ok.is
 
-  body_text : Text m ok.body
+  pub body_text : Text m ok.body
   body_text = subst (Text m) whole_body
       (first_text m (turn (project_all p plan (last plan) ok.body)) [] ok.site ok.cond (project_all p plan (last plan) ok.body) [] (outs-If ok.site ok.cond _ [])
       (ap (λ (h : Stmt-F Stmt). m.block_at (site_of h).0) (outs-If ok.site ok.cond (project_all p plan (last plan) ok.body) []) ∙ ap (λ (h : Stmt-F Stmt). m.block_at (site_of h).0) (sym ok.is) ∙ own_none)
       (subst (Text m) turn_is text))
 
   module _ (tabled : IsTabled p plan) (tables : LeanTables) (known : AreTablesOf p plan tables) (s : ℕ) (low : 0 < s) (high : s ≤ last plan) where
-    abbrev k : Known
+    abbrev pub k : Known
     k = known_of p plan tables s
 
-    counts : (f : ℕ) → k.count f ≡ length (m.block_at f)
+    pub counts : (f : ℕ) → k.count f ≡ length (m.block_at f)
     counts f = ap (λ (blocks : List ℕ). if nat_le (first_site p plan) f then slice_index blocks (f - first_site p plan) else 0) known.blocks ∙ counted f
 
     one : Piece p plan s m (project p plan s ok.statement) (part p plan s k ok.statement)

@@ -104,7 +104,7 @@ impl<'a> LeanStage<'a> {
     /// A store in one of the statements is done.
     #[tactic(auto, using(crate::proofs::StoredForms::stored_steps))]
     #[cycle(stored)]
-    fn does_inside(self, all: &[Stmt]) -> bool
+    pub fn does_inside(self, all: &[Stmt]) -> bool
         ensures { result ≡ spec.stored_inside self.entry.program.now self.entry.plan.now self.entry.number (known_of self.entry.program.now self.entry.plan.now self.entry.tables.now self.entry.number) all.now }
     {
         for statement in all {

@@ -19,8 +19,11 @@ mod walk;
 
 use dp_base::{Row, SiteId};
 use dp_code::Op;
+pub use kept::front;
 pub use law::lean_code_is_right;
 pub use program::lean_program;
+pub use site::site_of;
+pub use stage::LeanStage;
 pub use tables::LeanTables;
 
 /// One operation of a lean text: those that a stage's code has, and what begins and ends a block.

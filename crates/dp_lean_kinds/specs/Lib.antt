@@ -1,0 +1,3 @@
+pub mod ColumnKinds
+pub mod Keeping
+pub mod steps
