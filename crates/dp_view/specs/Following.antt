@@ -1,5 +1,5 @@
 -- What is kept of a run's iterations tells which of them are clean, and why the others aren't.
-use Rattle.std.specs.Prelude.{◌≡◌, ℕ, suc, ◌-◌, ◌≤◌, ◌&&◌, true, false, is_none, Option, None, Some, if◌then◌else◌}
+use Rattle.std.specs.Prelude.{◌≡◌, ℕ, suc, ◌-◌, ◌≤◌, ◌&&◌, true, false, is_none, List, ℤ, Option, None, Some, if◌then◌else◌}
 use Rattle.dp_base.specs.declared.Cause.{Cause}
 use Rattle.dp_base.specs.declared.End.{End}
 use Rattle.dp_tree.specs.declared.Program.{Program}
