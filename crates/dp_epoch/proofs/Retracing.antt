@@ -27,7 +27,7 @@ module _ (plan : Plan) (first : MachineState) (c : CommittedState) (account : Ac
   closing_is : v.closing ≡ is_closing (region_run first) plan.region c.count
   closing_is = next.iteration_is.closing_is ∙ ap (λ (r : ℕ). is_closing (rest_of_run c.machine) r 0) g.region ∙ sym (closing_same plan first c account g)
 
-  prints_are : (end : Option RegionEnd) (s : Remade c new printed (iteration_end end)) → printed ≡ v.prints
+  pub prints_are : (end : Option RegionEnd) (s : Remade c new printed (iteration_end end)) → printed ≡ v.prints
   prints_are end s =
       s.call.moved.prints ∙ ap prints (sym (events_made plan first c account g new printed end s) ∙ iteration_same plan first c account g ∙ ap (λ (r : ℕ). iteration (rest_of_run c.machine) r 0) (sym g.region)) ∙ sym next.prints_are
 

@@ -1,6 +1,7 @@
 -- What the stages see where the next iteration begins, and the cause of one that is executed again.
-use Rattle.std.proofs.Common.{◌≡◌, ◌⊎◌, inl, inr, refl, sym, ap, ◌∙◌, subst, ℕ, suc, Bool, true, false, ◌&&◌, if◌then◌else◌, is_none, List, Option, Some, None}
+use Rattle.std.proofs.Common.{◌≡◌, ◌⊎◌, inl, inr, refl, sym, ap, ◌∙◌, subst, ℕ, suc, Bool, true, false, ◌&&◌, if◌then◌else◌, is_none, is_some, List, Option, Some, None}
 use Rattle.std.proofs.lemmas.Bool.{not-true}
+use Rattle.std.specs.Option.{option_map}
 use Rattle.dp_base.specs.declared.Cause.{Cause}
 use Rattle.dp_base.specs.declared.End.{End}
 use Rattle.dp_tree.specs.declared.Program.{Program}
@@ -19,9 +20,18 @@ use Rattle.dp_view.specs.Viewed.{Viewed, after_all, anew, onward, settled}
 use Rattle.dp_view.proofs.FollowLemmas.{views_tell}
 use Rattle.dp_view.proofs.LoadLemmas.{views_follow}
 use Rattle.dp_epoch.specs.declared.account.Account.{Account}
-use Rattle.dp_epoch.specs.Accounts.{seen_clean}
+use Rattle.dp_epoch.specs.Accounts.{HearsOn, seen_clean}
 use Rattle.dp_epoch.specs.Progress.{Progress, cause_of}
 use Rattle.dp_epoch.proofs.Here.{starts_here}
+
+-- Where nothing is kept of what the stages see, there is nothing to hear, and nothing to go on with.
+pub none_heard : (old new : MachineState) (views : Option Viewed) → is_some views ≡ false → HearsOn old new views views
+none_heard old new None e = tt
+none_heard old new (Some v) e = absurd (cc)
+
+pub none_seen : (views : Option Viewed) → is_some views ≡ false → views ≡ option_map seen_clean views
+none_seen None e = refl
+none_seen (Some v) e = absurd (cc)
 
 is_some_found : (o : Option Cause) (a b : End) → is_none o ≡ false → found_or_end o a ≡ found_or_end o b
 is_some_found (Some cause) a b e = refl

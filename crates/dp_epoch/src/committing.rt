@@ -1,11 +1,9 @@
 //! A clean iteration that is committed.
-ghost use Rattle.std.specs.Prelude.{◌≡◌, ◌⊎◌, ◌<◌, ◌+◌, ◌-◌, ◌^◌, ◌++◌, length, true, Option, is_some, OnErr, OnOk};
-ghost use Rattle.std.specs.Option.{option_map};
+ghost use Rattle.std.specs.Prelude.{◌≡◌, ◌⊎◌, ◌<◌, ◌+◌, ◌-◌, ◌^◌, ◌++◌, length, true, false, is_some, OnErr, OnOk};
 ghost use Rattle.dp_plan.specs.declared.Plan.{Plan};
 ghost use Rattle.dp_meaning.specs.MachineState.{MachineState};
 ghost use Rattle.dp_commit.specs.CommittedState.{Applied, CarriesNext, IsOpen};
-ghost use Rattle.dp_view.specs.Viewed.{Viewed};
-ghost use Rattle.dp_epoch.specs.Accounts.{CountsClean, HearsOn, seen_clean};
+ghost use Rattle.dp_epoch.specs.Accounts.{CountsClean};
 ghost use Rattle.dp_epoch.specs.Progress.{Progress};
 
 use crate::again::execute;
@@ -34,27 +32,26 @@ impl<'p, 'v> Ledger<'p, 'v> {
         ensures wanting { OnErr result ((0 < length clean.prints) ⊎ (is_some self.old.account.views ≡ true)) }
     {
         if self.account.is_watched() {
-            self.retrace(alloc, clean, tally)?;
-        } else {
-            self.apply(clean, tally)?;
+            return self.retrace(alloc, clean, tally);
         }
-        self.account.report.iterations = self.committed.count();
-        Ok(())
+        self.apply(clean, tally)
     }
 
     /// Commits it at once.
     fn apply<W: Watch>(&mut self, clean: Clean, tally: &mut Tally<W>) -> Result<(), NoMemory>
         requires open { IsOpen self.old.committed }
+        requires unwatched { is_some self.old.account.views ≡ false }
         requires next { CarriesNext self.old.committed clean }
         requires tally { tally.old < 2 ^ 64 - 1 }
         ensures ok { OnOk result (Applied clean self.old.committed self.new.committed) }
-        ensures account { self.new.account ≡ self.old.account }
+        ensures account { OnOk result (CountsClean self.old.committed self.new.committed self.old.account self.new.account) }
         ensures waiting { OnOk result (self.new.waiting ≡ self.old.waiting ++ clean.prints) }
         ensures tally { OnOk result (tally.new ≡ tally.old + 1) }
         ensures wanting { OnErr result (0 < length clean.prints) }
     {
         wait(&mut self.waiting, clean.prints())?;
         self.committed.apply(clean, tally);
+        self.account.report.iterations = self.committed.count();
         Ok(())
     }
 
@@ -69,13 +66,14 @@ impl<'p, 'v> Ledger<'p, 'v> {
         requires next { CarriesNext self.old.committed clean }
         requires tally { tally.old < 2 ^ 64 - 1 }
         ensures ok { OnOk result (Applied clean self.old.committed self.new.committed) }
-        ensures account { OnOk result ((seen : Option Viewed) × HearsOn self.old.committed.machine self.new.committed.machine self.old.account.views seen × (self.new.account ≡ record self.old.account { views = option_map seen_clean seen })) }
+        ensures account { OnOk result (CountsClean self.old.committed self.new.committed self.old.account self.new.account) }
         ensures waiting { OnOk result (self.new.waiting ≡ self.old.waiting ++ clean.prints) }
         ensures tally { OnOk result (tally.new ≡ tally.old + 1) }
     {
-        execute(alloc, self)?;
+        let _end = execute(alloc, self)?;
         self.account.go_on();
         self.committed.confirm(clean, tally);
+        self.account.report.iterations = self.committed.count();
         Ok(())
     }
 }

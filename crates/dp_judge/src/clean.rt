@@ -24,12 +24,7 @@ impl Model for Clean {
 
 impl Clean {
     /// What was agreed on.
-    pub(crate) fn agree(
-        stores: Row<StoreOf>,
-        prints: Row<i64>,
-        steps: u64,
-        closing: bool,
-    ) -> Clean
+    pub(crate) fn agree(stores: Row<StoreOf>, prints: Row<i64>, steps: u64, closing: bool) -> Clean
         ensures { result ≡ record { stores = stores; prints = prints; steps = steps; closing = closing } }
     {
         Clean {

@@ -11,7 +11,6 @@ run_epoch-end-requires-clause-epoch g c κs within =
     let first = c.requires.epoch.0 in
     (first, begins_here c.args.work.region.now.program c.args.work.region.now.plan c.args.work.input.now c.args.ledger _ (c.polling-polled.ensures ∙ c.in_ok-units.ensures.verdicts) first c.requires.epoch.1)
 
-
 pub returns-in_err-setter : goal.returns-in_err-setter
 returns-in_err-setter g c = record { ran = unbegun _ _ _ c.from_residual.result _ _ _ c.from_residual.ensures.1 }
 
