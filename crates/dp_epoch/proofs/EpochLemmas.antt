@@ -151,6 +151,7 @@ module _ (key : EpochKey) (n : ℕ) (first : MachineState) (c : CommittedState) 
             (closed_done key.plan first c account e.progress new.machine a.turns [] v.prints (subst (λ (b : Bool). IterationRun c.region a.turns c.machine new.machine [] v.prints (end_of b)) closing a.call) more reported)
 
         pub epoch_goes : v.closing ≡ false → InEpoch key (n + 1) first new more
+        unfolding made_next
         epoch_goes open_yet =
             let made = made_next open_yet in
             subst (λ (s : CommittedState). InEpoch key (n + 1) first s more) (sym a.rest)
