@@ -1,5 +1,5 @@
 -- An epoch goes on over one more verdict.
-use Rattle.std.proofs.Common.{◌≡◌, ◌⊎◌, inl, inr, refl, sym, ap, ◌∙◌, ℕ, suc, ◌+◌, ◌<◌, Bool, true, false, not, ◌&&◌, ◌≤◌, if◌then◌else◌, is_some, List, map, length, Option, Some, None, ℤ, arith, subst}
+use Rattle.std.proofs.Common.{◌≡◌, ◌⊎◌, inl, inr, refl, sym, ap, ◌∙◌, ℕ, suc, ◌+◌, ◌<◌, Bool, true, false, not, ◌&&◌, ◌≤◌, if◌then◌else◌, List, map, length, Option, Some, None, ℤ, arith, subst}
 use Rattle.std.specs.Option.{option_map}
 use Rattle.std.proofs.lemmas.List.{length-map}
 use Rattle.std.proofs.lemmas.Bool.{cases_lt}
@@ -15,7 +15,7 @@ use Rattle.dp_semantics.specs.Judge.{Clean}
 use Rattle.dp_semantics.specs.Verdict.{applied, done_in, effect_in}
 use Rattle.dp_semantics.specs.Reported.{report_of}
 use Rattle.dp_semantics.specs.EpochKey.{EpochKey}
-use Rattle.dp_semantics.specs.EpochVerdicts.{Carried, carried, JudgeState, after_judgement, goes_on, judgement_of, state_at, verdict_at, verdict_by}
+use Rattle.dp_semantics.specs.EpochVerdicts.{Carried, carried, JudgeState, after_judgement, goes_on, state_at, verdict_at, verdict_by}
 use Rattle.dp_meaning.specs.declared.ends.IterEnd.TheVariants as iter_end
 use Rattle.dp_meaning.specs.MachineState.{MachineState}
 use Rattle.dp_meaning.specs.IterationRun.{IterationRun}

@@ -1,5 +1,5 @@
 -- What each verdict leads to.
-use Rattle.std.proofs.Common.{◌≡◌, refl, sym, ap, ◌∙◌, append-nil, arith}
+use Rattle.std.proofs.Common.{refl, sym, ap, ◌∙◌, append-nil, arith}
 use Rattle.dp_commit.specs.CommittedState.{CommittedState}
 use Rattle.dp_epoch.specs.declared.account.Account.{Account}
 use Rattle.dp_epoch.proofs.EpochLemmas.{closes_ahead, epoch_closes, epoch_goes, goes_ahead, left_falls, left_here, may_commit, report_here, unclean_here, waits}
