@@ -19,7 +19,7 @@ use Rattle.dp_semantics.specs.EpochVerdicts.{Carried, carried, JudgeState, after
 use Rattle.dp_meaning.specs.declared.ends.IterEnd.TheVariants as iter_end
 use Rattle.dp_meaning.specs.MachineState.{MachineState}
 use Rattle.dp_meaning.specs.IterationRun.{IterationRun}
-use Rattle.dp_meaning.specs.NextIteration.{memory_behind}
+use Rattle.dp_meaning.specs.NextIteration.{memory_behind_stores}
 use Rattle.dp_commit.specs.CommittedState.{CommittedState, CarriesNext, region_run}
 use Rattle.dp_commit.proofs.Committing.{held_next}
 use Rattle.dp_view.specs.Following.{KeptBefore}
@@ -63,8 +63,8 @@ module _ (key : EpochKey) (n : ℕ) (first : MachineState) (c : CommittedState) 
   -- What is carried is the next iteration.
   pub carries : CarriesNext c v
   carries =
-      let lead : (cells : List ℤ) → memory_behind plan.region p.vars v.stores cells ≡ memory_behind plan.region p.vars (carried (done_in plan run i)).stores cells = λ cells.
-      subst (λ (x : Program). memory_behind plan.region x.vars v.stores cells ≡ memory_behind plan.region x.vars (carried (done_in plan run i)).stores cells) e.key_is.program (q.alike.3 cells) in
+      let lead : (cells : List ℤ) → memory_behind_stores plan.region p.vars v.stores cells ≡ memory_behind_stores plan.region p.vars (carried (done_in plan run i)).stores cells = λ cells.
+      subst (λ (x : Program). memory_behind_stores plan.region x.vars v.stores cells ≡ memory_behind_stores plan.region x.vars (carried (done_in plan run i)).stores cells) e.key_is.program (q.alike.3 cells) in
       carries_next plan first c account e.progress v q.alike.0 q.alike.1 q.alike.2 lead ended_here
 
   not_again : is_recovered p plan run i ≡ false

@@ -10,14 +10,14 @@ use Rattle.dp_meaning.specs.declared.ends.IterEnd.TheVariants.{Next, Closed}
 use Rattle.dp_meaning.specs.MachineState.{MachineState, rest_of_run}
 
 -- the memory behind these stores where the iteration that made them has ended: the region's body locals read 0 there
-abbrev pub memory_behind : ℕ → List VarInfo → List StoreOf → List ℤ → List ℤ
-memory_behind region vars made cells = clear_locals region vars (with_stores made cells)
+abbrev pub memory_behind_stores : ℕ → List VarInfo → List StoreOf → List ℤ → List ℤ
+memory_behind_stores region vars made cells = clear_locals region vars (with_stores made cells)
 
 -- The next iteration of the region ends within the fuel, in the memory to which these stores lead, after so many steps, and
 -- `closing` says whether it leaves the region.
 pub record NextIteration (region : ℕ) (m : MachineState) (made : List StoreOf) (steps : ℕ) (closing : Bool) : Type 0 where
   pub ended : has_ended (rest_of_run m) region 0 ≡ true
-  pub stores_lead : (cells : List ℤ) → memory_behind region m.program.vars made cells ≡ memory_behind region m.program.vars (stores_of (iteration (rest_of_run m) region 0)) cells
+  pub stores_lead : (cells : List ℤ) → memory_behind_stores region m.program.vars made cells ≡ memory_behind_stores region m.program.vars (stores_of (iteration (rest_of_run m) region 0)) cells
   pub steps_are : steps ≡ length (iteration (rest_of_run m) region 0)
   pub closing_is : closing ≡ is_closing (rest_of_run m) region 0
 
