@@ -1,3 +1,5 @@
 pub mod Arriving
 pub mod Memories
 pub mod Stepping
+pub mod StepCounts
+pub mod JudgeStepping
