@@ -3,3 +3,4 @@ pub mod Memories
 pub mod Stepping
 pub mod StepCounts
 pub mod JudgeStepping
+pub mod Standing
