@@ -4,3 +4,4 @@ pub mod Stepping
 pub mod StepCounts
 pub mod JudgeStepping
 pub mod Standing
+pub mod OwnWhole
