@@ -5,3 +5,5 @@ pub mod StepCounts
 pub mod JudgeStepping
 pub mod Standing
 pub mod OwnWhole
+pub mod OwnItems
+pub mod Filling
