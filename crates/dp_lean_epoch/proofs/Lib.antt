@@ -4,3 +4,6 @@ pub mod Stepping
 pub mod StepCounts
 pub mod JudgeStepping
 pub mod Standing
+pub mod OwnWhole
+pub mod OwnItems
+pub mod Filling
