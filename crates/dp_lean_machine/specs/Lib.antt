@@ -1,0 +1,9 @@
+pub mod LeanEpoch
+pub mod Once
+pub mod Ready
+pub mod Held
+pub mod Line
+pub mod Sent
+pub mod Standing
+pub mod Within
+pub mod Fresh

@@ -1,0 +1,12 @@
+//! The machines of a pipeline of columns: what goes from unit to unit for a batch of iterations, a stage's machine, and the judging.
+#![tactic(auto)]
+
+mod batch;
+mod fresh;
+mod line;
+mod machine;
+mod turning;
+
+pub use batch::{BatchStatus, LeanBatch, StageColumns};
+pub use line::{Line, ReadyStage};
+pub use machine::{Kept, LeanMachine};
