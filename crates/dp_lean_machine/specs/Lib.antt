@@ -7,3 +7,5 @@ pub mod Sent
 pub mod Standing
 pub mod Within
 pub mod Fresh
+pub mod Decided
+pub mod Judging

@@ -2,11 +2,15 @@
 #![tactic(auto)]
 
 mod batch;
+mod court;
 mod fresh;
 mod line;
 mod machine;
+mod told;
 mod turning;
 
 pub use batch::{BatchStatus, LeanBatch, StageColumns};
+pub use court::LeanCourt;
 pub use line::{Line, ReadyStage};
 pub use machine::{Kept, LeanMachine};
+pub use told::{LeanClean, LeanVerdict, ToldBatch};
