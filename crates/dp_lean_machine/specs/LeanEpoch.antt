@@ -1,5 +1,5 @@
 -- An epoch of a pipeline of columns, and what is known of it.
-use Rattle.std.specs.Prelude.{◌≡◌, ◌<◌, ◌≤◌, ℕ, suc, Bool, true, false, List, length, Some, slice_get}
+use Rattle.std.specs.Prelude.{◌≡◌, ◌<◌, ◌≤◌, ℕ, suc, Bool, true, false, List, length}
 use Rattle.dp_tree.specs.declared.Stmt.{Stmt}
 use Rattle.dp_plan.specs.Access.{stage_of, is_replicated}
 use Rattle.dp_plan.specs.Checked.{is_checked}
@@ -59,7 +59,7 @@ module _ (e : LeanEpoch) where
   pub record IsLeanEpoch : Type 0 where
     pub laws : HasLaws
     pub enough : KeepsEnough marks_in e.key kept_in
-    pub places : (t : ℕ) (kinds : List ColumnKind) → slice_get e.kinds t ≡ Some kinds → (y : ℕ) →
-        is_checked e.key.program e.key.plan y ≡ true → place_of e.key y < length kinds
+    pub places : (s : ℕ) → suc s ≤ length e.key.plan.stages → (y : ℕ) → is_checked e.key.program e.key.plan y ≡ true →
+        place_of e.key y < length (kinds_of e.kinds (suc s))
     pub single : (s : ℕ) → keeps_memory marks_in e.key s ≡ false → e.cap ≤ 1
     pub apart : (s : ℕ) → is_replicated e.key.plan s ≡ true → is_replicated e.key.plan (suc s) ≡ false

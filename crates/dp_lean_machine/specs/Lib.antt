@@ -9,3 +9,6 @@ pub mod Within
 pub mod Fresh
 pub mod Decided
 pub mod Judging
+pub mod Settled
+pub mod RanFrom
+pub mod Kept

@@ -17,12 +17,16 @@ module _ (e : LeanEpoch) where
   Keeps s n (Versioned both) = (is_replicated e.key.plan s ≡ false) × (is_replicated e.key.plan (suc s) ≡ true) × LeanStands (marks_in e) e.key s n both
   Keeps s n Nothing = is_replicated e.key.plan s ≡ true
 
--- The next batch that the machine takes is the epoch's batch b. That of a replicated stage may take any.
-pub record Stands (m : LeanMachine) (e : LeanEpoch) (b : ℕ) : Type 0 where
+-- Stage s, which keeps this, takes the epoch's batch b next. A replicated one may take any.
+pub record StandsAt (s : ℕ) (kept : Kept) (e : LeanEpoch) (b : ℕ) : Type 0 where
   pub epoch : IsLeanEpoch e
-  pub some : 0 < m.stage
-  pub within : m.stage ≤ length e.key.plan.stages
-  pub keeps : Keeps e m.stage (begin_in e b) m.kept
+  pub some : 0 < s
+  pub within : s ≤ length e.key.plan.stages
+  pub keeps : Keeps e s (begin_in e b) kept
+
+-- .. and so does its machine
+abbrev pub Stands : LeanMachine → LeanEpoch → ℕ → Type 0
+Stands m e b = StandsAt m.stage m.kept e b
 
 -- What is sent is the stage's batch b, and the machine stands at the next one, where that goes on. Or memory was wanting.
 pub record Passes (m : LeanMachine) (e : LeanEpoch) (b : ℕ) (sent : LeanBatch) : Type 0 where

@@ -20,10 +20,15 @@ use Rattle.dp_lean_machine.specs.declared.turning.Ran.{Ran}
 use Rattle.dp_lean_machine.specs.declared.turning.TurnEnd.{TurnEnd}
 use Rattle.dp_lean_machine.specs.declared.turning.TurnEnd.TheVariants.{Goes, Closes, Void, NoMemory}
 use Rattle.dp_lean_machine.specs.declared.batch.BatchStatus.TheVariants as status
+use Rattle.dp_lean_machine.specs.declared.batch.StageColumns.{StageColumns as Columns}
 
 -- all that columns hold, to be read
 abbrev pub all_left : Columned → Left
 all_left k = record { kinds = k.kinds; told = k.told; loads = k.loads }
+
+-- .. those of a stage
+abbrev pub read_of : Columns → Left
+read_of c = all_left c.columns
 
 -- stage s + 1 within batch b
 module _ (e : LeanEpoch) (s b : ℕ) where
@@ -51,12 +56,23 @@ module _ (e : LeanEpoch) (s b : ℕ) where
     pub stands : batch.Stands (marks_in e) e.key (suc s) (begin_in e b) (size_in e b) x
     pub holds : Holds (marks_in e) e.key own_kept (suc s) (begin_in e b) x.iterations (record { columns = own; steps = steps })
 
+  -- n iterations came with these columns of the earlier stages, whose queues begin with what they told
+  pub record Comes (n : ℕ) (earlier : List Columns) : Type 0 where
+    pub queues : ℕ → List Told
+    pub more : ℕ → List Told
+    pub left : AreLeft e.key.program e.key.plan (map read_of earlier) queues
+    pub coming : Coming (marks_in e) e.key s (begin_in e b) n queues more
+
   -- what came of them at the stage, unless memory was wanting; where they all go on, the stage stands behind them
-  abbrev pub IsRan : {M : Type 0} → (M → List ℤ) → Turn M → List ℕ → Ran → Type 0
-  IsRan cells t steps ran =
-      Unless ran.status (λ ends. Ended t.teller.own steps (record { iterations = ran.iterations; ends = ends }))
+  abbrev pub IsDone : {M : Type 0} → (M → List ℤ) → Ran → Columns → M → Type 0
+  IsDone cells ran own memory =
+      Unless ran.status (λ ends. Ended own.columns own.steps (record { iterations = ran.iterations; ends = ends }))
       × (ran.status ≡ status.Going → keeps_memory (marks_in e) e.key (suc s) ≡ true →
-      LeanStands (marks_in e) e.key (suc s) (begin_in e b + size_in e b) (cells t.memory))
+      LeanStands (marks_in e) e.key (suc s) (begin_in e b + size_in e b) (cells memory))
+
+  -- .. of a turn
+  abbrev pub IsRan : {M : Type 0} → (M → List ℤ) → Turn M → List ℕ → Ran → Type 0
+  IsRan cells t steps ran = IsDone cells ran (record { columns = t.teller.own; steps = steps }) t.memory
 
   -- So many iterations came, as the stage before sends them.
   pub record IsCame (came : Stood) : Type 0 where

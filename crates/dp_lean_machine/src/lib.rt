@@ -3,9 +3,11 @@
 
 mod batch;
 mod court;
+mod desk;
 mod fresh;
 mod line;
 mod machine;
+mod running;
 mod told;
 mod turning;
 

@@ -1,11 +1,17 @@
 //! A stage's machine, from one batch to the next.
-use crate::LeanBatch;
-use dp_base::Cells;
-use dp_columns::ReaderRoom;
+ghost use Rattle.std.specs.Prelude.{◌≡◌, ◌<◌, suc, None, length, IfOk};
+ghost use Rattle.dp_plan.specs.Access.{is_replicated};
+ghost use Rattle.dp_lean_machine.specs.Kept.{KeepsBase};
+
+use crate::desk::Desk;
+use crate::running::run_batch;
+use crate::{BatchStatus, LeanBatch};
+use dp_base::{Cells, NoMemory};
 use dp_engine::Versioned;
-use dp_lean_turn::Teller;
-use dp_room::Row;
+use dp_memory::{Version, VersionRoom};
+use dp_plan::{Plan, StageKind};
 use std::alloc::Global;
+use std::mem;
 
 /// What a stage keeps between two batches.
 #[derive(Drop)]
@@ -16,15 +22,6 @@ pub enum Kept {
     Versioned(Versioned),
     /// A replicated stage keeps nothing, and no stage does where memory was wanting.
     Nothing,
-}
-
-/// What turns work with.
-#[derive(Drop)]
-pub(crate) struct Desk {
-    /// It tells into the columns of the batch, which take the place of these.
-    pub(crate) teller: Teller,
-    /// The room of each reader.
-    pub(crate) rooms: Row<ReaderRoom>,
 }
 
 /// A stage's machine. It runs the stage's code on one batch after the other.
@@ -49,17 +46,161 @@ impl Drop for LeanMachine {
     }
 }
 
-impl LeanMachine {
-    ghost use Rattle.std.specs.Prelude.{◌≡◌, ◌-◌, ℕ};
-    ghost use Rattle.dp_lean_machine.specs.LeanEpoch.{LeanEpoch};
-    ghost use Rattle.dp_lean_machine.specs.Sent.{IsSent};
-    ghost use Rattle.dp_lean_machine.specs.Standing.{Stands, Passes};
+/// The kind of the stage at this place.
+fn is_par(plan: &Plan, place: usize) -> bool
+    ensures { result ≡ is_replicated plan.now (suc place) }
+{
+    match plan.stages.get(place) {
+        Some(StageKind::Par) => true,
+        Some(StageKind::Seq) | None => false,
+    }
+}
 
-    /// Makes of a batch what the stage sends of it.
+/// What the stage at this place keeps where an epoch begins.
+fn kept_at_base(
+    alloc: Global,
+    plan: &Plan,
+    place: usize,
+    base: &Cells,
+) -> Result<Kept, NoMemory>
+    requires { place < length plan.now.stages }
+    ensures { IfOk result (λ k. KeepsBase plan.now (suc place) base.now k) }
+{
+    if is_par(plan, place) {
+        return Ok(Kept::Nothing);
+    }
+    let cells = base.copy()?;
+    if is_par(plan, place + 1) {
+        let both = Versioned::of(alloc, cells)?;
+        return Ok(Kept::Versioned(both));
+    }
+    Ok(Kept::Cells(cells))
+}
+
+/// Takes the version out of the batch.
+fn taken_version<'p>(batch: &mut LeanBatch<'p>) -> Option<Version>
+    ensures version { result ≡ batch.old.version }
+    ensures left { batch.new ≡ record batch.old { version = None } }
+{
+    batch.version.take()
+}
+
+/// Takes the room for a version out of the batch.
+fn taken_room<'p>(batch: &mut LeanBatch<'p>) -> Option<VersionRoom>
+    ensures left { batch.new ≡ record batch.old { room = None } }
+{
+    batch.room.take()
+}
+
+impl LeanMachine {
+    ghost use Rattle.std.specs.Prelude.{◌-◌, ℕ};
+    ghost use Rattle.dp_lean_epoch.specs.Coming.{LeanStands};
+    ghost use Rattle.dp_lean_machine.specs.LeanEpoch.{LeanEpoch, IsLeanEpoch, marks_in};
+    ghost use Rattle.dp_lean_machine.specs.declared.machine.Kept.TheVariants as kept;
+    ghost use Rattle.dp_lean_machine.specs.Sent.{IsSent};
+    ghost use Rattle.dp_lean_machine.specs.Standing.{StandsAt, Stands, Passes};
+
+    /// The machine of the stage at this place where an epoch begins.
+    pub fn new(
+        alloc: Global,
+        plan: &Plan,
+        place: usize,
+        base: &Cells,
+    ) -> Result<LeanMachine, NoMemory>
+        requires { place < length plan.now.stages }
+        ensures begins { IfOk result (λ m. (e : LeanEpoch) → IsLeanEpoch e → e.key.plan ≡ plan.now → LeanStands (marks_in e) e.key (suc place) 0 base.now → Stands m e 0) }
+        ensures stage { IfOk result (λ m. m.stage ≡ suc place) }
+    {
+        let kept = kept_at_base(alloc, plan, place, base)?;
+        let desk = Desk::new(alloc)?;
+        Ok(LeanMachine {
+            alloc,
+            stage: place + 1,
+            kept,
+            desk: Some(desk),
+        })
+    }
+
+    /// Makes of a batch what the stage sends of it. One for which memory was wanting stays as it is.
     pub fn run<'p>(&mut self, batch: LeanBatch<'p>) -> LeanBatch<'p>
         ensures sent { (e : LeanEpoch) (b : ℕ) → Stands self.old e b → IsSent e (self.old.stage - 1) b batch.entry → Passes self.new e b result }
         ensures stage { self.new.stage ≡ self.old.stage }
     {
-        batch.wanting()
+        match batch.status {
+            BatchStatus::NoMemory => batch,
+            BatchStatus::Going | BatchStatus::Closing | BatchStatus::Void => self.go(batch),
+        }
+    }
+
+    /// The same where memory wasn't wanting.
+    fn go<'p>(&mut self, batch: LeanBatch<'p>) -> LeanBatch<'p>
+        ensures sent { (e : LeanEpoch) (b : ℕ) → Stands self.old e b → IsSent e (self.old.stage - 1) b batch.entry → Passes self.new e b result }
+        ensures stage { self.new.stage ≡ self.old.stage }
+    {
+        let desk = match self.desk.take() {
+            Some(desk) => desk,
+            None => return batch.wanting(),
+        };
+        match mem::replace(&mut self.kept, Kept::Nothing) {
+            Kept::Cells(cells) => self.from_cells(desk, cells, batch),
+            Kept::Versioned(both) => self.from_versioned(desk, both, batch),
+            Kept::Nothing => self.from_version(desk, batch),
+        }
+    }
+
+    /// By a stage before a sequential one.
+    fn from_cells<'p>(&mut self, desk: Desk, cells: Cells, batch: LeanBatch<'p>) -> LeanBatch<'p>
+        ensures sent { (e : LeanEpoch) (b : ℕ) → StandsAt self.old.stage (kept.Cells cells) e b → IsSent e (self.old.stage - 1) b batch.entry → Passes self.new e b result }
+        ensures stage { self.new.stage ≡ self.old.stage }
+    {
+        let place = self.stage.saturating_sub(1);
+        let sent = run_batch(self.alloc, place, desk, cells, None, batch);
+        self.kept = Kept::Cells(sent.memory);
+        self.desk = Some(sent.desk);
+        sent.batch
+    }
+
+    /// By a stage before a replicated one: it sends along the memory with which it begins the batch.
+    fn from_versioned<'p>(
+        &mut self,
+        desk: Desk,
+        both: Versioned,
+        batch: LeanBatch<'p>,
+    ) -> LeanBatch<'p>
+        ensures sent { (e : LeanEpoch) (b : ℕ) → StandsAt self.old.stage (kept.Versioned both) e b → IsSent e (self.old.stage - 1) b batch.entry → Passes self.new e b result }
+        ensures stage { self.new.stage ≡ self.old.stage }
+    {
+        let mut batch = batch;
+        let mut both = both;
+        match both.snapshot(taken_room(&mut batch)) {
+            Ok(version) => {
+                let place = self.stage.saturating_sub(1);
+                let sent = run_batch(self.alloc, place, desk, both, Some(version), batch);
+                self.kept = Kept::Versioned(sent.memory);
+                self.desk = Some(sent.desk);
+                sent.batch
+            }
+            Err(_) => batch.wanting(),
+        }
+    }
+
+    /// By a replicated stage, from the version that the batch brings.
+    fn from_version<'p>(&mut self, desk: Desk, batch: LeanBatch<'p>) -> LeanBatch<'p>
+        ensures sent { (e : LeanEpoch) (b : ℕ) → StandsAt self.old.stage kept.Nothing e b → IsSent e (self.old.stage - 1) b batch.entry → Passes self.new e b result }
+        ensures stage { self.new.stage ≡ self.old.stage }
+    {
+        let mut batch = batch;
+        match taken_version(&mut batch) {
+            Some(memory) => {
+                let place = self.stage.saturating_sub(1);
+                let sent = run_batch(self.alloc, place, desk, memory, None, batch);
+                self.kept = Kept::Nothing;
+                self.desk = Some(sent.desk);
+                let mut batch = sent.batch;
+                batch.room = Some(sent.memory.into_room());
+                batch
+            }
+            None => batch.wanting(),
+        }
     }
 }
