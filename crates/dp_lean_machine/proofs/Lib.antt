@@ -1,2 +1,6 @@
 pub mod Statuses
 pub mod Steps
+pub mod AllRan
+pub mod Giving
+pub mod Exchanged
+pub mod SentOn

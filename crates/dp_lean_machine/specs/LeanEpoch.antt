@@ -12,7 +12,7 @@ use Rattle.dp_lean_turn.specs.Notes.{kind_at, kinds_of}
 use Rattle.dp_lean_turn.specs.Told.{keeps}
 use Rattle.dp_lean_epoch.specs.Holding.{Kept, place_of, KeepsEnough, HavePlaces}
 use Rattle.dp_lean_epoch.specs.Steps.{keeps_memory, StageSteps, WorkersBegin, VoidStays}
-use Rattle.dp_lean_epoch.specs.Laws.{ComeOneByOne, FreshBatch, BatchesExtend, BatchesCome, ColumnsFill}
+use Rattle.dp_lean_epoch.specs.Laws.{BatchStands, ComeOneByOne, FreshBatch, BatchesExtend, BatchesCome, ColumnsFill}
 
 -- the epoch, which runs of quiet statements are taken for blocks, the kinds of each stage's columns, and how many iterations go together at most
 pub record LeanEpoch : Type 0 where
@@ -48,6 +48,7 @@ module _ (e : LeanEpoch) where
     pub steps : StageSteps marks_in e.key
     pub workers : WorkersBegin marks_in e.key
     pub voids : VoidStays marks_in e.key
+    pub stand : (s b : ℕ) → BatchStands marks_in e.key e.cap s b
     pub fresh : FreshBatch marks_in e.key kept_in
     pub extend : BatchesExtend marks_in e.key kept_in
     pub come : BatchesCome marks_in e.key kept_in
