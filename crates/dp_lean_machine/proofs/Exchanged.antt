@@ -7,6 +7,11 @@ use Rattle.dp_lean_machine.specs.Held.{kinds_in, held_in}
 use Rattle.dp_lean_machine.specs.Within.{read_of}
 use Rattle.dp_lean_machine.specs.declared.batch.StageColumns.{StageColumns}
 
+pub some_low : (xs : List StageColumns) (s : ℕ) (x : StageColumns) → slice_get xs s ≡ Some x → s < length xs
+some_low [] s x is = absurd (cc is)
+some_low (y ∷ xs) zero x is = omega arith
+some_low (y ∷ xs) (suc s) x is = let low = some_low xs s x is in omega (arith, low)
+
 pub take_put : (xs : List StageColumns) (s : ℕ) (h v : StageColumns) → s < length xs → take (suc s) (slice_set (slice_set xs s h) s v) ≡ take s xs ++ v ∷ []
 take_put [] s h v low = absurd (omega (arith, low))
 take_put (x ∷ xs) zero h v low = refl

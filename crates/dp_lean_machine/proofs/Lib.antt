@@ -4,3 +4,4 @@ pub mod AllRan
 pub mod Giving
 pub mod Exchanged
 pub mod SentOn
+pub mod Over

@@ -10,16 +10,21 @@ use Rattle.dp_lean_epoch.specs.Holding as holding
 use Rattle.dp_lean_epoch.specs.Holding.{place_of, Holds}
 use Rattle.dp_lean_epoch.specs.LeanBatch.{Stood, LeanItem, IsLeanBatch, IsVersion, no_columns, queue_among, stood_in}
 use Rattle.dp_lean_epoch.specs.LeanBatch as batch
+use Rattle.dp_lean_epoch.specs.Coming.{LeanStands}
+use Rattle.dp_lean_epoch.specs.Steps.{keeps_memory}
 use Rattle.dp_lean_epoch.specs.Laws.{with_columns}
 use Rattle.dp_net.specs.Batches.{batch_at}
 use Rattle.dp_lean_machine.specs.LeanEpoch.{LeanEpoch, IsLeanEpoch, marks_in, kept_in, begin_in, size_in}
 use Rattle.dp_lean_machine.specs.Held.{held_in}
-use Rattle.dp_lean_machine.specs.Sent.{Unless, AsStatus, item_of}
-use Rattle.dp_lean_machine.specs.Within.{own_kinds, own_kept, read_of, Ended, IsCame, Comes}
+use Rattle.dp_lean_machine.specs.Line.{IsLineOf}
+use Rattle.dp_lean_machine.specs.Sent.{Unless, AsStatus, item_of, IsSent}
+use Rattle.dp_lean_machine.specs.Within.{own_kinds, own_kept, read_of, Ended, IsCame, Comes, IsDone}
 use Rattle.dp_lean_machine.specs.declared.batch.BatchStatus.{BatchStatus}
 use Rattle.dp_lean_machine.specs.declared.batch.BatchStatus.TheVariants as status
 use Rattle.dp_lean_machine.specs.declared.batch.StageColumns.{StageColumns}
-use Rattle.dp_lean_machine.proofs.Exchanged.{read_all}
+use Rattle.dp_lean_machine.specs.declared.batch.LeanBatch.{LeanBatch}
+use Rattle.dp_lean_machine.specs.declared.turning.Ran.{Ran}
+use Rattle.dp_lean_machine.proofs.Exchanged.{read_all, take_put}
 
 module _ (e : LeanEpoch) (is : IsLeanEpoch e) (s b : ℕ) (within : suc s ≤ length e.key.plan.stages) where
   -- the same, of the columns of all stages
@@ -68,3 +73,51 @@ module _ (e : LeanEpoch) (is : IsLeanEpoch e) (s b : ℕ) (within : suc s ≤ le
         subst (λ (cs : List holding.StageColumns). IsLeanBatch (marks_in e) e.key (kept_in e) e.cap (suc s) b (record { stages = cs; stood = x; version = along }))
         (sym (ap (map held_in) same ∙ map-append held_in earlier (own ∷ [])))
         (is.laws.extend e.cap s b (item earlier stood version) came (held_in own) x along ended.stands (holds_in (begin_in e b) x.iterations (held_in own) ended.holds) version_is)
+
+-- A batch that came, and what is sent of it.
+module _ (e : LeanEpoch) (is : IsLeanEpoch e) (s b : ℕ) (within : suc s ≤ length e.key.plan.stages) (came : LeanBatch) (taken : Option (List ℤ)) (sent : IsSent e s b (record came { version = taken })) where
+  -- how its last iteration stands
+  pub stands_so : (x : BatchStatus) → Unless x (λ (ends : NetStatus). IsLeanBatch (marks_in e) e.key (kept_in e) e.cap s b (item_of s ends (record came { version = taken }))) →
+      (ends : NetStatus) → AsStatus x ends → IsLeanBatch (marks_in e) e.key (kept_in e) e.cap s b (item_of s ends (record came { version = taken }))
+  stands_so status.Going u ends q = subst (λ (o : NetStatus). IsLeanBatch (marks_in e) e.key (kept_in e) e.cap s b (item_of s o (record came { version = taken }))) (sym q) u
+  stands_so status.Closing u ends q = subst (λ (o : NetStatus). IsLeanBatch (marks_in e) e.key (kept_in e) e.cap s b (item_of s o (record came { version = taken }))) (sym q) u
+  stands_so status.Void u ends q = subst (λ (o : NetStatus). IsLeanBatch (marks_in e) e.key (kept_in e) e.cap s b (item_of s o (record came { version = taken }))) (sym q) u
+  stands_so status.NoMemory u ends q = absurd q
+
+  -- what is sent, by what came of the iterations
+  pub passes_on : {M : Type 0} (cells : M → List ℤ) (ends : NetStatus) → AsStatus came.status ends → (h own : StageColumns) (out : LeanBatch) (after : M) (ran : Ran) →
+      s < length came.stages → out.line ≡ came.line → out.first ≡ came.first → out.stages ≡ slice_set (slice_set came.stages s h) s own → out.iterations ≡ ran.iterations → out.status ≡ ran.status →
+      (is_replicated e.key.plan (suc (suc s)) ≡ true → IsVersion (marks_in e) e.key (suc (suc s)) (begin_in e b) out.version) → IsDone e s b cells ran own after →
+      IsSent e (suc s) b out
+      × (out.status ≡ status.Going → keeps_memory (marks_in e) e.key (suc s) ≡ true → LeanStands (marks_in e) e.key (suc s) (begin_in e (suc b)) (cells after))
+  passes_on cells ends like h own out after ran low line first stages many how version_is done = (
+    record {
+      line = subst (IsLineOf e) (sym line) sent.line;
+      first = first ∙ sent.first;
+      item = by ran.status out.status how done.0;
+    },
+    λ goes kept. done.1 (sym how ∙ goes) kept,
+  )
+    where
+      came_item : IsLeanBatch (marks_in e) e.key (kept_in e) e.cap s b (item_of s ends (record came { version = taken }))
+      came_item = stands_so came.status sent.item ends like
+
+      put_in : out.stages ≡ slice_set (slice_set came.stages s h) s own → take (suc s) out.stages ≡ take s came.stages ++ own ∷ []
+      put_in q = ap (take (suc s)) q ∙ take_put came.stages s h own low
+
+      item_is : (o : NetStatus) → Ended e s b own.columns own.steps (record { iterations = ran.iterations; ends = o }) → IsLeanBatch (marks_in e) e.key (kept_in e) e.cap (suc s) b (item_of (suc s) o out)
+      item_is o ended = subst (λ (i : ℕ). IsLeanBatch (marks_in e) e.key (kept_in e) e.cap (suc s) b
+          (record { stages = map held_in (take (suc s) out.stages); stood = record { iterations = i; ends = o }; version = out.version })) (sym many)
+          (sent_with e is s b within (take s came.stages) (record { iterations = came.iterations; ends = ends }) taken came_item own (record { iterations = ran.iterations; ends = o }) out.version ended version_is
+          (take (suc s) out.stages) (put_in stages))
+
+      by : (x y : BatchStatus) → y ≡ x → Unless x (λ (o : NetStatus). Ended e s b own.columns own.steps (record { iterations = ran.iterations; ends = o })) →
+          Unless y (λ (o : NetStatus). IsLeanBatch (marks_in e) e.key (kept_in e) e.cap (suc s) b (item_of (suc s) o out))
+      by x y q u = subst (λ (z : BatchStatus). Unless z (λ (o : NetStatus). IsLeanBatch (marks_in e) e.key (kept_in e) e.cap (suc s) b (item_of (suc s) o out))) (sym q) (each x u)
+        where
+          each : (x : BatchStatus) → Unless x (λ (o : NetStatus). Ended e s b own.columns own.steps (record { iterations = ran.iterations; ends = o })) →
+              Unless x (λ (o : NetStatus). IsLeanBatch (marks_in e) e.key (kept_in e) e.cap (suc s) b (item_of (suc s) o out))
+          each status.Going u = item_is NetGoing u
+          each status.Closing u = item_is NetClosing u
+          each status.Void u = item_is NetVoid u
+          each status.NoMemory u = tt

@@ -94,10 +94,11 @@ fn taken_room<'p>(batch: &mut LeanBatch<'p>) -> Option<VersionRoom>
 
 impl LeanMachine {
     ghost use Rattle.std.specs.Prelude.{◌-◌, ℕ};
+    ghost use Rattle.dp_net.specs.NetPackets.{NetStatus};
     ghost use Rattle.dp_lean_epoch.specs.Coming.{LeanStands};
     ghost use Rattle.dp_lean_machine.specs.LeanEpoch.{LeanEpoch, IsLeanEpoch, marks_in};
     ghost use Rattle.dp_lean_machine.specs.declared.machine.Kept.TheVariants as kept;
-    ghost use Rattle.dp_lean_machine.specs.Sent.{IsSent};
+    ghost use Rattle.dp_lean_machine.specs.Sent.{AsStatus, IsSent};
     ghost use Rattle.dp_lean_machine.specs.Standing.{StandsAt, Stands, Passes};
 
     /// The machine of the stage at this place where an epoch begins.
@@ -134,7 +135,7 @@ impl LeanMachine {
 
     /// The same where memory wasn't wanting.
     fn go<'p>(&mut self, batch: LeanBatch<'p>) -> LeanBatch<'p>
-        ensures sent { (e : LeanEpoch) (b : ℕ) → Stands self.old e b → IsSent e (self.old.stage - 1) b batch.entry → Passes self.new e b result }
+        ensures sent { (e : LeanEpoch) (b : ℕ) (ends : NetStatus) → AsStatus batch.entry.status ends → Stands self.old e b → IsSent e (self.old.stage - 1) b batch.entry → Passes self.new e b result }
         ensures stage { self.new.stage ≡ self.old.stage }
     {
         let desk = match self.desk.take() {
@@ -150,7 +151,7 @@ impl LeanMachine {
 
     /// By a stage before a sequential one.
     fn from_cells<'p>(&mut self, desk: Desk, cells: Cells, batch: LeanBatch<'p>) -> LeanBatch<'p>
-        ensures sent { (e : LeanEpoch) (b : ℕ) → StandsAt self.old.stage (kept.Cells cells) e b → IsSent e (self.old.stage - 1) b batch.entry → Passes self.new e b result }
+        ensures sent { (e : LeanEpoch) (b : ℕ) (ends : NetStatus) → AsStatus batch.entry.status ends → StandsAt self.old.stage (kept.Cells cells) e b → IsSent e (self.old.stage - 1) b batch.entry → Passes self.new e b result }
         ensures stage { self.new.stage ≡ self.old.stage }
     {
         let place = self.stage.saturating_sub(1);
@@ -167,7 +168,7 @@ impl LeanMachine {
         both: Versioned,
         batch: LeanBatch<'p>,
     ) -> LeanBatch<'p>
-        ensures sent { (e : LeanEpoch) (b : ℕ) → StandsAt self.old.stage (kept.Versioned both) e b → IsSent e (self.old.stage - 1) b batch.entry → Passes self.new e b result }
+        ensures sent { (e : LeanEpoch) (b : ℕ) (ends : NetStatus) → AsStatus batch.entry.status ends → StandsAt self.old.stage (kept.Versioned both) e b → IsSent e (self.old.stage - 1) b batch.entry → Passes self.new e b result }
         ensures stage { self.new.stage ≡ self.old.stage }
     {
         let mut batch = batch;
@@ -186,7 +187,7 @@ impl LeanMachine {
 
     /// By a replicated stage, from the version that the batch brings.
     fn from_version<'p>(&mut self, desk: Desk, batch: LeanBatch<'p>) -> LeanBatch<'p>
-        ensures sent { (e : LeanEpoch) (b : ℕ) → StandsAt self.old.stage kept.Nothing e b → IsSent e (self.old.stage - 1) b batch.entry → Passes self.new e b result }
+        ensures sent { (e : LeanEpoch) (b : ℕ) (ends : NetStatus) → AsStatus batch.entry.status ends → StandsAt self.old.stage kept.Nothing e b → IsSent e (self.old.stage - 1) b batch.entry → Passes self.new e b result }
         ensures stage { self.new.stage ≡ self.old.stage }
     {
         let mut batch = batch;
