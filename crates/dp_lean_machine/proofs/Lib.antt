@@ -5,3 +5,4 @@ pub mod Giving
 pub mod Exchanged
 pub mod SentOn
 pub mod Over
+pub mod Passing

@@ -32,3 +32,11 @@ pub record IsSent (e : LeanEpoch) (s b : ℕ) (x : LeanBatch) : Type 0 where
   pub line : IsLineOf e x.line
   pub first : x.first ≡ e.key.first + begin_in e b
   pub item : Unless x.status (λ ends. IsLeanBatch (marks_in e) e.key (kept_in e) e.cap s b (item_of s ends x))
+
+-- Both tell the same of the same iterations; their versions and rooms may be others.
+pub record SameTold (x y : LeanBatch) : Type 0 where
+  pub line : y.line ≡ x.line
+  pub first : y.first ≡ x.first
+  pub iterations : y.iterations ≡ x.iterations
+  pub status : y.status ≡ x.status
+  pub stages : y.stages ≡ x.stages

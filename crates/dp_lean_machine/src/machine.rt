@@ -1,7 +1,8 @@
 //! A stage's machine, from one batch to the next.
-ghost use Rattle.std.specs.Prelude.{◌≡◌, ◌<◌, suc, None, length, IfOk};
+ghost use Rattle.std.specs.Prelude.{◌≡◌, ◌<◌, suc, length, IfOk};
 ghost use Rattle.dp_plan.specs.Access.{is_replicated};
 ghost use Rattle.dp_lean_machine.specs.Kept.{KeepsBase};
+ghost use Rattle.dp_lean_machine.specs.Sent.{SameTold};
 
 use crate::desk::Desk;
 use crate::running::run_batch;
@@ -80,16 +81,27 @@ fn kept_at_base(
 /// Takes the version out of the batch.
 fn taken_version<'p>(batch: &mut LeanBatch<'p>) -> Option<Version>
     ensures version { result ≡ batch.old.version }
-    ensures left { batch.new ≡ record batch.old { version = None } }
+    ensures same { SameTold batch.old batch.new }
 {
     batch.version.take()
 }
 
 /// Takes the room for a version out of the batch.
 fn taken_room<'p>(batch: &mut LeanBatch<'p>) -> Option<VersionRoom>
-    ensures left { batch.new ≡ record batch.old { room = None } }
+    ensures same { SameTold batch.old batch.new }
+    ensures version { batch.new.version ≡ batch.old.version }
 {
     batch.room.take()
+}
+
+/// The room of a version that is spent is kept in the batch, for another one.
+fn with_room<'p>(batch: LeanBatch<'p>, spent: Version) -> LeanBatch<'p>
+    ensures same { SameTold batch.entry result }
+    ensures version { result.version ≡ batch.entry.version }
+{
+    let mut batch = batch;
+    batch.room = Some(spent.into_room());
+    batch
 }
 
 impl LeanMachine {
@@ -191,17 +203,14 @@ impl LeanMachine {
         ensures stage { self.new.stage ≡ self.old.stage }
     {
         let mut batch = batch;
-        match taken_version(&mut batch) {
-            Some(memory) => {
-                let place = self.stage.saturating_sub(1);
-                let sent = run_batch(self.alloc, place, desk, memory, None, batch);
-                self.kept = Kept::Nothing;
-                self.desk = Some(sent.desk);
-                let mut batch = sent.batch;
-                batch.room = Some(sent.memory.into_room());
-                batch
-            }
-            None => batch.wanting(),
-        }
+        let memory = match taken_version(&mut batch) {
+            Some(memory) => memory,
+            None => return batch.wanting(),
+        };
+        let place = self.stage.saturating_sub(1);
+        let sent = run_batch(self.alloc, place, desk, memory, None, batch);
+        self.kept = Kept::Nothing;
+        self.desk = Some(sent.desk);
+        with_room(sent.batch, sent.memory)
     }
 }
