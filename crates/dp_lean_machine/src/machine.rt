@@ -141,7 +141,9 @@ impl LeanMachine {
     {
         match batch.status {
             BatchStatus::NoMemory => batch,
-            BatchStatus::Going | BatchStatus::Closing | BatchStatus::Void => self.go(batch),
+            BatchStatus::Going => self.go(batch),
+            BatchStatus::Closing => self.go(batch),
+            BatchStatus::Void => self.go(batch),
         }
     }
 
